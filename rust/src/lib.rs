@@ -25,7 +25,9 @@
 //!
 //! A call's conditions are told in a section `# Conditions`. The prover holds Rattle's callers to them; nobody holds a
 //! caller in Rust to them. A call outside its conditions may panic or answer something else, but is never undefined:
-//! there is no `unsafe` in the crate.
+//! there is no `unsafe` in the crate. A condition stands there as a sentence, or as the clause of the source: `x.now` is
+//! what a reference leads to, `x.old` and `x.new` what it leads to before and after; the words of clauses are told in
+//! `docs/DEFINITIONS.md` and in the folders `specs/`.
 //!
 //! # Memory
 //!

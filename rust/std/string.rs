@@ -37,7 +37,7 @@ impl String {
         Ok(())
     }
 
-    /// Appends what `write!` is given.
+    /// Appends what `write!` is given. Where memory is refused, what was appended before stays.
     pub fn write_fmt(&mut self, text: fmt::Arguments<'_>) -> Result<(), AllocError> {
         fmt::Write::write_fmt(self, text).map_err(|_| AllocError)
     }

@@ -139,52 +139,63 @@ fn each_rule_is_used() {
 
 /// How often a rule should be used, as a search of the lines tells.
 fn searched(rule: Rule, sources: &[Source], taken: &[(Rule, String)]) -> Option<usize> {
-    let lines = |is_in: &dyn Fn(&str) -> bool| code_lines(sources).filter(|line| is_in(line)).count();
-    let starts = |heads: &[&str]| lines(&|line: &str| heads.iter().any(|head| line.starts_with(head)));
+    let starts = |heads: &[&str]| lines(sources, &|line| starts_with(line, heads));
     let has = |text: &str| code_lines(sources).map(|line| line.matches(text).count()).sum::<usize>();
     Some(match rule {
-        Rule::GhostUse => starts(&["ghost use "]) - inside(Rule::Model, taken, &|line| usize::from(line.starts_with("ghost use "))),
-        Rule::GhostMember => {
-            let is_member = |line: &str| {
-                let member = line.strip_prefix("pub ").unwrap_or(line);
-                member.starts_with("ghost ") && !member.starts_with("ghost use ")
-            };
-            lines(&is_member) - inside(Rule::Model, taken, &|line| usize::from(is_member(line)))
-        }
-        Rule::Clause => starts(&["requires ", "ensures ", "requires* ", "ensures* "]),
-        Rule::Tactic => starts(&["#[tactic(", "#![tactic(", "#[cycle("]),
-        Rule::Model => starts(&["impl Model for ", "impl<'s> Model for ", "use std::marker::Model;"]),
+        Rule::GhostUse | Rule::GhostMember | Rule::Clause | Rule::Tactic | Rule::Model => ghost_lines(rule, sources, taken),
         Rule::ConstProof => has("prove!("),
-        Rule::DropDerive => lines(&|line| line.starts_with("#[derive(") && line.contains("Drop")),
+        Rule::DropDerive => lines(sources, &|line| line.starts_with("#[derive(") && line.contains("Drop")),
         Rule::DropBound => has(": Drop") + has("+ Drop"),
-        Rule::SizedTrait => lines(&|line| is_trait(line) && !line.contains(": Sized")),
+        Rule::SizedTrait => lines(sources, &|line| is_trait(line) && !line.contains(": Sized")),
         Rule::Formatter => 2 * has("Formatter<W>"),
         Rule::ErrorDerive => 2 * has("thiserror::Error") + starts(&["#[error("]),
-        Rule::DerivedWhere => {
-            let all = starts(&["#[derive_where("]);
-            2 * all - starts(&["#[derive_where(skip"])
-        }
+        Rule::DerivedWhere => 2 * starts(&["#[derive_where("]) - starts(&["#[derive_where(skip"]),
         Rule::AbortGuard => has("!(rt;") + has("!(&rt;") + starts(&["rt;", "&rt;"]),
-        Rule::TestRuntime => 2 * lines(&|line| line.contains("(rt: HostRuntime)") && !line.starts_with("fn main(")),
+        Rule::TestRuntime => 2 * (has("(rt: HostRuntime)") - starts(&["fn main("])),
         Rule::Main => starts(&["fn main("]),
         Rule::Prelude => sources.len(),
-        Rule::CratePath => has("crate::") - inside(Rule::Tactic, taken, &|line| line.matches("crate::").count()),
-        Rule::StdPath => {
-            let in_rule = |rule| inside(rule, taken, &|line| line.matches("std::").count());
-            has("std::") - in_rule(Rule::Tactic) - in_rule(Rule::Model)
-        }
+        Rule::CratePath => paths(&["crate".to_string()], sources, taken),
+        Rule::StdPath => paths(&["std".to_string()], sources, taken),
+        Rule::LibraryPath => paths(&libraries(), sources, taken),
         Rule::AllocatedCall => has(".to_vec(") + has(".collect(") + has(".repeat("),
         Rule::DocExample => {
             let is_example = |line: &&str| line.starts_with("/// ```rust") || line.starts_with("//! ```rust");
             all_lines(sources).filter(is_example).count()
         }
-        Rule::LibraryPath => {
-            let libraries = libraries();
-            let search = |line: &str| libraries.iter().map(|name| line.matches(&format!("{name}::")).count()).sum();
-            code_lines(sources).map(search).sum::<usize>() - inside(Rule::Tactic, taken, &search)
-        }
         Rule::Conditions => return None,
     })
+}
+
+/// The lines of parts that only the prover reads. What stands within a model is taken with it.
+fn ghost_lines(rule: Rule, sources: &[Source], taken: &[(Rule, String)]) -> usize {
+    let is_in = |line: &str| match rule {
+        Rule::GhostUse => line.starts_with("ghost use "),
+        Rule::GhostMember => {
+            let member = line.strip_prefix("pub ").unwrap_or(line);
+            member.starts_with("ghost ") && !member.starts_with("ghost use ")
+        }
+        Rule::Clause => starts_with(line, &["requires ", "ensures ", "requires* ", "ensures* "]),
+        Rule::Tactic => starts_with(line, &["#[tactic(", "#![tactic(", "#[cycle("]),
+        _ => starts_with(line, &["impl Model for ", "impl<'s> Model for ", "use std::marker::Model;"]),
+    };
+    let within = inside(Rule::Model, taken, &|line| usize::from(is_in(line)));
+    lines(sources, &is_in) - if rule == Rule::Model { 0 } else { within }
+}
+
+fn starts_with(line: &str, heads: &[&str]) -> bool {
+    heads.iter().any(|head| line.starts_with(head))
+}
+
+/// How often paths begin with these names, but for those in tactics and models.
+fn paths(names: &[String], sources: &[Source], taken: &[(Rule, String)]) -> usize {
+    let search = |line: &str| names.iter().map(|name| line.matches(&format!("{name}::")).count()).sum();
+    let all: usize = code_lines(sources).map(search).sum();
+    all - inside(Rule::Tactic, taken, &search) - inside(Rule::Model, taken, &search)
+}
+
+/// How many lines that are no comments are so.
+fn lines(sources: &[Source], is_in: &dyn Fn(&str) -> bool) -> usize {
+    code_lines(sources).filter(|line| is_in(line)).count()
 }
 
 fn is_trait(line: &str) -> bool {
@@ -234,7 +245,7 @@ fn examples_translate_as_they_say() {
 }
 
 /// Texts that no rule knows, each with the line and the words that are told.
-const UNKNOWN: [(&str, &str); 64] = [
+const UNKNOWN: [(&str, &str); 71] = [
     // attributes, macros and proofs
     ("fn f() {}\n#[must_use]\nfn g() {}", "2: #[must_use], an attribute"),
     ("#![no_std]\nfn f() {}", "1: #[[], an attribute"),
@@ -254,6 +265,9 @@ const UNKNOWN: [(&str, &str); 64] = [
     ("fn f(ghost a: { b },) {}", "1: ghost a: { b },"),
     ("ghost use a", "1: ghost use a"),
     ("ghost  use a;", "1: ghost  use a;"),
+    ("ghost use a\nuse b;", "1: ghost use a"),
+    ("ghost use a.{b};\nghost use c d;", "2: ghost use c d;"),
+    ("#[tactic(using(\"]\"))]\nfn f() {}", "1: #[tactic], an attribute"),
     // clauses
     ("fn f()\n    ensures same\n{ }", "2: a clause that stands at no function"),
     ("fn f()\n    ensures same\n;", "2: ensures same"),
@@ -305,9 +319,41 @@ const UNKNOWN: [(&str, &str); 64] = [
     ("fn f() {\n    let µ = 1;\n}", "2: µ = 1;"),
     ("fn f() {} /* a */", "1: /* a */"),
     ("fn f(r#type: u8) {}", "1: r#type: u8) {}"),
+    ("fn f() {\n    g('ab');\n}", "2: ');"),
+    ("fn f() {\n    g(\"a);\n}", "2: \"a);"),
+    ("fn f() {\n    g(r#\"a\");\n}", "2: r#\"a\");"),
+    ("fn f() {\n    g('\\", "2: '\\"),
     ("fn f() {\n    g(1];\n}", "2: ];"),
     ("fn f() {\n    if a {\n}", "1: {"),
 ];
+
+/// Texts that could be read wrongly, each with what stays of it.
+const KNOWN: [(&str, &str); 12] = [
+    ("const C: [char; 4] = ['{', '}', '\\'', '\\\\'];", "const C: [char; 4] = ['{', '}', '\\'', '\\\\'];"),
+    ("const B: [u8; 2] = [b'{', b'\\''];", "const B: [u8; 2] = [b'{', b'\\''];"),
+    ("const S: &str = \"ghost x; } std::mem \\\" rt;\";", "const S: &str = \"ghost x; } std::mem \\\" rt;\";"),
+    ("const R: &str = r#\"a \"std::b\" {\"#;", "const R: &str = r#\"a \"std::b\" {\"#;"),
+    ("// ghost x; std::mem {\nfn f<'a>(a: &'a u8) {}", "// ghost x; std::mem {\nfn f<'a>(a: &'a u8) {}"),
+    ("/// `requires` of std::mem\nfn f() {}", "/// `requires` of std::mem\nfn f() {}"),
+    ("pub(crate) fn f() {}", "pub(crate) fn f() {}"),
+    ("pub(in crate::bytes) fn f() {}", "pub(in crate::capnp_wire::bytes) fn f() {}"),
+    ("use {std::mem, crate::bytes};", "use {crate::rattle_std::mem, crate::capnp_wire::bytes};"),
+    ("fn f() { for i in 0..std::mem::size_of::<u8>() {} }", "fn f() { for i in 0..crate::rattle_std::mem::size_of::<u8>() {} }"),
+    ("fn f() { if !(a) && b != c && !d {} }", "fn f() { if !(a) && b != c && !d {} }"),
+    ("fn f() { a.repeat(g(1, 2)); vec![rt; 5]; }", "fn f() { a.repeat(g(1, 2)); vec![rt; 5]; }"),
+];
+
+#[test]
+fn what_could_be_read_wrongly_is_not() {
+    let libraries = ["capnp_wire".to_string(), "capnp_device".to_string()];
+    let place = Place { library: "capnp_wire", libraries: &libraries };
+    for (text, expected) in KNOWN {
+        let translation = Translation::new(&place, text).unwrap_or_else(|lines| panic!("{text}: {lines:?}"));
+        let pieces = translation.pieces();
+        let own = pieces.iter().filter(|piece| piece.rule != Some(Rule::Prelude));
+        assert_eq!(own.map(|piece| piece.after).collect::<String>(), expected);
+    }
+}
 
 #[test]
 fn what_is_not_known_is_refused() {

@@ -131,7 +131,7 @@ pub fn start_functions(words: &Words<'_>, edits: &mut Edits) {
     }
 }
 
-/// Whether `#[test]` stands before a function, with nothing but attributes, documentation and tactics between.
+/// Whether `#[test]` stands between the end of what is before a function and the function.
 fn is_test(words: &Words<'_>, function: usize) -> bool {
     let is_before = |at: &usize| matches!(words.at(*at), ";" | "{" | "}");
     let first = (0..function).rev().find(is_before).map_or(0, |at| at + 1);
@@ -140,7 +140,8 @@ fn is_test(words: &Words<'_>, function: usize) -> bool {
 
 /// Refuses modules within a file that take names from without: those of `rust/std` stand at the head of files alone.
 pub fn know_modules(words: &Words<'_>, edits: &mut Edits) {
-    let is_taken = |at: &usize| matches!(words.at(*at), "Vec" | "String" | "HostRuntime" | "format" | "vec" | "use" | "fn");
+    let names = ["Vec", "String", "HostRuntime", "format", "vec", "use", "fn"];
+    let is_taken = |at: &usize| names.contains(&words.at(*at));
     for index in 0..words.list.len() {
         let open = words.after(words.after(index));
         if words.at(index) != "mod" || !words.is(index, Kind::Name) || words.at(open) != "{" {

@@ -294,6 +294,7 @@ fn tactic(rest: &str) -> Option<usize> {
     for (at, letter) in rest.char_indices().skip(head.len()) {
         match letter {
             '(' | '[' => depth += 1,
+            '"' | '\'' => return None,
             ')' | ']' if depth == 0 => return Some(at + 1),
             ')' | ']' => depth -= 1,
             _ => {}
@@ -336,8 +337,8 @@ pub fn clause_parts(clause: &str) -> (&str, &str) {
 
 /// The length of a part that begins with `ghost`.
 fn ghost_part(rest: &str) -> Option<(Kind, usize)> {
-    if rest.starts_with("ghost use ") {
-        return rest.find(';').map(|length| (Kind::GhostUse, length + 1));
+    if let Some(names) = rest.strip_prefix("ghost use ") {
+        return ghost_names(names).map(|length| (Kind::GhostUse, rest.len() - names.len() + length));
     }
     let name = "ghost ".len();
     if !rest.starts_with("ghost ") {
@@ -360,12 +361,24 @@ fn ghost_part(rest: &str) -> Option<(Kind, usize)> {
     rest[at..].starts_with([';', ',']).then_some((Kind::GhostMember, at + 1))
 }
 
+/// The length of a path, and of another name for it or names in braces behind it, up to their `;`.
+fn ghost_names(rest: &str) -> Option<usize> {
+    let path = run(rest, |letter| !letter.is_ascii_whitespace() && letter != '{' && letter != ';');
+    let behind = &rest[path..];
+    let length = match behind.strip_prefix(" as ") {
+        Some(name) => behind.len() - name.len() + run(name, is_of_name),
+        None => braces(behind).unwrap_or(0),
+    };
+    let end = path + length;
+    (path > 0 && rest[end..].starts_with(';')).then_some(end + 1)
+}
+
 fn blanks(text: &str) -> usize {
     run(text, |letter| letter.is_ascii_whitespace())
 }
 
-/// The length of what stands in braces here. The prover's language has names with primes in them, so these are no quotes.
-/// A text in quotes may have no brace, and no comment may stand here.
+/// The length of what stands in braces here. The prover's language has names with primes in them, so these are no
+/// quotes. A text in quotes may have no brace, and no comment may stand here.
 fn braces(text: &str) -> Option<usize> {
     if !text.starts_with('{') {
         return None;
