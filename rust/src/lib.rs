@@ -32,7 +32,9 @@
 //! # Memory
 //!
 //! Want of memory is an answer: calls that may take memory answer a `Result`, and most are given the allocator,
-//! [`memory::Global`].
+//! [`memory::Global`]. The stack is no answer: a message that was built some thousand levels deep, in a debug build some
+//! hundred, can overflow it where it is copied or written, which ends the program. Received messages are read 64 levels
+//! down at most.
 #![forbid(unsafe_code)]
 #![warn(missing_docs)]
 
