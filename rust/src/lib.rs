@@ -25,14 +25,21 @@
 //!
 //! A call's conditions are told in a section `# Conditions`. The prover holds Rattle's callers to them; nobody holds a
 //! caller in Rust to them. A call outside its conditions may panic or answer something else, but is never undefined:
-//! there is no `unsafe` in the crate.
+//! there is no `unsafe` in the crate. A condition stands there as a sentence, or as the clause of the source: `x.now` is
+//! what a reference leads to, `x.old` and `x.new` what it leads to before and after; the words of clauses are told in
+//! `docs/DEFINITIONS.md` and in the folders `specs/`.
 //!
 //! # Memory
 //!
 //! Want of memory is an answer: calls that may take memory answer a `Result`, and most are given the allocator,
-//! [`memory::Global`].
+//! [`memory::Global`]. The stack is no answer: a message that was built some thousand levels deep, in a debug build some
+//! hundred, can overflow it where it is copied or written, which ends the program. Received messages are read 64 levels
+//! down at most.
 #![forbid(unsafe_code)]
 #![warn(missing_docs)]
+
+#[cfg(not(target_pointer_width = "64"))]
+compile_error!("the source is proved for a `usize` of 64 bits");
 
 #[allow(dead_code, reason = "tests take more of it")]
 #[path = "../std/mod.rs"]

@@ -19,8 +19,8 @@ pub(crate) use macros::{rattle_format, rattle_vec};
 /// The names that each file has without an import.
 pub mod prelude {
     #[allow(unused_imports, reason = "tests alone repeat texts")]
-    pub use super::string::RepeatIn;
+    pub use super::string::RepeatGiven;
     pub use super::rt::HostRuntime;
     pub use super::string::String;
-    pub use super::vec::{CollectIn, SliceIn, Vec};
+    pub use super::vec::{CollectGiven, SliceGiven, Vec};
 }

@@ -37,7 +37,7 @@ impl String {
         Ok(())
     }
 
-    /// Appends what `write!` is given.
+    /// Appends what `write!` is given. Where memory is refused, what was appended before stays.
     pub fn write_fmt(&mut self, text: fmt::Arguments<'_>) -> Result<(), AllocError> {
         fmt::Write::write_fmt(self, text).map_err(|_| AllocError)
     }
@@ -107,13 +107,13 @@ impl From<String> for std::string::String {
 }
 
 /// Repeating a text, whose memory can be refused.
-pub trait RepeatIn {
+pub trait RepeatGiven {
     /// The text so many times.
-    fn repeat_in(&self, alloc: Global, count: usize) -> Result<String, AllocError>;
+    fn repeat_given(&self, alloc: Global, count: usize) -> Result<String, AllocError>;
 }
 
-impl RepeatIn for str {
-    fn repeat_in(&self, alloc: Global, count: usize) -> Result<String, AllocError> {
+impl RepeatGiven for str {
+    fn repeat_given(&self, alloc: Global, count: usize) -> Result<String, AllocError> {
         let mut text = String::new(alloc);
         text.0.try_reserve_exact(self.len().checked_mul(count).ok_or(AllocError)?)?;
         for _ in 0..count {

@@ -219,9 +219,9 @@ impl io::Write for Vec<u8> {
 }
 
 /// Collecting into a vector whose memory can be refused.
-pub trait CollectIn: Iterator + Sized {
+pub trait CollectGiven: Iterator + Sized {
     /// The items, in a vector.
-    fn collect_in(self, alloc: Global) -> Result<Vec<Self::Item>, AllocError> {
+    fn collect_given(self, alloc: Global) -> Result<Vec<Self::Item>, AllocError> {
         let mut items = Vec::new(alloc);
         for item in self {
             items.push(item)?;
@@ -230,16 +230,16 @@ pub trait CollectIn: Iterator + Sized {
     }
 }
 
-impl<I: Iterator> CollectIn for I {}
+impl<I: Iterator> CollectGiven for I {}
 
 /// Copying a slice into a vector whose memory can be refused.
-pub trait SliceIn<T: Copy> {
+pub trait SliceGiven<T: Copy> {
     /// The items, in a vector.
-    fn to_vec_in(&self, alloc: Global) -> Result<Vec<T>, AllocError>;
+    fn to_vec_given(&self, alloc: Global) -> Result<Vec<T>, AllocError>;
 }
 
-impl<T: Copy> SliceIn<T> for [T] {
-    fn to_vec_in(&self, alloc: Global) -> Result<Vec<T>, AllocError> {
+impl<T: Copy> SliceGiven<T> for [T] {
+    fn to_vec_given(&self, alloc: Global) -> Result<Vec<T>, AllocError> {
         Vec::from_slice(alloc, self)
     }
 }

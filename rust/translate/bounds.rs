@@ -12,7 +12,9 @@ pub fn take_drop_bounds(words: &Words<'_>, edits: &mut Edits) {
         }
         let before = words.before(index);
         let next = words.after(index);
+        let is_path = words.at(next) == ":" || before.is_some_and(|before| words.text_before(before) == ":");
         match (words.text_before(index), words.at(next)) {
+            _ if is_path => edits.refuse(words, index, "a path of Drop".to_string()),
             ("+", _) => edits.take(words, Rule::DropBound, before.unwrap_or(index), index),
             (":", "+") => edits.take(words, Rule::DropBound, index, next),
             (":", "," | ">" | ";" | "{" | "=") => edits.take(words, Rule::DropBound, index, index),
@@ -41,28 +43,17 @@ pub fn size_traits(words: &Words<'_>, edits: &mut Edits) {
         }
         let name = words.after(index);
         let head = after_parameters(words, words.after(name));
-        match words.at(head) {
-            "{" => edits.insert_after(words, Rule::SizedTrait, head - 1, String::new()),
-            ":" if words.at(words.after(head)) == "Sized" => continue,
-            ":" => {
-                edits.insert_after(words, Rule::SizedTrait, head, " Sized +".to_string());
-                continue;
-            }
-            _ => {
-                edits.refuse(words, index, "a trait without a body".to_string());
-                continue;
-            }
-        }
-        if let (Some(before), Some(edit)) = (words.before(head), edits.list.last_mut()) {
-            edit.start = words.list[before].end;
-            edit.end = edit.start;
-            edit.text = ": Sized".to_string();
+        match (words.at(head), words.before(head)) {
+            ("{", Some(before)) => edits.insert_after(words, Rule::SizedTrait, before, ": Sized".to_string()),
+            (":", _) if words.at(words.after(head)) == "Sized" => {}
+            (":", _) => edits.insert_after(words, Rule::SizedTrait, head, " Sized +".to_string()),
+            _ => edits.refuse(words, index, "a trait whose head is not known".to_string()),
         }
     }
 }
 
-/// The word after a list of type parameters, if one stands here.
-fn after_parameters(words: &Words<'_>, open: usize) -> usize {
+/// The word after a list of type parameters, if one stands here and can be told.
+pub fn after_parameters(words: &Words<'_>, open: usize) -> usize {
     if words.at(open) != "<" {
         return open;
     }
@@ -70,12 +61,14 @@ fn after_parameters(words: &Words<'_>, open: usize) -> usize {
     for index in open..words.list.len() {
         match words.at(index) {
             "<" => depth += 1,
+            ">" if words.at(index - 1) == "-" => return open,
             ">" => {
                 depth -= 1;
                 if depth == 0 {
                     return words.after(index);
                 }
             }
+            "{" | ";" => return open,
             _ => {}
         }
     }
@@ -92,8 +85,8 @@ pub fn hide_writers(words: &Words<'_>, edits: &mut Edits) {
             edits.replace(words, Rule::Formatter, named, named, "'_");
         }
         if words.reads(index, &parameter) && names_writer(words, index, &writer) {
-            let last = (index..words.list.len()).find(|at| words.at(*at) == ">");
-            edits.take(words, Rule::Formatter, index, last.unwrap_or(index));
+            let last = (1..parameter.len()).fold(index, |at, _| words.after(at));
+            edits.take(words, Rule::Formatter, index, last);
         }
     }
 }

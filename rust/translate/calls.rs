@@ -17,8 +17,24 @@ const MACROS: [&str; 9] = [
     "matches",
 ];
 
-/// Attributes that mean the same, and those that a rule reads.
-const ATTRIBUTES: [&str; 8] = ["inline", "cold", "test", "cfg", "derive", "derive_where", "error", "unsafe"];
+/// Macros that may be given the runtime, which is the leave to end the program.
+const ASSERTIONS: [&str; 5] = ["assert", "assert_eq", "assert_ne", "unreachable", "panic"];
+
+/// Keywords behind which `!` is no macro's.
+const KEYWORDS: [&str; 7] = ["if", "while", "match", "return", "in", "else", "break"];
+
+/// Attributes that mean the same, and those that a rule reads: up to the bracket that ends them, or a bracket's start.
+const ATTRIBUTES: [&[&str]; 9] = [
+    &["[", "inline", "]"],
+    &["[", "inline", "("],
+    &["[", "cold", "]"],
+    &["[", "test", "]"],
+    &["[", "cfg", "(", "test", ")", "]"],
+    &["[", "derive", "("],
+    &["[", "derive_where", "("],
+    &["[", "error", "("],
+    &["[", "unsafe", "(", "no_mangle", ")", "]"],
+];
 
 /// Calls that take memory, each with how many arguments it has in Rust: one more is the allocator.
 const ALLOCATED: [(&str, usize); 3] = [("to_vec", 0), ("collect", 0), ("repeat", 1)];
@@ -28,25 +44,25 @@ pub fn name_allocated_calls(words: &Words<'_>, edits: &mut Edits) {
     for index in 0..words.list.len() {
         let known = ALLOCATED.iter().find(|(name, _)| *name == words.at(index));
         let open = words.after(index);
+        let (Some((_, count)), Some(close)) = (known, words.closing(open)) else {
+            continue;
+        };
         let is_call = words.text_before(index) == "." && words.at(open) == "(";
-        if known.is_some_and(|(_, count)| is_call && count_arguments(words, open) > *count) {
-            edits.insert_after(words, Rule::AllocatedCall, index, "_in".to_string());
+        if is_call && count_arguments(words, open, close) > *count {
+            edits.insert_after(words, Rule::AllocatedCall, index, "_given".to_string());
         }
     }
 }
 
-/// How many arguments stand in brackets.
-fn count_arguments(words: &Words<'_>, open: usize) -> usize {
-    let close = words.closing(open).unwrap_or(open);
+/// How many arguments stand between two brackets.
+fn count_arguments(words: &Words<'_>, open: usize, close: usize) -> usize {
     let mut at = words.after(open);
     let mut count = usize::from(at < close);
     while at < close {
-        match words.at(at) {
-            "(" | "[" | "{" => at = words.closing(at).unwrap_or(at),
-            "," if words.after(at) < close => count += 1,
-            _ => {}
+        if words.at(at) == "," && words.after(at) < close {
+            count += 1;
         }
-        at = words.after(at);
+        at = words.after(words.closing(at).unwrap_or(at));
     }
     count
 }
@@ -54,20 +70,28 @@ fn count_arguments(words: &Words<'_>, open: usize) -> usize {
 /// Takes the runtime that assertions are given, and refuses macros that are not known.
 pub fn free_assertions(words: &Words<'_>, edits: &mut Edits) {
     for index in 0..words.list.len() {
-        let is_macro = words.is(index, Kind::Name) && words.reads(words.after(index), &["!"]);
-        let open = words.after(words.after(index));
-        if !is_macro || !matches!(words.at(open), "(" | "[" | "{") || words.at(index) == "prove" {
+        if !is_macro(words, index) || words.at(index) == "prove" {
             continue;
         }
-        if !MACROS.contains(&words.at(index)) {
-            edits.refuse(words, index, format!("{}!, a macro that is not known", words.at(index)));
+        let name = words.at(index);
+        let first = words.after(words.after(words.after(index)));
+        if !MACROS.contains(&name) {
+            edits.refuse(words, index, format!("{name}!, a macro that is not known"));
         }
-        let first = words.after(open);
         let named = if words.at(first) == "&" { words.after(first) } else { first };
-        if words.at(named) == "rt" && words.at(words.after(named)) == ";" {
+        if ASSERTIONS.contains(&name) && words.reads(named, &["rt", ";"]) {
             edits.take(words, Rule::AbortGuard, first, words.after(named));
         }
     }
+}
+
+/// Whether a name is a macro's: `!` stands behind it, and is no part of `!=`.
+fn is_macro(words: &Words<'_>, index: usize) -> bool {
+    let mark = words.after(index);
+    words.is(index, Kind::Name)
+        && !KEYWORDS.contains(&words.at(index))
+        && words.at(mark) == "!"
+        && words.at(mark + 1) != "="
 }
 
 /// Refuses attributes that are not known.
@@ -76,10 +100,9 @@ pub fn know_attributes(words: &Words<'_>, edits: &mut Edits) {
         if words.at(index) != "#" || !words.is(index, Kind::Mark) {
             continue;
         }
-        let next = words.after(index);
-        let open = if words.at(next) == "!" { words.after(next) } else { next };
+        let open = words.after(index);
         let name = words.at(words.after(open));
-        if words.at(open) != "[" || !ATTRIBUTES.contains(&name) {
+        if !ATTRIBUTES.iter().any(|attribute| words.reads(open, attribute)) {
             edits.refuse(words, index, format!("#[{name}], an attribute that is not known"));
         }
     }
@@ -98,10 +121,35 @@ pub fn start_functions(words: &Words<'_>, edits: &mut Edits) {
             edits.insert_before(words, Rule::Main, index, "pub(crate) ".to_string());
         } else if words.reads(open, &parameter) {
             let body = (open..words.list.len()).find(|at| words.at(*at) == "{");
-            let close = words.closing(open).unwrap_or(open);
+            let (Some(body), Some(close), true) = (body, words.closing(open), is_test(words, index)) else {
+                edits.refuse(words, index, "a runtime by value, of what is no test".to_string());
+                continue;
+            };
             edits.take(words, Rule::TestRuntime, words.after(open), close - 1);
-            let statement = " let rt = HostRuntime;".to_string();
-            edits.insert_after(words, Rule::TestRuntime, body.unwrap_or(close), statement);
+            edits.insert_after(words, Rule::TestRuntime, body, " let rt = HostRuntime;".to_string());
+        }
+    }
+}
+
+/// Whether `#[test]` stands between the end of what is before a function and the function.
+fn is_test(words: &Words<'_>, function: usize) -> bool {
+    let is_before = |at: &usize| matches!(words.at(*at), ";" | "{" | "}");
+    let first = (0..function).rev().find(is_before).map_or(0, |at| at + 1);
+    (first..function).any(|at| words.reads(at, &["#", "[", "test", "]"]))
+}
+
+/// Refuses modules within a file that take names from without: those of `rust/std` stand at the head of files alone.
+pub fn know_modules(words: &Words<'_>, edits: &mut Edits) {
+    let names = ["Vec", "String", "HostRuntime", "format", "vec", "use", "fn"];
+    let is_taken = |at: &usize| names.contains(&words.at(*at));
+    for index in 0..words.list.len() {
+        let open = words.after(words.after(index));
+        if words.at(index) != "mod" || !words.is(index, Kind::Name) || words.at(open) != "{" {
+            continue;
+        }
+        let close = words.closing(open).unwrap_or(open);
+        if let Some(taken) = (open..close).find(is_taken) {
+            edits.refuse(words, taken, "more than constants in a module within a file".to_string());
         }
     }
 }

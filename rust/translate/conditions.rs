@@ -4,7 +4,8 @@ use super::edits::Edits;
 use super::rules::Rule;
 use super::tokens::{Kind, Words, clause_parts};
 
-/// Adds a section `# Conditions` to the documentation of each function that requires something.
+/// Adds a section `# Conditions` to the documentation of each function that requires something: the documentation's own
+/// sentences that say what has to hold, and where these are fewer than the clauses, the clauses too.
 pub fn tell_conditions(words: &Words<'_>, edits: &mut Edits) {
     for index in 0..words.list.len() {
         if words.at(index) != "fn" || !words.is(index, Kind::Name) {
@@ -15,8 +16,10 @@ pub fn tell_conditions(words: &Words<'_>, edits: &mut Edits) {
         if clauses.is_empty() || words.reads(first, &["pub", "("]) || !is_documented(words, first) {
             continue;
         }
-        let sentences = condition_sentences(&documentation(words, first));
-        let lines = if sentences.is_empty() { clauses } else { sentences };
+        let mut lines = condition_sentences(&documentation(words, first));
+        if lines.len() < clauses.len() {
+            lines.extend(clauses);
+        }
         let section: String = lines.iter().map(|line| format!("#[doc = {:?}] ", format!("- {line}"))).collect();
         let text = format!("#[doc = \"\"] #[doc = \"# Conditions\"] #[doc = \"\"] {section}");
         edits.insert_before(words, Rule::Conditions, first, text);
@@ -31,11 +34,10 @@ fn required(words: &Words<'_>, function: usize) -> Vec<String> {
         if words.is(at, Kind::Requires) {
             let (name, text) = clause_parts(words.at(at));
             let text = text.split_whitespace().collect::<Vec<_>>().join(" ");
-            let code = format!("`{text}`");
+            let code = if text.contains('`') { format!("`` {text} ``") } else { format!("`{text}`") };
             clauses.push(if name.is_empty() { code } else { format!("{name}: {code}") });
         }
-        let skips = matches!(words.at(at), "(" | "[");
-        at = words.after(if skips { words.closing(at).unwrap_or(at) } else { at });
+        at = words.after(words.closing(at).unwrap_or(at));
     }
     clauses
 }
@@ -64,39 +66,69 @@ fn is_documented(words: &Words<'_>, first: usize) -> bool {
     words.at(first) == "pub" || !documentation(words, first).is_empty()
 }
 
-/// The documentation above a function and its attributes, in one line.
+/// The documentation above a function and its attributes, with its line breaks.
 fn documentation(words: &Words<'_>, first: usize) -> String {
     let mut lines = Vec::new();
     let mut at = first;
     while let Some(before) = words.before(at) {
         if words.is(before, Kind::Doc) {
             lines.push(words.at(before)[3..].trim());
-            at = before;
-        } else if words.is(before, Kind::Tactic) {
-            at = before;
-        } else if words.at(before) == "]" {
-            let open = words.list[..before].iter().rposition(|word| &words.text[word.start..word.end] == "#");
-            at = open.unwrap_or(0);
-        } else {
+        } else if !words.is(before, Kind::Tactic) && words.at(before) != "]" {
             break;
         }
+        at = match words.at(before) {
+            "]" => attribute_before(words, before),
+            _ => before,
+        };
     }
     lines.reverse();
-    lines.join(" ")
+    lines.join("\n")
 }
 
-/// The sentences that say what has to hold.
+/// Where the attribute begins that ends with a bracket.
+fn attribute_before(words: &Words<'_>, close: usize) -> usize {
+    let opens = |at: &usize| words.at(*at) == "#" && words.closing(words.after(*at)) == Some(close);
+    (0..close).rev().find(opens).unwrap_or(close)
+}
+
+/// Words that stand for what a sentence before has named.
+const PRONOUNS: [&str; 6] = ["it", "its", "they", "their", "them", "one"];
+
+/// The sentences that say what has to hold. One that speaks of what the sentence before names
+/// stands with it.
 fn condition_sentences(documentation: &str) -> Vec<String> {
-    let says = |sentence: &&str| {
-        let words: Vec<&str> = sentence.split_whitespace().collect();
-        words.windows(2).any(|pair| matches!(pair, ["has" | "have", "to"]) || pair[0] == "must")
-    };
-    let mut sentences = Vec::new();
-    let mut rest = documentation;
-    while let Some(end) = rest.find(". ") {
-        sentences.push(&rest[..end + 1]);
-        rest = &rest[end + 2..];
+    let mut found = Vec::new();
+    for paragraph in documentation.split("\n\n") {
+        let text = paragraph.replace('\n', " ");
+        let sentences: Vec<&str> = text.split_inclusive(". ").map(str::trim).collect();
+        for (number, sentence) in sentences.iter().enumerate().filter(|(_, sentence)| is_condition(sentence)) {
+            match number.checked_sub(1).filter(|_| has_pronoun(sentence)) {
+                Some(before) if !is_condition(sentences[before]) => {
+                    found.push(format!("{} {sentence}", sentences[before]));
+                }
+                _ => found.push(sentence.to_string()),
+            }
+        }
     }
-    sentences.push(rest);
-    sentences.iter().map(|sentence| sentence.trim()).filter(says).map(str::to_string).collect()
+    found
+}
+
+/// Whether a sentence speaks of what one before it has named: it begins with a pronoun, or has one behind `There`.
+fn has_pronoun(sentence: &str) -> bool {
+    let letters = |letter: char| !letter.is_ascii_alphabetic();
+    let mut words = sentence.split(letters).filter(|word| !word.is_empty());
+    let is_pronoun = |word: &str| PRONOUNS.contains(&word.to_ascii_lowercase().as_str());
+    let first = words.next().unwrap_or("");
+    is_pronoun(first) || words.any(|word| word == "them" || (first == "There" && is_pronoun(word)))
+}
+
+/// Whether a sentence says of something that it has to be so. A part that says `where`, `nothing` or `may` before speaks
+/// of a case, and asks for nothing.
+fn is_condition(sentence: &str) -> bool {
+    sentence.split([',', ';', ':']).any(|part| {
+        let words: Vec<&str> = part.split_whitespace().collect();
+        let asks = |pair: &[&str]| matches!(pair, ["has" | "have", "to"] | ["must", _]);
+        let of_a_case = |word: &&str| matches!(word.to_ascii_lowercase().as_str(), "where" | "nothing" | "may" | "no");
+        words.windows(2).position(asks).is_some_and(|at| !words[..at].iter().any(of_a_case))
+    })
 }

@@ -15,8 +15,10 @@ pub use edits::{Edits, Piece};
 pub use names::Place;
 #[allow(unused_imports, reason = "the tests of the translation use them")]
 pub use rules::{RULES, Rule, Told};
+#[allow(unused_imports, reason = "the tests of the translation use them")]
+pub use tokens::{Kind, Word, Words};
 
-use tokens::{Unknown, Words};
+use tokens::Unknown;
 
 /// What becomes of a file.
 pub struct Translation<'a> {
@@ -66,6 +68,7 @@ fn apply_rules(words: &Words<'_>, place: &Place<'_>, edits: &mut Edits) {
     calls::free_assertions(words, edits);
     calls::know_attributes(words, edits);
     calls::start_functions(words, edits);
+    calls::know_modules(words, edits);
     calls::begin_file(words, edits);
     calls::mark_examples(words, edits);
     conditions::tell_conditions(words, edits);

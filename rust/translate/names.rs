@@ -12,21 +12,35 @@ pub struct Place<'a> {
     pub libraries: &'a [String],
 }
 
-/// Leads each path to its module.
+/// Leads each path to its module. A name of a path's head may stand nowhere else, where it could mean something else.
 pub fn lead_paths(words: &Words<'_>, place: &Place<'_>, edits: &mut Edits) {
     for index in 0..words.list.len() {
-        if !words.is(index, Kind::Name) || is_inside_path(words, index) || !begins_path(words, index) {
+        let name = words.at(index);
+        if !words.is(index, Kind::Name) || !is_head(name, place) || is_visibility(words, index) {
             continue;
         }
-        let name = words.at(index);
-        if name == "crate" {
+        if name == "core" || is_inside_path(words, index) || !begins_path(words, index) {
+            edits.refuse(words, index, format!("the name {name} where no path begins"));
+        } else if name == "crate" {
             edits.insert_after(words, Rule::CratePath, index, format!("::{}", place.library));
         } else if name == "std" {
             edits.replace(words, Rule::StdPath, index, index, "crate::rattle_std");
-        } else if place.libraries.iter().any(|library| library == name) {
+        } else {
             edits.insert_before(words, Rule::LibraryPath, index, "crate::".to_string());
         }
     }
+}
+
+/// Whether paths to other libraries begin with a name.
+fn is_head(name: &str, place: &Place<'_>) -> bool {
+    matches!(name, "crate" | "std" | "core") || place.libraries.iter().any(|library| library == name)
+}
+
+/// Whether a name is that of `pub(crate)`.
+fn is_visibility(words: &Words<'_>, index: usize) -> bool {
+    words.at(index) == "crate"
+        && words.at(words.after(index)) == ")"
+        && words.before(index).is_some_and(|open| words.at(open) == "(" && words.text_before(open) == "pub")
 }
 
 /// Whether `::` stands behind a name.

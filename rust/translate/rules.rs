@@ -53,8 +53,8 @@ pub const RULES: [Told; 22] = [
         Rule::GhostMember,
         "ghost member",
         "fields and members that the prover alone sees, with their documentation",
-        "ghost tree: { Self → Tree };",
-        "",
+        "struct S {\n    a: u8,\n    ghost small: { a < 8 },\n}",
+        "struct S {\n    a: u8,\n    \n}",
     ),
     told(
         Rule::Clause,
@@ -90,7 +90,7 @@ pub const RULES: [Told; 22] = [
         "drop bound",
         "the same, of a type parameter",
         "fn f<T: Copy + Drop>(t: T) {}",
-        "fn f<T: Copy>(t: T) {}",
+        "fn f<T: Copy >(t: T) {}",
     ),
     told(
         Rule::SizedTrait,
@@ -146,7 +146,7 @@ pub const RULES: [Told; 22] = [
         "allocated call",
         "calls that are given an allocator, which Rust's of the same name are not",
         "let a = b.to_vec(alloc)?;",
-        "let a = b.to_vec_in(alloc)?;",
+        "let a = b.to_vec_given(alloc)?;",
     ),
     told(
         Rule::AbortGuard,

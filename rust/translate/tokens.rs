@@ -64,7 +64,30 @@ impl<'a> Words<'a> {
             list.push(Word { kind, start, end });
             start = end;
         }
-        Ok(Words { text, list })
+        let words = Words { text, list };
+        words.match_brackets()?;
+        Ok(words)
+    }
+
+    /// Refuses a bracket without another that closes or opens it.
+    fn match_brackets(&self) -> Result<(), Unknown> {
+        let mut open = Vec::new();
+        for (index, word) in self.list.iter().enumerate().filter(|(_, word)| word.kind == Kind::Mark) {
+            match self.at(index) {
+                "(" | "[" | "{" => open.push(index),
+                ")" | "]" | "}" => {
+                    let is_closed = open.pop().is_some_and(|first| close_of(self.at(first)) == self.at(index));
+                    if !is_closed {
+                        return Err(unknown(self.text, word.start));
+                    }
+                }
+                _ => {}
+            }
+        }
+        match open.last() {
+            Some(first) => Err(unknown(self.text, self.list[*first].start)),
+            None => Ok(()),
+        }
     }
 
     /// The text of a word; none past the end.
@@ -108,8 +131,11 @@ impl<'a> Words<'a> {
         true
     }
 
-    /// The word that closes the bracket at one.
+    /// The word that closes the bracket at one; none where no bracket opens there.
     pub fn closing(&self, open: usize) -> Option<usize> {
+        if !self.is(open, Kind::Mark) || !matches!(self.at(open), "(" | "[" | "{") {
+            return None;
+        }
         let mut depth = 0usize;
         for index in open..self.list.len() {
             if self.list[index].kind != Kind::Mark {
@@ -128,6 +154,15 @@ impl<'a> Words<'a> {
             }
         }
         None
+    }
+}
+
+/// The bracket that closes one.
+fn close_of(open: &str) -> &'static str {
+    match open {
+        "(" => ")",
+        "[" => "]",
+        _ => "}",
     }
 }
 
@@ -151,6 +186,9 @@ fn next_word(text: &str, start: usize) -> Result<(Kind, usize), Unknown> {
     if rest.starts_with("//") {
         return Ok((comment_kind(rest), start + rest.find('\n').unwrap_or(rest.len())));
     }
+    if rest.starts_with("/*") || rest.starts_with("*/") || is_raw_name(rest) {
+        return Err(unknown(text, start));
+    }
     if let Some(length) = literal(rest) {
         return length.map(|length| (Kind::Literal, start + length)).ok_or(unknown(text, start));
     }
@@ -160,13 +198,21 @@ fn next_word(text: &str, start: usize) -> Result<(Kind, usize), Unknown> {
     if let Some(length) = tactic(rest) {
         return Ok((Kind::Tactic, start + length));
     }
-    if first == '\'' {
+    if first == '\'' && rest[1..].starts_with(is_of_name) {
         return Ok((Kind::Lifetime, start + 1 + run(&rest[1..], is_of_name)));
+    }
+    if first == '\'' {
+        return Err(unknown(text, start));
     }
     if first.is_ascii_punctuation() {
         return Ok((Kind::Mark, start + 1));
     }
     Err(unknown(text, start))
+}
+
+/// Whether a name stands here that would be a keyword but for its `r#`.
+fn is_raw_name(rest: &str) -> bool {
+    rest.strip_prefix("r#").is_some_and(|name| name.starts_with(is_of_name))
 }
 
 /// The length of what a text begins with.
@@ -235,7 +281,7 @@ fn quoted(rest: &str) -> Option<usize> {
 fn character(rest: &str) -> Option<usize> {
     let letter = rest[1..].chars().next()?;
     if letter == '\\' {
-        return rest[3..].find('\'').map(|length| 3 + length + 1);
+        return rest.get(3..)?.find('\'').map(|length| 3 + length + 1);
     }
     let end = 1 + letter.len_utf8();
     rest[end..].starts_with('\'').then_some(end + 1)
@@ -249,6 +295,7 @@ fn tactic(rest: &str) -> Option<usize> {
     for (at, letter) in rest.char_indices().skip(head.len()) {
         match letter {
             '(' | '[' => depth += 1,
+            '"' | '\'' => return None,
             ')' | ']' if depth == 0 => return Some(at + 1),
             ')' | ']' => depth -= 1,
             _ => {}
@@ -291,8 +338,8 @@ pub fn clause_parts(clause: &str) -> (&str, &str) {
 
 /// The length of a part that begins with `ghost`.
 fn ghost_part(rest: &str) -> Option<(Kind, usize)> {
-    if rest.starts_with("ghost use ") {
-        return rest.find(';').map(|length| (Kind::GhostUse, length + 1));
+    if let Some(names) = rest.strip_prefix("ghost use ") {
+        return ghost_names(names).map(|length| (Kind::GhostUse, rest.len() - names.len() + length));
     }
     let name = "ghost ".len();
     if !rest.starts_with("ghost ") {
@@ -315,18 +362,40 @@ fn ghost_part(rest: &str) -> Option<(Kind, usize)> {
     rest[at..].starts_with([';', ',']).then_some((Kind::GhostMember, at + 1))
 }
 
+/// The length of a path, and of another name for it or names in braces behind it, up to their `;`.
+fn ghost_names(rest: &str) -> Option<usize> {
+    let path = run(rest, |letter| !letter.is_ascii_whitespace() && letter != '{' && letter != ';');
+    let behind = &rest[path..];
+    let length = match behind.strip_prefix(" as ") {
+        Some(name) => behind.len() - name.len() + run(name, is_of_name),
+        None => braces(behind).unwrap_or(0),
+    };
+    let end = path + length;
+    (path > 0 && rest[end..].starts_with(';')).then_some(end + 1)
+}
+
 fn blanks(text: &str) -> usize {
     run(text, |letter| letter.is_ascii_whitespace())
 }
 
-/// The length of what stands in braces here. The prover's language has names with quotes in them, so only braces count.
+/// The length of what stands in braces here. The prover's language has names with primes in them, so these are no
+/// quotes. A text in quotes may have no brace, and no comment may stand here.
 fn braces(text: &str) -> Option<usize> {
     if !text.starts_with('{') {
         return None;
     }
     let mut depth = 0usize;
-    for (at, letter) in text.char_indices() {
+    let mut letters = text.char_indices();
+    while let Some((at, letter)) = letters.next() {
         match letter {
+            '"' => {
+                let length = text[at + 1..].find('"')?;
+                if text[at + 1..at + 1 + length].contains(['{', '}', '\\', '\n']) {
+                    return None;
+                }
+                letters.find(|(_, letter)| *letter == '"');
+            }
+            '-' | '/' if is_comment(&text[at..]) => return None,
             '{' => depth += 1,
             '}' => {
                 depth -= 1;
@@ -338,6 +407,11 @@ fn braces(text: &str) -> Option<usize> {
         }
     }
     None
+}
+
+/// Whether a comment of the prover's language, or of Rust, begins here.
+fn is_comment(rest: &str) -> bool {
+    ["-- ", "//", "/*"].iter().any(|mark| rest.starts_with(mark))
 }
 
 fn unknown(text: &str, at: usize) -> Unknown {

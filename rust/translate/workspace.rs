@@ -33,7 +33,6 @@ const MODULE_ALLOWS: &str = "\
 #[allow(unused_imports, reason = \"what only a contract named is still imported\")]
 #[allow(unused_variables, reason = \"laws have bodies without code\")]
 #[allow(unused_attributes, reason = \"sections are added to documentation wherever a call requires something\")]
-#[allow(unstable_name_collisions, reason = \"calls that are given an allocator have names of their own\")]
 #[allow(clippy::all, reason = \"the text is that of the proved source, and another form may have no proof\")]
 #[allow(missing_docs, reason = \"what the face does not hand on is documented where its name does not say it\")]
 ";
@@ -41,11 +40,18 @@ const MODULE_ALLOWS: &str = "\
 impl Workspace {
     /// Reads `crates.txt` at the root of the repository.
     pub fn read(root: &Path) -> Result<Workspace> {
-        let lines = fs::read_to_string(root.join("crates.txt"))?;
-        let crates = lines.lines().filter(|line| !line.starts_with('#')).filter_map(|line| crate_of(root, line));
+        let path = root.join("crates.txt");
+        let mut crates: Vec<Crate> = Vec::new();
+        for (number, line) in fs::read_to_string(&path)?.lines().enumerate() {
+            if line.trim().is_empty() || line.starts_with('#') {
+                continue;
+            }
+            let one = crate_of(root, line).filter(|one| !crates.iter().any(|other| other.name == one.name));
+            crates.push(one.ok_or_else(|| told(&path, &[format!("{}: {line}", number + 1)]))?);
+        }
         Ok(Workspace {
             root: root.to_path_buf(),
-            crates: crates.collect(),
+            crates,
         })
     }
 
@@ -128,16 +134,27 @@ pub fn write_changed(path: &Path, text: &str) -> Result<()> {
     fs::write(path, text)
 }
 
-/// The crate of a line of `crates.txt`.
+/// Crates that are not of the repository; what is used of them a rule writes out.
+const OUTSIDE: [&str; 1] = ["thiserror"];
+
+/// The crate of a line of `crates.txt`; none where a word of it is not known.
 fn crate_of(root: &Path, line: &str) -> Option<Crate> {
     let (head, below) = line.split_once(':')?;
-    let mut words = head.split_whitespace();
-    let name = words.next()?;
-    let is_there = |name: &&str| root.join("crates").join(name).is_dir();
+    let head: Vec<&str> = head.split_whitespace().collect();
+    let (name, is_static) = match head[..] {
+        [name] => (name, false),
+        [name, "staticlib"] => (name, true),
+        _ => return None,
+    };
+    let is_there = |name: &str| root.join("crates").join(name).is_dir();
+    let below: Vec<&str> = below.split_whitespace().filter(|name| !OUTSIDE.contains(name)).collect();
+    if !is_there(name) || !below.iter().all(|name| is_there(name)) {
+        return None;
+    }
     Some(Crate {
         name: name.to_string(),
-        below: below.split_whitespace().filter(is_there).map(str::to_string).collect(),
-        is_static: words.any(|word| word == "staticlib"),
+        below: below.iter().map(|name| name.to_string()).collect(),
+        is_static,
         is_program: root.join("crates").join(name).join("src/main.rt").is_file(),
     })
 }
