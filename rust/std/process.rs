@@ -4,5 +4,3 @@ pub use std::process::ExitCode;
 
 /// Leave to end the program, which tests have.
 pub trait Abort {}
-
-impl Abort for super::rt::HostRuntime {}

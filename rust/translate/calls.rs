@@ -126,7 +126,8 @@ pub fn start_functions(words: &Words<'_>, edits: &mut Edits) {
                 continue;
             };
             edits.take(words, Rule::TestRuntime, words.after(open), close - 1);
-            edits.insert_after(words, Rule::TestRuntime, body, " let rt = HostRuntime;".to_string());
+            let statement = " let rt = crate::rattle_std::test::TestRuntime::begin();".to_string();
+            edits.insert_after(words, Rule::TestRuntime, body, statement);
         }
     }
 }

@@ -158,9 +158,9 @@ pub const RULES: [Told; 22] = [
     told(
         Rule::TestRuntime,
         "test runtime",
-        "a test of Rust is given nothing",
+        "a test of Rust is given nothing; this runtime knows where the test ends",
         "#[test]\nfn t(rt: HostRuntime) { f(&rt); }",
-        "#[test]\nfn t() { let rt = HostRuntime; f(&rt); }",
+        "#[test]\nfn t() { let rt = crate::rattle_std::test::TestRuntime::begin(); f(&rt); }",
     ),
     told(
         Rule::Main,
