@@ -92,6 +92,8 @@ pub struct Examples {
     /// Each set as a message, in that order.
     pub set_messages: Vec<Vec<u8>>,
     pub requests: Vec<Vec<u8>>,
+    /// The calls that build the address book, each on a line.
+    pub calls: Vec<u8>,
 }
 
 impl Examples {
@@ -113,6 +115,7 @@ impl Examples {
                 .collect(),
             sets,
             requests: REQUESTS.iter().map(|path| read(path)).collect(),
+            calls: read("examples/addressbook.calls"),
         }
     }
 
