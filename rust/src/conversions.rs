@@ -18,7 +18,7 @@ impl<'a> From<&'a std::string::String> for dynamic_value::Reader<'a> {
     }
 }
 
-impl<'a> SetterInput<text::Owned> for &'a std::string::String {
+impl SetterInput<text::Owned> for &std::string::String {
     fn set_pointer_builder(builder: PointerBuilder<'_>, input: Self, canonicalize: bool) -> Result<()> {
         <&str>::set_pointer_builder(builder, input.as_str(), canonicalize)
     }
