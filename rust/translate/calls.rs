@@ -139,10 +139,12 @@ fn is_test(words: &Words<'_>, function: usize) -> bool {
     (first..function).any(|at| words.reads(at, &["#", "[", "test", "]"]))
 }
 
-/// Refuses modules within a file that take names from without: those of `rust/std` stand at the head of files alone.
+/// Refuses modules within a file that take names from without: those of `rust/std` stand at the head of files alone. What
+/// a `pub use` hands on needs none of them.
 pub fn know_modules(words: &Words<'_>, edits: &mut Edits) {
     let names = ["Vec", "String", "HostRuntime", "format", "vec", "use", "fn"];
-    let is_taken = |at: &usize| names.contains(&words.at(*at));
+    let is_handed_on = |at: usize| words.at(at) == "use" && words.text_before(at) == "pub";
+    let is_taken = |at: &usize| names.contains(&words.at(*at)) && !is_handed_on(*at);
     for index in 0..words.list.len() {
         let open = words.after(words.after(index));
         if words.at(index) != "mod" || !words.is(index, Kind::Name) || words.at(open) != "{" {
