@@ -1,10 +1,9 @@
 //! Builds a message of one number and a text, and writes it to standard output.
 #![tactic(auto)]
 
-use capnp_arena::message::Builder;
-use capnp_wire::device::{Sink, WriteSink};
-use capnp_wire::error::Result;
-use capnp_wire::size::StructSize;
+use capnp::Result;
+use capnp::device::{Sink, WriteSink};
+use capnp::message::{Builder, StructSize};
 use std::alloc::Global;
 
 /// The sections of the struct that is built: a word of numbers and one pointer.

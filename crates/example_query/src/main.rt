@@ -1,12 +1,10 @@
 //! Prints the fields of a struct of the built-in set, and where each one stands in a message.
 #![tactic(auto)]
 
-use capnp_schema::builtin;
-use capnp_schema::plan::Place;
-use capnp_schema::schema::{Field, StructSchema};
-use capnp_wire::device::WriteSink;
-use capnp_wire::error::Result;
-use capnp_wire::transfer::write_all;
+use capnp::Result;
+use capnp::device::{WriteSink, write_all};
+use capnp::schema::plan::Place;
+use capnp::schema::{Field, StructSchema, builtin};
 use std::alloc::Global;
 
 /// Appends a field's name, and the bits or the pointer that it occupies.

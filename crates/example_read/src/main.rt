@@ -9,12 +9,10 @@ ghost use Rattle.capnp_records.specs.Record.{Number};
 ghost use Rattle.capnp_dynamic_readers.specs.Handles.{schema_of};
 ghost use Rattle.capnp_dynamic_readers.specs.Reads.{found_seen};
 
-use capnp_dynamic_readers::{dynamic_struct, dynamic_value};
-use capnp_schema::builtin;
-use capnp_wire::device::{ReadSource, WriteSink};
-use capnp_wire::error::{Error, Result};
-use capnp_wire::message::Reader;
-use capnp_wire::transfer::{read_all, write_all};
+use capnp::device::{ReadSource, WriteSink, read_all, write_all};
+use capnp::message::Reader;
+use capnp::schema::builtin;
+use capnp::{Error, Result, dynamic_struct, dynamic_value};
 use std::alloc::Global;
 
 /// The UInt16 that the field of a name has. Refused as the read of the field, and as `TypeMismatch` where the field has

@@ -6,21 +6,16 @@ ghost use Rattle.std.specs.Prelude.{◌≡◌, IfOk};
 ghost use Rattle.capnp_schema.specs.Entries.{lists_seen};
 ghost use Rattle.capnp_schema.specs.StructHandles.{IsStruct, set_of};
 
-use capnp_base::introspect::{Type, TypeVariant};
-use capnp_base::text;
-use capnp_dynamic_readers::dynamic_struct;
-use capnp_dynamic_readers::dynamic_value::Reader as Value;
-use capnp_dynamic_readers::printer::print;
-use capnp_run::Compatible;
-use capnp_run::calls::{Call, Op, Step};
-use capnp_run::message::{whole_copied, whole_new};
-use capnp_schema::record::{BrandRecord, FieldRecord, NodeRecord, ValueRecord};
-use capnp_schema::schema::StructSchema;
-use capnp_schema::set::SchemaSet;
-use capnp_wire::device::WriteSink;
-use capnp_wire::error::{Error, ErrorKind, Result};
-use capnp_wire::message::Reader;
-use capnp_wire::transfer::write_all;
+use capnp::compatible::Compatible;
+use capnp::device::{WriteSink, write_all};
+use capnp::dynamic_value::Reader as Value;
+use capnp::introspect::{Type, TypeVariant};
+use capnp::message::Reader;
+use capnp::printer::print;
+use capnp::run::{Call, Op, Step, whole_copied, whole_new};
+use capnp::schema::record::{BrandRecord, FieldRecord, NodeRecord, ValueRecord};
+use capnp::schema::{SchemaSet, StructSchema};
+use capnp::{Error, ErrorKind, Result, dynamic_struct, text};
 use std::alloc::Global;
 
 /// Two versions of an account: the older one has a name, the newer one also a balance.

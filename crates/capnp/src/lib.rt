@@ -1,0 +1,127 @@
+//! The reflection layer of Cap'n Proto under one name: messages under schemas that are known only at run time.
+//!
+//! There is no code here: each item is one of a crate below, under the name that the public crate `capnp` has for it
+//! where it has one. `docs/DIFFERENCES.md` says what differs from there. Contracts cite definitions of the crates below,
+//! whose `specs/` a caller's `ghost use` lines name.
+#![tactic(auto)]
+
+pub use capnp_device::error::{Error, ErrorKind, Result, SchemaTable};
+pub use capnp_wire::size::MessageSize;
+
+/// Any pointers, whose type no schema says.
+pub mod any_pointer {
+    pub use capnp_builders::any_pointer::{Builder, Owned, Reader};
+}
+
+/// Compatible successors of a schema, and reads of one under the other.
+pub mod compatible {
+    pub use capnp_compatible::Compatible;
+}
+
+/// Data: bytes as they stand.
+pub mod data {
+    pub use capnp_builders::data::{Builder, Owned, Reader};
+}
+
+/// Where bytes come from, and where they go.
+pub mod device {
+    pub use capnp_device::device::{DeviceFault, ReadSource, Sink, Source, WriteSink};
+    pub use capnp_device::memory::{MemorySink, MemorySource};
+    pub use capnp_device::transfer::{read_all, write_all};
+}
+
+/// Lists whose type is known at run time.
+pub mod dynamic_list {
+    pub use capnp_dynamic::dynamic_list::{Builder, Reader};
+}
+
+/// Structs whose schema is known at run time.
+pub mod dynamic_struct {
+    pub use capnp_dynamic::dynamic_struct::{Builder, Reader};
+}
+
+/// Values whose type is known at run time.
+pub mod dynamic_value {
+    pub use capnp_dynamic::dynamic_value::{
+        AnnotationValue, Builder, DowncastBuilder, DowncastReader, Enum, Kept, Reader,
+    };
+}
+
+/// Types as values.
+pub mod introspect {
+    pub use capnp_base::introspect::{
+        Introspect, RawBrandedStructSchema, RawEnumSchema, Type, TypeVariant,
+    };
+}
+
+/// Messages as they are received, and as they are built.
+pub mod message {
+    pub use capnp_arena::list_builder::ListBuilder;
+    pub use capnp_arena::message::Builder;
+    pub use capnp_arena::pointer_builder::PointerBuilder;
+    pub use capnp_arena::struct_builder::StructBuilder;
+    pub use capnp_wire::message::Reader;
+    pub use capnp_wire::size::{ElementSize, StructSize};
+    pub use capnp_wire::{ListReader, PointerReader, PrimitiveElement, StructReader};
+}
+
+/// Calls along paths on messages, as words say them; what stands at a path.
+pub mod patch {
+    pub use capnp_patch::engine::{Report, any_refused, is_refused, new_message, patch};
+    pub use capnp_patch::get::get;
+    pub use capnp_patch::lines::get_lines;
+    pub use capnp_patch::reach::read_path;
+    pub use capnp_words::call::{CallWord, WordOp, parse_call};
+    pub use capnp_words::path::{Path, PathStep, parse_path};
+    pub use capnp_words::target::target_type;
+    pub use capnp_words::value::{PlainValue, parse_value};
+}
+
+/// Values as text.
+pub mod printer {
+    pub use capnp_dynamic::printer::print;
+}
+
+/// Sets from the requests of the public compiler.
+pub mod request {
+    pub use capnp_request::{Converted, Note, StandIn, read_request};
+    pub use capnp_schema::request::new_set;
+}
+
+/// Lists of calls along paths, and runs on whole messages.
+pub mod run {
+    pub use capnp_call::calls::{Call, Op, Plain, Reply, Step};
+    pub use capnp_run::message::{run_copied, run_new, whole_copied, whole_new};
+    pub use capnp_run::run::{run, run_on};
+}
+
+/// Schemas, and checked sets of them.
+pub mod schema {
+    pub use capnp_schema::schema::{
+        Annotation, AnnotationList, EnumSchema, Enumerant, EnumerantList, Field, FieldList,
+        FieldSubset, StructSchema,
+    };
+    pub use capnp_schema::set::SchemaSet;
+    pub use capnp_schema::{builtin, meta, plan, record, value};
+}
+
+/// Sets of schemas as messages.
+pub mod sets {
+    pub use capnp_set_writer::set_writer::write_set;
+    pub use capnp_sets::message::read_message;
+    pub use capnp_sets::sets::{read_schema_set, read_set};
+}
+
+/// Texts, which need not be UTF-8.
+pub mod text {
+    pub use capnp_builders::text::{Builder, Owned, Reader};
+}
+
+/// What handles have in common.
+pub mod traits {
+    pub use capnp_base::traits::{
+        FromPointerReader, HasStructSize, HasTypeId, Index, IndexIter, IndexMove,
+        IntoInternalListReader, IntoInternalStructReader, ListIter, ShortListIter,
+    };
+    pub use capnp_builders::traits::{FromPointerBuilder, Owned, OwnedStruct, SetterInput};
+}
