@@ -29,6 +29,12 @@
 //! what a reference leads to, `x.old` and `x.new` what it leads to before and after; the words of clauses are told in
 //! `docs/DEFINITIONS.md` and in the folders `specs/`.
 //!
+//! # Walks
+//!
+//! A null struct reads as its default. Of a struct that has a field of its own kind that is a struct with such a null
+//! again, without an end: a walk over all fields asks `has` before `get`, as the printer does. Pointers of a message may
+//! share a target, so a walk can be far longer than the message.
+//!
 //! # Memory
 //!
 //! Want of memory is an answer: calls that may take memory answer a `Result`, and most are given the allocator,
