@@ -1,5 +1,5 @@
 // Times this library and the C++ library side by side and prints one table. Its words are the folder of schema.capnp, one for
-// large files, and our two programs.
+// large files, our two programs, and the two that cargo built, where it is there.
 #include "documents.h"
 #include "prints.h"
 #include "program.h"
@@ -14,8 +14,8 @@
 #include <kj/filesystem.h>
 
 int main(int count, char **words) {
-  if (count != 5) {
-    std::fprintf(stderr, "usage: bench FOLDER SCRATCH CAPNP_SHOW RIFTCALICO\n");
+  if (count != (HAS_CARGO ? 7 : 5)) {
+    std::fprintf(stderr, "usage: bench FOLDER SCRATCH CAPNP_SHOW RIFTCALICO%s\n", HAS_CARGO ? " CARGO_CAPNP_SHOW CARGO_RIFTCALICO" : "");
     return 2;
   }
   documents::tell_memory();
@@ -33,6 +33,7 @@ int main(int count, char **words) {
   set_messages::add_rows(table);
   requests::add_rows(table);
   prints::add_rows(table, file.getNested("Lists").asStruct());
-  program::add_rows(table, file.getNested("Lists").asStruct(), words[1], words[2], words[3], words[4]);
+  program::OurProgram shows{words[3], HAS_CARGO ? words[5] : ""}, patches{words[4], HAS_CARGO ? words[6] : ""};
+  program::add_rows(table, file.getNested("Lists").asStruct(), words[1], words[2], shows, patches);
   return table.status();
 }

@@ -123,9 +123,9 @@ inline long memory_of(const Work &work) {
 // what a patch takes beside the message that it reads
 inline void tell_memory() {
   auto source = document();
-  auto patching = with(bench_patch_document, source.data(), source.size());
+  auto patching = with(ours::patch_document, source.data(), source.size());
   long before = memory_of([](uint64_t) { return 0; });
-  long ours = memory_of(patching) - before;
+  long ours = memory_of(patching.proved) - before;
   long theirs = memory_of([&](uint64_t rounds) { return patch(source, rounds); }) - before;
   std::printf("\nThe patch of a document of %.1f MB took %.1f MB more, the other side %.1f MB: %.2f of it.\n\n", source.size() / 1e6, ours / 1e6,
               theirs / 1e6, double(ours) / theirs);
@@ -133,11 +133,11 @@ inline void tell_memory() {
 
 inline void add_rows(Table &table) {
   auto source = document();
-  wire::row(table, "a document of 21.6 MB copied, an item", COUNT, source, bench_wire_copy, wire::copy);
-  wire::row(table, "a document patched by three sets and written, an item", COUNT, source, bench_patch_document, patch);
-  table.row_after_start("a patched document encoded, an item", COUNT, with(bench_write_patched, source.data(), source.size()),
+  wire::row(table, "a document of 21.6 MB copied, an item", COUNT, source, ours::wire_copy, wire::copy);
+  wire::row(table, "a document patched by three sets and written, an item", COUNT, source, ours::patch_document, patch);
+  table.row_after_start("a patched document encoded, an item", COUNT, with(ours::write_patched, source.data(), source.size()),
                         [&](uint64_t rounds) { return write_patched(source, rounds); });
-  wire::row(table, "an item of a list of 100,000 built and written", COUNT, source, bench_build_items, build);
+  wire::row(table, "an item of a list of 100,000 built and written", COUNT, source, ours::build_items, build);
 }
 
 } // namespace documents

@@ -1,47 +1,70 @@
 // The calls of our static libraries that are timed, each a whole row's work. A call does its work `rounds` times over the
-// same message and answers a checksum, which has to be that of the C++ library's work.
+// same message and answers a checksum, which has to be that of the C++ library's work. Each is there twice: in the proved
+// libraries, and with `rust_` before its name in the library that cargo builds of the same source, where cargo is there.
 #pragma once
 #include <cstddef>
 #include <cstdint>
 
-extern "C" {
-uint64_t bench_read_by_name_opened(const uint8_t *message, size_t length, uint64_t rounds);
-uint64_t bench_read_by_name(const uint8_t *message, size_t length, uint64_t rounds);
-uint64_t bench_read_by_field_opened(const uint8_t *message, size_t length, uint64_t rounds);
-uint64_t bench_read_by_field(const uint8_t *message, size_t length, uint64_t rounds);
-uint64_t bench_find_by_name(const uint8_t *message, size_t length, uint64_t rounds);
-uint64_t bench_print_lists(const uint8_t *message, size_t length, uint64_t rounds);
-uint64_t bench_set_shapes_numbers(const uint8_t *message, size_t length, uint64_t rounds);
-uint64_t bench_set_shapes_message(const uint8_t *message, size_t length, uint64_t rounds);
-uint64_t bench_run_items(const uint8_t *message, size_t length, uint64_t rounds);
-uint64_t bench_run_items_many(const uint8_t *message, size_t length, uint64_t rounds);
-uint64_t bench_run_short(const uint8_t *message, size_t length, uint64_t rounds);
-uint64_t bench_run_short_many(const uint8_t *message, size_t length, uint64_t rounds);
-uint64_t bench_run_long(const uint8_t *message, size_t length, uint64_t rounds);
-uint64_t bench_run_long_many(const uint8_t *message, size_t length, uint64_t rounds);
-uint64_t bench_patch_document(const uint8_t *message, size_t length, uint64_t rounds);
-uint64_t bench_write_patched(const uint8_t *message, size_t length, uint64_t rounds);
-uint64_t bench_build_items(const uint8_t *message, size_t length, uint64_t rounds);
-uint64_t bench_check_many(const uint8_t *message, size_t length, uint64_t rounds);
-uint64_t bench_check_wide(const uint8_t *message, size_t length, uint64_t rounds);
-uint64_t bench_check_chain(const uint8_t *message, size_t length, uint64_t rounds);
-uint64_t bench_convert_request(const uint8_t *message, size_t length, uint64_t rounds);
-uint64_t bench_read_set(const uint8_t *message, size_t length, uint64_t rounds);
-uint64_t bench_wire_open(const uint8_t *message, size_t length, uint64_t rounds);
-uint64_t bench_wire_bytes(const uint8_t *message, size_t length, uint64_t rounds);
-uint64_t bench_wire_halves(const uint8_t *message, size_t length, uint64_t rounds);
-uint64_t bench_wire_words(const uint8_t *message, size_t length, uint64_t rounds);
-uint64_t bench_wire_bits(const uint8_t *message, size_t length, uint64_t rounds);
-uint64_t bench_wire_hops(const uint8_t *message, size_t length, uint64_t rounds);
-uint64_t bench_wire_texts(const uint8_t *message, size_t length, uint64_t rounds);
-uint64_t bench_wire_data(const uint8_t *message, size_t length, uint64_t rounds);
-uint64_t bench_wire_structs(const uint8_t *message, size_t length, uint64_t rounds);
-uint64_t bench_wire_small_numbers(const uint8_t *message, size_t length, uint64_t rounds);
-uint64_t bench_wire_large_numbers(const uint8_t *message, size_t length, uint64_t rounds);
-uint64_t bench_wire_next(const uint8_t *message, size_t length, uint64_t rounds);
-uint64_t bench_wire_total_size(const uint8_t *message, size_t length, uint64_t rounds);
-uint64_t bench_wire_copy(const uint8_t *message, size_t length, uint64_t rounds);
-uint64_t bench_wire_build(const uint8_t *message, size_t length, uint64_t rounds);
-uint64_t bench_arena_build(const uint8_t *message, size_t length, uint64_t rounds);
-uint64_t bench_wire_encode(const uint8_t *message, size_t length, uint64_t rounds);
-}
+using OurFunction = uint64_t(const uint8_t *message, size_t length, uint64_t rounds);
+
+// a call as the proved libraries have it, and as cargo built it, or null
+struct OurCall {
+  OurFunction *proved, *cargo;
+};
+
+#ifdef WITH_CARGO
+constexpr bool HAS_CARGO = true;
+#define CARGO_CALL(NAME) rust_bench_##NAME
+#else
+constexpr bool HAS_CARGO = false;
+#define CARGO_CALL(NAME) nullptr
+#endif
+
+#define CALL(NAME)                                                                                                               \
+  extern "C" OurFunction bench_##NAME, rust_bench_##NAME;                                                                        \
+  namespace ours {                                                                                                               \
+  constexpr OurCall NAME{bench_##NAME, CARGO_CALL(NAME)};                                                                        \
+  }
+
+CALL(read_by_name_opened)
+CALL(read_by_name)
+CALL(read_by_field_opened)
+CALL(read_by_field)
+CALL(find_by_name)
+CALL(print_lists)
+CALL(set_shapes_numbers)
+CALL(set_shapes_message)
+CALL(run_items)
+CALL(run_items_many)
+CALL(run_short)
+CALL(run_short_many)
+CALL(run_long)
+CALL(run_long_many)
+CALL(patch_document)
+CALL(write_patched)
+CALL(build_items)
+CALL(check_many)
+CALL(check_wide)
+CALL(check_chain)
+CALL(convert_request)
+CALL(read_set)
+CALL(wire_open)
+CALL(wire_bytes)
+CALL(wire_halves)
+CALL(wire_words)
+CALL(wire_bits)
+CALL(wire_hops)
+CALL(wire_texts)
+CALL(wire_data)
+CALL(wire_structs)
+CALL(wire_small_numbers)
+CALL(wire_large_numbers)
+CALL(wire_next)
+CALL(wire_total_size)
+CALL(wire_copy)
+CALL(wire_build)
+CALL(arena_build)
+CALL(wire_encode)
+
+#undef CALL
+#undef CARGO_CALL

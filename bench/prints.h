@@ -26,7 +26,7 @@ inline uint64_t print_lists(capnp::StructSchema lists, kj::ArrayPtr<const capnp:
 inline void add_rows(Table &table, capnp::StructSchema lists) {
   auto words = message_of(lists, COUNT);
   auto bytes = words.asBytes();
-  table.row("a list of 10,000 structs printed", COUNT, with(bench_print_lists, bytes.begin(), bytes.size()),
+  table.row("a list of 10,000 structs printed", COUNT, with(ours::print_lists, bytes.begin(), bytes.size()),
             [lists, &words](uint64_t rounds) { return print_lists(lists, words, rounds); });
 }
 

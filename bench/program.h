@@ -1,5 +1,5 @@
-// The rows of whole programs over a message of 50 MB: printed, patched, and one value of it shown, by ours and by the public
-// tool or library. The time is the processor time of the process, the best of three.
+// The rows of whole programs over a message of 50 MB: printed, patched, and one value of it shown, by ours, by what cargo built
+// of ours and by the public tool or library. The time is the processor time of the process, the best of three.
 #pragma once
 #include "prints.h"
 #include <capnp/serialize.h>
@@ -20,14 +20,28 @@ struct Run {
   off_t written = 0;
 };
 
+// one of our programs: where it lies as it was proved, and where as cargo built it
+struct OurProgram {
+  std::string proved, cargo;
+};
+
+struct OurRuns {
+  Run proved, cargo;
+};
+
+// the standard input of each run, and its standard output
+struct Files {
+  std::string input, output;
+};
+
 // runs work in a process of its own, with a file as its standard input and another as its standard output
-inline Run run(const char *name, const std::function<int()> &work, const std::string &input, const std::string &output) {
+inline Run run(const char *name, const std::function<int()> &work, const Files &files) {
   Run best;
   for (int i = 0; i < 3; i++) {
     pid_t child = fork();
     if (child == 0) {
-      dup2(open(input.c_str(), O_RDONLY), 0);
-      dup2(open(output.c_str(), O_WRONLY | O_CREAT | O_TRUNC, 0600), 1);
+      dup2(open(files.input.c_str(), O_RDONLY), 0);
+      dup2(open(files.output.c_str(), O_WRONLY | O_CREAT | O_TRUNC, 0600), 1);
       _exit(work());
     }
     int status = 0;
@@ -41,7 +55,7 @@ inline Run run(const char *name, const std::function<int()> &work, const std::st
     best.time = std::min(best.time, of(used.ru_utime) + of(used.ru_stime));
     best.memory = std::max(best.memory, used.ru_maxrss);
   }
-  int file = open(output.c_str(), O_RDONLY);
+  int file = open(files.output.c_str(), O_RDONLY);
   best.written = lseek(file, 0, SEEK_END);
   close(file);
   return best;
@@ -54,6 +68,21 @@ inline std::function<int()> program(std::vector<const char *> words) {
     execvp(words[0], const_cast<char *const *>(words.data()));
     return 127;
   };
+}
+
+// runs one of our programs on these words, and what cargo built of it, where it is there
+inline OurRuns run_ours(const OurProgram &ours, std::vector<const char *> words, const Files &files) {
+  OurRuns runs;
+  words.insert(words.begin(), ours.proved.c_str());
+  runs.proved = run(words[0], program(words), files);
+  if (!HAS_CARGO) return runs;
+  words[0] = ours.cargo.c_str();
+  runs.cargo = run(words[0], program(words), files);
+  if (runs.cargo.written != runs.proved.written) {
+    std::fprintf(stderr, "%s: wrote another number of bytes than %s\n", words[0], ours.proved.c_str());
+    std::exit(1);
+  }
+  return runs;
 }
 
 // the same three sets as ours, by the dynamic API on a copy of the message
@@ -84,30 +113,40 @@ inline void tell_memory(const char *what, const Run &ours, const Run &theirs, si
               theirs.memory / 1000);
 }
 
-inline void add_rows(Table &table, capnp::StructSchema lists, const std::string &here, const std::string &scratch,
-                     const std::string &shows, const std::string &patches) {
-  std::string input = scratch + "/large.bin", output = scratch + "/large.txt", schema = here + "/schema.capnp";
-  std::string last = "set items." + std::to_string(COUNT - 1) + ".a 8", path = "items." + std::to_string(COUNT - 1) + ".a";
+inline void line(Table &table, const char *name, const OurRuns &ours, const Run &theirs) {
+  table.line(name, {ours.proved.time / COUNT, theirs.time / COUNT, ours.cargo.time / COUNT});
+}
+
+// writes the message that each run reads, and answers how many bytes it has
+inline size_t write_message(capnp::StructSchema lists, const std::string &path) {
   auto words = prints::message_of(lists, COUNT);
   auto bytes = words.asBytes();
-  FILE *file = std::fopen(input.c_str(), "wb");
+  FILE *file = std::fopen(path.c_str(), "wb");
   if (file == nullptr || std::fwrite(bytes.begin(), 1, bytes.size(), file) != bytes.size() || std::fclose(file) != 0) std::exit(3);
-  Run shown = run("capnp_show", program({shows.c_str(), "Lists"}), input, output);
-  Run decoded = run("capnp", program({"capnp", "decode", schema.c_str(), "Lists"}), input, output);
-  table.line("the program, a list of 6,200,000 structs printed", shown.time / COUNT, decoded.time / COUNT);
-  std::vector<const char *> calls = {patches.c_str(), "patch", "Lists", "set t \"another text\"", "set items.5.a 7", last.c_str()};
-  Run patched = run("riftcalico patch", program(calls), input, output);
-  Run other = run("the patch in C++", [lists] { return patch(lists); }, input, output);
-  table.line("the program, such a message patched by three sets", patched.time / COUNT, other.time / COUNT);
-  Run got = run("riftcalico get", program({patches.c_str(), "get", "Lists", path.c_str()}), input, output);
-  Run found = run("the value in C++", [lists] { return get(lists); }, input, output);
-  table.line("the program, one value of it shown", got.time / COUNT, found.time / COUNT);
-  table.line("the program, one value of it shown; the public tool, all of it, to be cut", got.time / COUNT, decoded.time / COUNT);
-  tell_memory("The print", shown, decoded, bytes.size());
-  tell_memory("The patch", patched, other, bytes.size());
-  tell_memory("The value", got, found, bytes.size());
-  unlink(input.c_str());
-  unlink(output.c_str());
+  return bytes.size();
+}
+
+inline void add_rows(Table &table, capnp::StructSchema lists, const std::string &here, const std::string &scratch,
+                     const OurProgram &shows, const OurProgram &patches) {
+  Files files{scratch + "/large.bin", scratch + "/large.txt"};
+  std::string schema = here + "/schema.capnp";
+  std::string path = "items." + std::to_string(COUNT - 1) + ".a", last = "set " + path + " 8";
+  size_t size = write_message(lists, files.input);
+  OurRuns shown = run_ours(shows, {"Lists"}, files);
+  Run decoded = run("capnp", program({"capnp", "decode", schema.c_str(), "Lists"}), files);
+  line(table, "the program, a list of 6,200,000 structs printed", shown, decoded);
+  OurRuns patched = run_ours(patches, {"patch", "Lists", "set t \"another text\"", "set items.5.a 7", last.c_str()}, files);
+  Run other = run("the patch in C++", [lists] { return patch(lists); }, files);
+  line(table, "the program, such a message patched by three sets", patched, other);
+  OurRuns got = run_ours(patches, {"get", "Lists", path.c_str()}, files);
+  Run found = run("the value in C++", [lists] { return get(lists); }, files);
+  line(table, "the program, one value of it shown", got, found);
+  line(table, "the program, one value of it shown; the public tool, all of it, to be cut", got, decoded);
+  tell_memory("The print", shown.proved, decoded, size);
+  tell_memory("The patch", patched.proved, other, size);
+  tell_memory("The value", got.proved, found, size);
+  unlink(files.input.c_str());
+  unlink(files.output.c_str());
 }
 
 } // namespace program

@@ -108,15 +108,15 @@ inline uint64_t find_by_name(StructSchema schema, uint64_t rounds) {
 }
 
 inline void add_rows(Table &table, StructSchema many) {
-  table.row("six fields by name, opened each time", 6, with(bench_read_by_name_opened, MESSAGE, sizeof MESSAGE),
+  table.row("six fields by name, opened each time", 6, with(ours::read_by_name_opened, MESSAGE, sizeof MESSAGE),
             [many](uint64_t rounds) { return by_name_opened(many, rounds); });
-  table.row("six fields by name", 6, with(bench_read_by_name, MESSAGE, sizeof MESSAGE),
+  table.row("six fields by name", 6, with(ours::read_by_name, MESSAGE, sizeof MESSAGE),
             [many](uint64_t rounds) { return by_name(many, rounds); });
-  table.row("six fields by handle, opened each time", 6, with(bench_read_by_field_opened, MESSAGE, sizeof MESSAGE),
+  table.row("six fields by handle, opened each time", 6, with(ours::read_by_field_opened, MESSAGE, sizeof MESSAGE),
             [many](uint64_t rounds) { return by_field_opened(many, rounds); });
-  table.row("six fields by handle", 6, with(bench_read_by_field, MESSAGE, sizeof MESSAGE),
+  table.row("six fields by handle", 6, with(ours::read_by_field, MESSAGE, sizeof MESSAGE),
             [many](uint64_t rounds) { return by_field(many, rounds); });
-  table.row("a field found by its name", 6, with(bench_find_by_name, MESSAGE, sizeof MESSAGE),
+  table.row("a field found by its name", 6, with(ours::find_by_name, MESSAGE, sizeof MESSAGE),
             [many](uint64_t rounds) { return find_by_name(many, rounds); });
 }
 

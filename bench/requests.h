@@ -39,7 +39,7 @@ inline void add_rows(Table &table) {
   auto request = capnp::messageToFlatArray(message);
   auto bytes = request.asBytes();
   table.row("a field of a request converted and checked, of 1,000 structs of 30", schemas::STRUCTS * schemas::FIELDS,
-            with(bench_convert_request, bytes.begin(), bytes.size()), [&request](uint64_t rounds) { return load(request, rounds); });
+            with(ours::convert_request, bytes.begin(), bytes.size()), [&request](uint64_t rounds) { return load(request, rounds); });
 }
 
 } // namespace requests

@@ -59,12 +59,12 @@ inline void add_rows(Table &table, StructSchema lists, StructSchema loop) {
   auto depth = [&](const char *name, uint32_t calls, uint32_t length, OurCall ours) {
     table.row(name, calls, with(ours, nullptr, 0), [=](uint64_t rounds) { return chain(loop, calls, length, rounds); });
   };
-  list("a call of 1,000, into a list: three steps", 1000, bench_run_items);
-  list("a call of 10,000, into a list: three steps", 10000, bench_run_items_many);
-  depth("a call of 1,000, through structs: three steps", 1000, 3, bench_run_short);
-  depth("a call of 10,000, through structs: three steps", 10000, 3, bench_run_short_many);
-  depth("a call of 1,000, through structs: six steps", 1000, 6, bench_run_long);
-  depth("a call of 10,000, through structs: six steps", 10000, 6, bench_run_long_many);
+  list("a call of 1,000, into a list: three steps", 1000, ours::run_items);
+  list("a call of 10,000, into a list: three steps", 10000, ours::run_items_many);
+  depth("a call of 1,000, through structs: three steps", 1000, 3, ours::run_short);
+  depth("a call of 10,000, through structs: three steps", 10000, 3, ours::run_short_many);
+  depth("a call of 1,000, through structs: six steps", 1000, 6, ours::run_long);
+  depth("a call of 10,000, through structs: six steps", 10000, 6, ours::run_long_many);
 }
 
 } // namespace runs

@@ -119,9 +119,9 @@ inline void row(Table &table, const char *name, double things, OurCall ours, con
 
 inline void add_rows(Table &table) {
   auto many = message_of(STRUCTS, fill_many), wide = message_of(1, fill_wide), chain = message_of(GROUPS, fill_chain);
-  row(table, "a field checked, of 1,000 structs of 30", STRUCTS * FIELDS, bench_check_many, many);
-  row(table, "a field checked, of one struct of 60,000", MOST_FIELDS, bench_check_wide, wide);
-  row(table, "a group checked, of a chain of 20,000", GROUPS, bench_check_chain, chain);
+  row(table, "a field checked, of 1,000 structs of 30", STRUCTS * FIELDS, ours::check_many, many);
+  row(table, "a field checked, of one struct of 60,000", MOST_FIELDS, ours::check_wide, wide);
+  row(table, "a group checked, of a chain of 20,000", GROUPS, ours::check_chain, chain);
 }
 
 } // namespace schemas

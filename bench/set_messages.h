@@ -49,7 +49,7 @@ inline void row(Table &table, const char *name, uint32_t structs) {
   auto ours = capnp::messageToFlatArray(message);
   auto request = schemas::message_of(structs, schemas::fill_many);
   auto bytes = ours.asBytes();
-  table.row(name, structs * schemas::FIELDS, with(bench_read_set, bytes.begin(), bytes.size()),
+  table.row(name, structs * schemas::FIELDS, with(ours::read_set, bytes.begin(), bytes.size()),
             [&request](uint64_t rounds) { return schemas::check(request, rounds); });
 }
 

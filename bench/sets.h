@@ -46,9 +46,9 @@ inline uint64_t set_message(StructSchema shapes, uint64_t rounds) {
 }
 
 inline void add_rows(Table &table, StructSchema shapes) {
-  table.row("numbers set in a struct and its groups", 1, with(bench_set_shapes_numbers, nullptr, 0),
+  table.row("numbers set in a struct and its groups", 1, with(ours::set_shapes_numbers, nullptr, 0),
             [shapes](uint64_t rounds) { return set_numbers(shapes, rounds); });
-  table.row("a small message built and written", 1, with(bench_set_shapes_message, nullptr, 0),
+  table.row("a small message built and written", 1, with(ours::set_shapes_message, nullptr, 0),
             [shapes](uint64_t rounds) { return set_message(shapes, rounds); });
 }
 

@@ -13,38 +13,38 @@ inline void row(Table &table, const char *name, double things, const Bytes &byte
 
 inline void add_lists_of_numbers(Table &table) {
   auto bytes = numbers(1000000);
-  table.row("a number of 16 bits in a list of 1,000,000", 1e6, with(bench_wire_small_numbers, bytes.data(), bytes.size()),
+  table.row("a number of 16 bits in a list of 1,000,000", 1e6, with(ours::wire_small_numbers, bytes.data(), bytes.size()),
             [&](uint64_t rounds) { Opened message(bytes); return sum_of(message.root().getSmallNumbers(), rounds); });
-  table.row("a number of 64 bits in a list of 1,000,000", 1e6, with(bench_wire_large_numbers, bytes.data(), bytes.size()),
+  table.row("a number of 64 bits in a list of 1,000,000", 1e6, with(ours::wire_large_numbers, bytes.data(), bytes.size()),
             [&](uint64_t rounds) { Opened message(bytes); return sum_of(message.root().getLargeNumbers(), rounds); });
 }
 
 inline void add_reads(Table &table, const Bytes &items_of_texts) {
   auto opened = small(), near = chain(1 << 16), far = chain(6), many = segments(), large = items(1000000, false);
-  row(table, "a message opened, and its root", 1, opened, bench_wire_open, open);
-  row(table, "a field of 8 bits", 1, near, bench_wire_bytes, fields<uint8_t, 32>);
-  row(table, "a field of 16 bits", 1, near, bench_wire_halves, fields<uint16_t, 16>);
-  row(table, "a field of 64 bits", 1, near, bench_wire_words, fields<uint64_t, 4>);
-  row(table, "a bit", 1, near, bench_wire_bits, fields<bool, 256>);
-  row(table, "a pointer hop", HOPS + 1, near, bench_wire_hops, hops);
-  row(table, "a text", 10000, items_of_texts, bench_wire_texts, texts);
-  row(table, "data", 10000, items_of_texts, bench_wire_data, data);
-  row(table, "a struct in a list of 10,000", 10000, items_of_texts, bench_wire_structs, structs);
-  row(table, "a struct in a list of 1,000,000", 1e6, large, bench_wire_structs, structs);
+  row(table, "a message opened, and its root", 1, opened, ours::wire_open, open);
+  row(table, "a field of 8 bits", 1, near, ours::wire_bytes, fields<uint8_t, 32>);
+  row(table, "a field of 16 bits", 1, near, ours::wire_halves, fields<uint16_t, 16>);
+  row(table, "a field of 64 bits", 1, near, ours::wire_words, fields<uint64_t, 4>);
+  row(table, "a bit", 1, near, ours::wire_bits, fields<bool, 256>);
+  row(table, "a pointer hop", HOPS + 1, near, ours::wire_hops, hops);
+  row(table, "a text", 10000, items_of_texts, ours::wire_texts, texts);
+  row(table, "data", 10000, items_of_texts, ours::wire_data, data);
+  row(table, "a struct in a list of 10,000", 10000, items_of_texts, ours::wire_structs, structs);
+  row(table, "a struct in a list of 1,000,000", 1e6, large, ours::wire_structs, structs);
   add_lists_of_numbers(table);
-  row(table, "a far hop", HOPS + 1, far, bench_wire_hops, hops);
-  row(table, "a far hop to one of 400 segments", 400, many, bench_wire_next, next);
-  row(table, "`total_size`, a struct with a text", 10000, items_of_texts, bench_wire_total_size, total_size);
+  row(table, "a far hop", HOPS + 1, far, ours::wire_hops, hops);
+  row(table, "a far hop to one of 400 segments", 400, many, ours::wire_next, next);
+  row(table, "`total_size`, a struct with a text", 10000, items_of_texts, ours::wire_total_size, total_size);
 }
 
 inline void add_writes(Table &table, const Bytes &items_of_texts) {
   auto large = blob(8 << 20);
-  row(table, "a struct with a text copied", 10000, items_of_texts, bench_wire_copy, copy);
-  row(table, "a blob of 8 MB copied", 1, large, bench_wire_copy, copy);
-  row(table, "a struct with a text built and written", 10000, items_of_texts, bench_wire_build, build);
-  row(table, "the same by calls at places", 10000, items_of_texts, bench_arena_build, build);
-  row(table, "a struct with a text encoded", 10000, items_of_texts, bench_wire_encode, encode);
-  row(table, "a blob of 8 MB encoded", 1, large, bench_wire_encode, encode);
+  row(table, "a struct with a text copied", 10000, items_of_texts, ours::wire_copy, copy);
+  row(table, "a blob of 8 MB copied", 1, large, ours::wire_copy, copy);
+  row(table, "a struct with a text built and written", 10000, items_of_texts, ours::wire_build, build);
+  row(table, "the same by calls at places", 10000, items_of_texts, ours::arena_build, build);
+  row(table, "a struct with a text encoded", 10000, items_of_texts, ours::wire_encode, encode);
+  row(table, "a blob of 8 MB encoded", 1, large, ours::wire_encode, encode);
 }
 
 inline void add_rows(Table &table) {
