@@ -12,6 +12,8 @@ pub mod fs;
 mod macros;
 pub mod process;
 pub mod rt;
+pub mod slice;
+mod sort;
 pub mod string;
 pub mod test;
 pub mod vec;

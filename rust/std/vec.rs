@@ -1,6 +1,7 @@
 //! Vectors whose growth can be refused.
 
 use super::alloc::{AllocError, Global};
+use super::sort::sort;
 use std::cmp::Ordering;
 use std::fmt;
 use std::io;
@@ -124,20 +125,11 @@ impl<T> Vec<T> {
     }
 
     /// Puts the items in order; equal ones stay in theirs.
-    pub fn sort_by<F: FnMut(&T, &T) -> Ordering>(&mut self, mut compare: F) -> Result<(), AllocError> {
-        // std's stable sort would end the program for want of memory, so the places are sorted, which takes none
-        let mut places = std::vec::Vec::new();
-        places.try_reserve_exact(self.0.len())?;
-        places.extend(0..self.0.len());
-        places.sort_unstable_by(|a, b| compare(&self.0[*a], &self.0[*b]).then(a.cmp(b)));
-        for target in 0..places.len() {
-            let mut source = places[target];
-            while source < target {
-                source = places[source];
-            }
-            self.0.swap(target, source);
-        }
-        Ok(())
+    pub fn sort_by<F: FnMut(&T, &T) -> Ordering>(&mut self, mut compare: F) -> Result<(), AllocError>
+    where
+        T: Copy,
+    {
+        sort(&mut self.0, |a, b| compare(a, b).is_gt())
     }
 
     /// The allocator.

@@ -6,6 +6,7 @@ mod conditions;
 mod derives;
 mod edits;
 mod ghost;
+mod loads;
 mod names;
 mod rules;
 mod tokens;
@@ -64,6 +65,7 @@ fn apply_rules(words: &Words<'_>, place: &Place<'_>, edits: &mut Edits) {
     bounds::hide_writers(words, edits);
     derives::write_derives(words, edits);
     names::lead_paths(words, place, edits);
+    loads::join_loads(words, edits);
     calls::name_allocated_calls(words, edits);
     calls::free_assertions(words, edits);
     calls::know_attributes(words, edits);

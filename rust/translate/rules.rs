@@ -18,6 +18,7 @@ pub enum Rule {
     CratePath,
     LibraryPath,
     StdPath,
+    Load,
     AllocatedCall,
     AbortGuard,
     TestRuntime,
@@ -41,7 +42,7 @@ const fn told(rule: Rule, name: &'static str, reason: &'static str, before: &'st
 }
 
 /// Every rule. The examples are those of a library `capnp_wire`, and have to translate as they say.
-pub const RULES: [Told; 22] = [
+pub const RULES: [Told; 23] = [
     told(
         Rule::GhostUse,
         "ghost use",
@@ -140,6 +141,13 @@ pub const RULES: [Told; 22] = [
         "`rust/std` stands for Rattle's std, and hands on what Rust's has alike",
         "use std::alloc::Global;",
         "use crate::rattle_std::alloc::Global;",
+    ),
+    told(
+        Rule::Load,
+        "load",
+        "where no prover has shown that bytes are there, each is looked for: here one test is made for all of a number",
+        "let n = u16::from_le_bytes([b[at], b[at + 1]]);",
+        "let n = u16::from_le_bytes(crate::rattle_std::slice::array_at(b, at));",
     ),
     told(
         Rule::AllocatedCall,
