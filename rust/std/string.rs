@@ -24,8 +24,12 @@ impl String {
     }
 
     /// Appends a text.
+    #[inline]
     pub fn push_str(&mut self, text: &str) -> Result<(), AllocError> {
-        self.0.try_reserve(text.len())?;
+        // mostly there is room, which is seen here, without a call
+        if text.len() > self.0.capacity() - self.0.len() {
+            self.0.try_reserve(text.len())?;
+        }
         self.0.push_str(text);
         Ok(())
     }
