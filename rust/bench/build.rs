@@ -1,7 +1,10 @@
 //! Translates the timed crates and those below them to Rust, as the root's build script does, and gives each timed call
 //! its form for programs in C.
 
-#[allow(dead_code, reason = "the root's build script and the tests of the translation use more of it")]
+#[allow(
+    dead_code,
+    reason = "the root's build script and the tests of the translation use more of it"
+)]
 #[path = "../translate/mod.rs"]
 mod translate;
 
@@ -10,7 +13,7 @@ use std::env;
 use std::fs;
 use std::io::{Error, Result};
 use std::path::{Path, PathBuf};
-use translate::workspace::{Crate, Workspace, write_changed};
+use translate::workspace::{write_changed, Crate, Workspace};
 
 /// What makes a timed call one for programs in C, in the proved libraries.
 const EXPORTED: &str = "#[unsafe(no_mangle)]";
@@ -48,7 +51,11 @@ fn timed_and_below(workspace: &Workspace) -> Vec<&Crate> {
         wanted.insert(one.name.as_str());
         wanted.extend(one.below.iter().map(String::as_str));
     }
-    workspace.crates.iter().filter(|one| wanted.contains(one.name.as_str())).collect()
+    workspace
+        .crates
+        .iter()
+        .filter(|one| wanted.contains(one.name.as_str()))
+        .collect()
 }
 
 /// Makes plain functions of a static library's calls, and adds their forms for C at the end of each file.
@@ -69,9 +76,14 @@ fn with_calls(text: &str) -> std::result::Result<String, String> {
     let mut calls = String::new();
     for part in parts {
         let line: String = part.lines().take(2).collect();
-        let call = part.strip_prefix(HEAD).ok_or_else(|| format!("no function for C: {line}"))?;
+        let call = part
+            .strip_prefix(HEAD)
+            .ok_or_else(|| format!("no function for C: {line}"))?;
         let (name, _) = call.split_once('(').ok_or_else(|| format!("no function: {line}"))?;
-        if !PARAMETERS.iter().any(|parameters| call[name.len()..].starts_with(parameters)) {
+        if !PARAMETERS
+            .iter()
+            .any(|parameters| call[name.len()..].starts_with(parameters))
+        {
             return Err(format!("a call that C can't make: {line}"));
         }
         // the line of the attribute stays, so that each line keeps its number

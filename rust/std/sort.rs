@@ -104,7 +104,9 @@ mod tests {
 
     /// Pairs of a key and their place, whose keys are out of order.
     fn pairs(count: usize, keys: usize) -> Vec<(usize, usize)> {
-        (0..count).map(|place| (place.wrapping_mul(7919) % keys, place)).collect()
+        (0..count)
+            .map(|place| (place.wrapping_mul(7919) % keys, place))
+            .collect()
     }
 
     #[test]

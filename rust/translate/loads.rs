@@ -26,7 +26,9 @@ fn row_in<'a>(words: &Words<'a>, open: usize, close: usize) -> Option<(&'a str, 
     let first = words.after(open);
     let bytes = words.at(first);
     let place = words.at(words.after(words.after(first)));
-    let is_named = [bytes, place].iter().all(|name| name.starts_with(|letter: char| letter.is_ascii_lowercase()));
+    let is_named = [bytes, place]
+        .iter()
+        .all(|name| name.starts_with(|letter: char| letter.is_ascii_lowercase()));
     let mut at = first;
     let mut count = 0;
     while at < close {
@@ -45,5 +47,7 @@ fn byte_behind(words: &Words<'_>, at: usize, bytes: &str, place: &str, number: u
     let first = [bytes, "[", place, "]"];
     let later = [bytes, "[", place, "+", number.as_str(), "]"];
     let texts: &[&str] = if number == "0" { &first } else { &later };
-    words.reads(at, texts).then(|| texts.iter().fold(at, |at, _| words.after(at)))
+    words
+        .reads(at, texts)
+        .then(|| texts.iter().fold(at, |at, _| words.after(at)))
 }
