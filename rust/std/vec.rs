@@ -84,8 +84,13 @@ impl<T> Vec<T> {
     where
         T: Copy,
     {
-        self.0.try_reserve(count.saturating_sub(self.0.len()))?;
-        self.0.resize(count, item);
+        let more = count.saturating_sub(self.0.len());
+        if more > self.0.capacity() - self.0.len() {
+            self.0.try_reserve(more)?;
+        }
+        self.0.truncate(count);
+        // all in one fill; std's `resize` writes the last item by itself
+        self.0.extend(std::iter::repeat_n(item, more));
         Ok(())
     }
 
