@@ -157,6 +157,7 @@ fn searched(rule: Rule, sources: &[Source], taken: &[(Rule, String)]) -> Option<
         Rule::CratePath => paths(&["crate".to_string()], sources, taken),
         Rule::StdPath => paths(&["std".to_string()], sources, taken),
         Rule::LibraryPath => paths(&libraries(), sources, taken),
+        Rule::Load => has("from_le_bytes(["),
         Rule::AllocatedCall => has(".to_vec(") + has(".collect(") + has(".repeat("),
         Rule::DocExample => {
             let is_example = |line: &&str| line.starts_with("/// ```rust") || line.starts_with("//! ```rust");
