@@ -7,7 +7,7 @@ mod translate;
 use std::env;
 use std::path::{Path, PathBuf};
 use std::process::ExitCode;
-use translate::workspace::{Workspace, write_changed};
+use translate::workspace::{write_changed, Workspace};
 
 fn main() -> ExitCode {
     match run() {

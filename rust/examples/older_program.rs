@@ -36,7 +36,10 @@ fn set<'c>(name: &'c str, value: impl Into<dynamic_value::Reader<'c>>) -> Call<'
 /// What is printed: an account, and the same as the older program reads it.
 pub fn lines() -> Result<String, Box<dyn Error>> {
     let schemas = schemas()?;
-    let (older, newer) = (schemas.get_struct_named("OldAccount")?, schemas.get_struct_named("Account")?);
+    let (older, newer) = (
+        schemas.get_struct_named("OldAccount")?,
+        schemas.get_struct_named("Account")?,
+    );
     let calls = [set("name", "Alice"), set("balance", 12i64)];
     let mut text = Text::new(Global);
     let (_replies, bytes) = whole_new(Global, newer, &calls, &mut text, false)?;

@@ -25,7 +25,11 @@ fn describe(set: &SchemaSet, field: Field<'_>) -> String {
         Place::Pointer(index) => format!("pointer {index}"),
         Place::Group(_) => "a group".to_string(),
     };
-    format!("{}: {}, {place}\n", field.get_proto().name, name_of(set, field.get_type().which()))
+    format!(
+        "{}: {}, {place}\n",
+        field.get_proto().name,
+        name_of(set, field.get_type().which())
+    )
 }
 
 /// What is printed: a line for each field of a person.

@@ -100,9 +100,7 @@ pub mod dynamic_value {
 
 /// Types as values.
 pub mod introspect {
-    pub use crate::capnp_base::introspect::{
-        Introspect, RawBrandedStructSchema, RawEnumSchema, Type, TypeVariant,
-    };
+    pub use crate::capnp_base::introspect::{Introspect, RawBrandedStructSchema, RawEnumSchema, Type, TypeVariant};
 }
 
 /// The allocator, and vectors and strings whose growth can be refused.
@@ -160,8 +158,7 @@ pub mod run {
 pub mod schema {
     pub use crate::capnp_schema::record;
     pub use crate::capnp_schema::schema::{
-        Annotation, AnnotationList, EnumSchema, Enumerant, EnumerantList, Field, FieldList,
-        FieldSubset, StructSchema,
+        Annotation, AnnotationList, EnumSchema, Enumerant, EnumerantList, Field, FieldList, FieldSubset, StructSchema,
     };
     pub use crate::capnp_schema::set::SchemaSet;
     pub use crate::capnp_schema::{builtin, meta, plan, value};
@@ -182,12 +179,10 @@ pub mod text {
 /// What handles have in common.
 pub mod traits {
     pub use crate::capnp_base::traits::{
-        FromPointerReader, HasStructSize, HasTypeId, Index, IndexIter, IndexMove,
-        IntoInternalListReader, IntoInternalStructReader, ListIter, ShortListIter,
+        FromPointerReader, HasStructSize, HasTypeId, Index, IndexIter, IndexMove, IntoInternalListReader,
+        IntoInternalStructReader, ListIter, ShortListIter,
     };
-    pub use crate::capnp_builders::traits::{
-        FromPointerBuilder, Owned, OwnedStruct, SetterInput,
-    };
+    pub use crate::capnp_builders::traits::{FromPointerBuilder, Owned, OwnedStruct, SetterInput};
 }
 
 /// The programs, from the words that they are started with to their exit status.

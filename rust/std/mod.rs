@@ -13,7 +13,6 @@ mod macros;
 pub mod process;
 pub mod rt;
 pub mod slice;
-mod sort;
 pub mod string;
 pub mod test;
 pub mod vec;
@@ -24,9 +23,9 @@ pub(crate) use macros::{rattle_format, rattle_vec};
 
 /// The names that each file has without an import.
 pub mod prelude {
+    pub use super::rt::HostRuntime;
     #[allow(unused_imports, reason = "tests alone repeat texts")]
     pub use super::string::RepeatGiven;
-    pub use super::rt::HostRuntime;
     pub use super::string::String;
     pub use super::vec::{CollectGiven, SliceGiven, Vec};
 }

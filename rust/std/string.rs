@@ -119,7 +119,8 @@ pub trait RepeatGiven {
 impl RepeatGiven for str {
     fn repeat_given(&self, alloc: Global, count: usize) -> Result<String, AllocError> {
         let mut text = String::new(alloc);
-        text.0.try_reserve_exact(self.len().checked_mul(count).ok_or(AllocError)?)?;
+        text.0
+            .try_reserve_exact(self.len().checked_mul(count).ok_or(AllocError)?)?;
         for _ in 0..count {
             text.0.push_str(self);
         }

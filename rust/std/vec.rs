@@ -1,7 +1,6 @@
 //! Vectors whose growth can be refused.
 
 use super::alloc::{AllocError, Global};
-use super::sort::sort;
 use std::cmp::Ordering;
 use std::fmt;
 use std::io;
@@ -129,12 +128,23 @@ impl<T> Vec<T> {
         &mut self.0[range]
     }
 
-    /// Puts the items in order; equal ones stay in theirs.
-    pub fn sort_by<F: FnMut(&T, &T) -> Ordering>(&mut self, mut compare: F) -> Result<(), AllocError>
-    where
-        T: Copy,
-    {
-        sort(&mut self.0, |a, b| compare(a, b).is_gt())
+    /// Puts the items in order; equal ones stay in theirs. Refused where memory is: then nothing has moved.
+    pub fn sort_by<F: FnMut(&T, &T) -> Ordering>(&mut self, mut compare: F) -> Result<(), AllocError> {
+        // Rust's stable sort would end the program for want of memory. So the places are sorted, by a sort that takes
+        // none, and of equal items that of the lower place comes first.
+        let mut places = std::vec::Vec::new();
+        places.try_reserve_exact(self.0.len())?;
+        places.extend(0..self.0.len());
+        places.sort_unstable_by(|a, b| compare(&self.0[*a], &self.0[*b]).then(a.cmp(b)));
+        for target in 0..places.len() {
+            // what stood at a place before was moved to where that place's own item came from
+            let mut source = places[target];
+            while source < target {
+                source = places[source];
+            }
+            self.0.swap(target, source);
+        }
+        Ok(())
     }
 
     /// The allocator.
@@ -238,5 +248,24 @@ pub trait SliceGiven<T: Copy> {
 impl<T: Copy> SliceGiven<T> for [T] {
     fn to_vec_given(&self, alloc: Global) -> Result<Vec<T>, AllocError> {
         Vec::from_slice(alloc, self)
+    }
+}
+
+#[cfg(test)]
+mod tests {
+    use super::{Global, Vec};
+
+    #[test]
+    fn equal_items_stay_in_their_order() {
+        for count in [0, 1, 2, 21, 40, 500, 5000] {
+            for keys in [1, 2, 7, 100, 104_729] {
+                let items = (0..count).map(|place: usize| (place.wrapping_mul(7919) % keys, place));
+                let mut wanted: std::vec::Vec<_> = items.collect();
+                let mut sorted = Vec::from_slice(Global, &wanted).expect("there is memory");
+                wanted.sort_by_key(|item| item.0);
+                assert!(sorted.sort_by(|a, b| a.0.cmp(&b.0)).is_ok());
+                assert_eq!(sorted.as_slice(), wanted.as_slice());
+            }
+        }
     }
 }

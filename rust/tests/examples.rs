@@ -54,5 +54,8 @@ fn a_schema_is_queried() {
 
 #[test]
 fn an_older_program_reads_what_it_knows() {
-    assert_eq!(older_program::lines().expect("it is answered"), "(name = \"Alice\", balance = 12)\n(name = \"Alice\")\n");
+    assert_eq!(
+        older_program::lines().expect("it is answered"),
+        "(name = \"Alice\", balance = 12)\n(name = \"Alice\")\n"
+    );
 }

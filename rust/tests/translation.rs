@@ -9,7 +9,7 @@ use std::collections::BTreeSet;
 use std::fs;
 use std::path::{Path, PathBuf};
 use translate::workspace::Workspace;
-use translate::{Kind, Place, RULES, Rule, Translation, Words};
+use translate::{Kind, Place, Rule, Translation, Words, RULES};
 
 /// A source file of a crate.
 struct Source {
@@ -30,7 +30,11 @@ fn sources() -> Vec<Source> {
         for file in workspace.files(&library).expect("the crate's folder") {
             let path = workspace.path(&library, &file);
             let text = fs::read_to_string(&path).expect("a source file");
-            sources.push(Source { library: library.clone(), path, text });
+            sources.push(Source {
+                library: library.clone(),
+                path,
+                text,
+            });
         }
     }
     assert!(sources.len() > 400, "{} files", sources.len());
@@ -42,7 +46,10 @@ fn libraries() -> Vec<String> {
 }
 
 fn translated<'a>(source: &'a Source, libraries: &[String]) -> Translation<'a> {
-    let place = Place { library: &source.library, libraries };
+    let place = Place {
+        library: &source.library,
+        libraries,
+    };
     Translation::new(&place, &source.text).unwrap_or_else(|lines| panic!("{}: {lines:?}", source.path.display()))
 }
 
@@ -56,13 +63,20 @@ fn what_is_taken_and_what_is_left_are_the_source() {
         let after: String = pieces.iter().map(|piece| piece.after).collect();
         let path = source.path.display();
         assert!(before == source.text, "{path}: the pieces are not the file");
-        assert!(after == translation.rust(), "{path}: the pieces are not what is written");
+        assert!(
+            after == translation.rust(),
+            "{path}: the pieces are not what is written"
+        );
         for piece in pieces.iter().filter(|piece| piece.rule.is_none()) {
             assert_eq!(piece.before, piece.after, "{path}: a change without a rule");
         }
         for piece in &pieces {
             let breaks = |text: &str| text.matches('\n').count();
-            assert_eq!(breaks(piece.before), breaks(piece.after), "{path}: a line loses its number");
+            assert_eq!(
+                breaks(piece.before),
+                breaks(piece.after),
+                "{path}: a line loses its number"
+            );
         }
     }
 }
@@ -80,7 +94,10 @@ fn what_is_left_reads_as_the_same_words() {
         let read: BTreeSet<(usize, usize)> = read.list.iter().map(|word| (word.start, word.end)).collect();
         let words = Words::new(&source.text).unwrap_or_else(|unknown| panic!("{path}: {}", unknown.what));
         for (start, end, text) in left(&words, &translation) {
-            assert!(read.contains(&(start, end)), "{path}: {text} is no word of what is written");
+            assert!(
+                read.contains(&(start, end)),
+                "{path}: {text} is no word of what is written"
+            );
         }
     }
 }
@@ -98,7 +115,11 @@ fn left<'a>(words: &Words<'a>, translation: &Translation<'_>) -> Vec<(usize, usi
             let is_lengthened = word.end == end && matches!(next, Some(Rule::AllocatedCall | Rule::DocExample));
             if piece.rule.is_none() && word.kind != Kind::Space && !is_lengthened {
                 let start = after + (word.start - before);
-                list.push((start, start + (word.end - word.start), &words.text[word.start..word.end]));
+                list.push((
+                    start,
+                    start + (word.end - word.start),
+                    &words.text[word.start..word.end],
+                ));
             }
         }
         before = end;
@@ -134,15 +155,24 @@ fn each_rule_is_used() {
             wrong.push(told.name);
         }
     }
-    assert!(wrong.is_empty(), "not used, or otherwise than a search finds: {wrong:?}");
+    assert!(
+        wrong.is_empty(),
+        "not used, or otherwise than a search finds: {wrong:?}"
+    );
 }
 
 /// How often a rule should be used, as a search of the lines tells.
 fn searched(rule: Rule, sources: &[Source], taken: &[(Rule, String)]) -> Option<usize> {
     let starts = |heads: &[&str]| lines(sources, &|line| starts_with(line, heads));
-    let has = |text: &str| code_lines(sources).map(|line| line.matches(text).count()).sum::<usize>();
+    let has = |text: &str| {
+        code_lines(sources)
+            .map(|line| line.matches(text).count())
+            .sum::<usize>()
+    };
     Some(match rule {
-        Rule::GhostUse | Rule::GhostMember | Rule::Clause | Rule::Tactic | Rule::Model => ghost_lines(rule, sources, taken),
+        Rule::GhostUse | Rule::GhostMember | Rule::Clause | Rule::Tactic | Rule::Model => {
+            ghost_lines(rule, sources, taken)
+        }
         Rule::ConstProof => has("prove!("),
         Rule::DropDerive => lines(sources, &|line| line.starts_with("#[derive(") && line.contains("Drop")),
         Rule::DropBound => has(": Drop") + has("+ Drop"),
@@ -177,7 +207,10 @@ fn ghost_lines(rule: Rule, sources: &[Source], taken: &[(Rule, String)]) -> usiz
         }
         Rule::Clause => starts_with(line, &["requires ", "ensures ", "requires* ", "ensures* "]),
         Rule::Tactic => starts_with(line, &["#[tactic(", "#![tactic(", "#[cycle("]),
-        _ => starts_with(line, &["impl Model for ", "impl<'s> Model for ", "use std::marker::Model;"]),
+        _ => starts_with(
+            line,
+            &["impl Model for ", "impl<'s> Model for ", "use std::marker::Model;"],
+        ),
     };
     let within = inside(Rule::Model, taken, &|line| usize::from(is_in(line)));
     lines(sources, &is_in) - if rule == Rule::Model { 0 } else { within }
@@ -189,7 +222,12 @@ fn starts_with(line: &str, heads: &[&str]) -> bool {
 
 /// How often paths begin with these names, but for those in tactics and models.
 fn paths(names: &[String], sources: &[Source], taken: &[(Rule, String)]) -> usize {
-    let search = |line: &str| names.iter().map(|name| line.matches(&format!("{name}::")).count()).sum();
+    let search = |line: &str| {
+        names
+            .iter()
+            .map(|name| line.matches(&format!("{name}::")).count())
+            .sum()
+    };
     let all: usize = code_lines(sources).map(search).sum();
     all - inside(Rule::Tactic, taken, &search) - inside(Rule::Model, taken, &search)
 }
@@ -200,7 +238,9 @@ fn lines(sources: &[Source], is_in: &dyn Fn(&str) -> bool) -> usize {
 }
 
 fn is_trait(line: &str) -> bool {
-    ["pub trait ", "pub(crate) trait ", "trait "].iter().any(|head| line.starts_with(head))
+    ["pub trait ", "pub(crate) trait ", "trait "]
+        .iter()
+        .any(|head| line.starts_with(head))
 }
 
 /// All lines, without the blanks around them.
@@ -216,13 +256,19 @@ fn code_lines(sources: &[Source]) -> impl Iterator<Item = &str> {
 /// What a search finds in the lines that a rule takes.
 fn inside(rule: Rule, taken: &[(Rule, String)], search: &dyn Fn(&str) -> usize) -> usize {
     let texts = taken.iter().filter(|(one, _)| *one == rule).map(|(_, text)| text);
-    texts.flat_map(|text| text.lines()).map(|line| search(line.trim())).sum()
+    texts
+        .flat_map(|text| text.lines())
+        .map(|line| search(line.trim()))
+        .sum()
 }
 
 #[test]
 fn examples_translate_as_they_say() {
     let libraries = ["capnp_wire".to_string(), "capnp_device".to_string()];
-    let place = Place { library: "capnp_wire", libraries: &libraries };
+    let place = Place {
+        library: "capnp_wire",
+        libraries: &libraries,
+    };
     let mut wrong = Vec::new();
     for (number, told) in RULES.iter().enumerate() {
         assert_eq!(told.rule as usize, number, "{} stands elsewhere", told.name);
@@ -237,7 +283,11 @@ fn examples_translate_as_they_say() {
         // what stands at the head of each file is an example of its own
         let is_told = |rule: Option<Rule>| rule != Some(Rule::Prelude) || told.rule == Rule::Prelude;
         let pieces = translation.pieces();
-        let after: String = pieces.iter().filter(|piece| is_told(piece.rule)).map(|piece| piece.after).collect();
+        let after: String = pieces
+            .iter()
+            .filter(|piece| is_told(piece.rule))
+            .map(|piece| piece.after)
+            .collect();
         if after != told.after || !pieces.iter().any(|piece| piece.rule == Some(told.rule)) {
             wrong.push(format!("{}: {after:?}", told.name));
         }
@@ -251,7 +301,10 @@ const UNKNOWN: [(&str, &str); 71] = [
     ("fn f() {}\n#[must_use]\nfn g() {}", "2: #[must_use], an attribute"),
     ("#![no_std]\nfn f() {}", "1: #[[], an attribute"),
     ("#[cfg(unix)]\nfn f() {}", "1: #[cfg], an attribute"),
-    ("#[unsafe(export_name = \"g\")]\nfn f() {}", "1: #[unsafe], an attribute"),
+    (
+        "#[unsafe(export_name = \"g\")]\nfn f() {}",
+        "1: #[unsafe], an attribute",
+    ),
     ("fn f() {\n    println!(\"a\");\n}", "2: println!, a macro"),
     ("macro_rules! m { () => {} }", "1: macro_rules!, a macro"),
     ("fn f() {\n    prove!(1 < 2);\n}", "2: a prove! within code"),
@@ -262,7 +315,10 @@ const UNKNOWN: [(&str, &str); 71] = [
     ("struct S {\n    ghost a: { b }\n}", "2: ghost a: { b }"),
     ("struct S {\n    ghost a: { b,\n}", "2: ghost a: { b,"),
     ("struct S { pub(crate) ghost a: { b }, c: u8 }", "1: ghost a: { b },"),
-    ("impl T for S {\n    #[tactic(auto)]\n    ghost a = { b };\n}", "3: ghost a = { b };"),
+    (
+        "impl T for S {\n    #[tactic(auto)]\n    ghost a = { b };\n}",
+        "3: ghost a = { b };",
+    ),
     ("fn f(ghost a: { b },) {}", "1: ghost a: { b },"),
     ("ghost use a", "1: ghost use a"),
     ("ghost  use a;", "1: ghost  use a;"),
@@ -270,48 +326,108 @@ const UNKNOWN: [(&str, &str); 71] = [
     ("ghost use a.{b};\nghost use c d;", "2: ghost use c d;"),
     ("#[tactic(using(\"]\"))]\nfn f() {}", "1: #[tactic], an attribute"),
     // clauses
-    ("fn f()\n    ensures same\n{ }", "2: a clause that stands at no function"),
+    (
+        "fn f()\n    ensures same\n{ }",
+        "2: a clause that stands at no function",
+    ),
     ("fn f()\n    ensures same\n;", "2: ensures same"),
     ("fn f()\n    ensures same { a\n", "2: ensures same { a"),
     ("fn f()\n    ensures { a \"}\" }\n{}", "2: ensures { a \"}\" }"),
     ("fn f()\n    ensures { a -- b }\n{}", "2: ensures { a -- b }"),
-    ("fn f() {\n    requires { a }\n}", "2: a clause that stands at no function"),
-    ("fn f(a: u8,\n    requires { a }\n) {}", "2: a clause that stands at no function"),
+    (
+        "fn f() {\n    requires { a }\n}",
+        "2: a clause that stands at no function",
+    ),
+    (
+        "fn f(a: u8,\n    requires { a }\n) {}",
+        "2: a clause that stands at no function",
+    ),
     ("requires { a }", "1: a clause that stands at no function"),
-    ("fn f() {\n    let g = |x: u8| -> u8 requires { a } { x };\n}", "2: a clause that stands at no function"),
+    (
+        "fn f() {\n    let g = |x: u8| -> u8 requires { a } { x };\n}",
+        "2: a clause that stands at no function",
+    ),
     // models
-    ("impl Model for S {\n    fn f() {}\n}", "2: code within an impl of Model"),
+    (
+        "impl Model for S {\n    fn f() {}\n}",
+        "2: code within an impl of Model",
+    ),
     ("use std::marker::{Model};", "1: Model where no import"),
     ("fn f<T: Model>() {}", "1: Model where no import"),
     ("impl Model for S;", "1: impl Model for .."),
     ("#[inline]\nimpl Model for S {\n}", "2: a model behind"),
     // bounds
-    ("impl Drop for S {\n    fn drop(self) {}\n}", "1: Drop where no bound is"),
+    (
+        "impl Drop for S {\n    fn drop(self) {}\n}",
+        "1: Drop where no bound is",
+    ),
     ("fn f() {\n    Drop;\n}", "2: Drop where no bound is"),
     ("use std::ops::Drop;", "1: a path of Drop"),
     ("fn f<T: ops::Drop>() {}", "1: a path of Drop"),
     ("trait T where Self: Copy { }", "1: a trait whose head is not known"),
     ("trait T<F: Fn() -> u8> { }", "1: a trait whose head is not known"),
     // derives
-    ("#[derive(thiserror::Error)]\nstruct S(u8);", "1: thiserror::Error of no plain"),
-    ("#[derive(thiserror::Error)]\nstruct S;\nstruct T { a: u8 }", "1: thiserror::Error of no plain"),
-    ("#[derive(thiserror::Error)]\nenum E<T> { A(T) }", "1: thiserror::Error of no plain"),
-    ("#[derive(thiserror::Error)]\nstruct S { a: u8 }", "1: a struct's error without one text"),
-    ("#[derive(thiserror::Error)]\nenum E {\n    #[error(\"{}\", 1)]\n    A,\n}", "3: an error of more than one text"),
-    ("#[derive(thiserror::Error)]\nenum E {\n    #[error(transparent)]\n    A(B),\n}", "3: an error of more than one"),
-    ("#[derive(thiserror::Error)]\nenum E {\n    #[error(\"a\")]\n    #[cold]\n    A,\n}", "4: what stands behind #[error(..)]"),
-    ("#[derive(thiserror::Error)]\nenum E {\n    #[error(\"{f}\")]\n    A { f: u8 },\n}", "4: an error's field f"),
-    ("#[derive(thiserror::Error)]\n#[error(\"a\")]\nstruct S { source: T }", "3: an error's field source"),
-    ("#[derive_where(Debug)]\nenum E { A }", "1: derive_where of no struct with fields"),
-    ("#[derive_where(Debug)]\nstruct S(u8);", "1: derive_where of no struct with fields"),
-    ("#[derive_where(Debug; T)]\nstruct S { a: u8 }", "1: derive_where(Debug..)"),
+    (
+        "#[derive(thiserror::Error)]\nstruct S(u8);",
+        "1: thiserror::Error of no plain",
+    ),
+    (
+        "#[derive(thiserror::Error)]\nstruct S;\nstruct T { a: u8 }",
+        "1: thiserror::Error of no plain",
+    ),
+    (
+        "#[derive(thiserror::Error)]\nenum E<T> { A(T) }",
+        "1: thiserror::Error of no plain",
+    ),
+    (
+        "#[derive(thiserror::Error)]\nstruct S { a: u8 }",
+        "1: a struct's error without one text",
+    ),
+    (
+        "#[derive(thiserror::Error)]\nenum E {\n    #[error(\"{}\", 1)]\n    A,\n}",
+        "3: an error of more than one text",
+    ),
+    (
+        "#[derive(thiserror::Error)]\nenum E {\n    #[error(transparent)]\n    A(B),\n}",
+        "3: an error of more than one",
+    ),
+    (
+        "#[derive(thiserror::Error)]\nenum E {\n    #[error(\"a\")]\n    #[cold]\n    A,\n}",
+        "4: what stands behind #[error(..)]",
+    ),
+    (
+        "#[derive(thiserror::Error)]\nenum E {\n    #[error(\"{f}\")]\n    A { f: u8 },\n}",
+        "4: an error's field f",
+    ),
+    (
+        "#[derive(thiserror::Error)]\n#[error(\"a\")]\nstruct S { source: T }",
+        "3: an error's field source",
+    ),
+    (
+        "#[derive_where(Debug)]\nenum E { A }",
+        "1: derive_where of no struct with fields",
+    ),
+    (
+        "#[derive_where(Debug)]\nstruct S(u8);",
+        "1: derive_where of no struct with fields",
+    ),
+    (
+        "#[derive_where(Debug; T)]\nstruct S { a: u8 }",
+        "1: derive_where(Debug..)",
+    ),
     ("#[derive_where(Ord)]\nstruct S { a: u8 }", "1: derive_where(Ord..)"),
-    ("#[derive_where(Debug)]\nstruct S {\n    #[derive_where(skip(Debug))]\n    a: u8,\n}", "3: a field's derive_where"),
+    (
+        "#[derive_where(Debug)]\nstruct S {\n    #[derive_where(skip(Debug))]\n    a: u8,\n}",
+        "3: a field's derive_where",
+    ),
     // names
     ("use std;", "1: the name std where no path begins"),
     ("fn f(std: u8) {}", "1: the name std where no path begins"),
     ("use ::std::mem;", "1: the name std where no path begins"),
-    ("fn f() -> u8 {\n    core::mem::take()\n}", "2: the name core where no path begins"),
+    (
+        "fn f() -> u8 {\n    core::mem::take()\n}",
+        "2: the name core where no path begins",
+    ),
     ("mod capnp_device;", "1: the name capnp_device where no path begins"),
     ("use crate as c;", "1: the name crate where no path begins"),
     ("mod m {\n    fn f() {}\n}", "2: more than constants in a module"),
@@ -330,24 +446,60 @@ const UNKNOWN: [(&str, &str); 71] = [
 
 /// Texts that could be read wrongly, each with what stays of it.
 const KNOWN: [(&str, &str); 12] = [
-    ("const C: [char; 4] = ['{', '}', '\\'', '\\\\'];", "const C: [char; 4] = ['{', '}', '\\'', '\\\\'];"),
-    ("const B: [u8; 2] = [b'{', b'\\''];", "const B: [u8; 2] = [b'{', b'\\''];"),
-    ("const S: &str = \"ghost x; } std::mem \\\" rt;\";", "const S: &str = \"ghost x; } std::mem \\\" rt;\";"),
-    ("const R: &str = r#\"a \"std::b\" {\"#;", "const R: &str = r#\"a \"std::b\" {\"#;"),
-    ("// ghost x; std::mem {\nfn f<'a>(a: &'a u8) {}", "// ghost x; std::mem {\nfn f<'a>(a: &'a u8) {}"),
-    ("/// `requires` of std::mem\nfn f() {}", "/// `requires` of std::mem\nfn f() {}"),
+    (
+        "const C: [char; 4] = ['{', '}', '\\'', '\\\\'];",
+        "const C: [char; 4] = ['{', '}', '\\'', '\\\\'];",
+    ),
+    (
+        "const B: [u8; 2] = [b'{', b'\\''];",
+        "const B: [u8; 2] = [b'{', b'\\''];",
+    ),
+    (
+        "const S: &str = \"ghost x; } std::mem \\\" rt;\";",
+        "const S: &str = \"ghost x; } std::mem \\\" rt;\";",
+    ),
+    (
+        "const R: &str = r#\"a \"std::b\" {\"#;",
+        "const R: &str = r#\"a \"std::b\" {\"#;",
+    ),
+    (
+        "// ghost x; std::mem {\nfn f<'a>(a: &'a u8) {}",
+        "// ghost x; std::mem {\nfn f<'a>(a: &'a u8) {}",
+    ),
+    (
+        "/// `requires` of std::mem\nfn f() {}",
+        "/// `requires` of std::mem\nfn f() {}",
+    ),
     ("pub(crate) fn f() {}", "pub(crate) fn f() {}"),
-    ("pub(in crate::bytes) fn f() {}", "pub(in crate::capnp_wire::bytes) fn f() {}"),
-    ("use {std::mem, crate::bytes};", "use {crate::rattle_std::mem, crate::capnp_wire::bytes};"),
-    ("fn f() { for i in 0..std::mem::size_of::<u8>() {} }", "fn f() { for i in 0..crate::rattle_std::mem::size_of::<u8>() {} }"),
-    ("fn f() { if !(a) && b != c && !d {} }", "fn f() { if !(a) && b != c && !d {} }"),
-    ("fn f() { a.repeat(g(1, 2)); vec![rt; 5]; }", "fn f() { a.repeat(g(1, 2)); vec![rt; 5]; }"),
+    (
+        "pub(in crate::bytes) fn f() {}",
+        "pub(in crate::capnp_wire::bytes) fn f() {}",
+    ),
+    (
+        "use {std::mem, crate::bytes};",
+        "use {crate::rattle_std::mem, crate::capnp_wire::bytes};",
+    ),
+    (
+        "fn f() { for i in 0..std::mem::size_of::<u8>() {} }",
+        "fn f() { for i in 0..crate::rattle_std::mem::size_of::<u8>() {} }",
+    ),
+    (
+        "fn f() { if !(a) && b != c && !d {} }",
+        "fn f() { if !(a) && b != c && !d {} }",
+    ),
+    (
+        "fn f() { a.repeat(g(1, 2)); vec![rt; 5]; }",
+        "fn f() { a.repeat(g(1, 2)); vec![rt; 5]; }",
+    ),
 ];
 
 #[test]
 fn what_could_be_read_wrongly_is_not() {
     let libraries = ["capnp_wire".to_string(), "capnp_device".to_string()];
-    let place = Place { library: "capnp_wire", libraries: &libraries };
+    let place = Place {
+        library: "capnp_wire",
+        libraries: &libraries,
+    };
     for (text, expected) in KNOWN {
         let translation = Translation::new(&place, text).unwrap_or_else(|lines| panic!("{text}: {lines:?}"));
         let pieces = translation.pieces();
@@ -359,7 +511,10 @@ fn what_could_be_read_wrongly_is_not() {
 #[test]
 fn what_is_not_known_is_refused() {
     let libraries = ["capnp_wire".to_string(), "capnp_device".to_string()];
-    let place = Place { library: "capnp_wire", libraries: &libraries };
+    let place = Place {
+        library: "capnp_wire",
+        libraries: &libraries,
+    };
     let mut wrong = Vec::new();
     for (text, expected) in UNKNOWN {
         match Translation::new(&place, text) {
@@ -381,15 +536,26 @@ fn a_refusal_names_file_and_line() {
     write(&folder.join("crates.txt"), "# The crates\n\none: thiserror\n");
     write(&file, "fn f() {}\n\n#[must_use]\nfn g() {\n    println!(\"a\");\n}\n");
     let workspace = Workspace::read(&folder).expect("crates.txt");
-    let refused = workspace.write(&workspace.crates[0], &folder.join("out")).expect_err("a refusal").to_string();
+    let refused = workspace
+        .write(&workspace.crates[0], &folder.join("out"))
+        .expect_err("a refusal")
+        .to_string();
     let path = file.display();
     let lines: Vec<&str> = refused.lines().collect();
     assert_eq!(lines.len(), 2, "{refused}");
-    assert!(lines.contains(&format!("{path}:3: #[must_use], an attribute that is not known").as_str()), "{refused}");
-    assert!(lines.contains(&format!("{path}:5: println!, a macro that is not known").as_str()), "{refused}");
+    assert!(
+        lines.contains(&format!("{path}:3: #[must_use], an attribute that is not known").as_str()),
+        "{refused}"
+    );
+    assert!(
+        lines.contains(&format!("{path}:5: println!, a macro that is not known").as_str()),
+        "{refused}"
+    );
     for list in ["one thiserror", "one: two", "one shared: ", "one:\none:", ": one"] {
         write(&folder.join("crates.txt"), list);
-        let refused = Workspace::read(&folder).err().map_or(String::new(), |error| error.to_string());
+        let refused = Workspace::read(&folder)
+            .err()
+            .map_or(String::new(), |error| error.to_string());
         assert!(refused.contains("crates.txt:"), "{list:?}: {refused}");
     }
 }
@@ -424,7 +590,9 @@ fn nothing_of_rattle_is_left() {
             let is_left = kind == Kind::Name && RATTLE.contains(&words.at(index));
             assert!(!is_ghost && !is_left, "{path}: {} is left", words.at(index));
             if words.reads(index, &["#", "[", "test", "]"]) {
-                let open = (index..words.list.len()).find(|at| words.at(*at) == "(").expect("parameters");
+                let open = (index..words.list.len())
+                    .find(|at| words.at(*at) == "(")
+                    .expect("parameters");
                 assert!(words.reads(open, &["(", ")"]), "{path}: a test has parameters");
             }
         }
@@ -444,11 +612,20 @@ fn cell(text: &str) -> String {
 fn the_readme_has_each_rule() {
     let readme = fs::read_to_string(root().join("rust/README.md")).expect("rust/README.md");
     let row = |told: &translate::Told| {
-        format!("| {} | {} | {} | {} |", told.name, told.reason, cell(told.before), cell(told.after))
+        format!(
+            "| {} | {} | {} | {} |",
+            told.name,
+            told.reason,
+            cell(told.before),
+            cell(told.after)
+        )
     };
     let rows: Vec<String> = RULES.iter().map(row).collect();
     let table = rows.join("\n");
-    assert!(readme.contains(&table), "the table of rules in rust/README.md should be:\n{table}");
+    assert!(
+        readme.contains(&table),
+        "the table of rules in rust/README.md should be:\n{table}"
+    );
 }
 
 /// Calls of Rust's std that take memory, and end the program where there is none.
@@ -497,7 +674,11 @@ fn no_call_takes_memory_unasked() {
             let close = words.closing(open);
             let is_given = words.at(words.after(open)) == "alloc";
             let is_result = close.is_some_and(|close| words.at(words.after(close)) == "?");
-            assert!(!is_generic && (is_given || is_result), "{path}: .{}(..)", words.at(index));
+            assert!(
+                !is_generic && (is_given || is_result),
+                "{path}: .{}(..)",
+                words.at(index)
+            );
         }
     }
 }

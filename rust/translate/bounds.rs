@@ -29,10 +29,10 @@ pub fn take_drop_bounds(words: &Words<'_>, edits: &mut Edits) {
 
 /// Whether a name is one in the list of `#[derive(..)]`.
 pub fn is_derived(words: &Words<'_>, index: usize) -> bool {
-    let open = words.list[..index].iter().rposition(|word| &words.text[word.start..word.end] == "(");
-    open.is_some_and(|open| {
-        words.text_before(open) == "derive" && words.closing(open).is_some_and(|last| index < last)
-    })
+    let open = words.list[..index]
+        .iter()
+        .rposition(|word| &words.text[word.start..word.end] == "(");
+    open.is_some_and(|open| words.text_before(open) == "derive" && words.closing(open).is_some_and(|last| index < last))
 }
 
 /// Says of each trait that its types have a size, where it does not say so.
@@ -93,5 +93,7 @@ pub fn hide_writers(words: &Words<'_>, edits: &mut Edits) {
 
 /// Whether the head of the item here names the writer of a formatter.
 fn names_writer(words: &Words<'_>, from: usize, writer: &[&str]) -> bool {
-    (from..words.list.len()).take_while(|at| words.at(*at) != "{").any(|at| words.reads(at, writer))
+    (from..words.list.len())
+        .take_while(|at| words.at(*at) != "{")
+        .any(|at| words.reads(at, writer))
 }

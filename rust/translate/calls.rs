@@ -78,7 +78,11 @@ pub fn free_assertions(words: &Words<'_>, edits: &mut Edits) {
         if !MACROS.contains(&name) {
             edits.refuse(words, index, format!("{name}!, a macro that is not known"));
         }
-        let named = if words.at(first) == "&" { words.after(first) } else { first };
+        let named = if words.at(first) == "&" {
+            words.after(first)
+        } else {
+            first
+        };
         if ASSERTIONS.contains(&name) && words.reads(named, &["rt", ";"]) {
             edits.take(words, Rule::AbortGuard, first, words.after(named));
         }
@@ -152,7 +156,11 @@ pub fn know_modules(words: &Words<'_>, edits: &mut Edits) {
         }
         let close = words.closing(open).unwrap_or(open);
         if let Some(taken) = (open..close).find(is_taken) {
-            edits.refuse(words, taken, "more than constants in a module within a file".to_string());
+            edits.refuse(
+                words,
+                taken,
+                "more than constants in a module within a file".to_string(),
+            );
         }
     }
 }

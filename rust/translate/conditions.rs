@@ -2,7 +2,7 @@
 
 use super::edits::Edits;
 use super::rules::Rule;
-use super::tokens::{Kind, Words, clause_parts};
+use super::tokens::{clause_parts, Kind, Words};
 
 /// Adds a section `# Conditions` to the documentation of each function that requires something: the documentation's own
 /// sentences that say what has to hold, and where these are fewer than the clauses, the clauses too.
@@ -20,7 +20,10 @@ pub fn tell_conditions(words: &Words<'_>, edits: &mut Edits) {
         if lines.len() < clauses.len() {
             lines.extend(clauses);
         }
-        let section: String = lines.iter().map(|line| format!("#[doc = {:?}] ", format!("- {line}"))).collect();
+        let section: String = lines
+            .iter()
+            .map(|line| format!("#[doc = {:?}] ", format!("- {line}")))
+            .collect();
         let text = format!("#[doc = \"\"] #[doc = \"# Conditions\"] #[doc = \"\"] {section}");
         edits.insert_before(words, Rule::Conditions, first, text);
     }
@@ -34,8 +37,16 @@ fn required(words: &Words<'_>, function: usize) -> Vec<String> {
         if words.is(at, Kind::Requires) {
             let (name, text) = clause_parts(words.at(at));
             let text = text.split_whitespace().collect::<Vec<_>>().join(" ");
-            let code = if text.contains('`') { format!("`` {text} ``") } else { format!("`{text}`") };
-            clauses.push(if name.is_empty() { code } else { format!("{name}: {code}") });
+            let code = if text.contains('`') {
+                format!("`` {text} ``")
+            } else {
+                format!("`{text}`")
+            };
+            clauses.push(if name.is_empty() {
+                code
+            } else {
+                format!("{name}: {code}")
+            });
         }
         at = words.after(words.closing(at).unwrap_or(at));
     }
@@ -46,7 +57,10 @@ fn required(words: &Words<'_>, function: usize) -> Vec<String> {
 fn head_of(words: &Words<'_>, function: usize) -> usize {
     let mut first = function;
     while let Some(before) = words.before(first) {
-        let is_head = matches!(words.at(before), "pub" | "const" | "extern" | "\"C\"" | ")" | "crate" | "(" | "super");
+        let is_head = matches!(
+            words.at(before),
+            "pub" | "const" | "extern" | "\"C\"" | ")" | "crate" | "(" | "super"
+        );
         if !is_head || (words.at(before) == ")" && !closes_visibility(words, before)) {
             break;
         }
@@ -57,7 +71,9 @@ fn head_of(words: &Words<'_>, function: usize) -> usize {
 
 /// Whether a bracket closes `pub(..)`.
 fn closes_visibility(words: &Words<'_>, close: usize) -> bool {
-    let open = words.list[..close].iter().rposition(|word| &words.text[word.start..word.end] == "(");
+    let open = words.list[..close]
+        .iter()
+        .rposition(|word| &words.text[word.start..word.end] == "(");
     open.is_some_and(|open| words.text_before(open) == "pub")
 }
 
@@ -101,7 +117,11 @@ fn condition_sentences(documentation: &str) -> Vec<String> {
     for paragraph in documentation.split("\n\n") {
         let text = paragraph.replace('\n', " ");
         let sentences: Vec<&str> = text.split_inclusive(". ").map(str::trim).collect();
-        for (number, sentence) in sentences.iter().enumerate().filter(|(_, sentence)| is_condition(sentence)) {
+        for (number, sentence) in sentences
+            .iter()
+            .enumerate()
+            .filter(|(_, sentence)| is_condition(sentence))
+        {
             match number.checked_sub(1).filter(|_| has_pronoun(sentence)) {
                 Some(before) if !is_condition(sentences[before]) => {
                     found.push(format!("{} {sentence}", sentences[before]));
@@ -129,6 +149,9 @@ fn is_condition(sentence: &str) -> bool {
         let words: Vec<&str> = part.split_whitespace().collect();
         let asks = |pair: &[&str]| matches!(pair, ["has" | "have", "to"] | ["must", _]);
         let of_a_case = |word: &&str| matches!(word.to_ascii_lowercase().as_str(), "where" | "nothing" | "may" | "no");
-        words.windows(2).position(asks).is_some_and(|at| !words[..at].iter().any(of_a_case))
+        words
+            .windows(2)
+            .position(asks)
+            .is_some_and(|at| !words[..at].iter().any(of_a_case))
     })
 }

@@ -95,7 +95,11 @@ fn write_derive(words: &Words<'_>, edits: &mut Edits, attribute: usize) {
         if !is_taken(name) {
             continue;
         }
-        let rule = if text_of(name) == "Drop" { Rule::DropDerive } else { Rule::ErrorDerive };
+        let rule = if text_of(name) == "Drop" {
+            Rule::DropDerive
+        } else {
+            Rule::ErrorDerive
+        };
         // with the comma before it, or behind it where it is the first
         match (number, names.get(number + 1)) {
             (0, Some(next)) => edits.take(words, rule, name.0, next.0 - 1),
@@ -111,12 +115,19 @@ fn write_derive(words: &Words<'_>, edits: &mut Edits, attribute: usize) {
 /// Writes out what `thiserror::Error` derives.
 fn write_error(words: &Words<'_>, edits: &mut Edits, attribute: usize) {
     let Some(item) = item_behind(words, attribute).filter(|item| item.parameters.is_empty()) else {
-        edits.refuse(words, attribute, "thiserror::Error of no plain struct or enum".to_string());
+        edits.refuse(
+            words,
+            attribute,
+            "thiserror::Error of no plain struct or enum".to_string(),
+        );
         return;
     };
     let texts = take_error_texts(words, edits, attribute, item.close);
     let body = if item.is_enum {
-        let arms: String = texts.iter().map(|(behind, text)| error_arm(words, edits, &item, *behind, text)).collect();
+        let arms: String = texts
+            .iter()
+            .map(|(behind, text)| error_arm(words, edits, &item, *behind, text))
+            .collect();
         format!("match self {{ {arms}}}")
     } else if let [(_, text)] = texts[..] {
         let fields = fields_of(words, edits, item.open, item.close);
@@ -134,12 +145,7 @@ fn write_error(words: &Words<'_>, edits: &mut Edits, attribute: usize) {
 }
 
 /// Takes each `#[error(..)]`, and answers its text and the word behind it.
-fn take_error_texts<'a>(
-    words: &Words<'a>,
-    edits: &mut Edits,
-    from: usize,
-    to: usize,
-) -> Vec<(usize, &'a str)> {
+fn take_error_texts<'a>(words: &Words<'a>, edits: &mut Edits, from: usize, to: usize) -> Vec<(usize, &'a str)> {
     let mut texts = Vec::new();
     for index in from..to {
         if !words.reads(index, &["#", "[", "error", "("]) {
@@ -160,7 +166,11 @@ fn take_error_texts<'a>(
 /// The arm of a variant that stands at a word.
 fn error_arm(words: &Words<'_>, edits: &mut Edits, item: &Item<'_>, variant: usize, text: &str) -> String {
     if !words.is(variant, Kind::Name) {
-        edits.refuse(words, variant, "what stands behind #[error(..)] is no variant".to_string());
+        edits.refuse(
+            words,
+            variant,
+            "what stands behind #[error(..)] is no variant".to_string(),
+        );
     }
     let open = words.after(variant);
     let fields = match (words.at(open), words.closing(open)) {
@@ -253,10 +263,24 @@ fn take_skips<'a>(words: &Words<'a>, edits: &mut Edits, item: &Item<'_>) -> Fiel
 fn derived_impl(name: &str, item: &Item<'_>, fields: &Fields<'_>) -> Option<String> {
     let (parameters, own) = (item.parameters, item.name);
     let compared = &fields.compared;
-    let pairs: Vec<String> = compared.iter().map(|field| format!("self.{field} == other.{field}")).collect();
-    let hashes: String = compared.iter().map(|field| format!("self.{field}.hash(state); ")).collect();
-    let shown: String = fields.shown.iter().map(|field| format!(".field(\"{field}\", &self.{field})")).collect();
-    let finish = if fields.hides { "finish_non_exhaustive" } else { "finish" };
+    let pairs: Vec<String> = compared
+        .iter()
+        .map(|field| format!("self.{field} == other.{field}"))
+        .collect();
+    let hashes: String = compared
+        .iter()
+        .map(|field| format!("self.{field}.hash(state); "))
+        .collect();
+    let shown: String = fields
+        .shown
+        .iter()
+        .map(|field| format!(".field(\"{field}\", &self.{field})"))
+        .collect();
+    let finish = if fields.hides {
+        "finish_non_exhaustive"
+    } else {
+        "finish"
+    };
     Some(match name {
         "PartialEq" => format!(
             " impl{parameters} PartialEq for {own}{parameters} {{ fn eq(&self, other: &Self) -> bool {{ {} }} }}",

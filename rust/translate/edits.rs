@@ -45,13 +45,23 @@ impl Edits {
     /// Puts a text before a word.
     pub fn insert_before(&mut self, words: &Words<'_>, rule: Rule, index: usize, text: String) {
         let start = words.list.get(index).map_or(words.text.len(), |word| word.start);
-        self.list.push(Edit { start, end: start, rule, text });
+        self.list.push(Edit {
+            start,
+            end: start,
+            rule,
+            text,
+        });
     }
 
     /// Puts a text behind a word.
     pub fn insert_after(&mut self, words: &Words<'_>, rule: Rule, index: usize, text: String) {
         let start = words.list[index].end;
-        self.list.push(Edit { start, end: start, rule, text });
+        self.list.push(Edit {
+            start,
+            end: start,
+            rule,
+            text,
+        });
     }
 
     /// Notes words of which it is not known what they mean.
@@ -66,7 +76,10 @@ impl Edits {
         for pair in self.list.windows(2) {
             if pair[0].end > pair[1].start {
                 let what = format!("{:?} and {:?} take the same words", pair[0].rule, pair[1].rule);
-                self.unknown.push(Unknown { at: pair[1].start, what });
+                self.unknown.push(Unknown {
+                    at: pair[1].start,
+                    what,
+                });
             }
         }
     }
@@ -77,7 +90,11 @@ impl Edits {
         let mut at = 0;
         for edit in &self.list {
             let kept = &text[at..edit.start];
-            pieces.push(Piece { rule: None, before: kept, after: kept });
+            pieces.push(Piece {
+                rule: None,
+                before: kept,
+                after: kept,
+            });
             pieces.push(Piece {
                 rule: Some(edit.rule),
                 before: &text[edit.start..edit.end],
@@ -86,7 +103,11 @@ impl Edits {
             at = edit.end;
         }
         let kept = &text[at..];
-        pieces.push(Piece { rule: None, before: kept, after: kept });
+        pieces.push(Piece {
+            rule: None,
+            before: kept,
+            after: kept,
+        });
         pieces
     }
 }

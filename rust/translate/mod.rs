@@ -15,7 +15,7 @@ pub mod workspace;
 pub use edits::{Edits, Piece};
 pub use names::Place;
 #[allow(unused_imports, reason = "the tests of the translation use them")]
-pub use rules::{RULES, Rule, Told};
+pub use rules::{Rule, Told, RULES};
 #[allow(unused_imports, reason = "the tests of the translation use them")]
 pub use tokens::{Kind, Word, Words};
 

@@ -40,7 +40,9 @@ fn is_head(name: &str, place: &Place<'_>) -> bool {
 fn is_visibility(words: &Words<'_>, index: usize) -> bool {
     words.at(index) == "crate"
         && words.at(words.after(index)) == ")"
-        && words.before(index).is_some_and(|open| words.at(open) == "(" && words.text_before(open) == "pub")
+        && words
+            .before(index)
+            .is_some_and(|open| words.at(open) == "(" && words.text_before(open) == "pub")
 }
 
 /// Whether `::` stands behind a name.

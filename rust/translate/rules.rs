@@ -38,7 +38,13 @@ pub struct Told {
 }
 
 const fn told(rule: Rule, name: &'static str, reason: &'static str, before: &'static str, after: &'static str) -> Told {
-    Told { rule, name, reason, before, after }
+    Told {
+        rule,
+        name,
+        reason,
+        before,
+        after,
+    }
 }
 
 /// Every rule. The examples are those of a library `capnp_wire`, and have to translate as they say.

@@ -76,7 +76,9 @@ impl<'a> Words<'a> {
             match self.at(index) {
                 "(" | "[" | "{" => open.push(index),
                 ")" | "]" | "}" => {
-                    let is_closed = open.pop().is_some_and(|first| close_of(self.at(first)) == self.at(index));
+                    let is_closed = open
+                        .pop()
+                        .is_some_and(|first| close_of(self.at(first)) == self.at(index));
                     if !is_closed {
                         return Err(unknown(self.text, word.start));
                     }
@@ -190,7 +192,9 @@ fn next_word(text: &str, start: usize) -> Result<(Kind, usize), Unknown> {
         return Err(unknown(text, start));
     }
     if let Some(length) = literal(rest) {
-        return length.map(|length| (Kind::Literal, start + length)).ok_or(unknown(text, start));
+        return length
+            .map(|length| (Kind::Literal, start + length))
+            .ok_or(unknown(text, start));
     }
     if is_of_name(first) {
         return named_word(text, start);
@@ -243,7 +247,11 @@ fn literal(rest: &str) -> Option<Option<usize>> {
         "" | "b" if hashes == 0 && body.starts_with('"') => Some(quoted(body).map(|length| prefix + length)),
         "r" | "br" if body.starts_with('"') => {
             let end = format!("\"{}", "#".repeat(hashes));
-            Some(body[1..].find(&end).map(|length| prefix + hashes + 1 + length + end.len()))
+            Some(
+                body[1..]
+                    .find(&end)
+                    .map(|length| prefix + hashes + 1 + length + end.len()),
+            )
         }
         "" | "b" if hashes == 0 && body.starts_with('\'') => character(body).map(|length| Some(prefix + length)),
         _ => None,
@@ -309,7 +317,9 @@ fn named_word(text: &str, start: usize) -> Result<(Kind, usize), Unknown> {
     let rest = &text[start..];
     let length = run(rest, is_of_name);
     let ghost = |found: Option<(Kind, usize)>| {
-        found.map(|(kind, length)| (kind, start + length)).ok_or(unknown(text, start))
+        found
+            .map(|(kind, length)| (kind, start + length))
+            .ok_or(unknown(text, start))
     };
     match &rest[..length] {
         "ghost" => ghost(ghost_part(rest)),
@@ -359,12 +369,16 @@ fn ghost_part(rest: &str) -> Option<(Kind, usize)> {
             at = open + braces(&rest[open..])?;
         }
     }
-    rest[at..].starts_with([';', ',']).then_some((Kind::GhostMember, at + 1))
+    rest[at..]
+        .starts_with([';', ','])
+        .then_some((Kind::GhostMember, at + 1))
 }
 
 /// The length of a path, and of another name for it or names in braces behind it, up to their `;`.
 fn ghost_names(rest: &str) -> Option<usize> {
-    let path = run(rest, |letter| !letter.is_ascii_whitespace() && letter != '{' && letter != ';');
+    let path = run(rest, |letter| {
+        !letter.is_ascii_whitespace() && letter != '{' && letter != ';'
+    });
     let behind = &rest[path..];
     let length = match behind.strip_prefix(" as ") {
         Some(name) => behind.len() - name.len() + run(name, is_of_name),

@@ -66,7 +66,10 @@ impl Workspace {
         for one in self.crates.iter().filter(|one| PROGRAMS.contains(&one.name.as_str())) {
             wanted.extend(one.below.iter().map(String::as_str));
         }
-        self.crates.iter().filter(|one| wanted.contains(one.name.as_str())).collect()
+        self.crates
+            .iter()
+            .filter(|one| wanted.contains(one.name.as_str()))
+            .collect()
     }
 
     /// The crates that serve tests alone.
@@ -147,7 +150,10 @@ fn crate_of(root: &Path, line: &str) -> Option<Crate> {
         _ => return None,
     };
     let is_there = |name: &str| root.join("crates").join(name).is_dir();
-    let below: Vec<&str> = below.split_whitespace().filter(|name| !OUTSIDE.contains(name)).collect();
+    let below: Vec<&str> = below
+        .split_whitespace()
+        .filter(|name| !OUTSIDE.contains(name))
+        .collect();
     if !is_there(name) || !below.iter().all(|name| is_there(name)) {
         return None;
     }
