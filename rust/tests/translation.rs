@@ -528,7 +528,8 @@ fn what_is_not_known_is_refused() {
 
 #[test]
 fn a_refusal_names_file_and_line() {
-    let folder = Path::new(env!("CARGO_TARGET_TMPDIR")).join("refused");
+    // outside the repository, whose gate takes every list of crates for its own
+    let folder = std::env::temp_dir().join(format!("riftcalico-refused-{}", std::process::id()));
     let source = folder.join("crates/one/src");
     fs::create_dir_all(&source).expect("a folder");
     let file = source.join("lib.rt");
@@ -558,6 +559,7 @@ fn a_refusal_names_file_and_line() {
             .map_or(String::new(), |error| error.to_string());
         assert!(refused.contains("crates.txt:"), "{list:?}: {refused}");
     }
+    fs::remove_dir_all(&folder).expect("the folder was made above");
 }
 
 /// Words that Rattle alone has, or that only contracts have.
