@@ -22,7 +22,7 @@ fn a_refusal_is_an_error_with_number_and_name() {
 #[test]
 fn a_name_that_no_struct_has_is_refused() {
     let set = SchemaSet::from_request(REQUEST).expect("the request is whole");
-    let refusal = set.get_struct_named("Nobody").err().expect("there is no such struct");
+    let refusal = set.get_struct_named("Nobody").expect_err("there is no such struct");
     assert_eq!((refusal.number(), refusal.name()), (64, "NameNotFound"));
 }
 
