@@ -8,7 +8,7 @@ use Rattle.capnp_wire.specs.Locate.{list_words}
 use Rattle.capnp_wire.specs.Tree.{StructTree, structs_from, trees_from}
 use Rattle.capnp_wire.specs.Words.{words_below_all, words_of, words_of_all}
 use Rattle.std.specs.Prelude.{None, Option, Some}
-use Rattle.capnp_arena.specs.Counts.{IsCount}
+use Rattle.capnp_arena.specs.Counts.{IsCounted}
 use Rattle.capnp_arena.specs.Facts.Calls.{planted, planted_inside}
 use Rattle.capnp_arena.specs.Facts.Forests.{owned_after, owned_inside, points}
 use Rattle.capnp_arena.specs.Facts.Shapes.{element_end, itself_inside}
@@ -265,7 +265,7 @@ struct_fits bytes a d p q =
     (λ k r. owned_inside bytes r.0 k (q.child r.0 (r.1, r.2)) r.3))
     (λ k h. h)
 
--- so they are always counted
-pub always_counted : (r : Option ℕ) (words : ℕ) → IsCount r words → words < 2 ^ 29 → ((n : ℕ) → r ≡ Some n → ⊥) → ⊥
-always_counted (Some n) words h l k = k n refl
-always_counted None words h l k = omega (arith, h, l)
+-- so they are counted where it is no deeper
+pub too_deep : (r : Option ℕ) (words : ℕ) (is_below : Type 0) → IsCounted r words is_below → words < 2 ^ 29 → ((n : ℕ) → r ≡ Some n → ⊥) → is_below → ⊥
+too_deep (Some n) words is_below h l k b = k n refl
+too_deep None words is_below h l k b = elim h [ inl x ↦ omega (arith, x, l) | inr x ↦ x b ]

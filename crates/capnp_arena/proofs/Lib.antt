@@ -5,6 +5,7 @@ pub mod Rows
 pub mod NewLists
 pub mod Lookings
 pub mod Counted
+pub mod CountedLevels
 pub mod Encodings
 pub mod Whole
 pub mod Shallow

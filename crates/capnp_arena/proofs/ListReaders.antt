@@ -38,7 +38,7 @@ nothing_size InlineComposite = refl
 
 module _ (f g : List ℕ → ℕ → Tree) (bytes : List ℕ) where
   abbrev at_depth : ℕ → ℕ → ℕ → Tree
-  at_depth a size n = tree_at_depth 65535 f g (ListAt bytes a size n)
+  at_depth a size n = tree_at_depth 130 f g (ListAt bytes a size n)
 
   plain_own : (a n : ℕ) (size : ElementSize) → (size ≡ InlineComposite → ⊥) → as_list size (at_depth a (size_number size) n) 65 ≡ Ok (at_depth a (size_number size) n)
   plain_own a n Void h = refl
@@ -50,20 +50,20 @@ module _ (f g : List ℕ → ℕ → Tree) (bytes : List ℕ) where
   plain_own a n Pointer h = refl
   plain_own a n InlineComposite h = absurd (h refl)
 
-  structs_own : (a n d p : ℕ) → as_list InlineComposite (tree_at_depth 65535 f g (CompositeAt bytes a n d p)) 65 ≡ Ok (tree_at_depth 65535 f g (CompositeAt bytes a n d p))
+  structs_own : (a n d p : ℕ) → as_list InlineComposite (tree_at_depth 130 f g (CompositeAt bytes a n d p)) 65 ≡ Ok (tree_at_depth 130 f g (CompositeAt bytes a n d p))
   structs_own a n d p = refl
 
 module _ (bytes : List ℕ) (w : ℕ) (f : Forest bytes w) where
   abbrev cut : Tree
-  cut = tree_below 65535 (bytes ∷ []) bytes w
+  cut = tree_below 130 (bytes ∷ []) bytes w
 
   abbrev cut_at : Shape → Tree
-  cut_at s = tree_at_depth 65535 (tree_below (65535 - 1) (bytes ∷ [])) (tree_below (65535 - 2) (bytes ∷ [])) (placed bytes s)
+  cut_at s = tree_at_depth 130 (tree_below (130 - 1) (bytes ∷ [])) (tree_below (130 - 2) (bytes ∷ [])) (placed bytes s)
 
   below : (s : Shape) → shape_at bytes w ≡ s → cut ≡ cut_at s
   below s e =
-      below_step 65535 (bytes ∷ []) bytes w
-      ∙ ap (tree_at_depth 65535 (tree_below (65535 - 1) (bytes ∷ [])) (tree_below (65535 - 2) (bytes ∷ []))) (target bytes w (shape_at bytes w) (points bytes w f) ∙ ap (placed bytes) e)
+      below_step 130 (bytes ∷ []) bytes w
+      ∙ ap (tree_at_depth 130 (tree_below (130 - 1) (bytes ∷ [])) (tree_below (130 - 2) (bytes ∷ []))) (target bytes w (shape_at bytes w) (points bytes w f) ∙ ap (placed bytes) e)
 
   pub cut_read : (l : ListTarget) → shape_at bytes w ≡ list_shape l → as_list (element_size_of (listed_tree (tree bytes w) l)) cut 65 ≡ Ok (listed_tree cut l)
   cut_read (list.Nothing size) e =
@@ -71,12 +71,12 @@ module _ (bytes : List ℕ) (w : ℕ) (f : Forest bytes w) where
   cut_read (list.Plain l) e =
       ap (λ k. as_list k cut 65) (plain_size_is bytes w f l.start l.count l.size (size_is_simple bytes w f l.start l.count l.size e) e)
       ∙ ap (λ t. as_list l.size t 65) (below (list_shape (list.Plain l)) e)
-      ∙ plain_own (tree_below (65535 - 1) (bytes ∷ [])) (tree_below (65535 - 2) (bytes ∷ [])) bytes l.start l.count l.size (size_is_simple bytes w f l.start l.count l.size e)
+      ∙ plain_own (tree_below (130 - 1) (bytes ∷ [])) (tree_below (130 - 2) (bytes ∷ [])) bytes l.start l.count l.size (size_is_simple bytes w f l.start l.count l.size e)
       ∙ ap Ok (sym (below (list_shape (list.Plain l)) e))
   cut_read (list.Structs l) e =
       ap (λ t. as_list (element_size_of t) cut 65) (tree_composite bytes w l.tag l.count l.data_words l.pointers f e)
       ∙ ap (λ t. as_list InlineComposite t 65) (below (list_shape (list.Structs l)) e)
-      ∙ structs_own (tree_below (65535 - 1) (bytes ∷ [])) (tree_below (65535 - 2) (bytes ∷ [])) bytes (l.tag + 1) l.count l.data_words l.pointers
+      ∙ structs_own (tree_below (130 - 1) (bytes ∷ [])) (tree_below (130 - 2) (bytes ∷ [])) bytes (l.tag + 1) l.count l.data_words l.pointers
       ∙ ap Ok (sym (below (list_shape (list.Structs l)) e))
 
 -- ---- what the reader answers ----
@@ -96,10 +96,10 @@ list_is r l t e h = ok_same (list_of l) t (sym (ap list_read e) ∙ h)
 
 -- by what the calls say
 pub reader_read : (bytes words : List ℕ) (w : ℕ) (f : Forest bytes w) (l : ListTarget) → shape_at bytes w ≡ list_shape l → (size : ElementSize) → size ≡ element_size_of (listed_tree (tree bytes w) l)
-    → words ≡ bytes → (t : Tree) → t ≡ tree_below 65535 (words ∷ []) words w → (levels : ℕ) → levels ≡ 65 → (r : Result ListReader Error) → list_read r ≡ as_list size t levels
-    → list_read r ≡ Ok (listed_tree (tree_below 65535 (bytes ∷ []) bytes w) l)
+    → words ≡ bytes → (t : Tree) → t ≡ tree_below 130 (words ∷ []) words w → (levels : ℕ) → levels ≡ 65 → (r : Result ListReader Error) → list_read r ≡ as_list size t levels
+    → list_read r ≡ Ok (listed_tree (tree_below 130 (bytes ∷ []) bytes w) l)
 reader_read bytes words w f l e size a b t c levels d r h =
     h ∙ ap (λ k. as_list k t levels) a
-    ∙ ap (λ k. as_list (element_size_of (listed_tree (tree bytes w) l)) k levels) (c ∙ ap (λ x. tree_below 65535 (x ∷ []) x w) b)
-    ∙ ap (as_list (element_size_of (listed_tree (tree bytes w) l)) (tree_below 65535 (bytes ∷ []) bytes w)) d
+    ∙ ap (λ k. as_list (element_size_of (listed_tree (tree bytes w) l)) k levels) (c ∙ ap (λ x. tree_below 130 (x ∷ []) x w) b)
+    ∙ ap (as_list (element_size_of (listed_tree (tree bytes w) l)) (tree_below 130 (bytes ∷ []) bytes w)) d
     ∙ cut_read bytes w f l e

@@ -31,9 +31,15 @@ first_bytes bytes a n h =
 pub text_bytes : (bytes : List ℕ) (w : ℕ) → Forest bytes w → (a n : ℕ) → shape_at bytes w ≡ ListIn a 2 (n + 1) → tree bytes w ≡ zero_list Byte (n + 1) → bytes_at bytes a n ≡ replicate n 0
 text_bytes bytes w f a n e t = first_bytes bytes a n (new_bytes bytes w f a (n + 1) e t)
 
--- with another one written
+-- all the bytes of a list with another one written
+pub byte_left : (bytes : List ℕ) (a n i v : ℕ) (now : List ℕ) → now ≡ bytes_at bytes a n → length now ≡ n
+    → Numbers 1 (slice_set now i v ++ drop n (bytes_at bytes a n)) ≡ Numbers 1 (slice_set (bytes_at bytes a n) i v)
+byte_left bytes a n i v now is long =
+    let none : drop n now ≡ [] = drop_all n now (omega (arith, long)) in
+    ap (λ x. Numbers 1 (slice_set now i v ++ x)) (ap (drop n) (sym is) ∙ none) ∙ ap (Numbers 1) (append-nil (slice_set now i v)) ∙ ap (λ x. Numbers 1 (slice_set x i v)) is
+
+-- and those of a new one
 pub new_left : (bytes : List ℕ) (w : ℕ) (f : Forest bytes w) (a n i v : ℕ) (e : shape_at bytes w ≡ ListIn a 2 n) (t : tree bytes w ≡ zero_list Byte n) (now : List ℕ) → now ≡ bytes_at bytes a n → length now ≡ n
     → Numbers 1 (slice_set now i v ++ drop n (bytes_at bytes a n)) ≡ Numbers 1 (slice_set (replicate n 0) i v)
 new_left bytes w f a n i v e t now is long =
-    let none : drop n now ≡ [] = drop_all n now (omega (arith, long)) in
-    ap (λ x. Numbers 1 (slice_set now i v ++ x)) (ap (drop n) (sym is) ∙ none) ∙ ap (Numbers 1) (append-nil (slice_set now i v)) ∙ ap (λ x. Numbers 1 (slice_set x i v)) (is ∙ new_bytes bytes w f a n e t)
+    byte_left bytes a n i v now is long ∙ ap (λ x. Numbers 1 (slice_set x i v)) (new_bytes bytes w f a n e t)

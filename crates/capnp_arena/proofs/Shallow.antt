@@ -23,11 +23,11 @@ below_or_past i n = grind arith
 here_or_later : (a j : ℕ) → a ≤ j → (a ≡ j) ⊎ (suc a ≤ j)
 here_or_later a j x = grind arith
 
-row_below : (f : ℕ → Tree) (a n m : ℕ) → AreBelow m (trees_from f a n) → (j : ℕ) → a ≤ j → j < a + n → IsBelow m (f j)
+pub row_below : (f : ℕ → Tree) (a n m : ℕ) → AreBelow m (trees_from f a n) → (j : ℕ) → a ≤ j → j < a + n → IsBelow m (f j)
 row_below f a zero m h j x y = absurd (omega (arith, x, y))
 row_below f a (suc n) m h j x y = elim (here_or_later a j x) [ inl e ↦ subst (λ k. IsBelow m (f k)) e h.0 | inr l ↦ row_below f (suc a) n m h.1 j l (omega (arith, y)) ]
 
-elements_below : (f : ℕ → StructTree) (i n m : ℕ) → ElementsAreBelow m (structs_from f i n) → (x : ℕ) → i ≤ x → x < i + n → AreBelow m (f x).pointers
+pub elements_below : (f : ℕ → StructTree) (i n m : ℕ) → ElementsAreBelow m (structs_from f i n) → (x : ℕ) → i ≤ x → x < i + n → AreBelow m (f x).pointers
 elements_below f i zero m h x y z = absurd (omega (arith, y, z))
 elements_below f i (suc n) m h x y z = elim (here_or_later i x y) [ inl e ↦ subst (λ k. AreBelow m (f k).pointers) e h.0 | inr l ↦ elements_below f (suc i) n m h.1 x l (omega (arith, z)) ]
 
@@ -128,11 +128,15 @@ alike_struct : (n : ℕ) (bytes : List ℕ) (a d p : ℕ) → Planted bytes (Str
 alike_struct n bytes a d p h l x =
     (refl, rows_same (SameTo n) (tree_below l (bytes ∷ []) bytes) (tree bytes) (a + d) p (null_same n) (λ j y z. alike n bytes j (h.child j (y, z)) l x))
 
--- as readers stand on them
-pub cut : (bytes : List ℕ) (w : ℕ) → Forest bytes w → IsCutOf (tree_below 65535 (bytes ∷ []) bytes w) (tree bytes w)
-unfolding IsCutOf
-cut bytes w h = alike 32767 bytes w h 65535 (omega arith)
+-- as a reader of what is received stands on it
+pub seen : (bytes : List ℕ) (w : ℕ) → Forest bytes w → SameTo 32 (tree_below 65 (bytes ∷ []) bytes w) (tree bytes w)
+seen bytes w h = alike 32 bytes w h 65 (omega arith)
 
-pub cut_struct : (bytes : List ℕ) (a d p : ℕ) → Planted bytes (StructIn a d p) → IsStructCutOf (struct_at (tree_below 65535 (bytes ∷ []) bytes) bytes d p a) (struct_from bytes a d p)
+-- as readers stand on them
+pub cut : (bytes : List ℕ) (w : ℕ) → Forest bytes w → IsCutOf (tree_below 130 (bytes ∷ []) bytes w) (tree bytes w)
+unfolding IsCutOf
+cut bytes w h = alike 65 bytes w h 130 (omega arith)
+
+pub cut_struct : (bytes : List ℕ) (a d p : ℕ) → Planted bytes (StructIn a d p) → IsStructCutOf (struct_at (tree_below 130 (bytes ∷ []) bytes) bytes d p a) (struct_from bytes a d p)
 unfolding IsStructCutOf
-cut_struct bytes a d p h = alike_struct 32767 bytes a d p h 65535 (omega arith)
+cut_struct bytes a d p h = alike_struct 65 bytes a d p h 130 (omega arith)

@@ -24,9 +24,10 @@ SameTo (suc n) (Pointers ps) y = (qs : Trees) × (y ≡ Pointers qs) × SameRow 
 SameTo (suc n) (Composite d p es) y = (fs : Structs) × (y ≡ Composite d p fs) × SameElements (SameTo n) es fs
 SameTo (suc n) (FaultLeaf fault) y = y ≡ FaultLeaf fault
 
--- a tree, and a struct, as a reader stands on it: the first 32,767 levels are those of the other one
+-- a tree, and a struct, as a reader stands on it: the first 65 levels are those of the other one, where a composite list
+-- is one level with its elements
 unfoldable pub IsCutOf : Tree → Tree → Type 0
-IsCutOf x t = SameTo 32767 x t
+IsCutOf x t = SameTo 65 x t
 
 unfoldable pub IsStructCutOf : StructTree → StructTree → Type 0
-IsStructCutOf x s = SameParts (SameTo 32767) x s
+IsStructCutOf x s = SameParts (SameTo 65) x s

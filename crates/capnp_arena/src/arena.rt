@@ -105,7 +105,7 @@ fn get_list_words(size: ElementSize, count: u32) -> usize
 }
 
 impl Arena {
-    ghost use Rattle.std.specs.Prelude.{IfErr, IfOk, OnErr, OnOk, bit_xor, ◌⊎◌, ◌≢◌, ◌∷◌, [], ◌+◌, ◌++◌, ◌-◌, ◌≤◌, replicate};
+    ghost use Rattle.std.specs.Prelude.{IfErr, IfOk, IsTrue, OnErr, OnOk, bit_xor, ◌↔◌, ◌⊎◌, ◌≢◌, ◌∷◌, [], ◌+◌, ◌++◌, ◌-◌, ◌≤◌, replicate};
     ghost use Rattle.capnp_wire.specs.Edits.{IsRoomRefusal, with_bytes, with_number, zero_list, zero_struct, zero_structs};
     ghost use Rattle.capnp_wire.specs.Encoding.{spelled};
     ghost use Rattle.capnp_wire.specs.Place.{struct_tree};
@@ -161,6 +161,16 @@ impl Arena {
         self.limit
     }
 
+    /// Whether so many words more are within the limit. It is asked before memory is taken for them, here or beside the
+    /// segment.
+    #[inline(always)]
+    pub(crate) fn has_room(&self, words: usize) -> bool
+        requires { words < 2 ^ 61 }
+        ensures { IsTrue result ↔ (word_count (segment self.now) + words ≤ self.now.limit) }
+    {
+        self.bytes.len() / 8 + words <= self.limit
+    }
+
     /// So many words of zeros at the end.
     ///
     /// Refused with `OutOfMemory`, also where there would be more words than the limit; then nothing has changed.
@@ -172,7 +182,7 @@ impl Arena {
         ensures kind { IfErr result (λ e. e.kind ≡ OutOfMemory) }
         ensures refused { OnErr result (segment self.new ≡ segment self.old) }
     {
-        if self.bytes.len() / 8 + words > self.limit {
+        if !self.has_room(words) {
             return Err(Error::from(ErrorKind::OutOfMemory));
         }
         append_zeros(&mut self.bytes, words)?;
@@ -239,12 +249,13 @@ impl Arena {
         Ok(())
     }
 
-    /// Makes the pointer at a word null. What it led to stays where it was.
+    /// Makes the pointer at a word null. What it led to stays where it was; no memory is taken.
     pub fn clear(&mut self, at: usize)
         requires inside { at < word_count (segment self.old) }
         ensures forest { Forest (segment self.new) at }
         ensures tree { tree (segment self.new) at ≡ Null }
         ensures changes { Changes at (segment self.old) (segment self.new) }
+        ensures long { length (segment self.new) ≡ length (segment self.old) }
     {
         put_word(&mut self.bytes, 8 * at, 0);
     }
@@ -369,7 +380,7 @@ impl Arena {
         Ok(())
     }
 
-    /// Stores a number in the data of a struct, at an offset in units of its width.
+    /// Stores a number in the data of a struct, at an offset in units of its width. No memory is taken.
     pub fn set_number<T: PrimitiveElement>(&mut self, place: Place, offset: u32, value: T)
         requires planted { Planted (segment self.old) (StructIn place.start place.data_words place.pointers) }
         requires inside { (offset + 1) * T.width ≤ 8 * place.data_words }
@@ -380,6 +391,7 @@ impl Arena {
             with_bytes (struct_from (segment self.old) place.start place.data_words place.pointers)
             (with_number T.width offset (T.to_number value)
             (struct_from (segment self.old) place.start place.data_words place.pointers).bytes) }
+        ensures long { length (segment self.new) ≡ length (segment self.old) }
     {
         write_number(
             &mut self.bytes,
@@ -407,6 +419,7 @@ impl Arena {
             with_bytes (struct_from (segment self.old) place.start place.data_words place.pointers)
             (with_number T.width offset (bit_xor (T.to_number value) (T.to_number mask))
             (struct_from (segment self.old) place.start place.data_words place.pointers).bytes) }
+        ensures long { length (segment self.new) ≡ length (segment self.old) }
     {
         write_number_mask(
             &mut self.bytes,

@@ -1,5 +1,6 @@
 //! Callers of the arena: two hops, or an element of a list, and what the pointer at the top leads to then.
-ghost use Rattle.std.specs.Prelude.{IfErr, OnErr, OnOk, replicate, ◌*◌, ◌+◌, ◌<◌, ◌≡◌, ◌≤◌};
+ghost use Rattle.std.specs.Prelude.{IfErr, OnErr, OnOk, length, replicate, ◌*◌, ◌+◌, ◌<◌, ◌≡◌, ◌≤◌};
+ghost use Rattle.capnp_device.specs.declared.error.ErrorKind.TheVariants.{OutOfMemory};
 ghost use Rattle.capnp_wire.specs.Standing.{struct_of};
 ghost use Rattle.capnp_wire.specs.Words.{first_fault_of_all};
 ghost use Rattle.capnp_wire.specs.Edits.{IsCopyRefusal, fitted, with_bytes, with_number, with_pointer_tree, zero_struct};
@@ -41,6 +42,7 @@ pub fn init_and_set<T: PrimitiveElement>(
         (segment arena.old) place.start place.data_words place.pointers) index
         (struct_tree (with_bytes (zero_struct size)
         (with_number T.width offset (T.to_number value) (replicate (8 * size.data_words) 0)))))) }
+    ensures kind { IfErr result (λ e. e.kind ≡ OutOfMemory) }
     ensures refused { OnErr result (segment arena.new ≡ segment arena.old) }
 {
     let pointer = place.start + place.data_words as usize + index as usize;
@@ -49,7 +51,7 @@ pub fn init_and_set<T: PrimitiveElement>(
     Ok(())
 }
 
-/// Stores a number in a struct of the list that the pointer at a word leads to.
+/// Stores a number in a struct of the list that the pointer at a word leads to. No memory is taken.
 pub fn set_element_number<T: PrimitiveElement>(
     arena: &mut Arena,
     at: usize,
@@ -72,6 +74,7 @@ pub fn set_element_number<T: PrimitiveElement>(
         (struct_from (segment arena.old) (list.tag + 1 + index *
         (list.data_words + list.pointers)) list.data_words list.pointers).bytes))
         (tree (segment arena.old) at) }
+    ensures long { length (segment arena.new) ≡ length (segment arena.old) }
 {
     let step = list.data_words as usize + list.pointers as usize;
     let place = Place {

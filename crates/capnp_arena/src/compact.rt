@@ -1,6 +1,7 @@
 //! The message of a segment without what no pointer leads to any more.
 ghost use Rattle.std.specs.Prelude.{IfErr, IfOk, suc, ◌++◌, ◌+◌, ◌*◌, ◌/◌, ◌<◌, ◌^◌, ◌≡◌, ◌≤◌, length};
 ghost use Rattle.capnp_device.specs.declared.error.ErrorKind.TheVariants.{OutOfMemory};
+ghost use Rattle.capnp_wire.specs.Depth.{IsBelow, memory_depth};
 ghost use Rattle.capnp_wire.specs.Encoding.{encoding_of};
 ghost use Rattle.capnp_wire.specs.WellFormed.{IsWellFormed};
 ghost use Rattle.capnp_wire.specs.Words.{words_of};
@@ -14,6 +15,7 @@ use crate::encode::{append_tree, make_pointer};
 use crate::in_order::is_in_order;
 use crate::target::look;
 use capnp_device::error::{Error, ErrorKind, Result};
+use capnp_wire::pointer::MEMORY_DEPTH;
 use std::alloc::Global;
 
 /// The root pointer, and what it leads to: the segment as it is, where it is that already.
@@ -39,13 +41,13 @@ pub(crate) fn append_anew(out: &mut Vec<u8>, bytes: &[u8]) -> Appended
     ensures { IfOk result (λ _. out.new.items ≡ out.old.items ++ encoding_of (tree bytes.now 0)) }
 {
     append_word(out, make_pointer(0, look(bytes, 0)))?;
-    append_tree(out, bytes, 0)?;
+    append_tree(out, bytes, 0, MEMORY_DEPTH)?;
     Ok(())
 }
 
 /// The segment of what the root leads to and nothing else. It takes its memory once.
 ///
-/// Refused with `OutOfMemory`, also where it would have more words than the limit.
+/// Refused with `OutOfMemory`, also where it would have more words than the limit or is deeper than a walk goes.
 fn encode(alloc: Global, bytes: &[u8], limit: usize) -> Result<Vec<u8>>
     requires forest { Forest bytes.now 0 }
     requires low { limit < 2 ^ 29 }
@@ -53,6 +55,7 @@ fn encode(alloc: Global, bytes: &[u8], limit: usize) -> Result<Vec<u8>>
     requires whole { length bytes.now ≡ 8 * word_count bytes.now }
     ensures bytes { IfOk result (λ v. v.items ≡ encoding_of (tree bytes.now 0)) }
     ensures held { IfOk result (λ _. IsWellFormed (tree bytes.now 0) × (suc (words_of (tree bytes.now 0)) ≤ limit)) }
+    ensures depth { IfOk result (λ _. IsBelow memory_depth (tree bytes.now 0)) }
     ensures kind { IfErr result (λ e. e.kind ≡ OutOfMemory) }
 {
     let Some(words) = count_words(bytes, 0) else {
@@ -73,12 +76,13 @@ impl Arena {
     /// Leaves the root pointer and what it leads to, in the order of the encoding: what was replaced or cleared is
     /// given up. Places move, so none below the root is one any more.
     ///
-    /// Refused with `OutOfMemory`; then nothing has changed.
+    /// Refused with `OutOfMemory`, also where the message has more than 129 levels; then nothing has changed.
     pub fn compact(&mut self) -> Result<()>
         requires forest { Forest (segment self.old) 0 }
         ensures bytes { OnOk result (segment self.new ≡ encoding_of (tree (segment self.old) 0)) }
         ensures forest { OnOk result (Forest (segment self.new) 0) }
         ensures tree { OnOk result (tree (segment self.new) 0 ≡ tree (segment self.old) 0) }
+        ensures depth { OnOk result (IsBelow memory_depth (tree (segment self.old) 0)) }
         ensures limit { self.new.limit ≡ self.old.limit }
         ensures kind { IfErr result (λ e. e.kind ≡ OutOfMemory) }
         ensures refused { OnErr result (segment self.new ≡ segment self.old) }

@@ -120,6 +120,7 @@ impl Arena {
             (filled_struct_refusal (default_tree default.entry) (tree (segment self.old) at))) }
         ensures refused { OnErr result (segment self.new ≡ segment self.old) }
         ensures succeeds { HoldsStruct size (tree (segment self.old) at) → IsOk result }
+        ensures stays { HoldsStruct size (tree (segment self.old) at) → segment self.new ≡ segment self.old }
     {
         match self.take_default(at, default) {
             Some(reader) => self.put_struct(at, size, reader),
@@ -207,6 +208,8 @@ impl Arena {
         ensures refused { OnErr result (segment self.new ≡ segment self.old) }
         ensures succeeds { takes_default (default_tree default.entry) (tree (segment self.old) at) ≡ false →
             filled_list_refusal (default_tree default.entry) size (tree (segment self.old) at) ≡ None → IsOk result }
+        ensures stays { takes_default (default_tree default.entry) (tree (segment self.old) at) ≡ false
+            → segment self.new ≡ segment self.old }
     {
         match self.take_default(at, default) {
             Some(reader) => self.put_list(at, size, reader),
@@ -287,6 +290,8 @@ impl Arena {
         ensures refused { OnErr result (segment self.new ≡ segment self.old) }
         ensures succeeds { takes_default (default_tree default.entry) (tree (segment self.old) at) ≡ false
             → HoldsStructs size (tree (segment self.old) at) → IsOk result }
+        ensures stays { takes_default (default_tree default.entry) (tree (segment self.old) at) ≡ false
+            → HoldsStructs size (tree (segment self.old) at) → segment self.new ≡ segment self.old }
     {
         match self.take_default(at, default) {
             Some(reader) => self.put_structs(at, size, reader),

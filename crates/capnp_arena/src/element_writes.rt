@@ -93,6 +93,7 @@ impl Arena {
         requires number { HasNumber T.width (tree (segment self.old) at) index }
         ensures leaves { Leaves at (with_number_element T.width index (T.to_number value) (tree (segment self.old) at))
             (segment self.old) (segment self.new) }
+        ensures long { length (segment self.new) ≡ length (segment self.old) }
     {
         write_number(
             &mut self.bytes,
@@ -104,12 +105,13 @@ impl Arena {
     }
 
     /// Stores the number at `index` of the list that the pointer at a word leads to: in a struct, at its start. There
-    /// has to be a number of that width at `index`.
+    /// has to be a number of that width at `index`. No memory is taken.
     pub fn set_data_element<T: PrimitiveElement>(&mut self, at: usize, index: u32, value: T)
         requires forest { Forest (segment self.old) at }
         requires number { HasNumber T.width (tree (segment self.old) at) index }
         ensures leaves { Leaves at (with_number_element T.width index (T.to_number value) (tree (segment self.old) at))
             (segment self.old) (segment self.new) }
+        ensures long { length (segment self.new) ≡ length (segment self.old) }
     {
         match self.look(at) {
             Target::Null => unreachable!(),
@@ -131,11 +133,13 @@ impl Arena {
     }
 
     /// Stores the bit at `index` of the list that the pointer at a word leads to. There has to be a bit at `index`.
+    /// No memory is taken.
     pub fn set_bool_element(&mut self, at: usize, index: u32, value: bool)
         requires forest { Forest (segment self.old) at }
         requires bit { HasBit (tree (segment self.old) at) index }
         ensures leaves { Leaves at (with_bit_element index value (tree (segment self.old) at)) (segment self.old)
             (segment self.new) }
+        ensures long { length (segment self.new) ≡ length (segment self.old) }
     {
         let Target::List {
             start,

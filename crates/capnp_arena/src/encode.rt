@@ -14,9 +14,11 @@ ghost use Rattle.capnp_arena.specs.Looked.{shape_found};
 ghost use Rattle.capnp_arena.specs.Shape.{word_count};
 
 use crate::append::{Appended, append_bits, append_padded, append_room, append_word, get_part};
+use crate::count::get_list_depth;
 use crate::look::Target;
 use crate::spell::{make_list_word, make_struct_word, put_bytes, put_word};
 use crate::target::look;
+use std::alloc::AllocError;
 
 /// The pointer to a target that starts `gap` words after it.
 #[inline(always)]
@@ -86,10 +88,12 @@ fn append_plain(
     }
 }
 
-/// What the pointer at a word leads to, and then what that leads to.
+/// What the pointer at a word leads to, and then what that leads to, where one level less than `depth` is left.
+///
+/// Refused where memory is, and where it is deeper than that.
 #[cycle(append)]
 #[inline(always)]
-pub(crate) fn append_tree(out: &mut Vec<u8>, bytes: &[u8], w: usize) -> Appended
+pub(crate) fn append_tree(out: &mut Vec<u8>, bytes: &[u8], w: usize, depth: u8) -> Appended
     requires forest { Forest bytes.now w }
     requires few { word_count bytes.now < 2 ^ 29 }
     requires small { words_of (tree bytes.now w) < 2 ^ 29 }
@@ -102,18 +106,32 @@ pub(crate) fn append_tree(out: &mut Vec<u8>, bytes: &[u8], w: usize) -> Appended
             data_words,
             pointers,
         } => {
+            if depth < 2 {
+                return Err(AllocError);
+            }
             if data_words as usize + pointers as usize == 0 {
                 return Ok(());
             }
-            append_struct(out, bytes, start, data_words as usize, pointers as usize)
+            append_struct(
+                out,
+                bytes,
+                start,
+                data_words as usize,
+                pointers as usize,
+                depth - 1,
+            )
         }
         Target::List {
             start,
             element_size,
             count,
         } => {
+            let least = get_list_depth(element_size);
+            if depth < least {
+                return Err(AllocError);
+            }
             if element_size == 6 {
-                return append_row(out, bytes, start, count as usize);
+                return append_row(out, bytes, start, count as usize, depth - 1);
             }
             append_plain(out, bytes, start, element_size, count)
         }
@@ -123,6 +141,9 @@ pub(crate) fn append_tree(out: &mut Vec<u8>, bytes: &[u8], w: usize) -> Appended
             data_words,
             pointers,
         } => {
+            if depth < 2 {
+                return Err(AllocError);
+            }
             append_composite(
                 out,
                 bytes,
@@ -130,6 +151,7 @@ pub(crate) fn append_tree(out: &mut Vec<u8>, bytes: &[u8], w: usize) -> Appended
                 count as usize,
                 data_words as usize,
                 pointers as usize,
+                depth - 2,
             )
         }
     }
@@ -144,6 +166,7 @@ fn append_struct(
     start: usize,
     data_words: usize,
     pointers: usize,
+    depth: u8,
 ) -> Appended
     requires forests { AreForests bytes.now (start + data_words) pointers }
     requires inside { start + (data_words + pointers) ≤ word_count bytes.now }
@@ -155,14 +178,14 @@ fn append_struct(
 {
     out.extend_from_slice(get_part(bytes, start, 8 * data_words))?;
     if pointers > 0 {
-        append_row(out, bytes, start + data_words, pointers)?;
+        append_row(out, bytes, start + data_words, pointers, depth)?;
     }
     Ok(())
 }
 
 /// Pointers in a row, and then what they lead to.
 #[cycle(append)]
-fn append_row(out: &mut Vec<u8>, bytes: &[u8], first: usize, count: usize) -> Appended
+fn append_row(out: &mut Vec<u8>, bytes: &[u8], first: usize, count: usize, depth: u8) -> Appended
     requires forests { AreForests bytes.now first count }
     requires inside { first + count ≤ word_count bytes.now }
     requires few { word_count bytes.now < 2 ^ 29 }
@@ -173,7 +196,7 @@ fn append_row(out: &mut Vec<u8>, bytes: &[u8], first: usize, count: usize) -> Ap
 {
     let at = out.len();
     append_room(out, count)?;
-    fill_row(out, at, bytes, first, count)?;
+    fill_row(out, at, bytes, first, count, depth)?;
     Ok(())
 }
 
@@ -188,6 +211,7 @@ fn append_composite(
     count: usize,
     data_words: usize,
     pointers: usize,
+    depth: u8,
 ) -> Appended
     requires forests { AreElementForests bytes.now (tag + 1) count data_words pointers }
     requires inside { tag + 1 + count * (data_words + pointers) ≤ word_count bytes.now }
@@ -211,7 +235,7 @@ fn append_composite(
     }
     let at = out.len();
     append_room(out, count * (data_words + pointers))?;
-    fill_elements(out, at, bytes, tag + 1, count, data_words, pointers)?;
+    fill_elements(out, at, bytes, tag + 1, count, data_words, pointers, depth)?;
     Ok(())
 }
 
@@ -223,6 +247,7 @@ pub(crate) fn fill_row(
     bytes: &[u8],
     first: usize,
     count: usize,
+    depth: u8,
 ) -> Appended
     requires forests { AreForests bytes.now first count }
     requires inside { first + count ≤ word_count bytes.now }
@@ -236,7 +261,7 @@ pub(crate) fn fill_row(
         // its target will start where the bytes end now
         let gap = (out.len() - at) / 8 - 1;
         put_word(out, at, make_pointer(gap as u64, look(bytes, first + i)));
-        append_tree(out, bytes, first + i)?;
+        append_tree(out, bytes, first + i, depth)?;
         at += 8;
     }
     Ok(())
@@ -252,6 +277,7 @@ fn fill_elements(
     count: usize,
     data_words: usize,
     pointers: usize,
+    depth: u8,
 ) -> Appended
     requires forests { AreElementForests bytes.now start count data_words pointers }
     requires inside { start + count * (data_words + pointers) ≤ word_count bytes.now }
@@ -274,6 +300,7 @@ fn fill_elements(
             start + i * (data_words + pointers),
             data_words,
             pointers,
+            depth,
         )?;
         at += 8 * (data_words + pointers);
     }
@@ -290,6 +317,7 @@ fn fill_element(
     start: usize,
     data_words: usize,
     pointers: usize,
+    depth: u8,
 ) -> Appended
     requires forests { AreForests bytes.now (start + data_words) pointers }
     requires inside { start + (data_words + pointers) ≤ word_count bytes.now }
@@ -306,6 +334,7 @@ fn fill_element(
         bytes,
         start + data_words,
         pointers,
+        depth,
     )?;
     Ok(())
 }

@@ -46,13 +46,15 @@ impl Arena {
         self.bytes.len() / 8
     }
 
-    /// Takes memory for so many bytes more at once, where there is as much. Until they are there the segment stays.
+    /// Takes memory for so many bytes more at once, as far as they are within the limit and there is as much. Until they
+    /// are there the segment stays.
     pub(crate) fn reserve(&mut self, more: usize)
         ensures same { segment self.new ≡ segment self.old }
         ensures limit { self.new.limit ≡ self.old.limit }
     {
+        let room = 8 * self.limit - self.bytes.len();
         // what can't be had now is asked for again when it is needed
-        let _ = self.bytes.reserve(more);
+        let _ = self.bytes.reserve(more.min(room));
     }
 
     /// Bytes, and zeros up to a whole word.
@@ -65,7 +67,7 @@ impl Arena {
         ensures kind { IfErr result (λ e. e.kind ≡ OutOfMemory) }
         ensures refused { OnErr result (segment self.new ≡ segment self.old) }
     {
-        if self.count_words() + bytes.len().div_ceil(8) > self.limit {
+        if !self.has_room(bytes.len().div_ceil(8)) {
             return Err(Error::from(ErrorKind::OutOfMemory));
         }
         append_whole(&mut self.bytes, bytes)?;
@@ -94,6 +96,9 @@ impl Arena {
         ensures kind { IfErr result (λ e. e.kind ≡ OutOfMemory) }
         ensures refused { OnErr result (segment self.new ≡ segment self.old) }
     {
+        if !self.has_room((count as usize + 63) / 64) {
+            return Err(Error::from(ErrorKind::OutOfMemory));
+        }
         let mut row = Vec::new(*self.bytes.allocator());
         append_bits(&mut row, bits, count)?;
         self.append_bytes(row.as_slice())?;

@@ -9,7 +9,6 @@ ghost use Rattle.capnp_arena.specs.Forest.{Forest, struct_from};
 ghost use Rattle.capnp_arena.specs.Shape.{StructIn, shape_at, word_count};
 
 use crate::arena::{Arena, Place};
-use crate::count::count_words;
 use crate::grown::{PartRow, encode_grown};
 use crate::look::Target;
 use crate::spell::make_struct_word;
@@ -31,7 +30,8 @@ impl Place {
     }
 }
 
-/// The encoding of the struct that a pointer leads to with at least a size.
+/// The encoding of the struct that a pointer leads to with at least a size, where there is room for the struct itself in
+/// so many words: what its pointers lead to stands in the segment, so no more words are taken than these.
 ///
 /// Refused with `OutOfMemory`.
 fn encode_larger(
@@ -40,25 +40,20 @@ fn encode_larger(
     at: usize,
     place: Place,
     size: StructSize,
+    limit: usize,
 ) -> Result<Vec<u8>>
     requires forest { Forest bytes.now at }
     requires there { shape_at bytes.now at ≡ StructIn place.start place.data_words place.pointers }
-    requires few { word_count bytes.now < 2 ^ 29 }
+    requires few { limit < 2 ^ 29 }
+    requires room { word_count bytes.now + (size.data_words + size.pointers) ≤ limit }
     requires larger { (place.data_words ≤ size.data_words) × (place.pointers ≤ size.pointers) }
     ensures content { IfOk result (λ v. v.items
         ≡ bytes_of (struct_tree (extended size (struct_from bytes.now place.start place.data_words place.pointers)))) }
     ensures held { IfOk result (λ _. IsElement size.data_words size.pointers
         (extended size (struct_from bytes.now place.start place.data_words place.pointers))) }
-    ensures words { IfOk result (λ v. (length v.items ≡ 8 * (length v.items / 8)) × (length v.items < 2 ^ 32)) }
+    ensures words { IfOk result (λ v. (length v.items ≡ 8 * (length v.items / 8)) × (length v.items ≤ 8 * limit)) }
     ensures kind { IfErr result (λ e. e.kind ≡ OutOfMemory) }
 {
-    let own = size.data_words as u64 + size.pointers as u64;
-    let Some(below) = count_words(bytes, at) else {
-        return Err(Error::from(ErrorKind::OutOfMemory));
-    };
-    if own + below >= 1 << 29 {
-        return Err(Error::from(ErrorKind::OutOfMemory));
-    }
     let row = PartRow {
         first_byte: 8 * place.start,
         data_count: 8 * place.data_words as usize,
@@ -96,8 +91,12 @@ impl Arena {
         ensures kind { IfErr result (λ e. e.kind ≡ OutOfMemory) }
         ensures refused { OnErr result (segment self.new ≡ segment self.old) }
     {
+        if !self.has_room(size.data_words as usize + size.pointers as usize) {
+            return Err(Error::from(ErrorKind::OutOfMemory));
+        }
         let alloc = *self.bytes.allocator();
-        let content = encode_larger(alloc, self.bytes.as_slice(), at, place, size)?;
+        let bytes = self.bytes.as_slice();
+        let content = encode_larger(alloc, bytes, at, place, size, self.limit)?;
         let end = self.bytes.len() / 8;
         let word = make_struct_word(
             (end - at - 1) as u64,

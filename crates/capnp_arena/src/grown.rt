@@ -13,6 +13,7 @@ ghost use Rattle.capnp_arena.specs.Shape.{word_count};
 use crate::append::{Appended, append_room, append_word};
 use crate::encode::fill_row;
 use crate::spell::{make_struct_word, put_bytes};
+use capnp_wire::pointer::MEMORY_DEPTH;
 use capnp_wire::size::StructSize;
 use std::alloc::{AllocError, Global};
 
@@ -66,6 +67,7 @@ fn fill_grown(
         bytes,
         row.first + index * row.pointer_step,
         row.pointers,
+        MEMORY_DEPTH - 1,
     )?;
     Ok(())
 }
@@ -102,7 +104,7 @@ fn fill_all_grown(
 
 /// The first of them with at least a size, and what its pointers lead to.
 ///
-/// Refused where memory is.
+/// Refused where memory is, and where it is deeper than a walk goes.
 pub(crate) fn encode_grown(
     alloc: Global,
     bytes: &[u8],
@@ -123,7 +125,7 @@ pub(crate) fn encode_grown(
 
 /// A list of so many of them with at least a size: its tag, the structs, and what their pointers lead to.
 ///
-/// Refused where memory is.
+/// Refused where memory is, and where it is deeper than a walk goes.
 pub(crate) fn encode_all_grown(
     alloc: Global,
     bytes: &[u8],

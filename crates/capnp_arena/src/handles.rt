@@ -5,8 +5,8 @@
 //! (`reborrow` and the calls named `_mut`) a caller knows that where it is taken apart, or passed on by value; where
 //! its calls of `&mut self` are to be known, let the message behind it hand one out, as
 //! `built.arena.pointer_field(place, 0)`.
-ghost use Rattle.std.specs.Prelude.{OnErr, OnOk, ◌*◌, ◌+◌, ◌≡◌, ◌≤◌};
-ghost use Rattle.capnp_wire.specs.Edits.{extended, struct_in, with_bytes, with_number};
+ghost use Rattle.std.specs.Prelude.{IfErr, OnErr, OnOk, ◌*◌, ◌+◌, ◌≡◌, ◌≤◌};
+ghost use Rattle.capnp_wire.specs.Edits.{IsStructRefusal, extended, struct_in, with_bytes, with_number};
 ghost use Rattle.capnp_wire.specs.Place.{struct_tree};
 ghost use Rattle.capnp_arena.specs.Forest.{Changes, Forest, tree};
 ghost use Rattle.capnp_arena.specs.Segment.{segment};
@@ -141,7 +141,9 @@ impl Arena {
     }
 }
 
-/// A caller: a struct, and a number in it.
+/// A caller: a struct of at least a size, and a number in it.
+///
+/// Refused as `get_struct`; then nothing has changed.
 pub fn get_and_set<T: PrimitiveElement>(
     arena: &mut Arena,
     at: usize,
@@ -157,6 +159,7 @@ pub fn get_and_set<T: PrimitiveElement>(
         (with_number T.width offset (T.to_number value)
         (extended size (struct_in (tree (segment arena.old) at))).bytes))) }
     ensures changes { OnOk result (Changes at (segment arena.old) (segment arena.new)) }
+    ensures cause { IfErr result (λ e. IsStructRefusal e (tree (segment arena.old) at)) }
     ensures refused { OnErr result (segment arena.new ≡ segment arena.old) }
 {
     let pointer = PointerBuilder { arena, at };

@@ -10,8 +10,10 @@ ghost use Rattle.capnp_arena.specs.InOrder.{AreLaid, IfKnown, IsLaid, IsRowLaid}
 ghost use Rattle.capnp_arena.specs.Shape.{word_count};
 
 use crate::append::{get_bits, get_part};
+use crate::count::get_list_depth;
 use crate::look::{Target, get_word};
 use crate::target::look;
+use capnp_wire::pointer::MEMORY_DEPTH;
 
 /// Whether bytes are those that hold so many bits.
 fn are_packed(bytes: &[u8], count: u32) -> bool
@@ -87,9 +89,10 @@ fn end_of_plain(bytes: &[u8], start: usize, element_size: u8, count: u32) -> Opt
     }
 }
 
-/// Where all ends that the pointer at a word leads to, if it starts at `end` and lies in order.
+/// Where all ends that the pointer at a word leads to, if it starts at `end`, lies in order and is less deep than
+/// `depth` levels.
 #[cycle(order)]
-fn follow(bytes: &[u8], w: usize, end: usize) -> Option<usize>
+fn follow(bytes: &[u8], w: usize, end: usize, depth: u8) -> Option<usize>
     requires forest { Forest bytes.now w }
     requires few { word_count bytes.now < 2 ^ 29 }
     requires inside { end ≤ word_count bytes.now }
@@ -102,6 +105,9 @@ fn follow(bytes: &[u8], w: usize, end: usize) -> Option<usize>
             data_words,
             pointers,
         } => {
+            if depth < 2 {
+                return None;
+            }
             let words = data_words as usize + pointers as usize;
             if words == 0 {
                 return Some(end);
@@ -110,7 +116,13 @@ fn follow(bytes: &[u8], w: usize, end: usize) -> Option<usize>
                 return None;
             }
             let row = start + data_words as usize;
-            follow_row(bytes, row, pointers as usize, row + pointers as usize)
+            follow_row(
+                bytes,
+                row,
+                pointers as usize,
+                row + pointers as usize,
+                depth - 1,
+            )
         }
         Target::List {
             start,
@@ -120,8 +132,18 @@ fn follow(bytes: &[u8], w: usize, end: usize) -> Option<usize>
             if start != end {
                 return None;
             }
+            let least = get_list_depth(element_size);
+            if depth < least {
+                return None;
+            }
             if element_size == 6 {
-                return follow_row(bytes, start, count as usize, start + count as usize);
+                return follow_row(
+                    bytes,
+                    start,
+                    count as usize,
+                    start + count as usize,
+                    depth - 1,
+                );
             }
             end_of_plain(bytes, start, element_size, count)
         }
@@ -132,6 +154,9 @@ fn follow(bytes: &[u8], w: usize, end: usize) -> Option<usize>
             pointers,
         } => {
             if tag != end {
+                return None;
+            }
+            if depth < 2 {
                 return None;
             }
             let size = data_words as usize + pointers as usize;
@@ -146,6 +171,7 @@ fn follow(bytes: &[u8], w: usize, end: usize) -> Option<usize>
                 data_words as usize,
                 pointers as usize,
                 last,
+                depth - 2,
             )
         }
     }
@@ -154,7 +180,7 @@ fn follow(bytes: &[u8], w: usize, end: usize) -> Option<usize>
 /// The same, in line where no pointers are behind the target.
 #[cycle(order)]
 #[inline(always)]
-fn follow_at(bytes: &[u8], w: usize, end: usize) -> Option<usize>
+fn follow_at(bytes: &[u8], w: usize, end: usize, depth: u8) -> Option<usize>
     requires forest { Forest bytes.now w }
     requires few { word_count bytes.now < 2 ^ 29 }
     requires inside { end ≤ word_count bytes.now }
@@ -171,18 +197,22 @@ fn follow_at(bytes: &[u8], w: usize, end: usize) -> Option<usize>
                 return None;
             }
             if element_size == 6 {
-                return follow(bytes, w, end);
+                return follow(bytes, w, end, depth);
+            }
+            let least = get_list_depth(element_size);
+            if depth < least {
+                return None;
             }
             end_of_plain(bytes, start, element_size, count)
         }
-        _ => follow(bytes, w, end),
+        _ => follow(bytes, w, end, depth),
     }
 }
 
 /// The same of so many pointers in a row.
 #[cycle(order)]
 #[inline(always)]
-fn follow_row(bytes: &[u8], first: usize, count: usize, end: usize) -> Option<usize>
+fn follow_row(bytes: &[u8], first: usize, count: usize, end: usize, depth: u8) -> Option<usize>
     requires forests { AreForests bytes.now first count }
     requires few { word_count bytes.now < 2 ^ 29 }
     requires before { first + count ≤ end }
@@ -191,7 +221,7 @@ fn follow_row(bytes: &[u8], first: usize, count: usize, end: usize) -> Option<us
 {
     let mut next = end;
     for i in 0..count {
-        next = follow_at(bytes, first + i, next)?;
+        next = follow_at(bytes, first + i, next, depth)?;
     }
     Some(next)
 }
@@ -205,6 +235,7 @@ fn follow_elements(
     data_words: usize,
     pointers: usize,
     end: usize,
+    depth: u8,
 ) -> Option<usize>
     requires forests { AreElementForests bytes.now start count data_words pointers }
     requires few { word_count bytes.now < 2 ^ 29 }
@@ -220,6 +251,7 @@ fn follow_elements(
             start + i * (data_words + pointers) + data_words,
             pointers,
             next,
+            depth,
         )?;
     }
     Some(next)
@@ -232,7 +264,7 @@ pub(crate) fn is_in_order(bytes: &[u8]) -> bool
     requires whole { length bytes.now ≡ 8 * word_count bytes.now }
     ensures { IsTrue result → bytes.now ≡ encoding_of (tree bytes.now 0) }
 {
-    match follow(bytes, 0, 1) {
+    match follow(bytes, 0, 1, MEMORY_DEPTH) {
         Some(next) => next == bytes.len() / 8,
         None => false,
     }

@@ -21,9 +21,9 @@ pub struct ListBuilder<'a> {
 }
 
 impl<'a> ListBuilder<'a> {
-    ghost use Rattle.std.specs.Prelude.{[], List, ℕ, ◌+◌, ◌==◌, ◌∷◌, ◌<◌, ◌≡◌, ◌^◌};
+    ghost use Rattle.std.specs.Prelude.{[], List, ℕ, ◌+◌, ◌==◌, ◌∷◌, ◌<◌, ◌≡◌, ◌^◌, length};
     ghost use Rattle.std.specs.Borrow.{sem};
-    ghost use Rattle.capnp_wire.specs.Depth.{IsBelow};
+    ghost use Rattle.capnp_wire.specs.Depth.{IsBelow, memory_depth};
     ghost use Rattle.capnp_wire.specs.ElementSizes.{element_size_of};
     ghost use Rattle.capnp_wire.specs.Elements.{HasBit, HasNumber, HasPointer, HasStruct, with_bit_element, with_number_element, with_pointer_element, with_struct_element};
     ghost use Rattle.capnp_wire.specs.Place.{tree_below};
@@ -50,16 +50,16 @@ impl<'a> ListBuilder<'a> {
         ListBuilder { arena, at, list }
     }
 
-    /// A reader of the list, with 64 levels. What it leads to is cut off past 65,534 levels, which only walks of a
+    /// A reader of the list, with 64 levels. What it leads to is cut off past 129 levels, which only walks of a
     /// whole tree can see.
     #[inline(always)]
     pub fn as_reader(&self) -> ListReader<'_>
         requires forest { Forest (segment self.now.arena.now) self.now.at }
         requires there { shape_at (segment self.now.arena.now) self.now.at ≡ list_shape self.now.list }
         ensures read { list_of result ≡ listed_tree
-            (tree_below 65535 (segment self.now.arena.now ∷ [])
+            (tree_below memory_depth (segment self.now.arena.now ∷ [])
             (segment self.now.arena.now) self.now.at) self.now.list }
-        ensures list { IsBelow 65535 (list_tree self.now)
+        ensures list { IsBelow memory_depth (list_tree self.now)
             → list_of result ≡ listed_tree (list_tree self.now) self.now.list }
         ensures levels { list_levels result ≡ 64 }
     {
@@ -73,9 +73,9 @@ impl<'a> ListBuilder<'a> {
         requires forest { Forest (segment self.arena.now) self.at }
         requires there { shape_at (segment self.arena.now) self.at ≡ list_shape self.list }
         ensures read { list_of result ≡ listed_tree
-            (tree_below 65535 (segment self.entry.arena.now ∷ [])
+            (tree_below memory_depth (segment self.entry.arena.now ∷ [])
             (segment self.entry.arena.now) self.entry.at) self.entry.list }
-        ensures list { IsBelow 65535 (list_tree self.entry)
+        ensures list { IsBelow memory_depth (list_tree self.entry)
             → list_of result ≡ listed_tree (list_tree self.entry) self.entry.list }
         ensures levels { list_levels result ≡ 64 }
     {
@@ -124,7 +124,7 @@ impl<'a> ListBuilder<'a> {
         self.arena.get_bool_element(self.at, self.list, index)
     }
 
-    /// Stores the bit at `index`. There has to be a bit at `index`.
+    /// Stores the bit at `index`. There has to be a bit at `index`. No memory is taken.
     #[inline(always)]
     pub fn set_bool_element(&mut self, index: u32, value: bool)
         requires forest { Forest (segment self.old.arena.now) self.old.at }
@@ -134,6 +134,7 @@ impl<'a> ListBuilder<'a> {
         ensures list { self.new.list ≡ self.old.list }
         ensures leaves { Leaves self.old.at (with_bit_element index value (list_tree self.old))
             (segment self.old.arena.now) (segment self.new.arena.now) }
+        ensures long { length (segment self.new.arena.now) ≡ length (segment self.old.arena.now) }
     {
         self.arena.set_bool_element(self.at, index, value);
     }
@@ -149,6 +150,7 @@ impl<'a> ListBuilder<'a> {
     }
 
     /// Stores the number at `index`: in a struct, at its start. There has to be a number of that width at `index`.
+    /// No memory is taken.
     #[inline(always)]
     pub fn set_data_element<T: PrimitiveElement>(&mut self, index: u32, value: T)
         requires forest { Forest (segment self.old.arena.now) self.old.at }
@@ -158,6 +160,7 @@ impl<'a> ListBuilder<'a> {
         ensures list { self.new.list ≡ self.old.list }
         ensures leaves { Leaves self.old.at (with_number_element T.width index (T.to_number value)
             (list_tree self.old)) (segment self.old.arena.now) (segment self.new.arena.now) }
+        ensures long { length (segment self.new.arena.now) ≡ length (segment self.old.arena.now) }
     {
         self.arena.set_data_element(self.at, index, value);
     }

@@ -42,7 +42,7 @@ pub fn get_width(size: ElementSize) -> usize
 }
 
 impl Arena {
-    ghost use Rattle.std.specs.Prelude.{◌*◌, ◌<◌};
+    ghost use Rattle.std.specs.Prelude.{length, ◌*◌, ◌<◌};
     ghost use Rattle.capnp_wire.specs.Edits.{with_bit, with_bytes};
     ghost use Rattle.capnp_wire.specs.Elements.{with_bit_element, with_number_element};
     ghost use Rattle.capnp_arena.specs.Forest.{Changes, Forest, PartChanges, Planted, struct_from, tree};
@@ -50,7 +50,7 @@ impl Arena {
     ghost use Rattle.capnp_arena.specs.Segment.{segment};
     ghost use Rattle.capnp_arena.specs.Shape.{ListIn, StructIn, shape_at};
 
-    /// Stores a bit in the data of a struct, at an offset in bits.
+    /// Stores a bit in the data of a struct, at an offset in bits. No memory is taken.
     pub fn set_bool(&mut self, place: Place, offset: u32, value: bool)
         requires planted { Planted (segment self.old) (StructIn place.start place.data_words place.pointers) }
         requires inside { offset < 64 * place.data_words }
@@ -60,6 +60,7 @@ impl Arena {
         ensures tree { struct_from (segment self.new) place.start place.data_words place.pointers ≡
             with_bytes (struct_from (segment self.old) place.start place.data_words place.pointers)
             (with_bit offset value (struct_from (segment self.old) place.start place.data_words place.pointers).bytes) }
+        ensures long { length (segment self.new) ≡ length (segment self.old) }
     {
         write_bit(
             &mut self.bytes,
@@ -70,7 +71,7 @@ impl Arena {
         );
     }
 
-    /// Stores a number in the list that the pointer at a word leads to.
+    /// Stores a number in the list that the pointer at a word leads to. No memory is taken.
     pub fn set_list_number<T: PrimitiveElement>(
         &mut self,
         at: usize,
@@ -87,6 +88,7 @@ impl Arena {
         ensures tree { tree (segment self.new) at
             ≡ with_number_element T.width index (T.to_number value) (tree (segment self.old) at) }
         ensures changes { Changes at (segment self.old) (segment self.new) }
+        ensures long { length (segment self.new) ≡ length (segment self.old) }
     {
         write_number(
             &mut self.bytes,

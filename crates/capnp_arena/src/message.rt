@@ -13,7 +13,7 @@ use crate::count::count_words;
 use crate::in_order::is_in_order;
 use crate::spell::put_half;
 use capnp_device::device::Sink;
-use capnp_device::error::Result;
+use capnp_device::error::{Error, ErrorKind, Result};
 use capnp_device::transfer::write_all;
 
 /// The table of one segment, its root pointer, and what that leads to, made from the tree.
@@ -81,7 +81,8 @@ pub type Builder = Arena;
 impl Arena {
     ghost use Rattle.std.specs.Prelude.{IfErr, IsOk, OnOk, ◌≢◌};
     ghost use Rattle.capnp_device.specs.Device.{HasFailed, HasWorked};
-    ghost use Rattle.capnp_device.specs.declared.error.ErrorKind.TheVariants.{OutOfMemory, TooLarge, WriteFailed};
+    ghost use Rattle.capnp_device.specs.declared.error.ErrorKind.TheVariants.{OutOfMemory, WriteFailed};
+    ghost use Rattle.capnp_wire.specs.Depth.{IsBelow, memory_depth};
     ghost use Rattle.capnp_wire.specs.Message.{IsCutShort, IsReadAs, IsWritten};
     ghost use Rattle.capnp_arena.specs.Message.{IsMessage, message_tree};
     ghost use Rattle.capnp_arena.specs.Segment.{segment};
@@ -89,15 +90,17 @@ impl Arena {
     /// The words of the message's segment as it is written: one for the root pointer, and those of each object that it
     /// leads to, the tag of a composite list with them. Takes no memory.
     ///
-    /// Never refused: no message in memory has 2^29 words.
+    /// Refused with `OutOfMemory` exactly where the message has more than 129 levels.
     pub fn size_in_words(&self) -> Result<u64>
         requires message { IsMessage self.now }
         ensures words { IfOk result (λ words. words ≡ suc (words_of (message_tree self.now))) }
         ensures fits { suc (words_of (message_tree self.now)) < 2 ^ 29 }
-        ensures succeeds { IsOk result }
+        ensures succeeds { IsBelow memory_depth (message_tree self.now) → IsOk result }
+        ensures cause { IfErr result (λ e. (e.kind ≡ OutOfMemory)
+            × (IsBelow memory_depth (message_tree self.now) → ⊥)) }
     {
         let Some(words) = count_words(self.bytes.as_slice(), 0) else {
-            unreachable!()
+            return Err(Error::from(ErrorKind::OutOfMemory));
         };
         Ok(words + 1)
     }
@@ -105,16 +108,14 @@ impl Arena {
     /// The bytes of the message in a stream: one segment, with what the root leads to and nothing else. The message
     /// takes its memory once.
     ///
-    /// Refused with `OutOfMemory`: no message in memory has 2^29 words.
+    /// Refused with `OutOfMemory`, also where the message has more than 129 levels. None in memory has 2^29 words.
     pub fn write_message(&self) -> Result<Vec<u8>>
         requires forest { Forest (segment self.now) 0 }
         ensures bytes { IfOk result (λ v. v.items ≡ message_of (tree (segment self.now) 0)) }
         ensures held { IfOk result (λ _. IsWellFormed (tree (segment self.now) 0)
             × (suc (words_of (tree (segment self.now) 0)) < 2 ^ 29)) }
         ensures read { IfOk result (λ v. IsReadAs (tree (segment self.now) 0) v.items) }
-        ensures kinds { IfErr result (λ e. e.kind ≢ TooLarge → e.kind ≡ OutOfMemory) }
         ensures kind { IfErr result (λ e. e.kind ≡ OutOfMemory) }
-        ensures refused { IfErr result (λ e. e.kind ≡ TooLarge → 2 ^ 29 ≤ suc (words_of (tree (segment self.now) 0))) }
         ensures fits { suc (words_of (tree (segment self.now) 0)) < 2 ^ 29 }
     {
         let bytes = self.bytes.as_slice();
@@ -135,10 +136,8 @@ impl Arena {
         ensures held { OnOk result (IsWellFormed (message_tree self.now)
             × (suc (words_of (message_tree self.now)) < 2 ^ 29)) }
         ensures read { OnOk result (IsReadAs (message_tree self.now) (message_of (message_tree self.now))) }
-        ensures kinds { IfErr result (λ e. e.kind ≢ TooLarge → e.kind ≢ OutOfMemory → e.kind ≡ WriteFailed) }
         ensures kind { IfErr result (λ e. e.kind ≢ OutOfMemory → e.kind ≡ WriteFailed) }
-        ensures refused { IfErr result (λ e. e.kind ≡ TooLarge → 2 ^ 29 ≤ suc (words_of (message_tree self.now))) }
-        ensures fits { IfErr result (λ e. e.kind ≢ TooLarge → IsWellFormed (message_tree self.now)
+        ensures fits { IfErr result (λ _. IsWellFormed (message_tree self.now)
             × (suc (words_of (message_tree self.now)) < 2 ^ 29)) }
         ensures nothing { IfErr result (λ e. e.kind ≢ WriteFailed → sink.new ≡ sink.old) }
         ensures failed { IfErr result (λ e. e.kind ≡ WriteFailed

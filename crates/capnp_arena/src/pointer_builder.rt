@@ -24,7 +24,7 @@ impl<'a> PointerBuilder<'a> {
     ghost use Rattle.std.specs.Prelude.{[], Err, None, Ok, false, IfErr, IfOk, IsOk, OnErr, OnOk, ◌*◌, ◌+◌, ◌++◌, ◌∷◌, ◌≡◌, ◌≢◌, ◌<◌, ◌≤◌, ◌^◌, ◌⊎◌, length};
     ghost use Rattle.std.specs.Borrow.{sem};
     ghost use Rattle.capnp_device.specs.declared.error.ErrorKind.TheVariants.{OutOfMemory};
-    ghost use Rattle.capnp_wire.specs.Depth.{IsBelow};
+    ghost use Rattle.capnp_wire.specs.Depth.{IsBelow, memory_depth};
     ghost use Rattle.capnp_wire.specs.Defaults.{default_tree, filled_list_refusal, filled_struct, filled_struct_refusal, filled_structs, filled_structs_refusal, or_default, takes_default};
     ghost use Rattle.capnp_wire.specs.Edits.{HoldsStruct, IsCopyRefusal, IsDueRefusal, IsRoomRefusal, IsStructRefusal, extended, is_struct, rounded, struct_in, struct_refusal, zero_list, zero_struct, zero_structs};
     ghost use Rattle.capnp_wire.specs.Elements.{or_empty};
@@ -52,14 +52,14 @@ impl<'a> PointerBuilder<'a> {
         PointerBuilder { arena, at }
     }
 
-    /// A reader of the pointer, with 64 levels. Its tree is cut off past 65,534 levels, which only walks of a whole
+    /// A reader of the pointer, with 64 levels. Its tree is cut off past 129 levels, which only walks of a whole
     /// tree can see.
     #[inline(always)]
     pub fn as_reader(&self) -> PointerReader<'_>
         requires forest { IsPointer self.now }
-        ensures read { tree_of result ≡ tree_below 65535 (segment self.now.arena.now ∷ [])
+        ensures read { tree_of result ≡ tree_below memory_depth (segment self.now.arena.now ∷ [])
             (segment self.now.arena.now) self.now.at }
-        ensures tree { IsBelow 65535 (pointer_tree self.now) → tree_of result ≡ pointer_tree self.now }
+        ensures tree { IsBelow memory_depth (pointer_tree self.now) → tree_of result ≡ pointer_tree self.now }
         ensures levels { levels_of result ≡ 64 }
     {
         self.arena.get_pointer_reader(self.at)
@@ -70,9 +70,9 @@ impl<'a> PointerBuilder<'a> {
     #[inline(always)]
     pub fn into_reader(self) -> PointerReader<'a>
         requires forest { IsPointer self }
-        ensures read { tree_of result ≡ tree_below 65535 (segment self.entry.arena.now ∷ [])
+        ensures read { tree_of result ≡ tree_below memory_depth (segment self.entry.arena.now ∷ [])
             (segment self.entry.arena.now) self.entry.at }
-        ensures tree { IsBelow 65535 (pointer_tree self.entry) → tree_of result ≡ pointer_tree self.entry }
+        ensures tree { IsBelow memory_depth (pointer_tree self.entry) → tree_of result ≡ pointer_tree self.entry }
         ensures levels { levels_of result ≡ 64 }
     {
         let PointerBuilder { arena, at } = self;
@@ -115,6 +115,7 @@ impl<'a> PointerBuilder<'a> {
         ensures forest { IsPointer self.new }
         ensures tree { pointer_tree self.new ≡ Null }
         ensures changes { Changes self.old.at (segment self.old.arena.now) (segment self.new.arena.now) }
+        ensures long { length (segment self.new.arena.now) ≡ length (segment self.old.arena.now) }
     {
         self.arena.clear(self.at);
     }
@@ -141,6 +142,8 @@ impl<'a> PointerBuilder<'a> {
         ensures within { OnOk result (struct_refusal (pointer_tree self.entry) ≡ None) }
         ensures cause { IfErr result (λ e. IsStructRefusal e (tree (segment self.entry.arena.now) self.entry.at)) }
         ensures succeeds { HoldsStruct size (pointer_tree self.entry) → IsOk result }
+        ensures stays { HoldsStruct size (pointer_tree self.entry)
+            → IfOk result (λ s. segment s.arena.now ≡ segment self.entry.arena.now) }
     {
         let PointerBuilder { arena, at } = self;
         let place = arena.get_struct(at, size)?;
@@ -193,6 +196,8 @@ impl<'a> PointerBuilder<'a> {
         ensures within { OnOk result (struct_list_refusal size (pointer_tree self.entry) ≡ None) }
         ensures cause { IfErr result (λ e. IsDueRefusal e (struct_list_refusal size (pointer_tree self.entry))) }
         ensures succeeds { HoldsStructs size (pointer_tree self.entry) → IsOk result }
+        ensures stays { HoldsStructs size (pointer_tree self.entry)
+            → IfOk result (λ l. segment l.arena.now ≡ segment self.entry.arena.now) }
     {
         let PointerBuilder { arena, at } = self;
         let list = arena.get_struct_list(at, size)?;
@@ -308,6 +313,8 @@ impl<'a> PointerBuilder<'a> {
         ensures cause { IfErr result (λ e. IsDueRefusal e
             (filled_struct_refusal (default_tree default.entry) (pointer_tree self.entry))) }
         ensures succeeds { HoldsStruct size (pointer_tree self.entry) → IsOk result }
+        ensures stays { HoldsStruct size (pointer_tree self.entry)
+            → IfOk result (λ s. segment s.arena.now ≡ segment self.entry.arena.now) }
     {
         let PointerBuilder { arena, at } = self;
         let place = arena.get_struct_or_default(at, size, default)?;
@@ -346,6 +353,8 @@ impl<'a> PointerBuilder<'a> {
             (filled_list_refusal (default_tree default.entry) size (pointer_tree self.entry))) }
         ensures succeeds { takes_default (default_tree default.entry) (pointer_tree self.entry) ≡ false →
             filled_list_refusal (default_tree default.entry) size (pointer_tree self.entry) ≡ None → IsOk result }
+        ensures stays { takes_default (default_tree default.entry) (pointer_tree self.entry) ≡ false
+            → IfOk result (λ l. segment l.arena.now ≡ segment self.entry.arena.now) }
     {
         let PointerBuilder { arena, at } = self;
         let list = arena.get_list_or_default(at, size, default)?;
@@ -386,6 +395,9 @@ impl<'a> PointerBuilder<'a> {
             (filled_structs_refusal (default_tree default.entry) size (pointer_tree self.entry))) }
         ensures succeeds { takes_default (default_tree default.entry) (pointer_tree self.entry) ≡ false
             → HoldsStructs size (pointer_tree self.entry) → IsOk result }
+        ensures stays { takes_default (default_tree default.entry) (pointer_tree self.entry) ≡ false
+            → HoldsStructs size (pointer_tree self.entry)
+            → IfOk result (λ l. segment l.arena.now ≡ segment self.entry.arena.now) }
     {
         let PointerBuilder { arena, at } = self;
         let list = arena.get_struct_list_or_default(at, size, default)?;

@@ -8,7 +8,7 @@ ghost use Rattle.capnp_arena.specs.Shape.{word_count};
 use crate::arena::{Arena, Place};
 use crate::list_reads::ListTarget;
 use capnp_wire::laws::pointer_is_well_formed;
-use capnp_wire::pointer::look;
+use capnp_wire::pointer::{MEMORY_DEPTH, ROOT_LEVELS, look};
 use capnp_wire::size::StructSize;
 use capnp_wire::{ListReader, PointerReader, StructReader};
 
@@ -22,8 +22,8 @@ fn words_are_well_formed(_words: &[u8])
 impl Arena {
     ghost use Rattle.std.specs.Prelude.{None, [], ◌∷◌, ◌≡◌};
     ghost use Rattle.capnp_wire.specs.Words.{first_fault, first_fault_of_all};
-    ghost use Rattle.capnp_wire.specs.Depth.{AreBelow, IsBelow};
-    ghost use Rattle.capnp_wire.specs.Place.{struct_at, tree_below};
+    ghost use Rattle.capnp_wire.specs.Depth.{AreBelow, IsBelow, memory_depth};
+    ghost use Rattle.capnp_wire.specs.Place.{struct_at, tree_at, tree_below};
     ghost use Rattle.capnp_wire.specs.Reading.{as_data, as_text};
     ghost use Rattle.std.specs.Borrow.{sem};
     ghost use Rattle.capnp_wire.specs.Standing.{levels_of, list_levels, list_of, struct_levels, struct_of, tree_of};
@@ -34,34 +34,35 @@ impl Arena {
     ghost use Rattle.capnp_arena.specs.Segment.{segment};
     ghost use Rattle.capnp_arena.specs.Shape.{StructIn, shape_at};
 
-    /// A reader of the pointer at a word, with 64 levels. Its tree is cut off past 65,534 levels, which only walks of a
+    /// A reader of the pointer at a word, with 64 levels. Its tree is cut off past 129 levels, which only walks of a
     /// whole tree can see.
     pub fn get_pointer_reader(&self, at: usize) -> PointerReader<'_>
         requires forest { Forest (segment self.now) at }
-        ensures read { tree_of result ≡ tree_below 65535 (segment self.now ∷ []) (segment self.now) at }
+        ensures read { tree_of result ≡ tree_below memory_depth (segment self.now ∷ []) (segment self.now) at }
         ensures cut { IsCutOf (tree_of result) (tree (segment self.now) at) }
-        ensures tree { IsBelow 65535 (tree (segment self.now) at) → tree_of result ≡ tree (segment self.now) at }
+        ensures tree { IsBelow memory_depth (tree (segment self.now) at) → tree_of result ≡ tree (segment self.now) at }
         ensures levels { levels_of result ≡ 64 }
     {
-        PointerReader::of_word(self.bytes.as_slice(), at, u16::MAX, 64)
+        PointerReader::of_word(self.bytes.as_slice(), at, MEMORY_DEPTH, 64)
     }
 
-    /// A reader of whatever stands at a word, whether or not that is a tree, with 64 levels: of a text and of data it
-    /// has the bytes.
+    /// A reader of whatever stands at a word, whether or not that is a tree, with 64 levels, as of what is received: of
+    /// a text and of data it has the bytes.
     pub fn peek(&self, at: usize) -> PointerReader<'_>
-        ensures read { tree_of result ≡ tree_below 65535 (segment self.now ∷ []) (segment self.now) at }
+        ensures read { tree_of result ≡ tree_at 64 (segment self.now ∷ []) (segment self.now) at }
         ensures text { Forest (segment self.now) at → as_text (tree_of result) ≡ as_text (tree (segment self.now) at) }
         ensures data { Forest (segment self.now) at → as_data (tree_of result) ≡ as_data (tree (segment self.now) at) }
+        ensures levels { levels_of result ≡ 64 }
     {
-        PointerReader::of_word(self.bytes.as_slice(), at, u16::MAX, 64)
+        PointerReader::of_word(self.bytes.as_slice(), at, ROOT_LEVELS + 1, ROOT_LEVELS)
     }
 
     /// The same for as long as the message is lent, which stays as it is.
     pub fn into_pointer_reader(&mut self, at: usize) -> PointerReader<'_>
         requires forest { Forest (segment self.old) at }
         ensures* ends { sem 𝓛 (EndsUnchanged self.entry) }
-        ensures read { tree_of result ≡ tree_below 65535 (segment self.old ∷ []) (segment self.old) at }
-        ensures tree { IsBelow 65535 (tree (segment self.old) at) → tree_of result ≡ tree (segment self.old) at }
+        ensures read { tree_of result ≡ tree_below memory_depth (segment self.old ∷ []) (segment self.old) at }
+        ensures tree { IsBelow memory_depth (tree (segment self.old) at) → tree_of result ≡ tree (segment self.old) at }
         ensures levels { levels_of result ≡ 64 }
     {
         self.get_pointer_reader(at)
@@ -70,11 +71,11 @@ impl Arena {
     /// A reader of a struct, with 64 levels. What its pointers lead to is cut off as by `get_pointer_reader`.
     pub fn get_struct_reader(&self, place: Place) -> StructReader<'_>
         requires planted { Planted (segment self.now) (StructIn place.start place.data_words place.pointers) }
-        ensures read { struct_of result ≡ struct_at (tree_below 65535 (segment self.now ∷ []) (segment self.now))
+        ensures read { struct_of result ≡ struct_at (tree_below memory_depth (segment self.now ∷ []) (segment self.now))
             (segment self.now) place.data_words place.pointers place.start }
         ensures cut { IsStructCutOf (struct_of result)
             (struct_from (segment self.now) place.start place.data_words place.pointers) }
-        ensures parts { AreBelow 65535 (struct_from
+        ensures parts { AreBelow memory_depth (struct_from
             (segment self.now) place.start place.data_words place.pointers).pointers
             → struct_of result ≡ struct_from (segment self.now) place.start place.data_words place.pointers }
         ensures levels { struct_levels result ≡ 64 }
@@ -83,16 +84,16 @@ impl Arena {
             data_words: place.data_words,
             pointers: place.pointers,
         };
-        StructReader::of_words(self.bytes.as_slice(), place.start, size, u16::MAX, 64)
+        StructReader::of_words(self.bytes.as_slice(), place.start, size, MEMORY_DEPTH, 64)
     }
 
     /// The same for as long as the message is lent, which stays as it is.
     pub fn into_struct_reader(&mut self, place: Place) -> StructReader<'_>
         requires planted { Planted (segment self.old) (StructIn place.start place.data_words place.pointers) }
         ensures* ends { sem 𝓛 (EndsUnchanged self.entry) }
-        ensures read { struct_of result ≡ struct_at (tree_below 65535 (segment self.old ∷ []) (segment self.old))
+        ensures read { struct_of result ≡ struct_at (tree_below memory_depth (segment self.old ∷ []) (segment self.old))
             (segment self.old) place.data_words place.pointers place.start }
-        ensures parts { AreBelow 65535 (struct_from
+        ensures parts { AreBelow memory_depth (struct_from
             (segment self.old) place.start place.data_words place.pointers).pointers
             → struct_of result ≡ struct_from (segment self.old) place.start place.data_words place.pointers }
         ensures levels { struct_levels result ≡ 64 }
@@ -106,13 +107,13 @@ impl Arena {
         requires forest { Forest (segment self.now) at }
         requires there { shape_at (segment self.now) at ≡ list_shape list }
         ensures read { list_of result ≡ listed_tree
-            (tree_below 65535 (segment self.now ∷ []) (segment self.now) at) list }
-        ensures list { IsBelow 65535 (tree (segment self.now) at)
+            (tree_below memory_depth (segment self.now ∷ []) (segment self.now) at) list }
+        ensures list { IsBelow memory_depth (tree (segment self.now) at)
             → list_of result ≡ listed_tree (tree (segment self.now) at) list }
         ensures levels { list_levels result ≡ 64 }
     {
         let size = self.get_element_size(at, list);
-        let reader = PointerReader::of_word(self.bytes.as_slice(), at, u16::MAX, 65);
+        let reader = PointerReader::of_word(self.bytes.as_slice(), at, MEMORY_DEPTH, 65);
         let Ok(list) = reader.get_list(size) else {
             unreachable!()
         };
@@ -125,8 +126,8 @@ impl Arena {
         requires there { shape_at (segment self.old) at ≡ list_shape list }
         ensures* ends { sem 𝓛 (EndsUnchanged self.entry) }
         ensures read { list_of result ≡ listed_tree
-            (tree_below 65535 (segment self.old ∷ []) (segment self.old) at) list }
-        ensures list { IsBelow 65535 (tree (segment self.old) at)
+            (tree_below memory_depth (segment self.old ∷ []) (segment self.old) at) list }
+        ensures list { IsBelow memory_depth (tree (segment self.old) at)
             → list_of result ≡ listed_tree (tree (segment self.old) at) list }
         ensures levels { list_levels result ≡ 64 }
     {
@@ -168,8 +169,8 @@ impl Arena {
     /// A reader of the root pointer, as `get_pointer_reader`.
     pub fn as_reader(&self) -> PointerReader<'_>
         requires forest { Forest (segment self.now) 0 }
-        ensures read { tree_of result ≡ tree_below 65535 (segment self.now ∷ []) (segment self.now) 0 }
-        ensures tree { IsBelow 65535 (tree (segment self.now) 0) → tree_of result ≡ tree (segment self.now) 0 }
+        ensures read { tree_of result ≡ tree_below memory_depth (segment self.now ∷ []) (segment self.now) 0 }
+        ensures tree { IsBelow memory_depth (tree (segment self.now) 0) → tree_of result ≡ tree (segment self.now) 0 }
         ensures levels { levels_of result ≡ 64 }
     {
         self.get_pointer_reader(0)

@@ -2,11 +2,14 @@
 
 use crate::arena::{Arena, Place};
 use crate::count::{count_row, count_words};
-use capnp_device::error::Result;
+use capnp_device::error::{Error, ErrorKind, Result};
+use capnp_wire::pointer::MEMORY_DEPTH;
 use capnp_wire::size::MessageSize;
 
 impl Arena {
-    ghost use Rattle.std.specs.Prelude.{IfOk, IsOk, None};
+    ghost use Rattle.std.specs.Prelude.{IfErr, IfOk, IsOk, None, ◌≡◌};
+    ghost use Rattle.capnp_device.specs.declared.error.ErrorKind.TheVariants.{OutOfMemory};
+    ghost use Rattle.capnp_wire.specs.Depth.{AreBelow, IsBelow, memory_depth};
     ghost use Rattle.capnp_wire.specs.Total.{IsSize};
     ghost use Rattle.capnp_wire.specs.Words.{words_of, words_of_struct};
     ghost use Rattle.capnp_arena.specs.Forest.{Forest, Planted, struct_from, tree};
@@ -16,17 +19,25 @@ impl Arena {
     /// The size of a struct with all that its pointers lead to: its data and its pointers, and the targets, the tag of
     /// a composite list with them. There are no capabilities. Takes no memory.
     ///
-    /// Never refused: no message in memory has 2^29 words.
+    /// Refused with `OutOfMemory` exactly where one of its pointers leads more than 129 levels down.
     pub fn total_size(&self, place: Place) -> Result<MessageSize>
         requires planted { Planted (segment self.now) (StructIn place.start place.data_words place.pointers) }
         ensures size { IfOk result (λ size. IsSize size None
             (words_of_struct (struct_from (segment self.now) place.start place.data_words place.pointers))) }
-        ensures succeeds { IsOk result }
+        ensures succeeds { AreBelow memory_depth
+            (struct_from (segment self.now) place.start place.data_words place.pointers).pointers → IsOk result }
+        ensures cause { IfErr result (λ e. (e.kind ≡ OutOfMemory) × (AreBelow memory_depth
+            (struct_from (segment self.now) place.start place.data_words place.pointers).pointers → ⊥)) }
     {
         let own = place.data_words as u64 + place.pointers as u64;
         let first = place.start + place.data_words as usize;
-        let Some(below) = count_row(self.bytes.as_slice(), first, place.pointers as usize) else {
-            unreachable!()
+        let Some(below) = count_row(
+            self.bytes.as_slice(),
+            first,
+            place.pointers as usize,
+            MEMORY_DEPTH,
+        ) else {
+            return Err(Error::from(ErrorKind::OutOfMemory));
         };
         Ok(MessageSize {
             word_count: own + below,
@@ -35,14 +46,16 @@ impl Arena {
     }
 
     /// The size of all that the pointer at a word leads to, without the pointer itself: 0 words for a null. It counts
-    /// and succeeds as `total_size`.
+    /// and is refused as `total_size`.
     pub fn target_size(&self, at: usize) -> Result<MessageSize>
         requires forest { Forest (segment self.now) at }
         ensures size { IfOk result (λ size. IsSize size None (words_of (tree (segment self.now) at))) }
-        ensures succeeds { IsOk result }
+        ensures succeeds { IsBelow memory_depth (tree (segment self.now) at) → IsOk result }
+        ensures cause { IfErr result (λ e. (e.kind ≡ OutOfMemory)
+            × (IsBelow memory_depth (tree (segment self.now) at) → ⊥)) }
     {
         let Some(words) = count_words(self.bytes.as_slice(), at) else {
-            unreachable!()
+            return Err(Error::from(ErrorKind::OutOfMemory));
         };
         Ok(MessageSize {
             word_count: words,

@@ -17,7 +17,8 @@ pub struct StructBuilder<'a> {
 impl<'a> StructBuilder<'a> {
     ghost use Rattle.std.specs.Prelude.{[], List, None, ℕ, IfErr, IfOk, IsOk, OnErr, OnOk, bit_xor, length, ◌*◌, ◌+◌, ◌/◌, ◌∷◌, ◌<◌, ◌≡◌, ◌≤◌, ◌^◌};
     ghost use Rattle.std.specs.Borrow.{sem};
-    ghost use Rattle.capnp_wire.specs.Depth.{AreBelow, IsBelow};
+    ghost use Rattle.capnp_device.specs.declared.error.ErrorKind.TheVariants.{OutOfMemory};
+    ghost use Rattle.capnp_wire.specs.Depth.{AreBelow, IsBelow, memory_depth};
     ghost use Rattle.capnp_wire.specs.Edits.{IsCopyRefusal, fitted, with_bit, with_bytes, with_number};
     ghost use Rattle.capnp_wire.specs.Place.{struct_at, tree_below};
     ghost use Rattle.capnp_wire.specs.Slot.{bit_at, masked_bit, number_at};
@@ -43,15 +44,15 @@ impl<'a> StructBuilder<'a> {
         StructBuilder { arena, place }
     }
 
-    /// A reader of the struct, with 64 levels. What its pointers lead to is cut off past 65,534 levels, which only
+    /// A reader of the struct, with 64 levels. What its pointers lead to is cut off past 129 levels, which only
     /// walks of a whole tree can see.
     #[inline(always)]
     pub fn as_reader(&self) -> StructReader<'_>
         requires planted { IsStruct self.now }
         ensures read { struct_of result ≡ struct_at
-            (tree_below 65535 (segment self.now.arena.now ∷ []) (segment self.now.arena.now))
+            (tree_below memory_depth (segment self.now.arena.now ∷ []) (segment self.now.arena.now))
             (segment self.now.arena.now) self.now.place.data_words self.now.place.pointers self.now.place.start }
-        ensures parts { AreBelow 65535 (built_struct self.now).pointers → struct_of result ≡ built_struct self.now }
+        ensures parts { AreBelow memory_depth (built_struct self.now).pointers → struct_of result ≡ built_struct self.now }
         ensures levels { struct_levels result ≡ 64 }
     {
         self.arena.get_struct_reader(self.place)
@@ -63,10 +64,10 @@ impl<'a> StructBuilder<'a> {
     pub fn into_reader(self) -> StructReader<'a>
         requires planted { IsStruct self }
         ensures read { struct_of result ≡ struct_at
-            (tree_below 65535 (segment self.entry.arena.now ∷ []) (segment self.entry.arena.now))
+            (tree_below memory_depth (segment self.entry.arena.now ∷ []) (segment self.entry.arena.now))
             (segment self.entry.arena.now) self.entry.place.data_words self.entry.place.pointers
             self.entry.place.start }
-        ensures parts { AreBelow 65535 (built_struct self.entry).pointers → struct_of result ≡ built_struct self.entry }
+        ensures parts { AreBelow memory_depth (built_struct self.entry).pointers → struct_of result ≡ built_struct self.entry }
         ensures levels { struct_levels result ≡ 64 }
     {
         let StructBuilder { arena, place } = self;
@@ -86,12 +87,14 @@ impl<'a> StructBuilder<'a> {
     /// The size of the struct with all that its pointers lead to: its data section and its pointers, and the targets,
     /// the tag of a composite list with them. There are no capabilities. Takes no memory.
     ///
-    /// Never refused: no message in memory has 2^29 words.
+    /// Refused with `OutOfMemory` exactly where one of its pointers leads more than 129 levels down.
     #[inline(always)]
     pub fn total_size(&self) -> Result<MessageSize>
         requires planted { IsStruct self.now }
         ensures size { IfOk result (λ size. IsSize size None (words_of_struct (built_struct self.now))) }
-        ensures succeeds { IsOk result }
+        ensures succeeds { AreBelow memory_depth (built_struct self.now).pointers → IsOk result }
+        ensures cause { IfErr result (λ e. (e.kind ≡ OutOfMemory)
+            × (AreBelow memory_depth (built_struct self.now).pointers → ⊥)) }
     {
         self.arena.total_size(self.place)
     }
@@ -135,7 +138,8 @@ impl<'a> StructBuilder<'a> {
         self.arena.get_bool_field_mask(self.place, offset, mask)
     }
 
-    /// Stores a number at `offset`, in units of its own size; it has to lie inside the data section.
+    /// Stores a number at `offset`, in units of its own size; it has to lie inside the data section. No memory is
+    /// taken.
     #[inline(always)]
     pub fn set_data_field<T: PrimitiveElement>(&mut self, offset: u32, value: T)
         requires planted { Planted (segment self.old.arena.now)
@@ -155,13 +159,14 @@ impl<'a> StructBuilder<'a> {
             (with_number T.width offset (T.to_number value)
             (struct_from (segment self.old.arena.now) self.old.place.start self.old.place.data_words
             self.old.place.pointers).bytes) }
+        ensures long { length (segment self.new.arena.now) ≡ length (segment self.old.arena.now) }
     {
         let place = self.place;
         self.arena.set_number(place, offset, value);
     }
 
     /// Stores a number at `offset`, in units of its own size, XORed with its default `mask`; it has to lie inside the
-    /// data section.
+    /// data section. No memory is taken.
     #[inline(always)]
     pub fn set_data_field_mask<T: PrimitiveElement>(&mut self, offset: u32, value: T, mask: T)
         requires planted { IsStruct self.old }
@@ -174,13 +179,14 @@ impl<'a> StructBuilder<'a> {
             (segment self.new.arena.now) self.old.place.start self.old.place.data_words self.old.place.pointers ≡
             with_bytes (built_struct self.old) (with_number T.width offset
             (bit_xor (T.to_number value) (T.to_number mask)) (built_struct self.old).bytes) }
+        ensures long { length (segment self.new.arena.now) ≡ length (segment self.old.arena.now) }
     {
         let place = self.place;
         self.arena.set_number_mask(place, offset, value, mask);
     }
 
     /// Stores a bit at `offset`. `offset` is counted in bits from the lowest of the first byte; it has to lie inside
-    /// the data section.
+    /// the data section. No memory is taken.
     #[inline(always)]
     pub fn set_bool_field(&mut self, offset: u32, value: bool)
         requires planted { IsStruct self.old }
@@ -192,13 +198,14 @@ impl<'a> StructBuilder<'a> {
         ensures tree { struct_from
             (segment self.new.arena.now) self.old.place.start self.old.place.data_words self.old.place.pointers ≡
             with_bytes (built_struct self.old) (with_bit offset value (built_struct self.old).bytes) }
+        ensures long { length (segment self.new.arena.now) ≡ length (segment self.old.arena.now) }
     {
         let place = self.place;
         self.arena.set_bool(place, offset, value);
     }
 
     /// Stores a bit at `offset`, XORed with its default `mask`. `offset` is counted in bits from the lowest of the
-    /// first byte; it has to lie inside the data section.
+    /// first byte; it has to lie inside the data section. No memory is taken.
     #[inline(always)]
     pub fn set_bool_field_mask(&mut self, offset: u32, value: bool, mask: bool)
         requires planted { IsStruct self.old }
@@ -210,6 +217,7 @@ impl<'a> StructBuilder<'a> {
         ensures tree { struct_from
             (segment self.new.arena.now) self.old.place.start self.old.place.data_words self.old.place.pointers ≡
             with_bytes (built_struct self.old) (with_bit offset (masked_bit value mask) (built_struct self.old).bytes) }
+        ensures long { length (segment self.new.arena.now) ≡ length (segment self.old.arena.now) }
     {
         let place = self.place;
         self.arena.set_bool(place, offset, value != mask);
@@ -246,9 +254,9 @@ impl<'a> StructBuilder<'a> {
     pub fn pointer_field(&self, index: u16) -> PointerReader<'_>
         requires planted { IsStruct self.now }
         requires inside { index < self.now.place.pointers }
-        ensures read { tree_of result ≡ tree_below 65535 (segment self.now.arena.now ∷ []) (segment self.now.arena.now)
+        ensures read { tree_of result ≡ tree_below memory_depth (segment self.now.arena.now ∷ []) (segment self.now.arena.now)
             (self.now.place.start + self.now.place.data_words + index) }
-        ensures tree { IsBelow 65535 (nth_tree (built_struct self.now).pointers index)
+        ensures tree { IsBelow memory_depth (nth_tree (built_struct self.now).pointers index)
             → tree_of result ≡ nth_tree (built_struct self.now).pointers index }
         ensures levels { levels_of result ≡ 64 }
     {

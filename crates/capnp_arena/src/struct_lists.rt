@@ -10,7 +10,6 @@ ghost use Rattle.capnp_arena.specs.Made.{size_number};
 ghost use Rattle.capnp_arena.specs.Shape.{word_count};
 
 use crate::arena::Arena;
-use crate::count::count_words;
 use crate::grown::{PartRow, encode_all_grown};
 use crate::list_reads::{ListTarget, get_element_size};
 use crate::lists::{ListPlace, StructsPlace};
@@ -151,7 +150,9 @@ pub(crate) fn get_number(size: ElementSize) -> u8
     }
 }
 
-/// The encoding of the list that a pointer leads to as one of structs of at least a size.
+/// The encoding of the list that a pointer leads to as one of structs of at least a size, where there is room for the
+/// tag and the structs themselves in so many words: what their pointers lead to stands in the segment, so no more words
+/// are taken than these.
 ///
 /// Refused with `OutOfMemory`.
 fn encode_structs(
@@ -161,24 +162,18 @@ fn encode_structs(
     row: PartRow,
     count: u32,
     size: StructSize,
+    limit: usize,
 ) -> Result<Vec<u8>>
     requires forest { Forest bytes.now at }
     requires list { IsPartList bytes.now at row count }
-    requires few { (word_count bytes.now < 2 ^ 29) × (count < 2 ^ 29) }
+    requires few { (limit < 2 ^ 29) × (count < 2 ^ 29) }
     requires fits { (row.data_count ≤ 8 * size.data_words) × (row.pointers ≤ size.pointers) }
-    requires within { count * (size.data_words + size.pointers) < 2 ^ 29 }
+    requires room { word_count bytes.now + (1 + count * (size.data_words + size.pointers)) ≤ limit }
     ensures content { IfOk result (λ v. v.items ≡ bytes_of (as_structs size (tree bytes.now at))) }
     ensures held { IfOk result (λ _. IsWellFormed (as_structs size (tree bytes.now at))) }
-    ensures words { IfOk result (λ v. (length v.items ≡ 8 * (length v.items / 8)) × (length v.items < 2 ^ 33)) }
+    ensures words { IfOk result (λ v. (length v.items ≡ 8 * (length v.items / 8)) × (length v.items ≤ 8 * limit)) }
     ensures kind { IfErr result (λ e. e.kind ≡ OutOfMemory) }
 {
-    let own = count as u64 * (size.data_words as u64 + size.pointers as u64);
-    let Some(below) = count_words(bytes, at) else {
-        return Err(Error::from(ErrorKind::OutOfMemory));
-    };
-    if own + below >= 1 << 29 {
-        return Err(Error::from(ErrorKind::OutOfMemory));
-    }
     let content = encode_all_grown(alloc, bytes, row, count as usize, size)?;
     Ok(content)
 }
@@ -222,8 +217,12 @@ impl Arena {
         if words >= 1 << 29 {
             return Err(Error::from(ErrorKind::SizePastFormat));
         }
+        if !self.has_room(1 + words) {
+            return Err(Error::from(ErrorKind::OutOfMemory));
+        }
         let alloc = *self.bytes.allocator();
-        let content = encode_structs(alloc, self.bytes.as_slice(), at, row, count, size)?;
+        let bytes = self.bytes.as_slice();
+        let content = encode_structs(alloc, bytes, at, row, count, size, self.limit)?;
         let end = self.bytes.len() / 8;
         let word = make_list_word((end - at - 1) as u64, 7, words as u64);
         self.make_with(at, word, content.len() / 8, content.as_slice())?;

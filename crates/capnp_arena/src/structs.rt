@@ -10,7 +10,8 @@ ghost use Rattle.capnp_arena.specs.Built.{ChangesIn, IsBuilt, LeavesIn, built};
 use crate::arena::{Arena, Place};
 use capnp_wire::primitive::PrimitiveElement;
 
-/// Stores a number at `offset`, in units of its own size; it has to lie inside the data section.
+/// Stores a number at `offset`, in units of its own size; it has to lie inside the data section. No
+/// memory is taken.
 #[inline(always)]
 pub fn set_data_field<T: PrimitiveElement>(arena: &mut Arena, place: Place, offset: u32, value: T)
     requires planted { IsBuilt arena.old place }
@@ -19,11 +20,13 @@ pub fn set_data_field<T: PrimitiveElement>(arena: &mut Arena, place: Place, offs
     ensures changes { ChangesIn place arena.old arena.new }
     ensures tree { built arena.new place ≡ with_bytes (built arena.old place)
         (with_number T.width offset (T.to_number value) (built arena.old place).bytes) }
+    ensures long { length (segment arena.new) ≡ length (segment arena.old) }
 {
     arena.set_number(place, offset, value);
 }
 
 /// Stores a bit at `offset`, counted from the lowest of the first byte; it has to lie inside the data section.
+/// No memory is taken.
 #[inline(always)]
 pub fn set_bool_field(arena: &mut Arena, place: Place, offset: u32, value: bool)
     requires planted { IsBuilt arena.old place }
@@ -32,6 +35,7 @@ pub fn set_bool_field(arena: &mut Arena, place: Place, offset: u32, value: bool)
     ensures changes { ChangesIn place arena.old arena.new }
     ensures tree { built arena.new place ≡ with_bytes (built arena.old place)
         (with_bit offset value (built arena.old place).bytes) }
+    ensures long { length (segment arena.new) ≡ length (segment arena.old) }
 {
     arena.set_bool(place, offset, value);
 }

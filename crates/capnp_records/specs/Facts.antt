@@ -15,3 +15,4 @@ pub mod Pointers
 pub mod ReadFaults
 pub mod Readers
 pub mod Refusals
+pub mod Spelled

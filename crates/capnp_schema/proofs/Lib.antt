@@ -18,6 +18,7 @@ pub mod EntryWalk
 pub mod EnumLemmas
 pub mod FieldCounts
 pub mod FoundEntries
+pub mod GroupFieldTables
 pub mod GroupRows
 pub mod GroupTargets
 pub mod GroupsDown

@@ -15,6 +15,8 @@ pub mod Enums
 pub mod Facts
 pub mod FieldLists
 pub mod Footprint
+pub mod GroupFields
+pub mod GroupWalks
 pub mod GroupsDown
 pub mod Laws
 pub mod Layers

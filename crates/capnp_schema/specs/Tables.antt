@@ -1,6 +1,7 @@
 -- The tables that a set keeps for its queries.
 use Rattle.std.specs.Prelude.{ℕ, ◌≡◌, ◌<◌, Bool, true, false, IsTrue, List, [], get_or, length, map, slice_get, slice_set, Option, Some, None, Vec}
 use Rattle.std.specs.declared.alloc.Global.{Global}
+use Rattle.capnp_schema.specs.GroupFields.{AreGroupFields}
 use Rattle.capnp_schema.specs.Schema.{Schemas, Node, Field, fields_of, is_member, node_at, no_enum, no_node, seen_enum, seen_node}
 use Rattle.capnp_schema.specs.Query.{member_of, plain_fields}
 use Rattle.capnp_schema.specs.Names.{IsNameTable}
@@ -50,12 +51,13 @@ ArePlainTables set tables = (n : ℕ) → table_at tables n ≡ plain_fields (no
 abbrev pub ArePlanTables : Schemas → List (Vec SlotPlan Global) → Type 0
 ArePlanTables set tables = (b : ℕ) → table_at tables b ≡ map (plan_of set b) (fields_of set b)
 
--- tables for each node, and plans for each brand; past the last of these stands an empty table, and past the ends of the
+-- tables for each node, and plans and the group field for each brand; past the last of these stands an empty table, and past the ends of the
 -- lists a node and an enum with nothing in them
 pub record AreTables (set : Schemas) (tables : FieldTables) : Type 0 where
   pub by_name : AreNameTables set tables.by_name.items
   pub members : AreMemberTables set tables.members.items
   pub plain : ArePlainTables set tables.plain.items
   pub plans : ArePlanTables set tables.plans.items
+  pub group_fields : AreGroupFields set tables.group_fields.items
   pub empty_node : seen_node tables.empty.node ≡ no_node
   pub empty_enum : seen_enum tables.empty.enumeration ≡ no_enum

@@ -5,6 +5,7 @@ ghost use Rattle.capnp_schema.specs.Accepted.{IsAccepted};
 ghost use Rattle.capnp_schema.specs.Broken.{IsRefusalOf};
 ghost use Rattle.capnp_schema.specs.Entries.{lists_seen};
 ghost use Rattle.capnp_schema.specs.Schema.{seen_brand, seen_enum, seen_node, seen_schemas};
+ghost use Rattle.capnp_schema.specs.Checking.Parents.{IsParentTable};
 ghost use Rattle.capnp_schema.specs.Tables.{AreNameTables};
 
 mod annotated;
@@ -71,11 +72,22 @@ impl Model for SchemaSet {
         × HasRanges (lists_seen s.lists) };
 }
 
-/// The tables of fields by name, of lists that meet the twelve rules. A refusal names a rule that is broken and where,
-/// or is for memory.
-fn check(alloc: Global, lists: &Lists) -> Result<Vec<Vec<u16>>>
+/// What the check of lists leaves.
+#[derive(Drop)]
+struct Checked {
+    /// The fields of each node in the order of their names.
+    by_name: Vec<Vec<u16>>,
+    /// At each brand the brand and the index of the group field that names it.
+    parents: Vec<Option<(usize, usize)>>,
+}
+
+/// The tables of fields by name and of group fields, of lists that meet the twelve rules. A refusal names a rule that
+/// is broken and where, or is for memory.
+fn check(alloc: Global, lists: &Lists) -> Result<Checked>
     ensures { MatchResult result
-        (λ tables. IsAccepted (lists_seen lists.now) × AreNameTables (lists_seen lists.now) tables.items)
+        (λ checked. IsAccepted (lists_seen lists.now)
+        × AreNameTables (lists_seen lists.now) checked.by_name.items
+        × IsParentTable (lists_seen lists.now) checked.parents.items)
         (IsRefusalOf (lists_seen lists.now)) }
 {
     let by_name = check_names(alloc, lists)?;
@@ -84,9 +96,9 @@ fn check(alloc: Global, lists: &Lists) -> Result<Vec<Vec<u16>>>
     check_values(lists)?;
     check_unions(alloc, lists)?;
     check_discriminants(lists)?;
-    check_groups(alloc, lists)?;
+    let parents = check_groups(alloc, lists)?;
     check_footprints(alloc, lists)?;
-    Ok(by_name)
+    Ok(Checked { by_name, parents })
 }
 
 impl SchemaSet {
@@ -114,8 +126,8 @@ impl SchemaSet {
             brands,
             enums,
         };
-        let by_name = check(alloc, &lists)?;
-        let tables = field_tables(alloc, &lists, by_name)?;
+        let checked = check(alloc, &lists)?;
+        let tables = field_tables(alloc, &lists, checked.by_name, &checked.parents)?;
         numbers_fit(&lists);
         Ok(SchemaSet { lists, tables })
     }

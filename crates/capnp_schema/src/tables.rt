@@ -1,9 +1,11 @@
 //! The tables of fields that queries look up.
-ghost use Rattle.std.specs.Prelude.{◌≡◌, ◌≤◌, ◌<◌, ◌++◌, [], false, length, map, replicate, IfOk, IfErr, OnOk};
+ghost use Rattle.std.specs.Prelude.{◌≡◌, ◌≤◌, ◌<◌, ◌^◌, ◌++◌, [], false, length, map, replicate, IfOk, IfErr, IfSome, OnOk};
 ghost use Rattle.capnp_device.specs.declared.error.ErrorKind.TheVariants.{OutOfMemory};
 ghost use Rattle.capnp_schema.specs.Schema.{node_at, seen_field, seen_node};
 ghost use Rattle.capnp_schema.specs.Entries.{lists_seen};
 ghost use Rattle.capnp_schema.specs.Query.{indices_from, keep_index, is_plain};
+ghost use Rattle.capnp_schema.specs.Checking.Parents.{IsParentTable};
+ghost use Rattle.capnp_schema.specs.GroupFields.{AreGroupFields, numbered};
 ghost use Rattle.capnp_schema.specs.Accepted.{AreApartBelow, HasEachMember, IsAccepted};
 ghost use Rattle.capnp_schema.specs.Tables.{AreMemberTables, AreNameTables, ArePlaced, ArePlainTables, AreTables, IsMemberTable, placed};
 
@@ -18,8 +20,8 @@ use crate::tables::empty::EmptyRecords;
 use capnp_wire::error::Result;
 use std::alloc::Global;
 
-/// For each node tables of its fields, by their indices, and for each brand the plans of its fields; and what stands
-/// past the ends of the lists.
+/// For each node tables of its fields, by their indices, and for each brand the plans of its fields and its group field;
+/// and what stands past the ends of the lists.
 #[derive(Drop)]
 pub(crate) struct FieldTables {
     /// The fields in the order of their names.
@@ -29,6 +31,8 @@ pub(crate) struct FieldTables {
     /// The plain fields.
     pub(crate) plain: Vec<Vec<u16>>,
     pub(crate) plans: Vec<Vec<SlotPlan>>,
+    /// At each brand the brand and the index of the group field that names it.
+    pub(crate) group_fields: Vec<Option<(u32, u16)>>,
     pub(crate) empty: EmptyRecords,
 }
 
@@ -138,25 +142,64 @@ fn plain_tables(alloc: Global, lists: &Lists) -> Result<Vec<Vec<u16>>>
     Ok(tables)
 }
 
-/// The tables of lists that meet the twelve rules, by their tables of names.
+/// A group field by numbers as handles have them, where its brand's is one.
+fn numbered(parent: Option<(usize, usize)>) -> Option<(u32, u16)>
+    requires { IfSome parent (λ p. p.1 < 2 ^ 16) }
+    ensures { result ≡ numbered parent }
+{
+    match parent {
+        Some((brand, field)) => {
+            if brand < 1 << 32 {
+                Some((brand as u32, field as u16))
+            } else {
+                None
+            }
+        }
+        None => None,
+    }
+}
+
+/// The group field of each brand, by numbers as handles have them.
+fn group_fields(
+    alloc: Global,
+    lists: &Lists,
+    parents: &[Option<(usize, usize)>],
+) -> Result<Vec<Option<(u32, u16)>>>
+    requires accepted { IsAccepted (lists_seen lists.now) }
+    requires parents { IsParentTable (lists_seen lists.now) parents.now }
+    ensures fields { IfOk result (λ v. AreGroupFields (lists_seen lists.now) v.items) }
+    ensures refused { IfErr result (λ e. e.kind ≡ OutOfMemory) }
+{
+    let mut fields: Vec<Option<(u32, u16)>> = Vec::new(alloc);
+    for brand in 0..parents.len() {
+        fields.push(numbered(parents[brand]))?;
+    }
+    Ok(fields)
+}
+
+/// The tables of lists that meet the twelve rules, by their tables of names and of parents.
 pub(crate) fn field_tables(
     alloc: Global,
     lists: &Lists,
     by_name: Vec<Vec<u16>>,
+    parents: &[Option<(usize, usize)>],
 ) -> Result<FieldTables>
     requires accepted { IsAccepted (lists_seen lists.now) }
     requires names { AreNameTables (lists_seen lists.now) by_name.items }
+    requires parents { IsParentTable (lists_seen lists.now) parents.now }
     ensures tables { IfOk result (AreTables (lists_seen lists.now)) }
     ensures refused { IfErr result (λ e. e.kind ≡ OutOfMemory) }
 {
     let members = member_tables(alloc, lists)?;
     let plain = plain_tables(alloc, lists)?;
     let plans = plan_tables(alloc, lists)?;
+    let group_fields = group_fields(alloc, lists, parents)?;
     Ok(FieldTables {
         by_name,
         members,
         plain,
         plans,
+        group_fields,
         empty: EmptyRecords::new(alloc),
     })
 }

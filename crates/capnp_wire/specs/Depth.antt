@@ -32,3 +32,8 @@ IsWithin levels t = IsBelow (suc levels) t
 -- the depth is at most the 64 levels that a message is read with
 abbrev pub IsShallow : Tree → Type 0
 IsShallow t = IsWithin 64 t
+
+-- One more than the levels of a message in memory that a reader or a walk goes down, so that no stack runs out on a
+-- message that was built: what is read with 64 levels is that of the whole tree, also where each is a composite list.
+abbrev pub memory_depth : ℕ
+memory_depth = 130

@@ -31,7 +31,7 @@ fn look_at_struct<'a>(
     start: usize,
     data_words: u16,
     pointers: u16,
-    depth: u16,
+    depth: u8,
 ) -> Found<'a>
     requires { start ≤ 2 ^ 60 }
     ensures { found_tree result ≡
@@ -61,7 +61,7 @@ fn look_at_elements<'a>(
     start: usize,
     element_size: u8,
     count: u32,
-    depth: u16,
+    depth: u8,
 ) -> Found<'a>
     requires start { start ≤ 2 ^ 60 }
     requires level { 0 < depth }
@@ -101,7 +101,7 @@ fn look_at_list<'a>(
     start: usize,
     element_size: u8,
     count: u32,
-    depth: u16,
+    depth: u8,
 ) -> Found<'a>
     requires { start ≤ 2 ^ 60 }
     ensures { found_tree result ≡
@@ -128,7 +128,7 @@ fn look_at_composite<'a>(
     count: u32,
     data_words: u16,
     pointers: u16,
-    depth: u16,
+    depth: u8,
 ) -> Found<'a>
     requires { start ≤ 2 ^ 60 }
     ensures { found_tree result ≡
@@ -156,7 +156,7 @@ fn look_at_composite<'a>(
 
 /// What a pointer that can't be followed is read as.
 #[inline(always)]
-fn look_at_fault<'a>(segments: Segments<'a>, fault: Fault, depth: u16) -> Found<'a>
+fn look_at_fault<'a>(segments: Segments<'a>, fault: Fault, depth: u8) -> Found<'a>
     ensures { found_tree result ≡
         tree_at_depth depth (tree_below (depth - 1) (segment_list segments.entry))
         (tree_below (depth - 2) (segment_list segments.entry)) (BadTarget fault) }
@@ -170,7 +170,7 @@ fn look_at_fault<'a>(segments: Segments<'a>, fault: Fault, depth: u16) -> Found<
 
 /// One level of a target, whose tree has one level less than `depth`.
 #[inline(always)]
-fn look_at_target<'a>(segments: Segments<'a>, target: Target<'a>, depth: u16) -> Found<'a>
+fn look_at_target<'a>(segments: Segments<'a>, target: Target<'a>, depth: u8) -> Found<'a>
     requires { StartFits target }
     ensures { found_tree result ≡
         tree_at_depth depth (tree_below (depth - 1) (segment_list segments.entry))
@@ -207,7 +207,7 @@ pub fn look_at_word<'a>(
     segments: Segments<'a>,
     segment: &'a [u8],
     index: usize,
-    depth: u16,
+    depth: u8,
 ) -> Found<'a>
     ensures { found_tree result ≡ tree_below depth (segment_list segments.entry) segment.now index }
 {

@@ -20,7 +20,7 @@ pub enum Pointer<'a> {
     /// A word of a segment, whose tree has one level less than `depth`.
     Word {
         is_stream: bool,
-        depth: u16,
+        depth: u8,
         bytes: &'a [u8],
         segment: &'a [u8],
         index: usize,
@@ -48,13 +48,16 @@ pub fn look(pointer: Pointer<'_>) -> Found<'_>
 /// The levels of a message's root pointer.
 pub const ROOT_LEVELS: u8 = 64;
 
+/// One more than the levels of a message in memory that a reader or a walk goes down.
+pub const MEMORY_DEPTH: u8 = 130;
+
 /// The place of a message's root pointer: the first word of its first segment.
 #[tactic(auto, unfolding(crate::specs::Place::tree_below))]
 pub fn get_root_pointer(segments: Segments<'_>) -> Pointer<'_>
     ensures { pointer_tree result ≡ root_tree (segment_list segments.entry) }
 {
     Pointer::Word {
-        depth: ROOT_LEVELS as u16 + 1,
+        depth: ROOT_LEVELS + 1,
         is_stream: segments.is_stream,
         bytes: segments.bytes,
         segment: get_first_segment(segments),

@@ -6,7 +6,7 @@ use crate::elements::{data_of, text_of};
 use crate::fault::refuse;
 use crate::found::Found;
 use crate::list_reader::ListReader;
-use crate::pointer::{Pointer, ROOT_LEVELS, get_root_pointer, look};
+use crate::pointer::{MEMORY_DEPTH, Pointer, ROOT_LEVELS, get_root_pointer, look};
 use crate::segments::Segments;
 use crate::size::{ElementSize, MessageSize};
 use crate::struct_reader::StructReader;
@@ -27,7 +27,8 @@ pub struct PointerReader<'a> {
 const _: () = prove!(size_of::<PointerReader<'static>>() <= 56);
 
 impl<'a> PointerReader<'a> {
-    ghost use Rattle.std.specs.Prelude.{[], ◌∷◌, ◌≡◌, ◌+◌, IfErr, IfOk};
+    ghost use Rattle.std.specs.Prelude.{[], ◌∷◌, ◌≡◌, ◌+◌, IfErr, IfOk, min};
+    ghost use Rattle.capnp_wire.specs.Depth.{memory_depth};
     ghost use Rattle.capnp_wire.specs.Place.{root_tree, tree_below};
     ghost use Rattle.capnp_wire.specs.Reading.{as_data, as_list, as_struct, as_text, is_list, is_null_tree};
     ghost use Rattle.capnp_wire.specs.Edits.{is_struct};
@@ -69,13 +70,13 @@ impl<'a> PointerReader<'a> {
     }
 
     /// A reader of the pointer at the word `index` of one segment that stands alone, whose tree has one level less than
-    /// `depth`.
-    pub fn of_word(words: &'a [u8], index: usize, depth: u16, levels: u8) -> PointerReader<'a>
-        ensures tree { tree_of result ≡ tree_below depth (words.now ∷ []) words.now index }
+    /// `depth`: 129 at most, so that no stack runs out on them.
+    pub fn of_word(words: &'a [u8], index: usize, depth: u8, levels: u8) -> PointerReader<'a>
+        ensures tree { tree_of result ≡ tree_below (min depth memory_depth) (words.now ∷ []) words.now index }
         ensures levels { levels_of result ≡ levels }
     {
         let pointer = Pointer::Word {
-            depth,
+            depth: depth.min(MEMORY_DEPTH),
             is_stream: false,
             bytes: words,
             segment: words,

@@ -8,7 +8,7 @@ ghost use Rattle.std.specs.Prelude.{◌+◌, ◌≤◌, ◌^◌};
 #[derive(Clone, Copy)]
 pub struct Pointers<'a> {
     pub is_stream: bool,
-    pub depth: u16,
+    pub depth: u8,
     pub count: u32,
     pub bytes: &'a [u8],
     pub segment: &'a [u8],
@@ -21,7 +21,7 @@ pub struct Pointers<'a> {
 #[derive(Clone, Copy)]
 pub struct Elements<'a> {
     pub is_stream: bool,
-    pub depth: u16,
+    pub depth: u8,
     pub count: u32,
     pub bytes: &'a [u8],
     pub segment: &'a [u8],

@@ -5,6 +5,7 @@ ghost use Rattle.capnp_wire.specs.WellFormed.{IsWellFormedStruct, IsWellFormedSt
 use crate::bytes::get_bit;
 use crate::found::{StructParts, empty_parts};
 use crate::look::bytes_from;
+use crate::pointer::MEMORY_DEPTH;
 use crate::pointer_reader::PointerReader;
 use crate::pointers::{count_pointers, get_pointer};
 use crate::primitive::PrimitiveElement;
@@ -27,7 +28,8 @@ pub struct StructReader<'a> {
 const _: () = prove!(size_of::<StructReader<'static>>() <= 72);
 
 impl<'a> StructReader<'a> {
-    ghost use Rattle.std.specs.Prelude.{[], ◌∷◌, ◌≡◌, ◌≤◌, ◌^◌, ◌/◌, bit_xor, length, IfErr, IfOk};
+    ghost use Rattle.std.specs.Prelude.{[], ◌∷◌, ◌≡◌, ◌≤◌, ◌^◌, ◌/◌, bit_xor, length, IfErr, IfOk, min};
+    ghost use Rattle.capnp_wire.specs.Depth.{memory_depth};
     ghost use Rattle.capnp_wire.specs.Place.{struct_at, tree_below};
     ghost use Rattle.capnp_wire.specs.Tree.{empty_struct, nth_tree, tree_count};
     ghost use Rattle.capnp_wire.specs.Slot.{bit_at, masked_bit, number_at};
@@ -56,24 +58,24 @@ impl<'a> StructReader<'a> {
     }
 
     /// A reader of the struct that starts at the word `start` of one segment that stands alone. Its pointers' trees
-    /// have one level less than `depth`.
+    /// have one level less than `depth`: 129 at most.
     pub fn of_words(
         words: &'a [u8],
         start: usize,
         size: StructSize,
-        depth: u16,
+        depth: u8,
         levels: u8,
     ) -> StructReader<'a>
         requires { start ≤ 2 ^ 60 }
         ensures parts { struct_of result ≡ struct_at
-            (tree_below depth (words.now ∷ []) words.now) words.now size.data_words size.pointers start }
+            (tree_below (min depth memory_depth) (words.now ∷ []) words.now) words.now size.data_words size.pointers start }
         ensures levels { struct_levels result ≡ levels }
     {
         let parts = StructParts {
             data: bytes_from(words, start, 8 * size.data_words as usize),
             pointers: Pointers {
                 is_stream: false,
-                depth,
+                depth: depth.min(MEMORY_DEPTH),
                 count: size.pointers as u32,
                 bytes: words,
                 segment: words,

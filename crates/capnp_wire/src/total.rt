@@ -67,7 +67,7 @@ fn total_pointer(pointer: Pointer<'_>) -> Total
 /// before they are looked at.
 #[cycle(total)]
 #[inline(always)]
-fn total_word(segments: Segments<'_>, segment: &[u8], index: usize, depth: u16) -> Total
+fn total_word(segments: Segments<'_>, segment: &[u8], index: usize, depth: u8) -> Total
     ensures { Totals result (first_fault (tree_below depth (segment_list segments.entry) segment.now index))
         (words_of (tree_below depth (segment_list segments.entry) segment.now index)) }
 {

@@ -1,5 +1,5 @@
 -- What the end of a call's path does to trees, a call on the root of a brand, and a run.
-use Rattle.std.specs.Prelude.{ℕ, suc, ◌≡◌, ◌⊎◌, ⊤, List, [], ◌∷◌, true, false, Option, Some, None, Ok, Err, length}
+use Rattle.std.specs.Prelude.{ℕ, suc, ◌≡◌, ◌≢◌, ◌⊎◌, ⊤, List, [], ◌∷◌, true, false, Option, Some, None, Ok, Err, length}
 use Rattle.capnp_device.specs.declared.error.ErrorKind.{ErrorKind}
 use Rattle.capnp_wire.specs.Tree.{StructTree, Null}
 use Rattle.capnp_schema.specs.Types.{SchemaType, StructType, AnyPointerType, struct_number}
@@ -67,9 +67,9 @@ ClearsGroup op = ⊥
 
 -- ---- the end of a path ----
 
--- nothing was written: a reply or a refusal as the record has it
+-- nothing was written: a reply or a refusal as the record has it, and none that says that a write was made
 abbrev pub Stays : Schemas → Op → Target → SchemaType → Stand → Reply → Stand → Type 0
-Stays set op x t old reply new = Does set op x (seen set t old) reply (seen set t old) × (new ≡ old)
+Stays set op x t old reply new = Does set op x (seen set t old) reply (seen set t old) × (new ≡ old) × (reply ≢ Done)
 
 -- a slot was written
 abbrev pub WritesSlot : Schemas → Op → Target → SchemaType → Stand → PathStep → Reply → Stand → Type 0

@@ -214,11 +214,14 @@ fn group_stands(
 
 /// Decides rule 8: a group brand is named by exactly one group field, has its parent's section sizes, and its chain of
 /// parents ends at a struct that is no group. It takes one pass over the fields, and each group is walked past once by
-/// what it leads to. It is refused where memory is short, or at a group for which the rule is broken.
-pub(crate) fn check_groups(alloc: Global, lists: &Lists) -> Result<()>
+/// what it leads to. It answers at each brand the brand and the index of the group field that names it. It is refused
+/// where memory is short, or at a group for which the rule is broken.
+pub(crate) fn check_groups(alloc: Global, lists: &Lists) -> Result<Vec<Option<(usize, usize)>>>
     requires rule1 { Rule1 (lists_seen lists.now) }
     requires rule7 { Rule7 (lists_seen lists.now) }
-    ensures { MatchResult result (λ _. Rule8 (lists_seen lists.now)) (IsRefusalOf (lists_seen lists.now)) }
+    ensures { MatchResult result
+        (λ parents. Rule8 (lists_seen lists.now) × IsParentTable (lists_seen lists.now) parents.items)
+        (IsRefusalOf (lists_seen lists.now)) }
 {
     let parents = parent_table(alloc, lists)?;
     let mut known = no_marks(alloc, brand_count(lists))?;
@@ -228,5 +231,5 @@ pub(crate) fn check_groups(alloc: Global, lists: &Lists) -> Result<()>
         }
         mark_way(lists, &parents, &mut known, group);
     }
-    Ok(())
+    Ok(parents)
 }

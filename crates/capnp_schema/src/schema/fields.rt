@@ -33,12 +33,13 @@ pub struct Field<'s> {
 }
 
 impl<'s> Field<'s> {
-    ghost use Rattle.std.specs.Prelude.{IfSome, MatchOption};
+    ghost use Rattle.std.specs.Prelude.{IfSome, MatchOption, Some};
     ghost use Rattle.capnp_wire.specs.Standing.{levels_of, tree_of};
     ghost use Rattle.capnp_wire.specs.Tree.{Null};
     ghost use Rattle.std.specs.Option.{option_map};
     ghost use Rattle.capnp_schema.specs.Defaults.{DefaultFits};
-    ghost use Rattle.capnp_schema.specs.GroupsDown.{IfGroup, IsGroupIn, LeadsToGroup};
+    ghost use Rattle.capnp_schema.specs.GroupFields.{group_field_of};
+    ghost use Rattle.capnp_schema.specs.GroupsDown.{IfGroup, IsGroupIn, LeadsToGroup, place_of_field};
     ghost use Rattle.capnp_schema.specs.Plan.{IsPlan, plan_of};
     ghost use Rattle.capnp_schema.specs.Schema.{default_of, kind_target};
     ghost use Rattle.capnp_schema.specs.Views.{IsViewOf};
@@ -130,13 +131,17 @@ impl<'s> Field<'s> {
     }
 
     /// The group, where the field is one; none for a slot. A group has the sections of the struct that it is in, and
-    /// lesser height.
+    /// lesser height, and the field is its group field.
     #[inline(always)]
     pub fn get_group(&self) -> Option<StructSchema<'s>>
         ensures number { option_map number_of result
             ≡ kind_target (typed_of self.now).field.kind (typed_of self.now).type }
         ensures down { IfSome result (IsGroupIn (schema_of self.now)) }
+        ensures back { IfSome result (λ g. group_field_of (set_of (schema_of self.now)) (number_of g)
+            ≡ Some (place_of_field self.now)) }
     {
+        // A handle's number has 32 bits, which is known of it once it is read.
+        let _number = self.schema.number;
         let Place::Group(brand) = self.plan().place else {
             return None;
         };

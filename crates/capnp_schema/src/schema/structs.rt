@@ -1,5 +1,5 @@
 //! Handles of struct schemas.
-ghost use Rattle.std.specs.Prelude.{◌≡◌, ◌<◌, ◌≤◌, ◌+◌, ◌*◌, ◌%◌, ◌^◌, length, IfErr, IfOk, IfSome, IsOkAnd, Some, None};
+ghost use Rattle.std.specs.Prelude.{◌≡◌, ◌<◌, ◌≤◌, ◌+◌, ◌*◌, ◌%◌, ◌^◌, length, IfErr, IfNone, IfOk, IfSome, IsFalse, IsOkAnd, Some, None};
 ghost use Rattle.capnp_device.specs.declared.error.ErrorKind.TheVariants.{FieldNotFound};
 
 use crate::record::NodeRecord;
@@ -35,6 +35,9 @@ impl<'s> StructSchema<'s> {
     ghost use Rattle.capnp_schema.specs.Entries.{lists_seen};
     ghost use Rattle.capnp_schema.specs.Query.{AreMembers, field_named, member_of, plain_fields};
     ghost use Rattle.capnp_schema.specs.StructHandles.{IsStruct, generic_of, number_of, set_of, struct_node, struct_records};
+    ghost use Rattle.std.specs.Option.{option_map};
+    ghost use Rattle.capnp_schema.specs.GroupFields.{group_field_of};
+    ghost use Rattle.capnp_schema.specs.GroupsDown.{IsGroupFieldOf, place_of_field};
     ghost use Rattle.capnp_schema.specs.Annotated.{annotations_of, struct_annotations};
     ghost use Rattle.capnp_schema.specs.AnnotationLists.{annotations_in, annotations_set};
     ghost use Rattle.capnp_schema.specs.FieldLists.{IsFound, list_schema, subset_indices, subset_schema};
@@ -153,6 +156,20 @@ impl<'s> StructSchema<'s> {
             × (subset_indices fields ≡ plain_fields (struct_records self.entry))) }
     {
         Ok(FieldSubset::new(self, self.set.plain(self.number)))
+    }
+
+    /// The field whose group this is, which undoes `Field::get_group`; none for a struct that is no group. A handle has a
+    /// number of 32 bits, so of more than 2^32 brands those past these have no fields here.
+    pub fn get_group_field(&self) -> Option<Field<'s>>
+        ensures place { option_map place_of_field result ≡ group_field_of (set_of self.now) (number_of self.now) }
+        ensures field { IfSome result (IsGroupFieldOf self.now) }
+        ensures none { length (set_of self.now).brands ≤ 2 ^ 32
+            → IfNone result (IsFalse (struct_node self.now).is_group) }
+    {
+        let Some((brand, index)) = self.set.group_field(self.number) else {
+            return None;
+        };
+        Some(Field::new(self.set.struct_schema(brand), index))
     }
 
     /// The annotations of its node, each with its type in the brand. The answer is always Ok.

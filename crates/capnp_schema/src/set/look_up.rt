@@ -1,10 +1,11 @@
 //! What queries look up in a set. None takes memory, and each answers for every number.
 ghost use Rattle.std.specs.Prelude.{◌≡◌, ◌<◌, ◌≤◌, ◌*◌, ◌^◌, [], length, map, slice_get, IfSome, MatchOption};
-ghost use Rattle.std.specs.Option.{option_map, unwrap_or};
-ghost use Rattle.capnp_schema.specs.Accepted.{NamesEntries};
+ghost use Rattle.std.specs.Option.{option_flatten, option_map, unwrap_or};
+ghost use Rattle.capnp_schema.specs.Accepted.{IsAccepted, NamesEntries};
 ghost use Rattle.capnp_schema.specs.Schema.{seen_field, field_at, fields_of, node_at, node_of};
 ghost use Rattle.capnp_schema.specs.Discriminant.{discriminant_of};
 ghost use Rattle.capnp_schema.specs.Entries.{lists_seen, seen_typed};
+ghost use Rattle.capnp_schema.specs.GroupFields.{group_field_of};
 ghost use Rattle.capnp_schema.specs.GroupsDown.{IfGroup, LeadsToGroup};
 ghost use Rattle.capnp_schema.specs.Names.{IsNameTable};
 ghost use Rattle.capnp_schema.specs.Plan.{IsPlan, plan_of};
@@ -38,6 +39,17 @@ fn plan_at(plans: &[SlotPlan], i: usize) -> &SlotPlan
     match plans.get(i) {
         Some(plan) => plan,
         None => &NO_PLAN,
+    }
+}
+
+/// The group field of a number.
+#[inline(always)]
+fn group_field_at(fields: &[Option<(u32, u16)>], i: usize) -> Option<(u32, u16)>
+    ensures { result ≡ option_flatten (slice_get fields.now i) }
+{
+    match fields.get(i) {
+        Some(field) => *field,
+        None => None,
     }
 }
 
@@ -162,6 +174,16 @@ impl SchemaSet {
             → IfGroup result.now.place (LeadsToGroup (lists_seen self.now) brand) }
     {
         plan_at(table_at(&self.tables.plans, brand as usize), field as usize)
+    }
+
+    /// The brand and the index of the group field that names a brand.
+    #[inline(always)]
+    pub(crate) fn group_field(&self, brand: u32) -> Option<(u32, u16)>
+        ensures is { result ≡ group_field_of (lists_seen self.now) brand }
+        ensures inside { IfSome result (λ p. (p.1 < length (fields_of (lists_seen self.now) p.0)) × (p.1 < 65535)) }
+        ensures accepted { IsAccepted (lists_seen self.now) }
+    {
+        group_field_at(&self.tables.group_fields, brand as usize)
     }
 
     /// The first bit of a brand's discriminant, by the plan of the member of value 0, which each union has; none where

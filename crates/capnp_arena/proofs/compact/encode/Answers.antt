@@ -10,3 +10,6 @@ returns-clause-bytes c = c.in_ok-append_encoding.ensures ∙ ap (λ z. z ++ enco
 
 pub returns-clause-held : goal.returns-clause-held
 returns-clause-held c = (tree_held c.args.bytes.now 0 (AreBytes-fits c.args.bytes.now c.type_inv.bytes), omega (arith, c.in-Some.ensures.0, c.if-words-limit.false))
+
+pub returns-clause-depth : goal.returns-clause-depth
+returns-clause-depth c = c.in-Some.ensures.2

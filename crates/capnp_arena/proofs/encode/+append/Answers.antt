@@ -76,8 +76,8 @@ append_tree-append_composite-requires t c =
     let q : Points c.args.bytes.now c.args.w (CompositeIn c.in-Composite.tag c.in-Composite.count c.in-Composite.data_words c.in-Composite.pointers) = subst (Points c.args.bytes.now c.args.w) (ap shape_found c.in-Composite.is) c.look.ensures.points in
     (omega (arith, q.0, q.6), (element_rows _ _ c.requires.forest _ _ _ _ e, (q.6, (c.requires.few, ((q.4, q.2, q.3), omega (arith, c.requires.small, words_composite _ _ c.requires.forest _ _ _ _ e))))))
 
-pub append_tree-returns-in-Composite : goal.append_tree-returns-in-Composite
-append_tree-returns-in-Composite t c =
+pub append_tree-returns-else-depth-lt2-2 : goal.append_tree-returns-else-depth-lt2-2
+append_tree-returns-else-depth-lt2-2 t c =
     let e : shape_at c.args.bytes.now c.args.w ≡ CompositeIn c.in-Composite.tag c.in-Composite.count c.in-Composite.data_words c.in-Composite.pointers = sym c.look.ensures.shape ∙ ap shape_found c.in-Composite.is in
     subst (λ z. IfOk c.append_composite.result (λ _. c.append_composite.new.out.items ≡ c.args.out.now.items ++ z)) (sym (bytes_composite _ _ c.requires.forest _ _ _ _ e)) c.append_composite.ensures
 

@@ -103,8 +103,8 @@ follow_at-returns-in-Null t c =
     let q : Points c.args.bytes.now c.args.w (NoShape) = subst (Points c.args.bytes.now c.args.w) (ap shape_found c.in-Null.is) c.look.ensures.points in
     null_laid c.args.bytes.now c.args.w c.requires.forest c.args.end c.requires.inside e q
 
-pub follow_at-returns-else-element_size-eq6 : goal.follow_at-returns-else-element_size-eq6
-follow_at-returns-else-element_size-eq6 t c =
+pub follow_at-returns-else-depth-least : goal.follow_at-returns-else-depth-least
+follow_at-returns-else-depth-least t c =
     let e : shape_at c.args.bytes.now c.args.w ≡ ListIn c.in-List.start c.in-List.element_size c.in-List.count = sym c.look.ensures.shape ∙ ap shape_found c.in-List.is in
     let q : Points c.args.bytes.now c.args.w (ListIn c.in-List.start c.in-List.element_size c.in-List.count) = subst (Points c.args.bytes.now c.args.w) (ap shape_found c.in-List.is) c.look.ensures.points in
     let same : c.in-List.start ≡ c.args.end = omega (arith, c.if-start-end.false) in

@@ -6,6 +6,7 @@ returns-clause-tables c = record {
   members = c.in_ok-members.ensures.tables;
   plain = c.in_ok-plain.ensures.tables;
   plans = c.in_ok-plans.ensures.plans;
+  group_fields = c.in_ok-group_fields.ensures.fields;
   empty_node = c.new.ensures.node;
   empty_enum = c.new.ensures.enumeration;
 }

@@ -42,3 +42,6 @@ returns-clause-forest c = (whole _ _ _ _ c.args.self.now.low c.as_slice.ensures.
 
 pub returns-clause-tree : goal.returns-clause-tree
 returns-clause-tree c = (whole _ _ _ _ c.args.self.now.low c.as_slice.ensures.value c.requires.forest c.in_ok-encoded.ensures.bytes c.in_ok-encoded.ensures.held.0 c.in_ok-encoded.ensures.held.1).tree
+
+pub returns-clause-depth : goal.returns-clause-depth
+returns-clause-depth c = rw c.as_slice.ensures.value at c.in_ok-encoded.ensures.depth

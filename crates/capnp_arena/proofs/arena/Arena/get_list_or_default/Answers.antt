@@ -42,6 +42,11 @@ returns-in-Some-clause-succeeds c = λ h _.
     let t = tree (segment c.args.self.now) c.args.at in
     not_taken c.args.default t c.in-Some.reader (is_taken c.args.default t c.in-Some.reader (sym c.in-Some.is ∙ c.take_default.ensures)) h
 
+pub returns-in-Some-clause-stays : goal.returns-in-Some-clause-stays
+returns-in-Some-clause-stays c = λ h.
+    let t = tree (segment c.args.self.now) c.args.at in
+    not_taken c.args.default t c.in-Some.reader (is_taken c.args.default t c.in-Some.reader (sym c.in-Some.is ∙ c.take_default.ensures)) h
+
 -- ---- none ----
 
 pub returns-in-None-clause-tree : goal.returns-in-None-clause-tree

@@ -15,4 +15,4 @@ returns-clause-read c = list_is c.get_list.result c.in-Ok.list _ c.in-Ok.is
     (reader_read (segment c.args.self.now) _ c.args.at c.requires.forest c.args.list c.requires.there _ c.get_element_size-size.ensures c.as_slice.ensures.value _ c.of_word-reader.ensures.tree _ c.of_word-reader.ensures.levels _ c.get_list.ensures.read)
 
 pub returns-clause-list : goal.returns-clause-list
-returns-clause-list c = λ below. returns-clause-read c ∙ ap (λ t. listed_tree t c.args.list) (deep (segment c.args.self.now) c.args.at c.requires.forest 65535 below)
+returns-clause-list c = λ below. returns-clause-read c ∙ ap (λ t. listed_tree t c.args.list) (deep (segment c.args.self.now) c.args.at c.requires.forest 130 below)

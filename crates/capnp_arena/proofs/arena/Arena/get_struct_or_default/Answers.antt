@@ -35,6 +35,9 @@ returns-in-Some-clause-cause c =
 pub returns-in-Some-clause-succeeds : goal.returns-in-Some-clause-succeeds
 returns-in-Some-clause-succeeds c = λ h. no_struct c.args.size _ (is_taken c.args.default _ c.in-Some.reader (sym c.in-Some.is ∙ c.take_default.ensures)).null h
 
+pub returns-in-Some-clause-stays : goal.returns-in-Some-clause-stays
+returns-in-Some-clause-stays c = λ h. no_struct c.args.size _ (is_taken c.args.default _ c.in-Some.reader (sym c.in-Some.is ∙ c.take_default.ensures)).null h
+
 -- ---- none ----
 
 pub returns-in-None-clause-tree : goal.returns-in-None-clause-tree

@@ -10,10 +10,10 @@ of_words-requires c = omega (arith, c.args.self.now.few, c.requires.planted.ends
 
 pub returns-clause-read : goal.returns-clause-read
 returns-clause-read c =
-    c.of_words.ensures.parts ∙ ap (λ b. struct_at (tree_below 65535 (b ∷ []) b) b c.args.place.data_words c.args.place.pointers c.args.place.start) c.as_slice.ensures.value
+    c.of_words.ensures.parts ∙ ap (λ b. struct_at (tree_below 130 (b ∷ []) b) b c.args.place.data_words c.args.place.pointers c.args.place.start) c.as_slice.ensures.value
 
 pub returns-clause-parts : goal.returns-clause-parts
-returns-clause-parts c = λ below. returns-clause-read c ∙ deep_struct c.args.self.now.bytes.items c.args.place.start c.args.place.data_words c.args.place.pointers c.requires.planted 65535 below
+returns-clause-parts c = λ below. returns-clause-read c ∙ deep_struct c.args.self.now.bytes.items c.args.place.start c.args.place.data_words c.args.place.pointers c.requires.planted 130 below
 
 pub returns-clause-cut : goal.returns-clause-cut
 returns-clause-cut c =

@@ -12,5 +12,5 @@ write_bit-requires-clause-part c = bit_ends _ (segment c.args.self.now) _ _ c.ar
 pub write_bit-requires-clause-inside : goal.write_bit-requires-clause-inside
 write_bit-requires-clause-inside c = bit_inside _ (segment c.args.self.now) _ _ c.args.value c.args.self.now.whole c.requires.forest c.requires.bit _ _ _ _ (sym c.in-List.ensures.shape) (omega arith)
 
-pub returns : goal.returns
-returns c = record { leaves = bit_leaves _ _ _ _ c.args.value c.args.self.now.whole c.requires.forest c.requires.bit _ _ _ _ (sym c.in-List.ensures.shape) (omega arith) c.write_bit.ensures.long c.write_bit.ensures.put }
+pub returns-clause-leaves : goal.returns-clause-leaves
+returns-clause-leaves c = bit_leaves _ _ _ _ c.args.value c.args.self.now.whole c.requires.forest c.requires.bit _ _ _ _ (sym c.in-List.ensures.shape) (omega arith) c.write_bit.ensures.long c.write_bit.ensures.put

@@ -20,11 +20,9 @@ set_number-requires-clause-inside g c =
     let l = number_fits _ _ c.requires.forest _ _ c.requires.number _ _ _ _ (sym c.in-Composite.ensures.shape) c.get_struct_at-place.result c.get_struct_at-place.ensures.planted c.get_struct_at-place.ensures.tree in
     omega (arith, l)
 
-pub returns-in-Composite : goal.returns-in-Composite
-returns-in-Composite g c =
-    record {
-      leaves = subst (λ t. Leaves c.args.at t (segment c.args.self.now) (segment c.set_number.new.self))
-          (ap (λ s. with_struct_element c.args.index s (tree (segment c.args.self.now) c.args.at)) c.set_number.ensures.tree
-          ∙ struct_number_is _ _ c.requires.forest _ _ c.requires.number _ _ _ _ (sym c.in-Composite.ensures.shape) _ _ c.get_struct_at-place.ensures.tree)
-          (c.get_struct_at-place.ensures.leaves _ c.set_number.ensures.planted c.set_number.ensures.changes);
-    }
+pub returns-in-Composite-clause-leaves : goal.returns-in-Composite-clause-leaves
+returns-in-Composite-clause-leaves g c =
+    subst (λ t. Leaves c.args.at t (segment c.args.self.now) (segment c.set_number.new.self))
+    (ap (λ s. with_struct_element c.args.index s (tree (segment c.args.self.now) c.args.at)) c.set_number.ensures.tree
+    ∙ struct_number_is _ _ c.requires.forest _ _ c.requires.number _ _ _ _ (sym c.in-Composite.ensures.shape) _ _ c.get_struct_at-place.ensures.tree)
+    (c.get_struct_at-place.ensures.leaves _ c.set_number.ensures.planted c.set_number.ensures.changes)

@@ -7,6 +7,6 @@ write_number-requires-clause-inside g c =
     let l = number_inside _ _ _ _ _ _ c.requires.forest c.args.list.size c.requires.there c.requires.number in
     omega (arith, l, ap (λ k. k * c.args.list.count) c.get_width.ensures)
 
-pub returns : goal.returns
-returns g c =
-    record { leaves = number_leaves _ _ _ _ _ _ _ _ c.args.self.now.whole c.requires.forest c.write_number.ensures.long c.args.list.size _ c.requires.there (ap (λ k. k * c.args.list.count) c.get_width.ensures) c.requires.number c.write_number.ensures.put }
+pub returns-clause-leaves : goal.returns-clause-leaves
+returns-clause-leaves g c =
+    number_leaves _ _ _ _ _ _ _ _ c.args.self.now.whole c.requires.forest c.write_number.ensures.long c.args.list.size _ c.requires.there (ap (λ k. k * c.args.list.count) c.get_width.ensures) c.requires.number c.write_number.ensures.put

@@ -7,4 +7,4 @@ use Rattle.capnp_wire.proofs.pointer_reader.PointerReader.of_word.Goals as goal
 pub new-requires : goal.new-requires
 new-requires c =
     let bytes = AreBytes-fits _ c.type_inv.words in
-    IsWellFormed-tree_below c.args.depth (c.args.words.now ∷ []) c.args.words.now c.args.index (AreSegments-one _ bytes) bytes
+    IsWellFormed-tree_below c.min.result (c.args.words.now ∷ []) c.args.words.now c.args.index (AreSegments-one _ bytes) bytes

@@ -10,5 +10,5 @@ pub new-requires : goal.new-requires
 new-requires c =
     let bytes = AreBytes-fits _ c.type_inv.words in
     rw c.bytes_from.ensures
-    (IsWellFormedStruct-struct_at (tree_below c.args.depth (c.args.words.now ∷ []) c.args.words.now) c.args.words.now c.args.size.data_words c.args.size.pointers c.args.start bytes (omega arith) (omega arith)
-    (λ w. IsWellFormed-tree_below c.args.depth (c.args.words.now ∷ []) c.args.words.now w (AreSegments-one _ bytes) bytes))
+    (IsWellFormedStruct-struct_at (tree_below c.min.result (c.args.words.now ∷ []) c.args.words.now) c.args.words.now c.args.size.data_words c.args.size.pointers c.args.start bytes (omega arith) (omega arith)
+    (λ w. IsWellFormed-tree_below c.min.result (c.args.words.now ∷ []) c.args.words.now w (AreSegments-one _ bytes) bytes))
