@@ -1,9 +1,9 @@
 -- The items of a struct, from a field on.
-use Rattle.std.specs.Prelude.{ℕ, zero, suc, ◌+◌, ◌<◌, ◌≤◌, ◌≡◌, ◌==◌, refl, List, [], ◌∷◌, ◌++◌, Bool, true, false, not, ◌&&◌, ◌||◌, nat_lt, cond, length, drop, slice_get, Option, Some, None}
+use Rattle.std.specs.Prelude.{ℕ, zero, suc, ◌+◌, ◌<◌, ◌≤◌, ◌≡◌, ◌==◌, refl, List, [], ◌∷◌, ◌++◌, Bool, true, false, not, ◌&&◌, ◌||◌, nat_lt, cond, length, drop, slice_get, Some, None}
 use Rattle.std.proofs.Common.{ap, sym, subst, ◌∙◌, arith}
 use Rattle.std.proofs.lemmas.Bool.{eq-eqb}
 use Rattle.std.specs.Option.{unwrap_or}
-use Rattle.capnp_schema.specs.FieldLists.{IsFieldOf, IsFound, index_of, typed_of}
+use Rattle.capnp_schema.specs.FieldLists.{IsFieldOf, index_of, typed_of}
 use Rattle.capnp_schema.specs.Schema.{Field as FieldRecord}
 use Rattle.capnp_schema.specs.Schema.{Schemas, TypedField, default_of, is_member, no_field, node_of}
 use Rattle.capnp_schema.specs.StructHandles.{number_of, set_of, struct_field, struct_fields}
@@ -15,28 +15,20 @@ use Rattle.capnp_records.specs.Part.{active_value, has_of, is_active, nth_value,
 use Rattle.capnp_records.specs.Reading.{active_among, discriminant, plain_parts}
 use Rattle.capnp_records.specs.Record as value
 use Rattle.capnp_records.specs.Record.{Active, NoUnion, Parts, Union, Unknown, Value, Values, is_there}
-use Rattle.capnp_records.specs.Text.{Layout, Member, Out, before, item, item_if, later, member, part_text, rest_of, shown}
+use Rattle.capnp_records.specs.Text.{Layout, Member, Out, before, item, item_if, later, part_text, shown}
 use Rattle.capnp_wire.specs.Standing.{struct_of}
 use Rattle.capnp_dynamic_readers.specs.Facts.HasWhich.{not_zero}
 use Rattle.capnp_dynamic_readers.specs.Handles.{reader_of, schema_of}
 use Rattle.capnp_dynamic_readers.specs.PartsRead.{field_in}
 use Rattle.capnp_dynamic_readers.specs.Reads.{BelongsTo}
 use Rattle.capnp_dynamic_readers.specs.Seen.{record_seen}
-use Rattle.capnp_dynamic_readers.specs.Shown.{IsPending, field_item, field_items, is_member_shown, member_items, part_seen, pending_member, record_items, rest_items, still_pending, union_seen, unless_member, within_struct}
+use Rattle.capnp_dynamic_readers.specs.Shown.{field_item, field_items, is_member_shown, part_seen, still_pending, union_seen, unless_member, within_struct}
 use Rattle.capnp_dynamic_readers.specs.declared.dynamic_struct.Reader.{Reader as StructHandle}
 
 -- ---- a field of a struct ----
 
 pub belongs : (s : StructSchema) (i : ℕ) (f : Field) → IsFieldOf s i f → BelongsTo f s
 belongs s i f h = record { set = ap set_of h.schema; number = ap number_of h.schema }
-
--- a field of an index is the field of its own
-pub own_index : (s other : StructSchema) (i : ℕ) (f : Field) → other ≡ s → IsFieldOf other i f → IsFieldOf s (index_of f) f
-own_index s other i f e h = record {
-  inside = subst (λ (z : StructSchema). index_of f < length (struct_fields z)) e (subst (λ j. j < length (struct_fields other)) (sym h.index) h.inside);
-  schema = h.schema ∙ e;
-  index = refl;
-}
 
 -- ---- the active member ----
 
@@ -50,10 +42,10 @@ no-active : {i : ℕ} {v : Value} → NoUnion ≡ Active i v → ⊥
 no-active e = cc
 
 -- what the active member has is the field's part
-abbrev IsActivePart : StructHandle → Union → Type 0
+abbrev pub IsActivePart : StructHandle → Union → Type 0
 IsActivePart r u = (i : ℕ) (v : Value) → u ≡ Active i v → v ≡ part_seen r (struct_field (schema_of r) i)
 
-active-part : (r : StructHandle) → IsActivePart r (union_seen r)
+pub active-part : (r : StructHandle) → IsActivePart r (union_seen r)
 active-part r i v e = go ((node_of (set_of (schema_of r)) (number_of (schema_of r))).discriminant_count == 0) refl e
   where
     fs : List TypedField
@@ -72,37 +64,11 @@ active-part r i v e = go ((node_of (set_of (schema_of r)) (number_of (schema_of 
         (subst (λ n. is_active u n ≡ true) (omega arith) (ap (λ (w : Union). is_active w i) e ∙ eq-eqb i i refl)) in
         sym (ap active_value e) ∙ found.part_is
 
--- which is the active member, where its place is still to come
-pub pending_from : (r : StructHandle) (o : Option Field) → IsFound (schema_of r) (which_of (record_seen r)) o → IsPending r o
-pending_from r None h = tt {0}
-pending_from r (Some f) h = go (which_of (record_seen r)) refl h
-  where
-    go : (w : Option ℕ) → which_of (record_seen r) ≡ w → IsFound (schema_of r) w (Some f) → IsPending r (Some f)
-    go None e h = absurd h
-    go (Some i) e h = (own_index (schema_of r) (schema_of r) i f refl h, e ∙ ap Some (sym h.index))
-
 module _ (left : ℕ) (at : Layout) (r : StructHandle) where
-  member-at : (i : ℕ) (v w : Value) → v ≡ w →
+  pub member-at : (i : ℕ) (v w : Value) → v ≡ w →
       item_if (is_there v || not ((struct_field (schema_of r) i).field.discriminant_value == 0)) (item (struct_field (schema_of r) i) (part_text (set_of (schema_of r)) (within_struct left r) at (default_of (struct_field (schema_of r) i).field) (struct_field (schema_of r) i).type v))
       ≡ item_if (is_there w || not ((struct_field (schema_of r) i).field.discriminant_value == 0)) (item (struct_field (schema_of r) i) (part_text (set_of (schema_of r)) (within_struct left r) at (default_of (struct_field (schema_of r) i).field) (struct_field (schema_of r) i).type w))
   member-at i v w e = ap (λ (z : Value). item_if (is_there z || not ((struct_field (schema_of r) i).field.discriminant_value == 0)) (item (struct_field (schema_of r) i) (part_text (set_of (schema_of r)) (within_struct left r) at (default_of (struct_field (schema_of r) i).field) (struct_field (schema_of r) i).type z))) e
-
-  -- the union's member is the one that was found
-  pub pending_is : (vs : Values) (u : Union) (o : Option Field) → IsActivePart r u → IsFound (schema_of r) (which_of (Parts vs u)) o →
-      member (set_of (schema_of r)) (within_struct left r) at (number_of (schema_of r)) u ≡ pending_member left at r o
-  pending_is vs NoUnion None a h = refl
-  pending_is vs NoUnion (Some f) a h = absurd h
-  pending_is vs (Unknown n) None a h = refl
-  pending_is vs (Unknown n) (Some f) a h = absurd h
-  pending_is vs (Active i v) None a h = absurd h
-  pending_is vs (Active i v) (Some f) a h =
-      ap (λ (xs : List Out). Some (i, xs)) (member-at i v (part_seen r (struct_field (schema_of r) i)) (a i v refl))
-      ∙ ap (λ j. Some (j, member_items left at r (struct_field (schema_of r) j))) (sym h.index)
-
-  pub items_start : (o : Option Field) → IsFound (schema_of r) (which_of (record_seen r)) o → record_items left at r ≡ rest_items left at r o 0
-  items_start o h =
-      ap (λ (m : Member). shown (set_of (schema_of r)) (within_struct left r) at (struct_fields (schema_of r)) 0 (plain_parts (part_seen r) (struct_fields (schema_of r))) m)
-      (pending_is (plain_parts (part_seen r) (struct_fields (schema_of r))) (union_seen r) o (active-part r) h)
 
 -- ---- whether a field is there ----
 
@@ -141,20 +107,20 @@ member_has r i h w = go (union_seen r) (active-part r) w (is_member (struct_fiel
 
 -- ---- from field to field ----
 
-drop-next : (fs : List TypedField) (i : ℕ) → i < length fs → drop i fs ≡ unwrap_or (slice_get fs i) no_field ∷ drop (i + 1) fs
+pub drop-next : (fs : List TypedField) (i : ℕ) → i < length fs → drop i fs ≡ unwrap_or (slice_get fs i) no_field ∷ drop (i + 1) fs
 drop-next [] i h = absurd (omega (arith, h))
 drop-next (f ∷ fs) zero h = refl
 drop-next (f ∷ fs) (suc i) h =
     let e : suc i + 1 ≡ suc (i + 1) = omega arith in
     drop-next fs i (omega (arith, h)) ∙ ap (λ n. unwrap_or (slice_get fs i) no_field ∷ drop n (f ∷ fs)) (sym e)
 
-drop-end : (fs : List TypedField) (i : ℕ) → length fs ≤ i → drop i fs ≡ []
+pub drop-end : (fs : List TypedField) (i : ℕ) → length fs ≤ i → drop i fs ≡ []
 drop-end [] zero h = refl
 drop-end [] (suc i) h = refl
 drop-end (f ∷ fs) zero h = absurd (omega (arith, h))
 drop-end (f ∷ fs) (suc i) h = drop-end fs i (omega (arith, h))
 
-suc-is : (i : ℕ) → suc i ≡ i + 1
+pub suc-is : (i : ℕ) → suc i ≡ i + 1
 suc-is i = omega arith
 
 module _ (left : ℕ) (at : Layout) (r : StructHandle) where
@@ -162,7 +128,7 @@ module _ (left : ℕ) (at : Layout) (r : StructHandle) where
   set = set_of (schema_of r)
 
   -- what is shown of a field, and then of those after it
-  shown-next : (f : TypedField) (fs : List TypedField) (i : ℕ) (m : Member) →
+  pub shown-next : (f : TypedField) (fs : List TypedField) (i : ℕ) (m : Member) →
       shown (set_of (schema_of r)) (within_struct left r) at (f ∷ fs) i (plain_parts (part_seen r) (f ∷ fs)) m
       ≡ field_items left at r f i m ++ shown (set_of (schema_of r)) (within_struct left r) at fs (suc i) (plain_parts (part_seen r) fs) (still_pending (is_member f.field) m i)
   shown-next f fs i m = go (is_member f.field)
@@ -176,29 +142,6 @@ module _ (left : ℕ) (at : Layout) (r : StructHandle) where
           ≡ unless_member q (before m i ++ item_if (is_there (part_seen r f)) (field_item left at r f)) ++ shown (set_of (schema_of r)) (within_struct left r) at fs (suc i) (plain_parts (part_seen r) fs) (still_pending q m i)
       go true = refl
       go false = refl
-
-  pub items_next : (o : Option Field) (i : ℕ) → i < length (struct_fields (schema_of r)) → (p : Option Field) →
-      pending_member left at r p ≡ still_pending (is_member (struct_field (schema_of r) i).field) (pending_member left at r o) i →
-      rest_items left at r o i ≡ field_items left at r (struct_field (schema_of r) i) i (pending_member left at r o) ++ rest_items left at r p (i + 1)
-  items_next o i h p e =
-      ap (λ (fs : List TypedField). shown (set_of (schema_of r)) (within_struct left r) at fs i (plain_parts (part_seen r) fs) (pending_member left at r o)) (drop-next (struct_fields (schema_of r)) i h)
-      ∙ (shown-next (struct_field (schema_of r) i) (drop (i + 1) (struct_fields (schema_of r))) i (pending_member left at r o)
-      ∙ (ap (λ (m : Member). field_items left at r (struct_field (schema_of r) i) i (pending_member left at r o) ++ shown (set_of (schema_of r)) (within_struct left r) at (drop (i + 1) (struct_fields (schema_of r))) (suc i) (plain_parts (part_seen r) (drop (i + 1) (struct_fields (schema_of r)))) m) (sym e)
-      ∙ ap (λ j. field_items left at r (struct_field (schema_of r) i) i (pending_member left at r o) ++ shown (set_of (schema_of r)) (within_struct left r) at (drop (i + 1) (struct_fields (schema_of r))) j (plain_parts (part_seen r) (drop (i + 1) (struct_fields (schema_of r)))) (pending_member left at r p)) (suc-is i)))
-
-  -- the items of the fields after one
-  abbrev pub tail_items : Option Field → ℕ → List Out
-  tail_items o i = shown (set_of (schema_of r)) (within_struct left r) at (drop (i + 1) (struct_fields (schema_of r))) (suc i) (plain_parts (part_seen r) (drop (i + 1) (struct_fields (schema_of r)))) (still_pending (is_member (struct_field (schema_of r) i).field) (pending_member left at r o) i)
-
-  -- the items that a field begins with, whatever the member after it
-  pub items_begin : (o : Option Field) (i : ℕ) → i < length (struct_fields (schema_of r)) →
-      rest_items left at r o i ≡ field_items left at r (struct_field (schema_of r) i) i (pending_member left at r o) ++ tail_items o i
-  items_begin o i h =
-      ap (λ (fs : List TypedField). shown (set_of (schema_of r)) (within_struct left r) at fs i (plain_parts (part_seen r) fs) (pending_member left at r o)) (drop-next (struct_fields (schema_of r)) i h)
-      ∙ shown-next (struct_field (schema_of r) i) (drop (i + 1) (struct_fields (schema_of r))) i (pending_member left at r o)
-
-  pub items_end : (o : Option Field) (i : ℕ) → length (struct_fields (schema_of r)) ≤ i → rest_items left at r o i ≡ rest_of (pending_member left at r o)
-  items_end o i h = ap (λ (fs : List TypedField). shown (set_of (schema_of r)) (within_struct left r) at fs i (plain_parts (part_seen r) fs) (pending_member left at r o)) (drop-end (struct_fields (schema_of r)) i h)
 
 -- ---- the member before a plain field ----
 
@@ -227,13 +170,6 @@ later_none i j xs h = ap (λ q. cond q None (Some (i, xs))) (lt-false i j h)
     lt-false i j h = grind (arith, h)
 
 -- ---- what a printer asks of a field ----
-
-pub plain_from : (r : StructHandle) (f : Field) → IsFieldOf (schema_of r) (index_of f) f → (p : FieldRecord) → p ≡ (typed_of f).field → false ≡ is_member p → is_member (field_in r f).field ≡ false
-plain_from r f field p e h = sym (h ∙ ap is_member (e ∙ ap (λ (s : StructSchema). (struct_field s (index_of f)).field) field.schema))
-
--- the name of a field's record
-pub name_in : (r : StructHandle) (f : Field) → IsFieldOf (schema_of r) (index_of f) f → (p : FieldRecord) → p ≡ (typed_of f).field → p.name ≡ (field_in r f).field.name
-name_in r f field p e = ap (λ (x : FieldRecord). x.name) (e ∙ ap (λ (s : StructSchema). (struct_field s (index_of f)).field) field.schema)
 
 -- the discriminant value of a field's record
 pub discriminant_in : (r : StructHandle) (f : Field) → IsFieldOf (schema_of r) (index_of f) f → (p : FieldRecord) → p ≡ (typed_of f).field → p.discriminant_value ≡ (field_in r f).field.discriminant_value

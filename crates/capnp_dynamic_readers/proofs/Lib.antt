@@ -12,3 +12,5 @@ pub mod Roots
 pub mod Steps
 pub mod StoredValues
 pub mod Streams
+pub mod GroupsShown
+pub mod GroupSteps

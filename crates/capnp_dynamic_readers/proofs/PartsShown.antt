@@ -1,7 +1,6 @@
 -- What is read under a field or at an index is printed as the definition has it.
-use Rattle.std.specs.Prelude.{ℕ, zero, suc, ◌+◌, ◌-◌, ◌*◌, ◌<◌, ◌≤◌, ◌≡◌, refl, [], Bool, true, false, length, Option, Some, None, Result, Ok, Err, ⊤, IfOk, IfErr}
-use Rattle.std.proofs.Common.{ap, sym, subst, ◌∙◌, arith}
-use Rattle.std.proofs.lemmas.Option.{same_Some}
+use Rattle.std.specs.Prelude.{ℕ, zero, suc, ◌≡◌, refl, [], Bool, true, false, length, Option, Some, None, Result, Ok, Err, ⊤, IfOk, IfErr}
+use Rattle.std.proofs.Common.{ap, sym, subst, ◌∙◌}
 use Rattle.std.specs.Option.{unwrap_or}
 use Rattle.capnp_device.specs.declared.error.ErrorKind.{ErrorKind}
 use Rattle.capnp_device.specs.declared.error.Error.{Error}
@@ -9,20 +8,20 @@ use Rattle.capnp_wire.specs.Standing.{struct_levels, struct_of}
 use Rattle.capnp_wire.specs.Tree as tree
 use Rattle.capnp_wire.specs.Tree.{StructTree, Tree, nth_tree}
 use Rattle.capnp_wire.specs.Reading.{as_data, as_list, as_struct, as_text}
-use Rattle.capnp_schema.specs.Accepted.{GroupFits}
+use Rattle.capnp_schema.specs.Accepted.{GroupFits, IsAccepted, IsGroupOf}
+use Rattle.capnp_schema.specs.Facts.Fields.{brand_there}
 use Rattle.capnp_schema.specs.FieldLists.{IsFieldOf, index_of, typed_of}
-use Rattle.capnp_schema.specs.GroupsDown.{IsGroupIn}
-use Rattle.capnp_schema.specs.Laws.{HeightsFall, group_height}
 use Rattle.capnp_schema.specs.Schema.{FieldKind, Group, Schemas, Slot, kind_default, kind_target}
 use Rattle.capnp_schema.specs.Schema.{Value as SchemaValue}
 use Rattle.capnp_schema.specs.StructHandles.{IsStruct, number_of, set_of, struct_field}
 use Rattle.capnp_schema.specs.declared.schema.fields.Field.{Field}
 use Rattle.capnp_schema.specs.declared.schema.structs.StructSchema.{StructSchema}
 use Rattle.capnp_schema.specs.Types.{SchemaType, VoidType, BoolType, IntType, UIntType, EnumType, TextType, DataType, StructType, ListType, AnyPointerType, element_size, is_pointer, struct_brand, struct_number}
+use Rattle.capnp_records.specs.Facts.Groups.{part_of-group}
 use Rattle.capnp_records.specs.Facts.Pointers.{values_of-nth}
 use Rattle.capnp_records.specs.Default.{read_of}
 use Rattle.capnp_schema.specs.SlotValue.{slot_number}
-use Rattle.capnp_records.specs.Reading.{Below, Reading, bodies_of, bytes_below, kind_value, nth_reading, number_value, of_read, pointers_below, record_within, slot_value, struct_below, structs_below, tree_value, value_of, values_of}
+use Rattle.capnp_records.specs.Reading.{Below, Reading, bodies_of, bytes_below, kind_value, nth_reading, number_value, of_read, pointers_below, record_of, record_within, slot_value, struct_below, struct_record, structs_below, tree_value, value_of, values_of}
 use Rattle.capnp_records.specs.Record as value
 use Rattle.capnp_records.specs.Record.{Left, Levels, Record, Value, asked}
 use Rattle.capnp_records.specs.Text.{Inner, Layout, part_text, record_text, text_within, value_text}
@@ -30,13 +29,12 @@ use Rattle.capnp_dynamic_readers.specs.Handles.{element_of, list_set, reader_of,
 use Rattle.capnp_dynamic_readers.specs.PartsRead.{IsElement, IsElementRefused, IsPart, IsPartRefused, fault_at, field_in}
 use Rattle.capnp_dynamic_readers.specs.Reads.{element_seen, field_seen, handed_out}
 use Rattle.capnp_dynamic_readers.specs.Seen.{answered, record_seen, value_seen}
-use Rattle.capnp_dynamic_readers.specs.Shown.{groups_below, no_schemas, set_seen, steps_of, steps_within, value_shown}
+use Rattle.capnp_dynamic_readers.specs.Shown.{field_shown, no_schemas, record_shown, set_seen, value_shown}
 use Rattle.capnp_dynamic_readers.specs.Typed.{IsOf, IsUnder}
 use Rattle.capnp_dynamic_readers.specs.declared.dynamic_list.Reader.{Reader as ListHandle}
 use Rattle.capnp_dynamic_readers.specs.declared.dynamic_struct.Reader.{Reader as StructHandle}
 use Rattle.capnp_dynamic_readers.specs.declared.dynamic_value.Reader.{Reader as DynamicValue}
 use Rattle.capnp_dynamic_readers.specs.declared.dynamic_value.Reader.TheVariants as dynamic
-use Rattle.capnp_dynamic_readers.specs.declared.printer.parts.Part.TheVariants as part
 
 -- ---- values under types ----
 
@@ -99,38 +97,6 @@ text_under set t left at (dynamic.List l) h =
 pub fault_text : (set : Schemas) (left : ℕ) (at : Layout) (t : SchemaType) (kind : ErrorKind) → text_within set left at t (value.Fault kind) ≡ Err (fault_at left t kind)
 fault_text set zero at t kind = refl
 fault_text set (suc n) at t kind = refl
-
--- ---- steps ----
-
-no_steps : (set : Schemas) (left : ℕ) → steps_within no_schemas left ≤ steps_within set left
-unfolding steps_within
-no_steps set zero = omega arith
-no_steps set (suc n) = omega (arith, no_steps set n)
-
-same_steps : (set other : Schemas) (left : ℕ) → other ≡ set → steps_within other left ≤ steps_within set left
-same_steps set other left e = subst (λ (z : Schemas). steps_within other left ≤ steps_within z left) e (omega arith)
-
--- what is read has no more steps than its reader
-pub steps_under : (set : Schemas) (t : SchemaType) (v : DynamicValue) → IsUnder set t v → (left : ℕ) → steps_within (set_seen v) left ≤ steps_within set left
-steps_under set t (dynamic.Enum e) h left = same_steps set _ left h.0
-steps_under set t (dynamic.Struct s) h left = same_steps set _ left h.0
-steps_under set t (dynamic.List l) h left = same_steps set _ left h.0
-steps_under set t v h left = no_steps set left
-
-pub level_falls : (set : Schemas) (left : ℕ) → 0 < left → steps_within set (left - 1) + (16 * length set.brands + 32) ≤ steps_within set left
-unfolding steps_within
-level_falls set zero h = absurd (omega (arith, h))
-level_falls set (suc n) h =
-    let e : suc n - 1 ≡ n = omega arith in
-    subst (λ m. steps_within set m + (16 * length set.brands + 32) ≤ steps_within set (suc n)) (sym e) (omega arith)
-
-pub few_groups : (set : Schemas) (b : ℕ) → groups_below set b ≤ length set.brands
-unfolding groups_below
-few_groups set b = omega arith
-
-pub fewer_groups : (set : Schemas) (b g : ℕ) → group_height set g < group_height set b → group_height set b ≤ length set.brands → groups_below set g < groups_below set b
-unfolding groups_below
-fewer_groups set b g h k = omega (arith, h, k)
 
 -- ---- a slot has no group ----
 
@@ -231,34 +197,33 @@ module _ (set : Schemas) (group : ℕ → Record) (l : Levels) (s : StructTree) 
       fault-struct : {kind : ErrorKind} {r : Record} → value.Fault kind ≡ value.Struct r → ⊥
       fault-struct e = cc
 
-  pub group_shown : (left : ℕ) (at : Layout) (k : FieldKind) (t : SchemaType) (b : ℕ) (r : StructHandle) → kind_target k t ≡ Some b → number_of (schema_of r) ≡ b →
-      value.Struct (record_seen r) ≡ handed_out k (read_of set (kind_default k) t (kind_value group l s.bytes (values_of set s.pointers) k t)) →
-      part_text set (text_within set left) at (kind_default k) t (kind_value group l s.bytes (values_of set s.pointers) k t) ≡ record_text set (text_within set left) at (number_of (schema_of r)) (record_seen r)
-  group_shown left at (Slot o d) t b r e n is = absurd (some-none (sym e))
-  group_shown left at (Group m) t b r e n is =
-      ap (λ (z : Record). record_text set (text_within set left) at (struct_number t) z) (sym (struct-same is))
-      ∙ ap (λ k. record_text set (text_within set left) at k (record_seen r)) (ap (λ o. unwrap_or o 0) e ∙ sym n)
-    where
-      struct-same : {x y : Record} → value.Struct x ≡ value.Struct y → x ≡ y
-      struct-same e = cc
-
 -- ---- what was read ----
 
 module _ (l : ListHandle) (i : ℕ) where
   pub element_read : (r : Result DynamicValue Error) → answered r ≡ element_seen l i → IfOk r (IsUnder (list_set l) (element_of l)) → IfOk r (IsElement l i)
-  element_read (Ok v) is under = (
-    λ left. (let few = steps_under (list_set l) (element_of l) v under left in omega (arith, few)),
-    λ left at. ap (text_within (list_set l) left at (element_of l)) (sym is) ∙ text_under (list_set l) (element_of l) left at v under,
-  )
+  element_read (Ok v) is under = λ left at. ap (text_within (list_set l) left at (element_of l)) (sym is) ∙ text_under (list_set l) (element_of l) left at v under
   element_read (Err e) is under = tt {0}
 
   pub element_refused : (r : Result DynamicValue Error) → answered r ≡ element_seen l i → IfErr r (λ e. IsElementRefused l i e.kind)
   element_refused (Ok v) is = tt {0}
   element_refused (Err e) is = λ left at. ap (text_within (list_set l) left at (element_of l)) (sym is) ∙ fault_text (list_set l) left at (element_of l) e.kind
 
-target_number : (k : FieldKind) (t : SchemaType) (b n : ℕ) → kind_target k t ≡ Some b → struct_brand t ≡ Some n → n ≡ b
-target_number (Slot o d) t b n e h = absurd (some-none (sym e))
-target_number (Group m) t b n e h = same_Some n b (sym h ∙ e)
+-- the text of a group's field is that of its record
+group_named : (k : FieldKind) (t : SchemaType) (g : ℕ) → kind_target k t ≡ Some g → IsGroupOf k t g
+group_named (Slot o d) t g e = cc
+group_named (Group m) t g e = e
+
+group_text : (set : Schemas) (l : Levels) (s : StructTree) (left : ℕ) (at : Layout) (g : ℕ) (k : FieldKind) (t : SchemaType) → kind_target k t ≡ Some g →
+    kind_value (record_within (length set.brands) set l s.bytes (values_of set s.pointers)) l s.bytes (values_of set s.pointers) k t ≡ value.Group (record_of set l s.bytes (values_of set s.pointers) g) →
+    part_text set (text_within set left) at (kind_default k) t (kind_value (record_within (length set.brands) set l s.bytes (values_of set s.pointers)) l s.bytes (values_of set s.pointers) k t)
+    ≡ record_text set (text_within set left) at g (record_of set l s.bytes (values_of set s.pointers) g)
+group_text set l s left at g k t e is =
+    ap (part_text set (text_within set left) at (kind_default k) t) is
+    ∙ ap (λ n. record_text set (text_within set left) at n (record_of set l s.bytes (values_of set s.pointers) g)) (number k t e)
+  where
+    number : (k : FieldKind) (t : SchemaType) → kind_target k t ≡ Some g → struct_number t ≡ g
+    number (Slot o d) t e = cc
+    number (Group m) t e = ap (λ o. unwrap_or o 0) e
 
 module _ (r : StructHandle) (f : Field) (field : IsFieldOf (schema_of r) (index_of f) f) where
   -- a fact of the field's own schema is one of the struct's
@@ -271,27 +236,26 @@ module _ (r : StructHandle) (f : Field) (field : IsFieldOf (schema_of r) (index_
       (field_in r f).field.kind (field_in r f).type kind is
 
   pub part_value : IsStruct (schema_of r) → (v : DynamicValue) → value_seen v ≡ field_seen r (index_of f) → IsOf (set_of (schema_of r)) (field_in r f).type v →
-      None ≡ kind_target (field_in r f).field.kind (field_in r f).type → IsPart r f (part.Value v)
-  part_value stands v is typed none =
-      let under = under_of (set_of (schema_of r)) (field_in r f).type v typed in (
-        λ left. (let few = steps_under (set_of (schema_of r)) (field_in r f).type v under left in omega (arith, few)),
-        λ left at.
-            slot_shown (set_of (schema_of r)) (record_within (length (set_of (schema_of r)).brands) (set_of (schema_of r)) (Left (struct_levels (reader_of r))) (struct_of (reader_of r)).bytes (values_of (set_of (schema_of r)) (struct_of (reader_of r)).pointers)) (Left (struct_levels (reader_of r))) (struct_of (reader_of r)) left at
-            (field_in r f).field.kind (field_in r f).type v (stands.accepted.rule7 (number_of (schema_of r)) (index_of f) stands.number field.inside) (sym none) is under,
-      )
+      None ≡ kind_target (field_in r f).field.kind (field_in r f).type → IsPart r f v
+  part_value stands v is typed none = λ left at.
+      slot_shown (set_of (schema_of r)) (record_within (length (set_of (schema_of r)).brands) (set_of (schema_of r)) (Left (struct_levels (reader_of r))) (struct_of (reader_of r)).bytes (values_of (set_of (schema_of r)) (struct_of (reader_of r)).pointers)) (Left (struct_levels (reader_of r))) (struct_of (reader_of r)) left at
+      (field_in r f).field.kind (field_in r f).type v (stands.accepted.rule7 (number_of (schema_of r)) (index_of f) stands.number field.inside) (sym none) is (under_of (set_of (schema_of r)) (field_in r f).type v typed)
 
-  pub part_group : IsStruct (schema_of r) → HeightsFall → (g : StructHandle) (s : StructSchema) → value.Struct (record_seen g) ≡ field_seen r (index_of f) →
-      IsOf (set_of (schema_of r)) (field_in r f).type (dynamic.Struct g) →
-      Some (number_of s) ≡ kind_target (field_in r f).field.kind (field_in r f).type → IsGroupIn (schema_of r) s → IsPart r f (part.Group g)
-  part_group stands heights g s is typed some down =
-      let number : number_of (schema_of g) ≡ number_of s = target_number (field_in r f).field.kind (field_in r f).type (number_of s) (number_of (schema_of g)) (sym some) (ap struct_brand (sym typed.2)) in
-      let lower : groups_below (set_of (schema_of r)) (number_of s) < groups_below (set_of (schema_of r)) (number_of (schema_of r)) =
-      fewer_groups (set_of (schema_of r)) (number_of (schema_of r)) (number_of s) down.leads.down.lower ((heights (set_of (schema_of r)) stands.accepted (number_of (schema_of r)) stands.number).0) in
-      let fewer : groups_below (set_of (schema_of r)) (number_of (schema_of g)) < groups_below (set_of (schema_of r)) (number_of (schema_of r)) =
-      subst (λ b. groups_below (set_of (schema_of r)) b < groups_below (set_of (schema_of r)) (number_of (schema_of r))) (sym number) lower in (
-        λ left. subst (λ (z : Schemas). steps_within z left + (16 * groups_below z (number_of (schema_of g)) + 9) < steps_of r left 2) (sym typed.1) (omega (arith, fewer)),
-        λ left at.
-            group_shown (set_of (schema_of r)) (record_within (length (set_of (schema_of r)).brands) (set_of (schema_of r)) (Left (struct_levels (reader_of r))) (struct_of (reader_of r)).bytes (values_of (set_of (schema_of r)) (struct_of (reader_of r)).pointers)) (Left (struct_levels (reader_of r))) (struct_of (reader_of r)) left at
-            (field_in r f).field.kind (field_in r f).type (number_of s) g (sym some) number is
-            ∙ ap (λ (z : Schemas). record_text z (text_within z left) at (number_of (schema_of g)) (record_seen g)) (sym typed.1),
-      )
+  -- a group is printed as the same struct under the group's schema
+  pub part_group : IsAccepted (set_of (schema_of r)) → (g : StructSchema) → Some (number_of g) ≡ kind_target (field_in r f).field.kind (field_in r f).type → set_of g ≡ set_of (schema_of r) →
+      (left : ℕ) (at : Layout) → field_shown left at r (field_in r f) ≡ record_shown left at (record { reader = reader_of r; schema = g })
+  part_group accepted g some same left at =
+      group_text (set_of (schema_of r)) (Left (struct_levels (reader_of r))) (struct_of (reader_of r)) left at (number_of g)
+      (field_in r f).field.kind (field_in r f).type (sym some)
+      (part_of-group (set_of (schema_of r)) accepted (Left (struct_levels (reader_of r))) (struct_of (reader_of r)).bytes (values_of (set_of (schema_of r)) (struct_of (reader_of r)).pointers) (number_of (schema_of r)) (index_of f) (number_of g) (brand_there (set_of (schema_of r)) (number_of (schema_of r)) (index_of f) field.inside) field.inside
+      (group_named (field_in r f).field.kind (field_in r f).type (number_of g) (sym some)))
+      ∙ ap (λ (z : Schemas). record_text z (text_within z left) at (number_of g) (struct_record z (Left (struct_levels (reader_of r))) (struct_of (reader_of r)) (number_of g))) (sym same)
+
+  pub part_read : IsStruct (schema_of r) → (answer : Result DynamicValue Error) → answered answer ≡ field_seen r (index_of f) → IfOk answer (IsOf (set_of (schema_of r)) (field_in r f).type) →
+      None ≡ kind_target (field_in r f).field.kind (field_in r f).type → IfOk answer (IsPart r f)
+  part_read stands (Ok v) is typed none = part_value stands v is typed none
+  part_read stands (Err e) is typed none = tt {0}
+
+  pub part_unread : (answer : Result DynamicValue Error) → answered answer ≡ field_seen r (index_of f) → IfErr answer (λ e. IsPartRefused r f e.kind)
+  part_unread (Ok v) is = tt {0}
+  part_unread (Err e) is = part_refused e.kind is

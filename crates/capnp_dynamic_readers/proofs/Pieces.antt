@@ -1,13 +1,17 @@
 -- Pieces of texts, as they are put one after another.
-use Rattle.std.proofs.Common.{arith, append_assoc, append-nil, Option, ◌≡◌, refl, ap, sym, ◌∙◌, ℕ, zero, suc, subst, Bool, true, false, List, [], ◌∷◌, ◌++◌, Some, None, Ok, Err, cond, ◌<◌, ◌≤◌, get_or, length, take, ◌+◌}
-use Rattle.std.specs.Bool.{MatchBool}
-use Rattle.std.specs.Char.{is_ascii}
-use Rattle.std.specs.Fmt.{AppendsText, debug_str, ◌++?◌}
+use Rattle.std.proofs.Common.{arith, append_assoc, ◌≡◌, refl, ap, ap₂, sym, ◌∙◌, ℕ, zero, suc, subst, Bool, true, false, List, [], ◌∷◌, ◌++◌, Some, None, Result, Ok, Err, OnOk, cond, ◌<◌, ◌≤◌, get_or, length, take, ◌+◌, ◌/◌, ◌%◌}
+use Rattle.std.specs.Char.{digit_char, is_ascii}
+use Rattle.std.specs.Fmt.{AppendsText, debug_escape, debug_str}
 use Rattle.std.specs.List.{flat_map, list_all}
-use Rattle.std.specs.Prelude.{◌&&◌, ⊤, codes, decimal}
+use Rattle.std.specs.Prelude.{codes, decimal}
+use Rattle.std.specs.Result.{is_ok}
 use Rattle.std.specs.Str.{IsAscii, IsNotAscii, IsUtf8, is_utf8}
-use Rattle.capnp_records.specs.Text.{Out, after, decimals, quoted, said}
-use Rattle.capnp_dynamic_readers.specs.Pieces.{IsAppended}
+use Rattle.capnp_records.specs.Facts.Spelled.{form_spelled, some_bytes, some_spelled}
+use Rattle.capnp_records.specs.Text.{Out, Pieces, debug_pieces, decimals, form_or, quoted, said}
+use Rattle.capnp_dynamic_readers.specs.Leaf.{two_digits}
+use Rattle.capnp_dynamic_readers.specs.Pieces.{IsAppended, IsPut, Taken}
+use Rattle.capnp_dynamic_readers.proofs.Streams.{bytes_put, nothing_put, three_put, two_put}
+use Rattle.std.proofs.lemmas.Bool.{true≢false}
 use Rattle.std.proofs.lemmas.Bool.Decides.{nat_tests}
 use Rattle.std.proofs.lemmas.List.{flat_map_more, length-take, take_more}
 use Rattle.std.proofs.lemmas.Str.{IsUtf8-from_is_utf8, is_utf8-from_IsUtf8}
@@ -26,72 +30,69 @@ some_other (b ∷ bs) (suc i) h =
     let e : list_all is_ascii bs ≡ false = some_other bs i h in
     grind (arith, nat_tests, e)
 
--- a list of bytes is ASCII where the test of its bytes says so
-pub ascii_tested : (bs : List ℕ) (b : Bool) → MatchBool b (IsAscii bs) (IsNotAscii bs) → list_all is_ascii bs ≡ b
-ascii_tested bs true h = all_ascii bs h
-ascii_tested bs false h = some_other bs h.0 h.1
+-- bytes that a string grew by
+pub grown : {T E : Type 0} (r : Result T E) (old new bytes : List ℕ) → OnOk r (new ≡ old ++ bytes) → OnOk r (IsPut (Some old) (said bytes) (Some new))
+grown (Ok x) old new bytes e = bytes_put (Some old) (Some new) bytes (ap Some (sym e))
+grown (Err x) old new bytes e = tt {0}
 
-told_while : (is_said t : Bool) (old new body : List ℕ) → AppendsText old new (cond t (Some body) None) →
-    cond is_said (Some old) None ++? cond t (Some body) None ≡ cond (is_said && t) (Some new) None
-told_while false false old new body a = refl
-told_while false true old new body a = refl
-told_while true false old new body a = refl
-told_while true true old new body a = ap Some (sym a)
+-- and that were pushed
+pub pushed : {T E : Type 0} (r : Result T E) (old new bytes : List ℕ) → new ≡ cond (is_ok r) (old ++ bytes) old → OnOk r (new ≡ old ++ bytes)
+pushed (Ok x) old new bytes e = e
+pushed (Err x) old new bytes e = tt {0}
 
--- a piece that is put by its debug form: what is said stays said where the piece is ASCII
-pub debug_put : (is_said b : Bool) (old new piece : List ℕ) → MatchBool b (IsAscii piece) (IsNotAscii piece) → AppendsText old new (debug_str piece) →
-    cond is_said (Some old) None ++? debug_str piece ≡ cond (is_said && b) (Some new) None
-debug_put is_said b old new piece h a =
-    subst (λ (z : Bool). cond is_said (Some old) None ++? debug_str piece ≡ cond (is_said && z) (Some new) None) (ascii_tested piece b h)
-    (told_while is_said (list_all is_ascii piece) old new _ a)
+-- a piece that is put by its debug form: std says how an ASCII one is written
+pub ascii_put : {T E : Type 0} (r : Result T E) (old new piece : List ℕ) → IsAscii piece → OnOk r (AppendsText old new (debug_str piece)) → OnOk r (IsPut (Some old) (Ok (debug_pieces piece)) (Some new))
+ascii_put {T} {E} r old new piece h a = go (list_all is_ascii piece) (all_ascii piece h) r a
+  where
+    body : List ℕ
+    body = 34 ∷ (flat_map (debug_escape 34) piece ++ 34 ∷ [])
 
-abbrev bytes_in : Out → List ℕ
-bytes_in (Ok (Some bs)) = bs
-bytes_in (Ok None) = []
-bytes_in (Err kind) = []
+    go : (q : Bool) → q ≡ true → (r : Result T E) → OnOk r (AppendsText old new (cond q (Some body) None)) → OnOk r (IsPut (Some old) (Ok (form_or piece (cond q (Some body) None))) (Some new))
+    go true e (Ok x) b = bytes_put (Some old) (Some new) body (ap Some (sym b))
+    go true e (Err x) b = tt {0}
+    go false e r b = absurd (true≢false (sym e))
 
-abbrev IsSaid : Out → Type 0
-IsSaid (Ok (Some bs)) = ⊤
-IsSaid (Ok None) = ⊥
-IsSaid (Err kind) = ⊥
+-- and another is some UTF-8
+pub form_put : {T E : Type 0} (r : Result T E) (old new piece form : List ℕ) → IsNotAscii piece → IsUtf8 form → OnOk r (new ≡ old ++ form) → OnOk r (IsPut (Some old) (Ok (debug_pieces piece)) (Some new))
+form_put {T} {E} r old new piece form h u e = go (list_all is_ascii piece) (some_other piece h.0 h.1) r e
+  where
+    body : List ℕ
+    body = 34 ∷ (flat_map (debug_escape 34) piece ++ 34 ∷ [])
 
-abbrev IsThere : Out → Type 0
-IsThere (Ok o) = ⊤
-IsThere (Err kind) = ⊥
+    go : (q : Bool) → q ≡ false → (r : Result T E) → OnOk r (new ≡ old ++ form) → OnOk r (IsPut (Some old) (Ok (form_or piece (cond q (Some body) None))) (Some new))
+    go true f r e = absurd (true≢false f)
+    go false f (Ok x) e = (form, form_spelled piece form u, ap Some (sym e))
+    go false f (Err x) e = tt {0}
+
+-- a formatter takes each piece, and nothing is said of what it took
+pub untold : {T E : Type 0} (r : Result T E) (pieces : Pieces) → OnOk r (IsPut None (Ok pieces) None)
+untold (Ok x) pieces = (some_bytes pieces, some_spelled pieces, refl)
+untold (Err x) pieces = tt {0}
 
 -- a string to which the whole of a text was appended that was made from nothing
-pub appended_whole : (o : Out) (old new made : List ℕ) (is_said : Bool) → after (Ok (Some [])) o ≡ Ok (cond is_said (Some made) None) → new ≡ old ++ made → IsAppended old o new
-appended_whole (Ok (Some bs)) old new made true e f = f ∙ ap (λ (z : List ℕ). old ++ z) (sym (ap bytes_in e))
-appended_whole (Ok (Some bs)) old new made false e f = absurd (subst IsSaid e (tt {0}))
-appended_whole (Ok None) old new made is_said e f = (made, f)
-appended_whole (Err kind) old new made is_said e f = absurd (subst IsThere (sym e) (tt {0}))
-
--- ---- pieces, one after another ----
-
-after_said : (a : Option (List ℕ)) (x y : List ℕ) → after (after (Ok a) (said x)) (said y) ≡ after (Ok a) (said (x ++ y))
-after_said None x y = refl
-after_said (Some p) x y = ap said (append_assoc p x y)
-
-pub none_put : (a : Option (List ℕ)) → after (Ok a) (said []) ≡ Ok a
-none_put None = refl
-none_put (Some p) = ap said (append-nil p)
-
-pub two_put : (a b c : Option (List ℕ)) (x y : List ℕ) → after (Ok a) (said x) ≡ Ok b → after (Ok b) (said y) ≡ Ok c → after (Ok a) (said (x ++ y)) ≡ Ok c
-two_put a b c x y e f = sym (after_said a x y) ∙ subst (λ (z : Out). after z (said y) ≡ Ok c) (sym e) f
-
-pub three_put : (a b c d : Option (List ℕ)) (x y z : List ℕ) → after (Ok a) (said x) ≡ Ok b → after (Ok b) (said y) ≡ Ok c → after (Ok c) (said z) ≡ Ok d →
-    after (Ok a) (said (x ++ (y ++ z))) ≡ Ok d
-three_put a b c d x y z e f g = two_put a b d x (y ++ z) e (two_put b c d y z f g)
+pub appended_whole : (o : Out) (old new made : List ℕ) → IsPut (Some []) o (Some made) → new ≡ old ++ made → IsAppended old o new
+appended_whole o old new made (bytes, h, e) f = (bytes, h, f ∙ ap (λ (z : List ℕ). old ++ z) (sym (same_some bytes made e)))
+  where
+    same_some : (x y : List ℕ) → Some x ≡ Some y → x ≡ y
+    same_some x y e = cc
 
 -- ---- bytes, one after another ----
 
 -- one byte more
-pub more_put : (f : ℕ → List ℕ) (a b c : Option (List ℕ)) (bs : List ℕ) (i : ℕ) → i < length bs → after (Ok a) (said (flat_map f (take i bs))) ≡ Ok b → after (Ok b) (said (f (get_or bs i 0))) ≡ Ok c →
-    after (Ok a) (said (flat_map f (take (i + 1) bs))) ≡ Ok c
+pub more_put : (f : ℕ → List ℕ) (a b c : Taken) (bs : List ℕ) (i : ℕ) → i < length bs → IsPut a (said (flat_map f (take i bs))) b → IsPut b (said (f (get_or bs i 0))) c →
+    IsPut a (said (flat_map f (take (i + 1) bs))) c
 more_put f a b c bs i h d e =
     let grown : flat_map f (take i bs) ++ f (get_or bs i 0) ≡ flat_map f (take (i + 1) bs) =
     flat_map_more f [] (take i bs) (get_or bs i 0) ∙ ap (flat_map f) (sym (take_more bs i 0 h)) in
-    subst (λ (z : List ℕ). after (Ok a) (said z) ≡ Ok c) grown (two_put a b c (flat_map f (take i bs)) (f (get_or bs i 0)) d e)
+    subst (λ (z : List ℕ). IsPut a (said z) c) grown (two_put a b c (flat_map f (take i bs)) (f (get_or bs i 0)) d e)
+
+-- a byte by its two digits
+pub byte_put : (a b c : Taken) (n : ℕ) (x y : List ℕ) → n < 256 → x ≡ digit_char (n / 16) ∷ [] → y ≡ digit_char (n % 16) ∷ [] → IsPut a (said x) b → IsPut b (said y) c →
+    IsPut a (said (two_digits n)) c
+byte_put a b c n x y small e f h i =
+    let high : n / 16 ≡ n / 16 % 16 = omega (arith, small) in
+    let low : n % 16 ≡ n / 1 % 16 = omega arith in
+    subst (λ (z : List ℕ). IsPut a (said z) c) (ap₂ (λ (u v : List ℕ). u ++ v) (e ∙ ap (λ m. digit_char m ∷ []) high) (f ∙ ap (λ m. digit_char m ∷ []) low)) (two_put a b c x y h i)
 
 decimals_last : (bs : List ℕ) (c : ℕ) → 0 < length bs → decimals (bs ++ c ∷ []) ≡ decimals bs ++ (codes ", " ++ decimal c)
 decimals_last [] c h = absurd (omega (arith, h))
@@ -104,13 +105,17 @@ pub first_decimal : (bs : List ℕ) → 0 < length bs → decimal (get_or bs 0 0
 first_decimal [] h = absurd (omega (arith, h))
 first_decimal (b ∷ bs) h = refl
 
+pub no_decimals : (a : Taken) (bs : List ℕ) → length bs ≡ 0 → IsPut a (said (decimals bs)) a
+no_decimals a [] h = nothing_put a
+no_decimals a (b ∷ bs) h = absurd (omega (arith, h))
+
 -- one byte more, after a comma and a space
-pub more_decimals : (a b c d : Option (List ℕ)) (bs : List ℕ) (i : ℕ) → 0 < i → i < length bs → after (Ok a) (said (decimals (take i bs))) ≡ Ok b →
-    after (Ok b) (said (codes ", ")) ≡ Ok c → after (Ok c) (said (decimal (get_or bs i 0))) ≡ Ok d → after (Ok a) (said (decimals (take (i + 1) bs))) ≡ Ok d
+pub more_decimals : (a b c d : Taken) (bs : List ℕ) (i : ℕ) → 0 < i → i < length bs → IsPut a (said (decimals (take i bs))) b →
+    IsPut b (said (codes ", ")) c → IsPut c (said (decimal (get_or bs i 0))) d → IsPut a (said (decimals (take (i + 1) bs))) d
 more_decimals a b c d bs i k h e f g =
     let grown : decimals (take i bs) ++ (codes ", " ++ decimal (get_or bs i 0)) ≡ decimals (take (i + 1) bs) =
     sym (decimals_last (take i bs) (get_or bs i 0) (omega (arith, length-take {A = ℕ} i bs))) ∙ ap decimals (sym (take_more bs i 0 h)) in
-    subst (λ (z : List ℕ). after (Ok a) (said z) ≡ Ok d) grown (three_put a b c d (decimals (take i bs)) (codes ", ") (decimal (get_or bs i 0)) e f g)
+    subst (λ (z : List ℕ). IsPut a (said z) d) grown (three_put a b c d (decimals (take i bs)) (codes ", ") (decimal (get_or bs i 0)) e f g)
 
 -- ---- texts ----
 
@@ -119,13 +124,13 @@ no_utf8 bs true e h = absurd (h (IsUtf8-from_is_utf8 bs e))
 no_utf8 bs false e h = e
 
 abbrev quoted_by : List ℕ → Bool → Out
-quoted_by bs b = elim b [ true ↦ Ok (debug_str bs) | false ↦ said (codes "<invalid utf-8: [" ++ decimals bs ++ codes "]>") ]
+quoted_by bs b = elim b [ true ↦ Ok (debug_pieces bs) | false ↦ said (codes "<invalid utf-8: [" ++ decimals bs ++ codes "]>") ]
 
-pub text_put : (bs s : List ℕ) (o : Out) (a : Option (List ℕ)) → (s ≡ bs) × IsUtf8 bs → after (Ok a) (Ok (debug_str s)) ≡ o → after (Ok a) (quoted bs) ≡ o
-text_put bs s o a h e =
-    subst (λ (b : Bool). after (Ok a) (quoted_by bs b) ≡ o) (sym (is_utf8-from_IsUtf8 bs h.1)) (subst (λ (z : List ℕ). after (Ok a) (Ok (debug_str z)) ≡ o) h.0 e)
+pub string_put : (bs s : List ℕ) (a b : Taken) → (s ≡ bs) × IsUtf8 bs → IsPut a (Ok (debug_pieces s)) b → IsPut a (quoted bs) b
+string_put bs s a b h e =
+    subst (λ (q : Bool). IsPut a (quoted_by bs q) b) (sym (is_utf8-from_IsUtf8 bs h.1)) (subst (λ (z : List ℕ). IsPut a (Ok (debug_pieces z)) b) h.0 e)
 
-pub bytes_put : (bs : List ℕ) (a b c d : Option (List ℕ)) → (IsUtf8 bs → ⊥) → after (Ok a) (said (codes "<invalid utf-8: [")) ≡ Ok b → after (Ok b) (said (decimals bs)) ≡ Ok c →
-    after (Ok c) (said (codes "]>")) ≡ Ok d → after (Ok a) (quoted bs) ≡ Ok d
-bytes_put bs a b c d h e f g =
-    subst (λ (z : Bool). after (Ok a) (quoted_by bs z) ≡ Ok d) (sym (no_utf8 bs (is_utf8 bs) refl h)) (three_put a b c d (codes "<invalid utf-8: [") (decimals bs) (codes "]>") e f g)
+pub numbers_put : (bs : List ℕ) (a b c d : Taken) → (IsUtf8 bs → ⊥) → IsPut a (said (codes "<invalid utf-8: [")) b → IsPut b (said (decimals bs)) c → IsPut c (said (codes "]>")) d →
+    IsPut a (quoted bs) d
+numbers_put bs a b c d h e f g =
+    subst (λ (z : Bool). IsPut a (quoted_by bs z) d) (sym (no_utf8 bs (is_utf8 bs) refl h)) (three_put a b c d (codes "<invalid utf-8: [") (decimals bs) (codes "]>") e f g)

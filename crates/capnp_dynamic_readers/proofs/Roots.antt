@@ -1,5 +1,5 @@
 -- The text of a value that stands alone.
-use Rattle.std.specs.Prelude.{ℕ, ◌≡◌, ◌≢◌, refl, List, [], Bool, true, false, Option, Some, Result, Ok, Err, IfErr}
+use Rattle.std.specs.Prelude.{◌≡◌, ◌≢◌, refl, Bool, true, false, Result, Err, IfErr, OnOk}
 use Rattle.std.proofs.Common.{ap, sym, subst, ◌∙◌}
 use Rattle.std.proofs.lemmas.Bool.{true≢false}
 use Rattle.std.specs.declared.alloc.AllocError.{AllocError}
@@ -7,16 +7,16 @@ use Rattle.capnp_device.specs.declared.error.ErrorKind.{ErrorKind}
 use Rattle.capnp_device.specs.declared.error.ErrorKind.TheVariants.{OutOfMemory}
 use Rattle.capnp_schema.specs.Schema.{VoidValue, node_of}
 use Rattle.capnp_schema.specs.StructHandles.{number_of, set_of}
-use Rattle.capnp_records.specs.Text.{Layout, Out, after, part_text, text_within}
+use Rattle.capnp_records.specs.Text.{Layout, Out, part_text, text_within}
 use Rattle.capnp_dynamic_readers.specs.Handles.{schema_of}
-use Rattle.capnp_dynamic_readers.specs.Pieces.{IsStopped, stopped_kind}
+use Rattle.capnp_dynamic_readers.specs.Pieces.{IsPut, IsStopped, Taken, stopped_kind}
 use Rattle.capnp_dynamic_readers.specs.Shown.{record_shown, root_shown, struct_printed, value_shown}
 use Rattle.capnp_dynamic_readers.specs.Typed.{struct_type}
 use Rattle.capnp_dynamic_readers.specs.declared.dynamic_struct.Reader.{Reader as StructHandle}
 use Rattle.capnp_dynamic_readers.specs.declared.dynamic_value.Reader.{Reader as DynamicValue}
 use Rattle.capnp_dynamic_readers.specs.declared.dynamic_value.Reader.TheVariants as dynamic
-use Rattle.capnp_dynamic_readers.specs.declared.printer.out.Stop.{Stop}
-use Rattle.capnp_dynamic_readers.specs.declared.printer.out.Stop.TheVariants.{Full, Refused}
+use Rattle.capnp_dynamic_readers.specs.declared.printer.output.Stop.{Stop}
+use Rattle.capnp_dynamic_readers.specs.declared.printer.output.Stop.TheVariants.{Full, Refused}
 
 pub group_root : (at : Layout) (v : DynamicValue) (s : StructHandle) → v ≡ dynamic.Struct s → (node_of (set_of (schema_of s)) (number_of (schema_of s))).is_group ≡ true → root_shown at v ≡ record_shown 64 at s
 group_root at v s e h = ap (root_shown at) e ∙ go (node_of (set_of (schema_of s)) (number_of (schema_of s))).is_group h
@@ -52,19 +52,16 @@ other_root at (dynamic.List l) h = refl
 other_root at (dynamic.AnyPointer p) h = refl
 
 -- where it is printed as a value, why that stopped is why the whole did
-pub root_stopped : {T F : Type 0} (at : Layout) (v : DynamicValue) (old : Option (List ℕ)) (result : Result T (Stop F)) → root_shown at v ≡ value_shown 64 at v →
-    IfErr result (IsStopped old (value_shown 64 at v)) → IfErr result (IsStopped old (root_shown at v))
-root_stopped at v old result e h = subst (λ (o : Out). IfErr result (IsStopped old o)) (sym e) h
+pub root_stopped : {T F : Type 0} (at : Layout) (v : DynamicValue) (result : Result T (Stop F)) → root_shown at v ≡ value_shown 64 at v →
+    IfErr result (IsStopped (value_shown 64 at v)) → IfErr result (IsStopped (root_shown at v))
+root_stopped at v result e h = subst (λ (o : Out). IfErr result (IsStopped o)) (sym e) h
 
--- a refusal after a text is a refusal
-pub refused_after : (a : Option (List ℕ)) (o : Out) (kind : ErrorKind) → after (Ok a) o ≡ Err kind → o ≡ Err kind
-refused_after a (Err k) kind e = e
-refused_after a (Ok b) kind e = absurd (ok-err e)
-  where
-    ok-err : {x : Option (List ℕ)} → Ok x ≡ Err kind → ⊥
-    ok-err e = cc
+-- what was put of the one was put of the other
+pub root_put : {T E : Type 0} (at : Layout) (v : DynamicValue) (o : Out) (old new : Taken) (result : Result T E) → root_shown at v ≡ o →
+    OnOk result (IsPut old o new) → OnOk result (IsPut old (root_shown at v) new)
+root_put at v o old new result e h = subst (λ (z : Out). OnOk result (IsPut old z new)) (sym e) h
 
 -- why a string was not made, memory aside
-pub stopped_refused : (o : Out) (stop : Stop AllocError) (kind : ErrorKind) → kind ≡ stopped_kind stop → IsStopped (Some []) o stop → kind ≢ OutOfMemory → o ≡ Err kind
-stopped_refused o (Refused e) kind is h other = refused_after (Some []) o kind (h (subst (λ (k : ErrorKind). k ≢ OutOfMemory) is other) ∙ ap Err (sym is))
+pub stopped_refused : (o : Out) (stop : Stop AllocError) (kind : ErrorKind) → kind ≡ stopped_kind stop → IsStopped o stop → kind ≢ OutOfMemory → o ≡ Err kind
+stopped_refused o (Refused e) kind is h other = h (subst (λ (k : ErrorKind). k ≢ OutOfMemory) is other) ∙ ap Err (sym is)
 stopped_refused o (Full fault) kind is h other = absurd (other is)

@@ -1,39 +1,37 @@
 -- The steps of a print.
 use Rattle.std.specs.Prelude.{ℕ, zero, suc, ◌+◌, ◌-◌, ◌<◌, ◌≡◌, ◌==◌, refl, List, [], ◌∷◌, ◌++◌, Bool, true, false, length, codes, Ok, Err, Option, Some, None, Result, IfErr, OnOk}
-use Rattle.std.proofs.Common.{rules, ap, sym, subst, ◌∙◌, append_assoc, arith}
+use Rattle.std.proofs.Common.{rules, ap, sym, subst, ◌∙◌, arith}
 use Rattle.capnp_device.specs.declared.error.ErrorKind.{ErrorKind}
 use Rattle.capnp_schema.specs.Schema.{Schemas, TypedField}
-use Rattle.capnp_schema.specs.StructHandles.{number_of, set_of, struct_fields}
+use Rattle.capnp_schema.specs.StructHandles.{struct_fields}
 use Rattle.capnp_schema.specs.Types.{SchemaType}
 use Rattle.capnp_records.specs.Record.{Value}
-use Rattle.capnp_records.specs.Text.{Inner, Layout, Out, after, bracketed, deeper, item, line, list_text, more_text, said, separator, struct_text, text_within, value_text}
-use Rattle.capnp_dynamic_readers.specs.Handles.{list_set, schema_of}
+use Rattle.capnp_records.specs.Text.{Inner, Layout, Out, after, bracketed, deeper, line, list_text, more_text, said, separator, struct_text, text_within, value_text}
+use Rattle.capnp_dynamic_readers.specs.Handles.{schema_of}
 use Rattle.capnp_dynamic_readers.specs.Leaf.{IsLeaf, leaf_text}
-use Rattle.capnp_dynamic_readers.specs.Pieces.{IsFull, IsStopped}
+use Rattle.capnp_dynamic_readers.specs.Pieces.{IsFull, IsPut, IsStopped, Leads, Taken}
 use Rattle.capnp_dynamic_readers.specs.Reads.{element_seen}
-use Rattle.capnp_dynamic_readers.specs.Shown.{ArePut, AreStopped, IsPut, count_of, element_items, element_shown, list_shown, record_items, record_shown, set_seen, steps_of, steps_within, type_seen, value_shown}
+use Rattle.capnp_dynamic_readers.specs.Shown.{count_of, element_items, element_shown, list_shown, record_items, record_shown, set_seen, type_seen, value_shown}
 use Rattle.capnp_dynamic_readers.specs.Seen.{value_seen}
 use Rattle.capnp_dynamic_readers.specs.declared.dynamic_list.Reader.{Reader as ListHandle}
 use Rattle.capnp_dynamic_readers.specs.declared.dynamic_struct.Reader.{Reader as StructHandle}
 use Rattle.capnp_dynamic_readers.specs.declared.dynamic_value.Reader.{Reader as DynamicValue}
 use Rattle.capnp_dynamic_readers.specs.declared.dynamic_value.Reader.TheVariants as dynamic
-use Rattle.capnp_dynamic_readers.specs.declared.printer.out.Stop.{Stop}
-use Rattle.capnp_dynamic_readers.specs.declared.printer.out.Stop.TheVariants.{Full, Refused}
-use Rattle.capnp_dynamic_readers.proofs.PartsShown.{few_groups, level_falls}
-use Rattle.capnp_dynamic_readers.proofs.Streams.{after_nothing, then, then_stopped}
+use Rattle.capnp_dynamic_readers.specs.declared.printer.output.Stop.{Stop}
+use Rattle.capnp_dynamic_readers.specs.declared.printer.output.Stop.TheVariants.{Full, Refused}
+use Rattle.capnp_dynamic_readers.proofs.Streams.{nothing_put, same, same_put, then, then_put, two_put}
 
 -- ---- why a print stopped ----
 
 -- where there was no room nothing is said of the text
-pub full_stopped : {F : Type 0} (old : Option (List ℕ)) (o : Out) (stop : Stop F) → IsFull stop → IsStopped old o stop
-full_stopped old o (Refused e) h = λ other. absurd (other h)
-full_stopped old o (Full fault) h = tt {0}
+pub full_stopped : {F : Type 0} (o : Out) (stop : Stop F) → IsFull stop → IsStopped o stop
+full_stopped o (Refused e) h = λ other. absurd (other h)
+full_stopped o (Full fault) h = tt {0}
 
 -- why a part stopped is why the whole did
-pub stopped_by : {F : Type 0} (old mid : Option (List ℕ)) (o p : Out) → ((kind : ErrorKind) → after (Ok mid) p ≡ Err kind → after (Ok old) o ≡ Err kind) →
-    (stop : Stop F) → IsStopped mid p stop → IsStopped old o stop
-stopped_by old mid o p f (Refused e) h = λ other. f e.kind (h other)
-stopped_by old mid o p f (Full fault) h = tt {0}
+pub stopped_by : {F : Type 0} (o p : Out) → ((kind : ErrorKind) → p ≡ Err kind → o ≡ Err kind) → (stop : Stop F) → IsStopped p stop → IsStopped o stop
+stopped_by o p f (Refused e) h = λ other. f e.kind (h other)
+stopped_by o p f (Full fault) h = tt {0}
 
 -- ---- levels ----
 
@@ -71,24 +69,22 @@ leaf_deep left at (dynamic.List l) h = absurd h
 leaf_deep left at (dynamic.AnyPointer p) h = by_levels (set_seen (dynamic.AnyPointer p)) left at (type_seen (dynamic.AnyPointer p)) (value_seen (dynamic.AnyPointer p)) (leaf_text (dynamic.AnyPointer p)) (λ inner. refl)
 
 -- a leaf that was put
-pub leaf_put : (left : ℕ) (at : Layout) (v : DynamicValue) (old new : Option (List ℕ)) → IsLeaf v → IsPut old (leaf_text v) new → IsPut old (value_shown left at v) new
-leaf_put left at v old new h p = ap (after (Ok old)) (leaf_deep left at v h) ∙ p
+pub leaf_put : (left : ℕ) (at : Layout) (v : DynamicValue) (old new : Taken) → IsLeaf v → IsPut old (leaf_text v) new → IsPut old (value_shown left at v) new
+leaf_put left at v old new h p = same_put old new (value_shown left at v) (leaf_text v) (leaf_deep left at v h) p
 
 -- ---- brackets ----
 
-pub brackets_put : (opening closing : List ℕ) (at further : Layout) (items : List Out) → further ≡ deeper at → (p0 p1 p2 p3 p4 : Option (List ℕ)) →
+pub brackets_put : (opening closing : List ℕ) (at further : Layout) (items : List Out) → further ≡ deeper at → (p0 p1 p2 p3 p4 : Taken) →
     IsPut p0 (said opening) p1 → IsPut p1 (more_text further true items) p2 → IsPut p2 (said (line at)) p3 → IsPut p3 (said closing) p4 →
     IsPut p0 (bracketed opening closing at items) p4
 brackets_put opening closing at further items e p0 p1 p2 p3 p4 a b c d =
-    then p0 p1 (said opening) (after (more_text (deeper at) true items) (said (line at ++ closing))) a
-    ∙ (then p1 p2 (more_text (deeper at) true items) (said (line at ++ closing)) (subst (λ (z : Layout). IsPut p1 (more_text z true items) p2) e b)
-    ∙ (then p2 p3 (said (line at)) (said closing) c ∙ d))
+    then_put p0 p1 p4 (said opening) (after (more_text (deeper at) true items) (said (line at ++ closing))) a
+    (then_put p1 p2 p4 (more_text (deeper at) true items) (said (line at ++ closing)) (subst (λ (z : Layout). IsPut p1 (more_text z true items) p2) e b) (two_put p2 p3 p4 (line at) closing c d))
 
-pub brackets_stopped : (opening closing : List ℕ) (at further : Layout) (items : List Out) → further ≡ deeper at → (p0 p1 : Option (List ℕ)) (kind : ErrorKind) →
-    IsPut p0 (said opening) p1 → after (Ok p1) (more_text further true items) ≡ Err kind → after (Ok p0) (bracketed opening closing at items) ≡ Err kind
-brackets_stopped opening closing at further items e p0 p1 kind a b =
-    then p0 p1 (said opening) (after (more_text (deeper at) true items) (said (line at ++ closing))) a
-    ∙ then_stopped p1 kind (more_text (deeper at) true items) (said (line at ++ closing)) (subst (λ (z : Layout). after (Ok p1) (more_text z true items) ≡ Err kind) e b)
+pub brackets_stopped : (opening closing : List ℕ) (at further : Layout) (items : List Out) → further ≡ deeper at → (kind : ErrorKind) →
+    more_text further true items ≡ Err kind → bracketed opening closing at items ≡ Err kind
+brackets_stopped opening closing at further items e kind b =
+    ap (λ (o : Out). after (said opening) (after o (said (line at ++ closing)))) (subst (λ (z : Layout). more_text z true items ≡ Err kind) e b)
 
 -- ---- elements ----
 
@@ -109,26 +105,23 @@ module _ (left : ℕ) (at : Layout) (l : ListHandle) where
   abbrev from : ℕ → ℕ → List Out
   from i n = element_items left at l i n
 
-  pub element_next : (n i : ℕ) → i < n → (p0 p1 p2 : Option (List ℕ)) →
+  pub element_next : (n i : ℕ) → i < n → (p0 p1 p2 : Taken) →
       IsPut p0 (said (separator at (i == 0))) p1 → IsPut p1 (element_shown left at l (element_seen l i)) p2 →
-      after (Ok p0) (more_text at (i == 0) (element_items left at l i (n - i))) ≡ after (Ok p2) (more_text at (i + 1 == 0) (element_items left at l (i + 1) (n - (i + 1))))
-  element_next n i h p0 p1 p2 a b =
-      ap (λ k. after (Ok p0) (more_text at (i == 0) (from i k))) (less-one n i h)
-      ∙ (then p0 p1 (said (separator at (i == 0))) (after (element_shown left at l (element_seen l i)) (more_text at false (from (suc i) (n - (i + 1))))) a
-      ∙ (then p1 p2 (element_shown left at l (element_seen l i)) (more_text at false (from (suc i) (n - (i + 1)))) b
-      ∙ (ap (λ q. after (Ok p2) (more_text at q (from (suc i) (n - (i + 1))))) (not-zero i)
-      ∙ ap (λ j. after (Ok p2) (more_text at (j == 0) (from j (n - (i + 1))))) (next-is i))))
+      Leads p0 (more_text at (i == 0) (element_items left at l i (n - i))) p2 (more_text at (i + 1 == 0) (element_items left at l (i + 1) (n - (i + 1))))
+  element_next n i h p0 p1 p2 a b = λ r k.
+      same p0 (ap (λ m. more_text at (i == 0) (from i m)) (less-one n i h)) r
+      (then p0 p1 (said (separator at (i == 0))) (after (element_shown left at l (element_seen l i)) (more_text at false (from (suc i) (n - (i + 1))))) a r
+      (then p1 p2 (element_shown left at l (element_seen l i)) (more_text at false (from (suc i) (n - (i + 1)))) b r
+      (same p2 (ap (λ q. more_text at q (from (suc i) (n - (i + 1)))) (not-zero i) ∙ ap (λ j. more_text at (j == 0) (from j (n - (i + 1)))) (next-is i)) r k)))
 
-  pub element_stopped : (n i : ℕ) → i < n → (p0 p1 : Option (List ℕ)) (kind : ErrorKind) →
-      IsPut p0 (said (separator at (i == 0))) p1 → after (Ok p1) (element_shown left at l (element_seen l i)) ≡ Err kind →
-      after (Ok p0) (more_text at (i == 0) (element_items left at l i (n - i))) ≡ Err kind
-  element_stopped n i h p0 p1 kind a b =
-      ap (λ k. after (Ok p0) (more_text at (i == 0) (from i k))) (less-one n i h)
-      ∙ (then p0 p1 (said (separator at (i == 0))) (after (element_shown left at l (element_seen l i)) (more_text at false (from (suc i) (n - (i + 1))))) a
-      ∙ then_stopped p1 kind (element_shown left at l (element_seen l i)) (more_text at false (from (suc i) (n - (i + 1)))) b)
+  pub element_stopped : (n i : ℕ) → i < n → (kind : ErrorKind) →
+      element_shown left at l (element_seen l i) ≡ Err kind → more_text at (i == 0) (element_items left at l i (n - i)) ≡ Err kind
+  element_stopped n i h kind b =
+      ap (λ m. more_text at (i == 0) (from i m)) (less-one n i h)
+      ∙ ap (λ (o : Out). after (said (separator at (i == 0))) (after o (more_text at false (from (suc i) (n - (i + 1)))))) b
 
-  pub elements_end : (n i : ℕ) (q : Bool) → n < i + 1 → (p : Option (List ℕ)) → after (Ok p) (more_text at q (element_items left at l i (n - i))) ≡ Ok p
-  elements_end n i q h p = ap (λ k. after (Ok p) (more_text at q (from i k))) (none-left n i h) ∙ after_nothing (Ok p)
+  pub elements_end : (n i : ℕ) (q : Bool) → n < i + 1 → (p : Taken) → IsPut p (more_text at q (element_items left at l i (n - i))) p
+  elements_end n i q h p = same p (ap (λ m. more_text at q (from i m)) (none-left n i h)) (Ok p) (nothing_put p)
 
 -- ---- whole lists and structs ----
 
@@ -156,45 +149,6 @@ struct_none left at r h = go (struct_fields (schema_of r)) h
     go [] h = refl
     go (f ∷ fs) h = absurd (omega (arith, h))
 
--- ---- items ----
-
--- no items
-pub none_put : (at : Layout) (first : Bool) (old : Option (List ℕ)) → ArePut at first [] first old old
-none_put at first old = λ rest. refl
-
--- items after items
-pub both_put : (at : Layout) (first mid last : Bool) (xs ys : List Out) (p0 p1 p2 : Option (List ℕ)) → ArePut at first xs mid p0 p1 → ArePut at mid ys last p1 p2 → ArePut at first (xs ++ ys) last p0 p2
-both_put at first mid last xs ys p0 p1 p2 a b = λ rest. ap (λ (zs : List Out). after (Ok p0) (more_text at first zs)) (append_assoc xs ys rest) ∙ (a (ys ++ rest) ∙ b rest)
-
-module _ {F : Type 0} (stop : Stop F) (at : Layout) (first : Bool) where
-  pub first_stopped : (xs ys : List Out) (p0 : Option (List ℕ)) → AreStopped at first xs p0 stop → AreStopped at first (xs ++ ys) p0 stop
-  first_stopped xs ys p0 a = λ rest. subst (λ (zs : List Out). IsStopped p0 (more_text at first zs) stop) (sym (append_assoc xs ys rest)) (a (ys ++ rest))
-
-  pub second_stopped : (mid : Bool) (xs ys : List Out) (p0 p1 : Option (List ℕ)) → ArePut at first xs mid p0 p1 → AreStopped at mid ys p1 stop → AreStopped at first (xs ++ ys) p0 stop
-  second_stopped mid xs ys p0 p1 a b = λ rest.
-      stopped_by p0 p1 (more_text at first ((xs ++ ys) ++ rest)) (more_text at mid (ys ++ rest))
-      (λ kind e. ap (λ (zs : List Out). after (Ok p0) (more_text at first zs)) (append_assoc xs ys rest) ∙ (a (ys ++ rest) ∙ e)) stop (b rest)
-
--- an item: what stands before it, its name and its text
-pub item_put : (at : Layout) (first : Bool) (f : TypedField) (o : Out) (p0 p1 p2 p3 p4 : Option (List ℕ)) →
-    IsPut p0 (said (separator at first)) p1 → IsPut p1 (said f.field.name) p2 → IsPut p2 (said (codes " = ")) p3 → IsPut p3 o p4 →
-    ArePut at first (item f o ∷ []) false p0 p4
-item_put at first f o p0 p1 p2 p3 p4 a b c d = λ rest.
-    then p0 p1 (said (separator at first)) (after (item f o) (more_text at false rest)) a
-    ∙ then p1 p4 (item f o) (more_text at false rest)
-    (then p1 p3 (said (f.field.name ++ codes " = ")) o (then p1 p2 (said f.field.name) (said (codes " = ")) b ∙ c) ∙ d)
-
-pub item_stopped : {F : Type 0} (stop : Stop F) (at : Layout) (first : Bool) (f : TypedField) (o : Out) (p0 p1 p2 p3 : Option (List ℕ)) →
-    IsPut p0 (said (separator at first)) p1 → IsPut p1 (said f.field.name) p2 → IsPut p2 (said (codes " = ")) p3 → IsStopped p3 o stop →
-    AreStopped at first (item f o ∷ []) p0 stop
-item_stopped stop at first f o p0 p1 p2 p3 a b c d = λ rest.
-    stopped_by p0 p3 (more_text at first (item f o ∷ rest)) o
-    (λ kind e.
-    then p0 p1 (said (separator at first)) (after (item f o) (more_text at false rest)) a
-    ∙ then_stopped p1 kind (item f o) (more_text at false rest)
-    (then p1 p3 (said (f.field.name ++ codes " = ")) o (then p1 p2 (said f.field.name) (said (codes " = ")) b ∙ c) ∙ e))
-    stop d
-
 -- ---- through a result ----
 
 pub ok_map : {T E P Q : Type 0} (r : Result T E) → (P → Q) → OnOk r P → OnOk r Q
@@ -205,35 +159,20 @@ pub err_map : {T E : Type 0} {F G : E → Type 0} (r : Result T E) → ((e : E) 
 err_map (Ok x) f h = tt {0}
 err_map (Err e) f h = f e h
 
--- ---- structs ----
-
-pub record_put : (left : ℕ) (at further : Layout) (r : StructHandle) → further ≡ deeper at → 0 < length (struct_fields (schema_of r)) → (p0 p1 p2 p3 p4 : Option (List ℕ)) →
-    IsPut p0 (said (codes "(")) p1 → IsPut p1 (more_text further true (record_items left further r)) p2 → IsPut p2 (said (line at)) p3 → IsPut p3 (said (codes ")")) p4 →
-    IsPut p0 (record_shown left at r) p4
-record_put left at further r e h p0 p1 p2 p3 p4 a b c d =
-    ap (after (Ok p0)) (struct_some left at r h)
-    ∙ brackets_put (codes "(") (codes ")") at (deeper at) (record_items left (deeper at) r) refl p0 p1 p2 p3 p4 a (subst (λ (z : Layout). IsPut p1 (more_text z true (record_items left z r)) p2) e b) c d
-
-pub record_stopped : (left : ℕ) (at further : Layout) (r : StructHandle) → further ≡ deeper at → 0 < length (struct_fields (schema_of r)) → (p0 p1 : Option (List ℕ)) (kind : ErrorKind) →
-    IsPut p0 (said (codes "(")) p1 → after (Ok p1) (more_text further true (record_items left further r)) ≡ Err kind → after (Ok p0) (record_shown left at r) ≡ Err kind
-record_stopped left at further r e h p0 p1 kind a b =
-    ap (after (Ok p0)) (struct_some left at r h)
-    ∙ brackets_stopped (codes "(") (codes ")") at (deeper at) (record_items left (deeper at) r) refl p0 p1 kind a (subst (λ (z : Layout). after (Ok p1) (more_text z true (record_items left z r)) ≡ Err kind) e b)
-
 -- ---- lists ----
 
-pub list_put : (left : ℕ) (at further : Layout) (l : ListHandle) → further ≡ deeper at → 0 < count_of l → (p0 p1 p2 p3 p4 : Option (List ℕ)) →
+pub list_put : (left : ℕ) (at further : Layout) (l : ListHandle) → further ≡ deeper at → 0 < count_of l → (p0 p1 p2 p3 p4 : Taken) →
     IsPut p0 (said (codes "[")) p1 → IsPut p1 (more_text further true (element_items left further l 0 (count_of l))) p2 → IsPut p2 (said (line at)) p3 → IsPut p3 (said (codes "]")) p4 →
     IsPut p0 (list_shown left at l) p4
 list_put left at further l e h p0 p1 p2 p3 p4 a b c d =
-    ap (after (Ok p0)) (list_some left at l h)
-    ∙ brackets_put (codes "[") (codes "]") at (deeper at) (element_items left (deeper at) l 0 (count_of l)) refl p0 p1 p2 p3 p4 a (subst (λ (z : Layout). IsPut p1 (more_text z true (element_items left z l 0 (count_of l))) p2) e b) c d
+    same_put p0 p4 (list_shown left at l) (bracketed (codes "[") (codes "]") at (element_items left (deeper at) l 0 (count_of l))) (list_some left at l h)
+    (brackets_put (codes "[") (codes "]") at (deeper at) (element_items left (deeper at) l 0 (count_of l)) refl p0 p1 p2 p3 p4 a (subst (λ (z : Layout). IsPut p1 (more_text z true (element_items left z l 0 (count_of l))) p2) e b) c d)
 
-pub elements_stop_list : (left : ℕ) (at further : Layout) (l : ListHandle) → further ≡ deeper at → 0 < count_of l → (p0 p1 : Option (List ℕ)) (kind : ErrorKind) →
-    IsPut p0 (said (codes "[")) p1 → after (Ok p1) (more_text further true (element_items left further l 0 (count_of l))) ≡ Err kind → after (Ok p0) (list_shown left at l) ≡ Err kind
-elements_stop_list left at further l e h p0 p1 kind a b =
-    ap (after (Ok p0)) (list_some left at l h)
-    ∙ brackets_stopped (codes "[") (codes "]") at (deeper at) (element_items left (deeper at) l 0 (count_of l)) refl p0 p1 kind a (subst (λ (z : Layout). after (Ok p1) (more_text z true (element_items left z l 0 (count_of l))) ≡ Err kind) e b)
+pub elements_stop_list : (left : ℕ) (at further : Layout) (l : ListHandle) → further ≡ deeper at → 0 < count_of l → (kind : ErrorKind) →
+    more_text further true (element_items left further l 0 (count_of l)) ≡ Err kind → list_shown left at l ≡ Err kind
+elements_stop_list left at further l e h kind b =
+    list_some left at l h
+    ∙ brackets_stopped (codes "[") (codes "]") at (deeper at) (element_items left (deeper at) l 0 (count_of l)) refl kind (subst (λ (z : Layout). more_text z true (element_items left z l 0 (count_of l)) ≡ Err kind) e b)
 
 -- ---- levels fall ----
 
@@ -244,14 +183,3 @@ leaf_from v h k = tt {0}
 
 pub some-left : (left : ℕ) → (left ≡ 0 → ⊥) → 0 < left
 some-left left h = omega (arith, h)
-
-pub record_falls : (v : DynamicValue) (r : StructHandle) (left : ℕ) → v ≡ dynamic.Struct r → (left ≡ 0 → ⊥) → steps_of r (left - 1) 9 < steps_within (set_seen v) left + 1
-record_falls v r left e h =
-    let down = level_falls (set_of (schema_of r)) left (some-left left h) in
-    let few = few_groups (set_of (schema_of r)) (number_of (schema_of r)) in
-    subst (λ (z : DynamicValue). steps_of r (left - 1) 9 < steps_within (set_seen z) left + 1) (sym e) (omega (arith, down, few))
-
-pub list_falls : (v : DynamicValue) (l : ListHandle) (left : ℕ) → v ≡ dynamic.List l → (left ≡ 0 → ⊥) → steps_within (list_set l) (left - 1) + 3 < steps_within (set_seen v) left + 1
-list_falls v l left e h =
-    let down = level_falls (list_set l) left (some-left left h) in
-    subst (λ (z : DynamicValue). steps_within (list_set l) (left - 1) + 3 < steps_within (set_seen z) left + 1) (sym e) (omega (arith, down))

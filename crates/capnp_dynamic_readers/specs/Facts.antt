@@ -1,5 +1,6 @@
 -- Facts of the definitions, with their proofs: what lemmas of crates above cite.
 pub mod Active
+pub mod Appended
 pub mod Found
 pub mod HasWhich
 pub mod Taken

@@ -13,3 +13,4 @@ pub mod Shown
 pub mod Taken
 pub mod Typed
 pub mod Viewed
+pub mod GroupTexts

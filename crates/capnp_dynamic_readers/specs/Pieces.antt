@@ -1,24 +1,46 @@
 -- Texts as they are put piece by piece into a place.
-use Rattle.std.specs.Prelude.{ℕ, List, ◌++◌, Option, Some, None, Ok, Err, ◌≡◌, ◌≢◌, ⊤, string_bytes, cond}
+use Rattle.std.specs.Prelude.{ℕ, List, ◌++◌, Option, Some, Result, Ok, Err, ◌≡◌, ◌≢◌, ⊤, string_bytes}
+use Rattle.std.specs.Fmt.{◌++?◌}
 use Rattle.std.specs.declared.alloc.AllocError.{AllocError}
 use Rattle.capnp_device.specs.declared.error.ErrorKind.{ErrorKind}
 use Rattle.capnp_device.specs.declared.error.ErrorKind.TheVariants.{OutOfMemory}
-use Rattle.capnp_records.specs.Text.{Out, after}
-use Rattle.capnp_dynamic_readers.specs.declared.printer.out.Made.{Made}
-use Rattle.capnp_dynamic_readers.specs.declared.printer.out.Stop.{Stop}
-use Rattle.capnp_dynamic_readers.specs.declared.printer.out.Stop.TheVariants.{Full, Refused}
+use Rattle.capnp_records.specs.Text.{IsText, Out}
+use Rattle.capnp_dynamic_readers.specs.declared.printer.output.Made.{Made}
+use Rattle.capnp_dynamic_readers.specs.declared.printer.output.Stop.{Stop}
+use Rattle.capnp_dynamic_readers.specs.declared.printer.output.Stop.TheVariants.{Full, Refused}
 
--- the bytes of a string that is being made, and its text where that is said
+-- a string after a text was appended to it
+abbrev pub IsAppended : List ℕ → Out → List ℕ → Type 0
+IsAppended old o new = (bytes : List ℕ) × IsText o bytes × (new ≡ old ++ bytes)
+
+-- what a place has taken: the bytes of a string; of a formatter that is not said
+abbrev pub Taken : Type 0
+Taken = Option (List ℕ)
+
+-- the bytes of a string that is being made
 abbrev pub made_bytes : Made → List ℕ
 made_bytes made = string_bytes made.text
 
-abbrev pub made_text : Made → Option (List ℕ)
-made_text made = cond made.is_said (Some (made_bytes made)) None
+abbrev pub made_text : Made → Taken
+made_text made = Some (made_bytes made)
 
--- why a printer stopped that was to put a text after another: the text is refused with that number, or there was no room
-abbrev pub IsStopped : {F : Type 0} → Option (List ℕ) → Out → Stop F → Type 0
-IsStopped old o (Refused e) = e.kind ≢ OutOfMemory → after (Ok old) o ≡ Err e.kind
-IsStopped old o (Full fault) = ⊤
+-- a text was put after what was taken
+abbrev pub IsPut : Taken → Out → Taken → Type 0
+IsPut old o new = (bytes : List ℕ) × IsText o bytes × (old ++? Some bytes ≡ new)
+
+-- what comes of a text that is to be put: it was put, or it is refused
+abbrev pub Gives : Taken → Out → Result Taken ErrorKind → Type 0
+Gives old o (Ok new) = IsPut old o new
+Gives old o (Err kind) = o ≡ Err kind
+
+-- what comes of the rest of a text comes of the whole
+abbrev pub Leads : (old : Taken) → (whole : Out) → (now : Taken) → (rest : Out) → Type 0
+Leads old whole now rest = (r : Result Taken ErrorKind) → Gives now rest r → Gives old whole r
+
+-- why a printer stopped that was to put a text: the text is refused with that number, or there was no room
+abbrev pub IsStopped : {F : Type 0} → Out → Stop F → Type 0
+IsStopped o (Refused e) = e.kind ≢ OutOfMemory → o ≡ Err e.kind
+IsStopped o (Full fault) = ⊤
 
 -- there was no room
 abbrev pub IsFull : {F : Type 0} → Stop F → Type 0
@@ -29,9 +51,3 @@ IsFull (Full fault) = ⊤
 abbrev pub stopped_kind : Stop AllocError → ErrorKind
 stopped_kind (Refused e) = e.kind
 stopped_kind (Full fault) = OutOfMemory
-
--- a string after a text was appended to it: some text where it is not said which one
-abbrev pub IsAppended : List ℕ → Out → List ℕ → Type 0
-IsAppended old (Ok (Some bs)) new = new ≡ old ++ bs
-IsAppended old (Ok None) new = (bs : List ℕ) × (new ≡ old ++ bs)
-IsAppended old (Err kind) new = ⊥

@@ -1,12 +1,11 @@
 -- The texts of what is read, as a printer appends them.
-use Rattle.std.specs.Prelude.{ℕ, zero, suc, [], ◌++◌, ◌*◌, ◌+◌, ◌≡◌, List, length, drop, Bool, true, false, not, ◌||◌, ◌==◌, min, ⊤, Option, Some, None, Ok}
+use Rattle.std.specs.Prelude.{ℕ, [], ◌++◌, ◌≡◌, List, Bool, true, false, not, ◌||◌, ◌==◌, ⊤, Option, Some, None}
 use Rattle.capnp_wire.specs.Standing.{list_levels, list_of, struct_levels, struct_of}
 use Rattle.capnp_wire.specs.Reading.{list_length}
 use Rattle.capnp_schema.specs.Enums.{enum_number, enum_set}
 use Rattle.capnp_schema.specs.FieldLists.{IsFieldOf, index_of}
-use Rattle.capnp_schema.specs.Laws.{group_height}
 use Rattle.capnp_schema.specs.Schema.{Schemas, TypedField, VoidValue, default_of, is_member, node_of}
-use Rattle.capnp_schema.specs.StructHandles.{number_of, set_of, struct_field, struct_fields}
+use Rattle.capnp_schema.specs.StructHandles.{number_of, set_of, struct_fields}
 use Rattle.capnp_schema.specs.Types.{SchemaType, VoidType, BoolType, IntType, UIntType, EnumType, TextType, DataType, ListType, AnyPointerType}
 use Rattle.capnp_schema.specs.declared.schema.fields.Field.{Field}
 use Rattle.capnp_records.specs.Facts.ListValues.{below_of}
@@ -14,16 +13,14 @@ use Rattle.capnp_records.specs.Part.{which_of}
 use Rattle.capnp_records.specs.Reading.{element_value, part_of, plain_parts, union_of, values_of}
 use Rattle.capnp_records.specs.Record as value
 use Rattle.capnp_records.specs.Record.{Left, Union, Value, Values, is_there, values_from}
-use Rattle.capnp_records.specs.Text.{Inner, Layout, Member, Out, after, before, deeper, element_texts, item, item_if, later, list_text, member, more_text, part_text, record_text, shown, text_of, text_within}
+use Rattle.capnp_records.specs.Text.{Inner, Layout, Member, Out, before, deeper, element_texts, item, item_if, later, list_text, member, part_text, record_text, shown, text_of, text_within}
 use Rattle.capnp_dynamic_readers.specs.Handles.{element_of, enum_of, list_reader_of, list_set, reader_of, schema_of}
-use Rattle.capnp_dynamic_readers.specs.Pieces.{IsStopped}
 use Rattle.capnp_dynamic_readers.specs.Seen.{record_seen, value_seen}
 use Rattle.capnp_dynamic_readers.specs.Typed.{struct_type}
 use Rattle.capnp_dynamic_readers.specs.declared.dynamic_list.Reader.{Reader as ListHandle}
 use Rattle.capnp_dynamic_readers.specs.declared.dynamic_struct.Reader.{Reader as StructHandle}
 use Rattle.capnp_dynamic_readers.specs.declared.dynamic_value.Reader.{Reader as DynamicValue}
 use Rattle.capnp_dynamic_readers.specs.declared.dynamic_value.Reader.TheVariants as dynamic
-use Rattle.capnp_dynamic_readers.specs.declared.printer.out.Stop.{Stop}
 
 -- ---- what a value says of itself ----
 
@@ -129,21 +126,11 @@ is_member_shown r f = is_there (part_seen r f) || not (f.field.discriminant_valu
 abbrev pub member_items : ℕ → Layout → StructHandle → TypedField → List Out
 member_items left at r f = item_if (is_member_shown r f) (field_item left at r f)
 
--- the active member whose place is still to come
-abbrev pub pending_member : ℕ → Layout → StructHandle → Option Field → Member
-pending_member left at r None = None
-pending_member left at r (Some f) = Some (index_of f, member_items left at r (struct_field (schema_of r) (index_of f)))
-
 -- all items of a struct
 abbrev pub record_items : ℕ → Layout → StructHandle → List Out
 record_items left at r =
     shown (set_of (schema_of r)) (within_struct left r) at (struct_fields (schema_of r)) 0 (plain_parts (part_seen r) (struct_fields (schema_of r)))
     (member (set_of (schema_of r)) (within_struct left r) at (number_of (schema_of r)) (union_seen r))
-
--- the items from a field on, and the member whose place is still to come
-abbrev pub rest_items : ℕ → Layout → StructHandle → Option Field → ℕ → List Out
-rest_items left at r o i =
-    shown (set_of (schema_of r)) (within_struct left r) at (drop i (struct_fields (schema_of r))) i (plain_parts (part_seen r) (drop i (struct_fields (schema_of r)))) (pending_member left at r o)
 
 -- the active member of a struct, where its place is still to come
 abbrev pub IsPending : StructHandle → Option Field → Type 0
@@ -162,31 +149,3 @@ field_items left at r f i m = unless_member (is_member f.field) (before m i ++ i
 abbrev pub still_pending : (is_member : Bool) → Member → ℕ → Member
 still_pending true m i = m
 still_pending false m i = later m i
-
--- ---- a text that is put item by item ----
-
--- a text was put after another
-abbrev pub IsPut : Option (List ℕ) → Out → Option (List ℕ) → Type 0
-IsPut old o new = after (Ok old) o ≡ Ok new
-
--- items were put, whatever is to follow; the first of these is now the first of all or not
-abbrev pub ArePut : Layout → (first : Bool) → List Out → (still : Bool) → Option (List ℕ) → Option (List ℕ) → Type 0
-ArePut at first items still old new = (rest : List Out) → after (Ok old) (more_text at first (items ++ rest)) ≡ after (Ok new) (more_text at still rest)
-
--- items were to be put, and a printer stopped
-abbrev pub AreStopped : {F : Type 0} → Layout → (first : Bool) → List Out → Option (List ℕ) → Stop F → Type 0
-AreStopped at first items old stop = (rest : List Out) → IsStopped old (more_text at first (items ++ rest)) stop
-
--- ---- what falls at each step ----
-
--- how far down groups go, at most the number of brands
-unfoldable pub groups_below : Schemas → ℕ → ℕ
-groups_below set b = min (group_height set b) (length set.brands)
-
--- more than all steps within a level, for each level
-unfoldable pub steps_within : Schemas → ℕ → ℕ
-steps_within set zero = 0
-steps_within set (suc left) = 16 * length set.brands + 32 + steps_within set left
-
-abbrev pub steps_of : StructHandle → ℕ → ℕ → ℕ
-steps_of r left rank = steps_within (set_of (schema_of r)) left + (16 * groups_below (set_of (schema_of r)) (number_of (schema_of r)) + rank)

@@ -1,18 +1,19 @@
 //! The text of a value.
 ghost use Rattle.std.specs.Prelude.{◌≡◌, ◌≢◌, Err, IfErr, OnErr, OnOk, string_bytes};
 ghost use Rattle.capnp_device.specs.declared.error.ErrorKind.TheVariants.{OutOfMemory};
-ghost use Rattle.capnp_dynamic_readers.specs.Pieces.{IsAppended, IsStopped};
-ghost use Rattle.capnp_dynamic_readers.specs.Shown.{IsPut, printed_text, root_shown};
+ghost use Rattle.capnp_dynamic_readers.specs.Pieces.{IsAppended, IsPut, IsStopped};
+ghost use Rattle.capnp_dynamic_readers.specs.Shown.{printed_text, root_shown};
 
+mod groups;
 mod leaves;
-mod out;
+mod output;
 mod parts;
 mod pieces;
 mod values;
 
 use crate::dynamic_value;
 use crate::dynamic_value::Reader as Value;
-use crate::printer::out::{Made, Out, Stop};
+use crate::printer::output::{Made, Out, Stop};
 use crate::printer::pieces::layout;
 use crate::printer::values::{print_record, print_value};
 use capnp_wire::error::{Error, Result};
@@ -67,7 +68,7 @@ fn print_root<O: Out>(
     out: &mut O,
 ) -> std::result::Result<(), Stop<O::Error>>
     ensures put { OnOk result (IsPut (O.text out.old) (root_shown at value.entry) (O.text out.new)) }
-    ensures stopped { IfErr result (IsStopped (O.text out.old) (root_shown at value.entry)) }
+    ensures stopped { IfErr result (IsStopped (root_shown at value.entry)) }
 {
     if let Value::Struct(reader) = value {
         if reader.get_schema().get_proto().body.is_group {

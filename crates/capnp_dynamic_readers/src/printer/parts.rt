@@ -1,11 +1,12 @@
 //! What a printer reads of structs and lists.
 ghost use Rattle.std.specs.Prelude.{◌≡◌, IfErr, IfOk, Some, false};
-ghost use Rattle.capnp_schema.specs.FieldLists.{IsFieldOf, IsFound, index_of};
+ghost use Rattle.capnp_schema.specs.FieldLists.{IsFieldOf, index_of};
 ghost use Rattle.capnp_schema.specs.Schema.{is_member};
 ghost use Rattle.capnp_schema.specs.Types.{seen_type};
 ghost use Rattle.capnp_records.specs.Part.{which_of};
 ghost use Rattle.capnp_records.specs.Record.{is_there};
 ghost use Rattle.capnp_records.specs.Text.{entering_fault, is_entered};
+ghost use Rattle.capnp_dynamic_readers.specs.GroupTexts.{IsSlot, is_item};
 ghost use Rattle.capnp_dynamic_readers.specs.Handles.{schema_of};
 ghost use Rattle.capnp_dynamic_readers.specs.PartsRead.{IsElement, IsElementRefused, IsPart, IsPartRefused, fault_at, field_in};
 ghost use Rattle.capnp_dynamic_readers.specs.Seen.{record_seen};
@@ -14,61 +15,40 @@ ghost use Rattle.capnp_dynamic_readers.specs.Shown.{IsPending, is_member_shown, 
 use crate::dynamic_value::Reader as Value;
 use crate::{dynamic_list, dynamic_struct};
 use capnp_base::introspect::{Type, TypeVariant};
-use capnp_schema::laws::heights_fall;
 use capnp_schema::schema::Field;
 use capnp_wire::error::{Error, ErrorKind, Result};
 
-/// What stands under a field: a group of the same struct, or a value.
-#[derive(Clone, Copy)]
-pub(crate) enum Part<'a> {
-    Group(dynamic_struct::Reader<'a>),
-    Value(Value<'a>),
-}
-
-/// How far the items of a struct are put: whether none is, and the active member while its place is still to come.
-#[derive(Clone, Copy)]
-pub(crate) struct Progress<'a> {
-    pub(crate) first: bool,
-    pub(crate) pending: Option<Field<'a>>,
-}
-
-/// What stands under a field of a struct.
-pub(crate) fn read_part<'a>(
+/// What stands under a field that is no group.
+pub(crate) fn read_slot<'a>(
     reader: dynamic_struct::Reader<'a>,
     field: Field<'a>,
-) -> Result<Part<'a>>
-    requires { IsFieldOf (schema_of reader) (index_of field) field }
+) -> Result<Value<'a>>
+    requires field { IsFieldOf (schema_of reader) (index_of field) field }
+    requires slot { IsSlot field }
     ensures read { IfOk result (IsPart reader.entry field.entry) }
     ensures refused { IfErr result (λ e. IsPartRefused reader.entry field.entry e.kind) }
 {
     // What every set is known to meet is known of it here.
     let _schema = field.get_containing_struct();
-    heights_fall();
-    let value = match reader.get(field) {
-        Ok(value) => value,
-        Err(error) => return Err(error),
-    };
-    let Some(_) = field.get_group() else {
-        return Ok(Part::Value(value));
-    };
-    let Value::Struct(group) = value else {
-        unreachable!()
-    };
-    Ok(Part::Group(group))
+    reader.get(field)
 }
 
-/// The active member of a struct's union.
-pub(crate) fn active_member<'a>(reader: dynamic_struct::Reader<'a>) -> Option<Field<'a>>
-    ensures { IsFound (schema_of reader.entry) (which_of (record_seen reader.entry)) result }
+/// Whether a field has an item: a non-union field where it is there, and the active member where it is shown.
+pub(crate) fn has_item<'a>(reader: dynamic_struct::Reader<'a>, field: Field<'a>) -> bool
+    requires field { IsFieldOf (schema_of reader) (index_of field) field }
+    ensures { result ≡ is_item reader.entry (field_in reader.entry field.entry) (index_of field.entry) }
 {
-    match reader.which() {
-        Ok(member) => member,
-        Err(_) => unreachable!(),
+    if !field.get_proto().is_member() {
+        return is_field_there(reader, field);
     }
+    if !reader.is_active(field) {
+        return false;
+    }
+    is_shown(reader, field)
 }
 
 /// Whether a non-union field is there.
-pub(crate) fn is_field_there<'a>(reader: dynamic_struct::Reader<'a>, field: Field<'a>) -> bool
+fn is_field_there<'a>(reader: dynamic_struct::Reader<'a>, field: Field<'a>) -> bool
     requires field { IsFieldOf (schema_of reader) (index_of field) field }
     requires plain { is_member (field_in reader field).field ≡ false }
     ensures { result ≡ is_there (part_seen reader.entry (field_in reader.entry field.entry)) }
@@ -80,7 +60,7 @@ pub(crate) fn is_field_there<'a>(reader: dynamic_struct::Reader<'a>, field: Fiel
 }
 
 /// Whether the active member is shown: one of discriminant value 0 where it is there, and every other one always.
-pub(crate) fn is_shown<'a>(reader: dynamic_struct::Reader<'a>, member: Field<'a>) -> bool
+fn is_shown<'a>(reader: dynamic_struct::Reader<'a>, member: Field<'a>) -> bool
     requires { IsPending reader (Some member) }
     ensures { result ≡ is_member_shown reader.entry (field_in reader.entry member.entry) }
 {

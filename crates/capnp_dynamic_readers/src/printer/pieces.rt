@@ -1,13 +1,15 @@
 //! Pieces of text: lines, and what stands before an item.
 ghost use Rattle.std.specs.Prelude.{◌≡◌, IfErr, IfOk, None, OnOk, Some, cond};
+ghost use Rattle.capnp_schema.specs.FieldLists.{typed_of};
 ghost use Rattle.capnp_records.specs.Text.{deeper, line, said, separator};
+ghost use Rattle.capnp_dynamic_readers.specs.GroupTexts.{IsNamePut, shallower};
 ghost use Rattle.capnp_dynamic_readers.specs.Leaf.{IsLeaf, leaf_text};
-ghost use Rattle.capnp_dynamic_readers.specs.Pieces.{IsFull};
-ghost use Rattle.capnp_dynamic_readers.specs.Shown.{IsPut};
+ghost use Rattle.capnp_dynamic_readers.specs.Pieces.{IsFull, IsPut};
 
 use crate::dynamic_value::Reader as Value;
 use crate::printer::leaves::put_leaf;
-use crate::printer::out::{Out, Stop};
+use crate::printer::output::{Out, Stop};
+use capnp_schema::schema::Field;
 use capnp_wire::error::{Error, ErrorKind};
 
 /// How many brackets stand around what is printed first; none where all is on one line.
@@ -53,6 +55,17 @@ pub(crate) fn one_deeper<F>(at: Option<u64>) -> Result<Option<u64>, Stop<F>>
     }
 }
 
+/// One bracket further out.
+pub(crate) fn one_shallower(at: Option<u64>) -> Option<u64>
+    ensures { result ≡ shallower at }
+{
+    match at {
+        None => None,
+        Some(0) => Some(0),
+        Some(depth) => Some(depth - 1),
+    }
+}
+
 /// A line break, where lines are broken.
 pub(crate) fn put_line<O: Out>(at: Option<u64>, out: &mut O) -> Result<(), Stop<O::Error>>
     ensures put { OnOk result (IsPut (O.text out.old) (said (line at)) (O.text out.new)) }
@@ -77,11 +90,29 @@ pub(crate) fn put_separator<O: Out>(
     ensures put { OnOk result (IsPut (O.text out.old) (said (separator at first)) (O.text out.new)) }
     ensures full { IfErr result IsFull }
 {
-    if !first {
-        match at {
-            None => put(", ", out)?,
-            Some(_) => put(",", out)?,
+    if first {
+        return put_line(at, out);
+    }
+    match at {
+        None => put(", ", out),
+        Some(_) => {
+            put(",", out)?;
+            put_line(at, out)
         }
     }
-    put_line(at, out)
+}
+
+/// What stands before the text of an item: its separator and its name.
+pub(crate) fn put_name<O: Out>(
+    field: Field<'_>,
+    at: Option<u64>,
+    first: bool,
+    out: &mut O,
+) -> Result<(), Stop<O::Error>>
+    ensures put { OnOk result (IsNamePut at first (typed_of field.entry) (O.text out.old) (O.text out.new)) }
+    ensures full { IfErr result IsFull }
+{
+    put_separator(at, first, out)?;
+    put(field.get_proto().name.as_str(), out)?;
+    put(" = ", out)
 }

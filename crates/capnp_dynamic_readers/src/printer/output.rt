@@ -1,9 +1,9 @@
 //! Where a text goes: into a string that is being made, or to a formatter.
-ghost use Rattle.std.specs.Prelude.{ℕ, [], ◌≡◌, ◌++◌, ◌<◌, List, Some, None, Ok, Option, IfErr, OnErr, OnOk, decimal, string_bytes};
-ghost use Rattle.std.specs.Fmt.{debug_str, signed_decimal};
+ghost use Rattle.std.specs.Prelude.{[], ◌≡◌, ◌++◌, ◌<◌, Some, None, Ok, IfErr, OnErr, OnOk, decimal, string_bytes};
+ghost use Rattle.std.specs.Fmt.{signed_decimal};
 ghost use Rattle.capnp_device.specs.declared.error.ErrorKind.TheVariants.{OutOfMemory};
-ghost use Rattle.capnp_records.specs.Text.{after, said};
-ghost use Rattle.capnp_dynamic_readers.specs.Pieces.{made_bytes, made_text, stopped_kind};
+ghost use Rattle.capnp_records.specs.Text.{debug_pieces, said};
+ghost use Rattle.capnp_dynamic_readers.specs.Pieces.{IsPut, Taken, made_bytes, made_text, stopped_kind};
 
 use capnp_wire::error::{Error, ErrorKind};
 use std::alloc::{AllocError, Global};
@@ -15,31 +15,29 @@ pub(crate) trait Out {
     type Error: Drop;
 
     // What it has taken, where that is said.
-    ghost text: { Self → Option (List ℕ) };
+    ghost text: { Self → Taken };
 
     /// Appends a piece.
     fn put(&mut self, piece: &str) -> Result<(), Self::Error>
-        ensures { OnOk result (after (Ok (text self.old)) (said piece.now) ≡ Ok (text self.new)) };
+        ensures { OnOk result (IsPut (text self.old) (said piece.now) (text self.new)) };
 
     /// Appends the debug form of a string.
     fn put_debug(&mut self, piece: &str) -> Result<(), Self::Error>
-        ensures { OnOk result (after (Ok (text self.old)) (Ok (debug_str piece.now)) ≡ Ok (text self.new)) };
+        ensures { OnOk result (IsPut (text self.old) (Ok (debug_pieces piece.now)) (text self.new)) };
 
     /// Appends a number in decimal.
     fn put_unsigned(&mut self, number: u64) -> Result<(), Self::Error>
-        ensures { OnOk result (after (Ok (text self.old)) (said (decimal number)) ≡ Ok (text self.new)) };
+        ensures { OnOk result (IsPut (text self.old) (said (decimal number)) (text self.new)) };
 
     /// Appends a number in decimal, with its sign where it is negative.
     fn put_signed(&mut self, number: i64) -> Result<(), Self::Error>
-        ensures { OnOk result (after (Ok (text self.old)) (said (signed_decimal number)) ≡ Ok (text self.new)) };
+        ensures { OnOk result (IsPut (text self.old) (said (signed_decimal number)) (text self.new)) };
 }
 
 /// A string that is being made.
 #[derive(Drop)]
 pub(crate) struct Made {
     text: String,
-    // Whether contracts say what the text is. They do not once a string past ASCII was put by its debug form.
-    is_said: bool,
 }
 
 impl Made {
@@ -49,7 +47,6 @@ impl Made {
     {
         Made {
             text: String::new(alloc),
-            is_said: true,
         }
     }
 
@@ -78,13 +75,17 @@ impl Out for Made {
         self.text.push_str(piece)
     }
 
-    #[tactic(auto, using(crate::proofs::Pieces::debug_put))]
+    // Of what stands before a form past ASCII, `write!` says nothing: such a form is made apart.
     fn put_debug(&mut self, piece: &str) -> Result<(), AllocError> {
-        let is_ascii = piece.is_ascii();
-        self.is_said = self.is_said & is_ascii;
-        write!(self.text, "{piece:?}")
+        if piece.is_ascii() {
+            return write!(self.text, "{piece:?}");
+        }
+        let mut form = String::new(*self.text.allocator());
+        write!(form, "{piece:?}")?;
+        self.text.push_str(form.as_str())
     }
 
+    #[tactic(auto, using(crate::proofs::Pieces::grown))]
     fn put_unsigned(&mut self, number: u64) -> Result<(), AllocError> {
         write!(self.text, "{number}")
     }
@@ -99,18 +100,22 @@ impl<W: fmt::Write> Out for fmt::Formatter<W> {
 
     ghost text = { λ _. None };
 
+    #[tactic(auto, using(crate::proofs::Pieces::untold))]
     fn put(&mut self, piece: &str) -> fmt::Result {
         self.write_str(piece)
     }
 
+    #[tactic(auto, using(crate::proofs::Pieces::untold))]
     fn put_debug(&mut self, piece: &str) -> fmt::Result {
         write!(self, "{piece:?}")
     }
 
+    #[tactic(auto, using(crate::proofs::Pieces::untold))]
     fn put_unsigned(&mut self, number: u64) -> fmt::Result {
         write!(self, "{number}")
     }
 
+    #[tactic(auto, using(crate::proofs::Pieces::untold))]
     fn put_signed(&mut self, number: i64) -> fmt::Result {
         write!(self, "{number}")
     }
