@@ -1,8 +1,6 @@
 -- A set that was written is read as itself: its tree, and the message of that tree.
-use Rattle.std.proofs.Common.{◌≡◌, ℕ, suc, ◌^◌, ◌<◌, ◌≤◌, refl, ap, sym, subst, ◌∙◌, List, Ok}
+use Rattle.std.proofs.Common.{◌≡◌, ℕ, suc, ◌^◌, ◌<◌, refl, ap, sym, subst, ◌∙◌, List, Ok}
 use Rattle.std.specs.Prelude.{All}
-use Rattle.capnp_device.specs.declared.error.ErrorKind.{ErrorKind}
-use Rattle.capnp_device.specs.declared.error.ErrorKind.TheVariants.{TooLarge}
 use Rattle.capnp_wire.specs.Message.{IsReadAs}
 use Rattle.capnp_wire.specs.Depth.{IsShallow}
 use Rattle.capnp_wire.specs.Place.{struct_tree}
@@ -55,6 +53,3 @@ module _ (s : Schemas) where
   -- the words of the message, by its tree
   pub message-small : (t : Tree) → t ≡ struct_tree (set_tree s) → IsWellFormed t × (suc (words_of t) < 2 ^ 29) → message_words s < 2 ^ 29
   message-small t e held = subst (λ (x : Tree). suc (words_of x) < 2 ^ 29) e held.1
-
-  pub message-large : (t : Tree) (kind : ErrorKind) → t ≡ struct_tree (set_tree s) → (kind ≡ TooLarge → 2 ^ 29 ≤ suc (words_of t)) → kind ≡ TooLarge → 2 ^ 29 ≤ message_words s
-  message-large t kind e h large = subst (λ (x : Tree). 2 ^ 29 ≤ suc (words_of x)) e (h large)

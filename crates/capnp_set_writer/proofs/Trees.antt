@@ -5,7 +5,7 @@ use Rattle.std.proofs.lemmas.List.{length-map}
 use borrow.Author.Count.{below_more}
 use Rattle.capnp_device.specs.declared.error.Error.{Error}
 use Rattle.capnp_device.specs.declared.error.ErrorKind.{ErrorKind}
-use Rattle.capnp_device.specs.declared.error.ErrorKind.TheVariants.{OutOfMemory, SizePastFormat, TooLarge, UnknownKind}
+use Rattle.capnp_device.specs.declared.error.ErrorKind.TheVariants.{OutOfMemory, SizePastFormat, UnknownKind}
 use Rattle.capnp_wire.specs.Tree.{Composite, MoreStructs, MoreTrees, Null, Pointers, StructTree, Tree, nth_struct, struct_count, structs_from, tree_count, trees_from}
 use Rattle.capnp_wire.specs.Edits.{IsRoomRefusal, nulls, with_tree, zero_struct, zero_structs}
 use Rattle.capnp_wire.specs.Elements.{HasPointer, HasStruct, with_pointer_element, with_struct, with_struct_element}
@@ -39,10 +39,10 @@ if_err (Err e) f p = f e p
 pub refused-up : {K K' F F' : Type 0} (kind : ErrorKind) → IsPartRefusal K F kind → (K' → K) → (F' → F) → IsPartRefusal K' F' kind
 refused-up kind h f g = (h.0, (λ unknown k. h.1 unknown (f k)), (λ past k. h.2 past (g k)))
 
-no-memory : (kind : ErrorKind) → kind ≡ OutOfMemory → kind ≡ UnknownKind → ⊥
+pub no-memory : (kind : ErrorKind) → kind ≡ OutOfMemory → kind ≡ UnknownKind → ⊥
 no-memory kind a b = cc
 
-no-memory-either : (kind : ErrorKind) → kind ≡ OutOfMemory → kind ≡ SizePastFormat → ⊥
+pub no-memory-either : (kind : ErrorKind) → kind ≡ OutOfMemory → kind ≡ SizePastFormat → ⊥
 no-memory-either kind a b = cc
 
 no-size : (kind : ErrorKind) → kind ≡ SizePastFormat → kind ≡ UnknownKind → ⊥
@@ -65,27 +65,9 @@ map-at f [] i x = refl
 map-at f (y ∷ xs) zero x = refl
 map-at f (y ∷ xs) (suc i) x = map-at f xs i x
 
--- the refusals of the whole message, TooLarge and want of memory, are none of a part's
-large-memory : (kind : ErrorKind) → kind ≡ TooLarge → kind ≡ OutOfMemory → ⊥
-large-memory kind a b = cc
-
-large-size : (kind : ErrorKind) → kind ≡ TooLarge → kind ≡ SizePastFormat → ⊥
-large-size kind a b = cc
-
-large-unknown : (kind : ErrorKind) → kind ≡ TooLarge → kind ≡ UnknownKind → ⊥
-large-unknown kind a b = cc
-
-pub part-not-large : (kind : ErrorKind) → IsWriteRefusal kind → kind ≡ TooLarge → ⊥
-part-not-large kind h large = large-unknown kind large (h (large-memory kind large) (large-size kind large))
-
-pub whole-refused : (kind : ErrorKind) → (kind ≢ TooLarge → kind ≡ OutOfMemory) → kind ≢ TooLarge → IsWriteRefusal kind
-whole-refused kind h small = λ memory size. absurd (memory (h small))
-
-pub whole-no-unknown : (kind : ErrorKind) → (kind ≢ TooLarge → kind ≡ OutOfMemory) → kind ≡ UnknownKind → ⊥
-whole-no-unknown kind h e = no-memory kind (h (λ large. large-unknown kind large e)) e
-
-pub whole-no-size : (kind : ErrorKind) → (kind ≢ TooLarge → kind ≡ OutOfMemory) → kind ≡ SizePastFormat → ⊥
-whole-no-size kind h e = no-memory-either kind (h (λ large. large-size kind large e)) e
+-- what there is no memory for is refused as a part is
+pub whole-refused : (kind : ErrorKind) → kind ≡ OutOfMemory → IsWriteRefusal kind
+whole-refused kind h = λ memory size. absurd (memory h)
 
 -- what is so of each result that is Ok
 pub always-ok : {A E P : Type 0} (r : Result A E) → P → OnOk r P

@@ -1,6 +1,6 @@
 //! Sets of schemas as messages.
-ghost use Rattle.std.specs.Prelude.{◌≡◌, ◌≢◌, ◌≤◌, ◌<◌, ◌^◌, IfErr, IfOk, OnOk};
-ghost use Rattle.capnp_device.specs.declared.error.ErrorKind.TheVariants.{SizePastFormat, TooLarge, UnknownKind};
+ghost use Rattle.std.specs.Prelude.{◌≡◌, ◌<◌, ◌^◌, IfErr, IfOk, OnOk};
+ghost use Rattle.capnp_device.specs.declared.error.ErrorKind.TheVariants.{SizePastFormat, UnknownKind};
 ghost use Rattle.capnp_wire.specs.Place.{struct_tree};
 ghost use Rattle.capnp_arena.specs.Built.{ChangesIn, IsBuilt, built};
 ghost use Rattle.capnp_arena.specs.Forest.{Forest, tree};
@@ -10,7 +10,7 @@ ghost use Rattle.capnp_schema.specs.Accepted.{IsAccepted};
 ghost use Rattle.capnp_schema.specs.Entries.{lists_seen};
 ghost use Rattle.capnp_set_writer.specs.Kept.{SetKept};
 ghost use Rattle.capnp_set_writer.specs.Limits.{HasFormless, IsPastFormat, SetFits, SetHasKinds, message_words};
-ghost use Rattle.capnp_set_writer.specs.Message.{IsReadAsSet};
+ghost use Rattle.capnp_set_writer.specs.Message.{IsReadAsSet, set_message};
 ghost use Rattle.capnp_set_writer.specs.Trees.{set_tree};
 ghost use Rattle.capnp_set_writer.specs.Writes.{IsNew, IsPartRefusal, IsWriteRefusal};
 
@@ -59,23 +59,22 @@ fn put_root(arena: &mut Arena, set: &SchemaSet) -> Result<()>
     put_lists(arena, root, set)
 }
 
-/// The message of a set of schemas: a stream of one segment, whose root is the record of the set. These bytes, whatever
-/// follows them, are read as the set's own lists (`capnp_sets::read_set`). Every list, text and struct of a record is
-/// there, also where it is empty.
+/// The message of a set of schemas: a stream of one segment, whose root is the record of the set, and no more bytes.
+/// They, whatever follows them, are read as the set's own lists (`capnp_sets::read_set`). Every list, text and struct of
+/// a record is there, also where it is empty.
 ///
 /// Refused with `UnknownKind` where a value is untyped and isn't one zero word, or is a list without words, for which
 /// the form has no kind; with `SizePastFormat` where a type has more than 65,535 lists around it, or a text, data or
 /// list is too long for the format; and else with `OutOfMemory`, also where the message would be 2^29 words or more.
-/// `TooLarge` is given there alone.
 pub fn write_set(alloc: Global, set: &SchemaSet) -> Result<Vec<u8>>
+    ensures written { IfOk result (λ bytes. bytes.items ≡ set_message (lists_seen set.now)) }
     ensures read { IfOk result (λ bytes. IsReadAsSet (lists_seen set.now) bytes.items) }
     ensures kinds { OnOk result (SetHasKinds (lists_seen set.now)) }
     ensures fits { OnOk result (SetFits (lists_seen set.now)) }
     ensures small { OnOk result (message_words (lists_seen set.now) < 2 ^ 29) }
-    ensures cause { IfErr result (λ e. e.kind ≢ TooLarge → IsWriteRefusal e.kind) }
+    ensures cause { IfErr result (λ e. IsWriteRefusal e.kind) }
     ensures unknown { IfErr result (λ e. e.kind ≡ UnknownKind → HasFormless (lists_seen set.now)) }
     ensures past { IfErr result (λ e. e.kind ≡ SizePastFormat → IsPastFormat (lists_seen set.now)) }
-    ensures large { IfErr result (λ e. e.kind ≡ TooLarge → 2 ^ 29 ≤ message_words (lists_seen set.now)) }
 {
     let mut arena = Arena::new(alloc)?;
     put_root(&mut arena, set)?;

@@ -1,17 +1,13 @@
 -- Which kinds the bytes of a message are refused with, where they are read as a set.
-use Rattle.std.proofs.Common.{ℕ, ◌+◌, ◌≡◌, ◌≢◌, ◌∙◌, ap, refl, subst, sym, inl, inr, Bool, true, false, cond, nat_lt, length, take, List, Ok, Err, Result, IfErr}
+use Rattle.std.proofs.Common.{ℕ, ◌≡◌, ◌≢◌, ◌∙◌, ap, refl, subst, sym, inl, inr, Bool, true, false, List, Ok, Err, Result, IfErr}
 use Rattle.std.proofs.lemmas.Bool.{true≢false}
-use Rattle.std.specs.Prelude.{⊤}
 use Rattle.capnp_device.specs.declared.error.Error.{Error}
 use Rattle.capnp_device.specs.declared.error.ErrorKind.{ErrorKind}
 use Rattle.capnp_device.specs.declared.error.ErrorKind.TheVariants.{OutOfMemory, Schema}
-use Rattle.capnp_wire.specs.Locate.{Segments}
 use Rattle.capnp_wire.specs.Reading.{as_struct}
-use Rattle.capnp_wire.specs.Slot.{little_endian}
-use Rattle.capnp_wire.specs.Stream.{header_bytes, message_tree_of, root_read, segments_of}
+use Rattle.capnp_wire.specs.Stream.{message_tree_of}
 use Rattle.capnp_wire.specs.Tree as tree
 use Rattle.capnp_wire.specs.Tree.{StructTree, Tree}
-use Rattle.capnp_wire.specs.declared.fault.Fault.TheVariants as fault
 use Rattle.capnp_schema.specs.Broken.{IsKindOf}
 use Rattle.capnp_schema.specs.Meta.{meta}
 use Rattle.capnp_schema.specs.Schema.{Schemas}
@@ -19,52 +15,23 @@ use Rattle.capnp_schema.specs.Types.{StructType}
 use Rattle.capnp_records.specs.Facts.ReadFaults.{RecordSound, value_of-sound}
 use Rattle.capnp_records.specs.Reading.{struct_record}
 use Rattle.capnp_records.specs.Record.{Left}
+use Rattle.capnp_sets.specs.Facts.MessageRefusals.{RefusesAs, message_as, message_refused, struct_as, struct_refused}
 use Rattle.capnp_sets.specs.Lists.{IsSetRefusal}
 use Rattle.capnp_sets.specs.Message.{IsMessageRefusal, IsRootRefusal, root_record, root_struct}
 use Rattle.capnp_sets.specs.Refusals.{IsOfSet, is_set_kind}
 use Rattle.capnp_sets.proofs.Caused.{IsSetKind}
 use Rattle.capnp_sets.proofs.SetKinds.{caused_set}
 
--- a reading that is refused with one of these kinds, if it is
-abbrev IsTold : {A : Type 0} → Result A ErrorKind → Type 0
-IsTold (Ok a) = ⊤
-IsTold (Err kind) = IsSetKind kind
-
-either_told : {A : Type 0} (q : Bool) (r s : Result A ErrorKind) → IsTold r → IsTold s → IsTold (cond q r s)
-either_told true r s h k = h
-either_told false r s h k = k
-
--- ---- the stream and its root ----
-
-stream_told : (bytes : List ℕ) → IsTold (segments_of bytes)
-stream_told bytes =
-    either_told (nat_lt (length bytes) 4) _ _ refl
-    (either_told (nat_lt 512 (little_endian (take 4 bytes) + 1)) _ _ refl
-    (either_told (nat_lt (length bytes) (header_bytes (little_endian (take 4 bytes) + 1))) _ _ refl
-    (either_told (nat_lt (length bytes) _) _ _ refl tt)))
-
-tree_told : (r : Result Segments ErrorKind) → IsTold r → IsTold (root_read r)
-tree_told (Ok segments) h = tt
-tree_told (Err kind) h = h
-
-struct_told : (t : Tree) → IsTold (as_struct t 64)
-struct_told tree.Null = tt
-struct_told (tree.Struct bytes ps) = tt
-struct_told (tree.Voids n) = refl
-struct_told (tree.Bits bs) = refl
-struct_told (tree.Numbers w bytes) = refl
-struct_told (tree.Pointers ps) = refl
-struct_told (tree.Composite d p es) = refl
-struct_told (tree.FaultLeaf fault.BadPointer) = refl
-struct_told (tree.FaultLeaf fault.TooDeep) = refl
-struct_told (tree.FaultLeaf fault.CapabilityPointer) = refl
+-- who is refused where bytes are read as a message
+pub stream_kind : (bytes : List ℕ) (kind : ErrorKind) → Err kind ≡ message_tree_of bytes → IsSetKind kind
+stream_kind bytes kind e = message_refused IsSetKind refl refl bytes kind e
 
 -- who is refused where a root is read as a struct
 pub struct_kind : (x : Tree) (n : ℕ) (kind : ErrorKind) → n ≡ 64 → Err kind ≡ as_struct x n → IsSetKind kind
-struct_kind x n kind levels e = subst (λ (r : Result StructTree ErrorKind). IsTold r) (sym (e ∙ ap (as_struct x) levels)) (struct_told x)
+struct_kind x n kind levels e = struct_refused IsSetKind refl refl refl refl x n kind levels e
 
-root_told : (r : Result Tree ErrorKind) → IsTold r → IsTold (root_struct r)
-root_told (Ok t) h = struct_told t
+root_told : (r : Result Tree ErrorKind) → RefusesAs IsSetKind r → RefusesAs IsSetKind (root_struct r)
+root_told (Ok t) h = struct_as IsSetKind refl refl refl refl t
 root_told (Err kind) h = h
 
 -- ---- the set of a root ----
@@ -81,12 +48,12 @@ record_kind : (root : StructTree) (e : Error) → IsSetRefusal (root_record root
 record_kind root e (inl here) = caused_set (root_record root) (root-sound meta root) e.kind here
 record_kind root e (inr (set, lists, broken)) = rule_kind set e.kind broken
 
-refusal_kind : (r : Result StructTree ErrorKind) (e : Error) → IsTold r → IsRootRefusal r e → IsSetKind e.kind
+refusal_kind : (r : Result StructTree ErrorKind) (e : Error) → RefusesAs IsSetKind r → IsRootRefusal r e → IsSetKind e.kind
 refusal_kind (Ok root) e told h = record_kind root e h
 refusal_kind (Err kind) e told h = subst IsSetKind (sym h) told
 
 pub message_kind : (bytes : List ℕ) (e : Error) → IsMessageRefusal bytes e → IsSetKind e.kind
-message_kind bytes e h = refusal_kind (root_struct (message_tree_of bytes)) e (root_told (message_tree_of bytes) (tree_told (segments_of bytes) (stream_told bytes))) h
+message_kind bytes e h = refusal_kind (root_struct (message_tree_of bytes)) e (root_told (message_tree_of bytes) (message_as IsSetKind refl refl bytes)) h
 
 -- who is refused for memory, or for one of these
 pub set_kind : (bytes : List ℕ) (e : Error) → (e.kind ≢ OutOfMemory → IsMessageRefusal bytes e) → IsSetKind e.kind

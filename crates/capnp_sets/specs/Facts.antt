@@ -1,2 +1,3 @@
 -- Facts of the definitions, with their proofs: what lemmas of crates above cite.
+pub mod MessageRefusals
 pub mod RootRead

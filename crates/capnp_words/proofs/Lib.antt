@@ -4,6 +4,7 @@ pub mod DigitsRead
 pub mod DigitsSigned
 pub mod EnumerantNames
 pub mod NamesRead
+pub mod OfSet
 pub mod PathSteps
 pub mod PathsOnly
 pub mod PathsRead

@@ -14,6 +14,7 @@ use Rattle.capnp_schema.specs.Types.{SchemaType, VoidType, BoolType, IntType, UI
 use Rattle.capnp_schema.specs.Schema.{Schemas, Enumerant, enum_at}
 use Rattle.capnp_records.specs.Record as value
 use Rattle.capnp_records.specs.Record.{Value}
+use Rattle.capnp_records.specs.Facts.Spelled.{same_said}
 use Rattle.capnp_records.specs.Text.{Out, data_text, name_or, quoted, said}
 use Rattle.capnp_words.specs.Reads.{read_as}
 use Rattle.capnp_words.specs.Values.{enumerant_at, greatest_signed, greatest_unsigned, truth_at, value_at}
@@ -48,7 +49,7 @@ ascii_at [] h i = omega arith
 ascii_at (b ∷ bs) h zero = grind (arith, nat_tests, h.0)
 ascii_at (b ∷ bs) h (suc i) = ascii_at bs h.1 i
 
-quoted_ascii : (bs : List ℕ) → AllByRecursion (λ b. is_ascii b ≡ true) bs → quoted bs ≡ Ok (Some (34 ∷ (flat_map (debug_escape 34) bs ++ 34 ∷ [])))
+quoted_ascii : (bs : List ℕ) → AllByRecursion (λ b. is_ascii b ≡ true) bs → quoted bs ≡ said (34 ∷ (flat_map (debug_escape 34) bs ++ 34 ∷ []))
 quoted_ascii bs h = rw (is_utf8-from_IsUtf8 bs (IsUtf8-from_ascii bs (ascii_at bs h)), quoted) (rw (all_ascii bs h) refl)
 
 -- ---- enumerants ----
@@ -68,16 +69,12 @@ truth_again : (b : Bool) → truth_at (cond b (codes "true") (codes "false")) �
 truth_again true = refl
 truth_again false = refl
 
--- a text that is there is the word
-the_word : (a b : List ℕ) → said a ≡ said b → a ≡ b
-the_word a b e = cc
-
 -- a value is read of the word that its text is
 abbrev IsText : Out → List ℕ → Type 0
-IsText text word = text ≡ Ok (Some word)
+IsText text word = text ≡ said word
 
-of_word : (set : Schemas) (t : SchemaType) (v : Value) (text word : List ℕ) → IsText (Ok (Some text)) word → value_at set t text ≡ Ok v → value_at set t word ≡ Ok v
-of_word set t v text word e h = subst (λ (x : List ℕ). value_at set t x ≡ Ok v) (the_word text word e) h
+of_word : (set : Schemas) (t : SchemaType) (v : Value) (text word : List ℕ) → IsText (said text) word → value_at set t text ≡ Ok v → value_at set t word ≡ Ok v
+of_word set t v text word e h = subst (λ (x : List ℕ). value_at set t x ≡ Ok v) (same_said text word e) h
 
 pub printed_values_read : PrintedValuesAreRead
 printed_values_read set indented VoidType value.Void word w e = of_word set VoidType value.Void (codes "()") word e refl

@@ -7,7 +7,7 @@ use Rattle.capnp_schema.specs.Schema.{Schemas}
 use Rattle.capnp_records.specs.Call.{PathStep, FieldNumber, FieldNamed, ElementAt}
 use Rattle.capnp_records.specs.Record as value
 use Rattle.capnp_records.specs.Record.{Value}
-use Rattle.capnp_records.specs.Text.{text_of}
+use Rattle.capnp_records.specs.Text.{said, text_of}
 use Rattle.capnp_words.specs.Paths.{is_dot, is_space, path_at, words_of_path}
 use Rattle.capnp_words.specs.Calls.{CallOp, CallText, Get, Has, Which, Set, Init, Initn, Clear, call_at, call_word}
 use Rattle.capnp_words.specs.Values.{greatest_signed, greatest_unsigned, names_of, value_at}
@@ -81,4 +81,4 @@ IsWritable set t v = ⊥
 abbrev pub PrintedValuesAreRead : Type 0
 PrintedValuesAreRead =
     (set : Schemas) (indented : Bool) (t : SchemaType) (v : Value) (word : List ℕ)
-    → IsWritable set t v → text_of set indented t v ≡ Ok (Some word) → value_at set t word ≡ Ok v
+    → IsWritable set t v → text_of set indented t v ≡ said word → value_at set t word ≡ Ok v

@@ -1,12 +1,14 @@
 -- What the code's paths, calls and values stand for.
-use Rattle.std.specs.Prelude.{List, map, pos}
+use Rattle.std.specs.Prelude.{List, map, pos, ◌≡◌, ⊤}
 use Rattle.std.specs.String.{string_bytes}
 use Rattle.capnp_records.specs.Call.{PathStep, FieldNumber, FieldNamed, ElementAt}
 use Rattle.capnp_records.specs.Record as value
 use Rattle.capnp_records.specs.Record.{Value}
-use Rattle.capnp_schema.specs.Enums.{enum_number}
+use Rattle.capnp_schema.specs.Enums.{enum_number, enum_set}
+use Rattle.capnp_schema.specs.Schema.{Schemas}
 use Rattle.capnp_schema.specs.Types.{BoolType, DataType, EnumType, IntType, SchemaType, TextType, UIntType, VoidType}
 use Rattle.capnp_dynamic_readers.specs.Handles.{enum_of, number_in}
+use Rattle.capnp_dynamic_readers.specs.Shown.{no_schemas}
 use Rattle.capnp_words.specs.Calls as text
 use Rattle.capnp_words.specs.Calls.{CallOp, CallText}
 use Rattle.capnp_words.specs.declared.path.PathStep.{PathStep as WordStep}
@@ -71,3 +73,13 @@ plain_type (plain.UInt64 x) = UIntType 8
 plain_type (plain.Enum e) = EnumType (enum_number (enum_of e))
 plain_type (plain.Text bytes) = TextType
 plain_type (plain.«Data» bytes) = DataType
+
+-- the set of an enum's value; others need none
+abbrev pub plain_set : PlainValue → Schemas
+plain_set (plain.Enum e) = enum_set (enum_of e)
+plain_set v = no_schemas
+
+-- an enum's value is of the set
+abbrev pub IsOfSet : Schemas → PlainValue → Type 0
+IsOfSet set (plain.Enum e) = enum_set (enum_of e) ≡ set
+IsOfSet set v = ⊤

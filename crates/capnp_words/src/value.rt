@@ -7,13 +7,14 @@ ghost use Rattle.capnp_schema.specs.Enumerants.{enum_of_list, enumerants_in};
 ghost use Rattle.capnp_schema.specs.Enums.{enum_number, enum_set};
 ghost use Rattle.capnp_schema.specs.Types.{BoolType, EnumType, IntType, UIntType, VoidType, seen_type, seen_variant};
 ghost use Rattle.capnp_dynamic_readers.specs.Seen.{value_seen};
+ghost use Rattle.capnp_dynamic_readers.specs.Shown.{set_seen, type_seen};
 ghost use Rattle.capnp_words.specs.Reads.{read_as};
 ghost use Rattle.capnp_words.specs.Quoted.{text_at, data_at};
 ghost use Rattle.capnp_records.specs.Record.{Truth};
 ghost use Rattle.capnp_records.specs.Record.{Enum as EnumNumber};
 ghost use Rattle.capnp_words.specs.Words.{name_among};
 ghost use Rattle.capnp_words.specs.Values.{IsSmall, enumerant_at, enumerant_names, int_at, truth_at, uint_at, value_at, void_at};
-ghost use Rattle.capnp_words.specs.Seen.{plain_seen, plain_type};
+ghost use Rattle.capnp_words.specs.Seen.{IsOfSet, plain_seen, plain_set, plain_type};
 
 use crate::numbers::{read_decimal, read_signed};
 use crate::path::Read;
@@ -46,9 +47,11 @@ pub enum PlainValue<'s> {
 }
 
 impl<'s> PlainValue<'s> {
-    /// The value as one that is read, which a set can be given.
+    /// The value as one that is read, of the same type and the same schemas, which a set can be given.
     pub fn as_reader(&self) -> Reader<'_>
-        ensures { value_seen result ≡ plain_seen self.now }
+        ensures value { value_seen result ≡ plain_seen self.now }
+        ensures typed { type_seen result ≡ plain_type self.now }
+        ensures set { set_seen result ≡ plain_set self.now }
     {
         match self {
             PlainValue::Void => Reader::Void,
@@ -237,16 +240,19 @@ fn read_enum<'s>(schema: EnumSchema<'s>, word: &[u8]) -> Read<PlainValue<'s>>
     ensures read { read_as plain_seen result
         ≡ read_as EnumNumber (enumerant_at (enumerant_names schema.entry) word.now) }
     ensures typed { IfOk result (λ v. plain_type v ≡ EnumType (enum_number schema.entry)) }
+    ensures set { IfOk result (IsOfSet (enum_set schema.entry)) }
 {
     let number = read_enumerant(schema, word)?;
     Ok(PlainValue::Enum(Enum::new(number, schema)))
 }
 
 /// The value under a type that takes no memory; one under another type has none.
+#[tactic(auto, using(crate::proofs::OfSet::of_no_set))]
 fn read_small<'s>(set: &'s SchemaSet, kind: TypeVariant, word: &[u8]) -> Read<PlainValue<'s>>
     requires { IsSmall (seen_variant kind) }
     ensures read { read_as plain_seen result ≡ value_at (lists_seen set.now) (seen_variant kind) word.now }
     ensures typed { IfOk result (λ v. plain_type v ≡ seen_variant kind) }
+    ensures set { IfOk result (IsOfSet (lists_seen set.now)) }
 {
     match kind {
         TypeVariant::Void => read_void(word),
@@ -268,7 +274,7 @@ fn read_small<'s>(set: &'s SchemaSet, kind: TypeVariant, word: &[u8]) -> Read<Pl
 ///
 /// - a void: `()`; a truth value: `false` or `true`;
 /// - an integer: in decimal digits, within the type's range, with no zero in front and no `-0`;
-/// - an enum: an enumerant's name, or else a number up to 65,535;
+/// - an enum: an enumerant's name, or else a number up to 65,535; the value has the set's enum;
 /// - a text: any bytes that begin with no quote, as they stand; or in quotes, with the escapes `\"`, `\\`, `\n`, `\r`,
 ///   `\t`, `\0` and `\u{..}`, with one to six hexadecimal digits of a character's number, and no control character
 ///   else;
@@ -286,6 +292,7 @@ pub fn parse_value<'s>(
 ) -> Result<Read<PlainValue<'s>>>
     ensures read { IfOk result (λ r. read_as plain_seen r ≡ value_at (lists_seen set.now) (seen_type target) word.now) }
     ensures typed { IfOk result (λ r. IfOk r (λ v. plain_type v ≡ seen_type target)) }
+    ensures set { IfOk result (λ r. IfOk r (IsOfSet (lists_seen set.now))) }
     ensures memory { IfErr result (λ e. e.kind ≡ OutOfMemory) }
 {
     match target.which() {

@@ -1,10 +1,15 @@
 -- The message is read as its tree, and that tree as the set.
+use Rattle.std.proofs.Common.{ap, ◌∙◌}
 use Rattle.std.proofs.lemmas.Result.{err_from_is_err_and}
+use Rattle.capnp_wire.specs.Encoding.{message_of}
 use Rattle.capnp_schema.specs.Entries.{lists_seen}
 use Rattle.capnp_set_writer.proofs.HaveKinds.{set-kinds}
-use Rattle.capnp_set_writer.proofs.Sets.{message-large, message-read, message-small}
-use Rattle.capnp_set_writer.proofs.Trees.{always-ok, if_err, if_ok, on-if-ok, part-not-large, whole-no-size, whole-no-unknown, whole-refused}
+use Rattle.capnp_set_writer.proofs.Sets.{message-read, message-small}
+use Rattle.capnp_set_writer.proofs.Trees.{always-ok, if_err, if_ok, no-memory, no-memory-either, on-if-ok, whole-refused}
 use Rattle.capnp_set_writer.proofs.set_writer.write_set.Goals as goal
+
+pub returns-clause-written : goal.returns-clause-written
+returns-clause-written c = if_ok c.write_message.result (λ v is. is ∙ ap message_of c.in_ok-put_root.ensures.written) c.write_message.ensures.bytes
 
 pub returns-clause-read : goal.returns-clause-read
 returns-clause-read c = if_ok c.write_message.result
@@ -21,23 +26,18 @@ pub returns-clause-small : goal.returns-clause-small
 returns-clause-small c = on-if-ok c.write_message.result (λ v held. message-small (lists_seen c.args.set.now) _ c.in_ok-put_root.ensures.written held) c.write_message.ensures.held
 
 pub returns-clause-cause : goal.returns-clause-cause
-returns-clause-cause c = if_err c.write_message.result (λ e h. whole-refused e.kind h) c.write_message.ensures.kinds
+returns-clause-cause c = if_err c.write_message.result (λ e h. whole-refused e.kind h) c.write_message.ensures.kind
 
 pub returns-clause-unknown : goal.returns-clause-unknown
-returns-clause-unknown c = if_err c.write_message.result (λ e h unknown. absurd (whole-no-unknown e.kind h unknown)) c.write_message.ensures.kinds
+returns-clause-unknown c = if_err c.write_message.result (λ e h unknown. absurd (no-memory e.kind h unknown)) c.write_message.ensures.kind
 
 pub returns-clause-past : goal.returns-clause-past
-returns-clause-past c = if_err c.write_message.result (λ e h past. absurd (whole-no-size e.kind h past)) c.write_message.ensures.kinds
-
-pub returns-clause-large : goal.returns-clause-large
-returns-clause-large c = if_err c.write_message.result
-    (λ e h. message-large (lists_seen c.args.set.now) _ e.kind c.in_ok-put_root.ensures.written h)
-    c.write_message.ensures.refused
+returns-clause-past c = if_err c.write_message.result (λ e h past. absurd (no-memory-either e.kind h past)) c.write_message.ensures.kind
 
 pub returns-in_err-put_root-clause-cause : goal.returns-in_err-put_root-clause-cause
 returns-in_err-put_root-clause-cause c =
     let p = err_from_is_err_and c.from_residual-in_err-put_root.result c.from_residual-in_err-put_root.ensures.1 in
-    rw (p.1, p.2) (λ small. c.in_err-put_root.ensures.cause.0)
+    rw (p.1, p.2) (c.in_err-put_root.ensures.cause.0)
 
 pub returns-in_err-put_root-clause-unknown : goal.returns-in_err-put_root-clause-unknown
 returns-in_err-put_root-clause-unknown c =
@@ -48,8 +48,3 @@ pub returns-in_err-put_root-clause-past : goal.returns-in_err-put_root-clause-pa
 returns-in_err-put_root-clause-past c =
     let p = err_from_is_err_and c.from_residual-in_err-put_root.result c.from_residual-in_err-put_root.ensures.1 in
     rw (p.1, p.2) (c.in_err-put_root.ensures.cause.2)
-
-pub returns-in_err-put_root-clause-large : goal.returns-in_err-put_root-clause-large
-returns-in_err-put_root-clause-large c =
-    let p = err_from_is_err_and c.from_residual-in_err-put_root.result c.from_residual-in_err-put_root.ensures.1 in
-    rw (p.1, p.2) (λ large. absurd (part-not-large _ c.in_err-put_root.ensures.cause.0 large))

@@ -4,7 +4,7 @@ use Rattle.capnp_wire.specs.Message.{message_tree}
 use Rattle.capnp_wire.specs.Standing.{levels_of, struct_of, tree_of}
 use Rattle.capnp_schema.specs.Entries.{lists_seen}
 use Rattle.capnp_schema.specs.StructHandles.{number_of, set_of}
-use Rattle.capnp_sets.proofs.MessageKinds.{each_kind, each_of_set, of_set, struct_kind}
+use Rattle.capnp_sets.proofs.MessageKinds.{each_kind, each_of_set, of_set, stream_kind, struct_kind}
 use Rattle.capnp_sets.specs.Facts.RootRead.{root_entered, root_seen, set_read, set_refused}
 use Rattle.capnp_sets.proofs.message.read_message.Goals as goal
 
@@ -39,3 +39,13 @@ pub returns-in_err-root-clause-of_no_device : goal.returns-in_err-root-clause-of
 returns-in_err-root-clause-of_no_device c =
     let p = err_from_is_err_and c.from_residual-in_err-root.result c.from_residual-in_err-root.ensures.1 in
     rw (p.1, p.2) (of_set _ (struct_kind (tree_of c.get_root.result) (levels_of c.get_root.result) _ c.get_root.ensures.levels c.in_err-root.ensures.read))
+
+pub returns-in_err-reader-clause-kinds : goal.returns-in_err-reader-clause-kinds
+returns-in_err-reader-clause-kinds c =
+    let p = err_from_is_err_and c.from_residual-in_err-reader.result c.from_residual-in_err-reader.ensures.1 in
+    rw (p.1, p.2) (stream_kind c.args.bytes.now _ c.in_err-reader.ensures)
+
+pub returns-in_err-reader-clause-of_no_device : goal.returns-in_err-reader-clause-of_no_device
+returns-in_err-reader-clause-of_no_device c =
+    let p = err_from_is_err_and c.from_residual-in_err-reader.result c.from_residual-in_err-reader.ensures.1 in
+    rw (p.1, p.2) (of_set _ (stream_kind c.args.bytes.now _ c.in_err-reader.ensures))
