@@ -3,7 +3,7 @@ use Rattle.std.specs.Prelude.{ℕ, suc, Bool, true, false, List, [], ◌∷◌, 
 use Rattle.std.specs.Borrow.{Fml, Lends, MutBor}
 use mir.Syntax.{named}
 use Rattle.capnp_device.specs.declared.error.ErrorKind.{ErrorKind}
-use Rattle.capnp_wire.specs.Place.{tree_below}
+use Rattle.capnp_wire.specs.Place.{tree_at}
 use Rattle.capnp_wire.specs.Reading.{as_data, as_text}
 use Rattle.capnp_wire.specs.Tree.{Tree}
 use Rattle.capnp_arena.specs.Forest.{Forest, tree}
@@ -48,7 +48,7 @@ text_bytes b = bytes_in (as_text (text_there b))
 
 -- the same bytes where a text stands there, and else none; whatever stands there has some
 abbrev pub text_seen : TextBuilder → List ℕ
-text_seen b = bytes_in (as_text (tree_below 65535 (segment b.arena.now ∷ []) (segment b.arena.now) b.at))
+text_seen b = bytes_in (as_text (tree_at 64 (segment b.arena.now ∷ []) (segment b.arena.now) b.at))
 
 abbrev pub position : TextBuilder → ℕ
 position b = b.pos

@@ -1,7 +1,8 @@
 //! Untyped pointers as they are built: what stands there is asked with a type.
 ghost use Rattle.std.specs.Prelude.{None, IfErr, IfOk, IsOk, OnErr, OnOk, ◌<◌, ◌≡◌};
 ghost use Rattle.std.specs.Borrow.{sem};
-ghost use Rattle.capnp_wire.specs.Depth.{IsBelow};
+ghost use Rattle.capnp_device.specs.declared.error.ErrorKind.TheVariants.{OutOfMemory};
+ghost use Rattle.capnp_wire.specs.Depth.{IsBelow, memory_depth};
 ghost use Rattle.capnp_wire.specs.Reading.{is_null_tree};
 ghost use Rattle.capnp_wire.specs.Standing.{levels_of, tree_of};
 ghost use Rattle.capnp_wire.specs.Total.{IsSize};
@@ -83,11 +84,13 @@ impl<'a> Builder<'a> {
     /// The size of all that the pointer leads to, without the pointer itself: 0 words for a null. There are no
     /// capabilities. Takes no memory.
     ///
-    /// Never refused: no message in memory has 2^29 words.
+    /// Refused with `OutOfMemory` exactly where the pointer leads more than 129 levels down.
     pub fn target_size(&self) -> Result<MessageSize>
         requires { IsPointer self.now }
         ensures size { IfOk result (λ size. IsSize size None (words_of (pointer_tree self.now))) }
-        ensures succeeds { IsOk result }
+        ensures succeeds { IsBelow memory_depth (pointer_tree self.now) → IsOk result }
+        ensures cause { IfErr result (λ e. (e.kind ≡ OutOfMemory)
+            × (IsBelow memory_depth (pointer_tree self.now) → ⊥)) }
     {
         self.arena.target_size(self.at)
     }
@@ -173,11 +176,11 @@ impl<'a> Builder<'a> {
     }
 
     /// A reader of the pointer for as long as the builder would be there, with 64 levels. Its tree is cut off past
-    /// 65,534 levels, which only walks of a whole tree can see.
+    /// 129 levels, which only walks of a whole tree can see.
     pub fn into_reader(self) -> Reader<'a>
         requires { IsPointer self }
         ensures cut { IsCutOf (tree_of (pointer_of result)) (pointer_tree self.entry) }
-        ensures tree { IsBelow 65535 (pointer_tree self.entry) → tree_of (pointer_of result) ≡ pointer_tree self.entry }
+        ensures tree { IsBelow memory_depth (pointer_tree self.entry) → tree_of (pointer_of result) ≡ pointer_tree self.entry }
         ensures levels { levels_of (pointer_of result) ≡ 64 }
     {
         let Builder { arena, at } = self;

@@ -5,7 +5,7 @@
 ghost use Rattle.std.specs.Prelude.{ℕ, IfErr, IfOk, IsOkAnd, IsSome, Option, Result, ◌<◌, ◌≡◌};
 ghost use Rattle.std.specs.Borrow.{MutBor, sem};
 ghost use Rattle.capnp_device.specs.declared.error.Error.{Error};
-ghost use Rattle.capnp_wire.specs.Depth.{IsBelow};
+ghost use Rattle.capnp_wire.specs.Depth.{IsBelow, memory_depth};
 ghost use Rattle.capnp_wire.specs.Tree.{Tree};
 ghost use Rattle.capnp_wire.specs.declared.pointer_reader.PointerReader.{PointerReader};
 ghost use Rattle.capnp_base.specs.Traits.{tree_or};
@@ -101,7 +101,7 @@ pub trait Owned<'a>: Introspect {
 
 /// Sets a pointer, and reads it again: what is set is what is read. Where the pointer's tree is the one that a reader
 /// would be set as, as it is for that reader itself, the answer is the same as that reader; a tree has to end within
-/// 65,534 levels, past which it is read cut off.
+/// 129 levels, past which it is read cut off.
 ///
 /// Refused as the set is. The pointer is then as it was, which the set's clause says and tests show of this call: it
 /// has no such clause of its own, since its answer borrows from the pointer.
@@ -110,9 +110,9 @@ pub fn set_and_get<'a, O: Owned<'a>, S: SetterInput<O>>(
     input: S,
 ) -> Result<O::Reader>
     requires inside { builder.at < word_count (segment builder.arena.now) }
-    ensures same { IfOk result (λ y. (x : O.Reader) → IsBelow 65535 (S.set_tree input)
+    ensures same { IfOk result (λ y. (x : O.Reader) → IsBelow memory_depth (S.set_tree input)
         → S.set_tree input ≡ O.Reader.set_tree x → O.same x y) }
-    ensures refused { IfErr result (λ error. (x : O.Reader) → IsBelow 65535 (S.set_tree input)
+    ensures refused { IfErr result (λ error. (x : O.Reader) → IsBelow memory_depth (S.set_tree input)
         → S.set_tree input ≡ O.Reader.set_tree x → S.set_refusal input error) }
 {
     let PointerBuilder { arena, at } = builder;

@@ -52,7 +52,7 @@ pub has_cut : (set : Schemas) (l : Levels) (x s : StructTree) → IsStructCutOf 
     has_of (struct_record set l x b) (field_at set b i).field i ≡ has_of (struct_record set l s b) (field_at set b i).field i
 unfolding IsStructCutOf
 has_cut set l x s h accepted b i b_in i_in v e =
-    sym (has_by_plan set l x accepted b i b_in i_in v e) ∙ (has_alike 32766 x s h (plan_of set b (field_at set b i)) ∙ has_by_plan set l s accepted b i b_in i_in v e)
+    sym (has_by_plan set l x accepted b i b_in i_in v e) ∙ (has_alike 64 x s h (plan_of set b (field_at set b i)) ∙ has_by_plan set l s accepted b i b_in i_in v e)
 
 -- ---- the active member ----
 
@@ -132,4 +132,4 @@ element_alike n set m x y h AnyPointerType i e = absurd (true≢false e)
 pub element_cut : (set : Schemas) (m : ℕ) (x y : Tree) → IsCutOf x y → (t : SchemaType) (i : ℕ) → is_pointer t ≡ false →
     read_of set VoidValue t (element_read set x m t i) ≡ read_of set VoidValue t (element_value set y (below_of set y) (Left m) t i)
 unfolding IsCutOf
-element_cut set m x y h t i e = ap (read_of set VoidValue t) (element_alike 32765 set m x y h t i e)
+element_cut set m x y h t i e = ap (read_of set VoidValue t) (element_alike 63 set m x y h t i e)

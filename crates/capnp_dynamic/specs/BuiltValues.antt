@@ -42,7 +42,7 @@ CanBeRead (built.List l) = IsListReady l
 CanBeRead (built.AnyPointer p) = IsPointer p
 CanBeRead v = ⊤
 
--- a reader of a value: of the same variant, and on the same, which is cut off past 65,534 levels
+-- a reader of a value: of the same variant, and on the same, which is cut off past 129 levels
 abbrev pub IsReaderOf : BuiltValue → DynamicValue → Type 0
 IsReaderOf built.Void dynamic.Void = ⊤
 IsReaderOf (built.Bool x) (dynamic.Bool y) = y ≡ x

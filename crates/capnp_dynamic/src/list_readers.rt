@@ -1,7 +1,7 @@
 //! Readers of lists that are built.
 ghost use Rattle.std.specs.Prelude.{None, ◌≡◌};
 ghost use Rattle.capnp_wire.specs.Defaults.{list_refusal};
-ghost use Rattle.capnp_wire.specs.Depth.{IsBelow};
+ghost use Rattle.capnp_wire.specs.Depth.{IsBelow, memory_depth};
 ghost use Rattle.capnp_wire.specs.Elements.{or_empty};
 ghost use Rattle.capnp_wire.specs.Standing.{list_levels, list_of};
 ghost use Rattle.capnp_arena.specs.Forest.{Forest, tree};
@@ -20,7 +20,7 @@ use capnp_wire::size::ElementSize;
 pub(crate) fn read_list(arena: &Arena, at: usize, size: ElementSize) -> ListReader<'_>
     requires { Forest (segment arena.now) at }
     ensures cut { IsCutOf (list_of result) (or_empty size (tree (segment arena.now) at)) }
-    ensures list { IsBelow 65535 (tree (segment arena.now) at)
+    ensures list { IsBelow memory_depth (tree (segment arena.now) at)
         → list_of result ≡ or_empty size (tree (segment arena.now) at) }
     ensures levels { list_levels result ≡ 64 }
 {

@@ -82,47 +82,12 @@ module _ (clear : TypedField → StructTree → StructTree) where
       go rest true = sym (ap (λ o. cleared_option (λ i. clear (entry (f ∷ fs) i)) o s) (below-zero (length (records fs))))
       go rest false = rest ∙ later-member f fs k (length (records fs)) s
 
-  pub cleared-plain : (fs : List TypedField) (first : ℕ) (at : ℕ → TypedField) → ((j : ℕ) → at (first + j) ≡ entry fs j) → (s : StructTree) →
-      cleared_plain clear fs s ≡ cleared_indices (λ i. clear (at i)) (indices_from first is_plain (records fs)) s
-  cleared-plain [] first at h s = refl
-  cleared-plain (f ∷ fs) first at h s = go (cleared-plain fs (suc first) at later) (is_member f.field)
-    where
-      rest : List ℕ
-      rest = indices_from (suc first) is_plain (records fs)
-
-      later : (j : ℕ) → at (suc first + j) ≡ entry fs j
-      later j = let e : suc first + j ≡ first + suc j = omega arith in ap at e ∙ h (suc j)
-
-      here : at first ≡ f
-      here = let e : first ≡ first + 0 = omega arith in ap at e ∙ h 0
-
-      go : ((x : StructTree) → cleared_plain clear fs x ≡ cleared_indices (λ i. clear (at i)) rest x) → (q : Bool) → cleared_plain clear fs (elim q as (λ _. StructTree) [ true ↦ s | false ↦ clear f s ]) ≡ cleared_indices (λ i. clear (at i)) (keep_index (not q) first rest) s
-      go each true = each s
-      go each false = each (clear f s) ∙ sym (ap (λ (g : TypedField). cleared_indices (λ i. clear (at i)) rest (clear g s)) here)
-
 -- ---- a group ----
 
 pub cleared-none : (groups : ℕ) (set : Schemas) (b : ℕ) (s : StructTree) → groups ≡ 0 → s ≡ cleared_through groups set b s
 unfolding cleared_through
 cleared-none zero set b s e = refl
 cleared-none (suc n) set b s e = absurd (omega arith)
-
-whole : (n k : ℕ) (set : Schemas) (b : ℕ) (s m e : StructTree) → k ≡ n → m ≡ cleared_option (clear_index k set b) (member_of (records_of set b) 0) s →
-    e ≡ cleared_indices (clear_index k set b) (plain_fields (records_of set b)) m → e ≡ cleared_through (suc n) set b s
-unfolding cleared_through
-whole n k set b s m e h p q =
-    let clear : TypedField → StructTree → StructTree = cleared_field (cleared_within n set) set b in
-    let member : cleared_option (clear_index n set b) (member_of (records_of set b) 0) s ≡ cleared_member clear (fields_of set b) s = sym (cleared-member clear (fields_of set b) s) in
-    let at : (j : ℕ) → field_at set b (0 + j) ≡ entry (fields_of set b) j = λ j. let z : 0 + j ≡ j = omega arith in ap (field_at set b) z in
-    q ∙ (ap (cleared_indices (clear_index k set b) (plain_fields (records_of set b))) p
-    ∙ (ap (λ (j : ℕ). cleared_indices (clear_index j set b) (plain_fields (records_of set b)) (cleared_option (clear_index j set b) (member_of (records_of set b) 0) s)) h
-    ∙ (ap (cleared_indices (clear_index n set b) (plain_fields (records_of set b))) member
-    ∙ sym (cleared-plain clear (fields_of set b) 0 (field_at set b) at (cleared_member clear (fields_of set b) s)))))
-
-pub cleared-next : (groups : ℕ) (set : Schemas) (b : ℕ) (s m e : StructTree) → (groups ≡ 0 → ⊥) → m ≡ cleared_option (clear_index (groups - 1) set b) (member_of (records_of set b) 0) s →
-    e ≡ cleared_indices (clear_index (groups - 1) set b) (plain_fields (records_of set b)) m → e ≡ cleared_through groups set b s
-cleared-next zero set b s m e h p q = absurd (h refl)
-cleared-next (suc n) set b s m e h p q = whole n (suc n - 1) set b s m e (omega arith) p q
 
 pub cleared-whole : (set : Schemas) (b : ℕ) (s : StructTree) → cleared_through (length set.brands) set b s ≡ cleared_group set b s
 unfolding cleared_through

@@ -1,13 +1,12 @@
--- A group is copied one field after another.
-use Rattle.std.specs.Prelude.{ℕ, zero, suc, ◌+◌, ◌-◌, ◌<◌, ◌≤◌, ◌≡◌, ◌≢◌, ⊤, refl, List, [], ◌∷◌, ◌++◌, Bool, true, false, not, ◌&&◌, cond, length, slice_index, drop, Option, Some, None, Result, Ok, Err, OnOk, OnErr, IfErr}
+-- A slot or a group is copied, and fields one after another.
+use Rattle.std.specs.Prelude.{ℕ, suc, ◌+◌, ◌≡◌, ◌≢◌, ⊤, refl, List, [], ◌∷◌, ◌++◌, Bool, true, false, not, ◌&&◌, cond, length, Option, Some, None, Result, Ok, Err, OnOk, OnErr, IfErr}
 use Rattle.std.proofs.Common.{arith, inl, inr, ap, sym, subst, ◌∙◌}
 use Rattle.std.proofs.lemmas.Bool.{eq-eqb, true≢false}
-use Rattle.std.proofs.lemmas.List.{drop_all, drop_more}
 use Rattle.capnp_device.specs.declared.error.Error.{Error}
 use Rattle.capnp_device.specs.declared.error.ErrorKind.{ErrorKind}
 use Rattle.capnp_device.specs.declared.error.ErrorKind.TheVariants.{OutOfMemory, TypeMismatch}
 use Rattle.capnp_wire.specs.Tree.{StructTree, Tree, nth_tree}
-use Rattle.capnp_schema.specs.FieldLists.{IsFieldOf, IsFound, index_of, schema_of, typed_of}
+use Rattle.capnp_schema.specs.FieldLists.{IsFound, index_of, schema_of, typed_of}
 use Rattle.capnp_schema.specs.Query.{indices_from, is_plain, keep_index}
 use Rattle.capnp_schema.specs.Ranges.{HasRanges}
 use Rattle.capnp_schema.specs.Schema.{FieldKind, Group, Schemas, Slot, TypedField, field_at, fields_of, is_member, kind_default, node_of}
@@ -24,7 +23,7 @@ use Rattle.capnp_records.specs.Given.{Copies, CopiesGroup, Fails, Given, Gives, 
 use Rattle.capnp_records.specs.GroupCopy.{active_first, plain_there, pointer_copy, read_copy, slot_copy}
 use Rattle.capnp_records.specs.Laws.{GroupCopyStaysInside}
 use Rattle.capnp_records.specs.Part.{nth_value, which_of}
-use Rattle.capnp_records.specs.Reading.{part_of, plain_parts, struct_record, union_of, values_of}
+use Rattle.capnp_records.specs.Reading.{part_of, plain_parts, union_of, values_of}
 use Rattle.capnp_records.specs.Record as value
 use Rattle.capnp_records.specs.Record.{Active, Levels, NoUnion, Parts, Union, Unknown, Value, Values, is_there}
 use Rattle.capnp_records.specs.Step.{is_group_field}
@@ -35,8 +34,8 @@ use Rattle.capnp_dynamic_readers.specs.Facts.HasWhich.{part-there}
 use Rattle.capnp_dynamic_readers.specs.Planned.{IsActiveMember, place_there}
 use Rattle.capnp_slots.specs.Copied.{IsCopied, copy_content, copy_given, refusal_of}
 use Rattle.capnp_slots.specs.Fields.{IsRoomFor, IsSlot, Keeps, field_brand, field_set, names_of, switched_to}
-use Rattle.capnp_slots.specs.GroupSets.{CopiesIndices, CopiesThrough, IsGroupSet, active_in, given_to_group, is_index_there, is_part_there, kept_indices, member_indices, plain_in}
-use Rattle.capnp_slots.specs.Groups.{IsGroupAt, KeepsSize, clear_by, clear_index, cleared_indices, cleared_through}
+use Rattle.capnp_slots.specs.GroupSets.{CopiesIndices, CopiesThrough, IsGroupSet, active_in, given_to_group, is_part_there, kept_indices, member_indices, plain_in}
+use Rattle.capnp_slots.specs.Groups.{IsGroupAt, KeepsSize, cleared_through}
 use Rattle.capnp_slots.specs.Sources.{IsSetRefusal, IsTaken, copy_due}
 use Rattle.capnp_slots.proofs.GroupClears.{cleared-whole, entry, records}
 
@@ -159,7 +158,7 @@ module _ (copy : TreeCopying) (set : Schemas) (l : Levels) (x : StructTree) (b :
   part-map f (Group n) s P P' Q Q' R R' p q r (inl (y, copied, rest)) = inl (y, copied, p y rest)
   part-map f (Group n) s P P' Q Q' R R' p q r (inr (kind, y, copied, rest)) = inr (kind, y, copied, r kind y rest)
 
-  fields-next : (i : ℕ) (is : List ℕ) (s m s' : StructTree) (o : Option ErrorKind) → TreeCopiesFields copy set l x b (i ∷ []) s None m → TreeCopiesFields copy set l x b is m o s' → TreeCopiesFields copy set l x b (i ∷ is) s o s'
+  pub fields-next : (i : ℕ) (is : List ℕ) (s m s' : StructTree) (o : Option ErrorKind) → TreeCopiesFields copy set l x b (i ∷ []) s None m → TreeCopiesFields copy set l x b is m o s' → TreeCopiesFields copy set l x b (i ∷ is) s o s'
   fields-next i is s m s' o first rest =
       part-map (field_at set b i) (field_at set b i).field.kind s _ _ _ _ _ _
       (λ y h. subst (λ (z : StructTree). TreeCopiesFields copy set l x b is z o s') h.1 rest) (λ n h. absurd (none-some n h.0)) (λ n y h. absurd (none-some n h.0)) first
@@ -167,32 +166,12 @@ module _ (copy : TreeCopying) (set : Schemas) (l : Levels) (x : StructTree) (b :
       none-some : (n : ErrorKind) → None ≡ Some n → ⊥
       none-some n e = cc
 
-  fields-cut : (i : ℕ) (is : List ℕ) (s s' : StructTree) (kind : ErrorKind) → TreeCopiesFields copy set l x b (i ∷ []) s (Some kind) s' → TreeCopiesFields copy set l x b (i ∷ is) s (Some kind) s'
+  pub fields-cut : (i : ℕ) (is : List ℕ) (s s' : StructTree) (kind : ErrorKind) → TreeCopiesFields copy set l x b (i ∷ []) s (Some kind) s' → TreeCopiesFields copy set l x b (i ∷ is) s (Some kind) s'
   fields-cut i is s s' kind first =
       part-map (field_at set b i) (field_at set b i).field.kind s _ _ _ _ _ _ (λ y h. absurd (some-none h.0)) (λ n h. h) (λ n y h. h) first
     where
       some-none : Some kind ≡ None → ⊥
       some-none e = cc
-
-  -- ---- the member, and then the plain fields ----
-
-  member-next : (o : Option ℕ) (is : List ℕ) (s m s' : StructTree) (refused : Option ErrorKind) → TreeCopiesFields copy set l x b (member_indices o) s None m → TreeCopiesFields copy set l x b is m refused s' →
-      TreeCopiesFields copy set l x b (member_indices o ++ is) s refused s'
-  member-next None is s m s' refused first rest = subst (λ (z : StructTree). TreeCopiesFields copy set l x b is z refused s') first.1 rest
-  member-next (Some i) is s m s' refused first rest = fields-next i is s m s' refused first rest
-
-  member-cut : (o : Option ℕ) (is : List ℕ) (s s' : StructTree) (kind : ErrorKind) → TreeCopiesFields copy set l x b (member_indices o) s (Some kind) s' → TreeCopiesFields copy set l x b (member_indices o ++ is) s (Some kind) s'
-  member-cut None is s s' kind first = absurd (let e = first.0 in cc)
-  member-cut (Some i) is s s' kind first = fields-cut i is s s' kind first
-
-  kept-next : (q : Bool) (i : ℕ) (is : List ℕ) (s m s' : StructTree) (refused : Option ErrorKind) → TreeCopiesFields copy set l x b (keep_index q i []) s None m → TreeCopiesFields copy set l x b is m refused s' →
-      TreeCopiesFields copy set l x b (keep_index q i is) s refused s'
-  kept-next true i is s m s' refused first rest = fields-next i is s m s' refused first rest
-  kept-next false i is s m s' refused first rest = subst (λ (z : StructTree). TreeCopiesFields copy set l x b is z refused s') first.1 rest
-
-  kept-cut : (q : Bool) (i : ℕ) (is : List ℕ) (s s' : StructTree) (kind : ErrorKind) → TreeCopiesFields copy set l x b (keep_index q i []) s (Some kind) s' → TreeCopiesFields copy set l x b (keep_index q i is) s (Some kind) s'
-  kept-cut true i is s s' kind first = fields-cut i is s s' kind first
-  kept-cut false i is s s' kind first = absurd (let e = first.0 in cc)
 
 -- ---- the fields of the source ----
 
@@ -235,7 +214,7 @@ module _ (n : ℕ) (set : Schemas) (l : Levels) (x : StructTree) (b : ℕ) where
   abbrev union : Union
   union = union_of part (node_of set b) (fields_of set b) x.bytes
 
-  whole : (s m s' : StructTree) (o : Option ErrorKind) → m ≡ cleared_group set b s →
+  pub whole : (s m s' : StructTree) (o : Option ErrorKind) → m ≡ cleared_group set b s →
       TreeCopiesFields (TreeCopiesWithin n set l x) set l x b (member_indices (which_of (Parts (plain_parts part (fields_of set b)) union)) ++ plain_in set l x b) m o s' → TreeCopiesWithin (suc n) set l x b s o s'
   unfolding is_part_there
   whole s m s' o cleared h =
@@ -244,73 +223,6 @@ module _ (n : ℕ) (set : Schemas) (l : Levels) (x : StructTree) (b : ℕ) where
       subst (λ (y : StructTree). TreeCopiesFields (TreeCopiesWithin n set l x) set l x b (active_first union (plain_there (fields_of set b) (plain_parts part (fields_of set b)) 0)) y o s') cleared
       (subst (λ is. TreeCopiesFields (TreeCopiesWithin n set l x) set l x b is m o s')
       (sym (active-split (plain_parts part (fields_of set b)) union (plain_there (fields_of set b) (plain_parts part (fields_of set b)) 0) ∙ ap (λ is. member_indices (which_of (Parts (plain_parts part (fields_of set b)) union)) ++ is) plain)) h)
-
-pub group-cut : (groups : ℕ) (set : Schemas) (l : Levels) (x : StructTree) (b : ℕ) (s m s' : StructTree) (kind : ErrorKind) → 0 < groups → m ≡ cleared_group set b s →
-    CopiesIndices (groups - 1) set l x b (member_indices (active_in set l x b)) m (Some kind) s' → CopiesThrough groups set l x b s (Some kind) s'
-unfolding CopiesIndices CopiesThrough active_in
-group-cut zero set l x b s m s' kind some cleared h = absurd (omega arith)
-group-cut (suc n) set l x b s m s' kind some cleared h =
-    let same : suc n - 1 ≡ n = omega arith in
-    whole n set l x b s m s' (Some kind) cleared
-    (member-cut (TreeCopiesWithin n set l x) set l x b (which_of (struct_record set l x b)) (plain_in set l x b) m s' kind
-    (subst (λ k. TreeCopiesFields (TreeCopiesWithin k set l x) set l x b (member_indices (which_of (struct_record set l x b))) m (Some kind) s') same h))
-
-pub group-whole : (groups : ℕ) (set : Schemas) (l : Levels) (x : StructTree) (b : ℕ) (s m y s' : StructTree) (o : Option ErrorKind) → 0 < groups → m ≡ cleared_group set b s →
-    CopiesIndices (groups - 1) set l x b (member_indices (active_in set l x b)) m None y → CopiesIndices (groups - 1) set l x b (plain_in set l x b) y o s' → CopiesThrough groups set l x b s o s'
-unfolding CopiesIndices CopiesThrough active_in
-group-whole zero set l x b s m y s' o some cleared h k = absurd (omega arith)
-group-whole (suc n) set l x b s m y s' o some cleared h k =
-    let same : suc n - 1 ≡ n = omega arith in
-    whole n set l x b s m s' o cleared
-    (member-next (TreeCopiesWithin n set l x) set l x b (which_of (struct_record set l x b)) (plain_in set l x b) m y s' o
-    (subst (λ j. TreeCopiesFields (TreeCopiesWithin j set l x) set l x b (member_indices (which_of (struct_record set l x b))) m None y) same h)
-    (subst (λ j. TreeCopiesFields (TreeCopiesWithin j set l x) set l x b (plain_in set l x b) y o s') same k))
-
--- ---- the plain fields, one more ----
-
--- those of the indices that are left, where the source has their fields
-abbrev Remains : ℕ → StructSchema → Levels → StructTree → List ℕ → StructTree → Option ErrorKind → StructTree → Type 0
-Remains groups schema l x is s o s' = CopiesIndices groups (set_of schema) l x (number_of schema) (kept_indices (is_index_there (set_of schema) l x (number_of schema)) is) s o s'
-
-module _ (groups : ℕ) (schema : StructSchema) (l : Levels) (x : StructTree) (is : List ℕ) (n : ℕ) (inside : n < length is) (f : Field) (field : IsFieldOf schema (slice_index is n) f) (s y : StructTree) where
-  first : (o : Option ErrorKind) → CopiesIndices groups (field_set f) l x (field_brand f) (keep_index (is_part_there (field_set f) l x (typed_of f)) (index_of f) []) s o y →
-      CopiesIndices groups (set_of schema) l x (number_of schema) (keep_index (is_index_there (set_of schema) l x (number_of schema) (slice_index is n)) (slice_index is n) []) s o y
-  first o h =
-      subst (λ i. CopiesIndices groups (set_of schema) l x (number_of schema) (keep_index (is_index_there (set_of schema) l x (number_of schema) i) i []) s o y) field.index
-      (subst (λ (z : StructSchema). CopiesIndices groups (set_of z) l x (number_of z) (keep_index (is_index_there (set_of z) l x (number_of z) (index_of f)) (index_of f) []) s o y) field.schema h)
-
-  split : drop n is ≡ slice_index is n ∷ drop (n + 1) is
-  split = drop_more is n 0 inside
-
-  pub plain-next : CopiesIndices groups (field_set f) l x (field_brand f) (keep_index (is_part_there (field_set f) l x (typed_of f)) (index_of f) []) s None y →
-      (o : Option ErrorKind) (s' : StructTree) → Remains groups schema l x (drop (n + 1) is) y o s' → Remains groups schema l x (drop n is) s o s'
-  unfolding CopiesIndices
-  plain-next h o s' rest =
-      subst (λ js. Remains groups schema l x js s o s') (sym split)
-      (kept-next (TreeCopiesWithin groups (set_of schema) l x) (set_of schema) l x (number_of schema) (is_index_there (set_of schema) l x (number_of schema) (slice_index is n)) (slice_index is n)
-      (kept_indices (is_index_there (set_of schema) l x (number_of schema)) (drop (n + 1) is)) s y s' o (first None h) rest)
-
-  pub plain-cut : (kind : ErrorKind) → CopiesIndices groups (field_set f) l x (field_brand f) (keep_index (is_part_there (field_set f) l x (typed_of f)) (index_of f) []) s (Some kind) y →
-      Remains groups schema l x (drop n is) s (Some kind) y
-  unfolding CopiesIndices
-  plain-cut kind h =
-      subst (λ js. Remains groups schema l x js s (Some kind) y) (sym split)
-      (kept-cut (TreeCopiesWithin groups (set_of schema) l x) (set_of schema) l x (number_of schema) (is_index_there (set_of schema) l x (number_of schema) (slice_index is n)) (slice_index is n)
-      (kept_indices (is_index_there (set_of schema) l x (number_of schema)) (drop (n + 1) is)) s y kind (first (Some kind) h))
-
-pub plain-end : (groups : ℕ) (schema : StructSchema) (l : Levels) (x : StructTree) (is : List ℕ) (n : ℕ) → length is ≤ n → (s : StructTree) → Remains groups schema l x (drop n is) s None s
-unfolding CopiesIndices
-plain-end groups schema l x is n past s = subst (λ js. Remains groups schema l x js s None s) (sym (drop_all n is past)) (refl, refl)
-
--- one more of them is cleared
-pub plain-cleared : (groups : ℕ) (schema : StructSchema) (is : List ℕ) (n : ℕ) → n < length is → (f : Field) → IsFieldOf schema (slice_index is n) f → (s y : StructTree) → y ≡ clear_by groups (field_set f) (field_brand f) (typed_of f) s →
-    cleared_indices (clear_index groups (set_of schema) (number_of schema)) (drop n is) s ≡ cleared_indices (clear_index groups (set_of schema) (number_of schema)) (drop (n + 1) is) y
-plain-cleared groups schema is n inside f field s y e =
-    let here : clear_by groups (field_set f) (field_brand f) (typed_of f) s ≡ clear_index groups (set_of schema) (number_of schema) (slice_index is n) s =
-    subst (λ i. clear_by groups (field_set f) (field_brand f) (typed_of f) s ≡ clear_index groups (set_of schema) (number_of schema) i s) field.index
-    (subst (λ (z : StructSchema). clear_by groups (field_set f) (field_brand f) (typed_of f) s ≡ clear_index groups (set_of z) (number_of z) (index_of f) s) field.schema refl) in
-    ap (λ js. cleared_indices (clear_index groups (set_of schema) (number_of schema)) js s) (drop_more is n 0 inside)
-    ∙ ap (cleared_indices (clear_index groups (set_of schema) (number_of schema)) (drop (n + 1) is)) (sym (e ∙ here))
 
 -- ---- what the source has ----
 
@@ -327,13 +239,6 @@ there-is set l x b i v e = part-there set l x b i v e
 
 pub cleared-counted : (schema : StructSchema) (n : ℕ) (s m : StructTree) → n ≡ length (set_of schema).brands → m ≡ cleared_through n (set_of schema) (number_of schema) s → m ≡ cleared_group (set_of schema) (number_of schema) s
 cleared-counted schema n s m count e = e ∙ (ap (λ k. cleared_through k (set_of schema) (number_of schema) s) count ∙ cleared-whole (set_of schema) (number_of schema) s)
-
-pub field-in : (s schema : StructSchema) (i : ℕ) (f : Field) → s ≡ schema → IsFieldOf s i f → IsFieldOf schema i f
-field-in s schema i f e h = subst (λ (z : StructSchema). IsFieldOf z i f) e h
-
-pub found-none : (groups : ℕ) (schema : StructSchema) (l : Levels) (x : StructTree) (o : Option ℕ) (s : StructTree) → IsFound schema o None → CopiesIndices groups (set_of schema) l x (number_of schema) (member_indices o) s None s
-found-none groups schema l x None s h = none-copied groups (set_of schema) l x (number_of schema) s
-found-none groups schema l x (Some i) s h = absurd h
 
 -- ---- a field's group ----
 

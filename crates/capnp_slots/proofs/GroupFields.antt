@@ -4,7 +4,8 @@ use Rattle.std.specs.Option.{option_map}
 use Rattle.std.proofs.Common.{arith, ap, sym, subst, ◌∙◌}
 use Rattle.capnp_schema.specs.Accepted.{IsGroupOf, GroupFits}
 use Rattle.capnp_schema.specs.FieldLists.{index_of, schema_of, typed_of}
-use Rattle.capnp_schema.specs.GroupsDown.{IsGroupIn}
+use Rattle.capnp_schema.specs.GroupFields.{group_field_of}
+use Rattle.capnp_schema.specs.GroupsDown.{IsGroupIn, place_of_field}
 use Rattle.capnp_schema.specs.Laws.{group_height}
 use Rattle.capnp_schema.specs.Plan.{place_of, plan_of, slot_place}
 use Rattle.capnp_schema.specs.Schema.{FieldKind, Group, Schemas, Slot, Value, kind_target}
@@ -56,9 +57,10 @@ no-target set (Slot offset d) t fits e = refl
 no-target set (Group n) (StructType b x) fits e = cc
 no-target set (Group n) t fits e = absurd fits
 
-pub group-or-slot : (f : Field) (group : Option StructSchema) → IsStruct (schema_of f) → option_map number_of group ≡ kind_target (typed_of f).field.kind (typed_of f).type → IfSome group (IsGroupIn (schema_of f)) → MatchOption group (IsSlot f) (IsGroupAt f)
-group-or-slot f None is number down = no-target (field_set f) (typed_of f).field.kind (typed_of f).type (is.accepted.rule7 (field_brand f) (index_of f) is.number f.inside) number
-group-or-slot f (Some g) is number down =
+pub group-or-slot : (f : Field) (group : Option StructSchema) → IsStruct (schema_of f) → option_map number_of group ≡ kind_target (typed_of f).field.kind (typed_of f).type → IfSome group (IsGroupIn (schema_of f)) →
+    IfSome group (λ g. group_field_of (field_set f) (number_of g) ≡ Some (place_of_field f)) → MatchOption group (IsSlot f) (IsGroupAt f)
+group-or-slot f None is number down back = no-target (field_set f) (typed_of f).field.kind (typed_of f).type (is.accepted.rule7 (field_brand f) (index_of f) is.number f.inside) number
+group-or-slot f (Some g) is number down back =
     let named = target-is (typed_of f).field.kind (typed_of f).type (number_of g) number in
     let sizes = down.leads.sizes in
     record {
@@ -69,4 +71,5 @@ group-or-slot f (Some g) is number down =
       names = named.1;
       room = λ s room. subst (λ (z : Schemas). Fits z (number_of g) s) (sym down.set) (omega (arith, sizes.0, room.0), omega (arith, sizes.1, room.1));
       lower = subst (λ (z : Schemas). group_height z (number_of g) < group_height (field_set f) (field_brand f)) (sym down.set) down.leads.down.lower;
+      back = back;
     }

@@ -8,12 +8,14 @@ pub mod CopiedSlots
 pub mod NewLists
 pub mod GroupFields
 pub mod GroupClears
+pub mod GroupWays
 pub mod Filled
 pub mod FilledSlots
 pub mod StandingSlots
 pub mod SetElements
 pub mod ElementFills
 pub mod GroupCopies
+pub mod CopyWays
 pub mod ReadBack
 pub mod Kept
 pub mod FieldWrites

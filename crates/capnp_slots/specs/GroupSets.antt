@@ -1,5 +1,5 @@
 -- The set of a group: what its fields are copied from, and their copies one after another.
-use Rattle.std.specs.Prelude.{ℕ, suc, ◌≡◌, List, [], ◌∷◌, Bool, Option, Some, None, length}
+use Rattle.std.specs.Prelude.{ℕ, zero, suc, ◌≡◌, List, [], ◌∷◌, Bool, cond, Option, Some, None, length}
 use Rattle.capnp_device.specs.declared.error.ErrorKind.{ErrorKind}
 use Rattle.capnp_wire.specs.Standing.{struct_levels, struct_of}
 use Rattle.capnp_wire.specs.Tree.{StructTree}
@@ -17,6 +17,7 @@ use Rattle.capnp_records.specs.Reading.{part_of, struct_record, values_of}
 use Rattle.capnp_records.specs.Record.{Left, Levels, is_there}
 use Rattle.capnp_records.specs.Writes.TreeCopy.{TreeCopiesFields, TreeCopiesWithin}
 use Rattle.capnp_slots.specs.Fields.{field_set, switched_to}
+use Rattle.capnp_slots.specs.GroupClears.{cleared_at}
 
 -- ---- what the source has ----
 
@@ -45,6 +46,16 @@ is_index_there set l x b i = is_part_there set l x (field_at set b i)
 abbrev pub plain_in : Schemas → Levels → StructTree → ℕ → List ℕ
 plain_in set l x b = kept_indices (is_index_there set l x b) (plain_fields (records_of set b))
 
+-- what passes of a field, where there is one
+abbrev pub if_passes : (ℕ → Bool) → Option ℕ → Option ℕ
+if_passes passes None = None
+if_passes passes (Some i) = cond (passes i) (Some i) None
+
+-- the field that is copied at a place: at 0 the active member, and at i + 1 field i, where that is plain and there
+unfoldable pub copied_at : Schemas → Levels → StructTree → ℕ → (place : ℕ) → Option ℕ
+copied_at set l x b zero = active_in set l x b
+copied_at set l x b (suc i) = if_passes (is_index_there set l x b) (cleared_at set b (suc i))
+
 -- ---- field by field ----
 
 -- the fields of these indices were copied out of a struct, through at most so many groups
@@ -56,9 +67,6 @@ unfoldable pub CopiesThrough : ℕ → Schemas → Levels → StructTree → ℕ
 CopiesThrough groups set l x b s refused s' = TreeCopiesWithin groups set l x b s refused s'
 
 -- the same by handles
-abbrev pub AreCopied : ℕ → StructSchema → StructReader → List ℕ → StructTree → Option ErrorKind → StructTree → Type 0
-AreCopied groups schema source is s refused s' = CopiesIndices groups (set_of schema) (Left (struct_levels source)) (struct_of source) (number_of schema) is s refused s'
-
 abbrev pub IsCopiedThrough : ℕ → StructSchema → StructReader → StructTree → Option ErrorKind → StructTree → Type 0
 IsCopiedThrough groups schema source s refused s' = CopiesThrough groups (set_of schema) (Left (struct_levels source)) (struct_of source) (number_of schema) s refused s'
 
@@ -70,11 +78,8 @@ IsCopiedInto f group source s refused s' =
 abbrev pub active_field : StructSchema → StructReader → Option ℕ
 active_field schema source = active_in (set_of schema) (Left (struct_levels source)) (struct_of source) (number_of schema)
 
-abbrev pub plain_in_source : StructSchema → StructReader → List ℕ
-plain_in_source schema source = plain_in (set_of schema) (Left (struct_levels source)) (struct_of source) (number_of schema)
-
-abbrev pub has_index : StructSchema → StructReader → ℕ → Bool
-has_index schema source i = is_index_there (set_of schema) (Left (struct_levels source)) (struct_of source) (number_of schema) i
+abbrev pub copied_field : StructSchema → StructReader → ℕ → Option ℕ
+copied_field schema source place = copied_at (set_of schema) (Left (struct_levels source)) (struct_of source) (number_of schema) place
 
 abbrev pub has_field : Field → StructReader → Bool
 has_field f source = is_part_there (field_set f) (Left (struct_levels source)) (struct_of source) (typed_of f)

@@ -4,6 +4,8 @@ use Rattle.capnp_wire.specs.Tree.{StructTree}
 use Rattle.capnp_schema.specs.Accepted.{IsGroupOf}
 use Rattle.capnp_schema.specs.FieldLists.{typed_of}
 use Rattle.capnp_schema.specs.Footprint.{Spot}
+use Rattle.capnp_schema.specs.GroupFields.{group_field_of}
+use Rattle.capnp_schema.specs.GroupsDown.{place_of_field}
 use Rattle.capnp_schema.specs.Laws.{group_height}
 use Rattle.capnp_schema.specs.Schema.{Schemas, TypedField, field_at}
 use Rattle.capnp_schema.specs.StructHandles.{IsStruct, number_of, set_of}
@@ -20,7 +22,7 @@ use Rattle.capnp_slots.specs.Fields.{IsRoomFor, Keeps, field_brand, field_set}
 abbrev pub IsGroup : Field → Type 0
 IsGroup f = is_group_field (typed_of f).field.kind ≡ true
 
--- the schema of a field's group, of lesser height: it is room where the field's is
+-- the schema of a field's group, of lesser height: it is room where the field's is, and knows the field
 pub record IsGroupAt (f : Field) (g : StructSchema) : Type 0 where
   pub is_group : IsGroup f
   pub stands : IsStruct g
@@ -29,6 +31,7 @@ pub record IsGroupAt (f : Field) (g : StructSchema) : Type 0 where
   pub names : IsGroupOf (typed_of f).field.kind (typed_of f).type (number_of g)
   pub room : (s : StructTree) → IsRoomFor f s → Fits (set_of g) (number_of g) s
   pub lower : group_height (set_of g) (number_of g) < group_height (field_set f) (field_brand f)
+  pub back : group_field_of (field_set f) (number_of g) ≡ Some (place_of_field f)
 
 -- the struct with the field's group cleared and the union switched to the field
 abbrev pub group_without : Field → StructTree → StructTree

@@ -7,6 +7,7 @@ pub mod SetValues
 pub mod Copied
 pub mod Inits
 pub mod Groups
+pub mod GroupClears
 pub mod Fills
 pub mod ElementSets
 pub mod GroupSets

@@ -1,14 +1,14 @@
 //! Groups of a struct that is built: their fields lie in the struct's own sections.
-ghost use Rattle.std.specs.Prelude.{◌≡◌, MatchOption};
+ghost use Rattle.std.specs.Prelude.{◌≡◌, ◌≤◌, length, MatchOption};
 ghost use Rattle.capnp_arena.specs.Segment.{segment};
 ghost use Rattle.capnp_arena.specs.Built.{ChangesIn, IsBuilt, built};
-ghost use Rattle.capnp_schema.specs.FieldLists.{typed_of};
-ghost use Rattle.capnp_schema.specs.Query.{member_of, plain_fields};
-ghost use Rattle.capnp_schema.specs.StructHandles.{number_of, set_of, struct_records};
+ghost use Rattle.capnp_schema.specs.FieldLists.{IsFound, index_of};
+ghost use Rattle.capnp_schema.specs.StructHandles.{number_of, set_of, struct_fields};
 ghost use Rattle.capnp_records.specs.Writes.Slots.{Fits};
 ghost use Rattle.capnp_slots.specs.Copied.{refusal_of};
-ghost use Rattle.capnp_slots.specs.Fields.{IsRoomFor, IsSlot, Keeps, field_brand, field_set, names_of};
-ghost use Rattle.capnp_slots.specs.Groups.{IsGroup, IsGroupAt, KeepsSize, clear_by, clear_index, cleared_indices, cleared_option, cleared_through, group_without};
+ghost use Rattle.capnp_slots.specs.Fields.{IsRoomFor, IsSlot, Keeps, field_brand, field_set, names_of, switched_to};
+ghost use Rattle.capnp_slots.specs.GroupClears.{IsSlotCleared, cleared_at, cleared_behind};
+ghost use Rattle.capnp_slots.specs.Groups.{IsGroup, IsGroupAt, KeepsSize, cleared_through, group_without};
 ghost use Rattle.capnp_slots.specs.GroupSets.{IsCopiedInto, IsGroupSet, given_to_group};
 ghost use Rattle.capnp_slots.specs.Sources.{source_seen};
 
@@ -33,72 +33,80 @@ pub fn group_of<'s>(field: Field<'s>) -> Option<StructSchema<'s>>
     field.get_group()
 }
 
-/// Clears a field, through at most so many groups.
-#[cycle(clear)]
+/// The field that is cleared at a place of a group: at 0 its member of discriminant value 0, and at i + 1 field i, where
+/// that is no member. None where nothing is cleared there.
 #[inline(always)]
-fn clear_field(arena: &mut Arena, place: StructPlace, field: Field<'_>, groups: usize)
+pub(crate) fn cleared_at<'s>(schema: StructSchema<'s>, next: u32) -> Option<Field<'s>>
+    requires inside { next ≤ length (struct_fields schema) }
+    requires small { next ≤ 65535 }
+    ensures { IsFound schema.entry (cleared_at (set_of schema.entry) (number_of schema.entry) next) result }
+{
+    if next == 0 {
+        let Ok(member) = schema.get_field_by_discriminant(0) else {
+            unreachable!()
+        };
+        return member;
+    }
+    let Ok(fields) = schema.get_fields() else {
+        unreachable!()
+    };
+    let field = fields.get((next - 1) as u16);
+    if field.get_proto().is_member() {
+        None
+    } else {
+        Some(field)
+    }
+}
+
+/// The place behind a field that is cleared.
+pub(crate) fn cleared_behind(field: Field<'_>) -> u32
+    ensures { result ≡ cleared_behind (field_set field.entry) (field_brand field.entry) (index_of field.entry) }
+{
+    if field.get_proto().is_member() {
+        1
+    } else {
+        field.get_index() as u32 + 2
+    }
+}
+
+/// Clears a slot; of a group it makes the field active, and answers the group's schema.
+#[inline(always)]
+fn clear_slot<'s>(
+    arena: &mut Arena,
+    place: StructPlace,
+    field: Field<'s>,
+) -> Option<StructSchema<'s>>
     requires planted { IsBuilt arena.old place }
     requires room { IsRoomFor field (built arena.old place) }
     ensures planted { IsBuilt arena.new place }
     ensures changes { ChangesIn place arena.old arena.new }
-    ensures cleared { built arena.new place ≡ clear_by groups (field_set field.entry) (field_brand field.entry)
-        (typed_of field.entry)
-        (built arena.old place) }
+    ensures cleared { MatchOption result (IsSlotCleared field.entry (built arena.old place) (built arena.new place))
+        (λ group. IsGroupAt field.entry group
+        × (built arena.new place ≡ switched_to field.entry (built arena.old place))) }
     ensures kept { KeepsSize (built arena.old place) (built arena.new place) }
 {
-    match group_of(field) {
-        Some(group) => {
-            slot::switch(arena, place, field);
-            clear_group(arena, place, group, groups);
-        }
+    let group = group_of(field);
+    match group {
+        Some(_) => slot::switch(arena, place, field),
         None => slot::clear(arena, place, field),
     }
+    group
 }
 
-/// Clears the member of discriminant value 0, where there is one.
-#[cycle(clear)]
-fn clear_member(arena: &mut Arena, place: StructPlace, schema: StructSchema<'_>, groups: usize)
-    requires planted { IsBuilt arena.old place }
-    requires room { Fits (set_of schema) (number_of schema) (built arena.old place) }
-    ensures planted { IsBuilt arena.new place }
-    ensures changes { ChangesIn place arena.old arena.new }
-    ensures cleared { built arena.new place ≡ cleared_option
-        (clear_index groups (set_of schema.entry) (number_of schema.entry))
-        (member_of (struct_records schema.entry) 0) (built arena.old place) }
-    ensures kept { KeepsSize (built arena.old place) (built arena.new place) }
+/// How many fields a struct has.
+#[inline(always)]
+pub(crate) fn field_count(schema: StructSchema<'_>) -> u32
+    ensures count { result ≡ length (struct_fields schema.entry) }
+    ensures few { result ≤ 65535 }
 {
-    let Ok(found) = schema.get_field_by_discriminant(0) else {
+    let Ok(fields) = schema.get_fields() else {
         unreachable!()
     };
-    match found {
-        Some(field) => clear_field(arena, place, field, groups),
-        None => {}
-    }
+    fields.len() as u32
 }
 
-/// Clears the non-union fields by index.
-#[cycle(clear)]
-fn clear_plain(arena: &mut Arena, place: StructPlace, schema: StructSchema<'_>, groups: usize)
-    requires planted { IsBuilt arena.old place }
-    requires room { Fits (set_of schema) (number_of schema) (built arena.old place) }
-    ensures planted { IsBuilt arena.new place }
-    ensures changes { ChangesIn place arena.old arena.new }
-    ensures cleared { built arena.new place ≡ cleared_indices
-        (clear_index groups (set_of schema.entry) (number_of schema.entry))
-        (plain_fields (struct_records schema.entry)) (built arena.old place) }
-    ensures kept { KeepsSize (built arena.old place) (built arena.new place) }
-{
-    let Ok(fields) = schema.get_non_union_fields() else {
-        unreachable!()
-    };
-    for i in 0..fields.len() {
-        let field = fields.get(i);
-        clear_field(arena, place, field, groups);
-    }
-}
-
-/// Clears a group of a struct: its member of discriminant value 0, and then its non-union fields by index.
-#[cycle(clear)]
+/// Clears a group of a struct: its member of discriminant value 0, and then its non-union fields by index. A group in it
+/// is gone into where it stands, through at most so many groups, and left by its own field.
 pub(crate) fn clear_group(
     arena: &mut Arena,
     place: StructPlace,
@@ -116,8 +124,44 @@ pub(crate) fn clear_group(
     if groups == 0 {
         return;
     }
-    clear_member(arena, place, schema, groups - 1);
-    clear_plain(arena, place, schema, groups - 1);
+    let mut at = schema;
+    let mut count = field_count(at);
+    let mut next: u32 = 0;
+    let mut depth: usize = 0;
+    let mut left = groups - 1;
+    loop {
+        if next > count {
+            if depth == 0 {
+                return;
+            }
+            let Some(field) = at.get_group_field() else {
+                return;
+            };
+            at = field.get_containing_struct();
+            count = field_count(at);
+            next = cleared_behind(field);
+            depth -= 1;
+            left += 1;
+            continue;
+        }
+        let Some(field) = cleared_at(at, next) else {
+            next += 1;
+            continue;
+        };
+        let Some(group) = clear_slot(arena, place, field) else {
+            next += 1;
+            continue;
+        };
+        if left == 0 {
+            next += 1;
+            continue;
+        }
+        at = group;
+        count = field_count(at);
+        next = 0;
+        depth += 1;
+        left -= 1;
+    }
 }
 
 /// Clears a group: a member of its struct's union becomes active, and then the group's member of discriminant value 0

@@ -1,19 +1,19 @@
 //! Copies of a group out of a struct of its schema that is read, field by field.
-ghost use Rattle.std.specs.Prelude.{◌≡◌, ◌≤◌, ◌<◌, ◌∷◌, []};
+ghost use Rattle.std.specs.Prelude.{◌≡◌, ◌≤◌, ◌<◌, length};
 ghost use Rattle.capnp_arena.specs.Segment.{segment};
 ghost use Rattle.capnp_arena.specs.Built.{ChangesIn, IsBuilt, built};
-ghost use Rattle.capnp_schema.specs.FieldLists.{IsFound, index_of, schema_of};
+ghost use Rattle.capnp_schema.specs.FieldLists.{IsFound};
 ghost use Rattle.capnp_schema.specs.Laws.{group_height};
-ghost use Rattle.capnp_schema.specs.Query.{keep_index};
-ghost use Rattle.capnp_schema.specs.StructHandles.{number_of, set_of};
+ghost use Rattle.capnp_schema.specs.StructHandles.{number_of, set_of, struct_fields};
+ghost use Rattle.capnp_records.specs.Writes.Overlay.{cleared_group};
 ghost use Rattle.capnp_records.specs.Writes.Slots.{Fits};
 ghost use Rattle.capnp_slots.specs.Copied.{refusal_of};
-ghost use Rattle.capnp_slots.specs.Fields.{IsRoomFor, field_brand, field_set};
-ghost use Rattle.capnp_slots.specs.Groups.{KeepsSize};
-ghost use Rattle.capnp_slots.specs.GroupSets.{AreCopied, IsCopiedThrough, active_field, has_field, member_indices, plain_in_source};
+ghost use Rattle.capnp_slots.specs.Fields.{IsRoomFor, switched_to};
+ghost use Rattle.capnp_slots.specs.Groups.{IsGroupAt, KeepsSize};
+ghost use Rattle.capnp_slots.specs.GroupSets.{IsCopiedThrough, active_field, copied_field, has_field};
 
 use crate::copied::copy;
-use crate::group::{clear_group, group_of};
+use crate::group::{clear_group, cleared_at, cleared_behind, field_count, group_of};
 use crate::slot::switch;
 use capnp_arena::arena::{Arena, Place as StructPlace};
 use capnp_dynamic_readers::presence;
@@ -37,118 +37,60 @@ fn has(field: Field<'_>, source: &StructReader<'_>) -> bool
     presence::is_there(source, field.plan().place)
 }
 
-/// Copies a field, through at most so many groups.
-#[cycle(copy)]
-fn copy_field(
-    arena: &mut Arena,
-    place: StructPlace,
-    field: Field<'_>,
-    source: StructReader<'_>,
-    groups: usize,
-) -> Result<()>
-    requires planted { IsBuilt arena.old place }
-    requires room { IsRoomFor field (built arena.old place) }
-    requires height { group_height (field_set field) (field_brand field) ≤ groups }
-    ensures planted { IsBuilt arena.new place }
-    ensures changes { ChangesIn place arena.old arena.new }
-    ensures copied { AreCopied groups (schema_of field.entry) source.entry (index_of field.entry ∷ [])
-        (built arena.old place) (refusal_of result)
-        (built arena.new place) }
-    ensures kept { KeepsSize (built arena.old place) (built arena.new place) }
+/// The field that is copied at a place of a group: at 0 the source's active member, and at i + 1 field i, where that is no
+/// member and the source has it. None where nothing is copied there.
+fn copied_at<'s>(
+    schema: StructSchema<'s>,
+    source: &StructReader<'_>,
+    next: u32,
+) -> Option<Field<'s>>
+    requires inside { next ≤ length (struct_fields schema) }
+    requires small { next ≤ 65535 }
+    ensures { IsFound schema.entry (copied_field schema.entry source.now next) result }
 {
-    match group_of(field) {
-        Some(group) => {
-            switch(arena, place, field);
-            copy_group(arena, place, group, source, groups)
-        }
-        None => copy(arena, place, field, source),
+    if next == 0 {
+        return active_member(schema, source);
     }
-}
-
-/// Copies a field that the source has.
-#[cycle(copy)]
-fn copy_present(
-    arena: &mut Arena,
-    place: StructPlace,
-    field: Field<'_>,
-    source: StructReader<'_>,
-    groups: usize,
-) -> Result<()>
-    requires planted { IsBuilt arena.old place }
-    requires room { IsRoomFor field (built arena.old place) }
-    requires height { group_height (field_set field) (field_brand field) ≤ groups }
-    ensures planted { IsBuilt arena.new place }
-    ensures changes { ChangesIn place arena.old arena.new }
-    ensures copied { AreCopied groups (schema_of field.entry) source.entry
-        (keep_index (has_field field.entry source.entry) (index_of field.entry) [])
-        (built arena.old place) (refusal_of result) (built arena.new place) }
-    ensures kept { KeepsSize (built arena.old place) (built arena.new place) }
-{
-    if has(field, &source) {
-        copy_field(arena, place, field, source, groups)
-    } else {
-        Ok(())
-    }
-}
-
-/// Copies the active member, where there is one.
-#[cycle(copy)]
-fn copy_member(
-    arena: &mut Arena,
-    place: StructPlace,
-    schema: StructSchema<'_>,
-    source: StructReader<'_>,
-    groups: usize,
-) -> Result<()>
-    requires planted { IsBuilt arena.old place }
-    requires room { Fits (set_of schema) (number_of schema) (built arena.old place) }
-    requires height { group_height (set_of schema) (number_of schema) ≤ groups }
-    ensures planted { IsBuilt arena.new place }
-    ensures changes { ChangesIn place arena.old arena.new }
-    ensures copied { AreCopied groups schema.entry source.entry
-        (member_indices (active_field schema.entry source.entry)) (built arena.old place)
-        (refusal_of result) (built arena.new place) }
-    ensures kept { KeepsSize (built arena.old place) (built arena.new place) }
-{
-    match active_member(schema, &source) {
-        Some(field) => copy_field(arena, place, field, source, groups),
-        None => Ok(()),
-    }
-}
-
-/// Copies the non-union fields that the source has, by index, up to the first that is refused.
-#[cycle(copy)]
-fn copy_plain(
-    arena: &mut Arena,
-    place: StructPlace,
-    schema: StructSchema<'_>,
-    source: StructReader<'_>,
-    groups: usize,
-) -> Result<()>
-    requires planted { IsBuilt arena.old place }
-    requires room { Fits (set_of schema) (number_of schema) (built arena.old place) }
-    requires height { group_height (set_of schema) (number_of schema) ≤ groups }
-    ensures planted { IsBuilt arena.new place }
-    ensures changes { ChangesIn place arena.old arena.new }
-    ensures copied { AreCopied groups schema.entry source.entry (plain_in_source schema.entry source.entry)
-        (built arena.old place) (refusal_of result)
-        (built arena.new place) }
-    ensures kept { KeepsSize (built arena.old place) (built arena.new place) }
-{
-    let Ok(fields) = schema.get_non_union_fields() else {
-        unreachable!()
+    let Some(field) = cleared_at(schema, next) else {
+        return None;
     };
-    for i in 0..fields.len() {
-        if let Err(error) = copy_present(arena, place, fields.get(i), source, groups) {
-            return Err(error);
-        }
+    if has(field, source) {
+        Some(field)
+    } else {
+        None
     }
-    Ok(())
+}
+
+/// Clears a group, through as many groups as there are.
+fn clear_whole(arena: &mut Arena, place: StructPlace, schema: StructSchema<'_>)
+    requires planted { IsBuilt arena.old place }
+    requires room { Fits (set_of schema) (number_of schema) (built arena.old place) }
+    ensures planted { IsBuilt arena.new place }
+    ensures changes { ChangesIn place arena.old arena.new }
+    ensures cleared { built arena.new place
+        ≡ cleared_group (set_of schema.entry) (number_of schema.entry) (built arena.old place) }
+    ensures kept { KeepsSize (built arena.old place) (built arena.new place) }
+{
+    clear_group(arena, place, schema, schema.get_set().brands().len());
+}
+
+/// Makes the field of a group active, and clears the group.
+fn open(arena: &mut Arena, place: StructPlace, field: Field<'_>, group: StructSchema<'_>)
+    requires planted { IsBuilt arena.old place }
+    requires group { IsGroupAt field group }
+    requires room { IsRoomFor field (built arena.old place) }
+    ensures planted { IsBuilt arena.new place }
+    ensures changes { ChangesIn place arena.old arena.new }
+    ensures cleared { built arena.new place
+        ≡ cleared_group (set_of group.entry) (number_of group.entry) (switched_to field.entry (built arena.old place)) }
+    ensures kept { KeepsSize (built arena.old place) (built arena.new place) }
+{
+    switch(arena, place, field);
+    clear_whole(arena, place, group);
 }
 
 /// Copies a group: it is cleared, and then the source's active member and the non-union fields that the source has are
-/// copied up to the first that is refused.
-#[cycle(copy)]
+/// copied up to the first that is refused. A group in it is gone into where it stands, and left by its own field.
 pub(crate) fn copy_group(
     arena: &mut Arena,
     place: StructPlace,
@@ -165,9 +107,37 @@ pub(crate) fn copy_group(
         (built arena.new place) }
     ensures kept { KeepsSize (built arena.old place) (built arena.new place) }
 {
-    clear_group(arena, place, schema, schema.get_set().brands().len());
-    if let Err(error) = copy_member(arena, place, schema, source, groups - 1) {
-        return Err(error);
+    clear_whole(arena, place, schema);
+    let mut at = schema;
+    let mut next: u32 = 0;
+    let mut left = groups - 1;
+    loop {
+        if next > field_count(at) {
+            if left + 1 == groups {
+                return Ok(());
+            }
+            let Some(field) = at.get_group_field() else {
+                return Ok(());
+            };
+            at = field.get_containing_struct();
+            next = cleared_behind(field);
+            left += 1;
+            continue;
+        }
+        let Some(field) = copied_at(at, &source, next) else {
+            next += 1;
+            continue;
+        };
+        let Some(group) = group_of(field) else {
+            if let Err(error) = copy(arena, place, field, source) {
+                return Err(error);
+            }
+            next += 1;
+            continue;
+        };
+        open(arena, place, field, group);
+        at = group;
+        next = 0;
+        left -= 1;
     }
-    copy_plain(arena, place, schema, source, groups - 1)
 }

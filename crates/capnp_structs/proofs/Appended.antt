@@ -1,32 +1,19 @@
 -- Texts that are appended one after another.
-use Rattle.std.specs.Prelude.{ℕ, List, [], ◌∷◌, ◌++◌}
-use Rattle.std.proofs.Common.{◌≡◌, ◌∙◌, Some, None, Result, Ok, Err, OnOk, ap, append_assoc, refl, sym}
+use Rattle.std.specs.Prelude.{ℕ, ◌/◌, List, [], ◌++◌, Bool, true, false, codes, decimal, length}
+use Rattle.std.proofs.Common.{◌≡◌, Result, Ok, Err, OnOk, subst}
+use Rattle.capnp_wire.specs.Reading.{is_null_tree}
+use Rattle.capnp_schema.specs.Accepted.{root_of}
 use Rattle.capnp_records.specs.Text.{Out, after, said}
+use Rattle.capnp_dynamic_readers.specs.Facts.Appended.{both, bytes_put, nothing, two_put}
 use Rattle.capnp_dynamic_readers.specs.Pieces.{IsAppended}
-
--- one and then another
-pub both : (x y : Out) (old mid new : List ℕ) → IsAppended old x mid → IsAppended mid y new → IsAppended old (after x y) new
-both (Err kind) y old mid new a b = absurd a
-both (Ok x) (Err kind) old mid new a b = absurd b
-both (Ok (Some x)) (Ok (Some y)) old mid new a b = b ∙ (ap (λ (z : List ℕ). z ++ y) a ∙ append_assoc old x y)
-both (Ok (Some x)) (Ok None) old mid new a b = (x ++ b.0, b.1 ∙ (ap (λ (z : List ℕ). z ++ b.0) a ∙ append_assoc old x b.0))
-both (Ok None) (Ok (Some y)) old mid new a b = (a.0 ++ y, b ∙ (ap (λ (z : List ℕ). z ++ y) a.1 ∙ append_assoc old a.0 y))
-both (Ok None) (Ok None) old mid new a b = (a.0 ++ b.0, b.1 ∙ (ap (λ (z : List ℕ). z ++ b.0) a.1 ∙ append_assoc old a.0 b.0))
-
-append_nil : (xs : List ℕ) → xs ++ [] ≡ xs
-append_nil [] = refl
-append_nil (x ∷ xs) = ap (λ ys. x ∷ ys) (append_nil xs)
-
--- nothing
-pub nothing : (old : List ℕ) → IsAppended old (said []) old
-nothing old = sym (append_nil old)
+use Rattle.capnp_structs.specs.Fields.{default_said, words_said}
 
 -- what stands before a text, and behind one
 pub led : (a : List ℕ) (x : Out) (old mid new : List ℕ) → mid ≡ old ++ a → IsAppended mid x new → IsAppended old (after (said a) x) new
-led a x old mid new e put = both (said a) x old mid new e put
+led a x old mid new e put = both (said a) x old mid new (bytes_put a old mid e) put
 
 pub ended : (x : Out) (a : List ℕ) (old mid new : List ℕ) → IsAppended old x mid → new ≡ mid ++ a → IsAppended old (after x (said a)) new
-ended x a old mid new put e = both x (said a) old mid new put e
+ended x a old mid new put e = both x (said a) old mid new put (bytes_put a mid new e)
 
 -- the same of a call's answer
 pub led_by : {T E : Type 0} (r : Result T E) (a : List ℕ) (x : Out) (old mid new : List ℕ) → mid ≡ old ++ a → OnOk r (IsAppended mid x new) → OnOk r (IsAppended old (after (said a) x) new)
@@ -42,3 +29,13 @@ pub slot_put : {T E : Type 0} (r : Result T E) (x : Out) (old mid mid' new a b :
     OnOk r (IsAppended old (after (said a) (after x (said b))) new)
 slot_put (Ok t) x old mid mid' new a b e put f = led a (after x (said b)) old mid new e (ended x b mid mid' new put f)
 slot_put (Err error) x old mid mid' new a b e put f = tt {0}
+
+-- how many words a default has, and nothing of a null
+abbrev words_by : List ℕ → (is_null : Bool) → Out
+words_by words is_null = elim is_null [ true ↦ said [] | false ↦ default_said (said (codes "words: " ++ decimal (length words / 8))) ]
+
+pub null_put : (words old : List ℕ) → true ≡ is_null_tree (root_of words) → IsAppended old (words_said words) old
+null_put words old e = subst (λ (b : Bool). IsAppended old (words_by words b) old) e (nothing old)
+
+pub counted_put : (words old new : List ℕ) → false ≡ is_null_tree (root_of words) → new ≡ old ++ (codes ", default " ++ (codes "words: " ++ decimal (length words / 8))) → IsAppended old (words_said words) new
+counted_put words old new e h = subst (λ (b : Bool). IsAppended old (words_by words b) new) e (two_put (codes ", default ") (codes "words: " ++ decimal (length words / 8)) old new h)

@@ -1,16 +1,17 @@
 //! The fields of a struct.
-ghost use Rattle.std.specs.Prelude.{[], ◌≡◌, ◌≢◌, ◌++◌, Err, IfErr, IfOk, OnOk, decimal, false, string_bytes};
+ghost use Rattle.std.specs.Prelude.{ℕ, List, [], ◌≡◌, ◌≢◌, ◌++◌, Err, IfErr, IfOk, OnOk, decimal, false, string_bytes};
 ghost use Rattle.capnp_device.specs.declared.error.ErrorKind.TheVariants.{OutOfMemory};
 ghost use Rattle.capnp_schema.specs.Entries.{lists_seen};
 ghost use Rattle.capnp_schema.specs.FieldLists.{schema_of, typed_of};
 ghost use Rattle.capnp_schema.specs.Plan.{plan_of};
-ghost use Rattle.capnp_schema.specs.Schema.{default_of, kind_default, seen_kind, seen_value};
+ghost use Rattle.capnp_schema.specs.Schema.{default_of, enum_at, kind_default, node_of, seen_kind, seen_value};
 ghost use Rattle.capnp_schema.specs.StructHandles.{IsStruct, number_of, set_of};
-ghost use Rattle.capnp_schema.specs.Types.{seen_type};
+ghost use Rattle.capnp_schema.specs.Types.{seen_base, seen_type};
+ghost use Rattle.capnp_base.specs.Types.{base_of, list_depth};
 ghost use Rattle.capnp_records.specs.Text.{after, said};
 ghost use Rattle.capnp_dynamic_readers.specs.Pieces.{IsAppended};
 ghost use Rattle.capnp_dynamic_readers.specs.Shown.{printed_text};
-ghost use Rattle.capnp_structs.specs.Fields.{default_said, default_text, field_lines, fields_text, fields_within, group_line, inside, line_end, place_text, slot_head, slot_line, type_text, words_said};
+ghost use Rattle.capnp_structs.specs.Fields.{default_said, default_text, fields_text, fields_within, group_line, inside, line_end, place_text, repeated, slot_head, slot_line, type_text, words_said};
 
 use capnp_base::introspect::{Type, TypeVariant};
 use capnp_base::text;
@@ -18,7 +19,7 @@ use capnp_dynamic_readers::dynamic_value::Reader as Value;
 use capnp_dynamic_readers::printer::print;
 use capnp_schema::plan::Place;
 use capnp_schema::record::{FieldKind, ValueRecord};
-use capnp_schema::schema::{Field, StructSchema};
+use capnp_schema::schema::{Field, GroupWalk, StructSchema};
 use capnp_schema::set::SchemaSet;
 use capnp_wire::PointerReader;
 use capnp_wire::error::Result;
@@ -32,13 +33,45 @@ fn put_width(out: &mut String, name: &str, bits: u8) -> Result<()>
     Ok(write!(out, "{name}{bits}")?)
 }
 
-/// Appends a type.
-fn put_type(out: &mut String, set: &SchemaSet, of: Type) -> Result<()>
+/// Appends the name of an enum.
+fn put_enum(out: &mut String, set: &SchemaSet, number: u32) -> Result<()>
     ensures put { OnOk result (string_bytes out.new
-        ≡ string_bytes out.old ++ type_text (lists_seen set.now) (seen_type of)) }
+        ≡ string_bytes out.old ++ (enum_at (lists_seen set.now) number).display_name) }
     ensures memory { IfErr result (λ e. e.kind ≡ OutOfMemory) }
 {
-    match of.which() {
+    Ok(out.push_str(set.enum_schema(number).get_proto().display_name.as_str())?)
+}
+
+/// Appends the name of a brand's struct.
+fn put_struct(out: &mut String, set: &SchemaSet, number: u32) -> Result<()>
+    ensures put { OnOk result (string_bytes out.new
+        ≡ string_bytes out.old ++ (node_of (lists_seen set.now) number).display_name) }
+    ensures memory { IfErr result (λ e. e.kind ≡ OutOfMemory) }
+{
+    Ok(out.push_str(set.struct_schema(number).get_proto().display_name.as_str())?)
+}
+
+/// Appends a piece for each list around a type.
+fn put_lists(out: &mut String, of: Type, piece: &str) -> Result<()>
+    ensures put { OnOk result (string_bytes out.new
+        ≡ string_bytes out.old ++ repeated (list_depth of) piece.now) }
+    ensures memory { IfErr result (λ e. e.kind ≡ OutOfMemory) }
+{
+    let mut rest = of;
+    while let TypeVariant::List(element) = rest.which() {
+        out.push_str(piece)?;
+        rest = element;
+    }
+    Ok(())
+}
+
+/// Appends what stands inside all lists around a type.
+fn put_innermost(out: &mut String, set: &SchemaSet, of: Type) -> Result<()>
+    ensures put { OnOk result (string_bytes out.new
+        ≡ string_bytes out.old ++ type_text (lists_seen set.now) (seen_base (base_of of))) }
+    ensures memory { IfErr result (λ e. e.kind ≡ OutOfMemory) }
+{
+    match of.innermost() {
         TypeVariant::Void => Ok(out.push_str("Void")?),
         TypeVariant::Bool => Ok(out.push_str("Bool")?),
         TypeVariant::Int8 => put_width(out, "Int", 8),
@@ -52,28 +85,21 @@ fn put_type(out: &mut String, set: &SchemaSet, of: Type) -> Result<()>
         TypeVariant::Text => Ok(out.push_str("Text")?),
         TypeVariant::Data => Ok(out.push_str("Data")?),
         TypeVariant::AnyPointer => Ok(out.push_str("AnyPointer")?),
-        TypeVariant::Enum(raw) => {
-            Ok(out.push_str(
-                set.enum_schema(raw.number)
-                    .get_proto()
-                    .display_name
-                    .as_str(),
-            )?)
-        }
-        TypeVariant::Struct(raw) => {
-            Ok(out.push_str(
-                set.struct_schema(raw.number)
-                    .get_proto()
-                    .display_name
-                    .as_str(),
-            )?)
-        }
-        TypeVariant::List(element) => {
-            out.push_str("List(")?;
-            put_type(out, set, element)?;
-            Ok(out.push_str(")")?)
-        }
+        TypeVariant::Enum(raw) => put_enum(out, set, raw.number),
+        TypeVariant::Struct(raw) => put_struct(out, set, raw.number),
+        TypeVariant::List(_) => unreachable!(),
     }
+}
+
+/// Appends a type.
+fn put_type(out: &mut String, set: &SchemaSet, of: Type) -> Result<()>
+    ensures put { OnOk result (string_bytes out.new
+        ≡ string_bytes out.old ++ type_text (lists_seen set.now) (seen_type of)) }
+    ensures memory { IfErr result (λ e. e.kind ≡ OutOfMemory) }
+{
+    put_lists(out, of, "List(")?;
+    put_innermost(out, set, of)?;
+    put_lists(out, of, ")")
 }
 
 /// Appends where a field stands.
@@ -207,55 +233,66 @@ fn put_group(out: &mut String, prefix: &str, field: Field<'_>) -> Result<()>
     put_end(out, field.plan().member)
 }
 
-/// What stands before the names of a group's fields.
-fn path_inside(alloc: Global, prefix: &str, field: Field<'_>) -> Result<String>
-    ensures path { IfOk result (λ path. string_bytes path ≡ inside prefix.now (typed_of field.entry)) }
+/// Lengthens what stands before the names of fields, for those of a field's group.
+fn enter_path(path: &mut String, field: Field<'_>) -> Result<()>
+    ensures path { OnOk result (string_bytes path.new ≡ inside (string_bytes path.old) (typed_of field.entry)) }
     ensures memory { IfErr result (λ e. e.kind ≡ OutOfMemory) }
 {
-    let mut path = String::new(alloc);
-    path.push_str(prefix)?;
     path.push_str(field.get_proto().name.as_str())?;
     path.push_str(".")?;
-    Ok(path)
+    Ok(())
 }
 
-/// Appends the lines of a field, through at most so many groups.
-#[cycle(fields)]
-fn put_field(out: &mut String, prefix: &str, field: Field<'_>, groups: usize) -> Result<()>
-    ensures put { OnOk result (IsAppended (string_bytes out.old)
-        (field_lines (set_of (schema_of field.entry)) (number_of (schema_of field.entry))
-        (fields_within (set_of (schema_of field.entry)) groups) prefix.now (typed_of field.entry))
-        (string_bytes out.new)) }
-    ensures memory { IfErr result (λ e. e.kind ≡ OutOfMemory) }
+/// Cuts off what was lengthened for the fields of a field's group.
+fn leave_path(path: &mut String, field: Field<'_>)
+    requires { (prefix : List ℕ) × (string_bytes path.old ≡ inside prefix (typed_of field)) }
+    ensures { (prefix : List ℕ) → string_bytes path.old ≡ inside prefix (typed_of field.entry)
+        → string_bytes path.new ≡ prefix }
 {
-    match field.get_group() {
-        Some(group) => {
-            put_group(out, prefix, field)?;
-            let inside = path_inside(*out.allocator(), prefix, field)?;
-            put_fields(out, inside.as_str(), group, groups)
-        }
-        None => put_slot(out, prefix, field),
-    }
+    let name = field.get_proto().name.as_str();
+    path.truncate(path.len() - name.len() - 1);
 }
 
-/// Appends the lines of all fields of a struct or group, through at most so many groups.
-#[cycle(fields)]
-fn put_fields(out: &mut String, prefix: &str, schema: StructSchema<'_>, groups: usize) -> Result<()>
-    requires { IsStruct schema }
+/// Appends the lines of all fields of a struct or group, through at most so many groups. A group in it is gone into
+/// where it stands, and left by its own field.
+fn put_fields(out: &mut String, schema: StructSchema<'_>, groups: usize) -> Result<()>
     ensures put { OnOk result (IsAppended (string_bytes out.old)
-        (fields_within (set_of schema.entry) groups prefix.now (number_of schema.entry)) (string_bytes out.new)) }
+        (fields_within (set_of schema.entry) groups [] (number_of schema.entry)) (string_bytes out.new)) }
     ensures memory { IfErr result (λ e. e.kind ≡ OutOfMemory) }
 {
     if groups == 0 {
         return Ok(());
     }
-    let Ok(fields) = schema.get_fields() else {
-        unreachable!()
-    };
-    for index in 0..fields.len() {
-        put_field(out, prefix, fields.get(index), groups - 1)?;
+    let mut path = String::new(*out.allocator());
+    let mut walk = GroupWalk::start(schema);
+    let mut left = groups - 1;
+    loop {
+        let Some(field) = walk.get_field() else {
+            let Some(own) = walk.get_schema().get_group_field() else {
+                return Ok(());
+            };
+            let Some(outer) = walk.leave() else {
+                return Ok(());
+            };
+            leave_path(&mut path, own);
+            walk = outer;
+            left += 1;
+            continue;
+        };
+        let Some(group) = field.get_group() else {
+            put_slot(out, path.as_str(), field)?;
+            walk = walk.advance();
+            continue;
+        };
+        put_group(out, path.as_str(), field)?;
+        if left == 0 {
+            walk = walk.advance();
+            continue;
+        }
+        enter_path(&mut path, field)?;
+        walk = walk.enter(group);
+        left -= 1;
     }
-    Ok(())
 }
 
 /// The fields of a struct, by index, one a line: its name and type, the first bit of its slot in the data section or
@@ -268,6 +305,6 @@ pub fn get_fields(alloc: Global, schema: StructSchema<'_>) -> Result<String>
     ensures memory { IfErr result (λ e. e.kind ≡ OutOfMemory) }
 {
     let mut lines = String::new(alloc);
-    put_fields(&mut lines, "", schema, schema.get_set().brands().len())?;
+    put_fields(&mut lines, schema, schema.get_set().brands().len())?;
     Ok(lines)
 }

@@ -1,7 +1,7 @@
 //! Lists whose element types are known only at run time, as they are built.
 ghost use Rattle.std.specs.Prelude.{◌==◌, ◌≡◌, ◌<◌, ◌^◌, IfErr, IfOk, OnErr, OnOk};
 ghost use Rattle.std.specs.Borrow.{sem};
-ghost use Rattle.capnp_wire.specs.Depth.{IsBelow};
+ghost use Rattle.capnp_wire.specs.Depth.{IsBelow, memory_depth};
 ghost use Rattle.capnp_wire.specs.Reading.{list_length};
 ghost use Rattle.capnp_wire.specs.Standing.{list_levels, list_of};
 ghost use Rattle.capnp_arena.specs.Forest.{Changes};
@@ -92,12 +92,12 @@ impl<'a> Builder<'a> {
     }
 
     /// A reader of the list for as long as the builder would be there, with 64 levels. The list stays as it is; a null
-    /// reads as an empty list. What it leads to is cut off past 65,534 levels, which only walks of a whole tree can
+    /// reads as an empty list. What it leads to is cut off past 129 levels, which only walks of a whole tree can
     /// see. The list has to be ready (`IsListReady`).
     pub fn into_reader(self) -> Reader<'a>
         requires { IsListReady self }
         ensures cut { IsCutOf (list_of (list_reader_of result)) (built_reading self.entry) }
-        ensures list { IsBelow 65535 (built_elements self.entry)
+        ensures list { IsBelow memory_depth (built_elements self.entry)
             → list_of (list_reader_of result) ≡ built_reading self.entry }
         ensures levels { list_levels (list_reader_of result) ≡ 64 }
         ensures element { type_of result ≡ built_type self.entry }

@@ -6,7 +6,7 @@
 ghost use Rattle.std.specs.Prelude.{None, Ok, IfErr, IsErrAnd, IsOk, IsOkAnd, OnErr, OnOk, ◌≡◌, ◌≢◌, IfOk};
 ghost use Rattle.std.specs.Borrow.{sem};
 ghost use Rattle.capnp_device.specs.declared.error.ErrorKind.TheVariants.{FieldNotFound};
-ghost use Rattle.capnp_wire.specs.Depth.{AreBelow};
+ghost use Rattle.capnp_wire.specs.Depth.{AreBelow, memory_depth};
 ghost use Rattle.capnp_wire.specs.Edits.{IsStructRefusal, extended, struct_in};
 ghost use Rattle.capnp_wire.specs.Standing.{struct_levels, struct_of};
 ghost use Rattle.capnp_arena.specs.Forest.{Changes, Forest, tree};
@@ -125,13 +125,13 @@ impl<'a> Builder<'a> {
         }
     }
 
-    /// A reader of the struct, with 64 levels. What its pointers lead to is cut off past 65,534 levels, which only
+    /// A reader of the struct, with 64 levels. What its pointers lead to is cut off past 129 levels, which only
     /// walks of a whole tree can see.
     /// The struct has to have its schema's sections and stand at its place (`IsReady`).
     pub fn reborrow_as_reader(&self) -> Reader<'_>
         requires { IsReady self.now }
         ensures cut { IsStructCutOf (struct_of (reader_of result)) (built_struct self.now) }
-        ensures parts { AreBelow 65535 (built_struct self.now).pointers
+        ensures parts { AreBelow memory_depth (built_struct self.now).pointers
             → struct_of (reader_of result) ≡ built_struct self.now }
         ensures levels { struct_levels (reader_of result) ≡ 64 }
         ensures schema { schema_of result ≡ built_schema self.now }
@@ -144,7 +144,7 @@ impl<'a> Builder<'a> {
     pub fn into_reader(self) -> Reader<'a>
         requires { IsReady self }
         ensures cut { IsStructCutOf (struct_of (reader_of result)) (built_struct self.entry) }
-        ensures parts { AreBelow 65535 (built_struct self.entry).pointers
+        ensures parts { AreBelow memory_depth (built_struct self.entry).pointers
             → struct_of (reader_of result) ≡ built_struct self.entry }
         ensures levels { struct_levels (reader_of result) ≡ 64 }
         ensures schema { schema_of result ≡ built_schema self.entry }

@@ -1,0 +1,108 @@
+-- A group is cleared place by place, and left by its own field.
+use Rattle.std.proofs.Common.{refl, rules, ◌≡◌, ◌+◌, ◌≤◌, ◌<◌, ◌∙◌, ap, arith, length, sym}
+use Rattle.capnp_schema.specs.StructHandles.{number_of, set_of, struct_fields}
+use Rattle.capnp_slots.proofs.GroupClears.{cleared-none, fits-kept, keeps-refl, keeps-trans}
+use Rattle.capnp_slots.proofs.GroupWays.{ends, ends-outside, fewer-above, fewer-in, fits-above, goes-above, goes-in, group-fits, less-on, past-group, past-nothing, past-slot, positive, starts}
+use Rattle.capnp_arena.specs.Facts.Places.{then, unchanged}
+use Rattle.capnp_slots.proofs.group.clear_group.Goals as goal
+
+pub returns-then-groups-eq0-clause-cleared : goal.returns-then-groups-eq0-clause-cleared
+returns-then-groups-eq0-clause-cleared c = cleared-none c.args.groups _ _ _ c.if-groups-eq0.true
+
+pub returns-then-depth-eq0-clause-cleared : goal.returns-then-depth-eq0-clause-cleared
+returns-then-depth-eq0-clause-cleared c =
+    let count = c.loop-count.invariant.count in
+    sym (ends c.loop-count.left c.loop-count.at c.loop-count.depth c.loop-count.next _ (omega arith) c.if-depth-eq0.true) ∙ c.loop-count.invariant.left
+
+pub returns-in_default-clause-cleared : goal.returns-in_default-clause-cleared
+returns-in_default-clause-cleared c =
+    let count = c.loop-count.invariant.count in
+    sym (ends-outside c.loop-count.left c.loop-count.at c.loop-count.depth c.loop-count.next _ (omega arith) (sym c.in_default.ensures.place)) ∙ c.loop-count.invariant.left
+
+pub loop-count-smaller-in_default-cleared_at : goal.loop-count-smaller-in_default-cleared_at
+loop-count-smaller-in_default-cleared_at c = let count = c.loop-count.invariant.count in less-on c.loop-count.left c.loop-count.at c.loop-count.depth c.loop-count.next (omega arith)
+
+pub loop-count-preserved-in_default-cleared_at : goal.loop-count-preserved-in_default-cleared_at
+loop-count-preserved-in_default-cleared_at c = record {
+  left = (let count = c.loop-count.invariant.count in sym (past-nothing c.loop-count.left c.loop-count.at c.loop-count.depth c.loop-count.next _ c.in_default-cleared_at.ensures (omega arith))) ∙ c.loop-count.invariant.left;
+  room = c.loop-count.invariant.room;
+  count = c.loop-count.invariant.count;
+  few = c.loop-count.invariant.few;
+  groups = c.loop-count.invariant.groups;
+  size = c.loop-count.invariant.size;
+  planted = c.loop-count.invariant.planted;
+  changes = c.loop-count.invariant.changes;
+}
+
+pub loop-count-smaller-in_default-clear_slot : goal.loop-count-smaller-in_default-clear_slot
+loop-count-smaller-in_default-clear_slot c = let count = c.loop-count.invariant.count in less-on c.loop-count.left c.loop-count.at c.loop-count.depth c.loop-count.next (omega arith)
+
+pub loop-count-preserved-in_default-clear_slot : goal.loop-count-preserved-in_default-clear_slot
+loop-count-preserved-in_default-clear_slot c = record {
+  left = (let count = c.loop-count.invariant.count in sym (past-slot c.loop-count.left c.loop-count.at c.loop-count.depth c.loop-count.next c.in-Some-cleared_at.field _ _ c.in-Some-cleared_at.ensures (omega arith) c.in_default-clear_slot.ensures.cleared)) ∙ c.loop-count.invariant.left;
+  room = fits-kept (set_of c.loop-count.at) (number_of c.loop-count.at) _ _ c.in_default-clear_slot.ensures.kept c.loop-count.invariant.room;
+  count = c.loop-count.invariant.count;
+  few = c.loop-count.invariant.few;
+  groups = c.loop-count.invariant.groups;
+  size = keeps-trans _ _ _ c.loop-count.invariant.size c.in_default-clear_slot.ensures.kept;
+  planted = c.in_default-clear_slot.ensures.planted;
+  changes = then c.loop-count.invariant.changes c.in_default-clear_slot.ensures.changes;
+}
+
+pub loop-count-smaller-then-left-eq0 : goal.loop-count-smaller-then-left-eq0
+loop-count-smaller-then-left-eq0 c = let count = c.loop-count.invariant.count in less-on c.loop-count.left c.loop-count.at c.loop-count.depth c.loop-count.next (omega arith)
+
+pub loop-count-preserved-then-left-eq0 : goal.loop-count-preserved-then-left-eq0
+loop-count-preserved-then-left-eq0 c = record {
+  left = (let count = c.loop-count.invariant.count in sym (past-group c.loop-count.left c.loop-count.at c.loop-count.depth c.loop-count.next c.in-Some-cleared_at.field c.in-Some-clear_slot.group _ _ c.in-Some-cleared_at.ensures (omega arith) c.in-Some-clear_slot.ensures.cleared.0 c.in-Some-clear_slot.ensures.cleared.1 c.if-left-eq0.true)) ∙ c.loop-count.invariant.left;
+  room = fits-kept (set_of c.loop-count.at) (number_of c.loop-count.at) _ _ c.in-Some-clear_slot.ensures.kept c.loop-count.invariant.room;
+  count = c.loop-count.invariant.count;
+  few = c.loop-count.invariant.few;
+  groups = c.loop-count.invariant.groups;
+  size = keeps-trans _ _ _ c.loop-count.invariant.size c.in-Some-clear_slot.ensures.kept;
+  planted = c.in-Some-clear_slot.ensures.planted;
+  changes = then c.loop-count.invariant.changes c.in-Some-clear_slot.ensures.changes;
+}
+
+pub loop-count-smaller : goal.loop-count-smaller
+loop-count-smaller c = let count = c.loop-count.invariant.count in fewer-in c.loop-count.left c.loop-count.at c.loop-count.depth c.loop-count.next c.in-Some-cleared_at.field c.in-Some-clear_slot.group c.if-left-eq0.false c.in-Some-cleared_at.ensures (omega arith) c.in-Some-clear_slot.ensures.cleared.0
+
+pub loop-count-preserved : goal.loop-count-preserved
+loop-count-preserved c = record {
+  left = (let count = c.loop-count.invariant.count in sym (goes-in c.loop-count.left c.loop-count.at c.loop-count.depth c.loop-count.next c.in-Some-cleared_at.field c.in-Some-clear_slot.group _ _ c.if-left-eq0.false c.in-Some-cleared_at.ensures (omega arith) c.in-Some-clear_slot.ensures.cleared.0 c.in-Some-clear_slot.ensures.cleared.1)) ∙ c.loop-count.invariant.left;
+  room = group-fits c.loop-count.at c.loop-count.next c.in-Some-cleared_at.field c.in-Some-clear_slot.group _ _ c.in-Some-cleared_at.ensures c.in-Some-clear_slot.ensures.cleared.0 c.in-Some-clear_slot.ensures.kept c.loop-count.invariant.room;
+  count = c.field_count-count-in-loop-count.ensures.count;
+  few = c.field_count-count-in-loop-count.ensures.few;
+  groups = (let groups = c.loop-count.invariant.groups in let some = positive c.loop-count.left c.if-left-eq0.false in omega arith);
+  size = keeps-trans _ _ _ c.loop-count.invariant.size c.in-Some-clear_slot.ensures.kept;
+  planted = c.in-Some-clear_slot.ensures.planted;
+  changes = then c.loop-count.invariant.changes c.in-Some-clear_slot.ensures.changes;
+}
+
+pub loop-count-init : goal.loop-count-init
+loop-count-init c = record {
+  left = starts c.args.groups _ c.args.schema _ c.if-groups-eq0.false refl;
+  room = c.requires.room;
+  count = c.field_count-count.ensures.count;
+  few = c.field_count-count.ensures.few;
+  groups = (let some = positive c.args.groups c.if-groups-eq0.false in omega arith);
+  size = keeps-refl _;
+  planted = c.requires.planted;
+  changes = unchanged _ _ _ refl;
+}
+
+pub loop-count-smaller-then-next-count : goal.loop-count-smaller-then-next-count
+loop-count-smaller-then-next-count c =
+    fewer-above c.loop-count.left c.loop-count.at c.loop-count.depth c.loop-count.next c.in-Some.field _ _ c.get_containing_struct-at.ensures.is c.cleared_behind-next.ensures c.if-depth-eq0.false c.in-Some.ensures.field c.in-Some.ensures.place
+
+pub loop-count-preserved-then-next-count : goal.loop-count-preserved-then-next-count
+loop-count-preserved-then-next-count c = record {
+  left = (let count = c.loop-count.invariant.count in sym (goes-above c.loop-count.left c.loop-count.at c.loop-count.depth c.loop-count.next c.in-Some.field _ _ _ c.get_containing_struct-at.ensures.is c.cleared_behind-next.ensures c.if-depth-eq0.false (omega arith) c.in-Some.ensures.field c.in-Some.ensures.place)) ∙ c.loop-count.invariant.left;
+  room = fits-above c.loop-count.at c.in-Some.field _ _ c.get_containing_struct-at.ensures.is c.in-Some.ensures.field c.loop-count.invariant.room;
+  count = c.field_count-count-then-next-count.ensures.count;
+  few = c.field_count-count-then-next-count.ensures.few;
+  groups = (let groups = c.loop-count.invariant.groups in let some = positive c.loop-count.depth c.if-depth-eq0.false in omega arith);
+  size = c.loop-count.invariant.size;
+  planted = c.loop-count.invariant.planted;
+  changes = c.loop-count.invariant.changes;
+}

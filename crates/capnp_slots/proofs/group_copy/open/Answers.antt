@@ -1,0 +1,23 @@
+-- The switch to a group's field keeps the sections of the group.
+use Rattle.std.proofs.Common.{◌∙◌, ap}
+use Rattle.capnp_arena.specs.Built.{built}
+use Rattle.capnp_arena.specs.Facts.Places.{then}
+use Rattle.capnp_schema.specs.StructHandles.{number_of, set_of}
+use Rattle.capnp_records.specs.Facts.FieldWrite.{fits-after}
+use Rattle.capnp_records.specs.Writes.Overlay.{cleared_group}
+use Rattle.capnp_slots.specs.Fields.{field_brand, field_set}
+use Rattle.capnp_slots.proofs.GroupClears.{keeps-size, keeps-trans}
+use Rattle.capnp_slots.proofs.group_copy.open.Goals as goal
+
+pub clear_whole-requires-clause-room : goal.clear_whole-requires-clause-room
+clear_whole-requires-clause-room c =
+    c.requires.group.room _ (fits-after _ (field_set c.args.field) (field_brand c.args.field) (built c.args.arena.now c.args.place) (built c.switch.new.arena c.args.place) c.switch.ensures.kept.writes c.requires.room)
+
+pub returns-clause-changes : goal.returns-clause-changes
+returns-clause-changes c = then c.switch.ensures.changes c.clear_whole.ensures.changes
+
+pub returns-clause-cleared : goal.returns-clause-cleared
+returns-clause-cleared c = c.clear_whole.ensures.cleared ∙ ap (cleared_group (set_of c.args.group) (number_of c.args.group)) c.switch.ensures.switched
+
+pub returns-clause-kept : goal.returns-clause-kept
+returns-clause-kept c = keeps-trans _ _ _ (keeps-size _ _ _ c.switch.ensures.kept) c.clear_whole.ensures.kept

@@ -1,0 +1,12 @@
+use Rattle.std.specs.Prelude.{string_bytes}
+use Rattle.std.proofs.Common.{subst, sym}
+use Rattle.capnp_schema.specs.Schema.{kind_default, seen_kind}
+use Rattle.capnp_schema.specs.declared.record.FieldKind.{FieldKind}
+use Rattle.capnp_dynamic_readers.specs.Facts.Appended.{nothing}
+use Rattle.capnp_dynamic_readers.specs.Pieces.{IsAppended}
+use Rattle.capnp_structs.specs.Fields.{default_text}
+use Rattle.capnp_structs.proofs.fields.put_kind.Goals as goal
+
+pub returns-in-Group-clause-put : goal.returns-in-Group-clause-put
+returns-in-Group-clause-put c =
+    subst (λ (z : FieldKind). IsAppended (string_bytes c.args.out.now) (default_text (kind_default (seen_kind z))) (string_bytes c.args.out.now)) (sym c.in-Group.is) (nothing (string_bytes c.args.out.now))
