@@ -1,5 +1,5 @@
 -- What is done to a field is what the words of writes on trees say of its whole, however the field was named.
-use Rattle.std.specs.Prelude.{ℕ, ◌≡◌, ◌⊎◌, refl, Bool, true, false, cond, Option, Some, None, Ok}
+use Rattle.std.specs.Prelude.{ℕ, ◌≡◌, ◌≢◌, ◌⊎◌, refl, Bool, true, false, cond, Option, Some, None, Ok}
 use Rattle.std.proofs.Common.{ap, inl, inr, sym, subst, ◌∙◌}
 use Rattle.std.proofs.lemmas.Bool.{true≢false}
 use Rattle.capnp_device.specs.declared.error.ErrorKind.{ErrorKind}
@@ -26,6 +26,7 @@ use Rattle.capnp_slots.specs.Fields.{IsSlot, field_brand, field_set, slot_with}
 use Rattle.capnp_slots.specs.FieldWrites.{IsFieldInit, KindIsInit, cleared_kind, field_cleared}
 use Rattle.capnp_slots.specs.Groups.{IsGroup, group_without}
 use Rattle.capnp_slots.specs.Inits.{IsInitRefusal, IsInitnRefusal, IsRoomless, init_content}
+use Rattle.capnp_call.proofs.Replies.{refused_undone}
 use Rattle.capnp_call.specs.Ends.{AsGroup, AsStruct, FieldDoes, NamedDoes, Whole, stand_of, whole_of}
 use Rattle.capnp_call.specs.Seen.{reply_by, step_seen}
 use Rattle.capnp_call.specs.Ways.{IsNamedBy, found_target, target_in}
@@ -36,8 +37,8 @@ module _ (f : Field) (s s' : StructTree) where
   named step e = ap (field_at (field_set f) (field_brand f)) e
 
   -- nothing was written
-  pub stays : (op : Op) (reply : Reply) → s' ≡ s → ((whole : Record → Value) (old : Value) → Does (field_set f) op (target_in whole f s) old reply old) → FieldDoes f op s reply s'
-  stays op reply same h w g step e = inl (h (whole_of w) (seen (field_set f) (StructType (field_brand f) g) (stand_of w s)), ap (stand_of w) same)
+  pub stays : (op : Op) (reply : Reply) → reply ≢ Done → s' ≡ s → ((whole : Record → Value) (old : Value) → Does (field_set f) op (target_in whole f s) old reply old) → FieldDoes f op s reply s'
+  stays op reply undone same h w g step e = inl (h (whole_of w) (seen (field_set f) (StructType (field_brand f) g) (stand_of w s)), ap (stand_of w) same, undone)
 
   -- a slot was written
   pub slot_does : (op : Op) (c : Content) → IsSlot f → ((whole : Record → Value) → OpContent (field_set f) op (target_in whole f s) c) → s' ≡ slot_with f c s → FieldDoes f op s Done s'
@@ -100,7 +101,7 @@ init_done f s s' o r = go (is_group_field (typed_of f).field.kind) refl o
     go false slot None reply h = subst (λ (y : Reply). FieldDoes f Init s y s') (sym reply) (slot_does f s s' Init (init_content f) slot (λ whole. (refl, h.0)) h.1)
     go false slot (Some kind) reply h =
         subst (λ (y : Reply). FieldDoes f Init s y s') (sym reply)
-        (stays f s s' Init (Refused kind) h.1 (λ whole old. init_refused (field_set f) (target_in whole f s) (typed_of f).type old kind slot h.0))
+        (stays f s s' Init (Refused kind) (refused_undone kind) h.1 (λ whole old. init_refused (field_set f) (target_in whole f s) (typed_of f).type old kind slot h.0))
 
 -- ---- a step ----
 

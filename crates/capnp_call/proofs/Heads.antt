@@ -126,7 +126,7 @@ module _ (set : Schemas) where
   pub field_cut : (x s : StructTree) → IsStructCutOf x s → (f : TypedField) →
       SameAnswer f.type (field_read set (Left 64) x f) (read_of set (default_of f.field) f.type (part_of set Endless s.bytes (values_of set s.pointers) f))
   unfolding IsStructCutOf
-  field_cut x s h f = field_alike 32766 x s h f
+  field_cut x s h f = field_alike 64 x s h f
 
 pub bytes_cut : (x s : StructTree) → IsStructCutOf x s → s.bytes ≡ x.bytes
 unfolding IsStructCutOf
@@ -134,7 +134,7 @@ bytes_cut x s h = h.0
 
 pub length_cut : (x t : Tree) → IsCutOf x t → list_length t ≡ list_length x
 unfolding IsCutOf
-length_cut x t h = length_alike 32766 x t h
+length_cut x t h = length_alike 64 x t h
 
 -- whether a field is there
 place_alike : (n : ℕ) (x s : StructTree) → SameParts (SameTo (suc n)) x s → (p : Place) → place_there x p ≡ place_there s p
@@ -150,7 +150,7 @@ pub has_cut : (set : Schemas) (l : Levels) (x s : StructTree) → IsStructCutOf 
     has_of (struct_record set l x b) (field_at set b i).field i ≡ has_of (struct_record set Endless s b) (field_at set b i).field i
 unfolding IsStructCutOf
 has_cut set l x s h accepted b i b_in i_in v e =
-    sym (has_by_plan set l x accepted b i b_in i_in v e) ∙ (has_alike 32766 x s h (plan_of set b (field_at set b i)) ∙ has_by_plan set Endless s accepted b i b_in i_in v e)
+    sym (has_by_plan set l x accepted b i b_in i_in v e) ∙ (has_alike 64 x s h (plan_of set b (field_at set b i)) ∙ has_by_plan set Endless s accepted b i b_in i_in v e)
 
 pub active_cut : (set : Schemas) (l : Levels) (x s : StructTree) → s.bytes ≡ x.bytes → IsAccepted set → (b i : ℕ) → b < length set.brands → i < length (fields_of set b) →
     not (is_inactive (struct_record set l x b) (field_at set b i).field i) ≡ not (is_inactive (struct_record set Endless s b) (field_at set b i).field i)
@@ -211,4 +211,4 @@ module _ (set : Schemas) (n : ℕ) where
 
 pub element_cut : (set : Schemas) (x y : Tree) → IsCutOf x y → (i : ℕ) (e : SchemaType) → SameAnswer e (read_of set VoidValue e (seen_element set x e i)) (read_of set VoidValue e (seen_element set y e i))
 unfolding IsCutOf
-element_cut set x y h i e = element_alike set 32765 x y h i e
+element_cut set x y h i e = element_alike set 63 x y h i e

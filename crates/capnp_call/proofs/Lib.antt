@@ -8,10 +8,12 @@ pub mod Found
 pub mod Levels
 pub mod Outcomes
 pub mod Heads
+pub mod Hopping
 pub mod ListBehind
 pub mod ListReads
 pub mod ListWalks
 pub mod Parts
+pub mod Replies
 pub mod SetsDone
 pub mod Walking
 pub mod WhichLevels

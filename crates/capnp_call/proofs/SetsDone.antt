@@ -1,5 +1,5 @@
 -- What a set does is what the machine of records says, and why it is refused.
-use Rattle.std.specs.Prelude.{ℕ, suc, ◌≡◌, refl, Bool, true, false, length, Option, Some, None}
+use Rattle.std.specs.Prelude.{ℕ, suc, ◌≡◌, ◌≢◌, refl, Bool, true, false, length, Option, Some, None}
 use Rattle.std.proofs.Common.{ap, inl, inr, sym, subst, ◌∙◌}
 use Rattle.std.proofs.lemmas.Bool.{true≢false}
 use Rattle.capnp_device.specs.declared.error.ErrorKind.{ErrorKind}
@@ -31,6 +31,7 @@ use Rattle.capnp_slots.specs.Primitives.{given_content, given_to, set_content}
 use Rattle.capnp_slots.specs.Sources.{IsSet, IsSetRefusal, IsTaken, copy_due}
 use Rattle.capnp_call.proofs.Behind.{is_memory, memory_is}
 use Rattle.capnp_call.proofs.EndsDone.{slot_does, stays}
+use Rattle.capnp_call.proofs.Replies.{refused_undone}
 use Rattle.capnp_call.specs.Ends.{AsGroup, AsStruct, FieldDoes, Whole, stand_of, whole_of}
 use Rattle.capnp_call.specs.Lists.{element_at}
 use Rattle.capnp_call.specs.Seen.{reply_by}
@@ -84,7 +85,7 @@ module _ (f : Field) (s s' : StructTree) (source : Source) where
 
   slot_unset : (kind : ErrorKind) → IsSlot f → s' ≡ s → IsSetRefusal (given_to f source) kind → FieldDoes f (Set source) s (Refused kind) s'
   slot_unset kind slot same h =
-      stays f s s' (Set source) (Refused kind) same
+      stays f s s' (Set source) (Refused kind) (refused_undone kind) same
       (λ whole old. subst (λ (z : Given). Sets (field_set f) (target_in whole f s) z old (Refused kind) old) (sym (given_is whole slot)) (set_refused (field_set f) (target_in whole f s) (given_to f source) old kind h))
 
   -- ---- a group ----
@@ -133,6 +134,7 @@ module _ (f : Field) (s s' : StructTree) (source : Source) where
             subst (λ (z : Given). Sets (field_set f) x z (seen (field_set f) (StructType (field_brand f) g) (stand_of w s)) r (seen (field_set f) (StructType (field_brand f) g) (stand_of w s))) (sym is_given)
                 (reply ∙ ap reply_by done.0, refl),
             ap (stand_of w) done.1,
+            subst (λ (y : record_call.Reply). y ≢ record_call.Done) (sym (reply ∙ ap reply_by done.0)) (refused_undone kind),
           )
 
   -- ---- either ----
@@ -160,4 +162,4 @@ element_set set e i s x x' fits room is =
 
 pub element_unset : (set : Schemas) (e : SchemaType) (i : ℕ) (s : Source) (x x' : Tree) (kind : ErrorKind) → x' ≡ x → IsSetRefusal (given_element set e s) kind →
     TreeDoes set (Set s) (element_at set e x i) (ListType e) (OnList x) (ElementAt i) (Refused kind) (OnList x')
-element_unset set e i s x x' kind same h = inl (set_refused set (element_at set e x i) (given_element set e s) (seen set (ListType e) (OnList x)) kind h, ap OnList same)
+element_unset set e i s x x' kind same h = inl (set_refused set (element_at set e x i) (given_element set e s) (seen set (ListType e) (OnList x)) kind h, ap OnList same, refused_undone kind)

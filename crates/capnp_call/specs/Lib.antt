@@ -1,5 +1,6 @@
 pub mod Ends
 pub mod Facts
+pub mod Hops
 pub mod Lists
 pub mod Memory
 pub mod Seen

@@ -6,6 +6,7 @@ pub mod answer;
 pub mod calls;
 pub mod end;
 pub mod enter;
+pub mod hop;
 pub mod list_end;
 pub mod walk;
 pub mod way;

@@ -89,4 +89,4 @@ field_agrees set n x s h f leaf =
 
 pub leaf_cut : (set : Schemas) (x s : StructTree) → IsStructCutOf x s → (f : TypedField) → IsLeaf (field_read set (Left 64) s f) → field_read set (Left 64) x f ≡ field_read set (Left 64) s f
 unfolding IsStructCutOf
-leaf_cut set x s h f leaf = field_agrees set 32766 x s h f leaf
+leaf_cut set x s h f leaf = field_agrees set 64 x s h f leaf

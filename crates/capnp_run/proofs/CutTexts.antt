@@ -57,11 +57,11 @@ parts-alike n (tree.FaultLeaf k) t h here = absurd (no-struct t (tree.FaultLeaf 
 
 pub is_struct-cut : (x t : Tree) → IsCutOf x t → IsTrue (is_struct t) → IsTrue (is_struct x)
 unfolding IsCutOf
-is_struct-cut x t h here = struct-alike 32766 x t h here
+is_struct-cut x t h here = struct-alike 64 x t h here
 
 left-cut : (schema : StructSchema) (x t : Tree) → IsCutOf x t → IsTrue (is_struct t) → trimmed_record (record_left schema (struct_in x)) ≡ trimmed_record (record_left schema (struct_in t))
 unfolding IsCutOf
-left-cut schema x t h here = record-cut (set_of schema) 32766 63 (struct_in x) (struct_in t) (parts-alike 32766 x t h here) (omega arith) (number_of schema)
+left-cut schema x t h here = record-cut (set_of schema) 64 63 (struct_in x) (struct_in t) (parts-alike 64 x t h here) (omega arith) (number_of schema)
 
 -- ---- texts ----
 

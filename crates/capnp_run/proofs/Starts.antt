@@ -1,11 +1,11 @@
 -- The root that a run starts from, and what a run leaves there.
-use Rattle.std.specs.Prelude.{ℕ, suc, ◌^◌, ◌<◌, ◌≤◌, ◌≡◌, ◌≢◌, refl, List, ◌++◌, Bool, true, false, cond, ◌==◌, IsTrue, Option, Some, None, option_map, Result, Ok, Err}
+use Rattle.std.specs.Prelude.{ℕ, suc, ◌^◌, ◌<◌, ◌≡◌, ◌≢◌, refl, List, ◌++◌, Bool, true, false, cond, ◌==◌, IsTrue, Option, Some, None, option_map, Result, Ok, Err}
 use Rattle.std.specs.Result.{is_ok}
-use Rattle.std.proofs.Common.{ap, inl, inr, sym, subst, ◌∙◌}
+use Rattle.std.proofs.Common.{ap, sym, subst, ◌∙◌}
 use Rattle.std.proofs.lemmas.Bool.{true≢false}
 use Rattle.capnp_device.specs.declared.error.Error.{Error}
 use Rattle.capnp_device.specs.declared.error.ErrorKind.{ErrorKind}
-use Rattle.capnp_device.specs.declared.error.ErrorKind.TheVariants.{OutOfMemory, TooDeep, TooLarge}
+use Rattle.capnp_device.specs.declared.error.ErrorKind.TheVariants.{OutOfMemory, TooDeep}
 use Rattle.capnp_wire.specs.Depth.{IsShallow}
 use Rattle.capnp_wire.specs.Encoding.{message_of}
 use Rattle.capnp_wire.specs.Reading.{as_struct, refusal}
@@ -17,7 +17,7 @@ use Rattle.capnp_schema.specs.Schema.{Schemas}
 use Rattle.capnp_schema.specs.Types.{StructType}
 use Rattle.capnp_records.specs.Laws.{GroupPrintLaw, PrintLaw}
 use Rattle.capnp_records.specs.Reading.{reads, struct_record}
-use Rattle.capnp_records.specs.Text.{Out, text_of}
+use Rattle.capnp_records.specs.Text.{Out, Pieces, text_of}
 use Rattle.capnp_dynamic_readers.specs.Pieces.{IsAppended}
 use Rattle.capnp_wire.specs.Edits.{HasAtLeast, IsCopyRefusal, IsStructRefusal, extended, is_struct, struct_in, struct_refusal, zero_struct}
 use Rattle.capnp_wire.specs.Facts.Lengths.{HasAtLeast-zero_struct}
@@ -122,16 +122,16 @@ leaves_run schema r t t' calls replies root run = subst (λ (y : Record). Leaves
 -- ---- what is printed ----
 
 module _ (law : PrintLaw) (groups : GroupPrintLaw) (set : Schemas) (indented : Bool) (b g : ℕ) (s : StructTree) (l : Levels) where
-  text_same : (q : Bool) (bytes : Option (List ℕ)) → text_of set indented (StructType b g) (root_value q (struct_record set l s b)) ≡ Ok bytes → text_of set indented (StructType b g) (root_value q (reads set s b)) ≡ Ok bytes
-  text_same true bytes h = groups set l indented b g s bytes h
-  text_same false bytes h = law set l indented b g s bytes h
+  text_same : (q : Bool) (pieces : Pieces) → text_of set indented (StructType b g) (root_value q (struct_record set l s b)) ≡ Ok pieces → text_of set indented (StructType b g) (root_value q (reads set s b)) ≡ Ok pieces
+  text_same true pieces h = groups set l indented b g s pieces h
+  text_same false pieces h = law set l indented b g s pieces h
 
   pub appended : (q : Bool) (old new : List ℕ) → IsAppended old (text_of set indented (StructType b g) (root_value q (struct_record set l s b))) new → IsAppended old (text_of set indented (StructType b g) (root_value q (reads set s b))) new
   appended q old new h = go (text_of set indented (StructType b g) (root_value q (struct_record set l s b))) refl h
     where
       go : (o : Out) → text_of set indented (StructType b g) (root_value q (struct_record set l s b)) ≡ o → IsAppended old o new → IsAppended old (text_of set indented (StructType b g) (root_value q (reads set s b))) new
-      go (Ok bytes) e k = subst (λ (o : Out). IsAppended old o new) (sym (text_same q bytes e)) k
-      go (Err kind) e k = absurd k
+      go (Ok pieces) e k = subst (λ (o : Out). IsAppended old o new) (sym (text_same q pieces e)) k
+      go (Err kind) e (bytes, k, f) = absurd k
 
 abbrev ok_struct : StructTree → Result StructTree ErrorKind → StructTree
 ok_struct other (Ok s) = s
@@ -166,11 +166,12 @@ struct_reads (tree.FaultLeaf k) n kind here levels h = true≢false (sym here)
 -- ---- the whole ----
 
 pub whole : (schema : StructSchema) (r : Record) (t : Tree) (calls : List Call) (replies : List Reply) (bytes : List ℕ) (indented : Bool) (old new : List ℕ) → LeavesRun schema r calls replies t →
-    suc (words_of t) < 2 ^ 29 → bytes ≡ message_of t → (IsShallow t → (rest : List ℕ) → message_tree_of (bytes ++ rest) ≡ Ok t) → IsAppended old (text_in schema indented (record_in schema (struct_in t))) new →
-    IsWhole schema r calls replies bytes indented old new
-whole schema r t calls replies bytes indented old new leaves fits written read printed = record {
+    (start : StructTree) → Makes (set_of schema) (number_of schema) start calls replies (struct_in t) → suc (words_of t) < 2 ^ 29 → bytes ≡ message_of t → (IsShallow t → (rest : List ℕ) → message_tree_of (bytes ++ rest) ≡ Ok t) → IsAppended old (text_in schema indented (record_in schema (struct_in t))) new →
+    IsWhole schema r start calls replies bytes indented old new
+whole schema r t calls replies bytes indented old new leaves start makes fits written read printed = record {
   root = struct_in t;
   runs = leaves.runs;
+  made = makes;
   fits = subst (λ (y : Tree). suc (words_of y) < 2 ^ 29) leaves.root fits;
   written = written ∙ ap message_of leaves.root;
   read_back = subst (λ (y : Tree). IsShallow y → (rest : List ℕ) → message_tree_of (bytes ++ rest) ≡ Ok y) leaves.root read;
@@ -180,27 +181,13 @@ whole schema r t calls replies bytes indented old new leaves fits written read p
 pub is_root : (schema : StructSchema) (r : Record) (t : Tree) (calls : List Call) (replies : List Reply) → LeavesRun schema r calls replies t → IsTrue (is_struct t)
 is_root schema r t calls replies leaves = subst (λ (y : Tree). IsTrue (is_struct y)) (sym leaves.root) refl
 
--- a kind that can't be another one
-is_too_large : (k : ErrorKind) → (k ≢ TooLarge → ⊥) → k ≡ TooLarge
-is_too_large TooLarge h = refl
-is_too_large _ h = absurd (h (λ e. cc))
-
--- why a root was not written, or not printed
+-- why a root was not printed
 module _ (schema : StructSchema) (r : Record) (t : Tree) (calls : List Call) (replies : List Reply) (leaves : LeavesRun schema r calls replies t) (indented : Bool) (kind : ErrorKind) where
-  pub not_written : (kind ≢ TooLarge → kind ≡ OutOfMemory) → (kind ≡ TooLarge → 2 ^ 29 ≤ suc (words_of t)) → kind ≢ OutOfMemory → IsWholeRefusal schema r calls indented kind
-  not_written kinds refused other =
-      let large = is_too_large kind (λ ne. other (kinds ne)) in
-      record {
-        root = struct_in t;
-        replies = replies;
-        runs = leaves.runs;
-        cause = inl (subst (λ (y : Tree). 2 ^ 29 ≤ suc (words_of y)) leaves.root (refused large), large);
-      }
-
   pub not_printed : suc (words_of t) < 2 ^ 29 → (kind ≢ OutOfMemory → text_in schema indented (record_left schema (struct_in t)) ≡ Err kind) → kind ≢ OutOfMemory → IsWholeRefusal schema r calls indented kind
   not_printed fits refused other = record {
     root = struct_in t;
     replies = replies;
     runs = leaves.runs;
-    cause = inr (subst (λ (y : Tree). suc (words_of y) < 2 ^ 29) leaves.root fits, refused other);
+    fits = subst (λ (y : Tree). suc (words_of y) < 2 ^ 29) leaves.root fits;
+    cause = refused other;
   }

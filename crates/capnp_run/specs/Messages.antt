@@ -1,7 +1,6 @@
 -- Calls on a message's root.
-use Rattle.std.specs.Prelude.{ℕ, suc, ◌^◌, ◌<◌, ◌≤◌, ◌≡◌, ◌⊎◌, List, ◌++◌, Bool, true, false, IsTrue, Option, Some, None, Ok, Err}
+use Rattle.std.specs.Prelude.{ℕ, suc, ◌^◌, ◌<◌, ◌≡◌, ◌⊎◌, List, ◌++◌, Bool, true, false, IsTrue, Option, Some, None, Ok, Err}
 use Rattle.capnp_device.specs.declared.error.ErrorKind.{ErrorKind}
-use Rattle.capnp_device.specs.declared.error.ErrorKind.TheVariants.{TooLarge}
 use Rattle.capnp_wire.specs.Depth.{IsShallow}
 use Rattle.capnp_wire.specs.Edits.{extended, is_struct, struct_in, struct_refusal, zero_struct}
 use Rattle.capnp_wire.specs.Encoding.{message_of}
@@ -25,16 +24,19 @@ use Rattle.capnp_records.specs.Text.{Out, text_of}
 use Rattle.capnp_slots.specs.Standing.{IsUnder}
 use Rattle.capnp_dynamic_readers.specs.Pieces.{IsAppended}
 use Rattle.capnp_dynamic_readers.specs.Typed.{struct_type}
-use Rattle.capnp_run.specs.Runs.{IsRunFrom, record_in}
+use Rattle.capnp_run.specs.Runs.{IsRunFrom, Makes, record_in}
 use Rattle.capnp_call.specs.declared.calls.Call.{Call}
 use Rattle.capnp_call.specs.declared.calls.Reply.{Reply}
 
--- the struct of an empty root, and that of a copy of what a reader stands on, with at least its schema's sections
+-- the struct of an empty root, and that of a copy of a root, or of what a reader stands on, with at least its schema's sections
 abbrev pub new_root : StructSchema → StructTree
 new_root schema = zero_struct (brand_size (set_of schema) (number_of schema))
 
+abbrev pub copy_of : StructSchema → Tree → StructTree
+copy_of schema root = extended (brand_size (set_of schema) (number_of schema)) (struct_in root)
+
 abbrev pub copied_root : StructSchema → PointerReader → StructTree
-copied_root schema source = extended (brand_size (set_of schema) (number_of schema)) (struct_in (tree_of source))
+copied_root schema source = copy_of schema (tree_of source)
 
 -- the record of an empty root, and that of a copy
 abbrev pub new_record : StructSchema → Record
@@ -98,30 +100,26 @@ read_text schema indented t = text_in schema indented (record_left schema (struc
 abbrev pub message_words : StructTree → ℕ
 message_words root = suc (words_of (struct_tree root))
 
--- What is promised of a run, whole: a run of the machine leads from the record at the start to that of a struct. The bytes
--- are the message of that struct, which they are read back as where its pointers go at most 64 levels down, and its text is
--- appended.
-pub record IsWhole (schema : StructSchema) (r : Record) (calls : List Call) (replies : List Reply) (bytes : List ℕ) (indented : Bool) (old new : List ℕ) : Type 0 where
+-- What is promised of a run, whole: a run of the machine leads from the record at the start to that of a struct, and each call
+-- does to the struct at the start, and all that a newer schema put into it, what the machine does to records. The bytes are the
+-- message of that struct, which they are read back as where its pointers go at most 64 levels down, and its text is appended.
+pub record IsWhole (schema : StructSchema) (r : Record) (start : StructTree) (calls : List Call) (replies : List Reply) (bytes : List ℕ) (indented : Bool) (old new : List ℕ) : Type 0 where
   pub root : StructTree
   pub runs : IsRunFrom schema r calls replies (record_in schema root)
+  pub made : Makes (set_of schema) (number_of schema) start calls replies root
   pub fits : message_words root < 2 ^ 29
   pub written : bytes ≡ message_of (struct_tree root)
   pub read_back : IsShallow (struct_tree root) → (rest : List ℕ) → message_tree_of (bytes ++ rest) ≡ Ok (struct_tree root)
   pub printed : IsAppended old (text_in schema indented (record_in schema root)) new
 
--- why a root is not written and printed, memory aside: its message is too large, and else what a reader of it sees has no
--- text, and that is its refusal
-abbrev pub IsOutputRefusal : StructSchema → StructTree → (indented : Bool) → ErrorKind → Type 0
-IsOutputRefusal schema root indented kind =
-    ((2 ^ 29 ≤ message_words root) × (kind ≡ TooLarge)) ⊎ ((message_words root < 2 ^ 29) × (text_in schema indented (record_left schema root) ≡ Err kind))
-
 -- why a run is refused as a whole, memory aside: each call had its reply, a run of the machine led from the record at the
--- start to that of a struct, and this is not written and printed
+-- start to that of a struct whose message could be written, and what a reader of it sees has no text, with that refusal
 pub record IsWholeRefusal (schema : StructSchema) (r : Record) (calls : List Call) (indented : Bool) (kind : ErrorKind) : Type 0 where
   pub root : StructTree
   pub replies : List Reply
   pub runs : IsRunFrom schema r calls replies (record_in schema root)
-  pub cause : IsOutputRefusal schema root indented kind
+  pub fits : message_words root < 2 ^ 29
+  pub cause : text_in schema indented (record_left schema root) ≡ Err kind
 
 -- the same of a copy: the source is not copied as a root, or the run on the copy is refused so
 abbrev pub IsCopiedRefusal : StructSchema → PointerReader → List Call → (indented : Bool) → ErrorKind → Type 0

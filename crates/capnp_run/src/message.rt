@@ -276,9 +276,8 @@ fn print_root(
 /// whole. The replies and the record that the bytes are read back as are related by the machine of records to the
 /// default record, and what is printed is the text of that record. The schema is one of an accepted set.
 ///
-/// Refused with `OutOfMemory`; with `TooLarge` where the calls left a message of 2^29 words or more; and else as the
-/// print of the root that they left. Then the string is as it was. A call that is refused has its reply, and doesn't
-/// refuse the whole.
+/// Refused with `OutOfMemory`, and as the print of the root that the calls left. Then the string is as it was. A call
+/// that is refused has its reply, and doesn't refuse the whole.
 ///
 /// # Example
 ///
@@ -298,7 +297,7 @@ pub fn whole_new(
 ) -> Result<(Vec<Reply>, Vec<u8>)>
     requires { IsStruct schema }
     ensures whole { IfOk result (λ done. IsWhole schema.entry
-        (new_record schema.entry) calls.now done.0.items done.1.items indented
+        (new_record schema.entry) (new_root schema.entry) calls.now done.0.items done.1.items indented
         (string_bytes out.old) (string_bytes out.new)) }
     ensures refused { OnErr result (string_bytes out.new ≡ string_bytes out.old) }
     ensures cause { IfErr result (λ e. e.kind ≢ OutOfMemory
@@ -311,7 +310,8 @@ pub fn whole_new(
     Ok((replies, bytes))
 }
 
-/// The same on a copy of a message's root, which is a struct. The schema is one of an accepted set.
+/// The same on a copy of a message's root, which is a struct. What the schema doesn't know stays as the source has it.
+/// The schema is one of an accepted set.
 ///
 /// Refused as `run_copied`, and then as `whole_new`. Then the string is as it was.
 ///
@@ -332,7 +332,8 @@ pub fn whole_copied(
 ) -> Result<(Vec<Reply>, Vec<u8>)>
     requires { IsStruct schema }
     ensures whole { IfOk result (λ done. IsWhole schema.entry
-        (copied_record schema.entry source.entry) calls.now done.0.items done.1.items indented
+        (copied_record schema.entry source.entry) (copied_root schema.entry source.entry) calls.now done.0.items
+        done.1.items indented
         (string_bytes out.old) (string_bytes out.new)) }
     ensures sound { OnOk result (root_refusal (tree_of source.entry) ≡ None) }
     ensures refused { OnErr result (string_bytes out.new ≡ string_bytes out.old) }

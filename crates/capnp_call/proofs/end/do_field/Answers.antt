@@ -6,19 +6,26 @@ use Rattle.capnp_call.specs.Ends.{FieldDoes}
 use Rattle.capnp_call.specs.Seen.{op_seen, reply_seen}
 use Rattle.capnp_call.specs.declared.calls.Op.{Op}
 use Rattle.capnp_call.proofs.EndsDone.{stays}
+use Rattle.capnp_call.proofs.Replies.{flag_undone, get_undone}
+use Rattle.capnp_call.specs.Ways.{target_in}
+use Rattle.capnp_slots.specs.Fields.{field_set}
+use Rattle.capnp_records.specs.Record as value
 use Rattle.capnp_call.proofs.end.do_field.Goals as goal
 
 pub returns-in-Get-clause-does : goal.returns-in-Get-clause-does
 returns-in-Get-clause-does c =
     let f = c.args.field in
     let s = built c.args.arena.now c.args.place in
-    subst (λ (o : Op). FieldDoes f (op_seen o) s (reply_seen c.get_field.result) s) (sym c.in-Get.is) (stays f s s Get (reply_seen c.get_field.result) refl c.get_field.ensures)
+    subst (λ (o : Op). FieldDoes f (op_seen o) s (reply_seen c.get_field.result) s) (sym c.in-Get.is)
+    (stays f s s Get (reply_seen c.get_field.result)
+    (get_undone (field_set f) (target_in value.Struct f s) value.Void (reply_seen c.get_field.result) value.Void (c.get_field.ensures value.Struct value.Void)) refl c.get_field.ensures)
 
 pub returns-in-Has-clause-does : goal.returns-in-Has-clause-does
 returns-in-Has-clause-does c =
     let f = c.args.field in
     let s = built c.args.arena.now c.args.place in
-    subst (λ (o : Op). FieldDoes f (op_seen o) s (reply_seen c.has_field.result) s) (sym c.in-Has.is) (stays f s s Has (reply_seen c.has_field.result) refl c.has_field.ensures)
+    subst (λ (o : Op). FieldDoes f (op_seen o) s (reply_seen c.has_field.result) s) (sym c.in-Has.is)
+    (stays f s s Has (reply_seen c.has_field.result) (flag_undone (reply_seen c.has_field.result) _ (c.has_field.ensures value.Struct value.Void).0) refl c.has_field.ensures)
 
 pub returns-in-Init-clause-does : goal.returns-in-Init-clause-does
 returns-in-Init-clause-does c =

@@ -10,6 +10,7 @@ use Rattle.capnp_call.specs.Seen.{reply_seen}
 use Rattle.capnp_call.specs.Ways.{target_in}
 use Rattle.capnp_call.proofs.EndsDone.{initn_refused, slot_does, stays}
 use Rattle.capnp_call.proofs.Outcomes.{both, by_outcome, same_struct}
+use Rattle.capnp_call.proofs.Replies.{refused_undone}
 use Rattle.capnp_call.proofs.end.initn_field.Goals as goal
 
 pub returns-clause-does : goal.returns-clause-does
@@ -22,5 +23,5 @@ returns-clause-does c =
     (both _ _ c.initn.result c.initn.ensures.slot (both _ _ c.initn.result c.initn.ensures.has c.initn.ensures.written))
     (λ h. slot_does f s s' (Initn n) (initn_content f n) h.0 (λ whole. h.1.0) h.1.1)
     c.initn.ensures.refused c.initn.ensures.cause
-    (λ e same cause. stays f s s' (Initn n) (Refused e.kind) (same_struct c.args.arena.now c.initn.new.arena c.args.place same)
+    (λ e same cause. stays f s s' (Initn n) (Refused e.kind) (refused_undone e.kind) (same_struct c.args.arena.now c.initn.new.arena c.args.place same)
     (λ whole old. initn_refused (field_set f) (target_in whole f s) n (typed_of f).type old e.kind refl cause))

@@ -2,7 +2,8 @@
 use Rattle.std.proofs.lemmas.Result.{err_from_is_err_and}
 use Rattle.std.specs.Prelude.{string_bytes}
 use Rattle.capnp_arena.specs.Message.{message_tree}
-use Rattle.capnp_run.proofs.Starts.{is_root, not_printed, not_written, whole}
+use Rattle.capnp_run.proofs.Starts.{is_root, not_printed, whole}
+use Rattle.capnp_run.specs.Messages.{new_root}
 use Rattle.capnp_run.proofs.message.whole_new.Goals as goal
 
 pub print_root-requires-clause-here : goal.print_root-requires-clause-here
@@ -16,8 +17,7 @@ returns-in_err-replies-clause-cause c =
 pub returns-in_err-bytes-clause-cause : goal.returns-in_err-bytes-clause-cause
 returns-in_err-bytes-clause-cause c =
     let p = err_from_is_err_and c.from_residual-in_err-bytes.result c.from_residual-in_err-bytes.ensures.1 in
-    rw (p.1, p.2) (not_written c.args.schema _ (message_tree c.run_new.new.message) c.args.calls.now c.in_ok-replies.replies.items c.in_ok-replies.ensures.run c.args.indented _
-    c.in_err-bytes.ensures.kinds c.in_err-bytes.ensures.refused)
+    rw (p.1, p.2) (λ other. absurd (other c.in_err-bytes.ensures.kind))
 
 pub returns-in_err-print_root-clause-cause : goal.returns-in_err-print_root-clause-cause
 returns-in_err-print_root-clause-cause c =
@@ -28,4 +28,4 @@ returns-in_err-print_root-clause-cause c =
 pub returns-clause-whole : goal.returns-clause-whole
 returns-clause-whole c =
     whole c.args.schema _ (message_tree c.run_new.new.message) c.args.calls.now c.in_ok-replies.replies.items c.in_ok-bytes.bytes.items c.args.indented (string_bytes c.args.out.now) (string_bytes c.print_root.new.out)
-    c.in_ok-replies.ensures.run c.in_ok-bytes.ensures.held.1 c.in_ok-bytes.ensures.bytes c.in_ok-bytes.ensures.read c.in_ok-print_root.ensures.printed
+    c.in_ok-replies.ensures.run (new_root c.args.schema) c.in_ok-replies.ensures.made c.in_ok-bytes.ensures.held.1 c.in_ok-bytes.ensures.bytes c.in_ok-bytes.ensures.read c.in_ok-print_root.ensures.printed

@@ -1,0 +1,32 @@
+-- At a struct or at a list.
+use Rattle.std.proofs.Common.{[], refl, subst, sym}
+use Rattle.capnp_arena.specs.Segment.{segment}
+use Rattle.capnp_schema.specs.StructHandles.{number_of, set_of}
+use Rattle.capnp_call.proofs.Walking.{walks_end}
+use Rattle.capnp_call.specs.Hops.{Goes, IsAt, IsAtStruct, placed}
+use Rattle.capnp_call.specs.declared.hop.At.{At}
+use Rattle.capnp_call.proofs.walk.end_at.Goals as goal
+
+pub end_at_struct-requires : goal.end_at_struct-requires
+end_at_struct-requires c =
+    let here : IsAtStruct c.in-Struct.place c.in-Struct.schema (segment c.args.arena.now) = subst (λ (x : At). IsAt x (segment c.args.arena.now)) c.in-Struct.is c.requires in
+    record { ready = record { stands = here.stands; standing = record { planted = here.planted; room = here.room } } }
+
+pub end_in_list-requires : goal.end_in_list-requires
+end_in_list-requires c = subst (λ (x : At). IsAt x (segment c.args.arena.now)) c.in-List.is c.requires
+
+pub returns-in-Struct : goal.returns-in-Struct
+returns-in-Struct c =
+    let p = c.in-Struct.place in
+    let schema = c.in-Struct.schema in
+    let old = segment c.args.arena.now in
+    let new = segment c.end_at_struct.new.arena in
+    subst (λ (x : At). Goes x old [] c.args.end c.end_at_struct.result new) (sym c.in-Struct.is)
+    (record {
+      walks = walks_end (set_of schema) (number_of schema) [] c.args.end (placed old p) c.end_at_struct.result (placed new p) refl c.end_at_struct.ensures.ends;
+      planted = c.end_at_struct.ensures.planted;
+      changes = c.end_at_struct.ensures.changes;
+    })
+
+pub returns-in-List : goal.returns-in-List
+returns-in-List c = subst (λ (x : At). Goes x (segment c.args.arena.now) [] c.args.end c.end_in_list.result (segment c.end_in_list.new.arena)) (sym c.in-List.is) c.end_in_list.ensures
