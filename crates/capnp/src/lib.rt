@@ -99,7 +99,7 @@ pub mod run {
 pub mod schema {
     pub use capnp_schema::schema::{
         Annotation, AnnotationList, EnumSchema, Enumerant, EnumerantList, Field, FieldList,
-        FieldSubset, StructSchema,
+        FieldSubset, GroupWalk, StructSchema,
     };
     pub use capnp_schema::set::SchemaSet;
     pub use capnp_schema::{builtin, meta, plan, record, value};

@@ -145,9 +145,7 @@ module _ (schema : StructSchema) (path : List PathStep) (indented : Bool) (bytes
 
 -- a text that was put into an empty string, and a line break
 pub line_of : (o : Out) (text line : List ℕ) → IsAppended [] o text → line ≡ text ++ 10 ∷ [] → IsLineOf o line
-line_of (Ok (Some bytes)) text line put e = (text, put, e)
-line_of (Ok None) text line put e = (text, tt {0}, e)
-line_of (Err kind) text line put e = absurd put
+line_of o text line (bytes, h, is) e = (bytes, h, e ∙ ap (λ (z : List ℕ). z ++ 10 ∷ []) is)
 
 -- what each refusal says, of what it said before
 pub each_refusal : {T E : Type 0} {P Q : E → Type 0} (r : Result T E) → ((e : E) → P e → Q e) → IfErr r P → IfErr r Q

@@ -1,21 +1,17 @@
 -- What a patch did, by what its last step answered.
-use Rattle.std.specs.Prelude.{ℕ, suc, ◌≡◌, ◌≤◌, ◌^◌, List, Bool, true, Option}
-use Rattle.std.proofs.Common.{subst, sym, inr, Result, Ok, Err, IfErr, IfOk, OnOk}
+use Rattle.std.specs.Prelude.{ℕ, ◌≡◌, ◌≢◌, List, Bool, true, Option}
+use Rattle.std.proofs.Common.{subst, sym, Result, Ok, Err, IfErr, IfOk, OnOk}
 use Rattle.capnp_device.specs.declared.error.Error.{Error}
-use Rattle.capnp_device.specs.declared.error.ErrorKind.TheVariants.{TooLarge, WriteFailed}
+use Rattle.capnp_device.specs.declared.error.ErrorKind.TheVariants.{OutOfMemory, WriteFailed}
 use Rattle.capnp_wire.specs.Tree.{Tree}
-use Rattle.capnp_wire.specs.Words.{words_of}
 use Rattle.capnp_schema.specs.declared.schema.structs.StructSchema.{StructSchema}
 use Rattle.capnp_call.specs.declared.calls.Call.{Call}
 use Rattle.capnp_call.specs.declared.calls.Reply.{Reply}
 use Rattle.capnp_show_engine.specs.Show.{IsOfMessage, IsRead}
-use Rattle.capnp_patch.specs.Patches.{IsBeginning, IsCutShort, IsLeftOfBytes, IsLeftOfNew, IsMade, IsNotPatched, IsOutput, IsPatchCutShort, IsPatched, IsTooLarge, is_kept}
+use Rattle.capnp_patch.specs.Patches.{IsBeginning, IsCutShort, IsLeftOfBytes, IsLeftOfNew, IsMade, IsNotPatched, IsOutput, IsPatchCutShort, IsPatched, is_kept}
 use Rattle.capnp_patch.specs.declared.engine.Report.{Report}
 
 module _ (schema : StructSchema) (calls : List Call) (keep_going : Bool) (replies : List Reply) (root : Tree) (r : Result Report Error) where
-  abbrev WasLarge : Type 0
-  WasLarge = IfErr r (λ e. IsOfMessage e.kind → (e.kind ≡ TooLarge) × (is_kept keep_going replies ≡ true) × (2 ^ 29 ≤ suc (words_of root)))
-
   abbrev WasBegun : (written written' : Option (List ℕ)) → Type 0
   WasBegun written written' = IfErr r (λ e. e.kind ≡ WriteFailed → (is_kept keep_going replies ≡ true) × IsBeginning root written written')
 
@@ -34,17 +30,12 @@ module _ (schema : StructSchema) (calls : List Call) (keep_going : Bool) (replie
             (record { bytes = bytes; read = read; root = root; leaves = leaves; output = out })
         go (Err e) same out = tt {0}
 
-    pub not_patched : WasLarge → IfErr r (λ e. IsOfMessage e.kind → IsNotPatched schema calls keep_going e.kind left left')
+    pub not_patched : IfErr r (λ e. e.kind ≢ OutOfMemory → e.kind ≡ WriteFailed) → IfErr r (λ e. IsOfMessage e.kind → IsNotPatched e.kind left left')
     not_patched h = go r h
       where
-        go : (r : Result Report Error) → IfErr r (λ e. IsOfMessage e.kind → (e.kind ≡ TooLarge) × (is_kept keep_going replies ≡ true) × (2 ^ 29 ≤ suc (words_of root))) →
-            IfErr r (λ e. IsOfMessage e.kind → IsNotPatched schema calls keep_going e.kind left left')
+        go : (r : Result Report Error) → IfErr r (λ e. e.kind ≢ OutOfMemory → e.kind ≡ WriteFailed) → IfErr r (λ e. IsOfMessage e.kind → IsNotPatched e.kind left left')
         go (Ok x) h = tt {0}
-        go (Err e) h = λ m. record {
-          bytes = bytes;
-          read = read;
-          cause = inr (record { kind_is = (h m).0; replies = replies; kept = (h m).1; root = root; left = leaves; large = (h m).2 });
-        }
+        go (Err e) h = λ m. absurd (m.2 (h m.0))
 
     pub cut_short : (written written' : Option (List ℕ)) → WasBegun written written' →
         IfErr r (λ e. e.kind ≡ WriteFailed → IsPatchCutShort schema calls keep_going left left' written written')
@@ -66,14 +57,6 @@ module _ (schema : StructSchema) (calls : List Call) (keep_going : Bool) (replie
         go (Ok x) e out =
             subst (λ (rs : List Reply). IsMade schema calls keep_going rs written written') (sym e) (record { root = root; leaves = leaves; output = out })
         go (Err e) same out = tt {0}
-
-    pub not_made : WasLarge → IfErr r (λ e. IsOfMessage e.kind → IsTooLarge keep_going (IsLeftOfNew schema calls) e.kind)
-    not_made h = go r h
-      where
-        go : (r : Result Report Error) → IfErr r (λ e. IsOfMessage e.kind → (e.kind ≡ TooLarge) × (is_kept keep_going replies ≡ true) × (2 ^ 29 ≤ suc (words_of root))) →
-            IfErr r (λ e. IsOfMessage e.kind → IsTooLarge keep_going (IsLeftOfNew schema calls) e.kind)
-        go (Ok x) h = tt {0}
-        go (Err e) h = λ m. record { kind_is = (h m).0; replies = replies; kept = (h m).1; root = root; left = leaves; large = (h m).2 }
 
     pub made_short : (written written' : Option (List ℕ)) → WasBegun written written' →
         IfErr r (λ e. e.kind ≡ WriteFailed → IsCutShort keep_going (IsLeftOfNew schema calls) written written')

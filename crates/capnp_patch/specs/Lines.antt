@@ -4,13 +4,12 @@ use Rattle.capnp_device.specs.ErrorNumber.{error_name, error_number}
 use Rattle.capnp_device.specs.declared.error.ErrorKind.{ErrorKind}
 use Rattle.capnp_schema.specs.Types.{BoolType, DataType, IntType, TextType, UIntType, VoidType}
 use Rattle.capnp_records.specs.Record as value
-use Rattle.capnp_records.specs.Text.{Out, said, text_of}
+use Rattle.capnp_records.specs.Text.{IsText, Out, said, text_of}
 use Rattle.capnp_dynamic_readers.specs.Shown.{no_schemas}
 use Rattle.capnp_call.specs.declared.calls.Plain.{Plain}
 use Rattle.capnp_call.specs.declared.calls.Plain.TheVariants as plain
 use Rattle.capnp_call.specs.declared.calls.Reply.{Reply}
 use Rattle.capnp_call.specs.declared.calls.Reply.TheVariants as reply
-use Rattle.capnp_show_engine.specs.Show.{IsText}
 
 -- ---- what was asked ----
 

@@ -1,22 +1,20 @@
 -- What calls on a message's root, or on an empty one, leave, and what is written of it.
-use Rattle.std.specs.Prelude.{ℕ, suc, ◌≡◌, ◌⊎◌, ◌<◌, ◌≤◌, ◌^◌, List, [], ◌∷◌, ◌++◌, Bool, true, false, not, ◌||◌, length, take, Option, Some, None, Ok, Err}
+use Rattle.std.specs.Prelude.{ℕ, suc, ◌≡◌, ◌⊎◌, ◌<◌, ◌^◌, List, [], ◌∷◌, ◌++◌, Bool, true, false, not, ◌||◌, length, take, Option, Some, None, Ok, Err}
 use Rattle.std.specs.Io.KnownBytes.{Appends}
 use Rattle.capnp_device.specs.declared.error.ErrorKind.{ErrorKind}
-use Rattle.capnp_device.specs.declared.error.ErrorKind.TheVariants.{TooLarge}
 use Rattle.capnp_wire.specs.Depth.{IsShallow}
-use Rattle.capnp_wire.specs.Edits.{extended, struct_in}
+use Rattle.capnp_wire.specs.Edits.{struct_in}
 use Rattle.capnp_wire.specs.Encoding.{message_of}
 use Rattle.capnp_wire.specs.Stream.{message_tree_of}
 use Rattle.capnp_wire.specs.Tree.{StructTree, Tree}
 use Rattle.capnp_wire.specs.Words.{words_of}
-use Rattle.capnp_schema.specs.Plan.{brand_size}
 use Rattle.capnp_schema.specs.StructHandles.{number_of, set_of}
 use Rattle.capnp_schema.specs.declared.schema.structs.StructSchema.{StructSchema}
 use Rattle.capnp_records.specs.Record.{Record}
 use Rattle.capnp_call.specs.declared.calls.Call.{Call}
 use Rattle.capnp_call.specs.declared.calls.Reply.{Reply}
 use Rattle.capnp_call.specs.declared.calls.Reply.TheVariants as reply
-use Rattle.capnp_run.specs.Messages.{LeavesRun, new_record, new_root, root_refusal}
+use Rattle.capnp_run.specs.Messages.{LeavesRun, copy_of, new_record, new_root, root_refusal}
 use Rattle.capnp_run.specs.Runs.{Makes, RestsWhole, record_in}
 use Rattle.capnp_show_engine.specs.Show.{IsRead}
 
@@ -36,8 +34,7 @@ IsLeftOfNew schema calls replies t = IsLeft schema (new_record schema) (new_root
 
 -- what they leave of a copy of a root, and of the root of the first message in these bytes
 abbrev pub IsLeftOfCopy : StructSchema → Tree → List Call → List Reply → Tree → Type 0
-IsLeftOfCopy schema root calls replies t =
-    IsLeft schema (record_in schema (struct_in root)) (extended (brand_size (set_of schema) (number_of schema)) (struct_in root)) calls replies t
+IsLeftOfCopy schema root calls replies t = IsLeft schema (record_in schema (struct_in root)) (copy_of schema root) calls replies t
 
 pub record IsLeftOfBytes (schema : StructSchema) (bytes : List ℕ) (calls : List Call) (replies : List Reply) (t : Tree) : Type 0 where
   pub root : Tree
@@ -92,20 +89,11 @@ pub record IsPatched (schema : StructSchema) (calls : List Call) (keep_going : B
   pub leaves : IsLeftOfBytes schema bytes calls replies root
   pub output : IsOutput (is_kept keep_going replies) root written written'
 
--- what the calls left is to be written, and its message is too large
-pub record IsTooLarge (keep_going : Bool) (leaves : List Reply → Tree → Type 0) (kind : ErrorKind) : Type 0 where
-  pub kind_is : kind ≡ TooLarge
-  pub replies : List Reply
-  pub kept : is_kept keep_going replies ≡ true
-  pub root : Tree
-  pub left : leaves replies root
-  pub large : 2 ^ 29 ≤ suc (words_of root)
-
--- some bytes were read to the end, of whose root no copy is made, or whose message would be too large after the calls
-pub record IsNotPatched (schema : StructSchema) (calls : List Call) (keep_going : Bool) (kind : ErrorKind) (left left' : Option (List ℕ)) : Type 0 where
+-- some bytes were read to the end, of whose root no copy is made
+pub record IsNotPatched (kind : ErrorKind) (left left' : Option (List ℕ)) : Type 0 where
   pub bytes : List ℕ
   pub read : IsRead bytes left left'
-  pub cause : IsUnread bytes kind ⊎ IsTooLarge keep_going (IsLeftOfBytes schema bytes calls) kind
+  pub cause : IsUnread bytes kind
 
 -- what the calls left is to be written, and a beginning of it was
 pub record IsCutShort (keep_going : Bool) (leaves : List Reply → Tree → Type 0) (written written' : Option (List ℕ)) : Type 0 where

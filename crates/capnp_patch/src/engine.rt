@@ -1,12 +1,11 @@
 //! Calls on a message that is read, or on an empty root, and the message that they leave, written.
-ghost use Rattle.std.specs.Prelude.{[], ◌≡◌, ◌≢◌, ◌≤◌, ◌^◌, suc, true, false, IfErr, IfOk, OnErr, OnOk, map, string_bytes};
+ghost use Rattle.std.specs.Prelude.{[], ◌≡◌, ◌≢◌, true, false, IfErr, IfOk, OnErr, OnOk, map, string_bytes};
 ghost use Rattle.capnp_device.specs.Device.{HasFailed};
-ghost use Rattle.capnp_device.specs.declared.error.ErrorKind.TheVariants.{OutOfMemory, ReadFailed, TooLarge, WriteFailed};
-ghost use Rattle.capnp_wire.specs.Words.{words_of};
+ghost use Rattle.capnp_device.specs.declared.error.ErrorKind.TheVariants.{OutOfMemory, ReadFailed, WriteFailed};
 ghost use Rattle.capnp_arena.specs.Message.{IsMessage, message_tree};
 ghost use Rattle.capnp_schema.specs.StructHandles.{IsStruct};
 ghost use Rattle.capnp_patch.specs.Lines.{AreTold};
-ghost use Rattle.capnp_patch.specs.Patches.{IsBeginning, IsCutShort, IsLeftOfBytes, IsLeftOfNew, IsMade, IsNotPatched, IsOutput, IsPatchCutShort, IsPatched, IsTooLarge, IsUnread, any_refused, is_kept, is_refused};
+ghost use Rattle.capnp_patch.specs.Patches.{IsBeginning, IsCutShort, IsLeftOfBytes, IsLeftOfNew, IsMade, IsNotPatched, IsOutput, IsPatchCutShort, IsPatched, IsUnread, any_refused, is_kept, is_refused};
 ghost use Rattle.capnp_show_engine.specs.Refusals.{IsOfRead};
 ghost use Rattle.capnp_show_engine.specs.Show.{IsOfMessage};
 
@@ -74,8 +73,7 @@ fn put_message<W: Sink>(
         (W.written sink.old) (W.written sink.new)) }
     ensures unwritten { is_kept keep_going replies.now ≡ false → sink.new ≡ sink.old }
     ensures kept { OnErr result (is_kept keep_going replies.now ≡ true) }
-    ensures large { IfErr result (λ e. IsOfMessage e.kind → (e.kind ≡ TooLarge)
-        × (2 ^ 29 ≤ suc (words_of (message_tree message.now)))) }
+    ensures cause { IfErr result (λ e. e.kind ≢ OutOfMemory → e.kind ≡ WriteFailed) }
     ensures unread { IfErr result (λ e. e.kind ≢ ReadFailed) }
     ensures failed { IfErr result (λ e. e.kind ≡ WriteFailed → HasFailed (W.failures sink.old) (W.failures sink.new)) }
     ensures beginning { IfErr result (λ e. e.kind ≡ WriteFailed
@@ -112,9 +110,7 @@ fn finish<W: Sink>(
     ensures output { OnOk result (IsOutput (is_kept keep_going replies.items) (message_tree message.now)
         (W.written sink.old) (W.written sink.new)) }
     ensures unwritten { IfOk result (λ r. is_kept keep_going r.replies.items ≡ false → sink.new ≡ sink.old) }
-    ensures large { IfErr result (λ e. IsOfMessage e.kind
-        → (e.kind ≡ TooLarge) × (is_kept keep_going replies.items ≡ true)
-        × (2 ^ 29 ≤ suc (words_of (message_tree message.now)))) }
+    ensures cause { IfErr result (λ e. e.kind ≢ OutOfMemory → e.kind ≡ WriteFailed) }
     ensures unread { IfErr result (λ e. e.kind ≢ ReadFailed) }
     ensures failed { IfErr result (λ e. e.kind ≡ WriteFailed → HasFailed (W.failures sink.old) (W.failures sink.new)) }
     ensures beginning { IfErr result (λ e. e.kind ≡ WriteFailed
@@ -135,9 +131,8 @@ fn finish<W: Sink>(
 ///
 /// Refused with `ReadFailed` or `WriteFailed` where a call of the source or the sink failed, with `OutOfMemory`, as the
 /// message is (`Truncated`, `TooManySegments`), with `BadPointer`, `TooDeep` or `CapabilityPointer` where a pointer in
-/// it can't be followed, by the first of these in preorder, with `WrongPointerKind` where its root is a list, and with
-/// `TooLarge` where a message of 2^29 words or more would be written. After `WriteFailed` a proper beginning of the
-/// message was written, after any other refusal nothing.
+/// it can't be followed, by the first of these in preorder, and with `WrongPointerKind` where its root is a list. After
+/// `WriteFailed` a proper beginning of the message was written, after any other refusal nothing.
 pub fn patch<R: Source, W: Sink>(
     alloc: Global,
     schema: StructSchema<'_>,
@@ -155,7 +150,7 @@ pub fn patch<R: Source, W: Sink>(
         (string_bytes r.lines)) }
     ensures unwritten { IfOk result (λ r. is_kept keep_going r.replies.items ≡ false → sink.new ≡ sink.old) }
     ensures refused { IfErr result (λ e. IsOfMessage e.kind
-        → IsNotPatched schema.entry calls.now keep_going e.kind (R.left source.old) (R.left source.new)) }
+        → IsNotPatched e.kind (R.left source.old) (R.left source.new)) }
     ensures read_failed { IfErr result (λ e. e.kind ≡ ReadFailed
         → HasFailed (R.failures source.old) (R.failures source.new)) }
     ensures write_failed { IfErr result (λ e. e.kind ≡ WriteFailed
@@ -173,9 +168,8 @@ pub fn patch<R: Source, W: Sink>(
 /// Makes calls on an empty root of the schema, all zero and null, and writes the message that they leave, as `patch`.
 /// The schema is one of an accepted set.
 ///
-/// Refused with `WriteFailed` where a call of the sink failed, with `OutOfMemory`, and with `TooLarge` where a message
-/// of 2^29 words or more would be written. After `WriteFailed` a proper beginning of the message was written, after any
-/// other refusal nothing.
+/// Refused with `WriteFailed` where a call of the sink failed, and with `OutOfMemory`. After `WriteFailed` a proper
+/// beginning of the message was written, after any other refusal nothing.
 pub fn new_message<W: Sink>(
     alloc: Global,
     schema: StructSchema<'_>,
@@ -190,8 +184,7 @@ pub fn new_message<W: Sink>(
     ensures lines { IfOk result (λ r. AreTold 0 (map string_bytes words.now) r.replies.items []
         (string_bytes r.lines)) }
     ensures unwritten { IfOk result (λ r. is_kept keep_going r.replies.items ≡ false → sink.new ≡ sink.old) }
-    ensures refused { IfErr result (λ e. IsOfMessage e.kind
-        → IsTooLarge keep_going (IsLeftOfNew schema.entry calls.now) e.kind) }
+    ensures refused { IfErr result (λ e. e.kind ≢ OutOfMemory → e.kind ≡ WriteFailed) }
     ensures unread { IfErr result (λ e. e.kind ≢ ReadFailed) }
     ensures write_failed { IfErr result (λ e. e.kind ≡ WriteFailed
         → HasFailed (W.failures sink.old) (W.failures sink.new)) }

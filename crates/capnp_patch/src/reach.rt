@@ -101,11 +101,11 @@ pub fn read_path<'a>(value: Value<'a>, path: &[Step<'_>]) -> Result<Value<'a>>
     ensures typed { (set : Schemas) → IsOf set (type_seen value.entry) value.entry
         → IfOk result (λ v. IsOf set (type_seen v) v) }
 {
-    match path {
-        [] => Ok(value),
-        [step, rest @ ..] => {
-            let part = read_step(value, *step, rest.is_empty())?;
-            read_path(part, rest)
-        }
+    let mut reached = value;
+    let mut left = path.len();
+    for step in path {
+        left -= 1;
+        reached = read_step(reached, *step, left == 0)?;
     }
+    Ok(reached)
 }

@@ -1,8 +1,10 @@
 -- What is made of a request, from what its parts answer.
 use Rattle.std.specs.Prelude.{IfErr, IfOk, Result, Ok, Err}
+use Rattle.std.specs.Prelude.{Option, ◌<◌, length, take}
+use Rattle.std.specs.Io.KnownBytes.{Appends}
 use Rattle.std.proofs.Common.{ℕ, ◌+◌, ◌≡◌, ◌≢◌, ◌≤◌, ◌^◌, ◌∙◌, ap, arith, inr, subst, sym, Bool, List}
 use Rattle.capnp_device.specs.declared.error.Error.{Error}
-use Rattle.capnp_device.specs.declared.error.ErrorKind.TheVariants.{SizePastFormat, TooLarge, UnknownKind}
+use Rattle.capnp_device.specs.declared.error.ErrorKind.TheVariants.{SizePastFormat, UnknownKind}
 use Rattle.capnp_wire.specs.Standing.{struct_levels, struct_of}
 use Rattle.capnp_wire.specs.declared.struct_reader.StructReader.{StructReader}
 use Rattle.capnp_schema.specs.Accepted.{IsAccepted}
@@ -21,9 +23,11 @@ use Rattle.capnp_request.specs.Order.{and_said, conversion_of}
 use Rattle.capnp_request.specs.Reading.{request_said}
 use Rattle.capnp_request.specs.Terms.{Said}
 use Rattle.capnp_request.specs.declared.conversion.Converted.{Converted}
-use Rattle.capnp_set_writer.specs.Limits.{HasFormless, IsPastFormat, message_words}
+use Rattle.capnp_set_writer.specs.Limits.{HasFormless, IsPastFormat}
 use Rattle.capnp_set_writer.specs.Writes.{IsWriteRefusal}
-use Rattle.capnp_set_engine.specs.Convert.{HasNoSet, IsUnwritten, conversion_from, request_record, set_in}
+use Rattle.capnp_show_engine.specs.Command.{IsTold}
+use Rattle.capnp_show_engine.specs.Show.{IsRead}
+use Rattle.capnp_set_engine.specs.Convert.{HasNoSet, IsCutShort, IsSetOf, IsUnwritten, IsWritten, conversion_from, request_record, set_in}
 
 -- what each answer says, of what it said before
 pub each_answer : {T E : Type 0} {P Q : T → Type 0} (r : Result T E) → ((a : T) → P a → Q a) → IfOk r P → IfOk r Q
@@ -54,16 +58,40 @@ unfolding conversion_from
 conversion_is strict r root x e h = ap (λ (y : Record). and_said (request_said y) (λ t. conversion_of t strict)) (sym e) ∙ h
 
 -- a set of a conversion's lists that is accepted and can't be written
-pub unwritable : (c : Converted) (s : Schemas) (e : Error) → s ≡ set_in c → IsAccepted (set_in c) → (e.kind ≢ TooLarge → IsWriteRefusal e.kind) →
-    (e.kind ≡ UnknownKind → HasFormless s) → (e.kind ≡ SizePastFormat → IsPastFormat s) → (e.kind ≡ TooLarge → 2 ^ 29 ≤ message_words s) → IsUnwritten c e
-unwritable c s e same accepted cause formless past large = inr (record {
+pub unwritable : (c : Converted) (s : Schemas) (e : Error) → s ≡ set_in c → IsAccepted (set_in c) → IsWriteRefusal e.kind →
+    (e.kind ≡ UnknownKind → HasFormless s) → (e.kind ≡ SizePastFormat → IsPastFormat s) → IsUnwritten c e
+unwritable c s e same accepted cause formless past = inr (record {
   accepted = accepted;
   cause = cause;
   formless = λ k. subst HasFormless same (formless k);
   past = λ k. subst IsPastFormat same (past k);
-  large = λ k. subst (λ x. 2 ^ 29 ≤ message_words x) same (large k);
 })
 
 -- the same bytes have no set
 pub in_bytes : (strict : Bool) (a b : List ℕ) (e : Error) → a ≡ b → HasNoSet strict a e → HasNoSet strict b e
 in_bytes strict a b e same h = subst (λ (x : List ℕ). HasNoSet strict x e) same h
+
+-- the message of the bytes that were read was written whole, or a beginning of it
+module _ (strict : Bool) (left left' written written' : Option (List ℕ)) (bytes seen message sent lines : List ℕ) (read : IsRead bytes left left') (same : seen ≡ bytes) (whole : sent ≡ message) (set : IsSetOf strict seen message lines) where
+  pub all_written : (told told' : Option (List ℕ)) (failures failures' : ℕ) → Appends written written' sent → IsTold lines told told' failures failures' → IsWritten strict left left' written written' told told' failures failures'
+  all_written told told' failures failures' wrote notes = record {
+    bytes = bytes;
+    read = read;
+    message = message;
+    lines = lines;
+    set = subst (λ (b : List ℕ). IsSetOf strict b message lines) same set;
+    wrote = subst (λ (b : List ℕ). Appends written written' b) whole wrote;
+    notes = notes;
+  }
+
+  pub some_written : ((n : ℕ) × (n < length sent) × Appends written written' (take n sent)) → IsCutShort strict left left' written written'
+  some_written begun = record {
+    bytes = bytes;
+    read = read;
+    message = message;
+    lines = lines;
+    set = subst (λ (b : List ℕ). IsSetOf strict b message lines) same set;
+    count = begun.0;
+    proper = subst (λ (b : List ℕ). begun.0 < length b) whole begun.1;
+    wrote = subst (λ (b : List ℕ). Appends written written' (take begun.0 b)) whole begun.2;
+  }

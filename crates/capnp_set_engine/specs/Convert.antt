@@ -1,9 +1,9 @@
 -- What is written and told for the bytes of a stream.
-use Rattle.std.specs.Prelude.{ℕ, ◌≡◌, ◌≢◌, ◌⊎◌, ◌<◌, ◌≤◌, ◌^◌, List, Bool, length, take, Option, Ok, Err}
+use Rattle.std.specs.Prelude.{ℕ, ◌≡◌, ◌⊎◌, ◌<◌, List, Bool, length, take, Option, Ok, Err}
 use Rattle.std.specs.Io.KnownBytes.{Appends}
 use Rattle.capnp_device.specs.declared.error.Error.{Error}
 use Rattle.capnp_device.specs.declared.error.ErrorKind.{ErrorKind}
-use Rattle.capnp_device.specs.declared.error.ErrorKind.TheVariants.{SizePastFormat, TooLarge, UnknownKind}
+use Rattle.capnp_device.specs.declared.error.ErrorKind.TheVariants.{SizePastFormat, UnknownKind}
 use Rattle.capnp_wire.specs.Stream.{message_tree_of}
 use Rattle.capnp_wire.specs.Tree.{StructTree}
 use Rattle.capnp_schema.specs.Accepted.{IsAccepted}
@@ -19,8 +19,8 @@ use Rattle.capnp_request.specs.Reading.{request_said}
 use Rattle.capnp_request.specs.Refusals.{IsRefusal}
 use Rattle.capnp_request.specs.Terms.{Said}
 use Rattle.capnp_request.specs.declared.conversion.Converted.{Converted}
-use Rattle.capnp_set_writer.specs.Limits.{HasFormless, IsPastFormat, message_words}
-use Rattle.capnp_set_writer.specs.Message.{IsReadAsSet}
+use Rattle.capnp_set_writer.specs.Limits.{HasFormless, IsPastFormat}
+use Rattle.capnp_set_writer.specs.Message.{IsReadAsSet, set_message}
 use Rattle.capnp_set_writer.specs.Writes.{IsWriteRefusal}
 use Rattle.capnp_sets.specs.Message.{root_struct}
 use Rattle.capnp_show_engine.specs.Command.{IsTold}
@@ -47,9 +47,10 @@ set_in c = seen_schemas c.nodes.items c.brands.items c.enums.items
 abbrev pub lines_in : Converted → List ℕ
 lines_in c = note_lines (set_in c) c.notes.items
 
--- a message and lines are those of a conversion: its lists are accepted, and the message is read as them
+-- a message and lines are those of a conversion: its lists are accepted, and the message is theirs and is read as them
 pub record IsMessageOf (c : Converted) (message lines : List ℕ) : Type 0 where
   pub accepted : IsAccepted (set_in c)
+  pub written : message ≡ set_message (set_in c)
   pub read : IsReadAsSet (set_in c) message
   pub noted : lines ≡ lines_in c
 
@@ -72,13 +73,12 @@ abbrev pub IsUnread : (strict : Bool) → List ℕ → ErrorKind → Type 0
 IsUnread strict bytes kind =
     (root_struct (message_tree_of bytes) ≡ Err kind) ⊎ ((root : StructTree) × IsRoot bytes root × (conversion_from strict root ≡ Err kind) × IsRefusal strict kind)
 
--- an accepted set has no message: a value of it has no kind in the form, or a text, list or the whole is too long
+-- an accepted set has no message: a value of it has no kind in the form, or a text or list is too long
 pub record IsUnwritable (set : Schemas) (kind : ErrorKind) : Type 0 where
   pub accepted : IsAccepted set
-  pub cause : kind ≢ TooLarge → IsWriteRefusal kind
+  pub cause : IsWriteRefusal kind
   pub formless : kind ≡ UnknownKind → HasFormless set
   pub past : kind ≡ SizePastFormat → IsPastFormat set
-  pub large : kind ≡ TooLarge → 2 ^ 29 ≤ message_words set
 
 -- no message is made of a conversion: its lists break a rule, or they are accepted and have none
 abbrev pub IsUnwritten : Converted → Error → Type 0

@@ -1,5 +1,5 @@
 -- The text of a message's root is that of the record that its struct's reader stands on.
-use Rattle.std.proofs.Common.{arith, ap, ap₂, ◌∙◌, ◌≡◌, ℕ, ◌+◌, Bool, List, true, false, [], ◌∷◌, ◌++◌, Some, None, Result, Ok, Err}
+use Rattle.std.proofs.Common.{arith, ap, ap₂, ◌∙◌, ◌≡◌, ℕ, ◌+◌, Bool, List, true, false, [], ◌∷◌, ◌++◌, Result, Ok, Err}
 use Rattle.capnp_device.specs.declared.error.ErrorKind.{ErrorKind}
 use Rattle.capnp_wire.specs.Reading.{as_struct}
 use Rattle.capnp_wire.specs.Tree as tree
@@ -99,6 +99,4 @@ text_seen set b indented bytes root x n h s r whole tree_is levels_are read leve
 
 -- a text that was put into an empty string, and a line break
 pub line_of : (o : Out) (text line : List ℕ) → IsAppended [] o text → line ≡ text ++ 10 ∷ [] → IsLineOf o line
-line_of (Ok (Some bytes)) text line put e = (text, put, e)
-line_of (Ok None) text line put e = (text, tt {0}, e)
-line_of (Err kind) text line put e = absurd put
+line_of o text line (bytes, h, is) e = (bytes, h, e ∙ ap (λ (z : List ℕ). z ++ 10 ∷ []) is)

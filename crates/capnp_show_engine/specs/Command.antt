@@ -63,6 +63,11 @@ abbrev pub IsInside : Asked → Type 0
 IsInside (BuiltIn r) = r.brand < length builtin.brands
 IsInside (InFile r) = ⊤
 
+-- the paths that a task names
+abbrev pub paths_of : Task → List (List ℕ)
+paths_of (built_in r) = []
+paths_of (in_file r) = r.path ∷ []
+
 -- ---- what is told where nothing is shown ----
 
 -- how the program is called

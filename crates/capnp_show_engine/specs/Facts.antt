@@ -1,2 +1,3 @@
 -- Facts of texts, with their proofs: what lemmas of crates above cite.
 pub mod TextSound
+pub mod Opening

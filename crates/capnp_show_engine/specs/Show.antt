@@ -1,5 +1,5 @@
 -- What is shown for the bytes of a stream.
-use Rattle.std.specs.Prelude.{ℕ, ◌≡◌, ◌≢◌, ⊤, List, [], ◌∷◌, ◌++◌, ◌<◌, Bool, true, false, length, take, Option, Some, None, Result, Ok, Err}
+use Rattle.std.specs.Prelude.{ℕ, ◌≡◌, ◌≢◌, List, [], ◌∷◌, ◌++◌, ◌<◌, Bool, true, false, length, take, Option, Result, Ok, Err}
 use Rattle.std.specs.Io.KnownBytes.{Appends, Consumes, IsAtEnd}
 use Rattle.capnp_wire.specs.Tree.{Tree}
 use Rattle.capnp_wire.specs.Stream.{message_tree_of}
@@ -11,7 +11,7 @@ use Rattle.capnp_records.specs.Default.{read_of}
 use Rattle.capnp_records.specs.Record as value
 use Rattle.capnp_records.specs.Record.{Left, Record, Value}
 use Rattle.capnp_records.specs.Run.{root_type}
-use Rattle.capnp_records.specs.Text.{Out, text_of}
+use Rattle.capnp_records.specs.Text.{IsText, Out, text_of}
 
 -- a struct that is read under a group's brand is a group, whose text takes no level
 abbrev pub struct_or_group : (is_group : Bool) → Record → Value
@@ -34,12 +34,6 @@ root_text set b indented (Err kind) = Err kind
 -- the text of the first message of a stream, or why there is none
 abbrev pub shown_text : Schemas → ℕ → (indented : Bool) → List ℕ → Out
 shown_text set b indented bytes = root_text set b indented (message_tree_of bytes)
-
--- a text by its bytes: one that holds UTF-8 past ASCII has some, and a refusal none
-abbrev pub IsText : Out → List ℕ → Type 0
-IsText (Ok (Some text)) bytes = bytes ≡ text
-IsText (Ok None) bytes = ⊤
-IsText (Err kind) bytes = ⊥
 
 -- a text and a line break
 abbrev pub IsLineOf : Out → List ℕ → Type 0

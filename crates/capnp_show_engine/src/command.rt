@@ -6,8 +6,8 @@ ghost use Rattle.capnp_device.specs.Device.{HasFailed};
 ghost use Rattle.capnp_device.specs.declared.error.Error.{Error as Refusal};
 ghost use Rattle.capnp_device.specs.declared.error.ErrorKind.TheVariants.{OutOfMemory, ReadFailed, WriteFailed};
 ghost use Rattle.capnp_schema.specs.Builtin.{builtin};
-ghost use Rattle.capnp_show_engine.specs.Command.{IsInside, IsTold, Task, asked, refusal_line, task_of, usage_line, words_after_name};
-ghost use Rattle.capnp_show_engine.specs.Opened.{IsNotOpened, IsOpened, IsSomeFile};
+ghost use Rattle.capnp_show_engine.specs.Command.{IsInside, IsTold, Task, asked, paths_of, refusal_line, task_of, usage_line, words_after_name};
+ghost use Rattle.capnp_show_engine.specs.Opened.{AsksAmong, IsNotOpened, IsOpened, IsSomeFile};
 ghost use Rattle.capnp_show_engine.specs.Run.{IsRefusedTask, IsShownTask};
 ghost use Rattle.capnp_show_engine.specs.Show.{IsCutShort, IsOfMessage, IsRefused, IsShown};
 
@@ -68,6 +68,7 @@ fn show_built_in<R: Source, W: Sink>(
 }
 
 /// Shows what was asked for.
+#[tactic(auto, using(crate::specs::Facts::Opening::none_asked))]
 fn show_asked<O: Opener, R: Source, W: Sink>(
     alloc: Global,
     opener: &mut O,
@@ -84,6 +85,7 @@ fn show_asked<O: Opener, R: Source, W: Sink>(
         (source.new ≡ source.old) (task_of asked.entry) e (R.left source.old) (R.left source.new)
         (W.written sink.old) (W.written sink.new) (R.failures source.old) (R.failures source.new)
         (W.failures sink.old) (W.failures sink.new)) }
+    ensures opened { AsksAmong O.opens (paths_of (task_of asked.entry)) opener.old opener.new }
     ensures nothing { IfErr result (λ e. e.kind ≢ WriteFailed → sink.new ≡ sink.old) }
 {
     match asked {
@@ -103,7 +105,7 @@ fn show_asked<O: Opener, R: Source, W: Sink>(
 /// Runs the program on its words over what opens files, and answers its exit status: 0 where the text was written, 1
 /// where `show` or `show_with_file` was refused, with its number on `errors`, and 2 for other words, with the usage on
 /// `errors`, before any input is read or a file is opened. Where a line can't be written to `errors`, the status is the
-/// same.
+/// same. No file is opened but that which the words name.
 pub fn command_over<O: Opener, R: Source, W: Sink, F: Sink>(
     opener: &mut O,
     alloc: Global,
@@ -117,6 +119,7 @@ pub fn command_over<O: Opener, R: Source, W: Sink, F: Sink>(
     ensures known_words { result ≡ 2 → asked words.now ≡ None }
     ensures unread { result ≡ 2 → source.new ≡ source.old }
     ensures unopened { result ≡ 2 → opener.new ≡ opener.old }
+    ensures named { (t : Task) → asked words.now ≡ Some t → AsksAmong O.opens (paths_of t) opener.old opener.new }
     ensures unwritten { result ≡ 2 → sink.new ≡ sink.old }
     ensures usage { result ≡ 2 → IsTold usage_line (F.written errors.old) (F.written errors.new)
         (F.failures errors.old) (F.failures errors.new) }

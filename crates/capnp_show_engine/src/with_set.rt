@@ -1,10 +1,10 @@
 //! Messages that are shown under a struct of a set that comes as a message itself.
-ghost use Rattle.std.specs.Prelude.{◌≡◌, ◌≢◌, ◌<◌, ◌⊎◌, ⊤, IfErr, IfSome, OnOk, length};
+ghost use Rattle.std.specs.Prelude.{[], ◌∷◌, ◌≡◌, ◌≢◌, ◌<◌, ◌⊎◌, ⊤, IfErr, IfSome, OnOk, length};
 ghost use Rattle.capnp_device.specs.Device.{HasFailed};
 ghost use Rattle.capnp_device.specs.declared.error.ErrorKind.TheVariants.{ReadFailed, WriteFailed};
 ghost use Rattle.capnp_schema.specs.ByName.{brand_asked};
 ghost use Rattle.capnp_schema.specs.Entries.{lists_seen};
-ghost use Rattle.capnp_show_engine.specs.Opened.{IsNotOpened, IsOpened};
+ghost use Rattle.capnp_show_engine.specs.Opened.{AsksAmong, IsNotOpened, IsOpened};
 ghost use Rattle.capnp_show_engine.specs.Show.{IsCutShort, IsOfMessage, IsShown};
 ghost use Rattle.capnp_show_engine.specs.WithSet.{HasReadFailed, IsRefusedWithSet, IsStructNamed};
 
@@ -97,6 +97,7 @@ pub fn show_with_file<O: Opener, R: Source, W: Sink>(
         IsStructNamed name.now (O.File.left f) (O.File.left g) (λ set b.
         IsCutShort set b indented (R.left source.old) (R.left source.new) (W.written sink.old) (W.written sink.new)))) }
     ensures nothing { IfErr result (λ e. e.kind ≢ WriteFailed → sink.new ≡ sink.old) }
+    ensures opened { AsksAmong O.opens (path.now ∷ []) opener.old opener.new }
     ensures first { (source.new ≡ source.old) ⊎ IsOpened O.opens opener.old opener.new path.now (λ f g.
         IsStructNamed name.now (O.File.left f) (O.File.left g) (λ _ _. ⊤)) }
 {

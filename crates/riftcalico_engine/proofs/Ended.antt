@@ -10,73 +10,11 @@ use Rattle.capnp_call.specs.declared.calls.Reply.{Reply}
 use Rattle.capnp_show_engine.specs.Show.{IsOfMessage}
 use Rattle.riftcalico_engine.specs.Command.{CallsTask, GetTask, Given, in_lines, in_words}
 use Rattle.capnp_patch.specs.Gets.{IsGetCutShort, IsNotGot}
-use Rattle.capnp_patch.specs.Patches.{IsCutShort, IsLeftOfNew, IsMade, IsNotPatched, IsPatchCutShort, IsPatched, IsTooLarge}
+use Rattle.capnp_patch.specs.Patches.{IsCutShort, IsLeftOfNew, IsMade, IsNotPatched, IsPatchCutShort, IsPatched}
 use Rattle.riftcalico_engine.specs.Ended.{AreGiven, AreUnder, IsCallsOutcome, IsCallsRefused, IsGetEnded, IsGetOutcome, IsNewEnded, IsNoTextOutcome, IsPatchEnded, IsPath, Streams}
 use Rattle.riftcalico_engine.specs.Roots.{HasReadFailed, HasSetFailed, IsNamed, IsRootOr, Opens}
 use Rattle.riftcalico_engine.specs.Words.{AreCalls, AreSaid, AreWords, HasGivenFailed}
 use Rattle.riftcalico_engine.specs.declared.run.Outcome.{Outcome}
-
--- an ending by cases, as the endings of patches and new messages are
-abbrev pub EndsSo : (Outcome → Type 0) → (Error → Type 0) → Result Outcome Error → Type 0
-EndsSo so refused (Ok o) = so o
-EndsSo so refused (Err e) = refused e
-
-module _ {O F : Type 0} (opens : Opens O F) (holds : F → Option (List ℕ)) (fails : F → ℕ) (old new : O) (untouched unwritten : Type 0) (t : CallsTask) (failed : Type 0)
-    (done : StructSchema → List Call → List Reply → Type 0) (refused : Error → StructSchema → List Call → Type 0) (cut : StructSchema → List Call → Type 0) (writes writes' : ℕ) where
-  abbrev Ends : Result Outcome Error → Type 0
-  Ends r = EndsSo
-      (λ o. IsNoTextOutcome opens holds fails old new untouched unwritten t.calls o
-      ⊎ AreGiven opens holds old t.calls (λ mid words. IsCallsOutcome opens holds mid new t.root words t.keep_going untouched unwritten done o))
-      (λ e. IsCallsRefused opens holds fails old new untouched unwritten t e failed (refused e) cut writes writes') r
-
-  -- the words were given
-  pub ends_with_words : (mid : O) (words : List (List ℕ)) → AreWords opens holds old mid t.calls words → (r : Result Outcome Error) →
-      IfOk r (IsCallsOutcome opens holds mid new t.root words t.keep_going untouched unwritten done) →
-      IfErr r (λ e. IsOfMessage e.kind → AreSaid words (λ texts. IsRootOr opens holds mid new t.root e untouched (λ set b. AreCalls set b texts (refused e)))) →
-      IfErr r (λ e. e.kind ≡ ReadFailed → (HasSetFailed opens fails mid new t.root.file × untouched) ⊎ failed) →
-      IfErr r (λ e. e.kind ≡ WriteFailed → HasFailed writes writes') →
-      IfErr r (λ e. e.kind ≡ WriteFailed → AreUnder opens holds mid new t.root words cut) →
-      IfErr r (λ e. e.kind ≢ WriteFailed → unwritten) → Ends r
-  ends_with_words mid words read (Ok o) outcome a b c d e = inr (record { mid = mid; words = words; read = read; are_so = outcome })
-  ends_with_words mid words read (Err x) outcome a b c d e = record {
-    message = λ h. record { mid = mid; words = words; read = read; are_so = a h };
-    read_failed = λ h. inr (record { mid = mid; words = words; read = read; are_so = b h });
-    write_failed = c;
-    beginning = λ h. record { mid = mid; words = words; read = read; are_so = d h };
-    nothing = e;
-  }
-
-  -- their file could not be read
-  pub ends_without : (e : Error) → (e.kind ≢ ReadFailed → e.kind ≡ OutOfMemory) → (e.kind ≡ ReadFailed → HasGivenFailed opens fails old new t.calls) → untouched → unwritten →
-      Ends (Err e)
-  ends_without e kinds lines u w = record {
-    message = λ h. absurd (h.0 (kinds h.1));
-    read_failed = λ h. inl (lines h, u);
-    write_failed = λ h. absurd (no_write (kinds (λ r. no_read (sym r ∙ h))) h);
-    beginning = λ h. absurd (no_write (kinds (λ r. no_read (sym r ∙ h))) h);
-    nothing = λ h. w;
-  }
-    where
-      no_read : ReadFailed ≡ WriteFailed → ⊥
-      no_read q = cc
-
-      no_write : e.kind ≡ OutOfMemory → e.kind ≡ WriteFailed → ⊥
-      no_write p q = none (sym p ∙ q)
-        where
-          none : OutOfMemory ≡ WriteFailed → ⊥
-          none q = cc
-
--- what a get ended with, from what is said of its answer
-module _ {O F : Type 0} (opens : Opens O F) (holds : F → Option (List ℕ)) (fails : F → ℕ) (old new : O) (untouched unwritten : Type 0) (s : Streams) (t : GetTask) where
-  pub get_ended : (r : Result Outcome Error) →
-      IfOk r (IsGetOutcome opens holds fails old new untouched unwritten s t) →
-      IfErr r (λ e. IsOfMessage e.kind → IsPath t.path (λ path. IsRootOr opens holds old new t.root e untouched (λ set b. IsNotGot set b path t.indented e.kind s.left s.left'))) →
-      IfErr r (λ e. e.kind ≡ ReadFailed → HasReadFailed opens fails old new t.root.file untouched s.reads s.reads') →
-      IfErr r (λ e. e.kind ≡ WriteFailed → HasFailed s.writes s.writes') →
-      IfErr r (λ e. e.kind ≡ WriteFailed → IsPath t.path (λ path. IsNamed opens holds old new t.root (λ set b. IsGetCutShort set b path t.indented s.left s.left' s.written s.written'))) →
-      IfErr r (λ e. e.kind ≢ WriteFailed → unwritten) → IsGetEnded opens holds fails old new untouched unwritten s t r
-  get_ended (Ok o) outcome a b c d e = outcome
-  get_ended (Err x) outcome a b c d e = record { message = a; read_failed = b; write_failed = c; beginning = d; nothing = e }
 
 -- the words of a request, where they are the program's, and where they are the lines of its file
 pub words_given : {O F : Type 0} (opens : Opens O F) (holds : F → Option (List ℕ)) (old : O) (given : Given) (words : List (List ℕ)) → given ≡ in_words words →
@@ -93,8 +31,7 @@ module _ {O F : Type 0} (opens : Opens O F) (holds : F → Option (List ℕ)) (f
   -- what calls on an empty root ended with
   pub new_ended : (written written' : Option (List ℕ)) (writes writes' : ℕ) →
       IfOk r (IsCallsOutcome opens holds mid new t.root words t.keep_going ⊤ unwritten (λ schema calls replies. IsMade schema calls t.keep_going replies written written')) →
-      IfErr r (λ e. IsOfMessage e.kind → AreSaid words (λ texts. IsRootOr opens holds mid new t.root e ⊤ (λ set b. AreCalls set b texts (λ schema calls.
-      IsTooLarge t.keep_going (IsLeftOfNew schema calls) e.kind)))) →
+      IfErr r (λ e. IsOfMessage e.kind → AreSaid words (λ texts. IsRootOr opens holds mid new t.root e ⊤ (λ set b. ⊥))) →
       IfErr r (λ e. e.kind ≡ ReadFailed → HasSetFailed opens fails mid new t.root.file) →
       IfErr r (λ e. e.kind ≡ WriteFailed → HasFailed writes writes') →
       IfErr r (λ e. e.kind ≡ WriteFailed → AreUnder opens holds mid new t.root words (λ schema calls. IsCutShort t.keep_going (IsLeftOfNew schema calls) written written')) →
@@ -103,8 +40,7 @@ module _ {O F : Type 0} (opens : Opens O F) (holds : F → Option (List ℕ)) (f
     where
       go : (r : Result Outcome Error) →
           IfOk r (IsCallsOutcome opens holds mid new t.root words t.keep_going ⊤ unwritten (λ schema calls replies. IsMade schema calls t.keep_going replies written written')) →
-          IfErr r (λ e. IsOfMessage e.kind → AreSaid words (λ texts. IsRootOr opens holds mid new t.root e ⊤ (λ set b. AreCalls set b texts (λ schema calls.
-          IsTooLarge t.keep_going (IsLeftOfNew schema calls) e.kind)))) →
+          IfErr r (λ e. IsOfMessage e.kind → AreSaid words (λ texts. IsRootOr opens holds mid new t.root e ⊤ (λ set b. ⊥))) →
           IfErr r (λ e. e.kind ≡ ReadFailed → HasSetFailed opens fails mid new t.root.file) →
           IfErr r (λ e. e.kind ≡ WriteFailed → HasFailed writes writes') →
           IfErr r (λ e. e.kind ≡ WriteFailed → AreUnder opens holds mid new t.root words (λ schema calls. IsCutShort t.keep_going (IsLeftOfNew schema calls) written written')) →
@@ -123,7 +59,7 @@ module _ {O F : Type 0} (opens : Opens O F) (holds : F → Option (List ℕ)) (f
       IfOk r (IsCallsOutcome opens holds mid new t.root words t.keep_going untouched unwritten
       (λ schema calls replies. IsPatched schema calls t.keep_going replies s.left s.left' s.written s.written')) →
       IfErr r (λ e. IsOfMessage e.kind → AreSaid words (λ texts. IsRootOr opens holds mid new t.root e untouched (λ set b. AreCalls set b texts (λ schema calls.
-      IsNotPatched schema calls t.keep_going e.kind s.left s.left')))) →
+      IsNotPatched e.kind s.left s.left')))) →
       IfErr r (λ e. e.kind ≡ ReadFailed → HasReadFailed opens fails mid new t.root.file untouched s.reads s.reads') →
       IfErr r (λ e. e.kind ≡ WriteFailed → HasFailed s.writes s.writes') →
       IfErr r (λ e. e.kind ≡ WriteFailed → AreUnder opens holds mid new t.root words (λ schema calls. IsPatchCutShort schema calls t.keep_going s.left s.left' s.written s.written')) →
@@ -134,7 +70,7 @@ module _ {O F : Type 0} (opens : Opens O F) (holds : F → Option (List ℕ)) (f
           IfOk r (IsCallsOutcome opens holds mid new t.root words t.keep_going untouched unwritten
           (λ schema calls replies. IsPatched schema calls t.keep_going replies s.left s.left' s.written s.written')) →
           IfErr r (λ e. IsOfMessage e.kind → AreSaid words (λ texts. IsRootOr opens holds mid new t.root e untouched (λ set b. AreCalls set b texts (λ schema calls.
-          IsNotPatched schema calls t.keep_going e.kind s.left s.left')))) →
+          IsNotPatched e.kind s.left s.left')))) →
           IfErr r (λ e. e.kind ≡ ReadFailed → HasReadFailed opens fails mid new t.root.file untouched s.reads s.reads') →
           IfErr r (λ e. e.kind ≡ WriteFailed → HasFailed s.writes s.writes') →
           IfErr r (λ e. e.kind ≡ WriteFailed → AreUnder opens holds mid new t.root words (λ schema calls. IsPatchCutShort schema calls t.keep_going s.left s.left' s.written s.written')) →

@@ -5,4 +5,5 @@ pub mod Ended
 pub mod EndedTwo
 pub mod Known
 pub mod Outcomes
+pub mod PlainGiven
 pub mod Roots

@@ -1,5 +1,7 @@
 -- What holds of a call's answers.
-use Rattle.std.proofs.Common.{Result, Ok, Err, OnOk, OnErr, IfOk, IfErr}
+use Rattle.std.proofs.Common.{◌≡◌, ◌∙◌, Result, Ok, Err, OnOk, OnErr, IfOk, IfErr, sym}
+use Rattle.capnp_device.specs.declared.error.ErrorKind.{ErrorKind}
+use Rattle.capnp_device.specs.declared.error.ErrorKind.TheVariants.{NameNotFound, WriteFailed}
 
 -- what a success gives, of what it said before
 pub on_success : {T E P Q : Type 0} (r : Result T E) → (P → Q) → OnOk r P → OnOk r Q
@@ -23,3 +25,10 @@ both_succeed (Err e) f p q = tt {0}
 pub refusal_gives : {T E P Q : Type 0} (K : E → Type 0) (r : Result T E) → (P → Q) → OnErr r P → IfErr r (λ e. K e → Q)
 refusal_gives K (Ok x) f h = tt {0}
 refusal_gives K (Err e) f h = λ k. f h
+
+-- a name that no struct has is no failed write
+pub not_written : (kind : ErrorKind) → kind ≡ NameNotFound → kind ≡ WriteFailed → ⊥
+not_written kind named written = absurd (other (sym named ∙ written))
+  where
+    other : NameNotFound ≡ WriteFailed → ⊥
+    other e = cc

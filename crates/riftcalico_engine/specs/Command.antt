@@ -3,6 +3,7 @@ use Rattle.std.specs.Prelude.{ℕ, List, [], ◌∷◌, ◌++◌, Bool, true, fa
 use Rattle.std.specs.Option.{option_map}
 use Rattle.capnp_schema.specs.Builtin.{builtin}
 use Rattle.capnp_schema.specs.ByName.{brand_named}
+use Rattle.capnp_show_engine.specs.Opened.{file_paths}
 use Rattle.riftcalico_engine.specs.declared.request.Verb.{Verb}
 use Rattle.riftcalico_engine.specs.declared.request.Verb.TheVariants as verb
 
@@ -38,6 +39,21 @@ pub data Task : Type 0 where
   new_task : CallsTask → Task
   structs_task : (file : Option (List ℕ)) → Task
   fields_task : Root → Task
+
+-- the paths of files that a task names, in the order in which they are opened
+abbrev pub given_paths : Given → List (List ℕ)
+given_paths (in_words words) = []
+given_paths (in_lines path) = path ∷ []
+
+abbrev pub calls_paths : CallsTask → List (List ℕ)
+calls_paths t = given_paths t.calls ++ file_paths t.root.file
+
+abbrev pub paths_of : Task → List (List ℕ)
+paths_of (get_task t) = file_paths t.root.file
+paths_of (patch_task t) = calls_paths t
+paths_of (new_task t) = calls_paths t
+paths_of (structs_task file) = file_paths file
+paths_of (fields_task r) = file_paths r.file
 
 -- ---- how words ask for it ----
 

@@ -10,7 +10,7 @@ use Rattle.capnp_call.specs.declared.calls.Call.{Call}
 use Rattle.capnp_call.specs.declared.calls.Reply.{Reply}
 use Rattle.capnp_patch.specs.Gets.{IsGetCutShort, IsGot, IsNotGot}
 use Rattle.capnp_patch.specs.Lines.{AreTold}
-use Rattle.capnp_patch.specs.Patches.{IsCutShort, IsLeftOfNew, IsMade, IsNotPatched, IsPatchCutShort, IsPatched, IsTooLarge, any_refused, is_kept}
+use Rattle.capnp_patch.specs.Patches.{IsCutShort, IsLeftOfNew, IsMade, IsNotPatched, IsPatchCutShort, IsPatched, any_refused, is_kept}
 use Rattle.capnp_show_engine.specs.Command.{IsTold, refusal_line}
 use Rattle.capnp_show_engine.specs.Show.{IsOfMessage}
 use Rattle.capnp_words.specs.Calls.{CallText}
@@ -114,10 +114,10 @@ module _ {O F : Type 0} (opens : Opens O F) (holds : F → Option (List ℕ)) (f
   IsNoTextOutcome calls (Made report) = ⊥
   IsNoTextOutcome calls (Unreadable line) = IsNoText opens holds old new calls (string_bytes line) × untouched × unwritten
 
-  -- a task of calls was refused; `failed` says that a read of the message was
-  pub record IsCallsRefused (t : CallsTask) (e : Error) (failed : Type 0) (refused cut : StructSchema → List Call → Type 0) (writes writes' : ℕ) : Type 0 where
+  -- a task of calls was refused; `failed` says that a read of the message was, `refused` that the message was for what it is
+  pub record IsCallsRefused (t : CallsTask) (e : Error) (failed : Type 0) (refused : Schemas → ℕ → List CallText → Type 0) (cut : StructSchema → List Call → Type 0) (writes writes' : ℕ) : Type 0 where
     pub message : IsOfMessage e.kind → AreGiven opens holds old t.calls (λ mid words. AreSaid words (λ texts.
-        IsRootOr opens holds mid new t.root e untouched (λ set b. AreCalls set b texts refused)))
+        IsRootOr opens holds mid new t.root e untouched (λ set b. refused set b texts)))
     pub read_failed : e.kind ≡ ReadFailed → (HasGivenFailed opens fails old new t.calls × untouched)
         ⊎ AreGiven opens holds old t.calls (λ mid words. (HasSetFailed opens fails mid new t.root.file × untouched) ⊎ failed)
     pub write_failed : e.kind ≡ WriteFailed → HasFailed writes writes'
@@ -130,17 +130,16 @@ module _ {O F : Type 0} (opens : Opens O F) (holds : F → Option (List ℕ)) (f
       ⊎ AreGiven opens holds old t.calls (λ mid words. IsCallsOutcome opens holds mid new t.root words t.keep_going untouched unwritten
       (λ schema calls replies. IsPatched schema calls t.keep_going replies s.left s.left' s.written s.written') o)
   IsPatchEnded s t (Err e) = IsCallsRefused t e (HasFailed s.reads s.reads')
-      (λ schema calls. IsNotPatched schema calls t.keep_going e.kind s.left s.left')
+      (λ set b texts. AreCalls set b texts (λ schema calls. IsNotPatched e.kind s.left s.left'))
       (λ schema calls. IsPatchCutShort schema calls t.keep_going s.left s.left' s.written s.written') s.writes s.writes'
 
-  -- an empty root has no source
+  -- an empty root has no source, and no message that could be refused
   abbrev pub IsNewEnded : (written written' : Option (List ℕ)) → (writes writes' : ℕ) → CallsTask → Result Outcome Error → Type 0
   IsNewEnded written written' writes writes' t (Ok o) =
       IsNoTextOutcome t.calls o
       ⊎ AreGiven opens holds old t.calls (λ mid words. IsCallsOutcome opens holds mid new t.root words t.keep_going untouched unwritten
       (λ schema calls replies. IsMade schema calls t.keep_going replies written written') o)
-  IsNewEnded written written' writes writes' t (Err e) = IsCallsRefused t e ⊥
-      (λ schema calls. IsTooLarge t.keep_going (IsLeftOfNew schema calls) e.kind)
+  IsNewEnded written written' writes writes' t (Err e) = IsCallsRefused t e ⊥ (λ set b texts. ⊥)
       (λ schema calls. IsCutShort t.keep_going (IsLeftOfNew schema calls) written written') writes writes'
 
 -- ---- a task ----

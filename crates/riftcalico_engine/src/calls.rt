@@ -3,7 +3,6 @@ ghost use Rattle.std.specs.Prelude.{[], ◌≡◌, ◌+◌, ◌<◌, IfErr, IfOk
 ghost use Rattle.capnp_device.specs.declared.error.ErrorKind.TheVariants.{OutOfMemory};
 ghost use Rattle.capnp_schema.specs.StructHandles.{IsStruct, number_of, set_of};
 ghost use Rattle.capnp_records.specs.Run.{root_type};
-ghost use Rattle.capnp_slots.specs.SetValues.{source_of as given_source};
 ghost use Rattle.capnp_call.specs.Seen.{call_seen, op_seen, path_seen, step_seen};
 ghost use Rattle.capnp_words.specs.Calls.{call_at};
 ghost use Rattle.capnp_words.specs.Reads.{read_as};
@@ -14,9 +13,7 @@ ghost use Rattle.riftcalico_engine.specs.Calls.{call_read, op_given, placed, sou
 ghost use Rattle.riftcalico_engine.specs.CallsSeen.{all_seen, plain_source, read_call_seen};
 ghost use Rattle.riftcalico_engine.specs.Reads.{each_read};
 
-use capnp_base::text;
 use capnp_call::calls::{Call, Op, Step};
-use capnp_dynamic_readers::dynamic_value::Reader as Value;
 use capnp_schema::schema::StructSchema;
 use capnp_wire::error::Result;
 use capnp_words::call::{CallWord, WordOp, parse_call};
@@ -181,28 +178,8 @@ pub fn read_all_calls<'s, 'c>(
     Ok(Ok(calls))
 }
 
-/// A value as one that a set is given.
-fn value_given<'c>(value: &'c PlainValue<'_>) -> Value<'c>
-    ensures { given_source result ≡ plain_source value.now }
-{
-    match value {
-        PlainValue::Void => Value::Void,
-        PlainValue::Bool(truth) => Value::Bool(*truth),
-        PlainValue::Int8(number) => Value::Int8(*number),
-        PlainValue::Int16(number) => Value::Int16(*number),
-        PlainValue::Int32(number) => Value::Int32(*number),
-        PlainValue::Int64(number) => Value::Int64(*number),
-        PlainValue::UInt8(number) => Value::UInt8(*number),
-        PlainValue::UInt16(number) => Value::UInt16(*number),
-        PlainValue::UInt32(number) => Value::UInt32(*number),
-        PlainValue::UInt64(number) => Value::UInt64(*number),
-        PlainValue::Enum(value) => Value::Enum(*value),
-        PlainValue::Text(bytes) => Value::Text(text::Reader(bytes.as_slice())),
-        PlainValue::Data(bytes) => Value::Data(bytes.as_slice()),
-    }
-}
-
 /// What a call does, by its word, with the value that it sets.
+#[tactic(auto, using(crate::proofs::PlainGiven::plain_given))]
 fn op_of<'c>(op: &WordOp, value: &'c PlainValue<'_>) -> Op<'c>
     ensures { op_seen result ≡ op_given (plain_source value.now) (said.op_seen op.now) }
 {
@@ -210,7 +187,7 @@ fn op_of<'c>(op: &WordOp, value: &'c PlainValue<'_>) -> Op<'c>
         WordOp::Get => Op::Get,
         WordOp::Has => Op::Has,
         WordOp::Which => Op::Which,
-        WordOp::Set(_, _) => Op::Set(value_given(value)),
+        WordOp::Set(_, _) => Op::Set(value.as_reader()),
         WordOp::Init => Op::Init,
         WordOp::Initn(size) => Op::Initn(*size),
         WordOp::Clear => Op::Clear,

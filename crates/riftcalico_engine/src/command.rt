@@ -2,7 +2,8 @@
 ghost use Rattle.std.specs.Prelude.{◌≡◌, ◌≤◌, ⊤, None, Some, map, string_bytes};
 ghost use Rattle.capnp_show_engine.specs.Command.{IsTold};
 ghost use Rattle.capnp_show_engine.specs.declared.opener.FilesOpener.{FilesOpener as OfFiles};
-ghost use Rattle.riftcalico_engine.specs.Command.{Task, asked, usage_lines};
+ghost use Rattle.capnp_show_engine.specs.Opened.{AsksAmong};
+ghost use Rattle.riftcalico_engine.specs.Command.{Task, asked, paths_of, usage_lines};
 ghost use Rattle.riftcalico_engine.specs.Ended.{IsDone, status_of, streams, told_of};
 
 use crate::request::read_words;
@@ -51,7 +52,8 @@ fn tell_ended<F: Sink>(ended: &Result<Outcome>, errors: &mut F) -> u8
 /// Runs the program on its words over what opens files, and answers its exit status: 0 where a text or a message was
 /// written, 1 where a call was refused, or the set, the message or a device, and 2 for other words, with the usage on
 /// `errors`, or for a word that can't be read, which is told with its place. Replies to calls and refusals are told on
-/// `errors`, a line each. Where a line can't be written there, the status is the same.
+/// `errors`, a line each. Where a line can't be written there, the status is the same. No files are opened but those
+/// that the words name, first that of the calls.
 pub fn command_over<O: Opener, R: Source, W: Sink, F: Sink>(
     opener: &mut O,
     alloc: Global,
@@ -66,6 +68,8 @@ pub fn command_over<O: Opener, R: Source, W: Sink, F: Sink>(
         → IsTold usage_lines (F.written errors.old) (F.written errors.new)
         (F.failures errors.old) (F.failures errors.new) }
     ensures unopened { asked (map string_bytes words.now) ≡ None → opener.new ≡ opener.old }
+    ensures named { (t : Task) → asked (map string_bytes words.now) ≡ Some t
+        → AsksAmong O.opens (paths_of t) opener.old opener.new }
     ensures unread { result ≡ 2 → source.new ≡ source.old }
     ensures unwritten { result ≡ 2 → sink.new ≡ sink.old }
     ensures done { (t : Task) → asked (map string_bytes words.now) ≡ Some t

@@ -2,14 +2,16 @@
 ghost use Rattle.std.specs.Prelude.{[], ◌≡◌, ◌≢◌, ⊤, false, IfErr, IfOk, OnOk, length, map, string_bytes};
 ghost use Rattle.std.specs.Option.{option_map};
 ghost use Rattle.capnp_device.specs.Device.{HasFailed};
-ghost use Rattle.capnp_device.specs.declared.error.ErrorKind.TheVariants.{ReadFailed, WriteFailed};
+ghost use Rattle.capnp_device.specs.declared.error.ErrorKind.TheVariants.{OutOfMemory, ReadFailed, WriteFailed};
 ghost use Rattle.capnp_schema.specs.StructHandles.{IsStruct, number_of, set_of};
 ghost use Rattle.capnp_call.specs.Seen.{path_seen};
 ghost use Rattle.capnp_patch.specs.Lines.{AreTold};
 ghost use Rattle.capnp_patch.specs.Gets.{IsGetCutShort, IsGot, IsNotGot};
-ghost use Rattle.capnp_patch.specs.Patches.{IsCutShort, IsLeftOfNew, IsMade, IsNotPatched, IsPatchCutShort, IsPatched, IsTooLarge, is_kept};
+ghost use Rattle.capnp_patch.specs.Patches.{IsCutShort, IsLeftOfNew, IsMade, IsNotPatched, IsPatchCutShort, IsPatched, is_kept};
+ghost use Rattle.capnp_show_engine.specs.Opened.{AsksAmong, file_paths};
 ghost use Rattle.capnp_show_engine.specs.Show.{IsOfMessage};
 ghost use Rattle.capnp_words.specs.Seen.{call_seen};
+ghost use Rattle.riftcalico_engine.specs.Command.{calls_paths, paths_of};
 ghost use Rattle.riftcalico_engine.specs.Ended.{AreUnder, IsCallsOutcome, IsEnded, IsGetOutcome, IsNewEnded, IsPatchEnded, IsPath, IsUnderOutcome, streams};
 ghost use Rattle.riftcalico_engine.specs.Listed.{IsFieldsEnded, IsStructsEnded};
 ghost use Rattle.riftcalico_engine.specs.RequestSeen.{calls_task_of, get_task_of, root_of, task_of};
@@ -70,6 +72,7 @@ fn get_at<O: Opener, R: Source, W: Sink>(
         → IsNamed O.opens O.File.left opener.old opener.new (root_of root.entry) (λ set b.
         IsGetCutShort set b (path_seen path.now) indented (R.left source.old) (R.left source.new) (W.written sink.old)
         (W.written sink.new))) }
+    ensures opened { AsksAmong O.opens (file_paths (root_of root.entry).file) opener.old opener.new }
     ensures nothing { IfErr result (λ e. e.kind ≢ WriteFailed → sink.new ≡ sink.old) }
 {
     let set = read_set(alloc, opener, root.file)?;
@@ -78,6 +81,7 @@ fn get_at<O: Opener, R: Source, W: Sink>(
 }
 
 /// Shows the value at the path that a word says.
+#[tactic(auto, using(capnp_show_engine::specs::Facts::Opening::none_asked))]
 fn run_get<O: Opener, R: Source, W: Sink>(
     alloc: Global,
     opener: &mut O,
@@ -103,6 +107,7 @@ fn run_get<O: Opener, R: Source, W: Sink>(
         IsNamed O.opens O.File.left opener.old opener.new (root_of request.entry.root) (λ set b.
         IsGetCutShort set b path request.entry.indented (R.left source.old) (R.left source.new) (W.written sink.old)
         (W.written sink.new)))) }
+    ensures opened { AsksAmong O.opens (file_paths (root_of request.entry.root).file) opener.old opener.new }
     ensures nothing { IfErr result (λ e. e.kind ≢ WriteFailed → sink.new ≡ sink.old) }
 {
     match parse_path(alloc, request.path)? {
@@ -140,7 +145,7 @@ fn patch_read<R: Source, W: Sink>(
         (string_bytes r.lines)) }
     ensures unwritten { IfOk result (λ r. is_kept keep_going r.replies.items ≡ false → sink.new ≡ sink.old) }
     ensures refused { IfErr result (λ e. IsOfMessage e.kind → AreMadeOf (map read_call_seen read.now) (λ calls.
-        IsNotPatched schema.entry calls keep_going e.kind (R.left source.old) (R.left source.new))) }
+        IsNotPatched e.kind (R.left source.old) (R.left source.new))) }
     ensures read_failed { IfErr result (λ e. e.kind ≡ ReadFailed
         → HasFailed (R.failures source.old) (R.failures source.new)) }
     ensures write_failed { IfErr result (λ e. e.kind ≡ WriteFailed
@@ -173,7 +178,7 @@ fn patch_calls<R: Source, W: Sink>(
         (W.written sink.old) (W.written sink.new))) }
     ensures refused { IfErr result (λ e. IsOfMessage e.kind
         → AreCalls (set_of schema.entry) (number_of schema.entry) (map call_seen texts.now) (λ schema calls.
-        IsNotPatched schema calls keep_going e.kind (R.left source.old) (R.left source.new))) }
+        IsNotPatched e.kind (R.left source.old) (R.left source.new))) }
     ensures read_failed { IfErr result (λ e. e.kind ≡ ReadFailed
         → HasFailed (R.failures source.old) (R.failures source.new)) }
     ensures write_failed { IfErr result (λ e. e.kind ≡ WriteFailed
@@ -211,8 +216,7 @@ fn new_read<W: Sink>(
     ensures lines { IfOk result (λ r. AreTold 0 (map string_bytes words.now) r.replies.items []
         (string_bytes r.lines)) }
     ensures unwritten { IfOk result (λ r. is_kept keep_going r.replies.items ≡ false → sink.new ≡ sink.old) }
-    ensures refused { IfErr result (λ e. IsOfMessage e.kind → AreMadeOf (map read_call_seen read.now) (λ calls.
-        IsTooLarge keep_going (IsLeftOfNew schema.entry calls) e.kind)) }
+    ensures refused { IfErr result (λ e. e.kind ≢ OutOfMemory → e.kind ≡ WriteFailed) }
     ensures read_failed { IfErr result (λ e. e.kind ≢ ReadFailed) }
     ensures write_failed { IfErr result (λ e. e.kind ≡ WriteFailed
         → HasFailed (W.failures sink.old) (W.failures sink.new)) }
@@ -238,9 +242,7 @@ fn new_calls<W: Sink>(
     ensures outcome { IfOk result (IsUnderOutcome (set_of schema.entry) (number_of schema.entry)
         (map call_seen texts.now) (map string_bytes words.now) keep_going ⊤ (sink.new ≡ sink.old)
         (λ schema calls replies. IsMade schema calls keep_going replies (W.written sink.old) (W.written sink.new))) }
-    ensures refused { IfErr result (λ e. IsOfMessage e.kind
-        → AreCalls (set_of schema.entry) (number_of schema.entry) (map call_seen texts.now) (λ schema calls.
-        IsTooLarge keep_going (IsLeftOfNew schema calls) e.kind)) }
+    ensures refused { IfErr result (λ e. e.kind ≢ OutOfMemory → e.kind ≡ WriteFailed) }
     ensures read_failed { IfErr result (λ e. e.kind ≢ ReadFailed) }
     ensures write_failed { IfErr result (λ e. e.kind ≡ WriteFailed
         → HasFailed (W.failures sink.old) (W.failures sink.new)) }
@@ -281,7 +283,7 @@ fn patch_root<O: Opener, R: Source, W: Sink>(
     ensures refused { IfErr result (λ e. IsOfMessage e.kind
         → IsRootOr O.opens O.File.left opener.old opener.new (root_of root.entry) e (source.new ≡ source.old) (λ set b.
         AreCalls set b (map call_seen texts.now)
-        (λ schema calls. IsNotPatched schema calls keep_going e.kind (R.left source.old) (R.left source.new)))) }
+        (λ schema calls. IsNotPatched e.kind (R.left source.old) (R.left source.new)))) }
     ensures read_failed { IfErr result (λ e. e.kind ≡ ReadFailed
         → HasReadFailed O.opens O.File.failures opener.old opener.new (root_of root.entry).file
         (source.new ≡ source.old)
@@ -293,6 +295,7 @@ fn patch_root<O: Opener, R: Source, W: Sink>(
         AreCalls set b (map call_seen texts.now)
         (λ schema calls. IsPatchCutShort schema calls keep_going (R.left source.old) (R.left source.new)
         (W.written sink.old) (W.written sink.new)))) }
+    ensures opened { AsksAmong O.opens (file_paths (root_of root.entry).file) opener.old opener.new }
     ensures nothing { IfErr result (λ e. e.kind ≢ WriteFailed → sink.new ≡ sink.old) }
 {
     let set = read_set(alloc, opener, root.file)?;
@@ -301,6 +304,7 @@ fn patch_root<O: Opener, R: Source, W: Sink>(
 }
 
 /// Makes the calls that words say on a copy of a message.
+#[tactic(auto, using(capnp_show_engine::specs::Facts::Opening::none_asked))]
 fn patch_words<O: Opener, R: Source, W: Sink>(
     alloc: Global,
     opener: &mut O,
@@ -317,7 +321,7 @@ fn patch_words<O: Opener, R: Source, W: Sink>(
     ensures refused { IfErr result (λ e. IsOfMessage e.kind → AreSaid (map string_bytes words.now) (λ texts.
         IsRootOr O.opens O.File.left opener.old opener.new (root_of root.entry) e (source.new ≡ source.old)
         (λ set b. AreCalls set b texts (λ schema calls.
-        IsNotPatched schema calls keep_going e.kind (R.left source.old) (R.left source.new))))) }
+        IsNotPatched e.kind (R.left source.old) (R.left source.new))))) }
     ensures read_failed { IfErr result (λ e. e.kind ≡ ReadFailed
         → HasReadFailed O.opens O.File.failures opener.old opener.new (root_of root.entry).file
         (source.new ≡ source.old)
@@ -329,6 +333,7 @@ fn patch_words<O: Opener, R: Source, W: Sink>(
         (λ schema calls.
         IsPatchCutShort schema calls keep_going (R.left source.old) (R.left source.new) (W.written sink.old)
         (W.written sink.new))) }
+    ensures opened { AsksAmong O.opens (file_paths (root_of root.entry).file) opener.old opener.new }
     ensures nothing { IfErr result (λ e. e.kind ≢ WriteFailed → sink.new ≡ sink.old) }
 {
     match read_calls(alloc, words)? {
@@ -352,9 +357,7 @@ fn new_root<O: Opener, W: Sink>(
         IsUnderOutcome set b (map call_seen texts.now) (map string_bytes words.now) keep_going ⊤ (sink.new ≡ sink.old)
         (λ schema calls replies. IsMade schema calls keep_going replies (W.written sink.old) (W.written sink.new)) o)) }
     ensures refused { IfErr result (λ e. IsOfMessage e.kind
-        → IsRootOr O.opens O.File.left opener.old opener.new (root_of root.entry) e ⊤ (λ set b.
-        AreCalls set b (map call_seen texts.now)
-        (λ schema calls. IsTooLarge keep_going (IsLeftOfNew schema calls) e.kind))) }
+        → IsRootOr O.opens O.File.left opener.old opener.new (root_of root.entry) e ⊤ (λ set b. ⊥)) }
     ensures read_failed { IfErr result (λ e. e.kind ≡ ReadFailed
         → HasSetFailed O.opens O.File.failures opener.old opener.new (root_of root.entry).file) }
     ensures write_failed { IfErr result (λ e. e.kind ≡ WriteFailed
@@ -363,6 +366,7 @@ fn new_root<O: Opener, W: Sink>(
         → IsNamed O.opens O.File.left opener.old opener.new (root_of root.entry) (λ set b.
         AreCalls set b (map call_seen texts.now)
         (λ schema calls. IsCutShort keep_going (IsLeftOfNew schema calls) (W.written sink.old) (W.written sink.new)))) }
+    ensures opened { AsksAmong O.opens (file_paths (root_of root.entry).file) opener.old opener.new }
     ensures nothing { IfErr result (λ e. e.kind ≢ WriteFailed → sink.new ≡ sink.old) }
 {
     let set = read_set(alloc, opener, root.file)?;
@@ -371,6 +375,7 @@ fn new_root<O: Opener, W: Sink>(
 }
 
 /// Makes the calls that words say on an empty root.
+#[tactic(auto, using(capnp_show_engine::specs::Facts::Opening::none_asked))]
 fn new_words<O: Opener, W: Sink>(
     alloc: Global,
     opener: &mut O,
@@ -383,9 +388,7 @@ fn new_words<O: Opener, W: Sink>(
         (map string_bytes words.now) keep_going ⊤ (sink.new ≡ sink.old)
         (λ schema calls replies. IsMade schema calls keep_going replies (W.written sink.old) (W.written sink.new))) }
     ensures refused { IfErr result (λ e. IsOfMessage e.kind → AreSaid (map string_bytes words.now) (λ texts.
-        IsRootOr O.opens O.File.left opener.old opener.new (root_of root.entry) e ⊤
-        (λ set b. AreCalls set b texts (λ schema calls.
-        IsTooLarge keep_going (IsLeftOfNew schema calls) e.kind)))) }
+        IsRootOr O.opens O.File.left opener.old opener.new (root_of root.entry) e ⊤ (λ set b. ⊥))) }
     ensures read_failed { IfErr result (λ e. e.kind ≡ ReadFailed
         → HasSetFailed O.opens O.File.failures opener.old opener.new (root_of root.entry).file) }
     ensures write_failed { IfErr result (λ e. e.kind ≡ WriteFailed
@@ -394,6 +397,7 @@ fn new_words<O: Opener, W: Sink>(
         → AreUnder O.opens O.File.left opener.old opener.new (root_of root.entry) (map string_bytes words.now)
         (λ schema calls.
         IsCutShort keep_going (IsLeftOfNew schema calls) (W.written sink.old) (W.written sink.new))) }
+    ensures opened { AsksAmong O.opens (file_paths (root_of root.entry).file) opener.old opener.new }
     ensures nothing { IfErr result (λ e. e.kind ≢ WriteFailed → sink.new ≡ sink.old) }
 {
     match read_calls(alloc, words)? {
@@ -403,6 +407,7 @@ fn new_words<O: Opener, W: Sink>(
 }
 
 /// Makes calls on a copy of a message, whose words are the program's or the lines of a file.
+#[tactic(auto, using(capnp_show_engine::specs::Facts::Opening::none_asked, capnp_show_engine::specs::Facts::Opening::then_asked))]
 fn run_patch<O: Opener, R: Source, W: Sink>(
     alloc: Global,
     opener: &mut O,
@@ -410,11 +415,12 @@ fn run_patch<O: Opener, R: Source, W: Sink>(
     source: &mut R,
     sink: &mut W,
 ) -> Result<Outcome>
-    ensures { IsPatchEnded O.opens O.File.left O.File.failures opener.old opener.new (source.new ≡ source.old)
+    ensures ended { IsPatchEnded O.opens O.File.left O.File.failures opener.old opener.new (source.new ≡ source.old)
         (sink.new ≡ sink.old)
         (streams (R.left source.old) (R.left source.new) (W.written sink.old) (W.written sink.new)
         (R.failures source.old) (R.failures source.new) (W.failures sink.old) (W.failures sink.new))
         (calls_task_of request.entry) result }
+    ensures opened { AsksAmong O.opens (calls_paths (calls_task_of request.entry)) opener.old opener.new }
 {
     let keep_going = request.keep_going;
     match request.calls {
@@ -440,15 +446,17 @@ fn run_patch<O: Opener, R: Source, W: Sink>(
 }
 
 /// Makes calls on an empty root, whose words are the program's or the lines of a file.
+#[tactic(auto, using(capnp_show_engine::specs::Facts::Opening::none_asked, capnp_show_engine::specs::Facts::Opening::then_asked))]
 fn run_new<O: Opener, W: Sink>(
     alloc: Global,
     opener: &mut O,
     request: CallsRequest<'_>,
     sink: &mut W,
 ) -> Result<Outcome>
-    ensures { IsNewEnded O.opens O.File.left O.File.failures opener.old opener.new ⊤ (sink.new ≡ sink.old)
+    ensures ended { IsNewEnded O.opens O.File.left O.File.failures opener.old opener.new ⊤ (sink.new ≡ sink.old)
         (W.written sink.old) (W.written sink.new) (W.failures sink.old) (W.failures sink.new)
         (calls_task_of request.entry) result }
+    ensures opened { AsksAmong O.opens (calls_paths (calls_task_of request.entry)) opener.old opener.new }
 {
     let keep_going = request.keep_going;
     match request.calls {
@@ -468,9 +476,10 @@ fn run_structs<O: Opener, W: Sink>(
     file: Option<&str>,
     sink: &mut W,
 ) -> Result<Outcome>
-    ensures { IsStructsEnded O.opens O.File.left O.File.failures opener.old opener.new (sink.new ≡ sink.old)
+    ensures ended { IsStructsEnded O.opens O.File.left O.File.failures opener.old opener.new (sink.new ≡ sink.old)
         (W.written sink.old) (W.written sink.new)
         (W.failures sink.old) (W.failures sink.new) (option_map (λ f. f.now) file.entry) result }
+    ensures opened { AsksAmong O.opens (file_paths (option_map (λ f. f.now) file.entry)) opener.old opener.new }
 {
     match show_structs(alloc, opener, file, sink) {
         Ok(()) => Ok(Outcome::Shown),
@@ -485,9 +494,10 @@ fn run_fields<O: Opener, W: Sink>(
     root: NamedRoot<'_>,
     sink: &mut W,
 ) -> Result<Outcome>
-    ensures { IsFieldsEnded O.opens O.File.left O.File.failures opener.old opener.new (sink.new ≡ sink.old)
+    ensures ended { IsFieldsEnded O.opens O.File.left O.File.failures opener.old opener.new (sink.new ≡ sink.old)
         (W.written sink.old) (W.written sink.new)
         (W.failures sink.old) (W.failures sink.new) (root_of root.entry) result }
+    ensures opened { AsksAmong O.opens (file_paths (root_of root.entry).file) opener.old opener.new }
 {
     match show_fields(alloc, opener, root, sink) {
         Ok(()) => Ok(Outcome::Shown),
@@ -503,11 +513,12 @@ pub fn run<O: Opener, R: Source, W: Sink>(
     source: &mut R,
     sink: &mut W,
 ) -> Result<Outcome>
-    ensures { IsEnded O.opens O.File.left O.File.failures opener.old opener.new (source.new ≡ source.old)
+    ensures ended { IsEnded O.opens O.File.left O.File.failures opener.old opener.new (source.new ≡ source.old)
         (sink.new ≡ sink.old)
         (streams (R.left source.old) (R.left source.new) (W.written sink.old) (W.written sink.new)
         (R.failures source.old) (R.failures source.new) (W.failures sink.old) (W.failures sink.new))
         (task_of asked.entry) result }
+    ensures opened { AsksAmong O.opens (paths_of (task_of asked.entry)) opener.old opener.new }
 {
     match asked {
         Asked::Get(request) => run_get(alloc, opener, request, source, sink),

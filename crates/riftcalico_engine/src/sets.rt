@@ -5,7 +5,7 @@ ghost use Rattle.capnp_device.specs.declared.error.ErrorKind.TheVariants.{NameNo
 ghost use Rattle.capnp_schema.specs.ByName.{brand_asked};
 ghost use Rattle.capnp_schema.specs.Entries.{lists_seen};
 ghost use Rattle.capnp_schema.specs.StructHandles.{IsStruct, number_of, set_of};
-ghost use Rattle.capnp_show_engine.specs.Opened.{IsNotOpened, IsOpened};
+ghost use Rattle.capnp_show_engine.specs.Opened.{AsksAmong, IsNotOpened, IsOpened, file_paths};
 ghost use Rattle.capnp_show_engine.specs.Show.{IsOfMessage};
 ghost use Rattle.capnp_show_engine.specs.WithSet.{IsSetRead, IsSetRefused};
 ghost use Rattle.riftcalico_engine.specs.Roots.{HasSetFailed, IsNoSet, IsSetOf};
@@ -27,6 +27,7 @@ fn read_file<O: Opener>(alloc: Global, opener: &mut O, path: &str) -> Result<Sch
         → IsNoSet O.opens O.File.left opener.old opener.new (Some path.now) e) }
     ensures read_failed { IfErr result (λ e. e.kind ≡ ReadFailed
         → HasSetFailed O.opens O.File.failures opener.old opener.new (Some path.now)) }
+    ensures opened { AsksAmong O.opens (file_paths (Some path.now)) opener.old opener.new }
     ensures not_written { IfErr result (λ e. e.kind ≢ WriteFailed) }
 {
     let Ok(mut file) = opener.open(path) else {
@@ -39,7 +40,8 @@ fn read_file<O: Opener>(alloc: Global, opener: &mut O, path: &str) -> Result<Sch
 /// The set of a file, read and checked, or the built-in one.
 ///
 /// Refused with `ReadFailed` where the file can't be opened or a read of it failed, with `OutOfMemory`, and as
-/// `capnp_sets::message::read_message` refuses the set.
+/// `capnp_sets::message::read_message` refuses the set. No other file is opened.
+#[tactic(auto, using(capnp_show_engine::specs::Facts::Opening::none_asked))]
 pub fn read_set<O: Opener>(alloc: Global, opener: &mut O, file: Option<&str>) -> Result<SchemaSet>
     ensures set { IfOk result (λ set. IsSetOf O.opens O.File.left opener.old opener.new
         (option_map (λ f. f.now) file.entry) (lists_seen set)) }
@@ -47,6 +49,7 @@ pub fn read_set<O: Opener>(alloc: Global, opener: &mut O, file: Option<&str>) ->
         → IsNoSet O.opens O.File.left opener.old opener.new (option_map (λ f. f.now) file.entry) e) }
     ensures read_failed { IfErr result (λ e. e.kind ≡ ReadFailed
         → HasSetFailed O.opens O.File.failures opener.old opener.new (option_map (λ f. f.now) file.entry)) }
+    ensures opened { AsksAmong O.opens (file_paths (option_map (λ f. f.now) file.entry)) opener.old opener.new }
     ensures not_written { IfErr result (λ e. e.kind ≢ WriteFailed) }
 {
     match file {

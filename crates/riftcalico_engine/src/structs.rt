@@ -4,6 +4,7 @@ ghost use Rattle.std.specs.Option.{option_map};
 ghost use Rattle.capnp_device.specs.Device.{HasFailed};
 ghost use Rattle.capnp_device.specs.declared.error.ErrorKind.TheVariants.{ReadFailed, WriteFailed};
 ghost use Rattle.capnp_records.specs.Text.{said};
+ghost use Rattle.capnp_show_engine.specs.Opened.{AsksAmong, file_paths};
 ghost use Rattle.capnp_show_engine.specs.Show.{IsOfMessage};
 ghost use Rattle.capnp_structs.specs.Fields.{fields_text};
 ghost use Rattle.capnp_structs.specs.Names.{structs_text};
@@ -43,6 +44,7 @@ pub fn show_structs<O: Opener, W: Sink>(
     ensures beginning { IfErr result (λ e. e.kind ≡ WriteFailed
         → IsOfSet O.opens O.File.left opener.old opener.new (option_map (λ f. f.now) file.entry) (λ set.
         IsBegun (said (structs_text set)) (W.written sink.old) (W.written sink.new))) }
+    ensures opened { AsksAmong O.opens (file_paths (option_map (λ f. f.now) file.entry)) opener.old opener.new }
     ensures nothing { IfErr result (λ e. e.kind ≢ WriteFailed → sink.new ≡ sink.old) }
 {
     let set = read_set(alloc, opener, file)?;
@@ -70,6 +72,7 @@ pub fn show_fields<O: Opener, W: Sink>(
     ensures beginning { IfErr result (λ e. e.kind ≡ WriteFailed
         → IsNamed O.opens O.File.left opener.old opener.new (root_of root.entry) (λ set b.
         IsBegun (fields_text set b) (W.written sink.old) (W.written sink.new))) }
+    ensures opened { AsksAmong O.opens (file_paths (root_of root.entry).file) opener.old opener.new }
     ensures nothing { IfErr result (λ e. e.kind ≢ WriteFailed → sink.new ≡ sink.old) }
 {
     let set = read_set(alloc, opener, root.file)?;

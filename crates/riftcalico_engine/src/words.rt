@@ -1,7 +1,8 @@
 //! Words that are the lines of a file, and words that can't be read.
-ghost use Rattle.std.specs.Prelude.{[], ◌≡◌, ◌≢◌, ◌+◌, ◌<◌, ◌^◌, get_or, IfErr, IfOk, length, map, string_bytes};
+ghost use Rattle.std.specs.Prelude.{[], ◌∷◌, ◌≡◌, ◌≢◌, ◌+◌, ◌<◌, ◌^◌, get_or, IfErr, IfOk, length, map, string_bytes};
 ghost use Rattle.std.specs.Str.Lines.{lines};
 ghost use Rattle.capnp_device.specs.declared.error.ErrorKind.TheVariants.{OutOfMemory, ReadFailed};
+ghost use Rattle.capnp_show_engine.specs.Opened.{AsksAmong};
 ghost use Rattle.riftcalico_engine.specs.Command.{in_lines};
 ghost use Rattle.riftcalico_engine.specs.Reads.{line_at, unreadable_line};
 ghost use Rattle.riftcalico_engine.specs.Words.{HasGivenFailed, IsNoText, no_text_line};
@@ -74,6 +75,7 @@ pub fn read_lines<O: Opener>(
     ensures lines { IfOk result (λ r. AreLinesOf O.opens O.File.left opener.old opener.new path.now r) }
     ensures read_failed { IfErr result (λ e. e.kind ≡ ReadFailed
         → HasGivenFailed O.opens O.File.failures opener.old opener.new (in_lines path.now)) }
+    ensures opened { AsksAmong O.opens (path.now ∷ []) opener.old opener.new }
     ensures kinds { IfErr result (λ e. e.kind ≢ ReadFailed → e.kind ≡ OutOfMemory) }
 {
     let Ok(mut file) = opener.open(path) else {

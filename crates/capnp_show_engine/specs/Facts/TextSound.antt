@@ -10,10 +10,9 @@ use Rattle.capnp_records.specs.Default.{read_of}
 use Rattle.capnp_records.specs.Reading.{element_type}
 use Rattle.capnp_records.specs.Record as value
 use Rattle.capnp_records.specs.Record.{Active, MoreValues, NoUnion, NoValues, Parts, Record, Union, Unknown, Value, Values, is_there}
-use Rattle.capnp_records.specs.Text.{Inner, Layout, Member, Out, after, before, bracketed, decimals, deeper, element_texts, entering_fault, fault_kind, is_entered, item, item_if, later, line, list_text, member, more_text, part_text, record_text, rest_of, said, separator, shown, stands_before, struct_text, text_of, text_within, value_text, quoted}
+use Rattle.capnp_records.specs.Text.{Inner, Layout, Member, Out, after, before, bracketed, debug_pieces, decimals, deeper, element_texts, entering_fault, fault_kind, is_entered, item, item_if, later, line, list_text, member, more_text, part_text, record_text, rest_of, said, separator, shown, stands_before, struct_text, text_of, text_within, value_text, quoted}
 use Rattle.capnp_records.specs.Facts.ReadFaults.{AllSound, IsReadKind, RecordSound, Sound, UnionSound, read_of-sound}
 use Rattle.std.specs.Str.{is_utf8}
-use Rattle.std.specs.Fmt.{debug_str}
 
 abbrev pub OutSound : Out → Type 0
 OutSound (Ok text) = ⊤
@@ -136,7 +135,7 @@ fault-sound (Some inner) t kind h = h
 quoted-sound : (bs : List ℕ) → OutSound (quoted bs)
 quoted-sound bs = go (is_utf8 bs)
   where
-    go : (q : Bool) → OutSound (elim q as (λ _. Out) [ true ↦ Ok (debug_str bs) | false ↦ said (codes "<invalid utf-8: [" ++ decimals bs ++ codes "]>") ])
+    go : (q : Bool) → OutSound (elim q as (λ _. Out) [ true ↦ Ok (debug_pieces bs) | false ↦ said (codes "<invalid utf-8: [" ++ decimals bs ++ codes "]>") ])
     go true = tt
     go false = tt
 

@@ -1,17 +1,12 @@
 -- The calls on the empty root, and what was written, together.
 use Rattle.capnp_arena.specs.Message.{message_tree}
-use Rattle.capnp_patch.proofs.Patched.{made, made_short, not_made}
+use Rattle.capnp_patch.proofs.Patched.{made, made_short}
 use Rattle.capnp_patch.proofs.engine.new_message.Goals as goal
 
 pub returns-clause-made : goal.returns-clause-made
 returns-clause-made g c =
     made c.args.schema c.args.calls.now c.args.keep_going c.in_ok-replies.replies.items (message_tree c.run_new.new.message) c.finish.result
     (record { run = c.in_ok-replies.ensures.run; made = c.in_ok-replies.ensures.made; rests = c.in_ok-replies.ensures.rests }) _ _ c.finish.ensures.replies c.finish.ensures.output
-
-pub returns-clause-refused : goal.returns-clause-refused
-returns-clause-refused g c =
-    not_made c.args.schema c.args.calls.now c.args.keep_going c.in_ok-replies.replies.items (message_tree c.run_new.new.message) c.finish.result
-    (record { run = c.in_ok-replies.ensures.run; made = c.in_ok-replies.ensures.made; rests = c.in_ok-replies.ensures.rests }) c.finish.ensures.large
 
 pub returns-clause-beginning : goal.returns-clause-beginning
 returns-clause-beginning g c =

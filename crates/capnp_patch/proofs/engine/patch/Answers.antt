@@ -1,5 +1,4 @@
 -- What was read, the calls on it, and what was written, together.
-use Rattle.std.proofs.Common.{inl}
 use Rattle.std.proofs.lemmas.Result.{err_from_is_err_and}
 use Rattle.capnp_arena.specs.Message.{message_tree}
 use Rattle.capnp_patch.proofs.Patched.{cut_short, not_patched, patched}
@@ -11,7 +10,7 @@ returns-in_err-replies-clause-refused g c =
     (λ m. record {
       bytes = c.in_ok-bytes.bytes.items;
       read = (c.in_ok-bytes.ensures.whole, c.in_ok-bytes.ensures.to_end);
-      cause = inl (rw c.deref.ensures.value at c.in_err-replies.ensures.refused m.0);
+      cause = rw c.deref.ensures.value at c.in_err-replies.ensures.refused m.0;
     })
 
 pub returns-clause-patched : goal.returns-clause-patched
@@ -23,7 +22,7 @@ returns-clause-patched g c =
 pub returns-clause-refused : goal.returns-clause-refused
 returns-clause-refused g c =
     not_patched c.args.schema c.args.calls.now c.args.keep_going c.in_ok-replies.replies.items (message_tree c.run_bytes.new.message) c.finish.result
-    c.in_ok-bytes.bytes.items _ _ (c.in_ok-bytes.ensures.whole, c.in_ok-bytes.ensures.to_end) (rw c.deref.ensures.value at c.in_ok-replies.ensures.left) c.finish.ensures.large
+    c.in_ok-bytes.bytes.items _ _ (c.in_ok-bytes.ensures.whole, c.in_ok-bytes.ensures.to_end) (rw c.deref.ensures.value at c.in_ok-replies.ensures.left) c.finish.ensures.cause
 
 pub returns-clause-beginning : goal.returns-clause-beginning
 returns-clause-beginning g c =

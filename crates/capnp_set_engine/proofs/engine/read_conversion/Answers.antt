@@ -5,7 +5,7 @@ use Rattle.capnp_wire.specs.Standing.{levels_of, struct_of, tree_of}
 use Rattle.capnp_schema.specs.StructHandles.{number_of, set_of}
 use Rattle.capnp_sets.specs.Facts.RootRead.{root_entered}
 use Rattle.capnp_set_engine.proofs.Made.{conversion_is, each_answer, each_refusal, each_refusal_of, request_seen}
-use Rattle.capnp_set_engine.proofs.Refusals.{of_request, root_of_read}
+use Rattle.capnp_set_engine.proofs.Refusals.{of_request, root_of_read, stream_of_read}
 use Rattle.capnp_set_engine.proofs.engine.read_conversion.Goals as goal
 
 pub returns-clause-converted : goal.returns-clause-converted
@@ -31,3 +31,8 @@ pub returns-in_err-root-clause-of_no_device : goal.returns-in_err-root-clause-of
 returns-in_err-root-clause-of_no_device c =
     let p = err_from_is_err_and c.from_residual-in_err-root.result c.from_residual-in_err-root.ensures.1 in rw (p.1, p.2)
     (root_of_read (tree_of c.get_root.result) (levels_of c.get_root.result) _ c.get_root.ensures.levels c.in_err-root.ensures.read)
+
+pub returns-in_err-reader-clause-of_no_device : goal.returns-in_err-reader-clause-of_no_device
+returns-in_err-reader-clause-of_no_device c =
+    let p = err_from_is_err_and c.from_residual-in_err-reader.result c.from_residual-in_err-reader.ensures.1 in rw (p.1, p.2)
+    (stream_of_read c.args.bytes.now _ c.in_err-reader.ensures)

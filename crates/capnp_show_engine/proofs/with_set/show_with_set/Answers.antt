@@ -14,3 +14,18 @@ returns-clause-refused g c =
       is_so = f h;
     })))
     c.show.ensures.refused
+
+pub returns-clause-read_failed : goal.returns-clause-read_failed
+returns-clause-read_failed g c = each_refusal c.show.result (λ e f h. inr (f h)) c.show.ensures.read_failed
+
+pub returns-clause-beginning : goal.returns-clause-beginning
+returns-clause-beginning g c =
+    each_refusal c.show.result
+    (λ e f h. record {
+      set = lists_seen c.in_ok-set.set;
+      read = record { bytes = c.in_ok-bytes.bytes.items; read = (c.in_ok-bytes.ensures.whole, c.in_ok-bytes.ensures.to_end); stands = rw c.deref.ensures.value at c.in_ok-set.ensures.set; accepted = c.in_ok-set.ensures.accepted };
+      brand = c.in-Some.brand;
+      named = sym c.in-Some.ensures.found;
+      is_so = f h;
+    })
+    c.show.ensures.beginning

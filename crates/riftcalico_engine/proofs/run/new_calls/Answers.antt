@@ -11,10 +11,6 @@ returns-in-Ok-new_read-clause-outcome g c = (
   c.in-Ok-new_read.ensures.unwritten,
 )
 
-pub returns-in-Ok-clause-refused : goal.returns-in-Ok-clause-refused
-returns-in-Ok-clause-refused g c =
-    λ m. under_seen c.args.schema _ (map read_call_seen c.deref.result.now) (map read_call_seen c.in-Ok.read.items) _ (ap (map read_call_seen) c.deref.ensures.value) (search rules) (c.in-Err-new_read.ensures.refused m)
-
 pub returns-in-Ok-clause-beginning : goal.returns-in-Ok-clause-beginning
 returns-in-Ok-clause-beginning g c =
     λ m. under_seen c.args.schema _ (map read_call_seen c.deref.result.now) (map read_call_seen c.in-Ok.read.items) _ (ap (map read_call_seen) c.deref.ensures.value) (search rules) (c.in-Err-new_read.ensures.beginning m)

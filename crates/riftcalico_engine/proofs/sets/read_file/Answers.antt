@@ -1,4 +1,5 @@
 -- The file that was opened and read, and its set.
+use Rattle.capnp_show_engine.specs.Facts.Opening.{one_asked}
 use Rattle.riftcalico_engine.proofs.Outcomes.{both_succeed, each_refusal}
 use Rattle.riftcalico_engine.proofs.sets.read_file.Goals as goal
 
@@ -23,3 +24,12 @@ returns-clause-refused g c =
       is_so = record { bytes = c.in_ok-bytes.bytes.items; read = (c.in_ok-bytes.ensures.whole, c.in_ok-bytes.ensures.to_end); refused = rw c.deref.ensures.value at (h m.0) };
     })
     c.read_message.ensures.refused
+
+pub returns-in_default-clause-opened : goal.returns-in_default-clause-opened
+returns-in_default-clause-opened g c = one_asked g.O.Opener.opens c.args.path.now c.args.opener.now c.open.new.self c.open.result c.open.ensures
+
+pub returns-in_err-bytes-clause-opened : goal.returns-in_err-bytes-clause-opened
+returns-in_err-bytes-clause-opened g c = one_asked g.O.Opener.opens c.args.path.now c.args.opener.now c.open.new.self c.open.result c.open.ensures
+
+pub returns-clause-opened : goal.returns-clause-opened
+returns-clause-opened g c = one_asked g.O.Opener.opens c.args.path.now c.args.opener.now c.open.new.self c.open.result c.open.ensures

@@ -1,6 +1,8 @@
 -- The set that was read, and its text.
-use Rattle.std.proofs.Common.{string_bytes}
+use Rattle.std.proofs.Common.{[], string_bytes}
 use Rattle.capnp_schema.specs.Entries.{lists_seen}
+use Rattle.capnp_dynamic_readers.specs.Facts.Appended.{bytes_put}
+use Rattle.capnp_structs.specs.Names.{structs_text}
 use Rattle.riftcalico_engine.proofs.Outcomes.{on_success, refusal_gives}
 use Rattle.riftcalico_engine.proofs.structs.show_structs.Goals as goal
 
@@ -10,7 +12,7 @@ returns-clause-shown g c =
     (λ h. record {
       set = lists_seen c.in_ok-set.set;
       read = c.in_ok-set.ensures.set;
-      is_so = (string_bytes c.in_ok-text.text, c.in_ok-text.ensures.text, rw c.as_bytes.ensures.value at h);
+      is_so = (string_bytes c.in_ok-text.text, bytes_put (structs_text (lists_seen c.in_ok-set.set)) [] (string_bytes c.in_ok-text.text) c.in_ok-text.ensures.text, rw c.as_bytes.ensures.value at h);
     })
     c.write_all.ensures.whole
 
@@ -20,6 +22,6 @@ returns-clause-beginning g c =
     (λ h. let t = rw c.as_bytes.ensures.value at h in record {
       set = lists_seen c.in_ok-set.set;
       read = c.in_ok-set.ensures.set;
-      is_so = (string_bytes c.in_ok-text.text, t.0, c.in_ok-text.ensures.text, t.1, t.2);
+      is_so = (string_bytes c.in_ok-text.text, t.0, bytes_put (structs_text (lists_seen c.in_ok-set.set)) [] (string_bytes c.in_ok-text.text) c.in_ok-text.ensures.text, t.1, t.2);
     })
     c.write_all.ensures.beginning
