@@ -64,6 +64,7 @@ CALL(wire_total_size)
 CALL(wire_copy)
 CALL(wire_build)
 CALL(arena_build)
+CALL(arena_limit)
 CALL(wire_encode)
 
 #undef CALL

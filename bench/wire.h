@@ -43,6 +43,7 @@ inline void add_writes(Table &table, const Bytes &items_of_texts) {
   row(table, "a blob of 8 MB copied", 1, large, ours::wire_copy, copy);
   row(table, "a struct with a text built and written", 10000, items_of_texts, ours::wire_build, build);
   row(table, "the same by calls at places", 10000, items_of_texts, ours::arena_build, build);
+  row(table, "a list of 2^29 - 1 Voids asked for as structs, and refused", 1, large, ours::arena_limit, grow_past_limit);
   row(table, "a struct with a text encoded", 10000, items_of_texts, ours::wire_encode, encode);
   row(table, "a blob of 8 MB encoded", 1, large, ours::wire_encode, encode);
 }

@@ -117,6 +117,22 @@ inline uint64_t build(const Bytes &, uint64_t rounds) {
   return sum;
 }
 
+// asks the longest list of nothing to be one of structs, which no segment has room for
+inline uint64_t grow_past_limit(const Bytes &, uint64_t rounds) {
+  uint64_t sum = 0;
+  while (rounds--) {
+    capnp::MallocMessageBuilder message(60);
+    auto root = message.getRoot<capnp::AnyPointer>();
+    root.initAs<capnp::List<capnp::Void>>((1u << 29) - 1);
+    auto refusal = kj::runCatchingExceptions([&] {
+      auto pointer = capnp::_::PointerHelpers<capnp::AnyPointer>::getInternalBuilder(kj::mv(root));
+      pointer.getStructList(capnp::_::StructSize(1 * capnp::WORDS, 0 * capnp::POINTERS), nullptr);
+    });
+    sum += refusal != nullptr;
+  }
+  return sum;
+}
+
 // encodes a message whose first segment holds it whole
 inline uint64_t encode(const Bytes &bytes, uint64_t rounds) {
   Opened message(bytes);

@@ -38,9 +38,10 @@
 //! # Memory
 //!
 //! Want of memory is an answer: calls that may take memory answer a `Result`, and most are given the allocator,
-//! [`memory::Global`]. The stack is no answer: a message that was built some thousand levels deep, in a debug build some
-//! hundred, can overflow it where it is copied or written, which ends the program. Received messages are read 64 levels
-//! down at most.
+//! [`memory::Global`]. The stack is no answer, so walks of a message have a bound: a received one is read 64 levels down,
+//! one that is built 129. Where a built one is deeper, calls that measure, write or compact it are refused with
+//! `OutOfMemory`, and copies with `TooDeep`. Groups and the steps of a path have no bound yet: some thousand of them can
+//! overflow the stack, which ends the program.
 #![forbid(unsafe_code)]
 #![warn(missing_docs)]
 
@@ -158,7 +159,8 @@ pub mod run {
 pub mod schema {
     pub use crate::capnp_schema::record;
     pub use crate::capnp_schema::schema::{
-        Annotation, AnnotationList, EnumSchema, Enumerant, EnumerantList, Field, FieldList, FieldSubset, StructSchema,
+        Annotation, AnnotationList, EnumSchema, Enumerant, EnumerantList, Field, FieldList, FieldSubset, GroupWalk,
+        StructSchema,
     };
     pub use crate::capnp_schema::set::SchemaSet;
     pub use crate::capnp_schema::{builtin, meta, plan, value};

@@ -3,7 +3,7 @@
 use riftcalico::memory::{self, Global};
 use riftcalico::schema::{builtin, SchemaSet};
 use riftcalico::traits::SetterInput;
-use riftcalico::{dynamic_value, message, printer, sets, text};
+use riftcalico::{any_pointer, data, dynamic_struct, dynamic_value, message, printer, sets, text};
 use std::error::Error;
 
 const REQUEST: &[u8] = include_bytes!("../../examples/addressbook.request");
@@ -68,4 +68,71 @@ fn a_root_is_read_under_a_struct_of_the_built_in_set() {
         printer::to_string(root.into(), false).expect("each value is read"),
         "(a = 5)"
     );
+}
+
+/// Writes through a value that a value lends, and then through that value: text at its own position, the others where
+/// they stand.
+fn write_twice(mut owner: dynamic_value::Builder<'_>) {
+    write_to(owner.reborrow(), 1);
+    write_to(owner, 2);
+}
+
+fn write_to(value: dynamic_value::Builder<'_>, number: u8) {
+    match value {
+        dynamic_value::Builder::Text(mut text) => text.push_str(&"x".repeat(usize::from(number))),
+        dynamic_value::Builder::Data(mut data) => data.set(usize::from(number), number),
+        dynamic_value::Builder::Struct(mut part) => part
+            .set_named(if number == 1 { "id" } else { "name" }, id_or_name(number))
+            .expect("there is memory"),
+        dynamic_value::Builder::List(list) => match list.get(u32::from(number)).expect("it is there") {
+            dynamic_value::Builder::Struct(mut part) => part
+                .set_named("id", dynamic_value::Reader::UInt32(u32::from(number)))
+                .expect("there is memory"),
+            _ => panic!("a list of structs"),
+        },
+        dynamic_value::Builder::AnyPointer(mut pointer) => pointer
+            .set_as(if number == 1 { "a text" } else { "another" })
+            .expect("there is memory"),
+        _ => panic!("no pointer stands for it"),
+    }
+}
+
+fn id_or_name(number: u8) -> dynamic_value::Reader<'static> {
+    match number {
+        1 => dynamic_value::Reader::UInt32(1),
+        _ => dynamic_value::Reader::from("two"),
+    }
+}
+
+#[test]
+fn a_value_is_written_where_it_stands_after_what_it_lent() {
+    let mut message = message::Builder::new(Global).expect("there is memory");
+    message.root().set_text(b"abcd").expect("there is memory");
+    write_twice(dynamic_value::Builder::Text(text::Builder::with_pos(message.root(), 1)));
+    assert_eq!(message.root().get_text().expect("a text stands there"), b"axxd");
+    message.root().set_data(&[7, 7, 7]).expect("there is memory");
+    write_twice(dynamic_value::Builder::Data(data::Builder::new(message.root())));
+    assert_eq!(message.root().get_data().expect("data stand there"), [7, 1, 2]);
+    write_twice(dynamic_value::Builder::AnyPointer(any_pointer::Builder::new(
+        message.root(),
+    )));
+    assert_eq!(message.root().get_text().expect("a text stands there"), b"another");
+}
+
+#[test]
+fn a_struct_and_a_list_are_written_where_they_stand_after_what_they_lent() {
+    let set = SchemaSet::from_request(REQUEST).expect("the request is whole");
+    let schema = set.get_struct_named("AddressBook").expect("it is named");
+    let mut message = message::Builder::new(Global).expect("there is memory");
+    let book = dynamic_struct::Builder::open(message.root(), schema).expect("there is memory");
+    write_twice(book.initn_named("people", 3).expect("there is memory"));
+    let book = dynamic_struct::Builder::open(message.root(), schema).expect("it stands there");
+    match book.get_named("people").expect("it stands there") {
+        dynamic_value::Builder::List(people) => write_twice(people.get(0).expect("it is there")),
+        _ => panic!("a list"),
+    }
+    let book = dynamic_struct::Builder::open(message.root(), schema).expect("it stands there");
+    let told = printer::to_string(book.into_reader().into(), false).expect("each value is read");
+    assert!(told.contains("id = 1, name = \"two\""), "{told}");
+    assert!(told.contains("id = 2"), "{told}");
 }

@@ -1,4 +1,4 @@
-//! The system's allocator, but that it may refuse a request of a test.
+//! The system's allocator, but that it may refuse a request of a test, and counts the bytes that are held.
 #![allow(
     unsafe_code,
     reason = "an allocator can't be written without; each call is handed on as it came"
@@ -6,7 +6,32 @@
 
 use crate::rattle_std::test::is_refused;
 use std::alloc::{GlobalAlloc, Layout, System};
+use std::cell::Cell;
 use std::ptr::null_mut;
+
+thread_local! {
+    /// The bytes that this thread holds beyond those that it had, and the most that it held so. It is read by an
+    /// allocator, so it must not take memory itself.
+    static HELD: Cell<(isize, isize)> = const { Cell::new((0, 0)) };
+}
+
+/// Counts bytes that are taken, and others that are given back then.
+fn count(taken: usize, given: usize) {
+    let change = |held: &Cell<(isize, isize)>| {
+        let (now, most) = held.get();
+        let now = now.saturating_add_unsigned(taken);
+        held.set((now.saturating_sub_unsigned(given), most.max(now)));
+    };
+    // a thread that ends has nothing to count any more
+    let _ = HELD.try_with(change);
+}
+
+/// Does something. Answers what it answers, and the most bytes that this thread held meanwhile beyond those that it had.
+pub fn most_held<T>(act: impl FnOnce() -> T) -> (T, isize) {
+    HELD.set((0, 0));
+    let answer = act();
+    (answer, HELD.get().1)
+}
 
 struct Refusing;
 
@@ -20,6 +45,7 @@ unsafe impl GlobalAlloc for Refusing {
         if is_refused() {
             return null_mut();
         }
+        count(layout.size(), 0);
         // SAFETY: as above
         unsafe { System.alloc(layout) }
     }
@@ -28,6 +54,7 @@ unsafe impl GlobalAlloc for Refusing {
         if is_refused() {
             return null_mut();
         }
+        count(layout.size(), 0);
         // SAFETY: as above
         unsafe { System.alloc_zeroed(layout) }
     }
@@ -36,11 +63,14 @@ unsafe impl GlobalAlloc for Refusing {
         if is_refused() {
             return null_mut();
         }
+        // the old block is there until the new one is
+        count(size, layout.size());
         // SAFETY: as above
         unsafe { System.realloc(old, layout, size) }
     }
 
     unsafe fn dealloc(&self, old: *mut u8, layout: Layout) {
+        count(0, layout.size());
         // SAFETY: as above
         unsafe { System.dealloc(old, layout) }
     }

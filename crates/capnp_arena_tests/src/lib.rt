@@ -25,6 +25,8 @@ mod copy_tests;
 #[cfg(test)]
 mod default_tests;
 #[cfg(test)]
+mod depth_tests;
+#[cfg(test)]
 mod fixtures;
 #[cfg(test)]
 mod lent;

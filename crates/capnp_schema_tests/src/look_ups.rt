@@ -180,6 +180,16 @@ fn group_of(alloc: Global, schema: StructSchema<'_>, name: &str) -> Result<Strin
     }
 }
 
+/// The number of the struct and the index of the field whose group a struct is, or `none`.
+fn group_field_of(alloc: Global, schema: StructSchema<'_>) -> Result<String> {
+    let Some(field) = schema.get_group_field() else {
+        return index_in_words(alloc, None);
+    };
+    let number = RawBrandedStructSchema::from(field.get_containing_struct()).number;
+    let index = field.get_index();
+    Ok(format!(in alloc; "{number} {index}")?)
+}
+
 /// What a struct answers of a field that is looked up.
 fn looked_up(alloc: Global, kind: &str, schema: StructSchema<'_>, words: &str) -> Result<String> {
     match kind {
@@ -203,6 +213,7 @@ pub(crate) fn of_struct(alloc: Global, set: &SchemaSet, kind: &str, words: &str)
         "sizes" => sizes(alloc, schema),
         "record" => struct_in_words(alloc, schema),
         "numbers" => numbers_of(alloc, schema),
+        "group_field" => group_field_of(alloc, schema),
         _ => looked_up(alloc, kind, schema, rest),
     }
 }

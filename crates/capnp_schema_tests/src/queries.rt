@@ -17,6 +17,7 @@
 //! | `member 3 0` | the index of the member of a discriminant, or `none` |
 //! | `type 7 raw` | the type of a field |
 //! | `group 3 tag` | the numbers of the brand and node of a field's group, or `none` |
+//! | `group_field 5` | the number of the struct and the index of the field whose group it is, or `none` |
 //! | `plan 1 y` | the place of a field, and of a member the discriminant's first bit and value |
 //! | `record 5` | the id, the name, how many fields, and whether it is a group |
 //! | `numbers 4` | the number of the struct's brand and of its node |

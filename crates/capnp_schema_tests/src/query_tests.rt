@@ -65,7 +65,11 @@ group 3 tag -> 5 5
 group 3 word -> none
 group 3 id -> none
 group 6 again -> none
-group 7 items -> none";
+group 7 items -> none
+group_field 3 -> none
+group_field 4 -> 3 1
+group_field 5 -> 3 2
+group_field 7 -> none";
 
 #[test]
 fn a_group_field_has_its_group(rt: HostRuntime) -> Result<(), Fail> {

@@ -7,7 +7,7 @@ ghost use Rattle.capnp_arena.specs.Shape.{CompositeIn, StructIn, shape_at};
 use capnp_arena::arena::{Arena, Place};
 use capnp_wire::error::Result;
 use capnp_wire::primitive::PrimitiveElement;
-use capnp_wire::size::StructSize;
+use capnp_wire::size::{ElementSize, StructSize};
 use std::alloc::Global;
 
 const ITEMS: u32 = 10_000;
@@ -107,4 +107,32 @@ fn build(alloc: Global, rounds: u64) -> Result<u64> {
 #[unsafe(no_mangle)]
 pub extern "C" fn bench_arena_build(alloc: Global, _message: &[u8], rounds: u64) -> u64 {
     build(alloc, rounds).unwrap_or(0)
+}
+
+/// Asks the longest list of nothing to be one of structs, which a limit of 60 words has no room for. Answers 1 where
+/// that is refused.
+fn grow_past_limit(alloc: Global) -> Result<u64> {
+    let mut arena = Arena::with_limit(alloc, 60)?;
+    arena.init_list(0, ElementSize::Void, (1 << 29) - 1)?;
+    let size = StructSize {
+        data_words: 1,
+        pointers: 0,
+    };
+    match arena.get_struct_list(0, size) {
+        Ok(_) => Ok(0),
+        Err(_) => Ok(1),
+    }
+}
+
+fn grow_often(alloc: Global, rounds: u64) -> Result<u64> {
+    let mut sum: u64 = 0;
+    for _ in 0..rounds {
+        sum = sum.wrapping_add(grow_past_limit(alloc)?);
+    }
+    Ok(sum)
+}
+
+#[unsafe(no_mangle)]
+pub extern "C" fn bench_arena_limit(alloc: Global, _message: &[u8], rounds: u64) -> u64 {
+    grow_often(alloc, rounds).unwrap_or(0)
 }
