@@ -23,7 +23,7 @@ pub fn read_all<S: Source>(alloc: Global, source: &mut S) -> Result<Vec<u8>>
         Consumes (S.left source.old) (S.left source.new) read) }
 {
     let mut bytes = Vec::new(alloc);
-    let mut buffer = [0u8; 4096];
+    let mut buffer = [0u8; 65536];
     loop {
         let Ok(count) = source.read_some(&mut buffer) else {
             return Err(Error::from(ErrorKind::ReadFailed));
