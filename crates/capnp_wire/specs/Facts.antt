@@ -27,3 +27,4 @@ pub mod Levels
 pub mod Filling
 pub mod BitRows
 pub mod FilledDefaults
+pub mod ElementValues

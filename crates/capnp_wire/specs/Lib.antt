@@ -19,6 +19,7 @@ pub mod Filling
 pub mod Depth
 pub mod Edits
 pub mod Elements
+pub mod Numbers
 pub mod ElementSizes
 pub mod StructLists
 pub mod Defaults

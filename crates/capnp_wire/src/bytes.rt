@@ -2,7 +2,7 @@
 //!
 //! Offsets count bytes, words of eight bytes or bits, as each function says. Numbers stand lowest
 //! byte first (the encoding page, "Primitive Values"). No read refuses.
-ghost use Rattle.std.specs.Prelude.{◌≡◌, ◌≤◌, ◌<◌, ◌^◌, ◌*◌, ◌/◌, ◌%◌, length, take, drop};
+ghost use Rattle.std.specs.Prelude.{◌≡◌, ◌+◌, ◌≤◌, ◌<◌, ◌^◌, ◌*◌, ◌/◌, ◌%◌, length, take, drop};
 ghost use Rattle.capnp_wire.specs.Slot.{little_endian, word_at, bit_at};
 
 /// The bytes from byte `start` on, none past the end.
@@ -84,6 +84,25 @@ pub fn half_at(bytes: &[u8], start: usize) -> u32
     }
 }
 
+/// Word `w`, the eight bytes from byte `8 * w` on, which are there.
+#[inline(always)]
+pub fn read_word(bytes: &[u8], w: usize) -> u64
+    requires { 8 * w + 8 ≤ length bytes.now }
+    ensures { result ≡ word_at bytes.now w }
+{
+    let start = 8 * w;
+    u64::from_le_bytes([
+        bytes[start],
+        bytes[start + 1],
+        bytes[start + 2],
+        bytes[start + 3],
+        bytes[start + 4],
+        bytes[start + 5],
+        bytes[start + 6],
+        bytes[start + 7],
+    ])
+}
+
 /// Word `w`, the eight bytes from byte `8 * w` on, with zeros past the end.
 #[inline(always)]
 pub fn get_word(bytes: &[u8], w: usize) -> u64
@@ -91,10 +110,8 @@ pub fn get_word(bytes: &[u8], w: usize) -> u64
     ensures { result ≡ word_at bytes.now w }
 {
     let start = 8 * w;
-    if w < bytes.len() / 8 {
-        let mut word: [u8; 8] = [0; 8];
-        word.copy_from_slice(&bytes[start..start + 8]);
-        u64::from_le_bytes(word)
+    if bytes.len() >= 8 && start <= bytes.len() - 8 {
+        read_word(bytes, w)
     } else {
         number_from(bytes, start, 8)
     }

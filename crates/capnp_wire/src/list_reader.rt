@@ -8,6 +8,7 @@ use crate::due::reads_list_as;
 use crate::elements::{bit_at, number_at};
 use crate::fault::Fault;
 use crate::found::{Found, count_list, empty_list, get_element_parts, size_of_elements};
+use crate::numbers::Numbers;
 use crate::pointer::{Pointer, look};
 use crate::pointer_reader::PointerReader;
 use crate::pointers::get_pointer;
@@ -25,8 +26,8 @@ use std::mem::size_of;
 /// ```rust
 /// let list = pointer.get_list(ElementSize::FourBytes)?;
 /// let mut total = 0u64;
-/// for index in 0..list.len() {
-///     total += list.get_data_element::<u32>(index) as u64;
+/// for number in list.numbers::<u32>() {
+///     total += number as u64;
 /// }
 /// ```
 #[derive(Clone, Copy)]
@@ -43,6 +44,7 @@ impl<'a> ListReader<'a> {
     ghost use Rattle.capnp_wire.specs.ElementSizes.{element_size_of};
     ghost use Rattle.std.specs.Prelude.{Ok, false, ◌≡◌, ◌==◌, ◌+◌, ◌<◌, ◌^◌, IfOk};
     ghost use Rattle.capnp_wire.specs.Reading.{as_list, empty_list, is_fault_leaf, element_bit, element_levels, element_number, element_pointer, element_struct, list_length, with_level};
+    ghost use Rattle.capnp_wire.specs.Numbers.{numbers_tree};
     ghost use Rattle.capnp_wire.specs.Standing.{levels_of, list_levels, list_of, list_read, struct_levels, struct_read, tree_of};
 
     /// A reader of a list.
@@ -84,6 +86,7 @@ impl<'a> ListReader<'a> {
 
     /// What the reader stands on.
     #[tactic(auto, unfolding(crate::specs::Standing::list_of))]
+    #[inline(always)]
     pub fn found(&self) -> Found<'a>
         ensures { found_tree result ≡ list_of self.now }
     {
@@ -131,6 +134,15 @@ impl<'a> ListReader<'a> {
         ensures { result ≡ T.of_number (element_number T.width (list_of self.now) index) }
     {
         number_at(self.found, index)
+    }
+
+    /// The numbers of the list as a value of their own: at each index what `get_data_element` reads there. A loop over
+    /// them looks at the list once.
+    #[inline(always)]
+    pub fn numbers<T: PrimitiveElement>(&self) -> Numbers<'a, T>
+        ensures { numbers_tree result ≡ list_of self.now }
+    {
+        Numbers::new(*self)
     }
 
     /// The struct at `index`. Needs a level and leaves one fewer. A number is a struct with its bytes as data, a

@@ -251,6 +251,7 @@ fn locate_near_from(segment: &[u8], w: usize, word: u64) -> Target<'_>
 }
 
 /// The target of a landing pad of two words: a far pointer to where it starts, and its tag.
+#[inline(never)]
 fn locate_double(segments: Segments<'_>, first: u64, tag: u64) -> Target<'_>
     ensures value { target_of result ≡ double_target (segment_list segments.entry) first tag }
     ensures start { StartFits result }

@@ -9,7 +9,7 @@ ghost use Rattle.std.proofs.Math.Facts.{Fits-lt-pow, Fits-of_z};
 ghost use Rattle.capnp_wire.specs.Slot.{number_at};
 ghost use Rattle.capnp_wire.specs.Edits.{with_number};
 
-use crate::bytes::{get_word, number_from};
+use crate::bytes::{get_word, number_from, read_word};
 
 /// A number that a data field or a list element holds.
 pub trait PrimitiveElement: Copy {
@@ -29,6 +29,15 @@ pub trait PrimitiveElement: Copy {
     /// where only some of its bytes are there.
     fn read(bytes: &[u8], offset: u32) -> Self
         ensures { result ≡ of_number (number_at width offset bytes.now) };
+
+    /// The width as a number.
+    fn count_bytes() -> u8
+        ensures { result ≡ width };
+
+    /// The number at `index`, in units of its own width, all of whose bytes are there.
+    fn read_inside(bytes: &[u8], index: usize) -> Self
+        requires { (index + 1) * width ≤ length bytes.now }
+        ensures { result ≡ of_number (number_at width index bytes.now) };
 
     /// The number at `offset`, in units of its own width, XORed with `mask`: a field whose default
     /// is `mask` is stored so, and reads as its default where zeros or no bytes stand (the encoding
@@ -77,6 +86,16 @@ impl PrimitiveElement for u8 {
         if at < bytes.len() { bytes[at] } else { 0 }
     }
 
+    #[inline(always)]
+    fn count_bytes() -> u8 {
+        1
+    }
+
+    #[inline(always)]
+    fn read_inside(bytes: &[u8], index: usize) -> u8 {
+        bytes[index]
+    }
+
     #[inline]
     fn read_masked(bytes: &[u8], offset: u32, mask: u8) -> u8 {
         u8::read(bytes, offset) ^ mask
@@ -111,11 +130,22 @@ impl PrimitiveElement for u16 {
     #[inline]
     fn read(bytes: &[u8], offset: u32) -> u16 {
         let at = offset as usize * 2;
-        if at + 2 <= bytes.len() {
+        if bytes.len() >= 2 && at <= bytes.len() - 2 {
             u16::from_le_bytes([bytes[at], bytes[at + 1]])
         } else {
             number_from(bytes, at, 2) as u16
         }
+    }
+
+    #[inline(always)]
+    fn count_bytes() -> u8 {
+        2
+    }
+
+    #[inline(always)]
+    fn read_inside(bytes: &[u8], index: usize) -> u16 {
+        let at = index * 2;
+        u16::from_le_bytes([bytes[at], bytes[at + 1]])
     }
 
     #[inline]
@@ -153,11 +183,22 @@ impl PrimitiveElement for u32 {
     #[inline]
     fn read(bytes: &[u8], offset: u32) -> u32 {
         let at = offset as usize * 4;
-        if at + 4 <= bytes.len() {
+        if bytes.len() >= 4 && at <= bytes.len() - 4 {
             u32::from_le_bytes([bytes[at], bytes[at + 1], bytes[at + 2], bytes[at + 3]])
         } else {
             number_from(bytes, at, 4) as u32
         }
+    }
+
+    #[inline(always)]
+    fn count_bytes() -> u8 {
+        4
+    }
+
+    #[inline(always)]
+    fn read_inside(bytes: &[u8], index: usize) -> u32 {
+        let at = index * 4;
+        u32::from_le_bytes([bytes[at], bytes[at + 1], bytes[at + 2], bytes[at + 3]])
     }
 
     #[inline]
@@ -197,6 +238,16 @@ impl PrimitiveElement for u64 {
         get_word(bytes, offset as usize)
     }
 
+    #[inline(always)]
+    fn count_bytes() -> u8 {
+        8
+    }
+
+    #[inline(always)]
+    fn read_inside(bytes: &[u8], index: usize) -> u64 {
+        read_word(bytes, index)
+    }
+
     #[inline]
     fn read_masked(bytes: &[u8], offset: u32, mask: u64) -> u64 {
         u64::read(bytes, offset) ^ mask
@@ -232,6 +283,16 @@ impl PrimitiveElement for i8 {
     #[inline]
     fn read(bytes: &[u8], offset: u32) -> i8 {
         u8::read(bytes, offset).cast_signed()
+    }
+
+    #[inline(always)]
+    fn count_bytes() -> u8 {
+        1
+    }
+
+    #[inline(always)]
+    fn read_inside(bytes: &[u8], index: usize) -> i8 {
+        u8::read_inside(bytes, index).cast_signed()
     }
 
     #[inline]
@@ -270,6 +331,16 @@ impl PrimitiveElement for i16 {
         u16::read(bytes, offset).cast_signed()
     }
 
+    #[inline(always)]
+    fn count_bytes() -> u8 {
+        2
+    }
+
+    #[inline(always)]
+    fn read_inside(bytes: &[u8], index: usize) -> i16 {
+        u16::read_inside(bytes, index).cast_signed()
+    }
+
     #[inline]
     fn read_masked(bytes: &[u8], offset: u32, mask: i16) -> i16 {
         u16::read_masked(bytes, offset, mask.cast_unsigned()).cast_signed()
@@ -306,6 +377,16 @@ impl PrimitiveElement for i32 {
         u32::read(bytes, offset).cast_signed()
     }
 
+    #[inline(always)]
+    fn count_bytes() -> u8 {
+        4
+    }
+
+    #[inline(always)]
+    fn read_inside(bytes: &[u8], index: usize) -> i32 {
+        u32::read_inside(bytes, index).cast_signed()
+    }
+
     #[inline]
     fn read_masked(bytes: &[u8], offset: u32, mask: i32) -> i32 {
         u32::read_masked(bytes, offset, mask.cast_unsigned()).cast_signed()
@@ -340,6 +421,16 @@ impl PrimitiveElement for i64 {
     #[inline]
     fn read(bytes: &[u8], offset: u32) -> i64 {
         u64::read(bytes, offset).cast_signed()
+    }
+
+    #[inline(always)]
+    fn count_bytes() -> u8 {
+        8
+    }
+
+    #[inline(always)]
+    fn read_inside(bytes: &[u8], index: usize) -> i64 {
+        u64::read_inside(bytes, index).cast_signed()
     }
 
     #[inline]

@@ -1,5 +1,5 @@
 //! The segments of a message, as they lie.
-ghost use Rattle.std.specs.Prelude.{[], ◌≡◌, ◌≤◌, ◌<◌, ◌*◌, ◌+◌, ◌^◌, drop, length, option_map, slice_get, slice_index_or, take};
+ghost use Rattle.std.specs.Prelude.{[], ◌≡◌, ◌≤◌, ◌<◌, ◌*◌, ◌+◌, ◌%◌, ◌^◌, drop, length, option_map, slice_get, slice_index_or, take};
 ghost use Rattle.capnp_wire.specs.Backing.{segment_list};
 ghost use Rattle.capnp_wire.specs.Slot.{little_endian};
 ghost use Rattle.capnp_wire.specs.Stream.{header_bytes, stream_segments, table_of, total_words};
@@ -31,8 +31,30 @@ fn get_size(table: &[u8], index: usize) -> usize
     ]) as usize
 }
 
-/// The words of the first segments of a table.
-pub fn count_words(table: &[u8], count: usize) -> usize
+/// The words of the first segments of a table, as a `u32` that wraps, and the size of the largest of them.
+///
+/// So narrow a sum goes over four sizes at a time, where wider ones go over two.
+fn add_sizes(table: &[u8], count: usize) -> (u32, u32)
+    requires { 4 * count ≤ length table.now }
+    ensures words { result.0 ≡ total_words count table.now % 2 ^ 32 }
+    ensures largest { result.1 < 2 ^ 22 → total_words count table.now ≤ 2 ^ 22 * count }
+{
+    let mut words: u32 = 0;
+    let mut largest: u32 = 0;
+    for i in 0..count {
+        let size = get_size(table, i) as u32;
+        words = words.wrapping_add(size);
+        if size > largest {
+            largest = size;
+        }
+    }
+    (words, largest)
+}
+
+/// The words of the first segments of a table, of any sizes.
+#[cold]
+#[inline(never)]
+fn count_many_words(table: &[u8], count: usize) -> usize
     requires there { 4 * count ≤ length table.now }
     requires few { count < 2 ^ 32 }
     ensures value { result ≡ total_words count table.now }
@@ -45,6 +67,22 @@ pub fn count_words(table: &[u8], count: usize) -> usize
     words
 }
 
+/// The words of the first segments of a table.
+#[inline(never)]
+pub fn count_words(table: &[u8], count: usize) -> usize
+    requires there { 4 * count ≤ length table.now }
+    requires few { count < 2 ^ 32 }
+    ensures value { result ≡ total_words count table.now }
+    ensures fits { result ≤ 2 ^ 32 * count }
+{
+    let (words, largest) = add_sizes(table, count);
+    if count < 1 << 10 && largest < 1 << 22 {
+        words as usize
+    } else {
+        count_many_words(table, count)
+    }
+}
+
 /// The table of a stream, as much of it as is there.
 fn get_table(stream: &[u8]) -> &[u8]
     ensures { result.now ≡ table_of stream.now }
@@ -53,6 +91,7 @@ fn get_table(stream: &[u8]) -> &[u8]
 }
 
 /// The bytes of segment `index` of a stream, where it is there.
+#[inline(always)]
 fn get_stream_segment(stream: &[u8], index: u32) -> Option<&[u8]>
     ensures { option_map (λ s. s.now) result ≡ slice_get (stream_segments stream.now) index }
 {
@@ -72,6 +111,7 @@ fn get_stream_segment(stream: &[u8], index: u32) -> Option<&[u8]>
 }
 
 /// The bytes of segment `index`, where it is there.
+#[inline(always)]
 pub fn get_segment(segments: Segments<'_>, index: u32) -> Option<&[u8]>
     ensures { option_map (λ s. s.now) result ≡ slice_get (segment_list segments.entry) index }
 {

@@ -119,7 +119,18 @@ fn total_row(pointers: Pointers<'_>) -> Total
 
 /// The words of what pointers in a row lead to.
 #[cycle(total)]
+#[inline(never)]
 fn total_pointers(pointers: Pointers<'_>) -> Total
+    ensures { Totals result (first_fault_of_all (pointer_trees pointers.entry))
+        (words_of_all (pointer_trees pointers.entry)) }
+{
+    total_each(pointers)
+}
+
+/// The same within its caller: the elements of a list, which are mostly many and small, go by it.
+#[cycle(total)]
+#[inline(always)]
+fn total_each(pointers: Pointers<'_>) -> Total
     ensures { Totals result (first_fault_of_all (pointer_trees pointers.entry))
         (words_of_all (pointer_trees pointers.entry)) }
 {
@@ -168,7 +179,7 @@ fn total_elements(size: StructSize, elements: Elements<'_>) -> Total
     let count = count_elements(size, elements);
     let mut sum: u64 = 0;
     for i in 0..count {
-        let words = total_pointers(get_element(size, elements, i).pointers)?;
+        let words = total_each(get_element(size, elements, i).pointers)?;
         sum = add(sum, words)?;
     }
     Ok(sum)

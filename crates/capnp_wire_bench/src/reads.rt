@@ -171,8 +171,8 @@ fn small_numbers(alloc: Global, message: &[u8], rounds: u64) -> Result<u64> {
     let list = list_of(alloc, message, SMALL_NUMBERS, ElementSize::TwoBytes)?;
     let mut sum: u64 = 0;
     for _ in 0..rounds {
-        for i in 0..list.len() {
-            sum = sum.wrapping_add(list.get_data_element::<u16>(i) as u64);
+        for number in list.numbers::<u16>() {
+            sum = sum.wrapping_add(number as u64);
         }
     }
     Ok(sum)
@@ -182,8 +182,8 @@ fn large_numbers(alloc: Global, message: &[u8], rounds: u64) -> Result<u64> {
     let list = list_of(alloc, message, LARGE_NUMBERS, ElementSize::EightBytes)?;
     let mut sum: u64 = 0;
     for _ in 0..rounds {
-        for i in 0..list.len() {
-            sum = sum.wrapping_add(list.get_data_element::<u64>(i));
+        for number in list.numbers::<u64>() {
+            sum = sum.wrapping_add(number);
         }
     }
     Ok(sum)

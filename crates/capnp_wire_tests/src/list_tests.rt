@@ -152,6 +152,78 @@ fn numbers_read_until_the_end_and_zero_after(rt: HostRuntime) {
     rows_hold(&rt, rt.alloc(), &NUMBERS);
 }
 
+/// Words, all numbers of the list at their root, and what they are.
+static ALL_NUMBERS: [(&str, &str, &str); 13] = [
+    (
+        BYTES,
+        "words.bytes: u8s; i8s",
+        "3: 1 254 255, 1 254 255 0; 3: 1 -2 -1, 1 -2 -1 0",
+    ),
+    (
+        "01 00 00 00 1b 00 00 00 | 01 00 2c 01 ff ff 08 00",
+        "words.twos: u16s; i16s",
+        "3: 1 300 65535, 1 300 65535 0; 3: 1 300 -1, 1 300 -1 0",
+    ),
+    (
+        "01 00 00 00 0c 00 00 00 | fe ff ff ff 01 00 00 00",
+        "words.fours: u32s; i32s",
+        "1: 4294967294, 4294967294 0; 1: -2, -2 0",
+    ),
+    (
+        "01 00 00 00 15 00 00 00 | 09 00 00 00 00 00 00 80 | 07 00 00 00 00 00 00 00",
+        "words.eights: u64s; i64s",
+        "2: 9223372036854775817 7, 9223372036854775817 7 0; 2: -9223372036854775799 7, -9223372036854775799 7 0",
+    ),
+    // read as numbers of another width: as many, with zeros past the end
+    (
+        BYTES,
+        "words.bytes: u16s; i16s; u32s; u64s",
+        "3: 65025 255 0, 65025 255 0 0; 3: -511 255 0, -511 255 0 0; 3: 16776705 0 0, 16776705 0 0 0; \
+         3: 16776705 0 0, 16776705 0 0 0",
+    ),
+    (
+        "01 00 00 00 15 00 00 00 | 09 00 00 00 00 00 00 80 | 07 00 00 00 00 00 00 00",
+        "words.eights: u16s; u8s",
+        "2: 9 0, 9 0 0; 2: 9 0, 9 0 0",
+    ),
+    // the numbers at the starts of structs, which a list of numbers was made into
+    (
+        TWO_STRUCTS,
+        "words.bytes: u8s; i8s; u16s; i32s; u64s; i64s",
+        "2: 9 8, 9 8 0; 2: 9 8, 9 8 0; 2: 265 8, 265 8 0; 2: 265 8, 265 8 0; \
+         2: 9223372036854776073 8, 9223372036854776073 8 0; 2: -9223372036854775543 8, -9223372036854775543 8 0",
+    ),
+    (
+        "01 00 00 00 0f 00 00 00 | 04 00 00 00 00 00 01 00 | 0",
+        "words.structs: u32s",
+        "1: 0, 0 0",
+    ),
+    // elements of nothing, bits and pointers, which are no numbers
+    (
+        "01 00 00 00 18 00 00 00",
+        "words.voids: u8s; i64s",
+        "3: 0 0 0, 0 0 0 0; 3: 0 0 0, 0 0 0 0",
+    ),
+    (
+        "01 00 00 00 19 00 00 00 | 05 00 00 00 00 00 00 00",
+        "words.bits: u8s",
+        "3: 0 0 0, 0 0 0 0",
+    ),
+    (
+        "01 00 00 00 0e 00 00 00 | 0",
+        "words.pointers: u64s",
+        "1: 0, 0 0",
+    ),
+    // no elements
+    ("01 00 00 00 03 00 00 00", "words.twos: u16s", "0:, 0"),
+    ("0", "words.fours: i32s", "0:, 0"),
+];
+
+#[test]
+fn all_numbers_come_in_order(rt: HostRuntime) {
+    rows_hold(&rt, rt.alloc(), &ALL_NUMBERS);
+}
+
 /// Words, the length of the list of bits at their root, elements of it as bits and as bytes, and what they are.
 static BITS: [(&str, &str, &str); 2] = [
     // ten bits, lowest first in each byte; a set bit behind them is no element

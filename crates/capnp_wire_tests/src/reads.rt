@@ -15,10 +15,11 @@
 //! | a pointer | `struct`, `text`, `data`, `null`, `total`, `sum` (of this crate) |
 //! | a pointer, as a list | `voids`, `bits`, `bytes`, `twos`, `fours`, `eights`, `pointers`, `structs` |
 //! | a struct | numbers, `bool`, `field`, `section` (the bytes of its data), `count` (of its pointers), `total` |
-//! | a list | numbers, `bool`, `element`, `pointer`, `length`, `empty`, `size` |
+//! | a list | numbers, `bool`, `element`, `pointer`, `length`, `empty`, `size`, and all its numbers |
 //!
 //! Numbers are `u8` to `u64` and `i8` to `i64` with their offset or index, as `u16 3`, and where a default is XORed
-//! with them `u16 3 default 7`. The same holds of `bool`, whose default is 0 or 1.
+//! with them `u16 3 default 7`. The same holds of `bool`, whose default is 0 or 1. All numbers of a list are `u8s` to `u64s`
+//! and `i8s` to `i64s`: how many there are and each of them in order, and after a comma those at these indices and one more.
 
 use crate::fixtures::bytes_of;
 use capnp_wire::error::{ErrorKind, Result};
@@ -28,6 +29,7 @@ use capnp_wire::size::{ElementSize, MessageSize};
 use capnp_wire::{ListReader, PointerReader, StructReader};
 use capnp_wire_callers::sum::sum_of_list;
 use std::alloc::{AllocError, Global};
+use std::fmt::Display;
 use std::process::Abort;
 
 /// The types of numbers.
@@ -56,6 +58,7 @@ enum Word {
     Total,
     Sum,
     Number(Number),
+    Numbers(Number),
     Bool,
     Field,
     Section,
@@ -68,7 +71,7 @@ enum Word {
     Unknown,
 }
 
-static WORDS: [(&str, Word); 33] = [
+static WORDS: [(&str, Word); 41] = [
     ("message", Word::Message),
     ("words", Word::Words),
     ("struct", Word::Struct),
@@ -93,6 +96,14 @@ static WORDS: [(&str, Word); 33] = [
     ("i16", Word::Number(Number::I16)),
     ("i32", Word::Number(Number::I32)),
     ("i64", Word::Number(Number::I64)),
+    ("u8s", Word::Numbers(Number::U8)),
+    ("u16s", Word::Numbers(Number::U16)),
+    ("u32s", Word::Numbers(Number::U32)),
+    ("u64s", Word::Numbers(Number::U64)),
+    ("i8s", Word::Numbers(Number::I8)),
+    ("i16s", Word::Numbers(Number::I16)),
+    ("i32s", Word::Numbers(Number::I32)),
+    ("i64s", Word::Numbers(Number::I64)),
     ("bool", Word::Bool),
     ("field", Word::Field),
     ("section", Word::Section),
@@ -126,6 +137,7 @@ enum Cursor<'a> {
 enum Reply<'a> {
     At(Cursor<'a>),
     Number(i128),
+    Numbers(ListReader<'a>, Number),
     Bool(bool),
     Blob(&'a [u8]),
     Size(ElementSize),
@@ -286,6 +298,7 @@ fn at_list<'a>(list: ListReader<'a>, step: Step) -> Reply<'a> {
         Word::Length => Reply::Number(list.len() as i128),
         Word::Empty => Reply::Bool(list.is_empty()),
         Word::Size => Reply::Size(list.get_element_size()),
+        Word::Numbers(number) => Reply::Numbers(list, number),
         _ => Reply::NoWord,
     }
 }
@@ -378,9 +391,44 @@ fn name_of(reply: Reply<'_>) -> &'static str {
     }
 }
 
+/// Writes the numbers of a list, as a loop over them gives them and as they are got.
+fn write_all<T: PrimitiveElement + Display>(
+    out: &mut String,
+    list: ListReader<'_>,
+) -> std::result::Result<(), AllocError> {
+    let numbers = list.numbers::<T>();
+    write!(out, "{}:", numbers.len())?;
+    for number in numbers {
+        write!(out, " {number}")?;
+    }
+    write!(out, ",")?;
+    for index in 0..numbers.len() + 1 {
+        write!(out, " {}", numbers.get(index))?;
+    }
+    write!(out, "; ")
+}
+
+fn write_numbers(
+    out: &mut String,
+    list: ListReader<'_>,
+    number: Number,
+) -> std::result::Result<(), AllocError> {
+    match number {
+        Number::U8 => write_all::<u8>(out, list),
+        Number::U16 => write_all::<u16>(out, list),
+        Number::U32 => write_all::<u32>(out, list),
+        Number::U64 => write_all::<u64>(out, list),
+        Number::I8 => write_all::<i8>(out, list),
+        Number::I16 => write_all::<i16>(out, list),
+        Number::I32 => write_all::<i32>(out, list),
+        Number::I64 => write_all::<i64>(out, list),
+    }
+}
+
 fn write_reply(out: &mut String, reply: Reply<'_>) -> std::result::Result<(), AllocError> {
     match reply {
         Reply::Number(number) => write!(out, "{number}; "),
+        Reply::Numbers(list, number) => write_numbers(out, list, number),
         Reply::Blob(bytes) => write!(out, "'{}'; ", str::from_utf8(bytes).unwrap_or("no UTF-8")),
         Reply::Total(size) => {
             let MessageSize {

@@ -1,6 +1,6 @@
 use Rattle.std.proofs.Common.{arith}
 use Rattle.capnp_wire.proofs.Cut.{total_next}
-use Rattle.capnp_wire.proofs.segments.count_words.Goals as goal
+use Rattle.capnp_wire.proofs.segments.count_many_words.Goals as goal
 
 pub loop-i-preserved : goal.loop-i-preserved
 loop-i-preserved c =
