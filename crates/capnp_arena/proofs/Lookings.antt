@@ -47,7 +47,7 @@ module _ (o e n : ℕ) (ho : o < 2 ^ 30) (he : e < 8) (hn : n < 2 ^ 29) where
 of_struct : (bytes : List ℕ) (w word a d p : ℕ) → (word ≡ 0 → ⊥) → kind word ≡ 0 → data_words word ≡ d → pointer_count word ≡ p → cond (d + p == 0) w (w + 1 + offset word) ≡ a → looked bytes w word ≡ StructIn a d p
 of_struct bytes w word a d p some k ed ep e = rw (not_equal word 0 some, k, ed, ep, e) refl
 
-of_list : (bytes : List ℕ) (w word a size n : ℕ) → (word ≡ 0 → ⊥) → kind word ≡ 1 → element_size word ≡ size → count word ≡ n → (size ≡ 7 → ⊥) → w + 1 + offset word ≡ a → looked bytes w word ≡ ListIn a size n
+pub of_list : (bytes : List ℕ) (w word a size n : ℕ) → (word ≡ 0 → ⊥) → kind word ≡ 1 → element_size word ≡ size → count word ≡ n → (size ≡ 7 → ⊥) → w + 1 + offset word ≡ a → looked bytes w word ≡ ListIn a size n
 of_list bytes w word a size n some k es en no_tag e = rw (not_equal word 0 some, k, es, not_equal size 7 no_tag, en, e) refl
 
 of_composite : (bytes : List ℕ) (w word tag t n d p : ℕ) → (word ≡ 0 → ⊥) → kind word ≡ 1 → element_size word ≡ 7 → w + 1 + offset word ≡ tag → number_at 8 tag bytes ≡ t → offset t ≡ n → data_words t ≡ d → pointer_count t ≡ p → looked bytes w word ≡ CompositeIn tag n d p

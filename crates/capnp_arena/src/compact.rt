@@ -40,8 +40,9 @@ pub(crate) fn append_anew(out: &mut Vec<u8>, bytes: &[u8]) -> Appended
     requires small { words_of (tree bytes.now 0) < 2 ^ 29 }
     ensures { IfOk result (λ _. out.new.items ≡ out.old.items ++ encoding_of (tree bytes.now 0)) }
 {
-    append_word(out, make_pointer(0, look(bytes, 0)))?;
-    append_tree(out, bytes, 0, MEMORY_DEPTH)?;
+    let target = look(bytes, 0);
+    append_word(out, make_pointer(0, target))?;
+    append_tree(out, bytes, 0, target, MEMORY_DEPTH)?;
     Ok(())
 }
 

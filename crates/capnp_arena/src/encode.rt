@@ -1,7 +1,7 @@
 //! The bytes of the tree that a pointer leads to: each object before what its pointers lead to, in their order, and
 //! nothing that no pointer leads to. Room is left for a row of pointers, and each is put there when its target is due.
 ghost use Rattle.std.specs.Prelude.{IfOk, ⊤, ℕ, ◌*◌, ◌++◌, ◌+◌, ◌-◌, ◌/◌, ◌<◌, ◌^◌, ◌≡◌, ◌≤◌, length};
-ghost use Rattle.capnp_wire.specs.Encoding.{bytes_below_all, bytes_of, bytes_of_all, element_row, own_bytes, pointer_row, struct_word, spelled};
+ghost use Rattle.capnp_wire.specs.Encoding.{bytes_below_all, bytes_of, bytes_of_all, element_row, own_bytes, padded, pointer_row, struct_word, spelled};
 ghost use Rattle.capnp_wire.specs.Filling.{HasRoom, HaveRoom, with_encoded_element, with_encoded_elements, with_pointers};
 ghost use Rattle.capnp_wire.specs.Locate.{list_words};
 ghost use Rattle.capnp_wire.specs.Place.{bytes_at, list_tree};
@@ -11,10 +11,11 @@ ghost use Rattle.capnp_arena.specs.Counts.{AreElementForests, AreForests};
 ghost use Rattle.capnp_arena.specs.Encoded.{HasSize, pointer_to};
 ghost use Rattle.capnp_arena.specs.Forest.{Forest, struct_from, tree};
 ghost use Rattle.capnp_arena.specs.Looked.{shape_found};
-ghost use Rattle.capnp_arena.specs.Shape.{word_count};
+ghost use Rattle.capnp_arena.specs.Shape.{Points, shape_at, word_count};
 
 use crate::append::{Appended, append_bits, append_padded, append_room, append_word, get_part};
 use crate::count::get_list_depth;
+use crate::in_order::end_of_bytes;
 use crate::look::Target;
 use crate::spell::{make_list_word, make_struct_word, put_bytes, put_word};
 use crate::target::look;
@@ -53,6 +54,19 @@ pub(crate) fn make_pointer(gap: u64, target: Target) -> u64
     }
 }
 
+/// So many bytes from a word on, and zeros up to a whole word: as one part, where zeros are behind them already.
+#[inline(always)]
+fn append_part(out: &mut Vec<u8>, bytes: &[u8], start: usize, count: usize) -> Appended
+    requires inside { start + (count + 7) / 8 ≤ word_count bytes.now }
+    requires few { (start < 2 ^ 30) × (count < 2 ^ 32) }
+    ensures { IfOk result (λ _. out.new.items ≡ out.old.items ++ padded (bytes_at bytes.now start count)) }
+{
+    match end_of_bytes(bytes, start, count) {
+        Some(next) => out.extend_from_slice(get_part(bytes, start, 8 * (next - start))),
+        None => append_padded(out, get_part(bytes, start, count)),
+    }
+}
+
 /// A list of bits or numbers, or of nothing.
 #[inline(always)]
 fn append_plain(
@@ -78,13 +92,13 @@ fn append_plain(
             count as u32,
         )
     } else if element_size == 2 {
-        append_padded(out, get_part(bytes, start, count))
+        append_part(out, bytes, start, count)
     } else if element_size == 3 {
-        append_padded(out, get_part(bytes, start, 2 * count))
+        append_part(out, bytes, start, 2 * count)
     } else if element_size == 4 {
-        append_padded(out, get_part(bytes, start, 4 * count))
+        append_part(out, bytes, start, 4 * count)
     } else {
-        append_padded(out, get_part(bytes, start, 8 * count))
+        append_part(out, bytes, start, 8 * count)
     }
 }
 
@@ -93,13 +107,21 @@ fn append_plain(
 /// Refused where memory is, and where it is deeper than that.
 #[cycle(append)]
 #[inline(always)]
-pub(crate) fn append_tree(out: &mut Vec<u8>, bytes: &[u8], w: usize, depth: u8) -> Appended
+pub(crate) fn append_tree(
+    out: &mut Vec<u8>,
+    bytes: &[u8],
+    w: usize,
+    target: Target,
+    depth: u8,
+) -> Appended
     requires forest { Forest bytes.now w }
     requires few { word_count bytes.now < 2 ^ 29 }
     requires small { words_of (tree bytes.now w) < 2 ^ 29 }
+    requires shape { shape_found target ≡ shape_at bytes.now w }
+    requires points { Points bytes.now w (shape_found target) }
     ensures { IfOk result (λ _. out.new.items ≡ out.old.items ++ bytes_of (tree bytes.now w)) }
 {
-    match look(bytes, w) {
+    match target {
         Target::Null => Ok(()),
         Target::Struct {
             start,
@@ -260,8 +282,9 @@ pub(crate) fn fill_row(
     for i in 0..count {
         // its target will start where the bytes end now
         let gap = (out.len() - at) / 8 - 1;
-        put_word(out, at, make_pointer(gap as u64, look(bytes, first + i)));
-        append_tree(out, bytes, first + i, depth)?;
+        let target = look(bytes, first + i);
+        put_word(out, at, make_pointer(gap as u64, target));
+        append_tree(out, bytes, first + i, target, depth)?;
         at += 8;
     }
     Ok(())

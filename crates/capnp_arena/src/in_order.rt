@@ -2,7 +2,7 @@
 //! behind its last element, and no word is left over.
 ghost use Rattle.std.specs.Prelude.{IsTrue, drop, replicate, take, ◌*◌, ◌+◌, ◌-◌, ◌/◌, ◌<◌, ◌^◌, ◌≡◌, ◌≤◌, length};
 ghost use Rattle.capnp_wire.specs.Encoding.{encoding_of, own_bytes, packed, padded};
-ghost use Rattle.capnp_wire.specs.Locate.{list_words};
+ghost use Rattle.capnp_wire.specs.Locate.{element_size, kind, list_words, offset};
 ghost use Rattle.capnp_wire.specs.Place.{bits_from, bytes_at, list_tree};
 ghost use Rattle.capnp_arena.specs.Counts.{AreElementForests, AreForests};
 ghost use Rattle.capnp_arena.specs.Forest.{Forest, tree};
@@ -11,7 +11,7 @@ ghost use Rattle.capnp_arena.specs.Shape.{word_count};
 
 use crate::append::{get_bits, get_part};
 use crate::count::get_list_depth;
-use crate::look::{Target, get_word};
+use crate::look::{Target, get_count, get_inner_word};
 use crate::target::look;
 use capnp_wire::pointer::MEMORY_DEPTH;
 
@@ -35,12 +35,12 @@ fn has_zeros_behind(bytes: &[u8], w: usize, over: usize) -> bool
     requires within { over < 8 }
     ensures { IsTrue result → take (8 - over) (drop (8 * w + over) bytes.now) ≡ replicate (8 - over) 0 }
 {
-    get_word(bytes, w) < 1u64 << (8 * over as u32)
+    get_inner_word(bytes, w) < 1u64 << (8 * over as u32)
 }
 
 /// Where so many bytes end that start at a word, if they have zeros behind them up to a whole word.
 #[inline(always)]
-fn end_of_bytes(bytes: &[u8], start: usize, count: usize) -> Option<usize>
+pub(crate) fn end_of_bytes(bytes: &[u8], start: usize, count: usize) -> Option<usize>
     requires inside { start + (count + 7) / 8 ≤ word_count bytes.now }
     requires few { (start < 2 ^ 30) × (count < 2 ^ 32) }
     ensures { IfKnown result (λ next. (next ≡ start + (count + 7) / 8)
@@ -87,6 +87,15 @@ fn end_of_plain(bytes: &[u8], start: usize, element_size: u8, count: u32) -> Opt
     } else {
         end_of_bytes(bytes, start, 8 * number)
     }
+}
+
+/// Whether the word of a pointer is that to bytes which start so many words after it.
+#[inline(always)]
+fn leads_to_bytes(word: u64, gap: usize) -> bool
+    requires near { gap < 2 ^ 30 }
+    ensures { IsTrue result → (kind word ≡ 1) × (element_size word ≡ 2) × (offset word ≡ gap) }
+{
+    word % (1 << 35) == (2 << 32) + 1 + 4 * gap as u64
 }
 
 /// Where all ends that the pointer at a word leads to, if it starts at `end`, lies in order and is less deep than
@@ -183,9 +192,21 @@ fn follow(bytes: &[u8], w: usize, end: usize, depth: u8) -> Option<usize>
 fn follow_at(bytes: &[u8], w: usize, end: usize, depth: u8) -> Option<usize>
     requires forest { Forest bytes.now w }
     requires few { word_count bytes.now < 2 ^ 29 }
+    requires before { w < end }
     requires inside { end ≤ word_count bytes.now }
     ensures { IfKnown result (λ next. IsLaid bytes.now w end next) }
 {
+    let word = get_inner_word(bytes, w);
+    if word == 0 {
+        return Some(end);
+    }
+    // a text or data: most of what stands in line
+    if leads_to_bytes(word, end - w - 1) {
+        if depth == 0 {
+            return None;
+        }
+        return end_of_plain(bytes, end, 2, get_count(word));
+    }
     match look(bytes, w) {
         Target::Null => Some(end),
         Target::List {

@@ -30,6 +30,7 @@ pub mod pointer_builder;
 mod reader;
 pub mod reads;
 pub mod segment;
+mod sending;
 pub mod sizes;
 mod spell;
 pub mod struct_builder;

@@ -1,5 +1,5 @@
 //! Where a pointer of the segment leads. It was written by a builder, so no bound is tested.
-ghost use Rattle.std.specs.Prelude.{◌+◌, ◌*◌, ◌/◌, ◌<◌, ◌^◌, ◌≡◌, length};
+ghost use Rattle.std.specs.Prelude.{◌+◌, ◌*◌, ◌/◌, ◌<◌, ◌^◌, ◌≡◌, ◌≤◌, length};
 ghost use Rattle.capnp_wire.specs.Locate.{count, data_words, element_size, kind, offset, pointer_count};
 ghost use Rattle.capnp_wire.specs.Slot.{number_at};
 
@@ -66,4 +66,15 @@ pub(crate) fn get_word(bytes: &[u8], w: usize) -> u64
     ensures { result ≡ number_at 8 w bytes.now }
 {
     u64::read(bytes, w as u32)
+}
+
+/// A word that is inside.
+#[inline(always)]
+pub(crate) fn get_inner_word(bytes: &[u8], w: usize) -> u64
+    requires { 8 * w + 8 ≤ length bytes.now }
+    ensures { result ≡ number_at 8 w bytes.now }
+{
+    let mut word: [u8; 8] = [0; 8];
+    word.copy_from_slice(&bytes[8 * w..8 * w + 8]);
+    u64::from_le_bytes(word)
 }

@@ -1,6 +1,9 @@
 //! Whole messages that are built, and what is written of them.
-ghost use Rattle.std.specs.Prelude.{IfOk, suc, [], ◌*◌, ◌++◌, ◌+◌, ◌/◌, ◌<◌, ◌^◌, ◌≡◌, ◌≤◌, length};
+ghost use Rattle.std.specs.Prelude.{IfErr, IfOk, OnOk, suc, [], ◌*◌, ◌++◌, ◌+◌, ◌/◌, ◌<◌, ◌^◌, ◌≡◌, ◌≢◌, ◌≤◌, length};
+ghost use Rattle.capnp_device.specs.Device.{HasFailed, HasWorked};
+ghost use Rattle.capnp_device.specs.declared.error.ErrorKind.TheVariants.{OutOfMemory, WriteFailed};
 ghost use Rattle.capnp_wire.specs.Encoding.{encoding_of, message_of};
+ghost use Rattle.capnp_wire.specs.Message.{IsCutShort, IsWritten};
 ghost use Rattle.capnp_wire.specs.WellFormed.{IsWellFormed};
 ghost use Rattle.capnp_wire.specs.Words.{words_of};
 ghost use Rattle.capnp_arena.specs.Forest.{Forest, tree};
@@ -11,10 +14,12 @@ use crate::arena::Arena;
 use crate::compact::append_anew;
 use crate::count::count_words;
 use crate::in_order::is_in_order;
+use crate::sending::put_whole;
 use crate::spell::put_half;
 use capnp_device::device::Sink;
 use capnp_device::error::{Error, ErrorKind, Result};
 use capnp_device::transfer::write_all;
+use std::alloc::Global;
 
 /// The table of one segment, its root pointer, and what that leads to, made from the tree.
 fn append_made(out: &mut Vec<u8>, bytes: &[u8]) -> Appended
@@ -61,6 +66,24 @@ fn append_message(out: &mut Vec<u8>, bytes: &[u8]) -> Appended
     append_made(out, bytes)
 }
 
+/// Makes the bytes of a message from its tree, and then writes them.
+fn put_made<W: Sink>(alloc: Global, sink: &mut W, bytes: &[u8]) -> Result<()>
+    requires forest { Forest bytes.now 0 }
+    requires few { word_count bytes.now < 2 ^ 29 }
+    ensures written { OnOk result (IsWritten (tree bytes.now 0) (W.written sink.old) (W.written sink.new)) }
+    ensures worked { OnOk result (HasWorked (W.failures sink.old) (W.failures sink.new)) }
+    ensures kind { IfErr result (λ e. e.kind ≢ OutOfMemory → e.kind ≡ WriteFailed) }
+    ensures nothing { IfErr result (λ e. e.kind ≢ WriteFailed → sink.new ≡ sink.old) }
+    ensures failed { IfErr result (λ e. e.kind ≡ WriteFailed
+        → HasFailed (W.failures sink.old) (W.failures sink.new)) }
+    ensures beginning { IfErr result (λ e. e.kind ≡ WriteFailed
+        → IsCutShort (tree bytes.now 0) (W.written sink.old) (W.written sink.new)) }
+{
+    let mut made = Vec::with_capacity(alloc, bytes.len() + 8)?;
+    append_made(&mut made, bytes)?;
+    write_all(sink, &made)
+}
+
 /// A message that is built: its words.
 ///
 /// It is no struct round the words: what a builder of the root leaves is known by its reference, which is the message's
@@ -79,11 +102,9 @@ fn append_message(out: &mut Vec<u8>, bytes: &[u8]) -> Appended
 pub type Builder = Arena;
 
 impl Arena {
-    ghost use Rattle.std.specs.Prelude.{IfErr, IsOk, OnOk, ◌≢◌};
-    ghost use Rattle.capnp_device.specs.Device.{HasFailed, HasWorked};
-    ghost use Rattle.capnp_device.specs.declared.error.ErrorKind.TheVariants.{OutOfMemory, WriteFailed};
+    ghost use Rattle.std.specs.Prelude.{IsOk};
     ghost use Rattle.capnp_wire.specs.Depth.{IsBelow, memory_depth};
-    ghost use Rattle.capnp_wire.specs.Message.{IsCutShort, IsReadAs, IsWritten};
+    ghost use Rattle.capnp_wire.specs.Message.{IsReadAs};
     ghost use Rattle.capnp_arena.specs.Message.{IsMessage, message_tree};
     ghost use Rattle.capnp_arena.specs.Segment.{segment};
 
@@ -124,8 +145,9 @@ impl Arena {
         Ok(out)
     }
 
-    /// Writes the message's bytes, those of `write_message`, to a sink. They are made whole before the first of them is
-    /// written.
+    /// Writes the message's bytes, those of `write_message`, to a sink. A segment that is its encoding already, as what
+    /// was built in order or copied is, goes there as it lies, and no memory is taken. Else the bytes are made whole
+    /// before the first of them is written.
     ///
     /// Refused as `write_message`, and then nothing was written; and with `WriteFailed` where a call of the sink
     /// failed, and then a proper beginning of the bytes was written.
@@ -146,7 +168,10 @@ impl Arena {
             → IsCutShort (message_tree self.now) (W.written sink.old) (W.written sink.new)) }
     {
         self.tree_is_sound(0);
-        let bytes = self.write_message()?;
-        write_all(sink, &bytes)
+        let bytes = self.bytes.as_slice();
+        if !is_in_order(bytes) {
+            return put_made(*self.bytes.allocator(), sink, bytes);
+        }
+        put_whole(sink, bytes)
     }
 }

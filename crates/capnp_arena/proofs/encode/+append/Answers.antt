@@ -24,12 +24,12 @@ use Rattle.capnp_arena.proofs.encode.+append.Goals as goal
 
 pub append_tree-returns-in-Null : goal.append_tree-returns-in-Null
 append_tree-returns-in-Null t c =
-    let e : shape_at c.args.bytes.now c.args.w ≡ NoShape = sym c.look.ensures.shape ∙ ap shape_found c.in-Null.is in
+    let e : shape_at c.args.bytes.now c.args.w ≡ NoShape = sym c.requires.shape ∙ ap shape_found c.in-Null.is in
     sym (ap (λ z. c.args.out.now.items ++ z) (bytes_null _ _ c.requires.forest e) ∙ append-nil c.args.out.now.items)
 
 pub append_tree-returns-then-data_words-pointers-eq0 : goal.append_tree-returns-then-data_words-pointers-eq0
 append_tree-returns-then-data_words-pointers-eq0 t c =
-    let e : shape_at c.args.bytes.now c.args.w ≡ StructIn c.in-Struct.start c.in-Struct.data_words c.in-Struct.pointers = sym c.look.ensures.shape ∙ ap shape_found c.in-Struct.is in
+    let e : shape_at c.args.bytes.now c.args.w ≡ StructIn c.in-Struct.start c.in-Struct.data_words c.in-Struct.pointers = sym c.requires.shape ∙ ap shape_found c.in-Struct.is in
     sym (ap (λ z. c.args.out.now.items ++ z) (bytes_zero _ _ c.requires.forest _ _ _ e c.if-data_words-pointers-eq0.true) ∙ append-nil c.args.out.now.items)
 
 -- a struct that has a word starts after its pointer
@@ -41,44 +41,44 @@ struct_after bytes w a d p h some = elim h [
 
 pub append_tree-append_struct-requires : goal.append_tree-append_struct-requires
 append_tree-append_struct-requires t c =
-    let e : shape_at c.args.bytes.now c.args.w ≡ StructIn c.in-Struct.start c.in-Struct.data_words c.in-Struct.pointers = sym c.look.ensures.shape ∙ ap shape_found c.in-Struct.is in
-    let q : Points c.args.bytes.now c.args.w (StructIn c.in-Struct.start c.in-Struct.data_words c.in-Struct.pointers) = subst (Points c.args.bytes.now c.args.w) (ap shape_found c.in-Struct.is) c.look.ensures.points in
+    let e : shape_at c.args.bytes.now c.args.w ≡ StructIn c.in-Struct.start c.in-Struct.data_words c.in-Struct.pointers = sym c.requires.shape ∙ ap shape_found c.in-Struct.is in
+    let q : Points c.args.bytes.now c.args.w (StructIn c.in-Struct.start c.in-Struct.data_words c.in-Struct.pointers) = subst (Points c.args.bytes.now c.args.w) (ap shape_found c.in-Struct.is) c.requires.points in
     let l : (c.args.w < c.in-Struct.start) × (c.args.w < length c.args.bytes.now) = struct_after _ _ _ _ _ q c.if-data_words-pointers-eq0.false in
     (omega (arith, l.0, l.1), (struct_row _ _ c.requires.forest _ _ _ e, (ends_at _ _ c.requires.forest _ e, (c.requires.few, omega (arith, c.requires.small, words_struct _ _ c.requires.forest _ _ _ e)))))
 
 pub append_tree-returns-else-data_words-pointers-eq0 : goal.append_tree-returns-else-data_words-pointers-eq0
 append_tree-returns-else-data_words-pointers-eq0 t c =
-    let e : shape_at c.args.bytes.now c.args.w ≡ StructIn c.in-Struct.start c.in-Struct.data_words c.in-Struct.pointers = sym c.look.ensures.shape ∙ ap shape_found c.in-Struct.is in
+    let e : shape_at c.args.bytes.now c.args.w ≡ StructIn c.in-Struct.start c.in-Struct.data_words c.in-Struct.pointers = sym c.requires.shape ∙ ap shape_found c.in-Struct.is in
     subst (λ z. IfOk c.append_struct.result (λ _. c.append_struct.new.out.items ≡ c.args.out.now.items ++ z)) (sym (bytes_struct _ _ c.requires.forest _ _ _ e)) c.append_struct.ensures
 
 pub append_tree-append_row-requires : goal.append_tree-append_row-requires
 append_tree-append_row-requires t c =
-    let e : shape_at c.args.bytes.now c.args.w ≡ ListIn c.in-List.start 6 c.in-List.count = sym c.look.ensures.shape ∙ ap shape_found c.in-List.is ∙ ap (λ k. ListIn c.in-List.start k c.in-List.count) c.if-element_size-eq6.true in
-    let q : Points c.args.bytes.now c.args.w (ListIn c.in-List.start c.in-List.element_size c.in-List.count) = subst (Points c.args.bytes.now c.args.w) (ap shape_found c.in-List.is) c.look.ensures.points in
+    let e : shape_at c.args.bytes.now c.args.w ≡ ListIn c.in-List.start 6 c.in-List.count = sym c.requires.shape ∙ ap shape_found c.in-List.is ∙ ap (λ k. ListIn c.in-List.start k c.in-List.count) c.if-element_size-eq6.true in
+    let q : Points c.args.bytes.now c.args.w (ListIn c.in-List.start c.in-List.element_size c.in-List.count) = subst (Points c.args.bytes.now c.args.w) (ap shape_found c.in-List.is) c.requires.points in
     let i : c.args.w < word_count c.args.bytes.now = itself_inside _ _ (ListIn c.in-List.start c.in-List.element_size c.in-List.count) q in
     let n : end_of (ListIn c.in-List.start 6 c.in-List.count) ≤ word_count c.args.bytes.now = ends_at _ _ c.requires.forest _ e in
     (omega (arith, q.0, i), (list_row _ _ c.requires.forest _ _ e, (omega (arith, n), (c.requires.few, omega (arith, c.requires.small, words_pointers _ _ c.requires.forest _ _ e)))))
 
 pub append_tree-returns-then-element_size-eq6 : goal.append_tree-returns-then-element_size-eq6
 append_tree-returns-then-element_size-eq6 t c =
-    let e : shape_at c.args.bytes.now c.args.w ≡ ListIn c.in-List.start 6 c.in-List.count = sym c.look.ensures.shape ∙ ap shape_found c.in-List.is ∙ ap (λ k. ListIn c.in-List.start k c.in-List.count) c.if-element_size-eq6.true in
+    let e : shape_at c.args.bytes.now c.args.w ≡ ListIn c.in-List.start 6 c.in-List.count = sym c.requires.shape ∙ ap shape_found c.in-List.is ∙ ap (λ k. ListIn c.in-List.start k c.in-List.count) c.if-element_size-eq6.true in
     subst (λ z. IfOk c.append_row.result (λ _. c.append_row.new.out.items ≡ c.args.out.now.items ++ z)) (sym (bytes_pointers _ _ c.requires.forest _ _ e)) c.append_row.ensures
 
 pub append_tree-returns-else-element_size-eq6 : goal.append_tree-returns-else-element_size-eq6
 append_tree-returns-else-element_size-eq6 t c =
-    let e : shape_at c.args.bytes.now c.args.w ≡ ListIn c.in-List.start c.in-List.element_size c.in-List.count = sym c.look.ensures.shape ∙ ap shape_found c.in-List.is in
-    let q : Points c.args.bytes.now c.args.w (ListIn c.in-List.start c.in-List.element_size c.in-List.count) = subst (Points c.args.bytes.now c.args.w) (ap shape_found c.in-List.is) c.look.ensures.points in
+    let e : shape_at c.args.bytes.now c.args.w ≡ ListIn c.in-List.start c.in-List.element_size c.in-List.count = sym c.requires.shape ∙ ap shape_found c.in-List.is in
+    let q : Points c.args.bytes.now c.args.w (ListIn c.in-List.start c.in-List.element_size c.in-List.count) = subst (Points c.args.bytes.now c.args.w) (ap shape_found c.in-List.is) c.requires.points in
     subst (λ z. IfOk c.append_plain.result (λ _. c.append_plain.new.out.items ≡ c.args.out.now.items ++ z)) (sym (bytes_plain _ _ c.requires.forest _ _ _ (omega (arith, q.2, c.if-element_size-eq6.false)) e)) c.append_plain.ensures
 
 pub append_tree-append_composite-requires : goal.append_tree-append_composite-requires
 append_tree-append_composite-requires t c =
-    let e : shape_at c.args.bytes.now c.args.w ≡ CompositeIn c.in-Composite.tag c.in-Composite.count c.in-Composite.data_words c.in-Composite.pointers = sym c.look.ensures.shape ∙ ap shape_found c.in-Composite.is in
-    let q : Points c.args.bytes.now c.args.w (CompositeIn c.in-Composite.tag c.in-Composite.count c.in-Composite.data_words c.in-Composite.pointers) = subst (Points c.args.bytes.now c.args.w) (ap shape_found c.in-Composite.is) c.look.ensures.points in
+    let e : shape_at c.args.bytes.now c.args.w ≡ CompositeIn c.in-Composite.tag c.in-Composite.count c.in-Composite.data_words c.in-Composite.pointers = sym c.requires.shape ∙ ap shape_found c.in-Composite.is in
+    let q : Points c.args.bytes.now c.args.w (CompositeIn c.in-Composite.tag c.in-Composite.count c.in-Composite.data_words c.in-Composite.pointers) = subst (Points c.args.bytes.now c.args.w) (ap shape_found c.in-Composite.is) c.requires.points in
     (omega (arith, q.0, q.6), (element_rows _ _ c.requires.forest _ _ _ _ e, (q.6, (c.requires.few, ((q.4, q.2, q.3), omega (arith, c.requires.small, words_composite _ _ c.requires.forest _ _ _ _ e))))))
 
 pub append_tree-returns-else-depth-lt2-2 : goal.append_tree-returns-else-depth-lt2-2
 append_tree-returns-else-depth-lt2-2 t c =
-    let e : shape_at c.args.bytes.now c.args.w ≡ CompositeIn c.in-Composite.tag c.in-Composite.count c.in-Composite.data_words c.in-Composite.pointers = sym c.look.ensures.shape ∙ ap shape_found c.in-Composite.is in
+    let e : shape_at c.args.bytes.now c.args.w ≡ CompositeIn c.in-Composite.tag c.in-Composite.count c.in-Composite.data_words c.in-Composite.pointers = sym c.requires.shape ∙ ap shape_found c.in-Composite.is in
     subst (λ z. IfOk c.append_composite.result (λ _. c.append_composite.new.out.items ≡ c.args.out.now.items ++ z)) (sym (bytes_composite _ _ c.requires.forest _ _ _ _ e)) c.append_composite.ensures
 
 -- ---- pointers in a row ----
@@ -150,7 +150,7 @@ fill_row-put_word-requires t c =
 pub fill_row-append_tree-requires : goal.fill_row-append_tree-requires
 fill_row-append_tree-requires t c =
     let room = rw (row_next (tree c.args.bytes.now) c.args.first c.loop-i.i c.args.count c.loop-i-test.true) at c.loop-i.invariant.room in
-    (omega arith, (c.requires.forests (c.args.first + c.loop-i.i) (omega arith) (omega (arith, c.loop-i-test.true)), (c.requires.few, omega (arith, room.2))))
+    (omega arith, (c.requires.forests (c.args.first + c.loop-i.i) (omega arith) (omega (arith, c.loop-i-test.true)), (c.requires.few, (omega (arith, room.2), (c.look-target.ensures.shape, c.look-target.ensures.points)))))
 
 pub fill_row-loop-i-preserved : goal.fill_row-loop-i-preserved
 fill_row-loop-i-preserved t c =
@@ -160,7 +160,7 @@ fill_row-loop-i-preserved t c =
     let gap : ℕ = (c.len.result - c.loop-i.at) / 8 - 1 in
     let f : Forest c.args.bytes.now (c.args.first + c.loop-i.i) = c.requires.forests (c.args.first + c.loop-i.i) (omega arith) (omega (arith, c.loop-i-test.true)) in
     let w : c.make_pointer.result ≡ pointer_word (words_from c.loop-i.at c.loop-i.out.items - 1) (tree c.args.bytes.now (c.args.first + c.loop-i.i)) =
-    c.make_pointer.ensures ∙ ap (pointer_to ((c.len.result - c.loop-i.at) / 8 - 1)) c.look.ensures.shape ∙ pointer_is c.args.bytes.now (c.args.first + c.loop-i.i) ((c.len.result - c.loop-i.at) / 8 - 1) f
+    c.make_pointer.ensures ∙ ap (pointer_to ((c.len.result - c.loop-i.at) / 8 - 1)) c.look-target.ensures.shape ∙ pointer_is c.args.bytes.now (c.args.first + c.loop-i.i) ((c.len.result - c.loop-i.at) / 8 - 1) f
     ∙ ap (λ k. pointer_word k (tree c.args.bytes.now (c.args.first + c.loop-i.i))) (omega (arith, c.len.ensures)) in
     let g = pointer_filled _ _ _ _ _ _ _ room w c.put_word.ensures.put c.in_ok-append_tree.ensures in
     record { room = g.0; done = g.1 ∙ done }

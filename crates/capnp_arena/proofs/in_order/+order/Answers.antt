@@ -1,13 +1,18 @@
 use Rattle.std.specs.Prelude.{None, Option, Some}
-use Rattle.std.proofs.Common.{arith, ◌≡◌, ◌+◌, ◌-◌, ◌*◌, ◌<◌, ◌≤◌, ◌∙◌, suc, sym, ap, subst, List, ℕ}
+use Rattle.std.proofs.Common.{arith, refl, ◌≡◌, ◌+◌, ◌-◌, ◌*◌, ◌<◌, ◌≤◌, ◌∙◌, suc, sym, ap, subst, List, ℕ}
 use Rattle.capnp_wire.specs.Facts.Bytes.{AreBytes-fits}
+use Rattle.capnp_wire.specs.Locate.{count, element_size, kind, list_words, offset}
+use Rattle.capnp_wire.specs.Slot.{number_at}
 use Rattle.capnp_wire.specs.WellFormed.{AreBytes}
+use Rattle.capnp_arena.specs.Forest.{Forest}
 use Rattle.capnp_arena.specs.InOrder.{AreLaid, IfKnown, IsLaid, IsRowLaid}
-use Rattle.capnp_arena.specs.Looked.{shape_found}
+use Rattle.capnp_arena.specs.Looked.{looked, shape_found}
 use Rattle.capnp_arena.specs.Shape.{CompositeIn, ListIn, NoShape, Points, StructIn, end_of, shape_at, word_count}
 use Rattle.capnp_arena.proofs.Counted.{element_rows, ends_at, list_row}
 use Rattle.capnp_arena.proofs.LaidOut.{composite_laid, null_laid, plain_laid, plain_structs_laid, pointers_laid, row_more_laid, struct_laid, structs_end_laid, structs_more_laid, zero_laid}
+use Rattle.capnp_arena.specs.Facts.Forests.{points}
 use Rattle.capnp_arena.specs.Facts.Shapes.{itself_inside}
+use Rattle.capnp_arena.proofs.Lookings.{looked_is, of_list}
 use Rattle.capnp_arena.proofs.in_order.+order.Goals as goal
 
 -- what is left of a row, and what is left of it after one more
@@ -97,6 +102,41 @@ follow-returns-else-pointers-eq0 t c =
 
 -- ---- a pointer, in line ----
 
+-- its word is inside
+pub follow_at-get_inner_word-word-requires : goal.follow_at-get_inner_word-word-requires
+follow_at-get_inner_word-word-requires t c =
+    let i : c.args.w < word_count c.args.bytes.now = itself_inside _ _ _ (points _ _ c.requires.forest) in
+    omega (arith, i)
+
+pub follow_at-returns-then-word-eq0 : goal.follow_at-returns-then-word-eq0
+follow_at-returns-then-word-eq0 t c =
+    let bytes = c.args.bytes.now in let w = c.args.w in
+    let e : shape_at bytes w ≡ NoShape = sym (looked_is bytes w _ (points bytes w c.requires.forest)) ∙ ap (looked bytes w) (sym c.get_inner_word-word.ensures ∙ c.if-word-eq0.true) in
+    null_laid bytes w c.requires.forest c.args.end c.requires.inside e (subst (Points bytes w) e (points bytes w c.requires.forest))
+
+-- bytes that start where the targets before them end
+bytes_there : (bytes : List ℕ) (w end word : ℕ) → Forest bytes w → word ≡ number_at 8 w bytes → w < end → kind word ≡ 1 → element_size word ≡ 2 → offset word ≡ end - w - 1 → shape_at bytes w ≡ ListIn end 2 (count word)
+bytes_there bytes w end word f n l k s o =
+    sym (looked_is bytes w _ (points bytes w f)) ∙ ap (looked bytes w) (sym n)
+    ∙ of_list bytes w word end 2 (count word) (λ z. omega (arith, z, k)) k s refl (λ z. omega (arith, z)) (omega (arith, o, l))
+
+pub follow_at-end_of_plain-requires-clause-inside : goal.follow_at-end_of_plain-requires-clause-inside
+follow_at-end_of_plain-requires-clause-inside t c =
+    let bytes = c.args.bytes.now in let w = c.args.w in let word = c.get_inner_word-word.result in
+    let h = c.if-leads_to_bytes.ensures refl in
+    let e : shape_at bytes w ≡ ListIn c.args.end 2 (count word) = bytes_there bytes w c.args.end word c.requires.forest c.get_inner_word-word.ensures c.requires.before h.0 h.1 h.2 in
+    let q : Points bytes w (ListIn c.args.end 2 (count word)) = subst (Points bytes w) e (points bytes w c.requires.forest) in
+    subst (λ n. c.args.end + list_words 2 n ≤ word_count bytes) {x = count word} {y = c.get_count.result} (sym c.get_count.ensures) q.4
+
+pub follow_at-returns-then-leads_to_bytes : goal.follow_at-returns-then-leads_to_bytes
+follow_at-returns-then-leads_to_bytes t c =
+    let bytes = c.args.bytes.now in let w = c.args.w in let word = c.get_inner_word-word.result in
+    let h = c.if-leads_to_bytes.ensures refl in
+    let e : shape_at bytes w ≡ ListIn c.args.end 2 (count word) = bytes_there bytes w c.args.end word c.requires.forest c.get_inner_word-word.ensures c.requires.before h.0 h.1 h.2 in
+    let f : shape_at bytes w ≡ ListIn c.args.end 2 c.get_count.result = e ∙ ap (ListIn c.args.end 2) (sym c.get_count.ensures) in
+    let q : Points bytes w (ListIn c.args.end 2 c.get_count.result) = subst (Points bytes w) f (points bytes w c.requires.forest) in
+    if_known c.end_of_plain.result _ _ (λ n x. plain_laid bytes w c.requires.forest c.args.end 2 c.get_count.result n (omega arith) f q x.0 x.1 x.2) c.end_of_plain.ensures
+
 pub follow_at-returns-in-Null : goal.follow_at-returns-in-Null
 follow_at-returns-in-Null t c =
     let e : shape_at c.args.bytes.now c.args.w ≡ NoShape = sym c.look.ensures.shape ∙ ap shape_found c.in-Null.is in
@@ -108,7 +148,7 @@ follow_at-returns-else-depth-least t c =
     let e : shape_at c.args.bytes.now c.args.w ≡ ListIn c.in-List.start c.in-List.element_size c.in-List.count = sym c.look.ensures.shape ∙ ap shape_found c.in-List.is in
     let q : Points c.args.bytes.now c.args.w (ListIn c.in-List.start c.in-List.element_size c.in-List.count) = subst (Points c.args.bytes.now c.args.w) (ap shape_found c.in-List.is) c.look.ensures.points in
     let same : c.in-List.start ≡ c.args.end = omega (arith, c.if-start-end.false) in
-    if_known c.end_of_plain.result _ _ (λ n x. subst (λ a. IsLaid c.args.bytes.now c.args.w a n) same (plain_laid c.args.bytes.now c.args.w c.requires.forest c.in-List.start c.in-List.element_size c.in-List.count n (omega (arith, q.2, c.if-element_size-eq6.false)) e q x.0 x.1 x.2)) c.end_of_plain.ensures
+    if_known c.end_of_plain-in-List.result _ _ (λ n x. subst (λ a. IsLaid c.args.bytes.now c.args.w a n) same (plain_laid c.args.bytes.now c.args.w c.requires.forest c.in-List.start c.in-List.element_size c.in-List.count n (omega (arith, q.2, c.if-element_size-eq6.false)) e q x.0 x.1 x.2)) c.end_of_plain-in-List.ensures
 
 -- ---- rows ----
 
