@@ -144,8 +144,8 @@ pub mod printer {
 
 /// Sets from the requests of the public compiler.
 pub mod request {
+    pub use crate::capnp_request::request_set::new_set;
     pub use crate::capnp_request::{read_request, Converted, Note, StandIn};
-    pub use crate::capnp_schema::request::new_set;
 }
 
 /// Lists of calls along paths, and runs on whole messages.

@@ -84,8 +84,8 @@ pub mod printer {
 
 /// Sets from the requests of the public compiler.
 pub mod request {
+    pub use capnp_request::request_set::new_set;
     pub use capnp_request::{Converted, Note, StandIn, read_request};
-    pub use capnp_schema::request::new_set;
 }
 
 /// Lists of calls along paths, and runs on whole messages.

@@ -1,11 +1,10 @@
 //! Compilers' requests that are converted to checked sets.
 ghost use Rattle.std.specs.Prelude.{◌≡◌};
 ghost use Rattle.capnp_schema.specs.Entries.{lists_seen};
-ghost use Rattle.capnp_schema.specs.RequestSet.{request_set};
+ghost use Rattle.capnp_request.specs.RequestSet.{request_set};
 
 use capnp_dynamic_readers::dynamic_struct;
-use capnp_request::{Converted, read_request};
-use capnp_schema::request;
+use capnp_request::{Converted, read_request, request_set};
 use capnp_schema::set::SchemaSet;
 use capnp_wire::error::Result;
 use capnp_wire::message::Reader;
@@ -28,7 +27,7 @@ fn convert(alloc: Global, set: &SchemaSet, bytes: &[u8]) -> Result<SchemaSet>
 
 /// Converts a request so many times, and adds the numbers of structs.
 fn convert_all(alloc: Global, bytes: &[u8], rounds: u64) -> Result<u64> {
-    let set = request::new_set(alloc)?;
+    let set = request_set::new_set(alloc)?;
     let mut sum: u64 = 0;
     for _ in 0..rounds {
         let made = convert(alloc, &set, bytes)?;

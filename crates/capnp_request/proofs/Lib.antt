@@ -20,6 +20,7 @@ pub mod PartsSeen
 pub mod ProgressMade
 pub mod Refused
 pub mod RefusedKinds
+pub mod RequestAccepted
 pub mod RootsNamed
 pub mod Rows
 pub mod ScopesBound

@@ -3,7 +3,7 @@ use Rattle.std.proofs.Common.{ℕ, ◌+◌, ◌-◌, ◌<◌, ◌≤◌, ◌≡�
 use Rattle.capnp_device.specs.declared.error.ErrorKind.{ErrorKind}
 use Rattle.capnp_wire.specs.Reading.{list_length}
 use Rattle.capnp_wire.specs.Standing.{list_of}
-use Rattle.capnp_schema.specs.RequestSet.{request_set}
+use Rattle.capnp_request.specs.RequestSet.{request_set}
 use Rattle.capnp_schema.specs.Schema.{Schemas, VoidValue}
 use Rattle.capnp_schema.specs.Types.{SchemaType}
 use Rattle.capnp_records.specs.Default.{read_of}

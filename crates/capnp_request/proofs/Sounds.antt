@@ -8,7 +8,7 @@ use Rattle.capnp_wire.specs.Standing.{list_levels, list_of, struct_levels, struc
 use Rattle.capnp_wire.specs.Tree as tree
 use Rattle.capnp_wire.specs.Tree.{StructTree}
 use Rattle.capnp_schema.specs.Accepted.{NamesEntries}
-use Rattle.capnp_schema.specs.RequestSet.{request_set}
+use Rattle.capnp_request.specs.RequestSet.{request_set}
 use Rattle.capnp_schema.specs.Schema.{FieldKind, Group, Schemas, Slot, VoidValue, default_of, field_at}
 use Rattle.capnp_schema.specs.StructHandles.{number_of, set_of}
 use Rattle.capnp_schema.specs.Types.{SchemaType, StructType}

@@ -1,7 +1,7 @@
 -- Which variant a value of a type is.
 use Rattle.std.proofs.Common.{ℕ, ◌≡◌, ◌∙◌, ap, subst, sym, ◌==◌, cond}
 use Rattle.capnp_schema.specs.Accepted.{NamesEntries}
-use Rattle.capnp_schema.specs.RequestSet.{request_set}
+use Rattle.capnp_request.specs.RequestSet.{request_set}
 use Rattle.capnp_schema.specs.Schema.{Schemas}
 use Rattle.capnp_schema.specs.Types.{SchemaType, VoidType, BoolType, IntType, UIntType, EnumType, TextType, DataType, StructType, ListType, AnyPointerType, struct_number}
 use Rattle.capnp_records.specs.Reading.{element_type}

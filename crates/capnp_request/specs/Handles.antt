@@ -3,7 +3,7 @@ use Rattle.std.specs.Prelude.{ℕ, ◌-◌, ◌≡◌, ◌<◌, ◌⊎◌, Bool,
 use Rattle.capnp_wire.specs.Reading.{list_length}
 use Rattle.capnp_wire.specs.Standing.{list_levels, list_of}
 use Rattle.capnp_schema.specs.Accepted.{NamesEntries}
-use Rattle.capnp_schema.specs.RequestSet.{request_set}
+use Rattle.capnp_request.specs.RequestSet.{request_set}
 use Rattle.capnp_schema.specs.Schema.{FieldKind, Group, Slot, field_at, fields_of, is_member}
 use Rattle.capnp_schema.specs.StructHandles.{number_of, set_of}
 use Rattle.capnp_schema.specs.Types.{SchemaType, VoidType, BoolType, IntType, UIntType, EnumType, TextType, DataType, StructType, ListType, AnyPointerType}

@@ -15,6 +15,7 @@ pub mod Parts
 pub mod ProgressSeen
 pub mod Reading
 pub mod Refusals
+pub mod RequestSet
 pub mod Scopes
 pub mod Shapes
 pub mod StructsSeen

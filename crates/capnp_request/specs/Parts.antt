@@ -1,6 +1,6 @@
 -- What is read of the parts of a request's record.
 use Rattle.std.specs.Prelude.{ℕ}
-use Rattle.capnp_schema.specs.RequestSet.{request_set}
+use Rattle.capnp_request.specs.RequestSet.{request_set}
 use Rattle.capnp_schema.specs.Schema.{VoidValue, TypedField, field_at}
 use Rattle.capnp_schema.specs.Types.{SchemaType, ListType, StructType}
 use Rattle.capnp_records.specs.Default.{read_field, read_of}

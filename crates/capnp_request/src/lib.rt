@@ -1,7 +1,7 @@
 //! Sets of schemas from the requests of the public compiler: what `capnp compile -o-` writes becomes the three lists of
 //! which `SchemaSet::new` makes a set.
 //!
-//! A request is read under the request set (`capnp_schema::request`). The crate stands on readers alone.
+//! A request is read under the request set (`request_set`). The crate stands on readers alone.
 #![tactic(auto)]
 
 mod annotations;
@@ -14,6 +14,7 @@ mod names;
 mod notes;
 mod parts;
 mod places;
+pub mod request_set;
 mod roots;
 mod schema_nodes;
 mod scopes;

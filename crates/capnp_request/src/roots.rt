@@ -1,7 +1,7 @@
 //! The structs with which a conversion begins: those of the requested files.
 ghost use Rattle.std.specs.Prelude.{ℕ, List, [], ◌∷◌, ◌≡◌, ◌++◌, false, slice_get, IfErr, IfOk, OnOk};
 ghost use Rattle.capnp_device.specs.declared.error.ErrorKind.TheVariants.{OutOfMemory};
-ghost use Rattle.capnp_schema.specs.RequestSet.{request_set};
+ghost use Rattle.capnp_request.specs.RequestSet.{request_set};
 ghost use Rattle.capnp_schema.specs.Schema.{field_at, is_member};
 ghost use Rattle.capnp_schema.specs.Types.{UIntType};
 ghost use Rattle.capnp_dynamic_readers.specs.Seen.{record_seen};

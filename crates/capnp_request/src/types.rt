@@ -2,7 +2,7 @@
 ghost use Rattle.std.specs.Prelude.{ℕ, List, Bool, cond, ◌≡◌, ◌≢◌, ◌<◌, ◌≤◌, ◌-◌, ◌^◌, false, map, option_map, [], IfErr, IfOk, IfSome, Ok, Err, Some};
 ghost use Rattle.capnp_device.specs.declared.error.ErrorKind.TheVariants.{OutOfMemory, TooManyTypes};
 ghost use Rattle.capnp_base.specs.Types.{type_from};
-ghost use Rattle.capnp_schema.specs.RequestSet.{request_set};
+ghost use Rattle.capnp_request.specs.RequestSet.{request_set};
 ghost use Rattle.capnp_schema.specs.Schema.{field_at, is_member};
 ghost use Rattle.capnp_schema.specs.Types.{ListType, seen_type};
 ghost use Rattle.capnp_records.specs.Part.{which_of};

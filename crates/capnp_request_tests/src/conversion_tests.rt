@@ -1,4 +1,4 @@
-//! Sets from requests of the public compiler: names, notes, refusals, and the texts of messages.
+//! The request set, and sets from requests of the public compiler: names, notes, refusals, and the texts of messages.
 use crate::messages::{
     ADDRESS_BOOK, GENERIC, NOTES, PAIR, PAIR_TEXT, PEOPLE, PEOPLE_TEXT, USE, USE_TEXT,
 };
@@ -7,9 +7,8 @@ use crate::more_messages::{
 };
 use capnp_dynamic_readers::printer::print;
 use capnp_dynamic_readers::{dynamic_struct, dynamic_value};
-use capnp_request::{Converted, Note, StandIn, read_request};
+use capnp_request::{Converted, Note, StandIn, read_request, request_set};
 use capnp_schema::record::{AnnotationRecord, FieldKind, ValueRecord};
-use capnp_schema::request;
 use capnp_schema::set::SchemaSet;
 use capnp_wire::error::{ErrorKind, Result};
 use capnp_wire::message::Reader;
@@ -18,7 +17,7 @@ use std::test::Fail;
 
 /// What a request is converted to.
 fn converted(alloc: Global, bytes: &[u8], strict: bool) -> Result<Converted> {
-    let set = request::new_set(alloc)?;
+    let set = request_set::new_set(alloc)?;
     let message = Reader::new(alloc, bytes)?;
     let root = message.get_root().get_struct()?;
     read_request(
@@ -59,6 +58,13 @@ fn text_of(
         print(dynamic_value::Reader::Struct(reader), &mut text, false)?;
     }
     Ok(text)
+}
+
+#[test]
+fn the_request_set_is_accepted(rt: HostRuntime) -> std::result::Result<(), Fail> {
+    let set = request_set::new_set(rt.alloc())?;
+    assert!(rt; set.nodes().len() == 23 && set.brands().len() == 23 && set.enums().is_empty());
+    Ok(())
 }
 
 #[test]

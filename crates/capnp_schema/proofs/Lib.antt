@@ -1,16 +1,9 @@
-pub mod AcceptedLists
 pub mod AnnotatedLemmas
 pub mod AnnotatedPlaces
 pub mod BrokenSets
 pub mod BuiltinAccepted
 pub mod ByName
 pub mod ByNumber
-pub mod Computed
-pub mod ComputedEntries
-pub mod ComputedGroups
-pub mod ComputedRules
-pub mod ComputedSpans
-pub mod ComputedValues
 pub mod Defaults
 pub mod DiscriminantPlaces
 pub mod EntryTables
@@ -37,7 +30,6 @@ pub mod OneRuleBroken
 pub mod PlanRows
 pub mod Plans
 pub mod RangeLemmas
-pub mod RequestAccepted
 pub mod Rows
 pub mod RowsByName
 pub mod SeenNames

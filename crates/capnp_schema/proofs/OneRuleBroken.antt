@@ -10,10 +10,10 @@ use Rattle.capnp_schema.specs.Broken.{IsBroken}
 use Rattle.capnp_schema.specs.BrokenLaw.{RuleHolds}
 use Rattle.capnp_schema.specs.Builtin.{plain, member, group_member, struct_node, union_node, plain_brand, zero_word}
 use Rattle.capnp_schema.proofs.BrokenSets.{broken_rule_fails}
-use Rattle.capnp_schema.proofs.ComputedRules.{meets_rule1, meets_rule2, meets_rule3, meets_rule4, meets_rule5, meets_rule7, meets_rule9, meets_rule10, rule1, rule2, rule3, rule4, rule5, rule7, rule9, rule10}
-use Rattle.capnp_schema.proofs.ComputedValues.{meets_rule6, rule6}
-use Rattle.capnp_schema.proofs.ComputedGroups.{meets_rule8, rule8}
-use Rattle.capnp_schema.proofs.ComputedSpans.{meets_rule11, meets_rule12, rule11, rule12}
+use Rattle.capnp_schema.specs.Facts.ComputedRules.{meets_rule1, meets_rule2, meets_rule3, meets_rule4, meets_rule5, meets_rule7, meets_rule9, meets_rule10, rule1, rule2, rule3, rule4, rule5, rule7, rule9, rule10}
+use Rattle.capnp_schema.specs.Facts.ComputedValues.{meets_rule6, rule6}
+use Rattle.capnp_schema.specs.Facts.ComputedGroups.{meets_rule8, rule8}
+use Rattle.capnp_schema.specs.Facts.ComputedSpans.{meets_rule11, meets_rule12, rule11, rule12}
 
 -- only rules of such numbers are broken
 abbrev OnlyBroken : Schemas → (ℕ → Bool) → Type 0

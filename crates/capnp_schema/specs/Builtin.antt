@@ -18,12 +18,24 @@ group_member number name node = record { name = name; discriminant_value = numbe
 abbrev pub annotation : ℕ → Value → Annotation
 annotation id value = record { id = id; value = value }
 
+-- a plain field with annotations
+abbrev pub annotated_field : List ℕ → ℕ → Value → List Annotation → Field
+annotated_field name offset default annotations = record { name = name; discriminant_value = 65535; annotations = annotations; kind = Slot offset default }
+
 abbrev pub struct_node : ℕ → List ℕ → ℕ → ℕ → List Field → Node
 struct_node id name data_words pointers fields = record { id = id; display_name = name; annotations = []; data_word_count = data_words; pointer_count = pointers; is_group = false; discriminant_count = 0; discriminant_offset = 0; fields = fields }
 
 -- with a union: how many members it has, and where its discriminant stands
 abbrev pub union_node : ℕ → List ℕ → ℕ → ℕ → ℕ → ℕ → List Field → Node
 union_node id name data_words pointers count offset fields = record { id = id; display_name = name; annotations = []; data_word_count = data_words; pointer_count = pointers; is_group = false; discriminant_count = count; discriminant_offset = offset; fields = fields }
+
+-- a group of a struct of such sections
+abbrev pub group_node : ℕ → List ℕ → ℕ → ℕ → ℕ → ℕ → List Field → Node
+group_node id name data_words pointers count offset fields = record { id = id; display_name = name; annotations = []; data_word_count = data_words; pointer_count = pointers; is_group = true; discriminant_count = count; discriminant_offset = offset; fields = fields }
+
+-- a struct with annotations
+abbrev pub annotated_node : ℕ → List ℕ → ℕ → ℕ → List Field → List Annotation → Node
+annotated_node id name data_words pointers fields annotations = record { id = id; display_name = name; annotations = annotations; data_word_count = data_words; pointer_count = pointers; is_group = false; discriminant_count = 0; discriminant_offset = 0; fields = fields }
 
 abbrev pub zero_word : List ℕ
 zero_word = replicate 8 0
@@ -62,19 +74,16 @@ shapes_node = union_node 103 (codes "Shapes") 2 2 3 1 (
     ∷ [])
 
 abbrev pub circle_node : Node
-circle_node = record { id = 104; display_name = codes "Shapes.circle"; annotations = []; data_word_count = 2; pointer_count = 2; is_group = true; discriminant_count = 0; discriminant_offset = 0; fields = plain (codes "r") 1 (UIntValue 4 0) ∷ [] }
+circle_node = group_node 104 (codes "Shapes.circle") 2 2 0 0 (plain (codes "r") 1 (UIntValue 4 0) ∷ [])
 
-abbrev pub tag_fields : List Field
-tag_fields =
+abbrev pub tag_node : Node
+tag_node = group_node 105 (codes "Shapes.tag") 2 2 2 3 (
     plain (codes "n") 2 (UIntValue 2 0)
     ∷ member 0 (codes "u0") 0 VoidValue
     ∷ member 1 (codes "u1") 8 (UIntValue 1 0)
     ∷ plain (codes "any") 0 (AnyPointerValue zero_word)
     ∷ plain (codes "q") 1 (TextValue [])
-    ∷ []
-
-abbrev pub tag_node : Node
-tag_node = record { id = 105; display_name = codes "Shapes.tag"; annotations = []; data_word_count = 2; pointer_count = 2; is_group = true; discriminant_count = 2; discriminant_offset = 3; fields = tag_fields }
+    ∷ [])
 
 abbrev pub loop_node : Node
 loop_node = union_node 106 (codes "Loop") 1 1 2 0 (
@@ -90,15 +99,18 @@ lists_node = struct_node 107 (codes "Lists") 0 4 (
     ∷ plain (codes "items") 3 (ListValue zero_word)
     ∷ [])
 
+abbrev pub id_annotations : List Annotation
+id_annotations = annotation 8 (UIntValue 2 5) ∷ annotation 9 (EnumValue 2) ∷ annotation 10 (EnumValue 2) ∷ []
+
 abbrev pub node_fields : List Field
 node_fields =
-    record { name = codes "id"; discriminant_value = 65535; annotations = annotation 8 (UIntValue 2 5) ∷ annotation 9 (EnumValue 2) ∷ annotation 10 (EnumValue 2) ∷ []; kind = Slot 0 (UIntValue 8 0) }
+    annotated_field (codes "id") 0 (UIntValue 8 0) id_annotations
     ∷ plain (codes "displayName") 0 (TextValue [])
     ∷ plain (codes "size") 4 (EnumValue 0)
     ∷ []
 
 abbrev pub node_node : Node
-node_node = record { id = 108; display_name = codes "Node"; annotations = annotation 7 (TextValue (codes "note")) ∷ []; data_word_count = 2; pointer_count = 1; is_group = false; discriminant_count = 0; discriminant_offset = 0; fields = node_fields }
+node_node = annotated_node 108 (codes "Node") 2 1 node_fields (annotation 7 (TextValue (codes "note")) ∷ [])
 
 -- a brand of the node of its own number, without annotations
 abbrev pub plain_brand : ℕ → List SchemaType → Brand

@@ -27,7 +27,6 @@ pub mod Names
 pub mod Plan
 pub mod Query
 pub mod Ranges
-pub mod RequestSet
 pub mod Schema
 pub mod SlotBits
 pub mod SlotValue

@@ -1,8 +1,8 @@
 -- The meta set: schemas of a message that stands for a set of schemas.
-use Rattle.std.specs.Prelude.{ℕ, List, [], ◌∷◌, true, false, codes, pos}
+use Rattle.std.specs.Prelude.{ℕ, List, [], ◌∷◌, false, codes, pos}
 use Rattle.capnp_schema.specs.Types.{SchemaType, VoidType, BoolType, IntType, UIntType, TextType, DataType, StructType, ListType}
 use Rattle.capnp_schema.specs.Schema.{Schemas, Node, Field, VoidValue, BoolValue, IntValue, UIntValue, TextValue, DataValue, StructValue, ListValue}
-use Rattle.capnp_schema.specs.Builtin.{plain, member, group_member, struct_node, union_node, plain_brand, zero_word}
+use Rattle.capnp_schema.specs.Builtin.{plain, member, group_member, struct_node, union_node, group_node, plain_brand, zero_word}
 
 -- a struct's type, and that of a list of them
 abbrev pub one : ℕ → SchemaType
@@ -11,50 +11,46 @@ one number = StructType number number
 abbrev pub many : ℕ → SchemaType
 many number = ListType (one number)
 
--- plain fields of pointers, whose defaults are empty or null
-abbrev pub text_field : List ℕ → ℕ → Field
-text_field name offset = plain name offset (TextValue [])
-
-abbrev pub list_field : List ℕ → ℕ → Field
-list_field name offset = plain name offset (ListValue zero_word)
-
-abbrev pub struct_field : List ℕ → ℕ → Field
-struct_field name offset = plain name offset (StructValue zero_word)
-
--- a plain number of so many bytes, 0 by default
-abbrev pub number_field : List ℕ → ℕ → ℕ → Field
-number_field name bytes offset = plain name offset (UIntValue bytes 0)
-
 abbrev pub set_node : Node
-set_node = struct_node 0 (codes "SetRecord") 0 3 (list_field (codes "nodes") 0 ∷ list_field (codes "brands") 1 ∷ list_field (codes "enums") 2 ∷ [])
+set_node = struct_node 0 (codes "SetRecord") 0 3 (
+    plain (codes "nodes") 0 (ListValue zero_word)
+    ∷ plain (codes "brands") 1 (ListValue zero_word)
+    ∷ plain (codes "enums") 2 (ListValue zero_word)
+    ∷ [])
 
 abbrev pub node_node : Node
 node_node = struct_node 0 (codes "NodeRecord") 3 3 (
-    number_field (codes "id") 8 0
-    ∷ number_field (codes "dataWords") 2 4
-    ∷ number_field (codes "pointers") 2 5
-    ∷ number_field (codes "discriminantCount") 2 6
+    plain (codes "id") 0 (UIntValue 8 0)
+    ∷ plain (codes "dataWords") 4 (UIntValue 2 0)
+    ∷ plain (codes "pointers") 5 (UIntValue 2 0)
+    ∷ plain (codes "discriminantCount") 6 (UIntValue 2 0)
     ∷ plain (codes "isGroup") 112 (BoolValue false)
-    ∷ number_field (codes "discriminantOffset") 4 4
-    ∷ text_field (codes "displayName") 0
-    ∷ list_field (codes "annotations") 1
-    ∷ list_field (codes "fields") 2
+    ∷ plain (codes "discriminantOffset") 4 (UIntValue 4 0)
+    ∷ plain (codes "displayName") 0 (TextValue [])
+    ∷ plain (codes "annotations") 1 (ListValue zero_word)
+    ∷ plain (codes "fields") 2 (ListValue zero_word)
     ∷ [])
 
 abbrev pub field_node : Node
 field_node = union_node 0 (codes "FieldRecord") 1 3 2 1 (
     plain (codes "discriminantValue") 0 (UIntValue 2 65535)
-    ∷ text_field (codes "name") 0
-    ∷ list_field (codes "annotations") 1
+    ∷ plain (codes "name") 0 (TextValue [])
+    ∷ plain (codes "annotations") 1 (ListValue zero_word)
     ∷ group_member 0 (codes "slot") 3
     ∷ member 1 (codes "group") 1 (UIntValue 4 0)
     ∷ [])
 
 abbrev pub slot_node : Node
-slot_node = record { id = 0; display_name = codes "FieldRecord.slot"; annotations = []; data_word_count = 1; pointer_count = 3; is_group = true; discriminant_count = 0; discriminant_offset = 0; fields = number_field (codes "offset") 4 1 ∷ struct_field (codes "default") 2 ∷ [] }
+slot_node = group_node 0 (codes "FieldRecord.slot") 1 3 0 0 (
+    plain (codes "offset") 1 (UIntValue 4 0)
+    ∷ plain (codes "default") 2 (StructValue zero_word)
+    ∷ [])
 
 abbrev pub annotation_node : Node
-annotation_node = struct_node 0 (codes "AnnotationRecord") 1 1 (number_field (codes "id") 8 0 ∷ struct_field (codes "value") 0 ∷ [])
+annotation_node = struct_node 0 (codes "AnnotationRecord") 1 1 (
+    plain (codes "id") 0 (UIntValue 8 0)
+    ∷ plain (codes "value") 0 (StructValue zero_word)
+    ∷ [])
 
 -- one member for each kind of value; those behind a pointer share it
 abbrev pub value_fields : List Field
@@ -81,31 +77,34 @@ value_node = union_node 0 (codes "ValueRecord") 2 1 15 0 value_fields
 
 abbrev pub brand_node : Node
 brand_node = struct_node 0 (codes "BrandRecord") 1 3 (
-    number_field (codes "node") 4 0
-    ∷ list_field (codes "fieldTypes") 0
-    ∷ list_field (codes "ownTypes") 1
-    ∷ list_field (codes "childTypes") 2
+    plain (codes "node") 0 (UIntValue 4 0)
+    ∷ plain (codes "fieldTypes") 0 (ListValue zero_word)
+    ∷ plain (codes "ownTypes") 1 (ListValue zero_word)
+    ∷ plain (codes "childTypes") 2 (ListValue zero_word)
     ∷ [])
 
 abbrev pub type_node : Node
 type_node = struct_node 0 (codes "TypeRecord") 1 0 (
-    number_field (codes "base") 2 0
-    ∷ number_field (codes "listCount") 2 1
-    ∷ number_field (codes "number") 4 1
+    plain (codes "base") 0 (UIntValue 2 0)
+    ∷ plain (codes "listCount") 1 (UIntValue 2 0)
+    ∷ plain (codes "number") 1 (UIntValue 4 0)
     ∷ [])
 
 abbrev pub enum_node : Node
 enum_node = struct_node 0 (codes "EnumRecord") 1 5 (
-    number_field (codes "id") 8 0
-    ∷ text_field (codes "displayName") 0
-    ∷ list_field (codes "annotations") 1
-    ∷ list_field (codes "enumerants") 2
-    ∷ list_field (codes "ownTypes") 3
-    ∷ list_field (codes "childTypes") 4
+    plain (codes "id") 0 (UIntValue 8 0)
+    ∷ plain (codes "displayName") 0 (TextValue [])
+    ∷ plain (codes "annotations") 1 (ListValue zero_word)
+    ∷ plain (codes "enumerants") 2 (ListValue zero_word)
+    ∷ plain (codes "ownTypes") 3 (ListValue zero_word)
+    ∷ plain (codes "childTypes") 4 (ListValue zero_word)
     ∷ [])
 
 abbrev pub enumerant_node : Node
-enumerant_node = struct_node 0 (codes "EnumerantRecord") 0 2 (text_field (codes "name") 0 ∷ list_field (codes "annotations") 1 ∷ [])
+enumerant_node = struct_node 0 (codes "EnumerantRecord") 0 2 (
+    plain (codes "name") 0 (TextValue [])
+    ∷ plain (codes "annotations") 1 (ListValue zero_word)
+    ∷ [])
 
 abbrev pub node_types : List SchemaType
 node_types = UIntType 8 ∷ UIntType 2 ∷ UIntType 2 ∷ UIntType 2 ∷ BoolType ∷ UIntType 4 ∷ TextType ∷ many 4 ∷ many 2 ∷ []

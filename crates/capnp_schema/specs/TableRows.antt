@@ -1,23 +1,19 @@
 -- What the rows of a table of schemas stand for.
-use Rattle.std.specs.Prelude.{List, map}
-use Rattle.capnp_base.specs.declared.introspect.«Type».{«Type» as TypeHandle}
-use Rattle.capnp_base.specs.Types.{list_type, type_from}
-use Rattle.capnp_schema.specs.declared.table_rows.TypeRow.{TypeRow}
-use Rattle.capnp_schema.specs.declared.table_rows.TypeRow.TheVariants as type_row
+use Rattle.std.specs.Prelude.{ℕ, List, [], map}
+use Rattle.capnp_base.specs.declared.introspect.TypeVariant.{TypeVariant}
+use Rattle.capnp_base.specs.declared.introspect.TypeVariant.TheVariants as variant
+use Rattle.capnp_base.specs.Types.{type_from}
 use Rattle.capnp_schema.specs.declared.table_rows.ValueRow.{ValueRow}
 use Rattle.capnp_schema.specs.declared.table_rows.ValueRow.TheVariants as row
-use Rattle.capnp_schema.specs.declared.table_rows.KindRow.{KindRow}
-use Rattle.capnp_schema.specs.declared.table_rows.KindRow.TheVariants as kind
 use Rattle.capnp_schema.specs.declared.table_rows.AnnotationRow.{AnnotationRow}
 use Rattle.capnp_schema.specs.declared.table_rows.FieldRow.{FieldRow}
+use Rattle.capnp_schema.specs.declared.table_rows.FieldRow.TheVariants as field
 use Rattle.capnp_schema.specs.declared.table_rows.NodeRow.{NodeRow}
-use Rattle.capnp_schema.specs.Types.{SchemaType, seen_type}
-use Rattle.capnp_schema.specs.Schema.{Node, Brand, Field, FieldKind, Annotation, Slot, Group, Value, VoidValue, BoolValue, IntValue, UIntValue, EnumValue, TextValue, DataValue, StructValue, ListValue, AnyPointerValue}
-
-abbrev pub row_type : TypeRow → TypeHandle
-row_type (type_row.One v) = type_from v
-row_type (type_row.List v) = list_type (type_from v)
-row_type (type_row.ListOfLists v) = list_type (list_type (type_from v))
+use Rattle.capnp_schema.specs.declared.table_rows.NodeRow.TheVariants as node
+use Rattle.capnp_schema.specs.Types.{SchemaType, VoidType, BoolType, IntType, UIntType, EnumType, TextType, DataType, ListType, AnyPointerType, seen_type}
+use Rattle.capnp_schema.specs.Schema.{Node, Brand, Field, FieldKind, Annotation, Value, VoidValue, BoolValue, IntValue, UIntValue, EnumValue, TextValue, DataValue, StructValue, ListValue, AnyPointerValue}
+use Rattle.capnp_schema.specs.Meta.{many, one}
+use Rattle.capnp_schema.specs.Builtin.{annotated_field, annotated_node, annotation, group_member, group_node, member, plain, struct_node, union_node}
 
 abbrev pub row_value : ValueRow → Value
 row_value row.Void = VoidValue
@@ -30,36 +26,79 @@ row_value (row.UInt8 x) = UIntValue 1 x
 row_value (row.UInt16 x) = UIntValue 2 x
 row_value (row.UInt32 x) = UIntValue 4 x
 row_value (row.UInt64 x) = UIntValue 8 x
-row_value (row.Enum x) = EnumValue x
+row_value (row.Enum number x) = EnumValue x
 row_value (row.Text bytes) = TextValue bytes.now
 row_value (row.«Data» bytes) = DataValue bytes.now
-row_value (row.Struct words) = StructValue words.now
-row_value (row.List words) = ListValue words.now
+row_value (row.Struct number words) = StructValue words.now
+row_value (row.StructList number words) = ListValue words.now
+row_value (row.StructListList number words) = ListValue words.now
+row_value (row.UInt8List words) = ListValue words.now
 row_value (row.AnyPointer words) = AnyPointerValue words.now
 
-abbrev pub row_annotation : AnnotationRow → Annotation
-row_annotation a = record { id = a.0; value = row_value a.2 }
+-- the struct whose brand and node have a number
+abbrev pub struct_variant : ℕ → TypeVariant
+struct_variant number = variant.Struct (record { number = number; generic = number })
 
-abbrev pub row_kind : KindRow → FieldKind
-row_kind (kind.Slot offset default) = Slot offset (row_value default)
-row_kind (kind.Group node) = Group node
+-- the type of the field whose default a value is
+abbrev pub row_type : ValueRow → SchemaType
+row_type row.Void = VoidType
+row_type (row.Bool b) = BoolType
+row_type (row.Int8 x) = IntType 1
+row_type (row.Int16 x) = IntType 2
+row_type (row.Int32 x) = IntType 4
+row_type (row.Int64 x) = IntType 8
+row_type (row.UInt8 x) = UIntType 1
+row_type (row.UInt16 x) = UIntType 2
+row_type (row.UInt32 x) = UIntType 4
+row_type (row.UInt64 x) = UIntType 8
+row_type (row.Enum number x) = EnumType number
+row_type (row.Text bytes) = TextType
+row_type (row.«Data» bytes) = DataType
+row_type (row.Struct number words) = one number
+row_type (row.StructList number words) = many number
+row_type (row.StructListList number words) = ListType (many number)
+row_type (row.UInt8List words) = ListType (UIntType 1)
+row_type (row.AnyPointer words) = AnyPointerType
+
+abbrev pub row_annotation : AnnotationRow → Annotation
+row_annotation a = annotation a.0 (row_value a.2)
+
+abbrev pub annotation_type : AnnotationRow → SchemaType
+annotation_type a = seen_type (type_from a.1)
+
+abbrev pub field_of : ℕ → List ℕ → FieldKind → List Annotation → Field
+field_of value name kind annotations = record { name = name; discriminant_value = value; annotations = annotations; kind = kind }
 
 abbrev pub row_field : FieldRow → Field
-row_field f = record { name = f.0.now; discriminant_value = f.1; annotations = map row_annotation f.4.now; kind = row_kind f.2 }
-
-abbrev pub row_node : NodeRow → Node
-row_node n = record { id = n.id; display_name = n.name.now; annotations = map row_annotation n.annotations.now; data_word_count = n.data_words; pointer_count = n.pointers; is_group = n.is_group; discriminant_count = n.members; discriminant_offset = n.discriminant_offset; fields = map row_field n.fields.now }
-
--- the types of a row of annotations
-abbrev pub annotation_type : AnnotationRow → SchemaType
-annotation_type a = seen_type (row_type a.1)
+row_field (field.Plain name offset default) = plain name.now offset (row_value default)
+row_field (field.Member value name offset default) = member value name.now offset (row_value default)
+row_field (field.GroupMember value name node) = group_member value name.now node
+row_field (field.AnnotatedField name offset default annotations) = annotated_field name.now offset (row_value default) (map row_annotation annotations.now)
 
 abbrev pub field_type : FieldRow → SchemaType
-field_type f = seen_type (row_type f.3)
+field_type (field.Plain name offset default) = row_type default
+field_type (field.Member value name offset default) = row_type default
+field_type (field.GroupMember value name node) = one node
+field_type (field.AnnotatedField name offset default annotations) = row_type default
 
 abbrev pub field_annotation_types : FieldRow → List SchemaType
-field_annotation_types f = map annotation_type f.4.now
+field_annotation_types (field.Plain name offset default) = []
+field_annotation_types (field.Member value name offset default) = []
+field_annotation_types (field.GroupMember value name node) = []
+field_annotation_types (field.AnnotatedField name offset default annotations) = map annotation_type annotations.now
 
--- the brand of a node has the node's number
+abbrev pub row_node : NodeRow → Node
+row_node (node.StructNode number id name words pointers fields) = struct_node id name.now words pointers (map row_field fields.now)
+row_node (node.UnionNode number id name words pointers count offset fields) = union_node id name.now words pointers count offset (map row_field fields.now)
+row_node (node.GroupNode number id name words pointers count offset fields) = group_node id name.now words pointers count offset (map row_field fields.now)
+row_node (node.AnnotatedNode number id name words pointers fields annotations) = annotated_node id name.now words pointers (map row_field fields.now) (map row_annotation annotations.now)
+
+-- the brand of a node of such a number, with the types of its fields and annotations
+abbrev pub typed_brand : ℕ → List FieldRow → List AnnotationRow → Brand
+typed_brand number fields annotations = record { node = number; field_types = map field_type fields; annotation_types = record { own = map annotation_type annotations; children = map field_annotation_types fields } }
+
 abbrev pub row_brand : NodeRow → Brand
-row_brand n = record { node = n.number; field_types = map field_type n.fields.now; annotation_types = record { own = map annotation_type n.annotations.now; children = map field_annotation_types n.fields.now } }
+row_brand (node.StructNode number id name words pointers fields) = typed_brand number fields.now []
+row_brand (node.UnionNode number id name words pointers count offset fields) = typed_brand number fields.now []
+row_brand (node.GroupNode number id name words pointers count offset fields) = typed_brand number fields.now []
+row_brand (node.AnnotatedNode number id name words pointers fields annotations) = typed_brand number fields.now annotations.now

@@ -13,7 +13,7 @@ use crate::builtin::table::{NODES, SIZES};
 use crate::making::no_types;
 use crate::record::{AnnotationTypes, BrandRecord, EnumRecord, EnumerantRecord, NodeRecord};
 use crate::set::SchemaSet;
-use crate::table_rows::{MadeOf, all_made};
+use crate::table_rows::{MadeOf, all_made, brand_records, node_records};
 use capnp_wire::error::Error;
 use std::alloc::{AllocError, Global};
 
@@ -85,8 +85,8 @@ pub fn records(alloc: Global) -> Result<(Vec<NodeRecord>, Vec<BrandRecord>, Vec<
     ensures accepted { IfOk result (λ r. IsAccepted (seen_schemas r.0.items r.1.items r.2.items)) }
     ensures err { IfErr result (λ e. e.kind ≡ OutOfMemory) }
 {
-    let nodes = all_made(alloc, &NODES)?;
-    let brands = all_made(alloc, &NODES)?;
+    let nodes = node_records(alloc, &NODES)?;
+    let brands = brand_records(alloc, &NODES)?;
     let enums = enums(alloc)?;
     Ok((nodes, brands, enums))
 }

@@ -11,7 +11,7 @@ mod table;
 use crate::meta::table::NODES;
 use crate::record::{BrandRecord, EnumRecord, NodeRecord};
 use crate::set::SchemaSet;
-use crate::table_rows::all_made;
+use crate::table_rows::{brand_records, node_records};
 use capnp_wire::error::Error;
 use std::alloc::Global;
 
@@ -31,8 +31,8 @@ pub fn records(alloc: Global) -> Result<(Vec<NodeRecord>, Vec<BrandRecord>, Vec<
     ensures accepted { IfOk result (λ r. IsAccepted (seen_schemas r.0.items r.1.items r.2.items)) }
     ensures err { IfErr result (λ e. e.kind ≡ OutOfMemory) }
 {
-    let nodes = all_made(alloc, &NODES)?;
-    let brands = all_made(alloc, &NODES)?;
+    let nodes = node_records(alloc, &NODES)?;
+    let brands = brand_records(alloc, &NODES)?;
     Ok((nodes, brands, Vec::new(alloc)))
 }
 

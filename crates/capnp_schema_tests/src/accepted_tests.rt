@@ -1,8 +1,8 @@
 //! Sets that are accepted, and want of memory.
 
 use capnp_schema::builtin::new_set;
+use capnp_schema::meta;
 use capnp_schema::set::SchemaSet;
-use capnp_schema::{meta, request};
 use capnp_schema_fixtures::set_text::read_set;
 use capnp_wire::error::{ErrorKind, Result};
 use std::test::Fail;
@@ -23,13 +23,6 @@ fn the_built_in_set_is_accepted(rt: HostRuntime) -> std::result::Result<(), Fail
 fn the_meta_set_is_accepted(rt: HostRuntime) -> std::result::Result<(), Fail> {
     let set = meta::new_set(rt.alloc())?;
     assert!(rt; has_counts(&set, 10, 10, 0));
-    Ok(())
-}
-
-#[test]
-fn the_request_set_is_accepted(rt: HostRuntime) -> std::result::Result<(), Fail> {
-    let set = request::new_set(rt.alloc())?;
-    assert!(rt; has_counts(&set, 23, 23, 0));
     Ok(())
 }
 

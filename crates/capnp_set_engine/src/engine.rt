@@ -8,8 +8,7 @@ ghost use Rattle.capnp_set_engine.specs.Convert.{HasNoSet, IsConvertedFrom, IsCu
 
 use crate::notes::get_lines;
 use capnp_dynamic_readers::dynamic_struct;
-use capnp_request::{Converted, read_request};
-use capnp_schema::request;
+use capnp_request::{Converted, read_request, request_set};
 use capnp_schema::set::SchemaSet;
 use capnp_set_writer::set_writer::write_set;
 use capnp_show_engine::command::tell;
@@ -32,7 +31,7 @@ fn read_conversion(alloc: Global, bytes: &[u8], strict: bool) -> Result<Converte
     ensures refused { IfErr result (λ e. e.kind ≢ OutOfMemory → IsUnread strict bytes.now e.kind) }
     ensures of_no_device { IfErr result (λ e. IsOfRead e.kind) }
 {
-    let set = request::new_set(alloc)?;
+    let set = request_set::new_set(alloc)?;
     let reader = Reader::new(alloc, bytes)?;
     let root = reader.get_root().get_struct()?;
     let record = dynamic_struct::Reader::new(root, set.struct_schema(0));

@@ -1,8 +1,9 @@
 //! Sets that are written and read back.
 
 use capnp_base::introspect::TypeVariant;
+use capnp_request::request_set;
 use capnp_schema::set::SchemaSet;
-use capnp_schema::{builtin, meta, request};
+use capnp_schema::{builtin, meta};
 use capnp_schema_fixtures::fixtures::{
     Records, StructOf, add_struct, slot, struct_type, typed_slot,
 };
@@ -60,7 +61,7 @@ fn the_meta_set_is_read_back(rt: HostRuntime) -> Result<(), Fail> {
 
 #[test]
 fn the_request_set_is_read_back(rt: HostRuntime) -> Result<(), Fail> {
-    same_again(&rt, rt.alloc(), &request::new_set(rt.alloc())?)
+    same_again(&rt, rt.alloc(), &request_set::new_set(rt.alloc())?)
 }
 
 #[test]

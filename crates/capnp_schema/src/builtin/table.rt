@@ -1,281 +1,103 @@
 //! The built-in set as a table.
 
-use crate::table_rows::{
-    ANY, AnnotationRow, BOOL, DATA, FieldRow, INT8, INT32, KindRow, NO_TEXT, NULL, NodeRow, PLAIN,
-    TEXT, TypeRow, UINT8, UINT16, UINT32, UINT64, VOID, ValueRow,
+use crate::builtin::{FLAT, LOOP};
+use crate::table_rows::FieldRow::{AnnotatedField, GroupMember, Member, Plain};
+use crate::table_rows::NodeRow::{AnnotatedNode, GroupNode, StructNode, UnionNode};
+use crate::table_rows::ValueRow::{
+    AnyPointer, Bool, Data, Enum, Int8, Int32, Struct, StructList, Text, UInt8, UInt8List, UInt16,
+    UInt32, UInt64, Void,
 };
-use capnp_base::introspect::{RawBrandedStructSchema, RawEnumSchema, TypeVariant};
+use crate::table_rows::{AnnotationRow, FieldRow, NULL, NodeRow};
+use capnp_base::introspect::{RawEnumSchema, TypeVariant};
 
-const SIZE: TypeRow = TypeRow::One(TypeVariant::Enum(RawEnumSchema { number: 0 }));
+/// The numbers of the groups.
+const CIRCLE: u32 = 4;
 
-const FLAT: TypeVariant = TypeVariant::Struct(RawBrandedStructSchema {
-    number: 0,
-    generic: 0,
-});
-
-const CIRCLE: TypeVariant = TypeVariant::Struct(RawBrandedStructSchema {
-    number: 4,
-    generic: 4,
-});
-
-const TAG: TypeVariant = TypeVariant::Struct(RawBrandedStructSchema {
-    number: 5,
-    generic: 5,
-});
-
-const LOOP: TypeVariant = TypeVariant::Struct(RawBrandedStructSchema {
-    number: 6,
-    generic: 6,
-});
+const TAG: u32 = 5;
 
 /// A struct of one data word, which is 1, and one null pointer.
 const LOOP_WORDS: [u8; 24] = [
     0, 0, 0, 0, 1, 0, 1, 0, 1, 0, 0, 0, 0, 0, 0, 0, 0, 0, 0, 0, 0, 0, 0, 0,
 ];
 
+const FLAT_FIELDS: &[FieldRow] = &[Plain("a", 0, UInt16(0))];
+
+const MIXED_FIELDS: &[FieldRow] = &[
+    Plain("a", 0, UInt16(0)),
+    Member(0, "x", 0, Void),
+    Member(1, "y", 4, UInt8(0)),
+    Plain("b", 0, Text(&[])),
+];
+
+const MANY_FIELDS: &[FieldRow] = &[
+    Plain("flag", 0, Bool(true)),
+    Plain("s", 1, Int8(-1)),
+    Plain("n", 1, UInt16(7)),
+    Plain("w", 1, Int32(0)),
+    Plain("q", 1, UInt64(0)),
+    Plain("z", 0, Void),
+];
+
+const SHAPES_FIELDS: &[FieldRow] = &[
+    Plain("id", 0, UInt16(0)),
+    GroupMember(0, "circle", CIRCLE),
+    GroupMember(1, "tag", TAG),
+    Member(2, "word", 0, Text(&[])),
+];
+
+const CIRCLE_FIELDS: &[FieldRow] = &[Plain("r", 1, UInt32(0))];
+
+const TAG_FIELDS: &[FieldRow] = &[
+    Plain("n", 2, UInt16(0)),
+    Member(0, "u0", 0, Void),
+    Member(1, "u1", 8, UInt8(0)),
+    Plain("any", 0, AnyPointer(&NULL)),
+    Plain("q", 1, Text(&[])),
+];
+
+const LOOP_FIELDS: &[FieldRow] = &[
+    Member(0, "end", 0, Void),
+    Member(1, "again", 0, Struct(LOOP, &LOOP_WORDS)),
+];
+
+const LISTS_FIELDS: &[FieldRow] = &[
+    Plain("bytes", 0, UInt8List(&NULL)),
+    Plain("raw", 1, Data(&[])),
+    Plain("t", 2, Text(&[])),
+    Plain("items", 3, StructList(FLAT, &NULL)),
+];
+
+const SIZE: TypeVariant = TypeVariant::Enum(RawEnumSchema { number: 0 });
+
+const ID_ANNOTATIONS: &[AnnotationRow] = &[
+    AnnotationRow(8, TypeVariant::Text, UInt16(5)),
+    AnnotationRow(9, SIZE, Enum(0, 2)),
+    AnnotationRow(10, TypeVariant::Text, Enum(0, 2)),
+];
+
+const NODE_FIELDS: &[FieldRow] = &[
+    AnnotatedField("id", 0, UInt64(0), ID_ANNOTATIONS),
+    Plain("displayName", 0, Text(&[])),
+    Plain("size", 4, Enum(0, 0)),
+];
+
+const NODE_ANNOTATIONS: &[AnnotationRow] = &[AnnotationRow(7, TypeVariant::Text, Text(b"note"))];
+
 /// The nodes: brand k is that of node k.
-pub(crate) static NODES: [NodeRow; 9] = [
-    NodeRow {
-        number: 0,
-        id: 100,
-        name: "Flat",
-        data_words: 1,
-        pointers: 0,
-        is_group: false,
-        members: 0,
-        discriminant_offset: 0,
-        annotations: &[],
-        fields: &[FieldRow(
-            "a",
-            PLAIN,
-            KindRow::Slot(0, ValueRow::UInt16(0)),
-            UINT16,
-            &[],
-        )],
-    },
-    NodeRow {
-        number: 1,
-        id: 101,
-        name: "Mixed",
-        data_words: 1,
-        pointers: 1,
-        is_group: false,
-        members: 2,
-        discriminant_offset: 1,
-        annotations: &[],
-        fields: &[
-            FieldRow(
-                "a",
-                PLAIN,
-                KindRow::Slot(0, ValueRow::UInt16(0)),
-                UINT16,
-                &[],
-            ),
-            FieldRow("x", 0, KindRow::Slot(0, ValueRow::Void), VOID, &[]),
-            FieldRow("y", 1, KindRow::Slot(4, ValueRow::UInt8(0)), UINT8, &[]),
-            FieldRow("b", PLAIN, KindRow::Slot(0, NO_TEXT), TEXT, &[]),
-        ],
-    },
-    NodeRow {
-        number: 2,
-        id: 102,
-        name: "Many",
-        data_words: 2,
-        pointers: 0,
-        is_group: false,
-        members: 0,
-        discriminant_offset: 0,
-        annotations: &[],
-        fields: &[
-            FieldRow(
-                "flag",
-                PLAIN,
-                KindRow::Slot(0, ValueRow::Bool(true)),
-                BOOL,
-                &[],
-            ),
-            FieldRow("s", PLAIN, KindRow::Slot(1, ValueRow::Int8(-1)), INT8, &[]),
-            FieldRow(
-                "n",
-                PLAIN,
-                KindRow::Slot(1, ValueRow::UInt16(7)),
-                UINT16,
-                &[],
-            ),
-            FieldRow("w", PLAIN, KindRow::Slot(1, ValueRow::Int32(0)), INT32, &[]),
-            FieldRow(
-                "q",
-                PLAIN,
-                KindRow::Slot(1, ValueRow::UInt64(0)),
-                UINT64,
-                &[],
-            ),
-            FieldRow("z", PLAIN, KindRow::Slot(0, ValueRow::Void), VOID, &[]),
-        ],
-    },
-    NodeRow {
-        number: 3,
-        id: 103,
-        name: "Shapes",
-        data_words: 2,
-        pointers: 2,
-        is_group: false,
-        members: 3,
-        discriminant_offset: 1,
-        annotations: &[],
-        fields: &[
-            FieldRow(
-                "id",
-                PLAIN,
-                KindRow::Slot(0, ValueRow::UInt16(0)),
-                UINT16,
-                &[],
-            ),
-            FieldRow("circle", 0, KindRow::Group(4), TypeRow::One(CIRCLE), &[]),
-            FieldRow("tag", 1, KindRow::Group(5), TypeRow::One(TAG), &[]),
-            FieldRow("word", 2, KindRow::Slot(0, NO_TEXT), TEXT, &[]),
-        ],
-    },
-    NodeRow {
-        number: 4,
-        id: 104,
-        name: "Shapes.circle",
-        data_words: 2,
-        pointers: 2,
-        is_group: true,
-        members: 0,
-        discriminant_offset: 0,
-        annotations: &[],
-        fields: &[FieldRow(
-            "r",
-            PLAIN,
-            KindRow::Slot(1, ValueRow::UInt32(0)),
-            UINT32,
-            &[],
-        )],
-    },
-    NodeRow {
-        number: 5,
-        id: 105,
-        name: "Shapes.tag",
-        data_words: 2,
-        pointers: 2,
-        is_group: true,
-        members: 2,
-        discriminant_offset: 3,
-        annotations: &[],
-        fields: &[
-            FieldRow(
-                "n",
-                PLAIN,
-                KindRow::Slot(2, ValueRow::UInt16(0)),
-                UINT16,
-                &[],
-            ),
-            FieldRow("u0", 0, KindRow::Slot(0, ValueRow::Void), VOID, &[]),
-            FieldRow("u1", 1, KindRow::Slot(8, ValueRow::UInt8(0)), UINT8, &[]),
-            FieldRow(
-                "any",
-                PLAIN,
-                KindRow::Slot(0, ValueRow::AnyPointer(&NULL)),
-                ANY,
-                &[],
-            ),
-            FieldRow("q", PLAIN, KindRow::Slot(1, NO_TEXT), TEXT, &[]),
-        ],
-    },
-    NodeRow {
-        number: 6,
-        id: 106,
-        name: "Loop",
-        data_words: 1,
-        pointers: 1,
-        is_group: false,
-        members: 2,
-        discriminant_offset: 0,
-        annotations: &[],
-        fields: &[
-            FieldRow("end", 0, KindRow::Slot(0, ValueRow::Void), VOID, &[]),
-            FieldRow(
-                "again",
-                1,
-                KindRow::Slot(0, ValueRow::Struct(&LOOP_WORDS)),
-                TypeRow::One(LOOP),
-                &[],
-            ),
-        ],
-    },
-    NodeRow {
-        number: 7,
-        id: 107,
-        name: "Lists",
-        data_words: 0,
-        pointers: 4,
-        is_group: false,
-        members: 0,
-        discriminant_offset: 0,
-        annotations: &[],
-        fields: &[
-            FieldRow(
-                "bytes",
-                PLAIN,
-                KindRow::Slot(0, ValueRow::List(&NULL)),
-                TypeRow::List(TypeVariant::UInt8),
-                &[],
-            ),
-            FieldRow(
-                "raw",
-                PLAIN,
-                KindRow::Slot(1, ValueRow::Data(&[])),
-                DATA,
-                &[],
-            ),
-            FieldRow("t", PLAIN, KindRow::Slot(2, NO_TEXT), TEXT, &[]),
-            FieldRow(
-                "items",
-                PLAIN,
-                KindRow::Slot(3, ValueRow::List(&NULL)),
-                TypeRow::List(FLAT),
-                &[],
-            ),
-        ],
-    },
-    NodeRow {
-        number: 8,
-        id: 108,
-        name: "Node",
-        data_words: 2,
-        pointers: 1,
-        is_group: false,
-        members: 0,
-        discriminant_offset: 0,
-        annotations: &[AnnotationRow(7, TEXT, ValueRow::Text(b"note"))],
-        fields: &[
-            FieldRow(
-                "id",
-                PLAIN,
-                KindRow::Slot(0, ValueRow::UInt64(0)),
-                UINT64,
-                &[
-                    AnnotationRow(8, TEXT, ValueRow::UInt16(5)),
-                    AnnotationRow(9, SIZE, ValueRow::Enum(2)),
-                    AnnotationRow(10, TEXT, ValueRow::Enum(2)),
-                ],
-            ),
-            FieldRow("displayName", PLAIN, KindRow::Slot(0, NO_TEXT), TEXT, &[]),
-            FieldRow(
-                "size",
-                PLAIN,
-                KindRow::Slot(4, ValueRow::Enum(0)),
-                SIZE,
-                &[],
-            ),
-        ],
-    },
+pub(super) static NODES: [NodeRow; 9] = [
+    StructNode(0, 100, "Flat", 1, 0, FLAT_FIELDS),
+    UnionNode(1, 101, "Mixed", 1, 1, 2, 1, MIXED_FIELDS),
+    StructNode(2, 102, "Many", 2, 0, MANY_FIELDS),
+    UnionNode(3, 103, "Shapes", 2, 2, 3, 1, SHAPES_FIELDS),
+    GroupNode(4, 104, "Shapes.circle", 2, 2, 0, 0, CIRCLE_FIELDS),
+    GroupNode(5, 105, "Shapes.tag", 2, 2, 2, 3, TAG_FIELDS),
+    UnionNode(6, 106, "Loop", 1, 1, 2, 0, LOOP_FIELDS),
+    StructNode(7, 107, "Lists", 0, 4, LISTS_FIELDS),
+    AnnotatedNode(8, 108, "Node", 2, 1, NODE_FIELDS, NODE_ANNOTATIONS),
 ];
 
 /// The names of the enumerants of `ElementSize`.
-pub(crate) static SIZES: [&str; 8] = [
+pub(super) static SIZES: [&str; 8] = [
     "empty",
     "bit",
     "byte",

@@ -1,5 +1,5 @@
 use Rattle.std.proofs.Common.{refl}
-use Rattle.capnp_schema.specs.RequestSet.{request_set}
+use Rattle.capnp_request.specs.RequestSet.{request_set}
 use Rattle.capnp_request.specs.Parts.{one}
 use Rattle.capnp_request.proofs.Taken.{kind_is, record_under}
 use Rattle.capnp_request.proofs.parts.struct_of.Goals as goal

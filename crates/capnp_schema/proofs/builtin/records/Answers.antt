@@ -1,5 +1,5 @@
 use Rattle.capnp_schema.specs.Builtin.{builtin}
-use Rattle.capnp_schema.proofs.AcceptedLists.{lists_accepted}
+use Rattle.capnp_schema.specs.Facts.AcceptedLists.{lists_accepted}
 use Rattle.capnp_schema.proofs.BuiltinAccepted.{builtin_accepted}
 use Rattle.capnp_schema.proofs.builtin.records.Goals as goal
 

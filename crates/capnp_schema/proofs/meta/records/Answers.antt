@@ -1,7 +1,7 @@
 use Rattle.std.proofs.Common.{ap, map}
 use Rattle.capnp_schema.specs.Meta.{meta}
 use Rattle.capnp_schema.specs.Schema.{seen_enum}
-use Rattle.capnp_schema.proofs.AcceptedLists.{lists_accepted}
+use Rattle.capnp_schema.specs.Facts.AcceptedLists.{lists_accepted}
 use Rattle.capnp_schema.proofs.MetaAccepted.{meta_accepted}
 use Rattle.capnp_schema.proofs.meta.records.Goals as goal
 

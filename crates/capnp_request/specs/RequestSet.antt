@@ -1,12 +1,9 @@
--- The set under which a compiler's request is read: what `request::new_set` gives, as specs see it.
-use Rattle.std.specs.Prelude.{ℕ, List, [], ◌∷◌, true, false, codes, pos}
-use Rattle.capnp_schema.specs.Types.{VoidType, BoolType, IntType, UIntType, TextType, DataType, StructType, ListType, AnyPointerType}
-use Rattle.capnp_schema.specs.Schema.{Schemas, Node, Field, VoidValue, BoolValue, IntValue, UIntValue, TextValue, DataValue, StructValue, ListValue, AnyPointerValue}
-use Rattle.capnp_schema.specs.Builtin.{group_member, member, plain, plain_brand, struct_node, union_node, zero_word}
-
--- a group of a struct of such sections
-abbrev pub group_node : List ℕ → ℕ → ℕ → ℕ → ℕ → List Field → Node
-group_node name data_words pointers count offset fields = record { id = 0; display_name = name; annotations = []; data_word_count = data_words; pointer_count = pointers; is_group = true; discriminant_count = count; discriminant_offset = offset; fields = fields }
+-- The set under which a compiler's request is read: what `request_set::new_set` gives, as specs see it.
+use Rattle.std.specs.Prelude.{List, [], ◌∷◌, false, codes, pos}
+use Rattle.capnp_schema.specs.Types.{SchemaType, VoidType, BoolType, IntType, UIntType, TextType, DataType, AnyPointerType}
+use Rattle.capnp_schema.specs.Schema.{Schemas, Node, VoidValue, BoolValue, IntValue, UIntValue, TextValue, DataValue, StructValue, ListValue, AnyPointerValue}
+use Rattle.capnp_schema.specs.Meta.{many, one}
+use Rattle.capnp_schema.specs.Builtin.{group_member, group_node, member, plain, plain_brand, struct_node, union_node, zero_word}
 
 abbrev pub code_generator_request_node : Node
 code_generator_request_node = struct_node 0 (codes "CodeGeneratorRequest") 0 4 (
@@ -15,7 +12,9 @@ code_generator_request_node = struct_node 0 (codes "CodeGeneratorRequest") 0 4 (
     ∷ [])
 
 abbrev pub code_generator_request_requested_file_node : Node
-code_generator_request_requested_file_node = struct_node 0 (codes "CodeGeneratorRequest.RequestedFile") 1 2 (plain (codes "id") 0 (UIntValue 8 0) ∷ [])
+code_generator_request_requested_file_node = struct_node 0 (codes "CodeGeneratorRequest.RequestedFile") 1 2 (
+    plain (codes "id") 0 (UIntValue 8 0)
+    ∷ [])
 
 abbrev pub node_node : Node
 node_node = union_node 0 (codes "Node") 5 6 6 6 (
@@ -34,7 +33,7 @@ node_node = union_node 0 (codes "Node") 5 6 6 6 (
     ∷ [])
 
 abbrev pub node_struct_node : Node
-node_struct_node = group_node (codes "Node.struct") 5 6 0 0 (
+node_struct_node = group_node 0 (codes "Node.struct") 5 6 0 0 (
     plain (codes "dataWordCount") 7 (UIntValue 2 0)
     ∷ plain (codes "pointerCount") 12 (UIntValue 2 0)
     ∷ plain (codes "isGroup") 224 (BoolValue false)
@@ -44,10 +43,12 @@ node_struct_node = group_node (codes "Node.struct") 5 6 0 0 (
     ∷ [])
 
 abbrev pub node_enum_node : Node
-node_enum_node = group_node (codes "Node.enum") 5 6 0 0 (plain (codes "enumerants") 3 (ListValue zero_word) ∷ [])
+node_enum_node = group_node 0 (codes "Node.enum") 5 6 0 0 (plain (codes "enumerants") 3 (ListValue zero_word) ∷ [])
 
 abbrev pub node_annotation_node : Node
-node_annotation_node = group_node (codes "Node.annotation") 5 6 0 0 (plain (codes "type") 3 (StructValue zero_word) ∷ [])
+node_annotation_node = group_node 0 (codes "Node.annotation") 5 6 0 0 (
+    plain (codes "type") 3 (StructValue zero_word)
+    ∷ [])
 
 abbrev pub node_nested_node_node : Node
 node_nested_node_node = struct_node 0 (codes "Node.NestedNode") 1 1 (plain (codes "id") 0 (UIntValue 8 0) ∷ [])
@@ -65,14 +66,14 @@ field_node = union_node 0 (codes "Field") 3 4 2 4 (
     ∷ [])
 
 abbrev pub field_slot_node : Node
-field_slot_node = group_node (codes "Field.slot") 3 4 0 0 (
+field_slot_node = group_node 0 (codes "Field.slot") 3 4 0 0 (
     plain (codes "offset") 1 (UIntValue 4 0)
     ∷ plain (codes "type") 2 (StructValue zero_word)
     ∷ plain (codes "defaultValue") 3 (StructValue zero_word)
     ∷ [])
 
 abbrev pub field_group_node : Node
-field_group_node = group_node (codes "Field.group") 3 4 0 0 (plain (codes "typeId") 2 (UIntValue 8 0) ∷ [])
+field_group_node = group_node 0 (codes "Field.group") 3 4 0 0 (plain (codes "typeId") 2 (UIntValue 8 0) ∷ [])
 
 abbrev pub enumerant_node : Node
 enumerant_node = struct_node 0 (codes "Enumerant") 1 2 (
@@ -111,26 +112,26 @@ type_node = union_node 0 (codes "Type") 3 1 19 0 (
     ∷ [])
 
 abbrev pub type_list_node : Node
-type_list_node = group_node (codes "Type.list") 3 1 0 0 (plain (codes "elementType") 0 (StructValue zero_word) ∷ [])
+type_list_node = group_node 0 (codes "Type.list") 3 1 0 0 (plain (codes "elementType") 0 (StructValue zero_word) ∷ [])
 
 abbrev pub type_enum_node : Node
-type_enum_node = group_node (codes "Type.enum") 3 1 0 0 (plain (codes "typeId") 1 (UIntValue 8 0) ∷ [])
+type_enum_node = group_node 0 (codes "Type.enum") 3 1 0 0 (plain (codes "typeId") 1 (UIntValue 8 0) ∷ [])
 
 abbrev pub type_struct_node : Node
-type_struct_node = group_node (codes "Type.struct") 3 1 0 0 (
+type_struct_node = group_node 0 (codes "Type.struct") 3 1 0 0 (
     plain (codes "typeId") 1 (UIntValue 8 0)
     ∷ plain (codes "brand") 0 (StructValue zero_word)
     ∷ [])
 
 abbrev pub type_any_pointer_node : Node
-type_any_pointer_node = group_node (codes "Type.anyPointer") 3 1 3 4 (
+type_any_pointer_node = group_node 0 (codes "Type.anyPointer") 3 1 3 4 (
     member 0 (codes "unconstrained") 0 VoidValue
     ∷ group_member 1 (codes "parameter") 18
     ∷ member 2 (codes "implicitMethodParameter") 0 VoidValue
     ∷ [])
 
 abbrev pub type_any_pointer_parameter_node : Node
-type_any_pointer_parameter_node = group_node (codes "Type.anyPointer.parameter") 3 1 0 0 (
+type_any_pointer_parameter_node = group_node 0 (codes "Type.anyPointer.parameter") 3 1 0 0 (
     plain (codes "scopeId") 2 (UIntValue 8 0)
     ∷ plain (codes "parameterIndex") 5 (UIntValue 2 0)
     ∷ [])
@@ -174,33 +175,54 @@ value_node = union_node 0 (codes "Value") 2 1 19 0 (
     ∷ member 18 (codes "anyPointer") 0 (AnyPointerValue zero_word)
     ∷ [])
 
+abbrev pub node_types : List SchemaType
+node_types =
+    UIntType 8 ∷ TextType ∷ UIntType 8 ∷ many 6 ∷ many 12 ∷ VoidType ∷ one 3 ∷ one 4 ∷ VoidType ∷ VoidType ∷ one 5
+    ∷ many 7 ∷ []
+
+abbrev pub type_types : List SchemaType
+type_types =
+    VoidType ∷ VoidType ∷ VoidType ∷ VoidType ∷ VoidType ∷ VoidType ∷ VoidType ∷ VoidType ∷ VoidType ∷ VoidType
+    ∷ VoidType ∷ VoidType ∷ VoidType ∷ VoidType ∷ one 14 ∷ one 15 ∷ one 16 ∷ VoidType ∷ one 17 ∷ []
+
+abbrev pub value_types : List SchemaType
+value_types =
+    VoidType ∷ BoolType ∷ IntType 1 ∷ IntType 2 ∷ IntType 4 ∷ IntType 8 ∷ UIntType 1 ∷ UIntType 2 ∷ UIntType 4
+    ∷ UIntType 8 ∷ UIntType 4 ∷ UIntType 8 ∷ TextType ∷ DataType ∷ AnyPointerType ∷ UIntType 2 ∷ AnyPointerType
+    ∷ VoidType ∷ AnyPointerType ∷ []
+
 abbrev pub request_set : Schemas
 request_set = record {
-  nodes = code_generator_request_node ∷ code_generator_request_requested_file_node ∷ node_node ∷ node_struct_node ∷ node_enum_node ∷ node_annotation_node ∷ node_nested_node_node ∷ node_parameter_node ∷ field_node ∷ field_slot_node ∷ field_group_node ∷ enumerant_node ∷ annotation_node ∷ type_node ∷ type_list_node ∷ type_enum_node ∷ type_struct_node ∷ type_any_pointer_node ∷ type_any_pointer_parameter_node ∷ brand_node ∷ brand_scope_node ∷ brand_binding_node ∷ value_node ∷ [];
+  nodes =
+      code_generator_request_node ∷ code_generator_request_requested_file_node ∷ node_node ∷ node_struct_node
+      ∷ node_enum_node ∷ node_annotation_node ∷ node_nested_node_node ∷ node_parameter_node ∷ field_node
+      ∷ field_slot_node ∷ field_group_node ∷ enumerant_node ∷ annotation_node ∷ type_node ∷ type_list_node
+      ∷ type_enum_node ∷ type_struct_node ∷ type_any_pointer_node ∷ type_any_pointer_parameter_node ∷ brand_node
+      ∷ brand_scope_node ∷ brand_binding_node ∷ value_node ∷ [];
   brands =
-      plain_brand 0 (ListType (StructType 2 2) ∷ ListType (StructType 1 1) ∷ [])
+      plain_brand 0 (many 2 ∷ many 1 ∷ [])
       ∷ plain_brand 1 (UIntType 8 ∷ [])
-      ∷ plain_brand 2 (UIntType 8 ∷ TextType ∷ UIntType 8 ∷ ListType (StructType 6 6) ∷ ListType (StructType 12 12) ∷ VoidType ∷ StructType 3 3 ∷ StructType 4 4 ∷ VoidType ∷ VoidType ∷ StructType 5 5 ∷ ListType (StructType 7 7) ∷ [])
-      ∷ plain_brand 3 (UIntType 2 ∷ UIntType 2 ∷ BoolType ∷ UIntType 2 ∷ UIntType 4 ∷ ListType (StructType 8 8) ∷ [])
-      ∷ plain_brand 4 (ListType (StructType 11 11) ∷ [])
-      ∷ plain_brand 5 (StructType 13 13 ∷ [])
+      ∷ plain_brand 2 node_types
+      ∷ plain_brand 3 (UIntType 2 ∷ UIntType 2 ∷ BoolType ∷ UIntType 2 ∷ UIntType 4 ∷ many 8 ∷ [])
+      ∷ plain_brand 4 (many 11 ∷ [])
+      ∷ plain_brand 5 (one 13 ∷ [])
       ∷ plain_brand 6 (UIntType 8 ∷ [])
       ∷ plain_brand 7 (TextType ∷ [])
-      ∷ plain_brand 8 (TextType ∷ ListType (StructType 12 12) ∷ UIntType 2 ∷ StructType 9 9 ∷ StructType 10 10 ∷ [])
-      ∷ plain_brand 9 (UIntType 4 ∷ StructType 13 13 ∷ StructType 22 22 ∷ [])
+      ∷ plain_brand 8 (TextType ∷ many 12 ∷ UIntType 2 ∷ one 9 ∷ one 10 ∷ [])
+      ∷ plain_brand 9 (UIntType 4 ∷ one 13 ∷ one 22 ∷ [])
       ∷ plain_brand 10 (UIntType 8 ∷ [])
-      ∷ plain_brand 11 (TextType ∷ ListType (StructType 12 12) ∷ [])
-      ∷ plain_brand 12 (UIntType 8 ∷ StructType 22 22 ∷ StructType 19 19 ∷ [])
-      ∷ plain_brand 13 (VoidType ∷ VoidType ∷ VoidType ∷ VoidType ∷ VoidType ∷ VoidType ∷ VoidType ∷ VoidType ∷ VoidType ∷ VoidType ∷ VoidType ∷ VoidType ∷ VoidType ∷ VoidType ∷ StructType 14 14 ∷ StructType 15 15 ∷ StructType 16 16 ∷ VoidType ∷ StructType 17 17 ∷ [])
-      ∷ plain_brand 14 (StructType 13 13 ∷ [])
+      ∷ plain_brand 11 (TextType ∷ many 12 ∷ [])
+      ∷ plain_brand 12 (UIntType 8 ∷ one 22 ∷ one 19 ∷ [])
+      ∷ plain_brand 13 type_types
+      ∷ plain_brand 14 (one 13 ∷ [])
       ∷ plain_brand 15 (UIntType 8 ∷ [])
-      ∷ plain_brand 16 (UIntType 8 ∷ StructType 19 19 ∷ [])
-      ∷ plain_brand 17 (VoidType ∷ StructType 18 18 ∷ VoidType ∷ [])
+      ∷ plain_brand 16 (UIntType 8 ∷ one 19 ∷ [])
+      ∷ plain_brand 17 (VoidType ∷ one 18 ∷ VoidType ∷ [])
       ∷ plain_brand 18 (UIntType 8 ∷ UIntType 2 ∷ [])
-      ∷ plain_brand 19 (ListType (StructType 20 20) ∷ [])
-      ∷ plain_brand 20 (UIntType 8 ∷ ListType (StructType 21 21) ∷ VoidType ∷ [])
-      ∷ plain_brand 21 (VoidType ∷ StructType 13 13 ∷ [])
-      ∷ plain_brand 22 (VoidType ∷ BoolType ∷ IntType 1 ∷ IntType 2 ∷ IntType 4 ∷ IntType 8 ∷ UIntType 1 ∷ UIntType 2 ∷ UIntType 4 ∷ UIntType 8 ∷ UIntType 4 ∷ UIntType 8 ∷ TextType ∷ DataType ∷ AnyPointerType ∷ UIntType 2 ∷ AnyPointerType ∷ VoidType ∷ AnyPointerType ∷ [])
+      ∷ plain_brand 19 (many 20 ∷ [])
+      ∷ plain_brand 20 (UIntType 8 ∷ many 21 ∷ VoidType ∷ [])
+      ∷ plain_brand 21 (VoidType ∷ one 13 ∷ [])
+      ∷ plain_brand 22 value_types
       ∷ [];
   enums = [];
 }

@@ -6,7 +6,7 @@ use Rattle.std.proofs.lemmas.Option.{same_Some}
 use Rattle.capnp_schema.specs.Types.{SchemaType}
 use Rattle.capnp_schema.specs.Schema.{Schemas, FieldKind, Slot, Group, TypedField, node_of, fields_of, field_at, kind_target}
 use Rattle.capnp_schema.specs.Accepted.{EndsAtStruct, HasOneParent, IsGroupBrand, IsGroupOf, IsParent, Rule8}
-use Rattle.capnp_schema.proofs.Computed.{both, all_below, passes_below, all_fields, each_field}
+use Rattle.capnp_schema.specs.Facts.Computed.{both, all_below, passes_below, all_fields, each_field}
 
 abbrev pub is_target : Option ℕ → ℕ → Bool
 is_target None g = false

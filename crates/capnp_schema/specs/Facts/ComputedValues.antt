@@ -12,8 +12,8 @@ use Rattle.capnp_wire.specs.Words.{first_fault}
 use Rattle.capnp_schema.specs.Types.{SchemaType, ListType, element_size}
 use Rattle.capnp_schema.specs.Schema.{Schemas, Node, Field, Annotation, FieldKind, Slot, Group, Value, TextValue, DataValue, StructValue, ListValue, AnyPointerValue, default_of}
 use Rattle.capnp_schema.specs.Accepted.{KindDefault, ReadsDefault, AreWords, HasWords, HaveWords, IsStructOrNull, IsListOrNull, Decodes, ListReads, DefaultStands, NodeHasWords, root_of, EachOfEnum, Rule6}
-use Rattle.capnp_schema.proofs.Computed.{both, all_pass, all_fields, each_field}
-use Rattle.capnp_schema.proofs.ComputedRules.{passes_node, passes_enum, of_node, of_enum}
+use Rattle.capnp_schema.specs.Facts.Computed.{both, all_pass, all_fields, each_field}
+use Rattle.capnp_schema.specs.Facts.ComputedRules.{passes_node, passes_enum, of_node, of_enum}
 
 -- ---- whole words ----
 

@@ -5,7 +5,7 @@ use Rattle.std.proofs.lemmas.Bool.Decides.{Decides-eqb}
 use Rattle.capnp_schema.specs.Types.{SchemaType, VoidType, BoolType, IntType, UIntType, EnumType, TextType, DataType, StructType, ListType, AnyPointerType, is_pointer, width}
 use Rattle.capnp_schema.specs.Schema.{Schemas, Node, brand_at, node_of, FieldKind, Slot, Group, Value, VoidValue, BoolValue, IntValue, UIntValue, EnumValue, TextValue, DataValue, StructValue, ListValue, AnyPointerValue}
 use Rattle.capnp_schema.specs.Accepted.{NamesEntries, LiesInside, KindDefault, IsDefaultOf, NamesNoGroup, GroupFits, DiscriminantFits}
-use Rattle.capnp_schema.proofs.Computed.{both, either, not_so}
+use Rattle.capnp_schema.specs.Facts.Computed.{both, either, not_so}
 
 -- what a test tells, where it passes
 abbrev pub where_true : {P : Type 0} → (test : Bool) → (test ≡ true → P) → Option P

@@ -4,16 +4,15 @@ ghost use Rattle.std.specs.Prelude.{◌≡◌, IfErr, IfOk};
 ghost use Rattle.capnp_device.specs.declared.error.ErrorKind.TheVariants.{OutOfMemory};
 ghost use Rattle.capnp_schema.specs.Schema.{seen_schemas};
 ghost use Rattle.capnp_schema.specs.Accepted.{IsAccepted};
-ghost use Rattle.capnp_schema.specs.RequestSet.{request_set};
+ghost use Rattle.capnp_request.specs.RequestSet.{request_set};
 ghost use Rattle.capnp_schema.specs.Entries.{lists_seen};
 
-mod structs;
 mod table;
 
-use crate::record::{BrandRecord, EnumRecord, NodeRecord};
-use crate::request::table::NODES;
-use crate::set::SchemaSet;
-use crate::table_rows::all_made;
+use crate::request_set::table::NODES;
+use capnp_schema::record::{BrandRecord, EnumRecord, NodeRecord};
+use capnp_schema::set::SchemaSet;
+use capnp_schema::table_rows::{brand_records, node_records};
 use capnp_wire::error::Error;
 use std::alloc::Global;
 
@@ -32,8 +31,8 @@ pub fn records(alloc: Global) -> Result<(Vec<NodeRecord>, Vec<BrandRecord>, Vec<
     ensures accepted { IfOk result (λ r. IsAccepted (seen_schemas r.0.items r.1.items r.2.items)) }
     ensures err { IfErr result (λ e. e.kind ≡ OutOfMemory) }
 {
-    let nodes = all_made(alloc, &NODES)?;
-    let brands = all_made(alloc, &NODES)?;
+    let nodes = node_records(alloc, &NODES)?;
+    let brands = brand_records(alloc, &NODES)?;
     Ok((nodes, brands, Vec::new(alloc)))
 }
 

@@ -9,9 +9,9 @@ use Rattle.std.proofs.lemmas.Slice.Eq.{bytes_eq-Decides}
 use Rattle.capnp_schema.specs.Types.{SchemaType}
 use Rattle.capnp_schema.specs.Schema.{Schemas, Node, Brand, Enum, Enumerant, Field, Annotation, AnnotationTypes, brand_at, node_of, is_member}
 use Rattle.capnp_schema.specs.Accepted.{AllName, BrandHasTypes, DefaultIsOfType, DiscriminantFits, EachOfEnum, EachOfNode, EnumHasTypes, HasEachMember, HasFewAnnotations, HasFewEnumerants, HasFewFields, HasNamedType, HasOwnName, HasTypes, NamesEntries, NamesOwnGroup, Rule1, Rule10, Rule2, Rule3, Rule4, Rule5, Rule7, Rule9, SlotLiesInside, TypesName}
-use Rattle.capnp_schema.proofs.ComputedEntries.{is_shown, shown, named, inside, slot_default, group_fits, discriminant_fits}
+use Rattle.capnp_schema.specs.Facts.ComputedEntries.{is_shown, shown, named, inside, slot_default, group_fits, discriminant_fits}
 use Rattle.capnp_schema.specs.Facts.Fields.{All-entry}
-use Rattle.capnp_schema.proofs.Computed.{both, not_so, not_both, all_below, passes_below, all_pass, all_pairs, each_pair, all_fields, each_field}
+use Rattle.capnp_schema.specs.Facts.Computed.{both, not_so, not_both, all_below, passes_below, all_pass, all_pairs, each_pair, all_fields, each_field}
 
 -- ---- rule 1 ----
 
