@@ -125,7 +125,8 @@ pub mod message {
 
 /// Calls along paths on messages, as words say them; what stands at a path.
 pub mod patch {
-    pub use crate::capnp_patch::engine::{any_refused, is_refused, new_message, patch, Report};
+    pub use crate::capnp_call::calls::{any_refused, is_refused};
+    pub use crate::capnp_patch::engine::{new_message, patch, Report};
     pub use crate::capnp_patch::get::get;
     pub use crate::capnp_patch::lines::get_lines;
     pub use crate::capnp_patch::reach::read_path;
@@ -150,9 +151,10 @@ pub mod request {
 
 /// Lists of calls along paths, and runs on whole messages.
 pub mod run {
-    pub use crate::capnp_call::calls::{Call, Op, Plain, Reply, Step};
-    pub use crate::capnp_run::message::{run_copied, run_new, whole_copied, whole_new};
-    pub use crate::capnp_run::run::{run, run_on};
+    pub use crate::capnp_call::calls::{any_refused, is_refused, Call, Op, Plain, Reply, Step};
+    pub use crate::capnp_call::message::{run_copied, run_new, whole_copied, whole_new, Run, MOST_WORDS};
+    pub use crate::capnp_call::runs::run_on;
+    pub use crate::capnp_run::run::run;
 }
 
 /// Schemas, and checked sets of them.

@@ -1,11 +1,10 @@
 //! What takes several calls of the layer, in one call.
 
-use crate::capnp_arena::arena::Arena;
 use crate::capnp_call::calls::{Call, Reply, Step};
+use crate::capnp_call::message::{run_copied, MOST_WORDS};
 use crate::capnp_device::error::{Error, ErrorKind, Result};
 use crate::capnp_dynamic::{dynamic_struct, dynamic_value, printer};
 use crate::capnp_patch::reach::read_path;
-use crate::capnp_run::message::run_copied;
 use crate::capnp_schema::schema::StructSchema;
 use crate::capnp_schema::set::SchemaSet;
 use crate::capnp_wire::message::Reader;
@@ -72,9 +71,8 @@ pub fn to_string(value: dynamic_value::Reader<'_>, indented: bool) -> Result<std
 /// Refused as [`crate::message::Reader::new`], [`crate::run::run_copied`] and the write of the message.
 pub fn patch_bytes(bytes: &[u8], schema: StructSchema<'_>, calls: &[Call<'_>]) -> Result<(Vec<Reply>, Vec<u8>)> {
     let source = Reader::new(Global, bytes)?.get_root();
-    let mut message = Arena::new(Global)?;
-    let replies = run_copied(Global, &mut message, source, schema, calls)?;
-    Ok((replies.into(), message.write_message()?.into()))
+    let left = run_copied(Global, MOST_WORDS, source, schema, calls)?;
+    Ok((left.replies.into(), left.message.write_message()?.into()))
 }
 
 /// What stands at a path of a value, as `people.1.phones.0.number`; `.` alone is the value itself.

@@ -193,12 +193,11 @@ fn a_limit_bounds_memory_of_runs() {
     let set = book_set();
     let bytes = many_nothings();
     let source = Reader::new(Global, &bytes).expect("the message is whole");
-    let mut message = Builder::with_limit(Global, LIMIT).expect("there is memory");
-    let (replies, held) = most_held(|| {
+    let (left, held) = most_held(|| {
         let calls = [FIRST_NUMBER];
-        run_copied(Global, &mut message, source.get_root(), book(&set), &calls)
+        run_copied(Global, LIMIT, source.get_root(), book(&set), &calls)
     });
-    assert!(replies.is_ok_and(|replies| is_out_of_room(&replies)));
+    assert!(left.is_ok_and(|left| is_out_of_room(&left.replies)));
     assert!(held < FEW_BYTES, "{held} bytes");
     let (patched, held) = most_held(|| patch_bytes(&bytes, book(&set), &[FIRST_NUMBER]));
     let (replies, left) = patched.expect("the message is copied, and written again");

@@ -8,9 +8,9 @@ use riftcalico::compatible::Compatible;
 use riftcalico::dynamic_value::Reader as Value;
 use riftcalico::introspect::{Type, TypeVariant};
 use riftcalico::memory::{Global, Vec as List};
-use riftcalico::message::{read_root, Builder, PointerReader};
+use riftcalico::message::{read_root, PointerReader};
 use riftcalico::patch::{self, Path, PathStep};
-use riftcalico::run::{run_copied, Call, Op, Plain, Reply, Step};
+use riftcalico::run::{run_copied, Call, Op, Plain, Reply, Step, MOST_WORDS};
 use riftcalico::schema::record::{BrandRecord, FieldRecord, NodeRecord, ValueRecord};
 use riftcalico::schema::{SchemaSet, StructSchema};
 use riftcalico::{printer, ErrorKind};
@@ -82,15 +82,14 @@ fn long_paths() -> [Vec<Step<'static>>; 2] {
 
 /// What one call is answered on an empty message.
 fn reply_to(schema: StructSchema<'_>, path: &[Step<'_>], last: &'static str, op: Op<'_>) -> Reply {
-    let mut message = Builder::new(Global).expect("there is memory");
     let call = Call {
         path,
         last: Step::Named(last),
         op,
     };
     let root = PointerReader::from_words(&EMPTY[8..]);
-    let replies = run_copied(Global, &mut message, root, schema, &[call]).expect("a null is copied");
-    let mut replies: Vec<Reply> = replies.into();
+    let left = run_copied(Global, MOST_WORDS, root, schema, &[call]).expect("a null is copied");
+    let mut replies: Vec<Reply> = left.replies.into();
     assert_eq!(replies.len(), 1);
     replies.remove(0)
 }

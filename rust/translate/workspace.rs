@@ -27,6 +27,9 @@ pub struct Workspace {
 /// The programs that the cargo crate has too.
 pub const PROGRAMS: [&str; 3] = ["capnp_show", "capnp_set", "riftcalico"];
 
+/// The crate whose items the cargo crate's face hands on, from the crates below.
+const FACE: &str = "capnp";
+
 /// What the compiler says of the translated modules and is right so, each with its reason.
 const MODULE_ALLOWS: &str = "\
 #[allow(dead_code, reason = \"each crate has calls that the others, or the face, don't make\")]
@@ -60,11 +63,13 @@ impl Workspace {
         self.crates.iter().map(|one| one.name.clone()).collect()
     }
 
-    /// The programs and the crates that these stand on, in the order of the list.
+    /// The programs, and the crates that these and the face stand on, in the order of the list.
     pub fn production(&self) -> Vec<&Crate> {
         let mut wanted: BTreeSet<&str> = BTreeSet::from(PROGRAMS);
-        for one in self.crates.iter().filter(|one| PROGRAMS.contains(&one.name.as_str())) {
-            wanted.extend(one.below.iter().map(String::as_str));
+        for one in &self.crates {
+            if one.name == FACE || PROGRAMS.contains(&one.name.as_str()) {
+                wanted.extend(one.below.iter().map(String::as_str));
+            }
         }
         self.crates
             .iter()

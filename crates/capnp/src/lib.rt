@@ -67,7 +67,8 @@ pub mod message {
 
 /// Calls along paths on messages, as words say them; what stands at a path.
 pub mod patch {
-    pub use capnp_patch::engine::{Report, any_refused, is_refused, new_message, patch};
+    pub use capnp_call::calls::{any_refused, is_refused};
+    pub use capnp_patch::engine::{Report, new_message, patch};
     pub use capnp_patch::get::get;
     pub use capnp_patch::lines::get_lines;
     pub use capnp_patch::reach::read_path;
@@ -90,9 +91,10 @@ pub mod request {
 
 /// Lists of calls along paths, and runs on whole messages.
 pub mod run {
-    pub use capnp_call::calls::{Call, Op, Plain, Reply, Step};
-    pub use capnp_run::message::{run_copied, run_new, whole_copied, whole_new};
-    pub use capnp_run::run::{run, run_on};
+    pub use capnp_call::calls::{Call, Op, Plain, Reply, Step, any_refused, is_refused};
+    pub use capnp_call::message::{MOST_WORDS, Run, run_copied, run_new, whole_copied, whole_new};
+    pub use capnp_call::runs::run_on;
+    pub use capnp_run::run::run;
 }
 
 /// Schemas, and checked sets of them.

@@ -13,10 +13,10 @@ use crate::sets::{field_of, set, start_root};
 use capnp_arena::arena::{Arena, Place};
 use capnp_arena::message::Builder;
 use capnp_base::introspect::TypeVariant;
+use capnp_call::calls::{Call, Op, Step};
+use capnp_call::message::{MOST_WORDS, run_copied};
 use capnp_dynamic::{part, slot};
 use capnp_dynamic_readers::dynamic_value::Reader as Value;
-use capnp_run::calls::{Call, Op, Step};
-use capnp_run::message::run_copied;
 use capnp_schema::schema::{Field, StructSchema};
 use capnp_schema_fixtures::fixtures::schema_of;
 use capnp_schema_fixtures::set_text::read_set;
@@ -110,9 +110,8 @@ fn patch_once(
     ensures { IfOk result (λ message. Forest (segment message) 0) }
 {
     let root = Reader::new(alloc, bytes)?.get_root();
-    let mut message = Builder::new(alloc)?;
-    run_copied(alloc, &mut message, root, document, calls)?;
-    Ok(message)
+    let left = run_copied(alloc, MOST_WORDS, root, document, calls)?;
+    Ok(left.message)
 }
 
 fn patch(alloc: Global, bytes: &[u8], rounds: u64) -> Result<u64> {

@@ -4,9 +4,9 @@ ghost use Rattle.capnp_slots.specs.Standing.{IsStanding, TakesCalls};
 
 use capnp_arena::arena::{Arena, Place};
 use capnp_arena::message::Builder;
+use capnp_call::calls::{Call, Op, Plain, Reply, Step};
+use capnp_call::runs::run_on;
 use capnp_dynamic_readers::dynamic_value::Reader as Value;
-use capnp_run::calls::{Call, Op, Plain, Reply, Step};
-use capnp_run::run::run_on;
 use capnp_schema::builtin::new_set;
 use capnp_schema::schema::StructSchema;
 use capnp_slots::size_of;

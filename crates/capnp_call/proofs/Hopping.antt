@@ -1,5 +1,5 @@
 -- Steps of a walk, put together: what the rest of a call does in the part that a step enters, the call does to the whole.
-use Rattle.std.specs.Prelude.{ℕ, ◌≡◌, ◌<◌, refl, List, [], ◌∷◌, Bool, true, false, None, Result, Ok, Err}
+use Rattle.std.specs.Prelude.{ℕ, ◌≡◌, ◌<◌, refl, List, [], ◌∷◌, true, false, None, Result, Ok, Err}
 use Rattle.std.proofs.Common.{ap, arith, drop, get_or, inl, length, sym, subst, ◌+◌, ◌≤◌, ◌∙◌}
 use Rattle.std.proofs.lemmas.Bool.{true≢false}
 use Rattle.std.proofs.lemmas.List.{at_drop_all, drop_more}
@@ -22,7 +22,6 @@ use Rattle.capnp_arena.specs.Shape.{StructIn, shape_at}
 use Rattle.capnp_arena.specs.declared.arena.Arena.{Arena}
 use Rattle.capnp_arena.specs.declared.arena.Place.{Place}
 use Rattle.capnp_schema.specs.Accepted.{NamesEntries}
-use Rattle.capnp_schema.specs.Entries.{lists_seen}
 use Rattle.capnp_schema.specs.Schema.{Schemas, VoidValue}
 use Rattle.capnp_schema.specs.StructHandles.{IsStruct, generic_of, number_of, set_of}
 use Rattle.capnp_schema.specs.Types.{ListType, SchemaType, StructType, seen_type}
@@ -32,13 +31,13 @@ use Rattle.capnp_records.specs.Record.{Record, Value}
 use Rattle.capnp_records.specs.Step.{in_record}
 use Rattle.capnp_records.specs.Writes.Fill.{entered_list}
 use Rattle.capnp_slots.specs.Fields.{IsRoomFor, field_set, pointer_index}
-use Rattle.capnp_slots.specs.Fills.{fill_due, filled_in, pointer_in}
+use Rattle.capnp_slots.specs.Fills.{fill_due, filled_in}
 use Rattle.capnp_slots.specs.Groups.{IsGroupAt}
 use Rattle.capnp_slots.specs.Standing.{IsUnder}
-use Rattle.capnp_call.proofs.ListWalks.{element_in_list, element_in_struct, element_past, element_there, fits_at, has_pointer, names_none, nothing_steps}
+use Rattle.capnp_call.proofs.ListWalks.{element_in_list, element_in_struct, element_there, fits_at, nothing_steps}
 use Rattle.capnp_call.proofs.Parts.{here_is, struct_here}
-use Rattle.capnp_call.proofs.Walking.{field_group, field_list, field_struct, pointer_again, step_found, step_missing}
-use Rattle.capnp_call.specs.Hops.{ElementGoes, FieldGoes, Goes, Going, IsAt, IsAtList, IsAtStruct, Leads, LeadsOn, ListGoes, StructGoes, first_step, placed}
+use Rattle.capnp_call.proofs.Walking.{field_group, field_list, field_struct, pointer_again, step_found}
+use Rattle.capnp_call.specs.Hops.{ElementGoes, FieldGoes, Goes, Going, IsAt, IsAtList, Leads, LeadsOn, ListGoes, StructGoes, first_step, placed}
 use Rattle.capnp_call.specs.Lists.{ElementWalks, IsListStand, ListWalks, refusal_at_nothing}
 use Rattle.capnp_call.specs.Seen.{step_seen}
 use Rattle.capnp_call.specs.Walks.{FieldWalks, StepGoes, StructWalks}

@@ -1,8 +1,10 @@
 pub mod Ends
-pub mod Facts
 pub mod Hops
 pub mod Lists
 pub mod Memory
+pub mod Messages
+pub mod Refusals
+pub mod Runs
 pub mod Seen
 pub mod Walks
 pub mod Ways

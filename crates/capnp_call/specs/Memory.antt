@@ -1,5 +1,5 @@
 -- Calls that take no memory.
-use Rattle.std.specs.Prelude.{◌≡◌, ◌≢◌, ⊤, Bool, true, false, List, [], ◌∷◌, Ok, Err}
+use Rattle.std.specs.Prelude.{◌≡◌, ◌≢◌, ℕ, ⊤, Bool, true, false, List, [], ◌∷◌, Ok, Err}
 use Rattle.capnp_device.specs.declared.error.ErrorKind.TheVariants.{OutOfMemory, SizePastFormat}
 use Rattle.capnp_wire.specs.Tree.{StructTree}
 use Rattle.capnp_schema.specs.Schema.{Schemas}
@@ -12,7 +12,9 @@ use Rattle.capnp_records.specs.Operation.{takes_memory}
 use Rattle.capnp_records.specs.Run.{root_type}
 use Rattle.capnp_records.specs.Step.{Found, Target, target_at, walked_target}
 use Rattle.capnp_records.specs.Writes.Stand.{OnStruct, Stand, StepRests, entered, seen}
-use Rattle.capnp_call.specs.Seen.{op_seen, path_seen, step_seen}
+use Rattle.capnp_records.specs.Writes.TreeEnds.{TreeStep}
+use Rattle.capnp_call.specs.Seen.{call_seen, op_seen, path_seen, step_seen}
+use Rattle.capnp_call.specs.declared.calls.Call.{Call as CallOf}
 use Rattle.capnp_call.specs.declared.calls.Ending.{Ending}
 use Rattle.capnp_call.specs.declared.calls.Step.{Step}
 
@@ -64,3 +66,16 @@ pub record IsNotForRoom (reply : Reply) : Type 0 where
 -- a call along a path from a struct of a schema takes no memory
 abbrev pub PathRests : StructSchema → List Step → Ending → StructTree → Type 0
 PathRests schema path end s = CallRests (set_of schema) (step_seen end.call.now.last) (op_seen end.call.now.op) (path_seen path) (root_type (set_of schema) (number_of schema)) (OnStruct s)
+
+-- ---- lists of calls ----
+
+-- a call takes no memory on a struct of a brand
+abbrev pub RestsOn : Schemas → ℕ → CallOf → StructTree → Type 0
+RestsOn set b call s = CallRests set (step_seen call.last) (op_seen call.op) (path_seen call.path.now) (root_type set b) (OnStruct s)
+
+-- no call of a list takes memory, each on whatever the one before it may leave
+abbrev pub RunRests : StructSchema → StructTree → List CallOf → Type 0
+RunRests schema s [] = ⊤
+RunRests schema s (call ∷ calls) =
+    RestsOn (set_of schema) (number_of schema) call s
+    × ((reply : Reply) (s' : StructTree) → TreeStep (set_of schema) (number_of schema) s (call_seen call) reply s' → RunRests schema s' calls)

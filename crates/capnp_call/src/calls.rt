@@ -1,6 +1,7 @@
 //! Calls along paths, and their replies.
 ghost use Rattle.std.specs.Prelude.{◌≡◌};
 ghost use Rattle.capnp_slots.specs.Copied.{refusal_of};
+ghost use Rattle.capnp_call.specs.Refusals.{any_refused, is_refused};
 ghost use Rattle.capnp_call.specs.Seen.{reply_by, reply_seen};
 
 use capnp_dynamic_readers::dynamic_value::Reader as Value;
@@ -92,6 +93,28 @@ pub enum Reply {
     Member(Option<u16>),
     /// The call was refused.
     Refused(ErrorKind),
+}
+
+/// Whether a call was refused.
+pub fn is_refused(reply: &Reply) -> bool
+    ensures { result ≡ is_refused reply.now }
+{
+    match reply {
+        Reply::Refused(_) => true,
+        Reply::Done | Reply::Value(_) | Reply::Flag(_) | Reply::Member(_) => false,
+    }
+}
+
+/// Whether one of these calls was refused.
+pub fn any_refused(replies: &[Reply]) -> bool
+    ensures { result ≡ any_refused replies.now }
+{
+    for index in 0..replies.len() {
+        if is_refused(&replies[index]) {
+            return true;
+        }
+    }
+    false
 }
 
 /// The reply to a write that may have been refused.

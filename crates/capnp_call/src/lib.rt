@@ -1,5 +1,5 @@
-//! One call along a path of a struct that is built, whose schema is known only at run time. Lists of calls, and runs on
-//! whole messages, are in `capnp_run`, which hands these modules on.
+//! Calls along paths of a struct that is built, whose schema is known only at run time: one, lists of them, and runs on
+//! whole messages.
 #![tactic(auto)]
 
 pub mod answer;
@@ -8,5 +8,7 @@ pub mod end;
 pub mod enter;
 pub mod hop;
 pub mod list_end;
+pub mod message;
+pub mod runs;
 pub mod walk;
 pub mod way;

@@ -4,8 +4,8 @@ use Rattle.capnp_device.specs.declared.error.ErrorKind.{ErrorKind}
 use Rattle.capnp_wire.specs.Edits.{struct_in}
 use Rattle.capnp_wire.specs.Tree.{Tree}
 use Rattle.capnp_schema.specs.declared.schema.structs.StructSchema.{StructSchema}
-use Rattle.capnp_run.specs.Messages.{IsWhole, copy_of}
-use Rattle.capnp_run.specs.Runs.{record_in}
+use Rattle.capnp_call.specs.Messages.{IsWhole, copy_of}
+use Rattle.capnp_call.specs.Runs.{record_in}
 use Rattle.capnp_call.specs.declared.calls.Call.{Call}
 use Rattle.capnp_call.specs.declared.calls.Reply.{Reply}
 

@@ -4,8 +4,8 @@ ghost use Rattle.capnp_wire.specs.Stream.{message_tree_of};
 ghost use Rattle.capnp_schema.specs.StructHandles.{IsStruct};
 ghost use Rattle.capnp_callers.specs.Streams.{IsRunOn};
 
-use capnp_run::calls::{Call, Reply};
-use capnp_run::message::whole_copied;
+use capnp_call::calls::{Call, Reply};
+use capnp_call::message::whole_copied;
 use capnp_schema::schema::StructSchema;
 use capnp_wire::error::Result;
 use capnp_wire::message::Reader;

@@ -1,5 +1,5 @@
 -- What calls on a message's root, or on an empty one, leave, and what is written of it.
-use Rattle.std.specs.Prelude.{ℕ, suc, ◌≡◌, ◌⊎◌, ◌<◌, ◌^◌, List, [], ◌∷◌, ◌++◌, Bool, true, false, not, ◌||◌, length, take, Option, Some, None, Ok, Err}
+use Rattle.std.specs.Prelude.{ℕ, suc, ◌≡◌, ◌⊎◌, ◌<◌, ◌^◌, List, ◌++◌, Bool, true, false, not, ◌||◌, length, take, Option, Some, None, Ok, Err}
 use Rattle.std.specs.Io.KnownBytes.{Appends}
 use Rattle.capnp_device.specs.declared.error.ErrorKind.{ErrorKind}
 use Rattle.capnp_wire.specs.Depth.{IsShallow}
@@ -13,9 +13,9 @@ use Rattle.capnp_schema.specs.declared.schema.structs.StructSchema.{StructSchema
 use Rattle.capnp_records.specs.Record.{Record}
 use Rattle.capnp_call.specs.declared.calls.Call.{Call}
 use Rattle.capnp_call.specs.declared.calls.Reply.{Reply}
-use Rattle.capnp_call.specs.declared.calls.Reply.TheVariants as reply
-use Rattle.capnp_run.specs.Messages.{LeavesRun, copy_of, new_record, new_root, root_refusal}
-use Rattle.capnp_run.specs.Runs.{Makes, RestsWhole, record_in}
+use Rattle.capnp_call.specs.Messages.{LeavesRun, copy_of, new_record, new_root, root_refusal}
+use Rattle.capnp_call.specs.Refusals.{any_refused}
+use Rattle.capnp_call.specs.Runs.{Makes, RestsWhole, record_in}
 use Rattle.capnp_show_engine.specs.Show.{IsRead}
 
 -- ---- what calls leave ----
@@ -47,17 +47,6 @@ abbrev pub IsUnread : List ℕ → ErrorKind → Type 0
 IsUnread bytes kind = (message_tree_of bytes ≡ Err kind) ⊎ ((root : Tree) × (message_tree_of bytes ≡ Ok root) × (root_refusal root ≡ Some kind))
 
 -- ---- whether it is written ----
-
-abbrev pub is_refused : Reply → Bool
-is_refused reply.Done = false
-is_refused (reply.Value p) = false
-is_refused (reply.Flag b) = false
-is_refused (reply.Member i) = false
-is_refused (reply.Refused kind) = true
-
-abbrev pub any_refused : List Reply → Bool
-any_refused [] = false
-any_refused (r ∷ rs) = is_refused r || any_refused rs
 
 -- a message is written unless a call was refused, or where a run goes on all the same
 abbrev pub is_kept : (keep_going : Bool) → List Reply → Bool

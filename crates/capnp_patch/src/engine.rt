@@ -5,14 +5,14 @@ ghost use Rattle.capnp_device.specs.declared.error.ErrorKind.TheVariants.{OutOfM
 ghost use Rattle.capnp_arena.specs.Message.{IsMessage, message_tree};
 ghost use Rattle.capnp_schema.specs.StructHandles.{IsStruct};
 ghost use Rattle.capnp_patch.specs.Lines.{AreTold};
-ghost use Rattle.capnp_patch.specs.Patches.{IsBeginning, IsCutShort, IsLeftOfBytes, IsLeftOfNew, IsMade, IsNotPatched, IsOutput, IsPatchCutShort, IsPatched, IsUnread, any_refused, is_kept, is_refused};
+ghost use Rattle.capnp_patch.specs.Patches.{IsBeginning, IsCutShort, IsLeftOfBytes, IsLeftOfNew, IsMade, IsNotPatched, IsOutput, IsPatchCutShort, IsPatched, IsUnread, is_kept};
 ghost use Rattle.capnp_show_engine.specs.Refusals.{IsOfRead};
 ghost use Rattle.capnp_show_engine.specs.Show.{IsOfMessage};
 
 use crate::lines::get_lines;
 use capnp_arena::message::Builder;
-use capnp_call::calls::{Call, Reply};
-use capnp_run::message::{run_copied, run_new};
+use capnp_call::calls::{Call, Reply, any_refused};
+use capnp_call::message::{MOST_WORDS, Run, run_copied, run_new};
 use capnp_schema::schema::StructSchema;
 use capnp_wire::device::{Sink, Source};
 use capnp_wire::error::Result;
@@ -20,45 +20,22 @@ use capnp_wire::message::Reader;
 use capnp_wire::transfer::read_all;
 use std::alloc::Global;
 
-/// Whether a call was refused.
-pub fn is_refused(reply: &Reply) -> bool
-    ensures { result ≡ is_refused reply.now }
-{
-    match reply {
-        Reply::Refused(_) => true,
-        Reply::Done | Reply::Value(_) | Reply::Flag(_) | Reply::Member(_) => false,
-    }
-}
-
-/// Whether one of these calls was refused.
-pub fn any_refused(replies: &[Reply]) -> bool
-    ensures { result ≡ any_refused replies.now }
-{
-    for index in 0..replies.len() {
-        if is_refused(&replies[index]) {
-            return true;
-        }
-    }
-    false
-}
-
 /// Makes calls on a copy of the root of the first message in these bytes.
 fn run_bytes(
     alloc: Global,
-    message: &mut Builder,
     bytes: &[u8],
     schema: StructSchema<'_>,
     calls: &[Call<'_>],
-) -> Result<Vec<Reply>>
+) -> Result<Run>
     requires { IsStruct schema }
-    ensures message { OnOk result (IsMessage message.new) }
-    ensures left { IfOk result (λ replies. IsLeftOfBytes schema.entry bytes.now calls.now replies.items
-        (message_tree message.new)) }
+    ensures message { IfOk result (λ run. IsMessage run.message) }
+    ensures left { IfOk result (λ run. IsLeftOfBytes schema.entry bytes.now calls.now run.replies.items
+        (message_tree run.message)) }
     ensures refused { IfErr result (λ e. e.kind ≢ OutOfMemory → IsUnread bytes.now e.kind) }
     ensures of_no_device { IfErr result (λ e. IsOfRead e.kind) }
 {
     let reader = Reader::new(alloc, bytes)?;
-    run_copied(alloc, message, reader.get_root(), schema, calls)
+    run_copied(alloc, MOST_WORDS, reader.get_root(), schema, calls)
 }
 
 /// Writes a message, unless a call was refused and the run doesn't go on all the same.
@@ -160,8 +137,7 @@ pub fn patch<R: Source, W: Sink>(
     ensures nothing { IfErr result (λ e. e.kind ≢ WriteFailed → sink.new ≡ sink.old) }
 {
     let bytes = read_all(alloc, source)?;
-    let mut message = Builder::new(alloc)?;
-    let replies = run_bytes(alloc, &mut message, &bytes, schema, calls)?;
+    let Run { message, replies } = run_bytes(alloc, &bytes, schema, calls)?;
     finish(alloc, &message, replies, words, keep_going, sink)
 }
 
@@ -192,7 +168,6 @@ pub fn new_message<W: Sink>(
         → IsCutShort keep_going (IsLeftOfNew schema.entry calls.now) (W.written sink.old) (W.written sink.new)) }
     ensures nothing { IfErr result (λ e. e.kind ≢ WriteFailed → sink.new ≡ sink.old) }
 {
-    let mut made = Builder::new(alloc)?;
-    let replies = run_new(alloc, &mut made, schema, calls)?;
-    finish(alloc, &made, replies, words, keep_going, sink)
+    let Run { message, replies } = run_new(alloc, MOST_WORDS, schema, calls)?;
+    finish(alloc, &message, replies, words, keep_going, sink)
 }

@@ -1,102 +1,18 @@
-//! Lists of calls on a struct that is built.
+//! Lists of calls on a struct that is built, at its place or by its builder.
 ghost use Rattle.std.specs.Prelude.{◌≡◌, IfErr, IfOk, OnErr};
 ghost use Rattle.capnp_device.specs.declared.error.ErrorKind.TheVariants.{OutOfMemory};
 ghost use Rattle.capnp_arena.specs.Segment.{segment};
 ghost use Rattle.capnp_schema.specs.StructHandles.{IsStruct, number_of, set_of};
 ghost use Rattle.capnp_arena.specs.Built.{ChangesIn, IsBuilt, built};
 ghost use Rattle.capnp_slots.specs.Groups.{KeepsSize};
-ghost use Rattle.capnp_slots.specs.Standing.{TakesCalls};
 ghost use Rattle.capnp_dynamic.specs.Built.{IsReady, built_schema, built_struct, place_of, struct_behind};
-ghost use Rattle.capnp_run.specs.Runs.{IsMade, Makes, RestsWhole, RunsTo};
+ghost use Rattle.capnp_call.specs.Runs.{Makes, RestsWhole, RunsTo};
 
-use capnp_arena::arena::{Arena, Place};
-use capnp_call::calls::{Call, Ending, Reply};
-use capnp_call::walk::walk;
+use capnp_call::calls::{Call, Reply};
+pub use capnp_call::runs::run_on;
 use capnp_dynamic::dynamic_struct;
-use capnp_records::laws::overlay_law;
-use capnp_schema::laws::numbers_fit;
-use capnp_schema::schema::StructSchema;
 use capnp_wire::error::Result;
 use std::alloc::Global;
-
-/// Makes one call.
-#[inline(always)]
-pub(crate) fn call_at(
-    alloc: Global,
-    arena: &mut Arena,
-    place: Place,
-    schema: StructSchema<'_>,
-    call: &Call<'_>,
-) -> Reply
-    requires ready { TakesCalls schema arena.old place }
-    ensures made { IsMade (set_of schema.entry) (number_of schema.entry) (built arena.old place) call.now result
-        (built arena.new place) }
-    ensures planted { IsBuilt arena.new place }
-    ensures changes { ChangesIn place arena.old arena.new }
-{
-    walk(arena, place, schema, call.path, Ending { alloc, call })
-}
-
-/// Makes calls one after another; there is room for the replies.
-fn make_calls(
-    alloc: Global,
-    arena: &mut Arena,
-    place: Place,
-    schema: StructSchema<'_>,
-    calls: &[Call<'_>],
-) -> Result<Vec<Reply>>
-    requires ready { TakesCalls schema arena.old place }
-    ensures made { IfOk result (λ replies. Makes (set_of schema.entry) (number_of schema.entry)
-        (built arena.old place) calls.now replies.items
-        (built arena.new place)) }
-    ensures planted { IsBuilt arena.new place }
-    ensures changes { ChangesIn place arena.old arena.new }
-    ensures refused { OnErr result (segment arena.new ≡ segment arena.old) }
-    ensures cause { IfErr result (λ e. e.kind ≡ OutOfMemory) }
-{
-    let mut replies = Vec::with_capacity(alloc, calls.len())?;
-    for call in calls {
-        let reply = call_at(alloc, arena, place, schema, call);
-        if replies.push(reply).is_err() {
-            unreachable!();
-        }
-    }
-    Ok(replies)
-}
-
-/// Makes calls along paths of a struct, one after another, and gives one reply to each, in order. A refused call
-/// doesn't end the run, and leaves the nulls filled that the steps before the refusal filled. The schema is one of an
-/// accepted set; the struct has its sections.
-///
-/// Refused with `OutOfMemory` where there is no room for the replies, and then nothing has changed. Once there is, a
-/// call that takes no memory on what the one before it left is refused neither with `OutOfMemory` nor with
-/// `SizePastFormat`.
-pub fn run_on(
-    alloc: Global,
-    arena: &mut Arena,
-    place: Place,
-    schema: StructSchema<'_>,
-    calls: &[Call<'_>],
-) -> Result<Vec<Reply>>
-    requires ready { TakesCalls schema arena.old place }
-    ensures runs { IfOk result (λ replies. RunsTo schema.entry (built arena.old place) calls.now replies.items
-        (built arena.new place)) }
-    ensures made { IfOk result (λ replies. Makes (set_of schema.entry) (number_of schema.entry)
-        (built arena.old place) calls.now replies.items
-        (built arena.new place)) }
-    ensures rests { IfOk result (λ replies. RestsWhole schema.entry (built arena.old place) calls.now replies.items) }
-    ensures kept { KeepsSize (built arena.old place) (built arena.new place) }
-    ensures planted { IsBuilt arena.new place }
-    ensures changes { ChangesIn place arena.old arena.new }
-    ensures refused { OnErr result (segment arena.new ≡ segment arena.old) }
-    ensures cause { IfErr result (λ e. e.kind ≡ OutOfMemory) }
-{
-    overlay_law();
-    numbers_fit(schema.get_set());
-    let replies = make_calls(alloc, arena, place, schema, calls);
-    arena.struct_is_sound(place);
-    replies
-}
 
 /// Makes calls along paths of the struct that a builder stands on, as `run_on`. The builder is given by value, and
 /// `root.exit.0` is what its reference leads to then. The builder's schema is one of an accepted set; its struct has

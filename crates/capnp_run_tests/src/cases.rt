@@ -11,7 +11,7 @@ use capnp_callers::streams::run_on_stream;
 use capnp_dynamic::dynamic_struct;
 use capnp_dynamic_readers::dynamic_value::Reader as Value;
 use capnp_run::calls::{Call, Reply};
-use capnp_run::message::{run_copied, whole_new};
+use capnp_run::message::{MOST_WORDS, run_copied, whole_new};
 use capnp_run::run::run;
 use capnp_schema::schema::StructSchema;
 use capnp_schema::set::SchemaSet;
@@ -101,10 +101,9 @@ fn run_on_copy(
     requires { IsStruct schema }
 {
     let source = Reader::new(alloc, start)?.get_root();
-    let mut message = Builder::new(alloc)?;
-    let replies = run_copied(alloc, &mut message, source, schema, calls)?;
-    let bytes = message.write_message()?;
-    Ok((replies, bytes))
+    let left = run_copied(alloc, MOST_WORDS, source, schema, calls)?;
+    let bytes = left.message.write_message()?;
+    Ok((left.replies, bytes))
 }
 
 fn run_again(

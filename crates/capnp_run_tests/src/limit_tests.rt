@@ -69,10 +69,9 @@ fn run_within(
     requires { IsStruct schema }
 {
     let calls = calls_of(alloc, rows)?;
-    let mut message = Builder::with_limit(alloc, LIMIT)?;
-    let replies = run_new(alloc, &mut message, schema, calls.as_slice())?;
-    let wrong = first_wrong(alloc, text, replies.as_slice())?;
-    Ok((wrong, bytes_of(&message).len() <= 8 * LIMIT))
+    let left = run_new(alloc, LIMIT, schema, calls.as_slice())?;
+    let wrong = first_wrong(alloc, text, left.replies.as_slice())?;
+    Ok((wrong, bytes_of(&left.message).len() <= 8 * LIMIT))
 }
 
 /// Makes calls on a builder of a message's root.

@@ -12,7 +12,7 @@ use capnp::dynamic_value::Reader as Value;
 use capnp::introspect::{Type, TypeVariant};
 use capnp::message::Reader;
 use capnp::printer::print;
-use capnp::run::{Call, Op, Step, whole_copied, whole_new};
+use capnp::run::{Call, Op, Step, any_refused, whole_copied, whole_new};
 use capnp::schema::record::{BrandRecord, FieldRecord, NodeRecord, ValueRecord};
 use capnp::schema::{SchemaSet, StructSchema};
 use capnp::{Error, ErrorKind, Result, dynamic_struct, text};
@@ -58,7 +58,8 @@ fn struct_named<'s>(set: &'s SchemaSet, name: &str) -> Result<StructSchema<'s>>
     }
 }
 
-/// The message of an account that is built by calls, and its text.
+/// The message of an account that is built by calls, and its text. A call that is refused doesn't end the others, so the
+/// replies are looked at: here one would be for a value of another kind.
 fn build(alloc: Global, account: StructSchema<'_>, out: &mut String) -> Result<Vec<u8>>
     requires { IsStruct account }
 {
@@ -67,7 +68,10 @@ fn build(alloc: Global, account: StructSchema<'_>, out: &mut String) -> Result<V
         on_field("name", Op::Set(Value::Text(name))),
         on_field("balance", Op::Set(Value::Int64(12))),
     ];
-    let (_replies, bytes) = whole_new(alloc, account, &calls, out, false)?;
+    let (replies, bytes) = whole_new(alloc, account, &calls, out, false)?;
+    if any_refused(&replies) {
+        return Err(Error::type_mismatch());
+    }
     Ok(bytes)
 }
 
@@ -82,7 +86,10 @@ fn patch(
 {
     let source = Reader::new(alloc, message)?.get_root();
     let calls = [on_field("balance", Op::Set(Value::Int64(20)))];
-    let (_replies, bytes) = whole_copied(alloc, source, account, &calls, out, false)?;
+    let (replies, bytes) = whole_copied(alloc, source, account, &calls, out, false)?;
+    if any_refused(&replies) {
+        return Err(Error::type_mismatch());
+    }
     Ok(bytes)
 }
 

@@ -1,7 +1,7 @@
 -- What the words ask for and what was done.
 use Rattle.std.proofs.Common.{◌≡◌, ◌≤◌, ◌∙◌, Option, Some, None, Result, Ok, Err, Bool, true, false, cond, lit≤}
 use Rattle.capnp_device.specs.declared.error.Error.{Error}
-use Rattle.capnp_patch.specs.Patches.{any_refused}
+use Rattle.capnp_call.specs.Refusals.{any_refused}
 use Rattle.riftcalico_engine.specs.Ended.{status_of}
 use Rattle.riftcalico_engine.specs.declared.run.Outcome.{Outcome}
 use Rattle.riftcalico_engine.specs.declared.run.Outcome.TheVariants.{Made, Shown, Unreadable}

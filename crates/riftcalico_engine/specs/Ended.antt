@@ -6,11 +6,12 @@ use Rattle.capnp_device.specs.declared.error.ErrorKind.TheVariants.{ReadFailed, 
 use Rattle.capnp_schema.specs.Schema.{Schemas}
 use Rattle.capnp_schema.specs.declared.schema.structs.StructSchema.{StructSchema}
 use Rattle.capnp_records.specs.Call.{PathStep}
+use Rattle.capnp_call.specs.Refusals.{any_refused}
 use Rattle.capnp_call.specs.declared.calls.Call.{Call}
 use Rattle.capnp_call.specs.declared.calls.Reply.{Reply}
 use Rattle.capnp_patch.specs.Gets.{IsGetCutShort, IsGot, IsNotGot}
 use Rattle.capnp_patch.specs.Lines.{AreTold}
-use Rattle.capnp_patch.specs.Patches.{IsCutShort, IsLeftOfNew, IsMade, IsNotPatched, IsPatchCutShort, IsPatched, any_refused, is_kept}
+use Rattle.capnp_patch.specs.Patches.{IsCutShort, IsLeftOfNew, IsMade, IsNotPatched, IsPatchCutShort, IsPatched, is_kept}
 use Rattle.capnp_show_engine.specs.Command.{IsTold, refusal_line}
 use Rattle.capnp_show_engine.specs.Show.{IsOfMessage}
 use Rattle.capnp_words.specs.Calls.{CallText}

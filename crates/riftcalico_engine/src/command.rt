@@ -8,7 +8,7 @@ ghost use Rattle.riftcalico_engine.specs.Ended.{IsDone, status_of, streams, told
 
 use crate::request::read_words;
 use crate::run::{Outcome, run};
-use capnp_patch::engine::any_refused;
+use capnp_call::calls::any_refused;
 use capnp_show_engine::command::{report, tell};
 use capnp_show_engine::opener::{FilesOpener, Opener};
 use capnp_wire::device::{ReadSource, Sink, Source};

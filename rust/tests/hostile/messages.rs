@@ -9,7 +9,7 @@ use super::reading::read_value;
 use riftcalico::device::{MemorySink, MemorySource};
 use riftcalico::dynamic_value::Reader as Value;
 use riftcalico::memory::{Global, String as Text};
-use riftcalico::message::{read_root, Builder};
+use riftcalico::message::read_root;
 use riftcalico::patch::{self, CallWord, PathStep, PlainValue, WordOp};
 use riftcalico::run::{run_copied, whole_copied, Call, Op, Reply, Step};
 use riftcalico::schema::StructSchema;
@@ -110,14 +110,16 @@ fn assert_same_text(text: &Result<String>, lines: &Result<String>) {
 
 /// Copies a message, where it can be copied: the copy has the same text, or none for the same reason.
 fn is_copied_alike(bytes: &[u8], schema: StructSchema<'_>, text: &Result<String>) -> bool {
-    let mut message = new_message();
-    match run_copied(Global, &mut message, root(bytes), schema, &[]) {
-        Ok(replies) => assert!(replies.is_empty()),
+    let message = match run_copied(Global, MOST_WORDS, root(bytes), schema, &[]) {
+        Ok(left) => {
+            assert!(left.replies.is_empty());
+            left.message
+        }
         Err(error) => {
             assert_is_of_reading(error.kind);
             return false;
         }
-    }
+    };
     let copy = message.write_message().expect("a copy of a short message is short");
     let reader = read_root(&copy, schema).expect("what was written is read back");
     assert_eq!(&printer::to_string(Value::Struct(reader), false), text);
@@ -135,11 +137,6 @@ fn assert_is_of_reading(kind: ErrorKind) {
         ErrorKind::WrongPointerKind,
     ];
     assert!(known.contains(&kind), "{kind:?}");
-}
-
-/// A message that may have only so many words, since calls may ask for gigabytes.
-fn new_message() -> Builder {
-    Builder::with_limit(Global, MOST_WORDS).expect("there is memory")
 }
 
 /// Makes calls on a copy of a message: with what words say, and with parts of the message itself.
@@ -218,11 +215,10 @@ fn call_of<'c>(word: &CallWord, steps: &'c [Step<'c>], value: Value<'c>) -> Call
 
 /// Makes calls on a copy of a message that may not grow past a limit: each has a reply.
 fn run_limited(bytes: &[u8], schema: StructSchema<'_>, calls: &[Call<'_>]) {
-    let mut message = new_message();
-    match run_copied(Global, &mut message, root(bytes), schema, calls) {
-        Ok(replies) => {
-            assert_eq!(replies.len(), calls.len());
-            let written = message.write_message().expect("a message of limited size is short");
+    match run_copied(Global, MOST_WORDS, root(bytes), schema, calls) {
+        Ok(left) => {
+            assert_eq!(left.replies.len(), calls.len());
+            let written = left.message.write_message().expect("a message of limited size is short");
             assert!(written.len() <= 8 + 8 * MOST_WORDS);
         }
         Err(error) => assert_is_of_reading(error.kind),

@@ -1,5 +1,5 @@
 -- What is filled is entered, and a refusal is the machine's.
-use Rattle.std.proofs.Common.{◌≡◌, Result, Ok, Err, IfErr, refl, ap, sym, subst, true, ◌∙◌}
+use Rattle.std.proofs.Common.{◌≡◌, Result, Ok, IfErr, refl, ap, sym, subst, true, ◌∙◌}
 use Rattle.std.specs.Prelude.{ℕ, ⊤}
 use Rattle.capnp_device.specs.declared.error.Error.{Error}
 use Rattle.capnp_wire.specs.Facts.Parts.{IsWellFormed-nth_tree}

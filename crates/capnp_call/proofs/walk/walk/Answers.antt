@@ -1,6 +1,6 @@
 -- What the loop does.
 use Rattle.capnp_arena.specs.Built.{built}
-use Rattle.capnp_call.specs.Facts.NoMemory.{path_rests}
+use Rattle.capnp_call.proofs.NoMemory.{path_rests}
 use Rattle.capnp_call.proofs.walk.walk.Goals as goal
 
 pub returns-clause-rests : goal.returns-clause-rests

@@ -1,2 +1,0 @@
--- Facts of the definitions, with their proofs: what lemmas of crates above cite.
-pub mod NoMemory

@@ -1,7 +1,0 @@
--- One of the replies that are left was refused, or none of all.
-use Rattle.std.proofs.Common.{◌≡◌, drop}
-use Rattle.capnp_patch.specs.Patches.{any_refused}
-use Rattle.capnp_patch.proofs.engine.any_refused.Given as goal
-
-abbrev pub invariant-loop-index : goal.invariant-loop-index
-invariant-loop-index l = any_refused (drop l.index l.replies) ≡ any_refused l.replies
