@@ -13,7 +13,7 @@ use Rattle.capnp_arena.specs.Facts.Calls.{planted, planted_inside}
 use Rattle.capnp_arena.specs.Facts.Forests.{owned_after, owned_inside, points}
 use Rattle.capnp_arena.specs.Facts.Shapes.{element_end, itself_inside}
 use Rattle.capnp_arena.specs.Forest.{Below, Forest, Grown, Itself, Owns, Planted, struct_from, tree}
-use Rattle.capnp_arena.specs.Shape.{CompositeIn, IsPointerOf, IsWithin, ListIn, NoShape, Points, Shape, StructIn, shape_at, word_count}
+use Rattle.capnp_arena.specs.Shape.{CompositeIn, IsPointerOf, IsWordWithin, ListIn, NoShape, Points, Shape, StructIn, shape_at, word_count}
 use Rattle.capnp_arena.proofs.Counted.{words_composite, words_list, words_null, words_pointers, words_struct}
 
 -- ---- so many numbers, each another ----
@@ -169,8 +169,8 @@ module _ (bytes : List ℕ) (w : ℕ) (f : Forest bytes w) (c : (j : ℕ) → Is
   part : (s : Shape) → shape_at bytes w ≡ s → Planted bytes s
   part s e = subst (Planted bytes) e (planted bytes w f)
 
-  itself : (s : Shape) → shape_at bytes w ≡ s → (k : ℕ) → IsWithin s k → Owns bytes w k
-  itself s e k h = Itself w k (subst (λ z. IsWithin z k) (sym e) h)
+  itself : (s : Shape) → shape_at bytes w ≡ s → (k : ℕ) → IsWordWithin s k → Owns bytes w k
+  itself s e k h = Itself w k (subst (λ z. IsWordWithin z k) (sym e) h)
 
   below : (s : Shape) → shape_at bytes w ≡ s → (j k : ℕ) → IsPointerOf s j → Owns bytes j k → Owns bytes w k
   below s e j k h o = Below w j k (subst (λ z. IsPointerOf z j) (sym e) h) o
@@ -185,8 +185,8 @@ module _ (bytes : List ℕ) (w : ℕ) (f : Forest bytes w) (c : (j : ℕ) → Is
   struct_count a d p e =
       let q : Planted bytes (StructIn a d p) = part (StructIn a d p) e in
       same_count (words_of (tree bytes w)) (d + p + words_of_all (trees_from (tree bytes) (a + d) p)) (words_struct bytes w f a d p e)
-      (join (IsWithin (StructIn a d p)) (RowOwns bytes (a + d) p) (Owns bytes w) (d + p) (words_of_all (trees_from (tree bytes) (a + d) p))
-      (range (IsWithin (StructIn a d p)) a (d + p) (λ k x y. (x, omega (arith, y))))
+      (join (IsWordWithin (StructIn a d p)) (RowOwns bytes (a + d) p) (Owns bytes w) (d + p) (words_of_all (trees_from (tree bytes) (a + d) p))
+      (range (IsWordWithin (StructIn a d p)) a (d + p) (λ k x y. (x, omega (arith, y))))
       (row bytes (a + d) p (λ j x y. child_count (StructIn a d p) e j (x, y)) (λ i j k x y z v o r. q.children_apart i j k (x, y) (z, v) o r))
       (λ k h r. q.child_apart r.0 k (r.1, r.2) r.3 h)
       (itself (StructIn a d p) e)
@@ -196,8 +196,8 @@ module _ (bytes : List ℕ) (w : ℕ) (f : Forest bytes w) (c : (j : ℕ) → Is
   pointers_count a n e =
       let q : Planted bytes (ListIn a 6 n) = part (ListIn a 6 n) e in
       same_count (words_of (tree bytes w)) (n + words_of_all (trees_from (tree bytes) a n)) (words_pointers bytes w f a n e)
-      (join (IsWithin (ListIn a 6 n)) (RowOwns bytes a n) (Owns bytes w) n (words_of_all (trees_from (tree bytes) a n))
-      (range (IsWithin (ListIn a 6 n)) a n (λ k x y. (x, (let m : list_words 6 n ≡ n = omega arith in omega (arith, y, m)))))
+      (join (IsWordWithin (ListIn a 6 n)) (RowOwns bytes a n) (Owns bytes w) n (words_of_all (trees_from (tree bytes) a n))
+      (range (IsWordWithin (ListIn a 6 n)) a n (λ k x y. (x, (let m : list_words 6 n ≡ n = omega arith in omega (arith, y, m)))))
       (row bytes a n (λ j x y. child_count (ListIn a 6 n) e j (refl, x, y)) (λ i j k x y z v o r. q.children_apart i j k (refl, x, y) (refl, z, v) o r))
       (λ k h r. q.child_apart r.0 k (refl, r.1, r.2) r.3 h)
       (itself (ListIn a 6 n) e)
@@ -218,8 +218,8 @@ module _ (bytes : List ℕ) (w : ℕ) (f : Forest bytes w) (c : (j : ℕ) → Is
   composite_count tag n d p e =
       let q : Planted bytes (CompositeIn tag n d p) = part (CompositeIn tag n d p) e in
       same_count (words_of (tree bytes w)) (1 + n * (d + p) + words_below_all (structs_from (λ i. struct_from bytes (tag + 1 + i * (d + p)) d p) 0 n)) (words_composite bytes w f tag n d p e)
-      (join (IsWithin (CompositeIn tag n d p)) (ElementsOwn bytes (tag + 1) d p 0 n) (Owns bytes w) (1 + n * (d + p)) (words_below_all (structs_from (λ i. struct_from bytes (tag + 1 + i * (d + p)) d p) 0 n))
-      (range (IsWithin (CompositeIn tag n d p)) tag (1 + n * (d + p)) (λ k x y. (x, omega (arith, y))))
+      (join (IsWordWithin (CompositeIn tag n d p)) (ElementsOwn bytes (tag + 1) d p 0 n) (Owns bytes w) (1 + n * (d + p)) (words_below_all (structs_from (λ i. struct_from bytes (tag + 1 + i * (d + p)) d p) 0 n))
+      (range (IsWordWithin (CompositeIn tag n d p)) tag (1 + n * (d + p)) (λ k x y. (x, omega (arith, y))))
       (elements bytes (tag + 1) d p 0 n
       (λ i x y. row bytes (tag + 1 + i * (d + p) + d) p (λ j z v. child_count (CompositeIn tag n d p) e j (i, omega (arith, y), z, v))
       (λ g h k a b m r o s. q.children_apart g h k (i, omega (arith, y), a, b) (i, omega (arith, y), m, r) o s))
@@ -257,8 +257,8 @@ words_fit bytes w f =
 pub struct_fits : (bytes : List ℕ) (a d p : ℕ) → Planted bytes (StructIn a d p) → d + p + words_of_all (trees_from (tree bytes) (a + d) p) ≤ word_count bytes
 struct_fits bytes a d p q =
     at_most (λ k. k < word_count bytes) (d + p + words_of_all (trees_from (tree bytes) (a + d) p)) (word_count bytes)
-    (join (IsWithin (StructIn a d p)) (RowOwns bytes (a + d) p) (λ k. k < word_count bytes) (d + p) (words_of_all (trees_from (tree bytes) (a + d) p))
-    (range (IsWithin (StructIn a d p)) a (d + p) (λ k x y. (x, omega (arith, y))))
+    (join (IsWordWithin (StructIn a d p)) (RowOwns bytes (a + d) p) (λ k. k < word_count bytes) (d + p) (words_of_all (trees_from (tree bytes) (a + d) p))
+    (range (IsWordWithin (StructIn a d p)) a (d + p) (λ k x y. (x, omega (arith, y))))
     (row bytes (a + d) p (λ j x y. counted bytes j (q.child j (x, y))) (λ i j k x y z v o r. q.children_apart i j k (x, y) (z, v) o r))
     (λ k h r. q.child_apart r.0 k (r.1, r.2) r.3 h)
     (λ k h. planted_inside bytes (StructIn a d p) k q h)

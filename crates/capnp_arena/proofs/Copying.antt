@@ -5,12 +5,12 @@ use Rattle.std.proofs.lemmas.List.{append-nil, length-append}
 use Rattle.capnp_device.specs.declared.error.Error.{Error}
 use Rattle.capnp_device.specs.declared.error.ErrorKind.{ErrorKind}
 use Rattle.capnp_wire.specs.Edits.{IsCopyRefusal}
-use Rattle.capnp_wire.specs.Encoding.{bytes_below_all, bytes_of, bytes_of_all, element_row, packed, pointer_row, pointer_word, spelled}
+use Rattle.capnp_wire.specs.Encoding.{bytes_below_all, bytes_of, bytes_of_all, element_row, packed_bits, pointer_row, pointer_word, spelled_number}
 use Rattle.capnp_wire.specs.Facts.Bytes.{length_spelled}
 use Rattle.capnp_wire.specs.Facts.Indexed.{length-bits_from}
 use Rattle.capnp_wire.specs.Facts.EncodedSizes.{length_bytes_of, length_bytes_of_all, length_element, length_element_row, length_pointer_row}
 use Rattle.capnp_wire.specs.Facts.Filling.{length_put, put_next}
-use Rattle.capnp_wire.specs.Filling.{elements_end, put, row_end, with_encoded_element, with_encoded_elements, with_pointers, words_from}
+use Rattle.capnp_wire.specs.Filling.{elements_end, bytes_with, row_end, with_encoded_element, with_encoded_elements, with_pointers, words_from}
 use Rattle.capnp_wire.specs.Locate.{list_words}
 use Rattle.capnp_wire.specs.Place.{bits_from}
 use Rattle.capnp_wire.specs.Reading.{refusal}
@@ -46,7 +46,7 @@ spares_append f n a x b e = record {
 }
 
 -- what is put
-pub spares_put : (at n : ℕ) (x a b : List ℕ) → length x ≤ 8 * n → 8 * at + length x ≤ length a → b ≡ put (8 * at) x a → Spares at n a b
+pub spares_put : (at n : ℕ) (x a b : List ℕ) → length x ≤ 8 * n → 8 * at + length x ≤ length a → b ≡ bytes_with (8 * at) x a → Spares at n a b
 spares_put at n x a b s h e = record {
   longer = omega (arith, ap length e, length_put (8 * at) x a h);
   stays = λ k l o. elim (side k) [
@@ -77,14 +77,14 @@ room_kept at n a x b c w e k = record {
 }
 
 -- a struct's data, and its pointers after it
-pub element_kept : (at d p : ℕ) (x a b c : List ℕ) → length x ≡ 8 * d → 8 * at + length x ≤ length a → b ≡ put (8 * at) x a → Spares (at + d) p b c → Spares at (d + p) a c
+pub element_kept : (at d p : ℕ) (x a b c : List ℕ) → length x ≡ 8 * d → 8 * at + length x ≤ length a → b ≡ bytes_with (8 * at) x a → Spares (at + d) p b c → Spares at (d + p) a c
 element_kept at d p x a b c w l e k =
     spares_then at (d + p) (at + d) p a b c (λ j m r. (omega (arith, r.0), omega (arith, r.1))) (spares_more at (d + p) at d a b (λ j m r. (r.0, omega (arith, r.1))) (spares_put at d x a b (omega (arith, w)) l e)) k
 
 -- a pointer, and what is appended for it
-pub pointer_spared : (at w : ℕ) (a b c : List ℕ) → 8 * at + 8 ≤ length a → b ≡ put (8 * at) (spelled 8 w) a → Spares 0 0 b c → Spares at 1 a c
+pub pointer_spared : (at w : ℕ) (a b c : List ℕ) → 8 * at + 8 ≤ length a → b ≡ bytes_with (8 * at) (spelled_number 8 w) a → Spares 0 0 b c → Spares at 1 a c
 pointer_spared at w a b c l e k =
-    spares_then at 1 0 0 a b c (λ j m r. absurd (omega (arith, r.1))) (spares_put at 1 (spelled 8 w) a b (omega (arith, length_spelled 8 w)) (omega (arith, length_spelled 8 w, l)) e) k
+    spares_then at 1 0 0 a b c (λ j m r. absurd (omega (arith, r.1))) (spares_put at 1 (spelled_number 8 w) a b (omega (arith, length_spelled 8 w)) (omega (arith, length_spelled 8 w, l)) e) k
 
 -- ---- refusals ----
 
@@ -156,20 +156,20 @@ structs_after-held d p (suc i) (MoreStructs bytes ps es) h = structs_after-held 
 -- ---- room that is filled ----
 
 -- one more pointer of a row, with what it leads to
-pointer_filled : (at : ℕ) (t : Tree) (ts : Trees) (o o2 : List ℕ) → AreWellFormed (MoreTrees t ts) → row_end at (MoreTrees t ts) ≤ length o → o2 ≡ put at (spelled 8 (pointer_word (words_from at o - 1) t)) o ++ bytes_of t
+pointer_filled : (at : ℕ) (t : Tree) (ts : Trees) (o o2 : List ℕ) → AreWellFormed (MoreTrees t ts) → row_end at (MoreTrees t ts) ≤ length o → o2 ≡ bytes_with at (spelled_number 8 (pointer_word (words_from at o - 1) t)) o ++ bytes_of t
     → (length o2 ≡ length o + 8 * words_of t) × (with_pointers (at + 8) ts o2 ≡ with_pointers at (MoreTrees t ts) o)
 pointer_filled at t ts o o2 held room e =
     let n : ℕ = tree_count ts in
     let g : ℕ = words_from (row_end at (MoreTrees t ts)) o in
     let gap : words_from at o - 1 ≡ n + g = omega (arith, room) in
-    let x : List ℕ = spelled 8 (pointer_word (n + g) t) in
+    let x : List ℕ = spelled_number 8 (pointer_word (n + g) t) in
     let y : List ℕ = pointer_row (g + words_of t) ts in
-    let two : o2 ≡ put at x o ++ bytes_of t = e ∙ ap (λ k. put at (spelled 8 (pointer_word k t)) o ++ bytes_of t) gap in
-    let size : length o2 ≡ length o + 8 * words_of t = omega (arith, ap length two, length-append (put at x o) (bytes_of t), length_put at x o (omega (arith, room)), length_bytes_of t held.0) in
+    let two : o2 ≡ bytes_with at x o ++ bytes_of t = e ∙ ap (λ k. bytes_with at (spelled_number 8 (pointer_word k t)) o ++ bytes_of t) gap in
+    let size : length o2 ≡ length o + 8 * words_of t = omega (arith, ap length two, length-append (bytes_with at x o) (bytes_of t), length_put at x o (omega (arith, room)), length_bytes_of t held.0) in
     let later : words_from (row_end (at + 8) ts) o2 ≡ g + words_of t = omega (arith, size, room) in (
       size,
-      ap (λ k. put (at + 8) (pointer_row k ts) o2 ++ bytes_of_all ts) later
-          ∙ ap (λ z. put (at + 8) y z ++ bytes_of_all ts) two
+      ap (λ k. bytes_with (at + 8) (pointer_row k ts) o2 ++ bytes_of_all ts) later
+          ∙ ap (λ z. bytes_with (at + 8) y z ++ bytes_of_all ts) two
           ∙ put_next at x y o (bytes_of t) (bytes_of_all ts) (omega (arith, length_pointer_row (g + words_of t) ts, room)),
     )
 
@@ -183,20 +183,20 @@ element_filled d p at bytes ps es o o2 h room e =
     let x : List ℕ = bytes ++ pointer_row (struct_count es * (d + p) + g) ps in
     let y : List ℕ = element_row (d + p) (g + words_of_all ps) es in
     let own : length x ≡ 8 * (d + p) = length_element d p (struct_count es * (d + p) + g) bytes ps h.1 h.2 in
-    let two : o2 ≡ put at x o ++ bytes_of_all ps = e ∙ ap (λ k. put at (bytes ++ pointer_row k ps) o ++ bytes_of_all ps) gap in
-    let size : length o2 ≡ length o + 8 * words_of_all ps = omega (arith, ap length two, length-append (put at x o) (bytes_of_all ps), length_put at x o (omega (arith, own, room)), length_bytes_of_all ps h.3) in
+    let two : o2 ≡ bytes_with at x o ++ bytes_of_all ps = e ∙ ap (λ k. bytes_with at (bytes ++ pointer_row k ps) o ++ bytes_of_all ps) gap in
+    let size : length o2 ≡ length o + 8 * words_of_all ps = omega (arith, ap length two, length-append (bytes_with at x o) (bytes_of_all ps), length_put at x o (omega (arith, own, room)), length_bytes_of_all ps h.3) in
     let later : words_from (elements_end (d + p) (at + 8 * (d + p)) es) o2 ≡ g + words_of_all ps = omega (arith, size, room) in (
       size,
-      ap (λ k. put (at + 8 * (d + p)) (element_row (d + p) k es) o2 ++ bytes_below_all es) later
-          ∙ ap (λ z. put (at + 8 * (d + p)) y z ++ bytes_below_all es) two
-          ∙ ap (λ k. put (at + k) y (put at x o ++ bytes_of_all ps) ++ bytes_below_all es) (sym own)
+      ap (λ k. bytes_with (at + 8 * (d + p)) (element_row (d + p) k es) o2 ++ bytes_below_all es) later
+          ∙ ap (λ z. bytes_with (at + 8 * (d + p)) y z ++ bytes_below_all es) two
+          ∙ ap (λ k. bytes_with (at + k) y (bytes_with at x o ++ bytes_of_all ps) ++ bytes_below_all es) (sym own)
           ∙ put_next at x y o (bytes_of_all ps) (bytes_below_all es) (omega (arith, own, length_element_row d p (g + words_of_all ps) es h.4, room)),
     )
 
 -- ---- objects without pointers ----
 
-pub bits_appended : (b : List ℕ) (n : ℕ) → packed (8 * list_words 1 n) (bits_from b 0 n) ≡ bytes_of (Bits (bits_from b 0 n))
-bits_appended b n = ap (λ k. packed (8 * list_words 1 k) (bits_from b 0 n)) (sym (length-bits_from b 0 n)) ∙ sym (append-nil (packed (8 * list_words 1 (length (bits_from b 0 n))) (bits_from b 0 n)))
+pub bits_appended : (b : List ℕ) (n : ℕ) → packed_bits (8 * list_words 1 n) (bits_from b 0 n) ≡ bytes_of (Bits (bits_from b 0 n))
+bits_appended b n = ap (λ k. packed_bits (8 * list_words 1 k) (bits_from b 0 n)) (sym (length-bits_from b 0 n)) ∙ sym (append-nil (packed_bits (8 * list_words 1 (length (bits_from b 0 n))) (bits_from b 0 n)))
 
 -- ---- loops ----
 
@@ -238,14 +238,14 @@ module _ (at i : ℕ) (ts : Trees) (old now : List ℕ) (h : IsRowFilled at i ts
     pointer_kept new k = spares_then at (tree_count ts) (at + i) 1 old now new (λ j l r. (omega (arith, r.0), omega (arith, r.1, here))) h.kept k
 
     pub pointer_next : (new : List ℕ) → length now ≡ 8 * word_count now → at + tree_count ts ≤ word_count now → AreWellFormed ts → first_fault t ≡ None
-        → new ≡ put (8 * (at + i)) (spelled 8 (pointer_word (word_count now - suc (at + i)) t)) now ++ bytes_of t → Spares (at + i) 1 now new → IsRowFilled at (i + 1) ts old new
+        → new ≡ bytes_with (8 * (at + i)) (spelled_number 8 (pointer_word (word_count now - suc (at + i)) t)) now ++ bytes_of t → Spares (at + i) 1 now new → IsRowFilled at (i + 1) ts old new
     pointer_next new whole room held none e k =
         let us : Trees = trees_after (suc i) ts in
         let w : AreWellFormed (MoreTrees t us) = subst AreWellFormed next (trees_after-held i ts held) in
         let n : tree_count us ≡ tree_count ts - suc i = trees_after-count (suc i) ts in
         let r : row_end (8 * (at + i)) (MoreTrees t us) ≤ length now = omega (arith, n, room, whole, here) in
         let g : word_count now - suc (at + i) ≡ words_from (8 * (at + i)) now - 1 = omega (arith, whole) in
-        let f = pointer_filled (8 * (at + i)) t us now new w r (e ∙ ap (λ m. put (8 * (at + i)) (spelled 8 (pointer_word m t)) now ++ bytes_of t) g) in
+        let f = pointer_filled (8 * (at + i)) t us now new w r (e ∙ ap (λ m. bytes_with (8 * (at + i)) (spelled_number 8 (pointer_word m t)) now ++ bytes_of t) g) in
         subst (λ m. IsRowFilled at m ts old new) {x = suc i} {y = i + 1} (omega arith) (record {
           done = ap (λ m. with_pointers m us new) {x = 8 * (at + suc i)} {y = 8 * (at + i) + 8} (omega arith) ∙ f.1 ∙ ap (λ vs. with_pointers (8 * (at + i)) vs now) (sym next) ∙ h.done;
           faults = first_none (first_fault t) (first_fault_of_all us) (first_fault_of_all ts) none next_faults;

@@ -8,7 +8,7 @@ use Rattle.capnp_wire.specs.Words.{words_below_all, words_of, words_of_all}
 use Rattle.capnp_wire.specs.Facts.Indexed.{length-bits_from}
 use Rattle.capnp_arena.specs.Counts.{AreElementForests, AreForests}
 use Rattle.capnp_arena.specs.Forest.{Forest, struct_from, tree}
-use Rattle.capnp_arena.specs.Shape.{CompositeIn, IsPointerOf, ListIn, NoShape, Shape, StructIn, end_of, placed, shape_at, word_count}
+use Rattle.capnp_arena.specs.Shape.{CompositeIn, IsPointerOf, ListIn, NoShape, Shape, StructIn, end_of, shape_target, shape_at, word_count}
 use Rattle.capnp_arena.specs.Facts.Forests.{child, points, tree_step}
 use Rattle.capnp_arena.specs.Facts.Shapes.{end_inside}
 use Rattle.capnp_arena.specs.Facts.Structs.{tree_composite, tree_list, tree_struct}
@@ -36,7 +36,7 @@ module _ (bytes : List ℕ) (w : ℕ) (f : Forest bytes w) where
   words_null e = ap words_of (tree_step bytes w f) ∙ ap (λ s. words_of (step s)) e
     where
       step : Shape → Tree
-      step s = tree_with_level tree tree (placed bytes s)
+      step s = tree_with_level tree tree (shape_target bytes s)
 
   pub words_struct : (a d p : ℕ) → shape_at bytes w ≡ StructIn a d p → words_of (tree bytes w) ≡ d + p + words_of_all (trees_from (tree bytes) (a + d) p)
   words_struct a d p e =

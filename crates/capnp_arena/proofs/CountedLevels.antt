@@ -6,7 +6,7 @@ use Rattle.capnp_wire.specs.Place.{list_tree, tree_with_level}
 use Rattle.capnp_wire.specs.Tree.{Tree, StructTree, structs_from, trees_from}
 use Rattle.capnp_arena.specs.Counts.{IsCount, IsCounted}
 use Rattle.capnp_arena.specs.Forest.{Forest, struct_from, tree}
-use Rattle.capnp_arena.specs.Shape.{CompositeIn, ListIn, NoShape, StructIn, placed, shape_at}
+use Rattle.capnp_arena.specs.Shape.{CompositeIn, ListIn, NoShape, StructIn, shape_target, shape_at}
 use Rattle.capnp_arena.specs.Facts.Forests.{tree_step}
 use Rattle.capnp_arena.specs.Facts.Structs.{tree_composite, tree_list, tree_struct}
 
@@ -23,7 +23,7 @@ none_counted part words A B h l f = elim h [ inl x ↦ inl (omega (arith, x, l))
 
 module _ (bytes : List ℕ) (w : ℕ) (f : Forest bytes w) (d : ℕ) where
   pub null_below : shape_at bytes w ≡ NoShape → IsBelow d (tree bytes w)
-  null_below e = subst (IsBelow d) (sym (tree_step bytes w f ∙ ap (λ s. tree_with_level tree tree (placed bytes s)) e)) tt
+  null_below e = subst (IsBelow d) (sym (tree_step bytes w f ∙ ap (λ s. tree_with_level tree tree (shape_target bytes s)) e)) tt
 
   pub of_struct : (a k p : ℕ) → shape_at bytes w ≡ StructIn a k p → IsBelow d (tree bytes w) → (2 ≤ d) × AreBelow (d - 1) (trees_from (tree bytes) (a + k) p)
   of_struct a k p e b = subst (IsBelow d) (tree_struct bytes w a k p f e) b

@@ -3,7 +3,7 @@ use Rattle.std.proofs.Common.{◌≡◌, ℕ, zero, suc, ◌+◌, ◌-◌, ◌*�
 use Rattle.std.specs.Prelude.{IsTrue}
 use Rattle.std.proofs.lemmas.Bool.{cases_eq}
 use Rattle.std.proofs.lemmas.Bool.Decides.{nat_tests}
-use Rattle.capnp_wire.specs.Encoding.{bytes_below_all, bytes_of_all, bytes_below, element_row, list_word, number_size, own_bytes, packed, padded, pointer_row, pointer_word, spelled, struct_word}
+use Rattle.capnp_wire.specs.Encoding.{bytes_below_all, bytes_of_all, bytes_below, element_row, list_word, number_size, own_bytes, packed_bits, padded_bytes, pointer_row, pointer_word, spelled_number, struct_word}
 use Rattle.capnp_wire.specs.Facts.EmptyStructs.{no_sections}
 use Rattle.capnp_wire.specs.Facts.EncodedSizes.{length_bytes_of, length_bytes_of_all, length_element, length_element_row, length_packed, length_padded, length_pointer_row}
 use Rattle.capnp_wire.specs.Facts.PackedBits.{bits_packed}
@@ -15,7 +15,7 @@ use Rattle.capnp_wire.specs.Tree.{Bits, Composite, FaultLeaf, MoreStructs, MoreT
 use Rattle.capnp_wire.specs.WellFormed.{AreElements, AreWellFormed, IsWellFormed, is_width}
 use Rattle.capnp_wire.specs.Words.{byte_words, first_fault, first_fault_of_all, first_fault_of_elements, first_of, words_below_all, words_of, words_of_all}
 use Rattle.capnp_wire.specs.declared.fault.Fault.{Fault}
-use Rattle.capnp_arena.specs.Shape.{CompositeIn, IsPointerOf, IsWithin, IsWordAt, ListIn, Points, Shape, StructIn, word_count}
+use Rattle.capnp_arena.specs.Shape.{CompositeIn, IsPointerOf, IsWordWithin, IsWordAt, ListIn, Points, Shape, StructIn, word_count}
 use Rattle.capnp_arena.specs.Forest.{Forest, OwnedBy, Owns, Planted, struct_from, tree}
 use Rattle.capnp_arena.specs.Facts.Calls.{grown, null_forest, null_owns, null_tree, owned_by}
 use Rattle.capnp_arena.specs.Facts.Shapes.{end_inside}
@@ -119,7 +119,7 @@ module _ (bytes : List ℕ) where
 
   -- ---- a target before what its pointers lead to ----
 
-  module _ (w a lo hi : ℕ) (s : Shape) (h : Points bytes w s) (front : (k : ℕ) → IsWithin s k → (a ≤ k) × (k < lo)) (l : a ≤ lo) (m : lo ≤ hi) (r : Apart bytes (IsPointerOf s) lo hi) where
+  module _ (w a lo hi : ℕ) (s : Shape) (h : Points bytes w s) (front : (k : ℕ) → IsWordWithin s k → (a ≤ k) × (k < lo)) (l : a ≤ lo) (m : lo ≤ hi) (r : Apart bytes (IsPointerOf s) lo hi) where
     target_planted : Planted bytes s
     target_planted = record {
       ends = end_inside bytes w s h;
@@ -139,16 +139,16 @@ module _ (bytes : List ℕ) where
 
   -- ---- words ----
 
-  is_word : (w n : ℕ) → Stands bytes w (spelled 8 n) → IsWordAt bytes w n
-  is_word w n s = (let x : 8 * w + 8 ≤ length bytes = s.within in omega (arith, x), stands_all bytes w 8 (spelled 8 n) refl s)
+  is_word : (w n : ℕ) → Stands bytes w (spelled_number 8 n) → IsWordAt bytes w n
+  is_word w n s = (let x : 8 * w + 8 ≤ length bytes = s.within in omega (arith, x), stands_all bytes w 8 (spelled_number 8 n) refl s)
 
   -- a pointer by where its target starts
-  word_to : (f : ℕ → ℕ) (w g : ℕ) → Stands bytes w (spelled 8 (f g)) → IsWordAt bytes w (f (w + 1 + g - suc w))
+  word_to : (f : ℕ → ℕ) (w g : ℕ) → Stands bytes w (spelled_number 8 (f g)) → IsWordAt bytes w (f (w + 1 + g - suc w))
   word_to f w g s = subst (λ z. IsWordAt bytes w (f z)) {x = g} {y = w + 1 + g - suc w} (omega arith) (is_word w (f g) s)
 
   -- ---- lists without pointers ----
 
-  plain_list : (w g size n : ℕ) (t : Tree) → g < 2 ^ 29 → size < 6 → n < 2 ^ 29 → w + 1 + g + list_words size n ≤ word_count bytes → Stands bytes w (spelled 8 (list_word g size n)) → list_tree (tree bytes) bytes (w + 1 + g) size n ≡ t → IsTreeIn bytes w (w + 1 + g) (w + 1 + g + list_words size n) t
+  plain_list : (w g size n : ℕ) (t : Tree) → g < 2 ^ 29 → size < 6 → n < 2 ^ 29 → w + 1 + g + list_words size n ≤ word_count bytes → Stands bytes w (spelled_number 8 (list_word g size n)) → list_tree (tree bytes) bytes (w + 1 + g) size n ≡ t → IsTreeIn bytes w (w + 1 + g) (w + 1 + g + list_words size n) t
   plain_list w g size n t near plain few lie s e =
       let a : ℕ = w + 1 + g in
       let h : Points bytes w (ListIn a size n) = (omega arith, omega (arith, near), omega (arith, plain), few, lie, word_to (λ z. list_word z size n) w g s) in
@@ -160,9 +160,9 @@ module _ (bytes : List ℕ) where
         tree = tree_list bytes w a size n f (shape bytes w (ListIn a size n) h) ∙ e;
       }
 
-  module _ (w g : ℕ) (near : g < 2 ^ 29) (b : List ℕ) (there : Stands bytes (w + 1 + g) (padded b)) where
+  module _ (w g : ℕ) (near : g < 2 ^ 29) (b : List ℕ) (there : Stands bytes (w + 1 + g) (padded_bytes b)) where
     HoldsNumbers : ℕ → Type 0
-    HoldsNumbers v = length b ≡ v * (length b / v) → length b / v < 2 ^ 29 → Stands bytes w (spelled 8 (list_word g (number_size v) (length b / v))) → IsTreeIn bytes w (w + 1 + g) (w + 1 + g + byte_words (length b)) (Numbers v b)
+    HoldsNumbers v = length b ≡ v * (length b / v) → length b / v < 2 ^ 29 → Stands bytes w (spelled_number 8 (list_word g (number_size v) (length b / v))) → IsTreeIn bytes w (w + 1 + g) (w + 1 + g + byte_words (length b)) (Numbers v b)
 
     numbers_inside : w + 1 + g + byte_words (length b) ≤ word_count bytes
     numbers_inside = omega (arith, there.within, length_padded b)
@@ -170,7 +170,7 @@ module _ (bytes : List ℕ) where
     numbers_are : (n : ℕ) → length b ≡ n → bytes_at bytes (w + 1 + g) n ≡ b
     numbers_are n q = stands_first bytes (w + 1 + g) n b (replicate (8 * byte_words (length b) - length b) 0) q there
 
-    of_size : (v size : ℕ) → size < 6 → list_words size (length b / v) ≡ byte_words (length b) → length b / v < 2 ^ 29 → Stands bytes w (spelled 8 (list_word g size (length b / v))) → list_tree (tree bytes) bytes (w + 1 + g) size (length b / v) ≡ Numbers v b
+    of_size : (v size : ℕ) → size < 6 → list_words size (length b / v) ≡ byte_words (length b) → length b / v < 2 ^ 29 → Stands bytes w (spelled_number 8 (list_word g size (length b / v))) → list_tree (tree bytes) bytes (w + 1 + g) size (length b / v) ≡ Numbers v b
         → IsTreeIn bytes w (w + 1 + g) (w + 1 + g + byte_words (length b)) (Numbers v b)
     of_size v size plain q few s e =
         subst (λ z. IsTreeIn bytes w (w + 1 + g) (w + 1 + g + z) (Numbers v b)) q
@@ -192,15 +192,15 @@ module _ (bytes : List ℕ) where
     unfolding HoldsNumbers
     holds_eight e k s = of_size 8 5 (omega arith) (omega (arith, e)) k s (ap (Numbers 8) (numbers_are (8 * (length b / 8)) e))
 
-    numbers_stand : (v : ℕ) → IsTrue (is_width v) → length b ≡ v * (length b / v) → length b / v < 2 ^ 29 → Stands bytes w (spelled 8 (list_word g (number_size v) (length b / v))) → IsTreeIn bytes w (w + 1 + g) (w + 1 + g + byte_words (length b)) (Numbers v b)
+    numbers_stand : (v : ℕ) → IsTrue (is_width v) → length b ≡ v * (length b / v) → length b / v < 2 ^ 29 → Stands bytes w (spelled_number 8 (list_word g (number_size v) (length b / v))) → IsTreeIn bytes w (w + 1 + g) (w + 1 + g + byte_words (length b)) (Numbers v b)
     unfolding HoldsNumbers
     numbers_stand v h = width_cases HoldsNumbers holds_one holds_two holds_four holds_eight v h
 
-  bits_stand : (w g : ℕ) (bs : List Bool) → g < 2 ^ 29 → length bs < 2 ^ 29 → Stands bytes w (spelled 8 (list_word g 1 (length bs))) → Stands bytes (w + 1 + g) (packed (8 * list_words 1 (length bs)) bs) → IsTreeIn bytes w (w + 1 + g) (w + 1 + g + list_words 1 (length bs)) (Bits bs)
+  bits_stand : (w g : ℕ) (bs : List Bool) → g < 2 ^ 29 → length bs < 2 ^ 29 → Stands bytes w (spelled_number 8 (list_word g 1 (length bs))) → Stands bytes (w + 1 + g) (packed_bits (8 * list_words 1 (length bs)) bs) → IsTreeIn bytes w (w + 1 + g) (w + 1 + g + list_words 1 (length bs)) (Bits bs)
   bits_stand w g bs near few s there =
       let n : ℕ = list_words 1 (length bs) in
       plain_list w g 1 (length bs) (Bits bs) near (omega arith) few (omega (arith, there.within, length_packed (8 * n) bs)) s
-      (ap (λ x. Bits (bits_from x 0 (length bs))) (stands_all bytes (w + 1 + g) (8 * n) (packed (8 * n) bs) (length_packed (8 * n) bs) there) ∙ ap Bits (bits_packed (8 * n) bs (omega arith)))
+      (ap (λ x. Bits (bits_from x 0 (length bs))) (stands_all bytes (w + 1 + g) (8 * n) (packed_bits (8 * n) bs) (length_packed (8 * n) bs) there) ∙ ap Bits (bits_packed (8 * n) bs (omega arith)))
 
   -- ---- structs ----
 
@@ -217,7 +217,7 @@ module _ (bytes : List ℕ) where
       cc
 
   mutual
-    pub tree_stands : (t : Tree) (w g : ℕ) → IsWellFormed t → first_fault t ≡ None → g + words_of t < 2 ^ 29 → Stands bytes w (spelled 8 (pointer_word g t)) → Stands bytes (w + 1 + g) (own_bytes t ++ bytes_below t) → IsTreeIn bytes w (w + 1 + g) (w + 1 + g + words_of t) t
+    pub tree_stands : (t : Tree) (w g : ℕ) → IsWellFormed t → first_fault t ≡ None → g + words_of t < 2 ^ 29 → Stands bytes w (spelled_number 8 (pointer_word g t)) → Stands bytes (w + 1 + g) (own_bytes t ++ bytes_below t) → IsTreeIn bytes w (w + 1 + g) (w + 1 + g + words_of t) t
     tree_stands Null w g well none few s there =
         let h : IsWordAt bytes w 0 = is_word w 0 s in
         record { forest = null_forest bytes w h; owned = λ k o. absurd (null_owns bytes w k h o); tree = null_tree bytes w h }
@@ -233,7 +233,7 @@ module _ (bytes : List ℕ) where
         let r : AreTreesIn bytes (a + d) (a + d + p + 0) (a + d + p + 0 + words_of_all ps) ps = trees_stand ps (a + d) 0 well.4 none (omega (arith, few)) row at_row in
         elim (cases_eq (d + p) 0) [
           | inl z ↦
-              let s0 : Stands bytes w (spelled 8 (struct_word (2 ^ 30 - 1) 0 0)) = subst (λ n. Stands bytes w (spelled 8 (cond (n == 0) (struct_word (2 ^ 30 - 1) 0 0) (struct_word g d p)))) z s in
+              let s0 : Stands bytes w (spelled_number 8 (struct_word (2 ^ 30 - 1) 0 0)) = subst (λ n. Stands bytes w (spelled_number 8 (cond (n == 0) (struct_word (2 ^ 30 - 1) 0 0) (struct_word g d p)))) z s in
               let h : Points bytes w (StructIn w 0 0) = inl (refl, refl, refl, is_word w (struct_word (2 ^ 30 - 1) 0 0) s0) in
               let no : Apart bytes (IsPointerOf (StructIn w 0 0)) (a + words_of (Struct b ps)) (a + words_of (Struct b ps)) = no_pointers (IsPointerOf (StructIn w 0 0)) (a + words_of (Struct b ps)) (a + words_of (Struct b ps)) (λ j q. omega (arith, q.0, q.1)) in
               let f : Forest bytes w = target_forest w a (a + words_of (Struct b ps)) (a + words_of (Struct b ps)) (StructIn w 0 0) h (λ k q. absurd (omega (arith, q.0, q.1))) (omega arith) (omega arith) no in
@@ -243,7 +243,7 @@ module _ (bytes : List ℕ) where
                 tree = tree_struct bytes w w 0 0 f (shape bytes w (StructIn w 0 0) h) ∙ ap struct_tree (sym (no_sections (record { bytes = b; pointers = ps }) (omega (arith, well.1, z)) (omega (arith, z))));
               }
           | inr nz ↦
-              let s1 : Stands bytes w (spelled 8 (struct_word g d p)) = subst (λ c. Stands bytes w (spelled 8 (cond c (struct_word (2 ^ 30 - 1) 0 0) (struct_word g d p)))) (not_equal (d + p) 0 nz) s in
+              let s1 : Stands bytes w (spelled_number 8 (struct_word g d p)) = subst (λ c. Stands bytes w (spelled_number 8 (cond c (struct_word (2 ^ 30 - 1) 0 0) (struct_word g d p)))) (not_equal (d + p) 0 nz) s in
               let i : a + (d + p) ≤ word_count bytes = omega (arith, own.within, len) in
               let h : Points bytes w (StructIn a d p) = inr (omega arith, omega (arith, few), well.2, well.3, omega (arith, nz), i, word_to (λ z. struct_word z d p) w g s1) in
               let c : Apart bytes (IsPointerOf (StructIn a d p)) (a + d + p + 0) (a + d + p + 0 + words_of_all ps) = r.each in
@@ -260,10 +260,10 @@ module _ (bytes : List ℕ) where
         let h : IsTreeIn bytes w (w + 1 + g) (w + 1 + g + list_words 0 n) (Voids n) = plain_list w g 0 n (Voids n) (omega (arith, few)) (omega arith) well (omega (arith, x)) s refl in
         record { forest = h.forest; owned = λ k o. let y = h.owned k o in (y.0, omega (arith, y.1)); tree = h.tree }
     tree_stands (Bits bs) w g well none few s there =
-        let h : IsTreeIn bytes w (w + 1 + g) (w + 1 + g + list_words 1 (length bs)) (Bits bs) = bits_stand w g bs (omega (arith, few)) well s (stands_left bytes (w + 1 + g) (packed (8 * list_words 1 (length bs)) bs) [] there) in
+        let h : IsTreeIn bytes w (w + 1 + g) (w + 1 + g + list_words 1 (length bs)) (Bits bs) = bits_stand w g bs (omega (arith, few)) well s (stands_left bytes (w + 1 + g) (packed_bits (8 * list_words 1 (length bs)) bs) [] there) in
         record { forest = h.forest; owned = λ k o. let y = h.owned k o in (y.0, omega (arith, y.1)); tree = h.tree }
     tree_stands (Numbers v b) w g well none few s there =
-        let h : IsTreeIn bytes w (w + 1 + g) (w + 1 + g + byte_words (length b)) (Numbers v b) = numbers_stand w g (omega (arith, few)) b (stands_left bytes (w + 1 + g) (padded b) [] there) v well.1 well.2 well.3 s in
+        let h : IsTreeIn bytes w (w + 1 + g) (w + 1 + g + byte_words (length b)) (Numbers v b) = numbers_stand w g (omega (arith, few)) b (stands_left bytes (w + 1 + g) (padded_bytes b) [] there) v well.1 well.2 well.3 s in
         record { forest = h.forest; owned = λ k o. let y = h.owned k o in (y.0, omega (arith, y.1)); tree = h.tree }
     tree_stands (Pointers ps) w g well none few s there =
         let a : ℕ = w + 1 + g in
@@ -285,7 +285,7 @@ module _ (bytes : List ℕ) where
     tree_stands (Composite d p es) w g well none few s there =
         let a : ℕ = w + 1 + g in
         let c : ℕ = struct_count es in
-        let tag : List ℕ = spelled 8 (struct_word c d p) in
+        let tag : List ℕ = spelled_number 8 (struct_word c d p) in
         let row : List ℕ = element_row (d + p) 0 es in
         let own : Stands bytes a (tag ++ row) = stands_left bytes a (tag ++ row) (bytes_below_all es) there in
         let tag_at : Stands bytes a tag = stands_left bytes a tag row own in
@@ -314,7 +314,7 @@ module _ (bytes : List ℕ) where
         let n : ℕ = tree_count ts in
         let none_here : first_fault t ≡ None = none_first (first_fault t) (first_fault_of_all ts) none in
         let none_there : first_fault_of_all ts ≡ None = none_later (first_fault t) (first_fault_of_all ts) none in
-        let word : List ℕ = spelled 8 (pointer_word (n + g) t) in
+        let word : List ℕ = spelled_number 8 (pointer_word (n + g) t) in
         let row : List ℕ = pointer_row (g + words_of t) ts in
         let here : Stands bytes (w + 1 + (n + g)) ((own_bytes t ++ bytes_below t) ++ bytes_of_all ts) = stands_at bytes ((own_bytes t ++ bytes_below t) ++ bytes_of_all ts) (w + suc n + g) (w + 1 + (n + g)) (omega arith) there in
         let first : IsTreeIn bytes w (w + 1 + (n + g)) (w + 1 + (n + g) + words_of t) t = tree_stands t w (n + g) well.0 none_here (omega (arith, few)) (stands_left bytes w word row s) (stands_left bytes (w + 1 + (n + g)) (own_bytes t ++ bytes_below t) (bytes_of_all ts) here) in

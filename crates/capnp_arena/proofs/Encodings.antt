@@ -1,12 +1,12 @@
 -- The encoding of a tree by what its pointer leads to.
 use Rattle.std.proofs.Common.{◌≡◌, ℕ, zero, suc, ◌+◌, ◌-◌, ◌*◌, ◌/◌, ◌^◌, ◌<◌, ◌≤◌, inl, inr, refl, sym, ap, subst, ◌∙◌, arith, List, [], ◌++◌, length, take, drop, ◌==◌, cond}
 use Rattle.std.proofs.lemmas.List.{append-nil, append_assoc, take-append-drop}
-use Rattle.capnp_wire.specs.Encoding.{bytes_below, bytes_below_all, bytes_of, bytes_of_all, element_row, list_word, own_bytes, packed, pointer_row, pointer_word, struct_word}
+use Rattle.capnp_wire.specs.Encoding.{bytes_below, bytes_below_all, bytes_of, bytes_of_all, element_row, list_word, own_bytes, packed_bits, pointer_row, pointer_word, struct_word}
 use Rattle.capnp_wire.specs.Facts.Bytes.{AreBytes-part, AreSegments-one}
 use Rattle.capnp_wire.specs.Facts.EmptyStructs.{no_sections}
 use Rattle.capnp_wire.specs.Facts.Places.{IsWellFormed-tree_at}
 use Rattle.capnp_wire.specs.Facts.Rows.{struct_count-structs_from, tree_count-trees_from}
-use Rattle.capnp_wire.specs.Filling.{HasRoom, HaveRoom, elements_end, put, with_encoded_elements, with_pointers, words_from}
+use Rattle.capnp_wire.specs.Filling.{HasRoom, HaveRoom, elements_end, bytes_with, with_encoded_elements, with_pointers, words_from}
 use Rattle.capnp_wire.specs.Locate.{list_words}
 use Rattle.capnp_wire.specs.Place.{bits_from, bytes_at, list_tree, tree_with_level}
 use Rattle.capnp_wire.specs.Tree.{Composite, MoreStructs, MoreTrees, NoStructs, NoTrees, Null, StructTree, Structs, Tree, Trees, empty_struct, struct_count, structs_from, tree_count, trees_from}
@@ -15,7 +15,7 @@ use Rattle.capnp_wire.specs.Words.{words_of_all}
 use Rattle.capnp_wire.specs.Facts.Indexed.{length-bits_from}
 use Rattle.capnp_arena.specs.Encoded.{HasSize, pointer_to}
 use Rattle.capnp_arena.specs.Forest.{Forest, struct_from, tree}
-use Rattle.capnp_arena.specs.Shape.{CompositeIn, ListIn, NoShape, Points, Shape, StructIn, placed, shape_at, word_count}
+use Rattle.capnp_arena.specs.Shape.{CompositeIn, ListIn, NoShape, Points, Shape, StructIn, shape_target, shape_at, word_count}
 use Rattle.capnp_arena.proofs.Counted.{ends_at}
 use Rattle.capnp_arena.specs.Facts.Forests.{points, tree_step}
 use Rattle.capnp_arena.specs.Facts.Shapes.{element_end}
@@ -48,7 +48,7 @@ list_pointer_is bytes gap a (suc (suc (suc (suc (suc (suc z)))))) n l h =
 
 module _ (bytes : List ℕ) (w : ℕ) (f : Forest bytes w) (gap : ℕ) where
   by_shape : (s : Shape) → shape_at bytes w ≡ s → pointer_to gap s ≡ pointer_word gap (tree bytes w)
-  by_shape NoShape e = sym (ap (pointer_word gap) (tree_step bytes w f ∙ ap (λ s. tree_with_level tree tree (placed bytes s)) e))
+  by_shape NoShape e = sym (ap (pointer_word gap) (tree_step bytes w f ∙ ap (λ s. tree_with_level tree tree (shape_target bytes s)) e))
   by_shape (StructIn a d p) e =
       let l : a + (d + p) ≤ word_count bytes = ends_at bytes w f (StructIn a d p) e in
       let n : length (bytes_at bytes a (8 * d)) ≡ 8 * d = length_part bytes a (8 * d) (omega (arith, l)) in
@@ -113,7 +113,7 @@ plain_below bytes a (suc (suc (suc (suc (suc (suc z)))))) n l = absurd (omega (a
 
 module _ (bytes : List ℕ) (w : ℕ) (f : Forest bytes w) where
   pub bytes_null : shape_at bytes w ≡ NoShape → bytes_of (tree bytes w) ≡ []
-  bytes_null e = ap bytes_of (tree_step bytes w f ∙ ap (λ s. tree_with_level tree tree (placed bytes s)) e)
+  bytes_null e = ap bytes_of (tree_step bytes w f ∙ ap (λ s. tree_with_level tree tree (shape_target bytes s)) e)
 
   pub bytes_struct : (a d p : ℕ) → shape_at bytes w ≡ StructIn a d p → bytes_of (tree bytes w) ≡ bytes_at bytes a (8 * d) ++ (pointer_row 0 (trees_from (tree bytes) (a + d) p) ++ bytes_of_all (trees_from (tree bytes) (a + d) p))
   bytes_struct a d p e = ap bytes_of (tree_struct bytes w a d p f e) ∙ append_assoc (bytes_at bytes a (8 * d)) (pointer_row 0 (trees_from (tree bytes) (a + d) p)) (bytes_of_all (trees_from (tree bytes) (a + d) p))
@@ -136,10 +136,10 @@ module _ (bytes : List ℕ) (w : ℕ) (f : Forest bytes w) where
       ∙ ap (λ k. bytes_at bytes a (8 * 0) ++ (pointer_row 0 (trees_from (tree bytes) (a + 0) k) ++ bytes_of_all (trees_from (tree bytes) (a + 0) k))) {x = p} {y = 0} (omega (arith, z))
 
 -- a list of bits
-pub bits_own : (bytes part : List ℕ) (a n : ℕ) → part ≡ bytes_at bytes a (8 * ((n + 63) / 64)) → packed (8 * list_words 1 n) (bits_from part 0 n) ≡ own_bytes (list_tree (tree bytes) bytes a 1 n)
+pub bits_own : (bytes part : List ℕ) (a n : ℕ) → part ≡ bytes_at bytes a (8 * ((n + 63) / 64)) → packed_bits (8 * list_words 1 n) (bits_from part 0 n) ≡ own_bytes (list_tree (tree bytes) bytes a 1 n)
 bits_own bytes part a n e =
-    ap (λ z. packed (8 * list_words 1 n) (bits_from z 0 n)) (e ∙ ap (bytes_at bytes a) {x = 8 * ((n + 63) / 64)} {y = 8 * list_words 1 n} (omega arith))
-    ∙ ap (λ k. packed (8 * list_words 1 k) (bits_from (bytes_at bytes a (8 * list_words 1 n)) 0 n)) (sym (length-bits_from (bytes_at bytes a (8 * list_words 1 n)) 0 n))
+    ap (λ z. packed_bits (8 * list_words 1 n) (bits_from z 0 n)) (e ∙ ap (bytes_at bytes a) {x = 8 * ((n + 63) / 64)} {y = 8 * list_words 1 n} (omega arith))
+    ∙ ap (λ k. packed_bits (8 * list_words 1 k) (bits_from (bytes_at bytes a (8 * list_words 1 n)) 0 n)) (sym (length-bits_from (bytes_at bytes a (8 * list_words 1 n)) 0 n))
 
 -- ---- room ----
 
@@ -166,8 +166,8 @@ nothing_below d p (MoreStructs bytes ps es) none h =
 
 pub nothing_filled : (d p at : ℕ) (es : Structs) (out : List ℕ) → d + p ≡ 0 → AreElements d p es → with_encoded_elements (d + p) at es out ≡ out
 nothing_filled d p at es out none h =
-    ap (λ row. put at row out ++ bytes_below_all es) (nothing_in_row d p (words_from (elements_end (d + p) at es) out) es none h)
-    ∙ ap (λ below. put at [] out ++ below) (nothing_below d p es none h)
+    ap (λ row. bytes_with at row out ++ bytes_below_all es) (nothing_in_row d p (words_from (elements_end (d + p) at es) out) es none h)
+    ∙ ap (λ below. bytes_with at [] out ++ below) (nothing_below d p es none h)
     ∙ no_elements 0 at out
 
 pub row_done : (f : ℕ → Tree) (a n i at : ℕ) (out : List ℕ) → n ≤ i → with_pointers at (trees_from f a (n - i)) out ≡ out

@@ -2,7 +2,7 @@
 use Rattle.std.proofs.Common.{◌≡◌, ℕ, zero, suc, ◌+◌, ◌-◌, ◌*◌, ◌/◌, ◌^◌, ◌<◌, ◌≤◌, ◌⊎◌, inl, inr, refl, sym, ap, subst, ◌∙◌, arith, List, ◌++◌, length, replicate, None, ◌==◌, cond, max}
 use Rattle.std.proofs.Math.Nat.{max-eq_left, max-eq_right}
 use Rattle.std.proofs.lemmas.List.{append-nil}
-use Rattle.capnp_wire.specs.Edits.{append_trees, extended, nulls}
+use Rattle.capnp_wire.specs.Edits.{append_trees, extended_struct, nulls}
 use Rattle.capnp_wire.specs.Encoding.{bytes_of, pointer_word, struct_word}
 use Rattle.capnp_wire.specs.Facts.EncodedSizes.{length_bytes_of}
 use Rattle.capnp_wire.specs.Facts.PointerWords.{not_equal}
@@ -15,7 +15,7 @@ use Rattle.capnp_wire.specs.WellFormed.{AreBytes, IsElement, IsWellFormed, IsWel
 use Rattle.capnp_wire.specs.Words.{first_fault, first_fault_of_all, first_of, words_of, words_of_all}
 use Rattle.capnp_wire.specs.declared.size.StructSize.{StructSize}
 use Rattle.capnp_arena.specs.Forest.{Changes, Forest, struct_from, tree}
-use Rattle.capnp_arena.specs.Made.{IsMade, filled_up}
+use Rattle.capnp_arena.specs.Made.{IsObjectMade, filled_up}
 use Rattle.capnp_arena.specs.Shape.{IsWordAt, Points, StructIn, shape_at, word_count}
 use Rattle.capnp_arena.proofs.Encodings.{row_held}
 use Rattle.capnp_arena.proofs.Enlarged.{words_more}
@@ -55,7 +55,7 @@ more_pointers m n = elim (order m n) [
     order : (m n : ℕ) → (m ≤ n) ⊎ (n ≤ m)
     order m n = grind arith
 
-pub larger_extended : (size larger : StructSize) (s : StructTree) (d p : ℕ) → length s.bytes ≡ 8 * d → tree_count s.pointers ≡ p → larger.data_words ≡ max size.data_words d → larger.pointers ≡ max size.pointers p → extended larger s ≡ extended size s
+pub larger_extended : (size larger : StructSize) (s : StructTree) (d p : ℕ) → length s.bytes ≡ 8 * d → tree_count s.pointers ≡ p → larger.data_words ≡ max size.data_words d → larger.pointers ≡ max size.pointers p → extended_struct larger s ≡ extended_struct size s
 larger_extended size larger s d p e q f g =
     ap (λ n. record { bytes = s.bytes ++ replicate n 0; pointers = append_trees s.pointers (nulls (larger.pointers - tree_count s.pointers)) })
     (ap (λ n. 8 * n - length s.bytes) f ∙ ap (λ n. 8 * max size.data_words d - n) e ∙ longer_part size.data_words d ∙ ap (λ n. 8 * size.data_words - n) (sym e))
@@ -78,11 +78,11 @@ struct_pointer : (gap d p m n : ℕ) → m ≡ d → n ≡ p → 0 < d + p → s
 struct_pointer gap d p m n e q some = rw (e, q, not_equal (d + p) 0 (λ z. omega (arith, z, some))) refl
 
 pub struct_encoded : (old new added : List ℕ) (at word d p : ℕ) (s : StructTree) → IsElement d p s → d < 2 ^ 16 → p < 2 ^ 16 → 0 < d + p → first_fault_of_all s.pointers ≡ None → added ≡ bytes_of (struct_tree s)
-    → word ≡ struct_word (word_count old - suc at) d p → IsMade old new added at word → IsEncodedStruct old new at (word_count old) d p s
+    → word ≡ struct_word (word_count old - suc at) d p → IsObjectMade old new added at word → IsEncodedStruct old new at (word_count old) d p s
 struct_encoded old new added at word d p s held hd hp some none content w made =
     let well : IsWellFormed (struct_tree s) = IsWellFormed-element d p s hd hp held in
     let e : word ≡ pointer_word (word_count old - suc at) (struct_tree s) = w ∙ struct_pointer (word_count old - suc at) d p (length s.bytes / 8) (tree_count s.pointers) (omega (arith, held.1)) held.2 some in
-    let m : IsMade old new (bytes_of (struct_tree s)) at (pointer_word (word_count old - suc at) (struct_tree s)) = subst (λ x. IsMade old new x at (pointer_word (word_count old - suc at) (struct_tree s))) content (subst (IsMade old new added at) e made) in
+    let m : IsObjectMade old new (bytes_of (struct_tree s)) at (pointer_word (word_count old - suc at) (struct_tree s)) = subst (λ x. IsObjectMade old new x at (pointer_word (word_count old - suc at) (struct_tree s))) content (subst (IsObjectMade old new added at) e made) in
     let t : IsNewTree old new at (struct_tree s) = tree_made old new at (struct_tree s) well none m in
     let n : length (bytes_of (struct_tree s)) ≡ 8 * words_of (struct_tree s) = length_bytes_of (struct_tree s) well in
     let size : length new ≡ 8 * (word_count old + word_count added) = made_length old new added at word made in
@@ -92,30 +92,30 @@ struct_encoded old new added at word d p s held hd hp some none content w made =
 
 -- ---- the bytes of it ----
 
-pub larger_words : (size : StructSize) (s : StructTree) → IsElement size.data_words size.pointers (extended size s) → words_of (struct_tree (extended size s)) ≡ size.data_words + size.pointers + words_of_all s.pointers
+pub larger_words : (size : StructSize) (s : StructTree) → IsElement size.data_words size.pointers (extended_struct size s) → words_of (struct_tree (extended_struct size s)) ≡ size.data_words + size.pointers + words_of_all s.pointers
 larger_words size s h = omega (arith, h.1, h.2, words_more (size.pointers - tree_count s.pointers) s.pointers)
 
-pub larger_length : (size : StructSize) (s : StructTree) (content : List ℕ) → size.data_words < 2 ^ 16 → size.pointers < 2 ^ 16 → IsElement size.data_words size.pointers (extended size s) → content ≡ bytes_of (struct_tree (extended size s))
+pub larger_length : (size : StructSize) (s : StructTree) (content : List ℕ) → size.data_words < 2 ^ 16 → size.pointers < 2 ^ 16 → IsElement size.data_words size.pointers (extended_struct size s) → content ≡ bytes_of (struct_tree (extended_struct size s))
     → length content ≡ 8 * (size.data_words + size.pointers + words_of_all s.pointers)
 larger_length size s content hd hp h e =
-    ap length e ∙ length_bytes_of (struct_tree (extended size s)) (IsWellFormed-element size.data_words size.pointers (extended size s) hd hp h) ∙ ap (λ n. 8 * n) (larger_words size s h)
+    ap length e ∙ length_bytes_of (struct_tree (extended_struct size s)) (IsWellFormed-element size.data_words size.pointers (extended_struct size s) hd hp h) ∙ ap (λ n. 8 * n) (larger_words size s h)
 
 pub struct_held : (bytes : List ℕ) (a d p : ℕ) → AreBytes bytes → d < 2 ^ 16 → p < 2 ^ 16 → IsWellFormedStruct (struct_from bytes a d p)
 struct_held bytes a d p h hd hp = (AreBytes-part (8 * d) (8 * a) bytes h, omega (arith, length-part-le (8 * d) (8 * a) bytes, hd), omega (arith, tree_count-trees_from (tree bytes) (a + d) p, hp), row_held bytes (a + d) p h)
 
-pub struct_extended : (bytes : List ℕ) (a d p : ℕ) (size : StructSize) → AreBytes bytes → size.data_words < 2 ^ 16 → size.pointers < 2 ^ 16 → d ≤ size.data_words → p ≤ size.pointers → IsElement size.data_words size.pointers (extended size (struct_from bytes a d p))
+pub struct_extended : (bytes : List ℕ) (a d p : ℕ) (size : StructSize) → AreBytes bytes → size.data_words < 2 ^ 16 → size.pointers < 2 ^ 16 → d ≤ size.data_words → p ≤ size.pointers → IsElement size.data_words size.pointers (extended_struct size (struct_from bytes a d p))
 struct_extended bytes a d p size h sd sp l m =
     IsElement-extended size (struct_from bytes a d p) (struct_held bytes a d p h (omega (arith, sd, l)) (omega (arith, sp, m))) (omega (arith, length-part-le (8 * d) (8 * a) bytes, l)) (omega (arith, tree_count-trees_from (tree bytes) (a + d) p, m))
 
 -- ---- an extension ----
 
-pub extension_made : (old new content : List ℕ) (at a d p end words word : ℕ) (size : StructSize) → IsElement size.data_words size.pointers (extended size (struct_from old a d p)) → Forest old at → shape_at old at ≡ StructIn a d p → size.data_words < 2 ^ 16 → size.pointers < 2 ^ 16 → 0 < size.data_words + size.pointers
-    → content ≡ bytes_of (struct_tree (extended size (struct_from old a d p))) → end ≡ word_count old → 8 * words ≡ length content → word ≡ struct_word (end - at - 1) size.data_words size.pointers → IsMade old new (filled_up words content) at word
-    → IsEncodedStruct old new at end size.data_words size.pointers (extended size (struct_from old a d p))
+pub extension_made : (old new content : List ℕ) (at a d p end words word : ℕ) (size : StructSize) → IsElement size.data_words size.pointers (extended_struct size (struct_from old a d p)) → Forest old at → shape_at old at ≡ StructIn a d p → size.data_words < 2 ^ 16 → size.pointers < 2 ^ 16 → 0 < size.data_words + size.pointers
+    → content ≡ bytes_of (struct_tree (extended_struct size (struct_from old a d p))) → end ≡ word_count old → 8 * words ≡ length content → word ≡ struct_word (end - at - 1) size.data_words size.pointers → IsObjectMade old new (filled_up words content) at word
+    → IsEncodedStruct old new at end size.data_words size.pointers (extended_struct size (struct_from old a d p))
 extension_made old new content at a d p end words word size h f e hd hp some is q whole w made =
     let s : StructTree = struct_from old a d p in
-    let none : first_fault_of_all (extended size s).pointers ≡ None =
+    let none : first_fault_of_all (extended_struct size s).pointers ≡ None =
     whole_more (size.pointers - tree_count s.pointers) s.pointers ∙ ap first_fault (sym (tree_struct old at a d p f e)) ∙ forest_whole old at f in
     let gap : word ≡ struct_word (word_count old - suc at) size.data_words size.pointers = w ∙ ap (λ n. struct_word n size.data_words size.pointers) {x = end - at - 1} {y = word_count old - suc at} (omega (arith, q)) in
-    subst (λ n. IsEncodedStruct old new at n size.data_words size.pointers (extended size s)) (sym q)
-    (struct_encoded old new (filled_up words content) at word size.data_words size.pointers (extended size s) h hd hp some none (filled_whole words content whole ∙ is) gap made)
+    subst (λ n. IsEncodedStruct old new at n size.data_words size.pointers (extended_struct size s)) (sym q)
+    (struct_encoded old new (filled_up words content) at word size.data_words size.pointers (extended_struct size s) h hd hp some none (filled_whole words content whole ∙ is) gap made)

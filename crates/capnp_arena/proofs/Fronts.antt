@@ -3,7 +3,7 @@ use Rattle.std.proofs.Common.{◌≡◌, ◌≤◌, ◌+◌, ◌*◌, ℕ, ap, a
 use Rattle.std.specs.Prelude.{Bool, true, false, cond, ◌-◌, ◌==◌, ◌∷◌, get_or}
 use Rattle.std.proofs.lemmas.List.{append-nil, drop_all, length-take-le, take-append-drop}
 use Rattle.capnp_device.specs.declared.error.ErrorKind.TheVariants.{TextNotTerminated, WrongElementSize}
-use Rattle.capnp_wire.specs.Filling.{put}
+use Rattle.capnp_wire.specs.Filling.{bytes_with}
 use Rattle.capnp_wire.specs.Place.{bytes_at}
 use Rattle.capnp_wire.specs.Reading.{as_data, as_text, terminated_text}
 use Rattle.capnp_wire.specs.Tree as tree
@@ -11,7 +11,7 @@ use Rattle.capnp_wire.specs.Tree.{Numbers, Tree}
 use Rattle.capnp_arena.specs.Blobs.{IsFront, with_front}
 use Rattle.capnp_arena.specs.Forest.{Changes, Forest, tree as tree_at_word}
 use Rattle.capnp_arena.specs.Leaves.{Leaves}
-use Rattle.capnp_arena.specs.Parts.{with_part}
+use Rattle.capnp_arena.specs.Parts.{with_struct_part}
 use Rattle.capnp_arena.specs.Segment.{segment}
 use Rattle.capnp_arena.specs.Shape.{ListIn, NoShape, shape_at}
 use Rattle.capnp_arena.specs.declared.arena.Arena.{Arena}
@@ -29,7 +29,7 @@ front_null words at e = inl (refl, refl, e)
 no_change : (w : ℕ) (words : List ℕ) → Changes w words words
 no_change w words = record { longer = omega arith; stays = λ k l o p. refl; grows = λ k o. inl o }
 
-nothing_put : (start : ℕ) (words : List ℕ) → put (8 * start) [] words ≡ words
+nothing_put : (start : ℕ) (words : List ℕ) → bytes_with (8 * start) [] words ≡ words
 nothing_put start words =
     let n : 8 * start + 0 ≡ 8 * start = omega arith in
     ap (λ k. take (8 * start) words ++ drop k words) n ∙ take-append-drop (8 * start) words
@@ -39,14 +39,14 @@ module _ (a : Arena) (at : ℕ) (f : Forest (segment a) at) where
   front_inside start count (inl h) = let s = h.0 in let c = h.1 in omega (arith, s, c)
   front_inside start count (inr h) = part_inside a at start h.0 count f h.1 h.2
 
-  same_left : (start : ℕ) (left : List ℕ) → start ≡ 0 → length left ≡ 0 → segment (with_part a start left) ≡ segment a
+  same_left : (start : ℕ) (left : List ℕ) → start ≡ 0 → length left ≡ 0 → segment (with_struct_part a start left) ≡ segment a
   same_left start [] s l = part_left a start [] (omega (arith, s)) ∙ nothing_put start (segment a)
   same_left start (b ∷ bs) s l = absurd (omega (arith, l))
 
   pub front_left : (start count : ℕ) → IsFront (segment a) at start count → (left : List ℕ) → length left ≡ count
-      → Leaves at (with_front left (tree_at_word (segment a) at)) (segment a) (segment (with_part a start left))
+      → Leaves at (with_front left (tree_at_word (segment a) at)) (segment a) (segment (with_struct_part a start left))
   front_left start count (inl h) left l =
-      let same : segment (with_part a start left) ≡ segment a = same_left start left h.0 (l ∙ h.1) in
+      let same : segment (with_struct_part a start left) ≡ segment a = same_left start left h.0 (l ∙ h.1) in
       let null = null_is (segment a) at f h.2 in
       record {
         forest = subst (λ x. Forest x at) (sym same) f;
@@ -58,7 +58,7 @@ module _ (a : Arena) (at : ℕ) (f : Forest (segment a) at) where
       let n = h.0 in
       let is : Numbers 1 (left ++ drop count (bytes_at (segment a) start n)) ≡ with_front left (tree_at_word (segment a) at) =
       ap (λ k. Numbers 1 (left ++ drop k (bytes_at (segment a) start n))) (sym l) ∙ sym (ap (with_front left) (bytes_here (segment a) at f start 2 n h.1 refl)) in
-      subst (λ t. Leaves at t (segment a) (segment (with_part a start left))) is (bytes_left a at start n count f h.1 h.2 left l)
+      subst (λ t. Leaves at t (segment a) (segment (with_struct_part a start left))) is (bytes_left a at start n count f h.1 h.2 left l)
 
 -- ---- a text is no longer than its bytes ----
 

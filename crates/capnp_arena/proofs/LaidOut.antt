@@ -2,7 +2,7 @@
 use Rattle.std.proofs.Common.{◌≡◌, ◌⊎◌, ℕ, zero, suc, Bool, get_or, replicate, ◌+◌, ◌-◌, ◌*◌, ◌/◌, ◌^◌, ◌<◌, ◌≤◌, eq-eqb, ne_eqb, inl, inr, refl, sym, ap, subst, ◌∙◌, arith, List, [], ◌++◌, length, take, drop, cond}
 use Rattle.std.proofs.Math.Seq.{take-add}
 use Rattle.std.proofs.lemmas.List.{ext_get_or, length-replicate, append_assoc, drop-drop, take_all}
-use Rattle.capnp_wire.specs.Encoding.{bits_number, packed, padded, bytes_below_all, bytes_of, bytes_of_all, element_row, encoding_of, own_bytes, pointer_row, pointer_word, spelled, struct_word}
+use Rattle.capnp_wire.specs.Encoding.{bits_number, packed_bits, padded_bytes, bytes_below_all, bytes_of, bytes_of_all, element_row, encoding_of, own_bytes, pointer_row, pointer_word, spelled_number, struct_word}
 use Rattle.capnp_wire.specs.Facts.EncodedSizes.{length_packed, length_bytes_of, length_bytes_of_all}
 use Rattle.capnp_wire.specs.Facts.PackedBits.{packed_at}
 use Rattle.capnp_wire.specs.Facts.Rows.{struct_count-structs_from, tree_count-trees_from}
@@ -10,7 +10,7 @@ use Rattle.capnp_wire.specs.Place.{bytes_at, list_tree}
 use Rattle.capnp_wire.specs.Tree.{Structs, Tree, Trees, struct_count, structs_from, tree_count, trees_from}
 use Rattle.capnp_wire.specs.WellFormed.{AreBytes}
 use Rattle.capnp_wire.specs.Words.{byte_words, words_of, words_of_all}
-use Rattle.capnp_arena.specs.Copies.{IsPlain}
+use Rattle.capnp_arena.specs.Copies.{ArePointerless}
 use Rattle.capnp_arena.specs.Encoded.{pointer_to}
 use Rattle.capnp_arena.specs.Forest.{Forest, struct_from, tree}
 use Rattle.capnp_arena.specs.InOrder.{AreLaid, IsLaid, IsRowLaid}
@@ -58,10 +58,10 @@ module _ (bytes : List ℕ) where
         row = ap (bytes_at bytes first) {x = 8 * suc n} {y = 8 * 1 + 8 * n} (omega arith)
             ∙ sym (joined bytes first 1 (8 * n))
             ∙ ap (λ z. z ++ bytes_at bytes (first + 1) (8 * n)) h.pointer
-            ∙ ap (λ k. spelled 8 (pointer_word (end - suc first) t) ++ bytes_at bytes k (8 * n)) {x = first + 1} {y = suc first} (omega arith)
-            ∙ ap (λ z. spelled 8 (pointer_word (end - suc first) t) ++ z) r.row
-            ∙ ap (λ k. spelled 8 (pointer_word k t) ++ pointer_row (next - (suc first + n)) ts) {x = end - suc first} {y = tree_count ts + (end - (first + suc n))} (omega (arith, c, l))
-            ∙ ap (λ k. spelled 8 (pointer_word (tree_count ts + (end - (first + suc n))) t) ++ pointer_row k ts) {x = next - (suc first + n)} {y = end - (first + suc n) + words_of t} (omega (arith, w, l));
+            ∙ ap (λ k. spelled_number 8 (pointer_word (end - suc first) t) ++ bytes_at bytes k (8 * n)) {x = first + 1} {y = suc first} (omega arith)
+            ∙ ap (λ z. spelled_number 8 (pointer_word (end - suc first) t) ++ z) r.row
+            ∙ ap (λ k. spelled_number 8 (pointer_word k t) ++ pointer_row (next - (suc first + n)) ts) {x = end - suc first} {y = tree_count ts + (end - (first + suc n))} (omega (arith, c, l))
+            ∙ ap (λ k. spelled_number 8 (pointer_word (tree_count ts + (end - (first + suc n))) t) ++ pointer_row k ts) {x = next - (suc first + n)} {y = end - (first + suc n) + words_of t} (omega (arith, w, l));
         targets = spans end next last h.after r.after ∙ ap (λ z. z ++ bytes_at bytes next (8 * (last - next))) h.target ∙ ap (λ z. bytes_of t ++ z) r.targets;
       }
 
@@ -99,8 +99,8 @@ module _ (bytes : List ℕ) where
 
   module _ (w : ℕ) (f : Forest bytes w) where
     -- the pointer to a target at that word
-    pointer_laid : (s : Shape) (end : ℕ) → shape_at bytes w ≡ s → IsWordAt bytes w (pointer_to (end - suc w) s) → bytes_at bytes w 8 ≡ spelled 8 (pointer_word (end - suc w) (tree bytes w))
-    pointer_laid s end e h = h.1 ∙ ap (spelled 8) (ap (pointer_to (end - suc w)) (sym e) ∙ pointer_is bytes w (end - suc w) f)
+    pointer_laid : (s : Shape) (end : ℕ) → shape_at bytes w ≡ s → IsWordAt bytes w (pointer_to (end - suc w) s) → bytes_at bytes w 8 ≡ spelled_number 8 (pointer_word (end - suc w) (tree bytes w))
+    pointer_laid s end e h = h.1 ∙ ap (spelled_number 8) (ap (pointer_to (end - suc w)) (sym e) ∙ pointer_is bytes w (end - suc w) f)
 
     pub null_laid : (end : ℕ) → end ≤ word_count bytes → shape_at bytes w ≡ NoShape → Points bytes w NoShape → IsLaid bytes w end end
     null_laid end l e h = record { after = omega arith; inside = l; pointer = pointer_laid NoShape end e h; target = nothing end (end - end) (omega arith) ∙ sym (bytes_null bytes w f e) }
@@ -170,21 +170,21 @@ module _ (bytes : List ℕ) where
           pointer = pointer_laid (CompositeIn tag n d p) tag e h.7;
           target = ap (bytes_at bytes tag) {x = 8 * (next - tag)} {y = 8 * 1 + (8 * (n * (d + p)) + 8 * (next - end))} (omega (arith, r.after))
               ∙ sym (joined bytes tag 1 (8 * (n * (d + p)) + 8 * (next - end)))
-              ∙ ap (λ z. z ++ bytes_at bytes (tag + 1) (8 * (n * (d + p)) + 8 * (next - end))) (h.8.1 ∙ ap (λ k. spelled 8 (struct_word k d p)) (sym c))
-              ∙ ap (λ z. spelled 8 (struct_word (struct_count es) d p) ++ z)
+              ∙ ap (λ z. z ++ bytes_at bytes (tag + 1) (8 * (n * (d + p)) + 8 * (next - end))) (h.8.1 ∙ ap (λ k. spelled_number 8 (struct_word k d p)) (sym c))
+              ∙ ap (λ z. spelled_number 8 (struct_word (struct_count es) d p) ++ z)
               (sym (joined bytes (tag + 1) (n * (d + p)) (8 * (next - end)))
               ∙ ap (λ k. bytes_at bytes k (8 * (n * (d + p))) ++ bytes_at bytes end (8 * (next - end))) {x = tag + 1} {y = tag + 1 + 0 * (d + p)} (omega arith)
               ∙ ap (λ z. z ++ bytes_at bytes end (8 * (next - end))) r.row
               ∙ ap (λ k. element_row (d + p) k es ++ bytes_at bytes end (8 * (next - end))) {x = end - (tag + 1 + (0 + n) * (d + p))} {y = 0} (omega arith)
               ∙ ap (λ z. element_row (d + p) 0 es ++ z) r.targets)
-              ∙ sym (append_assoc (spelled 8 (struct_word (struct_count es) d p)) (element_row (d + p) 0 es) (bytes_below_all es))
+              ∙ sym (append_assoc (spelled_number 8 (struct_word (struct_count es) d p)) (element_row (d + p) 0 es) (bytes_below_all es))
               ∙ sym (bytes_composite bytes w f tag n d p e);
         }
 
   -- structs without pointers
   pub plain_structs_laid : (start d p n : ℕ) → p ≡ 0 → start + n * (d + p) ≤ word_count bytes → AreLaid bytes start d p 0 n (start + n * (d + p)) (start + n * (d + p))
   plain_structs_laid start d p n e l =
-      let plain : IsPlain (bytes_at bytes start (8 * (n * (d + p)))) (d + p) (structs_from (λ j. struct_from bytes (start + j * (d + p)) d p) 0 n) = plain_row (tree bytes) bytes start d p n e in
+      let plain : ArePointerless (bytes_at bytes start (8 * (n * (d + p)))) (d + p) (structs_from (λ j. struct_from bytes (start + j * (d + p)) d p) 0 n) = plain_row (tree bytes) bytes start d p n e in
       record {
         after = omega arith;
         inside = l;
@@ -199,7 +199,7 @@ module _ (bytes : List ℕ) where
       ∙ ap (bytes_at bytes 0) {x = 8 * word_count bytes} {y = 8 * 1 + 8 * (word_count bytes - 1)} (omega (arith, h.after))
       ∙ sym (joined bytes 0 1 (8 * (word_count bytes - 1)))
       ∙ ap (λ z. z ++ bytes_at bytes 1 (8 * (word_count bytes - 1))) h.pointer
-      ∙ ap (λ z. spelled 8 (pointer_word 0 (tree bytes 0)) ++ z) h.target
+      ∙ ap (λ z. spelled_number 8 (pointer_word 0 (tree bytes 0)) ++ z) h.target
 
 -- ---- bytes that are compared one by one ----
 
@@ -218,12 +218,12 @@ all_zeros b n l h = ext_get_or 0 b (replicate (length b) 0) (sym (length-replica
     zero_at (suc n) zero = refl
     zero_at (suc n) (suc i) = zero_at n i
 
-pub all_packed : (b : List ℕ) (bs : List Bool) (n : ℕ) → length b ≤ n → ((j : ℕ) → j < n → get_or b j 0 ≡ bits_number (take 8 (drop (8 * j) bs))) → packed (length b) bs ≡ b
+pub all_packed : (b : List ℕ) (bs : List Bool) (n : ℕ) → length b ≤ n → ((j : ℕ) → j < n → get_or b j 0 ≡ bits_number (take 8 (drop (8 * j) bs))) → packed_bits (length b) bs ≡ b
 all_packed b bs n l h =
-    sym (ext_get_or 0 b (packed (length b) bs) (sym (length_packed (length b) bs)) (λ i q. h i (omega (arith, q, l)) ∙ sym (packed_at (length b) bs i q)))
+    sym (ext_get_or 0 b (packed_bits (length b) bs) (sym (length_packed (length b) bs)) (λ i q. h i (omega (arith, q, l)) ∙ sym (packed_at (length b) bs i q)))
 
 -- bytes with zeros behind them are whole words
-pub padded_there : (bytes : List ℕ) (a n words : ℕ) → words ≡ (n + 7) / 8 → a + words ≤ word_count bytes → take (8 * words - n) (drop (8 * a + n) bytes) ≡ replicate (8 * words - n) 0 → bytes_at bytes a (8 * words) ≡ padded (bytes_at bytes a n)
+pub padded_there : (bytes : List ℕ) (a n words : ℕ) → words ≡ (n + 7) / 8 → a + words ≤ word_count bytes → take (8 * words - n) (drop (8 * a + n) bytes) ≡ replicate (8 * words - n) 0 → bytes_at bytes a (8 * words) ≡ padded_bytes (bytes_at bytes a n)
 padded_there bytes a n words e l h =
     let x : List ℕ = bytes_at bytes a n in
     let m : length x ≡ n = length_part bytes a n (omega (arith, e, l)) in

@@ -19,7 +19,7 @@ use Rattle.capnp_arena.specs.Facts.Words.{target}
 use Rattle.capnp_arena.specs.Forest.{Forest, tree}
 use Rattle.capnp_arena.specs.Listed.{list_shape, listed_tree}
 use Rattle.capnp_arena.specs.Made.{size_number}
-use Rattle.capnp_arena.specs.Shape.{Shape, placed, shape_at}
+use Rattle.capnp_arena.specs.Shape.{Shape, shape_target, shape_at}
 use Rattle.capnp_arena.specs.declared.list_reads.ListTarget.{ListTarget}
 use Rattle.capnp_arena.specs.declared.list_reads.ListTarget.TheVariants as list
 use Rattle.capnp_arena.proofs.ListsRead.{plain_size_is, size_is_simple}
@@ -58,12 +58,12 @@ module _ (bytes : List ℕ) (w : ℕ) (f : Forest bytes w) where
   cut = tree_below 130 (bytes ∷ []) bytes w
 
   abbrev cut_at : Shape → Tree
-  cut_at s = tree_at_depth 130 (tree_below (130 - 1) (bytes ∷ [])) (tree_below (130 - 2) (bytes ∷ [])) (placed bytes s)
+  cut_at s = tree_at_depth 130 (tree_below (130 - 1) (bytes ∷ [])) (tree_below (130 - 2) (bytes ∷ [])) (shape_target bytes s)
 
   below : (s : Shape) → shape_at bytes w ≡ s → cut ≡ cut_at s
   below s e =
       below_step 130 (bytes ∷ []) bytes w
-      ∙ ap (tree_at_depth 130 (tree_below (130 - 1) (bytes ∷ [])) (tree_below (130 - 2) (bytes ∷ []))) (target bytes w (shape_at bytes w) (points bytes w f) ∙ ap (placed bytes) e)
+      ∙ ap (tree_at_depth 130 (tree_below (130 - 1) (bytes ∷ [])) (tree_below (130 - 2) (bytes ∷ []))) (target bytes w (shape_at bytes w) (points bytes w f) ∙ ap (shape_target bytes) e)
 
   pub cut_read : (l : ListTarget) → shape_at bytes w ≡ list_shape l → as_list (element_size_of (listed_tree (tree bytes w) l)) cut 65 ≡ Ok (listed_tree cut l)
   cut_read (list.Nothing size) e =

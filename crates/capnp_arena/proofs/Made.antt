@@ -3,14 +3,14 @@ use Rattle.std.proofs.Common.{◌≡◌, ℕ, suc, ◌+◌, ◌-◌, ◌*◌, �
 use Rattle.std.proofs.lemmas.List.{length-append, length-replicate, take_at}
 use Rattle.std.proofs.lemmas.Bool.{cases_eq}
 use Rattle.capnp_wire.specs.Edits.{nulls}
-use Rattle.capnp_wire.specs.Encoding.{list_word, spelled, struct_word}
+use Rattle.capnp_wire.specs.Encoding.{list_word, spelled_number, struct_word}
 use Rattle.capnp_wire.specs.Facts.Bytes.{length_spelled}
 use Rattle.capnp_wire.specs.Locate.{list_words}
 use Rattle.capnp_wire.specs.Place.{bytes_at, list_tree}
 use Rattle.capnp_wire.specs.Tree.{Composite, Null, Struct, structs_from, trees_from}
 use Rattle.capnp_wire.specs.Facts.Filling.{length_put}
-use Rattle.capnp_arena.specs.Made.{IsMade, struct_pointer, struct_start}
-use Rattle.capnp_arena.specs.Shape.{NoShape, CompositeIn, ListIn, IsPointerOf, IsWithin, IsWordAt, Points, StructIn, shape_at, word_count}
+use Rattle.capnp_arena.specs.Made.{IsObjectMade, struct_pointer, struct_start}
+use Rattle.capnp_arena.specs.Shape.{NoShape, CompositeIn, ListIn, IsPointerOf, IsWordWithin, IsWordAt, Points, StructIn, shape_at, word_count}
 use Rattle.capnp_arena.specs.Forest.{Changes, Forest, IsSame, struct_from, tree}
 use Rattle.capnp_arena.specs.Facts.Calls.{new_changes, new_forest, new_null, null_tree}
 use Rattle.capnp_arena.proofs.Puts.{longer_same, put_before, put_behind, put_there, added_there, zeros_part}
@@ -20,22 +20,22 @@ use Rattle.capnp_arena.specs.Facts.Levels.{structs_same}
 use Rattle.capnp_arena.specs.Facts.Words.{shape}
 
 -- a word put into bytes with others added
-module _ (old new added : List ℕ) (at word : ℕ) (h : IsMade old new added at word) where
-  fits : 8 * at + length (spelled 8 word) ≤ length (old ++ added)
+module _ (old new added : List ℕ) (at word : ℕ) (h : IsObjectMade old new added at word) where
+  fits : 8 * at + length (spelled_number 8 word) ≤ length (old ++ added)
   fits = omega (arith, length-append old added, h.whole, length_spelled 8 word, h.inside)
 
   pub made_length : length new ≡ 8 * (word_count old + word_count added)
-  made_length = ap length h.is ∙ length_put (8 * at) (spelled 8 word) (old ++ added) fits ∙ omega (arith, length-append old added, h.whole, h.words)
+  made_length = ap length h.is ∙ length_put (8 * at) (spelled_number 8 word) (old ++ added) fits ∙ omega (arith, length-append old added, h.whole, h.words)
 
   pub made_longer : length old ≤ length new
   made_longer = omega (arith, made_length, h.whole)
 
   pub made_same : (k : ℕ) → 8 * suc k ≤ length old → (k ≡ at → ⊥) → IsSame old new k
   made_same k l other = elim (order k at) [
-    | inl x ↦ ap (λ z. bytes_at z k 8) h.is ∙ put_before (8 * at) (spelled 8 word) (old ++ added) k fits (omega (arith, x)) ∙ longer_same old added k l
+    | inl x ↦ ap (λ z. bytes_at z k 8) h.is ∙ put_before (8 * at) (spelled_number 8 word) (old ++ added) k fits (omega (arith, x)) ∙ longer_same old added k l
     | inr y ↦ elim y [
       | inl e ↦ absurd (other e)
-      | inr x ↦ ap (λ z. bytes_at z k 8) h.is ∙ put_behind (8 * at) (spelled 8 word) (old ++ added) k 8 fits (omega (arith, x, length_spelled 8 word)) ∙ longer_same old added k l
+      | inr x ↦ ap (λ z. bytes_at z k 8) h.is ∙ put_behind (8 * at) (spelled_number 8 word) (old ++ added) k 8 fits (omega (arith, x, length_spelled 8 word)) ∙ longer_same old added k l
     ]
   ]
     where
@@ -43,11 +43,11 @@ module _ (old new added : List ℕ) (at word : ℕ) (h : IsMade old new added at
       order i j = grind arith
 
   pub made_word : IsWordAt new at word
-  made_word = (omega (arith, made_length, h.inside), ap (λ z. bytes_at z at 8) h.is ∙ put_there at (spelled 8 word) (old ++ added) 8 fits (length_spelled 8 word))
+  made_word = (omega (arith, made_length, h.inside), ap (λ z. bytes_at z at 8) h.is ∙ put_there at (spelled_number 8 word) (old ++ added) 8 fits (length_spelled 8 word))
 
   -- what was added stands there
   pub made_added : (a c : ℕ) → word_count old ≤ a → bytes_at new a c ≡ bytes_at added (a - word_count old) c
-  made_added a c l = ap (λ z. bytes_at z a c) h.is ∙ put_behind (8 * at) (spelled 8 word) (old ++ added) a c fits (omega (arith, l, h.inside, length_spelled 8 word)) ∙ added_there old added (word_count old) a c h.whole l
+  made_added a c l = ap (λ z. bytes_at z a c) h.is ∙ put_behind (8 * at) (spelled_number 8 word) (old ++ added) a c fits (omega (arith, l, h.inside, length_spelled 8 word)) ∙ added_there old added (word_count old) a c h.whole l
 
   -- a pointer there that is zero
   pub made_null : (j : ℕ) → word_count old ≤ j → j < word_count old + word_count added → bytes_at added (j - word_count old) 8 ≡ replicate 8 0 → IsWordAt new j 0
@@ -62,7 +62,7 @@ module _ (old new added : List ℕ) (at word : ℕ) (h : IsMade old new added at
     struct_points : Points new at (StructIn (word_count old) d p)
     struct_points = inr (h.inside, omega (arith, h.few), hd, hp, some, omega (arith, made_length, struct_words), subst (IsWordAt new at) e made_word)
 
-    struct_fresh : (k : ℕ) → IsWithin (StructIn (word_count old) d p) k → word_count old ≤ k
+    struct_fresh : (k : ℕ) → IsWordWithin (StructIn (word_count old) d p) k → word_count old ≤ k
     struct_fresh k i = i.0
 
     struct_nulls : (j : ℕ) → IsPointerOf (StructIn (word_count old) d p) j → IsWordAt new j 0
@@ -104,7 +104,7 @@ module _ (old new added : List ℕ) (at word : ℕ) (h : IsMade old new added at
     list_points : Points new at (ListIn (word_count old) size count)
     list_points = (h.inside, omega (arith, h.few), few, hn, omega (arith, made_length, words), subst (IsWordAt new at) e made_word)
 
-    list_fresh : (k : ℕ) → IsWithin (ListIn (word_count old) size count) k → word_count old ≤ k
+    list_fresh : (k : ℕ) → IsWordWithin (ListIn (word_count old) size count) k → word_count old ≤ k
     list_fresh k i = i.0
 
     list_nulls : (j : ℕ) → IsPointerOf (ListIn (word_count old) size count) j → IsWordAt new j 0
@@ -130,28 +130,28 @@ module _ (old new added : List ℕ) (at word : ℕ) (h : IsMade old new added at
 
   -- ---- a composite list ----
 
-  module _ (count d p : ℕ) (hn : count < 2 ^ 29) (hd : d < 2 ^ 16) (hp : p < 2 ^ 16) (hm : count * (d + p) < 2 ^ 29) (zeros : added ≡ spelled 8 (struct_word count d p) ++ replicate (8 * (count * (d + p))) 0) (e : word ≡ list_word (word_count old - suc at) 7 (count * (d + p))) where
+  module _ (count d p : ℕ) (hn : count < 2 ^ 29) (hd : d < 2 ^ 16) (hp : p < 2 ^ 16) (hm : count * (d + p) < 2 ^ 29) (zeros : added ≡ spelled_number 8 (struct_word count d p) ++ replicate (8 * (count * (d + p))) 0) (e : word ≡ list_word (word_count old - suc at) 7 (count * (d + p))) where
     composite_words : word_count added ≡ 1 + count * (d + p)
-    composite_words = omega (arith, ap length zeros, length-append (spelled 8 (struct_word count d p)) (replicate (8 * (count * (d + p))) 0), length_spelled 8 (struct_word count d p), length-replicate {A = ℕ} (8 * (count * (d + p))) 0)
+    composite_words = omega (arith, ap length zeros, length-append (spelled_number 8 (struct_word count d p)) (replicate (8 * (count * (d + p))) 0), length_spelled 8 (struct_word count d p), length-replicate {A = ℕ} (8 * (count * (d + p))) 0)
 
     after_tag : (a n : ℕ) → word_count old + 1 ≤ a → 8 * a + n ≤ 8 * (word_count old + 1 + count * (d + p)) → bytes_at new a n ≡ replicate n 0
     after_tag a n l q =
         made_added a n (omega (arith, l)) ∙ ap (λ z. bytes_at z (a - word_count old) n) zeros
-        ∙ added_there (spelled 8 (struct_word count d p)) (replicate (8 * (count * (d + p))) 0) 1 (a - word_count old) n (length_spelled 8 (struct_word count d p)) (omega (arith, l))
+        ∙ added_there (spelled_number 8 (struct_word count d p)) (replicate (8 * (count * (d + p))) 0) 1 (a - word_count old) n (length_spelled 8 (struct_word count d p)) (omega (arith, l))
         ∙ zeros_part (8 * (count * (d + p))) (a - word_count old - 1) n (omega (arith, l, q))
 
     tag_at : IsWordAt new (word_count old) (struct_word count d p)
     tag_at = (
       omega (arith, made_length, composite_words),
       made_added (word_count old) 8 (omega arith) ∙ ap (λ z. bytes_at z (word_count old - word_count old) 8) zeros
-          ∙ ap (λ n. bytes_at (spelled 8 (struct_word count d p) ++ replicate (8 * (count * (d + p))) 0) n 8) {x = word_count old - word_count old} {y = 0} (omega arith)
-          ∙ take_at (spelled 8 (struct_word count d p)) (replicate (8 * (count * (d + p))) 0) 8 (length_spelled 8 (struct_word count d p)),
+          ∙ ap (λ n. bytes_at (spelled_number 8 (struct_word count d p) ++ replicate (8 * (count * (d + p))) 0) n 8) {x = word_count old - word_count old} {y = 0} (omega arith)
+          ∙ take_at (spelled_number 8 (struct_word count d p)) (replicate (8 * (count * (d + p))) 0) 8 (length_spelled 8 (struct_word count d p)),
     )
 
     composite_points : Points new at (CompositeIn (word_count old) count d p)
     composite_points = (h.inside, omega (arith, h.few), hd, hp, hn, hm, omega (arith, made_length, composite_words), subst (IsWordAt new at) e made_word, tag_at)
 
-    composite_fresh : (k : ℕ) → IsWithin (CompositeIn (word_count old) count d p) k → word_count old ≤ k
+    composite_fresh : (k : ℕ) → IsWordWithin (CompositeIn (word_count old) count d p) k → word_count old ≤ k
     composite_fresh k i = i.0
 
     composite_nulls : (j : ℕ) → IsPointerOf (CompositeIn (word_count old) count d p) j → IsWordAt new j 0
@@ -187,7 +187,7 @@ module _ (old new added : List ℕ) (at word : ℕ) (h : IsMade old new added at
     zero_points : Points new at (StructIn at 0 0)
     zero_points = inl (refl, refl, refl, subst (IsWordAt new at) e made_word)
 
-    zero_fresh : (k : ℕ) → IsWithin (StructIn at 0 0) k → word_count old ≤ k
+    zero_fresh : (k : ℕ) → IsWordWithin (StructIn at 0 0) k → word_count old ≤ k
     zero_fresh k i = absurd (omega (arith, i.0, i.1))
 
     zero_nulls : (j : ℕ) → IsPointerOf (StructIn at 0 0) j → IsWordAt new j 0
@@ -213,7 +213,7 @@ pub record IsNewStruct (old new : List ℕ) (at start d p : ℕ) : Type 0 where
   pub tree : tree new at ≡ Struct (replicate (8 * d) 0) (nulls p)
   pub changes : Changes at old new
 
-pub struct_made : (old new : List ℕ) (at d p : ℕ) → d < 2 ^ 16 → p < 2 ^ 16 → IsMade old new (replicate (8 * (d + p)) 0) at (struct_pointer (word_count old) at d p) → IsNewStruct old new at (struct_start (word_count old) at (d + p)) d p
+pub struct_made : (old new : List ℕ) (at d p : ℕ) → d < 2 ^ 16 → p < 2 ^ 16 → IsObjectMade old new (replicate (8 * (d + p)) 0) at (struct_pointer (word_count old) at d p) → IsNewStruct old new at (struct_start (word_count old) at (d + p)) d p
 struct_made old new at d p hd hp h = elim (cases_eq (d + p) 0) [
   | inl z ↦
       let b : (d + p == 0) ≡ true = eq-eqb (d + p) 0 z in

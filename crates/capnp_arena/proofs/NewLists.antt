@@ -3,9 +3,9 @@ use Rattle.std.proofs.Common.{◌≡◌, ℕ, suc, ◌+◌, ◌-◌, ◌*◌, �
 use Rattle.std.specs.Prelude.{◌≢◌}
 use Rattle.std.proofs.lemmas.List.{append-nil, length-append, length-replicate, take_at}
 use Rattle.capnp_wire.specs.Edits.{nulls, zero_list, zero_structs}
-use Rattle.capnp_wire.specs.Encoding.{list_word, spelled, struct_word}
+use Rattle.capnp_wire.specs.Encoding.{list_word, spelled_number, struct_word}
 use Rattle.capnp_wire.specs.Facts.Bytes.{length_spelled}
-use Rattle.capnp_wire.specs.Filling.{put}
+use Rattle.capnp_wire.specs.Filling.{bytes_with}
 use Rattle.capnp_wire.specs.Locate.{list_words}
 use Rattle.capnp_wire.specs.Place.{bits_from, bytes_at, list_tree}
 use Rattle.capnp_wire.specs.Tree.{Bits, Null, Numbers, Pointers, Tree, Voids}
@@ -13,7 +13,7 @@ use Rattle.capnp_wire.specs.declared.size.ElementSize.{ElementSize}
 use Rattle.capnp_wire.specs.declared.size.ElementSize.TheVariants.{Void, Bit, Byte, TwoBytes, FourBytes, EightBytes, Pointer, InlineComposite}
 use Rattle.capnp_wire.specs.declared.size.StructSize.{StructSize}
 use Rattle.capnp_wire.specs.Facts.NewTrees.{no_bits}
-use Rattle.capnp_arena.specs.Made.{IsMade, filled_up, size_number}
+use Rattle.capnp_arena.specs.Made.{IsObjectMade, filled_up, size_number}
 use Rattle.capnp_arena.specs.Shape.{CompositeIn, ListIn, Shape, shape_at, word_count}
 use Rattle.capnp_arena.specs.Forest.{Changes, Forest, tree}
 use Rattle.capnp_arena.proofs.Made.{composite_changes, composite_forest, composite_is, composite_shape, list_changes, list_forest, list_is, list_null, list_shape, made_added}
@@ -29,17 +29,17 @@ pub record IsNew (old new : List ℕ) (at : ℕ) (s : Shape) (t : Tree) : Type 0
 
 -- ---- what the call made ----
 
-pub cleared : (old new : List ℕ) (at : ℕ) → length old ≡ 8 * word_count old → word_count old < 2 ^ 29 → at < word_count old → new ≡ put (8 * at) (spelled 8 0) old → IsMade old new [] at 0
+pub cleared : (old new : List ℕ) (at : ℕ) → length old ≡ 8 * word_count old → word_count old < 2 ^ 29 → at < word_count old → new ≡ bytes_with (8 * at) (spelled_number 8 0) old → IsObjectMade old new [] at 0
 cleared old new at whole few l is = record {
   whole = whole;
   inside = l;
   words = refl;
   few = omega (arith, few);
-  is = is ∙ ap (put (8 * at) (spelled 8 0)) (sym (append-nil old));
+  is = is ∙ ap (bytes_with (8 * at) (spelled_number 8 0)) (sym (append-nil old));
 }
 
 pub made_with : (old o1 o2 new x : List ℕ) (at word words end : ℕ) → length old ≡ 8 * word_count old → at < word_count old → word_count old + words < 2 ^ 29 → length x ≤ 8 * words → end ≡ length old
-    → o1 ≡ old ++ replicate (8 * words) 0 → o2 ≡ put end x o1 → new ≡ put (8 * at) (spelled 8 word) o2 → IsMade old new (filled_up words x) at word
+    → o1 ≡ old ++ replicate (8 * words) 0 → o2 ≡ bytes_with end x o1 → new ≡ bytes_with (8 * at) (spelled_number 8 word) o2 → IsObjectMade old new (filled_up words x) at word
 made_with old o1 o2 new x at word words end whole l few room e a b c =
     let n : length (filled_up words x) ≡ 8 * words = omega (arith, length-append x (replicate (8 * words - length x) 0), length-replicate {A = ℕ} (8 * words - length x) 0, room) in
     record {
@@ -47,12 +47,12 @@ made_with old o1 o2 new x at word words end whole l few room e a b c =
       inside = l;
       words = omega (arith, n);
       few = omega (arith, n, few);
-      is = c ∙ ap (put (8 * at) (spelled 8 word)) (b ∙ ap (λ z. put z x o1) e ∙ ap (put (length old) x) a ∙ put_zeros old x (8 * words));
+      is = c ∙ ap (bytes_with (8 * at) (spelled_number 8 word)) (b ∙ ap (λ z. bytes_with z x o1) e ∙ ap (bytes_with (length old) x) a ∙ put_zeros old x (8 * words));
     }
 
 -- ---- lists ----
 
-module _ (old new : List ℕ) (at word start count n : ℕ) (e : start ≡ word_count old) (l : n < 7) (hn : count < 2 ^ 29) (w : word ≡ list_word (start - at - 1) n count) (h : IsMade old new (replicate (8 * list_words n count) 0) at word) where
+module _ (old new : List ℕ) (at word start count n : ℕ) (e : start ≡ word_count old) (l : n < 7) (hn : count < 2 ^ 29) (w : word ≡ list_word (start - at - 1) n count) (h : IsObjectMade old new (replicate (8 * list_words n count) 0) at word) where
   words : word_count (replicate (8 * list_words n count) 0) ≡ list_words n count
   words = omega (arith, length-replicate {A = ℕ} (8 * list_words n count) 0)
 
@@ -74,7 +74,7 @@ module _ (old new : List ℕ) (at word start count n : ℕ) (e : start ≡ word_
   null_list q j x y = list_null old new (replicate (8 * list_words n count) 0) at word h n count l hn words (λ _. refl) word_is j (q, x, y)
 
 pub list_made : (old new : List ℕ) (at word start count : ℕ) (size : ElementSize) → start ≡ word_count old → size ≢ InlineComposite → count < 2 ^ 29 → word ≡ list_word (start - at - 1) (size_number size) count
-    → IsMade old new (replicate (8 * list_words (size_number size) count) 0) at word → IsNew old new at (ListIn start (size_number size) count) (zero_list size count)
+    → IsObjectMade old new (replicate (8 * list_words (size_number size) count) 0) at word → IsNew old new at (ListIn start (size_number size) count) (zero_list size count)
 list_made old new at word start count Void e s hn w h = new_list old new at word start count 0 e (omega arith) hn w h (Voids count) refl
 list_made old new at word start count Bit e s hn w h = new_list old new at word start count 1 e (omega arith) hn w h (Bits (replicate count false))
     (ap (λ z. Bits (bits_from z 0 count)) (zeros old new at word start count 1 e (omega arith) hn w h (8 * list_words 1 count) (omega arith)) ∙ ap Bits (no_bits (8 * list_words 1 count) 0 count))
@@ -87,32 +87,32 @@ list_made old new at word start count InlineComposite e s hn w h = absurd (s ref
 
 -- the same of numbers that were computed
 pub list_made_by : (old new : List ℕ) (at word start count words number : ℕ) (size : ElementSize) → start ≡ word_count old → size ≢ InlineComposite → count < 2 ^ 29 → word ≡ list_word (start - at - 1) number count → number ≡ size_number size → words ≡ list_words (size_number size) count
-    → IsMade old new (replicate (8 * words) 0) at word → IsNew old new at (ListIn start (size_number size) count) (zero_list size count)
+    → IsObjectMade old new (replicate (8 * words) 0) at word → IsNew old new at (ListIn start (size_number size) count) (zero_list size count)
 list_made_by old new at word start count room number size e s hn w a b h =
-    list_made old new at word start count size e s hn (w ∙ ap (λ n. list_word (start - at - 1) n count) a) (subst (λ n. IsMade old new (replicate (8 * n) 0) at word) b h)
+    list_made old new at word start count size e s hn (w ∙ ap (λ n. list_word (start - at - 1) n count) a) (subst (λ n. IsObjectMade old new (replicate (8 * n) 0) at word) b h)
 
 -- ---- lists of structs ----
 
 pub structs_made : (old new : List ℕ) (at word words tag start count : ℕ) (size : StructSize) → start ≡ word_count old → count < 2 ^ 29 → size.data_words < 2 ^ 16 → size.pointers < 2 ^ 16 → words ≡ count * (size.data_words + size.pointers) → words < 2 ^ 29
-    → tag ≡ struct_word count size.data_words size.pointers → word ≡ list_word (start - at - 1) 7 words → IsMade old new (filled_up (words + 1) (spelled 8 tag)) at word
+    → tag ≡ struct_word count size.data_words size.pointers → word ≡ list_word (start - at - 1) 7 words → IsObjectMade old new (filled_up (words + 1) (spelled_number 8 tag)) at word
     → IsNew old new at (CompositeIn start count size.data_words size.pointers) (zero_structs size count)
 structs_made old new at word words tag start count size e hn hd hp m hm t w h =
     let d : ℕ = size.data_words in
     let p : ℕ = size.pointers in
     let few : count * (d + p) < 2 ^ 29 = omega (arith, m, hm) in
-    let room : 8 * (words + 1) - length (spelled 8 tag) ≡ 8 * (count * (d + p)) = omega (arith, m, length_spelled 8 tag) in
-    let added : filled_up (words + 1) (spelled 8 tag) ≡ spelled 8 (struct_word count d p) ++ replicate (8 * (count * (d + p))) 0 = ap (λ n. spelled 8 tag ++ replicate n 0) room ∙ ap (λ n. spelled 8 n ++ replicate (8 * (count * (d + p))) 0) t in
+    let room : 8 * (words + 1) - length (spelled_number 8 tag) ≡ 8 * (count * (d + p)) = omega (arith, m, length_spelled 8 tag) in
+    let added : filled_up (words + 1) (spelled_number 8 tag) ≡ spelled_number 8 (struct_word count d p) ++ replicate (8 * (count * (d + p))) 0 = ap (λ n. spelled_number 8 tag ++ replicate n 0) room ∙ ap (λ n. spelled_number 8 n ++ replicate (8 * (count * (d + p))) 0) t in
     let word_is : word ≡ list_word (word_count old - suc at) 7 (count * (d + p)) = w ∙ ap (λ n. list_word (start - at - 1) 7 n) m ∙ ap (λ n. list_word n 7 (count * (d + p))) {x = start - at - 1} {y = word_count old - suc at} (omega (arith, e)) in
     subst (λ z. IsNew old new at (CompositeIn z count d p) (zero_structs size count)) (sym e) (record {
-      forest = composite_forest old new (filled_up (words + 1) (spelled 8 tag)) at word h count d p hn hd hp few added word_is;
-      place = composite_shape old new (filled_up (words + 1) (spelled 8 tag)) at word h count d p hn hd hp few added word_is;
-      tree = composite_is old new (filled_up (words + 1) (spelled 8 tag)) at word h count d p hn hd hp few added word_is;
-      changes = composite_changes old new (filled_up (words + 1) (spelled 8 tag)) at word h count d p hn hd hp few added word_is;
+      forest = composite_forest old new (filled_up (words + 1) (spelled_number 8 tag)) at word h count d p hn hd hp few added word_is;
+      place = composite_shape old new (filled_up (words + 1) (spelled_number 8 tag)) at word h count d p hn hd hp few added word_is;
+      tree = composite_is old new (filled_up (words + 1) (spelled_number 8 tag)) at word h count d p hn hd hp few added word_is;
+      changes = composite_changes old new (filled_up (words + 1) (spelled_number 8 tag)) at word h count d p hn hd hp few added word_is;
     })
 
 -- ---- bytes ----
 
-pub bytes_made : (old new added : List ℕ) (at word start count : ℕ) → start ≡ word_count old → count < 2 ^ 29 → word ≡ list_word (start - at - 1) 2 count → word_count added ≡ list_words 2 count → IsMade old new added at word
+pub bytes_made : (old new added : List ℕ) (at word start count : ℕ) → start ≡ word_count old → count < 2 ^ 29 → word ≡ list_word (start - at - 1) 2 count → word_count added ≡ list_words 2 count → IsObjectMade old new added at word
     → IsNew old new at (ListIn start 2 count) (Numbers 1 (take count added))
 bytes_made old new added at word start count e hn w words h =
     let word_is : word ≡ list_word (word_count old - suc at) 2 count = w ∙ ap (λ n. list_word n 2 count) {x = start - at - 1} {y = word_count old - suc at} (omega (arith, e)) in
@@ -127,7 +127,7 @@ bytes_made old new added at word start count e hn w words h =
 filled_words : (words : ℕ) (x : List ℕ) → length x ≤ 8 * words → word_count (filled_up words x) ≡ words
 filled_words words x h = omega (arith, length-append x (replicate (8 * words - length x) 0), length-replicate {A = ℕ} (8 * words - length x) 0, h)
 
-pub data_made : (old new x : List ℕ) (at word start words : ℕ) → start ≡ word_count old → length x < 2 ^ 29 → word ≡ list_word (start - at - 1) 2 (length x) → words ≡ (length x + 7) / 8 → IsMade old new (filled_up words x) at word
+pub data_made : (old new x : List ℕ) (at word start words : ℕ) → start ≡ word_count old → length x < 2 ^ 29 → word ≡ list_word (start - at - 1) 2 (length x) → words ≡ (length x + 7) / 8 → IsObjectMade old new (filled_up words x) at word
     → IsNew old new at (ListIn start 2 (length x)) (Numbers 1 x)
 data_made old new x at word start words e hn w n h =
     let m : word_count (filled_up words x) ≡ list_words 2 (length x) = filled_words words x (omega (arith, n)) ∙ omega (arith, n) in
@@ -138,7 +138,7 @@ one_more [] zero h = absurd (omega (arith, h))
 one_more [] (suc k) h = refl
 one_more (b ∷ x) k h = ap (λ n. take n (b ∷ (x ++ replicate k 0))) {x = suc (length x) + 1} {y = suc (length x + 1)} (omega arith) ∙ ap (λ z. b ∷ z) (one_more x k h)
 
-pub text_made : (old new x : List ℕ) (at word start words : ℕ) → start ≡ word_count old → length x + 1 < 2 ^ 29 → word ≡ list_word (start - at - 1) 2 (length x + 1) → words ≡ length x / 8 + 1 → IsMade old new (filled_up words x) at word
+pub text_made : (old new x : List ℕ) (at word start words : ℕ) → start ≡ word_count old → length x + 1 < 2 ^ 29 → word ≡ list_word (start - at - 1) 2 (length x + 1) → words ≡ length x / 8 + 1 → IsObjectMade old new (filled_up words x) at word
     → IsNew old new at (ListIn start 2 (length x + 1)) (Numbers 1 (x ++ (0 ∷ [])))
 text_made old new x at word start words e hn w n h =
     let m : word_count (filled_up words x) ≡ list_words 2 (length x + 1) = filled_words words x (omega (arith, n)) ∙ omega (arith, n) in

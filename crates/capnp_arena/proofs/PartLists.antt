@@ -2,7 +2,7 @@
 use Rattle.std.proofs.Common.{◌≡◌, ℕ, zero, suc, ◌+◌, ◌-◌, ◌*◌, ◌^◌, ◌<◌, ◌≤◌, refl, sym, ap, subst, ◌∙◌, arith, List, [], length, take, drop, Option, None, Some}
 use Rattle.std.proofs.lemmas.List.{drop-drop, drop-take, take-take}
 use Rattle.std.proofs.lemmas.Nat.{mul-le}
-use Rattle.capnp_wire.specs.Edits.{extended}
+use Rattle.capnp_wire.specs.Edits.{extended_struct}
 use Rattle.capnp_wire.specs.Facts.Indexed.{only_tree-from}
 use Rattle.capnp_wire.specs.Locate.{list_words}
 use Rattle.capnp_wire.specs.Place.{bytes_at, list_tree}
@@ -18,7 +18,7 @@ use Rattle.capnp_wire.specs.declared.fault.Fault.{Fault}
 use Rattle.capnp_wire.specs.declared.size.StructSize.{StructSize}
 use Rattle.capnp_arena.specs.Counts.{AreForests}
 use Rattle.capnp_arena.specs.Forest.{Forest, struct_from, tree}
-use Rattle.capnp_arena.specs.Grown.{IsPartList, kind_pointers, kind_words, no_parts, number_parts, part_at, plain_parts, pointer_parts, struct_parts}
+use Rattle.capnp_arena.specs.Grown.{IsPartList, kind_pointers, kind_words, no_parts, number_parts, grown_part_at, pointerless_parts, pointer_parts, struct_parts}
 use Rattle.capnp_arena.specs.Shape.{CompositeIn, ListIn, shape_at, word_count}
 use Rattle.capnp_arena.specs.declared.grown.PartRow.{PartRow}
 use Rattle.capnp_arena.proofs.Counted.{element_rows, ends_at, list_row, words_composite, words_pointers}
@@ -63,14 +63,14 @@ lone_whole t f a b (suc n) h =
 
 -- ---- extended ----
 
-pub grown_below : (size : StructSize) (f : ℕ → StructTree) (a n : ℕ) → words_below_all (structs_from (λ i. extended size (f i)) a n) ≡ words_below_all (structs_from f a n)
+pub grown_below : (size : StructSize) (f : ℕ → StructTree) (a n : ℕ) → words_below_all (structs_from (λ i. extended_struct size (f i)) a n) ≡ words_below_all (structs_from f a n)
 grown_below size f a zero = refl
 grown_below size f a (suc n) = omega (arith, words_more (size.pointers - tree_count (f a).pointers) (f a).pointers, grown_below size f (suc a) n)
 
-pub grown_whole : (size : StructSize) (f : ℕ → StructTree) (a n : ℕ) → first_fault_of_elements (structs_from (λ i. extended size (f i)) a n) ≡ first_fault_of_elements (structs_from f a n)
+pub grown_whole : (size : StructSize) (f : ℕ → StructTree) (a n : ℕ) → first_fault_of_elements (structs_from (λ i. extended_struct size (f i)) a n) ≡ first_fault_of_elements (structs_from f a n)
 grown_whole size f a zero = refl
 grown_whole size f a (suc n) =
-    ap (λ x. first_of x (first_fault_of_elements (structs_from (λ i. extended size (f i)) (suc a) n))) (whole_more (size.pointers - tree_count (f a).pointers) (f a).pointers)
+    ap (λ x. first_of x (first_fault_of_elements (structs_from (λ i. extended_struct size (f i)) (suc a) n))) (whole_more (size.pointers - tree_count (f a).pointers) (f a).pointers)
     ∙ ap (first_of (first_fault_of_all (f a).pointers)) (grown_whole size f (suc a) n)
 
 -- ---- what an element takes ----
@@ -115,8 +115,8 @@ module _ (bytes : List ℕ) (w : ℕ) (f : Forest bytes w) where
     parts = λ i l. (omega arith, omega arith, no_forests bytes (0 + i * 0));
     length = plain_count bytes w f a 0 n e;
     element = λ i l. ap (λ t. element_struct t i) (tree_list bytes w a 0 n f e);
-    below = omega (arith, bare_below (part_at bytes no_parts) 0 n (λ i. refl));
-    whole = bare_whole (part_at bytes no_parts) 0 n (λ i. refl);
+    below = omega (arith, bare_below (grown_part_at bytes no_parts) 0 n (λ i. refl));
+    whole = bare_whole (grown_part_at bytes no_parts) 0 n (λ i. refl);
   }
 
   -- numbers
@@ -129,8 +129,8 @@ module _ (bytes : List ℕ) (w : ℕ) (f : Forest bytes w) where
         (omega (arith, k, q, few, ends), omega arith, no_forests bytes (0 + i * 0));
     length = plain_count bytes w f a size n e;
     element = λ i l. ap (λ t. element_struct t i) (tree_list bytes w a size n f e) ∙ each i ∙ ap (λ b. record { bytes = b; pointers = NoTrees }) (number_part bytes a width n i m q l);
-    below = omega (arith, bare_below (part_at bytes (number_parts a width)) 0 n (λ i. refl));
-    whole = bare_whole (part_at bytes (number_parts a width)) 0 n (λ i. refl);
+    below = omega (arith, bare_below (grown_part_at bytes (number_parts a width)) 0 n (λ i. refl));
+    whole = bare_whole (grown_part_at bytes (number_parts a width)) 0 n (λ i. refl);
   }
 
   -- pointers
@@ -142,14 +142,14 @@ module _ (bytes : List ℕ) (w : ℕ) (f : Forest bytes w) where
     length = plain_count bytes w f a 6 n e;
     element = λ i l. ap (λ t. element_struct t i) (tree_list bytes w a 6 n f e)
         ∙ ap (λ ts. record { bytes = []; pointers = ts }) (only_tree-from (tree bytes) a n i l ∙ ap (λ k. trees_from (tree bytes) k 1) {x = a + i} {y = a + i * 1} (omega arith));
-    below = omega (arith, words_pointers bytes w f a n e, lone_below (tree bytes) (part_at bytes (pointer_parts a)) 0 a n lone);
-    whole = lone_whole (tree bytes) (part_at bytes (pointer_parts a)) 0 a n lone ∙ sym (ap first_fault (tree_list bytes w a 6 n f e)) ∙ forest_whole bytes w f;
+    below = omega (arith, words_pointers bytes w f a n e, lone_below (tree bytes) (grown_part_at bytes (pointer_parts a)) 0 a n lone);
+    whole = lone_whole (tree bytes) (grown_part_at bytes (pointer_parts a)) 0 a n lone ∙ sym (ap first_fault (tree_list bytes w a 6 n f e)) ∙ forest_whole bytes w f;
   }
     where
-      lone : (i : ℕ) → (part_at bytes (pointer_parts a) (0 + i)).pointers ≡ MoreTrees (tree bytes (a + i)) NoTrees
+      lone : (i : ℕ) → (grown_part_at bytes (pointer_parts a) (0 + i)).pointers ≡ MoreTrees (tree bytes (a + i)) NoTrees
       lone i = ap (λ k. MoreTrees (tree bytes k) NoTrees) {x = a + (0 + i) * 1} {y = a + i} (omega arith)
 
-  pub plain_list : (a size n : ℕ) → shape_at bytes w ≡ ListIn a size n → size < 7 → (size ≡ 1 → ⊥) → IsPartList bytes w (plain_parts a size) n
+  pub plain_list : (a size n : ℕ) → shape_at bytes w ≡ ListIn a size n → size < 7 → (size ≡ 1 → ⊥) → IsPartList bytes w (pointerless_parts a size) n
   plain_list a zero n e s h = void_list a n e
   plain_list a (suc zero) n e s h = absurd (h refl)
   plain_list a (suc (suc zero)) n e s h = number_list a 2 1 n n e (omega arith) (omega arith) (λ i. refl)
@@ -169,15 +169,15 @@ module _ (bytes : List ℕ) (w : ℕ) (f : Forest bytes w) where
         (omega (arith, k, ends, m), omega (arith, k, ends), (λ j x y. element_rows bytes w f tag n d p e i l j (omega (arith, x)) (omega (arith, y))));
     length = structs_count bytes w f tag n d p e;
     element = λ i l. sym (struct_is_element bytes w f tag n d p e i l) ∙ same i;
-    below = omega (arith, words_composite bytes w f tag n d p e, ap words_below_all (structs_same (part_at bytes (struct_parts tag d p)) (λ i. struct_from bytes (tag + 1 + i * (d + p)) d p) 0 n (λ i x y. sym (same i))));
-    whole = ap first_fault_of_elements (structs_same (part_at bytes (struct_parts tag d p)) (λ i. struct_from bytes (tag + 1 + i * (d + p)) d p) 0 n (λ i x y. sym (same i))) ∙ sym (ap first_fault (tree_composite bytes w tag n d p f e)) ∙ forest_whole bytes w f;
+    below = omega (arith, words_composite bytes w f tag n d p e, ap words_below_all (structs_same (grown_part_at bytes (struct_parts tag d p)) (λ i. struct_from bytes (tag + 1 + i * (d + p)) d p) 0 n (λ i x y. sym (same i))));
+    whole = ap first_fault_of_elements (structs_same (grown_part_at bytes (struct_parts tag d p)) (λ i. struct_from bytes (tag + 1 + i * (d + p)) d p) 0 n (λ i x y. sym (same i))) ∙ sym (ap first_fault (tree_composite bytes w tag n d p f e)) ∙ forest_whole bytes w f;
   }
     where
       eight : (i m : ℕ) → i * (8 * m) ≡ 8 * (i * m)
       eight i m = grind arith
 
-      same : (i : ℕ) → struct_from bytes (tag + 1 + i * (d + p)) d p ≡ part_at bytes (struct_parts tag d p) i
-      same i = two_parts (struct_from bytes (tag + 1 + i * (d + p)) d p) (part_at bytes (struct_parts tag d p) i)
+      same : (i : ℕ) → struct_from bytes (tag + 1 + i * (d + p)) d p ≡ grown_part_at bytes (struct_parts tag d p) i
+      same i = two_parts (struct_from bytes (tag + 1 + i * (d + p)) d p) (grown_part_at bytes (struct_parts tag d p) i)
           (ap (λ k. take (8 * d) (drop k bytes)) {x = 8 * (tag + 1 + i * (d + p))} {y = 8 * (tag + 1) + i * (8 * (d + p))} (omega (arith, eight i (d + p))))
           (ap (λ k. trees_from (tree bytes) k p) {x = tag + 1 + i * (d + p) + d} {y = tag + 1 + d + i * (d + p)} (omega arith))
 
@@ -187,28 +187,28 @@ structs_each : (f g : ℕ → StructTree) (a n : ℕ) → ((i : ℕ) → a ≤ i
 structs_each f g a n h = structs_same f g a n h
 
 module _ (bytes : List ℕ) (w : ℕ) (row : PartRow) (n : ℕ) (size : StructSize) (l : IsPartList bytes w row n) where
-  pub parts_as_structs : Composite size.data_words size.pointers (structs_from (λ i. extended size (part_at bytes row i)) 0 n) ≡ as_structs size (tree bytes w)
+  pub parts_as_structs : Composite size.data_words size.pointers (structs_from (λ i. extended_struct size (grown_part_at bytes row i)) 0 n) ≡ as_structs size (tree bytes w)
   parts_as_structs =
-      ap (Composite size.data_words size.pointers) (structs_each (λ i. extended size (part_at bytes row i)) (λ i. extended size (element_struct (tree bytes w) i)) 0 n (λ i x y. ap (extended size) (sym (l.element i (omega (arith, y))))))
-      ∙ ap (λ k. Composite size.data_words size.pointers (structs_from (λ i. extended size (element_struct (tree bytes w) i)) 0 k)) (sym l.length)
+      ap (Composite size.data_words size.pointers) (structs_each (λ i. extended_struct size (grown_part_at bytes row i)) (λ i. extended_struct size (element_struct (tree bytes w) i)) 0 n (λ i x y. ap (extended_struct size) (sym (l.element i (omega (arith, y))))))
+      ∙ ap (λ k. Composite size.data_words size.pointers (structs_from (λ i. extended_struct size (element_struct (tree bytes w) i)) 0 k)) (sym l.length)
 
   module _ (h : AreBytes bytes) (hd : size.data_words < 2 ^ 16) (hp : size.pointers < 2 ^ 16) (fd : row.data_count ≤ 8 * size.data_words) (fp : row.pointers ≤ size.pointers) (few : n < 2 ^ 29) (within : n * (size.data_words + size.pointers) < 2 ^ 29) where
-    parts_well : IsWellFormed (Composite size.data_words size.pointers (structs_from (λ i. extended size (part_at bytes row i)) 0 n))
+    parts_well : IsWellFormed (Composite size.data_words size.pointers (structs_from (λ i. extended_struct size (grown_part_at bytes row i)) 0 n))
     parts_well =
-        let k = struct_count-structs_from (λ i. extended size (part_at bytes row i)) 0 n in
+        let k = struct_count-structs_from (λ i. extended_struct size (grown_part_at bytes row i)) 0 n in
         (hd, hp, omega (arith, k, few), omega (arith, ap (λ m. m * (size.data_words + size.pointers)) k, within), parts_extended bytes row n size h hd hp fd fp)
 
     pub parts_held : IsWellFormed (as_structs size (tree bytes w))
     parts_held = subst IsWellFormed parts_as_structs parts_well
 
     -- the words of it
-    pub parts_words : words_of (as_structs size (tree bytes w)) ≡ 1 + n * (size.data_words + size.pointers) + words_below_all (structs_from (part_at bytes row) 0 n)
+    pub parts_words : words_of (as_structs size (tree bytes w)) ≡ 1 + n * (size.data_words + size.pointers) + words_below_all (structs_from (grown_part_at bytes row) 0 n)
     parts_words =
-        let k = struct_count-structs_from (λ i. extended size (part_at bytes row i)) 0 n in
-        ap words_of (sym parts_as_structs) ∙ omega (arith, ap (λ m. m * (size.data_words + size.pointers)) k, grown_below size (part_at bytes row) 0 n)
+        let k = struct_count-structs_from (λ i. extended_struct size (grown_part_at bytes row i)) 0 n in
+        ap words_of (sym parts_as_structs) ∙ omega (arith, ap (λ m. m * (size.data_words + size.pointers)) k, grown_below size (grown_part_at bytes row) 0 n)
 
-    pub parts_length : (content : List ℕ) → content ≡ bytes_of (as_structs size (tree bytes w)) → length content ≡ 8 * (1 + n * (size.data_words + size.pointers) + words_below_all (structs_from (part_at bytes row) 0 n))
+    pub parts_length : (content : List ℕ) → content ≡ bytes_of (as_structs size (tree bytes w)) → length content ≡ 8 * (1 + n * (size.data_words + size.pointers) + words_below_all (structs_from (grown_part_at bytes row) 0 n))
     parts_length content e = ap length e ∙ length_bytes_of (as_structs size (tree bytes w)) parts_held ∙ ap (λ k. 8 * k) parts_words
 
   pub parts_whole : first_fault (as_structs size (tree bytes w)) ≡ None
-  parts_whole = ap first_fault (sym parts_as_structs) ∙ grown_whole size (part_at bytes row) 0 n ∙ l.whole
+  parts_whole = ap first_fault (sym parts_as_structs) ∙ grown_whole size (grown_part_at bytes row) 0 n ∙ l.whole

@@ -4,13 +4,13 @@ use Rattle.std.proofs.lemmas.List.{append-nil}
 use Rattle.capnp_device.specs.declared.error.Error.{Error}
 use Rattle.capnp_device.specs.declared.error.ErrorKind.{ErrorKind}
 use Rattle.capnp_device.specs.declared.error.ErrorKind.TheVariants.{OutOfMemory, WrongPointerKind}
-use Rattle.capnp_wire.specs.Edits.{HasAtLeast, HoldsStruct, IsDueRefusal, append_trees, extended, nulls, struct_in, struct_refusal, zero_struct}
+use Rattle.capnp_wire.specs.Edits.{HasAtLeast, HoldsStruct, IsDueRefusal, append_trees, extended_struct, nulls, struct_in, struct_refusal, zero_struct}
 use Rattle.capnp_wire.specs.Facts.Rows.{tree_count-trees_from}
 use Rattle.capnp_wire.specs.Place.{list_tree, struct_tree, tree_with_level}
 use Rattle.capnp_wire.specs.Tree.{MoreTrees, NoTrees, Null, Tree, Trees, empty_struct, tree_count}
 use Rattle.capnp_wire.specs.declared.size.StructSize.{StructSize}
 use Rattle.capnp_arena.specs.Forest.{Forest, struct_from, tree}
-use Rattle.capnp_arena.specs.Shape.{CompositeIn, ListIn, NoShape, StructIn, end_of, placed, shape_at, word_count}
+use Rattle.capnp_arena.specs.Shape.{CompositeIn, ListIn, NoShape, StructIn, end_of, shape_target, shape_at, word_count}
 use Rattle.capnp_arena.proofs.Counted.{ends_at}
 use Rattle.capnp_arena.proofs.Extensions.{larger_extended}
 use Rattle.capnp_arena.specs.Facts.Forests.{tree_step}
@@ -49,15 +49,15 @@ list_holds f bytes start (suc (suc (suc (suc zero)))) n s h = h
 list_holds f bytes start (suc (suc (suc (suc (suc zero))))) n s h = h
 list_holds f bytes start (suc (suc (suc (suc (suc (suc size)))))) n s h = h
 
-zero_parts : (size : StructSize) → extended size empty_struct ≡ zero_struct size
-zero_parts size = two_parts (extended size empty_struct) (zero_struct size) (ap (λ n. replicate {A = ℕ} n 0) {x = 8 * size.data_words - 0} {y = 8 * size.data_words} (omega arith)) (ap nulls {x = size.pointers - 0} {y = size.pointers} (omega arith))
+zero_parts : (size : StructSize) → extended_struct size empty_struct ≡ zero_struct size
+zero_parts size = two_parts (extended_struct size empty_struct) (zero_struct size) (ap (λ n. replicate {A = ℕ} n 0) {x = 8 * size.data_words - 0} {y = 8 * size.data_words} (omega arith)) (ap nulls {x = size.pointers - 0} {y = size.pointers} (omega arith))
 
 module _ (bytes : List ℕ) (w : ℕ) (f : Forest bytes w) where
   -- ---- a null ----
 
   module _ (e : shape_at bytes w ≡ NoShape) where
     pub null_is : tree bytes w ≡ Null
-    null_is = tree_step bytes w f ∙ ap (λ s. tree_with_level tree tree (placed bytes s)) e
+    null_is = tree_step bytes w f ∙ ap (λ s. tree_with_level tree tree (shape_target bytes s)) e
 
     pub null_due : struct_refusal (tree bytes w) ≡ None
     null_due = ap struct_refusal null_is
@@ -65,8 +65,8 @@ module _ (bytes : List ℕ) (w : ℕ) (f : Forest bytes w) where
     pub null_holds : (size : StructSize) → HoldsStruct size (tree bytes w) → ⊥
     null_holds size h = subst (HoldsStruct size) null_is h
 
-    pub null_extended : (size : StructSize) → struct_tree (zero_struct size) ≡ struct_tree (extended size (struct_in (tree bytes w)))
-    null_extended size = ap struct_tree (sym (zero_parts size) ∙ ap (λ t. extended size (struct_in t)) (sym null_is))
+    pub null_extended : (size : StructSize) → struct_tree (zero_struct size) ≡ struct_tree (extended_struct size (struct_in (tree bytes w)))
+    null_extended size = ap struct_tree (sym (zero_parts size) ∙ ap (λ t. extended_struct size (struct_in t)) (sym null_is))
 
   -- ---- lists ----
 
@@ -100,18 +100,18 @@ module _ (bytes : List ℕ) (w : ℕ) (f : Forest bytes w) where
     struct_in_is = ap struct_in (tree_struct bytes w a d p f e)
 
     -- one that is large enough
-    pub struct_stays : (size : StructSize) → size.data_words ≤ d → size.pointers ≤ p → tree bytes w ≡ struct_tree (extended size (struct_in (tree bytes w)))
+    pub struct_stays : (size : StructSize) → size.data_words ≤ d → size.pointers ≤ p → tree bytes w ≡ struct_tree (extended_struct size (struct_in (tree bytes w)))
     struct_stays size l m =
         tree_struct bytes w a d p f e
-        ∙ ap struct_tree (sym (two_parts (extended size (struct_from bytes a d p)) (struct_from bytes a d p)
+        ∙ ap struct_tree (sym (two_parts (extended_struct size (struct_from bytes a d p)) (struct_from bytes a d p)
         (ap (λ n. (struct_from bytes a d p).bytes ++ replicate n 0) {x = 8 * size.data_words - length (struct_from bytes a d p).bytes} {y = 0} (omega (arith, l, data_length)) ∙ append-nil (struct_from bytes a d p).bytes)
         (ap (λ n. append_trees (struct_from bytes a d p).pointers (nulls n)) {x = size.pointers - tree_count (struct_from bytes a d p).pointers} {y = 0} (omega (arith, m, tree_count-trees_from (tree bytes) (a + d) p)) ∙ no_more (struct_from bytes a d p).pointers))
-        ∙ ap (extended size) (sym struct_in_is))
+        ∙ ap (extended_struct size) (sym struct_in_is))
       where
         no_more : (ts : Trees) → append_trees ts NoTrees ≡ ts
         no_more NoTrees = refl
         no_more (MoreTrees t ts) = ap (MoreTrees t) (no_more ts)
 
     -- one that grew
-    pub struct_grown : (size larger : StructSize) → larger.data_words ≡ max size.data_words d → larger.pointers ≡ max size.pointers p → struct_tree (extended larger (struct_from bytes a d p)) ≡ struct_tree (extended size (struct_in (tree bytes w)))
-    struct_grown size larger q r = ap struct_tree (larger_extended size larger (struct_from bytes a d p) d p data_length (tree_count-trees_from (tree bytes) (a + d) p) q r ∙ ap (extended size) (sym struct_in_is))
+    pub struct_grown : (size larger : StructSize) → larger.data_words ≡ max size.data_words d → larger.pointers ≡ max size.pointers p → struct_tree (extended_struct larger (struct_from bytes a d p)) ≡ struct_tree (extended_struct size (struct_in (tree bytes w)))
+    struct_grown size larger q r = ap struct_tree (larger_extended size larger (struct_from bytes a d p) d p data_length (tree_count-trees_from (tree bytes) (a + d) p) q r ∙ ap (extended_struct size) (sym struct_in_is))

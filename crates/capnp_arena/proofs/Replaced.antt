@@ -10,7 +10,7 @@ use Rattle.capnp_wire.specs.Facts.Filling.{length_put, put_next}
 use Rattle.capnp_wire.specs.Facts.Indexed.{nth_tree-from}
 use Rattle.capnp_wire.specs.Facts.Rows.{AreWellFormed-append_trees, AreWellFormed-first_trees, AreWellFormed-nulls, tree_count-append_trees, tree_count-first_trees, tree_count-nulls}
 use Rattle.capnp_wire.specs.Facts.Stands.{Stands, stands_at, stands_first, stands_right}
-use Rattle.capnp_wire.specs.Filling.{put, row_end, with_encoded_element, words_from}
+use Rattle.capnp_wire.specs.Filling.{bytes_with, row_end, with_encoded_element, words_from}
 use Rattle.capnp_wire.specs.Place.{bytes_at}
 use Rattle.capnp_wire.specs.Tree.{MoreTrees, NoTrees, Null, StructTree, Tree, Trees, nth_tree, tree_count, trees_from}
 use Rattle.capnp_wire.specs.WellFormed.{AreWellFormed}
@@ -70,22 +70,22 @@ fitted_sound n ts l h = sym (first_none (first_fault_of_all (fitted_row n ts)) (
 -- ---- bytes in place of others ----
 
 -- what fits of them, and zeros after that
-pub put_all_of : (at count : ℕ) (x o o1 : List ℕ) → count ≤ length x → o1 ≡ put at (take count x) o → o1 ≡ put at (take count x ++ replicate (count - length x) 0) o
-put_all_of at count x o o1 l h = h ∙ ap (λ z. put at z o) (sym (ap (λ k. take count x ++ replicate k 0) {x = count - length x} {y = 0} (omega (arith, l)) ∙ append-nil (take count x)))
+pub put_all_of : (at count : ℕ) (x o o1 : List ℕ) → count ≤ length x → o1 ≡ bytes_with at (take count x) o → o1 ≡ bytes_with at (take count x ++ replicate (count - length x) 0) o
+put_all_of at count x o o1 l h = h ∙ ap (λ z. bytes_with at z o) (sym (ap (λ k. take count x ++ replicate k 0) {x = count - length x} {y = 0} (omega (arith, l)) ∙ append-nil (take count x)))
 
-pub put_some_of : (at count : ℕ) (x o o1 o2 : List ℕ) → length x < count → at + count ≤ length o → o1 ≡ put at x o → o2 ≡ put (at + length x) (replicate (count - length x) 0) o1 → o2 ≡ put at (take count x ++ replicate (count - length x) 0) o
+pub put_some_of : (at count : ℕ) (x o o1 o2 : List ℕ) → length x < count → at + count ≤ length o → o1 ≡ bytes_with at x o → o2 ≡ bytes_with (at + length x) (replicate (count - length x) 0) o1 → o2 ≡ bytes_with at (take count x ++ replicate (count - length x) 0) o
 put_some_of at count x o o1 o2 l f h g =
     let z : List ℕ = replicate (count - length x) 0 in
     let n : length z ≡ count - length x = length-replicate {A = ℕ} (count - length x) 0 in
     g
-    ∙ ap (put (at + length x) z) (h ∙ sym (append-nil (put at x o)))
-    ∙ sym (append-nil (put (at + length x) z (put at x o ++ [])))
+    ∙ ap (bytes_with (at + length x) z) (h ∙ sym (append-nil (bytes_with at x o)))
+    ∙ sym (append-nil (bytes_with (at + length x) z (bytes_with at x o ++ [])))
     ∙ put_next at x z o [] [] (omega (arith, n, l, f))
-    ∙ append-nil (put at (x ++ z) o)
-    ∙ ap (λ y. put at (y ++ z) o) (sym (take_all count x (omega (arith, l))))
+    ∙ append-nil (bytes_with at (x ++ z) o)
+    ∙ ap (λ y. bytes_with at (y ++ z) o) (sym (take_all count x (omega (arith, l))))
 
 -- bytes that were kept are put back
-pub put_back : (old mid new kept : List ℕ) (a n end : ℕ) → length old ≡ 8 * end → a + n ≤ end → Spares a n old mid → kept ≡ bytes_at old a (8 * n) → new ≡ put (8 * a) kept (take (8 * end) mid) → new ≡ old
+pub put_back : (old mid new kept : List ℕ) (a n end : ℕ) → length old ≡ 8 * end → a + n ≤ end → Spares a n old mid → kept ≡ bytes_at old a (8 * n) → new ≡ bytes_with (8 * a) kept (take (8 * end) mid) → new ≡ old
 put_back old mid new kept a n end whole l s k e =
     let m : ℕ = 8 * a + 8 * n in
     let r : ℕ = 8 * (end - a - n) in
@@ -132,30 +132,30 @@ module _ (old new : List ℕ) (a d p : ℕ) (s : StructTree) (hd : length s.byte
   size : length (s.bytes ++ row) ≡ 8 * (d + p)
   size = length_element d p gap s.bytes s.pointers hd hp
 
-  is : new ≡ put (8 * a) (s.bytes ++ row) old ++ targets
-  is = e ∙ ap (λ k. put (8 * a) (s.bytes ++ pointer_row k s.pointers) old ++ targets) {x = words_from (row_end (8 * a + length s.bytes) s.pointers) old} {y = gap} (omega (arith, hd, hp, whole, l))
+  is : new ≡ bytes_with (8 * a) (s.bytes ++ row) old ++ targets
+  is = e ∙ ap (λ k. bytes_with (8 * a) (s.bytes ++ pointer_row k s.pointers) old ++ targets) {x = words_from (row_end (8 * a + length s.bytes) s.pointers) old} {y = gap} (omega (arith, hd, hp, whole, l))
 
   fits : 8 * a + length (s.bytes ++ row) ≤ length old
   fits = omega (arith, size, whole, l)
 
-  own : length (put (8 * a) (s.bytes ++ row) old) ≡ 8 * word_count old
+  own : length (bytes_with (8 * a) (s.bytes ++ row) old) ≡ 8 * word_count old
   own = length_put (8 * a) (s.bytes ++ row) old fits ∙ whole
 
   long : length new ≡ 8 * word_count old + 8 * words_of_all s.pointers
-  long = ap length is ∙ omega (arith, length-append (put (8 * a) (s.bytes ++ row) old) targets, own, length_bytes_of_all s.pointers held)
+  long = ap length is ∙ omega (arith, length-append (bytes_with (8 * a) (s.bytes ++ row) old) targets, own, length_bytes_of_all s.pointers held)
 
   spared : Spares a (d + p) old new
-  spared = spares_then a (d + p) a (d + p) old (put (8 * a) (s.bytes ++ row) old) new (λ k x r. r) (spares_put a (d + p) (s.bytes ++ row) old _ (omega (arith, size)) fits refl) (spares_append a (d + p) (put (8 * a) (s.bytes ++ row) old) targets new is)
+  spared = spares_then a (d + p) a (d + p) old (bytes_with (8 * a) (s.bytes ++ row) old) new (λ k x r. r) (spares_put a (d + p) (s.bytes ++ row) old _ (omega (arith, size)) fits refl) (spares_append a (d + p) (bytes_with (8 * a) (s.bytes ++ row) old) targets new is)
 
   here : Stands new a (s.bytes ++ row)
   here = stands_part new a (s.bytes ++ row) (omega (arith, size, long, l))
       (ap (bytes_at new a) size ∙ ap (λ z. bytes_at z a (8 * (d + p))) is
-      ∙ run_same (put (8 * a) (s.bytes ++ row) old) (put (8 * a) (s.bytes ++ row) old ++ targets) a (d + p) (λ k x y. longer_same (put (8 * a) (s.bytes ++ row) old) targets k (omega (arith, own, y, l)))
+      ∙ run_same (bytes_with (8 * a) (s.bytes ++ row) old) (bytes_with (8 * a) (s.bytes ++ row) old ++ targets) a (d + p) (λ k x y. longer_same (bytes_with (8 * a) (s.bytes ++ row) old) targets k (omega (arith, own, y, l)))
       ∙ put_there a (s.bytes ++ row) old (8 * (d + p)) fits size)
 
   there : Stands new (word_count old) targets
   there = stands_part new (word_count old) targets (omega (arith, long, length_bytes_of_all s.pointers held))
-      (ap (λ z. bytes_at z (word_count old) (length targets)) is ∙ added_there (put (8 * a) (s.bytes ++ row) old) targets (word_count old) (word_count old) (length targets) own (omega arith)
+      (ap (λ z. bytes_at z (word_count old) (length targets)) is ∙ added_there (bytes_with (8 * a) (s.bytes ++ row) old) targets (word_count old) (word_count old) (length targets) own (omega arith)
       ∙ ap (λ k. bytes_at targets k (length targets)) {x = word_count old - word_count old} {y = 0} (omega arith) ∙ take_all (length targets) targets (omega arith))
 
   trees : AreTreesIn new (a + d) (a + d + tree_count s.pointers + gap) (a + d + tree_count s.pointers + gap + words_of_all s.pointers) s.pointers

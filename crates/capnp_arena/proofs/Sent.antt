@@ -3,7 +3,7 @@ use Rattle.std.proofs.Common.{arith, ℕ, suc, ◌+◌, ◌/◌, ◌*◌, ◌<�
 use Rattle.std.proofs.Math.Seq.{take-append-add}
 use Rattle.std.proofs.lemmas.List.{take-append-drop, take-append-le}
 use Rattle.std.specs.Io.KnownBytes.{Appends}
-use Rattle.capnp_wire.specs.Encoding.{encoding_of, message_of, spelled}
+use Rattle.capnp_wire.specs.Encoding.{encoding_of, message_of, spelled_number}
 use Rattle.capnp_wire.specs.Facts.EncodedSizes.{length_encoding}
 use Rattle.capnp_wire.specs.Message.{IsCutShort, IsWritten}
 use Rattle.capnp_wire.specs.Tree.{Tree}
@@ -52,15 +52,15 @@ cut_short t bytes a b e h = subst (λ x. IsCut x a b) e h
 
 -- the table and a beginning of the segment, and the rest of it
 pub parts_of : (t : Tree) (bytes front : List ℕ) (n words : ℕ) → IsWellFormed t → bytes ≡ encoding_of t → words ≡ length bytes / 8
-    → front ≡ spelled 4 0 ++ (spelled 4 words ++ take n bytes) → front ++ drop n bytes ≡ message_of t
+    → front ≡ spelled_number 4 0 ++ (spelled_number 4 words ++ take n bytes) → front ++ drop n bytes ≡ message_of t
 parts_of t bytes front n words h e w f =
     let l : length bytes ≡ 8 * suc (words_of t) = ap length e ∙ length_encoding t h in
     let m : words ≡ suc (words_of t) = omega (arith, w, l) in
     ap (λ z. z ++ drop n bytes) f
-    ∙ append_assoc (spelled 4 0) (spelled 4 words ++ take n bytes) (drop n bytes)
-    ∙ ap (λ z. spelled 4 0 ++ z) (append_assoc (spelled 4 words) (take n bytes) (drop n bytes))
-    ∙ ap (λ z. spelled 4 0 ++ (spelled 4 words ++ z)) (take-append-drop n bytes ∙ e)
-    ∙ ap (λ k. spelled 4 0 ++ (spelled 4 k ++ encoding_of t)) m
+    ∙ append_assoc (spelled_number 4 0) (spelled_number 4 words ++ take n bytes) (drop n bytes)
+    ∙ ap (λ z. spelled_number 4 0 ++ z) (append_assoc (spelled_number 4 words) (take n bytes) (drop n bytes))
+    ∙ ap (λ z. spelled_number 4 0 ++ (spelled_number 4 words ++ z)) (take-append-drop n bytes ∙ e)
+    ∙ ap (λ k. spelled_number 4 0 ++ (spelled_number 4 k ++ encoding_of t)) m
 
 module _ (t : Tree) (front rest : List ℕ) (whole : front ++ rest ≡ message_of t) where
   pub whole_sent : (a b c : Option (List ℕ)) → Appends a b front → Appends b c rest → IsWritten t a c

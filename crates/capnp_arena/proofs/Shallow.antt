@@ -11,7 +11,7 @@ use Rattle.capnp_wire.specs.Facts.PointerWords.{not_below, not_equal}
 use Rattle.capnp_arena.specs.Encoded.{HasSize}
 use Rattle.capnp_arena.specs.Forest.{Forest, Grown, Planted, struct_from, tree}
 use Rattle.capnp_arena.specs.Same.{IsCutOf, IsStructCutOf, SameElements, SameParts, SameRow, SameTo}
-use Rattle.capnp_arena.specs.Shape.{CompositeIn, IsPointerOf, ListIn, NoShape, Points, Shape, StructIn, placed, shape_at}
+use Rattle.capnp_arena.specs.Shape.{CompositeIn, IsPointerOf, ListIn, NoShape, Points, Shape, StructIn, shape_target, shape_at}
 use Rattle.capnp_arena.proofs.Encodings.{has_size}
 use Rattle.capnp_arena.specs.Facts.Forests.{tree_step}
 use Rattle.capnp_arena.specs.Facts.Levels.{struct_same, structs_same, trees_same}
@@ -33,7 +33,7 @@ elements_below f i (suc n) m h x y z = elim (here_or_later i x y) [ inl e ↦ su
 
 module _ (bytes : List ℕ) (l : ℕ) where
   list_deep : (f g : List ℕ → ℕ → Tree) (a size n : ℕ) → size < 7 → IsBelow l (list_tree (tree bytes) bytes a size n) → ((j : ℕ) → size ≡ 6 → a ≤ j → j < a + n → IsBelow (l - 1) (tree bytes j) → f bytes j ≡ tree bytes j)
-      → tree_at_depth l f g (placed bytes (ListIn a size n)) ≡ list_tree (tree bytes) bytes a size n
+      → tree_at_depth l f g (shape_target bytes (ListIn a size n)) ≡ list_tree (tree bytes) bytes a size n
   list_deep f g a zero n k h r = rw (not_equal l 0 (λ e. omega (arith, e, h)), not_equal l 1 (λ e. omega (arith, e, h))) refl
   list_deep f g a (suc zero) n k h r = rw (not_equal l 0 (λ e. omega (arith, e, h)), not_equal l 1 (λ e. omega (arith, e, h))) refl
   list_deep f g a (suc (suc zero)) n k h r = rw (not_equal l 0 (λ e. omega (arith, e, h))) refl
@@ -44,8 +44,8 @@ module _ (bytes : List ℕ) (l : ℕ) where
       rw (not_equal l 0 (λ e. omega (arith, e, h.0)), not_equal l 1 (λ e. omega (arith, e, h.0))) (ap Pointers (trees_same (f bytes) (tree bytes) a n (λ j x y. r j refl x y (row_below (tree bytes) a n (l - 1) h.1 j x y))))
   list_deep f g a (suc (suc (suc (suc (suc (suc (suc z))))))) n k h r = absurd (omega (arith, k))
 
-  level_deep : (f g : List ℕ → ℕ → Tree) (s : Shape) → HasSize s → IsBelow l (tree_with_level tree tree (placed bytes s)) → ((j : ℕ) → IsPointerOf s j → IsBelow (l - 1) (tree bytes j) → f bytes j ≡ tree bytes j) → ((j : ℕ) → IsPointerOf s j → IsBelow (l - 2) (tree bytes j) → g bytes j ≡ tree bytes j)
-      → tree_at_depth l f g (placed bytes s) ≡ tree_with_level tree tree (placed bytes s)
+  level_deep : (f g : List ℕ → ℕ → Tree) (s : Shape) → HasSize s → IsBelow l (tree_with_level tree tree (shape_target bytes s)) → ((j : ℕ) → IsPointerOf s j → IsBelow (l - 1) (tree bytes j) → f bytes j ≡ tree bytes j) → ((j : ℕ) → IsPointerOf s j → IsBelow (l - 2) (tree bytes j) → g bytes j ≡ tree bytes j)
+      → tree_at_depth l f g (shape_target bytes s) ≡ tree_with_level tree tree (shape_target bytes s)
   level_deep f g NoShape k h r q = refl
   level_deep f g (StructIn a d p) k h r q =
       rw (not_below l 2 h.0) (ap struct_tree (struct_same bytes bytes (f bytes) (tree bytes) d p a (λ j x y. refl) (λ j x y. r j (x, y) (row_below (tree bytes) (a + d) p (l - 1) h.1 j x y))))
@@ -89,7 +89,7 @@ elements_same R f g n null h = (struct_count-structs_from g 0 n ∙ sym (struct_
     each i (inr p) = subst (λ t. SameParts R t (nth_struct (structs_from g 0 n) i)) (sym (nth_struct-past f 0 n i p)) (subst (SameParts R empty_struct) (sym (nth_struct-past g 0 n i p)) (refl, (refl, λ j. null)))
 
 module _ (bytes : List ℕ) (l n : ℕ) (two : 2 ≤ l) where
-  list_alike : (f g : List ℕ → ℕ → Tree) (a size k : ℕ) → size < 7 → ((j : ℕ) → size ≡ 6 → a ≤ j → j < a + k → SameTo n (f bytes j) (tree bytes j)) → SameTo (suc n) (tree_at_depth l f g (placed bytes (ListIn a size k))) (list_tree (tree bytes) bytes a size k)
+  list_alike : (f g : List ℕ → ℕ → Tree) (a size k : ℕ) → size < 7 → ((j : ℕ) → size ≡ 6 → a ≤ j → j < a + k → SameTo n (f bytes j) (tree bytes j)) → SameTo (suc n) (tree_at_depth l f g (shape_target bytes (ListIn a size k))) (list_tree (tree bytes) bytes a size k)
   list_alike f g a zero k h r = rw (not_equal l 0 (λ e. omega (arith, e, two)), not_equal l 1 (λ e. omega (arith, e, two))) refl
   list_alike f g a (suc zero) k h r = rw (not_equal l 0 (λ e. omega (arith, e, two)), not_equal l 1 (λ e. omega (arith, e, two))) refl
   list_alike f g a (suc (suc zero)) k h r = rw (not_equal l 0 (λ e. omega (arith, e, two))) refl
@@ -101,7 +101,7 @@ module _ (bytes : List ℕ) (l n : ℕ) (two : 2 ≤ l) where
   list_alike f g a (suc (suc (suc (suc (suc (suc (suc z))))))) k h r = absurd (omega (arith, h))
 
   level_alike : (f g : List ℕ → ℕ → Tree) (w : ℕ) (s : Shape) → Points bytes w s → ((j : ℕ) → IsPointerOf s j → SameTo n (f bytes j) (tree bytes j)) → ((j : ℕ) → IsPointerOf s j → SameTo n (g bytes j) (tree bytes j))
-      → SameTo (suc n) (tree_at_depth l f g (placed bytes s)) (tree_with_level tree tree (placed bytes s))
+      → SameTo (suc n) (tree_at_depth l f g (shape_target bytes s)) (tree_with_level tree tree (shape_target bytes s))
   level_alike f g w NoShape p r q = refl
   level_alike f g w (StructIn a d k) p r q = rw (not_below l 2 two) (_, refl, rows_same (SameTo n) (f bytes) (tree bytes) (a + d) k (null_same n) (λ j x y. r j (x, y)))
   level_alike f g w (ListIn a size k) p r q = list_alike f g a size k p.2 (λ j e x y. r j (e, x, y))
@@ -118,7 +118,7 @@ alike : (n : ℕ) (bytes : List ℕ) (w : ℕ) → Forest bytes w → (l : ℕ) 
 alike zero bytes w h l x = tt
 alike (suc n) bytes w (Grown _ p f a b) l x =
     subst (λ t. SameTo (suc n) (tree_below l (bytes ∷ []) bytes w) t) (sym (tree_step bytes w (Grown w p f a b)))
-    (subst (λ t. SameTo (suc n) t (tree_with_level tree tree (placed bytes (shape_at bytes w))))
+    (subst (λ t. SameTo (suc n) t (tree_with_level tree tree (shape_target bytes (shape_at bytes w))))
     (sym (below_step l (bytes ∷ []) bytes w ∙ ap (tree_at_depth l (tree_below (l - 1) (bytes ∷ [])) (tree_below (l - 2) (bytes ∷ []))) (target bytes w (shape_at bytes w) p)))
     (level_alike bytes l n (omega (arith, x)) (tree_below (l - 1) (bytes ∷ [])) (tree_below (l - 2) (bytes ∷ [])) w (shape_at bytes w) p
     (λ j i. alike n bytes j (f j i) (l - 1) (omega (arith, x))) (λ j i. alike n bytes j (f j i) (l - 2) (omega (arith, x)))))

@@ -3,17 +3,17 @@ use Rattle.std.proofs.Common.{◌≡◌, ℕ, zero, suc, ◌+◌, ◌-◌, ◌*�
 use Rattle.std.proofs.Math.Nat.{le-max_right, max-eq_right}
 use Rattle.std.proofs.lemmas.List.{append-nil}
 use Rattle.capnp_device.specs.declared.error.ErrorKind.TheVariants.{SizePastFormat, WrongElementSize, WrongPointerKind}
-use Rattle.capnp_wire.specs.Edits.{append_trees, extended, nulls}
+use Rattle.capnp_wire.specs.Edits.{append_trees, extended_struct, nulls}
 use Rattle.capnp_wire.specs.Facts.Rows.{tree_count-trees_from}
 use Rattle.capnp_wire.specs.Place.{list_tree}
 use Rattle.capnp_wire.specs.Reading.{element_struct, empty_list, is_null_tree, list_length}
 use Rattle.capnp_wire.specs.Elements.{or_empty}
 use Rattle.capnp_wire.specs.declared.size.ElementSize.TheVariants.{InlineComposite}
-use Rattle.capnp_wire.specs.StructLists.{HoldsStructs, as_structs, grown, past_format, struct_list, struct_list_refusal}
+use Rattle.capnp_wire.specs.StructLists.{HoldsStructs, as_structs, grown_size, past_format, struct_list, struct_list_refusal}
 use Rattle.capnp_wire.specs.Tree.{Composite, MoreTrees, NoTrees, StructTree, Tree, Trees, structs_from, tree_count}
 use Rattle.capnp_wire.specs.declared.size.StructSize.{StructSize}
 use Rattle.capnp_arena.specs.Forest.{Forest, struct_from, tree}
-use Rattle.capnp_arena.specs.Grown.{kind_pointers, kind_words, plain_parts}
+use Rattle.capnp_arena.specs.Grown.{kind_pointers, kind_words, pointerless_parts}
 use Rattle.capnp_arena.specs.Shape.{CompositeIn, ListIn, NoShape, Points, StructIn, shape_at, word_count}
 use Rattle.capnp_arena.proofs.Counted.{ends_at}
 use Rattle.capnp_arena.specs.Facts.Forests.{points}
@@ -32,7 +32,7 @@ two_sizes s t e h = ap (λ x. record { data_words = x; pointers = s.pointers }) 
 -- ---- lists that are not of structs ----
 
 -- an element fits into what it takes
-pub plain_fits : (a size dw ps : ℕ) → ((plain_parts a size).data_count ≤ 8 * max dw (kind_words size)) × ((plain_parts a size).pointers ≤ max ps (kind_pointers size))
+pub plain_fits : (a size dw ps : ℕ) → ((pointerless_parts a size).data_count ≤ 8 * max dw (kind_words size)) × ((pointerless_parts a size).pointers ≤ max ps (kind_pointers size))
 plain_fits a zero dw ps = (omega arith, omega arith)
 plain_fits a (suc zero) dw ps = (omega arith, omega arith)
 plain_fits a (suc (suc zero)) dw ps = (omega (arith, le-max_right dw 1), omega arith)
@@ -41,7 +41,7 @@ plain_fits a (suc (suc (suc (suc zero)))) dw ps = (omega (arith, le-max_right dw
 plain_fits a (suc (suc (suc (suc (suc zero))))) dw ps = (omega (arith, le-max_right dw 1), omega arith)
 plain_fits a (suc (suc (suc (suc (suc (suc size)))))) dw ps = (omega arith, le-max_right ps 1)
 
-plain_list_tree : (f : ℕ → Tree) (bytes : List ℕ) (a size n : ℕ) (s : StructSize) → (size ≡ 1 → ⊥) → struct_list s (list_tree f bytes a size n) ≡ as_structs (grown s (list_tree f bytes a size n)) (list_tree f bytes a size n)
+plain_list_tree : (f : ℕ → Tree) (bytes : List ℕ) (a size n : ℕ) (s : StructSize) → (size ≡ 1 → ⊥) → struct_list s (list_tree f bytes a size n) ≡ as_structs (grown_size s (list_tree f bytes a size n)) (list_tree f bytes a size n)
 plain_list_tree f bytes a zero n s h = refl
 plain_list_tree f bytes a (suc zero) n s h = absurd (h refl)
 plain_list_tree f bytes a (suc (suc zero)) n s h = refl
@@ -50,7 +50,7 @@ plain_list_tree f bytes a (suc (suc (suc (suc zero)))) n s h = refl
 plain_list_tree f bytes a (suc (suc (suc (suc (suc zero))))) n s h = refl
 plain_list_tree f bytes a (suc (suc (suc (suc (suc (suc size)))))) n s h = refl
 
-plain_due : (f : ℕ → Tree) (bytes : List ℕ) (a size n : ℕ) (s : StructSize) → (size ≡ 1 → ⊥) → struct_list_refusal s (list_tree f bytes a size n) ≡ past_format (list_length (list_tree f bytes a size n)) (grown s (list_tree f bytes a size n))
+plain_due : (f : ℕ → Tree) (bytes : List ℕ) (a size n : ℕ) (s : StructSize) → (size ≡ 1 → ⊥) → struct_list_refusal s (list_tree f bytes a size n) ≡ past_format (list_length (list_tree f bytes a size n)) (grown_size s (list_tree f bytes a size n))
 plain_due f bytes a zero n s h = refl
 plain_due f bytes a (suc zero) n s h = absurd (h refl)
 plain_due f bytes a (suc (suc zero)) n s h = refl
@@ -71,15 +71,15 @@ plain_holds f bytes a (suc (suc (suc (suc (suc (suc size)))))) n s h = h
 module _ (bytes : List ℕ) (w : ℕ) (f : Forest bytes w) where
   module _ (a size n : ℕ) (e : shape_at bytes w ≡ ListIn a size n) where
     module _ (s larger : StructSize) (h : size ≡ 1 → ⊥) (q : larger.data_words ≡ max s.data_words (kind_words size)) (r : larger.pointers ≡ max s.pointers (kind_pointers size)) where
-      plain_larger : larger ≡ grown s (tree bytes w)
+      plain_larger : larger ≡ grown_size s (tree bytes w)
       plain_larger =
-          two_sizes larger (grown s (list_tree (tree bytes) bytes a size n)) (q ∙ ap (max s.data_words) (sym (plain_words (tree bytes) bytes a size n))) (r ∙ ap (max s.pointers) (sym (plain_pointers (tree bytes) bytes a size n)))
-          ∙ ap (grown s) (sym (tree_list bytes w a size n f e))
+          two_sizes larger (grown_size s (list_tree (tree bytes) bytes a size n)) (q ∙ ap (max s.data_words) (sym (plain_words (tree bytes) bytes a size n))) (r ∙ ap (max s.pointers) (sym (plain_pointers (tree bytes) bytes a size n)))
+          ∙ ap (grown_size s) (sym (tree_list bytes w a size n f e))
 
       pub plain_becomes : as_structs larger (tree bytes w) ≡ struct_list s (tree bytes w)
       plain_becomes =
           ap (λ z. as_structs z (tree bytes w)) plain_larger
-          ∙ ap (λ t. as_structs (grown s t) t) (tree_list bytes w a size n f e)
+          ∙ ap (λ t. as_structs (grown_size s t) t) (tree_list bytes w a size n f e)
           ∙ sym (plain_list_tree (tree bytes) bytes a size n s h)
           ∙ ap (struct_list s) (sym (tree_list bytes w a size n f e))
 
@@ -87,7 +87,7 @@ module _ (bytes : List ℕ) (w : ℕ) (f : Forest bytes w) where
       plain_refusal =
           ap (λ k. past_format k larger) (sym (plain_count bytes w f a size n e))
           ∙ ap (past_format (list_length (tree bytes w))) plain_larger
-          ∙ ap (λ t. past_format (list_length t) (grown s t)) (tree_list bytes w a size n f e)
+          ∙ ap (λ t. past_format (list_length t) (grown_size s t)) (tree_list bytes w a size n f e)
           ∙ sym (plain_due (tree bytes) bytes a size n s h)
           ∙ ap (struct_list_refusal s) (sym (tree_list bytes w a size n f e))
 
@@ -109,17 +109,17 @@ module _ (bytes : List ℕ) (w : ℕ) (f : Forest bytes w) where
 
   module _ (tag n d p : ℕ) (e : shape_at bytes w ≡ CompositeIn tag n d p) where
     module _ (s larger : StructSize) (q : larger.data_words ≡ max s.data_words d) (r : larger.pointers ≡ max s.pointers p) where
-      structs_larger : larger ≡ grown s (tree bytes w)
-      structs_larger = two_sizes larger (record { data_words = max s.data_words d; pointers = max s.pointers p }) q r ∙ ap (grown s) (sym (tree_composite bytes w tag n d p f e))
+      structs_larger : larger ≡ grown_size s (tree bytes w)
+      structs_larger = two_sizes larger (record { data_words = max s.data_words d; pointers = max s.pointers p }) q r ∙ ap (grown_size s) (sym (tree_composite bytes w tag n d p f e))
 
       pub structs_become : as_structs larger (tree bytes w) ≡ struct_list s (tree bytes w)
-      structs_become = ap (λ z. as_structs z (tree bytes w)) structs_larger ∙ ap (λ t. as_structs (grown s t) t) (tree_composite bytes w tag n d p f e) ∙ ap (struct_list s) (sym (tree_composite bytes w tag n d p f e))
+      structs_become = ap (λ z. as_structs z (tree bytes w)) structs_larger ∙ ap (λ t. as_structs (grown_size s t) t) (tree_composite bytes w tag n d p f e) ∙ ap (struct_list s) (sym (tree_composite bytes w tag n d p f e))
 
       pub structs_refusal : past_format n larger ≡ struct_list_refusal s (tree bytes w)
       structs_refusal =
           ap (λ k. past_format k larger) (sym (structs_count bytes w f tag n d p e))
           ∙ ap (past_format (list_length (tree bytes w))) structs_larger
-          ∙ ap (λ t. past_format (list_length t) (grown s t)) (tree_composite bytes w tag n d p f e)
+          ∙ ap (λ t. past_format (list_length t) (grown_size s t)) (tree_composite bytes w tag n d p f e)
           ∙ ap (struct_list_refusal s) (sym (tree_composite bytes w tag n d p f e))
 
     pub structs_hold : (s : StructSize) → HoldsStructs s (tree bytes w) → (s.data_words ≤ d) × (s.pointers ≤ p)
@@ -138,8 +138,8 @@ no_more : (ts : Trees) → append_trees ts NoTrees ≡ ts
 no_more NoTrees = refl
 no_more (MoreTrees t ts) = ap (MoreTrees t) (no_more ts)
 
-pub extended_same : (size : StructSize) (s : StructTree) → 8 * size.data_words ≤ length s.bytes → size.pointers ≤ tree_count s.pointers → extended size s ≡ s
-extended_same size s h k = two_parts (extended size s) s
+pub extended_same : (size : StructSize) (s : StructTree) → 8 * size.data_words ≤ length s.bytes → size.pointers ≤ tree_count s.pointers → extended_struct size s ≡ s
+extended_same size s h k = two_parts (extended_struct size s) s
     (ap (λ n. s.bytes ++ replicate n 0) {x = 8 * size.data_words - length s.bytes} {y = 0} (omega (arith, h)) ∙ append-nil s.bytes)
     (ap (λ n. append_trees s.pointers (nulls n)) {x = size.pointers - tree_count s.pointers} {y = 0} (omega (arith, k)) ∙ no_more s.pointers)
 
@@ -147,19 +147,19 @@ module _ (bytes : List ℕ) (w : ℕ) (f : Forest bytes w) (tag n d p : ℕ) (e 
   abbrev own : StructSize
   own = record { data_words = d; pointers = p }
 
-  same_element : (i : ℕ) → i < n → struct_from bytes (tag + 1 + i * (d + p)) d p ≡ extended own (element_struct (tree bytes w) i)
+  same_element : (i : ℕ) → i < n → struct_from bytes (tag + 1 + i * (d + p)) d p ≡ extended_struct own (element_struct (tree bytes w) i)
   same_element i l =
       let k : i * (d + p) + (d + p) ≤ n * (d + p) = element_end i n (d + p) l in
       let ends : tag + 1 + n * (d + p) ≤ word_count bytes = ends_at bytes w f (CompositeIn tag n d p) e in
       let long : length (struct_from bytes (tag + 1 + i * (d + p)) d p).bytes ≡ 8 * d = length_part bytes (tag + 1 + i * (d + p)) (8 * d) (omega (arith, k, ends)) in
       sym (extended_same own (struct_from bytes (tag + 1 + i * (d + p)) d p) (omega (arith, long)) (omega (arith, tree_count-trees_from (tree bytes) (tag + 1 + i * (d + p) + d) p)))
-      ∙ ap (extended own) (struct_is_element bytes w f tag n d p e i l)
+      ∙ ap (extended_struct own) (struct_is_element bytes w f tag n d p e i l)
 
   pub structs_stay : (s : StructSize) → s.data_words ≤ d → s.pointers ≤ p → tree bytes w ≡ struct_list s (tree bytes w)
   structs_stay s l m =
       tree_composite bytes w tag n d p f e
-      ∙ ap (Composite d p) (structs_same (λ i. struct_from bytes (tag + 1 + i * (d + p)) d p) (λ i. extended own (element_struct (tree bytes w) i)) 0 n (λ i x y. same_element i (omega (arith, y))))
-      ∙ ap (λ k. Composite d p (structs_from (λ i. extended own (element_struct (tree bytes w) i)) 0 k)) (sym (structs_count bytes w f tag n d p e))
+      ∙ ap (Composite d p) (structs_same (λ i. struct_from bytes (tag + 1 + i * (d + p)) d p) (λ i. extended_struct own (element_struct (tree bytes w) i)) 0 n (λ i x y. same_element i (omega (arith, y))))
+      ∙ ap (λ k. Composite d p (structs_from (λ i. extended_struct own (element_struct (tree bytes w) i)) 0 k)) (sym (structs_count bytes w f tag n d p e))
       ∙ structs_become bytes w f tag n d p e s own (sym (max-eq_right l)) (sym (max-eq_right m))
 
   -- and it is within the format

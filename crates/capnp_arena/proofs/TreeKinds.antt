@@ -6,7 +6,7 @@ use Rattle.capnp_wire.specs.Reading.{is_list, is_null_tree}
 use Rattle.capnp_wire.specs.Tree.{Tree}
 use Rattle.capnp_arena.specs.Forest.{Forest, tree}
 use Rattle.capnp_arena.specs.Reads.{is_list_shape, is_no_shape, is_struct_shape}
-use Rattle.capnp_arena.specs.Shape.{CompositeIn, ListIn, NoShape, Shape, StructIn, placed, shape_at}
+use Rattle.capnp_arena.specs.Shape.{CompositeIn, ListIn, NoShape, Shape, StructIn, shape_target, shape_at}
 use Rattle.capnp_arena.specs.Facts.Forests.{tree_step}
 
 -- ---- a list that is not composite, whatever its elements are ----
@@ -38,19 +38,19 @@ list_list f bytes start (suc (suc (suc (suc zero)))) n = refl
 list_list f bytes start (suc (suc (suc (suc (suc zero))))) n = refl
 list_list f bytes start (suc (suc (suc (suc (suc (suc size)))))) n = refl
 
-level_null : (bytes : List ℕ) (s : Shape) → is_null_tree (tree_with_level tree tree (placed bytes s)) ≡ is_no_shape s
+level_null : (bytes : List ℕ) (s : Shape) → is_null_tree (tree_with_level tree tree (shape_target bytes s)) ≡ is_no_shape s
 level_null bytes NoShape = refl
 level_null bytes (StructIn a d p) = refl
 level_null bytes (ListIn a size n) = list_not_null (tree bytes) bytes a size n
 level_null bytes (CompositeIn tag n d p) = refl
 
-level_struct : (bytes : List ℕ) (s : Shape) → is_struct (tree_with_level tree tree (placed bytes s)) ≡ is_struct_shape s
+level_struct : (bytes : List ℕ) (s : Shape) → is_struct (tree_with_level tree tree (shape_target bytes s)) ≡ is_struct_shape s
 level_struct bytes NoShape = refl
 level_struct bytes (StructIn a d p) = refl
 level_struct bytes (ListIn a size n) = list_no_struct (tree bytes) bytes a size n
 level_struct bytes (CompositeIn tag n d p) = refl
 
-level_list : (bytes : List ℕ) (s : Shape) → is_list (tree_with_level tree tree (placed bytes s)) ≡ is_list_shape s
+level_list : (bytes : List ℕ) (s : Shape) → is_list (tree_with_level tree tree (shape_target bytes s)) ≡ is_list_shape s
 level_list bytes NoShape = refl
 level_list bytes (StructIn a d p) = refl
 level_list bytes (ListIn a size n) = list_list (tree bytes) bytes a size n

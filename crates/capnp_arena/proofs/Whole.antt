@@ -6,7 +6,7 @@ use Rattle.capnp_wire.specs.Words.{first_fault, first_fault_of_all, first_fault_
 use Rattle.capnp_wire.specs.declared.fault.Fault.{Fault}
 use Rattle.capnp_arena.specs.Encoded.{HasSize}
 use Rattle.capnp_arena.specs.Forest.{Forest, Grown, Planted, struct_from, tree}
-use Rattle.capnp_arena.specs.Shape.{CompositeIn, IsPointerOf, ListIn, NoShape, Shape, StructIn, placed, shape_at}
+use Rattle.capnp_arena.specs.Shape.{CompositeIn, IsPointerOf, ListIn, NoShape, Shape, StructIn, shape_target, shape_at}
 use Rattle.capnp_arena.proofs.Encodings.{has_size}
 use Rattle.capnp_arena.specs.Facts.Forests.{tree_step}
 
@@ -31,7 +31,7 @@ module _ (bytes : List ℕ) where
   list_whole a (suc (suc (suc (suc (suc zero))))) n l h = refl
   list_whole a (suc (suc (suc (suc (suc (suc z)))))) n l h = row_whole (tree bytes) a n (λ j x y. h j (omega (arith, l)) x y)
 
-  level_whole : (s : Shape) → HasSize s → ((j : ℕ) → IsPointerOf s j → first_fault (tree bytes j) ≡ None) → first_fault (tree_with_level tree tree (placed bytes s)) ≡ None
+  level_whole : (s : Shape) → HasSize s → ((j : ℕ) → IsPointerOf s j → first_fault (tree bytes j) ≡ None) → first_fault (tree_with_level tree tree (shape_target bytes s)) ≡ None
   level_whole NoShape l h = refl
   level_whole (StructIn a d p) l h = row_whole (tree bytes) (a + d) p (λ j x y. h j (x, y))
   level_whole (ListIn a size n) l h = list_whole a size n l.0 (λ j e x y. h j (e, x, y))

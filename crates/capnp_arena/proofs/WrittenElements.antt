@@ -4,7 +4,7 @@ use Rattle.capnp_wire.specs.Edits.{with_bit, with_bytes, with_number}
 use Rattle.capnp_wire.specs.Elements.{HasBit, HasNumber, HasStruct, with_bit_element, with_number_element, with_struct, with_struct_element}
 use Rattle.capnp_wire.specs.Facts.Bytes.{length-part-le, length-with_bit, length-with_number}
 use Rattle.capnp_wire.specs.Facts.Indexed.{length-bits_from}
-use Rattle.capnp_wire.specs.Filling.{put}
+use Rattle.capnp_wire.specs.Filling.{bytes_with}
 use Rattle.capnp_wire.specs.Locate.{list_words}
 use Rattle.capnp_wire.specs.Place.{bits_from, bytes_at, list_tree}
 use Rattle.capnp_wire.specs.Reading.{element_struct}
@@ -34,7 +34,7 @@ module _ (old new : List ℕ) (at start n width i v : ℕ) (whole : length old �
   -- numbers of so many bytes each, of which one of another width may be written
   of_numbers : (size own m : ℕ) → shape_at old at ≡ ListIn start size n → (size ≡ 6 → ⊥) → m ≤ 8 * list_words size n
       → ((b : List ℕ) → list_tree (tree b) b start size n ≡ Numbers own (bytes_at b start m)) → HasNumber width (tree old at) i
-      → new ≡ put (8 * start) (with_number width i v (bytes_at old start m)) old → Leaves at (with_number_element width i v (tree old at)) old new
+      → new ≡ bytes_with (8 * start) (with_number width i v (bytes_at old start m)) old → Leaves at (with_number_element width i v (tree old at)) old new
   of_numbers size own m e plain few level h is =
       let ends : start + list_words size n ≤ word_count old = (subst (Planted old) e (planted old at f)).ends in
       let long : length (bytes_at old start m) ≡ m = length_part old start m (omega (arith, ends, few, whole)) in
@@ -52,7 +52,7 @@ module _ (old new : List ℕ) (at start n width i v : ℕ) (whole : length old �
       }
 
   pub number_leaves : (size : ElementSize) (m : ℕ) → shape_at old at ≡ ListIn start (size_number size) n → m ≡ width_of size * n → HasNumber width (tree old at) i
-      → new ≡ put (8 * start) (with_number width i v (bytes_at old start m)) old → Leaves at (with_number_element width i v (tree old at)) old new
+      → new ≡ bytes_with (8 * start) (with_number width i v (bytes_at old start m)) old → Leaves at (with_number_element width i v (tree old at)) old new
   number_leaves Void m e q h is = absurd (subst (λ x. HasNumber width x i) (tree_list old at start 0 n f e) h)
   number_leaves Bit m e q h is = absurd (subst (λ x. HasNumber width x i) (tree_list old at start 1 n f e) h)
   number_leaves Byte m e q h is = of_numbers 2 1 m e (λ z. omega (arith, z)) (omega (arith, q)) (λ b. ap (λ k. Numbers 1 (bytes_at b start k)) {x = n} {y = m} (omega (arith, q))) h is
@@ -149,7 +149,7 @@ module _ (old new : List ℕ) (at i : ℕ) (bit : Bool) (whole : length old ≡ 
     pub bit_inside : i < 8 * m
     bit_inside = omega (arith, room.1, q)
 
-    pub bit_leaves : length new ≡ length old → new ≡ put (8 * start) (with_bit i bit (bytes_at old start m)) old → Leaves at (with_bit_element i bit (tree old at)) old new
+    pub bit_leaves : length new ≡ length old → new ≡ bytes_with (8 * start) (with_bit i bit (bytes_at old start m)) old → Leaves at (with_bit_element i bit (tree old at)) old new
     bit_leaves same is =
         let x : List ℕ = with_bit i bit (bytes_at old start m) in
         let long : length (bytes_at old start m) ≡ m = length_part old start m bit_ends in

@@ -18,13 +18,13 @@ abbrev pub fitted_row : ℕ → Trees → Trees
 fitted_row n ts = append_trees (first_trees n ts) (nulls (n - tree_count ts))
 
 -- structs in a row, each of so many words, are these bytes and lead to nothing
-pub record IsPlain (row : List ℕ) (size : ℕ) (es : Structs) : Type 0 where
+pub record ArePointerless (row : List ℕ) (size : ℕ) (es : Structs) : Type 0 where
   pub own : (gap : ℕ) → element_row size gap es ≡ row
   pub below : bytes_below_all es ≡ []
   pub words : words_below_all es ≡ 0
   pub faults : first_fault_of_elements es ≡ None
 
 -- where bytes are said
-abbrev pub ArePlain : Option (Bor (List ℕ)) → StructSize → Structs → Type 0
-ArePlain (Some row) size es = IsPlain row.now (size.data_words + size.pointers) es
-ArePlain None size es = ⊤
+abbrev pub ArePointerlessIn : Option (Bor (List ℕ)) → StructSize → Structs → Type 0
+ArePointerlessIn (Some row) size es = ArePointerless row.now (size.data_words + size.pointers) es
+ArePointerlessIn None size es = ⊤

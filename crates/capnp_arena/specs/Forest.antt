@@ -1,19 +1,19 @@
 -- The words that a pointer leads to, and a tree's words apart from one another.
 use Rattle.std.specs.Prelude.{ℕ, suc, ◌*◌, ◌≤◌, ◌≡◌, ◌⊎◌, List, [], ◌∷◌, length}
-use Rattle.capnp_arena.specs.Shape.{Shape, Points, IsPointerOf, IsTagOf, IsWithin, end_of, shape_at, word_count}
+use Rattle.capnp_arena.specs.Shape.{Shape, Points, IsPointerOf, IsTagOf, IsWordWithin, end_of, shape_at, word_count}
 use Rattle.capnp_wire.specs.Place.{bytes_at, struct_at, tree_at}
 use Rattle.capnp_wire.specs.Tree.{StructTree, Tree}
 
 -- a word is one of those that the pointer at word w leads to, itself or by the pointers there
 pub data Owns (bytes : List ℕ) : ℕ → ℕ → Type 0 where
-  Itself : (w k : ℕ) → IsWithin (shape_at bytes w) k → Owns bytes w k
+  Itself : (w k : ℕ) → IsWordWithin (shape_at bytes w) k → Owns bytes w k
   Below : (w j k : ℕ) → IsPointerOf (shape_at bytes w) j → Owns bytes j k → Owns bytes w k
 
 -- Each target lies inside and after its pointer, and no two share a word.
 pub data Forest (bytes : List ℕ) : ℕ → Type 0 where
   Grown : (w : ℕ) → Points bytes w (shape_at bytes w)
       → ((j : ℕ) → IsPointerOf (shape_at bytes w) j → Forest bytes j)
-      → ((j k : ℕ) → IsPointerOf (shape_at bytes w) j → Owns bytes j k → IsWithin (shape_at bytes w) k → ⊥)
+      → ((j k : ℕ) → IsPointerOf (shape_at bytes w) j → Owns bytes j k → IsWordWithin (shape_at bytes w) k → ⊥)
       → ((i j k : ℕ) → IsPointerOf (shape_at bytes w) i → IsPointerOf (shape_at bytes w) j → Owns bytes i k → Owns bytes j k → i ≡ j)
       → Forest bytes w
 
@@ -21,13 +21,13 @@ pub data Forest (bytes : List ℕ) : ℕ → Type 0 where
 
 -- a word is one of a part's, itself or by its pointers
 abbrev pub OwnedBy : List ℕ → Shape → ℕ → Type 0
-OwnedBy bytes s k = IsWithin s k ⊎ ((j : ℕ) × IsPointerOf s j × Owns bytes j k)
+OwnedBy bytes s k = IsWordWithin s k ⊎ ((j : ℕ) × IsPointerOf s j × Owns bytes j k)
 
 -- a part lies inside, each of its pointers leads to a tree, and no two of these share a word, nor one with the part
 pub record Planted (bytes : List ℕ) (s : Shape) : Type 0 where
   pub ends : end_of s ≤ word_count bytes
   pub child : (j : ℕ) → IsPointerOf s j → Forest bytes j
-  pub child_apart : (j k : ℕ) → IsPointerOf s j → Owns bytes j k → IsWithin s k → ⊥
+  pub child_apart : (j k : ℕ) → IsPointerOf s j → Owns bytes j k → IsWordWithin s k → ⊥
   pub children_apart : (i j k : ℕ) → IsPointerOf s i → IsPointerOf s j → Owns bytes i k → Owns bytes j k → i ≡ j
 
 -- ---- what a call leaves ----

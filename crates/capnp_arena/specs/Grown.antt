@@ -9,8 +9,8 @@ use Rattle.capnp_arena.specs.Shape.{word_count}
 use Rattle.capnp_arena.specs.declared.grown.PartRow.{PartRow}
 
 -- one of them
-abbrev pub part_at : List ℕ → PartRow → ℕ → StructTree
-part_at bytes row i = record { bytes = take row.data_count (drop (row.first_byte + i * row.data_step) bytes); pointers = trees_from (tree bytes) (row.first + i * row.pointer_step) row.pointers }
+abbrev pub grown_part_at : List ℕ → PartRow → ℕ → StructTree
+grown_part_at bytes row i = record { bytes = take row.data_count (drop (row.first_byte + i * row.data_step) bytes); pointers = trees_from (tree bytes) (row.first + i * row.pointer_step) row.pointers }
 
 -- it lies inside, and its pointers lead to trees
 abbrev pub IsPartIn : List ℕ → PartRow → ℕ → Type 0
@@ -32,14 +32,14 @@ number_parts start width = record { first_byte = 8 * start; data_count = width; 
 abbrev pub pointer_parts : ℕ → PartRow
 pointer_parts start = record { first_byte = 0; data_count = 0; data_step = 0; first = start; pointers = 1; pointer_step = 1 }
 
-abbrev pub plain_parts : ℕ → ℕ → PartRow
-plain_parts start zero = no_parts
-plain_parts start (suc zero) = no_parts
-plain_parts start (suc (suc zero)) = number_parts start 1
-plain_parts start (suc (suc (suc zero))) = number_parts start 2
-plain_parts start (suc (suc (suc (suc zero)))) = number_parts start 4
-plain_parts start (suc (suc (suc (suc (suc zero))))) = number_parts start 8
-plain_parts start (suc (suc (suc (suc (suc (suc size)))))) = pointer_parts start
+abbrev pub pointerless_parts : ℕ → ℕ → PartRow
+pointerless_parts start zero = no_parts
+pointerless_parts start (suc zero) = no_parts
+pointerless_parts start (suc (suc zero)) = number_parts start 1
+pointerless_parts start (suc (suc (suc zero))) = number_parts start 2
+pointerless_parts start (suc (suc (suc (suc zero)))) = number_parts start 4
+pointerless_parts start (suc (suc (suc (suc (suc zero))))) = number_parts start 8
+pointerless_parts start (suc (suc (suc (suc (suc (suc size)))))) = pointer_parts start
 
 -- and of a list of structs
 abbrev pub struct_parts : (tag data_words pointers : ℕ) → PartRow
@@ -68,6 +68,6 @@ kind_pointers (suc (suc (suc (suc (suc (suc size)))))) = 1
 pub record IsPartList (bytes : List ℕ) (w : ℕ) (row : PartRow) (count : ℕ) : Type 0 where
   pub parts : ArePartsIn bytes row count
   pub length : list_length (tree bytes w) ≡ count
-  pub element : (i : ℕ) → i < count → element_struct (tree bytes w) i ≡ part_at bytes row i
-  pub below : words_below_all (structs_from (part_at bytes row) 0 count) ≤ words_of (tree bytes w)
-  pub whole : first_fault_of_elements (structs_from (part_at bytes row) 0 count) ≡ None
+  pub element : (i : ℕ) → i < count → element_struct (tree bytes w) i ≡ grown_part_at bytes row i
+  pub below : words_below_all (structs_from (grown_part_at bytes row) 0 count) ≤ words_of (tree bytes w)
+  pub whole : first_fault_of_elements (structs_from (grown_part_at bytes row) 0 count) ≡ None

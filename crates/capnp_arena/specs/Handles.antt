@@ -21,34 +21,34 @@ use Rattle.capnp_arena.specs.contracts.list_builder.ListBuilder.{the_row as list
 -- ---- what stands there ----
 
 -- a tree stands at the pointer
-abbrev pub IsPointer : PointerBuilder → Type 0
-IsPointer b = Forest (segment b.arena.now) b.at
+abbrev pub IsBuiltPointer : PointerBuilder → Type 0
+IsBuiltPointer b = Forest (segment b.arena.now) b.at
 
-abbrev pub pointer_tree : PointerBuilder → Tree
-pointer_tree b = tree (segment b.arena.now) b.at
+abbrev pub built_pointer_tree : PointerBuilder → Tree
+built_pointer_tree b = tree (segment b.arena.now) b.at
 
 -- the words of a struct
-abbrev pub part : Place → Shape
-part p = StructIn p.start p.data_words p.pointers
+abbrev pub handle_words : Place → Shape
+handle_words p = StructIn p.start p.data_words p.pointers
 
 -- the struct at a place
 abbrev pub struct_at_place : Arena → Place → StructTree
 struct_at_place a p = struct_from (segment a) p.start p.data_words p.pointers
 
 -- a struct stands there, apart from what it leads to
-abbrev pub IsStruct : StructBuilder → Type 0
-IsStruct b = Planted (segment b.arena.now) (part b.place)
+abbrev pub IsBuiltStruct : StructBuilder → Type 0
+IsBuiltStruct b = Planted (segment b.arena.now) (handle_words b.place)
 
-abbrev pub built_struct : StructBuilder → StructTree
-built_struct b = struct_at_place b.arena.now b.place
+abbrev pub built_struct_tree : StructBuilder → StructTree
+built_struct_tree b = struct_at_place b.arena.now b.place
 
 -- the list that the pointer leads to stands there
 pub record IsListHere (b : ListBuilder) : Type 0 where
   pub forest : Forest (segment b.arena.now) b.at
   pub place : shape_at (segment b.arena.now) b.at ≡ list_shape b.list
 
-abbrev pub list_tree : ListBuilder → Tree
-list_tree b = tree (segment b.arena.now) b.at
+abbrev pub built_list_tree : ListBuilder → Tree
+built_list_tree b = tree (segment b.arena.now) b.at
 
 -- ---- handles given for a handle ----
 
@@ -63,8 +63,8 @@ ListRests arena r = RestsIfErr arena_row arena (λ s. s.arena.ghost_name) r (λ 
 
 -- ---- handles lent by a handle, which ends as itself with the arena as it was left ----
 
-abbrev pub pointer_with : PointerBuilder → Arena → PointerBuilder
-pointer_with b a = record b { arena = record b.arena { now = a } }
+abbrev pub built_pointer_with : PointerBuilder → Arena → PointerBuilder
+built_pointer_with b a = record b { arena = record b.arena { now = a } }
 
 abbrev pub struct_with : StructBuilder → Arena → StructBuilder
 struct_with b a = record b { arena = record b.arena { now = a } }
@@ -73,7 +73,7 @@ abbrev pub list_with : ListBuilder → Arena → ListBuilder
 list_with b a = record b { arena = record b.arena { now = a } }
 
 abbrev pub LentByPointer : MutBor PointerBuilder → MutBor Arena → Fml
-LentByPointer b a = Lends (pointer_row (record { mir = named 0; lft = [] })) arena_row b a (pointer_with b.now)
+LentByPointer b a = Lends (pointer_row (record { mir = named 0; lft = [] })) arena_row b a (built_pointer_with b.now)
 
 abbrev pub LentByStruct : MutBor StructBuilder → MutBor Arena → Fml
 LentByStruct b a = Lends (struct_row (record { mir = named 0; lft = [] })) arena_row b a (struct_with b.now)

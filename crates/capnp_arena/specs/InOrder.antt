@@ -1,6 +1,6 @@
 -- What lies in a segment as the encoding has it.
 use Rattle.std.specs.Prelude.{ℕ, suc, ◌+◌, ◌-◌, ◌*◌, ◌≤◌, ◌≡◌, ⊤, List, Option, Some, None}
-use Rattle.capnp_wire.specs.Encoding.{bytes_below_all, bytes_of, bytes_of_all, element_row, pointer_row, pointer_word, spelled}
+use Rattle.capnp_wire.specs.Encoding.{bytes_below_all, bytes_of, bytes_of_all, element_row, pointer_row, pointer_word, spelled_number}
 use Rattle.capnp_wire.specs.Place.{bytes_at}
 use Rattle.capnp_wire.specs.Tree.{structs_from, trees_from}
 use Rattle.capnp_arena.specs.Forest.{struct_from, tree}
@@ -10,7 +10,7 @@ use Rattle.capnp_arena.specs.Shape.{word_count}
 pub record IsLaid (bytes : List ℕ) (w end next : ℕ) : Type 0 where
   pub after : end ≤ next
   pub inside : next ≤ word_count bytes
-  pub pointer : bytes_at bytes w 8 ≡ spelled 8 (pointer_word (end - suc w) (tree bytes w))
+  pub pointer : bytes_at bytes w 8 ≡ spelled_number 8 (pointer_word (end - suc w) (tree bytes w))
   pub target : bytes_at bytes end (8 * (next - end)) ≡ bytes_of (tree bytes w)
 
 -- the same of so many pointers in a row

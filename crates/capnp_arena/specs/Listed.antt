@@ -21,6 +21,6 @@ listed_tree t (list.Nothing size) = empty_list size
 listed_tree t (list.Plain l) = t
 listed_tree t (list.Structs l) = t
 
-abbrev pub list_answered : Tree → Result ListTarget Error → Result Tree ErrorKind
-list_answered t (Ok l) = Ok (listed_tree t l)
-list_answered t (Err e) = Err e.kind
+abbrev pub list_tree_answered : Tree → Result ListTarget Error → Result Tree ErrorKind
+list_tree_answered t (Ok l) = Ok (listed_tree t l)
+list_tree_answered t (Err e) = Err e.kind

@@ -1,6 +1,6 @@
 -- What code reads out of a pointer word that a builder wrote.
 use Rattle.std.specs.Prelude.{ℕ, ◌+◌, cond, ◌==◌, List}
-use Rattle.capnp_wire.specs.Locate.{count, data_words, element_size, kind, offset, pointer_count}
+use Rattle.capnp_wire.specs.Locate.{count, data_words, element_size_number, pointer_kind, offset, pointer_count}
 use Rattle.capnp_wire.specs.Slot.{number_at}
 use Rattle.capnp_arena.specs.Shape.{CompositeIn, ListIn, NoShape, Shape, StructIn}
 use Rattle.capnp_arena.specs.declared.look.Target.{Target}
@@ -21,7 +21,7 @@ abbrev pub composite_looked : ℕ → ℕ → Shape
 composite_looked tag word = CompositeIn tag (offset word) (data_words word) (pointer_count word)
 
 abbrev pub list_looked : List ℕ → ℕ → ℕ → Shape
-list_looked bytes w word = cond (element_size word == 7) (composite_looked (w + 1 + offset word) (number_at 8 (w + 1 + offset word) bytes)) (ListIn (w + 1 + offset word) (element_size word) (count word))
+list_looked bytes w word = cond (element_size_number word == 7) (composite_looked (w + 1 + offset word) (number_at 8 (w + 1 + offset word) bytes)) (ListIn (w + 1 + offset word) (element_size_number word) (count word))
 
-abbrev pub looked : List ℕ → ℕ → ℕ → Shape
-looked bytes w word = cond (word == 0) NoShape (cond (kind word == 0) (struct_looked w word) (list_looked bytes w word))
+abbrev pub looked_shape : List ℕ → ℕ → ℕ → Shape
+looked_shape bytes w word = cond (word == 0) NoShape (cond (pointer_kind word == 0) (struct_looked w word) (list_looked bytes w word))

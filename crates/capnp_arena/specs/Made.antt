@@ -1,18 +1,18 @@
 -- What is made at the end of a segment.
 use Rattle.std.specs.Prelude.{ℕ, suc, ◌+◌, ◌-◌, ◌*◌, ◌^◌, ◌<◌, ◌≡◌, ◌==◌, cond, List, ◌++◌, length, replicate}
-use Rattle.capnp_wire.specs.Encoding.{spelled, struct_word}
-use Rattle.capnp_wire.specs.Filling.{put}
+use Rattle.capnp_wire.specs.Encoding.{spelled_number, struct_word}
+use Rattle.capnp_wire.specs.Filling.{bytes_with}
 use Rattle.capnp_wire.specs.declared.size.ElementSize.{ElementSize}
 use Rattle.capnp_wire.specs.declared.size.ElementSize.TheVariants.{Void, Bit, Byte, TwoBytes, FourBytes, EightBytes, Pointer, InlineComposite}
 use Rattle.capnp_arena.specs.Shape.{word_count}
 
 -- whole words were added at the end, and a pointer word was put
-pub record IsMade (old new added : List ℕ) (at word : ℕ) : Type 0 where
+pub record IsObjectMade (old new added : List ℕ) (at word : ℕ) : Type 0 where
   pub whole : length old ≡ 8 * word_count old
   pub inside : at < word_count old
   pub words : length added ≡ 8 * word_count added
   pub few : word_count old + word_count added < 2 ^ 29
-  pub is : new ≡ put (8 * at) (spelled 8 word) (old ++ added)
+  pub is : new ≡ bytes_with (8 * at) (spelled_number 8 word) (old ++ added)
 
 -- bytes, and zeros up to so many words
 abbrev pub filled_up : ℕ → List ℕ → List ℕ

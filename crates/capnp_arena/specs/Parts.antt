@@ -9,8 +9,8 @@ use Rattle.capnp_arena.specs.contracts.arena.Arena.{the_row as arena_row}
 abbrev pub as_long : (a : Arena) (start : ℕ) (left : List ℕ) → length a.bytes.items ≡ length (with_items_from a.bytes (8 * start) left).items
 as_long a start left = sym a.bytes.ok.0 ∙ (with_items_from a.bytes (8 * start) left).ok.0
 
-abbrev pub with_part : Arena → ℕ → List ℕ → Arena
-with_part a start left = record {
+abbrev pub with_struct_part : Arena → ℕ → List ℕ → Arena
+with_struct_part a start left = record {
   bytes = with_items_from a.bytes (8 * start) left;
   limit = a.limit;
   whole = subst (λ n. n ≡ 8 * (n / 8)) (as_long a start left) a.whole;
@@ -21,4 +21,4 @@ with_part a start left = record {
 }
 
 abbrev pub LendsPart : MutBor Arena → ℕ → MutBor (List ℕ) → Fml
-LendsPart a start r = Lends arena_row (Array u8 0) a r (with_part a.now start)
+LendsPart a start r = Lends arena_row (Array u8 0) a r (with_struct_part a.now start)

@@ -1,6 +1,6 @@
 -- What a pointer word of one segment leads to, as numbers alone, and the words that it takes.
 use Rattle.std.specs.Prelude.{ℕ, suc, ◌+◌, ◌-◌, ◌*◌, ◌/◌, ◌^◌, ◌<◌, ◌≤◌, ◌≡◌, ◌⊎◌, List, [], ◌∷◌, length}
-use Rattle.capnp_wire.specs.Encoding.{spelled, struct_word, list_word}
+use Rattle.capnp_wire.specs.Encoding.{spelled_number, struct_word, list_word}
 use Rattle.capnp_wire.specs.Locate.{Target, NoTarget, BadTarget, StructAt, ListAt, CompositeAt, target_at, list_words}
 use Rattle.capnp_wire.specs.Place.{bytes_at}
 
@@ -20,11 +20,11 @@ shape_of (ListAt segment start size count) = ListIn start size count
 shape_of (CompositeAt segment start count d p) = CompositeIn (start - 1) count d p
 
 -- the target of a shape in the segment with these bytes
-abbrev pub placed : List ℕ → Shape → Target
-placed bytes NoShape = NoTarget
-placed bytes (StructIn start d p) = StructAt bytes start d p
-placed bytes (ListIn start size count) = ListAt bytes start size count
-placed bytes (CompositeIn tag count d p) = CompositeAt bytes (tag + 1) count d p
+abbrev pub shape_target : List ℕ → Shape → Target
+shape_target bytes NoShape = NoTarget
+shape_target bytes (StructIn start d p) = StructAt bytes start d p
+shape_target bytes (ListIn start size count) = ListAt bytes start size count
+shape_target bytes (CompositeIn tag count d p) = CompositeAt bytes (tag + 1) count d p
 
 -- what the pointer at a word leads to, where these bytes are the one segment
 unfoldable pub shape_at : List ℕ → ℕ → Shape
@@ -37,11 +37,11 @@ word_count bytes = length bytes / 8
 -- ---- the words of a target ----
 
 -- a word lies in it; the tag of a composite list belongs to it
-abbrev pub IsWithin : Shape → ℕ → Type 0
-IsWithin NoShape k = ⊥
-IsWithin (StructIn start d p) k = (start ≤ k) × (k < start + (d + p))
-IsWithin (ListIn start size count) k = (start ≤ k) × (k < start + list_words size count)
-IsWithin (CompositeIn tag count d p) k = (tag ≤ k) × (k < tag + 1 + count * (d + p))
+abbrev pub IsWordWithin : Shape → ℕ → Type 0
+IsWordWithin NoShape k = ⊥
+IsWordWithin (StructIn start d p) k = (start ≤ k) × (k < start + (d + p))
+IsWordWithin (ListIn start size count) k = (start ≤ k) × (k < start + list_words size count)
+IsWordWithin (CompositeIn tag count d p) k = (tag ≤ k) × (k < tag + 1 + count * (d + p))
 
 -- where it ends
 abbrev pub end_of : Shape → ℕ
@@ -68,7 +68,7 @@ IsTagOf (CompositeIn tag count d p) k = k ≡ tag
 
 -- a word is spelled there
 abbrev pub IsWordAt : List ℕ → ℕ → ℕ → Type 0
-IsWordAt bytes w word = (8 * suc w ≤ length bytes) × (bytes_at bytes w 8 ≡ spelled 8 word)
+IsWordAt bytes w word = (8 * suc w ≤ length bytes) × (bytes_at bytes w 8 ≡ spelled_number 8 word)
 
 -- The word is the pointer to that target, which lies inside and after it. A struct of size zero lies at its pointer.
 abbrev pub Points : List ℕ → ℕ → Shape → Type 0

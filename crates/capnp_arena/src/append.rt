@@ -1,6 +1,6 @@
 //! Words, bytes and bits at the end of bytes.
 ghost use Rattle.std.specs.Prelude.{IfOk, OnErr, drop, replicate, take, ◌*◌, ◌++◌, ◌+◌, ◌<◌, ◌^◌, ◌≡◌, ◌≤◌, length};
-ghost use Rattle.capnp_wire.specs.Encoding.{bits_number, packed, padded, spelled};
+ghost use Rattle.capnp_wire.specs.Encoding.{bits_number, packed_bits, padded_bytes, spelled_number};
 ghost use Rattle.capnp_wire.specs.Locate.{list_words};
 ghost use Rattle.capnp_wire.specs.Place.{bits_from, bytes_at};
 
@@ -9,13 +9,13 @@ use std::alloc::AllocError;
 pub(crate) type Appended = std::result::Result<(), AllocError>;
 
 pub(crate) fn append_word(out: &mut Vec<u8>, word: u64) -> Appended
-    ensures { IfOk result (λ _. out.new.items ≡ out.old.items ++ spelled 8 word) }
+    ensures { IfOk result (λ _. out.new.items ≡ out.old.items ++ spelled_number 8 word) }
 {
     out.extend_from_slice(&word.to_le_bytes())
 }
 
 pub(crate) fn append_half(out: &mut Vec<u8>, half: u32) -> Appended
-    ensures { IfOk result (λ _. out.new.items ≡ out.old.items ++ spelled 4 half) }
+    ensures { IfOk result (λ _. out.new.items ≡ out.old.items ++ spelled_number 4 half) }
 {
     out.extend_from_slice(&half.to_le_bytes())
 }
@@ -36,7 +36,7 @@ pub(crate) fn append_few_zeros(out: &mut Vec<u8>, count: usize) -> Appended
 /// Bytes, and zeros up to a whole word.
 #[inline(always)]
 pub(crate) fn append_padded(out: &mut Vec<u8>, bytes: &[u8]) -> Appended
-    ensures { IfOk result (λ _. out.new.items ≡ out.old.items ++ padded bytes.now) }
+    ensures { IfOk result (λ _. out.new.items ≡ out.old.items ++ padded_bytes bytes.now) }
 {
     out.extend_from_slice(bytes)?;
     let over = bytes.len() % 8;
@@ -65,7 +65,7 @@ pub(crate) fn get_bits(bits: &[u8], count: u32, k: usize) -> u8
 #[inline(never)]
 pub(crate) fn append_bits(out: &mut Vec<u8>, bits: &[u8], count: u32) -> Appended
     ensures { IfOk result (λ _. out.new.items
-        ≡ out.old.items ++ packed (8 * list_words 1 count) (bits_from bits.now 0 count)) }
+        ≡ out.old.items ++ packed_bits (8 * list_words 1 count) (bits_from bits.now 0 count)) }
 {
     let size = 8 * ((count as usize + 63) / 64);
     for k in 0..size {

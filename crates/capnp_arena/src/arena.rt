@@ -107,11 +107,11 @@ fn get_list_words(size: ElementSize, count: u32) -> usize
 impl Arena {
     ghost use Rattle.std.specs.Prelude.{IfErr, IfOk, IsTrue, OnErr, OnOk, bit_xor, ◌↔◌, ◌⊎◌, ◌≢◌, ◌∷◌, [], ◌+◌, ◌++◌, ◌-◌, ◌≤◌, replicate};
     ghost use Rattle.capnp_wire.specs.Edits.{IsRoomRefusal, with_bytes, with_number, zero_list, zero_struct, zero_structs};
-    ghost use Rattle.capnp_wire.specs.Encoding.{spelled};
+    ghost use Rattle.capnp_wire.specs.Encoding.{spelled_number};
     ghost use Rattle.capnp_wire.specs.Place.{struct_tree};
     ghost use Rattle.capnp_wire.specs.Tree.{Null, Numbers};
     ghost use Rattle.capnp_device.specs.declared.error.ErrorKind.TheVariants.{OutOfMemory};
-    ghost use Rattle.capnp_arena.specs.Made.{IsMade, filled_up};
+    ghost use Rattle.capnp_arena.specs.Made.{IsObjectMade, filled_up};
     ghost use Rattle.capnp_arena.specs.Segment.{segment};
     ghost use Rattle.capnp_arena.specs.Shape.{CompositeIn, ListIn, StructIn, shape_at, word_count};
     ghost use Rattle.capnp_arena.specs.Forest.{Changes, Forest, PartChanges, Planted, struct_from, tree};
@@ -196,7 +196,7 @@ impl Arena {
     fn make(&mut self, at: usize, word: u64, words: usize) -> Result<()>
         requires inside { at < word_count (segment self.old) }
         requires few { words < 2 ^ 32 }
-        ensures made { IfOk result (λ _. IsMade (segment self.old) (segment self.new)
+        ensures made { IfOk result (λ _. IsObjectMade (segment self.old) (segment self.new)
             (replicate (8 * words) 0) at word) }
         ensures kind { IfErr result (λ e. e.kind ≡ OutOfMemory) }
         ensures refused { OnErr result (segment self.new ≡ segment self.old) }
@@ -220,7 +220,7 @@ impl Arena {
         requires inside { at < word_count (segment self.old) }
         requires few { words < 2 ^ 32 }
         requires room { length content.now ≤ 8 * words }
-        ensures made { IfOk result (λ _. IsMade (segment self.old) (segment self.new)
+        ensures made { IfOk result (λ _. IsObjectMade (segment self.old) (segment self.new)
             (filled_up words content.now) at word) }
         ensures kind { IfErr result (λ e. e.kind ≡ OutOfMemory) }
         ensures refused { OnErr result (segment self.new ≡ segment self.old) }
@@ -237,8 +237,8 @@ impl Arena {
     fn make_tagged(&mut self, at: usize, word: u64, words: usize, tag: u64) -> Result<()>
         requires inside { at < word_count (segment self.old) }
         requires few { (0 < words) × (words < 2 ^ 32) }
-        ensures made { IfOk result (λ _. IsMade (segment self.old) (segment self.new)
-            (filled_up words (spelled 8 tag)) at word) }
+        ensures made { IfOk result (λ _. IsObjectMade (segment self.old) (segment self.new)
+            (filled_up words (spelled_number 8 tag)) at word) }
         ensures kind { IfErr result (λ e. e.kind ≡ OutOfMemory) }
         ensures refused { OnErr result (segment self.new ≡ segment self.old) }
     {

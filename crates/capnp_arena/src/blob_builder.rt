@@ -38,7 +38,7 @@ impl Arena {
     ghost use Rattle.capnp_wire.specs.Reading.{as_data, as_text};
     ghost use Rattle.capnp_arena.specs.Blobs.{IsFront, bytes_found, with_front};
     ghost use Rattle.capnp_arena.specs.Forest.{Changes, Forest, tree};
-    ghost use Rattle.capnp_arena.specs.Parts.{LendsPart, with_part};
+    ghost use Rattle.capnp_arena.specs.Parts.{LendsPart, with_struct_part};
     ghost use Rattle.capnp_arena.specs.Segment.{segment};
 
     /// So many bytes from a word on, as they stand. The message ends with what is left in them.
@@ -128,7 +128,7 @@ impl Arena {
         ensures long { length result.now ≡ count }
         ensures leaves { (left : List ℕ) → length left ≡ count
             → Leaves at (with_front left (tree (segment self.old) at)) (segment self.old)
-            (segment (with_part self.old start left)) }
+            (segment (with_struct_part self.old start left)) }
     {
         self.part_mut(start, count)
     }
@@ -144,7 +144,7 @@ impl Arena {
         ensures long { length result.now ≡ count }
         ensures leaves { (left : List ℕ) → length left ≡ count
             → Leaves at (Numbers 1 (left ++ drop count (bytes_at (segment self.old) list.start list.count)))
-            (segment self.old) (segment (with_part self.old list.start left)) }
+            (segment self.old) (segment (with_struct_part self.old list.start left)) }
     {
         self.part_mut(list.start, count)
     }
@@ -156,7 +156,7 @@ impl<'a> BlobBuilder<'a> {
     ghost use Rattle.capnp_arena.specs.Blobs.{IsBlob, blob_bytes, with_front};
     ghost use Rattle.capnp_arena.specs.Forest.{tree};
     ghost use Rattle.capnp_arena.specs.Leaves.{Leaves};
-    ghost use Rattle.capnp_arena.specs.Parts.{LendsPart, with_part};
+    ghost use Rattle.capnp_arena.specs.Parts.{LendsPart, with_struct_part};
     ghost use Rattle.capnp_arena.specs.Segment.{segment};
 
     /// How many bytes there are.
@@ -175,7 +175,7 @@ impl<'a> BlobBuilder<'a> {
         ensures long { length result.now ≡ self.entry.count }
         ensures leaves { (left : List ℕ) → length left ≡ self.entry.count
             → Leaves self.entry.at (with_front left (tree (segment self.entry.arena.now) self.entry.at))
-            (segment self.entry.arena.now) (segment (with_part self.entry.arena.now self.entry.start left)) }
+            (segment self.entry.arena.now) (segment (with_struct_part self.entry.arena.now self.entry.start left)) }
     {
         let BlobBuilder {
             arena,
@@ -193,12 +193,12 @@ impl<'a> PointerBuilder<'a> {
     ghost use Rattle.capnp_wire.specs.Place.{bytes_at};
     ghost use Rattle.capnp_wire.specs.Tree.{Numbers};
     ghost use Rattle.capnp_arena.specs.Leaves.{Leaves};
-    ghost use Rattle.capnp_arena.specs.Parts.{LendsPart, with_part};
+    ghost use Rattle.capnp_arena.specs.Parts.{LendsPart, with_struct_part};
     ghost use Rattle.capnp_wire.specs.Edits.{IsRoomRefusal};
     ghost use Rattle.capnp_wire.specs.Reading.{as_data, as_text};
     ghost use Rattle.capnp_arena.specs.Blobs.{BlobRests, IsBlob, blob_bytes, bytes_built};
     ghost use Rattle.capnp_arena.specs.Forest.{Changes, tree};
-    ghost use Rattle.capnp_arena.specs.Handles.{IsPointer, pointer_tree};
+    ghost use Rattle.capnp_arena.specs.Handles.{IsBuiltPointer, built_pointer_tree};
     ghost use Rattle.capnp_arena.specs.Segment.{segment};
     ghost use Rattle.capnp_arena.specs.Shape.{ListIn, shape_at, word_count};
 
@@ -207,13 +207,13 @@ impl<'a> PointerBuilder<'a> {
     /// Refused with `WrongPointerKind` for a struct, and with `WrongElementSize` for another list. Nothing has changed
     /// then.
     pub fn get_data_mut(self) -> Result<BlobBuilder<'a>>
-        requires forest { IsPointer self }
+        requires forest { IsBuiltPointer self }
         ensures* rests { sem 𝓛 (BlobRests self.entry.arena result) }
         ensures same { IfOk result (λ b. b.arena.ghost_name ≡ self.entry.arena.ghost_name) }
         ensures now { IfOk result (λ b. b.arena.now ≡ self.entry.arena.now) }
         ensures at { IfOk result (λ b. b.at ≡ self.entry.at) }
         ensures there { IfOk result IsBlob }
-        ensures bytes { bytes_built result ≡ as_data (pointer_tree self.entry) }
+        ensures bytes { bytes_built result ≡ as_data (built_pointer_tree self.entry) }
     {
         let PointerBuilder { arena, at } = self;
         let Bytes { start, count } = arena.find_data(at)?;
@@ -231,13 +231,13 @@ impl<'a> PointerBuilder<'a> {
     /// Refused as `get_data_mut`, and with `TextNotTerminated` where the list is empty or its last byte is not zero.
     /// Nothing has changed then.
     pub fn get_text_mut(self) -> Result<BlobBuilder<'a>>
-        requires forest { IsPointer self }
+        requires forest { IsBuiltPointer self }
         ensures* rests { sem 𝓛 (BlobRests self.entry.arena result) }
         ensures same { IfOk result (λ b. b.arena.ghost_name ≡ self.entry.arena.ghost_name) }
         ensures now { IfOk result (λ b. b.arena.now ≡ self.entry.arena.now) }
         ensures at { IfOk result (λ b. b.at ≡ self.entry.at) }
         ensures there { IfOk result IsBlob }
-        ensures bytes { bytes_built result ≡ as_text (pointer_tree self.entry) }
+        ensures bytes { bytes_built result ≡ as_text (built_pointer_tree self.entry) }
     {
         let PointerBuilder { arena, at } = self;
         let Bytes { start, count } = arena.find_text(at)?;
@@ -308,7 +308,7 @@ impl<'a> PointerBuilder<'a> {
     /// The first bytes of the list of bytes that stands here, for as long as the builder would be there. The message
     /// ends with what is left in them (`leaves`).
     pub fn bytes_mut(self, list: ListPlace, count: usize) -> &'a mut [u8]
-        requires forest { IsPointer self }
+        requires forest { IsBuiltPointer self }
         requires there { shape_at (segment self.arena.now) self.at ≡ ListIn list.start 2 list.count }
         requires inside { count ≤ list.count }
         ensures* lends { sem 𝓛 (LendsPart self.entry.arena list.start result) }
@@ -317,7 +317,7 @@ impl<'a> PointerBuilder<'a> {
         ensures leaves { (left : List ℕ) → length left ≡ count
             → Leaves self.entry.at (Numbers 1 (left ++ drop count
             (bytes_at (segment self.entry.arena.now) list.start list.count))) (segment self.entry.arena.now)
-            (segment (with_part self.entry.arena.now list.start left)) }
+            (segment (with_struct_part self.entry.arena.now list.start left)) }
     {
         let PointerBuilder { arena, at } = self;
         arena.bytes_mut(at, list, count)

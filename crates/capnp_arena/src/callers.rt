@@ -3,7 +3,7 @@ ghost use Rattle.std.specs.Prelude.{IfErr, OnErr, OnOk, length, replicate, ◌*�
 ghost use Rattle.capnp_device.specs.declared.error.ErrorKind.TheVariants.{OutOfMemory};
 ghost use Rattle.capnp_wire.specs.Standing.{struct_of};
 ghost use Rattle.capnp_wire.specs.Words.{first_fault_of_all};
-ghost use Rattle.capnp_wire.specs.Edits.{IsCopyRefusal, fitted, with_bytes, with_number, with_pointer_tree, zero_struct};
+ghost use Rattle.capnp_wire.specs.Edits.{IsCopyRefusal, fitted_struct, with_bytes, with_number, with_pointer_tree, zero_struct};
 ghost use Rattle.capnp_wire.specs.Elements.{with_struct_element};
 ghost use Rattle.capnp_wire.specs.Place.{struct_tree};
 ghost use Rattle.capnp_arena.specs.Segment.{segment};
@@ -96,7 +96,7 @@ pub fn refill(arena: &mut Arena, at: usize, place: Place, source: &StructReader<
         ≡ StructIn place.start place.data_words place.pointers) }
     ensures changes { OnOk result (Changes at (segment arena.old) (segment arena.new)) }
     ensures tree { OnOk result (tree (segment arena.new) at
-        ≡ struct_tree (fitted (8 * place.data_words) place.pointers (struct_of source.now))) }
+        ≡ struct_tree (fitted_struct (8 * place.data_words) place.pointers (struct_of source.now))) }
     ensures cause { IfErr result (λ e. IsCopyRefusal e (first_fault_of_all (struct_of source.now).pointers)) }
     ensures refused { OnErr result (segment arena.new ≡ segment arena.old) }
 {

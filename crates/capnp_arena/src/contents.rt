@@ -1,7 +1,7 @@
 //! What a struct of the segment holds, replaced by what another one does: the struct keeps its place and its size.
 ghost use Rattle.std.specs.Prelude.{IfErr, None, OnErr, OnOk, replicate, take, ◌*◌, ◌++◌, ◌+◌, ◌-◌, ◌/◌, ◌≡◌, ◌≤◌, length};
-ghost use Rattle.capnp_wire.specs.Edits.{IsCopyRefusal, fitted};
-ghost use Rattle.capnp_wire.specs.Filling.{put, with_encoded_element, with_pointers};
+ghost use Rattle.capnp_wire.specs.Edits.{IsCopyRefusal, fitted_struct};
+ghost use Rattle.capnp_wire.specs.Filling.{bytes_with, with_encoded_element, with_pointers};
 ghost use Rattle.capnp_wire.specs.Found.{parts_tree, pointer_trees};
 ghost use Rattle.capnp_wire.specs.Standing.{struct_of};
 ghost use Rattle.capnp_wire.specs.WellFormed.{AreWellFormed, IsWellFormedStruct};
@@ -26,7 +26,7 @@ use capnp_wire::row::Pointers;
 #[inline(always)]
 fn put_zeros(out: &mut Vec<u8>, at: usize, count: usize)
     requires { at + count ≤ length out.old.items }
-    ensures put { out.new.items ≡ put at (replicate count 0) out.old.items }
+    ensures put { out.new.items ≡ bytes_with at (replicate count 0) out.old.items }
     ensures long { length out.new.items ≡ length out.old.items }
 {
     out[at..at + count].fill(0);
@@ -35,7 +35,7 @@ fn put_zeros(out: &mut Vec<u8>, at: usize, count: usize)
 /// The bytes from an index on replaced by what fits of others, with zeros after that.
 fn put_fitted(out: &mut Vec<u8>, at: usize, count: usize, bytes: &[u8])
     requires { at + count ≤ length out.old.items }
-    ensures put { out.new.items ≡ put at (take count bytes.now ++ replicate
+    ensures put { out.new.items ≡ bytes_with at (take count bytes.now ++ replicate
         (count - length bytes.now) 0) out.old.items }
     ensures long { length out.new.items ≡ length out.old.items }
 {
@@ -89,7 +89,7 @@ impl Arena {
         requires held { IsWellFormedStruct (parts_tree parts) }
         ensures copy { OnOk result (segment self.new
             ≡ with_encoded_element (8 * place.start)
-            (fitted (8 * place.data_words) place.pointers (parts_tree parts.entry)) (segment self.old)) }
+            (fitted_struct (8 * place.data_words) place.pointers (parts_tree parts.entry)) (segment self.old)) }
         ensures sound { OnOk result (first_fault_of_all (fitted_row place.pointers (parts_tree parts.entry).pointers)
             ≡ None) }
         ensures cause { IfErr result (λ e. IsCopyRefusal e
@@ -130,7 +130,7 @@ impl Arena {
         ensures changes { OnOk result (PartChanges (StructIn place.start place.data_words place.pointers)
             (segment self.old) (segment self.new)) }
         ensures tree { OnOk result (struct_from (segment self.new) place.start place.data_words place.pointers ≡
-            fitted (8 * place.data_words) place.pointers (struct_of source.now)) }
+            fitted_struct (8 * place.data_words) place.pointers (struct_of source.now)) }
         ensures sound { OnOk result (first_fault_of_all (struct_of source.now).pointers ≡ None) }
         ensures cause { IfErr result (λ e. IsCopyRefusal e (first_fault_of_all (struct_of source.now).pointers)) }
         ensures refused { OnErr result (segment self.new ≡ segment self.old) }

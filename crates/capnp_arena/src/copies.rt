@@ -25,7 +25,7 @@ fn room_of_copy(pointer: Pointer<'_>) -> usize {
 
 impl Arena {
     ghost use Rattle.std.specs.Prelude.{IfErr, None, OnErr, OnOk, suc, ◌+◌, ◌-◌, ◌*◌, ◌/◌, ◌<◌, ◌≡◌, length};
-    ghost use Rattle.capnp_wire.specs.Edits.{IsCopyRefusal, rounded};
+    ghost use Rattle.capnp_wire.specs.Edits.{IsCopyRefusal, rounded_struct};
     ghost use Rattle.capnp_wire.specs.Encoding.{bytes_of, encoding_of, pointer_word};
     ghost use Rattle.capnp_wire.specs.Found.{found_tree, parts_tree};
     ghost use Rattle.capnp_wire.specs.Place.{struct_tree};
@@ -33,7 +33,7 @@ impl Arena {
     ghost use Rattle.capnp_wire.specs.WellFormed.{IsWellFormed, IsWellFormedStruct};
     ghost use Rattle.capnp_wire.specs.Words.{first_fault, first_fault_of_all};
     ghost use Rattle.capnp_arena.specs.Forest.{Changes, Forest, tree};
-    ghost use Rattle.capnp_arena.specs.Made.{IsMade};
+    ghost use Rattle.capnp_arena.specs.Made.{IsObjectMade};
     ghost use Rattle.capnp_arena.specs.Segment.{segment};
     ghost use Rattle.capnp_arena.specs.Shape.{word_count};
 
@@ -42,7 +42,7 @@ impl Arena {
     fn copy_found(&mut self, at: usize, found: Found<'_>) -> Result<()>
         requires inside { at < word_count (segment self.old) }
         requires held { IsWellFormed (found_tree found) }
-        ensures made { OnOk result (IsMade (segment self.old) (segment self.new) (bytes_of (found_tree found.entry)) at
+        ensures made { OnOk result (IsObjectMade (segment self.old) (segment self.new) (bytes_of (found_tree found.entry)) at
             (pointer_word (word_count (segment self.old) - suc at) (found_tree found.entry))) }
         ensures sound { OnOk result (first_fault (found_tree found.entry) ≡ None) }
         ensures cause { IfErr result (λ e. IsCopyRefusal e (first_fault (found_tree found.entry))) }
@@ -66,9 +66,9 @@ impl Arena {
     fn copy_parts(&mut self, at: usize, parts: StructParts<'_>) -> Result<()>
         requires inside { at < word_count (segment self.old) }
         requires held { IsWellFormedStruct (parts_tree parts) }
-        ensures made { OnOk result (IsMade (segment self.old) (segment self.new)
-            (bytes_of (struct_tree (rounded (parts_tree parts.entry)))) at
-            (pointer_word (word_count (segment self.old) - suc at) (struct_tree (rounded (parts_tree parts.entry))))) }
+        ensures made { OnOk result (IsObjectMade (segment self.old) (segment self.new)
+            (bytes_of (struct_tree (rounded_struct (parts_tree parts.entry)))) at
+            (pointer_word (word_count (segment self.old) - suc at) (struct_tree (rounded_struct (parts_tree parts.entry))))) }
         ensures sound { OnOk result (first_fault_of_all (parts_tree parts.entry).pointers ≡ None) }
         ensures cause { IfErr result (λ e. IsCopyRefusal e (first_fault_of_all (parts_tree parts.entry).pointers)) }
         ensures refused { OnErr result (segment self.new ≡ segment self.old) }
@@ -112,7 +112,7 @@ impl Arena {
     pub fn set_struct(&mut self, at: usize, source: &StructReader<'_>) -> Result<()>
         requires inside { at < word_count (segment self.old) }
         ensures forest { OnOk result (Forest (segment self.new) at) }
-        ensures tree { OnOk result (tree (segment self.new) at ≡ struct_tree (rounded (struct_of source.now))) }
+        ensures tree { OnOk result (tree (segment self.new) at ≡ struct_tree (rounded_struct (struct_of source.now))) }
         ensures changes { OnOk result (Changes at (segment self.old) (segment self.new)) }
         ensures sound { OnOk result (first_fault_of_all (struct_of source.now).pointers ≡ None) }
         ensures cause { IfErr result (λ e. IsCopyRefusal e (first_fault_of_all (struct_of source.now).pointers)) }

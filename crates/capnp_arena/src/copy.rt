@@ -2,15 +2,15 @@
 //! to, in their order. Room is left for a row of pointers, and each is put there when its target is due. A message in
 //! memory holds no fault leaf, so what has one is refused.
 ghost use Rattle.std.specs.Prelude.{IfErr, IfOk, IsSome, IsTrue, None, OnOk, suc, ◌*◌, ◌++◌, ◌+◌, ◌-◌, ◌/◌, ◌<◌, ◌^◌, ◌≡◌, ◌≤◌, length};
-ghost use Rattle.capnp_wire.specs.Edits.{IsCopyRefusal, rounded};
-ghost use Rattle.capnp_wire.specs.Encoding.{bytes_of, bytes_of_all, list_word, number_size, pointer_row, pointer_word, spelled};
-ghost use Rattle.capnp_wire.specs.Filling.{put, with_encoded_element, with_encoded_elements, with_pointers};
+ghost use Rattle.capnp_wire.specs.Edits.{IsCopyRefusal, rounded_struct};
+ghost use Rattle.capnp_wire.specs.Encoding.{bytes_of, bytes_of_all, list_word, number_size, pointer_row, pointer_word, spelled_number};
+ghost use Rattle.capnp_wire.specs.Filling.{bytes_with, with_encoded_element, with_encoded_elements, with_pointers};
 ghost use Rattle.capnp_wire.specs.Found.{element_structs, found_tree, parts_tree, pointer_tree, pointer_trees};
 ghost use Rattle.capnp_wire.specs.Place.{struct_tree};
 ghost use Rattle.capnp_wire.specs.Tree.{Composite, struct_count, tree_count};
 ghost use Rattle.capnp_wire.specs.WellFormed.{AreElements, AreWellFormed, IsWellFormed, IsWellFormedStruct, is_width};
 ghost use Rattle.capnp_wire.specs.Words.{first_fault, first_fault_of_all, first_fault_of_elements};
-ghost use Rattle.capnp_arena.specs.Copies.{ArePlain, Spares};
+ghost use Rattle.capnp_arena.specs.Copies.{ArePointerlessIn, Spares};
 ghost use Rattle.capnp_arena.specs.Segment.{segment};
 ghost use Rattle.capnp_arena.specs.Shape.{word_count};
 
@@ -48,7 +48,7 @@ fn get_number_size(width: u8) -> u64
 pub(crate) fn point_to_struct(gap: u64, parts: StructParts<'_>) -> u64
     requires held { IsWellFormedStruct (parts_tree parts) }
     requires near { gap < 2 ^ 29 }
-    ensures { result ≡ pointer_word gap (struct_tree (rounded (parts_tree parts.entry))) }
+    ensures { result ≡ pointer_word gap (struct_tree (rounded_struct (parts_tree parts.entry))) }
 {
     let data_words = parts.data.len().div_ceil(8) as u64;
     let pointers = count_pointers(parts.pointers) as u64;
@@ -139,7 +139,7 @@ pub(crate) fn append_found(arena: &mut Arena, found: Found<'_>) -> Result<()>
 pub(crate) fn append_struct(arena: &mut Arena, parts: StructParts<'_>) -> Result<()>
     requires held { IsWellFormedStruct (parts_tree parts) }
     ensures copy { OnOk result (segment arena.new
-        ≡ segment arena.old ++ bytes_of (struct_tree (rounded (parts_tree parts.entry)))) }
+        ≡ segment arena.old ++ bytes_of (struct_tree (rounded_struct (parts_tree parts.entry)))) }
     ensures sound { OnOk result (first_fault_of_all (parts_tree parts.entry).pointers ≡ None) }
     ensures cause { IfErr result (λ e. IsCopyRefusal e (first_fault_of_all (parts_tree parts.entry).pointers)) }
     ensures kept { Spares 0 0 (segment arena.old) (segment arena.new) }
@@ -171,7 +171,7 @@ fn append_row(arena: &mut Arena, pointers: Pointers<'_>) -> Result<()>
 /// by their count alone, none.
 #[inline(always)]
 fn get_plain_bytes<'a>(size: StructSize, elements: Elements<'a>) -> Option<&'a [u8]>
-    ensures plain { ArePlain result size (element_structs size.data_words size.pointers elements.entry) }
+    ensures plain { ArePointerlessIn result size (element_structs size.data_words size.pointers elements.entry) }
     ensures told { size.pointers ≡ 0 → IsSome result }
 {
     if size.pointers != 0 {
@@ -222,7 +222,7 @@ pub(crate) fn fill_pointer(arena: &mut Arena, at: usize, pointer: Pointer<'_>) -
     requires held { IsWellFormed (pointer_tree pointer) }
     requires inside { at < word_count (segment arena.old) }
     ensures copy { OnOk result (segment arena.new ≡
-        put (8 * at) (spelled 8 (pointer_word (word_count (segment arena.old) - suc at) (pointer_tree pointer.entry)))
+        bytes_with (8 * at) (spelled_number 8 (pointer_word (word_count (segment arena.old) - suc at) (pointer_tree pointer.entry)))
         (segment arena.old) ++ bytes_of (pointer_tree pointer.entry)) }
     ensures sound { OnOk result (first_fault (pointer_tree pointer.entry) ≡ None) }
     ensures cause { IfErr result (λ e. IsCopyRefusal e (first_fault (pointer_tree pointer.entry))) }

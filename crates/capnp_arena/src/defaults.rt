@@ -17,14 +17,14 @@ use capnp_wire::size::{ElementSize, StructSize};
 impl Arena {
     ghost use Rattle.std.specs.Prelude.{IfErr, IfOk, IsOk, None, OnErr, OnOk, false, true, take, ◌+◌, ◌*◌, ◌/◌, ◌<◌, ◌≡◌, ◌≢◌, ◌≤◌};
     ghost use Rattle.capnp_wire.specs.Defaults.{default_tree, filled_list_refusal, filled_struct, filled_struct_refusal, filled_structs, filled_structs_refusal, list_default_refusal, list_refusal, or_default, struct_default_refusal, structs_default_refusal, taken_default, takes_default};
-    ghost use Rattle.capnp_wire.specs.Edits.{HoldsStruct, IsDueRefusal, extended, struct_in};
+    ghost use Rattle.capnp_wire.specs.Edits.{HoldsStruct, IsDueRefusal, extended_struct, struct_in};
     ghost use Rattle.capnp_wire.specs.Elements.{or_empty};
     ghost use Rattle.capnp_wire.specs.Reading.{is_null_tree};
     ghost use Rattle.capnp_wire.specs.Standing.{tree_of};
     ghost use Rattle.capnp_wire.specs.StructLists.{HoldsStructs, struct_list};
     ghost use Rattle.capnp_arena.specs.Listed.{list_shape, listed_tree};
-    ghost use Rattle.capnp_wire.specs.Encoding.{spelled};
-    ghost use Rattle.capnp_wire.specs.Filling.{put};
+    ghost use Rattle.capnp_wire.specs.Encoding.{spelled_number};
+    ghost use Rattle.capnp_wire.specs.Filling.{bytes_with};
     ghost use Rattle.capnp_wire.specs.Place.{struct_tree};
     ghost use Rattle.capnp_arena.specs.Forest.{Changes, Forest, tree};
     ghost use Rattle.capnp_arena.specs.Segment.{segment};
@@ -33,7 +33,7 @@ impl Arena {
     /// Takes back what was made at the pointer at a word, which was null when there were so many words.
     fn restore(&mut self, at: usize, words: usize)
         requires { (at < words) × (words ≤ word_count (segment self.old)) }
-        ensures { segment self.new ≡ put (8 * at) (spelled 8 0) (take (8 * words) (segment self.old)) }
+        ensures { segment self.new ≡ bytes_with (8 * at) (spelled_number 8 0) (take (8 * words) (segment self.old)) }
     {
         self.cut(words);
         put_word(&mut self.bytes, 8 * at, 0);
@@ -71,7 +71,7 @@ impl Arena {
         ensures forest { IfOk result (λ _. Forest (segment self.new) at) }
         ensures place { IfOk result (λ p. shape_at (segment self.new) at ≡ StructIn p.start p.data_words p.pointers) }
         ensures tree { IfOk result (λ _. tree (segment self.new) at
-            ≡ struct_tree (extended size (struct_in (tree_of default.entry)))) }
+            ≡ struct_tree (extended_struct size (struct_in (tree_of default.entry)))) }
         ensures changes { IfOk result (λ _. Changes at (segment self.old) (segment self.new)) }
         ensures within { OnOk result (struct_default_refusal (tree_of default.entry) ≡ None) }
         ensures cause { IfErr result (λ e. IsDueRefusal e (struct_default_refusal (tree_of default.entry))) }

@@ -1,7 +1,7 @@
 //! The bytes of the tree that a pointer leads to: each object before what its pointers lead to, in their order, and
 //! nothing that no pointer leads to. Room is left for a row of pointers, and each is put there when its target is due.
 ghost use Rattle.std.specs.Prelude.{IfOk, ⊤, ℕ, ◌*◌, ◌++◌, ◌+◌, ◌-◌, ◌/◌, ◌<◌, ◌^◌, ◌≡◌, ◌≤◌, length};
-ghost use Rattle.capnp_wire.specs.Encoding.{bytes_below_all, bytes_of, bytes_of_all, element_row, own_bytes, padded, pointer_row, struct_word, spelled};
+ghost use Rattle.capnp_wire.specs.Encoding.{bytes_below_all, bytes_of, bytes_of_all, element_row, own_bytes, padded_bytes, pointer_row, struct_word, spelled_number};
 ghost use Rattle.capnp_wire.specs.Filling.{HasRoom, HaveRoom, with_encoded_element, with_encoded_elements, with_pointers};
 ghost use Rattle.capnp_wire.specs.Locate.{list_words};
 ghost use Rattle.capnp_wire.specs.Place.{bytes_at, list_tree};
@@ -59,7 +59,7 @@ pub(crate) fn make_pointer(gap: u64, target: Target) -> u64
 fn append_part(out: &mut Vec<u8>, bytes: &[u8], start: usize, count: usize) -> Appended
     requires inside { start + (count + 7) / 8 ≤ word_count bytes.now }
     requires few { (start < 2 ^ 30) × (count < 2 ^ 32) }
-    ensures { IfOk result (λ _. out.new.items ≡ out.old.items ++ padded (bytes_at bytes.now start count)) }
+    ensures { IfOk result (λ _. out.new.items ≡ out.old.items ++ padded_bytes (bytes_at bytes.now start count)) }
 {
     match end_of_bytes(bytes, start, count) {
         Some(next) => out.extend_from_slice(get_part(bytes, start, 8 * (next - start))),

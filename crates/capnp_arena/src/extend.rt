@@ -1,6 +1,6 @@
 //! Words and bytes at the end of a segment. What is refused has added nothing.
 ghost use Rattle.std.specs.Prelude.{OnErr, OnOk, ◌++◌, ◌≡◌};
-ghost use Rattle.capnp_wire.specs.Encoding.{padded};
+ghost use Rattle.capnp_wire.specs.Encoding.{padded_bytes};
 
 use crate::append::{append_bits, append_few_zeros};
 use crate::arena::Arena;
@@ -12,7 +12,7 @@ use std::alloc::AllocError;
 /// Refused where memory is; then nothing has changed.
 #[inline(always)]
 fn append_whole(out: &mut Vec<u8>, bytes: &[u8]) -> std::result::Result<(), AllocError>
-    ensures longer { OnOk result (out.new.items ≡ out.old.items ++ padded bytes.now) }
+    ensures longer { OnOk result (out.new.items ≡ out.old.items ++ padded_bytes bytes.now) }
     ensures refused { OnErr result (out.new.items ≡ out.old.items) }
 {
     let end = out.len();
@@ -30,7 +30,7 @@ fn append_whole(out: &mut Vec<u8>, bytes: &[u8]) -> std::result::Result<(), Allo
 impl Arena {
     ghost use Rattle.std.specs.Prelude.{IfErr, take, ◌≤◌, ◌*◌, ◌+◌, ◌/◌, ◌<◌, ◌^◌, length};
     ghost use Rattle.capnp_device.specs.declared.error.ErrorKind.TheVariants.{OutOfMemory};
-    ghost use Rattle.capnp_wire.specs.Encoding.{packed, spelled};
+    ghost use Rattle.capnp_wire.specs.Encoding.{packed_bits, spelled_number};
     ghost use Rattle.capnp_wire.specs.Locate.{list_words};
     ghost use Rattle.capnp_wire.specs.Place.{bits_from};
     ghost use Rattle.capnp_arena.specs.Segment.{segment};
@@ -62,7 +62,7 @@ impl Arena {
     /// Refused with `OutOfMemory`, also where there would be more words than the limit.
     #[inline(always)]
     pub(crate) fn append_bytes(&mut self, bytes: &[u8]) -> Result<()>
-        ensures longer { OnOk result (segment self.new ≡ segment self.old ++ padded bytes.now) }
+        ensures longer { OnOk result (segment self.new ≡ segment self.old ++ padded_bytes bytes.now) }
         ensures limit { self.new.limit ≡ self.old.limit }
         ensures kind { IfErr result (λ e. e.kind ≡ OutOfMemory) }
         ensures refused { OnErr result (segment self.new ≡ segment self.old) }
@@ -78,7 +78,7 @@ impl Arena {
     ///
     /// Refused with `OutOfMemory`, also where there would be more words than the limit.
     pub(crate) fn append_word(&mut self, word: u64) -> Result<()>
-        ensures longer { OnOk result (segment self.new ≡ segment self.old ++ spelled 8 word) }
+        ensures longer { OnOk result (segment self.new ≡ segment self.old ++ spelled_number 8 word) }
         ensures kind { IfErr result (λ e. e.kind ≡ OutOfMemory) }
         ensures refused { OnErr result (segment self.new ≡ segment self.old) }
     {
@@ -92,7 +92,7 @@ impl Arena {
     #[inline(never)]
     pub(crate) fn append_bits(&mut self, bits: &[u8], count: u32) -> Result<()>
         ensures longer { OnOk result (segment self.new
-            ≡ segment self.old ++ packed (8 * list_words 1 count) (bits_from bits.now 0 count)) }
+            ≡ segment self.old ++ packed_bits (8 * list_words 1 count) (bits_from bits.now 0 count)) }
         ensures kind { IfErr result (λ e. e.kind ≡ OutOfMemory) }
         ensures refused { OnErr result (segment self.new ≡ segment self.old) }
     {

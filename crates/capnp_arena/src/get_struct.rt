@@ -1,7 +1,7 @@
 //! Structs that are got with at least a size.
 ghost use Rattle.std.specs.Prelude.{IfErr, IfOk, length, max, ◌*◌, ◌+◌, ◌/◌, ◌<◌, ◌^◌, ◌≡◌, ◌≤◌};
 ghost use Rattle.capnp_device.specs.declared.error.ErrorKind.TheVariants.{OutOfMemory};
-ghost use Rattle.capnp_wire.specs.Edits.{extended};
+ghost use Rattle.capnp_wire.specs.Edits.{extended_struct};
 ghost use Rattle.capnp_wire.specs.Encoding.{bytes_of};
 ghost use Rattle.capnp_wire.specs.WellFormed.{IsElement};
 ghost use Rattle.capnp_wire.specs.Place.{struct_tree};
@@ -48,9 +48,9 @@ fn encode_larger(
     requires room { word_count bytes.now + (size.data_words + size.pointers) ≤ limit }
     requires larger { (place.data_words ≤ size.data_words) × (place.pointers ≤ size.pointers) }
     ensures content { IfOk result (λ v. v.items
-        ≡ bytes_of (struct_tree (extended size (struct_from bytes.now place.start place.data_words place.pointers)))) }
+        ≡ bytes_of (struct_tree (extended_struct size (struct_from bytes.now place.start place.data_words place.pointers)))) }
     ensures held { IfOk result (λ _. IsElement size.data_words size.pointers
-        (extended size (struct_from bytes.now place.start place.data_words place.pointers))) }
+        (extended_struct size (struct_from bytes.now place.start place.data_words place.pointers))) }
     ensures words { IfOk result (λ v. (length v.items ≡ 8 * (length v.items / 8)) × (length v.items ≤ 8 * limit)) }
     ensures kind { IfErr result (λ e. e.kind ≡ OutOfMemory) }
 {
@@ -85,7 +85,7 @@ impl Arena {
         ensures forest { IfOk result (λ _. Forest (segment self.new) at) }
         ensures place { IfOk result (λ p. shape_at (segment self.new) at ≡ StructIn p.start p.data_words p.pointers) }
         ensures tree { IfOk result (λ _. tree (segment self.new) at
-            ≡ struct_tree (extended size (struct_from
+            ≡ struct_tree (extended_struct size (struct_from
             (segment self.old) place.start place.data_words place.pointers))) }
         ensures changes { IfOk result (λ _. Changes at (segment self.old) (segment self.new)) }
         ensures kind { IfErr result (λ e. e.kind ≡ OutOfMemory) }
@@ -122,7 +122,7 @@ impl Arena {
         ensures forest { IfOk result (λ _. Forest (segment self.new) at) }
         ensures place { IfOk result (λ p. shape_at (segment self.new) at ≡ StructIn p.start p.data_words p.pointers) }
         ensures tree { IfOk result (λ _. tree (segment self.new) at
-            ≡ struct_tree (extended size (struct_in (tree (segment self.old) at)))) }
+            ≡ struct_tree (extended_struct size (struct_in (tree (segment self.old) at)))) }
         ensures changes { IfOk result (λ _. Changes at (segment self.old) (segment self.new)) }
         ensures within { OnOk result (struct_refusal (tree (segment self.old) at) ≡ None) }
         ensures cause { IfErr result (λ e. IsStructRefusal e (tree (segment self.old) at)) }

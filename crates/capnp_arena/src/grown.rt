@@ -1,13 +1,13 @@
 //! The bytes of structs that are made larger: each one's data, with zeros after it, and its pointers, with nulls after
 //! these, and then what they lead to.
 ghost use Rattle.std.specs.Prelude.{IfOk, replicate, ◌*◌, ◌+◌, ◌<◌, ◌^◌, ◌≡◌, ◌≤◌, length};
-ghost use Rattle.capnp_wire.specs.Edits.{extended};
+ghost use Rattle.capnp_wire.specs.Edits.{extended_struct};
 ghost use Rattle.capnp_wire.specs.Encoding.{bytes_of};
-ghost use Rattle.capnp_wire.specs.Filling.{HasRoom, HaveRoom, put, with_encoded_element, with_encoded_elements};
+ghost use Rattle.capnp_wire.specs.Filling.{HasRoom, HaveRoom, bytes_with, with_encoded_element, with_encoded_elements};
 ghost use Rattle.capnp_wire.specs.Place.{struct_tree};
 ghost use Rattle.capnp_wire.specs.Tree.{Composite, structs_from};
 ghost use Rattle.capnp_wire.specs.Words.{words_below_all, words_of_all};
-ghost use Rattle.capnp_arena.specs.Grown.{ArePartsIn, IsPartIn, part_at};
+ghost use Rattle.capnp_arena.specs.Grown.{ArePartsIn, IsPartIn, grown_part_at};
 ghost use Rattle.capnp_arena.specs.Shape.{word_count};
 
 use crate::append::{Appended, append_room, append_word};
@@ -33,7 +33,7 @@ pub(crate) struct PartRow {
 #[inline(always)]
 fn put_zeros(out: &mut Vec<u8>, at: usize, count: usize)
     requires { at + count ≤ length out.old.items }
-    ensures put { out.new.items ≡ put at (replicate count 0) out.old.items }
+    ensures put { out.new.items ≡ bytes_with at (replicate count 0) out.old.items }
     ensures long { length out.new.items ≡ length out.old.items }
 {
     out[at..at + count].fill(0);
@@ -53,9 +53,9 @@ fn fill_grown(
     requires few { word_count bytes.now < 2 ^ 29 }
     requires fits { (row.data_count ≤ 8 * size.data_words) × (row.pointers ≤ size.pointers) }
     requires long { at + 8 * (size.data_words + size.pointers) ≤ length out.old.items }
-    requires room { HasRoom (at + 8 * size.data_words) (part_at bytes.now row index).pointers out.old.items }
+    requires room { HasRoom (at + 8 * size.data_words) (grown_part_at bytes.now row index).pointers out.old.items }
     ensures { IfOk result (λ _. out.new.items
-        ≡ with_encoded_element at (extended size (part_at bytes.now row index)) out.old.items) }
+        ≡ with_encoded_element at (extended_struct size (grown_part_at bytes.now row index)) out.old.items) }
 {
     let words = size.data_words as usize + size.pointers as usize;
     put_zeros(out, at, 8 * words);
@@ -85,10 +85,10 @@ fn fill_all_grown(
     requires few { word_count bytes.now < 2 ^ 29 }
     requires fits { (row.data_count ≤ 8 * size.data_words) × (row.pointers ≤ size.pointers) }
     requires room { HaveRoom size.data_words size.pointers at
-        (structs_from (λ i. extended size (part_at bytes.now row i)) 0 count) out.old.items }
+        (structs_from (λ i. extended_struct size (grown_part_at bytes.now row i)) 0 count) out.old.items }
     ensures { IfOk result (λ _. out.new.items
         ≡ with_encoded_elements (size.data_words + size.pointers) at
-        (structs_from (λ i. extended size (part_at bytes.now row i)) 0 count) out.old.items) }
+        (structs_from (λ i. extended_struct size (grown_part_at bytes.now row i)) 0 count) out.old.items) }
 {
     // of structs of size zero a list has its count alone, however many there are
     if size.data_words as usize + size.pointers as usize == 0 {
@@ -114,8 +114,8 @@ pub(crate) fn encode_grown(
     requires inside { ArePartsIn bytes.now row 1 }
     requires few { word_count bytes.now < 2 ^ 29 }
     requires fits { (row.data_count ≤ 8 * size.data_words) × (row.pointers ≤ size.pointers) }
-    requires small { size.data_words + size.pointers + words_of_all (part_at bytes.now row 0).pointers < 2 ^ 29 }
-    ensures { IfOk result (λ v. v.items ≡ bytes_of (struct_tree (extended size (part_at bytes.now row 0)))) }
+    requires small { size.data_words + size.pointers + words_of_all (grown_part_at bytes.now row 0).pointers < 2 ^ 29 }
+    ensures { IfOk result (λ v. v.items ≡ bytes_of (struct_tree (extended_struct size (grown_part_at bytes.now row 0)))) }
 {
     let mut out = Vec::new(alloc);
     append_room(&mut out, size.data_words as usize + size.pointers as usize)?;
@@ -137,10 +137,10 @@ pub(crate) fn encode_all_grown(
     requires few { (word_count bytes.now < 2 ^ 29) × (count < 2 ^ 29) }
     requires fits { (row.data_count ≤ 8 * size.data_words) × (row.pointers ≤ size.pointers) }
     requires small { count * (size.data_words + size.pointers) + words_below_all
-        (structs_from (λ i. extended size (part_at bytes.now row i)) 0 count) < 2 ^ 29 }
+        (structs_from (λ i. extended_struct size (grown_part_at bytes.now row i)) 0 count) < 2 ^ 29 }
     ensures { IfOk result (λ v. v.items ≡ bytes_of
         (Composite size.data_words size.pointers
-        (structs_from (λ i. extended size (part_at bytes.now row i)) 0 count))) }
+        (structs_from (λ i. extended_struct size (grown_part_at bytes.now row i)) 0 count))) }
 {
     let mut out = Vec::new(alloc);
     append_word(

@@ -8,7 +8,7 @@ ghost use Rattle.capnp_wire.specs.Place.{bytes_at, struct_tree};
 ghost use Rattle.capnp_wire.specs.Reading.{element_struct};
 ghost use Rattle.capnp_wire.specs.Tree.{Numbers};
 ghost use Rattle.capnp_arena.specs.Forest.{Changes, Forest, PartChanges, tree};
-ghost use Rattle.capnp_arena.specs.Handles.{IsStruct, built_struct, list_tree, part};
+ghost use Rattle.capnp_arena.specs.Handles.{IsBuiltStruct, built_struct_tree, built_list_tree, handle_words};
 ghost use Rattle.capnp_arena.specs.Leaves.{Leaves};
 ghost use Rattle.capnp_arena.specs.Message.{IsMessage, message_tree};
 ghost use Rattle.capnp_arena.specs.Segment.{segment};
@@ -45,16 +45,16 @@ pub fn build_struct(message: &mut Builder, size: StructSize, index: u16, text: &
 ///
 /// Refused as `set_text`; then nothing has changed.
 pub fn fill_struct(built: &mut StructBuilder<'_>, index: u16, text: &[u8], value: u64) -> Result<()>
-    requires planted { IsStruct built.old }
+    requires planted { IsBuiltStruct built.old }
     requires pointer { index < built.old.place.pointers }
     requires word { 0 < built.old.place.data_words }
     ensures same { built.new.arena.ghost_name ≡ built.old.arena.ghost_name }
     ensures place { built.new.place ≡ built.old.place }
-    ensures planted { IsStruct built.new }
-    ensures tree { OnOk result (built_struct built.new
-        ≡ with_bytes (with_pointer_tree (built_struct built.old) index (Numbers 1 (text.now ++ 0 ∷ [])))
-        (with_number 8 0 value (built_struct built.old).bytes)) }
-    ensures changes { PartChanges (part built.old.place) (segment built.old.arena.now) (segment built.new.arena.now) }
+    ensures planted { IsBuiltStruct built.new }
+    ensures tree { OnOk result (built_struct_tree built.new
+        ≡ with_bytes (with_pointer_tree (built_struct_tree built.old) index (Numbers 1 (text.now ++ 0 ∷ [])))
+        (with_number 8 0 value (built_struct_tree built.old).bytes)) }
+    ensures changes { PartChanges (handle_words built.old.place) (segment built.old.arena.now) (segment built.new.arena.now) }
     ensures cause { IfErr result (λ e. IsRoomRefusal e (2 ^ 29 ≤ length text.now + 1)) }
     ensures refused { OnErr result (segment built.new.arena.now ≡ segment built.old.arena.now) }
 {
@@ -85,13 +85,13 @@ pub fn set_text_at(pointer: PointerBuilder<'_>, text: &[u8]) -> Result<()>
 ///
 /// Refused as `set_text`; then nothing has changed.
 pub fn set_text_field(built: &mut StructBuilder<'_>, index: u16, text: &[u8]) -> Result<()>
-    requires planted { IsStruct built.old }
+    requires planted { IsBuiltStruct built.old }
     requires pointer { index < built.old.place.pointers }
     ensures same { built.new.arena.ghost_name ≡ built.old.arena.ghost_name }
     ensures place { built.new.place ≡ built.old.place }
-    ensures planted { IsStruct built.new }
-    ensures tree { OnOk result (built_struct built.new
-        ≡ with_pointer_tree (built_struct built.old) index (Numbers 1 (text.now ++ 0 ∷ []))) }
+    ensures planted { IsBuiltStruct built.new }
+    ensures tree { OnOk result (built_struct_tree built.new
+        ≡ with_pointer_tree (built_struct_tree built.old) index (Numbers 1 (text.now ++ 0 ∷ []))) }
     ensures cause { IfErr result (λ e. IsRoomRefusal e (2 ^ 29 ≤ length text.now + 1)) }
     ensures refused { OnErr result (segment built.new.arena.now ≡ segment built.old.arena.now) }
 {
@@ -103,12 +103,12 @@ pub fn set_text_field(built: &mut StructBuilder<'_>, index: u16, text: &[u8]) ->
 /// Refused as `set_text`; then nothing has changed.
 pub fn set_text_element(list: &mut ListBuilder<'_>, index: u32, text: &[u8]) -> Result<()>
     requires forest { Forest (segment list.old.arena.now) list.old.at }
-    requires pointer { HasPointer (list_tree list.old) index }
+    requires pointer { HasPointer (built_list_tree list.old) index }
     ensures same { list.new.arena.ghost_name ≡ list.old.arena.ghost_name }
     ensures at { list.new.at ≡ list.old.at }
     ensures list { list.new.list ≡ list.old.list }
     ensures leaves { OnOk result (Leaves list.old.at
-        (with_pointer_element index (Numbers 1 (text.now ++ 0 ∷ [])) (list_tree list.old)) (segment list.old.arena.now)
+        (with_pointer_element index (Numbers 1 (text.now ++ 0 ∷ [])) (built_list_tree list.old)) (segment list.old.arena.now)
         (segment list.new.arena.now)) }
     ensures cause { IfErr result (λ e. IsRoomRefusal e (2 ^ 29 ≤ length text.now + 1)) }
     ensures refused { OnErr result (segment list.new.arena.now ≡ segment list.old.arena.now) }

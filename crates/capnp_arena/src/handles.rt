@@ -6,7 +6,7 @@
 //! its calls of `&mut self` are to be known, let the message behind it hand one out, as
 //! `built.arena.pointer_field(place, 0)`.
 ghost use Rattle.std.specs.Prelude.{IfErr, OnErr, OnOk, ◌*◌, ◌+◌, ◌≡◌, ◌≤◌};
-ghost use Rattle.capnp_wire.specs.Edits.{IsStructRefusal, extended, struct_in, with_bytes, with_number};
+ghost use Rattle.capnp_wire.specs.Edits.{IsStructRefusal, extended_struct, struct_in, with_bytes, with_number};
 ghost use Rattle.capnp_wire.specs.Place.{struct_tree};
 ghost use Rattle.capnp_arena.specs.Forest.{Changes, Forest, tree};
 ghost use Rattle.capnp_arena.specs.Segment.{segment};
@@ -28,7 +28,7 @@ impl Arena {
     ghost use Rattle.capnp_wire.specs.Elements.{HasPointer, HasStruct, with_pointer_element, with_struct_element};
     ghost use Rattle.capnp_wire.specs.Reading.{element_pointer, element_struct};
     ghost use Rattle.capnp_arena.specs.Forest.{PartChanges, Planted, struct_from};
-    ghost use Rattle.capnp_arena.specs.Handles.{IsPointer, IsStruct, built_struct, part, pointer_tree};
+    ghost use Rattle.capnp_arena.specs.Handles.{IsBuiltPointer, IsBuiltStruct, built_struct_tree, handle_words, built_pointer_tree};
     ghost use Rattle.capnp_arena.specs.Leaves.{Leaves};
     ghost use Rattle.capnp_arena.specs.Message.{IsMessage, message_tree};
     ghost use Rattle.capnp_arena.specs.Shape.{StructIn, word_count};
@@ -41,8 +41,8 @@ impl Arena {
         ensures now { result.arena.now ≡ self.old }
         ensures at { result.at ≡ 0 }
         ensures inside { result.at < word_count (segment self.old) }
-        ensures forest { IsPointer result }
-        ensures tree { pointer_tree result ≡ message_tree self.old }
+        ensures forest { IsBuiltPointer result }
+        ensures tree { built_pointer_tree result ≡ message_tree self.old }
     {
         PointerBuilder { arena: self, at: 0 }
     }
@@ -91,8 +91,8 @@ impl Arena {
         ensures now { result.arena.now ≡ self.old }
         ensures at { result.at ≡ place.start + place.data_words + index }
         ensures inside { result.at < word_count (segment self.old) }
-        ensures forest { IsPointer result }
-        ensures tree { pointer_tree result ≡ nth_tree
+        ensures forest { IsBuiltPointer result }
+        ensures tree { built_pointer_tree result ≡ nth_tree
             (struct_from (segment self.old) place.start place.data_words place.pointers).pointers index }
         ensures leaves { (new : List ℕ) → Forest new result.at → Changes result.at (segment self.old) new
             → IsInPointer (segment self.old) new place.start place.data_words place.pointers index }
@@ -108,10 +108,10 @@ impl Arena {
         requires there { HasStruct (tree (segment self.old) at) index }
         ensures same { result.arena.ghost_name ≡ self.entry.ghost_name }
         ensures now { result.arena.now ≡ self.old }
-        ensures planted { IsStruct result }
-        ensures tree { built_struct result ≡ element_struct (tree (segment self.old) at) index }
-        ensures leaves { (new : List ℕ) → Planted new (part result.place)
-            → PartChanges (part result.place) (segment self.old) new
+        ensures planted { IsBuiltStruct result }
+        ensures tree { built_struct_tree result ≡ element_struct (tree (segment self.old) at) index }
+        ensures leaves { (new : List ℕ) → Planted new (handle_words result.place)
+            → PartChanges (handle_words result.place) (segment self.old) new
             → Leaves at
             (with_struct_element index
             (struct_from new result.place.start result.place.data_words result.place.pointers)
@@ -130,8 +130,8 @@ impl Arena {
         ensures same { result.arena.ghost_name ≡ self.entry.ghost_name }
         ensures now { result.arena.now ≡ self.old }
         ensures inside { result.at < word_count (segment self.old) }
-        ensures forest { IsPointer result }
-        ensures tree { pointer_tree result ≡ element_pointer (tree (segment self.old) at) index 1 }
+        ensures forest { IsBuiltPointer result }
+        ensures tree { built_pointer_tree result ≡ element_pointer (tree (segment self.old) at) index 1 }
         ensures leaves { (new : List ℕ) → Forest new result.at → Changes result.at (segment self.old) new
             → Leaves at (with_pointer_element index (tree new result.at) (tree (segment self.old) at))
             (segment self.old) new }
@@ -155,9 +155,9 @@ pub fn get_and_set<T: PrimitiveElement>(
     requires inside { (offset + 1) * T.width ≤ 8 * size.data_words }
     ensures forest { OnOk result (Forest (segment arena.new) at) }
     ensures tree { OnOk result (tree (segment arena.new) at
-        ≡ struct_tree (with_bytes (extended size (struct_in (tree (segment arena.old) at)))
+        ≡ struct_tree (with_bytes (extended_struct size (struct_in (tree (segment arena.old) at)))
         (with_number T.width offset (T.to_number value)
-        (extended size (struct_in (tree (segment arena.old) at))).bytes))) }
+        (extended_struct size (struct_in (tree (segment arena.old) at))).bytes))) }
     ensures changes { OnOk result (Changes at (segment arena.old) (segment arena.new)) }
     ensures cause { IfErr result (λ e. IsStructRefusal e (tree (segment arena.old) at)) }
     ensures refused { OnErr result (segment arena.new ≡ segment arena.old) }

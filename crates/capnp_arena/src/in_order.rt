@@ -1,8 +1,8 @@
 //! Whether a segment is the encoding of its message already: each target lies where the one before it ends, with zeros
 //! behind its last element, and no word is left over.
 ghost use Rattle.std.specs.Prelude.{IsTrue, drop, replicate, take, ◌*◌, ◌+◌, ◌-◌, ◌/◌, ◌<◌, ◌^◌, ◌≡◌, ◌≤◌, length};
-ghost use Rattle.capnp_wire.specs.Encoding.{encoding_of, own_bytes, packed, padded};
-ghost use Rattle.capnp_wire.specs.Locate.{element_size, kind, list_words, offset};
+ghost use Rattle.capnp_wire.specs.Encoding.{encoding_of, own_bytes, packed_bits, padded_bytes};
+ghost use Rattle.capnp_wire.specs.Locate.{element_size_number, pointer_kind, list_words, offset};
 ghost use Rattle.capnp_wire.specs.Place.{bits_from, bytes_at, list_tree};
 ghost use Rattle.capnp_arena.specs.Counts.{AreElementForests, AreForests};
 ghost use Rattle.capnp_arena.specs.Forest.{Forest, tree};
@@ -17,7 +17,7 @@ use capnp_wire::pointer::MEMORY_DEPTH;
 
 /// Whether bytes are those that hold so many bits.
 fn are_packed(bytes: &[u8], count: u32) -> bool
-    ensures { IsTrue result → packed (length bytes.now) (bits_from bytes.now 0 count) ≡ bytes.now }
+    ensures { IsTrue result → packed_bits (length bytes.now) (bits_from bytes.now 0 count) ≡ bytes.now }
 {
     for k in 0..bytes.len() {
         if bytes[k] != get_bits(bytes, count, k) {
@@ -44,7 +44,7 @@ pub(crate) fn end_of_bytes(bytes: &[u8], start: usize, count: usize) -> Option<u
     requires inside { start + (count + 7) / 8 ≤ word_count bytes.now }
     requires few { (start < 2 ^ 30) × (count < 2 ^ 32) }
     ensures { IfKnown result (λ next. (next ≡ start + (count + 7) / 8)
-        × (bytes_at bytes.now start (8 * (next - start)) ≡ padded (bytes_at bytes.now start count))) }
+        × (bytes_at bytes.now start (8 * (next - start)) ≡ padded_bytes (bytes_at bytes.now start count))) }
 {
     let end = start + count / 8;
     let over = count % 8;
@@ -93,7 +93,7 @@ fn end_of_plain(bytes: &[u8], start: usize, element_size: u8, count: u32) -> Opt
 #[inline(always)]
 fn leads_to_bytes(word: u64, gap: usize) -> bool
     requires near { gap < 2 ^ 30 }
-    ensures { IsTrue result → (kind word ≡ 1) × (element_size word ≡ 2) × (offset word ≡ gap) }
+    ensures { IsTrue result → (pointer_kind word ≡ 1) × (element_size_number word ≡ 2) × (offset word ≡ gap) }
 {
     word % (1 << 35) == (2 << 32) + 1 + 4 * gap as u64
 }

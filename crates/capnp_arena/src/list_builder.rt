@@ -30,7 +30,7 @@ impl<'a> ListBuilder<'a> {
     ghost use Rattle.capnp_wire.specs.Reading.{element_bit, element_number, element_pointer, element_struct, list_length};
     ghost use Rattle.capnp_wire.specs.Standing.{list_levels, list_of};
     ghost use Rattle.capnp_arena.specs.Forest.{Changes, Forest, PartChanges, Planted, struct_from, tree};
-    ghost use Rattle.capnp_arena.specs.Handles.{IsPointer, IsStruct, LentByList, built_struct, list_tree, part, pointer_tree};
+    ghost use Rattle.capnp_arena.specs.Handles.{IsBuiltPointer, IsBuiltStruct, LentByList, built_struct_tree, built_list_tree, handle_words, built_pointer_tree};
     ghost use Rattle.capnp_arena.specs.Leaves.{Leaves};
     ghost use Rattle.capnp_arena.specs.Listed.{list_shape, listed_tree};
     ghost use Rattle.capnp_arena.specs.Segment.{segment};
@@ -59,8 +59,8 @@ impl<'a> ListBuilder<'a> {
         ensures read { list_of result ≡ listed_tree
             (tree_below memory_depth (segment self.now.arena.now ∷ [])
             (segment self.now.arena.now) self.now.at) self.now.list }
-        ensures list { IsBelow memory_depth (list_tree self.now)
-            → list_of result ≡ listed_tree (list_tree self.now) self.now.list }
+        ensures list { IsBelow memory_depth (built_list_tree self.now)
+            → list_of result ≡ listed_tree (built_list_tree self.now) self.now.list }
         ensures levels { list_levels result ≡ 64 }
     {
         self.arena.get_list_reader(self.at, self.list)
@@ -75,8 +75,8 @@ impl<'a> ListBuilder<'a> {
         ensures read { list_of result ≡ listed_tree
             (tree_below memory_depth (segment self.entry.arena.now ∷ [])
             (segment self.entry.arena.now) self.entry.at) self.entry.list }
-        ensures list { IsBelow memory_depth (list_tree self.entry)
-            → list_of result ≡ listed_tree (list_tree self.entry) self.entry.list }
+        ensures list { IsBelow memory_depth (built_list_tree self.entry)
+            → list_of result ≡ listed_tree (built_list_tree self.entry) self.entry.list }
         ensures levels { list_levels result ≡ 64 }
     {
         let ListBuilder { arena, at, list } = self;
@@ -88,7 +88,7 @@ impl<'a> ListBuilder<'a> {
     pub fn len(&self) -> u32
         requires forest { Forest (segment self.now.arena.now) self.now.at }
         requires there { shape_at (segment self.now.arena.now) self.now.at ≡ list_shape self.now.list }
-        ensures { result ≡ list_length (list_tree self.now) }
+        ensures { result ≡ list_length (built_list_tree self.now) }
     {
         self.arena.count_elements(self.at, self.list)
     }
@@ -98,7 +98,7 @@ impl<'a> ListBuilder<'a> {
     pub fn is_empty(&self) -> bool
         requires forest { Forest (segment self.now.arena.now) self.now.at }
         requires there { shape_at (segment self.now.arena.now) self.now.at ≡ list_shape self.now.list }
-        ensures { result ≡ (list_length (list_tree self.now) == 0) }
+        ensures { result ≡ (list_length (built_list_tree self.now) == 0) }
     {
         self.arena.count_elements(self.at, self.list) == 0
     }
@@ -109,7 +109,7 @@ impl<'a> ListBuilder<'a> {
     pub fn get_element_size(&self) -> ElementSize
         requires forest { Forest (segment self.now.arena.now) self.now.at }
         requires there { shape_at (segment self.now.arena.now) self.now.at ≡ list_shape self.now.list }
-        ensures { result ≡ element_size_of (listed_tree (list_tree self.now) self.now.list) }
+        ensures { result ≡ element_size_of (listed_tree (built_list_tree self.now) self.now.list) }
     {
         self.arena.get_element_size(self.at, self.list)
     }
@@ -119,7 +119,7 @@ impl<'a> ListBuilder<'a> {
     pub fn get_bool_element(&self, index: u32) -> bool
         requires forest { Forest (segment self.now.arena.now) self.now.at }
         requires there { shape_at (segment self.now.arena.now) self.now.at ≡ list_shape self.now.list }
-        ensures { result ≡ element_bit (list_tree self.now) index }
+        ensures { result ≡ element_bit (built_list_tree self.now) index }
     {
         self.arena.get_bool_element(self.at, self.list, index)
     }
@@ -128,11 +128,11 @@ impl<'a> ListBuilder<'a> {
     #[inline(always)]
     pub fn set_bool_element(&mut self, index: u32, value: bool)
         requires forest { Forest (segment self.old.arena.now) self.old.at }
-        requires bit { HasBit (list_tree self.old) index }
+        requires bit { HasBit (built_list_tree self.old) index }
         ensures same { self.new.arena.ghost_name ≡ self.old.arena.ghost_name }
         ensures at { self.new.at ≡ self.old.at }
         ensures list { self.new.list ≡ self.old.list }
-        ensures leaves { Leaves self.old.at (with_bit_element index value (list_tree self.old))
+        ensures leaves { Leaves self.old.at (with_bit_element index value (built_list_tree self.old))
             (segment self.old.arena.now) (segment self.new.arena.now) }
         ensures long { length (segment self.new.arena.now) ≡ length (segment self.old.arena.now) }
     {
@@ -144,7 +144,7 @@ impl<'a> ListBuilder<'a> {
     pub fn get_data_element<T: PrimitiveElement>(&self, index: u32) -> T
         requires forest { Forest (segment self.now.arena.now) self.now.at }
         requires there { shape_at (segment self.now.arena.now) self.now.at ≡ list_shape self.now.list }
-        ensures { result ≡ T.of_number (element_number T.width (list_tree self.now) index) }
+        ensures { result ≡ T.of_number (element_number T.width (built_list_tree self.now) index) }
     {
         self.arena.get_data_element(self.at, self.list, index)
     }
@@ -154,12 +154,12 @@ impl<'a> ListBuilder<'a> {
     #[inline(always)]
     pub fn set_data_element<T: PrimitiveElement>(&mut self, index: u32, value: T)
         requires forest { Forest (segment self.old.arena.now) self.old.at }
-        requires number { HasNumber T.width (list_tree self.old) index }
+        requires number { HasNumber T.width (built_list_tree self.old) index }
         ensures same { self.new.arena.ghost_name ≡ self.old.arena.ghost_name }
         ensures at { self.new.at ≡ self.old.at }
         ensures list { self.new.list ≡ self.old.list }
         ensures leaves { Leaves self.old.at (with_number_element T.width index (T.to_number value)
-            (list_tree self.old)) (segment self.old.arena.now) (segment self.new.arena.now) }
+            (built_list_tree self.old)) (segment self.old.arena.now) (segment self.new.arena.now) }
         ensures long { length (segment self.new.arena.now) ≡ length (segment self.old.arena.now) }
     {
         self.arena.set_data_element(self.at, index, value);
@@ -169,15 +169,15 @@ impl<'a> ListBuilder<'a> {
     #[inline(always)]
     pub fn get_struct_element(self, index: u32) -> StructBuilder<'a>
         requires forest { Forest (segment self.arena.now) self.at }
-        requires there { HasStruct (list_tree self) index }
+        requires there { HasStruct (built_list_tree self) index }
         ensures same { result.arena.ghost_name ≡ self.entry.arena.ghost_name }
         ensures now { result.arena.now ≡ self.entry.arena.now }
-        ensures planted { IsStruct result }
-        ensures tree { built_struct result ≡ element_struct (list_tree self.entry) index }
-        ensures leaves { (new : List ℕ) → Planted new (part result.place)
-            → PartChanges (part result.place) (segment self.entry.arena.now) new
+        ensures planted { IsBuiltStruct result }
+        ensures tree { built_struct_tree result ≡ element_struct (built_list_tree self.entry) index }
+        ensures leaves { (new : List ℕ) → Planted new (handle_words result.place)
+            → PartChanges (handle_words result.place) (segment self.entry.arena.now) new
             → Leaves self.entry.at (with_struct_element index
-            (struct_from new result.place.start result.place.data_words result.place.pointers) (list_tree self.entry))
+            (struct_from new result.place.start result.place.data_words result.place.pointers) (built_list_tree self.entry))
             (segment self.entry.arena.now) new }
     {
         let ListBuilder { arena, at, list: _ } = self;
@@ -189,15 +189,15 @@ impl<'a> ListBuilder<'a> {
     #[inline(always)]
     pub fn struct_element_mut(&mut self, index: u32) -> StructBuilder<'_>
         requires forest { Forest (segment self.old.arena.now) self.old.at }
-        requires there { HasStruct (list_tree self.old) index }
+        requires there { HasStruct (built_list_tree self.old) index }
         ensures* lends { sem 𝓛 (LentByList self.entry result.arena) }
         ensures now { result.arena.now ≡ self.old.arena.now }
-        ensures planted { IsStruct result }
-        ensures tree { built_struct result ≡ element_struct (list_tree self.old) index }
-        ensures leaves { (new : List ℕ) → Planted new (part result.place)
-            → PartChanges (part result.place) (segment self.old.arena.now) new
+        ensures planted { IsBuiltStruct result }
+        ensures tree { built_struct_tree result ≡ element_struct (built_list_tree self.old) index }
+        ensures leaves { (new : List ℕ) → Planted new (handle_words result.place)
+            → PartChanges (handle_words result.place) (segment self.old.arena.now) new
             → Leaves self.old.at (with_struct_element index
-            (struct_from new result.place.start result.place.data_words result.place.pointers) (list_tree self.old))
+            (struct_from new result.place.start result.place.data_words result.place.pointers) (built_list_tree self.old))
             (segment self.old.arena.now) new }
     {
         let place = self.arena.get_struct_at(self.at, index);
@@ -209,14 +209,14 @@ impl<'a> ListBuilder<'a> {
     #[inline(always)]
     pub fn get_pointer_element(self, index: u32) -> PointerBuilder<'a>
         requires forest { Forest (segment self.arena.now) self.at }
-        requires pointer { HasPointer (list_tree self) index }
+        requires pointer { HasPointer (built_list_tree self) index }
         ensures same { result.arena.ghost_name ≡ self.entry.arena.ghost_name }
         ensures now { result.arena.now ≡ self.entry.arena.now }
         ensures inside { result.at < word_count (segment self.entry.arena.now) }
-        ensures forest { IsPointer result }
-        ensures tree { pointer_tree result ≡ element_pointer (list_tree self.entry) index 1 }
+        ensures forest { IsBuiltPointer result }
+        ensures tree { built_pointer_tree result ≡ element_pointer (built_list_tree self.entry) index 1 }
         ensures leaves { (new : List ℕ) → Forest new result.at → Changes result.at (segment self.entry.arena.now) new
-            → Leaves self.entry.at (with_pointer_element index (tree new result.at) (list_tree self.entry))
+            → Leaves self.entry.at (with_pointer_element index (tree new result.at) (built_list_tree self.entry))
             (segment self.entry.arena.now) new }
     {
         let ListBuilder { arena, at, list: _ } = self;
@@ -228,14 +228,14 @@ impl<'a> ListBuilder<'a> {
     #[inline(always)]
     pub fn pointer_element_mut(&mut self, index: u32) -> PointerBuilder<'_>
         requires forest { Forest (segment self.old.arena.now) self.old.at }
-        requires pointer { HasPointer (list_tree self.old) index }
+        requires pointer { HasPointer (built_list_tree self.old) index }
         ensures* lends { sem 𝓛 (LentByList self.entry result.arena) }
         ensures now { result.arena.now ≡ self.old.arena.now }
         ensures inside { result.at < word_count (segment self.old.arena.now) }
-        ensures forest { IsPointer result }
-        ensures tree { pointer_tree result ≡ element_pointer (list_tree self.old) index 1 }
+        ensures forest { IsBuiltPointer result }
+        ensures tree { built_pointer_tree result ≡ element_pointer (built_list_tree self.old) index 1 }
         ensures leaves { (new : List ℕ) → Forest new result.at → Changes result.at (segment self.old.arena.now) new
-            → Leaves self.old.at (with_pointer_element index (tree new result.at) (list_tree self.old))
+            → Leaves self.old.at (with_pointer_element index (tree new result.at) (built_list_tree self.old))
             (segment self.old.arena.now) new }
     {
         let at = self.arena.get_pointer_element(self.at, index);

@@ -59,7 +59,7 @@ impl Arena {
     ghost use Rattle.capnp_wire.specs.ElementSizes.{element_size_of};
     ghost use Rattle.capnp_wire.specs.Reading.{as_list, element_struct, is_list, list_length};
     ghost use Rattle.capnp_arena.specs.Forest.{Forest, Planted, struct_from, tree};
-    ghost use Rattle.capnp_arena.specs.Listed.{list_answered, list_shape, listed_tree};
+    ghost use Rattle.capnp_arena.specs.Listed.{list_tree_answered, list_shape, listed_tree};
     ghost use Rattle.capnp_arena.specs.Segment.{segment};
     ghost use Rattle.capnp_arena.specs.Shape.{CompositeIn, StructIn, shape_at};
 
@@ -71,7 +71,7 @@ impl Arena {
         requires forest { Forest (segment self.now) at }
         requires simple { size ≢ ElementSize.InlineComposite }
         ensures place { IfOk result (λ list. list_shape list ≡ shape_at (segment self.now) at) }
-        ensures read { list_answered (tree (segment self.now) at) result ≡ as_list size (tree (segment self.now) at) 1 }
+        ensures read { list_tree_answered (tree (segment self.now) at) result ≡ as_list size (tree (segment self.now) at) 1 }
     {
         match self.look(at) {
             Target::Null => Ok(ListTarget::Nothing(size)),

@@ -1,6 +1,6 @@
 //! Where a pointer of the segment leads. It was written by a builder, so no bound is tested.
 ghost use Rattle.std.specs.Prelude.{◌+◌, ◌*◌, ◌/◌, ◌<◌, ◌^◌, ◌≡◌, ◌≤◌, length};
-ghost use Rattle.capnp_wire.specs.Locate.{count, data_words, element_size, kind, offset, pointer_count};
+ghost use Rattle.capnp_wire.specs.Locate.{count, data_words, element_size_number, pointer_kind, offset, pointer_count};
 ghost use Rattle.capnp_wire.specs.Slot.{number_at};
 
 use capnp_wire::primitive::PrimitiveElement;
@@ -48,7 +48,7 @@ pub(crate) fn get_pointer_count(word: u64) -> u16
 }
 
 pub(crate) fn get_element_size(word: u64) -> u8
-    ensures { result ≡ element_size word }
+    ensures { result ≡ element_size_number word }
 {
     ((word >> 32) % 8) as u8
 }

@@ -26,7 +26,7 @@ impl<'a> PointerBuilder<'a> {
     ghost use Rattle.capnp_device.specs.declared.error.ErrorKind.TheVariants.{OutOfMemory};
     ghost use Rattle.capnp_wire.specs.Depth.{IsBelow, memory_depth};
     ghost use Rattle.capnp_wire.specs.Defaults.{default_tree, filled_list_refusal, filled_struct, filled_struct_refusal, filled_structs, filled_structs_refusal, or_default, takes_default};
-    ghost use Rattle.capnp_wire.specs.Edits.{HoldsStruct, IsCopyRefusal, IsDueRefusal, IsRoomRefusal, IsStructRefusal, extended, is_struct, rounded, struct_in, struct_refusal, zero_list, zero_struct, zero_structs};
+    ghost use Rattle.capnp_wire.specs.Edits.{HoldsStruct, IsCopyRefusal, IsDueRefusal, IsRoomRefusal, IsStructRefusal, extended_struct, is_struct, rounded_struct, struct_in, struct_refusal, zero_list, zero_struct, zero_structs};
     ghost use Rattle.capnp_wire.specs.Elements.{or_empty};
     ghost use Rattle.capnp_wire.specs.Place.{struct_tree, tree_below};
     ghost use Rattle.capnp_wire.specs.Reading.{as_data, as_list, as_text, is_list, is_null_tree};
@@ -35,7 +35,7 @@ impl<'a> PointerBuilder<'a> {
     ghost use Rattle.capnp_wire.specs.Tree.{Null, Numbers};
     ghost use Rattle.capnp_wire.specs.Words.{first_fault, first_fault_of_all};
     ghost use Rattle.capnp_arena.specs.Forest.{Changes, Forest, tree};
-    ghost use Rattle.capnp_arena.specs.Handles.{IsPointer, IsStruct, LentByPointer, ListRests, StructRests, pointer_tree};
+    ghost use Rattle.capnp_arena.specs.Handles.{IsBuiltPointer, IsBuiltStruct, LentByPointer, ListRests, StructRests, built_pointer_tree};
     ghost use Rattle.capnp_arena.specs.Listed.{list_shape, listed_tree};
     ghost use Rattle.capnp_arena.specs.Segment.{segment};
     ghost use Rattle.capnp_arena.specs.Shape.{StructIn, shape_at, word_count};
@@ -56,10 +56,10 @@ impl<'a> PointerBuilder<'a> {
     /// tree can see.
     #[inline(always)]
     pub fn as_reader(&self) -> PointerReader<'_>
-        requires forest { IsPointer self.now }
+        requires forest { IsBuiltPointer self.now }
         ensures read { tree_of result ≡ tree_below memory_depth (segment self.now.arena.now ∷ [])
             (segment self.now.arena.now) self.now.at }
-        ensures tree { IsBelow memory_depth (pointer_tree self.now) → tree_of result ≡ pointer_tree self.now }
+        ensures tree { IsBelow memory_depth (built_pointer_tree self.now) → tree_of result ≡ built_pointer_tree self.now }
         ensures levels { levels_of result ≡ 64 }
     {
         self.arena.get_pointer_reader(self.at)
@@ -69,10 +69,10 @@ impl<'a> PointerBuilder<'a> {
     /// only `Arena::into_pointer_reader` says so to a caller.
     #[inline(always)]
     pub fn into_reader(self) -> PointerReader<'a>
-        requires forest { IsPointer self }
+        requires forest { IsBuiltPointer self }
         ensures read { tree_of result ≡ tree_below memory_depth (segment self.entry.arena.now ∷ [])
             (segment self.entry.arena.now) self.entry.at }
-        ensures tree { IsBelow memory_depth (pointer_tree self.entry) → tree_of result ≡ pointer_tree self.entry }
+        ensures tree { IsBelow memory_depth (built_pointer_tree self.entry) → tree_of result ≡ built_pointer_tree self.entry }
         ensures levels { levels_of result ≡ 64 }
     {
         let PointerBuilder { arena, at } = self;
@@ -82,8 +82,8 @@ impl<'a> PointerBuilder<'a> {
     /// Whether the pointer is null.
     #[inline(always)]
     pub fn is_null(&self) -> bool
-        requires forest { IsPointer self.now }
-        ensures { result ≡ is_null_tree (pointer_tree self.now) }
+        requires forest { IsBuiltPointer self.now }
+        ensures { result ≡ is_null_tree (built_pointer_tree self.now) }
     {
         self.arena.is_null(self.at)
     }
@@ -91,8 +91,8 @@ impl<'a> PointerBuilder<'a> {
     /// Whether the pointer leads to a struct.
     #[inline(always)]
     pub fn is_struct(&self) -> bool
-        requires forest { IsPointer self.now }
-        ensures { result ≡ is_struct (pointer_tree self.now) }
+        requires forest { IsBuiltPointer self.now }
+        ensures { result ≡ is_struct (built_pointer_tree self.now) }
     {
         self.arena.is_struct(self.at)
     }
@@ -100,8 +100,8 @@ impl<'a> PointerBuilder<'a> {
     /// Whether the pointer leads to a list.
     #[inline(always)]
     pub fn is_list(&self) -> bool
-        requires forest { IsPointer self.now }
-        ensures { result ≡ is_list (pointer_tree self.now) }
+        requires forest { IsBuiltPointer self.now }
+        ensures { result ≡ is_list (built_pointer_tree self.now) }
     {
         self.arena.is_list(self.at)
     }
@@ -112,8 +112,8 @@ impl<'a> PointerBuilder<'a> {
         requires inside { self.old.at < word_count (segment self.old.arena.now) }
         ensures same { self.new.arena.ghost_name ≡ self.old.arena.ghost_name }
         ensures at { self.new.at ≡ self.old.at }
-        ensures forest { IsPointer self.new }
-        ensures tree { pointer_tree self.new ≡ Null }
+        ensures forest { IsBuiltPointer self.new }
+        ensures tree { built_pointer_tree self.new ≡ Null }
         ensures changes { Changes self.old.at (segment self.old.arena.now) (segment self.new.arena.now) }
         ensures long { length (segment self.new.arena.now) ≡ length (segment self.old.arena.now) }
     {
@@ -134,15 +134,15 @@ impl<'a> PointerBuilder<'a> {
         ensures forest { IfOk result (λ s. Forest (segment s.arena.now) self.entry.at) }
         ensures place { IfOk result (λ s. shape_at (segment s.arena.now) self.entry.at
             ≡ StructIn s.place.start s.place.data_words s.place.pointers) }
-        ensures planted { IfOk result IsStruct }
+        ensures planted { IfOk result IsBuiltStruct }
         ensures tree { IfOk result (λ s. tree (segment s.arena.now) self.entry.at
-            ≡ struct_tree (extended size (struct_in (tree (segment self.entry.arena.now) self.entry.at)))) }
+            ≡ struct_tree (extended_struct size (struct_in (tree (segment self.entry.arena.now) self.entry.at)))) }
         ensures changes { IfOk result (λ s. Changes self.entry.at (segment self.entry.arena.now)
             (segment s.arena.now)) }
-        ensures within { OnOk result (struct_refusal (pointer_tree self.entry) ≡ None) }
+        ensures within { OnOk result (struct_refusal (built_pointer_tree self.entry) ≡ None) }
         ensures cause { IfErr result (λ e. IsStructRefusal e (tree (segment self.entry.arena.now) self.entry.at)) }
-        ensures succeeds { HoldsStruct size (pointer_tree self.entry) → IsOk result }
-        ensures stays { HoldsStruct size (pointer_tree self.entry)
+        ensures succeeds { HoldsStruct size (built_pointer_tree self.entry) → IsOk result }
+        ensures stays { HoldsStruct size (built_pointer_tree self.entry)
             → IfOk result (λ s. segment s.arena.now ≡ segment self.entry.arena.now) }
     {
         let PointerBuilder { arena, at } = self;
@@ -157,16 +157,16 @@ impl<'a> PointerBuilder<'a> {
     /// nothing has changed. No memory is taken.
     #[inline(always)]
     pub fn get_list(self, size: ElementSize) -> Result<ListBuilder<'a>>
-        requires forest { IsPointer self }
+        requires forest { IsBuiltPointer self }
         requires simple { size ≢ ElementSize.InlineComposite }
         ensures* rests { sem 𝓛 (ListRests self.entry.arena result) }
         ensures same { IfOk result (λ l. l.arena.ghost_name ≡ self.entry.arena.ghost_name) }
         ensures now { IfOk result (λ l. l.arena.now ≡ self.entry.arena.now) }
         ensures at { IfOk result (λ l. l.at ≡ self.entry.at) }
         ensures place { IfOk result (λ l. shape_at (segment l.arena.now) l.at ≡ list_shape l.list) }
-        ensures read { IfOk result (λ l. as_list size (pointer_tree self.entry) 1
-            ≡ Ok (listed_tree (pointer_tree self.entry) l.list)) }
-        ensures cause { IfErr result (λ e. as_list size (pointer_tree self.entry) 1 ≡ Err e.kind) }
+        ensures read { IfOk result (λ l. as_list size (built_pointer_tree self.entry) 1
+            ≡ Ok (listed_tree (built_pointer_tree self.entry) l.list)) }
+        ensures cause { IfErr result (λ e. as_list size (built_pointer_tree self.entry) 1 ≡ Err e.kind) }
     {
         let PointerBuilder { arena, at } = self;
         let list = arena.get_list(at, size)?;
@@ -182,21 +182,21 @@ impl<'a> PointerBuilder<'a> {
     /// and a list of structs that have at least the size, take no memory and are never refused.
     #[inline(always)]
     pub fn get_struct_list(self, size: StructSize) -> Result<ListBuilder<'a>>
-        requires forest { IsPointer self }
+        requires forest { IsBuiltPointer self }
         ensures* rests { sem 𝓛 (ListRests self.entry.arena result) }
         ensures same { IfOk result (λ l. l.arena.ghost_name ≡ self.entry.arena.ghost_name) }
         ensures at { IfOk result (λ l. l.at ≡ self.entry.at) }
         ensures forest { IfOk result (λ l. Forest (segment l.arena.now) l.at) }
         ensures place { IfOk result (λ l. shape_at (segment l.arena.now) l.at ≡ list_shape l.list) }
-        ensures tree { IfOk result (λ l. tree (segment l.arena.now) l.at ≡ struct_list size (pointer_tree self.entry)) }
+        ensures tree { IfOk result (λ l. tree (segment l.arena.now) l.at ≡ struct_list size (built_pointer_tree self.entry)) }
         ensures reads { IfOk result (λ l. listed_tree (tree (segment l.arena.now) l.at) l.list
-            ≡ or_empty ElementSize.InlineComposite (struct_list size (pointer_tree self.entry))) }
+            ≡ or_empty ElementSize.InlineComposite (struct_list size (built_pointer_tree self.entry))) }
         ensures changes { IfOk result (λ l. Changes self.entry.at (segment self.entry.arena.now)
             (segment l.arena.now)) }
-        ensures within { OnOk result (struct_list_refusal size (pointer_tree self.entry) ≡ None) }
-        ensures cause { IfErr result (λ e. IsDueRefusal e (struct_list_refusal size (pointer_tree self.entry))) }
-        ensures succeeds { HoldsStructs size (pointer_tree self.entry) → IsOk result }
-        ensures stays { HoldsStructs size (pointer_tree self.entry)
+        ensures within { OnOk result (struct_list_refusal size (built_pointer_tree self.entry) ≡ None) }
+        ensures cause { IfErr result (λ e. IsDueRefusal e (struct_list_refusal size (built_pointer_tree self.entry))) }
+        ensures succeeds { HoldsStructs size (built_pointer_tree self.entry) → IsOk result }
+        ensures stays { HoldsStructs size (built_pointer_tree self.entry)
             → IfOk result (λ l. segment l.arena.now ≡ segment self.entry.arena.now) }
     {
         let PointerBuilder { arena, at } = self;
@@ -216,7 +216,7 @@ impl<'a> PointerBuilder<'a> {
         ensures forest { IfOk result (λ s. Forest (segment s.arena.now) self.entry.at) }
         ensures place { IfOk result (λ s. shape_at (segment s.arena.now) self.entry.at
             ≡ StructIn s.place.start s.place.data_words s.place.pointers) }
-        ensures planted { IfOk result IsStruct }
+        ensures planted { IfOk result IsBuiltStruct }
         ensures size { IfOk result (λ s. (s.place.data_words ≡ size.data_words) × (s.place.pointers ≡ size.pointers)) }
         ensures tree { IfOk result (λ s. tree (segment s.arena.now) self.entry.at ≡ struct_tree (zero_struct size)) }
         ensures changes { IfOk result (λ s. Changes self.entry.at (segment self.entry.arena.now)
@@ -297,23 +297,23 @@ impl<'a> PointerBuilder<'a> {
         size: StructSize,
         default: Option<PointerReader<'_>>,
     ) -> Result<StructBuilder<'a>>
-        requires forest { IsPointer self }
+        requires forest { IsBuiltPointer self }
         ensures* rests { sem 𝓛 (StructRests self.entry.arena result) }
         ensures same { IfOk result (λ s. s.arena.ghost_name ≡ self.entry.arena.ghost_name) }
         ensures forest { IfOk result (λ s. Forest (segment s.arena.now) self.entry.at) }
         ensures place { IfOk result (λ s. shape_at (segment s.arena.now) self.entry.at
             ≡ StructIn s.place.start s.place.data_words s.place.pointers) }
-        ensures planted { IfOk result IsStruct }
+        ensures planted { IfOk result IsBuiltStruct }
         ensures tree { IfOk result (λ s. tree (segment s.arena.now) self.entry.at
-            ≡ struct_tree (filled_struct (default_tree default.entry) size (pointer_tree self.entry))) }
+            ≡ struct_tree (filled_struct (default_tree default.entry) size (built_pointer_tree self.entry))) }
         ensures changes { IfOk result (λ s. Changes self.entry.at (segment self.entry.arena.now)
             (segment s.arena.now)) }
-        ensures within { OnOk result (filled_struct_refusal (default_tree default.entry) (pointer_tree self.entry)
+        ensures within { OnOk result (filled_struct_refusal (default_tree default.entry) (built_pointer_tree self.entry)
             ≡ None) }
         ensures cause { IfErr result (λ e. IsDueRefusal e
-            (filled_struct_refusal (default_tree default.entry) (pointer_tree self.entry))) }
-        ensures succeeds { HoldsStruct size (pointer_tree self.entry) → IsOk result }
-        ensures stays { HoldsStruct size (pointer_tree self.entry)
+            (filled_struct_refusal (default_tree default.entry) (built_pointer_tree self.entry))) }
+        ensures succeeds { HoldsStruct size (built_pointer_tree self.entry) → IsOk result }
+        ensures stays { HoldsStruct size (built_pointer_tree self.entry)
             → IfOk result (λ s. segment s.arena.now ≡ segment self.entry.arena.now) }
     {
         let PointerBuilder { arena, at } = self;
@@ -334,7 +334,7 @@ impl<'a> PointerBuilder<'a> {
         size: ElementSize,
         default: Option<PointerReader<'_>>,
     ) -> Result<ListBuilder<'a>>
-        requires forest { IsPointer self }
+        requires forest { IsBuiltPointer self }
         requires simple { size ≢ ElementSize.InlineComposite }
         ensures* rests { sem 𝓛 (ListRests self.entry.arena result) }
         ensures same { IfOk result (λ l. l.arena.ghost_name ≡ self.entry.arena.ghost_name) }
@@ -342,18 +342,18 @@ impl<'a> PointerBuilder<'a> {
         ensures forest { IfOk result (λ l. Forest (segment l.arena.now) l.at) }
         ensures place { IfOk result (λ l. shape_at (segment l.arena.now) l.at ≡ list_shape l.list) }
         ensures tree { IfOk result (λ l. tree (segment l.arena.now) l.at
-            ≡ or_default (default_tree default.entry) (pointer_tree self.entry)) }
+            ≡ or_default (default_tree default.entry) (built_pointer_tree self.entry)) }
         ensures reads { IfOk result (λ l. listed_tree (tree (segment l.arena.now) l.at) l.list
-            ≡ or_empty size (or_default (default_tree default.entry) (pointer_tree self.entry))) }
+            ≡ or_empty size (or_default (default_tree default.entry) (built_pointer_tree self.entry))) }
         ensures changes { IfOk result (λ l. Changes self.entry.at (segment self.entry.arena.now)
             (segment l.arena.now)) }
-        ensures within { OnOk result (filled_list_refusal (default_tree default.entry) size (pointer_tree self.entry)
+        ensures within { OnOk result (filled_list_refusal (default_tree default.entry) size (built_pointer_tree self.entry)
             ≡ None) }
         ensures cause { IfErr result (λ e. IsDueRefusal e
-            (filled_list_refusal (default_tree default.entry) size (pointer_tree self.entry))) }
-        ensures succeeds { takes_default (default_tree default.entry) (pointer_tree self.entry) ≡ false →
-            filled_list_refusal (default_tree default.entry) size (pointer_tree self.entry) ≡ None → IsOk result }
-        ensures stays { takes_default (default_tree default.entry) (pointer_tree self.entry) ≡ false
+            (filled_list_refusal (default_tree default.entry) size (built_pointer_tree self.entry))) }
+        ensures succeeds { takes_default (default_tree default.entry) (built_pointer_tree self.entry) ≡ false →
+            filled_list_refusal (default_tree default.entry) size (built_pointer_tree self.entry) ≡ None → IsOk result }
+        ensures stays { takes_default (default_tree default.entry) (built_pointer_tree self.entry) ≡ false
             → IfOk result (λ l. segment l.arena.now ≡ segment self.entry.arena.now) }
     {
         let PointerBuilder { arena, at } = self;
@@ -376,27 +376,27 @@ impl<'a> PointerBuilder<'a> {
         size: StructSize,
         default: Option<PointerReader<'_>>,
     ) -> Result<ListBuilder<'a>>
-        requires forest { IsPointer self }
+        requires forest { IsBuiltPointer self }
         ensures* rests { sem 𝓛 (ListRests self.entry.arena result) }
         ensures same { IfOk result (λ l. l.arena.ghost_name ≡ self.entry.arena.ghost_name) }
         ensures at { IfOk result (λ l. l.at ≡ self.entry.at) }
         ensures forest { IfOk result (λ l. Forest (segment l.arena.now) l.at) }
         ensures place { IfOk result (λ l. shape_at (segment l.arena.now) l.at ≡ list_shape l.list) }
         ensures tree { IfOk result (λ l. tree (segment l.arena.now) l.at
-            ≡ filled_structs (default_tree default.entry) size (pointer_tree self.entry)) }
+            ≡ filled_structs (default_tree default.entry) size (built_pointer_tree self.entry)) }
         ensures reads { IfOk result (λ l. listed_tree (tree (segment l.arena.now) l.at) l.list ≡
             or_empty ElementSize.InlineComposite (filled_structs (default_tree default.entry) size
-            (pointer_tree self.entry))) }
+            (built_pointer_tree self.entry))) }
         ensures changes { IfOk result (λ l. Changes self.entry.at (segment self.entry.arena.now)
             (segment l.arena.now)) }
         ensures within { OnOk result (filled_structs_refusal (default_tree default.entry) size
-            (pointer_tree self.entry) ≡ None) }
+            (built_pointer_tree self.entry) ≡ None) }
         ensures cause { IfErr result (λ e. IsDueRefusal e
-            (filled_structs_refusal (default_tree default.entry) size (pointer_tree self.entry))) }
-        ensures succeeds { takes_default (default_tree default.entry) (pointer_tree self.entry) ≡ false
-            → HoldsStructs size (pointer_tree self.entry) → IsOk result }
-        ensures stays { takes_default (default_tree default.entry) (pointer_tree self.entry) ≡ false
-            → HoldsStructs size (pointer_tree self.entry)
+            (filled_structs_refusal (default_tree default.entry) size (built_pointer_tree self.entry))) }
+        ensures succeeds { takes_default (default_tree default.entry) (built_pointer_tree self.entry) ≡ false
+            → HoldsStructs size (built_pointer_tree self.entry) → IsOk result }
+        ensures stays { takes_default (default_tree default.entry) (built_pointer_tree self.entry) ≡ false
+            → HoldsStructs size (built_pointer_tree self.entry)
             → IfOk result (λ l. segment l.arena.now ≡ segment self.entry.arena.now) }
     {
         let PointerBuilder { arena, at } = self;
@@ -409,8 +409,8 @@ impl<'a> PointerBuilder<'a> {
     /// Refused with `WrongPointerKind` for a struct, and with `WrongElementSize` for another list.
     #[inline(always)]
     pub fn get_data(&self) -> Result<&[u8]>
-        requires forest { IsPointer self.now }
-        ensures { bytes_read result ≡ as_data (pointer_tree self.now) }
+        requires forest { IsBuiltPointer self.now }
+        ensures { bytes_read result ≡ as_data (built_pointer_tree self.now) }
     {
         self.arena.get_data(self.at)
     }
@@ -420,8 +420,8 @@ impl<'a> PointerBuilder<'a> {
     /// Refused as `get_data`, and with `TextNotTerminated` where the list is empty or its last byte is not zero.
     #[inline(always)]
     pub fn get_text(&self) -> Result<&[u8]>
-        requires forest { IsPointer self.now }
-        ensures { bytes_read result ≡ as_text (pointer_tree self.now) }
+        requires forest { IsBuiltPointer self.now }
+        ensures { bytes_read result ≡ as_text (built_pointer_tree self.now) }
     {
         self.arena.get_text(self.at)
     }
@@ -435,8 +435,8 @@ impl<'a> PointerBuilder<'a> {
         requires inside { self.old.at < word_count (segment self.old.arena.now) }
         ensures same { self.new.arena.ghost_name ≡ self.old.arena.ghost_name }
         ensures at { self.new.at ≡ self.old.at }
-        ensures forest { OnOk result (IsPointer self.new) }
-        ensures tree { OnOk result (pointer_tree self.new ≡ Numbers 1 (text.now ++ 0 ∷ [])) }
+        ensures forest { OnOk result (IsBuiltPointer self.new) }
+        ensures tree { OnOk result (built_pointer_tree self.new ≡ Numbers 1 (text.now ++ 0 ∷ [])) }
         ensures changes { OnOk result (Changes self.old.at (segment self.old.arena.now) (segment self.new.arena.now)) }
         ensures within { OnOk result (length text.now + 1 < 2 ^ 29) }
         ensures cause { IfErr result (λ e. IsRoomRefusal e (2 ^ 29 ≤ length text.now + 1)) }
@@ -453,8 +453,8 @@ impl<'a> PointerBuilder<'a> {
         requires inside { self.old.at < word_count (segment self.old.arena.now) }
         ensures same { self.new.arena.ghost_name ≡ self.old.arena.ghost_name }
         ensures at { self.new.at ≡ self.old.at }
-        ensures forest { OnOk result (IsPointer self.new) }
-        ensures tree { OnOk result (pointer_tree self.new ≡ Numbers 1 bytes.now) }
+        ensures forest { OnOk result (IsBuiltPointer self.new) }
+        ensures tree { OnOk result (built_pointer_tree self.new ≡ Numbers 1 bytes.now) }
         ensures changes { OnOk result (Changes self.old.at (segment self.old.arena.now) (segment self.new.arena.now)) }
         ensures within { OnOk result (length bytes.now < 2 ^ 29) }
         ensures cause { IfErr result (λ e. IsRoomRefusal e (2 ^ 29 ≤ length bytes.now)) }
@@ -472,8 +472,8 @@ impl<'a> PointerBuilder<'a> {
         requires inside { self.old.at < word_count (segment self.old.arena.now) }
         ensures same { self.new.arena.ghost_name ≡ self.old.arena.ghost_name }
         ensures at { self.new.at ≡ self.old.at }
-        ensures forest { OnOk result (IsPointer self.new) }
-        ensures tree { OnOk result (pointer_tree self.new ≡ tree_of source.entry) }
+        ensures forest { OnOk result (IsBuiltPointer self.new) }
+        ensures tree { OnOk result (built_pointer_tree self.new ≡ tree_of source.entry) }
         ensures changes { OnOk result (Changes self.old.at (segment self.old.arena.now) (segment self.new.arena.now)) }
         ensures sound { OnOk result (first_fault (tree_of source.entry) ≡ None) }
         ensures cause { IfErr result (λ e. IsCopyRefusal e (first_fault (tree_of source.entry))) }
@@ -490,8 +490,8 @@ impl<'a> PointerBuilder<'a> {
         requires inside { self.old.at < word_count (segment self.old.arena.now) }
         ensures same { self.new.arena.ghost_name ≡ self.old.arena.ghost_name }
         ensures at { self.new.at ≡ self.old.at }
-        ensures forest { OnOk result (IsPointer self.new) }
-        ensures tree { OnOk result (pointer_tree self.new ≡ struct_tree (rounded (struct_of source.now))) }
+        ensures forest { OnOk result (IsBuiltPointer self.new) }
+        ensures tree { OnOk result (built_pointer_tree self.new ≡ struct_tree (rounded_struct (struct_of source.now))) }
         ensures changes { OnOk result (Changes self.old.at (segment self.old.arena.now) (segment self.new.arena.now)) }
         ensures sound { OnOk result (first_fault_of_all (struct_of source.now).pointers ≡ None) }
         ensures cause { IfErr result (λ e. IsCopyRefusal e (first_fault_of_all (struct_of source.now).pointers)) }
@@ -509,8 +509,8 @@ impl<'a> PointerBuilder<'a> {
         requires inside { self.old.at < word_count (segment self.old.arena.now) }
         ensures same { self.new.arena.ghost_name ≡ self.old.arena.ghost_name }
         ensures at { self.new.at ≡ self.old.at }
-        ensures forest { OnOk result (IsPointer self.new) }
-        ensures tree { OnOk result (pointer_tree self.new ≡ list_of source.now) }
+        ensures forest { OnOk result (IsBuiltPointer self.new) }
+        ensures tree { OnOk result (built_pointer_tree self.new ≡ list_of source.now) }
         ensures changes { OnOk result (Changes self.old.at (segment self.old.arena.now) (segment self.new.arena.now)) }
         ensures sound { OnOk result (first_fault (list_of source.now) ≡ None) }
         ensures cause { IfErr result (λ e. IsCopyRefusal e (first_fault (list_of source.now))) }

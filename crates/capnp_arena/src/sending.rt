@@ -2,7 +2,7 @@
 ghost use Rattle.std.specs.Prelude.{IfErr, OnErr, OnOk, ◌*◌, ◌++◌, ◌+◌, ◌/◌, ◌<◌, ◌^◌, ◌≡◌, ◌≤◌, length};
 ghost use Rattle.capnp_device.specs.Device.{HasFailed, HasWorked};
 ghost use Rattle.capnp_device.specs.declared.error.ErrorKind.TheVariants.{WriteFailed};
-ghost use Rattle.capnp_wire.specs.Encoding.{encoding_of, spelled};
+ghost use Rattle.capnp_wire.specs.Encoding.{encoding_of, spelled_number};
 ghost use Rattle.capnp_wire.specs.Message.{IsCutShort, IsWritten};
 ghost use Rattle.capnp_arena.specs.Forest.{tree};
 ghost use Rattle.capnp_arena.specs.Shape.{word_count};
@@ -17,7 +17,7 @@ const FRONT: usize = 4096;
 /// The table of one segment of so many words, and the segment's first bytes.
 fn fill_front(front: &mut [u8], words: u32, part: &[u8])
     requires { length front.old ≡ 8 + length part.now }
-    ensures { front.new ≡ spelled 4 0 ++ (spelled 4 words ++ part.now) }
+    ensures { front.new ≡ spelled_number 4 0 ++ (spelled_number 4 words ++ part.now) }
 {
     front[..4].copy_from_slice(&0u32.to_le_bytes());
     front[4..8].copy_from_slice(&words.to_le_bytes());

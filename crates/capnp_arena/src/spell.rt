@@ -1,8 +1,8 @@
 //! Words of a segment as they are written.
 ghost use Rattle.std.specs.Prelude.{IfOk, OnErr, bit_xor, drop, replicate, take, ◌*◌, ◌++◌, ◌+◌, ◌<◌, ◌^◌, ◌≡◌, ◌≤◌, length};
 ghost use Rattle.capnp_wire.specs.Edits.{with_bit, with_number};
-ghost use Rattle.capnp_wire.specs.Encoding.{list_word, spelled, struct_word};
-ghost use Rattle.capnp_wire.specs.Filling.{put};
+ghost use Rattle.capnp_wire.specs.Encoding.{list_word, spelled_number, struct_word};
+ghost use Rattle.capnp_wire.specs.Filling.{bytes_with};
 
 use capnp_wire::primitive::PrimitiveElement;
 use std::alloc::AllocError;
@@ -27,7 +27,7 @@ pub(crate) fn make_list_word(offset: u64, element_size: u64, count: u64) -> u64
 #[inline(always)]
 pub(crate) fn put_bytes(out: &mut Vec<u8>, at: usize, bytes: &[u8])
     requires { at + length bytes.now ≤ length out.old.items }
-    ensures put { out.new.items ≡ put at bytes.now out.old.items }
+    ensures put { out.new.items ≡ bytes_with at bytes.now out.old.items }
     ensures long { length out.new.items ≡ length out.old.items }
 {
     out[at..at + bytes.len()].copy_from_slice(bytes);
@@ -37,7 +37,7 @@ pub(crate) fn put_bytes(out: &mut Vec<u8>, at: usize, bytes: &[u8])
 #[inline(always)]
 pub(crate) fn put_word(out: &mut Vec<u8>, at: usize, word: u64)
     requires { at + 8 ≤ length out.old.items }
-    ensures put { out.new.items ≡ put at (spelled 8 word) out.old.items }
+    ensures put { out.new.items ≡ bytes_with at (spelled_number 8 word) out.old.items }
     ensures long { length out.new.items ≡ length out.old.items }
 {
     put_bytes(out, at, &word.to_le_bytes());
@@ -46,7 +46,7 @@ pub(crate) fn put_word(out: &mut Vec<u8>, at: usize, word: u64)
 /// Half a word in the place of another from an index on.
 pub(crate) fn put_half(out: &mut Vec<u8>, at: usize, half: u32)
     requires { at + 4 ≤ length out.old.items }
-    ensures put { out.new.items ≡ put at (spelled 4 half) out.old.items }
+    ensures put { out.new.items ≡ bytes_with at (spelled_number 4 half) out.old.items }
 {
     put_bytes(out, at, &half.to_le_bytes());
 }
@@ -74,7 +74,7 @@ pub(crate) fn write_number<T: PrimitiveElement>(
     requires part { at + count ≤ length out.old.items }
     requires inside { (offset + 1) * T.width ≤ count }
     ensures long { length out.new.items ≡ length out.old.items }
-    ensures put { out.new.items ≡ put at (with_number T.width offset (T.to_number value)
+    ensures put { out.new.items ≡ bytes_with at (with_number T.width offset (T.to_number value)
         (take count (drop at out.old.items))) out.old.items }
 {
     T::write(&mut out[at..at + count], offset, value);
@@ -93,7 +93,7 @@ pub(crate) fn write_number_mask<T: PrimitiveElement>(
     requires part { at + count ≤ length out.old.items }
     requires inside { (offset + 1) * T.width ≤ count }
     ensures long { length out.new.items ≡ length out.old.items }
-    ensures put { out.new.items ≡ put at (with_number T.width offset (bit_xor (T.to_number value) (T.to_number mask))
+    ensures put { out.new.items ≡ bytes_with at (with_number T.width offset (bit_xor (T.to_number value) (T.to_number mask))
         (take count (drop at out.old.items))) out.old.items }
 {
     T::write_masked(&mut out[at..at + count], offset, value, mask);
@@ -105,7 +105,7 @@ pub(crate) fn write_bit(out: &mut Vec<u8>, at: usize, count: usize, index: usize
     requires part { at + count ≤ length out.old.items }
     requires inside { index < 8 * count }
     ensures long { length out.new.items ≡ length out.old.items }
-    ensures put { out.new.items ≡ put at (with_bit index bit (take count (drop at out.old.items))) out.old.items }
+    ensures put { out.new.items ≡ bytes_with at (with_bit index bit (take count (drop at out.old.items))) out.old.items }
 {
     set_bit(&mut out[at..at + count], index, bit);
 }

@@ -19,7 +19,7 @@ impl<'a> StructBuilder<'a> {
     ghost use Rattle.std.specs.Borrow.{sem};
     ghost use Rattle.capnp_device.specs.declared.error.ErrorKind.TheVariants.{OutOfMemory};
     ghost use Rattle.capnp_wire.specs.Depth.{AreBelow, IsBelow, memory_depth};
-    ghost use Rattle.capnp_wire.specs.Edits.{IsCopyRefusal, fitted, with_bit, with_bytes, with_number};
+    ghost use Rattle.capnp_wire.specs.Edits.{IsCopyRefusal, fitted_struct, with_bit, with_bytes, with_number};
     ghost use Rattle.capnp_wire.specs.Place.{struct_at, tree_below};
     ghost use Rattle.capnp_wire.specs.Slot.{bit_at, masked_bit, number_at};
     ghost use Rattle.capnp_wire.specs.Standing.{levels_of, struct_levels, struct_of, tree_of};
@@ -28,7 +28,7 @@ impl<'a> StructBuilder<'a> {
     ghost use Rattle.capnp_wire.specs.Words.{first_fault_of_all, words_of_struct};
     ghost use Rattle.capnp_arena.specs.Facts.Laws.{IsInPointer};
     ghost use Rattle.capnp_arena.specs.Forest.{Changes, Forest, PartChanges, Planted, struct_from, tree};
-    ghost use Rattle.capnp_arena.specs.Handles.{IsPointer, IsStruct, LentByStruct, built_struct, part, pointer_tree};
+    ghost use Rattle.capnp_arena.specs.Handles.{IsBuiltPointer, IsBuiltStruct, LentByStruct, built_struct_tree, handle_words, built_pointer_tree};
     ghost use Rattle.capnp_arena.specs.Segment.{segment};
     ghost use Rattle.capnp_arena.specs.Shape.{StructIn, word_count};
 
@@ -48,11 +48,11 @@ impl<'a> StructBuilder<'a> {
     /// walks of a whole tree can see.
     #[inline(always)]
     pub fn as_reader(&self) -> StructReader<'_>
-        requires planted { IsStruct self.now }
+        requires planted { IsBuiltStruct self.now }
         ensures read { struct_of result ≡ struct_at
             (tree_below memory_depth (segment self.now.arena.now ∷ []) (segment self.now.arena.now))
             (segment self.now.arena.now) self.now.place.data_words self.now.place.pointers self.now.place.start }
-        ensures parts { AreBelow memory_depth (built_struct self.now).pointers → struct_of result ≡ built_struct self.now }
+        ensures parts { AreBelow memory_depth (built_struct_tree self.now).pointers → struct_of result ≡ built_struct_tree self.now }
         ensures levels { struct_levels result ≡ 64 }
     {
         self.arena.get_struct_reader(self.place)
@@ -62,12 +62,12 @@ impl<'a> StructBuilder<'a> {
     /// only `Arena::into_struct_reader` says so to a caller.
     #[inline(always)]
     pub fn into_reader(self) -> StructReader<'a>
-        requires planted { IsStruct self }
+        requires planted { IsBuiltStruct self }
         ensures read { struct_of result ≡ struct_at
             (tree_below memory_depth (segment self.entry.arena.now ∷ []) (segment self.entry.arena.now))
             (segment self.entry.arena.now) self.entry.place.data_words self.entry.place.pointers
             self.entry.place.start }
-        ensures parts { AreBelow memory_depth (built_struct self.entry).pointers → struct_of result ≡ built_struct self.entry }
+        ensures parts { AreBelow memory_depth (built_struct_tree self.entry).pointers → struct_of result ≡ built_struct_tree self.entry }
         ensures levels { struct_levels result ≡ 64 }
     {
         let StructBuilder { arena, place } = self;
@@ -77,9 +77,9 @@ impl<'a> StructBuilder<'a> {
     /// How many words its data section has and how many pointers there are (encoding, "Structs").
     #[inline(always)]
     pub fn get_size(&self) -> StructSize
-        requires planted { IsStruct self.now }
-        ensures data { result.data_words ≡ length (built_struct self.now).bytes / 8 }
-        ensures pointers { result.pointers ≡ tree_count (built_struct self.now).pointers }
+        requires planted { IsBuiltStruct self.now }
+        ensures data { result.data_words ≡ length (built_struct_tree self.now).bytes / 8 }
+        ensures pointers { result.pointers ≡ tree_count (built_struct_tree self.now).pointers }
     {
         self.arena.get_size(self.place)
     }
@@ -90,11 +90,11 @@ impl<'a> StructBuilder<'a> {
     /// Refused with `OutOfMemory` exactly where one of its pointers leads more than 129 levels down.
     #[inline(always)]
     pub fn total_size(&self) -> Result<MessageSize>
-        requires planted { IsStruct self.now }
-        ensures size { IfOk result (λ size. IsSize size None (words_of_struct (built_struct self.now))) }
-        ensures succeeds { AreBelow memory_depth (built_struct self.now).pointers → IsOk result }
+        requires planted { IsBuiltStruct self.now }
+        ensures size { IfOk result (λ size. IsSize size None (words_of_struct (built_struct_tree self.now))) }
+        ensures succeeds { AreBelow memory_depth (built_struct_tree self.now).pointers → IsOk result }
         ensures cause { IfErr result (λ e. (e.kind ≡ OutOfMemory)
-            × (AreBelow memory_depth (built_struct self.now).pointers → ⊥)) }
+            × (AreBelow memory_depth (built_struct_tree self.now).pointers → ⊥)) }
     {
         self.arena.total_size(self.place)
     }
@@ -102,8 +102,8 @@ impl<'a> StructBuilder<'a> {
     /// The number at `offset`, in units of its own size, as it is stored; zero bits past the end.
     #[inline(always)]
     pub fn get_data_field<T: PrimitiveElement>(&self, offset: u32) -> T
-        requires planted { IsStruct self.now }
-        ensures { result ≡ T.of_number (number_at T.width offset (built_struct self.now).bytes) }
+        requires planted { IsBuiltStruct self.now }
+        ensures { result ≡ T.of_number (number_at T.width offset (built_struct_tree self.now).bytes) }
     {
         self.arena.get_data_field(self.place, offset)
     }
@@ -112,8 +112,8 @@ impl<'a> StructBuilder<'a> {
     /// it is `mask`.
     #[inline(always)]
     pub fn get_data_field_mask<T: PrimitiveElement>(&self, offset: u32, mask: T) -> T
-        requires planted { IsStruct self.now }
-        ensures { result ≡ T.of_number (bit_xor (number_at T.width offset (built_struct self.now).bytes)
+        requires planted { IsBuiltStruct self.now }
+        ensures { result ≡ T.of_number (bit_xor (number_at T.width offset (built_struct_tree self.now).bytes)
             (T.to_number mask)) }
     {
         self.arena.get_data_field_mask(self.place, offset, mask)
@@ -122,8 +122,8 @@ impl<'a> StructBuilder<'a> {
     /// The bit at `offset`, counted from the lowest of the first byte, as it is stored; false past the end.
     #[inline(always)]
     pub fn get_bool_field(&self, offset: u32) -> bool
-        requires planted { IsStruct self.now }
-        ensures { result ≡ bit_at (built_struct self.now).bytes offset }
+        requires planted { IsBuiltStruct self.now }
+        ensures { result ≡ bit_at (built_struct_tree self.now).bytes offset }
     {
         self.arena.get_bool_field(self.place, offset)
     }
@@ -132,8 +132,8 @@ impl<'a> StructBuilder<'a> {
     /// `mask`; past the end it is `mask`.
     #[inline(always)]
     pub fn get_bool_field_mask(&self, offset: u32, mask: bool) -> bool
-        requires planted { IsStruct self.now }
-        ensures { result ≡ masked_bit (bit_at (built_struct self.now).bytes offset) mask }
+        requires planted { IsBuiltStruct self.now }
+        ensures { result ≡ masked_bit (bit_at (built_struct_tree self.now).bytes offset) mask }
     {
         self.arena.get_bool_field_mask(self.place, offset, mask)
     }
@@ -169,16 +169,16 @@ impl<'a> StructBuilder<'a> {
     /// data section. No memory is taken.
     #[inline(always)]
     pub fn set_data_field_mask<T: PrimitiveElement>(&mut self, offset: u32, value: T, mask: T)
-        requires planted { IsStruct self.old }
+        requires planted { IsBuiltStruct self.old }
         requires inside { (offset + 1) * T.width ≤ 8 * self.old.place.data_words }
         ensures same { self.new.arena.ghost_name ≡ self.old.arena.ghost_name }
         ensures place { self.new.place ≡ self.old.place }
-        ensures planted { Planted (segment self.new.arena.now) (part self.old.place) }
-        ensures changes { PartChanges (part self.old.place) (segment self.old.arena.now) (segment self.new.arena.now) }
+        ensures planted { Planted (segment self.new.arena.now) (handle_words self.old.place) }
+        ensures changes { PartChanges (handle_words self.old.place) (segment self.old.arena.now) (segment self.new.arena.now) }
         ensures tree { struct_from
             (segment self.new.arena.now) self.old.place.start self.old.place.data_words self.old.place.pointers ≡
-            with_bytes (built_struct self.old) (with_number T.width offset
-            (bit_xor (T.to_number value) (T.to_number mask)) (built_struct self.old).bytes) }
+            with_bytes (built_struct_tree self.old) (with_number T.width offset
+            (bit_xor (T.to_number value) (T.to_number mask)) (built_struct_tree self.old).bytes) }
         ensures long { length (segment self.new.arena.now) ≡ length (segment self.old.arena.now) }
     {
         let place = self.place;
@@ -189,15 +189,15 @@ impl<'a> StructBuilder<'a> {
     /// the data section. No memory is taken.
     #[inline(always)]
     pub fn set_bool_field(&mut self, offset: u32, value: bool)
-        requires planted { IsStruct self.old }
+        requires planted { IsBuiltStruct self.old }
         requires inside { offset < 64 * self.old.place.data_words }
         ensures same { self.new.arena.ghost_name ≡ self.old.arena.ghost_name }
         ensures place { self.new.place ≡ self.old.place }
-        ensures planted { Planted (segment self.new.arena.now) (part self.old.place) }
-        ensures changes { PartChanges (part self.old.place) (segment self.old.arena.now) (segment self.new.arena.now) }
+        ensures planted { Planted (segment self.new.arena.now) (handle_words self.old.place) }
+        ensures changes { PartChanges (handle_words self.old.place) (segment self.old.arena.now) (segment self.new.arena.now) }
         ensures tree { struct_from
             (segment self.new.arena.now) self.old.place.start self.old.place.data_words self.old.place.pointers ≡
-            with_bytes (built_struct self.old) (with_bit offset value (built_struct self.old).bytes) }
+            with_bytes (built_struct_tree self.old) (with_bit offset value (built_struct_tree self.old).bytes) }
         ensures long { length (segment self.new.arena.now) ≡ length (segment self.old.arena.now) }
     {
         let place = self.place;
@@ -208,15 +208,15 @@ impl<'a> StructBuilder<'a> {
     /// first byte; it has to lie inside the data section. No memory is taken.
     #[inline(always)]
     pub fn set_bool_field_mask(&mut self, offset: u32, value: bool, mask: bool)
-        requires planted { IsStruct self.old }
+        requires planted { IsBuiltStruct self.old }
         requires inside { offset < 64 * self.old.place.data_words }
         ensures same { self.new.arena.ghost_name ≡ self.old.arena.ghost_name }
         ensures place { self.new.place ≡ self.old.place }
-        ensures planted { Planted (segment self.new.arena.now) (part self.old.place) }
-        ensures changes { PartChanges (part self.old.place) (segment self.old.arena.now) (segment self.new.arena.now) }
+        ensures planted { Planted (segment self.new.arena.now) (handle_words self.old.place) }
+        ensures changes { PartChanges (handle_words self.old.place) (segment self.old.arena.now) (segment self.new.arena.now) }
         ensures tree { struct_from
             (segment self.new.arena.now) self.old.place.start self.old.place.data_words self.old.place.pointers ≡
-            with_bytes (built_struct self.old) (with_bit offset (masked_bit value mask) (built_struct self.old).bytes) }
+            with_bytes (built_struct_tree self.old) (with_bit offset (masked_bit value mask) (built_struct_tree self.old).bytes) }
         ensures long { length (segment self.new.arena.now) ≡ length (segment self.old.arena.now) }
     {
         let place = self.place;
@@ -230,16 +230,16 @@ impl<'a> StructBuilder<'a> {
     /// the first of these in preorder, also where it would not fit, and with `OutOfMemory`; then nothing has changed.
     #[inline(always)]
     pub fn copy_content_from(&mut self, source: &StructReader<'_>) -> Result<()>
-        requires planted { IsStruct self.old }
+        requires planted { IsBuiltStruct self.old }
         ensures same { self.new.arena.ghost_name ≡ self.old.arena.ghost_name }
         ensures place { self.new.place ≡ self.old.place }
-        ensures planted { OnOk result (Planted (segment self.new.arena.now) (part self.old.place)) }
-        ensures changes { OnOk result (PartChanges (part self.old.place) (segment self.old.arena.now)
+        ensures planted { OnOk result (Planted (segment self.new.arena.now) (handle_words self.old.place)) }
+        ensures changes { OnOk result (PartChanges (handle_words self.old.place) (segment self.old.arena.now)
             (segment self.new.arena.now)) }
         ensures tree { OnOk result
             (struct_from
             (segment self.new.arena.now) self.old.place.start self.old.place.data_words self.old.place.pointers ≡
-            fitted (8 * self.old.place.data_words) self.old.place.pointers (struct_of source.now)) }
+            fitted_struct (8 * self.old.place.data_words) self.old.place.pointers (struct_of source.now)) }
         ensures sound { OnOk result (first_fault_of_all (struct_of source.now).pointers ≡ None) }
         ensures cause { IfErr result (λ e. IsCopyRefusal e (first_fault_of_all (struct_of source.now).pointers)) }
         ensures refused { OnErr result (segment self.new.arena.now ≡ segment self.old.arena.now) }
@@ -252,12 +252,12 @@ impl<'a> StructBuilder<'a> {
     /// cut off as by `as_reader`.
     #[inline(always)]
     pub fn pointer_field(&self, index: u16) -> PointerReader<'_>
-        requires planted { IsStruct self.now }
+        requires planted { IsBuiltStruct self.now }
         requires inside { index < self.now.place.pointers }
         ensures read { tree_of result ≡ tree_below memory_depth (segment self.now.arena.now ∷ []) (segment self.now.arena.now)
             (self.now.place.start + self.now.place.data_words + index) }
-        ensures tree { IsBelow memory_depth (nth_tree (built_struct self.now).pointers index)
-            → tree_of result ≡ nth_tree (built_struct self.now).pointers index }
+        ensures tree { IsBelow memory_depth (nth_tree (built_struct_tree self.now).pointers index)
+            → tree_of result ≡ nth_tree (built_struct_tree self.now).pointers index }
         ensures levels { levels_of result ≡ 64 }
     {
         let at = self.arena.get_pointer_field(self.place, index);
@@ -274,8 +274,8 @@ impl<'a> StructBuilder<'a> {
         ensures now { result.arena.now ≡ self.entry.arena.now }
         ensures at { result.at ≡ self.entry.place.start + self.entry.place.data_words + index }
         ensures inside { result.at < word_count (segment self.entry.arena.now) }
-        ensures forest { IsPointer result }
-        ensures tree { pointer_tree result ≡ nth_tree (built_struct self.entry).pointers index }
+        ensures forest { IsBuiltPointer result }
+        ensures tree { built_pointer_tree result ≡ nth_tree (built_struct_tree self.entry).pointers index }
         ensures leaves { (new : List ℕ) → Forest new result.at → Changes result.at (segment self.entry.arena.now) new
             → IsInPointer (segment self.entry.arena.now) new
             self.entry.place.start self.entry.place.data_words self.entry.place.pointers index }
@@ -289,14 +289,14 @@ impl<'a> StructBuilder<'a> {
     /// what this builder has then.
     #[inline(always)]
     pub fn pointer_field_mut(&mut self, index: u16) -> PointerBuilder<'_>
-        requires planted { IsStruct self.old }
+        requires planted { IsBuiltStruct self.old }
         requires inside { index < self.old.place.pointers }
         ensures* lends { sem 𝓛 (LentByStruct self.entry result.arena) }
         ensures now { result.arena.now ≡ self.old.arena.now }
         ensures at { result.at ≡ self.old.place.start + self.old.place.data_words + index }
         ensures inside { result.at < word_count (segment self.old.arena.now) }
-        ensures forest { IsPointer result }
-        ensures tree { pointer_tree result ≡ nth_tree (built_struct self.old).pointers index }
+        ensures forest { IsBuiltPointer result }
+        ensures tree { built_pointer_tree result ≡ nth_tree (built_struct_tree self.old).pointers index }
         ensures leaves { (new : List ℕ) → Forest new result.at → Changes result.at (segment self.old.arena.now) new
             → IsInPointer (segment self.old.arena.now) new
             self.old.place.start self.old.place.data_words self.old.place.pointers index }

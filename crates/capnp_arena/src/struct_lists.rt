@@ -5,7 +5,7 @@ ghost use Rattle.capnp_wire.specs.Encoding.{bytes_of};
 ghost use Rattle.capnp_wire.specs.StructLists.{as_structs};
 ghost use Rattle.capnp_wire.specs.WellFormed.{IsWellFormed};
 ghost use Rattle.capnp_arena.specs.Forest.{Forest, tree};
-ghost use Rattle.capnp_arena.specs.Grown.{IsPartList, kind_pointers, kind_words, number_parts, plain_parts, struct_parts};
+ghost use Rattle.capnp_arena.specs.Grown.{IsPartList, kind_pointers, kind_words, number_parts, pointerless_parts, struct_parts};
 ghost use Rattle.capnp_arena.specs.Made.{size_number};
 ghost use Rattle.capnp_arena.specs.Shape.{word_count};
 
@@ -22,7 +22,7 @@ use std::alloc::Global;
 /// Structs of nothing.
 #[inline(always)]
 fn get_empty_row() -> PartRow
-    ensures { result ≡ plain_parts 0 0 }
+    ensures { result ≡ pointerless_parts 0 0 }
 {
     PartRow {
         first_byte: 0,
@@ -54,7 +54,7 @@ fn get_number_row(start: usize, width: usize) -> PartRow
 #[inline(always)]
 fn get_plain_row(start: usize, number: u8) -> PartRow
     requires { start < 2 ^ 32 }
-    ensures { result ≡ plain_parts start number }
+    ensures { result ≡ pointerless_parts start number }
 {
     match number {
         0 => get_empty_row(),

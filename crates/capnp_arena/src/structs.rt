@@ -5,7 +5,7 @@ ghost use Rattle.capnp_wire.specs.Tree.{nth_tree, tree_count};
 ghost use Rattle.capnp_arena.specs.Forest.{Changes, Forest, tree};
 ghost use Rattle.capnp_arena.specs.Segment.{segment};
 ghost use Rattle.capnp_arena.specs.Shape.{word_count};
-ghost use Rattle.capnp_arena.specs.Built.{ChangesIn, IsBuilt, LeavesIn, built};
+ghost use Rattle.capnp_arena.specs.Built.{ChangesIn, IsBuilt, LeavesIn, built_at};
 
 use crate::arena::{Arena, Place};
 use capnp_wire::primitive::PrimitiveElement;
@@ -15,11 +15,11 @@ use capnp_wire::primitive::PrimitiveElement;
 #[inline(always)]
 pub fn set_data_field<T: PrimitiveElement>(arena: &mut Arena, place: Place, offset: u32, value: T)
     requires planted { IsBuilt arena.old place }
-    requires inside { (offset + 1) * T.width ≤ length (built arena.old place).bytes }
+    requires inside { (offset + 1) * T.width ≤ length (built_at arena.old place).bytes }
     ensures planted { IsBuilt arena.new place }
     ensures changes { ChangesIn place arena.old arena.new }
-    ensures tree { built arena.new place ≡ with_bytes (built arena.old place)
-        (with_number T.width offset (T.to_number value) (built arena.old place).bytes) }
+    ensures tree { built_at arena.new place ≡ with_bytes (built_at arena.old place)
+        (with_number T.width offset (T.to_number value) (built_at arena.old place).bytes) }
     ensures long { length (segment arena.new) ≡ length (segment arena.old) }
 {
     arena.set_number(place, offset, value);
@@ -30,11 +30,11 @@ pub fn set_data_field<T: PrimitiveElement>(arena: &mut Arena, place: Place, offs
 #[inline(always)]
 pub fn set_bool_field(arena: &mut Arena, place: Place, offset: u32, value: bool)
     requires planted { IsBuilt arena.old place }
-    requires inside { offset < 8 * length (built arena.old place).bytes }
+    requires inside { offset < 8 * length (built_at arena.old place).bytes }
     ensures planted { IsBuilt arena.new place }
     ensures changes { ChangesIn place arena.old arena.new }
-    ensures tree { built arena.new place ≡ with_bytes (built arena.old place)
-        (with_bit offset value (built arena.old place).bytes) }
+    ensures tree { built_at arena.new place ≡ with_bytes (built_at arena.old place)
+        (with_bit offset value (built_at arena.old place).bytes) }
     ensures long { length (segment arena.new) ≡ length (segment arena.old) }
 {
     arena.set_bool(place, offset, value);
@@ -44,11 +44,11 @@ pub fn set_bool_field(arena: &mut Arena, place: Place, offset: u32, value: bool)
 #[inline(always)]
 pub fn pointer_at(arena: &Arena, place: Place, index: u16) -> usize
     requires planted { IsBuilt arena.now place }
-    requires inside { index < tree_count (built arena.now place).pointers }
+    requires inside { index < tree_count (built_at arena.now place).pointers }
     ensures word { result ≡ place.start + place.data_words + index }
     ensures inside { result < word_count (segment arena.now) }
     ensures forest { Forest (segment arena.now) result }
-    ensures tree { tree (segment arena.now) result ≡ nth_tree (built arena.now place).pointers index }
+    ensures tree { tree (segment arena.now) result ≡ nth_tree (built_at arena.now place).pointers index }
     ensures leaves { (new : List ℕ) → Forest new result → Changes result (segment arena.now) new
         → LeavesIn place index arena.now result new }
 {

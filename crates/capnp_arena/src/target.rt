@@ -2,7 +2,7 @@
 ghost use Rattle.std.specs.Prelude.{◌+◌, ◌*◌, ◌/◌, ◌<◌, ◌^◌, ◌≡◌, length};
 ghost use Rattle.capnp_wire.specs.Slot.{number_at};
 ghost use Rattle.capnp_arena.specs.Forest.{Forest};
-ghost use Rattle.capnp_arena.specs.Looked.{composite_looked, list_looked, looked, shape_found, struct_looked};
+ghost use Rattle.capnp_arena.specs.Looked.{composite_looked, list_looked, looked_shape, shape_found, struct_looked};
 ghost use Rattle.capnp_arena.specs.Shape.{Points, shape_at};
 
 use crate::look::{
@@ -63,7 +63,7 @@ fn look_at_list(bytes: &[u8], w: usize, word: u64) -> Target
 #[inline(always)]
 fn look_at_word(bytes: &[u8], w: usize) -> Target
     requires { w < 2 ^ 30 }
-    ensures { shape_found result ≡ looked bytes.now w (number_at 8 w bytes.now) }
+    ensures { shape_found result ≡ looked_shape bytes.now w (number_at 8 w bytes.now) }
 {
     let word = get_word(bytes, w);
     if word == 0 {

@@ -2,7 +2,7 @@
 //! numbers that are read from what was built.
 ghost use Rattle.std.specs.Prelude.{OnOk, ◌<◌, ◌≡◌, ◌≢◌};
 ghost use Rattle.capnp_arena.specs.Forest.{Forest, PartChanges};
-ghost use Rattle.capnp_arena.specs.Handles.{IsStruct, part};
+ghost use Rattle.capnp_arena.specs.Handles.{IsBuiltStruct, handle_words};
 ghost use Rattle.capnp_arena.specs.Listed.{list_shape};
 ghost use Rattle.capnp_arena.specs.Message.{IsMessage};
 ghost use Rattle.capnp_arena.specs.Segment.{segment};
@@ -293,12 +293,12 @@ fn fields(message: &mut Builder) -> Result<[u64; 3]>
 
 /// Fills a struct of a data word and a pointer. Others are not filled so.
 fn fill(alloc: Global, fields: &mut StructBuilder<'_>, built: Built) -> Result<[u64; 3]>
-    requires planted { IsStruct fields.old }
+    requires planted { IsBuiltStruct fields.old }
     requires inside { (0 < fields.old.place.data_words) × (0 < fields.old.place.pointers) }
     ensures same { fields.new.arena.ghost_name ≡ fields.old.arena.ghost_name }
     ensures place { fields.new.place ≡ fields.old.place }
-    ensures planted { OnOk result (IsStruct fields.new) }
-    ensures changes { OnOk result (PartChanges (part fields.old.place) (segment fields.old.arena.now)
+    ensures planted { OnOk result (IsBuiltStruct fields.new) }
+    ensures changes { OnOk result (PartChanges (handle_words fields.old.place) (segment fields.old.arena.now)
         (segment fields.new.arena.now)) }
 {
     match built {

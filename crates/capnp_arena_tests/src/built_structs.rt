@@ -2,7 +2,7 @@
 //! A struct stays where it is, and nothing outside it changes.
 ghost use Rattle.std.specs.Prelude.{OnOk, ◌<◌, ◌≡◌};
 ghost use Rattle.capnp_arena.specs.Forest.{PartChanges};
-ghost use Rattle.capnp_arena.specs.Handles.{IsStruct, part};
+ghost use Rattle.capnp_arena.specs.Handles.{IsBuiltStruct, handle_words};
 ghost use Rattle.capnp_arena.specs.Segment.{segment};
 
 use crate::calls::put;
@@ -21,12 +21,12 @@ pub(crate) const POINT: StructSize = StructSize {
 
 /// A number with a default.
 pub(crate) fn masked(fields: &mut StructBuilder<'_>) -> Result<[u64; 3]>
-    requires planted { IsStruct fields.old }
+    requires planted { IsBuiltStruct fields.old }
     requires inside { 0 < fields.old.place.data_words }
     ensures same { fields.new.arena.ghost_name ≡ fields.old.arena.ghost_name }
     ensures place { fields.new.place ≡ fields.old.place }
-    ensures planted { OnOk result (IsStruct fields.new) }
-    ensures changes { OnOk result (PartChanges (part fields.old.place) (segment fields.old.arena.now)
+    ensures planted { OnOk result (IsBuiltStruct fields.new) }
+    ensures changes { OnOk result (PartChanges (handle_words fields.old.place) (segment fields.old.arena.now)
         (segment fields.new.arena.now)) }
 {
     fields.set_data_field_mask::<u16>(1, 5, 7);
@@ -39,12 +39,12 @@ pub(crate) fn masked(fields: &mut StructBuilder<'_>) -> Result<[u64; 3]>
 
 /// A bit, and a number of eight bytes beside it.
 pub(crate) fn bit(fields: &mut StructBuilder<'_>) -> Result<[u64; 3]>
-    requires planted { IsStruct fields.old }
+    requires planted { IsBuiltStruct fields.old }
     requires inside { 0 < fields.old.place.data_words }
     ensures same { fields.new.arena.ghost_name ≡ fields.old.arena.ghost_name }
     ensures place { fields.new.place ≡ fields.old.place }
-    ensures planted { OnOk result (IsStruct fields.new) }
-    ensures changes { OnOk result (PartChanges (part fields.old.place) (segment fields.old.arena.now)
+    ensures planted { OnOk result (IsBuiltStruct fields.new) }
+    ensures changes { OnOk result (PartChanges (handle_words fields.old.place) (segment fields.old.arena.now)
         (segment fields.new.arena.now)) }
 {
     fields.set_bool_field(9, true);
@@ -57,12 +57,12 @@ pub(crate) fn bit(fields: &mut StructBuilder<'_>) -> Result<[u64; 3]>
 
 /// Two bits whose default is true: one that differs from it, and one that doesn't.
 pub(crate) fn masked_bits(fields: &mut StructBuilder<'_>) -> Result<[u64; 3]>
-    requires planted { IsStruct fields.old }
+    requires planted { IsBuiltStruct fields.old }
     requires inside { 0 < fields.old.place.data_words }
     ensures same { fields.new.arena.ghost_name ≡ fields.old.arena.ghost_name }
     ensures place { fields.new.place ≡ fields.old.place }
-    ensures planted { OnOk result (IsStruct fields.new) }
-    ensures changes { OnOk result (PartChanges (part fields.old.place) (segment fields.old.arena.now)
+    ensures planted { OnOk result (IsBuiltStruct fields.new) }
+    ensures changes { OnOk result (PartChanges (handle_words fields.old.place) (segment fields.old.arena.now)
         (segment fields.new.arena.now)) }
 {
     fields.set_bool_field_mask(9, false, true);
@@ -75,12 +75,12 @@ pub(crate) fn masked_bits(fields: &mut StructBuilder<'_>) -> Result<[u64; 3]>
 }
 
 pub(crate) fn word(fields: &mut StructBuilder<'_>) -> Result<[u64; 3]>
-    requires planted { IsStruct fields.old }
+    requires planted { IsBuiltStruct fields.old }
     requires inside { 0 < fields.old.place.data_words }
     ensures same { fields.new.arena.ghost_name ≡ fields.old.arena.ghost_name }
     ensures place { fields.new.place ≡ fields.old.place }
-    ensures planted { OnOk result (IsStruct fields.new) }
-    ensures changes { OnOk result (PartChanges (part fields.old.place) (segment fields.old.arena.now)
+    ensures planted { OnOk result (IsBuiltStruct fields.new) }
+    ensures changes { OnOk result (PartChanges (handle_words fields.old.place) (segment fields.old.arena.now)
         (segment fields.new.arena.now)) }
 {
     fields.set_data_field::<u64>(0, 0x0000_0009_0001_0005);
@@ -89,12 +89,12 @@ pub(crate) fn word(fields: &mut StructBuilder<'_>) -> Result<[u64; 3]>
 
 /// A number, and whether the pointer is null.
 pub(crate) fn struct_here(fields: &mut StructBuilder<'_>) -> Result<[u64; 3]>
-    requires planted { IsStruct fields.old }
+    requires planted { IsBuiltStruct fields.old }
     requires inside { (0 < fields.old.place.data_words) × (0 < fields.old.place.pointers) }
     ensures same { fields.new.arena.ghost_name ≡ fields.old.arena.ghost_name }
     ensures place { fields.new.place ≡ fields.old.place }
-    ensures planted { OnOk result (IsStruct fields.new) }
-    ensures changes { OnOk result (PartChanges (part fields.old.place) (segment fields.old.arena.now)
+    ensures planted { OnOk result (IsBuiltStruct fields.new) }
+    ensures changes { OnOk result (PartChanges (handle_words fields.old.place) (segment fields.old.arena.now)
         (segment fields.new.arena.now)) }
 {
     let is_null = fields.pointer_field(0).is_null();
@@ -104,12 +104,12 @@ pub(crate) fn struct_here(fields: &mut StructBuilder<'_>) -> Result<[u64; 3]>
 
 /// A pointer that takes a text and is cleared.
 pub(crate) fn cleared(fields: &mut StructBuilder<'_>) -> Result<[u64; 3]>
-    requires planted { IsStruct fields.old }
+    requires planted { IsBuiltStruct fields.old }
     requires inside { 0 < fields.old.place.pointers }
     ensures same { fields.new.arena.ghost_name ≡ fields.old.arena.ghost_name }
     ensures place { fields.new.place ≡ fields.old.place }
-    ensures planted { OnOk result (IsStruct fields.new) }
-    ensures changes { OnOk result (PartChanges (part fields.old.place) (segment fields.old.arena.now)
+    ensures planted { OnOk result (IsBuiltStruct fields.new) }
+    ensures changes { OnOk result (PartChanges (handle_words fields.old.place) (segment fields.old.arena.now)
         (segment fields.new.arena.now)) }
 {
     let place = fields.place;
@@ -123,12 +123,12 @@ pub(crate) fn cleared(fields: &mut StructBuilder<'_>) -> Result<[u64; 3]>
 
 /// A text by a caller, and a number.
 pub(crate) fn called_text(fields: &mut StructBuilder<'_>) -> Result<[u64; 3]>
-    requires planted { IsStruct fields.old }
+    requires planted { IsBuiltStruct fields.old }
     requires inside { 0 < fields.old.place.pointers }
     ensures same { fields.new.arena.ghost_name ≡ fields.old.arena.ghost_name }
     ensures place { fields.new.place ≡ fields.old.place }
-    ensures planted { OnOk result (IsStruct fields.new) }
-    ensures changes { OnOk result (PartChanges (part fields.old.place) (segment fields.old.arena.now)
+    ensures planted { OnOk result (IsBuiltStruct fields.new) }
+    ensures changes { OnOk result (PartChanges (handle_words fields.old.place) (segment fields.old.arena.now)
         (segment fields.new.arena.now)) }
 {
     put_text(fields, b"hi")?;
@@ -136,12 +136,12 @@ pub(crate) fn called_text(fields: &mut StructBuilder<'_>) -> Result<[u64; 3]>
 }
 
 pub(crate) fn called_number(fields: &mut StructBuilder<'_>) -> Result<[u64; 3]>
-    requires planted { IsStruct fields.old }
+    requires planted { IsBuiltStruct fields.old }
     requires inside { 0 < fields.old.place.data_words }
     ensures same { fields.new.arena.ghost_name ≡ fields.old.arena.ghost_name }
     ensures place { fields.new.place ≡ fields.old.place }
-    ensures planted { OnOk result (IsStruct fields.new) }
-    ensures changes { OnOk result (PartChanges (part fields.old.place) (segment fields.old.arena.now)
+    ensures planted { OnOk result (IsBuiltStruct fields.new) }
+    ensures changes { OnOk result (PartChanges (handle_words fields.old.place) (segment fields.old.arena.now)
         (segment fields.new.arena.now)) }
 {
     put_number(fields, 0, 9);
@@ -150,12 +150,12 @@ pub(crate) fn called_number(fields: &mut StructBuilder<'_>) -> Result<[u64; 3]>
 
 /// What is below a struct is measured with it.
 pub(crate) fn measured(fields: &mut StructBuilder<'_>) -> Result<[u64; 3]>
-    requires planted { IsStruct fields.old }
+    requires planted { IsBuiltStruct fields.old }
     requires inside { (0 < fields.old.place.data_words) × (0 < fields.old.place.pointers) }
     ensures same { fields.new.arena.ghost_name ≡ fields.old.arena.ghost_name }
     ensures place { fields.new.place ≡ fields.old.place }
-    ensures planted { OnOk result (IsStruct fields.new) }
-    ensures changes { OnOk result (PartChanges (part fields.old.place) (segment fields.old.arena.now)
+    ensures planted { OnOk result (IsBuiltStruct fields.new) }
+    ensures changes { OnOk result (PartChanges (handle_words fields.old.place) (segment fields.old.arena.now)
         (segment fields.new.arena.now)) }
 {
     let first = fields.total_size()?;
@@ -165,12 +165,12 @@ pub(crate) fn measured(fields: &mut StructBuilder<'_>) -> Result<[u64; 3]>
 }
 
 fn copy_to_pointer(fields: &mut StructBuilder<'_>, source: PointerReader<'_>) -> Result<()>
-    requires planted { IsStruct fields.old }
+    requires planted { IsBuiltStruct fields.old }
     requires inside { 0 < fields.old.place.pointers }
     ensures same { fields.new.arena.ghost_name ≡ fields.old.arena.ghost_name }
     ensures place { fields.new.place ≡ fields.old.place }
-    ensures planted { OnOk result (IsStruct fields.new) }
-    ensures changes { OnOk result (PartChanges (part fields.old.place) (segment fields.old.arena.now)
+    ensures planted { OnOk result (IsBuiltStruct fields.new) }
+    ensures changes { OnOk result (PartChanges (handle_words fields.old.place) (segment fields.old.arena.now)
         (segment fields.new.arena.now)) }
 {
     let place = fields.place;
@@ -181,12 +181,12 @@ fn copy_to_pointer(fields: &mut StructBuilder<'_>, source: PointerReader<'_>) ->
 
 /// A text that is copied to a pointer.
 pub(crate) fn copied_text(alloc: Global, fields: &mut StructBuilder<'_>) -> Result<[u64; 3]>
-    requires planted { IsStruct fields.old }
+    requires planted { IsBuiltStruct fields.old }
     requires inside { 0 < fields.old.place.pointers }
     ensures same { fields.new.arena.ghost_name ≡ fields.old.arena.ghost_name }
     ensures place { fields.new.place ≡ fields.old.place }
-    ensures planted { OnOk result (IsStruct fields.new) }
-    ensures changes { OnOk result (PartChanges (part fields.old.place) (segment fields.old.arena.now)
+    ensures planted { OnOk result (IsBuiltStruct fields.new) }
+    ensures changes { OnOk result (PartChanges (handle_words fields.old.place) (segment fields.old.arena.now)
         (segment fields.new.arena.now)) }
 {
     let bytes = bytes_of(
@@ -199,12 +199,12 @@ pub(crate) fn copied_text(alloc: Global, fields: &mut StructBuilder<'_>) -> Resu
 
 /// The size of a struct, and that of the elements of a list at its pointer.
 pub(crate) fn sizes(fields: &mut StructBuilder<'_>) -> Result<[u64; 3]>
-    requires planted { IsStruct fields.old }
+    requires planted { IsBuiltStruct fields.old }
     requires inside { 0 < fields.old.place.pointers }
     ensures same { fields.new.arena.ghost_name ≡ fields.old.arena.ghost_name }
     ensures place { fields.new.place ≡ fields.old.place }
-    ensures planted { OnOk result (IsStruct fields.new) }
-    ensures changes { OnOk result (PartChanges (part fields.old.place) (segment fields.old.arena.now)
+    ensures planted { OnOk result (IsBuiltStruct fields.new) }
+    ensures changes { OnOk result (PartChanges (handle_words fields.old.place) (segment fields.old.arena.now)
         (segment fields.new.arena.now)) }
 {
     let size = fields.get_size();
@@ -216,12 +216,12 @@ pub(crate) fn sizes(fields: &mut StructBuilder<'_>) -> Result<[u64; 3]>
 }
 
 fn set_numbers(fields: &mut StructBuilder<'_>)
-    requires planted { IsStruct fields.old }
+    requires planted { IsBuiltStruct fields.old }
     requires inside { 1 < fields.old.place.data_words }
     ensures same { fields.new.arena.ghost_name ≡ fields.old.arena.ghost_name }
     ensures place { fields.new.place ≡ fields.old.place }
-    ensures planted { IsStruct fields.new }
-    ensures changes { PartChanges (part fields.old.place) (segment fields.old.arena.now)
+    ensures planted { IsBuiltStruct fields.new }
+    ensures changes { PartChanges (handle_words fields.old.place) (segment fields.old.arena.now)
         (segment fields.new.arena.now) }
 {
     fields.set_data_field::<u64>(0, 7);
@@ -229,12 +229,12 @@ fn set_numbers(fields: &mut StructBuilder<'_>)
 }
 
 fn set_points(fields: &mut StructBuilder<'_>) -> Result<()>
-    requires planted { IsStruct fields.old }
+    requires planted { IsBuiltStruct fields.old }
     requires inside { 2 < fields.old.place.pointers }
     ensures same { fields.new.arena.ghost_name ≡ fields.old.arena.ghost_name }
     ensures place { fields.new.place ≡ fields.old.place }
-    ensures planted { OnOk result (IsStruct fields.new) }
-    ensures changes { OnOk result (PartChanges (part fields.old.place) (segment fields.old.arena.now)
+    ensures planted { OnOk result (IsBuiltStruct fields.new) }
+    ensures changes { OnOk result (PartChanges (handle_words fields.old.place) (segment fields.old.arena.now)
         (segment fields.new.arena.now)) }
 {
     let place = fields.place;
@@ -247,12 +247,12 @@ fn set_points(fields: &mut StructBuilder<'_>) -> Result<()>
 
 /// A reading of examples/reading.capnp.
 pub(crate) fn reading(fields: &mut StructBuilder<'_>) -> Result<[u64; 3]>
-    requires planted { IsStruct fields.old }
+    requires planted { IsBuiltStruct fields.old }
     requires inside { (1 < fields.old.place.data_words) × (2 < fields.old.place.pointers) }
     ensures same { fields.new.arena.ghost_name ≡ fields.old.arena.ghost_name }
     ensures place { fields.new.place ≡ fields.old.place }
-    ensures planted { OnOk result (IsStruct fields.new) }
-    ensures changes { OnOk result (PartChanges (part fields.old.place) (segment fields.old.arena.now)
+    ensures planted { OnOk result (IsBuiltStruct fields.new) }
+    ensures changes { OnOk result (PartChanges (handle_words fields.old.place) (segment fields.old.arena.now)
         (segment fields.new.arena.now)) }
 {
     set_numbers(fields);

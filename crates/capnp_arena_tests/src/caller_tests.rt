@@ -1,5 +1,5 @@
 //! What callers that are proved count and build, each in a message of its own.
-ghost use Rattle.capnp_arena.specs.Handles.{IsStruct};
+ghost use Rattle.capnp_arena.specs.Handles.{IsBuiltStruct};
 
 use crate::calls::init_list;
 use crate::fixtures::{ONE_EACH, answer, is_spelled, is_written_as};
@@ -36,7 +36,7 @@ fn new_numbers_and_structs_are_counted(rt: HostRuntime) {
 
 /// A number, the same with a default, a bit, the same with a default, the pointers, and the number by a reader.
 fn read_fields(made: &StructBuilder<'_>) -> [u64; 6]
-    requires { IsStruct made.now }
+    requires { IsBuiltStruct made.now }
 {
     [
         made.get_data_field::<u64>(0),

@@ -3,7 +3,7 @@
 //! one message. A message stays one, also where a call is refused.
 ghost use Rattle.std.specs.Prelude.{◌<◌, ◌≡◌, ◌≢◌};
 ghost use Rattle.capnp_arena.specs.Forest.{Forest, PartChanges};
-ghost use Rattle.capnp_arena.specs.Handles.{IsStruct, part};
+ghost use Rattle.capnp_arena.specs.Handles.{IsBuiltStruct, handle_words};
 ghost use Rattle.capnp_arena.specs.Listed.{list_shape};
 ghost use Rattle.capnp_arena.specs.Message.{IsMessage};
 ghost use Rattle.capnp_arena.specs.Segment.{segment};
@@ -139,12 +139,12 @@ pub(crate) type Change = (
 
 /// Sets a text at a pointer of a struct, and stores a number in its word of the same index.
 pub(crate) fn put(fields: &mut StructBuilder<'_>, index: u16, number: u64, text: &str) -> Result<()>
-    requires planted { IsStruct fields.old }
+    requires planted { IsBuiltStruct fields.old }
     requires inside { (index < fields.old.place.data_words) × (index < fields.old.place.pointers) }
     ensures same { fields.new.arena.ghost_name ≡ fields.old.arena.ghost_name }
     ensures place { fields.new.place ≡ fields.old.place }
-    ensures planted { IsStruct fields.new }
-    ensures changes { PartChanges (part fields.old.place) (segment fields.old.arena.now)
+    ensures planted { IsBuiltStruct fields.new }
+    ensures changes { PartChanges (handle_words fields.old.place) (segment fields.old.arena.now)
         (segment fields.new.arena.now) }
 {
     let place = fields.place;

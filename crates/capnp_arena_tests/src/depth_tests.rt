@@ -1,7 +1,7 @@
 //! Messages that are as deep as a walk goes, and one level deeper.
 ghost use Rattle.std.specs.Prelude.{IfOk, ◌<◌, ◌≡◌};
 ghost use Rattle.capnp_arena.specs.Forest.{PartChanges};
-ghost use Rattle.capnp_arena.specs.Handles.{IsStruct, part};
+ghost use Rattle.capnp_arena.specs.Handles.{IsBuiltStruct, handle_words};
 ghost use Rattle.capnp_arena.specs.Message.{IsMessage};
 ghost use Rattle.capnp_arena.specs.Segment.{segment};
 
@@ -22,12 +22,12 @@ const ONE_POINTER: StructSize = StructSize {
 
 /// Makes the first pointer of a struct lead to a copy.
 fn put(fields: &mut StructBuilder<'_>, source: PointerReader<'_>) -> Result<()>
-    requires planted { IsStruct fields.old }
+    requires planted { IsBuiltStruct fields.old }
     requires inside { 0 < fields.old.place.pointers }
     ensures same { fields.new.arena.ghost_name ≡ fields.old.arena.ghost_name }
     ensures place { fields.new.place ≡ fields.old.place }
-    ensures planted { IsStruct fields.new }
-    ensures changes { PartChanges (part fields.old.place) (segment fields.old.arena.now)
+    ensures planted { IsBuiltStruct fields.new }
+    ensures changes { PartChanges (handle_words fields.old.place) (segment fields.old.arena.now)
         (segment fields.new.arena.now) }
 {
     let place = fields.place;

@@ -5,7 +5,7 @@ use Rattle.capnp_base.specs.declared.introspect.«Type».{«Type» as TypeHandle
 use Rattle.capnp_base.specs.declared.introspect.BaseType.TheVariants as base
 use Rattle.capnp_base.specs.declared.introspect.TypeVariant.{TypeVariant}
 use Rattle.capnp_base.specs.declared.introspect.TypeVariant.TheVariants as variant
-use Rattle.capnp_base.specs.Types.{element_size, equal_types, innermost, is_pointer, kind, list_depth, list_type, loosely_equal_types, type_from, variant_of}
+use Rattle.capnp_base.specs.Types.{variant_element_size, equal_types, innermost, is_behind_pointer, variant_kind, list_depth, list_type, loosely_equal_types, type_from, variant_of}
 
 abbrev pub struct_type : ℕ → ℕ → TypeHandle
 struct_type number generic = type_from (variant.Struct (record { number = number; generic = generic }))
@@ -61,7 +61,7 @@ pub one_of_all : map (equal_types u32) (map type_from each_variant)
 one_of_all = refl
 
 -- the variants are told apart
-pub variants_differ : map kind each_variant ≡ 0 ∷ 1 ∷ 2 ∷ 3 ∷ 4 ∷ 5 ∷ 6 ∷ 7 ∷ 8 ∷ 9 ∷ 10 ∷ 11 ∷ 12 ∷ 13 ∷ 14 ∷ []
+pub variants_differ : map variant_kind each_variant ≡ 0 ∷ 1 ∷ 2 ∷ 3 ∷ 4 ∷ 5 ∷ 6 ∷ 7 ∷ 8 ∷ 9 ∷ 10 ∷ 11 ∷ 12 ∷ 13 ∷ 14 ∷ []
 variants_differ = refl
 
 -- ---- layers ----
@@ -95,20 +95,20 @@ type_of_list = refl
 -- ---- pointers and element sizes ----
 
 -- texts, data, structs and untyped pointers stand behind pointers; enums and Void don't
-pub pointers : map (λ v. is_pointer (type_from v)) each_variant
+pub pointers : map (λ v. is_behind_pointer (type_from v)) each_variant
     ≡ false ∷ false ∷ false ∷ false ∷ false ∷ false ∷ false ∷ false ∷ false ∷ false ∷ true ∷ true ∷ true ∷ true ∷ false ∷ []
 pointers = refl
 
 -- so does every list, of UInt8, of Void, of an enum and of lists
-pub lists_are_pointers : map is_pointer (list_type u8 ∷ list_type (type_from variant.Void) ∷ list_type (enum_type 1) ∷ list_type (list_type u8) ∷ [])
+pub lists_are_pointers : map is_behind_pointer (list_type u8 ∷ list_type (type_from variant.Void) ∷ list_type (enum_type 1) ∷ list_type (list_type u8) ∷ [])
     ≡ true ∷ true ∷ true ∷ true ∷ []
 lists_are_pointers = refl
 
-pub element_sizes : map element_size each_variant
+pub element_sizes : map variant_element_size each_variant
     ≡ size.Void ∷ size.Bit ∷ size.Byte ∷ size.TwoBytes ∷ size.FourBytes ∷ size.EightBytes ∷ size.Byte ∷ size.TwoBytes ∷ size.FourBytes ∷ size.EightBytes
     ∷ size.Pointer ∷ size.Pointer ∷ size.InlineComposite ∷ size.Pointer ∷ size.TwoBytes ∷ []
 element_sizes = refl
 
 -- lists in a list are pointers
-pub element_size_of_lists : element_size (variant_of (list_type u8)) ≡ size.Pointer
+pub element_size_of_lists : variant_element_size (variant_of (list_type u8)) ≡ size.Pointer
 element_size_of_lists = refl

@@ -9,9 +9,9 @@ use Rattle.capnp_device.specs.declared.error.Error.{Error}
 use Rattle.capnp_device.specs.declared.error.ErrorKind.{ErrorKind}
 
 -- whether a default stands in for what is at a pointer: it is null, and there is one
-abbrev pub takes_default : Tree → Option PointerReader → Bool
-takes_default t None = false
-takes_default t (Some default) = is_null_tree t
+abbrev pub takes_pointer_default : Tree → Option PointerReader → Bool
+takes_pointer_default t None = false
+takes_pointer_default t (Some default) = is_null_tree t
 
 -- the default's tree there, and else the pointer's own
 abbrev pub tree_or : Tree → Option PointerReader → Tree
@@ -35,9 +35,9 @@ default_refusal read t (Some default) = cond (is_null_tree t) (refusal_in (read 
 
 -- why a default is not copied: there is a null to copy it into, and it is not read so, or else memory was refused
 abbrev pub IsDefaultRefusal : {A : Type 0} → (Tree → Result A ErrorKind) → Tree → Option PointerReader → Error → Type 0
-IsDefaultRefusal read t default error = (takes_default t default ≡ true) × IsDueRefusal error (default_refusal read t default)
+IsDefaultRefusal read t default error = (takes_pointer_default t default ≡ true) × IsDueRefusal error (default_refusal read t default)
 
 -- why what is built at a pointer is not handed out: it is not read so; or the default is not, or else memory for its copy
 -- was refused
 abbrev pub IsReadRefusal : {A : Type 0} → (Tree → Result A ErrorKind) → Tree → Option PointerReader → Error → Type 0
-IsReadRefusal read t default error = (takes_default t default ≡ false → read t ≡ Err error.kind) × IsDueRefusal error (refusal_in (read (tree_or t default)))
+IsReadRefusal read t default error = (takes_pointer_default t default ≡ false → read t ≡ Err error.kind) × IsDueRefusal error (refusal_in (read (tree_or t default)))

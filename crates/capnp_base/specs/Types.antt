@@ -92,46 +92,46 @@ is_pointer_variant variant.AnyPointer = true
 is_pointer_variant (variant.Enum e) = false
 is_pointer_variant (variant.List t) = true
 
-abbrev pub is_pointer : TypeHandle → Bool
-is_pointer t = is_pointer_variant (variant_of t)
+abbrev pub is_behind_pointer : TypeHandle → Bool
+is_behind_pointer t = is_pointer_variant (variant_of t)
 
 -- the size of the elements of a list of such values ("Lists" of the encoding)
-abbrev pub element_size : TypeVariant → ElementSize
-element_size variant.Void = size.Void
-element_size variant.Bool = size.Bit
-element_size variant.Int8 = size.Byte
-element_size variant.Int16 = size.TwoBytes
-element_size variant.Int32 = size.FourBytes
-element_size variant.Int64 = size.EightBytes
-element_size variant.UInt8 = size.Byte
-element_size variant.UInt16 = size.TwoBytes
-element_size variant.UInt32 = size.FourBytes
-element_size variant.UInt64 = size.EightBytes
-element_size variant.Text = size.Pointer
-element_size variant.Data = size.Pointer
-element_size (variant.Struct s) = size.InlineComposite
-element_size variant.AnyPointer = size.Pointer
-element_size (variant.Enum e) = size.TwoBytes
-element_size (variant.List t) = size.Pointer
+abbrev pub variant_element_size : TypeVariant → ElementSize
+variant_element_size variant.Void = size.Void
+variant_element_size variant.Bool = size.Bit
+variant_element_size variant.Int8 = size.Byte
+variant_element_size variant.Int16 = size.TwoBytes
+variant_element_size variant.Int32 = size.FourBytes
+variant_element_size variant.Int64 = size.EightBytes
+variant_element_size variant.UInt8 = size.Byte
+variant_element_size variant.UInt16 = size.TwoBytes
+variant_element_size variant.UInt32 = size.FourBytes
+variant_element_size variant.UInt64 = size.EightBytes
+variant_element_size variant.Text = size.Pointer
+variant_element_size variant.Data = size.Pointer
+variant_element_size (variant.Struct s) = size.InlineComposite
+variant_element_size variant.AnyPointer = size.Pointer
+variant_element_size (variant.Enum e) = size.TwoBytes
+variant_element_size (variant.List t) = size.Pointer
 
 -- which variant it is
-abbrev pub kind : TypeVariant → ℕ
-kind variant.Void = 0
-kind variant.Bool = 1
-kind variant.Int8 = 2
-kind variant.Int16 = 3
-kind variant.Int32 = 4
-kind variant.Int64 = 5
-kind variant.UInt8 = 6
-kind variant.UInt16 = 7
-kind variant.UInt32 = 8
-kind variant.UInt64 = 9
-kind variant.Text = 10
-kind variant.Data = 11
-kind (variant.Struct s) = 12
-kind variant.AnyPointer = 13
-kind (variant.Enum e) = 14
-kind (variant.List t) = 15
+abbrev pub variant_kind : TypeVariant → ℕ
+variant_kind variant.Void = 0
+variant_kind variant.Bool = 1
+variant_kind variant.Int8 = 2
+variant_kind variant.Int16 = 3
+variant_kind variant.Int32 = 4
+variant_kind variant.Int64 = 5
+variant_kind variant.UInt8 = 6
+variant_kind variant.UInt16 = 7
+variant_kind variant.UInt32 = 8
+variant_kind variant.UInt64 = 9
+variant_kind variant.Text = 10
+variant_kind variant.Data = 11
+variant_kind (variant.Struct s) = 12
+variant_kind variant.AnyPointer = 13
+variant_kind (variant.Enum e) = 14
+variant_kind (variant.List t) = 15
 
 -- the number of its schema, 0 where it has none
 abbrev pub schema_number : TypeVariant → ℕ
@@ -147,10 +147,10 @@ generic_number v = 0
 
 -- whether two types are equal: as many lists of the same variant, structs and enums by their schema's number alone
 abbrev pub equal_types : TypeHandle → TypeHandle → Bool
-equal_types t u = (list_depth t == list_depth u) && (kind (innermost t) == kind (innermost u))
+equal_types t u = (list_depth t == list_depth u) && (variant_kind (innermost t) == variant_kind (innermost u))
     && (schema_number (innermost t) == schema_number (innermost u))
 
 -- the same, where structs go by their generic number
 abbrev pub loosely_equal_types : TypeHandle → TypeHandle → Bool
-loosely_equal_types t u = (list_depth t == list_depth u) && (kind (innermost t) == kind (innermost u))
+loosely_equal_types t u = (list_depth t == list_depth u) && (variant_kind (innermost t) == variant_kind (innermost u))
     && (generic_number (innermost t) == generic_number (innermost u))

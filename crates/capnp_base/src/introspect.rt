@@ -4,7 +4,7 @@
 ghost use Rattle.std.specs.Prelude.{◌≡◌};
 ghost use Rattle.capnp_base.specs.declared.introspect.«Type».{«Type» as TypeHandle};
 ghost use Rattle.capnp_base.specs.declared.introspect.TypeVariant.TheVariants as variant;
-ghost use Rattle.capnp_base.specs.Types.{base_type, element_size, innermost, is_pointer, list_type, loosely_equal_types, type_from, variant_of};
+ghost use Rattle.capnp_base.specs.Types.{base_type, variant_element_size, innermost, is_behind_pointer, list_type, loosely_equal_types, type_from, variant_of};
 
 pub mod laws;
 
@@ -143,7 +143,7 @@ impl Type {
 
     /// The size of the elements of a list of such values ("Lists" of the encoding).
     pub fn expected_element_size(&self) -> ElementSize
-        ensures { result ≡ element_size (variant_of self.now) }
+        ensures { result ≡ variant_element_size (variant_of self.now) }
     {
         match self.which() {
             TypeVariant::Void => ElementSize::Void,
@@ -163,7 +163,7 @@ impl Type {
 
     /// Whether such values stand behind pointers: lists, texts, data, structs and untyped pointers do.
     pub fn is_pointer_type(&self) -> bool
-        ensures { result ≡ is_pointer self.now }
+        ensures { result ≡ is_behind_pointer self.now }
     {
         match self.which() {
             TypeVariant::Text

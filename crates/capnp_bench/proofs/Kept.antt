@@ -1,10 +1,10 @@
 -- What a write keeps: a struct stands at its place, with its schema's sections.
 use Rattle.std.specs.Prelude.{◌*◌, ◌≤◌, ◌≡◌, Bool}
 use Rattle.std.proofs.Common.{subst, sym}
-use Rattle.capnp_arena.specs.Built.{IsBuilt, built}
+use Rattle.capnp_arena.specs.Built.{IsBuilt, built_at}
 use Rattle.capnp_arena.specs.declared.arena.Arena.{Arena}
 use Rattle.capnp_arena.specs.declared.arena.Place.{Place}
-use Rattle.capnp_schema.specs.FieldLists.{schema_of}
+use Rattle.capnp_schema.specs.FieldLists.{field_schema}
 use Rattle.capnp_schema.specs.Footprint.{Spot}
 use Rattle.capnp_schema.specs.StructHandles.{number_of, set_of}
 use Rattle.capnp_schema.specs.declared.schema.fields.Field.{Field}
@@ -17,7 +17,7 @@ use Rattle.capnp_slots.specs.Standing.{IsStanding}
 use Rattle.capnp_bench.specs.Room.{LiesIn}
 
 pub kept_ready : (schema : StructSchema) (inside : Spot → Bool) (place : Place) (old new : Arena) → IsStanding schema old place → IsBuilt new place
-    → Keeps inside (built old place) (built new place) → IsStanding schema new place
+    → Keeps inside (built_at old place) (built_at new place) → IsStanding schema new place
 kept_ready schema inside place old new under planted kept = record {
   planted = planted;
   room = (
@@ -27,8 +27,8 @@ kept_ready schema inside place old new under planted kept = record {
 }
 
 -- a field of a schema lies in it, and one of a group in it too
-pub own_lies : (schema : StructSchema) (f : Field) → schema_of f ≡ schema → LiesIn schema f
+pub own_lies : (schema : StructSchema) (f : Field) → field_schema f ≡ schema → LiesIn schema f
 own_lies schema f e s fits = subst (λ (z : StructSchema). Fits (set_of z) (number_of z) s) (sym e) fits
 
-pub group_lies : (schema : StructSchema) (g : Field) (group : StructSchema) (f : Field) → LiesIn schema g → IsGroupAt g group → schema_of f ≡ group → LiesIn schema f
+pub group_lies : (schema : StructSchema) (g : Field) (group : StructSchema) (f : Field) → LiesIn schema g → IsGroupAt g group → field_schema f ≡ group → LiesIn schema f
 group_lies schema g group f lies at e s fits = own_lies group f e s (at.room s (lies s fits))

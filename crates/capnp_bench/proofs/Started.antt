@@ -16,11 +16,11 @@ use Rattle.capnp_schema.specs.Schema.{Schemas}
 use Rattle.capnp_schema.specs.StructHandles.{number_of, set_of}
 use Rattle.capnp_schema.specs.declared.schema.structs.StructSchema.{StructSchema}
 use Rattle.capnp_records.specs.Writes.Slots.{Fits}
-use Rattle.capnp_arena.specs.Built.{IsBuilt, built, part}
+use Rattle.capnp_arena.specs.Built.{IsBuilt, built_at, place_words}
 use Rattle.capnp_slots.specs.Groups.{KeepsSize}
 use Rattle.capnp_slots.specs.Standing.{IsStanding}
 
-pub standing_on : (schema : StructSchema) (p : Place) (a b : Arena) → IsStanding schema a p → IsBuilt b p → KeepsSize (built a p) (built b p) → IsStanding schema b p
+pub standing_on : (schema : StructSchema) (p : Place) (a b : Arena) → IsStanding schema a p → IsBuilt b p → KeepsSize (built_at a p) (built_at b p) → IsStanding schema b p
 standing_on schema p a b h planted k = record {
   planted = planted;
   room = (
@@ -29,10 +29,10 @@ standing_on schema p a b h planted k = record {
   );
 }
 
-module _ (a : Arena) (p : Place) (forest : Forest (segment a) 0) (there : shape_at (segment a) 0 ≡ part p) where
+module _ (a : Arena) (p : Place) (forest : Forest (segment a) 0) (there : shape_at (segment a) 0 ≡ place_words p) where
   pub is_started : IsBuilt a p
   is_started = struct_planted (segment a) 0 p.start p.data_words p.pointers forest there
 
-  pub started_fits : (set : Schemas) (b : ℕ) (size : StructSize) → size ≡ brand_size set b → tree (segment a) 0 ≡ struct_tree (zero_struct size) → Fits set b (built a p)
+  pub started_fits : (set : Schemas) (b : ℕ) (size : StructSize) → size ≡ brand_size set b → tree (segment a) 0 ≡ struct_tree (zero_struct size) → Fits set b (built_at a p)
   started_fits set b size is made =
       subst (HasAtLeast (brand_size set b)) (sym (struct_is (segment a) 0 p.start p.data_words p.pointers (zero_struct size) forest there made ∙ ap zero_struct is)) (HasAtLeast-zero_struct (brand_size set b))

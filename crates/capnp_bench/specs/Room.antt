@@ -6,7 +6,7 @@ use Rattle.capnp_schema.specs.StructHandles.{number_of, set_of}
 use Rattle.capnp_schema.specs.declared.schema.fields.Field.{Field}
 use Rattle.capnp_schema.specs.declared.schema.structs.StructSchema.{StructSchema}
 use Rattle.capnp_records.specs.Writes.Slots.{Fits}
-use Rattle.capnp_slots.specs.Fields.{IsPointer, IsRoomFor, IsSlot}
+use Rattle.capnp_slots.specs.Fields.{IsPointerField, IsRoomFor, IsSlot}
 use Rattle.capnp_slots.specs.Groups.{IsGroup}
 use Rattle.capnp_bench.specs.declared.documents.ItemFields.{ItemFields}
 use Rattle.capnp_bench.specs.declared.sets.Shapes.{Shapes}
@@ -38,6 +38,6 @@ abbrev pub HoldsItems : StructSchema → Tree → Type 0
 HoldsItems item t = HoldsStructs (brand_size (set_of item) (number_of item)) t
 
 -- a field is a slot behind whose pointer a list stands
-pub record IsListSlot (f : Field) : Type 0 where
+pub record IsSlotOfList (f : Field) : Type 0 where
   pub slot : IsSlot f
-  pub pointer : IsPointer f
+  pub pointer : IsPointerField f

@@ -7,7 +7,7 @@ ghost use Rattle.capnp_arena.specs.Segment.{segment};
 ghost use Rattle.capnp_wire.specs.Reading.{list_length};
 ghost use Rattle.capnp_schema.specs.StructHandles.{IsStruct};
 ghost use Rattle.capnp_slots.specs.Standing.{IsStanding};
-ghost use Rattle.capnp_bench.specs.Room.{AreItemFields, HoldsItems, IsListSlot, LiesIn};
+ghost use Rattle.capnp_bench.specs.Room.{AreItemFields, HoldsItems, IsSlotOfList, LiesIn};
 
 use crate::sets::{field_of, set, start_root};
 use capnp_arena::arena::{Arena, Place};
@@ -159,7 +159,7 @@ fn item_fields<'s>(item: StructSchema<'s>) -> Result<ItemFields<'s>>
 /// The slot of a list of that name; refused as `field_of`, and with `TypeMismatch` for another field.
 fn list_field<'s>(schema: StructSchema<'s>, name: &str) -> Result<Field<'s>>
     ensures lies { IfOk result (LiesIn schema.entry) }
-    ensures list { IfOk result IsListSlot }
+    ensures list { IfOk result IsSlotOfList }
 {
     let field = field_of(schema, name)?;
     if !slot::is_slot(field) {
@@ -244,7 +244,7 @@ fn build_once(
 ) -> Result<u64>
     requires fields { AreItemFields item fields.now }
     requires lies { LiesIn document items }
-    requires list { IsListSlot items }
+    requires list { IsSlotOfList items }
 {
     let mut message = Builder::new(alloc)?;
     let root = start_root(&mut message, document)?;

@@ -1,10 +1,10 @@
 //! Dynamic sets: numbers by field handle in a struct and its groups, and messages that are built whole.
 ghost use Rattle.std.specs.Prelude.{◌<◌, ◌≡◌, IfOk, OnOk};
-ghost use Rattle.capnp_arena.specs.Built.{ChangesIn, IsBuilt, part};
+ghost use Rattle.capnp_arena.specs.Built.{ChangesIn, IsBuilt, place_words};
 ghost use Rattle.capnp_arena.specs.Forest.{Forest};
 ghost use Rattle.capnp_arena.specs.Segment.{segment};
 ghost use Rattle.capnp_arena.specs.Shape.{shape_at, word_count};
-ghost use Rattle.capnp_schema.specs.FieldLists.{schema_of};
+ghost use Rattle.capnp_schema.specs.FieldLists.{field_schema};
 ghost use Rattle.capnp_slots.specs.Groups.{IsGroup, IsGroupAt};
 ghost use Rattle.capnp_slots.specs.Standing.{IsStanding};
 ghost use Rattle.capnp_bench.specs.Room.{AreShapes, LiesIn};
@@ -39,7 +39,7 @@ struct Shapes<'s> {
 /// The field of a name; refused with `FieldNotFound` where there is none.
 #[tactic(auto, using(crate::proofs::Kept::own_lies))]
 pub(crate) fn field_of<'s>(schema: StructSchema<'s>, name: &str) -> Result<Field<'s>>
-    ensures own { IfOk result (λ f. schema_of f ≡ schema.entry) }
+    ensures own { IfOk result (λ f. field_schema f ≡ schema.entry) }
     ensures lies { IfOk result (LiesIn schema.entry) }
 {
     schema.get_field_by_name(name)
@@ -196,7 +196,7 @@ fn set_all(
 pub(crate) fn start_root(message: &mut Arena, schema: StructSchema<'_>) -> Result<Place>
     requires { 0 < word_count (segment message.old) }
     ensures forest { OnOk result (Forest (segment message.new) 0) }
-    ensures place { IfOk result (λ p. shape_at (segment message.new) 0 ≡ part p) }
+    ensures place { IfOk result (λ p. shape_at (segment message.new) 0 ≡ place_words p) }
     ensures standing { IfOk result (λ p. IsStanding schema.entry message.new p) }
 {
     let size = size_of(schema);

@@ -9,7 +9,7 @@ use Rattle.capnp_wire.specs.Elements.{with_number_element}
 use Rattle.capnp_wire.specs.Reading.{as_data, as_text, terminated_text}
 use Rattle.capnp_wire.specs.Tree as tree
 use Rattle.capnp_wire.specs.Tree.{Tree}
-use Rattle.capnp_builders.specs.Blobs.{bytes_in, written}
+use Rattle.capnp_builders.specs.Blobs.{bytes_in, written_bytes}
 
 -- ---- rows of bytes ----
 
@@ -97,7 +97,7 @@ drop-past (b ∷ bs) i zero v a = absurd (omega (arith, a))
 drop-past (b ∷ bs) zero (suc n) v a = refl
 drop-past (b ∷ bs) (suc i) (suc n) v a = drop-past bs i n v (omega (arith, a))
 
-pub written_is : (old : List ℕ) (i : ℕ) (vs : List ℕ) → i + length vs ≤ length old → written old i vs ≡ take i old ++ vs ++ drop (i + length vs) old
+pub written_is : (old : List ℕ) (i : ℕ) (vs : List ℕ) → i + length vs ≤ length old → written_bytes old i vs ≡ take i old ++ vs ++ drop (i + length vs) old
 written_is old i [] a =
     let n : i ≡ i + 0 = omega arith in
     sym (take-append-drop i old) ∙ (ap (λ k. take i old ++ drop k old) n ∙ sym (ap (λ t. t ++ drop (i + 0) old) (append-nil (take i old))))
@@ -145,10 +145,10 @@ none-taken : (old : List ℕ) → take 0 old ≡ []
 none-taken [] = refl
 none-taken (b ∷ bs) = refl
 
-pub zeros_written : (old : List ℕ) → written old 0 (zeros (length old)) ≡ zeros (length old)
+pub zeros_written : (old : List ℕ) → written_bytes old 0 (zeros (length old)) ≡ zeros (length old)
 zeros_written old =
     let z : List ℕ = zeros (length old) in
     let n : length z ≡ length old = length-replicate (length old) 0 in
     let k : 0 + length z ≡ length z = omega arith in
-    let first : written old 0 z ≡ z ++ drop (length z) old = written_is old 0 z (omega (arith, n)) ∙ (ap (λ (t : List ℕ). t ++ z ++ drop (0 + length z) old) (none-taken old) ∙ ap (λ (m : ℕ). z ++ drop m old) k) in
+    let first : written_bytes old 0 z ≡ z ++ drop (length z) old = written_is old 0 z (omega (arith, n)) ∙ (ap (λ (t : List ℕ). t ++ z ++ drop (0 + length z) old) (none-taken old) ∙ ap (λ (m : ℕ). z ++ drop m old) k) in
     first ∙ (ap (λ (k : ℕ). z ++ drop k old) n ∙ (ap (λ (t : List ℕ). z ++ t) (none-left old) ∙ append-nil z))

@@ -26,9 +26,9 @@ as_blob true = as_text
 as_blob false = as_data
 
 -- bytes with others written from an index on
-abbrev pub written : List ℕ → ℕ → List ℕ → List ℕ
-written old i [] = old
-written old i (v ∷ vs) = written (slice_set old i v) (suc i) vs
+abbrev pub written_bytes : List ℕ → ℕ → List ℕ → List ℕ
+written_bytes old i [] = old
+written_bytes old i (v ∷ vs) = written_bytes (slice_set old i v) (suc i) vs
 
 -- ---- texts ----
 
@@ -54,7 +54,7 @@ abbrev pub position : TextBuilder → ℕ
 position b = b.pos
 
 -- a text stands there, or a null
-pub record IsText (b : TextBuilder) : Type 0 where
+pub record IsBuiltText (b : TextBuilder) : Type 0 where
   pub forest : Forest (segment b.arena.now) b.at
   pub text : IsOk (as_text (text_there b))
 

@@ -14,19 +14,19 @@ use Rattle.capnp_builders.specs.contracts.any_pointer.Builder.{the_row as builde
 abbrev pub arena_behind : Builder → MutBor Arena
 arena_behind b = b.arena
 
-abbrev pub word_of : Builder → ℕ
-word_of b = b.at
+abbrev pub untyped_word : Builder → ℕ
+untyped_word b = b.at
 
 -- a tree stands there
-abbrev pub IsPointer : Builder → Type 0
-IsPointer b = Forest (segment b.arena.now) b.at
+abbrev pub IsUntypedPointer : Builder → Type 0
+IsUntypedPointer b = Forest (segment b.arena.now) b.at
 
-abbrev pub pointer_tree : Builder → Tree
-pointer_tree b = tree (segment b.arena.now) b.at
+abbrev pub untyped_tree : Builder → Tree
+untyped_tree b = tree (segment b.arena.now) b.at
 
 -- a builder that is lent for a shorter time ends as itself, with the message as it was left
-abbrev pub pointer_with : Builder → Arena → Builder
-pointer_with b a = record b { arena = record b.arena { now = a } }
+abbrev pub untyped_with : Builder → Arena → Builder
+untyped_with b a = record b { arena = record b.arena { now = a } }
 
 abbrev pub LendsPointer : MutBor Builder → MutBor Arena → Fml
-LendsPointer b a = Lends (builder_row (record { mir = named 0; lft = [] })) arena_row b a (pointer_with b.now)
+LendsPointer b a = Lends (builder_row (record { mir = named 0; lft = [] })) arena_row b a (untyped_with b.now)

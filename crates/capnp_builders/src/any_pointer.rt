@@ -15,7 +15,7 @@ ghost use Rattle.capnp_arena.specs.Forest.{Changes, Forest, tree};
 ghost use Rattle.capnp_arena.specs.Same.{IsCutOf};
 ghost use Rattle.capnp_arena.specs.Segment.{segment};
 ghost use Rattle.capnp_arena.specs.Shape.{word_count};
-ghost use Rattle.capnp_builders.specs.Pointers.{IsPointer, LendsPointer, arena_behind, pointer_tree, word_of};
+ghost use Rattle.capnp_builders.specs.Pointers.{IsUntypedPointer, LendsPointer, arena_behind, untyped_tree, untyped_word};
 
 use crate::traits::{self, FromPointerBuilder, SetterInput};
 use capnp_arena::arena::Arena;
@@ -47,7 +47,7 @@ impl<'a> Builder<'a> {
     /// An untyped pointer that stands on a pointer's builder.
     pub fn new(builder: PointerBuilder<'a>) -> Builder<'a>
         ensures behind { arena_behind result ≡ builder.entry.arena }
-        ensures at { word_of result ≡ builder.entry.at }
+        ensures at { untyped_word result ≡ builder.entry.at }
     {
         let PointerBuilder { arena, at } = builder;
         Builder { arena, at }
@@ -56,7 +56,7 @@ impl<'a> Builder<'a> {
     /// The handle of the pointer.
     pub fn into_pointer(self) -> PointerBuilder<'a>
         ensures behind { result.arena ≡ arena_behind self.entry }
-        ensures at { result.at ≡ word_of self.entry }
+        ensures at { result.at ≡ untyped_word self.entry }
     {
         let Builder { arena, at } = self;
         PointerBuilder { arena, at }
@@ -66,7 +66,7 @@ impl<'a> Builder<'a> {
     pub fn reborrow(&mut self) -> Builder<'_>
         ensures* lends { sem 𝓛 (LendsPointer self.entry (arena_behind result)) }
         ensures now { (arena_behind result).now ≡ (arena_behind self.old).now }
-        ensures at { word_of result ≡ word_of self.old }
+        ensures at { untyped_word result ≡ untyped_word self.old }
     {
         let at = self.at;
         let arena = &mut *self.arena;
@@ -75,8 +75,8 @@ impl<'a> Builder<'a> {
 
     /// Whether the pointer is null.
     pub fn is_null(&self) -> bool
-        requires { IsPointer self.now }
-        ensures { result ≡ is_null_tree (pointer_tree self.now) }
+        requires { IsUntypedPointer self.now }
+        ensures { result ≡ is_null_tree (untyped_tree self.now) }
     {
         self.arena.is_null(self.at)
     }
@@ -86,39 +86,39 @@ impl<'a> Builder<'a> {
     ///
     /// Refused with `OutOfMemory` exactly where the pointer leads more than 129 levels down.
     pub fn target_size(&self) -> Result<MessageSize>
-        requires { IsPointer self.now }
-        ensures size { IfOk result (λ size. IsSize size None (words_of (pointer_tree self.now))) }
-        ensures succeeds { IsBelow memory_depth (pointer_tree self.now) → IsOk result }
+        requires { IsUntypedPointer self.now }
+        ensures size { IfOk result (λ size. IsSize size None (words_of (untyped_tree self.now))) }
+        ensures succeeds { IsBelow memory_depth (untyped_tree self.now) → IsOk result }
         ensures cause { IfErr result (λ e. (e.kind ≡ OutOfMemory)
-            × (IsBelow memory_depth (pointer_tree self.now) → ⊥)) }
+            × (IsBelow memory_depth (untyped_tree self.now) → ⊥)) }
     {
         self.arena.target_size(self.at)
     }
 
     /// What stands at the pointer, built as a `T`, without a default. Refused as `T`'s get.
     pub fn get_as<T: FromPointerBuilder<'a>>(self) -> Result<T>
-        requires { IsPointer self }
+        requires { IsUntypedPointer self }
         ensures same { IfOk result (λ b. (T.behind b).ghost_name ≡ (arena_behind self.entry).ghost_name) }
-        ensures at { IfOk result (λ b. T.word b ≡ word_of self.entry) }
-        ensures forest { IfOk result (λ b. Forest (segment (T.behind b).now) (word_of self.entry)) }
-        ensures tree { IfOk result (λ b. tree (segment (T.behind b).now) (word_of self.entry)
-            ≡ pointer_tree self.entry) }
-        ensures changes { IfOk result (λ b. Changes (word_of self.entry) (segment (arena_behind self.entry).now)
+        ensures at { IfOk result (λ b. T.word b ≡ untyped_word self.entry) }
+        ensures forest { IfOk result (λ b. Forest (segment (T.behind b).now) (untyped_word self.entry)) }
+        ensures tree { IfOk result (λ b. tree (segment (T.behind b).now) (untyped_word self.entry)
+            ≡ untyped_tree self.entry) }
+        ensures changes { IfOk result (λ b. Changes (untyped_word self.entry) (segment (arena_behind self.entry).now)
             (segment (T.behind b).now)) }
-        ensures now { IfOk result (T.stands (pointer_tree self.entry)) }
-        ensures refused { IfErr result (T.refuses (pointer_tree self.entry) None) }
+        ensures now { IfOk result (T.stands (untyped_tree self.entry)) }
+        ensures refused { IfErr result (T.refuses (untyped_tree self.entry) None) }
     {
         T::get_from_pointer(self.into_pointer(), None)
     }
 
     /// Starts the pointer anew as a `T` of no elements. Refused as `T`'s start.
     pub fn init_as<T: FromPointerBuilder<'a>>(self) -> Result<T>
-        requires { word_of self < word_count (segment (arena_behind self).now) }
+        requires { untyped_word self < word_count (segment (arena_behind self).now) }
         ensures same { IfOk result (λ b. (T.behind b).ghost_name ≡ (arena_behind self.entry).ghost_name) }
-        ensures at { IfOk result (λ b. T.word b ≡ word_of self.entry) }
-        ensures forest { IfOk result (λ b. Forest (segment (T.behind b).now) (word_of self.entry)) }
-        ensures tree { IfOk result (λ b. tree (segment (T.behind b).now) (word_of self.entry) ≡ T.started 0) }
-        ensures changes { IfOk result (λ b. Changes (word_of self.entry) (segment (arena_behind self.entry).now)
+        ensures at { IfOk result (λ b. T.word b ≡ untyped_word self.entry) }
+        ensures forest { IfOk result (λ b. Forest (segment (T.behind b).now) (untyped_word self.entry)) }
+        ensures tree { IfOk result (λ b. tree (segment (T.behind b).now) (untyped_word self.entry) ≡ T.started 0) }
+        ensures changes { IfOk result (λ b. Changes (untyped_word self.entry) (segment (arena_behind self.entry).now)
             (segment (T.behind b).now)) }
         ensures now { IfOk result (T.starts 0) }
         ensures refused { IfErr result (T.new_refusal 0) }
@@ -128,12 +128,12 @@ impl<'a> Builder<'a> {
 
     /// Starts the pointer anew as a `T` of so many elements. Refused as `T`'s start.
     pub fn initn_as<T: FromPointerBuilder<'a>>(self, size: u32) -> Result<T>
-        requires { word_of self < word_count (segment (arena_behind self).now) }
+        requires { untyped_word self < word_count (segment (arena_behind self).now) }
         ensures same { IfOk result (λ b. (T.behind b).ghost_name ≡ (arena_behind self.entry).ghost_name) }
-        ensures at { IfOk result (λ b. T.word b ≡ word_of self.entry) }
-        ensures forest { IfOk result (λ b. Forest (segment (T.behind b).now) (word_of self.entry)) }
-        ensures tree { IfOk result (λ b. tree (segment (T.behind b).now) (word_of self.entry) ≡ T.started size) }
-        ensures changes { IfOk result (λ b. Changes (word_of self.entry) (segment (arena_behind self.entry).now)
+        ensures at { IfOk result (λ b. T.word b ≡ untyped_word self.entry) }
+        ensures forest { IfOk result (λ b. Forest (segment (T.behind b).now) (untyped_word self.entry)) }
+        ensures tree { IfOk result (λ b. tree (segment (T.behind b).now) (untyped_word self.entry) ≡ T.started size) }
+        ensures changes { IfOk result (λ b. Changes (untyped_word self.entry) (segment (arena_behind self.entry).now)
             (segment (T.behind b).now)) }
         ensures now { IfOk result (T.starts size) }
         ensures refused { IfErr result (T.new_refusal size) }
@@ -143,16 +143,16 @@ impl<'a> Builder<'a> {
 
     /// Sets the pointer. A refusal changes nothing. Refused as the set of `T`.
     pub fn set_as<R, T: SetterInput<R>>(&mut self, value: T) -> Result<()>
-        requires { word_of self.old < word_count (segment (arena_behind self.old).now) }
+        requires { untyped_word self.old < word_count (segment (arena_behind self.old).now) }
         ensures same { (arena_behind self.new).ghost_name ≡ (arena_behind self.old).ghost_name }
-        ensures at { word_of self.new ≡ word_of self.old }
-        ensures forest { OnOk result (IsPointer self.new) }
-        ensures stays { IsPointer self.old → IsPointer self.new }
-        ensures tree { OnOk result (pointer_tree self.new ≡ T.set_tree value) }
-        ensures changes { OnOk result (Changes (word_of self.old) (segment (arena_behind self.old).now)
+        ensures at { untyped_word self.new ≡ untyped_word self.old }
+        ensures forest { OnOk result (IsUntypedPointer self.new) }
+        ensures stays { IsUntypedPointer self.old → IsUntypedPointer self.new }
+        ensures tree { OnOk result (untyped_tree self.new ≡ T.set_tree value) }
+        ensures changes { OnOk result (Changes (untyped_word self.old) (segment (arena_behind self.old).now)
             (segment (arena_behind self.new).now)) }
-        ensures well_formed { OnOk result (IsWellFormed (pointer_tree self.new)) }
-        ensures sound { OnOk result (first_fault (pointer_tree self.new) ≡ None) }
+        ensures well_formed { OnOk result (IsWellFormed (untyped_tree self.new)) }
+        ensures sound { OnOk result (first_fault (untyped_tree self.new) ≡ None) }
         ensures refused { OnErr result (segment (arena_behind self.new).now ≡ segment (arena_behind self.old).now) }
         ensures cause { IfErr result (T.set_refusal value) }
     {
@@ -164,12 +164,12 @@ impl<'a> Builder<'a> {
 
     /// Makes the pointer null.
     pub fn clear(&mut self)
-        requires { word_of self.old < word_count (segment (arena_behind self.old).now) }
+        requires { untyped_word self.old < word_count (segment (arena_behind self.old).now) }
         ensures same { (arena_behind self.new).ghost_name ≡ (arena_behind self.old).ghost_name }
-        ensures at { word_of self.new ≡ word_of self.old }
-        ensures forest { IsPointer self.new }
-        ensures tree { pointer_tree self.new ≡ Null }
-        ensures changes { Changes (word_of self.old) (segment (arena_behind self.old).now)
+        ensures at { untyped_word self.new ≡ untyped_word self.old }
+        ensures forest { IsUntypedPointer self.new }
+        ensures tree { untyped_tree self.new ≡ Null }
+        ensures changes { Changes (untyped_word self.old) (segment (arena_behind self.old).now)
             (segment (arena_behind self.new).now) }
     {
         self.arena.clear(self.at);
@@ -178,9 +178,9 @@ impl<'a> Builder<'a> {
     /// A reader of the pointer for as long as the builder would be there, with 64 levels. Its tree is cut off past
     /// 129 levels, which only walks of a whole tree can see.
     pub fn into_reader(self) -> Reader<'a>
-        requires { IsPointer self }
-        ensures cut { IsCutOf (tree_of (pointer_of result)) (pointer_tree self.entry) }
-        ensures tree { IsBelow memory_depth (pointer_tree self.entry) → tree_of (pointer_of result) ≡ pointer_tree self.entry }
+        requires { IsUntypedPointer self }
+        ensures cut { IsCutOf (tree_of (pointer_of result)) (untyped_tree self.entry) }
+        ensures tree { IsBelow memory_depth (untyped_tree self.entry) → tree_of (pointer_of result) ≡ untyped_tree self.entry }
         ensures levels { levels_of (pointer_of result) ≡ 64 }
     {
         let Builder { arena, at } = self;
@@ -191,15 +191,15 @@ impl<'a> Builder<'a> {
 impl<'a> FromPointerBuilder<'a> for Builder<'a> {
     ghost behind = { arena_behind };
 
-    ghost word = { word_of };
+    ghost word = { untyped_word };
 
     ghost started = { λ _. Null };
 
-    ghost starts = { λ _ builder. IsPointer builder × (pointer_tree builder ≡ Null) };
+    ghost starts = { λ _ builder. IsUntypedPointer builder × (untyped_tree builder ≡ Null) };
 
     ghost new_refusal = { λ _ _. ⊥ };
 
-    ghost stands = { λ tree builder. IsPointer builder × (pointer_tree builder ≡ tree) };
+    ghost stands = { λ tree builder. IsUntypedPointer builder × (untyped_tree builder ≡ tree) };
 
     ghost refuses = { λ _ _ _. ⊥ };
 

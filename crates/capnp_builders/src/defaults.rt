@@ -6,7 +6,7 @@ ghost use Rattle.capnp_base.specs.Traits.{IsDefaultRefusal, IsReadRefusal, defau
 ghost use Rattle.capnp_arena.specs.Forest.{Changes, Forest, tree};
 ghost use Rattle.capnp_arena.specs.Segment.{segment};
 ghost use Rattle.capnp_builders.specs.Blobs.{as_blob, bytes_in};
-ghost use Rattle.capnp_builders.specs.Defaults.{taken};
+ghost use Rattle.capnp_builders.specs.Defaults.{default_taken};
 
 use capnp_arena::arena::Arena;
 use capnp_wire::PointerReader;
@@ -19,7 +19,7 @@ fn take_default<'d>(
     default: Option<PointerReader<'d>>,
 ) -> Option<PointerReader<'d>>
     requires { Forest (segment arena.now) at }
-    ensures { result ≡ taken (tree (segment arena.now) at) default.entry }
+    ensures { result ≡ default_taken (tree (segment arena.now) at) default.entry }
 {
     let reader = default?;
     if arena.is_null(at) {

@@ -18,7 +18,7 @@ ghost use Rattle.capnp_base.specs.Traits.{IsDefaultRefusal, IsReadRefusal, defau
 ghost use Rattle.capnp_arena.specs.Forest.{Changes, Forest, tree};
 ghost use Rattle.capnp_arena.specs.Segment.{segment};
 ghost use Rattle.capnp_arena.specs.Shape.{word_count};
-ghost use Rattle.capnp_builders.specs.Blobs.{IsText, LendsText, position, text_behind, text_bytes, text_seen, text_there, text_word, written};
+ghost use Rattle.capnp_builders.specs.Blobs.{IsBuiltText, LendsText, position, text_behind, text_bytes, text_seen, text_there, text_word, written_bytes};
 
 use crate::defaults::{enter, fill};
 use crate::traits::{self, FromPointerBuilder};
@@ -96,7 +96,7 @@ impl<'a> Builder<'a> {
     /// The bytes.
     #[tactic(auto, using(crate::proofs::Blobs::bytes_there))]
     fn bytes(&self) -> &[u8]
-        requires { IsText self.now }
+        requires { IsBuiltText self.now }
         ensures { result.now ≡ text_bytes self.now }
     {
         let Ok(bytes) = self.arena.get_text(self.at) else {
@@ -117,7 +117,7 @@ impl<'a> Builder<'a> {
 
     /// How many bytes there are, wherever the position is.
     pub fn len(&self) -> usize
-        requires { IsText self.now }
+        requires { IsBuiltText self.now }
         ensures { result ≡ length (text_bytes self.now) }
     {
         self.bytes().len()
@@ -125,7 +125,7 @@ impl<'a> Builder<'a> {
 
     /// Whether there is no byte.
     pub fn is_empty(&self) -> bool
-        requires { IsText self.now }
+        requires { IsBuiltText self.now }
         ensures { IsTrue result ↔ (text_bytes self.now ≡ []) }
     {
         self.bytes().is_empty()
@@ -133,7 +133,7 @@ impl<'a> Builder<'a> {
 
     /// How many bytes there are from the position on: as many can be pushed.
     pub fn room(&self) -> usize
-        requires { IsText self.now }
+        requires { IsBuiltText self.now }
         ensures { result ≡ length (text_bytes self.now) - position self.now }
     {
         self.bytes().len().saturating_sub(self.pos)
@@ -141,13 +141,13 @@ impl<'a> Builder<'a> {
 
     /// Writes a byte at the position, which moves past it.
     fn push_byte(&mut self, byte: u8)
-        requires there { IsText self.old }
+        requires there { IsBuiltText self.old }
         requires room { position self.old < length (text_bytes self.old) }
         ensures same { (text_behind self.new).ghost_name ≡ (text_behind self.old).ghost_name }
         ensures at { text_word self.new ≡ text_word self.old }
         ensures position { position self.new ≡ position self.old + 1 }
         ensures bytes { text_bytes self.new ≡ slice_set (text_bytes self.old) (position self.old) byte }
-        ensures there { IsText self.new }
+        ensures there { IsBuiltText self.new }
         ensures changes { Changes (text_word self.old) (segment (text_behind self.old).now)
             (segment (text_behind self.new).now) }
     {
@@ -159,13 +159,13 @@ impl<'a> Builder<'a> {
 
     /// Writes bytes at the position, which moves past them.
     fn push_bytes(&mut self, bytes: &[u8])
-        requires there { IsText self.old }
+        requires there { IsBuiltText self.old }
         requires room { position self.old + length bytes.now ≤ length (text_bytes self.old) }
         ensures same { (text_behind self.new).ghost_name ≡ (text_behind self.old).ghost_name }
         ensures at { text_word self.new ≡ text_word self.old }
         ensures position { position self.new ≡ position self.old + length bytes.now }
-        ensures bytes { text_bytes self.new ≡ written (text_bytes self.old) (position self.old) bytes.now }
-        ensures there { IsText self.new }
+        ensures bytes { text_bytes self.new ≡ written_bytes (text_bytes self.old) (position self.old) bytes.now }
+        ensures there { IsBuiltText self.new }
         ensures changes { Changes (text_word self.old) (segment (text_behind self.old).now)
             (segment (text_behind self.new).now) }
     {
@@ -177,14 +177,14 @@ impl<'a> Builder<'a> {
     /// Writes an ASCII character at the position, which moves past it. There has to be room for it, and it is below
     /// 128.
     pub fn push_ascii(&mut self, ascii: u8)
-        requires there { IsText self.old }
+        requires there { IsBuiltText self.old }
         requires room { position self.old < length (text_bytes self.old) }
         requires ascii { ascii < 128 }
         ensures same { (text_behind self.new).ghost_name ≡ (text_behind self.old).ghost_name }
         ensures at { text_word self.new ≡ text_word self.old }
         ensures position { position self.new ≡ position self.old + 1 }
         ensures bytes { text_bytes self.new ≡ slice_set (text_bytes self.old) (position self.old) ascii }
-        ensures there { IsText self.new }
+        ensures there { IsBuiltText self.new }
         ensures changes { Changes (text_word self.old) (segment (text_behind self.old).now)
             (segment (text_behind self.new).now) }
     {
@@ -194,7 +194,7 @@ impl<'a> Builder<'a> {
     /// Writes a string at the position, which moves past it. There has to be room for its bytes.
     #[tactic(auto, using(crate::proofs::Writes::written_is))]
     pub fn push_str(&mut self, string: &str)
-        requires there { IsText self.old }
+        requires there { IsBuiltText self.old }
         requires room { position self.old + length string.now ≤ length (text_bytes self.old) }
         ensures same { (text_behind self.new).ghost_name ≡ (text_behind self.old).ghost_name }
         ensures at { text_word self.new ≡ text_word self.old }
@@ -202,7 +202,7 @@ impl<'a> Builder<'a> {
         ensures bytes { text_bytes self.new
             ≡ take (position self.old) (text_bytes self.old) ++ string.now ++ drop
             (position self.old + length string.now) (text_bytes self.old) }
-        ensures there { IsText self.new }
+        ensures there { IsBuiltText self.new }
         ensures changes { Changes (text_word self.old) (segment (text_behind self.old).now)
             (segment (text_behind self.new).now) }
     {
@@ -211,12 +211,12 @@ impl<'a> Builder<'a> {
 
     /// Makes all bytes zero, and writes at their start again.
     pub fn clear(&mut self)
-        requires there { IsText self.old }
+        requires there { IsBuiltText self.old }
         ensures same { (text_behind self.new).ghost_name ≡ (text_behind self.old).ghost_name }
         ensures at { text_word self.new ≡ text_word self.old }
         ensures position { position self.new ≡ 0 }
         ensures bytes { text_bytes self.new ≡ replicate (length (text_bytes self.old)) 0 }
-        ensures there { IsText self.new }
+        ensures there { IsBuiltText self.new }
         ensures changes { Changes (text_word self.old) (segment (text_behind self.old).now)
             (segment (text_behind self.new).now) }
     {
@@ -229,12 +229,12 @@ impl<'a> Builder<'a> {
     /// Writes so many zeros at the position, which moves past them.
     #[tactic(auto, using(crate::proofs::Writes::zeros_first))]
     fn push_zeros(&mut self, count: usize)
-        requires there { IsText self.old }
+        requires there { IsBuiltText self.old }
         requires room { position self.old + count ≤ length (text_bytes self.old) }
         ensures same { (text_behind self.new).ghost_name ≡ (text_behind self.old).ghost_name }
         ensures at { text_word self.new ≡ text_word self.old }
-        ensures bytes { text_bytes self.new ≡ written (text_bytes self.old) (position self.old) (replicate count 0) }
-        ensures there { IsText self.new }
+        ensures bytes { text_bytes self.new ≡ written_bytes (text_bytes self.old) (position self.old) (replicate count 0) }
+        ensures there { IsBuiltText self.new }
         ensures changes { Changes (text_word self.old) (segment (text_behind self.old).now)
             (segment (text_behind self.new).now) }
     {
@@ -259,7 +259,7 @@ impl<'a> Builder<'a> {
 
     /// A reader of the bytes.
     pub fn reborrow_as_reader(&self) -> Reader<'_>
-        requires { IsText self.now }
+        requires { IsBuiltText self.now }
         ensures { result.0.now ≡ text_bytes self.now }
     {
         Reader(self.bytes())
@@ -268,7 +268,7 @@ impl<'a> Builder<'a> {
     /// A reader of the bytes for as long as the builder would be there.
     #[tactic(auto, using(crate::proofs::Blobs::bytes_there))]
     pub fn into_reader(self) -> Reader<'a>
-        requires { IsText self }
+        requires { IsBuiltText self }
         ensures { result.0.now ≡ text_bytes self.entry }
     {
         let Builder { arena, at, pos: _ } = self;
@@ -280,7 +280,7 @@ impl<'a> Builder<'a> {
 
     /// The bytes.
     pub fn as_bytes(self) -> &'a [u8]
-        requires { IsText self }
+        requires { IsBuiltText self }
         ensures { result.now ≡ text_bytes self.entry }
     {
         self.into_reader().as_bytes()
@@ -288,7 +288,7 @@ impl<'a> Builder<'a> {
 
     /// The same text as a `str`, or the error that says how many bytes of it are UTF-8.
     pub fn to_str(self) -> std::result::Result<&'a str, Utf8Error>
-        requires { IsText self }
+        requires { IsBuiltText self }
         ensures { IsStrOf (text_bytes self.entry) result }
     {
         self.into_reader().to_str()
@@ -298,7 +298,7 @@ impl<'a> Builder<'a> {
     ///
     /// Refused with `OutOfMemory`, and only where the text is UTF-8.
     pub fn to_string(self, alloc: Global) -> Result<std::result::Result<String, Utf8Error>>
-        requires { IsText self }
+        requires { IsBuiltText self }
         ensures string { IfOk result (IsStringOf (text_bytes self.entry)) }
         ensures refused { IfErr result (λ e. e.kind ≡ OutOfMemory) }
         ensures utf8 { OnErr result (IsUtf8 (text_bytes self.entry)) }
@@ -308,7 +308,7 @@ impl<'a> Builder<'a> {
 
     /// Whether the bytes are those of a `str`, wherever the position is.
     pub fn eq_str(&self, other: &str) -> bool
-        requires { IsText self.now }
+        requires { IsBuiltText self.now }
         ensures { IsTrue result ↔ (text_bytes self.now ≡ other.now) }
     {
         self.reborrow_as_reader().eq_str(other)
@@ -363,12 +363,12 @@ impl<'a> FromPointerBuilder<'a> for Builder<'a> {
 
     ghost started = { λ length. Numbers 1 (replicate (length + 1) 0) };
 
-    ghost starts = { λ length builder. IsText builder × (text_bytes builder ≡ replicate length 0)
+    ghost starts = { λ length builder. IsBuiltText builder × (text_bytes builder ≡ replicate length 0)
         × (position builder ≡ 0) };
 
     ghost new_refusal = { λ length error. IsRoomRefusal error (2 ^ 29 ≤ length + 1) };
 
-    ghost stands = { λ tree builder. IsText builder × (text_there builder ≡ tree)
+    ghost stands = { λ tree builder. IsBuiltText builder × (text_there builder ≡ tree)
         × (position builder ≡ length (text_bytes builder)) };
 
     ghost refuses = { IsReadRefusal as_text };

@@ -8,8 +8,8 @@ ghost use Rattle.capnp_arena.specs.Made.{size_number};
 ghost use Rattle.capnp_arena.specs.Message.{IsMessage};
 ghost use Rattle.capnp_arena.specs.Segment.{segment};
 ghost use Rattle.capnp_arena.specs.Shape.{ListIn, shape_at};
-ghost use Rattle.capnp_builders.specs.Blobs.{IsData, IsText};
-ghost use Rattle.capnp_builders.specs.Pointers.{IsPointer, arena_behind};
+ghost use Rattle.capnp_builders.specs.Blobs.{IsData, IsBuiltText};
+ghost use Rattle.capnp_builders.specs.Pointers.{IsUntypedPointer, arena_behind};
 
 use capnp_arena::lists::ListPlace;
 use capnp_arena::message::Builder;
@@ -122,7 +122,7 @@ fn untyped_is(answer: Result<any_pointer::Reader<'_>>, want: &[u8]) -> Result<bo
 
 /// Whether a text that is built has these bytes.
 fn holds(text: &text::Builder<'_>, want: &[u8]) -> bool
-    requires { IsText text.now }
+    requires { IsBuiltText text.now }
 {
     *text.reborrow_as_reader().as_bytes() == *want
 }
@@ -137,7 +137,7 @@ fn built_data_is(answer: Result<data::Builder<'_>>, want: &[u8]) -> Result<bool>
 }
 
 fn built_text_is(answer: Result<text::Builder<'_>>, want: &[u8]) -> Result<bool>
-    requires { IfOk answer IsText }
+    requires { IfOk answer IsBuiltText }
 {
     match answer {
         Ok(text) => Ok(holds(&text, want)),
@@ -147,7 +147,7 @@ fn built_text_is(answer: Result<text::Builder<'_>>, want: &[u8]) -> Result<bool>
 
 /// Whether an untyped pointer that is built is null or not, as is wanted.
 fn is_null_so(pointer: &any_pointer::Builder<'_>, want: &[u8]) -> bool
-    requires { IsPointer pointer.now }
+    requires { IsUntypedPointer pointer.now }
 {
     if pointer.is_null() {
         *want == *NULL_POINTER
@@ -157,7 +157,7 @@ fn is_null_so(pointer: &any_pointer::Builder<'_>, want: &[u8]) -> bool
 }
 
 fn built_pointer_is(answer: Result<any_pointer::Builder<'_>>, want: &[u8]) -> Result<bool>
-    requires { IfOk answer IsPointer }
+    requires { IfOk answer IsUntypedPointer }
 {
     match answer {
         Ok(pointer) => Ok(is_null_so(&pointer, want)),
@@ -404,7 +404,7 @@ fn get_untyped_data(message: &mut Builder, want: &[u8]) -> Result<bool>
 
 /// The same of a pointer that is lent.
 fn is_null_lent(pointer: any_pointer::Builder<'_>, want: &[u8]) -> bool
-    requires { IsPointer pointer }
+    requires { IsUntypedPointer pointer }
     ensures { segment pointer.exit.0.now ≡ segment (arena_behind pointer.entry).now }
 {
     let any_pointer::Builder { arena, at } = pointer;

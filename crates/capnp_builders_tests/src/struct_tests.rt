@@ -1,12 +1,12 @@
 //! The traits of a struct type that is set and built, as a caller meets them.
 ghost use Rattle.std.specs.Prelude.{IfOk, ◌<◌, ◌≡◌};
-ghost use Rattle.capnp_wire.specs.Edits.{IsCopyRefusal, rounded};
+ghost use Rattle.capnp_wire.specs.Edits.{IsCopyRefusal, rounded_struct};
 ghost use Rattle.capnp_wire.specs.Place.{struct_tree};
 ghost use Rattle.capnp_wire.specs.Standing.{struct_of};
 ghost use Rattle.capnp_wire.specs.Words.{first_fault_of_all};
 ghost use Rattle.capnp_base.specs.Types.{type_from};
 ghost use Rattle.capnp_base.specs.declared.introspect.TypeVariant.TheVariants as variant;
-ghost use Rattle.capnp_arena.specs.Handles.{IsStruct};
+ghost use Rattle.capnp_arena.specs.Handles.{IsBuiltStruct};
 ghost use Rattle.capnp_arena.specs.Message.{IsMessage};
 ghost use Rattle.capnp_arena.specs.Segment.{segment};
 ghost use Rattle.capnp_arena.specs.Shape.{word_count};
@@ -79,7 +79,7 @@ impl Introspect for FlatType {
 }
 
 impl<'a> SetterInput<FlatType> for Flat<'a> {
-    ghost set_tree = { λ flat. struct_tree (rounded (struct_of flat.reader)) };
+    ghost set_tree = { λ flat. struct_tree (rounded_struct (struct_of flat.reader)) };
 
     ghost set_refusal = { λ flat error. IsCopyRefusal error (first_fault_of_all (struct_of flat.reader).pointers) };
 
@@ -107,7 +107,7 @@ fn set_and_build<'a, T: OwnedStruct<'a>>(
     source: StructReader<'a>,
 ) -> Result<T::Builder>
     requires { builder.at < word_count (segment builder.arena.now) }
-    ensures { IfOk result (λ flat. (b : StructBuilder) × IsStruct b × T.Builder.from_gives b flat) }
+    ensures { IfOk result (λ flat. (b : StructBuilder) × IsBuiltStruct b × T.Builder.from_gives b flat) }
 {
     let PointerBuilder { arena, at } = builder;
     let pointer = PointerBuilder {

@@ -4,7 +4,7 @@ ghost use Rattle.capnp_wire.specs.Reading.{as_text};
 ghost use Rattle.capnp_arena.specs.Forest.{Forest, tree};
 ghost use Rattle.capnp_arena.specs.Message.{IsMessage};
 ghost use Rattle.capnp_arena.specs.Segment.{segment};
-ghost use Rattle.capnp_builders.specs.Blobs.{IsText, text_behind, text_word};
+ghost use Rattle.capnp_builders.specs.Blobs.{IsBuiltText, text_behind, text_word};
 
 use capnp_arena::message::Builder as Message;
 use capnp_builders::data;
@@ -24,10 +24,10 @@ enum Push {
 
 /// Whether the string is not empty and there is room for it; it is pushed then.
 fn push_string(builder: &mut Builder<'_>, string: &str) -> bool
-    requires there { IsText builder.old }
+    requires there { IsBuiltText builder.old }
     ensures same { (text_behind builder.new).ghost_name ≡ (text_behind builder.old).ghost_name }
     ensures at { text_word builder.new ≡ text_word builder.old }
-    ensures there { IsText builder.new }
+    ensures there { IsBuiltText builder.new }
 {
     if string.is_empty() || builder.room() < string.len() {
         return false;
@@ -38,10 +38,10 @@ fn push_string(builder: &mut Builder<'_>, string: &str) -> bool
 
 /// Whether the byte is in ASCII and there is room for it; it is pushed then.
 fn push_byte(builder: &mut Builder<'_>, byte: u8) -> bool
-    requires there { IsText builder.old }
+    requires there { IsBuiltText builder.old }
     ensures same { (text_behind builder.new).ghost_name ≡ (text_behind builder.old).ghost_name }
     ensures at { text_word builder.new ≡ text_word builder.old }
-    ensures there { IsText builder.new }
+    ensures there { IsBuiltText builder.new }
 {
     if builder.room() == 0 || byte >= 128 {
         return false;
@@ -52,10 +52,10 @@ fn push_byte(builder: &mut Builder<'_>, byte: u8) -> bool
 
 /// Whether there is something to push, and room for it.
 fn write_at_position(builder: &mut Builder<'_>, push: Push) -> bool
-    requires there { IsText builder.old }
+    requires there { IsBuiltText builder.old }
     ensures same { (text_behind builder.new).ghost_name ≡ (text_behind builder.old).ghost_name }
     ensures at { text_word builder.new ≡ text_word builder.old }
-    ensures there { IsText builder.new }
+    ensures there { IsBuiltText builder.new }
 {
     match push {
         Push::String(string) => push_string(builder, string),
@@ -78,7 +78,7 @@ static PUSHED: [(Push, bool, usize, &str); 4] = [
 
 /// The same through a builder that is lent for a shorter time.
 fn write_reborrowed(builder: Builder<'_>, push: Push) -> bool
-    requires { IsText builder }
+    requires { IsBuiltText builder }
     ensures forest { Forest (segment builder.exit.0.now) (text_word builder.entry) }
     ensures text { IsOk (as_text (tree (segment builder.exit.0.now) (text_word builder.entry))) }
 {
@@ -88,10 +88,10 @@ fn write_reborrowed(builder: Builder<'_>, push: Push) -> bool
 }
 
 fn push_or_reborrow(builder: &mut Builder<'_>, pushed: Push, is_reborrowed: bool) -> bool
-    requires there { IsText builder.old }
+    requires there { IsBuiltText builder.old }
     ensures same { (text_behind builder.new).ghost_name ≡ (text_behind builder.old).ghost_name }
     ensures at { text_word builder.new ≡ text_word builder.old }
-    ensures there { IsText builder.new }
+    ensures there { IsBuiltText builder.new }
 {
     if is_reborrowed {
         return write_reborrowed(builder.reborrow(), pushed);
@@ -101,7 +101,7 @@ fn push_or_reborrow(builder: &mut Builder<'_>, pushed: Push, is_reborrowed: bool
 
 /// Whether a builder that is not empty holds this text, as its reader does.
 fn holds(builder: &Builder<'_>, want: &str) -> bool
-    requires { IsText builder.now }
+    requires { IsBuiltText builder.now }
 {
     builder.eq_str(want)
         && builder.reborrow_as_reader() == Reader(want.as_bytes())
@@ -111,8 +111,8 @@ fn holds(builder: &Builder<'_>, want: &str) -> bool
 
 /// The text of the first row after which another room or another text is there.
 fn first_wrong(builder: &mut Builder<'_>) -> Option<&'static str>
-    requires there { IsText builder.old }
-    ensures there { IsText builder.new }
+    requires there { IsBuiltText builder.old }
+    ensures there { IsBuiltText builder.new }
 {
     for (pushed, is_reborrowed, room, want) in PUSHED {
         let is_pushed = push_or_reborrow(builder, pushed, is_reborrowed);
@@ -142,7 +142,7 @@ fn pushes_write_at_the_position(rt: HostRuntime) -> std::result::Result<(), Fail
 
 /// Whether a builder keeps this room, whatever is written through its reborrowed ones.
 fn keeps_room(builder: &mut Builder<'_>, room: usize) -> bool
-    requires { IsText builder.old }
+    requires { IsBuiltText builder.old }
 {
     builder.reborrow().room() == room
         && push_or_reborrow(builder, Push::Ascii(b'x'), true) == (room > 0)

@@ -24,12 +24,12 @@ use Rattle.capnp_records.specs.Part.{is_inactive}
 use Rattle.capnp_records.specs.Reading.{Reading, kind_value, reads, record_within, value_of, values_of}
 use Rattle.capnp_records.specs.Record.{Endless, Record, Value}
 use Rattle.capnp_records.specs.Record as value
-use Rattle.capnp_records.specs.Step.{CanRefuse, Found, Target, fault_of, for_memory, is_group_field, takes_room, walked_by_type}
+use Rattle.capnp_records.specs.Step.{CanRefuse, Found, StepTarget, fault_of, for_memory, is_group_field, takes_room, walked_by_type}
 use Rattle.capnp_records.specs.Writes.Fill.{IsAtRest}
 use Rattle.capnp_records.specs.Writes.Stand.{FieldRests, KindRests, KindWithin, SlotWithin, left_field}
 use Rattle.capnp_records.specs.Writes.TreeEnds.{TreeEnds, offset_of}
 use Rattle.capnp_records.specs.Writes.TreeRun.{TreeEnd, TreeWalks}
-use Rattle.capnp_slots.specs.Fields.{IsPointer, IsSlot, field_brand, field_set}
+use Rattle.capnp_slots.specs.Fields.{IsPointerField, IsSlot, field_brand, field_set}
 use Rattle.capnp_slots.specs.Fills.{RestsIn, due_in, fill_due, pointer_in}
 use Rattle.capnp_call.proofs.Entered.{enters, part_in, passes, short, unread}
 use Rattle.capnp_call.specs.Walks.{FieldEnters, IsWalked, StepGoes, StepStops}
@@ -74,7 +74,7 @@ err_ok e = cc
 pub walked_active : (f : Field) (s : StructTree) → IsWalked f s → is_inactive (reads (field_set f) s (field_brand f)) (typed_of f).field (index_of f) ≡ false
 walked_active f s walks = go (target_in value.Struct f s).inactive refl (walks value.Struct)
   where
-    x : Target
+    x : StepTarget
     x = target_in value.Struct f s
 
     go : (q : Bool) → x.inactive ≡ q → Ok x ≡ (elim q as (λ _. Found) [ true ↦ Err InactiveMember | false ↦ walked_by_type x x.type ]) → x.inactive ≡ false
@@ -82,7 +82,7 @@ walked_active f s walks = go (target_in value.Struct f s).inactive refl (walks v
     go false e h = e
 
 -- what a pointer's slot has is what its tree reads as
-pub pointed : (f : Field) (s : StructTree) → IsSlot f → IsPointer f → IsWalked f s → part_in f s ≡ value_of (field_set f) (pointer_in f s) Endless (typed_of f).type
+pub pointed : (f : Field) (s : StructTree) → IsSlot f → IsPointerField f → IsWalked f s → part_in f s ≡ value_of (field_set f) (pointer_in f s) Endless (typed_of f).type
 pointed f s slot pointer walks = go (typed_of f).field.kind refl
   where
     set : Schemas
@@ -129,7 +129,7 @@ due_memory e due refusal none = go (is_memory e.kind) refl
 
 -- ---- a struct's slot ----
 
-module _ (f : Field) (s : StructTree) (b g : ℕ) (slot : IsSlot f) (pointer : IsPointer f) (type_is : StructType b g ≡ (typed_of f).type) (walks : IsWalked f s) (whole : first_fault_of_all s.pointers ≡ None) where
+module _ (f : Field) (s : StructTree) (b g : ℕ) (slot : IsSlot f) (pointer : IsPointerField f) (type_is : StructType b g ≡ (typed_of f).type) (walks : IsWalked f s) (whole : first_fault_of_all s.pointers ≡ None) where
   abbrev x : Tree
   x = pointer_in f s
 

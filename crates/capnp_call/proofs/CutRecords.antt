@@ -17,7 +17,7 @@ use Rattle.capnp_schema.specs.SlotValue.{slot_number}
 use Rattle.capnp_schema.specs.Types.{AnyPointerType, DataType, EnumType, IntType, ListType, SchemaType, StructType, TextType, UIntType, element_size, is_pointer, struct_brand}
 use Rattle.capnp_records.specs.Facts.ListValues.{body_of, nth_body-is, only_reading-is}
 use Rattle.capnp_records.specs.Facts.Pointers.{values_of-nth}
-use Rattle.capnp_records.specs.Reading.{Body, Reading, active_among, bodies_of, discriminant, element_value, elements_value, entered, first_pointer, group_record, kind_value, nth_body, nth_reading, number_value, of_read, only_reading, plain_parts, pointers_below, record_of, record_within, slot_value, struct_below, struct_record, structs_below, tree_value, union_of, value_of, values_of}
+use Rattle.capnp_records.specs.Reading.{Body, Reading, active_among, bodies_of, discriminant, element_value, elements_value, entered_value, first_pointer, group_record, kind_value, nth_body, nth_reading, number_value, of_read, only_reading, non_union_parts, pointers_below, record_of, record_within, slot_value, struct_below, struct_record, structs_below, tree_value, union_of, value_of, values_of}
 use Rattle.capnp_records.specs.Record as value
 use Rattle.capnp_records.specs.Record.{Active, Left, Levels, MoreValues, NoUnion, Parts, Record, Union, Value, Values, is_there, one_less, values_from}
 use Rattle.capnp_call.proofs.Trimmed.{trimmed, trimmed-there, trimmed_record, trimmed_union, trimmed_values}
@@ -43,7 +43,7 @@ module _ (set : Schemas) (m : ℕ) (bytes : List ℕ) (rs ss : List Reading) (ea
       group None = refl
       group (Some b) = h b
 
-  plain-alike : (v w : TypedField → Value) → ((f : TypedField) → trimmed (v f) ≡ trimmed (w f)) → (fs : List TypedField) → trimmed_values (plain_parts v fs) ≡ trimmed_values (plain_parts w fs)
+  plain-alike : (v w : TypedField → Value) → ((f : TypedField) → trimmed (v f) ≡ trimmed (w f)) → (fs : List TypedField) → trimmed_values (non_union_parts v fs) ≡ trimmed_values (non_union_parts w fs)
   plain-alike v w h [] = refl
   plain-alike v w h (f ∷ fs) = ap₂ MoreValues (go (is_member f.field)) (plain-alike v w h fs)
     where
@@ -79,7 +79,7 @@ module _ (set : Schemas) (m : ℕ) (bytes : List ℕ) (rs ss : List Reading) (ea
       w f = kind_value (record_within g set (Left m) bytes ss) (Left m) bytes ss f.field.kind f.type
 
       go : RecordsAlike (record_within g set (Left m) bytes rs) (record_within g set (Left m) bytes ss) →
-          trimmed_record (Parts (plain_parts v (fields_of set b)) (union_of v (node_of set b) (fields_of set b) bytes)) ≡ trimmed_record (Parts (plain_parts w (fields_of set b)) (union_of w (node_of set b) (fields_of set b) bytes))
+          trimmed_record (Parts (non_union_parts v (fields_of set b)) (union_of v (node_of set b) (fields_of set b) bytes)) ≡ trimmed_record (Parts (non_union_parts w (fields_of set b)) (union_of w (node_of set b) (fields_of set b) bytes))
       go ih =
           let h : (f : TypedField) → trimmed (v f) ≡ trimmed (w f) = λ f. kind-alike (record_within g set (Left m) bytes rs) (record_within g set (Left m) bytes ss) ih f.field.kind f.type in
           ap₂ Parts (plain-alike v w h (fields_of set b)) (union-alike v w h (node_of set b) (fields_of set b))
@@ -116,7 +116,7 @@ left-inside l n h e = grind arith
 module _ (set : Schemas) where
   -- a struct is entered
   entered-alike : (l n : ℕ) → l < suc n → (b : ℕ) (bytes other : List ℕ) (rs ss : List Reading) → other ≡ bytes → ((i : ℕ) → Alike n (nth_reading rs i) (nth_reading ss i)) →
-      trimmed (entered (Left l) (value.Struct (record_of set (one_less (Left l)) bytes rs b))) ≡ trimmed (entered (Left l) (value.Struct (record_of set (one_less (Left l)) other ss b)))
+      trimmed (entered_value (Left l) (value.Struct (record_of set (one_less (Left l)) bytes rs b))) ≡ trimmed (entered_value (Left l) (value.Struct (record_of set (one_less (Left l)) other ss b)))
   entered-alike l n h b bytes other rs ss same each = go (l == 0) refl
     where
       go : (q : Bool) → (l == 0) ≡ q → trimmed (elim q as (λ _. Value) [ true ↦ value.Fault TooDeep | false ↦ value.Struct (record_of set (Left (l - 1)) bytes rs b) ])

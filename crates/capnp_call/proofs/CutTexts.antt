@@ -24,8 +24,8 @@ use Rattle.capnp_dynamic_readers.specs.Shown.{printed_text, struct_printed}
 use Rattle.capnp_dynamic_readers.specs.Typed.{struct_type}
 use Rattle.capnp_dynamic_readers.specs.declared.dynamic_struct.Reader.{Reader as StructHandle}
 use Rattle.capnp_dynamic_readers.specs.declared.dynamic_value.Reader.TheVariants as dynamic
-use Rattle.capnp_call.specs.Messages.{record_left, root_value, text_in}
-use Rattle.capnp_call.specs.Runs.{record_in}
+use Rattle.capnp_call.specs.Messages.{record_left, root_value, record_text}
+use Rattle.capnp_call.specs.Runs.{record_under_schema}
 use Rattle.capnp_call.proofs.CutRecords.{record-cut}
 use Rattle.capnp_call.proofs.Starts.{appended, struct_answered}
 use Rattle.capnp_call.proofs.Trimmed.{text-alike, trimmed, trimmed_record}
@@ -69,14 +69,14 @@ value-trimmed : (q : Bool) (r s : Record) → trimmed_record r ≡ trimmed_recor
 value-trimmed true r s e = ap value.Group e
 value-trimmed false r s e = ap value.Struct e
 
-text-cut : (schema : StructSchema) (indented : Bool) (x t : Tree) → IsCutOf x t → IsTrue (is_struct t) → text_in schema indented (record_left schema (struct_in x)) ≡ text_in schema indented (record_left schema (struct_in t))
+text-cut : (schema : StructSchema) (indented : Bool) (x t : Tree) → IsCutOf x t → IsTrue (is_struct t) → record_text schema indented (record_left schema (struct_in x)) ≡ record_text schema indented (record_left schema (struct_in t))
 text-cut schema indented x t h here =
     text-alike (set_of schema) indented (struct_type schema) (root_value (struct_node schema).is_group (record_left schema (struct_in x))) (root_value (struct_node schema).is_group (record_left schema (struct_in t)))
     (value-trimmed (struct_node schema).is_group (record_left schema (struct_in x)) (record_left schema (struct_in t)) (left-cut schema x t h here))
 
 -- the text of a struct's record where its reader has so many levels
 abbrev text_at : Bool → StructSchema → ℕ → StructTree → Out
-text_at indented schema l s = text_in schema indented (struct_record (set_of schema) (Left l) s (number_of schema))
+text_at indented schema l s = record_text schema indented (struct_record (set_of schema) (Left l) s (number_of schema))
 
 printed-at : (handle : StructHandle) (indented : Bool) → printed_text indented (dynamic.Struct handle) ≡ text_at indented (schema_of handle) (struct_levels (reader_of handle)) (struct_of (reader_of handle))
 printed-at handle indented = ap (text_of (set_of (schema_of handle)) indented (struct_type (schema_of handle))) (go (struct_node (schema_of handle)).is_group)
@@ -87,7 +87,7 @@ printed-at handle indented = ap (text_of (set_of (schema_of handle)) indented (s
 
 -- a root, by the reader that stands on it
 module _ (schema : StructSchema) (indented : Bool) (x t : Tree) (h : IsCutOf x t) (here : IsTrue (is_struct t)) (handle : StructHandle) (levels : ℕ) (reader : StructReader) (named : schema_of handle ≡ schema) (stands : struct_of (reader_of handle) ≡ struct_of reader) (read : Ok (struct_of reader) ≡ as_struct x levels) (left : struct_levels (reader_of handle) ≡ 63) where
-  read_text-is : printed_text indented (dynamic.Struct handle) ≡ text_in schema indented (record_left schema (struct_in t))
+  read_text-is : printed_text indented (dynamic.Struct handle) ≡ record_text schema indented (record_left schema (struct_in t))
   read_text-is =
       printed-at handle indented
       ∙ (ap (λ (z : StructSchema). text_at indented z (struct_levels (reader_of handle)) (struct_of (reader_of handle))) named
@@ -95,9 +95,9 @@ module _ (schema : StructSchema) (indented : Bool) (x t : Tree) (h : IsCutOf x t
       ∙ (ap (text_at indented schema 63) (stands ∙ struct_answered x levels (struct_of reader) (is_struct-cut x t h here) (sym read))
       ∙ text-cut schema indented x t h here)))
 
-  pub printed_of : PrintLaw → GroupPrintLaw → (old new : List ℕ) → IsAppended old (printed_text indented (dynamic.Struct handle)) new → IsAppended old (text_in schema indented (record_in schema (struct_in t))) new
+  pub printed_of : PrintLaw → GroupPrintLaw → (old new : List ℕ) → IsAppended old (printed_text indented (dynamic.Struct handle)) new → IsAppended old (record_text schema indented (record_under_schema schema (struct_in t))) new
   printed_of law groups old new printed =
       appended law groups (set_of schema) indented (number_of schema) (generic_of schema) (struct_in t) (Left 63) (struct_node schema).is_group old new (subst (λ (o : Out). IsAppended old o new) read_text-is printed)
 
-  pub unprinted_of : (kind : ErrorKind) → printed_text indented (dynamic.Struct handle) ≡ Err kind → text_in schema indented (record_left schema (struct_in t)) ≡ Err kind
+  pub unprinted_of : (kind : ErrorKind) → printed_text indented (dynamic.Struct handle) ≡ Err kind → record_text schema indented (record_left schema (struct_in t)) ≡ Err kind
   unprinted_of kind refused = sym read_text-is ∙ refused

@@ -15,7 +15,7 @@ use Rattle.capnp_records.specs.Default.{empty_value, read_of}
 use Rattle.capnp_records.specs.Facts.DefaultTree.{read-there}
 use Rattle.capnp_records.specs.Facts.ListValues.{below_of}
 use Rattle.capnp_records.specs.Facts.Readers.{null-is, pointer-read, value-there}
-use Rattle.capnp_records.specs.Operation.{Answers, Does, plain}
+use Rattle.capnp_records.specs.Operation.{Answers, Does, answer_of}
 use Rattle.capnp_records.specs.Reading.{element_value, value_of}
 use Rattle.capnp_records.specs.Record as value
 use Rattle.capnp_records.specs.Record.{Endless, Left, Value}
@@ -23,7 +23,7 @@ use Rattle.capnp_records.specs.Step.{fault_of}
 use Rattle.capnp_records.specs.Writes.Stand.{seen_element}
 use Rattle.capnp_dynamic_readers.specs.Handles.{element_of, list_reader_of, list_set}
 use Rattle.capnp_dynamic_readers.specs.Reads.{element_seen}
-use Rattle.capnp_dynamic_readers.specs.Seen.{answered}
+use Rattle.capnp_dynamic_readers.specs.Seen.{answered_value}
 use Rattle.capnp_dynamic_readers.specs.Typed.{IsOf}
 use Rattle.capnp_dynamic_readers.specs.declared.dynamic_list.Reader.{Reader as ListHandle}
 use Rattle.capnp_dynamic_readers.specs.declared.dynamic_value.Reader.{Reader as DynamicValue}
@@ -38,11 +38,11 @@ use Rattle.capnp_call.specs.Lists.{element_at}
 -- elements have no defaults
 empty_same : (set : Schemas) (n : ℕ) → (n == 0) ≡ false → (t : SchemaType) → SameAnswer t (read_of set VoidValue t (value_of set tree.Null (Left n) t)) (read_of set VoidValue t (value_of set tree.Null Endless t))
 empty_same set n enough (StructType b g) = record {
-  plain_is = ap (λ q. plain (StructType b g) (elim q as (λ _. Value) [ true ↦ value.Fault TooDeep | false ↦ empty_value set (Left n) (StructType b g) ])) enough;
+  plain_is = ap (λ q. answer_of (StructType b g) (elim q as (λ _. Value) [ true ↦ value.Fault TooDeep | false ↦ empty_value set (Left n) (StructType b g) ])) enough;
   fault_is = ap (λ q. fault_of (elim q as (λ _. Value) [ true ↦ value.Fault TooDeep | false ↦ empty_value set (Left n) (StructType b g) ])) enough;
 }
 empty_same set n enough (ListType e) = record {
-  plain_is = ap (λ q. plain (ListType e) (elim q as (λ _. Value) [ true ↦ value.Fault TooDeep | false ↦ empty_value set (Left n) (ListType e) ])) enough;
+  plain_is = ap (λ q. answer_of (ListType e) (elim q as (λ _. Value) [ true ↦ value.Fault TooDeep | false ↦ empty_value set (Left n) (ListType e) ])) enough;
   fault_is = ap (λ q. fault_of (elim q as (λ _. Value) [ true ↦ value.Fault TooDeep | false ↦ empty_value set (Left n) (ListType e) ])) enough;
 }
 empty_same set n enough t = same_from refl
@@ -97,13 +97,13 @@ seen_is r set e x i on =
     ∙ ap (λ (n : ℕ). read_of set VoidValue e (element_value set x (below_of set x) (Left n) e i)) on.levels))
 
 pub get_reads : (r : ListHandle) (set : Schemas) (e : SchemaType) (y x : Tree) (i : ℕ) (read : Result DynamicValue Error) (reply : Reply) → StandsIn r set e y → IsCutOf y x → i < list_length x → NamesEntries set e →
-    answered read ≡ element_seen r i → (NamesEntries (list_set r) (element_of r) → IfOk read (IsOf (list_set r) (element_of r))) →
-    ((set : Schemas) (t : SchemaType) (old : Value) → IfOk read (IsOf set t) → Answers t (answered read) (fault_of (answered read)) old reply old) →
+    answered_value read ≡ element_seen r i → (NamesEntries (list_set r) (element_of r) → IfOk read (IsOf (list_set r) (element_of r))) →
+    ((set : Schemas) (t : SchemaType) (old : Value) → IfOk read (IsOf set t) → Answers t (answered_value read) (fault_of (answered_value read)) old reply old) →
     (old : Value) → Does set Get (element_at set e x i) old reply old
 get_reads r set e y x i read reply on cut inside entries value typed answers old =
     let named : NamesEntries (list_set r) (element_of r) = subst (λ (z : Schemas). NamesEntries z (element_of r)) (sym on.set_is) (subst (NamesEntries set) (sym on.element_is) entries) in
     let is_of : IfOk read (IsOf set e) = subst (λ (t : SchemaType). IfOk read (IsOf set t)) on.element_is (subst (λ (z : Schemas). IfOk read (IsOf z (element_of r))) on.set_is (typed named)) in
-    answers_same e (answered read) _ old old reply
+    answers_same e (answered_value read) _ old old reply
     (same_then (same_from (value ∙ seen_is r set e y i on))
     (same_then (same_then (element_same set y i e) (element_cut set y x cut i e)) (same_from (ap (read_of set VoidValue e) (sym (part_seen set e x i inside))))))
     (answers set e old is_of)

@@ -18,8 +18,8 @@ use Rattle.capnp_schema.specs.Types.{AnyPointerType, DataType, ListType, SchemaT
 use Rattle.capnp_records.specs.Call.{Refused}
 use Rattle.capnp_records.specs.Operation.{Initns}
 use Rattle.capnp_records.specs.Record.{Value}
-use Rattle.capnp_records.specs.Step.{Target}
-use Rattle.capnp_records.specs.Writes.ElementEnds.{HasRoom}
+use Rattle.capnp_records.specs.Step.{StepTarget}
+use Rattle.capnp_records.specs.Writes.ElementEnds.{HasElementThere}
 use Rattle.capnp_slots.specs.ElementSets.{IsElementInitRefusal}
 use Rattle.capnp_call.proofs.EndsDone.{roomless}
 use Rattle.capnp_call.proofs.ListWalks.{filled_there, has_struct}
@@ -27,10 +27,10 @@ use Rattle.capnp_call.specs.Lists.{IsListStand}
 
 -- ---- where an element is ----
 
-room_by : (set : Schemas) (v : TypeVariant) (x : Tree) (i : ℕ) → IsListStand set (seen_variant v) x → i < list_length x → HasRoom (seen_variant v) x i
+room_by : (set : Schemas) (v : TypeVariant) (x : Tree) (i : ℕ) → IsListStand set (seen_variant v) x → i < list_length x → HasElementThere (seen_variant v) x i
 room_by set v x i stands a = go v stands (stands.reads_it (filled_there x i a))
   where
-    go : (v : TypeVariant) → IsListStand set (seen_variant v) x → reads_list (element_size (seen_variant v)) x ≡ true → HasRoom (seen_variant v) x i
+    go : (v : TypeVariant) → IsListStand set (seen_variant v) x → reads_list (element_size (seen_variant v)) x ≡ true → HasElementThere (seen_variant v) x i
     go variant.Void s r = tt
     go variant.Bool s r = HasBit-there x i r a
     go variant.Int8 s r = HasNumber-there Byte 1 x i refl refl r s.formed a
@@ -49,13 +49,13 @@ room_by set v x i stands a = go v stands (stands.reads_it (filled_there x i a))
     go variant.AnyPointer s r = HasPointer-there x i r s.formed a
 
 -- an element that is there can be written
-pub room_at : (set : Schemas) (t : TypeHandle) (x : Tree) (i : ℕ) → IsListStand set (seen_type t) x → i < list_length x → HasRoom (seen_type t) x i
+pub room_at : (set : Schemas) (t : TypeHandle) (x : Tree) (i : ℕ) → IsListStand set (seen_type t) x → i < list_length x → HasElementThere (seen_type t) x i
 room_at set t x i stands a =
-    subst (λ (e : SchemaType). HasRoom e x i) (seen_which t) (room_by set (variant_of t) x i (subst (λ (e : SchemaType). IsListStand set e x) (sym (seen_which t)) stands) a)
+    subst (λ (e : SchemaType). HasElementThere e x i) (seen_which t) (room_by set (variant_of t) x i (subst (λ (e : SchemaType). IsListStand set e x) (sym (seen_which t)) stands) a)
 
 -- ---- init ----
 
-pub element_init_refused : (set : Schemas) (x : Target) (n : ℕ) (t : SchemaType) (old : Value) (kind : ErrorKind) → x.is_element ≡ true → IsElementInitRefusal set n t kind → Initns set x n t old (Refused kind) old
+pub element_init_refused : (set : Schemas) (x : StepTarget) (n : ℕ) (t : SchemaType) (old : Value) (kind : ErrorKind) → x.is_element ≡ true → IsElementInitRefusal set n t kind → Initns set x n t old (Refused kind) old
 element_init_refused set x n TextType old kind at h = roomless x _ _ old kind h
 element_init_refused set x n DataType old kind at h = roomless x _ _ old kind h
 element_init_refused set x n (ListType e) old kind at h = roomless x _ _ old kind h

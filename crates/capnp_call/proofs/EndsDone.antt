@@ -17,13 +17,13 @@ use Rattle.capnp_records.specs.Operation.{Does, Initns, Inits, IsDone, Makes}
 use Rattle.capnp_records.specs.Reading.{reads}
 use Rattle.capnp_records.specs.Record as value
 use Rattle.capnp_records.specs.Record.{Endless, Record, Value}
-use Rattle.capnp_records.specs.Step.{Found, IsRefused, Target, in_record, is_group_field, target_at}
+use Rattle.capnp_records.specs.Step.{Found, IsRefused, StepTarget, in_record, is_group_field, step_target}
 use Rattle.capnp_records.specs.Writes.Overlay.{cleared_content}
 use Rattle.capnp_records.specs.Writes.Slots.{Content}
-use Rattle.capnp_records.specs.Writes.Stand.{OnGroup, OnStruct, seen, step_field, step_index}
-use Rattle.capnp_records.specs.Writes.TreeEnds.{ClearsGroup, OpContent, TreeDoes, TreeDoesAt, cleared_at, group_cleared, slot_written, written}
+use Rattle.capnp_records.specs.Writes.Stand.{OnGroup, OnStruct, seen_stand, step_field, step_index}
+use Rattle.capnp_records.specs.Writes.TreeEnds.{ClearsGroup, OpContent, TreeDoes, TreeDoesAt, cleared_at, group_cleared, slot_written, written_stand}
 use Rattle.capnp_slots.specs.Fields.{IsSlot, field_brand, field_set, slot_with}
-use Rattle.capnp_slots.specs.FieldWrites.{IsFieldInit, KindIsInit, cleared_kind, field_cleared}
+use Rattle.capnp_slots.specs.FieldWrites.{IsFieldInit, KindIsInit, cleared_field_kind, field_cleared}
 use Rattle.capnp_slots.specs.Groups.{IsGroup, group_without}
 use Rattle.capnp_slots.specs.Inits.{IsInitRefusal, IsInitnRefusal, IsRoomless, init_content}
 use Rattle.capnp_call.proofs.Replies.{refused_undone}
@@ -38,13 +38,13 @@ module _ (f : Field) (s s' : StructTree) where
 
   -- nothing was written
   pub stays : (op : Op) (reply : Reply) → reply ≢ Done → s' ≡ s → ((whole : Record → Value) (old : Value) → Does (field_set f) op (target_in whole f s) old reply old) → FieldDoes f op s reply s'
-  stays op reply undone same h w g step e = inl (h (whole_of w) (seen (field_set f) (StructType (field_brand f) g) (stand_of w s)), ap (stand_of w) same, undone)
+  stays op reply undone same h w g step e = inl (h (whole_of w) (seen_stand (field_set f) (StructType (field_brand f) g) (stand_of w s)), ap (stand_of w) same, undone)
 
   -- a slot was written
   pub slot_does : (op : Op) (c : Content) → IsSlot f → ((whole : Record → Value) → OpContent (field_set f) op (target_in whole f s) c) → s' ≡ slot_with f c s → FieldDoes f op s Done s'
   slot_does op c slot content is w g step e = inr (inr (inl (c, slot, refl, content (whole_of w), refl, go w)))
     where
-      go : (w : Whole) → stand_of w s' ≡ written (field_set f) (StructType (field_brand f) g) (stand_of w s) step c
+      go : (w : Whole) → stand_of w s' ≡ written_stand (field_set f) (StructType (field_brand f) g) (stand_of w s) step c
       go AsStruct = ap OnStruct (is ∙ ap (λ (y : TypedField). slot_written (field_set f) (field_brand f) y c s) (sym (named step e)))
       go AsGroup = ap OnGroup (is ∙ ap (λ (y : TypedField). slot_written (field_set f) (field_brand f) y c s) (sym (named step e)))
 
@@ -60,24 +60,24 @@ module _ (f : Field) (s s' : StructTree) where
   pub clear_does : s' ≡ field_cleared f s → FieldDoes f Clear s Done s'
   clear_does = go (is_group_field (typed_of f).field.kind) refl
     where
-      go : (q : Bool) → is_group_field (typed_of f).field.kind ≡ q → s' ≡ cleared_kind q f s → FieldDoes f Clear s Done s'
+      go : (q : Bool) → is_group_field (typed_of f).field.kind ≡ q → s' ≡ cleared_field_kind q f s → FieldDoes f Clear s Done s'
       go true group is = group_does Clear group tt is
       go false slot is = slot_does Clear (cleared_content (typed_of f).type) slot (λ whole. (refl, refl)) is
 
 -- ---- refusals ----
 
-pub roomless : (x : Target) (past : Bool) (v old : Value) (kind : ErrorKind) → IsRoomless past kind → Makes x past v old (Refused kind) old
+pub roomless : (x : StepTarget) (past : Bool) (v old : Value) (kind : ErrorKind) → IsRoomless past kind → Makes x past v old (Refused kind) old
 roomless x true v old kind h = inr (ap Refused h, refl)
 roomless x false v old kind h = inl (ap Refused h, refl)
 
-pub initn_refused : (set : Schemas) (x : Target) (n : ℕ) (t : SchemaType) (old : Value) (kind : ErrorKind) → x.is_element ≡ false → IsInitnRefusal set n t kind → Initns set x n t old (Refused kind) old
+pub initn_refused : (set : Schemas) (x : StepTarget) (n : ℕ) (t : SchemaType) (old : Value) (kind : ErrorKind) → x.is_element ≡ false → IsInitnRefusal set n t kind → Initns set x n t old (Refused kind) old
 initn_refused set x n TextType old kind slot h = roomless x _ _ old kind h
 initn_refused set x n DataType old kind slot h = roomless x _ _ old kind h
 initn_refused set x n (ListType e) old kind slot h = roomless x _ _ old kind h
 initn_refused set x n AnyPointerType old kind slot h = (ap Refused (h ∙ sym (ap (λ q. cond q ListAnyPointerNotSupported InitnIsOnlyValidForListTextOrDataFields) slot)), refl)
 initn_refused set x n t old kind slot h = (ap Refused (h ∙ sym (ap (λ q. cond q ExpectedAListOrBlob InitnIsOnlyValidForListTextOrDataFields) slot)), refl)
 
-init_refused : (set : Schemas) (x : Target) (t : SchemaType) (old : Value) (kind : ErrorKind) → x.is_group ≡ false → IsInitRefusal t kind → Inits set x t old (Refused kind) old
+init_refused : (set : Schemas) (x : StepTarget) (t : SchemaType) (old : Value) (kind : ErrorKind) → x.is_group ≡ false → IsInitRefusal t kind → Inits set x t old (Refused kind) old
 init_refused set x (StructType b g) old kind slot h = go x.is_group slot
   where
     go : (q : Bool) → q ≡ false →
@@ -113,7 +113,7 @@ names_field f step op s reply s' index e h w g = go w (e (whole_of w)) (h w g st
   where
     go : (w : Whole) → Ok (target_in (whole_of w) f s) ≡ in_record (field_set f) (whole_of w) (reads (field_set f) s (field_brand f)) (field_brand f) step →
         TreeDoes (field_set f) op (target_in (whole_of w) f s) (StructType (field_brand f) g) (stand_of w s) step reply (stand_of w s') →
-        TreeDoesAt (field_set f) op (target_at (field_set f) (StructType (field_brand f) g) (seen (field_set f) (StructType (field_brand f) g) (stand_of w s)) step) (StructType (field_brand f) g) (stand_of w s) step reply (stand_of w s')
+        TreeDoesAt (field_set f) op (step_target (field_set f) (StructType (field_brand f) g) (seen_stand (field_set f) (StructType (field_brand f) g) (stand_of w s)) step) (StructType (field_brand f) g) (stand_of w s) step reply (stand_of w s')
     go AsStruct e h = subst (λ (x : Found). TreeDoesAt (field_set f) op x (StructType (field_brand f) g) (stand_of AsStruct s) step reply (stand_of AsStruct s')) e h
     go AsGroup e h = subst (λ (x : Found). TreeDoesAt (field_set f) op x (StructType (field_brand f) g) (stand_of AsGroup s) step reply (stand_of AsGroup s')) e h
 

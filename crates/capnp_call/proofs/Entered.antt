@@ -11,7 +11,7 @@ use Rattle.capnp_records.specs.Call.{Reply, Refused}
 use Rattle.capnp_records.specs.Part.{part_at}
 use Rattle.capnp_records.specs.Reading.{reads}
 use Rattle.capnp_records.specs.Record.{Record, Value}
-use Rattle.capnp_records.specs.Step.{CanRefuse, Found, fault_of, walked}
+use Rattle.capnp_records.specs.Step.{CanRefuse, Found, fault_of, passed_target}
 use Rattle.capnp_records.specs.Writes.Stand.{FieldRests, FieldWithin, OnGroup, OnStruct, Stand, StepRests, entered_field, left_field, step_field}
 use Rattle.capnp_records.specs.Writes.TreeRun.{TreeEnd, TreeEnters, TreeGoes, TreePasses}
 use Rattle.capnp_slots.specs.Fields.{field_brand, field_set}
@@ -69,10 +69,10 @@ module _ (f : Field) (further : TreeEnd) (s : StructTree) (reply : Reply) (s' : 
 
   -- ---- the tests before ----
 
-  pub passes : ((whole : Record → Value) → Ok (target_in whole f s) ≡ walked (target_in whole f s)) → FieldEnters f further s reply s' → FieldPasses f further s reply s'
+  pub passes : ((whole : Record → Value) → Ok (target_in whole f s) ≡ passed_target (target_in whole f s)) → FieldEnters f further s reply s' → FieldPasses f further s reply s'
   passes ok h w g step e =
       subst (λ (x : Found). TreePasses (field_set f) further (StructType (field_brand f) g) (stand_of w s) step x reply (stand_of w s')) (ok (whole_of w)) (h w g step e)
 
-  pub stops : (kind : ErrorKind) → ((whole : Record → Value) → Err kind ≡ walked (target_in whole f s)) → reply ≡ Refused kind → s' ≡ s → FieldPasses f further s reply s'
+  pub stops : (kind : ErrorKind) → ((whole : Record → Value) → Err kind ≡ passed_target (target_in whole f s)) → reply ≡ Refused kind → s' ≡ s → FieldPasses f further s reply s'
   stops kind err is rest w g step e =
       subst (λ (x : Found). TreePasses (field_set f) further (StructType (field_brand f) g) (stand_of w s) step x reply (stand_of w s')) (err (whole_of w)) (is, ap (stand_of w) rest)

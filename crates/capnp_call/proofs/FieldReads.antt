@@ -8,7 +8,7 @@ use Rattle.capnp_wire.specs.Standing.{struct_levels, struct_of}
 use Rattle.capnp_wire.specs.Tree.{StructTree}
 use Rattle.capnp_base.specs.declared.introspect.TypeVariant.{TypeVariant}
 use Rattle.capnp_schema.specs.FieldLists.{index_of, typed_of}
-use Rattle.capnp_schema.specs.FieldLists.{schema_of as field_schema}
+use Rattle.capnp_schema.specs.FieldLists.{field_schema as field_schema}
 use Rattle.capnp_schema.specs.Schema.{Schemas, default_of}
 use Rattle.capnp_schema.specs.StructHandles.{IsStruct, number_of, set_of, struct_field, struct_fields}
 use Rattle.capnp_schema.specs.Types.{SchemaType, seen_variant}
@@ -18,14 +18,14 @@ use Rattle.capnp_records.specs.Call.{Get, GivesValue, Plain, Reply, Refused}
 use Rattle.capnp_records.specs.Default.{read_of}
 use Rattle.capnp_records.specs.Facts.Frame.{choose-false, choose-true}
 use Rattle.capnp_records.specs.Facts.PartRead.{CanEnter, can-enter}
-use Rattle.capnp_records.specs.Operation.{Answers, Does, plain, takes_memory}
+use Rattle.capnp_records.specs.Operation.{Answers, Does, answer_of, takes_memory}
 use Rattle.capnp_records.specs.Part.{has_of, is_inactive}
 use Rattle.capnp_records.specs.Reading.{reads, struct_record}
 use Rattle.capnp_records.specs.Record.{Left, Record, Value}
-use Rattle.capnp_records.specs.Step.{Target, fault_of}
+use Rattle.capnp_records.specs.Step.{StepTarget, fault_of}
 use Rattle.capnp_dynamic_readers.specs.Handles.{reader_of, schema_of}
 use Rattle.capnp_dynamic_readers.specs.Reads.{field_read, field_seen}
-use Rattle.capnp_dynamic_readers.specs.Seen.{answered, record_seen, value_seen}
+use Rattle.capnp_dynamic_readers.specs.Seen.{answered_value, record_seen, value_seen}
 use Rattle.capnp_dynamic_readers.specs.Typed.{IsOf}
 use Rattle.capnp_dynamic_readers.specs.declared.dynamic_struct.Reader.{Reader as StructHandle}
 use Rattle.capnp_dynamic_readers.specs.declared.dynamic_value.Reader.{Reader as DynamicValue}
@@ -64,8 +64,8 @@ not-not false = refl
 
 pub active_reads : (r : StructHandle) (f : Field) (x s : StructTree) → schema_of r ≡ field_schema f → struct_of (reader_of r) ≡ x → IsStructCutOf x s → IsStruct (field_schema f) → index_of f < length (struct_fields (field_schema f)) → (q : Bool) →
     q ≡ not (is_inactive (record_seen r) (struct_field (schema_of r) (index_of f)).field (index_of f)) → not q ≡ is_inactive (reads (field_set f) s (field_brand f)) (typed_of f).field (index_of f)
-active_reads r f x s schema struct cut is inside q answered =
-    ap not (answered
+active_reads r f x s schema struct cut is inside q answered_value =
+    ap not (answered_value
     ∙ (ap (λ (z : StructSchema). not (is_inactive (struct_record (set_of z) (Left (struct_levels (reader_of r))) (struct_of (reader_of r)) (number_of z)) (struct_field z (index_of f)).field (index_of f))) schema
     ∙ (ap (λ (y : StructTree). not (is_inactive (struct_record (field_set f) (Left (struct_levels (reader_of r))) y (field_brand f)) (typed_of f).field (index_of f))) struct
     ∙ active_cut (field_set f) (Left (struct_levels (reader_of r))) x s (bytes_cut x s cut) is.accepted (field_brand f) (index_of f) is.number inside)))
@@ -73,7 +73,7 @@ active_reads r f x s schema struct cut is inside q answered =
 
 -- ---- get ----
 
-pub get_inactive : (set : Schemas) (x : Target) (old : Value) (reply : Reply) → x.inactive ≡ true → reply ≡ Refused InactiveMember → Does set Get x old reply old
+pub get_inactive : (set : Schemas) (x : StepTarget) (old : Value) (reply : Reply) → x.inactive ≡ true → reply ≡ Refused InactiveMember → Does set Get x old reply old
 get_inactive set x old reply e is = choose-true x.inactive _ _ e (is, refl)
 
 read_is : (r : StructHandle) (f : Field) (s : StructTree) → StandsOn r (field_schema f) s → field_seen r (index_of f) ≡ field_read (field_set f) (Left 64) s (typed_of f)
@@ -83,15 +83,15 @@ read_is r f s on =
     ∙ ap (λ (x : StructTree). field_read (field_set f) (Left 64) x (typed_of f)) on.struct_is
 
 pub get_reads : (r : StructHandle) (f : Field) (x s : StructTree) (read : Result DynamicValue Error) (reply : Reply) → StandsOn r (field_schema f) x → IsStructCutOf x s → index_of f < length (struct_fields (field_schema f)) →
-    answered read ≡ field_seen r (index_of f) → IfOk read (IsOf (set_of (schema_of r)) (struct_field (schema_of r) (index_of f)).type) →
-    ((set : Schemas) (t : SchemaType) (old : Value) → IfOk read (IsOf set t) → Answers t (answered read) (fault_of (answered read)) old reply old) →
+    answered_value read ≡ field_seen r (index_of f) → IfOk read (IsOf (set_of (schema_of r)) (struct_field (schema_of r) (index_of f)).type) →
+    ((set : Schemas) (t : SchemaType) (old : Value) → IfOk read (IsOf set t) → Answers t (answered_value read) (fault_of (answered_value read)) old reply old) →
     is_inactive (reads (field_set f) s (field_brand f)) (typed_of f).field (index_of f) ≡ false →
     (whole : Record → Value) (old : Value) → Does (field_set f) Get (target_in whole f s) old reply old
 get_reads r f x s read reply on cut inside value typed answers active whole old =
     let enter : CanEnter (field_set f) s (field_brand f) (index_of f) = can-enter (field_set f) s (field_brand f) (index_of f) inside active in
     let typed_as : IfOk read (IsOf (field_set f) (typed_of f).type) = subst (λ (z : StructSchema). IfOk read (IsOf (set_of z) (struct_field z (index_of f)).type)) on.schema_is typed in
     choose-false (target_in whole f s).inactive _ _ active
-    (answers_same (typed_of f).type (answered read) _ old old reply
+    (answers_same (typed_of f).type (answered_value read) _ old old reply
     (same_then (same_from (value ∙ read_is r f x on))
     (same_then (field_cut (field_set f) x s cut (typed_of f)) (same_from (ap (read_of (field_set f) (default_of (typed_of f).field) (typed_of f).type) (sym enter.part)))))
     (answers (field_set f) (typed_of f).type old typed_as))
@@ -116,15 +116,15 @@ sound (dynamic.List l) = refl
 sound (dynamic.AnyPointer p) = refl
 
 pub answers_given : (set : Schemas) (t : SchemaType) (read : Result DynamicValue Error) (v : DynamicValue) (old : Value) (p : Plain) → read ≡ Ok v → IfOk read (IsOf set t) →
-    (IsOf set t v → p ≡ plain t (value_seen v)) → Answers t (answered read) (fault_of (answered read)) old (GivesValue p) old
+    (IsOf set t v → p ≡ answer_of t (value_seen v)) → Answers t (answered_value read) (fault_of (answered_value read)) old (GivesValue p) old
 answers_given set t read v old p e h given =
-    subst (λ (x : Result DynamicValue Error). Answers t (answered x) (fault_of (answered x)) old (GivesValue p) old) (sym e)
+    subst (λ (x : Result DynamicValue Error). Answers t (answered_value x) (fault_of (answered_value x)) old (GivesValue p) old) (sym e)
     (subst (λ (o : Option ErrorKind). Answers t (value_seen v) o old (GivesValue p) old) (sym (sound v))
     (inl (ap GivesValue (given (subst (λ (x : Result DynamicValue Error). IfOk x (IsOf set t)) e h)), refl)))
 
 pub answers_short : (set : Schemas) (t : SchemaType) (read : Result DynamicValue Error) (v : DynamicValue) (old : Value) (kind : ErrorKind) → read ≡ Ok v → IfOk read (IsOf set t) →
-    (IsOf set t v → takes_memory t ≡ true) → kind ≡ OutOfMemory → Answers t (answered read) (fault_of (answered read)) old (Refused kind) old
+    (IsOf set t v → takes_memory t ≡ true) → kind ≡ OutOfMemory → Answers t (answered_value read) (fault_of (answered_value read)) old (Refused kind) old
 answers_short set t read v old kind e h memory cause =
-    subst (λ (x : Result DynamicValue Error). Answers t (answered x) (fault_of (answered x)) old (Refused kind) old) (sym e)
+    subst (λ (x : Result DynamicValue Error). Answers t (answered_value x) (fault_of (answered_value x)) old (Refused kind) old) (sym e)
     (subst (λ (o : Option ErrorKind). Answers t (value_seen v) o old (Refused kind) old) (sym (sound v))
     (inr (subst IsTrue (sym (memory (subst (λ (x : Result DynamicValue Error). IfOk x (IsOf set t)) e h))) refl, (ap Refused cause, refl))))

@@ -12,7 +12,7 @@ use Rattle.capnp_wire.specs.Reading.{element_pointer, element_struct, is_list, i
 use Rattle.capnp_wire.specs.Tree as tree_of
 use Rattle.capnp_wire.specs.Tree.{StructTree, Tree}
 use Rattle.capnp_wire.specs.Words.{first_fault}
-use Rattle.capnp_arena.specs.Built.{LeavesIn, built, part}
+use Rattle.capnp_arena.specs.Built.{LeavesIn, built_at, place_words}
 use Rattle.capnp_arena.specs.Facts.Laws.{IsInStruct, in_struct, struct_planted}
 use Rattle.capnp_arena.specs.Facts.Places.{at_then, then, unchanged}
 use Rattle.capnp_arena.specs.Forest.{Changes, Forest, PartChanges, Planted, tree}
@@ -37,7 +37,7 @@ use Rattle.capnp_slots.specs.Standing.{IsUnder}
 use Rattle.capnp_call.proofs.ListWalks.{element_in_list, element_in_struct, element_there, fits_at, nothing_steps}
 use Rattle.capnp_call.proofs.Parts.{here_is, struct_here}
 use Rattle.capnp_call.proofs.Walking.{field_group, field_list, field_struct, pointer_again, step_found}
-use Rattle.capnp_call.specs.Hops.{ElementGoes, FieldGoes, Goes, Going, IsAt, IsAtList, Leads, LeadsOn, ListGoes, StructGoes, first_step, placed}
+use Rattle.capnp_call.specs.Hops.{ElementGoes, FieldGoes, HopGoes, Going, IsAt, IsAtList, HopLeads, LeadsOn, ListGoes, StructGoes, first_step, placed_struct}
 use Rattle.capnp_call.specs.Lists.{ElementWalks, IsListStand, ListWalks, refusal_at_nothing}
 use Rattle.capnp_call.specs.Seen.{step_seen}
 use Rattle.capnp_call.specs.Walks.{FieldWalks, StepGoes, StructWalks}
@@ -53,24 +53,24 @@ use Rattle.capnp_base.specs.declared.introspect.«Type».{«Type» as TypeHandle
 
 -- ---- one hop in another ----
 
-pub leads_more : (part whole : Going) (r : Result At Error) (bytes : List ℕ) →
-    ((rest : List Step) (end : Ending) (k : Reply) (later : List ℕ) → part rest end k later → whole rest end k later) → Leads part r bytes → Leads whole r bytes
-leads_more part whole (Ok now) bytes more h = record { stands = h.stands; onward = λ rest end k later g. more rest end k later (h.onward rest end k later g) }
-leads_more part whole (Err e) bytes more h = λ rest end. more rest end (reply.Refused e.kind) bytes (h rest end)
+pub leads_more : (place_words whole : Going) (r : Result At Error) (bytes : List ℕ) →
+    ((rest : List Step) (end : Ending) (k : Reply) (later : List ℕ) → place_words rest end k later → whole rest end k later) → HopLeads place_words r bytes → HopLeads whole r bytes
+leads_more place_words whole (Ok now) bytes more h = record { stands = h.stands; onward = λ rest end k later g. more rest end k later (h.onward rest end k later g) }
+leads_more place_words whole (Err e) bytes more h = λ rest end. more rest end (reply.Refused e.kind) bytes (h rest end)
 
 -- ---- where nothing has changed ----
 
 pub unchanged_at : (w : ℕ) (bytes new : List ℕ) → new ≡ bytes → Changes w bytes new
 unchanged_at w bytes new same = subst (Changes w bytes) (sym same) (record { longer = omega arith; stays = λ k l o p. refl; grows = λ k o. inl o })
 
-pub struct_refused : (p : Place) (schema : StructSchema) (path : List Step) (end : Ending) (bytes : List ℕ) (r : Reply) → Planted bytes (part p) →
-    StructWalks (set_of schema) (number_of schema) path end (placed bytes p) r (placed bytes p) → StructGoes p schema bytes path end r bytes
-struct_refused p schema path end bytes r planted walks = record { walks = walks; planted = planted; changes = unchanged bytes bytes (part p) refl }
+pub struct_refused : (p : Place) (schema : StructSchema) (path : List Step) (end : Ending) (bytes : List ℕ) (r : Reply) → Planted bytes (place_words p) →
+    StructWalks (set_of schema) (number_of schema) path end (placed_struct bytes p) r (placed_struct bytes p) → StructGoes p schema bytes path end r bytes
+struct_refused p schema path end bytes r planted walks = record { walks = walks; planted = planted; changes = unchanged bytes bytes (place_words p) refl }
 
-pub field_refused_at : (p : Place) (f : Field) (rest : List Step) (end : Ending) (bytes new : List ℕ) (r : Reply) → new ≡ bytes → Planted bytes (part p) →
-    FieldWalks f rest end (placed bytes p) r (placed bytes p) → FieldGoes p f bytes rest end r new
+pub field_refused_at : (p : Place) (f : Field) (rest : List Step) (end : Ending) (bytes new : List ℕ) (r : Reply) → new ≡ bytes → Planted bytes (place_words p) →
+    FieldWalks f rest end (placed_struct bytes p) r (placed_struct bytes p) → FieldGoes p f bytes rest end r new
 field_refused_at p f rest end bytes new r same planted walks =
-    subst (FieldGoes p f bytes rest end r) (sym same) (record { walks = walks; planted = planted; changes = unchanged bytes bytes (part p) refl })
+    subst (FieldGoes p f bytes rest end r) (sym same) (record { walks = walks; planted = planted; changes = unchanged bytes bytes (place_words p) refl })
 
 pub list_refused : (w : ℕ) (set : Schemas) (e : SchemaType) (path : List Step) (end : Ending) (bytes : List ℕ) (kind k : ErrorKind) → Forest bytes w → kind ≡ k →
     ListWalks set e path end (tree bytes w) (reply.Refused k) (tree bytes w) → ListGoes w set e bytes path end (reply.Refused kind) bytes
@@ -91,18 +91,18 @@ element_stays w set e i rest end bytes new kind forest same walks = subst (Eleme
 -- the field that a step names
 pub named_leads : (p : Place) (schema : StructSchema) (f : Field) (s : Step) (r : Result At Error) (old bytes : List ℕ) → IsNamedBy schema s f →
     ((whole : Record → Value) (y : Record) → found_target whole y (Ok f) ≡ in_record (set_of schema) whole y (number_of schema) (step_seen s)) →
-    Leads (FieldGoes p f old) r bytes → Leads (first_step (StructGoes p schema old) s) r bytes
+    HopLeads (FieldGoes p f old) r bytes → HopLeads (first_step (StructGoes p schema old) s) r bytes
 named_leads p schema f s r old bytes named found h =
     leads_more (FieldGoes p f old) (first_step (StructGoes p schema old) s) r bytes
-    (λ rest end k later g. record { walks = step_found schema f s rest end (placed old p) k (placed later p) named found g.walks; planted = g.planted; changes = g.changes }) h
+    (λ rest end k later g. record { walks = step_found schema f s rest end (placed_struct old p) k (placed_struct later p) named found g.walks; planted = g.planted; changes = g.changes }) h
 
 -- a group
-pub group_leads : (p : Place) (f : Field) (group : StructSchema) (bytes : List ℕ) → Planted bytes (part p) → IsGroupAt f group → IsRoomFor f (placed bytes p) → StepGoes f (placed bytes p) →
+pub group_leads : (p : Place) (f : Field) (group : StructSchema) (bytes : List ℕ) → Planted bytes (place_words p) → IsGroupAt f group → IsRoomFor f (placed_struct bytes p) → StepGoes f (placed_struct bytes p) →
     LeadsOn (FieldGoes p f bytes) (at.Struct p group) bytes
 group_leads p f group bytes planted leads room goes = record {
-  stands = record { stands = leads.stands; planted = planted; room = leads.room (placed bytes p) room };
+  stands = record { stands = leads.stands; planted = planted; room = leads.room (placed_struct bytes p) room };
   onward = λ rest end k later g. record {
-    walks = field_group f rest end (placed bytes p) group k (placed later p) leads goes g.walks;
+    walks = field_group f rest end (placed_struct bytes p) group k (placed_struct later p) leads goes g.walks;
     planted = g.planted;
     changes = g.changes;
   };
@@ -110,21 +110,21 @@ group_leads p f group bytes planted leads room goes = record {
 
 -- what stands behind the pointer of a slot, at a word, after the step has filled it
 pub record IsSlotAt (p : Place) (f : Field) (old : List ℕ) (m : Arena) (w : ℕ) : Type 0 where
-  pub goes : StepGoes f (placed old p)
-  pub filled : built m p ≡ with_pointer_tree (placed old p) (pointer_index f) (filled_in f (placed old p))
-  pub here : tree (segment m) w ≡ filled_in f (placed old p)
-  pub changes : PartChanges (part p) old (segment m)
+  pub goes : StepGoes f (placed_struct old p)
+  pub filled : built_at m p ≡ with_pointer_tree (placed_struct old p) (pointer_index f) (filled_in f (placed_struct old p))
+  pub here : tree (segment m) w ≡ filled_in f (placed_struct old p)
+  pub changes : PartChanges (place_words p) old (segment m)
   pub forest : Forest (segment m) w
   pub leaves : (new : List ℕ) → Forest new w → Changes w (segment m) new → LeavesIn p (pointer_index f) m w new
 
 module _ (p : Place) (f : Field) (old : List ℕ) (m : Arena) (w : ℕ) (slot : IsSlotAt p f old m w) where
   abbrev s : StructTree
-  s = placed old p
+  s = placed_struct old p
 
   -- a struct there
   pub struct_leads : (schema : StructSchema) (q : Place) → IsStructSlot f schema → shape_at (segment m) w ≡ StructIn q.start q.data_words q.pointers → LeadsOn (FieldGoes p f old) (at.Struct q schema) (segment m)
   struct_leads schema q leads place =
-      let is : struct_in (tree (segment m) w) ≡ placed (segment m) q = here_is (segment m) w q.start q.data_words q.pointers slot.forest place in
+      let is : struct_in (tree (segment m) w) ≡ placed_struct (segment m) q = here_is (segment m) w q.start q.data_words q.pointers slot.forest place in
       record {
         stands = record {
           stands = leads.stands;
@@ -134,12 +134,12 @@ module _ (p : Place) (f : Field) (old : List ℕ) (m : Arena) (w : ℕ) (slot : 
         onward = λ rest end k later g.
             let inside : IsInStruct (segment m) later w q.start q.data_words q.pointers = in_struct (segment m) later w q.start q.data_words q.pointers slot.forest place g.planted g.changes in
             let left : LeavesIn p (pointer_index f) m w later = slot.leaves later inside.forest inside.changes in
-            let y : StructTree = placed later q in
+            let y : StructTree = placed_struct later q in
             let walks : StructWalks (set_of schema) (number_of schema) rest end (struct_in (filled_in f s)) k y =
             subst (λ (x : StructTree). StructWalks (set_of schema) (number_of schema) rest end x k y) (sym is ∙ ap struct_in slot.here) g.walks in
             record {
               walks = subst (λ (z : StructTree). FieldWalks f rest end s k z)
-                  (sym (pointer_again s (built m p) (placed later p) (pointer_index f) (filled_in f s) (struct_tree y) slot.filled (left.struct ∙ ap (with_pointer_tree (built m p) (pointer_index f)) inside.tree)))
+                  (sym (pointer_again s (built_at m p) (placed_struct later p) (pointer_index f) (filled_in f s) (struct_tree y) slot.filled (left.struct ∙ ap (with_pointer_tree (built_at m p) (pointer_index f)) inside.tree)))
                   (field_struct f rest end s schema k y leads slot.goes walks);
               planted = left.planted;
               changes = then slot.changes left.changes;
@@ -149,7 +149,7 @@ module _ (p : Place) (f : Field) (old : List ℕ) (m : Arena) (w : ℕ) (slot : 
   -- a list there
   pub list_leads : (set : Schemas) (element : TypeHandle) → IsListSlot f element → set ≡ field_set f → IsListStand (field_set f) (seen_type element) (filled_in f s) →
       (now : At) → ((bytes : List ℕ) → IsAtList w set (seen_type element) bytes → IsAt now bytes) →
-      ((old : List ℕ) (path : List Step) (end : Ending) (k : Reply) (new : List ℕ) → Goes now old path end k new → ListGoes w set (seen_type element) old path end k new) → LeadsOn (FieldGoes p f old) now (segment m)
+      ((old : List ℕ) (path : List Step) (end : Ending) (k : Reply) (new : List ℕ) → HopGoes now old path end k new → ListGoes w set (seen_type element) old path end k new) → LeadsOn (FieldGoes p f old) now (segment m)
   list_leads set element leads same list now stands goes = record {
     stands = stands (segment m) (record {
       forest = slot.forest;
@@ -163,7 +163,7 @@ module _ (p : Place) (f : Field) (old : List ℕ) (m : Arena) (w : ℕ) (slot : 
         let walks : ListWalks (field_set f) (seen_type element) rest end (filled_in f s) k y =
         subst (λ (x : Tree). ListWalks (field_set f) (seen_type element) rest end x k y) slot.here (subst (λ (z : Schemas). ListWalks z (seen_type element) rest end (tree (segment m) w) k y) same g.walks) in
         record {
-          walks = subst (λ (z : StructTree). FieldWalks f rest end s k z) (sym (pointer_again s (built m p) (placed later p) (pointer_index f) (filled_in f s) y slot.filled left.struct))
+          walks = subst (λ (z : StructTree). FieldWalks f rest end s k z) (sym (pointer_again s (built_at m p) (placed_struct later p) (pointer_index f) (filled_in f s) y slot.filled left.struct))
               (field_list f rest end s element k y leads slot.goes walks);
           planted = left.planted;
           changes = then slot.changes left.changes;
@@ -195,15 +195,15 @@ nothing_refused set e x s rest end kind stands none is =
 
 -- an element that is there
 pub there_leads : (w : ℕ) (set : Schemas) (e : SchemaType) (i : ℕ) (r : Result At Error) (old bytes : List ℕ) → IsListStand set e (tree old w) → is_null_tree (tree old w) ≡ false → i < list_length (tree old w) →
-    Leads (ElementGoes w set e i old) r bytes → Leads (first_step (ListGoes w set e old) (step.Element i)) r bytes
+    HopLeads (ElementGoes w set e i old) r bytes → HopLeads (first_step (ListGoes w set e old) (step.Element i)) r bytes
 there_leads w set e i r old bytes stands there inside h =
     leads_more (ElementGoes w set e i old) (first_step (ListGoes w set e old) (step.Element i)) r bytes
     (λ rest end k later g. record { walks = element_there set e (tree old w) stands there i rest end k (tree later w) inside g.walks; forest = g.forest; changes = g.changes }) h
 
 -- a struct of a list of structs
 pub struct_in_leads : (w : ℕ) (schema : StructSchema) (i : ℕ) (bytes : List ℕ) (q : Place) → IsStruct schema → IsListStand (set_of schema) (StructType (number_of schema) (generic_of schema)) (tree bytes w) → i < list_length (tree bytes w) →
-    HasStruct (tree bytes w) i → Planted bytes (part q) → placed bytes q ≡ element_struct (tree bytes w) i →
-    ((new : List ℕ) → Planted new (part q) → PartChanges (part q) bytes new → Leaves w (with_struct_element i (placed new q) (tree bytes w)) bytes new) →
+    HasStruct (tree bytes w) i → Planted bytes (place_words q) → placed_struct bytes q ≡ element_struct (tree bytes w) i →
+    ((new : List ℕ) → Planted new (place_words q) → PartChanges (place_words q) bytes new → Leaves w (with_struct_element i (placed_struct new q) (tree bytes w)) bytes new) →
     LeadsOn (ElementGoes w (set_of schema) (StructType (number_of schema) (generic_of schema)) i bytes) (at.Struct q schema) bytes
 struct_in_leads w schema i bytes q stands list inside there planted is leaves =
     let set = set_of schema in
@@ -213,10 +213,10 @@ struct_in_leads w schema i bytes q stands list inside there planted is leaves =
     record {
       stands = record { stands = stands; planted = planted; room = subst (IsUnder schema) (sym is) (fits_at set b g x i there list.sound) };
       onward = λ rest end k later h.
-          let left : Leaves w (with_struct_element i (placed later q) x) bytes later = leaves later h.planted h.changes in
+          let left : Leaves w (with_struct_element i (placed_struct later q) x) bytes later = leaves later h.planted h.changes in
           record {
             walks = subst (λ (z : Tree). ElementWalks set (StructType b g) i rest end x k z) (sym left.tree)
-                (element_in_struct set x i rest end inside b g k (placed later q) (subst (λ (y : StructTree). StructWalks set b rest end y k (placed later q)) is h.walks));
+                (element_in_struct set x i rest end inside b g k (placed_struct later q) (subst (λ (y : StructTree). StructWalks set b rest end y k (placed_struct later q)) is h.walks));
             forest = left.forest;
             changes = left.changes;
           };
@@ -227,7 +227,7 @@ pub list_in_leads : (w : ℕ) (set : Schemas) (e : SchemaType) (i : ℕ) (old m 
     fill_due set VoidValue (ListType e) (tree old q) ≡ None → first_fault (tree old q) ≡ None → tree m q ≡ entered_list set e (tree old q) → Forest m q → Changes q old m → NamesEntries set e → IsListStand set e (tree m q) →
     ((new : List ℕ) → Forest new q → Changes q old new → Leaves w (with_pointer_element i (tree new q) (tree old w)) old new) →
     (now : At) → ((bytes : List ℕ) → IsAtList q set e bytes → IsAt now bytes) →
-    ((old : List ℕ) (path : List Step) (end : Ending) (k : Reply) (new : List ℕ) → Goes now old path end k new → ListGoes q set e old path end k new) → LeadsOn (ElementGoes w set (ListType e) i old) now m
+    ((old : List ℕ) (path : List Step) (end : Ending) (k : Reply) (new : List ℕ) → HopGoes now old path end k new → ListGoes q set e old path end k new) → LeadsOn (ElementGoes w set (ListType e) i old) now m
 list_in_leads w set e i old m q inside there is within whole filled forest changes entries list leaves now stands goes =
     let x : Tree = tree old w in
     record {
@@ -250,7 +250,7 @@ list_in_leads w set e i old m q inside there is within whole filled forest chang
 
 -- a call from the start does what its rest does from where the walk stands
 abbrev pub Onward : Place → StructSchema → List ℕ → List Step → At → List ℕ → List Step → Type 0
-Onward p schema old path now bytes rest = (end : Ending) (k : Reply) (later : List ℕ) → Goes now bytes rest end k later → StructGoes p schema old path end k later
+Onward p schema old path now bytes rest = (end : Ending) (k : Reply) (later : List ℕ) → HopGoes now bytes rest end k later → StructGoes p schema old path end k later
 
 pub onward_start : (p : Place) (schema : StructSchema) (old : List ℕ) (path : List Step) → Onward p schema old path (at.Struct p schema) old path
 onward_start p schema old path end k later g = g
@@ -260,16 +260,16 @@ rest_from : (path : List Step) (i : ℕ) (d : Step) → i < length path → get_
 rest_from path i d inside = sym (drop_more path i d inside)
 
 pub onward_step : (p : Place) (schema : StructSchema) (old : List ℕ) (path : List Step) (now next : At) (before bytes : List ℕ) (i : ℕ) (d : Step) → i < length path →
-    Onward p schema old path now before (drop i path) → LeadsOn (first_step (Goes now before) (get_or path i d)) next bytes → Onward p schema old path next bytes (drop (i + 1) path)
+    Onward p schema old path now before (drop i path) → LeadsOn (first_step (HopGoes now before) (get_or path i d)) next bytes → Onward p schema old path next bytes (drop (i + 1) path)
 onward_step p schema old path now next before bytes i d inside onward h end k later g =
-    onward end k later (subst (λ (rest : List Step). Goes now before rest end k later) (rest_from path i d inside) (h.onward (drop (i + 1) path) end k later g))
+    onward end k later (subst (λ (rest : List Step). HopGoes now before rest end k later) (rest_from path i d inside) (h.onward (drop (i + 1) path) end k later g))
 
 pub onward_refused : (p : Place) (schema : StructSchema) (old : List ℕ) (path : List Step) (now : At) (before bytes : List ℕ) (i : ℕ) (d : Step) (kind : ErrorKind) → i < length path →
-    Onward p schema old path now before (drop i path) → ((rest : List Step) (end : Ending) → first_step (Goes now before) (get_or path i d) rest end (reply.Refused kind) bytes) → (end : Ending) → StructGoes p schema old path end (reply.Refused kind) bytes
+    Onward p schema old path now before (drop i path) → ((rest : List Step) (end : Ending) → first_step (HopGoes now before) (get_or path i d) rest end (reply.Refused kind) bytes) → (end : Ending) → StructGoes p schema old path end (reply.Refused kind) bytes
 onward_refused p schema old path now before bytes i d kind inside onward h end =
-    onward end (reply.Refused kind) bytes (subst (λ (rest : List Step). Goes now before rest end (reply.Refused kind) bytes) (rest_from path i d inside) (h (drop (i + 1) path) end))
+    onward end (reply.Refused kind) bytes (subst (λ (rest : List Step). HopGoes now before rest end (reply.Refused kind) bytes) (rest_from path i d inside) (h (drop (i + 1) path) end))
 
 pub onward_end : (p : Place) (schema : StructSchema) (old : List ℕ) (path : List Step) (now : At) (before bytes : List ℕ) (i : ℕ) (end : Ending) (k : Reply) → length path ≤ i →
-    Onward p schema old path now before (drop i path) → Goes now before [] end k bytes → StructGoes p schema old path end k bytes
+    Onward p schema old path now before (drop i path) → HopGoes now before [] end k bytes → StructGoes p schema old path end k bytes
 onward_end p schema old path now before bytes i end k past onward g =
-    onward end k bytes (subst (λ (rest : List Step). Goes now before rest end k bytes) (sym (at_drop_all (λ (rest : List Step). rest) path i past)) g)
+    onward end k bytes (subst (λ (rest : List Step). HopGoes now before rest end k bytes) (sym (at_drop_all (λ (rest : List Step). rest) path i past)) g)

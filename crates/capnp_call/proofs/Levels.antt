@@ -9,7 +9,7 @@ use Rattle.capnp_device.specs.declared.error.ErrorKind.TheVariants.{OutOfMemory,
 use Rattle.capnp_wire.specs.Reading.{as_list, as_struct, is_null_tree, list_length, reads_bits, reads_numbers, reads_pointers, reads_structs, reads_voids, with_level}
 use Rattle.capnp_wire.specs.declared.size.ElementSize.{ElementSize}
 use Rattle.capnp_base.specs.declared.introspect.TypeVariant.{TypeVariant}
-use Rattle.capnp_schema.specs.Accepted.{IsAccepted, root_of}
+use Rattle.capnp_schema.specs.Accepted.{IsAccepted, words_root}
 use Rattle.capnp_schema.specs.Schema.{Schemas, StructValue, ListValue, FieldKind, Slot, Group, TypedField, default_of, field_at, fields_of}
 use Rattle.capnp_schema.specs.Schema.{Value as SchemaValue}
 use Rattle.capnp_schema.specs.Types.{SchemaType, TextType, DataType, StructType, ListType, AnyPointerType, element_size, seen_variant}
@@ -18,7 +18,7 @@ use Rattle.capnp_records.specs.Facts.DefaultTree.{read-there}
 use Rattle.capnp_records.specs.Facts.Readers.{null-is, value-there}
 use Rattle.capnp_records.specs.Facts.ListValues.{below_of, count-values_from}
 use Rattle.capnp_records.specs.Facts.Pointers.{values_of-nth}
-use Rattle.capnp_records.specs.Operation.{Answers, plain, takes_memory}
+use Rattle.capnp_records.specs.Operation.{Answers, answer_of, takes_memory}
 use Rattle.capnp_records.specs.Part.{has_of, is_inactive}
 use Rattle.capnp_records.specs.Reading.{Below, Reading, element_value, elements_value, kind_value, nth_reading, of_read, part_of, record_of, record_within, struct_record, tree_value, value_of, values_of}
 use Rattle.capnp_records.specs.Record as value
@@ -46,14 +46,14 @@ active_levels set l s accepted b i b_in i_in =
 
 -- two values are answered alike
 pub record SameAnswer (t : SchemaType) (v w : Value) : Type 0 where
-  pub plain_is : plain t v ≡ plain t w
+  pub plain_is : answer_of t v ≡ answer_of t w
   pub fault_is : fault_of v ≡ fault_of w
 
 pub same : {t : SchemaType} {v : Value} → SameAnswer t v v
 same = record { plain_is = refl; fault_is = refl }
 
 pub same_from : {t : SchemaType} {v w : Value} → v ≡ w → SameAnswer t v w
-same_from {t} {v} {w} e = record { plain_is = ap (plain t) e; fault_is = ap fault_of e }
+same_from {t} {v} {w} e = record { plain_is = ap (answer_of t) e; fault_is = ap fault_of e }
 
 pub same_then : {t : SchemaType} {u v w : Value} → SameAnswer t u v → SameAnswer t v w → SameAnswer t u w
 same_then a b = record { plain_is = a.plain_is ∙ b.plain_is; fault_is = a.fault_is ∙ b.fault_is }
@@ -65,7 +65,7 @@ answers_same t v w old new reply s h = go (fault_of w) (subst (λ o. Answers t v
     go (Some kind) h = h
     go None h = subst (λ p. ((reply ≡ GivesValue p) × (new ≡ old)) ⊎ (IsTrue (takes_memory t) × IsRefused OutOfMemory reply old new)) s.plain_is h
 
-pub alike : {t : SchemaType} {v w : Value} → plain t v ≡ plain t w → fault_of v ≡ fault_of w → SameAnswer t v w
+pub alike : {t : SchemaType} {v w : Value} → answer_of t v ≡ answer_of t w → fault_of v ≡ fault_of w → SameAnswer t v w
 alike p f = record { plain_is = p; fault_is = f }
 
 module _ (set : Schemas) where
@@ -158,8 +158,8 @@ module _ (set : Schemas) where
       go false e = there 64 refl x t e
 
   default_same : (d : SchemaValue) (t : SchemaType) → SameAnswer t (default_value set (Left 64) d t) (default_value set Endless d t)
-  default_same (StructValue words) (StructType b g) = unless (StructType b g) (root_of words) (alike refl refl)
-  default_same (ListValue words) (ListType e) = unless (ListType e) (root_of words) (alike refl refl)
+  default_same (StructValue words) (StructType b g) = unless (StructType b g) (words_root words) (alike refl refl)
+  default_same (ListValue words) (ListType e) = unless (ListType e) (words_root words) (alike refl refl)
   default_same d (StructType b g) = alike refl refl
   default_same d (ListType e) = alike refl refl
   default_same d t = alike refl refl

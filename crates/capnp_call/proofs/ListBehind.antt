@@ -16,8 +16,8 @@ use Rattle.capnp_wire.specs.Tree.{StructTree, Tree, nth_tree}
 use Rattle.capnp_wire.specs.WellFormed.{IsWellFormed}
 use Rattle.capnp_wire.specs.Words.{first_fault, first_fault_of_all}
 use Rattle.capnp_wire.specs.declared.size.StructSize.{StructSize}
-use Rattle.capnp_schema.specs.Accepted.{Decodes, IsDefaultOf, KindDefault, root_of}
-use Rattle.capnp_schema.specs.Defaults.{DefaultFits, IsReadAs, default_tree}
+use Rattle.capnp_schema.specs.Accepted.{Decodes, IsDefaultOf, KindDefault, words_root}
+use Rattle.capnp_schema.specs.Defaults.{DefaultFits, IsDefaultReadAs, value_default_tree}
 use Rattle.capnp_schema.specs.FieldLists.{typed_of}
 use Rattle.capnp_schema.specs.Ranges.{HasRanges}
 use Rattle.capnp_schema.specs.Schema.{AnyPointerValue, FieldKind, Group, ListValue, Schemas, Slot, StructValue, brand_at, default_of, kind_default}
@@ -31,13 +31,13 @@ use Rattle.capnp_records.specs.Facts.Readers.{null-is}
 use Rattle.capnp_records.specs.Reading.{value_of}
 use Rattle.capnp_records.specs.Record.{Endless, Record, Value, is_there}
 use Rattle.capnp_records.specs.Record as value
-use Rattle.capnp_records.specs.Step.{CanRefuse, Target, fault_of, filled, for_memory, for_size, is_group_field, is_list_default, is_struct_list, size_of, takes_room}
-use Rattle.capnp_records.specs.Writes.Fill.{IsAtRest, filled_list, or_default}
+use Rattle.capnp_records.specs.Step.{CanRefuse, StepTarget, fault_of, filled_value, for_memory, for_size, is_group_field, is_list_default, is_struct_list, size_of, takes_room}
+use Rattle.capnp_records.specs.Writes.Fill.{IsAtRest, filled_list, list_or_default}
 use Rattle.capnp_schema.specs.Plan.{brand_size}
 use Rattle.capnp_records.specs.Writes.Stand.{KindWithin, SlotWithin, left_field}
 use Rattle.capnp_records.specs.Writes.TreeEnds.{TreeEnds, offset_of}
 use Rattle.capnp_records.specs.Writes.TreeRun.{TreeEnd, TreeWalks}
-use Rattle.capnp_slots.specs.Fields.{IsPointer, IsSlot, field_set}
+use Rattle.capnp_slots.specs.Fields.{IsPointerField, IsSlot, field_set}
 use Rattle.capnp_slots.specs.Fills.{RestsIn, due_in, fill_due, filled_in, filled_tree, pointer_in}
 use Rattle.capnp_call.proofs.Behind.{due_memory, nth_sound, pointed, rests_in}
 use Rattle.capnp_call.proofs.Entered.{enters, part_in, passes, short, unread}
@@ -50,14 +50,14 @@ use Rattle.capnp_call.specs.Ways.{target_in}
 
 -- a default of a list is null, or read as a list of its type
 abbrev pub IsListDefault : SchemaValue → SchemaType → Type 0
-IsListDefault d e = (words : List ℕ) → d ≡ ListValue words → IsWellFormed (root_of words) × IsOk (as_list (element_size e) (root_of words) 1)
+IsListDefault d e = (words : List ℕ) → d ≡ ListValue words → IsWellFormed (words_root words) × IsOk (as_list (element_size e) (words_root words) 1)
 
 kind_is : (k : FieldKind) (t : SchemaType) → is_group_field k ≡ false → KindDefault IsDefaultOf k t → IsDefaultOf (kind_default k) t
 kind_is (Slot o d) t e h = h
 kind_is (Group n) t e h = absurd (true≢false e)
 
 -- a default that is taken for a null is a list
-default_null : (d : SchemaValue) (e : SchemaType) → IsDefaultOf d (ListType e) → Decodes d → not (is_null_tree (default_tree d)) ≡ is_list_default d
+default_null : (d : SchemaValue) (e : SchemaType) → IsDefaultOf d (ListType e) → Decodes d → not (is_null_tree (value_default_tree d)) ≡ is_list_default d
 default_null (ListValue words) e of dec = refl
 default_null (StructValue words) e of dec = absurd of
 default_null (AnyPointerValue words) e of dec = ap (λ (y : Tree). not (is_null_tree y)) dec
@@ -70,28 +70,28 @@ read_so e y (Ok z) is ok there = reads_list-as_list (element_size e) y 1 z there
 read_so e y (Err k) is ok there = absurd (true≢false (sym ok))
 
 -- a null's default, or what stands there
-plain_stands : (d : SchemaValue) (x : Tree) (e : SchemaType) → list_refusal (element_size e) x ≡ None → IsListDefault d e → is_null_tree (or_default d x) ≡ false → reads_list (element_size e) (or_default d x) ≡ true
+plain_stands : (d : SchemaValue) (x : Tree) (e : SchemaType) → list_refusal (element_size e) x ≡ None → IsListDefault d e → is_null_tree (list_or_default d x) ≡ false → reads_list (element_size e) (list_or_default d x) ≡ true
 plain_stands d x e due of there = go (is_null_tree x) refl
   where
-    filled_null : (d : SchemaValue) → IsListDefault d e → is_null_tree (or_default d tree.Null) ≡ false → reads_list (element_size e) (or_default d tree.Null) ≡ true
-    filled_null (ListValue words) of there = read_so e (root_of words) (as_list (element_size e) (root_of words) 1) refl (of words refl).1 there
+    filled_null : (d : SchemaValue) → IsListDefault d e → is_null_tree (list_or_default d tree.Null) ≡ false → reads_list (element_size e) (list_or_default d tree.Null) ≡ true
+    filled_null (ListValue words) of there = read_so e (words_root words) (as_list (element_size e) (words_root words) 1) refl (of words refl).1 there
     filled_null d of there = absurd (true≢false there)
 
-    go : (q : Bool) → is_null_tree x ≡ q → reads_list (element_size e) (or_default d x) ≡ true
-    go true h = subst (λ (y : Tree). reads_list (element_size e) (or_default d y) ≡ true) (sym (null-is x h))
-        (filled_null d of (subst (λ (y : Tree). is_null_tree (or_default d y) ≡ false) (null-is x h) there))
+    go : (q : Bool) → is_null_tree x ≡ q → reads_list (element_size e) (list_or_default d x) ≡ true
+    go true h = subst (λ (y : Tree). reads_list (element_size e) (list_or_default d y) ≡ true) (sym (null-is x h))
+        (filled_null d of (subst (λ (y : Tree). is_null_tree (list_or_default d y) ≡ false) (null-is x h) there))
     go false h = subst (λ (y : Tree). reads_list (element_size e) y ≡ true) (sym (kept_default d x h)) (plain_reads e x due h)
 
-filled_reads : (set : Schemas) (d : SchemaValue) (x : Tree) (e : SchemaType) → fill_due set d (ListType e) x ≡ None → first_fault (or_default d x) ≡ None → IsListDefault d e →
+filled_reads : (set : Schemas) (d : SchemaValue) (x : Tree) (e : SchemaType) → fill_due set d (ListType e) x ≡ None → first_fault (list_or_default d x) ≡ None → IsListDefault d e →
     is_null_tree (filled_list set e d x) ≡ false → reads_list (element_size e) (filled_list set e d x) ≡ true
-filled_reads set d x (StructType b g) due whole of there = structs_stand (brand_size set b) (or_default d x) due whole there
+filled_reads set d x (StructType b g) due whole of there = structs_stand (brand_size set b) (list_or_default d x) due whole there
 filled_reads set d x e due whole of there = plain_stands d x e due of there
 
-pub list_stands : (set : Schemas) (d : SchemaValue) (x : Tree) (e : SchemaType) → fill_due set d (ListType e) x ≡ None → first_fault (or_default d x) ≡ None → IsListDefault d e →
+pub list_stands : (set : Schemas) (d : SchemaValue) (x : Tree) (e : SchemaType) → fill_due set d (ListType e) x ≡ None → first_fault (list_or_default d x) ≡ None → IsListDefault d e →
     IsWellFormed (filled_list set e d x) → IsListStand set e (filled_list set e d x)
 list_stands set d x e due whole of formed = record {
   reads_it = filled_reads set d x e due whole of;
-  sound = list-sound set e (or_default d x);
+  sound = list-sound set e (list_or_default d x);
   formed = formed;
 }
 
@@ -101,27 +101,27 @@ list_stands set d x e due whole of formed = record {
 pub null_holds : (size : StructSize) (x : Tree) → is_null_tree x ≡ true → HoldsStructs size x
 null_holds size x h = subst (HoldsStructs size) (sym (null-is x h)) tt
 
-memory_structs : (x : Target) (b g : ℕ) (v : Value) → is_there v ≡ true → IsTrue (takes_room x (ListType (StructType b g)) v)
+memory_structs : (x : StepTarget) (b g : ℕ) (v : Value) → is_there v ≡ true → IsTrue (takes_room x (ListType (StructType b g)) v)
 memory_structs x b g (value.Missing l) h = absurd (true≢false (sym h))
 memory_structs x b g v h = refl
 
-pub memory_there : (set : Schemas) (x : Target) (b g : ℕ) (p : Tree) → x.part ≡ value_of set p Endless (ListType (StructType b g)) → is_null_tree p ≡ false → IsTrue (takes_room x (ListType (StructType b g)) x.part)
+pub memory_there : (set : Schemas) (x : StepTarget) (b g : ℕ) (p : Tree) → x.part ≡ value_of set p Endless (ListType (StructType b g)) → is_null_tree p ≡ false → IsTrue (takes_room x (ListType (StructType b g)) x.part)
 memory_there set x b g p part h = memory_structs x b g x.part (ap is_there part ∙ list-there set p (StructType b g) h)
 
 -- a null takes memory for a default alone, and so does a list of other elements
-memory_plain : (set : Schemas) (x : Target) (e : SchemaType) (p : Tree) → x.part ≡ value_of set p Endless (ListType e) → (takes_default (default_tree x.default) p ≡ false → ⊥) →
+memory_plain : (set : Schemas) (x : StepTarget) (e : SchemaType) (p : Tree) → x.part ≡ value_of set p Endless (ListType e) → (takes_default (value_default_tree x.default) p ≡ false → ⊥) →
     IsDefaultOf x.default (ListType e) → Decodes x.default → IsTrue (takes_room x (ListType e) x.part)
 memory_plain set x e p part takes of dec = go (is_null_tree p) refl
   where
     found : (q : Bool) → is_list_default x.default ≡ q → is_null_tree p ≡ true → IsTrue (takes_room x (ListType e) x.part)
     found true k h = subst (λ v. IsTrue (takes_room x (ListType e) v)) (sym (part ∙ ap (λ (y : Tree). value_of set y Endless (ListType e)) (null-is p h))) k
-    found false k h = absurd (takes (ap (λ q. q && not (is_null_tree (default_tree x.default))) h ∙ (default_null x.default e of dec ∙ k)))
+    found false k h = absurd (takes (ap (λ q. q && not (is_null_tree (value_default_tree x.default))) h ∙ (default_null x.default e of dec ∙ k)))
 
     go : (q : Bool) → is_null_tree p ≡ q → IsTrue (takes_room x (ListType e) x.part)
     go true h = found (is_list_default x.default) refl h
-    go false h = absurd (takes (ap (λ q. q && not (is_null_tree (default_tree x.default))) h))
+    go false h = absurd (takes (ap (λ q. q && not (is_null_tree (value_default_tree x.default))) h))
 
-memory_for : (set : Schemas) (x : Target) (e : SchemaType) (p : Tree) → x.part ≡ value_of set p Endless (ListType e) → fill_due set x.default (ListType e) p ≡ None →
+memory_for : (set : Schemas) (x : StepTarget) (e : SchemaType) (p : Tree) → x.part ≡ value_of set p Endless (ListType e) → fill_due set x.default (ListType e) p ≡ None →
     (IsAtRest set x.default (ListType e) p → ⊥) → IsDefaultOf x.default (ListType e) → Decodes x.default → IsTrue (takes_room x (ListType e) x.part)
 memory_for set x (StructType b g) p part due moves of dec = go (is_null_tree p) refl
   where
@@ -136,8 +136,8 @@ pub slot_within : (set : Schemas) (d : SchemaValue) (x : Tree) (e : SchemaType) 
 slot_within set d x (StructType b g) due = due
 slot_within set d x e due = tt
 
-module _ (f : Field) (s : StructTree) (e : SchemaType) (slot : IsSlot f) (pointer : IsPointer f) (type_is : ListType e ≡ (typed_of f).type) (walks : IsWalked f s) (whole : first_fault_of_all s.pointers ≡ None)
-    (fits : DefaultFits (typed_of f)) (default_formed : IsWellFormed (default_tree (default_of (typed_of f).field))) where
+module _ (f : Field) (s : StructTree) (e : SchemaType) (slot : IsSlot f) (pointer : IsPointerField f) (type_is : ListType e ≡ (typed_of f).type) (walks : IsWalked f s) (whole : first_fault_of_all s.pointers ≡ None)
+    (fits : DefaultFits (typed_of f)) (default_formed : IsWellFormed (value_default_tree (default_of (typed_of f).field))) where
   abbrev x : Tree
   x = pointer_in f s
 
@@ -158,20 +158,20 @@ module _ (f : Field) (s : StructTree) (e : SchemaType) (slot : IsSlot f) (pointe
 
   pub list_default : IsListDefault d e
   list_default words is = (
-    subst IsWellFormed (ap default_tree is) default_formed,
-    subst (λ (y : Tree). IsOk (as_list (element_size e) y 1)) (ap default_tree is) (subst (λ (t : SchemaType). IsReadAs t (default_tree d)) (sym type_is) fits.read).1,
+    subst IsWellFormed (ap value_default_tree is) default_formed,
+    subst (λ (y : Tree). IsOk (as_list (element_size e) y 1)) (ap value_default_tree is) (subst (λ (t : SchemaType). IsDefaultReadAs t (value_default_tree d)) (sym type_is) fits.read).1,
   )
 
   -- nothing in what is filled can't be followed
-  default_sound : first_fault (or_default d x) ≡ None
+  default_sound : first_fault (list_or_default d x) ≡ None
   default_sound = go d refl (is_null_tree x) refl
     where
-      null_sound : (c : SchemaValue) → first_fault (default_tree c) ≡ None → first_fault (or_default c tree.Null) ≡ None
+      null_sound : (c : SchemaValue) → first_fault (value_default_tree c) ≡ None → first_fault (list_or_default c tree.Null) ≡ None
       null_sound (ListValue words) h = h
       null_sound c h = refl
 
-      go : (c : SchemaValue) → d ≡ c → (q : Bool) → is_null_tree x ≡ q → first_fault (or_default d x) ≡ None
-      go c e true h = subst (λ (y : Tree). first_fault (or_default d y) ≡ None) (sym (null-is x h)) (null_sound d fits.sound)
+      go : (c : SchemaValue) → d ≡ c → (q : Bool) → is_null_tree x ≡ q → first_fault (list_or_default d x) ≡ None
+      go c e true h = subst (λ (y : Tree). first_fault (list_or_default d y) ≡ None) (sym (null-is x h)) (null_sound d fits.sound)
       go c e false h = subst (λ (y : Tree). first_fault y ≡ None) (sym (kept_default d x h)) (nth_sound s.pointers _ whole)
 
   -- ---- what was filled ----
@@ -210,8 +210,8 @@ module _ (f : Field) (s : StructTree) (e : SchemaType) (slot : IsSlot f) (pointe
     has_size kind past w =
         subst (CanRefuse set (target_in w f s)) (sym past.0)
         (for_size (subst (λ (t : SchemaType). IsTrue (is_struct_list t)) type_is past.1)
-        (subst (λ (t : SchemaType). 2 ^ 29 - 1 < size_of (filled set d t (part_in f s)) * 131070) type_is
-        (subst (λ v. 2 ^ 29 - 1 < size_of (filled set d (ListType e) v) * 131070) (sym part_is) past.2)))
+        (subst (λ (t : SchemaType). 2 ^ 29 - 1 < size_of (filled_value set d t (part_in f s)) * 131070) type_is
+        (subst (λ v. 2 ^ 29 - 1 < size_of (filled_value set d (ListType e) v) * 131070) (sym part_is) past.2)))
 
     has_room : due_in f s ≡ None → (RestsIn f s → ⊥) → (w : Record → Value) → CanRefuse set (target_in w f s) OutOfMemory
     has_room due moves w =

@@ -8,14 +8,14 @@ use Rattle.capnp_wire.specs.Defaults.{error_of, list_refusal}
 use Rattle.capnp_wire.specs.Elements.{reads_list}
 use Rattle.capnp_wire.specs.Facts.Room.{reads_list-as_list}
 use Rattle.capnp_wire.specs.Reading.{as_list, is_null_tree, list_length}
-use Rattle.capnp_wire.specs.StructLists.{grown, struct_list, struct_list_refusal}
+use Rattle.capnp_wire.specs.StructLists.{grown_size, struct_list, struct_list_refusal}
 use Rattle.capnp_wire.specs.Tree as tree
 use Rattle.capnp_wire.specs.Tree.{Tree}
 use Rattle.capnp_wire.specs.WellFormed.{IsWellFormed}
 use Rattle.capnp_wire.specs.Words.{first_fault}
 use Rattle.capnp_wire.specs.declared.size.ElementSize.TheVariants.{InlineComposite}
 use Rattle.capnp_wire.specs.declared.size.StructSize.{StructSize}
-use Rattle.capnp_schema.specs.Accepted.{root_of}
+use Rattle.capnp_schema.specs.Accepted.{words_root}
 use Rattle.capnp_schema.specs.Schema.{ListValue, Schemas, Value as SchemaValue}
 use Rattle.capnp_schema.specs.Types.{ListType, SchemaType, StructType, element_size}
 use Rattle.capnp_records.specs.Facts.Refusals.{list-answered, list-refused, past-greatest}
@@ -23,8 +23,8 @@ use Rattle.capnp_records.specs.Facts.ListValues.{count-values_from, elements_see
 use Rattle.capnp_records.specs.Facts.Readers.{null-is}
 use Rattle.capnp_records.specs.Reading.{value_of}
 use Rattle.capnp_records.specs.Record.{Endless}
-use Rattle.capnp_records.specs.Step.{fault_of, filled, is_struct_list, size_of}
-use Rattle.capnp_records.specs.Writes.Fill.{or_default}
+use Rattle.capnp_records.specs.Step.{fault_of, filled_value, is_struct_list, size_of}
+use Rattle.capnp_records.specs.Writes.Fill.{list_or_default}
 use Rattle.capnp_schema.specs.Plan.{brand_size}
 use Rattle.capnp_records.specs.Writes.Stand.{seen_element}
 use Rattle.capnp_slots.specs.Fills.{fill_due}
@@ -39,7 +39,7 @@ same_kind : {k l : ErrorKind} → Some k ≡ Some l → k ≡ l
 same_kind e = cc
 
 -- what is no null is not filled
-pub kept_default : (d : SchemaValue) (x : Tree) → is_null_tree x ≡ false → or_default d x ≡ x
+pub kept_default : (d : SchemaValue) (x : Tree) → is_null_tree x ≡ false → list_or_default d x ≡ x
 kept_default (ListValue words) tree.Null h = absurd (true≢false h)
 kept_default d x h = refl
 
@@ -110,11 +110,11 @@ structs_refused : (set : Schemas) (size : StructSize) (x : Tree) (b g : ℕ) (ki
     (fault_of (value_of set x Endless (ListType (StructType b g))) ≡ Some kind) ⊎ IsPast x kind
 structs_refused set size tree.Null b g kind a c h e = absurd (none_some e)
 structs_refused set size (tree.Struct bytes ps) b g kind a c h e = inl e
-structs_refused set size (tree.Voids n) b g kind a c h e = inr (past_from (tree.Voids n) size kind (past-greatest n (grown size (tree.Voids n)) kind (omega (arith, a)) (omega (arith, c)) e) refl)
+structs_refused set size (tree.Voids n) b g kind a c h e = inr (past_from (tree.Voids n) size kind (past-greatest n (grown_size size (tree.Voids n)) kind (omega (arith, a)) (omega (arith, c)) e) refl)
 structs_refused set size (tree.Bits bs) b g kind a c h e = inl e
-structs_refused set size (tree.Numbers w bytes) b g kind a c h e = inr (past_from (tree.Numbers w bytes) size kind (past-greatest _ (grown size (tree.Numbers w bytes)) kind (omega (arith, a)) (omega (arith, c)) e) refl)
-structs_refused set size (tree.Pointers ps) b g kind a c h e = inr (past_from (tree.Pointers ps) size kind (past-greatest _ (grown size (tree.Pointers ps)) kind (omega (arith, a)) (omega (arith, c)) e) refl)
-structs_refused set size (tree.Composite d p es) b g kind a c h e = inr (past_from (tree.Composite d p es) size kind (past-greatest _ (grown size (tree.Composite d p es)) kind (omega (arith, a, h.0)) (omega (arith, c, h.1)) e) refl)
+structs_refused set size (tree.Numbers w bytes) b g kind a c h e = inr (past_from (tree.Numbers w bytes) size kind (past-greatest _ (grown_size size (tree.Numbers w bytes)) kind (omega (arith, a)) (omega (arith, c)) e) refl)
+structs_refused set size (tree.Pointers ps) b g kind a c h e = inr (past_from (tree.Pointers ps) size kind (past-greatest _ (grown_size size (tree.Pointers ps)) kind (omega (arith, a)) (omega (arith, c)) e) refl)
+structs_refused set size (tree.Composite d p es) b g kind a c h e = inr (past_from (tree.Composite d p es) size kind (past-greatest _ (grown_size size (tree.Composite d p es)) kind (omega (arith, a, h.0)) (omega (arith, c, h.1)) e) refl)
 structs_refused set size (tree.FaultLeaf k) b g kind a c h e = absurd (none_some e)
 
 -- a list that is read has as many elements as it is long
@@ -122,17 +122,17 @@ size_read : (set : Schemas) (x : Tree) (e : SchemaType) → reads_list (element_
 size_read set x e reads = ap size_of (list-from set x e reads) ∙ count-values_from (seen_element set x e) 0 (list_length x)
 
 -- and is not filled
-unfilled : (set : Schemas) (d : SchemaValue) (x : Tree) (e : SchemaType) → reads_list (element_size e) x ≡ true → filled set d (ListType e) (value_of set x Endless (ListType e)) ≡ value_of set x Endless (ListType e)
+unfilled : (set : Schemas) (d : SchemaValue) (x : Tree) (e : SchemaType) → reads_list (element_size e) x ≡ true → filled_value set d (ListType e) (value_of set x Endless (ListType e)) ≡ value_of set x Endless (ListType e)
 unfilled set d x e reads =
-    ap (filled set d (ListType e)) (list-from set x e reads) ∙ (same d ∙ sym (list-from set x e reads))
+    ap (filled_value set d (ListType e)) (list-from set x e reads) ∙ (same d ∙ sym (list-from set x e reads))
   where
-    same : (d : SchemaValue) → filled set d (ListType e) (elements_seen set x e) ≡ elements_seen set x e
+    same : (d : SchemaValue) → filled_value set d (ListType e) (elements_seen set x e) ≡ elements_seen set x e
     same (ListValue words) = refl
     same d = refl
 
 -- the sizes of a list that may be refused for them
 abbrev pub IsPastSize : Schemas → SchemaValue → SchemaType → Tree → ErrorKind → Type 0
-IsPastSize set d e x kind = (kind ≡ SizePastFormat) × IsTrue (is_struct_list (ListType e)) × (2 ^ 29 - 1 < size_of (filled set d (ListType e) (value_of set x Endless (ListType e))) * 131070)
+IsPastSize set d e x kind = (kind ≡ SizePastFormat) × IsTrue (is_struct_list (ListType e)) × (2 ^ 29 - 1 < size_of (filled_value set d (ListType e) (value_of set x Endless (ListType e))) * 131070)
 
 -- why a list is refused: it can't be read, or it can and is past the format
 pub record IsUnreadable (set : Schemas) (e : SchemaType) (x : Tree) (kind : ErrorKind) : Type 0 where
@@ -159,21 +159,21 @@ module _ (set : Schemas) (b g : ℕ) (words_fit : (brand_size set b).data_words 
       })
 
   -- a default in the place of a null
-  null_refused : (d : SchemaValue) (kind : ErrorKind) → ((words : List ℕ) → d ≡ ListValue words → IsWellFormed (root_of words) × IsOk (as_list InlineComposite (root_of words) 1)) →
-      struct_list_refusal (brand_size set b) (or_default d tree.Null) ≡ Some kind → IsTooLarge set d (StructType b g) tree.Null kind
-  null_refused (ListValue words) kind of due = go (structs_refused set (brand_size set b) (root_of words) b g kind words_fit pointers_fit (of words refl).0 due)
+  null_refused : (d : SchemaValue) (kind : ErrorKind) → ((words : List ℕ) → d ≡ ListValue words → IsWellFormed (words_root words) × IsOk (as_list InlineComposite (words_root words) 1)) →
+      struct_list_refusal (brand_size set b) (list_or_default d tree.Null) ≡ Some kind → IsTooLarge set d (StructType b g) tree.Null kind
+  null_refused (ListValue words) kind of due = go (structs_refused set (brand_size set b) (words_root words) b g kind words_fit pointers_fit (of words refl).0 due)
     where
-      never : (r : Result Tree ErrorKind) → as_list InlineComposite (root_of words) 1 ≡ r → IsOk r → is_null_tree (root_of words) ≡ false → fault_of (value_of set (root_of words) Endless (ListType (StructType b g))) ≡ None
-      never (Ok y) is ok there = list-answered set (root_of words) y (StructType b g) there is
+      never : (r : Result Tree ErrorKind) → as_list InlineComposite (words_root words) 1 ≡ r → IsOk r → is_null_tree (words_root words) ≡ false → fault_of (value_of set (words_root words) Endless (ListType (StructType b g))) ≡ None
+      never (Ok y) is ok there = list-answered set (words_root words) y (StructType b g) there is
       never (Err k) is ok there = absurd (true≢false (sym ok))
 
-      sound : (q : Bool) → is_null_tree (root_of words) ≡ q → fault_of (value_of set (root_of words) Endless (ListType (StructType b g))) ≡ None
-      sound true h = subst (λ (y : Tree). fault_of (value_of set y Endless (ListType (StructType b g))) ≡ None) (sym (null-is (root_of words) h)) refl
-      sound false h = never (as_list InlineComposite (root_of words) 1) refl (of words refl).1 h
+      sound : (q : Bool) → is_null_tree (words_root words) ≡ q → fault_of (value_of set (words_root words) Endless (ListType (StructType b g))) ≡ None
+      sound true h = subst (λ (y : Tree). fault_of (value_of set y Endless (ListType (StructType b g))) ≡ None) (sym (null-is (words_root words) h)) refl
+      sound false h = never (as_list InlineComposite (words_root words) 1) refl (of words refl).1 h
 
-      go : (fault_of (value_of set (root_of words) Endless (ListType (StructType b g))) ≡ Some kind) ⊎ IsPast (root_of words) kind → IsTooLarge set (ListValue words) (StructType b g) tree.Null kind
-      go (inl fault) = absurd (none_some (sym (sound (is_null_tree (root_of words)) refl) ∙ fault))
-      go (inr past) = record { sound = refl; past = (past.kind_is, refl, larger _ (list_length (root_of words)) (size_read set (root_of words) (StructType b g) past.reads_it) past.past) }
+      go : (fault_of (value_of set (words_root words) Endless (ListType (StructType b g))) ≡ Some kind) ⊎ IsPast (words_root words) kind → IsTooLarge set (ListValue words) (StructType b g) tree.Null kind
+      go (inl fault) = absurd (none_some (sym (sound (is_null_tree (words_root words)) refl) ∙ fault))
+      go (inr past) = record { sound = refl; past = (past.kind_is, refl, larger _ (list_length (words_root words)) (size_read set (words_root words) (StructType b g) past.reads_it) past.past) }
   null_refused d kind of due = absurd (none_some due)
 
 -- what is not read as a list of a type
@@ -191,12 +191,12 @@ plain_unfilled set x e kind due = go (is_null_tree x) refl
 -- why a list is not filled: what stands there, or a default in the place of a null
 pub list_unfilled : (set : Schemas) (d : SchemaValue) (x : Tree) (e : SchemaType) (kind : ErrorKind) →
     ((b : ℕ) → ((brand_size set b).data_words < 2 ^ 16) × ((brand_size set b).pointers < 2 ^ 16)) →
-    ((words : List ℕ) → d ≡ ListValue words → IsWellFormed (root_of words) × IsOk (as_list (element_size e) (root_of words) 1)) →
+    ((words : List ℕ) → d ≡ ListValue words → IsWellFormed (words_root words) × IsOk (as_list (element_size e) (words_root words) 1)) →
     IsWellFormed x → fill_due set d (ListType e) x ≡ Some kind → IsUnreadable set e x kind ⊎ IsTooLarge set d e x kind
 list_unfilled set d x (StructType b g) kind fits of formed due = go (is_null_tree x) refl
   where
     go : (q : Bool) → is_null_tree x ≡ q → IsUnreadable set (StructType b g) x kind ⊎ IsTooLarge set d (StructType b g) x kind
     go true h = inr (subst (λ (y : Tree). IsTooLarge set d (StructType b g) y kind) (sym (null-is x h))
-        (null_refused set b g (fits b).0 (fits b).1 d kind of (subst (λ (y : Tree). struct_list_refusal (brand_size set b) (or_default d y) ≡ Some kind) (null-is x h) due)))
+        (null_refused set b g (fits b).0 (fits b).1 d kind of (subst (λ (y : Tree). struct_list_refusal (brand_size set b) (list_or_default d y) ≡ Some kind) (null-is x h) due)))
     go false h = there_refused set b g (fits b).0 (fits b).1 d x kind formed (subst (λ (y : Tree). struct_list_refusal (brand_size set b) y ≡ Some kind) (kept_default d x h) due)
 list_unfilled set d x e kind fits of formed due = inl (plain_unfilled set x e kind due)

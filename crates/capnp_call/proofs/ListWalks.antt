@@ -29,7 +29,7 @@ use Rattle.capnp_records.specs.Reading.{value_of}
 use Rattle.capnp_records.specs.Record as value
 use Rattle.capnp_records.specs.Record.{Endless, NoValues, Value, Values, values_from}
 use Rattle.capnp_records.specs.Run.{Asks}
-use Rattle.capnp_records.specs.Step.{CanRefuse, Found, Target, fault_of, filled, for_memory, for_size, in_list, size_of, takes_room, target_at, walked_by_type, walked_result, walked_target}
+use Rattle.capnp_records.specs.Step.{CanRefuse, Found, StepTarget, fault_of, filled_value, for_memory, for_size, in_list, size_of, takes_room, step_target, walked_by_type, walked_result, walked_target}
 use Rattle.capnp_records.specs.Writes.Fill.{IsAtRest, entered_list}
 use Rattle.capnp_records.specs.Writes.Slots.{Fits}
 use Rattle.capnp_schema.specs.Plan.{brand_size}
@@ -81,8 +81,8 @@ module _ (set : Schemas) (e : SchemaType) (x : Tree) where
     value_is : value_of set x Endless (ListType e) ≡ value.Elements vs
     value_is = list-from set x e (stands.reads_it there)
 
-    target_is : (s : PathStep) (r : Found) → in_list e vs s ≡ r → target_at set (ListType e) (value_of set x Endless (ListType e)) s ≡ r
-    target_is s r found = ap (λ v. target_at set (ListType e) v s) value_is ∙ found
+    target_is : (s : PathStep) (r : Found) → in_list e vs s ≡ r → step_target set (ListType e) (value_of set x Endless (ListType e)) s ≡ r
+    target_is s r found = ap (λ v. step_target set (ListType e) v s) value_is ∙ found
 
     -- ---- the path ----
 
@@ -118,7 +118,7 @@ module _ (set : Schemas) (e : SchemaType) (x : Tree) where
 
     -- nothing but Which asks no step
     ends_by : (o : Op) (last : PathStep) (r : record_call.Reply) (x' : Tree) → (o ≡ op.Which → ⊥) →
-        TreeDoesAt set (op_seen o) (target_at set (ListType e) (value_of set x Endless (ListType e)) last) (ListType e) (OnList x) last r (OnList x') → TreeEnds set last (op_seen o) (ListType e) (OnList x) r (OnList x')
+        TreeDoesAt set (op_seen o) (step_target set (ListType e) (value_of set x Endless (ListType e)) last) (ListType e) (OnList x) last r (OnList x') → TreeEnds set last (op_seen o) (ListType e) (OnList x) r (OnList x')
     ends_by op.Which last r x' names does = absurd (names refl)
     ends_by o last r x' names does = does
 
@@ -166,7 +166,7 @@ nothing_steps path s rest end kind is same set e =
     subst (λ (p : List Step). ListWalks set e p end tree.Null (reply.Refused kind) tree.Null) (sym is)
     (subst (λ (y : Found). TreePasses set (TreeWalks set (EndsAt set end) (path_seen rest)) (ListType e) (OnList tree.Null) (step_seen s) (walked_result y) (Refused kind) (OnList tree.Null)) (sym (nothing_at set e (step_seen s))) (ap Refused same, refl))
   where
-    nothing_at : (set : Schemas) (e : SchemaType) (s : PathStep) → target_at set (ListType e) (value.Missing Endless) s ≡ Err (refusal_at_nothing s)
+    nothing_at : (set : Schemas) (e : SchemaType) (s : PathStep) → step_target set (ListType e) (value.Missing Endless) s ≡ Err (refusal_at_nothing s)
     nothing_at set e s = nothing_found e s
 
 pub nothing_which : (path : List Step) (end : Ending) → path ≡ [] → end.call.now.op ≡ op.Which → (set : Schemas) (e : SchemaType) → ListWalks set e path end tree.Null (reply.Refused NotAContainer) tree.Null
@@ -253,7 +253,7 @@ module _ (set : Schemas) (x : Tree) (i : ℕ) (rest : List Step) (end : Ending) 
         other : VoidValue ≡ ListValue words → ⊥
         other e = cc
 
-    memory_of : (t : SchemaType) → fill_due set VoidValue (ListType t) at ≡ None → (IsAtRest set VoidValue (ListType t) at → ⊥) → (z : Target) → z.part ≡ value_of set at Endless (ListType t) →
+    memory_of : (t : SchemaType) → fill_due set VoidValue (ListType t) at ≡ None → (IsAtRest set VoidValue (ListType t) at → ⊥) → (z : StepTarget) → z.part ≡ value_of set at Endless (ListType t) →
         IsTrue (takes_room z (ListType t) z.part)
     memory_of (StructType b g) due moves z part = go (is_null_tree at) refl
       where
@@ -271,7 +271,7 @@ module _ (set : Schemas) (x : Tree) (i : ℕ) (rest : List Step) (end : Ending) 
         further : TreeEnd
         further = TreeWalks set (EndsAt set end) (path_seen rest)
 
-        z : Target
+        z : StepTarget
         z = element_at set (ListType e) x i
 
         part_is : z.part ≡ value_of set at Endless (ListType e)
@@ -286,7 +286,7 @@ module _ (set : Schemas) (x : Tree) (i : ℕ) (rest : List Step) (end : Ending) 
         refused kind is (inr h) = enters None (ap fault_of part_is ∙ h.sound)
             (inl (record {
               kind = kind;
-              can = subst (CanRefuse set z) (sym h.past.0) (for_size h.past.1 (subst (λ v. 2 ^ 29 - 1 < size_of (filled set VoidValue (ListType e) v) * 131070) (sym part_is) h.past.2));
+              can = subst (CanRefuse set z) (sym h.past.0) (for_size h.past.1 (subst (λ v. 2 ^ 29 - 1 < size_of (filled_value set VoidValue (ListType e) v) * 131070) (sym part_is) h.past.2));
               moves = moves;
               refused = (ap Refused is, refl);
             }))

@@ -14,7 +14,7 @@ use Rattle.capnp_records.specs.Writes.Slots.{Fits}
 use Rattle.capnp_records.specs.Writes.Stand.{OnStruct}
 use Rattle.capnp_records.specs.Writes.TreeEnds.{TreeEnds, TreeRun, TreeStep}
 use Rattle.capnp_records.specs.Writes.TreeRun.{TreeWalks}
-use Rattle.capnp_call.specs.Runs.{IsMade, Makes}
+use Rattle.capnp_call.specs.Runs.{IsCallMade, MakesCalls}
 use Rattle.capnp_call.specs.Seen.{call_seen, op_seen, path_seen, reply_seen, step_seen}
 use Rattle.capnp_call.specs.Ends.{AsStruct}
 use Rattle.capnp_call.specs.Walks.{StructWalks}
@@ -22,27 +22,27 @@ use Rattle.capnp_call.specs.declared.calls.Call.{Call}
 use Rattle.capnp_call.specs.declared.calls.Ending.{Ending}
 use Rattle.capnp_call.specs.declared.calls.Reply.{Reply}
 
-pub makes_none : (set : Schemas) (b : ℕ) (s : StructTree) → Makes set b s [] [] s
-unfolding Makes
+pub makes_none : (set : Schemas) (b : ℕ) (s : StructTree) → MakesCalls set b s [] [] s
+unfolding MakesCalls
 makes_none set b s = refl
 
 pub makes_more : (set : Schemas) (b : ℕ) (old mid new : StructTree) (calls : List Call) (replies : List Reply) (call : Call) (reply : Reply) →
-    Makes set b old calls replies mid → IsMade set b mid call reply new → Makes set b old (calls ++ call ∷ []) (replies ++ reply ∷ []) new
-unfolding Makes
-makes_more set b old mid new [] [] call reply h c = (new, subst (λ (x : StructTree). IsMade set b x call reply new) h c, refl)
+    MakesCalls set b old calls replies mid → IsCallMade set b mid call reply new → MakesCalls set b old (calls ++ call ∷ []) (replies ++ reply ∷ []) new
+unfolding MakesCalls
+makes_more set b old mid new [] [] call reply h c = (new, subst (λ (x : StructTree). IsCallMade set b x call reply new) h c, refl)
 makes_more set b old mid new [] (r ∷ rs) call reply h c = absurd h
 makes_more set b old mid new (k ∷ ks) [] call reply h c = absurd h
 makes_more set b old mid new (k ∷ ks) (r ∷ rs) call reply h c = (h.0, h.1, makes_more set b h.0 mid new ks rs call reply h.2 c)
 
-tree_run : (set : Schemas) (b : ℕ) (old new : StructTree) (calls : List Call) (replies : List Reply) → Makes set b old calls replies new → TreeRun set b old (map call_seen calls) (map reply_seen replies) new
-unfolding Makes
+tree_run : (set : Schemas) (b : ℕ) (old new : StructTree) (calls : List Call) (replies : List Reply) → MakesCalls set b old calls replies new → TreeRun set b old (map call_seen calls) (map reply_seen replies) new
+unfolding MakesCalls
 tree_run set b old new [] [] h = h
 tree_run set b old new [] (r ∷ rs) h = absurd h
 tree_run set b old new (k ∷ ks) [] h = absurd h
 tree_run set b old new (k ∷ ks) (r ∷ rs) h = (h.0, h.1.step, tree_run set b h.0 new ks rs h.2)
 
 pub machine_runs : (schema : StructSchema) (old new : StructTree) (calls : List Call) (replies : List Reply) → IsStruct schema → HasRanges (set_of schema) → OverlayLaw → Fits (set_of schema) (number_of schema) old →
-    Makes (set_of schema) (number_of schema) old calls replies new →
+    MakesCalls (set_of schema) (number_of schema) old calls replies new →
     Run (set_of schema) (number_of schema) (reads (set_of schema) old (number_of schema)) (map call_seen calls) (map reply_seen replies) (reads (set_of schema) new (number_of schema))
 machine_runs schema old new calls replies stands ranges law fits made =
     law (set_of schema) stands.accepted ranges (number_of schema) stands.number old (map call_seen calls) (map reply_seen replies) new fits

@@ -13,15 +13,15 @@ use Rattle.capnp_schema.specs.Types.{SchemaType, VoidType, BoolType, IntType, UI
 use Rattle.capnp_records.specs.Call.{BoolSource, Clear, DataSource, ElementAt, EnumSource, FieldNamed, FieldNumber, Get, Has, Init, Initn, IntSource, ListSource, Op, PathStep, Refused, Reply, Set, Source, StructSource, TextSource, UIntSource, Which}
 use Rattle.capnp_records.specs.Default.{default_record, read_of}
 use Rattle.capnp_records.specs.Facts.ReadFaults.{AllSound, IsReadKind, RecordSound, Sound, nth-value-sound, part-sound, read_of-sound, reads-sound, value_of-sound}
-use Rattle.capnp_records.specs.Given.{Copies, CopiesGroup, Fails, Given, Gives, copied_struct, given, given_element, given_group, given_slot}
+use Rattle.capnp_records.specs.Given.{Copies, CopiesGroup, Fails, Given, Gives, copied_struct, given_part, given_element, given_group, given_slot}
 use Rattle.capnp_records.specs.Operation.{Answers, AtField, Does, Gets, Inits, IsDone, Sets, takes_memory}
 use Rattle.capnp_records.specs.Part.{value_count}
 use Rattle.capnp_records.specs.Reading.{value_of}
 use Rattle.capnp_records.specs.Record as value
 use Rattle.capnp_records.specs.Record.{Endless, NoValues, Record, Value, Values}
 use Rattle.capnp_records.specs.Run.{Asks, root_type}
-use Rattle.capnp_records.specs.Step.{Found, IsRefused, Target, element_target, fault_of, field_found, field_target, in_list, in_record, target_at, walked_by_type, walked_result, walked_target}
-use Rattle.capnp_records.specs.Writes.Stand.{OnGroup, OnList, OnStruct, Stand, StepRests, entered, seen}
+use Rattle.capnp_records.specs.Step.{Found, IsRefused, StepTarget, element_target, fault_of, field_found, field_target, in_list, in_record, step_target, walked_by_type, walked_result, walked_target}
+use Rattle.capnp_records.specs.Writes.Stand.{OnGroup, OnList, OnStruct, Stand, StepRests, entered_stand, seen_stand}
 use Rattle.capnp_records.specs.Writes.TreeEnds.{CopiesGiven, CopiesTo, TreeDoes, TreeDoesAt, TreeEnds}
 use Rattle.capnp_records.specs.Writes.TreeRun.{TreeEnters, TreePasses, TreeWalks}
 use Rattle.capnp_call.specs.Ends.{AsStruct}
@@ -73,7 +73,7 @@ fault_kind : (v : Value) → Sound v → FaultKind (fault_of v)
 fault_kind (value.Fault kind) h = read_kind kind h
 fault_kind v h = tt
 
-stand_sound : (set : Schemas) (t : SchemaType) (old : Stand) → Sound (seen set t old)
+stand_sound : (set : Schemas) (t : SchemaType) (old : Stand) → Sound (seen_stand set t old)
 stand_sound set t (OnStruct s) = reads-sound set s _
 stand_sound set t (OnGroup s) = reads-sound set s _
 stand_sound set t (OnList x) = value_of-sound set x Endless t
@@ -106,14 +106,14 @@ module _ (set : Schemas) where
       go true = nth-value-sound vs h i
       go false = refl
 
-  target-sound : (t : SchemaType) (v : Value) (s : PathStep) → Sound v → FoundSound (target_at set t v s)
+  target-sound : (t : SchemaType) (v : Value) (s : PathStep) → Sound v → FoundSound (step_target set t v s)
   target-sound (StructType b g) (value.Struct r) s h = record-sound value.Struct r b s h
   target-sound (StructType b g) (value.Group r) s h = record-sound value.Group r b s h
   target-sound (ListType e) (value.Elements vs) s h = list-sound e vs s h
   target-sound (ListType e) (value.Missing l) s h = list-sound e NoValues s tt
   target-sound t v s h = refl
 
-typed-sound : (x : Target) (t : SchemaType) → Sound x.part → FoundSound (walked_by_type x t)
+typed-sound : (x : StepTarget) (t : SchemaType) → Sound x.part → FoundSound (walked_by_type x t)
 typed-sound x (StructType b g) h = h
 typed-sound x (ListType e) h = h
 typed-sound x t h = refl
@@ -161,7 +161,7 @@ element-kind set AnyPointerType s = refl
 element-kind set (StructType b g) (StructSource l s from) = either-kind (from == b) (Copies (copied_struct s) false (value_of set (copied_struct s) Endless (StructType b g))) (Fails TypeMismatch) tt refl
 element-kind set t s = slot-kind set t s
 
-given-kind : (set : Schemas) (x : Target) (s : Source) → GivenKind (given set x s)
+given-kind : (set : Schemas) (x : StepTarget) (s : Source) → GivenKind (given_part set x s)
 given-kind set x s = go x.is_group x.is_element
   where
     go : (p q : Bool) → GivenKind (elim p as (λ _. Given) [ true ↦ given_group x.type s | false ↦ elim q as (λ _. Given) [ true ↦ given_element set x.type s | false ↦ given_slot set x.type s ] ])
@@ -171,7 +171,7 @@ given-kind set x s = go x.is_group x.is_element
 
 -- ---- the operations ----
 
-module _ (set : Schemas) (x : Target) (old : Value) (reply : Reply) (new : Value) where
+module _ (set : Schemas) (x : StepTarget) (old : Value) (reply : Reply) (new : Value) where
   gets : (t : SchemaType) (v : Value) (o : Option ErrorKind) → FaultKind o → takes_memory t ≡ false → Answers t v o old reply new → IsNotForRoom reply
   gets t v (Some kind) fault none h = other_kind reply kind fault h.0
   gets t v None fault none (inl h) = no_refusal reply (ap is_refusal h.0)
@@ -209,7 +209,7 @@ module _ (set : Schemas) (x : Target) (old : Value) (reply : Reply) (new : Value
       go false h = gets x.type (read_of set x.default x.type x.part) _ (fault_kind (read_of set x.default x.type x.part) (read_of-sound set x.default x.type x.part sound)) none h
   does Has sound none h = at_field _ (λ k. no_refusal reply (ap is_refusal k.0)) h
   does Which sound none h = absurd h
-  does (Set s) sound none h = sets (given set x s) (given-kind set x s) none h
+  does (Set s) sound none h = sets (given_part set x s) (given-kind set x s) none h
   does Init sound none h = at_field _ (inits x.type none) h
   does (Initn n) sound none h = absurd none
   does Clear sound none h = at_field _ (λ k. no_refusal reply (ap is_refusal k.0)) h
@@ -228,8 +228,8 @@ module _ (set : Schemas) (t : SchemaType) (old : Stand) (last : PathStep) (reply
   copies_given (Copies source past v) none h = h
   copies_given (CopiesGroup l s b) none h = none
 
-  copies_to : (op : Op) (x : Target) → NeedsNone set op x → CopiesTo set op x t old last reply new → ⊥
-  copies_to (Set s) x none h = copies_given (given set x s) none h.1
+  copies_to : (op : Op) (x : StepTarget) → NeedsNone set op x → CopiesTo set op x t old last reply new → ⊥
+  copies_to (Set s) x none h = copies_given (given_part set x s) none h.1
   copies_to Get x none h = h
   copies_to Has x none h = h
   copies_to Which x none h = h
@@ -237,8 +237,8 @@ module _ (set : Schemas) (t : SchemaType) (old : Stand) (last : PathStep) (reply
   copies_to (Initn n) x none h = h
   copies_to Clear x none h = h
 
-  tree_does : (op : Op) (x : Target) → Sound x.part → NeedsNone set op x → TreeDoes set op x t old last reply new → IsNotForRoom reply
-  tree_does op x sound none (inl h) = does set x (seen set t old) reply (seen set t old) op sound none h.0
+  tree_does : (op : Op) (x : StepTarget) → Sound x.part → NeedsNone set op x → TreeDoes set op x t old last reply new → IsNotForRoom reply
+  tree_does op x sound none (inl h) = does set x (seen_stand set t old) reply (seen_stand set t old) op sound none h.0
   tree_does op x sound none (inr (inl (c, content, room, done, rest))) = no_refusal reply (ap is_refusal done)
   tree_does op x sound none (inr (inr (inl (c, slot, field, content, done, rest)))) = no_refusal reply (ap is_refusal done)
   tree_does op x sound none (inr (inr (inr (inl (group, clears, done, rest))))) = no_refusal reply (ap is_refusal done)
@@ -248,11 +248,11 @@ module _ (set : Schemas) (t : SchemaType) (old : Stand) (last : PathStep) (reply
   does_at op (Err kind) sound none h = other_kind reply kind sound h.0
   does_at op (Ok x) sound none h = tree_does op x sound none h
 
-  end_found : FoundSound (target_at set t (seen set t old) last)
-  end_found = target-sound set t (seen set t old) last (stand_sound set t old)
+  end_found : FoundSound (step_target set t (seen_stand set t old) last)
+  end_found = target-sound set t (seen_stand set t old) last (stand_sound set t old)
 
-  ends : (op : Op) → EndRests set op (target_at set t (seen set t old) last) → TreeEnds set last op t old reply new → IsNotForRoom reply
-  ends Which none h = asks (seen set t old) reply (seen set t old) h.0
+  ends : (op : Op) → EndRests set op (step_target set t (seen_stand set t old) last) → TreeEnds set last op t old reply new → IsNotForRoom reply
+  ends Which none h = asks (seen_stand set t old) reply (seen_stand set t old) h.0
   ends Get none h = does_at Get _ end_found none h
   ends Has none h = does_at Has _ end_found none h
   ends (Set s) none h = does_at (Set s) _ end_found none h
@@ -266,18 +266,18 @@ pub walk_rests : (set : Schemas) (last : PathStep) (op : Op) (path : List PathSt
     TreeWalks set (TreeEnds set last op) path t old reply new → IsNotForRoom reply
 walk_rests set last op [] t old reply new rests h = ends set t old last reply new op rests h
 walk_rests set last op (step ∷ path) t old reply new rests h =
-    passes (walk_rests set last op path) (walked_target set t (seen set t old) step) (walked-sound (target_at set t (seen set t old) step) (target-sound set t (seen set t old) step (stand_sound set t old))) rests h
+    passes (walk_rests set last op path) (walked_target set t (seen_stand set t old) step) (walked-sound (step_target set t (seen_stand set t old) step) (target-sound set t (seen_stand set t old) step (stand_sound set t old))) rests h
   where
     Next : Type 0
     Next = (u : SchemaType) (old : Stand) (reply : Reply) (new : Stand) → CallRests set last op path u old → TreeWalks set (TreeEnds set last op) path u old reply new → IsNotForRoom reply
 
-    enters : Next → (x : Target) (o : Option ErrorKind) → FaultKind o → StepRests set t old step → CallRests set last op path x.type (entered set t old step) →
+    enters : Next → (x : StepTarget) (o : Option ErrorKind) → FaultKind o → StepRests set t old step → CallRests set last op path x.type (entered_stand set t old step) →
         TreeEnters set (TreeWalks set (TreeEnds set last op) path) t old step o x reply new → IsNotForRoom reply
     enters ih x (Some kind) fault still next h = other_kind reply kind fault h.0
     enters ih x None fault still next (inl stops) = absurd (stops.moves still)
-    enters ih x None fault still next (inr goes) = ih x.type (entered set t old step) reply goes.inner next goes.goes_on
+    enters ih x None fault still next (inr goes) = ih x.type (entered_stand set t old step) reply goes.inner next goes.goes_on
 
-    passes : Next → (r : Found) → FoundSound r → NextRests r (StepRests set t old step) (λ u. CallRests set last op path u (entered set t old step)) →
+    passes : Next → (r : Found) → FoundSound r → NextRests r (StepRests set t old step) (λ u. CallRests set last op path u (entered_stand set t old step)) →
         TreePasses set (TreeWalks set (TreeEnds set last op) path) t old step r reply new → IsNotForRoom reply
     passes ih (Err kind) sound rests h = other_kind reply kind sound h.0
     passes ih (Ok x) sound rests h = enters ih x (fault_of x.part) (fault_kind x.part sound) rests.0 rests.1 h

@@ -2,7 +2,7 @@
 use Rattle.std.specs.Prelude.{ℕ, ◌≡◌, List, Result, Ok, Err, OnOk, OnErr, IfErr}
 use Rattle.std.proofs.Common.{arith, ap, inl, refl, subst, sym}
 use Rattle.capnp_device.specs.declared.error.Error.{Error}
-use Rattle.capnp_arena.specs.Built.{built}
+use Rattle.capnp_arena.specs.Built.{built_at}
 use Rattle.capnp_arena.specs.Forest.{Changes, Forest, struct_from}
 use Rattle.capnp_arena.specs.Segment.{segment}
 use Rattle.capnp_arena.specs.declared.arena.Arena.{Arena}
@@ -24,7 +24,7 @@ by_outcome Q (Err e) reply is written done same cause refused = subst Q (sym is)
 
 -- ---- where it stands ----
 
-pub same_struct : (old new : Arena) (p : Place) → segment new ≡ segment old → built new p ≡ built old p
+pub same_struct : (old new : Arena) (p : Place) → segment new ≡ segment old → built_at new p ≡ built_at old p
 same_struct old new p e = ap (λ (b : List ℕ). struct_from b p.start p.data_words p.pointers) e
 
 -- a list stands where it stood, and nothing else has changed

@@ -8,9 +8,9 @@ use Rattle.capnp_schema.specs.Schema.{Schemas}
 use Rattle.capnp_schema.specs.Types.{SchemaType}
 use Rattle.capnp_records.specs.Call.{Done, Flag, Get, GivesValue, Refused, Reply}
 use Rattle.capnp_records.specs.Default.{read_of}
-use Rattle.capnp_records.specs.Operation.{Answers, Does, Gets, plain}
+use Rattle.capnp_records.specs.Operation.{Answers, Does, Gets, answer_of}
 use Rattle.capnp_records.specs.Record.{Value}
-use Rattle.capnp_records.specs.Step.{IsRefused, Target, fault_of}
+use Rattle.capnp_records.specs.Step.{IsRefused, StepTarget, fault_of}
 
 abbrev is_done : Reply → Bool
 is_done Done = true
@@ -27,10 +27,10 @@ flag_undone reply b is = undone reply (Flag b) is refl
 
 answer_undone : (t : SchemaType) (v : Value) (o : Option ErrorKind) (old : Value) (reply : Reply) (new : Value) → Answers t v o old reply new → reply ≢ Done
 answer_undone t v (Some kind) old reply new h = undone reply (Refused kind) h.0 refl
-answer_undone t v None old reply new (inl h) = undone reply (GivesValue (plain t v)) h.0 refl
+answer_undone t v None old reply new (inl h) = undone reply (GivesValue (answer_of t v)) h.0 refl
 answer_undone t v None old reply new (inr (takes, refused)) = undone reply (Refused OutOfMemory) refused.0 refl
 
-pub get_undone : (set : Schemas) (x : Target) (old : Value) (reply : Reply) (new : Value) → Does set Get x old reply new → reply ≢ Done
+pub get_undone : (set : Schemas) (x : StepTarget) (old : Value) (reply : Reply) (new : Value) → Does set Get x old reply new → reply ≢ Done
 get_undone set x old reply new = go x.inactive
   where
     go : (q : Bool) → (elim q as (λ _. Type 0) [ true ↦ IsRefused InactiveMember reply old new | false ↦ Gets set x old reply new ]) → reply ≢ Done

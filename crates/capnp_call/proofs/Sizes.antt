@@ -14,18 +14,18 @@ use Rattle.capnp_schema.specs.Schema.{Schemas}
 use Rattle.capnp_schema.specs.StructHandles.{number_of, set_of}
 use Rattle.capnp_schema.specs.declared.schema.structs.StructSchema.{StructSchema}
 use Rattle.capnp_records.specs.Writes.Slots.{Fits}
-use Rattle.capnp_arena.specs.Built.{ChangesIn, IsBuilt, built, part}
+use Rattle.capnp_arena.specs.Built.{ChangesIn, IsBuilt, built_at, place_words}
 use Rattle.capnp_slots.specs.Groups.{KeepsSize}
 use Rattle.capnp_slots.specs.Standing.{IsStanding}
 
 pub changes_none : (p : Place) (a b : Arena) → segment b ≡ segment a → ChangesIn p a b
-changes_none p a b = unchanged (segment a) (segment b) (part p)
+changes_none p a b = unchanged (segment a) (segment b) (place_words p)
 
 pub changes_then : (p : Place) (a b c : Arena) → ChangesIn p a b → ChangesIn p b c → ChangesIn p a c
-changes_then p a b c = parts_one_by_one (segment a) (segment b) (segment c) (part p)
+changes_then p a b c = parts_one_by_one (segment a) (segment b) (segment c) (place_words p)
 
 module _ (a b : Arena) (p : Place) (h : IsBuilt a p) (k : IsBuilt b p) where
-  pub keeps_size : IsWellFormed (struct_tree (built b p)) → KeepsSize (built a p) (built b p)
+  pub keeps_size : IsWellFormed (struct_tree (built_at b p)) → KeepsSize (built_at a p) (built_at b p)
   keeps_size formed = record {
     writes = record {
       agree = λ q inside. absurd (true≢false inside);
@@ -35,7 +35,7 @@ module _ (a b : Arena) (p : Place) (h : IsBuilt a p) (k : IsBuilt b p) where
     formed = λ _. formed;
   }
 
-  fits_kept : (set : Schemas) (n : ℕ) → Fits set n (built a p) → Fits set n (built b p)
+  fits_kept : (set : Schemas) (n : ℕ) → Fits set n (built_at a p) → Fits set n (built_at b p)
   fits_kept set n (x, y) = (
     subst (λ i. 8 * (brand_size set n).data_words ≤ i) (data_of (segment a) p.start p.data_words p.pointers h ∙ sym (data_of (segment b) p.start p.data_words p.pointers k)) x,
     subst (λ i. (brand_size set n).pointers ≤ i) (pointers_of (segment a) p.start p.data_words p.pointers ∙ sym (pointers_of (segment b) p.start p.data_words p.pointers)) y,

@@ -19,7 +19,7 @@ use Rattle.capnp_records.specs.Laws.{GroupPrintLaw, PrintLaw}
 use Rattle.capnp_records.specs.Reading.{reads, struct_record}
 use Rattle.capnp_records.specs.Text.{Out, Pieces, text_of}
 use Rattle.capnp_dynamic_readers.specs.Pieces.{IsAppended}
-use Rattle.capnp_wire.specs.Edits.{HasAtLeast, IsCopyRefusal, IsStructRefusal, extended, is_struct, struct_in, struct_refusal, zero_struct}
+use Rattle.capnp_wire.specs.Edits.{HasAtLeast, IsCopyRefusal, IsStructRefusal, extended_struct, is_struct, struct_in, struct_refusal, zero_struct}
 use Rattle.capnp_wire.specs.Facts.Lengths.{HasAtLeast-zero_struct}
 use Rattle.capnp_wire.specs.Facts.Structs.{IsWellFormed-extended, IsWellFormed-struct_in, IsWellFormed-zero_struct}
 use Rattle.capnp_wire.specs.Place.{struct_tree}
@@ -34,14 +34,14 @@ use Rattle.capnp_records.specs.Facts.Extension.{fits-extended, reads-extended, r
 use Rattle.capnp_records.specs.Record.{Levels, Record}
 use Rattle.capnp_records.specs.Writes.Slots.{Fits}
 use Rattle.capnp_schema.specs.Plan.{brand_size}
-use Rattle.capnp_call.specs.Messages.{HasRoot, IsWhole, IsWholeRefusal, LeavesRun, RunsOn, fault_or, new_record, new_root, record_left, root_refusal, root_value, text_in}
+use Rattle.capnp_call.specs.Messages.{HasRoot, IsWhole, IsWholeRefusal, LeavesRun, RunsOn, fault_or, new_record, new_root, record_left, root_refusal, root_value, record_text}
 use Rattle.capnp_call.specs.Messages.{copied_root as copied_root_of}
-use Rattle.capnp_call.specs.Runs.{IsMade, IsRunFrom, Makes, record_in}
+use Rattle.capnp_call.specs.Runs.{IsCallMade, IsRunFrom, MakesCalls, record_under_schema}
 use Rattle.capnp_call.specs.declared.calls.Call.{Call}
 use Rattle.capnp_call.specs.declared.calls.Reply.{Reply}
 
 -- a struct as a root
-root_of_struct : (schema : StructSchema) (s : StructTree) (r : Record) (t : Tree) → t ≡ struct_tree s → Fits (set_of schema) (number_of schema) s → IsWellFormed (struct_tree s) → record_in schema s ≡ r → HasRoot schema r t
+root_of_struct : (schema : StructSchema) (s : StructTree) (r : Record) (t : Tree) → t ≡ struct_tree s → Fits (set_of schema) (number_of schema) s → IsWellFormed (struct_tree s) → record_under_schema schema s ≡ r → HasRoot schema r t
 root_of_struct schema s r t e fits formed reads =
     subst (HasRoot schema r) (sym e) (record { root = record { here = refl; room = fits; formed = formed }; reads_as = reads })
 
@@ -52,16 +52,16 @@ empty_root schema size s t is zero root few words =
     root_of_struct schema s _ t root
     (subst (HasAtLeast (brand_size (set_of schema) (number_of schema))) (sym (zero ∙ ap zero_struct is)) (HasAtLeast-zero_struct (brand_size (set_of schema) (number_of schema))))
     (subst (λ (x : StructTree). IsWellFormed (struct_tree x)) (sym zero) (IsWellFormed-zero_struct size few words))
-    (ap (record_in schema) zero ∙ reads-zero_struct (set_of schema) size (number_of schema))
+    (ap (record_under_schema schema) zero ∙ reads-zero_struct (set_of schema) size (number_of schema))
 
 -- a copy, with at least the schema's sections
-pub copied_root : (schema : StructSchema) (size : StructSize) (s : StructTree) (source t : Tree) → size ≡ brand_size (set_of schema) (number_of schema) → s ≡ extended size (struct_in source) → t ≡ struct_tree s → size.data_words < 2 ^ 16 → size.pointers < 2 ^ 16 →
-    IsWellFormed source → HasRoot schema (record_in schema (struct_in source)) t
+pub copied_root : (schema : StructSchema) (size : StructSize) (s : StructTree) (source t : Tree) → size ≡ brand_size (set_of schema) (number_of schema) → s ≡ extended_struct size (struct_in source) → t ≡ struct_tree s → size.data_words < 2 ^ 16 → size.pointers < 2 ^ 16 →
+    IsWellFormed source → HasRoot schema (record_under_schema schema (struct_in source)) t
 copied_root schema size s source t is whole root few words formed =
     root_of_struct schema s _ t root
-    (subst (Fits (set_of schema) (number_of schema)) (sym (whole ∙ ap (λ (z : StructSize). extended z (struct_in source)) is)) (fits-extended (set_of schema) (number_of schema) (struct_in source)))
+    (subst (Fits (set_of schema) (number_of schema)) (sym (whole ∙ ap (λ (z : StructSize). extended_struct z (struct_in source)) is)) (fits-extended (set_of schema) (number_of schema) (struct_in source)))
     (subst (λ (x : StructTree). IsWellFormed (struct_tree x)) (sym whole) (IsWellFormed-extended size (struct_in source) few words (IsWellFormed-struct_in source formed)))
-    (ap (record_in schema) whole ∙ reads-extended (set_of schema) size (struct_in source) (number_of schema))
+    (ap (record_under_schema schema) whole ∙ reads-extended (set_of schema) size (struct_in source) (number_of schema))
 
 -- why there is none: the copy was refused, or a list was copied
 pub copy_stops : (e : Error) (t : Tree) → IsCopyRefusal e (first_fault t) → e.kind ≢ OutOfMemory → root_refusal t ≡ Some e.kind
@@ -81,9 +81,9 @@ pub stopped_whole : (e : Error) (t t' : Tree) → first_fault t ≡ None → t' 
 stopped_whole e t t' whole same h other = refused_whole t t' (Some e.kind) whole same (h.0 other)
 
 -- a call that was made on a struct that stands at a pointer
-pub is_made_here : (set : Schemas) (b : ℕ) (old t : Tree) (s s' : StructTree) (call : Call) (reply : Reply) → s ≡ struct_in old → t ≡ struct_tree s' → IsMade set b s call reply s' → IsMade set b (struct_in old) call reply (struct_in t)
+pub is_made_here : (set : Schemas) (b : ℕ) (old t : Tree) (s s' : StructTree) (call : Call) (reply : Reply) → s ≡ struct_in old → t ≡ struct_tree s' → IsCallMade set b s call reply s' → IsCallMade set b (struct_in old) call reply (struct_in t)
 is_made_here set b old t s s' call reply e is made =
-    subst (λ (x : StructTree). IsMade set b x call reply (struct_in t)) e (subst (λ (y : StructTree). IsMade set b s call reply y) (sym (ap struct_in is)) made)
+    subst (λ (x : StructTree). IsCallMade set b x call reply (struct_in t)) e (subst (λ (y : StructTree). IsCallMade set b s call reply y) (sym (ap struct_in is)) made)
 
 -- a root that is a struct
 pub is_struct_root : (t : Tree) (s : StructTree) → t ≡ struct_tree s → IsTrue (is_struct t)
@@ -101,19 +101,19 @@ stands_here (tree.FaultLeaf k) here = absurd (true≢false (sym here))
 
 -- what a run leaves at the root
 pub leaves_root : (schema : StructSchema) (old t : Tree) (calls : List Call) (replies : List Reply) → IsTrue (is_struct t) → IsWellFormed t →
-    IsRunFrom schema (record_in schema (struct_in old)) calls replies (record_in schema (struct_in t)) → RunsOn schema old calls replies t
+    IsRunFrom schema (record_under_schema schema (struct_in old)) calls replies (record_under_schema schema (struct_in t)) → RunsOn schema old calls replies t
 leaves_root schema old t calls replies here formed runs = record { root = stands_here t here; formed = formed; runs = runs }
 
-pub makes_from : (set : Schemas) (b : ℕ) (s old new : StructTree) (calls : List Call) (replies : List Reply) → old ≡ s → Makes set b old calls replies new → Makes set b s calls replies new
-makes_from set b s old new calls replies e made = subst (λ (x : StructTree). Makes set b x calls replies new) e made
+pub makes_from : (set : Schemas) (b : ℕ) (s old new : StructTree) (calls : List Call) (replies : List Reply) → old ≡ s → MakesCalls set b old calls replies new → MakesCalls set b s calls replies new
+makes_from set b s old new calls replies e made = subst (λ (x : StructTree). MakesCalls set b x calls replies new) e made
 
 -- the root is the struct that was made
 pub root_made : (schema : StructSchema) (size : StructSize) (s : StructTree) (t : Tree) → size ≡ brand_size (set_of schema) (number_of schema) → s ≡ zero_struct size → t ≡ struct_tree s → struct_in t ≡ new_root schema
 root_made schema size s t is zero root = ap struct_in root ∙ (zero ∙ ap zero_struct is)
 
-pub root_copied : (schema : StructSchema) (size : StructSize) (s : StructTree) (source : PointerReader) (t : Tree) → size ≡ brand_size (set_of schema) (number_of schema) → s ≡ extended size (struct_in (tree_of source)) → t ≡ struct_tree s →
+pub root_copied : (schema : StructSchema) (size : StructSize) (s : StructTree) (source : PointerReader) (t : Tree) → size ≡ brand_size (set_of schema) (number_of schema) → s ≡ extended_struct size (struct_in (tree_of source)) → t ≡ struct_tree s →
     struct_in t ≡ copied_root_of schema source
-root_copied schema size s source t is whole root = ap struct_in root ∙ (whole ∙ ap (λ (z : StructSize). extended z (struct_in (tree_of source))) is)
+root_copied schema size s source t is whole root = ap struct_in root ∙ (whole ∙ ap (λ (z : StructSize). extended_struct z (struct_in (tree_of source))) is)
 
 -- and of a root that reads as a record
 pub leaves_run : (schema : StructSchema) (r : Record) (t t' : Tree) (calls : List Call) (replies : List Reply) → HasRoot schema r t → RunsOn schema t calls replies t' → LeavesRun schema r calls replies t'
@@ -166,7 +166,7 @@ struct_reads (tree.FaultLeaf k) n kind here levels h = true≢false (sym here)
 -- ---- the whole ----
 
 pub whole : (schema : StructSchema) (r : Record) (t : Tree) (calls : List Call) (replies : List Reply) (bytes : List ℕ) (indented : Bool) (old new : List ℕ) → LeavesRun schema r calls replies t →
-    (start : StructTree) → Makes (set_of schema) (number_of schema) start calls replies (struct_in t) → suc (words_of t) < 2 ^ 29 → bytes ≡ message_of t → (IsShallow t → (rest : List ℕ) → message_tree_of (bytes ++ rest) ≡ Ok t) → IsAppended old (text_in schema indented (record_in schema (struct_in t))) new →
+    (start : StructTree) → MakesCalls (set_of schema) (number_of schema) start calls replies (struct_in t) → suc (words_of t) < 2 ^ 29 → bytes ≡ message_of t → (IsShallow t → (rest : List ℕ) → message_tree_of (bytes ++ rest) ≡ Ok t) → IsAppended old (record_text schema indented (record_under_schema schema (struct_in t))) new →
     IsWhole schema r start calls replies bytes indented old new
 whole schema r t calls replies bytes indented old new leaves start makes fits written read printed = record {
   root = struct_in t;
@@ -183,7 +183,7 @@ is_root schema r t calls replies leaves = subst (λ (y : Tree). IsTrue (is_struc
 
 -- why a root was not printed
 module _ (schema : StructSchema) (r : Record) (t : Tree) (calls : List Call) (replies : List Reply) (leaves : LeavesRun schema r calls replies t) (indented : Bool) (kind : ErrorKind) where
-  pub not_printed : suc (words_of t) < 2 ^ 29 → (kind ≢ OutOfMemory → text_in schema indented (record_left schema (struct_in t)) ≡ Err kind) → kind ≢ OutOfMemory → IsWholeRefusal schema r calls indented kind
+  pub not_printed : suc (words_of t) < 2 ^ 29 → (kind ≢ OutOfMemory → record_text schema indented (record_left schema (struct_in t)) ≡ Err kind) → kind ≢ OutOfMemory → IsWholeRefusal schema r calls indented kind
   not_printed fits refused other = record {
     root = struct_in t;
     replies = replies;

@@ -20,7 +20,7 @@ use Rattle.capnp_records.specs.Call as record_call
 use Rattle.capnp_records.specs.Reading.{reads}
 use Rattle.capnp_records.specs.Record as value
 use Rattle.capnp_records.specs.Record.{Record, Value}
-use Rattle.capnp_records.specs.Step.{Found, in_record, is_group_field, walked, walked_result}
+use Rattle.capnp_records.specs.Step.{Found, in_record, is_group_field, passed_target, walked_result}
 use Rattle.capnp_records.specs.Writes.Stand.{OnGroup, OnList, OnStruct, entered_kind, left_kind, step_index}
 use Rattle.capnp_records.specs.Writes.TreeEnds.{offset_of}
 use Rattle.capnp_records.specs.Writes.TreeRun.{TreeEnd, TreePasses, TreeWalks}
@@ -88,7 +88,7 @@ names_field f step rest end s r s' index found walks w g = go w (found (whole_of
     further = TreeWalks set (EndsAt set end) (path_seen rest)
 
     go : (w : Whole) → Ok (target_in (whole_of w) f s) ≡ in_record set (whole_of w) (reads set s b) b (step_seen step) →
-        TreePasses set further (StructType b g) (stand_of w s) (step_seen step) (walked (target_in (whole_of w) f s)) (reply_seen r) (stand_of w s') →
+        TreePasses set further (StructType b g) (stand_of w s) (step_seen step) (passed_target (target_in (whole_of w) f s)) (reply_seen r) (stand_of w s') →
         TreeWalks set (EndsAt set end) (path_seen (step ∷ rest)) (StructType b g) (stand_of w s) (reply_seen r) (stand_of w s')
     go AsStruct e h = subst (λ (x : Found). TreePasses set further (StructType b g) (OnStruct s) (step_seen step) (walked_result x) (reply_seen r) (OnStruct s')) e h
     go AsGroup e h = subst (λ (x : Found). TreePasses set further (StructType b g) (OnGroup s) (step_seen step) (walked_result x) (reply_seen r) (OnGroup s')) e h
@@ -107,7 +107,7 @@ step_found schema f step rest end s r s' named found walks =
 
 module _ (f : Field) (rest : List Step) (end : Ending) (s : StructTree) where
   -- a test fails
-  pub field_stops : (e : Error) → ((whole : Record → Value) → way_target (target_in whole f s) (Err e) ≡ walked (target_in whole f s)) → FieldWalks f rest end s (reply.Refused e.kind) s
+  pub field_stops : (e : Error) → ((whole : Record → Value) → way_target (target_in whole f s) (Err e) ≡ passed_target (target_in whole f s)) → FieldWalks f rest end s (reply.Refused e.kind) s
   unfolding FieldWalks
   field_stops e test = stops f (TreeWalks (field_set f) (EndsAt (field_set f) end) (path_seen rest)) s (Refused e.kind) s e.kind test refl refl
 

@@ -8,8 +8,8 @@ use Rattle.capnp_schema.specs.declared.schema.fields.Field.{Field}
 use Rattle.capnp_records.specs.Call.{PathStep, Op, Reply}
 use Rattle.capnp_records.specs.Record as value
 use Rattle.capnp_records.specs.Record.{Record, Value}
-use Rattle.capnp_records.specs.Step.{target_at}
-use Rattle.capnp_records.specs.Writes.Stand.{Stand, OnStruct, OnGroup, seen, step_index}
+use Rattle.capnp_records.specs.Step.{step_target}
+use Rattle.capnp_records.specs.Writes.Stand.{Stand, OnStruct, OnGroup, seen_stand, step_index}
 use Rattle.capnp_records.specs.Writes.TreeEnds.{TreeDoes, TreeDoesAt, TreeEnds}
 use Rattle.capnp_slots.specs.Fields.{field_brand, field_set}
 use Rattle.capnp_call.specs.Ways.{target_in}
@@ -36,7 +36,7 @@ FieldDoes f op old reply new =
 -- an operation is done to what a step names
 abbrev pub NamedDoes : Schemas → ℕ → PathStep → Op → StructTree → Reply → StructTree → Type 0
 NamedDoes set b step op old reply new =
-    (w : Whole) (g : ℕ) → TreeDoesAt set op (target_at set (StructType b g) (seen set (StructType b g) (stand_of w old)) step) (StructType b g) (stand_of w old) step reply (stand_of w new)
+    (w : Whole) (g : ℕ) → TreeDoesAt set op (step_target set (StructType b g) (seen_stand set (StructType b g) (stand_of w old)) step) (StructType b g) (stand_of w old) step reply (stand_of w new)
 
 -- an operation is done at the end of a path
 abbrev pub StructEnds : Schemas → ℕ → PathStep → Op → StructTree → Reply → StructTree → Type 0

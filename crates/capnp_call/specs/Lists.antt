@@ -10,7 +10,7 @@ use Rattle.capnp_device.specs.declared.error.ErrorKind.{ErrorKind}
 use Rattle.capnp_device.specs.declared.error.ErrorKind.TheVariants.{NoSuchElement, NotAContainer}
 use Rattle.capnp_records.specs.Call.{ElementAt, FieldNamed, FieldNumber, PathStep}
 use Rattle.capnp_records.specs.Record.{values_from}
-use Rattle.capnp_records.specs.Step.{Target, element_target, walked}
+use Rattle.capnp_records.specs.Step.{StepTarget, element_target, passed_target}
 use Rattle.capnp_records.specs.Writes.Stand.{ListSound, OnList, seen_element}
 use Rattle.capnp_records.specs.Writes.TreeEnds.{TreeDoes}
 use Rattle.capnp_records.specs.Writes.TreeRun.{TreePasses, TreeWalks}
@@ -42,13 +42,13 @@ unfoldable pub ListWalks : Schemas → SchemaType → List Step → Ending → T
 ListWalks set e path end old reply new = TreeWalks set (EndsAt set end) (path_seen path) (ListType e) (OnList old) (reply_seen reply) (OnList new)
 
 -- an element of a list as the target of a step
-abbrev pub element_at : Schemas → SchemaType → Tree → ℕ → Target
+abbrev pub element_at : Schemas → SchemaType → Tree → ℕ → StepTarget
 element_at set e x i = element_target e (values_from (seen_element set x e) 0 (list_length x)) i
 
 -- the same into an element that is there, and along the rest of the path
 unfoldable pub ElementWalks : Schemas → SchemaType → ℕ → List Step → Ending → Tree → Reply → Tree → Type 0
 ElementWalks set e i rest end old reply new =
-    TreePasses set (TreeWalks set (EndsAt set end) (path_seen rest)) (ListType e) (OnList old) (ElementAt i) (walked (element_at set e old i)) (reply_seen reply) (OnList new)
+    TreePasses set (TreeWalks set (EndsAt set end) (path_seen rest)) (ListType e) (OnList old) (ElementAt i) (passed_target (element_at set e old i)) (reply_seen reply) (OnList new)
 
 -- an operation is done to an element that is there
 abbrev pub ElementDoes : Schemas → SchemaType → ℕ → Op → Tree → Reply → Tree → Type 0

@@ -7,11 +7,11 @@ use Rattle.capnp_schema.specs.StructHandles.{number_of, set_of}
 use Rattle.capnp_schema.specs.Types.{SchemaType, StructType}
 use Rattle.capnp_schema.specs.declared.schema.structs.StructSchema.{StructSchema}
 use Rattle.capnp_records.specs.Call.{Clear, Get, Has, Init, Initn, Op, PathStep, Refused, Reply, Set, Which}
-use Rattle.capnp_records.specs.Given.{Copies, CopiesGroup, Fails, Given, Gives, given}
+use Rattle.capnp_records.specs.Given.{Copies, CopiesGroup, Fails, Given, Gives, given_part}
 use Rattle.capnp_records.specs.Operation.{takes_memory}
 use Rattle.capnp_records.specs.Run.{root_type}
-use Rattle.capnp_records.specs.Step.{Found, Target, target_at, walked_target}
-use Rattle.capnp_records.specs.Writes.Stand.{OnStruct, Stand, StepRests, entered, seen}
+use Rattle.capnp_records.specs.Step.{Found, StepTarget, step_target, walked_target}
+use Rattle.capnp_records.specs.Writes.Stand.{OnStruct, Stand, StepRests, entered_stand, seen_stand}
 use Rattle.capnp_records.specs.Writes.TreeEnds.{TreeStep}
 use Rattle.capnp_call.specs.Seen.{call_seen, op_seen, path_seen, step_seen}
 use Rattle.capnp_call.specs.declared.calls.Call.{Call as CallOf}
@@ -32,11 +32,11 @@ is_made is_group t = false
 
 -- what an operation does to a field or element takes no memory: a read but of a text or data, a set of what no pointer stands
 -- for, an init but of a struct's slot, and a has, a which and a clear of whatever it is
-abbrev pub NeedsNone : Schemas → Op → Target → Type 0
+abbrev pub NeedsNone : Schemas → Op → StepTarget → Type 0
 NeedsNone set Get x = takes_memory x.type ≡ false
 NeedsNone set Has x = ⊤
 NeedsNone set Which x = ⊤
-NeedsNone set (Set s) x = IsNoCopy (given set x s)
+NeedsNone set (Set s) x = IsNoCopy (given_part set x s)
 NeedsNone set Init x = is_made x.is_group x.type ≡ false
 NeedsNone set (Initn n) x = ⊥
 NeedsNone set Clear x = ⊤
@@ -53,8 +53,8 @@ NextRests (Ok x) rests next = rests × next x.type
 -- A call takes no memory: where its path leads on, nothing has to be filled or extended behind any of its steps, and the
 -- operation at its end takes none.
 abbrev pub CallRests : Schemas → PathStep → Op → List PathStep → SchemaType → Stand → Type 0
-CallRests set last op [] t old = EndRests set op (target_at set t (seen set t old) last)
-CallRests set last op (step ∷ path) t old = NextRests (walked_target set t (seen set t old) step) (StepRests set t old step) (λ u. CallRests set last op path u (entered set t old step))
+CallRests set last op [] t old = EndRests set op (step_target set t (seen_stand set t old) last)
+CallRests set last op (step ∷ path) t old = NextRests (walked_target set t (seen_stand set t old) step) (StepRests set t old step) (λ u. CallRests set last op path u (entered_stand set t old step))
 
 -- so it is refused neither for the want of it, nor because the format has no room
 pub record IsNotForRoom (reply : Reply) : Type 0 where

@@ -2,7 +2,7 @@
 use Rattle.std.specs.Prelude.{ℕ, suc, ◌^◌, ◌<◌, ◌≡◌, ◌⊎◌, List, ◌++◌, Bool, true, false, IsTrue, Option, Some, None, Ok, Err}
 use Rattle.capnp_device.specs.declared.error.ErrorKind.{ErrorKind}
 use Rattle.capnp_wire.specs.Depth.{IsShallow}
-use Rattle.capnp_wire.specs.Edits.{extended, is_struct, struct_in, struct_refusal, zero_struct}
+use Rattle.capnp_wire.specs.Edits.{extended_struct, is_struct, struct_in, struct_refusal, zero_struct}
 use Rattle.capnp_wire.specs.Encoding.{message_of}
 use Rattle.capnp_wire.specs.Place.{struct_tree}
 use Rattle.capnp_wire.specs.Reading.{refusal}
@@ -24,7 +24,7 @@ use Rattle.capnp_records.specs.Text.{Out, text_of}
 use Rattle.capnp_slots.specs.Standing.{IsUnder}
 use Rattle.capnp_dynamic_readers.specs.Pieces.{IsAppended}
 use Rattle.capnp_dynamic_readers.specs.Typed.{struct_type}
-use Rattle.capnp_call.specs.Runs.{IsRunFrom, Makes, record_in}
+use Rattle.capnp_call.specs.Runs.{IsRunFrom, MakesCalls, record_under_schema}
 use Rattle.capnp_call.specs.declared.calls.Call.{Call}
 use Rattle.capnp_call.specs.declared.calls.Reply.{Reply}
 
@@ -33,7 +33,7 @@ abbrev pub new_root : StructSchema → StructTree
 new_root schema = zero_struct (brand_size (set_of schema) (number_of schema))
 
 abbrev pub copy_of : StructSchema → Tree → StructTree
-copy_of schema root = extended (brand_size (set_of schema) (number_of schema)) (struct_in root)
+copy_of schema root = extended_struct (brand_size (set_of schema) (number_of schema)) (struct_in root)
 
 abbrev pub copied_root : StructSchema → PointerReader → StructTree
 copied_root schema source = copy_of schema (tree_of source)
@@ -43,7 +43,7 @@ abbrev pub new_record : StructSchema → Record
 new_record schema = default_record (set_of schema) Endless (number_of schema)
 
 abbrev pub copied_record : StructSchema → PointerReader → Record
-copied_record schema source = record_in schema (struct_in (tree_of source))
+copied_record schema source = record_under_schema schema (struct_in (tree_of source))
 
 -- a root: a struct that has its schema's sections and is well-formed
 pub record IsRoot (schema : StructSchema) (t : Tree) : Type 0 where
@@ -54,17 +54,17 @@ pub record IsRoot (schema : StructSchema) (t : Tree) : Type 0 where
 -- one that reads as a record
 pub record HasRoot (schema : StructSchema) (r : Record) (t : Tree) : Type 0 where
   pub root : IsRoot schema t
-  pub reads_as : record_in schema (struct_in t) ≡ r
+  pub reads_as : record_under_schema schema (struct_in t) ≡ r
 
 -- what calls leave of a message: its root is a struct, and a run led from the record to that struct's
 pub record LeavesRun (schema : StructSchema) (r : Record) (calls : List Call) (replies : List Reply) (t : Tree) : Type 0 where
   pub root : t ≡ struct_tree (struct_in t)
   pub formed : IsWellFormed t
-  pub runs : IsRunFrom schema r calls replies (record_in schema (struct_in t))
+  pub runs : IsRunFrom schema r calls replies (record_under_schema schema (struct_in t))
 
 -- what calls on one root leave as another
 abbrev pub RunsOn : StructSchema → Tree → List Call → List Reply → Tree → Type 0
-RunsOn schema old calls replies new = LeavesRun schema (record_in schema (struct_in old)) calls replies new
+RunsOn schema old calls replies new = LeavesRun schema (record_under_schema schema (struct_in old)) calls replies new
 
 -- why a tree is not copied as a root, memory aside: for its first fault in preorder, and else because it is a list
 abbrev pub fault_or : Option Fault → Option ErrorKind → Option ErrorKind
@@ -82,8 +82,8 @@ root_value true r = value.Group r
 root_value false r = value.Struct r
 
 -- the text of a record under a schema
-abbrev pub text_in : StructSchema → (indented : Bool) → Record → Out
-text_in schema indented r = text_of (set_of schema) indented (struct_type schema) (root_value (struct_node schema).is_group r)
+abbrev pub record_text : StructSchema → (indented : Bool) → Record → Out
+record_text schema indented r = text_of (set_of schema) indented (struct_type schema) (root_value (struct_node schema).is_group r)
 
 -- the record of a root as a reader of the message sees it, which takes one of its 64 levels
 abbrev pub record_left : StructSchema → StructTree → Record
@@ -91,10 +91,10 @@ record_left schema s = struct_record (set_of schema) (Left 63) s (number_of sche
 
 -- the text of a root's record, and of what a reader of it sees
 abbrev pub root_text : StructSchema → (indented : Bool) → Tree → Out
-root_text schema indented t = text_in schema indented (record_in schema (struct_in t))
+root_text schema indented t = record_text schema indented (record_under_schema schema (struct_in t))
 
 abbrev pub read_text : StructSchema → (indented : Bool) → Tree → Out
-read_text schema indented t = text_in schema indented (record_left schema (struct_in t))
+read_text schema indented t = record_text schema indented (record_left schema (struct_in t))
 
 -- the words of the segment of a root's message
 abbrev pub message_words : StructTree → ℕ
@@ -105,21 +105,21 @@ message_words root = suc (words_of (struct_tree root))
 -- message of that struct, which they are read back as where its pointers go at most 64 levels down, and its text is appended.
 pub record IsWhole (schema : StructSchema) (r : Record) (start : StructTree) (calls : List Call) (replies : List Reply) (bytes : List ℕ) (indented : Bool) (old new : List ℕ) : Type 0 where
   pub root : StructTree
-  pub runs : IsRunFrom schema r calls replies (record_in schema root)
-  pub made : Makes (set_of schema) (number_of schema) start calls replies root
+  pub runs : IsRunFrom schema r calls replies (record_under_schema schema root)
+  pub made : MakesCalls (set_of schema) (number_of schema) start calls replies root
   pub fits : message_words root < 2 ^ 29
   pub written : bytes ≡ message_of (struct_tree root)
   pub read_back : IsShallow (struct_tree root) → (rest : List ℕ) → message_tree_of (bytes ++ rest) ≡ Ok (struct_tree root)
-  pub printed : IsAppended old (text_in schema indented (record_in schema root)) new
+  pub printed : IsAppended old (record_text schema indented (record_under_schema schema root)) new
 
 -- why a run is refused as a whole, memory aside: each call had its reply, a run of the machine led from the record at the
 -- start to that of a struct whose message could be written, and what a reader of it sees has no text, with that refusal
 pub record IsWholeRefusal (schema : StructSchema) (r : Record) (calls : List Call) (indented : Bool) (kind : ErrorKind) : Type 0 where
   pub root : StructTree
   pub replies : List Reply
-  pub runs : IsRunFrom schema r calls replies (record_in schema root)
+  pub runs : IsRunFrom schema r calls replies (record_under_schema schema root)
   pub fits : message_words root < 2 ^ 29
-  pub cause : text_in schema indented (record_left schema root) ≡ Err kind
+  pub cause : record_text schema indented (record_left schema root) ≡ Err kind
 
 -- the same of a copy: the source is not copied as a root, or the run on the copy is refused so
 abbrev pub IsCopiedRefusal : StructSchema → PointerReader → List Call → (indented : Bool) → ErrorKind → Type 0

@@ -15,20 +15,20 @@ use Rattle.capnp_call.specs.declared.calls.Reply.{Reply}
 use Rattle.capnp_call.specs.Memory.{RestsOn, RunRests}
 
 -- one call is made: a step on trees, with a reply that is no refusal for room where the call takes no memory
-pub record IsMade (set : Schemas) (b : ℕ) (old : StructTree) (call : Call) (reply : Reply) (new : StructTree) : Type 0 where
+pub record IsCallMade (set : Schemas) (b : ℕ) (old : StructTree) (call : Call) (reply : Reply) (new : StructTree) : Type 0 where
   pub step : TreeStep set b old (call_seen call) (reply_seen reply) new
   pub rests : RestsOn set b call old → IsNotForRoom (reply_seen reply)
 
 -- a run on trees, of calls and replies as the code has them
-unfoldable pub Makes : Schemas → ℕ → StructTree → List Call → List Reply → StructTree → Type 0
-Makes set b old [] [] new = new ≡ old
-Makes set b old (call ∷ calls) (reply ∷ replies) new = (mid : StructTree) × IsMade set b old call reply mid × Makes set b mid calls replies new
-Makes set b old [] (reply ∷ replies) new = ⊥
-Makes set b old (call ∷ calls) [] new = ⊥
+unfoldable pub MakesCalls : Schemas → ℕ → StructTree → List Call → List Reply → StructTree → Type 0
+MakesCalls set b old [] [] new = new ≡ old
+MakesCalls set b old (call ∷ calls) (reply ∷ replies) new = (mid : StructTree) × IsCallMade set b old call reply mid × MakesCalls set b mid calls replies new
+MakesCalls set b old [] (reply ∷ replies) new = ⊥
+MakesCalls set b old (call ∷ calls) [] new = ⊥
 
 -- the record of a struct that is built
-abbrev pub record_in : StructSchema → StructTree → Record
-record_in schema s = reads (set_of schema) s (number_of schema)
+abbrev pub record_under_schema : StructSchema → StructTree → Record
+record_under_schema schema s = reads (set_of schema) s (number_of schema)
 
 -- calls with their replies take a record to another, as the machine of records says, and the record of one struct to that of
 -- another
@@ -36,7 +36,7 @@ abbrev pub IsRunFrom : StructSchema → Record → List Call → List Reply → 
 IsRunFrom schema r calls replies r' = Run (set_of schema) (number_of schema) r (map call_seen calls) (map reply_seen replies) r'
 
 abbrev pub RunsTo : StructSchema → StructTree → List Call → List Reply → StructTree → Type 0
-RunsTo schema s calls replies s' = IsRunFrom schema (record_in schema s) calls replies (record_in schema s')
+RunsTo schema s calls replies s' = IsRunFrom schema (record_under_schema schema s) calls replies (record_under_schema schema s')
 
 -- where no call takes memory, no reply is a refusal for room
 abbrev pub RestsWhole : StructSchema → StructTree → List Call → List Reply → Type 0

@@ -35,27 +35,27 @@ op_seen op.Clear = record_call.Clear
 abbrev pub call_seen : Call → record_call.Call
 call_seen c = record { path = path_seen c.path.now; last = step_seen c.last; op = op_seen c.op }
 
-abbrev pub plain_seen : Plain → record_call.Plain
-plain_seen plain.Void = VoidPlain
-plain_seen (plain.Bool b) = BoolPlain b
-plain_seen (plain.Int8 x) = IntPlain 1 x
-plain_seen (plain.Int16 x) = IntPlain 2 x
-plain_seen (plain.Int32 x) = IntPlain 4 x
-plain_seen (plain.Int64 x) = IntPlain 8 x
-plain_seen (plain.UInt8 n) = UIntPlain 1 n
-plain_seen (plain.UInt16 n) = UIntPlain 2 n
-plain_seen (plain.UInt32 n) = UIntPlain 4 n
-plain_seen (plain.UInt64 n) = UIntPlain 8 n
-plain_seen (plain.Enum n) = EnumPlain n
-plain_seen (plain.Text bytes) = TextPlain bytes.items
-plain_seen (plain.«Data» bytes) = DataPlain bytes.items
-plain_seen plain.Struct = StructPlain
-plain_seen (plain.List n) = ListPlain n
-plain_seen (plain.AnyPointer b) = AnyPointerPlain b
+abbrev pub answer_seen : Plain → record_call.Plain
+answer_seen plain.Void = VoidPlain
+answer_seen (plain.Bool b) = BoolPlain b
+answer_seen (plain.Int8 x) = IntPlain 1 x
+answer_seen (plain.Int16 x) = IntPlain 2 x
+answer_seen (plain.Int32 x) = IntPlain 4 x
+answer_seen (plain.Int64 x) = IntPlain 8 x
+answer_seen (plain.UInt8 n) = UIntPlain 1 n
+answer_seen (plain.UInt16 n) = UIntPlain 2 n
+answer_seen (plain.UInt32 n) = UIntPlain 4 n
+answer_seen (plain.UInt64 n) = UIntPlain 8 n
+answer_seen (plain.Enum n) = EnumPlain n
+answer_seen (plain.Text bytes) = TextPlain bytes.items
+answer_seen (plain.«Data» bytes) = DataPlain bytes.items
+answer_seen plain.Struct = StructPlain
+answer_seen (plain.List n) = ListPlain n
+answer_seen (plain.AnyPointer b) = AnyPointerPlain b
 
 abbrev pub reply_seen : Reply → record_call.Reply
 reply_seen reply.Done = record_call.Done
-reply_seen (reply.Value p) = record_call.GivesValue (plain_seen p)
+reply_seen (reply.Value p) = record_call.GivesValue (answer_seen p)
 reply_seen (reply.Flag b) = record_call.Flag b
 reply_seen (reply.Member i) = record_call.Member i
 reply_seen (reply.Refused kind) = record_call.Refused kind

@@ -8,7 +8,7 @@ use Rattle.capnp_schema.specs.FieldLists.{index_of, typed_of}
 use Rattle.capnp_schema.specs.declared.schema.fields.Field.{Field}
 use Rattle.capnp_records.specs.Call.{Op, PathStep, Refused, Reply}
 use Rattle.capnp_records.specs.Record.{Record, Value}
-use Rattle.capnp_records.specs.Step.{fault_of, walked}
+use Rattle.capnp_records.specs.Step.{fault_of, passed_target}
 use Rattle.capnp_records.specs.Writes.Stand.{Stand, entered_field, left_field, step_index}
 use Rattle.capnp_records.specs.Writes.TreeEnds.{TreeEnds}
 use Rattle.capnp_records.specs.Writes.TreeRun.{TreeEnd, TreeEnters, TreePasses, TreeWalks}
@@ -22,7 +22,7 @@ use Rattle.capnp_call.specs.declared.calls.Ending.{Ending}
 
 -- a field that a step goes into: it is active, and leads to a struct, group or list
 abbrev pub IsWalked : Field → StructTree → Type 0
-IsWalked f s = (whole : Record → Value) → Ok (target_in whole f s) ≡ walked (target_in whole f s)
+IsWalked f s = (whole : Record → Value) → Ok (target_in whole f s) ≡ passed_target (target_in whole f s)
 
 -- the walk goes on into a field whose tests passed
 abbrev pub FieldEnters : Field → TreeEnd → StructTree → Reply → StructTree → Type 0
@@ -34,7 +34,7 @@ FieldEnters f further old reply new =
 abbrev pub FieldPasses : Field → TreeEnd → StructTree → Reply → StructTree → Type 0
 FieldPasses f further old reply new =
     (w : Whole) (g : ℕ) (step : PathStep) → step_index (field_set f) (field_brand f) step ≡ index_of f →
-    TreePasses (field_set f) further (StructType (field_brand f) g) (stand_of w old) step (walked (target_in (whole_of w) f old)) reply (stand_of w new)
+    TreePasses (field_set f) further (StructType (field_brand f) g) (stand_of w old) step (passed_target (target_in (whole_of w) f old)) reply (stand_of w new)
 
 -- whatever the rest of the call does in what the step enters, the call does that to the field
 abbrev pub StepGoes : Field → StructTree → Type 0

@@ -11,7 +11,7 @@ use Rattle.capnp_schema.specs.declared.schema.structs.StructSchema.{StructSchema
 use Rattle.capnp_base.specs.declared.introspect.«Type».{«Type» as TypeHandle}
 use Rattle.capnp_records.specs.Reading.{reads}
 use Rattle.capnp_records.specs.Record.{Record, Value}
-use Rattle.capnp_records.specs.Step.{Found, Target, field_target}
+use Rattle.capnp_records.specs.Step.{Found, StepTarget, field_target}
 use Rattle.capnp_records.specs.Writes.Stand.{step_index}
 use Rattle.capnp_slots.specs.Fields.{IsSlot, field_brand, field_set}
 use Rattle.capnp_slots.specs.Groups.{IsGroupAt}
@@ -35,11 +35,11 @@ pub record IsNamedBy (s : StructSchema) (step : Step) (f : Field) : Type 0 where
 -- ---- where a field leads ----
 
 -- a field of a struct as the target of a step
-abbrev pub target_in : (Record → Value) → Field → StructTree → Target
+abbrev pub target_in : (Record → Value) → Field → StructTree → StepTarget
 target_in whole f s = field_target whole (reads (field_set f) s (field_brand f)) (typed_of f) (index_of f)
 
 -- the target of a step that is walked, or why it is not
-abbrev pub way_target : Target → Result Way Error → Found
+abbrev pub way_target : StepTarget → Result Way Error → Found
 way_target x (Ok w) = Ok x
 way_target x (Err e) = Err e.kind
 

@@ -1,6 +1,6 @@
 //! What is read at the end of a path. Nothing is filled or switched.
 ghost use Rattle.capnp_arena.specs.Segment.{segment};
-ghost use Rattle.capnp_arena.specs.Built.{ChangesIn, IsBuilt, built};
+ghost use Rattle.capnp_arena.specs.Built.{ChangesIn, IsBuilt, built_at};
 ghost use Rattle.std.specs.Prelude.{◌≡◌, IfErr, IfOk, OnErr, true};
 ghost use Rattle.capnp_device.specs.declared.error.ErrorKind.TheVariants.{OutOfMemory};
 ghost use Rattle.capnp_wire.specs.Place.{struct_tree};
@@ -8,15 +8,15 @@ ghost use Rattle.capnp_schema.specs.Schema.{Schemas};
 ghost use Rattle.capnp_schema.specs.StructHandles.{IsStruct, number_of, set_of};
 ghost use Rattle.capnp_schema.specs.Types.{SchemaType};
 ghost use Rattle.capnp_records.specs.Call.{Get, Has, Member};
-ghost use Rattle.capnp_records.specs.Operation.{Answers, Does, plain, takes_memory};
+ghost use Rattle.capnp_records.specs.Operation.{Answers, Does, answer_of, takes_memory};
 ghost use Rattle.capnp_records.specs.Part.{which_of};
 ghost use Rattle.capnp_records.specs.Reading.{reads};
 ghost use Rattle.capnp_records.specs.Record.{Record, Value as RecordValue};
 ghost use Rattle.capnp_records.specs.Step.{fault_of};
-ghost use Rattle.capnp_dynamic_readers.specs.Seen.{answered, value_seen};
+ghost use Rattle.capnp_dynamic_readers.specs.Seen.{answered_value, value_seen};
 ghost use Rattle.capnp_dynamic_readers.specs.Typed.{IsOf};
 ghost use Rattle.capnp_slots.specs.Fields.{field_set};
-ghost use Rattle.capnp_call.specs.Seen.{plain_seen, reply_seen};
+ghost use Rattle.capnp_call.specs.Seen.{answer_seen, reply_seen};
 ghost use Rattle.capnp_call.specs.Ways.{target_in};
 
 use crate::calls::{Plain, Reply};
@@ -34,7 +34,7 @@ use std::alloc::Global;
 /// Refused with `OutOfMemory` for the copy of a text or data.
 fn plain_of(alloc: Global, value: Value<'_>) -> Result<Plain>
     ensures plain { (set : Schemas) (t : SchemaType) → IsOf set t value.entry
-        → IfOk result (λ p. plain_seen p ≡ plain t (value_seen value.entry)) }
+        → IfOk result (λ p. answer_seen p ≡ answer_of t (value_seen value.entry)) }
     ensures memory { (set : Schemas) (t : SchemaType) → IsOf set t value.entry → OnErr result (takes_memory t ≡ true) }
     ensures cause { IfErr result (λ e. e.kind ≡ OutOfMemory) }
 {
@@ -61,7 +61,7 @@ fn plain_of(alloc: Global, value: Value<'_>) -> Result<Plain>
 /// The reply to a read.
 pub(crate) fn answer(alloc: Global, read: Result<Value<'_>>) -> Reply
     ensures { (set : Schemas) (t : SchemaType) (old : RecordValue) → IfOk read.entry (IsOf set t)
-        → Answers t (answered read.entry) (fault_of (answered read.entry)) old (reply_seen result) old }
+        → Answers t (answered_value read.entry) (fault_of (answered_value read.entry)) old (reply_seen result) old }
 {
     match read {
         Err(error) => Reply::Refused(error.kind),
@@ -80,7 +80,7 @@ pub(crate) fn answer(alloc: Global, read: Result<Value<'_>>) -> Reply
 pub fn get_field(alloc: Global, arena: &Arena, place: Place, field: Field<'_>) -> Reply
     requires planted { IsBuilt arena.now place }
     ensures { (whole : Record → RecordValue) (old : RecordValue)
-        → Does (field_set field.entry) Get (target_in whole field.entry (built arena.now place)) old
+        → Does (field_set field.entry) Get (target_in whole field.entry (built_at arena.now place)) old
         (reply_seen result) old }
 {
     if is_inactive(arena, place, field) {
@@ -98,7 +98,7 @@ pub fn get_field(alloc: Global, arena: &Arena, place: Place, field: Field<'_>) -
 pub fn has_field(arena: &Arena, place: Place, field: Field<'_>) -> Reply
     requires planted { IsBuilt arena.now place }
     ensures { (whole : Record → RecordValue) (old : RecordValue)
-        → Does (field_set field.entry) Has (target_in whole field.entry (built arena.now place)) old
+        → Does (field_set field.entry) Has (target_in whole field.entry (built_at arena.now place)) old
         (reply_seen result) old }
 {
     // What the type of every field is known to meet is known of it here.
@@ -119,7 +119,7 @@ pub fn which_member(arena: &Arena, place: Place, schema: StructSchema<'_>) -> Re
     requires planted { IsBuilt arena.now place }
     requires stands { IsStruct schema }
     ensures { reply_seen result ≡ Member (which_of
-        (reads (set_of schema.entry) (built arena.now place) (number_of schema.entry))) }
+        (reads (set_of schema.entry) (built_at arena.now place) (number_of schema.entry))) }
 {
     let reader = dynamic_struct::Reader::new(arena.get_struct_reader(place), schema);
     match reader.which() {

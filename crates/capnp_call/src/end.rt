@@ -1,6 +1,6 @@
 //! What a call does at the end of its path, at a struct or group.
 ghost use Rattle.capnp_arena.specs.Segment.{segment};
-ghost use Rattle.capnp_arena.specs.Built.{ChangesIn, IsBuilt, built};
+ghost use Rattle.capnp_arena.specs.Built.{ChangesIn, IsBuilt, built_at};
 ghost use Rattle.std.specs.Prelude.{◌≢◌};
 ghost use Rattle.capnp_wire.specs.Place.{struct_tree};
 ghost use Rattle.capnp_schema.specs.StructHandles.{number_of, set_of};
@@ -26,9 +26,9 @@ use capnp_slots::source::{Source, source_fits};
 #[inline(always)]
 fn set_to(arena: &mut Arena, place: Place, field: Field<'_>, source: Source<'_>) -> Reply
     requires planted { IsBuilt arena.old place }
-    requires room { IsRoomFor field (built arena.old place) }
-    ensures does { FieldDoes field.entry (Set (source_seen source.entry)) (built arena.old place) (reply_seen result)
-        (built arena.new place) }
+    requires room { IsRoomFor field (built_at arena.old place) }
+    ensures does { FieldDoes field.entry (Set (source_seen source.entry)) (built_at arena.old place) (reply_seen result)
+        (built_at arena.new place) }
     ensures planted { IsBuilt arena.new place }
     ensures changes { ChangesIn place arena.old arena.new }
 {
@@ -40,9 +40,9 @@ fn set_to(arena: &mut Arena, place: Place, field: Field<'_>, source: Source<'_>)
 #[inline(never)]
 fn set_pointed(arena: &mut Arena, place: Place, field: Field<'_>, value: &Value<'_>) -> Reply
     requires planted { IsBuilt arena.old place }
-    requires room { IsRoomFor field (built arena.old place) }
-    ensures does { FieldDoes field.entry (Set (source_of value.now)) (built arena.old place) (reply_seen result)
-        (built arena.new place) }
+    requires room { IsRoomFor field (built_at arena.old place) }
+    ensures does { FieldDoes field.entry (Set (source_of value.now)) (built_at arena.old place) (reply_seen result)
+        (built_at arena.new place) }
     ensures planted { IsBuilt arena.new place }
     ensures changes { ChangesIn place arena.old arena.new }
 {
@@ -53,9 +53,9 @@ fn set_pointed(arena: &mut Arena, place: Place, field: Field<'_>, value: &Value<
 #[inline(always)]
 fn set_field(arena: &mut Arena, place: Place, field: Field<'_>, value: &Value<'_>) -> Reply
     requires planted { IsBuilt arena.old place }
-    requires room { IsRoomFor field (built arena.old place) }
-    ensures does { FieldDoes field.entry (Set (source_of value.now)) (built arena.old place) (reply_seen result)
-        (built arena.new place) }
+    requires room { IsRoomFor field (built_at arena.old place) }
+    ensures does { FieldDoes field.entry (Set (source_of value.now)) (built_at arena.old place) (reply_seen result)
+        (built_at arena.new place) }
     ensures planted { IsBuilt arena.new place }
     ensures changes { ChangesIn place arena.old arena.new }
 {
@@ -71,8 +71,8 @@ fn set_field(arena: &mut Arena, place: Place, field: Field<'_>, value: &Value<'_
 /// Refused as `field::init`, and then nothing has changed.
 fn init_field(arena: &mut Arena, place: Place, field: Field<'_>) -> Reply
     requires planted { IsBuilt arena.old place }
-    requires room { IsRoomFor field (built arena.old place) }
-    ensures does { FieldDoes field.entry Init (built arena.old place) (reply_seen result) (built arena.new place) }
+    requires room { IsRoomFor field (built_at arena.old place) }
+    ensures does { FieldDoes field.entry Init (built_at arena.old place) (reply_seen result) (built_at arena.new place) }
     ensures planted { IsBuilt arena.new place }
     ensures changes { ChangesIn place arena.old arena.new }
 {
@@ -85,9 +85,9 @@ fn init_field(arena: &mut Arena, place: Place, field: Field<'_>) -> Reply
 /// Refused as `field::initn`, and then nothing has changed.
 fn initn_field(arena: &mut Arena, place: Place, field: Field<'_>, count: u32) -> Reply
     requires planted { IsBuilt arena.old place }
-    requires room { IsRoomFor field (built arena.old place) }
-    ensures does { FieldDoes field.entry (Initn count) (built arena.old place) (reply_seen result)
-        (built arena.new place) }
+    requires room { IsRoomFor field (built_at arena.old place) }
+    ensures does { FieldDoes field.entry (Initn count) (built_at arena.old place) (reply_seen result)
+        (built_at arena.new place) }
     ensures planted { IsBuilt arena.new place }
     ensures changes { ChangesIn place arena.old arena.new }
 {
@@ -97,8 +97,8 @@ fn initn_field(arena: &mut Arena, place: Place, field: Field<'_>, count: u32) ->
 /// Puts a field back to its default, and makes a member active.
 fn clear_field(arena: &mut Arena, place: Place, field: Field<'_>) -> Reply
     requires planted { IsBuilt arena.old place }
-    requires room { IsRoomFor field (built arena.old place) }
-    ensures does { FieldDoes field.entry Clear (built arena.old place) (reply_seen result) (built arena.new place) }
+    requires room { IsRoomFor field (built_at arena.old place) }
+    ensures does { FieldDoes field.entry Clear (built_at arena.old place) (reply_seen result) (built_at arena.new place) }
     ensures planted { IsBuilt arena.new place }
     ensures changes { ChangesIn place arena.old arena.new }
 {
@@ -110,10 +110,10 @@ fn clear_field(arena: &mut Arena, place: Place, field: Field<'_>) -> Reply
 #[inline(always)]
 fn do_field(arena: &mut Arena, place: Place, field: Field<'_>, end: Ending<'_>) -> Reply
     requires planted { IsBuilt arena.old place }
-    requires room { IsRoomFor field (built arena.old place) }
+    requires room { IsRoomFor field (built_at arena.old place) }
     requires names { end.call.now.op ≢ Op.Which }
-    ensures does { FieldDoes field.entry (op_seen end.entry.call.now.op) (built arena.old place) (reply_seen result)
-        (built arena.new place) }
+    ensures does { FieldDoes field.entry (op_seen end.entry.call.now.op) (built_at arena.old place) (reply_seen result)
+        (built_at arena.new place) }
     ensures planted { IsBuilt arena.new place }
     ensures changes { ChangesIn place arena.old arena.new }
 {
@@ -135,7 +135,7 @@ fn do_named(arena: &mut Arena, place: Place, schema: StructSchema<'_>, end: Endi
     requires names { end.call.now.op ≢ Op.Which }
     ensures does { NamedDoes (set_of schema.entry) (number_of schema.entry) (step_seen end.entry.call.now.last)
         (op_seen end.entry.call.now.op)
-        (built arena.old place) (reply_seen result) (built arena.new place) }
+        (built_at arena.old place) (reply_seen result) (built_at arena.new place) }
     ensures planted { IsBuilt arena.new place }
     ensures changes { ChangesIn place arena.old arena.new }
 {
@@ -162,7 +162,7 @@ pub fn end_at_struct(
     requires ready { TakesCalls schema arena.old place }
     ensures ends { StructEnds (set_of schema.entry) (number_of schema.entry) (step_seen end.entry.call.now.last)
         (op_seen end.entry.call.now.op)
-        (built arena.old place) (reply_seen result) (built arena.new place) }
+        (built_at arena.old place) (reply_seen result) (built_at arena.new place) }
     ensures planted { IsBuilt arena.new place }
     ensures changes { ChangesIn place arena.old arena.new }
 {

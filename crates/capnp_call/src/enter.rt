@@ -1,9 +1,9 @@
 //! A step of a path into what stands behind a field.
 ghost use Rattle.capnp_arena.specs.Segment.{segment};
 ghost use Rattle.capnp_wire.specs.WellFormed.{IsWellFormed};
-ghost use Rattle.capnp_arena.specs.Built.{ChangesIn, IsBuilt, built};
+ghost use Rattle.capnp_arena.specs.Built.{ChangesIn, IsBuilt, built_at};
 ghost use Rattle.std.specs.Prelude.{◌≡◌, IfErr, OnErr, OnOk};
-ghost use Rattle.capnp_schema.specs.Defaults.{DefaultFits, default_tree};
+ghost use Rattle.capnp_schema.specs.Defaults.{DefaultFits, value_default_tree};
 ghost use Rattle.capnp_schema.specs.FieldLists.{typed_of};
 ghost use Rattle.capnp_schema.specs.Schema.{default_of};
 ghost use Rattle.capnp_schema.specs.Types.{seen_type};
@@ -41,18 +41,18 @@ pub fn enter_struct(
 ) -> Result<()>
     requires planted { IsBuilt arena.old place }
     requires leads { IsStructSlot field schema }
-    requires walked { IsWalked field (built arena.old place) }
-    requires room { IsRoomFor field (built arena.old place) }
-    ensures filled { OnOk result (built arena.new place
-        ≡ with_pointer_tree (built arena.old place) (pointer_index field.entry)
-        (filled_in field.entry (built arena.old place))) }
-    ensures here { OnOk result (pointer_in field.entry (built arena.new place)
-        ≡ filled_in field.entry (built arena.old place)) }
-    ensures goes { OnOk result (StepGoes field.entry (built arena.old place)) }
+    requires walked { IsWalked field (built_at arena.old place) }
+    requires room { IsRoomFor field (built_at arena.old place) }
+    ensures filled { OnOk result (built_at arena.new place
+        ≡ with_pointer_tree (built_at arena.old place) (pointer_index field.entry)
+        (filled_in field.entry (built_at arena.old place))) }
+    ensures here { OnOk result (pointer_in field.entry (built_at arena.new place)
+        ≡ filled_in field.entry (built_at arena.old place)) }
+    ensures goes { OnOk result (StepGoes field.entry (built_at arena.old place)) }
     ensures planted { OnOk result (IsBuilt arena.new place) }
     ensures changes { OnOk result (ChangesIn place arena.old arena.new) }
     ensures refused { OnErr result (segment arena.new ≡ segment arena.old) }
-    ensures cause { IfErr result (λ e. StepStops field.entry (built arena.old place) e.kind) }
+    ensures cause { IfErr result (λ e. StepStops field.entry (built_at arena.old place) e.kind) }
 {
     arena.struct_is_sound(place);
     part::fill_struct_slot(arena, place, field, schema)
@@ -64,14 +64,14 @@ pub fn enter_struct(
 pub fn enter_group(arena: &Arena, place: Place, field: Field<'_>)
     requires planted { IsBuilt arena.now place }
     requires group { IsGroup field }
-    requires walked { IsWalked field (built arena.now place) }
-    ensures { StepGoes field.entry (built arena.now place) }
+    requires walked { IsWalked field (built_at arena.now place) }
+    ensures { StepGoes field.entry (built_at arena.now place) }
 {}
 
 /// What the default of a field leads to is well-formed, and is what the field's type reads. The default is not read.
 #[inline(always)]
 fn default_is_sound(field: Field<'_>)
-    ensures formed { IsWellFormed (default_tree (default_of (typed_of field.entry).field)) }
+    ensures formed { IsWellFormed (value_default_tree (default_of (typed_of field.entry).field)) }
     ensures fits { DefaultFits (typed_of field.entry) }
 {
     defaults_fit();
@@ -94,20 +94,20 @@ fn default_is_sound(field: Field<'_>)
 pub fn enter_list(arena: &mut Arena, place: Place, field: Field<'_>, element: Type) -> Result<()>
     requires planted { IsBuilt arena.old place }
     requires leads { IsListSlot field element }
-    requires walked { IsWalked field (built arena.old place) }
-    requires room { IsRoomFor field (built arena.old place) }
-    ensures filled { OnOk result (built arena.new place
-        ≡ with_pointer_tree (built arena.old place) (pointer_index field.entry)
-        (filled_in field.entry (built arena.old place))) }
-    ensures here { OnOk result (pointer_in field.entry (built arena.new place)
-        ≡ filled_in field.entry (built arena.old place)) }
+    requires walked { IsWalked field (built_at arena.old place) }
+    requires room { IsRoomFor field (built_at arena.old place) }
+    ensures filled { OnOk result (built_at arena.new place
+        ≡ with_pointer_tree (built_at arena.old place) (pointer_index field.entry)
+        (filled_in field.entry (built_at arena.old place))) }
+    ensures here { OnOk result (pointer_in field.entry (built_at arena.new place)
+        ≡ filled_in field.entry (built_at arena.old place)) }
     ensures list { OnOk result (IsListStand (field_set field.entry) (seen_type element)
-        (filled_in field.entry (built arena.old place))) }
-    ensures goes { OnOk result (StepGoes field.entry (built arena.old place)) }
+        (filled_in field.entry (built_at arena.old place))) }
+    ensures goes { OnOk result (StepGoes field.entry (built_at arena.old place)) }
     ensures planted { OnOk result (IsBuilt arena.new place) }
     ensures changes { OnOk result (ChangesIn place arena.old arena.new) }
     ensures refused { OnErr result (segment arena.new ≡ segment arena.old) }
-    ensures cause { IfErr result (λ e. StepStops field.entry (built arena.old place) e.kind) }
+    ensures cause { IfErr result (λ e. StepStops field.entry (built_at arena.old place) e.kind) }
 {
     default_is_sound(field);
     numbers_fit(field.get_containing_struct().get_set());

@@ -1,7 +1,7 @@
 //! One step of a walk: from where it stands into the part that the step names.
 ghost use Rattle.capnp_arena.specs.Forest.{Forest, tree};
 ghost use Rattle.capnp_arena.specs.Segment.{segment};
-ghost use Rattle.capnp_arena.specs.Built.{IsBuilt, built};
+ghost use Rattle.capnp_arena.specs.Built.{IsBuilt, built_at};
 ghost use Rattle.std.specs.Prelude.{◌≡◌, ◌<◌, false};
 ghost use Rattle.capnp_wire.specs.Reading.{is_null_tree, list_length};
 ghost use Rattle.capnp_schema.specs.Accepted.{NamesEntries};
@@ -10,7 +10,7 @@ ghost use Rattle.capnp_schema.specs.StructHandles.{IsStruct, generic_of, number_
 ghost use Rattle.capnp_schema.specs.Types.{ListType, StructType, seen_type};
 ghost use Rattle.capnp_slots.specs.Fields.{IsRoomFor};
 ghost use Rattle.capnp_slots.specs.Groups.{IsGroupAt};
-ghost use Rattle.capnp_call.specs.Hops.{ElementGoes, FieldGoes, Goes, IsAt, IsAtList, IsAtStruct, Leads, LeadsOn, ListGoes, StructGoes, first_step};
+ghost use Rattle.capnp_call.specs.Hops.{ElementGoes, FieldGoes, HopGoes, IsAt, IsAtList, IsAtStruct, HopLeads, LeadsOn, ListGoes, StructGoes, first_step};
 ghost use Rattle.capnp_call.specs.Lists.{IsListStand, refusal_at_nothing};
 ghost use Rattle.capnp_call.specs.Seen.{step_seen};
 ghost use Rattle.capnp_call.specs.Walks.{IsWalked};
@@ -41,7 +41,7 @@ pub(crate) enum At<'s> {
 #[inline(always)]
 pub(crate) fn hop<'s>(arena: &mut Arena, at: At<'s>, step: &Step<'_>) -> Result<At<'s>>
     requires { IsAt at (segment arena.old) }
-    ensures { Leads (first_step (Goes at.entry (segment arena.old)) step.now) result (segment arena.new) }
+    ensures { HopLeads (first_step (HopGoes at.entry (segment arena.old)) step.now) result (segment arena.new) }
 {
     match at {
         At::Struct(place, schema) => hop_field(arena, place, schema, *step),
@@ -58,7 +58,7 @@ fn hop_field<'s>(
     step: Step<'_>,
 ) -> Result<At<'s>>
     requires { IsAtStruct place schema (segment arena.old) }
-    ensures { Leads (first_step (StructGoes place schema.entry (segment arena.old)) step.entry) result
+    ensures { HopLeads (first_step (StructGoes place schema.entry (segment arena.old)) step.entry) result
         (segment arena.new) }
 {
     match find_field(schema, step) {
@@ -71,8 +71,8 @@ fn hop_field<'s>(
 #[inline(always)]
 fn hop_into<'s>(arena: &mut Arena, place: Place, field: Field<'s>) -> Result<At<'s>>
     requires planted { IsBuilt arena.old place }
-    requires room { IsRoomFor field (built arena.old place) }
-    ensures { Leads (FieldGoes place field.entry (segment arena.old)) result (segment arena.new) }
+    requires room { IsRoomFor field (built_at arena.old place) }
+    ensures { HopLeads (FieldGoes place field.entry (segment arena.old)) result (segment arena.new) }
 {
     match way_of(arena, place, field) {
         Err(error) => Err(error),
@@ -85,9 +85,9 @@ fn hop_into<'s>(arena: &mut Arena, place: Place, field: Field<'s>) -> Result<At<
 fn hop_along<'s>(arena: &mut Arena, place: Place, field: Field<'s>, way: Way<'s>) -> Result<At<'s>>
     requires planted { IsBuilt arena.old place }
     requires leads { LeadsTo field way }
-    requires walked { IsWalked field (built arena.old place) }
-    requires room { IsRoomFor field (built arena.old place) }
-    ensures { Leads (FieldGoes place field.entry (segment arena.old)) result (segment arena.new) }
+    requires walked { IsWalked field (built_at arena.old place) }
+    requires room { IsRoomFor field (built_at arena.old place) }
+    ensures { HopLeads (FieldGoes place field.entry (segment arena.old)) result (segment arena.new) }
 {
     match way {
         Way::Group(group) => Ok(hop_to_group(arena, place, field, group)),
@@ -106,8 +106,8 @@ fn hop_to_group<'s>(
 ) -> At<'s>
     requires planted { IsBuilt arena.now place }
     requires leads { IsGroupAt field group }
-    requires walked { IsWalked field (built arena.now place) }
-    requires room { IsRoomFor field (built arena.now place) }
+    requires walked { IsWalked field (built_at arena.now place) }
+    requires room { IsRoomFor field (built_at arena.now place) }
     ensures { LeadsOn (FieldGoes place field.entry (segment arena.now)) result (segment arena.now) }
 {
     enter_group(arena, place, field);
@@ -124,9 +124,9 @@ fn hop_to_struct<'s>(
 ) -> Result<At<'s>>
     requires planted { IsBuilt arena.old place }
     requires leads { IsStructSlot field schema }
-    requires walked { IsWalked field (built arena.old place) }
-    requires room { IsRoomFor field (built arena.old place) }
-    ensures { Leads (FieldGoes place field.entry (segment arena.old)) result (segment arena.new) }
+    requires walked { IsWalked field (built_at arena.old place) }
+    requires room { IsRoomFor field (built_at arena.old place) }
+    ensures { HopLeads (FieldGoes place field.entry (segment arena.old)) result (segment arena.new) }
 {
     if let Err(error) = enter_struct(arena, place, field, schema) {
         return Err(error);
@@ -145,9 +145,9 @@ fn hop_to_list<'s>(
 ) -> Result<At<'s>>
     requires planted { IsBuilt arena.old place }
     requires leads { IsListSlot field element }
-    requires walked { IsWalked field (built arena.old place) }
-    requires room { IsRoomFor field (built arena.old place) }
-    ensures { Leads (FieldGoes place field.entry (segment arena.old)) result (segment arena.new) }
+    requires walked { IsWalked field (built_at arena.old place) }
+    requires room { IsRoomFor field (built_at arena.old place) }
+    ensures { HopLeads (FieldGoes place field.entry (segment arena.old)) result (segment arena.new) }
 {
     if let Err(error) = enter_list(arena, place, field, element) {
         return Err(error);
@@ -177,7 +177,7 @@ fn hop_element<'s>(
     step: Step<'_>,
 ) -> Result<At<'s>>
     requires { IsAtList word (lists_seen set.now) (seen_type element) (segment arena.old) }
-    ensures { Leads (first_step (ListGoes word (lists_seen set.now) (seen_type element) (segment arena.old))
+    ensures { HopLeads (first_step (ListGoes word (lists_seen set.now) (seen_type element) (segment arena.old))
         step.entry) result (segment arena.new) }
 {
     if arena.is_list(word) {
@@ -198,7 +198,7 @@ fn hop_at_list<'s>(
 ) -> Result<At<'s>>
     requires stands { IsAtList word (lists_seen set.now) (seen_type element) (segment arena.old) }
     requires there { is_null_tree (tree (segment arena.old) word) ≡ false }
-    ensures { Leads (first_step (ListGoes word (lists_seen set.now) (seen_type element) (segment arena.old))
+    ensures { HopLeads (first_step (ListGoes word (lists_seen set.now) (seen_type element) (segment arena.old))
         step.entry) result (segment arena.new) }
 {
     match step {
@@ -219,7 +219,7 @@ fn hop_in_list<'s>(
 ) -> Result<At<'s>>
     requires stands { IsAtList word (lists_seen set.now) (seen_type element) (segment arena.old) }
     requires there { is_null_tree (tree (segment arena.old) word) ≡ false }
-    ensures { Leads (first_step (ListGoes word (lists_seen set.now) (seen_type element) (segment arena.old))
+    ensures { HopLeads (first_step (ListGoes word (lists_seen set.now) (seen_type element) (segment arena.old))
         (Step.Element index)) result (segment arena.new) }
 {
     if index >= arena.get_length(word) {
@@ -239,7 +239,7 @@ fn hop_to_element<'s>(
 ) -> Result<At<'s>>
     requires stands { IsAtList word (lists_seen set.now) (seen_type element) (segment arena.old) }
     requires inside { index < list_length (tree (segment arena.old) word) }
-    ensures { Leads (ElementGoes word (lists_seen set.now) (seen_type element) index (segment arena.old)) result
+    ensures { HopLeads (ElementGoes word (lists_seen set.now) (seen_type element) index (segment arena.old)) result
         (segment arena.new) }
 {
     match element.which() {
@@ -283,7 +283,7 @@ fn hop_to_list_in<'s>(
     requires entries { NamesEntries (lists_seen set.now) (seen_type inner) }
     requires list { IsListStand (lists_seen set.now) (ListType (seen_type inner)) (tree (segment arena.old) word) }
     requires inside { index < list_length (tree (segment arena.old) word) }
-    ensures { Leads (ElementGoes word (lists_seen set.now) (ListType (seen_type inner)) index
+    ensures { HopLeads (ElementGoes word (lists_seen set.now) (ListType (seen_type inner)) index
         (segment arena.old)) result (segment arena.new) }
 {
     numbers_fit(set);

@@ -11,7 +11,7 @@ ghost use Rattle.capnp_slots.specs.Standing.{IsUnder};
 ghost use Rattle.capnp_dynamic_readers.specs.Pieces.{IsAppended};
 ghost use Rattle.capnp_call.specs.Messages.{HasRoot, IsCopiedRefusal, IsRoot, IsWhole, IsWholeRefusal, LeavesRun};
 ghost use Rattle.capnp_call.specs.Messages.{RunsOn, copied_record, copied_root, new_record, new_root, read_text, root_refusal, root_text};
-ghost use Rattle.capnp_call.specs.Runs.{IsMade, Makes, RestsWhole};
+ghost use Rattle.capnp_call.specs.Runs.{IsCallMade, MakesCalls, RestsWhole};
 
 use crate::calls::{Call, Reply};
 use crate::runs::call_at;
@@ -129,7 +129,7 @@ fn call_on_root(
     ensures message { IsMessage message.new }
     ensures here { IsTrue (is_struct (message_tree message.new)) }
     ensures room { IsUnder schema.entry (struct_in (message_tree message.new)) }
-    ensures made { IsMade (set_of schema.entry) (number_of schema.entry) (struct_in (message_tree message.old)) call.now
+    ensures made { IsCallMade (set_of schema.entry) (number_of schema.entry) (struct_in (message_tree message.old)) call.now
         result (struct_in (message_tree message.new)) }
 {
     let place = message.struct_here(0);
@@ -149,7 +149,7 @@ fn make_calls_on_root(
     requires room { IsUnder schema (struct_in (message_tree message.old)) }
     ensures message { IsMessage message.new }
     ensures here { IsTrue (is_struct (message_tree message.new)) }
-    ensures made { IfOk result (λ replies. Makes (set_of schema.entry) (number_of schema.entry)
+    ensures made { IfOk result (λ replies. MakesCalls (set_of schema.entry) (number_of schema.entry)
         (struct_in (message_tree message.old)) calls.now replies.items
         (struct_in (message_tree message.new))) }
     ensures cause { IfErr result (λ e. e.kind ≡ OutOfMemory) }
@@ -181,7 +181,7 @@ fn run_root(
     ensures message { IsMessage message.new }
     ensures run { IfOk result (λ replies. RunsOn schema.entry (message_tree message.old) calls.now replies.items
         (message_tree message.new)) }
-    ensures made { IfOk result (λ replies. Makes (set_of schema.entry) (number_of schema.entry)
+    ensures made { IfOk result (λ replies. MakesCalls (set_of schema.entry) (number_of schema.entry)
         (struct_in (message_tree message.old)) calls.now replies.items
         (struct_in (message_tree message.new))) }
     ensures cause { IfErr result (λ e. e.kind ≡ OutOfMemory) }
@@ -212,7 +212,7 @@ pub fn run_new(
     ensures message { IfOk result (λ left. IsMessage left.message) }
     ensures run { IfOk result (λ left. LeavesRun schema.entry (new_record schema.entry) calls.now left.replies.items
         (message_tree left.message)) }
-    ensures made { IfOk result (λ left. Makes (set_of schema.entry) (number_of schema.entry)
+    ensures made { IfOk result (λ left. MakesCalls (set_of schema.entry) (number_of schema.entry)
         (new_root schema.entry) calls.now left.replies.items
         (struct_in (message_tree left.message))) }
     ensures rests { IfOk result (λ left. RestsWhole schema.entry (new_root schema.entry) calls.now
@@ -244,7 +244,7 @@ pub fn run_copied(
     ensures run { IfOk result (λ left. LeavesRun schema.entry
         (copied_record schema.entry source.entry) calls.now left.replies.items
         (message_tree left.message)) }
-    ensures made { IfOk result (λ left. Makes (set_of schema.entry) (number_of schema.entry)
+    ensures made { IfOk result (λ left. MakesCalls (set_of schema.entry) (number_of schema.entry)
         (copied_root schema.entry source.entry) calls.now left.replies.items
         (struct_in (message_tree left.message))) }
     ensures rests { IfOk result (λ left. RestsWhole schema.entry

@@ -3,10 +3,10 @@ ghost use Rattle.std.specs.Prelude.{◌≡◌, IfErr, IfOk, OnErr};
 ghost use Rattle.capnp_device.specs.declared.error.ErrorKind.TheVariants.{OutOfMemory};
 ghost use Rattle.capnp_arena.specs.Segment.{segment};
 ghost use Rattle.capnp_schema.specs.StructHandles.{IsStruct, number_of, set_of};
-ghost use Rattle.capnp_arena.specs.Built.{ChangesIn, IsBuilt, built};
+ghost use Rattle.capnp_arena.specs.Built.{ChangesIn, IsBuilt, built_at};
 ghost use Rattle.capnp_slots.specs.Groups.{KeepsSize};
 ghost use Rattle.capnp_slots.specs.Standing.{TakesCalls};
-ghost use Rattle.capnp_call.specs.Runs.{IsMade, Makes, RestsWhole, RunsTo};
+ghost use Rattle.capnp_call.specs.Runs.{IsCallMade, MakesCalls, RestsWhole, RunsTo};
 
 use crate::calls::{Call, Ending, Reply};
 use crate::walk::walk;
@@ -27,8 +27,8 @@ pub(crate) fn call_at(
     call: &Call<'_>,
 ) -> Reply
     requires ready { TakesCalls schema arena.old place }
-    ensures made { IsMade (set_of schema.entry) (number_of schema.entry) (built arena.old place) call.now result
-        (built arena.new place) }
+    ensures made { IsCallMade (set_of schema.entry) (number_of schema.entry) (built_at arena.old place) call.now result
+        (built_at arena.new place) }
     ensures planted { IsBuilt arena.new place }
     ensures changes { ChangesIn place arena.old arena.new }
 {
@@ -44,9 +44,9 @@ fn make_calls(
     calls: &[Call<'_>],
 ) -> Result<Vec<Reply>>
     requires ready { TakesCalls schema arena.old place }
-    ensures made { IfOk result (λ replies. Makes (set_of schema.entry) (number_of schema.entry)
-        (built arena.old place) calls.now replies.items
-        (built arena.new place)) }
+    ensures made { IfOk result (λ replies. MakesCalls (set_of schema.entry) (number_of schema.entry)
+        (built_at arena.old place) calls.now replies.items
+        (built_at arena.new place)) }
     ensures planted { IsBuilt arena.new place }
     ensures changes { ChangesIn place arena.old arena.new }
     ensures refused { OnErr result (segment arena.new ≡ segment arena.old) }
@@ -77,13 +77,13 @@ pub fn run_on(
     calls: &[Call<'_>],
 ) -> Result<Vec<Reply>>
     requires ready { TakesCalls schema arena.old place }
-    ensures runs { IfOk result (λ replies. RunsTo schema.entry (built arena.old place) calls.now replies.items
-        (built arena.new place)) }
-    ensures made { IfOk result (λ replies. Makes (set_of schema.entry) (number_of schema.entry)
-        (built arena.old place) calls.now replies.items
-        (built arena.new place)) }
-    ensures rests { IfOk result (λ replies. RestsWhole schema.entry (built arena.old place) calls.now replies.items) }
-    ensures kept { KeepsSize (built arena.old place) (built arena.new place) }
+    ensures runs { IfOk result (λ replies. RunsTo schema.entry (built_at arena.old place) calls.now replies.items
+        (built_at arena.new place)) }
+    ensures made { IfOk result (λ replies. MakesCalls (set_of schema.entry) (number_of schema.entry)
+        (built_at arena.old place) calls.now replies.items
+        (built_at arena.new place)) }
+    ensures rests { IfOk result (λ replies. RestsWhole schema.entry (built_at arena.old place) calls.now replies.items) }
+    ensures kept { KeepsSize (built_at arena.old place) (built_at arena.new place) }
     ensures planted { IsBuilt arena.new place }
     ensures changes { ChangesIn place arena.old arena.new }
     ensures refused { OnErr result (segment arena.new ≡ segment arena.old) }

@@ -1,6 +1,6 @@
 //! The walk of a path: a step after another, each into a part of what the one before it entered.
 ghost use Rattle.capnp_arena.specs.Segment.{segment};
-ghost use Rattle.capnp_arena.specs.Built.{ChangesIn, IsBuilt, built};
+ghost use Rattle.capnp_arena.specs.Built.{ChangesIn, IsBuilt, built_at};
 ghost use Rattle.std.specs.Prelude.{[]};
 ghost use Rattle.capnp_wire.specs.Tree.{Null};
 ghost use Rattle.capnp_schema.specs.Entries.{lists_seen};
@@ -8,7 +8,7 @@ ghost use Rattle.capnp_schema.specs.Schema.{Schemas};
 ghost use Rattle.capnp_schema.specs.StructHandles.{number_of, set_of};
 ghost use Rattle.capnp_schema.specs.Types.{SchemaType, seen_type};
 ghost use Rattle.capnp_slots.specs.Standing.{TakesCalls};
-ghost use Rattle.capnp_call.specs.Hops.{Goes, IsAt, IsAtList, ListGoes, StructGoes};
+ghost use Rattle.capnp_call.specs.Hops.{HopGoes, IsAt, IsAtList, ListGoes, StructGoes};
 ghost use Rattle.capnp_call.specs.Lists.{ListWalks};
 ghost use Rattle.capnp_call.specs.Memory.{IsNotForRoom, PathRests};
 ghost use Rattle.capnp_call.specs.Seen.{reply_seen};
@@ -44,9 +44,9 @@ pub fn walk(
 ) -> Reply
     requires ready { TakesCalls schema arena.old place }
     ensures walks { StructWalks (set_of schema.entry) (number_of schema.entry) path.now end.entry
-        (built arena.old place) result
-        (built arena.new place) }
-    ensures rests { PathRests schema.entry path.now end.entry (built arena.old place)
+        (built_at arena.old place) result
+        (built_at arena.new place) }
+    ensures rests { PathRests schema.entry path.now end.entry (built_at arena.old place)
         → IsNotForRoom (reply_seen result) }
     ensures planted { IsBuilt arena.new place }
     ensures changes { ChangesIn place arena.old arena.new }
@@ -85,7 +85,7 @@ fn walk_all(
 #[inline(always)]
 fn end_at(arena: &mut Arena, at: At<'_>, end: Ending<'_>, reply: &mut Reply)
     requires { IsAt at (segment arena.old) }
-    ensures { Goes at.entry (segment arena.old) [] end.entry reply.new (segment arena.new) }
+    ensures { HopGoes at.entry (segment arena.old) [] end.entry reply.new (segment arena.new) }
 {
     match at {
         At::Struct(place, schema) => *reply = end_at_struct(arena, place, schema, end),

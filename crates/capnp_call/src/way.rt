@@ -1,6 +1,6 @@
 //! Where a step at a struct leads.
 ghost use Rattle.capnp_arena.specs.Segment.{segment};
-ghost use Rattle.capnp_arena.specs.Built.{ChangesIn, IsBuilt, built};
+ghost use Rattle.capnp_arena.specs.Built.{ChangesIn, IsBuilt, built_at};
 ghost use Rattle.std.specs.Prelude.{◌≡◌, IfOk};
 ghost use Rattle.capnp_wire.specs.Place.{struct_tree};
 ghost use Rattle.capnp_schema.specs.FieldLists.{index_of, typed_of};
@@ -10,7 +10,7 @@ ghost use Rattle.capnp_schema.specs.Accepted.{NamesEntries};
 ghost use Rattle.capnp_records.specs.Part.{is_inactive};
 ghost use Rattle.capnp_records.specs.Reading.{reads};
 ghost use Rattle.capnp_records.specs.Record.{Record, Value};
-ghost use Rattle.capnp_records.specs.Step.{in_record, walked};
+ghost use Rattle.capnp_records.specs.Step.{in_record, passed_target};
 ghost use Rattle.capnp_slots.specs.Fields.{field_brand, field_set};
 ghost use Rattle.capnp_call.specs.Seen.{step_seen};
 ghost use Rattle.capnp_call.specs.Ways.{IsNamedBy, LeadsTo, found_target, target_in, way_target};
@@ -71,7 +71,7 @@ fn find_numbered(schema: StructSchema<'_>, index: u16) -> Result<Field<'_>>
 #[inline(always)]
 pub fn is_inactive(arena: &Arena, place: Place, field: Field<'_>) -> bool
     requires planted { IsBuilt arena.now place }
-    ensures { result ≡ is_inactive (reads (field_set field.entry) (built arena.now place) (field_brand field.entry))
+    ensures { result ≡ is_inactive (reads (field_set field.entry) (built_at arena.now place) (field_brand field.entry))
         (typed_of field.entry).field
         (index_of field.entry) }
 {
@@ -89,8 +89,8 @@ pub fn is_inactive(arena: &Arena, place: Place, field: Field<'_>) -> bool
 #[inline(always)]
 pub fn way_of<'s>(arena: &Arena, place: Place, field: Field<'s>) -> Result<Way<'s>>
     requires planted { IsBuilt arena.now place }
-    ensures walked { (whole : Record → Value) → way_target (target_in whole field.entry (built arena.now place)) result
-        ≡ walked (target_in whole field.entry (built arena.now place)) }
+    ensures walked { (whole : Record → Value) → way_target (target_in whole field.entry (built_at arena.now place)) result
+        ≡ passed_target (target_in whole field.entry (built_at arena.now place)) }
     ensures leads { IfOk result (LeadsTo field.entry) }
 {
     if is_inactive(arena, place, field) {

@@ -15,12 +15,12 @@ use Rattle.capnp_records.specs.Record as value
 use Rattle.capnp_records.specs.Record.{Value}
 use Rattle.capnp_dynamic_readers.specs.Handles.{element_of, list_set}
 use Rattle.capnp_dynamic_readers.specs.Reads.{element_seen}
-use Rattle.capnp_dynamic_readers.specs.Seen.{answered, value_seen}
+use Rattle.capnp_dynamic_readers.specs.Seen.{answered_value, value_seen}
 use Rattle.capnp_dynamic_readers.specs.Typed.{IsOf}
 use Rattle.capnp_dynamic_readers.specs.declared.dynamic_list.Reader.{Reader as ListHandle}
 use Rattle.capnp_dynamic_readers.specs.declared.dynamic_value.Reader.{Reader as DynamicValue}
 use Rattle.capnp_dynamic_readers.specs.declared.dynamic_value.Reader.TheVariants as dynamic
-use Rattle.capnp_callers.specs.Values.{AreFirstOf, IsNoNumberOf, IsNoUInt16, count_of}
+use Rattle.capnp_callers.specs.Values.{AreFirstOf, IsNoNumberOf, IsNoUInt16, built_count}
 
 -- the first of the indices that are still to come, and the others
 pub first-index : (k n i : ℕ) (rest : List ℕ) → indices k n ≡ i ∷ rest → (i ≡ k) × (k < n) × (rest ≡ indices (k + 1) n)
@@ -56,18 +56,18 @@ one-more l numbers x first is i h = elim (cases_lt i (length numbers)) [
 
 -- what a list answers at an index
 abbrev pub IsAnswer : ListHandle → ℕ → Result DynamicValue Error → Type 0
-IsAnswer l i x = (answered x ≡ element_seen l i) × (NamesEntries (list_set l) (element_of l) → IfOk x (IsOf (list_set l) (element_of l)))
+IsAnswer l i x = (answered_value x ≡ element_seen l i) × (NamesEntries (list_set l) (element_of l) → IfOk x (IsOf (list_set l) (element_of l)))
 
 module _ (l : ListHandle) (k : ℕ) where
   -- the element that a loop is given once it had so many
   pub record IsNext (x : Result DynamicValue Error) (b : List ℕ) : Type 0 where
-    pub inside : k < count_of l
-    pub rest : b ≡ indices (k + 1) (count_of l)
+    pub inside : k < built_count l
+    pub rest : b ≡ indices (k + 1) (built_count l)
     pub answer : IsAnswer l k x
 
-  pub next-element : (s : ListHandle) (a b : List ℕ) (i : ℕ) (x : Result DynamicValue Error) → s ≡ l → a ≡ indices k (count_of l) → a ≡ i ∷ b → IsAnswer s i x → IsNext x b
+  pub next-element : (s : ListHandle) (a b : List ℕ) (i : ℕ) (x : Result DynamicValue Error) → s ≡ l → a ≡ indices k (built_count l) → a ≡ i ∷ b → IsAnswer s i x → IsNext x b
   next-element s a b i x same left first is =
-      let h = first-index k (count_of l) i b (sym left ∙ first) in
+      let h = first-index k (built_count l) i b (sym left ∙ first) in
       record {
         inside = h.1;
         rest = h.2;
@@ -92,15 +92,15 @@ module _ (l : ListHandle) (k : ℕ) where
 
   -- and else it is the next number
   number-is : (x : Result DynamicValue Error) (b : List ℕ) (n : ℕ) → IsNext x b → x ≡ Ok (dynamic.UInt16 n) → element_seen l k ≡ value.Number (pos n)
-  number-is x b n next is = sym next.answer.0 ∙ ap answered is
+  number-is x b n next is = sym next.answer.0 ∙ ap answered_value is
 
 -- one number more was read
 pub read-on : (l : ListHandle) (numbers new : List ℕ) (n : ℕ) (x : Result DynamicValue Error) (b : List ℕ) → IsNext l (length numbers) x b → x ≡ Ok (dynamic.UInt16 n) → new ≡ numbers ++ n ∷ [] → AreFirstOf l numbers →
-    (b ≡ indices (length new) (count_of l)) × (length new ≤ count_of l) × AreFirstOf l new
+    (b ≡ indices (length new) (built_count l)) × (length new ≤ built_count l) × AreFirstOf l new
 read-on l numbers new n x b next is grown first =
     let longer : length new ≡ length numbers + 1 = ap length grown ∙ length-append numbers (n ∷ []) in
     let inside = next.inside in (
-      next.rest ∙ ap (λ (k : ℕ). indices k (count_of l)) (sym longer),
+      next.rest ∙ ap (λ (k : ℕ). indices k (built_count l)) (sym longer),
       omega (arith, longer, inside),
       subst (AreFirstOf l) (sym grown) (one-more l numbers n first (number-is l (length numbers) x b n next is)),
     )
@@ -128,12 +128,12 @@ there-mismatched t (dynamic.AnyPointer p) kind h = h
 
 module _ (l : ListHandle) (numbers : List ℕ) (first : AreFirstOf l numbers) (x : Result DynamicValue Error) (b : List ℕ) (next : IsNext l (length numbers) x b) where
   -- what the next element answers says why it is no number
-  none-of : (v : Value) (kind : ErrorKind) → answered x ≡ v → IsNoUInt16 (element_of l) v kind → IsNoNumberOf l kind
+  none-of : (v : Value) (kind : ErrorKind) → answered_value x ≡ v → IsNoUInt16 (element_of l) v kind → IsNoNumberOf l kind
   none-of v kind is none = (numbers, next.inside, first, subst (λ (w : Value). IsNoUInt16 (element_of l) w kind) (sym is ∙ next.answer.0) none)
 
   pub element-refused : (e : Error) → x ≡ Err e → IsNoNumberOf l e.kind
-  element-refused e is = none-of (value.Fault e.kind) e.kind (ap answered is) refl
+  element-refused e is = none-of (value.Fault e.kind) e.kind (ap answered_value is) refl
 
   pub element-mismatched : (v : DynamicValue) (kind : ErrorKind) → x ≡ Ok v → ((n : ℕ) → v ≡ dynamic.UInt16 n → ⊥) → kind ≡ TypeMismatch → IsNoNumberOf l kind
   element-mismatched v kind is other e =
-      none-of (value_seen v) kind (ap answered is) (there-mismatched (element_of l) v kind (e, not-uint16 l (length numbers) x b v next is other))
+      none-of (value_seen v) kind (ap answered_value is) (there-mismatched (element_of l) v kind (e, not-uint16 l (length numbers) x b v next is other))

@@ -11,13 +11,13 @@ use Rattle.capnp_schema.specs.declared.schema.fields.Field.{Field}
 use Rattle.capnp_schema.specs.declared.schema.structs.StructSchema.{StructSchema}
 use Rattle.capnp_records.specs.Record.{Left}
 use Rattle.capnp_slots.specs.Fields.{IsSlot}
-use Rattle.capnp_slots.specs.ReadBack.{HasKind, IsWhole}
+use Rattle.capnp_slots.specs.ReadBack.{HasKind, IsWithoutParts}
 use Rattle.capnp_slots.specs.Standing.{IsUnder}
 use Rattle.capnp_slots.specs.FieldWrites.{IsFieldSet}
 use Rattle.capnp_dynamic_readers.specs.Handles.{reader_of, schema_of}
 use Rattle.capnp_dynamic.specs.ReadBack.{SetIsGot}
 use Rattle.capnp_dynamic_readers.specs.Reads.{BelongsTo, field_read, field_seen}
-use Rattle.capnp_dynamic_readers.specs.Seen.{answered, value_seen}
+use Rattle.capnp_dynamic_readers.specs.Seen.{answered_value, value_seen}
 use Rattle.capnp_slots.specs.SetValues.{source_of}
 use Rattle.capnp_dynamic_readers.specs.declared.dynamic_struct.Reader.{Reader as StructHandle}
 use Rattle.capnp_dynamic_readers.specs.declared.dynamic_value.Reader.{Reader as DynamicValue}
@@ -25,7 +25,7 @@ use Rattle.capnp_dynamic_readers.specs.declared.dynamic_value.Reader.TheVariants
 use Rattle.capnp_callers.proofs.CutReads.{IsLeaf, leaf_cut}
 
 -- a number, truth value, enum, text or data has no parts
-whole_is_leaf : (v : DynamicValue) → IsWhole (source_of v) → IsLeaf (value_seen v)
+whole_is_leaf : (v : DynamicValue) → IsWithoutParts (source_of v) → IsLeaf (value_seen v)
 whole_is_leaf (dynamic.Struct s) whole = absurd whole
 whole_is_leaf (dynamic.List l) whole = absurd whole
 whole_is_leaf (dynamic.AnyPointer p) whole = absurd whole
@@ -33,8 +33,8 @@ whole_is_leaf v whole = tt
 
 pub set_is_got : (f : Field) (v : DynamicValue) (schema : StructSchema) (old new : StructTree) (s : StructHandle) (r : Result DynamicValue Error) → SetIsGot f v →
     BelongsTo f schema → IsUnder schema old → IsSlot f → IsFieldSet f (source_of v) old None new →
-    schema_of s ≡ schema → struct_levels (reader_of s) ≡ 64 → IsStructCutOf (struct_of (reader_of s)) new → answered r ≡ field_seen s (index_of f) →
-    IsWhole (source_of v) → HasKind (typed_of f).type → IfOk r (λ got. value_seen got ≡ value_seen v)
+    schema_of s ≡ schema → struct_levels (reader_of s) ≡ 64 → IsStructCutOf (struct_of (reader_of s)) new → answered_value r ≡ field_seen s (index_of f) →
+    IsWithoutParts (source_of v) → HasKind (typed_of f).type → IfOk r (λ got. value_seen got ≡ value_seen v)
 set_is_got f v schema old new s (Ok got) law belongs under slot set same_schema levels cut is whole kind =
     let set_got : field_read (set_of schema) (Left 64) new (struct_field schema (index_of f)) ≡ value_seen v = law schema belongs old new under slot set whole kind (Left 64) in
     is

@@ -27,20 +27,20 @@ abbrev pub IsBetween : Schemas → ℕ → ℕ → StructSchema × StructSchema 
 IsBetween set older newer pair = IsBrand set older (older_of pair) × IsBrand set newer (newer_of pair)
 
 -- the record of a struct under a brand
-abbrev pub record_under : Schemas → StructReader → ℕ → Record
-record_under set sections number = struct_record set (Left (struct_levels sections)) (struct_of sections) number
+abbrev pub reader_record_under : Schemas → StructReader → ℕ → Record
+reader_record_under set sections number = struct_record set (Left (struct_levels sections)) (struct_of sections) number
 
 -- a reader of the struct under the older brand, which sees the projection of its record under the newer; where lists became
 -- lists of structs, if they are read, and but for the levels of missing parts
 abbrev pub IsSeenByOlder : Schemas → ℕ → ℕ → StructReader → StructHandle → Type 0
 IsSeenByOlder set older newer sections r =
     IsBrand set older (schema_of r) × (reader_of r ≡ sections)
-    × (IsCompatible set older newer → record_seen r ≡ projection_of set older newer (record_under set sections newer))
-    × (AreUpgradesRead set older newer (record_seen r) (record_under set sections newer) → IsSeenOf set older newer (record_seen r) (record_under set sections newer))
+    × (IsCompatible set older newer → record_seen r ≡ projection_of set older newer (reader_record_under set sections newer))
+    × (AreUpgradesRead set older newer (record_seen r) (reader_record_under set sections newer) → IsSeenOf set older newer (record_seen r) (reader_record_under set sections newer))
 
 -- a reader of the struct under the newer brand, of whose record the older brand sees the projection, likewise
 abbrev pub IsSeenByNewer : Schemas → ℕ → ℕ → StructReader → StructHandle → Type 0
 IsSeenByNewer set older newer sections r =
     IsBrand set newer (schema_of r) × (reader_of r ≡ sections)
-    × (IsCompatible set older newer → projection_of set older newer (record_seen r) ≡ record_under set sections older)
-    × (AreUpgradesRead set older newer (record_under set sections older) (record_seen r) → IsSeenOf set older newer (record_under set sections older) (record_seen r))
+    × (IsCompatible set older newer → projection_of set older newer (record_seen r) ≡ reader_record_under set sections older)
+    × (AreUpgradesRead set older newer (reader_record_under set sections older) (record_seen r) → IsSeenOf set older newer (reader_record_under set sections older) (record_seen r))

@@ -5,12 +5,12 @@ use Rattle.capnp_wire.specs.Edits.{struct_in}
 use Rattle.capnp_wire.specs.Tree.{Tree}
 use Rattle.capnp_schema.specs.declared.schema.structs.StructSchema.{StructSchema}
 use Rattle.capnp_call.specs.Messages.{IsWhole, copy_of}
-use Rattle.capnp_call.specs.Runs.{record_in}
+use Rattle.capnp_call.specs.Runs.{record_under_schema}
 use Rattle.capnp_call.specs.declared.calls.Call.{Call}
 use Rattle.capnp_call.specs.declared.calls.Reply.{Reply}
 
 -- A stream whose root is read, and calls that led from the record of that root to that of the message in other bytes, whose
 -- text is appended.
 abbrev pub IsRunOn : StructSchema → Result Tree ErrorKind → List Call → List Reply → (bytes : List ℕ) → (indented : Bool) → (old new : List ℕ) → Type 0
-IsRunOn schema (Ok root) calls replies bytes indented old new = IsWhole schema (record_in schema (struct_in root)) (copy_of schema root) calls replies bytes indented old new
+IsRunOn schema (Ok root) calls replies bytes indented old new = IsWhole schema (record_under_schema schema (struct_in root)) (copy_of schema root) calls replies bytes indented old new
 IsRunOn schema (Err kind) calls replies bytes indented old new = ⊥

@@ -19,8 +19,8 @@ use Rattle.capnp_dynamic_readers.specs.declared.dynamic_list.Reader.{Reader as L
 use Rattle.capnp_dynamic_readers.specs.declared.dynamic_value.Reader.TheVariants as dynamic
 
 -- how many elements a list has
-abbrev pub count_of : ListHandle → ℕ
-count_of l = list_length (list_of (list_reader_of l))
+abbrev pub built_count : ListHandle → ℕ
+built_count l = list_length (list_of (list_reader_of l))
 
 -- the first elements of a list are these numbers
 abbrev pub AreFirstOf : ListHandle → List ℕ → Type 0
@@ -28,7 +28,7 @@ AreFirstOf l numbers = (i : ℕ) → i < length numbers → element_seen l i ≡
 
 -- numbers are those of a list, in its order
 abbrev pub AreNumbersOf : ListHandle → List ℕ → Type 0
-AreNumbersOf l numbers = (length numbers ≡ count_of l) × AreFirstOf l numbers
+AreNumbersOf l numbers = (length numbers ≡ built_count l) × AreFirstOf l numbers
 
 -- why an element of a list of this type is no UInt16: its read is refused, or it is there and of another type
 abbrev pub IsNoUInt16 : SchemaType → Value → ErrorKind → Type 0
@@ -37,7 +37,7 @@ IsNoUInt16 t v kind = (kind ≡ TypeMismatch) × (UIntType 2 ≡ t → ⊥)
 
 -- why a list's numbers are not read: the first elements are numbers, and the one after them is none
 abbrev pub IsNoNumberOf : ListHandle → ErrorKind → Type 0
-IsNoNumberOf l kind = (numbers : List ℕ) × (length numbers < count_of l) × AreFirstOf l numbers
+IsNoNumberOf l kind = (numbers : List ℕ) × (length numbers < built_count l) × AreFirstOf l numbers
     × IsNoUInt16 (element_of l) (element_seen l (length numbers)) kind
 
 -- a number that is given

@@ -2,7 +2,7 @@
 ghost use Rattle.std.specs.Prelude.{◌≡◌, IfErr, IfOk, IfSome, None, Some};
 ghost use Rattle.std.specs.Option.{option_map};
 ghost use Rattle.capnp_device.specs.declared.error.ErrorKind.TheVariants.{FieldNotFound};
-ghost use Rattle.capnp_schema.specs.FieldLists.{schema_of};
+ghost use Rattle.capnp_schema.specs.FieldLists.{field_schema};
 ghost use Rattle.capnp_schema.specs.Plan.{plan_of};
 ghost use Rattle.capnp_schema.specs.Query.{field_named};
 ghost use Rattle.capnp_schema.specs.StructHandles.{IsStruct, number_of, set_of, struct_field, struct_records};
@@ -26,7 +26,7 @@ pub fn plan_of_named(schema: StructSchema<'_>, name: &str) -> Result<SlotPlan>
 
 /// The schema of the structs that a field's lists hold, where its type is a list of structs.
 pub fn element_struct<'s>(field: &Field<'s>) -> Option<StructSchema<'s>>
-    ensures { IfSome result (λ s. IsStruct s × (set_of s ≡ set_of (schema_of field.now))) }
+    ensures { IfSome result (λ s. IsStruct s × (set_of s ≡ set_of (field_schema field.now))) }
 {
     types_go_by_layers();
     let TypeVariant::List(element) = field.get_type().which() else {

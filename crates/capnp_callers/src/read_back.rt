@@ -2,7 +2,7 @@
 ghost use Rattle.std.specs.Prelude.{◌≡◌, IfOk};
 ghost use Rattle.capnp_schema.specs.FieldLists.{typed_of};
 ghost use Rattle.capnp_slots.specs.Fields.{IsSlot};
-ghost use Rattle.capnp_slots.specs.ReadBack.{HasKind, IsWhole};
+ghost use Rattle.capnp_slots.specs.ReadBack.{HasKind, IsWithoutParts};
 ghost use Rattle.capnp_dynamic.specs.Built.{IsReady, built_schema};
 ghost use Rattle.capnp_dynamic_readers.specs.Reads.{BelongsTo};
 ghost use Rattle.capnp_dynamic_readers.specs.Seen.{value_seen};
@@ -24,7 +24,7 @@ pub fn set_and_get<'a>(
     requires belongs { BelongsTo field (built_schema builder) }
     requires ready { IsReady builder }
     requires slot { IsSlot field }
-    ensures { IsWhole (source_of value.entry) → HasKind (typed_of field.entry).type
+    ensures { IsWithoutParts (source_of value.entry) → HasKind (typed_of field.entry).type
         → IfOk result (λ got. value_seen got ≡ value_seen value.entry) }
 {
     sets_are_got(field, value);

@@ -4,7 +4,7 @@ ghost use Rattle.std.specs.Prelude.{◌≡◌, ◌≢◌, IfErr, IfOk, IsErrAnd,
 ghost use Rattle.capnp_device.specs.declared.error.ErrorKind.TheVariants.{FieldNotFound, NoSuchElement, OutOfMemory, TypeMismatch};
 ghost use Rattle.capnp_arena.specs.Forest.{Changes};
 ghost use Rattle.capnp_arena.specs.Segment.{segment};
-ghost use Rattle.capnp_builders.specs.Blobs.{IsText};
+ghost use Rattle.capnp_builders.specs.Blobs.{IsBuiltText};
 ghost use Rattle.capnp_schema.specs.FieldLists.{typed_of};
 ghost use Rattle.capnp_schema.specs.Query.{field_named};
 ghost use Rattle.capnp_schema.specs.StructHandles.{struct_records};
@@ -73,7 +73,7 @@ pub fn set_number(list: &mut dynamic_list::Builder<'_>, index: u32, number: u16)
 fn text_of<'a>(part: dynamic_value::Builder<'a>) -> Result<text::Builder<'a>>
     requires { CanBeRead part }
     ensures is { IfOk result (λ b. built.Text b ≡ part.entry) }
-    ensures ready { IfOk result IsText }
+    ensures ready { IfOk result IsBuiltText }
     ensures refused { IfErr result (λ e. (e.kind ≡ TypeMismatch) × IsNoText part.entry) }
 {
     match part {
@@ -90,7 +90,7 @@ pub fn text_in<'a>(builder: dynamic_struct::Builder<'a>, name: &str) -> Result<t
     requires { IsReady builder }
     ensures stands { (f : Field) → IsNamed (built_schema builder.entry) name.now f
         → IfOk result (λ b. HandsField f (built_struct builder.entry) (built.Text b)) }
-    ensures ready { IfOk result IsText }
+    ensures ready { IfOk result IsBuiltText }
     ensures owner { (f : Field) → IsNamed (built_schema builder.entry) name.now f
         → IfOk result (λ b. IsGotOf (struct_behind builder.entry) (place_of builder.entry) f (built.Text b)) }
     ensures cause { (f : Field) → IsNamed (built_schema builder.entry) name.now f

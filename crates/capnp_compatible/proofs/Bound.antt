@@ -8,7 +8,7 @@ use Rattle.std.proofs.lemmas.Map.Steps.{length-le_from_distinct_below}
 use Rattle.std.proofs.lemmas.Map.Keys.{IsDistinct-cons}
 use Rattle.capnp_schema.specs.Schema.{Schemas}
 use Rattle.capnp_compatible.specs.declared.pairs.Pair.{Pair}
-use Rattle.capnp_compatible.specs.Closing.{Apart, Within, brand_pairs, is_pair, listed}
+use Rattle.capnp_compatible.specs.Closing.{Apart, Within, brand_pairs, is_pair, listed_pairs}
 use Rattle.capnp_compatible.proofs.Lists.{at_listed, is-same, or-right}
 use Rattle.capnp_compatible.proofs.Walking.{first_in, second_in}
 
@@ -36,15 +36,15 @@ right-false false y e = e
 neither : (x y : Bool) → x ≡ false → y ≡ false → x || y ≡ false
 neither x y e f = cc
 
-not-last : (xs : List Pair) (a b : ℕ) (p : Pair) → listed xs a b ≡ false → is_pair a b p ≡ false → listed (xs ++ (p ∷ [])) a b ≡ false
+not-last : (xs : List Pair) (a b : ℕ) (p : Pair) → listed_pairs xs a b ≡ false → is_pair a b p ≡ false → listed_pairs (xs ++ (p ∷ [])) a b ≡ false
 not-last [] a b p e f = neither (is_pair a b p) false f refl
-not-last (x ∷ xs) a b p e f = neither (is_pair a b x) (listed (xs ++ (p ∷ [])) a b) (left-false (is_pair a b x) (listed xs a b) e) (not-last xs a b p (right-false (is_pair a b x) (listed xs a b) e) f)
+not-last (x ∷ xs) a b p e f = neither (is_pair a b x) (listed_pairs (xs ++ (p ∷ [])) a b) (left-false (is_pair a b x) (listed_pairs xs a b) e) (not-last xs a b p (right-false (is_pair a b x) (listed_pairs xs a b) e) f)
 
-pub apart_more : (xs : List Pair) (p : Pair) → Apart xs → listed xs p.older p.newer ≡ false → Apart (xs ++ (p ∷ []))
+pub apart_more : (xs : List Pair) (p : Pair) → Apart xs → listed_pairs xs p.older p.newer ≡ false → Apart (xs ++ (p ∷ []))
 apart_more [] p h e = (refl, tt)
 apart_more (x ∷ xs) p h e = (
-  not-last xs x.older x.newer p h.0 (other-way p x (left-false (is_pair p.older p.newer x) (listed xs p.older p.newer) e)),
-  apart_more xs p h.1 (right-false (is_pair p.older p.newer x) (listed xs p.older p.newer) e),
+  not-last xs x.older x.newer p h.0 (other-way p x (left-false (is_pair p.older p.newer x) (listed_pairs xs p.older p.newer) e)),
+  apart_more xs p h.1 (right-false (is_pair p.older p.newer x) (listed_pairs xs p.older p.newer) e),
 )
 
 module _ (n : ℕ) where
@@ -65,12 +65,12 @@ module _ (n : ℕ) where
       both : (k l m n : ℕ) → k ≡ l → m ≡ n → (k == l) && (m == n) ≡ true
       both k l m n e f = grind arith
 
-  codes-apart : (p : Pair) (xs : List Pair) → p.newer < n → InRange xs → listed xs p.older p.newer ≡ false → AllByRecursion (λ y. eqb (code p) y ≡ false) (map code xs)
+  codes-apart : (p : Pair) (xs : List Pair) → p.newer < n → InRange xs → listed_pairs xs p.older p.newer ≡ false → AllByRecursion (λ y. eqb (code p) y ≡ false) (map code xs)
   unfolding InRange
   codes-apart p [] h r e = tt
   codes-apart p (x ∷ xs) h r e = (
     differs (eqb (code p) (code x)) refl,
-    codes-apart p xs h r.2 (right-false (is_pair p.older p.newer x) (listed xs p.older p.newer) e),
+    codes-apart p xs h r.2 (right-false (is_pair p.older p.newer x) (listed_pairs xs p.older p.newer) e),
   )
     where
       clash : true ≡ false → ⊥
@@ -78,7 +78,7 @@ module _ (n : ℕ) where
 
       differs : (t : Bool) → eqb (code p) (code x) ≡ t → t ≡ false
       differs false q = refl
-      differs true q = let s : code p ≡ code x = grind arith in absurd (clash (sym (same_code p x h r.1 s) ∙ left-false (is_pair p.older p.newer x) (listed xs p.older p.newer) e))
+      differs true q = let s : code p ≡ code x = grind arith in absurd (clash (sym (same_code p x h r.1 s) ∙ left-false (is_pair p.older p.newer x) (listed_pairs xs p.older p.newer) e))
 
   codes-distinct : (xs : List Pair) → Apart xs → InRange xs → IsDistinct eqb (map code xs)
   unfolding IsDistinct InRange
@@ -97,13 +97,13 @@ module _ (n : ℕ) where
   pub square_bound : (xs : List Pair) → Apart xs → InRange xs → length xs ≤ n * n
   square_bound xs a r = let l : length (map code xs) ≡ length xs = length-map xs code in let le = length-le_from_distinct_below (map code xs) (n * n) (codes-distinct xs a r) (codes-below xs r) in omega (arith, l, le)
 
-in_range : (set : Schemas) (xs : List Pair) → Within (listed xs) (brand_pairs set) → InRange (length set.brands) xs
+in_range : (set : Schemas) (xs : List Pair) → Within (listed_pairs xs) (brand_pairs set) → InRange (length set.brands) xs
 unfolding InRange
 in_range set [] h = tt
 in_range set (x ∷ xs) h =
     let here = h x.older x.newer (at_listed (x ∷ xs) 0 x refl) in
-    (first_in set x.older x.newer here, second_in set x.older x.newer here, in_range set xs (λ m n g. h m n (or-right (is_pair m n x) (listed xs m n) g)))
+    (first_in set x.older x.newer here, second_in set x.older x.newer here, in_range set xs (λ m n g. h m n (or-right (is_pair m n x) (listed_pairs xs m n) g)))
 
 -- how many pairs there are at most
-pub pairs_bound : (set : Schemas) (xs : List Pair) → Apart xs → Within (listed xs) (brand_pairs set) → length xs ≤ length set.brands * length set.brands
+pub pairs_bound : (set : Schemas) (xs : List Pair) → Apart xs → Within (listed_pairs xs) (brand_pairs set) → length xs ≤ length set.brands * length set.brands
 pairs_bound set xs a h = square_bound (length set.brands) xs a (in_range set xs h)

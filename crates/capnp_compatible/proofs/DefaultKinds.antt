@@ -1,7 +1,7 @@
 -- Defaults by their kinds.
 use Rattle.std.specs.Prelude.{◌≡◌, ◌↔◌, refl}
 use Rattle.std.proofs.Common.{ap}
-use Rattle.capnp_schema.specs.Accepted.{root_of}
+use Rattle.capnp_schema.specs.Accepted.{words_root}
 use Rattle.capnp_schema.specs.Schema.{Value, VoidValue, BoolValue, IntValue, UIntValue, EnumValue, TextValue, DataValue, StructValue, ListValue, AnyPointerValue}
 use Rattle.capnp_records.specs.Compatible.{SameDefault}
 use Rattle.capnp_compatible.specs.Closing.{tree_kind, value_words}
@@ -19,7 +19,7 @@ by_kind (ListValue x) (ListValue y) h s = h refl
 by_kind (AnyPointerValue x) (AnyPointerValue y) h s = h refl
 by_kind c d h s = h (ap tree_kind s)
 
-pub by_tree : (c d : Value) → (tree_kind c ≡ 0 → ⊥) → tree_kind c ≡ tree_kind d → (SameDefault c d ↔ (root_of (value_words c) ≡ root_of (value_words d)))
+pub by_tree : (c d : Value) → (tree_kind c ≡ 0 → ⊥) → tree_kind c ≡ tree_kind d → (SameDefault c d ↔ (words_root (value_words c) ≡ words_root (value_words d)))
 by_tree VoidValue d h e = absurd (h refl)
 by_tree (BoolValue x) d h e = absurd (h refl)
 by_tree (IntValue b x) d h e = absurd (h refl)

@@ -3,14 +3,14 @@ use Rattle.std.specs.Prelude.{ℕ, ◌+◌, ◌<◌, List, Bool}
 use Rattle.std.proofs.Common.{arith, ◌∙◌, below_more}
 use Rattle.capnp_schema.specs.Schema.{Schemas, field_at}
 use Rattle.capnp_compatible.specs.declared.pairs.Pair.{Pair}
-use Rattle.capnp_compatible.specs.Closing.{Adds, Apart, Begins, Holds, HoldsNamed, Within, listed, named}
+use Rattle.capnp_compatible.specs.Closing.{Adds, Apart, Begins, Holds, HoldsNamed, Within, listed_pairs, named_pair}
 use Rattle.capnp_compatible.proofs.Relating.{named_within}
 use Rattle.capnp_compatible.proofs.Lists.{begins_same}
 
 pub record Grown (lists : Bool) (set : Schemas) (a b count : ℕ) (old new : List Pair) : Type 0 where
-  pub more : Within (listed old) (listed new)
+  pub more : Within (listed_pairs old) (listed_pairs new)
   pub begins : Begins old new
-  pub added : HoldsNamed lists set (listed new) a b count
+  pub added : HoldsNamed lists set (listed_pairs new) a b count
   pub only : Adds old new (λ sets. HoldsNamed lists set sets a b count)
   pub apart : Apart old → Apart new
 
@@ -27,9 +27,9 @@ pub begins_far : (xs ys zs : List Pair) → Begins xs ys → Begins ys zs → Be
 begins_far xs ys zs f g = (let l = f.0 in let m = g.0 in omega arith, λ k below. g.1 k (let l = f.0 in omega arith) ∙ f.1 k below)
 
 module _ (lists : Bool) (set : Schemas) (a b count : ℕ) (xs ys zs : List Pair) (g : Grown lists set a b count xs ys)
-    (more : Within (listed ys) (listed zs)) (begins : Begins ys zs)
-    (only : Adds ys zs (λ sets. Holds sets (named lists set (field_at set a count).type (field_at set b count).type))) where
-  pub far_more : Within (listed xs) (listed zs)
+    (more : Within (listed_pairs ys) (listed_pairs zs)) (begins : Begins ys zs)
+    (only : Adds ys zs (λ sets. Holds sets (named_pair lists set (field_at set a count).type (field_at set b count).type))) where
+  pub far_more : Within (listed_pairs xs) (listed_pairs zs)
   far_more m n h = more m n (g.more m n h)
 
   pub far_begins : Begins xs zs
@@ -38,11 +38,11 @@ module _ (lists : Bool) (set : Schemas) (a b count : ℕ) (xs ys zs : List Pair)
   pub far_only : (total : ℕ) → count < total → Adds xs zs (λ sets. HoldsNamed lists set sets a b total)
   far_only total lt pairs within holds = only pairs (g.only pairs within (λ i below. holds i (omega arith))) (holds count lt)
 
-  pub grown_more : Holds (listed zs) (named lists set (field_at set a count).type (field_at set b count).type) → (Apart ys → Apart zs) → Grown lists set a b (count + 1) xs zs
+  pub grown_more : Holds (listed_pairs zs) (named_pair lists set (field_at set a count).type (field_at set b count).type) → (Apart ys → Apart zs) → Grown lists set a b (count + 1) xs zs
   grown_more here apart = record {
     more = far_more;
     begins = far_begins;
-    added = below_more (λ i. Holds (listed zs) (named lists set (field_at set a i).type (field_at set b i).type)) count (named_within lists set (listed ys) (listed zs) a b count more g.added) here;
+    added = below_more (λ i. Holds (listed_pairs zs) (named_pair lists set (field_at set a i).type (field_at set b i).type)) count (named_within lists set (listed_pairs ys) (listed_pairs zs) a b count more g.added) here;
     only = far_only (count + 1) (omega arith);
     apart = λ h. apart (g.apart h);
   }

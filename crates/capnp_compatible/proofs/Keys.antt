@@ -4,7 +4,7 @@ use Rattle.std.specs.List.{list_any}
 use Rattle.std.specs.HashSet.{HashSet, IsUnchanged, Updates}
 use Rattle.std.proofs.Common.{ap, sym, ◌∙◌}
 use Rattle.capnp_compatible.specs.declared.pairs.Pair.{Pair}
-use Rattle.capnp_compatible.specs.Closing.{is_pair, listed}
+use Rattle.capnp_compatible.specs.Closing.{is_pair, listed_pairs}
 use Rattle.capnp_compatible.specs.Keys.{AreKeysOf, same_key}
 
 last : (t : Bool) → t || false ≡ cond t true false
@@ -17,9 +17,9 @@ over true false v = refl
 over false true v = refl
 over false false v = refl
 
-listed-more : (xs : List Pair) (p : Pair) (a b : ℕ) → listed (xs ++ (p ∷ [])) a b ≡ cond (is_pair a b p) true (listed xs a b)
+listed-more : (xs : List Pair) (p : Pair) (a b : ℕ) → listed_pairs (xs ++ (p ∷ [])) a b ≡ cond (is_pair a b p) true (listed_pairs xs a b)
 listed-more [] p a b = last (is_pair a b p)
-listed-more (x ∷ xs) p a b = ap (λ (t : Bool). is_pair a b x || t) (listed-more xs p a b) ∙ over (is_pair a b x) (is_pair a b p) (listed xs a b)
+listed-more (x ∷ xs) p a b = ap (λ (t : Bool). is_pair a b x || t) (listed-more xs p a b) ∙ over (is_pair a b x) (is_pair a b p) (listed_pairs xs a b)
 
 module _ {S : Type 0} (xs : List Pair) (old new : HashSet (ℕ × ℕ) S) (h : AreKeysOf xs old) where
   pub keys_more : (p : Pair) → Updates same_key old new (p.older, p.newer) true → AreKeysOf (xs ++ (p ∷ [])) new

@@ -3,9 +3,9 @@ use Rattle.std.specs.Prelude.{ℕ, zero, suc, ◌<◌, ◌≡◌, refl, List, []
 use Rattle.std.proofs.Common.{arith, sym, subst}
 use Rattle.capnp_compatible.specs.declared.pairs.Pair.{Pair}
 use Rattle.capnp_records.specs.Compatible.{Pairs}
-use Rattle.capnp_compatible.specs.Closing.{Adds, Begins, Within, is_pair, listed}
+use Rattle.capnp_compatible.specs.Closing.{Adds, Begins, Within, is_pair, listed_pairs}
 
-pub within_same : (xs : List Pair) → Within (listed xs) (listed xs)
+pub within_same : (xs : List Pair) → Within (listed_pairs xs) (listed_pairs xs)
 within_same xs a b h = h
 
 pub or-right : (x y : Bool) → IsTrue y → IsTrue (x || y)
@@ -20,9 +20,9 @@ or-both : (t x y : Bool) → (IsTrue x → IsTrue y) → IsTrue (t || x) → IsT
 or-both true x y f h = refl
 or-both false x y f h = f h
 
-pub within_more : (xs ys : List Pair) → Within (listed xs) (listed (xs ++ ys))
+pub within_more : (xs ys : List Pair) → Within (listed_pairs xs) (listed_pairs (xs ++ ys))
 within_more [] ys a b h = cc
-within_more (x ∷ xs) ys a b h = or-both (is_pair a b x) (listed xs a b) (listed (xs ++ ys) a b) (within_more xs ys a b) h
+within_more (x ∷ xs) ys a b h = or-both (is_pair a b x) (listed_pairs xs a b) (listed_pairs (xs ++ ys) a b) (within_more xs ys a b) h
 
 pub begins_same : (xs : List Pair) → Begins xs xs
 begins_same xs = (omega arith, λ k h. refl)
@@ -38,9 +38,9 @@ begins_more (x ∷ xs) ys = (let r = (begins_more xs ys).0 in omega arith, begin
 same-itself : (p : Pair) → IsTrue (is_pair p.older p.newer p)
 same-itself p = grind arith
 
-pub listed_last : (xs : List Pair) (p : Pair) → IsTrue (listed (xs ++ (p ∷ [])) p.older p.newer)
+pub listed_last : (xs : List Pair) (p : Pair) → IsTrue (listed_pairs (xs ++ (p ∷ [])) p.older p.newer)
 listed_last [] p = or-left (is_pair p.older p.newer p) false (same-itself p)
-listed_last (x ∷ xs) p = or-right (is_pair p.older p.newer x) (listed (xs ++ (p ∷ [])) p.older p.newer) (listed_last xs p)
+listed_last (x ∷ xs) p = or-right (is_pair p.older p.newer x) (listed_pairs (xs ++ (p ∷ [])) p.older p.newer) (listed_last xs p)
 
 pub adds_same : (xs : List Pair) (New : Pairs → Type 0) → Adds xs xs New
 adds_same xs New pairs h new = h
@@ -48,31 +48,31 @@ adds_same xs New pairs h new = h
 pub is-same : (a b : ℕ) (p : Pair) → is_pair a b p ≡ true → (p.older ≡ a) × (p.newer ≡ b)
 is-same a b p h = (grind arith, grind arith)
 
-pub within_pairs : (xs : List Pair) (p : Pair) (pairs : Pairs) → Within (listed xs) pairs → IsTrue (pairs p.older p.newer) → Within (listed (xs ++ (p ∷ []))) pairs
+pub within_pairs : (xs : List Pair) (p : Pair) (pairs : Pairs) → Within (listed_pairs xs) pairs → IsTrue (pairs p.older p.newer) → Within (listed_pairs (xs ++ (p ∷ []))) pairs
 within_pairs [] p pairs h here a b e = at (is_pair a b p) refl e
   where
     at : (t : Bool) → is_pair a b p ≡ t → IsTrue (t || false) → IsTrue (pairs a b)
     at true q e = let s = is-same a b p q in subst (λ (n : ℕ). IsTrue (pairs a n)) s.1 (subst (λ (m : ℕ). IsTrue (pairs m p.newer)) s.0 here)
     at false q e = cc
-within_pairs (x ∷ xs) p pairs h here a b e = at (within_pairs xs p pairs (λ m n g. h m n (or-right (is_pair m n x) (listed xs m n) g)) here a b) (is_pair a b x) refl e
+within_pairs (x ∷ xs) p pairs h here a b e = at (within_pairs xs p pairs (λ m n g. h m n (or-right (is_pair m n x) (listed_pairs xs m n) g)) here a b) (is_pair a b x) refl e
   where
-    at : (IsTrue (listed (xs ++ (p ∷ [])) a b) → IsTrue (pairs a b)) → (t : Bool) → is_pair a b x ≡ t → IsTrue (t || listed (xs ++ (p ∷ [])) a b) → IsTrue (pairs a b)
-    at rest true q e = h a b (or-left (is_pair a b x) (listed xs a b) q)
+    at : (IsTrue (listed_pairs (xs ++ (p ∷ [])) a b) → IsTrue (pairs a b)) → (t : Bool) → is_pair a b x ≡ t → IsTrue (t || listed_pairs (xs ++ (p ∷ [])) a b) → IsTrue (pairs a b)
+    at rest true q e = h a b (or-left (is_pair a b x) (listed_pairs xs a b) q)
     at rest false q e = rest e
 
 pub adds_more : (xs : List Pair) (p : Pair) → Adds xs (xs ++ (p ∷ [])) (λ sets. IsTrue (sets p.older p.newer))
 adds_more xs p pairs h here = within_pairs xs p pairs h here
 
 -- a pair that is listed stands at an index
-pub listed_at : (xs : List Pair) (a b : ℕ) → IsTrue (listed xs a b) → (k : ℕ) × (p : Pair) × (slice_get xs k ≡ Some p) × (p.older ≡ a) × (p.newer ≡ b)
+pub listed_at : (xs : List Pair) (a b : ℕ) → IsTrue (listed_pairs xs a b) → (k : ℕ) × (p : Pair) × (slice_get xs k ≡ Some p) × (p.older ≡ a) × (p.newer ≡ b)
 listed_at [] a b h = cc
 listed_at (x ∷ xs) a b h = at (listed_at xs a b) (is_pair a b x) refl h
   where
-    at : (IsTrue (listed xs a b) → (k : ℕ) × (p : Pair) × (slice_get xs k ≡ Some p) × (p.older ≡ a) × (p.newer ≡ b)) → (t : Bool) → is_pair a b x ≡ t → IsTrue (t || listed xs a b) → (k : ℕ) × (p : Pair) × (slice_get (x ∷ xs) k ≡ Some p) × (p.older ≡ a) × (p.newer ≡ b)
+    at : (IsTrue (listed_pairs xs a b) → (k : ℕ) × (p : Pair) × (slice_get xs k ≡ Some p) × (p.older ≡ a) × (p.newer ≡ b)) → (t : Bool) → is_pair a b x ≡ t → IsTrue (t || listed_pairs xs a b) → (k : ℕ) × (p : Pair) × (slice_get (x ∷ xs) k ≡ Some p) × (p.older ≡ a) × (p.newer ≡ b)
     at rest true q e = let s = is-same a b x q in (zero, x, refl, s.0, s.1)
     at rest false q e = let r = rest e in (suc r.0, r.1, r.2, r.3, r.4)
 
-pub at_listed : (xs : List Pair) (k : ℕ) (p : Pair) → slice_get xs k ≡ Some p → IsTrue (listed xs p.older p.newer)
+pub at_listed : (xs : List Pair) (k : ℕ) (p : Pair) → slice_get xs k ≡ Some p → IsTrue (listed_pairs xs p.older p.newer)
 at_listed [] k p e = cc
-at_listed (x ∷ xs) zero p e = let s : x ≡ p = cc in or-left (is_pair p.older p.newer x) (listed xs p.older p.newer) (subst (λ (y : Pair). IsTrue (is_pair p.older p.newer y)) (sym s) (same-itself p))
-at_listed (x ∷ xs) (suc k) p e = or-right (is_pair p.older p.newer x) (listed xs p.older p.newer) (at_listed xs k p e)
+at_listed (x ∷ xs) zero p e = let s : x ≡ p = cc in or-left (is_pair p.older p.newer x) (listed_pairs xs p.older p.newer) (subst (λ (y : Pair). IsTrue (is_pair p.older p.newer y)) (sym s) (same-itself p))
+at_listed (x ∷ xs) (suc k) p e = or-right (is_pair p.older p.newer x) (listed_pairs xs p.older p.newer) (at_listed xs k p e)

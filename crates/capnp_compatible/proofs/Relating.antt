@@ -4,10 +4,10 @@ use Rattle.capnp_schema.specs.Types.{SchemaType, VoidType, BoolType, IntType, UI
 use Rattle.capnp_schema.specs.Schema.{Schemas, fields_of, field_at}
 use Rattle.capnp_records.specs.Compatible.{Pairs, Related, SharedStruct, type_in_place}
 use Rattle.capnp_compatible.specs.declared.pairs.Pair.{Pair}
-use Rattle.capnp_compatible.specs.Closing.{Holds, HoldsNamed, Within, all_pairs, named}
+use Rattle.capnp_compatible.specs.Closing.{Holds, HoldsNamed, Within, all_pairs, named_pair}
 
 module _ (lists : Bool) (set : Schemas) (pairs : Pairs) where
-  pub related_from : (s t : SchemaType) → Related lists set all_pairs s t → Holds pairs (named lists set s t) → Related lists set pairs s t
+  pub related_from : (s t : SchemaType) → Related lists set all_pairs s t → Holds pairs (named_pair lists set s t) → Related lists set pairs s t
   related_from VoidType VoidType r h = tt
   related_from BoolType BoolType r h = tt
   related_from (IntType m) (IntType n) r h = r
@@ -33,7 +33,7 @@ module _ (lists : Bool) (set : Schemas) (pairs : Pairs) where
   related_all (StructType a g) (StructType b k) r = refl
   related_all s t r = absurd r
 
-  pub related_named : (s t : SchemaType) → Related lists set pairs s t → Holds pairs (named lists set s t)
+  pub related_named : (s t : SchemaType) → Related lists set pairs s t → Holds pairs (named_pair lists set s t)
   related_named VoidType VoidType r = tt
   related_named BoolType BoolType r = tt
   related_named (IntType m) (IntType n) r = tt
@@ -76,7 +76,7 @@ holds_within xs ys None w h = tt
 holds_within xs ys (Some p) w h = w p.older p.newer h
 
 pub named_within : (lists : Bool) (set : Schemas) (xs ys : Pairs) (a b count : ℕ) → Within xs ys → HoldsNamed lists set xs a b count → HoldsNamed lists set ys a b count
-named_within lists set xs ys a b count w h = λ i below. holds_within xs ys (named lists set (field_at set a i).type (field_at set b i).type) w (h i below)
+named_within lists set xs ys a b count w h = λ i below. holds_within xs ys (named_pair lists set (field_at set a i).type (field_at set b i).type) w (h i below)
 
 pub struct_within : (lists : Bool) (set : Schemas) (xs ys : Pairs) (a b : ℕ) → Within xs ys → SharedStruct lists set xs a b → SharedStruct lists set ys a b
 struct_within lists set xs ys a b w s = struct_from lists set ys a b (struct_all lists set xs a b s) (named_within lists set xs ys a b (length (fields_of set a)) w (struct_named lists set xs a b s))

@@ -13,7 +13,7 @@ use Rattle.capnp_records.specs.Record.{Left, Record}
 use Rattle.capnp_dynamic_readers.specs.Handles.{reader_of, schema_of}
 use Rattle.capnp_dynamic_readers.specs.Seen.{record_seen}
 use Rattle.capnp_dynamic_readers.specs.declared.dynamic_struct.Reader.{Reader as StructHandle}
-use Rattle.capnp_compatible.specs.Checked.{AreRead, IsSeen, IsUnder, Projects, ProjectsWhereRead}
+use Rattle.capnp_compatible.specs.Checked.{AreRead, IsSeen, IsReadUnder, Projects, ProjectsWhereRead}
 
 -- a record by the set, the number of the brand and the sections
 record_by : Schemas → ℕ → StructReader → Record
@@ -30,7 +30,7 @@ projects-by : (older newer : StructSchema) (r : StructReader) → Projects older
 unfolding record_by
 projects-by older newer r projects = projects (Left (struct_levels r)) (struct_of r)
 
-pub projection_seen : (older newer : StructSchema) (s t : StructHandle) → Projects older newer → set_of newer ≡ set_of older → IsUnder s older → IsUnder t newer → reader_of s ≡ reader_of t →
+pub projection_seen : (older newer : StructSchema) (s t : StructHandle) → Projects older newer → set_of newer ≡ set_of older → IsReadUnder s older → IsReadUnder t newer → reader_of s ≡ reader_of t →
     record_seen s ≡ projection_of (set_of older) (number_of older) (number_of newer) (record_seen t)
 projection_seen older newer s t projects one under over same =
     seen_by s (set_of older) (number_of older) (reader_of t) under.0 under.1 same
@@ -38,12 +38,12 @@ projection_seen older newer s t projects one under over same =
     ∙ ap (projection_of (set_of older) (number_of older) (number_of newer)) (sym (seen_by t (set_of older) (number_of newer) (reader_of t) (over.0 ∙ one) over.1 refl))
 
 -- a struct under the older schema that a reader was narrowed to
-pub narrowed : (older newer : StructSchema) (s t : StructHandle) → Projects older newer → set_of newer ≡ set_of older → schema_of s ≡ older → IsUnder t newer → reader_of s ≡ reader_of t →
+pub narrowed : (older newer : StructSchema) (s t : StructHandle) → Projects older newer → set_of newer ≡ set_of older → schema_of s ≡ older → IsReadUnder t newer → reader_of s ≡ reader_of t →
     record_seen s ≡ projection_of (set_of older) (number_of older) (number_of newer) (record_seen t)
 narrowed older newer s t projects one is over same = projection_seen older newer s t projects one (ap set_of is, ap number_of is) over same
 
 -- one under the newer schema that a reader was widened to
-pub widened : (older newer : StructSchema) (s t : StructHandle) → Projects older newer → set_of newer ≡ set_of older → schema_of s ≡ newer → IsUnder t older → reader_of s ≡ reader_of t →
+pub widened : (older newer : StructSchema) (s t : StructHandle) → Projects older newer → set_of newer ≡ set_of older → schema_of s ≡ newer → IsReadUnder t older → reader_of s ≡ reader_of t →
     projection_of (set_of older) (number_of older) (number_of newer) (record_seen s) ≡ record_seen t
 widened older newer s t projects one is under same = sym (projection_seen older newer t s projects one under (ap set_of is, ap number_of is) (sym same))
 
@@ -54,7 +54,7 @@ upgrade-by : (older newer : StructSchema) (r : StructReader) → ProjectsWhereRe
 unfolding record_by
 upgrade-by older newer r projects formed read = projects (Left (struct_levels r)) (struct_of r) formed read
 
-pub upgrade_seen : (older newer : StructSchema) (s t : StructHandle) → ProjectsWhereRead older newer → set_of newer ≡ set_of older → IsUnder s older → IsUnder t newer → reader_of s ≡ reader_of t → IsWellFormedStruct (struct_of (reader_of t)) →
+pub upgrade_seen : (older newer : StructSchema) (s t : StructHandle) → ProjectsWhereRead older newer → set_of newer ≡ set_of older → IsReadUnder s older → IsReadUnder t newer → reader_of s ≡ reader_of t → IsWellFormedStruct (struct_of (reader_of t)) →
     AreRead older newer (record_seen s) (record_seen t) → IsSeen older newer (record_seen s) (record_seen t)
 upgrade_seen older newer s t projects one under over same formed =
     let set = set_of older in
@@ -64,11 +64,11 @@ upgrade_seen older newer s t projects one under over same formed =
     subst (λ (x : Record). AreRead older newer x (record_seen t) → IsSeen older newer x (record_seen t)) (sym a)
     (subst (λ (y : Record). AreRead older newer (record_by set (number_of older) r) y → IsSeen older newer (record_by set (number_of older) r) y) (sym b) (upgrade-by older newer r projects formed))
 
-pub narrowed_upgrade : (older newer : StructSchema) (s t : StructHandle) → ProjectsWhereRead older newer → set_of newer ≡ set_of older → schema_of s ≡ older → IsUnder t newer → reader_of s ≡ reader_of t → IsWellFormedStruct (struct_of (reader_of t)) →
+pub narrowed_upgrade : (older newer : StructSchema) (s t : StructHandle) → ProjectsWhereRead older newer → set_of newer ≡ set_of older → schema_of s ≡ older → IsReadUnder t newer → reader_of s ≡ reader_of t → IsWellFormedStruct (struct_of (reader_of t)) →
     AreRead older newer (record_seen s) (record_seen t) → IsSeen older newer (record_seen s) (record_seen t)
 narrowed_upgrade older newer s t projects one is over same formed = upgrade_seen older newer s t projects one (ap set_of is, ap number_of is) over same formed
 
-pub widened_upgrade : (older newer : StructSchema) (s t : StructHandle) → ProjectsWhereRead older newer → set_of newer ≡ set_of older → schema_of s ≡ newer → IsUnder t older → reader_of s ≡ reader_of t → IsWellFormedStruct (struct_of (reader_of t)) →
+pub widened_upgrade : (older newer : StructSchema) (s t : StructHandle) → ProjectsWhereRead older newer → set_of newer ≡ set_of older → schema_of s ≡ newer → IsReadUnder t older → reader_of s ≡ reader_of t → IsWellFormedStruct (struct_of (reader_of t)) →
     AreRead older newer (record_seen t) (record_seen s) → IsSeen older newer (record_seen t) (record_seen s)
 widened_upgrade older newer s t projects one is under same formed =
     upgrade_seen older newer t s projects one under (ap set_of is, ap number_of is) (sym same) (subst (λ (r : StructReader). IsWellFormedStruct (struct_of r)) (sym same) formed)

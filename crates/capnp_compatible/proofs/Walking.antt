@@ -9,7 +9,7 @@ use Rattle.std.specs.Option.{unwrap_or}
 use Rattle.capnp_schema.specs.Accepted.{IsAccepted, NamesEntries}
 use Rattle.capnp_records.specs.Compatible.{IsSuccessor, SharedStruct, can_become_struct, stands_first, type_in_place}
 use Rattle.capnp_compatible.specs.declared.pairs.Pair.{Pair}
-use Rattle.capnp_compatible.specs.Closing.{Adds, Apart, AreForced, Begins, Holds, HoldsNamed, Within, all_pairs, brand_pairs, listed, named}
+use Rattle.capnp_compatible.specs.Closing.{Adds, Apart, AreForced, Begins, Holds, HoldsNamed, Within, all_pairs, brand_pairs, listed_pairs, named_pair}
 use Rattle.capnp_compatible.proofs.Relating.{struct_all, struct_from, struct_named, struct_within}
 use Rattle.capnp_compatible.proofs.Lists.{at_listed, listed_at, within_pairs}
 
@@ -24,11 +24,11 @@ decides_yes p = (λ e. p, λ p. refl)
 
 -- the pairs before an index were looked at
 pub record Walking (lists : Bool) (set : Schemas) (older newer next : ℕ) (ps : List Pair) : Type 0 where
-  pub given : IsTrue (listed ps older newer)
-  pub brands : Within (listed ps) (brand_pairs set)
-  pub forced : AreForced lists set older newer (listed ps)
+  pub given : IsTrue (listed_pairs ps older newer)
+  pub brands : Within (listed_pairs ps) (brand_pairs set)
+  pub forced : AreForced lists set older newer (listed_pairs ps)
   pub apart : Apart ps
-  pub done : (k : ℕ) → k < next → (p : Pair) → slice_get ps k ≡ Some p → SharedStruct lists set (listed ps) p.older p.newer
+  pub done : (k : ℕ) → k < next → (p : Pair) → slice_get ps k ≡ Some p → SharedStruct lists set (listed_pairs ps) p.older p.newer
 
 both-true : (x y : Bool) → x ≡ true → y ≡ true → x && y ≡ true
 both-true x y e f = cc
@@ -70,7 +70,7 @@ module _ (lists : Bool) (set : Schemas) where
       at false = k
   in-place accepted s t k = k
 
-  types_in : IsAccepted set → (s t : SchemaType) → NamesEntries set s → NamesEntries set t → Holds (brand_pairs set) (named lists set s t)
+  types_in : IsAccepted set → (s t : SchemaType) → NamesEntries set s → NamesEntries set t → Holds (brand_pairs set) (named_pair lists set s t)
   types_in accepted (ListType s) (ListType t) h k = types_in accepted s (type_in_place lists set s t) h (in-place accepted s t k)
   types_in accepted (StructType a g) (StructType b j) h k = in_brands set a b h.0 k.0
   types_in accepted s t h k = tt
@@ -80,7 +80,7 @@ module _ (lists : Bool) (set : Schemas) where
 
 pub walk_start : (lists : Bool) (set : Schemas) (older newer : ℕ) (p : Pair) → p.older ≡ older → p.newer ≡ newer → older < length set.brands → newer < length set.brands → Walking lists set older newer 0 (p ∷ [])
 walk_start lists set older newer p e f l m = record {
-  given = subst (λ (x : ℕ). IsTrue (listed (p ∷ []) older x)) f (subst (λ (x : ℕ). IsTrue (listed (p ∷ []) x p.newer)) e (at_listed (p ∷ []) 0 p refl));
+  given = subst (λ (x : ℕ). IsTrue (listed_pairs (p ∷ []) older x)) f (subst (λ (x : ℕ). IsTrue (listed_pairs (p ∷ []) x p.newer)) e (at_listed (p ∷ []) 0 p refl));
   brands = within_pairs [] p (brand_pairs set) (λ a b h. cc) (in_brands set p.older p.newer (omega arith) (omega arith));
   forced = λ pairs here closed. within_pairs [] p pairs (λ a b h. cc) (subst (λ (x : ℕ). IsTrue (pairs p.older x)) (sym f) (subst (λ (x : ℕ). IsTrue (pairs x newer)) (sym e) here));
   apart = (refl, tt);
@@ -88,7 +88,7 @@ walk_start lists set older newer p e f l m = record {
 }
 
 module _ (lists : Bool) (set : Schemas) (older newer next : ℕ) (ps : List Pair) (w : Walking lists set older newer next ps) (p : Pair) (at : slice_get ps next ≡ Some p) where
-  pub here : IsTrue (listed ps p.older p.newer)
+  pub here : IsTrue (listed_pairs ps p.older p.newer)
   here = at_listed ps next p at
 
   pub older_in : p.older < length set.brands
@@ -102,8 +102,8 @@ module _ (lists : Bool) (set : Schemas) (older newer next : ℕ) (ps : List Pair
   walk_fails fails c = fails (struct_all lists set c.pairs p.older p.newer (c.closed p.older p.newer (w.forced c.pairs c.given c.closed p.older p.newer here)))
 
   module _ (accepted : IsAccepted set) (shared : SharedStruct lists set all_pairs p.older p.newer) (qs : List Pair)
-      (more : Within (listed ps) (listed qs)) (begins : Begins ps qs)
-      (added : HoldsNamed lists set (listed qs) p.older p.newer (length (fields_of set p.older)))
+      (more : Within (listed_pairs ps) (listed_pairs qs)) (begins : Begins ps qs)
+      (added : HoldsNamed lists set (listed_pairs qs) p.older p.newer (length (fields_of set p.older)))
       (only : Adds ps qs (λ sets. HoldsNamed lists set sets p.older p.newer (length (fields_of set p.older)))) (apart : Apart ps → Apart qs) where
     old_at : next < length ps → (k : ℕ) (q : Pair) → k < next + 1 → slice_get qs k ≡ Some q → slice_get ps k ≡ Some q
     old_at inside k q below e = sym (begins.1 k (omega arith)) ∙ e
@@ -114,9 +114,9 @@ module _ (lists : Bool) (set : Schemas) (older newer next : ℕ) (ps : List Pair
       brands = only (brand_pairs set) w.brands (named_in lists set accepted p.older p.newer older_in newer_in shared.beginning);
       forced = λ pairs given closed. only pairs (w.forced pairs given closed) (struct_named lists set pairs p.older p.newer (closed p.older p.newer (w.forced pairs given closed p.older p.newer here)));
       apart = apart w.apart;
-      done = below_more (λ k. (q : Pair) → slice_get qs k ≡ Some q → SharedStruct lists set (listed qs) q.older q.newer) next
-          (λ k below q e. struct_within lists set (listed ps) (listed qs) q.older q.newer more (w.done k below q (old_at inside k q (omega arith) e)))
-          (λ q e. subst (λ (x : Pair). SharedStruct lists set (listed qs) x.older x.newer) (same q (sym at ∙ old_at inside next q (omega arith) e)) (struct_from lists set (listed qs) p.older p.newer shared added));
+      done = below_more (λ k. (q : Pair) → slice_get qs k ≡ Some q → SharedStruct lists set (listed_pairs qs) q.older q.newer) next
+          (λ k below q e. struct_within lists set (listed_pairs ps) (listed_pairs qs) q.older q.newer more (w.done k below q (old_at inside k q (omega arith) e)))
+          (λ q e. subst (λ (x : Pair). SharedStruct lists set (listed_pairs qs) x.older x.newer) (same q (sym at ∙ old_at inside next q (omega arith) e)) (struct_from lists set (listed_pairs qs) p.older p.newer shared added));
     }
       where
         same : (q : Pair) → Some p ≡ Some q → p ≡ q
@@ -124,10 +124,10 @@ module _ (lists : Bool) (set : Schemas) (older newer next : ℕ) (ps : List Pair
 
 pub walk_ends : (lists : Bool) (set : Schemas) (older newer next : ℕ) (ps : List Pair) → Walking lists set older newer next ps → length ps ≤ next → IsSuccessor lists set older newer
 walk_ends lists set older newer next ps w past = record {
-  pairs = listed ps;
+  pairs = listed_pairs ps;
   given = w.given;
   closed = λ a b h. let r = listed_at ps a b h in
-      subst (λ (x : ℕ). SharedStruct lists set (listed ps) a x) r.4 (subst (λ (x : ℕ). SharedStruct lists set (listed ps) x (r.1).newer) r.3 (w.done r.0 (let l = inside ps r.0 r.1 r.2 in omega arith) r.1 r.2));
+      subst (λ (x : ℕ). SharedStruct lists set (listed_pairs ps) a x) r.4 (subst (λ (x : ℕ). SharedStruct lists set (listed_pairs ps) x (r.1).newer) r.3 (w.done r.0 (let l = inside ps r.0 r.1 r.2 in omega arith) r.1 r.2));
 }
   where
     inside : (xs : List Pair) (k : ℕ) (p : Pair) → slice_get xs k ≡ Some p → k < length xs

@@ -31,8 +31,8 @@ abbrev pub IsPair : StructSchema → StructSchema → StructSchema × StructSche
 IsPair older newer c = (older_of c ≡ older) × (newer_of c ≡ newer)
 
 -- a struct is read under a schema
-abbrev pub IsUnder : StructHandle → StructSchema → Type 0
-IsUnder s schema = (set_of (schema_of s) ≡ set_of schema) × (number_of (schema_of s) ≡ number_of schema)
+abbrev pub IsReadUnder : StructHandle → StructSchema → Type 0
+IsReadUnder s schema = (set_of (schema_of s) ≡ set_of schema) × (number_of (schema_of s) ≡ number_of schema)
 
 -- no list became one of structs
 abbrev pub IsAsItWas : StructSchema → StructSchema → Type 0

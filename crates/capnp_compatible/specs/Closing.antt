@@ -18,8 +18,8 @@ abbrev pub is_pair : ℕ → ℕ → Pair → Bool
 is_pair a b p = (p.older == a) && (p.newer == b)
 
 -- the pairs of a list
-abbrev pub listed : List Pair → Pairs
-listed ps a b = list_any (is_pair a b) ps
+abbrev pub listed_pairs : List Pair → Pairs
+listed_pairs ps a b = list_any (is_pair a b) ps
 
 -- the types inside the lists that both are, where in a struct's place its field 0 stands for an element that became it
 abbrev pub inside_lists : Bool → Schemas → SchemaType → SchemaType → SchemaType × SchemaType
@@ -27,10 +27,10 @@ inside_lists lists set (ListType s) (ListType t) = inside_lists lists set s (typ
 inside_lists lists set s t = (s, t)
 
 -- the pair of structs that two types name, inside lists of the same depth
-abbrev pub named : Bool → Schemas → SchemaType → SchemaType → Option Pair
-named lists set (ListType s) (ListType t) = named lists set s (type_in_place lists set s t)
-named lists set (StructType a g) (StructType b h) = Some (record { older = a; newer = b })
-named lists set s t = None
+abbrev pub named_pair : Bool → Schemas → SchemaType → SchemaType → Option Pair
+named_pair lists set (ListType s) (ListType t) = named_pair lists set s (type_in_place lists set s t)
+named_pair lists set (StructType a g) (StructType b h) = Some (record { older = a; newer = b })
+named_pair lists set s t = None
 
 -- each pair of a set is related by it
 abbrev pub IsClosed : Bool → Schemas → Pairs → Type 0
@@ -42,7 +42,7 @@ Holds pairs (Some p) = IsTrue (pairs p.older p.newer)
 
 -- the pairs that the first so many fields of two structs name are among these
 abbrev pub HoldsNamed : Bool → Schemas → Pairs → ℕ → ℕ → ℕ → Type 0
-HoldsNamed lists set pairs a b count = (i : ℕ) → i < count → Holds pairs (named lists set (field_at set a i).type (field_at set b i).type)
+HoldsNamed lists set pairs a b count = (i : ℕ) → i < count → Holds pairs (named_pair lists set (field_at set a i).type (field_at set b i).type)
 
 abbrev pub Within : Pairs → Pairs → Type 0
 Within xs ys = (a b : ℕ) → IsTrue (xs a b) → IsTrue (ys a b)
@@ -53,7 +53,7 @@ Begins xs ys = (length xs ≤ length ys) × ((k : ℕ) → k < length xs → sli
 
 -- what adding pairs does: the old ones stay, and whatever set holds them and the new ones holds all
 abbrev pub Adds : List Pair → List Pair → (Pairs → Type 0) → Type 0
-Adds old new New = (pairs : Pairs) → Within (listed old) pairs → New pairs → Within (listed new) pairs
+Adds old new New = (pairs : Pairs) → Within (listed_pairs old) pairs → New pairs → Within (listed_pairs new) pairs
 
 -- which tree a value has: none, that of a struct, a list or an untyped pointer
 abbrev pub tree_kind : Value → ℕ
@@ -96,4 +96,4 @@ AreForced lists set older newer xs = (pairs : Pairs) → IsTrue (pairs older new
 -- no pair stands twice
 abbrev pub Apart : List Pair → Type 0
 Apart [] = Unit {0}
-Apart (p ∷ ps) = (listed ps p.older p.newer ≡ false) × Apart ps
+Apart (p ∷ ps) = (listed_pairs ps p.older p.newer ≡ false) × Apart ps

@@ -50,7 +50,7 @@ impl<'s> Model for Compatible<'s> {
 impl<'s> Compatible<'s> {
     ghost use Rattle.capnp_dynamic_readers.specs.Handles.{reader_of, schema_of};
     ghost use Rattle.capnp_dynamic_readers.specs.Seen.{record_seen};
-    ghost use Rattle.capnp_compatible.specs.Checked.{AreRead, IsAsItWas, IsPair, IsSeen, IsUnder, Projects, ProjectsWhereRead, newer_of, older_of};
+    ghost use Rattle.capnp_compatible.specs.Checked.{AreRead, IsAsItWas, IsPair, IsSeen, IsReadUnder, Projects, ProjectsWhereRead, newer_of, older_of};
 
     /// The pair of an older schema and a newer one, where the newer is a compatible successor; nothing where it is not.
     /// Both are brands of one set. The same is asked of each pair of structs that two shared fields name, and each pair
@@ -173,7 +173,7 @@ impl<'s> Compatible<'s> {
     /// missing parts carry may differ there: pointers are read with one level more than those of structs.
     #[tactic(auto, using(crate::proofs::Sees::narrowed, crate::proofs::Sees::narrowed_upgrade))]
     pub fn narrow(&self, reader: dynamic_struct::Reader<'s>) -> dynamic_struct::Reader<'s>
-        requires { IsUnder reader (newer_of self.now) }
+        requires { IsReadUnder reader (newer_of self.now) }
         ensures schema { schema_of result ≡ older_of self.now }
         ensures reader { reader_of result ≡ reader_of reader.entry }
         ensures record { IsAsItWas (older_of self.now) (newer_of self.now)
@@ -198,7 +198,7 @@ impl<'s> Compatible<'s> {
     /// Where a list became one of structs, this holds as of `narrow`.
     #[tactic(auto, using(crate::proofs::Sees::widened, crate::proofs::Sees::widened_upgrade))]
     pub fn widen(&self, reader: dynamic_struct::Reader<'s>) -> dynamic_struct::Reader<'s>
-        requires { IsUnder reader (older_of self.now) }
+        requires { IsReadUnder reader (older_of self.now) }
         ensures schema { schema_of result ≡ newer_of self.now }
         ensures reader { reader_of result ≡ reader_of reader.entry }
         ensures record { IsAsItWas (older_of self.now) (newer_of self.now)

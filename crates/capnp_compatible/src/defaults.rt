@@ -1,6 +1,6 @@
 //! Defaults that are the same: of one kind, with equal numbers, bytes or trees.
 ghost use Rattle.std.specs.Prelude.{◌≡◌, ◌↔◌, [], IsTrue};
-ghost use Rattle.capnp_schema.specs.Accepted.{root_of};
+ghost use Rattle.capnp_schema.specs.Accepted.{words_root};
 ghost use Rattle.capnp_schema.specs.Schema.{seen_value, seen_kind};
 ghost use Rattle.capnp_records.specs.Compatible.{SameDefault, SameKind};
 ghost use Rattle.capnp_compatible.specs.Closing.{tree_kind, value_words};
@@ -10,7 +10,7 @@ use capnp_wire::PointerReader;
 
 /// Whether words have the same tree, however far their bytes are apart.
 fn have_same_tree(one: &[u8], other: &[u8]) -> bool
-    ensures { IsTrue result ↔ (root_of one.now ≡ root_of other.now) }
+    ensures { IsTrue result ↔ (words_root one.now ≡ words_root other.now) }
 {
     PointerReader::from_words(one).has_same_tree(&PointerReader::from_words(other))
 }

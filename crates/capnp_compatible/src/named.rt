@@ -3,7 +3,7 @@ ghost use Rattle.std.specs.Prelude.{◌≡◌, ◌<◌, ◌≤◌, IfErr, OnOk, 
 ghost use Rattle.capnp_device.specs.declared.error.ErrorKind.TheVariants.{OutOfMemory};
 ghost use Rattle.capnp_schema.specs.Entries.{lists_seen};
 ghost use Rattle.capnp_schema.specs.Schema.{fields_of, field_at};
-ghost use Rattle.capnp_compatible.specs.Closing.{Adds, Apart, Begins, Holds, HoldsNamed, Within, listed, named};
+ghost use Rattle.capnp_compatible.specs.Closing.{Adds, Apart, Begins, Holds, HoldsNamed, Within, listed_pairs, named_pair};
 
 use crate::brands::{field_count, field_of};
 use crate::pairs::{Pair, Pairs};
@@ -17,7 +17,7 @@ fn named_at(set: &SchemaSet, lists: bool, older: u32, newer: u32, index: u16) ->
     requires newer { newer < length (lists_seen set.now).brands }
     requires older_field { index < length (fields_of (lists_seen set.now) older) }
     requires newer_field { index < length (fields_of (lists_seen set.now) newer) }
-    ensures { result ≡ named lists (lists_seen set.now) (field_at (lists_seen set.now) older index).type
+    ensures { result ≡ named_pair lists (lists_seen set.now) (field_at (lists_seen set.now) older index).type
         (field_at (lists_seen set.now) newer index).type }
 {
     named(
@@ -31,9 +31,9 @@ fn named_at(set: &SchemaSet, lists: bool, older: u32, newer: u32, index: u16) ->
 /// Adds a pair, where there is one.
 #[tactic(auto, using(crate::proofs::Lists::within_same, crate::proofs::Lists::begins_same, crate::proofs::Lists::adds_same))]
 fn add_some(pairs: &mut Pairs, pair: Option<Pair>) -> Result<()>
-    ensures more { Within (listed pairs.old) (listed pairs.new) }
+    ensures more { Within (listed_pairs pairs.old) (listed_pairs pairs.new) }
     ensures begins { Begins pairs.old pairs.new }
-    ensures added { OnOk result (Holds (listed pairs.new) pair) }
+    ensures added { OnOk result (Holds (listed_pairs pairs.new) pair) }
     ensures only { Adds pairs.old pairs.new (λ sets. Holds sets pair) }
     ensures apart { Apart pairs.old → Apart pairs.new }
     ensures refused { IfErr result (λ e. e.kind ≡ OutOfMemory) }
@@ -55,9 +55,9 @@ pub(crate) fn add_named(
     requires older { older < length (lists_seen set.now).brands }
     requires newer { newer < length (lists_seen set.now).brands }
     requires enough { length (fields_of (lists_seen set.now) older) ≤ length (fields_of (lists_seen set.now) newer) }
-    ensures more { Within (listed pairs.old) (listed pairs.new) }
+    ensures more { Within (listed_pairs pairs.old) (listed_pairs pairs.new) }
     ensures begins { Begins pairs.old pairs.new }
-    ensures added { OnOk result (HoldsNamed lists (lists_seen set.now) (listed pairs.new) older newer
+    ensures added { OnOk result (HoldsNamed lists (lists_seen set.now) (listed_pairs pairs.new) older newer
         (length (fields_of (lists_seen set.now) older))) }
     ensures only { Adds pairs.old pairs.new (λ sets. HoldsNamed lists (lists_seen set.now) sets older newer
         (length (fields_of (lists_seen set.now) older))) }

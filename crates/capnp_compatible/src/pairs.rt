@@ -1,7 +1,7 @@
 //! Pairs of brands, in the order in which they were added, and none of them twice.
 ghost use Rattle.std.specs.Prelude.{◌≡◌, ◌<◌, ◌++◌, [], ◌∷◌, IsTrue, IfErr, IfOk, OnErr, OnOk, Some, length, slice_get};
 ghost use Rattle.capnp_device.specs.declared.error.ErrorKind.TheVariants.{OutOfMemory};
-ghost use Rattle.capnp_compatible.specs.Closing.{Adds, Apart, Begins, Within, listed};
+ghost use Rattle.capnp_compatible.specs.Closing.{Adds, Apart, Begins, Within, listed_pairs};
 
 use capnp_wire::error::{Error, Result};
 use std::alloc::Global;
@@ -70,7 +70,7 @@ impl Pairs {
     }
 
     fn has(&self, pair: Pair) -> bool
-        ensures { result ≡ listed self.now pair.older pair.newer }
+        ensures { result ≡ listed_pairs self.now pair.older pair.newer }
     {
         self.keys.contains(&(pair.older, pair.newer))
     }
@@ -95,9 +95,9 @@ impl Pairs {
     /// Adds a pair that isn't there yet.
     #[tactic(auto, using(crate::proofs::Lists::within_same, crate::proofs::Lists::within_more, crate::proofs::Lists::begins_same, crate::proofs::Lists::begins_more, crate::proofs::Lists::listed_last, crate::proofs::Lists::adds_same, crate::proofs::Lists::adds_more, crate::proofs::Bound::apart_more))]
     pub(crate) fn add(&mut self, pair: Pair) -> Result<()>
-        ensures more { Within (listed self.old) (listed self.new) }
+        ensures more { Within (listed_pairs self.old) (listed_pairs self.new) }
         ensures begins { Begins self.old self.new }
-        ensures added { OnOk result (IsTrue (listed self.new pair.older pair.newer)) }
+        ensures added { OnOk result (IsTrue (listed_pairs self.new pair.older pair.newer)) }
         ensures only { Adds self.old self.new (λ sets. IsTrue (sets pair.older pair.newer)) }
         ensures apart { Apart self.old → Apart self.new }
         ensures refused { IfErr result (λ e. e.kind ≡ OutOfMemory) }

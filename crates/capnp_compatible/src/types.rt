@@ -1,12 +1,12 @@
 //! Types that are related.
 ghost use Rattle.std.specs.Prelude.{◌≡◌, ◌↔◌, IsTrue, false, length, slice_get};
 ghost use Rattle.std.specs.Option.{option_copied};
-ghost use Rattle.capnp_base.specs.Types.{kind};
+ghost use Rattle.capnp_base.specs.Types.{variant_kind};
 ghost use Rattle.capnp_schema.specs.Entries.{lists_seen};
 ghost use Rattle.capnp_schema.specs.Schema.{enum_at};
 ghost use Rattle.capnp_schema.specs.Types.{seen_type, seen_variant};
 ghost use Rattle.capnp_records.specs.Compatible.{Related};
-ghost use Rattle.capnp_compatible.specs.Closing.{all_pairs, inside_lists, named};
+ghost use Rattle.capnp_compatible.specs.Closing.{all_pairs, inside_lists, named_pair};
 
 use crate::first::type_in_place;
 use crate::pairs::Pair;
@@ -15,7 +15,7 @@ use capnp_schema::record::EnumRecord;
 use capnp_schema::set::SchemaSet;
 
 fn kind(layer: TypeVariant) -> u8
-    ensures { result ≡ kind layer }
+    ensures { result ≡ variant_kind layer }
 {
     match layer {
         TypeVariant::Void => 0,
@@ -55,7 +55,7 @@ fn enumerant_count(set: &SchemaSet, number: u32) -> usize
 
 /// Whether two layers are related, of which not both are lists.
 fn are_related_layers(set: &SchemaSet, older: TypeVariant, newer: TypeVariant) -> bool
-    requires { kind older ≡ 15 → kind newer ≡ 15 → ⊥ }
+    requires { variant_kind older ≡ 15 → variant_kind newer ≡ 15 → ⊥ }
     ensures { IsTrue result ↔ Related false (lists_seen set.now) all_pairs (seen_variant older) (seen_variant newer) }
 {
     if kind(older) != kind(newer) {
@@ -83,7 +83,7 @@ fn inside_lists(
         (seen_type newer)).0 }
     ensures newer { seen_variant result.1 ≡ (inside_lists lists (lists_seen set.now) (seen_type older)
         (seen_type newer)).1 }
-    ensures all { kind result.0 ≡ 15 → kind result.1 ≡ 15 → ⊥ }
+    ensures all { variant_kind result.0 ≡ 15 → variant_kind result.1 ≡ 15 → ⊥ }
 {
     let mut one = older;
     let mut other = newer;
@@ -116,8 +116,8 @@ fn named_layers(
     older: TypeVariant,
     newer: TypeVariant,
 ) -> Option<Pair>
-    requires { kind older ≡ 15 → kind newer ≡ 15 → ⊥ }
-    ensures { result ≡ named lists (lists_seen set.now) (seen_variant older) (seen_variant newer) }
+    requires { variant_kind older ≡ 15 → variant_kind newer ≡ 15 → ⊥ }
+    ensures { result ≡ named_pair lists (lists_seen set.now) (seen_variant older) (seen_variant newer) }
 {
     if kind(older) != kind(newer) {
         return None;
@@ -137,7 +137,7 @@ fn named_layers(
 /// The pair of structs that two types name, inside lists of the same depth.
 #[tactic(auto, using(crate::proofs::ByLayer::named_through))]
 pub(crate) fn named(set: &SchemaSet, lists: bool, older: Type, newer: Type) -> Option<Pair>
-    ensures { result ≡ named lists (lists_seen set.now) (seen_type older) (seen_type newer) }
+    ensures { result ≡ named_pair lists (lists_seen set.now) (seen_type older) (seen_type newer) }
 {
     let (one, other) = inside_lists(set, lists, older, newer);
     named_layers(set, lists, one, other)

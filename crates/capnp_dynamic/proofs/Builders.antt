@@ -2,7 +2,7 @@
 use Rattle.std.specs.Prelude.{ℕ, suc, ◌*◌, ◌≤◌, ◌≡◌, refl, Bool, true, false, length, Option, Some, None}
 use Rattle.std.proofs.Common.{ap, sym, subst, ◌∙◌}
 use Rattle.capnp_wire.specs.Tree.{StructTree}
-use Rattle.capnp_schema.specs.FieldLists.{IsFound, index_of, schema_of as field_schema, typed_of}
+use Rattle.capnp_schema.specs.FieldLists.{IsFound, index_of, field_schema as field_schema, typed_of}
 use Rattle.capnp_schema.specs.Footprint.{Spot}
 use Rattle.capnp_schema.specs.Schema.{Schemas}
 use Rattle.capnp_schema.specs.StructHandles.{number_of, set_of, struct_field, struct_node}
@@ -14,7 +14,7 @@ use Rattle.capnp_records.specs.Writes.Slots.{Fits}
 use Rattle.capnp_schema.specs.Plan.{brand_size}
 use Rattle.capnp_records.specs.Writes.TreeEnds.{group_cleared, slot_written}
 use Rattle.capnp_slots.specs.Fields.{IsRoomFor, Keeps, field_brand}
-use Rattle.capnp_slots.specs.FieldWrites.{IsFieldSet, KindIsSet, SlotIsSet, cleared_kind, field_cleared}
+use Rattle.capnp_slots.specs.FieldWrites.{IsFieldSet, KindIsSet, SlotIsSet, cleared_field_kind, field_cleared}
 use Rattle.capnp_slots.specs.GroupSets.{IsGroupSet, given_to_group}
 use Rattle.capnp_slots.specs.Primitives.{given_content, given_to}
 use Rattle.capnp_slots.specs.Sources.{IsSet, IsSetRefusal, IsTaken}
@@ -23,7 +23,7 @@ use Rattle.capnp_device.specs.declared.error.ErrorKind.{ErrorKind}
 use Rattle.capnp_records.specs.Call.{Source}
 use Rattle.capnp_records.specs.Given.{Given, Gives, Copies, CopiesGroup, Fails, given_group, given_slot}
 use Rattle.capnp_records.specs.Writes.TreeCopy.{TreeCopiesWithin}
-use Rattle.capnp_records.specs.Writes.Overlay.{field_names, switched}
+use Rattle.capnp_records.specs.Writes.Overlay.{field_spots, switched_struct}
 use Rattle.capnp_schema.specs.Schema.{default_of}
 use Rattle.capnp_dynamic_readers.specs.Reads.{BelongsTo}
 
@@ -62,7 +62,7 @@ abbrev cleared-at : Bool → StructSchema → ℕ → StructTree → StructTree
 cleared-at true s i x = group_cleared (set_of s) (number_of s) (struct_field s i) x
 cleared-at false s i x = slot_written (set_of s) (number_of s) (struct_field s i) (cleared_content (struct_field s i).type) x
 
-cleared-is : (q : Bool) (f : Field) (x : StructTree) → cleared_kind q f x ≡ cleared-at q (field_schema f) (index_of f) x
+cleared-is : (q : Bool) (f : Field) (x : StructTree) → cleared_field_kind q f x ≡ cleared-at q (field_schema f) (index_of f) x
 cleared-is true f x = refl
 cleared-is false f x = refl
 
@@ -78,7 +78,7 @@ same_set s o f g a b x old new h = record {
   taken = subst IsTaken (same_field (λ (z : StructSchema) i. given_slot (set_of z) (struct_field z i).type x) s o f g a b) h.taken;
   written = h.written ∙ same_field (λ (z : StructSchema) i. slot_written (set_of z) (number_of z) (struct_field z i)
       (given_content (default_of (struct_field z i).field) (struct_field z i).type x (given_slot (set_of z) (struct_field z i).type x)) old) s o f g a b;
-  kept = subst (λ (inside : Spot → Bool). Keeps inside old new) (same_field (λ (z : StructSchema) i. field_names (set_of z) (number_of z) (struct_field z i)) s o f g a b) h.kept;
+  kept = subst (λ (inside : Spot → Bool). Keeps inside old new) (same_field (λ (z : StructSchema) i. field_spots (set_of z) (number_of z) (struct_field z i)) s o f g a b) h.kept;
 }
 
 pub same_given : (s : StructSchema) (o : Option ℕ) (f g : Field) → IsFound s o (Some f) → IsFound s o (Some g) → (x : Source) → given_to f x ≡ given_to g x
@@ -93,7 +93,7 @@ module _ (s : StructSchema) (o : Option ℕ) (f g : Field) (a : IsFound s o (Som
   group-moved (Gives v) old refused new h = absurd h
   group-moved (Copies source past v) old refused new h = absurd h
   group-moved (CopiesGroup l x n) old refused new h =
-      moved (λ (z : StructSchema) (i : ℕ). TreeCopiesWithin (suc (length (set_of z).brands)) (set_of z) l x n (switched (struct_node z) (struct_field z i).field old) refused new) s o f g a b h
+      moved (λ (z : StructSchema) (i : ℕ). TreeCopiesWithin (suc (length (set_of z).brands)) (set_of z) l x n (switched_struct (struct_node z) (struct_field z i).field old) refused new) s o f g a b h
   group-moved (Fails kind) old refused new h = h
 
   slot-moved : (x : Source) (old : StructTree) (refused : Option ErrorKind) (new : StructTree) → SlotIsSet f x old refused new → SlotIsSet g x old refused new

@@ -13,14 +13,14 @@ use Rattle.capnp_base.specs.declared.introspect.RawBrandedStructSchema.{RawBrand
 use Rattle.capnp_base.specs.declared.introspect.TypeVariant.{TypeVariant}
 use Rattle.capnp_base.specs.declared.introspect.TypeVariant.TheVariants as variant
 use Rattle.capnp_base.specs.declared.introspect.«Type».{«Type» as TypeHandle}
-use Rattle.capnp_schema.specs.Defaults.{IsReadAs}
+use Rattle.capnp_schema.specs.Defaults.{IsDefaultReadAs}
 use Rattle.capnp_schema.specs.Schema.{Schemas, VoidValue}
 use Rattle.capnp_schema.specs.StructHandles.{number_of, set_of}
 use Rattle.capnp_schema.specs.Types.{SchemaType, VoidType, BoolType, IntType, UIntType, EnumType, TextType, DataType, StructType, ListType, AnyPointerType, is_pointer, seen_type, seen_variant, struct_brand}
 use Rattle.capnp_schema.specs.declared.schema.structs.StructSchema.{StructSchema}
 use Rattle.capnp_records.specs.Default.{read_of}
 use Rattle.capnp_records.specs.Facts.Readers.{element_read}
-use Rattle.capnp_records.specs.Writes.ElementEnds.{HasRoom}
+use Rattle.capnp_records.specs.Writes.ElementEnds.{HasElementThere}
 use Rattle.capnp_records.specs.Writes.Slots.{Fits}
 use Rattle.capnp_schema.specs.Plan.{brand_size}
 use Rattle.capnp_slots.specs.Fills.{element_filled, is_behind}
@@ -29,8 +29,8 @@ use Rattle.capnp_dynamic.specs.Built.{HoldsElements}
 use Rattle.capnp_dynamic.specs.Handed.{HandsElementNumber, HandsOut, element_handed}
 use Rattle.capnp_dynamic.specs.declared.dynamic_value.build.Builder.{Builder as BuiltValue}
 use Rattle.capnp_dynamic_readers.specs.Leaf.{IsNumber}
-use Rattle.capnp_dynamic_readers.specs.Seen.{answered}
-use Rattle.capnp_dynamic_readers.specs.Typed.{IsUnder}
+use Rattle.capnp_dynamic_readers.specs.Seen.{answered_value}
+use Rattle.capnp_dynamic_readers.specs.Typed.{IsValueUnder}
 use Rattle.capnp_dynamic_readers.specs.declared.dynamic_value.Reader.{Reader as DynamicValue}
 use Rattle.capnp_dynamic_readers.specs.declared.dynamic_value.Reader.TheVariants as dynamic
 use Rattle.capnp_dynamic.proofs.ListElements.{room_in, struct_fits}
@@ -50,7 +50,7 @@ struct_ready set b g x j schema same number holds formed a s e =
 pub pointer_there : (set : Schemas) (t : TypeHandle) (x : Tree) (j : ℕ) → is_behind (seen_type t) ≡ true → HoldsElements set (seen_type t) x → IsWellFormed x → j < list_length x → HasPointer x j
 pointer_there set t x j behind holds formed a = go (seen_type t) behind (room_in set t x j holds formed a)
   where
-    go : (u : SchemaType) → is_behind u ≡ true → HasRoom u x j → HasPointer x j
+    go : (u : SchemaType) → is_behind u ≡ true → HasElementThere u x j → HasPointer x j
     go TextType h r = r
     go DataType h r = r
     go (ListType e) h r = r
@@ -63,7 +63,7 @@ pointer_there set t x j behind holds formed a = go (seen_type t) behind (room_in
     go (StructType b g) h r = absurd (true≢false (sym h))
 
 -- an element has no default
-pub no_default : (t : SchemaType) → IsReadAs t tree.Null
+pub no_default : (t : SchemaType) → IsDefaultReadAs t tree.Null
 no_default VoidType = refl
 no_default BoolType = refl
 no_default (IntType k) = refl
@@ -115,7 +115,7 @@ pub number_type : (t : SchemaType) (w : TypeVariant) → seen_variant w ≡ t �
 number_type t w same n e = ap is_pointer (sym same) ∙ no-pointer w n e
 
 -- an element that no pointer stands for is read
-pub is_read : (set : Schemas) (t : SchemaType) (x : Tree) (n j : ℕ) (e : Error) → is_pointer t ≡ false → answered (Err e) ≡ read_of set VoidValue t (element_read set x n t j) → ⊥
+pub is_read : (set : Schemas) (t : SchemaType) (x : Tree) (n j : ℕ) (e : Error) → is_pointer t ≡ false → answered_value (Err e) ≡ read_of set VoidValue t (element_read set x n t j) → ⊥
 is_read set VoidType x n j e h a = cc
 is_read set BoolType x n j e h a = cc
 is_read set (IntType k) x n j e h a = cc
@@ -127,7 +127,7 @@ is_read set (StructType b g) x n j e h a = absurd (true≢false h)
 is_read set (ListType t) x n j e h a = absurd (true≢false h)
 is_read set AnyPointerType x n j e h a = absurd (true≢false h)
 
-pub is_number : (set : Schemas) (t : SchemaType) (v : DynamicValue) → is_pointer t ≡ false → IsUnder set t v → IsNumber v
+pub is_number : (set : Schemas) (t : SchemaType) (v : DynamicValue) → is_pointer t ≡ false → IsValueUnder set t v → IsNumber v
 is_number set t dynamic.Void h u = tt
 is_number set t (dynamic.Bool x) h u = tt
 is_number set t (dynamic.Int8 x) h u = tt

@@ -12,7 +12,7 @@ use Rattle.capnp_schema.specs.Schema.{Schemas}
 use Rattle.capnp_schema.specs.Types.{SchemaType, TextType, DataType, ListType, is_pointer}
 use Rattle.capnp_records.specs.Facts.Pointers.{nth_tree-put_same}
 use Rattle.capnp_records.specs.Writes.Contents.{initn_tree}
-use Rattle.capnp_records.specs.Writes.ElementEnds.{HasRoom, InitnContent, element_written}
+use Rattle.capnp_records.specs.Writes.ElementEnds.{HasElementThere, InitnContent, element_written}
 use Rattle.capnp_records.specs.Writes.Slots.{At}
 
 -- ---- the pointer of an element ----
@@ -50,7 +50,7 @@ pub record IsStarted (set : Schemas) (t : SchemaType) (n j : ℕ) (new : Tree) :
 started : (set : Schemas) (t : SchemaType) (n j : ℕ) (old : Tree) → HasPointer old j → is_pointer t ≡ true → IsStarted set t n j (with_pointer_element j (initn_tree set t n) old)
 started set t n j old there p = record { pointer = p; there = pointer-there old j (initn_tree set t n) there; is = pointer-here old j (initn_tree set t n) there }
 
-pub element_started : (set : Schemas) (t : SchemaType) (n j : ℕ) (old new : Tree) → HasRoom t old j → InitnContent set n t (At (initn_tree set t n)) → new ≡ element_written t old j (At (initn_tree set t n)) → IsStarted set t n j new
+pub element_started : (set : Schemas) (t : SchemaType) (n j : ℕ) (old new : Tree) → HasElementThere t old j → InitnContent set n t (At (initn_tree set t n)) → new ≡ element_written t old j (At (initn_tree set t n)) → IsStarted set t n j new
 element_started set TextType n j old new room h e = subst (IsStarted set TextType n j) (sym e) (started set TextType n j old room refl)
 element_started set DataType n j old new room h e = subst (IsStarted set DataType n j) (sym e) (started set DataType n j old room refl)
 element_started set (ListType t) n j old new room h e = subst (IsStarted set (ListType t) n j) (sym e) (started set (ListType t) n j old room refl)

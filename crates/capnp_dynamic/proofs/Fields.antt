@@ -4,7 +4,7 @@ use Rattle.std.proofs.Common.{ap, subst, ◌∙◌}
 use Rattle.capnp_wire.specs.Tree.{StructTree}
 use Rattle.capnp_arena.specs.Same.{IsStructCutOf}
 use Rattle.capnp_base.specs.declared.introspect.TypeVariant.{TypeVariant}
-use Rattle.capnp_schema.specs.FieldLists.{index_of, schema_of as field_schema, typed_of}
+use Rattle.capnp_schema.specs.FieldLists.{index_of, field_schema as field_schema, typed_of}
 use Rattle.capnp_schema.specs.Schema.{Schemas, field_at, fields_of}
 use Rattle.capnp_schema.specs.StructHandles.{IsStruct, number_of, set_of, struct_field}
 use Rattle.capnp_schema.specs.Types.{seen_variant}

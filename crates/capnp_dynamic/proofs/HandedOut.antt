@@ -16,13 +16,13 @@ use Rattle.capnp_wire.specs.declared.size.ElementSize.{ElementSize}
 use Rattle.capnp_wire.specs.declared.size.ElementSize.TheVariants as size
 use Rattle.capnp_wire.specs.declared.size.StructSize.{StructSize}
 use Rattle.capnp_base.specs.ReadBack.{as_text-text_tree}
-use Rattle.capnp_schema.specs.Accepted.{root_of}
-use Rattle.capnp_schema.specs.Defaults.{IsReadAs, default_tree}
+use Rattle.capnp_schema.specs.Accepted.{words_root}
+use Rattle.capnp_schema.specs.Defaults.{IsDefaultReadAs, value_default_tree}
 use Rattle.capnp_schema.specs.Schema.{Schemas, Value, TextValue, DataValue, ListValue, default_of}
 use Rattle.capnp_schema.specs.Types.{is_pointer, SchemaType, VoidType, BoolType, IntType, UIntType, EnumType, TextType, DataType, StructType, ListType, AnyPointerType, element_size}
 use Rattle.capnp_base.specs.Text.{text_tree}
 use Rattle.capnp_records.specs.Writes.Contents.{new_list}
-use Rattle.capnp_records.specs.Writes.Fill.{IsAtRest, or_default}
+use Rattle.capnp_records.specs.Writes.Fill.{IsAtRest, list_or_default}
 use Rattle.capnp_records.specs.Writes.TreeEnds.{offset_of}
 use Rattle.capnp_schema.specs.Plan.{brand_size}
 use Rattle.capnp_slots.specs.Fills.{fill_due, filled_tree}
@@ -33,7 +33,7 @@ use Rattle.capnp_schema.specs.StructHandles.{set_of, struct_field}
 use Rattle.capnp_schema.specs.declared.schema.fields.Field.{Field}
 use Rattle.capnp_schema.specs.declared.schema.structs.StructSchema.{StructSchema}
 use Rattle.capnp_records.specs.Step.{is_group_field}
-use Rattle.capnp_slots.specs.Fields.{IsPointer, IsSlot, field_set}
+use Rattle.capnp_slots.specs.Fields.{IsPointerField, IsSlot, field_set}
 use Rattle.capnp_slots.specs.Fills.{RestsIn, due_in, filled_in}
 use Rattle.capnp_slots.specs.Groups.{IsGroupAt}
 use Rattle.capnp_dynamic.specs.Built.{HoldsElements, built_schema, built_struct}
@@ -96,8 +96,8 @@ reads-ok s x h = go (as_list s x 1) h
 
 -- a default that is entered as a list is read as its type's
 module _ (e : SchemaType) where
-  listed : (d : Value) → IsReadAs (ListType e) (default_tree d) → (x : Tree) → list_refusal (element_size e) x ≡ None → list_refusal (element_size e) (or_default d x) ≡ None
-  listed (ListValue words) h tree.Null n = reads-ok (element_size e) (root_of words) h.1
+  listed : (d : Value) → IsDefaultReadAs (ListType e) (value_default_tree d) → (x : Tree) → list_refusal (element_size e) x ≡ None → list_refusal (element_size e) (list_or_default d x) ≡ None
+  listed (ListValue words) h tree.Null n = reads-ok (element_size e) (words_root words) h.1
   listed (ListValue words) h (tree.Struct bytes ps) n = n
   listed (ListValue words) h (tree.Voids c) n = n
   listed (ListValue words) h (tree.Bits bs) n = n
@@ -107,9 +107,9 @@ module _ (e : SchemaType) where
   listed (ListValue words) h (tree.FaultLeaf k) n = n
   listed d h x n = n
 
-list-filled : (set : Schemas) (d : Value) (e : SchemaType) → IsReadAs (ListType e) (default_tree d) → (x : Tree) → fill_due set d (ListType e) x ≡ None → first_fault (filled_tree set d (ListType e) x) ≡ None →
+list-filled : (set : Schemas) (d : Value) (e : SchemaType) → IsDefaultReadAs (ListType e) (value_default_tree d) → (x : Tree) → fill_due set d (ListType e) x ≡ None → first_fault (filled_tree set d (ListType e) x) ≡ None →
     HoldsElements set e (filled_tree set d (ListType e) x)
-list-filled set d (StructType b g) h x e n = structs-hold (brand_size set b) (or_default d x) e n
+list-filled set d (StructType b g) h x e n = structs-hold (brand_size set b) (list_or_default d x) e n
 list-filled set d VoidType h x e n = listed VoidType d h x e
 list-filled set d BoolType h x e n = listed BoolType d h x e
 list-filled set d (IntType k) h x e n = listed (IntType k) d h x e
@@ -122,7 +122,7 @@ list-filled set d AnyPointerType h x e n = listed AnyPointerType d h x e
 
 -- ---- by type ----
 
-pub can-fill : (set : Schemas) (d : Value) (t : SchemaType) → IsReadAs t (default_tree d) → (x : Tree) → fill_due set d t x ≡ None → first_fault (filled_tree set d t x) ≡ None → CanBeHanded set t (filled_tree set d t x)
+pub can-fill : (set : Schemas) (d : Value) (t : SchemaType) → IsDefaultReadAs t (value_default_tree d) → (x : Tree) → fill_due set d t x ≡ None → first_fault (filled_tree set d t x) ≡ None → CanBeHanded set t (filled_tree set d t x)
 can-fill set d TextType h x e n = text-filled d x e set
 can-fill set d DataType h x e n = data-filled d x e set
 can-fill set d (StructType b g) h x e n = (refl, HasAtLeast-extended (brand_size set b) _)
@@ -178,7 +178,7 @@ put-there i s s' t x there e h = h ∙ (ap (λ (y : StructTree). nth_tree y.poin
 pub hands_group : (f : Field) (g : StructHandle) (s : StructTree) → IsGroupAt f (built_schema g) → built_struct g ≡ s → HandsField f s (built.Struct g)
 hands_group f g s at e = subst (λ (q : Bool). part_handed q (is_pointer (typed_of f).type) (field_set f) (typed_of f) s (built.Struct g)) (sym at.is_group) (at.set, at.number, e)
 
-pub hands_pointed : (f : Field) (s : StructTree) (v : BuiltValue) → IsSlot f → IsPointer f → HandsOut false (field_set f) (typed_of f).type (filled_in f s) v → HandsField f s v
+pub hands_pointed : (f : Field) (s : StructTree) (v : BuiltValue) → IsSlot f → IsPointerField f → HandsOut false (field_set f) (typed_of f).type (filled_in f s) v → HandsField f s v
 hands_pointed f s v slot pointer h =
     subst (λ (q : Bool). part_handed q (is_pointer (typed_of f).type) (field_set f) (typed_of f) s v) (sym slot)
     (subst (λ (q : Bool). part_handed false q (field_set f) (typed_of f) s v) (sym pointer) h)

@@ -20,7 +20,7 @@ use Rattle.capnp_records.specs.Default.{read_field, read_of}
 use Rattle.capnp_records.specs.Facts.ListValues.{below_of}
 use Rattle.capnp_records.specs.Facts.Readers.{element_read}
 use Rattle.capnp_records.specs.Part.{has_of, which_of}
-use Rattle.capnp_records.specs.Reading.{Reading, active_among, discriminant, element_value, kind_value, nth_reading, number_value, part_of, plain_parts, record_within, struct_record, values_of}
+use Rattle.capnp_records.specs.Reading.{Reading, active_among, discriminant, element_value, kind_value, nth_reading, number_value, part_of, non_union_parts, record_within, struct_record, values_of}
 use Rattle.capnp_records.specs.Record.{Active, Left, Levels, NoUnion, Parts, Record, Truth, Union, Value, Values}
 use Rattle.capnp_records.specs.Step.{is_group_field}
 use Rattle.capnp_dynamic_readers.specs.Facts.HasWhich.{has_by_plan}
@@ -73,7 +73,7 @@ union_same v w vs ws fs false d = among_same v w vs ws fs 0 d
 pub which_cut : (set : Schemas) (l : Levels) (x s : StructTree) → IsStructCutOf x s → (b : ℕ) → which_of (struct_record set l x b) ≡ which_of (struct_record set l s b)
 unfolding IsStructCutOf
 which_cut set l x s h b =
-    union_same (part_of set l x.bytes (values_of set x.pointers)) (part_of set l x.bytes (values_of set s.pointers)) (plain_parts (part_of set l x.bytes (values_of set x.pointers)) (fields_of set b)) (plain_parts (part_of set l x.bytes (values_of set s.pointers)) (fields_of set b)) (fields_of set b) ((node_of set b).discriminant_count == 0) (discriminant (node_of set b) x.bytes)
+    union_same (part_of set l x.bytes (values_of set x.pointers)) (part_of set l x.bytes (values_of set s.pointers)) (non_union_parts (part_of set l x.bytes (values_of set x.pointers)) (fields_of set b)) (non_union_parts (part_of set l x.bytes (values_of set s.pointers)) (fields_of set b)) (fields_of set b) ((node_of set b).discriminant_count == 0) (discriminant (node_of set b) x.bytes)
     ∙ ap (λ (bytes : List ℕ). which_of (struct_record set l (record { bytes = bytes; pointers = s.pointers }) b)) (sym h.0)
 
 -- ---- numbers ----

@@ -25,7 +25,7 @@ use Rattle.capnp_schema.specs.Facts.Layers.{seen_which}
 use Rattle.capnp_schema.specs.Schema.{Schemas}
 use Rattle.capnp_schema.specs.Types.{SchemaType, VoidType, BoolType, IntType, UIntType, EnumType, TextType, DataType, StructType, ListType, AnyPointerType, element_size, seen_type, seen_variant}
 use Rattle.capnp_records.specs.Call.{Source}
-use Rattle.capnp_records.specs.Writes.ElementEnds.{HasRoom, element_written}
+use Rattle.capnp_records.specs.Writes.ElementEnds.{HasElementThere, element_written}
 use Rattle.capnp_records.specs.Writes.Slots.{Bits, At, Content, Fits}
 use Rattle.capnp_schema.specs.Plan.{brand_size}
 use Rattle.capnp_slots.specs.ElementSets.{IsElementSet, element_content}
@@ -84,7 +84,7 @@ reads-so s x j e a = go (as_list s x 1) refl e
     go (Err k) is h = absurd cc
 
 module _ (set : Schemas) (x : Tree) (j : ℕ) (formed : IsWellFormed x) (a : j < list_length x) where
-  by-variant : (v : TypeVariant) → HoldsElements set (seen_variant v) x → HasRoom (seen_variant v) x j
+  by-variant : (v : TypeVariant) → HoldsElements set (seen_variant v) x → HasElementThere (seen_variant v) x j
   by-variant variant.Void h = tt
   by-variant variant.Bool h = HasBit-there x j (reads-so size.Bit x j h a) a
   by-variant variant.Int8 h = HasNumber-there size.Byte 1 x j refl refl (reads-so size.Byte x j h a) formed a
@@ -102,9 +102,9 @@ module _ (set : Schemas) (x : Tree) (j : ℕ) (formed : IsWellFormed x) (a : j <
   by-variant (variant.Enum e) h = HasNumber-there size.TwoBytes 2 x j refl refl (reads-so size.TwoBytes x j h a) formed a
   by-variant (variant.List t) h = HasPointer-there x j (reads-so size.Pointer x j h a) formed a
 
-pub room_in : (set : Schemas) (t : TypeHandle) (x : Tree) (j : ℕ) → HoldsElements set (seen_type t) x → IsWellFormed x → j < list_length x → HasRoom (seen_type t) x j
+pub room_in : (set : Schemas) (t : TypeHandle) (x : Tree) (j : ℕ) → HoldsElements set (seen_type t) x → IsWellFormed x → j < list_length x → HasElementThere (seen_type t) x j
 room_in set t x j holds formed a =
-    subst (λ (u : SchemaType). HasRoom u x j) (seen_which t)
+    subst (λ (u : SchemaType). HasElementThere u x j) (seen_which t)
     (by-variant set x j formed a (variant_of t) (subst (λ (u : SchemaType). HoldsElements set u x) (sym (seen_which t)) holds))
 
 pub struct_fits : (set : Schemas) (b g : ℕ) (x : Tree) (j : ℕ) → HoldsElements set (StructType b g) x → IsWellFormed x → j < list_length x → Fits set b (element_struct x j)

@@ -8,7 +8,7 @@ use Rattle.capnp_wire.specs.Edits.{with_pointer_tree}
 use Rattle.capnp_wire.specs.Elements.{with_pointer_element}
 use Rattle.capnp_wire.specs.Reading.{element_pointer}
 use Rattle.capnp_wire.specs.Tree.{nth_tree}
-use Rattle.capnp_arena.specs.Built.{ChangesIn, built}
+use Rattle.capnp_arena.specs.Built.{ChangesIn, built_at}
 use Rattle.capnp_arena.specs.declared.arena.Arena.{Arena}
 use Rattle.capnp_arena.specs.declared.arena.Place.{Place}
 use Rattle.capnp_base.specs.declared.introspect.RawBrandedStructSchema.{RawBrandedStructSchema}
@@ -24,7 +24,7 @@ use Rattle.capnp_records.specs.Step.{is_group_field}
 use Rattle.capnp_records.specs.Writes.Contents.{init_tree, initn_tree}
 use Rattle.capnp_records.specs.Writes.Slots.{At}
 use Rattle.capnp_records.specs.Writes.TreeEnds.{offset_of, slot_written}
-use Rattle.capnp_slots.specs.Fields.{IsPointer, IsSlot, pointer_index, slot_with}
+use Rattle.capnp_slots.specs.Fields.{IsPointerField, IsSlot, pointer_index, slot_with}
 use Rattle.capnp_slots.specs.Fills.{element_filled, filled_in, filled_tree, is_behind}
 use Rattle.capnp_slots.specs.Groups.{IsGroupAt}
 use Rattle.capnp_slots.specs.Inits.{init_content}
@@ -50,8 +50,8 @@ module _ (owner : MutBor Arena) (p : Place) (f : Field) where
   pub got_group : (g : StructHandle) → IsGroupAt f (built_schema g) → struct_behind g ≡ owner → place_of g ≡ p → IsGotOf owner p f (built_value.Struct g)
   got_group g at behind place = of_group (is_group_field (typed_of f).field.kind) (is_pointer (typed_of f).type) _ _ at.is_group (behind, place)
 
-  pub got_pointed : (v : BuiltValue) → IsSlot f → IsPointer f →
-      IsPartOf owner p (pointer_index f) (with_pointer_tree (built owner.now p) (pointer_index f) (filled_in f (built owner.now p))) v → IsGotOf owner p f v
+  pub got_pointed : (v : BuiltValue) → IsSlot f → IsPointerField f →
+      IsPartOf owner p (pointer_index f) (with_pointer_tree (built_at owner.now p) (pointer_index f) (filled_in f (built_at owner.now p))) v → IsGotOf owner p f v
   got_pointed v slot pointer h = of_pointer (is_group_field (typed_of f).field.kind) (is_pointer (typed_of f).type) _ _ slot pointer h
 
   pub got_number : (v : BuiltValue) → IsSlot f → is_pointer (typed_of f).type ≡ false → IsGotOf owner p f v
@@ -61,10 +61,10 @@ module _ (owner : MutBor Arena) (p : Place) (f : Field) where
       IsStartedOf owner p f (built_value.Struct g)
   started_group g at same place changes = of_group (is_group_field (typed_of f).field.kind) (is_pointer (typed_of f).type) _ _ at.is_group (same, place, changes)
 
-  pub started_pointer : (v : BuiltValue) → IsSlot f → IsPointer f → IsPartOf owner p (pointer_index f) (slot_with f (init_content f) (built owner.now p)) v → IsStartedOf owner p f v
+  pub started_pointer : (v : BuiltValue) → IsSlot f → IsPointerField f → IsPartOf owner p (pointer_index f) (slot_with f (init_content f) (built_at owner.now p)) v → IsStartedOf owner p f v
   started_pointer v slot pointer h = of_pointer (is_group_field (typed_of f).field.kind) (is_pointer (typed_of f).type) _ _ slot pointer h
 
-  pub started_slot : (r : Result BuiltValue Error) → IsSlot f → IfOk r (λ _. IsPointer f) → IfOk r (IsPartOf owner p (pointer_index f) (slot_with f (init_content f) (built owner.now p))) →
+  pub started_slot : (r : Result BuiltValue Error) → IsSlot f → IfOk r (λ _. IsPointerField f) → IfOk r (IsPartOf owner p (pointer_index f) (slot_with f (init_content f) (built_at owner.now p))) →
       IfOk r (IsStartedOf owner p f)
   started_slot (Ok v) slot pointer h = started_pointer v slot pointer h
   started_slot (Err e) slot pointer h = tt
@@ -78,21 +78,21 @@ module _ (s : StructSchema) (o : Option ℕ) (f g : Field) (a : IsFound s o (Som
       (λ (z : StructSchema) (i : ℕ). let o : ℕ = offset_of (struct_field z i).field.kind in
       by_kind (is_group_field (struct_field z i).field.kind) (is_pointer (struct_field z i).type) (IsSameStruct owner p v)
       (IsPartOf owner p o
-      (with_pointer_tree (built owner.now p) o (filled_tree (set_of z) (default_of (struct_field z i).field) (struct_field z i).type (nth_tree (built owner.now p).pointers o))) v))
+      (with_pointer_tree (built_at owner.now p) o (filled_tree (set_of z) (default_of (struct_field z i).field) (struct_field z i).type (nth_tree (built_at owner.now p).pointers o))) v))
       s o f g a b h
 
   pub same_started : IsStartedOf owner p f v → IsStartedOf owner p g v
   same_started h =
       moved
       (λ (z : StructSchema) (i : ℕ). by_kind (is_group_field (struct_field z i).field.kind) (is_pointer (struct_field z i).type) (IsStartedStruct owner p v)
-      (IsPartOf owner p (offset_of (struct_field z i).field.kind) (slot_written (set_of z) (number_of z) (struct_field z i) (At (init_tree (set_of z) (struct_field z i).type)) (built owner.now p)) v))
+      (IsPartOf owner p (offset_of (struct_field z i).field.kind) (slot_written (set_of z) (number_of z) (struct_field z i) (At (init_tree (set_of z) (struct_field z i).type)) (built_at owner.now p)) v))
       s o f g a b h
 
   pub same_sized : (n : ℕ) → IsSizedOf owner p f n v → IsSizedOf owner p g n v
   same_sized n h =
       moved
       (λ (z : StructSchema) (i : ℕ). IsPartOf owner p (offset_of (struct_field z i).field.kind)
-      (slot_written (set_of z) (number_of z) (struct_field z i) (At (initn_tree (set_of z) (struct_field z i).type n)) (built owner.now p)) v)
+      (slot_written (set_of z) (number_of z) (struct_field z i) (At (initn_tree (set_of z) (struct_field z i).type n)) (built_at owner.now p)) v)
       s o f g a b h
 
 -- ---- elements ----

@@ -18,15 +18,15 @@ use Rattle.capnp_records.specs.Reading.{struct_record}
 use Rattle.capnp_records.specs.Record.{Left, Levels, Value}
 use Rattle.capnp_records.specs.Step.{is_group_field}
 use Rattle.capnp_slots.specs.Fields.{IsRoomFor, IsSlot, field_brand, field_set}
-use Rattle.capnp_slots.specs.FieldWrites.{IsFieldSet, KindIsSet, cleared_kind, field_cleared}
+use Rattle.capnp_slots.specs.FieldWrites.{IsFieldSet, KindIsSet, cleared_field_kind, field_cleared}
 use Rattle.capnp_slots.specs.Groups.{group_without}
 use Rattle.capnp_slots.specs.GroupSets.{IsGroupSet, given_to_group}
 use Rattle.capnp_slots.specs.ReadBack as slots
-use Rattle.capnp_slots.specs.ReadBack.{IsWhole, whole_value}
+use Rattle.capnp_slots.specs.ReadBack.{IsWithoutParts, whole_value}
 use Rattle.capnp_slots.specs.Sources.{IsSet}
 use Rattle.capnp_dynamic.specs.Built.{built_schema}
 use Rattle.capnp_dynamic.specs.Handed.{HandsGroup, start_handed}
-use Rattle.capnp_dynamic.specs.ReadBack.{AreApart, ClearIsActive, ClearIsGot, GroupStarts, IsActiveUnder, OtherIsGot, OtherIsThere, SetIsActive, SetIsGot}
+use Rattle.capnp_dynamic.specs.ReadBack.{AreSchemaFieldsApart, BuilderClearIsActive, BuilderClearIsGot, BuilderGroupStarts, IsActiveUnder, BuilderOtherIsGot, BuilderOtherIsThere, BuilderSetIsActive, SetIsGot}
 use Rattle.capnp_dynamic_readers.specs.Reads.{BelongsTo, field_read, handed_out}
 use Rattle.capnp_dynamic_readers.specs.Seen.{value_seen}
 use Rattle.capnp_slots.specs.SetValues.{source_of}
@@ -44,7 +44,7 @@ handed-slot : (k : FieldKind) (v : Value) → is_group_field k ≡ false → han
 handed-slot (Slot offset d) v slot = refl
 handed-slot (Group node) v slot = absurd (true≢false slot)
 
-whole-seen : (v : DynamicValue) → IsWhole (source_of v) → whole_value (source_of v) ≡ value_seen v
+whole-seen : (v : DynamicValue) → IsWithoutParts (source_of v) → whole_value (source_of v) ≡ value_seen v
 whole-seen (dynamic.Bool b) whole = refl
 whole-seen (dynamic.Int8 x) whole = refl
 whole-seen (dynamic.Int16 x) whole = refl
@@ -93,7 +93,7 @@ active-under : (f : Field) (schema : StructSchema) → BelongsTo f schema → (s
 active-under f schema belongs s active member l =
     under-schema (λ set b. which_of (struct_record set l s b) ≡ Some (index_of f)) f schema belongs (active member l)
 
-pub set-active : (f : Field) (v : DynamicValue) → slots.SetIsActive f (source_of v) → slots.CopyIsActive f → SetIsActive f v
+pub set-active : (f : Field) (v : DynamicValue) → slots.SetIsActive f (source_of v) → slots.CopyIsActive f → BuilderSetIsActive f v
 set-active f v slot_law group_law schema belongs old new under set = active-under f schema belongs new (go (is_group_field (typed_of f).field.kind) refl set)
   where
     room : IsRoomFor f old
@@ -105,22 +105,22 @@ set-active f v slot_law group_law schema belongs old new under set = active-unde
 
 -- ---- clears ----
 
-pub clear-got : (f : Field) → slots.ClearIsGot f → ClearIsGot f
+pub clear-got : (f : Field) → slots.ClearIsGot f → BuilderClearIsGot f
 clear-got f law schema belongs s under slot l =
     under-schema (λ set b. field_read set l (field_cleared f s) (field_at set b (index_of f)) ≡ default_got set l (field_at set b (index_of f))) f schema belongs
-    (ap (λ q. field_read (field_set f) l (cleared_kind q f s) (typed_of f)) slot
+    (ap (λ q. field_read (field_set f) l (cleared_field_kind q f s) (typed_of f)) slot
     ∙ (handed-slot (typed_of f).field.kind _ slot ∙ law s slot (room_for f schema s belongs under) l))
 
-pub clear-active : (f : Field) → slots.ClearIsActive f → slots.GroupIsActive f → ClearIsActive f
+pub clear-active : (f : Field) → slots.ClearIsActive f → slots.GroupIsActive f → BuilderClearIsActive f
 clear-active f slot_law group_law schema belongs s under = active-under f schema belongs (field_cleared f s) (go (is_group_field (typed_of f).field.kind) refl)
   where
-    go : (q : Bool) → is_group_field (typed_of f).field.kind ≡ q → slots.IsActiveIn f (cleared_kind q f s)
+    go : (q : Bool) → is_group_field (typed_of f).field.kind ≡ q → slots.IsActiveIn f (cleared_field_kind q f s)
     go false slot = slot_law s slot (room_for f schema s belongs under)
     go true group = group_law s group (room_for f schema s belongs under)
 
 -- ---- groups ----
 
-pub group-starts : (f : Field) → slots.GroupStarts f → GroupStarts f
+pub group-starts : (f : Field) → slots.GroupStarts f → BuilderGroupStarts f
 group-starts f law schema belongs s under group g hands k k_in member zero =
     ap (λ x. which_of (struct_record (set_of (built_schema g)) (Left 64) x (number_of (built_schema g)))) is.2
     ∙ subst (λ set. Starts set (number_of (built_schema g))) (sym is.0) (subst (Starts (field_set f)) (sym is.1) own) k k_in member zero
@@ -137,7 +137,7 @@ group-starts f law schema belongs s under group g hands k k_in member zero =
 
 -- ---- other fields ----
 
-apart-in : (schema : StructSchema) (f g : Field) → AreApart schema f g → slots.AreApart f g
+apart-in : (schema : StructSchema) (f g : Field) → AreSchemaFieldsApart schema f g → slots.AreFieldsApart f g
 apart-in schema f g apart = record {
   set = apart.other.set ∙ sym apart.belongs.set;
   brand = apart.other.number ∙ sym apart.belongs.number;
@@ -145,12 +145,12 @@ apart-in schema f g apart = record {
   not_both = apart.not_both;
 }
 
-pub other-got : (f g : Field) → slots.OtherIsGot f g → OtherIsGot f g
+pub other-got : (f g : Field) → slots.OtherIsGot f g → BuilderOtherIsGot f g
 other-got f g law schema apart s s' keeps l =
     under-schema (λ set b. field_read set l s' (field_at set b (index_of g)) ≡ field_read set l s (field_at set b (index_of g))) g schema apart.other
     (ap (handed_out (typed_of g).field.kind) (law (apart-in schema f g apart) s s' keeps l))
 
-pub other-there : (f g : Field) → slots.OtherIsThere f g → OtherIsThere f g
+pub other-there : (f g : Field) → slots.OtherIsThere f g → BuilderOtherIsThere f g
 other-there f g law schema apart s s' keeps l =
     under-schema (λ set b. has_of (struct_record set l s' b) (field_at set b (index_of g)).field (index_of g) ≡ has_of (struct_record set l s b) (field_at set b (index_of g)).field (index_of g)) g schema apart.other
     (law (apart-in schema f g apart) s s' keeps l)

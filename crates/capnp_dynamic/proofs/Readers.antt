@@ -15,7 +15,7 @@ use Rattle.capnp_arena.specs.Facts.Forests.{tree_step}
 use Rattle.capnp_arena.specs.Facts.Structs.{tree_struct}
 use Rattle.capnp_arena.specs.Forest.{Forest, struct_from, tree as tree_in}
 use Rattle.capnp_arena.specs.Same.{IsCutOf}
-use Rattle.capnp_arena.specs.Shape.{CompositeIn, ListIn, NoShape, Shape, StructIn, placed, shape_at}
+use Rattle.capnp_arena.specs.Shape.{CompositeIn, ListIn, NoShape, Shape, StructIn, shape_target, shape_at}
 use Rattle.capnp_builders.specs.Blobs.{bytes_in}
 
 -- ---- nothing ----
@@ -29,7 +29,7 @@ list_not_null f bytes start (suc (suc (suc (suc zero)))) n = refl
 list_not_null f bytes start (suc (suc (suc (suc (suc zero))))) n = refl
 list_not_null f bytes start (suc (suc (suc (suc (suc (suc size)))))) n = refl
 
-no-target : (bytes : List ℕ) (s : Shape) → is_null_tree (tree_with_level tree_in tree_in (placed bytes s)) ≡ true → s ≡ NoShape
+no-target : (bytes : List ℕ) (s : Shape) → is_null_tree (tree_with_level tree_in tree_in (shape_target bytes s)) ≡ true → s ≡ NoShape
 no-target bytes NoShape e = refl
 no-target bytes (StructIn a d p) e = absurd (true≢false (sym e))
 no-target bytes (ListIn a size n) e = absurd (true≢false (sym e ∙ list_not_null (tree_in bytes) bytes a size n))

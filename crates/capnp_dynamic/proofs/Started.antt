@@ -15,11 +15,11 @@ use Rattle.capnp_records.specs.Facts.Pointers.{nth_tree-put_same}
 use Rattle.capnp_records.specs.Step.{is_group_field}
 use Rattle.capnp_records.specs.Writes.Contents.{init_tree, initn_tree}
 use Rattle.capnp_records.specs.Writes.ElementEnds.{InitnContent}
-use Rattle.capnp_records.specs.Writes.Overlay.{switch, switched}
+use Rattle.capnp_records.specs.Writes.Overlay.{switch, switched_struct}
 use Rattle.capnp_records.specs.Writes.Slots.{At}
 use Rattle.capnp_schema.specs.Plan.{brand_size}
 use Rattle.capnp_records.specs.Writes.TreeEnds.{InitContent}
-use Rattle.capnp_slots.specs.Fields.{IsPointer, IsRoomFor, IsSlot, Keeps, field_brand, field_set, pointer_index, slot_with, switched_to}
+use Rattle.capnp_slots.specs.Fields.{IsPointerField, IsRoomFor, IsSlot, Keeps, field_brand, field_set, pointer_index, slot_with, switched_to}
 use Rattle.capnp_slots.specs.Fills.{pointer_in}
 use Rattle.capnp_slots.specs.Groups.{IsGroupAt, group_without}
 use Rattle.capnp_slots.specs.Inits.{HasInit, HasInitn, IsInitRefusal, IsInitnRefusal, init_content, initn_content}
@@ -33,7 +33,7 @@ use Rattle.capnp_dynamic.proofs.HandedOut.{new-list, text-is}
 
 -- ---- what stands at the pointer ----
 
-switched-pointers : (n : Node) (f : FieldEntry) (s : StructTree) → (switched n f s).pointers ≡ s.pointers
+switched-pointers : (n : Node) (f : FieldEntry) (s : StructTree) → (switched_struct n f s).pointers ≡ s.pointers
 switched-pointers n f s = go (is_member f)
   where
     go : (q : Bool) → (elim q as (λ _. StructTree) [ true ↦ switch n f.discriminant_value s | false ↦ s ]).pointers ≡ s.pointers
@@ -78,7 +78,7 @@ handed-init set (StructType b g) h = (refl, HasAtLeast-zero_struct (brand_size s
 handed-init set (ListType e) h = absurd h
 handed-init set AnyPointerType h = tt
 
-pub init_pointer : (f : Field) → HasInit f → IsPointer f
+pub init_pointer : (f : Field) → HasInit f → IsPointerField f
 init_pointer f h = pointer-of-init (field_set f) (typed_of f).type h
 
 pub init_hands : (f : Field) (s s' : StructTree) → HasInit f → pointer_index f < tree_count s.pointers → s' ≡ slot_with f (init_content f) s → CanBeHanded (field_set f) (typed_of f).type (pointer_in f s')
@@ -116,7 +116,7 @@ handed-initn set n (StructType b g) h = absurd h
 handed-initn set n (ListType e) h = new-list set e n
 handed-initn set n AnyPointerType h = absurd h
 
-pub initn_pointer : (f : Field) (n : ℕ) → HasInitn f n → IsPointer f
+pub initn_pointer : (f : Field) (n : ℕ) → HasInitn f n → IsPointerField f
 initn_pointer f n h = pointer-of-initn (field_set f) n (typed_of f).type h
 
 pub initn_hands : (f : Field) (n : ℕ) (s s' : StructTree) → HasInitn f n → pointer_index f < tree_count s.pointers → s' ≡ slot_with f (initn_content f n) s → CanBeHanded (field_set f) (typed_of f).type (pointer_in f s')

@@ -23,7 +23,7 @@ use Rattle.capnp_schema.specs.declared.schema.structs.StructSchema.{StructSchema
 use Rattle.capnp_records.specs.Reading.{struct_record}
 use Rattle.capnp_records.specs.Record.{Left, Record}
 use Rattle.capnp_schema.specs.Plan.{brand_size}
-use Rattle.capnp_arena.specs.Built.{built}
+use Rattle.capnp_arena.specs.Built.{built_at}
 use Rattle.capnp_slots.specs.Standing.{IsStanding}
 use Rattle.capnp_dynamic.specs.contracts.dynamic_list.build.Builder.{the_row as list_handle_row}
 use Rattle.capnp_dynamic.specs.contracts.dynamic_struct.build.Builder.{the_row as struct_handle_row}
@@ -41,7 +41,7 @@ abbrev pub place_of : StructHandle → Place
 place_of b = b.place
 
 abbrev pub built_struct : StructHandle → StructTree
-built_struct b = built b.arena.now b.place
+built_struct b = built_at b.arena.now b.place
 
 -- the plain handle of it
 abbrev pub handle_of : StructHandle → StructBuilder
@@ -99,15 +99,15 @@ IsIn j l = j < list_length (built_elements l)
 -- ---- what is lent for a shorter time ----
 
 -- a builder with the message as it was left
-abbrev pub with_struct : StructHandle → Arena → StructHandle
-with_struct b a = record b { arena = record b.arena { now = a } }
+abbrev pub with_message : StructHandle → Arena → StructHandle
+with_message b a = record b { arena = record b.arena { now = a } }
 
 abbrev pub with_list : ListHandle → Arena → ListHandle
 with_list l a = record l { arena = record l.arena { now = a } }
 
 -- a builder that is lent for a shorter time ends as itself, with the message as it was left
 abbrev pub LendsStruct : MutBor StructHandle → StructHandle → Fml
-LendsStruct b result = Lends (struct_handle_row (record { mir = named 0; lft = [] })) arena_row b (struct_behind result) (with_struct b.now)
+LendsStruct b result = Lends (struct_handle_row (record { mir = named 0; lft = [] })) arena_row b (struct_behind result) (with_message b.now)
 
 abbrev pub LendsList : MutBor ListHandle → ListHandle → Fml
 LendsList l result = Lends (list_handle_row (record { mir = named 0; lft = [] })) arena_row l (list_behind result) (with_list l.now)

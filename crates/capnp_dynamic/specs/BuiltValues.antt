@@ -3,8 +3,8 @@ use Rattle.std.specs.Prelude.{◌≡◌, ⊤}
 use Rattle.capnp_wire.specs.Standing.{levels_of, list_levels, list_of, struct_levels, struct_of, tree_of}
 use Rattle.capnp_arena.specs.Same.{IsCutOf, IsStructCutOf}
 use Rattle.capnp_base.specs.AnyPointer.{pointer_of}
-use Rattle.capnp_builders.specs.Blobs.{IsData, IsText, data_behind, data_bytes, data_word, position, text_behind, text_bytes, text_word}
-use Rattle.capnp_builders.specs.Pointers.{IsPointer, arena_behind, pointer_tree, word_of as pointer_word}
+use Rattle.capnp_builders.specs.Blobs.{IsData, IsBuiltText, data_behind, data_bytes, data_word, position, text_behind, text_bytes, text_word}
+use Rattle.capnp_builders.specs.Pointers.{IsUntypedPointer, arena_behind, untyped_tree, untyped_word as pointer_word}
 use Rattle.capnp_dynamic.specs.Built.{IsListReady, IsReady, built_reading, built_schema, built_set, built_struct, built_type, list_behind, place_of, struct_behind, word_of}
 use Rattle.capnp_dynamic_readers.specs.Handles.{list_reader_of, list_set, reader_of, schema_of, type_of}
 use Rattle.capnp_dynamic_readers.specs.declared.dynamic_value.Reader.{Reader as DynamicValue}
@@ -35,11 +35,11 @@ StandsAs x y = ⊥
 
 -- a value stands where it is said to; a struct has its schema's sections, and a list elements of its type
 abbrev pub CanBeRead : BuiltValue → Type 0
-CanBeRead (built.Text b) = IsText b
+CanBeRead (built.Text b) = IsBuiltText b
 CanBeRead (built.«Data» b) = IsData b
 CanBeRead (built.Struct s) = IsReady s
 CanBeRead (built.List l) = IsListReady l
-CanBeRead (built.AnyPointer p) = IsPointer p
+CanBeRead (built.AnyPointer p) = IsUntypedPointer p
 CanBeRead v = ⊤
 
 -- a reader of a value: of the same variant, and on the same, which is cut off past 129 levels
@@ -59,5 +59,5 @@ IsReaderOf (built.Text x) (dynamic.Text y) = y.0.now ≡ text_bytes x
 IsReaderOf (built.«Data» x) (dynamic.«Data» y) = y.now ≡ data_bytes x
 IsReaderOf (built.Struct x) (dynamic.Struct y) = (schema_of y ≡ built_schema x) × IsStructCutOf (struct_of (reader_of y)) (built_struct x) × (struct_levels (reader_of y) ≡ 64)
 IsReaderOf (built.List x) (dynamic.List y) = (type_of y ≡ built_type x) × (list_set y ≡ built_set x) × IsCutOf (list_of (list_reader_of y)) (built_reading x) × (list_levels (list_reader_of y) ≡ 64)
-IsReaderOf (built.AnyPointer x) (dynamic.AnyPointer y) = IsCutOf (tree_of (pointer_of y)) (pointer_tree x) × (levels_of (pointer_of y) ≡ 64)
+IsReaderOf (built.AnyPointer x) (dynamic.AnyPointer y) = IsCutOf (tree_of (pointer_of y)) (untyped_tree x) × (levels_of (pointer_of y) ≡ 64)
 IsReaderOf x y = ⊥

@@ -7,7 +7,7 @@ use Rattle.capnp_wire.specs.Place.{struct_tree}
 use Rattle.capnp_wire.specs.Reading.{as_data, as_text, element_pointer, element_struct}
 use Rattle.capnp_wire.specs.Tree.{StructTree, Tree, nth_tree}
 use Rattle.capnp_builders.specs.Blobs.{data_there, position, text_bytes, text_there}
-use Rattle.capnp_builders.specs.Pointers.{pointer_tree}
+use Rattle.capnp_builders.specs.Pointers.{untyped_tree}
 use Rattle.capnp_schema.specs.FieldLists.{typed_of}
 use Rattle.capnp_schema.specs.Schema.{Schemas, TypedField, VoidValue, default_of}
 use Rattle.capnp_schema.specs.StructHandles.{number_of, set_of}
@@ -29,7 +29,7 @@ use Rattle.capnp_dynamic.specs.Built.{HoldsElements, built_element, built_elemen
 use Rattle.capnp_dynamic.specs.BuiltValues.{IsReaderOf}
 use Rattle.capnp_dynamic_readers.specs.Reads.{field_read}
 use Rattle.capnp_dynamic_readers.specs.Seen.{value_seen}
-use Rattle.capnp_dynamic_readers.specs.Typed.{IsOf, IsUnder}
+use Rattle.capnp_dynamic_readers.specs.Typed.{IsOf, IsValueUnder}
 use Rattle.capnp_dynamic.specs.declared.dynamic_list.build.Builder.{Builder as ListHandle}
 use Rattle.capnp_dynamic_readers.specs.declared.dynamic_value.Reader.{Reader as DynamicValue}
 use Rattle.capnp_dynamic.specs.declared.dynamic_value.build.Builder.{Builder as BuiltValue}
@@ -53,7 +53,7 @@ HandsOut new set t x (built.Text b) = (TextType ≡ t) × (text_there b ≡ x) �
 HandsOut new set t x (built.«Data» bytes) = (DataType ≡ t) × (data_there bytes ≡ x)
 HandsOut new set t x (built.Struct s) = (struct_brand t ≡ Some (number_of (built_schema s))) × (set_of (built_schema s) ≡ set) × (struct_tree (built_struct s) ≡ x)
 HandsOut new set t x (built.List l) = (ListType (built_element l) ≡ t) × (built_set l ≡ set) × (built_elements l ≡ x) × (built_reading l ≡ or_empty (element_size (built_element l)) x)
-HandsOut new set t x (built.AnyPointer p) = (AnyPointerType ≡ t) × (pointer_tree p ≡ x)
+HandsOut new set t x (built.AnyPointer p) = (AnyPointerType ≡ t) × (untyped_tree p ≡ x)
 HandsOut new set t x v = ⊥
 
 -- ---- fields ----
@@ -109,7 +109,7 @@ element_read_of set t x j = read_of set VoidValue t (element_value set x (below_
 
 -- the number of an element is what a reader of the list answers
 abbrev pub HandsElementNumber : Schemas → SchemaType → Tree → ℕ → BuiltValue → Type 0
-HandsElementNumber set t x j v = (r : DynamicValue) × IsReaderOf v r × (value_seen r ≡ element_read_of set t x j) × IsUnder set t r
+HandsElementNumber set t x j v = (r : DynamicValue) × IsReaderOf v r × (value_seen r ≡ element_read_of set t x j) × IsValueUnder set t r
 
 -- a builder's get of an element of a list that reads as `y`: a struct of the list as it stands, what stands behind the
 -- element's pointer once it was filled, or its number

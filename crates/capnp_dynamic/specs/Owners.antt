@@ -8,7 +8,7 @@ use Rattle.capnp_wire.specs.Edits.{with_pointer_tree}
 use Rattle.capnp_wire.specs.Elements.{with_pointer_element, with_struct_element}
 use Rattle.capnp_wire.specs.Reading.{element_pointer}
 use Rattle.capnp_wire.specs.Tree.{StructTree, Tree}
-use Rattle.capnp_arena.specs.Built.{ChangesIn, IsBuilt, LeavesIn, built, part}
+use Rattle.capnp_arena.specs.Built.{ChangesIn, IsBuilt, LeavesIn, built_at, place_words}
 use Rattle.capnp_arena.specs.Forest.{Changes, Forest, PartChanges, Planted, struct_from, tree}
 use Rattle.capnp_arena.specs.Leaves.{Leaves}
 use Rattle.capnp_arena.specs.Segment.{segment}
@@ -16,7 +16,7 @@ use Rattle.capnp_arena.specs.Shape.{shape_at}
 use Rattle.capnp_arena.specs.declared.arena.Arena.{Arena}
 use Rattle.capnp_arena.specs.declared.arena.Place.{Place}
 use Rattle.capnp_builders.specs.Blobs.{data_behind, data_word, text_behind, text_word}
-use Rattle.capnp_builders.specs.Pointers.{arena_behind, word_of as pointer_word}
+use Rattle.capnp_builders.specs.Pointers.{arena_behind, untyped_word as pointer_word}
 use Rattle.capnp_schema.specs.FieldLists.{typed_of}
 use Rattle.capnp_schema.specs.Types.{is_pointer}
 use Rattle.capnp_schema.specs.declared.schema.fields.Field.{Field}
@@ -34,18 +34,18 @@ use Rattle.capnp_dynamic.specs.declared.dynamic_value.build.Builder.{Builder as 
 use Rattle.capnp_dynamic.specs.declared.dynamic_value.build.Builder.TheVariants as built_value
 
 -- a value stands at the pointer of a word of a message
-abbrev pub IsAt : MutBor Arena → ℕ → BuiltValue → Type 0
-IsAt a at (built_value.Text b) = (text_behind b ≡ a) × (text_word b ≡ at)
-IsAt a at (built_value.«Data» b) = (data_behind b ≡ a) × (data_word b ≡ at)
-IsAt a at (built_value.Struct s) = (struct_behind s ≡ a) × (shape_at (segment a.now) at ≡ part (place_of s))
-IsAt a at (built_value.List l) = (list_behind l ≡ a) × (word_of l ≡ at)
-IsAt a at (built_value.AnyPointer p) = (arena_behind p ≡ a) × (pointer_word p ≡ at)
-IsAt a at v = ⊥
+abbrev pub IsValueAt : MutBor Arena → ℕ → BuiltValue → Type 0
+IsValueAt a at (built_value.Text b) = (text_behind b ≡ a) × (text_word b ≡ at)
+IsValueAt a at (built_value.«Data» b) = (data_behind b ≡ a) × (data_word b ≡ at)
+IsValueAt a at (built_value.Struct s) = (struct_behind s ≡ a) × (shape_at (segment a.now) at ≡ place_words (place_of s))
+IsValueAt a at (built_value.List l) = (list_behind l ≡ a) × (word_of l ≡ at)
+IsValueAt a at (built_value.AnyPointer p) = (arena_behind p ≡ a) × (pointer_word p ≡ at)
+IsValueAt a at v = ⊥
 
 -- and so at pointer i of the struct at a place: what a call at the pointer leaves, the struct has there
 pub record IsAtPointer (a : MutBor Arena) (p : Place) (i : ℕ) (v : BuiltValue) : Type 0 where
   pub at : ℕ
-  pub stands : IsAt a at v
+  pub stands : IsValueAt a at v
   pub leaves : (new : List ℕ) → Forest new at → Changes at (segment a.now) new → LeavesIn p i a.now at new
 
 -- a value stands at pointer i of the struct that has become `s`, and nothing else of the message has changed; the reference to
@@ -56,7 +56,7 @@ pub record IsPartOf (owner : MutBor Arena) (p : Place) (i : ℕ) (s : StructTree
   pub same : arena.ghost_name ≡ owner.ghost_name
   pub planted : IsBuilt arena.now p
   pub changes : ChangesIn p owner.now arena.now
-  pub becomes : built arena.now p ≡ s
+  pub becomes : built_at arena.now p ≡ s
 
 -- a group that was got is the same struct, of the same message; in one that was started anew nothing else has changed
 abbrev pub IsSameStruct : MutBor Arena → Place → BuiltValue → Type 0
@@ -78,22 +78,22 @@ by_kind false false G P = ⊤
 abbrev pub IsGotOf : MutBor Arena → Place → Field → BuiltValue → Type 0
 IsGotOf owner p f v =
     by_kind (is_group_field (typed_of f).field.kind) (is_pointer (typed_of f).type) (IsSameStruct owner p v)
-    (IsPartOf owner p (pointer_index f) (with_pointer_tree (built owner.now p) (pointer_index f) (filled_in f (built owner.now p))) v)
+    (IsPartOf owner p (pointer_index f) (with_pointer_tree (built_at owner.now p) (pointer_index f) (filled_in f (built_at owner.now p))) v)
 
 abbrev pub IsStartedOf : MutBor Arena → Place → Field → BuiltValue → Type 0
 IsStartedOf owner p f v =
     by_kind (is_group_field (typed_of f).field.kind) (is_pointer (typed_of f).type) (IsStartedStruct owner p v)
-    (IsPartOf owner p (pointer_index f) (slot_with f (init_content f) (built owner.now p)) v)
+    (IsPartOf owner p (pointer_index f) (slot_with f (init_content f) (built_at owner.now p)) v)
 
 abbrev pub IsSizedOf : MutBor Arena → Place → Field → ℕ → BuiltValue → Type 0
-IsSizedOf owner p f n v = IsPartOf owner p (pointer_index f) (slot_with f (initn_content f n) (built owner.now p)) v
+IsSizedOf owner p f n v = IsPartOf owner p (pointer_index f) (slot_with f (initn_content f n) (built_at owner.now p)) v
 
 -- ---- elements ----
 
 -- a value stands at pointer j of the list at a word: what a call at the pointer leaves, the list has there
 pub record IsAtElement (a : MutBor Arena) (list j : ℕ) (v : BuiltValue) : Type 0 where
   pub at : ℕ
-  pub stands : IsAt a at v
+  pub stands : IsValueAt a at v
   pub leaves : (new : List ℕ) → Forest new at → Changes at (segment a.now) new → Leaves list (with_pointer_element j (tree new at) (tree (segment a.now) list)) (segment a.now) new
 
 -- a value stands at pointer j of the list that has become `x`, and nothing else of the message has changed; the reference to the
@@ -110,7 +110,7 @@ pub record IsElementOf (owner : MutBor Arena) (list j : ℕ) (x : Tree) (v : Bui
 abbrev pub IsStructOf : MutBor Arena → (list j : ℕ) → BuiltValue → Type 0
 IsStructOf owner list j (built_value.Struct s) =
     (struct_behind s ≡ owner)
-    × ((new : List ℕ) → Planted new (part (place_of s)) → PartChanges (part (place_of s)) (segment owner.now) new →
+    × ((new : List ℕ) → Planted new (place_words (place_of s)) → PartChanges (place_words (place_of s)) (segment owner.now) new →
     Leaves list (with_struct_element j (struct_from new (place_of s).start (place_of s).data_words (place_of s).pointers) (tree (segment owner.now) list)) (segment owner.now) new)
 IsStructOf owner list j v = ⊥
 

@@ -13,7 +13,7 @@ use Rattle.capnp_records.specs.Record.{Levels, Record, Value}
 use Rattle.capnp_slots.specs.Fields.{IsSlot, Keeps, names_of}
 use Rattle.capnp_slots.specs.FieldWrites.{IsFieldSet, field_cleared}
 use Rattle.capnp_slots.specs.Groups.{IsGroup}
-use Rattle.capnp_slots.specs.ReadBack.{HasKind, IsWhole}
+use Rattle.capnp_slots.specs.ReadBack.{HasKind, IsWithoutParts}
 use Rattle.capnp_slots.specs.Standing.{IsUnder}
 use Rattle.capnp_dynamic.specs.Built.{built_record, built_schema}
 use Rattle.capnp_dynamic.specs.Handed.{HandsInit}
@@ -39,38 +39,38 @@ IsActiveUnder schema f s = is_member (typed_of f).field ≡ true → (l : Levels
 -- a number, truth value, enum, text or data that was set in a slot of its kind is answered
 abbrev pub SetIsGot : Field → DynamicValue → Type 0
 SetIsGot f v = (schema : StructSchema) → BelongsTo f schema → (old new : StructTree) → IsUnder schema old → IsSlot f → IsFieldSet f (source_of v) old None new →
-    IsWhole (source_of v) → HasKind (typed_of f).type → (l : Levels) → got_under schema l new (index_of f) ≡ value_seen v
+    IsWithoutParts (source_of v) → HasKind (typed_of f).type → (l : Levels) → got_under schema l new (index_of f) ≡ value_seen v
 
 -- a field that was set is active, and one that was cleared
-abbrev pub SetIsActive : Field → DynamicValue → Type 0
-SetIsActive f v = (schema : StructSchema) → BelongsTo f schema → (old new : StructTree) → IsUnder schema old → IsFieldSet f (source_of v) old None new → IsActiveUnder schema f new
+abbrev pub BuilderSetIsActive : Field → DynamicValue → Type 0
+BuilderSetIsActive f v = (schema : StructSchema) → BelongsTo f schema → (old new : StructTree) → IsUnder schema old → IsFieldSet f (source_of v) old None new → IsActiveUnder schema f new
 
-abbrev pub ClearIsActive : Field → Type 0
-ClearIsActive f = (schema : StructSchema) → BelongsTo f schema → (s : StructTree) → IsUnder schema s → IsActiveUnder schema f (field_cleared f s)
+abbrev pub BuilderClearIsActive : Field → Type 0
+BuilderClearIsActive f = (schema : StructSchema) → BelongsTo f schema → (s : StructTree) → IsUnder schema s → IsActiveUnder schema f (field_cleared f s)
 
 -- of a slot that was cleared the default is answered
-abbrev pub ClearIsGot : Field → Type 0
-ClearIsGot f = (schema : StructSchema) → BelongsTo f schema → (s : StructTree) → IsUnder schema s → IsSlot f → (l : Levels) →
+abbrev pub BuilderClearIsGot : Field → Type 0
+BuilderClearIsGot f = (schema : StructSchema) → BelongsTo f schema → (s : StructTree) → IsUnder schema s → IsSlot f → (l : Levels) →
     got_under schema l (field_cleared f s) (index_of f) ≡ default_got (set_of schema) l (struct_field schema (index_of f))
 
 -- a group that init hands out has its member of discriminant value 0 active, where it has one
-abbrev pub GroupStarts : Field → Type 0
-GroupStarts f = (schema : StructSchema) → BelongsTo f schema → (s : StructTree) → IsUnder schema s → IsGroup f → (g : StructHandle) → HandsInit f s (built.Struct g) →
+abbrev pub BuilderGroupStarts : Field → Type 0
+BuilderGroupStarts f = (schema : StructSchema) → BelongsTo f schema → (s : StructTree) → IsUnder schema s → IsGroup f → (g : StructHandle) → HandsInit f s (built.Struct g) →
     (k : ℕ) → k < length (struct_fields (built_schema g)) → is_member (struct_field (built_schema g) k).field ≡ true → (struct_field (built_schema g) k).field.discriminant_value ≡ 0 →
     which_of (built_record g) ≡ Some k
 
 -- two fields of a schema, of which one is no member
-pub record AreApart (schema : StructSchema) (f g : Field) : Type 0 where
+pub record AreSchemaFieldsApart (schema : StructSchema) (f g : Field) : Type 0 where
   pub belongs : BelongsTo f schema
   pub other : BelongsTo g schema
   pub differ : index_of f ≢ index_of g
   pub not_both : (is_member (typed_of f).field && is_member (typed_of g).field) ≡ false
 
 -- a write of one changes neither what is answered of the other nor whether it is there
-abbrev pub OtherIsGot : (f g : Field) → Type 0
-OtherIsGot f g = (schema : StructSchema) → AreApart schema f g → (s s' : StructTree) → Keeps (names_of f) s s' → (l : Levels) →
+abbrev pub BuilderOtherIsGot : (f g : Field) → Type 0
+BuilderOtherIsGot f g = (schema : StructSchema) → AreSchemaFieldsApart schema f g → (s s' : StructTree) → Keeps (names_of f) s s' → (l : Levels) →
     got_under schema l s' (index_of g) ≡ got_under schema l s (index_of g)
 
-abbrev pub OtherIsThere : (f g : Field) → Type 0
-OtherIsThere f g = (schema : StructSchema) → AreApart schema f g → (s s' : StructTree) → Keeps (names_of f) s s' → (l : Levels) →
+abbrev pub BuilderOtherIsThere : (f g : Field) → Type 0
+BuilderOtherIsThere f g = (schema : StructSchema) → AreSchemaFieldsApart schema f g → (s s' : StructTree) → Keeps (names_of f) s s' → (l : Levels) →
     has_of (record_under schema l s') (struct_field schema (index_of g)).field (index_of g) ≡ has_of (record_under schema l s) (struct_field schema (index_of g)).field (index_of g)

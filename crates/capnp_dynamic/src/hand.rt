@@ -6,10 +6,10 @@ ghost use Rattle.std.specs.Prelude.{None, false, IfErr, IfOk, IsErrAnd, IsOk, On
 ghost use Rattle.capnp_device.specs.declared.error.ErrorKind.TheVariants.{FieldNotFound};
 ghost use Rattle.capnp_wire.specs.Edits.{IsDueRefusal, with_pointer_tree};
 ghost use Rattle.capnp_wire.specs.Tree.{StructTree, tree_count};
-ghost use Rattle.capnp_arena.specs.Built.{IsBuilt, built};
+ghost use Rattle.capnp_arena.specs.Built.{IsBuilt, built_at};
 ghost use Rattle.capnp_schema.specs.FieldLists.{typed_of};
 ghost use Rattle.capnp_schema.specs.Types.{is_pointer};
-ghost use Rattle.capnp_slots.specs.Fields.{IsPointer, IsRoomFor, IsSlot, field_set, pointer_index};
+ghost use Rattle.capnp_slots.specs.Fields.{IsPointerField, IsRoomFor, IsSlot, field_set, pointer_index};
 ghost use Rattle.capnp_schema.specs.Query.{field_named};
 ghost use Rattle.capnp_schema.specs.StructHandles.{struct_records};
 ghost use Rattle.capnp_schema.specs.declared.schema.fields.Field.{Field};
@@ -61,7 +61,7 @@ fn number_of<'a>(arena: &'a Arena, place: Place, field: Field<'a>) -> dynamic_va
     requires planted { IsBuilt arena.now place }
     requires slot { IsSlot field }
     requires number { is_pointer (typed_of field).type ≡ false }
-    ensures stands { HandsNumber (field_set field.entry) (typed_of field.entry) (built arena.now place) result }
+    ensures stands { HandsNumber (field_set field.entry) (typed_of field.entry) (built_at arena.now place) result }
     ensures ready { CanBeRead result }
 {
     let reader = Reader::new(
@@ -82,16 +82,16 @@ fn pointed_of<'a>(
 ) -> Result<dynamic_value::Builder<'a>>
     requires planted { IsBuilt arena.old place }
     requires slot { IsSlot field }
-    requires pointer { IsPointer field }
-    requires room { IsRoomFor field (built arena.old place) }
-    ensures stands { IfOk result (HandsFilled field.entry (built arena.old place)) }
+    requires pointer { IsPointerField field }
+    requires room { IsRoomFor field (built_at arena.old place) }
+    ensures stands { IfOk result (HandsFilled field.entry (built_at arena.old place)) }
     ensures ready { IfOk result CanBeRead }
     ensures owner { IfOk result (IsPartOf arena.entry place (pointer_index field.entry)
-        (with_pointer_tree (built arena.old place) (pointer_index field.entry)
-        (filled_in field.entry (built arena.old place)))) }
-    ensures within { OnOk result (due_in field.entry (built arena.old place) ≡ None) }
-    ensures cause { IfErr result (λ e. IsDueRefusal e (due_in field.entry (built arena.old place))) }
-    ensures rests { RestsIn field.entry (built arena.old place) → IsOk result }
+        (with_pointer_tree (built_at arena.old place) (pointer_index field.entry)
+        (filled_in field.entry (built_at arena.old place)))) }
+    ensures within { OnOk result (due_in field.entry (built_at arena.old place) ≡ None) }
+    ensures cause { IfErr result (λ e. IsDueRefusal e (due_in field.entry (built_at arena.old place))) }
+    ensures rests { RestsIn field.entry (built_at arena.old place) → IsOk result }
 {
     let _default = field.get_default();
     let at = part::get(arena, place, field)?;
@@ -104,7 +104,7 @@ fn pointed_of<'a>(
 /// The pointer of a slot lies inside each struct that has the sections of the field's schema.
 pub(crate) fn pointer_is_inside(field: Field<'_>)
     requires slot { IsSlot field }
-    requires pointer { IsPointer field }
+    requires pointer { IsPointerField field }
     ensures { (s : StructTree) → IsRoomFor field.entry s → pointer_index field.entry < tree_count s.pointers }
 {
     let schema = field.get_containing_struct();

@@ -4,10 +4,10 @@ ghost use Rattle.capnp_wire.specs.Edits.{is_struct, struct_in};
 ghost use Rattle.capnp_wire.specs.Place.{struct_tree};
 ghost use Rattle.capnp_wire.specs.Reading.{as_data, as_text};
 ghost use Rattle.capnp_arena.specs.Forest.{Forest, tree};
-ghost use Rattle.capnp_arena.specs.Built.{part};
+ghost use Rattle.capnp_arena.specs.Built.{place_words};
 ghost use Rattle.capnp_arena.specs.Segment.{segment};
 ghost use Rattle.capnp_arena.specs.Shape.{shape_at};
-ghost use Rattle.capnp_builders.specs.Blobs.{IsData, IsText, data_behind, data_there, data_word, position, text_behind, text_bytes, text_there, text_word};
+ghost use Rattle.capnp_builders.specs.Blobs.{IsData, IsBuiltText, data_behind, data_there, data_word, position, text_behind, text_bytes, text_there, text_word};
 ghost use Rattle.capnp_schema.specs.Entries.{lists_seen};
 ghost use Rattle.capnp_schema.specs.StructHandles.{number_of, set_of};
 ghost use Rattle.capnp_schema.specs.Types.{is_pointer, seen_variant};
@@ -15,7 +15,7 @@ ghost use Rattle.capnp_records.specs.Writes.Slots.{Fits};
 ghost use Rattle.capnp_dynamic.specs.Built.{IsReady, built_schema, built_struct, place_of, struct_behind};
 ghost use Rattle.capnp_dynamic.specs.BuiltValues.{CanBeRead};
 ghost use Rattle.capnp_dynamic.specs.Handed.{CanBeHanded, HandsOut};
-ghost use Rattle.capnp_dynamic.specs.Owners.{IsAt};
+ghost use Rattle.capnp_dynamic.specs.Owners.{IsValueAt};
 
 use crate::dynamic_value::Builder;
 use crate::{dynamic_list, dynamic_struct};
@@ -32,7 +32,7 @@ fn text_at<'a>(pointer: PointerBuilder<'a>, is_new: bool) -> text::Builder<'a>
     requires forest { Forest (segment pointer.arena.now) pointer.at }
     requires text { IsOk (as_text (tree (segment pointer.arena.now) pointer.at)) }
     ensures tree { text_there result ≡ tree (segment pointer.entry.arena.now) pointer.entry.at }
-    ensures ready { IsText result }
+    ensures ready { IsBuiltText result }
     ensures position { position result ≡ cond is_new 0 (length (text_bytes result)) }
     ensures behind { text_behind result ≡ pointer.entry.arena }
     ensures at { text_word result ≡ pointer.entry.at }
@@ -70,7 +70,7 @@ pub(crate) fn hand_out<'a>(
     ensures ready { CanBeRead result }
     ensures stands { HandsOut is_new (lists_seen set.now) (seen_variant variant)
         (tree (segment pointer.entry.arena.now) pointer.entry.at) result }
-    ensures behind { IsAt pointer.entry.arena pointer.entry.at result }
+    ensures behind { IsValueAt pointer.entry.arena pointer.entry.at result }
 {
     match variant {
         TypeVariant::Text => Builder::Text(text_at(pointer, is_new)),
@@ -100,7 +100,7 @@ fn struct_at<'a>(
     ensures tree { struct_tree (built_struct result) ≡ tree (segment pointer.entry.arena.now) pointer.entry.at }
     ensures ready { IsReady result }
     ensures behind { struct_behind result ≡ pointer.entry.arena }
-    ensures place { shape_at (segment pointer.entry.arena.now) pointer.entry.at ≡ part (place_of result) }
+    ensures place { shape_at (segment pointer.entry.arena.now) pointer.entry.at ≡ place_words (place_of result) }
 {
     let PointerBuilder { arena, at } = pointer;
     let place = arena.struct_here(at);

@@ -1,6 +1,6 @@
 //! What the calls of readers answer after those of builders. The premises of the laws are the builders' clauses, so
 //! that these and a law together say what a reader of the struct answers, with any number of levels left.
-ghost use Rattle.capnp_dynamic.specs.ReadBack.{ClearIsActive, ClearIsGot, GroupStarts, OtherIsGot, OtherIsThere, SetIsActive, SetIsGot};
+ghost use Rattle.capnp_dynamic.specs.ReadBack.{BuilderClearIsActive, BuilderClearIsGot, BuilderGroupStarts, BuilderOtherIsGot, BuilderOtherIsThere, BuilderSetIsActive, SetIsGot};
 
 use crate::dynamic_value;
 use capnp_schema::schema::Field;
@@ -12,7 +12,7 @@ use capnp_slots::source::Source;
 /// one.
 pub fn sets_are_got(field: Field<'_>, value: dynamic_value::Reader<'_>)
     ensures value { SetIsGot field.entry value.entry }
-    ensures active { SetIsActive field.entry value.entry }
+    ensures active { BuilderSetIsActive field.entry value.entry }
 {
     sets_are_read(field, Source::from(value));
     groups_are_started(field);
@@ -20,8 +20,8 @@ pub fn sets_are_got(field: Field<'_>, value: dynamic_value::Reader<'_>)
 
 /// After a clear of a slot `get` gives its default; and a member that was cleared is the active one.
 pub fn clears_are_got(field: Field<'_>)
-    ensures default { ClearIsGot field.entry }
-    ensures active { ClearIsActive field.entry }
+    ensures default { BuilderClearIsGot field.entry }
+    ensures active { BuilderClearIsActive field.entry }
 {
     starts_are_read(field);
     groups_are_started(field);
@@ -29,7 +29,7 @@ pub fn clears_are_got(field: Field<'_>)
 
 /// A group that `init` hands out has its member of discriminant value 0 active, where it has one.
 pub fn inits_are_got(field: Field<'_>)
-    ensures { GroupStarts field.entry }
+    ensures { BuilderGroupStarts field.entry }
 {
     groups_are_started(field);
 }
@@ -37,8 +37,8 @@ pub fn inits_are_got(field: Field<'_>)
 /// A write of a field changes neither what `get` gives of another one of the struct nor what `has` does, unless both
 /// are members.
 pub fn others_are_got(field: Field<'_>, other: Field<'_>)
-    ensures value { OtherIsGot field.entry other.entry }
-    ensures there { OtherIsThere field.entry other.entry }
+    ensures value { BuilderOtherIsGot field.entry other.entry }
+    ensures there { BuilderOtherIsThere field.entry other.entry }
 {
     others_are_read(field, other);
 }

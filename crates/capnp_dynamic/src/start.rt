@@ -9,8 +9,8 @@ ghost use Rattle.capnp_schema.specs.FieldLists.{typed_of};
 ghost use Rattle.capnp_schema.specs.Query.{field_named};
 ghost use Rattle.capnp_schema.specs.StructHandles.{struct_records};
 ghost use Rattle.capnp_schema.specs.declared.schema.fields.Field.{Field};
-ghost use Rattle.capnp_arena.specs.Built.{IsBuilt, built};
-ghost use Rattle.capnp_slots.specs.Fields.{IsPointer, IsRoomFor, IsSlot, field_set, pointer_index, slot_with};
+ghost use Rattle.capnp_arena.specs.Built.{IsBuilt, built_at};
+ghost use Rattle.capnp_slots.specs.Fields.{IsPointerField, IsRoomFor, IsSlot, field_set, pointer_index, slot_with};
 ghost use Rattle.capnp_slots.specs.Fills.{pointer_in};
 ghost use Rattle.capnp_slots.specs.Inits.{IsInitRefusal, IsInitnRefusal, init_content};
 ghost use Rattle.capnp_dynamic.specs.Built.{IsReady, built_schema, built_struct, place_of, struct_behind};
@@ -34,11 +34,11 @@ use capnp_wire::error::Result;
 fn hand_new<'a>(arena: &'a mut Arena, place: Place, field: Field<'a>) -> dynamic_value::Builder<'a>
     requires planted { IsBuilt arena.old place }
     requires slot { IsSlot field }
-    requires pointer { IsPointer field }
-    requires room { IsRoomFor field (built arena.old place) }
-    requires handed { CanBeHanded (field_set field) (typed_of field).type (pointer_in field (built arena.old place)) }
+    requires pointer { IsPointerField field }
+    requires room { IsRoomFor field (built_at arena.old place) }
+    requires handed { CanBeHanded (field_set field) (typed_of field).type (pointer_in field (built_at arena.old place)) }
     ensures stands { HandsOut true (field_set field.entry) (typed_of field.entry).type
-        (pointer_in field.entry (built arena.old place)) result }
+        (pointer_in field.entry (built_at arena.old place)) result }
     ensures ready { CanBeRead result }
     ensures there { IsAtPointer arena.entry place (pointer_index field.entry) result }
 {
@@ -56,12 +56,12 @@ fn start_slot<'a>(
 ) -> Result<dynamic_value::Builder<'a>>
     requires planted { IsBuilt arena.old place }
     requires slot { IsSlot field }
-    requires room { IsRoomFor field (built arena.old place) }
+    requires room { IsRoomFor field (built_at arena.old place) }
     ensures stands { IfOk result (HandsNew (field_set field.entry) (typed_of field.entry)) }
     ensures ready { IfOk result CanBeRead }
-    ensures pointer { IfOk result (λ _. IsPointer field.entry) }
+    ensures pointer { IfOk result (λ _. IsPointerField field.entry) }
     ensures owner { IfOk result (IsPartOf arena.entry place (pointer_index field.entry)
-        (slot_with field.entry (init_content field.entry) (built arena.old place))) }
+        (slot_with field.entry (init_content field.entry) (built_at arena.old place))) }
     ensures cause { IfErr result (λ e. IsInitRefusal (typed_of field.entry).type e.kind) }
 {
     slot::init(arena, place, field)?;
@@ -77,7 +77,7 @@ fn start_sized<'a>(
     size: u32,
 ) -> Result<dynamic_value::Builder<'a>>
     requires planted { IsBuilt arena.old place }
-    requires room { IsRoomFor field (built arena.old place) }
+    requires room { IsRoomFor field (built_at arena.old place) }
     ensures stands { IfOk result (HandsNewSized (field_set field.entry) (typed_of field.entry) size) }
     ensures ready { IfOk result CanBeRead }
     ensures owner { IfOk result (IsSizedOf arena.entry place field.entry size) }

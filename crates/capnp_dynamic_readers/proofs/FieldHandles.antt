@@ -2,7 +2,7 @@
 use Rattle.std.specs.Prelude.{ℕ, ◌≡◌, not}
 use Rattle.std.proofs.Common.{ap, ◌∙◌}
 use Rattle.capnp_wire.specs.Standing.{struct_levels, struct_of}
-use Rattle.capnp_schema.specs.FieldLists.{index_of, schema_of as field_schema, typed_of}
+use Rattle.capnp_schema.specs.FieldLists.{index_of, field_schema as field_schema, typed_of}
 use Rattle.capnp_schema.specs.Schema.{Schemas, TypedField, field_at}
 use Rattle.capnp_schema.specs.StructHandles.{number_of, set_of, struct_field}
 use Rattle.capnp_schema.specs.declared.schema.fields.Field.{Field}

@@ -7,9 +7,9 @@ use Rattle.capnp_wire.specs.declared.struct_reader.StructReader.{StructReader}
 use Rattle.capnp_schema.specs.Accepted.{IsAccepted}
 use Rattle.capnp_schema.specs.Facts.GroupFields.{group_field_found, target_parent}
 use Rattle.capnp_schema.specs.Facts.GroupWalks.{steps_advance, steps_enter, steps_leave}
-use Rattle.capnp_schema.specs.FieldLists.{IsFieldOf, index_of, schema_of as field_schema, typed_of}
+use Rattle.capnp_schema.specs.FieldLists.{IsFieldOf, index_of, field_schema as field_schema, typed_of}
 use Rattle.capnp_schema.specs.GroupFields.{group_field_of}
-use Rattle.capnp_schema.specs.GroupsDown.{IsGroupIn, place_of_field}
+use Rattle.capnp_schema.specs.GroupsDown.{IsGroupSchemaIn, place_of_field}
 use Rattle.capnp_schema.specs.GroupWalks.{above, frames, steps_left, walk_brand, walk_depth, walk_index, walk_schema, walk_set}
 use Rattle.capnp_schema.specs.Schema.{Field as FieldRecord}
 use Rattle.capnp_schema.specs.Schema.{Schemas, TypedField, is_member, kind_target}
@@ -17,10 +17,10 @@ use Rattle.capnp_schema.specs.StructHandles.{number_of, set_of, struct_field, st
 use Rattle.capnp_schema.specs.declared.schema.fields.Field.{Field}
 use Rattle.capnp_schema.specs.declared.schema.structs.StructSchema.{StructSchema}
 use Rattle.capnp_records.specs.Part.{is_active, is_inactive, which_of}
-use Rattle.capnp_records.specs.Reading.{plain_parts}
+use Rattle.capnp_records.specs.Reading.{non_union_parts}
 use Rattle.capnp_records.specs.Record.{Active, NoUnion, Parts, Union, Unknown, Values, is_there}
-use Rattle.capnp_records.specs.Text.{Layout, Out, after, bracketed, deeper, item_if, said}
-use Rattle.capnp_dynamic_readers.specs.GroupTexts.{IsClosed, IsNamePut, IsOpened, IsOutside, IsPast, IsStart, IsStep, closing, has_fields, is_item, item_by, items_from, onward, onward_of, shallower, steps_onward}
+use Rattle.capnp_records.specs.Text.{Layout, Out, after, bracketed_text, deeper, item_if, said_text}
+use Rattle.capnp_dynamic_readers.specs.GroupTexts.{IsBracketClosed, IsNamePut, IsGroupOpened, IsOutside, IsPast, IsStart, IsPrintStep, closing, has_fields, is_item, item_by, items_from, onward, onward_of, shallower, steps_onward}
 use Rattle.capnp_dynamic_readers.specs.Handles.{reader_of, schema_of}
 use Rattle.capnp_dynamic_readers.specs.PartsRead.{field_in}
 use Rattle.capnp_dynamic_readers.specs.Pieces.{IsPut, IsStopped, Leads, Taken}
@@ -69,7 +69,7 @@ false-true : false ≡ true → ⊥
 false-true e = cc
 
 pub active_which : (r : StructHandle) (i : ℕ) → is_active (union_seen r) i ≡ true → which_of (record_seen r) ≡ Some i
-active_which r i e = go (plain_parts (part_seen r) (struct_fields (schema_of r))) (union_seen r) e
+active_which r i e = go (non_union_parts (part_seen r) (struct_fields (schema_of r))) (union_seen r) e
   where
     go : (vs : Values) (u : Union) → is_active u i ≡ true → which_of (Parts vs u) ≡ Some i
     go vs NoUnion e = absurd (false-true e)
@@ -146,7 +146,7 @@ past-fewer now next q lt past =
         ∙ ap (λ (z : StructSchema). steps_left (set_of z) (2 ^ 64 - 1 - walk_depth now.walk) ((walk_brand now.walk, walk_index now.walk + 1) ∷ above now.walk)) past.schema)
 
 -- into a group
-opened-onward : (left : ℕ) (r : StructReader) (now next : Standing) (g : StructSchema) → set_of g ≡ walk_set now.walk → IsOpened now g next →
+opened-onward : (left : ℕ) (r : StructReader) (now next : Standing) (g : StructSchema) → set_of g ≡ walk_set now.walk → IsGroupOpened now g next →
     onward left (walk_set now.walk) r (deeper now.at) true ((number_of g, 0) ∷ (walk_brand now.walk, walk_index now.walk + 1) ∷ above now.walk) ≡ onward_of left r next
 opened-onward left r now next g e opened =
     ap (λ (z : Schemas). onward left z r (deeper now.at) true ((number_of g, 0) ∷ (walk_brand now.walk, walk_index now.walk + 1) ∷ above now.walk)) (sym (ap set_of opened.schema ∙ e))
@@ -154,7 +154,7 @@ opened-onward left r now next g e opened =
     ∙ (ap (λ (b : Bool). onward left (walk_set next.walk) r next.at b ((number_of g, 0) ∷ (walk_brand now.walk, walk_index now.walk + 1) ∷ above now.walk)) (sym opened.first)
     ∙ ap (λ (fs : List (ℕ × ℕ)). onward left (walk_set next.walk) r next.at next.first fs) (sym opened.frames)))
 
-opened-fewer : (now next : Standing) (g : StructSchema) → set_of g ≡ walk_set now.walk → group_field_of (walk_set now.walk) (number_of g) ≡ Some (walk_brand now.walk, walk_index now.walk) → IsOpened now g next →
+opened-fewer : (now next : Standing) (g : StructSchema) → set_of g ≡ walk_set now.walk → group_field_of (walk_set now.walk) (number_of g) ≡ Some (walk_brand now.walk, walk_index now.walk) → IsGroupOpened now g next →
     steps_onward next < steps_onward now
 opened-fewer now next g e back opened = omega (arith, same-steps, more-groups, enter)
   where
@@ -189,7 +189,7 @@ module _ (left : ℕ) (r : StructReader) (now : Standing) (h : StructHandle) (f 
   same-typed = ap (λ (s : StructSchema). struct_field s (index_of f)) (here.field.schema ∙ sym here.schema)
 
   -- the field has no item
-  pub step_over : (old : Taken) (next : Standing) → false ≡ is_item h (field_in h f) (index_of f) → IsPast now now.first next → IsStep left r now old old next
+  pub step_over : (old : Taken) (next : Standing) → false ≡ is_item h (field_in h f) (index_of f) → IsPast now now.first next → IsPrintStep left r now old old next
   step_over old next none past = record {
     text = λ z k.
         skips left (walk_set now.walk) r now.at now.first (walk_brand now.walk) (walk_index now.walk) (above now.walk) old (items-by false none) z
@@ -205,7 +205,7 @@ module _ (left : ℕ) (r : StructReader) (now : Standing) (h : StructHandle) (f 
         item-named left (walk_set now.walk) r now.at now.first (walk_brand now.walk) (walk_index now.walk) (above now.walk) (field_in h f) (field_shown left now.at h (field_in h f)) p0 p1
         (items-by true there) (subst (λ (t : TypedField). IsNamePut now.at now.first t p0 p1) same-typed name)
 
-    pub step_past : (p2 : Taken) (next : Standing) → IsPut p1 (field_shown left now.at h (field_in h f)) p2 → IsPast now false next → IsStep left r now p0 p2 next
+    pub step_past : (p2 : Taken) (next : Standing) → IsPut p1 (field_shown left now.at h (field_in h f)) p2 → IsPast now false next → IsPrintStep left r now p0 p2 next
     step_past p2 next put past = record {
       text = λ z k.
           named z
@@ -221,7 +221,7 @@ module _ (left : ℕ) (r : StructReader) (now : Standing) (h : StructHandle) (f 
         (λ (kind : ErrorKind) e. named (Err kind) (ap (λ (o : Out). after o (onward_past left r now false)) e)) stop stopped
 
     -- the field is a group
-    module _ (g : StructSchema) (target : Some (number_of g) ≡ kind_target (typed_of f).field.kind (typed_of f).type) (inside : IsGroupIn (field_schema f) g) where
+    module _ (g : StructSchema) (target : Some (number_of g) ≡ kind_target (typed_of f).field.kind (typed_of f).type) (inside : IsGroupSchemaIn (field_schema f) g) where
       in-set : set_of g ≡ set_of (schema_of h)
       in-set = inside.set ∙ ap set_of (here.field.schema ∙ sym here.schema)
 
@@ -230,10 +230,10 @@ module _ (left : ℕ) (r : StructReader) (now : Standing) (h : StructHandle) (f 
           part_group h f (field_here r now h f here) (subst IsAccepted in-set inside.stands.accepted) g
           (target_in h f (field_here r now h f here) (Some (number_of g)) target) in-set left now.at
 
-      pub step_empty : (p2 : Taken) (next : Standing) → false ≡ has_fields (struct_fields g) → IsPut p1 (said (codes "()")) p2 → IsPast now false next → IsStep left r now p0 p2 next
+      pub step_empty : (p2 : Taken) (next : Standing) → false ≡ has_fields (struct_fields g) → IsPut p1 (said_text (codes "()")) p2 → IsPast now false next → IsPrintStep left r now p0 p2 next
       step_empty p2 next none put past =
           step_past p2 next
-          (same_put p1 p2 (field_shown left now.at h (field_in h f)) (said (codes "()")) (shown-group ∙ struct_none left now.at (record { reader = reader_of h; schema = g }) (no-fields (struct_fields g) none)) put) past
+          (same_put p1 p2 (field_shown left now.at h (field_in h f)) (said_text (codes "()")) (shown-group ∙ struct_none left now.at (record { reader = reader_of h; schema = g }) (no-fields (struct_fields g) none)) put) past
 
       -- its set and its field are those of the walk
       pub group-set : set_of g ≡ walk_set now.walk
@@ -252,20 +252,20 @@ module _ (left : ℕ) (r : StructReader) (now : Standing) (h : StructHandle) (f 
           ∙ (ap (λ (z : Schemas). items_from left z (reader_of h) (deeper now.at) (number_of g) 0) group-set
           ∙ ap (λ (x : StructReader). items_from left (walk_set now.walk) x (deeper now.at) (number_of g) 0) here.reader)
 
-      pub step_in : (p2 : Taken) → true ≡ has_fields (struct_fields g) → group_field_of (set_of (field_schema f)) (number_of g) ≡ Some (place_of_field f) → IsPut p1 (said (codes "(")) p2 → (next : Standing) → IsOpened now g next →
-          IsStep left r now p0 p2 next
+      pub step_in : (p2 : Taken) → true ≡ has_fields (struct_fields g) → group_field_of (set_of (field_schema f)) (number_of g) ≡ Some (place_of_field f) → IsPut p1 (said_text (codes "(")) p2 → (next : Standing) → IsGroupOpened now g next →
+          IsPrintStep left r now p0 p2 next
       step_in p2 some back put next opened = record {
         text = λ z k.
             named z
             (same p1 text-in z
-            (then p1 p2 (said (codes "(")) (onward left (walk_set now.walk) r (deeper now.at) true ((number_of g, 0) ∷ (walk_brand now.walk, walk_index now.walk + 1) ∷ above now.walk)) put z
+            (then p1 p2 (said_text (codes "(")) (onward left (walk_set now.walk) r (deeper now.at) true ((number_of g, 0) ∷ (walk_brand now.walk, walk_index now.walk + 1) ∷ above now.walk)) put z
             (same p2 (opened-onward left r now next g group-set opened) z k)));
         fewer = opened-fewer now next g group-set (group-field back) opened;
         small = λ s. omega (arith, opened.depth, opened.small);
       }
         where
           text-in : after (field_shown left now.at h (field_in h f)) (onward_past left r now false)
-              ≡ after (said (codes "(")) (onward left (walk_set now.walk) r (deeper now.at) true ((number_of g, 0) ∷ (walk_brand now.walk, walk_index now.walk + 1) ∷ above now.walk))
+              ≡ after (said_text (codes "(")) (onward left (walk_set now.walk) r (deeper now.at) true ((number_of g, 0) ∷ (walk_brand now.walk, walk_index now.walk + 1) ∷ above now.walk))
           text-in =
               ap (λ (o : Out). after o (onward_past left r now false)) (shown-group ∙ struct_some left now.at (record { reader = reader_of h; schema = g }) (some-fields (struct_fields g) some))
               ∙ group-in left (walk_set now.walk) r now.at (number_of g) ((walk_brand now.walk, walk_index now.walk + 1) ∷ above now.walk) (record_items left (deeper now.at) (record { reader = reader_of h; schema = g })) group-items
@@ -273,21 +273,21 @@ module _ (left : ℕ) (r : StructReader) (now : Standing) (h : StructHandle) (f 
 -- ---- the whole struct ----
 
 -- its bracket was put
-pub begins : (left : ℕ) (at : Layout) (h : StructHandle) (r : StructReader) (s : StructSchema) (now : Standing) (p0 p1 : Taken) → r ≡ reader_of h → s ≡ schema_of h → true ≡ has_fields (struct_fields (schema_of h)) → IsPut p0 (said (codes "(")) p1 → IsStart s at now →
+pub begins : (left : ℕ) (at : Layout) (h : StructHandle) (r : StructReader) (s : StructSchema) (now : Standing) (p0 p1 : Taken) → r ≡ reader_of h → s ≡ schema_of h → true ≡ has_fields (struct_fields (schema_of h)) → IsPut p0 (said_text (codes "(")) p1 → IsStart s at now →
     Leads p0 (record_shown left at h) p1 (onward_of left r now)
 begins left at h r s now p0 p1 er es some put start = λ z k.
-    same p0 (struct_some left at h (some-fields (struct_fields (schema_of h)) some) ∙ (sym (after-none (bracketed (codes "(") (codes ")") at (record_items left (deeper at) h))) ∙ text-in)) z
-    (then p0 p1 (said (codes "(")) (onward left (set_of (schema_of h)) (reader_of h) (deeper at) true ((number_of (schema_of h), 0) ∷ [])) put z
+    same p0 (struct_some left at h (some-fields (struct_fields (schema_of h)) some) ∙ (sym (after-none (bracketed_text (codes "(") (codes ")") at (record_items left (deeper at) h))) ∙ text-in)) z
+    (then p0 p1 (said_text (codes "(")) (onward left (set_of (schema_of h)) (reader_of h) (deeper at) true ((number_of (schema_of h), 0) ∷ [])) put z
     (same p1 onward-start z k))
   where
-    after-none : (o : Out) → after o (said []) ≡ o
+    after-none : (o : Out) → after o (said_text []) ≡ o
     after-none (Err k) = refl
     after-none (Ok a) = ap Ok (append-nil a)
 
-    text-in : after (bracketed (codes "(") (codes ")") at (record_items left (deeper at) h)) (said [])
-        ≡ after (said (codes "(")) (onward left (set_of (schema_of h)) (reader_of h) (deeper at) true ((number_of (schema_of h), 0) ∷ []))
+    text-in : after (bracketed_text (codes "(") (codes ")") at (record_items left (deeper at) h)) (said_text [])
+        ≡ after (said_text (codes "(")) (onward left (set_of (schema_of h)) (reader_of h) (deeper at) true ((number_of (schema_of h), 0) ∷ []))
     text-in =
-        ap (after (bracketed (codes "(") (codes ")") at (record_items left (deeper at) h))) (sym (onward-end left (set_of (schema_of h)) (reader_of h) at false))
+        ap (after (bracketed_text (codes "(") (codes ")") at (record_items left (deeper at) h))) (sym (onward-end left (set_of (schema_of h)) (reader_of h) at false))
         ∙ group-in left (set_of (schema_of h)) (reader_of h) at (number_of (schema_of h)) [] (record_items left (deeper at) h) (sym (from_start left (deeper at) h))
 
     onward-start : onward left (set_of (schema_of h)) (reader_of h) (deeper at) true ((number_of (schema_of h), 0) ∷ []) ≡ onward_of left r now
@@ -299,12 +299,12 @@ begins left at h r s now p0 p1 er es some put start = λ z k.
         ∙ (ap (λ (b : Bool). onward left (walk_set now.walk) r now.at b ((number_of s, 0) ∷ [])) (sym start.first)
         ∙ ap (λ (fs : List (ℕ × ℕ)). onward left (walk_set now.walk) r now.at now.first fs) (sym start.frames)))))
 
-pub no_record : (left : ℕ) (at : Layout) (h : StructHandle) → false ≡ has_fields (struct_fields (schema_of h)) → record_shown left at h ≡ said (codes "()")
+pub no_record : (left : ℕ) (at : Layout) (h : StructHandle) → false ≡ has_fields (struct_fields (schema_of h)) → record_shown left at h ≡ said_text (codes "()")
 no_record left at h none = struct_none left at h (no-fields (struct_fields (schema_of h)) none)
 
 -- ---- out of a group ----
 
-module _ (left : ℕ) (r : StructReader) (now : Standing) (old new : Taken) (done : length (struct_fields (walk_schema now.walk)) ≤ walk_index now.walk) (put : IsPut old (said (closing now.at)) new) where
+module _ (left : ℕ) (r : StructReader) (now : Standing) (old new : Taken) (done : length (struct_fields (walk_schema now.walk)) ≤ walk_index now.walk) (put : IsPut old (said_text (closing now.at)) new) where
   bracket-put : Leads old (onward_of left r now) new (onward left (walk_set now.walk) r (shallower now.at) false (above now.walk))
   bracket-put =
       closes left (walk_set now.walk) r now.at now.first (walk_brand now.walk) (walk_index now.walk) (above now.walk) old new
@@ -321,7 +321,7 @@ module _ (left : ℕ) (r : StructReader) (now : Standing) (old new : Taken) (don
           ∙ ap (λ (fs : List (ℕ × ℕ)). onward left (walk_set next.walk) r next.at next.first fs) (sym outside.frames)))
 
   -- and out of the whole
-  pub leads_end : above now.walk ≡ [] → Leads old (onward_of left r now) new (said [])
+  pub leads_end : above now.walk ≡ [] → Leads old (onward_of left r now) new (said_text [])
   leads_end none = λ z k.
       bracket-put z
       (same new (ap (λ (fs : List (ℕ × ℕ)). onward left (walk_set now.walk) r (shallower now.at) false fs) none ∙ onward-end left (walk_set now.walk) r (shallower now.at) false) z k)
@@ -333,10 +333,10 @@ pub out_small : (now next : Standing) → walk_depth now.walk < 2 ^ 64 → IsOut
 out_small now next small outside = omega (arith, small, outside.depth)
 
 -- where a closing bracket was put, a print stands outside or is done
-pub outside_of : (now next : Standing) (old new : Taken) (o : Option Standing) → o ≡ Some next → IsClosed now old new o → IsOutside now next
+pub outside_of : (now next : Standing) (old new : Taken) (o : Option Standing) → o ≡ Some next → IsBracketClosed now old new o → IsOutside now next
 outside_of now next old new o e closed = subst (λ (z : Option Standing). MatchOption z (above now.walk ≡ []) (IsOutside now)) e closed.1
 
-pub done_of : (now : Standing) (old new : Taken) (o : Option Standing) → o ≡ None → IsClosed now old new o → above now.walk ≡ []
+pub done_of : (now : Standing) (old new : Taken) (o : Option Standing) → o ≡ None → IsBracketClosed now old new o → above now.walk ≡ []
 done_of now old new o e closed = subst (λ (z : Option Standing). MatchOption z (above now.walk ≡ []) (IsOutside now)) e closed.1
 
 pub fewer_out : (now next : Standing) → walk_depth now.walk < 2 ^ 64 → IsOutside now next → steps_onward next < steps_onward now

@@ -10,9 +10,9 @@ use Rattle.capnp_schema.specs.Schema.{Schemas, TypedField, default_of, is_member
 use Rattle.capnp_schema.specs.StructHandles.{number_of, set_of, struct_field, struct_fields}
 use Rattle.capnp_records.specs.Facts.Spelled.{said_both}
 use Rattle.capnp_records.specs.Part.{is_active}
-use Rattle.capnp_records.specs.Reading.{active_among, discriminant, plain_parts}
+use Rattle.capnp_records.specs.Reading.{active_among, discriminant, non_union_parts}
 use Rattle.capnp_records.specs.Record.{Active, MoreValues, NoUnion, NoValues, Union, Unknown, Value, Values, is_there}
-use Rattle.capnp_records.specs.Text.{Inner, Layout, Member, Out, after, before, bracketed, deeper, item, item_if, later, line, member, more_text, part_text, rest_of, said, separator, shown}
+use Rattle.capnp_records.specs.Text.{Inner, Layout, Member, Out, after, before, bracketed_text, deeper, item, item_if, later, line, member, more_text, part_text, member_rest, said_text, separator, shown}
 use Rattle.capnp_dynamic_readers.specs.GroupTexts.{item_by, closing, is_item, items_from, onward, shallower}
 use Rattle.capnp_dynamic_readers.specs.Handles.{reader_of, schema_of}
 use Rattle.capnp_dynamic_readers.specs.Pieces.{IsPut, Leads, Taken}
@@ -101,7 +101,7 @@ module _ (left : ℕ) (at : Layout) (h : StructHandle) where
   member-seen u = member (set_of (schema_of h)) (within_struct left h) at (number_of (schema_of h)) u
 
   abbrev rest-shown : ℕ → ℕ → Member → List Out
-  rest-shown i j m = shown (set_of (schema_of h)) (within_struct left h) at (drop (i + 1) (struct_fields (schema_of h))) j (plain_parts (part_seen h) (drop (i + 1) (struct_fields (schema_of h)))) m
+  rest-shown i j m = shown (set_of (schema_of h)) (within_struct left h) at (drop (i + 1) (struct_fields (schema_of h))) j (non_union_parts (part_seen h) (drop (i + 1) (struct_fields (schema_of h)))) m
 
   abbrev IsMemberIndex : Union → Type 0
   IsMemberIndex u = (j : ℕ) (v : Value) → u ≡ Active j v → IsMemberAt (struct_fields (schema_of h)) 0 j
@@ -151,7 +151,7 @@ module _ (left : ℕ) (at : Layout) (h : StructHandle) where
   own-member : (i : ℕ) (f : TypedField) (xs : List Out) → xs ≡ item_if (is_member_shown h f) (field_item left at h f) →
       items-by i f true true (Some (i, xs)) None
   own-member i f xs e =
-      shown_member (set_of (schema_of h)) (within_struct left h) at (drop (i + 1) (struct_fields (schema_of h))) (suc i) i (plain_parts (part_seen h) (drop (i + 1) (struct_fields (schema_of h)))) xs (omega arith)
+      shown_member (set_of (schema_of h)) (within_struct left h) at (drop (i + 1) (struct_fields (schema_of h))) (suc i) i (non_union_parts (part_seen h) (drop (i + 1) (struct_fields (schema_of h)))) xs (omega arith)
       ∙ (ap (λ (ys : List Out). ys ++ rest-shown i (suc i) None) e
       ∙ ap (λ (k : ℕ). item_if (is_member_shown h f) (field_item left at h f) ++ rest-shown i k None) (suc-is i))
 
@@ -185,26 +185,26 @@ module _ (left : ℕ) (at : Layout) (h : StructHandle) where
 
   pub from_next : (i : ℕ) → i < length (struct_fields (schema_of h)) → from_here left at h i ≡ own_items left at h i ++ from_here left at h (i + 1)
   from_next i lt =
-      ap (λ (fs : List TypedField). shown (set_of (schema_of h)) (within_struct left h) at fs i (plain_parts (part_seen h) fs) (later (member-seen (union_seen h)) i)) (drop-next (struct_fields (schema_of h)) i lt)
+      ap (λ (fs : List TypedField). shown (set_of (schema_of h)) (within_struct left h) at fs i (non_union_parts (part_seen h) fs) (later (member-seen (union_seen h)) i)) (drop-next (struct_fields (schema_of h)) i lt)
       ∙ (shown-next left at h (struct_field (schema_of h) i) (drop (i + 1) (struct_fields (schema_of h))) i (later (member-seen (union_seen h)) i)
       ∙ by-union i (is_member (struct_field (schema_of h) i).field) refl (union_seen h) (active-part h) seen-member)
 
   -- past the last field nothing is left
   pub from_end : (i : ℕ) → length (struct_fields (schema_of h)) ≤ i → from_here left at h i ≡ []
   from_end i le =
-      ap (λ (fs : List TypedField). shown (set_of (schema_of h)) (within_struct left h) at fs i (plain_parts (part_seen h) fs) (later (member-seen (union_seen h)) i)) (drop-end (struct_fields (schema_of h)) i le)
+      ap (λ (fs : List TypedField). shown (set_of (schema_of h)) (within_struct left h) at fs i (non_union_parts (part_seen h) fs) (later (member-seen (union_seen h)) i)) (drop-end (struct_fields (schema_of h)) i le)
       ∙ go (union_seen h) seen-member
     where
-      go : (u : Union) → IsMemberIndex u → rest_of (later (member-seen u) i) ≡ []
+      go : (u : Union) → IsMemberIndex u → member_rest (later (member-seen u) i) ≡ []
       go NoUnion index = refl
       go (Unknown d) index = refl
       go (Active j v) index =
           let found = index j v refl in
           let lt : j < i = (let e = found.index in let inside = found.inside in omega (arith, e, inside, le)) in
-          ap rest_of (later_some j i _ lt)
+          ap member_rest (later_some j i _ lt)
 
   pub from_start : from_here left at h 0 ≡ record_items left at h
-  from_start = ap (λ (m : Member). shown (set_of (schema_of h)) (within_struct left h) at (struct_fields (schema_of h)) 0 (plain_parts (part_seen h) (struct_fields (schema_of h))) m) (go (member-seen (union_seen h)))
+  from_start = ap (λ (m : Member). shown (set_of (schema_of h)) (within_struct left h) at (struct_fields (schema_of h)) 0 (non_union_parts (part_seen h) (struct_fields (schema_of h))) m) (go (member-seen (union_seen h)))
     where
       go : (m : Member) → later m 0 ≡ m
       go None = refl
@@ -213,11 +213,11 @@ module _ (left : ℕ) (at : Layout) (h : StructHandle) where
 -- ---- the text that is to come ----
 
 onward-frame : (left : ℕ) (set : Schemas) (r : StructReader) (at : Layout) (first : Bool) (b i : ℕ) (rest : List (ℕ × ℕ)) →
-    onward left set r at first ((b, i) ∷ rest) ≡ after (more_text at first (items_from left set r at b i)) (after (said (closing at)) (onward left set r (shallower at) false rest))
+    onward left set r at first ((b, i) ∷ rest) ≡ after (more_text at first (items_from left set r at b i)) (after (said_text (closing at)) (onward left set r (shallower at) false rest))
 unfolding onward
 onward-frame left set r at first b i rest = refl
 
-pub onward-end : (left : ℕ) (set : Schemas) (r : StructReader) (at : Layout) (first : Bool) → onward left set r at first [] ≡ said []
+pub onward-end : (left : ℕ) (set : Schemas) (r : StructReader) (at : Layout) (first : Bool) → onward left set r at first [] ≡ said_text []
 unfolding onward
 onward-end left set r at first = refl
 
@@ -229,40 +229,40 @@ after-assoc (Ok a) (Ok b) (Ok c) = ap Ok (append_assoc a b c)
 
 -- out of the last field of a frame, with its bracket put
 pub closes : (left : ℕ) (set : Schemas) (r : StructReader) (at : Layout) (first : Bool) (b i : ℕ) (rest : List (ℕ × ℕ)) (old new : Taken) → items_from left set r at b i ≡ [] →
-    IsPut old (said (closing at)) new → Leads old (onward left set r at first ((b, i) ∷ rest)) new (onward left set r (shallower at) false rest)
+    IsPut old (said_text (closing at)) new → Leads old (onward left set r at first ((b, i) ∷ rest)) new (onward left set r (shallower at) false rest)
 closes left set r at first b i rest old new none put = λ z k.
-    same old (onward-frame left set r at first b i rest ∙ ap (λ (xs : List Out). after (more_text at first xs) (after (said (closing at)) (onward left set r (shallower at) false rest))) none) z
-    (then old old (said []) (after (said (closing at)) (onward left set r (shallower at) false rest)) (nothing_put old) z
-    (then old new (said (closing at)) (onward left set r (shallower at) false rest) put z k))
+    same old (onward-frame left set r at first b i rest ∙ ap (λ (xs : List Out). after (more_text at first xs) (after (said_text (closing at)) (onward left set r (shallower at) false rest))) none) z
+    (then old old (said_text []) (after (said_text (closing at)) (onward left set r (shallower at) false rest)) (nothing_put old) z
+    (then old new (said_text (closing at)) (onward left set r (shallower at) false rest) put z k))
 
 -- past a field that has no item
 pub skips : (left : ℕ) (set : Schemas) (r : StructReader) (at : Layout) (first : Bool) (b i : ℕ) (rest : List (ℕ × ℕ)) (old : Taken) → items_from left set r at b i ≡ items_from left set r at b (i + 1) →
     Leads old (onward left set r at first ((b, i) ∷ rest)) old (onward left set r at first ((b, i + 1) ∷ rest))
 skips left set r at first b i rest old e = same old
     (onward-frame left set r at first b i rest
-    ∙ (ap (λ (xs : List Out). after (more_text at first xs) (after (said (closing at)) (onward left set r (shallower at) false rest))) e
+    ∙ (ap (λ (xs : List Out). after (more_text at first xs) (after (said_text (closing at)) (onward left set r (shallower at) false rest))) e
     ∙ sym (onward-frame left set r at first b (i + 1) rest)))
 
 -- the text of an item, between what stands before it and what follows
 name-first : (at : Layout) (first : Bool) (f : TypedField) (text more behind : Out) →
-    after (after (said (separator at first)) (after (item f text) more)) behind ≡ after (said (separator at first ++ (f.field.name ++ codes " = "))) (after text (after more behind))
+    after (after (said_text (separator at first)) (after (item f text) more)) behind ≡ after (said_text (separator at first ++ (f.field.name ++ codes " = "))) (after text (after more behind))
 name-first at first f text more behind =
-    after-assoc (said (separator at first)) (after (item f text) more) behind
-    ∙ (ap (after (said (separator at first))) (after-assoc (item f text) more behind ∙ after-assoc (said (f.field.name ++ codes " = ")) text (after more behind))
-    ∙ (sym (after-assoc (said (separator at first)) (said (f.field.name ++ codes " = ")) (after text (after more behind)))
+    after-assoc (said_text (separator at first)) (after (item f text) more) behind
+    ∙ (ap (after (said_text (separator at first))) (after-assoc (item f text) more behind ∙ after-assoc (said_text (f.field.name ++ codes " = ")) text (after more behind))
+    ∙ (sym (after-assoc (said_text (separator at first)) (said_text (f.field.name ++ codes " = ")) (after text (after more behind)))
     ∙ ap (λ (o : Out). after o (after text (after more behind))) (said_both (separator at first) (f.field.name ++ codes " = "))))
 
 -- past what stands before an item's text
 pub item-named : (left : ℕ) (set : Schemas) (r : StructReader) (at : Layout) (first : Bool) (b i : ℕ) (rest : List (ℕ × ℕ)) (f : TypedField) (text : Out) (p0 p1 : Taken) →
-    items_from left set r at b i ≡ item f text ∷ items_from left set r at b (i + 1) → IsPut p0 (said (separator at first ++ (f.field.name ++ codes " = "))) p1 →
+    items_from left set r at b i ≡ item f text ∷ items_from left set r at b (i + 1) → IsPut p0 (said_text (separator at first ++ (f.field.name ++ codes " = "))) p1 →
     Leads p0 (onward left set r at first ((b, i) ∷ rest)) p1 (after text (onward left set r at false ((b, i + 1) ∷ rest)))
 item-named left set r at first b i rest f text p0 p1 e name = λ z k.
     same p0
     (onward-frame left set r at first b i rest
-    ∙ (ap (λ (xs : List Out). after (more_text at first xs) (after (said (closing at)) (onward left set r (shallower at) false rest))) e
-    ∙ (name-first at first f text (more_text at false (items_from left set r at b (i + 1))) (after (said (closing at)) (onward left set r (shallower at) false rest))
-    ∙ ap (λ (o : Out). after (said (separator at first ++ (f.field.name ++ codes " = "))) (after text o)) (sym (onward-frame left set r at false b (i + 1) rest))))) z
-    (then p0 p1 (said (separator at first ++ (f.field.name ++ codes " = "))) (after text (onward left set r at false ((b, i + 1) ∷ rest))) name z k)
+    ∙ (ap (λ (xs : List Out). after (more_text at first xs) (after (said_text (closing at)) (onward left set r (shallower at) false rest))) e
+    ∙ (name-first at first f text (more_text at false (items_from left set r at b (i + 1))) (after (said_text (closing at)) (onward left set r (shallower at) false rest))
+    ∙ ap (λ (o : Out). after (said_text (separator at first ++ (f.field.name ++ codes " = "))) (after text o)) (sym (onward-frame left set r at false b (i + 1) rest))))) z
+    (then p0 p1 (said_text (separator at first ++ (f.field.name ++ codes " = "))) (after text (onward left set r at false ((b, i + 1) ∷ rest))) name z k)
 
 shallow-deep : (at : Layout) → shallower (deeper at) ≡ at
 shallow-deep None = refl
@@ -270,11 +270,11 @@ shallow-deep (Some n) = ap Some (omega arith)
 
 -- into a group, with its bracket put
 pub group-in : (left : ℕ) (set : Schemas) (r : StructReader) (at : Layout) (g : ℕ) (frames : List (ℕ × ℕ)) (items : List Out) → items ≡ items_from left set r (deeper at) g 0 →
-    after (bracketed (codes "(") (codes ")") at items) (onward left set r at false frames) ≡ after (said (codes "(")) (onward left set r (deeper at) true ((g, 0) ∷ frames))
+    after (bracketed_text (codes "(") (codes ")") at items) (onward left set r at false frames) ≡ after (said_text (codes "(")) (onward left set r (deeper at) true ((g, 0) ∷ frames))
 group-in left set r at g frames items e =
-    after-assoc (said (codes "(")) (after (more_text (deeper at) true items) (said (line at ++ codes ")"))) (onward left set r at false frames)
-    ∙ ap (after (said (codes "(")))
-    (after-assoc (more_text (deeper at) true items) (said (line at ++ codes ")")) (onward left set r at false frames)
-    ∙ (ap (λ (xs : List Out). after (more_text (deeper at) true xs) (after (said (line at ++ codes ")")) (onward left set r at false frames))) e
-    ∙ (ap (λ (l : Layout). after (more_text (deeper at) true (items_from left set r (deeper at) g 0)) (after (said (line l ++ codes ")")) (onward left set r l false frames))) (sym (shallow-deep at))
+    after-assoc (said_text (codes "(")) (after (more_text (deeper at) true items) (said_text (line at ++ codes ")"))) (onward left set r at false frames)
+    ∙ ap (after (said_text (codes "(")))
+    (after-assoc (more_text (deeper at) true items) (said_text (line at ++ codes ")")) (onward left set r at false frames)
+    ∙ (ap (λ (xs : List Out). after (more_text (deeper at) true xs) (after (said_text (line at ++ codes ")")) (onward left set r at false frames))) e
+    ∙ (ap (λ (l : Layout). after (more_text (deeper at) true (items_from left set r (deeper at) g 0)) (after (said_text (line l ++ codes ")")) (onward left set r l false frames))) (sym (shallow-deep at))
     ∙ sym (onward-frame left set r (deeper at) true g 0 frames))))

@@ -12,7 +12,7 @@ use Rattle.capnp_schema.specs.declared.schema.structs.StructSchema.{StructSchema
 use Rattle.capnp_records.specs.Facts.Frame.{first-of, second-of}
 use Rattle.capnp_records.specs.Facts.PartRead.{found-active, nth-plain_parts}
 use Rattle.capnp_records.specs.Part.{active_value, has_of, is_active, nth_value, which_of}
-use Rattle.capnp_records.specs.Reading.{active_among, discriminant, plain_parts}
+use Rattle.capnp_records.specs.Reading.{active_among, discriminant, non_union_parts}
 use Rattle.capnp_records.specs.Record as value
 use Rattle.capnp_records.specs.Record.{Active, NoUnion, Parts, Union, Unknown, Value, Values, is_there}
 use Rattle.capnp_records.specs.Text.{Layout, Member, Out, before, item, item_if, later, part_text, shown}
@@ -75,7 +75,7 @@ module _ (left : ℕ) (at : Layout) (r : StructHandle) where
 pub plain_has : (r : StructHandle) (i : ℕ) → i < length (struct_fields (schema_of r)) → is_member (struct_field (schema_of r) i).field ≡ false →
     has_of (record_seen r) (struct_field (schema_of r) i).field i ≡ is_there (part_seen r (struct_field (schema_of r) i))
 plain_has r i h plain =
-    ap (λ q. not (q && not (is_active (union_seen r) i)) && is_there (elim q as (λ _. Value) [ true ↦ active_value (union_seen r) | false ↦ nth_value (plain_parts (part_seen r) (struct_fields (schema_of r))) i ])) plain
+    ap (λ q. not (q && not (is_active (union_seen r) i)) && is_there (elim q as (λ _. Value) [ true ↦ active_value (union_seen r) | false ↦ nth_value (non_union_parts (part_seen r) (struct_fields (schema_of r))) i ])) plain
     ∙ ap is_there (nth-plain_parts (part_seen r) (struct_fields (schema_of r)) i h plain)
 
 pub member_has : (r : StructHandle) (i : ℕ) → i < length (struct_fields (schema_of r)) → which_of (record_seen r) ≡ Some i →
@@ -83,7 +83,7 @@ pub member_has : (r : StructHandle) (i : ℕ) → i < length (struct_fields (sch
 member_has r i h w = go (union_seen r) (active-part r) w (is_member (struct_field (schema_of r) i).field) refl
   where
     vs : Values
-    vs = plain_parts (part_seen r) (struct_fields (schema_of r))
+    vs = non_union_parts (part_seen r) (struct_fields (schema_of r))
 
     none-some : {j : ℕ} → None ≡ Some j → ⊥
     none-some e = cc
@@ -92,16 +92,16 @@ member_has r i h w = go (union_seen r) (active-part r) w (is_member (struct_fiel
     here true j e = ap (λ q. not (not q)) (eq-eqb i j (sym e))
     here false j e = refl
 
-    go : (u : Union) → IsActivePart r u → which_of (Parts (plain_parts (part_seen r) (struct_fields (schema_of r))) u) ≡ Some i → (q : Bool) → is_member (struct_field (schema_of r) i).field ≡ q →
-        (not (is_member (struct_field (schema_of r) i).field && not (is_active u i)) && is_there (elim (is_member (struct_field (schema_of r) i).field) as (λ _. Value) [ true ↦ active_value u | false ↦ nth_value (plain_parts (part_seen r) (struct_fields (schema_of r))) i ])) ≡ is_there (part_seen r (struct_field (schema_of r) i))
+    go : (u : Union) → IsActivePart r u → which_of (Parts (non_union_parts (part_seen r) (struct_fields (schema_of r))) u) ≡ Some i → (q : Bool) → is_member (struct_field (schema_of r) i).field ≡ q →
+        (not (is_member (struct_field (schema_of r) i).field && not (is_active u i)) && is_there (elim (is_member (struct_field (schema_of r) i).field) as (λ _. Value) [ true ↦ active_value u | false ↦ nth_value (non_union_parts (part_seen r) (struct_fields (schema_of r))) i ])) ≡ is_there (part_seen r (struct_field (schema_of r) i))
     go NoUnion a w q e = absurd (none-some w)
     go (Unknown n) a w q e = absurd (none-some w)
     go (Active j v) a w true e =
-        ap (λ q. q && is_there (elim (is_member (struct_field (schema_of r) i).field) as (λ _. Value) [ true ↦ v | false ↦ nth_value (plain_parts (part_seen r) (struct_fields (schema_of r))) i ])) (here (is_member (struct_field (schema_of r) i).field) j (some-same w))
+        ap (λ q. q && is_there (elim (is_member (struct_field (schema_of r) i).field) as (λ _. Value) [ true ↦ v | false ↦ nth_value (non_union_parts (part_seen r) (struct_fields (schema_of r))) i ])) (here (is_member (struct_field (schema_of r) i).field) j (some-same w))
         ∙ (ap is_there (first-of (is_member (struct_field (schema_of r) i).field) v _ e)
         ∙ (ap is_there (a j v refl) ∙ ap (λ k. is_there (part_seen r (struct_field (schema_of r) k))) (some-same w)))
     go (Active j v) a w false e =
-        ap (λ q. q && is_there (elim (is_member (struct_field (schema_of r) i).field) as (λ _. Value) [ true ↦ v | false ↦ nth_value (plain_parts (part_seen r) (struct_fields (schema_of r))) i ])) (here (is_member (struct_field (schema_of r) i).field) j (some-same w))
+        ap (λ q. q && is_there (elim (is_member (struct_field (schema_of r) i).field) as (λ _. Value) [ true ↦ v | false ↦ nth_value (non_union_parts (part_seen r) (struct_fields (schema_of r))) i ])) (here (is_member (struct_field (schema_of r) i).field) j (some-same w))
         ∙ (ap is_there (second-of (is_member (struct_field (schema_of r) i).field) v _ e)
         ∙ ap is_there (nth-plain_parts (part_seen r) (struct_fields (schema_of r)) i h e))
 
@@ -129,17 +129,17 @@ module _ (left : ℕ) (at : Layout) (r : StructHandle) where
 
   -- what is shown of a field, and then of those after it
   pub shown-next : (f : TypedField) (fs : List TypedField) (i : ℕ) (m : Member) →
-      shown (set_of (schema_of r)) (within_struct left r) at (f ∷ fs) i (plain_parts (part_seen r) (f ∷ fs)) m
-      ≡ field_items left at r f i m ++ shown (set_of (schema_of r)) (within_struct left r) at fs (suc i) (plain_parts (part_seen r) fs) (still_pending (is_member f.field) m i)
+      shown (set_of (schema_of r)) (within_struct left r) at (f ∷ fs) i (non_union_parts (part_seen r) (f ∷ fs)) m
+      ≡ field_items left at r f i m ++ shown (set_of (schema_of r)) (within_struct left r) at fs (suc i) (non_union_parts (part_seen r) fs) (still_pending (is_member f.field) m i)
   shown-next f fs i m = go (is_member f.field)
     where
       go : (q : Bool) →
           (elim q as (λ _. List Out) [
-            | true ↦ shown (set_of (schema_of r)) (within_struct left r) at fs (suc i) (plain_parts (part_seen r) fs) m
+            | true ↦ shown (set_of (schema_of r)) (within_struct left r) at fs (suc i) (non_union_parts (part_seen r) fs) m
             | false ↦ before m i ++ item_if (is_there (elim q as (λ _. Value) [ true ↦ value.Elsewhere | false ↦ part_seen r f ])) (item f (part_text (set_of (schema_of r)) (within_struct left r) at (default_of f.field) f.type (elim q as (λ _. Value) [ true ↦ value.Elsewhere | false ↦ part_seen r f ])))
-                ++ shown (set_of (schema_of r)) (within_struct left r) at fs (suc i) (plain_parts (part_seen r) fs) (later m i)
+                ++ shown (set_of (schema_of r)) (within_struct left r) at fs (suc i) (non_union_parts (part_seen r) fs) (later m i)
           ])
-          ≡ unless_member q (before m i ++ item_if (is_there (part_seen r f)) (field_item left at r f)) ++ shown (set_of (schema_of r)) (within_struct left r) at fs (suc i) (plain_parts (part_seen r) fs) (still_pending q m i)
+          ≡ unless_member q (before m i ++ item_if (is_there (part_seen r f)) (field_item left at r f)) ++ shown (set_of (schema_of r)) (within_struct left r) at fs (suc i) (non_union_parts (part_seen r) fs) (still_pending q m i)
       go true = refl
       go false = refl
 

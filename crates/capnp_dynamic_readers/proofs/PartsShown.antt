@@ -23,14 +23,14 @@ use Rattle.capnp_records.specs.Default.{read_of}
 use Rattle.capnp_schema.specs.SlotValue.{slot_number}
 use Rattle.capnp_records.specs.Reading.{Below, Reading, bodies_of, bytes_below, kind_value, nth_reading, number_value, of_read, pointers_below, record_of, record_within, slot_value, struct_below, struct_record, structs_below, tree_value, value_of, values_of}
 use Rattle.capnp_records.specs.Record as value
-use Rattle.capnp_records.specs.Record.{Left, Levels, Record, Value, asked}
+use Rattle.capnp_records.specs.Record.{Left, Levels, Record, Value, levels_asked}
 use Rattle.capnp_records.specs.Text.{Inner, Layout, part_text, record_text, text_within, value_text}
 use Rattle.capnp_dynamic_readers.specs.Handles.{element_of, list_set, reader_of, schema_of}
-use Rattle.capnp_dynamic_readers.specs.PartsRead.{IsElement, IsElementRefused, IsPart, IsPartRefused, fault_at, field_in}
+use Rattle.capnp_dynamic_readers.specs.PartsRead.{IsElementRead, IsElementRefused, IsPart, IsPartRefused, fault_at, field_in}
 use Rattle.capnp_dynamic_readers.specs.Reads.{element_seen, field_seen, handed_out}
-use Rattle.capnp_dynamic_readers.specs.Seen.{answered, record_seen, value_seen}
+use Rattle.capnp_dynamic_readers.specs.Seen.{answered_value, record_seen, value_seen}
 use Rattle.capnp_dynamic_readers.specs.Shown.{field_shown, no_schemas, record_shown, set_seen, value_shown}
-use Rattle.capnp_dynamic_readers.specs.Typed.{IsOf, IsUnder}
+use Rattle.capnp_dynamic_readers.specs.Typed.{IsOf, IsValueUnder}
 use Rattle.capnp_dynamic_readers.specs.declared.dynamic_list.Reader.{Reader as ListHandle}
 use Rattle.capnp_dynamic_readers.specs.declared.dynamic_struct.Reader.{Reader as StructHandle}
 use Rattle.capnp_dynamic_readers.specs.declared.dynamic_value.Reader.{Reader as DynamicValue}
@@ -38,7 +38,7 @@ use Rattle.capnp_dynamic_readers.specs.declared.dynamic_value.Reader.TheVariants
 
 -- ---- values under types ----
 
-pub under_of : (set : Schemas) (t : SchemaType) (v : DynamicValue) → IsOf set t v → IsUnder set t v
+pub under_of : (set : Schemas) (t : SchemaType) (v : DynamicValue) → IsOf set t v → IsValueUnder set t v
 under_of set t (dynamic.Enum e) h = (h.1, h.2)
 under_of set t (dynamic.Struct s) h = (h.1, ap struct_brand (sym h.2))
 under_of set t (dynamic.List l) h = (h.0, h.1)
@@ -70,7 +70,7 @@ struct_under set zero at t b g r e = refl
 struct_under set (suc n) at t b g r e = ap (λ m. record_text set (text_within set n) at m r) (ap (λ o. unwrap_or o 0) e)
 
 -- a value is printed as it stands under its type
-pub text_under : (set : Schemas) (t : SchemaType) (left : ℕ) (at : Layout) (v : DynamicValue) → IsUnder set t v → text_within set left at t (value_seen v) ≡ value_shown left at v
+pub text_under : (set : Schemas) (t : SchemaType) (left : ℕ) (at : Layout) (v : DynamicValue) → IsValueUnder set t v → text_within set left at t (value_seen v) ≡ value_shown left at v
 text_under set t left at dynamic.Void e = any_set set no_schemas left at _ t _ e (λ inner further. refl)
 text_under set t left at (dynamic.Bool b) e = any_set set no_schemas left at _ t _ e (λ inner further. refl)
 text_under set t left at (dynamic.Int8 x) e = any_set set no_schemas left at _ t _ e (λ inner further. refl)
@@ -128,8 +128,8 @@ no_group_tree set x below l (UIntType k) = tt {0}
 no_group_tree set x below l (EnumType m) = tt {0}
 no_group_tree set x below l TextType = no_group_read value.Text (as_text x) (λ a. tt {0})
 no_group_tree set x below l DataType = no_group_read value.Data (as_data x) (λ a. tt {0})
-no_group_tree set x below l (StructType b g) = no_group_read _ (as_struct x (asked l)) (λ a. tt {0})
-no_group_tree set x below l (ListType e) = no_group_read _ (as_list (element_size e) x (asked l)) (λ a. tt {0})
+no_group_tree set x below l (StructType b g) = no_group_read _ (as_struct x (levels_asked l)) (λ a. tt {0})
+no_group_tree set x below l (ListType e) = no_group_read _ (as_list (element_size e) x (levels_asked l)) (λ a. tt {0})
 no_group_tree set x below l AnyPointerType = tt {0}
 
 no_group_value : (set : Schemas) (x : Tree) (l : Levels) (t : SchemaType) → IsNoGroup (value_of set x l t)
@@ -178,7 +178,7 @@ module _ (set : Schemas) (group : ℕ → Record) (l : Levels) (s : StructTree) 
   reads_as k t = handed_out k (read_of set (kind_default k) t (has k t))
 
   pub slot_shown : (left : ℕ) (at : Layout) (k : FieldKind) (t : SchemaType) (v : DynamicValue) → GroupFits set k t → kind_target k t ≡ None →
-      value_seen v ≡ handed_out k (read_of set (kind_default k) t (kind_value group l s.bytes (values_of set s.pointers) k t)) → IsUnder set t v →
+      value_seen v ≡ handed_out k (read_of set (kind_default k) t (kind_value group l s.bytes (values_of set s.pointers) k t)) → IsValueUnder set t v →
       part_text set (text_within set left) at (kind_default k) t (kind_value group l s.bytes (values_of set s.pointers) k t) ≡ value_shown left at v
   slot_shown left at (Slot o d) t v fits e is under =
       no_group_text set (text_within set left) at d t (slot_value l s.bytes (values_of set s.pointers) o d t) (no_group_slot set l s o d t)
@@ -200,11 +200,11 @@ module _ (set : Schemas) (group : ℕ → Record) (l : Levels) (s : StructTree) 
 -- ---- what was read ----
 
 module _ (l : ListHandle) (i : ℕ) where
-  pub element_read : (r : Result DynamicValue Error) → answered r ≡ element_seen l i → IfOk r (IsUnder (list_set l) (element_of l)) → IfOk r (IsElement l i)
+  pub element_read : (r : Result DynamicValue Error) → answered_value r ≡ element_seen l i → IfOk r (IsValueUnder (list_set l) (element_of l)) → IfOk r (IsElementRead l i)
   element_read (Ok v) is under = λ left at. ap (text_within (list_set l) left at (element_of l)) (sym is) ∙ text_under (list_set l) (element_of l) left at v under
   element_read (Err e) is under = tt {0}
 
-  pub element_refused : (r : Result DynamicValue Error) → answered r ≡ element_seen l i → IfErr r (λ e. IsElementRefused l i e.kind)
+  pub element_refused : (r : Result DynamicValue Error) → answered_value r ≡ element_seen l i → IfErr r (λ e. IsElementRefused l i e.kind)
   element_refused (Ok v) is = tt {0}
   element_refused (Err e) is = λ left at. ap (text_within (list_set l) left at (element_of l)) (sym is) ∙ fault_text (list_set l) left at (element_of l) e.kind
 
@@ -251,11 +251,11 @@ module _ (r : StructHandle) (f : Field) (field : IsFieldOf (schema_of r) (index_
       (group_named (field_in r f).field.kind (field_in r f).type (number_of g) (sym some)))
       ∙ ap (λ (z : Schemas). record_text z (text_within z left) at (number_of g) (struct_record z (Left (struct_levels (reader_of r))) (struct_of (reader_of r)) (number_of g))) (sym same)
 
-  pub part_read : IsStruct (schema_of r) → (answer : Result DynamicValue Error) → answered answer ≡ field_seen r (index_of f) → IfOk answer (IsOf (set_of (schema_of r)) (field_in r f).type) →
+  pub part_read : IsStruct (schema_of r) → (answer : Result DynamicValue Error) → answered_value answer ≡ field_seen r (index_of f) → IfOk answer (IsOf (set_of (schema_of r)) (field_in r f).type) →
       None ≡ kind_target (field_in r f).field.kind (field_in r f).type → IfOk answer (IsPart r f)
   part_read stands (Ok v) is typed none = part_value stands v is typed none
   part_read stands (Err e) is typed none = tt {0}
 
-  pub part_unread : (answer : Result DynamicValue Error) → answered answer ≡ field_seen r (index_of f) → IfErr answer (λ e. IsPartRefused r f e.kind)
+  pub part_unread : (answer : Result DynamicValue Error) → answered_value answer ≡ field_seen r (index_of f) → IfErr answer (λ e. IsPartRefused r f e.kind)
   part_unread (Ok v) is = tt {0}
   part_unread (Err e) is = part_refused e.kind is

@@ -7,7 +7,7 @@ use Rattle.std.specs.Prelude.{codes, decimal}
 use Rattle.std.specs.Result.{is_ok}
 use Rattle.std.specs.Str.{IsAscii, IsNotAscii, IsUtf8, is_utf8}
 use Rattle.capnp_records.specs.Facts.Spelled.{form_spelled, some_bytes, some_spelled}
-use Rattle.capnp_records.specs.Text.{Out, Pieces, debug_pieces, decimals, form_or, quoted, said}
+use Rattle.capnp_records.specs.Text.{Out, Pieces, debug_pieces, decimals, form_or, quoted_text, said_text}
 use Rattle.capnp_dynamic_readers.specs.Leaf.{two_digits}
 use Rattle.capnp_dynamic_readers.specs.Pieces.{IsAppended, IsPut, Taken}
 use Rattle.capnp_dynamic_readers.proofs.Streams.{bytes_put, nothing_put, three_put, two_put}
@@ -31,7 +31,7 @@ some_other (b ∷ bs) (suc i) h =
     grind (arith, nat_tests, e)
 
 -- bytes that a string grew by
-pub grown : {T E : Type 0} (r : Result T E) (old new bytes : List ℕ) → OnOk r (new ≡ old ++ bytes) → OnOk r (IsPut (Some old) (said bytes) (Some new))
+pub grown : {T E : Type 0} (r : Result T E) (old new bytes : List ℕ) → OnOk r (new ≡ old ++ bytes) → OnOk r (IsPut (Some old) (said_text bytes) (Some new))
 grown (Ok x) old new bytes e = bytes_put (Some old) (Some new) bytes (ap Some (sym e))
 grown (Err x) old new bytes e = tt {0}
 
@@ -79,20 +79,20 @@ appended_whole o old new made (bytes, h, e) f = (bytes, h, f ∙ ap (λ (z : Lis
 -- ---- bytes, one after another ----
 
 -- one byte more
-pub more_put : (f : ℕ → List ℕ) (a b c : Taken) (bs : List ℕ) (i : ℕ) → i < length bs → IsPut a (said (flat_map f (take i bs))) b → IsPut b (said (f (get_or bs i 0))) c →
-    IsPut a (said (flat_map f (take (i + 1) bs))) c
+pub more_put : (f : ℕ → List ℕ) (a b c : Taken) (bs : List ℕ) (i : ℕ) → i < length bs → IsPut a (said_text (flat_map f (take i bs))) b → IsPut b (said_text (f (get_or bs i 0))) c →
+    IsPut a (said_text (flat_map f (take (i + 1) bs))) c
 more_put f a b c bs i h d e =
     let grown : flat_map f (take i bs) ++ f (get_or bs i 0) ≡ flat_map f (take (i + 1) bs) =
     flat_map_more f [] (take i bs) (get_or bs i 0) ∙ ap (flat_map f) (sym (take_more bs i 0 h)) in
-    subst (λ (z : List ℕ). IsPut a (said z) c) grown (two_put a b c (flat_map f (take i bs)) (f (get_or bs i 0)) d e)
+    subst (λ (z : List ℕ). IsPut a (said_text z) c) grown (two_put a b c (flat_map f (take i bs)) (f (get_or bs i 0)) d e)
 
 -- a byte by its two digits
-pub byte_put : (a b c : Taken) (n : ℕ) (x y : List ℕ) → n < 256 → x ≡ digit_char (n / 16) ∷ [] → y ≡ digit_char (n % 16) ∷ [] → IsPut a (said x) b → IsPut b (said y) c →
-    IsPut a (said (two_digits n)) c
+pub byte_put : (a b c : Taken) (n : ℕ) (x y : List ℕ) → n < 256 → x ≡ digit_char (n / 16) ∷ [] → y ≡ digit_char (n % 16) ∷ [] → IsPut a (said_text x) b → IsPut b (said_text y) c →
+    IsPut a (said_text (two_digits n)) c
 byte_put a b c n x y small e f h i =
     let high : n / 16 ≡ n / 16 % 16 = omega (arith, small) in
     let low : n % 16 ≡ n / 1 % 16 = omega arith in
-    subst (λ (z : List ℕ). IsPut a (said z) c) (ap₂ (λ (u v : List ℕ). u ++ v) (e ∙ ap (λ m. digit_char m ∷ []) high) (f ∙ ap (λ m. digit_char m ∷ []) low)) (two_put a b c x y h i)
+    subst (λ (z : List ℕ). IsPut a (said_text z) c) (ap₂ (λ (u v : List ℕ). u ++ v) (e ∙ ap (λ m. digit_char m ∷ []) high) (f ∙ ap (λ m. digit_char m ∷ []) low)) (two_put a b c x y h i)
 
 decimals_last : (bs : List ℕ) (c : ℕ) → 0 < length bs → decimals (bs ++ c ∷ []) ≡ decimals bs ++ (codes ", " ++ decimal c)
 decimals_last [] c h = absurd (omega (arith, h))
@@ -105,17 +105,17 @@ pub first_decimal : (bs : List ℕ) → 0 < length bs → decimal (get_or bs 0 0
 first_decimal [] h = absurd (omega (arith, h))
 first_decimal (b ∷ bs) h = refl
 
-pub no_decimals : (a : Taken) (bs : List ℕ) → length bs ≡ 0 → IsPut a (said (decimals bs)) a
+pub no_decimals : (a : Taken) (bs : List ℕ) → length bs ≡ 0 → IsPut a (said_text (decimals bs)) a
 no_decimals a [] h = nothing_put a
 no_decimals a (b ∷ bs) h = absurd (omega (arith, h))
 
 -- one byte more, after a comma and a space
-pub more_decimals : (a b c d : Taken) (bs : List ℕ) (i : ℕ) → 0 < i → i < length bs → IsPut a (said (decimals (take i bs))) b →
-    IsPut b (said (codes ", ")) c → IsPut c (said (decimal (get_or bs i 0))) d → IsPut a (said (decimals (take (i + 1) bs))) d
+pub more_decimals : (a b c d : Taken) (bs : List ℕ) (i : ℕ) → 0 < i → i < length bs → IsPut a (said_text (decimals (take i bs))) b →
+    IsPut b (said_text (codes ", ")) c → IsPut c (said_text (decimal (get_or bs i 0))) d → IsPut a (said_text (decimals (take (i + 1) bs))) d
 more_decimals a b c d bs i k h e f g =
     let grown : decimals (take i bs) ++ (codes ", " ++ decimal (get_or bs i 0)) ≡ decimals (take (i + 1) bs) =
     sym (decimals_last (take i bs) (get_or bs i 0) (omega (arith, length-take {A = ℕ} i bs))) ∙ ap decimals (sym (take_more bs i 0 h)) in
-    subst (λ (z : List ℕ). IsPut a (said z) d) grown (three_put a b c d (decimals (take i bs)) (codes ", ") (decimal (get_or bs i 0)) e f g)
+    subst (λ (z : List ℕ). IsPut a (said_text z) d) grown (three_put a b c d (decimals (take i bs)) (codes ", ") (decimal (get_or bs i 0)) e f g)
 
 -- ---- texts ----
 
@@ -124,13 +124,13 @@ no_utf8 bs true e h = absurd (h (IsUtf8-from_is_utf8 bs e))
 no_utf8 bs false e h = e
 
 abbrev quoted_by : List ℕ → Bool → Out
-quoted_by bs b = elim b [ true ↦ Ok (debug_pieces bs) | false ↦ said (codes "<invalid utf-8: [" ++ decimals bs ++ codes "]>") ]
+quoted_by bs b = elim b [ true ↦ Ok (debug_pieces bs) | false ↦ said_text (codes "<invalid utf-8: [" ++ decimals bs ++ codes "]>") ]
 
-pub string_put : (bs s : List ℕ) (a b : Taken) → (s ≡ bs) × IsUtf8 bs → IsPut a (Ok (debug_pieces s)) b → IsPut a (quoted bs) b
+pub string_put : (bs s : List ℕ) (a b : Taken) → (s ≡ bs) × IsUtf8 bs → IsPut a (Ok (debug_pieces s)) b → IsPut a (quoted_text bs) b
 string_put bs s a b h e =
     subst (λ (q : Bool). IsPut a (quoted_by bs q) b) (sym (is_utf8-from_IsUtf8 bs h.1)) (subst (λ (z : List ℕ). IsPut a (Ok (debug_pieces z)) b) h.0 e)
 
-pub numbers_put : (bs : List ℕ) (a b c d : Taken) → (IsUtf8 bs → ⊥) → IsPut a (said (codes "<invalid utf-8: [")) b → IsPut b (said (decimals bs)) c → IsPut c (said (codes "]>")) d →
-    IsPut a (quoted bs) d
+pub numbers_put : (bs : List ℕ) (a b c d : Taken) → (IsUtf8 bs → ⊥) → IsPut a (said_text (codes "<invalid utf-8: [")) b → IsPut b (said_text (decimals bs)) c → IsPut c (said_text (codes "]>")) d →
+    IsPut a (quoted_text bs) d
 numbers_put bs a b c d h e f g =
     subst (λ (z : Bool). IsPut a (quoted_by bs z) d) (sym (no_utf8 bs (is_utf8 bs) refl h)) (three_put a b c d (codes "<invalid utf-8: [") (decimals bs) (codes "]>") e f g)

@@ -5,7 +5,7 @@ use Rattle.capnp_wire.specs.Tree.{StructTree}
 use Rattle.capnp_base.specs.declared.introspect.TypeVariant.{TypeVariant}
 use Rattle.capnp_base.specs.declared.introspect.TypeVariant.TheVariants as variant
 use Rattle.capnp_schema.specs.Accepted.{IsAccepted, IsGroupOf, GroupFits, NamesEntries}
-use Rattle.capnp_schema.specs.Plan.{IsSlotPlace, place_of}
+use Rattle.capnp_schema.specs.Plan.{IsSlotPlace, plan_place}
 use Rattle.capnp_schema.specs.Schema.{FieldKind, Group, Schemas, Slot, default_of, field_at, fields_of, kind_default}
 use Rattle.capnp_schema.specs.Schema.{Value as SchemaValue}
 use Rattle.capnp_schema.specs.Types.{SchemaType, StructType, struct_brand, struct_number, seen_variant}
@@ -25,7 +25,7 @@ group-brand set v n fits = absurd fits
 
 module _ (set : Schemas) (l : Levels) (s : StructTree) where
   slot-placed : (v : TypeVariant) (o : ℕ) (d : SchemaValue) →
-      placed_read set l s d (seen_variant v) (place_of (Slot o d) (seen_variant v)) ≡ read_of set d (seen_variant v) (slot_value l s.bytes (values_of set s.pointers) o d (seen_variant v))
+      placed_read set l s d (seen_variant v) (plan_place (Slot o d) (seen_variant v)) ≡ read_of set d (seen_variant v) (slot_value l s.bytes (values_of set s.pointers) o d (seen_variant v))
   slot-placed variant.Void o d = refl
   slot-placed variant.Bool o d = refl
   slot-placed variant.Int8 o d = refl
@@ -44,19 +44,19 @@ module _ (set : Schemas) (l : Levels) (s : StructTree) where
   slot-placed variant.AnyPointer o d = ap (λ (r : Reading). read_of set d (seen_variant variant.AnyPointer) (r l (seen_variant variant.AnyPointer))) (sym (values_of-nth set s.pointers o))
 
   pub field_placed : IsAccepted set → (b i : ℕ) → b < length set.brands → i < length (fields_of set b) → (v : TypeVariant) → seen_variant v ≡ (field_at set b i).type →
-      placed_read set l s (default_of (field_at set b i).field) (field_at set b i).type (place_of (field_at set b i).field.kind (field_at set b i).type) ≡ field_read set l s (field_at set b i)
+      placed_read set l s (default_of (field_at set b i).field) (field_at set b i).type (plan_place (field_at set b i).field.kind (field_at set b i).type) ≡ field_read set l s (field_at set b i)
   field_placed accepted b i b_in i_in v e =
       go (field_at set b i).field.kind (field_at set b i).type e (accepted.rule7 b i b_in i_in) (λ h. part_of-group set accepted l s.bytes (values_of set s.pointers) b i (struct_number (field_at set b i).type) b_in i_in h)
     where
       go : (k : FieldKind) (t : SchemaType) → seen_variant v ≡ t → GroupFits set k t →
           (IsGroupOf k t (struct_number t) → kind_value (record_within (length set.brands) set l s.bytes (values_of set s.pointers)) l s.bytes (values_of set s.pointers) k t ≡ value.Group (record_of set l s.bytes (values_of set s.pointers) (struct_number t))) →
-          placed_read set l s (kind_default k) t (place_of k t) ≡ handed_out k (read_of set (kind_default k) t (kind_value (record_within (length set.brands) set l s.bytes (values_of set s.pointers)) l s.bytes (values_of set s.pointers) k t))
-      go (Slot o d) t e fits group = subst (λ t. placed_read set l s d t (place_of (Slot o d) t) ≡ read_of set d t (slot_value l s.bytes (values_of set s.pointers) o d t)) e (slot-placed v o d)
+          placed_read set l s (kind_default k) t (plan_place k t) ≡ handed_out k (read_of set (kind_default k) t (kind_value (record_within (length set.brands) set l s.bytes (values_of set s.pointers)) l s.bytes (values_of set s.pointers) k t))
+      go (Slot o d) t e fits group = subst (λ t. placed_read set l s d t (plan_place (Slot o d) t) ≡ read_of set d t (slot_value l s.bytes (values_of set s.pointers) o d t)) e (slot-placed v o d)
       go (Group n) t e fits group = ap (λ w. handed_out (Group n) (read_of set (kind_default (Group n)) t w)) (sym (group (subst (λ t. GroupFits set (Group n) t → struct_brand t ≡ Some (struct_number t)) e (group-brand set v n) fits)))
 
 -- ---- the place is sound ----
 
-slot-sound : (set : Schemas) (v : TypeVariant) (o : ℕ) (d : SchemaValue) → IsSlotPlace (place_of (Slot o d) (seen_variant v)) → IsSound set (seen_variant v) (place_of (Slot o d) (seen_variant v))
+slot-sound : (set : Schemas) (v : TypeVariant) (o : ℕ) (d : SchemaValue) → IsSlotPlace (plan_place (Slot o d) (seen_variant v)) → IsSound set (seen_variant v) (plan_place (Slot o d) (seen_variant v))
 slot-sound set variant.Void o d h = refl
 slot-sound set variant.Bool o d h = (omega arith, h.is_aligned, h.mask_fits)
 slot-sound set variant.Int8 o d h = (omega arith, h.is_aligned, h.mask_fits)
@@ -74,15 +74,15 @@ slot-sound set (variant.Struct x) o d h = refl
 slot-sound set (variant.List x) o d h = refl
 slot-sound set variant.AnyPointer o d h = refl
 
-group-sound : (set : Schemas) (v : TypeVariant) (n : ℕ) → GroupFits set (Group n) (seen_variant v) → NamesEntries set (seen_variant v) → IsSound set (seen_variant v) (place_of (Group n) (seen_variant v))
+group-sound : (set : Schemas) (v : TypeVariant) (n : ℕ) → GroupFits set (Group n) (seen_variant v) → NamesEntries set (seen_variant v) → IsSound set (seen_variant v) (plan_place (Group n) (seen_variant v))
 group-sound set (variant.Struct x) n fits named = (named.0, ap (StructType x.number) named.1)
 group-sound set v n fits named = absurd fits
 
 pub place_sound : (set : Schemas) → IsAccepted set → (b i : ℕ) → b < length set.brands → i < length (fields_of set b) → (v : TypeVariant) → seen_variant v ≡ (field_at set b i).type →
-    IsSlotPlace (place_of (field_at set b i).field.kind (field_at set b i).type) → IsSound set (field_at set b i).type (place_of (field_at set b i).field.kind (field_at set b i).type)
+    IsSlotPlace (plan_place (field_at set b i).field.kind (field_at set b i).type) → IsSound set (field_at set b i).type (plan_place (field_at set b i).field.kind (field_at set b i).type)
 place_sound set accepted b i b_in i_in v e =
     go (field_at set b i).field.kind (field_at set b i).type e (accepted.rule7 b i b_in i_in) (accepted.rule1.fields b i b_in i_in)
   where
-    go : (k : FieldKind) (t : SchemaType) → seen_variant v ≡ t → GroupFits set k t → NamesEntries set t → IsSlotPlace (place_of k t) → IsSound set t (place_of k t)
-    go (Slot o d) t e fits named h = subst (λ t. IsSlotPlace (place_of (Slot o d) t) → IsSound set t (place_of (Slot o d) t)) e (slot-sound set v o d) h
-    go (Group n) t e fits named h = subst (λ t. GroupFits set (Group n) t → NamesEntries set t → IsSound set t (place_of (Group n) t)) e (group-sound set v n) fits named
+    go : (k : FieldKind) (t : SchemaType) → seen_variant v ≡ t → GroupFits set k t → NamesEntries set t → IsSlotPlace (plan_place k t) → IsSound set t (plan_place k t)
+    go (Slot o d) t e fits named h = subst (λ t. IsSlotPlace (plan_place (Slot o d) t) → IsSound set t (plan_place (Slot o d) t)) e (slot-sound set v o d) h
+    go (Group n) t e fits named h = subst (λ t. GroupFits set (Group n) t → NamesEntries set t → IsSound set t (plan_place (Group n) t)) e (group-sound set v n) fits named

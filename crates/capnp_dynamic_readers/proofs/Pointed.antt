@@ -12,7 +12,7 @@ use Rattle.capnp_wire.specs.Tree.{StructTree, Tree}
 use Rattle.capnp_wire.specs.Reading.{as_data, as_list, as_struct, as_text, empty_list, is_null_tree}
 use Rattle.capnp_wire.specs.declared.size.ElementSize.{ElementSize}
 use Rattle.capnp_wire.specs.declared.size.ElementSize.TheVariants as size
-use Rattle.capnp_schema.specs.Accepted.{root_of}
+use Rattle.capnp_schema.specs.Accepted.{words_root}
 use Rattle.capnp_schema.specs.Schema.{Schemas, VoidValue, StructValue, ListValue}
 use Rattle.capnp_schema.specs.Schema.{Value as SchemaValue}
 use Rattle.capnp_schema.specs.Types.{AnyPointerType, DataType, ListType, SchemaType, StructType, TextType, element_size}
@@ -20,10 +20,10 @@ use Rattle.capnp_records.specs.Facts.DefaultTree.{read-there}
 use Rattle.capnp_records.specs.Facts.ListValues.{below_of}
 use Rattle.capnp_records.specs.Facts.Readers.{data-read, list-value, null-is, struct-read, text-read, untyped-read, value-there}
 use Rattle.capnp_records.specs.Default.{default_value, empty_value, read_of, unless_null}
-use Rattle.capnp_records.specs.Reading.{elements_value, entered, of_read, struct_record, value_of}
+use Rattle.capnp_records.specs.Reading.{elements_value, entered_value, of_read, struct_record, value_of}
 use Rattle.capnp_records.specs.Record.{Left, Levels, Value}
 use Rattle.capnp_records.specs.Record as value
-use Rattle.capnp_dynamic_readers.specs.Behind.{data_of, list_answered, list_words, struct_answered, struct_words, text_of}
+use Rattle.capnp_dynamic_readers.specs.Behind.{data_of, list_answered, default_list_words, struct_answered, struct_words, default_text_bytes}
 
 -- a value that is there, and a null
 pub there : (set : Schemas) (d : SchemaValue) (t : SchemaType) (x : Tree) (l : Levels) → is_null_tree x ≡ false → read_of set d t (value_of set x l t) ≡ value_of set x l t
@@ -54,7 +54,7 @@ refused-entered : {X : Type 0} (q : Bool) (k : ErrorKind) (y : X) (v : Value) �
 refused-entered true k y v e = cc
 refused-entered false k y v e = cc
 
-entered-some : (n m : ℕ) (v : Value) → m + 1 ≡ n → entered (Left n) v ≡ v
+entered-some : (n m : ℕ) (v : Value) → m + 1 ≡ n → entered_value (Left n) v ≡ v
 entered-some n m v e = ap (λ q. elim q as (λ _. Value) [ true ↦ value.Fault TooDeep | false ↦ v ]) (not-zero n m e)
   where
     not-zero : (n m : ℕ) → m + 1 ≡ n → (n == 0) ≡ false
@@ -62,7 +62,7 @@ entered-some n m v e = ap (λ q. elim q as (λ _. Value) [ true ↦ value.Fault 
 
 -- ---- texts, data and untyped pointers ----
 
-text-default : (set : Schemas) (l : Levels) (d : SchemaValue) → value.Text (text_of d) ≡ default_value set l d TextType
+text-default : (set : Schemas) (l : Levels) (d : SchemaValue) → value.Text (default_text_bytes d) ≡ default_value set l d TextType
 text-default set l VoidValue = refl
 text-default set l d = refl
 
@@ -74,7 +74,7 @@ untyped-default : (set : Schemas) (l : Levels) (d : SchemaValue) → value.Untyp
 untyped-default set l VoidValue = refl
 untyped-default set l d = refl
 
-pub text_null : (set : Schemas) (d : SchemaValue) (x : Tree) (l : Levels) (bytes : List ℕ) → is_null_tree x ≡ true → bytes ≡ text_of d → value.Text bytes ≡ read_of set d TextType (value_of set x l TextType)
+pub text_null : (set : Schemas) (d : SchemaValue) (x : Tree) (l : Levels) (bytes : List ℕ) → is_null_tree x ≡ true → bytes ≡ default_text_bytes d → value.Text bytes ≡ read_of set d TextType (value_of set x l TextType)
 text_null set d x l bytes h e = ap value.Text e ∙ (text-default set l d ∙ sym (missing set d TextType x l h))
 
 pub text_there : (set : Schemas) (d : SchemaValue) (x : Tree) (l : Levels) (r : Result (List ℕ) ErrorKind) → is_null_tree x ≡ false → r ≡ as_text x → of_read value.Text r ≡ read_of set d TextType (value_of set x l TextType)
@@ -110,10 +110,10 @@ module _ (set : Schemas) (b g : ℕ) (d : SchemaValue) (x : Tree) (n : ℕ) wher
 
   -- the default, once a level was there for the null
   abbrev struct-inner : SchemaValue → Value
-  struct-inner (StructValue words) = unless_null set (Left n) (StructType b g) (root_of words)
+  struct-inner (StructValue words) = unless_null set (Left n) (StructType b g) (words_root words)
   struct-inner d = empty_value set (Left n) (StructType b g)
 
-  struct-default : (d : SchemaValue) → default_value set (Left n) d (StructType b g) ≡ entered (Left n) (struct-inner d)
+  struct-default : (d : SchemaValue) → default_value set (Left n) d (StructType b g) ≡ entered_value (Left n) (struct-inner d)
   struct-default VoidValue = refl
   struct-default d = refl
 
@@ -121,11 +121,11 @@ module _ (set : Schemas) (b g : ℕ) (d : SchemaValue) (x : Tree) (n : ℕ) wher
   struct-bare (StructValue x) e = cc
   struct-bare d e = refl
 
-  struct-words : (d : SchemaValue) (words : List ℕ) → Some words ≡ struct_words d → struct-inner d ≡ unless_null set (Left n) (StructType b g) (root_of words)
-  struct-words (StructValue x) words e = ap (λ w. unless_null set (Left n) (StructType b g) (root_of w)) (some-same (sym e))
+  struct-words : (d : SchemaValue) (words : List ℕ) → Some words ≡ struct_words d → struct-inner d ≡ unless_null set (Left n) (StructType b g) (words_root words)
+  struct-words (StructValue x) words e = ap (λ w. unless_null set (Left n) (StructType b g) (words_root w)) (some-same (sym e))
   struct-words d words e = cc
 
-  struct-null : is_null_tree x ≡ true → struct_seen ≡ entered (Left n) (struct-inner d)
+  struct-null : is_null_tree x ≡ true → struct_seen ≡ entered_value (Left n) (struct-inner d)
   struct-null h = missing set d (StructType b g) x (Left n) h ∙ struct-default d
 
   struct-empty : (s : StructTree) (m : ℕ) → is_null_tree x ≡ true → Ok s ≡ as_struct x n → m + 1 ≡ n → value.Struct (struct_record set (Left m) s b) ≡ empty_value set (Left n) (StructType b g)
@@ -136,10 +136,10 @@ module _ (set : Schemas) (b g : ℕ) (d : SchemaValue) (x : Tree) (n : ℕ) wher
   struct_bare s m h e levels none =
       struct-empty s m h e levels ∙ (sym (struct-bare d none) ∙ (sym (entered-some n m _ levels) ∙ sym (struct-null h)))
 
-  pub struct_null : (s : StructTree) (m : ℕ) (words : List ℕ) → is_null_tree x ≡ true → Ok s ≡ as_struct x n → m + 1 ≡ n → Some words ≡ struct_words d → is_null_tree (root_of words) ≡ true → value.Struct (struct_record set (Left m) s b) ≡ struct_seen
+  pub struct_null : (s : StructTree) (m : ℕ) (words : List ℕ) → is_null_tree x ≡ true → Ok s ≡ as_struct x n → m + 1 ≡ n → Some words ≡ struct_words d → is_null_tree (words_root words) ≡ true → value.Struct (struct_record set (Left m) s b) ≡ struct_seen
   struct_null s m words h e levels some null =
       struct-empty s m h e levels
-      ∙ (sym (ap (λ q. elim q as (λ _. Value) [ true ↦ empty_value set (Left n) (StructType b g) | false ↦ value_of set (root_of words) (Left 64) (StructType b g) ]) null)
+      ∙ (sym (ap (λ q. elim q as (λ _. Value) [ true ↦ empty_value set (Left n) (StructType b g) | false ↦ value_of set (words_root words) (Left 64) (StructType b g) ]) null)
       ∙ (sym (struct-words d words some) ∙ (sym (entered-some n m _ levels) ∙ sym (struct-null h))))
 
   struct-of_words : (r : Result StructReader Error) (y : Tree) → is_null_tree y ≡ false → struct_read r ≡ as_struct y 64 → IfOk r (λ s. struct_levels s + 1 ≡ 64) → struct_answered set b r ≡ value_of set y (Left 64) (StructType b g)
@@ -148,11 +148,11 @@ module _ (set : Schemas) (b g : ℕ) (d : SchemaValue) (x : Tree) (n : ℕ) wher
       ∙ (ap (of_read (λ (s : StructTree). value.Struct (struct_record set (Left 63) s b))) e ∙ sym (struct-read set y (Left 64) b g h))
   struct-of_words (Err f) y h e levels = ap (of_read (λ (s : StructTree). value.Struct (struct_record set (Left 63) s b))) e ∙ sym (struct-read set y (Left 64) b g h)
 
-  pub struct_from_words : (r : Result StructReader Error) (m : ℕ) (words : List ℕ) → is_null_tree x ≡ true → m + 1 ≡ n → Some words ≡ struct_words d → is_null_tree (root_of words) ≡ false →
-      struct_read r ≡ as_struct (root_of words) 64 → IfOk r (λ s. struct_levels s + 1 ≡ 64) → struct_answered set b r ≡ struct_seen
+  pub struct_from_words : (r : Result StructReader Error) (m : ℕ) (words : List ℕ) → is_null_tree x ≡ true → m + 1 ≡ n → Some words ≡ struct_words d → is_null_tree (words_root words) ≡ false →
+      struct_read r ≡ as_struct (words_root words) 64 → IfOk r (λ s. struct_levels s + 1 ≡ 64) → struct_answered set b r ≡ struct_seen
   struct_from_words r m words h levels some there e left =
-      struct-of_words r (root_of words) there e left
-      ∙ (sym (ap (λ q. elim q as (λ _. Value) [ true ↦ empty_value set (Left n) (StructType b g) | false ↦ value_of set (root_of words) (Left 64) (StructType b g) ]) there)
+      struct-of_words r (words_root words) there e left
+      ∙ (sym (ap (λ q. elim q as (λ _. Value) [ true ↦ empty_value set (Left n) (StructType b g) | false ↦ value_of set (words_root words) (Left 64) (StructType b g) ]) there)
       ∙ (sym (struct-words d words some) ∙ (sym (entered-some n m _ levels) ∙ sym (struct-null h))))
 
   pub struct_refused : (k : ErrorKind) → Err k ≡ as_struct x n → value.Fault k ≡ struct_seen
@@ -194,45 +194,45 @@ module _ (set : Schemas) (t : SchemaType) (s : ElementSize) (sized : element_siz
   list_there y m h e levels = list-ok x y n m h e levels ∙ sym (there set d (ListType t) x (Left n) h)
 
   abbrev list-inner : SchemaValue → Value
-  list-inner (ListValue words) = unless_null set (Left n) (ListType t) (root_of words)
+  list-inner (ListValue words) = unless_null set (Left n) (ListType t) (words_root words)
   list-inner d = empty_value set (Left n) (ListType t)
 
-  list-default : (d : SchemaValue) → default_value set (Left n) d (ListType t) ≡ entered (Left n) (list-inner d)
+  list-default : (d : SchemaValue) → default_value set (Left n) d (ListType t) ≡ entered_value (Left n) (list-inner d)
   list-default VoidValue = refl
   list-default d = refl
 
-  list-bare : (d : SchemaValue) → None ≡ list_words d → list-inner d ≡ value.Elements value.NoValues
+  list-bare : (d : SchemaValue) → None ≡ default_list_words d → list-inner d ≡ value.Elements value.NoValues
   list-bare (ListValue x) e = cc
   list-bare d e = refl
 
-  list-words : (d : SchemaValue) (words : List ℕ) → Some words ≡ list_words d → list-inner d ≡ unless_null set (Left n) (ListType t) (root_of words)
-  list-words (ListValue x) words e = ap (λ w. unless_null set (Left n) (ListType t) (root_of w)) (some-same (sym e))
+  list-words : (d : SchemaValue) (words : List ℕ) → Some words ≡ default_list_words d → list-inner d ≡ unless_null set (Left n) (ListType t) (words_root words)
+  list-words (ListValue x) words e = ap (λ w. unless_null set (Left n) (ListType t) (words_root w)) (some-same (sym e))
   list-words d words e = cc
 
-  list-null : is_null_tree x ≡ true → list_seen ≡ entered (Left n) (list-inner d)
+  list-null : is_null_tree x ≡ true → list_seen ≡ entered_value (Left n) (list-inner d)
   list-null h = missing set d (ListType t) x (Left n) h ∙ list-default d
 
   list-empty : (y : Tree) (m : ℕ) → is_null_tree x ≡ true → Ok y ≡ as_list s x n → elements_value set y (below_of set y) (Left m) t ≡ value.Elements value.NoValues
   list-empty y m h e = ap (λ v. elements_value set v (below_of set v) (Left m) t) (entered-ok (n == 0) _ _ _ (e ∙ ap (λ y. as_list s y n) (null-is x h))) ∙ no-elements set (Left m) t s
 
-  pub list_bare : (y : Tree) (m : ℕ) → is_null_tree x ≡ true → Ok y ≡ as_list s x n → m + 1 ≡ n → None ≡ list_words d → elements_value set y (below_of set y) (Left m) t ≡ list_seen
+  pub list_bare : (y : Tree) (m : ℕ) → is_null_tree x ≡ true → Ok y ≡ as_list s x n → m + 1 ≡ n → None ≡ default_list_words d → elements_value set y (below_of set y) (Left m) t ≡ list_seen
   list_bare y m h e levels none = list-empty y m h e ∙ (sym (list-bare d none) ∙ (sym (entered-some n m _ levels) ∙ sym (list-null h)))
 
-  pub list_null : (y : Tree) (m : ℕ) (words : List ℕ) → is_null_tree x ≡ true → Ok y ≡ as_list s x n → m + 1 ≡ n → Some words ≡ list_words d → is_null_tree (root_of words) ≡ true → elements_value set y (below_of set y) (Left m) t ≡ list_seen
+  pub list_null : (y : Tree) (m : ℕ) (words : List ℕ) → is_null_tree x ≡ true → Ok y ≡ as_list s x n → m + 1 ≡ n → Some words ≡ default_list_words d → is_null_tree (words_root words) ≡ true → elements_value set y (below_of set y) (Left m) t ≡ list_seen
   list_null y m words h e levels some null =
       list-empty y m h e
-      ∙ (sym (ap (λ q. elim q as (λ _. Value) [ true ↦ empty_value set (Left n) (ListType t) | false ↦ value_of set (root_of words) (Left 64) (ListType t) ]) null)
+      ∙ (sym (ap (λ q. elim q as (λ _. Value) [ true ↦ empty_value set (Left n) (ListType t) | false ↦ value_of set (words_root words) (Left 64) (ListType t) ]) null)
       ∙ (sym (list-words d words some) ∙ (sym (entered-some n m _ levels) ∙ sym (list-null h))))
 
   list-of_words : (r : Result ListReader Error) (y : Tree) → is_null_tree y ≡ false → list_read r ≡ as_list s y 64 → IfOk r (λ l. list_levels l + 1 ≡ 64) → list_answered set t r ≡ value_of set y (Left 64) (ListType t)
   list-of_words (Ok l) y h e levels = list-ok y (list_of l) 64 (list_levels l) h e levels
   list-of_words (Err f) y h e levels = ap (of_read (λ (_ : Tree). elements_value set y (below_of set y) (Left 63) t)) e ∙ sym (list-as y 64 h)
 
-  pub list_from_words : (r : Result ListReader Error) (m : ℕ) (words : List ℕ) → is_null_tree x ≡ true → m + 1 ≡ n → Some words ≡ list_words d → is_null_tree (root_of words) ≡ false →
-      list_read r ≡ as_list s (root_of words) 64 → IfOk r (λ l. list_levels l + 1 ≡ 64) → list_answered set t r ≡ list_seen
+  pub list_from_words : (r : Result ListReader Error) (m : ℕ) (words : List ℕ) → is_null_tree x ≡ true → m + 1 ≡ n → Some words ≡ default_list_words d → is_null_tree (words_root words) ≡ false →
+      list_read r ≡ as_list s (words_root words) 64 → IfOk r (λ l. list_levels l + 1 ≡ 64) → list_answered set t r ≡ list_seen
   list_from_words r m words h levels some there e left =
-      list-of_words r (root_of words) there e left
-      ∙ (sym (ap (λ q. elim q as (λ _. Value) [ true ↦ empty_value set (Left n) (ListType t) | false ↦ value_of set (root_of words) (Left 64) (ListType t) ]) there)
+      list-of_words r (words_root words) there e left
+      ∙ (sym (ap (λ q. elim q as (λ _. Value) [ true ↦ empty_value set (Left n) (ListType t) | false ↦ value_of set (words_root words) (Left 64) (ListType t) ]) there)
       ∙ (sym (list-words d words some) ∙ (sym (entered-some n m _ levels) ∙ sym (list-null h))))
 
   pub list_refused : (k : ErrorKind) → Err k ≡ as_list s x n → value.Fault k ≡ list_seen

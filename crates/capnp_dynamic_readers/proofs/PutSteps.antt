@@ -2,7 +2,7 @@
 use Rattle.std.specs.Prelude.{ℕ, ◌+◌, ◌-◌, ◌<◌, ◌≡◌, ◌==◌, true, Ok, Err, Result, IfErr, OnOk}
 use Rattle.std.proofs.Common.{sym, subst, ◌∙◌}
 use Rattle.capnp_device.specs.declared.error.ErrorKind.{ErrorKind}
-use Rattle.capnp_records.specs.Text.{Layout, deeper, more_text, said, separator}
+use Rattle.capnp_records.specs.Text.{Layout, deeper, more_text, said_text, separator}
 use Rattle.capnp_dynamic_readers.specs.Pieces.{IsPut, IsStopped, Leads, Taken}
 use Rattle.capnp_dynamic_readers.specs.Reads.{element_seen}
 use Rattle.capnp_dynamic_readers.specs.Shown.{count_of, element_items, element_shown, list_shown, record_shown, value_shown}
@@ -36,7 +36,7 @@ module _ (left : ℕ) (at : Layout) (l : ListHandle) (old : Taken) (i : ℕ) whe
   elements_put p done stands = stands (Ok p) (elements_end left at l (count_of l) i (i == 0) done p)
 
 pub elements_after : (left : ℕ) (at : Layout) (l : ListHandle) (old : Taken) (i : ℕ) (p0 p1 p2 : Taken) (v : DynamicValue) → i < count_of l → StandsBefore left at l old i p0 →
-    IsPut p0 (said (separator at (i == 0))) p1 → element_shown left at l (element_seen l i) ≡ value_shown left at v → IsPut p1 (value_shown left at v) p2 → StandsBefore left at l old (i + 1) p2
+    IsPut p0 (said_text (separator at (i == 0))) p1 → element_shown left at l (element_seen l i) ≡ value_shown left at v → IsPut p1 (value_shown left at v) p2 → StandsBefore left at l old (i + 1) p2
 elements_after left at l old i p0 p1 p2 v inside stands a e b = λ r k.
     stands r (element_next left at l (count_of l) i inside p0 p1 p2 a (same_put p1 p2 (element_shown left at l (element_seen l i)) (value_shown left at v) e b) r k)
 

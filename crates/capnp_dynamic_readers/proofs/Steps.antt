@@ -6,7 +6,7 @@ use Rattle.capnp_schema.specs.Schema.{Schemas, TypedField}
 use Rattle.capnp_schema.specs.StructHandles.{struct_fields}
 use Rattle.capnp_schema.specs.Types.{SchemaType}
 use Rattle.capnp_records.specs.Record.{Value}
-use Rattle.capnp_records.specs.Text.{Inner, Layout, Out, after, bracketed, deeper, line, list_text, more_text, said, separator, struct_text, text_within, value_text}
+use Rattle.capnp_records.specs.Text.{Inner, Layout, Out, after, bracketed_text, deeper, line, list_text, more_text, said_text, separator, struct_text, text_within, value_text}
 use Rattle.capnp_dynamic_readers.specs.Handles.{schema_of}
 use Rattle.capnp_dynamic_readers.specs.Leaf.{IsLeaf, leaf_text}
 use Rattle.capnp_dynamic_readers.specs.Pieces.{IsFull, IsPut, IsStopped, Leads, Taken}
@@ -75,16 +75,16 @@ leaf_put left at v old new h p = same_put old new (value_shown left at v) (leaf_
 -- ---- brackets ----
 
 pub brackets_put : (opening closing : List ℕ) (at further : Layout) (items : List Out) → further ≡ deeper at → (p0 p1 p2 p3 p4 : Taken) →
-    IsPut p0 (said opening) p1 → IsPut p1 (more_text further true items) p2 → IsPut p2 (said (line at)) p3 → IsPut p3 (said closing) p4 →
-    IsPut p0 (bracketed opening closing at items) p4
+    IsPut p0 (said_text opening) p1 → IsPut p1 (more_text further true items) p2 → IsPut p2 (said_text (line at)) p3 → IsPut p3 (said_text closing) p4 →
+    IsPut p0 (bracketed_text opening closing at items) p4
 brackets_put opening closing at further items e p0 p1 p2 p3 p4 a b c d =
-    then_put p0 p1 p4 (said opening) (after (more_text (deeper at) true items) (said (line at ++ closing))) a
-    (then_put p1 p2 p4 (more_text (deeper at) true items) (said (line at ++ closing)) (subst (λ (z : Layout). IsPut p1 (more_text z true items) p2) e b) (two_put p2 p3 p4 (line at) closing c d))
+    then_put p0 p1 p4 (said_text opening) (after (more_text (deeper at) true items) (said_text (line at ++ closing))) a
+    (then_put p1 p2 p4 (more_text (deeper at) true items) (said_text (line at ++ closing)) (subst (λ (z : Layout). IsPut p1 (more_text z true items) p2) e b) (two_put p2 p3 p4 (line at) closing c d))
 
 pub brackets_stopped : (opening closing : List ℕ) (at further : Layout) (items : List Out) → further ≡ deeper at → (kind : ErrorKind) →
-    more_text further true items ≡ Err kind → bracketed opening closing at items ≡ Err kind
+    more_text further true items ≡ Err kind → bracketed_text opening closing at items ≡ Err kind
 brackets_stopped opening closing at further items e kind b =
-    ap (λ (o : Out). after (said opening) (after o (said (line at ++ closing)))) (subst (λ (z : Layout). more_text z true items ≡ Err kind) e b)
+    ap (λ (o : Out). after (said_text opening) (after o (said_text (line at ++ closing)))) (subst (λ (z : Layout). more_text z true items ≡ Err kind) e b)
 
 -- ---- elements ----
 
@@ -106,11 +106,11 @@ module _ (left : ℕ) (at : Layout) (l : ListHandle) where
   from i n = element_items left at l i n
 
   pub element_next : (n i : ℕ) → i < n → (p0 p1 p2 : Taken) →
-      IsPut p0 (said (separator at (i == 0))) p1 → IsPut p1 (element_shown left at l (element_seen l i)) p2 →
+      IsPut p0 (said_text (separator at (i == 0))) p1 → IsPut p1 (element_shown left at l (element_seen l i)) p2 →
       Leads p0 (more_text at (i == 0) (element_items left at l i (n - i))) p2 (more_text at (i + 1 == 0) (element_items left at l (i + 1) (n - (i + 1))))
   element_next n i h p0 p1 p2 a b = λ r k.
       same p0 (ap (λ m. more_text at (i == 0) (from i m)) (less-one n i h)) r
-      (then p0 p1 (said (separator at (i == 0))) (after (element_shown left at l (element_seen l i)) (more_text at false (from (suc i) (n - (i + 1))))) a r
+      (then p0 p1 (said_text (separator at (i == 0))) (after (element_shown left at l (element_seen l i)) (more_text at false (from (suc i) (n - (i + 1))))) a r
       (then p1 p2 (element_shown left at l (element_seen l i)) (more_text at false (from (suc i) (n - (i + 1)))) b r
       (same p2 (ap (λ q. more_text at q (from (suc i) (n - (i + 1)))) (not-zero i) ∙ ap (λ j. more_text at (j == 0) (from j (n - (i + 1)))) (next-is i)) r k)))
 
@@ -118,34 +118,34 @@ module _ (left : ℕ) (at : Layout) (l : ListHandle) where
       element_shown left at l (element_seen l i) ≡ Err kind → more_text at (i == 0) (element_items left at l i (n - i)) ≡ Err kind
   element_stopped n i h kind b =
       ap (λ m. more_text at (i == 0) (from i m)) (less-one n i h)
-      ∙ ap (λ (o : Out). after (said (separator at (i == 0))) (after o (more_text at false (from (suc i) (n - (i + 1)))))) b
+      ∙ ap (λ (o : Out). after (said_text (separator at (i == 0))) (after o (more_text at false (from (suc i) (n - (i + 1)))))) b
 
   pub elements_end : (n i : ℕ) (q : Bool) → n < i + 1 → (p : Taken) → IsPut p (more_text at q (element_items left at l i (n - i))) p
   elements_end n i q h p = same p (ap (λ m. more_text at q (from i m)) (none-left n i h)) (Ok p) (nothing_put p)
 
 -- ---- whole lists and structs ----
 
-pub list_some : (left : ℕ) (at : Layout) (l : ListHandle) → 0 < count_of l → list_shown left at l ≡ bracketed (codes "[") (codes "]") at (element_items left (deeper at) l 0 (count_of l))
+pub list_some : (left : ℕ) (at : Layout) (l : ListHandle) → 0 < count_of l → list_shown left at l ≡ bracketed_text (codes "[") (codes "]") at (element_items left (deeper at) l 0 (count_of l))
 list_some left at l h = go (count_of l) h
   where
-    go : (n : ℕ) → 0 < n → list_text at (element_items left (deeper at) l 0 n) ≡ bracketed (codes "[") (codes "]") at (element_items left (deeper at) l 0 n)
+    go : (n : ℕ) → 0 < n → list_text at (element_items left (deeper at) l 0 n) ≡ bracketed_text (codes "[") (codes "]") at (element_items left (deeper at) l 0 n)
     go zero h = absurd (omega (arith, h))
     go (suc n) h = refl
 
-pub list_none : (left : ℕ) (at : Layout) (l : ListHandle) → count_of l ≡ 0 → list_shown left at l ≡ said (codes "[]")
+pub list_none : (left : ℕ) (at : Layout) (l : ListHandle) → count_of l ≡ 0 → list_shown left at l ≡ said_text (codes "[]")
 list_none left at l h = ap (λ n. list_text at (element_items left (deeper at) l 0 n)) h
 
-pub struct_some : (left : ℕ) (at : Layout) (r : StructHandle) → 0 < length (struct_fields (schema_of r)) → record_shown left at r ≡ bracketed (codes "(") (codes ")") at (record_items left (deeper at) r)
+pub struct_some : (left : ℕ) (at : Layout) (r : StructHandle) → 0 < length (struct_fields (schema_of r)) → record_shown left at r ≡ bracketed_text (codes "(") (codes ")") at (record_items left (deeper at) r)
 struct_some left at r h = go (struct_fields (schema_of r)) h
   where
-    go : (fs : List TypedField) → 0 < length fs → struct_text at fs (record_items left (deeper at) r) ≡ bracketed (codes "(") (codes ")") at (record_items left (deeper at) r)
+    go : (fs : List TypedField) → 0 < length fs → struct_text at fs (record_items left (deeper at) r) ≡ bracketed_text (codes "(") (codes ")") at (record_items left (deeper at) r)
     go [] h = absurd (omega (arith, h))
     go (f ∷ fs) h = refl
 
-pub struct_none : (left : ℕ) (at : Layout) (r : StructHandle) → length (struct_fields (schema_of r)) ≡ 0 → record_shown left at r ≡ said (codes "()")
+pub struct_none : (left : ℕ) (at : Layout) (r : StructHandle) → length (struct_fields (schema_of r)) ≡ 0 → record_shown left at r ≡ said_text (codes "()")
 struct_none left at r h = go (struct_fields (schema_of r)) h
   where
-    go : (fs : List TypedField) → length fs ≡ 0 → struct_text at fs (record_items left (deeper at) r) ≡ said (codes "()")
+    go : (fs : List TypedField) → length fs ≡ 0 → struct_text at fs (record_items left (deeper at) r) ≡ said_text (codes "()")
     go [] h = refl
     go (f ∷ fs) h = absurd (omega (arith, h))
 
@@ -162,10 +162,10 @@ err_map (Err e) f h = f e h
 -- ---- lists ----
 
 pub list_put : (left : ℕ) (at further : Layout) (l : ListHandle) → further ≡ deeper at → 0 < count_of l → (p0 p1 p2 p3 p4 : Taken) →
-    IsPut p0 (said (codes "[")) p1 → IsPut p1 (more_text further true (element_items left further l 0 (count_of l))) p2 → IsPut p2 (said (line at)) p3 → IsPut p3 (said (codes "]")) p4 →
+    IsPut p0 (said_text (codes "[")) p1 → IsPut p1 (more_text further true (element_items left further l 0 (count_of l))) p2 → IsPut p2 (said_text (line at)) p3 → IsPut p3 (said_text (codes "]")) p4 →
     IsPut p0 (list_shown left at l) p4
 list_put left at further l e h p0 p1 p2 p3 p4 a b c d =
-    same_put p0 p4 (list_shown left at l) (bracketed (codes "[") (codes "]") at (element_items left (deeper at) l 0 (count_of l))) (list_some left at l h)
+    same_put p0 p4 (list_shown left at l) (bracketed_text (codes "[") (codes "]") at (element_items left (deeper at) l 0 (count_of l))) (list_some left at l h)
     (brackets_put (codes "[") (codes "]") at (deeper at) (element_items left (deeper at) l 0 (count_of l)) refl p0 p1 p2 p3 p4 a (subst (λ (z : Layout). IsPut p1 (more_text z true (element_items left z l 0 (count_of l))) p2) e b) c d)
 
 pub elements_stop_list : (left : ℕ) (at further : Layout) (l : ListHandle) → further ≡ deeper at → 0 < count_of l → (kind : ErrorKind) →

@@ -4,7 +4,7 @@ use Rattle.std.specs.Fmt.{◌++?◌}
 use Rattle.std.proofs.Common.{ap, sym, subst, ◌∙◌, append_assoc, append-nil, arith}
 use Rattle.std.proofs.lemmas.Bool.{true≢false}
 use Rattle.capnp_records.specs.Facts.Spelled.{both_text, known_spelled, said_both}
-use Rattle.capnp_records.specs.Text.{Layout, Out, after, deeper, line, said, separator}
+use Rattle.capnp_records.specs.Text.{Layout, Out, after, deeper, line, said_text, separator}
 use Rattle.capnp_dynamic_readers.specs.Pieces.{Gives, IsPut, Leads, Taken}
 
 pub deeper_is : (n : ℕ) → Some (n + 1) ≡ deeper (Some n)
@@ -19,20 +19,20 @@ more-nil None = refl
 more-nil (Some xs) = ap Some (append-nil xs)
 
 -- bytes that are known
-pub bytes_put : (a b : Taken) (bytes : List ℕ) → a ++? Some bytes ≡ b → IsPut a (said bytes) b
+pub bytes_put : (a b : Taken) (bytes : List ℕ) → a ++? Some bytes ≡ b → IsPut a (said_text bytes) b
 bytes_put a b bytes e = (bytes, known_spelled bytes, e)
 
 -- one text and then another
 pub then_put : (a b c : Taken) (x y : Out) → IsPut a x b → IsPut b y c → IsPut a (after x y) c
 then_put a b c x y (xs, h, e) (ys, i, f) = (xs ++ ys, both_text x y xs ys h i, further a xs ys ∙ (ap (λ (z : Taken). z ++? Some ys) e ∙ f))
 
-pub nothing_put : (a : Taken) → IsPut a (said []) a
+pub nothing_put : (a : Taken) → IsPut a (said_text []) a
 nothing_put a = bytes_put a a [] (more-nil a)
 
-pub two_put : (a b c : Taken) (x y : List ℕ) → IsPut a (said x) b → IsPut b (said y) c → IsPut a (said (x ++ y)) c
-two_put a b c x y h i = subst (λ (o : Out). IsPut a o c) (said_both x y) (then_put a b c (said x) (said y) h i)
+pub two_put : (a b c : Taken) (x y : List ℕ) → IsPut a (said_text x) b → IsPut b (said_text y) c → IsPut a (said_text (x ++ y)) c
+two_put a b c x y h i = subst (λ (o : Out). IsPut a o c) (said_both x y) (then_put a b c (said_text x) (said_text y) h i)
 
-pub three_put : (a b c d : Taken) (x y z : List ℕ) → IsPut a (said x) b → IsPut b (said y) c → IsPut c (said z) d → IsPut a (said (x ++ (y ++ z))) d
+pub three_put : (a b c d : Taken) (x y z : List ℕ) → IsPut a (said_text x) b → IsPut b (said_text y) c → IsPut c (said_text z) d → IsPut a (said_text (x ++ (y ++ z))) d
 three_put a b c d x y z e f g = two_put a b d x (y ++ z) e (two_put b c d y z f g)
 
 -- a text that is another
@@ -65,17 +65,17 @@ more-spaces n =
     let e : 2 * (n + 1) ≡ suc (suc (2 * n)) = omega arith in
     ap (λ (ys : List ℕ). 10 ∷ ys) (two-end (2 * n) ∙ sym (ap spaces e))
 
-pub two_more : (old mid new : Taken) (n : ℕ) → IsPut old (said (10 ∷ replicate (2 * n) 32)) mid → IsPut mid (said two) new → IsPut old (said (10 ∷ replicate (2 * (n + 1)) 32)) new
-two_more old mid new n a b = subst (λ (z : List ℕ). IsPut old (said z) new) (more-spaces n) (two_put old mid new (10 ∷ spaces (2 * n)) two a b)
+pub two_more : (old mid new : Taken) (n : ℕ) → IsPut old (said_text (10 ∷ replicate (2 * n) 32)) mid → IsPut mid (said_text two) new → IsPut old (said_text (10 ∷ replicate (2 * (n + 1)) 32)) new
+two_more old mid new n a b = subst (λ (z : List ℕ). IsPut old (said_text z) new) (more-spaces n) (two_put old mid new (10 ∷ spaces (2 * n)) two a b)
 
 -- on one line there are no breaks
-pub no_line : (at : Layout) (a : Taken) → ((n : ℕ) → at ≡ Some n → ⊥) → IsPut a (said (line at)) a
+pub no_line : (at : Layout) (a : Taken) → ((n : ℕ) → at ≡ Some n → ⊥) → IsPut a (said_text (line at)) a
 no_line None a h = nothing_put a
 no_line (Some n) a h = absurd (h n refl)
 
 -- what stands before an item that is not the first, on lines
-pub below_put : {T E : Type 0} (r : Result T E) (at : Layout) (n : ℕ) (first : Bool) (a b c : Taken) → first ≡ false → at ≡ Some n → IsPut a (said (codes ",")) b → OnOk r (IsPut b (said (line at)) c) →
-    OnOk r (IsPut a (said (separator at first)) c)
+pub below_put : {T E : Type 0} (r : Result T E) (at : Layout) (n : ℕ) (first : Bool) (a b c : Taken) → first ≡ false → at ≡ Some n → IsPut a (said_text (codes ",")) b → OnOk r (IsPut b (said_text (line at)) c) →
+    OnOk r (IsPut a (said_text (separator at first)) c)
 below_put (Ok x) (Some m) n false a b c e f h i = two_put a b c (codes ",") (line (Some m)) h i
 below_put (Err x) (Some m) n false a b c e f h i = tt {0}
 below_put r (Some m) n true a b c e f h i = absurd (true≢false e)

@@ -1,7 +1,7 @@
 -- The values of annotations, under their types.
 use Rattle.std.specs.Prelude.{ℕ, List, pos}
 use Rattle.capnp_device.specs.declared.error.ErrorKind.TheVariants.{TypeMismatch}
-use Rattle.capnp_schema.specs.Accepted.{root_of}
+use Rattle.capnp_schema.specs.Accepted.{words_root}
 use Rattle.capnp_schema.specs.AnnotationLists.{annotation_in, annotation_set}
 use Rattle.capnp_schema.specs.Schema.{Schemas, VoidValue, BoolValue, IntValue, UIntValue, EnumValue, TextValue, DataValue, StructValue, ListValue, AnyPointerValue}
 use Rattle.capnp_schema.specs.Schema.{Value as SchemaValue}
@@ -14,7 +14,7 @@ use Rattle.capnp_records.specs.Record.{Left, Value}
 
 -- what the words of a value read as, from their root on with 64 levels
 abbrev pub words_read : Schemas → List ℕ → SchemaType → Value
-words_read set words t = read_of set VoidValue t (value_of set (root_of words) (Left 64) t)
+words_read set words t = read_of set VoidValue t (value_of set (words_root words) (Left 64) t)
 
 -- what a stored value reads as: a void, a truth value, a number, a text and data whatever the type; an enum, a struct, a
 -- list and an untyped pointer under their type alone
@@ -31,7 +31,7 @@ stored_read set (StructValue words) (StructType b g) = words_read set words (Str
 stored_read set (StructValue words) t = value.Fault TypeMismatch
 stored_read set (ListValue words) (ListType element) = words_read set words (ListType element)
 stored_read set (ListValue words) t = value.Fault TypeMismatch
-stored_read set (AnyPointerValue words) AnyPointerType = value.Untyped (root_of words)
+stored_read set (AnyPointerValue words) AnyPointerType = value.Untyped (words_root words)
 stored_read set (AnyPointerValue words) t = value.Fault TypeMismatch
 
 -- the value of an annotation under its type

@@ -15,9 +15,9 @@ use Rattle.capnp_records.specs.Record.{Left, Value}
 
 -- ---- the bytes and words of a default, where it is of that kind ----
 
-abbrev pub text_of : SchemaValue → List ℕ
-text_of (TextValue bytes) = bytes
-text_of d = []
+abbrev pub default_text_bytes : SchemaValue → List ℕ
+default_text_bytes (TextValue bytes) = bytes
+default_text_bytes d = []
 
 abbrev pub data_of : SchemaValue → List ℕ
 data_of (DataValue bytes) = bytes
@@ -27,9 +27,9 @@ abbrev pub struct_words : SchemaValue → Option (List ℕ)
 struct_words (StructValue words) = Some words
 struct_words d = None
 
-abbrev pub list_words : SchemaValue → Option (List ℕ)
-list_words (ListValue words) = Some words
-list_words d = None
+abbrev pub default_list_words : SchemaValue → Option (List ℕ)
+default_list_words (ListValue words) = Some words
+default_list_words d = None
 
 -- ---- the values of answers ----
 

@@ -33,8 +33,8 @@ abbrev pub list_set : ListHandle → Schemas
 list_set l = lists_seen l.set.now
 
 -- the number of an enum's value, and its enum
-abbrev pub number_in : Enum → ℕ
-number_in e = e.value
+abbrev pub enum_value_number : Enum → ℕ
+enum_value_number e = e.value
 
 abbrev pub enum_of : Enum → EnumSchema
 enum_of e = e.schema

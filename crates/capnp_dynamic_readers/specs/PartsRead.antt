@@ -31,8 +31,8 @@ abbrev pub IsPartRefused : StructHandle → Field → ErrorKind → Type 0
 IsPartRefused r f kind = (left : ℕ) (at : Layout) → field_shown left at r (field_in r f) ≡ Err (fault_at left (field_in r f).type kind)
 
 -- an element of a list, and why there is none
-abbrev pub IsElement : ListHandle → ℕ → DynamicValue → Type 0
-IsElement l i v = (left : ℕ) (at : Layout) → element_shown left at l (element_seen l i) ≡ value_shown left at v
+abbrev pub IsElementRead : ListHandle → ℕ → DynamicValue → Type 0
+IsElementRead l i v = (left : ℕ) (at : Layout) → element_shown left at l (element_seen l i) ≡ value_shown left at v
 
 abbrev pub IsElementRefused : ListHandle → ℕ → ErrorKind → Type 0
 IsElementRefused l i kind = (left : ℕ) (at : Layout) → element_shown left at l (element_seen l i) ≡ Err (fault_at left (element_of l) kind)

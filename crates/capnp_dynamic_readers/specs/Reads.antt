@@ -9,7 +9,7 @@ use Rattle.capnp_wire.specs.declared.pointer_reader.PointerReader.{PointerReader
 use Rattle.capnp_schema.specs.Schema.{Schemas, VoidValue, FieldKind, Slot, Group, TypedField}
 use Rattle.capnp_schema.specs.Schema.{Value as SchemaValue}
 use Rattle.capnp_schema.specs.StructHandles.{number_of, set_of, struct_field}
-use Rattle.capnp_schema.specs.FieldLists.{schema_of as field_schema}
+use Rattle.capnp_schema.specs.FieldLists.{field_schema as field_schema}
 use Rattle.capnp_schema.specs.Types.{SchemaType}
 use Rattle.capnp_schema.specs.declared.schema.fields.Field.{Field}
 use Rattle.capnp_schema.specs.declared.schema.structs.StructSchema.{StructSchema}

@@ -8,7 +8,7 @@ use Rattle.capnp_records.specs.Facts.ListValues.{below_of}
 use Rattle.capnp_records.specs.Reading.{elements_value, struct_record}
 use Rattle.capnp_records.specs.Record as value
 use Rattle.capnp_records.specs.Record.{Left, Record, Value}
-use Rattle.capnp_dynamic_readers.specs.Handles.{element_of, list_reader_of, list_set, number_in, reader_of, schema_of}
+use Rattle.capnp_dynamic_readers.specs.Handles.{element_of, list_reader_of, list_set, enum_value_number, reader_of, schema_of}
 use Rattle.capnp_dynamic_readers.specs.declared.dynamic_list.Reader.{Reader as ListHandle}
 use Rattle.capnp_dynamic_readers.specs.declared.dynamic_struct.Reader.{Reader as StructHandle}
 use Rattle.capnp_dynamic_readers.specs.declared.dynamic_value.Reader.{Reader as DynamicValue}
@@ -34,7 +34,7 @@ value_seen (dynamic.UInt8 x) = value.Number (pos x)
 value_seen (dynamic.UInt16 x) = value.Number (pos x)
 value_seen (dynamic.UInt32 x) = value.Number (pos x)
 value_seen (dynamic.UInt64 x) = value.Number (pos x)
-value_seen (dynamic.Enum e) = value.Enum (number_in e)
+value_seen (dynamic.Enum e) = value.Enum (enum_value_number e)
 value_seen (dynamic.Text t) = value.Text t.0.now
 value_seen (dynamic.«Data» bytes) = value.Data bytes.now
 value_seen (dynamic.Struct s) = value.Struct (record_seen s)
@@ -42,6 +42,6 @@ value_seen (dynamic.List l) = list_seen l
 value_seen (dynamic.AnyPointer p) = value.Untyped (tree_of (pointer_of p))
 
 -- what a read answers; a refusal is the fault of its number
-abbrev pub answered : Result DynamicValue Error → Value
-answered (Ok v) = value_seen v
-answered (Err e) = value.Fault e.kind
+abbrev pub answered_value : Result DynamicValue Error → Value
+answered_value (Ok v) = value_seen v
+answered_value (Err e) = value.Fault e.kind

@@ -10,7 +10,7 @@ use Rattle.capnp_schema.specs.Types.{SchemaType, VoidType, BoolType, IntType, UI
 use Rattle.capnp_schema.specs.declared.schema.fields.Field.{Field}
 use Rattle.capnp_records.specs.Facts.ListValues.{below_of}
 use Rattle.capnp_records.specs.Part.{which_of}
-use Rattle.capnp_records.specs.Reading.{element_value, part_of, plain_parts, union_of, values_of}
+use Rattle.capnp_records.specs.Reading.{element_value, part_of, non_union_parts, union_of, values_of}
 use Rattle.capnp_records.specs.Record as value
 use Rattle.capnp_records.specs.Record.{Left, Union, Value, Values, is_there, values_from}
 use Rattle.capnp_records.specs.Text.{Inner, Layout, Member, Out, before, deeper, element_texts, item, item_if, later, list_text, member, part_text, record_text, shown, text_of, text_within}
@@ -129,7 +129,7 @@ member_items left at r f = item_if (is_member_shown r f) (field_item left at r f
 -- all items of a struct
 abbrev pub record_items : ℕ → Layout → StructHandle → List Out
 record_items left at r =
-    shown (set_of (schema_of r)) (within_struct left r) at (struct_fields (schema_of r)) 0 (plain_parts (part_seen r) (struct_fields (schema_of r)))
+    shown (set_of (schema_of r)) (within_struct left r) at (struct_fields (schema_of r)) 0 (non_union_parts (part_seen r) (struct_fields (schema_of r)))
     (member (set_of (schema_of r)) (within_struct left r) at (number_of (schema_of r)) (union_seen r))
 
 -- the active member of a struct, where its place is still to come

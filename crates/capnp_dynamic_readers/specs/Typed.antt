@@ -35,23 +35,23 @@ IsOf set t (dynamic.AnyPointer p) = AnyPointerType ≡ t
 
 -- The same of a type that need not name entries of the set: the variant is the type's, and its handles are of the set and of
 -- the type's number.
-abbrev pub IsUnder : Schemas → SchemaType → DynamicValue → Type 0
-IsUnder set t dynamic.Void = VoidType ≡ t
-IsUnder set t (dynamic.Bool b) = BoolType ≡ t
-IsUnder set t (dynamic.Int8 x) = IntType 1 ≡ t
-IsUnder set t (dynamic.Int16 x) = IntType 2 ≡ t
-IsUnder set t (dynamic.Int32 x) = IntType 4 ≡ t
-IsUnder set t (dynamic.Int64 x) = IntType 8 ≡ t
-IsUnder set t (dynamic.UInt8 x) = UIntType 1 ≡ t
-IsUnder set t (dynamic.UInt16 x) = UIntType 2 ≡ t
-IsUnder set t (dynamic.UInt32 x) = UIntType 4 ≡ t
-IsUnder set t (dynamic.UInt64 x) = UIntType 8 ≡ t
-IsUnder set t (dynamic.Enum e) = (enum_set (enum_of e) ≡ set) × (EnumType (enum_number (enum_of e)) ≡ t)
-IsUnder set t (dynamic.Text text) = TextType ≡ t
-IsUnder set t (dynamic.«Data» bytes) = DataType ≡ t
-IsUnder set t (dynamic.Struct s) = (set_of (schema_of s) ≡ set) × (struct_brand t ≡ Some (number_of (schema_of s)))
-IsUnder set t (dynamic.List l) = (list_set l ≡ set) × (ListType (element_of l) ≡ t)
-IsUnder set t (dynamic.AnyPointer p) = AnyPointerType ≡ t
+abbrev pub IsValueUnder : Schemas → SchemaType → DynamicValue → Type 0
+IsValueUnder set t dynamic.Void = VoidType ≡ t
+IsValueUnder set t (dynamic.Bool b) = BoolType ≡ t
+IsValueUnder set t (dynamic.Int8 x) = IntType 1 ≡ t
+IsValueUnder set t (dynamic.Int16 x) = IntType 2 ≡ t
+IsValueUnder set t (dynamic.Int32 x) = IntType 4 ≡ t
+IsValueUnder set t (dynamic.Int64 x) = IntType 8 ≡ t
+IsValueUnder set t (dynamic.UInt8 x) = UIntType 1 ≡ t
+IsValueUnder set t (dynamic.UInt16 x) = UIntType 2 ≡ t
+IsValueUnder set t (dynamic.UInt32 x) = UIntType 4 ≡ t
+IsValueUnder set t (dynamic.UInt64 x) = UIntType 8 ≡ t
+IsValueUnder set t (dynamic.Enum e) = (enum_set (enum_of e) ≡ set) × (EnumType (enum_number (enum_of e)) ≡ t)
+IsValueUnder set t (dynamic.Text text) = TextType ≡ t
+IsValueUnder set t (dynamic.«Data» bytes) = DataType ≡ t
+IsValueUnder set t (dynamic.Struct s) = (set_of (schema_of s) ≡ set) × (struct_brand t ≡ Some (number_of (schema_of s)))
+IsValueUnder set t (dynamic.List l) = (list_set l ≡ set) × (ListType (element_of l) ≡ t)
+IsValueUnder set t (dynamic.AnyPointer p) = AnyPointerType ≡ t
 
 -- a value is of the type of a struct's field that was looked up
 abbrev pub IsOfFound : StructHandle → Option ℕ → DynamicValue → Type 0

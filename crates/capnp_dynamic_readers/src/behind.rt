@@ -4,7 +4,7 @@ ghost use Rattle.std.specs.Option.{option_copied};
 ghost use Rattle.capnp_schema.specs.Schema.{Schemas, VoidValue, kind_default, seen_kind};
 ghost use Rattle.capnp_schema.specs.Types.{DataType, ListType, SchemaType, StructType, TextType, element_size};
 ghost use Rattle.capnp_dynamic_readers.specs.Reads.{pointer_read};
-ghost use Rattle.capnp_dynamic_readers.specs.Behind.{data_answered, data_of, list_answered, list_words, struct_answered, struct_words, text_answered, text_of};
+ghost use Rattle.capnp_dynamic_readers.specs.Behind.{data_answered, data_of, list_answered, default_list_words, struct_answered, struct_words, text_answered, default_text_bytes};
 
 use capnp_schema::record::{FieldKind, ValueRecord};
 use capnp_wire::error::Result;
@@ -13,7 +13,7 @@ use capnp_wire::{ListReader, PointerReader, StructReader};
 
 /// The bytes of a text's default.
 fn text_default(kind: &FieldKind) -> &[u8]
-    ensures { result.now ≡ text_of (kind_default (seen_kind kind.now)) }
+    ensures { result.now ≡ default_text_bytes (kind_default (seen_kind kind.now)) }
 {
     match kind {
         FieldKind::Slot { offset: _, default } => match default {
@@ -52,7 +52,7 @@ fn struct_default(kind: &FieldKind) -> Option<&[u8]>
 
 /// The words of a list's default, none where the default is of another kind.
 fn list_default(kind: &FieldKind) -> Option<&[u8]>
-    ensures { option_copied result ≡ list_words (kind_default (seen_kind kind.now)) }
+    ensures { option_copied result ≡ default_list_words (kind_default (seen_kind kind.now)) }
 {
     match kind {
         FieldKind::Slot { offset: _, default } => match default {

@@ -39,8 +39,8 @@ impl<'a> Reader<'a> {
     ghost use Rattle.capnp_schema.specs.Accepted.{NamesEntries};
     ghost use Rattle.capnp_dynamic_readers.specs.Handles.{element_of, list_reader_of, list_set, type_of};
     ghost use Rattle.capnp_dynamic_readers.specs.Reads.{element_seen};
-    ghost use Rattle.capnp_dynamic_readers.specs.Seen.{answered};
-    ghost use Rattle.capnp_dynamic_readers.specs.Typed.{IsOf, IsUnder};
+    ghost use Rattle.capnp_dynamic_readers.specs.Seen.{answered_value};
+    ghost use Rattle.capnp_dynamic_readers.specs.Typed.{IsOf, IsValueUnder};
 
     /// A reader of a list whose elements are of a type of the set.
     pub fn new(reader: ListReader<'a>, element_type: Type, set: &'a SchemaSet) -> Reader<'a>
@@ -91,8 +91,8 @@ impl<'a> Reader<'a> {
     /// the element's type: with the number of a pointer that can't be followed, `WrongPointerKind`, `WrongElementSize`
     /// or `TextNotTerminated`.
     pub fn get(self, index: u32) -> Result<dynamic_value::Reader<'a>>
-        ensures value { answered result ≡ element_seen self.entry index }
-        ensures under { IfOk result (IsUnder (list_set self.entry) (element_of self.entry)) }
+        ensures value { answered_value result ≡ element_seen self.entry index }
+        ensures under { IfOk result (IsValueUnder (list_set self.entry) (element_of self.entry)) }
         ensures typed { NamesEntries (list_set self.entry) (element_of self.entry)
             → IfOk result (IsOf (list_set self.entry) (element_of self.entry)) }
     {
@@ -115,12 +115,12 @@ impl<'a> IndexMove<u32, Result<dynamic_value::Reader<'a>>> for Reader<'a> {
     ghost use Rattle.capnp_schema.specs.Accepted.{NamesEntries};
     ghost use Rattle.capnp_dynamic_readers.specs.Handles.{element_of, list_reader_of, list_set};
     ghost use Rattle.capnp_dynamic_readers.specs.Reads.{element_seen};
-    ghost use Rattle.capnp_dynamic_readers.specs.Seen.{answered};
+    ghost use Rattle.capnp_dynamic_readers.specs.Seen.{answered_value};
     ghost use Rattle.capnp_dynamic_readers.specs.Typed.{IsOf};
 
     ghost count = { λ l. list_length (list_of (list_reader_of l)) };
 
-    ghost answers = { λ l i x. (answered x ≡ element_seen l i)
+    ghost answers = { λ l i x. (answered_value x ≡ element_seen l i)
         × (NamesEntries (list_set l) (element_of l) → IfOk x (IsOf (list_set l) (element_of l))) };
 
     fn index_move(&self, index: u32) -> Result<dynamic_value::Reader<'a>> {

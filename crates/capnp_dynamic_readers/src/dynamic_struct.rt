@@ -40,7 +40,7 @@ impl<'a> Reader<'a> {
     ghost use Rattle.capnp_records.specs.Part.{has_of, is_inactive, which_of};
     ghost use Rattle.capnp_dynamic_readers.specs.Handles.{reader_of, schema_of};
     ghost use Rattle.capnp_dynamic_readers.specs.Reads.{BelongsTo, field_seen, found_has, found_seen, kind_read};
-    ghost use Rattle.capnp_dynamic_readers.specs.Seen.{answered, record_seen};
+    ghost use Rattle.capnp_dynamic_readers.specs.Seen.{answered_value, record_seen};
     ghost use Rattle.capnp_dynamic_readers.specs.Typed.{IsOf, IsOfFound, struct_type};
 
     /// A reader of a struct under a schema.
@@ -91,7 +91,7 @@ impl<'a> Reader<'a> {
     #[inline(always)]
     pub fn get(self, field: Field<'a>) -> Result<dynamic_value::Reader<'a>>
         requires { BelongsTo field (schema_of self) }
-        ensures value { answered result ≡ field_seen self.entry (index_of field.entry) }
+        ensures value { answered_value result ≡ field_seen self.entry (index_of field.entry) }
         ensures typed { IfOk result (IsOf (set_of (schema_of self.entry))
             (struct_field (schema_of self.entry) (index_of field.entry)).type) }
     {
@@ -105,7 +105,7 @@ impl<'a> Reader<'a> {
 
     /// What the field of a name has, as `get`. Refused with `FieldNotFound` where there is none of that name.
     pub fn get_named(self, field_name: &str) -> Result<dynamic_value::Reader<'a>>
-        ensures value { answered result ≡ found_seen self.entry
+        ensures value { answered_value result ≡ found_seen self.entry
             (field_named (struct_records (schema_of self.entry)) field_name.now) }
         ensures typed { IfOk result (IsOfFound self.entry
             (field_named (struct_records (schema_of self.entry)) field_name.now)) }

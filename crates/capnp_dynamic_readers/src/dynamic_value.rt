@@ -5,7 +5,7 @@ ghost use Rattle.capnp_schema.specs.Entries.{lists_seen};
 ghost use Rattle.capnp_schema.specs.Types.{seen_type};
 ghost use Rattle.capnp_dynamic_readers.specs.Kinds.{IsStructAnd};
 ghost use Rattle.capnp_dynamic_readers.specs.Handles.{reader_of, schema_of};
-ghost use Rattle.capnp_dynamic_readers.specs.Seen.{answered};
+ghost use Rattle.capnp_dynamic_readers.specs.Seen.{answered_value};
 ghost use Rattle.capnp_dynamic_readers.specs.Typed.{IsOf, struct_type};
 ghost use Rattle.capnp_dynamic_readers.specs.Viewed.{view_read, view_type};
 ghost use Rattle.capnp_dynamic_readers.specs.declared.dynamic_value.Reader.{Reader};
@@ -38,11 +38,11 @@ impl<'a> Enum<'a> {
     ghost use Rattle.std.specs.Prelude.{IsOkAnd, MatchOption, length, ◌≡◌, ◌≤◌};
     ghost use Rattle.capnp_schema.specs.Enumerants.{IsEnumerantOf};
     ghost use Rattle.capnp_schema.specs.Enums.{enum_in};
-    ghost use Rattle.capnp_dynamic_readers.specs.Handles.{enum_of, number_in};
+    ghost use Rattle.capnp_dynamic_readers.specs.Handles.{enum_of, enum_value_number};
 
     /// A number under an enum.
     pub fn new(value: u16, schema: EnumSchema<'a>) -> Enum<'a>
-        ensures value { number_in result ≡ value }
+        ensures value { enum_value_number result ≡ value }
         ensures schema { enum_of result ≡ schema.entry }
     {
         Enum { value, schema }
@@ -50,7 +50,7 @@ impl<'a> Enum<'a> {
 
     /// The number, as it stands in a message.
     pub fn get_value(&self) -> u16
-        ensures { result ≡ number_in self.now }
+        ensures { result ≡ enum_value_number self.now }
     {
         self.value
     }
@@ -58,8 +58,8 @@ impl<'a> Enum<'a> {
     /// The enumerant of that number; none from the count of enumerants on. The answer is always Ok.
     pub fn get_enumerant(self) -> Result<Option<Enumerant<'a>>>
         ensures { IsOkAnd result (λ o. MatchOption o
-            (length (enum_in (enum_of self.entry)).enumerants ≤ number_in self.entry)
-            (IsEnumerantOf (enum_of self.entry) (number_in self.entry))) }
+            (length (enum_in (enum_of self.entry)).enumerants ≤ enum_value_number self.entry)
+            (IsEnumerantOf (enum_of self.entry) (enum_value_number self.entry))) }
     {
         let enumerants = self.schema.get_enumerants()?;
         if self.value < enumerants.len() {
@@ -131,7 +131,7 @@ impl<'a> Reader<'a> {
     /// A struct or list is entered as one behind a pointer is, and refused as that is. A type that names a struct or
     /// enum past the set's last is one without fields or enumerants.
     pub fn new(set: &'a SchemaSet, value: Value<'a>, value_type: Type) -> Result<Reader<'a>>
-        ensures value { answered result ≡ view_read (lists_seen set.now) value.entry (seen_type value_type) }
+        ensures value { answered_value result ≡ view_read (lists_seen set.now) value.entry (seen_type value_type) }
         ensures typed { NamesEntries (lists_seen set.now) (seen_type value_type)
             → IfOk result (IsOf (lists_seen set.now) (view_type value.entry (seen_type value_type))) }
     {

@@ -7,8 +7,8 @@ ghost use Rattle.capnp_schema.specs.Schema.{VoidValue};
 ghost use Rattle.capnp_schema.specs.Types.{seen_variant};
 ghost use Rattle.capnp_records.specs.Facts.Readers.{element_read};
 ghost use Rattle.capnp_records.specs.Default.{read_of};
-ghost use Rattle.capnp_dynamic_readers.specs.Seen.{answered};
-ghost use Rattle.capnp_dynamic_readers.specs.Typed.{IsOf, IsUnder};
+ghost use Rattle.capnp_dynamic_readers.specs.Seen.{answered_value};
+ghost use Rattle.capnp_dynamic_readers.specs.Typed.{IsOf, IsValueUnder};
 
 use crate::behind::{plain_data, plain_list, plain_text};
 use crate::dynamic_value::{Enum, Reader as Value};
@@ -29,9 +29,9 @@ pub fn read_element<'a>(
     variant: TypeVariant,
     index: u32,
 ) -> Result<Value<'a>>
-    ensures value { answered result ≡ read_of (lists_seen set.now) VoidValue (seen_variant variant)
+    ensures value { answered_value result ≡ read_of (lists_seen set.now) VoidValue (seen_variant variant)
         (element_read (lists_seen set.now) (list_of list.now) (list_levels list.now) (seen_variant variant) index) }
-    ensures under { IfOk result (IsUnder (lists_seen set.now) (seen_variant variant)) }
+    ensures under { IfOk result (IsValueUnder (lists_seen set.now) (seen_variant variant)) }
     ensures typed { NamesEntries (lists_seen set.now) (seen_variant variant)
         → IfOk result (IsOf (lists_seen set.now) (seen_variant variant)) }
 {

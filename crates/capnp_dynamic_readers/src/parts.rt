@@ -10,7 +10,7 @@ ghost use Rattle.capnp_dynamic_readers.specs.Handles.{element_of, list_set, sche
 ghost use Rattle.capnp_dynamic_readers.specs.Reads.{BelongsTo, element_seen, field_seen, found_seen};
 ghost use Rattle.capnp_dynamic_readers.specs.Seen.{list_seen, record_seen, value_seen};
 ghost use Rattle.capnp_dynamic_readers.specs.Taken.{only_list, only_struct};
-ghost use Rattle.capnp_dynamic_readers.specs.Typed.{IsOf, IsOfFound, IsUnder};
+ghost use Rattle.capnp_dynamic_readers.specs.Typed.{IsOf, IsOfFound, IsValueUnder};
 ghost use Rattle.capnp_dynamic_readers.specs.declared.dynamic_value.Reader.TheVariants as dynamic;
 
 use crate::dynamic_value::Reader as Value;
@@ -99,7 +99,7 @@ pub fn struct_at<'a>(
     index: u32,
 ) -> Result<dynamic_struct::Reader<'a>>
     ensures value { IfOk result (λ s. value.Struct (record_seen s) ≡ element_seen list.entry index) }
-    ensures under { IfOk result (λ s. IsUnder (list_set list.entry) (element_of list.entry) (dynamic.Struct s)) }
+    ensures under { IfOk result (λ s. IsValueUnder (list_set list.entry) (element_of list.entry) (dynamic.Struct s)) }
     ensures typed { NamesEntries (list_set list.entry) (element_of list.entry)
         → IfOk result (λ s. IsOf (list_set list.entry) (element_of list.entry) (dynamic.Struct s)) }
     ensures refused { IfErr result (λ e. value.Fault e.kind ≡ only_struct (element_seen list.entry index)) }

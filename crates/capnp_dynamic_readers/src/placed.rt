@@ -10,7 +10,7 @@ ghost use Rattle.capnp_records.specs.Reading.{number_value};
 ghost use Rattle.capnp_records.specs.Record.{Left};
 ghost use Rattle.capnp_dynamic_readers.specs.Planned.{IsSound, member_there, placed_read, planned_has};
 ghost use Rattle.capnp_dynamic_readers.specs.Reads.{pointer_read};
-ghost use Rattle.capnp_dynamic_readers.specs.Seen.{answered};
+ghost use Rattle.capnp_dynamic_readers.specs.Seen.{answered_value};
 ghost use Rattle.capnp_dynamic_readers.specs.Typed.{IsOf};
 
 use crate::behind::{read_data, read_list, read_struct, read_text};
@@ -39,7 +39,7 @@ fn read_bits<'a>(
     requires wide { 0 < width (seen_variant variant) }
     requires start { start % width (seen_variant variant) ≡ 0 }
     requires mask { mask < 2 ^ width (seen_variant variant) }
-    ensures value { answered result ≡ number_value (seen_variant variant)
+    ensures value { answered_value result ≡ number_value (seen_variant variant)
         (bit_xor (bits_at (struct_of reader.now).bytes start (width (seen_variant variant))) mask) }
     ensures typed { NamesEntries (lists_seen set.now) (seen_variant variant)
         → IfOk result (IsOf (lists_seen set.now) (seen_variant variant)) }
@@ -71,7 +71,7 @@ fn read_pointer<'a>(
     pointer: PointerReader<'a>,
 ) -> Result<Value<'a>>
     requires { is_pointer (seen_variant variant) ≡ true }
-    ensures value { answered result ≡ pointer_read (lists_seen set.now) (kind_default (seen_kind kind.now))
+    ensures value { answered_value result ≡ pointer_read (lists_seen set.now) (kind_default (seen_kind kind.now))
         (seen_variant variant) pointer.entry }
     ensures typed { NamesEntries (lists_seen set.now) (seen_variant variant)
         → IfOk result (IsOf (lists_seen set.now) (seen_variant variant)) }
@@ -104,7 +104,7 @@ pub(crate) fn read_placed<'a>(
     place: Place,
 ) -> Result<Value<'a>>
     requires { IsSound (lists_seen set.now) (seen_variant variant) place }
-    ensures value { answered result ≡ placed_read (lists_seen set.now) (Left (struct_levels reader.now))
+    ensures value { answered_value result ≡ placed_read (lists_seen set.now) (Left (struct_levels reader.now))
         (struct_of reader.now)
         (kind_default (seen_kind kind.now)) (seen_variant variant) place }
     ensures typed { NamesEntries (lists_seen set.now) (seen_variant variant)

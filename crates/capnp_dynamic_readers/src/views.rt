@@ -4,7 +4,7 @@ ghost use Rattle.capnp_schema.specs.Accepted.{NamesEntries};
 ghost use Rattle.capnp_schema.specs.Entries.{lists_seen};
 ghost use Rattle.capnp_schema.specs.Types.{seen_variant};
 ghost use Rattle.capnp_schema.specs.declared.value.Value.TheVariants as view;
-ghost use Rattle.capnp_dynamic_readers.specs.Seen.{answered};
+ghost use Rattle.capnp_dynamic_readers.specs.Seen.{answered_value};
 ghost use Rattle.capnp_dynamic_readers.specs.Typed.{IsOf};
 ghost use Rattle.capnp_dynamic_readers.specs.Viewed.{view_read, view_type};
 
@@ -24,7 +24,7 @@ pub(crate) fn read_view<'a>(
     value: Value<'a>,
     variant: TypeVariant,
 ) -> Result<Reader<'a>>
-    ensures value { answered result ≡ view_read (lists_seen set.now) value.entry (seen_variant variant) }
+    ensures value { answered_value result ≡ view_read (lists_seen set.now) value.entry (seen_variant variant) }
     ensures typed { NamesEntries (lists_seen set.now) (seen_variant variant)
         → IfOk result (IsOf (lists_seen set.now) (view_type value.entry (seen_variant variant))) }
 {
@@ -50,7 +50,7 @@ pub(crate) fn read_view<'a>(
 
 /// A number under an enum's type.
 fn view_enum<'a>(set: &'a SchemaSet, value: u16, variant: TypeVariant) -> Result<Reader<'a>>
-    ensures value { answered result ≡ view_read (lists_seen set.now) (view.Enum value) (seen_variant variant) }
+    ensures value { answered_value result ≡ view_read (lists_seen set.now) (view.Enum value) (seen_variant variant) }
     ensures typed { NamesEntries (lists_seen set.now) (seen_variant variant)
         → IfOk result (IsOf (lists_seen set.now) (seen_variant variant)) }
 {
@@ -66,7 +66,7 @@ fn view_struct<'a>(
     pointer: PointerReader<'a>,
     variant: TypeVariant,
 ) -> Result<Reader<'a>>
-    ensures value { answered result ≡ view_read (lists_seen set.now) (view.Struct pointer.entry)
+    ensures value { answered_value result ≡ view_read (lists_seen set.now) (view.Struct pointer.entry)
         (seen_variant variant) }
     ensures typed { NamesEntries (lists_seen set.now) (seen_variant variant)
         → IfOk result (IsOf (lists_seen set.now) (seen_variant variant)) }
@@ -85,7 +85,7 @@ fn view_list<'a>(
     pointer: PointerReader<'a>,
     variant: TypeVariant,
 ) -> Result<Reader<'a>>
-    ensures value { answered result ≡ view_read (lists_seen set.now) (view.List pointer.entry) (seen_variant variant) }
+    ensures value { answered_value result ≡ view_read (lists_seen set.now) (view.List pointer.entry) (seen_variant variant) }
     ensures typed { NamesEntries (lists_seen set.now) (seen_variant variant)
         → IfOk result (IsOf (lists_seen set.now) (seen_variant variant)) }
 {
@@ -103,7 +103,7 @@ fn view_untyped<'a>(
     pointer: PointerReader<'a>,
     variant: TypeVariant,
 ) -> Result<Reader<'a>>
-    ensures value { answered result ≡ view_read (lists_seen set.now) (view.AnyPointer pointer.entry)
+    ensures value { answered_value result ≡ view_read (lists_seen set.now) (view.AnyPointer pointer.entry)
         (seen_variant variant) }
     ensures typed { NamesEntries (lists_seen set.now) (seen_variant variant)
         → IfOk result (IsOf (lists_seen set.now) (seen_variant variant)) }

@@ -25,8 +25,8 @@ use Rattle.capnp_dynamic_readers.specs.declared.dynamic_struct.Reader.{Reader as
 use Rattle.capnp_dynamic_readers.specs.declared.dynamic_value.Reader.{Reader as DynamicValue}
 use Rattle.capnp_dynamic_readers.specs.declared.dynamic_value.Reader.TheVariants as dynamic
 use Rattle.capnp_dynamic_readers.specs.Pieces.{IsAppended}
-use Rattle.capnp_show_engine.specs.Show.{IsLineOf, root_value, struct_or_group}
-use Rattle.capnp_patch.specs.Gets.{Reached, got_text, part_seen, path_read, reached, reached_text, text_at}
+use Rattle.capnp_show_engine.specs.Show.{IsLineOf, message_root_value, struct_or_group}
+use Rattle.capnp_patch.specs.Gets.{Reached, got_text, value_part_seen, path_read, reached_value, reached_text, text_at}
 
 -- ---- the text of a part ----
 
@@ -35,7 +35,7 @@ printed-is true h = refl
 printed-is false h = refl
 
 -- the text of a value of a set is that of the part that it is seen as
-part_text : (set : Schemas) (indented : Bool) (v : DynamicValue) → IsOf set (type_seen v) v → printed_text indented v ≡ reached_text set indented (Ok (part_seen v))
+part_text : (set : Schemas) (indented : Bool) (v : DynamicValue) → IsOf set (type_seen v) v → printed_text indented v ≡ reached_text set indented (Ok (value_part_seen v))
 part_text set indented dynamic.Void is = refl
 part_text set indented (dynamic.Bool b) is = refl
 part_text set indented (dynamic.Int8 x) is = refl
@@ -80,7 +80,7 @@ module _ (set : Schemas) (b : ℕ) where
   root_part s = struct_part (root_type set b) (struct_record set (Left 63) s b)
 
   abbrev root_reached : Tree → Reached
-  root_reached root = reached (root_type set b) (root_value set b root)
+  root_reached root = reached_value (root_type set b) (message_root_value set b root)
 
   entered-root : (root : Tree) (s : StructTree) → Ok s ≡ as_struct root 64 → root_part s ≡ root_reached root
   entered-root tree.Null s e = ap root_part (same-struct s _ e)
@@ -114,7 +114,7 @@ module _ (set : Schemas) (b : ℕ) where
 module _ (schema : StructSchema) (path : List PathStep) (indented : Bool) (bytes : List ℕ) (root x : Tree) (n : ℕ) (h : StructHandle) (r : StructReader)
     (whole : Ok root ≡ message_tree_of bytes) (tree_is : x ≡ root) (levels_are : n ≡ 64) (read : Ok (struct_of r) ≡ as_struct x n) (levels : struct_levels r + 1 ≡ n)
     (same : schema_of h ≡ schema) (reader : reader_of h ≡ r) (stands : IsStruct schema) where
-  root-seen : Ok (part_seen (dynamic.Struct h)) ≡ root_reached (set_of schema) (number_of schema) root
+  root-seen : Ok (value_part_seen (dynamic.Struct h)) ≡ root_reached (set_of schema) (number_of schema) root
   root-seen =
       let left : struct_levels r ≡ 63 = omega (arith, levels, levels_are) in
       let typed : struct_type (schema_of h) ≡ root_type (set_of schema) (number_of schema) = ap struct_type same ∙ ap (λ (g : ℕ). StructType (number_of schema) g) stands.generic in
@@ -125,11 +125,11 @@ module _ (schema : StructSchema) (path : List PathStep) (indented : Bool) (bytes
       ap₂ struct_part typed known ∙ entered-root (set_of schema) (number_of schema) root (struct_of r) (read ∙ ap₂ as_struct tree_is levels_are)
 
   -- the text is that of what the path leads to from the root's struct
-  got-along : got_text (set_of schema) (number_of schema) path indented bytes ≡ along (set_of schema) (number_of schema) path indented (Ok (part_seen (dynamic.Struct h)))
+  got-along : got_text (set_of schema) (number_of schema) path indented bytes ≡ along (set_of schema) (number_of schema) path indented (Ok (value_part_seen (dynamic.Struct h)))
   got-along = ap (text_at (set_of schema) (number_of schema) path indented) (sym whole) ∙ ap (along (set_of schema) (number_of schema) path indented) (sym root-seen)
 
   abbrev IsReached : Reached → Type 0
-  IsReached y = y ≡ path_read (set_of schema) path (Ok (part_seen (dynamic.Struct h)))
+  IsReached y = y ≡ path_read (set_of schema) path (Ok (value_part_seen (dynamic.Struct h)))
 
   -- the root's struct is of the schema's set
   pub root_is : IsOf (set_of schema) (type_seen (dynamic.Struct h)) (dynamic.Struct h)
@@ -140,7 +140,7 @@ module _ (schema : StructSchema) (path : List PathStep) (indented : Bool) (bytes
   not_got kind is = got-along ∙ ap (reached_text (set_of schema) indented) (sym is)
 
   -- and else it is the value's, as it is printed
-  pub got_printed : (v : DynamicValue) → IsOf (set_of schema) (type_seen v) v → IsReached (Ok (part_seen v)) → printed_text indented v ≡ got_text (set_of schema) (number_of schema) path indented bytes
+  pub got_printed : (v : DynamicValue) → IsOf (set_of schema) (type_seen v) v → IsReached (Ok (value_part_seen v)) → printed_text indented v ≡ got_text (set_of schema) (number_of schema) path indented bytes
   got_printed v is_of is = part_text (set_of schema) indented v is_of ∙ ap (reached_text (set_of schema) indented) is ∙ sym got-along
 
 -- a text that was put into an empty string, and a line break

@@ -16,11 +16,11 @@ use Rattle.capnp_records.specs.Reading.{value_of}
 use Rattle.capnp_records.specs.Record as value
 use Rattle.capnp_records.specs.Record.{Left, NoValues, Record, Value, Values}
 use Rattle.capnp_records.specs.Run.{root_type}
-use Rattle.capnp_records.specs.Step.{Found, Target, element_target, field_found, field_target, in_list, in_record, target_at, walked_by_type}
+use Rattle.capnp_records.specs.Step.{Found, StepTarget, element_target, field_found, field_target, in_list, in_record, step_target, walked_by_type}
 use Rattle.capnp_records.specs.Text.{Out}
 use Rattle.capnp_show_engine.specs.Refusals.{IsOfRead}
 use Rattle.capnp_show_engine.specs.Show.{as_printed}
-use Rattle.capnp_patch.specs.Gets.{Reached, handed, got_text, is_empty, is_group_type, path_read, reached, reached_text, target_read, tested, tested_found, tested_type, text_at}
+use Rattle.capnp_patch.specs.Gets.{Reached, handed_value, got_text, is_empty, is_group_type, path_read, reached_value, reached_text, target_read, tested_step, tested_found, tested_type, text_at}
 use Rattle.capnp_show_engine.specs.Facts.TextSound.{OutSound, whole-sound}
 
 -- a number of reads is no device's
@@ -51,7 +51,7 @@ abbrev IsReachedSound : Reached → Type 0
 IsReachedSound (Ok p) = Sound p.value
 IsReachedSound (Err kind) = IsOfRead kind
 
-reached_sound : (t : SchemaType) (v : Value) → Sound v → IsReachedSound (reached t v)
+reached_sound : (t : SchemaType) (v : Value) → Sound v → IsReachedSound (reached_value t v)
 reached_sound t (value.Fault kind) h = of_read kind h
 reached_sound t value.Void h = h
 reached_sound t (value.Truth b) h = h
@@ -66,7 +66,7 @@ reached_sound t (value.Untyped x) h = h
 reached_sound t (value.Missing l) h = h
 reached_sound t value.Elsewhere h = h
 
-handed_sound : (q : Bool) (v : Value) → Sound v → Sound (handed q v)
+handed_sound : (q : Bool) (v : Value) → Sound v → Sound (handed_value q v)
 handed_sound false v h = h
 handed_sound true (value.Group r) h = h
 handed_sound true value.Void h = h
@@ -88,7 +88,7 @@ read_sound set (Ok x) h = reached_sound x.type _ (handed_sound x.is_group _ (rea
 
 -- ---- tests ----
 
-walked_sound : (x : Target) (t : SchemaType) → Sound x.part → IsFoundSound (walked_by_type x t)
+walked_sound : (x : StepTarget) (t : SchemaType) → Sound x.part → IsFoundSound (walked_by_type x t)
 walked_sound x AnyPointerType h = no_type
 walked_sound x (StructType b g) h = h
 walked_sound x (ListType e) h = h
@@ -100,11 +100,11 @@ walked_sound x (EnumType n) h = no_container
 walked_sound x TextType h = no_container
 walked_sound x DataType h = no_container
 
-type_sound : (is_last : Bool) (x : Target) (t : SchemaType) → Sound x.part → IsFoundSound (tested_type is_last x t)
+type_sound : (is_last : Bool) (x : StepTarget) (t : SchemaType) → Sound x.part → IsFoundSound (tested_type is_last x t)
 type_sound true x t h = h
 type_sound false x t h = walked_sound x t h
 
-target_sound : (is_last : Bool) (x : Target) → Sound x.part → IsFoundSound (tested is_last x)
+target_sound : (is_last : Bool) (x : StepTarget) → Sound x.part → IsFoundSound (tested_step is_last x)
 target_sound is_last x h = go x.inactive
   where
     go : (q : Bool) → IsFoundSound (elim q as (λ _. Found) [ true ↦ Err InactiveMember | false ↦ tested_type is_last x x.type ])
@@ -139,7 +139,7 @@ list_sound e vs (ElementAt i) h = go (nat_lt i (value_count vs))
     go true = nth-value-sound vs h i
     go false = no_element
 
-at_sound : (set : Schemas) (t : SchemaType) (v : Value) (s : PathStep) → Sound v → IsFoundSound (target_at set t v s)
+at_sound : (set : Schemas) (t : SchemaType) (v : Value) (s : PathStep) → Sound v → IsFoundSound (step_target set t v s)
 at_sound set (StructType b g) (value.Struct r) s h = record_sound set value.Struct r b s h
 at_sound set (StructType b g) (value.Group r) s h = record_sound set value.Group r b s h
 at_sound set (ListType e) (value.Elements vs) s h = list_sound e vs s h

@@ -3,12 +3,12 @@ use Rattle.std.proofs.Common.{◌≡◌, refl, ap, sym, subst, ◌∙◌, Result
 use Rattle.capnp_device.specs.declared.error.Error.{Error}
 use Rattle.capnp_schema.specs.Schema.{Schemas}
 use Rattle.capnp_schema.specs.Types.{SchemaType}
-use Rattle.capnp_dynamic_readers.specs.Seen.{answered, value_seen}
+use Rattle.capnp_dynamic_readers.specs.Seen.{answered_value, value_seen}
 use Rattle.capnp_dynamic_readers.specs.Shown.{type_seen}
 use Rattle.capnp_dynamic_readers.specs.Typed.{IsOf}
 use Rattle.capnp_dynamic_readers.specs.declared.dynamic_value.Reader.{Reader as DynamicValue}
 use Rattle.capnp_dynamic_readers.specs.declared.dynamic_value.Reader.TheVariants as dynamic
-use Rattle.capnp_patch.specs.Gets.{Reached, reached, seen_read}
+use Rattle.capnp_patch.specs.Gets.{Reached, reached_value, seen_read}
 
 -- a value of a type has it
 pub type_is : (set : Schemas) (t : SchemaType) (v : DynamicValue) → IsOf set t v → type_seen v ≡ t
@@ -30,7 +30,7 @@ type_is set t (dynamic.List l) h = h.1
 type_is set t (dynamic.AnyPointer p) h = h
 
 -- what a value stands for is no refusal
-value_reached : (t : SchemaType) (v : DynamicValue) → reached t (value_seen v) ≡ Ok (record { type = t; value = value_seen v })
+value_reached : (t : SchemaType) (v : DynamicValue) → reached_value t (value_seen v) ≡ Ok (record { type = t; value = value_seen v })
 value_reached t dynamic.Void = refl
 value_reached t (dynamic.Bool b) = refl
 value_reached t (dynamic.Int8 x) = refl
@@ -51,7 +51,7 @@ value_reached t (dynamic.AnyPointer p) = refl
 abbrev of_type : DynamicValue → SchemaType → Reached
 of_type v t = Ok (record { type = t; value = value_seen v })
 
-pub read_reached : (set : Schemas) (t : SchemaType) (r : Result DynamicValue Error) → IfOk r (IsOf set t) → seen_read r ≡ reached t (answered r)
+pub read_reached : (set : Schemas) (t : SchemaType) (r : Result DynamicValue Error) → IfOk r (IsOf set t) → seen_read r ≡ reached_value t (answered_value r)
 read_reached set t (Ok v) h = ap (of_type v) (type_is set t v h) ∙ sym (value_reached t v)
 read_reached set t (Err e) h = refl
 

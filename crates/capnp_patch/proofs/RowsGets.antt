@@ -6,15 +6,15 @@ use Prim.Native.String.{String}
 use lib.Utf8.{encode}
 use Rattle.capnp_device.specs.declared.error.ErrorKind.TheVariants.{FieldNotFound, InactiveMember, NoSuchElement, NotAContainer, Truncated, UntypedStep, WrongPointerKind}
 use Rattle.capnp_wire.specs.Place.{tree_at}
-use Rattle.capnp_schema.specs.Accepted.{root_of}
+use Rattle.capnp_schema.specs.Accepted.{words_root}
 use Rattle.capnp_schema.specs.Builtin.{builtin}
 use Rattle.capnp_records.specs.Call.{ElementAt, FieldNamed, FieldNumber, PathStep}
-use Rattle.capnp_records.specs.Text.{Out, said}
+use Rattle.capnp_records.specs.Text.{Out, said_text}
 use Rattle.capnp_patch.specs.Gets.{got_text, text_at}
 
 -- what stands at a path of the root of one segment under a brand of the built-in set
 abbrev got : List ℕ → ℕ → List PathStep → Out
-got words b path = text_at builtin b path false (Ok (root_of words))
+got words b path = text_at builtin b path false (Ok (words_root words))
 
 abbrev named : String → PathStep
 named s = FieldNamed (codes s)
@@ -25,19 +25,19 @@ z8 = replicate 8 0
 abbrev mixed : List ℕ
 mixed = 0 ∷ 0 ∷ 0 ∷ 0 ∷ 1 ∷ 0 ∷ 1 ∷ 0 ∷ 5 ∷ 0 ∷ 1 ∷ 0 ∷ 9 ∷ 0 ∷ 0 ∷ 0 ∷ 1 ∷ 0 ∷ 0 ∷ 0 ∷ 26 ∷ 0 ∷ 0 ∷ 0 ∷ 104 ∷ 105 ∷ replicate 6 0
 
-whole : got mixed 1 [] ≡ said (codes "(a = 5, y = 9, b = \"hi\")")
+whole : got mixed 1 [] ≡ said_text (codes "(a = 5, y = 9, b = \"hi\")")
 unfolding tree_at digits debug_escape is_utf8 chars encode
 whole = refl
 
-by_name : got mixed 1 (named "a" ∷ []) ≡ said (codes "5")
+by_name : got mixed 1 (named "a" ∷ []) ≡ said_text (codes "5")
 unfolding tree_at digits
 by_name = refl
 
-by_number : got mixed 1 (FieldNumber 2 ∷ []) ≡ said (codes "9")
+by_number : got mixed 1 (FieldNumber 2 ∷ []) ≡ said_text (codes "9")
 unfolding tree_at digits
 by_number = refl
 
-text : got mixed 1 (named "b" ∷ []) ≡ said (codes "\"hi\"")
+text : got mixed 1 (named "b" ∷ []) ≡ said_text (codes "\"hi\"")
 unfolding tree_at debug_escape is_utf8 chars encode
 text = refl
 
@@ -67,11 +67,11 @@ lists =
     0 ∷ 0 ∷ 0 ∷ 0 ∷ 0 ∷ 0 ∷ 4 ∷ 0 ∷ replicate 24 0
     ++ 1 ∷ 0 ∷ 0 ∷ 0 ∷ 23 ∷ 0 ∷ 0 ∷ 0 ∷ 8 ∷ 0 ∷ 0 ∷ 0 ∷ 1 ∷ 0 ∷ 0 ∷ 0 ∷ 1 ∷ replicate 7 0 ++ 2 ∷ replicate 7 0
 
-in_element : got lists 7 (named "items" ∷ ElementAt 1 ∷ named "a" ∷ []) ≡ said (codes "2")
+in_element : got lists 7 (named "items" ∷ ElementAt 1 ∷ named "a" ∷ []) ≡ said_text (codes "2")
 unfolding tree_at digits
 in_element = refl
 
-an_element : got lists 7 (named "items" ∷ ElementAt 0 ∷ []) ≡ said (codes "(a = 1)")
+an_element : got lists 7 (named "items" ∷ ElementAt 0 ∷ []) ≡ said_text (codes "(a = 1)")
 unfolding tree_at digits
 an_element = refl
 
@@ -88,7 +88,7 @@ null_list : got lists 7 (named "bytes" ∷ ElementAt 0 ∷ []) ≡ Err NoSuchEle
 unfolding tree_at
 null_list = refl
 
-empty_list : got lists 7 (named "bytes" ∷ []) ≡ said (codes "[]")
+empty_list : got lists 7 (named "bytes" ∷ []) ≡ said_text (codes "[]")
 unfolding tree_at
 empty_list = refl
 
@@ -96,11 +96,11 @@ empty_list = refl
 abbrev shapes : List ℕ
 shapes = 252 ∷ 255 ∷ 255 ∷ 255 ∷ 0 ∷ 0 ∷ 0 ∷ 0 ∷ []
 
-group : got shapes 3 (named "circle" ∷ []) ≡ said (codes "(r = 0)")
+group : got shapes 3 (named "circle" ∷ []) ≡ said_text (codes "(r = 0)")
 unfolding tree_at digits
 group = refl
 
-in_group : got shapes 3 (named "circle" ∷ named "r" ∷ []) ≡ said (codes "0")
+in_group : got shapes 3 (named "circle" ∷ named "r" ∷ []) ≡ said_text (codes "0")
 unfolding tree_at digits
 in_group = refl
 

@@ -22,25 +22,25 @@ use Rattle.capnp_records.specs.Part.{is_inactive, part_at, value_count}
 use Rattle.capnp_records.specs.Reading.{element_value, struct_record}
 use Rattle.capnp_records.specs.Record as value
 use Rattle.capnp_records.specs.Record.{Left, Levels, Record, Value, values_from}
-use Rattle.capnp_records.specs.Step.{Found, Target, element_target, field_target, in_list, in_record, is_group_field}
+use Rattle.capnp_records.specs.Step.{Found, StepTarget, element_target, field_target, in_list, in_record, is_group_field}
 use Rattle.capnp_dynamic_readers.specs.Handles.{element_of, list_reader_of, list_set, reader_of, schema_of}
 use Rattle.capnp_dynamic_readers.specs.Reads.{element_seen, field_read, field_seen, handed_out}
-use Rattle.capnp_dynamic_readers.specs.Seen.{answered, record_seen}
+use Rattle.capnp_dynamic_readers.specs.Seen.{answered_value, record_seen}
 use Rattle.capnp_dynamic_readers.specs.Typed.{IsOf}
 use Rattle.capnp_dynamic_readers.specs.declared.dynamic_list.Reader.{Reader as ListHandle}
 use Rattle.capnp_dynamic_readers.specs.declared.dynamic_struct.Reader.{Reader as StructHandle}
 use Rattle.capnp_dynamic_readers.specs.declared.dynamic_value.Reader.{Reader as DynamicValue}
 use Rattle.capnp_dynamic_readers.specs.declared.dynamic_value.Reader.TheVariants.{List as ListOf, Struct as StructOf}
-use Rattle.capnp_patch.specs.Gets.{handed, part_seen, reached, seen_read, step_read, target_read, tested, tested_found, tested_type}
+use Rattle.capnp_patch.specs.Gets.{handed_value, value_part_seen, reached_value, seen_read, step_read, target_read, tested_step, tested_found, tested_type}
 use Rattle.capnp_patch.proofs.Parts.{part_is}
 use Rattle.capnp_patch.proofs.Reached.{read_reached}
 
 -- one that isn't an inactive member, by the test of its type
-is_tested : (set : Schemas) (is_last : Bool) (x : Target) → x.inactive ≡ false → target_read set (tested is_last x) ≡ target_read set (tested_type is_last x x.type)
+is_tested : (set : Schemas) (is_last : Bool) (x : StepTarget) → x.inactive ≡ false → target_read set (tested_step is_last x) ≡ target_read set (tested_type is_last x x.type)
 is_tested set is_last x e = ap (target_read set) (second-of x.inactive _ _ e)
 
 -- a group is handed out as a struct
-handed_is : (k : FieldKind) (v : Value) → handed (is_group_field k) v ≡ handed_out k v
+handed_is : (k : FieldKind) (v : Value) → handed_value (is_group_field k) v ≡ handed_out k v
 handed_is (Slot offset d) v = refl
 handed_is (Group node) v = refl
 
@@ -57,17 +57,17 @@ module _ (set : Schemas) (l : Levels) (s : StructTree) (b i : ℕ) (is_last : Bo
   abbrev f : TypedField
   f = field_at set b i
 
-  abbrev x : Target
+  abbrev x : StepTarget
   x = field_target value.Struct r f i
 
   -- what is read of it, where it isn't an inactive member
-  pub field_reached : i < length (fields_of set b) → is_inactive r f.field i ≡ false → (res : Result DynamicValue Error) → IfOk res (IsOf set f.type) → answered res ≡ field_read set l s f →
+  pub field_reached : i < length (fields_of set b) → is_inactive r f.field i ≡ false → (res : Result DynamicValue Error) → IfOk res (IsOf set f.type) → answered_value res ≡ field_read set l s f →
       seen_read res ≡ target_read set (Ok x)
   field_reached inside active res typed is =
       read_reached set f.type res typed
-      ∙ (ap (reached f.type) is
-      ∙ (ap (λ (v : Value). reached f.type (handed_out f.field.kind (read_field set f v))) (sym (part_is set l s b i inside active))
-      ∙ ap (reached f.type) (sym (handed_is f.field.kind (read_field set f (part_at r f.field i))))))
+      ∙ (ap (reached_value f.type) is
+      ∙ (ap (λ (v : Value). reached_value f.type (handed_out f.field.kind (read_field set f v))) (sym (part_is set l s b i inside active))
+      ∙ ap (reached_value f.type) (sym (handed_is f.field.kind (read_field set f (part_at r f.field i))))))
 
 -- ---- an element ----
 
@@ -86,12 +86,12 @@ module _ (set : Schemas) (e : SchemaType) (g : ℕ → Value) (n i : ℕ) where
       below : (n i : ℕ) → i < n → nat_lt i n ≡ true
       below n i inside = grind (arith, inside)
 
-  pub element_reached : i < n → (res : Result DynamicValue Error) → IfOk res (IsOf set e) → answered res ≡ read_of set VoidValue e (g i) →
+  pub element_reached : i < n → (res : Result DynamicValue Error) → IfOk res (IsOf set e) → answered_value res ≡ read_of set VoidValue e (g i) →
       seen_read res ≡ target_read set (Ok (element_target e (values_from g 0 n) i))
   element_reached inside res typed is =
       read_reached set e res typed
-      ∙ (ap (reached e) is
-      ∙ ap (λ (v : Value). reached e (read_of set VoidValue e v)) (sym (nth-values_from g 0 n i inside ∙ ap g (omega arith))))
+      ∙ (ap (reached_value e) is
+      ∙ ap (λ (v : Value). reached_value e (read_of set VoidValue e v)) (sym (nth-values_from g 0 n i inside ∙ ap g (omega arith))))
 
 -- ---- steps of handles ----
 
@@ -99,7 +99,7 @@ module _ (reader : StructHandle) (step : PathStep) (is_last : Bool) (schema : St
   abbrev seen : Record
   seen = record_seen reader
 
-  abbrev named : Target
+  abbrev named : StepTarget
   named = field_target value.Struct seen (typed_of h) (index_of h)
 
   abbrev IsNamed : Type 0
@@ -108,7 +108,7 @@ module _ (reader : StructHandle) (step : PathStep) (is_last : Bool) (schema : St
   -- what a step that names an active field leads to, by the test of its type
   field_found : schema ≡ schema_of reader → IsNamed → IsFieldOf schema (index_of h) h →
       (q : Bool) → q ≡ not (is_inactive seen (struct_field (schema_of reader) (index_of h)).field (index_of h)) → q ≡ true →
-      step_read (set_of (schema_of reader)) is_last (part_seen (StructOf reader)) step ≡ target_read (set_of (schema_of reader)) (tested_type is_last named (typed_of h).type)
+      step_read (set_of (schema_of reader)) is_last (value_part_seen (StructOf reader)) step ≡ target_read (set_of (schema_of reader)) (tested_type is_last named (typed_of h).type)
   field_found same names is q e active =
       ap (λ (y : Found). target_read (set_of (schema_of reader)) (tested_found is_last y)) (ap (λ (s : StructSchema). in_record (set_of s) value.Struct seen (number_of s) step) (sym same) ∙ sym names)
       ∙ is_tested (set_of (schema_of reader)) is_last named
@@ -117,15 +117,15 @@ module _ (reader : StructHandle) (step : PathStep) (is_last : Bool) (schema : St
   pub field_refused : schema ≡ schema_of reader → IsNamed → IsFieldOf schema (index_of h) h →
       (q : Bool) → q ≡ not (is_inactive seen (struct_field (schema_of reader) (index_of h)).field (index_of h)) → q ≡ true →
       (t : SchemaType) → t ≡ (typed_of h).type → (kind : ErrorKind) → Err kind ≡ tested_type is_last named t →
-      Err kind ≡ step_read (set_of (schema_of reader)) is_last (part_seen (StructOf reader)) step
+      Err kind ≡ step_read (set_of (schema_of reader)) is_last (value_part_seen (StructOf reader)) step
   field_refused same names is q e active t type kind test =
       sym (field_found same names is q e active ∙ ap (target_read (set_of (schema_of reader))) (ap (tested_type is_last named) (sym type) ∙ sym test))
 
   pub field_read_there : schema ≡ schema_of reader → IsNamed → IsFieldOf schema (index_of h) h →
       (q : Bool) → q ≡ not (is_inactive seen (struct_field (schema_of reader) (index_of h)).field (index_of h)) → q ≡ true →
       (t : SchemaType) → t ≡ (typed_of h).type → Ok named ≡ tested_type is_last named t →
-      (res : Result DynamicValue Error) → IfOk res (IsOf (set_of (schema_of reader)) (struct_field (schema_of reader) (index_of h)).type) → answered res ≡ field_seen reader (index_of h) →
-      seen_read res ≡ step_read (set_of (schema_of reader)) is_last (part_seen (StructOf reader)) step
+      (res : Result DynamicValue Error) → IfOk res (IsOf (set_of (schema_of reader)) (struct_field (schema_of reader) (index_of h)).type) → answered_value res ≡ field_seen reader (index_of h) →
+      seen_read res ≡ step_read (set_of (schema_of reader)) is_last (value_part_seen (StructOf reader)) step
   field_read_there same names is q e active t type test res typed found =
       field_reached (set_of (schema_of reader)) (Left (struct_levels (reader_of reader))) (struct_of (reader_of reader)) (number_of (schema_of reader)) (index_of h) is_last
       (subst (λ (s : StructSchema). index_of h < length (struct_fields s)) same is.inside) (false-not _ (sym active ∙ e)) res typed found
@@ -136,23 +136,23 @@ module _ (l : ListHandle) (i : ℕ) (is_last : Bool) where
   abbrev element_at : ℕ → Value
   element_at = element_value (list_set l) (list_of (list_reader_of l)) (below_of (list_set l) (list_of (list_reader_of l))) (Left (list_levels (list_reader_of l))) (element_of l)
 
-  abbrev element_named : Target
+  abbrev element_named : StepTarget
   element_named = element_target (element_of l) (values_from element_at 0 (list_length (list_of (list_reader_of l)))) i
 
-  pub element_past : list_length (list_of (list_reader_of l)) ≤ i → Err NoSuchElement ≡ step_read (list_set l) is_last (part_seen (ListOf l)) (ElementAt i)
+  pub element_past : list_length (list_of (list_reader_of l)) ≤ i → Err NoSuchElement ≡ step_read (list_set l) is_last (value_part_seen (ListOf l)) (ElementAt i)
   element_past past = sym (ap (λ (y : Found). target_read (list_set l) (tested_found is_last y)) (no_element (list_set l) (element_of l) element_at (list_length (list_of (list_reader_of l))) i past))
 
   element_found : i < list_length (list_of (list_reader_of l)) →
-      step_read (list_set l) is_last (part_seen (ListOf l)) (ElementAt i) ≡ target_read (list_set l) (tested_type is_last element_named (element_of l))
+      step_read (list_set l) is_last (value_part_seen (ListOf l)) (ElementAt i) ≡ target_read (list_set l) (tested_type is_last element_named (element_of l))
   element_found inside = ap (λ (y : Found). target_read (list_set l) (tested_found is_last y)) (an_element (list_set l) (element_of l) element_at (list_length (list_of (list_reader_of l))) i inside)
 
   pub element_refused : i < list_length (list_of (list_reader_of l)) → (t : SchemaType) → t ≡ element_of l → (kind : ErrorKind) → Err kind ≡ tested_type is_last element_named t →
-      Err kind ≡ step_read (list_set l) is_last (part_seen (ListOf l)) (ElementAt i)
+      Err kind ≡ step_read (list_set l) is_last (value_part_seen (ListOf l)) (ElementAt i)
   element_refused inside t type kind test = sym (element_found inside ∙ ap (target_read (list_set l)) (ap (tested_type is_last element_named) (sym type) ∙ sym test))
 
   pub element_read_there : i < list_length (list_of (list_reader_of l)) → (t : SchemaType) → t ≡ element_of l → Ok element_named ≡ tested_type is_last element_named t →
-      (res : Result DynamicValue Error) → IfOk res (IsOf (list_set l) (element_of l)) → answered res ≡ element_seen l i →
-      seen_read res ≡ step_read (list_set l) is_last (part_seen (ListOf l)) (ElementAt i)
+      (res : Result DynamicValue Error) → IfOk res (IsOf (list_set l) (element_of l)) → answered_value res ≡ element_seen l i →
+      seen_read res ≡ step_read (list_set l) is_last (value_part_seen (ListOf l)) (ElementAt i)
   element_read_there inside t type test res typed found =
       element_reached (list_set l) (element_of l) element_at (list_length (list_of (list_reader_of l))) i inside res typed found
       ∙ sym (element_found inside ∙ ap (target_read (list_set l)) (ap (tested_type is_last element_named) (sym type) ∙ sym test))

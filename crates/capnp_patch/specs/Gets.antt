@@ -13,13 +13,13 @@ use Rattle.capnp_records.specs.Default.{read_of}
 use Rattle.capnp_records.specs.Record as value
 use Rattle.capnp_records.specs.Record.{Value}
 use Rattle.capnp_records.specs.Run.{root_type}
-use Rattle.capnp_records.specs.Step.{Found, Target, target_at, walked_by_type}
+use Rattle.capnp_records.specs.Step.{Found, StepTarget, step_target, walked_by_type}
 use Rattle.capnp_records.specs.Text.{Out, text_of}
 use Rattle.capnp_dynamic_readers.specs.Reads.{as_struct_value}
 use Rattle.capnp_dynamic_readers.specs.Seen.{value_seen}
 use Rattle.capnp_dynamic_readers.specs.Shown.{type_seen}
 use Rattle.capnp_dynamic_readers.specs.declared.dynamic_value.Reader.{Reader as DynamicValue}
-use Rattle.capnp_show_engine.specs.Show.{IsLineOf, IsRead, as_printed, root_value}
+use Rattle.capnp_show_engine.specs.Show.{IsLineOf, IsRead, as_printed, message_root_value}
 
 -- ---- where a path leads ----
 
@@ -32,34 +32,34 @@ abbrev pub Reached : Type 0
 Reached = Result Part ErrorKind
 
 -- what is read is a value or a refusal
-abbrev pub reached : SchemaType → Value → Reached
-reached t (value.Fault kind) = Err kind
-reached t v = Ok (record { type = t; value = v })
+abbrev pub reached_value : SchemaType → Value → Reached
+reached_value t (value.Fault kind) = Err kind
+reached_value t v = Ok (record { type = t; value = v })
 
 -- what is read of a target: its value or default, and of a group the struct
-abbrev pub handed : (is_group : Bool) → Value → Value
-handed true v = as_struct_value v
-handed false v = v
+abbrev pub handed_value : (is_group : Bool) → Value → Value
+handed_value true v = as_struct_value v
+handed_value false v = v
 
 abbrev pub target_read : Schemas → Found → Reached
 target_read set (Err kind) = Err kind
-target_read set (Ok x) = reached x.type (handed x.is_group (read_of set x.default x.type x.part))
+target_read set (Ok x) = reached_value x.type (handed_value x.is_group (read_of set x.default x.type x.part))
 
 -- the tests of a step: whether a member is active, and, where other steps follow, whether it leads to a struct, group or list
-abbrev pub tested_type : (is_last : Bool) → Target → SchemaType → Found
+abbrev pub tested_type : (is_last : Bool) → StepTarget → SchemaType → Found
 tested_type true x t = Ok x
 tested_type false x t = walked_by_type x t
 
-abbrev pub tested : (is_last : Bool) → Target → Found
-tested is_last x = elim x.inactive [ true ↦ Err InactiveMember | false ↦ tested_type is_last x x.type ]
+abbrev pub tested_step : (is_last : Bool) → StepTarget → Found
+tested_step is_last x = elim x.inactive [ true ↦ Err InactiveMember | false ↦ tested_type is_last x x.type ]
 
 abbrev pub tested_found : (is_last : Bool) → Found → Found
 tested_found is_last (Err kind) = Err kind
-tested_found is_last (Ok x) = tested is_last x
+tested_found is_last (Ok x) = tested_step is_last x
 
 -- where a step leads from a value, or its refusal, or that of what is read there
 abbrev pub step_read : Schemas → (is_last : Bool) → Part → PathStep → Reached
-step_read set is_last p s = target_read set (tested_found is_last (target_at set p.type p.value s))
+step_read set is_last p s = target_read set (tested_found is_last (step_target set p.type p.value s))
 
 abbrev pub is_empty : {A : Type 0} → List A → Bool
 is_empty [] = true
@@ -84,7 +84,7 @@ reached_text set indented (Ok p) = text_of set indented p.type (as_printed (is_g
 
 -- the value at a path of a root, read as a struct of a brand
 abbrev pub value_at : Schemas → ℕ → List PathStep → Tree → Reached
-value_at set b path root = path_read set path (reached (root_type set b) (root_value set b root))
+value_at set b path root = path_read set path (reached_value (root_type set b) (message_root_value set b root))
 
 abbrev pub text_at : Schemas → ℕ → List PathStep → (indented : Bool) → Result Tree ErrorKind → Out
 text_at set b path indented (Ok root) = reached_text set indented (value_at set b path root)
@@ -113,9 +113,9 @@ IsGetCutShort set b path indented left left' written written' =
 
 -- ---- values as the code has them ----
 
-abbrev pub part_seen : DynamicValue → Part
-part_seen v = record { type = type_seen v; value = value_seen v }
+abbrev pub value_part_seen : DynamicValue → Part
+value_part_seen v = record { type = type_seen v; value = value_seen v }
 
 abbrev pub seen_read : Result DynamicValue Error → Reached
-seen_read (Ok v) = Ok (part_seen v)
+seen_read (Ok v) = Ok (value_part_seen v)
 seen_read (Err e) = Err e.kind

@@ -4,7 +4,7 @@ use Rattle.capnp_device.specs.ErrorNumber.{error_name, error_number}
 use Rattle.capnp_device.specs.declared.error.ErrorKind.{ErrorKind}
 use Rattle.capnp_schema.specs.Types.{BoolType, DataType, IntType, TextType, UIntType, VoidType}
 use Rattle.capnp_records.specs.Record as value
-use Rattle.capnp_records.specs.Text.{IsText, Out, said, text_of}
+use Rattle.capnp_records.specs.Text.{IsText, Out, said_text, text_of}
 use Rattle.capnp_dynamic_readers.specs.Shown.{no_schemas}
 use Rattle.capnp_call.specs.declared.calls.Plain.{Plain}
 use Rattle.capnp_call.specs.declared.calls.Plain.TheVariants as plain
@@ -15,23 +15,23 @@ use Rattle.capnp_call.specs.declared.calls.Reply.TheVariants as reply
 
 -- A value is told as it is printed. An enum is told by its number, of a struct only that it is one, of a list its length, and of
 -- an untyped pointer whether it is null.
-abbrev pub plain_text : Plain → Out
-plain_text plain.Void = text_of no_schemas false VoidType value.Void
-plain_text (plain.Bool b) = text_of no_schemas false BoolType (value.Truth b)
-plain_text (plain.Int8 x) = text_of no_schemas false (IntType 1) (value.Number x)
-plain_text (plain.Int16 x) = text_of no_schemas false (IntType 2) (value.Number x)
-plain_text (plain.Int32 x) = text_of no_schemas false (IntType 4) (value.Number x)
-plain_text (plain.Int64 x) = text_of no_schemas false (IntType 8) (value.Number x)
-plain_text (plain.UInt8 n) = text_of no_schemas false (UIntType 1) (value.Number (pos n))
-plain_text (plain.UInt16 n) = text_of no_schemas false (UIntType 2) (value.Number (pos n))
-plain_text (plain.UInt32 n) = text_of no_schemas false (UIntType 4) (value.Number (pos n))
-plain_text (plain.UInt64 n) = text_of no_schemas false (UIntType 8) (value.Number (pos n))
-plain_text (plain.Enum n) = said (decimal n)
-plain_text (plain.Text bytes) = text_of no_schemas false TextType (value.Text bytes.items)
-plain_text (plain.«Data» bytes) = text_of no_schemas false DataType (value.Data bytes.items)
-plain_text plain.Struct = said (codes "(..)")
-plain_text (plain.List n) = said (codes "[" ++ decimal n ++ codes " elements]")
-plain_text (plain.AnyPointer is_null) = said (cond is_null (codes "null") (codes "<opaque pointer>"))
+abbrev pub answer_text : Plain → Out
+answer_text plain.Void = text_of no_schemas false VoidType value.Void
+answer_text (plain.Bool b) = text_of no_schemas false BoolType (value.Truth b)
+answer_text (plain.Int8 x) = text_of no_schemas false (IntType 1) (value.Number x)
+answer_text (plain.Int16 x) = text_of no_schemas false (IntType 2) (value.Number x)
+answer_text (plain.Int32 x) = text_of no_schemas false (IntType 4) (value.Number x)
+answer_text (plain.Int64 x) = text_of no_schemas false (IntType 8) (value.Number x)
+answer_text (plain.UInt8 n) = text_of no_schemas false (UIntType 1) (value.Number (pos n))
+answer_text (plain.UInt16 n) = text_of no_schemas false (UIntType 2) (value.Number (pos n))
+answer_text (plain.UInt32 n) = text_of no_schemas false (UIntType 4) (value.Number (pos n))
+answer_text (plain.UInt64 n) = text_of no_schemas false (UIntType 8) (value.Number (pos n))
+answer_text (plain.Enum n) = said_text (decimal n)
+answer_text (plain.Text bytes) = text_of no_schemas false TextType (value.Text bytes.items)
+answer_text (plain.«Data» bytes) = text_of no_schemas false DataType (value.Data bytes.items)
+answer_text plain.Struct = said_text (codes "(..)")
+answer_text (plain.List n) = said_text (codes "[" ++ decimal n ++ codes " elements]")
+answer_text (plain.AnyPointer is_null) = said_text (cond is_null (codes "null") (codes "<opaque pointer>"))
 
 -- a flag, and a member by its index, as a step of a path is
 abbrev pub flag_word : Bool → List ℕ
@@ -52,23 +52,23 @@ abbrev pub answer_line : ℕ → (word text : List ℕ) → List ℕ
 answer_line n word text = told_line n word (codes " = ") text
 
 -- a refusal, by its number and name
-abbrev pub refusal_line : ℕ → (word : List ℕ) → ErrorKind → List ℕ
-refusal_line n word kind = told_line n word (codes ": refused: ") (decimal (error_number kind) ++ codes " " ++ error_name kind)
+abbrev pub reply_refusal_line : ℕ → (word : List ℕ) → ErrorKind → List ℕ
+reply_refusal_line n word kind = told_line n word (codes ": refused: ") (decimal (error_number kind) ++ codes " " ++ error_name kind)
 
 -- the line of a value was appended
 abbrev pub IsValueTold : ℕ → (word : List ℕ) → Plain → (old new : List ℕ) → Type 0
-IsValueTold n word p old new = (text : List ℕ) × IsText (plain_text p) text × (new ≡ old ++ answer_line n word text)
+IsValueTold n word p old new = (text : List ℕ) × IsText (answer_text p) text × (new ≡ old ++ answer_line n word text)
 
 -- the line of a reply was: none where something was written, else what was asked for, or a refusal
-abbrev pub IsTold : ℕ → (word : List ℕ) → Reply → (old new : List ℕ) → Type 0
-IsTold n word reply.Done old new = new ≡ old
-IsTold n word (reply.Value p) old new = IsValueTold n word p old new
-IsTold n word (reply.Flag b) old new = new ≡ old ++ answer_line n word (flag_word b)
-IsTold n word (reply.Member i) old new = new ≡ old ++ answer_line n word (member_word i)
-IsTold n word (reply.Refused kind) old new = new ≡ old ++ refusal_line n word kind
+abbrev pub IsReplyTold : ℕ → (word : List ℕ) → Reply → (old new : List ℕ) → Type 0
+IsReplyTold n word reply.Done old new = new ≡ old
+IsReplyTold n word (reply.Value p) old new = IsValueTold n word p old new
+IsReplyTold n word (reply.Flag b) old new = new ≡ old ++ answer_line n word (flag_word b)
+IsReplyTold n word (reply.Member i) old new = new ≡ old ++ answer_line n word (member_word i)
+IsReplyTold n word (reply.Refused kind) old new = new ≡ old ++ reply_refusal_line n word kind
 
 -- The lines of all these replies were, the first of them to the call at this index. Each has its call's number, from 1 on, and
 -- its word; a call that no word is given for has an empty one.
 abbrev pub AreTold : ℕ → (words : List (List ℕ)) → List Reply → (old new : List ℕ) → Type 0
 AreTold i words [] old new = new ≡ old
-AreTold i words (r ∷ replies) old new = (mid : List ℕ) × IsTold (suc i) (get_or words i []) r old mid × AreTold (suc i) words replies mid new
+AreTold i words (r ∷ replies) old new = (mid : List ℕ) × IsReplyTold (suc i) (get_or words i []) r old mid × AreTold (suc i) words replies mid new

@@ -15,7 +15,7 @@ use Rattle.capnp_call.specs.declared.calls.Call.{Call}
 use Rattle.capnp_call.specs.declared.calls.Reply.{Reply}
 use Rattle.capnp_call.specs.Messages.{LeavesRun, copy_of, new_record, new_root, root_refusal}
 use Rattle.capnp_call.specs.Refusals.{any_refused}
-use Rattle.capnp_call.specs.Runs.{Makes, RestsWhole, record_in}
+use Rattle.capnp_call.specs.Runs.{MakesCalls, RestsWhole, record_under_schema}
 use Rattle.capnp_show_engine.specs.Show.{IsRead}
 
 -- ---- what calls leave ----
@@ -25,7 +25,7 @@ use Rattle.capnp_show_engine.specs.Show.{IsRead}
 -- is refused for the want of it.
 pub record IsLeft (schema : StructSchema) (r : Record) (start : StructTree) (calls : List Call) (replies : List Reply) (t : Tree) : Type 0 where
   pub run : LeavesRun schema r calls replies t
-  pub made : Makes (set_of schema) (number_of schema) start calls replies (struct_in t)
+  pub made : MakesCalls (set_of schema) (number_of schema) start calls replies (struct_in t)
   pub rests : RestsWhole schema start calls replies
 
 -- what they leave of an empty root
@@ -34,7 +34,7 @@ IsLeftOfNew schema calls replies t = IsLeft schema (new_record schema) (new_root
 
 -- what they leave of a copy of a root, and of the root of the first message in these bytes
 abbrev pub IsLeftOfCopy : StructSchema → Tree → List Call → List Reply → Tree → Type 0
-IsLeftOfCopy schema root calls replies t = IsLeft schema (record_in schema (struct_in root)) (copy_of schema root) calls replies t
+IsLeftOfCopy schema root calls replies t = IsLeft schema (record_under_schema schema (struct_in root)) (copy_of schema root) calls replies t
 
 pub record IsLeftOfBytes (schema : StructSchema) (bytes : List ℕ) (calls : List Call) (replies : List Reply) (t : Tree) : Type 0 where
   pub root : Tree

@@ -2,7 +2,7 @@
 ghost use Rattle.std.specs.Prelude.{◌≡◌, ◌++◌, [], IfErr, IfOk, OnOk, get_or, map, string_bytes};
 ghost use Rattle.capnp_device.specs.declared.error.ErrorKind.TheVariants.{OutOfMemory};
 ghost use Rattle.capnp_dynamic_readers.specs.Pieces.{IsAppended};
-ghost use Rattle.capnp_patch.specs.Lines.{AreTold, IsTold, IsValueTold, answer_line, flag_word, member_word, plain_text, refusal_line, told_line};
+ghost use Rattle.capnp_patch.specs.Lines.{AreTold, IsReplyTold, IsValueTold, answer_line, flag_word, member_word, answer_text, reply_refusal_line, told_line};
 
 use capnp_base::text;
 use capnp_call::calls::{Plain, Reply};
@@ -13,7 +13,7 @@ use std::alloc::Global;
 
 /// Appends a value as it is told.
 fn put_plain(out: &mut String, plain: &Plain) -> Result<()>
-    ensures put { OnOk result (IsAppended (string_bytes out.old) (plain_text plain.now) (string_bytes out.new)) }
+    ensures put { OnOk result (IsAppended (string_bytes out.old) (answer_text plain.now) (string_bytes out.new)) }
     ensures memory { IfErr result (λ e. e.kind ≡ OutOfMemory) }
 {
     match plain {
@@ -93,7 +93,7 @@ fn put_member(lines: &mut String, number: u64, word: &str, member: Option<u16>) 
 
 /// Appends the line of a refusal.
 fn put_refusal(lines: &mut String, number: u64, word: &str, kind: ErrorKind) -> Result<()>
-    ensures put { OnOk result (string_bytes lines.new ≡ string_bytes lines.old ++ refusal_line number word.now kind) }
+    ensures put { OnOk result (string_bytes lines.new ≡ string_bytes lines.old ++ reply_refusal_line number word.now kind) }
     ensures memory { IfErr result (λ e. e.kind ≡ OutOfMemory) }
 {
     let refusal = kind.number();
@@ -104,7 +104,7 @@ fn put_refusal(lines: &mut String, number: u64, word: &str, kind: ErrorKind) -> 
 
 /// Appends the line of a reply.
 fn put_line(lines: &mut String, number: u64, word: &str, reply: &Reply) -> Result<()>
-    ensures put { OnOk result (IsTold number word.now reply.now (string_bytes lines.old) (string_bytes lines.new)) }
+    ensures put { OnOk result (IsReplyTold number word.now reply.now (string_bytes lines.old) (string_bytes lines.new)) }
     ensures memory { IfErr result (λ e. e.kind ≡ OutOfMemory) }
 {
     match reply {

@@ -4,13 +4,13 @@ ghost use Rattle.capnp_schema.specs.Accepted.{NamesEntries};
 ghost use Rattle.capnp_schema.specs.Schema.{Schemas};
 ghost use Rattle.capnp_schema.specs.StructHandles.{set_of};
 ghost use Rattle.capnp_schema.specs.Types.{seen_type};
-ghost use Rattle.capnp_records.specs.Step.{Target};
+ghost use Rattle.capnp_records.specs.Step.{StepTarget};
 ghost use Rattle.capnp_call.specs.Seen.{path_seen, step_seen};
 ghost use Rattle.capnp_dynamic_readers.specs.Handles.{element_of, list_set, schema_of};
 ghost use Rattle.capnp_dynamic_readers.specs.Shown.{type_seen};
 ghost use Rattle.capnp_dynamic_readers.specs.Typed.{IsOf};
 ghost use Rattle.capnp_dynamic_readers.specs.declared.dynamic_value.Reader.TheVariants.{List as ListOf, Struct as StructOf};
-ghost use Rattle.capnp_patch.specs.Gets.{part_seen, path_read, seen_read, step_read, tested_type};
+ghost use Rattle.capnp_patch.specs.Gets.{value_part_seen, path_read, seen_read, step_read, tested_type};
 ghost use Rattle.capnp_patch.specs.Reaching.{test_found};
 
 use capnp_base::introspect::{Type, TypeVariant};
@@ -22,7 +22,7 @@ use capnp_wire::error::{Error, ErrorKind, Result};
 
 /// Whether a step may lead to what is of this type: every last step may, and another one to a struct, group or list.
 fn test_type(element: Type, is_last: bool) -> Result<()>
-    ensures { (x : Target) → test_found x result ≡ tested_type is_last x (seen_type element) }
+    ensures { (x : StepTarget) → test_found x result ≡ tested_type is_last x (seen_type element) }
 {
     if is_last {
         return Ok(());
@@ -41,7 +41,7 @@ fn read_field<'a>(
     is_last: bool,
 ) -> Result<Value<'a>>
     ensures read { seen_read result ≡ step_read (set_of (schema_of reader.entry)) is_last
-        (part_seen (StructOf reader.entry)) (step_seen step.entry) }
+        (value_part_seen (StructOf reader.entry)) (step_seen step.entry) }
     ensures typed { IfOk result (λ v. IsOf (set_of (schema_of reader.entry)) (type_seen v) v) }
 {
     let field = find_field(reader.get_schema(), step)?;
@@ -59,7 +59,7 @@ fn read_element<'a>(
     is_last: bool,
 ) -> Result<Value<'a>>
     ensures read { NamesEntries (list_set reader.entry) (element_of reader.entry)
-        → seen_read result ≡ step_read (list_set reader.entry) is_last (part_seen (ListOf reader.entry))
+        → seen_read result ≡ step_read (list_set reader.entry) is_last (value_part_seen (ListOf reader.entry))
         (step_seen step.entry) }
     ensures typed { NamesEntries (list_set reader.entry) (element_of reader.entry)
         → IfOk result (λ v. IsOf (list_set reader.entry) (type_seen v) v) }
@@ -77,7 +77,7 @@ fn read_element<'a>(
 /// What a step leads to from a value.
 fn read_step<'a>(value: Value<'a>, step: Step<'_>, is_last: bool) -> Result<Value<'a>>
     ensures read { (set : Schemas) → IsOf set (type_seen value.entry) value.entry
-        → seen_read result ≡ step_read set is_last (part_seen value.entry) (step_seen step.entry) }
+        → seen_read result ≡ step_read set is_last (value_part_seen value.entry) (step_seen step.entry) }
     ensures typed { (set : Schemas) → IsOf set (type_seen value.entry) value.entry
         → IfOk result (λ v. IsOf set (type_seen v) v) }
 {
@@ -97,7 +97,7 @@ fn read_step<'a>(value: Value<'a>, step: Step<'_>, is_last: bool) -> Result<Valu
 /// what stands there.
 pub fn read_path<'a>(value: Value<'a>, path: &[Step<'_>]) -> Result<Value<'a>>
     ensures read { (set : Schemas) → IsOf set (type_seen value.entry) value.entry
-        → seen_read result ≡ path_read set (path_seen path.now) (Ok (part_seen value.entry)) }
+        → seen_read result ≡ path_read set (path_seen path.now) (Ok (value_part_seen value.entry)) }
     ensures typed { (set : Schemas) → IsOf set (type_seen value.entry) value.entry
         → IfOk result (λ v. IsOf set (type_seen v) v) }
 {

@@ -15,7 +15,7 @@ use Rattle.capnp_records.specs.Facts.Members.{counted-from_member, counted-not_z
 use Rattle.capnp_records.specs.Facts.PartRead.{can-enter}
 use Rattle.capnp_records.specs.Laws.{DefaultPartsStand, FirstMemberIsActive, default_part}
 use Rattle.capnp_records.specs.Part.{which_of}
-use Rattle.capnp_records.specs.Reading.{active_among, number_value, part_of, plain_parts, union_of}
+use Rattle.capnp_records.specs.Reading.{active_among, number_value, part_of, non_union_parts, union_of}
 use Rattle.capnp_records.specs.Record.{Active, Endless, Parts, Union, Value}
 
 -- what a field has of a struct of size zero
@@ -33,7 +33,7 @@ pub default-parts : DefaultPartsStand
 default-parts set accepted b i b_in i_in active = (can-enter set empty_struct b i i_in active).part ∙ default-kind set accepted b i b_in i_in (field_at set b i).field.kind refl
 
 pub first-active : FirstMemberIsActive
-first-active set accepted b i b_in i_in member zero = ap (λ (u : Union). which_of (Parts (plain_parts v (fields_of set b)) u)) union
+first-active set accepted b i b_in i_in member zero = ap (λ (u : Union). which_of (Parts (non_union_parts v (fields_of set b)) u)) union
   where
     v : TypedField → Value
     v = part_of set Endless [] []

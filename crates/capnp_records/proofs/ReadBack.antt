@@ -7,7 +7,7 @@ use Rattle.capnp_wire.specs.Tree.{Null, StructTree}
 use Rattle.capnp_schema.specs.Accepted.{IsGroupOf}
 use Rattle.capnp_schema.specs.Facts.Groups.{group_fields_name_brands, group_in_set, group_names_its_parts, is_shallow}
 use Rattle.capnp_schema.specs.Footprint.{Spot, discriminant_names, footprint}
-use Rattle.capnp_schema.specs.Laws.{struct_names}
+use Rattle.capnp_schema.specs.Laws.{struct_spots}
 use Rattle.capnp_schema.specs.Schema.{Field, FieldKind, Group, Schemas, Slot, TypedField, default_of, field_at, fields_of, is_member, kind_default, node_of}
 use Rattle.capnp_schema.specs.Schema.{Value as SchemaValue}
 use Rattle.capnp_schema.specs.SlotValue.{default_bits}
@@ -22,14 +22,14 @@ use Rattle.capnp_records.specs.Facts.PartRead.{nth-plain_parts, slot-part}
 use Rattle.capnp_records.specs.Default.{default_record, default_value, read_of}
 use Rattle.capnp_records.specs.Laws.{IsFieldAt, SameOutside}
 use Rattle.capnp_records.specs.Part.{active_value, has_of, is_active, is_inactive, nth_value, part_at, which_of, with_part, with_value}
-use Rattle.capnp_records.specs.ReadBack.{AreApart, ClearIsRead, ClearedIsActive, ContentIsRead, CopiedIsActive, CopyIsRead, DataIsRead, GroupStartsAtFirst, IsSlotIn, NumberIsRead, OthersAreRead, OthersAreThere, PlainKeepsActive, TextIsRead, WrittenIsActive, content_read}
+use Rattle.capnp_records.specs.ReadBack.{AreApart, ClearIsRead, ClearedIsActive, ContentIsRead, CopiedIsActive, CopyIsRead, DataIsRead, GroupStartsAtFirst, IsSlotIn, NumberIsRead, OthersAreRead, OthersAreThere, NonUnionKeepsActive, TextIsRead, WrittenIsActive, content_read}
 use Rattle.capnp_records.specs.Reading.{number_value, part_of, reads, struct_record, value_of, values_of}
 use Rattle.capnp_records.specs.Record.{Active, Endless, Levels, NoUnion, Parts, Record, Union, Unknown, Value, Values, is_there}
 use Rattle.capnp_records.specs.Step.{is_group_field}
 use Rattle.capnp_records.specs.Given.{data_tree}
 use Rattle.capnp_base.specs.Text.{text_tree}
 use Rattle.capnp_records.specs.Writes.Contents.{source_tree}
-use Rattle.capnp_records.specs.Writes.Overlay.{IsReady, Turns, cleared_content, cleared_group, field_names, number_content, stored, switched, with_slot}
+use Rattle.capnp_records.specs.Writes.Overlay.{IsSwitchedTo, Turns, cleared_content, cleared_group, field_spots, number_content, stored_number, switched_struct, with_slot}
 use Rattle.capnp_records.specs.Writes.Slots.{At, Bits, Content, Suits, Writes, with_content}
 use Rattle.capnp_records.specs.Writes.TreeEnds.{group_cleared, offset_of, slot_written}
 use Rattle.capnp_records.proofs.Contents.{slot_value-written}
@@ -51,9 +51,9 @@ part-written set b i s h c suits l = go f.field.kind refl h.slot
     f = field_at set b i
 
     m : StructTree
-    m = switched (node_of set b) f.field s
+    m = switched_struct (node_of set b) f.field s
 
-    ready : IsReady set b f s m
+    ready : IsSwitchedTo set b f s m
     ready = ready-switched set h.at.accepted h.at.ranges b i h.at.brand h.at.index s h.room
 
     go : (k : FieldKind) → f.field.kind ≡ k → is_group_field k ≡ false →
@@ -82,7 +82,7 @@ pub number-read : NumberIsRead
 number-read set b i s h source fits v e l =
     content-read set b i s h (number_content d t v) (suits-number d t v is (h.at.ranges.masks b i h.at.brand h.at.index)) l
     ∙ (ap (read_of set d t) (number-content set d t v is)
-    ∙ read-there set d t v (subst (λ w. is_there w ≡ true) is.reads_back (number-there t (stored t v))))
+    ∙ read-there set d t v (subst (λ w. is_there w ≡ true) is.reads_back (number-there t (stored_number t v))))
   where
     d : SchemaValue
     d = default_of (field_at set b i).field
@@ -180,7 +180,7 @@ starts-at-first set b i s h g same k k_in member zero l = subst Starts same firs
     n = struct_number (field_at set b i).type
 
     m : StructTree
-    m = switched (node_of set b) (field_at set b i).field s
+    m = switched_struct (node_of set b) (field_at set b i).field s
 
     group : IsGroupOf (field_at set b i).field.kind (field_at set b i).type n
     group = is-group set b i h.at h.group
@@ -188,7 +188,7 @@ starts-at-first set b i s h g same k k_in member zero l = subst Starts same firs
     n_in : n < length set.brands
     n_in = group_in_set set h.at.accepted b i n h.at.brand h.at.index group
 
-    ready : IsReady set b (field_at set b i) s m
+    ready : IsSwitchedTo set b (field_at set b i) s m
     ready = ready-switched set h.at.accepted h.at.ranges b i h.at.brand h.at.index s h.room
 
     turns : Turns set n m (cleared_group set n m) (default_record set Endless n)
@@ -206,16 +206,16 @@ copied-active set b i n s h source_levels source refused s' copies member l =
     g = struct_number (field_at set b i).type
 
     m : StructTree
-    m = switched (node_of set b) (field_at set b i).field s
+    m = switched_struct (node_of set b) (field_at set b i).field s
 
     group : IsGroupOf (field_at set b i).field.kind (field_at set b i).type g
     group = is-group set b i h.at h.group
 
-    ready : IsReady set b (field_at set b i) s m
+    ready : IsSwitchedTo set b (field_at set b i) s m
     ready = ready-switched set h.at.accepted h.at.ranges b i h.at.brand h.at.index s h.room
 
     inside : Writes (footprint set (field_at set b i)) m s'
-    inside = writes-wider (struct_names set g) (footprint set (field_at set b i)) m s' (λ p e. group_names_its_parts set h.at.accepted b i g p h.at.brand h.at.index group ∙ e)
+    inside = writes-wider (struct_spots set g) (footprint set (field_at set b i)) m s' (λ p e. group_names_its_parts set h.at.accepted b i g p h.at.brand h.at.index group ∙ e)
         (within-copied n set h.at.accepted h.at.ranges source_levels source b i g h.at.brand h.at.index group m refused s'
         (fits-group set h.at.accepted b i g h.at.brand h.at.index group m (fits-after _ set b s m ready.writes h.room)) copies).1
 
@@ -225,7 +225,7 @@ or-neither : (x y : Bool) → x ≡ false → y ≡ false → (x || y) ≡ false
 or-neither x y e f = rw (e, f)
 
 -- what one of two such fields names, the other's write doesn't touch
-apart-names : (set : Schemas) (b i j : ℕ) → AreApart set b i j → (p : Spot) → footprint set (field_at set b j) p ≡ true → field_names set b (field_at set b i) p ≡ false
+apart-names : (set : Schemas) (b i j : ℕ) → AreApart set b i j → (p : Spot) → footprint set (field_at set b j) p ≡ true → field_spots set b (field_at set b i) p ≡ false
 apart-names set b i j h p named = or-neither (footprint set f p) _ (footprints (is_member f.field) refl) (and-false (is_member f.field) _ discriminant)
   where
     f : TypedField
@@ -242,7 +242,7 @@ apart-names set b i j h p named = or-neither (footprint set f p) _ (footprints (
     footprints true member =
         h.at.accepted.rule11 b j h.at.brand h.other.index i p h.at.index (λ e. h.differ (sym e)) (sym (ap (λ q. q && is_member g.field) member) ∙ h.not_both) named
 
-others-part : (set : Schemas) (b i j : ℕ) → AreApart set b i j → (s s' : StructTree) → Writes (field_names set b (field_at set b i)) s s' → (l : Levels) →
+others-part : (set : Schemas) (b i j : ℕ) → AreApart set b i j → (s s' : StructTree) → Writes (field_spots set b (field_at set b i)) s s' → (l : Levels) →
     part_of set l s'.bytes (values_of set s'.pointers) (field_at set b j) ≡ part_of set l s.bytes (values_of set s.pointers) (field_at set b j)
 others-part set b i j h s s' w l =
     sym (part_of-same set l s.bytes (values_of set s.pointers) s'.bytes (values_of set s'.pointers) (field_at set b j)
@@ -252,7 +252,7 @@ pub others-read : OthersAreRead
 others-read set b i j h s s' w l = ap (read_of set (default_of (field_at set b j).field) (field_at set b j).type) (others-part set b i j h s s' w l)
 
 -- a write of a plain field puts its part into the record
-plain-put : (set : Schemas) (b i : ℕ) → IsFieldAt set b i → is_member (field_at set b i).field ≡ false → (s s' : StructTree) → Writes (field_names set b (field_at set b i)) s s' → (l : Levels) →
+plain-put : (set : Schemas) (b i : ℕ) → IsFieldAt set b i → is_member (field_at set b i).field ≡ false → (s s' : StructTree) → Writes (field_spots set b (field_at set b i)) s s' → (l : Levels) →
     struct_record set l s' b ≡ with_part (struct_record set l s b) (field_at set b i).field i (part_of set l s'.bytes (values_of set s'.pointers) (field_at set b i))
 plain-put set b i at plain s s' w l = record_of-plain_write set at.accepted l s.bytes (values_of set s.pointers) s'.bytes (values_of set s'.pointers) b i at.brand at.index plain same
   where
@@ -267,7 +267,7 @@ which-beside (Parts vs u) f i v plain = ap which_of (second-of (is_member f) _ _
     same (Active j w) = refl
     same (Unknown n) = refl
 
-pub plain-keeps-active : PlainKeepsActive
+pub plain-keeps-active : NonUnionKeepsActive
 plain-keeps-active set b i at plain s s' w l = ap which_of (plain-put set b i at plain s s' w l) ∙ which-beside (struct_record set l s b) (field_at set b i).field i _ plain
 
 plain-inactive : (r : Record) (f : Field) (i : ℕ) → is_member f ≡ false → is_inactive r f i ≡ false

@@ -2,7 +2,7 @@
 use Rattle.std.specs.Prelude.{ℕ, ◌≡◌, List, ◌∷◌, Bool, false, codes, replicate}
 use Prim.Native.String.{String}
 use Rattle.capnp_schema.specs.Types.{StructType}
-use Rattle.capnp_schema.specs.Accepted.{root_of}
+use Rattle.capnp_schema.specs.Accepted.{words_root}
 use Rattle.capnp_schema.specs.Schema.{Schemas}
 use Rattle.capnp_schema.specs.Builtin.{builtin}
 use Rattle.capnp_records.specs.Record as value
@@ -22,7 +22,7 @@ lists = 0 ∷ 0 ∷ 0 ∷ 0 ∷ 0 ∷ 0 ∷ 4 ∷ 0 ∷ replicate 24 0
 
 -- what is printed of the root of one segment under a brand of the built-in set
 abbrev pub printed : List ℕ → ℕ → Bool → Out
-printed words b indented = text_of builtin indented (StructType b b) (value_of builtin (root_of words) (Left 64) (StructType b b))
+printed words b indented = text_of builtin indented (StructType b b) (value_of builtin (words_root words) (Left 64) (StructType b b))
 
 abbrev pub named : String → PathStep
 named s = FieldNamed (codes s)

@@ -10,19 +10,19 @@ use Rattle.capnp_wire.specs.Place.{tree_at}
 use Rattle.capnp_schema.specs.Types.{SchemaType, StructType, UIntType, TextType, DataType, VoidType}
 use Rattle.capnp_schema.specs.Schema.{Schemas, Field, VoidValue, UIntValue, TextValue, DataValue, field_at}
 use Rattle.capnp_schema.specs.SlotValue.{default_bits}
-use Rattle.capnp_schema.specs.Builtin.{builtin, plain, member, union_node, plain_brand}
+use Rattle.capnp_schema.specs.Builtin.{builtin, builtin_field, member, union_node, builtin_brand}
 use Rattle.capnp_records.specs.Facts.Frame.{and-left, and-right}
 use Rattle.capnp_records.specs.Record.{Left, Value}
 use Rattle.capnp_records.specs.Part.{which_of}
 use Rattle.capnp_records.specs.Reading.{struct_record, value_of}
-use Rattle.capnp_records.specs.Text.{said, text_of}
+use Rattle.capnp_records.specs.Text.{said_text, text_of}
 use Rattle.capnp_records.specs.Compatible.{IsCompatible, Pairs, SharedField, SharedStruct, projected}
 
 -- the built-in set with a struct of number 9 beside it
 abbrev with_struct : ℕ → ℕ → List Field → List SchemaType → Schemas
 with_struct data_words discriminant_offset fields types = record builtin {
   nodes = builtin.nodes ++ union_node 109 (codes "Mixed2") data_words 2 3 discriminant_offset fields ∷ [];
-  brands = builtin.brands ++ plain_brand 9 types ∷ [];
+  brands = builtin.brands ++ builtin_brand 9 types ∷ [];
 }
 
 abbrev x : Field
@@ -32,7 +32,7 @@ abbrev y : Field
 y = member 1 (codes "y") 4 (UIntValue 1 0)
 
 abbrev added : List Field
-added = plain (codes "c") 3 (UIntValue 2 0) ∷ member 2 (codes "v") 1 (TextValue []) ∷ []
+added = builtin_field (codes "c") 3 (UIntValue 2 0) ∷ member 2 (codes "v") 1 (TextValue []) ∷ []
 
 -- `Mixed2`, by its first and fourth field
 abbrev wider_with : Field → Field → List SchemaType → Schemas
@@ -42,11 +42,11 @@ abbrev types_of : SchemaType → List SchemaType
 types_of t = UIntType 2 ∷ VoidType ∷ UIntType 1 ∷ t ∷ UIntType 2 ∷ TextType ∷ []
 
 abbrev b : Field
-b = plain (codes "b") 0 (TextValue [])
+b = builtin_field (codes "b") 0 (TextValue [])
 
 -- `Mixed2` with another name for its first field
 abbrev named_so : List ℕ → Schemas
-named_so name = wider_with (plain name 0 (UIntValue 2 0)) b (types_of TextType)
+named_so name = wider_with (builtin_field name 0 (UIntValue 2 0)) b (types_of TextType)
 
 abbrev wider : Schemas
 wider = named_so (codes "a")
@@ -59,11 +59,11 @@ mixed2 = Struct (5 ∷ 0 ∷ 2 ∷ 0 ∷ 0 ∷ 0 ∷ 7 ∷ 0 ∷ []) (MoreTrees 
 abbrev under : ℕ → Tree → Value
 under b x = value_of wider x (Left 64) (StructType b b)
 
-wider_member : text_of wider false (StructType 9 9) (under 9 mixed2) ≡ said (codes "(a = 5, c = 7, v = \"hi\")")
+wider_member : text_of wider false (StructType 9 9) (under 9 mixed2) ≡ said_text (codes "(a = 5, c = 7, v = \"hi\")")
 unfolding tree_at digits debug_escape is_utf8 chars encode
 wider_member = refl
 
-added_member_is_unknown : text_of wider false (StructType 1 1) (under 1 mixed2) ≡ said (codes "(a = 5)")
+added_member_is_unknown : text_of wider false (StructType 1 1) (under 1 mixed2) ≡ said_text (codes "(a = 5)")
 unfolding tree_at digits
 added_member_is_unknown = refl
 
@@ -78,12 +78,12 @@ narrowed_is_projected = refl
 abbrev mixed : Tree
 mixed = Struct (5 ∷ 0 ∷ 1 ∷ 0 ∷ 9 ∷ 0 ∷ 0 ∷ 0 ∷ []) (MoreTrees Null NoTrees)
 
-wider_field : text_of wider false (StructType 9 9) (under 9 mixed) ≡ said (codes "(a = 5, y = 9, c = 0)")
+wider_field : text_of wider false (StructType 9 9) (under 9 mixed) ≡ said_text (codes "(a = 5, y = 9, c = 0)")
 unfolding tree_at digits
 wider_field = refl
 
 -- a schema without a union drops it
-union_dropped : text_of wider false (StructType 0 0) (under 0 mixed) ≡ said (codes "(a = 5)")
+union_dropped : text_of wider false (StructType 0 0) (under 0 mixed) ≡ said_text (codes "(a = 5)")
 unfolding tree_at digits
 union_dropped = refl
 
@@ -139,20 +139,20 @@ loop_with_itself = record { pairs = only 6 6; given = refl; closed = closed_pair
 not_the_other_way : IsCompatible wider 9 1 → ⊥
 not_the_other_way h = omega (arith, (h.closed 9 1 h.given).beginning)
 
-not_with_another_default : IsCompatible (wider_with (plain (codes "a") 0 (UIntValue 2 1)) b (types_of TextType)) 1 9 → ⊥
+not_with_another_default : IsCompatible (wider_with (builtin_field (codes "a") 0 (UIntValue 2 1)) b (types_of TextType)) 1 9 → ⊥
 not_with_another_default h = other ((h.closed 1 9 h.given).fields 0 (omega arith)).kind.1
   where
     other : UIntValue 2 0 ≡ UIntValue 2 1 → ⊥
     other e = omega (arith, ap default_bits e)
 
-not_at_another_offset : IsCompatible (with_struct 1 1 (plain (codes "a") 0 (UIntValue 2 0) ∷ x ∷ member 1 (codes "y") 5 (UIntValue 1 0) ∷ b ∷ added) (types_of TextType)) 1 9 → ⊥
+not_at_another_offset : IsCompatible (with_struct 1 1 (builtin_field (codes "a") 0 (UIntValue 2 0) ∷ x ∷ member 1 (codes "y") 5 (UIntValue 1 0) ∷ b ∷ added) (types_of TextType)) 1 9 → ⊥
 not_at_another_offset h = omega (arith, ((h.closed 1 9 h.given).fields 2 (omega arith)).kind.0)
 
-not_with_another_union : IsCompatible (with_struct 2 4 (plain (codes "a") 0 (UIntValue 2 0) ∷ x ∷ y ∷ b ∷ added) (types_of TextType)) 1 9 → ⊥
+not_with_another_union : IsCompatible (with_struct 2 4 (builtin_field (codes "a") 0 (UIntValue 2 0) ∷ x ∷ y ∷ b ∷ added) (types_of TextType)) 1 9 → ⊥
 not_with_another_union h = omega (arith, ((h.closed 1 9 h.given).union (omega arith)).0)
 
-not_in_another_order : IsCompatible (with_struct 1 1 (plain (codes "a") 0 (UIntValue 2 0) ∷ y ∷ x ∷ b ∷ added) (UIntType 2 ∷ UIntType 1 ∷ VoidType ∷ TextType ∷ UIntType 2 ∷ TextType ∷ [])) 1 9 → ⊥
+not_in_another_order : IsCompatible (with_struct 1 1 (builtin_field (codes "a") 0 (UIntValue 2 0) ∷ y ∷ x ∷ b ∷ added) (UIntType 2 ∷ UIntType 1 ∷ VoidType ∷ TextType ∷ UIntType 2 ∷ TextType ∷ [])) 1 9 → ⊥
 not_in_another_order h = ((h.closed 1 9 h.given).fields 1 (omega arith)).type
 
-not_with_another_type : IsCompatible (wider_with (plain (codes "a") 0 (UIntValue 2 0)) (plain (codes "b") 0 (DataValue [])) (types_of DataType)) 1 9 → ⊥
+not_with_another_type : IsCompatible (wider_with (builtin_field (codes "a") 0 (UIntValue 2 0)) (builtin_field (codes "b") 0 (DataValue [])) (types_of DataType)) 1 9 → ⊥
 not_with_another_type h = ((h.closed 1 9 h.given).fields 3 (omega arith)).type

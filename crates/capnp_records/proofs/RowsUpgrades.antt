@@ -8,34 +8,34 @@ use Rattle.capnp_wire.specs.Tree.{Tree, Struct, Numbers, NoTrees, MoreTrees}
 use Rattle.capnp_wire.specs.Place.{tree_at}
 use Rattle.capnp_schema.specs.Types.{SchemaType, BoolType, StructType, ListType, UIntType}
 use Rattle.capnp_schema.specs.Schema.{Schemas, Field, Node, BoolValue, ListValue, UIntValue, field_at}
-use Rattle.capnp_schema.specs.Builtin.{builtin, plain, member, struct_node, union_node, plain_brand, zero_word}
+use Rattle.capnp_schema.specs.Builtin.{builtin, builtin_field, member, builtin_struct_node, union_node, builtin_brand, zero_word}
 use Rattle.capnp_records.specs.Facts.Frame.{and-left, and-right}
 use Rattle.capnp_records.specs.Record.{Left, Value, Fault, MoreValues, NoUnion, NoValues, Parts}
 use Rattle.capnp_records.specs.Record as value
 use Rattle.capnp_records.specs.Reading.{value_of}
-use Rattle.capnp_records.specs.Text.{said, text_of}
+use Rattle.capnp_records.specs.Text.{said_text, text_of}
 use Rattle.capnp_records.specs.Compatible.{IsCompatible, IsCompatibleOrUpgraded, SharedField, SharedStruct, projected}
 use Rattle.capnp_records.specs.Upgrades.{lists_read}
 use Rattle.capnp_records.proofs.RowsCompatible.{only}
 
 abbrev list_node : ℕ → List ℕ → Node
-list_node id name = struct_node id name 0 1 (plain (codes "xs") 0 (ListValue zero_word) ∷ [])
+list_node id name = builtin_struct_node id name 0 1 (builtin_field (codes "xs") 0 (ListValue zero_word) ∷ [])
 
 -- the built-in set with `Tally` of lists of a type, `Tally2` and a struct of number 11
 abbrev with_lists : SchemaType → Node → List SchemaType → Schemas
 with_lists element pair types = record builtin {
   nodes = builtin.nodes ++ list_node 109 (codes "Tally") ∷ list_node 110 (codes "Tally2") ∷ pair ∷ [];
-  brands = builtin.brands ++ plain_brand 9 (ListType element ∷ []) ∷ plain_brand 10 (ListType (StructType 11 11) ∷ []) ∷ plain_brand 11 types ∷ [];
+  brands = builtin.brands ++ builtin_brand 9 (ListType element ∷ []) ∷ builtin_brand 10 (ListType (StructType 11 11) ∷ []) ∷ builtin_brand 11 types ∷ [];
 }
 
 abbrev pair_node : Field → Field → Node
-pair_node v w = struct_node 111 (codes "Pair") 1 0 (v ∷ w ∷ [])
+pair_node v w = builtin_struct_node 111 (codes "Pair") 1 0 (v ∷ w ∷ [])
 
 abbrev v_at : ℕ → ℕ → Field
-v_at offset default = plain (codes "v") offset (UIntValue 2 default)
+v_at offset default = builtin_field (codes "v") offset (UIntValue 2 default)
 
 abbrev w_at : ℕ → Field
-w_at offset = plain (codes "w") offset (UIntValue 2 0)
+w_at offset = builtin_field (codes "w") offset (UIntValue 2 0)
 
 abbrev numbers : List SchemaType
 numbers = UIntType 2 ∷ UIntType 2 ∷ []
@@ -75,7 +75,7 @@ not_at_another_offset h = ((h.closed 9 10 h.given).fields 0 (omega arith)).type
 not_a_member : IsCompatibleOrUpgraded (with_lists (UIntType 2) (union_node 111 (codes "Pair") 1 0 2 1 (member 0 (codes "v") 0 (UIntValue 2 0) ∷ member 1 (codes "w") 0 (UIntValue 2 0) ∷ [])) numbers) 9 10 → ⊥
 not_a_member h = ((h.closed 9 10 h.given).fields 0 (omega arith)).type
 
-not_of_bits : IsCompatibleOrUpgraded (with_lists BoolType (struct_node 111 (codes "Pair") 1 0 (plain (codes "v") 0 (BoolValue false) ∷ [])) (BoolType ∷ [])) 9 10 → ⊥
+not_of_bits : IsCompatibleOrUpgraded (with_lists BoolType (builtin_struct_node 111 (codes "Pair") 1 0 (builtin_field (codes "v") 0 (BoolValue false) ∷ [])) (BoolType ∷ [])) 9 10 → ⊥
 not_of_bits h = ((h.closed 9 10 h.given).fields 0 (omega arith)).type
 
 -- ---- what is read ----
@@ -87,11 +87,11 @@ under b x = value_of tallies x (Left 64) (StructType b b)
 abbrev two_numbers : Tree
 two_numbers = Struct [] (MoreTrees (Numbers 2 (1 ∷ 0 ∷ 2 ∷ 0 ∷ [])) NoTrees)
 
-as_structs : text_of tallies false (StructType 10 10) (under 10 two_numbers) ≡ said (codes "(xs = [(v = 1, w = 0), (v = 2, w = 0)])")
+as_structs : text_of tallies false (StructType 10 10) (under 10 two_numbers) ≡ said_text (codes "(xs = [(v = 1, w = 0), (v = 2, w = 0)])")
 unfolding tree_at digits
 as_structs = refl
 
-as_numbers : text_of tallies false (StructType 9 9) (under 9 two_numbers) ≡ said (codes "(xs = [1, 2])")
+as_numbers : text_of tallies false (StructType 9 9) (under 9 two_numbers) ≡ said_text (codes "(xs = [1, 2])")
 unfolding tree_at digits
 as_numbers = refl
 
@@ -105,7 +105,7 @@ numbers_are_read = refl
 abbrev one_byte : Tree
 one_byte = Struct [] (MoreTrees (Numbers 1 (1 ∷ [])) NoTrees)
 
-byte_as_struct : text_of tallies false (StructType 10 10) (under 10 one_byte) ≡ said (codes "(xs = [(v = 1, w = 0)])")
+byte_as_struct : text_of tallies false (StructType 10 10) (under 10 one_byte) ≡ said_text (codes "(xs = [(v = 1, w = 0)])")
 unfolding tree_at digits
 byte_as_struct = refl
 

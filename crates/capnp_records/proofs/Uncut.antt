@@ -13,7 +13,7 @@ use Rattle.capnp_schema.specs.Schema.{Value as SchemaValue}
 use Rattle.capnp_schema.specs.SlotValue.{slot_number}
 use Rattle.capnp_schema.specs.Types.{AnyPointerType, BoolType, DataType, EnumType, IntType, ListType, SchemaType, StructType, TextType, UIntType, VoidType, element_size, is_pointer, struct_brand}
 use Rattle.capnp_records.specs.Facts.Frame.{and-left, and-right, second-of}
-use Rattle.capnp_records.specs.Reading.{Below, Body, Reading, active_among, discriminant, element_value, elements_value, entered, first_pointer, group_record, kind_value, nth_reading, null, number_value, of_read, plain_parts, record_of, record_within, slot_value, struct_below, tree_value, union_of, value_of, values_of}
+use Rattle.capnp_records.specs.Reading.{Below, Body, Reading, active_among, discriminant, element_value, elements_value, entered_value, first_pointer, group_record, kind_value, nth_reading, null, number_value, of_read, non_union_parts, record_of, record_within, slot_value, struct_below, tree_value, union_of, value_of, values_of}
 use Rattle.capnp_records.specs.Record.{Active, MoreValues, Left, Levels, NoValues, NoUnion, Parts, Record, Union, Unknown, Value, Values, is_there, one_less, values_from}
 use Rattle.capnp_records.specs.Record as value
 use Rattle.capnp_records.specs.Upgrades.{are_uncut, is_uncut, is_uncut_record, is_uncut_union, unleveled, unleveled_record, unleveled_union, unleveled_values}
@@ -81,7 +81,7 @@ module _ (set : Schemas) where
         group-keeps None u = refl
         group-keeps (Some b) u = ap value.Group (h b u)
 
-    plain-keeps : (v w : TypedField → Value) → ((f : TypedField) → Same (v f) (w f)) → (fs : List TypedField) → are_uncut (plain_parts w fs) ≡ true → unleveled_values (plain_parts v fs) ≡ unleveled_values (plain_parts w fs)
+    plain-keeps : (v w : TypedField → Value) → ((f : TypedField) → Same (v f) (w f)) → (fs : List TypedField) → are_uncut (non_union_parts w fs) ≡ true → unleveled_values (non_union_parts v fs) ≡ unleveled_values (non_union_parts w fs)
     plain-keeps v w h [] u = refl
     plain-keeps v w h (f ∷ fs) u = ap₂ MoreValues (go (is_member f.field) (and-left _ _ u)) (plain-keeps v w h fs (and-right (is_uncut (elim (is_member f.field) as (λ _. Value) [ true ↦ value.Elsewhere | false ↦ w f ])) _ u))
       where
@@ -120,11 +120,11 @@ module _ (set : Schemas) where
         w f = kind_value (record_within g set (Left k) bytes rs) (Left k) bytes rs f.field.kind f.type
 
         go : RecordsKeep (record_within g set (Left (suc k)) bytes rs) (record_within g set (Left k) bytes rs) →
-            (are_uncut (plain_parts w (fields_of set b)) && is_uncut_union (union_of w (node_of set b) (fields_of set b) bytes)) ≡ true →
-            unleveled_record (Parts (plain_parts v (fields_of set b)) (union_of v (node_of set b) (fields_of set b) bytes)) ≡ unleveled_record (Parts (plain_parts w (fields_of set b)) (union_of w (node_of set b) (fields_of set b) bytes))
+            (are_uncut (non_union_parts w (fields_of set b)) && is_uncut_union (union_of w (node_of set b) (fields_of set b) bytes)) ≡ true →
+            unleveled_record (Parts (non_union_parts v (fields_of set b)) (union_of v (node_of set b) (fields_of set b) bytes)) ≡ unleveled_record (Parts (non_union_parts w (fields_of set b)) (union_of w (node_of set b) (fields_of set b) bytes))
         go ih u =
             let each : (f : TypedField) → Same (v f) (w f) = λ f. kind-keeps (record_within g set (Left (suc k)) bytes rs) (record_within g set (Left k) bytes rs) ih f.field.kind f.type in
-            ap₂ Parts (plain-keeps v w each (fields_of set b) (and-left _ _ u)) (union-keeps v w each (node_of set b) (fields_of set b) (and-right (are_uncut (plain_parts w (fields_of set b))) _ u))
+            ap₂ Parts (plain-keeps v w each (fields_of set b) (and-left _ _ u)) (union-keeps v w each (node_of set b) (fields_of set b) (and-right (are_uncut (non_union_parts w (fields_of set b))) _ u))
 
   -- ---- trees ----
 
@@ -145,12 +145,12 @@ module _ (set : Schemas) where
       inside (Ok a) = h k a
       inside (Err kind) = λ u. refl
 
-  entered-keeps : (f : Levels → Value) → ((k : ℕ) → Same (f (Left (suc k))) (f (Left k))) → (k : ℕ) → Same (entered (Left (suc k)) (f (one_less (Left (suc k))))) (entered (Left k) (f (one_less (Left k))))
+  entered-keeps : (f : Levels → Value) → ((k : ℕ) → Same (f (Left (suc k))) (f (Left k))) → (k : ℕ) → Same (entered_value (Left (suc k)) (f (one_less (Left (suc k))))) (entered_value (Left k) (f (one_less (Left k))))
   entered-keeps f h zero = λ u. absurd (true≢false (sym u))
   entered-keeps f h (suc k) =
-      subst (λ (x : Levels). Same (entered (Left (suc (suc k))) (f (one_less (Left (suc (suc k)))))) (entered (Left (suc k)) (f x))) (sym (one-less k))
-      (subst (λ (x : Levels). Same (entered (Left (suc (suc k))) (f x)) (entered (Left (suc k)) (f (Left k)))) (sym (one-less (suc k)))
-      (subst (λ (v : Value). Same v (entered (Left (suc k)) (f (Left k)))) (sym (second-of (suc (suc k) == 0) _ _ (no-level (suc k))))
+      subst (λ (x : Levels). Same (entered_value (Left (suc (suc k))) (f (one_less (Left (suc (suc k)))))) (entered_value (Left (suc k)) (f x))) (sym (one-less k))
+      (subst (λ (x : Levels). Same (entered_value (Left (suc (suc k))) (f x)) (entered_value (Left (suc k)) (f (Left k)))) (sym (one-less (suc k)))
+      (subst (λ (v : Value). Same v (entered_value (Left (suc k)) (f (Left k)))) (sym (second-of (suc (suc k) == 0) _ _ (no-level (suc k))))
       (subst (λ (v : Value). Same (f (Left (suc k))) v) (sym (second-of (suc k == 0) _ _ (no-level k))) (h k))))
 
   element-keeps : (x : Tree) (below : Below) → AllBelow Keeps below → (k : ℕ) (e : SchemaType) (i : ℕ) → Same (element_value set x below (Left (suc k)) e i) (element_value set x below (Left k) e i)

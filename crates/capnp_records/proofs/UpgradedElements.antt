@@ -19,7 +19,7 @@ use Rattle.capnp_schema.specs.SlotValue.{bits_at, default_bits}
 use Rattle.capnp_schema.specs.Types.{integer_size}
 use Rattle.capnp_records.specs.Compatible.{is_empty_default, is_first_slot, stands_first}
 use Rattle.capnp_records.specs.Facts.Frame.{and-left, and-right}
-use Rattle.capnp_records.specs.Reading.{plain_parts}
+use Rattle.capnp_records.specs.Reading.{non_union_parts}
 use Rattle.capnp_records.specs.Record.{MoreValues, Value, Values}
 use Rattle.capnp_records.specs.Record as value
 
@@ -31,7 +31,7 @@ pub record First (set : Schemas) (b : ℕ) : Type 0 where
   pub is_empty : is_empty_default default ≡ true
   pub kind : (field_at set b 0).field.kind ≡ Slot 0 default
   pub rest : (TypedField → Value) → Values
-  pub parts : (v : TypedField → Value) → plain_parts v (fields_of set b) ≡ MoreValues (v (field_at set b 0)) (rest v)
+  pub parts : (v : TypedField → Value) → non_union_parts v (fields_of set b) ≡ MoreValues (v (field_at set b 0)) (rest v)
 
 not-false : (q : Bool) → not q ≡ true → q ≡ false
 not-false true e = sym e
@@ -60,9 +60,9 @@ first-of-struct set b h = at (fields_of set b) refl
       default = d;
       is_empty = and-right (offset == 0) _ s;
       kind = is ∙ ap (λ (o : ℕ). Slot o d) (eqb-true offset 0 (and-left _ _ s));
-      rest = λ v. plain_parts v rest;
-      parts = λ v. ap (plain_parts v) e ∙ (ap (λ (q : Bool). MoreValues (elim q as (λ _. Value) [ true ↦ value.Elsewhere | false ↦ v f ]) (plain_parts v rest)) (ap (λ (g : TypedField). is_member g.field) (sym at0) ∙ plain)
-          ∙ ap (λ (g : TypedField). MoreValues (v g) (plain_parts v rest)) (sym at0));
+      rest = λ v. non_union_parts v rest;
+      parts = λ v. ap (non_union_parts v) e ∙ (ap (λ (q : Bool). MoreValues (elim q as (λ _. Value) [ true ↦ value.Elsewhere | false ↦ v f ]) (non_union_parts v rest)) (ap (λ (g : TypedField). is_member g.field) (sym at0) ∙ plain)
+          ∙ ap (λ (g : TypedField). MoreValues (v g) (non_union_parts v rest)) (sym at0));
     }
     by-kind fs f rest e at0 (Group n) is s = absurd (true≢false (sym s))
 

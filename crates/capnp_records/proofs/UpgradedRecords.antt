@@ -11,7 +11,7 @@ use Rattle.capnp_schema.specs.SlotValue.{bits_at, slot_number}
 use Rattle.capnp_schema.specs.Types.{BoolType, EnumType, IntType, SchemaType, StructType, UIntType, VoidType, is_pointer}
 use Rattle.capnp_records.specs.Compatible.{Pairs, Related, SameDefault, SameKind, SharedStruct, projected, projected_fields, projected_union, projection_of}
 use Rattle.capnp_records.specs.Facts.Frame.{and-left, and-right, first-of, second-of}
-use Rattle.capnp_records.specs.Reading.{Reading, active_among, discriminant, kind_value, null, number_value, plain_parts, record_within, slot_value, union_of}
+use Rattle.capnp_records.specs.Reading.{Reading, active_among, discriminant, kind_value, null, number_value, non_union_parts, record_within, slot_value, union_of}
 use Rattle.capnp_records.specs.Record.{Active, MoreValues, Levels, NoValues, NoUnion, Parts, Record, Union, Value}
 use Rattle.capnp_records.specs.Record as value
 use Rattle.capnp_records.specs.Upgrades.{field_lists_read, lists_read, record_lists_read, union_lists_read, unleveled, unleveled_record, unleveled_union, unleveled_values}
@@ -78,7 +78,7 @@ module _ (set : Schemas) (pairs : Pairs) where
 
   pub plain-sees : (v w : TypedField → Value) (xs ys : List TypedField) → length xs ≤ length ys →
       ((i : ℕ) → i < length xs → SeenPart v w (unwrap_or (slice_get xs i) no_field) (unwrap_or (slice_get ys i) no_field)) →
-      field_lists_read set xs ys (unleveled_values (plain_parts v xs)) (unleveled_values (plain_parts w ys)) ≡ true → unleveled_values (plain_parts v xs) ≡ projected_fields set xs ys (unleveled_values (plain_parts w ys))
+      field_lists_read set xs ys (unleveled_values (non_union_parts v xs)) (unleveled_values (non_union_parts w ys)) ≡ true → unleveled_values (non_union_parts v xs) ≡ projected_fields set xs ys (unleveled_values (non_union_parts w ys))
   plain-sees v w [] ys le h u = refl
   plain-sees v w (x ∷ xs) [] le h u = absurd (omega arith)
   plain-sees v w (x ∷ xs) (y ∷ ys) le h u =
@@ -183,7 +183,7 @@ module _ (set : Schemas) (pairs : Pairs) where
                 discriminant_value = (shared.fields i i_in).discriminant_value;
               } in
               ap₂ Parts (plain-sees v v (fields_of set a) (fields_of set b) shared.beginning same (and-left _ _ u))
-              (unions ((node_of set a).discriminant_count == 0) refl same (and-right (field_lists_read set (fields_of set a) (fields_of set b) (unleveled_values (plain_parts v (fields_of set a))) (unleveled_values (plain_parts v (fields_of set b)))) _ u))
+              (unions ((node_of set a).discriminant_count == 0) refl same (and-right (field_lists_read set (fields_of set a) (fields_of set b) (unleveled_values (non_union_parts v (fields_of set a))) (unleveled_values (non_union_parts v (fields_of set b)))) _ u))
             where
               ua : Union
               ua = union_of v (node_of set a) (fields_of set a) bytes

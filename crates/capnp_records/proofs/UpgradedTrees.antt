@@ -20,8 +20,8 @@ use Rattle.capnp_schema.specs.Types.{AnyPointerType, BoolType, DataType, EnumTyp
 use Rattle.capnp_records.specs.Compatible.{Pairs, Related, SharedStruct, became_struct, can_become_struct, elements_by, first_field, first_fields, is_empty_default, projected, projected_elements, stands_first}
 use Rattle.capnp_records.specs.Facts.Frame.{and-left, and-right, second-of}
 use Rattle.capnp_records.specs.Facts.ListValues.{below-body, below_of, nth_body-is}
-use Rattle.capnp_records.specs.Reading.{Below, Body, Reading, bodies_of, element_value, elements_value, entered, first_pointer, kind_value, nth_body, nth_reading, null, number_value, of_read, only_reading, plain_parts, record_of, record_within, slot_value, struct_below, tree_value, union_of, value_of, values_of}
-use Rattle.capnp_records.specs.Record.{MoreValues, Endless, Left, Levels, NoValues, Parts, Union, Value, Values, asked, is_there, one_less, values_from}
+use Rattle.capnp_records.specs.Reading.{Below, Body, Reading, bodies_of, element_value, elements_value, entered_value, first_pointer, kind_value, nth_body, nth_reading, null, number_value, of_read, only_reading, non_union_parts, record_of, record_within, slot_value, struct_below, tree_value, union_of, value_of, values_of}
+use Rattle.capnp_records.specs.Record.{MoreValues, Endless, Left, Levels, NoValues, Parts, Union, Value, Values, levels_asked, is_there, one_less, values_from}
 use Rattle.capnp_records.specs.Record as value
 use Rattle.capnp_records.specs.Laws.{UpgradeLaw}
 use Rattle.capnp_schema.specs.Facts.Fields.{brand_there}
@@ -47,7 +47,7 @@ module _ (set : Schemas) where
   tree-there x below all l s t = tree_value-there set x below l s ∙ sym (tree_value-there set x below l t)
 
   first-there : (body : Body) → AllReadings There body.pointers → There (first_pointer set body)
-  first-there body all l s t = go (is_there (r l s) && (asked l == 0)) (is_there (r l t) && (asked l == 0)) (ap (λ q. q && (asked l == 0)) (nth-reading There null-there body.pointers all 0 l s t))
+  first-there body all l s t = go (is_there (r l s) && (levels_asked l == 0)) (is_there (r l t) && (levels_asked l == 0)) (ap (λ q. q && (levels_asked l == 0)) (nth-reading There null-there body.pointers all 0 l s t))
     where
       r : Reading
       r = nth_reading body.pointers 0
@@ -97,8 +97,8 @@ module _ (set : Schemas) (pairs : Pairs) where
     under : (l : Levels) (bytes : List ℕ) (rs : List Reading) → AllReadings (Upgrades set pairs) rs → (a b : ℕ) → IsTrue (pairs a b) → RecordSees set pairs a b (record_of set l bytes rs a) (record_of set l bytes rs b)
     under l bytes rs all a b p = record-sees set pairs l bytes rs all closed fits widths (suc (length set.brands)) a b p
 
-    entered-sees : (l : Levels) (s t : SchemaType) (v w : Value) → Sees set pairs s t v w → Sees set pairs s t (entered l v) (entered l w)
-    entered-sees l s t v w h = go (asked l == 0)
+    entered-sees : (l : Levels) (s t : SchemaType) (v w : Value) → Sees set pairs s t v w → Sees set pairs s t (entered_value l v) (entered_value l w)
+    entered-sees l s t v w h = go (levels_asked l == 0)
       where
         go : (q : Bool) → Sees set pairs s t (elim q as (λ _. Value) [ true ↦ value.Fault TooDeep | false ↦ v ]) (elim q as (λ _. Value) [ true ↦ value.Fault TooDeep | false ↦ w ])
         go true = λ u. refl
@@ -138,7 +138,7 @@ module _ (set : Schemas) (pairs : Pairs) where
         (first-row s t f g h (suc a) n (and-right (is_uncut (unleveled (g a))) _ c) (and-right (struct_lists_read set s t (unleveled (f a)) (unleveled (g a))) _ u))
 
     -- a pointer that is read with one level less
-    lesser : (r : Reading) → Upgrades set pairs r → Keeps set r → (l : Levels) → (asked l == 0) ≡ false → (s t : SchemaType) → Related true set pairs s t → HasWidths s → is_pointer t ≡ true →
+    lesser : (r : Reading) → Upgrades set pairs r → Keeps set r → (l : Levels) → (levels_asked l == 0) ≡ false → (s t : SchemaType) → Related true set pairs s t → HasWidths s → is_pointer t ≡ true →
         is_uncut (r (one_less l) t) ≡ true → Sees set pairs s t (r l s) (r (one_less l) t)
     lesser r up keeps Endless e s t h k p c = up Endless s t h k
     lesser r up keeps (Left zero) e s t h k p c = absurd (true≢false e)
@@ -156,7 +156,7 @@ module _ (set : Schemas) (pairs : Pairs) where
     clash e = true≢false (sym e)
 
     -- an element that is a pointer, and the first pointer of the struct in its place
-    first-pointer : (x : Tree) → AllBelow (Upgrades set pairs) (below_of set x) → reads_list size.Pointer x ≡ true → (l : Levels) → (asked l == 0) ≡ false → (s t : SchemaType) → Related true set pairs s t → HasWidths s → is_pointer t ≡ true → (i : ℕ) →
+    first-pointer : (x : Tree) → AllBelow (Upgrades set pairs) (below_of set x) → reads_list size.Pointer x ≡ true → (l : Levels) → (levels_asked l == 0) ≡ false → (s t : SchemaType) → Related true set pairs s t → HasWidths s → is_pointer t ≡ true → (i : ℕ) →
         is_uncut (nth_reading ((below_of set x).element_body i).pointers 0 (one_less l) t) ≡ true →
         Sees set pairs s t ((below_of set x).element_pointer i l s) (nth_reading ((below_of set x).element_body i).pointers 0 (one_less l) t)
     first-pointer tree.Null all reads l e s t h k p i c = absurd (clash reads)
@@ -172,7 +172,7 @@ module _ (set : Schemas) (pairs : Pairs) where
     first-pointer (tree.Composite d p es) all reads l e s t h k q i c =
         let body : Body = nth_body (bodies_of set es) i in
         let r : Reading = nth_reading body.pointers 0 in
-        sees-moved set pairs s t _ (r (one_less l) s) _ _ (second-of (is_there (r l s) && (asked l == 0)) _ _ (no-and set (is_there (r l s)) (asked l == 0) e)) refl
+        sees-moved set pairs s t _ (r (one_less l) s) _ _ (second-of (is_there (r l s) && (levels_asked l == 0)) _ _ (no-and set (is_there (r l s)) (levels_asked l == 0) e)) refl
         (nth-reading (Upgrades set pairs) (null-upgrades set pairs) body.pointers (all.element_bodies i) 0 (one_less l) s t h k)
     first-pointer (tree.FaultLeaf y) all reads l e s t h k p i c = absurd (clash reads)
 
@@ -187,7 +187,7 @@ module _ (set : Schemas) (pairs : Pairs) where
       same-bytes : (i : ℕ) → (element_struct x i).bytes ≡ (body i).bytes
       same-bytes i = ap (λ (y : Body). y.bytes) (sym (below-body set x i))
 
-      first-slot : (asked l == 0) ≡ false → (s t : SchemaType) → can_become_struct s ≡ true → Related true set pairs s t → HasWidths s → reads_list (element_size s) x ≡ true → (d : SchemaValue) → is_empty_default d ≡ true → (i : ℕ) →
+      first-slot : (levels_asked l == 0) ≡ false → (s t : SchemaType) → can_become_struct s ≡ true → Related true set pairs s t → HasWidths s → reads_list (element_size s) x ≡ true → (d : SchemaValue) → is_empty_default d ≡ true → (i : ℕ) →
           is_uncut (inner i d t) ≡ true → Sees set pairs s t (element_value set x (below_of set x) l s i) (inner i d t)
       first-slot e (IntType m) (IntType n) can h k reads d empty i c = λ u.
           ap (number_value (IntType m)) (first-number law x formed m k reads d empty i ∙ ap (λ (bs : List ℕ). slot_number bs 0 d (IntType m)) (same-bytes i))
@@ -207,7 +207,7 @@ module _ (set : Schemas) (pairs : Pairs) where
 
       upgraded-element : (s : SchemaType) (b g : ℕ) → can_become_struct s ≡ true → stands_first set b ≡ true → Related true set pairs s (field_at set b 0).type → HasWidths s → reads_list (element_size s) x ≡ true → (i : ℕ) →
           FirstSees s (field_at set b 0).type (element_value set x (below_of set x) l s i) (element_value set x (below_of set x) l (StructType b g) i)
-      upgraded-element s b g can first h k reads i = go (asked l == 0) refl
+      upgraded-element s b g can first h k reads i = go (levels_asked l == 0) refl
         where
           t : SchemaType
           t = (field_at set b 0).type
@@ -221,13 +221,13 @@ module _ (set : Schemas) (pairs : Pairs) where
           v : TypedField → Value
           v y = kind_value (record_within (length set.brands) set (one_less l) (body i).bytes (body i).pointers) (one_less l) (body i).bytes (body i).pointers y.field.kind y.type
 
-          parts : plain_parts v (fields_of set b) ≡ MoreValues (inner i f.default t) (f.rest v)
+          parts : non_union_parts v (fields_of set b) ≡ MoreValues (inner i f.default t) (f.rest v)
           parts = f.parts v ∙ ap (λ (k : FieldKind). MoreValues (kind_value (record_within (length set.brands) set (one_less l) (body i).bytes (body i).pointers) (one_less l) (body i).bytes (body i).pointers k t) (f.rest v)) f.kind
 
           un : Union
           un = union_of v (node_of set b) (fields_of set b) (body i).bytes
 
-          go : (q : Bool) → (asked l == 0) ≡ q → FirstSees s t older (elim q as (λ _. Value) [ true ↦ value.Fault TooDeep | false ↦ value.Struct (Parts (plain_parts v (fields_of set b)) un) ])
+          go : (q : Bool) → (levels_asked l == 0) ≡ q → FirstSees s t older (elim q as (λ _. Value) [ true ↦ value.Fault TooDeep | false ↦ value.Struct (Parts (non_union_parts v (fields_of set b)) un) ])
           go true e = λ c u. absurd (clash c)
           go false e = subst (λ (vs : Values). FirstSees s t older (value.Struct (Parts vs un))) (sym parts)
               (λ c u. first-slot e s t can h k reads f.default f.is_empty i (sym (uncut-unleveled (inner i f.default t)) ∙ and-left _ _ (and-left (are_uncut (unleveled_values (MoreValues (inner i f.default t) (f.rest v)))) _ c)) u)
@@ -273,22 +273,22 @@ module _ (set : Schemas) (pairs : Pairs) where
 
     upgraded-list : (x : Tree) → IsWellFormed x → AllBelow (Upgrades set pairs) (below_of set x) → (l : Levels) (s : SchemaType) (b g : ℕ) → can_become_struct s ≡ true → stands_first set b ≡ true → Related true set pairs s (field_at set b 0).type → HasWidths s →
         Sees set pairs (ListType s) (ListType (StructType b g)) (tree_value set x (below_of set x) l (ListType s)) (tree_value set x (below_of set x) l (ListType (StructType b g)))
-    upgraded-list tree.Null formed all l s b g can first h k = go (asked l == 0)
+    upgraded-list tree.Null formed all l s b g can first h k = go (levels_asked l == 0)
       where
         go : (q : Bool) → Sees set pairs (ListType s) (ListType (StructType b g)) (of_read {A = Tree} (λ _. value.Elements NoValues) (cond q (Err TooDeep) (Ok (empty_list (element_size s))))) (of_read {A = Tree} (λ _. value.Elements NoValues) (cond q (Err TooDeep) (Ok (empty_list size.InlineComposite))))
         go true u = refl
         go false u = ap (λ (q : Bool). elements_by q NoValues NoValues) (sym can)
-    upgraded-list (tree.Struct bytes ps) formed all l s b g can first h k = go (asked l == 0)
+    upgraded-list (tree.Struct bytes ps) formed all l s b g can first h k = go (levels_asked l == 0)
       where
         go : (q : Bool) → Sees set pairs (ListType s) (ListType (StructType b g)) (of_read {A = Tree} (λ _. elements_value set (tree.Struct bytes ps) (below_of set (tree.Struct bytes ps)) (one_less l) s) (cond q (Err TooDeep) (Err WrongPointerKind)))
             (of_read {A = Tree} (λ _. elements_value set (tree.Struct bytes ps) (below_of set (tree.Struct bytes ps)) (one_less l) (StructType b g)) (cond q (Err TooDeep) (Err WrongPointerKind)))
         go true u = refl
         go false u = refl
-    upgraded-list (tree.Voids n) formed all l s b g can first h k = listed (tree.Voids n) formed all (one_less l) s b g can first h k (asked l == 0) (reads_voids (element_size s)) true (λ e. refl) (λ e. e)
-    upgraded-list (tree.Bits bs) formed all l s b g can first h k = listed (tree.Bits bs) formed all (one_less l) s b g can first h k (asked l == 0) (reads_bits (element_size s)) false (no-bits-read s can) (λ e. e)
-    upgraded-list (tree.Numbers w bytes) formed all l s b g can first h k = listed (tree.Numbers w bytes) formed all (one_less l) s b g can first h k (asked l == 0) (reads_numbers (element_size s) w) true (λ e. refl) (λ e. e)
-    upgraded-list (tree.Pointers ps) formed all l s b g can first h k = listed (tree.Pointers ps) formed all (one_less l) s b g can first h k (asked l == 0) (reads_pointers (element_size s)) true (λ e. refl) (λ e. e)
-    upgraded-list (tree.Composite d p es) formed all l s b g can first h k = listed (tree.Composite d p es) formed all (one_less l) s b g can first h k (asked l == 0) (reads_structs (element_size s) d p) true (λ e. refl) (λ e. e)
+    upgraded-list (tree.Voids n) formed all l s b g can first h k = listed (tree.Voids n) formed all (one_less l) s b g can first h k (levels_asked l == 0) (reads_voids (element_size s)) true (λ e. refl) (λ e. e)
+    upgraded-list (tree.Bits bs) formed all l s b g can first h k = listed (tree.Bits bs) formed all (one_less l) s b g can first h k (levels_asked l == 0) (reads_bits (element_size s)) false (no-bits-read s can) (λ e. e)
+    upgraded-list (tree.Numbers w bytes) formed all l s b g can first h k = listed (tree.Numbers w bytes) formed all (one_less l) s b g can first h k (levels_asked l == 0) (reads_numbers (element_size s) w) true (λ e. refl) (λ e. e)
+    upgraded-list (tree.Pointers ps) formed all l s b g can first h k = listed (tree.Pointers ps) formed all (one_less l) s b g can first h k (levels_asked l == 0) (reads_pointers (element_size s)) true (λ e. refl) (λ e. e)
+    upgraded-list (tree.Composite d p es) formed all l s b g can first h k = listed (tree.Composite d p es) formed all (one_less l) s b g can first h k (levels_asked l == 0) (reads_structs (element_size s) d p) true (λ e. refl) (λ e. e)
     upgraded-list (tree.FaultLeaf y) formed all l s b g can first h k = λ u. refl
 
     -- ---- trees ----
@@ -296,7 +296,7 @@ module _ (set : Schemas) (pairs : Pairs) where
     plain-list : (x : Tree) (below : Below) → AllBelow (Upgrades set pairs) below → (l : Levels) (s t : SchemaType) → Related true set pairs s t → became_struct s t ≡ false → HasWidths s →
         Sees set pairs (ListType s) (ListType t) (tree_value set x below l (ListType s)) (tree_value set x below l (ListType t))
     plain-list x below all l s t h stays k =
-        sees-moved set pairs (ListType s) (ListType t) _ _ _ _ (ap (λ z. of_read (λ _. elements_value set x below (one_less l) s) (as_list z x (asked l))) (element_size-related true set pairs s t h)) refl (go (as_list (element_size t) x (asked l)))
+        sees-moved set pairs (ListType s) (ListType t) _ _ _ _ (ap (λ z. of_read (λ _. elements_value set x below (one_less l) s) (as_list z x (levels_asked l))) (element_size-related true set pairs s t h)) refl (go (as_list (element_size t) x (levels_asked l)))
       where
         go : (r : Result Tree ErrorKind) → Sees set pairs (ListType s) (ListType t) (of_read (λ _. elements_value set x below (one_less l) s) r) (of_read (λ _. elements_value set x below (one_less l) t) r)
         go (Ok y) u =
@@ -324,7 +324,7 @@ module _ (set : Schemas) (pairs : Pairs) where
         go : (r : Result (List ℕ) ErrorKind) → Sees set pairs DataType DataType (of_read value.Data r) (of_read value.Data r)
         go (Ok bytes) u = refl
         go (Err kind) u = refl
-    tree-sees x formed all l (StructType a i) (StructType b j) h k = go (as_struct x (asked l))
+    tree-sees x formed all l (StructType a i) (StructType b j) h k = go (as_struct x (levels_asked l))
       where
         go : (r : Result StructTree ErrorKind) → Sees set pairs (StructType a i) (StructType b j) (of_read (λ (s : StructTree). value.Struct (record_of set (one_less l) s.bytes (below_of set x).pointers a)) r) (of_read (λ (s : StructTree). value.Struct (record_of set (one_less l) s.bytes (below_of set x).pointers b)) r)
         go (Ok s) u = ap value.Struct (under (one_less l) s.bytes (below_of set x).pointers all.pointers a b h u)
@@ -342,7 +342,7 @@ module _ (set : Schemas) (pairs : Pairs) where
 
     first-sees : (body : Body) → AllReadings There body.pointers → AllReadings (Upgrades set pairs) body.pointers → Upgrades set pairs (first_pointer set body)
     first-sees body there all l s t h k =
-        go (is_there (r l s) && (asked l == 0)) (is_there (r l t) && (asked l == 0)) (ap (λ q. q && (asked l == 0)) (nth-reading There null-there body.pointers there 0 l s t))
+        go (is_there (r l s) && (levels_asked l == 0)) (is_there (r l t) && (levels_asked l == 0)) (ap (λ q. q && (levels_asked l == 0)) (nth-reading There null-there body.pointers there 0 l s t))
       where
         r : Reading
         r = nth_reading body.pointers 0

@@ -5,7 +5,7 @@ use Rattle.capnp_wire.specs.Tree.{Tree, StructTree}
 use Rattle.capnp_wire.specs.Place.{struct_tree}
 use Rattle.capnp_wire.specs.Reading.{refusal}
 use Rattle.capnp_wire.specs.Words.{first_fault}
-use Rattle.capnp_wire.specs.Edits.{rounded}
+use Rattle.capnp_wire.specs.Edits.{rounded_struct}
 use Rattle.capnp_device.specs.declared.error.ErrorKind.{ErrorKind}
 use Rattle.capnp_device.specs.declared.error.ErrorKind.TheVariants.{TypeMismatch, NotAStruct, ListAnyPointerNotSupported, CannotSetAnyPointerFieldToAPrimitiveValue}
 use Rattle.capnp_base.specs.Text.{text_tree}
@@ -15,7 +15,7 @@ use Rattle.capnp_records.specs.Record as value
 use Rattle.capnp_records.specs.Record.{Levels, Endless, Value}
 use Rattle.capnp_records.specs.Reading.{value_of}
 use Rattle.capnp_records.specs.Call.{Source, BoolSource, IntSource, UIntSource, EnumSource, TextSource, DataSource, StructSource, ListSource}
-use Rattle.capnp_records.specs.Step.{Target}
+use Rattle.capnp_records.specs.Step.{StepTarget}
 
 -- ---- copies ----
 
@@ -36,7 +36,7 @@ data_past bytes = nat_lt (2 ^ 29 - 1) (length bytes)
 
 -- the tree of a struct that is copied: its data is rounded up to whole words
 abbrev pub copied_struct : StructTree → Tree
-copied_struct s = struct_tree (rounded s)
+copied_struct s = struct_tree (rounded_struct s)
 
 -- ---- what a set gives ----
 
@@ -80,5 +80,5 @@ given_element set (StructType b g) (StructSource l s from) =
     cond (from == b) (Copies (copied_struct s) false (value_of set (copied_struct s) Endless (StructType b g))) (Fails TypeMismatch)
 given_element set t s = given_slot set t s
 
-abbrev pub given : Schemas → Target → Source → Given
-given set x s = elim x.is_group [ true ↦ given_group x.type s | false ↦ elim x.is_element [ true ↦ given_element set x.type s | false ↦ given_slot set x.type s ] ]
+abbrev pub given_part : Schemas → StepTarget → Source → Given
+given_part set x s = elim x.is_group [ true ↦ given_group x.type s | false ↦ elim x.is_element [ true ↦ given_element set x.type s | false ↦ given_slot set x.type s ] ]

@@ -40,13 +40,13 @@ active_first (Active i v) rest = i ∷ rest
 active_first (Unknown number) rest = rest
 
 -- the plain fields that the source has, by index
-abbrev pub plain_there : List TypedField → Values → ℕ → List ℕ
-plain_there [] vs i = []
-plain_there (f ∷ fs) vs i = cond (not (is_member f.field) && is_there (nth_value vs i)) (i ∷ plain_there fs vs (suc i)) (plain_there fs vs (suc i))
+abbrev pub non_union_there : List TypedField → Values → ℕ → List ℕ
+non_union_there [] vs i = []
+non_union_there (f ∷ fs) vs i = cond (not (is_member f.field) && is_there (nth_value vs i)) (i ∷ non_union_there fs vs (suc i)) (non_union_there fs vs (suc i))
 
 -- the fields of a source that are copied: the active member, then the plain fields that it has
 abbrev pub copied_fields : Schemas → ℕ → Record → List ℕ
-copied_fields set b (Parts vs u) = active_first u (plain_there (fields_of set b) vs 0)
+copied_fields set b (Parts vs u) = active_first u (non_union_there (fields_of set b) vs 0)
 
 -- ---- the copies, one after another ----
 

@@ -16,7 +16,7 @@ use Rattle.capnp_base.specs.Text.{text_tree}
 use Rattle.capnp_records.specs.Laws.{IsFieldAt}
 use Rattle.capnp_records.specs.Step.{is_group_field}
 use Rattle.capnp_records.specs.Writes.Contents.{SourceFits, source_tree}
-use Rattle.capnp_records.specs.Writes.Overlay.{cleared_content, field_names, number_content, switched}
+use Rattle.capnp_records.specs.Writes.Overlay.{cleared_content, field_spots, number_content, switched_struct}
 use Rattle.capnp_records.specs.Writes.Slots.{Content, Bits, At, Fits, Suits, Writes}
 use Rattle.capnp_records.specs.Writes.TreeCopy.{TreeCopiesWithin}
 use Rattle.capnp_records.specs.Writes.TreeEnds.{group_cleared, slot_written}
@@ -105,7 +105,7 @@ ClearedIsActive = (set : Schemas) (b i : ℕ) (s : StructTree) → IsGroupIn set
 -- so it is where the group was set, also where its copy was cut short
 abbrev pub CopiedIsActive : Type 0
 CopiedIsActive = (set : Schemas) (b i n : ℕ) (s : StructTree) → IsGroupIn set b i s → (m : Levels) (source : StructTree) (refused : Option ErrorKind) (s' : StructTree) →
-    TreeCopiesWithin n set m source (struct_number (field_at set b i).type) (switched (node_of set b) (field_at set b i).field s) refused s' →
+    TreeCopiesWithin n set m source (struct_number (field_at set b i).type) (switched_struct (node_of set b) (field_at set b i).field s) refused s' →
     is_member (field_at set b i).field ≡ true → (l : Levels) → active_member set l s' b ≡ Some i
 
 -- ---- other fields ----
@@ -119,15 +119,15 @@ pub record AreApart (set : Schemas) (b i j : ℕ) : Type 0 where
 
 -- a write of one changes nothing of what the other is read as
 abbrev pub OthersAreRead : Type 0
-OthersAreRead = (set : Schemas) (b i j : ℕ) → AreApart set b i j → (s s' : StructTree) → Writes (field_names set b (field_at set b i)) s s' → (l : Levels) →
+OthersAreRead = (set : Schemas) (b i j : ℕ) → AreApart set b i j → (s s' : StructTree) → Writes (field_spots set b (field_at set b i)) s s' → (l : Levels) →
     field_got set l s' (field_at set b j) ≡ field_got set l s (field_at set b j)
 
 -- nor of whether it is there
 abbrev pub OthersAreThere : Type 0
-OthersAreThere = (set : Schemas) (b i j : ℕ) → AreApart set b i j → (s s' : StructTree) → Writes (field_names set b (field_at set b i)) s s' → (l : Levels) →
+OthersAreThere = (set : Schemas) (b i j : ℕ) → AreApart set b i j → (s s' : StructTree) → Writes (field_spots set b (field_at set b i)) s s' → (l : Levels) →
     has_of (struct_record set l s' b) (field_at set b j).field j ≡ has_of (struct_record set l s b) (field_at set b j).field j
 
 -- and a write of a plain field leaves the active member
-abbrev pub PlainKeepsActive : Type 0
-PlainKeepsActive = (set : Schemas) (b i : ℕ) → IsFieldAt set b i → is_member (field_at set b i).field ≡ false →
-    (s s' : StructTree) → Writes (field_names set b (field_at set b i)) s s' → (l : Levels) → active_member set l s' b ≡ active_member set l s b
+abbrev pub NonUnionKeepsActive : Type 0
+NonUnionKeepsActive = (set : Schemas) (b i : ℕ) → IsFieldAt set b i → is_member (field_at set b i).field ≡ false →
+    (s s' : StructTree) → Writes (field_spots set b (field_at set b i)) s s' → (l : Levels) → active_member set l s' b ≡ active_member set l s b

@@ -7,7 +7,7 @@ use Rattle.capnp_records.specs.Record as value
 use Rattle.capnp_records.specs.Record.{Value, Record}
 use Rattle.capnp_records.specs.Part.{which_of}
 use Rattle.capnp_records.specs.Call.{PathStep, Op, Which, Call, Reply, Member}
-use Rattle.capnp_records.specs.Step.{target_at, IsRefused, Walks}
+use Rattle.capnp_records.specs.Step.{step_target, IsRefused, Walks}
 use Rattle.capnp_records.specs.Operation.{DoesAt}
 
 -- which asks the struct or group at the path's end, and does not look at the last step
@@ -19,7 +19,7 @@ Asks v reply new = IsRefused NotAContainer reply v new
 -- what a call does at its path's end
 abbrev pub Ends : Schemas → PathStep → Op → SchemaType → Value → Reply → Value → Type 0
 Ends set last Which t old reply new = Asks old reply new
-Ends set last op t old reply new = DoesAt set op (target_at set t old last) old reply new
+Ends set last op t old reply new = DoesAt set op (step_target set t old last) old reply new
 
 -- the type of a root under a brand
 abbrev pub root_type : Schemas → ℕ → SchemaType

@@ -1,6 +1,6 @@
 //! What holds of records, of the machine of records, and of writes on trees.
 ghost use Rattle.capnp_records.specs.Laws.{DefaultPartsStand, ExtensionChangesNothing, FirstMemberIsActive, FormedLaw, GroupClearStaysInside, GroupCopyStaysInside, GroupIsCleared, GroupIsCopied, GroupPrintLaw, OverlayLaw, PartDependsOnFootprint, PrintLaw, ProjectionLaw, RoundingChangesNothing, SlotIsWritten, SlotWriteStaysInside, UpgradeLaw, ValuePrintLaw, WriteReplacesOnePart};
-ghost use Rattle.capnp_records.specs.ReadBack.{ClearIsRead, ClearedIsActive, ContentIsRead, CopiedIsActive, CopyIsRead, DataIsRead, GroupStartsAtFirst, NumberIsRead, OthersAreRead, OthersAreThere, PlainKeepsActive, TextIsRead, WrittenIsActive};
+ghost use Rattle.capnp_records.specs.ReadBack.{ClearIsRead, ClearedIsActive, ContentIsRead, CopiedIsActive, CopyIsRead, DataIsRead, GroupStartsAtFirst, NumberIsRead, OthersAreRead, OthersAreThere, NonUnionKeepsActive, TextIsRead, WrittenIsActive};
 
 use capnp_wire::laws::elements_stand_first;
 
@@ -120,5 +120,5 @@ pub fn groups_are_active()
 pub fn other_fields_are_read()
     ensures read { OthersAreRead }
     ensures there { OthersAreThere }
-    ensures active { PlainKeepsActive }
+    ensures active { NonUnionKeepsActive }
 {}

@@ -17,8 +17,8 @@ use Rattle.capnp_dynamic_readers.specs.Handles.{reader_of, schema_of}
 use Rattle.capnp_dynamic_readers.specs.Reads.{handed_out}
 use Rattle.capnp_dynamic_readers.specs.Seen.{record_seen}
 use Rattle.capnp_dynamic_readers.specs.declared.dynamic_struct.Reader.{Reader as StructHandle}
-use Rattle.capnp_request.specs.Handles.{IsActive, IsAlwaysRead, IsRecord, is_always_read, is_whole}
-use Rattle.capnp_request.specs.Parts.{read_at}
+use Rattle.capnp_request.specs.Handles.{IsRequestFieldActive, IsAlwaysRead, IsRequestRecord, is_always_read, is_whole}
+use Rattle.capnp_request.specs.Parts.{request_read_at}
 use Rattle.capnp_request.proofs.PartsSeen.{seen_part}
 
 -- what stands at an untyped pointer, or nothing
@@ -68,7 +68,7 @@ never_by set l bytes ps group d (Slot offset default) (StructType number generic
 never_by set l bytes ps group d (Slot offset default) (ListType element) kind h e = cc
 never_by set l bytes ps group d (Slot offset default) AnyPointerType kind h e = untyped_read set d (nth_reading (values_of set ps) offset l AnyPointerType) kind (untyped_pointer set ps offset l) e
 
-pub never : (s : StructHandle) (b i : ℕ) (kind : ErrorKind) → IsRecord b s → i < length (fields_of request_set b) → IsActive b i s → IsAlwaysRead b i → value.Fault kind ≡ read_at b i (record_seen s) → ⊥
+pub never : (s : StructHandle) (b i : ℕ) (kind : ErrorKind) → IsRequestRecord b s → i < length (fields_of request_set b) → IsRequestFieldActive b i s → IsAlwaysRead b i → value.Fault kind ≡ request_read_at b i (record_seen s) → ⊥
 never s b i kind record_is inside active always e =
     let set : Schemas = set_of (schema_of s) in
     let n : ℕ = number_of (schema_of s) in

@@ -2,7 +2,7 @@
 use Rattle.std.proofs.Common.{ℕ, ◌+◌, ◌-◌, ◌^◌, ◌<◌, ◌≤◌, ◌≡◌, ◌∙◌, zero, suc, min, arith, ap, refl, subst, sym, ◌==◌, ◌&&◌, Bool, true, false, List, [], ◌∷◌, map}
 use Rattle.std.proofs.lemmas.Bool.Decides.{nat_tests}
 use Rattle.std.specs.Cmp.Lexicographic.{pointwise}
-use Rattle.capnp_base.specs.Types.{kind, list_type, schema_number, base_variant, variant_by, variant_of}
+use Rattle.capnp_base.specs.Types.{variant_kind, list_type, schema_number, base_variant, variant_by, variant_of}
 use Rattle.capnp_base.specs.declared.introspect.TypeVariant.{TypeVariant}
 use Rattle.capnp_base.specs.declared.introspect.TypeVariant.TheVariants as variant
 use Rattle.capnp_base.specs.declared.introspect.«Type».{«Type» as TypeHandle}
@@ -12,14 +12,14 @@ use Rattle.capnp_base.specs.contracts.introspect.BaseTypePartialEq.TheImpl as ba
 use Rattle.capnp_base.specs.contracts.introspect.TypePartialEq.TheImpl as type_eq
 use Rattle.capnp_schema.specs.Types.{ListType, lists_of, seen_base, seen_type}
 use Rattle.capnp_request.specs.Bindings.{bounds, seen_bound}
-use Rattle.capnp_request.specs.Types.{innermost, kind_number, lists_in, named_number, same_bound, same_scope, same_type, same_types}
+use Rattle.capnp_request.specs.Types.{innermost_type, kind_number, lists_in, named_entry, same_bound, same_scope, same_type, same_types}
 use Rattle.capnp_request.specs.contracts.entries.BoundNodePartialEq.TheImpl as node_eq
 use Rattle.capnp_request.specs.contracts.entries.BoundScopePartialEq.TheImpl as scope_eq
 use Rattle.capnp_request.specs.declared.entries.BoundNode.{BoundNode}
 use Rattle.capnp_request.specs.declared.entries.BoundScope.{BoundScope}
 
 -- what is inside the lists of a type is no list
-bare : (b : BaseType) → (lists_in (seen_base b) ≡ 0) × (innermost (seen_base b) ≡ seen_base b) × (kind_number (seen_base b) ≡ kind (base_variant b)) × (named_number (seen_base b) ≡ schema_number (base_variant b))
+bare : (b : BaseType) → (lists_in (seen_base b) ≡ 0) × (innermost_type (seen_base b) ≡ seen_base b) × (kind_number (seen_base b) ≡ variant_kind (base_variant b)) × (named_entry (seen_base b) ≡ schema_number (base_variant b))
 bare base.Void = (refl, refl, refl, refl)
 bare base.Bool = (refl, refl, refl, refl)
 bare base.Int8 = (refl, refl, refl, refl)
@@ -43,15 +43,15 @@ depth_by b (suc n) = ap (λ k. suc k) (depth_by b n)
 pub depth_of : (t : TypeHandle) → lists_in (seen_type t) ≡ t.list_count
 depth_of t = depth_by t.base t.list_count
 
-inside_by : (b : BaseType) (n : ℕ) → innermost (lists_of n (seen_base b)) ≡ seen_base b
+inside_by : (b : BaseType) (n : ℕ) → innermost_type (lists_of n (seen_base b)) ≡ seen_base b
 inside_by b zero = (bare b).1
 inside_by b (suc n) = inside_by b n
 
-inside_of : (t : TypeHandle) → innermost (seen_type t) ≡ seen_base t.base
+inside_of : (t : TypeHandle) → innermost_type (seen_type t) ≡ seen_base t.base
 inside_of t = inside_by t.base t.list_count
 
 -- what is inside the lists is compared by its kind and number
-base_same : (b c : BaseType) → ((kind (base_variant b) == kind (base_variant c)) && (schema_number (base_variant b) == schema_number (base_variant c))) ≡ (base_eq.ghosts).eq b c
+base_same : (b c : BaseType) → ((variant_kind (base_variant b) == variant_kind (base_variant c)) && (schema_number (base_variant b) == schema_number (base_variant c))) ≡ (base_eq.ghosts).eq b c
 base_same base.Void base.Void = refl
 base_same base.Void c = refl
 base_same base.Bool base.Bool = refl
@@ -85,8 +85,8 @@ base_same (base.Enum s) c = refl
 
 type_same : (t u : TypeHandle) → same_type (seen_type t) (seen_type u) ≡ (type_eq.ghosts).eq t u
 type_same t u =
-    let k : (v : TypeHandle) → kind_number (innermost (seen_type v)) ≡ kind (base_variant v.base) = λ v. ap kind_number (inside_of v) ∙ (bare v.base).2 in
-    let n : (v : TypeHandle) → named_number (innermost (seen_type v)) ≡ schema_number (base_variant v.base) = λ v. ap named_number (inside_of v) ∙ (bare v.base).3 in
+    let k : (v : TypeHandle) → kind_number (innermost_type (seen_type v)) ≡ variant_kind (base_variant v.base) = λ v. ap kind_number (inside_of v) ∙ (bare v.base).2 in
+    let n : (v : TypeHandle) → named_entry (innermost_type (seen_type v)) ≡ schema_number (base_variant v.base) = λ v. ap named_entry (inside_of v) ∙ (bare v.base).3 in
     (λ i. ((k t i == k u i) && (n t i == n u i)) && (depth_of t i == depth_of u i))
     ∙ ap (λ q. q && (t.list_count == u.list_count)) (base_same t.base u.base)
 
@@ -117,7 +117,7 @@ same_numbers : (n m : ℕ) → ((n == n) && (m == m)) ≡ true
 same_numbers n m = grind (arith, nat_tests)
 
 same_base : (b : BaseType) → (base_eq.ghosts).eq b b ≡ true
-same_base b = sym (base_same b b) ∙ same_numbers (kind (base_variant b)) (schema_number (base_variant b))
+same_base b = sym (base_same b b) ∙ same_numbers (variant_kind (base_variant b)) (schema_number (base_variant b))
 
 -- what is inside a list of a type: the type, as long as its lists are counted
 abbrev inside_list : TypeHandle → TypeHandle

@@ -11,50 +11,50 @@ use Rattle.capnp_schema.specs.Schema.{Annotation, Enum, Enumerant, seen_annotati
 use Rattle.capnp_schema.specs.declared.record.EnumRecord.{EnumRecord}
 use Rattle.capnp_schema.specs.declared.record.EnumerantRecord.{EnumerantRecord}
 use Rattle.capnp_schema.specs.Types.{SchemaType, seen_type}
-use Rattle.capnp_request.specs.Conversion.{annotations_of, name_of}
+use Rattle.capnp_request.specs.Conversion.{annotations_of, converted_name}
 use Rattle.capnp_request.specs.Order.{all_enumerants, at_enum, enum_made, enumerant_of, firsts, seconds}
-use Rattle.capnp_request.specs.Parts.{read_at}
-use Rattle.capnp_request.specs.Reading.{annotations_in, enumerant_said, text_in}
+use Rattle.capnp_request.specs.Parts.{request_read_at}
+use Rattle.capnp_request.specs.Reading.{annotation_terms_in, enumerant_said, text_term}
 use Rattle.capnp_request.specs.StructsSeen.{enumerant_records, enumerant_types, seen_converted_enumerant, seen_enumerants}
 use Rattle.capnp_request.specs.Terms.{AnnotationNode, EnumNode, EnumerantTerm, NodeKind, OtherNode, Said, SchemaNode, StructNode}
 use Rattle.capnp_request.specs.Types.{is_enum}
-use Rattle.capnp_request.specs.Work.{◌>>=◌, Named, Work, continued, each_read, given, said}
+use Rattle.capnp_request.specs.Work.{◌>>=◌, Named, Work, work_continued, each_read, work_of, work_said}
 use Rattle.capnp_request.specs.declared.enums.ConvertedEnumerant.{ConvertedEnumerant}
 use Rattle.capnp_request.proofs.Works.{then_err, then_ok}
 
 -- ---- an enumerant ----
 
-pub name_on : (r : Record) (v : Value) → v ≡ read_at 11 0 r → (enumerant_said r).name ≡ text_in v
+pub name_on : (r : Record) (v : Value) → v ≡ request_read_at 11 0 r → (enumerant_said r).name ≡ text_term v
 unfolding enumerant_said
-name_on r v e = ap text_in (sym e)
+name_on r v e = ap text_term (sym e)
 
-pub annotations_on : (r : Record) → (enumerant_said r).annotations ≡ annotations_in (read_at 11 1 r)
+pub annotations_on : (r : Record) → (enumerant_said r).annotations ≡ annotation_terms_in (request_read_at 11 1 r)
 unfolding enumerant_said
 annotations_on r = refl
 
 module _ (nodes : List SchemaNode) (strict : Bool) (x : EnumerantTerm) (s : Named) where
   abbrev with_own : List ℕ → List (Annotation × SchemaType) → Work (Enumerant × List SchemaType)
-  with_own name annotations = given (record { name = name; annotations = firsts annotations }, seconds annotations)
+  with_own name annotations = work_of (record { name = name; annotations = firsts annotations }, seconds annotations)
 
   abbrev with_name : List ℕ → Work (Enumerant × List SchemaType)
   with_name name = annotations_of nodes strict [] x.annotations >>= with_own name
 
   abbrev with_bytes : List ℕ → Work (Enumerant × List SchemaType)
-  with_bytes bytes = said (name_of bytes) >>= with_name
+  with_bytes bytes = work_said (converted_name bytes) >>= with_name
 
   pub enumerant_unread : (kind : ErrorKind) → x.name ≡ Err kind → enumerant_of nodes strict x s ≡ Err kind
-  enumerant_unread kind e = ap (λ r. continued with_bytes (said r s)) e
+  enumerant_unread kind e = ap (λ r. work_continued with_bytes (work_said r s)) e
 
   module _ (bytes : List ℕ) (read : x.name ≡ Ok bytes) where
     opened : enumerant_of nodes strict x s ≡ with_bytes bytes s
-    opened = ap (λ r. continued with_bytes (said r s)) read
+    opened = ap (λ r. work_continued with_bytes (work_said r s)) read
 
-    pub enumerant_unnamed : (kind : ErrorKind) → name_of bytes ≡ Err kind → enumerant_of nodes strict x s ≡ Err kind
-    enumerant_unnamed kind e = opened ∙ ap (λ r. continued with_name (said r s)) e
+    pub enumerant_unnamed : (kind : ErrorKind) → converted_name bytes ≡ Err kind → enumerant_of nodes strict x s ≡ Err kind
+    enumerant_unnamed kind e = opened ∙ ap (λ r. work_continued with_name (work_said r s)) e
 
-    module _ (name : List ℕ) (named : name_of bytes ≡ Ok name) where
+    module _ (name : List ℕ) (named : converted_name bytes ≡ Ok name) where
       behind : enumerant_of nodes strict x s ≡ with_name name s
-      behind = opened ∙ ap (λ r. continued with_name (said r s)) named
+      behind = opened ∙ ap (λ r. work_continued with_name (work_said r s)) named
 
       pub enumerant_refused : (kind : ErrorKind) → annotations_of nodes strict [] x.annotations s ≡ Err kind → enumerant_of nodes strict x s ≡ Err kind
       enumerant_refused kind e = behind ∙ then_err (annotations_of nodes strict [] x.annotations) (with_own name) s kind e
@@ -82,7 +82,7 @@ module _ (nodes : List SchemaNode) (strict : Bool) (id : ℕ) (name : List ℕ) 
   }
 
   abbrev from_own : List (Enumerant × List SchemaType) → List (Annotation × SchemaType) → Work Enum
-  from_own children own = given (made children own)
+  from_own children own = work_of (made children own)
 
   abbrev from_children : List (Enumerant × List SchemaType) → Work Enum
   from_children children = annotations_of nodes strict [] n.annotations >>= from_own children

@@ -12,15 +12,15 @@ use Rattle.capnp_records.specs.Part.{which_of}
 use Rattle.capnp_records.specs.Record as value
 use Rattle.capnp_records.specs.Record.{Record}
 use Rattle.capnp_records.specs.Record.{Value as RecordValue}
-use Rattle.capnp_request.specs.Conversion.{Converted, Note, annotations_of, field_of, is_untyped, is_untyped_default, kind_of, name_of, notes_of}
+use Rattle.capnp_request.specs.Conversion.{Converted, Note, annotations_of, field_of, is_untyped, is_untyped_default, kind_of, converted_name, notes_of}
 use Rattle.capnp_request.specs.ConvertedSeen.{typed_annotations}
-use Rattle.capnp_request.specs.Parts.{read_at}
-use Rattle.capnp_request.specs.Reading.{annotations_in, by_member, field_kinds, field_said, group_said, in_struct, number_in, slot_said, text_in, type_levels, type_said, value_in, value_said, whole_type}
+use Rattle.capnp_request.specs.Parts.{request_read_at}
+use Rattle.capnp_request.specs.Reading.{annotation_terms_in, by_member, field_kinds, field_said, group_said, in_struct, number_in, slot_said, text_term, type_levels, type_said, value_in, value_said, whole_type}
 use Rattle.capnp_request.specs.Scopes.{node_named}
 use Rattle.capnp_request.specs.Terms.{AnnotationTerm, FieldKindTerm, GroupTerm, Said, SchemaNode, SlotTerm, TypeTerm, UnreadField, UnreadType, UnreadValue, ValueTerm}
-use Rattle.capnp_request.specs.Types.{add_entry, is_of_kind, is_struct, type_of}
-use Rattle.capnp_request.specs.Values.{value_of}
-use Rattle.capnp_request.specs.Work.{◌>>=◌, Bound, Entry, GroupOf, Named, Numbered, Seen, Work, continued, given, named, nothing_seen, said, seen_in, where_so}
+use Rattle.capnp_request.specs.Types.{add_entry, is_of_kind, is_struct_kind, type_of}
+use Rattle.capnp_request.specs.Values.{value_stated}
+use Rattle.capnp_request.specs.Work.{◌>>=◌, Bound, Entry, GroupOf, Named, Numbered, Seen, Work, work_continued, work_of, named_with, nothing_seen, work_said, seen_in, where_so}
 use Rattle.capnp_request.proofs.AnnotationsDone.{seen_done, seen_refused}
 
 module _ (nodes : List SchemaNode) (strict : Bool) (inside : List Bound) (n i : ℕ) where
@@ -29,78 +29,78 @@ module _ (nodes : List SchemaNode) (strict : Bool) (inside : List Bound) (n i : 
 
   -- ---- slots ----
 
-  module _ (v : RecordValue) (s : Record) (offset : ℕ) (there : value.Struct s ≡ v) (number : value.Number (pos offset) ≡ read_at 9 0 s) (m : Numbered) where
+  module _ (v : RecordValue) (s : Record) (offset : ℕ) (there : value.Struct s ≡ v) (number : value.Number (pos offset) ≡ request_read_at 9 0 s) (m : Numbered) where
     abbrev start : Named
-    start = named m nothing_seen
+    start = named_with m nothing_seen
 
     abbrev with_default : ValueTerm → SchemaType × Seen → Work (FieldKind × SchemaType × List Note)
     with_default default typed =
-        said (value_of default) >>= (λ d. given (Slot offset d, typed.0, notes_of n i typed.1 (is_untyped typed.0 && is_untyped_default default)))
+        work_said (value_stated default) >>= (λ d. work_of (Slot offset d, typed.0, notes_of n i typed.1 (is_untyped typed.0 && is_untyped_default default)))
 
-    slot_by : (t : TypeTerm) → in_struct UnreadType whole_type (read_at 9 1 s) ≡ t → kinds (in_struct UnreadField slot_said v) start ≡ continued (with_default (value_in (read_at 9 2 s))) (seen_in (type_of nodes strict inside t) start)
+    slot_by : (t : TypeTerm) → in_struct UnreadType whole_type (request_read_at 9 1 s) ≡ t → kinds (in_struct UnreadField slot_said v) start ≡ work_continued (with_default (value_in (request_read_at 9 2 s))) (seen_in (type_of nodes strict inside t) start)
     unfolding slot_said
     slot_by t e =
         ap (λ k. kinds (in_struct UnreadField slot_said k) start) (sym there)
-        ∙ (ap (λ o. kinds (SlotTerm (number_in o) (in_struct UnreadType whole_type (read_at 9 1 s)) (value_in (read_at 9 2 s))) start) (sym number)
-        ∙ ap (λ k. continued (with_default (value_in (read_at 9 2 s))) (seen_in (type_of nodes strict inside k) start)) e)
+        ∙ (ap (λ o. kinds (SlotTerm (number_in o) (in_struct UnreadType whole_type (request_read_at 9 1 s)) (value_in (request_read_at 9 2 s))) start) (sym number)
+        ∙ ap (λ k. work_continued (with_default (value_in (request_read_at 9 2 s))) (seen_in (type_of nodes strict inside k) start)) e)
 
-    pub slot_unread : (kind : ErrorKind) → value.Fault kind ≡ read_at 9 1 s → kinds (in_struct UnreadField slot_said v) start ≡ Err kind
+    pub slot_unread : (kind : ErrorKind) → value.Fault kind ≡ request_read_at 9 1 s → kinds (in_struct UnreadField slot_said v) start ≡ Err kind
     slot_unread kind e = slot_by (UnreadType kind) (ap (in_struct UnreadType whole_type) (sym e))
 
-    module _ (term : Record) (typed : value.Struct term ≡ read_at 9 1 s) (levels : ℕ) (deep : levels ≡ type_levels) where
-      slot_typed : kinds (in_struct UnreadField slot_said v) start ≡ continued (with_default (value_in (read_at 9 2 s))) (seen_in (type_of nodes strict inside (type_said levels term)) start)
+    module _ (term : Record) (typed : value.Struct term ≡ request_read_at 9 1 s) (levels : ℕ) (deep : levels ≡ type_levels) where
+      slot_typed : kinds (in_struct UnreadField slot_said v) start ≡ work_continued (with_default (value_in (request_read_at 9 2 s))) (seen_in (type_of nodes strict inside (type_said levels term)) start)
       slot_typed = slot_by (type_said levels term) (ap (in_struct UnreadType whole_type) (sym typed) ∙ ap (λ l. type_said l term) (sym deep))
 
       pub slot_refused : (kind : ErrorKind) → type_of nodes strict inside (type_said levels term) start ≡ Err kind → kinds (in_struct UnreadField slot_said v) start ≡ Err kind
-      slot_refused kind e = slot_typed ∙ ap (continued (with_default (value_in (read_at 9 2 s)))) (seen_refused (type_of nodes strict inside (type_said levels term)) m kind e)
+      slot_refused kind e = slot_typed ∙ ap (work_continued (with_default (value_in (request_read_at 9 2 s)))) (seen_refused (type_of nodes strict inside (type_said levels term)) m kind e)
 
-      module _ (z : SchemaType) (o : Numbered) (seen : Seen) (done : type_of nodes strict inside (type_said levels term) start ≡ Ok (z, named o seen)) where
-        slot_valued : (d : ValueTerm) → value_in (read_at 9 2 s) ≡ d → kinds (in_struct UnreadField slot_said v) start ≡ with_default d (z, seen) (named o nothing_seen)
+      module _ (z : SchemaType) (o : Numbered) (seen : Seen) (done : type_of nodes strict inside (type_said levels term) start ≡ Ok (z, named_with o seen)) where
+        slot_valued : (d : ValueTerm) → value_in (request_read_at 9 2 s) ≡ d → kinds (in_struct UnreadField slot_said v) start ≡ with_default d (z, seen) (named_with o nothing_seen)
         slot_valued d e =
             slot_typed
-            ∙ (ap (continued (with_default (value_in (read_at 9 2 s)))) (seen_done (type_of nodes strict inside (type_said levels term)) m z o seen done)
-            ∙ ap (λ x. with_default x (z, seen) (named o nothing_seen)) e)
+            ∙ (ap (work_continued (with_default (value_in (request_read_at 9 2 s)))) (seen_done (type_of nodes strict inside (type_said levels term)) m z o seen done)
+            ∙ ap (λ x. with_default x (z, seen) (named_with o nothing_seen)) e)
 
-        pub default_unread : (kind : ErrorKind) → value.Fault kind ≡ read_at 9 2 s → kinds (in_struct UnreadField slot_said v) start ≡ Err kind
+        pub default_unread : (kind : ErrorKind) → value.Fault kind ≡ request_read_at 9 2 s → kinds (in_struct UnreadField slot_said v) start ≡ Err kind
         default_unread kind e = slot_valued (UnreadValue kind) (ap value_in (sym e))
 
-        module _ (d : Record) (default : value.Struct d ≡ read_at 9 2 s) where
-          slot_default : kinds (in_struct UnreadField slot_said v) start ≡ with_default (value_said d) (z, seen) (named o nothing_seen)
+        module _ (d : Record) (default : value.Struct d ≡ request_read_at 9 2 s) where
+          slot_default : kinds (in_struct UnreadField slot_said v) start ≡ with_default (value_said d) (z, seen) (named_with o nothing_seen)
           slot_default = slot_valued (value_said d) (ap value_in (sym default))
 
-          pub default_refused : (kind : ErrorKind) → value_of (value_said d) ≡ Err kind → kinds (in_struct UnreadField slot_said v) start ≡ Err kind
-          default_refused kind e = slot_default ∙ ap (λ x. (said x >>= (λ y. given (Slot offset y, z, notes_of n i seen (is_untyped z && is_untyped_default (value_said d))))) (named o nothing_seen)) e
+          pub default_refused : (kind : ErrorKind) → value_stated (value_said d) ≡ Err kind → kinds (in_struct UnreadField slot_said v) start ≡ Err kind
+          default_refused kind e = slot_default ∙ ap (λ x. (work_said x >>= (λ y. work_of (Slot offset y, z, notes_of n i seen (is_untyped z && is_untyped_default (value_said d))))) (named_with o nothing_seen)) e
 
-          pub slot_done : (x : Value) (q : Bool) → value_of (value_said d) ≡ Ok x → q ≡ (is_untyped z && is_untyped_default (value_said d)) → kinds (in_struct UnreadField slot_said v) start ≡ Ok ((Slot offset x, z, notes_of n i seen q), named o nothing_seen)
+          pub slot_done : (x : Value) (q : Bool) → value_stated (value_said d) ≡ Ok x → q ≡ (is_untyped z && is_untyped_default (value_said d)) → kinds (in_struct UnreadField slot_said v) start ≡ Ok ((Slot offset x, z, notes_of n i seen q), named_with o nothing_seen)
           slot_done x q e same =
               slot_default
-              ∙ (ap (λ x. (said x >>= (λ y. given (Slot offset y, z, notes_of n i seen (is_untyped z && is_untyped_default (value_said d))))) (named o nothing_seen)) e
-              ∙ ap (λ b. Ok ((Slot offset x, z, notes_of n i seen b), named o nothing_seen)) (sym same))
+              ∙ (ap (λ x. (work_said x >>= (λ y. work_of (Slot offset y, z, notes_of n i seen (is_untyped z && is_untyped_default (value_said d))))) (named_with o nothing_seen)) e
+              ∙ ap (λ b. Ok ((Slot offset x, z, notes_of n i seen b), named_with o nothing_seen)) (sym same))
 
   -- ---- groups ----
 
-  module _ (v : RecordValue) (g : Record) (id : ℕ) (there : value.Struct g ≡ v) (number : value.Number (pos id) ≡ read_at 10 0 g) (s : Named) where
+  module _ (v : RecordValue) (g : Record) (id : ℕ) (there : value.Struct g ≡ v) (number : value.Number (pos id) ≡ request_read_at 10 0 g) (s : Named) where
     abbrev group : Entry
     group = record { node = id; bound = inside; place = GroupOf n i }
 
     abbrev numbered_group : ℕ → Work (FieldKind × SchemaType × List Note)
-    numbered_group number = given (Group number, StructType number number, [])
+    numbered_group number = work_of (Group number, StructType number number, [])
 
-    group_by : (q : Bool) → is_of_kind is_struct (node_named nodes id) ≡ q → kinds (in_struct UnreadField group_said v) s ≡ continued numbered_group (where_so q NodeNotFound (add_entry group s))
+    group_by : (q : Bool) → is_of_kind is_struct_kind (node_named nodes id) ≡ q → kinds (in_struct UnreadField group_said v) s ≡ work_continued numbered_group (where_so q NodeNotFound (add_entry group s))
     group_by q e =
         ap (λ k. kinds (in_struct UnreadField group_said k) s) (sym there)
         ∙ (ap (λ o. kinds (GroupTerm (number_in o)) s) (sym number)
-        ∙ ap (λ b. continued numbered_group (where_so b NodeNotFound (add_entry group s))) e)
+        ∙ ap (λ b. work_continued numbered_group (where_so b NodeNotFound (add_entry group s))) e)
 
-    pub group_missing : is_of_kind is_struct (node_named nodes id) ≡ false → kinds (in_struct UnreadField group_said v) s ≡ Err NodeNotFound
+    pub group_missing : is_of_kind is_struct_kind (node_named nodes id) ≡ false → kinds (in_struct UnreadField group_said v) s ≡ Err NodeNotFound
     group_missing e = group_by false e
 
-    module _ (found : is_of_kind is_struct (node_named nodes id) ≡ true) where
+    module _ (found : is_of_kind is_struct_kind (node_named nodes id) ≡ true) where
       pub group_refused : (kind : ErrorKind) → add_entry group s ≡ Err kind → kinds (in_struct UnreadField group_said v) s ≡ Err kind
-      group_refused kind e = group_by true found ∙ ap (continued numbered_group) e
+      group_refused kind e = group_by true found ∙ ap (work_continued numbered_group) e
 
       pub group_done : (k : ℕ) (t : Named) (z : SchemaType) → add_entry group s ≡ Ok (k, t) → z ≡ StructType k k → kinds (in_struct UnreadField group_said v) s ≡ Ok ((Group k, z, []), t)
-      group_done k t z e same = group_by true found ∙ (ap (continued numbered_group) e ∙ ap (λ y. Ok ((Group k, y, []), t)) (sym same))
+      group_done k t z e same = group_by true found ∙ (ap (work_continued numbered_group) e ∙ ap (λ y. Ok ((Group k, y, []), t)) (sym same))
 
   -- ---- fields ----
 
@@ -112,16 +112,16 @@ module _ (nodes : List SchemaNode) (strict : Bool) (inside : List Bound) (n i : 
     pub kind_none : which_of r ≡ None → kinds (field_said r).kind s ≡ Err UnknownKind
     kind_none which = ap (λ k. kinds k s) (kind_by None which)
 
-    pub is_slot : (m : ℕ) → which_of r ≡ Some m → m ≡ 3 → (field_said r).kind ≡ in_struct UnreadField slot_said (read_at 8 3 r)
-    is_slot m which is = kind_by (Some m) which ∙ ap (λ j. unwrap_or (slice_get field_kinds j) (λ (v : RecordValue). UnreadField UnknownKind) (read_at 8 j r)) is
+    pub is_slot : (m : ℕ) → which_of r ≡ Some m → m ≡ 3 → (field_said r).kind ≡ in_struct UnreadField slot_said (request_read_at 8 3 r)
+    is_slot m which is = kind_by (Some m) which ∙ ap (λ j. unwrap_or (slice_get field_kinds j) (λ (v : RecordValue). UnreadField UnknownKind) (request_read_at 8 j r)) is
 
-    pub is_group : (m : ℕ) → which_of r ≡ Some m → m ≡ 4 → (field_said r).kind ≡ in_struct UnreadField group_said (read_at 8 4 r)
-    is_group m which is = kind_by (Some m) which ∙ ap (λ j. unwrap_or (slice_get field_kinds j) (λ (v : RecordValue). UnreadField UnknownKind) (read_at 8 j r)) is
+    pub is_group : (m : ℕ) → which_of r ≡ Some m → m ≡ 4 → (field_said r).kind ≡ in_struct UnreadField group_said (request_read_at 8 4 r)
+    is_group m which is = kind_by (Some m) which ∙ ap (λ j. unwrap_or (slice_get field_kinds j) (λ (v : RecordValue). UnreadField UnknownKind) (request_read_at 8 j r)) is
 
     pub kind_other : (m : ℕ) → which_of r ≡ Some m → (m ≡ 3 → ⊥) → (m ≡ 4 → ⊥) → kinds (field_said r).kind s ≡ Err UnknownKind
     kind_other m which three four = ap (λ k. kinds k s) (kind_by (Some m) which) ∙ go m three four
       where
-        go : (j : ℕ) → (j ≡ 3 → ⊥) → (j ≡ 4 → ⊥) → kinds (unwrap_or (slice_get field_kinds j) (λ (v : RecordValue). UnreadField UnknownKind) (read_at 8 m r)) s ≡ Err UnknownKind
+        go : (j : ℕ) → (j ≡ 3 → ⊥) → (j ≡ 4 → ⊥) → kinds (unwrap_or (slice_get field_kinds j) (λ (v : RecordValue). UnreadField UnknownKind) (request_read_at 8 m r)) s ≡ Err UnknownKind
         go zero three four = refl
         go (suc zero) three four = refl
         go (suc (suc zero)) three four = refl
@@ -138,41 +138,41 @@ module _ (nodes : List SchemaNode) (strict : Bool) (inside : List Bound) (n i : 
     }
 
     abbrev rest : List ℕ → ℕ → FieldKindTerm → Said (List (Said AnnotationTerm)) → Work Converted
-    rest name discriminant k annotations = kinds k >>= (λ kind. annotations_of nodes strict inside annotations >>= (λ annotations. given (with_annotations name discriminant kind annotations)))
+    rest name discriminant k annotations = kinds k >>= (λ kind. annotations_of nodes strict inside annotations >>= (λ annotations. work_of (with_annotations name discriminant kind annotations)))
 
     abbrev named_rest : ℕ → FieldKindTerm → Said (List (Said AnnotationTerm)) → Said (List ℕ) → Work Converted
-    named_rest discriminant k annotations x = said x >>= (λ bytes. said (name_of bytes) >>= (λ name. rest name discriminant k annotations))
+    named_rest discriminant k annotations x = work_said x >>= (λ bytes. work_said (converted_name bytes) >>= (λ name. rest name discriminant k annotations))
 
-    field_by : (x : Said (List ℕ)) → text_in (read_at 8 0 r) ≡ x → field_of nodes strict inside n i (field_said r) s ≡ named_rest (number_in (read_at 8 2 r)) (field_said r).kind (annotations_in (read_at 8 1 r)) x s
+    field_by : (x : Said (List ℕ)) → text_term (request_read_at 8 0 r) ≡ x → field_of nodes strict inside n i (field_said r) s ≡ named_rest (number_in (request_read_at 8 2 r)) (field_said r).kind (annotation_terms_in (request_read_at 8 1 r)) x s
     unfolding field_said
-    field_by x e = ap (λ y. named_rest (number_in (read_at 8 2 r)) (field_said r).kind (annotations_in (read_at 8 1 r)) y s) e
+    field_by x e = ap (λ y. named_rest (number_in (request_read_at 8 2 r)) (field_said r).kind (annotation_terms_in (request_read_at 8 1 r)) y s) e
 
-    pub name_unread : (kind : ErrorKind) → value.Fault kind ≡ read_at 8 0 r → field_of nodes strict inside n i (field_said r) s ≡ Err kind
-    name_unread kind e = field_by (Err kind) (ap text_in (sym e))
+    pub name_unread : (kind : ErrorKind) → value.Fault kind ≡ request_read_at 8 0 r → field_of nodes strict inside n i (field_said r) s ≡ Err kind
+    name_unread kind e = field_by (Err kind) (ap text_term (sym e))
 
-    module _ (bytes : List ℕ) (there : value.Text bytes ≡ read_at 8 0 r) where
-      pub name_refused : (kind : ErrorKind) → name_of bytes ≡ Err kind → field_of nodes strict inside n i (field_said r) s ≡ Err kind
-      name_refused kind e = field_by (Ok bytes) (ap text_in (sym there)) ∙ ap (λ y. (said y >>= (λ name. rest name (number_in (read_at 8 2 r)) (field_said r).kind (annotations_in (read_at 8 1 r)))) s) e
+    module _ (bytes : List ℕ) (there : value.Text bytes ≡ request_read_at 8 0 r) where
+      pub name_refused : (kind : ErrorKind) → converted_name bytes ≡ Err kind → field_of nodes strict inside n i (field_said r) s ≡ Err kind
+      name_refused kind e = field_by (Ok bytes) (ap text_term (sym there)) ∙ ap (λ y. (work_said y >>= (λ name. rest name (number_in (request_read_at 8 2 r)) (field_said r).kind (annotation_terms_in (request_read_at 8 1 r)))) s) e
 
-      module _ (name : List ℕ) (is : name_of bytes ≡ Ok name) (discriminant : ℕ) (number : value.Number (pos discriminant) ≡ read_at 8 2 r) where
-        named_by : field_of nodes strict inside n i (field_said r) s ≡ rest name discriminant (field_said r).kind (annotations_in (read_at 8 1 r)) s
+      module _ (name : List ℕ) (is : converted_name bytes ≡ Ok name) (discriminant : ℕ) (number : value.Number (pos discriminant) ≡ request_read_at 8 2 r) where
+        named_by : field_of nodes strict inside n i (field_said r) s ≡ rest name discriminant (field_said r).kind (annotation_terms_in (request_read_at 8 1 r)) s
         named_by =
-            field_by (Ok bytes) (ap text_in (sym there))
-            ∙ (ap (λ y. (said y >>= (λ name. rest name (number_in (read_at 8 2 r)) (field_said r).kind (annotations_in (read_at 8 1 r)))) s) is
-            ∙ ap (λ d. rest name (number_in d) (field_said r).kind (annotations_in (read_at 8 1 r)) s) (sym number))
+            field_by (Ok bytes) (ap text_term (sym there))
+            ∙ (ap (λ y. (work_said y >>= (λ name. rest name (number_in (request_read_at 8 2 r)) (field_said r).kind (annotation_terms_in (request_read_at 8 1 r)))) s) is
+            ∙ ap (λ d. rest name (number_in d) (field_said r).kind (annotation_terms_in (request_read_at 8 1 r)) s) (sym number))
 
         pub kind_refused : (kind : ErrorKind) → kinds (field_said r).kind s ≡ Err kind → field_of nodes strict inside n i (field_said r) s ≡ Err kind
-        kind_refused kind e = named_by ∙ ap (continued (λ kind. annotations_of nodes strict inside (annotations_in (read_at 8 1 r)) >>= (λ annotations. given (with_annotations name discriminant kind annotations)))) e
+        kind_refused kind e = named_by ∙ ap (work_continued (λ kind. annotations_of nodes strict inside (annotation_terms_in (request_read_at 8 1 r)) >>= (λ annotations. work_of (with_annotations name discriminant kind annotations)))) e
 
         module _ (kind : FieldKind × SchemaType × List Note) (t : Named) (done : kinds (field_said r).kind s ≡ Ok (kind, t)) where
-          kind_done : field_of nodes strict inside n i (field_said r) s ≡ continued (λ annotations. given (with_annotations name discriminant kind annotations)) (annotations_of nodes strict inside (annotations_in (read_at 8 1 r)) t)
-          kind_done = named_by ∙ ap (continued (λ kind. annotations_of nodes strict inside (annotations_in (read_at 8 1 r)) >>= (λ annotations. given (with_annotations name discriminant kind annotations)))) done
+          kind_done : field_of nodes strict inside n i (field_said r) s ≡ work_continued (λ annotations. work_of (with_annotations name discriminant kind annotations)) (annotations_of nodes strict inside (annotation_terms_in (request_read_at 8 1 r)) t)
+          kind_done = named_by ∙ ap (work_continued (λ kind. annotations_of nodes strict inside (annotation_terms_in (request_read_at 8 1 r)) >>= (λ annotations. work_of (with_annotations name discriminant kind annotations)))) done
 
-          pub annotations_refused : (k : ErrorKind) → annotations_of nodes strict inside (annotations_in (read_at 8 1 r)) t ≡ Err k → field_of nodes strict inside n i (field_said r) s ≡ Err k
-          annotations_refused k e = kind_done ∙ ap (continued (λ annotations. given (with_annotations name discriminant kind annotations))) e
+          pub annotations_refused : (k : ErrorKind) → annotations_of nodes strict inside (annotation_terms_in (request_read_at 8 1 r)) t ≡ Err k → field_of nodes strict inside n i (field_said r) s ≡ Err k
+          annotations_refused k e = kind_done ∙ ap (work_continued (λ annotations. work_of (with_annotations name discriminant kind annotations))) e
 
-          pub field_done : (annotations : List (Annotation × SchemaType)) (u : Named) → annotations_of nodes strict inside (annotations_in (read_at 8 1 r)) t ≡ Ok (annotations, u) → field_of nodes strict inside n i (field_said r) s ≡ Ok (with_annotations name discriminant kind annotations, u)
-          field_done annotations u e = kind_done ∙ ap (continued (λ annotations. given (with_annotations name discriminant kind annotations))) e
+          pub field_done : (annotations : List (Annotation × SchemaType)) (u : Named) → annotations_of nodes strict inside (annotation_terms_in (request_read_at 8 1 r)) t ≡ Ok (annotations, u) → field_of nodes strict inside n i (field_said r) s ≡ Ok (with_annotations name discriminant kind annotations, u)
+          field_done annotations u e = kind_done ∙ ap (work_continued (λ annotations. work_of (with_annotations name discriminant kind annotations))) e
 
 -- nothing is noted of a group
 pub nothing_noted : (n i : ℕ) (s : Seen) (d : Bool) → s ≡ nothing_seen → d ≡ false → [] ≡ notes_of n i s d

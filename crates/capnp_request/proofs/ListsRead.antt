@@ -13,8 +13,8 @@ use Rattle.capnp_dynamic_readers.specs.Reads.{element_seen}
 use Rattle.capnp_dynamic_readers.specs.Seen.{list_seen}
 use Rattle.capnp_dynamic_readers.specs.declared.dynamic_list.Reader.{Reader as ListHandle}
 use Rattle.capnp_request.specs.Handles.{IsListOf, element_in, values_left}
-use Rattle.capnp_request.specs.Parts.{element_read, one}
-use Rattle.capnp_request.specs.Reading.{all_said, each_said, in_struct, list_said, value_count, whole_list}
+use Rattle.capnp_request.specs.Parts.{element_read, request_struct}
+use Rattle.capnp_request.specs.Reading.{all_said, each_said, in_struct, list_said, list_value_count, whole_list}
 
 -- how many elements there are
 abbrev pub count_of : ListHandle → ℕ
@@ -35,15 +35,15 @@ pub all_left : (l : ListHandle) → list_seen l ≡ value.Elements (values_left 
 unfolding values_left
 all_left l = let e : count_of l ≡ count_of l - 0 = omega arith in ap (λ n. value.Elements (values_from (element_in l) 0 n)) e
 
-pub element_is : (l : ListHandle) (b i : ℕ) → IsListOf (one b) l → element_read b (element_in l i) ≡ element_seen l i
+pub element_is : (l : ListHandle) (b i : ℕ) → IsListOf (request_struct b) l → element_read b (element_in l i) ≡ element_seen l i
 element_is l b i is =
-    ap (λ (z : Schemas). read_of z VoidValue (one b) (element_in l i)) (sym is.set) ∙ ap (λ (t : SchemaType). read_of (list_set l) VoidValue t (element_in l i)) (sym is.element)
+    ap (λ (z : Schemas). read_of z VoidValue (request_struct b) (element_in l i)) (sym is.set) ∙ ap (λ (t : SchemaType). read_of (list_set l) VoidValue t (element_in l i)) (sym is.element)
 
-pub count_left : (l : ListHandle) → value_count (values_left l 0) ≡ count_of l
+pub count_left : (l : ListHandle) → list_value_count (values_left l 0) ≡ count_of l
 unfolding values_left
 count_left l = counted (element_in l) 0 (count_of l - 0) ∙ omega arith
   where
-    counted : (f : ℕ → Value) (i n : ℕ) → value_count (values_from f i n) ≡ n
+    counted : (f : ℕ → Value) (i n : ℕ) → list_value_count (values_from f i n) ≡ n
     counted f i zero = refl
     counted f i (suc n) = ap (λ m. suc m) (counted f (suc i) n)
 
@@ -51,12 +51,12 @@ module _ {A : Type 0} (b : ℕ) (f : Record → A) (l : ListHandle) where
   pub each_none : (i : ℕ) → count_of l ≤ i → each_said b f (values_left l i) ≡ []
   each_none i h = ap (each_said b f) (none_left l i h)
 
-  pub each_ok : (i : ℕ) (r : Record) → IsListOf (one b) l → i < count_of l → value.Struct r ≡ element_seen l i → each_said b f (values_left l i) ≡ Ok (f r) ∷ each_said b f (values_left l (i + 1))
+  pub each_ok : (i : ℕ) (r : Record) → IsListOf (request_struct b) l → i < count_of l → value.Struct r ≡ element_seen l i → each_said b f (values_left l i) ≡ Ok (f r) ∷ each_said b f (values_left l (i + 1))
   each_ok i r is h e =
       ap (each_said b f) (one_left l i h)
       ∙ ap (λ (v : Value). in_struct Err (λ x. Ok (f x)) v ∷ each_said b f (values_left l (i + 1))) (element_is l b i is ∙ sym e)
 
-  pub each_err : (i : ℕ) (kind : ErrorKind) → IsListOf (one b) l → i < count_of l → value.Fault kind ≡ element_seen l i → each_said b f (values_left l i) ≡ Err kind ∷ each_said b f (values_left l (i + 1))
+  pub each_err : (i : ℕ) (kind : ErrorKind) → IsListOf (request_struct b) l → i < count_of l → value.Fault kind ≡ element_seen l i → each_said b f (values_left l i) ≡ Err kind ∷ each_said b f (values_left l (i + 1))
   each_err i kind is h e =
       ap (each_said b f) (one_left l i h)
       ∙ ap (λ (v : Value). in_struct Err (λ x. Ok (f x)) v ∷ each_said b f (values_left l (i + 1))) (element_is l b i is ∙ sym e)

@@ -14,7 +14,7 @@ use Rattle.capnp_dynamic_readers.specs.Reads.{element_seen}
 use Rattle.capnp_dynamic_readers.specs.Seen.{list_seen}
 use Rattle.capnp_dynamic_readers.specs.declared.dynamic_list.Reader.{Reader as ListHandle}
 use Rattle.capnp_request.specs.Handles.{IsListOf, element_in, values_left}
-use Rattle.capnp_request.specs.Parts.{element_read, one}
+use Rattle.capnp_request.specs.Parts.{element_read, request_struct}
 use Rattle.capnp_request.specs.Reading.{each_said, in_struct, list_said}
 use Rattle.capnp_request.specs.Terms.{Said}
 
@@ -31,7 +31,7 @@ module _ {A : Type 0} (l : ListHandle) (b : ℕ) (f : Record → A) where
   said_all = let e : length_of l ≡ length_of l - 0 = omega arith in ap (λ n. Ok (each_said b f (values_from (element_in l) 0 n))) e
 
   -- the next one before those that are left
-  pub said_more : (i : ℕ) → IsListOf (one b) l → i < length_of l → each_said b f (values_left l i) ≡ says (element_seen l i) ∷ each_said b f (values_left l (i + 1))
+  pub said_more : (i : ℕ) → IsListOf (request_struct b) l → i < length_of l → each_said b f (values_left l i) ≡ says (element_seen l i) ∷ each_said b f (values_left l (i + 1))
   unfolding values_left
   said_more i is inside =
       let e : length_of l - i ≡ suc (length_of l - (i + 1)) = omega (arith, inside) in
@@ -41,10 +41,10 @@ module _ {A : Type 0} (l : ListHandle) (b : ℕ) (f : Record → A) where
       ∙ (ap (λ v. says v ∷ each_said b f (values_from (element_in l) (suc i) (length_of l - (i + 1)))) read
       ∙ ap (λ j. says (element_seen l i) ∷ each_said b f (values_from (element_in l) j (length_of l - (i + 1)))) next)
 
-  pub said_record : (i : ℕ) (r : Record) → IsListOf (one b) l → i < length_of l → value.Struct r ≡ element_seen l i → each_said b f (values_left l i) ≡ Ok (f r) ∷ each_said b f (values_left l (i + 1))
+  pub said_record : (i : ℕ) (r : Record) → IsListOf (request_struct b) l → i < length_of l → value.Struct r ≡ element_seen l i → each_said b f (values_left l i) ≡ Ok (f r) ∷ each_said b f (values_left l (i + 1))
   said_record i r is inside e = said_more i is inside ∙ ap (λ v. says v ∷ each_said b f (values_left l (i + 1))) (sym e)
 
-  pub said_fault : (i : ℕ) (kind : ErrorKind) → IsListOf (one b) l → i < length_of l → value.Fault kind ≡ element_seen l i → each_said b f (values_left l i) ≡ Err kind ∷ each_said b f (values_left l (i + 1))
+  pub said_fault : (i : ℕ) (kind : ErrorKind) → IsListOf (request_struct b) l → i < length_of l → value.Fault kind ≡ element_seen l i → each_said b f (values_left l i) ≡ Err kind ∷ each_said b f (values_left l (i + 1))
   said_fault i kind is inside e = said_more i is inside ∙ ap (λ v. says v ∷ each_said b f (values_left l (i + 1))) (sym e)
 
   pub said_none : (i : ℕ) → length_of l ≤ i → each_said b f (values_left l i) ≡ []

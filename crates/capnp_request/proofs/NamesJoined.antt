@@ -17,8 +17,8 @@ use Rattle.capnp_schema.specs.declared.record.FieldRecord.{FieldRecord}
 use Rattle.capnp_schema.specs.declared.record.NodeRecord.{NodeRecord}
 use Rattle.capnp_schema.specs.Types.{SchemaType, lists_of, seen_base, seen_variant}
 use Rattle.capnp_request.specs.Bindings.{bounds, seen_bound}
-use Rattle.capnp_request.specs.Names.{bindings_name, bound_name, dotted_name, finished, group_name, more_names, part_bindings, type_name}
-use Rattle.capnp_request.specs.NamesMade.{IsTooLong, name_at, names_nothing, repeated, struct_names, texts}
+use Rattle.capnp_request.specs.Names.{bindings_name, bound_name, dotted_name, finished_name, group_name, more_names, part_bindings, type_name}
+use Rattle.capnp_request.specs.NamesMade.{IsTooLong, bound_name_at, names_nothing, repeated_piece, struct_names, texts}
 use Rattle.capnp_request.specs.declared.entries.BoundScope.{BoundScope}
 
 -- a name that begins with one that is too long is too long
@@ -50,19 +50,19 @@ module _ (name a b c whole : List ℕ) (is : whole ≡ (a ++ b) ++ c) where
 
 -- ---- types ----
 
-repeated-end : (n : ℕ) (p : List ℕ) → repeated n p ++ p ≡ p ++ repeated n p
+repeated-end : (n : ℕ) (p : List ℕ) → repeated_piece n p ++ p ≡ p ++ repeated_piece n p
 repeated-end zero p = sym (append-nil p)
-repeated-end (suc n) p = append_assoc p (repeated n p) p ∙ ap (λ xs. p ++ xs) (repeated-end n p)
+repeated-end (suc n) p = append_assoc p (repeated_piece n p) p ∙ ap (λ xs. p ++ xs) (repeated-end n p)
 
 wrapped : (l ls t rs r : List ℕ) → rs ++ r ≡ r ++ rs → (l ++ ((ls ++ t) ++ rs)) ++ r ≡ ((l ++ ls) ++ t) ++ (r ++ rs)
 wrapped l ls t rs r e = simp append_assoc (ap (λ xs. l ++ (ls ++ (t ++ xs))) e)
 
 pub lists_name : (structs enums : List (List ℕ)) (n : ℕ) (t : SchemaType) →
-    type_name structs enums (lists_of n t) ≡ (repeated n (codes "List(") ++ type_name structs enums t) ++ repeated n (codes ")")
+    type_name structs enums (lists_of n t) ≡ (repeated_piece n (codes "List(") ++ type_name structs enums t) ++ repeated_piece n (codes ")")
 lists_name structs enums zero t = sym (append-nil (type_name structs enums t))
 lists_name structs enums (suc n) t =
     ap (λ xs. (codes "List(" ++ xs) ++ codes ")") (lists_name structs enums n t)
-    ∙ wrapped (codes "List(") (repeated n (codes "List(")) (type_name structs enums t) (repeated n (codes ")")) (codes ")") (repeated-end n (codes ")"))
+    ∙ wrapped (codes "List(") (repeated_piece n (codes "List(")) (type_name structs enums t) (repeated_piece n (codes ")")) (codes ")") (repeated-end n (codes ")"))
 
 pub variant_seen : (b : BaseType) → seen_variant (base_variant b) ≡ seen_base b
 variant_seen base.Void = refl
@@ -125,11 +125,11 @@ text_missing names i e = ap (λ o. unwrap_or o []) (slice_get-map string_bytes n
 -- ---- bindings ----
 
 more_at : (structs enums : List (List ℕ)) (ts : List SchemaType) (count : ℕ) →
-    more_names structs enums ts (suc count) ≡ (codes ", " ++ name_at structs enums ts 0) ++ more_names structs enums (drop 1 ts) count
+    more_names structs enums ts (suc count) ≡ (codes ", " ++ bound_name_at structs enums ts 0) ++ more_names structs enums (drop 1 ts) count
 more_at structs enums [] count = refl
 more_at structs enums (t ∷ ts) count = refl
 
-name_behind : (structs enums : List (List ℕ)) (ts : List SchemaType) (i : ℕ) → name_at structs enums (drop i ts) 0 ≡ name_at structs enums ts i
+name_behind : (structs enums : List (List ℕ)) (ts : List SchemaType) (i : ℕ) → bound_name_at structs enums (drop i ts) 0 ≡ bound_name_at structs enums ts i
 name_behind structs enums [] zero = refl
 name_behind structs enums [] (suc i) = refl
 name_behind structs enums (t ∷ ts) zero = refl
@@ -142,12 +142,12 @@ drop_more (x ∷ xs) zero = refl
 drop_more (x ∷ xs) (suc i) = let e : suc i + 1 ≡ suc (i + 1) = omega arith in drop_more xs i ∙ ap (λ n. drop n (x ∷ xs)) (sym e)
 
 pub more_left : (structs enums : List (List ℕ)) (ts : List SchemaType) (i p : ℕ) → i < p →
-    more_names structs enums (drop i ts) (p - i) ≡ (codes ", " ++ name_at structs enums ts i) ++ more_names structs enums (drop (i + 1) ts) (p - (i + 1))
+    more_names structs enums (drop i ts) (p - i) ≡ (codes ", " ++ bound_name_at structs enums ts i) ++ more_names structs enums (drop (i + 1) ts) (p - (i + 1))
 more_left structs enums ts i p h =
     let e : p - i ≡ suc (p - (i + 1)) = omega (arith, h) in
     ap (more_names structs enums (drop i ts)) e ∙ (more_at structs enums (drop i ts) (p - (i + 1))
     ∙ (ap (λ n. (codes ", " ++ n) ++ more_names structs enums (drop 1 (drop i ts)) (p - (i + 1))) (name_behind structs enums ts i)
-    ∙ ap (λ us. (codes ", " ++ name_at structs enums ts i) ++ more_names structs enums us (p - (i + 1))) (drop_more ts i)))
+    ∙ ap (λ us. (codes ", " ++ bound_name_at structs enums ts i) ++ more_names structs enums us (p - (i + 1))) (drop_more ts i)))
 
 pub none_more : (structs enums : List (List ℕ)) (ts : List SchemaType) (i p : ℕ) → p ≤ i → more_names structs enums ts (p - i) ≡ []
 none_more structs enums ts i p h = let e : p - i ≡ 0 = omega (arith, h) in ap (more_names structs enums ts) e ∙ nothing ts
@@ -158,7 +158,7 @@ none_more structs enums ts i p h = let e : p - i ≡ 0 = omega (arith, h) in ap 
 
 -- in parentheses: the first, and the others behind it
 pub bindings_joined : (structs enums : List (List ℕ)) (ts : List SchemaType) (p : ℕ) → 0 < length ts →
-    bindings_name structs enums ts p ≡ ((codes "(" ++ name_at structs enums ts 0) ++ more_names structs enums (drop 1 ts) (p - 1)) ++ codes ")"
+    bindings_name structs enums ts p ≡ ((codes "(" ++ bound_name_at structs enums ts 0) ++ more_names structs enums (drop 1 ts) (p - 1)) ++ codes ")"
 bindings_joined structs enums [] p h = absurd (omega (arith, h))
 bindings_joined structs enums (t ∷ ts) p h = refl
 
@@ -215,13 +215,13 @@ nothing_left structs enums bs dots k (x ∷ xs) (suc i) h = nothing_left structs
 
 module _ (structs enums : List (List ℕ)) (ts : List SchemaType) (i p : ℕ) (inside : i < p) (name whole : List ℕ) (left : name ++ more_names structs enums (drop i ts) (p - i) ≡ whole) where
   pub comma_long : (kind : ErrorKind) → IsTooLong kind (name ++ codes ", ") → IsTooLong kind whole
-  comma_long kind h = subst (IsTooLong kind) left (first_long name (codes ", ") (name_at structs enums ts i) (more_names structs enums (drop (i + 1) ts) (p - (i + 1))) _ (more_left structs enums ts i p inside) kind h)
+  comma_long kind h = subst (IsTooLong kind) left (first_long name (codes ", ") (bound_name_at structs enums ts i) (more_names structs enums (drop (i + 1) ts) (p - (i + 1))) _ (more_left structs enums ts i p inside) kind h)
 
-  pub bound_long : (kind : ErrorKind) (next : List ℕ) → next ≡ name ++ codes ", " → IsTooLong kind (next ++ name_at structs enums ts i) → IsTooLong kind whole
-  bound_long kind next e h = subst (IsTooLong kind) left (second_long name (codes ", ") (name_at structs enums ts i) (more_names structs enums (drop (i + 1) ts) (p - (i + 1))) _ (more_left structs enums ts i p inside) kind next e h)
+  pub bound_long : (kind : ErrorKind) (next : List ℕ) → next ≡ name ++ codes ", " → IsTooLong kind (next ++ bound_name_at structs enums ts i) → IsTooLong kind whole
+  bound_long kind next e h = subst (IsTooLong kind) left (second_long name (codes ", ") (bound_name_at structs enums ts i) (more_names structs enums (drop (i + 1) ts) (p - (i + 1))) _ (more_left structs enums ts i p inside) kind next e h)
 
-  pub other_appended : (next last : List ℕ) → next ≡ name ++ codes ", " → last ≡ next ++ name_at structs enums ts i → last ++ more_names structs enums (drop (i + 1) ts) (p - (i + 1)) ≡ whole
-  other_appended next last e f = joined name (codes ", ") (name_at structs enums ts i) (more_names structs enums (drop (i + 1) ts) (p - (i + 1))) _ (more_left structs enums ts i p inside) next last _ e f refl ∙ left
+  pub other_appended : (next last : List ℕ) → next ≡ name ++ codes ", " → last ≡ next ++ bound_name_at structs enums ts i → last ++ more_names structs enums (drop (i + 1) ts) (p - (i + 1)) ≡ whole
+  other_appended next last e f = joined name (codes ", ") (bound_name_at structs enums ts i) (more_names structs enums (drop (i + 1) ts) (p - (i + 1))) _ (more_left structs enums ts i p inside) next last _ e f refl ∙ left
 
 module _ (structs enums : List (List ℕ)) (bs : List BoundScope) (i : ℕ) (b : BoundScope) (dots k : ℕ) (inside : i < length bs) (is : b ≡ get_or bs i b) (name whole : List ℕ)
     (left : name ++ part_bindings structs enums (bounds (drop i bs)) dots k ≡ whole) where
@@ -277,10 +277,10 @@ pub field_missing : (fields : List FieldRecord) (i : ℕ) → slice_get fields i
 field_missing fields i e = slice_get-map (λ (f : Field). f.name) (map seen_field fields) i ∙ ap (option_map (λ (f : Field). f.name)) (slice_get-map seen_field fields i ∙ ap (option_map seen_field) e)
 
 pub member_named : (p : NodeRecord) (i : ℕ) (f : FieldRecord) (parent field : List ℕ) → slice_get p.body.fields.items i ≡ Some f → parent ≡ string_bytes p.display_name → field ≡ string_bytes f.name →
-    group_name (Some (seen_node p)) i ≡ finished (parent ++ 46 ∷ field)
+    group_name (Some (seen_node p)) i ≡ finished_name (parent ++ 46 ∷ field)
 member_named p i f parent field e g h =
     ap (dotted_name (string_bytes p.display_name)) (field_there p.body.fields.items i f e)
-    ∙ (ap (λ xs. finished (xs ++ 46 ∷ string_bytes f.name)) (sym g) ∙ ap (λ xs. finished (parent ++ 46 ∷ xs)) (sym h))
+    ∙ (ap (λ xs. finished_name (xs ++ 46 ∷ string_bytes f.name)) (sym g) ∙ ap (λ xs. finished_name (parent ++ 46 ∷ xs)) (sym h))
 
 pub member_missing : (p : NodeRecord) (i : ℕ) (kind : ErrorKind) → slice_get p.body.fields.items i ≡ None → kind ≡ NodeNotFound → group_name (Some (seen_node p)) i ≡ Err kind
 member_missing p i kind e k = ap (dotted_name (string_bytes p.display_name)) (field_missing p.body.fields.items i e) ∙ ap (λ (x : ErrorKind). Err x) (sym k)

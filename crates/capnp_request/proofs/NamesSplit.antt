@@ -1,42 +1,42 @@
 -- A name behind its last colon, and the file before it.
 use Rattle.std.proofs.Common.{ℕ, zero, suc, ◌+◌, ◌<◌, ◌≤◌, ◌≡◌, ◌≢◌, ◌==◌, ◌∙◌, nat_lt, arith, ap, refl, sym, subst, Bool, true, false, List, [], ◌∷◌, length, get_or, take, drop}
 use Rattle.std.proofs.lemmas.Bool.{eq-eqb, eqb-true, lt-ltb}
-use Rattle.capnp_request.specs.Names.{count_of, dotted_of, file_of, has_colon}
+use Rattle.capnp_request.specs.Names.{occurrences_of, dotted_of, file_of, has_colon}
 
 abbrev by_test : Bool → ℕ → ℕ
 by_test true n = suc n
 by_test false n = n
 
-count_more : (byte x : ℕ) (xs : List ℕ) → count_of byte (x ∷ xs) ≡ by_test (x == byte) (count_of byte xs)
+count_more : (byte x : ℕ) (xs : List ℕ) → occurrences_of byte (x ∷ xs) ≡ by_test (x == byte) (occurrences_of byte xs)
 count_more byte x xs = go (x == byte)
   where
-    go : (q : Bool) → (elim q as (λ _. ℕ) [ true ↦ suc (count_of byte xs) | false ↦ count_of byte xs ]) ≡ by_test q (count_of byte xs)
+    go : (q : Bool) → (elim q as (λ _. ℕ) [ true ↦ suc (occurrences_of byte xs) | false ↦ occurrences_of byte xs ]) ≡ by_test q (occurrences_of byte xs)
     go true = refl
     go false = refl
 
 -- none where no byte is the one
-none_of : (byte : ℕ) (xs : List ℕ) → ((k : ℕ) → k < length xs → get_or xs k 0 ≢ byte) → count_of byte xs ≡ 0
+none_of : (byte : ℕ) (xs : List ℕ) → ((k : ℕ) → k < length xs → get_or xs k 0 ≢ byte) → occurrences_of byte xs ≡ 0
 none_of byte [] h = refl
 none_of byte (x ∷ xs) h = count_more byte x xs ∙ go (x == byte) refl (none_of byte xs (λ k inside. h (suc k) (omega (arith, inside))))
   where
-    go : (q : Bool) → (x == byte) ≡ q → count_of byte xs ≡ 0 → by_test q (count_of byte xs) ≡ 0
+    go : (q : Bool) → (x == byte) ≡ q → occurrences_of byte xs ≡ 0 → by_test q (occurrences_of byte xs) ≡ 0
     go true e rest = absurd (h 0 (omega arith) (eqb-true x byte e))
     go false e rest = rest
 
 -- some where one is
-some_of : (byte : ℕ) (xs : List ℕ) (k : ℕ) → k < length xs → get_or xs k 0 ≡ byte → 0 < count_of byte xs
+some_of : (byte : ℕ) (xs : List ℕ) (k : ℕ) → k < length xs → get_or xs k 0 ≡ byte → 0 < occurrences_of byte xs
 some_of byte [] k inside e = absurd (omega (arith, inside))
-some_of byte (x ∷ xs) zero inside e = subst (λ n. 0 < n) (sym (count_more byte x xs ∙ ap (λ q. by_test q (count_of byte xs)) (eq-eqb x byte e))) (omega arith)
+some_of byte (x ∷ xs) zero inside e = subst (λ n. 0 < n) (sym (count_more byte x xs ∙ ap (λ q. by_test q (occurrences_of byte xs)) (eq-eqb x byte e))) (omega arith)
 some_of byte (x ∷ xs) (suc k) inside e = subst (λ n. 0 < n) (sym (count_more byte x xs)) (go (x == byte) (some_of byte xs k (omega (arith, inside)) e))
   where
-    go : (q : Bool) → 0 < count_of byte xs → 0 < by_test q (count_of byte xs)
+    go : (q : Bool) → 0 < occurrences_of byte xs → 0 < by_test q (occurrences_of byte xs)
     go true rest = omega arith
     go false rest = rest
 
-colon : (xs : List ℕ) → 0 < count_of 58 xs → has_colon xs ≡ true
-colon xs h = lt-ltb 0 (count_of 58 xs) h
+colon : (xs : List ℕ) → 0 < occurrences_of 58 xs → has_colon xs ≡ true
+colon xs h = lt-ltb 0 (occurrences_of 58 xs) h
 
-no_colon : (xs : List ℕ) → count_of 58 xs ≡ 0 → has_colon xs ≡ false
+no_colon : (xs : List ℕ) → occurrences_of 58 xs ≡ 0 → has_colon xs ≡ false
 no_colon xs e = ap (λ n. nat_lt 0 n) e
 
 abbrev file_by : Bool → ℕ → List ℕ → List ℕ
@@ -94,15 +94,15 @@ dotted_behind (x ∷ xs) (suc start) h =
     }) ∙ sym (dotted_more x xs ∙ ap (λ q. dotted_by q x xs) here)
 
 -- the count of what is left, by the next byte
-pub count_left : (byte : ℕ) (xs : List ℕ) (i : ℕ) → i < length xs → count_of byte (drop i xs) ≡ by_test (get_or xs i 0 == byte) (count_of byte (drop (i + 1) xs))
+pub count_left : (byte : ℕ) (xs : List ℕ) (i : ℕ) → i < length xs → occurrences_of byte (drop i xs) ≡ by_test (get_or xs i 0 == byte) (occurrences_of byte (drop (i + 1) xs))
 count_left byte [] i inside = absurd (omega (arith, inside))
 count_left byte (x ∷ xs) zero inside = count_more byte x xs
-count_left byte (x ∷ xs) (suc i) inside = let e : suc i + 1 ≡ suc (i + 1) = omega arith in count_left byte xs i (omega (arith, inside)) ∙ ap (λ n. by_test (get_or xs i 0 == byte) (count_of byte (drop n (x ∷ xs)))) (sym e)
+count_left byte (x ∷ xs) (suc i) inside = let e : suc i + 1 ≡ suc (i + 1) = omega arith in count_left byte xs i (omega (arith, inside)) ∙ ap (λ n. by_test (get_or xs i 0 == byte) (occurrences_of byte (drop n (x ∷ xs)))) (sym e)
 
-pub at_most : (byte : ℕ) (xs : List ℕ) → count_of byte xs ≤ length xs
+pub at_most : (byte : ℕ) (xs : List ℕ) → occurrences_of byte xs ≤ length xs
 at_most byte [] = omega arith
 at_most byte (x ∷ xs) = subst (λ n. n ≤ suc (length xs)) (sym (count_more byte x xs)) (go (x == byte) (at_most byte xs))
   where
-    go : (q : Bool) → count_of byte xs ≤ length xs → by_test q (count_of byte xs) ≤ suc (length xs)
+    go : (q : Bool) → occurrences_of byte xs ≤ length xs → by_test q (occurrences_of byte xs) ≤ suc (length xs)
     go true rest = omega (arith, rest)
     go false rest = omega (arith, rest)

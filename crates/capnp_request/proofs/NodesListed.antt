@@ -17,16 +17,16 @@ use Rattle.capnp_dynamic_readers.specs.Reads.{element_seen}
 use Rattle.capnp_dynamic_readers.specs.Seen.{list_seen, record_seen}
 use Rattle.capnp_dynamic_readers.specs.declared.dynamic_list.Reader.{Reader as ListHandle}
 use Rattle.capnp_dynamic_readers.specs.declared.dynamic_struct.Reader.{Reader as StructHandle}
-use Rattle.capnp_request.specs.Handles.{IsListOf, IsRecord, values_left}
+use Rattle.capnp_request.specs.Handles.{IsListOf, IsRequestRecord, values_left}
 use Rattle.capnp_request.specs.Nodes.{first_kept, node_record, or_none}
-use Rattle.capnp_request.specs.Parts.{one, read_at}
+use Rattle.capnp_request.specs.Parts.{request_struct, request_read_at}
 use Rattle.capnp_request.specs.Reading.{all_said, both_said, each_said, node_said, nodes_in, whole_list}
 use Rattle.capnp_request.specs.Scopes.{node_named, some_where}
 use Rattle.capnp_request.specs.Terms.{Said, SchemaNode}
 use Rattle.capnp_request.proofs.ListsRead.{all_whole, count_of, each_err, each_none, each_ok}
 
 -- the record of a node's sections is that of its reader
-pub section_record : (s : StructHandle) (x : StructReader) → IsRecord 2 s → x ≡ reader_of s → node_record x ≡ record_seen s
+pub section_record : (s : StructHandle) (x : StructReader) → IsRequestRecord 2 s → x ≡ reader_of s → node_record x ≡ record_seen s
 unfolding node_record
 section_record s x is e =
     ap (λ (y : StructReader). struct_record request_set (Left (struct_levels y)) (struct_of y) 2) e
@@ -89,7 +89,7 @@ module _ {S : Type 0} where
   pub nothing_read : (l : ListHandle) (m : HashMap ℕ StructReader S) → ((id : ℕ) → get nat_eq m id ≡ None) → ReadSoFar l m 0
   nothing_read l m empty = record { nodes = []; whole = join_none (all_said (each_said 2 node_said (values_left l 0))); count = refl; by_id = λ id. ap (option_map said_by) (empty id) }
 
-  module _ (l : ListHandle) (m : HashMap ℕ StructReader S) (i : ℕ) (h : ReadSoFar l m i) (is : IsListOf (one 2) l) (inside : i < count_of l) where
+  module _ (l : ListHandle) (m : HashMap ℕ StructReader S) (i : ℕ) (h : ReadSoFar l m i) (is : IsListOf (request_struct 2) l) (inside : i < count_of l) where
     -- an element that can't be read
     pub node_unread : (kind : ErrorKind) → value.Fault kind ≡ element_seen l i → all_said (each_said 2 node_said (values_left l 0)) ≡ Err kind
     node_unread kind e = h.whole ∙ ap (λ xs. joined h.nodes (all_said xs)) (each_err 2 node_said l i kind is inside e)
@@ -132,10 +132,10 @@ module _ {S : Type 0} where
     all_read = h.whole ∙ (ap (λ xs. joined h.nodes (all_said xs)) (each_none 2 node_said l i past) ∙ ap (λ xs. Ok xs) (append-nil h.nodes))
 
 -- what a request's list of nodes says
-pub nodes_read : (r : Record) (l : ListHandle) → list_seen l ≡ read_at 0 0 r → nodes_in r ≡ all_said (each_said 2 node_said (values_left l 0))
+pub nodes_read : (r : Record) (l : ListHandle) → list_seen l ≡ request_read_at 0 0 r → nodes_in r ≡ all_said (each_said 2 node_said (values_left l 0))
 nodes_read r l e = ap (whole_list 2 node_said) (sym e) ∙ all_whole 2 node_said l
 
-pub nodes_unread : (r : Record) (kind : ErrorKind) → value.Fault kind ≡ read_at 0 0 r → nodes_in r ≡ Err kind
+pub nodes_unread : (r : Record) (kind : ErrorKind) → value.Fault kind ≡ request_read_at 0 0 r → nodes_in r ≡ Err kind
 nodes_unread r kind e = ap (whole_list 2 node_said) (sym e)
 
 -- the nodes of what was made of a request

@@ -10,47 +10,47 @@ use Rattle.capnp_dynamic_readers.specs.Seen.{list_seen}
 use Rattle.capnp_dynamic_readers.specs.declared.dynamic_list.Reader.{Reader as ListHandle}
 use Rattle.capnp_request.proofs.ListsRead.{all_left, count_left, count_of}
 use Rattle.capnp_request.specs.Conversion.{declared_term, kind_declared}
-use Rattle.capnp_request.specs.Parts.{read_at}
-use Rattle.capnp_request.specs.Reading.{annotations_in, by_member, declaration_said, enumerant_said, enumerants_said, id_said, in_list, list_said, node_kinds, node_said, number_in, struct_said, text_in, truth_in, value_count, whole_list}
+use Rattle.capnp_request.specs.Parts.{request_read_at}
+use Rattle.capnp_request.specs.Reading.{annotation_terms_in, by_member, declaration_said, enumerant_said, enumerants_said, id_said, list_or, list_said, node_kinds, node_said, number_in, struct_said, text_term, truth_in, list_value_count, whole_list}
 use Rattle.capnp_request.specs.Terms.{AnnotationNode, EnumNode, NodeKind, OtherNode, SchemaNode, StructNode}
-use Rattle.capnp_request.specs.Types.{is_annotation, is_enum, is_of_kind, is_root, is_struct}
+use Rattle.capnp_request.specs.Types.{is_annotation, is_enum, is_of_kind, is_root, is_struct_kind}
 
-pub node_id : (r : Record) → (node_said r).id ≡ number_in (read_at 2 0 r)
+pub node_id : (r : Record) → (node_said r).id ≡ number_in (request_read_at 2 0 r)
 unfolding node_said
 node_id r = refl
 
-pub node_name : (r : Record) → (node_said r).display_name ≡ text_in (read_at 2 1 r)
+pub node_name : (r : Record) → (node_said r).display_name ≡ text_term (request_read_at 2 1 r)
 unfolding node_said
 node_name r = refl
 
-pub node_scope : (r : Record) → (node_said r).scope ≡ number_in (read_at 2 2 r)
+pub node_scope : (r : Record) → (node_said r).scope ≡ number_in (request_read_at 2 2 r)
 unfolding node_said
 node_scope r = refl
 
-pub node_nested : (r : Record) → (node_said r).nested ≡ whole_list 6 (id_said 6) (read_at 2 3 r)
+pub node_nested : (r : Record) → (node_said r).nested ≡ whole_list 6 (id_said 6) (request_read_at 2 3 r)
 unfolding node_said
 node_nested r = refl
 
-pub node_annotations : (r : Record) → (node_said r).annotations ≡ annotations_in (read_at 2 4 r)
+pub node_annotations : (r : Record) → (node_said r).annotations ≡ annotation_terms_in (request_read_at 2 4 r)
 unfolding node_said
 node_annotations r = refl
 
-pub node_parameters : (r : Record) → (node_said r).parameters ≡ in_list Err (λ (vs : Values). Ok (value_count vs)) (read_at 2 11 r)
+pub node_parameters : (r : Record) → (node_said r).parameters ≡ list_or Err (λ (vs : Values). Ok (list_value_count vs)) (request_read_at 2 11 r)
 unfolding node_said
 node_parameters r = refl
 
 -- the same by what was read
-pub id_read : (r : Record) (n : ℕ) → value.Number (pos n) ≡ read_at 2 0 r → (node_said r).id ≡ n
+pub id_read : (r : Record) (n : ℕ) → value.Number (pos n) ≡ request_read_at 2 0 r → (node_said r).id ≡ n
 id_read r n e = node_id r ∙ ap number_in (sym e)
 
-pub scope_read : (r : Record) (n : ℕ) → value.Number (pos n) ≡ read_at 2 2 r → (node_said r).scope ≡ n
+pub scope_read : (r : Record) (n : ℕ) → value.Number (pos n) ≡ request_read_at 2 2 r → (node_said r).scope ≡ n
 scope_read r n e = node_scope r ∙ ap number_in (sym e)
 
-pub name_read : (r : Record) (bytes : List ℕ) → value.Text bytes ≡ read_at 2 1 r → (node_said r).display_name ≡ Ok bytes
-name_read r bytes e = node_name r ∙ ap text_in (sym e)
+pub name_read : (r : Record) (bytes : List ℕ) → value.Text bytes ≡ request_read_at 2 1 r → (node_said r).display_name ≡ Ok bytes
+name_read r bytes e = node_name r ∙ ap text_term (sym e)
 
-pub name_unread : (r : Record) (kind : ErrorKind) → value.Fault kind ≡ read_at 2 1 r → (node_said r).display_name ≡ Err kind
-name_unread r kind e = node_name r ∙ ap text_in (sym e)
+pub name_unread : (r : Record) (kind : ErrorKind) → value.Fault kind ≡ request_read_at 2 1 r → (node_said r).display_name ≡ Err kind
+name_unread r kind e = node_name r ∙ ap text_term (sym e)
 
 -- ---- kinds, by the active member ----
 
@@ -61,26 +61,26 @@ kind_of : (r : Record) → (node_said r).kind ≡ by_member OtherNode node_kinds
 unfolding node_said
 kind_of r = refl
 
-pub kind_by : (r : Record) (m i : ℕ) → which_of r ≡ Some m → m ≡ i → (node_said r).kind ≡ kind_at i (read_at 2 i r)
-kind_by r m i which is = kind_of r ∙ (ap (λ o. by_member OtherNode node_kinds 2 o r) which ∙ ap (λ j. kind_at j (read_at 2 j r)) is)
+pub kind_by : (r : Record) (m i : ℕ) → which_of r ≡ Some m → m ≡ i → (node_said r).kind ≡ kind_at i (request_read_at 2 i r)
+kind_by r m i which is = kind_of r ∙ (ap (λ o. by_member OtherNode node_kinds 2 o r) which ∙ ap (λ j. kind_at j (request_read_at 2 j r)) is)
 
 pub kind_none : (r : Record) → which_of r ≡ None → (node_said r).kind ≡ OtherNode
 kind_none r which = kind_of r ∙ ap (λ o. by_member OtherNode node_kinds 2 o r) which
 
-pub struct_kind : (r s : Record) → which_of r ≡ Some 6 → value.Struct s ≡ read_at 2 6 r → (node_said r).kind ≡ StructNode (struct_said s)
+pub struct_kind : (r s : Record) → which_of r ≡ Some 6 → value.Struct s ≡ request_read_at 2 6 r → (node_said r).kind ≡ StructNode (struct_said s)
 struct_kind r s which e = kind_by r 6 6 which refl ∙ ap (kind_at 6) (sym e)
 
-pub enum_kind : (r s : Record) → which_of r ≡ Some 7 → value.Struct s ≡ read_at 2 7 r → (node_said r).kind ≡ EnumNode (enumerants_said s)
+pub enum_kind : (r s : Record) → which_of r ≡ Some 7 → value.Struct s ≡ request_read_at 2 7 r → (node_said r).kind ≡ EnumNode (enumerants_said s)
 enum_kind r s which e = kind_by r 7 7 which refl ∙ ap (kind_at 7) (sym e)
 
-pub annotation_kind : (r s : Record) → which_of r ≡ Some 10 → value.Struct s ≡ read_at 2 10 r → (node_said r).kind ≡ AnnotationNode (declaration_said s)
+pub annotation_kind : (r s : Record) → which_of r ≡ Some 10 → value.Struct s ≡ request_read_at 2 10 r → (node_said r).kind ≡ AnnotationNode (declaration_said s)
 annotation_kind r s which e = kind_by r 10 10 which refl ∙ ap (kind_at 10) (sym e)
 
 -- the kind of a member by its number
 abbrev kind_test : (NodeKind → Bool) → ℕ → Type 0
 kind_test test n = (m : ℕ) (v : Value) → test (kind_at m v) ≡ (m == n)
 
-struct_member : kind_test is_struct 6
+struct_member : kind_test is_struct_kind 6
 struct_member zero v = refl
 struct_member (suc zero) v = refl
 struct_member (suc (suc zero)) v = refl
@@ -122,30 +122,30 @@ annotation_member (suc (suc (suc (suc (suc (suc (suc (suc (suc zero))))))))) v =
 annotation_member (suc (suc (suc (suc (suc (suc (suc (suc (suc (suc zero)))))))))) v = refl
 annotation_member (suc (suc (suc (suc (suc (suc (suc (suc (suc (suc (suc m))))))))))) v = grind (arith, nat_tests)
 
-pub struct_where : (r : Record) (m : ℕ) → which_of r ≡ Some m → is_struct (node_said r).kind ≡ (m == 6)
-struct_where r m which = ap is_struct (kind_by r m m which refl) ∙ struct_member m (read_at 2 m r)
+pub struct_where : (r : Record) (m : ℕ) → which_of r ≡ Some m → is_struct_kind (node_said r).kind ≡ (m == 6)
+struct_where r m which = ap is_struct_kind (kind_by r m m which refl) ∙ struct_member m (request_read_at 2 m r)
 
 pub enum_where : (r : Record) (m : ℕ) → which_of r ≡ Some m → is_enum (node_said r).kind ≡ (m == 7)
-enum_where r m which = ap is_enum (kind_by r m m which refl) ∙ enum_member m (read_at 2 m r)
+enum_where r m which = ap is_enum (kind_by r m m which refl) ∙ enum_member m (request_read_at 2 m r)
 
 pub annotation_where : (r : Record) (m : ℕ) → which_of r ≡ Some m → is_annotation (node_said r).kind ≡ (m == 10)
-annotation_where r m which = ap is_annotation (kind_by r m m which refl) ∙ annotation_member m (read_at 2 m r)
+annotation_where r m which = ap is_annotation (kind_by r m m which refl) ∙ annotation_member m (request_read_at 2 m r)
 
 -- ---- what stands in the parts of kinds ----
 
-pub enumerants_read : (k : NodeKind) (s : Record) (v : Value) → k ≡ EnumNode (enumerants_said s) → v ≡ read_at 4 0 s → k ≡ EnumNode (list_said 11 enumerant_said v)
+pub enumerants_read : (k : NodeKind) (s : Record) (v : Value) → k ≡ EnumNode (enumerants_said s) → v ≡ request_read_at 4 0 s → k ≡ EnumNode (list_said 11 enumerant_said v)
 unfolding enumerants_said
 enumerants_read k s v e there = e ∙ ap (λ x. EnumNode (list_said 11 enumerant_said x)) (sym there)
 
-pub enumerants_unread : (k : NodeKind) (s : Record) (kind : ErrorKind) → k ≡ EnumNode (enumerants_said s) → value.Fault kind ≡ read_at 4 0 s → k ≡ EnumNode (Err kind)
+pub enumerants_unread : (k : NodeKind) (s : Record) (kind : ErrorKind) → k ≡ EnumNode (enumerants_said s) → value.Fault kind ≡ request_read_at 4 0 s → k ≡ EnumNode (Err kind)
 unfolding enumerants_said
 enumerants_unread k s kind e there = e ∙ ap (λ x. EnumNode (list_said 11 enumerant_said x)) (sym there)
 
-pub root_read : (k : NodeKind) (s : Record) (b : Bool) → k ≡ StructNode (struct_said s) → value.Truth b ≡ read_at 3 2 s → is_root k ≡ not b
+pub root_read : (k : NodeKind) (s : Record) (b : Bool) → k ≡ StructNode (struct_said s) → value.Truth b ≡ request_read_at 3 2 s → is_root k ≡ not b
 unfolding struct_said
 root_read k s b e there = ap is_root e ∙ ap (λ x. not (truth_in x)) (sym there)
 
-pub no_root : (k : NodeKind) → is_struct k ≡ false → is_root k ≡ false
+pub no_root : (k : NodeKind) → is_struct_kind k ≡ false → is_root k ≡ false
 no_root (StructNode part) e = cc
 no_root (EnumNode enumerants) e = refl
 no_root (AnnotationNode t) e = refl
@@ -175,11 +175,11 @@ pub undeclared_none : (o : Option SchemaNode) → None ≡ o → declared_term o
 undeclared_none o there = ap declared_term (sym there)
 
 -- how many parameters
-pub parameters_unread : (r : Record) (kind : ErrorKind) → value.Fault kind ≡ read_at 2 11 r → (node_said r).parameters ≡ Err kind
-parameters_unread r kind e = node_parameters r ∙ ap (in_list Err (λ (vs : Values). Ok (value_count vs))) (sym e)
+pub parameters_unread : (r : Record) (kind : ErrorKind) → value.Fault kind ≡ request_read_at 2 11 r → (node_said r).parameters ≡ Err kind
+parameters_unread r kind e = node_parameters r ∙ ap (list_or Err (λ (vs : Values). Ok (list_value_count vs))) (sym e)
 
-pub parameters_read : (r : Record) (l : ListHandle) → list_seen l ≡ read_at 2 11 r → (node_said r).parameters ≡ Ok (count_of l)
+pub parameters_read : (r : Record) (l : ListHandle) → list_seen l ≡ request_read_at 2 11 r → (node_said r).parameters ≡ Ok (count_of l)
 parameters_read r l e =
     node_parameters r
-    ∙ (ap (in_list Err (λ (vs : Values). Ok (value_count vs))) (sym e)
-    ∙ (ap (in_list Err (λ (vs : Values). Ok (value_count vs))) (all_left l) ∙ ap (λ n. Ok n) (count_left l)))
+    ∙ (ap (list_or Err (λ (vs : Values). Ok (list_value_count vs))) (sym e)
+    ∙ (ap (list_or Err (λ (vs : Values). Ok (list_value_count vs))) (all_left l) ∙ ap (λ n. Ok n) (count_left l)))

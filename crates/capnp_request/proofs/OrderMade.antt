@@ -10,7 +10,7 @@ use Rattle.capnp_request.specs.Order.{Begun, Made, add_struct, and_said, begin_e
 use Rattle.capnp_request.specs.Reading.{request_with}
 use Rattle.capnp_request.specs.Scopes.{node_named}
 use Rattle.capnp_request.specs.Terms.{Said, SchemaNode}
-use Rattle.capnp_request.specs.Work.{◌>>=◌, Entry, GroupOf, Named, Whole, Work, continued, given, said}
+use Rattle.capnp_request.specs.Work.{◌>>=◌, Entry, GroupOf, Named, Whole, Work, work_continued, work_of, work_said}
 use Rattle.capnp_request.proofs.Works.{then_err, then_ok}
 
 -- ---- the names of enums ----
@@ -153,52 +153,52 @@ module _ (nodes : List SchemaNode) (strict : Bool) (m : Made) (s : Named) where
     behind = add_struct nodes strict m e.node e.bound
 
     pub struct_refused : (kind : ErrorKind) → begin_struct nodes m e s.enums ≡ Err kind → make_struct nodes strict m e s ≡ Err kind
-    struct_refused kind r = ap (λ r. continued behind (said r s)) r
+    struct_refused kind r = ap (λ r. work_continued behind (work_said r s)) r
 
     pub struct_begun : (b : Begun) → begin_struct nodes m e s.enums ≡ Ok b → make_struct nodes strict m e s ≡ behind b s
-    struct_begun b r = ap (λ r. continued behind (said r s)) r
+    struct_begun b r = ap (λ r. work_continued behind (work_said r s)) r
 
   module _ (id : ℕ) where
     abbrev with_enum : Enum → Work Made
-    with_enum e = given (record m { enums = m.enums ++ e ∷ [] })
+    with_enum e = work_of (record m { enums = m.enums ++ e ∷ [] })
 
     abbrev from_enum : List ℕ × SchemaNode → Work Made
     from_enum b = enum_made nodes strict id b.0 b.1 >>= with_enum
 
     pub enum_refused : (kind : ErrorKind) → begin_enum nodes id ≡ Err kind → make_enum nodes strict m id s ≡ Err kind
-    enum_refused kind r = ap (λ r. continued from_enum (said r s)) r
+    enum_refused kind r = ap (λ r. work_continued from_enum (work_said r s)) r
 
     module _ (name : List ℕ) (n : SchemaNode) (begun : begin_enum nodes id ≡ Ok (name, n)) where
       pub enum_unmade : (kind : ErrorKind) → enum_made nodes strict id name n s ≡ Err kind → make_enum nodes strict m id s ≡ Err kind
-      enum_unmade kind r = ap (λ r. continued from_enum (said r s)) begun ∙ then_err (enum_made nodes strict id name n) with_enum s kind r
+      enum_unmade kind r = ap (λ r. work_continued from_enum (work_said r s)) begun ∙ then_err (enum_made nodes strict id name n) with_enum s kind r
 
       pub enum_done : (e : Enum) (after : Named) → enum_made nodes strict id name n s ≡ Ok (e, after) → make_enum nodes strict m id s ≡ Ok (record m { enums = m.enums ++ e ∷ [] }, after)
-      enum_done e after r = ap (λ r. continued from_enum (said r s)) begun ∙ then_ok (enum_made nodes strict id name n) with_enum s after e r
+      enum_done e after r = ap (λ r. work_continued from_enum (work_said r s)) begun ∙ then_ok (enum_made nodes strict id name n) with_enum s after e r
 
   module _ (steps : ℕ) where
     abbrev next : Option Entry → Option ℕ → Result (Made × Named) ErrorKind
     next e enum = make_next nodes strict (make_all nodes strict steps) m e enum s
 
     module _ (e : Entry) (here : slice_get s.entries (length m.nodes) ≡ Some e) where
-      at_entry : make_all nodes strict (suc steps) m s ≡ continued (make_all nodes strict steps) (make_struct nodes strict m e s)
+      at_entry : make_all nodes strict (suc steps) m s ≡ work_continued (make_all nodes strict steps) (make_struct nodes strict m e s)
       at_entry = ap (λ o. next o (slice_get s.enums (length m.enums))) here
 
       pub next_refused : (kind : ErrorKind) → make_struct nodes strict m e s ≡ Err kind → make_all nodes strict (suc steps) m s ≡ Err kind
-      next_refused kind r = at_entry ∙ ap (continued (make_all nodes strict steps)) r
+      next_refused kind r = at_entry ∙ ap (work_continued (make_all nodes strict steps)) r
 
       pub next_made : (new : Made) (after : Named) → make_struct nodes strict m e s ≡ Ok (new, after) → make_all nodes strict (suc steps) m s ≡ make_all nodes strict steps new after
-      next_made new after r = at_entry ∙ ap (continued (make_all nodes strict steps)) r
+      next_made new after r = at_entry ∙ ap (work_continued (make_all nodes strict steps)) r
 
     module _ (none : slice_get s.entries (length m.nodes) ≡ None) where
       module _ (id : ℕ) (here : slice_get s.enums (length m.enums) ≡ Some id) where
-        at_enum : make_all nodes strict (suc steps) m s ≡ continued (make_all nodes strict steps) (make_enum nodes strict m id s)
+        at_enum : make_all nodes strict (suc steps) m s ≡ work_continued (make_all nodes strict steps) (make_enum nodes strict m id s)
         at_enum = ap (λ o. next o (slice_get s.enums (length m.enums))) none ∙ ap (next None) here
 
         pub next_enum_refused : (kind : ErrorKind) → make_enum nodes strict m id s ≡ Err kind → make_all nodes strict (suc steps) m s ≡ Err kind
-        next_enum_refused kind r = at_enum ∙ ap (continued (make_all nodes strict steps)) r
+        next_enum_refused kind r = at_enum ∙ ap (work_continued (make_all nodes strict steps)) r
 
         pub next_enum : (new : Made) (after : Named) → make_enum nodes strict m id s ≡ Ok (new, after) → make_all nodes strict (suc steps) m s ≡ make_all nodes strict steps new after
-        next_enum new after r = at_enum ∙ ap (continued (make_all nodes strict steps)) r
+        next_enum new after r = at_enum ∙ ap (work_continued (make_all nodes strict steps)) r
 
       pub next_none : slice_get s.enums (length m.enums) ≡ None → make_all nodes strict (suc steps) m s ≡ Ok (m, s)
       next_none here = ap (λ o. next o (slice_get s.enums (length m.enums))) none ∙ ap (next None) here
@@ -213,12 +213,12 @@ module _ (files : Said (List ℕ)) (read : Said (List SchemaNode)) (strict : Boo
     abbrev order : List ℕ → Work Made
     order none = make_all nodes strict (65536 + suc (length nodes)) nothing_made
 
-    opened_request : and_said (request_with files read) (λ r. conversion_of r strict) ≡ result_of (continued order (name_files nodes strict files nothing_named))
+    opened_request : and_said (request_with files read) (λ r. conversion_of r strict) ≡ result_of (work_continued order (name_files nodes strict files nothing_named))
     opened_request = ap (λ r. and_said (request_with files r) (λ r. conversion_of r strict)) is
 
     pub roots_refused : (kind : ErrorKind) → name_files nodes strict files nothing_named ≡ Err kind → and_said (request_with files read) (λ r. conversion_of r strict) ≡ Err kind
-    roots_refused kind e = opened_request ∙ ap (λ r. result_of (continued order r)) e
+    roots_refused kind e = opened_request ∙ ap (λ r. result_of (work_continued order r)) e
 
     pub roots_named : (ids : List ℕ) (after : Named) → name_files nodes strict files nothing_named ≡ Ok (ids, after) →
         and_said (request_with files read) (λ r. conversion_of r strict) ≡ result_of (make_all nodes strict (65536 + suc (length nodes)) nothing_made after)
-    roots_named ids after e = opened_request ∙ ap (λ r. result_of (continued order r)) e
+    roots_named ids after e = opened_request ∙ ap (λ r. result_of (work_continued order r)) e

@@ -11,7 +11,7 @@ use Rattle.capnp_records.specs.Facts.Frame.{first-of, second-of}
 use Rattle.capnp_records.specs.Facts.PartRead.{FoundActive, found-active, nth-plain_parts}
 use Rattle.capnp_records.specs.Default.{read_field}
 use Rattle.capnp_records.specs.Part.{active_value, is_active, nth_value, part_at, which_of}
-use Rattle.capnp_records.specs.Reading.{active_among, discriminant, part_of, plain_parts, struct_record, union_of, values_of}
+use Rattle.capnp_records.specs.Reading.{active_among, discriminant, part_of, non_union_parts, struct_record, union_of, values_of}
 use Rattle.capnp_records.specs.Record.{Active, Left, Levels, NoUnion, Union, Unknown, Parts, Record, Value, Values}
 use Rattle.capnp_dynamic_readers.specs.Handles.{reader_of, schema_of}
 use Rattle.capnp_dynamic_readers.specs.Reads.{field_seen, handed_out}
@@ -19,8 +19,8 @@ use Rattle.capnp_dynamic_readers.specs.Seen.{record_seen}
 use Rattle.capnp_dynamic_readers.specs.Typed.{IsOf}
 use Rattle.capnp_dynamic_readers.specs.declared.dynamic_value.Reader.{Reader as DynamicValue}
 use Rattle.capnp_dynamic_readers.specs.declared.dynamic_struct.Reader.{Reader as StructHandle}
-use Rattle.capnp_request.specs.Handles.{IsActive, IsRecord}
-use Rattle.capnp_request.specs.Parts.{read_at}
+use Rattle.capnp_request.specs.Handles.{IsRequestFieldActive, IsRequestRecord}
+use Rattle.capnp_request.specs.Parts.{request_read_at}
 
 -- a field is plain, or the active member of a record
 abbrev IsHere : Record → TypedField → ℕ → Type 0
@@ -59,14 +59,14 @@ module _ (set : Schemas) (l : Levels) (s : StructTree) (b i : ℕ) where
   part-here inside here = go (is_member f.field) refl here
     where
       go : (q : Bool) → is_member f.field ≡ q → IsHere (struct_record set l s b) f i → part_at (struct_record set l s b) f.field i ≡ v f
-      go false plain here = second-of (is_member f.field) (active_value union) (nth_value (plain_parts v (fields_of set b)) i) plain ∙ nth-plain_parts v (fields_of set b) i inside plain
+      go false plain here = second-of (is_member f.field) (active_value union) (nth_value (non_union_parts v (fields_of set b)) i) plain ∙ nth-plain_parts v (fields_of set b) i inside plain
       go true member (inl plain) = absurd (true≢false (sym member ∙ plain))
       go true member (inr which) =
-          first-of (is_member f.field) (active_value union) (nth_value (plain_parts v (fields_of set b)) i) member
-          ∙ active-part (active-same (plain_parts v (fields_of set b)) union i which)
+          first-of (is_member f.field) (active_value union) (nth_value (non_union_parts v (fields_of set b)) i) member
+          ∙ active-part (active-same (non_union_parts v (fields_of set b)) union i which)
 
 -- a field of the request set lies inside the struct that has it
-pub inside_record : (s : StructHandle) (b i : ℕ) → IsRecord b s → i < length (fields_of request_set b) → i < length (struct_fields (schema_of s))
+pub inside_record : (s : StructHandle) (b i : ℕ) → IsRequestRecord b s → i < length (fields_of request_set b) → i < length (struct_fields (schema_of s))
 inside_record s b i record_is inside =
     subst (λ (z : Schemas). i < length (fields_of z (number_of (schema_of s)))) (sym record_is.set) (subst (λ m. i < length (fields_of request_set m)) (sym record_is.number) inside)
 
@@ -77,8 +77,8 @@ under set f v = handed_out f.field.kind (read_field set f v)
 abbrev read_in : Schemas → ℕ → ℕ → Record → Value
 read_in set b i r = under set (field_at set b i) (part_at r (field_at set b i).field i)
 
-pub seen_part : (s : StructHandle) (b i : ℕ) → IsRecord b s → i < length (fields_of request_set b) → IsActive b i s → field_seen s i ≡ read_at b i (record_seen s)
-unfolding read_at
+pub seen_part : (s : StructHandle) (b i : ℕ) → IsRequestRecord b s → i < length (fields_of request_set b) → IsRequestFieldActive b i s → field_seen s i ≡ request_read_at b i (record_seen s)
+unfolding request_read_at
 seen_part s b i record_is inside active =
     let set : Schemas = set_of (schema_of s) in
     let n : ℕ = number_of (schema_of s) in
@@ -87,7 +87,7 @@ seen_part s b i record_is inside active =
     ap (under set (field_at set n i)) (sym (part-here set (Left (struct_levels (reader_of s))) (struct_of (reader_of s)) n i within here))
     ∙ (ap (λ z. read_in z n i (record_seen s)) record_is.set ∙ ap (λ m. read_in request_set m i (record_seen s)) record_is.number)
 
-pub typed_part : (r : Result DynamicValue Error) (s : StructHandle) (b i j : ℕ) → IsRecord b s → j ≡ i → IfOk r (IsOf (set_of (schema_of s)) (struct_field (schema_of s) j).type) → IfOk r (IsOf request_set (field_at request_set b i).type)
+pub typed_part : (r : Result DynamicValue Error) (s : StructHandle) (b i j : ℕ) → IsRequestRecord b s → j ≡ i → IfOk r (IsOf (set_of (schema_of s)) (struct_field (schema_of s) j).type) → IfOk r (IsOf request_set (field_at request_set b i).type)
 typed_part r s b i j record_is same h =
     subst (λ k. IfOk r (IsOf request_set (field_at request_set b k).type)) same
     (subst (λ n. IfOk r (IsOf request_set (field_at request_set n j).type)) record_is.number

@@ -10,10 +10,10 @@ use Rattle.capnp_request.specs.Conversion.{Note}
 use Rattle.capnp_request.specs.Names.{Holder}
 use Rattle.capnp_request.specs.NamesMade.{AreHolders, texts}
 use Rattle.capnp_request.specs.Order.{Begun, Made, add_struct, begin_struct, make_all, make_struct, name_entry, nothing_made, struct_made, with_struct}
-use Rattle.capnp_request.specs.ProgressSeen.{begun_of, made_of, rest_of}
+use Rattle.capnp_request.specs.ProgressSeen.{begun_of, made_of, work_rest}
 use Rattle.capnp_request.specs.StructsSeen.{seen_notes}
 use Rattle.capnp_request.specs.Terms.{Said, SchemaNode}
-use Rattle.capnp_request.specs.Work.{Bound, Entry, Named, Place, given}
+use Rattle.capnp_request.specs.Work.{Bound, Entry, Named, Place, work_of}
 use Rattle.capnp_request.specs.declared.conversion.Converted.{Converted}
 use Rattle.capnp_request.specs.declared.conversion.NextStruct.{NextStruct}
 use Rattle.capnp_request.specs.declared.conversion.Progress.{Progress}
@@ -66,10 +66,10 @@ struct_moved nodes strict number count id slice scopes name n s r same is done =
 
 module _ (nodes : List SchemaNode) (strict : Bool) (m : Made) (id : ℕ) (bound : List Bound) (b : Begun) (s : Named) where
   pub struct_unmade : (kind : ErrorKind) → struct_made nodes strict (length m.nodes) id bound b.name b.node s ≡ Err kind → add_struct nodes strict m id bound b s ≡ Err kind
-  struct_unmade kind e = then_err (struct_made nodes strict (length m.nodes) id bound b.name b.node) (λ made. given (with_struct nodes strict m b made)) s kind e
+  struct_unmade kind e = then_err (struct_made nodes strict (length m.nodes) id bound b.name b.node) (λ made. work_of (with_struct nodes strict m b made)) s kind e
 
   pub struct_added : (made : Node × Brand × List Note) (t : Named) → struct_made nodes strict (length m.nodes) id bound b.name b.node s ≡ Ok (made, t) → add_struct nodes strict m id bound b s ≡ Ok (with_struct nodes strict m b made, t)
-  struct_added made t e = then_ok (struct_made nodes strict (length m.nodes) id bound b.name b.node) (λ x. given (with_struct nodes strict m b x)) s t made e
+  struct_added made t e = then_ok (struct_made nodes strict (length m.nodes) id bound b.name b.node) (λ x. work_of (with_struct nodes strict m b x)) s t made e
 
 pub struct_so : (nodes : List SchemaNode) (strict : Bool) (old mid : Progress) (hs after : List Holder) (next : NextStruct) (e : Entry) (s : Named) → begin_struct nodes (made_of old hs) e s.enums ≡ Ok (begun_of mid after next) → mid.made ≡ old.made →
     next.place.id ≡ e.node → bounds next.scopes.items ≡ e.bound → make_struct nodes strict (made_of old hs) e s ≡ add_struct nodes strict (made_of mid after) next.place.id (bounds next.scopes.items) (begun_of mid after next) s
@@ -87,12 +87,12 @@ module _ (nodes : List SchemaNode) (strict : Bool) (steps : ℕ) (m : Made) (s :
   at_step : make_all nodes strict (suc (steps - 1)) m s ≡ whole
   at_step = ap (λ k. make_all nodes strict k m s) (sym one_fewer) ∙ left
 
-  module _ (more : Bool) (new : Made) (after : Named) (next : (k : ℕ) → make_all nodes strict (suc k) m s ≡ rest_of nodes strict more k new after) where
+  module _ (more : Bool) (new : Made) (after : Named) (next : (k : ℕ) → make_all nodes strict (suc k) m s ≡ work_rest nodes strict more k new after) where
     pub steps_more : more ≡ true → make_all nodes strict (steps - 1) new after ≡ whole
-    steps_more e = sym (next (steps - 1) ∙ ap (λ q. rest_of nodes strict q (steps - 1) new after) e) ∙ at_step
+    steps_more e = sym (next (steps - 1) ∙ ap (λ q. work_rest nodes strict q (steps - 1) new after) e) ∙ at_step
 
     pub steps_done : more ≡ false → whole ≡ Ok (new, after)
-    steps_done e = sym at_step ∙ (next (steps - 1) ∙ ap (λ q. rest_of nodes strict q (steps - 1) new after) e)
+    steps_done e = sym at_step ∙ (next (steps - 1) ∙ ap (λ q. work_rest nodes strict q (steps - 1) new after) e)
 
   pub steps_refused : (kind : ErrorKind) → ((k : ℕ) → make_all nodes strict (suc k) m s ≡ Err kind) → whole ≡ Err kind
   steps_refused kind h = sym at_step ∙ h (steps - 1)

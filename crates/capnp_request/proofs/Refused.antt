@@ -4,7 +4,7 @@ use Rattle.std.proofs.lemmas.Result.{err_from_is_err_and}
 use Rattle.std.specs.Result.{IsErrAnd}
 use Rattle.capnp_device.specs.declared.error.Error.{Error}
 use Rattle.capnp_device.specs.declared.error.ErrorKind.TheVariants.{OutOfMemory}
-use Rattle.capnp_request.specs.Done.{IsDone, IsSaid}
+use Rattle.capnp_request.specs.Done.{IsWorkDone, IsSaid}
 use Rattle.capnp_request.specs.Terms.{Said}
 use Rattle.capnp_request.specs.Work.{Named, Work}
 
@@ -13,10 +13,10 @@ err_if P r e h p =
     let q = err_from_is_err_and r h in
     subst (λ x. IfErr x P) (sym q.1) (subst P (sym q.2) p)
 
-pub err_done : {A B : Type 0} (seen : B → A) (w : Work A) (s t : Named) (r : Result B Error) (e : Error) → IsErrAnd r (λ y. y ≡ e) → (e.kind ≢ OutOfMemory → w s ≡ Err e.kind) → IsDone seen w s t r
+pub err_done : {A B : Type 0} (seen : B → A) (w : Work A) (s t : Named) (r : Result B Error) (e : Error) → IsErrAnd r (λ y. y ≡ e) → (e.kind ≢ OutOfMemory → w s ≡ Err e.kind) → IsWorkDone seen w s t r
 err_done seen w s t r e h f =
     let q = err_from_is_err_and r h in
-    subst (IsDone seen w s t) (sym q.1) (subst (λ (z : Error). z.kind ≢ OutOfMemory → w s ≡ Err z.kind) (sym q.2) f)
+    subst (IsWorkDone seen w s t) (sym q.1) (subst (λ (z : Error). z.kind ≢ OutOfMemory → w s ≡ Err z.kind) (sym q.2) f)
 
 pub err_said : {A B : Type 0} (seen : B → A) (d : Said A) (r : Result B Error) (e : Error) → IsErrAnd r (λ y. y ≡ e) → (e.kind ≢ OutOfMemory → d ≡ Err e.kind) → IsSaid seen d r
 err_said seen d r e h f =

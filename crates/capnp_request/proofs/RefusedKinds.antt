@@ -9,24 +9,24 @@ use Rattle.capnp_wire.specs.Edits.{IsCopyRefusal}
 use Rattle.capnp_wire.specs.Reading.{refusal}
 use Rattle.capnp_wire.specs.declared.fault.Fault.{Fault}
 use Rattle.capnp_wire.specs.declared.fault.Fault.TheVariants as fault
-use Rattle.capnp_request.specs.Refusals.{IsPlain, is_plain}
+use Rattle.capnp_request.specs.Refusals.{IsUnstrict, is_unstrict}
 
-fault_kind : (f : Fault) → IsPlain (refusal f)
+fault_kind : (f : Fault) → IsUnstrict (refusal f)
 fault_kind fault.BadPointer = refl
 fault_kind fault.TooDeep = refl
 fault_kind fault.CapabilityPointer = refl
 
 -- a kind that is none of these isn't this one, which is
-other : (kind one : ErrorKind) → is_plain one ≡ true → is_plain kind ≡ false → kind ≢ one
-other kind one h not e = true≢false (sym h ∙ (ap is_plain (sym e) ∙ not))
+other : (kind one : ErrorKind) → is_unstrict one ≡ true → is_unstrict kind ≡ false → kind ≢ one
+other kind one h not e = true≢false (sym h ∙ (ap is_unstrict (sym e) ∙ not))
 
-pub copy_kinds : (e : Error) (f : Option Fault) → IsCopyRefusal e f → IsPlain e.kind
-copy_kinds e f h = go (is_plain e.kind) refl
+pub copy_kinds : (e : Error) (f : Option Fault) → IsCopyRefusal e f → IsUnstrict e.kind
+copy_kinds e f h = go (is_unstrict e.kind) refl
   where
-    due : (f : Option Fault) → option_map refusal f ≡ Some e.kind → IsPlain e.kind
+    due : (f : Option Fault) → option_map refusal f ≡ Some e.kind → IsUnstrict e.kind
     due None same = cc
-    due (Some x) same = let is : refusal x ≡ e.kind = cc in subst IsPlain is (fault_kind x)
+    due (Some x) same = let is : refusal x ≡ e.kind = cc in subst IsUnstrict is (fault_kind x)
 
-    go : (q : Bool) → is_plain e.kind ≡ q → IsPlain e.kind
+    go : (q : Bool) → is_unstrict e.kind ≡ q → IsUnstrict e.kind
     go true is = is
     go false not = due f (h (other e.kind OutOfMemory refl not))

@@ -12,13 +12,13 @@ use Rattle.capnp_dynamic_readers.specs.Seen.{list_seen}
 use Rattle.capnp_dynamic_readers.specs.declared.dynamic_list.Reader.{Reader as ListHandle}
 use Rattle.capnp_request.specs.Handles.{element_in, values_left}
 use Rattle.capnp_request.specs.Met.{AreMet}
-use Rattle.capnp_request.specs.Order.{at_node, is_there, name_files, name_root, name_roots, new_ids}
+use Rattle.capnp_request.specs.Order.{at_node, is_node_there, name_files, name_root, name_roots, new_ids}
 use Rattle.capnp_request.specs.Reading.{all_said, both_said, each_said, node_said, whole_list, id_said}
-use Rattle.capnp_request.specs.Parts.{read_at}
+use Rattle.capnp_request.specs.Parts.{request_read_at}
 use Rattle.capnp_request.specs.Scopes.{is_met, node_named, scopes_of}
 use Rattle.capnp_request.specs.Terms.{Said, SchemaNode}
 use Rattle.capnp_request.specs.Types.{is_root, number_struct}
-use Rattle.capnp_request.specs.Work.{◌>>=◌, Bound, Named, Work, continued, given, said}
+use Rattle.capnp_request.specs.Work.{◌>>=◌, Bound, Named, Work, work_continued, work_of, work_said}
 use Rattle.capnp_request.proofs.ListsSaid.{length_of}
 use Rattle.capnp_request.proofs.OrderMade.{drop_at, drop_past}
 use Rattle.capnp_request.proofs.Works.{then_err, then_ok}
@@ -75,7 +75,7 @@ met_moved a b c id =
 
 -- the first id before the others
 pub new_first : (nodes : List SchemaNode) (id : ℕ) (ids met : List ℕ) → new_ids nodes (id ∷ ids) met ≡ new_ids nodes (id ∷ []) met ++ new_ids nodes ids (new_ids nodes (id ∷ []) met ++ met)
-new_first nodes id ids met = go (not (is_met met id) && is_there (node_named nodes id))
+new_first nodes id ids met = go (not (is_met met id) && is_node_there (node_named nodes id))
   where
     go : (q : Bool) → (elim q as (λ _. List ℕ) [ true ↦ id ∷ new_ids nodes ids (id ∷ met) | false ↦ new_ids nodes ids met ])
         ≡ (elim q as (λ _. List ℕ) [ true ↦ id ∷ [] | false ↦ [] ]) ++ new_ids nodes ids ((elim q as (λ _. List ℕ) [ true ↦ id ∷ [] | false ↦ [] ]) ++ met)
@@ -86,8 +86,8 @@ abbrev pub one_if : Bool → ℕ → List ℕ
 one_if true id = id ∷ []
 one_if false id = []
 
-one_new : (nodes : List SchemaNode) (id : ℕ) (met : List ℕ) → new_ids nodes (id ∷ []) met ≡ one_if (not (is_met met id) && is_there (node_named nodes id)) id
-one_new nodes id met = go (not (is_met met id) && is_there (node_named nodes id))
+one_new : (nodes : List SchemaNode) (id : ℕ) (met : List ℕ) → new_ids nodes (id ∷ []) met ≡ one_if (not (is_met met id) && is_node_there (node_named nodes id)) id
+one_new nodes id met = go (not (is_met met id) && is_node_there (node_named nodes id))
   where
     go : (q : Bool) → (elim q as (λ _. List ℕ) [ true ↦ id ∷ [] | false ↦ [] ]) ≡ one_if q id
     go true = refl
@@ -103,11 +103,11 @@ and_true false = refl
 
 -- an id that no node has is none of them
 pub none_missing : (nodes : List SchemaNode) (id : ℕ) (met : List ℕ) → node_named nodes id ≡ None → new_ids nodes (id ∷ []) met ≡ []
-none_missing nodes id met e = one_new nodes id met ∙ ap (λ q. one_if q id) (ap (λ o. not (is_met met id) && is_there o) e ∙ and_false (not (is_met met id)))
+none_missing nodes id met e = one_new nodes id met ∙ ap (λ q. one_if q id) (ap (λ o. not (is_met met id) && is_node_there o) e ∙ and_false (not (is_met met id)))
 
 -- and else it is where it wasn't met
 pub new_where : (nodes : List SchemaNode) (id : ℕ) (met : List ℕ) (n : SchemaNode) (added : Bool) → node_named nodes id ≡ Some n → added ≡ not (is_met met id) → new_ids nodes (id ∷ []) met ≡ one_if added id
-new_where nodes id met n added e is = one_new nodes id met ∙ ap (λ q. one_if q id) (ap (λ o. not (is_met met id) && is_there o) e ∙ (and_true (not (is_met met id)) ∙ sym is))
+new_where nodes id met n added e is = one_new nodes id met ∙ ap (λ q. one_if q id) (ap (λ o. not (is_met met id) && is_node_there o) e ∙ (and_true (not (is_met met id)) ∙ sym is))
 
 is_true : (b : Bool) → false ≡ not b → b ≡ true
 is_true true e = refl
@@ -148,27 +148,27 @@ nothing_left (x ∷ xs) zero h = absurd (omega (arith, h))
 nothing_left (x ∷ xs) (suc i) h = nothing_left xs i (omega (arith, h))
 
 -- what is nested in a node
-pub nested_in : (r : Record) → (node_said r).nested ≡ whole_list 6 (id_said 6) (read_at 2 3 r)
+pub nested_in : (r : Record) → (node_said r).nested ≡ whole_list 6 (id_said 6) (request_read_at 2 3 r)
 unfolding node_said
 nested_in r = refl
 
 module _ (nodes : List SchemaNode) (strict : Bool) (id : ℕ) (root : Bool) (s : Named) where
   abbrev numbered_root : List Bound → Work (List ℕ)
-  numbered_root bound = number_struct id bound >>= (λ number. given [])
+  numbered_root bound = number_struct id bound >>= (λ number. work_of [])
 
   pub no_root : root ≡ false → name_root nodes strict id root s ≡ Ok ([], s)
   no_root e = ap (λ b. name_root nodes strict id b s) e
 
   module _ (is : root ≡ true) where
     pub root_unscoped : (kind : ErrorKind) → scopes_of nodes id ≡ Err kind → name_root nodes strict id root s ≡ Err kind
-    root_unscoped kind e = ap (λ b. name_root nodes strict id b s) is ∙ ap (λ r. continued numbered_root (said r s)) e
+    root_unscoped kind e = ap (λ b. name_root nodes strict id b s) is ∙ ap (λ r. work_continued numbered_root (work_said r s)) e
 
     module _ (bound : List Bound) (scopes : scopes_of nodes id ≡ Ok bound) where
       pub root_unnumbered : (kind : ErrorKind) → number_struct id bound s ≡ Err kind → name_root nodes strict id root s ≡ Err kind
-      root_unnumbered kind e = ap (λ b. name_root nodes strict id b s) is ∙ (ap (λ r. continued numbered_root (said r s)) scopes ∙ ap (continued (λ number. given [])) e)
+      root_unnumbered kind e = ap (λ b. name_root nodes strict id b s) is ∙ (ap (λ r. work_continued numbered_root (work_said r s)) scopes ∙ ap (work_continued (λ number. work_of [])) e)
 
       pub root_numbered : (number : ℕ) (after : Named) → number_struct id bound s ≡ Ok (number, after) → name_root nodes strict id root s ≡ Ok ([], after)
-      root_numbered number after e = ap (λ b. name_root nodes strict id b s) is ∙ (ap (λ r. continued numbered_root (said r s)) scopes ∙ ap (continued (λ number. given [])) e)
+      root_numbered number after e = ap (λ b. name_root nodes strict id b s) is ∙ (ap (λ r. work_continued numbered_root (work_said r s)) scopes ∙ ap (work_continued (λ number. work_of [])) e)
 
 module _ (nodes : List SchemaNode) (strict : Bool) where
   pub no_queue : (steps : ℕ) (met : List ℕ) (s : Named) → name_roots nodes strict steps met [] s ≡ Ok ([], s)
@@ -183,7 +183,7 @@ module _ (nodes : List SchemaNode) (strict : Bool) where
     rest nested none = name_roots nodes strict steps (new_ids nodes nested met ++ met) (ids ++ new_ids nodes nested met)
 
     abbrev within : SchemaNode → Work (List ℕ)
-    within n = said n.nested >>= (λ nested. name_root nodes strict id (is_root n.kind) >>= rest nested)
+    within n = work_said n.nested >>= (λ nested. name_root nodes strict id (is_root n.kind) >>= rest nested)
 
     pub root_missing : node_named nodes id ≡ None → name_roots nodes strict (suc steps) met (id ∷ ids) s ≡ Err NodeNotFound
     root_missing e = ap (λ o. at_node o within s) e
@@ -193,11 +193,11 @@ module _ (nodes : List SchemaNode) (strict : Bool) where
       begun = ap (λ o. at_node o within s) found
 
       pub nested_refused : (kind : ErrorKind) → n.nested ≡ Err kind → name_roots nodes strict (suc steps) met (id ∷ ids) s ≡ Err kind
-      nested_refused kind e = begun ∙ ap (λ x. continued (λ nested. name_root nodes strict id (is_root n.kind) >>= rest nested) (said x s)) e
+      nested_refused kind e = begun ∙ ap (λ x. work_continued (λ nested. name_root nodes strict id (is_root n.kind) >>= rest nested) (work_said x s)) e
 
       module _ (nested : List ℕ) (listed : n.nested ≡ Ok nested) where
         opened : name_roots nodes strict (suc steps) met (id ∷ ids) s ≡ (name_root nodes strict id (is_root n.kind) >>= rest nested) s
-        opened = begun ∙ ap (λ x. continued (λ nested. name_root nodes strict id (is_root n.kind) >>= rest nested) (said x s)) listed
+        opened = begun ∙ ap (λ x. work_continued (λ nested. name_root nodes strict id (is_root n.kind) >>= rest nested) (work_said x s)) listed
 
         pub root_refused : (kind : ErrorKind) → name_root nodes strict id (is_root n.kind) s ≡ Err kind → name_roots nodes strict (suc steps) met (id ∷ ids) s ≡ Err kind
         root_refused kind e = opened ∙ then_err (name_root nodes strict id (is_root n.kind)) (rest nested) s kind e
@@ -258,7 +258,7 @@ module _ (nodes : List SchemaNode) (strict : Bool) (files : Said (List ℕ)) (s 
   from_ids ids = name_roots nodes strict (length nodes) (new_ids nodes ids []) (new_ids nodes ids [])
 
   pub files_refused : (kind : ErrorKind) → files ≡ Err kind → name_files nodes strict files s ≡ Err kind
-  files_refused kind e = ap (λ r. continued from_ids (said r s)) e
+  files_refused kind e = ap (λ r. work_continued from_ids (work_said r s)) e
 
   pub files_opened : (ids : List ℕ) → files ≡ Ok ids → name_files nodes strict files s ≡ name_roots nodes strict (length nodes) (new_ids nodes ids []) (new_ids nodes ids []) s
-  files_opened ids e = ap (λ r. continued from_ids (said r s)) e
+  files_opened ids e = ap (λ r. work_continued from_ids (work_said r s)) e

@@ -13,12 +13,12 @@ use Rattle.capnp_request.specs.Bindings.{with_nothing}
 use Rattle.capnp_request.specs.Conversion.{is_untyped}
 use Rattle.capnp_request.specs.Handles.{IsListOf, values_left}
 use Rattle.capnp_request.specs.Meant.{says_or, scope_in}
-use Rattle.capnp_request.specs.Parts.{one, read_at}
-use Rattle.capnp_request.specs.Reading.{binding_said, bindings_said, brand_in, in_list, in_struct, number_in, scope_said, scopes_said, with_scope}
+use Rattle.capnp_request.specs.Parts.{request_struct, request_read_at}
+use Rattle.capnp_request.specs.Reading.{binding_said, bindings_said, brand_in, list_or, in_struct, number_in, scope_said, scopes_said, with_scope}
 use Rattle.capnp_request.specs.Scopes.{scopes_of}
 use Rattle.capnp_request.specs.Terms.{BindingTerms, BrandTerm, MoreBindings, NoBindings, Said, SchemaNode, TypeTerm, UnreadBrand, UnreadType}
 use Rattle.capnp_request.specs.Types.{bind_scope, binding_types, brand_types, named_scopes, type_of, with_type, without_untyped}
-use Rattle.capnp_request.specs.Work.{◌>>=◌, Bound, Named, continued, each, given, said}
+use Rattle.capnp_request.specs.Work.{◌>>=◌, Bound, Named, work_continued, each, work_of, work_said}
 use Rattle.capnp_request.specs.declared.schema_nodes.GenericScope.{GenericScope}
 use Rattle.capnp_request.proofs.ListsRead.{count_of, element_is, none_left, one_left}
 use Rattle.capnp_request.proofs.Walks.{all_done, more_done, prefixed, step_err, step_ok}
@@ -30,11 +30,11 @@ module _ (inner : Record → TypeTerm) (v : Value) where
   brand_fault kind e = ap (brand_in inner) (sym e)
 
   module _ (r : Record) (there : value.Struct r ≡ v) where
-    pub list_fault : (kind : ErrorKind) → value.Fault kind ≡ read_at 19 0 r → brand_in inner v ≡ UnreadBrand kind
-    list_fault kind e = ap (brand_in inner) (sym there) ∙ ap (in_list UnreadBrand (scopes_said inner)) (sym e)
+    pub list_fault : (kind : ErrorKind) → value.Fault kind ≡ request_read_at 19 0 r → brand_in inner v ≡ UnreadBrand kind
+    list_fault kind e = ap (brand_in inner) (sym there) ∙ ap (list_or UnreadBrand (scopes_said inner)) (sym e)
 
-    pub list_read : (l : ListHandle) (w : Value) → w ≡ value.Elements (values_left l 0) → w ≡ read_at 19 0 r → brand_in inner v ≡ scopes_said inner (values_left l 0)
-    list_read l w whole e = ap (brand_in inner) (sym there) ∙ (ap (in_list UnreadBrand (scopes_said inner)) (sym e) ∙ ap (in_list UnreadBrand (scopes_said inner)) whole)
+    pub list_read : (l : ListHandle) (w : Value) → w ≡ value.Elements (values_left l 0) → w ≡ request_read_at 19 0 r → brand_in inner v ≡ scopes_said inner (values_left l 0)
+    list_read l w whole e = ap (brand_in inner) (sym there) ∙ (ap (list_or UnreadBrand (scopes_said inner)) (sym e) ∙ ap (list_or UnreadBrand (scopes_said inner)) whole)
 
 -- ---- the scopes of a brand ----
 
@@ -42,11 +42,11 @@ module _ (inner : Record → TypeTerm) (l : ListHandle) (i : ℕ) (id : ℕ) whe
   pub scope_end : count_of l ≤ i → scope_in (scopes_said inner (values_left l i)) id ≡ Ok None
   scope_end h = ap (λ vs. scope_in (scopes_said inner vs) id) (none_left l i h)
 
-  module _ (is : IsListOf (one 20) l) (inside : i < count_of l) where
+  module _ (is : IsListOf (request_struct 20) l) (inside : i < count_of l) where
     pub scope_fault : (kind : ErrorKind) → value.Fault kind ≡ element_seen l i → scope_in (scopes_said inner (values_left l i)) id ≡ Err kind
     scope_fault kind e = ap (λ vs. scope_in (scopes_said inner vs) id) (one_left l i inside) ∙ ap (λ (v : Value). scope_in (with_scope inner (scopes_said inner (values_left l (i + 1))) v) id) (element_is l 20 i is ∙ sym e)
 
-    module _ (r : Record) (x : ℕ) (e : value.Struct r ≡ element_seen l i) (number : value.Number (pos x) ≡ read_at 20 0 r) where
+    module _ (r : Record) (x : ℕ) (e : value.Struct r ≡ element_seen l i) (number : value.Number (pos x) ≡ request_read_at 20 0 r) where
       scope_more : scope_in (scopes_said inner (values_left l i)) id ≡ says_or (x == id) (scope_said inner r) (scope_in (scopes_said inner (values_left l (i + 1))) id)
       scope_more =
           ap (λ vs. scope_in (scopes_said inner vs) id) (one_left l i inside)
@@ -85,9 +85,9 @@ module _ (nodes : List SchemaNode) (strict : Bool) (inside : List Bound) (inner 
       go (inl past) = bindings_end i (count - i) ys s past
       go (inr inside) = bindings_full i (count - i) ys s (omega (arith, h, inside))
 
-  module _ (i count : ℕ) (ys : List SchemaType) (s : Named) (is : IsListOf (one 21) l) (within : i < count_of l) (below : i < count) where
+  module _ (i count : ℕ) (ys : List SchemaType) (s : Named) (is : IsListOf (request_struct 21) l) (within : i < count_of l) (below : i < count) where
     step : (k : TypeTerm) → bindings_said inner (values_left l i) ≡ MoreBindings k (left (i + 1)) →
-        prefixed ys (binding_types nodes strict inside (left i) (count - i) s) ≡ prefixed ys (continued (λ y. binding_types nodes strict inside (left (i + 1)) (count - (i + 1)) >>= (λ zs. given (y ∷ zs))) (type_of nodes strict inside k s))
+        prefixed ys (binding_types nodes strict inside (left i) (count - i) s) ≡ prefixed ys (work_continued (λ y. binding_types nodes strict inside (left (i + 1)) (count - (i + 1)) >>= (λ zs. work_of (y ∷ zs))) (type_of nodes strict inside k s))
     step k e =
         let n : count - i ≡ suc (count - (i + 1)) = omega (arith, below) in
         ap (λ m. prefixed ys (binding_types nodes strict inside (left i) m s)) n ∙ ap (λ b. prefixed ys (binding_types nodes strict inside b (suc (count - (i + 1))) s)) e
@@ -100,13 +100,13 @@ module _ (nodes : List SchemaNode) (strict : Bool) (inside : List Bound) (inner 
       here = ap (bindings_said inner) (one_left l i within) ∙ ap (λ (v : Value). MoreBindings (in_struct UnreadType (binding_said inner) v) (left (i + 1))) (element_is l 21 i is ∙ sym e)
 
       pub binding_refused : (kind : ErrorKind) → type_of nodes strict inside (binding_said inner r) s ≡ Err kind → prefixed ys (binding_types nodes strict inside (bindings_said inner (values_left l i)) (count - i) s) ≡ Err kind
-      binding_refused kind h = step (binding_said inner r) here ∙ ap (λ o. prefixed ys (continued (λ y. binding_types nodes strict inside (left (i + 1)) (count - (i + 1)) >>= (λ zs. given (y ∷ zs))) o)) h
+      binding_refused kind h = step (binding_said inner r) here ∙ ap (λ o. prefixed ys (work_continued (λ y. binding_types nodes strict inside (left (i + 1)) (count - (i + 1)) >>= (λ zs. work_of (y ∷ zs))) o)) h
 
       pub binding_more : (y : SchemaType) (t : Named) (after : List SchemaType) → type_of nodes strict inside (binding_said inner r) s ≡ Ok (y, t) → after ≡ ys ++ y ∷ [] →
           prefixed ys (binding_types nodes strict inside (bindings_said inner (values_left l i)) (count - i) s) ≡ prefixed after (binding_types nodes strict inside (bindings_said inner (values_left l (i + 1))) (count - (i + 1)) t)
       binding_more y t after h all =
           step (binding_said inner r) here
-          ∙ (ap (λ o. prefixed ys (continued (λ y. binding_types nodes strict inside (left (i + 1)) (count - (i + 1)) >>= (λ zs. given (y ∷ zs))) o)) h
+          ∙ (ap (λ o. prefixed ys (work_continued (λ y. binding_types nodes strict inside (left (i + 1)) (count - (i + 1)) >>= (λ zs. work_of (y ∷ zs))) o)) h
           ∙ (more_done ys y (binding_types nodes strict inside (left (i + 1)) (count - (i + 1)) t)
           ∙ ap (λ (zs : List SchemaType). prefixed zs (binding_types nodes strict inside (left (i + 1)) (count - (i + 1)) t)) (sym all)))
 
@@ -179,7 +179,7 @@ kept_below false i kept next is below = omega (arith, is)
 
 module _ (nodes : List SchemaNode) (strict : Bool) (inside : List Bound) (id : ℕ) (brand : BrandTerm) (s : Named) where
   abbrev work : BrandTerm → Said (List Bound) → Result (List Bound × Named) ErrorKind
-  work b scopes = (said scopes >>= each (bind_scope (brand_types nodes strict inside b))) s
+  work b scopes = (work_said scopes >>= each (bind_scope (brand_types nodes strict inside b))) s
 
   pub scopes_unread : (kind : ErrorKind) → scopes_of nodes id ≡ Err kind → named_scopes nodes strict inside id brand s ≡ Err kind
   scopes_unread kind e = ap (work brand) e
@@ -232,12 +232,12 @@ module _ (nodes : List SchemaNode) (strict : Bool) (inside : List Bound) (brand 
     pub bind_refused : (kind : ErrorKind) → brand_types nodes strict inside brand (with_nothing (get_or generic i d)) s ≡ Err kind → prefixed ys (each (bind_scope (brand_types nodes strict inside brand)) (map with_nothing (drop i generic)) s) ≡ Err kind
     bind_refused kind e =
         next_bound ∙ step_err (bind_scope (brand_types nodes strict inside brand)) ys (with_nothing (get_or generic i d)) (map with_nothing (drop (i + 1) generic)) s kind
-        (ap (continued (λ ts. given (record (with_nothing (get_or generic i d)) { types = ts }))) e)
+        (ap (work_continued (λ ts. work_of (record (with_nothing (get_or generic i d)) { types = ts }))) e)
 
     pub bind_more : (ts : List SchemaType) (t : Named) (after : List Bound) → brand_types nodes strict inside brand (with_nothing (get_or generic i d)) s ≡ Ok (ts, t) → after ≡ ys ++ record (with_nothing (get_or generic i d)) { types = ts } ∷ [] →
         prefixed ys (each (bind_scope (brand_types nodes strict inside brand)) (map with_nothing (drop i generic)) s) ≡ prefixed after (each (bind_scope (brand_types nodes strict inside brand)) (map with_nothing (drop (i + 1) generic)) t)
     bind_more ts t after e all =
         next_bound
         ∙ (step_ok (bind_scope (brand_types nodes strict inside brand)) ys (with_nothing (get_or generic i d)) (map with_nothing (drop (i + 1) generic)) (record (with_nothing (get_or generic i d)) { types = ts }) s t
-        (ap (continued (λ us. given (record (with_nothing (get_or generic i d)) { types = us }))) e)
+        (ap (work_continued (λ us. work_of (record (with_nothing (get_or generic i d)) { types = us }))) e)
         ∙ ap (λ (zs : List Bound). prefixed zs (each_bound (drop (i + 1) generic) t)) (sym all))

@@ -20,14 +20,14 @@ use Rattle.capnp_records.specs.Record as value
 use Rattle.capnp_records.specs.Record.{Left, Record, Value, values_from}
 use Rattle.capnp_dynamic_readers.specs.Handles.{element_of, list_reader_of, list_set, reader_of, schema_of}
 use Rattle.capnp_dynamic_readers.specs.Reads.{element_seen, handed_out}
-use Rattle.capnp_dynamic_readers.specs.Seen.{answered, list_seen, record_seen}
+use Rattle.capnp_dynamic_readers.specs.Seen.{answered_value, list_seen, record_seen}
 use Rattle.capnp_dynamic_readers.specs.Typed.{IsOf}
 use Rattle.capnp_dynamic_readers.specs.declared.dynamic_list.Reader.{Reader as ListHandle}
 use Rattle.capnp_dynamic_readers.specs.declared.dynamic_struct.Reader.{Reader as StructHandle}
 use Rattle.capnp_dynamic_readers.specs.declared.dynamic_value.Reader.{Reader as DynamicValue}
 use Rattle.capnp_request.specs.Handles.{IsListOf}
-use Rattle.capnp_request.specs.Parts.{read_at}
-use Rattle.capnp_request.specs.Refusals.{IsPlain}
+use Rattle.capnp_request.specs.Parts.{request_read_at}
+use Rattle.capnp_request.specs.Refusals.{IsUnstrict}
 
 -- ---- records ----
 
@@ -50,8 +50,8 @@ handed_out-sound (Slot offset default) v s = s
 handed_out-sound (Group node) (value.Group r) s = s
 handed_out-sound (Group node) v s = s
 
-pub read_at-sound : (b i : ℕ) (r : Record) → RecordSound r → Sound (read_at b i r)
-unfolding read_at
+pub read_at-sound : (b i : ℕ) (r : Record) → RecordSound r → Sound (request_read_at b i r)
+unfolding request_read_at
 read_at-sound b i r s =
     handed_out-sound (field_at request_set b i).field.kind _
     (read_of-sound request_set (default_of (field_at request_set b i).field) (field_at request_set b i).type (part_at r (field_at request_set b i).field i) (part-sound r s (field_at request_set b i).field i))
@@ -80,7 +80,7 @@ element_typed t l r is h =
 
 -- ---- refusals ----
 
-pub of_reads : (kind : ErrorKind) → IsReadKind kind → IsPlain kind
+pub of_reads : (kind : ErrorKind) → IsReadKind kind → IsUnstrict kind
 of_reads BadPointer e = refl
 of_reads WrongPointerKind e = refl
 of_reads WrongElementSize e = refl
@@ -90,6 +90,6 @@ of_reads CapabilityPointer e = refl
 of_reads kind e = cc
 
 -- a read is refused with one of these kinds
-pub read_kinds : (r : Result DynamicValue Error) (v : Value) → answered r ≡ v → Sound v → IfErr r (λ e. IsPlain e.kind)
+pub read_kinds : (r : Result DynamicValue Error) (v : Value) → answered_value r ≡ v → Sound v → IfErr r (λ e. IsUnstrict e.kind)
 read_kinds (Ok a) v e s = tt
 read_kinds (Err error) v e s = of_reads error.kind (subst Sound (sym e) s)

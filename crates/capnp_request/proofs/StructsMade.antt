@@ -18,13 +18,13 @@ use Rattle.capnp_request.specs.Conversion.{Converted, Note, annotations_of, fiel
 use Rattle.capnp_request.specs.ConvertedSeen.{seen_converted, typed_annotations}
 use Rattle.capnp_request.specs.Order.{all_fields, all_notes, at_struct, firsts, seconds, struct_made}
 use Rattle.capnp_request.specs.Handles.{values_left}
-use Rattle.capnp_request.specs.Parts.{read_at}
-use Rattle.capnp_request.specs.Reading.{annotations_in, each_said, field_said, list_said, node_said, struct_said}
-use Rattle.capnp_request.specs.Shapes.{IsBrandOf, note, noted}
-use Rattle.capnp_request.specs.StructsSeen.{child_types, field_records, field_types, seen_fields, seen_note, seen_notes, seen_stand_in}
+use Rattle.capnp_request.specs.Parts.{request_read_at}
+use Rattle.capnp_request.specs.Reading.{annotation_terms_in, each_said, field_said, list_said, node_said, struct_said}
+use Rattle.capnp_request.specs.Shapes.{IsBrandOf, note, noted_where}
+use Rattle.capnp_request.specs.StructsSeen.{converted_child_types, field_records, field_types, seen_fields, seen_note, seen_notes, seen_stand_in}
 use Rattle.capnp_request.specs.Terms.{AnnotationNode, EnumNode, FieldTerm, NodeKind, OtherNode, Said, SchemaNode, StructNode, StructPart}
-use Rattle.capnp_request.specs.Types.{is_struct}
-use Rattle.capnp_request.specs.Work.{◌>>=◌, Bound, Named, Work, continued, given, said}
+use Rattle.capnp_request.specs.Types.{is_struct_kind}
+use Rattle.capnp_request.specs.Work.{◌>>=◌, Bound, Named, Work, work_continued, work_of, work_said}
 use Rattle.capnp_request.specs.declared.fields.ConvertedField.{ConvertedField}
 use Rattle.capnp_request.specs.declared.notes.Note.{Note as NoteRecord}
 use Rattle.capnp_request.specs.declared.notes.StandIn.{StandIn as StandInRecord}
@@ -46,7 +46,7 @@ second_types (a ∷ xs) (t ∷ ts) e = ap (λ ys. seen_type t ∷ ys) (second_ty
 
 -- ---- notes ----
 
-pub one_note : (q : Bool) (entry field : ℕ) (s : StandInRecord) → seen_notes (noted q (note entry field s)) ≡ note_where q (note_at entry field (seen_stand_in s))
+pub one_note : (q : Bool) (entry field : ℕ) (s : StandInRecord) → seen_notes (noted_where q (note entry field s)) ≡ note_where q (note_at entry field (seen_stand_in s))
 one_note true entry field s = refl
 one_note false entry field s = refl
 
@@ -78,7 +78,7 @@ pub types_seen : (n i : ℕ) (fs : List ConvertedField) → map (λ (c : Convert
 types_seen n i [] = refl
 types_seen n i (f ∷ fs) = ap (λ xs. seen_type f.field_type ∷ xs) (types_seen n (i + 1) fs)
 
-pub children_seen : (n i : ℕ) (fs : List ConvertedField) → map (λ (c : Converted). c.annotation_types) (seen_fields n i fs) ≡ map (λ types. map seen_type types) (child_types fs)
+pub children_seen : (n i : ℕ) (fs : List ConvertedField) → map (λ (c : Converted). c.annotation_types) (seen_fields n i fs) ≡ map (λ types. map seen_type types) (converted_child_types fs)
 children_seen n i [] = refl
 children_seen n i (f ∷ fs) = ap (λ xs. map seen_type f.annotation_types.items ∷ xs) (children_seen n (i + 1) fs)
 
@@ -86,19 +86,19 @@ children_seen n i (f ∷ fs) = ap (λ xs. map seen_type f.annotation_types.items
 
 pub fields_opened : (nodes : List SchemaNode) (strict : Bool) (bound : List Bound) (number : ℕ) (fields : Said (List (Said FieldTerm))) (terms : List (Said FieldTerm)) (s : Named) → fields ≡ Ok terms →
     all_fields nodes strict bound number fields s ≡ fields_of nodes strict bound number 0 terms s
-fields_opened nodes strict bound number fields terms s e = ap (λ r. continued (fields_of nodes strict bound number 0) (said r s)) e
+fields_opened nodes strict bound number fields terms s e = ap (λ r. work_continued (fields_of nodes strict bound number 0) (work_said r s)) e
 
 pub fields_unread : (nodes : List SchemaNode) (strict : Bool) (bound : List Bound) (number : ℕ) (fields : Said (List (Said FieldTerm))) (kind : ErrorKind) (s : Named) → fields ≡ Err kind →
     all_fields nodes strict bound number fields s ≡ Err kind
-fields_unread nodes strict bound number fields kind s e = ap (λ r. continued (fields_of nodes strict bound number 0) (said r s)) e
+fields_unread nodes strict bound number fields kind s e = ap (λ r. work_continued (fields_of nodes strict bound number 0) (work_said r s)) e
 
 -- what the struct part of a node says of its fields
-pub fields_in : (part : Record) (v : Value) → v ≡ read_at 3 5 part → (struct_said part).fields ≡ list_said 8 field_said v
+pub fields_in : (part : Record) (v : Value) → v ≡ request_read_at 3 5 part → (struct_said part).fields ≡ list_said 8 field_said v
 unfolding struct_said
 fields_in part v e = ap (list_said 8 field_said) (sym e)
 
 -- and where a list was read
-pub listed_fields : (part : Record) (l : ListHandle) → list_seen l ≡ read_at 3 5 part → (struct_said part).fields ≡ Ok (each_said 8 field_said (values_left l 0))
+pub listed_fields : (part : Record) (l : ListHandle) → list_seen l ≡ request_read_at 3 5 part → (struct_said part).fields ≡ Ok (each_said 8 field_said (values_left l 0))
 listed_fields part l e = fields_in part (list_seen l) e ∙ said_all l 8 field_said
 
 -- the notes of one field more
@@ -108,11 +108,11 @@ notes_of_fields n i fs f all notes after e count more is =
     let at : 0 + length fs ≡ i = omega (arith, count) in
     is ∙ (ap (λ ns. ns ++ (seen_converted n i f).notes) e ∙ (sym (notes_of_more (seen_fields n 0 fs) (seen_converted n i f)) ∙ ap all_notes (sym (ap (seen_fields n 0) more ∙ fields_more n 0 fs f i at))))
 
-pub annotations_on : (r : Record) → (node_said r).annotations ≡ annotations_in (read_at 2 4 r)
+pub annotations_on : (r : Record) → (node_said r).annotations ≡ annotation_terms_in (request_read_at 2 4 r)
 unfolding node_said
 annotations_on r = refl
 
-no_struct : {A : Type 0} (kind : NodeKind) (f : StructPart → Work A) (s : Named) → is_struct kind ≡ false → at_struct kind f s ≡ Err NodeNotFound
+no_struct : {A : Type 0} (kind : NodeKind) (f : StructPart → Work A) (s : Named) → is_struct_kind kind ≡ false → at_struct kind f s ≡ Err NodeNotFound
 no_struct (StructNode part) f s e = cc
 no_struct (EnumNode enumerants) f s e = refl
 no_struct (AnnotationNode t) f s e = refl
@@ -126,7 +126,7 @@ module _ (nodes : List SchemaNode) (strict : Bool) (number id : ℕ) (bound : Li
   brand_made fields own = record { node = number; field_types = map (λ (f : Converted). f.type) fields; annotation_types = record { own = seconds own; children = map (λ (f : Converted). f.annotation_types) fields } }
 
   abbrev with_own : StructPart → List Converted → List (Annotation × SchemaType) → Work (Node × Brand × List Note)
-  with_own part fields own = given (node_made part fields own, brand_made fields own, all_notes fields)
+  with_own part fields own = work_of (node_made part fields own, brand_made fields own, all_notes fields)
 
   abbrev with_fields : StructPart → List Converted → Work (Node × Brand × List Note)
   with_fields part fields = annotations_of nodes strict bound n.annotations >>= with_own part fields
@@ -134,7 +134,7 @@ module _ (nodes : List SchemaNode) (strict : Bool) (number id : ℕ) (bound : Li
   abbrev with_part : StructPart → Work (Node × Brand × List Note)
   with_part part = all_fields nodes strict bound number part.fields >>= with_fields part
 
-  pub struct_missing : (kind : ErrorKind) → is_struct n.kind ≡ false → kind ≡ NodeNotFound → struct_made nodes strict number id bound name n s ≡ Err kind
+  pub struct_missing : (kind : ErrorKind) → is_struct_kind n.kind ≡ false → kind ≡ NodeNotFound → struct_made nodes strict number id bound name n s ≡ Err kind
   struct_missing kind e k = no_struct n.kind with_part s e ∙ ap (λ (x : ErrorKind). Err x) (sym k)
 
   module _ (part : StructPart) (is : n.kind ≡ StructNode part) where
@@ -197,7 +197,7 @@ counted f (x ∷ xs) = ap suc (counted f xs)
 
 -- as many types, and lists of them, as fields
 pub brand_counted : (n : NodeRecord) (b : BrandRecord) (i : ℕ) (fs : List ConvertedField) → b.node ≡ i → b.field_types.items ≡ field_types fs → n.body.fields.items ≡ field_records fs → length b.annotation_types.own.items ≡ length n.annotations.items
-    → map (λ (v : Vec TypeHandle Global). v.items) b.annotation_types.children.items ≡ child_types fs → IsBrandOf i n b
+    → map (λ (v : Vec TypeHandle Global). v.items) b.annotation_types.children.items ≡ converted_child_types fs → IsBrandOf i n b
 brand_counted n b i fs number types records own children = record {
   number = number;
   fields = ap length types ∙ (counted (λ (f : ConvertedField). f.field_type) fs ∙ all);

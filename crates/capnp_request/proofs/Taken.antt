@@ -13,11 +13,11 @@ use Rattle.capnp_dynamic_readers.specs.declared.dynamic_list.Reader.{Reader as L
 use Rattle.capnp_dynamic_readers.specs.declared.dynamic_struct.Reader.{Reader as StructHandle}
 use Rattle.capnp_dynamic_readers.specs.declared.dynamic_value.Reader.{Reader as DynamicValue}
 use Rattle.capnp_dynamic_readers.specs.declared.dynamic_value.Reader.TheVariants as dynamic
-use Rattle.capnp_request.specs.Handles.{IsListOf, IsRecord}
-use Rattle.capnp_request.specs.Parts.{one}
+use Rattle.capnp_request.specs.Handles.{IsListOf, IsRequestRecord}
+use Rattle.capnp_request.specs.Parts.{request_struct}
 
-abbrev by_bytes : ℕ → (one two four eight : Kind) → Kind
-by_bytes bytes one two four eight = cond (bytes == 1) one (cond (bytes == 2) two (cond (bytes == 4) four eight))
+abbrev by_bytes : ℕ → (request_struct two four eight : Kind) → Kind
+by_bytes bytes request_struct two four eight = cond (bytes == 1) request_struct (cond (bytes == 2) two (cond (bytes == 4) four eight))
 
 abbrev pub kind_of_type : SchemaType → Kind
 kind_of_type VoidType = VoidKind
@@ -54,7 +54,7 @@ pub kind_is : (set : Schemas) (t u : SchemaType) (v : DynamicValue) → IsOf set
 kind_is set t u v h e = kind_under set t v h ∙ ap kind_of_type e
 
 -- a struct under a brand's type is of the brand
-pub record_under : {t : SchemaType} (v : DynamicValue) (s : StructHandle) (b : ℕ) → IsOf request_set t v → dynamic.Struct s ≡ v → t ≡ one b → IsRecord b s
+pub record_under : {t : SchemaType} (v : DynamicValue) (s : StructHandle) (b : ℕ) → IsOf request_set t v → dynamic.Struct s ≡ v → t ≡ request_struct b → IsRequestRecord b s
 record_under {t = t} v s b h e same =
     let of : IsOf request_set t (dynamic.Struct s) = subst (IsOf request_set t) (sym e) h in
     record { set = of.1; number = ap struct_number (of.2 ∙ same) }

@@ -17,25 +17,25 @@ use Rattle.capnp_records.specs.Part.{which_of}
 use Rattle.capnp_records.specs.Record.{Record}
 use Rattle.capnp_records.specs.Record.{Value as RecordValue}
 use Rattle.capnp_request.specs.Conversion.{is_untyped_default}
-use Rattle.capnp_request.specs.Parts.{read_at}
+use Rattle.capnp_request.specs.Parts.{request_read_at}
 use Rattle.capnp_request.specs.Reading.{by_member, bytes_value, pointer_value, value_kinds, value_said}
 use Rattle.capnp_request.specs.Terms.{ListWords, StructWords, UnreadValue, ValueTerm}
-use Rattle.capnp_request.specs.Values.{value_of, words_or_fault, words_said, words_that_fit}
+use Rattle.capnp_request.specs.Values.{value_stated, words_or_fault, words_value, words_that_fit}
 
 -- what member i says, where this is read of it
 abbrev pub kind_at : ℕ → RecordValue → ValueTerm
 kind_at i = unwrap_or (slice_get value_kinds i) (λ v. UnreadValue UnknownKind)
 
-pub said_by : (r : Record) (m i : ℕ) (v : RecordValue) → which_of r ≡ Some m → m ≡ i → v ≡ read_at 22 i r → value_said r ≡ kind_at i v
+pub said_by : (r : Record) (m i : ℕ) (v : RecordValue) → which_of r ≡ Some m → m ≡ i → v ≡ request_read_at 22 i r → value_said r ≡ kind_at i v
 said_by r m i v which is read = ap (λ o. by_member (UnreadValue UnknownKind) value_kinds 22 o r) (which ∙ ap (λ k. Some k) is) ∙ ap (kind_at i) (sym read)
 
 -- the same of a member that isn't looked at
-pub said_so : (r : Record) (m i : ℕ) → which_of r ≡ Some m → m ≡ i → value_said r ≡ kind_at i (read_at 22 i r)
-said_so r m i which is = said_by r m i (read_at 22 i r) which is refl
+pub said_so : (r : Record) (m i : ℕ) → which_of r ≡ Some m → m ≡ i → value_said r ≡ kind_at i (request_read_at 22 i r)
+said_so r m i which is = said_by r m i (request_read_at 22 i r) which is refl
 
 -- the words of a tree in which each pointer can be followed
-pub words_there : (t : Tree) (f : List ℕ → Value) (w : List ℕ) → words_or_fault (first_fault t) t ≡ Ok w → words_said f (words_or_fault (first_fault t) t) ≡ Ok (f w)
-words_there t f w e = ap (words_said f) e
+pub words_there : (t : Tree) (f : List ℕ → Value) (w : List ℕ) → words_or_fault (first_fault t) t ≡ Ok w → words_value f (words_or_fault (first_fault t) t) ≡ Ok (f w)
+words_there t f w e = ap (words_value f) e
 
 pub words_of_sound : (t : Tree) (bytes w : List ℕ) → first_fault t ≡ None → suc (words_of t) < 2 ^ 29 → bytes ≡ message_of t → w ≡ drop 8 bytes → words_or_fault (first_fault t) t ≡ Ok w
 words_of_sound t bytes w sound few whole rest =
@@ -49,16 +49,16 @@ words_faulty t kind = go (first_fault t)
     go None e = cc
     go (Some fault) e = let same : refusal fault ≡ kind = cc in ap (λ k. Err k) same
 
-pub words_refused : (t : Tree) (f : List ℕ → Value) (kind : ErrorKind) → words_or_fault (first_fault t) t ≡ Err kind → words_said f (words_or_fault (first_fault t) t) ≡ Err kind
-words_refused t f kind e = ap (words_said f) e
+pub words_refused : (t : Tree) (f : List ℕ → Value) (kind : ErrorKind) → words_or_fault (first_fault t) t ≡ Err kind → words_value f (words_or_fault (first_fault t) t) ≡ Err kind
+words_refused t f kind e = ap (words_value f) e
 
-pub value_none : (r : Record) → which_of r ≡ None → value_of (value_said r) ≡ Err UnknownKind
-value_none r which = ap (λ o. value_of (by_member (UnreadValue UnknownKind) value_kinds 22 o r)) which
+pub value_none : (r : Record) → which_of r ≡ None → value_stated (value_said r) ≡ Err UnknownKind
+value_none r which = ap (λ o. value_stated (by_member (UnreadValue UnknownKind) value_kinds 22 o r)) which
 
-pub value_past : (r : Record) (m : ℕ) → which_of r ≡ Some m → 19 ≤ m → value_of (value_said r) ≡ Err UnknownKind
+pub value_past : (r : Record) (m : ℕ) → which_of r ≡ Some m → 19 ≤ m → value_stated (value_said r) ≡ Err UnknownKind
 value_past r m which past =
-    ap value_of (said_so r m m which refl)
-    ∙ ap (λ (o : Option (RecordValue → ValueTerm)). value_of (unwrap_or o (λ (v : RecordValue). UnreadValue UnknownKind) (read_at 22 m r))) (slice_get_past value_kinds m past)
+    ap value_stated (said_so r m m which refl)
+    ∙ ap (λ (o : Option (RecordValue → ValueTerm)). value_stated (unwrap_or o (λ (v : RecordValue). UnreadValue UnknownKind) (request_read_at 22 m r))) (slice_get_past value_kinds m past)
 
 -- ---- the words of a message that was written ----
 
@@ -123,10 +123,10 @@ typed_member (suc (suc (suc (suc (suc (suc (suc (suc (suc (suc (suc (suc (suc (s
 typed_member (suc (suc (suc (suc (suc (suc (suc (suc (suc (suc (suc (suc (suc (suc (suc (suc (suc (suc (suc m))))))))))))))))))) v other = refl
 
 pub not_untyped : (r : Record) (m : ℕ) → which_of r ≡ Some m → (m ≡ 18 → ⊥) → is_untyped_default (value_said r) ≡ false
-not_untyped r m which other = ap is_untyped_default (said_so r m m which refl) ∙ typed_member m (read_at 22 m r) other
+not_untyped r m which other = ap is_untyped_default (said_so r m m which refl) ∙ typed_member m (request_read_at 22 m r) other
 
 pub no_member : (r : Record) → which_of r ≡ None → is_untyped_default (value_said r) ≡ false
 no_member r which = ap (λ o. is_untyped_default (by_member (UnreadValue UnknownKind) value_kinds 22 o r)) which
 
-pub is_untyped_member : (r : Record) (m : ℕ) (t : Tree) → which_of r ≡ Some m → m ≡ 18 → record_value.Untyped t ≡ read_at 22 18 r → is_untyped_default (value_said r) ≡ not (is_null_tree t)
+pub is_untyped_member : (r : Record) (m : ℕ) (t : Tree) → which_of r ≡ Some m → m ≡ 18 → record_value.Untyped t ≡ request_read_at 22 18 r → is_untyped_default (value_said r) ≡ not (is_null_tree t)
 is_untyped_member r m t which is read = ap is_untyped_default (said_by r m 18 (record_value.Untyped t) which is read)

@@ -7,9 +7,9 @@ use Rattle.capnp_schema.specs.Schema.{Annotation, Field, FieldKind, Group, Slot}
 use Rattle.capnp_schema.specs.Types.{SchemaType, AnyPointerType, StructType}
 use Rattle.capnp_request.specs.Scopes.{node_named}
 use Rattle.capnp_request.specs.Terms.{AnnotationNode, AnnotationTerm, BrandTerm, EnumNode, FieldKindTerm, FieldTerm, GroupTerm, ListWords, NodeKind, OtherNode, Said, SchemaNode, SlotTerm, Stands, StructNode, StructWords, TypeTerm, UnreadField, UnreadValue, Untyped, ValueTerm}
-use Rattle.capnp_request.specs.Types.{add_entry, is_struct, named_scopes, type_of, where_node}
-use Rattle.capnp_request.specs.Values.{value_of}
-use Rattle.capnp_request.specs.Work.{◌>>=◌, Bound, GroupOf, Seen, Work, each_read, given, refused, said, seen_in, unnoted}
+use Rattle.capnp_request.specs.Types.{add_entry, is_struct_kind, named_scopes, type_of, where_node}
+use Rattle.capnp_request.specs.Values.{value_stated}
+use Rattle.capnp_request.specs.Work.{◌>>=◌, Bound, GroupOf, Seen, Work, each_read, work_of, work_refused, work_said, seen_in, work_unnoted}
 
 -- ---- notes ----
 
@@ -52,8 +52,8 @@ is_untyped_default (Untyped t) = not (is_null_tree t)
 is_untyped_default (UnreadValue kind) = false
 
 -- a name as it stands
-abbrev pub name_of : List ℕ → Said (List ℕ)
-name_of bytes = elim (is_utf8 bytes) [ true ↦ Ok bytes | false ↦ Err NameNotUtf8 ]
+abbrev pub converted_name : List ℕ → Said (List ℕ)
+converted_name bytes = elim (is_utf8 bytes) [ true ↦ Ok bytes | false ↦ Err NameNotUtf8 ]
 
 -- a field with its type, the types of its annotations, and what is noted of it
 pub record Converted : Type 0 where
@@ -79,7 +79,7 @@ module _ (nodes : List SchemaNode) (strict : Bool) where
   -- the type of an annotation: that of its declaration, read inside what its brand binds there
   abbrev pub declared_in : Option TypeTerm → Work (List Bound) → Work SchemaType
   declared_in (Some t) bindings = bindings >>= (λ bound. type_of nodes strict bound t)
-  declared_in None bindings = refused NodeNotFound
+  declared_in None bindings = work_refused NodeNotFound
 
   abbrev pub declared_type : ℕ → List Bound → BrandTerm → Work SchemaType
   declared_type id inside brand =
@@ -87,26 +87,26 @@ module _ (nodes : List SchemaNode) (strict : Bool) where
 
   abbrev pub annotation_of : List Bound → AnnotationTerm → Work (Annotation × SchemaType)
   annotation_of inside a =
-      said (value_of a.value) >>= (λ v. unnoted (declared_type a.id inside a.brand) >>= (λ t. given (record { id = a.id; value = v }, t)))
+      work_said (value_stated a.value) >>= (λ v. work_unnoted (declared_type a.id inside a.brand) >>= (λ t. work_of (record { id = a.id; value = v }, t)))
 
   abbrev pub annotations_of : List Bound → Said (List (Said AnnotationTerm)) → Work (List (Annotation × SchemaType))
-  annotations_of inside list = said list >>= each_read (annotation_of inside)
+  annotations_of inside list = work_said list >>= each_read (annotation_of inside)
 
   -- ---- fields ----
 
   -- field i of entry n inside what is bound there: a slot with its type and default, or a group, an entry for itself
   abbrev pub kind_of : List Bound → (n i : ℕ) → FieldKindTerm → Work (FieldKind × SchemaType × List Note)
   kind_of inside n i (SlotTerm offset t default) =
-      seen_in (type_of nodes strict inside t) >>= (λ typed. said (value_of default)
-      >>= (λ v. given (Slot offset v, typed.0, notes_of n i typed.1 (is_untyped typed.0 && is_untyped_default default))))
+      seen_in (type_of nodes strict inside t) >>= (λ typed. work_said (value_stated default)
+      >>= (λ v. work_of (Slot offset v, typed.0, notes_of n i typed.1 (is_untyped typed.0 && is_untyped_default default))))
   kind_of inside n i (GroupTerm id) =
-      where_node is_struct nodes id (add_entry (record { node = id; bound = inside; place = GroupOf n i })) >>= (λ number. given (Group number, StructType number number, []))
-  kind_of inside n i (UnreadField kind) = refused kind
+      where_node is_struct_kind nodes id (add_entry (record { node = id; bound = inside; place = GroupOf n i })) >>= (λ number. work_of (Group number, StructType number number, []))
+  kind_of inside n i (UnreadField kind) = work_refused kind
 
   abbrev pub field_of : List Bound → (n i : ℕ) → FieldTerm → Work Converted
   field_of inside n i f =
-      said f.name >>= (λ bytes. said (name_of bytes) >>= (λ name. kind_of inside n i f.kind >>= (λ kind. annotations_of inside f.annotations
-      >>= (λ annotations. given (record {
+      work_said f.name >>= (λ bytes. work_said (converted_name bytes) >>= (λ name. kind_of inside n i f.kind >>= (λ kind. annotations_of inside f.annotations
+      >>= (λ annotations. work_of (record {
         field = record { name = name; discriminant_value = f.discriminant_value; annotations = map (λ (p : Annotation × SchemaType). p.0) annotations; kind = kind.0 };
         type = kind.1;
         annotation_types = map (λ (p : Annotation × SchemaType). p.1) annotations;
@@ -116,4 +116,4 @@ module _ (nodes : List SchemaNode) (strict : Bool) where
   -- the fields of an entry, by index
   abbrev pub fields_of : List Bound → (n i : ℕ) → List (Said FieldTerm) → Work (List Converted)
   fields_of inside n i [] s = Ok ([], s)
-  fields_of inside n i (f ∷ fs) s = ((said f >>= field_of inside n i) >>= (λ first. fields_of inside n (i + 1) fs >>= (λ rest. given (first ∷ rest)))) s
+  fields_of inside n i (f ∷ fs) s = ((work_said f >>= field_of inside n i) >>= (λ first. fields_of inside n (i + 1) fs >>= (λ rest. work_of (first ∷ rest)))) s

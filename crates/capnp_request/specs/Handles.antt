@@ -18,16 +18,16 @@ use Rattle.capnp_dynamic_readers.specs.declared.dynamic_list.Reader.{Reader as L
 use Rattle.capnp_dynamic_readers.specs.declared.dynamic_struct.Reader.{Reader as StructHandle}
 
 -- a struct of a brand of the request set
-pub record IsRecord (b : ℕ) (s : StructHandle) : Type 0 where
+pub record IsRequestRecord (b : ℕ) (s : StructHandle) : Type 0 where
   pub set : set_of (schema_of s) ≡ request_set
   pub number : number_of (schema_of s) ≡ b
 
 -- field i of such a struct: a plain one, or the active member
-abbrev pub IsActive : ℕ → ℕ → StructHandle → Type 0
-IsActive b i s = (is_member (field_at request_set b i).field ≡ false) ⊎ (which_of (record_seen s) ≡ Some i)
+abbrev pub IsRequestFieldActive : ℕ → ℕ → StructHandle → Type 0
+IsRequestFieldActive b i s = (is_member (field_at request_set b i).field ≡ false) ⊎ (which_of (record_seen s) ≡ Some i)
 
-abbrev pub IsField : ℕ → ℕ → SchemaType → Type 0
-IsField b i t = (i < length (fields_of request_set b)) × ((field_at request_set b i).type ≡ t)
+abbrev pub IsRequestField : ℕ → ℕ → SchemaType → Type 0
+IsRequestField b i t = (i < length (fields_of request_set b)) × ((field_at request_set b i).type ≡ t)
 
 -- the field is a group
 abbrev pub is_group_kind : FieldKind → Bool

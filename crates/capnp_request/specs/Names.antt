@@ -10,12 +10,12 @@ use Rattle.capnp_request.specs.Work.{Bound}
 
 -- ---- a display name's file and dotted name ----
 
-abbrev pub count_of : ℕ → List ℕ → ℕ
-count_of byte [] = 0
-count_of byte (x ∷ xs) = elim (x == byte) [ true ↦ suc (count_of byte xs) | false ↦ count_of byte xs ]
+abbrev pub occurrences_of : ℕ → List ℕ → ℕ
+occurrences_of byte [] = 0
+occurrences_of byte (x ∷ xs) = elim (x == byte) [ true ↦ suc (occurrences_of byte xs) | false ↦ occurrences_of byte xs ]
 
 abbrev pub has_colon : List ℕ → Bool
-has_colon xs = nat_lt 0 (count_of 58 xs)
+has_colon xs = nat_lt 0 (occurrences_of 58 xs)
 
 -- what stands up to the last colon and with it, and what stands behind it
 abbrev pub file_of : List ℕ → List ℕ
@@ -27,8 +27,8 @@ dotted_of [] = []
 dotted_of (x ∷ xs) = elim (has_colon (x ∷ xs)) [ true ↦ dotted_of xs | false ↦ x ∷ xs ]
 
 -- a name has at most 1,024 bytes and is UTF-8
-abbrev pub finished : List ℕ → Said (List ℕ)
-finished name = elim (nat_lt 1024 (length name)) [ true ↦ Err TooManyTypes | false ↦ elim (is_utf8 name) [ true ↦ Ok name | false ↦ Err NameNotUtf8 ] ]
+abbrev pub finished_name : List ℕ → Said (List ℕ)
+finished_name name = elim (nat_lt 1024 (length name)) [ true ↦ Err TooManyTypes | false ↦ elim (is_utf8 name) [ true ↦ Ok name | false ↦ Err NameNotUtf8 ] ]
 
 -- ---- types by name ----
 
@@ -92,11 +92,11 @@ file_where false display = []
 -- the name of an entry that is no group, by its node's display name
 abbrev pub struct_name : (structs enums : List (List ℕ)) → List Holder → ℕ → List Bound → List ℕ → Said (List ℕ)
 struct_name structs enums holders id bound display =
-    finished (file_where (is_taken holders id (dotted_of display)) display ++ bound_name structs enums bound (count_of 46 (dotted_of display)) 0 (dotted_of display))
+    finished_name (file_where (is_taken holders id (dotted_of display)) display ++ bound_name structs enums bound (occurrences_of 46 (dotted_of display)) 0 (dotted_of display))
 
 -- the name of a group: its parent's, a dot, and the field's
 abbrev pub dotted_name : (parent : List ℕ) → (field : Option (List ℕ)) → Said (List ℕ)
-dotted_name parent (Some field) = finished (parent ++ 46 ∷ field)
+dotted_name parent (Some field) = finished_name (parent ++ 46 ∷ field)
 dotted_name parent None = Err NodeNotFound
 
 -- by the field that names it, which its parent has
@@ -106,4 +106,4 @@ group_name None field = Err NodeNotFound
 
 -- the name of an enum
 abbrev pub enum_name : List ℕ → Said (List ℕ)
-enum_name display = finished (dotted_of display)
+enum_name display = finished_name (dotted_of display)

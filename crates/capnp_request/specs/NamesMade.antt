@@ -31,9 +31,9 @@ file_when true file = file
 file_when false file = []
 
 -- a piece so many times
-abbrev pub repeated : ℕ → List ℕ → List ℕ
-repeated zero piece = []
-repeated (suc count) piece = piece ++ repeated count piece
+abbrev pub repeated_piece : ℕ → List ℕ → List ℕ
+repeated_piece zero piece = []
+repeated_piece (suc count) piece = piece ++ repeated_piece count piece
 
 -- a type that is no list and names no struct and no enum
 abbrev pub names_nothing : TypeVariant → Bool
@@ -43,8 +43,8 @@ names_nothing (variant.List t) = false
 names_nothing t = true
 
 -- the name of a bound type by its index, an untyped pointer's past the last
-abbrev pub name_at : (structs enums : List (List ℕ)) → List SchemaType → ℕ → List ℕ
-name_at structs enums ts index = type_name structs enums (unwrap_or (slice_get ts index) AnyPointerType)
+abbrev pub bound_name_at : (structs enums : List (List ℕ)) → List SchemaType → ℕ → List ℕ
+bound_name_at structs enums ts index = type_name structs enums (unwrap_or (slice_get ts index) AnyPointerType)
 
 -- one more with the name: the first has it, and it is shared where another has another id
 abbrev pub one_more : ℕ → Option HolderRecord → HolderRecord

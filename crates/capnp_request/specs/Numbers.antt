@@ -9,8 +9,8 @@ use Rattle.capnp_request.specs.contracts.entries.BoundNodePartialEq.TheImpl as n
 use Rattle.capnp_request.specs.declared.entries.BoundNode.{BoundNode}
 use Rattle.capnp_request.specs.declared.entries.Entries.{Entries}
 
-abbrev pub numbered : Entries → Numbered
-numbered e = record { entries = map seen_entry e.structs.items; enums = e.enums.items }
+abbrev pub numbered_entries : Entries → Numbered
+numbered_entries e = record { entries = map seen_entry e.structs.items; enums = e.enums.items }
 
 pub record AreNumbered (e : Entries) : Type 0 where
   pub structs : (b : BoundNode) → get (node_eq.ghosts).eq e.by_binding b ≡ entry_number b.id (bounds b.scopes.items) (map seen_entry e.structs.items) 0

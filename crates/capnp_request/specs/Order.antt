@@ -4,12 +4,12 @@ use Rattle.capnp_device.specs.declared.error.ErrorKind.{ErrorKind}
 use Rattle.capnp_device.specs.declared.error.ErrorKind.TheVariants.{NodeNotFound, TooManyTypes}
 use Rattle.capnp_schema.specs.Schema.{Annotation, Brand, Enum, Enumerant, Node, Schemas}
 use Rattle.capnp_schema.specs.Types.{SchemaType}
-use Rattle.capnp_request.specs.Conversion.{Converted, Note, annotations_of, fields_of, name_of}
+use Rattle.capnp_request.specs.Conversion.{Converted, Note, annotations_of, fields_of, converted_name}
 use Rattle.capnp_request.specs.Names.{Holder, dotted_of, enum_name, group_name, struct_name}
 use Rattle.capnp_request.specs.Scopes.{is_met, node_named, scopes_of}
 use Rattle.capnp_request.specs.Terms.{AnnotationNode, EnumNode, EnumerantTerm, FieldTerm, NodeKind, OtherNode, RequestTerm, Said, SchemaNode, StructNode, StructPart}
 use Rattle.capnp_request.specs.Types.{is_root, number_struct}
-use Rattle.capnp_request.specs.Work.{◌>>=◌, Bound, Entry, GroupOf, Named, Place, Whole, Work, each_read, given, nothing_seen, refused, said}
+use Rattle.capnp_request.specs.Work.{◌>>=◌, Bound, Entry, GroupOf, Named, Place, Whole, Work, each_read, work_of, nothing_seen, work_refused, work_said}
 
 -- what is made so far, the names of the enums that were named by types, and the dotted names that entries had
 pub record Made : Type 0 where
@@ -40,7 +40,7 @@ all_notes (f ∷ fs) = f.notes ++ all_notes fs
 -- work on a node that is there
 abbrev pub at_node : {A : Type 0} → Option SchemaNode → (SchemaNode → Work A) → Work A
 at_node (Some n) f = f n
-at_node None f = refused NodeNotFound
+at_node None f = work_refused NodeNotFound
 
 abbrev pub node_there : Option SchemaNode → Said SchemaNode
 node_there (Some n) = Ok n
@@ -58,24 +58,24 @@ said_where false kind r = Err kind
 
 abbrev pub at_struct : {A : Type 0} → NodeKind → (StructPart → Work A) → Work A
 at_struct (StructNode part) f = f part
-at_struct (EnumNode enumerants) f = refused NodeNotFound
-at_struct (AnnotationNode t) f = refused NodeNotFound
-at_struct OtherNode f = refused NodeNotFound
+at_struct (EnumNode enumerants) f = work_refused NodeNotFound
+at_struct (AnnotationNode t) f = work_refused NodeNotFound
+at_struct OtherNode f = work_refused NodeNotFound
 
 abbrev pub at_enum : {A : Type 0} → NodeKind → (Said (List (Said EnumerantTerm)) → Work A) → Work A
 at_enum (EnumNode enumerants) f = f enumerants
-at_enum (StructNode part) f = refused NodeNotFound
-at_enum (AnnotationNode t) f = refused NodeNotFound
-at_enum OtherNode f = refused NodeNotFound
+at_enum (StructNode part) f = work_refused NodeNotFound
+at_enum (AnnotationNode t) f = work_refused NodeNotFound
+at_enum OtherNode f = work_refused NodeNotFound
 
-abbrev pub is_there : Option SchemaNode → Bool
-is_there None = false
-is_there (Some n) = true
+abbrev pub is_node_there : Option SchemaNode → Bool
+is_node_there None = false
+is_node_there (Some n) = true
 
 -- the ids among these that a node has and that weren't met, each once
 abbrev pub new_ids : List SchemaNode → List ℕ → (met : List ℕ) → List ℕ
 new_ids nodes [] met = []
-new_ids nodes (id ∷ ids) met = elim (not (is_met met id) && is_there (node_named nodes id)) [ true ↦ id ∷ new_ids nodes ids (id ∷ met) | false ↦ new_ids nodes ids met ]
+new_ids nodes (id ∷ ids) met = elim (not (is_met met id) && is_node_there (node_named nodes id)) [ true ↦ id ∷ new_ids nodes ids (id ∷ met) | false ↦ new_ids nodes ids met ]
 
 -- ---- names ----
 
@@ -108,14 +108,14 @@ module _ (nodes : List SchemaNode) (strict : Bool) where
   -- ---- structs ----
 
   abbrev pub all_fields : List Bound → (number : ℕ) → Said (List (Said FieldTerm)) → Work (List Converted)
-  all_fields bound number fields = said fields >>= fields_of nodes strict bound number 0
+  all_fields bound number fields = work_said fields >>= fields_of nodes strict bound number 0
 
   -- The node, the brand and the notes of an entry of this number, name and schema node, inside what is bound there: its
   -- fields by index, and then its own annotations.
   abbrev pub struct_made : (number id : ℕ) → List Bound → (name : List ℕ) → SchemaNode → Work (Node × Brand × List Note)
   struct_made number id bound name n =
       at_struct n.kind (λ part. all_fields bound number part.fields >>= (λ fields. annotations_of nodes strict bound n.annotations
-      >>= (λ own. given (
+      >>= (λ own. work_of (
         record { id = id; display_name = name; annotations = firsts own; data_word_count = part.data_words; pointer_count = part.pointers; is_group = part.is_group; discriminant_count = part.discriminant_count; discriminant_offset = part.discriminant_offset; fields = map (λ (f : Converted). f.field) fields },
         record { node = number; field_types = map (λ (f : Converted). f.type) fields; annotation_types = record { own = seconds own; children = map (λ (f : Converted). f.annotation_types) fields } },
         all_notes fields,
@@ -134,26 +134,26 @@ module _ (nodes : List SchemaNode) (strict : Bool) where
 
   -- the next entry, which begins so
   abbrev pub add_struct : Made → (id : ℕ) → List Bound → Begun → Work Made
-  add_struct m id bound b = struct_made (length m.nodes) id bound b.name b.node >>= (λ made. given (with_struct m b made))
+  add_struct m id bound b = struct_made (length m.nodes) id bound b.name b.node >>= (λ made. work_of (with_struct m b made))
 
   abbrev pub make_struct : Made → Entry → Work Made
-  make_struct m e s = (said (begin_struct nodes m e s.enums) >>= add_struct m e.node e.bound) s
+  make_struct m e s = (work_said (begin_struct nodes m e s.enums) >>= add_struct m e.node e.bound) s
 
   -- ---- enums ----
 
   abbrev pub enumerant_of : EnumerantTerm → Work (Enumerant × List SchemaType)
   enumerant_of x =
-      said x.name >>= (λ bytes. said (name_of bytes) >>= (λ name. annotations_of nodes strict [] x.annotations
-      >>= (λ annotations. given (record { name = name; annotations = firsts annotations }, seconds annotations))))
+      work_said x.name >>= (λ bytes. work_said (converted_name bytes) >>= (λ name. annotations_of nodes strict [] x.annotations
+      >>= (λ annotations. work_of (record { name = name; annotations = firsts annotations }, seconds annotations))))
 
   abbrev pub all_enumerants : Said (List (Said EnumerantTerm)) → Work (List (Enumerant × List SchemaType))
-  all_enumerants enumerants = said enumerants >>= each_read enumerant_of
+  all_enumerants enumerants = work_said enumerants >>= each_read enumerant_of
 
   -- an enum of this name and schema node: its enumerants, and then its own annotations; nothing is bound there
   abbrev pub enum_made : (id : ℕ) → (name : List ℕ) → SchemaNode → Work Enum
   enum_made id name n =
       at_enum n.kind (λ enumerants. all_enumerants enumerants >>= (λ children. annotations_of nodes strict [] n.annotations
-      >>= (λ own. given (record {
+      >>= (λ own. work_of (record {
         id = id;
         display_name = name;
         annotations = firsts own;
@@ -162,7 +162,7 @@ module _ (nodes : List SchemaNode) (strict : Bool) where
       }))))
 
   abbrev pub make_enum : Made → ℕ → Work Made
-  make_enum m id = said (begin_enum nodes id) >>= (λ b. enum_made id b.0 b.1 >>= (λ e. given (record m { enums = m.enums ++ e ∷ [] })))
+  make_enum m id = work_said (begin_enum nodes id) >>= (λ b. enum_made id b.0 b.1 >>= (λ e. work_of (record m { enums = m.enums ++ e ∷ [] })))
 
   -- ---- the order ----
 
@@ -170,7 +170,7 @@ module _ (nodes : List SchemaNode) (strict : Bool) where
   abbrev pub make_next : (Made → Work Made) → Made → Option Entry → Option ℕ → Work Made
   make_next again m (Some e) enum = make_struct m e >>= again
   make_next again m None (Some id) = make_enum m id >>= again
-  make_next again m None None = given m
+  make_next again m None None = work_of m
 
   abbrev pub make_all : ℕ → Made → Work Made
   make_all zero m s = Err TooManyTypes
@@ -180,16 +180,16 @@ module _ (nodes : List SchemaNode) (strict : Bool) where
 
   -- a struct that is no group is a root, with nothing bound
   abbrev pub name_root : (id : ℕ) → (is_root : Bool) → Work (List ℕ)
-  name_root id true = said (scopes_of nodes id) >>= (λ bound. number_struct id bound >>= (λ number. given []))
-  name_root id false = given []
+  name_root id true = work_said (scopes_of nodes id) >>= (λ bound. number_struct id bound >>= (λ number. work_of []))
+  name_root id false = work_of []
 
   -- The nodes of a queue of ids, breadth first: what is nested in the first goes to the queue's end. There are at most as many
   -- as there are nodes.
   abbrev pub name_roots : ℕ → (met queue : List ℕ) → Work (List ℕ)
-  name_roots zero met queue = given []
-  name_roots (suc steps) met [] = given []
+  name_roots zero met queue = work_of []
+  name_roots (suc steps) met [] = work_of []
   name_roots (suc steps) met (id ∷ ids) =
-      at_node (node_named nodes id) (λ n. said n.nested >>= (λ nested. name_root id (is_root n.kind)
+      at_node (node_named nodes id) (λ n. work_said n.nested >>= (λ nested. name_root id (is_root n.kind)
       >>= (λ none. name_roots steps (new_ids nodes nested met ++ met) (ids ++ new_ids nodes nested met))))
 
 -- ---- a whole request ----
@@ -202,7 +202,7 @@ nothing_named = record { entries = []; enums = []; seen = nothing_seen }
 
 -- the structs of the requested files
 abbrev pub name_files : List SchemaNode → (strict : Bool) → Said (List ℕ) → Work (List ℕ)
-name_files nodes strict files = said files >>= (λ ids. name_roots nodes strict (length nodes) (new_ids nodes ids []) (new_ids nodes ids []))
+name_files nodes strict files = work_said files >>= (λ ids. name_roots nodes strict (length nodes) (new_ids nodes ids []) (new_ids nodes ids []))
 
 abbrev pub convert : RequestTerm → (strict : Bool) → Work Made
 convert r strict = name_files r.nodes strict r.files >>= (λ none. make_all r.nodes strict (65536 + suc (length r.nodes)) nothing_made)

@@ -9,20 +9,20 @@ use Rattle.capnp_records.specs.Record.{Record, Value}
 use Rattle.capnp_dynamic_readers.specs.Reads.{handed_out}
 
 -- the type of the structs of a brand, and that of lists of these
-abbrev pub one : ℕ → SchemaType
-one number = StructType number number
+abbrev pub request_struct : ℕ → SchemaType
+request_struct number = StructType number number
 
-abbrev pub many : ℕ → SchemaType
-many number = ListType (one number)
+abbrev pub request_structs : ℕ → SchemaType
+request_structs number = ListType (request_struct number)
 
 -- what is read of a part under a field: its default in the place of a missing one, and a group as a struct
-abbrev pub read_under : TypedField → Value → Value
-read_under f v = handed_out f.field.kind (read_field request_set f v)
+abbrev pub request_read_under : TypedField → Value → Value
+request_read_under f v = handed_out f.field.kind (read_field request_set f v)
 
 -- what is read of field i of a record of brand b of the request set
-unfoldable pub read_at : ℕ → ℕ → Record → Value
-read_at b i r = read_under (field_at request_set b i) (part_at r (field_at request_set b i).field i)
+unfoldable pub request_read_at : ℕ → ℕ → Record → Value
+request_read_at b i r = request_read_under (field_at request_set b i) (part_at r (field_at request_set b i).field i)
 
 -- what is read of an element of a list of structs of a brand
 abbrev pub element_read : ℕ → Value → Value
-element_read b v = read_of request_set VoidValue (one b) v
+element_read b v = read_of request_set VoidValue (request_struct b) v

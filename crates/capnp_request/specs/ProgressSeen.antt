@@ -9,7 +9,7 @@ use Rattle.capnp_request.specs.Order.{Begun, Made, make_all}
 use Rattle.capnp_request.specs.Reading.{node_said}
 use Rattle.capnp_request.specs.StructsSeen.{seen_notes}
 use Rattle.capnp_request.specs.Terms.{SchemaNode}
-use Rattle.capnp_request.specs.Work.{Work, given}
+use Rattle.capnp_request.specs.Work.{Work, work_of}
 use Rattle.capnp_request.specs.declared.conversion.Converted.{Converted}
 use Rattle.capnp_request.specs.declared.conversion.NextStruct.{NextStruct}
 use Rattle.capnp_request.specs.declared.conversion.Progress.{Progress}
@@ -34,6 +34,6 @@ abbrev pub begun_of : Progress → List Holder → NextStruct → Begun
 begun_of p holders next = record { enum_names = texts p.enum_names.items; name = string_bytes next.name; holders = holders; node = node_said (record_seen next.place.node) }
 
 -- the rest of the work, where there is more
-abbrev pub rest_of : List SchemaNode → (strict more : Bool) → ℕ → Made → Work Made
-rest_of nodes strict true steps m = make_all nodes strict steps m
-rest_of nodes strict false steps m = given m
+abbrev pub work_rest : List SchemaNode → (strict more : Bool) → ℕ → Made → Work Made
+work_rest nodes strict true steps m = make_all nodes strict steps m
+work_rest nodes strict false steps m = work_of m

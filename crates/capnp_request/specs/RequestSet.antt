@@ -2,94 +2,94 @@
 use Rattle.std.specs.Prelude.{List, [], ◌∷◌, false, codes, pos}
 use Rattle.capnp_schema.specs.Types.{SchemaType, VoidType, BoolType, IntType, UIntType, TextType, DataType, AnyPointerType}
 use Rattle.capnp_schema.specs.Schema.{Schemas, Node, VoidValue, BoolValue, IntValue, UIntValue, TextValue, DataValue, StructValue, ListValue, AnyPointerValue}
-use Rattle.capnp_schema.specs.Meta.{many, one}
-use Rattle.capnp_schema.specs.Builtin.{group_member, group_node, member, plain, plain_brand, struct_node, union_node, zero_word}
+use Rattle.capnp_schema.specs.Meta.{meta_structs, meta_struct}
+use Rattle.capnp_schema.specs.Builtin.{group_member, group_node, member, builtin_field, builtin_brand, builtin_struct_node, union_node, zero_word}
 
 abbrev pub code_generator_request_node : Node
-code_generator_request_node = struct_node 0 (codes "CodeGeneratorRequest") 0 4 (
-    plain (codes "nodes") 0 (ListValue zero_word)
-    ∷ plain (codes "requestedFiles") 1 (ListValue zero_word)
+code_generator_request_node = builtin_struct_node 0 (codes "CodeGeneratorRequest") 0 4 (
+    builtin_field (codes "nodes") 0 (ListValue zero_word)
+    ∷ builtin_field (codes "requestedFiles") 1 (ListValue zero_word)
     ∷ [])
 
 abbrev pub code_generator_request_requested_file_node : Node
-code_generator_request_requested_file_node = struct_node 0 (codes "CodeGeneratorRequest.RequestedFile") 1 2 (
-    plain (codes "id") 0 (UIntValue 8 0)
+code_generator_request_requested_file_node = builtin_struct_node 0 (codes "CodeGeneratorRequest.RequestedFile") 1 2 (
+    builtin_field (codes "id") 0 (UIntValue 8 0)
     ∷ [])
 
-abbrev pub node_node : Node
-node_node = union_node 0 (codes "Node") 5 6 6 6 (
-    plain (codes "id") 0 (UIntValue 8 0)
-    ∷ plain (codes "displayName") 0 (TextValue [])
-    ∷ plain (codes "scopeId") 2 (UIntValue 8 0)
-    ∷ plain (codes "nestedNodes") 1 (ListValue zero_word)
-    ∷ plain (codes "annotations") 2 (ListValue zero_word)
+abbrev pub request_node_node : Node
+request_node_node = union_node 0 (codes "Node") 5 6 6 6 (
+    builtin_field (codes "id") 0 (UIntValue 8 0)
+    ∷ builtin_field (codes "displayName") 0 (TextValue [])
+    ∷ builtin_field (codes "scopeId") 2 (UIntValue 8 0)
+    ∷ builtin_field (codes "nestedNodes") 1 (ListValue zero_word)
+    ∷ builtin_field (codes "annotations") 2 (ListValue zero_word)
     ∷ member 0 (codes "file") 0 VoidValue
     ∷ group_member 1 (codes "struct") 3
     ∷ group_member 2 (codes "enum") 4
     ∷ member 3 (codes "interface") 0 VoidValue
     ∷ member 4 (codes "const") 0 VoidValue
     ∷ group_member 5 (codes "annotation") 5
-    ∷ plain (codes "parameters") 5 (ListValue zero_word)
+    ∷ builtin_field (codes "parameters") 5 (ListValue zero_word)
     ∷ [])
 
 abbrev pub node_struct_node : Node
 node_struct_node = group_node 0 (codes "Node.struct") 5 6 0 0 (
-    plain (codes "dataWordCount") 7 (UIntValue 2 0)
-    ∷ plain (codes "pointerCount") 12 (UIntValue 2 0)
-    ∷ plain (codes "isGroup") 224 (BoolValue false)
-    ∷ plain (codes "discriminantCount") 15 (UIntValue 2 0)
-    ∷ plain (codes "discriminantOffset") 8 (UIntValue 4 0)
-    ∷ plain (codes "fields") 3 (ListValue zero_word)
+    builtin_field (codes "dataWordCount") 7 (UIntValue 2 0)
+    ∷ builtin_field (codes "pointerCount") 12 (UIntValue 2 0)
+    ∷ builtin_field (codes "isGroup") 224 (BoolValue false)
+    ∷ builtin_field (codes "discriminantCount") 15 (UIntValue 2 0)
+    ∷ builtin_field (codes "discriminantOffset") 8 (UIntValue 4 0)
+    ∷ builtin_field (codes "fields") 3 (ListValue zero_word)
     ∷ [])
 
 abbrev pub node_enum_node : Node
-node_enum_node = group_node 0 (codes "Node.enum") 5 6 0 0 (plain (codes "enumerants") 3 (ListValue zero_word) ∷ [])
+node_enum_node = group_node 0 (codes "Node.enum") 5 6 0 0 (builtin_field (codes "enumerants") 3 (ListValue zero_word) ∷ [])
 
 abbrev pub node_annotation_node : Node
 node_annotation_node = group_node 0 (codes "Node.annotation") 5 6 0 0 (
-    plain (codes "type") 3 (StructValue zero_word)
+    builtin_field (codes "type") 3 (StructValue zero_word)
     ∷ [])
 
 abbrev pub node_nested_node_node : Node
-node_nested_node_node = struct_node 0 (codes "Node.NestedNode") 1 1 (plain (codes "id") 0 (UIntValue 8 0) ∷ [])
+node_nested_node_node = builtin_struct_node 0 (codes "Node.NestedNode") 1 1 (builtin_field (codes "id") 0 (UIntValue 8 0) ∷ [])
 
 abbrev pub node_parameter_node : Node
-node_parameter_node = struct_node 0 (codes "Node.Parameter") 0 1 (plain (codes "name") 0 (TextValue []) ∷ [])
+node_parameter_node = builtin_struct_node 0 (codes "Node.Parameter") 0 1 (builtin_field (codes "name") 0 (TextValue []) ∷ [])
 
-abbrev pub field_node : Node
-field_node = union_node 0 (codes "Field") 3 4 2 4 (
-    plain (codes "name") 0 (TextValue [])
-    ∷ plain (codes "annotations") 1 (ListValue zero_word)
-    ∷ plain (codes "discriminantValue") 1 (UIntValue 2 65535)
+abbrev pub request_field_node : Node
+request_field_node = union_node 0 (codes "Field") 3 4 2 4 (
+    builtin_field (codes "name") 0 (TextValue [])
+    ∷ builtin_field (codes "annotations") 1 (ListValue zero_word)
+    ∷ builtin_field (codes "discriminantValue") 1 (UIntValue 2 65535)
     ∷ group_member 0 (codes "slot") 9
     ∷ group_member 1 (codes "group") 10
     ∷ [])
 
 abbrev pub field_slot_node : Node
 field_slot_node = group_node 0 (codes "Field.slot") 3 4 0 0 (
-    plain (codes "offset") 1 (UIntValue 4 0)
-    ∷ plain (codes "type") 2 (StructValue zero_word)
-    ∷ plain (codes "defaultValue") 3 (StructValue zero_word)
+    builtin_field (codes "offset") 1 (UIntValue 4 0)
+    ∷ builtin_field (codes "type") 2 (StructValue zero_word)
+    ∷ builtin_field (codes "defaultValue") 3 (StructValue zero_word)
     ∷ [])
 
 abbrev pub field_group_node : Node
-field_group_node = group_node 0 (codes "Field.group") 3 4 0 0 (plain (codes "typeId") 2 (UIntValue 8 0) ∷ [])
+field_group_node = group_node 0 (codes "Field.group") 3 4 0 0 (builtin_field (codes "typeId") 2 (UIntValue 8 0) ∷ [])
 
-abbrev pub enumerant_node : Node
-enumerant_node = struct_node 0 (codes "Enumerant") 1 2 (
-    plain (codes "name") 0 (TextValue [])
-    ∷ plain (codes "annotations") 1 (ListValue zero_word)
+abbrev pub request_enumerant_node : Node
+request_enumerant_node = builtin_struct_node 0 (codes "Enumerant") 1 2 (
+    builtin_field (codes "name") 0 (TextValue [])
+    ∷ builtin_field (codes "annotations") 1 (ListValue zero_word)
     ∷ [])
 
-abbrev pub annotation_node : Node
-annotation_node = struct_node 0 (codes "Annotation") 1 2 (
-    plain (codes "id") 0 (UIntValue 8 0)
-    ∷ plain (codes "value") 0 (StructValue zero_word)
-    ∷ plain (codes "brand") 1 (StructValue zero_word)
+abbrev pub request_annotation_node : Node
+request_annotation_node = builtin_struct_node 0 (codes "Annotation") 1 2 (
+    builtin_field (codes "id") 0 (UIntValue 8 0)
+    ∷ builtin_field (codes "value") 0 (StructValue zero_word)
+    ∷ builtin_field (codes "brand") 1 (StructValue zero_word)
     ∷ [])
 
-abbrev pub type_node : Node
-type_node = union_node 0 (codes "Type") 3 1 19 0 (
+abbrev pub request_type_node : Node
+request_type_node = union_node 0 (codes "Type") 3 1 19 0 (
     member 0 (codes "void") 0 VoidValue
     ∷ member 1 (codes "bool") 0 VoidValue
     ∷ member 2 (codes "int8") 0 VoidValue
@@ -112,15 +112,15 @@ type_node = union_node 0 (codes "Type") 3 1 19 0 (
     ∷ [])
 
 abbrev pub type_list_node : Node
-type_list_node = group_node 0 (codes "Type.list") 3 1 0 0 (plain (codes "elementType") 0 (StructValue zero_word) ∷ [])
+type_list_node = group_node 0 (codes "Type.list") 3 1 0 0 (builtin_field (codes "elementType") 0 (StructValue zero_word) ∷ [])
 
 abbrev pub type_enum_node : Node
-type_enum_node = group_node 0 (codes "Type.enum") 3 1 0 0 (plain (codes "typeId") 1 (UIntValue 8 0) ∷ [])
+type_enum_node = group_node 0 (codes "Type.enum") 3 1 0 0 (builtin_field (codes "typeId") 1 (UIntValue 8 0) ∷ [])
 
 abbrev pub type_struct_node : Node
 type_struct_node = group_node 0 (codes "Type.struct") 3 1 0 0 (
-    plain (codes "typeId") 1 (UIntValue 8 0)
-    ∷ plain (codes "brand") 0 (StructValue zero_word)
+    builtin_field (codes "typeId") 1 (UIntValue 8 0)
+    ∷ builtin_field (codes "brand") 0 (StructValue zero_word)
     ∷ [])
 
 abbrev pub type_any_pointer_node : Node
@@ -132,16 +132,16 @@ type_any_pointer_node = group_node 0 (codes "Type.anyPointer") 3 1 3 4 (
 
 abbrev pub type_any_pointer_parameter_node : Node
 type_any_pointer_parameter_node = group_node 0 (codes "Type.anyPointer.parameter") 3 1 0 0 (
-    plain (codes "scopeId") 2 (UIntValue 8 0)
-    ∷ plain (codes "parameterIndex") 5 (UIntValue 2 0)
+    builtin_field (codes "scopeId") 2 (UIntValue 8 0)
+    ∷ builtin_field (codes "parameterIndex") 5 (UIntValue 2 0)
     ∷ [])
 
-abbrev pub brand_node : Node
-brand_node = struct_node 0 (codes "Brand") 0 1 (plain (codes "scopes") 0 (ListValue zero_word) ∷ [])
+abbrev pub request_brand_node : Node
+request_brand_node = builtin_struct_node 0 (codes "Brand") 0 1 (builtin_field (codes "scopes") 0 (ListValue zero_word) ∷ [])
 
 abbrev pub brand_scope_node : Node
 brand_scope_node = union_node 0 (codes "Brand.Scope") 2 1 2 4 (
-    plain (codes "scopeId") 0 (UIntValue 8 0)
+    builtin_field (codes "scopeId") 0 (UIntValue 8 0)
     ∷ member 0 (codes "bind") 0 (ListValue zero_word)
     ∷ member 1 (codes "inherit") 0 VoidValue
     ∷ [])
@@ -152,8 +152,8 @@ brand_binding_node = union_node 0 (codes "Brand.Binding") 1 1 2 0 (
     ∷ member 1 (codes "type") 0 (StructValue zero_word)
     ∷ [])
 
-abbrev pub value_node : Node
-value_node = union_node 0 (codes "Value") 2 1 19 0 (
+abbrev pub request_value_node : Node
+request_value_node = union_node 0 (codes "Value") 2 1 19 0 (
     member 0 (codes "void") 0 VoidValue
     ∷ member 1 (codes "bool") 16 (BoolValue false)
     ∷ member 2 (codes "int8") 2 (IntValue 1 (pos 0))
@@ -175,18 +175,18 @@ value_node = union_node 0 (codes "Value") 2 1 19 0 (
     ∷ member 18 (codes "anyPointer") 0 (AnyPointerValue zero_word)
     ∷ [])
 
-abbrev pub node_types : List SchemaType
-node_types =
-    UIntType 8 ∷ TextType ∷ UIntType 8 ∷ many 6 ∷ many 12 ∷ VoidType ∷ one 3 ∷ one 4 ∷ VoidType ∷ VoidType ∷ one 5
-    ∷ many 7 ∷ []
+abbrev pub request_node_types : List SchemaType
+request_node_types =
+    UIntType 8 ∷ TextType ∷ UIntType 8 ∷ meta_structs 6 ∷ meta_structs 12 ∷ VoidType ∷ meta_struct 3 ∷ meta_struct 4 ∷ VoidType ∷ VoidType ∷ meta_struct 5
+    ∷ meta_structs 7 ∷ []
 
 abbrev pub type_types : List SchemaType
 type_types =
     VoidType ∷ VoidType ∷ VoidType ∷ VoidType ∷ VoidType ∷ VoidType ∷ VoidType ∷ VoidType ∷ VoidType ∷ VoidType
-    ∷ VoidType ∷ VoidType ∷ VoidType ∷ VoidType ∷ one 14 ∷ one 15 ∷ one 16 ∷ VoidType ∷ one 17 ∷ []
+    ∷ VoidType ∷ VoidType ∷ VoidType ∷ VoidType ∷ meta_struct 14 ∷ meta_struct 15 ∷ meta_struct 16 ∷ VoidType ∷ meta_struct 17 ∷ []
 
-abbrev pub value_types : List SchemaType
-value_types =
+abbrev pub request_value_types : List SchemaType
+request_value_types =
     VoidType ∷ BoolType ∷ IntType 1 ∷ IntType 2 ∷ IntType 4 ∷ IntType 8 ∷ UIntType 1 ∷ UIntType 2 ∷ UIntType 4
     ∷ UIntType 8 ∷ UIntType 4 ∷ UIntType 8 ∷ TextType ∷ DataType ∷ AnyPointerType ∷ UIntType 2 ∷ AnyPointerType
     ∷ VoidType ∷ AnyPointerType ∷ []
@@ -194,35 +194,35 @@ value_types =
 abbrev pub request_set : Schemas
 request_set = record {
   nodes =
-      code_generator_request_node ∷ code_generator_request_requested_file_node ∷ node_node ∷ node_struct_node
-      ∷ node_enum_node ∷ node_annotation_node ∷ node_nested_node_node ∷ node_parameter_node ∷ field_node
-      ∷ field_slot_node ∷ field_group_node ∷ enumerant_node ∷ annotation_node ∷ type_node ∷ type_list_node
-      ∷ type_enum_node ∷ type_struct_node ∷ type_any_pointer_node ∷ type_any_pointer_parameter_node ∷ brand_node
-      ∷ brand_scope_node ∷ brand_binding_node ∷ value_node ∷ [];
+      code_generator_request_node ∷ code_generator_request_requested_file_node ∷ request_node_node ∷ node_struct_node
+      ∷ node_enum_node ∷ node_annotation_node ∷ node_nested_node_node ∷ node_parameter_node ∷ request_field_node
+      ∷ field_slot_node ∷ field_group_node ∷ request_enumerant_node ∷ request_annotation_node ∷ request_type_node ∷ type_list_node
+      ∷ type_enum_node ∷ type_struct_node ∷ type_any_pointer_node ∷ type_any_pointer_parameter_node ∷ request_brand_node
+      ∷ brand_scope_node ∷ brand_binding_node ∷ request_value_node ∷ [];
   brands =
-      plain_brand 0 (many 2 ∷ many 1 ∷ [])
-      ∷ plain_brand 1 (UIntType 8 ∷ [])
-      ∷ plain_brand 2 node_types
-      ∷ plain_brand 3 (UIntType 2 ∷ UIntType 2 ∷ BoolType ∷ UIntType 2 ∷ UIntType 4 ∷ many 8 ∷ [])
-      ∷ plain_brand 4 (many 11 ∷ [])
-      ∷ plain_brand 5 (one 13 ∷ [])
-      ∷ plain_brand 6 (UIntType 8 ∷ [])
-      ∷ plain_brand 7 (TextType ∷ [])
-      ∷ plain_brand 8 (TextType ∷ many 12 ∷ UIntType 2 ∷ one 9 ∷ one 10 ∷ [])
-      ∷ plain_brand 9 (UIntType 4 ∷ one 13 ∷ one 22 ∷ [])
-      ∷ plain_brand 10 (UIntType 8 ∷ [])
-      ∷ plain_brand 11 (TextType ∷ many 12 ∷ [])
-      ∷ plain_brand 12 (UIntType 8 ∷ one 22 ∷ one 19 ∷ [])
-      ∷ plain_brand 13 type_types
-      ∷ plain_brand 14 (one 13 ∷ [])
-      ∷ plain_brand 15 (UIntType 8 ∷ [])
-      ∷ plain_brand 16 (UIntType 8 ∷ one 19 ∷ [])
-      ∷ plain_brand 17 (VoidType ∷ one 18 ∷ VoidType ∷ [])
-      ∷ plain_brand 18 (UIntType 8 ∷ UIntType 2 ∷ [])
-      ∷ plain_brand 19 (many 20 ∷ [])
-      ∷ plain_brand 20 (UIntType 8 ∷ many 21 ∷ VoidType ∷ [])
-      ∷ plain_brand 21 (VoidType ∷ one 13 ∷ [])
-      ∷ plain_brand 22 value_types
+      builtin_brand 0 (meta_structs 2 ∷ meta_structs 1 ∷ [])
+      ∷ builtin_brand 1 (UIntType 8 ∷ [])
+      ∷ builtin_brand 2 request_node_types
+      ∷ builtin_brand 3 (UIntType 2 ∷ UIntType 2 ∷ BoolType ∷ UIntType 2 ∷ UIntType 4 ∷ meta_structs 8 ∷ [])
+      ∷ builtin_brand 4 (meta_structs 11 ∷ [])
+      ∷ builtin_brand 5 (meta_struct 13 ∷ [])
+      ∷ builtin_brand 6 (UIntType 8 ∷ [])
+      ∷ builtin_brand 7 (TextType ∷ [])
+      ∷ builtin_brand 8 (TextType ∷ meta_structs 12 ∷ UIntType 2 ∷ meta_struct 9 ∷ meta_struct 10 ∷ [])
+      ∷ builtin_brand 9 (UIntType 4 ∷ meta_struct 13 ∷ meta_struct 22 ∷ [])
+      ∷ builtin_brand 10 (UIntType 8 ∷ [])
+      ∷ builtin_brand 11 (TextType ∷ meta_structs 12 ∷ [])
+      ∷ builtin_brand 12 (UIntType 8 ∷ meta_struct 22 ∷ meta_struct 19 ∷ [])
+      ∷ builtin_brand 13 type_types
+      ∷ builtin_brand 14 (meta_struct 13 ∷ [])
+      ∷ builtin_brand 15 (UIntType 8 ∷ [])
+      ∷ builtin_brand 16 (UIntType 8 ∷ meta_struct 19 ∷ [])
+      ∷ builtin_brand 17 (VoidType ∷ meta_struct 18 ∷ VoidType ∷ [])
+      ∷ builtin_brand 18 (UIntType 8 ∷ UIntType 2 ∷ [])
+      ∷ builtin_brand 19 (meta_structs 20 ∷ [])
+      ∷ builtin_brand 20 (UIntType 8 ∷ meta_structs 21 ∷ VoidType ∷ [])
+      ∷ builtin_brand 21 (VoidType ∷ meta_struct 13 ∷ [])
+      ∷ builtin_brand 22 request_value_types
       ∷ [];
   enums = [];
 }

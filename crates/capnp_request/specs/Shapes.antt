@@ -28,9 +28,9 @@ AreBrandsOf nodes brands = AreBrandsFrom 0 nodes brands
 abbrev pub note : (entry field : ℕ) → StandIn → Note
 note entry field stand_in = record { entry = entry; field = field; stand_in = stand_in }
 
-abbrev pub noted : Bool → Note → List Note
-noted true n = n ∷ []
-noted false n = []
+abbrev pub noted_where : Bool → Note → List Note
+noted_where true n = n ∷ []
+noted_where false n = []
 
 -- the sections, the group mark and the discriminant of a struct are those that the struct part of its node says
 pub record HasParts (part : StructPart) (body : StructRecord) : Type 0 where

@@ -38,8 +38,8 @@ field_records fields = map (λ f. f.record) fields
 abbrev pub field_types : List ConvertedField → List TypeHandle
 field_types fields = map (λ f. f.field_type) fields
 
-abbrev pub child_types : List ConvertedField → List (List TypeHandle)
-child_types fields = map (λ f. f.annotation_types.items) fields
+abbrev pub converted_child_types : List ConvertedField → List (List TypeHandle)
+converted_child_types fields = map (λ f. f.annotation_types.items) fields
 
 abbrev pub seen_struct : MadeStruct → Node × Brand × List Note
 seen_struct made = (seen_node made.record, seen_brand made.brand, seen_notes made.notes.items)

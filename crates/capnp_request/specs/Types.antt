@@ -5,7 +5,7 @@ use Rattle.capnp_device.specs.declared.error.ErrorKind.TheVariants.{FloatType, I
 use Rattle.capnp_schema.specs.Types.{SchemaType, VoidType, BoolType, IntType, UIntType, EnumType, TextType, DataType, StructType, ListType, AnyPointerType}
 use Rattle.capnp_request.specs.Scopes.{bound_types, node_named, scopes_of}
 use Rattle.capnp_request.specs.Terms.{AnnotationNode, Binds, BindingTerms, BrandTerm, EnumNode, EnumTerm, Float32, Float64, Inherits, Interface, ListTerm, MoreBindings, MoreScopes, NoBindings, NoScopes, NodeKind, OtherNode, Parameter, Plain, SchemaNode, ScopeTerm, StructNode, StructTerm, TypeTerm, UnreadBrand, UnreadScope, UnreadType}
-use Rattle.capnp_request.specs.Work.{◌>>=◌, Bound, Entry, GroupOf, Place, Whole, Work, each, given, said, where_else, where_so}
+use Rattle.capnp_request.specs.Work.{◌>>=◌, Bound, Entry, GroupOf, Place, Whole, Work, each, work_of, work_said, where_else, where_so}
 
 -- ---- entries by number ----
 
@@ -14,9 +14,9 @@ abbrev pub lists_in : SchemaType → ℕ
 lists_in (ListType t) = suc (lists_in t)
 lists_in t = 0
 
-abbrev pub innermost : SchemaType → SchemaType
-innermost (ListType t) = innermost t
-innermost t = t
+abbrev pub innermost_type : SchemaType → SchemaType
+innermost_type (ListType t) = innermost_type t
+innermost_type t = t
 
 abbrev pub by_bytes : ℕ → (one two four eight : ℕ) → ℕ
 by_bytes bytes one two four eight = cond (bytes == 1) one (cond (bytes == 2) two (cond (bytes == 4) four eight))
@@ -34,14 +34,14 @@ kind_number AnyPointerType = 13
 kind_number (EnumType number) = 14
 kind_number (ListType t) = 15
 
-abbrev pub named_number : SchemaType → ℕ
-named_number (StructType number generic) = number
-named_number (EnumType number) = number
-named_number t = 0
+abbrev pub named_entry : SchemaType → ℕ
+named_entry (StructType number generic) = number
+named_entry (EnumType number) = number
+named_entry t = 0
 
 -- the same type: of the same kind, the struct or enum of one number, in as many lists
 abbrev pub same_type : SchemaType → SchemaType → Bool
-same_type t u = ((kind_number (innermost t) == kind_number (innermost u)) && (named_number (innermost t) == named_number (innermost u))) && (lists_in t == lists_in u)
+same_type t u = ((kind_number (innermost_type t) == kind_number (innermost_type u)) && (named_entry (innermost_type t) == named_entry (innermost_type u))) && (lists_in t == lists_in u)
 
 abbrev pub same_types : List SchemaType → List SchemaType → Bool
 same_types [] [] = true
@@ -76,7 +76,7 @@ abbrev pub add_entry : Entry → Work ℕ
 add_entry e s = where_so (nat_lt (length s.entries) 65536) TooManyTypes (Ok (length s.entries, record s { entries = s.entries ++ e ∷ [] }))
 
 abbrev pub number_or_add : Option ℕ → Entry → Work ℕ
-number_or_add (Some number) e = given number
+number_or_add (Some number) e = work_of number
 number_or_add None e = add_entry e
 
 -- the number of a struct node with bindings, which it gets when it is first named
@@ -89,11 +89,11 @@ enum_position (x ∷ xs) id number = number_where (x == id) number (enum_positio
 
 -- ---- nodes of a kind ----
 
-abbrev pub is_struct : NodeKind → Bool
-is_struct (StructNode part) = true
-is_struct (EnumNode enumerants) = false
-is_struct (AnnotationNode t) = false
-is_struct OtherNode = false
+abbrev pub is_struct_kind : NodeKind → Bool
+is_struct_kind (StructNode part) = true
+is_struct_kind (EnumNode enumerants) = false
+is_struct_kind (AnnotationNode t) = false
+is_struct_kind OtherNode = false
 
 abbrev pub is_enum : NodeKind → Bool
 is_enum (StructNode part) = false
@@ -154,8 +154,8 @@ abbrev pub bound_to : List Bound → (scope index : ℕ) → SchemaType
 bound_to inside scope index = bound_types AnyPointerType (λ b. unwrap_or (slice_get b.types index) AnyPointerType) inside scope
 
 -- a list of a type; the lists around a type are counted in 64 bits
-abbrev pub list_type : SchemaType → Work SchemaType
-list_type element s = where_so (nat_lt (lists_in element) 18446744073709551615) TooManyTypes (Ok (ListType element, s))
+abbrev pub listed_type : SchemaType → Work SchemaType
+listed_type element s = where_so (nat_lt (lists_in element) 18446744073709551615) TooManyTypes (Ok (ListType element, s))
 
 -- one type more before the others; untyped pointers at the end are left out
 abbrev pub with_type : SchemaType → List SchemaType → List SchemaType
@@ -168,7 +168,7 @@ without_untyped (t ∷ ts) = with_type t (without_untyped ts)
 
 -- a scope with the types that are bound to its parameters
 abbrev pub bind_scope : (Bound → Work (List SchemaType)) → Bound → Work Bound
-bind_scope types scope = types scope >>= (λ ts. given (record scope { types = ts }))
+bind_scope types scope = types scope >>= (λ ts. work_of (record scope { types = ts }))
 
 -- The type of a term inside an entry; what a brand binds to a scope of so many parameters; and bindings in a row.
 module _ (nodes : List SchemaNode) (strict : Bool) (inside : List Bound) where
@@ -178,12 +178,12 @@ module _ (nodes : List SchemaNode) (strict : Bool) (inside : List Bound) where
     type_of Float32 s = float32 strict s
     type_of Float64 s = float64 strict s
     type_of Interface s = interface strict s
-    type_of (ListTerm t) s = (type_of t >>= list_type) s
-    type_of (EnumTerm id) s = (number_enum nodes id >>= (λ number. given (EnumType number))) s
+    type_of (ListTerm t) s = (type_of t >>= listed_type) s
+    type_of (EnumTerm id) s = (number_enum nodes id >>= (λ number. work_of (EnumType number))) s
     -- bindings are numbered before the struct that they bind
     type_of (StructTerm id brand) s =
-        where_node is_struct nodes id
-        ((said (scopes_of nodes id) >>= each (bind_scope (brand_types brand))) >>= (λ bound. number_struct id bound >>= (λ number. given (StructType number number)))) s
+        where_node is_struct_kind nodes id
+        ((work_said (scopes_of nodes id) >>= each (bind_scope (brand_types brand))) >>= (λ bound. number_struct id bound >>= (λ number. work_of (StructType number number)))) s
     type_of (Parameter scope index) s = Ok (bound_to inside scope index, s)
     type_of (UnreadType kind) s = Err kind
 
@@ -193,15 +193,15 @@ module _ (nodes : List SchemaNode) (strict : Bool) (inside : List Bound) where
     brand_types (UnreadBrand kind) scope s = Err kind
 
     pub scope_types : ScopeTerm → Bound → Work (List SchemaType)
-    scope_types (Binds terms) scope s = (binding_types terms scope.parameters >>= (λ ts. given (without_untyped ts))) s
+    scope_types (Binds terms) scope s = (binding_types terms scope.parameters >>= (λ ts. work_of (without_untyped ts))) s
     scope_types Inherits scope s = Ok (bound_types [] (λ b. b.types) inside scope.scope, s)
     scope_types (UnreadScope kind) scope s = Err kind
 
     pub binding_types : BindingTerms → (parameters : ℕ) → Work (List SchemaType)
     binding_types terms zero s = Ok ([], s)
     binding_types NoBindings (suc count) s = Ok ([], s)
-    binding_types (MoreBindings t rest) (suc count) s = (type_of t >>= (λ first. binding_types rest count >>= (λ others. given (first ∷ others)))) s
+    binding_types (MoreBindings t rest) (suc count) s = (type_of t >>= (λ first. binding_types rest count >>= (λ others. work_of (first ∷ others)))) s
 
   -- the scopes of an id with what a brand binds there
   abbrev pub named_scopes : ℕ → BrandTerm → Work (List Bound)
-  named_scopes id brand = said (scopes_of nodes id) >>= each (bind_scope (brand_types brand))
+  named_scopes id brand = work_said (scopes_of nodes id) >>= each (bind_scope (brand_types brand))

@@ -20,14 +20,14 @@ abbrev pub words_or_fault : Option Fault → Tree → Said (List ℕ)
 words_or_fault None t = words_that_fit (nat_lt (suc (words_of t)) 536870912) t
 words_or_fault (Some fault) t = Err (refusal fault)
 
-abbrev pub words_said : (List ℕ → Value) → Said (List ℕ) → Said Value
-words_said f (Ok words) = Ok (f words)
-words_said f (Err kind) = Err kind
+abbrev pub words_value : (List ℕ → Value) → Said (List ℕ) → Said Value
+words_value f (Ok words) = Ok (f words)
+words_value f (Err kind) = Err kind
 
 -- by the value's own kind; what stands at an untyped pointer is left out
-abbrev pub value_of : ValueTerm → Said Value
-value_of (Stands v) = Ok v
-value_of (StructWords t) = words_said StructValue (words_or_fault (first_fault t) t)
-value_of (ListWords t) = words_said ListValue (words_or_fault (first_fault t) t)
-value_of (Untyped t) = Ok (AnyPointerValue zero_word)
-value_of (UnreadValue kind) = Err kind
+abbrev pub value_stated : ValueTerm → Said Value
+value_stated (Stands v) = Ok v
+value_stated (StructWords t) = words_value StructValue (words_or_fault (first_fault t) t)
+value_stated (ListWords t) = words_value ListValue (words_or_fault (first_fault t) t)
+value_stated (Untyped t) = Ok (AnyPointerValue zero_word)
+value_stated (UnreadValue kind) = Err kind

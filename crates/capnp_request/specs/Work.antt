@@ -43,8 +43,8 @@ pub record Numbered : Type 0 where
   pub enums : List ℕ
 
 -- what was named, with what was seen of the type at hand
-abbrev pub named : Numbered → Seen → Named
-named numbered seen = record { entries = numbered.entries; enums = numbered.enums; seen = seen }
+abbrev pub named_with : Numbered → Seen → Named
+named_with numbered seen = record { entries = numbered.entries; enums = numbered.enums; seen = seen }
 
 abbrev pub Work : Type 0 → Type 0
 Work A = Named → Result (A × Named) ErrorKind
@@ -58,39 +58,39 @@ abbrev pub where_else : {A : Type 0} → Bool → Result A ErrorKind → Result 
 where_else true r other = r
 where_else false r other = other
 
-abbrev pub given : {A : Type 0} → A → Work A
-given a s = Ok (a, s)
+abbrev pub work_of : {A : Type 0} → A → Work A
+work_of a s = Ok (a, s)
 
-abbrev pub refused : {A : Type 0} → ErrorKind → Work A
-refused kind s = Err kind
+abbrev pub work_refused : {A : Type 0} → ErrorKind → Work A
+work_refused kind s = Err kind
 
-abbrev pub continued : {A B : Type 0} → (A → Work B) → Result (A × Named) ErrorKind → Result (B × Named) ErrorKind
-continued f (Ok p) = f p.0 p.1
-continued f (Err kind) = Err kind
+abbrev pub work_continued : {A B : Type 0} → (A → Work B) → Result (A × Named) ErrorKind → Result (B × Named) ErrorKind
+work_continued f (Ok p) = f p.0 p.1
+work_continued f (Err kind) = Err kind
 
 -- work, and then what is done with what it gives
 infixr 10 ◌>>=◌
 abbrev pub ◌>>=◌ : {A B : Type 0} → Work A → (A → Work B) → Work B
-(w >>= f) s = continued f (w s)
+(w >>= f) s = work_continued f (w s)
 
 -- what is said, where it can be read
-abbrev pub said : {A : Type 0} → Said A → Work A
-said (Ok a) s = Ok (a, s)
-said (Err kind) s = Err kind
+abbrev pub work_said : {A : Type 0} → Said A → Work A
+work_said (Ok a) s = Ok (a, s)
+work_said (Err kind) s = Err kind
 
 -- work with what was seen in it alone; outside a type nothing is seen
 abbrev pub seen_in : {A : Type 0} → Work A → Work (A × Seen)
 seen_in w s = (w >>= (λ a t. Ok ((a, t.seen), record t { seen = nothing_seen }))) (record s { seen = nothing_seen })
 
 -- the same where nothing is noted
-abbrev pub unnoted : {A : Type 0} → Work A → Work A
-unnoted w = seen_in w >>= (λ p. given p.0)
+abbrev pub work_unnoted : {A : Type 0} → Work A → Work A
+work_unnoted w = seen_in w >>= (λ p. work_of p.0)
 
 -- the same work for each of a list, from the first on
 abbrev pub each : {A B : Type 0} → (A → Work B) → List A → Work (List B)
 each f [] s = Ok ([], s)
-each f (x ∷ xs) s = (f x >>= (λ y. each f xs >>= (λ ys. given (y ∷ ys)))) s
+each f (x ∷ xs) s = (f x >>= (λ y. each f xs >>= (λ ys. work_of (y ∷ ys)))) s
 
 -- the same for what can be read of each
 abbrev pub each_read : {A B : Type 0} → (A → Work B) → List (Said A) → Work (List B)
-each_read f = each (λ x. said x >>= f)
+each_read f = each (λ x. work_said x >>= f)

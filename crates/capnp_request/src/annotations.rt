@@ -7,14 +7,14 @@ ghost use Rattle.capnp_dynamic_readers.specs.Seen.{record_seen};
 ghost use Rattle.capnp_request.specs.Bindings.{bounds};
 ghost use Rattle.capnp_request.specs.Conversion.{annotation_of, annotations_of, declared_type};
 ghost use Rattle.capnp_request.specs.ConvertedSeen.{typed_annotations};
-ghost use Rattle.capnp_request.specs.Done.{IsDone, between};
-ghost use Rattle.capnp_request.specs.Handles.{IsField, IsRecord};
+ghost use Rattle.capnp_request.specs.Done.{IsWorkDone, between};
+ghost use Rattle.capnp_request.specs.Handles.{IsRequestField, IsRequestRecord};
 ghost use Rattle.capnp_request.specs.Nodes.{AreNodes, nodes_of};
 ghost use Rattle.capnp_request.specs.Numbers.{AreNumbered};
-ghost use Rattle.capnp_request.specs.Parts.{many, read_at};
-ghost use Rattle.capnp_request.specs.Reading.{annotation_said, annotations_in, brand_in, whole_type};
+ghost use Rattle.capnp_request.specs.Parts.{request_structs, request_read_at};
+ghost use Rattle.capnp_request.specs.Reading.{annotation_said, annotation_terms_in, brand_in, whole_type};
 ghost use Rattle.capnp_request.specs.Refusals.{IsRefusal};
-ghost use Rattle.capnp_request.specs.Work.{unnoted};
+ghost use Rattle.capnp_request.specs.Work.{work_unnoted};
 
 use crate::context::Context;
 use crate::entries::{BoundScope, Entries};
@@ -38,10 +38,10 @@ fn annotation_type<'a>(
 ) -> Result<Type>
     requires nodes { AreNodes context.nodes.now }
     requires numbers { AreNumbered entries.now }
-    requires is_record { IsRecord 12 annotation }
-    ensures done { IsDone seen_type (unnoted
+    requires is_record { IsRequestRecord 12 annotation }
+    ensures done { IsWorkDone seen_type (work_unnoted
         (declared_type (nodes_of context.entry.nodes.now) context.entry.strict id (bounds inside.now)
-        (brand_in whole_type (read_at 12 2 (record_seen annotation.entry)))))
+        (brand_in whole_type (request_read_at 12 2 (record_seen annotation.entry)))))
         (between entries.old) (between entries.new) result }
     ensures numbers { IfOk result (λ _. AreNumbered entries.new) }
     ensures kinds { IfErr result (λ e. IsRefusal context.entry.strict e.kind) }
@@ -75,8 +75,8 @@ fn annotation_of<'a>(
 ) -> Result<(AnnotationRecord, Type)>
     requires nodes { AreNodes context.nodes.now }
     requires numbers { AreNumbered entries.now }
-    requires is_record { IsRecord 12 annotation }
-    ensures done { IsDone (λ r. (seen_annotation r.0, seen_type r.1))
+    requires is_record { IsRequestRecord 12 annotation }
+    ensures done { IsWorkDone (λ r. (seen_annotation r.0, seen_type r.1))
         (annotation_of (nodes_of context.entry.nodes.now) context.entry.strict (bounds inside.now)
         (annotation_said (record_seen annotation.entry)))
         (between entries.old) (between entries.new) result }
@@ -106,12 +106,12 @@ pub(crate) fn annotations_of<'a>(
 ) -> Result<(Vec<AnnotationRecord>, Vec<Type>)>
     requires nodes { AreNodes context.nodes.now }
     requires numbers { AreNumbered entries.now }
-    requires record { IsRecord brand reader }
-    requires field { IsField brand index (many 12) }
+    requires record { IsRequestRecord brand reader }
+    requires field { IsRequestField brand index (request_structs 12) }
     requires plain { is_member (field_at request_set brand index).field ≡ false }
-    ensures done { IsDone (λ r. typed_annotations r.0.items r.1.items)
+    ensures done { IsWorkDone (λ r. typed_annotations r.0.items r.1.items)
         (annotations_of (nodes_of context.entry.nodes.now) context.entry.strict (bounds inside.now)
-        (annotations_in (read_at brand index (record_seen reader.entry))))
+        (annotation_terms_in (request_read_at brand index (record_seen reader.entry))))
         (between entries.old) (between entries.new) result }
     ensures numbers { IfOk result (λ _. AreNumbered entries.new) }
     ensures typed { IfOk result (λ r. length r.1.items ≡ length r.0.items) }

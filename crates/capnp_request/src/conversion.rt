@@ -4,17 +4,17 @@ ghost use Rattle.capnp_device.specs.declared.error.ErrorKind.TheVariants.{OutOfM
 ghost use Rattle.capnp_schema.specs.Schema.{seen_node};
 ghost use Rattle.capnp_dynamic_readers.specs.Seen.{record_seen};
 ghost use Rattle.capnp_request.specs.Bindings.{bounds};
-ghost use Rattle.capnp_request.specs.Done.{IsDone, IsSaid, between};
+ghost use Rattle.capnp_request.specs.Done.{IsWorkDone, IsSaid, between};
 ghost use Rattle.capnp_request.specs.EntriesSeen.{seen_entry};
-ghost use Rattle.capnp_request.specs.Handles.{IsRecord};
+ghost use Rattle.capnp_request.specs.Handles.{IsRequestRecord};
 ghost use Rattle.capnp_request.specs.Names.{Holder};
 ghost use Rattle.capnp_request.specs.NamesMade.{AreHolders, texts};
 ghost use Rattle.capnp_request.specs.Nodes.{AreNodes, nodes_of};
-ghost use Rattle.capnp_request.specs.Numbers.{AreNumbered, numbered};
+ghost use Rattle.capnp_request.specs.Numbers.{AreNumbered, numbered_entries};
 ghost use Rattle.capnp_request.specs.Order.{add_struct, and_said, begin_enum, begin_struct, conversion_of, enum_names, make_all, make_enum, nothing_made, result_of};
-ghost use Rattle.capnp_request.specs.ProgressSeen.{begun_of, made_of, rest_of, seen_lists};
+ghost use Rattle.capnp_request.specs.ProgressSeen.{begun_of, made_of, work_rest, seen_lists};
 ghost use Rattle.capnp_request.specs.Reading.{node_said, request_said};
-ghost use Rattle.capnp_request.specs.Refusals.{IsPlain, IsRefusal};
+ghost use Rattle.capnp_request.specs.Refusals.{IsUnstrict, IsRefusal};
 ghost use Rattle.capnp_request.specs.Shapes.{AreBrandsOf};
 
 use crate::context::Context;
@@ -78,8 +78,8 @@ fn named_enum<'a>(context: Context<'_, 'a>, id: u64) -> Result<(String, dynamic_
     requires { AreNodes context.nodes.now }
     ensures said { IsSaid (λ r. (string_bytes r.0, node_said (record_seen r.1)))
         (begin_enum (nodes_of context.entry.nodes.now) id) result }
-    ensures record { IfOk result (λ r. IsRecord 2 r.1) }
-    ensures kinds { IfErr result (λ e. IsPlain e.kind) }
+    ensures record { IfOk result (λ r. IsRequestRecord 2 r.1) }
+    ensures kinds { IfErr result (λ e. IsUnstrict e.kind) }
 {
     let node = context.nodes.found(id)?;
     let display = display_name(node)?;
@@ -129,11 +129,11 @@ impl Progress {
         requires { AreNodes context.nodes.now }
         ensures said { IsSaid (λ _. texts self.new.enum_names.items)
             (enum_names (nodes_of context.entry.nodes.now)
-            (drop (length (texts self.old.enum_names.items)) (numbered entries.now).enums)
+            (drop (length (texts self.old.enum_names.items)) (numbered_entries entries.now).enums)
             (texts self.old.enum_names.items)) result }
         ensures same { self.new.made ≡ self.old.made }
         ensures names { self.new.names ≡ self.old.names }
-        ensures kinds { IfErr result (λ e. IsPlain e.kind) }
+        ensures kinds { IfErr result (λ e. IsUnstrict e.kind) }
     {
         for number in self.enum_names.len()..entries.enum_count() {
             let Some(id) = entries.enum_id(number) else {
@@ -157,16 +157,16 @@ impl Progress {
         ensures done { (hs : List Holder) → AreHolders self.old.names hs
             → IfOk result (λ next. (after : List Holder) × AreHolders self.new.names after
             × (begin_struct (nodes_of context.entry.nodes.now) (made_of self.old hs) (seen_entry entry.now)
-            (numbered entries.now).enums ≡ Ok (begun_of self.new after next))) }
+            (numbered_entries entries.now).enums ≡ Ok (begun_of self.new after next))) }
         ensures refused { (hs : List Holder) → AreHolders self.old.names hs → IfErr result (λ e. e.kind ≢ OutOfMemory →
             begin_struct (nodes_of context.entry.nodes.now) (made_of self.old hs) (seen_entry entry.now)
-            (numbered entries.now).enums ≡ Err e.kind) }
+            (numbered_entries entries.now).enums ≡ Err e.kind) }
         ensures number { IfOk result (λ next. next.place.number ≡ length self.old.made.nodes.items) }
         ensures id { IfOk result (λ next. next.place.id ≡ entry.now.id) }
         ensures scopes { IfOk result (λ next. bounds next.scopes.items ≡ bounds entry.now.scopes.items) }
-        ensures node { IfOk result (λ next. IsRecord 2 next.place.node) }
+        ensures node { IfOk result (λ next. IsRequestRecord 2 next.place.node) }
         ensures same { self.new.made ≡ self.old.made }
-        ensures kinds { IfErr result (λ e. IsPlain e.kind) }
+        ensures kinds { IfErr result (λ e. IsUnstrict e.kind) }
     {
         let number = counted(self.made.nodes.len())?;
         self.name_enums(context, entries)?;
@@ -199,8 +199,8 @@ impl Progress {
         requires numbers { AreNumbered entries.now }
         requires brands { AreBrandsOf self.now.made.nodes.items self.now.made.brands.items }
         requires number { next.place.number ≡ length self.now.made.nodes.items }
-        requires node { IsRecord 2 next.place.node }
-        ensures done { (hs : List Holder) → IsDone (λ _. made_of self.new hs)
+        requires node { IsRequestRecord 2 next.place.node }
+        ensures done { (hs : List Holder) → IsWorkDone (λ _. made_of self.new hs)
             (add_struct (nodes_of context.entry.nodes.now) context.entry.strict
             (made_of self.old hs) next.entry.place.id (bounds next.entry.scopes.items)
             (begun_of self.old hs next.entry)) (between entries.old) (between entries.new) result }
@@ -228,7 +228,7 @@ impl Progress {
     ) -> Result<()>
         requires nodes { AreNodes context.nodes.now }
         requires numbers { AreNumbered entries.now }
-        ensures done { (hs : List Holder) → IsDone (λ _. made_of self.new hs)
+        ensures done { (hs : List Holder) → IsWorkDone (λ _. made_of self.new hs)
             (make_enum (nodes_of context.entry.nodes.now) context.entry.strict (made_of self.old hs) id)
             (between entries.old) (between entries.new) result }
         ensures numbers { IfOk result (λ _. AreNumbered entries.new) }
@@ -254,7 +254,7 @@ impl Progress {
             → IfOk result (λ more. (after : List Holder) × AreHolders self.new.names after
             × ((steps : ℕ) → make_all (nodes_of context.entry.nodes.now) context.entry.strict (suc steps)
             (made_of self.old hs) (between entries.old)
-            ≡ rest_of (nodes_of context.entry.nodes.now) context.entry.strict more steps (made_of self.new after)
+            ≡ work_rest (nodes_of context.entry.nodes.now) context.entry.strict more steps (made_of self.new after)
             (between entries.new))) }
         ensures refused { (hs : List Holder) → AreHolders self.old.names hs
             → IfErr result (λ e. e.kind ≢ OutOfMemory → (steps : ℕ) →
@@ -318,7 +318,7 @@ pub fn read_request(
     reader: dynamic_struct::Reader<'_>,
     strict: bool,
 ) -> Result<Converted>
-    requires { IsRecord 0 reader }
+    requires { IsRequestRecord 0 reader }
     ensures read { IfOk result (λ made. and_said (request_said (record_seen reader.entry))
         (λ r. conversion_of r strict) ≡ Ok (seen_lists made)) }
     ensures refused { IfErr result (λ e. e.kind ≢ OutOfMemory

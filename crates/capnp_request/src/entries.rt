@@ -6,10 +6,10 @@ ghost use Rattle.capnp_schema.specs.Types.{EnumType, StructType, seen_type};
 ghost use Rattle.capnp_request.specs.Bindings.{bounds};
 ghost use Rattle.capnp_request.specs.EntriesSeen.{group_entry, seen_entry};
 ghost use Rattle.capnp_request.specs.Nodes.{AreNodes, nodes_of};
-ghost use Rattle.capnp_request.specs.Numbers.{AreNumbered, numbered};
-ghost use Rattle.capnp_request.specs.Refusals.{IsPlain};
+ghost use Rattle.capnp_request.specs.Numbers.{AreNumbered, numbered_entries};
+ghost use Rattle.capnp_request.specs.Refusals.{IsUnstrict};
 ghost use Rattle.capnp_request.specs.Types.{add_entry, number_enum, number_struct};
-ghost use Rattle.capnp_request.specs.Work.{Seen, named};
+ghost use Rattle.capnp_request.specs.Work.{Seen, named_with};
 
 use crate::schema_nodes::SchemaNodes;
 use crate::scopes::copied_scopes;
@@ -83,7 +83,7 @@ pub(crate) fn enum_type(number: u32) -> Type
 
 impl Entries {
     pub(crate) fn new(alloc: Global) -> Entries
-        ensures nothing { numbered result ≡ record { entries = []; enums = [] } }
+        ensures nothing { numbered_entries result ≡ record { entries = []; enums = [] } }
         ensures numbers { AreNumbered result }
     {
         Entries {
@@ -96,30 +96,30 @@ impl Entries {
 
     /// The entry of a number.
     pub(crate) fn entry(&self, number: usize) -> Option<&Entry>
-        ensures { option_map (λ e. seen_entry e.now) result ≡ slice_get (numbered self.now).entries number }
+        ensures { option_map (λ e. seen_entry e.now) result ≡ slice_get (numbered_entries self.now).entries number }
     {
         self.structs.get(number)
     }
 
     /// The id of the enum of a number.
     pub(crate) fn enum_id(&self, number: usize) -> Option<u64>
-        ensures { result ≡ slice_get (numbered self.now).enums number }
+        ensures { result ≡ slice_get (numbered_entries self.now).enums number }
     {
         self.enums.get(number).copied()
     }
 
     /// How many enums were named.
     pub(crate) fn enum_count(&self) -> usize
-        ensures { result ≡ length (numbered self.now).enums }
+        ensures { result ≡ length (numbered_entries self.now).enums }
     {
         self.enums.len()
     }
 
     /// The number of the next entry. Refused with `TooManyTypes` where there are 65,536.
     fn next_number(&self) -> Result<u32>
-        ensures number { IfOk result (λ n. n ≡ length (numbered self.now).entries) }
+        ensures number { IfOk result (λ n. n ≡ length (numbered_entries self.now).entries) }
         ensures bound { IfOk result (λ n. n < 65536) }
-        ensures full { IfErr result (λ _. 65536 ≤ length (numbered self.now).entries) }
+        ensures full { IfErr result (λ _. 65536 ≤ length (numbered_entries self.now).entries) }
         ensures kinds { IfErr result (λ e. e.kind ≡ TooManyTypes) }
     {
         let number = self.structs.len();
@@ -133,12 +133,12 @@ impl Entries {
     pub(crate) fn number_of(&mut self, alloc: Global, bound: BoundNode) -> Result<u32>
         requires { AreNumbered self.now }
         ensures done { IfOk result (λ n. (seen : Seen)
-            → number_struct bound.id (bounds bound.scopes.items) (named (numbered self.old) seen)
-            ≡ Ok (n, named (numbered self.new) seen)) }
+            → number_struct bound.id (bounds bound.scopes.items) (named_with (numbered_entries self.old) seen)
+            ≡ Ok (n, named_with (numbered_entries self.new) seen)) }
         ensures numbers { IfOk result (λ n. AreNumbered self.new) }
         ensures refused { IfErr result (λ e. e.kind ≢ OutOfMemory → (seen : Seen)
-            → number_struct bound.id (bounds bound.scopes.items) (named (numbered self.old) seen) ≡ Err e.kind) }
-        ensures kinds { IfErr result (λ e. IsPlain e.kind) }
+            → number_struct bound.id (bounds bound.scopes.items) (named_with (numbered_entries self.old) seen) ≡ Err e.kind) }
+        ensures kinds { IfErr result (λ e. IsUnstrict e.kind) }
     {
         if let Some(number) = self.by_binding.get(&bound) {
             return Ok(*number);
@@ -163,12 +163,12 @@ impl Entries {
     ) -> Result<u32>
         requires { AreNumbered self.now }
         ensures done { IfOk result (λ n. (seen : Seen)
-            → add_entry (group_entry id (bounds scopes.items) place) (named (numbered self.old) seen)
-            ≡ Ok (n, named (numbered self.new) seen)) }
+            → add_entry (group_entry id (bounds scopes.items) place) (named_with (numbered_entries self.old) seen)
+            ≡ Ok (n, named_with (numbered_entries self.new) seen)) }
         ensures numbers { IfOk result (λ n. AreNumbered self.new) }
         ensures refused { IfErr result (λ e. e.kind ≢ OutOfMemory → (seen : Seen)
-            → add_entry (group_entry id (bounds scopes.items) place) (named (numbered self.old) seen) ≡ Err e.kind) }
-        ensures kinds { IfErr result (λ e. IsPlain e.kind) }
+            → add_entry (group_entry id (bounds scopes.items) place) (named_with (numbered_entries self.old) seen) ≡ Err e.kind) }
+        ensures kinds { IfErr result (λ e. IsUnstrict e.kind) }
     {
         let number = self.next_number()?;
         self.structs.push(Entry {
@@ -184,12 +184,12 @@ impl Entries {
         requires nodes { AreNodes nodes.now }
         requires numbers { AreNumbered self.now }
         ensures done { IfOk result (λ n. (seen : Seen)
-            → number_enum (nodes_of nodes.now) id (named (numbered self.old) seen)
-            ≡ Ok (n, named (numbered self.new) seen)) }
+            → number_enum (nodes_of nodes.now) id (named_with (numbered_entries self.old) seen)
+            ≡ Ok (n, named_with (numbered_entries self.new) seen)) }
         ensures numbers { IfOk result (λ n. AreNumbered self.new) }
         ensures refused { IfErr result (λ e. e.kind ≢ OutOfMemory → (seen : Seen)
-            → number_enum (nodes_of nodes.now) id (named (numbered self.old) seen) ≡ Err e.kind) }
-        ensures kinds { IfErr result (λ e. IsPlain e.kind) }
+            → number_enum (nodes_of nodes.now) id (named_with (numbered_entries self.old) seen) ≡ Err e.kind) }
+        ensures kinds { IfErr result (λ e. IsUnstrict e.kind) }
     {
         if let Some(number) = self.by_id.get(&id) {
             return Ok(*number);

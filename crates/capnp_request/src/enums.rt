@@ -3,12 +3,12 @@ ghost use Rattle.std.specs.Prelude.{◌≡◌, [], length, map, string_bytes, If
 ghost use Rattle.capnp_device.specs.declared.error.ErrorKind.TheVariants.{OutOfMemory};
 ghost use Rattle.capnp_schema.specs.Schema.{seen_enum};
 ghost use Rattle.capnp_dynamic_readers.specs.Seen.{list_seen, record_seen};
-ghost use Rattle.capnp_request.specs.Done.{IsDone, between};
-ghost use Rattle.capnp_request.specs.Handles.{IsListOf, IsRecord, values_left};
+ghost use Rattle.capnp_request.specs.Done.{IsWorkDone, between};
+ghost use Rattle.capnp_request.specs.Handles.{IsListOf, IsRequestRecord, values_left};
 ghost use Rattle.capnp_request.specs.Nodes.{AreNodes, nodes_of};
 ghost use Rattle.capnp_request.specs.Numbers.{AreNumbered};
 ghost use Rattle.capnp_request.specs.Order.{enum_made, enumerant_of};
-ghost use Rattle.capnp_request.specs.Parts.{one};
+ghost use Rattle.capnp_request.specs.Parts.{request_struct};
 ghost use Rattle.capnp_request.specs.Reading.{each_said, enumerant_said, node_said};
 ghost use Rattle.capnp_request.specs.Refusals.{IsRefusal};
 ghost use Rattle.capnp_request.specs.StructsSeen.{enumerant_records, enumerant_types, seen_converted_enumerant, seen_enumerants};
@@ -55,8 +55,8 @@ fn enumerant_of<'a>(
 ) -> Result<ConvertedEnumerant>
     requires nodes { AreNodes context.nodes.now }
     requires numbers { AreNumbered entries.now }
-    requires is_record { IsRecord 11 enumerant }
-    ensures done { IsDone seen_converted_enumerant
+    requires is_record { IsRequestRecord 11 enumerant }
+    ensures done { IsWorkDone seen_converted_enumerant
         (enumerant_of (nodes_of context.entry.nodes.now) context.entry.strict
         (enumerant_said (record_seen enumerant.entry)))
         (between entries.old) (between entries.new) result }
@@ -88,8 +88,8 @@ fn enumerants_of<'a>(
 ) -> Result<Vec<ConvertedEnumerant>>
     requires nodes { AreNodes context.nodes.now }
     requires numbers { AreNumbered entries.now }
-    requires is_list { IsListOf (one 11) listed }
-    ensures done { IsDone (λ r. seen_enumerants r.items)
+    requires is_list { IsListOf (request_struct 11) listed }
+    ensures done { IsWorkDone (λ r. seen_enumerants r.items)
         (each_read (enumerant_of (nodes_of context.entry.nodes.now) context.entry.strict)
         (each_said 11 enumerant_said (values_left listed.entry 0)))
         (between entries.old) (between entries.new) result }
@@ -136,8 +136,8 @@ pub(crate) fn enum_of<'a>(
 ) -> Result<EnumRecord>
     requires nodes { AreNodes context.nodes.now }
     requires numbers { AreNumbered entries.now }
-    requires is_record { IsRecord 2 place.node }
-    ensures done { IsDone seen_enum (enum_made (nodes_of context.entry.nodes.now) context.entry.strict place.entry.id
+    requires is_record { IsRequestRecord 2 place.node }
+    ensures done { IsWorkDone seen_enum (enum_made (nodes_of context.entry.nodes.now) context.entry.strict place.entry.id
         (string_bytes display_name) (node_said (record_seen place.entry.node)))
         (between entries.old) (between entries.new) result }
     ensures numbers { IfOk result (λ _. AreNumbered entries.new) }

@@ -5,11 +5,11 @@ ghost use Rattle.capnp_dynamic_readers.specs.Seen.{record_seen};
 ghost use Rattle.capnp_request.specs.Bindings.{bounds};
 ghost use Rattle.capnp_request.specs.Conversion.{field_of, kind_of};
 ghost use Rattle.capnp_request.specs.ConvertedSeen.{seen_converted, seen_converted_kind};
-ghost use Rattle.capnp_request.specs.Done.{IsDone, between};
-ghost use Rattle.capnp_request.specs.Handles.{IsRecord};
+ghost use Rattle.capnp_request.specs.Done.{IsWorkDone, between};
+ghost use Rattle.capnp_request.specs.Handles.{IsRequestRecord};
 ghost use Rattle.capnp_request.specs.Nodes.{AreNodes, nodes_of};
 ghost use Rattle.capnp_request.specs.Numbers.{AreNumbered};
-ghost use Rattle.capnp_request.specs.Parts.{read_at};
+ghost use Rattle.capnp_request.specs.Parts.{request_read_at};
 ghost use Rattle.capnp_request.specs.Reading.{field_said, group_said, in_struct, slot_said};
 ghost use Rattle.capnp_request.specs.Refusals.{IsRefusal};
 ghost use Rattle.capnp_request.specs.Terms.{UnreadField};
@@ -68,11 +68,11 @@ fn slot_of<'a>(
 ) -> Result<ConvertedKind>
     requires nodes { AreNodes context.nodes.now }
     requires numbers { AreNumbered entries.now }
-    requires record { IsRecord 8 field }
+    requires record { IsRequestRecord 8 field }
     requires active { which_of (record_seen field) ≡ Some 3 }
-    ensures done { IsDone (seen_converted_kind place)
+    ensures done { IsWorkDone (seen_converted_kind place)
         (kind_of (nodes_of context.entry.nodes.now) context.entry.strict (bounds inside.now) place.parent place.field
-        (in_struct UnreadField slot_said (read_at 8 3 (record_seen field.entry))))
+        (in_struct UnreadField slot_said (request_read_at 8 3 (record_seen field.entry))))
         (between entries.old) (between entries.new) result }
     ensures numbers { IfOk result (λ _. AreNumbered entries.new) }
     ensures kinds { IfErr result (λ e. IsRefusal context.entry.strict e.kind) }
@@ -106,11 +106,11 @@ fn group_of<'a>(
 ) -> Result<ConvertedKind>
     requires nodes { AreNodes context.nodes.now }
     requires numbers { AreNumbered entries.now }
-    requires record { IsRecord 8 field }
+    requires record { IsRequestRecord 8 field }
     requires active { which_of (record_seen field) ≡ Some 4 }
-    ensures done { IsDone (seen_converted_kind place)
+    ensures done { IsWorkDone (seen_converted_kind place)
         (kind_of (nodes_of context.entry.nodes.now) context.entry.strict (bounds inside.now) place.parent place.field
-        (in_struct UnreadField group_said (read_at 8 4 (record_seen field.entry))))
+        (in_struct UnreadField group_said (request_read_at 8 4 (record_seen field.entry))))
         (between entries.old) (between entries.new) result }
     ensures numbers { IfOk result (λ _. AreNumbered entries.new) }
     ensures kinds { IfErr result (λ e. IsRefusal context.entry.strict e.kind) }
@@ -138,8 +138,8 @@ fn kind_of<'a>(
 ) -> Result<ConvertedKind>
     requires nodes { AreNodes context.nodes.now }
     requires numbers { AreNumbered entries.now }
-    requires record { IsRecord 8 field }
-    ensures done { IsDone (seen_converted_kind place)
+    requires record { IsRequestRecord 8 field }
+    ensures done { IsWorkDone (seen_converted_kind place)
         (kind_of (nodes_of context.entry.nodes.now) context.entry.strict (bounds inside.now) place.parent place.field
         (field_said (record_seen field.entry)).kind)
         (between entries.old) (between entries.new) result }
@@ -166,8 +166,8 @@ pub(crate) fn field_of<'a>(
 ) -> Result<ConvertedField>
     requires nodes { AreNodes context.nodes.now }
     requires numbers { AreNumbered entries.now }
-    requires is_record { IsRecord 8 field }
-    ensures done { IsDone (seen_converted place.parent place.field)
+    requires is_record { IsRequestRecord 8 field }
+    ensures done { IsWorkDone (seen_converted place.parent place.field)
         (field_of (nodes_of context.entry.nodes.now) context.entry.strict (bounds inside.now) place.parent place.field
         (field_said (record_seen field.entry)))
         (between entries.old) (between entries.new) result }

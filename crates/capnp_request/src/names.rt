@@ -6,11 +6,11 @@ ghost use Rattle.capnp_schema.specs.Types.{seen_base, seen_type, seen_variant};
 ghost use Rattle.capnp_base.specs.Types.{base_of, list_depth};
 ghost use Rattle.capnp_request.specs.Bindings.{bounds, seen_bound};
 ghost use Rattle.capnp_request.specs.EntriesSeen.{seen_entry, seen_place};
-ghost use Rattle.capnp_request.specs.Names.{Holder as NameHolder, bindings_name, bound_name, count_of, dotted_of, enum_name, file_of, finished, group_name, is_taken, more_names, part_bindings, struct_name, type_name};
-ghost use Rattle.capnp_request.specs.NamesMade.{AreHolders, IsTooLong, file_when, name_at, names_nothing, one_more, repeated, struct_names, texts};
+ghost use Rattle.capnp_request.specs.Names.{Holder as NameHolder, bindings_name, bound_name, occurrences_of, dotted_of, enum_name, file_of, finished_name, group_name, is_taken, more_names, part_bindings, struct_name, type_name};
+ghost use Rattle.capnp_request.specs.NamesMade.{AreHolders, IsTooLong, file_when, bound_name_at, names_nothing, one_more, repeated_piece, struct_names, texts};
 ghost use Rattle.capnp_request.specs.Nodes.{AreNodes, nodes_of};
 ghost use Rattle.capnp_request.specs.Order.{name_entry};
-ghost use Rattle.capnp_request.specs.Refusals.{IsPlain};
+ghost use Rattle.capnp_request.specs.Refusals.{IsUnstrict};
 ghost use Rattle.capnp_request.specs.Work.{Whole};
 
 use crate::entries::{BoundScope, Entry};
@@ -75,9 +75,9 @@ fn check_length(name: &[u8]) -> Result<()>
 
 /// A copy of bytes as a name. Refused with `TooManyTypes` where there are more than 1,024, and with `NameNotUtf8`.
 fn finished(alloc: Global, name: &[u8]) -> Result<String>
-    ensures read { IfOk result (λ x. finished name.now ≡ Ok (string_bytes x)) }
-    ensures refused { IfErr result (λ e. e.kind ≢ OutOfMemory → finished name.now ≡ Err e.kind) }
-    ensures kinds { IfErr result (λ e. IsPlain e.kind) }
+    ensures read { IfOk result (λ x. finished_name name.now ≡ Ok (string_bytes x)) }
+    ensures refused { IfErr result (λ e. e.kind ≢ OutOfMemory → finished_name name.now ≡ Err e.kind) }
+    ensures kinds { IfErr result (λ e. IsUnstrict e.kind) }
 {
     check_length(name)?;
     let text = owned(alloc, name)?;
@@ -88,7 +88,7 @@ fn finished(alloc: Global, name: &[u8]) -> Result<String>
 fn append(name: &mut Vec<u8>, piece: &[u8]) -> Result<()>
     ensures appended { IfOk result (λ _. name.new.items ≡ name.old.items ++ piece.now) }
     ensures refused { IfErr result (λ e. IsTooLong e.kind (name.old.items ++ piece.now)) }
-    ensures kinds { IfErr result (λ e. IsPlain e.kind) }
+    ensures kinds { IfErr result (λ e. IsUnstrict e.kind) }
 {
     name.extend_from_slice(piece)?;
     check_length(name.as_slice())
@@ -98,7 +98,7 @@ fn append(name: &mut Vec<u8>, piece: &[u8]) -> Result<()>
 pub(crate) fn enum_name(alloc: Global, display: &[u8]) -> Result<String>
     ensures read { IfOk result (λ x. enum_name display.now ≡ Ok (string_bytes x)) }
     ensures refused { IfErr result (λ e. e.kind ≢ OutOfMemory → enum_name display.now ≡ Err e.kind) }
-    ensures kinds { IfErr result (λ e. IsPlain e.kind) }
+    ensures kinds { IfErr result (λ e. IsUnstrict e.kind) }
 {
     let start = behind_colon(display);
     let dotted = &display[start..];
@@ -136,7 +136,7 @@ fn append_base(name: &mut Vec<u8>, named: Named<'_>, bound: Type) -> Result<()>
     ensures refused { IfErr result (λ e. IsTooLong e.kind
         (name.old.items ++ type_name (struct_names named.entry.structs.now) (texts named.entry.enums.now)
         (seen_base (base_of bound)))) }
-    ensures kinds { IfErr result (λ e. IsPlain e.kind) }
+    ensures kinds { IfErr result (λ e. IsUnstrict e.kind) }
 {
     match bound.innermost() {
         TypeVariant::Struct(entry) => match named.structs.get(entry.number as usize) {
@@ -153,9 +153,9 @@ fn append_base(name: &mut Vec<u8>, named: Named<'_>, bound: Type) -> Result<()>
 
 /// Appends a piece for each list around a type.
 fn append_lists(name: &mut Vec<u8>, bound: Type, piece: &[u8]) -> Result<()>
-    ensures appended { IfOk result (λ _. name.new.items ≡ name.old.items ++ repeated (list_depth bound) piece.now) }
-    ensures refused { IfErr result (λ e. IsTooLong e.kind (name.old.items ++ repeated (list_depth bound) piece.now)) }
-    ensures kinds { IfErr result (λ e. IsPlain e.kind) }
+    ensures appended { IfOk result (λ _. name.new.items ≡ name.old.items ++ repeated_piece (list_depth bound) piece.now) }
+    ensures refused { IfErr result (λ e. IsTooLong e.kind (name.old.items ++ repeated_piece (list_depth bound) piece.now)) }
+    ensures kinds { IfErr result (λ e. IsUnstrict e.kind) }
 {
     let mut inner = bound;
     while let TypeVariant::List(element) = inner.which() {
@@ -173,7 +173,7 @@ fn append_type(name: &mut Vec<u8>, named: Named<'_>, bound: Type) -> Result<()>
     ensures refused { IfErr result (λ e. IsTooLong e.kind
         (name.old.items ++ type_name (struct_names named.entry.structs.now) (texts named.entry.enums.now)
         (seen_type bound))) }
-    ensures kinds { IfErr result (λ e. IsPlain e.kind) }
+    ensures kinds { IfErr result (λ e. IsUnstrict e.kind) }
 {
     append_lists(name, bound, b"List(")?;
     append_base(name, named, bound)?;
@@ -184,12 +184,12 @@ fn append_type(name: &mut Vec<u8>, named: Named<'_>, bound: Type) -> Result<()>
 /// Appends the name of the type of a number among these, an untyped pointer's where there are fewer.
 fn append_bound(name: &mut Vec<u8>, named: Named<'_>, types: &[Type], index: u32) -> Result<()>
     ensures appended { IfOk result (λ _. name.new.items
-        ≡ name.old.items ++ name_at (struct_names named.entry.structs.now) (texts named.entry.enums.now)
+        ≡ name.old.items ++ bound_name_at (struct_names named.entry.structs.now) (texts named.entry.enums.now)
         (map seen_type types.now) index) }
     ensures refused { IfErr result (λ e. IsTooLong e.kind
-        (name.old.items ++ name_at (struct_names named.entry.structs.now) (texts named.entry.enums.now)
+        (name.old.items ++ bound_name_at (struct_names named.entry.structs.now) (texts named.entry.enums.now)
         (map seen_type types.now) index)) }
-    ensures kinds { IfErr result (λ e. IsPlain e.kind) }
+    ensures kinds { IfErr result (λ e. IsUnstrict e.kind) }
 {
     match types.get(index as usize) {
         Some(bound) => append_type(name, named, *bound),
@@ -210,7 +210,7 @@ fn append_others(
     ensures refused { IfErr result (λ e. IsTooLong e.kind
         (name.old.items ++ more_names (struct_names named.entry.structs.now) (texts named.entry.enums.now)
         (drop 1 (map seen_type types.now)) (parameters - 1))) }
-    ensures kinds { IfErr result (λ e. IsPlain e.kind) }
+    ensures kinds { IfErr result (λ e. IsUnstrict e.kind) }
 {
     for index in 1..parameters {
         append(name, b", ")?;
@@ -227,7 +227,7 @@ fn append_bindings(name: &mut Vec<u8>, named: Named<'_>, scope: &BoundScope) -> 
     ensures refused { IfErr result (λ e. IsTooLong e.kind
         (name.old.items ++ bindings_name (struct_names named.entry.structs.now) (texts named.entry.enums.now)
         (seen_bound scope.now).types scope.now.parameters)) }
-    ensures kinds { IfErr result (λ e. IsPlain e.kind) }
+    ensures kinds { IfErr result (λ e. IsUnstrict e.kind) }
 {
     let types = scope.types.as_slice();
     if types.is_empty() {
@@ -241,7 +241,7 @@ fn append_bindings(name: &mut Vec<u8>, named: Named<'_>, scope: &BoundScope) -> 
 
 /// How many dots a name has.
 fn dots_in(name: &[u8]) -> usize
-    ensures { result ≡ count_of 46 name.now }
+    ensures { result ≡ occurrences_of 46 name.now }
 {
     let mut dots = 0usize;
     for byte in name {
@@ -274,7 +274,7 @@ fn append_part_bindings(
     ensures refused { IfErr result (λ e. IsTooLong e.kind
         (name.old.items ++ part_bindings (struct_names named.entry.structs.now) (texts named.entry.enums.now)
         (bounds scopes.now) dots part)) }
-    ensures kinds { IfErr result (λ e. IsPlain e.kind) }
+    ensures kinds { IfErr result (λ e. IsUnstrict e.kind) }
 {
     for scope in scopes {
         if part_of_scope(dots, scope.distance) == part {
@@ -293,11 +293,11 @@ fn append_dotted(
 ) -> Result<()>
     ensures appended { IfOk result (λ _. name.new.items
         ≡ name.old.items ++ bound_name (struct_names named.entry.structs.now) (texts named.entry.enums.now)
-        (bounds scopes.now) (count_of 46 dotted.now) 0 dotted.now) }
+        (bounds scopes.now) (occurrences_of 46 dotted.now) 0 dotted.now) }
     ensures refused { IfErr result (λ e. IsTooLong e.kind
         (name.old.items ++ bound_name (struct_names named.entry.structs.now) (texts named.entry.enums.now)
-        (bounds scopes.now) (count_of 46 dotted.now) 0 dotted.now)) }
-    ensures kinds { IfErr result (λ e. IsPlain e.kind) }
+        (bounds scopes.now) (occurrences_of 46 dotted.now) 0 dotted.now)) }
+    ensures kinds { IfErr result (λ e. IsUnstrict e.kind) }
 {
     let dots = dots_in(dotted);
     let mut part = 0usize;
@@ -316,7 +316,7 @@ fn append_dotted(
 fn file_part(alloc: Global, file: &[u8], is_taken: bool) -> Result<Vec<u8>>
     ensures read { IfOk result (λ name. name.items ≡ file_when is_taken file.now) }
     ensures refused { IfErr result (λ e. IsTooLong e.kind (file_when is_taken file.now)) }
-    ensures kinds { IfErr result (λ e. IsPlain e.kind) }
+    ensures kinds { IfErr result (λ e. IsUnstrict e.kind) }
 {
     let mut name = Vec::new(alloc);
     if is_taken {
@@ -329,7 +329,7 @@ fn file_part(alloc: Global, file: &[u8], is_taken: bool) -> Result<Vec<u8>>
 fn with_dot(alloc: Global, parent: &[u8], field: &[u8]) -> Result<Vec<u8>>
     ensures made { IfOk result (λ name. name.items ≡ parent.now ++ 46 ∷ field.now) }
     ensures refused { IfErr result (λ e. IsTooLong e.kind (parent.now ++ 46 ∷ field.now)) }
-    ensures kinds { IfErr result (λ e. IsPlain e.kind) }
+    ensures kinds { IfErr result (λ e. IsUnstrict e.kind) }
 {
     let mut name = parent.to_vec(alloc)?;
     append(&mut name, b".")?;
@@ -339,9 +339,9 @@ fn with_dot(alloc: Global, parent: &[u8], field: &[u8]) -> Result<Vec<u8>>
 
 /// The name of the group that a field names: its parent's, a dot, and the field's.
 fn dotted_name(alloc: Global, parent: &[u8], field: &[u8]) -> Result<String>
-    ensures read { IfOk result (λ name. finished (parent.now ++ 46 ∷ field.now) ≡ Ok (string_bytes name)) }
-    ensures refused { IfErr result (λ e. e.kind ≢ OutOfMemory → finished (parent.now ++ 46 ∷ field.now) ≡ Err e.kind) }
-    ensures kinds { IfErr result (λ e. IsPlain e.kind) }
+    ensures read { IfOk result (λ name. finished_name (parent.now ++ 46 ∷ field.now) ≡ Ok (string_bytes name)) }
+    ensures refused { IfErr result (λ e. e.kind ≢ OutOfMemory → finished_name (parent.now ++ 46 ∷ field.now) ≡ Err e.kind) }
+    ensures kinds { IfErr result (λ e. IsUnstrict e.kind) }
 {
     let bytes = with_dot(alloc, parent, field)?;
     let name = finished(alloc, bytes.as_slice())?;
@@ -354,7 +354,7 @@ fn member_name(alloc: Global, parent: &NodeRecord, field: usize) -> Result<Strin
     ensures read { IfOk result (λ name. group_name (Some (seen_node parent.now)) field ≡ Ok (string_bytes name)) }
     ensures refused { IfErr result (λ e. e.kind ≢ OutOfMemory
         → group_name (Some (seen_node parent.now)) field ≡ Err e.kind) }
-    ensures kinds { IfErr result (λ e. IsPlain e.kind) }
+    ensures kinds { IfErr result (λ e. IsUnstrict e.kind) }
 {
     let fields = parent.body.fields.as_slice();
     match fields.get(field) {
@@ -377,7 +377,7 @@ fn group_name(alloc: Global, parent: Option<&NodeRecord>, field: usize) -> Resul
         ≡ Ok (string_bytes name)) }
     ensures refused { IfErr result (λ e. e.kind ≢ OutOfMemory
         → group_name (option_map (λ n. seen_node n.now) parent.entry) field ≡ Err e.kind) }
-    ensures kinds { IfErr result (λ e. IsPlain e.kind) }
+    ensures kinds { IfErr result (λ e. IsUnstrict e.kind) }
 {
     match parent {
         Some(parent) => member_name(alloc, parent, field),
@@ -439,7 +439,7 @@ impl Names {
             → IfErr result (λ e. e.kind ≢ OutOfMemory
             → struct_name (struct_names named.entry.structs.now) (texts named.entry.enums.now) hs entry.now.id
             (bounds entry.now.scopes.items) display.now ≡ Err e.kind) }
-        ensures kinds { IfErr result (λ e. IsPlain e.kind) }
+        ensures kinds { IfErr result (λ e. IsUnstrict e.kind) }
     {
         let start = behind_colon(display);
         let file = &display[..start];
@@ -467,7 +467,7 @@ impl Names {
             → IfErr result (λ e. e.kind ≢ OutOfMemory
             → name_entry (nodes_of nodes.now) (map seen_node named.entry.structs.now) (texts named.entry.enums.now) hs
             (seen_entry entry.now) Whole ≡ Err e.kind) }
-        ensures kinds { IfErr result (λ e. IsPlain e.kind) }
+        ensures kinds { IfErr result (λ e. IsUnstrict e.kind) }
     {
         let node = nodes.found(entry.id)?;
         let display = display_name(node)?;
@@ -491,7 +491,7 @@ impl Names {
             → IfErr result (λ e. e.kind ≢ OutOfMemory
             → name_entry (nodes_of nodes.now) (map seen_node named.entry.structs.now) (texts named.entry.enums.now) hs
             (seen_entry entry.now) (seen_place entry.now.group) ≡ Err e.kind) }
-        ensures kinds { IfErr result (λ e. IsPlain e.kind) }
+        ensures kinds { IfErr result (λ e. IsUnstrict e.kind) }
     {
         match entry.group {
             Some(place) => group_name(

@@ -12,13 +12,13 @@ ghost use Rattle.capnp_records.specs.Record as value;
 ghost use Rattle.capnp_dynamic_readers.specs.Handles.{list_reader_of};
 ghost use Rattle.capnp_dynamic_readers.specs.Kinds.{Int16Kind, Int32Kind, Int64Kind, Int8Kind, kind_of};
 ghost use Rattle.capnp_dynamic_readers.specs.Reads.{element_seen};
-ghost use Rattle.capnp_dynamic_readers.specs.Seen.{answered, list_seen, record_seen, value_seen};
+ghost use Rattle.capnp_dynamic_readers.specs.Seen.{answered_value, list_seen, record_seen, value_seen};
 ghost use Rattle.capnp_dynamic_readers.specs.Typed.{IsOf};
 ghost use Rattle.capnp_dynamic_readers.specs.declared.dynamic_value.Reader.TheVariants as dynamic;
-ghost use Rattle.capnp_request.specs.Conversion.{name_of};
-ghost use Rattle.capnp_request.specs.Handles.{IsActive, IsAlwaysRead, IsField, IsGroupField, IsListOf, IsRecord};
-ghost use Rattle.capnp_request.specs.Parts.{many, one, read_at};
-ghost use Rattle.capnp_request.specs.Refusals.{IsPlain};
+ghost use Rattle.capnp_request.specs.Conversion.{converted_name};
+ghost use Rattle.capnp_request.specs.Handles.{IsRequestFieldActive, IsAlwaysRead, IsRequestField, IsGroupField, IsListOf, IsRequestRecord};
+ghost use Rattle.capnp_request.specs.Parts.{request_structs, request_struct, request_read_at};
+ghost use Rattle.capnp_request.specs.Refusals.{IsUnstrict};
 
 use capnp_base::{any_pointer, text};
 use capnp_dynamic_readers::dynamic_value::Reader as Value;
@@ -39,12 +39,12 @@ pub(crate) fn active_member(reader: dynamic_struct::Reader<'_>) -> Option<u16>
 
 /// What field `index` of a record of brand `brand` has. It has to be a plain field or the active member.
 fn part<'a>(reader: dynamic_struct::Reader<'a>, brand: u32, index: u16) -> Result<Value<'a>>
-    requires record { IsRecord brand reader }
-    requires field { IsField brand index (field_at request_set brand index).type }
-    requires active { IsActive brand index reader }
-    ensures value { answered result ≡ read_at brand index (record_seen reader.entry) }
+    requires record { IsRequestRecord brand reader }
+    requires field { IsRequestField brand index (field_at request_set brand index).type }
+    requires active { IsRequestFieldActive brand index reader }
+    ensures value { answered_value result ≡ request_read_at brand index (record_seen reader.entry) }
     ensures typed { IfOk result (IsOf request_set (field_at request_set brand index).type) }
-    ensures kinds { IfErr result (λ e. IsPlain e.kind) }
+    ensures kinds { IfErr result (λ e. IsUnstrict e.kind) }
 {
     let _brand = brand;
     let Ok(fields) = reader.get_schema().get_fields() else {
@@ -56,11 +56,11 @@ fn part<'a>(reader: dynamic_struct::Reader<'a>, brand: u32, index: u16) -> Resul
 
 /// The same of a field that can always be read.
 fn sure_part<'a>(reader: dynamic_struct::Reader<'a>, brand: u32, index: u16) -> Value<'a>
-    requires record { IsRecord brand reader }
-    requires field { IsField brand index (field_at request_set brand index).type }
+    requires record { IsRequestRecord brand reader }
+    requires field { IsRequestField brand index (field_at request_set brand index).type }
     requires always { IsAlwaysRead brand index }
-    requires active { IsActive brand index reader }
-    ensures value { value_seen result ≡ read_at brand index (record_seen reader.entry) }
+    requires active { IsRequestFieldActive brand index reader }
+    ensures value { value_seen result ≡ request_read_at brand index (record_seen reader.entry) }
     ensures typed { IsOf request_set (field_at request_set brand index).type result }
 {
     let Ok(value) = part(reader, brand, index) else {
@@ -71,10 +71,10 @@ fn sure_part<'a>(reader: dynamic_struct::Reader<'a>, brand: u32, index: u16) -> 
 
 /// A `u8`.
 pub(crate) fn u8_at(reader: dynamic_struct::Reader<'_>, brand: u32, index: u16) -> u8
-    requires record { IsRecord brand reader }
-    requires field { IsField brand index (UIntType 1) }
-    requires active { IsActive brand index reader }
-    ensures { value.Number (pos result) ≡ read_at brand index (record_seen reader.entry) }
+    requires record { IsRequestRecord brand reader }
+    requires field { IsRequestField brand index (UIntType 1) }
+    requires active { IsRequestFieldActive brand index reader }
+    ensures { value.Number (pos result) ≡ request_read_at brand index (record_seen reader.entry) }
 {
     let value = sure_part(reader, brand, index);
     value.downcast::<u8>()
@@ -82,10 +82,10 @@ pub(crate) fn u8_at(reader: dynamic_struct::Reader<'_>, brand: u32, index: u16) 
 
 /// A `u16`.
 pub(crate) fn u16_at(reader: dynamic_struct::Reader<'_>, brand: u32, index: u16) -> u16
-    requires record { IsRecord brand reader }
-    requires field { IsField brand index (UIntType 2) }
-    requires active { IsActive brand index reader }
-    ensures { value.Number (pos result) ≡ read_at brand index (record_seen reader.entry) }
+    requires record { IsRequestRecord brand reader }
+    requires field { IsRequestField brand index (UIntType 2) }
+    requires active { IsRequestFieldActive brand index reader }
+    ensures { value.Number (pos result) ≡ request_read_at brand index (record_seen reader.entry) }
 {
     let value = sure_part(reader, brand, index);
     value.downcast::<u16>()
@@ -93,10 +93,10 @@ pub(crate) fn u16_at(reader: dynamic_struct::Reader<'_>, brand: u32, index: u16)
 
 /// A `u32`.
 pub(crate) fn u32_at(reader: dynamic_struct::Reader<'_>, brand: u32, index: u16) -> u32
-    requires record { IsRecord brand reader }
-    requires field { IsField brand index (UIntType 4) }
-    requires active { IsActive brand index reader }
-    ensures { value.Number (pos result) ≡ read_at brand index (record_seen reader.entry) }
+    requires record { IsRequestRecord brand reader }
+    requires field { IsRequestField brand index (UIntType 4) }
+    requires active { IsRequestFieldActive brand index reader }
+    ensures { value.Number (pos result) ≡ request_read_at brand index (record_seen reader.entry) }
 {
     let value = sure_part(reader, brand, index);
     value.downcast::<u32>()
@@ -104,10 +104,10 @@ pub(crate) fn u32_at(reader: dynamic_struct::Reader<'_>, brand: u32, index: u16)
 
 /// A `u64`.
 pub(crate) fn u64_at(reader: dynamic_struct::Reader<'_>, brand: u32, index: u16) -> u64
-    requires record { IsRecord brand reader }
-    requires field { IsField brand index (UIntType 8) }
-    requires active { IsActive brand index reader }
-    ensures { value.Number (pos result) ≡ read_at brand index (record_seen reader.entry) }
+    requires record { IsRequestRecord brand reader }
+    requires field { IsRequestField brand index (UIntType 8) }
+    requires active { IsRequestFieldActive brand index reader }
+    ensures { value.Number (pos result) ≡ request_read_at brand index (record_seen reader.entry) }
 {
     let value = sure_part(reader, brand, index);
     value.downcast::<u64>()
@@ -126,10 +126,10 @@ fn int8_of(value: Value<'_>) -> i8
 
 /// An `i8`.
 pub(crate) fn i8_at(reader: dynamic_struct::Reader<'_>, brand: u32, index: u16) -> i8
-    requires record { IsRecord brand reader }
-    requires field { IsField brand index (IntType 1) }
-    requires active { IsActive brand index reader }
-    ensures { value.Number result ≡ read_at brand index (record_seen reader.entry) }
+    requires record { IsRequestRecord brand reader }
+    requires field { IsRequestField brand index (IntType 1) }
+    requires active { IsRequestFieldActive brand index reader }
+    ensures { value.Number result ≡ request_read_at brand index (record_seen reader.entry) }
 {
     let value = sure_part(reader, brand, index);
     int8_of(value)
@@ -148,10 +148,10 @@ fn int16_of(value: Value<'_>) -> i16
 
 /// An `i16`.
 pub(crate) fn i16_at(reader: dynamic_struct::Reader<'_>, brand: u32, index: u16) -> i16
-    requires record { IsRecord brand reader }
-    requires field { IsField brand index (IntType 2) }
-    requires active { IsActive brand index reader }
-    ensures { value.Number result ≡ read_at brand index (record_seen reader.entry) }
+    requires record { IsRequestRecord brand reader }
+    requires field { IsRequestField brand index (IntType 2) }
+    requires active { IsRequestFieldActive brand index reader }
+    ensures { value.Number result ≡ request_read_at brand index (record_seen reader.entry) }
 {
     let value = sure_part(reader, brand, index);
     int16_of(value)
@@ -170,10 +170,10 @@ fn int32_of(value: Value<'_>) -> i32
 
 /// An `i32`.
 pub(crate) fn i32_at(reader: dynamic_struct::Reader<'_>, brand: u32, index: u16) -> i32
-    requires record { IsRecord brand reader }
-    requires field { IsField brand index (IntType 4) }
-    requires active { IsActive brand index reader }
-    ensures { value.Number result ≡ read_at brand index (record_seen reader.entry) }
+    requires record { IsRequestRecord brand reader }
+    requires field { IsRequestField brand index (IntType 4) }
+    requires active { IsRequestFieldActive brand index reader }
+    ensures { value.Number result ≡ request_read_at brand index (record_seen reader.entry) }
 {
     let value = sure_part(reader, brand, index);
     int32_of(value)
@@ -192,10 +192,10 @@ fn int64_of(value: Value<'_>) -> i64
 
 /// An `i64`.
 pub(crate) fn i64_at(reader: dynamic_struct::Reader<'_>, brand: u32, index: u16) -> i64
-    requires record { IsRecord brand reader }
-    requires field { IsField brand index (IntType 8) }
-    requires active { IsActive brand index reader }
-    ensures { value.Number result ≡ read_at brand index (record_seen reader.entry) }
+    requires record { IsRequestRecord brand reader }
+    requires field { IsRequestField brand index (IntType 8) }
+    requires active { IsRequestFieldActive brand index reader }
+    ensures { value.Number result ≡ request_read_at brand index (record_seen reader.entry) }
 {
     let value = sure_part(reader, brand, index);
     int64_of(value)
@@ -203,10 +203,10 @@ pub(crate) fn i64_at(reader: dynamic_struct::Reader<'_>, brand: u32, index: u16)
 
 /// A truth value.
 pub(crate) fn bool_at(reader: dynamic_struct::Reader<'_>, brand: u32, index: u16) -> bool
-    requires record { IsRecord brand reader }
-    requires field { IsField brand index BoolType }
-    requires active { IsActive brand index reader }
-    ensures { value.Truth result ≡ read_at brand index (record_seen reader.entry) }
+    requires record { IsRequestRecord brand reader }
+    requires field { IsRequestField brand index BoolType }
+    requires active { IsRequestFieldActive brand index reader }
+    ensures { value.Truth result ≡ request_read_at brand index (record_seen reader.entry) }
 {
     let value = sure_part(reader, brand, index);
     value.downcast::<bool>()
@@ -218,12 +218,12 @@ pub(crate) fn text_at<'a>(
     brand: u32,
     index: u16,
 ) -> Result<&'a [u8]>
-    requires record { IsRecord brand reader }
-    requires field { IsField brand index TextType }
-    requires active { IsActive brand index reader }
-    ensures read { IfOk result (λ x. value.Text x.now ≡ read_at brand index (record_seen reader.entry)) }
-    ensures refused { IfErr result (λ e. value.Fault e.kind ≡ read_at brand index (record_seen reader.entry)) }
-    ensures kinds { IfErr result (λ e. IsPlain e.kind) }
+    requires record { IsRequestRecord brand reader }
+    requires field { IsRequestField brand index TextType }
+    requires active { IsRequestFieldActive brand index reader }
+    ensures read { IfOk result (λ x. value.Text x.now ≡ request_read_at brand index (record_seen reader.entry)) }
+    ensures refused { IfErr result (λ e. value.Fault e.kind ≡ request_read_at brand index (record_seen reader.entry)) }
+    ensures kinds { IfErr result (λ e. IsUnstrict e.kind) }
 {
     match part(reader, brand, index) {
         Ok(value) => Ok(value.downcast::<text::Reader<'a>>().0),
@@ -237,12 +237,12 @@ pub(crate) fn data_at<'a>(
     brand: u32,
     index: u16,
 ) -> Result<&'a [u8]>
-    requires record { IsRecord brand reader }
-    requires field { IsField brand index DataType }
-    requires active { IsActive brand index reader }
-    ensures read { IfOk result (λ x. value.«Data» x.now ≡ read_at brand index (record_seen reader.entry)) }
-    ensures refused { IfErr result (λ e. value.Fault e.kind ≡ read_at brand index (record_seen reader.entry)) }
-    ensures kinds { IfErr result (λ e. IsPlain e.kind) }
+    requires record { IsRequestRecord brand reader }
+    requires field { IsRequestField brand index DataType }
+    requires active { IsRequestFieldActive brand index reader }
+    ensures read { IfOk result (λ x. value.«Data» x.now ≡ request_read_at brand index (record_seen reader.entry)) }
+    ensures refused { IfErr result (λ e. value.Fault e.kind ≡ request_read_at brand index (record_seen reader.entry)) }
+    ensures kinds { IfErr result (λ e. IsUnstrict e.kind) }
 {
     match part(reader, brand, index) {
         Ok(value) => Ok(value.downcast::<&'a [u8]>()),
@@ -256,10 +256,10 @@ pub(crate) fn untyped_at<'a>(
     brand: u32,
     index: u16,
 ) -> any_pointer::Reader<'a>
-    requires record { IsRecord brand reader }
-    requires field { IsField brand index AnyPointerType }
-    requires active { IsActive brand index reader }
-    ensures { value.Untyped (tree_of (pointer_of result)) ≡ read_at brand index (record_seen reader.entry) }
+    requires record { IsRequestRecord brand reader }
+    requires field { IsRequestField brand index AnyPointerType }
+    requires active { IsRequestFieldActive brand index reader }
+    ensures { value.Untyped (tree_of (pointer_of result)) ≡ request_read_at brand index (record_seen reader.entry) }
 {
     let value = sure_part(reader, brand, index);
     value.downcast::<any_pointer::Reader<'a>>()
@@ -267,9 +267,9 @@ pub(crate) fn untyped_at<'a>(
 
 /// A copy of a name's bytes. Refused with `NameNotUtf8` where they are no UTF-8.
 pub(crate) fn owned(alloc: Global, bytes: &[u8]) -> Result<String>
-    ensures read { IfOk result (λ x. name_of bytes.now ≡ Ok (string_bytes x)) }
-    ensures refused { IfErr result (λ e. e.kind ≢ OutOfMemory → name_of bytes.now ≡ Err e.kind) }
-    ensures kinds { IfErr result (λ e. IsPlain e.kind) }
+    ensures read { IfOk result (λ x. converted_name bytes.now ≡ Ok (string_bytes x)) }
+    ensures refused { IfErr result (λ e. e.kind ≢ OutOfMemory → converted_name bytes.now ≡ Err e.kind) }
+    ensures kinds { IfErr result (λ e. IsUnstrict e.kind) }
 {
     match text::Reader(bytes).to_str() {
         Ok(text) => Ok(String::from_str(alloc, text)?),
@@ -286,13 +286,13 @@ pub(crate) fn struct_at<'a>(
     index: u16,
     inner: u32,
 ) -> Result<dynamic_struct::Reader<'a>>
-    requires record { IsRecord brand reader }
-    requires field { IsField brand index (one inner) }
-    requires active { IsActive brand index reader }
-    ensures read { IfOk result (λ s. value.Struct (record_seen s) ≡ read_at brand index (record_seen reader.entry)) }
-    ensures record { IfOk result (IsRecord inner) }
-    ensures refused { IfErr result (λ e. value.Fault e.kind ≡ read_at brand index (record_seen reader.entry)) }
-    ensures kinds { IfErr result (λ e. IsPlain e.kind) }
+    requires record { IsRequestRecord brand reader }
+    requires field { IsRequestField brand index (request_struct inner) }
+    requires active { IsRequestFieldActive brand index reader }
+    ensures read { IfOk result (λ s. value.Struct (record_seen s) ≡ request_read_at brand index (record_seen reader.entry)) }
+    ensures record { IfOk result (IsRequestRecord inner) }
+    ensures refused { IfErr result (λ e. value.Fault e.kind ≡ request_read_at brand index (record_seen reader.entry)) }
+    ensures kinds { IfErr result (λ e. IsUnstrict e.kind) }
 {
     let _inner = inner;
     match part(reader, brand, index) {
@@ -308,12 +308,12 @@ pub(crate) fn group_at<'a>(
     index: u16,
     inner: u32,
 ) -> dynamic_struct::Reader<'a>
-    requires record { IsRecord brand reader }
-    requires field { IsField brand index (one inner) }
+    requires record { IsRequestRecord brand reader }
+    requires field { IsRequestField brand index (request_struct inner) }
     requires group { IsGroupField brand index }
-    requires active { IsActive brand index reader }
-    ensures read { value.Struct (record_seen result) ≡ read_at brand index (record_seen reader.entry) }
-    ensures record { IsRecord inner result }
+    requires active { IsRequestFieldActive brand index reader }
+    ensures read { value.Struct (record_seen result) ≡ request_read_at brand index (record_seen reader.entry) }
+    ensures record { IsRequestRecord inner result }
 {
     let _inner = inner;
     let value = sure_part(reader, brand, index);
@@ -327,13 +327,13 @@ pub(crate) fn list_at<'a>(
     index: u16,
     inner: u32,
 ) -> Result<dynamic_list::Reader<'a>>
-    requires record { IsRecord brand reader }
-    requires field { IsField brand index (many inner) }
-    requires active { IsActive brand index reader }
-    ensures read { IfOk result (λ l. list_seen l ≡ read_at brand index (record_seen reader.entry)) }
-    ensures elements { IfOk result (IsListOf (one inner)) }
-    ensures refused { IfErr result (λ e. value.Fault e.kind ≡ read_at brand index (record_seen reader.entry)) }
-    ensures kinds { IfErr result (λ e. IsPlain e.kind) }
+    requires record { IsRequestRecord brand reader }
+    requires field { IsRequestField brand index (request_structs inner) }
+    requires active { IsRequestFieldActive brand index reader }
+    ensures read { IfOk result (λ l. list_seen l ≡ request_read_at brand index (record_seen reader.entry)) }
+    ensures elements { IfOk result (IsListOf (request_struct inner)) }
+    ensures refused { IfErr result (λ e. value.Fault e.kind ≡ request_read_at brand index (record_seen reader.entry)) }
+    ensures kinds { IfErr result (λ e. IsUnstrict e.kind) }
 {
     let _inner = inner;
     match part(reader, brand, index) {
@@ -344,9 +344,9 @@ pub(crate) fn list_at<'a>(
 
 /// The struct that an element of a list is.
 pub(crate) fn struct_of<'a>(part: Value<'a>, inner: u32) -> dynamic_struct::Reader<'a>
-    requires { IsOf request_set (one inner) part }
+    requires { IsOf request_set (request_struct inner) part }
     ensures is { dynamic.Struct result ≡ part.entry }
-    ensures record { IsRecord inner result }
+    ensures record { IsRequestRecord inner result }
 {
     let _inner = inner;
     part.downcast::<dynamic_struct::Reader<'a>>()
@@ -358,12 +358,12 @@ pub(crate) fn element_at<'a>(
     index: u32,
     inner: u32,
 ) -> Result<dynamic_struct::Reader<'a>>
-    requires elements { IsListOf (one inner) list }
+    requires elements { IsListOf (request_struct inner) list }
     requires inside { index < list_length (list_of (list_reader_of list)) }
     ensures read { IfOk result (λ s. value.Struct (record_seen s) ≡ element_seen list.entry index) }
-    ensures record { IfOk result (IsRecord inner) }
+    ensures record { IfOk result (IsRequestRecord inner) }
     ensures refused { IfErr result (λ e. value.Fault e.kind ≡ element_seen list.entry index) }
-    ensures kinds { IfErr result (λ e. IsPlain e.kind) }
+    ensures kinds { IfErr result (λ e. IsUnstrict e.kind) }
 {
     let _inner = inner;
     match list.get(index) {

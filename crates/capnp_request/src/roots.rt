@@ -5,15 +5,15 @@ ghost use Rattle.capnp_request.specs.RequestSet.{request_set};
 ghost use Rattle.capnp_schema.specs.Schema.{field_at, is_member};
 ghost use Rattle.capnp_schema.specs.Types.{UIntType};
 ghost use Rattle.capnp_dynamic_readers.specs.Seen.{record_seen};
-ghost use Rattle.capnp_request.specs.Done.{IsDone, IsSaid, between};
-ghost use Rattle.capnp_request.specs.Handles.{IsField, IsListOf, IsRecord, values_left};
+ghost use Rattle.capnp_request.specs.Done.{IsWorkDone, IsSaid, between};
+ghost use Rattle.capnp_request.specs.Handles.{IsRequestField, IsListOf, IsRequestRecord, values_left};
 ghost use Rattle.capnp_request.specs.Met.{AreMet};
 ghost use Rattle.capnp_request.specs.Nodes.{AreNodes, nodes_of};
 ghost use Rattle.capnp_request.specs.Numbers.{AreNumbered};
 ghost use Rattle.capnp_request.specs.Order.{name_files, name_root, new_ids};
-ghost use Rattle.capnp_request.specs.Parts.{many, one, read_at};
+ghost use Rattle.capnp_request.specs.Parts.{request_structs, request_struct, request_read_at};
 ghost use Rattle.capnp_request.specs.Reading.{all_said, each_said, id_said, node_said, whole_list};
-ghost use Rattle.capnp_request.specs.Refusals.{IsPlain};
+ghost use Rattle.capnp_request.specs.Refusals.{IsUnstrict};
 ghost use Rattle.capnp_request.specs.Types.{is_root};
 
 use crate::context::Context;
@@ -35,14 +35,14 @@ fn listed_ids(
     index: u16,
     inner: u32,
 ) -> Result<Vec<u64>>
-    requires record { IsRecord brand reader }
-    requires field { IsField brand index (many inner) }
+    requires record { IsRequestRecord brand reader }
+    requires field { IsRequestField brand index (request_structs inner) }
     requires plain { is_member (field_at request_set brand index).field ≡ false }
-    requires id { IsField inner 0 (UIntType 8) }
+    requires id { IsRequestField inner 0 (UIntType 8) }
     requires id_plain { is_member (field_at request_set inner 0).field ≡ false }
     ensures said { IsSaid (λ ids. ids.items)
-        (whole_list inner (id_said inner) (read_at brand index (record_seen reader.entry))) result }
-    ensures kinds { IfErr result (λ e. IsPlain e.kind) }
+        (whole_list inner (id_said inner) (request_read_at brand index (record_seen reader.entry))) result }
+    ensures kinds { IfErr result (λ e. IsUnstrict e.kind) }
 {
     let listed = list_at(reader, brand, index, inner)?;
     let mut ids = Vec::new(alloc);
@@ -113,11 +113,11 @@ fn number_root<'a>(
 ) -> Result<()>
     requires nodes { AreNodes context.nodes.now }
     requires numbers { AreNumbered entries.now }
-    requires is_record { IsRecord 2 node }
-    ensures done { IsDone (λ _. []) (name_root (nodes_of context.entry.nodes.now) context.entry.strict id
+    requires is_record { IsRequestRecord 2 node }
+    ensures done { IsWorkDone (λ _. []) (name_root (nodes_of context.entry.nodes.now) context.entry.strict id
         (is_root (node_said (record_seen node.entry)).kind)) (between entries.old) (between entries.new) result }
     ensures numbers { IfOk result (λ _. AreNumbered entries.new) }
-    ensures kinds { IfErr result (λ e. IsPlain e.kind) }
+    ensures kinds { IfErr result (λ e. IsUnstrict e.kind) }
 {
     if !is_plain_struct(node) {
         return Ok(());
@@ -136,12 +136,12 @@ pub(crate) fn number_roots<'a>(
 ) -> Result<()>
     requires nodes { AreNodes context.nodes.now }
     requires numbers { AreNumbered entries.now }
-    requires is_record { IsRecord 0 request }
-    ensures done { IsDone (λ _. []) (name_files (nodes_of context.entry.nodes.now) context.entry.strict
-        (whole_list 1 (id_said 1) (read_at 0 1 (record_seen request.entry)))) (between entries.old)
+    requires is_record { IsRequestRecord 0 request }
+    ensures done { IsWorkDone (λ _. []) (name_files (nodes_of context.entry.nodes.now) context.entry.strict
+        (whole_list 1 (id_said 1) (request_read_at 0 1 (record_seen request.entry)))) (between entries.old)
         (between entries.new) result }
     ensures numbers { IfOk result (λ _. AreNumbered entries.new) }
-    ensures kinds { IfErr result (λ e. IsPlain e.kind) }
+    ensures kinds { IfErr result (λ e. IsUnstrict e.kind) }
 {
     let mut queue = Vec::new(context.alloc);
     let mut met = HashSet::new(context.alloc);

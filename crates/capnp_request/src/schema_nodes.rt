@@ -6,14 +6,14 @@ ghost use Rattle.capnp_records.specs.Part.{which_of};
 ghost use Rattle.capnp_dynamic_readers.specs.Seen.{list_seen, record_seen};
 ghost use Rattle.capnp_request.specs.Bindings.{with_nothing};
 ghost use Rattle.capnp_request.specs.Conversion.{declared_term};
-ghost use Rattle.capnp_request.specs.Handles.{IsListOf, IsRecord};
+ghost use Rattle.capnp_request.specs.Handles.{IsListOf, IsRequestRecord};
 ghost use Rattle.capnp_request.specs.Nodes.{AreNodes, first_kept, node_record, nodes_of};
-ghost use Rattle.capnp_request.specs.Parts.{one};
+ghost use Rattle.capnp_request.specs.Parts.{request_struct};
 ghost use Rattle.capnp_request.specs.Reading.{declaration_said, enumerant_said, list_said, node_said, nodes_in, struct_said};
-ghost use Rattle.capnp_request.specs.Refusals.{IsPlain};
+ghost use Rattle.capnp_request.specs.Refusals.{IsUnstrict};
 ghost use Rattle.capnp_request.specs.Scopes.{node_named, scopes_of, with_scope};
 ghost use Rattle.capnp_request.specs.Terms.{EnumNode, StructNode};
-ghost use Rattle.capnp_request.specs.Types.{is_annotation, is_enum, is_of_kind, is_root, is_struct};
+ghost use Rattle.capnp_request.specs.Types.{is_annotation, is_enum, is_of_kind, is_root, is_struct_kind};
 
 use crate::parts::{active_member, bool_at, element_at, group_at, list_at, text_at, u64_at};
 use crate::places::{
@@ -95,11 +95,11 @@ impl<'a> SchemaNodes<'a> {
         alloc: Global,
         request: dynamic_struct::Reader<'a>,
     ) -> Result<SchemaNodes<'a>>
-        requires { IsRecord 0 request }
+        requires { IsRequestRecord 0 request }
         ensures nodes { IfOk result AreNodes }
         ensures read { IfOk result (λ nodes. nodes_in (record_seen request.entry) ≡ Ok (nodes_of nodes)) }
         ensures refused { IfErr result (λ e. e.kind ≢ OutOfMemory → nodes_in (record_seen request.entry) ≡ Err e.kind) }
-        ensures kinds { IfErr result (λ e. IsPlain e.kind) }
+        ensures kinds { IfErr result (λ e. IsUnstrict e.kind) }
     {
         let listed = list_at(request, brands::REQUEST, REQUEST_NODES, brands::NODE)?;
         let mut by_id = HashMap::new(alloc);
@@ -129,7 +129,7 @@ impl<'a> SchemaNodes<'a> {
     /// The node of these sections.
     fn node_of(&self, sections: StructReader<'a>) -> dynamic_struct::Reader<'a>
         requires { AreNodes self.now }
-        ensures record { IsRecord 2 result }
+        ensures record { IsRequestRecord 2 result }
         ensures read { record_seen result ≡ node_record sections.entry }
     {
         dynamic_struct::Reader::new(sections, self.set.struct_schema(brands::NODE))
@@ -138,7 +138,7 @@ impl<'a> SchemaNodes<'a> {
     /// The node of an id; none where no node has it.
     pub(crate) fn get(&self, id: u64) -> Option<dynamic_struct::Reader<'a>>
         requires { AreNodes self.now }
-        ensures record { IfSome result (IsRecord 2) }
+        ensures record { IfSome result (IsRequestRecord 2) }
         ensures read { option_map (λ node. node_said (record_seen node)) result ≡ node_named (nodes_of self.now) id }
     {
         match self.by_id.get(&id) {
@@ -150,7 +150,7 @@ impl<'a> SchemaNodes<'a> {
     /// The node of an id. Refused with `NodeNotFound` where no node has it.
     pub(crate) fn found(&self, id: u64) -> Result<dynamic_struct::Reader<'a>>
         requires { AreNodes self.now }
-        ensures record { IfOk result (IsRecord 2) }
+        ensures record { IfOk result (IsRequestRecord 2) }
         ensures read { IfOk result (λ node. node_named (nodes_of self.now) id ≡ Some (node_said (record_seen node))) }
         ensures missing { IfErr result (λ _. node_named (nodes_of self.now) id ≡ None) }
         ensures kinds { IfErr result (λ e. e.kind ≡ NodeNotFound) }
@@ -164,8 +164,8 @@ impl<'a> SchemaNodes<'a> {
     /// That an id is a struct's. Refused with `NodeNotFound` where no node has the id, or one that is no struct.
     pub(crate) fn struct_node(&self, id: u64) -> Result<()>
         requires { AreNodes self.now }
-        ensures found { IfOk result (λ _. is_of_kind is_struct (node_named (nodes_of self.now) id) ≡ true) }
-        ensures missing { IfErr result (λ _. is_of_kind is_struct (node_named (nodes_of self.now) id) ≡ false) }
+        ensures found { IfOk result (λ _. is_of_kind is_struct_kind (node_named (nodes_of self.now) id) ≡ true) }
+        ensures missing { IfErr result (λ _. is_of_kind is_struct_kind (node_named (nodes_of self.now) id) ≡ false) }
         ensures kinds { IfErr result (λ e. e.kind ≡ NodeNotFound) }
     {
         let Some(node) = self.get(id) else {
@@ -197,7 +197,7 @@ impl<'a> SchemaNodes<'a> {
     /// no annotation.
     pub(crate) fn declaration(&self, id: u64) -> Result<dynamic_struct::Reader<'a>>
         requires { AreNodes self.now }
-        ensures record { IfOk result (IsRecord 5) }
+        ensures record { IfOk result (IsRequestRecord 5) }
         ensures read { IfOk result (λ d. declared_term (node_named (nodes_of self.now) id)
             ≡ Some (declaration_said (record_seen d))) }
         ensures missing { IfErr result (λ _. declared_term (node_named (nodes_of self.now) id) ≡ None) }
@@ -219,7 +219,7 @@ impl<'a> SchemaNodes<'a> {
         requires { AreNodes self.now }
         ensures read { IfOk result (λ scopes. scopes_of (nodes_of self.now) id ≡ Ok (map with_nothing scopes.items)) }
         ensures refused { IfErr result (λ e. e.kind ≢ OutOfMemory → scopes_of (nodes_of self.now) id ≡ Err e.kind) }
-        ensures kinds { IfErr result (λ e. IsPlain e.kind) }
+        ensures kinds { IfErr result (λ e. IsUnstrict e.kind) }
     {
         let mut scopes = Vec::new(alloc);
         let mut met: HashSet<u64> = HashSet::new(alloc);
@@ -242,8 +242,8 @@ impl<'a> SchemaNodes<'a> {
 
 /// Whether a node is a struct.
 fn is_struct_node(node: dynamic_struct::Reader<'_>) -> bool
-    requires { IsRecord 2 node }
-    ensures kind { is_struct (node_said (record_seen node.entry)).kind ≡ result }
+    requires { IsRequestRecord 2 node }
+    ensures kind { is_struct_kind (node_said (record_seen node.entry)).kind ≡ result }
     ensures active { IsTrue result → which_of (record_seen node.entry) ≡ Some 6 }
 {
     match active_member(node) {
@@ -254,7 +254,7 @@ fn is_struct_node(node: dynamic_struct::Reader<'_>) -> bool
 
 /// Whether a node is an enum.
 fn is_enum_node(node: dynamic_struct::Reader<'_>) -> bool
-    requires { IsRecord 2 node }
+    requires { IsRequestRecord 2 node }
     ensures kind { is_enum (node_said (record_seen node.entry)).kind ≡ result }
     ensures active { IsTrue result → which_of (record_seen node.entry) ≡ Some 7 }
 {
@@ -266,7 +266,7 @@ fn is_enum_node(node: dynamic_struct::Reader<'_>) -> bool
 
 /// Whether a node is an annotation.
 fn is_annotation_node(node: dynamic_struct::Reader<'_>) -> bool
-    requires { IsRecord 2 node }
+    requires { IsRequestRecord 2 node }
     ensures kind { is_annotation (node_said (record_seen node.entry)).kind ≡ result }
     ensures active { IsTrue result → which_of (record_seen node.entry) ≡ Some 10 }
 {
@@ -280,11 +280,11 @@ fn is_annotation_node(node: dynamic_struct::Reader<'_>) -> bool
 pub(crate) fn struct_part<'a>(
     node: dynamic_struct::Reader<'a>,
 ) -> Result<dynamic_struct::Reader<'a>>
-    requires { IsRecord 2 node }
-    ensures record { IfOk result (IsRecord 3) }
+    requires { IsRequestRecord 2 node }
+    ensures record { IfOk result (IsRequestRecord 3) }
     ensures read { IfOk result (λ s. (node_said (record_seen node.entry)).kind
         ≡ StructNode (struct_said (record_seen s))) }
-    ensures missing { IfErr result (λ _. is_struct (node_said (record_seen node.entry)).kind ≡ false) }
+    ensures missing { IfErr result (λ _. is_struct_kind (node_said (record_seen node.entry)).kind ≡ false) }
     ensures kinds { IfErr result (λ e. e.kind ≡ NodeNotFound) }
 {
     if !is_struct_node(node) {
@@ -296,15 +296,15 @@ pub(crate) fn struct_part<'a>(
 
 /// The enumerants of an enum's node. Refused with `NodeNotFound` where the node is no enum.
 pub(crate) fn enumerants<'a>(node: dynamic_struct::Reader<'a>) -> Result<dynamic_list::Reader<'a>>
-    requires { IsRecord 2 node }
-    ensures elements { IfOk result (IsListOf (one 11)) }
+    requires { IsRequestRecord 2 node }
+    ensures elements { IfOk result (IsListOf (request_struct 11)) }
     ensures read { IfOk result (λ l. (node_said (record_seen node.entry)).kind
         ≡ EnumNode (list_said 11 enumerant_said (list_seen l))) }
     ensures missing { IfErr result (λ e. is_enum (node_said (record_seen node.entry)).kind ≡ false
         → e.kind ≡ NodeNotFound) }
     ensures refused { IfErr result (λ e. is_enum (node_said (record_seen node.entry)).kind ≡ true
         → (node_said (record_seen node.entry)).kind ≡ EnumNode (Err e.kind)) }
-    ensures kinds { IfErr result (λ e. IsPlain e.kind) }
+    ensures kinds { IfErr result (λ e. IsUnstrict e.kind) }
 {
     if !is_enum_node(node) {
         return Err(not_found());
@@ -316,7 +316,7 @@ pub(crate) fn enumerants<'a>(node: dynamic_struct::Reader<'a>) -> Result<dynamic
 
 /// Whether a node is a struct that is no group.
 pub(crate) fn is_plain_struct(node: dynamic_struct::Reader<'_>) -> bool
-    requires { IsRecord 2 node }
+    requires { IsRequestRecord 2 node }
     ensures { is_root (node_said (record_seen node.entry)).kind ≡ result }
 {
     match struct_part(node) {
@@ -327,10 +327,10 @@ pub(crate) fn is_plain_struct(node: dynamic_struct::Reader<'_>) -> bool
 
 /// The display name of a node, as it stands.
 pub(crate) fn display_name<'a>(node: dynamic_struct::Reader<'a>) -> Result<&'a [u8]>
-    requires { IsRecord 2 node }
+    requires { IsRequestRecord 2 node }
     ensures read { IfOk result (λ x. (node_said (record_seen node.entry)).display_name ≡ Ok x.now) }
     ensures refused { IfErr result (λ e. (node_said (record_seen node.entry)).display_name ≡ Err e.kind) }
-    ensures kinds { IfErr result (λ e. IsPlain e.kind) }
+    ensures kinds { IfErr result (λ e. IsUnstrict e.kind) }
 {
     let name = text_at(node, brands::NODE, NODE_DISPLAY_NAME)?;
     Ok(name)

@@ -5,7 +5,7 @@ ghost use Rattle.capnp_schema.specs.Types.{AnyPointerType, seen_type};
 ghost use Rattle.capnp_request.specs.Bindings.{bounds, seen_bound, with_nothing};
 ghost use Rattle.capnp_request.specs.Conversion.{is_untyped};
 ghost use Rattle.capnp_request.specs.Nodes.{AreNodes, nodes_of};
-ghost use Rattle.capnp_request.specs.Refusals.{IsPlain};
+ghost use Rattle.capnp_request.specs.Refusals.{IsUnstrict};
 ghost use Rattle.capnp_request.specs.Scopes.{scope_among, scopes_of};
 ghost use Rattle.capnp_request.specs.Types.{bound_to};
 
@@ -37,7 +37,7 @@ pub(crate) fn unbound(alloc: Global, nodes: &SchemaNodes<'_>, id: u64) -> Result
     requires { AreNodes nodes.now }
     ensures read { IfOk result (λ scopes. scopes_of (nodes_of nodes.now) id ≡ Ok (bounds scopes.items)) }
     ensures refused { IfErr result (λ e. e.kind ≢ OutOfMemory → scopes_of (nodes_of nodes.now) id ≡ Err e.kind) }
-    ensures kinds { IfErr result (λ e. IsPlain e.kind) }
+    ensures kinds { IfErr result (λ e. IsUnstrict e.kind) }
 {
     let generic = nodes.generic_scopes(alloc, id)?;
     let mut scopes = Vec::new(alloc);

@@ -5,15 +5,15 @@ ghost use Rattle.capnp_schema.specs.Types.{seen_type};
 ghost use Rattle.capnp_dynamic_readers.specs.Seen.{record_seen};
 ghost use Rattle.capnp_request.specs.Bindings.{bounds, flags};
 ghost use Rattle.capnp_request.specs.Conversion.{notes_of};
-ghost use Rattle.capnp_request.specs.Done.{IsDone, between};
-ghost use Rattle.capnp_request.specs.Handles.{IsRecord};
+ghost use Rattle.capnp_request.specs.Done.{IsWorkDone, between};
+ghost use Rattle.capnp_request.specs.Handles.{IsRequestRecord};
 ghost use Rattle.capnp_request.specs.Nodes.{AreNodes, nodes_of};
 ghost use Rattle.capnp_request.specs.Numbers.{AreNumbered};
 ghost use Rattle.capnp_request.specs.Order.{all_fields, all_notes, struct_made};
 ghost use Rattle.capnp_request.specs.Reading.{node_said, struct_said};
 ghost use Rattle.capnp_request.specs.Refusals.{IsRefusal};
-ghost use Rattle.capnp_request.specs.Shapes.{HasParts, IsBrandOf, note, noted};
-ghost use Rattle.capnp_request.specs.StructsSeen.{child_types, field_records, field_types, seen_fields, seen_notes, seen_struct};
+ghost use Rattle.capnp_request.specs.Shapes.{HasParts, IsBrandOf, note, noted_where};
+ghost use Rattle.capnp_request.specs.StructsSeen.{converted_child_types, field_records, field_types, seen_fields, seen_notes, seen_struct};
 
 use crate::annotations::annotations_of;
 use crate::context::Context;
@@ -60,7 +60,7 @@ fn note_at(entry: u32, field: u32, stand_in: StandIn) -> Note
 
 /// Adds a note, where what it is of was seen.
 fn add_note(notes: &mut Vec<Note>, is_seen: bool, note: Note) -> Result<()>
-    ensures added { IfOk result (λ _. notes.new.items ≡ notes.old.items ++ noted is_seen note) }
+    ensures added { IfOk result (λ _. notes.new.items ≡ notes.old.items ++ noted_where is_seen note) }
     ensures kinds { IfErr result (λ e. e.kind ≡ OutOfMemory) }
 {
     if is_seen {
@@ -100,8 +100,8 @@ fn fields_of<'a>(
 ) -> Result<MadeFields>
     requires nodes { AreNodes context.nodes.now }
     requires numbers { AreNumbered entries.now }
-    requires is_record { IsRecord 3 part }
-    ensures done { IsDone (λ r. seen_fields number 0 r.fields.items)
+    requires is_record { IsRequestRecord 3 part }
+    ensures done { IsWorkDone (λ r. seen_fields number 0 r.fields.items)
         (all_fields (nodes_of context.entry.nodes.now) context.entry.strict (bounds inside.now) number
         (struct_said (record_seen part.entry)).fields)
         (between entries.old) (between entries.new) result }
@@ -130,7 +130,7 @@ fn parts_of(alloc: Global, fields: Vec<ConvertedField>) -> Result<FieldParts>
     ensures records { IfOk result (λ parts. parts.records.items ≡ field_records fields.items) }
     ensures types { IfOk result (λ parts. parts.types.items ≡ field_types fields.items) }
     ensures children { IfOk result (λ parts. map (λ types. types.items) parts.annotation_types.items
-        ≡ child_types fields.items) }
+        ≡ converted_child_types fields.items) }
     ensures kinds { IfErr result (λ e. e.kind ≡ OutOfMemory) }
 {
     let mut parts = FieldParts {
@@ -154,7 +154,7 @@ fn parts_of(alloc: Global, fields: Vec<ConvertedField>) -> Result<FieldParts>
 
 /// What a struct has beside its name and annotations, with these fields.
 fn body_of(part: dynamic_struct::Reader<'_>, fields: Vec<FieldRecord>) -> StructRecord
-    requires { IsRecord 3 part }
+    requires { IsRequestRecord 3 part }
     ensures parts { HasParts (struct_said (record_seen part.entry)) result }
     ensures fields { result.fields ≡ fields }
 {
@@ -194,8 +194,8 @@ pub(crate) fn struct_of<'a>(
 ) -> Result<MadeStruct>
     requires nodes { AreNodes context.nodes.now }
     requires numbers { AreNumbered entries.now }
-    requires is_record { IsRecord 2 place.node }
-    ensures done { IsDone seen_struct (struct_made
+    requires is_record { IsRequestRecord 2 place.node }
+    ensures done { IsWorkDone seen_struct (struct_made
         (nodes_of context.entry.nodes.now) context.entry.strict place.entry.number place.entry.id (bounds inside.now)
         (string_bytes display_name) (node_said (record_seen place.entry.node)))
         (between entries.old) (between entries.new) result }

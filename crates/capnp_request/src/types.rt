@@ -10,18 +10,18 @@ ghost use Rattle.capnp_records.specs.Record.{Record};
 ghost use Rattle.capnp_dynamic_readers.specs.Seen.{record_seen};
 ghost use Rattle.capnp_request.specs.Bindings.{bounds, flags, with_nothing};
 ghost use Rattle.capnp_request.specs.Conversion.{is_untyped};
-ghost use Rattle.capnp_request.specs.Done.{IsDone, IsSaid, so_far};
-ghost use Rattle.capnp_request.specs.Handles.{IsField, IsListOf, IsRecord, values_left};
+ghost use Rattle.capnp_request.specs.Done.{IsWorkDone, IsSaid, so_far};
+ghost use Rattle.capnp_request.specs.Handles.{IsRequestField, IsListOf, IsRequestRecord, values_left};
 ghost use Rattle.capnp_request.specs.Meant.{IsPlainOr, float_type, scope_in};
 ghost use Rattle.capnp_request.specs.Nodes.{AreNodes, nodes_of};
-ghost use Rattle.capnp_request.specs.Numbers.{AreNumbered, numbered};
-ghost use Rattle.capnp_request.specs.Parts.{one, read_at};
+ghost use Rattle.capnp_request.specs.Numbers.{AreNumbered, numbered_entries};
+ghost use Rattle.capnp_request.specs.Parts.{request_struct, request_read_at};
 ghost use Rattle.capnp_request.specs.Reading.{binding_said, bindings_said, brand_in, enum_term, list_term, scope_said, scopes_said, struct_term, type_levels, type_said, untyped_term};
-ghost use Rattle.capnp_request.specs.Refusals.{IsPlain, IsRefusal};
+ghost use Rattle.capnp_request.specs.Refusals.{IsUnstrict, IsRefusal};
 ghost use Rattle.capnp_request.specs.Scopes.{bound_types};
 ghost use Rattle.capnp_request.specs.Terms.{SchemaNode, TypeTerm, UnreadBrand};
 ghost use Rattle.capnp_request.specs.Types.{bind_scope, binding_types, brand_types, interface, lists_in, named_scopes, scope_types, type_of, without_untyped};
-ghost use Rattle.capnp_request.specs.Work.{Bound, Named, Numbered, each, named};
+ghost use Rattle.capnp_request.specs.Work.{Bound, Named, Numbered, each, named_with};
 ghost use Rattle.capnp_request.specs.Work.{Seen as WorkSeen};
 
 use crate::context::Context;
@@ -89,8 +89,8 @@ fn plain_variant(member: u16) -> Option<TypeVariant>
 
 /// A `Float32` or `Float64` as an integer of its width, with a note. Refused with `FloatType` where that is asked for.
 fn float_type(strict: bool, is_double: bool, seen: &mut Seen) -> Result<Type>
-    ensures done { (n : Numbered) → IsDone seen_type (float_type is_double strict) (named n (flags seen.old))
-        (named n (flags seen.new)) result }
+    ensures done { (n : Numbered) → IsWorkDone seen_type (float_type is_double strict) (named_with n (flags seen.old))
+        (named_with n (flags seen.new)) result }
     ensures kinds { IfErr result (λ e. IsRefusal strict e.kind) }
 {
     if strict {
@@ -106,8 +106,8 @@ fn float_type(strict: bool, is_double: bool, seen: &mut Seen) -> Result<Type>
 
 /// An interface as an untyped pointer, with a note. Refused with `InterfaceType` where that is asked for.
 fn interface_type(strict: bool, seen: &mut Seen) -> Result<Type>
-    ensures done { (n : Numbered) → IsDone seen_type (interface strict) (named n (flags seen.old))
-        (named n (flags seen.new)) result }
+    ensures done { (n : Numbered) → IsWorkDone seen_type (interface strict) (named_with n (flags seen.old))
+        (named_with n (flags seen.new)) result }
     ensures kinds { IfErr result (λ e. IsRefusal strict e.kind) }
 {
     if strict {
@@ -119,12 +119,12 @@ fn interface_type(strict: bool, seen: &mut Seen) -> Result<Type>
 
 /// An untyped pointer, or what is bound to the parameter that it is.
 fn untyped_or_bound(inside: &[BoundScope], term: dynamic_struct::Reader<'_>) -> Result<Type>
-    requires record { IsRecord 13 term }
+    requires record { IsRequestRecord 13 term }
     requires active { which_of (record_seen term) ≡ Some 18 }
     ensures done { (nodes : List SchemaNode) → (strict : Bool) → (s : Named)
-        → IsDone seen_type (type_of nodes strict (bounds inside.now)
-        (untyped_term (read_at 13 18 (record_seen term.entry)))) s s result }
-    ensures kinds { IfErr result (λ e. IsPlain e.kind) }
+        → IsWorkDone seen_type (type_of nodes strict (bounds inside.now)
+        (untyped_term (request_read_at 13 18 (record_seen term.entry)))) s s result }
+    ensures kinds { IfErr result (λ e. IsUnstrict e.kind) }
 {
     let pointer = group_at(term, brands::TYPE, TYPE_UNTYPED, brands::TYPE_UNTYPED);
     let Some(member) = active_member(pointer) else {
@@ -170,14 +170,14 @@ fn enum_type_of<'a>(
 ) -> Result<Type>
     requires nodes { AreNodes context.nodes.now }
     requires numbers { AreNumbered entries.now }
-    requires is_record { IsRecord 13 term }
+    requires is_record { IsRequestRecord 13 term }
     requires active { which_of (record_seen term) ≡ Some 15 }
     ensures done { (inside : List Bound) → (levels : ℕ) → (seen : WorkSeen)
-        → IsDone seen_type (type_of (nodes_of context.entry.nodes.now) context.entry.strict inside
-        (enum_term (type_said levels) (read_at 13 15 (record_seen term.entry))))
-        (named (numbered entries.old) seen) (named (numbered entries.new) seen) result }
+        → IsWorkDone seen_type (type_of (nodes_of context.entry.nodes.now) context.entry.strict inside
+        (enum_term (type_said levels) (request_read_at 13 15 (record_seen term.entry))))
+        (named_with (numbered_entries entries.old) seen) (named_with (numbered_entries entries.new) seen) result }
     ensures numbers { IfOk result (λ _. AreNumbered entries.new) }
-    ensures kinds { IfErr result (λ e. IsPlain e.kind) }
+    ensures kinds { IfErr result (λ e. IsUnstrict e.kind) }
 {
     let named = group_at(term, brands::TYPE, TYPE_ENUM, brands::TYPE_ENUM);
     let id = u64_at(named, brands::TYPE_ENUM, NAMED_ID);
@@ -197,10 +197,10 @@ fn list_type_of<'a>(
 ) -> Result<Type>
     requires nodes { AreNodes context.nodes.now }
     requires numbers { AreNumbered entries.now }
-    requires is_record { IsRecord 13 term }
+    requires is_record { IsRequestRecord 13 term }
     requires active { which_of (record_seen term) ≡ Some 14 }
-    ensures done { IsDone seen_type (type_of (nodes_of context.entry.nodes.now) context.entry.strict
-        (bounds inside.now) (list_term (type_said depth) (read_at 13 14 (record_seen term.entry))))
+    ensures done { IsWorkDone seen_type (type_of (nodes_of context.entry.nodes.now) context.entry.strict
+        (bounds inside.now) (list_term (type_said depth) (request_read_at 13 14 (record_seen term.entry))))
         (so_far entries.old seen.old) (so_far entries.new seen.new) result }
     ensures numbers { IfOk result (λ _. AreNumbered entries.new) }
     ensures kinds { IfErr result (λ e. IsRefusal context.entry.strict e.kind) }
@@ -223,10 +223,10 @@ fn struct_type_of<'a>(
 ) -> Result<Type>
     requires nodes { AreNodes context.nodes.now }
     requires numbers { AreNumbered entries.now }
-    requires is_record { IsRecord 13 term }
+    requires is_record { IsRequestRecord 13 term }
     requires active { which_of (record_seen term) ≡ Some 16 }
-    ensures done { IsDone seen_type (type_of (nodes_of context.entry.nodes.now) context.entry.strict
-        (bounds inside.now) (struct_term (type_said depth) (read_at 13 16 (record_seen term.entry))))
+    ensures done { IsWorkDone seen_type (type_of (nodes_of context.entry.nodes.now) context.entry.strict
+        (bounds inside.now) (struct_term (type_said depth) (request_read_at 13 16 (record_seen term.entry))))
         (so_far entries.old seen.old) (so_far entries.new seen.new) result }
     ensures numbers { IfOk result (λ _. AreNumbered entries.new) }
     ensures kinds { IfErr result (λ e. IsRefusal context.entry.strict e.kind) }
@@ -259,8 +259,8 @@ pub(crate) fn type_of<'a>(
 ) -> Result<Type>
     requires nodes { AreNodes context.nodes.now }
     requires numbers { AreNumbered entries.now }
-    requires is_record { IsRecord 13 term }
-    ensures done { IsDone seen_type (type_of (nodes_of context.entry.nodes.now) context.entry.strict
+    requires is_record { IsRequestRecord 13 term }
+    ensures done { IsWorkDone seen_type (type_of (nodes_of context.entry.nodes.now) context.entry.strict
         (bounds inside.now) (type_said depth (record_seen term.entry)))
         (so_far entries.old seen.old) (so_far entries.new seen.new) result }
     ensures numbers { IfOk result (λ _. AreNumbered entries.new) }
@@ -289,17 +289,17 @@ pub(crate) fn type_of<'a>(
 
 /// The scopes of the brand at a place.
 fn brand_list<'a>(place: BrandPlace<'a>) -> Result<dynamic_list::Reader<'a>>
-    requires record { IsRecord place.holder place.reader }
-    requires field { IsField place.holder place.index (one 19) }
+    requires record { IsRequestRecord place.holder place.reader }
+    requires field { IsRequestField place.holder place.index (request_struct 19) }
     requires plain { is_member (field_at request_set place.holder place.index).field ≡ false }
-    ensures elements { IfOk result (IsListOf (one 20)) }
+    ensures elements { IfOk result (IsListOf (request_struct 20)) }
     ensures read { (inner : Record → TypeTerm)
-        → IfOk result (λ l. brand_in inner (read_at place.entry.holder place.entry.index
+        → IfOk result (λ l. brand_in inner (request_read_at place.entry.holder place.entry.index
         (record_seen place.entry.reader)) ≡ scopes_said inner (values_left l 0)) }
     ensures refused { (inner : Record → TypeTerm)
-        → IfErr result (λ e. brand_in inner (read_at place.entry.holder place.entry.index
+        → IfErr result (λ e. brand_in inner (request_read_at place.entry.holder place.entry.index
         (record_seen place.entry.reader)) ≡ UnreadBrand e.kind) }
-    ensures kinds { IfErr result (λ e. IsPlain e.kind) }
+    ensures kinds { IfErr result (λ e. IsUnstrict e.kind) }
 {
     let brand = struct_at(place.reader, place.holder, place.index, brands::BRAND)?;
     let listed = list_at(brand, brands::BRAND, BRAND_SCOPES, brands::SCOPE)?;
@@ -319,12 +319,12 @@ pub(crate) fn bindings_of<'a>(
 ) -> Result<Vec<BoundScope>>
     requires nodes { AreNodes context.nodes.now }
     requires numbers { AreNumbered entries.now }
-    requires record { IsRecord place.holder place.reader }
-    requires field { IsField place.holder place.index (one 19) }
+    requires record { IsRequestRecord place.holder place.reader }
+    requires field { IsRequestField place.holder place.index (request_struct 19) }
     requires plain { is_member (field_at request_set place.holder place.index).field ≡ false }
-    ensures done { IsDone (λ scopes. bounds scopes.items)
+    ensures done { IsWorkDone (λ scopes. bounds scopes.items)
         (named_scopes (nodes_of context.entry.nodes.now) context.entry.strict (bounds inside.now) id
-        (brand_in (type_said depth) (read_at place.entry.holder place.entry.index (record_seen place.entry.reader))))
+        (brand_in (type_said depth) (request_read_at place.entry.holder place.entry.index (record_seen place.entry.reader))))
         (so_far entries.old seen.old) (so_far entries.new seen.new) result }
     ensures numbers { IfOk result (λ _. AreNumbered entries.new) }
     ensures kinds { IfErr result (λ e. IsRefusal context.entry.strict e.kind) }
@@ -359,8 +359,8 @@ fn bound_scopes<'a>(
 ) -> Result<Vec<BoundScope>>
     requires nodes { AreNodes context.nodes.now }
     requires numbers { AreNumbered entries.now }
-    requires is_list { IsListOf (one 20) said }
-    ensures done { IsDone (λ scopes. bounds scopes.items)
+    requires is_list { IsListOf (request_struct 20) said }
+    ensures done { IsWorkDone (λ scopes. bounds scopes.items)
         (each (bind_scope (brand_types (nodes_of context.entry.nodes.now) context.entry.strict (bounds inside.now)
         (scopes_said (type_said depth) (values_left said.entry 0)))) (map with_nothing generic.now))
         (so_far entries.old seen.old) (so_far entries.new seen.new) result }
@@ -380,12 +380,12 @@ fn brand_scope<'a>(
     said: dynamic_list::Reader<'a>,
     id: u64,
 ) -> Result<Option<dynamic_struct::Reader<'a>>>
-    requires { IsListOf (one 20) said }
-    ensures record { IfOk result (λ found. IfSome found (IsRecord 20)) }
+    requires { IsListOf (request_struct 20) said }
+    ensures record { IfOk result (λ found. IfSome found (IsRequestRecord 20)) }
     ensures said { (inner : Record → TypeTerm)
         → IsSaid (option_map (λ scope. scope_said inner (record_seen scope)))
         (scope_in (scopes_said inner (values_left said.entry 0)) id) result }
-    ensures kinds { IfErr result (λ e. IsPlain e.kind) }
+    ensures kinds { IfErr result (λ e. IsUnstrict e.kind) }
 {
     for index in 0..said.len() {
         let scope = element_at(said, index, brands::SCOPE)?;
@@ -422,8 +422,8 @@ fn scope_types<'a>(
 ) -> Result<Vec<Type>>
     requires nodes { AreNodes context.nodes.now }
     requires numbers { AreNumbered entries.now }
-    requires is_list { IsListOf (one 20) said }
-    ensures done { IsDone (λ types. map seen_type types.items)
+    requires is_list { IsListOf (request_struct 20) said }
+    ensures done { IsWorkDone (λ types. map seen_type types.items)
         (brand_types (nodes_of context.entry.nodes.now) context.entry.strict (bounds inside.now)
         (scopes_said (type_said depth) (values_left said.entry 0)) (with_nothing scope))
         (so_far entries.old seen.old) (so_far entries.new seen.new) result }
@@ -450,8 +450,8 @@ fn said_types<'a>(
 ) -> Result<Vec<Type>>
     requires nodes { AreNodes context.nodes.now }
     requires numbers { AreNumbered entries.now }
-    requires is_record { IsRecord 20 own }
-    ensures done { IsDone (λ types. map seen_type types.items)
+    requires is_record { IsRequestRecord 20 own }
+    ensures done { IsWorkDone (λ types. map seen_type types.items)
         (scope_types (nodes_of context.entry.nodes.now) context.entry.strict (bounds inside.now)
         (scope_said (type_said depth) (record_seen own.entry)) (with_nothing scope))
         (so_far entries.old seen.old) (so_far entries.new seen.new) result }
@@ -487,8 +487,8 @@ fn bound_types<'a>(
 ) -> Result<Vec<Type>>
     requires nodes { AreNodes context.nodes.now }
     requires numbers { AreNumbered entries.now }
-    requires is_list { IsListOf (one 21) bindings }
-    ensures done { IsDone (λ types. map seen_type types.items)
+    requires is_list { IsListOf (request_struct 21) bindings }
+    ensures done { IsWorkDone (λ types. map seen_type types.items)
         (binding_types (nodes_of context.entry.nodes.now) context.entry.strict (bounds inside.now)
         (bindings_said (type_said depth) (values_left bindings.entry 0)) parameters)
         (so_far entries.old seen.old) (so_far entries.new seen.new) result }
@@ -516,8 +516,8 @@ fn binding_type<'a>(
 ) -> Result<Type>
     requires nodes { AreNodes context.nodes.now }
     requires numbers { AreNumbered entries.now }
-    requires is_record { IsRecord 21 binding }
-    ensures done { IsDone seen_type (type_of (nodes_of context.entry.nodes.now) context.entry.strict
+    requires is_record { IsRequestRecord 21 binding }
+    ensures done { IsWorkDone seen_type (type_of (nodes_of context.entry.nodes.now) context.entry.strict
         (bounds inside.now) (binding_said (type_said depth) (record_seen binding.entry)))
         (so_far entries.old seen.old) (so_far entries.new seen.new) result }
     ensures numbers { IfOk result (λ _. AreNumbered entries.new) }

@@ -9,12 +9,12 @@ ghost use Rattle.capnp_base.specs.AnyPointer.{pointer_of};
 ghost use Rattle.capnp_schema.specs.Schema.{seen_value};
 ghost use Rattle.capnp_records.specs.Part.{which_of};
 ghost use Rattle.capnp_dynamic_readers.specs.Seen.{record_seen};
-ghost use Rattle.capnp_request.specs.Handles.{IsRecord};
+ghost use Rattle.capnp_request.specs.Handles.{IsRequestRecord};
 ghost use Rattle.capnp_request.specs.ValueMembers.{IsDataMember};
 ghost use Rattle.capnp_request.specs.Conversion.{is_untyped_default};
 ghost use Rattle.capnp_request.specs.Reading.{value_said};
-ghost use Rattle.capnp_request.specs.Refusals.{IsPlain};
-ghost use Rattle.capnp_request.specs.Values.{value_of, words_or_fault};
+ghost use Rattle.capnp_request.specs.Refusals.{IsUnstrict};
+ghost use Rattle.capnp_request.specs.Values.{value_stated, words_or_fault};
 
 use crate::parts::{
     active_member, bool_at, data_at, i8_at, i16_at, i32_at, i64_at, text_at, u8_at, u16_at, u32_at,
@@ -40,7 +40,7 @@ fn copy_of(alloc: Global, pointer: any_pointer::Reader<'_>) -> Result<Builder>
     ensures sound { IfOk result (λ _. first_fault (tree_of (pointer_of pointer.entry)) ≡ None) }
     ensures refused { IfErr result (λ e. e.kind ≢ OutOfMemory
         → option_map refusal (first_fault (tree_of (pointer_of pointer.entry))) ≡ Some e.kind) }
-    ensures kinds { IfErr result (λ e. IsPlain e.kind) }
+    ensures kinds { IfErr result (λ e. IsUnstrict e.kind) }
 {
     let mut message = Builder::new(alloc)?;
     message.copy_from(0, pointer.get_pointer())?;
@@ -65,7 +65,7 @@ fn words_of(alloc: Global, pointer: any_pointer::Reader<'_>) -> Result<Vec<u8>>
     ensures refused { IfErr result (λ e. e.kind ≢ OutOfMemory
         → words_or_fault (first_fault (tree_of (pointer_of pointer.entry))) (tree_of (pointer_of pointer.entry))
         ≡ Err e.kind) }
-    ensures kinds { IfErr result (λ e. IsPlain e.kind) }
+    ensures kinds { IfErr result (λ e. IsUnstrict e.kind) }
 {
     let message = copy_of(alloc, pointer)?;
     let bytes = message.write_message()?;
@@ -85,13 +85,13 @@ fn copied(alloc: Global, bytes: &[u8]) -> Result<Vec<u8>>
 /// The value of a member that stands in the data section. Floats are their bits. Refused with `UnknownKind` for a
 /// member that is none.
 fn data_value(reader: dynamic_struct::Reader<'_>, member: u16) -> Result<ValueRecord>
-    requires is_record { IsRecord 22 reader }
+    requires is_record { IsRequestRecord 22 reader }
     requires active { which_of (record_seen reader) ≡ Some member }
     requires data { IsDataMember member }
-    ensures read { IfOk result (λ v. value_of (value_said (record_seen reader.entry)) ≡ Ok (seen_value v)) }
+    ensures read { IfOk result (λ v. value_stated (value_said (record_seen reader.entry)) ≡ Ok (seen_value v)) }
     ensures refused { IfErr result (λ e. e.kind ≢ OutOfMemory
-        → value_of (value_said (record_seen reader.entry)) ≡ Err e.kind) }
-    ensures kinds { IfErr result (λ e. IsPlain e.kind) }
+        → value_stated (value_said (record_seen reader.entry)) ≡ Err e.kind) }
+    ensures kinds { IfErr result (λ e. IsUnstrict e.kind) }
 {
     match member {
         0 => Ok(ValueRecord::Void),
@@ -117,12 +117,12 @@ fn member_value(
     reader: dynamic_struct::Reader<'_>,
     member: u16,
 ) -> Result<ValueRecord>
-    requires is_record { IsRecord 22 reader }
+    requires is_record { IsRequestRecord 22 reader }
     requires active { which_of (record_seen reader) ≡ Some member }
-    ensures read { IfOk result (λ v. value_of (value_said (record_seen reader.entry)) ≡ Ok (seen_value v)) }
+    ensures read { IfOk result (λ v. value_stated (value_said (record_seen reader.entry)) ≡ Ok (seen_value v)) }
     ensures refused { IfErr result (λ e. e.kind ≢ OutOfMemory
-        → value_of (value_said (record_seen reader.entry)) ≡ Err e.kind) }
-    ensures kinds { IfErr result (λ e. IsPlain e.kind) }
+        → value_stated (value_said (record_seen reader.entry)) ≡ Err e.kind) }
+    ensures kinds { IfErr result (λ e. IsUnstrict e.kind) }
 {
     match member {
         12 => {
@@ -163,11 +163,11 @@ fn member_value(
 /// A struct or list is its words. An interface and an untyped value are a null untyped pointer, whatever stands there.
 /// Refused with `UnknownKind` for another kind, as the parts that are read, and with `OutOfMemory`.
 pub(crate) fn value_of(alloc: Global, reader: dynamic_struct::Reader<'_>) -> Result<ValueRecord>
-    requires { IsRecord 22 reader }
-    ensures read { IfOk result (λ v. value_of (value_said (record_seen reader.entry)) ≡ Ok (seen_value v)) }
+    requires { IsRequestRecord 22 reader }
+    ensures read { IfOk result (λ v. value_stated (value_said (record_seen reader.entry)) ≡ Ok (seen_value v)) }
     ensures refused { IfErr result (λ e. e.kind ≢ OutOfMemory
-        → value_of (value_said (record_seen reader.entry)) ≡ Err e.kind) }
-    ensures kinds { IfErr result (λ e. IsPlain e.kind) }
+        → value_stated (value_said (record_seen reader.entry)) ≡ Err e.kind) }
+    ensures kinds { IfErr result (λ e. IsUnstrict e.kind) }
 {
     let Some(member) = active_member(reader) else {
         return Err(Error::from(ErrorKind::UnknownKind));
@@ -177,7 +177,7 @@ pub(crate) fn value_of(alloc: Global, reader: dynamic_struct::Reader<'_>) -> Res
 
 /// Whether a value is an untyped pointer that isn't null.
 pub(crate) fn is_untyped_value(reader: dynamic_struct::Reader<'_>) -> bool
-    requires { IsRecord 22 reader }
+    requires { IsRequestRecord 22 reader }
     ensures { is_untyped_default (value_said (record_seen reader.entry)) ≡ result }
 {
     match active_member(reader) {

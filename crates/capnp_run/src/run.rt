@@ -3,10 +3,10 @@ ghost use Rattle.std.specs.Prelude.{◌≡◌, IfErr, IfOk, OnErr};
 ghost use Rattle.capnp_device.specs.declared.error.ErrorKind.TheVariants.{OutOfMemory};
 ghost use Rattle.capnp_arena.specs.Segment.{segment};
 ghost use Rattle.capnp_schema.specs.StructHandles.{IsStruct, number_of, set_of};
-ghost use Rattle.capnp_arena.specs.Built.{ChangesIn, IsBuilt, built};
+ghost use Rattle.capnp_arena.specs.Built.{ChangesIn, IsBuilt, built_at};
 ghost use Rattle.capnp_slots.specs.Groups.{KeepsSize};
 ghost use Rattle.capnp_dynamic.specs.Built.{IsReady, built_schema, built_struct, place_of, struct_behind};
-ghost use Rattle.capnp_call.specs.Runs.{Makes, RestsWhole, RunsTo};
+ghost use Rattle.capnp_call.specs.Runs.{MakesCalls, RestsWhole, RunsTo};
 
 use capnp_call::calls::{Call, Reply};
 pub use capnp_call::runs::run_on;
@@ -30,13 +30,13 @@ pub fn run(
     requires ready { IsReady root }
     ensures runs { IfOk result (λ replies. RunsTo (built_schema root.entry)
         (built_struct root.entry) calls.now replies.items
-        (built root.exit.0.now (place_of root.entry))) }
-    ensures made { IfOk result (λ replies. Makes (set_of (built_schema root.entry))
+        (built_at root.exit.0.now (place_of root.entry))) }
+    ensures made { IfOk result (λ replies. MakesCalls (set_of (built_schema root.entry))
         (number_of (built_schema root.entry)) (built_struct root.entry) calls.now
-        replies.items (built root.exit.0.now (place_of root.entry))) }
+        replies.items (built_at root.exit.0.now (place_of root.entry))) }
     ensures rests { IfOk result (λ replies. RestsWhole (built_schema root.entry)
         (built_struct root.entry) calls.now replies.items) }
-    ensures kept { KeepsSize (built_struct root.entry) (built root.exit.0.now (place_of root.entry)) }
+    ensures kept { KeepsSize (built_struct root.entry) (built_at root.exit.0.now (place_of root.entry)) }
     ensures planted { IsBuilt root.exit.0.now (place_of root.entry) }
     ensures changes { ChangesIn (place_of root.entry) (struct_behind root.entry).now root.exit.0.now }
     ensures refused { OnErr result (segment root.exit.0.now ≡ segment (struct_behind root.entry).now) }

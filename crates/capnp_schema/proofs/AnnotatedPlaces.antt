@@ -7,7 +7,7 @@ use Rattle.std.proofs.lemmas.Option.{slice_get_within, slice_get_past, slice_get
 use Rattle.capnp_base.specs.declared.introspect.«Type».{«Type» as TypeHandle}
 use Rattle.capnp_schema.specs.declared.record.EnumerantRecord.{EnumerantRecord}
 use Rattle.capnp_schema.specs.Types.{SchemaType, seen_type}
-use Rattle.capnp_schema.specs.Schema.{Schemas, Node, Brand, Enum, Enumerant, Field, Annotation, TypedField, no_node, no_brand, no_enum, no_field, typed, node_of, node_at, brand_at, enum_at, field_at, fields_of, seen_enumerant}
+use Rattle.capnp_schema.specs.Schema.{Schemas, Node, Brand, Enum, Enumerant, Field, Annotation, TypedField, no_node, no_brand, no_enum, no_field, typed_fields, node_of, node_at, brand_at, enum_at, field_at, fields_of, seen_enumerant}
 use Rattle.capnp_schema.specs.Accepted.{IsAccepted, EnumHasTypes, HasFewAnnotations, HasFewEnumerants, HasFewFields}
 use Rattle.capnp_schema.specs.Annotated.{with_types, annotations_of, child_types, no_enumerant, enumerant_at, struct_annotations, field_annotations, enum_annotations, enumerant_annotations}
 use Rattle.capnp_schema.proofs.AnnotatedLemmas.{annotations_are}
@@ -42,7 +42,7 @@ no_types_for [] = refl
 no_types_for (x ∷ xs) = refl
 
 -- the field of a typed field
-field_of : (fs : List Field) (ts : List SchemaType) (i : ℕ) (f : TypedField) → Some f ≡ slice_get (typed fs ts) i → Some f.field ≡ slice_get fs i
+field_of : (fs : List Field) (ts : List SchemaType) (i : ℕ) (f : TypedField) → Some f ≡ slice_get (typed_fields fs ts) i → Some f.field ≡ slice_get fs i
 field_of [] ts i f e = cc
 field_of (g ∷ fs) [] i f e = cc
 field_of (g ∷ fs) (t ∷ ts) zero f e = ap (option_map (λ (x : TypedField). x.field)) e
@@ -79,7 +79,7 @@ module _ (set : Schemas) (accepted : IsAccepted set) where
   in_brands b i f at = ⊎_elim (λ h. h) (λ past. absurd (gone (slice_get_past set.brands b past))) (cases_lt b (length set.brands))
     where
       gone : slice_get set.brands b ≡ None → ⊥
-      gone e = let none : fields_of set b ≡ [] = ap (λ o. typed (node_of set b).fields (unwrap_or o (no_brand set)).field_types) e ∙ typed_nothing (node_of set b).fields in
+      gone e = let none : fields_of set b ≡ [] = ap (λ o. typed_fields (node_of set b).fields (unwrap_or o (no_brand set)).field_types) e ∙ typed_nothing (node_of set b).fields in
           let there : Some f ≡ None = at ∙ ap (λ fs. slice_get fs i) none in cc
 
   node_there : (b : ℕ) → b < length set.brands → Some (node_of set b) ≡ slice_get set.nodes (brand_at set b).node

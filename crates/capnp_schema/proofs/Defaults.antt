@@ -8,9 +8,9 @@ use Rattle.capnp_wire.specs.declared.pointer_reader.PointerReader.{PointerReader
 use Rattle.capnp_schema.specs.Types.{SchemaType, VoidType, BoolType, IntType, UIntType, EnumType, TextType, DataType, StructType, ListType, AnyPointerType}
 use Rattle.capnp_schema.specs.Schema.{Schemas, Node, FieldKind, Slot, Group, Value, VoidValue, BoolValue, IntValue, UIntValue, EnumValue, TextValue, DataValue, StructValue, ListValue, AnyPointerValue, fields_of, field_at, default_of, kind_default}
 use Rattle.capnp_schema.specs.Accepted.{IsAccepted, DefaultStands, KindDefault, IsDefaultOf, Decodes, ListReads}
-use Rattle.capnp_schema.specs.Defaults.{DefaultFits, IsReadAs, default_tree}
+use Rattle.capnp_schema.specs.Defaults.{DefaultFits, IsDefaultReadAs, value_default_tree}
 use Rattle.capnp_schema.specs.Entries.{lists_seen}
-use Rattle.capnp_schema.specs.FieldLists.{index_of, schema_of, typed_of}
+use Rattle.capnp_schema.specs.FieldLists.{index_of, field_schema, typed_of}
 use Rattle.capnp_schema.specs.StructHandles.{number_of, set_of}
 use Rattle.capnp_schema.specs.Views.{IsViewOf}
 use Rattle.capnp_schema.specs.declared.lists.Lists.{Lists}
@@ -20,7 +20,7 @@ use Rattle.capnp_schema.proofs.LookUps.{accepted_seen}
 use Rattle.capnp_schema.proofs.NamedTypes.{brand_of_field}
 use Rattle.capnp_schema.specs.Facts.Fields.{of_field, of_node}
 
-null_reads : (t : SchemaType) → IsReadAs t tree.Null
+null_reads : (t : SchemaType) → IsDefaultReadAs t tree.Null
 null_reads VoidType = refl
 null_reads BoolType = refl
 null_reads (IntType bytes) = refl
@@ -33,10 +33,10 @@ null_reads (ListType element) = (tt, refl)
 null_reads AnyPointerType = refl
 
 abbrev Fits : Value → SchemaType → Type 0
-Fits v t = (first_fault (default_tree v) ≡ None) × IsReadAs t (default_tree v)
+Fits v t = (first_fault (value_default_tree v) ≡ None) × IsDefaultReadAs t (value_default_tree v)
 
-no_tree : (v : Value) (t : SchemaType) → default_tree v ≡ tree.Null → Fits v t
-no_tree v t e = (ap first_fault e, subst (IsReadAs t) (sym e) (null_reads t))
+no_tree : (v : Value) (t : SchemaType) → value_default_tree v ≡ tree.Null → Fits v t
+no_tree v t e = (ap first_fault e, subst (IsDefaultReadAs t) (sym e) (null_reads t))
 
 value_fits : (v : Value) (t : SchemaType) → IsDefaultOf v t → Decodes v → ListReads v t → Fits v t
 value_fits VoidValue t of d r = no_tree VoidValue t refl
@@ -73,15 +73,15 @@ default_fits set accepted b i b_in i_in = record {
 
 -- ---- the pointer of a view ----
 
-pub struct_view : (v : Value) (r : PointerReader) → IsViewOf v (view.Struct r) → (tree_of r ≡ default_tree v) × (levels_of r ≡ 64)
+pub struct_view : (v : Value) (r : PointerReader) → IsViewOf v (view.Struct r) → (tree_of r ≡ value_default_tree v) × (levels_of r ≡ 64)
 struct_view (StructValue words) r h = (h.tree, h.levels)
 struct_view v r h = absurd h
 
-pub list_view : (v : Value) (r : PointerReader) → IsViewOf v (view.List r) → (tree_of r ≡ default_tree v) × (levels_of r ≡ 64)
+pub list_view : (v : Value) (r : PointerReader) → IsViewOf v (view.List r) → (tree_of r ≡ value_default_tree v) × (levels_of r ≡ 64)
 list_view (ListValue words) r h = (h.tree, h.levels)
 list_view v r h = absurd h
 
-pub untyped_view : (v : Value) (r : PointerReader) → IsViewOf v (view.AnyPointer r) → (tree_of r ≡ default_tree v) × (levels_of r ≡ 64)
+pub untyped_view : (v : Value) (r : PointerReader) → IsViewOf v (view.AnyPointer r) → (tree_of r ≡ value_default_tree v) × (levels_of r ≡ 64)
 untyped_view (AnyPointerValue words) r h = (h.tree, h.levels)
 untyped_view v r h = absurd h
 
@@ -89,5 +89,5 @@ untyped_view v r h = absurd h
 
 pub handle_fits : (f : FieldHandle) (lists : Lists) → lists ≡ f.schema.set.now → IsAccepted (lists_seen lists) → DefaultFits (typed_of f)
 handle_fits f lists same accepted =
-    let set = set_of (schema_of f) in
-    default_fits set (accepted_seen same accepted) (number_of (schema_of f)) (index_of f) (brand_of_field set (number_of (schema_of f)) (index_of f) f.inside) f.inside
+    let set = set_of (field_schema f) in
+    default_fits set (accepted_seen same accepted) (number_of (field_schema f)) (index_of f) (brand_of_field set (number_of (field_schema f)) (index_of f) f.inside) f.inside

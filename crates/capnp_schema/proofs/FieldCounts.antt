@@ -1,11 +1,11 @@
 -- How many fields there are, where no node has more than 65,535.
 use Rattle.std.proofs.Common.{ℕ, ◌<◌, ◌≤◌, List, [], ◌∷◌, arith, length}
 use Rattle.capnp_schema.specs.Types.{SchemaType}
-use Rattle.capnp_schema.specs.Schema.{Schemas, Node, Field, typed, node_at, brand_at, node_of, fields_of}
+use Rattle.capnp_schema.specs.Schema.{Schemas, Node, Field, typed_fields, node_at, brand_at, node_of, fields_of}
 use Rattle.capnp_schema.specs.Accepted.{HasSmallCounts, Rule3}
 use Rattle.capnp_schema.proofs.EntryWalk.{at_node}
 
-pub few_typed : (fs : List Field) (ts : List SchemaType) → length (typed fs ts) ≤ length fs
+pub few_typed : (fs : List Field) (ts : List SchemaType) → length (typed_fields fs ts) ≤ length fs
 few_typed [] ts = omega arith
 few_typed (f ∷ fs) [] = omega arith
 few_typed (f ∷ fs) (t ∷ ts) = omega (arith, few_typed fs ts)

@@ -8,8 +8,8 @@ use Rattle.capnp_schema.specs.Accepted.{IsAccepted, IsGroupOf, IsParent}
 use Rattle.capnp_schema.specs.Checking.Parents.{IsParentTable, TargetsAreGroups, group_target}
 use Rattle.capnp_schema.specs.Facts.GroupFields.{group_field_found, group_field_is, group_of, no_group_field, place_found, place_missing, target_parent}
 use Rattle.capnp_schema.specs.Facts.Groups.{group_of_field}
-use Rattle.capnp_schema.specs.GroupFields.{AreGroupFields, group_field_of, numbered, place_naming}
-use Rattle.capnp_schema.specs.FieldLists.{IsFieldOf, index_of, schema_of, typed_of}
+use Rattle.capnp_schema.specs.GroupFields.{AreGroupFields, group_field_of, numbered_pair, place_naming}
+use Rattle.capnp_schema.specs.FieldLists.{IsFieldOf, index_of, field_schema, typed_of}
 use Rattle.capnp_schema.specs.GroupsDown.{IsGroupFieldOf, place_of_field}
 use Rattle.capnp_schema.specs.Schema.{Node, Schemas, fields_of, field_at, kind_target, node_of}
 use Rattle.capnp_schema.specs.StructHandles.{IsStruct, number_of, set_of, struct_field}
@@ -49,14 +49,14 @@ parent_found set targets table is g = go (option_flatten (slice_get table g)) (p
     go (Some (b, i)) None e f = let t : group_target set b i ≡ Some g = is.holds g b i (entry_here (slice_get table g) (b, i) e) in absurd (place_missing set g (length set.brands) b i f (within_brands set b i g t) t)
     go o (Some (b, i)) e f = sym e ∙ ap (λ (x : Option (Option (ℕ × ℕ))). option_flatten x) (all b i (place_found set g (length set.brands) b i f).1)
 
-flat_map : (table : List (Option (ℕ × ℕ))) (g : ℕ) → option_flatten (slice_get (map numbered table) g) ≡ numbered (option_flatten (slice_get table g))
+flat_map : (table : List (Option (ℕ × ℕ))) (g : ℕ) → option_flatten (slice_get (map numbered_pair table) g) ≡ numbered_pair (option_flatten (slice_get table g))
 flat_map [] g = refl
 flat_map (x ∷ xs) zero = refl
 flat_map (x ∷ xs) (suc g) = flat_map xs g
 
-pub group_fields_are : (set : Schemas) → TargetsAreGroups set → (table fields : List (Option (ℕ × ℕ))) → IsParentTable set table → fields ≡ map numbered table → AreGroupFields set fields
+pub group_fields_are : (set : Schemas) → TargetsAreGroups set → (table fields : List (Option (ℕ × ℕ))) → IsParentTable set table → fields ≡ map numbered_pair table → AreGroupFields set fields
 unfolding group_field_of
-group_fields_are set targets table fields is e g = ap (λ (xs : List (Option (ℕ × ℕ))). option_flatten (slice_get xs g)) e ∙ (flat_map table g ∙ ap numbered (parent_found set targets table is g))
+group_fields_are set targets table fields is e g = ap (λ (xs : List (Option (ℕ × ℕ))). option_flatten (slice_get xs g)) e ∙ (flat_map table g ∙ ap numbered_pair (parent_found set targets table is g))
 
 -- an index in the table of parents fits 16 bits
 pub parent_small : (set : Schemas) → IsAccepted set → (table : List (Option (ℕ × ℕ))) → IsParentTable set table → (g : ℕ) (o : Option (ℕ × ℕ)) → slice_get table g ≡ Some o → IfSome o (λ p. p.1 < 2 ^ 16)
@@ -83,15 +83,15 @@ nothing_after : (xs : List (Option (ℕ × ℕ))) → xs ++ [] ≡ xs
 nothing_after [] = refl
 nothing_after (x ∷ xs) = ap (λ (ys : List (Option (ℕ × ℕ))). x ∷ ys) (nothing_after xs)
 
-pub numbered_next : (table fields whole : List (Option (ℕ × ℕ))) (i : ℕ) (o : Option (ℕ × ℕ)) → i < length table → o ≡ get_or table i o → fields ++ map numbered (drop i table) ≡ whole → (fields ++ numbered o ∷ []) ++ map numbered (drop (i + 1) table) ≡ whole
+pub numbered_next : (table fields whole : List (Option (ℕ × ℕ))) (i : ℕ) (o : Option (ℕ × ℕ)) → i < length table → o ≡ get_or table i o → fields ++ map numbered_pair (drop i table) ≡ whole → (fields ++ numbered_pair o ∷ []) ++ map numbered_pair (drop (i + 1) table) ≡ whole
 numbered_next table fields whole i o lt e so =
-    append_assoc fields (numbered o ∷ []) (map numbered (drop (i + 1) table))
-    ∙ (ap (λ (k : ℕ). fields ++ numbered o ∷ map numbered (drop k table)) (add-one i)
-    ∙ (ap (λ (xs : List (Option (ℕ × ℕ))). fields ++ map numbered xs) (sym (drop_at table i o (slice_get_read table (length table) i o refl lt e)))
+    append_assoc fields (numbered_pair o ∷ []) (map numbered_pair (drop (i + 1) table))
+    ∙ (ap (λ (k : ℕ). fields ++ numbered_pair o ∷ map numbered_pair (drop k table)) (add-one i)
+    ∙ (ap (λ (xs : List (Option (ℕ × ℕ))). fields ++ map numbered_pair xs) (sym (drop_at table i o (slice_get_read table (length table) i o refl lt e)))
     ∙ so))
 
-pub numbered_all : (table fields : List (Option (ℕ × ℕ))) (i : ℕ) → length table ≤ i → fields ++ map numbered (drop i table) ≡ map numbered table → fields ≡ map numbered table
-numbered_all table fields i end so = sym (nothing_after fields) ∙ (ap (λ (xs : List (Option (ℕ × ℕ))). fields ++ map numbered xs) (sym (drop_past table i end)) ∙ so)
+pub numbered_all : (table fields : List (Option (ℕ × ℕ))) (i : ℕ) → length table ≤ i → fields ++ map numbered_pair (drop i table) ≡ map numbered_pair table → fields ≡ map numbered_pair table
+numbered_all table fields i end so = sym (nothing_after fields) ∙ (ap (λ (xs : List (Option (ℕ × ℕ))). fields ++ map numbered_pair xs) (sym (drop_past table i end)) ∙ so)
 
 -- ---- handles ----
 
@@ -124,7 +124,7 @@ is_group_field g s f b i accepted found set number stands is = record {
     here = subst (λ (z : Schemas). at_brand z (number_of s)) (sym set) (subst (at_brand (set_of g)) (sym number) parent.names)
 
 -- and a group's field is found by the group
-pub goes_back : (f : Field) → IsAccepted (set_of (schema_of f)) → (n m : ℕ) → Some n ≡ kind_target (typed_of f).field.kind (typed_of f).type → m ≡ n → number_of (schema_of f) < 2 ^ 32 → group_field_of (set_of (schema_of f)) m ≡ Some (place_of_field f)
-goes_back f accepted n m names same small = ap (group_field_of (set_of (schema_of f))) same
-    ∙ group_field_is (set_of (schema_of f)) accepted n (number_of (schema_of f)) (index_of f)
-    (record { brand = brand_of_field (set_of (schema_of f)) (number_of (schema_of f)) (index_of f) f.inside; field = f.inside; names = group_of (typed_of f).field.kind (typed_of f).type n (sym names) }) small
+pub goes_back : (f : Field) → IsAccepted (set_of (field_schema f)) → (n m : ℕ) → Some n ≡ kind_target (typed_of f).field.kind (typed_of f).type → m ≡ n → number_of (field_schema f) < 2 ^ 32 → group_field_of (set_of (field_schema f)) m ≡ Some (place_of_field f)
+goes_back f accepted n m names same small = ap (group_field_of (set_of (field_schema f))) same
+    ∙ group_field_is (set_of (field_schema f)) accepted n (number_of (field_schema f)) (index_of f)
+    (record { brand = brand_of_field (set_of (field_schema f)) (number_of (field_schema f)) (index_of f) f.inside; field = f.inside; names = group_of (typed_of f).field.kind (typed_of f).type n (sym names) }) small

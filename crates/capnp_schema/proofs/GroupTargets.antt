@@ -4,7 +4,7 @@ use Rattle.std.proofs.lemmas.Option.{slice_get_past, same_Some, slice_get-get_or
 use Rattle.std.proofs.lemmas.Bool.{cases_lt}
 use Rattle.std.specs.Option.{unwrap_or}
 use Rattle.capnp_schema.specs.Types.{SchemaType, VoidType, BoolType, IntType, UIntType, EnumType, TextType, DataType, StructType, ListType, AnyPointerType, struct_brand}
-use Rattle.capnp_schema.specs.Schema.{Schemas, Node, Brand, FieldKind, Slot, Group, TypedField, node_of, node_at, no_node, no_brand, no_field, fields_of, field_at, typed, kind_target}
+use Rattle.capnp_schema.specs.Schema.{Schemas, Node, Brand, FieldKind, Slot, Group, TypedField, node_of, node_at, no_node, no_brand, no_field, fields_of, field_at, typed_fields, kind_target}
 use Rattle.capnp_schema.specs.Entries.{brand_entry, brand_node, node_of_entry}
 use Rattle.capnp_schema.specs.Accepted.{Rule1, Rule7, NamesEntries, GroupFits, IsGroupBrand, IsParent, IsGroupOf}
 use Rattle.capnp_schema.specs.Checking.Parents.{group_target, entry_target, TargetsAreGroups}
@@ -31,7 +31,7 @@ node_past set b past = node_missing set b (sym (ap (node_of_entry set) (slice_ge
 -- past the brands there are no fields
 pub no_fields : (set : Schemas) (b : ℕ) → length set.brands ≤ b → fields_of set b ≡ []
 no_fields set b past = let none : slice_get set.brands b ≡ None = slice_get_past set.brands b past in
-    ap (λ (o : Option Brand). typed (node_of set b).fields (unwrap_or o (no_brand set)).field_types) none ∙ typed_nothing (node_of set b).fields
+    ap (λ (o : Option Brand). typed_fields (node_of set b).fields (unwrap_or o (no_brand set)).field_types) none ∙ typed_nothing (node_of set b).fields
 
 pub past_fields : (set : Schemas) (b i : ℕ) → length (fields_of set b) ≤ i → group_target set b i ≡ None
 past_fields set b i h = ap entry_target (slice_get_past (fields_of set b) i h)

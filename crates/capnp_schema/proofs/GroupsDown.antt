@@ -4,9 +4,9 @@ use Rattle.capnp_schema.specs.Types.{SchemaType, StructType, is_pointer, width}
 use Rattle.capnp_schema.specs.Schema.{Schemas, FieldKind, Slot, Group, Value, fields_of, field_at, kind_target}
 use Rattle.capnp_schema.specs.Accepted.{GroupFits, HasOneParent, HaveSameSizes, IsAccepted, IsGroupOf, IsParent}
 use Rattle.capnp_schema.specs.Laws.{LeadsDown}
-use Rattle.capnp_schema.specs.Plan.{place_of, plan_of, slot_place}
-use Rattle.capnp_schema.specs.FieldLists.{index_of, schema_of, typed_of}
-use Rattle.capnp_schema.specs.GroupsDown.{LeadsToGroup, IfGroup, IsGroupIn}
+use Rattle.capnp_schema.specs.Plan.{plan_place, plan_of, slot_place}
+use Rattle.capnp_schema.specs.FieldLists.{index_of, field_schema, typed_of}
+use Rattle.capnp_schema.specs.GroupsDown.{LeadsToGroup, IfGroup, IsGroupSchemaIn}
 use Rattle.capnp_schema.specs.StructHandles.{IsStruct, number_of, set_of}
 use Rattle.capnp_schema.specs.declared.schema.fields.Field.{Field as FieldHandle}
 use Rattle.capnp_schema.specs.declared.schema.structs.StructSchema.{StructSchema}
@@ -41,7 +41,7 @@ no_group true bits offset default P = tt
 no_group false zero offset default P = tt
 no_group false (suc bits) offset default P = tt
 
-group_place : (set : Schemas) (k : FieldKind) (t : SchemaType) → GroupFits set k t → (P : ℕ → Type 0) → ((g : ℕ) → IsGroupOf k t g → P g) → IfGroup (place_of k t) P
+group_place : (set : Schemas) (k : FieldKind) (t : SchemaType) → GroupFits set k t → (P : ℕ → Type 0) → ((g : ℕ) → IsGroupOf k t g → P g) → IfGroup (plan_place k t) P
 group_place set (Slot offset default) t fits P h = no_group (is_pointer t) (width t) offset default P
 group_place set (Group node) (StructType number generic) fits P h = h number refl
 group_place set (Group node) t fits P h = absurd fits
@@ -63,28 +63,28 @@ no_group_place true bits offset default g e = cc
 no_group_place false zero offset default g e = cc
 no_group_place false (suc bits) offset default g e = cc
 
-group_target : (set : Schemas) (k : FieldKind) (t : SchemaType) (g : ℕ) → GroupFits set k t → place_of k t ≡ place.Group g → Some g ≡ kind_target k t
+group_target : (set : Schemas) (k : FieldKind) (t : SchemaType) (g : ℕ) → GroupFits set k t → plan_place k t ≡ place.Group g → Some g ≡ kind_target k t
 group_target set (Slot offset default) t g fits e = absurd (no_group_place (is_pointer t) (width t) offset default g e)
 group_target set (Group node) (StructType number generic) g fits e = cc
 group_target set (Group node) t g fits e = absurd fits
 
 -- ---- the same of a field's handle ----
 
-module _ (f : FieldHandle) (p : SlotPlan) (is : p ≡ plan_of (set_of (schema_of f)) (number_of (schema_of f)) (typed_of f)) where
-  placed : (q : Place) → p.place ≡ q → place_of (typed_of f).field.kind (typed_of f).type ≡ q
+module _ (f : FieldHandle) (p : SlotPlan) (is : p ≡ plan_of (set_of (field_schema f)) (number_of (field_schema f)) (typed_of f)) where
+  placed : (q : Place) → p.place ≡ q → plan_place (typed_of f).field.kind (typed_of f).type ≡ q
   placed q h = sym (ap (λ (x : SlotPlan). x.place) is) ∙ h
 
-  module _ (accepted : IsAccepted (set_of (schema_of f))) (n : ℕ) (at : p.place ≡ place.Group n) where
+  module _ (accepted : IsAccepted (set_of (field_schema f))) (n : ℕ) (at : p.place ≡ place.Group n) where
     pub handle_target : Some n ≡ kind_target (typed_of f).field.kind (typed_of f).type
     handle_target =
-        let b_in = brand_of_field (set_of (schema_of f)) (number_of (schema_of f)) (index_of f) f.inside in
-        group_target (set_of (schema_of f)) (typed_of f).field.kind (typed_of f).type n (accepted.rule7 (number_of (schema_of f)) (index_of f) b_in f.inside) (placed (place.Group n) at)
+        let b_in = brand_of_field (set_of (field_schema f)) (number_of (field_schema f)) (index_of f) f.inside in
+        group_target (set_of (field_schema f)) (typed_of f).field.kind (typed_of f).type n (accepted.rule7 (number_of (field_schema f)) (index_of f) b_in f.inside) (placed (place.Group n) at)
 
-    pub group_in : IfGroup p.place (LeadsToGroup (set_of (schema_of f)) (number_of (schema_of f))) → (g : StructSchema) → set_of g ≡ set_of (schema_of f) → number_of g ≡ n → (n < length (set_of (schema_of f)).brands → IsStruct g) → IsGroupIn (schema_of f) g
+    pub group_in : IfGroup p.place (LeadsToGroup (set_of (field_schema f)) (number_of (field_schema f))) → (g : StructSchema) → set_of g ≡ set_of (field_schema f) → number_of g ≡ n → (n < length (set_of (field_schema f)).brands → IsStruct g) → IsGroupSchemaIn (field_schema f) g
     group_in leads g set number stands =
-        let down : LeadsToGroup (set_of (schema_of f)) (number_of (schema_of f)) n = subst (λ (q : Place). IfGroup q (LeadsToGroup (set_of (schema_of f)) (number_of (schema_of f)))) at leads in
+        let down : LeadsToGroup (set_of (field_schema f)) (number_of (field_schema f)) n = subst (λ (q : Place). IfGroup q (LeadsToGroup (set_of (field_schema f)) (number_of (field_schema f)))) at leads in
         record {
           stands = stands down.down.brand;
           set = set;
-          leads = subst (LeadsToGroup (set_of (schema_of f)) (number_of (schema_of f))) (sym number) down;
+          leads = subst (LeadsToGroup (set_of (field_schema f)) (number_of (field_schema f))) (sym number) down;
         }

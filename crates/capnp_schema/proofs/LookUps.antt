@@ -6,7 +6,7 @@ use Rattle.std.proofs.lemmas.List.{append_assoc, length-map}
 use Rattle.std.proofs.lemmas.Bool.{cases_lt}
 use Rattle.std.proofs.lemmas.Option.{slice_get_within, unwrap_or-slice_get}
 use Rattle.capnp_schema.specs.Types.{SchemaType}
-use Rattle.capnp_schema.specs.Schema.{Schemas, Brand, Field, Node, TypedField, no_brand, no_field, node_at, node_of, brand_at, fields_of, field_at, typed}
+use Rattle.capnp_schema.specs.Schema.{Schemas, Brand, Field, Node, TypedField, no_brand, no_field, node_at, node_of, brand_at, fields_of, field_at, typed_fields}
 use Rattle.capnp_schema.specs.Entries.{brand_node, lists_seen}
 use Rattle.capnp_schema.specs.Accepted.{IsAccepted}
 use Rattle.capnp_schema.specs.Plan.{IsPlan, LiesInNode, plan_of}
@@ -34,7 +34,7 @@ ranges_seen same ranges = subst (λ (l : Lists). HasRanges (lists_seen l)) same 
 
 -- ---- the fields of a brand ----
 
-records_typed : (fs : List Field) (ts : List SchemaType) → length ts ≡ length fs → map (λ (f : TypedField). f.field) (typed fs ts) ≡ fs
+records_typed : (fs : List Field) (ts : List SchemaType) → length ts ≡ length fs → map (λ (f : TypedField). f.field) (typed_fields fs ts) ≡ fs
 records_typed [] ts e = refl
 records_typed (f ∷ fs) [] e = absurd (omega arith)
 records_typed (f ∷ fs) (t ∷ ts) e = ap (λ (gs : List Field). f ∷ gs) (records_typed fs ts (omega arith))
@@ -53,7 +53,7 @@ records_here set accepted b x is =
 
 -- and one past the last has none
 pub no_records : (set : Schemas) (b : ℕ) → None ≡ slice_get set.brands b → records_of set b ≡ []
-no_records set b is = ap (λ (o : Option Brand). map (λ (f : TypedField). f.field) (typed (node_at set (unwrap_or o (no_brand set)).node).fields (unwrap_or o (no_brand set)).field_types)) (sym is) ∙ ap (λ (fs : List TypedField). map (λ (f : TypedField). f.field) fs) (typed_nothing (node_at set (length set.nodes)).fields)
+no_records set b is = ap (λ (o : Option Brand). map (λ (f : TypedField). f.field) (typed_fields (node_at set (unwrap_or o (no_brand set)).node).fields (unwrap_or o (no_brand set)).field_types)) (sym is) ∙ ap (λ (fs : List TypedField). map (λ (f : TypedField). f.field) fs) (typed_nothing (node_at set (length set.nodes)).fields)
 
 -- ---- plans ----
 

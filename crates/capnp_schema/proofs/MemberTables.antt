@@ -11,11 +11,11 @@ use Rattle.std.proofs.lemmas.List.Sums.{position_or_len_is}
 use Rattle.capnp_schema.specs.declared.record.FieldRecord.{FieldRecord}
 use Rattle.capnp_schema.specs.declared.record.NodeRecord.{NodeRecord}
 use Rattle.capnp_schema.specs.Schema.{Schemas, Node, Field, is_member, no_node, node_at, seen_field, seen_node}
-use Rattle.capnp_schema.specs.Query.{is_member_of, is_plain, member_of}
+use Rattle.capnp_schema.specs.Query.{is_member_of, is_non_union, member_of}
 use Rattle.capnp_schema.specs.Accepted.{AreApartBelow, HasEachMember, IsAccepted}
 use Rattle.capnp_schema.proofs.EntryWalk.{at_node}
 use Rattle.capnp_schema.proofs.Members.{member_by_value}
-use Rattle.capnp_schema.specs.Tables.{ArePlaced, IsMemberTable, placed}
+use Rattle.capnp_schema.specs.Tables.{ArePlaced, IsMemberTable, placed_member}
 
 not_plain : (b : Bool) → not b ≡ false → b ≡ true
 not_plain true e = refl
@@ -28,16 +28,16 @@ plain_only false e h = cc
 pub none_placed : (fields : List Field) (count : ℕ) (table : List ℕ) → length table ≡ count → ArePlaced fields 0 count table
 none_placed fields count table counted = record { counted = counted; each = λ k f h. absurd (omega arith) }
 
-pub value_below : (fields : List Field) (count i : ℕ) (f : Field) → AreApartBelow fields count → slice_get fields i ≡ Some f → is_plain f ≡ false → f.discriminant_value < count
+pub value_below : (fields : List Field) (count i : ℕ) (f : Field) → AreApartBelow fields count → slice_get fields i ≡ Some f → is_non_union f ≡ false → f.discriminant_value < count
 value_below fields count i f apart here e = apart.below i f here (not_plain (is_member f) e)
 
-pub one_placed : (fields : List Field) (i count : ℕ) (table more : List ℕ) (f : Field) → AreApartBelow fields count → slice_get fields i ≡ Some f → more ≡ placed (is_plain f) table f.discriminant_value i → ArePlaced fields i count table → ArePlaced fields (i + 1) count more
-one_placed fields i count table more f apart here after before = by_kind (is_plain f) refl after
+pub one_placed : (fields : List Field) (i count : ℕ) (table more : List ℕ) (f : Field) → AreApartBelow fields count → slice_get fields i ≡ Some f → more ≡ placed_member (is_non_union f) table f.discriminant_value i → ArePlaced fields i count table → ArePlaced fields (i + 1) count more
+one_placed fields i count table more f apart here after before = by_kind (is_non_union f) refl after
   where
     is_here : (k : ℕ) (x : Field) → k < i + 1 → i ≤ k → slice_get fields k ≡ Some x → (f ≡ x) × (k ≡ i)
     is_here k x h le at = let e : k ≡ i = omega arith in (same_Some f x (sym here ∙ ap (slice_get fields) (sym e) ∙ at), e)
 
-    by_kind : (plain : Bool) → is_plain f ≡ plain → more ≡ placed plain table f.discriminant_value i → ArePlaced fields (i + 1) count more
+    by_kind : (plain : Bool) → is_non_union f ≡ plain → more ≡ placed_member plain table f.discriminant_value i → ArePlaced fields (i + 1) count more
     by_kind true e same = rw same (record {
       counted = before.counted;
       each = λ k x h at member. ⊎_elim

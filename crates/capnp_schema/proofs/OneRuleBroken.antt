@@ -8,7 +8,7 @@ use Rattle.capnp_schema.specs.Schema.{Schemas, Node, Field, VoidValue, UIntValue
 use Rattle.capnp_schema.specs.Accepted.{Rule1, Rule7}
 use Rattle.capnp_schema.specs.Broken.{IsBroken}
 use Rattle.capnp_schema.specs.BrokenLaw.{RuleHolds}
-use Rattle.capnp_schema.specs.Builtin.{plain, member, group_member, struct_node, union_node, plain_brand, zero_word}
+use Rattle.capnp_schema.specs.Builtin.{builtin_field, member, group_member, builtin_struct_node, union_node, builtin_brand, zero_word}
 use Rattle.capnp_schema.proofs.BrokenSets.{broken_rule_fails}
 use Rattle.capnp_schema.specs.Facts.ComputedRules.{meets_rule1, meets_rule2, meets_rule3, meets_rule4, meets_rule5, meets_rule7, meets_rule9, meets_rule10, rule1, rule2, rule3, rule4, rule5, rule7, rule9, rule10}
 use Rattle.capnp_schema.specs.Facts.ComputedValues.{meets_rule6, rule6}
@@ -82,8 +82,8 @@ group_field name node = group_member 65535 name node
 
 abbrev missing_brand : Schemas
 missing_brand = record {
-  nodes = group_node [] ∷ struct_node 2 (codes "S") 1 1 (plain (codes "p") 0 (StructValue zero_word) ∷ []) ∷ [];
-  brands = plain_brand 1 (StructType 9 9 ∷ []) ∷ [];
+  nodes = group_node [] ∷ builtin_struct_node 2 (codes "S") 1 1 (builtin_field (codes "p") 0 (StructValue zero_word) ∷ []) ∷ [];
+  brands = builtin_brand 1 (StructType 9 9 ∷ []) ∷ [];
   enums = [];
 }
 
@@ -101,8 +101,8 @@ missing_brand_breaks_rule1 = only missing_brand is_one (λ rule e. all_others mi
 
 abbrev void_group : Schemas
 void_group = record {
-  nodes = struct_node 2 (codes "S") 1 1 (group_field (codes "g") 0 ∷ plain (codes "n") 0 (UIntValue 2 0) ∷ []) ∷ [];
-  brands = plain_brand 0 (VoidType ∷ UIntType 2 ∷ []) ∷ [];
+  nodes = builtin_struct_node 2 (codes "S") 1 1 (group_field (codes "g") 0 ∷ builtin_field (codes "n") 0 (UIntValue 2 0) ∷ []) ∷ [];
+  brands = builtin_brand 0 (VoidType ∷ UIntType 2 ∷ []) ∷ [];
   enums = [];
 }
 
@@ -121,7 +121,7 @@ void_group_breaks_rule7 = only void_group is_seven (λ rule e. all_others void_g
 abbrev missing_group : Schemas
 missing_group = record {
   nodes = union_node 2 (codes "S") 1 1 1 0 (group_field (codes "g") 0 ∷ member 0 (codes "x") 0 VoidValue ∷ []) ∷ [];
-  brands = plain_brand 0 (StructType 9 0 ∷ VoidType ∷ []) ∷ [];
+  brands = builtin_brand 0 (StructType 9 0 ∷ VoidType ∷ []) ∷ [];
   enums = [];
 }
 
@@ -136,8 +136,8 @@ missing_group_breaks_rules1_and_7 = only missing_group is_either (λ rule e. all
 
 abbrev second_group : Schemas
 second_group = record {
-  nodes = group_node (plain (codes "n") 0 (UIntValue 2 0) ∷ []) ∷ struct_node 2 (codes "S") 1 1 (group_field (codes "g") 0 ∷ group_field (codes "h") 0 ∷ []) ∷ [];
-  brands = plain_brand 0 (UIntType 2 ∷ []) ∷ plain_brand 1 (StructType 0 0 ∷ VoidType ∷ []) ∷ [];
+  nodes = group_node (builtin_field (codes "n") 0 (UIntValue 2 0) ∷ []) ∷ builtin_struct_node 2 (codes "S") 1 1 (group_field (codes "g") 0 ∷ group_field (codes "h") 0 ∷ []) ∷ [];
+  brands = builtin_brand 0 (UIntType 2 ∷ []) ∷ builtin_brand 1 (StructType 0 0 ∷ VoidType ∷ []) ∷ [];
   enums = [];
 }
 

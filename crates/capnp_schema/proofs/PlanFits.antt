@@ -11,7 +11,7 @@ use Rattle.capnp_schema.specs.Schema.{Node, Field, FieldKind, Slot, Group, Typed
 use Rattle.capnp_schema.specs.SlotValue.{default_bits}
 use Rattle.capnp_schema.specs.Accepted.{LiesInside}
 use Rattle.capnp_schema.specs.Ranges.{HasWidths}
-use Rattle.capnp_schema.specs.Plan.{IsSlotPlace, LiesInNode, PlaceFits, PlanFits, data_place, is_slot_width, member_plan, node_size, place_of, plan_in, slot_place}
+use Rattle.capnp_schema.specs.Plan.{IsSlotPlace, LiesInNode, PlaceFits, PlanFits, data_place, is_slot_width, member_plan, node_size, plan_place, plan_in, slot_place}
 
 -- ---- widths ----
 
@@ -55,7 +55,7 @@ any_slot : (p : Bool) (bits offset : ℕ) (default : Value) → IsWidth bits →
 any_slot true bits offset default w m = tt
 any_slot false bits offset default w m = data_slot bits offset default w m
 
-pub is_slot_place : (k : FieldKind) (t : SchemaType) → HasWidths t → default_bits (kind_default k) < 2 ^ width t → IsSlotPlace (place_of k t)
+pub is_slot_place : (k : FieldKind) (t : SchemaType) → HasWidths t → default_bits (kind_default k) < 2 ^ width t → IsSlotPlace (plan_place k t)
 is_slot_place (Slot offset default) t h m = any_slot (is_pointer t) (width t) offset default (type_width t h) m
 is_slot_place (Group node) t h m = tt
 
@@ -74,7 +74,7 @@ module _ (n : Node) (s : StructTree) (size : HasAtLeast (node_size n) s) where
   slot_fits true bits offset default inside below = omega (arith, below refl, size.1)
   slot_fits false bits offset default inside below = data_fits bits offset default inside
 
-  place_fits : (k : FieldKind) (t : SchemaType) → LiesInside n k t → PlaceFits (place_of k t) s
+  place_fits : (k : FieldKind) (t : SchemaType) → LiesInside n k t → PlaceFits (plan_place k t) s
   place_fits (Slot offset default) t lies = slot_fits (is_pointer t) (width t) offset default lies.0 lies.1
   place_fits (Group node) t lies = tt
 

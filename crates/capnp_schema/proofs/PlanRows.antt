@@ -2,7 +2,7 @@
 use Rattle.std.specs.Prelude.{ℕ, negsuc, pos, ◌≡◌, refl, [], ◌∷◌, true, Some, None}
 use Rattle.capnp_schema.specs.Types.{BoolType, IntType, UIntType}
 use Rattle.capnp_schema.specs.Schema.{field_at, BoolValue, IntValue, UIntValue}
-use Rattle.capnp_schema.specs.SlotValue.{bits_at, slot_number, unsigned}
+use Rattle.capnp_schema.specs.SlotValue.{bits_at, slot_number, unsigned_number}
 use Rattle.capnp_schema.specs.SlotBits.{stored_bits, with_bits}
 use Rattle.capnp_schema.specs.Plan.{plan_of}
 use Rattle.capnp_schema.specs.Builtin.{builtin}
@@ -50,13 +50,13 @@ node_size : plan_at 8 2 ≡ record { place = place.Bits 64 16 0; member = None }
 node_size = refl
 
 -- a number as bits without a sign
-minus_one : unsigned 8 (negsuc 0) ≡ 255
+minus_one : unsigned_number 8 (negsuc 0) ≡ 255
 minus_one = refl
 
-least_byte : unsigned 8 (negsuc 127) ≡ 128
+least_byte : unsigned_number 8 (negsuc 127) ≡ 128
 least_byte = refl
 
-greatest_byte : unsigned 8 (pos 127) ≡ 127
+greatest_byte : unsigned_number 8 (pos 127) ≡ 127
 greatest_byte = refl
 
 -- bits are counted lowest first, and are 0 past the end

@@ -6,8 +6,8 @@ use Rattle.capnp_schema.specs.Schema.{Schemas, Node, Field, FieldKind, Slot, Gro
 use Rattle.capnp_schema.specs.Footprint.{Spot, DataBit, PointerAt, is_in, slot_names, kind_names, brand_names, discriminant_names, footprint}
 use Rattle.capnp_schema.specs.Accepted.{IsAccepted, DiscriminantFits, GroupFits, IsGroupOf}
 use Rattle.capnp_schema.specs.SlotValue.{bits_at, default_bits}
-use Rattle.capnp_schema.specs.Laws.{struct_names}
-use Rattle.capnp_schema.specs.Plan.{LiesInNode, IsPlan, HasSlotNumber, data_place, slot_place, place_of, place_names, place_number, member_plan, plan_of, discriminant_bits}
+use Rattle.capnp_schema.specs.Laws.{struct_spots}
+use Rattle.capnp_schema.specs.Plan.{LiesInNode, IsPlan, HasSlotNumber, data_place, slot_place, plan_place, place_names, place_number, member_plan, plan_of, discriminant_bits}
 use Rattle.capnp_schema.specs.Ranges.{HasRanges}
 use Rattle.capnp_schema.specs.Facts.Groups.{group_names_its_parts}
 use Rattle.capnp_schema.specs.Facts.Fields.{of_node, member_counted}
@@ -58,12 +58,12 @@ plan-names set accepted b i b_in i_in p = go (field_at set b i).field.kind (fiel
     names : FieldKind → SchemaType → Bool
     names k t = kind_names (brand_names (length set.brands) set) k t p
 
-    go : (k : FieldKind) (t : SchemaType) → GroupFits set k t → ((g : ℕ) → IsGroupOf k t g → names k t ≡ struct_names set g p) → place_names set (place_of k t) p ≡ names k t
+    go : (k : FieldKind) (t : SchemaType) → GroupFits set k t → ((g : ℕ) → IsGroupOf k t g → names k t ≡ struct_spots set g p) → place_names set (plan_place k t) p ≡ names k t
     go (Slot offset default) t fits h = slot_place-names set t offset default (is_pointer t) refl p
     go (Group node) (StructType number generic) fits h = sym (h number refl)
     go (Group node) t fits h = absurd fits
 
-place-number : (k : FieldKind) (t : SchemaType) → HasSlotNumber k t (place_of k t)
+place-number : (k : FieldKind) (t : SchemaType) → HasSlotNumber k t (plan_place k t)
 place-number (Group node) t = tt
 place-number (Slot offset default) t = λ bytes some. go bytes (is_pointer t) refl (width t) refl some
   where

@@ -12,8 +12,8 @@ use Rattle.capnp_base.specs.declared.introspect.BaseType.{BaseType}
 use Rattle.capnp_base.specs.declared.introspect.BaseType.TheVariants as base
 use Rattle.capnp_base.specs.Types.{base_of, list_depth}
 use Rattle.capnp_schema.specs.Types.{SchemaType, BoolType, IntType, UIntType, EnumType, width, seen_base, seen_type, lists_of}
-use Rattle.capnp_schema.specs.Schema.{Schemas, Node, Brand, Enum, Field, FieldKind, Slot, Group, Value, VoidValue, BoolValue, IntValue, UIntValue, EnumValue, TextValue, DataValue, StructValue, ListValue, AnyPointerValue, no_node, no_field, typed, node_of, brand_at, fields_of, field_at, kind_default, seen_brand, seen_enum, seen_types}
-use Rattle.capnp_schema.specs.SlotValue.{bit_number, default_bits, unsigned}
+use Rattle.capnp_schema.specs.Schema.{Schemas, Node, Brand, Enum, Field, FieldKind, Slot, Group, Value, VoidValue, BoolValue, IntValue, UIntValue, EnumValue, TextValue, DataValue, StructValue, ListValue, AnyPointerValue, no_node, no_field, typed_fields, node_of, brand_at, fields_of, field_at, kind_default, seen_brand, seen_enum, seen_types}
+use Rattle.capnp_schema.specs.SlotValue.{bit_number, default_bits, unsigned_number}
 use Rattle.capnp_schema.specs.Accepted.{IsAccepted, IsDefaultOf, KindDefault}
 use Rattle.capnp_schema.specs.Entries.{lists_seen}
 use Rattle.capnp_schema.specs.Ranges.{HasRanges, HasWidths, HaveWidths, IsSigned, NodeFits, ValueFits}
@@ -81,7 +81,7 @@ some_bytes (suc k) h = omega arith
 half : (n : ℕ) → 0 < n → 2 ^ n ≡ 2 * 2 ^ (n - 1)
 half n a = let e : n ≡ suc (n - 1) = omega (arith, a) in ap (λ k. 2 ^ k) e ∙ pow-succ' 2 (n - 1)
 
-pub unsigned_below : (k : ℕ) (x : ℤ) → 0 < k → IsSigned k x → unsigned (8 * k) x < 2 ^ (8 * k)
+pub unsigned_below : (k : ℕ) (x : ℤ) → 0 < k → IsSigned k x → unsigned_number (8 * k) x < 2 ^ (8 * k)
 unsigned_below k (pos n) a small = omega (arith, half (8 * k) (omega (arith, a)), small)
 unsigned_below k (negsuc n) a small = omega (arith, half (8 * k) (omega (arith, a)), small)
 
@@ -93,8 +93,8 @@ bool_below : (b : Bool) (t : SchemaType) → IsDefaultOf (BoolValue b) t → bit
 bool_below b BoolType h = bit_below b
 bool_below b t h = elim h [ ]
 
-int_below : (k : ℕ) (x : ℤ) (t : SchemaType) → IsDefaultOf (IntValue k x) t → unsigned (8 * k) x < 2 ^ (8 * k) → unsigned (8 * k) x < 2 ^ width t
-int_below k x (IntType n) h r = subst (λ m. unsigned (8 * k) x < 2 ^ (8 * m)) h r
+int_below : (k : ℕ) (x : ℤ) (t : SchemaType) → IsDefaultOf (IntValue k x) t → unsigned_number (8 * k) x < 2 ^ (8 * k) → unsigned_number (8 * k) x < 2 ^ width t
+int_below k x (IntType n) h r = subst (λ m. unsigned_number (8 * k) x < 2 ^ (8 * m)) h r
 int_below k x t h r = elim h [ ]
 
 uint_below : (k x : ℕ) (t : SchemaType) → IsDefaultOf (UIntValue k x) t → x < 2 ^ (8 * k) → x < 2 ^ width t
@@ -124,7 +124,7 @@ kind_below (Group node) t h r = pow_pos (width t)
 
 -- ---- fields of brands ----
 
-typed-type : (fs : List Field) (ts : List SchemaType) (i : ℕ) → i < length (typed fs ts) → slice_get ts i ≡ Some (unwrap_or (slice_get (typed fs ts) i) no_field).type
+typed-type : (fs : List Field) (ts : List SchemaType) (i : ℕ) → i < length (typed_fields fs ts) → slice_get ts i ≡ Some (unwrap_or (slice_get (typed_fields fs ts) i) no_field).type
 typed-type [] ts i a = absurd (omega arith)
 typed-type (f ∷ fs) [] i a = absurd (omega arith)
 typed-type (f ∷ fs) (t ∷ ts) zero a = refl

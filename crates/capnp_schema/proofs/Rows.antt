@@ -6,9 +6,9 @@ use Rattle.capnp_wire.specs.Place.{tree_at, tree_below}
 use Rattle.capnp_schema.specs.Types.{UIntType, TextType, is_pointer, ListType, EnumType, VoidType, lists_of}
 use Rattle.capnp_schema.specs.Schema.{fields_of, field_at, node_of}
 use Rattle.capnp_schema.specs.Footprint.{Spot, DataBit, PointerAt, footprint, discriminant_names}
-use Rattle.capnp_schema.specs.Accepted.{root_of}
+use Rattle.capnp_schema.specs.Accepted.{words_root}
 use Rattle.capnp_schema.specs.Schema.{VoidValue, BoolValue}
-use Rattle.capnp_schema.specs.Query.{member_of, plain_fields, field_named, records_of, annotation_of}
+use Rattle.capnp_schema.specs.Query.{member_of, non_union_fields, field_named, records_of, annotation_of}
 use Rattle.capnp_schema.specs.Laws.{height_within, group_height}
 use Rattle.capnp_schema.specs.Builtin.{annotation, builtin, loop_words, zero_word}
 
@@ -78,11 +78,11 @@ types_are_paired : length (fields_of builtin 5) ≡ 5
 types_are_paired = refl
 
 -- the default of Loop.again is a struct, which leads nowhere
-loop_default : root_of loop_words ≡ tree.Struct (1 ∷ replicate 7 0) (MoreTrees tree.Null NoTrees)
+loop_default : words_root loop_words ≡ tree.Struct (1 ∷ replicate 7 0) (MoreTrees tree.Null NoTrees)
 unfolding tree_at tree_below
 loop_default = refl
 
-zero_default : root_of zero_word ≡ tree.Null
+zero_default : words_root zero_word ≡ tree.Null
 unfolding tree_at
 zero_default = refl
 
@@ -108,10 +108,10 @@ shapes_past_members = refl
 plain_is_no_member : member_of (records_of builtin 3) 65535 ≡ None
 plain_is_no_member = refl
 
-shapes_plain : plain_fields (records_of builtin 3) ≡ 0 ∷ []
+shapes_plain : non_union_fields (records_of builtin 3) ≡ 0 ∷ []
 shapes_plain = refl
 
-tag_plain : plain_fields (records_of builtin 5) ≡ 0 ∷ 3 ∷ 4 ∷ []
+tag_plain : non_union_fields (records_of builtin 5) ≡ 0 ∷ 3 ∷ 4 ∷ []
 tag_plain = refl
 
 tag_named : field_named (records_of builtin 5) (codes "any") ≡ Some 3

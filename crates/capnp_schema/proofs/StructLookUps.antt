@@ -10,7 +10,7 @@ use Rattle.capnp_schema.specs.declared.record.NodeRecord.{NodeRecord}
 use Rattle.capnp_schema.specs.declared.schema.structs.StructSchema.{StructSchema}
 use Rattle.capnp_schema.specs.Schema.{Schemas, Node, Field, TypedField, no_node, brand_at, node_of, seen_node}
 use Rattle.capnp_schema.specs.Accepted.{IsAccepted}
-use Rattle.capnp_schema.specs.Query.{AreMembers, field_named, member_of, is_member_of, indices_from, keep_index, is_plain, plain_fields}
+use Rattle.capnp_schema.specs.Query.{AreMembers, field_named, member_of, is_member_of, indices_from, keep_index, is_non_union, non_union_fields}
 use Rattle.capnp_schema.specs.StructHandles.{struct_fields, struct_records}
 use Rattle.capnp_schema.proofs.MemberTables.{found_none, is_of, no_member}
 
@@ -69,8 +69,8 @@ named_is_typed s name i found = let inside = position_inside (λ (f : Field). by
 pub members_are_typed : (s : StructSchema) (table : List ℕ) → AreMembers (struct_records s) table → All (λ i. i < length (struct_fields s)) table
 members_are_typed s table are k d h = member_is_typed s k (get_or table k d) (sym (slice_get-get_or table k d h) ∙ are k)
 
-pub plain_are_typed : (s : StructSchema) (table : List ℕ) → table ≡ plain_fields (struct_records s) → All (λ i. i < length (struct_fields s)) table
-plain_are_typed s table plain = subst (λ (l : List ℕ). All (λ i. i < length (struct_fields s)) l) (sym plain) (kept_inside is_plain (struct_records s) 0 (length (struct_fields s)) (omega (arith, count_of_records s)))
+pub plain_are_typed : (s : StructSchema) (table : List ℕ) → table ≡ non_union_fields (struct_records s) → All (λ i. i < length (struct_fields s)) table
+plain_are_typed s table plain = subst (λ (l : List ℕ). All (λ i. i < length (struct_fields s)) l) (sym plain) (kept_inside is_non_union (struct_records s) 0 (length (struct_fields s)) (omega (arith, count_of_records s)))
 
 -- no member has the value of plain fields, so a table ends there
 pub members_are_few : (fields : List Field) (table : List ℕ) → AreMembers fields table → length table ≤ 65535

@@ -162,8 +162,8 @@ Rule5 set = EachField set (λ b i f. DefaultIsOfType f)
 -- its type reads; a text default has at most 2^29 - 2 bytes, a data default at most 2^29 - 1 ----
 
 -- the tree of a value's words
-abbrev pub root_of : List ℕ → Tree
-root_of words = root_tree (words ∷ [])
+abbrev pub words_root : List ℕ → Tree
+words_root words = root_tree (words ∷ [])
 
 abbrev pub AreWords : List ℕ → Type 0
 AreWords bytes = (0 < length bytes) × (length bytes % 8 ≡ 0)
@@ -193,9 +193,9 @@ IsListOrNull t = ⊥
 
 -- a default by its own kind, whatever its type
 abbrev pub Decodes : Value → Type 0
-Decodes (StructValue words) = (first_fault (root_of words) ≡ None) × IsStructOrNull (root_of words)
-Decodes (ListValue words) = (first_fault (root_of words) ≡ None) × IsListOrNull (root_of words)
-Decodes (AnyPointerValue words) = root_of words ≡ tree.Null
+Decodes (StructValue words) = (first_fault (words_root words) ≡ None) × IsStructOrNull (words_root words)
+Decodes (ListValue words) = (first_fault (words_root words) ≡ None) × IsListOrNull (words_root words)
+Decodes (AnyPointerValue words) = words_root words ≡ tree.Null
 Decodes (TextValue bytes) = length bytes ≤ 2 ^ 29 - 2
 Decodes (DataValue bytes) = length bytes ≤ 2 ^ 29 - 1
 Decodes value = ⊤
@@ -206,7 +206,7 @@ ReadsElements element t = IsOk (as_list (element_size element) t 1)
 
 -- a list default is read as its type's elements
 abbrev pub ListReads : Value → SchemaType → Type 0
-ListReads (ListValue words) (ListType element) = ReadsElements element (root_of words)
+ListReads (ListValue words) (ListType element) = ReadsElements element (words_root words)
 ListReads value t = ⊤
 
 abbrev pub ReadsDefault : TypedField → Type 0

@@ -4,8 +4,8 @@ use Rattle.capnp_schema.specs.Types.{SchemaType, VoidType, BoolType, IntType, UI
 use Rattle.capnp_schema.specs.Schema.{Schemas, Node, Brand, Enum, Enumerant, Field, Annotation, Slot, Group, Value, VoidValue, BoolValue, IntValue, UIntValue, EnumValue, TextValue, DataValue, StructValue, ListValue, AnyPointerValue}
 
 -- a plain field
-abbrev pub plain : List ℕ → ℕ → Value → Field
-plain name offset default = record { name = name; discriminant_value = 65535; annotations = []; kind = Slot offset default }
+abbrev pub builtin_field : List ℕ → ℕ → Value → Field
+builtin_field name offset default = record { name = name; discriminant_value = 65535; annotations = []; kind = Slot offset default }
 
 -- a member of the union, by its discriminant value
 abbrev pub member : ℕ → List ℕ → ℕ → Value → Field
@@ -22,8 +22,8 @@ annotation id value = record { id = id; value = value }
 abbrev pub annotated_field : List ℕ → ℕ → Value → List Annotation → Field
 annotated_field name offset default annotations = record { name = name; discriminant_value = 65535; annotations = annotations; kind = Slot offset default }
 
-abbrev pub struct_node : ℕ → List ℕ → ℕ → ℕ → List Field → Node
-struct_node id name data_words pointers fields = record { id = id; display_name = name; annotations = []; data_word_count = data_words; pointer_count = pointers; is_group = false; discriminant_count = 0; discriminant_offset = 0; fields = fields }
+abbrev pub builtin_struct_node : ℕ → List ℕ → ℕ → ℕ → List Field → Node
+builtin_struct_node id name data_words pointers fields = record { id = id; display_name = name; annotations = []; data_word_count = data_words; pointer_count = pointers; is_group = false; discriminant_count = 0; discriminant_offset = 0; fields = fields }
 
 -- with a union: how many members it has, and where its discriminant stands
 abbrev pub union_node : ℕ → List ℕ → ℕ → ℕ → ℕ → ℕ → List Field → Node
@@ -45,44 +45,44 @@ abbrev pub loop_words : List ℕ
 loop_words = 0 ∷ 0 ∷ 0 ∷ 0 ∷ 1 ∷ 0 ∷ 1 ∷ 0 ∷ 1 ∷ 0 ∷ 0 ∷ 0 ∷ 0 ∷ 0 ∷ 0 ∷ 0 ∷ zero_word
 
 abbrev pub flat_node : Node
-flat_node = struct_node 100 (codes "Flat") 1 0 (plain (codes "a") 0 (UIntValue 2 0) ∷ [])
+flat_node = builtin_struct_node 100 (codes "Flat") 1 0 (builtin_field (codes "a") 0 (UIntValue 2 0) ∷ [])
 
 abbrev pub mixed_node : Node
 mixed_node = union_node 101 (codes "Mixed") 1 1 2 1 (
-    plain (codes "a") 0 (UIntValue 2 0)
+    builtin_field (codes "a") 0 (UIntValue 2 0)
     ∷ member 0 (codes "x") 0 VoidValue
     ∷ member 1 (codes "y") 4 (UIntValue 1 0)
-    ∷ plain (codes "b") 0 (TextValue [])
+    ∷ builtin_field (codes "b") 0 (TextValue [])
     ∷ [])
 
 abbrev pub many_node : Node
-many_node = struct_node 102 (codes "Many") 2 0 (
-    plain (codes "flag") 0 (BoolValue true)
-    ∷ plain (codes "s") 1 (IntValue 1 (negsuc 0))
-    ∷ plain (codes "n") 1 (UIntValue 2 7)
-    ∷ plain (codes "w") 1 (IntValue 4 (pos 0))
-    ∷ plain (codes "q") 1 (UIntValue 8 0)
-    ∷ plain (codes "z") 0 VoidValue
+many_node = builtin_struct_node 102 (codes "Many") 2 0 (
+    builtin_field (codes "flag") 0 (BoolValue true)
+    ∷ builtin_field (codes "s") 1 (IntValue 1 (negsuc 0))
+    ∷ builtin_field (codes "n") 1 (UIntValue 2 7)
+    ∷ builtin_field (codes "w") 1 (IntValue 4 (pos 0))
+    ∷ builtin_field (codes "q") 1 (UIntValue 8 0)
+    ∷ builtin_field (codes "z") 0 VoidValue
     ∷ [])
 
 abbrev pub shapes_node : Node
 shapes_node = union_node 103 (codes "Shapes") 2 2 3 1 (
-    plain (codes "id") 0 (UIntValue 2 0)
+    builtin_field (codes "id") 0 (UIntValue 2 0)
     ∷ group_member 0 (codes "circle") 4
     ∷ group_member 1 (codes "tag") 5
     ∷ member 2 (codes "word") 0 (TextValue [])
     ∷ [])
 
 abbrev pub circle_node : Node
-circle_node = group_node 104 (codes "Shapes.circle") 2 2 0 0 (plain (codes "r") 1 (UIntValue 4 0) ∷ [])
+circle_node = group_node 104 (codes "Shapes.circle") 2 2 0 0 (builtin_field (codes "r") 1 (UIntValue 4 0) ∷ [])
 
 abbrev pub tag_node : Node
 tag_node = group_node 105 (codes "Shapes.tag") 2 2 2 3 (
-    plain (codes "n") 2 (UIntValue 2 0)
+    builtin_field (codes "n") 2 (UIntValue 2 0)
     ∷ member 0 (codes "u0") 0 VoidValue
     ∷ member 1 (codes "u1") 8 (UIntValue 1 0)
-    ∷ plain (codes "any") 0 (AnyPointerValue zero_word)
-    ∷ plain (codes "q") 1 (TextValue [])
+    ∷ builtin_field (codes "any") 0 (AnyPointerValue zero_word)
+    ∷ builtin_field (codes "q") 1 (TextValue [])
     ∷ [])
 
 abbrev pub loop_node : Node
@@ -92,11 +92,11 @@ loop_node = union_node 106 (codes "Loop") 1 1 2 0 (
     ∷ [])
 
 abbrev pub lists_node : Node
-lists_node = struct_node 107 (codes "Lists") 0 4 (
-    plain (codes "bytes") 0 (ListValue zero_word)
-    ∷ plain (codes "raw") 1 (DataValue [])
-    ∷ plain (codes "t") 2 (TextValue [])
-    ∷ plain (codes "items") 3 (ListValue zero_word)
+lists_node = builtin_struct_node 107 (codes "Lists") 0 4 (
+    builtin_field (codes "bytes") 0 (ListValue zero_word)
+    ∷ builtin_field (codes "raw") 1 (DataValue [])
+    ∷ builtin_field (codes "t") 2 (TextValue [])
+    ∷ builtin_field (codes "items") 3 (ListValue zero_word)
     ∷ [])
 
 abbrev pub id_annotations : List Annotation
@@ -105,16 +105,16 @@ id_annotations = annotation 8 (UIntValue 2 5) ∷ annotation 9 (EnumValue 2) ∷
 abbrev pub node_fields : List Field
 node_fields =
     annotated_field (codes "id") 0 (UIntValue 8 0) id_annotations
-    ∷ plain (codes "displayName") 0 (TextValue [])
-    ∷ plain (codes "size") 4 (EnumValue 0)
+    ∷ builtin_field (codes "displayName") 0 (TextValue [])
+    ∷ builtin_field (codes "size") 4 (EnumValue 0)
     ∷ []
 
-abbrev pub node_node : Node
-node_node = annotated_node 108 (codes "Node") 2 1 node_fields (annotation 7 (TextValue (codes "note")) ∷ [])
+abbrev pub builtin_node_node : Node
+builtin_node_node = annotated_node 108 (codes "Node") 2 1 node_fields (annotation 7 (TextValue (codes "note")) ∷ [])
 
 -- a brand of the node of its own number, without annotations
-abbrev pub plain_brand : ℕ → List SchemaType → Brand
-plain_brand number types = record { node = number; field_types = types; annotation_types = record { own = []; children = map (λ (t : SchemaType). []) types } }
+abbrev pub builtin_brand : ℕ → List SchemaType → Brand
+builtin_brand number types = record { node = number; field_types = types; annotation_types = record { own = []; children = map (λ (t : SchemaType). []) types } }
 
 abbrev pub node_brand : Brand
 node_brand = record { node = 8; field_types = UIntType 8 ∷ TextType ∷ EnumType 0 ∷ []; annotation_types = record { own = TextType ∷ []; children = (TextType ∷ EnumType 0 ∷ TextType ∷ []) ∷ [] ∷ [] ∷ [] } }
@@ -139,16 +139,16 @@ element_size_enum = record { id = 200; display_name = codes "ElementSize"; annot
 
 abbrev pub builtin : Schemas
 builtin = record {
-  nodes = flat_node ∷ mixed_node ∷ many_node ∷ shapes_node ∷ circle_node ∷ tag_node ∷ loop_node ∷ lists_node ∷ node_node ∷ [];
+  nodes = flat_node ∷ mixed_node ∷ many_node ∷ shapes_node ∷ circle_node ∷ tag_node ∷ loop_node ∷ lists_node ∷ builtin_node_node ∷ [];
   brands =
-      plain_brand 0 (UIntType 2 ∷ [])
-      ∷ plain_brand 1 (UIntType 2 ∷ VoidType ∷ UIntType 1 ∷ TextType ∷ [])
-      ∷ plain_brand 2 (BoolType ∷ IntType 1 ∷ UIntType 2 ∷ IntType 4 ∷ UIntType 8 ∷ VoidType ∷ [])
-      ∷ plain_brand 3 (UIntType 2 ∷ StructType 4 4 ∷ StructType 5 5 ∷ TextType ∷ [])
-      ∷ plain_brand 4 (UIntType 4 ∷ [])
-      ∷ plain_brand 5 (UIntType 2 ∷ VoidType ∷ UIntType 1 ∷ AnyPointerType ∷ TextType ∷ [])
-      ∷ plain_brand 6 (VoidType ∷ StructType 6 6 ∷ [])
-      ∷ plain_brand 7 (ListType (UIntType 1) ∷ DataType ∷ TextType ∷ ListType (StructType 0 0) ∷ [])
+      builtin_brand 0 (UIntType 2 ∷ [])
+      ∷ builtin_brand 1 (UIntType 2 ∷ VoidType ∷ UIntType 1 ∷ TextType ∷ [])
+      ∷ builtin_brand 2 (BoolType ∷ IntType 1 ∷ UIntType 2 ∷ IntType 4 ∷ UIntType 8 ∷ VoidType ∷ [])
+      ∷ builtin_brand 3 (UIntType 2 ∷ StructType 4 4 ∷ StructType 5 5 ∷ TextType ∷ [])
+      ∷ builtin_brand 4 (UIntType 4 ∷ [])
+      ∷ builtin_brand 5 (UIntType 2 ∷ VoidType ∷ UIntType 1 ∷ AnyPointerType ∷ TextType ∷ [])
+      ∷ builtin_brand 6 (VoidType ∷ StructType 6 6 ∷ [])
+      ∷ builtin_brand 7 (ListType (UIntType 1) ∷ DataType ∷ TextType ∷ ListType (StructType 0 0) ∷ [])
       ∷ node_brand
       ∷ [];
   enums = element_size_enum ∷ [];

@@ -13,10 +13,10 @@ abbrev pub brand_named : Schemas → List ℕ → Option ℕ
 brand_named set name = brand_among set set.brands 0 name
 
 -- a brand's number where 32 bits hold it, as the numbers in types
-abbrev pub numbered : Option ℕ → Option ℕ
-numbered None = None
-numbered (Some b) = if nat_lt b (2 ^ 32) then Some b else None
+abbrev pub numbered_brand : Option ℕ → Option ℕ
+numbered_brand None = None
+numbered_brand (Some b) = if nat_lt b (2 ^ 32) then Some b else None
 
 -- the same of the struct of a name
 abbrev pub brand_asked : Schemas → List ℕ → Option ℕ
-brand_asked set name = numbered (brand_named set name)
+brand_asked set name = numbered_brand (brand_named set name)

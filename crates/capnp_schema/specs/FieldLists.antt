@@ -3,7 +3,7 @@ use Rattle.std.specs.Prelude.{ℕ, ◌<◌, ◌≡◌, List, length, Option, Som
 use Rattle.capnp_schema.specs.Schema.{TypedField, default_of}
 use Rattle.capnp_schema.specs.StructHandles.{struct_field, struct_fields, number_of, set_of}
 use Rattle.capnp_schema.specs.Annotated.{TypedAnnotation, field_annotations}
-use Rattle.capnp_schema.specs.Defaults.{default_tree}
+use Rattle.capnp_schema.specs.Defaults.{value_default_tree}
 use Rattle.capnp_schema.specs.declared.schema.structs.StructSchema.{StructSchema}
 use Rattle.capnp_schema.specs.declared.schema.fields.Field.{Field}
 use Rattle.capnp_schema.specs.declared.schema.field_list.FieldList.{FieldList}
@@ -11,32 +11,32 @@ use Rattle.capnp_schema.specs.declared.schema.field_subset.FieldSubset.{FieldSub
 use Rattle.capnp_wire.specs.Tree.{Tree}
 
 -- the struct that a field is of
-abbrev pub schema_of : Field → StructSchema
-schema_of f = f.schema
+abbrev pub field_schema : Field → StructSchema
+field_schema f = f.schema
 
 abbrev pub index_of : Field → ℕ
 index_of f = f.index
 
 -- its record, with its type in the brand
 abbrev pub typed_of : Field → TypedField
-typed_of f = struct_field (schema_of f) (index_of f)
+typed_of f = struct_field (field_schema f) (index_of f)
 
 -- its annotations with their types
 abbrev pub field_annotated : Field → List TypedAnnotation
-field_annotated f = field_annotations (set_of (schema_of f)) (number_of (schema_of f)) (index_of f)
+field_annotated f = field_annotations (set_of (field_schema f)) (number_of (field_schema f)) (index_of f)
 
 -- the tree of its default, null for a default that has no words
 abbrev pub default_behind : Field → Tree
-default_behind f = default_tree (default_of (typed_of f).field)
+default_behind f = value_default_tree (default_of (typed_of f).field)
 
 -- two fields of one place: of schemas of one number, with one index
 abbrev pub HaveOnePlace : (f g : Field) → Type 0
-HaveOnePlace f g = (number_of (schema_of f) ≡ number_of (schema_of g)) × (index_of f ≡ index_of g)
+HaveOnePlace f g = (number_of (field_schema f) ≡ number_of (field_schema g)) × (index_of f ≡ index_of g)
 
 -- field i of a struct
 pub record IsFieldOf (s : StructSchema) (i : ℕ) (f : Field) : Type 0 where
   pub inside : i < length (struct_fields s)
-  pub schema : schema_of f ≡ s
+  pub schema : field_schema f ≡ s
   pub index : index_of f ≡ i
 
 -- the field of an index, where there is one

@@ -32,13 +32,13 @@ place_naming set g zero = None
 place_naming set g (suc n) = place_or n (index_naming g 0 (fields_of set n)) (place_naming set g n)
 
 -- handles have the brands whose numbers take 32 bits
-abbrev pub numbered : Option (ℕ × ℕ) → Option (ℕ × ℕ)
-numbered None = None
-numbered (Some (b, i)) = cond (nat_lt b (2 ^ 32)) (Some (b, i)) None
+abbrev pub numbered_pair : Option (ℕ × ℕ) → Option (ℕ × ℕ)
+numbered_pair None = None
+numbered_pair (Some (b, i)) = cond (nat_lt b (2 ^ 32)) (Some (b, i)) None
 
 -- the brand and the index of the group field of brand g
 unfoldable pub group_field_of : Schemas → ℕ → Option (ℕ × ℕ)
-group_field_of set g = numbered (place_naming set g (length set.brands))
+group_field_of set g = numbered_pair (place_naming set g (length set.brands))
 
 -- a table that has at each brand its group field
 abbrev pub AreGroupFields : Schemas → List (Option (ℕ × ℕ)) → Type 0

@@ -2,7 +2,7 @@
 use Rattle.std.specs.Prelude.{ℕ, ◌<◌, ◌≡◌, ⊤, length}
 use Rattle.capnp_schema.specs.Schema.{Schemas, fields_of, field_at}
 use Rattle.capnp_schema.specs.Accepted.{HaveSameSizes, IsAccepted, IsGroupBrand, IsGroupOf}
-use Rattle.capnp_schema.specs.FieldLists.{index_of, schema_of, typed_of}
+use Rattle.capnp_schema.specs.FieldLists.{index_of, field_schema, typed_of}
 use Rattle.capnp_schema.specs.Laws.{LeadsDown}
 use Rattle.capnp_schema.specs.StructHandles.{IsStruct, number_of, set_of}
 use Rattle.capnp_schema.specs.declared.plan.Place.{Place}
@@ -21,19 +21,19 @@ GroupsLeadDown = (set : Schemas) → IsAccepted set → (b i g : ℕ) → b < le
     IsGroupOf (field_at set b i).field.kind (field_at set b i).type g → LeadsToGroup set b g
 
 -- the schema of a group of a struct
-pub record IsGroupIn (s g : StructSchema) : Type 0 where
+pub record IsGroupSchemaIn (s g : StructSchema) : Type 0 where
   pub stands : IsStruct g
   pub set : set_of g ≡ set_of s
   pub leads : LeadsToGroup (set_of s) (number_of s) (number_of g)
 
 -- the brand and the index of a field
 abbrev pub place_of_field : Field → ℕ × ℕ
-place_of_field f = (number_of (schema_of f), index_of f)
+place_of_field f = (number_of (field_schema f), index_of f)
 
 -- a field of the same set, whose group a struct is
 pub record IsGroupFieldOf (g : StructSchema) (f : Field) : Type 0 where
-  pub stands : IsStruct (schema_of f)
-  pub set : set_of (schema_of f) ≡ set_of g
+  pub stands : IsStruct (field_schema f)
+  pub set : set_of (field_schema f) ≡ set_of g
   pub names : IsGroupOf (typed_of f).field.kind (typed_of f).type (number_of g)
   pub group : IsGroupBrand (set_of g) (number_of g)
 

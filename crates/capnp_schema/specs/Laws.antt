@@ -19,14 +19,14 @@ NoneNamesDiscriminant = (set : Schemas) → IsAccepted set → (b i : ℕ) (p : 
     IsTrue (footprint set (field_at set b i) p) → IsFalse (discriminant_names (node_of set b) p)
 
 -- whether a struct's fields or discriminant name the spot
-abbrev pub struct_names : Schemas → ℕ → Spot → Bool
-struct_names set b p = some_field (footprint set) (fields_of set b) p || discriminant_names (node_of set b) p
+abbrev pub struct_spots : Schemas → ℕ → Spot → Bool
+struct_spots set b p = some_field (footprint set) (fields_of set b) p || discriminant_names (node_of set b) p
 
 -- a group field names what its group's fields and discriminant name
 abbrev pub GroupNamesItsParts : Type 0
 GroupNamesItsParts = (set : Schemas) → IsAccepted set → (b i g : ℕ) (p : Spot) →
     b < length set.brands → i < length (fields_of set b) → IsGroupOf (field_at set b i).field.kind (field_at set b i).type g →
-    footprint set (field_at set b i) p ≡ struct_names set g p
+    footprint set (field_at set b i) p ≡ struct_spots set g p
 
 -- a group field is the group field of the brand that its type names
 abbrev pub GroupFieldsNameBrands : Type 0

@@ -7,7 +7,7 @@ use Rattle.capnp_schema.specs.Types.{SchemaType, is_pointer, struct_number, widt
 use Rattle.capnp_schema.specs.Schema.{Schemas, Node, Field, FieldKind, Slot, Group, Value, TypedField, node_of, fields_of, field_at, is_member}
 use Rattle.capnp_schema.specs.Footprint.{Spot, DataBit, PointerAt, is_in, discriminant_names, footprint}
 use Rattle.capnp_schema.specs.SlotValue.{bits_at, default_bits, slot_number}
-use Rattle.capnp_schema.specs.Laws.{struct_names}
+use Rattle.capnp_schema.specs.Laws.{struct_spots}
 use Rattle.capnp_schema.specs.Accepted.{IsAccepted, SlotLiesInside}
 use Rattle.capnp_schema.specs.Ranges.{HasRanges}
 use Rattle.capnp_schema.specs.declared.plan.Place.{Place}
@@ -24,9 +24,9 @@ abbrev pub slot_place : (stands_behind_pointer : Bool) → (bits : ℕ) → (off
 slot_place true bits offset default = place.Pointer offset
 slot_place false bits offset default = data_place bits offset default
 
-abbrev pub place_of : FieldKind → SchemaType → Place
-place_of (Slot offset default) t = slot_place (is_pointer t) (width t) offset default
-place_of (Group node) t = place.Group (struct_number t)
+abbrev pub plan_place : FieldKind → SchemaType → Place
+plan_place (Slot offset default) t = slot_place (is_pointer t) (width t) offset default
+plan_place (Group node) t = place.Group (struct_number t)
 
 -- a member's discriminant: its first bit in the data section, and the value there while the member is active
 abbrev pub member_plan : (member : Bool) → Node → Field → Option (ℕ × ℕ)
@@ -35,7 +35,7 @@ member_plan false n f = None
 
 -- the plan of a field of a node
 abbrev pub plan_in : Node → TypedField → SlotPlan
-plan_in n f = record { place = place_of f.field.kind f.type; member = member_plan (is_member f.field) n f.field }
+plan_in n f = record { place = plan_place f.field.kind f.type; member = member_plan (is_member f.field) n f.field }
 
 -- the plan of a field of a brand
 abbrev pub plan_of : Schemas → ℕ → TypedField → SlotPlan
@@ -56,7 +56,7 @@ place_names set (place.Bits start bits mask) (DataBit i) = is_in start bits i
 place_names set (place.Bits start bits mask) (PointerAt i) = false
 place_names set (place.Pointer number) (DataBit i) = false
 place_names set (place.Pointer number) (PointerAt i) = i == number
-place_names set (place.Group brand) p = struct_names set brand p
+place_names set (place.Group brand) p = struct_spots set brand p
 
 -- the number that stands at a plan's place: its bits, each changed where the mask's is 1; 0 where the place has no bits
 abbrev pub place_number : List ℕ → Place → ℕ

@@ -31,12 +31,12 @@ abbrev pub indices_from : {A : Type 0} → ℕ → (A → Bool) → List A → L
 indices_from first passes [] = []
 indices_from first passes (x ∷ xs) = keep_index (passes x) first (indices_from (suc first) passes xs)
 
-abbrev pub is_plain : Field → Bool
-is_plain f = not (is_member f)
+abbrev pub is_non_union : Field → Bool
+is_non_union f = not (is_member f)
 
 -- the plain fields, by index
-abbrev pub plain_fields : List Field → List ℕ
-plain_fields fields = indices_from 0 is_plain fields
+abbrev pub non_union_fields : List Field → List ℕ
+non_union_fields fields = indices_from 0 is_non_union fields
 
 -- the index of the first annotation of an id
 abbrev pub annotation_of : List Annotation → ℕ → Option ℕ

@@ -168,14 +168,14 @@ pub record TypedField : Type 0 where
   pub type : SchemaType
 
 -- fields with their types, as many as there are of both
-abbrev pub typed : List Field → List SchemaType → List TypedField
-typed [] ts = []
-typed (f ∷ fs) [] = []
-typed (f ∷ fs) (t ∷ ts) = record { field = f; type = t } ∷ typed fs ts
+abbrev pub typed_fields : List Field → List SchemaType → List TypedField
+typed_fields [] ts = []
+typed_fields (f ∷ fs) [] = []
+typed_fields (f ∷ fs) (t ∷ ts) = record { field = f; type = t } ∷ typed_fields fs ts
 
 -- the fields of a brand
 abbrev pub fields_of : Schemas → ℕ → List TypedField
-fields_of set b = typed (node_of set b).fields (brand_at set b).field_types
+fields_of set b = typed_fields (node_of set b).fields (brand_at set b).field_types
 
 abbrev pub no_field : TypedField
 no_field = record { field = record { name = []; discriminant_value = 65535; annotations = []; kind = Slot 0 VoidValue }; type = VoidType }

@@ -14,15 +14,15 @@ bits_at bytes first zero = 0
 bits_at bytes first (suc count) = bit_number (bit_at bytes first) + 2 * bits_at bytes (first + 1) count
 
 -- an integer as a number without a sign, in two's complement of so many bits
-abbrev pub unsigned : ℕ → ℤ → ℕ
-unsigned bits (pos x) = x
-unsigned bits (negsuc x) = 2 ^ bits - suc x
+abbrev pub unsigned_number : ℕ → ℤ → ℕ
+unsigned_number bits (pos x) = x
+unsigned_number bits (negsuc x) = 2 ^ bits - suc x
 
 -- a default's bits; every other default stands behind a pointer, or is nothing
 abbrev pub default_bits : Value → ℕ
 default_bits VoidValue = 0
 default_bits (BoolValue x) = bit_number x
-default_bits (IntValue bytes x) = unsigned (8 * bytes) x
+default_bits (IntValue bytes x) = unsigned_number (8 * bytes) x
 default_bits (UIntValue bytes x) = x
 default_bits (EnumValue x) = x
 default_bits (TextValue bytes) = 0

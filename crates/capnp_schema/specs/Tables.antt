@@ -3,7 +3,7 @@ use Rattle.std.specs.Prelude.{ℕ, ◌≡◌, ◌<◌, Bool, true, false, IsTrue
 use Rattle.std.specs.declared.alloc.Global.{Global}
 use Rattle.capnp_schema.specs.GroupFields.{AreGroupFields}
 use Rattle.capnp_schema.specs.Schema.{Schemas, Node, Field, fields_of, is_member, node_at, no_enum, no_node, seen_enum, seen_node}
-use Rattle.capnp_schema.specs.Query.{member_of, plain_fields}
+use Rattle.capnp_schema.specs.Query.{member_of, non_union_fields}
 use Rattle.capnp_schema.specs.Names.{IsNameTable}
 use Rattle.capnp_schema.specs.Plan.{plan_of}
 use Rattle.capnp_schema.specs.declared.plan.Place.TheVariants.{Nothing}
@@ -16,9 +16,9 @@ pub record IsMemberTable (n : Node) (table : List ℕ) : Type 0 where
   pub each : (d i : ℕ) → slice_get table d ≡ Some i → member_of n.fields d ≡ Some i
 
 -- a table in which a member's index is set at its discriminant value
-abbrev pub placed : (plain : Bool) → List ℕ → (value index : ℕ) → List ℕ
-placed true table value index = table
-placed false table value index = slice_set table value index
+abbrev pub placed_member : (plain : Bool) → List ℕ → (value index : ℕ) → List ℕ
+placed_member true table value index = table
+placed_member false table value index = slice_set table value index
 
 -- the members among the first i fields stand at their discriminant values in a table of that length
 pub record ArePlaced (fields : List Field) (i count : ℕ) (table : List ℕ) : Type 0 where
@@ -45,8 +45,8 @@ pub record AreNameTables (set : Schemas) (tables : List (Vec ℕ Global)) : Type
 abbrev pub AreMemberTables : Schemas → List (Vec ℕ Global) → Type 0
 AreMemberTables set tables = (n : ℕ) → IsMemberTable (node_at set n) (table_at tables n)
 
-abbrev pub ArePlainTables : Schemas → List (Vec ℕ Global) → Type 0
-ArePlainTables set tables = (n : ℕ) → table_at tables n ≡ plain_fields (node_at set n).fields
+abbrev pub AreNonUnionTables : Schemas → List (Vec ℕ Global) → Type 0
+AreNonUnionTables set tables = (n : ℕ) → table_at tables n ≡ non_union_fields (node_at set n).fields
 
 abbrev pub ArePlanTables : Schemas → List (Vec SlotPlan Global) → Type 0
 ArePlanTables set tables = (b : ℕ) → table_at tables b ≡ map (plan_of set b) (fields_of set b)
@@ -56,7 +56,7 @@ ArePlanTables set tables = (b : ℕ) → table_at tables b ≡ map (plan_of set 
 pub record AreTables (set : Schemas) (tables : FieldTables) : Type 0 where
   pub by_name : AreNameTables set tables.by_name.items
   pub members : AreMemberTables set tables.members.items
-  pub plain : ArePlainTables set tables.plain.items
+  pub plain : AreNonUnionTables set tables.plain.items
   pub plans : ArePlanTables set tables.plans.items
   pub group_fields : AreGroupFields set tables.group_fields.items
   pub empty_node : seen_node tables.empty.node ≡ no_node

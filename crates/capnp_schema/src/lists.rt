@@ -2,7 +2,7 @@
 ghost use Rattle.std.specs.Prelude.{◌≡◌, ◌<◌, length, map, slice_get};
 ghost use Rattle.std.specs.Option.{option_copied, option_map};
 ghost use Rattle.capnp_schema.specs.Types.{seen_type};
-ghost use Rattle.capnp_schema.specs.Schema.{seen_node, seen_brand, seen_enum, seen_field, typed, fields_of};
+ghost use Rattle.capnp_schema.specs.Schema.{seen_node, seen_brand, seen_enum, seen_field, typed_fields, fields_of};
 ghost use Rattle.capnp_schema.specs.Entries.{lists_seen, node_entry, brand_entry, enum_entry, brand_node, seen_typed};
 
 use crate::record::{BrandRecord, EnumRecord, FieldRecord, NodeRecord};
@@ -87,7 +87,7 @@ impl Lists {
 /// How many fields have a type.
 #[tactic(auto, using(crate::proofs::Typed::typed_length))]
 fn count_typed(fields: &[FieldRecord], types: &[Type]) -> usize
-    ensures { result ≡ length (typed (map seen_field fields.now) (map seen_type types.now)) }
+    ensures { result ≡ length (typed_fields (map seen_field fields.now) (map seen_type types.now)) }
 {
     fields.len().min(types.len())
 }
@@ -95,7 +95,7 @@ fn count_typed(fields: &[FieldRecord], types: &[Type]) -> usize
 /// A field with its type.
 #[tactic(auto, using(crate::proofs::Typed::typed_entry_at, crate::proofs::Typed::typed_entry_none))]
 fn typed_at<'r>(fields: &'r [FieldRecord], types: &'r [Type], i: usize) -> Option<TypedField<'r>>
-    ensures { option_map seen_typed result ≡ slice_get (typed (map seen_field fields.now) (map seen_type types.now)) i }
+    ensures { option_map seen_typed result ≡ slice_get (typed_fields (map seen_field fields.now) (map seen_type types.now)) i }
 {
     let Some(field) = entry_at(fields, i) else {
         return None;

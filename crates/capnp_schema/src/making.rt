@@ -1,7 +1,7 @@
 //! Records without annotations, in few words: for a set that is written in a program.
 ghost use Rattle.std.specs.Prelude.{[], ◌≡◌, map, IfErr, IfOk, replicate};
 ghost use Rattle.capnp_device.specs.declared.error.ErrorKind.TheVariants.{OutOfMemory};
-ghost use Rattle.capnp_schema.specs.Making.{as_group, as_member, plain_brand, plain_field, plain_node, with_union};
+ghost use Rattle.capnp_schema.specs.Making.{as_group, as_member, unannotated_brand, non_union_field, node_without_union, with_union};
 ghost use Rattle.capnp_schema.specs.Schema.{Group, Slot, seen_brand, seen_field, seen_node, seen_value};
 ghost use Rattle.capnp_schema.specs.Types.{seen_type};
 
@@ -31,7 +31,7 @@ impl FieldRecord {
     /// A slot that is no member of a union. The offset counts units of the slot's own width in the data section, or
     /// pointers. Refused with `OutOfMemory` alone.
     pub fn slot(alloc: Global, name: &str, offset: u32, default: ValueRecord) -> Result<FieldRecord>
-        ensures made { IfOk result (λ f. seen_field f ≡ plain_field name.now (Slot offset (seen_value default))) }
+        ensures made { IfOk result (λ f. seen_field f ≡ non_union_field name.now (Slot offset (seen_value default))) }
         ensures refused { IfErr result (λ e. e.kind ≡ OutOfMemory) }
     {
         let name = String::from_str(alloc, name)?;
@@ -45,7 +45,7 @@ impl FieldRecord {
 
     /// A group, by the number of its node, that is no member of a union. Refused with `OutOfMemory` alone.
     pub fn group(alloc: Global, name: &str, node: u32) -> Result<FieldRecord>
-        ensures made { IfOk result (λ f. seen_field f ≡ plain_field name.now (Group node)) }
+        ensures made { IfOk result (λ f. seen_field f ≡ non_union_field name.now (Group node)) }
         ensures refused { IfErr result (λ e. e.kind ≡ OutOfMemory) }
     {
         let name = String::from_str(alloc, name)?;
@@ -78,7 +78,7 @@ impl NodeRecord {
         fields: Vec<FieldRecord>,
     ) -> Result<NodeRecord>
         ensures made { IfOk result (λ n. seen_node n
-            ≡ plain_node id display_name.now data_word_count pointer_count (map seen_field fields.items)) }
+            ≡ node_without_union id display_name.now data_word_count pointer_count (map seen_field fields.items)) }
         ensures refused { IfErr result (λ e. e.kind ≡ OutOfMemory) }
     {
         let display_name = String::from_str(alloc, display_name)?;
@@ -119,7 +119,7 @@ impl NodeRecord {
 impl BrandRecord {
     /// A node, by its number, with the type of each field by index. Refused with `OutOfMemory` alone.
     pub fn new(alloc: Global, node: u32, field_types: Vec<Type>) -> Result<BrandRecord>
-        ensures made { IfOk result (λ b. seen_brand b ≡ plain_brand node (map seen_type field_types.items)) }
+        ensures made { IfOk result (λ b. seen_brand b ≡ unannotated_brand node (map seen_type field_types.items)) }
         ensures refused { IfErr result (λ e. e.kind ≡ OutOfMemory) }
     {
         let children = no_types(alloc, field_types.len())?;

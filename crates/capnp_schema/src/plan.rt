@@ -4,7 +4,7 @@ ghost use Rattle.capnp_schema.specs.Types.{seen_type, is_pointer, width};
 ghost use Rattle.capnp_schema.specs.Schema.{seen_field, seen_kind, seen_node, seen_value, is_member, Slot};
 ghost use Rattle.capnp_schema.specs.Accepted.{LiesInside};
 ghost use Rattle.capnp_schema.specs.SlotValue.{default_bits};
-ghost use Rattle.capnp_schema.specs.Plan.{LiesInNode, PlansStand, member_plan, place_of, plan_in};
+ghost use Rattle.capnp_schema.specs.Plan.{LiesInNode, PlansStand, member_plan, plan_place, plan_in};
 
 pub(crate) mod table;
 
@@ -58,7 +58,7 @@ pub(crate) fn plan_field(node: &NodeRecord, field: &FieldRecord, field_type: &Ty
 #[tactic(auto, using(crate::specs::Facts::Layers::seen_which))]
 fn place_of(kind: &FieldKind, field_type: &Type, node: &NodeRecord) -> Place
     requires { LiesInside (seen_node node.now) (seen_kind kind.now) (seen_type field_type.now) }
-    ensures { result ≡ place_of (seen_kind kind.now) (seen_type field_type.now) }
+    ensures { result ≡ plan_place (seen_kind kind.now) (seen_type field_type.now) }
 {
     match kind {
         FieldKind::Slot { offset, default } => {
@@ -76,7 +76,7 @@ fn place_of(kind: &FieldKind, field_type: &Type, node: &NodeRecord) -> Place
 fn slot_place(offset: u32, default: &ValueRecord, field_type: &Type) -> Place
     requires bits { (offset + 1) * width (seen_type field_type.now) ≤ 64 * 65535 }
     requires pointer { is_pointer (seen_type field_type.now) ≡ true → offset < 65535 }
-    ensures { result ≡ place_of (Slot offset (seen_value default.now)) (seen_type field_type.now) }
+    ensures { result ≡ plan_place (Slot offset (seen_value default.now)) (seen_type field_type.now) }
 {
     let variant = field_type.which();
     if is_pointer(variant) {

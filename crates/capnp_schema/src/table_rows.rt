@@ -218,7 +218,7 @@ fn field_of(
     annotations: &[AnnotationRow],
 ) -> Result<FieldRecord, AllocError>
     ensures { IfOk result (λ f. seen_field f
-        ≡ rows.field_of discriminant_value name.now (seen_kind kind) (map rows.row_annotation annotations.now)) }
+        ≡ rows.typed_row_field discriminant_value name.now (seen_kind kind) (map rows.row_annotation annotations.now)) }
 {
     Ok(FieldRecord {
         name: String::from_str(alloc, name)?,
@@ -262,7 +262,7 @@ impl MadeOf<FieldRow> for Type {
 
     ghost seen = { seen_type };
 
-    ghost of_row = { rows.field_type };
+    ghost of_row = { rows.field_row_type };
 
     fn made(alloc: Global, row: &FieldRow) -> Result<Type, AllocError> {
         let _alloc = alloc;

@@ -3,11 +3,11 @@ ghost use Rattle.std.specs.Prelude.{◌≡◌, ◌≤◌, ◌<◌, ◌^◌, ◌+
 ghost use Rattle.capnp_device.specs.declared.error.ErrorKind.TheVariants.{OutOfMemory};
 ghost use Rattle.capnp_schema.specs.Schema.{node_at, seen_field, seen_node};
 ghost use Rattle.capnp_schema.specs.Entries.{lists_seen};
-ghost use Rattle.capnp_schema.specs.Query.{indices_from, keep_index, is_plain};
+ghost use Rattle.capnp_schema.specs.Query.{indices_from, keep_index, is_non_union};
 ghost use Rattle.capnp_schema.specs.Checking.Parents.{IsParentTable};
-ghost use Rattle.capnp_schema.specs.GroupFields.{AreGroupFields, numbered};
+ghost use Rattle.capnp_schema.specs.GroupFields.{AreGroupFields, numbered_pair};
 ghost use Rattle.capnp_schema.specs.Accepted.{AreApartBelow, HasEachMember, IsAccepted};
-ghost use Rattle.capnp_schema.specs.Tables.{AreMemberTables, AreNameTables, ArePlaced, ArePlainTables, AreTables, IsMemberTable, placed};
+ghost use Rattle.capnp_schema.specs.Tables.{AreMemberTables, AreNameTables, ArePlaced, AreNonUnionTables, AreTables, IsMemberTable, placed_member};
 
 mod empty;
 
@@ -50,7 +50,7 @@ fn push_if(indices: &mut Vec<u16>, index: u16, kept: bool) -> Result<()>
 /// The indices of the plain fields.
 fn plain_table(alloc: Global, fields: &[FieldRecord]) -> Result<Vec<u16>>
     requires { length fields.now ≤ 65535 }
-    ensures table { IfOk result (λ v. v.items ≡ indices_from 0 is_plain (map seen_field fields.now)) }
+    ensures table { IfOk result (λ v. v.items ≡ indices_from 0 is_non_union (map seen_field fields.now)) }
     ensures refused { IfErr result (λ e. e.kind ≡ OutOfMemory) }
 {
     let mut plain = Vec::new(alloc);
@@ -71,8 +71,8 @@ fn no_indices(alloc: Global, count: u16) -> Result<Vec<u16>>
 
 /// Sets a member's index at its discriminant value; a plain field has none.
 fn place_member(table: &mut [u16], field: &FieldRecord, index: u16)
-    requires { is_plain (seen_field field.now) ≡ false → field.now.discriminant_value < length table.old }
-    ensures { table.new ≡ placed (is_plain (seen_field field.now)) table.old field.now.discriminant_value index }
+    requires { is_non_union (seen_field field.now) ≡ false → field.now.discriminant_value < length table.old }
+    ensures { table.new ≡ placed_member (is_non_union (seen_field field.now)) table.old field.now.discriminant_value index }
 {
     if field.is_member() {
         table[field.discriminant_value as usize] = index;
@@ -131,7 +131,7 @@ fn member_tables(alloc: Global, lists: &Lists) -> Result<Vec<Vec<u16>>>
 /// The plain fields of each node.
 fn plain_tables(alloc: Global, lists: &Lists) -> Result<Vec<Vec<u16>>>
     requires { IsAccepted (lists_seen lists.now) }
-    ensures tables { IfOk result (λ v. ArePlainTables (lists_seen lists.now) v.items) }
+    ensures tables { IfOk result (λ v. AreNonUnionTables (lists_seen lists.now) v.items) }
     ensures refused { IfErr result (λ e. e.kind ≡ OutOfMemory) }
 {
     let mut tables = Vec::new(alloc);
@@ -145,7 +145,7 @@ fn plain_tables(alloc: Global, lists: &Lists) -> Result<Vec<Vec<u16>>>
 /// A group field by numbers as handles have them, where its brand's is one.
 fn numbered(parent: Option<(usize, usize)>) -> Option<(u32, u16)>
     requires { IfSome parent (λ p. p.1 < 2 ^ 16) }
-    ensures { result ≡ numbered parent }
+    ensures { result ≡ numbered_pair parent }
 {
     match parent {
         Some((brand, field)) => {

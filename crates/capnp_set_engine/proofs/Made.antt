@@ -18,7 +18,7 @@ use Rattle.capnp_dynamic_readers.specs.Seen.{record_seen}
 use Rattle.capnp_dynamic_readers.specs.declared.dynamic_struct.Reader.{Reader as StructHandle}
 use Rattle.capnp_wire.specs.Tree.{StructTree}
 use Rattle.capnp_request.specs.Conversion.{Note}
-use Rattle.capnp_request.specs.Handles.{IsRecord}
+use Rattle.capnp_request.specs.Handles.{IsRequestRecord}
 use Rattle.capnp_request.specs.Order.{and_said, conversion_of}
 use Rattle.capnp_request.specs.Reading.{request_said}
 use Rattle.capnp_request.specs.Terms.{Said}
@@ -44,7 +44,7 @@ each_refusal_of (Ok x) f h g = tt
 each_refusal_of (Err e) f h g = f e h g
 
 -- a handle of brand 0 on a struct that has 63 levels left stands on the record of a request's root
-pub request_seen : (h : StructHandle) (r : StructReader) (n : ℕ) → reader_of h ≡ r → IsRecord 0 h → struct_levels r + 1 ≡ n → n ≡ 64 → record_seen h ≡ request_record (struct_of r)
+pub request_seen : (h : StructHandle) (r : StructReader) (n : ℕ) → reader_of h ≡ r → IsRequestRecord 0 h → struct_levels r + 1 ≡ n → n ≡ 64 → record_seen h ≡ request_record (struct_of r)
 request_seen h r n reader is levels levels_are =
     let left : struct_levels r ≡ 63 = omega (arith, levels, levels_are) in
     ap (λ (z : Schemas). struct_record z (Left (struct_levels (reader_of h))) (struct_of (reader_of h)) (number_of (schema_of h))) is.set

@@ -6,7 +6,7 @@ use Rattle.capnp_device.specs.declared.error.ErrorKind.TheVariants as kind
 use Rattle.capnp_wire.specs.Reading.{as_struct}
 use Rattle.capnp_wire.specs.Stream.{message_tree_of}
 use Rattle.capnp_wire.specs.Tree.{Tree}
-use Rattle.capnp_request.specs.Refusals.{IsRefusal, is_plain}
+use Rattle.capnp_request.specs.Refusals.{IsRefusal, is_unstrict}
 use Rattle.capnp_sets.specs.Facts.MessageRefusals.{message_refused, struct_refused}
 use Rattle.capnp_show_engine.specs.Refusals.{IsOfRead}
 
@@ -27,7 +27,7 @@ of_no_device k h = tested is_of_no_device refl refl k h
 
 -- a request that isn't converted is refused so
 pub of_request : (strict : Bool) (k : ErrorKind) → IsRefusal strict k → IsOfRead k
-of_request strict k (inl plain) = tested is_plain refl refl k plain
+of_request strict k (inl plain) = tested is_unstrict refl refl k plain
 of_request strict k (inr (asked, inl e)) = of_no_device k (ap is_of_no_device e)
 of_request strict k (inr (asked, inr e)) = of_no_device k (ap is_of_no_device e)
 

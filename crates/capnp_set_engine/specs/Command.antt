@@ -7,14 +7,14 @@ use Rattle.capnp_show_engine.specs.Show.{IsOfMessage}
 use Rattle.capnp_set_engine.specs.Convert.{IsCutShort, IsRefused}
 
 -- what the words ask for: a conversion, and whether it refuses floats and interfaces
-abbrev pub asked : {A : Type 0} → List (String A) → Option Bool
-asked [] = Some false
-asked (option ∷ []) = if bytes_eq (string_bytes option) (codes "--strict") then Some true else None
-asked (option ∷ more ∷ words) = None
+abbrev pub asked_conversion : {A : Type 0} → List (String A) → Option Bool
+asked_conversion [] = Some false
+asked_conversion (option ∷ []) = if bytes_eq (string_bytes option) (codes "--strict") then Some true else None
+asked_conversion (option ∷ more ∷ words) = None
 
 -- how the program is called
-abbrev pub usage_line : List ℕ
-usage_line = codes "usage: capnp_set [--strict]" ++ 10 ∷ []
+abbrev pub set_usage_line : List ℕ
+set_usage_line = codes "usage: capnp_set [--strict]" ++ 10 ∷ []
 
 -- A conversion that was refused; by what the source had left before and after, what was written, and the counts of failures
 -- of source and sink. Nothing was written, or after a failure of the sink a beginning.

@@ -28,8 +28,8 @@ use Rattle.capnp_show_engine.specs.Show.{IsRead}
 use Rattle.capnp_set_engine.specs.Notes.{note_lines}
 
 -- the root of the first message in these bytes is read as this struct
-abbrev pub IsRoot : List ℕ → StructTree → Type 0
-IsRoot bytes root = root_struct (message_tree_of bytes) ≡ Ok root
+abbrev pub IsRootRead : List ℕ → StructTree → Type 0
+IsRootRead bytes root = root_struct (message_tree_of bytes) ≡ Ok root
 
 -- the record that a request's root stands for, with the levels that are left below it
 abbrev pub request_record : StructTree → Record
@@ -48,7 +48,7 @@ abbrev pub lines_in : Converted → List ℕ
 lines_in c = note_lines (set_in c) c.notes.items
 
 -- a message and lines are those of a conversion: its lists are accepted, and the message is theirs and is read as them
-pub record IsMessageOf (c : Converted) (message lines : List ℕ) : Type 0 where
+pub record IsConvertedMessage (c : Converted) (message lines : List ℕ) : Type 0 where
   pub accepted : IsAccepted (set_in c)
   pub written : message ≡ set_message (set_in c)
   pub read : IsReadAsSet (set_in c) message
@@ -57,21 +57,21 @@ pub record IsMessageOf (c : Converted) (message lines : List ℕ) : Type 0 where
 -- a conversion is what the request in these bytes stands for
 pub record IsConvertedFrom (strict : Bool) (bytes : List ℕ) (c : Converted) : Type 0 where
   pub root : StructTree
-  pub request : IsRoot bytes root
+  pub request : IsRootRead bytes root
   pub converted : conversion_from strict root ≡ Ok (seen_lists c)
 
 -- a message and lines are those of what the request in these bytes stands for
 pub record IsSetOf (strict : Bool) (bytes message lines : List ℕ) : Type 0 where
   pub conversion : Converted
   pub request : IsConvertedFrom strict bytes conversion
-  pub made : IsMessageOf conversion message lines
+  pub made : IsConvertedMessage conversion message lines
 
 -- ---- refusals ----
 
 -- no request is read: of a stream that is refused, of a root that is no struct, or of a request that stands for a refusal
-abbrev pub IsUnread : (strict : Bool) → List ℕ → ErrorKind → Type 0
-IsUnread strict bytes kind =
-    (root_struct (message_tree_of bytes) ≡ Err kind) ⊎ ((root : StructTree) × IsRoot bytes root × (conversion_from strict root ≡ Err kind) × IsRefusal strict kind)
+abbrev pub IsRequestUnread : (strict : Bool) → List ℕ → ErrorKind → Type 0
+IsRequestUnread strict bytes kind =
+    (root_struct (message_tree_of bytes) ≡ Err kind) ⊎ ((root : StructTree) × IsRootRead bytes root × (conversion_from strict root ≡ Err kind) × IsRefusal strict kind)
 
 -- an accepted set has no message: a value of it has no kind in the form, or a text or list is too long
 pub record IsUnwritable (set : Schemas) (kind : ErrorKind) : Type 0 where
@@ -87,7 +87,7 @@ IsUnwritten c e = IsRefusalOf (set_in c) e ⊎ IsUnwritable (set_in c) e.kind
 -- no message is made of the request in these bytes
 abbrev pub HasNoSet : (strict : Bool) → List ℕ → Error → Type 0
 HasNoSet strict bytes e =
-    IsUnread strict bytes e.kind ⊎ ((c : Converted) × IsConvertedFrom strict bytes c × IsUnwritten c e)
+    IsRequestUnread strict bytes e.kind ⊎ ((c : Converted) × IsConvertedFrom strict bytes c × IsUnwritten c e)
 
 -- ---- what a conversion did to its source and sinks, by what was left before and after, what was written, and the counts of
 -- failures ----

@@ -3,7 +3,7 @@ ghost use Rattle.std.specs.Prelude.{◌≡◌, ◌≢◌, ◌≤◌, Bool, None,
 ghost use Rattle.capnp_device.specs.declared.error.Error.{Error};
 ghost use Rattle.capnp_device.specs.declared.error.ErrorKind.TheVariants.{WriteFailed};
 ghost use Rattle.capnp_show_engine.specs.Command.{IsTold, refusal_line};
-ghost use Rattle.capnp_set_engine.specs.Command.{IsRefusedRun, asked, usage_line};
+ghost use Rattle.capnp_set_engine.specs.Command.{IsRefusedRun, asked_conversion, set_usage_line};
 ghost use Rattle.capnp_set_engine.specs.Convert.{IsWritten};
 
 use crate::engine::convert;
@@ -15,7 +15,7 @@ const USAGE: &str = "usage: capnp_set [--strict]\n";
 
 /// Whether the words ask for a conversion that refuses floats and interfaces; none where they ask for no conversion.
 fn read_words(words: &[String]) -> Option<bool>
-    ensures { result ≡ asked words.now }
+    ensures { result ≡ asked_conversion words.now }
 {
     match words {
         [] => Some(false),
@@ -35,16 +35,16 @@ pub fn command<R: Source, W: Sink, F: Sink>(
     errors: &mut F,
 ) -> u8
     ensures statuses { result ≤ 2 }
-    ensures other_words { asked words.now ≡ None → result ≡ 2 }
-    ensures known_words { result ≡ 2 → asked words.now ≡ None }
+    ensures other_words { asked_conversion words.now ≡ None → result ≡ 2 }
+    ensures known_words { result ≡ 2 → asked_conversion words.now ≡ None }
     ensures unread { result ≡ 2 → source.new ≡ source.old }
     ensures unwritten { result ≡ 2 → sink.new ≡ sink.old }
-    ensures usage { result ≡ 2 → IsTold usage_line (F.written errors.old) (F.written errors.new)
+    ensures usage { result ≡ 2 → IsTold set_usage_line (F.written errors.old) (F.written errors.new)
         (F.failures errors.old) (F.failures errors.new) }
-    ensures written { result ≡ 0 → (strict : Bool) × (asked words.now ≡ Some strict)
+    ensures written { result ≡ 0 → (strict : Bool) × (asked_conversion words.now ≡ Some strict)
         × IsWritten strict (R.left source.old) (R.left source.new) (W.written sink.old) (W.written sink.new)
         (F.written errors.old) (F.written errors.new) (F.failures errors.old) (F.failures errors.new) }
-    ensures refused { result ≡ 1 → (strict : Bool) × (e : Error) × (asked words.now ≡ Some strict)
+    ensures refused { result ≡ 1 → (strict : Bool) × (e : Error) × (asked_conversion words.now ≡ Some strict)
         × IsTold (refusal_line e.kind) (F.written errors.old) (F.written errors.new)
         (F.failures errors.old) (F.failures errors.new)
         × IsRefusedRun strict e (R.left source.old) (R.left source.new) (W.written sink.old) (W.written sink.new)

@@ -4,7 +4,7 @@ ghost use Rattle.capnp_device.specs.Device.{HasFailed};
 ghost use Rattle.capnp_device.specs.declared.error.ErrorKind.TheVariants.{OutOfMemory, ReadFailed, WriteFailed};
 ghost use Rattle.capnp_show_engine.specs.Refusals.{IsOfRead};
 ghost use Rattle.capnp_show_engine.specs.Show.{IsOfMessage};
-ghost use Rattle.capnp_set_engine.specs.Convert.{HasNoSet, IsConvertedFrom, IsCutShort, IsMessageOf, IsRefused, IsSetOf, IsUnread, IsUnwritten, IsWritten};
+ghost use Rattle.capnp_set_engine.specs.Convert.{HasNoSet, IsConvertedFrom, IsCutShort, IsConvertedMessage, IsRefused, IsSetOf, IsRequestUnread, IsUnwritten, IsWritten};
 
 use crate::notes::get_lines;
 use capnp_dynamic_readers::dynamic_struct;
@@ -28,7 +28,7 @@ struct Made {
 /// What the request in these bytes is converted to.
 fn read_conversion(alloc: Global, bytes: &[u8], strict: bool) -> Result<Converted>
     ensures converted { IfOk result (IsConvertedFrom strict bytes.now) }
-    ensures refused { IfErr result (λ e. e.kind ≢ OutOfMemory → IsUnread strict bytes.now e.kind) }
+    ensures refused { IfErr result (λ e. e.kind ≢ OutOfMemory → IsRequestUnread strict bytes.now e.kind) }
     ensures of_no_device { IfErr result (λ e. IsOfRead e.kind) }
 {
     let set = request_set::new_set(alloc)?;
@@ -40,7 +40,7 @@ fn read_conversion(alloc: Global, bytes: &[u8], strict: bool) -> Result<Converte
 
 /// The message of the checked set of a conversion, and the lines of its notes.
 fn make(alloc: Global, converted: Converted) -> Result<Made>
-    ensures made { IfOk result (λ m. IsMessageOf converted m.message.items (string_bytes m.lines)) }
+    ensures made { IfOk result (λ m. IsConvertedMessage converted m.message.items (string_bytes m.lines)) }
     ensures refused { IfErr result (λ e. e.kind ≢ OutOfMemory → IsUnwritten converted e) }
     ensures of_no_device { IfErr result (λ e. IsOfRead e.kind) }
 {

@@ -3,12 +3,12 @@ use Rattle.std.specs.Prelude.{All, List}
 use Rattle.capnp_schema.specs.Schema.{Annotation, Enum, Enumerant, Field, FieldKind, Group, Node, Schemas, Slot}
 use Rattle.capnp_schema.specs.Schema.{Value, VoidValue, BoolValue, IntValue, UIntValue, EnumValue, TextValue, DataValue, StructValue, ListValue, AnyPointerValue}
 use Rattle.capnp_set_writer.specs.Kept.{AnnotationKept, EnumKept, EnumerantKept, FieldKept, KindKept, NodeKept, SetKept, ValueKept}
-use Rattle.capnp_set_writer.specs.Limits.{AnnotationHasKind, DefaultHasKind, EnumHasKinds, EnumerantHasKinds, FieldHasKinds, HasKind, NodeHasKinds, SetHasKinds}
+use Rattle.capnp_set_writer.specs.Limits.{AnnotationHasKind, DefaultHasKind, EnumHasKinds, EnumerantHasKinds, FieldHasKinds, HasForm, NodeHasKinds, SetHasKinds}
 
 all : {A : Type 0} {P Q : A → Type 0} → ((a : A) → P a → Q a) → (xs : List A) → All P xs → All Q xs
 all each xs k = λ i d a. each _ (k i d a)
 
-value-kind : (v : Value) → ValueKept v → HasKind v
+value-kind : (v : Value) → ValueKept v → HasForm v
 value-kind VoidValue k = tt
 value-kind (BoolValue b) k = tt
 value-kind (IntValue width x) k = tt

@@ -12,7 +12,7 @@ use Rattle.capnp_schema.specs.Ranges.{HasWidths}
 use Rattle.capnp_schema.specs.Types.{SchemaType, lists_of, seen_base, seen_type, seen_variant}
 use Rattle.capnp_set_writer.specs.Kept.{TypeKept}
 use Rattle.capnp_set_writer.specs.Trees.{base_number, list_count, named_number, type_row, type_tree}
-use Rattle.capnp_set_writer.specs.Writes.{blank, numbered}
+use Rattle.capnp_set_writer.specs.Writes.{blank, number_put}
 
 bare : (v : TypeVariant) → ((x : TypeHandle) → v ≡ variant.List x → ⊥) → list_count (seen_variant v) ≡ 0
 bare variant.Void h = refl
@@ -86,9 +86,9 @@ type-kept t v e few small = record {
 
 module _ (t : TypeHandle) (v : TypeVariant) (is : v ≡ innermost t) (s0 s1 s2 s3 : StructTree) where
   pub type-written : (first lists named : ℕ) → first ≡ base_number (seen_variant v) → lists ≡ list_count (seen_type t) → named ≡ named_number (seen_variant v) →
-      s0 ≡ blank 1 0 → s1 ≡ numbered 2 0 first s0 → s2 ≡ numbered 2 1 lists s1 → s3 ≡ numbered 4 1 named s2 → s3 ≡ type_tree (seen_type t)
+      s0 ≡ blank 1 0 → s1 ≡ number_put 2 0 first s0 → s2 ≡ number_put 2 1 lists s1 → s3 ≡ number_put 4 1 named s2 → s3 ≡ type_tree (seen_type t)
   type-written first lists named b l n e0 e1 e2 e3 =
-      let row : s3 ≡ type_row first lists named = e3 ∙ ap (numbered 4 1 named) (e2 ∙ ap (numbered 2 1 lists) (e1 ∙ ap (numbered 2 0 first) e0)) in
+      let row : s3 ≡ type_row first lists named = e3 ∙ ap (number_put 4 1 named) (e2 ∙ ap (number_put 2 1 lists) (e1 ∙ ap (number_put 2 0 first) e0)) in
       let first-is : first ≡ base_number (seen_type t) = b ∙ (ap (λ w. base_number (seen_variant w)) is ∙ inner-base t) in
       let named-is : named ≡ named_number (seen_type t) = n ∙ (ap (λ w. named_number (seen_variant w)) is ∙ inner-named t) in
       row ∙ (ap (λ k. type_row k lists named) first-is ∙ (ap (λ k. type_row (base_number (seen_type t)) k named) l ∙ ap (type_row (base_number (seen_type t)) (list_count (seen_type t))) named-is))

@@ -5,17 +5,17 @@ use Rattle.capnp_device.specs.declared.error.ErrorKind.TheVariants.{TooDeep}
 use Rattle.capnp_wire.specs.Tree as tree
 use Rattle.capnp_wire.specs.Tree.{StructTree, Tree, struct_count, tree_count}
 use Rattle.capnp_wire.specs.Place.{struct_tree}
-use Rattle.capnp_schema.specs.Meta.{meta, many, one}
+use Rattle.capnp_schema.specs.Meta.{meta, meta_structs, meta_struct}
 use Rattle.capnp_schema.specs.Schema.{VoidValue}
 use Rattle.capnp_schema.specs.Schema.{Value as SchemaValue}
 use Rattle.capnp_schema.specs.Types.{ListType}
 use Rattle.capnp_records.specs.Default.{read_of}
-use Rattle.capnp_records.specs.Reading.{Body, bodies_of, elements_value, entered, nth_body, nth_reading, of_read, pointers_below, record_of, struct_record, structs_below, value_of, values_of}
+use Rattle.capnp_records.specs.Reading.{Body, bodies_of, elements_value, entered_value, nth_body, nth_reading, of_read, pointers_below, record_of, struct_record, structs_below, value_of, values_of}
 use Rattle.capnp_records.specs.Record as value
-use Rattle.capnp_records.specs.Record.{Levels, MoreValues, NoValues, Record, Value, Values, asked, one_less, values_from}
-use Rattle.capnp_sets.specs.Causes.{◌<*>◌, Read}
+use Rattle.capnp_records.specs.Record.{Levels, MoreValues, NoValues, Record, Value, Values, levels_asked, one_less, values_from}
+use Rattle.capnp_sets.specs.Causes.{◌<*>◌, SetRead}
 use Rattle.capnp_sets.specs.Parts.{all_of, list, struct, structs, unless_fault}
-use Rattle.capnp_set_writer.specs.Trees.{struct_list, structs_of, trees_of}
+use Rattle.capnp_set_writer.specs.Trees.{struct_list_tree, structs_of, trees_of}
 use Rattle.capnp_set_writer.proofs.Numbers.{applied}
 
 -- ---- all of a row ----
@@ -30,7 +30,7 @@ all-tail P x xs k = λ i d a. k (suc i) d (omega (arith, a))
 
 -- a level is left
 abbrev pub HasLevel : Levels → Type 0
-HasLevel l = (asked l == 0) ≡ false
+HasLevel l = (levels_asked l == 0) ≡ false
 
 -- and so many are, one behind another
 abbrev pub HasLevels : ℕ → Levels → Type 0
@@ -38,7 +38,7 @@ HasLevels zero l = ⊤
 HasLevels (suc count) l = HasLevel l × HasLevels count (one_less l)
 
 -- a struct behind a pointer
-pub struct-entered : (l : Levels) (s : StructTree) (b : ℕ) → HasLevel l → value_of meta (struct_tree s) l (one b) ≡ value.Struct (struct_record meta (one_less l) s b)
+pub struct-entered : (l : Levels) (s : StructTree) (b : ℕ) → HasLevel l → value_of meta (struct_tree s) l (meta_struct b) ≡ value.Struct (struct_record meta (one_less l) s b)
 struct-entered l s b e = ap (λ q. of_read (λ (t : StructTree). value.Struct (record_of meta (one_less l) t.bytes (values_of meta s.pointers) b)) (cond q (Err TooDeep) (Ok s))) e
 
 -- ---- rows ----
@@ -47,22 +47,22 @@ shift : (g : ℕ → Value) (first count : ℕ) → values_from g (suc first) co
 shift g first zero = refl
 shift g first (suc count) = ap (MoreValues (g (suc first))) (shift g (suc first) count)
 
-none-left : {A : Type 0} (h : Value → Read A) → all_of h NoValues ≡ Ok []
+none-left : {A : Type 0} (h : Value → SetRead A) → all_of h NoValues ≡ Ok []
 unfolding all_of
 none-left h = refl
 
-one-more : {A : Type 0} (h : Value → Read A) (v : Value) (vs : Values) → all_of h (MoreValues v vs) ≡ Ok (λ (a : A) (rest : List A). a ∷ rest) <*> h v <*> all_of h vs
+one-more : {A : Type 0} (h : Value → SetRead A) (v : Value) (vs : Values) → all_of h (MoreValues v vs) ≡ Ok (λ (a : A) (rest : List A). a ∷ rest) <*> h v <*> all_of h vs
 unfolding all_of
 one-more h v vs = refl
 
-row : {A : Type 0} (h : Value → Read A) (v : Value) (vs : Values) (x : A) (xs : List A) → h v ≡ Ok x → all_of h vs ≡ Ok xs → all_of h (MoreValues v vs) ≡ Ok (x ∷ xs)
+row : {A : Type 0} (h : Value → SetRead A) (v : Value) (vs : Values) (x : A) (xs : List A) → h v ≡ Ok x → all_of h vs ≡ Ok xs → all_of h (MoreValues v vs) ≡ Ok (x ∷ xs)
 row h v vs x xs e f = one-more h v vs ∙ applied (applied refl e) f
 
 -- ---- structs ----
 
 -- an element, with the levels that its list has left
 abbrev pub element_at : Levels → ℕ → Body → Value
-element_at l b body = entered l (value.Struct (record_of meta (one_less l) body.bytes body.pointers b))
+element_at l b body = entered_value l (value.Struct (record_of meta (one_less l) body.bytes body.pointers b))
 
 abbrev pub body_of : StructTree → Body
 body_of s = record { bytes = s.bytes; pointers = values_of meta s.pointers }
@@ -79,13 +79,13 @@ pub rest-shifted : (l : Levels) (b : ℕ) (s : StructTree) (ss : List StructTree
     values_from (λ i. element_at l b (nth_body (bodies_of meta (structs_of (s ∷ ss))) i)) 1 (struct_count (structs_of ss)) ≡ elements_from l b ss 0
 rest-shifted l b s ss = shift (λ i. element_at l b (nth_body (bodies_of meta (structs_of (s ∷ ss))) i)) 0 (struct_count (structs_of ss))
 
-pub list-entered : (l : Levels) (b d p : ℕ) (ss : List StructTree) → HasLevel l → value_of meta (struct_list d p ss) l (many b) ≡ value.Elements (elements_from (one_less l) b ss 0)
+pub list-entered : (l : Levels) (b d p : ℕ) (ss : List StructTree) → HasLevel l → value_of meta (struct_list_tree d p ss) l (meta_structs b) ≡ value.Elements (elements_from (one_less l) b ss 0)
 list-entered l b d p ss e =
-    ap (λ q. of_read (λ _. elements_value meta (struct_list d p ss) (structs_below meta (bodies_of meta (structs_of ss))) (one_less l) (one b)) (cond q (Err TooDeep) (Ok (struct_list d p ss)))) e
+    ap (λ q. of_read (λ _. elements_value meta (struct_list_tree d p ss) (structs_below meta (bodies_of meta (structs_of ss))) (one_less l) (meta_struct b)) (cond q (Err TooDeep) (Ok (struct_list_tree d p ss)))) e
 
-module _ {A : Type 0} (b : ℕ) (f : Record → Read A) (tree_of : A → StructTree) (Kept : A → Type 0) (l : Levels) (e : HasLevel l) (each : (a : A) → Kept a → f (struct_record meta (one_less l) (tree_of a) b) ≡ Ok a) where
-  abbrev h : Value → Read A
-  h v = unless_fault (struct f) (read_of meta VoidValue (one b) v)
+module _ {A : Type 0} (b : ℕ) (f : Record → SetRead A) (tree_of : A → StructTree) (Kept : A → Type 0) (l : Levels) (e : HasLevel l) (each : (a : A) → Kept a → f (struct_record meta (one_less l) (tree_of a) b) ≡ Ok a) where
+  abbrev h : Value → SetRead A
+  h v = unless_fault (struct f) (read_of meta VoidValue (meta_struct b) v)
 
   here : (a : A) → Kept a → h (element_at l b (body_of (tree_of a))) ≡ Ok a
   here a k = ap h (element-entered l b (tree_of a) e) ∙ each a k
@@ -96,49 +96,49 @@ module _ {A : Type 0} (b : ℕ) (f : Record → Read A) (tree_of : A → StructT
       row h _ _ x xs (here x (all-head Kept x xs k)) (ap (all_of h) (rest-shifted l b (tree_of x) (map tree_of xs)) ∙ rows-read xs (all-tail Kept x xs k))
 
 -- a list of structs
-pub structs-read : {A : Type 0} (b d p : ℕ) (f : Record → Read A) (tree_of : A → StructTree) (Kept : A → Type 0) (l : Levels) → HasLevel l → HasLevel (one_less l) →
+pub structs-read : {A : Type 0} (b d p : ℕ) (f : Record → SetRead A) (tree_of : A → StructTree) (Kept : A → Type 0) (l : Levels) → HasLevel l → HasLevel (one_less l) →
     ((a : A) → Kept a → f (struct_record meta (one_less (one_less l)) (tree_of a) b) ≡ Ok a) → (xs : List A) → All Kept xs →
-    structs b f (value_of meta (struct_list d p (map tree_of xs)) l (many b)) ≡ Ok xs
+    structs b f (value_of meta (struct_list_tree d p (map tree_of xs)) l (meta_structs b)) ≡ Ok xs
 structs-read b d p f tree_of Kept l e e' each xs k =
     ap (structs b f) (list-entered l b d p (map tree_of xs) e) ∙ rows-read b f tree_of Kept (one_less l) e' each xs k
 
 -- the same of what is read in the place of a null, where there is none
-pub structs-there : {A : Type 0} (b d p : ℕ) (f : Record → Read A) (tree_of : A → StructTree) (Kept : A → Type 0) (l : Levels) → HasLevel l → HasLevel (one_less l) →
+pub structs-there : {A : Type 0} (b d p : ℕ) (f : Record → SetRead A) (tree_of : A → StructTree) (Kept : A → Type 0) (l : Levels) → HasLevel l → HasLevel (one_less l) →
     ((a : A) → Kept a → f (struct_record meta (one_less (one_less l)) (tree_of a) b) ≡ Ok a) → (xs : List A) → All Kept xs → (default : SchemaValue) →
-    structs b f (read_of meta default (many b) (value_of meta (struct_list d p (map tree_of xs)) l (many b))) ≡ Ok xs
+    structs b f (read_of meta default (meta_structs b) (value_of meta (struct_list_tree d p (map tree_of xs)) l (meta_structs b))) ≡ Ok xs
 structs-there b d p f tree_of Kept l e e' each xs k default =
-    ap (λ v. structs b f (read_of meta default (many b) v)) (list-entered l b d p (map tree_of xs) e) ∙ rows-read b f tree_of Kept (one_less l) e' each xs k
+    ap (λ v. structs b f (read_of meta default (meta_structs b) v)) (list-entered l b d p (map tree_of xs) e) ∙ rows-read b f tree_of Kept (one_less l) e' each xs k
 
 -- ---- lists of such lists ----
 
-module _ {A : Type 0} (b d p : ℕ) (f : Record → Read A) (tree_of : A → StructTree) (Kept : A → Type 0) (l : Levels) (e : HasLevel l) (e' : HasLevel (one_less l)) (each : (a : A) → Kept a → f (struct_record meta (one_less (one_less l)) (tree_of a) b) ≡ Ok a) where
+module _ {A : Type 0} (b d p : ℕ) (f : Record → SetRead A) (tree_of : A → StructTree) (Kept : A → Type 0) (l : Levels) (e : HasLevel l) (e' : HasLevel (one_less l)) (each : (a : A) → Kept a → f (struct_record meta (one_less (one_less l)) (tree_of a) b) ≡ Ok a) where
   abbrev row_tree : List A → Tree
-  row_tree xs = struct_list d p (map tree_of xs)
+  row_tree xs = struct_list_tree d p (map tree_of xs)
 
-  abbrev row_read : Value → Read (List A)
-  row_read v = unless_fault (structs b f) (read_of meta VoidValue (many b) v)
+  abbrev row_read : Value → SetRead (List A)
+  row_read v = unless_fault (structs b f) (read_of meta VoidValue (meta_structs b) v)
 
   abbrev rows_from : List (List A) → ℕ → Values
-  rows_from rows first = values_from (λ i. nth_reading (values_of meta (trees_of (map row_tree rows))) i l (many b)) first (tree_count (trees_of (map row_tree rows)))
+  rows_from rows first = values_from (λ i. nth_reading (values_of meta (trees_of (map row_tree rows))) i l (meta_structs b)) first (tree_count (trees_of (map row_tree rows)))
 
-  row-there : (xs : List A) → All Kept xs → row_read (value_of meta (row_tree xs) l (many b)) ≡ Ok xs
+  row-there : (xs : List A) → All Kept xs → row_read (value_of meta (row_tree xs) l (meta_structs b)) ≡ Ok xs
   row-there xs k = ap row_read (list-entered l b d p (map tree_of xs) e) ∙ rows-read b f tree_of Kept (one_less l) e' each xs k
 
   pub all-rows : (rows : List (List A)) → All (All Kept) rows → all_of row_read (rows_from rows 0) ≡ Ok rows
   all-rows [] k = none-left row_read
   all-rows (r ∷ rows) k =
       row row_read _ _ r rows (row-there r (all-head (All Kept) r rows k))
-      (ap (all_of row_read) (shift (λ i. nth_reading (values_of meta (trees_of (map row_tree (r ∷ rows)))) i l (many b)) 0 (tree_count (trees_of (map row_tree rows)))) ∙ all-rows rows (all-tail (All Kept) r rows k))
+      (ap (all_of row_read) (shift (λ i. nth_reading (values_of meta (trees_of (map row_tree (r ∷ rows)))) i l (meta_structs b)) 0 (tree_count (trees_of (map row_tree rows)))) ∙ all-rows rows (all-tail (All Kept) r rows k))
 
 rows-entered : (l : Levels) (b : ℕ) (ts : List Tree) → HasLevel l →
-    value_of meta (tree.Pointers (trees_of ts)) l (ListType (many b))
-    ≡ value.Elements (values_from (λ i. nth_reading (values_of meta (trees_of ts)) i (one_less l) (many b)) 0 (tree_count (trees_of ts)))
+    value_of meta (tree.Pointers (trees_of ts)) l (ListType (meta_structs b))
+    ≡ value.Elements (values_from (λ i. nth_reading (values_of meta (trees_of ts)) i (one_less l) (meta_structs b)) 0 (tree_count (trees_of ts)))
 rows-entered l b ts e =
-    ap (λ q. of_read (λ _. elements_value meta (tree.Pointers (trees_of ts)) (pointers_below (values_of meta (trees_of ts))) (one_less l) (many b)) (cond q (Err TooDeep) (Ok (tree.Pointers (trees_of ts))))) e
+    ap (λ q. of_read (λ _. elements_value meta (tree.Pointers (trees_of ts)) (pointers_below (values_of meta (trees_of ts))) (one_less l) (meta_structs b)) (cond q (Err TooDeep) (Ok (tree.Pointers (trees_of ts))))) e
 
-pub lists-there : {A : Type 0} (b d p : ℕ) (f : Record → Read A) (tree_of : A → StructTree) (Kept : A → Type 0) (l : Levels) → HasLevel l → HasLevel (one_less l) → HasLevel (one_less (one_less l)) →
+pub lists-there : {A : Type 0} (b d p : ℕ) (f : Record → SetRead A) (tree_of : A → StructTree) (Kept : A → Type 0) (l : Levels) → HasLevel l → HasLevel (one_less l) → HasLevel (one_less (one_less l)) →
     ((a : A) → Kept a → f (struct_record meta (one_less (one_less (one_less l))) (tree_of a) b) ≡ Ok a) → (rows : List (List A)) → All (All Kept) rows → (default : SchemaValue) →
-    list (many b) (structs b f) (read_of meta default (ListType (many b)) (value_of meta (tree.Pointers (trees_of (map (λ (xs : List A). struct_list d p (map tree_of xs)) rows))) l (ListType (many b)))) ≡ Ok rows
+    list (meta_structs b) (structs b f) (read_of meta default (ListType (meta_structs b)) (value_of meta (tree.Pointers (trees_of (map (λ (xs : List A). struct_list_tree d p (map tree_of xs)) rows))) l (ListType (meta_structs b)))) ≡ Ok rows
 lists-there b d p f tree_of Kept l e e' e'' each rows k default =
-    ap (λ v. list (many b) (structs b f) (read_of meta default (ListType (many b)) v)) (rows-entered l b _ e)
+    ap (λ v. list (meta_structs b) (structs b f) (read_of meta default (ListType (meta_structs b)) v)) (rows-entered l b _ e)
     ∙ all-rows b d p f tree_of Kept (one_less l) e' e'' each rows k

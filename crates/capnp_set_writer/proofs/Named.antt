@@ -3,7 +3,7 @@ use Rattle.std.proofs.Common.{◌≡◌, ℕ, zero, suc, ◌<◌, refl, ap, subs
 use Rattle.std.specs.Prelude.{All, map, slice_get}
 use Rattle.std.specs.Option.{unwrap_or}
 use Rattle.capnp_schema.specs.Accepted.{AllName, IsAccepted, NamesEntries}
-use Rattle.capnp_schema.specs.Schema.{Brand, Enum, Field, Schemas, TypedField, brand_at, fields_of, no_brand, no_field, node_of, typed}
+use Rattle.capnp_schema.specs.Schema.{Brand, Enum, Field, Schemas, TypedField, brand_at, fields_of, no_brand, no_field, node_of, typed_fields}
 use Rattle.capnp_schema.specs.Types.{SchemaType, VoidType, BoolType, IntType, UIntType, EnumType, TextType, DataType, StructType, ListType, AnyPointerType}
 use Rattle.capnp_records.specs.Record.{Left, Values}
 use Rattle.capnp_sets.specs.Types.{generic_in}
@@ -60,13 +60,13 @@ lists-named s k rows kept names = λ i d a. types-named s k (get_or rows i d) (k
 
 -- ---- the types of fields ----
 
-typed-length : (fs : List Field) (ts : List SchemaType) → length ts ≡ length fs → length (typed fs ts) ≡ length ts
+typed-length : (fs : List Field) (ts : List SchemaType) → length ts ≡ length fs → length (typed_fields fs ts) ≡ length ts
 typed-length [] [] e = refl
 typed-length [] (t ∷ ts) e = absurd (omega (arith, e))
 typed-length (f ∷ fs) [] e = absurd (omega (arith, e))
 typed-length (f ∷ fs) (t ∷ ts) e = ap suc (typed-length fs ts (omega (arith, e)))
 
-typed-type : (fs : List Field) (ts : List SchemaType) → length ts ≡ length fs → (i : ℕ) (d : SchemaType) (d' : TypedField) → i < length ts → (unwrap_or (slice_get (typed fs ts) i) d').type ≡ get_or ts i d
+typed-type : (fs : List Field) (ts : List SchemaType) → length ts ≡ length fs → (i : ℕ) (d : SchemaType) (d' : TypedField) → i < length ts → (unwrap_or (slice_get (typed_fields fs ts) i) d').type ≡ get_or ts i d
 typed-type fs [] e i d d' h = absurd (omega arith)
 typed-type [] (t ∷ ts) e i d d' h = absurd (omega (arith, e))
 typed-type (f ∷ fs) (t ∷ ts) e zero d d' h = refl

@@ -18,7 +18,7 @@ use Rattle.capnp_records.specs.Default.{read_of}
 use Rattle.capnp_records.specs.Reading.{of_read}
 use Rattle.capnp_records.specs.Record as value
 use Rattle.capnp_device.specs.declared.error.ErrorKind.TheVariants.{NameNotUtf8}
-use Rattle.capnp_sets.specs.Causes.{◌<*>◌, Read, refused}
+use Rattle.capnp_sets.specs.Causes.{◌<*>◌, SetRead, refused_read}
 use Rattle.capnp_sets.specs.Parts.{name, text}
 
 -- ---- slots ----
@@ -36,7 +36,7 @@ int-slot bytes width offset n h e = xor_zero_r _ ∙ (bits_at-number bytes width
 
 -- ---- parts ----
 
-abbrev pub read_ok : ℕ → Read ℕ
+abbrev pub read_ok : ℕ → SetRead ℕ
 read_ok n = Ok n
 
 ok-ok : {A B : Type 0} (f : A → B) (a : A) → Ok f <*> Ok a ≡ Ok (f a)
@@ -44,7 +44,7 @@ unfolding ◌<*>◌
 ok-ok f a = refl
 
 -- a function of what a part stands for
-pub applied : {A B : Type 0} {x : Read (A → B)} {y : Read A} {f : A → B} {a : A} → x ≡ Ok f → y ≡ Ok a → x <*> y ≡ Ok (f a)
+pub applied : {A B : Type 0} {x : SetRead (A → B)} {y : SetRead A} {f : A → B} {a : A} → x ≡ Ok f → y ≡ Ok a → x <*> y ≡ Ok (f a)
 applied {x = x} {y = y} {f = f} {a = a} e h = subst (λ z. x <*> z ≡ Ok (f a)) (sym h) (subst (λ z. z <*> Ok a ≡ Ok (f a)) (sym e) (ok-ok f a))
 
 -- ---- texts ----
@@ -58,6 +58,6 @@ text-read bytes = ap (λ r. text (text_in r)) (as_text-text_tree bytes)
 pub name-read : (bytes : List ℕ) → is_utf8 bytes ≡ true → name (text_in (as_text (text_tree bytes))) ≡ Ok bytes
 name-read bytes h = ap (λ r. name (text_in r)) (as_text-text_tree bytes) ∙ named (is_utf8 bytes) h
   where
-    named : (q : Bool) → q ≡ true → elim q as (λ _. Read (List ℕ)) [ true ↦ Ok bytes | false ↦ refused NameNotUtf8 ] ≡ Ok bytes
+    named : (q : Bool) → q ≡ true → elim q as (λ _. SetRead (List ℕ)) [ true ↦ Ok bytes | false ↦ refused_read NameNotUtf8 ] ≡ Ok bytes
     named true e = refl
     named false e = cc

@@ -6,7 +6,7 @@ use Rattle.capnp_wire.specs.Facts.Rows.{tree_count-nulls}
 use Rattle.capnp_wire.specs.Place.{struct_tree}
 use Rattle.capnp_wire.specs.Tree.{StructTree, Tree, tree_count}
 use Rattle.capnp_wire.specs.declared.size.StructSize.{StructSize}
-use Rattle.capnp_arena.specs.Built.{IsBuilt, built, part}
+use Rattle.capnp_arena.specs.Built.{IsBuilt, built_at, place_words}
 use Rattle.capnp_arena.specs.Facts.Laws.{IsInStruct, in_struct, struct_is, struct_planted}
 use Rattle.capnp_arena.specs.Facts.Places.{at_then, data_of, pointers_of}
 use Rattle.capnp_arena.specs.Forest.{Changes, Forest, PartChanges, Planted, struct_from, tree}
@@ -26,7 +26,7 @@ changes_none w bytes = record {
 }
 
 -- a blank struct has its place's sections
-pub new_by_tree : (a : Arena) (p : Place) (d q : ℕ) → IsBuilt a p → built a p ≡ blank d q → IsNew d q a p
+pub new_by_tree : (a : Arena) (p : Place) (d q : ℕ) → IsBuilt a p → built_at a p ≡ blank d q → IsNew d q a p
 new_by_tree a p d q f e =
     let words : 8 * p.data_words ≡ 8 * d = sym (data_of (segment a) p.start p.data_words p.pointers f) ∙ (ap (λ (s : StructTree). length s.bytes) e ∙ length-replicate (8 * d) 0) in
     record {
@@ -41,7 +41,7 @@ blank_of d q size a b =
     ap (λ n. record { bytes = zeros (8 * n); pointers = nulls size.pointers }) a ∙ ap (λ n. record { bytes = zeros (8 * d); pointers = nulls n }) b
 
 -- a struct that was made at a pointer
-pub new_struct : (a : Arena) (at : ℕ) (p : Place) (d q : ℕ) (size : StructSize) → Forest (segment a) at → shape_at (segment a) at ≡ part p
+pub new_struct : (a : Arena) (at : ℕ) (p : Place) (d q : ℕ) (size : StructSize) → Forest (segment a) at → shape_at (segment a) at ≡ place_words p
     → tree (segment a) at ≡ struct_tree (zero_struct size) → size.data_words ≡ d → size.pointers ≡ q → IsNew d q a p
 new_struct a at p d q size f e t x y =
     new_by_tree a p d q (struct_planted (segment a) at p.start p.data_words p.pointers f e) (struct_is (segment a) at p.start p.data_words p.pointers (zero_struct size) f e t ∙ blank_of d q size x y)
@@ -53,7 +53,7 @@ pub record IsMade (at : ℕ) (t : Tree) (old new : List ℕ) : Type 0 where
   pub changes : Changes at old new
 
 -- a call in the struct that was made
-pub made : {o m n : List ℕ} (at : ℕ) (p : Place) {s : StructTree} → Forest m at → shape_at m at ≡ part p → Changes at o m → Planted n (part p) → PartChanges (part p) m n
+pub made : {o m n : List ℕ} (at : ℕ) (p : Place) {s : StructTree} → Forest m at → shape_at m at ≡ place_words p → Changes at o m → Planted n (place_words p) → PartChanges (place_words p) m n
     → struct_from n p.start p.data_words p.pointers ≡ s → IsMade at (struct_tree s) o n
 made {o} {m} {n} at p f e c g x q =
     let z : IsInStruct m n at p.start p.data_words p.pointers = in_struct m n at p.start p.data_words p.pointers f e g x in

@@ -1,7 +1,7 @@
 -- Records of nodes, brands and enums that were written are read as themselves.
 use Rattle.std.proofs.Common.{◌≡◌, ℕ, ◌^◌, ◌<◌, refl, ap, ◌∙◌, arith, List, ◌++◌, Bool, true, false, Ok}
 use Rattle.std.specs.Prelude.{All, bit_xor}
-use Rattle.capnp_wire.specs.Encoding.{spelled}
+use Rattle.capnp_wire.specs.Encoding.{spelled_number}
 use Rattle.capnp_wire.specs.WellFormed.{AreBytes}
 use Rattle.capnp_wire.specs.Place.{struct_tree}
 use Rattle.capnp_wire.specs.Tree.{Null, Tree}
@@ -15,12 +15,12 @@ use Rattle.capnp_schema.specs.Types.{BoolType}
 use Rattle.capnp_records.specs.Part.{which_of}
 use Rattle.capnp_records.specs.Reading.{number_value, struct_record}
 use Rattle.capnp_records.specs.Record.{Levels, Values, one_less}
-use Rattle.capnp_sets.specs.Fields.{field_of, kind_by, node_of, slot_of}
-use Rattle.capnp_sets.specs.Lists.{brand_of, enum_of, enumerant_of}
-use Rattle.capnp_sets.specs.Parts.{name, number, read_at, read_under, struct, structs, truth}
+use Rattle.capnp_sets.specs.Fields.{field_of, kind_by, node_meant, slot_of}
+use Rattle.capnp_sets.specs.Lists.{brand_of, enum_meant, enumerant_of}
+use Rattle.capnp_sets.specs.Parts.{name, number, meta_read_at, meta_read_under, struct, structs, truth}
 use Rattle.capnp_sets.specs.Types.{type_lists, types}
-use Rattle.capnp_sets.specs.Values.{annotations, value_of}
-use Rattle.capnp_set_writer.specs.Kept.{BrandKept, EnumKept, EnumerantKept, FieldKept, IsName, KindKept, NodeKept, ValueKept}
+use Rattle.capnp_sets.specs.Values.{annotations, value_meant}
+use Rattle.capnp_set_writer.specs.Kept.{BrandKept, EnumKept, EnumerantKept, FieldKept, IsWrittenName, KindKept, NodeKept, ValueKept}
 use Rattle.capnp_set_writer.specs.Trees.{brand_tree, enum_tree, enumerant_tree, field_kind_tree, field_row, field_tree, in_word, node_row, node_tree, value_tree, zeros}
 use Rattle.capnp_set_writer.proofs.Lists.{HasLevel, HasLevels, struct-entered, structs-there}
 use Rattle.capnp_set_writer.proofs.Numbers.{applied, masked-slot, name-read, read_ok, uint-slot}
@@ -34,32 +34,32 @@ module _ (l : Levels) (f : Field) (kind number_of : ℕ) (default : Tree) where
   row = (field_row f kind number_of default).bytes
 
   pub row-bytes : AreBytes row
-  row-bytes = AreBytes-append (spelled 2 (bit_xor f.discriminant_value 65535)) (spelled 2 kind ++ spelled 4 number_of) (AreBytes-spelled 2 (bit_xor f.discriminant_value 65535)) (AreBytes-append (spelled 2 kind) (spelled 4 number_of) (AreBytes-spelled 2 kind) (AreBytes-spelled 4 number_of))
+  row-bytes = AreBytes-append (spelled_number 2 (bit_xor f.discriminant_value 65535)) (spelled_number 2 kind ++ spelled_number 4 number_of) (AreBytes-spelled 2 (bit_xor f.discriminant_value 65535)) (AreBytes-append (spelled_number 2 kind) (spelled_number 4 number_of) (AreBytes-spelled 2 kind) (AreBytes-spelled 4 number_of))
 
-  field-discriminant : f.discriminant_value < 2 ^ 16 → number (read_at 2 0 (struct_record meta l (field_row f kind number_of default) 2)) ≡ Ok f.discriminant_value
-  unfolding read_at
+  field-discriminant : f.discriminant_value < 2 ^ 16 → number (meta_read_at 2 0 (struct_record meta l (field_row f kind number_of default) 2)) ≡ Ok f.discriminant_value
+  unfolding meta_read_at
   field-discriminant h =
       ap read_ok (masked-slot row 2 0 f.discriminant_value 65535 row-bytes (little_endian_spelled 2 (bit_xor f.discriminant_value 65535) (xor-bounded 16 f.discriminant_value 65535 h (omega arith))))
 
-  field-name : IsName f.name → name (read_at 2 1 (struct_record meta l (field_row f kind number_of default) 2)) ≡ Ok f.name
-  unfolding read_at
+  field-name : IsWrittenName f.name → name (meta_read_at 2 1 (struct_record meta l (field_row f kind number_of default) 2)) ≡ Ok f.name
+  unfolding meta_read_at
   field-name h = name-read f.name h.utf8
 
-  field-annotations : HasLevels 3 l → FieldKept f → annotations (read_at 2 2 (struct_record meta l (field_row f kind number_of default) 2)) ≡ Ok f.annotations
-  unfolding read_at
+  field-annotations : HasLevels 3 l → FieldKept f → annotations (meta_read_at 2 2 (struct_record meta l (field_row f kind number_of default) 2)) ≡ Ok f.annotations
+  unfolding meta_read_at
   field-annotations e k = annotations-there l e f.annotations k.annotations (ListValue zero_word)
 
 slot-kind : (l : Levels) (f : Field) (offset : ℕ) (default : Value) → HasLevel l → offset < 2 ^ 32 → ValueKept default →
     kind_by (which_of (struct_record meta l (field_kind_tree f (Slot offset default)) 2)) (struct_record meta l (field_kind_tree f (Slot offset default)) 2) ≡ Ok (Slot offset default)
-unfolding kind_by slot_of read_at
+unfolding kind_by slot_of meta_read_at
 slot-kind l f offset default e h k =
     let bytes : List ℕ = (field_kind_tree f (Slot offset default)).bytes in
     applied (applied refl (ap read_ok (uint-slot bytes 4 1 offset (row-bytes l f 0 offset (struct_tree (value_tree default))) (little_endian_spelled 4 offset h))))
-    (ap (λ v. struct value_of (read_under (field_at meta 3 1) v)) (struct-entered l (value_tree default) 5 e) ∙ value-read (one_less l) default k)
+    (ap (λ v. struct value_meant (meta_read_under (field_at meta 3 1) v)) (struct-entered l (value_tree default) 5 e) ∙ value-read (one_less l) default k)
 
 group-kind : (l : Levels) (f : Field) (node : ℕ) → node < 2 ^ 32 →
     kind_by (which_of (struct_record meta l (field_kind_tree f (Group node)) 2)) (struct_record meta l (field_kind_tree f (Group node)) 2) ≡ Ok (Group node)
-unfolding kind_by read_at
+unfolding kind_by meta_read_at
 group-kind l f node h =
     let bytes : List ℕ = (field_kind_tree f (Group node)).bytes in
     applied refl (ap read_ok (uint-slot bytes 4 1 node (row-bytes l f 1 node Null) (little_endian_spelled 4 node h)))
@@ -90,51 +90,51 @@ module _ (l : Levels) (n : Node) where
 
   pub numbers-bytes : AreBytes numbers
   numbers-bytes =
-      AreBytes-append (spelled 8 n.id) (spelled 2 n.data_word_count ++ (spelled 2 n.pointer_count ++ (spelled 2 n.discriminant_count ++ (spelled 1 (bit_number n.is_group) ++ (zeros 1 ++ (in_word 4 n.discriminant_offset)))))) (AreBytes-spelled 8 n.id)
-      (AreBytes-append (spelled 2 n.data_word_count) (spelled 2 n.pointer_count ++ (spelled 2 n.discriminant_count ++ (spelled 1 (bit_number n.is_group) ++ (zeros 1 ++ (in_word 4 n.discriminant_offset))))) (AreBytes-spelled 2 n.data_word_count)
-      (AreBytes-append (spelled 2 n.pointer_count) (spelled 2 n.discriminant_count ++ (spelled 1 (bit_number n.is_group) ++ (zeros 1 ++ (in_word 4 n.discriminant_offset)))) (AreBytes-spelled 2 n.pointer_count)
-      (AreBytes-append (spelled 2 n.discriminant_count) (spelled 1 (bit_number n.is_group) ++ (zeros 1 ++ (in_word 4 n.discriminant_offset))) (AreBytes-spelled 2 n.discriminant_count)
-      (AreBytes-append (spelled 1 (bit_number n.is_group)) (zeros 1 ++ (in_word 4 n.discriminant_offset)) (AreBytes-spelled 1 (bit_number n.is_group))
+      AreBytes-append (spelled_number 8 n.id) (spelled_number 2 n.data_word_count ++ (spelled_number 2 n.pointer_count ++ (spelled_number 2 n.discriminant_count ++ (spelled_number 1 (bit_number n.is_group) ++ (zeros 1 ++ (in_word 4 n.discriminant_offset)))))) (AreBytes-spelled 8 n.id)
+      (AreBytes-append (spelled_number 2 n.data_word_count) (spelled_number 2 n.pointer_count ++ (spelled_number 2 n.discriminant_count ++ (spelled_number 1 (bit_number n.is_group) ++ (zeros 1 ++ (in_word 4 n.discriminant_offset))))) (AreBytes-spelled 2 n.data_word_count)
+      (AreBytes-append (spelled_number 2 n.pointer_count) (spelled_number 2 n.discriminant_count ++ (spelled_number 1 (bit_number n.is_group) ++ (zeros 1 ++ (in_word 4 n.discriminant_offset)))) (AreBytes-spelled 2 n.pointer_count)
+      (AreBytes-append (spelled_number 2 n.discriminant_count) (spelled_number 1 (bit_number n.is_group) ++ (zeros 1 ++ (in_word 4 n.discriminant_offset))) (AreBytes-spelled 2 n.discriminant_count)
+      (AreBytes-append (spelled_number 1 (bit_number n.is_group)) (zeros 1 ++ (in_word 4 n.discriminant_offset)) (AreBytes-spelled 1 (bit_number n.is_group))
       (AreBytes-append (zeros 1) (in_word 4 n.discriminant_offset) (AreBytes-zeros 1) (AreBytes-word 4 n.discriminant_offset))))))
 
-  node-id : n.id < 2 ^ 64 → number (read_at 1 0 (struct_record meta l (node_tree n) 1)) ≡ Ok n.id
-  unfolding read_at
+  node-id : n.id < 2 ^ 64 → number (meta_read_at 1 0 (struct_record meta l (node_tree n) 1)) ≡ Ok n.id
+  unfolding meta_read_at
   node-id h = ap read_ok (uint-slot numbers 8 0 n.id numbers-bytes (little_endian_spelled 8 n.id h))
 
-  node-words : n.data_word_count < 2 ^ 16 → number (read_at 1 1 (struct_record meta l (node_tree n) 1)) ≡ Ok n.data_word_count
-  unfolding read_at
+  node-words : n.data_word_count < 2 ^ 16 → number (meta_read_at 1 1 (struct_record meta l (node_tree n) 1)) ≡ Ok n.data_word_count
+  unfolding meta_read_at
   node-words h = ap read_ok (uint-slot numbers 2 4 n.data_word_count numbers-bytes (little_endian_spelled 2 n.data_word_count h))
 
-  node-pointers : n.pointer_count < 2 ^ 16 → number (read_at 1 2 (struct_record meta l (node_tree n) 1)) ≡ Ok n.pointer_count
-  unfolding read_at
+  node-pointers : n.pointer_count < 2 ^ 16 → number (meta_read_at 1 2 (struct_record meta l (node_tree n) 1)) ≡ Ok n.pointer_count
+  unfolding meta_read_at
   node-pointers h = ap read_ok (uint-slot numbers 2 5 n.pointer_count numbers-bytes (little_endian_spelled 2 n.pointer_count h))
 
-  node-count : n.discriminant_count < 2 ^ 16 → number (read_at 1 3 (struct_record meta l (node_tree n) 1)) ≡ Ok n.discriminant_count
-  unfolding read_at
+  node-count : n.discriminant_count < 2 ^ 16 → number (meta_read_at 1 3 (struct_record meta l (node_tree n) 1)) ≡ Ok n.discriminant_count
+  unfolding meta_read_at
   node-count h = ap read_ok (uint-slot numbers 2 6 n.discriminant_count numbers-bytes (little_endian_spelled 2 n.discriminant_count h))
 
-  node-group : truth (read_at 1 4 (struct_record meta l (node_tree n) 1)) ≡ Ok n.is_group
-  unfolding read_at
+  node-group : truth (meta_read_at 1 4 (struct_record meta l (node_tree n) 1)) ≡ Ok n.is_group
+  unfolding meta_read_at
   node-group = flag-read n.id n.data_word_count n.pointer_count n.discriminant_count n.discriminant_offset n.is_group
 
-  node-offset : n.discriminant_offset < 2 ^ 32 → number (read_at 1 5 (struct_record meta l (node_tree n) 1)) ≡ Ok n.discriminant_offset
-  unfolding read_at
+  node-offset : n.discriminant_offset < 2 ^ 32 → number (meta_read_at 1 5 (struct_record meta l (node_tree n) 1)) ≡ Ok n.discriminant_offset
+  unfolding meta_read_at
   node-offset h = ap read_ok (uint-slot numbers 4 4 n.discriminant_offset numbers-bytes (little_endian_spelled 4 n.discriminant_offset h))
 
-  node-name : IsName n.display_name → name (read_at 1 6 (struct_record meta l (node_tree n) 1)) ≡ Ok n.display_name
-  unfolding read_at
+  node-name : IsWrittenName n.display_name → name (meta_read_at 1 6 (struct_record meta l (node_tree n) 1)) ≡ Ok n.display_name
+  unfolding meta_read_at
   node-name h = name-read n.display_name h.utf8
 
-  node-annotations : HasLevels 5 l → NodeKept n → annotations (read_at 1 7 (struct_record meta l (node_tree n) 1)) ≡ Ok n.annotations
-  unfolding read_at
+  node-annotations : HasLevels 5 l → NodeKept n → annotations (meta_read_at 1 7 (struct_record meta l (node_tree n) 1)) ≡ Ok n.annotations
+  unfolding meta_read_at
   node-annotations e k = annotations-there l (e.0, (e.1.0, (e.1.1.0, tt))) n.annotations k.annotations (ListValue zero_word)
 
-  node-fields : HasLevels 5 l → NodeKept n → structs 2 field_of (read_at 1 8 (struct_record meta l (node_tree n) 1)) ≡ Ok n.fields
-  unfolding read_at
+  node-fields : HasLevels 5 l → NodeKept n → structs 2 field_of (meta_read_at 1 8 (struct_record meta l (node_tree n) 1)) ≡ Ok n.fields
+  unfolding meta_read_at
   node-fields e k = structs-there 2 1 3 field_of field_tree FieldKept l e.0 e.1.0 (field-read (one_less (one_less l)) e.1.1) n.fields k.fields (ListValue zero_word)
 
-pub node-read : (l : Levels) → HasLevels 5 l → (n : Node) → NodeKept n → node_of (struct_record meta l (node_tree n) 1) ≡ Ok n
-unfolding node_of
+pub node-read : (l : Levels) → HasLevels 5 l → (n : Node) → NodeKept n → node_meant (struct_record meta l (node_tree n) 1) ≡ Ok n
+unfolding node_meant
 node-read l e n k =
     let first = applied (applied (applied refl (node-id l n k.sections.id)) (node-words l n k.sections.data_words)) (node-pointers l n k.sections.pointers) in
     let second = applied (applied (applied first (node-count l n k.sections.discriminant_count)) (node-group l n)) (node-offset l n k.sections.discriminant_offset) in
@@ -142,12 +142,12 @@ node-read l e n k =
 
 -- ---- enums ----
 
-enumerant-name : (l : Levels) (x : Enumerant) → IsName x.name → name (read_at 9 0 (struct_record meta l (enumerant_tree x) 9)) ≡ Ok x.name
-unfolding read_at
+enumerant-name : (l : Levels) (x : Enumerant) → IsWrittenName x.name → name (meta_read_at 9 0 (struct_record meta l (enumerant_tree x) 9)) ≡ Ok x.name
+unfolding meta_read_at
 enumerant-name l x h = name-read x.name h.utf8
 
-enumerant-annotations : (l : Levels) (x : Enumerant) → HasLevels 3 l → EnumerantKept x → annotations (read_at 9 1 (struct_record meta l (enumerant_tree x) 9)) ≡ Ok x.annotations
-unfolding read_at
+enumerant-annotations : (l : Levels) (x : Enumerant) → HasLevels 3 l → EnumerantKept x → annotations (meta_read_at 9 1 (struct_record meta l (enumerant_tree x) 9)) ≡ Ok x.annotations
+unfolding meta_read_at
 enumerant-annotations l x e k = annotations-there l e x.annotations k.annotations (ListValue zero_word)
 
 pub enumerant-read : (l : Levels) → HasLevels 3 l → (x : Enumerant) → EnumerantKept x → enumerant_of (struct_record meta l (enumerant_tree x) 9) ≡ Ok x
@@ -167,32 +167,32 @@ pub record EnumRead (brands : Values) (x : Enum) : Type 0 where
   pub children : All (All (IsTypeRead brands)) x.annotation_types.children
 
 module _ (brands : Values) (l : Levels) (x : Enum) where
-  enum-id : x.id < 2 ^ 64 → number (read_at 8 0 (struct_record meta l (enum_tree x) 8)) ≡ Ok x.id
-  unfolding read_at
-  enum-id h = ap read_ok (uint-slot (spelled 8 x.id) 8 0 x.id (AreBytes-spelled 8 x.id) (little_endian_spelled 8 x.id h))
+  enum-id : x.id < 2 ^ 64 → number (meta_read_at 8 0 (struct_record meta l (enum_tree x) 8)) ≡ Ok x.id
+  unfolding meta_read_at
+  enum-id h = ap read_ok (uint-slot (spelled_number 8 x.id) 8 0 x.id (AreBytes-spelled 8 x.id) (little_endian_spelled 8 x.id h))
 
-  enum-name : IsName x.display_name → name (read_at 8 1 (struct_record meta l (enum_tree x) 8)) ≡ Ok x.display_name
-  unfolding read_at
+  enum-name : IsWrittenName x.display_name → name (meta_read_at 8 1 (struct_record meta l (enum_tree x) 8)) ≡ Ok x.display_name
+  unfolding meta_read_at
   enum-name h = name-read x.display_name h.utf8
 
-  enum-annotations : HasLevels 3 l → EnumKept x → annotations (read_at 8 2 (struct_record meta l (enum_tree x) 8)) ≡ Ok x.annotations
-  unfolding read_at
+  enum-annotations : HasLevels 3 l → EnumKept x → annotations (meta_read_at 8 2 (struct_record meta l (enum_tree x) 8)) ≡ Ok x.annotations
+  unfolding meta_read_at
   enum-annotations e k = annotations-there l e x.annotations k.annotations (ListValue zero_word)
 
-  enum-enumerants : HasLevels 5 l → EnumKept x → structs 9 enumerant_of (read_at 8 3 (struct_record meta l (enum_tree x) 8)) ≡ Ok x.enumerants
-  unfolding read_at
+  enum-enumerants : HasLevels 5 l → EnumKept x → structs 9 enumerant_of (meta_read_at 8 3 (struct_record meta l (enum_tree x) 8)) ≡ Ok x.enumerants
+  unfolding meta_read_at
   enum-enumerants e k = structs-there 9 0 2 enumerant_of enumerant_tree EnumerantKept l e.0 e.1.0 (enumerant-read (one_less (one_less l)) e.1.1) x.enumerants k.enumerants (ListValue zero_word)
 
-  enum-own : HasLevels 2 l → EnumRead brands x → types brands (read_at 8 4 (struct_record meta l (enum_tree x) 8)) ≡ Ok x.annotation_types.own
-  unfolding read_at
+  enum-own : HasLevels 2 l → EnumRead brands x → types brands (meta_read_at 8 4 (struct_record meta l (enum_tree x) 8)) ≡ Ok x.annotation_types.own
+  unfolding meta_read_at
   enum-own e k = types-there brands l e x.annotation_types.own k.own (ListValue zero_word)
 
-  enum-children : HasLevels 3 l → EnumRead brands x → type_lists brands (read_at 8 5 (struct_record meta l (enum_tree x) 8)) ≡ Ok x.annotation_types.children
-  unfolding read_at
+  enum-children : HasLevels 3 l → EnumRead brands x → type_lists brands (meta_read_at 8 5 (struct_record meta l (enum_tree x) 8)) ≡ Ok x.annotation_types.children
+  unfolding meta_read_at
   enum-children e k = type_lists-there brands l e x.annotation_types.children k.children (ListValue zero_word)
 
-pub enum-read : (brands : Values) (l : Levels) → HasLevels 5 l → (x : Enum) → EnumRead brands x → enum_of brands (struct_record meta l (enum_tree x) 8) ≡ Ok x
-unfolding enum_of
+pub enum-read : (brands : Values) (l : Levels) → HasLevels 5 l → (x : Enum) → EnumRead brands x → enum_meant brands (struct_record meta l (enum_tree x) 8) ≡ Ok x
+unfolding enum_meant
 enum-read brands l e x k =
     let three : HasLevels 3 l = (e.0, (e.1.0, (e.1.1.0, tt))) in
     let first = applied (applied (applied refl (enum-id brands l x k.kept.id)) (enum-name brands l x k.kept.name)) (enum-annotations brands l x three k.kept) in
@@ -200,21 +200,21 @@ enum-read brands l e x k =
 
 -- ---- brands ----
 
-pub brand-node : (l : Levels) (b : Brand) → b.node < 2 ^ 32 → number (read_at 6 0 (struct_record meta l (brand_tree b) 6)) ≡ Ok b.node
-unfolding read_at
+pub brand-node : (l : Levels) (b : Brand) → b.node < 2 ^ 32 → number (meta_read_at 6 0 (struct_record meta l (brand_tree b) 6)) ≡ Ok b.node
+unfolding meta_read_at
 brand-node l b h = ap read_ok (uint-slot (in_word 4 b.node) 4 0 b.node (AreBytes-word 4 b.node) (little_endian_spelled 4 b.node h))
 
 module _ (brands : Values) (l : Levels) (b : Brand) where
-  brand-fields : HasLevels 2 l → BrandRead brands b → types brands (read_at 6 1 (struct_record meta l (brand_tree b) 6)) ≡ Ok b.field_types
-  unfolding read_at
+  brand-fields : HasLevels 2 l → BrandRead brands b → types brands (meta_read_at 6 1 (struct_record meta l (brand_tree b) 6)) ≡ Ok b.field_types
+  unfolding meta_read_at
   brand-fields e k = types-there brands l e b.field_types k.field_types (ListValue zero_word)
 
-  brand-own : HasLevels 2 l → BrandRead brands b → types brands (read_at 6 2 (struct_record meta l (brand_tree b) 6)) ≡ Ok b.annotation_types.own
-  unfolding read_at
+  brand-own : HasLevels 2 l → BrandRead brands b → types brands (meta_read_at 6 2 (struct_record meta l (brand_tree b) 6)) ≡ Ok b.annotation_types.own
+  unfolding meta_read_at
   brand-own e k = types-there brands l e b.annotation_types.own k.own (ListValue zero_word)
 
-  brand-children : HasLevels 3 l → BrandRead brands b → type_lists brands (read_at 6 3 (struct_record meta l (brand_tree b) 6)) ≡ Ok b.annotation_types.children
-  unfolding read_at
+  brand-children : HasLevels 3 l → BrandRead brands b → type_lists brands (meta_read_at 6 3 (struct_record meta l (brand_tree b) 6)) ≡ Ok b.annotation_types.children
+  unfolding meta_read_at
   brand-children e k = type_lists-there brands l e b.annotation_types.children k.children (ListValue zero_word)
 
 pub brand-read : (brands : Values) (l : Levels) → HasLevels 3 l → (b : Brand) → BrandRead brands b → brand_of brands (struct_record meta l (brand_tree b) 6) ≡ Ok b

@@ -13,11 +13,11 @@ use Rattle.capnp_schema.specs.Meta.{meta}
 use Rattle.capnp_schema.specs.Schema.{Schemas, ListValue}
 use Rattle.capnp_records.specs.Reading.{struct_record}
 use Rattle.capnp_records.specs.Record.{Left}
-use Rattle.capnp_sets.specs.Fields.{node_of}
-use Rattle.capnp_sets.specs.Lists.{brand_of, enum_of, read_or_none, set_of}
-use Rattle.capnp_sets.specs.Parts.{read_at, structs}
+use Rattle.capnp_sets.specs.Fields.{node_meant}
+use Rattle.capnp_sets.specs.Lists.{brand_of, enum_meant, read_or_none, set_meant}
+use Rattle.capnp_sets.specs.Parts.{meta_read_at, structs}
 use Rattle.capnp_set_writer.specs.Kept.{NodeKept, SetKept}
-use Rattle.capnp_set_writer.specs.Limits.{message_words}
+use Rattle.capnp_set_writer.specs.Limits.{set_message_words}
 use Rattle.capnp_set_writer.specs.Message.{IsReadAsSet}
 use Rattle.capnp_sets.specs.Message.{root_set, root_struct}
 use Rattle.capnp_set_writer.specs.Trees.{brand_tree, enum_tree, node_tree, set_tree}
@@ -28,20 +28,20 @@ use Rattle.capnp_set_writer.proofs.Numbers.{applied}
 use Rattle.capnp_set_writer.proofs.Records.{BrandRead, EnumRead, brand-read, enum-read, node-read}
 
 module _ (s : Schemas) where
-  nodes-there : All NodeKept s.nodes → structs 1 node_of (read_at 0 0 (struct_record meta (Left 63) (set_tree s) 0)) ≡ Ok s.nodes
-  unfolding read_at
-  nodes-there k = structs-there 1 3 3 node_of node_tree NodeKept (Left 63) refl refl (node-read (Left 61) (refl, (refl, (refl, (refl, (refl, tt)))))) s.nodes k (ListValue zero_word)
+  nodes-there : All NodeKept s.nodes → structs 1 node_meant (meta_read_at 0 0 (struct_record meta (Left 63) (set_tree s) 0)) ≡ Ok s.nodes
+  unfolding meta_read_at
+  nodes-there k = structs-there 1 3 3 node_meant node_tree NodeKept (Left 63) refl refl (node-read (Left 61) (refl, (refl, (refl, (refl, (refl, tt)))))) s.nodes k (ListValue zero_word)
 
-  brands-there : All (BrandRead (brand_values s.brands)) s.brands → structs 6 (brand_of (brand_values s.brands)) (read_at 0 1 (struct_record meta (Left 63) (set_tree s) 0)) ≡ Ok s.brands
-  unfolding read_at
+  brands-there : All (BrandRead (brand_values s.brands)) s.brands → structs 6 (brand_of (brand_values s.brands)) (meta_read_at 0 1 (struct_record meta (Left 63) (set_tree s) 0)) ≡ Ok s.brands
+  unfolding meta_read_at
   brands-there k = structs-there 6 1 3 (brand_of (brand_values s.brands)) brand_tree (BrandRead (brand_values s.brands)) (Left 63) refl refl (brand-read (brand_values s.brands) (Left 61) (refl, (refl, (refl, tt)))) s.brands k (ListValue zero_word)
 
-  enums-there : All (EnumRead (brand_values s.brands)) s.enums → structs 8 (enum_of (brand_values s.brands)) (read_at 0 2 (struct_record meta (Left 63) (set_tree s) 0)) ≡ Ok s.enums
-  unfolding read_at
-  enums-there k = structs-there 8 1 5 (enum_of (brand_values s.brands)) enum_tree (EnumRead (brand_values s.brands)) (Left 63) refl refl (enum-read (brand_values s.brands) (Left 61) (refl, (refl, (refl, (refl, (refl, tt)))))) s.enums k (ListValue zero_word)
+  enums-there : All (EnumRead (brand_values s.brands)) s.enums → structs 8 (enum_meant (brand_values s.brands)) (meta_read_at 0 2 (struct_record meta (Left 63) (set_tree s) 0)) ≡ Ok s.enums
+  unfolding meta_read_at
+  enums-there k = structs-there 8 1 5 (enum_meant (brand_values s.brands)) enum_tree (EnumRead (brand_values s.brands)) (Left 63) refl refl (enum-read (brand_values s.brands) (Left 61) (refl, (refl, (refl, (refl, (refl, tt)))))) s.enums k (ListValue zero_word)
 
-  pub set-read : IsAccepted s → SetKept s → set_of (struct_record meta (Left 63) (set_tree s) 0) ≡ Ok s
-  unfolding set_of read_at
+  pub set-read : IsAccepted s → SetKept s → set_meant (struct_record meta (Left 63) (set_tree s) 0) ≡ Ok s
+  unfolding set_meant meta_read_at
   set-read accepted k =
       applied (applied (applied refl (nodes-there k.nodes)) (brands-there (brands-named s accepted k.brands))) (enums-there (enums-named s accepted k.brands k.enums))
 
@@ -51,5 +51,5 @@ module _ (s : Schemas) where
       ∙ (ap (λ (x : Tree). root_set (root_struct (Ok x))) e ∙ ap read_or_none (set-read accepted k))
 
   -- the words of the message, by its tree
-  pub message-small : (t : Tree) → t ≡ struct_tree (set_tree s) → IsWellFormed t × (suc (words_of t) < 2 ^ 29) → message_words s < 2 ^ 29
+  pub message-small : (t : Tree) → t ≡ struct_tree (set_tree s) → IsWellFormed t × (suc (words_of t) < 2 ^ 29) → set_message_words s < 2 ^ 29
   message-small t e held = subst (λ (x : Tree). suc (words_of x) < 2 ^ 29) e held.1

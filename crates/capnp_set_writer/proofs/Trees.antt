@@ -12,8 +12,8 @@ use Rattle.capnp_wire.specs.Elements.{HasPointer, HasStruct, with_pointer_elemen
 use Rattle.capnp_wire.specs.Reading.{element_struct}
 use Rattle.capnp_wire.specs.declared.size.StructSize.{StructSize}
 use Rattle.capnp_set_writer.specs.Limits.{ListFits}
-use Rattle.capnp_set_writer.specs.Trees.{struct_list, structs_of, trees_of, zeros}
-use Rattle.capnp_set_writer.specs.Writes.{IsPartRefusal, IsWriteRefusal, blank, filled, filled_trees}
+use Rattle.capnp_set_writer.specs.Trees.{struct_list_tree, structs_of, trees_of, zeros}
+use Rattle.capnp_set_writer.specs.Writes.{IsPartWriteRefusal, IsWriteRefusal, blank, filled_rows, filled_trees}
 
 pub on_ok : {A E : Type 0} {P Q : Type 0} (r : Result A E) → (P → Q) → OnOk r P → OnOk r Q
 on_ok (Ok a) f p = f p
@@ -36,7 +36,7 @@ if_err (Ok a) f p = p
 if_err (Err e) f p = f e p
 
 -- what refuses a part refuses what it is a part of
-pub refused-up : {K K' F F' : Type 0} (kind : ErrorKind) → IsPartRefusal K F kind → (K' → K) → (F' → F) → IsPartRefusal K' F' kind
+pub refused-up : {K K' F F' : Type 0} (kind : ErrorKind) → IsPartWriteRefusal K F kind → (K' → K) → (F' → F) → IsPartWriteRefusal K' F' kind
 refused-up kind h f g = (h.0, (λ unknown k. h.1 unknown (f k)), (λ past k. h.2 past (g k)))
 
 pub no-memory : (kind : ErrorKind) → kind ≡ OutOfMemory → kind ≡ UnknownKind → ⊥
@@ -49,11 +49,11 @@ no-size : (kind : ErrorKind) → kind ≡ SizePastFormat → kind ≡ UnknownKin
 no-size kind a b = cc
 
 -- what doesn't fit
-pub size-refused : {K F : Type 0} (kind : ErrorKind) → kind ≡ SizePastFormat → (F → ⊥) → IsPartRefusal K F kind
+pub size-refused : {K F : Type 0} (kind : ErrorKind) → kind ≡ SizePastFormat → (F → ⊥) → IsPartWriteRefusal K F kind
 size-refused kind e unfit = ((λ memory size. absurd (size e)), (λ unknown k. no-size kind e unknown), (λ past k. unfit k))
 
 -- what there is no room for
-pub room-part-refused : {K F : Type 0} (e : Error) (past : Type 0) → IsRoomRefusal e past → (past → F → ⊥) → IsPartRefusal K F e.kind
+pub room-part-refused : {K F : Type 0} (e : Error) (past : Type 0) → IsRoomRefusal e past → (past → F → ⊥) → IsPartWriteRefusal K F e.kind
 room-part-refused e past h unfit = (
   room-refused e past h,
   (λ unknown k. no-memory e.kind (h.0 (λ size. no-size e.kind size unknown)) unknown),
@@ -105,31 +105,31 @@ if_ok (Err e) f p = p
 -- ---- rows of structs ----
 
 module _ (z : StructTree) where
-  pub filled-none : (ss : List StructTree) (first : ℕ) → structs_from (λ _. z) first (length ss) ≡ filled z ss 0
+  pub filled-none : (ss : List StructTree) (first : ℕ) → structs_from (λ _. z) first (length ss) ≡ filled_rows z ss 0
   filled-none [] first = refl
   filled-none (s ∷ ss) first = ap (MoreStructs z.bytes z.pointers) (filled-none ss (suc first))
 
-  pub filled-all : (ss : List StructTree) → filled z ss (length ss) ≡ structs_of ss
+  pub filled-all : (ss : List StructTree) → filled_rows z ss (length ss) ≡ structs_of ss
   filled-all [] = refl
   filled-all (s ∷ ss) = ap (MoreStructs s.bytes s.pointers) (filled-all ss)
 
-  pub filled-count : (ss : List StructTree) (i : ℕ) → struct_count (filled z ss i) ≡ length ss
+  pub filled-count : (ss : List StructTree) (i : ℕ) → struct_count (filled_rows z ss i) ≡ length ss
   filled-count [] i = refl
   filled-count (s ∷ ss) zero = ap suc (filled-count ss 0)
   filled-count (s ∷ ss) (suc i) = ap suc (filled-count ss i)
 
-  pub filled-next : (ss : List StructTree) (i : ℕ) → i < length ss → nth_struct (filled z ss i) i ≡ z
+  pub filled-next : (ss : List StructTree) (i : ℕ) → i < length ss → nth_struct (filled_rows z ss i) i ≡ z
   filled-next [] i h = absurd (omega arith)
   filled-next (s ∷ ss) zero h = refl
   filled-next (s ∷ ss) (suc i) h = filled-next ss i (omega (arith, h))
 
-  pub filled-more : (ss : List StructTree) (i : ℕ) (d : StructTree) → i < length ss → with_struct (filled z ss i) i (get_or ss i d) ≡ filled z ss (suc i)
+  pub filled-more : (ss : List StructTree) (i : ℕ) (d : StructTree) → i < length ss → with_struct (filled_rows z ss i) i (get_or ss i d) ≡ filled_rows z ss (suc i)
   filled-more [] i d h = absurd (omega arith)
   filled-more (s ∷ ss) zero d h = refl
   filled-more (s ∷ ss) (suc i) d h = ap (MoreStructs s.bytes s.pointers) (filled-more ss i d (omega (arith, h)))
 
 -- a new list of structs
-pub new-filled : (d p : ℕ) (size : StructSize) (count : ℕ) (ss : List StructTree) (t : Tree) → size.data_words ≡ d → size.pointers ≡ p → count ≡ length ss → t ≡ zero_structs size count → t ≡ Composite d p (filled (blank d p) ss 0)
+pub new-filled : (d p : ℕ) (size : StructSize) (count : ℕ) (ss : List StructTree) (t : Tree) → size.data_words ≡ d → size.pointers ≡ p → count ≡ length ss → t ≡ zero_structs size count → t ≡ Composite d p (filled_rows (blank d p) ss 0)
 new-filled d p size count ss t a b n e =
     e ∙ (ap (λ k. Composite size.data_words size.pointers (structs_from (λ _. zero_struct size) 0 k)) n
     ∙ (ap (λ k. Composite k size.pointers (structs_from (λ _. record { bytes = zeros (8 * k); pointers = nulls size.pointers }) 0 (length ss))) a
@@ -148,26 +148,26 @@ module _ {P S : Type 0} (tree_of : S → StructTree) (seen : P → S) (d p : ℕ
   enough : i < length trees
   enough = omega (arith, inside, length-map (map seen parts) tree_of, length-map parts seen)
 
-  module _ (filled-so : old ≡ Composite d p (filled (blank d p) trees i)) where
+  module _ (filled-so : old ≡ Composite d p (filled_rows (blank d p) trees i)) where
     pub element-there : HasStruct old i
     element-there = subst (λ t. HasStruct t i) (sym filled-so) (omega (arith, enough, filled-count (blank d p) trees i))
 
     pub element-blank : element_struct old i ≡ blank d p
     element-blank = ap (λ t. element_struct t i) filled-so ∙ filled-next (blank d p) trees i enough
 
-    pub element-filled : (part : P) (new : Tree) → part ≡ get_or parts i part → new ≡ with_struct_element i (tree_of (seen part)) old → new ≡ Composite d p (filled (blank d p) trees (i + 1))
+    pub element-filled : (part : P) (new : Tree) → part ≡ get_or parts i part → new ≡ with_struct_element i (tree_of (seen part)) old → new ≡ Composite d p (filled_rows (blank d p) trees (i + 1))
     element-filled part new is e =
         let here : get_or trees i (tree_of (seen part)) ≡ tree_of (seen part) = map-at tree_of (map seen parts) i (seen part) ∙ (ap tree_of (map-at seen parts i part) ∙ ap (λ q. tree_of (seen q)) (sym is)) in
         let one : suc i ≡ i + 1 = omega arith in
         e ∙ (ap (with_struct_element i (tree_of (seen part))) filled-so
-        ∙ (ap (λ s. Composite d p (with_struct (filled (blank d p) trees i) i s)) (sym here)
-        ∙ (ap (Composite d p) (filled-more (blank d p) trees i (tree_of (seen part)) enough) ∙ ap (λ k. Composite d p (filled (blank d p) trees k)) one)))
+        ∙ (ap (λ s. Composite d p (with_struct (filled_rows (blank d p) trees i) i s)) (sym here)
+        ∙ (ap (Composite d p) (filled-more (blank d p) trees i (tree_of (seen part)) enough) ∙ ap (λ k. Composite d p (filled_rows (blank d p) trees k)) one)))
 
 -- once the last is filled
-pub whole-filled : {P S : Type 0} (tree_of : S → StructTree) (seen : P → S) (d p : ℕ) (parts : List P) (i : ℕ) (t : Tree) → i ≡ length parts → t ≡ Composite d p (filled (blank d p) (map tree_of (map seen parts)) i) → t ≡ struct_list d p (map tree_of (map seen parts))
+pub whole-filled : {P S : Type 0} (tree_of : S → StructTree) (seen : P → S) (d p : ℕ) (parts : List P) (i : ℕ) (t : Tree) → i ≡ length parts → t ≡ Composite d p (filled_rows (blank d p) (map tree_of (map seen parts)) i) → t ≡ struct_list_tree d p (map tree_of (map seen parts))
 whole-filled tree_of seen d p parts i t last e =
     let all : i ≡ length (map tree_of (map seen parts)) = omega (arith, last, length-map (map seen parts) tree_of, length-map parts seen) in
-    e ∙ (ap (λ k. Composite d p (filled (blank d p) (map tree_of (map seen parts)) k)) all ∙ ap (Composite d p) (filled-all (blank d p) (map tree_of (map seen parts))))
+    e ∙ (ap (λ k. Composite d p (filled_rows (blank d p) (map tree_of (map seen parts)) k)) all ∙ ap (Composite d p) (filled-all (blank d p) (map tree_of (map seen parts))))
 
 -- one more of a row is kept
 pub kept-more : {P S : Type 0} (Kept : S → Type 0) (seen : P → S) (parts : List P) (i : ℕ) (part : P) → i < length parts → part ≡ get_or parts i part → Kept (seen part) →

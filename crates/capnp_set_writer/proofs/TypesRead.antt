@@ -1,19 +1,19 @@
 -- Types that were written are read as themselves.
 use Rattle.std.proofs.Common.{◌≡◌, ℕ, ◌+◌, ◌^◌, ◌<◌, refl, ap, ◌∙◌, arith, List, ◌++◌, Ok}
 use Rattle.std.specs.Prelude.{All, ⊤}
-use Rattle.capnp_wire.specs.Encoding.{spelled}
+use Rattle.capnp_wire.specs.Encoding.{spelled_number}
 use Rattle.capnp_wire.specs.WellFormed.{AreBytes}
 use Rattle.capnp_wire.specs.Facts.Bytes.{AreBytes-append, AreBytes-spelled, little_endian_spelled}
-use Rattle.capnp_schema.specs.Meta.{meta, many}
+use Rattle.capnp_schema.specs.Meta.{meta, meta_structs}
 use Rattle.capnp_schema.specs.Ranges.{HasWidths}
 use Rattle.capnp_schema.specs.Schema.{Value as SchemaValue}
 use Rattle.capnp_schema.specs.Types.{SchemaType, VoidType, BoolType, IntType, UIntType, EnumType, TextType, DataType, StructType, ListType, AnyPointerType, lists_of}
 use Rattle.capnp_records.specs.Default.{read_of}
 use Rattle.capnp_records.specs.Reading.{struct_record, value_of}
 use Rattle.capnp_records.specs.Record.{Levels, Values, one_less}
-use Rattle.capnp_sets.specs.Causes.{Read, flat}
-use Rattle.capnp_sets.specs.Parts.{number, read_at}
-use Rattle.capnp_sets.specs.Types.{base_type, generic_in, type_lists, type_of, types}
+use Rattle.capnp_sets.specs.Causes.{SetRead, flat}
+use Rattle.capnp_sets.specs.Parts.{number, meta_read_at}
+use Rattle.capnp_sets.specs.Types.{base_type_meant, generic_in, type_lists, type_meant, types}
 use Rattle.capnp_set_writer.specs.Kept.{TypeKept}
 use Rattle.capnp_set_writer.proofs.Widths.{by-width}
 use Rattle.capnp_set_writer.specs.Trees.{base_number, list_count, named_number, type_lists_tree, type_row, type_tree, types_tree, width_place}
@@ -58,7 +58,7 @@ base-small (StructType number generic) h = omega arith
 base-small (ListType element) h = base-small element h
 base-small AnyPointerType h = omega arith
 
-flat-ok : {A : Type 0} {x : Read (Read A)} {y : Read A} → x ≡ Ok y → flat x ≡ y
+flat-ok : {A : Type 0} {x : SetRead (SetRead A)} {y : SetRead A} → x ≡ Ok y → flat x ≡ y
 unfolding flat
 flat-ok {y = y} e = ap flat e
 
@@ -75,12 +75,12 @@ IsNamed brands (StructType number generic) = generic_in brands number ≡ Ok gen
 IsNamed brands (ListType element) = IsNamed brands element
 IsNamed brands AnyPointerType = ⊤
 
-base-read : (brands : Values) (t : SchemaType) → HasWidths t → IsNamed brands t → base_type brands (base_number t) (named_number t) ≡ Ok (inner t)
-unfolding base_type
+base-read : (brands : Values) (t : SchemaType) → HasWidths t → IsNamed brands t → base_type_meant brands (base_number t) (named_number t) ≡ Ok (inner t)
+unfolding base_type_meant
 base-read brands VoidType h n = refl
 base-read brands BoolType h n = refl
-base-read brands (IntType bytes) h n = by-width (λ w. base_type brands (2 + width_place w) 0 ≡ Ok (IntType w)) refl refl refl refl bytes h
-base-read brands (UIntType bytes) h n = by-width (λ w. base_type brands (6 + width_place w) 0 ≡ Ok (UIntType w)) refl refl refl refl bytes h
+base-read brands (IntType bytes) h n = by-width (λ w. base_type_meant brands (2 + width_place w) 0 ≡ Ok (IntType w)) refl refl refl refl bytes h
+base-read brands (UIntType bytes) h n = by-width (λ w. base_type_meant brands (6 + width_place w) 0 ≡ Ok (UIntType w)) refl refl refl refl bytes h
 base-read brands (EnumType number) h n = refl
 base-read brands TextType h n = refl
 base-read brands DataType h n = refl
@@ -92,26 +92,26 @@ base-read brands AnyPointerType h n = refl
 
 module _ (l : Levels) (base lists named : ℕ) where
   pub row-bytes : AreBytes (type_row base lists named).bytes
-  row-bytes = AreBytes-append (spelled 2 base) (spelled 2 lists ++ spelled 4 named) (AreBytes-spelled 2 base) (AreBytes-append (spelled 2 lists) (spelled 4 named) (AreBytes-spelled 2 lists) (AreBytes-spelled 4 named))
+  row-bytes = AreBytes-append (spelled_number 2 base) (spelled_number 2 lists ++ spelled_number 4 named) (AreBytes-spelled 2 base) (AreBytes-append (spelled_number 2 lists) (spelled_number 4 named) (AreBytes-spelled 2 lists) (AreBytes-spelled 4 named))
 
-  base-number : base < 256 ^ 2 → number (read_at 7 0 (struct_record meta l (type_row base lists named) 7)) ≡ Ok base
-  unfolding read_at
+  base-number : base < 256 ^ 2 → number (meta_read_at 7 0 (struct_record meta l (type_row base lists named) 7)) ≡ Ok base
+  unfolding meta_read_at
   base-number h = ap read_ok (uint-slot (type_row base lists named).bytes 2 0 base row-bytes (little_endian_spelled 2 base h))
 
-  lists-number : lists < 256 ^ 2 → number (read_at 7 1 (struct_record meta l (type_row base lists named) 7)) ≡ Ok lists
-  unfolding read_at
+  lists-number : lists < 256 ^ 2 → number (meta_read_at 7 1 (struct_record meta l (type_row base lists named) 7)) ≡ Ok lists
+  unfolding meta_read_at
   lists-number h = ap read_ok (uint-slot (type_row base lists named).bytes 2 1 lists row-bytes (little_endian_spelled 2 lists h))
 
-  named-number : named < 256 ^ 4 → number (read_at 7 2 (struct_record meta l (type_row base lists named) 7)) ≡ Ok named
-  unfolding read_at
+  named-number : named < 256 ^ 4 → number (meta_read_at 7 2 (struct_record meta l (type_row base lists named) 7)) ≡ Ok named
+  unfolding meta_read_at
   named-number h = ap read_ok (uint-slot (type_row base lists named).bytes 4 1 named row-bytes (little_endian_spelled 4 named h))
 
 -- what a type has to be for its record to stand for it
 abbrev pub IsTypeRead : Values → SchemaType → Type 0
 IsTypeRead brands t = TypeKept t × IsNamed brands t
 
-pub type-read : (brands : Values) (l : Levels) (t : SchemaType) → IsTypeRead brands t → type_of brands (struct_record meta l (type_tree t) 7) ≡ Ok t
-unfolding type_of
+pub type-read : (brands : Values) (l : Levels) (t : SchemaType) → IsTypeRead brands t → type_meant brands (struct_record meta l (type_tree t) 7) ≡ Ok t
+unfolding type_meant
 type-read brands l t k =
     let base = base-number l (base_number t) (list_count t) (named_number t) (base-small t k.0.widths) in
     let lists = lists-number l (base_number t) (list_count t) (named_number t) k.0.lists in
@@ -120,10 +120,10 @@ type-read brands l t k =
     ∙ ap (λ u. Ok u) (lists-inner t)
 
 pub types-there : (brands : Values) (l : Levels) → HasLevels 2 l → (ts : List SchemaType) → All (IsTypeRead brands) ts → (default : SchemaValue) →
-    types brands (read_of meta default (many 7) (value_of meta (types_tree ts) l (many 7))) ≡ Ok ts
-types-there brands l e ts k default = structs-there 7 1 0 (type_of brands) type_tree (IsTypeRead brands) l e.0 e.1.0 (type-read brands (one_less (one_less l))) ts k default
+    types brands (read_of meta default (meta_structs 7) (value_of meta (types_tree ts) l (meta_structs 7))) ≡ Ok ts
+types-there brands l e ts k default = structs-there 7 1 0 (type_meant brands) type_tree (IsTypeRead brands) l e.0 e.1.0 (type-read brands (one_less (one_less l))) ts k default
 
 pub type_lists-there : (brands : Values) (l : Levels) → HasLevels 3 l → (rows : List (List SchemaType)) → All (All (IsTypeRead brands)) rows → (default : SchemaValue) →
-    type_lists brands (read_of meta default (ListType (many 7)) (value_of meta (type_lists_tree rows) l (ListType (many 7)))) ≡ Ok rows
+    type_lists brands (read_of meta default (ListType (meta_structs 7)) (value_of meta (type_lists_tree rows) l (ListType (meta_structs 7)))) ≡ Ok rows
 type_lists-there brands l e rows k default =
-    lists-there 7 1 0 (type_of brands) type_tree (IsTypeRead brands) l e.0 e.1.0 e.1.1.0 (type-read brands (one_less (one_less (one_less l)))) rows k default
+    lists-there 7 1 0 (type_meant brands) type_tree (IsTypeRead brands) l e.0 e.1.0 e.1.1.0 (type-read brands (one_less (one_less (one_less l)))) rows k default

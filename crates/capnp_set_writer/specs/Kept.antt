@@ -10,7 +10,7 @@ use Rattle.capnp_schema.specs.Schema.{Value, VoidValue, BoolValue, IntValue, UIn
 use Rattle.capnp_schema.specs.Types.{SchemaType}
 use Rattle.capnp_set_writer.specs.Trees.{list_count, named_number}
 
-pub record IsName (name : List ℕ) : Type 0 where
+pub record IsWrittenName (name : List ℕ) : Type 0 where
   pub utf8 : is_utf8 name ≡ true
   pub bytes : AreBytes name
 
@@ -41,7 +41,7 @@ KindKept (Slot offset default) = (offset < 2 ^ 32) × ValueKept default
 KindKept (Group node) = node < 2 ^ 32
 
 pub record FieldKept (f : Field) : Type 0 where
-  pub name : IsName f.name
+  pub name : IsWrittenName f.name
   pub discriminant : f.discriminant_value < 2 ^ 16
   pub annotations : All AnnotationKept f.annotations
   pub kind : KindKept f.kind
@@ -55,7 +55,7 @@ pub record AreSectionsKept (n : Node) : Type 0 where
 
 pub record NodeKept (n : Node) : Type 0 where
   pub sections : AreSectionsKept n
-  pub name : IsName n.display_name
+  pub name : IsWrittenName n.display_name
   pub annotations : All AnnotationKept n.annotations
   pub fields : All FieldKept n.fields
 
@@ -66,12 +66,12 @@ pub record BrandKept (b : Brand) : Type 0 where
   pub children : All (All TypeKept) b.annotation_types.children
 
 pub record EnumerantKept (e : Enumerant) : Type 0 where
-  pub name : IsName e.name
+  pub name : IsWrittenName e.name
   pub annotations : All AnnotationKept e.annotations
 
 pub record EnumKept (e : Enum) : Type 0 where
   pub id : e.id < 2 ^ 64
-  pub name : IsName e.display_name
+  pub name : IsWrittenName e.display_name
   pub annotations : All AnnotationKept e.annotations
   pub enumerants : All EnumerantKept e.enumerants
   pub own : All TypeKept e.annotation_types.own

@@ -12,24 +12,24 @@ use Rattle.capnp_set_writer.specs.Trees.{list_count, set_tree}
 -- ---- kinds ----
 
 -- the form has a kind for a value: an untyped one is one zero word, and a list has words, as each in a checked set has
-abbrev pub HasKind : Value → Type 0
-HasKind VoidValue = ⊤
-HasKind (BoolValue x) = ⊤
-HasKind (IntValue width x) = ⊤
-HasKind (UIntValue width x) = ⊤
-HasKind (EnumValue x) = ⊤
-HasKind (TextValue bytes) = ⊤
-HasKind (DataValue bytes) = ⊤
-HasKind (StructValue words) = ⊤
-HasKind (ListValue words) = words ≢ []
-HasKind (AnyPointerValue words) = words ≡ zero_word
+abbrev pub HasForm : Value → Type 0
+HasForm VoidValue = ⊤
+HasForm (BoolValue x) = ⊤
+HasForm (IntValue width x) = ⊤
+HasForm (UIntValue width x) = ⊤
+HasForm (EnumValue x) = ⊤
+HasForm (TextValue bytes) = ⊤
+HasForm (DataValue bytes) = ⊤
+HasForm (StructValue words) = ⊤
+HasForm (ListValue words) = words ≢ []
+HasForm (AnyPointerValue words) = words ≡ zero_word
 
 abbrev pub AnnotationHasKind : Annotation → Type 0
-AnnotationHasKind a = HasKind a.value
+AnnotationHasKind a = HasForm a.value
 
 -- a slot's default does
 abbrev pub DefaultHasKind : FieldKind → Type 0
-DefaultHasKind (Slot offset default) = HasKind default
+DefaultHasKind (Slot offset default) = HasForm default
 DefaultHasKind (Group node) = ⊤
 
 pub record FieldHasKinds (f : Field) : Type 0 where
@@ -84,37 +84,37 @@ TypesFit ts = ListFits 1 TypeFits ts
 abbrev pub TypeListsFit : List (List SchemaType) → Type 0
 TypeListsFit rows = ListFits 1 TypesFit rows
 
-abbrev pub ValueFits : Value → Type 0
-ValueFits VoidValue = ⊤
-ValueFits (BoolValue x) = ⊤
-ValueFits (IntValue width x) = ⊤
-ValueFits (UIntValue width x) = ⊤
-ValueFits (EnumValue x) = ⊤
-ValueFits (TextValue bytes) = IsTextLength bytes
-ValueFits (DataValue bytes) = IsDataLength bytes
-ValueFits (StructValue words) = IsDataLength words
-ValueFits (ListValue words) = IsDataLength words
-ValueFits (AnyPointerValue words) = ⊤
+abbrev pub ValueHasForm : Value → Type 0
+ValueHasForm VoidValue = ⊤
+ValueHasForm (BoolValue x) = ⊤
+ValueHasForm (IntValue width x) = ⊤
+ValueHasForm (UIntValue width x) = ⊤
+ValueHasForm (EnumValue x) = ⊤
+ValueHasForm (TextValue bytes) = IsTextLength bytes
+ValueHasForm (DataValue bytes) = IsDataLength bytes
+ValueHasForm (StructValue words) = IsDataLength words
+ValueHasForm (ListValue words) = IsDataLength words
+ValueHasForm (AnyPointerValue words) = ⊤
 
 abbrev pub AnnotationFits : Annotation → Type 0
-AnnotationFits a = ValueFits a.value
+AnnotationFits a = ValueHasForm a.value
 
 abbrev pub AnnotationsFit : List Annotation → Type 0
 AnnotationsFit annotations = ListFits 2 AnnotationFits annotations
 
-abbrev pub DefaultFits : FieldKind → Type 0
-DefaultFits (Slot offset default) = ValueFits default
-DefaultFits (Group node) = ⊤
+abbrev pub DefaultHasForm : FieldKind → Type 0
+DefaultHasForm (Slot offset default) = ValueHasForm default
+DefaultHasForm (Group node) = ⊤
 
-pub record FieldFits (f : Field) : Type 0 where
+pub record FieldHasForm (f : Field) : Type 0 where
   pub name : IsTextLength f.name
   pub annotations : AnnotationsFit f.annotations
-  pub default : DefaultFits f.kind
+  pub default : DefaultHasForm f.kind
 
-pub record NodeFits (n : Node) : Type 0 where
+pub record NodeHasForm (n : Node) : Type 0 where
   pub name : IsTextLength n.display_name
   pub annotations : AnnotationsFit n.annotations
-  pub fields : ListFits 4 FieldFits n.fields
+  pub fields : ListFits 4 FieldHasForm n.fields
 
 pub record BrandFits (b : Brand) : Type 0 where
   pub field_types : TypesFit b.field_types
@@ -134,7 +134,7 @@ pub record EnumFits (e : Enum) : Type 0 where
 
 -- each text, data, list and type of a set does
 pub record SetFits (s : Schemas) : Type 0 where
-  pub nodes : ListFits 6 NodeFits s.nodes
+  pub nodes : ListFits 6 NodeHasForm s.nodes
   pub brands : ListFits 4 BrandFits s.brands
   pub enums : ListFits 6 EnumFits s.enums
 
@@ -145,5 +145,5 @@ IsPastFormat s = SetFits s → ⊥
 -- ---- the whole message ----
 
 -- the words of the message's one segment, with its root pointer
-abbrev pub message_words : Schemas → ℕ
-message_words s = suc (words_of (struct_tree (set_tree s)))
+abbrev pub set_message_words : Schemas → ℕ
+set_message_words s = suc (words_of (struct_tree (set_tree s)))

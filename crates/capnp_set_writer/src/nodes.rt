@@ -1,11 +1,11 @@
 //! Fields and nodes, as their records are written.
 ghost use Rattle.std.specs.Prelude.{◌≡◌, IfErr, OnOk};
-ghost use Rattle.capnp_arena.specs.Built.{ChangesIn, IsBuilt, built};
+ghost use Rattle.capnp_arena.specs.Built.{ChangesIn, IsBuilt, built_at};
 ghost use Rattle.capnp_schema.specs.Schema.{Field, Node, seen_field, seen_kind, seen_node};
 ghost use Rattle.capnp_set_writer.specs.Kept.{AreSectionsKept, FieldKept, KindKept, NodeKept};
-ghost use Rattle.capnp_set_writer.specs.Limits.{DefaultFits, DefaultHasKind, FieldFits, FieldHasKinds, NodeFits, NodeHasKinds};
+ghost use Rattle.capnp_set_writer.specs.Limits.{DefaultHasForm, DefaultHasKind, FieldHasForm, FieldHasKinds, NodeHasForm, NodeHasKinds};
 ghost use Rattle.capnp_set_writer.specs.Trees.{field_tree, node_tree};
-ghost use Rattle.capnp_set_writer.specs.Writes.{HasSections, IsPartRefusal, kind_written, sections_written};
+ghost use Rattle.capnp_set_writer.specs.Writes.{HasSections, IsPartWriteRefusal, kind_written, sections_written};
 
 use crate::rows::{Part, put_part, put_parts};
 use crate::values::bit_number;
@@ -22,11 +22,11 @@ fn put_kind(arena: &mut Arena, place: Place, kind: &FieldKind) -> Result<()>
     requires { HasSections 1 3 arena.old place }
     ensures planted { OnOk result (IsBuilt arena.new place) }
     ensures changes { OnOk result (ChangesIn place arena.old arena.new) }
-    ensures written { OnOk result (built arena.new place ≡ kind_written (seen_kind kind.now) (built arena.old place)) }
+    ensures written { OnOk result (built_at arena.new place ≡ kind_written (seen_kind kind.now) (built_at arena.old place)) }
     ensures kept { OnOk result (KindKept (seen_kind kind.now)) }
-    ensures fits { OnOk result (DefaultFits (seen_kind kind.now)) }
-    ensures cause { IfErr result (λ e. IsPartRefusal (DefaultHasKind (seen_kind kind.now))
-        (DefaultFits (seen_kind kind.now)) e.kind) }
+    ensures fits { OnOk result (DefaultHasForm (seen_kind kind.now)) }
+    ensures cause { IfErr result (λ e. IsPartWriteRefusal (DefaultHasKind (seen_kind kind.now))
+        (DefaultHasForm (seen_kind kind.now)) e.kind) }
 {
     match kind {
         FieldKind::Slot { offset, default } => {
@@ -57,7 +57,7 @@ impl Part for FieldRecord {
 
     ghost has_kinds = { FieldHasKinds };
 
-    ghost fits = { FieldFits };
+    ghost fits = { FieldHasForm };
 
     fn size() -> StructSize {
         StructSize {
@@ -79,7 +79,7 @@ fn put_sections(arena: &mut Arena, place: Place, node: &NodeRecord)
     requires { HasSections 3 3 arena.old place }
     ensures planted { IsBuilt arena.new place }
     ensures changes { ChangesIn place arena.old arena.new }
-    ensures written { built arena.new place ≡ sections_written (seen_node node.now) (built arena.old place) }
+    ensures written { built_at arena.new place ≡ sections_written (seen_node node.now) (built_at arena.old place) }
     ensures kept { AreSectionsKept (seen_node node.now) }
 {
     arena.set_number::<u64>(place, 0, node.id);
@@ -105,7 +105,7 @@ impl Part for NodeRecord {
 
     ghost has_kinds = { NodeHasKinds };
 
-    ghost fits = { NodeFits };
+    ghost fits = { NodeHasForm };
 
     fn size() -> StructSize {
         StructSize {

@@ -6,13 +6,13 @@ ghost use Rattle.capnp_wire.specs.Edits.{with_pointer_tree};
 ghost use Rattle.capnp_wire.specs.Elements.{HasStruct, with_struct_element};
 ghost use Rattle.capnp_wire.specs.Place.{struct_tree};
 ghost use Rattle.capnp_wire.specs.Reading.{element_struct};
-ghost use Rattle.capnp_arena.specs.Built.{ChangesIn, IsBuilt, built};
+ghost use Rattle.capnp_arena.specs.Built.{ChangesIn, IsBuilt, built_at};
 ghost use Rattle.capnp_arena.specs.Forest.{Changes, Forest, tree};
 ghost use Rattle.capnp_arena.specs.Segment.{segment};
 ghost use Rattle.capnp_arena.specs.Shape.{word_count};
 ghost use Rattle.capnp_set_writer.specs.Limits.{ListFits};
-ghost use Rattle.capnp_set_writer.specs.Trees.{struct_list};
-ghost use Rattle.capnp_set_writer.specs.Writes.{IsNew, IsPartRefusal, blank, filled};
+ghost use Rattle.capnp_set_writer.specs.Trees.{struct_list_tree};
+ghost use Rattle.capnp_set_writer.specs.Writes.{IsNew, IsPartWriteRefusal, blank, filled_rows};
 
 use capnp_arena::arena::{Arena, Place};
 use capnp_arena::structs::pointer_at;
@@ -55,10 +55,10 @@ pub(crate) trait Part {
         requires { IsNew data_words pointers arena.old place }
         ensures planted { OnOk result (IsBuilt arena.new place) }
         ensures changes { OnOk result (ChangesIn place arena.old arena.new) }
-        ensures written { OnOk result (built arena.new place ≡ tree (seen self.now)) }
+        ensures written { OnOk result (built_at arena.new place ≡ tree (seen self.now)) }
         ensures kept { OnOk result (kept (seen self.now)) }
         ensures fits { OnOk result (fits (seen self.now)) }
-        ensures cause { IfErr result (λ e. IsPartRefusal (has_kinds (seen self.now)) (fits (seen self.now)) e.kind) };
+        ensures cause { IfErr result (λ e. IsPartWriteRefusal (has_kinds (seen self.now)) (fits (seen self.now)) e.kind) };
 }
 
 /// Makes a pointer lead to a struct that a part is written as.
@@ -71,7 +71,7 @@ fn put_struct<T: Part>(arena: &mut Arena, at: usize, part: &T) -> Result<()>
     ensures written { OnOk result (tree (segment arena.new) at ≡ struct_tree (T.tree (T.seen part.now))) }
     ensures kept { OnOk result (T.kept (T.seen part.now)) }
     ensures fits { OnOk result (T.fits (T.seen part.now)) }
-    ensures cause { IfErr result (λ e. IsPartRefusal (T.has_kinds (T.seen part.now))
+    ensures cause { IfErr result (λ e. IsPartWriteRefusal (T.has_kinds (T.seen part.now))
         (T.fits (T.seen part.now)) e.kind) }
 {
     let place = arena.init_struct(at, T::size())?;
@@ -86,11 +86,11 @@ pub(crate) fn put_part<T: Part>(arena: &mut Arena, place: Place, index: u16, par
     requires inside { index < place.pointers }
     ensures planted { OnOk result (IsBuilt arena.new place) }
     ensures changes { OnOk result (ChangesIn place arena.old arena.new) }
-    ensures written { OnOk result (built arena.new place ≡
-        with_pointer_tree (built arena.old place) index (struct_tree (T.tree (T.seen part.now)))) }
+    ensures written { OnOk result (built_at arena.new place ≡
+        with_pointer_tree (built_at arena.old place) index (struct_tree (T.tree (T.seen part.now)))) }
     ensures kept { OnOk result (T.kept (T.seen part.now)) }
     ensures fits { OnOk result (T.fits (T.seen part.now)) }
-    ensures cause { IfErr result (λ e. IsPartRefusal (T.has_kinds (T.seen part.now))
+    ensures cause { IfErr result (λ e. IsPartWriteRefusal (T.has_kinds (T.seen part.now))
         (T.fits (T.seen part.now)) e.kind) }
 {
     let at = pointer_at(arena, place, index);
@@ -108,7 +108,7 @@ fn put_element<T: Part>(arena: &mut Arena, at: usize, index: u32, part: &T) -> R
         ≡ with_struct_element index (T.tree (T.seen part.now)) (tree (segment arena.old) at)) }
     ensures kept { OnOk result (T.kept (T.seen part.now)) }
     ensures fits { OnOk result (T.fits (T.seen part.now)) }
-    ensures cause { IfErr result (λ e. IsPartRefusal (T.has_kinds (T.seen part.now))
+    ensures cause { IfErr result (λ e. IsPartWriteRefusal (T.has_kinds (T.seen part.now))
         (T.fits (T.seen part.now)) e.kind) }
 {
     let place = arena.get_struct_at(at, index);
@@ -119,16 +119,16 @@ fn put_element<T: Part>(arena: &mut Arena, at: usize, index: u32, part: &T) -> R
 fn fill_list<T: Part>(arena: &mut Arena, at: usize, parts: &[T]) -> Result<()>
     requires forest { Forest (segment arena.old) at }
     requires new { tree (segment arena.old) at ≡
-        Composite T.data_words T.pointers (filled (blank T.data_words T.pointers)
+        Composite T.data_words T.pointers (filled_rows (blank T.data_words T.pointers)
         (map T.tree (map T.seen parts.now)) 0) }
     requires few { length parts.now < 2 ^ 29 }
     ensures forest { OnOk result (Forest (segment arena.new) at) }
     ensures changes { OnOk result (Changes at (segment arena.old) (segment arena.new)) }
     ensures written { OnOk result (tree (segment arena.new) at
-        ≡ struct_list T.data_words T.pointers (map T.tree (map T.seen parts.now))) }
+        ≡ struct_list_tree T.data_words T.pointers (map T.tree (map T.seen parts.now))) }
     ensures kept { OnOk result (All T.kept (map T.seen parts.now)) }
     ensures fits { OnOk result (All T.fits (map T.seen parts.now)) }
-    ensures cause { IfErr result (λ e. IsPartRefusal (All T.has_kinds (map T.seen parts.now))
+    ensures cause { IfErr result (λ e. IsPartWriteRefusal (All T.has_kinds (map T.seen parts.now))
         (All T.fits (map T.seen parts.now)) e.kind) }
 {
     for index in 0..parts.len() {
@@ -161,10 +161,10 @@ pub(crate) fn put_list<T: Part>(arena: &mut Arena, at: usize, parts: &[T]) -> Re
     ensures forest { OnOk result (Forest (segment arena.new) at) }
     ensures changes { OnOk result (Changes at (segment arena.old) (segment arena.new)) }
     ensures written { OnOk result (tree (segment arena.new) at
-        ≡ struct_list T.data_words T.pointers (map T.tree (map T.seen parts.now))) }
+        ≡ struct_list_tree T.data_words T.pointers (map T.tree (map T.seen parts.now))) }
     ensures kept { OnOk result (All T.kept (map T.seen parts.now)) }
     ensures fits { OnOk result (ListFits (T.data_words + T.pointers) T.fits (map T.seen parts.now)) }
-    ensures cause { IfErr result (λ e. IsPartRefusal (All T.has_kinds (map T.seen parts.now))
+    ensures cause { IfErr result (λ e. IsPartWriteRefusal (All T.has_kinds (map T.seen parts.now))
         (ListFits (T.data_words + T.pointers) T.fits (map T.seen parts.now)) e.kind) }
 {
     let count = count_of(parts.len())?;
@@ -185,12 +185,12 @@ pub(crate) fn put_parts<T: Part>(
     requires inside { index < place.pointers }
     ensures planted { OnOk result (IsBuilt arena.new place) }
     ensures changes { OnOk result (ChangesIn place arena.old arena.new) }
-    ensures written { OnOk result (built arena.new place ≡
-        with_pointer_tree (built arena.old place) index
-        (struct_list T.data_words T.pointers (map T.tree (map T.seen parts.now)))) }
+    ensures written { OnOk result (built_at arena.new place ≡
+        with_pointer_tree (built_at arena.old place) index
+        (struct_list_tree T.data_words T.pointers (map T.tree (map T.seen parts.now)))) }
     ensures kept { OnOk result (All T.kept (map T.seen parts.now)) }
     ensures fits { OnOk result (ListFits (T.data_words + T.pointers) T.fits (map T.seen parts.now)) }
-    ensures cause { IfErr result (λ e. IsPartRefusal (All T.has_kinds (map T.seen parts.now))
+    ensures cause { IfErr result (λ e. IsPartWriteRefusal (All T.has_kinds (map T.seen parts.now))
         (ListFits (T.data_words + T.pointers) T.fits (map T.seen parts.now)) e.kind) }
 {
     let at = pointer_at(arena, place, index);

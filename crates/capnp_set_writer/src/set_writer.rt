@@ -2,17 +2,17 @@
 ghost use Rattle.std.specs.Prelude.{◌≡◌, ◌<◌, ◌^◌, IfErr, IfOk, OnOk};
 ghost use Rattle.capnp_device.specs.declared.error.ErrorKind.TheVariants.{SizePastFormat, UnknownKind};
 ghost use Rattle.capnp_wire.specs.Place.{struct_tree};
-ghost use Rattle.capnp_arena.specs.Built.{ChangesIn, IsBuilt, built};
+ghost use Rattle.capnp_arena.specs.Built.{ChangesIn, IsBuilt, built_at};
 ghost use Rattle.capnp_arena.specs.Forest.{Forest, tree};
 ghost use Rattle.capnp_arena.specs.Segment.{segment};
 ghost use Rattle.capnp_arena.specs.Shape.{word_count};
 ghost use Rattle.capnp_schema.specs.Accepted.{IsAccepted};
 ghost use Rattle.capnp_schema.specs.Entries.{lists_seen};
 ghost use Rattle.capnp_set_writer.specs.Kept.{SetKept};
-ghost use Rattle.capnp_set_writer.specs.Limits.{HasFormless, IsPastFormat, SetFits, SetHasKinds, message_words};
+ghost use Rattle.capnp_set_writer.specs.Limits.{HasFormless, IsPastFormat, SetFits, SetHasKinds, set_message_words};
 ghost use Rattle.capnp_set_writer.specs.Message.{IsReadAsSet, set_message};
 ghost use Rattle.capnp_set_writer.specs.Trees.{set_tree};
-ghost use Rattle.capnp_set_writer.specs.Writes.{IsNew, IsPartRefusal, IsWriteRefusal};
+ghost use Rattle.capnp_set_writer.specs.Writes.{IsNew, IsPartWriteRefusal, IsWriteRefusal};
 
 use crate::rows::put_parts;
 use capnp_arena::arena::{Arena, Place};
@@ -32,11 +32,11 @@ fn put_lists(arena: &mut Arena, place: Place, set: &SchemaSet) -> Result<()>
     requires { IsNew 0 3 arena.old place }
     ensures planted { OnOk result (IsBuilt arena.new place) }
     ensures changes { OnOk result (ChangesIn place arena.old arena.new) }
-    ensures written { OnOk result (built arena.new place ≡ set_tree (lists_seen set.now)) }
+    ensures written { OnOk result (built_at arena.new place ≡ set_tree (lists_seen set.now)) }
     ensures kept { OnOk result (SetKept (lists_seen set.now)) }
     ensures accepted { IsAccepted (lists_seen set.now) }
     ensures fits { OnOk result (SetFits (lists_seen set.now)) }
-    ensures cause { IfErr result (λ e. IsPartRefusal (SetHasKinds (lists_seen set.now))
+    ensures cause { IfErr result (λ e. IsPartWriteRefusal (SetHasKinds (lists_seen set.now))
         (SetFits (lists_seen set.now)) e.kind) }
 {
     put_parts(arena, place, 0, set.nodes())?;
@@ -52,7 +52,7 @@ fn put_root(arena: &mut Arena, set: &SchemaSet) -> Result<()>
     ensures kept { OnOk result (SetKept (lists_seen set.now)) }
     ensures accepted { OnOk result (IsAccepted (lists_seen set.now)) }
     ensures fits { OnOk result (SetFits (lists_seen set.now)) }
-    ensures cause { IfErr result (λ e. IsPartRefusal (SetHasKinds (lists_seen set.now))
+    ensures cause { IfErr result (λ e. IsPartWriteRefusal (SetHasKinds (lists_seen set.now))
         (SetFits (lists_seen set.now)) e.kind) }
 {
     let root = arena.init_struct(0, ROOT)?;
@@ -71,7 +71,7 @@ pub fn write_set(alloc: Global, set: &SchemaSet) -> Result<Vec<u8>>
     ensures read { IfOk result (λ bytes. IsReadAsSet (lists_seen set.now) bytes.items) }
     ensures kinds { OnOk result (SetHasKinds (lists_seen set.now)) }
     ensures fits { OnOk result (SetFits (lists_seen set.now)) }
-    ensures small { OnOk result (message_words (lists_seen set.now) < 2 ^ 29) }
+    ensures small { OnOk result (set_message_words (lists_seen set.now) < 2 ^ 29) }
     ensures cause { IfErr result (λ e. IsWriteRefusal e.kind) }
     ensures unknown { IfErr result (λ e. e.kind ≡ UnknownKind → HasFormless (lists_seen set.now)) }
     ensures past { IfErr result (λ e. e.kind ≡ SizePastFormat → IsPastFormat (lists_seen set.now)) }

@@ -4,7 +4,7 @@ ghost use Rattle.capnp_device.specs.declared.error.ErrorKind.TheVariants.{SizePa
 ghost use Rattle.capnp_wire.specs.Tree.{Pointers};
 ghost use Rattle.capnp_wire.specs.Edits.{with_pointer_tree};
 ghost use Rattle.capnp_wire.specs.Elements.{HasPointer, with_pointer_element};
-ghost use Rattle.capnp_arena.specs.Built.{ChangesIn, IsBuilt, built};
+ghost use Rattle.capnp_arena.specs.Built.{ChangesIn, IsBuilt, built_at};
 ghost use Rattle.capnp_arena.specs.Forest.{Changes, Forest, tree};
 ghost use Rattle.capnp_arena.specs.Segment.{segment};
 ghost use Rattle.capnp_arena.specs.Shape.{word_count};
@@ -12,7 +12,7 @@ ghost use Rattle.capnp_schema.specs.Types.{SchemaType, seen_type, seen_variant};
 ghost use Rattle.capnp_set_writer.specs.Kept.{TypeKept};
 ghost use Rattle.capnp_set_writer.specs.Limits.{TypeFits, TypeListsFit, TypesFit};
 ghost use Rattle.capnp_set_writer.specs.Trees.{base_number, list_count, named_number, type_lists_tree, type_tree, types_tree};
-ghost use Rattle.capnp_set_writer.specs.Writes.{IsBare, IsPartRefusal, filled_trees};
+ghost use Rattle.capnp_set_writer.specs.Writes.{IsBare, IsPartWriteRefusal, filled_trees};
 
 use crate::rows::{Part, count_of, put_list};
 use capnp_arena::arena::{Arena, Place};
@@ -137,7 +137,7 @@ fn put_row(arena: &mut Arena, at: usize, index: u32, types: &[Type]) -> Result<(
         ≡ with_pointer_element index (types_tree (map seen_type types.now)) (tree (segment arena.old) at)) }
     ensures kept { OnOk result (All TypeKept (map seen_type types.now)) }
     ensures fits { OnOk result (TypesFit (map seen_type types.now)) }
-    ensures cause { IfErr result (λ e. IsPartRefusal ⊤ (TypesFit (map seen_type types.now)) e.kind) }
+    ensures cause { IfErr result (λ e. IsPartWriteRefusal ⊤ (TypesFit (map seen_type types.now)) e.kind) }
 {
     let pointer = arena.get_pointer_element(at, index);
     put_list(arena, pointer, types)
@@ -155,7 +155,7 @@ fn fill_rows(arena: &mut Arena, at: usize, rows: &[Vec<Type>]) -> Result<()>
         ≡ type_lists_tree (map (λ row. map seen_type row.items) rows.now)) }
     ensures kept { OnOk result (All (All TypeKept) (map (λ row. map seen_type row.items) rows.now)) }
     ensures fits { OnOk result (All TypesFit (map (λ row. map seen_type row.items) rows.now)) }
-    ensures cause { IfErr result (λ e. IsPartRefusal ⊤
+    ensures cause { IfErr result (λ e. IsPartWriteRefusal ⊤
         (All TypesFit (map (λ row. map seen_type row.items) rows.now)) e.kind) }
 {
     for index in 0..rows.len() {
@@ -175,7 +175,7 @@ fn put_rows(arena: &mut Arena, at: usize, rows: &[Vec<Type>]) -> Result<()>
         ≡ type_lists_tree (map (λ row. map seen_type row.items) rows.now)) }
     ensures kept { OnOk result (All (All TypeKept) (map (λ row. map seen_type row.items) rows.now)) }
     ensures fits { OnOk result (TypeListsFit (map (λ row. map seen_type row.items) rows.now)) }
-    ensures cause { IfErr result (λ e. IsPartRefusal ⊤
+    ensures cause { IfErr result (λ e. IsPartWriteRefusal ⊤
         (TypeListsFit (map (λ row. map seen_type row.items) rows.now)) e.kind) }
 {
     let count = count_of(rows.len())?;
@@ -196,12 +196,12 @@ pub(crate) fn put_type_lists(
     requires inside { index < place.pointers }
     ensures planted { OnOk result (IsBuilt arena.new place) }
     ensures changes { OnOk result (ChangesIn place arena.old arena.new) }
-    ensures written { OnOk result (built arena.new place ≡
-        with_pointer_tree (built arena.old place) index
+    ensures written { OnOk result (built_at arena.new place ≡
+        with_pointer_tree (built_at arena.old place) index
         (type_lists_tree (map (λ row. map seen_type row.items) rows.now))) }
     ensures kept { OnOk result (All (All TypeKept) (map (λ row. map seen_type row.items) rows.now)) }
     ensures fits { OnOk result (TypeListsFit (map (λ row. map seen_type row.items) rows.now)) }
-    ensures cause { IfErr result (λ e. IsPartRefusal ⊤
+    ensures cause { IfErr result (λ e. IsPartWriteRefusal ⊤
         (TypeListsFit (map (λ row. map seen_type row.items) rows.now)) e.kind) }
 {
     let at = pointer_at(arena, place, index);

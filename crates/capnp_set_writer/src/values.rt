@@ -3,16 +3,16 @@ ghost use Rattle.std.specs.Prelude.{◌≡◌, ◌≢◌, ◌≤◌, ◌<◌, �
 ghost use Rattle.capnp_wire.specs.Tree.{Numbers};
 ghost use Rattle.capnp_wire.specs.Edits.{with_pointer_tree};
 ghost use Rattle.capnp_wire.specs.WellFormed.{AreBytes};
-ghost use Rattle.capnp_arena.specs.Built.{ChangesIn, IsBuilt, built};
+ghost use Rattle.capnp_arena.specs.Built.{ChangesIn, IsBuilt, built_at};
 ghost use Rattle.capnp_base.specs.Text.{text_tree};
 ghost use Rattle.capnp_schema.specs.Builtin.{zero_word};
 ghost use Rattle.capnp_schema.specs.Ranges.{IsSigned};
 ghost use Rattle.capnp_schema.specs.Schema.{Annotation, IntValue, Value, seen_annotation, seen_value};
 ghost use Rattle.capnp_schema.specs.SlotValue.{bit_number};
 ghost use Rattle.capnp_set_writer.specs.Kept.{AnnotationKept, ValueKept};
-ghost use Rattle.capnp_set_writer.specs.Limits.{AnnotationFits, AnnotationHasKind, HasKind, IsDataLength, IsTextLength, ValueFits};
+ghost use Rattle.capnp_set_writer.specs.Limits.{AnnotationFits, AnnotationHasKind, HasForm, IsDataLength, IsTextLength, ValueHasForm};
 ghost use Rattle.capnp_set_writer.specs.Trees.{annotation_tree, value_tree};
-ghost use Rattle.capnp_set_writer.specs.Writes.{IsNew, IsPartRefusal, blank, numbered};
+ghost use Rattle.capnp_set_writer.specs.Writes.{IsNew, IsPartWriteRefusal, blank, number_put};
 
 use crate::rows::{Part, put_part};
 use crate::writes::{put_data, put_text};
@@ -34,8 +34,8 @@ fn put_kind<T: PrimitiveElement>(
     requires inside { (offset + 1) * T.width ≤ 16 }
     ensures planted { IsBuilt arena.new place }
     ensures changes { ChangesIn place arena.old arena.new }
-    ensures written { built arena.new place ≡ numbered T.width offset (T.to_number value)
-        (numbered 2 0 kind (blank 2 1)) }
+    ensures written { built_at arena.new place ≡ number_put T.width offset (T.to_number value)
+        (number_put 2 0 kind (blank 2 1)) }
     ensures done { IsOk result }
 {
     arena.set_number::<u16>(place, 0, kind);
@@ -48,11 +48,11 @@ fn put_kind_text(arena: &mut Arena, place: Place, kind: u16, text: &[u8]) -> Res
     requires { IsNew 2 1 arena.old place }
     ensures planted { OnOk result (IsBuilt arena.new place) }
     ensures changes { OnOk result (ChangesIn place arena.old arena.new) }
-    ensures written { OnOk result (built arena.new place
-        ≡ with_pointer_tree (numbered 2 0 kind (blank 2 1)) 0 (text_tree text.now)) }
+    ensures written { OnOk result (built_at arena.new place
+        ≡ with_pointer_tree (number_put 2 0 kind (blank 2 1)) 0 (text_tree text.now)) }
     ensures kept { AreBytes text.now }
     ensures fits { OnOk result (IsTextLength text.now) }
-    ensures cause { IfErr result (λ e. IsPartRefusal ⊤ (IsTextLength text.now) e.kind) }
+    ensures cause { IfErr result (λ e. IsPartWriteRefusal ⊤ (IsTextLength text.now) e.kind) }
 {
     arena.set_number::<u16>(place, 0, kind);
     put_text(arena, place, 0, text)
@@ -63,11 +63,11 @@ fn put_kind_data(arena: &mut Arena, place: Place, kind: u16, bytes: &[u8]) -> Re
     requires { IsNew 2 1 arena.old place }
     ensures planted { OnOk result (IsBuilt arena.new place) }
     ensures changes { OnOk result (ChangesIn place arena.old arena.new) }
-    ensures written { OnOk result (built arena.new place
-        ≡ with_pointer_tree (numbered 2 0 kind (blank 2 1)) 0 (Numbers 1 bytes.now)) }
+    ensures written { OnOk result (built_at arena.new place
+        ≡ with_pointer_tree (number_put 2 0 kind (blank 2 1)) 0 (Numbers 1 bytes.now)) }
     ensures kept { AreBytes bytes.now }
     ensures fits { OnOk result (IsDataLength bytes.now) }
-    ensures cause { IfErr result (λ e. IsPartRefusal ⊤ (IsDataLength bytes.now) e.kind) }
+    ensures cause { IfErr result (λ e. IsPartWriteRefusal ⊤ (IsDataLength bytes.now) e.kind) }
 {
     arena.set_number::<u16>(place, 0, kind);
     put_data(arena, place, 0, bytes)
@@ -85,7 +85,7 @@ fn put_int8(arena: &mut Arena, place: Place, number: i8) -> Result<()>
     requires { IsNew 2 1 arena.old place }
     ensures planted { IsBuilt arena.new place }
     ensures changes { ChangesIn place arena.old arena.new }
-    ensures written { built arena.new place ≡ value_tree (IntValue 1 number) }
+    ensures written { built_at arena.new place ≡ value_tree (IntValue 1 number) }
     ensures kept { IsSigned 1 number }
     ensures done { IsOk result }
 {
@@ -97,7 +97,7 @@ fn put_int16(arena: &mut Arena, place: Place, number: i16) -> Result<()>
     requires { IsNew 2 1 arena.old place }
     ensures planted { IsBuilt arena.new place }
     ensures changes { ChangesIn place arena.old arena.new }
-    ensures written { built arena.new place ≡ value_tree (IntValue 2 number) }
+    ensures written { built_at arena.new place ≡ value_tree (IntValue 2 number) }
     ensures kept { IsSigned 2 number }
     ensures done { IsOk result }
 {
@@ -109,7 +109,7 @@ fn put_int32(arena: &mut Arena, place: Place, number: i32) -> Result<()>
     requires { IsNew 2 1 arena.old place }
     ensures planted { IsBuilt arena.new place }
     ensures changes { ChangesIn place arena.old arena.new }
-    ensures written { built arena.new place ≡ value_tree (IntValue 4 number) }
+    ensures written { built_at arena.new place ≡ value_tree (IntValue 4 number) }
     ensures kept { IsSigned 4 number }
     ensures done { IsOk result }
 {
@@ -121,7 +121,7 @@ fn put_int64(arena: &mut Arena, place: Place, number: i64) -> Result<()>
     requires { IsNew 2 1 arena.old place }
     ensures planted { IsBuilt arena.new place }
     ensures changes { ChangesIn place arena.old arena.new }
-    ensures written { built arena.new place ≡ value_tree (IntValue 8 number) }
+    ensures written { built_at arena.new place ≡ value_tree (IntValue 8 number) }
     ensures kept { IsSigned 8 number }
     ensures done { IsOk result }
 {
@@ -144,11 +144,11 @@ fn put_list_words(arena: &mut Arena, place: Place, words: &[u8]) -> Result<()>
     requires { IsNew 2 1 arena.old place }
     ensures planted { OnOk result (IsBuilt arena.new place) }
     ensures changes { OnOk result (ChangesIn place arena.old arena.new) }
-    ensures written { OnOk result (built arena.new place
-        ≡ with_pointer_tree (numbered 2 0 14 (blank 2 1)) 0 (Numbers 1 words.now)) }
+    ensures written { OnOk result (built_at arena.new place
+        ≡ with_pointer_tree (number_put 2 0 14 (blank 2 1)) 0 (Numbers 1 words.now)) }
     ensures kept { OnOk result ((words.now ≢ []) × AreBytes words.now) }
     ensures fits { OnOk result (IsDataLength words.now) }
-    ensures cause { IfErr result (λ e. IsPartRefusal (words.now ≢ []) (IsDataLength words.now) e.kind) }
+    ensures cause { IfErr result (λ e. IsPartWriteRefusal (words.now ≢ []) (IsDataLength words.now) e.kind) }
 {
     if words.is_empty() {
         return Err(Error::from(ErrorKind::UnknownKind));
@@ -163,10 +163,10 @@ fn put_untyped(arena: &mut Arena, place: Place, words: &[u8]) -> Result<()>
     requires { IsNew 2 1 arena.old place }
     ensures planted { OnOk result (IsBuilt arena.new place) }
     ensures changes { OnOk result (ChangesIn place arena.old arena.new) }
-    ensures written { OnOk result (built arena.new place
-        ≡ with_pointer_tree (numbered 2 0 14 (blank 2 1)) 0 (Numbers 1 [])) }
+    ensures written { OnOk result (built_at arena.new place
+        ≡ with_pointer_tree (number_put 2 0 14 (blank 2 1)) 0 (Numbers 1 [])) }
     ensures kept { OnOk result (words.now ≡ zero_word) }
-    ensures cause { IfErr result (λ e. IsPartRefusal (words.now ≡ zero_word) ⊤ e.kind) }
+    ensures cause { IfErr result (λ e. IsPartWriteRefusal (words.now ≡ zero_word) ⊤ e.kind) }
 {
     if !is_null(words) {
         return Err(Error::from(ErrorKind::UnknownKind));
@@ -179,11 +179,11 @@ fn put_value(arena: &mut Arena, place: Place, value: &ValueRecord) -> Result<()>
     requires { IsNew 2 1 arena.old place }
     ensures planted { OnOk result (IsBuilt arena.new place) }
     ensures changes { OnOk result (ChangesIn place arena.old arena.new) }
-    ensures written { OnOk result (built arena.new place ≡ value_tree (seen_value value.now)) }
+    ensures written { OnOk result (built_at arena.new place ≡ value_tree (seen_value value.now)) }
     ensures kept { OnOk result (ValueKept (seen_value value.now)) }
-    ensures fits { OnOk result (ValueFits (seen_value value.now)) }
-    ensures cause { IfErr result (λ e. IsPartRefusal (HasKind (seen_value value.now))
-        (ValueFits (seen_value value.now)) e.kind) }
+    ensures fits { OnOk result (ValueHasForm (seen_value value.now)) }
+    ensures cause { IfErr result (λ e. IsPartWriteRefusal (HasForm (seen_value value.now))
+        (ValueHasForm (seen_value value.now)) e.kind) }
 {
     match value {
         // the kind of nothing is 0
@@ -219,9 +219,9 @@ impl Part for ValueRecord {
 
     ghost kept = { ValueKept };
 
-    ghost has_kinds = { HasKind };
+    ghost has_kinds = { HasForm };
 
-    ghost fits = { ValueFits };
+    ghost fits = { ValueHasForm };
 
     fn size() -> StructSize {
         StructSize {

@@ -3,11 +3,11 @@ ghost use Rattle.std.specs.Prelude.{◌≡◌, ◌<◌, ⊤, IfErr, OnOk};
 ghost use Rattle.capnp_wire.specs.Tree.{Numbers};
 ghost use Rattle.capnp_wire.specs.Edits.{with_pointer_tree};
 ghost use Rattle.capnp_wire.specs.WellFormed.{AreBytes};
-ghost use Rattle.capnp_arena.specs.Built.{ChangesIn, IsBuilt, built};
+ghost use Rattle.capnp_arena.specs.Built.{ChangesIn, IsBuilt, built_at};
 ghost use Rattle.capnp_base.specs.Text.{text_tree};
-ghost use Rattle.capnp_set_writer.specs.Kept.{IsName};
+ghost use Rattle.capnp_set_writer.specs.Kept.{IsWrittenName};
 ghost use Rattle.capnp_set_writer.specs.Limits.{IsDataLength, IsTextLength};
-ghost use Rattle.capnp_set_writer.specs.Writes.{IsPartRefusal};
+ghost use Rattle.capnp_set_writer.specs.Writes.{IsPartWriteRefusal};
 
 use capnp_arena::arena::{Arena, Place};
 use capnp_arena::structs::pointer_at;
@@ -21,11 +21,11 @@ pub(crate) fn put_text(arena: &mut Arena, place: Place, index: u16, text: &[u8])
     requires inside { index < place.pointers }
     ensures planted { OnOk result (IsBuilt arena.new place) }
     ensures changes { OnOk result (ChangesIn place arena.old arena.new) }
-    ensures written { OnOk result (built arena.new place
-        ≡ with_pointer_tree (built arena.old place) index (text_tree text.now)) }
+    ensures written { OnOk result (built_at arena.new place
+        ≡ with_pointer_tree (built_at arena.old place) index (text_tree text.now)) }
     ensures bytes { AreBytes text.now }
     ensures fits { OnOk result (IsTextLength text.now) }
-    ensures cause { IfErr result (λ e. IsPartRefusal ⊤ (IsTextLength text.now) e.kind) }
+    ensures cause { IfErr result (λ e. IsPartWriteRefusal ⊤ (IsTextLength text.now) e.kind) }
 {
     let at = pointer_at(arena, place, index);
     arena.set_text(at, text)
@@ -39,11 +39,11 @@ pub(crate) fn put_data(arena: &mut Arena, place: Place, index: u16, bytes: &[u8]
     requires inside { index < place.pointers }
     ensures planted { OnOk result (IsBuilt arena.new place) }
     ensures changes { OnOk result (ChangesIn place arena.old arena.new) }
-    ensures written { OnOk result (built arena.new place
-        ≡ with_pointer_tree (built arena.old place) index (Numbers 1 bytes.now)) }
+    ensures written { OnOk result (built_at arena.new place
+        ≡ with_pointer_tree (built_at arena.old place) index (Numbers 1 bytes.now)) }
     ensures bytes { AreBytes bytes.now }
     ensures fits { OnOk result (IsDataLength bytes.now) }
-    ensures cause { IfErr result (λ e. IsPartRefusal ⊤ (IsDataLength bytes.now) e.kind) }
+    ensures cause { IfErr result (λ e. IsPartWriteRefusal ⊤ (IsDataLength bytes.now) e.kind) }
 {
     let at = pointer_at(arena, place, index);
     arena.set_data(at, bytes)
@@ -57,11 +57,11 @@ pub(crate) fn put_name(arena: &mut Arena, place: Place, index: u16, name: &str) 
     requires inside { index < place.pointers }
     ensures planted { OnOk result (IsBuilt arena.new place) }
     ensures changes { OnOk result (ChangesIn place arena.old arena.new) }
-    ensures written { OnOk result (built arena.new place
-        ≡ with_pointer_tree (built arena.old place) index (text_tree name.now)) }
-    ensures name { IsName name.now }
+    ensures written { OnOk result (built_at arena.new place
+        ≡ with_pointer_tree (built_at arena.old place) index (text_tree name.now)) }
+    ensures name { IsWrittenName name.now }
     ensures fits { OnOk result (IsTextLength name.now) }
-    ensures cause { IfErr result (λ e. IsPartRefusal ⊤ (IsTextLength name.now) e.kind) }
+    ensures cause { IfErr result (λ e. IsPartWriteRefusal ⊤ (IsTextLength name.now) e.kind) }
 {
     put_text(arena, place, index, name.as_bytes())
 }

@@ -15,10 +15,10 @@ use Rattle.capnp_device.specs.declared.error.ErrorKind.TheVariants.{OutOfMemory}
 use Rattle.capnp_schema.specs.declared.record.ValueRecord.{ValueRecord}
 use Rattle.capnp_schema.specs.Schema.{Group, seen_value}
 use Rattle.capnp_sets.specs.Fields.{kind_by, slot_of}
-use Rattle.capnp_sets.specs.Causes.{◌<*>◌, HasCause, Read, refused}
-use Rattle.capnp_sets.specs.Parts.{number, read_at, struct}
-use Rattle.capnp_sets.specs.Types.{base_type, base_types}
-use Rattle.capnp_sets.specs.Values.{kinds, list_value, value_by, value_of}
+use Rattle.capnp_sets.specs.Causes.{◌<*>◌, HasCause, SetRead, refused_read}
+use Rattle.capnp_sets.specs.Parts.{number, meta_read_at, struct}
+use Rattle.capnp_sets.specs.Types.{base_type_meant, base_types}
+use Rattle.capnp_sets.specs.Values.{kinds, list_value, value_by, value_meant}
 use Rattle.capnp_sets.proofs.AppliedReads.{only_cause}
 
 second-cond : {A : Type 0} (q : Bool) (a b : A) → q ≡ false → cond q a b ≡ b
@@ -32,24 +32,24 @@ eqb-false a b h = go (a == b) refl
     go true e = absurd (h (eqb-true a b e))
     go false e = e
 
-pub past_bases : (brands : Values) (base number : ℕ) → 18 < base → HasCause (base_type brands base number) UnknownKind
-unfolding base_type
-past_bases brands base number h = only_cause UnknownKind _ (ap (λ (o : Option (Read SchemaType)). unwrap_or o (refused UnknownKind)) (slice_get_past (base_types brands number) base (omega (arith, h))))
+pub past_bases : (brands : Values) (base number : ℕ) → 18 < base → HasCause (base_type_meant brands base number) UnknownKind
+unfolding base_type_meant
+past_bases brands base number h = only_cause UnknownKind _ (ap (λ (o : Option (SetRead SchemaType)). unwrap_or o (refused_read UnknownKind)) (slice_get_past (base_types brands number) base (omega (arith, h))))
 
 pub past_kinds : (r : Record) (member : ℕ) → 14 < member → HasCause (value_by (Some member) r) UnknownKind
 unfolding value_by
-past_kinds r member h = only_cause UnknownKind _ (ap (λ (o : Option (Value → Read SchemaValue)). unwrap_or o (λ v. refused UnknownKind) (read_at 5 member r)) (slice_get_past kinds member (omega (arith, h))))
+past_kinds r member h = only_cause UnknownKind _ (ap (λ (o : Option (Value → SetRead SchemaValue)). unwrap_or o (λ v. refused_read UnknownKind) (meta_read_at 5 member r)) (slice_get_past kinds member (omega (arith, h))))
 
-pub no_member : (r : Record) → which_of r ≡ None → HasCause (value_of r) UnknownKind
-unfolding value_of value_by
+pub no_member : (r : Record) → which_of r ≡ None → HasCause (value_meant r) UnknownKind
+unfolding value_meant value_by
 no_member r e = only_cause UnknownKind _ (ap (λ o. value_by o r) e)
 
-pub by_member : (r : Record) (member : ℕ) → which_of r ≡ Some member → value_of r ≡ value_by (Some member) r
-unfolding value_of
+pub by_member : (r : Record) (member : ℕ) → which_of r ≡ Some member → value_meant r ≡ value_by (Some member) r
+unfolding value_meant
 by_member r member e = ap (λ o. value_by o r) e
 
 -- a list's words, in the value that is made of them
-pub list_made : (made : Result ValueRecord Error) (x : Read SchemaValue) (words : List ℕ) → x ≡ Ok (list_value words) → IfOk made (λ v. seen_value v ≡ list_value words) → IfOk made (λ v. x ≡ Ok (seen_value v))
+pub list_made : (made : Result ValueRecord Error) (x : SetRead SchemaValue) (words : List ℕ) → x ≡ Ok (list_value words) → IfOk made (λ v. seen_value v ≡ list_value words) → IfOk made (λ v. x ≡ Ok (seen_value v))
 list_made (Ok v) x words e h = e ∙ ap (λ (y : SchemaValue). Ok y) (sym h)
 list_made (Err error) x words e h = tt
 
@@ -68,11 +68,11 @@ module _ (r : Record) where
   unfolding kind_by
   no_kind e = only_cause UnknownKind _ (ap (λ o. kind_by o r) e)
 
-  pub slot_kind : which_of r ≡ Some 3 → kind_by (which_of r) r ≡ struct slot_of (read_at 2 3 r)
+  pub slot_kind : which_of r ≡ Some 3 → kind_by (which_of r) r ≡ struct slot_of (meta_read_at 2 3 r)
   unfolding kind_by
   slot_kind e = ap (λ o. kind_by o r) e
 
-  pub group_kind : which_of r ≡ Some 4 → kind_by (which_of r) r ≡ Ok Group <*> number (read_at 2 4 r)
+  pub group_kind : which_of r ≡ Some 4 → kind_by (which_of r) r ≡ Ok Group <*> number (meta_read_at 2 4 r)
   unfolding kind_by
   group_kind e = ap (λ o. kind_by o r) e
 

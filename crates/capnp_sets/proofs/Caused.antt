@@ -5,7 +5,7 @@ use Rattle.std.specs.Prelude.{⊤}
 use Rattle.std.specs.Str.{is_utf8}
 use Rattle.capnp_device.specs.declared.error.ErrorKind.{ErrorKind}
 use Rattle.capnp_device.specs.declared.error.ErrorKind.TheVariants.{BadPointer, CapabilityPointer, NameNotUtf8, TextNotTerminated, TooDeep, TypeMismatch, WrongElementSize, WrongPointerKind}
-use Rattle.capnp_schema.specs.Meta.{meta, one}
+use Rattle.capnp_schema.specs.Meta.{meta, meta_struct}
 use Rattle.capnp_schema.specs.Schema.{FieldKind, Group, Slot, VoidValue, default_of, field_at}
 use Rattle.capnp_schema.specs.Types.{SchemaType}
 use Rattle.capnp_records.specs.Default.{read_of}
@@ -14,9 +14,9 @@ use Rattle.capnp_records.specs.Part.{part_at}
 use Rattle.capnp_records.specs.Record as value
 use Rattle.capnp_records.specs.Record.{MoreValues, NoValues, Record, Value, Values}
 use Rattle.capnp_dynamic_readers.specs.Reads.{handed_out}
-use Rattle.capnp_sets.specs.Causes.{◌<*>◌, HasCause, Read, refused}
+use Rattle.capnp_sets.specs.Causes.{◌<*>◌, HasCause, SetRead, refused_read}
 use Rattle.capnp_sets.specs.Lists.{elements_of}
-use Rattle.capnp_sets.specs.Parts.{all_of, blob, integer, list, name, name_of, number, read_at, struct, structs, text, truth, unless_fault}
+use Rattle.capnp_sets.specs.Parts.{all_of, blob, integer, list, name, name_meant, number, meta_read_at, struct, structs, text, truth, unless_fault}
 use Rattle.capnp_sets.specs.Refusals.{is_set_kind}
 
 abbrev pub IsSetKind : ErrorKind → Type 0
@@ -33,32 +33,32 @@ of_reads CapabilityPointer e = refl
 of_reads kind e = cc
 
 -- each cause that stands there is of these kinds
-abbrev pub Caused : {A : Type 0} → Read A → Type 0
+abbrev pub Caused : {A : Type 0} → SetRead A → Type 0
 Caused x = (kind : ErrorKind) → HasCause x kind → IsSetKind kind
 
 pub caused_none : {A : Type 0} (a : A) → Caused (Ok a)
 unfolding HasCause
 caused_none a kind h = absurd h
 
-pub caused_one : (A : Type 0) (kind : ErrorKind) → IsSetKind kind → Caused {A = A} (refused kind)
+pub caused_one : (A : Type 0) (kind : ErrorKind) → IsSetKind kind → Caused {A = A} (refused_read kind)
 unfolding HasCause
 caused_one A kind e other h = subst IsSetKind h e
 
-one_side : {A B : Type 0} (x : Read (A → B)) (y : Read A) (kind : ErrorKind) → HasCause (x <*> y) kind → HasCause x kind ⊎ HasCause y kind
+one_side : {A B : Type 0} (x : SetRead (A → B)) (y : SetRead A) (kind : ErrorKind) → HasCause (x <*> y) kind → HasCause x kind ⊎ HasCause y kind
 unfolding ◌<*>◌ HasCause
 one_side (Ok f) (Ok a) kind h = absurd h
 one_side (Ok f) (Err others) kind h = inr h
 one_side (Err causes) (Ok a) kind h = inl h
 one_side (Err causes) (Err others) kind h = h
 
-pub caused_both : {A B : Type 0} (x : Read (A → B)) (y : Read A) → Caused x → Caused y → Caused (x <*> y)
+pub caused_both : {A B : Type 0} (x : SetRead (A → B)) (y : SetRead A) → Caused x → Caused y → Caused (x <*> y)
 caused_both x y cx cy kind h = go (one_side x y kind h)
   where
     go : HasCause x kind ⊎ HasCause y kind → IsSetKind kind
     go (inl here) = cx kind here
     go (inr here) = cy kind here
 
-pub caused_if : {A : Type 0} (q : Bool) (x y : Read A) → Caused x → Caused y → Caused (cond q x y)
+pub caused_if : {A : Type 0} (q : Bool) (x y : SetRead A) → Caused x → Caused y → Caused (cond q x y)
 caused_if true x y cx cy = cx
 caused_if false x y cx cy = cy
 
@@ -100,10 +100,10 @@ caused_blob (value.Data bytes) s = caused_none bytes
 caused_blob (value.Fault kind) s = caused_one _ kind (of_reads kind s)
 caused_blob v s = caused_one _ TypeMismatch refl
 
-name_bytes : (bytes : List ℕ) → Caused (name_of bytes)
+name_bytes : (bytes : List ℕ) → Caused (name_meant bytes)
 name_bytes bytes = go (is_utf8 bytes)
   where
-    go : (q : Bool) → Caused (elim q as (λ _. Read (List ℕ)) [ true ↦ Ok bytes | false ↦ refused NameNotUtf8 ])
+    go : (q : Bool) → Caused (elim q as (λ _. SetRead (List ℕ)) [ true ↦ Ok bytes | false ↦ refused_read NameNotUtf8 ])
     go true = caused_none bytes
     go false = caused_one _ NameNotUtf8 refl
 
@@ -112,28 +112,28 @@ caused_name (value.Text bytes) s = name_bytes bytes
 caused_name (value.Fault kind) s = caused_one _ kind (of_reads kind s)
 caused_name v s = caused_one _ TypeMismatch refl
 
-pub caused_struct : {A : Type 0} (f : Record → Read A) → ((r : Record) → RecordSound r → Caused (f r)) → (v : Value) → Sound v → Caused (struct f v)
+pub caused_struct : {A : Type 0} (f : Record → SetRead A) → ((r : Record) → RecordSound r → Caused (f r)) → (v : Value) → Sound v → Caused (struct f v)
 caused_struct f c (value.Struct r) s = c r s
 caused_struct f c (value.Fault kind) s = caused_one _ kind (of_reads kind s)
 caused_struct f c v s = caused_one _ TypeMismatch refl
 
-caused_element : {A : Type 0} (f : Value → Read A) → ((v : Value) → Sound v → Caused (f v)) → (v : Value) → Sound v → Caused (unless_fault f v)
+caused_element : {A : Type 0} (f : Value → SetRead A) → ((v : Value) → Sound v → Caused (f v)) → (v : Value) → Sound v → Caused (unless_fault f v)
 caused_element f c (value.Fault kind) s = caused_one _ kind (of_reads kind s)
 caused_element f c v s = c v s
 
-caused_all : {A : Type 0} (f : Value → Read A) → ((v : Value) → Sound v → Caused (f v)) → (vs : Values) → AllSound vs → Caused (all_of f vs)
+caused_all : {A : Type 0} (f : Value → SetRead A) → ((v : Value) → Sound v → Caused (f v)) → (vs : Values) → AllSound vs → Caused (all_of f vs)
 unfolding all_of
 caused_all f c NoValues s = caused_none []
 caused_all f c (MoreValues v vs) s = caused_both _ _ (caused_both _ _ (caused_none _) (c v s.0)) (caused_all f c vs s.1)
 
-pub caused_list : {A : Type 0} (t : SchemaType) (f : Value → Read A) → ((v : Value) → Sound v → Caused (f v)) → (v : Value) → Sound v → Caused (list t f v)
+pub caused_list : {A : Type 0} (t : SchemaType) (f : Value → SetRead A) → ((v : Value) → Sound v → Caused (f v)) → (v : Value) → Sound v → Caused (list t f v)
 caused_list t f c (value.Elements vs) s =
     caused_all (λ v. unless_fault f (read_of meta VoidValue t v)) (λ v h. caused_element f c (read_of meta VoidValue t v) (read_of-sound meta VoidValue t v h)) vs s
 caused_list t f c (value.Fault kind) s = caused_one _ kind (of_reads kind s)
 caused_list t f c v s = caused_one _ TypeMismatch refl
 
-pub caused_structs : {A : Type 0} (b : ℕ) (f : Record → Read A) → ((r : Record) → RecordSound r → Caused (f r)) → (v : Value) → Sound v → Caused (structs b f v)
-caused_structs b f c = caused_list (one b) (struct f) (caused_struct f c)
+pub caused_structs : {A : Type 0} (b : ℕ) (f : Record → SetRead A) → ((r : Record) → RecordSound r → Caused (f r)) → (v : Value) → Sound v → Caused (structs b f v)
+caused_structs b f c = caused_list (meta_struct b) (struct f) (caused_struct f c)
 
 -- ---- what is read of a record's parts ----
 
@@ -142,8 +142,8 @@ handed_out-sound (Slot offset default) v s = s
 handed_out-sound (Group node) (value.Group r) s = s
 handed_out-sound (Group node) v s = s
 
-pub read_at-sound : (b i : ℕ) (r : Record) → RecordSound r → Sound (read_at b i r)
-unfolding read_at
+pub read_at-sound : (b i : ℕ) (r : Record) → RecordSound r → Sound (meta_read_at b i r)
+unfolding meta_read_at
 read_at-sound b i r s =
     handed_out-sound (field_at meta b i).field.kind _
     (read_of-sound meta (default_of (field_at meta b i).field) (field_at meta b i).type (part_at r (field_at meta b i).field i) (part-sound r s (field_at meta b i).field i))

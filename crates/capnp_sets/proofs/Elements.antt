@@ -7,7 +7,7 @@ use Rattle.capnp_wire.specs.Tree.{StructTree}
 use Rattle.capnp_wire.specs.declared.list_reader.ListReader.{ListReader}
 use Rattle.capnp_wire.specs.declared.pointer_reader.PointerReader.{PointerReader}
 use Rattle.capnp_wire.specs.declared.struct_reader.StructReader.{StructReader}
-use Rattle.capnp_schema.specs.Meta.{many, meta, one}
+use Rattle.capnp_schema.specs.Meta.{meta_structs, meta, meta_struct}
 use Rattle.capnp_schema.specs.Schema.{VoidValue}
 use Rattle.capnp_schema.specs.Types.{SchemaType}
 use Rattle.capnp_records.specs.Default.{read_of}
@@ -15,8 +15,8 @@ use Rattle.capnp_records.specs.Facts.Readers.{element-is-read}
 use Rattle.capnp_records.specs.Reading.{of_read, struct_record, value_of}
 use Rattle.capnp_records.specs.Record as value
 use Rattle.capnp_records.specs.Record.{Left, Value}
-use Rattle.capnp_sets.specs.Causes.{HasCause, Read}
-use Rattle.capnp_sets.specs.Handles.{record_in}
+use Rattle.capnp_sets.specs.Causes.{HasCause, SetRead}
+use Rattle.capnp_sets.specs.Handles.{meta_record_in}
 use Rattle.capnp_sets.specs.Parts.{unless_fault}
 use Rattle.capnp_sets.proofs.AppliedReads.{only_cause}
 use Rattle.capnp_sets.proofs.RowsRead.{element_seen}
@@ -24,25 +24,25 @@ use Rattle.capnp_sets.proofs.RowsRead.{element_seen}
 -- what the calls of a list's reader answer for an element is the read of the element
 module _ (b : ℕ) (l : ListReader) (i : ℕ) where
   abbrev seen_by : Result StructTree ErrorKind → Value
-  seen_by x = read_of meta VoidValue (one b) (of_read (λ (y : StructTree). value.Struct (struct_record meta (Left (list_levels l - 1)) y b)) x)
+  seen_by x = read_of meta VoidValue (meta_struct b) (of_read (λ (y : StructTree). value.Struct (struct_record meta (Left (list_levels l - 1)) y b)) x)
 
-  pub struct_there : (s : StructReader) → Ok (struct_of s) ≡ with_level (list_levels l) (Ok (element_struct (list_of l) i)) → struct_levels s + 1 ≡ list_levels l → value.Struct (record_in b s) ≡ element_seen (one b) l i
+  pub struct_there : (s : StructReader) → Ok (struct_of s) ≡ with_level (list_levels l) (Ok (element_struct (list_of l) i)) → struct_levels s + 1 ≡ list_levels l → value.Struct (meta_record_in b s) ≡ element_seen (meta_struct b) l i
   struct_there s e levels =
       ap (λ m. value.Struct (struct_record meta (Left m) (struct_of s) b)) (omega (arith, levels))
-      ∙ (ap seen_by e ∙ ap (read_of meta VoidValue (one b)) (sym (element-is-read meta (list_of l) (list_levels l) (one b) i)))
+      ∙ (ap seen_by e ∙ ap (read_of meta VoidValue (meta_struct b)) (sym (element-is-read meta (list_of l) (list_levels l) (meta_struct b) i)))
 
-  pub struct_refused : (kind : ErrorKind) → Err kind ≡ with_level (list_levels l) (Ok (element_struct (list_of l) i)) → value.Fault kind ≡ element_seen (one b) l i
-  struct_refused kind e = ap seen_by e ∙ ap (read_of meta VoidValue (one b)) (sym (element-is-read meta (list_of l) (list_levels l) (one b) i))
+  pub struct_refused : (kind : ErrorKind) → Err kind ≡ with_level (list_levels l) (Ok (element_struct (list_of l) i)) → value.Fault kind ≡ element_seen (meta_struct b) l i
+  struct_refused kind e = ap seen_by e ∙ ap (read_of meta VoidValue (meta_struct b)) (sym (element-is-read meta (list_of l) (list_levels l) (meta_struct b) i))
 
   module _ (p : PointerReader) (tree : tree_of p ≡ element_pointer (list_of l) i (list_levels l)) (levels : levels_of p ≡ element_levels (list_of l) (list_levels l)) where
-    pub pointer_seen : read_of meta VoidValue (many b) (value_of meta (tree_of p) (Left (levels_of p)) (many b)) ≡ element_seen (many b) l i
+    pub pointer_seen : read_of meta VoidValue (meta_structs b) (value_of meta (tree_of p) (Left (levels_of p)) (meta_structs b)) ≡ element_seen (meta_structs b) l i
     pointer_seen =
-        ap (λ x. read_of meta VoidValue (many b) (value_of meta x (Left (levels_of p)) (many b))) tree
-        ∙ (ap (λ n. read_of meta VoidValue (many b) (value_of meta (element_pointer (list_of l) i (list_levels l)) (Left n) (many b))) levels
-        ∙ ap (read_of meta VoidValue (many b)) (sym (element-is-read meta (list_of l) (list_levels l) (many b) i)))
+        ap (λ x. read_of meta VoidValue (meta_structs b) (value_of meta x (Left (levels_of p)) (meta_structs b))) tree
+        ∙ (ap (λ n. read_of meta VoidValue (meta_structs b) (value_of meta (element_pointer (list_of l) i (list_levels l)) (Left n) (meta_structs b))) levels
+        ∙ ap (read_of meta VoidValue (meta_structs b)) (sym (element-is-read meta (list_of l) (list_levels l) (meta_structs b) i)))
 
-module _ {A : Type 0} (t : SchemaType) (f : Value → Read A) (l : ListReader) (i : ℕ) where
-  abbrev one_read : Read A
+module _ {A : Type 0} (t : SchemaType) (f : Value → SetRead A) (l : ListReader) (i : ℕ) where
+  abbrev one_read : SetRead A
   one_read = unless_fault f (element_seen t l i)
 
   -- an element that was read stands for what its value stands for, which is no fault
@@ -51,7 +51,7 @@ module _ {A : Type 0} (t : SchemaType) (f : Value → Read A) (l : ListReader) (
 
   -- the causes of its value stand in it
   pub element_caused : (v : Value) (kind : ErrorKind) → v ≡ element_seen t l i → unless_fault f v ≡ f v → HasCause (f v) kind → HasCause one_read kind
-  element_caused v kind seen there here = subst (λ (x : Read A). HasCause x kind) (sym (ap (unless_fault f) (sym seen) ∙ there)) here
+  element_caused v kind seen there here = subst (λ (x : SetRead A). HasCause x kind) (sym (ap (unless_fault f) (sym seen) ∙ there)) here
 
   -- and where there is none, the refusal of its read
   pub element_refused : (kind : ErrorKind) → value.Fault kind ≡ element_seen t l i → HasCause one_read kind

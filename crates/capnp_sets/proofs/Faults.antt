@@ -6,13 +6,13 @@ use Rattle.capnp_device.specs.declared.error.ErrorKind.{ErrorKind}
 use Rattle.capnp_device.specs.declared.error.ErrorKind.TheVariants.{NameNotUtf8}
 use Rattle.capnp_records.specs.Record as value
 use Rattle.capnp_records.specs.Record.{Record, Value}
-use Rattle.capnp_sets.specs.Causes.{HasCause, Read, refused}
-use Rattle.capnp_sets.specs.Parts.{blob, integer, list, name, name_of, number, struct, text, truth, unless_fault}
+use Rattle.capnp_sets.specs.Causes.{HasCause, SetRead, refused_read}
+use Rattle.capnp_sets.specs.Parts.{blob, integer, list, name, name_meant, number, struct, text, truth, unless_fault}
 use Rattle.capnp_schema.specs.Types.{SchemaType}
 use Rattle.capnp_sets.proofs.AppliedReads.{only_cause}
 
 -- a fault's refusal is a cause, however it is taken
-faulted : {A : Type 0} (f : Value → Read A) (v : Value) (kind : ErrorKind) → f (value.Fault kind) ≡ refused kind → value.Fault kind ≡ v → HasCause (f v) kind
+faulted : {A : Type 0} (f : Value → SetRead A) (v : Value) (kind : ErrorKind) → f (value.Fault kind) ≡ refused_read kind → value.Fault kind ≡ v → HasCause (f v) kind
 faulted f v kind e h = only_cause kind (f v) (sym (ap f h) ∙ e)
 
 pub fault_number : (v : Value) (kind : ErrorKind) → value.Fault kind ≡ v → HasCause (number v) kind
@@ -33,14 +33,14 @@ fault_blob v kind = faulted blob v kind refl
 pub fault_name : (v : Value) (kind : ErrorKind) → value.Fault kind ≡ v → HasCause (name v) kind
 fault_name v kind = faulted name v kind refl
 
-pub fault_struct : {A : Type 0} (f : Record → Read A) (v : Value) (kind : ErrorKind) → value.Fault kind ≡ v → HasCause (struct f v) kind
+pub fault_struct : {A : Type 0} (f : Record → SetRead A) (v : Value) (kind : ErrorKind) → value.Fault kind ≡ v → HasCause (struct f v) kind
 fault_struct f v kind = faulted (struct f) v kind refl
 
-pub fault_list : {A : Type 0} (t : SchemaType) (f : Value → Read A) (v : Value) (kind : ErrorKind) → value.Fault kind ≡ v → HasCause (list t f v) kind
+pub fault_list : {A : Type 0} (t : SchemaType) (f : Value → SetRead A) (v : Value) (kind : ErrorKind) → value.Fault kind ≡ v → HasCause (list t f v) kind
 fault_list t f v kind = faulted (list t f) v kind refl
 
 -- a list of what is read stands for its own refusal where it is a fault
-pub unless_listed : {A : Type 0} (t : SchemaType) (f : Value → Read A) (v : Value) → unless_fault (list t f) v ≡ list t f v
+pub unless_listed : {A : Type 0} (t : SchemaType) (f : Value → SetRead A) (v : Value) → unless_fault (list t f) v ≡ list t f v
 unless_listed t f (value.Fault kind) = refl
 unless_listed t f v = refl
 
@@ -51,23 +51,23 @@ name_cause (value.Text bytes) kind h = absurd h
 name_cause v kind h = h
 
 -- and one that is read as a text is that text's bytes
-pub name_from : (v : Value) (bytes : List ℕ) → text v ≡ Ok bytes → name v ≡ name_of bytes
-name_from (value.Text b) bytes e = ap name_of (same b bytes e)
+pub name_from : (v : Value) (bytes : List ℕ) → text v ≡ Ok bytes → name v ≡ name_meant bytes
+name_from (value.Text b) bytes e = ap name_meant (same b bytes e)
   where
     same : (b bytes : List ℕ) → text (value.Text b) ≡ Ok bytes → b ≡ bytes
     same b bytes e = cc
 name_from v bytes e = cc
 
-pub utf8_name : (bytes : List ℕ) → IsUtf8 bytes → name_of bytes ≡ Ok bytes
+pub utf8_name : (bytes : List ℕ) → IsUtf8 bytes → name_meant bytes ≡ Ok bytes
 utf8_name bytes utf8 = go (is_utf8 bytes) (is_utf8-from_IsUtf8 bytes utf8)
   where
-    go : (q : Bool) → q ≡ true → (elim q as (λ _. Read (List ℕ)) [ true ↦ Ok bytes | false ↦ refused NameNotUtf8 ]) ≡ Ok bytes
+    go : (q : Bool) → q ≡ true → (elim q as (λ _. SetRead (List ℕ)) [ true ↦ Ok bytes | false ↦ refused_read NameNotUtf8 ]) ≡ Ok bytes
     go true e = refl
     go false e = cc
 
-pub broken_name : (bytes : List ℕ) → (IsUtf8 bytes → ⊥) → HasCause (name_of bytes) NameNotUtf8
-broken_name bytes broken = only_cause NameNotUtf8 (name_of bytes) (go (is_utf8 bytes) refl)
+pub broken_name : (bytes : List ℕ) → (IsUtf8 bytes → ⊥) → HasCause (name_meant bytes) NameNotUtf8
+broken_name bytes broken = only_cause NameNotUtf8 (name_meant bytes) (go (is_utf8 bytes) refl)
   where
-    go : (q : Bool) → is_utf8 bytes ≡ q → (elim q as (λ _. Read (List ℕ)) [ true ↦ Ok bytes | false ↦ refused NameNotUtf8 ]) ≡ refused NameNotUtf8
+    go : (q : Bool) → is_utf8 bytes ≡ q → (elim q as (λ _. SetRead (List ℕ)) [ true ↦ Ok bytes | false ↦ refused_read NameNotUtf8 ]) ≡ refused_read NameNotUtf8
     go true e = absurd (broken (IsUtf8-from_is_utf8 bytes e))
     go false e = refl

@@ -12,8 +12,8 @@ use Rattle.capnp_records.specs.Reading.{kind_value, record_within, values_of}
 use Rattle.capnp_records.specs.Record as value
 use Rattle.capnp_records.specs.Record.{Left, Levels, Value}
 use Rattle.capnp_dynamic_readers.specs.Reads.{field_read, handed_out}
-use Rattle.capnp_sets.specs.Handles.{IsActive, IsField, record_in}
-use Rattle.capnp_sets.specs.Parts.{read_at}
+use Rattle.capnp_sets.specs.Handles.{IsMetaFieldActive, IsMetaField, meta_record_in}
+use Rattle.capnp_sets.specs.Parts.{meta_read_at}
 use Rattle.capnp_sets.proofs.PartsSeen.{part-here}
 
 -- what is read of a part under a field
@@ -25,15 +25,15 @@ abbrev pub read_by : Levels → StructTree → FieldKind → SchemaType → Valu
 read_by l s k t =
     handed_out k (read_of meta (kind_default k) t (kind_value (record_within (length meta.brands) meta l s.bytes (values_of meta s.pointers)) l s.bytes (values_of meta s.pointers) k t))
 
-module _ (s : StructReader) (b i : ℕ) (active : IsActive b i s) where
-  pub seen_at : i < length (fields_of meta b) → read_at b i (record_in b s) ≡ field_read meta (Left (struct_levels s)) (struct_of s) (field_at meta b i)
-  unfolding read_at
+module _ (s : StructReader) (b i : ℕ) (active : IsMetaFieldActive b i s) where
+  pub seen_at : i < length (fields_of meta b) → meta_read_at b i (meta_record_in b s) ≡ field_read meta (Left (struct_levels s)) (struct_of s) (field_at meta b i)
+  unfolding meta_read_at
   seen_at inside = ap (under (field_at meta b i)) (part-here meta (Left (struct_levels s)) (struct_of s) b i inside active)
 
   -- where its kind and type are known
-  pub seen_by : (k : FieldKind) (t : SchemaType) → IsField b i t → (field_at meta b i).field.kind ≡ k → read_at b i (record_in b s) ≡ read_by (Left (struct_levels s)) (struct_of s) k t
+  pub seen_by : (k : FieldKind) (t : SchemaType) → IsMetaField b i t → (field_at meta b i).field.kind ≡ k → meta_read_at b i (meta_record_in b s) ≡ read_by (Left (struct_levels s)) (struct_of s) k t
   seen_by k t field kind = seen_at field.0 ∙ ap₂ (read_by (Left (struct_levels s)) (struct_of s)) kind field.1
 
 -- the slot of a field is the same struct under the group's brand
-pub slot_seen : (s : StructReader) → which_of (record_in 2 s) ≡ Some 3 → read_at 2 3 (record_in 2 s) ≡ value.Struct (record_in 3 s)
+pub slot_seen : (s : StructReader) → which_of (meta_record_in 2 s) ≡ Some 3 → meta_read_at 2 3 (meta_record_in 2 s) ≡ value.Struct (meta_record_in 3 s)
 slot_seen s active = seen_at s 2 3 (inr active) (omega arith)

@@ -10,7 +10,7 @@ use Rattle.capnp_schema.specs.Types.{SchemaType}
 use Rattle.capnp_records.specs.Default.{read_of}
 use Rattle.capnp_records.specs.Record as value
 use Rattle.capnp_records.specs.Record.{Value}
-use Rattle.capnp_sets.specs.Causes.{HasCause, Read}
+use Rattle.capnp_sets.specs.Causes.{HasCause, SetRead}
 use Rattle.capnp_sets.specs.Handles.{list_in}
 use Rattle.capnp_sets.specs.Parts.{list, unless_fault}
 use Rattle.capnp_sets.proofs.Elements.{element_caused, element_made, element_refused}
@@ -20,14 +20,14 @@ abbrev pub count_of : ListReader → ℕ
 count_of l = list_length (list_of l)
 
 -- what an element of a list stands for
-abbrev pub one_of : {A : Type 0} → SchemaType → (Value → Read A) → Value → Read A
+abbrev pub one_of : {A : Type 0} → SchemaType → (Value → SetRead A) → Value → SetRead A
 one_of t f v = unless_fault f (read_of meta VoidValue t v)
 
 -- what a list stands for, where some of its elements were read
-abbrev pub ListReadTo : {A : Type 0} → SchemaType → (Value → Read A) → ListReader → List A → ℕ → Type 0
+abbrev pub ListReadTo : {A : Type 0} → SchemaType → (Value → SetRead A) → ListReader → List A → ℕ → Type 0
 ListReadTo t f l xs i = IsReadTo (one_of t f) (element_in t l) (count_of l) (list t f (list_in t l)) xs i
 
-module _ {A : Type 0} (t : SchemaType) (f : Value → Read A) (l : ListReader) where
+module _ {A : Type 0} (t : SchemaType) (f : Value → SetRead A) (l : ListReader) where
   pub list_none : (xs : List A) → xs ≡ [] → ListReadTo t f l xs 0
   list_none xs e = subst (λ ys. ListReadTo t f l ys 0) (sym e) (read_none (one_of t f) (element_in t l) (count_of l))
 

@@ -8,9 +8,9 @@ use Rattle.capnp_schema.specs.Meta.{meta}
 use Rattle.capnp_schema.specs.Schema.{TypedField, field_at, fields_of, is_member}
 use Rattle.capnp_schema.specs.SlotValue.{bits_at}
 use Rattle.capnp_records.specs.Part.{which_of}
-use Rattle.capnp_records.specs.Reading.{active_among, part_of, plain_parts, values_of}
+use Rattle.capnp_records.specs.Reading.{active_among, part_of, non_union_parts, values_of}
 use Rattle.capnp_records.specs.Record.{Active, Left, Parts, Union, Unknown, Value, Values}
-use Rattle.capnp_sets.specs.Handles.{record_in}
+use Rattle.capnp_sets.specs.Handles.{meta_record_in}
 
 differs : (a b : ℕ) → a ≢ b → (b == a) ≡ false
 differs a b h = go (b == a) refl
@@ -62,17 +62,17 @@ abbrev part_in : StructReader → TypedField → Value
 part_in s = part_of meta (Left (struct_levels s)) (struct_of s).bytes (values_of meta (struct_of s).pointers)
 
 abbrev plain_in : ℕ → StructReader → Values
-plain_in b s = plain_parts (part_in s) (fields_of meta b)
+plain_in b s = non_union_parts (part_in s) (fields_of meta b)
 
 value_members : AreNumbered 0 (fields_of meta 5)
 value_members = ((refl, refl), ((refl, refl), ((refl, refl), ((refl, refl), ((refl, refl), ((refl, refl), ((refl, refl), ((refl, refl), ((refl, refl), ((refl, refl), ((refl, refl), ((refl, refl), ((refl, refl), ((refl, refl), ((refl, refl), tt)))))))))))))))
 
 module _ (s : StructReader) (number : ℕ) where
   -- the active member of a value has the index of its discriminant value
-  pub value_here : number ≡ bits_at (struct_of s).bytes 0 16 → number < 15 → which_of (record_in 5 s) ≡ Some number
+  pub value_here : number ≡ bits_at (struct_of s).bytes 0 16 → number < 15 → which_of (meta_record_in 5 s) ≡ Some number
   value_here e high = numbered_here (part_in s) (plain_in 5 s) (bits_at (struct_of s).bytes 0 16) (fields_of meta 5) 0 value_members (omega arith) (omega (arith, e, high)) ∙ ap (λ n. Some n) (sym e)
 
-  pub value_past : number ≡ bits_at (struct_of s).bytes 0 16 → 15 ≤ number → which_of (record_in 5 s) ≡ None
+  pub value_past : number ≡ bits_at (struct_of s).bytes 0 16 → 15 ≤ number → which_of (meta_record_in 5 s) ≡ None
   value_past e low = numbered_past (part_in s) (plain_in 5 s) (bits_at (struct_of s).bytes 0 16) (fields_of meta 5) 0 value_members (omega (arith, e, low))
 
 -- ---- the two members of a field ----
@@ -85,17 +85,17 @@ two_of vs x y number false false = refl
 abbrev member_by : ℕ → Option ℕ
 member_by number = cond (0 == number) (Some 3) (cond (1 == number) (Some 4) None)
 
-field_member : (s : StructReader) (number : ℕ) → number ≡ bits_at (struct_of s).bytes 16 16 → which_of (record_in 2 s) ≡ member_by number
+field_member : (s : StructReader) (number : ℕ) → number ≡ bits_at (struct_of s).bytes 16 16 → which_of (meta_record_in 2 s) ≡ member_by number
 field_member s number e = two_of (plain_in 2 s) (part_in s (field_at meta 2 3)) (part_in s (field_at meta 2 4)) (bits_at (struct_of s).bytes 16 16) (0 == bits_at (struct_of s).bytes 16 16) (1 == bits_at (struct_of s).bytes 16 16) ∙ ap member_by (sym e)
 
 module _ (s : StructReader) (number : ℕ) (e : number ≡ bits_at (struct_of s).bytes 16 16) where
-  pub is_slot : number ≡ 0 → which_of (record_in 2 s) ≡ Some 3
+  pub is_slot : number ≡ 0 → which_of (meta_record_in 2 s) ≡ Some 3
   is_slot h = field_member s number e ∙ ap member_by h
 
-  pub is_group : number ≡ 1 → which_of (record_in 2 s) ≡ Some 4
+  pub is_group : number ≡ 1 → which_of (meta_record_in 2 s) ≡ Some 4
   is_group h = field_member s number e ∙ ap member_by h
 
-  pub is_neither : number ≢ 0 → number ≢ 1 → which_of (record_in 2 s) ≡ None
+  pub is_neither : number ≢ 0 → number ≢ 1 → which_of (meta_record_in 2 s) ≡ None
   is_neither zero one =
       field_member s number e
       ∙ (ap (λ q. cond q (Some 3) (cond (1 == number) (Some 4) None)) (differs number 0 zero) ∙ ap (λ q. cond q (Some 4) None) (differs number 1 one))

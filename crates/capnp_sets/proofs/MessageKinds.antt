@@ -16,9 +16,9 @@ use Rattle.capnp_records.specs.Facts.ReadFaults.{RecordSound, value_of-sound}
 use Rattle.capnp_records.specs.Reading.{struct_record}
 use Rattle.capnp_records.specs.Record.{Left}
 use Rattle.capnp_sets.specs.Facts.MessageRefusals.{RefusesAs, message_as, message_refused, struct_as, struct_refused}
-use Rattle.capnp_sets.specs.Lists.{IsSetRefusal}
+use Rattle.capnp_sets.specs.Lists.{IsSchemaSetRefusal}
 use Rattle.capnp_sets.specs.Message.{IsMessageRefusal, IsRootRefusal, root_record, root_struct}
-use Rattle.capnp_sets.specs.Refusals.{IsOfSet, is_set_kind}
+use Rattle.capnp_sets.specs.Refusals.{IsRefusalOfSet, is_set_kind}
 use Rattle.capnp_sets.proofs.Caused.{IsSetKind}
 use Rattle.capnp_sets.proofs.SetKinds.{caused_set}
 
@@ -44,7 +44,7 @@ rule_kind set kind h = absurd h
 root-sound : (set : Schemas) (root : StructTree) → RecordSound (struct_record set (Left 63) root 0)
 root-sound set root = value_of-sound set (tree.Struct root.bytes root.pointers) (Left 64) (StructType 0 0)
 
-record_kind : (root : StructTree) (e : Error) → IsSetRefusal (root_record root) e → IsSetKind e.kind
+record_kind : (root : StructTree) (e : Error) → IsSchemaSetRefusal (root_record root) e → IsSetKind e.kind
 record_kind root e (inl here) = caused_set (root_record root) (root-sound meta root) e.kind here
 record_kind root e (inr (set, lists, broken)) = rule_kind set e.kind broken
 
@@ -66,7 +66,7 @@ set_kind bytes e h = go (is_set_kind e.kind) refl
     go true known = known
     go false known = message_kind bytes e (h (no_memory known))
 
-pub of_set : (kind : ErrorKind) → IsSetKind kind → IsOfSet kind
+pub of_set : (kind : ErrorKind) → IsSetKind kind → IsRefusalOfSet kind
 of_set kind h = (
   (λ e. true≢false (sym h ∙ ap is_set_kind e)),
   (λ e. true≢false (sym h ∙ ap is_set_kind e)),
@@ -78,6 +78,6 @@ pub each_kind : {A : Type 0} (made : Result A Error) (bytes : List ℕ) → IfEr
 each_kind (Ok a) bytes h = tt
 each_kind (Err e) bytes h = set_kind bytes e h
 
-pub each_of_set : {A : Type 0} (made : Result A Error) → IfErr made (λ e. IsSetKind e.kind) → IfErr made (λ e. IsOfSet e.kind)
+pub each_of_set : {A : Type 0} (made : Result A Error) → IfErr made (λ e. IsSetKind e.kind) → IfErr made (λ e. IsRefusalOfSet e.kind)
 each_of_set (Ok a) h = tt
 each_of_set (Err e) h = of_set e.kind h

@@ -6,7 +6,7 @@ use Rattle.capnp_schema.specs.Schema.{Schemas, TypedField, field_at, fields_of, 
 use Rattle.capnp_records.specs.Facts.Frame.{first-of, second-of}
 use Rattle.capnp_records.specs.Facts.PartRead.{FoundActive, found-active, nth-plain_parts}
 use Rattle.capnp_records.specs.Part.{active_value, is_active, nth_value, part_at, which_of}
-use Rattle.capnp_records.specs.Reading.{active_among, discriminant, part_of, plain_parts, struct_record, union_of, values_of}
+use Rattle.capnp_records.specs.Reading.{active_among, discriminant, part_of, non_union_parts, struct_record, union_of, values_of}
 use Rattle.capnp_records.specs.Record.{Active, Levels, NoUnion, Union, Unknown, Parts, Record, Value, Values}
 
 -- a field is plain, or the active member of a record
@@ -46,8 +46,8 @@ module _ (set : Schemas) (l : Levels) (s : StructTree) (b i : ℕ) where
   part-here inside here = go (is_member f.field) refl here
     where
       go : (q : Bool) → is_member f.field ≡ q → IsHere (struct_record set l s b) f i → part_at (struct_record set l s b) f.field i ≡ v f
-      go false plain here = second-of (is_member f.field) (active_value union) (nth_value (plain_parts v (fields_of set b)) i) plain ∙ nth-plain_parts v (fields_of set b) i inside plain
+      go false plain here = second-of (is_member f.field) (active_value union) (nth_value (non_union_parts v (fields_of set b)) i) plain ∙ nth-plain_parts v (fields_of set b) i inside plain
       go true member (inl plain) = absurd (true≢false (sym member ∙ plain))
       go true member (inr which) =
-          first-of (is_member f.field) (active_value union) (nth_value (plain_parts v (fields_of set b)) i) member
-          ∙ active-part (active-same (plain_parts v (fields_of set b)) union i which)
+          first-of (is_member f.field) (active_value union) (nth_value (non_union_parts v (fields_of set b)) i) member
+          ∙ active-part (active-same (non_union_parts v (fields_of set b)) union i which)

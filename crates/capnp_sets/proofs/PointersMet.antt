@@ -14,7 +14,7 @@ use Rattle.capnp_wire.specs.declared.size.ElementSize.{ElementSize}
 use Rattle.capnp_wire.specs.declared.size.ElementSize.TheVariants as size
 use Rattle.capnp_wire.specs.declared.struct_reader.StructReader.{StructReader}
 use Rattle.capnp_schema.specs.Builtin.{zero_word}
-use Rattle.capnp_schema.specs.Meta.{meta, one}
+use Rattle.capnp_schema.specs.Meta.{meta, meta_struct}
 use Rattle.capnp_schema.specs.Schema.{DataValue, ListValue, StructValue, TextValue, VoidValue}
 use Rattle.capnp_schema.specs.Schema.{Value as SchemaValue}
 use Rattle.capnp_schema.specs.Types.{DataType, ListType, SchemaType, TextType, element_size}
@@ -22,7 +22,7 @@ use Rattle.capnp_records.specs.Default.{default_record, default_value, read_of}
 use Rattle.capnp_records.specs.Facts.DefaultTree.{read-there}
 use Rattle.capnp_records.specs.Facts.ListValues.{below_of}
 use Rattle.capnp_records.specs.Facts.Readers.{data-read, list-value, null-is, struct-read, text-read, value-there}
-use Rattle.capnp_records.specs.Reading.{elements_value, entered, of_read, struct_record, value_of}
+use Rattle.capnp_records.specs.Reading.{elements_value, entered_value, of_read, struct_record, value_of}
 use Rattle.capnp_records.specs.Record as value
 use Rattle.capnp_records.specs.Record.{Left, Levels, NoValues, Value, one_less}
 use Rattle.capnp_dynamic_readers.specs.Behind.{list_answered, struct_answered}
@@ -53,7 +53,7 @@ refused-entered : {X : Type 0} (q : Bool) (k : ErrorKind) (y : X) (v : Value) �
 refused-entered true k y v e = cc
 refused-entered false k y v e = cc
 
-pub entered-some : (n m : ℕ) (v : Value) → m + 1 ≡ n → entered (Left n) v ≡ v
+pub entered-some : (n m : ℕ) (v : Value) → m + 1 ≡ n → entered_value (Left n) v ≡ v
 entered-some n m v e = ap (λ q. elim q as (λ _. Value) [ true ↦ value.Fault TooDeep | false ↦ v ]) (not-zero n m e)
   where
     not-zero : (n m : ℕ) → m + 1 ≡ n → (n == 0) ≡ false
@@ -83,19 +83,19 @@ data_met x l r e = go (is_null_tree x) refl
 
 -- ---- structs ----
 
-null_struct : (b : ℕ) (l : Levels) → default_value meta l (StructValue zero_word) (one b) ≡ entered l (value.Struct (default_record meta (one_less l) b))
+null_struct : (b : ℕ) (l : Levels) → default_value meta l (StructValue zero_word) (meta_struct b) ≡ entered_value l (value.Struct (default_record meta (one_less l) b))
 unfolding tree_at
 null_struct b l = refl
 
 module _ (b : ℕ) (x : Tree) (n : ℕ) where
   abbrev struct_seen : Value
-  struct_seen = read_of meta (StructValue zero_word) (one b) (value_of meta x (Left n) (one b))
+  struct_seen = read_of meta (StructValue zero_word) (meta_struct b) (value_of meta x (Left n) (meta_struct b))
 
-  struct-null : is_null_tree x ≡ true → struct_seen ≡ entered (Left n) (value.Struct (default_record meta (Left (n - 1)) b))
-  struct-null h = missing (StructValue zero_word) (one b) x (Left n) h ∙ null_struct b (Left n)
+  struct-null : is_null_tree x ≡ true → struct_seen ≡ entered_value (Left n) (value.Struct (default_record meta (Left (n - 1)) b))
+  struct-null h = missing (StructValue zero_word) (meta_struct b) x (Left n) h ∙ null_struct b (Left n)
 
   struct-as : is_null_tree x ≡ false → struct_seen ≡ of_read (λ (s : StructTree). value.Struct (struct_record meta (Left (n - 1)) s b)) (as_struct x n)
-  struct-as h = there (StructValue zero_word) (one b) x (Left n) h ∙ struct-read meta x (Left n) b b h
+  struct-as h = there (StructValue zero_word) (meta_struct b) x (Left n) h ∙ struct-read meta x (Left n) b b h
 
   struct-fault : (k : ErrorKind) → Err k ≡ as_struct x n → (q : Bool) → is_null_tree x ≡ q → value.Fault k ≡ struct_seen
   struct-fault k e true h = refused-entered (n == 0) k _ _ (e ∙ ap (λ y. as_struct y n) (null-is x h)) ∙ sym (struct-null h)
@@ -117,7 +117,7 @@ module _ (b : ℕ) (x : Tree) (n : ℕ) where
 
 -- a default of a list that leads nowhere
 abbrev pub IsNoList : SchemaValue → SchemaType → Type 0
-IsNoList d t = (l : Levels) → default_value meta l d (ListType t) ≡ entered l (value.Elements NoValues)
+IsNoList d t = (l : Levels) → default_value meta l d (ListType t) ≡ entered_value l (value.Elements NoValues)
 
 pub null_list : (t : SchemaType) → IsNoList (ListValue zero_word) t
 unfolding tree_at
@@ -144,7 +144,7 @@ module _ (t : SchemaType) (s : ElementSize) (sized : element_size t ≡ s) (d : 
   abbrev list_seen : Value
   list_seen = read_of meta d (ListType t) (value_of meta x (Left n) (ListType t))
 
-  list-null : is_null_tree x ≡ true → list_seen ≡ entered (Left n) (value.Elements NoValues)
+  list-null : is_null_tree x ≡ true → list_seen ≡ entered_value (Left n) (value.Elements NoValues)
   list-null h = missing d (ListType t) x (Left n) h ∙ none (Left n)
 
   list-as : is_null_tree x ≡ false → list_seen ≡ of_read (λ (_ : Tree). elements_value meta x (below_of meta x) (Left (n - 1)) t) (as_list s x n)

@@ -10,7 +10,7 @@ use Rattle.capnp_wire.specs.declared.pointer_reader.PointerReader.{PointerReader
 use Rattle.capnp_wire.specs.declared.size.ElementSize.{ElementSize}
 use Rattle.capnp_wire.specs.declared.struct_reader.StructReader.{StructReader}
 use Rattle.capnp_schema.specs.Builtin.{zero_word}
-use Rattle.capnp_schema.specs.Meta.{meta, one}
+use Rattle.capnp_schema.specs.Meta.{meta, meta_struct}
 use Rattle.capnp_schema.specs.Schema.{DataValue, ListValue, Slot, StructValue, TextValue}
 use Rattle.capnp_schema.specs.Schema.{Value as SchemaValue}
 use Rattle.capnp_schema.specs.Types.{DataType, ListType, SchemaType, TextType, element_size, is_pointer}
@@ -23,8 +23,8 @@ use Rattle.capnp_records.specs.Record.{Left, Value}
 use Rattle.capnp_dynamic_readers.specs.Behind.{data_answered, list_answered, struct_answered, text_answered}
 use Rattle.capnp_dynamic_readers.specs.Reads.{pointer_read}
 use Rattle.capnp_sets.specs.Causes.{HasCause}
-use Rattle.capnp_sets.specs.Handles.{IsActive, IsSlot, list_in, record_in}
-use Rattle.capnp_sets.specs.Parts.{blob, read_at, text}
+use Rattle.capnp_sets.specs.Handles.{IsMetaFieldActive, IsMetaSlot, list_in, meta_record_in}
+use Rattle.capnp_sets.specs.Parts.{blob, meta_read_at, text}
 use Rattle.capnp_sets.proofs.Faults.{fault_blob, fault_text}
 use Rattle.capnp_sets.proofs.FieldsSeen.{seen_by}
 use Rattle.capnp_sets.proofs.PointersMet.{IsNoList, data_met, entered-some, list_met, null_list, struct_met, text_met}
@@ -47,7 +47,7 @@ pub data_refused : (r : Result (Bor (List ℕ)) Error) (v : Value) → data_answ
 data_refused (Ok x) v e = tt
 data_refused (Err f) v e = fault_blob v f.kind e
 
-pub struct_taken : (b : ℕ) (r : Result StructReader Error) (v : Value) → struct_answered meta b r ≡ v → IfOk r (λ s. value.Struct (record_in b s) ≡ v)
+pub struct_taken : (b : ℕ) (r : Result StructReader Error) (v : Value) → struct_answered meta b r ≡ v → IfOk r (λ s. value.Struct (meta_record_in b s) ≡ v)
 struct_taken b (Ok s) v e = e
 struct_taken b (Err f) v e = tt
 
@@ -74,8 +74,8 @@ null_read d t none p null left =
 
 -- ---- the pointer at the place of a field ----
 
-module _ (s : StructReader) (b i : ℕ) (active : IsActive b i s) (p : PointerReader) (place : ℕ) (tree : tree_of p ≡ nth_tree (struct_of s).pointers place) (levels : levels_of p ≡ struct_levels s) where
-  pointer_there : (d : SchemaValue) (t : SchemaType) → is_pointer t ≡ true → IsSlot b i t place d → pointer_read meta d t p ≡ read_at b i (record_in b s)
+module _ (s : StructReader) (b i : ℕ) (active : IsMetaFieldActive b i s) (p : PointerReader) (place : ℕ) (tree : tree_of p ≡ nth_tree (struct_of s).pointers place) (levels : levels_of p ≡ struct_levels s) where
+  pointer_there : (d : SchemaValue) (t : SchemaType) → is_pointer t ≡ true → IsMetaSlot b i t place d → pointer_read meta d t p ≡ meta_read_at b i (meta_record_in b s)
   pointer_there d t is slot =
       sym (seen_by s b i active (Slot place d) t slot.0 slot.1
       ∙ ap (read_of meta d t)
@@ -83,20 +83,20 @@ module _ (s : StructReader) (b i : ℕ) (active : IsActive b i s) (p : PointerRe
       ∙ (ap (λ (f : Reading). f (Left (struct_levels s)) t) (values_of-nth meta (struct_of s).pointers place)
       ∙ ap₂ (λ x n. value_of meta x (Left n) t) (sym tree) (sym levels))))
 
-  pub text_there : IsSlot b i TextType place (TextValue []) → (r : Result (Bor (List ℕ)) Error) → bytes_read r ≡ as_text (tree_of p) → text_answered r ≡ read_at b i (record_in b s)
+  pub text_there : IsMetaSlot b i TextType place (TextValue []) → (r : Result (Bor (List ℕ)) Error) → bytes_read r ≡ as_text (tree_of p) → text_answered r ≡ meta_read_at b i (meta_record_in b s)
   text_there slot r e = text_met (tree_of p) (Left (levels_of p)) (bytes_read r) e ∙ pointer_there (TextValue []) TextType refl slot
 
-  pub data_there : IsSlot b i DataType place (DataValue []) → (r : Result (Bor (List ℕ)) Error) → bytes_read r ≡ as_data (tree_of p) → data_answered r ≡ read_at b i (record_in b s)
+  pub data_there : IsMetaSlot b i DataType place (DataValue []) → (r : Result (Bor (List ℕ)) Error) → bytes_read r ≡ as_data (tree_of p) → data_answered r ≡ meta_read_at b i (meta_record_in b s)
   data_there slot r e = data_met (tree_of p) (Left (levels_of p)) (bytes_read r) e ∙ pointer_there (DataValue []) DataType refl slot
 
-  pub struct_there : (inner : ℕ) → IsSlot b i (one inner) place (StructValue zero_word) → (r : Result StructReader Error) → struct_read r ≡ as_struct (tree_of p) (levels_of p) → IfOk r (λ x. struct_levels x + 1 ≡ levels_of p) →
-      struct_answered meta inner r ≡ read_at b i (record_in b s)
-  struct_there inner slot r e left = struct_met inner (tree_of p) (levels_of p) r e left ∙ pointer_there (StructValue zero_word) (one inner) refl slot
+  pub struct_there : (inner : ℕ) → IsMetaSlot b i (meta_struct inner) place (StructValue zero_word) → (r : Result StructReader Error) → struct_read r ≡ as_struct (tree_of p) (levels_of p) → IfOk r (λ x. struct_levels x + 1 ≡ levels_of p) →
+      struct_answered meta inner r ≡ meta_read_at b i (meta_record_in b s)
+  struct_there inner slot r e left = struct_met inner (tree_of p) (levels_of p) r e left ∙ pointer_there (StructValue zero_word) (meta_struct inner) refl slot
 
-  pub list_there : (t : SchemaType) (size : ElementSize) → element_size t ≡ size → IsSlot b i (ListType t) place (ListValue zero_word) → (r : Result ListReader Error) → list_read r ≡ as_list size (tree_of p) (levels_of p) → IfOk r (λ x. list_levels x + 1 ≡ levels_of p) →
-      list_answered meta t r ≡ read_at b i (record_in b s)
+  pub list_there : (t : SchemaType) (size : ElementSize) → element_size t ≡ size → IsMetaSlot b i (ListType t) place (ListValue zero_word) → (r : Result ListReader Error) → list_read r ≡ as_list size (tree_of p) (levels_of p) → IfOk r (λ x. list_levels x + 1 ≡ levels_of p) →
+      list_answered meta t r ≡ meta_read_at b i (meta_record_in b s)
   list_there t size sized slot r e left = list_met t size sized (ListValue zero_word) (null_list t) (tree_of p) (levels_of p) r e left ∙ pointer_there (ListValue zero_word) (ListType t) refl slot
 
   -- the list behind a null pointer is empty, where a level is left for it
-  pub null_there : (t : SchemaType) → IsSlot b i (ListType t) place (ListValue zero_word) → tree_of p ≡ Null → 0 < levels_of p → read_at b i (record_in b s) ≡ value.Elements value.NoValues
+  pub null_there : (t : SchemaType) → IsMetaSlot b i (ListType t) place (ListValue zero_word) → tree_of p ≡ Null → 0 < levels_of p → meta_read_at b i (meta_record_in b s) ≡ value.Elements value.NoValues
   null_there t slot null left = sym (pointer_there (ListValue zero_word) (ListType t) refl slot) ∙ null_read (ListValue zero_word) t (null_list t) p null left

@@ -7,22 +7,22 @@ pub data Causes : Type 0 where
   One : ErrorKind → Causes
   Both : Causes → Causes → Causes
 
-abbrev pub Read : Type 0 → Type 0
-Read A = Result A Causes
+abbrev pub SetRead : Type 0 → Type 0
+SetRead A = Result A Causes
 
-abbrev pub refused : {A : Type 0} → ErrorKind → Read A
-refused kind = Err (One kind)
+abbrev pub refused_read : {A : Type 0} → ErrorKind → SetRead A
+refused_read kind = Err (One kind)
 
 -- a function of what a part stands for; where both parts have causes, all of them count
 infixl 10 ◌<*>◌
-unfoldable pub ◌<*>◌ : {A B : Type 0} → Read (A → B) → Read A → Read B
+unfoldable pub ◌<*>◌ : {A B : Type 0} → SetRead (A → B) → SetRead A → SetRead B
 Ok f <*> Ok a = Ok (f a)
 Ok f <*> Err causes = Err causes
 Err causes <*> Ok a = Err causes
 Err causes <*> Err others = Err (Both causes others)
 
 -- what stands for a part that may stand for none itself
-unfoldable pub flat : {A : Type 0} → Read (Read A) → Read A
+unfoldable pub flat : {A : Type 0} → SetRead (SetRead A) → SetRead A
 flat (Ok part) = part
 flat (Err causes) = Err causes
 
@@ -32,6 +32,6 @@ IsAmong (One other) kind = other ≡ kind
 IsAmong (Both causes others) kind = IsAmong causes kind ⊎ IsAmong others kind
 
 -- a refusal's cause stands in a part
-unfoldable pub HasCause : {A : Type 0} → Read A → ErrorKind → Type 0
+unfoldable pub HasCause : {A : Type 0} → SetRead A → ErrorKind → Type 0
 HasCause (Ok a) kind = ⊥
 HasCause (Err causes) kind = IsAmong causes kind

@@ -9,7 +9,7 @@ use Rattle.capnp_schema.specs.Meta.{meta}
 use Rattle.capnp_schema.specs.Schema.{Schemas}
 use Rattle.capnp_records.specs.Reading.{struct_record}
 use Rattle.capnp_records.specs.Record.{Left, Record}
-use Rattle.capnp_sets.specs.Lists.{IsSetRefusal, lists_of}
+use Rattle.capnp_sets.specs.Lists.{IsSchemaSetRefusal, lists_meant}
 
 -- the record of a root that was read as a struct, which takes one of the 64 levels
 abbrev pub root_record : StructTree → Record
@@ -21,7 +21,7 @@ root_struct (Ok t) = as_struct t 64
 root_struct (Err kind) = Err kind
 
 abbrev pub root_set : Result StructTree ErrorKind → Option Schemas
-root_set (Ok root) = lists_of (root_record root)
+root_set (Ok root) = lists_meant (root_record root)
 root_set (Err kind) = None
 
 -- the lists that the root of the first message in these bytes stands for
@@ -30,7 +30,7 @@ message_set bytes = root_set (root_struct (message_tree_of bytes))
 
 -- why a root that was read gives no checked set
 abbrev pub IsRootRefusal : Result StructTree ErrorKind → Error → Type 0
-IsRootRefusal (Ok root) e = IsSetRefusal (root_record root) e
+IsRootRefusal (Ok root) e = IsSchemaSetRefusal (root_record root) e
 IsRootRefusal (Err kind) e = e.kind ≡ kind
 
 -- why the first message in these bytes gives no checked set: the stream is refused, its root is no struct, a cause stands in

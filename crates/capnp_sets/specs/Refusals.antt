@@ -24,5 +24,5 @@ is_set_kind (Schema table field rule entry) = true
 is_set_kind kind = false
 
 -- a refusal in which no device has part, and no name that was asked for
-abbrev pub IsOfSet : ErrorKind → Type 0
-IsOfSet kind = (kind ≢ ReadFailed) × (kind ≢ WriteFailed) × (kind ≢ NameNotFound)
+abbrev pub IsRefusalOfSet : ErrorKind → Type 0
+IsRefusalOfSet kind = (kind ≢ ReadFailed) × (kind ≢ WriteFailed) × (kind ≢ NameNotFound)

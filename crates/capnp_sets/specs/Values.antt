@@ -7,8 +7,8 @@ use Rattle.capnp_schema.specs.Schema.{Annotation, VoidValue, BoolValue, IntValue
 use Rattle.capnp_schema.specs.Schema.{Value as SchemaValue}
 use Rattle.capnp_records.specs.Part.{which_of}
 use Rattle.capnp_records.specs.Record.{Record, Value}
-use Rattle.capnp_sets.specs.Causes.{◌<*>◌, Read, refused}
-use Rattle.capnp_sets.specs.Parts.{blob, integer, number, read_at, struct, structs, text, truth}
+use Rattle.capnp_sets.specs.Causes.{◌<*>◌, SetRead, refused_read}
+use Rattle.capnp_sets.specs.Parts.{blob, integer, number, meta_read_at, struct, structs, text, truth}
 
 -- the words of a list; none stand for a null untyped pointer
 abbrev pub list_value : List ℕ → SchemaValue
@@ -16,7 +16,7 @@ list_value [] = AnyPointerValue zero_word
 list_value (byte ∷ bytes) = ListValue (byte ∷ bytes)
 
 -- what the members of a value stand for, by index
-abbrev pub kinds : List (Value → Read SchemaValue)
+abbrev pub kinds : List (Value → SetRead SchemaValue)
 kinds =
     (λ v. Ok VoidValue)
     ∷ (λ v. Ok BoolValue <*> truth v)
@@ -35,16 +35,16 @@ kinds =
     ∷ (λ v. Ok list_value <*> blob v)
     ∷ []
 
-unfoldable pub value_by : Option ℕ → Record → Read SchemaValue
-value_by None r = refused UnknownKind
-value_by (Some i) r = unwrap_or (slice_get kinds i) (λ v. refused UnknownKind) (read_at 5 i r)
+unfoldable pub value_by : Option ℕ → Record → SetRead SchemaValue
+value_by None r = refused_read UnknownKind
+value_by (Some i) r = unwrap_or (slice_get kinds i) (λ v. refused_read UnknownKind) (meta_read_at 5 i r)
 
 -- the value of the active member
-unfoldable pub value_of : Record → Read SchemaValue
-value_of r = value_by (which_of r) r
+unfoldable pub value_meant : Record → SetRead SchemaValue
+value_meant r = value_by (which_of r) r
 
-unfoldable pub annotation_of : Record → Read Annotation
-annotation_of r = Ok (λ id v. record { id = id; value = v }) <*> number (read_at 4 0 r) <*> struct value_of (read_at 4 1 r)
+unfoldable pub annotation_meant : Record → SetRead Annotation
+annotation_meant r = Ok (λ id v. record { id = id; value = v }) <*> number (meta_read_at 4 0 r) <*> struct value_meant (meta_read_at 4 1 r)
 
-abbrev pub annotations : Value → Read (List Annotation)
-annotations = structs 4 annotation_of
+abbrev pub annotations : Value → SetRead (List Annotation)
+annotations = structs 4 annotation_meant

@@ -4,8 +4,8 @@ ghost use Rattle.capnp_device.specs.declared.error.ErrorKind.TheVariants.{OutOfM
 ghost use Rattle.capnp_schema.specs.Schema.{Field, Node, seen_field, seen_kind, seen_node};
 ghost use Rattle.capnp_records.specs.Part.{which_of};
 ghost use Rattle.capnp_sets.specs.Causes.{HasCause};
-ghost use Rattle.capnp_sets.specs.Fields.{field_of, kind_by, node_of, slot_of};
-ghost use Rattle.capnp_sets.specs.Handles.{record_in};
+ghost use Rattle.capnp_sets.specs.Fields.{field_of, kind_by, node_meant, slot_of};
+ghost use Rattle.capnp_sets.specs.Handles.{meta_record_in};
 
 use crate::numbers::{bool_at, u16_at, u32_at, u64_at};
 use crate::parts::{FIELD, NODE, SLOT, field_member, name_at};
@@ -20,8 +20,8 @@ use std::alloc::Global;
 #[inline(always)]
 #[tactic(auto, unfolding(crate::specs::Fields::slot_of))]
 fn read_slot(alloc: Global, reader: &StructReader<'_>) -> Result<FieldKind>
-    ensures read { IfOk result (λ k. slot_of (record_in 3 reader.now) ≡ Ok (seen_kind k)) }
-    ensures refused { IfErr result (λ e. e.kind ≢ OutOfMemory → HasCause (slot_of (record_in 3 reader.now)) e.kind) }
+    ensures read { IfOk result (λ k. slot_of (meta_record_in 3 reader.now) ≡ Ok (seen_kind k)) }
+    ensures refused { IfErr result (λ e. e.kind ≢ OutOfMemory → HasCause (slot_of (meta_record_in 3 reader.now)) e.kind) }
 {
     let offset = u32_at(reader, SLOT, 0, 1);
     let default = value_at(alloc, reader, SLOT, 1, 2)?;
@@ -32,10 +32,10 @@ fn read_slot(alloc: Global, reader: &StructReader<'_>) -> Result<FieldKind>
 #[inline(always)]
 #[tactic(auto, unfolding(crate::specs::Fields::kind_by))]
 fn read_kind(alloc: Global, reader: &StructReader<'_>) -> Result<FieldKind>
-    ensures read { IfOk result (λ k. kind_by (which_of (record_in 2 reader.now)) (record_in 2 reader.now)
+    ensures read { IfOk result (λ k. kind_by (which_of (meta_record_in 2 reader.now)) (meta_record_in 2 reader.now)
         ≡ Ok (seen_kind k)) }
     ensures refused { IfErr result (λ e. e.kind ≢ OutOfMemory
-        → HasCause (kind_by (which_of (record_in 2 reader.now)) (record_in 2 reader.now)) e.kind) }
+        → HasCause (kind_by (which_of (meta_record_in 2 reader.now)) (meta_record_in 2 reader.now)) e.kind) }
 {
     let Some(member) = field_member(reader) else {
         return Err(Error {
@@ -58,8 +58,8 @@ fn read_kind(alloc: Global, reader: &StructReader<'_>) -> Result<FieldKind>
 #[inline(always)]
 #[tactic(auto, unfolding(crate::specs::Fields::field_of))]
 fn read_field(context: &Context<'_>, reader: &StructReader<'_>) -> Result<FieldRecord>
-    ensures read { IfOk result (λ f. field_of (record_in 2 reader.now) ≡ Ok (seen_field f)) }
-    ensures refused { IfErr result (λ e. e.kind ≢ OutOfMemory → HasCause (field_of (record_in 2 reader.now)) e.kind) }
+    ensures read { IfOk result (λ f. field_of (meta_record_in 2 reader.now) ≡ Ok (seen_field f)) }
+    ensures refused { IfErr result (λ e. e.kind ≢ OutOfMemory → HasCause (field_of (meta_record_in 2 reader.now)) e.kind) }
 {
     let discriminant_value = u16_at(reader, FIELD, 0, 0, 65_535);
     let name = name_at(context.alloc, reader, FIELD, 1, 0)?;
@@ -89,10 +89,10 @@ impl FromRecord for FieldRecord {
 }
 
 /// A node of a record of one.
-#[tactic(auto, unfolding(crate::specs::Fields::node_of))]
+#[tactic(auto, unfolding(crate::specs::Fields::node_meant))]
 fn read_node(context: &Context<'_>, reader: &StructReader<'_>) -> Result<NodeRecord>
-    ensures read { IfOk result (λ n. node_of (record_in 1 reader.now) ≡ Ok (seen_node n)) }
-    ensures refused { IfErr result (λ e. e.kind ≢ OutOfMemory → HasCause (node_of (record_in 1 reader.now)) e.kind) }
+    ensures read { IfOk result (λ n. node_meant (meta_record_in 1 reader.now) ≡ Ok (seen_node n)) }
+    ensures refused { IfErr result (λ e. e.kind ≢ OutOfMemory → HasCause (node_meant (meta_record_in 1 reader.now)) e.kind) }
 {
     let id = u64_at(reader, NODE, 0, 0);
     let data_word_count = u16_at(reader, NODE, 1, 4, 0);
@@ -125,7 +125,7 @@ impl FromRecord for NodeRecord {
 
     ghost brand = { 1 };
 
-    ghost of_record = { λ _ r. node_of r };
+    ghost of_record = { λ _ r. node_meant r };
 
     fn from_record(context: &Context<'_>, reader: &StructReader<'_>) -> Result<NodeRecord> {
         read_node(context, reader)

@@ -3,8 +3,8 @@ ghost use Rattle.std.specs.Prelude.{◌≡◌, ◌≢◌, Ok, IfErr, IfOk};
 ghost use Rattle.capnp_device.specs.declared.error.ErrorKind.TheVariants.{OutOfMemory};
 ghost use Rattle.capnp_schema.specs.Schema.{Brand, Enum, Enumerant, seen_brand, seen_enum, seen_enumerant};
 ghost use Rattle.capnp_sets.specs.Causes.{HasCause};
-ghost use Rattle.capnp_sets.specs.Handles.{record_in, values_in};
-ghost use Rattle.capnp_sets.specs.Lists.{brand_of, enum_of, enumerant_of};
+ghost use Rattle.capnp_sets.specs.Handles.{meta_record_in, values_in};
+ghost use Rattle.capnp_sets.specs.Lists.{brand_of, enum_meant, enumerant_of};
 
 use crate::numbers::{u32_at, u64_at};
 use crate::parts::{BRAND, ENUM, ENUMERANT, name_at};
@@ -20,10 +20,10 @@ use capnp_wire::error::Result;
 /// A brand of a record of one.
 #[tactic(auto, unfolding(crate::specs::Lists::brand_of))]
 fn read_brand(context: &Context<'_>, reader: &StructReader<'_>) -> Result<BrandRecord>
-    ensures read { IfOk result (λ b. brand_of (values_in context.now.brands) (record_in 6 reader.now)
+    ensures read { IfOk result (λ b. brand_of (values_in context.now.brands) (meta_record_in 6 reader.now)
         ≡ Ok (seen_brand b)) }
     ensures refused { IfErr result (λ e. e.kind ≢ OutOfMemory
-        → HasCause (brand_of (values_in context.now.brands) (record_in 6 reader.now)) e.kind) }
+        → HasCause (brand_of (values_in context.now.brands) (meta_record_in 6 reader.now)) e.kind) }
 {
     let node = u32_at(reader, BRAND, 0, 0);
     let field_types = list_read::<Type>(context, reader, BRAND, 1, 0)?;
@@ -53,9 +53,9 @@ impl FromRecord for BrandRecord {
 /// An enumerant of a record of one.
 #[tactic(auto, unfolding(crate::specs::Lists::enumerant_of))]
 fn read_enumerant(context: &Context<'_>, reader: &StructReader<'_>) -> Result<EnumerantRecord>
-    ensures read { IfOk result (λ e. enumerant_of (record_in 9 reader.now) ≡ Ok (seen_enumerant e)) }
+    ensures read { IfOk result (λ e. enumerant_of (meta_record_in 9 reader.now) ≡ Ok (seen_enumerant e)) }
     ensures refused { IfErr result (λ e. e.kind ≢ OutOfMemory
-        → HasCause (enumerant_of (record_in 9 reader.now)) e.kind) }
+        → HasCause (enumerant_of (meta_record_in 9 reader.now)) e.kind) }
 {
     let name = name_at(context.alloc, reader, ENUMERANT, 0, 0)?;
     let annotations = list_read::<AnnotationRecord>(context, reader, ENUMERANT, 1, 1)?;
@@ -77,12 +77,12 @@ impl FromRecord for EnumerantRecord {
 }
 
 /// An enum of a record of one.
-#[tactic(auto, unfolding(crate::specs::Lists::enum_of))]
+#[tactic(auto, unfolding(crate::specs::Lists::enum_meant))]
 fn read_enum(context: &Context<'_>, reader: &StructReader<'_>) -> Result<EnumRecord>
-    ensures read { IfOk result (λ e. enum_of (values_in context.now.brands) (record_in 8 reader.now)
+    ensures read { IfOk result (λ e. enum_meant (values_in context.now.brands) (meta_record_in 8 reader.now)
         ≡ Ok (seen_enum e)) }
     ensures refused { IfErr result (λ e. e.kind ≢ OutOfMemory
-        → HasCause (enum_of (values_in context.now.brands) (record_in 8 reader.now)) e.kind) }
+        → HasCause (enum_meant (values_in context.now.brands) (meta_record_in 8 reader.now)) e.kind) }
 {
     let id = u64_at(reader, ENUM, 0, 0);
     let display_name = name_at(context.alloc, reader, ENUM, 1, 0)?;
@@ -106,7 +106,7 @@ impl FromRecord for EnumRecord {
 
     ghost brand = { 8 };
 
-    ghost of_record = { λ brands r. enum_of brands r };
+    ghost of_record = { λ brands r. enum_meant brands r };
 
     fn from_record(context: &Context<'_>, reader: &StructReader<'_>) -> Result<EnumRecord> {
         read_enum(context, reader)

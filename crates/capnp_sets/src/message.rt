@@ -4,7 +4,7 @@ ghost use Rattle.capnp_device.specs.declared.error.ErrorKind.TheVariants.{OutOfM
 ghost use Rattle.capnp_schema.specs.Accepted.{IsAccepted};
 ghost use Rattle.capnp_schema.specs.Entries.{lists_seen};
 ghost use Rattle.capnp_sets.specs.Message.{IsMessageRefusal, message_set};
-ghost use Rattle.capnp_sets.specs.Refusals.{IsOfSet, is_set_kind};
+ghost use Rattle.capnp_sets.specs.Refusals.{IsRefusalOfSet, is_set_kind};
 
 use crate::sets::read_schema_set;
 use capnp_dynamic_readers::dynamic_struct;
@@ -24,7 +24,7 @@ pub fn read_message(alloc: Global, bytes: &[u8]) -> Result<SchemaSet>
     ensures accepted { IfOk result (λ set. IsAccepted (lists_seen set)) }
     ensures refused { IfErr result (λ e. e.kind ≢ OutOfMemory → IsMessageRefusal bytes.now e) }
     ensures kinds { IfErr result (λ e. is_set_kind e.kind ≡ true) }
-    ensures of_no_device { IfErr result (λ e. IsOfSet e.kind) }
+    ensures of_no_device { IfErr result (λ e. IsRefusalOfSet e.kind) }
 {
     let meta_set = meta::new_set(alloc)?;
     let reader = Reader::new(alloc, bytes)?;

@@ -4,8 +4,8 @@
 ghost use Rattle.std.specs.Prelude.{◌≡◌, false, pos, Ok};
 ghost use Rattle.capnp_schema.specs.Schema.{BoolValue, IntValue, UIntValue};
 ghost use Rattle.capnp_schema.specs.Types.{BoolType, IntType, UIntType};
-ghost use Rattle.capnp_sets.specs.Handles.{IsActive, IsSlot, record_in};
-ghost use Rattle.capnp_sets.specs.Parts.{integer, number, read_at, truth};
+ghost use Rattle.capnp_sets.specs.Handles.{IsMetaFieldActive, IsMetaSlot, meta_record_in};
+ghost use Rattle.capnp_sets.specs.Parts.{integer, number, meta_read_at, truth};
 
 use capnp_wire::StructReader;
 use capnp_wire::laws::struct_is_well_formed;
@@ -13,9 +13,9 @@ use capnp_wire::laws::struct_is_well_formed;
 /// A truth value whose default is false.
 #[inline(always)]
 pub(crate) fn bool_at(reader: &StructReader<'_>, brand: u32, index: u16, offset: u32) -> bool
-    requires field { IsSlot brand index BoolType offset (BoolValue false) }
-    requires active { IsActive brand index reader.now }
-    ensures { truth (read_at brand index (record_in brand reader.now)) ≡ Ok result }
+    requires field { IsMetaSlot brand index BoolType offset (BoolValue false) }
+    requires active { IsMetaFieldActive brand index reader.now }
+    ensures { truth (meta_read_at brand index (meta_record_in brand reader.now)) ≡ Ok result }
 {
     let (_brand, _index) = (brand, index);
     reader.get_bool_field(offset)
@@ -24,9 +24,9 @@ pub(crate) fn bool_at(reader: &StructReader<'_>, brand: u32, index: u16, offset:
 /// A `u8` whose default is 0.
 #[inline(always)]
 pub(crate) fn u8_at(reader: &StructReader<'_>, brand: u32, index: u16, offset: u32) -> u8
-    requires field { IsSlot brand index (UIntType 1) offset (UIntValue 1 0) }
-    requires active { IsActive brand index reader.now }
-    ensures { number (read_at brand index (record_in brand reader.now)) ≡ Ok result }
+    requires field { IsMetaSlot brand index (UIntType 1) offset (UIntValue 1 0) }
+    requires active { IsMetaFieldActive brand index reader.now }
+    ensures { number (meta_read_at brand index (meta_record_in brand reader.now)) ≡ Ok result }
 {
     let (_brand, _index) = (brand, index);
     struct_is_well_formed(reader);
@@ -42,9 +42,9 @@ pub(crate) fn u16_at(
     offset: u32,
     default: u16,
 ) -> u16
-    requires field { IsSlot brand index (UIntType 2) offset (UIntValue 2 default) }
-    requires active { IsActive brand index reader.now }
-    ensures { number (read_at brand index (record_in brand reader.now)) ≡ Ok result }
+    requires field { IsMetaSlot brand index (UIntType 2) offset (UIntValue 2 default) }
+    requires active { IsMetaFieldActive brand index reader.now }
+    ensures { number (meta_read_at brand index (meta_record_in brand reader.now)) ≡ Ok result }
 {
     let (_brand, _index) = (brand, index);
     struct_is_well_formed(reader);
@@ -54,9 +54,9 @@ pub(crate) fn u16_at(
 /// A `u32` whose default is 0.
 #[inline(always)]
 pub(crate) fn u32_at(reader: &StructReader<'_>, brand: u32, index: u16, offset: u32) -> u32
-    requires field { IsSlot brand index (UIntType 4) offset (UIntValue 4 0) }
-    requires active { IsActive brand index reader.now }
-    ensures { number (read_at brand index (record_in brand reader.now)) ≡ Ok result }
+    requires field { IsMetaSlot brand index (UIntType 4) offset (UIntValue 4 0) }
+    requires active { IsMetaFieldActive brand index reader.now }
+    ensures { number (meta_read_at brand index (meta_record_in brand reader.now)) ≡ Ok result }
 {
     let (_brand, _index) = (brand, index);
     struct_is_well_formed(reader);
@@ -66,9 +66,9 @@ pub(crate) fn u32_at(reader: &StructReader<'_>, brand: u32, index: u16, offset: 
 /// A `u64` whose default is 0.
 #[inline(always)]
 pub(crate) fn u64_at(reader: &StructReader<'_>, brand: u32, index: u16, offset: u32) -> u64
-    requires field { IsSlot brand index (UIntType 8) offset (UIntValue 8 0) }
-    requires active { IsActive brand index reader.now }
-    ensures { number (read_at brand index (record_in brand reader.now)) ≡ Ok result }
+    requires field { IsMetaSlot brand index (UIntType 8) offset (UIntValue 8 0) }
+    requires active { IsMetaFieldActive brand index reader.now }
+    ensures { number (meta_read_at brand index (meta_record_in brand reader.now)) ≡ Ok result }
 {
     let (_brand, _index) = (brand, index);
     struct_is_well_formed(reader);
@@ -78,9 +78,9 @@ pub(crate) fn u64_at(reader: &StructReader<'_>, brand: u32, index: u16, offset: 
 /// An `i8` whose default is 0.
 #[inline(always)]
 pub(crate) fn i8_at(reader: &StructReader<'_>, brand: u32, index: u16, offset: u32) -> i8
-    requires field { IsSlot brand index (IntType 1) offset (IntValue 1 (pos 0)) }
-    requires active { IsActive brand index reader.now }
-    ensures { integer (read_at brand index (record_in brand reader.now)) ≡ Ok result }
+    requires field { IsMetaSlot brand index (IntType 1) offset (IntValue 1 (pos 0)) }
+    requires active { IsMetaFieldActive brand index reader.now }
+    ensures { integer (meta_read_at brand index (meta_record_in brand reader.now)) ≡ Ok result }
 {
     let (_brand, _index) = (brand, index);
     struct_is_well_formed(reader);
@@ -90,9 +90,9 @@ pub(crate) fn i8_at(reader: &StructReader<'_>, brand: u32, index: u16, offset: u
 /// An `i16` whose default is 0.
 #[inline(always)]
 pub(crate) fn i16_at(reader: &StructReader<'_>, brand: u32, index: u16, offset: u32) -> i16
-    requires field { IsSlot brand index (IntType 2) offset (IntValue 2 (pos 0)) }
-    requires active { IsActive brand index reader.now }
-    ensures { integer (read_at brand index (record_in brand reader.now)) ≡ Ok result }
+    requires field { IsMetaSlot brand index (IntType 2) offset (IntValue 2 (pos 0)) }
+    requires active { IsMetaFieldActive brand index reader.now }
+    ensures { integer (meta_read_at brand index (meta_record_in brand reader.now)) ≡ Ok result }
 {
     let (_brand, _index) = (brand, index);
     struct_is_well_formed(reader);
@@ -102,9 +102,9 @@ pub(crate) fn i16_at(reader: &StructReader<'_>, brand: u32, index: u16, offset: 
 /// An `i32` whose default is 0.
 #[inline(always)]
 pub(crate) fn i32_at(reader: &StructReader<'_>, brand: u32, index: u16, offset: u32) -> i32
-    requires field { IsSlot brand index (IntType 4) offset (IntValue 4 (pos 0)) }
-    requires active { IsActive brand index reader.now }
-    ensures { integer (read_at brand index (record_in brand reader.now)) ≡ Ok result }
+    requires field { IsMetaSlot brand index (IntType 4) offset (IntValue 4 (pos 0)) }
+    requires active { IsMetaFieldActive brand index reader.now }
+    ensures { integer (meta_read_at brand index (meta_record_in brand reader.now)) ≡ Ok result }
 {
     let (_brand, _index) = (brand, index);
     struct_is_well_formed(reader);
@@ -114,9 +114,9 @@ pub(crate) fn i32_at(reader: &StructReader<'_>, brand: u32, index: u16, offset: 
 /// An `i64` whose default is 0.
 #[inline(always)]
 pub(crate) fn i64_at(reader: &StructReader<'_>, brand: u32, index: u16, offset: u32) -> i64
-    requires field { IsSlot brand index (IntType 8) offset (IntValue 8 (pos 0)) }
-    requires active { IsActive brand index reader.now }
-    ensures { integer (read_at brand index (record_in brand reader.now)) ≡ Ok result }
+    requires field { IsMetaSlot brand index (IntType 8) offset (IntValue 8 (pos 0)) }
+    requires active { IsMetaFieldActive brand index reader.now }
+    ensures { integer (meta_read_at brand index (meta_record_in brand reader.now)) ≡ Ok result }
 {
     let (_brand, _index) = (brand, index);
     struct_is_well_formed(reader);

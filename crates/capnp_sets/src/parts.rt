@@ -6,15 +6,15 @@ ghost use Rattle.capnp_device.specs.declared.error.ErrorKind.TheVariants.{OutOfM
 ghost use Rattle.capnp_wire.specs.Standing.{levels_of, tree_of};
 ghost use Rattle.capnp_wire.specs.Tree.{Null};
 ghost use Rattle.capnp_schema.specs.Builtin.{zero_word};
-ghost use Rattle.capnp_schema.specs.Meta.{meta, one};
+ghost use Rattle.capnp_schema.specs.Meta.{meta, meta_struct};
 ghost use Rattle.capnp_schema.specs.Schema.{DataValue, ListValue, StructValue, TextValue, field_at};
 ghost use Rattle.capnp_schema.specs.Types.{DataType, ListType, TextType, element_size};
 ghost use Rattle.capnp_records.specs.Part.{which_of};
 ghost use Rattle.capnp_records.specs.Reading.{element_type};
 ghost use Rattle.capnp_records.specs.Record as value;
 ghost use Rattle.capnp_sets.specs.Causes.{HasCause};
-ghost use Rattle.capnp_sets.specs.Handles.{IsActive, IsSlot, list_in, record_in};
-ghost use Rattle.capnp_sets.specs.Parts.{blob, name, name_of, read_at, text};
+ghost use Rattle.capnp_sets.specs.Handles.{IsMetaFieldActive, IsMetaSlot, list_in, meta_record_in};
+ghost use Rattle.capnp_sets.specs.Parts.{blob, name, name_meant, meta_read_at, text};
 
 use capnp_base::text;
 use capnp_schema::loaded::load_pair;
@@ -48,7 +48,7 @@ pub(crate) const ENUMERANT: u32 = 9;
 /// number is unknown.
 #[inline(always)]
 pub(crate) fn field_member(reader: &StructReader<'_>) -> Option<u16>
-    ensures { result ≡ which_of (record_in 2 reader.now) }
+    ensures { result ≡ which_of (meta_record_in 2 reader.now) }
 {
     let number = load_pair(reader, 16);
     if number == 0 {
@@ -63,7 +63,7 @@ pub(crate) fn field_member(reader: &StructReader<'_>) -> Option<u16>
 /// The index of the active member of a value's record, none where its number is unknown.
 #[inline(always)]
 pub(crate) fn value_member(reader: &StructReader<'_>) -> Option<u16>
-    ensures { result ≡ which_of (record_in 5 reader.now) }
+    ensures { result ≡ which_of (meta_record_in 5 reader.now) }
 {
     let number = load_pair(reader, 0);
     if number < 15 {
@@ -80,10 +80,10 @@ pub(crate) fn text_at<'a>(
     index: u16,
     place: u16,
 ) -> Result<&'a [u8]>
-    requires field { IsSlot brand index TextType place (TextValue []) }
-    requires active { IsActive brand index reader.now }
-    ensures read { IfOk result (λ x. text (read_at brand index (record_in brand reader.now)) ≡ Ok x.now) }
-    ensures refused { IfErr result (λ e. HasCause (text (read_at brand index (record_in brand reader.now))) e.kind) }
+    requires field { IsMetaSlot brand index TextType place (TextValue []) }
+    requires active { IsMetaFieldActive brand index reader.now }
+    ensures read { IfOk result (λ x. text (meta_read_at brand index (meta_record_in brand reader.now)) ≡ Ok x.now) }
+    ensures refused { IfErr result (λ e. HasCause (text (meta_read_at brand index (meta_record_in brand reader.now))) e.kind) }
 {
     let (_brand, _index) = (brand, index);
     reader.get_pointer_field(place).get_text()
@@ -97,10 +97,10 @@ pub(crate) fn data_at<'a>(
     index: u16,
     place: u16,
 ) -> Result<&'a [u8]>
-    requires field { IsSlot brand index DataType place (DataValue []) }
-    requires active { IsActive brand index reader.now }
-    ensures read { IfOk result (λ x. blob (read_at brand index (record_in brand reader.now)) ≡ Ok x.now) }
-    ensures refused { IfErr result (λ e. HasCause (blob (read_at brand index (record_in brand reader.now))) e.kind) }
+    requires field { IsMetaSlot brand index DataType place (DataValue []) }
+    requires active { IsMetaFieldActive brand index reader.now }
+    ensures read { IfOk result (λ x. blob (meta_read_at brand index (meta_record_in brand reader.now)) ≡ Ok x.now) }
+    ensures refused { IfErr result (λ e. HasCause (blob (meta_read_at brand index (meta_record_in brand reader.now))) e.kind) }
 {
     let (_brand, _index) = (brand, index);
     reader.get_pointer_field(place).get_data()
@@ -109,8 +109,8 @@ pub(crate) fn data_at<'a>(
 /// A copy of a name's bytes. Refused with `NameNotUtf8` where they are no UTF-8.
 #[inline(always)]
 fn owned(alloc: Global, bytes: &[u8]) -> Result<String>
-    ensures read { IfOk result (λ x. name_of bytes.now ≡ Ok (string_bytes x)) }
-    ensures refused { IfErr result (λ e. e.kind ≢ OutOfMemory → HasCause (name_of bytes.now) e.kind) }
+    ensures read { IfOk result (λ x. name_meant bytes.now ≡ Ok (string_bytes x)) }
+    ensures refused { IfErr result (λ e. e.kind ≢ OutOfMemory → HasCause (name_meant bytes.now) e.kind) }
 {
     match text::Reader(bytes).to_str() {
         Ok(text) => Ok(String::from_str(alloc, text)?),
@@ -129,11 +129,11 @@ pub(crate) fn name_at(
     index: u16,
     place: u16,
 ) -> Result<String>
-    requires field { IsSlot brand index TextType place (TextValue []) }
-    requires active { IsActive brand index reader.now }
-    ensures read { IfOk result (λ x. name (read_at brand index (record_in brand reader.now)) ≡ Ok (string_bytes x)) }
+    requires field { IsMetaSlot brand index TextType place (TextValue []) }
+    requires active { IsMetaFieldActive brand index reader.now }
+    ensures read { IfOk result (λ x. name (meta_read_at brand index (meta_record_in brand reader.now)) ≡ Ok (string_bytes x)) }
     ensures refused { IfErr result (λ e. e.kind ≢ OutOfMemory
-        → HasCause (name (read_at brand index (record_in brand reader.now))) e.kind) }
+        → HasCause (name (meta_read_at brand index (meta_record_in brand reader.now))) e.kind) }
 {
     let bytes = text_at(reader, brand, index, place)?;
     owned(alloc, bytes)
@@ -165,11 +165,11 @@ pub(crate) fn struct_at<'a>(
     place: u16,
     inner: u32,
 ) -> Result<StructReader<'a>>
-    requires field { IsSlot brand index (one inner) place (StructValue zero_word) }
-    requires active { IsActive brand index reader.now }
-    ensures read { IfOk result (λ s. value.Struct (record_in inner s)
-        ≡ read_at brand index (record_in brand reader.now)) }
-    ensures refused { IfErr result (λ e. value.Fault e.kind ≡ read_at brand index (record_in brand reader.now)) }
+    requires field { IsMetaSlot brand index (meta_struct inner) place (StructValue zero_word) }
+    requires active { IsMetaFieldActive brand index reader.now }
+    ensures read { IfOk result (λ s. value.Struct (meta_record_in inner s)
+        ≡ meta_read_at brand index (meta_record_in brand reader.now)) }
+    ensures refused { IfErr result (λ e. value.Fault e.kind ≡ meta_read_at brand index (meta_record_in brand reader.now)) }
 {
     let (_brand, _index, _inner) = (brand, index, inner);
     reader.get_pointer_field(place).get_struct()
@@ -184,13 +184,13 @@ pub(crate) fn list_at<'a>(
     place: u16,
     size: ElementSize,
 ) -> Result<ListReader<'a>>
-    requires field { IsSlot brand index (ListType (element_type (field_at meta brand index).type)) place
+    requires field { IsMetaSlot brand index (ListType (element_type (field_at meta brand index).type)) place
         (ListValue zero_word) }
     requires size { element_size (element_type (field_at meta brand index).type) ≡ size }
-    requires active { IsActive brand index reader.now }
+    requires active { IsMetaFieldActive brand index reader.now }
     ensures read { IfOk result (λ l. list_in (element_type (field_at meta brand index).type) l
-        ≡ read_at brand index (record_in brand reader.now)) }
-    ensures refused { IfErr result (λ e. value.Fault e.kind ≡ read_at brand index (record_in brand reader.now)) }
+        ≡ meta_read_at brand index (meta_record_in brand reader.now)) }
+    ensures refused { IfErr result (λ e. value.Fault e.kind ≡ meta_read_at brand index (meta_record_in brand reader.now)) }
 {
     let (_brand, _index) = (brand, index);
     reader.get_pointer_field(place).get_list(size)

@@ -2,12 +2,12 @@
 ghost use Rattle.std.specs.Prelude.{ℕ, ◌≡◌, ◌≢◌, Ok, IfErr, IfOk, map};
 ghost use Rattle.capnp_device.specs.declared.error.ErrorKind.TheVariants.{OutOfMemory};
 ghost use Rattle.capnp_schema.specs.Builtin.{zero_word};
-ghost use Rattle.capnp_schema.specs.Meta.{many, one};
+ghost use Rattle.capnp_schema.specs.Meta.{meta_structs, meta_struct};
 ghost use Rattle.capnp_schema.specs.Schema.{ListValue};
 ghost use Rattle.capnp_records.specs.Record.{Record, Values};
-ghost use Rattle.capnp_sets.specs.Causes.{HasCause, Read};
-ghost use Rattle.capnp_sets.specs.Handles.{IsActive, IsSlot, list_in, record_in, values_in};
-ghost use Rattle.capnp_sets.specs.Parts.{read_at, structs};
+ghost use Rattle.capnp_sets.specs.Causes.{HasCause, SetRead};
+ghost use Rattle.capnp_sets.specs.Handles.{IsMetaFieldActive, IsMetaSlot, list_in, meta_record_in, values_in};
+ghost use Rattle.capnp_sets.specs.Parts.{meta_read_at, structs};
 
 use crate::parts::{is_no_list, list_at};
 use capnp_wire::error::Result;
@@ -35,13 +35,13 @@ pub(crate) trait FromRecord: Sized {
 
     ghost brand: { ℕ };
 
-    ghost of_record: { Values → Record → Read Seen };
+    ghost of_record: { Values → Record → SetRead Seen };
 
     fn from_record(context: &Context<'_>, reader: &StructReader<'_>) -> Result<Self>
-        ensures read { IfOk result (λ made. of_record (values_in context.now.brands) (record_in brand reader.now)
+        ensures read { IfOk result (λ made. of_record (values_in context.now.brands) (meta_record_in brand reader.now)
             ≡ Ok (seen made)) }
         ensures refused { IfErr result (λ e. e.kind ≢ OutOfMemory
-            → HasCause (of_record (values_in context.now.brands) (record_in brand reader.now)) e.kind) };
+            → HasCause (of_record (values_in context.now.brands) (meta_record_in brand reader.now)) e.kind) };
 }
 
 /// One of each struct of a list.
@@ -50,10 +50,10 @@ pub(crate) fn all_read<T: FromRecord + Drop>(
     elements: &ListReader<'_>,
 ) -> Result<Vec<T>>
     ensures read { IfOk result (λ v. structs T.brand (T.of_record (values_in context.now.brands))
-        (list_in (one T.brand) elements.now) ≡ Ok (map T.seen v.items)) }
+        (list_in (meta_struct T.brand) elements.now) ≡ Ok (map T.seen v.items)) }
     ensures refused { IfErr result (λ e. e.kind ≢ OutOfMemory →
         HasCause (structs T.brand (T.of_record (values_in context.now.brands))
-        (list_in (one T.brand) elements.now)) e.kind) }
+        (list_in (meta_struct T.brand) elements.now)) e.kind) }
 {
     let count = elements.len();
     let mut out = Vec::with_capacity(context.alloc, count.min(MOST_ROOM) as usize)?;
@@ -74,13 +74,13 @@ pub(crate) fn list_read<T: FromRecord + Drop>(
     index: u16,
     place: u16,
 ) -> Result<Vec<T>>
-    requires field { IsSlot brand index (many T.brand) place (ListValue zero_word) }
-    requires active { IsActive brand index reader.now }
+    requires field { IsMetaSlot brand index (meta_structs T.brand) place (ListValue zero_word) }
+    requires active { IsMetaFieldActive brand index reader.now }
     ensures read { IfOk result (λ v. structs T.brand (T.of_record (values_in context.now.brands))
-        (read_at brand index (record_in brand reader.now)) ≡ Ok (map T.seen v.items)) }
+        (meta_read_at brand index (meta_record_in brand reader.now)) ≡ Ok (map T.seen v.items)) }
     ensures refused { IfErr result (λ e. e.kind ≢ OutOfMemory →
         HasCause (structs T.brand (T.of_record (values_in context.now.brands))
-        (read_at brand index (record_in brand reader.now))) e.kind) }
+        (meta_read_at brand index (meta_record_in brand reader.now))) e.kind) }
 {
     if is_no_list(&reader.get_pointer_field(place)) {
         return Ok(Vec::new(context.alloc));

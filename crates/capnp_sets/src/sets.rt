@@ -4,8 +4,8 @@ ghost use Rattle.capnp_device.specs.declared.error.ErrorKind.TheVariants.{OutOfM
 ghost use Rattle.capnp_schema.specs.Entries.{lists_seen};
 ghost use Rattle.capnp_schema.specs.Schema.{seen_schemas};
 ghost use Rattle.capnp_dynamic_readers.specs.Seen.{record_seen};
-ghost use Rattle.capnp_sets.specs.Handles.{IsRecord};
-ghost use Rattle.capnp_sets.specs.Lists.{IsSetRefusal, has_cause, lists_of};
+ghost use Rattle.capnp_sets.specs.Handles.{IsMetaRecord};
+ghost use Rattle.capnp_sets.specs.Lists.{IsSchemaSetRefusal, has_cause, lists_meant};
 
 use crate::parts::{SET, list_at};
 use crate::rows::{Context, all_read, list_read};
@@ -24,13 +24,13 @@ use std::alloc::Global;
 /// `FloatType` or `InterfaceType` for a type that is one, `UnknownKind` for another base or for the discriminant of a
 /// field or value that is none of the meta set's, and `NameNotUtf8`. Where several stand in the record, any of them may
 /// be named.
-#[tactic(auto, unfolding(crate::specs::Lists::set_of))]
+#[tactic(auto, unfolding(crate::specs::Lists::set_meant))]
 pub fn read_set(
     alloc: Global,
     reader: dynamic_struct::Reader<'_>,
 ) -> Result<(Vec<NodeRecord>, Vec<BrandRecord>, Vec<EnumRecord>)>
-    requires { IsRecord 0 reader }
-    ensures lists { IfOk result (λ r. lists_of (record_seen reader.entry)
+    requires { IsMetaRecord 0 reader }
+    ensures lists { IfOk result (λ r. lists_meant (record_seen reader.entry)
         ≡ Some (seen_schemas r.0.items r.1.items r.2.items)) }
     ensures refused { IfErr result (λ e. e.kind ≢ OutOfMemory → has_cause (record_seen reader.entry) e.kind) }
 {
@@ -52,9 +52,9 @@ pub fn read_set(
 /// Refused as these are: with `OutOfMemory`, with a number whose cause stands in the record, or, where the record
 /// stands for lists, with `Schema` and the number of a rule that they break.
 pub fn read_schema_set(alloc: Global, reader: dynamic_struct::Reader<'_>) -> Result<SchemaSet>
-    requires { IsRecord 0 reader }
-    ensures set { IfOk result (λ set. lists_of (record_seen reader.entry) ≡ Some (lists_seen set)) }
-    ensures refused { IfErr result (λ e. e.kind ≢ OutOfMemory → IsSetRefusal (record_seen reader.entry) e) }
+    requires { IsMetaRecord 0 reader }
+    ensures set { IfOk result (λ set. lists_meant (record_seen reader.entry) ≡ Some (lists_seen set)) }
+    ensures refused { IfErr result (λ e. e.kind ≢ OutOfMemory → IsSchemaSetRefusal (record_seen reader.entry) e) }
 {
     let (nodes, brands, enums) = read_set(alloc, reader)?;
     SchemaSet::new(alloc, nodes, brands, enums)

@@ -3,14 +3,14 @@ ghost use Rattle.std.specs.Prelude.{◌≡◌, ◌≢◌, Ok, IfErr, IfOk, map};
 ghost use Rattle.capnp_device.specs.declared.error.ErrorKind.TheVariants.{OutOfMemory};
 ghost use Rattle.capnp_base.specs.Types.{list_depth};
 ghost use Rattle.capnp_schema.specs.Builtin.{zero_word};
-ghost use Rattle.capnp_schema.specs.Meta.{many, meta};
+ghost use Rattle.capnp_schema.specs.Meta.{meta_structs, meta};
 ghost use Rattle.capnp_schema.specs.Schema.{ListValue, VoidValue};
 ghost use Rattle.capnp_schema.specs.Types.{ListType, SchemaType, StructType, lists_of, seen_type};
 ghost use Rattle.capnp_dynamic_readers.specs.Reads.{pointer_read};
 ghost use Rattle.capnp_sets.specs.Causes.{HasCause, ◌<*>◌};
-ghost use Rattle.capnp_sets.specs.Handles.{IsActive, IsSlot, list_in, record_in, values_in};
-ghost use Rattle.capnp_sets.specs.Parts.{read_at};
-ghost use Rattle.capnp_sets.specs.Types.{base_type, generic_in, type_lists, type_of, types};
+ghost use Rattle.capnp_sets.specs.Handles.{IsMetaFieldActive, IsMetaSlot, list_in, meta_record_in, values_in};
+ghost use Rattle.capnp_sets.specs.Parts.{meta_read_at};
+ghost use Rattle.capnp_sets.specs.Types.{base_type_meant, generic_in, type_lists, type_meant, types};
 
 use crate::numbers::{u16_at, u32_at};
 use crate::parts::{BRAND, TYPE, is_no_list, list_at};
@@ -46,11 +46,11 @@ fn struct_type(brands: &ListReader<'_>, number: u32) -> Result<Type>
 
 /// The type of a base, which is no list.
 #[inline(always)]
-#[tactic(auto, unfolding(crate::specs::Types::base_type))]
+#[tactic(auto, unfolding(crate::specs::Types::base_type_meant))]
 fn base_type(brands: &ListReader<'_>, base: u16, number: u32) -> Result<Type>
-    ensures read { IfOk result (λ t. base_type (values_in brands.now) base number ≡ Ok (seen_type t)) }
+    ensures read { IfOk result (λ t. base_type_meant (values_in brands.now) base number ≡ Ok (seen_type t)) }
     ensures bare { IfOk result (λ t. list_depth t ≡ 0) }
-    ensures refused { IfErr result (λ e. HasCause (base_type (values_in brands.now) base number) e.kind) }
+    ensures refused { IfErr result (λ e. HasCause (base_type_meant (values_in brands.now) base number) e.kind) }
 {
     if base > 18 {
         return Err(Error {
@@ -104,10 +104,10 @@ fn lists_around(inner: Type, count: u16) -> Type
 
 /// The type of a record of a type.
 #[inline(always)]
-#[tactic(auto, unfolding(crate::specs::Types::type_of))]
+#[tactic(auto, unfolding(crate::specs::Types::type_meant))]
 fn read_type(brands: &ListReader<'_>, reader: &StructReader<'_>) -> Result<Type>
-    ensures read { IfOk result (λ t. type_of (values_in brands.now) (record_in 7 reader.now) ≡ Ok (seen_type t)) }
-    ensures refused { IfErr result (λ e. HasCause (type_of (values_in brands.now) (record_in 7 reader.now)) e.kind) }
+    ensures read { IfOk result (λ t. type_meant (values_in brands.now) (meta_record_in 7 reader.now) ≡ Ok (seen_type t)) }
+    ensures refused { IfErr result (λ e. HasCause (type_meant (values_in brands.now) (meta_record_in 7 reader.now)) e.kind) }
 {
     let list_count = u16_at(reader, TYPE, 1, 1, 0);
     let base = u16_at(reader, TYPE, 0, 0, 0);
@@ -123,7 +123,7 @@ impl FromRecord for Type {
 
     ghost brand = { 7 };
 
-    ghost of_record = { λ brands r. type_of brands r };
+    ghost of_record = { λ brands r. type_meant brands r };
 
     #[inline(always)]
     fn from_record(context: &Context<'_>, reader: &StructReader<'_>) -> Result<Type> {
@@ -135,9 +135,9 @@ impl FromRecord for Type {
 #[inline(always)]
 fn types_behind(context: &Context<'_>, pointer: &PointerReader<'_>) -> Result<Vec<Type>>
     ensures read { IfOk result (λ v. types (values_in context.now.brands)
-        (pointer_read meta VoidValue (many 7) pointer.now) ≡ Ok (map seen_type v.items)) }
+        (pointer_read meta VoidValue (meta_structs 7) pointer.now) ≡ Ok (map seen_type v.items)) }
     ensures refused { IfErr result (λ e. e.kind ≢ OutOfMemory
-        → HasCause (types (values_in context.now.brands) (pointer_read meta VoidValue (many 7) pointer.now)) e.kind) }
+        → HasCause (types (values_in context.now.brands) (pointer_read meta VoidValue (meta_structs 7) pointer.now)) e.kind) }
 {
     if is_no_list(pointer) {
         return Ok(Vec::new(context.alloc));
@@ -148,10 +148,10 @@ fn types_behind(context: &Context<'_>, pointer: &PointerReader<'_>) -> Result<Ve
 
 /// The types of each list of types: those of the annotations of fields or enumerants.
 fn type_lists(context: &Context<'_>, elements: &ListReader<'_>) -> Result<Vec<Vec<Type>>>
-    ensures read { IfOk result (λ v. type_lists (values_in context.now.brands) (list_in (many 7) elements.now)
+    ensures read { IfOk result (λ v. type_lists (values_in context.now.brands) (list_in (meta_structs 7) elements.now)
         ≡ Ok (map (λ types. map seen_type types.items) v.items)) }
     ensures refused { IfErr result (λ e. e.kind ≢ OutOfMemory
-        → HasCause (type_lists (values_in context.now.brands) (list_in (many 7) elements.now)) e.kind) }
+        → HasCause (type_lists (values_in context.now.brands) (list_in (meta_structs 7) elements.now)) e.kind) }
 {
     let count = elements.len();
     let mut out = Vec::with_capacity(context.alloc, count.min(MOST_ROOM) as usize)?;
@@ -172,13 +172,13 @@ pub(crate) fn type_lists_at(
     index: u16,
     place: u16,
 ) -> Result<Vec<Vec<Type>>>
-    requires field { IsSlot brand index (ListType (many 7)) place (ListValue zero_word) }
-    requires active { IsActive brand index reader.now }
+    requires field { IsMetaSlot brand index (ListType (meta_structs 7)) place (ListValue zero_word) }
+    requires active { IsMetaFieldActive brand index reader.now }
     ensures read { IfOk result (λ v. type_lists (values_in context.now.brands)
-        (read_at brand index (record_in brand reader.now)) ≡ Ok (map (λ types. map seen_type types.items) v.items)) }
+        (meta_read_at brand index (meta_record_in brand reader.now)) ≡ Ok (map (λ types. map seen_type types.items) v.items)) }
     ensures refused { IfErr result (λ e. e.kind ≢ OutOfMemory
         → HasCause (type_lists (values_in context.now.brands)
-        (read_at brand index (record_in brand reader.now))) e.kind) }
+        (meta_read_at brand index (meta_record_in brand reader.now))) e.kind) }
 {
     let elements = list_at(reader, brand, index, place, ElementSize::Pointer)?;
     type_lists(context, &elements)

@@ -2,13 +2,13 @@
 ghost use Rattle.std.specs.Prelude.{◌≡◌, ◌≢◌, ◌<◌, ◌≤◌, Ok, Some, IfErr, IfOk};
 ghost use Rattle.capnp_device.specs.declared.error.ErrorKind.TheVariants.{OutOfMemory};
 ghost use Rattle.capnp_schema.specs.Builtin.{zero_word};
-ghost use Rattle.capnp_schema.specs.Meta.{one};
+ghost use Rattle.capnp_schema.specs.Meta.{meta_struct};
 ghost use Rattle.capnp_schema.specs.Schema.{Annotation, StructValue, seen_annotation, seen_value};
 ghost use Rattle.capnp_records.specs.Part.{which_of};
 ghost use Rattle.capnp_sets.specs.Causes.{HasCause};
-ghost use Rattle.capnp_sets.specs.Handles.{IsActive, IsSlot, record_in};
-ghost use Rattle.capnp_sets.specs.Parts.{read_at, struct};
-ghost use Rattle.capnp_sets.specs.Values.{annotation_of, list_value, value_by, value_of};
+ghost use Rattle.capnp_sets.specs.Handles.{IsMetaFieldActive, IsMetaSlot, meta_record_in};
+ghost use Rattle.capnp_sets.specs.Parts.{meta_read_at, struct};
+ghost use Rattle.capnp_sets.specs.Values.{annotation_meant, list_value, value_by, value_meant};
 
 use crate::numbers::{bool_at, i8_at, i16_at, i32_at, i64_at, u8_at, u16_at, u32_at, u64_at};
 use crate::parts::{ANNOTATION, VALUE, data_at, struct_at, text_at, value_member};
@@ -22,10 +22,10 @@ use std::alloc::Global;
 #[inline(always)]
 #[tactic(auto, unfolding(crate::specs::Values::value_by))]
 fn number_value(reader: &StructReader<'_>, member: u16) -> Result<ValueRecord>
-    requires active { which_of (record_in 5 reader.now) ≡ Some member }
+    requires active { which_of (meta_record_in 5 reader.now) ≡ Some member }
     requires number { member < 11 }
-    ensures read { IfOk result (λ v. value_by (Some member) (record_in 5 reader.now) ≡ Ok (seen_value v)) }
-    ensures refused { IfErr result (λ e. HasCause (value_by (Some member) (record_in 5 reader.now)) e.kind) }
+    ensures read { IfOk result (λ v. value_by (Some member) (meta_record_in 5 reader.now) ≡ Ok (seen_value v)) }
+    ensures refused { IfErr result (λ e. HasCause (value_by (Some member) (meta_record_in 5 reader.now)) e.kind) }
 {
     match member {
         0 => Ok(ValueRecord::Void),
@@ -65,11 +65,11 @@ fn copied(alloc: Global, bytes: &[u8]) -> Result<Vec<u8>>
 /// The value of a member that stands behind a pointer.
 #[tactic(auto, unfolding(crate::specs::Values::value_by))]
 fn pointer_value(alloc: Global, reader: &StructReader<'_>, member: u16) -> Result<ValueRecord>
-    requires active { which_of (record_in 5 reader.now) ≡ Some member }
+    requires active { which_of (meta_record_in 5 reader.now) ≡ Some member }
     requires pointer { 11 ≤ member }
-    ensures read { IfOk result (λ v. value_by (Some member) (record_in 5 reader.now) ≡ Ok (seen_value v)) }
+    ensures read { IfOk result (λ v. value_by (Some member) (meta_record_in 5 reader.now) ≡ Ok (seen_value v)) }
     ensures refused { IfErr result (λ e. e.kind ≢ OutOfMemory
-        → HasCause (value_by (Some member) (record_in 5 reader.now)) e.kind) }
+        → HasCause (value_by (Some member) (meta_record_in 5 reader.now)) e.kind) }
 {
     if member > 14 {
         return Err(Error {
@@ -98,8 +98,8 @@ fn pointer_value(alloc: Global, reader: &StructReader<'_>, member: u16) -> Resul
 /// The value of a record of a value.
 #[inline(always)]
 fn read_value(alloc: Global, reader: &StructReader<'_>) -> Result<ValueRecord>
-    ensures read { IfOk result (λ v. value_of (record_in 5 reader.now) ≡ Ok (seen_value v)) }
-    ensures refused { IfErr result (λ e. e.kind ≢ OutOfMemory → HasCause (value_of (record_in 5 reader.now)) e.kind) }
+    ensures read { IfOk result (λ v. value_meant (meta_record_in 5 reader.now) ≡ Ok (seen_value v)) }
+    ensures refused { IfErr result (λ e. e.kind ≢ OutOfMemory → HasCause (value_meant (meta_record_in 5 reader.now)) e.kind) }
 {
     let Some(member) = value_member(reader) else {
         return Err(Error {
@@ -121,23 +121,23 @@ pub(crate) fn value_at(
     index: u16,
     place: u16,
 ) -> Result<ValueRecord>
-    requires field { IsSlot brand index (one 5) place (StructValue zero_word) }
-    requires active { IsActive brand index reader.now }
-    ensures read { IfOk result (λ v. struct value_of (read_at brand index (record_in brand reader.now))
+    requires field { IsMetaSlot brand index (meta_struct 5) place (StructValue zero_word) }
+    requires active { IsMetaFieldActive brand index reader.now }
+    ensures read { IfOk result (λ v. struct value_meant (meta_read_at brand index (meta_record_in brand reader.now))
         ≡ Ok (seen_value v)) }
     ensures refused { IfErr result (λ e. e.kind ≢ OutOfMemory
-        → HasCause (struct value_of (read_at brand index (record_in brand reader.now))) e.kind) }
+        → HasCause (struct value_meant (meta_read_at brand index (meta_record_in brand reader.now))) e.kind) }
 {
     let record = struct_at(reader, brand, index, place, VALUE)?;
     read_value(alloc, &record)
 }
 
 /// An annotation of a record of one.
-#[tactic(auto, unfolding(crate::specs::Values::annotation_of))]
+#[tactic(auto, unfolding(crate::specs::Values::annotation_meant))]
 fn read_annotation(alloc: Global, reader: &StructReader<'_>) -> Result<AnnotationRecord>
-    ensures read { IfOk result (λ a. annotation_of (record_in 4 reader.now) ≡ Ok (seen_annotation a)) }
+    ensures read { IfOk result (λ a. annotation_meant (meta_record_in 4 reader.now) ≡ Ok (seen_annotation a)) }
     ensures refused { IfErr result (λ e. e.kind ≢ OutOfMemory
-        → HasCause (annotation_of (record_in 4 reader.now)) e.kind) }
+        → HasCause (annotation_meant (meta_record_in 4 reader.now)) e.kind) }
 {
     let id = u64_at(reader, ANNOTATION, 0, 0);
     let value = value_at(alloc, reader, ANNOTATION, 1, 0)?;
@@ -151,7 +151,7 @@ impl FromRecord for AnnotationRecord {
 
     ghost brand = { 4 };
 
-    ghost of_record = { λ _ r. annotation_of r };
+    ghost of_record = { λ _ r. annotation_meant r };
 
     fn from_record(context: &Context<'_>, reader: &StructReader<'_>) -> Result<AnnotationRecord> {
         read_annotation(context.alloc, reader)

@@ -20,7 +20,7 @@ use Rattle.capnp_records.specs.Reading.{struct_record}
 use Rattle.capnp_records.specs.Record as value
 use Rattle.capnp_records.specs.Record.{Left, Record}
 use Rattle.capnp_records.specs.Text.{Out, text_of}
-use Rattle.capnp_show_engine.specs.Show.{IsLineOf, root_text, shown_text, struct_or_group}
+use Rattle.capnp_show_engine.specs.Show.{IsLineOf, message_root_text, shown_text, struct_or_group}
 use Rattle.capnp_records.specs.Run.{root_type}
 use Rattle.capnp_dynamic_readers.specs.Pieces.{IsAppended}
 use Rattle.capnp_dynamic_readers.specs.Shown.{printed_text, struct_printed, value_printed}
@@ -48,7 +48,7 @@ module _ (set : Schemas) (b : ℕ) (indented : Bool) where
   abbrev struct_text : StructTree → Out
   struct_text s = text_of set indented (root_type set b) (struct_or_group (node_of set b).is_group (struct_record set (Left 63) s b))
 
-  entered-text : (root : Tree) (s : StructTree) → Ok s ≡ as_struct root 64 → struct_text s ≡ root_text set b indented (Ok root)
+  entered-text : (root : Tree) (s : StructTree) → Ok s ≡ as_struct root 64 → struct_text s ≡ message_root_text set b indented (Ok root)
   entered-text tree.Null s e = ap struct_text (same-struct s _ e)
   entered-text (tree.Struct bytes ps) s e = ap struct_text (same-struct s _ e)
   entered-text (tree.Voids n) s e = cc
@@ -60,12 +60,12 @@ module _ (set : Schemas) (b : ℕ) (indented : Bool) where
 
   -- a root that is read as a struct
   pub text_of_root : (root : Tree) (s : StructTree) (m : ℕ) → Ok s ≡ as_struct root 64 → m + 1 ≡ 64 →
-      text_of set indented (root_type set b) (struct_or_group (node_of set b).is_group (struct_record set (Left m) s b)) ≡ root_text set b indented (Ok root)
+      text_of set indented (root_type set b) (struct_or_group (node_of set b).is_group (struct_record set (Left m) s b)) ≡ message_root_text set b indented (Ok root)
   text_of_root root s m e levels =
       ap (λ n. text_of set indented (root_type set b) (struct_or_group (node_of set b).is_group (struct_record set (Left n) s b))) (omega (arith, levels)) ∙ entered-text root s e
 
   -- a root that can't be
-  pub refused_root : (root : Tree) (kind : ErrorKind) → Err kind ≡ as_struct root 64 → root_text set b indented (Ok root) ≡ Err kind
+  pub refused_root : (root : Tree) (kind : ErrorKind) → Err kind ≡ as_struct root 64 → message_root_text set b indented (Ok root) ≡ Err kind
   refused_root tree.Null kind e = cc
   refused_root (tree.Struct bytes ps) kind e = cc
   refused_root (tree.Voids n) kind e = same-kind kind _ e
@@ -95,7 +95,7 @@ text_seen set b indented bytes root x n h s r whole tree_is levels_are read leve
     ∙ (ap (λ t. text_of set indented t (value_printed (dynamic.Struct h))) typed
     ∙ (ap (λ q. text_of set indented (root_type set b) (struct_printed q h)) group
     ∙ (ap (text_of set indented (root_type set b)) (printed-is (node_of set b).is_group h _ seen)
-    ∙ (text_of_root set b indented root (struct_of r) (struct_levels r) read_there (levels ∙ levels_are) ∙ ap (root_text set b indented) whole))))
+    ∙ (text_of_root set b indented root (struct_of r) (struct_levels r) read_there (levels ∙ levels_are) ∙ ap (message_root_text set b indented) whole))))
 
 -- a text that was put into an empty string, and a line break
 pub line_of : (o : Out) (text line : List ℕ) → IsAppended [] o text → line ≡ text ++ 10 ∷ [] → IsLineOf o line

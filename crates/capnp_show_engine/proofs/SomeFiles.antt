@@ -3,8 +3,8 @@ use Rattle.std.proofs.Common.{ℕ, ◌≡◌, ◌⊎◌, List, Option, Result, i
 use Rattle.std.specs.Prelude.{⊤}
 use Rattle.capnp_device.specs.declared.device.DeviceFault.{DeviceFault}
 use Rattle.capnp_device.specs.declared.error.Error.{Error}
-use Rattle.capnp_show_engine.specs.Command.{Task, built_in, in_file}
-use Rattle.capnp_show_engine.specs.Opened.{IsNotOpened, IsOpened, IsSomeFile}
+use Rattle.capnp_show_engine.specs.Command.{ShowTask, built_in, in_file}
+use Rattle.capnp_show_engine.specs.Opened.{IsNotOpened, IsFileOpened, IsSomeFile}
 use Rattle.capnp_show_engine.specs.Run.{IsRefusedTask, IsShownTask}
 
 either : {A B C : Type 0} → (A → C) → (B → C) → A ⊎ B → C
@@ -12,17 +12,17 @@ either f g (inl a) = f a
 either f g (inr b) = g b
 
 module _ {O F : Type 0} (opens : O → List ℕ → Result F DeviceFault → O → Type 0) (old new : O) where
-  some : (path : List ℕ) (so : F → F → Type 0) → IsOpened opens old new path so → IsSomeFile path so
+  some : (path : List ℕ) (so : F → F → Type 0) → IsFileOpened opens old new path so → IsSomeFile path so
   some path so x = record { file = x.file; left = x.left; is_so = x.is_so }
 
-  pub shown : (holds : F → Option (List ℕ)) (t : Task) (left left' written written' : Option (List ℕ)) →
-      IsShownTask (IsOpened opens old new) (new ≡ old) holds t left left' written written' → IsShownTask IsSomeFile ⊤ holds t left left' written written'
+  pub shown : (holds : F → Option (List ℕ)) (t : ShowTask) (left left' written written' : Option (List ℕ)) →
+      IsShownTask (IsFileOpened opens old new) (new ≡ old) holds t left left' written written' → IsShownTask IsSomeFile ⊤ holds t left left' written written'
   shown holds (built_in r) left left' written written' x = (tt {0}, x.1)
   shown holds (in_file r) left left' written written' x = some r.path _ x
 
-  pub refused : (holds : F → Option (List ℕ)) (fails : F → ℕ) (untouched : Type 0) (t : Task) (e : Error) (left left' written written' : Option (List ℕ))
+  pub refused : (holds : F → Option (List ℕ)) (fails : F → ℕ) (untouched : Type 0) (t : ShowTask) (e : Error) (left left' written written' : Option (List ℕ))
       (reads reads' writes writes' : ℕ) →
-      IsRefusedTask (IsOpened opens old new) (IsNotOpened opens old new) (new ≡ old) holds fails untouched t e left left' written written' reads reads' writes writes' →
+      IsRefusedTask (IsFileOpened opens old new) (IsNotOpened opens old new) (new ≡ old) holds fails untouched t e left left' written written' reads reads' writes writes' →
       IsRefusedTask IsSomeFile (λ _. ⊤) ⊤ holds fails untouched t e left left' written written' reads reads' writes writes'
   refused holds fails untouched (built_in r) e left left' written written' reads reads' writes writes' x = (tt {0}, x.1)
   refused holds fails untouched (in_file r) e left left' written written' reads reads' writes writes' x = (

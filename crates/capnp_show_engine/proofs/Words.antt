@@ -1,13 +1,13 @@
 -- Words that ask for nothing, whatever they are.
 use Rattle.std.proofs.Common.{◌≡◌, ◌<◌, ◌≤◌, List, [], ◌∷◌, None, length, refl, arith}
 use Rattle.std.specs.Prelude.{String}
-use Rattle.capnp_show_engine.specs.Command.{asked}
+use Rattle.capnp_show_engine.specs.Command.{asked_show}
 
-pub none_asked : {A : Type 0} (words : List (String A)) → length words < 1 → None ≡ asked words
+pub none_asked : {A : Type 0} (words : List (String A)) → length words < 1 → None ≡ asked_show words
 none_asked [] h = refl
 none_asked (w ∷ words) h = absurd (omega (arith, h))
 
-pub too_many : {A : Type 0} (words : List (String A)) → 5 ≤ length words → None ≡ asked words
+pub too_many : {A : Type 0} (words : List (String A)) → 5 ≤ length words → None ≡ asked_show words
 too_many [] h = absurd (omega (arith, h))
 too_many (a ∷ []) h = absurd (omega (arith, h))
 too_many (a ∷ b ∷ []) h = absurd (omega (arith, h))

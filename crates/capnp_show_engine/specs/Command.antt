@@ -26,47 +26,47 @@ pub record FileTask : Type 0 where
   pub indented : Bool
 
 -- a text under a brand of the built-in set, or under a struct of a file's set
-pub data Task : Type 0 where
-  built_in : Request → Task
-  in_file : FileTask → Task
+pub data ShowTask : Type 0 where
+  built_in : Request → ShowTask
+  in_file : FileTask → ShowTask
 
 -- a text under that struct of the built-in set, where there is one
-abbrev pub built_in_asked : (indented : Bool) → Option ℕ → Option Task
+abbrev pub built_in_asked : (indented : Bool) → Option ℕ → Option ShowTask
 built_in_asked indented = option_map (λ b. built_in (record { brand = b; indented = indented }))
 
 -- a text under a struct of a file's set
-abbrev pub in_file_asked : {A : Type 0} → (indented : Bool) → (path name : String A) → Option Task
+abbrev pub in_file_asked : {A : Type 0} → (indented : Bool) → (path name : String A) → Option ShowTask
 in_file_asked indented path name = Some (in_file (record { path = string_bytes path; name = string_bytes name; indented = indented }))
 
 -- what the words ask for: a struct by its name, before that whether its set is a file's, and after that whether its text is
 -- indented
-abbrev pub asked : {A : Type 0} → List (String A) → Option Task
-asked [] = None
-asked (name ∷ []) = built_in_asked false (brand_named builtin (string_bytes name))
-asked (name ∷ last ∷ []) =
+abbrev pub asked_show : {A : Type 0} → List (String A) → Option ShowTask
+asked_show [] = None
+asked_show (name ∷ []) = built_in_asked false (brand_named builtin (string_bytes name))
+asked_show (name ∷ last ∷ []) =
     if bytes_eq (string_bytes last) (codes "--indent") then built_in_asked true (brand_named builtin (string_bytes name)) else None
-asked (first ∷ path ∷ name ∷ []) = if bytes_eq (string_bytes first) (codes "--set") then in_file_asked false path name else None
-asked (first ∷ path ∷ name ∷ last ∷ []) =
+asked_show (first ∷ path ∷ name ∷ []) = if bytes_eq (string_bytes first) (codes "--set") then in_file_asked false path name else None
+asked_show (first ∷ path ∷ name ∷ last ∷ []) =
     if bytes_eq (string_bytes first) (codes "--set") && bytes_eq (string_bytes last) (codes "--indent") then in_file_asked true path name else None
-asked (first ∷ path ∷ name ∷ last ∷ more ∷ words) = None
+asked_show (first ∷ path ∷ name ∷ last ∷ more ∷ words) = None
 
 abbrev pub file_task_of : FileRequest → FileTask
 file_task_of r = record { path = r.path.now; name = r.name.now; indented = r.indented }
 
 -- the task that a value of the program stands for
-abbrev pub task_of : Asked → Task
-task_of (BuiltIn r) = built_in r
-task_of (InFile r) = in_file (file_task_of r)
+abbrev pub show_task_of : Asked → ShowTask
+show_task_of (BuiltIn r) = built_in r
+show_task_of (InFile r) = in_file (file_task_of r)
 
 -- the brand is one of the built-in set's
-abbrev pub IsInside : Asked → Type 0
-IsInside (BuiltIn r) = r.brand < length builtin.brands
-IsInside (InFile r) = ⊤
+abbrev pub IsOfBuiltin : Asked → Type 0
+IsOfBuiltin (BuiltIn r) = r.brand < length builtin.brands
+IsOfBuiltin (InFile r) = ⊤
 
 -- the paths that a task names
-abbrev pub paths_of : Task → List (List ℕ)
-paths_of (built_in r) = []
-paths_of (in_file r) = r.path ∷ []
+abbrev pub show_paths_of : ShowTask → List (List ℕ)
+show_paths_of (built_in r) = []
+show_paths_of (in_file r) = r.path ∷ []
 
 -- ---- what is told where nothing is shown ----
 

@@ -3,7 +3,7 @@ use Rattle.std.specs.Prelude.{List, [], ◌∷◌, ℕ, ◌≡◌, ◌⊎◌, Re
 use Rattle.capnp_device.specs.declared.device.DeviceFault.{DeviceFault}
 
 -- an opener of one state opened the file at a path, and something is so of the file as it was then and as it was left
-pub record IsOpened {O F : Type 0} (opens : O → List ℕ → Result F DeviceFault → O → Type 0) (old new : O) (path : List ℕ) (so : F → F → Type 0) : Type 0 where
+pub record IsFileOpened {O F : Type 0} (opens : O → List ℕ → Result F DeviceFault → O → Type 0) (old new : O) (path : List ℕ) (so : F → F → Type 0) : Type 0 where
   pub file : F
   pub left : F
   pub opened : opens old path (Ok file) new

@@ -23,17 +23,17 @@ as_printed is_group (value.Struct r) = struct_or_group is_group r
 as_printed is_group v = v
 
 -- a message's root as it is read as a struct of a brand, with 64 levels
-abbrev pub root_value : Schemas → ℕ → Tree → Value
-root_value set b root = read_of set VoidValue (root_type set b) (value_of set root (Left 64) (root_type set b))
+abbrev pub message_root_value : Schemas → ℕ → Tree → Value
+message_root_value set b root = read_of set VoidValue (root_type set b) (value_of set root (Left 64) (root_type set b))
 
 -- its text
-abbrev pub root_text : Schemas → ℕ → (indented : Bool) → Result Tree ErrorKind → Out
-root_text set b indented (Ok root) = text_of set indented (root_type set b) (as_printed (node_of set b).is_group (root_value set b root))
-root_text set b indented (Err kind) = Err kind
+abbrev pub message_root_text : Schemas → ℕ → (indented : Bool) → Result Tree ErrorKind → Out
+message_root_text set b indented (Ok root) = text_of set indented (root_type set b) (as_printed (node_of set b).is_group (message_root_value set b root))
+message_root_text set b indented (Err kind) = Err kind
 
 -- the text of the first message of a stream, or why there is none
 abbrev pub shown_text : Schemas → ℕ → (indented : Bool) → List ℕ → Out
-shown_text set b indented bytes = root_text set b indented (message_tree_of bytes)
+shown_text set b indented bytes = message_root_text set b indented (message_tree_of bytes)
 
 -- a text and a line break
 abbrev pub IsLineOf : Out → List ℕ → Type 0
@@ -55,11 +55,11 @@ IsShown set b indented left left' written written' =
     (bytes : List ℕ) × (line : List ℕ) × IsRead bytes left left' × IsLineOf (shown_text set b indented bytes) line × Appends written written' line
 
 -- some bytes were read to the end, for which there is no text
-abbrev pub IsRefused : Schemas → ℕ → (indented : Bool) → ErrorKind → Option (List ℕ) → Option (List ℕ) → Type 0
-IsRefused set b indented kind left left' = (bytes : List ℕ) × IsRead bytes left left' × (shown_text set b indented bytes ≡ Err kind)
+abbrev pub IsShowRefused : Schemas → ℕ → (indented : Bool) → ErrorKind → Option (List ℕ) → Option (List ℕ) → Type 0
+IsShowRefused set b indented kind left left' = (bytes : List ℕ) × IsRead bytes left left' × (shown_text set b indented bytes ≡ Err kind)
 
 -- some bytes were read to the end, and a beginning of their text and line break, not the whole, was written
-abbrev pub IsCutShort : Schemas → ℕ → (indented : Bool) → Option (List ℕ) → Option (List ℕ) → Option (List ℕ) → Option (List ℕ) → Type 0
-IsCutShort set b indented left left' written written' =
+abbrev pub IsTextCutShort : Schemas → ℕ → (indented : Bool) → Option (List ℕ) → Option (List ℕ) → Option (List ℕ) → Option (List ℕ) → Type 0
+IsTextCutShort set b indented left left' written written' =
     (bytes : List ℕ) × (line : List ℕ) × (n : ℕ) × IsRead bytes left left' × IsLineOf (shown_text set b indented bytes) line
     × (n < length line) × Appends written written' (take n line)

@@ -7,7 +7,7 @@ use Rattle.capnp_schema.specs.Accepted.{IsAccepted}
 use Rattle.capnp_schema.specs.ByName.{brand_asked}
 use Rattle.capnp_schema.specs.Schema.{Schemas}
 use Rattle.capnp_sets.specs.Message.{IsMessageRefusal, message_set}
-use Rattle.capnp_show_engine.specs.Show.{IsRead, IsRefused}
+use Rattle.capnp_show_engine.specs.Show.{IsRead, IsShowRefused}
 
 -- bytes were read to the end of the set's source, and they stand for a set that is accepted
 pub record IsSetRead (set : Schemas) (left left' : Option (List ℕ)) : Type 0 where
@@ -42,7 +42,7 @@ abbrev pub IsRefusedWithSet : List ℕ → (indented : Bool) → Error → (unto
 IsRefusedWithSet name indented e untouched sets sets' left left' =
     (IsSetRefused e sets sets' × untouched)
     ⊎ (((e.kind ≡ NameNotFound) × IsNameMissing name sets sets' × untouched)
-    ⊎ IsStructNamed name sets sets' (λ set b. IsRefused set b indented e.kind left left'))
+    ⊎ IsStructNamed name sets sets' (λ set b. IsShowRefused set b indented e.kind left left'))
 
 -- one of two sources failed: that of the set, and then the message's is as it was, or that of the message
 abbrev pub HasReadFailed : (untouched : Type 0) → (reads reads' : ℕ) → (message_reads message_reads' : ℕ) → Type 0

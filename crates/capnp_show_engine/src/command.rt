@@ -6,10 +6,10 @@ ghost use Rattle.capnp_device.specs.Device.{HasFailed};
 ghost use Rattle.capnp_device.specs.declared.error.Error.{Error as Refusal};
 ghost use Rattle.capnp_device.specs.declared.error.ErrorKind.TheVariants.{OutOfMemory, ReadFailed, WriteFailed};
 ghost use Rattle.capnp_schema.specs.Builtin.{builtin};
-ghost use Rattle.capnp_show_engine.specs.Command.{IsInside, IsTold, Task, asked, paths_of, refusal_line, task_of, usage_line, words_after_name};
-ghost use Rattle.capnp_show_engine.specs.Opened.{AsksAmong, IsNotOpened, IsOpened, IsSomeFile};
+ghost use Rattle.capnp_show_engine.specs.Command.{IsOfBuiltin, IsTold, ShowTask, asked_show, show_paths_of, refusal_line, show_task_of, usage_line, words_after_name};
+ghost use Rattle.capnp_show_engine.specs.Opened.{AsksAmong, IsNotOpened, IsFileOpened, IsSomeFile};
 ghost use Rattle.capnp_show_engine.specs.Run.{IsRefusedTask, IsShownTask};
-ghost use Rattle.capnp_show_engine.specs.Show.{IsCutShort, IsOfMessage, IsRefused, IsShown};
+ghost use Rattle.capnp_show_engine.specs.Show.{IsTextCutShort, IsOfMessage, IsShowRefused, IsShown};
 
 use crate::engine::show;
 use crate::line::{LONGEST, put_refusal};
@@ -53,13 +53,13 @@ fn show_built_in<R: Source, W: Sink>(
     ensures shown { OnOk result (IsShown builtin request.brand request.indented (R.left source.old) (R.left source.new)
         (W.written sink.old) (W.written sink.new)) }
     ensures refused { IfErr result (λ e. IsOfMessage e.kind →
-        IsRefused builtin request.brand request.indented e.kind (R.left source.old) (R.left source.new)) }
+        IsShowRefused builtin request.brand request.indented e.kind (R.left source.old) (R.left source.new)) }
     ensures read_failed { IfErr result (λ e. e.kind ≡ ReadFailed →
         HasFailed (R.failures source.old) (R.failures source.new)) }
     ensures write_failed { IfErr result (λ e. e.kind ≡ WriteFailed →
         HasFailed (W.failures sink.old) (W.failures sink.new)) }
     ensures beginning { IfErr result (λ e. e.kind ≡ WriteFailed →
-        IsCutShort builtin request.brand request.indented (R.left source.old) (R.left source.new)
+        IsTextCutShort builtin request.brand request.indented (R.left source.old) (R.left source.new)
         (W.written sink.old) (W.written sink.new)) }
     ensures nothing { IfErr result (λ e. e.kind ≢ WriteFailed → sink.new ≡ sink.old) }
 {
@@ -76,16 +76,16 @@ fn show_asked<O: Opener, R: Source, W: Sink>(
     source: &mut R,
     sink: &mut W,
 ) -> Result<()>
-    requires { IsInside asked }
-    ensures shown { OnOk result (IsShownTask (IsOpened O.opens opener.old opener.new)
+    requires { IsOfBuiltin asked }
+    ensures shown { OnOk result (IsShownTask (IsFileOpened O.opens opener.old opener.new)
         (opener.new ≡ opener.old) O.File.left
-        (task_of asked.entry) (R.left source.old) (R.left source.new) (W.written sink.old) (W.written sink.new)) }
-    ensures refused { IfErr result (λ e. IsRefusedTask (IsOpened O.opens opener.old opener.new)
+        (show_task_of asked.entry) (R.left source.old) (R.left source.new) (W.written sink.old) (W.written sink.new)) }
+    ensures refused { IfErr result (λ e. IsRefusedTask (IsFileOpened O.opens opener.old opener.new)
         (IsNotOpened O.opens opener.old opener.new) (opener.new ≡ opener.old) O.File.left O.File.failures
-        (source.new ≡ source.old) (task_of asked.entry) e (R.left source.old) (R.left source.new)
+        (source.new ≡ source.old) (show_task_of asked.entry) e (R.left source.old) (R.left source.new)
         (W.written sink.old) (W.written sink.new) (R.failures source.old) (R.failures source.new)
         (W.failures sink.old) (W.failures sink.new)) }
-    ensures opened { AsksAmong O.opens (paths_of (task_of asked.entry)) opener.old opener.new }
+    ensures opened { AsksAmong O.opens (show_paths_of (show_task_of asked.entry)) opener.old opener.new }
     ensures nothing { IfErr result (λ e. e.kind ≢ WriteFailed → sink.new ≡ sink.old) }
 {
     match asked {
@@ -115,22 +115,22 @@ pub fn command_over<O: Opener, R: Source, W: Sink, F: Sink>(
     errors: &mut F,
 ) -> u8
     ensures statuses { result ≤ 2 }
-    ensures other_words { asked words.now ≡ None → result ≡ 2 }
-    ensures known_words { result ≡ 2 → asked words.now ≡ None }
+    ensures other_words { asked_show words.now ≡ None → result ≡ 2 }
+    ensures known_words { result ≡ 2 → asked_show words.now ≡ None }
     ensures unread { result ≡ 2 → source.new ≡ source.old }
     ensures unopened { result ≡ 2 → opener.new ≡ opener.old }
-    ensures named { (t : Task) → asked words.now ≡ Some t → AsksAmong O.opens (paths_of t) opener.old opener.new }
+    ensures named { (t : ShowTask) → asked_show words.now ≡ Some t → AsksAmong O.opens (show_paths_of t) opener.old opener.new }
     ensures unwritten { result ≡ 2 → sink.new ≡ sink.old }
     ensures usage { result ≡ 2 → IsTold usage_line (F.written errors.old) (F.written errors.new)
         (F.failures errors.old) (F.failures errors.new) }
-    ensures shown { result ≡ 0 → (t : Task) × (asked words.now ≡ Some t)
-        × IsShownTask (IsOpened O.opens opener.old opener.new) (opener.new ≡ opener.old) O.File.left t
+    ensures shown { result ≡ 0 → (t : ShowTask) × (asked_show words.now ≡ Some t)
+        × IsShownTask (IsFileOpened O.opens opener.old opener.new) (opener.new ≡ opener.old) O.File.left t
         (R.left source.old) (R.left source.new) (W.written sink.old) (W.written sink.new) }
     ensures quiet { result ≡ 0 → errors.new ≡ errors.old }
-    ensures refused { result ≡ 1 → (t : Task) × (e : Refusal) × (asked words.now ≡ Some t)
+    ensures refused { result ≡ 1 → (t : ShowTask) × (e : Refusal) × (asked_show words.now ≡ Some t)
         × IsTold (refusal_line e.kind) (F.written errors.old) (F.written errors.new)
         (F.failures errors.old) (F.failures errors.new)
-        × IsRefusedTask (IsOpened O.opens opener.old opener.new) (IsNotOpened O.opens opener.old opener.new)
+        × IsRefusedTask (IsFileOpened O.opens opener.old opener.new) (IsNotOpened O.opens opener.old opener.new)
         (opener.new ≡ opener.old) O.File.left O.File.failures (source.new ≡ source.old) t e
         (R.left source.old) (R.left source.new) (W.written sink.old) (W.written sink.new)
         (R.failures source.old) (R.failures source.new) (W.failures sink.old) (W.failures sink.new)
@@ -159,17 +159,17 @@ pub fn command<O: Files, R: Source, W: Sink, F: Sink>(
     errors: &mut F,
 ) -> u8
     ensures statuses { result ≤ 2 }
-    ensures other_words { asked words.now ≡ None → result ≡ 2 }
-    ensures known_words { result ≡ 2 → asked words.now ≡ None }
+    ensures other_words { asked_show words.now ≡ None → result ≡ 2 }
+    ensures known_words { result ≡ 2 → asked_show words.now ≡ None }
     ensures unread { result ≡ 2 → source.new ≡ source.old }
     ensures unwritten { result ≡ 2 → sink.new ≡ sink.old }
     ensures usage { result ≡ 2 → IsTold usage_line (F.written errors.old) (F.written errors.new)
         (F.failures errors.old) (F.failures errors.new) }
-    ensures shown { result ≡ 0 → (t : Task) × (asked words.now ≡ Some t)
+    ensures shown { result ≡ 0 → (t : ShowTask) × (asked_show words.now ≡ Some t)
         × IsShownTask IsSomeFile ⊤ ⟦<ReadSource<O::File> as Source>⟧.left t
         (R.left source.old) (R.left source.new) (W.written sink.old) (W.written sink.new) }
     ensures quiet { result ≡ 0 → errors.new ≡ errors.old }
-    ensures refused { result ≡ 1 → (t : Task) × (e : Refusal) × (asked words.now ≡ Some t)
+    ensures refused { result ≡ 1 → (t : ShowTask) × (e : Refusal) × (asked_show words.now ≡ Some t)
         × IsTold (refusal_line e.kind) (F.written errors.old) (F.written errors.new)
         (F.failures errors.old) (F.failures errors.new)
         × IsRefusedTask IsSomeFile

@@ -4,7 +4,7 @@ ghost use Rattle.capnp_device.specs.Device.{HasFailed};
 ghost use Rattle.capnp_device.specs.declared.error.ErrorKind.TheVariants.{OutOfMemory, ReadFailed, WriteFailed};
 ghost use Rattle.capnp_schema.specs.Entries.{lists_seen};
 ghost use Rattle.capnp_show_engine.specs.Refusals.{IsOfRead};
-ghost use Rattle.capnp_show_engine.specs.Show.{IsCutShort, IsLineOf, IsOfMessage, IsRefused, IsShown, shown_text};
+ghost use Rattle.capnp_show_engine.specs.Show.{IsTextCutShort, IsLineOf, IsOfMessage, IsShowRefused, IsShown, shown_text};
 ghost use Rattle.capnp_dynamic_readers.specs.Pieces.{IsAppended};
 
 use capnp_dynamic_readers::printer::print;
@@ -38,13 +38,13 @@ pub fn show<R: Source, W: Sink>(
     ensures shown { OnOk result (IsShown (lists_seen set.now) brand indented (R.left source.old) (R.left source.new)
         (W.written sink.old) (W.written sink.new)) }
     ensures refused { IfErr result (λ e. IsOfMessage e.kind →
-        IsRefused (lists_seen set.now) brand indented e.kind (R.left source.old) (R.left source.new)) }
+        IsShowRefused (lists_seen set.now) brand indented e.kind (R.left source.old) (R.left source.new)) }
     ensures read_failed { IfErr result (λ e. e.kind ≡ ReadFailed →
         HasFailed (R.failures source.old) (R.failures source.new)) }
     ensures write_failed { IfErr result (λ e. e.kind ≡ WriteFailed →
         HasFailed (W.failures sink.old) (W.failures sink.new)) }
     ensures beginning { IfErr result (λ e. e.kind ≡ WriteFailed →
-        IsCutShort (lists_seen set.now) brand indented (R.left source.old) (R.left source.new)
+        IsTextCutShort (lists_seen set.now) brand indented (R.left source.old) (R.left source.new)
         (W.written sink.old) (W.written sink.new)) }
     ensures nothing { IfErr result (λ e. e.kind ≢ WriteFailed → sink.new ≡ sink.old) }
 {

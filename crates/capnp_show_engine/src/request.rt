@@ -3,7 +3,7 @@ ghost use Rattle.std.specs.Prelude.{◌≡◌, ◌<◌, length, IfSome, Some};
 ghost use Rattle.std.specs.Option.{option_map};
 ghost use Rattle.capnp_schema.specs.Builtin.{builtin};
 ghost use Rattle.capnp_schema.specs.ByName.{brand_named};
-ghost use Rattle.capnp_show_engine.specs.Command.{IsInside, asked, built_in_asked, in_file, task_of};
+ghost use Rattle.capnp_show_engine.specs.Command.{IsOfBuiltin, asked_show, built_in_asked, in_file, show_task_of};
 
 /// The text under a brand of the built-in set, and whether it is indented.
 #[derive(Clone, Copy, Debug, PartialEq, Eq)]
@@ -47,8 +47,8 @@ fn find_brand(name: &str) -> Option<u32>
 
 /// The text under the struct of a name in the built-in set.
 fn ask_built_in(name: &str, indented: bool) -> Option<Asked<'_>>
-    ensures asked { option_map task_of result ≡ built_in_asked indented (brand_named builtin name.now) }
-    ensures inside { IfSome result IsInside }
+    ensures asked { option_map show_task_of result ≡ built_in_asked indented (brand_named builtin name.now) }
+    ensures inside { IfSome result IsOfBuiltin }
 {
     let brand = find_brand(name)?;
     Some(Asked::BuiltIn(Request { brand, indented }))
@@ -56,9 +56,9 @@ fn ask_built_in(name: &str, indented: bool) -> Option<Asked<'_>>
 
 /// The text under the struct of a name in the set that a file holds.
 fn ask_in_file<'a>(path: &'a str, name: &'a str, indented: bool) -> Option<Asked<'a>>
-    ensures asked { option_map task_of result
+    ensures asked { option_map show_task_of result
         ≡ Some (in_file (record { path = path.now; name = name.now; indented = indented })) }
-    ensures inside { IfSome result IsInside }
+    ensures inside { IfSome result IsOfBuiltin }
 {
     Some(Asked::InFile(FileRequest {
         path,
@@ -71,8 +71,8 @@ fn ask_in_file<'a>(path: &'a str, name: &'a str, indented: bool) -> Option<Asked
 /// neither.
 #[tactic(auto, using(crate::proofs::Words::none_asked, crate::proofs::Words::too_many))]
 pub fn read_words(words: &[String]) -> Option<Asked<'_>>
-    ensures asked { option_map task_of result ≡ asked words.now }
-    ensures inside { IfSome result IsInside }
+    ensures asked { option_map show_task_of result ≡ asked_show words.now }
+    ensures inside { IfSome result IsOfBuiltin }
 {
     match words {
         [name] => ask_built_in(name.as_str(), false),

@@ -4,8 +4,8 @@ ghost use Rattle.capnp_device.specs.Device.{HasFailed};
 ghost use Rattle.capnp_device.specs.declared.error.ErrorKind.TheVariants.{ReadFailed, WriteFailed};
 ghost use Rattle.capnp_schema.specs.ByName.{brand_asked};
 ghost use Rattle.capnp_schema.specs.Entries.{lists_seen};
-ghost use Rattle.capnp_show_engine.specs.Opened.{AsksAmong, IsNotOpened, IsOpened};
-ghost use Rattle.capnp_show_engine.specs.Show.{IsCutShort, IsOfMessage, IsShown};
+ghost use Rattle.capnp_show_engine.specs.Opened.{AsksAmong, IsNotOpened, IsFileOpened};
+ghost use Rattle.capnp_show_engine.specs.Show.{IsTextCutShort, IsOfMessage, IsShown};
 ghost use Rattle.capnp_show_engine.specs.WithSet.{HasReadFailed, IsRefusedWithSet, IsStructNamed};
 
 use crate::engine::show;
@@ -54,7 +54,7 @@ pub fn show_with_set<S: Source, R: Source, W: Sink>(
         HasFailed (W.failures sink.old) (W.failures sink.new)) }
     ensures beginning { IfErr result (λ e. e.kind ≡ WriteFailed
         → IsStructNamed name.now (S.left set_source.old) (S.left set_source.new) (λ set b.
-        IsCutShort set b indented (R.left source.old) (R.left source.new) (W.written sink.old) (W.written sink.new))) }
+        IsTextCutShort set b indented (R.left source.old) (R.left source.new) (W.written sink.old) (W.written sink.new))) }
     ensures nothing { IfErr result (λ e. e.kind ≢ WriteFailed → sink.new ≡ sink.old) }
     ensures first { (source.new ≡ source.old)
         ⊎ IsStructNamed name.now (S.left set_source.old) (S.left set_source.new) (λ _ _. ⊤) }
@@ -80,25 +80,25 @@ pub fn show_with_file<O: Opener, R: Source, W: Sink>(
     sink: &mut W,
     indented: bool,
 ) -> Result<()>
-    ensures shown { OnOk result (IsOpened O.opens opener.old opener.new path.now (λ f g.
+    ensures shown { OnOk result (IsFileOpened O.opens opener.old opener.new path.now (λ f g.
         IsStructNamed name.now (O.File.left f) (O.File.left g) (λ set b.
         IsShown set b indented (R.left source.old) (R.left source.new) (W.written sink.old) (W.written sink.new)))) }
-    ensures refused { IfErr result (λ e. IsOfMessage e.kind → IsOpened O.opens opener.old opener.new path.now (λ f g.
+    ensures refused { IfErr result (λ e. IsOfMessage e.kind → IsFileOpened O.opens opener.old opener.new path.now (λ f g.
         IsRefusedWithSet name.now indented e (source.new ≡ source.old)
         (O.File.left f) (O.File.left g) (R.left source.old) (R.left source.new))) }
     ensures read_failed { IfErr result (λ e. e.kind ≡ ReadFailed →
         (IsNotOpened O.opens opener.old opener.new path.now × (source.new ≡ source.old))
-        ⊎ IsOpened O.opens opener.old opener.new path.now (λ f g. HasReadFailed (source.new ≡ source.old)
+        ⊎ IsFileOpened O.opens opener.old opener.new path.now (λ f g. HasReadFailed (source.new ≡ source.old)
         (O.File.failures f) (O.File.failures g) (R.failures source.old) (R.failures source.new))) }
     ensures write_failed { IfErr result (λ e. e.kind ≡ WriteFailed →
         HasFailed (W.failures sink.old) (W.failures sink.new)) }
     ensures beginning { IfErr result (λ e. e.kind ≡ WriteFailed
-        → IsOpened O.opens opener.old opener.new path.now (λ f g.
+        → IsFileOpened O.opens opener.old opener.new path.now (λ f g.
         IsStructNamed name.now (O.File.left f) (O.File.left g) (λ set b.
-        IsCutShort set b indented (R.left source.old) (R.left source.new) (W.written sink.old) (W.written sink.new)))) }
+        IsTextCutShort set b indented (R.left source.old) (R.left source.new) (W.written sink.old) (W.written sink.new)))) }
     ensures nothing { IfErr result (λ e. e.kind ≢ WriteFailed → sink.new ≡ sink.old) }
     ensures opened { AsksAmong O.opens (path.now ∷ []) opener.old opener.new }
-    ensures first { (source.new ≡ source.old) ⊎ IsOpened O.opens opener.old opener.new path.now (λ f g.
+    ensures first { (source.new ≡ source.old) ⊎ IsFileOpened O.opens opener.old opener.new path.now (λ f g.
         IsStructNamed name.now (O.File.left f) (O.File.left g) (λ _ _. ⊤)) }
 {
     let Ok(mut file) = opener.open(path) else {

@@ -14,8 +14,8 @@ use Rattle.capnp_wire.specs.Reading.{as_data, as_list, as_struct, as_text, empty
 use Rattle.capnp_wire.specs.Words.{first_fault}
 use Rattle.capnp_wire.specs.declared.size.ElementSize.{ElementSize}
 use Rattle.capnp_schema.specs.Accepted.{IsDefaultOf, KindDefault, IsListOrNull, IsStructOrNull}
-use Rattle.capnp_schema.specs.Defaults.{DefaultFits, IsReadAs}
-use Rattle.capnp_schema.specs.Defaults.{default_tree as words_tree}
+use Rattle.capnp_schema.specs.Defaults.{DefaultFits, IsDefaultReadAs}
+use Rattle.capnp_schema.specs.Defaults.{value_default_tree as words_tree}
 use Rattle.capnp_schema.specs.Schema.{FieldKind, Group, Slot, default_of, kind_default, Schemas, TextValue, DataValue, StructValue, ListValue, AnyPointerValue}
 use Rattle.capnp_schema.specs.Schema.{Value as SchemaValue}
 use Rattle.capnp_schema.specs.Types.{width, AnyPointerType, DataType, ListType, SchemaType, StructType, TextType, element_size, is_pointer}
@@ -31,7 +31,7 @@ use Rattle.capnp_records.specs.Record.{Endless, Left, Levels, Value, one_less}
 use Rattle.capnp_records.specs.Record as value
 use Rattle.capnp_records.specs.Step.{fault_of, is_group_field}
 use Rattle.capnp_records.specs.Writes.Slots.{At, Bits, Suits}
-use Rattle.capnp_records.specs.Writes.TreeCopy.{default_tree, or_else}
+use Rattle.capnp_records.specs.Writes.TreeCopy.{slot_default_tree, or_else}
 use Rattle.capnp_records.specs.Facts.Frame.{first-of, second-of}
 use Rattle.capnp_schema.specs.Facts.Bits.{bits_at-bounded}
 use Rattle.capnp_schema.specs.FieldLists.{typed_of}
@@ -47,7 +47,7 @@ use Rattle.capnp_wire.specs.Place.{struct_tree}
 use Rattle.capnp_wire.specs.Standing.{tree_of}
 use Rattle.capnp_wire.specs.declared.pointer_reader.PointerReader.{PointerReader}
 use Rattle.capnp_slots.specs.Copied.{IsCopied, IsCopiedFrom, IsGivenCopy, copy_content, copy_given, default_in, empty_tree, pointer_content, pointer_given, read_due, refusal_of}
-use Rattle.capnp_slots.specs.Fields.{IsPointer, IsRoomFor, IsSlot, IsSlotPlan, field_set, Keeps, names_of, pointer_index, slot_with}
+use Rattle.capnp_slots.specs.Fields.{IsPointerField, IsRoomFor, IsSlot, IsSlotPlan, field_set, Keeps, names_of, pointer_index, slot_with}
 use Rattle.capnp_slots.specs.Planned.{place_bits, plan_written}
 use Rattle.capnp_slots.specs.Sources.{IsSetRefusal, IsTaken, copy_due}
 
@@ -91,7 +91,7 @@ list-root set n e y h ok = go (is_null_tree y) refl
     go true e' = refl
     go false there = list-there set 64 e y there ∙ (ap error_of (levels-same (element_size e) y there h) ∙ ok-none (as_list (element_size e) y 1) ok)
 
-null-due : (set : Schemas) (n : ℕ) (t : SchemaType) (d : SchemaValue) → is_pointer t ≡ true → (AnyPointerType ≡ t → ⊥) → IsDefaultOf d t → IsReadAs t (words_tree d) → fault_of (default_value set (Left n) d t) ≡ read_due t tree.Null n
+null-due : (set : Schemas) (n : ℕ) (t : SchemaType) (d : SchemaValue) → is_pointer t ≡ true → (AnyPointerType ≡ t → ⊥) → IsDefaultOf d t → IsDefaultReadAs t (words_tree d) → fault_of (default_value set (Left n) d t) ≡ read_due t tree.Null n
 null-due set n TextType (TextValue bytes) p typed of reads = refl
 null-due set n TextType (AnyPointerValue words) p typed of reads = refl
 null-due set n TextType d p typed of reads = absurd of
@@ -117,7 +117,7 @@ there-due set n (ListType e) x p typed h = list-there set n e x h
 there-due set n AnyPointerType x p typed h = absurd (typed refl)
 there-due set n t x p typed h = absurd (true≢false (sym p))
 
-read-faults : (set : Schemas) (n : ℕ) (t : SchemaType) (d : SchemaValue) (x : Tree) → is_pointer t ≡ true → (AnyPointerType ≡ t → ⊥) → IsDefaultOf d t → IsReadAs t (words_tree d) →
+read-faults : (set : Schemas) (n : ℕ) (t : SchemaType) (d : SchemaValue) (x : Tree) → is_pointer t ≡ true → (AnyPointerType ≡ t → ⊥) → IsDefaultOf d t → IsDefaultReadAs t (words_tree d) →
     fault_of (read_of set d t (value_of set x (Left n) t)) ≡ read_due t x n
 read-faults set n t d x p typed of reads = go (is_null_tree x) refl
   where
@@ -142,7 +142,7 @@ typed-or : (t : SchemaType) (n : ℕ) (x : Tree) → read_due t x n ≡ None →
 typed-or AnyPointerType n x h e = cc
 typed-or t n x h e = cc
 
-module _ (set : Schemas) (n : ℕ) (t : SchemaType) (d : SchemaValue) (x : Tree) (p : is_pointer t ≡ true) (of : IsDefaultOf d t) (reads : IsReadAs t (words_tree d)) where
+module _ (set : Schemas) (n : ℕ) (t : SchemaType) (d : SchemaValue) (x : Tree) (p : is_pointer t ≡ true) (of : IsDefaultOf d t) (reads : IsDefaultReadAs t (words_tree d)) where
   pub pointer-taken : read_due t x n ≡ None → pointer_copy set (Left n) x d t ≡ Copies x false (read_of set d t (value_of set x Endless t))
   pointer-taken h =
       let typed : AnyPointerType ≡ t → ⊥ = typed-or t n x h in
@@ -151,7 +151,7 @@ module _ (set : Schemas) (n : ℕ) (t : SchemaType) (d : SchemaValue) (x : Tree)
 some-same : {k j : ErrorKind} → Some k ≡ Some j → k ≡ j
 some-same e = cc
 
-pub pointer-refused : (set : Schemas) (n : ℕ) (t : SchemaType) (d : SchemaValue) (x : Tree) → is_pointer t ≡ true → IsDefaultOf d t → IsReadAs t (words_tree d) → (k : ErrorKind) →
+pub pointer-refused : (set : Schemas) (n : ℕ) (t : SchemaType) (d : SchemaValue) (x : Tree) → is_pointer t ≡ true → IsDefaultOf d t → IsDefaultReadAs t (words_tree d) → (k : ErrorKind) →
     Some k ≡ read_due t x n → pointer_copy set (Left n) x d t ≡ Fails k
 pointer-refused set n AnyPointerType d x p of reads k h = ap Fails (some-same (sym h))
 pointer-refused set n TextType d x p of reads k h = ap (λ o. read_copy o (Copies x false (read_of set d TextType (value_of set x Endless TextType)))) (read-faults set n TextType d x p (λ e. cc) of reads ∙ sym h)
@@ -179,22 +179,22 @@ fails-refusal g k e = subst (λ (y : Given). IsSetRefusal y k) (sym e) refl
 
 -- ---- defaults that are put in the place of a null ----
 
-pub text-put : (d : SchemaValue) (t : SchemaType) (y : TextReader) → IsDefaultOf d t → IsViewOf d (view.Text y) → text_tree y.0.now ≡ default_tree d t
+pub text-put : (d : SchemaValue) (t : SchemaType) (y : TextReader) → IsDefaultOf d t → IsViewOf d (view.Text y) → text_tree y.0.now ≡ slot_default_tree d t
 text-put (TextValue bytes) TextType y of h = ap text_tree h
 text-put (TextValue bytes) t y of h = absurd of
 text-put d t y of h = absurd h
 
-pub data-put : (d : SchemaValue) (t : SchemaType) (y : Bor (List ℕ)) → IsDefaultOf d t → IsViewOf d (view.«Data» y) → data_tree y.now ≡ default_tree d t
+pub data-put : (d : SchemaValue) (t : SchemaType) (y : Bor (List ℕ)) → IsDefaultOf d t → IsViewOf d (view.«Data» y) → data_tree y.now ≡ slot_default_tree d t
 data-put (DataValue bytes) DataType y of h = ap data_tree h
 data-put (DataValue bytes) t y of h = absurd of
 data-put d t y of h = absurd h
 
-pub struct-put : (d : SchemaValue) (t : SchemaType) (y : PointerReader) → IsDefaultOf d t → IsViewOf d (view.Struct y) → or_else (tree_of y) (empty_tree t) ≡ default_tree d t
+pub struct-put : (d : SchemaValue) (t : SchemaType) (y : PointerReader) → IsDefaultOf d t → IsViewOf d (view.Struct y) → or_else (tree_of y) (empty_tree t) ≡ slot_default_tree d t
 struct-put (StructValue words) (StructType b g) y of h = ap (λ x. or_else x (struct_tree empty_struct)) h.tree
 struct-put (StructValue words) t y of h = absurd of
 struct-put d t y of h = absurd h
 
-pub list-put : (d : SchemaValue) (t : SchemaType) (y : PointerReader) → IsDefaultOf d t → IsViewOf d (view.List y) → or_else (tree_of y) (empty_tree t) ≡ default_tree d t
+pub list-put : (d : SchemaValue) (t : SchemaType) (y : PointerReader) → IsDefaultOf d t → IsViewOf d (view.List y) → or_else (tree_of y) (empty_tree t) ≡ slot_default_tree d t
 list-put (ListValue words) (ListType e) y of h = ap (λ x. or_else x (empty_list (element_size e))) h.tree
 list-put (ListValue words) t y of h = absurd of
 list-put d t y of h = absurd h
@@ -209,7 +209,7 @@ sound-list d y sound h = absurd h
 
 pub empty-put : (d : SchemaValue) (t : SchemaType) (v : View) → is_pointer t ≡ true → IsDefaultOf d t → IsViewOf d v →
     ((y : TextReader) → v ≡ view.Text y → ⊥) → ((y : Bor (List ℕ)) → v ≡ view.«Data» y → ⊥) → ((y : PointerReader) → v ≡ view.Struct y → ⊥) → ((y : PointerReader) → v ≡ view.List y → ⊥) →
-    empty_tree t ≡ default_tree d t
+    empty_tree t ≡ slot_default_tree d t
 empty-put (TextValue x) t (view.Text y) p of h a b c e = absurd (a y refl)
 empty-put (TextValue x) t v p of h a b c e = absurd h
 empty-put (DataValue x) t (view.«Data» y) p of h a b c e = absurd (b y refl)
@@ -262,7 +262,7 @@ kind-is (Group n) t e h = absurd (true≢false e)
 same-type : (f : Field) (u : SchemaType) (n : ℕ) (x : Tree) (o : Option ErrorKind) → u ≡ (typed_of f).type → o ≡ read_due u x n → o ≡ read_due (typed_of f).type x n
 same-type f u n x o e h = h ∙ ap (λ t. read_due t x n) e
 
-module _ (f : Field) (n : ℕ) (x : Tree) (slot : IsSlot f) (pointer : IsPointer f) (fits : DefaultFits (typed_of f)) (u : SchemaType) (same : u ≡ (typed_of f).type) where
+module _ (f : Field) (n : ℕ) (x : Tree) (slot : IsSlot f) (pointer : IsPointerField f) (fits : DefaultFits (typed_of f)) (u : SchemaType) (same : u ≡ (typed_of f).type) where
   of : IsDefaultOf (default_of (typed_of f).field) (typed_of f).type
   of = kind-is (typed_of f).field.kind (typed_of f).type slot fits.kind
 
@@ -301,7 +301,7 @@ module _ (f : Field) (n : ℕ) (x : Tree) (given : IsGivenCopy f n x) (s s' : St
 
 -- ---- the pointer of a struct ----
 
-module _ (f : Field) (x : StructTree) (n i m : ℕ) (y : Tree) (pointer : IsPointer f) (index : i ≡ pointer_index f) (read : y ≡ nth_tree x.pointers i) (levels : m ≡ n) where
+module _ (f : Field) (x : StructTree) (n i m : ℕ) (y : Tree) (pointer : IsPointerField f) (index : i ≡ pointer_index f) (read : y ≡ nth_tree x.pointers i) (levels : m ≡ n) where
   same-tree : y ≡ nth_tree x.pointers (pointer_index f)
   same-tree = read ∙ ap (nth_tree x.pointers) index
 

@@ -10,26 +10,26 @@ use Rattle.capnp_wire.specs.Tree.{StructTree}
 use Rattle.capnp_schema.specs.Accepted.{IsParent}
 use Rattle.capnp_schema.specs.Checking.Parents.{group_target}
 use Rattle.capnp_schema.specs.Facts.GroupFields.{group_field_found, parent_target, target_parent}
-use Rattle.capnp_schema.specs.FieldLists.{IsFound, index_of, schema_of, typed_of}
+use Rattle.capnp_schema.specs.FieldLists.{IsFound, index_of, field_schema, typed_of}
 use Rattle.capnp_schema.specs.GroupFields.{group_field_of}
 use Rattle.capnp_schema.specs.GroupsDown.{IsGroupFieldOf, place_of_field}
 use Rattle.capnp_schema.specs.GroupWalks.{steps_into}
 use Rattle.capnp_schema.specs.Laws.{group_height}
-use Rattle.capnp_schema.specs.Query.{indices_from, is_plain, keep_index}
+use Rattle.capnp_schema.specs.Query.{indices_from, is_non_union, keep_index}
 use Rattle.capnp_schema.specs.Schema.{Schemas, TypedField, field_at, fields_of, is_member, node_of}
 use Rattle.capnp_schema.specs.StructHandles.{number_of, set_of, struct_fields}
 use Rattle.capnp_schema.specs.declared.schema.fields.Field.{Field}
 use Rattle.capnp_schema.specs.declared.schema.structs.StructSchema.{StructSchema}
 use Rattle.capnp_records.specs.Part.{which_of}
-use Rattle.capnp_records.specs.Reading.{active_among, discriminant, part_of, plain_parts, values_of}
+use Rattle.capnp_records.specs.Reading.{active_among, discriminant, part_of, non_union_parts, values_of}
 use Rattle.capnp_records.specs.Record.{Active, Levels, NoUnion, Parts, Union, Value, Values}
 use Rattle.capnp_records.specs.Writes.Overlay.{cleared_group}
 use Rattle.capnp_records.specs.Writes.Slots.{Fits}
 use Rattle.capnp_records.specs.Writes.TreeCopy.{TreeCopiesWithin}
 use Rattle.capnp_slots.specs.Copied.{IsCopied, copy_content, copy_given}
 use Rattle.capnp_slots.specs.Fields.{IsRoomFor, IsSlot, field_brand, field_set, switched_to}
-use Rattle.capnp_slots.specs.GroupClears.{cleared_at, cleared_behind, place_behind, unless_member}
-use Rattle.capnp_slots.specs.GroupSets.{CopiesIndices, CopiesThrough, active_in, copied_at, if_passes, is_index_there, is_part_there, kept_indices, member_indices, plain_in}
+use Rattle.capnp_slots.specs.GroupClears.{field_cleared_at, cleared_behind, place_behind, unless_member_place}
+use Rattle.capnp_slots.specs.GroupSets.{CopiesIndices, CopiesThrough, active_in, copied_at, if_passes, is_index_there, is_part_there, kept_indices, member_indices, non_union_in}
 use Rattle.capnp_slots.specs.Groups.{IsGroupAt, KeepsSize}
 use Rattle.capnp_slots.specs.Sources.{IsSetRefusal}
 use Rattle.capnp_slots.proofs.GroupClears.{entry, fits-kept, records}
@@ -39,16 +39,16 @@ use Rattle.capnp_slots.proofs.GroupWays.{all_steps, behind-is, fewer-above, foun
 -- ---- the fields that are copied from a place on ----
 
 unfoldable pub left_indices : Schemas → Levels → StructTree → ℕ → (place : ℕ) → List ℕ
-left_indices set l x b zero = member_indices (active_in set l x b) ++ plain_in set l x b
-left_indices set l x b (suc i) = kept_indices (is_index_there set l x b) (indices_from i is_plain (records (drop i (fields_of set b))))
+left_indices set l x b zero = member_indices (active_in set l x b) ++ non_union_in set l x b
+left_indices set l x b (suc i) = kept_indices (is_index_there set l x b) (indices_from i is_non_union (records (drop i (fields_of set b))))
 
 plain-from : (fs : List TypedField) (i k : ℕ) (q : Bool) → i < length fs → is_member (entry fs i).field ≡ q →
-    indices_from k is_plain (records (drop i fs)) ≡ keep_index (not q) k (indices_from (suc k) is_plain (records (drop (suc i) fs)))
+    indices_from k is_non_union (records (drop i fs)) ≡ keep_index (not q) k (indices_from (suc k) is_non_union (records (drop (suc i) fs)))
 plain-from [] i k q lt e = absurd (omega arith)
-plain-from (f ∷ fs) zero k q lt e = ap (λ (r : Bool). keep_index (not r) k (indices_from (suc k) is_plain (records fs))) e
+plain-from (f ∷ fs) zero k q lt e = ap (λ (r : Bool). keep_index (not r) k (indices_from (suc k) is_non_union (records fs))) e
 plain-from (f ∷ fs) (suc i) k q lt e = plain-from fs i k q (omega arith) e
 
-plain-past : (fs : List TypedField) (i k : ℕ) → length fs ≤ i → indices_from k is_plain (records (drop i fs)) ≡ []
+plain-past : (fs : List TypedField) (i k : ℕ) → length fs ≤ i → indices_from k is_non_union (records (drop i fs)) ≡ []
 plain-past [] zero k le = refl
 plain-past [] (suc i) k le = refl
 plain-past (f ∷ fs) zero k le = absurd (omega arith)
@@ -59,12 +59,12 @@ module _ (there : ℕ → Bool) where
   passes-some None i e = cc
   passes-some (Some j) i e = ap (λ (k : ℕ). Some k) (cond_some (there j) j i e).1
 
-  nothing-kept : (q t : Bool) (k : ℕ) (js : List ℕ) → there k ≡ t → if_passes there (unless_member q k) ≡ None → kept_indices there (keep_index (not q) k js) ≡ kept_indices there js
+  nothing-kept : (q t : Bool) (k : ℕ) (js : List ℕ) → there k ≡ t → if_passes there (unless_member_place q k) ≡ None → kept_indices there (keep_index (not q) k js) ≡ kept_indices there js
   nothing-kept true t k js h e = refl
   nothing-kept false false k js h e = ap (λ (r : Bool). keep_index r k (kept_indices there js)) h
   nothing-kept false true k js h e = absurd (let none : Some k ≡ None = sym (ap (λ (r : Bool). cond r (Some k) None) h) ∙ e in cc)
 
-  one-kept : (q : Bool) (k i : ℕ) (js : List ℕ) → if_passes there (unless_member q k) ≡ Some i → kept_indices there (keep_index (not q) k js) ≡ i ∷ kept_indices there js
+  one-kept : (q : Bool) (k i : ℕ) (js : List ℕ) → if_passes there (unless_member_place q k) ≡ Some i → kept_indices there (keep_index (not q) k js) ≡ i ∷ kept_indices there js
   one-kept true k i js e = cc
   one-kept false k i js e =
       let found = cond_some (there k) k i e in
@@ -73,19 +73,19 @@ module _ (there : ℕ → Bool) where
 module _ (set : Schemas) (l : Levels) (x : StructTree) (b : ℕ) where
   -- nothing is copied at a place
   left-nothing : (p : ℕ) → copied_at set l x b p ≡ None → p ≤ length (fields_of set b) → left_indices set l x b p ≡ left_indices set l x b (suc p)
-  unfolding left_indices copied_at cleared_at
-  left-nothing zero none le = ap (λ (o : Option ℕ). member_indices o ++ plain_in set l x b) none
+  unfolding left_indices copied_at field_cleared_at
+  left-nothing zero none le = ap (λ (o : Option ℕ). member_indices o ++ non_union_in set l x b) none
   left-nothing (suc i) none le =
       ap (kept_indices (is_index_there set l x b)) (plain-from (fields_of set b) i i (is_member (field_at set b i).field) (omega arith) refl)
-      ∙ nothing-kept (is_index_there set l x b) (is_member (field_at set b i).field) (is_index_there set l x b i) i (indices_from (suc i) is_plain (records (drop (suc i) (fields_of set b)))) refl none
+      ∙ nothing-kept (is_index_there set l x b) (is_member (field_at set b i).field) (is_index_there set l x b i) i (indices_from (suc i) is_non_union (records (drop (suc i) (fields_of set b)))) refl none
 
   -- a field is
   left-field : (p i : ℕ) → copied_at set l x b p ≡ Some i → p ≤ length (fields_of set b) → left_indices set l x b p ≡ i ∷ left_indices set l x b (suc p)
-  unfolding left_indices copied_at cleared_at
-  left-field zero i some le = ap (λ (o : Option ℕ). member_indices o ++ plain_in set l x b) some
+  unfolding left_indices copied_at field_cleared_at
+  left-field zero i some le = ap (λ (o : Option ℕ). member_indices o ++ non_union_in set l x b) some
   left-field (suc j) i some le =
       ap (kept_indices (is_index_there set l x b)) (plain-from (fields_of set b) j j (is_member (field_at set b j).field) (omega arith) refl)
-      ∙ one-kept (is_index_there set l x b) (is_member (field_at set b j).field) j i (indices_from (suc j) is_plain (records (drop (suc j) (fields_of set b)))) some
+      ∙ one-kept (is_index_there set l x b) (is_member (field_at set b j).field) j i (indices_from (suc j) is_non_union (records (drop (suc j) (fields_of set b)))) some
 
   -- and past the last none is
   left-past : (p : ℕ) → length (fields_of set b) < p → left_indices set l x b p ≡ []
@@ -117,11 +117,11 @@ active-member : (set : Schemas) (l : Levels) (x : StructTree) (b i : ℕ) → ac
 unfolding active_in
 active-member set l x b i e = go ((node_of set b).discriminant_count == 0) e
   where
-    go : (q : Bool) → which_of (Parts (plain_parts (part_of set l x.bytes (values_of set x.pointers)) (fields_of set b)) (elim q as (λ _. Union) [ true ↦ NoUnion | false ↦ active_among (part_of set l x.bytes (values_of set x.pointers)) (fields_of set b) 0 (discriminant (node_of set b) x.bytes) ])) ≡ Some i →
+    go : (q : Bool) → which_of (Parts (non_union_parts (part_of set l x.bytes (values_of set x.pointers)) (fields_of set b)) (elim q as (λ _. Union) [ true ↦ NoUnion | false ↦ active_among (part_of set l x.bytes (values_of set x.pointers)) (fields_of set b) 0 (discriminant (node_of set b) x.bytes) ])) ≡ Some i →
         is_member (field_at set b i).field ≡ true
     go true h = absurd (let none : None ≡ Some i = h in cc)
     go false h =
-        let found = among (part_of set l x.bytes (values_of set x.pointers)) (plain_parts (part_of set l x.bytes (values_of set x.pointers)) (fields_of set b)) (fields_of set b) 0 (discriminant (node_of set b) x.bytes) i h in
+        let found = among (part_of set l x.bytes (values_of set x.pointers)) (non_union_parts (part_of set l x.bytes (values_of set x.pointers)) (fields_of set b)) (fields_of set b) 0 (discriminant (node_of set b) x.bytes) i h in
         let counted = found.counted in
         let same : found.index ≡ i = omega (arith, counted) in
         subst (λ (k : ℕ). is_member (field_at set b k).field ≡ true) same found.member
@@ -129,7 +129,7 @@ active-member set l x b i e = go ((node_of set b).discriminant_count == 0) e
 behind-copied : (set : Schemas) (l : Levels) (x : StructTree) (b p i : ℕ) → copied_at set l x b p ≡ Some i → cleared_behind set b i ≡ suc p
 unfolding copied_at cleared_behind
 behind-copied set l x b zero i some = ap (λ (q : Bool). place_behind q i) (active-member set l x b i some)
-behind-copied set l x b (suc j) i some = behind-is set b (suc j) i (passes-some (is_index_there set l x b) (cleared_at set b (suc j)) i some)
+behind-copied set l x b (suc j) i some = behind-is set b (suc j) i (passes-some (is_index_there set l x b) (field_cleared_at set b (suc j)) i some)
 
 -- ---- what a copy leads to ----
 
@@ -326,7 +326,7 @@ module _ (Outcome : Ending) (l : Levels) (x : StructTree) where
 
   -- it is left by its field
   out-of-group : (n : ℕ) (g : StructSchema) (depth p : ℕ) (f : Field) (s : StructTree) → length (struct_fields g) < p → IsGroupFieldOf g f → Some (place_of_field f) ≡ group_field_of (set_of g) (number_of g) →
-      Stands Outcome n l x g (suc depth) p s → Stands Outcome (suc n) l x (schema_of f) depth (cleared_behind (field_set f) (field_brand f) (index_of f)) s
+      Stands Outcome n l x g (suc depth) p s → Stands Outcome (suc n) l x (field_schema f) depth (cleared_behind (field_set f) (field_brand f) (index_of f)) s
   out-of-group n g depth p f s past is place h =
       subst (λ (z : Schemas). Leads Outcome (suc n) z l x ((field_brand f, cleared_behind z (field_brand f) (index_of f)) ∷ way z depth (field_brand f)) None s) (sym is.set)
       (subst (λ (frames : List (ℕ × ℕ)). Leads Outcome (suc n) (set_of g) l x frames None s) (way-group (set_of g) depth (number_of g) (field_brand f) (index_of f) (sym place))
@@ -389,7 +389,7 @@ module _ (l : Levels) (x : StructTree) (at : StructSchema) (p : ℕ) (f : Field)
       (low-first (suc n) (set_of at) (number_of at) p (way (set_of at) depth (number_of at)) h) (low-above (suc n) (set_of at) (number_of at) p (way (set_of at) depth (number_of at)) h))))
 
 low-out : (n : ℕ) (g : StructSchema) (depth p : ℕ) (f : Field) → IsGroupFieldOf g f → Some (place_of_field f) ≡ group_field_of (set_of g) (number_of g) →
-    IsLow n g (suc depth) p → IsLow (suc n) (schema_of f) depth (cleared_behind (field_set f) (field_brand f) (index_of f))
+    IsLow n g (suc depth) p → IsLow (suc n) (field_schema f) depth (cleared_behind (field_set f) (field_brand f) (index_of f))
 low-out n g depth p f is place h =
     subst (λ (z : Schemas). AreLow (suc n) z ((field_brand f, cleared_behind z (field_brand f) (index_of f)) ∷ way z depth (field_brand f))) (sym is.set)
     (subst (λ (frames : List (ℕ × ℕ)). AreLow (suc n) (set_of g) frames) (way-group (set_of g) depth (number_of g) (field_brand f) (index_of f) (sym place))
@@ -403,7 +403,7 @@ unfolding place_steps copied_at
 less-into-copied n set l x b zero i g at le is =
     let into : steps_into (group_steps (suc n) set) (group_target set b i) ≡ suc (suc (group_steps (suc n) set g)) = ap (steps_into (group_steps (suc n) set)) (parent_target set g b i is) in
     omega (arith, group-steps n set g, into, one-of-all (group_steps (suc n) set) (fields_of set b) i is.field)
-less-into-copied n set l x b (suc j) i g at le is = less-into n set b (suc j) i g (passes-some (is_index_there set l x b) (cleared_at set b (suc j)) i at) le is
+less-into-copied n set l x b (suc j) i g at le is = less-into n set b (suc j) i g (passes-some (is_index_there set l x b) (field_cleared_at set b (suc j)) i at) le is
 
 less-in : (n : ℕ) (l : Levels) (x : StructTree) (at : StructSchema) (depth p : ℕ) (f : Field) (g : StructSchema) → Due l x at p f → p ≤ length (struct_fields at) → IsGroupAt f g → steps_of n g (suc depth) 0 < steps_of (suc n) at depth p
 less-in n l x at depth p f g d le is = subst (λ (z : Schemas). all_steps n z ((number_of g, 0) ∷ way z (suc depth) (number_of g)) < steps_of (suc n) at depth p) (sym (is.set ∙ d.set)) in_set
@@ -495,22 +495,22 @@ below-top (suc (suc n)) zero few inside = omega arith
 below-top (suc n) (suc left) few inside = omega (arith, below-top n left (omega arith) (λ e. inside (omega (arith, e))))
 
 -- the field's struct and the place behind it by other names
-module _ (groups left : ℕ) (g : StructSchema) (p : ℕ) (f : Field) (a : StructSchema) (q : ℕ) (same : a ≡ schema_of f) (behind : q ≡ cleared_behind (field_set f) (field_brand f) (index_of f)) (few : left < groups) (inside : left + 1 ≡ groups → ⊥)
+module _ (groups left : ℕ) (g : StructSchema) (p : ℕ) (f : Field) (a : StructSchema) (q : ℕ) (same : a ≡ field_schema f) (behind : q ≡ cleared_behind (field_set f) (field_brand f) (index_of f)) (few : left < groups) (inside : left + 1 ≡ groups → ⊥)
     (is : IsGroupFieldOf g f) (place : Some (place_of_field f) ≡ group_field_of (set_of g) (number_of g)) where
   deeper : depth_at groups left ≡ suc (depth_at groups (left + 1))
   deeper = omega (arith, below-top groups left few inside)
 
-  named : (P : StructSchema → ℕ → Type 0) → P (schema_of f) (cleared_behind (field_set f) (field_brand f) (index_of f)) → P a q
-  named P h = subst (λ (z : StructSchema). P z q) (sym same) (subst (λ (k : ℕ). P (schema_of f) k) (sym behind) h)
+  named : (P : StructSchema → ℕ → Type 0) → P (field_schema f) (cleared_behind (field_set f) (field_brand f) (index_of f)) → P a q
+  named P h = subst (λ (z : StructSchema). P z q) (sym same) (subst (λ (k : ℕ). P (field_schema f) k) (sym behind) h)
 
   pub goes-above : (Outcome : Ending) (l : Levels) (x s : StructTree) → length (struct_fields g) < p → StandsAt groups Outcome left l x g p s → StandsAt groups Outcome (left + 1) l x a q s
   goes-above Outcome l x s past h = named (λ (z : StructSchema) (k : ℕ). StandsAt groups Outcome (left + 1) l x z k s)
-      (subst (λ (n : ℕ). Stands Outcome n l x (schema_of f) (depth_at groups (left + 1)) (cleared_behind (field_set f) (field_brand f) (index_of f)) s) (sym (add-one left))
+      (subst (λ (n : ℕ). Stands Outcome n l x (field_schema f) (depth_at groups (left + 1)) (cleared_behind (field_set f) (field_brand f) (index_of f)) s) (sym (add-one left))
       (out-of-group Outcome l x left g (depth_at groups (left + 1)) p f s past is place (subst (λ (d : ℕ). Stands Outcome left l x g d p s) deeper h)))
 
   pub low-at-above : IsLowAt groups left g p → IsLowAt groups (left + 1) a q
   low-at-above h = named (λ (z : StructSchema) (k : ℕ). IsLowAt groups (left + 1) z k)
-      (subst (λ (n : ℕ). IsLow n (schema_of f) (depth_at groups (left + 1)) (cleared_behind (field_set f) (field_brand f) (index_of f))) (sym (add-one left))
+      (subst (λ (n : ℕ). IsLow n (field_schema f) (depth_at groups (left + 1)) (cleared_behind (field_set f) (field_brand f) (index_of f))) (sym (add-one left))
       (low-out left g (depth_at groups (left + 1)) p f is place (subst (λ (d : ℕ). IsLow left g d p) deeper h)))
 
   pub fewer-at-above : steps_at groups (left + 1) a q < steps_at groups left g p
@@ -538,7 +538,7 @@ module _ (s : StructSchema) (l : Levels) (x : StructTree) where
   pub copied-first : (p : ℕ) (o : Option Field) → p ≡ 0 → IsFound s (active_in (set_of s) l x (number_of s)) o → IsFound s (copied_at (set_of s) l x (number_of s) p) o
   copied-first p o e found = subst (λ (k : ℕ). IsFound s (copied_at (set_of s) l x (number_of s) k) o) (sym e) (at-first o found)
 
-  at-later : (p : ℕ) → (p ≡ 0 → ⊥) → copied_at (set_of s) l x (number_of s) p ≡ if_passes (is_index_there (set_of s) l x (number_of s)) (cleared_at (set_of s) (number_of s) p)
+  at-later : (p : ℕ) → (p ≡ 0 → ⊥) → copied_at (set_of s) l x (number_of s) p ≡ if_passes (is_index_there (set_of s) l x (number_of s)) (field_cleared_at (set_of s) (number_of s) p)
   unfolding copied_at
   at-later zero some = absurd (some refl)
   at-later (suc i) some = refl
@@ -558,13 +558,13 @@ module _ (s : StructSchema) (l : Levels) (x : StructTree) where
       go true h = subst (λ (r : Bool). IsFound s (cond r (Some i) None) (Some f)) (sym h) found
       go false h = subst (λ (r : Bool). IsFound s (cond r (Some i) None) None) (sym h) tt
 
-  pub copied-none : (p : ℕ) → (p ≡ 0 → ⊥) → IsFound s (cleared_at (set_of s) (number_of s) p) None → IsFound s (copied_at (set_of s) l x (number_of s) p) None
+  pub copied-none : (p : ℕ) → (p ≡ 0 → ⊥) → IsFound s (field_cleared_at (set_of s) (number_of s) p) None → IsFound s (copied_at (set_of s) l x (number_of s) p) None
   copied-none p some found =
-      let none = at-later p some ∙ ap (if_passes (is_index_there (set_of s) l x (number_of s))) (found-none s (cleared_at (set_of s) (number_of s) p) found) in
+      let none = at-later p some ∙ ap (if_passes (is_index_there (set_of s) l x (number_of s))) (found-none s (field_cleared_at (set_of s) (number_of s) p) found) in
       subst (λ (o : Option ℕ). IsFound s o None) (sym none) tt
 
-  pub copied-there : (p : ℕ) (f : Field) → (p ≡ 0 → ⊥) → IsFound s (cleared_at (set_of s) (number_of s) p) (Some f) → is_part_there (field_set f) l x (typed_of f) ≡ true → IsFound s (copied_at (set_of s) l x (number_of s) p) (Some f)
-  copied-there p f some found e = subst (λ (o : Option ℕ). IsFound s o (Some f)) (sym (at-later p some)) (passing (cleared_at (set_of s) (number_of s) p) f true found e)
+  pub copied-there : (p : ℕ) (f : Field) → (p ≡ 0 → ⊥) → IsFound s (field_cleared_at (set_of s) (number_of s) p) (Some f) → is_part_there (field_set f) l x (typed_of f) ≡ true → IsFound s (copied_at (set_of s) l x (number_of s) p) (Some f)
+  copied-there p f some found e = subst (λ (o : Option ℕ). IsFound s o (Some f)) (sym (at-later p some)) (passing (field_cleared_at (set_of s) (number_of s) p) f true found e)
 
-  pub copied-missing : (p : ℕ) (f : Field) → (p ≡ 0 → ⊥) → IsFound s (cleared_at (set_of s) (number_of s) p) (Some f) → is_part_there (field_set f) l x (typed_of f) ≡ false → IsFound s (copied_at (set_of s) l x (number_of s) p) None
-  copied-missing p f some found e = subst (λ (o : Option ℕ). IsFound s o None) (sym (at-later p some)) (passing (cleared_at (set_of s) (number_of s) p) f false found e)
+  pub copied-missing : (p : ℕ) (f : Field) → (p ≡ 0 → ⊥) → IsFound s (field_cleared_at (set_of s) (number_of s) p) (Some f) → is_part_there (field_set f) l x (typed_of f) ≡ false → IsFound s (copied_at (set_of s) l x (number_of s) p) None
+  copied-missing p f some found e = subst (λ (o : Option ℕ). IsFound s o None) (sym (at-later p some)) (passing (field_cleared_at (set_of s) (number_of s) p) f false found e)

@@ -3,8 +3,8 @@ use Rattle.std.specs.Prelude.{ℕ, List, ◌*◌, ◌^◌, ◌<◌, ◌≡◌, r
 use Rattle.std.proofs.Common.{ap, sym, subst, ◌∙◌}
 use Rattle.std.proofs.lemmas.Bool.{true≢false}
 use Rattle.capnp_wire.specs.Tree.{StructTree}
-use Rattle.capnp_schema.specs.FieldLists.{index_of, schema_of, typed_of}
-use Rattle.capnp_schema.specs.Plan.{IsPlan, LiesInNode, PlansStand, place_of, plan_of}
+use Rattle.capnp_schema.specs.FieldLists.{index_of, field_schema, typed_of}
+use Rattle.capnp_schema.specs.Plan.{IsPlan, LiesInNode, PlansStand, plan_place, plan_of}
 use Rattle.capnp_schema.specs.Ranges.{HasRanges, HasWidths}
 use Rattle.capnp_schema.specs.Schema.{FieldKind, Group, Schemas, Slot, field_at, is_member, kind_default, node_of}
 use Rattle.capnp_schema.specs.SlotValue.{bits_at, default_bits}
@@ -18,7 +18,7 @@ use Rattle.capnp_records.specs.Laws.{IsFieldAt, SlotWriteStaysInside}
 use Rattle.capnp_records.specs.Step.{is_group_field}
 use Rattle.capnp_records.specs.Writes.Overlay.{cleared_content, with_slot}
 use Rattle.capnp_records.specs.Writes.Slots.{Content, Bits, Fits, Suits, with_content}
-use Rattle.capnp_records.specs.Writes.Overlay.{field_names}
+use Rattle.capnp_records.specs.Writes.Overlay.{field_spots}
 use Rattle.capnp_records.specs.Writes.TreeEnds.{offset_of}
 use Rattle.capnp_slots.specs.Fields.{IsFieldPlan, IsFormed, IsSlot, IsSlotPlan, Keeps, field_brand, field_set, switched_to}
 use Rattle.capnp_slots.specs.Planned.{HoldsNumber, member_switched, place_bits, place_cleared, place_mask, place_written}
@@ -26,34 +26,34 @@ use Rattle.capnp_slots.proofs.SlotPlans.{member-switched, place-clears, place-ho
 
 -- ---- the kind of a slot ----
 
-kind-written : (k : FieldKind) (t : SchemaType) → is_group_field k ≡ false → HasWidths t → (c : Content) (s : StructTree) → Suits t c → place_written (place_of k t) c s ≡ with_content s (offset_of k) t c
+kind-written : (k : FieldKind) (t : SchemaType) → is_group_field k ≡ false → HasWidths t → (c : Content) (s : StructTree) → Suits t c → place_written (plan_place k t) c s ≡ with_content s (offset_of k) t c
 kind-written (Slot o d) t e h c s fits = slot_place-written o d t h c s fits
 kind-written (Group n) t e h c s fits = absurd (true≢false e)
 
-kind-clears : (k : FieldKind) (t : SchemaType) → is_group_field k ≡ false → (s : StructTree) → place_written (place_of k t) (place_cleared (place_of k t)) s ≡ place_written (place_of k t) (cleared_content t) s
+kind-clears : (k : FieldKind) (t : SchemaType) → is_group_field k ≡ false → (s : StructTree) → place_written (plan_place k t) (place_cleared (plan_place k t)) s ≡ place_written (plan_place k t) (cleared_content t) s
 kind-clears (Slot o d) t e s = place-clears o d t s
 kind-clears (Group n) t e s = absurd (true≢false e)
 
-kind-holds : (k : FieldKind) (t : SchemaType) → is_group_field k ≡ false → (n : ℕ) → n < 2 ^ width t → HoldsNumber (place_of k t) n
+kind-holds : (k : FieldKind) (t : SchemaType) → is_group_field k ≡ false → (n : ℕ) → n < 2 ^ width t → HoldsNumber (plan_place k t) n
 kind-holds (Slot o d) t e n h = place-holds o d t n h
 kind-holds (Group g) t e n h = absurd (true≢false e)
 
 kind-stores : (k : FieldKind) (t : SchemaType) → is_group_field k ≡ false → (n : ℕ) (s : StructTree) →
-    place_written (place_of k t) (Bits (bit_xor n (place_mask (place_of k t)))) s ≡ place_written (place_of k t) (Bits (bit_xor n (default_bits (kind_default k)))) s
+    place_written (plan_place k t) (Bits (bit_xor n (place_mask (plan_place k t)))) s ≡ place_written (plan_place k t) (Bits (bit_xor n (default_bits (kind_default k)))) s
 kind-stores (Slot o d) t e n s = place-stores o d t n s
 kind-stores (Group g) t e n s = absurd (true≢false e)
 
-kind-loads : (k : FieldKind) (t : SchemaType) → is_group_field k ≡ false → is_pointer t ≡ false → (bytes : List ℕ) → place_bits (place_of k t) bytes ≡ bits_at bytes (offset_of k * width t) (width t)
+kind-loads : (k : FieldKind) (t : SchemaType) → is_group_field k ≡ false → is_pointer t ≡ false → (bytes : List ℕ) → place_bits (plan_place k t) bytes ≡ bits_at bytes (offset_of k * width t) (width t)
 kind-loads (Slot o d) t e p bytes = slot-loads (is_pointer t) (width t) o d p bytes
 kind-loads (Group n) t e p bytes = absurd (true≢false e)
 
-kind-pointer : (k : FieldKind) (t : SchemaType) → is_group_field k ≡ false → is_pointer t ≡ true → place_of k t ≡ place.Pointer (offset_of k)
+kind-pointer : (k : FieldKind) (t : SchemaType) → is_group_field k ≡ false → is_pointer t ≡ true → plan_place k t ≡ place.Pointer (offset_of k)
 kind-pointer (Slot o d) t e p = rw p refl
 kind-pointer (Group n) t e p = absurd (true≢false e)
 
 kind-keeps : (set : Schemas) (b i : ℕ) → IsFieldAt set b i → LiesInNode (node_of set b) (field_at set b i) → SlotWriteStaysInside →
     (k : FieldKind) → (field_at set b i).field.kind ≡ k → is_group_field k ≡ false → (c : Content) (s : StructTree) → Fits set b s → Suits (field_at set b i).type c → IsFormed c →
-    Keeps (field_names set b (field_at set b i)) s (with_slot set b (field_at set b i) (offset_of k) c s)
+    Keeps (field_spots set b (field_at set b i)) s (with_slot set b (field_at set b i) (offset_of k) c s)
 kind-keeps set b i at lies stays (Slot o d) kind e c s room fits formed = record {
   writes = stays set b i at o d kind s room c fits;
   formed = slot_formed (node_of set b) (field_at set b i) o d s kind room lies c fits formed;
@@ -62,7 +62,7 @@ kind-keeps set b i at lies stays (Group n) kind e c s room fits formed = absurd 
 
 -- ---- the plan ----
 
-module _ (f : Field) (is : IsStruct (schema_of f)) (ranges : HasRanges (field_set f)) (stand : PlansStand) where
+module _ (f : Field) (is : IsStruct (field_schema f)) (ranges : HasRanges (field_set f)) (stand : PlansStand) where
   lies : LiesInNode (node_of (field_set f) (field_brand f)) (typed_of f)
   lies = (stand (field_set f) is.accepted ranges (field_brand f) (index_of f) is.number f.inside).0
 
@@ -104,9 +104,9 @@ module _ (f : Field) (is : IsStruct (schema_of f)) (ranges : HasRanges (field_se
         keeps = λ c s room fits formed. kind-keeps (field_set f) (field_brand f) (index_of f) at lies stays k refl slot c s room fits formed;
       }
 
-pub field_plan-is : (f : Field) (p : SlotPlan) → IsStruct (schema_of f) → HasRanges (field_set f) → PlansStand → p ≡ plan_of (field_set f) (field_brand f) (typed_of f) → IsFieldPlan f p
+pub field_plan-is : (f : Field) (p : SlotPlan) → IsStruct (field_schema f) → HasRanges (field_set f) → PlansStand → p ≡ plan_of (field_set f) (field_brand f) (typed_of f) → IsFieldPlan f p
 field_plan-is f p is ranges stand e = subst (IsFieldPlan f) (sym e) (is_field_plan f is ranges stand)
 
-pub slot_plan-is : (f : Field) (p : SlotPlan) → IsStruct (schema_of f) → HasRanges (field_set f) → PlansStand → p ≡ plan_of (field_set f) (field_brand f) (typed_of f) →
+pub slot_plan-is : (f : Field) (p : SlotPlan) → IsStruct (field_schema f) → HasRanges (field_set f) → PlansStand → p ≡ plan_of (field_set f) (field_brand f) (typed_of f) →
     SlotWriteStaysInside → IsSlot f → IsSlotPlan f p
 slot_plan-is f p is ranges stand e stays slot = subst (IsSlotPlan f) (sym e) (is_slot_plan f is ranges stand stays slot)

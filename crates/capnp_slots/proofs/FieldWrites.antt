@@ -16,7 +16,7 @@ use Rattle.capnp_records.specs.Call.{Source}
 use Rattle.capnp_records.specs.Step.{is_group_field}
 use Rattle.capnp_slots.specs.Copied.{refusal_of}
 use Rattle.capnp_slots.specs.Fields.{field_set, slot_with}
-use Rattle.capnp_slots.specs.FieldWrites.{IsFieldInit, IsFieldSet, KindIsInit, KindIsSet, SlotIsInit, SlotIsSet, cleared_kind, field_cleared}
+use Rattle.capnp_slots.specs.FieldWrites.{IsFieldInit, IsFieldSet, KindIsInit, KindIsSet, SlotIsInit, SlotIsSet, cleared_field_kind, field_cleared}
 use Rattle.capnp_slots.specs.Groups.{IsGroupAt, group_without}
 use Rattle.capnp_slots.specs.GroupSets.{IsGroupSet, given_to_group}
 use Rattle.capnp_slots.specs.Inits.{HasInit, IsInitRefusal, IsInitnRefusal, init_content}
@@ -25,17 +25,17 @@ use Rattle.capnp_slots.specs.Sources.{IsSet, IsSetRefusal}
 
 -- ---- what is cleared ----
 
-pub cleared_slot : (f : Field) (x : StructTree) → true ≡ not (is_group_field (typed_of f).field.kind) → cleared_kind false f x ≡ field_cleared f x
+pub cleared_slot : (f : Field) (x : StructTree) → true ≡ not (is_group_field (typed_of f).field.kind) → cleared_field_kind false f x ≡ field_cleared f x
 cleared_slot f x e = go (is_group_field (typed_of f).field.kind) e
   where
-    go : (q : Bool) → true ≡ not q → cleared_kind false f x ≡ cleared_kind q f x
+    go : (q : Bool) → true ≡ not q → cleared_field_kind false f x ≡ cleared_field_kind q f x
     go true e = absurd (true≢false e)
     go false e = refl
 
-pub cleared_group : (f : Field) (x : StructTree) → false ≡ not (is_group_field (typed_of f).field.kind) → cleared_kind true f x ≡ field_cleared f x
+pub cleared_group : (f : Field) (x : StructTree) → false ≡ not (is_group_field (typed_of f).field.kind) → cleared_field_kind true f x ≡ field_cleared f x
 cleared_group f x e = go (is_group_field (typed_of f).field.kind) e
   where
-    go : (q : Bool) → false ≡ not q → cleared_kind true f x ≡ cleared_kind q f x
+    go : (q : Bool) → false ≡ not q → cleared_field_kind true f x ≡ cleared_field_kind q f x
     go true e = refl
     go false e = absurd (true≢false (sym e))
 

@@ -8,7 +8,7 @@ use Rattle.capnp_wire.specs.Tree as tree
 use Rattle.capnp_wire.specs.Tree.{StructTree, Tree, Trees, nth_tree}
 use Rattle.capnp_wire.specs.declared.size.ElementSize.TheVariants.{InlineComposite}
 use Rattle.capnp_base.specs.Types.{variant_of}
-use Rattle.capnp_base.specs.Types.{element_size as size_of_variant}
+use Rattle.capnp_base.specs.Types.{variant_element_size as size_of_variant}
 use Rattle.capnp_base.specs.declared.introspect.RawBrandedStructSchema.{RawBrandedStructSchema}
 use Rattle.capnp_base.specs.declared.introspect.«Type».{«Type» as TypeHandle}
 use Rattle.capnp_base.specs.declared.introspect.TypeVariant.{TypeVariant}
@@ -20,7 +20,7 @@ use Rattle.capnp_schema.specs.declared.value.Value.{Value as View}
 use Rattle.capnp_schema.specs.declared.value.Value.TheVariants as view
 use Rattle.capnp_wire.specs.Reading.{as_list, is_null_tree, refusal}
 use Rattle.capnp_wire.specs.Defaults as wire
-use Rattle.capnp_wire.specs.Edits.{extended, struct_in, struct_refusal, with_pointer_tree}
+use Rattle.capnp_wire.specs.Edits.{extended_struct, struct_in, struct_refusal, with_pointer_tree}
 use Rattle.capnp_wire.specs.Standing.{levels_of, tree_of}
 use Rattle.capnp_wire.specs.StructLists.{struct_list_refusal}
 use Rattle.capnp_wire.specs.Words.{first_fault}
@@ -28,7 +28,7 @@ use Rattle.capnp_wire.specs.declared.pointer_reader.PointerReader.{PointerReader
 use Rattle.capnp_wire.specs.declared.size.ElementSize.{ElementSize}
 use Rattle.capnp_wire.specs.declared.size.StructSize.{StructSize}
 use Rattle.capnp_schema.specs.Accepted.{Decodes, IsDefaultOf, IsStructOrNull, KindDefault}
-use Rattle.capnp_schema.specs.Defaults.{default_tree}
+use Rattle.capnp_schema.specs.Defaults.{value_default_tree}
 use Rattle.capnp_schema.specs.FieldLists.{typed_of}
 use Rattle.capnp_schema.specs.Schema.{FieldKind, Group, Schemas, Slot, Value, TextValue, DataValue, StructValue, ListValue, AnyPointerValue, VoidValue, default_of, kind_default}
 use Rattle.capnp_schema.specs.Types.{SchemaType, StructType, ListType, seen_type, seen_variant}
@@ -37,14 +37,14 @@ use Rattle.capnp_records.specs.Facts.Frame.{second-of}
 use Rattle.capnp_records.specs.Facts.Pointers.{with_tree-same}
 use Rattle.capnp_records.specs.Writes.TreeCopy.{or_else}
 use Rattle.capnp_records.specs.Step.{is_group_field}
-use Rattle.capnp_records.specs.Writes.Fill.{IsAtRest, default_struct, entered_list, filled_struct, or_default}
+use Rattle.capnp_records.specs.Writes.Fill.{IsAtRest, default_struct, entered_list, filled_slot_struct, list_or_default}
 use Rattle.capnp_schema.specs.Plan.{brand_size}
 use Rattle.capnp_slots.specs.Fields.{IsSlot}
-use Rattle.capnp_slots.specs.Fills.{IsDefaultPointer, ListRests, blob_filled, fill_due, list_due}
+use Rattle.capnp_slots.specs.Fills.{IsDefaultPointer, FilledListRests, blob_filled, fill_due, list_due}
 
 -- ---- the pointer of a default ----
 
-pub pointer-tree : (d : Value) (r : Option PointerReader) → MatchOption r (default_tree d ≡ tree.Null) (λ x. (tree_of x ≡ default_tree d) × (levels_of x ≡ 64)) → wire.default_tree r ≡ default_tree d
+pub pointer-tree : (d : Value) (r : Option PointerReader) → MatchOption r (value_default_tree d ≡ tree.Null) (λ x. (tree_of x ≡ value_default_tree d) × (levels_of x ≡ 64)) → wire.default_tree r ≡ value_default_tree d
 pointer-tree d None h = sym h
 pointer-tree d (Some x) h = h.0
 
@@ -59,27 +59,27 @@ default-is f r slot is = kind-is (typed_of f).field.kind (typed_of f).type slot 
 module _ (d : Value) (decodes : Decodes d) where
   -- ---- structs ----
 
-  struct-default : (b g : ℕ) → IsDefaultOf d (StructType b g) → struct_in (default_tree d) ≡ default_struct d
+  struct-default : (b g : ℕ) → IsDefaultOf d (StructType b g) → struct_in (value_default_tree d) ≡ default_struct d
   struct-default b g of = go d of decodes
     where
-      go : (d : Value) → IsDefaultOf d (StructType b g) → Decodes d → struct_in (default_tree d) ≡ default_struct d
+      go : (d : Value) → IsDefaultOf d (StructType b g) → Decodes d → struct_in (value_default_tree d) ≡ default_struct d
       go (StructValue words) of h = refl
       go (AnyPointerValue words) of h = ap struct_in h
       go d of h = absurd of
 
-  pub struct-filled : (set : Schemas) (b g : ℕ) (x : Tree) → IsDefaultOf d (StructType b g) → wire.filled_struct (default_tree d) (brand_size set b) x ≡ filled_struct set b d x
+  pub struct-filled : (set : Schemas) (b g : ℕ) (x : Tree) → IsDefaultOf d (StructType b g) → wire.filled_struct (value_default_tree d) (brand_size set b) x ≡ filled_slot_struct set b d x
   struct-filled set b g x of = go (is_null_tree x)
     where
-      go : (q : Bool) → extended (brand_size set b) (struct_in (cond q (default_tree d) x)) ≡ extended (brand_size set b) (elim q as (λ _. StructTree) [ true ↦ default_struct d | false ↦ struct_in x ])
-      go true = ap (extended (brand_size set b)) (struct-default b g of)
+      go : (q : Bool) → extended_struct (brand_size set b) (struct_in (cond q (value_default_tree d) x)) ≡ extended_struct (brand_size set b) (elim q as (λ _. StructTree) [ true ↦ default_struct d | false ↦ struct_in x ])
+      go true = ap (extended_struct (brand_size set b)) (struct-default b g of)
       go false = refl
 
   -- ---- lists ----
 
-  pub list-filled : (e : SchemaType) (x : Tree) → IsDefaultOf d (ListType e) → wire.or_default (default_tree d) x ≡ or_default d x
+  pub list-filled : (e : SchemaType) (x : Tree) → IsDefaultOf d (ListType e) → wire.or_default (value_default_tree d) x ≡ list_or_default d x
   list-filled e x of = go d of decodes x
     where
-      go : (d : Value) → IsDefaultOf d (ListType e) → Decodes d → (x : Tree) → wire.or_default (default_tree d) x ≡ or_default d x
+      go : (d : Value) → IsDefaultOf d (ListType e) → Decodes d → (x : Tree) → wire.or_default (value_default_tree d) x ≡ list_or_default d x
       go (ListValue words) of h tree.Null = refl
       go (ListValue words) of h x = refl
       go (AnyPointerValue words) of h tree.Null = h
@@ -167,7 +167,7 @@ no-blob d v x h no-text no-data = refl
 pub record IsPlain (set : Schemas) (e : SchemaType) (size : ElementSize) : Type 0 where
   pub enters : (x : Tree) → entered_list set e x ≡ x
   pub due : (D x : Tree) → list_due set e D x ≡ wire.filled_list_refusal D size x
-  pub rests : (D x : Tree) → ListRests set e D x → (wire.takes_default D x ≡ false) × (wire.filled_list_refusal D size x ≡ None)
+  pub rests : (D x : Tree) → FilledListRests set e D x → (wire.takes_default D x ≡ false) × (wire.filled_list_refusal D size x ≡ None)
   pub fills : (x : Tree) → fill_due set VoidValue (ListType e) x ≡ wire.list_refusal size x
   pub still : (x : Tree) → IsAtRest set VoidValue (ListType e) x → wire.list_refusal size x ≡ None
   pub simple : size ≢ InlineComposite

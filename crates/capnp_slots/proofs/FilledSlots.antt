@@ -20,13 +20,13 @@ use Rattle.capnp_base.specs.declared.introspect.TypeVariant.TheVariants as varia
 use Rattle.capnp_schema.specs.FieldLists.{typed_of}
 use Rattle.capnp_schema.specs.declared.schema.fields.Field.{Field}
 use Rattle.capnp_schema.specs.Accepted.{Decodes, IsDefaultOf}
-use Rattle.capnp_schema.specs.Defaults.{IsReadAs, default_tree}
+use Rattle.capnp_schema.specs.Defaults.{IsDefaultReadAs, value_default_tree}
 use Rattle.capnp_schema.specs.Schema.{Schemas, Value, TextValue, DataValue, default_of}
 use Rattle.capnp_schema.specs.Types.{SchemaType, TextType, DataType, StructType, ListType, AnyPointerType, element_size, seen_type, seen_variant}
 use Rattle.capnp_records.specs.Writes.Fill.{IsAtRest, entered_list}
 use Rattle.capnp_schema.specs.Plan.{brand_size}
 use Rattle.capnp_slots.specs.Copied.{refusal_of}
-use Rattle.capnp_slots.specs.Fills.{HoldsThere, IsDefaultPointer, IsFilled, IsSlotFilled, ListRests, RestsIn, blob_filled, due_in, fill_due, filled_in, filled_tree, list_due, pointer_in}
+use Rattle.capnp_slots.specs.Fills.{HoldsThere, IsDefaultPointer, IsFilled, IsSlotFilled, FilledListRests, RestsIn, blob_filled, due_in, fill_due, filled_in, filled_tree, list_due, pointer_in}
 use Rattle.capnp_slots.specs.Fields.{IsSlot, field_set, pointer_index}
 use Rattle.capnp_slots.proofs.ElementFills.{always, due_cause, due_within}
 use Rattle.capnp_slots.proofs.Filled.{default-is, list-due, list-filled, same-there, struct-due, struct-filled, structs-due}
@@ -38,11 +38,11 @@ always-err (Err e) p = p
 
 -- a default of a type, and the tree of its pointer
 pub record IsOwnDefault (d : Value) (t : SchemaType) (D : Tree) : Type 0 where
-  pub is : D ≡ default_tree d
+  pub is : D ≡ value_default_tree d
   pub kind : IsDefaultOf d t
   pub decodes : Decodes d
-  pub sound : first_fault (default_tree d) ≡ None
-  pub read : IsReadAs t (default_tree d)
+  pub sound : first_fault (value_default_tree d) ≡ None
+  pub read : IsDefaultReadAs t (value_default_tree d)
 
 module _ (set : Schemas) (d : Value) (D x : Tree) where
   -- ---- structs ----
@@ -57,7 +57,7 @@ module _ (set : Schemas) (d : Value) (D x : Tree) where
       subst (λ u. IsOwnDefault d u D → StructFills (brand_size set b) u) e
       (λ own. record {
         filled = ap struct_tree (ap (λ y. wire.filled_struct y (brand_size set b) x) own.is ∙ struct-filled d own.decodes set b g x own.kind);
-        due = ap (λ y. wire.filled_struct_refusal y x) own.is ∙ struct-due (default_tree d) own.sound x own.read;
+        due = ap (λ y. wire.filled_struct_refusal y x) own.is ∙ struct-due (value_default_tree d) own.sound x own.read;
         rests = λ h. h;
       }) own
 
@@ -66,12 +66,12 @@ module _ (set : Schemas) (d : Value) (D x : Tree) where
   pub record ListFills (e : SchemaType) (t : SchemaType) : Type 0 where
     pub filled : entered_list set e (wire.or_default D x) ≡ filled_tree set d t x
     pub due : list_due set e D x ≡ fill_due set d t x
-    pub rests : IsAtRest set d t x → ListRests set e D x
+    pub rests : IsAtRest set d t x → FilledListRests set e D x
 
   plain-due : (e : SchemaType) → IsOwnDefault d (ListType e) D → wire.filled_list_refusal D (element_size e) x ≡ wire.list_refusal (element_size e) x
-  plain-due e own = ap (λ y. wire.filled_list_refusal y (element_size e) x) own.is ∙ list-due (default_tree d) own.sound (element_size e) x own.read.1
+  plain-due e own = ap (λ y. wire.filled_list_refusal y (element_size e) x) own.is ∙ list-due (value_default_tree d) own.sound (element_size e) x own.read.1
 
-  plain-rests : (e : SchemaType) → IsOwnDefault d (ListType e) D → (wire.takes_default (default_tree d) x ≡ false) × (wire.list_refusal (element_size e) x ≡ None) →
+  plain-rests : (e : SchemaType) → IsOwnDefault d (ListType e) D → (wire.takes_default (value_default_tree d) x ≡ false) × (wire.list_refusal (element_size e) x ≡ None) →
       (wire.takes_default D x ≡ false) × (wire.filled_list_refusal D (element_size e) x ≡ None)
   plain-rests e own h = (ap (λ y. wire.takes_default y x) own.is ∙ h.0, plain-due e own ∙ h.1)
 
@@ -82,7 +82,7 @@ module _ (set : Schemas) (d : Value) (D x : Tree) where
   fills (StructType b g) own = record {
     filled = list-entered (StructType b g) own;
     due = ap (λ y. wire.filled_structs_refusal y (brand_size set b) x) own.is
-        ∙ (structs-due (default_tree d) own.sound (brand_size set b) x ∙ ap (struct_list_refusal (brand_size set b)) (list-filled d own.decodes (StructType b g) x own.kind));
+        ∙ (structs-due (value_default_tree d) own.sound (brand_size set b) x ∙ ap (struct_list_refusal (brand_size set b)) (list-filled d own.decodes (StructType b g) x own.kind));
     rests = λ h. (ap (λ y. wire.takes_default y x) own.is ∙ h.0, h.1);
   }
   fills e own = record { filled = list-entered e own; due = plain-due e own; rests = plain-rests e own }
@@ -152,7 +152,7 @@ module _ (f : Field) (r : Option PointerReader) (slot : IsSlot f) (is : IsDefaul
   -- a list's slot, by the set that the code has
   abbrev pub ListPart : StructTree → SchemaType → Schemas → ℕ → Type 0
   ListPart s e set i = IsPart f s (entered_list set e (wire.or_default (wire.default_tree r) (nth_tree s.pointers i))) (list_due set e (wire.default_tree r) (nth_tree s.pointers i))
-      (ListRests set e (wire.default_tree r) (nth_tree s.pointers i))
+      (FilledListRests set e (wire.default_tree r) (nth_tree s.pointers i))
 
   pub list-part : (set : Schemas) (element : TypeHandle) (v : TypeVariant) (i : ℕ) (s : StructTree) → set ≡ field_set f → i ≡ pointer_index f → v ≡ variant.List element → seen_variant v ≡ (typed_of f).type →
       ListPart s (seen_type element) set i

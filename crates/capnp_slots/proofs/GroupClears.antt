@@ -6,8 +6,8 @@ use Rattle.std.specs.List.{position_or_len}
 use Rattle.std.specs.Option.{unwrap_or}
 use Rattle.capnp_wire.specs.Tree.{StructTree}
 use Rattle.capnp_schema.specs.Footprint.{Spot}
-use Rattle.capnp_schema.specs.FieldLists.{index_of, schema_of, typed_of}
-use Rattle.capnp_schema.specs.Query.{indices_from, is_member_of, is_plain, keep_index, member_of, plain_fields, records_of}
+use Rattle.capnp_schema.specs.FieldLists.{index_of, field_schema, typed_of}
+use Rattle.capnp_schema.specs.Query.{indices_from, is_member_of, is_non_union, keep_index, member_of, non_union_fields, records_of}
 use Rattle.capnp_schema.specs.Accepted.{IsGroupOf}
 use Rattle.capnp_schema.specs.Ranges.{HasRanges}
 use Rattle.capnp_schema.specs.Schema.{Field as FieldSeen, Schemas, TypedField, field_at, fields_of, is_member, no_field}
@@ -17,7 +17,7 @@ use Rattle.capnp_schema.specs.declared.schema.fields.Field.{Field}
 use Rattle.capnp_schema.specs.declared.schema.structs.StructSchema.{StructSchema}
 use Rattle.capnp_records.specs.Facts.FieldWrite.{fits-after, writes-refl, writes-trans, writes-wider}
 use Rattle.capnp_records.specs.Laws.{GroupClearStaysInside}
-use Rattle.capnp_records.specs.Writes.Overlay.{cleared_field, cleared_group, cleared_member, cleared_plain, cleared_within}
+use Rattle.capnp_records.specs.Writes.Overlay.{cleared_field, cleared_group, cleared_member, cleared_non_union, cleared_within}
 use Rattle.capnp_records.specs.Writes.Slots.{Fits, Writes}
 use Rattle.capnp_slots.specs.Fields.{IsRoomFor, Keeps, field_brand, field_set, names_of, switched_to}
 use Rattle.capnp_slots.specs.Groups.{IsGroupAt, KeepsSize, clear_index, cleared_indices, cleared_option, cleared_through, group_without}
@@ -103,7 +103,7 @@ group-whole f g n s m s' is count switch e =
     ∙ (ap (λ k. cleared_through k (field_set f) (struct_number (typed_of f).type) (switched_to f s)) count
     ∙ cleared-whole (field_set f) (struct_number (typed_of f).type) (switched_to f s)))))
 
-pub group-kept : (f : Field) (g : StructSchema) (s m s' : StructTree) → IsStruct (schema_of f) → HasRanges (field_set f) → GroupClearStaysInside → IsGroupAt f g → IsRoomFor f s →
+pub group-kept : (f : Field) (g : StructSchema) (s m s' : StructTree) → IsStruct (field_schema f) → HasRanges (field_set f) → GroupClearStaysInside → IsGroupAt f g → IsRoomFor f s →
     s' ≡ group_without f s → KeepsSize s m → KeepsSize m s' → Keeps (names_of f) s s'
 group-kept f g s m s' is ranges stays at room e first then = record {
   writes = subst (λ (x : StructTree). Writes (names_of f) s x) (sym e)

@@ -6,35 +6,35 @@ use Rattle.capnp_device.specs.declared.error.Error.{Error}
 use Rattle.capnp_device.specs.declared.error.ErrorKind.{ErrorKind}
 use Rattle.capnp_device.specs.declared.error.ErrorKind.TheVariants.{OutOfMemory, TypeMismatch}
 use Rattle.capnp_wire.specs.Tree.{StructTree, Tree, nth_tree}
-use Rattle.capnp_schema.specs.FieldLists.{IsFound, index_of, schema_of, typed_of}
-use Rattle.capnp_schema.specs.Query.{indices_from, is_plain, keep_index}
+use Rattle.capnp_schema.specs.FieldLists.{IsFound, index_of, field_schema, typed_of}
+use Rattle.capnp_schema.specs.Query.{indices_from, is_non_union, keep_index}
 use Rattle.capnp_schema.specs.Ranges.{HasRanges}
 use Rattle.capnp_schema.specs.Schema.{FieldKind, Group, Schemas, Slot, TypedField, field_at, fields_of, is_member, kind_default, node_of}
 use Rattle.capnp_schema.specs.Schema.{Value as SchemaValue}
 use Rattle.capnp_schema.specs.StructHandles.{IsStruct, number_of, set_of}
 use Rattle.capnp_schema.specs.Types.{AnyPointerType, SchemaType, is_pointer, struct_number}
 use Rattle.capnp_base.specs.declared.introspect.TypeVariant.{TypeVariant}
-use Rattle.capnp_schema.specs.Plan.{place_of}
+use Rattle.capnp_schema.specs.Plan.{plan_place}
 use Rattle.capnp_schema.specs.Types.{seen_variant}
 use Rattle.capnp_schema.specs.declared.schema.fields.Field.{Field}
 use Rattle.capnp_schema.specs.declared.schema.structs.StructSchema.{StructSchema}
 use Rattle.capnp_records.specs.Call.{StructSource}
 use Rattle.capnp_records.specs.Given.{Copies, CopiesGroup, Fails, Given, Gives, copy_refusal}
-use Rattle.capnp_records.specs.GroupCopy.{active_first, plain_there, pointer_copy, read_copy, slot_copy}
+use Rattle.capnp_records.specs.GroupCopy.{active_first, non_union_there, pointer_copy, read_copy, slot_copy}
 use Rattle.capnp_records.specs.Laws.{GroupCopyStaysInside}
 use Rattle.capnp_records.specs.Part.{nth_value, which_of}
-use Rattle.capnp_records.specs.Reading.{part_of, plain_parts, union_of, values_of}
+use Rattle.capnp_records.specs.Reading.{part_of, non_union_parts, union_of, values_of}
 use Rattle.capnp_records.specs.Record as value
 use Rattle.capnp_records.specs.Record.{Active, Levels, NoUnion, Parts, Union, Unknown, Value, Values, is_there}
 use Rattle.capnp_records.specs.Step.{is_group_field}
-use Rattle.capnp_records.specs.Writes.Overlay.{cleared_group, switched, with_slot}
+use Rattle.capnp_records.specs.Writes.Overlay.{cleared_group, switched_struct, with_slot}
 use Rattle.capnp_records.specs.Writes.TreeCopy.{CopiesTreeOr, TreeCopiesFields, TreeCopiesPart, TreeCopiesSlot, TreeCopiesWithin, TreeCopying, copied_content}
 use Rattle.capnp_records.specs.Writes.TreeEnds.{offset_of}
 use Rattle.capnp_dynamic_readers.specs.Facts.HasWhich.{part-there}
 use Rattle.capnp_dynamic_readers.specs.Planned.{IsActiveMember, place_there}
 use Rattle.capnp_slots.specs.Copied.{IsCopied, copy_content, copy_given, refusal_of}
 use Rattle.capnp_slots.specs.Fields.{IsRoomFor, IsSlot, Keeps, field_brand, field_set, names_of, switched_to}
-use Rattle.capnp_slots.specs.GroupSets.{CopiesIndices, CopiesThrough, IsGroupSet, active_in, given_to_group, is_part_there, kept_indices, member_indices, plain_in}
+use Rattle.capnp_slots.specs.GroupSets.{CopiesIndices, CopiesThrough, IsGroupSet, active_in, given_to_group, is_part_there, kept_indices, member_indices, non_union_in}
 use Rattle.capnp_slots.specs.Groups.{IsGroupAt, KeepsSize, cleared_through}
 use Rattle.capnp_slots.specs.Sources.{IsSetRefusal, IsTaken, copy_due}
 use Rattle.capnp_slots.proofs.GroupClears.{cleared-whole, entry, records}
@@ -119,7 +119,7 @@ slot-copied groups f l x s s' r slot copied same cause =
 -- ---- a group ----
 
 by-group : (copy : TreeCopying) (set : Schemas) (l : Levels) (x : StructTree) (b : ℕ) (f : TypedField) (k : FieldKind) (s s' : StructTree) (o : Option ErrorKind) → is_group_field k ≡ true →
-    copy (struct_number f.type) (switched (node_of set b) f.field s) o s' →
+    copy (struct_number f.type) (switched_struct (node_of set b) f.field s) o s' →
     TreeCopiesPart copy set l x b f k s (λ y. (o ≡ None) × (s' ≡ y)) (λ kind. (o ≡ Some kind) × (s' ≡ s)) (λ kind y. (o ≡ Some kind) × (s' ≡ y))
 by-group copy set l x b f (Slot offset d) s s' o group h = absurd (true≢false (sym group))
 by-group copy set l x b f (Group n) s s' None group h = inl (s', h, (refl, refl))
@@ -175,8 +175,8 @@ module _ (copy : TreeCopying) (set : Schemas) (l : Levels) (x : StructTree) (b :
 
 -- ---- the fields of the source ----
 
-plain-kept : (part : TypedField → Value) (fs : List TypedField) (vs : Values) (first : ℕ) (at : ℕ → TypedField) → ((j : ℕ) → at (first + j) ≡ entry fs j) → ((j : ℕ) → nth_value vs (first + j) ≡ nth_value (plain_parts part fs) j) →
-    plain_there fs vs first ≡ kept_indices (λ i. is_there (part (at i))) (indices_from first is_plain (records fs))
+plain-kept : (part : TypedField → Value) (fs : List TypedField) (vs : Values) (first : ℕ) (at : ℕ → TypedField) → ((j : ℕ) → at (first + j) ≡ entry fs j) → ((j : ℕ) → nth_value vs (first + j) ≡ nth_value (non_union_parts part fs) j) →
+    non_union_there fs vs first ≡ kept_indices (λ i. is_there (part (at i))) (indices_from first is_non_union (records fs))
 plain-kept part [] vs first at names there = refl
 plain-kept part (f ∷ fs) vs first at names there = go (plain-kept part fs vs (suc first) at (λ j. ap at (shift j) ∙ names (suc j)) (λ j. ap (nth_value vs) (shift j) ∙ there (suc j))) (is_member f.field) (ap (nth_value vs) here ∙ there 0)
   where
@@ -187,7 +187,7 @@ plain-kept part (f ∷ fs) vs first at names there = go (plain-kept part fs vs (
     here = omega arith
 
     rest : List ℕ
-    rest = indices_from (suc first) is_plain (records fs)
+    rest = indices_from (suc first) is_non_union (records fs)
 
     is : at first ≡ f
     is = ap at here ∙ names 0
@@ -196,11 +196,11 @@ plain-kept part (f ∷ fs) vs first at names there = go (plain-kept part fs vs (
     keep true is js e = ap (λ ks. first ∷ ks) e
     keep false is js e = e
 
-    go : plain_there fs vs (suc first) ≡ kept_indices (λ i. is_there (part (at i))) rest → (q : Bool) → nth_value vs first ≡ (elim q as (λ _. Value) [ true ↦ value.Elsewhere | false ↦ part f ]) →
-        cond (not q && is_there (nth_value vs first)) (first ∷ plain_there fs vs (suc first)) (plain_there fs vs (suc first)) ≡ kept_indices (λ i. is_there (part (at i))) (keep_index (not q) first rest)
+    go : non_union_there fs vs (suc first) ≡ kept_indices (λ i. is_there (part (at i))) rest → (q : Bool) → nth_value vs first ≡ (elim q as (λ _. Value) [ true ↦ value.Elsewhere | false ↦ part f ]) →
+        cond (not q && is_there (nth_value vs first)) (first ∷ non_union_there fs vs (suc first)) (non_union_there fs vs (suc first)) ≡ kept_indices (λ i. is_there (part (at i))) (keep_index (not q) first rest)
     go each true e = each
-    go each false e = ap (λ v. cond (is_there v) (first ∷ plain_there fs vs (suc first)) (plain_there fs vs (suc first))) e
-        ∙ (ap (λ (g : TypedField). cond (is_there (part g)) (first ∷ plain_there fs vs (suc first)) (plain_there fs vs (suc first))) (sym is) ∙ keep (is_there (part (at first))) _ _ each)
+    go each false e = ap (λ v. cond (is_there v) (first ∷ non_union_there fs vs (suc first)) (non_union_there fs vs (suc first))) e
+        ∙ (ap (λ (g : TypedField). cond (is_there (part g)) (first ∷ non_union_there fs vs (suc first)) (non_union_there fs vs (suc first))) (sym is) ∙ keep (is_there (part (at first))) _ _ each)
 
 active-split : (vs : Values) (u : Union) (rest : List ℕ) → active_first u rest ≡ member_indices (which_of (Parts vs u)) ++ rest
 active-split vs NoUnion rest = refl
@@ -215,14 +215,14 @@ module _ (n : ℕ) (set : Schemas) (l : Levels) (x : StructTree) (b : ℕ) where
   union = union_of part (node_of set b) (fields_of set b) x.bytes
 
   pub whole : (s m s' : StructTree) (o : Option ErrorKind) → m ≡ cleared_group set b s →
-      TreeCopiesFields (TreeCopiesWithin n set l x) set l x b (member_indices (which_of (Parts (plain_parts part (fields_of set b)) union)) ++ plain_in set l x b) m o s' → TreeCopiesWithin (suc n) set l x b s o s'
+      TreeCopiesFields (TreeCopiesWithin n set l x) set l x b (member_indices (which_of (Parts (non_union_parts part (fields_of set b)) union)) ++ non_union_in set l x b) m o s' → TreeCopiesWithin (suc n) set l x b s o s'
   unfolding is_part_there
   whole s m s' o cleared h =
-      let plain = plain-kept part (fields_of set b) (plain_parts part (fields_of set b)) 0 (field_at set b)
-      (λ j. let z : 0 + j ≡ j = omega arith in ap (field_at set b) z) (λ j. let z : 0 + j ≡ j = omega arith in ap (nth_value (plain_parts part (fields_of set b))) z) in
-      subst (λ (y : StructTree). TreeCopiesFields (TreeCopiesWithin n set l x) set l x b (active_first union (plain_there (fields_of set b) (plain_parts part (fields_of set b)) 0)) y o s') cleared
+      let plain = plain-kept part (fields_of set b) (non_union_parts part (fields_of set b)) 0 (field_at set b)
+      (λ j. let z : 0 + j ≡ j = omega arith in ap (field_at set b) z) (λ j. let z : 0 + j ≡ j = omega arith in ap (nth_value (non_union_parts part (fields_of set b))) z) in
+      subst (λ (y : StructTree). TreeCopiesFields (TreeCopiesWithin n set l x) set l x b (active_first union (non_union_there (fields_of set b) (non_union_parts part (fields_of set b)) 0)) y o s') cleared
       (subst (λ is. TreeCopiesFields (TreeCopiesWithin n set l x) set l x b is m o s')
-      (sym (active-split (plain_parts part (fields_of set b)) union (plain_there (fields_of set b) (plain_parts part (fields_of set b)) 0) ∙ ap (λ is. member_indices (which_of (Parts (plain_parts part (fields_of set b)) union)) ++ is) plain)) h)
+      (sym (active-split (non_union_parts part (fields_of set b)) union (non_union_there (fields_of set b) (non_union_parts part (fields_of set b)) 0) ∙ ap (λ is. member_indices (which_of (Parts (non_union_parts part (fields_of set b)) union)) ++ is) plain)) h)
 
 -- ---- what the source has ----
 
@@ -231,7 +231,7 @@ unfolding active_in
 active-is s l x member is = is l
 
 pub there-is : (set : Schemas) (l : Levels) (x : StructTree) (b i : ℕ) (v : TypeVariant) → seen_variant v ≡ (field_at set b i).type →
-    is_part_there set l x (field_at set b i) ≡ place_there x (place_of (field_at set b i).field.kind (field_at set b i).type)
+    is_part_there set l x (field_at set b i) ≡ place_there x (plan_place (field_at set b i).field.kind (field_at set b i).type)
 unfolding is_part_there
 there-is set l x b i v e = part-there set l x b i v e
 
@@ -249,7 +249,7 @@ copied-whole f g n l x s m s' o is count switch h =
     subst (λ k. CopiesThrough k (field_set f) l x (number_of g) (switched_to f s) o s') more
     (subst (λ (y : StructTree). CopiesThrough (n + 1) (field_set f) l x (number_of g) y o s') switch (subst (λ z. CopiesThrough (n + 1) z l x (number_of g) m o s') is.set h))
 
-pub copied-kept : (f : Field) (g : StructSchema) (l : Levels) (x s m s' : StructTree) (o : Option ErrorKind) → IsStruct (schema_of f) → HasRanges (field_set f) → GroupCopyStaysInside → IsGroupAt f g → IsRoomFor f s →
+pub copied-kept : (f : Field) (g : StructSchema) (l : Levels) (x s m s' : StructTree) (o : Option ErrorKind) → IsStruct (field_schema f) → HasRanges (field_set f) → GroupCopyStaysInside → IsGroupAt f g → IsRoomFor f s →
     CopiesThrough (suc (length (field_set f).brands)) (field_set f) l x (number_of g) (switched_to f s) o s' → KeepsSize s m → KeepsSize m s' → Keeps (names_of f) s s'
 unfolding CopiesThrough
 copied-kept f g l x s m s' o is ranges stays at room copied first then = record {

@@ -3,11 +3,11 @@ use Rattle.std.specs.Prelude.{ℕ, zero, suc, ◌<◌, ◌≡◌, refl, Bool, tr
 use Rattle.std.specs.Option.{option_map}
 use Rattle.std.proofs.Common.{arith, ap, sym, subst, ◌∙◌}
 use Rattle.capnp_schema.specs.Accepted.{IsGroupOf, GroupFits}
-use Rattle.capnp_schema.specs.FieldLists.{index_of, schema_of, typed_of}
+use Rattle.capnp_schema.specs.FieldLists.{index_of, field_schema, typed_of}
 use Rattle.capnp_schema.specs.GroupFields.{group_field_of}
-use Rattle.capnp_schema.specs.GroupsDown.{IsGroupIn, place_of_field}
+use Rattle.capnp_schema.specs.GroupsDown.{IsGroupSchemaIn, place_of_field}
 use Rattle.capnp_schema.specs.Laws.{group_height}
-use Rattle.capnp_schema.specs.Plan.{place_of, plan_of, slot_place}
+use Rattle.capnp_schema.specs.Plan.{plan_place, plan_of, slot_place}
 use Rattle.capnp_schema.specs.Schema.{FieldKind, Group, Schemas, Slot, Value, kind_target}
 use Rattle.capnp_schema.specs.StructHandles.{IsStruct, number_of}
 use Rattle.capnp_schema.specs.Types.{SchemaType, StructType, is_pointer, struct_number, width}
@@ -26,14 +26,14 @@ no-group true bits offset d g e = cc
 no-group false zero offset d g e = cc
 no-group false (suc bits) offset d g e = cc
 
-is-slot : (k : FieldKind) (t : SchemaType) → ((g : ℕ) → place_of k t ≡ place.Group g → ⊥) → is_group_field k ≡ false
+is-slot : (k : FieldKind) (t : SchemaType) → ((g : ℕ) → plan_place k t ≡ place.Group g → ⊥) → is_group_field k ≡ false
 is-slot (Slot offset d) t none = refl
 is-slot (Group n) t none = absurd (none (struct_number t) refl)
 
 pub slot-is : (f : Field) (p : SlotPlan) → p ≡ plan_of (field_set f) (field_brand f) (typed_of f) → ((g : ℕ) → p.place ≡ place.Group g → ⊥) → IsSlot f
 slot-is f p e none = is-slot (typed_of f).field.kind (typed_of f).type (λ g h. none g (ap (λ (q : SlotPlan). q.place) e ∙ h))
 
-group-kind : (k : FieldKind) (t : SchemaType) (g : ℕ) → place_of k t ≡ place.Group g → is_group_field k ≡ true
+group-kind : (k : FieldKind) (t : SchemaType) (g : ℕ) → plan_place k t ≡ place.Group g → is_group_field k ≡ true
 group-kind (Slot offset d) t g e = absurd (no-group (is_pointer t) (width t) offset d g e)
 group-kind (Group n) t g e = refl
 
@@ -57,7 +57,7 @@ no-target set (Slot offset d) t fits e = refl
 no-target set (Group n) (StructType b x) fits e = cc
 no-target set (Group n) t fits e = absurd fits
 
-pub group-or-slot : (f : Field) (group : Option StructSchema) → IsStruct (schema_of f) → option_map number_of group ≡ kind_target (typed_of f).field.kind (typed_of f).type → IfSome group (IsGroupIn (schema_of f)) →
+pub group-or-slot : (f : Field) (group : Option StructSchema) → IsStruct (field_schema f) → option_map number_of group ≡ kind_target (typed_of f).field.kind (typed_of f).type → IfSome group (IsGroupSchemaIn (field_schema f)) →
     IfSome group (λ g. group_field_of (field_set f) (number_of g) ≡ Some (place_of_field f)) → MatchOption group (IsSlot f) (IsGroupAt f)
 group-or-slot f None is number down back = no-target (field_set f) (typed_of f).field.kind (typed_of f).type (is.accepted.rule7 (field_brand f) (index_of f) is.number f.inside) number
 group-or-slot f (Some g) is number down back =

@@ -13,7 +13,7 @@ use Rattle.capnp_schema.specs.Checking.Parents.{entry_target, group_target}
 use Rattle.capnp_schema.specs.Facts.GroupFields.{group_field_found, parent_target, target_parent}
 use Rattle.capnp_schema.specs.Facts.Groups.{group_in_set, group_of_field}
 use Rattle.capnp_schema.specs.Facts.GroupWalks.{some_steps, step_into, steps_past}
-use Rattle.capnp_schema.specs.FieldLists.{IsFieldOf, IsFound, index_of, schema_of, typed_of}
+use Rattle.capnp_schema.specs.FieldLists.{IsFieldOf, IsFound, index_of, field_schema, typed_of}
 use Rattle.capnp_schema.specs.GroupFields.{group_field_of}
 use Rattle.capnp_schema.specs.GroupsDown.{IsGroupFieldOf, place_of_field}
 use Rattle.capnp_schema.specs.GroupWalks.{steps_into, steps_through}
@@ -24,18 +24,18 @@ use Rattle.capnp_schema.specs.Types.{SchemaType, struct_number}
 use Rattle.capnp_schema.specs.declared.schema.fields.Field.{Field}
 use Rattle.capnp_schema.specs.declared.schema.structs.StructSchema.{StructSchema}
 use Rattle.capnp_records.specs.Step.{is_group_field}
-use Rattle.capnp_records.specs.Writes.Overlay.{cleared_field, cleared_kind, cleared_member, cleared_plain, cleared_within}
+use Rattle.capnp_records.specs.Writes.Overlay.{cleared_field, cleared_kind, cleared_member, cleared_non_union, cleared_within}
 use Rattle.capnp_records.specs.Writes.Slots.{Fits}
 use Rattle.capnp_slots.specs.Fields.{IsSlot, field_brand, field_set, switched_to}
-use Rattle.capnp_slots.specs.GroupClears.{IsSlotCleared, cleared_at, cleared_behind, place_behind, unless_member}
+use Rattle.capnp_slots.specs.GroupClears.{IsSlotCleared, field_cleared_at, cleared_behind, place_behind, unless_member_place}
 use Rattle.capnp_slots.specs.Groups.{IsGroupAt, KeepsSize, clear_by, cleared_option, cleared_through}
 use Rattle.capnp_slots.proofs.GroupClears.{cleared-member, cleared-none, entry, fits-kept, records}
 
 -- ---- what is left of a group from a place on ----
 
 unfoldable pub rest : ℕ → Schemas → ℕ → ℕ → StructTree → StructTree
-rest n set b zero s = cleared_plain (clear_by n set b) (fields_of set b) (cleared_member (clear_by n set b) (fields_of set b) s)
-rest n set b (suc i) s = cleared_plain (clear_by n set b) (drop i (fields_of set b)) s
+rest n set b zero s = cleared_non_union (clear_by n set b) (fields_of set b) (cleared_member (clear_by n set b) (fields_of set b) s)
+rest n set b (suc i) s = cleared_non_union (clear_by n set b) (drop i (fields_of set b)) s
 
 rest-whole : (n : ℕ) (set : Schemas) (b : ℕ) (s : StructTree) → rest n set b 0 s ≡ cleared_through (suc n) set b s
 unfolding rest cleared_through
@@ -43,44 +43,44 @@ rest-whole n set b s = refl
 
 module _ (clear : TypedField → StructTree → StructTree) where
   plain-at : (fs : List TypedField) (i : ℕ) (s : StructTree) (q : Bool) → i < length fs → is_member (entry fs i).field ≡ q →
-      cleared_plain clear (drop i fs) s ≡ cleared_plain clear (drop (suc i) fs) (elim q as (λ _. StructTree) [ true ↦ s | false ↦ clear (entry fs i) s ])
+      cleared_non_union clear (drop i fs) s ≡ cleared_non_union clear (drop (suc i) fs) (elim q as (λ _. StructTree) [ true ↦ s | false ↦ clear (entry fs i) s ])
   plain-at [] i s q lt e = absurd (omega arith)
-  plain-at (f ∷ fs) zero s q lt e = ap (λ (t : Bool). cleared_plain clear fs (elim t as (λ _. StructTree) [ true ↦ s | false ↦ clear f s ])) e
+  plain-at (f ∷ fs) zero s q lt e = ap (λ (t : Bool). cleared_non_union clear fs (elim t as (λ _. StructTree) [ true ↦ s | false ↦ clear f s ])) e
   plain-at (f ∷ fs) (suc i) s q lt e = plain-at fs i s q (omega arith) e
 
-  plain-past : (fs : List TypedField) (i : ℕ) (s : StructTree) → length fs ≤ i → cleared_plain clear (drop i fs) s ≡ s
+  plain-past : (fs : List TypedField) (i : ℕ) (s : StructTree) → length fs ≤ i → cleared_non_union clear (drop i fs) s ≡ s
   plain-past [] zero s le = refl
   plain-past [] (suc i) s le = refl
   plain-past (f ∷ fs) zero s le = absurd (omega arith)
   plain-past (f ∷ fs) (suc i) s le = plain-past fs i s (omega arith)
 
 -- a plain field, by what is cleared at its place
-plain-place : (q : Bool) (j i : ℕ) → unless_member q j ≡ Some i → (q ≡ false) × (j ≡ i)
+plain-place : (q : Bool) (j i : ℕ) → unless_member_place q j ≡ Some i → (q ≡ false) × (j ≡ i)
 plain-place true j i e = cc
 plain-place false j i e = (refl, same_Some j i e)
 
-no-plain : (q : Bool) (j : ℕ) → unless_member q j ≡ None → q ≡ true
+no-plain : (q : Bool) (j : ℕ) → unless_member_place q j ≡ None → q ≡ true
 no-plain true j e = refl
 no-plain false j e = cc
 
 -- nothing is cleared at a place
-rest-nothing : (n : ℕ) (set : Schemas) (b p : ℕ) (s : StructTree) → cleared_at set b p ≡ None → p ≤ length (fields_of set b) → rest n set b p s ≡ rest n set b (suc p) s
-unfolding rest cleared_at
+rest-nothing : (n : ℕ) (set : Schemas) (b p : ℕ) (s : StructTree) → field_cleared_at set b p ≡ None → p ≤ length (fields_of set b) → rest n set b p s ≡ rest n set b (suc p) s
+unfolding rest field_cleared_at
 rest-nothing n set b zero s none le =
-    ap (cleared_plain (clear_by n set b) (fields_of set b))
+    ap (cleared_non_union (clear_by n set b) (fields_of set b))
     (cleared-member (clear_by n set b) (fields_of set b) s ∙ ap (λ (o : Option ℕ). cleared_option (λ i. clear_by n set b (entry (fields_of set b) i)) o s) none)
 rest-nothing n set b (suc i) s none le = plain-at (clear_by n set b) (fields_of set b) i s true (omega arith) (no-plain (is_member (field_at set b i).field) i none)
 
 -- a field is
-rest-field : (n : ℕ) (set : Schemas) (b p i : ℕ) (s : StructTree) → cleared_at set b p ≡ Some i → p ≤ length (fields_of set b) → rest n set b p s ≡ rest n set b (suc p) (clear_by n set b (field_at set b i) s)
-unfolding rest cleared_at
+rest-field : (n : ℕ) (set : Schemas) (b p i : ℕ) (s : StructTree) → field_cleared_at set b p ≡ Some i → p ≤ length (fields_of set b) → rest n set b p s ≡ rest n set b (suc p) (clear_by n set b (field_at set b i) s)
+unfolding rest field_cleared_at
 rest-field n set b zero i s some le =
-    ap (cleared_plain (clear_by n set b) (fields_of set b))
+    ap (cleared_non_union (clear_by n set b) (fields_of set b))
     (cleared-member (clear_by n set b) (fields_of set b) s ∙ ap (λ (o : Option ℕ). cleared_option (λ i. clear_by n set b (entry (fields_of set b) i)) o s) some)
 rest-field n set b (suc j) i s some le =
     let plain = plain-place (is_member (field_at set b j).field) j i some in
     plain-at (clear_by n set b) (fields_of set b) j s false (omega arith) plain.0
-    ∙ ap (λ (k : ℕ). cleared_plain (clear_by n set b) (drop (suc j) (fields_of set b)) (clear_by n set b (field_at set b k) s)) plain.1
+    ∙ ap (λ (k : ℕ). cleared_non_union (clear_by n set b) (drop (suc j) (fields_of set b)) (clear_by n set b (field_at set b k) s)) plain.1
 
 -- and past the last nothing is left
 rest-past : (n : ℕ) (set : Schemas) (b p : ℕ) (s : StructTree) → length (fields_of set b) < p → rest n set b p s ≡ s
@@ -108,8 +108,8 @@ member-at fs i e =
     let test = found.0 in
     subst (λ (j : ℕ). is_member (entry fs j).field ≡ true) found.1 (member-found fs (grind (arith, nat_tests, test)))
 
-pub behind-is : (set : Schemas) (b p i : ℕ) → cleared_at set b p ≡ Some i → cleared_behind set b i ≡ suc p
-unfolding cleared_at cleared_behind
+pub behind-is : (set : Schemas) (b p i : ℕ) → field_cleared_at set b p ≡ Some i → cleared_behind set b i ≡ suc p
+unfolding field_cleared_at cleared_behind
 behind-is set b zero i some = ap (λ (q : Bool). place_behind q i) (member-at (fields_of set b) i some)
 behind-is set b (suc j) i some =
     let plain = plain-place (is_member (field_at set b j).field) j i some in
@@ -121,31 +121,31 @@ pub behind-by : (set : Schemas) (b i : ℕ) (q : Bool) → is_member (field_at s
 unfolding cleared_behind
 behind-by set b i q e = ap (λ (r : Bool). place_behind r i) e
 
-at-zero : (s : StructSchema) (o : Option Field) → IsFound s (member_of (records_of (set_of s) (number_of s)) 0) o → IsFound s (cleared_at (set_of s) (number_of s) 0) o
-unfolding cleared_at
+at-zero : (s : StructSchema) (o : Option Field) → IsFound s (member_of (records_of (set_of s) (number_of s)) 0) o → IsFound s (field_cleared_at (set_of s) (number_of s) 0) o
+unfolding field_cleared_at
 at-zero s o found = found
 
-pub at-first : (s : StructSchema) (p : ℕ) (o : Option Field) → p ≡ 0 → IsFound s (member_of (records_of (set_of s) (number_of s)) 0) o → IsFound s (cleared_at (set_of s) (number_of s) p) o
-at-first s p o e found = subst (λ (k : ℕ). IsFound s (cleared_at (set_of s) (number_of s) k) o) (sym e) (at-zero s o found)
+pub at-first : (s : StructSchema) (p : ℕ) (o : Option Field) → p ≡ 0 → IsFound s (member_of (records_of (set_of s) (number_of s)) 0) o → IsFound s (field_cleared_at (set_of s) (number_of s) p) o
+at-first s p o e found = subst (λ (k : ℕ). IsFound s (field_cleared_at (set_of s) (number_of s) k) o) (sym e) (at-zero s o found)
 
-at-next : (set : Schemas) (b i : ℕ) (q : Bool) → is_member (field_at set b i).field ≡ q → cleared_at set b (suc i) ≡ unless_member q i
-unfolding cleared_at
-at-next set b i q e = ap (λ (r : Bool). unless_member r i) e
+at-next : (set : Schemas) (b i : ℕ) (q : Bool) → is_member (field_at set b i).field ≡ q → field_cleared_at set b (suc i) ≡ unless_member_place q i
+unfolding field_cleared_at
+at-next set b i q e = ap (λ (r : Bool). unless_member_place r i) e
 
-at-place : (set : Schemas) (b p : ℕ) (q : Bool) → (p ≡ 0 → ⊥) → is_member (field_at set b (p - 1)).field ≡ q → cleared_at set b p ≡ unless_member q (p - 1)
+at-place : (set : Schemas) (b p : ℕ) (q : Bool) → (p ≡ 0 → ⊥) → is_member (field_at set b (p - 1)).field ≡ q → field_cleared_at set b p ≡ unless_member_place q (p - 1)
 at-place set b zero q some e = absurd (some refl)
 at-place set b (suc i) q some e =
     let less : suc i - 1 ≡ i = omega arith in
-    at-next set b i q (ap (λ (k : ℕ). is_member (field_at set b k).field) (sym less) ∙ e) ∙ ap (unless_member q) (sym less)
+    at-next set b i q (ap (λ (k : ℕ). is_member (field_at set b k).field) (sym less) ∙ e) ∙ ap (unless_member_place q) (sym less)
 
 -- a field of a struct is a member or plain, by its record
 member-of : (s : StructSchema) (p : ℕ) (f : Field) (q : Bool) → IsFieldOf s p f → is_member (typed_of f).field ≡ q → is_member (field_at (set_of s) (number_of s) p).field ≡ q
 member-of s p f q is e = sym (ap (λ (z : StructSchema). is_member (struct_field z (index_of f)).field) is.schema ∙ ap (λ (k : ℕ). is_member (struct_field s k).field) is.index) ∙ e
 
-pub at-member : (s : StructSchema) (p : ℕ) (f : Field) → (p ≡ 0 → ⊥) → IsFieldOf s (p - 1) f → is_member (typed_of f).field ≡ true → IsFound s (cleared_at (set_of s) (number_of s) p) None
+pub at-member : (s : StructSchema) (p : ℕ) (f : Field) → (p ≡ 0 → ⊥) → IsFieldOf s (p - 1) f → is_member (typed_of f).field ≡ true → IsFound s (field_cleared_at (set_of s) (number_of s) p) None
 at-member s p f some is e = subst (λ (o : Option ℕ). IsFound s o None) (sym (at-place (set_of s) (number_of s) p true some (member-of s (p - 1) f true is e))) tt
 
-pub at-plain : (s : StructSchema) (p : ℕ) (f : Field) → (p ≡ 0 → ⊥) → IsFieldOf s (p - 1) f → is_member (typed_of f).field ≡ false → IsFound s (cleared_at (set_of s) (number_of s) p) (Some f)
+pub at-plain : (s : StructSchema) (p : ℕ) (f : Field) → (p ≡ 0 → ⊥) → IsFieldOf s (p - 1) f → is_member (typed_of f).field ≡ false → IsFound s (field_cleared_at (set_of s) (number_of s) p) (Some f)
 at-plain s p f some is e = subst (λ (o : Option ℕ). IsFound s o (Some f)) (sym (at-place (set_of s) (number_of s) p false some (member-of s (p - 1) f false is e))) is
 
 -- ---- the way up ----
@@ -204,7 +204,7 @@ module _ (n : ℕ) (set : Schemas) (b p : ℕ) (frames : List (ℕ × ℕ)) wher
 
 -- ---- handles ----
 
-pub found-at : (s : StructSchema) (o : Option ℕ) (f : Field) → IsFound s o (Some f) → (o ≡ Some (index_of f)) × (schema_of f ≡ s)
+pub found-at : (s : StructSchema) (o : Option ℕ) (f : Field) → IsFound s o (Some f) → (o ≡ Some (index_of f)) × (field_schema f ≡ s)
 found-at s None f is = absurd is
 found-at s (Some i) f is = (ap (λ (k : ℕ). Some k) (sym is.index), is.schema)
 
@@ -216,12 +216,12 @@ found-none s (Some i) is = absurd is
 record Due (at : StructSchema) (p : ℕ) (f : Field) : Type 0 where
   pub set : field_set f ≡ set_of at
   pub brand : field_brand f ≡ number_of at
-  pub index : cleared_at (set_of at) (number_of at) p ≡ Some (index_of f)
+  pub index : field_cleared_at (set_of at) (number_of at) p ≡ Some (index_of f)
   pub field : typed_of f ≡ struct_field at (index_of f)
 
-due : (at : StructSchema) (p : ℕ) (f : Field) → IsFound at (cleared_at (set_of at) (number_of at) p) (Some f) → Due at p f
+due : (at : StructSchema) (p : ℕ) (f : Field) → IsFound at (field_cleared_at (set_of at) (number_of at) p) (Some f) → Due at p f
 due at p f found =
-    let is = found-at at (cleared_at (set_of at) (number_of at) p) f found in
+    let is = found-at at (field_cleared_at (set_of at) (number_of at) p) f found in
     record { set = ap set_of is.1; brand = ap number_of is.1; index = is.0; field = ap (λ (z : StructSchema). struct_field z (index_of f)) is.1 }
 
 -- the clear of the field is that of the group's field
@@ -267,9 +267,9 @@ starts groups left at s some e =
     ∙ (rest-whole left (set_of at) (number_of at) s
     ∙ ap (λ (k : ℕ). cleared_through k (set_of at) (number_of at) s) next)))
 
-pub past-nothing : (n : ℕ) (at : StructSchema) (depth p : ℕ) (s : StructTree) → IsFound at (cleared_at (set_of at) (number_of at) p) None → p ≤ length (struct_fields at) → left_of n at depth p s ≡ left_of n at depth (p + 1) s
+pub past-nothing : (n : ℕ) (at : StructSchema) (depth p : ℕ) (s : StructTree) → IsFound at (field_cleared_at (set_of at) (number_of at) p) None → p ≤ length (struct_fields at) → left_of n at depth p s ≡ left_of n at depth (p + 1) s
 past-nothing n at depth p s none le = go-on n (set_of at) (number_of at) p (way (set_of at) depth (number_of at)) (p + 1) s s
-    (rest-nothing n (set_of at) (number_of at) p s (found-none at (cleared_at (set_of at) (number_of at) p) none) le ∙ ap (λ (k : ℕ). rest n (set_of at) (number_of at) k s) (sym (add-one p)))
+    (rest-nothing n (set_of at) (number_of at) p s (found-none at (field_cleared_at (set_of at) (number_of at) p) none) le ∙ ap (λ (k : ℕ). rest n (set_of at) (number_of at) k s) (sym (add-one p)))
 
 past-field : (n : ℕ) (at : StructSchema) (depth p : ℕ) (f : Field) (s y : StructTree) → Due at p f → p ≤ length (struct_fields at) → y ≡ clear_by n (field_set f) (field_brand f) (typed_of f) s → left_of n at depth p s ≡ left_of n at depth (p + 1) y
 past-field n at depth p f s y d le e = go-on n (set_of at) (number_of at) p (way (set_of at) depth (number_of at)) (p + 1) s y
@@ -277,11 +277,11 @@ past-field n at depth p f s y d le e = go-on n (set_of at) (number_of at) p (way
     ∙ (ap (λ (k : ℕ). rest n (set_of at) (number_of at) k (clear_by n (set_of at) (number_of at) (struct_field at (index_of f)) s)) (sym (add-one p))
     ∙ ap (rest n (set_of at) (number_of at) (p + 1)) (sym (e ∙ due-clear n at p f d s))))
 
-pub past-slot : (n : ℕ) (at : StructSchema) (depth p : ℕ) (f : Field) (s y : StructTree) → IsFound at (cleared_at (set_of at) (number_of at) p) (Some f) → p ≤ length (struct_fields at) → IsSlotCleared f s y → left_of n at depth p s ≡ left_of n at depth (p + 1) y
+pub past-slot : (n : ℕ) (at : StructSchema) (depth p : ℕ) (f : Field) (s y : StructTree) → IsFound at (field_cleared_at (set_of at) (number_of at) p) (Some f) → p ≤ length (struct_fields at) → IsSlotCleared f s y → left_of n at depth p s ≡ left_of n at depth (p + 1) y
 past-slot n at depth p f s y found le is = past-field n at depth p f s y (due at p f found) le (is.cleared n)
 
 -- no group is gone into
-pub past-group : (n : ℕ) (at : StructSchema) (depth p : ℕ) (f : Field) (g : StructSchema) (s y : StructTree) → IsFound at (cleared_at (set_of at) (number_of at) p) (Some f) → p ≤ length (struct_fields at) → IsGroupAt f g → y ≡ switched_to f s → n ≡ 0 → left_of n at depth p s ≡ left_of n at depth (p + 1) y
+pub past-group : (n : ℕ) (at : StructSchema) (depth p : ℕ) (f : Field) (g : StructSchema) (s y : StructTree) → IsFound at (field_cleared_at (set_of at) (number_of at) p) (Some f) → p ≤ length (struct_fields at) → IsGroupAt f g → y ≡ switched_to f s → n ≡ 0 → left_of n at depth p s ≡ left_of n at depth (p + 1) y
 past-group n at depth p f g s y found le is e none = past-field n at depth p f s y (due at p f found) le
     (cleared-none n (set_of g) (number_of g) y none ∙ sym (field-clear n f g is s y e))
 
@@ -294,7 +294,7 @@ way-in at depth p f g d is = way-group (set_of at) depth (number_of g) (number_o
     ∙ ap (λ (q : ℕ). (number_of at, q) ∷ way (set_of at) depth (number_of at)) (behind-is (set_of at) (number_of at) p (index_of f) d.index)
 
 -- a group is
-into-group : (n : ℕ) (at : StructSchema) (depth p : ℕ) (f : Field) (g : StructSchema) (s y : StructTree) → IsFound at (cleared_at (set_of at) (number_of at) p) (Some f) → p ≤ length (struct_fields at) → IsGroupAt f g → y ≡ switched_to f s → left_of (suc n) at depth p s ≡ left_of n g (suc depth) 0 y
+into-group : (n : ℕ) (at : StructSchema) (depth p : ℕ) (f : Field) (g : StructSchema) (s y : StructTree) → IsFound at (field_cleared_at (set_of at) (number_of at) p) (Some f) → p ≤ length (struct_fields at) → IsGroupAt f g → y ≡ switched_to f s → left_of (suc n) at depth p s ≡ left_of n g (suc depth) 0 y
 into-group n at depth p f g s y found le is e = outer ∙ inner
   where
     d : Due at p f
@@ -328,7 +328,7 @@ into-group n at depth p f g s y found le is e = outer ∙ inner
 
 -- a group is left by its field
 out-of-group : (n : ℕ) (g : StructSchema) (depth p : ℕ) (f : Field) (s : StructTree) → length (struct_fields g) < p → IsGroupFieldOf g f → Some (place_of_field f) ≡ group_field_of (set_of g) (number_of g) →
-    left_of n g (suc depth) p s ≡ left_of (suc n) (schema_of f) depth (cleared_behind (field_set f) (field_brand f) (index_of f)) s
+    left_of n g (suc depth) p s ≡ left_of (suc n) (field_schema f) depth (cleared_behind (field_set f) (field_brand f) (index_of f)) s
 out-of-group n g depth p f s past is place =
     leave-it n (set_of g) (number_of g) p (way (set_of g) (suc depth) (number_of g)) s past
     ∙ (ap (λ (w : List (ℕ × ℕ)). finish (suc n) (set_of g) w s) (way-group (set_of g) depth (number_of g) (field_brand f) (index_of f) (sym place))
@@ -410,8 +410,8 @@ unfolding group_steps place_steps
 group-steps n set g = refl
 
 -- into a group less is left
-pub less-into : (n : ℕ) (set : Schemas) (b p i g : ℕ) → cleared_at set b p ≡ Some i → p ≤ length (fields_of set b) → IsParent set g b i → place_steps n set g 0 + place_steps (suc n) set b (suc p) < place_steps (suc n) set b p
-unfolding place_steps cleared_at
+pub less-into : (n : ℕ) (set : Schemas) (b p i g : ℕ) → field_cleared_at set b p ≡ Some i → p ≤ length (fields_of set b) → IsParent set g b i → place_steps n set g 0 + place_steps (suc n) set b (suc p) < place_steps (suc n) set b p
+unfolding place_steps field_cleared_at
 less-into n set b zero i g at le is =
     let into : steps_into (group_steps (suc n) set) (group_target set b i) ≡ suc (suc (group_steps (suc n) set g)) = ap (steps_into (group_steps (suc n) set)) (parent_target set g b i is) in
     omega (arith, group-steps n set g, into, one-of-all (group_steps (suc n) set) (fields_of set b) i is.field)
@@ -428,7 +428,7 @@ less-on n at depth p le =
     let next = ap (place_steps n (set_of at) (number_of at)) (add-one p) in
     omega (arith, new, old, next, less-past n (set_of at) (number_of at) p le)
 
-less-in : (n : ℕ) (at : StructSchema) (depth p : ℕ) (f : Field) (g : StructSchema) → IsFound at (cleared_at (set_of at) (number_of at) p) (Some f) → p ≤ length (struct_fields at) → IsGroupAt f g → steps_of n g (suc depth) 0 < steps_of (suc n) at depth p
+less-in : (n : ℕ) (at : StructSchema) (depth p : ℕ) (f : Field) (g : StructSchema) → IsFound at (field_cleared_at (set_of at) (number_of at) p) (Some f) → p ≤ length (struct_fields at) → IsGroupAt f g → steps_of n g (suc depth) 0 < steps_of (suc n) at depth p
 less-in n at depth p f g found le is = subst (λ (z : Schemas). all_steps n z ((number_of g, 0) ∷ way z (suc depth) (number_of g)) < steps_of (suc n) at depth p) (sym here) in_set
   where
     d : Due at p f
@@ -461,7 +461,7 @@ less-in n at depth p f g found le is = subst (λ (z : Schemas). all_steps n z ((
         omega (arith, new, above, outer, old, less-into n set b p (index_of f) (number_of g) d.index le parent)
 
 less-out : (n : ℕ) (g : StructSchema) (depth p : ℕ) (f : Field) → IsGroupFieldOf g f → Some (place_of_field f) ≡ group_field_of (set_of g) (number_of g) →
-    steps_of (suc n) (schema_of f) depth (cleared_behind (field_set f) (field_brand f) (index_of f)) < steps_of n g (suc depth) p
+    steps_of (suc n) (field_schema f) depth (cleared_behind (field_set f) (field_brand f) (index_of f)) < steps_of n g (suc depth) p
 less-out n g depth p f is place =
     let old = steps-frame n (set_of g) (number_of g) p (way (set_of g) (suc depth) (number_of g)) in
     let above = ap (all_steps (suc n) (set_of g)) (way-group (set_of g) depth (number_of g) (field_brand f) (index_of f) (sym place)) in
@@ -470,14 +470,14 @@ less-out n g depth p f is place =
 
 -- ---- in the words of the loop ----
 
-pub goes-in : (left : ℕ) (at : StructSchema) (depth p : ℕ) (f : Field) (g : StructSchema) (s y : StructTree) → (left ≡ 0 → ⊥) → IsFound at (cleared_at (set_of at) (number_of at) p) (Some f) → p ≤ length (struct_fields at) → IsGroupAt f g → y ≡ switched_to f s →
+pub goes-in : (left : ℕ) (at : StructSchema) (depth p : ℕ) (f : Field) (g : StructSchema) (s y : StructTree) → (left ≡ 0 → ⊥) → IsFound at (field_cleared_at (set_of at) (number_of at) p) (Some f) → p ≤ length (struct_fields at) → IsGroupAt f g → y ≡ switched_to f s →
     left_of left at depth p s ≡ left_of (left - 1) g (depth + 1) 0 y
 goes-in zero at depth p f g s y some found le is e = absurd (some refl)
 goes-in (suc n) at depth p f g s y some found le is e =
     let less : suc n - 1 ≡ n = omega arith in
     into-group n at depth p f g s y found le is e ∙ (ap (λ (d : ℕ). left_of n g d 0 y) (sym (add-one depth)) ∙ ap (λ (k : ℕ). left_of k g (depth + 1) 0 y) (sym less))
 
-pub fewer-in : (left : ℕ) (at : StructSchema) (depth p : ℕ) (f : Field) (g : StructSchema) → (left ≡ 0 → ⊥) → IsFound at (cleared_at (set_of at) (number_of at) p) (Some f) → p ≤ length (struct_fields at) → IsGroupAt f g →
+pub fewer-in : (left : ℕ) (at : StructSchema) (depth p : ℕ) (f : Field) (g : StructSchema) → (left ≡ 0 → ⊥) → IsFound at (field_cleared_at (set_of at) (number_of at) p) (Some f) → p ≤ length (struct_fields at) → IsGroupAt f g →
     steps_of (left - 1) g (depth + 1) 0 < steps_of left at depth p
 fewer-in zero at depth p f g some found le is = absurd (some refl)
 fewer-in (suc n) at depth p f g some found le is =
@@ -487,41 +487,41 @@ fewer-in (suc n) at depth p f g some found le is =
     omega (arith, here, there, less-in n at depth p f g found le is)
 
 goes-out : (left : ℕ) (g : StructSchema) (depth p : ℕ) (f : Field) (s : StructTree) → (depth ≡ 0 → ⊥) → length (struct_fields g) < p → IsGroupFieldOf g f → Some (place_of_field f) ≡ group_field_of (set_of g) (number_of g) →
-    left_of left g depth p s ≡ left_of (left + 1) (schema_of f) (depth - 1) (cleared_behind (field_set f) (field_brand f) (index_of f)) s
+    left_of left g depth p s ≡ left_of (left + 1) (field_schema f) (depth - 1) (cleared_behind (field_set f) (field_brand f) (index_of f)) s
 goes-out left g zero p f s some past is place = absurd (some refl)
 goes-out left g (suc d) p f s some past is place =
     let less : suc d - 1 ≡ d = omega arith in
     out-of-group left g d p f s past is place
-    ∙ (ap (λ (k : ℕ). left_of k (schema_of f) d (cleared_behind (field_set f) (field_brand f) (index_of f)) s) (sym (add-one left))
-    ∙ ap (λ (k : ℕ). left_of (left + 1) (schema_of f) k (cleared_behind (field_set f) (field_brand f) (index_of f)) s) (sym less))
+    ∙ (ap (λ (k : ℕ). left_of k (field_schema f) d (cleared_behind (field_set f) (field_brand f) (index_of f)) s) (sym (add-one left))
+    ∙ ap (λ (k : ℕ). left_of (left + 1) (field_schema f) k (cleared_behind (field_set f) (field_brand f) (index_of f)) s) (sym less))
 
 fewer-out : (left : ℕ) (g : StructSchema) (depth p : ℕ) (f : Field) → (depth ≡ 0 → ⊥) → IsGroupFieldOf g f → Some (place_of_field f) ≡ group_field_of (set_of g) (number_of g) →
-    steps_of (left + 1) (schema_of f) (depth - 1) (cleared_behind (field_set f) (field_brand f) (index_of f)) < steps_of left g depth p
+    steps_of (left + 1) (field_schema f) (depth - 1) (cleared_behind (field_set f) (field_brand f) (index_of f)) < steps_of left g depth p
 fewer-out left g zero p f some is place = absurd (some refl)
 fewer-out left g (suc d) p f some is place =
     let less : suc d - 1 ≡ d = omega arith in
-    let here = ap (λ (k : ℕ). steps_of k (schema_of f) (suc d - 1) (cleared_behind (field_set f) (field_brand f) (index_of f))) (add-one left) in
-    let there = ap (λ (k : ℕ). steps_of (suc left) (schema_of f) k (cleared_behind (field_set f) (field_brand f) (index_of f))) less in
+    let here = ap (λ (k : ℕ). steps_of k (field_schema f) (suc d - 1) (cleared_behind (field_set f) (field_brand f) (index_of f))) (add-one left) in
+    let there = ap (λ (k : ℕ). steps_of (suc left) (field_schema f) k (cleared_behind (field_set f) (field_brand f) (index_of f))) less in
     omega (arith, here, there, less-out left g d p f is place)
 
 -- the field's struct and the place behind it by other names
-pub goes-above : (left : ℕ) (g : StructSchema) (depth p : ℕ) (f : Field) (s : StructTree) (a : StructSchema) (q : ℕ) → a ≡ schema_of f → q ≡ cleared_behind (field_set f) (field_brand f) (index_of f) →
+pub goes-above : (left : ℕ) (g : StructSchema) (depth p : ℕ) (f : Field) (s : StructTree) (a : StructSchema) (q : ℕ) → a ≡ field_schema f → q ≡ cleared_behind (field_set f) (field_brand f) (index_of f) →
     (depth ≡ 0 → ⊥) → length (struct_fields g) < p → IsGroupFieldOf g f → Some (place_of_field f) ≡ group_field_of (set_of g) (number_of g) → left_of left g depth p s ≡ left_of (left + 1) a (depth - 1) q s
 goes-above left g depth p f s a q same behind some past is place =
     goes-out left g depth p f s some past is place
-    ∙ (ap (λ (k : ℕ). left_of (left + 1) (schema_of f) (depth - 1) k s) (sym behind) ∙ ap (λ (z : StructSchema). left_of (left + 1) z (depth - 1) q s) (sym same))
+    ∙ (ap (λ (k : ℕ). left_of (left + 1) (field_schema f) (depth - 1) k s) (sym behind) ∙ ap (λ (z : StructSchema). left_of (left + 1) z (depth - 1) q s) (sym same))
 
-pub fewer-above : (left : ℕ) (g : StructSchema) (depth p : ℕ) (f : Field) (a : StructSchema) (q : ℕ) → a ≡ schema_of f → q ≡ cleared_behind (field_set f) (field_brand f) (index_of f) →
+pub fewer-above : (left : ℕ) (g : StructSchema) (depth p : ℕ) (f : Field) (a : StructSchema) (q : ℕ) → a ≡ field_schema f → q ≡ cleared_behind (field_set f) (field_brand f) (index_of f) →
     (depth ≡ 0 → ⊥) → IsGroupFieldOf g f → Some (place_of_field f) ≡ group_field_of (set_of g) (number_of g) → steps_of (left + 1) a (depth - 1) q < steps_of left g depth p
 fewer-above left g depth p f a q same behind some is place =
     subst (λ (z : StructSchema). steps_of (left + 1) z (depth - 1) q < steps_of left g depth p) (sym same)
-    (subst (λ (k : ℕ). steps_of (left + 1) (schema_of f) (depth - 1) k < steps_of left g depth p) (sym behind) (fewer-out left g depth p f some is place))
+    (subst (λ (k : ℕ). steps_of (left + 1) (field_schema f) (depth - 1) k < steps_of left g depth p) (sym behind) (fewer-out left g depth p f some is place))
 
-pub fits-above : (g : StructSchema) (f : Field) (s : StructTree) (a : StructSchema) → a ≡ schema_of f → IsGroupFieldOf g f → Fits (set_of g) (number_of g) s → Fits (set_of a) (number_of a) s
+pub fits-above : (g : StructSchema) (f : Field) (s : StructTree) (a : StructSchema) → a ≡ field_schema f → IsGroupFieldOf g f → Fits (set_of g) (number_of g) s → Fits (set_of a) (number_of a) s
 fits-above g f s a same is room = subst (λ (z : StructSchema). Fits (set_of z) (number_of z) s) (sym same) (room-above g f s is room)
 
 -- a group has the sections of the struct, which are kept
-pub group-fits : (at : StructSchema) (p : ℕ) (f : Field) (g : StructSchema) (s y : StructTree) → IsFound at (cleared_at (set_of at) (number_of at) p) (Some f) → IsGroupAt f g → KeepsSize s y → Fits (set_of at) (number_of at) s → Fits (set_of g) (number_of g) y
+pub group-fits : (at : StructSchema) (p : ℕ) (f : Field) (g : StructSchema) (s y : StructTree) → IsFound at (field_cleared_at (set_of at) (number_of at) p) (Some f) → IsGroupAt f g → KeepsSize s y → Fits (set_of at) (number_of at) s → Fits (set_of g) (number_of g) y
 group-fits at p f g s y found is kept room =
-    let same = (found-at at (cleared_at (set_of at) (number_of at) p) f found).1 in
+    let same = (found-at at (field_cleared_at (set_of at) (number_of at) p) f found).1 in
     fits-kept (set_of g) (number_of g) s y kept (is.room s (subst (λ (z : StructSchema). Fits (set_of z) (number_of z) s) (sym same) room))

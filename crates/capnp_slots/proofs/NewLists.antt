@@ -7,7 +7,7 @@ use Rattle.capnp_wire.specs.WellFormed.{IsWellFormed}
 use Rattle.capnp_wire.specs.declared.size.ElementSize.{ElementSize}
 use Rattle.capnp_wire.specs.declared.size.ElementSize.TheVariants.{InlineComposite}
 use Rattle.capnp_base.specs.Text.{text_tree}
-use Rattle.capnp_base.specs.Types.{element_size, variant_of}
+use Rattle.capnp_base.specs.Types.{variant_element_size, variant_of}
 use Rattle.capnp_base.specs.declared.introspect.RawBrandedStructSchema.{RawBrandedStructSchema}
 use Rattle.capnp_base.specs.declared.introspect.«Type».{«Type» as TypeHandle}
 use Rattle.capnp_base.specs.declared.introspect.TypeVariant.{TypeVariant}
@@ -32,7 +32,7 @@ pub record IsSimple (set : Schemas) (e : SchemaType) (n : ℕ) (size : ElementSi
   pub simple : size ≢ InlineComposite
 
 module _ (set : Schemas) (n : ℕ) where
-  by_variant : (v : TypeVariant) → ((x : RawBrandedStructSchema) → v ≡ variant.Struct x → ⊥) → IsSimple set (seen_variant v) n (element_size v)
+  by_variant : (v : TypeVariant) → ((x : RawBrandedStructSchema) → v ≡ variant.Struct x → ⊥) → IsSimple set (seen_variant v) n (variant_element_size v)
   by_variant (variant.Struct x) other = absurd (other x refl)
   by_variant variant.Void other = record { list = refl; past = refl; simple = λ e. cc }
   by_variant variant.Bool other = record { list = refl; past = refl; simple = λ e. cc }
@@ -50,8 +50,8 @@ module _ (set : Schemas) (n : ℕ) where
   by_variant (variant.Enum e) other = record { list = refl; past = refl; simple = λ e. cc }
   by_variant (variant.List t) other = record { list = refl; past = refl; simple = λ e. cc }
 
-  pub is_simple : (t : TypeHandle) (v : TypeVariant) (size : ElementSize) → v ≡ variant_of t → size ≡ element_size (variant_of t) → ((x : RawBrandedStructSchema) → v ≡ variant.Struct x → ⊥) →
+  pub is_simple : (t : TypeHandle) (v : TypeVariant) (size : ElementSize) → v ≡ variant_of t → size ≡ variant_element_size (variant_of t) → ((x : RawBrandedStructSchema) → v ≡ variant.Struct x → ⊥) →
       IsSimple set (seen_type t) n size
   is_simple t v size e f other =
-      subst (IsSimple set (seen_type t) n) (sym (f ∙ ap element_size (sym e)))
-      (subst (λ u. IsSimple set u n (element_size v)) (ap seen_variant e ∙ seen_which t) (by_variant v other))
+      subst (IsSimple set (seen_type t) n) (sym (f ∙ ap variant_element_size (sym e)))
+      (subst (λ u. IsSimple set u n (variant_element_size v)) (ap seen_variant e ∙ seen_which t) (by_variant v other))

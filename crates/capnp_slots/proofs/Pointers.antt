@@ -12,7 +12,7 @@ use Rattle.capnp_schema.specs.declared.plan.SlotPlan.{SlotPlan}
 use Rattle.capnp_schema.specs.declared.schema.fields.Field.{Field}
 use Rattle.capnp_records.specs.Facts.Pointers.{nth_tree-put_same}
 use Rattle.capnp_records.specs.Writes.Slots.{At}
-use Rattle.capnp_slots.specs.Fields.{IsPointer, IsPointerSlot, IsRoomFor, IsSlotPlan, Keeps, names_of, pointer_index, slot_with}
+use Rattle.capnp_slots.specs.Fields.{IsPointerField, IsPointerSlot, IsRoomFor, IsSlotPlan, Keeps, names_of, pointer_index, slot_with}
 use Rattle.capnp_slots.specs.Planned.{member_switched, place_written}
 
 -- ---- a pointer's slot ----
@@ -22,7 +22,7 @@ commutes : (m : Option (ℕ × ℕ)) (s : StructTree) (i : ℕ) (t : Tree) → m
 commutes None s i t = refl
 commutes (Some m) s i t = refl
 
-module _ (f : Field) (plan : SlotPlan) (is : IsSlotPlan f plan) (pointer : IsPointer f) where
+module _ (f : Field) (plan : SlotPlan) (is : IsSlotPlan f plan) (pointer : IsPointerField f) where
   pub never : ((x : ℕ) → plan.place ≡ place.Pointer x → ⊥) → ⊥
   never none = none (pointer_index f) (is.pointer pointer)
 

@@ -3,7 +3,7 @@ use Rattle.std.specs.Prelude.{ℕ, suc, ◌≡◌, refl, pos, List, Bool, true, 
 use Rattle.capnp_device.specs.declared.error.ErrorKind.TheVariants.{TypeMismatch}
 use Rattle.std.proofs.Common.{ap, subst, sym, ◌∙◌}
 use Rattle.capnp_wire.specs.Tree.{Null, StructTree}
-use Rattle.capnp_schema.specs.FieldLists.{index_of, schema_of, typed_of}
+use Rattle.capnp_schema.specs.FieldLists.{index_of, field_schema, typed_of}
 use Rattle.capnp_schema.specs.Ranges.{HasRanges}
 use Rattle.capnp_schema.specs.Schema.{Schemas, default_of, field_at, is_member}
 use Rattle.capnp_schema.specs.Schema.{Value as SchemaValue}
@@ -17,7 +17,7 @@ use Rattle.capnp_records.specs.Facts.Numbers.{stored-given, suits-number}
 use Rattle.capnp_records.specs.Given.{Copies, CopiesGroup, Fails, Given, Gives, data_past, given_slot, text_past}
 use Rattle.capnp_records.specs.Laws.{IsFieldAt}
 use Rattle.capnp_records.specs.Part.{has_of}
-use Rattle.capnp_records.specs.ReadBack.{ClearIsRead, ClearedIsActive, CopiedIsActive, CopyIsRead, DataIsRead, GroupStartsAtFirst, IsGroupIn, IsSlotIn, NumberIsRead, OthersAreRead, OthersAreThere, PlainKeepsActive, TextIsRead, WrittenIsActive, field_got}
+use Rattle.capnp_records.specs.ReadBack.{ClearIsRead, ClearedIsActive, CopiedIsActive, CopyIsRead, DataIsRead, GroupStartsAtFirst, IsGroupIn, IsSlotIn, NumberIsRead, OthersAreRead, OthersAreThere, NonUnionKeepsActive, TextIsRead, WrittenIsActive, field_got}
 use Rattle.capnp_records.specs.ReadBack.{AreApart as ArePlaces}
 use Rattle.capnp_records.specs.Reading.{struct_record}
 use Rattle.capnp_records.specs.Record as value
@@ -31,7 +31,7 @@ use Rattle.capnp_slots.specs.Fields.{IsRoomFor, IsSlot, field_brand, field_set, 
 use Rattle.capnp_slots.specs.Groups.{IsGroup}
 use Rattle.capnp_slots.specs.Inits.{init_content, initn_content}
 use Rattle.capnp_slots.specs.Primitives.{given_content, given_to, set_content}
-use Rattle.capnp_slots.specs.ReadBack.{AreApart, ClearIsActive, ClearIsGot, CopyIsActive, CopyIsGot, DataIsGot, GroupIsActive, GroupStarts, HasKind, InitIsActive, InitnIsActive, IsActiveIn, IsWhole, NumberIsGot, OtherIsGot, OtherIsThere, PlainStays, SetIsActive, TextIsGot, WholeIsGot, got_in, member_in, whole_value}
+use Rattle.capnp_slots.specs.ReadBack.{AreFieldsApart, ClearIsActive, ClearIsGot, CopyIsActive, CopyIsGot, DataIsGot, GroupIsActive, GroupStarts, HasKind, InitIsActive, InitnIsActive, IsActiveIn, IsWithoutParts, NumberIsGot, OtherIsGot, OtherIsThere, NonUnionStays, SetIsActive, TextIsGot, WholeIsGot, got_in, member_in, whole_value}
 use Rattle.capnp_slots.specs.Sources.{IsSet, IsTaken}
 
 -- ---- values without parts ----
@@ -47,7 +47,7 @@ sized : (q : Bool) (v : Value) → IsTaken (cond q (Gives v) (Fails TypeMismatch
 sized true v taken = refl
 sized false v taken = absurd taken
 
-takes-whole : (set : Schemas) (t : SchemaType) (s : Source) → IsWhole s → HasKind t → IsTaken (given_slot set t s) → TakesWhole set t s
+takes-whole : (set : Schemas) (t : SchemaType) (s : Source) → IsWithoutParts s → HasKind t → IsTaken (given_slot set t s) → TakesWhole set t s
 takes-whole set BoolType (BoolSource b) whole kind taken = at_once refl
 takes-whole set (IntType k) (IntSource n x) whole kind taken = at_once (sized (k == n) (value.Number x) taken)
 takes-whole set (UIntType k) (UIntSource n x) whole kind taken = at_once (sized (k == n) (value.Number (pos x)) taken)
@@ -64,7 +64,7 @@ takes-whole set t s whole kind taken = absurd taken
 abbrev pub IsAt : Field → Type 0
 IsAt f = IsFieldAt (field_set f) (field_brand f) (index_of f)
 
-pub handle-at : (f : Field) → IsStruct (schema_of f) → HasRanges (field_set f) → IsAt f
+pub handle-at : (f : Field) → IsStruct (field_schema f) → HasRanges (field_set f) → IsAt f
 handle-at f is ranges = record { accepted = is.accepted; ranges = ranges; brand = is.number; index = f.inside }
 
 module _ (f : Field) (at : IsAt f) where
@@ -174,14 +174,14 @@ module _ (f : Field) (at : IsAt f) where
 
   -- ---- other fields ----
 
-  pub plain-stays : PlainKeepsActive → PlainStays f
+  pub plain-stays : NonUnionKeepsActive → NonUnionStays f
   plain-stays law plain s s' keeps l = law (field_set f) b i at plain s s' keeps.writes l
 
 -- what holds of one set and brand holds of the same
 moved : (P : Schemas → ℕ → Type 0) (f g : Field) → field_set f ≡ field_set g → field_brand f ≡ field_brand g → P (field_set f) (field_brand f) → P (field_set g) (field_brand g)
 moved P f g e h p = subst (λ set. P set (field_brand g)) e (subst (P (field_set f)) h p)
 
-places-apart : (f g : Field) → IsAt f → IsAt g → AreApart f g → ArePlaces (field_set f) (field_brand f) (index_of f) (index_of g)
+places-apart : (f g : Field) → IsAt f → IsAt g → AreFieldsApart f g → ArePlaces (field_set f) (field_brand f) (index_of f) (index_of g)
 places-apart f g at other apart = record {
   at = at;
   other = moved (λ set b. IsFieldAt set b (index_of g)) g f apart.set apart.brand other;

@@ -10,13 +10,13 @@ use Rattle.capnp_wire.specs.Facts.Bytes.{length-with_number}
 use Rattle.capnp_wire.specs.Facts.Structs.{IsElement-with_bit, IsElement-with_number, IsElement-with_pointer_tree, of_same_size, own_size}
 use Rattle.capnp_wire.specs.WellFormed.{IsWellFormed, is_width}
 use Rattle.capnp_schema.specs.Accepted.{LiesInside}
-use Rattle.capnp_schema.specs.Plan.{LiesInNode, data_place, member_plan, node_size, place_of, slot_place}
+use Rattle.capnp_schema.specs.Plan.{LiesInNode, data_place, member_plan, node_size, plan_place, slot_place}
 use Rattle.capnp_schema.specs.Ranges.{HasWidths}
 use Rattle.capnp_schema.specs.Schema.{Field, Node, Slot, TypedField, Value, is_member}
 use Rattle.capnp_schema.specs.SlotValue.{bits_at, default_bits}
 use Rattle.capnp_schema.specs.Types.{SchemaType, VoidType, BoolType, IntType, UIntType, EnumType, TextType, DataType, StructType, ListType, AnyPointerType, is_pointer, width}
 use Rattle.capnp_schema.specs.declared.plan.Place.TheVariants as place
-use Rattle.capnp_records.specs.Writes.Overlay.{cleared_content, switch, switched}
+use Rattle.capnp_records.specs.Writes.Overlay.{cleared_content, switch, switched_struct}
 use Rattle.capnp_records.specs.Writes.Slots.{Content, Bits, At, Suits, with_content}
 use Rattle.capnp_slots.specs.Fields.{IsFormed}
 use Rattle.capnp_slots.specs.Planned.{HoldsNumber, member_switched, place_bits, place_cleared, place_mask, place_written}
@@ -49,7 +49,7 @@ module _ (o : ℕ) (d : Value) (n : ℕ) (s : StructTree) where
       eight : IsNumber 8
       eight = ap (λ i. with_bytes s (with_number 8 i n s.bytes)) (omega arith)
 
-place_of-bits : (o : ℕ) (d : Value) (t : SchemaType) → HasWidths t → (n : ℕ) (s : StructTree) → is_pointer t ≡ false → place_written (place_of (Slot o d) t) (Bits n) s ≡ with_content s o t (Bits n)
+place_of-bits : (o : ℕ) (d : Value) (t : SchemaType) → HasWidths t → (n : ℕ) (s : StructTree) → is_pointer t ≡ false → place_written (plan_place (Slot o d) t) (Bits n) s ≡ with_content s o t (Bits n)
 place_of-bits o d VoidType h n s p = refl
 place_of-bits o d BoolType h n s p = ap (λ i. with_bytes s (with_bit i (n == 1) s.bytes)) (omega arith)
 place_of-bits o d (IntType k) h n s p = number_place o d n s k h
@@ -65,7 +65,7 @@ pointer_at : (q : Bool) (o w : ℕ) (d : Value) (c : Content) (s : StructTree) �
 pointer_at true o w d c s e = refl
 pointer_at false o w d c s e = absurd (true≢false (sym e))
 
-pub slot_place-written : (o : ℕ) (d : Value) (t : SchemaType) → HasWidths t → (c : Content) (s : StructTree) → Suits t c → place_written (place_of (Slot o d) t) c s ≡ with_content s o t c
+pub slot_place-written : (o : ℕ) (d : Value) (t : SchemaType) → HasWidths t → (c : Content) (s : StructTree) → Suits t c → place_written (plan_place (Slot o d) t) c s ≡ with_content s o t c
 slot_place-written o d t h (Bits n) s fits = place_of-bits o d t h n s fits.0
 slot_place-written o d t h (At x) s fits = pointer_at (is_pointer t) o (width t) d (At x) s fits
 
@@ -87,7 +87,7 @@ slot-holds : (q : Bool) (w o : ℕ) (d : Value) (n : ℕ) → n < 2 ^ w → Hold
 slot-holds true w o d n h = tt
 slot-holds false w o d n h = data-holds w o d n h
 
-pub place-holds : (o : ℕ) (d : Value) (t : SchemaType) (n : ℕ) → n < 2 ^ width t → HoldsNumber (place_of (Slot o d) t) n
+pub place-holds : (o : ℕ) (d : Value) (t : SchemaType) (n : ℕ) → n < 2 ^ width t → HoldsNumber (plan_place (Slot o d) t) n
 place-holds o d t n h = slot-holds (is_pointer t) (width t) o d n h
 
 data-mask : (w o : ℕ) (d : Value) (n : ℕ) (s : StructTree) → place_written (data_place w o d) (Bits (bit_xor n (place_mask (data_place w o d)))) s ≡ place_written (data_place w o d) (Bits (bit_xor n (default_bits d))) s
@@ -99,7 +99,7 @@ slot-mask true w o d n s = refl
 slot-mask false w o d n s = data-mask w o d n s
 
 pub place-stores : (o : ℕ) (d : Value) (t : SchemaType) (n : ℕ) (s : StructTree) →
-    place_written (place_of (Slot o d) t) (Bits (bit_xor n (place_mask (place_of (Slot o d) t)))) s ≡ place_written (place_of (Slot o d) t) (Bits (bit_xor n (default_bits d))) s
+    place_written (plan_place (Slot o d) t) (Bits (bit_xor n (place_mask (plan_place (Slot o d) t)))) s ≡ place_written (plan_place (Slot o d) t) (Bits (bit_xor n (default_bits d))) s
 place-stores o d t n s = slot-mask (is_pointer t) (width t) o d n s
 
 data-clears : (w o : ℕ) (d : Value) (s : StructTree) → place_written (data_place w o d) (place_cleared (data_place w o d)) s ≡ place_written (data_place w o d) (Bits 0) s
@@ -111,7 +111,7 @@ slot-clears true w o d s = refl
 slot-clears false w o d s = data-clears w o d s
 
 pub place-clears : (o : ℕ) (d : Value) (t : SchemaType) (s : StructTree) →
-    place_written (place_of (Slot o d) t) (place_cleared (place_of (Slot o d) t)) s ≡ place_written (place_of (Slot o d) t) (cleared_content t) s
+    place_written (plan_place (Slot o d) t) (place_cleared (plan_place (Slot o d) t)) s ≡ place_written (plan_place (Slot o d) t) (cleared_content t) s
 place-clears o d t s = slot-clears (is_pointer t) (width t) o d s
 
 -- ---- the union ----
@@ -142,10 +142,10 @@ module _ (n : Node) (s : StructTree) (size : HasAtLeast (node_size n) s) where
   switched-formed true d inside h = number_written 2 n.discriminant_offset d s (omega (arith, inside refl, size.0)) h
   switched-formed false d inside h = h
 
-  pub switch_formed : (f : TypedField) → LiesInNode n f → IsWellFormed (struct_tree s) → IsWellFormed (struct_tree (switched n f.field s))
+  pub switch_formed : (f : TypedField) → LiesInNode n f → IsWellFormed (struct_tree s) → IsWellFormed (struct_tree (switched_struct n f.field s))
   switch_formed f lies h = switched-formed (is_member f.field) f.field.discriminant_value (λ e. lies.discriminant e) h
 
-  pub switch_size : (f : TypedField) → LiesInNode n f → length (switched n f.field s).bytes ≡ length s.bytes
+  pub switch_size : (f : TypedField) → LiesInNode n f → length (switched_struct n f.field s).bytes ≡ length s.bytes
   switch_size f lies = switched-size (is_member f.field) f.field.discriminant_value (λ e. lies.discriminant e)
 
 content_formed : (t : SchemaType) (o : ℕ) (c : Content) (s : StructTree) → Suits t c → IsFormed c → (o + 1) * width t ≤ 8 * length s.bytes → IsWellFormed (struct_tree s) → IsWellFormed (struct_tree (with_content s o t c))
@@ -162,7 +162,7 @@ content_formed AnyPointerType o (Bits n) s fits g inside h = absurd (true≢fals
 content_formed t o (At x) s fits g inside h = pointer_written o x s g h
 
 pub slot_formed : (n : Node) (f : TypedField) (o : ℕ) (d : Value) (s : StructTree) → f.field.kind ≡ Slot o d → HasAtLeast (node_size n) s → LiesInNode n f → (c : Content) → Suits f.type c → IsFormed c →
-    IsWellFormed (struct_tree s) → IsWellFormed (struct_tree (with_content (switched n f.field s) o f.type c))
+    IsWellFormed (struct_tree s) → IsWellFormed (struct_tree (with_content (switched_struct n f.field s) o f.type c))
 slot_formed n f o d s kind size lies c fits g h =
     let slot : LiesInside n (Slot o d) f.type = subst (λ k. LiesInside n k f.type) kind lies.slot in
-    content_formed f.type o c (switched n f.field s) fits g (omega (arith, slot.0, size.0, switch_size n s size f lies)) (switch_formed n s size f lies h)
+    content_formed f.type o c (switched_struct n f.field s) fits g (omega (arith, slot.0, size.0, switch_size n s size f lies)) (switch_formed n s size f lies h)

@@ -6,7 +6,7 @@ use Rattle.capnp_wire.specs.Tree as tree
 use Rattle.capnp_wire.specs.Tree.{StructTree, Tree, nth_tree}
 use Rattle.capnp_wire.specs.Defaults as wire
 use Rattle.capnp_wire.specs.Defaults.{error_of}
-use Rattle.capnp_wire.specs.Edits.{HoldsStruct, extended, struct_in, struct_refusal}
+use Rattle.capnp_wire.specs.Edits.{HoldsStruct, extended_struct, struct_in, struct_refusal}
 use Rattle.capnp_wire.specs.Place.{struct_tree}
 use Rattle.capnp_wire.specs.Reading.{as_data, as_text, is_null_tree}
 use Rattle.capnp_wire.specs.StructLists.{struct_list_refusal}
@@ -22,9 +22,9 @@ use Rattle.capnp_schema.specs.Types.{SchemaType, TextType, DataType, StructType,
 use Rattle.capnp_records.specs.Facts.Frame.{second-of}
 use Rattle.capnp_records.specs.Given.{data_tree}
 use Rattle.capnp_base.specs.Text.{text_tree}
-use Rattle.capnp_records.specs.Writes.Fill.{IsAtRest, default_struct, entered_list, or_default}
+use Rattle.capnp_records.specs.Writes.Fill.{IsAtRest, default_struct, entered_list, list_or_default}
 use Rattle.capnp_schema.specs.Plan.{brand_size}
-use Rattle.capnp_slots.specs.Fills.{ListRests, fill_due, filled_tree, list_due, pointer_in}
+use Rattle.capnp_slots.specs.Fills.{FilledListRests, fill_due, filled_tree, list_due, pointer_in}
 use Rattle.capnp_slots.specs.Fields.{field_set, pointer_index}
 use Rattle.capnp_slots.proofs.FilledSlots.{IsPart, part-as, part-left}
 
@@ -36,7 +36,7 @@ neither : (q r : Bool) → q ≡ false → (q && r) ≡ false
 neither true r e = absurd (true≢false e)
 neither false r e = refl
 
-or-stays : (d : Value) (x : Tree) → is_null_tree x ≡ false → or_default d x ≡ x
+or-stays : (d : Value) (x : Tree) → is_null_tree x ≡ false → list_or_default d x ≡ x
 or-stays (ListValue words) tree.Null e = absurd (true≢false e)
 or-stays d x e = refl
 
@@ -54,7 +54,7 @@ module _ (set : Schemas) (d : Value) (x : Tree) (there : is_null_tree x ≡ fals
   pub record ListStands (e : SchemaType) (t : SchemaType) : Type 0 where
     pub filled : entered_list set e (wire.or_default tree.Null x) ≡ filled_tree set d t x
     pub due : list_due set e tree.Null x ≡ fill_due set d t x
-    pub rests : IsAtRest set d t x → ListRests set e tree.Null x
+    pub rests : IsAtRest set d t x → FilledListRests set e tree.Null x
 
   list-entered : (e : SchemaType) → entered_list set e (wire.or_default tree.Null x) ≡ filled_tree set d (ListType e) x
   list-entered e = ap (entered_list set e) (second (is_null_tree x) tree.Null x there ∙ sym (or-stays d x there))
@@ -82,17 +82,17 @@ module _ (set : Schemas) (d : Value) (x : Tree) (there : is_null_tree x ≡ fals
 -- ---- by a field ----
 
 pub struct-at : (f : Field) (i : ℕ) (s : StructTree) → i ≡ pointer_index f → is_null_tree (nth_tree s.pointers i) ≡ false → (b g : ℕ) (size : StructSize) → size ≡ brand_size (field_set f) b → StructType b g ≡ (typed_of f).type →
-    IsPart f s (struct_tree (extended size (struct_in (nth_tree s.pointers i)))) (struct_refusal (nth_tree s.pointers i)) (HoldsStruct size (nth_tree s.pointers i))
+    IsPart f s (struct_tree (extended_struct size (struct_in (nth_tree s.pointers i)))) (struct_refusal (nth_tree s.pointers i)) (HoldsStruct size (nth_tree s.pointers i))
 struct-at f i s at there b g size same t =
     let set : Schemas = field_set f in
     let d : Value = default_of (typed_of f).field in
     let x : Tree = pointer_in f s in
     let stands : is_null_tree x ≡ false = subst (λ j. is_null_tree (nth_tree s.pointers j) ≡ false) at there in
-    subst (λ (z : StructSize). IsPart f s (struct_tree (extended z (struct_in (nth_tree s.pointers i)))) (struct_refusal (nth_tree s.pointers i)) (HoldsStruct z (nth_tree s.pointers i))) (sym same)
-    (subst (λ j. IsPart f s (struct_tree (extended (brand_size set b) (struct_in (nth_tree s.pointers j)))) (struct_refusal (nth_tree s.pointers j)) (HoldsStruct (brand_size set b) (nth_tree s.pointers j))) (sym at)
+    subst (λ (z : StructSize). IsPart f s (struct_tree (extended_struct z (struct_in (nth_tree s.pointers i)))) (struct_refusal (nth_tree s.pointers i)) (HoldsStruct z (nth_tree s.pointers i))) (sym same)
+    (subst (λ j. IsPart f s (struct_tree (extended_struct (brand_size set b) (struct_in (nth_tree s.pointers j)))) (struct_refusal (nth_tree s.pointers j)) (HoldsStruct (brand_size set b) (nth_tree s.pointers j))) (sym at)
     (record {
-      filled = subst (λ u. struct_tree (extended (brand_size set b) (struct_in x)) ≡ filled_tree set d u x) t
-          (ap (λ y. struct_tree (extended (brand_size set b) y)) (sym (second-of (is_null_tree x) (default_struct d) (struct_in x) stands)));
+      filled = subst (λ u. struct_tree (extended_struct (brand_size set b) (struct_in x)) ≡ filled_tree set d u x) t
+          (ap (λ y. struct_tree (extended_struct (brand_size set b) y)) (sym (second-of (is_null_tree x) (default_struct d) (struct_in x) stands)));
       due = subst (λ u. struct_refusal x ≡ fill_due set d u x) t refl;
       rests = λ r. subst (λ u. IsAtRest set d u x) (sym t) r;
     }))
@@ -102,7 +102,7 @@ module _ (f : Field) (v : TypeVariant) (i : ℕ) (s : StructTree) (at : i ≡ po
   stands-there = subst (λ j. is_null_tree (nth_tree s.pointers j) ≡ false) at there
 
   pub struct-in : (raw : RawBrandedStructSchema) (size : StructSize) → size ≡ brand_size (field_set f) raw.number → v ≡ variant.Struct raw →
-      IsPart f s (struct_tree (extended size (struct_in (nth_tree s.pointers i)))) (struct_refusal (nth_tree s.pointers i)) (HoldsStruct size (nth_tree s.pointers i))
+      IsPart f s (struct_tree (extended_struct size (struct_in (nth_tree s.pointers i)))) (struct_refusal (nth_tree s.pointers i)) (HoldsStruct size (nth_tree s.pointers i))
   struct-in raw size same e = struct-at f i s at there raw.number raw.generic size same (ap seen_variant (sym e) ∙ h)
 
   pub text-in : v ≡ variant.Text → IsPart f s (nth_tree s.pointers i) (error_of (as_text (nth_tree s.pointers i))) ⊥
@@ -114,11 +114,11 @@ module _ (f : Field) (v : TypeVariant) (i : ℕ) (s : StructTree) (at : i ≡ po
   -- what stands at a list's slot, by the set that the code has
   pub list-in : (set : Schemas) (element : TypeHandle) → set ≡ field_set f → v ≡ variant.List element →
       IsPart f s (entered_list set (seen_type element) (wire.or_default tree.Null (nth_tree s.pointers i))) (list_due set (seen_type element) tree.Null (nth_tree s.pointers i))
-      (ListRests set (seen_type element) tree.Null (nth_tree s.pointers i))
+      (FilledListRests set (seen_type element) tree.Null (nth_tree s.pointers i))
   list-in set element same e =
       let part = list-stands (field_set f) (default_of (typed_of f).field) (pointer_in f s) stands-there (seen_type element) (typed_of f).type (ap seen_variant (sym e) ∙ h) in
       subst (λ (z : Schemas). IsPart f s (entered_list z (seen_type element) (wire.or_default tree.Null (nth_tree s.pointers i))) (list_due z (seen_type element) tree.Null (nth_tree s.pointers i))
-      (ListRests z (seen_type element) tree.Null (nth_tree s.pointers i))) (sym same)
+      (FilledListRests z (seen_type element) tree.Null (nth_tree s.pointers i))) (sym same)
       (subst (λ j. IsPart f s (entered_list (field_set f) (seen_type element) (wire.or_default tree.Null (nth_tree s.pointers j))) (list_due (field_set f) (seen_type element) tree.Null (nth_tree s.pointers j))
-      (ListRests (field_set f) (seen_type element) tree.Null (nth_tree s.pointers j))) (sym at)
+      (FilledListRests (field_set f) (seen_type element) tree.Null (nth_tree s.pointers j))) (sym at)
       (record { filled = part.filled; due = part.due; rests = part.rests }))

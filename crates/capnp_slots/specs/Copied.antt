@@ -16,7 +16,7 @@ use Rattle.capnp_base.specs.Text.{text_tree}
 use Rattle.capnp_records.specs.GroupCopy.{pointer_copy, slot_copy}
 use Rattle.capnp_records.specs.Record.{Levels, Left, Value}
 use Rattle.capnp_records.specs.Writes.Slots.{Content, At}
-use Rattle.capnp_records.specs.Writes.TreeCopy.{copied_content, default_tree, read_tree}
+use Rattle.capnp_records.specs.Writes.TreeCopy.{copied_content, slot_default_tree, read_tree}
 use Rattle.capnp_records.specs.Writes.TreeEnds.{offset_of}
 use Rattle.capnp_slots.specs.Fields.{Keeps, field_set, names_of, slot_with}
 use Rattle.capnp_slots.specs.Sources.{IsTaken}
@@ -46,7 +46,7 @@ empty_tree t = Null
 
 -- the default of a field as a tree
 abbrev pub default_in : Field → Tree
-default_in f = default_tree (default_of (typed_of f).field) (typed_of f).type
+default_in f = slot_default_tree (default_of (typed_of f).field) (typed_of f).type
 
 -- a slot was copied: it took what is given, which stands there now, and the rest is kept
 pub record IsCopied (f : Field) (given : Given) (c : Content) (old new : StructTree) : Type 0 where

@@ -10,14 +10,14 @@ use Rattle.capnp_schema.specs.Schema.{Schemas}
 use Rattle.capnp_schema.specs.Types.{SchemaType, VoidType, TextType, DataType, ListType, AnyPointerType}
 use Rattle.capnp_records.specs.Call.{Source, TextSource, DataSource, StructSource, ListSource}
 use Rattle.capnp_records.specs.Given.{Given, Gives, Copies, CopiesGroup, Fails, given_element}
-use Rattle.capnp_records.specs.Writes.ElementEnds.{HasRoom, element_source_tree, element_written}
-use Rattle.capnp_records.specs.Writes.Overlay.{stored}
+use Rattle.capnp_records.specs.Writes.ElementEnds.{HasElementThere, element_source_tree, element_written}
+use Rattle.capnp_records.specs.Writes.Overlay.{stored_number}
 use Rattle.capnp_records.specs.Writes.Slots.{Content, Bits, At}
 use Rattle.capnp_slots.specs.Sources.{IsTaken, source_copied, source_past}
 
 -- what a set writes into an element
 abbrev pub element_given : SchemaType → Source → Given → Content
-element_given t s (Gives v) = Bits (stored t v)
+element_given t s (Gives v) = Bits (stored_number t v)
 element_given t s (Copies source past v) = At (element_source_tree s)
 element_given t s (CopiesGroup l x b) = Bits 0
 element_given t s (Fails kind) = Bits 0
@@ -45,7 +45,7 @@ IsBlobOrList s = ⊥
 
 -- an element is written through its pointer
 pub record IsPointerElement (t : SchemaType) : Type 0 where
-  pub room : (x : Tree) (j : ℕ) → HasRoom t x j → HasPointer x j
+  pub room : (x : Tree) (j : ℕ) → HasElementThere t x j → HasPointer x j
   pub writes : (x : Tree) (j : ℕ) (y : Tree) → element_written t x j (At y) ≡ with_pointer_element j y x
 
 -- an element takes a source as a copy behind its pointer, or, of a void one, nothing of it

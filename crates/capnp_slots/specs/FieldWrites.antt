@@ -15,12 +15,12 @@ use Rattle.capnp_slots.specs.Primitives.{given_to}
 use Rattle.capnp_slots.specs.Sources.{IsSet, IsSetRefusal}
 
 -- a field cleared: a group with all that is in it, or a slot; and the union switched to it
-abbrev pub cleared_kind : (group : Bool) → Field → StructTree → StructTree
-cleared_kind true f s = group_without f s
-cleared_kind false f s = slot_with f (cleared_content (typed_of f).type) s
+abbrev pub cleared_field_kind : (group : Bool) → Field → StructTree → StructTree
+cleared_field_kind true f s = group_without f s
+cleared_field_kind false f s = slot_with f (cleared_content (typed_of f).type) s
 
 abbrev pub field_cleared : Field → StructTree → StructTree
-field_cleared f s = cleared_kind (is_group_field (typed_of f).field.kind) f s
+field_cleared f s = cleared_field_kind (is_group_field (typed_of f).field.kind) f s
 
 -- a set of a slot, and the kind of its refusal: it took what is given, or was refused and the struct is as it was
 abbrev pub SlotIsSet : Field → Source → StructTree → Option ErrorKind → StructTree → Type 0

@@ -4,7 +4,7 @@ use Rattle.capnp_wire.specs.Tree.{StructTree, Tree, tree_count}
 use Rattle.capnp_wire.specs.Place.{struct_tree}
 use Rattle.capnp_wire.specs.Edits.{with_pointer_tree}
 use Rattle.capnp_wire.specs.WellFormed.{IsWellFormed}
-use Rattle.capnp_schema.specs.FieldLists.{schema_of, typed_of}
+use Rattle.capnp_schema.specs.FieldLists.{field_schema, typed_of}
 use Rattle.capnp_schema.specs.Footprint.{Spot, discriminant_names}
 use Rattle.capnp_schema.specs.Plan.{IsSlotPlace, PlanFits}
 use Rattle.capnp_schema.specs.Schema.{Schemas, default_of, is_member}
@@ -17,17 +17,17 @@ use Rattle.capnp_schema.specs.declared.schema.fields.Field.{Field}
 use Rattle.capnp_records.specs.Facts.Numbers.{IsStored}
 use Rattle.capnp_records.specs.Record.{Value}
 use Rattle.capnp_records.specs.Step.{is_group_field}
-use Rattle.capnp_records.specs.Writes.Overlay.{cleared_content, field_names, stored, switched}
+use Rattle.capnp_records.specs.Writes.Overlay.{cleared_content, field_spots, stored_number, switched_struct}
 use Rattle.capnp_records.specs.Writes.Slots.{Content, Bits, At, Fits, Suits, Writes}
 use Rattle.capnp_records.specs.Writes.TreeEnds.{offset_of, slot_written}
 use Rattle.capnp_slots.specs.Planned.{HoldsNumber, member_switched, place_bits, place_cleared, place_mask, plan_written}
 
 -- the set and the brand that a field is of
 abbrev pub field_set : Field → Schemas
-field_set f = set_of (schema_of f)
+field_set f = set_of (field_schema f)
 
 abbrev pub field_brand : Field → ℕ
-field_brand f = number_of (schema_of f)
+field_brand f = number_of (field_schema f)
 
 -- a struct has at least the sections of the field's schema
 abbrev pub IsRoomFor : Field → StructTree → Type 0
@@ -39,15 +39,15 @@ IsSlot f = is_group_field (typed_of f).field.kind ≡ false
 
 -- the union switched to the field; a plain field changes nothing
 abbrev pub switched_to : Field → StructTree → StructTree
-switched_to f s = switched (struct_node (schema_of f)) (typed_of f).field s
+switched_to f s = switched_struct (struct_node (field_schema f)) (typed_of f).field s
 
 -- the field's slot with that in it, and the union switched to the field
 abbrev pub slot_with : Field → Content → StructTree → StructTree
 slot_with f c s = slot_written (field_set f) (field_brand f) (typed_of f) c s
 
 -- a slot whose values stand behind a pointer, and the number of the pointer
-abbrev pub IsPointer : Field → Type 0
-IsPointer f = is_pointer (typed_of f).type ≡ true
+abbrev pub IsPointerField : Field → Type 0
+IsPointerField f = is_pointer (typed_of f).type ≡ true
 
 abbrev pub pointer_index : Field → ℕ
 pointer_index f = offset_of (typed_of f).field.kind
@@ -56,11 +56,11 @@ pointer_index f = offset_of (typed_of f).field.kind
 
 -- the places of a member's discriminant, of a plain field none
 abbrev pub switch_names : Field → Spot → Bool
-switch_names f p = is_member (typed_of f).field && discriminant_names (struct_node (schema_of f)) p
+switch_names f p = is_member (typed_of f).field && discriminant_names (struct_node (field_schema f)) p
 
 -- the places of the field's slot or group, and of a member's discriminant
 abbrev pub names_of : Field → Spot → Bool
-names_of f = field_names (field_set f) (field_brand f) (typed_of f)
+names_of f = field_spots (field_set f) (field_brand f) (typed_of f)
 
 -- one struct became another: it is of the same size, the same but for these places, and well-formed where it was
 pub record Keeps (inside : Spot → Bool) (s s' : StructTree) : Type 0 where
@@ -86,10 +86,10 @@ pub record IsSlotPlan (f : Field) (plan : SlotPlan) : Type 0 where
   pub fits : (s : StructTree) → IsRoomFor f s → PlanFits plan s
   pub writes : (c : Content) (s : StructTree) → Suits (typed_of f).type c → plan_written plan c s ≡ slot_with f c s
   pub clears : (s : StructTree) → plan_written plan (place_cleared plan.place) s ≡ plan_written plan (cleared_content (typed_of f).type) s
-  pub holds : (v : Value) → IsStored (typed_of f).type v → HoldsNumber plan.place (stored (typed_of f).type v)
+  pub holds : (v : Value) → IsStored (typed_of f).type v → HoldsNumber plan.place (stored_number (typed_of f).type v)
   pub stores : (n : ℕ) (s : StructTree) → plan_written plan (Bits (bit_xor n (place_mask plan.place))) s ≡ plan_written plan (Bits (bit_xor n (default_bits (default_of (typed_of f).field)))) s
   pub loads : (bytes : List ℕ) → is_pointer (typed_of f).type ≡ false → place_bits plan.place bytes ≡ bits_at bytes (pointer_index f * width (typed_of f).type) (width (typed_of f).type)
-  pub pointer : IsPointer f → plan.place ≡ place.Pointer (pointer_index f)
+  pub pointer : IsPointerField f → plan.place ≡ place.Pointer (pointer_index f)
   pub small : default_bits (default_of (typed_of f).field) < 2 ^ width (typed_of f).type
   pub keeps : (c : Content) (s : StructTree) → IsRoomFor f s → Suits (typed_of f).type c → IsFormed c → Keeps (names_of f) s (slot_with f c s)
 

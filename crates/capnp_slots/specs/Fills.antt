@@ -10,14 +10,14 @@ use Rattle.capnp_wire.specs.Defaults.{default_tree as reader_tree, or_default as
 use Rattle.capnp_wire.specs.declared.pointer_reader.PointerReader.{PointerReader}
 use Rattle.capnp_wire.specs.Edits.{IsDueRefusal, struct_refusal, with_pointer_tree}
 use Rattle.capnp_wire.specs.StructLists.{HoldsStructs, struct_list_refusal}
-use Rattle.capnp_schema.specs.Defaults.{DefaultFits, default_tree}
+use Rattle.capnp_schema.specs.Defaults.{DefaultFits, value_default_tree}
 use Rattle.capnp_schema.specs.FieldLists.{typed_of}
 use Rattle.capnp_schema.specs.Schema.{Schemas, VoidValue, TextValue, DataValue, Value, default_of}
 use Rattle.capnp_schema.specs.Types.{SchemaType, TextType, DataType, StructType, ListType, AnyPointerType, element_size}
 use Rattle.capnp_schema.specs.declared.schema.fields.Field.{Field}
 use Rattle.capnp_records.specs.Given.{data_tree}
 use Rattle.capnp_base.specs.Text.{text_tree}
-use Rattle.capnp_records.specs.Writes.Fill.{IsAtRest, entered_list, filled_list, filled_struct, or_default}
+use Rattle.capnp_records.specs.Writes.Fill.{IsAtRest, entered_list, filled_list, filled_slot_struct, list_or_default}
 use Rattle.capnp_schema.specs.Plan.{brand_size}
 use Rattle.capnp_records.specs.Writes.TreeCopy.{or_else}
 use Rattle.capnp_slots.specs.Fields.{field_set, pointer_index}
@@ -25,7 +25,7 @@ use Rattle.capnp_slots.specs.Fields.{field_set, pointer_index}
 -- a struct is its default's where it is null, with at least its schema's sections; a list its default where it is null, and
 -- structs have at least their schema's sections; a text and data are a default of their own kind where they are null
 abbrev pub filled_tree : Schemas → Value → SchemaType → Tree → Tree
-filled_tree set d (StructType b g) x = struct_tree (filled_struct set b d x)
+filled_tree set d (StructType b g) x = struct_tree (filled_slot_struct set b d x)
 filled_tree set d (ListType e) x = filled_list set e d x
 filled_tree set (TextValue bytes) TextType x = or_else x (text_tree bytes)
 filled_tree set (DataValue bytes) DataType x = or_else x (data_tree bytes)
@@ -34,7 +34,7 @@ filled_tree set d t x = x
 -- what stands there is not read as the type, or as structs would be past the format
 abbrev pub fill_due : Schemas → Value → SchemaType → Tree → Option ErrorKind
 fill_due set d (StructType b g) x = struct_refusal x
-fill_due set d (ListType (StructType b g)) x = struct_list_refusal (brand_size set b) (or_default d x)
+fill_due set d (ListType (StructType b g)) x = struct_list_refusal (brand_size set b) (list_or_default d x)
 fill_due set d (ListType e) x = list_refusal (element_size e) x
 fill_due set d TextType x = error_of (as_text x)
 fill_due set d DataType x = error_of (as_data x)
@@ -59,7 +59,7 @@ RestsIn f s = IsAtRest (field_set f) (default_of (typed_of f).field) (typed_of f
 
 -- the pointer of a field's default has the default's tree, which fits the field
 pub record IsDefaultPointer (f : Field) (r : Option PointerReader) : Type 0 where
-  pub tree : reader_tree r ≡ default_tree (default_of (typed_of f).field)
+  pub tree : reader_tree r ≡ value_default_tree (default_of (typed_of f).field)
   pub fits : DefaultFits (typed_of f)
 
 -- ---- lists, by the tree of a default ----
@@ -69,16 +69,16 @@ abbrev pub list_due : Schemas → SchemaType → Tree → Tree → Option ErrorK
 list_due set (StructType b g) D x = filled_structs_refusal D (brand_size set b) x
 list_due set e D x = filled_list_refusal D (element_size e) x
 
-abbrev pub ListRests : Schemas → SchemaType → Tree → Tree → Type 0
-ListRests set (StructType b g) D x = (takes_default D x ≡ false) × HoldsStructs (brand_size set b) x
-ListRests set e D x = (takes_default D x ≡ false) × (filled_list_refusal D (element_size e) x ≡ None)
+abbrev pub FilledListRests : Schemas → SchemaType → Tree → Tree → Type 0
+FilledListRests set (StructType b g) D x = (takes_default D x ≡ false) × HoldsStructs (brand_size set b) x
+FilledListRests set e D x = (takes_default D x ≡ false) × (filled_list_refusal D (element_size e) x ≡ None)
 
 -- ---- texts and data ----
 
 -- what is read as a text, or else as data, and what is left there of a default of bytes
-abbrev pub as_blob : Bool → Tree → Result (List ℕ) ErrorKind
-as_blob true x = as_text x
-as_blob false x = as_data x
+abbrev pub filled_blob : Bool → Tree → Result (List ℕ) ErrorKind
+filled_blob true x = as_text x
+filled_blob false x = as_data x
 
 abbrev pub blob_filled : Value → Tree → Tree
 blob_filled (TextValue bytes) x = or_else x (text_tree bytes)
@@ -110,7 +110,7 @@ abbrev pub IsSlotFilled : Field → StructTree → ℕ → Result ⊤ Error → 
 IsSlotFilled f s i r s' = IsFilled (filled_in f s) (due_in f s) (RestsIn f s) s i r s'
 
 abbrev pub IsListFilled : Schemas → SchemaType → Tree → StructTree → ℕ → Result ⊤ Error → StructTree → Type 0
-IsListFilled set e D s i r s' = IsFilled (entered_list set e (tree_or_default D (tree_there s i))) (list_due set e D (tree_there s i)) (ListRests set e D (tree_there s i)) s i r s'
+IsListFilled set e D s i r s' = IsFilled (entered_list set e (tree_or_default D (tree_there s i))) (list_due set e D (tree_there s i)) (FilledListRests set e D (tree_there s i)) s i r s'
 
 -- ---- elements of a list ----
 

@@ -9,14 +9,14 @@ use Rattle.capnp_schema.specs.declared.schema.fields.Field.{Field}
 use Rattle.capnp_slots.specs.Fields.{IsSlot, field_brand, field_set}
 use Rattle.capnp_slots.specs.Groups.{clear_by}
 
-abbrev pub unless_member : Bool → ℕ → Option ℕ
-unless_member true i = None
-unless_member false i = Some i
+abbrev pub unless_member_place : Bool → ℕ → Option ℕ
+unless_member_place true i = None
+unless_member_place false i = Some i
 
 -- the field that is cleared at a place
-unfoldable pub cleared_at : Schemas → ℕ → (place : ℕ) → Option ℕ
-cleared_at set b zero = member_of (records_of set b) 0
-cleared_at set b (suc i) = unless_member (is_member (field_at set b i).field) i
+unfoldable pub field_cleared_at : Schemas → ℕ → (place : ℕ) → Option ℕ
+field_cleared_at set b zero = member_of (records_of set b) 0
+field_cleared_at set b (suc i) = unless_member_place (is_member (field_at set b i).field) i
 
 abbrev pub place_behind : Bool → ℕ → ℕ
 place_behind true i = 1

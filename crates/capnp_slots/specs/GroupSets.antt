@@ -5,7 +5,7 @@ use Rattle.capnp_wire.specs.Standing.{struct_levels, struct_of}
 use Rattle.capnp_wire.specs.Tree.{StructTree}
 use Rattle.capnp_wire.specs.declared.struct_reader.StructReader.{StructReader}
 use Rattle.capnp_schema.specs.FieldLists.{typed_of}
-use Rattle.capnp_schema.specs.Query.{keep_index, plain_fields, records_of}
+use Rattle.capnp_schema.specs.Query.{keep_index, non_union_fields, records_of}
 use Rattle.capnp_schema.specs.Schema.{Schemas, TypedField, field_at}
 use Rattle.capnp_schema.specs.StructHandles.{number_of, set_of}
 use Rattle.capnp_schema.specs.declared.schema.fields.Field.{Field}
@@ -17,7 +17,7 @@ use Rattle.capnp_records.specs.Reading.{part_of, struct_record, values_of}
 use Rattle.capnp_records.specs.Record.{Left, Levels, is_there}
 use Rattle.capnp_records.specs.Writes.TreeCopy.{TreeCopiesFields, TreeCopiesWithin}
 use Rattle.capnp_slots.specs.Fields.{field_set, switched_to}
-use Rattle.capnp_slots.specs.GroupClears.{cleared_at}
+use Rattle.capnp_slots.specs.GroupClears.{field_cleared_at}
 
 -- ---- what the source has ----
 
@@ -43,8 +43,8 @@ kept_indices passes (i ∷ is) = keep_index (passes i) i (kept_indices passes is
 abbrev pub is_index_there : Schemas → Levels → StructTree → ℕ → ℕ → Bool
 is_index_there set l x b i = is_part_there set l x (field_at set b i)
 
-abbrev pub plain_in : Schemas → Levels → StructTree → ℕ → List ℕ
-plain_in set l x b = kept_indices (is_index_there set l x b) (plain_fields (records_of set b))
+abbrev pub non_union_in : Schemas → Levels → StructTree → ℕ → List ℕ
+non_union_in set l x b = kept_indices (is_index_there set l x b) (non_union_fields (records_of set b))
 
 -- what passes of a field, where there is one
 abbrev pub if_passes : (ℕ → Bool) → Option ℕ → Option ℕ
@@ -54,7 +54,7 @@ if_passes passes (Some i) = cond (passes i) (Some i) None
 -- the field that is copied at a place: at 0 the active member, and at i + 1 field i, where that is plain and there
 unfoldable pub copied_at : Schemas → Levels → StructTree → ℕ → (place : ℕ) → Option ℕ
 copied_at set l x b zero = active_in set l x b
-copied_at set l x b (suc i) = if_passes (is_index_there set l x b) (cleared_at set b (suc i))
+copied_at set l x b (suc i) = if_passes (is_index_there set l x b) (field_cleared_at set b (suc i))
 
 -- ---- field by field ----
 

@@ -12,7 +12,7 @@ use Rattle.capnp_records.specs.Call.{Source, VoidSource, BoolSource, IntSource, 
 use Rattle.capnp_records.specs.Given.{Given, Gives, Copies, CopiesGroup, Fails, given_slot}
 use Rattle.capnp_records.specs.Facts.Numbers.{IsStored}
 use Rattle.capnp_records.specs.Record.{Value}
-use Rattle.capnp_records.specs.Writes.Overlay.{number_content, stored}
+use Rattle.capnp_records.specs.Writes.Overlay.{number_content, stored_number}
 use Rattle.capnp_records.specs.Writes.Slots.{Content, Bits, At}
 use Rattle.capnp_records.specs.Writes.Contents.{source_tree}
 use Rattle.capnp_slots.specs.declared.primitive.Primitive.{Primitive}
@@ -49,7 +49,7 @@ set_content f s = given_content (default_of (typed_of f).field) (typed_of f).typ
 
 -- the number that a slot of a type stores of what is given at once, but for its default, or why it takes none
 abbrev pub GivesNumber : SchemaType → Given → Result ℕ Error → Type 0
-GivesNumber t (Gives v) (Ok n) = n ≡ stored t v
+GivesNumber t (Gives v) (Ok n) = n ≡ stored_number t v
 GivesNumber t (Gives v) (Err e) = ⊥
 GivesNumber t (Copies source past v) r = ⊥
 GivesNumber t (CopiesGroup l x b) r = ⊥
@@ -63,7 +63,7 @@ refusal_at t = TypeMismatch
 
 -- the same number, or none where the slot refuses the value with that
 abbrev pub GivesAtOnce : SchemaType → Given → Option ℕ → Type 0
-GivesAtOnce t (Gives v) (Some n) = n ≡ stored t v
+GivesAtOnce t (Gives v) (Some n) = n ≡ stored_number t v
 GivesAtOnce t (Gives v) None = ⊥
 GivesAtOnce t (Copies source past v) r = ⊥
 GivesAtOnce t (CopiesGroup l x b) r = ⊥
@@ -75,7 +75,7 @@ pub record IsGivenAs (set : Schemas) (t : SchemaType) (s : Source) (n : ℕ) : T
   pub value : Value
   pub given : given_slot set t s ≡ Gives value
   pub is_stored : IsStored t value
-  pub number : n ≡ stored t value
+  pub number : n ≡ stored_number t value
 
 -- a value is given at once
 abbrev pub IsGiven : Given → Type 0

@@ -46,14 +46,14 @@ abbrev pub NumberIsGot : Field → Source → Type 0
 NumberIsGot f s = (old new : StructTree) → IsSlot f → IsRoomFor f old → IsSet f s old new → (v : Value) → given_to f s ≡ Gives v → (l : Levels) → got_in f l new ≡ v
 
 -- what a value is that has no parts of its own: a truth value, a number, an enum's number, a text or data
-abbrev pub IsWhole : Source → Type 0
-IsWhole (BoolSource b) = ⊤
-IsWhole (IntSource bytes x) = ⊤
-IsWhole (UIntSource bytes n) = ⊤
-IsWhole (EnumSource n) = ⊤
-IsWhole (TextSource bytes) = ⊤
-IsWhole (DataSource bytes) = ⊤
-IsWhole s = ⊥
+abbrev pub IsWithoutParts : Source → Type 0
+IsWithoutParts (BoolSource b) = ⊤
+IsWithoutParts (IntSource bytes x) = ⊤
+IsWithoutParts (UIntSource bytes n) = ⊤
+IsWithoutParts (EnumSource n) = ⊤
+IsWithoutParts (TextSource bytes) = ⊤
+IsWithoutParts (DataSource bytes) = ⊤
+IsWithoutParts s = ⊥
 
 abbrev pub whole_value : Source → Value
 whole_value (BoolSource b) = value.Truth b
@@ -72,7 +72,7 @@ HasKind t = ⊤
 
 -- such a value that was set into a slot of such a type is read
 abbrev pub WholeIsGot : Field → Source → Type 0
-WholeIsGot f s = (old new : StructTree) → IsSlot f → IsRoomFor f old → IsSet f s old new → IsWhole s → HasKind (typed_of f).type → (l : Levels) → got_in f l new ≡ whole_value s
+WholeIsGot f s = (old new : StructTree) → IsSlot f → IsRoomFor f old → IsSet f s old new → IsWithoutParts s → HasKind (typed_of f).type → (l : Levels) → got_in f l new ≡ whole_value s
 
 -- what is copied is read as the slot's type reads it
 abbrev pub CopyIsGot : Field → Source → Type 0
@@ -123,7 +123,7 @@ CopyIsActive f = (old new : StructTree) → IsGroup f → IsRoomFor f old → (m
 -- ---- other fields ----
 
 -- two fields of one struct or group, of which one is no member
-pub record AreApart (f g : Field) : Type 0 where
+pub record AreFieldsApart (f g : Field) : Type 0 where
   pub set : field_set g ≡ field_set f
   pub brand : field_brand g ≡ field_brand f
   pub differ : index_of f ≢ index_of g
@@ -131,12 +131,12 @@ pub record AreApart (f g : Field) : Type 0 where
 
 -- a write of one changes nothing of what the other is read as
 abbrev pub OtherIsGot : (f g : Field) → Type 0
-OtherIsGot f g = AreApart f g → (s s' : StructTree) → Keeps (names_of f) s s' → (l : Levels) → got_in g l s' ≡ got_in g l s
+OtherIsGot f g = AreFieldsApart f g → (s s' : StructTree) → Keeps (names_of f) s s' → (l : Levels) → got_in g l s' ≡ got_in g l s
 
 -- nor of whether it is there
 abbrev pub OtherIsThere : (f g : Field) → Type 0
-OtherIsThere f g = AreApart f g → (s s' : StructTree) → Keeps (names_of f) s s' → (l : Levels) → is_there_in g l s' ≡ is_there_in g l s
+OtherIsThere f g = AreFieldsApart f g → (s s' : StructTree) → Keeps (names_of f) s s' → (l : Levels) → is_there_in g l s' ≡ is_there_in g l s
 
 -- a write of a plain field leaves the active member
-abbrev pub PlainStays : Field → Type 0
-PlainStays f = is_member (typed_of f).field ≡ false → (s s' : StructTree) → Keeps (names_of f) s s' → (l : Levels) → member_in f l s' ≡ member_in f l s
+abbrev pub NonUnionStays : Field → Type 0
+NonUnionStays f = is_member (typed_of f).field ≡ false → (s s' : StructTree) → Keeps (names_of f) s s' → (l : Levels) → member_in f l s' ≡ member_in f l s

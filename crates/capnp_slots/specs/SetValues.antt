@@ -4,7 +4,7 @@ use Rattle.capnp_base.specs.AnyPointer.{pointer_of}
 use Rattle.capnp_schema.specs.StructHandles.{number_of}
 use Rattle.capnp_records.specs.Call.{Source, VoidSource, BoolSource, IntSource, UIntSource, EnumSource, TextSource, DataSource, StructSource, ListSource, AnyPointerSource}
 use Rattle.capnp_records.specs.Record.{Left}
-use Rattle.capnp_dynamic_readers.specs.Handles.{element_of, list_reader_of, number_in, reader_of, schema_of}
+use Rattle.capnp_dynamic_readers.specs.Handles.{element_of, list_reader_of, enum_value_number, reader_of, schema_of}
 use Rattle.capnp_dynamic_readers.specs.declared.dynamic_value.Reader.{Reader as DynamicValue}
 use Rattle.capnp_dynamic_readers.specs.declared.dynamic_value.Reader.TheVariants as dynamic
 
@@ -19,7 +19,7 @@ source_of (dynamic.UInt8 n) = UIntSource 1 n
 source_of (dynamic.UInt16 n) = UIntSource 2 n
 source_of (dynamic.UInt32 n) = UIntSource 4 n
 source_of (dynamic.UInt64 n) = UIntSource 8 n
-source_of (dynamic.Enum e) = EnumSource (number_in e)
+source_of (dynamic.Enum e) = EnumSource (enum_value_number e)
 source_of (dynamic.Text t) = TextSource t.0.now
 source_of (dynamic.«Data» bytes) = DataSource bytes.now
 source_of (dynamic.Struct s) = StructSource (Left (struct_levels (reader_of s))) (struct_of (reader_of s)) (number_of (schema_of s))

@@ -3,7 +3,7 @@ ghost use Rattle.std.specs.Prelude.{false, true, None, ◌≡◌, ◌≢◌, IfE
 ghost use Rattle.capnp_device.specs.declared.error.ErrorKind.TheVariants.{OutOfMemory};
 ghost use Rattle.capnp_wire.specs.Edits.{IsCopyRefusal};
 ghost use Rattle.capnp_arena.specs.Segment.{segment};
-ghost use Rattle.capnp_arena.specs.Built.{ChangesIn, IsBuilt, built};
+ghost use Rattle.capnp_arena.specs.Built.{ChangesIn, IsBuilt, built_at};
 ghost use Rattle.capnp_wire.specs.Standing.{levels_of, struct_levels, struct_of, tree_of};
 ghost use Rattle.capnp_wire.specs.Words.{first_fault};
 ghost use Rattle.capnp_schema.specs.Defaults.{DefaultFits};
@@ -12,7 +12,7 @@ ghost use Rattle.capnp_schema.specs.Types.{AnyPointerType, is_pointer, seen_vari
 ghost use Rattle.capnp_records.specs.Record.{Left};
 ghost use Rattle.capnp_records.specs.Writes.Slots.{At};
 ghost use Rattle.capnp_slots.specs.Copied.{IsCopied, IsCopiedFrom, IsGivenCopy, copy_given, default_in, empty_tree, pointer_content, pointer_given, read_due, refusal_of};
-ghost use Rattle.capnp_slots.specs.Fields.{IsPointer, IsRoomFor, IsSlot, Keeps, names_of, pointer_index, slot_with};
+ghost use Rattle.capnp_slots.specs.Fields.{IsPointerField, IsRoomFor, IsSlot, Keeps, names_of, pointer_index, slot_with};
 ghost use Rattle.capnp_records.specs.Writes.TreeCopy.{or_else};
 ghost use Rattle.capnp_slots.specs.Sources.{IsSetRefusal};
 
@@ -74,13 +74,13 @@ fn put(
 ) -> Result<()>
     requires planted { IsBuilt arena.old place }
     requires slot { IsSlot field }
-    requires pointer { IsPointer field }
-    requires room { IsRoomFor field (built arena.old place) }
+    requires pointer { IsPointerField field }
+    requires room { IsRoomFor field (built_at arena.old place) }
     ensures planted { OnOk result (IsBuilt arena.new place) }
     ensures changes { OnOk result (ChangesIn place arena.old arena.new) }
-    ensures written { OnOk result (built arena.new place
-        ≡ slot_with field.entry (At (tree_of pointer.entry)) (built arena.old place)) }
-    ensures kept { OnOk result (Keeps (names_of field.entry) (built arena.old place) (built arena.new place)) }
+    ensures written { OnOk result (built_at arena.new place
+        ≡ slot_with field.entry (At (tree_of pointer.entry)) (built_at arena.old place)) }
+    ensures kept { OnOk result (Keeps (names_of field.entry) (built_at arena.old place) (built_at arena.new place)) }
     ensures sound { OnOk result (first_fault (tree_of pointer.entry) ≡ None) }
     ensures refused { OnErr result (segment arena.new ≡ segment arena.old) }
     ensures cause { IfErr result (λ e. IsCopyRefusal e (first_fault (tree_of pointer.entry))) }
@@ -93,14 +93,14 @@ fn put(
 fn put_empty(arena: &mut Arena, place: StructPlace, field: Field<'_>) -> Result<()>
     requires planted { IsBuilt arena.old place }
     requires slot { IsSlot field }
-    requires pointer { IsPointer field }
-    requires room { IsRoomFor field (built arena.old place) }
+    requires pointer { IsPointerField field }
+    requires room { IsRoomFor field (built_at arena.old place) }
     requires typed { AnyPointerType ≢ (typed_of field).type }
     ensures planted { OnOk result (IsBuilt arena.new place) }
     ensures changes { OnOk result (ChangesIn place arena.old arena.new) }
-    ensures written { OnOk result (built arena.new place
-        ≡ slot_with field.entry (At (empty_tree (typed_of field.entry).type)) (built arena.old place)) }
-    ensures kept { OnOk result (Keeps (names_of field.entry) (built arena.old place) (built arena.new place)) }
+    ensures written { OnOk result (built_at arena.new place
+        ≡ slot_with field.entry (At (empty_tree (typed_of field.entry).type)) (built_at arena.old place)) }
+    ensures kept { OnOk result (Keeps (names_of field.entry) (built_at arena.old place) (built_at arena.new place)) }
     ensures refused { OnErr result (segment arena.new ≡ segment arena.old) }
     ensures cause { IfErr result (λ e. e.kind ≡ OutOfMemory) }
 {
@@ -120,16 +120,16 @@ fn put_words(
 ) -> Result<()>
     requires planted { IsBuilt arena.old place }
     requires slot { IsSlot field }
-    requires pointer { IsPointer field }
-    requires room { IsRoomFor field (built arena.old place) }
+    requires pointer { IsPointerField field }
+    requires room { IsRoomFor field (built_at arena.old place) }
     requires typed { AnyPointerType ≢ (typed_of field).type }
     requires sound { first_fault (tree_of pointer) ≡ None }
     ensures planted { OnOk result (IsBuilt arena.new place) }
     ensures changes { OnOk result (ChangesIn place arena.old arena.new) }
-    ensures written { OnOk result (built arena.new place
+    ensures written { OnOk result (built_at arena.new place
         ≡ slot_with field.entry (At (or_else (tree_of pointer.entry) (empty_tree (typed_of field.entry).type)))
-        (built arena.old place)) }
-    ensures kept { OnOk result (Keeps (names_of field.entry) (built arena.old place) (built arena.new place)) }
+        (built_at arena.old place)) }
+    ensures kept { OnOk result (Keeps (names_of field.entry) (built_at arena.old place) (built_at arena.new place)) }
     ensures refused { OnErr result (segment arena.new ≡ segment arena.old) }
     ensures cause { IfErr result (λ e. e.kind ≡ OutOfMemory) }
 {
@@ -144,14 +144,14 @@ fn put_words(
 fn put_default(arena: &mut Arena, place: StructPlace, field: Field<'_>) -> Result<()>
     requires planted { IsBuilt arena.old place }
     requires slot { IsSlot field }
-    requires pointer { IsPointer field }
-    requires room { IsRoomFor field (built arena.old place) }
+    requires pointer { IsPointerField field }
+    requires room { IsRoomFor field (built_at arena.old place) }
     requires typed { AnyPointerType ≢ (typed_of field).type }
     ensures planted { OnOk result (IsBuilt arena.new place) }
     ensures changes { OnOk result (ChangesIn place arena.old arena.new) }
-    ensures written { OnOk result (built arena.new place
-        ≡ slot_with field.entry (At (default_in field.entry)) (built arena.old place)) }
-    ensures kept { OnOk result (Keeps (names_of field.entry) (built arena.old place) (built arena.new place)) }
+    ensures written { OnOk result (built_at arena.new place
+        ≡ slot_with field.entry (At (default_in field.entry)) (built_at arena.old place)) }
+    ensures kept { OnOk result (Keeps (names_of field.entry) (built_at arena.old place) (built_at arena.new place)) }
     ensures refused { OnErr result (segment arena.new ≡ segment arena.old) }
     ensures cause { IfErr result (λ e. e.kind ≡ OutOfMemory) }
 {
@@ -178,7 +178,7 @@ fn default_fits(field: Field<'_>)
 /// Refuses a pointer that is not copied into a slot, whatever it leads to.
 fn check_copy(field: Field<'_>, pointer: &PointerReader<'_>) -> Result<()>
     requires slot { IsSlot field }
-    requires pointer { IsPointer field }
+    requires pointer { IsPointerField field }
     ensures given { OnOk result (IsGivenCopy field.entry (levels_of pointer.now) (tree_of pointer.now)) }
     ensures cause { IfErr result (λ e. IsSetRefusal
         (pointer_given field.entry (levels_of pointer.now) (tree_of pointer.now)) e.kind) }
@@ -196,13 +196,13 @@ fn copy_pointer(
 ) -> Result<()>
     requires planted { IsBuilt arena.old place }
     requires slot { IsSlot field }
-    requires pointer { IsPointer field }
-    requires room { IsRoomFor field (built arena.old place) }
+    requires pointer { IsPointerField field }
+    requires room { IsRoomFor field (built_at arena.old place) }
     ensures planted { OnOk result (IsBuilt arena.new place) }
     ensures changes { OnOk result (ChangesIn place arena.old arena.new) }
     ensures copied { OnOk result (IsCopied field.entry
         (pointer_given field.entry (levels_of pointer.entry) (tree_of pointer.entry))
-        (pointer_content field.entry (tree_of pointer.entry)) (built arena.old place) (built arena.new place)) }
+        (pointer_content field.entry (tree_of pointer.entry)) (built_at arena.old place) (built_at arena.new place)) }
     ensures refused { OnErr result (segment arena.new ≡ segment arena.old) }
     ensures cause { IfErr result (λ e. IsSetRefusal
         (pointer_given field.entry (levels_of pointer.entry) (tree_of pointer.entry)) e.kind) }
@@ -225,14 +225,14 @@ fn copy_behind(
 ) -> Result<()>
     requires planted { IsBuilt arena.old place }
     requires slot { IsSlot field }
-    requires pointer { IsPointer field }
+    requires pointer { IsPointerField field }
     requires is { index ≡ pointer_index field }
-    requires room { IsRoomFor field (built arena.old place) }
+    requires room { IsRoomFor field (built_at arena.old place) }
     ensures planted { OnOk result (IsBuilt arena.new place) }
     ensures changes { OnOk result (ChangesIn place arena.old arena.new) }
     ensures copied { OnOk result (IsCopiedFrom field.entry (struct_levels source.now) (struct_of source.now)
-        (built arena.old place)
-        (built arena.new place)) }
+        (built_at arena.old place)
+        (built_at arena.new place)) }
     ensures refused { OnErr result (segment arena.new ≡ segment arena.old) }
     ensures cause { IfErr result (λ e. IsSetRefusal
         (copy_given field.entry (Left (struct_levels source.now)) (struct_of source.now)) e.kind) }
@@ -245,11 +245,11 @@ fn copy_number(arena: &mut Arena, place: StructPlace, field: Field<'_>, source: 
     requires planted { IsBuilt arena.old place }
     requires slot { IsSlot field }
     requires number { is_pointer (typed_of field).type ≡ false }
-    requires room { IsRoomFor field (built arena.old place) }
+    requires room { IsRoomFor field (built_at arena.old place) }
     ensures planted { IsBuilt arena.new place }
     ensures changes { ChangesIn place arena.old arena.new }
     ensures written { IsCopiedFrom field.entry (struct_levels source.now) (struct_of source.now)
-        (built arena.old place) (built arena.new place) }
+        (built_at arena.old place) (built_at arena.new place) }
 {
     copy_bits(arena, place, slot_plan(field), source);
 }
@@ -285,12 +285,12 @@ pub fn copy(
 ) -> Result<()>
     requires planted { IsBuilt arena.old place }
     requires slot { IsSlot field }
-    requires room { IsRoomFor field (built arena.old place) }
+    requires room { IsRoomFor field (built_at arena.old place) }
     ensures planted { OnOk result (IsBuilt arena.new place) }
     ensures changes { OnOk result (ChangesIn place arena.old arena.new) }
     ensures copied { OnOk result (IsCopiedFrom field.entry (struct_levels source.entry) (struct_of source.entry)
-        (built arena.old place)
-        (built arena.new place)) }
+        (built_at arena.old place)
+        (built_at arena.new place)) }
     ensures refused { OnErr result (segment arena.new ≡ segment arena.old) }
     ensures cause { IfErr result (λ e. IsSetRefusal
         (copy_given field.entry (Left (struct_levels source.entry)) (struct_of source.entry)) e.kind) }

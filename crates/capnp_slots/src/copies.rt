@@ -1,7 +1,7 @@
 //! Sources that are copied into a slot.
 ghost use Rattle.std.specs.Prelude.{ℕ, List, ◌≡◌, IfErr, IfOk, OnErr, OnOk};
 ghost use Rattle.capnp_arena.specs.Segment.{segment};
-ghost use Rattle.capnp_arena.specs.Built.{ChangesIn, IsBuilt, built};
+ghost use Rattle.capnp_arena.specs.Built.{ChangesIn, IsBuilt, built_at};
 ghost use Rattle.capnp_wire.specs.Tree.{StructTree, Tree};
 ghost use Rattle.capnp_schema.specs.Schema.{Schemas};
 ghost use Rattle.capnp_schema.specs.Types.{SchemaType, seen_variant};
@@ -10,7 +10,7 @@ ghost use Rattle.capnp_records.specs.Given.{Fails, given_slot};
 ghost use Rattle.capnp_records.specs.Record.{Levels};
 ghost use Rattle.capnp_records.specs.Writes.Contents.{source_tree};
 ghost use Rattle.capnp_records.specs.Writes.Slots.{At};
-ghost use Rattle.capnp_slots.specs.Fields.{IsPointer, IsRoomFor, IsSlot, Keeps, names_of, slot_with};
+ghost use Rattle.capnp_slots.specs.Fields.{IsPointerField, IsRoomFor, IsSlot, Keeps, names_of, slot_with};
 ghost use Rattle.capnp_slots.specs.Primitives.{given_to};
 ghost use Rattle.capnp_slots.specs.Sources.{GivesCopy, GivesUntyped, IsCopy, IsCopyDue, IsPointed, IsSoundCopy, TakesSource, source_seen};
 
@@ -127,14 +127,14 @@ pub(crate) fn copy_to(
 ) -> Result<()>
     requires planted { IsBuilt arena.old place }
     requires slot { IsSlot field }
-    requires pointer { IsPointer field }
-    requires room { IsRoomFor field (built arena.old place) }
+    requires pointer { IsPointerField field }
+    requires room { IsRoomFor field (built_at arena.old place) }
     requires copy { IsCopy (source_seen source) }
     ensures planted { OnOk result (IsBuilt arena.new place) }
     ensures changes { OnOk result (ChangesIn place arena.old arena.new) }
-    ensures written { OnOk result (built arena.new place
-        ≡ slot_with field.entry (At (source_tree (source_seen source.entry))) (built arena.old place)) }
-    ensures kept { OnOk result (Keeps (names_of field.entry) (built arena.old place) (built arena.new place)) }
+    ensures written { OnOk result (built_at arena.new place
+        ≡ slot_with field.entry (At (source_tree (source_seen source.entry))) (built_at arena.old place)) }
+    ensures kept { OnOk result (Keeps (names_of field.entry) (built_at arena.old place) (built_at arena.new place)) }
     ensures sound { OnOk result (IsSoundCopy (source_seen source.entry)) }
     ensures refused { OnErr result (segment arena.new ≡ segment arena.old) }
     ensures cause { IfErr result (λ e. IsCopyDue (source_seen source.entry) e.kind) }

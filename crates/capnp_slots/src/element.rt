@@ -3,7 +3,7 @@ ghost use Rattle.std.specs.Prelude.{None, true, ◌≡◌, ◌<◌, ◌^◌, IfE
 ghost use Rattle.capnp_arena.specs.Forest.{Changes, Forest, tree};
 ghost use Rattle.capnp_arena.specs.Segment.{segment};
 ghost use Rattle.capnp_wire.specs.WellFormed.{IsWellFormed};
-ghost use Rattle.capnp_wire.specs.Edits.{IsCopyRefusal, IsDueRefusal, fitted};
+ghost use Rattle.capnp_wire.specs.Edits.{IsCopyRefusal, IsDueRefusal, fitted_struct};
 ghost use Rattle.capnp_wire.specs.Elements.{HasPointer, HasStruct, with_pointer_element, with_struct_element};
 ghost use Rattle.capnp_wire.specs.Reading.{element_pointer, element_struct};
 ghost use Rattle.capnp_wire.specs.Standing.{struct_levels, struct_of};
@@ -16,7 +16,7 @@ ghost use Rattle.capnp_records.specs.Call.{StructSource};
 ghost use Rattle.capnp_records.specs.Record.{Left};
 ghost use Rattle.capnp_schema.specs.StructHandles.{number_of};
 ghost use Rattle.capnp_records.specs.Given.{Fails, given_element, given_slot};
-ghost use Rattle.capnp_records.specs.Writes.ElementEnds.{HasRoom, InitnContent, element_written, with_element_number};
+ghost use Rattle.capnp_records.specs.Writes.ElementEnds.{HasElementThere, InitnContent, element_written, with_element_number};
 ghost use Rattle.capnp_slots.specs.ElementSets.{IsBlobOrList, IsElementInitRefusal, IsElementSet, NoStruct, TakesInto};
 ghost use Rattle.capnp_slots.specs.Fills.{ElementRests, element_due, element_filled, fill_due, is_behind};
 ghost use Rattle.capnp_slots.specs.Primitives.{IsGivenAs, primitive_source};
@@ -44,7 +44,7 @@ use capnp_wire::error::{Error, ErrorKind, Result};
 /// Stores a number in an element of a type.
 fn store_element(arena: &mut Arena, at: usize, variant: TypeVariant, index: u32, number: u64)
     requires forest { Forest (segment arena.old) at }
-    requires room { HasRoom (seen_variant variant) (tree (segment arena.old) at) index }
+    requires room { HasElementThere (seen_variant variant) (tree (segment arena.old) at) index }
     requires fits { number < 2 ^ width (seen_variant variant) }
     ensures forest { Forest (segment arena.new) at }
     ensures changes { Changes at (segment arena.old) (segment arena.new) }
@@ -101,7 +101,7 @@ pub fn set_primitive(
     value: Primitive,
 ) -> Result<()>
     requires forest { Forest (segment arena.old) at }
-    requires room { HasRoom (seen_type element) (tree (segment arena.old) at) index }
+    requires room { HasElementThere (seen_type element) (tree (segment arena.old) at) index }
     ensures forest { OnOk result (Forest (segment arena.new) at) }
     ensures changes { OnOk result (Changes at (segment arena.old) (segment arena.new)) }
     ensures set { OnOk result (IsElementSet (lists_seen set.now) (seen_type element) (primitive_source value) index
@@ -141,7 +141,7 @@ fn copy_at(arena: &mut Arena, at: usize, index: u32, source: &StructReader<'_>) 
     ensures forest { OnOk result (Forest (segment arena.new) at) }
     ensures changes { OnOk result (Changes at (segment arena.old) (segment arena.new)) }
     ensures written { OnOk result (tree (segment arena.new) at
-        ≡ with_struct_element index (fitted (length (element_struct (tree (segment arena.old) at) index).bytes)
+        ≡ with_struct_element index (fitted_struct (length (element_struct (tree (segment arena.old) at) index).bytes)
         (tree_count (element_struct (tree (segment arena.old) at) index).pointers) (struct_of source.now))
         (tree (segment arena.old) at)) }
     ensures sound { OnOk result (first_fault_of_all (struct_of source.now).pointers ≡ None) }
@@ -191,7 +191,7 @@ fn set_pointed(
     source: Source<'_>,
 ) -> Result<()>
     requires forest { Forest (segment arena.old) at }
-    requires room { HasRoom (seen_type element) (tree (segment arena.old) at) index }
+    requires room { HasElementThere (seen_type element) (tree (segment arena.old) at) index }
     requires pointed { IsPointed (source_seen source) }
     requires no_struct { NoStruct (source_seen source) }
     ensures forest { OnOk result (Forest (segment arena.new) at) }
@@ -236,7 +236,7 @@ fn set_struct(
     schema: StructSchema<'_>,
 ) -> Result<()>
     requires forest { Forest (segment arena.old) at }
-    requires room { HasRoom (seen_type element) (tree (segment arena.old) at) index }
+    requires room { HasElementThere (seen_type element) (tree (segment arena.old) at) index }
     ensures forest { OnOk result (Forest (segment arena.new) at) }
     ensures changes { OnOk result (Changes at (segment arena.old) (segment arena.new)) }
     ensures set { OnOk result (IsElementSet (lists_seen set.now) (seen_type element)
@@ -279,7 +279,7 @@ pub fn set(
     source: Source<'_>,
 ) -> Result<()>
     requires forest { Forest (segment arena.old) at }
-    requires room { HasRoom (seen_type element) (tree (segment arena.old) at) index }
+    requires room { HasElementThere (seen_type element) (tree (segment arena.old) at) index }
     ensures forest { OnOk result (Forest (segment arena.new) at) }
     ensures changes { OnOk result (Changes at (segment arena.old) (segment arena.new)) }
     ensures set { OnOk result (IsElementSet (lists_seen set.now) (seen_type element) (source_seen source.entry) index
@@ -344,7 +344,7 @@ pub fn init(
     count: u32,
 ) -> Result<()>
     requires forest { Forest (segment arena.old) at }
-    requires room { HasRoom (seen_type element) (tree (segment arena.old) at) index }
+    requires room { HasElementThere (seen_type element) (tree (segment arena.old) at) index }
     ensures forest { OnOk result (Forest (segment arena.new) at) }
     ensures changes { OnOk result (Changes at (segment arena.old) (segment arena.new)) }
     ensures written { OnOk result (tree (segment arena.new) at

@@ -1,7 +1,7 @@
 //! Fields of a struct that is built, slots and groups alike.
 ghost use Rattle.std.specs.Prelude.{IfErr, OnErr, OnOk, ◌≡◌};
 ghost use Rattle.capnp_arena.specs.Segment.{segment};
-ghost use Rattle.capnp_arena.specs.Built.{ChangesIn, IsBuilt, built};
+ghost use Rattle.capnp_arena.specs.Built.{ChangesIn, IsBuilt, built_at};
 ghost use Rattle.capnp_schema.specs.FieldLists.{typed_of};
 ghost use Rattle.capnp_slots.specs.Copied.{refusal_of};
 ghost use Rattle.capnp_slots.specs.Fields.{IsRoomFor, IsSlot, Keeps, field_set, names_of, slot_with};
@@ -30,12 +30,12 @@ pub fn set(
     source: Source<'_>,
 ) -> Result<()>
     requires planted { IsBuilt arena.old place }
-    requires room { IsRoomFor field (built arena.old place) }
+    requires room { IsRoomFor field (built_at arena.old place) }
     ensures planted { IsBuilt arena.new place }
     ensures changes { ChangesIn place arena.old arena.new }
-    ensures set { IsFieldSet field.entry (source_seen source.entry) (built arena.old place) (refusal_of result)
-        (built arena.new place) }
-    ensures kept { Keeps (names_of field.entry) (built arena.old place) (built arena.new place) }
+    ensures set { IsFieldSet field.entry (source_seen source.entry) (built_at arena.old place) (refusal_of result)
+        (built_at arena.new place) }
+    ensures kept { Keeps (names_of field.entry) (built_at arena.old place) (built_at arena.new place) }
     ensures refused { IsSlot field.entry → OnErr result (segment arena.new ≡ segment arena.old) }
 {
     if slot::is_slot(field) {
@@ -54,11 +54,11 @@ pub fn set(
 #[inline(always)]
 pub fn init(arena: &mut Arena, place: StructPlace, field: Field<'_>) -> Result<()>
     requires planted { IsBuilt arena.old place }
-    requires room { IsRoomFor field (built arena.old place) }
+    requires room { IsRoomFor field (built_at arena.old place) }
     ensures planted { IsBuilt arena.new place }
     ensures changes { ChangesIn place arena.old arena.new }
-    ensures init { IsFieldInit field.entry (built arena.old place) (refusal_of result) (built arena.new place) }
-    ensures kept { OnOk result (Keeps (names_of field.entry) (built arena.old place) (built arena.new place)) }
+    ensures init { IsFieldInit field.entry (built_at arena.old place) (refusal_of result) (built_at arena.new place) }
+    ensures kept { OnOk result (Keeps (names_of field.entry) (built_at arena.old place) (built_at arena.new place)) }
     ensures refused { OnErr result (segment arena.new ≡ segment arena.old) }
 {
     if slot::is_slot(field) {
@@ -79,14 +79,14 @@ pub fn init(arena: &mut Arena, place: StructPlace, field: Field<'_>) -> Result<(
 #[inline(always)]
 pub fn initn(arena: &mut Arena, place: StructPlace, field: Field<'_>, count: u32) -> Result<()>
     requires planted { IsBuilt arena.old place }
-    requires room { IsRoomFor field (built arena.old place) }
+    requires room { IsRoomFor field (built_at arena.old place) }
     ensures planted { IsBuilt arena.new place }
     ensures changes { ChangesIn place arena.old arena.new }
     ensures slot { OnOk result (IsSlot field.entry) }
-    ensures written { OnOk result (built arena.new place
-        ≡ slot_with field.entry (initn_content field.entry count) (built arena.old place)) }
+    ensures written { OnOk result (built_at arena.new place
+        ≡ slot_with field.entry (initn_content field.entry count) (built_at arena.old place)) }
     ensures has { OnOk result (HasInitn field.entry count) }
-    ensures kept { OnOk result (Keeps (names_of field.entry) (built arena.old place) (built arena.new place)) }
+    ensures kept { OnOk result (Keeps (names_of field.entry) (built_at arena.old place) (built_at arena.new place)) }
     ensures refused { OnErr result (segment arena.new ≡ segment arena.old) }
     ensures cause { IfErr result (λ e. IsInitnRefusal (field_set field.entry) count
         (typed_of field.entry).type e.kind) }
@@ -104,11 +104,11 @@ pub fn initn(arena: &mut Arena, place: StructPlace, field: Field<'_>, count: u32
 #[inline(always)]
 pub fn clear(arena: &mut Arena, place: StructPlace, field: Field<'_>)
     requires planted { IsBuilt arena.old place }
-    requires room { IsRoomFor field (built arena.old place) }
+    requires room { IsRoomFor field (built_at arena.old place) }
     ensures planted { IsBuilt arena.new place }
     ensures changes { ChangesIn place arena.old arena.new }
-    ensures cleared { built arena.new place ≡ field_cleared field.entry (built arena.old place) }
-    ensures kept { Keeps (names_of field.entry) (built arena.old place) (built arena.new place) }
+    ensures cleared { built_at arena.new place ≡ field_cleared field.entry (built_at arena.old place) }
+    ensures kept { Keeps (names_of field.entry) (built_at arena.old place) (built_at arena.new place) }
 {
     if slot::is_slot(field) {
         slot::clear(arena, place, field);

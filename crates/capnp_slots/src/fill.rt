@@ -1,9 +1,9 @@
 //! What stands at a struct's pointers, filled from defaults and extended.
 ghost use Rattle.std.specs.Prelude.{None, false, ◌≡◌, ◌≢◌, ◌<◌, IfErr, IsOk, OnErr, OnOk};
 ghost use Rattle.capnp_wire.specs.Defaults.{default_tree, filled_list_refusal, filled_struct, filled_struct_refusal, filled_structs, filled_structs_refusal, or_default, takes_default};
-ghost use Rattle.capnp_wire.specs.Edits.{HoldsStruct, IsDueRefusal, extended, struct_in, struct_refusal};
+ghost use Rattle.capnp_wire.specs.Edits.{HoldsStruct, IsDueRefusal, extended_struct, struct_in, struct_refusal};
 ghost use Rattle.capnp_arena.specs.Segment.{segment};
-ghost use Rattle.capnp_arena.specs.Built.{ChangesIn, IsBuilt, built};
+ghost use Rattle.capnp_arena.specs.Built.{ChangesIn, IsBuilt, built_at};
 ghost use Rattle.capnp_wire.specs.Place.{struct_tree};
 ghost use Rattle.capnp_wire.specs.StructLists.{HoldsStructs};
 ghost use Rattle.capnp_slots.specs.Fills.{HoldsThere, IsThere, tree_there};
@@ -23,17 +23,17 @@ pub(crate) fn fill_struct(
     default: Option<PointerReader<'_>>,
 ) -> Result<()>
     requires planted { IsBuilt arena.old place }
-    requires inside { IsThere (built arena.old place) index }
+    requires inside { IsThere (built_at arena.old place) index }
     ensures planted { OnOk result (IsBuilt arena.new place) }
     ensures changes { OnOk result (ChangesIn place arena.old arena.new) }
-    ensures ok { OnOk result (HoldsThere (built arena.old place) index (built arena.new place)
-        (struct_tree (filled_struct (default_tree default.entry) size (tree_there (built arena.old place) index)))) }
+    ensures ok { OnOk result (HoldsThere (built_at arena.old place) index (built_at arena.new place)
+        (struct_tree (filled_struct (default_tree default.entry) size (tree_there (built_at arena.old place) index)))) }
     ensures within { OnOk result (filled_struct_refusal (default_tree default.entry)
-        (tree_there (built arena.old place) index) ≡ None) }
+        (tree_there (built_at arena.old place) index) ≡ None) }
     ensures refused { OnErr result (segment arena.new ≡ segment arena.old) }
     ensures cause { IfErr result (λ e. IsDueRefusal e
-        (filled_struct_refusal (default_tree default.entry) (tree_there (built arena.old place) index))) }
-    ensures succeeds { HoldsStruct size (tree_there (built arena.old place) index) → IsOk result }
+        (filled_struct_refusal (default_tree default.entry) (tree_there (built_at arena.old place) index))) }
+    ensures succeeds { HoldsStruct size (tree_there (built_at arena.old place) index) → IsOk result }
 {
     let at = pointer_at(arena, place, index);
     arena.get_struct_or_default(at, size, default)?;
@@ -49,15 +49,15 @@ pub(crate) fn extend_struct(
     size: StructSize,
 ) -> Result<()>
     requires planted { IsBuilt arena.old place }
-    requires inside { IsThere (built arena.old place) index }
+    requires inside { IsThere (built_at arena.old place) index }
     ensures planted { OnOk result (IsBuilt arena.new place) }
     ensures changes { OnOk result (ChangesIn place arena.old arena.new) }
-    ensures ok { OnOk result (HoldsThere (built arena.old place) index (built arena.new place)
-        (struct_tree (extended size (struct_in (tree_there (built arena.old place) index))))) }
-    ensures within { OnOk result (struct_refusal (tree_there (built arena.old place) index) ≡ None) }
+    ensures ok { OnOk result (HoldsThere (built_at arena.old place) index (built_at arena.new place)
+        (struct_tree (extended_struct size (struct_in (tree_there (built_at arena.old place) index))))) }
+    ensures within { OnOk result (struct_refusal (tree_there (built_at arena.old place) index) ≡ None) }
     ensures refused { OnErr result (segment arena.new ≡ segment arena.old) }
-    ensures cause { IfErr result (λ e. IsDueRefusal e (struct_refusal (tree_there (built arena.old place) index))) }
-    ensures succeeds { HoldsStruct size (tree_there (built arena.old place) index) → IsOk result }
+    ensures cause { IfErr result (λ e. IsDueRefusal e (struct_refusal (tree_there (built_at arena.old place) index))) }
+    ensures succeeds { HoldsStruct size (tree_there (built_at arena.old place) index) → IsOk result }
 {
     let at = pointer_at(arena, place, index);
     arena.get_struct(at, size)?;
@@ -73,19 +73,19 @@ pub(crate) fn fill_list(
     default: Option<PointerReader<'_>>,
 ) -> Result<()>
     requires planted { IsBuilt arena.old place }
-    requires inside { IsThere (built arena.old place) index }
+    requires inside { IsThere (built_at arena.old place) index }
     requires simple { size ≢ ElementSize.InlineComposite }
     ensures planted { OnOk result (IsBuilt arena.new place) }
     ensures changes { OnOk result (ChangesIn place arena.old arena.new) }
-    ensures ok { OnOk result (HoldsThere (built arena.old place) index (built arena.new place)
-        (or_default (default_tree default.entry) (tree_there (built arena.old place) index))) }
+    ensures ok { OnOk result (HoldsThere (built_at arena.old place) index (built_at arena.new place)
+        (or_default (default_tree default.entry) (tree_there (built_at arena.old place) index))) }
     ensures within { OnOk result (filled_list_refusal (default_tree default.entry) size
-        (tree_there (built arena.old place) index) ≡ None) }
+        (tree_there (built_at arena.old place) index) ≡ None) }
     ensures refused { OnErr result (segment arena.new ≡ segment arena.old) }
     ensures cause { IfErr result (λ e. IsDueRefusal e
-        (filled_list_refusal (default_tree default.entry) size (tree_there (built arena.old place) index))) }
-    ensures succeeds { takes_default (default_tree default.entry) (tree_there (built arena.old place) index) ≡ false
-        → filled_list_refusal (default_tree default.entry) size (tree_there (built arena.old place) index) ≡ None
+        (filled_list_refusal (default_tree default.entry) size (tree_there (built_at arena.old place) index))) }
+    ensures succeeds { takes_default (default_tree default.entry) (tree_there (built_at arena.old place) index) ≡ false
+        → filled_list_refusal (default_tree default.entry) size (tree_there (built_at arena.old place) index) ≡ None
         → IsOk result }
 {
     let at = pointer_at(arena, place, index);
@@ -103,18 +103,18 @@ pub(crate) fn fill_structs(
     default: Option<PointerReader<'_>>,
 ) -> Result<()>
     requires planted { IsBuilt arena.old place }
-    requires inside { IsThere (built arena.old place) index }
+    requires inside { IsThere (built_at arena.old place) index }
     ensures planted { OnOk result (IsBuilt arena.new place) }
     ensures changes { OnOk result (ChangesIn place arena.old arena.new) }
-    ensures ok { OnOk result (HoldsThere (built arena.old place) index (built arena.new place)
-        (filled_structs (default_tree default.entry) size (tree_there (built arena.old place) index))) }
+    ensures ok { OnOk result (HoldsThere (built_at arena.old place) index (built_at arena.new place)
+        (filled_structs (default_tree default.entry) size (tree_there (built_at arena.old place) index))) }
     ensures within { OnOk result (filled_structs_refusal (default_tree default.entry) size
-        (tree_there (built arena.old place) index) ≡ None) }
+        (tree_there (built_at arena.old place) index) ≡ None) }
     ensures refused { OnErr result (segment arena.new ≡ segment arena.old) }
     ensures cause { IfErr result (λ e. IsDueRefusal e
-        (filled_structs_refusal (default_tree default.entry) size (tree_there (built arena.old place) index))) }
-    ensures succeeds { takes_default (default_tree default.entry) (tree_there (built arena.old place) index) ≡ false
-        → HoldsStructs size (tree_there (built arena.old place) index)
+        (filled_structs_refusal (default_tree default.entry) size (tree_there (built_at arena.old place) index))) }
+    ensures succeeds { takes_default (default_tree default.entry) (tree_there (built_at arena.old place) index) ≡ false
+        → HoldsStructs size (tree_there (built_at arena.old place) index)
         → IsOk result }
 {
     let at = pointer_at(arena, place, index);

@@ -6,7 +6,7 @@ ghost use Rattle.capnp_arena.specs.Forest.{Changes, Forest, tree};
 ghost use Rattle.capnp_arena.specs.Segment.{segment};
 ghost use Rattle.capnp_wire.specs.StructLists.{HoldsStructs, struct_list, struct_list_refusal};
 ghost use Rattle.capnp_slots.specs.Copied.{refusal_of};
-ghost use Rattle.capnp_slots.specs.Fills.{as_blob};
+ghost use Rattle.capnp_slots.specs.Fills.{filled_blob};
 
 use capnp_arena::arena::Arena;
 use capnp_wire::error::Result;
@@ -15,7 +15,7 @@ use capnp_wire::size::{ElementSize, StructSize};
 /// Refuses what is not read as a text, or else as data.
 pub(crate) fn check_blob(arena: &Arena, at: usize, is_text: bool) -> Result<()>
     requires { Forest (segment arena.now) at }
-    ensures { refusal_of result ≡ error_of (as_blob is_text (tree (segment arena.now) at)) }
+    ensures { refusal_of result ≡ error_of (filled_blob is_text (tree (segment arena.now) at)) }
 {
     if is_text {
         arena.get_text(at)?;

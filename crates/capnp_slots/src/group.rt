@@ -1,13 +1,13 @@
 //! Groups of a struct that is built: their fields lie in the struct's own sections.
 ghost use Rattle.std.specs.Prelude.{◌≡◌, ◌≤◌, length, MatchOption};
 ghost use Rattle.capnp_arena.specs.Segment.{segment};
-ghost use Rattle.capnp_arena.specs.Built.{ChangesIn, IsBuilt, built};
+ghost use Rattle.capnp_arena.specs.Built.{ChangesIn, IsBuilt, built_at};
 ghost use Rattle.capnp_schema.specs.FieldLists.{IsFound, index_of};
 ghost use Rattle.capnp_schema.specs.StructHandles.{number_of, set_of, struct_fields};
 ghost use Rattle.capnp_records.specs.Writes.Slots.{Fits};
 ghost use Rattle.capnp_slots.specs.Copied.{refusal_of};
 ghost use Rattle.capnp_slots.specs.Fields.{IsRoomFor, IsSlot, Keeps, field_brand, field_set, names_of, switched_to};
-ghost use Rattle.capnp_slots.specs.GroupClears.{IsSlotCleared, cleared_at, cleared_behind};
+ghost use Rattle.capnp_slots.specs.GroupClears.{IsSlotCleared, field_cleared_at, cleared_behind};
 ghost use Rattle.capnp_slots.specs.Groups.{IsGroup, IsGroupAt, KeepsSize, cleared_through, group_without};
 ghost use Rattle.capnp_slots.specs.GroupSets.{IsCopiedInto, IsGroupSet, given_to_group};
 ghost use Rattle.capnp_slots.specs.Sources.{source_seen};
@@ -39,7 +39,7 @@ pub fn group_of<'s>(field: Field<'s>) -> Option<StructSchema<'s>>
 pub(crate) fn cleared_at<'s>(schema: StructSchema<'s>, next: u32) -> Option<Field<'s>>
     requires inside { next ≤ length (struct_fields schema) }
     requires small { next ≤ 65535 }
-    ensures { IsFound schema.entry (cleared_at (set_of schema.entry) (number_of schema.entry) next) result }
+    ensures { IsFound schema.entry (field_cleared_at (set_of schema.entry) (number_of schema.entry) next) result }
 {
     if next == 0 {
         let Ok(member) = schema.get_field_by_discriminant(0) else {
@@ -77,13 +77,13 @@ fn clear_slot<'s>(
     field: Field<'s>,
 ) -> Option<StructSchema<'s>>
     requires planted { IsBuilt arena.old place }
-    requires room { IsRoomFor field (built arena.old place) }
+    requires room { IsRoomFor field (built_at arena.old place) }
     ensures planted { IsBuilt arena.new place }
     ensures changes { ChangesIn place arena.old arena.new }
-    ensures cleared { MatchOption result (IsSlotCleared field.entry (built arena.old place) (built arena.new place))
+    ensures cleared { MatchOption result (IsSlotCleared field.entry (built_at arena.old place) (built_at arena.new place))
         (λ group. IsGroupAt field.entry group
-        × (built arena.new place ≡ switched_to field.entry (built arena.old place))) }
-    ensures kept { KeepsSize (built arena.old place) (built arena.new place) }
+        × (built_at arena.new place ≡ switched_to field.entry (built_at arena.old place))) }
+    ensures kept { KeepsSize (built_at arena.old place) (built_at arena.new place) }
 {
     let group = group_of(field);
     match group {
@@ -114,12 +114,12 @@ pub(crate) fn clear_group(
     groups: usize,
 )
     requires planted { IsBuilt arena.old place }
-    requires room { Fits (set_of schema) (number_of schema) (built arena.old place) }
+    requires room { Fits (set_of schema) (number_of schema) (built_at arena.old place) }
     ensures planted { IsBuilt arena.new place }
     ensures changes { ChangesIn place arena.old arena.new }
-    ensures cleared { built arena.new place ≡ cleared_through groups (set_of schema.entry) (number_of schema.entry)
-        (built arena.old place) }
-    ensures kept { KeepsSize (built arena.old place) (built arena.new place) }
+    ensures cleared { built_at arena.new place ≡ cleared_through groups (set_of schema.entry) (number_of schema.entry)
+        (built_at arena.old place) }
+    ensures kept { KeepsSize (built_at arena.old place) (built_at arena.new place) }
 {
     if groups == 0 {
         return;
@@ -172,11 +172,11 @@ pub(crate) fn clear_group(
 pub fn clear(arena: &mut Arena, place: StructPlace, field: Field<'_>)
     requires planted { IsBuilt arena.old place }
     requires group { IsGroup field }
-    requires room { IsRoomFor field (built arena.old place) }
+    requires room { IsRoomFor field (built_at arena.old place) }
     ensures planted { IsBuilt arena.new place }
     ensures changes { ChangesIn place arena.old arena.new }
-    ensures cleared { built arena.new place ≡ group_without field.entry (built arena.old place) }
-    ensures kept { Keeps (names_of field.entry) (built arena.old place) (built arena.new place) }
+    ensures cleared { built_at arena.new place ≡ group_without field.entry (built_at arena.old place) }
+    ensures kept { Keeps (names_of field.entry) (built_at arena.old place) (built_at arena.new place) }
 {
     let Some(group) = group_of(field) else {
         unreachable!()
@@ -193,11 +193,11 @@ pub fn clear(arena: &mut Arena, place: StructPlace, field: Field<'_>)
 pub fn init(arena: &mut Arena, place: StructPlace, field: Field<'_>)
     requires planted { IsBuilt arena.old place }
     requires group { IsGroup field }
-    requires room { IsRoomFor field (built arena.old place) }
+    requires room { IsRoomFor field (built_at arena.old place) }
     ensures planted { IsBuilt arena.new place }
     ensures changes { ChangesIn place arena.old arena.new }
-    ensures cleared { built arena.new place ≡ group_without field.entry (built arena.old place) }
-    ensures kept { Keeps (names_of field.entry) (built arena.old place) (built arena.new place) }
+    ensures cleared { built_at arena.new place ≡ group_without field.entry (built_at arena.old place) }
+    ensures kept { Keeps (names_of field.entry) (built_at arena.old place) (built_at arena.new place) }
 {
     clear(arena, place, field);
 }
@@ -212,12 +212,12 @@ fn copy(
 ) -> Result<()>
     requires planted { IsBuilt arena.old place }
     requires group { IsGroupAt field group }
-    requires room { IsRoomFor field (built arena.old place) }
+    requires room { IsRoomFor field (built_at arena.old place) }
     ensures planted { IsBuilt arena.new place }
     ensures changes { ChangesIn place arena.old arena.new }
-    ensures copied { IsCopiedInto field.entry group.entry source.entry (built arena.old place) (refusal_of result)
-        (built arena.new place) }
-    ensures kept { Keeps (names_of field.entry) (built arena.old place) (built arena.new place) }
+    ensures copied { IsCopiedInto field.entry group.entry source.entry (built_at arena.old place) (refusal_of result)
+        (built_at arena.new place) }
+    ensures kept { Keeps (names_of field.entry) (built_at arena.old place) (built_at arena.new place) }
 {
     let set = field.get_containing_struct().get_set();
     numbers_fit(set);
@@ -245,13 +245,13 @@ pub fn set(
 ) -> Result<()>
     requires planted { IsBuilt arena.old place }
     requires group { IsGroup field }
-    requires room { IsRoomFor field (built arena.old place) }
+    requires room { IsRoomFor field (built_at arena.old place) }
     ensures planted { IsBuilt arena.new place }
     ensures changes { ChangesIn place arena.old arena.new }
     ensures set { IsGroupSet field.entry (given_to_group field.entry (source_seen source.entry))
-        (built arena.old place) (refusal_of result)
-        (built arena.new place) }
-    ensures kept { Keeps (names_of field.entry) (built arena.old place) (built arena.new place) }
+        (built_at arena.old place) (refusal_of result)
+        (built_at arena.new place) }
+    ensures kept { Keeps (names_of field.entry) (built_at arena.old place) (built_at arena.new place) }
 {
     let Source::Struct(reader, schema) = source else {
         return Err(Error::from(ErrorKind::NotAStruct));

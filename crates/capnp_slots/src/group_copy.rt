@@ -1,7 +1,7 @@
 //! Copies of a group out of a struct of its schema that is read, field by field.
 ghost use Rattle.std.specs.Prelude.{◌≡◌, ◌≤◌, ◌<◌, length};
 ghost use Rattle.capnp_arena.specs.Segment.{segment};
-ghost use Rattle.capnp_arena.specs.Built.{ChangesIn, IsBuilt, built};
+ghost use Rattle.capnp_arena.specs.Built.{ChangesIn, IsBuilt, built_at};
 ghost use Rattle.capnp_schema.specs.FieldLists.{IsFound};
 ghost use Rattle.capnp_schema.specs.Laws.{group_height};
 ghost use Rattle.capnp_schema.specs.StructHandles.{number_of, set_of, struct_fields};
@@ -64,12 +64,12 @@ fn copied_at<'s>(
 /// Clears a group, through as many groups as there are.
 fn clear_whole(arena: &mut Arena, place: StructPlace, schema: StructSchema<'_>)
     requires planted { IsBuilt arena.old place }
-    requires room { Fits (set_of schema) (number_of schema) (built arena.old place) }
+    requires room { Fits (set_of schema) (number_of schema) (built_at arena.old place) }
     ensures planted { IsBuilt arena.new place }
     ensures changes { ChangesIn place arena.old arena.new }
-    ensures cleared { built arena.new place
-        ≡ cleared_group (set_of schema.entry) (number_of schema.entry) (built arena.old place) }
-    ensures kept { KeepsSize (built arena.old place) (built arena.new place) }
+    ensures cleared { built_at arena.new place
+        ≡ cleared_group (set_of schema.entry) (number_of schema.entry) (built_at arena.old place) }
+    ensures kept { KeepsSize (built_at arena.old place) (built_at arena.new place) }
 {
     clear_group(arena, place, schema, schema.get_set().brands().len());
 }
@@ -78,12 +78,12 @@ fn clear_whole(arena: &mut Arena, place: StructPlace, schema: StructSchema<'_>)
 fn open(arena: &mut Arena, place: StructPlace, field: Field<'_>, group: StructSchema<'_>)
     requires planted { IsBuilt arena.old place }
     requires group { IsGroupAt field group }
-    requires room { IsRoomFor field (built arena.old place) }
+    requires room { IsRoomFor field (built_at arena.old place) }
     ensures planted { IsBuilt arena.new place }
     ensures changes { ChangesIn place arena.old arena.new }
-    ensures cleared { built arena.new place
-        ≡ cleared_group (set_of group.entry) (number_of group.entry) (switched_to field.entry (built arena.old place)) }
-    ensures kept { KeepsSize (built arena.old place) (built arena.new place) }
+    ensures cleared { built_at arena.new place
+        ≡ cleared_group (set_of group.entry) (number_of group.entry) (switched_to field.entry (built_at arena.old place)) }
+    ensures kept { KeepsSize (built_at arena.old place) (built_at arena.new place) }
 {
     switch(arena, place, field);
     clear_whole(arena, place, group);
@@ -99,13 +99,13 @@ pub(crate) fn copy_group(
     groups: usize,
 ) -> Result<()>
     requires planted { IsBuilt arena.old place }
-    requires room { Fits (set_of schema) (number_of schema) (built arena.old place) }
+    requires room { Fits (set_of schema) (number_of schema) (built_at arena.old place) }
     requires height { group_height (set_of schema) (number_of schema) < groups }
     ensures planted { IsBuilt arena.new place }
     ensures changes { ChangesIn place arena.old arena.new }
-    ensures copied { IsCopiedThrough groups schema.entry source.entry (built arena.old place) (refusal_of result)
-        (built arena.new place) }
-    ensures kept { KeepsSize (built arena.old place) (built arena.new place) }
+    ensures copied { IsCopiedThrough groups schema.entry source.entry (built_at arena.old place) (refusal_of result)
+        (built_at arena.new place) }
+    ensures kept { KeepsSize (built_at arena.old place) (built_at arena.new place) }
 {
     clear_whole(arena, place, schema);
     let mut at = schema;

@@ -4,7 +4,7 @@
 ghost use Rattle.capnp_schema.specs.FieldLists.{index_of};
 ghost use Rattle.capnp_records.specs.Laws.{IsFieldAt};
 ghost use Rattle.capnp_slots.specs.Fields.{field_brand, field_set};
-ghost use Rattle.capnp_slots.specs.ReadBack.{ClearIsActive, ClearIsGot, CopyIsActive, CopyIsGot, DataIsGot, GroupIsActive, GroupStarts, InitIsActive, InitnIsActive, NumberIsGot, OtherIsGot, OtherIsThere, PlainStays, SetIsActive, TextIsGot, WholeIsGot};
+ghost use Rattle.capnp_slots.specs.ReadBack.{ClearIsActive, ClearIsGot, CopyIsActive, CopyIsGot, DataIsGot, GroupIsActive, GroupStarts, InitIsActive, InitnIsActive, NumberIsGot, OtherIsGot, OtherIsThere, NonUnionStays, SetIsActive, TextIsGot, WholeIsGot};
 ghost use Rattle.capnp_slots.specs.Sources.{source_seen};
 
 use crate::source::{Source, source_fits};
@@ -68,7 +68,7 @@ pub fn groups_are_started(field: Field<'_>)
 pub fn others_are_read(field: Field<'_>, other: Field<'_>)
     ensures read { OtherIsGot field.entry other.entry }
     ensures there { OtherIsThere field.entry other.entry }
-    ensures active { PlainStays field.entry }
+    ensures active { NonUnionStays field.entry }
 {
     field_stands(field);
     field_stands(other);

@@ -2,7 +2,7 @@
 ghost use Rattle.std.specs.Prelude.{List, ℕ, None, false, true, ◌≡◌, IfErr, IfOk, IsOk, OnErr, OnOk};
 ghost use Rattle.capnp_arena.specs.Forest.{Changes, Forest, tree};
 ghost use Rattle.capnp_arena.specs.Segment.{segment};
-ghost use Rattle.capnp_arena.specs.Built.{ChangesIn, IsBuilt, LeavesIn, built};
+ghost use Rattle.capnp_arena.specs.Built.{ChangesIn, IsBuilt, LeavesIn, built_at};
 ghost use Rattle.capnp_wire.specs.Defaults.{default_tree as reader_tree, error_of};
 ghost use Rattle.capnp_wire.specs.Reading.{is_null_tree};
 ghost use Rattle.capnp_records.specs.Writes.TreeCopy.{or_else};
@@ -12,8 +12,8 @@ ghost use Rattle.capnp_schema.specs.FieldLists.{typed_of};
 ghost use Rattle.capnp_schema.specs.Schema.{default_of};
 ghost use Rattle.capnp_schema.specs.StructHandles.{generic_of, number_of, set_of};
 ghost use Rattle.capnp_schema.specs.Types.{ListType, StructType, seen_type};
-ghost use Rattle.capnp_slots.specs.Fields.{IsPointer, IsRoomFor, IsSlot, field_set, pointer_index};
-ghost use Rattle.capnp_slots.specs.Fills.{HoldsThere, IsDefaultPointer, IsListFilled, IsSlotFilled, IsThere, RestsIn, as_blob, blob_filled, due_in, filled_in, pointer_in, tree_there};
+ghost use Rattle.capnp_slots.specs.Fields.{IsPointerField, IsRoomFor, IsSlot, field_set, pointer_index};
+ghost use Rattle.capnp_slots.specs.Fills.{HoldsThere, IsDefaultPointer, IsListFilled, IsSlotFilled, IsThere, RestsIn, filled_blob, blob_filled, due_in, filled_in, pointer_in, tree_there};
 
 use crate::fill::{extend_struct, fill_list, fill_struct, fill_structs};
 use crate::fill_element::check_blob;
@@ -49,11 +49,11 @@ fn fill_elements(
     default: Option<PointerReader<'_>>,
 ) -> Result<()>
     requires planted { IsBuilt arena.old place }
-    requires inside { IsThere (built arena.old place) index }
+    requires inside { IsThere (built_at arena.old place) index }
     ensures planted { OnOk result (IsBuilt arena.new place) }
     ensures changes { OnOk result (ChangesIn place arena.old arena.new) }
     ensures written { IsListFilled (lists_seen set.now) (seen_type element) (reader_tree default.entry)
-        (built arena.old place) index result (built arena.new place) }
+        (built_at arena.old place) index result (built_at arena.new place) }
     ensures refused { OnErr result (segment arena.new ≡ segment arena.old) }
 {
     match element.which() {
@@ -75,12 +75,12 @@ fn fill_elements(
 fn fill_null(arena: &mut Arena, place: StructPlace, field: Field<'_>, index: u16) -> Result<()>
     requires planted { IsBuilt arena.old place }
     requires slot { IsSlot field }
-    requires pointer { IsPointer field }
+    requires pointer { IsPointerField field }
     requires is { index ≡ pointer_index field }
-    requires inside { IsThere (built arena.old place) index }
+    requires inside { IsThere (built_at arena.old place) index }
     ensures planted { OnOk result (IsBuilt arena.new place) }
     ensures changes { OnOk result (ChangesIn place arena.old arena.new) }
-    ensures written { IsSlotFilled field.entry (built arena.old place) index result (built arena.new place) }
+    ensures written { IsSlotFilled field.entry (built_at arena.old place) index result (built_at arena.new place) }
     ensures refused { OnErr result (segment arena.new ≡ segment arena.old) }
 {
     let set = field.get_containing_struct().get_set();
@@ -103,13 +103,13 @@ fn fill_null(arena: &mut Arena, place: StructPlace, field: Field<'_>, index: u16
 fn fill_standing(arena: &mut Arena, place: StructPlace, field: Field<'_>, index: u16) -> Result<()>
     requires planted { IsBuilt arena.old place }
     requires slot { IsSlot field }
-    requires pointer { IsPointer field }
+    requires pointer { IsPointerField field }
     requires is { index ≡ pointer_index field }
-    requires inside { IsThere (built arena.old place) index }
-    requires standing { is_null_tree (tree_there (built arena.old place) index) ≡ false }
+    requires inside { IsThere (built_at arena.old place) index }
+    requires standing { is_null_tree (tree_there (built_at arena.old place) index) ≡ false }
     ensures planted { OnOk result (IsBuilt arena.new place) }
     ensures changes { OnOk result (ChangesIn place arena.old arena.new) }
-    ensures written { IsSlotFilled field.entry (built arena.old place) index result (built arena.new place) }
+    ensures written { IsSlotFilled field.entry (built_at arena.old place) index result (built_at arena.new place) }
     ensures refused { OnErr result (segment arena.new ≡ segment arena.old) }
 {
     let set = field.get_containing_struct().get_set();
@@ -131,12 +131,12 @@ fn fill_standing(arena: &mut Arena, place: StructPlace, field: Field<'_>, index:
 fn fill_slot(arena: &mut Arena, place: StructPlace, field: Field<'_>, index: u16) -> Result<()>
     requires planted { IsBuilt arena.old place }
     requires slot { IsSlot field }
-    requires pointer { IsPointer field }
+    requires pointer { IsPointerField field }
     requires is { index ≡ pointer_index field }
-    requires inside { IsThere (built arena.old place) index }
+    requires inside { IsThere (built_at arena.old place) index }
     ensures planted { OnOk result (IsBuilt arena.new place) }
     ensures changes { OnOk result (ChangesIn place arena.old arena.new) }
-    ensures written { IsSlotFilled field.entry (built arena.old place) index result (built arena.new place) }
+    ensures written { IsSlotFilled field.entry (built_at arena.old place) index result (built_at arena.new place) }
     ensures refused { OnErr result (segment arena.new ≡ segment arena.old) }
 {
     if arena.is_null(pointer_at(arena, place, index)) {
@@ -154,15 +154,15 @@ fn fill_blob(
     is_text: bool,
 ) -> Result<()>
     requires planted { IsBuilt arena.old place }
-    requires inside { IsThere (built arena.old place) index }
+    requires inside { IsThere (built_at arena.old place) index }
     ensures planted { OnOk result (IsBuilt arena.new place) }
     ensures changes { OnOk result (ChangesIn place arena.old arena.new) }
-    ensures ok { OnOk result (HoldsThere (built arena.old place) index (built arena.new place)
-        (blob_filled (default_of (typed_of field.entry).field) (tree_there (built arena.old place) index))) }
-    ensures within { OnOk result (error_of (as_blob is_text (tree_there (built arena.old place) index)) ≡ None) }
+    ensures ok { OnOk result (HoldsThere (built_at arena.old place) index (built_at arena.new place)
+        (blob_filled (default_of (typed_of field.entry).field) (tree_there (built_at arena.old place) index))) }
+    ensures within { OnOk result (error_of (filled_blob is_text (tree_there (built_at arena.old place) index)) ≡ None) }
     ensures refused { OnErr result (segment arena.new ≡ segment arena.old) }
     ensures cause { IfErr result (λ e. IsDueRefusal e
-        (error_of (as_blob is_text (tree_there (built arena.old place) index)))) }
+        (error_of (filled_blob is_text (tree_there (built_at arena.old place) index)))) }
 {
     check_blob(arena, pointer_at(arena, place, index), is_text)?;
     match field.get_default() {
@@ -180,13 +180,13 @@ fn put<R, S: SetterInput<R> + Copy>(
     input: S,
 ) -> Result<()>
     requires planted { IsBuilt arena.old place }
-    requires inside { IsThere (built arena.old place) index }
+    requires inside { IsThere (built_at arena.old place) index }
     ensures planted { OnOk result (IsBuilt arena.new place) }
     ensures changes { OnOk result (ChangesIn place arena.old arena.new) }
-    ensures ok { OnOk result (HoldsThere (built arena.old place) index (built arena.new place)
-        (or_else (tree_there (built arena.old place) index) (S.set_tree input))) }
+    ensures ok { OnOk result (HoldsThere (built_at arena.old place) index (built_at arena.new place)
+        (or_else (tree_there (built_at arena.old place) index) (S.set_tree input))) }
     ensures refused { OnErr result (segment arena.new ≡ segment arena.old) }
-    ensures null { OnErr result (is_null_tree (tree_there (built arena.old place) index) ≡ true) }
+    ensures null { OnErr result (is_null_tree (tree_there (built_at arena.old place) index) ≡ true) }
     ensures cause { IfErr result (S.set_refusal input) }
 {
     if !arena.is_null(pointer_at(arena, place, index)) {
@@ -210,19 +210,19 @@ fn put<R, S: SetterInput<R> + Copy>(
 pub fn fill(arena: &mut Arena, place: StructPlace, field: Field<'_>) -> Result<()>
     requires planted { IsBuilt arena.old place }
     requires slot { IsSlot field }
-    requires pointer { IsPointer field }
-    requires room { IsRoomFor field (built arena.old place) }
+    requires pointer { IsPointerField field }
+    requires room { IsRoomFor field (built_at arena.old place) }
     ensures planted { OnOk result (IsBuilt arena.new place) }
     ensures changes { OnOk result (ChangesIn place arena.old arena.new) }
-    ensures filled { OnOk result (built arena.new place
-        ≡ with_pointer_tree (built arena.old place) (pointer_index field.entry)
-        (filled_in field.entry (built arena.old place))) }
-    ensures here { OnOk result (pointer_in field.entry (built arena.new place)
-        ≡ filled_in field.entry (built arena.old place)) }
-    ensures within { OnOk result (due_in field.entry (built arena.old place) ≡ None) }
+    ensures filled { OnOk result (built_at arena.new place
+        ≡ with_pointer_tree (built_at arena.old place) (pointer_index field.entry)
+        (filled_in field.entry (built_at arena.old place))) }
+    ensures here { OnOk result (pointer_in field.entry (built_at arena.new place)
+        ≡ filled_in field.entry (built_at arena.old place)) }
+    ensures within { OnOk result (due_in field.entry (built_at arena.old place) ≡ None) }
     ensures refused { OnErr result (segment arena.new ≡ segment arena.old) }
-    ensures cause { IfErr result (λ e. IsDueRefusal e (due_in field.entry (built arena.old place))) }
-    ensures rests { RestsIn field.entry (built arena.old place) → IsOk result }
+    ensures cause { IfErr result (λ e. IsDueRefusal e (due_in field.entry (built_at arena.old place))) }
+    ensures rests { RestsIn field.entry (built_at arena.old place) → IsOk result }
 {
     let (index, _) = pointer_slot(field);
     fill_slot(arena, place, field, index)
@@ -239,14 +239,14 @@ fn fill_struct_at(
 ) -> Result<()>
     requires planted { IsBuilt arena.old place }
     requires slot { IsSlot field }
-    requires pointer { IsPointer field }
+    requires pointer { IsPointerField field }
     requires set { set_of schema ≡ field_set field }
     requires type_is { StructType (number_of schema) (generic_of schema) ≡ (typed_of field).type }
     requires is { index ≡ pointer_index field }
-    requires inside { IsThere (built arena.old place) index }
+    requires inside { IsThere (built_at arena.old place) index }
     ensures planted { OnOk result (IsBuilt arena.new place) }
     ensures changes { OnOk result (ChangesIn place arena.old arena.new) }
-    ensures written { IsSlotFilled field.entry (built arena.old place) index result (built arena.new place) }
+    ensures written { IsSlotFilled field.entry (built_at arena.old place) index result (built_at arena.new place) }
     ensures refused { OnErr result (segment arena.new ≡ segment arena.old) }
 {
     if arena.is_null(pointer_at(arena, place, index)) {
@@ -270,18 +270,18 @@ pub fn fill_struct_slot(
     requires slot { IsSlot field }
     requires set { set_of schema ≡ field_set field }
     requires type_is { StructType (number_of schema) (generic_of schema) ≡ (typed_of field).type }
-    requires room { IsRoomFor field (built arena.old place) }
+    requires room { IsRoomFor field (built_at arena.old place) }
     ensures planted { OnOk result (IsBuilt arena.new place) }
     ensures changes { OnOk result (ChangesIn place arena.old arena.new) }
-    ensures filled { OnOk result (built arena.new place
-        ≡ with_pointer_tree (built arena.old place) (pointer_index field.entry)
-        (filled_in field.entry (built arena.old place))) }
-    ensures here { OnOk result (pointer_in field.entry (built arena.new place)
-        ≡ filled_in field.entry (built arena.old place)) }
-    ensures within { OnOk result (due_in field.entry (built arena.old place) ≡ None) }
+    ensures filled { OnOk result (built_at arena.new place
+        ≡ with_pointer_tree (built_at arena.old place) (pointer_index field.entry)
+        (filled_in field.entry (built_at arena.old place))) }
+    ensures here { OnOk result (pointer_in field.entry (built_at arena.new place)
+        ≡ filled_in field.entry (built_at arena.old place)) }
+    ensures within { OnOk result (due_in field.entry (built_at arena.old place) ≡ None) }
     ensures refused { OnErr result (segment arena.new ≡ segment arena.old) }
-    ensures cause { IfErr result (λ e. IsDueRefusal e (due_in field.entry (built arena.old place))) }
-    ensures rests { RestsIn field.entry (built arena.old place) → IsOk result }
+    ensures cause { IfErr result (λ e. IsDueRefusal e (due_in field.entry (built_at arena.old place))) }
+    ensures rests { RestsIn field.entry (built_at arena.old place) → IsOk result }
 {
     let (index, _) = pointer_slot(field);
     fill_struct_at(arena, place, field, schema, index)
@@ -298,13 +298,13 @@ fn fill_list_at(
 ) -> Result<()>
     requires planted { IsBuilt arena.old place }
     requires slot { IsSlot field }
-    requires pointer { IsPointer field }
+    requires pointer { IsPointerField field }
     requires type_is { ListType (seen_type element) ≡ (typed_of field).type }
     requires is { index ≡ pointer_index field }
-    requires inside { IsThere (built arena.old place) index }
+    requires inside { IsThere (built_at arena.old place) index }
     ensures planted { OnOk result (IsBuilt arena.new place) }
     ensures changes { OnOk result (ChangesIn place arena.old arena.new) }
-    ensures written { IsSlotFilled field.entry (built arena.old place) index result (built arena.new place) }
+    ensures written { IsSlotFilled field.entry (built_at arena.old place) index result (built_at arena.new place) }
     ensures refused { OnErr result (segment arena.new ≡ segment arena.old) }
 {
     if arena.is_null(pointer_at(arena, place, index)) {
@@ -328,18 +328,18 @@ pub fn fill_list_slot(
     requires planted { IsBuilt arena.old place }
     requires slot { IsSlot field }
     requires type_is { ListType (seen_type element) ≡ (typed_of field).type }
-    requires room { IsRoomFor field (built arena.old place) }
+    requires room { IsRoomFor field (built_at arena.old place) }
     ensures planted { OnOk result (IsBuilt arena.new place) }
     ensures changes { OnOk result (ChangesIn place arena.old arena.new) }
-    ensures filled { OnOk result (built arena.new place
-        ≡ with_pointer_tree (built arena.old place) (pointer_index field.entry)
-        (filled_in field.entry (built arena.old place))) }
-    ensures here { OnOk result (pointer_in field.entry (built arena.new place)
-        ≡ filled_in field.entry (built arena.old place)) }
-    ensures within { OnOk result (due_in field.entry (built arena.old place) ≡ None) }
+    ensures filled { OnOk result (built_at arena.new place
+        ≡ with_pointer_tree (built_at arena.old place) (pointer_index field.entry)
+        (filled_in field.entry (built_at arena.old place))) }
+    ensures here { OnOk result (pointer_in field.entry (built_at arena.new place)
+        ≡ filled_in field.entry (built_at arena.old place)) }
+    ensures within { OnOk result (due_in field.entry (built_at arena.old place) ≡ None) }
     ensures refused { OnErr result (segment arena.new ≡ segment arena.old) }
-    ensures cause { IfErr result (λ e. IsDueRefusal e (due_in field.entry (built arena.old place))) }
-    ensures rests { RestsIn field.entry (built arena.old place) → IsOk result }
+    ensures cause { IfErr result (λ e. IsDueRefusal e (due_in field.entry (built_at arena.old place))) }
+    ensures rests { RestsIn field.entry (built_at arena.old place) → IsOk result }
 {
     let (index, _) = pointer_slot(field);
     fill_list_at(arena, place, field, element, index)
@@ -351,10 +351,10 @@ pub fn fill_list_slot(
 pub fn pointer(arena: &Arena, place: StructPlace, field: Field<'_>) -> usize
     requires planted { IsBuilt arena.now place }
     requires slot { IsSlot field }
-    requires pointer { IsPointer field }
-    requires room { IsRoomFor field (built arena.now place) }
+    requires pointer { IsPointerField field }
+    requires room { IsRoomFor field (built_at arena.now place) }
     ensures forest { Forest (segment arena.now) result }
-    ensures tree { tree (segment arena.now) result ≡ pointer_in field.entry (built arena.now place) }
+    ensures tree { tree (segment arena.now) result ≡ pointer_in field.entry (built_at arena.now place) }
     ensures leaves { (new : List ℕ) → Forest new result → Changes result (segment arena.now) new
         → LeavesIn place (pointer_index field.entry) arena.now result new }
 {
@@ -368,21 +368,21 @@ pub fn pointer(arena: &Arena, place: StructPlace, field: Field<'_>) -> usize
 pub fn get(arena: &mut Arena, place: StructPlace, field: Field<'_>) -> Result<usize>
     requires planted { IsBuilt arena.old place }
     requires slot { IsSlot field }
-    requires pointer { IsPointer field }
-    requires room { IsRoomFor field (built arena.old place) }
+    requires pointer { IsPointerField field }
+    requires room { IsRoomFor field (built_at arena.old place) }
     ensures planted { OnOk result (IsBuilt arena.new place) }
     ensures changes { OnOk result (ChangesIn place arena.old arena.new) }
-    ensures filled { OnOk result (built arena.new place
-        ≡ with_pointer_tree (built arena.old place) (pointer_index field.entry)
-        (filled_in field.entry (built arena.old place))) }
+    ensures filled { OnOk result (built_at arena.new place
+        ≡ with_pointer_tree (built_at arena.old place) (pointer_index field.entry)
+        (filled_in field.entry (built_at arena.old place))) }
     ensures forest { IfOk result (λ at. Forest (segment arena.new) at) }
-    ensures now { IfOk result (λ at. tree (segment arena.new) at ≡ filled_in field.entry (built arena.old place)) }
+    ensures now { IfOk result (λ at. tree (segment arena.new) at ≡ filled_in field.entry (built_at arena.old place)) }
     ensures leaves { IfOk result (λ at. (new : List ℕ) → Forest new at → Changes at (segment arena.new) new
         → LeavesIn place (pointer_index field.entry) arena.new at new) }
-    ensures within { OnOk result (due_in field.entry (built arena.old place) ≡ None) }
+    ensures within { OnOk result (due_in field.entry (built_at arena.old place) ≡ None) }
     ensures refused { OnErr result (segment arena.new ≡ segment arena.old) }
-    ensures cause { IfErr result (λ e. IsDueRefusal e (due_in field.entry (built arena.old place))) }
-    ensures rests { RestsIn field.entry (built arena.old place) → IsOk result }
+    ensures cause { IfErr result (λ e. IsDueRefusal e (due_in field.entry (built_at arena.old place))) }
+    ensures rests { RestsIn field.entry (built_at arena.old place) → IsOk result }
 {
     let (index, _) = pointer_slot(field);
     fill_slot(arena, place, field, index)?;

@@ -1,7 +1,7 @@
 //! Writes by a field's plan.
 ghost use Rattle.std.specs.Prelude.{◌≡◌, ◌≤◌, ◌<◌, ◌+◌, ◌*◌, ◌^◌, IfSome, IsTrue, bit_xor, length};
 ghost use Rattle.capnp_arena.specs.Segment.{segment};
-ghost use Rattle.capnp_arena.specs.Built.{ChangesIn, IsBuilt, built};
+ghost use Rattle.capnp_arena.specs.Built.{ChangesIn, IsBuilt, built_at};
 ghost use Rattle.capnp_wire.specs.Edits.{with_bytes};
 ghost use Rattle.capnp_wire.specs.Tree.{tree_count};
 ghost use Rattle.capnp_schema.specs.Plan.{IsSlotPlace, PlanFits, is_slot_width};
@@ -49,12 +49,12 @@ pub(crate) fn slot_plan(field: Field<'_>) -> SlotPlan
 #[inline(always)]
 pub(crate) fn switch_member(arena: &mut Arena, place: StructPlace, member: Option<(u32, u16)>)
     requires planted { IsBuilt arena.old place }
-    requires inside { IfSome member (λ m. m.0 + 16 ≤ 8 * length (built arena.old place).bytes) }
+    requires inside { IfSome member (λ m. m.0 + 16 ≤ 8 * length (built_at arena.old place).bytes) }
     ensures planted { IsBuilt arena.new place }
     ensures changes { ChangesIn place arena.old arena.new }
-    ensures switched { built arena.new place ≡ member_switched member (built arena.old place) }
-    ensures data_size { length (built arena.new place).bytes ≡ length (built arena.old place).bytes }
-    ensures pointers { (built arena.new place).pointers ≡ (built arena.old place).pointers }
+    ensures switched { built_at arena.new place ≡ member_switched member (built_at arena.old place) }
+    ensures data_size { length (built_at arena.new place).bytes ≡ length (built_at arena.old place).bytes }
+    ensures pointers { (built_at arena.new place).pointers ≡ (built_at arena.old place).pointers }
 {
     if let Some((first, number)) = member {
         set_data_field::<u16>(arena, place, first / 16, number);
@@ -66,12 +66,12 @@ pub(crate) fn switch_member(arena: &mut Arena, place: StructPlace, member: Optio
 fn store_bits(arena: &mut Arena, place: StructPlace, start: u32, width: u8, bits: u64)
     requires planted { IsBuilt arena.old place }
     requires width { IsTrue (is_slot_width width) }
-    requires inside { start + width ≤ 8 * length (built arena.old place).bytes }
+    requires inside { start + width ≤ 8 * length (built_at arena.old place).bytes }
     requires fits { bits < 2 ^ width }
     ensures planted { IsBuilt arena.new place }
     ensures changes { ChangesIn place arena.old arena.new }
-    ensures written { built arena.new place ≡ with_bytes (built arena.old place)
-        (with_bits start width bits (built arena.old place).bytes) }
+    ensures written { built_at arena.new place ≡ with_bytes (built_at arena.old place)
+        (with_bits start width bits (built_at arena.old place).bytes) }
 {
     match width {
         1 => set_bool_field(arena, place, start, bits == 1),
@@ -89,12 +89,12 @@ fn store_bits(arena: &mut Arena, place: StructPlace, start: u32, width: u8, bits
 pub(crate) fn store_number(arena: &mut Arena, place: StructPlace, plan: SlotPlan, number: u64)
     requires planted { IsBuilt arena.old place }
     requires slot { IsSlotPlace plan.place }
-    requires inside { PlanFits plan (built arena.old place) }
+    requires inside { PlanFits plan (built_at arena.old place) }
     requires fits { HoldsNumber plan.place number }
     ensures planted { IsBuilt arena.new place }
     ensures changes { ChangesIn place arena.old arena.new }
-    ensures written { built arena.new place ≡ plan_written plan (Bits (bit_xor number (place_mask plan.place)))
-        (built arena.old place) }
+    ensures written { built_at arena.new place ≡ plan_written plan (Bits (bit_xor number (place_mask plan.place)))
+        (built_at arena.old place) }
 {
     switch_member(arena, place, plan.member);
     match plan.place {
@@ -108,11 +108,11 @@ pub(crate) fn store_number(arena: &mut Arena, place: StructPlace, plan: SlotPlan
 /// Makes a pointer null.
 fn clear_pointer(arena: &mut Arena, place: StructPlace, index: u16)
     requires planted { IsBuilt arena.old place }
-    requires inside { index < tree_count (built arena.old place).pointers }
+    requires inside { index < tree_count (built_at arena.old place).pointers }
     ensures planted { IsBuilt arena.new place }
     ensures changes { ChangesIn place arena.old arena.new }
-    ensures written { built arena.new place ≡ place_written (Place.Pointer index) (place_cleared (Place.Pointer index))
-        (built arena.old place) }
+    ensures written { built_at arena.new place ≡ place_written (Place.Pointer index) (place_cleared (Place.Pointer index))
+        (built_at arena.old place) }
 {
     let at = pointer_at(arena, place, index);
     arena.clear(at);
@@ -123,10 +123,10 @@ fn clear_pointer(arena: &mut Arena, place: StructPlace, index: u16)
 pub(crate) fn clear_plan(arena: &mut Arena, place: StructPlace, plan: SlotPlan)
     requires planted { IsBuilt arena.old place }
     requires slot { IsSlotPlace plan.place }
-    requires inside { PlanFits plan (built arena.old place) }
+    requires inside { PlanFits plan (built_at arena.old place) }
     ensures planted { IsBuilt arena.new place }
     ensures changes { ChangesIn place arena.old arena.new }
-    ensures written { built arena.new place ≡ plan_written plan (place_cleared plan.place) (built arena.old place) }
+    ensures written { built_at arena.new place ≡ plan_written plan (place_cleared plan.place) (built_at arena.old place) }
 {
     let member = plan.member;
     switch_member(arena, place, member);
@@ -151,11 +151,11 @@ pub(crate) fn copy_bits(
 )
     requires planted { IsBuilt arena.old place }
     requires slot { IsSlotPlace plan.place }
-    requires inside { PlanFits plan (built arena.old place) }
+    requires inside { PlanFits plan (built_at arena.old place) }
     ensures planted { IsBuilt arena.new place }
     ensures changes { ChangesIn place arena.old arena.new }
-    ensures written { built arena.new place ≡ plan_written plan
-        (Bits (place_bits plan.place (struct_of source.now).bytes)) (built arena.old place) }
+    ensures written { built_at arena.new place ≡ plan_written plan
+        (Bits (place_bits plan.place (struct_of source.now).bytes)) (built_at arena.old place) }
 {
     let discriminant = plan.member;
     switch_member(arena, place, discriminant);

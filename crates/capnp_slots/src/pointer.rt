@@ -11,11 +11,11 @@ ghost use Rattle.capnp_schema.specs.Types.{AnyPointerType, is_pointer, seen_vari
 ghost use Rattle.capnp_slots.specs.Copied.{empty_tree};
 ghost use Rattle.capnp_slots.specs.Inits.{IsInitnRefusal, is_sized};
 ghost use Rattle.capnp_arena.specs.Segment.{segment};
-ghost use Rattle.capnp_arena.specs.Built.{ChangesIn, IsBuilt, built};
+ghost use Rattle.capnp_arena.specs.Built.{ChangesIn, IsBuilt, built_at};
 ghost use Rattle.capnp_wire.specs.Tree.{tree_count};
 ghost use Rattle.capnp_wire.specs.WellFormed.{IsWellFormed};
 ghost use Rattle.capnp_wire.specs.Words.{first_fault};
-ghost use Rattle.capnp_slots.specs.Fields.{IsPointer, IsPointerSlot, IsSlot};
+ghost use Rattle.capnp_slots.specs.Fields.{IsPointerField, IsPointerSlot, IsSlot};
 
 use crate::make::{make_empty, make_sized, make_struct};
 use crate::planned::slot_plan;
@@ -34,7 +34,7 @@ use capnp_wire::size::StructSize;
 #[inline(always)]
 pub(crate) fn pointer_slot(field: Field<'_>) -> (u16, Option<(u32, u16)>)
     requires slot { IsSlot field }
-    requires pointer { IsPointer field }
+    requires pointer { IsPointerField field }
     ensures { IsPointerSlot field.entry result.0 result.1 }
 {
     let plan = slot_plan(field);
@@ -52,11 +52,11 @@ pub(crate) fn set_at<R, S: SetterInput<R>>(
     input: S,
 ) -> Result<()>
     requires planted { IsBuilt arena.old place }
-    requires inside { index < tree_count (built arena.old place).pointers }
+    requires inside { index < tree_count (built_at arena.old place).pointers }
     ensures planted { OnOk result (IsBuilt arena.new place) }
     ensures changes { OnOk result (ChangesIn place arena.old arena.new) }
-    ensures ok { OnOk result (built arena.new place
-        ≡ with_pointer_tree (built arena.old place) index (S.set_tree input)) }
+    ensures ok { OnOk result (built_at arena.new place
+        ≡ with_pointer_tree (built_at arena.old place) index (S.set_tree input)) }
     ensures formed { OnOk result (IsWellFormed (S.set_tree input)) }
     ensures sound { OnOk result (first_fault (S.set_tree input) ≡ None) }
     ensures refused { OnErr result (segment arena.new ≡ segment arena.old) }
@@ -77,11 +77,11 @@ pub(crate) fn make_struct_at(
     size: StructSize,
 ) -> Result<()>
     requires planted { IsBuilt arena.old place }
-    requires inside { index < tree_count (built arena.old place).pointers }
+    requires inside { index < tree_count (built_at arena.old place).pointers }
     ensures planted { OnOk result (IsBuilt arena.new place) }
     ensures changes { OnOk result (ChangesIn place arena.old arena.new) }
-    ensures ok { OnOk result (built arena.new place
-        ≡ with_pointer_tree (built arena.old place) index (struct_tree (zero_struct size))) }
+    ensures ok { OnOk result (built_at arena.new place
+        ≡ with_pointer_tree (built_at arena.old place) index (struct_tree (zero_struct size))) }
     ensures formed { OnOk result (IsWellFormed (struct_tree (zero_struct size))) }
     ensures refused { OnErr result (segment arena.new ≡ segment arena.old) }
     ensures cause { IfErr result (λ e. e.kind ≡ OutOfMemory) }
@@ -101,12 +101,12 @@ pub(crate) fn make_sized_at(
     count: u32,
 ) -> Result<()>
     requires planted { IsBuilt arena.old place }
-    requires inside { index < tree_count (built arena.old place).pointers }
+    requires inside { index < tree_count (built_at arena.old place).pointers }
     requires is_sized { is_sized (seen_variant variant) ≡ true }
     ensures planted { OnOk result (IsBuilt arena.new place) }
     ensures changes { OnOk result (ChangesIn place arena.old arena.new) }
-    ensures ok { OnOk result (built arena.new place
-        ≡ with_pointer_tree (built arena.old place) index
+    ensures ok { OnOk result (built_at arena.new place
+        ≡ with_pointer_tree (built_at arena.old place) index
         (initn_tree (lists_seen set.now) (seen_variant variant) count)) }
     ensures within { OnOk result (InitnContent (lists_seen set.now) count (seen_variant variant)
         (At (initn_tree (lists_seen set.now) (seen_variant variant) count))) }
@@ -129,13 +129,13 @@ pub(crate) fn make_empty_at(
     variant: TypeVariant,
 ) -> Result<()>
     requires planted { IsBuilt arena.old place }
-    requires inside { index < tree_count (built arena.old place).pointers }
+    requires inside { index < tree_count (built_at arena.old place).pointers }
     requires pointer { is_pointer (seen_variant variant) ≡ true }
     requires typed { AnyPointerType ≢ seen_variant variant }
     ensures planted { OnOk result (IsBuilt arena.new place) }
     ensures changes { OnOk result (ChangesIn place arena.old arena.new) }
-    ensures ok { OnOk result (built arena.new place
-        ≡ with_pointer_tree (built arena.old place) index (empty_tree (seen_variant variant))) }
+    ensures ok { OnOk result (built_at arena.new place
+        ≡ with_pointer_tree (built_at arena.old place) index (empty_tree (seen_variant variant))) }
     ensures formed { OnOk result (IsWellFormed (empty_tree (seen_variant variant))) }
     ensures refused { OnErr result (segment arena.new ≡ segment arena.old) }
     ensures cause { IfErr result (λ e. e.kind ≡ OutOfMemory) }

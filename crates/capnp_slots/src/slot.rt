@@ -3,7 +3,7 @@ ghost use Rattle.std.specs.Prelude.{None, ◌≡◌, IfErr, IfSome, OnErr, OnOk,
 ghost use Rattle.capnp_device.specs.declared.error.ErrorKind.TheVariants.{OutOfMemory};
 ghost use Rattle.capnp_wire.specs.Edits.{zero_struct};
 ghost use Rattle.capnp_arena.specs.Segment.{segment};
-ghost use Rattle.capnp_arena.specs.Built.{ChangesIn, IsBuilt, built};
+ghost use Rattle.capnp_arena.specs.Built.{ChangesIn, IsBuilt, built_at};
 ghost use Rattle.capnp_wire.specs.Place.{struct_tree};
 ghost use Rattle.capnp_wire.specs.WellFormed.{IsWellFormed};
 ghost use Rattle.capnp_wire.specs.Words.{first_fault};
@@ -12,7 +12,7 @@ ghost use Rattle.capnp_records.specs.Given.{Fails};
 ghost use Rattle.capnp_records.specs.Step.{is_group_field};
 ghost use Rattle.capnp_records.specs.Writes.Overlay.{cleared_content};
 ghost use Rattle.capnp_records.specs.Writes.Slots.{At};
-ghost use Rattle.capnp_slots.specs.Fields.{field_set, IsPointer, IsRoomFor, IsSlot, Keeps, names_of, slot_with, switch_names, switched_to};
+ghost use Rattle.capnp_slots.specs.Fields.{field_set, IsPointerField, IsRoomFor, IsSlot, Keeps, names_of, slot_with, switch_names, switched_to};
 ghost use Rattle.capnp_slots.specs.Sources.{IsPointed, IsSet, IsSetRefusal, source_seen};
 ghost use Rattle.capnp_slots.specs.Inits.{HasInit, HasInitn, IsInitRefusal, IsInitnRefusal, init_content, initn_content};
 ghost use Rattle.capnp_slots.specs.Primitives.{IsGiven, IsGivenAs, given_to, primitive_source, refusal_at, set_content};
@@ -48,11 +48,11 @@ pub fn is_slot(field: Field<'_>) -> bool
 #[inline(always)]
 pub fn switch(arena: &mut Arena, place: StructPlace, field: Field<'_>)
     requires planted { IsBuilt arena.old place }
-    requires room { IsRoomFor field (built arena.old place) }
+    requires room { IsRoomFor field (built_at arena.old place) }
     ensures planted { IsBuilt arena.new place }
     ensures changes { ChangesIn place arena.old arena.new }
-    ensures switched { built arena.new place ≡ switched_to field.entry (built arena.old place) }
-    ensures kept { Keeps (switch_names field.entry) (built arena.old place) (built arena.new place) }
+    ensures switched { built_at arena.new place ≡ switched_to field.entry (built_at arena.old place) }
+    ensures kept { Keeps (switch_names field.entry) (built_at arena.old place) (built_at arena.new place) }
 {
     switch_member(arena, place, field_plan(field).member);
 }
@@ -93,13 +93,13 @@ pub fn set_primitive(
 ) -> Result<()>
     requires planted { IsBuilt arena.old place }
     requires slot { IsSlot field }
-    requires room { IsRoomFor field (built arena.old place) }
+    requires room { IsRoomFor field (built_at arena.old place) }
     ensures planted { OnOk result (IsBuilt arena.new place) }
     ensures changes { OnOk result (ChangesIn place arena.old arena.new) }
-    ensures written { OnOk result (built arena.new place
-        ≡ slot_with field.entry (set_content field.entry (primitive_source value)) (built arena.old place)) }
+    ensures written { OnOk result (built_at arena.new place
+        ≡ slot_with field.entry (set_content field.entry (primitive_source value)) (built_at arena.old place)) }
     ensures given { OnOk result (IsGiven (given_to field.entry (primitive_source value))) }
-    ensures kept { OnOk result (Keeps (names_of field.entry) (built arena.old place) (built arena.new place)) }
+    ensures kept { OnOk result (Keeps (names_of field.entry) (built_at arena.old place) (built_at arena.new place)) }
     ensures refused { OnErr result (segment arena.new ≡ segment arena.old) }
     ensures cause { IfErr result (λ e. given_to field.entry (primitive_source value) ≡ Fails e.kind) }
 {
@@ -126,13 +126,13 @@ pub fn set_pointer<R, S: SetterInput<R>>(
 ) -> Result<()>
     requires planted { IsBuilt arena.old place }
     requires slot { IsSlot field }
-    requires pointer { IsPointer field }
-    requires room { IsRoomFor field (built arena.old place) }
+    requires pointer { IsPointerField field }
+    requires room { IsRoomFor field (built_at arena.old place) }
     ensures planted { OnOk result (IsBuilt arena.new place) }
     ensures changes { OnOk result (ChangesIn place arena.old arena.new) }
-    ensures written { OnOk result (built arena.new place
-        ≡ slot_with field.entry (At (S.set_tree input)) (built arena.old place)) }
-    ensures kept { OnOk result (Keeps (names_of field.entry) (built arena.old place) (built arena.new place)) }
+    ensures written { OnOk result (built_at arena.new place
+        ≡ slot_with field.entry (At (S.set_tree input)) (built_at arena.old place)) }
+    ensures kept { OnOk result (Keeps (names_of field.entry) (built_at arena.old place) (built_at arena.new place)) }
     ensures formed { OnOk result (IsWellFormed (S.set_tree input)) }
     ensures sound { OnOk result (first_fault (S.set_tree input) ≡ None) }
     ensures refused { OnErr result (segment arena.new ≡ segment arena.old) }
@@ -166,12 +166,12 @@ pub fn set(
 ) -> Result<()>
     requires planted { IsBuilt arena.old place }
     requires slot { IsSlot field }
-    requires room { IsRoomFor field (built arena.old place) }
+    requires room { IsRoomFor field (built_at arena.old place) }
     ensures planted { OnOk result (IsBuilt arena.new place) }
     ensures changes { OnOk result (ChangesIn place arena.old arena.new) }
-    ensures set { OnOk result (IsSet field.entry (source_seen source.entry) (built arena.old place)
-        (built arena.new place)) }
-    ensures kept { Keeps (names_of field.entry) (built arena.old place) (built arena.new place) }
+    ensures set { OnOk result (IsSet field.entry (source_seen source.entry) (built_at arena.old place)
+        (built_at arena.new place)) }
+    ensures kept { Keeps (names_of field.entry) (built_at arena.old place) (built_at arena.new place) }
     ensures refused { OnErr result (segment arena.new ≡ segment arena.old) }
     ensures cause { IfErr result (λ e. IsSetRefusal (given_to field.entry (source_seen source.entry)) e.kind) }
 {
@@ -191,12 +191,12 @@ fn set_pointed(
 ) -> Result<()>
     requires planted { IsBuilt arena.old place }
     requires slot { IsSlot field }
-    requires room { IsRoomFor field (built arena.old place) }
+    requires room { IsRoomFor field (built_at arena.old place) }
     requires pointed { IsPointed (source_seen source) }
     ensures planted { OnOk result (IsBuilt arena.new place) }
     ensures changes { OnOk result (ChangesIn place arena.old arena.new) }
-    ensures set { OnOk result (IsSet field.entry (source_seen source.entry) (built arena.old place)
-        (built arena.new place)) }
+    ensures set { OnOk result (IsSet field.entry (source_seen source.entry) (built_at arena.old place)
+        (built_at arena.new place)) }
     ensures refused { OnErr result (segment arena.new ≡ segment arena.old) }
     ensures cause { IfErr result (λ e. IsSetRefusal (given_to field.entry (source_seen source.entry)) e.kind) }
 {
@@ -217,13 +217,13 @@ fn set_pointed(
 pub fn init(arena: &mut Arena, place: StructPlace, field: Field<'_>) -> Result<()>
     requires planted { IsBuilt arena.old place }
     requires slot { IsSlot field }
-    requires room { IsRoomFor field (built arena.old place) }
+    requires room { IsRoomFor field (built_at arena.old place) }
     ensures planted { OnOk result (IsBuilt arena.new place) }
     ensures changes { OnOk result (ChangesIn place arena.old arena.new) }
-    ensures written { OnOk result (built arena.new place
-        ≡ slot_with field.entry (init_content field.entry) (built arena.old place)) }
+    ensures written { OnOk result (built_at arena.new place
+        ≡ slot_with field.entry (init_content field.entry) (built_at arena.old place)) }
     ensures has { OnOk result (HasInit field.entry) }
-    ensures kept { OnOk result (Keeps (names_of field.entry) (built arena.old place) (built arena.new place)) }
+    ensures kept { OnOk result (Keeps (names_of field.entry) (built_at arena.old place) (built_at arena.new place)) }
     ensures refused { OnErr result (segment arena.new ≡ segment arena.old) }
     ensures cause { IfErr result (λ e. IsInitRefusal (typed_of field.entry).type e.kind) }
 {
@@ -249,13 +249,13 @@ fn init_struct(
 ) -> Result<()>
     requires planted { IsBuilt arena.old place }
     requires slot { IsSlot field }
-    requires pointer { IsPointer field }
-    requires room { IsRoomFor field (built arena.old place) }
+    requires pointer { IsPointerField field }
+    requires room { IsRoomFor field (built_at arena.old place) }
     ensures planted { OnOk result (IsBuilt arena.new place) }
     ensures changes { OnOk result (ChangesIn place arena.old arena.new) }
-    ensures written { OnOk result (built arena.new place
-        ≡ slot_with field.entry (At (struct_tree (zero_struct size))) (built arena.old place)) }
-    ensures kept { OnOk result (Keeps (names_of field.entry) (built arena.old place) (built arena.new place)) }
+    ensures written { OnOk result (built_at arena.new place
+        ≡ slot_with field.entry (At (struct_tree (zero_struct size))) (built_at arena.old place)) }
+    ensures kept { OnOk result (Keeps (names_of field.entry) (built_at arena.old place) (built_at arena.new place)) }
     ensures refused { OnErr result (segment arena.new ≡ segment arena.old) }
     ensures cause { IfErr result (λ e. e.kind ≡ OutOfMemory) }
 {
@@ -276,13 +276,13 @@ fn init_struct(
 pub fn initn(arena: &mut Arena, place: StructPlace, field: Field<'_>, count: u32) -> Result<()>
     requires planted { IsBuilt arena.old place }
     requires slot { IsSlot field }
-    requires room { IsRoomFor field (built arena.old place) }
+    requires room { IsRoomFor field (built_at arena.old place) }
     ensures planted { OnOk result (IsBuilt arena.new place) }
     ensures changes { OnOk result (ChangesIn place arena.old arena.new) }
-    ensures written { OnOk result (built arena.new place
-        ≡ slot_with field.entry (initn_content field.entry count) (built arena.old place)) }
+    ensures written { OnOk result (built_at arena.new place
+        ≡ slot_with field.entry (initn_content field.entry count) (built_at arena.old place)) }
     ensures has { OnOk result (HasInitn field.entry count) }
-    ensures kept { OnOk result (Keeps (names_of field.entry) (built arena.old place) (built arena.new place)) }
+    ensures kept { OnOk result (Keeps (names_of field.entry) (built_at arena.old place) (built_at arena.new place)) }
     ensures refused { OnErr result (segment arena.new ≡ segment arena.old) }
     ensures cause { IfErr result (λ e. IsInitnRefusal (field_set field.entry) count
         (typed_of field.entry).type e.kind) }
@@ -306,12 +306,12 @@ pub fn initn(arena: &mut Arena, place: StructPlace, field: Field<'_>, count: u32
 pub fn clear(arena: &mut Arena, place: StructPlace, field: Field<'_>)
     requires planted { IsBuilt arena.old place }
     requires slot { IsSlot field }
-    requires room { IsRoomFor field (built arena.old place) }
+    requires room { IsRoomFor field (built_at arena.old place) }
     ensures planted { IsBuilt arena.new place }
     ensures changes { ChangesIn place arena.old arena.new }
-    ensures cleared { built arena.new place ≡ slot_with field.entry (cleared_content (typed_of field.entry).type)
-        (built arena.old place) }
-    ensures kept { Keeps (names_of field.entry) (built arena.old place) (built arena.new place) }
+    ensures cleared { built_at arena.new place ≡ slot_with field.entry (cleared_content (typed_of field.entry).type)
+        (built_at arena.old place) }
+    ensures kept { Keeps (names_of field.entry) (built_at arena.old place) (built_at arena.new place) }
 {
     clear_plan(arena, place, slot_plan(field));
 }

@@ -1,6 +1,6 @@
 //! What fields and elements are set to.
 ghost use Rattle.std.specs.Prelude.{◌≡◌, MatchOption};
-ghost use Rattle.capnp_wire.specs.Edits.{IsCopyRefusal, rounded};
+ghost use Rattle.capnp_wire.specs.Edits.{IsCopyRefusal, rounded_struct};
 ghost use Rattle.capnp_wire.specs.Place.{struct_tree};
 ghost use Rattle.capnp_wire.specs.Standing.{list_of, struct_of, tree_of};
 ghost use Rattle.capnp_wire.specs.Words.{first_fault, first_fault_of_all};
@@ -103,7 +103,7 @@ pub fn source_fits(source: Source<'_>)
 pub struct StructInput<'a>(pub StructReader<'a>);
 
 impl<'a> SetterInput<any_pointer::Owned> for StructInput<'a> {
-    ghost set_tree = { λ input. struct_tree (rounded (struct_of input.0)) };
+    ghost set_tree = { λ input. struct_tree (rounded_struct (struct_of input.0)) };
 
     ghost set_refusal = { λ input error. IsCopyRefusal error (first_fault_of_all (struct_of input.0).pointers) };
 
@@ -177,7 +177,7 @@ impl<'a> SetterInput<any_pointer::Owned> for any_pointer::Reader<'a> {
 }
 
 impl<'a> SetterInput<any_pointer::Owned> for dynamic_struct::Reader<'a> {
-    ghost set_tree = { λ input. struct_tree (rounded (struct_of (reader_of input))) };
+    ghost set_tree = { λ input. struct_tree (rounded_struct (struct_of (reader_of input))) };
 
     ghost set_refusal = { λ input error. IsCopyRefusal error
         (first_fault_of_all (struct_of (reader_of input)).pointers) };

@@ -4,7 +4,7 @@ use Rattle.std.specs.Option.{unwrap_or}
 use Rattle.std.proofs.Common.{◌≡◌, ◌∙◌, ap, append_assoc, arith, refl, sym}
 use Rattle.std.proofs.lemmas.List.{drop_more}
 use Rattle.capnp_schema.specs.Schema.{Schemas, Brand, TypedField, fields_of, no_brand, no_field}
-use Rattle.capnp_records.specs.Text.{said}
+use Rattle.capnp_records.specs.Text.{said_text}
 use Rattle.capnp_structs.specs.Fields.{all_lines, field_lines, fields_within, inside}
 use Rattle.capnp_structs.specs.Names.{struct_line, struct_lines}
 
@@ -42,7 +42,7 @@ none_left (f ∷ fs) zero past = absurd (omega (arith, past))
 none_left (f ∷ fs) (suc i) past = none_left fs i (omega (arith, past))
 
 -- through no group nothing is said
-pub within_none : (set : Schemas) (groups : ℕ) (prefix : List ℕ) (b : ℕ) → groups ≡ 0 → fields_within set groups prefix b ≡ said []
+pub within_none : (set : Schemas) (groups : ℕ) (prefix : List ℕ) (b : ℕ) → groups ≡ 0 → fields_within set groups prefix b ≡ said_text []
 unfolding fields_within
 within_none set zero prefix b e = refl
 within_none set (suc groups) prefix b e = absurd (omega (arith, e))

@@ -5,7 +5,7 @@ use Rattle.std.specs.Str.{is_utf8, chars}
 use lib.Utf8.{encode}
 use Rattle.capnp_wire.specs.Place.{tree_at}
 use Rattle.capnp_schema.specs.Builtin.{builtin}
-use Rattle.capnp_records.specs.Text.{said}
+use Rattle.capnp_records.specs.Text.{said_text}
 use Rattle.capnp_structs.specs.Fields.{fields_text, fields_within}
 use Rattle.capnp_structs.specs.Names.{structs_text}
 
@@ -13,7 +13,7 @@ all : structs_text builtin ≡ codes "Flat\nMixed\nMany\nShapes\nLoop\nLists\nNo
 all = refl
 
 mixed : fields_text builtin 1
-    ≡ said (codes "a: UInt16, data bit 0, default 0\n"
+    ≡ said_text (codes "a: UInt16, data bit 0, default 0\n"
     ++ codes "x: Void, member 0\n"
     ++ codes "y: UInt8, data bit 32, default 0, member 1\n"
     ++ codes "b: Text, pointer 0, default \"\"\n")
@@ -21,7 +21,7 @@ unfolding fields_within tree_at digits debug_escape is_utf8 chars encode
 mixed = refl
 
 many : fields_text builtin 2
-    ≡ said (codes "flag: Bool, data bit 0, default true\n"
+    ≡ said_text (codes "flag: Bool, data bit 0, default true\n"
     ++ codes "s: Int8, data bit 8, default -1\n"
     ++ codes "n: UInt16, data bit 16, default 7\n"
     ++ codes "w: Int32, data bit 32, default 0\n"
@@ -31,7 +31,7 @@ unfolding fields_within tree_at digits debug_escape is_utf8 chars encode
 many = refl
 
 shapes : fields_text builtin 3
-    ≡ said (codes "id: UInt16, data bit 0, default 0\n"
+    ≡ said_text (codes "id: UInt16, data bit 0, default 0\n"
     ++ codes "circle: group, member 0\n"
     ++ codes "circle.r: UInt32, data bit 32, default 0\n"
     ++ codes "tag: group, member 1\n"
@@ -45,13 +45,13 @@ unfolding fields_within tree_at digits debug_escape is_utf8 chars encode
 shapes = refl
 
 loop : fields_text builtin 6
-    ≡ said (codes "end: Void, member 0\n"
+    ≡ said_text (codes "end: Void, member 0\n"
     ++ codes "again: Loop, pointer 0, default words: 3, member 1\n")
 unfolding fields_within tree_at digits debug_escape is_utf8 chars encode
 loop = refl
 
 lists : fields_text builtin 7
-    ≡ said (codes "bytes: List(UInt8), pointer 0\n"
+    ≡ said_text (codes "bytes: List(UInt8), pointer 0\n"
     ++ codes "raw: Data, pointer 1, default 0x\"\"\n"
     ++ codes "t: Text, pointer 2, default \"\"\n"
     ++ codes "items: List(Flat), pointer 3\n")
@@ -59,7 +59,7 @@ unfolding fields_within tree_at digits debug_escape is_utf8 chars encode
 lists = refl
 
 node : fields_text builtin 8
-    ≡ said (codes "id: UInt64, data bit 0, default 0\n"
+    ≡ said_text (codes "id: UInt64, data bit 0, default 0\n"
     ++ codes "displayName: Text, pointer 0, default \"\"\n"
     ++ codes "size: ElementSize, data bit 64, default 0\n")
 unfolding fields_within tree_at digits debug_escape is_utf8 chars encode

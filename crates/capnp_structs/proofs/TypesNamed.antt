@@ -6,38 +6,38 @@ use Rattle.capnp_base.specs.Types.{base_of, list_depth}
 use Rattle.capnp_base.specs.declared.introspect.«Type».{«Type» as TypeHandle}
 use Rattle.capnp_schema.specs.Schema.{Schemas}
 use Rattle.capnp_schema.specs.Types.{SchemaType, lists_of, seen_base, seen_type}
-use Rattle.capnp_structs.specs.Fields.{repeated, type_text}
+use Rattle.capnp_structs.specs.Fields.{repeated_words, type_text}
 
 nothing_behind : (xs : List ℕ) → xs ++ [] ≡ xs
 nothing_behind [] = refl
 nothing_behind (x ∷ xs) = ap (λ ys. x ∷ ys) (nothing_behind xs)
 
 -- one more in front is one more behind
-repeated_behind : (n : ℕ) (piece : List ℕ) → repeated n piece ++ piece ≡ piece ++ repeated n piece
+repeated_behind : (n : ℕ) (piece : List ℕ) → repeated_words n piece ++ piece ≡ piece ++ repeated_words n piece
 repeated_behind zero piece = sym (nothing_behind piece)
-repeated_behind (suc n) piece = append_assoc piece (repeated n piece) piece ∙ ap (λ xs. piece ++ xs) (repeated_behind n piece)
+repeated_behind (suc n) piece = append_assoc piece (repeated_words n piece) piece ∙ ap (λ xs. piece ++ xs) (repeated_behind n piece)
 
 -- what opens the lists, what stands inside, and what closes them
-lists_text : (set : Schemas) (n : ℕ) (t : SchemaType) → (repeated n (codes "List(") ++ type_text set t) ++ repeated n (codes ")") ≡ type_text set (lists_of n t)
+lists_text : (set : Schemas) (n : ℕ) (t : SchemaType) → (repeated_words n (codes "List(") ++ type_text set t) ++ repeated_words n (codes ")") ≡ type_text set (lists_of n t)
 lists_text set zero t = nothing_behind (type_text set t)
 lists_text set (suc n) t =
-    ap (λ xs. xs ++ (codes ")" ++ repeated n (codes ")"))) (append_assoc (codes "List(") (repeated n (codes "List(")) (type_text set t))
-    ∙ (append_assoc (codes "List(") (repeated n (codes "List(") ++ type_text set t) (codes ")" ++ repeated n (codes ")"))
+    ap (λ xs. xs ++ (codes ")" ++ repeated_words n (codes ")"))) (append_assoc (codes "List(") (repeated_words n (codes "List(")) (type_text set t))
+    ∙ (append_assoc (codes "List(") (repeated_words n (codes "List(") ++ type_text set t) (codes ")" ++ repeated_words n (codes ")"))
     ∙ ap (λ xs. codes "List(" ++ xs)
-    (ap (λ xs. (repeated n (codes "List(") ++ type_text set t) ++ xs) (sym (repeated_behind n (codes ")")))
-    ∙ (sym (append_assoc (repeated n (codes "List(") ++ type_text set t) (repeated n (codes ")")) (codes ")"))
+    (ap (λ xs. (repeated_words n (codes "List(") ++ type_text set t) ++ xs) (sym (repeated_behind n (codes ")")))
+    ∙ (sym (append_assoc (repeated_words n (codes "List(") ++ type_text set t) (repeated_words n (codes ")")) (codes ")"))
     ∙ ap (λ xs. xs ++ codes ")") (lists_text set n t))))
 
-type_whole : (set : Schemas) (t : TypeHandle) (old mid mid' new : List ℕ) → mid ≡ old ++ repeated (list_depth t) (codes "List(") → mid' ≡ mid ++ type_text set (seen_base (base_of t)) →
-    new ≡ mid' ++ repeated (list_depth t) (codes ")") → new ≡ old ++ type_text set (seen_type t)
+type_whole : (set : Schemas) (t : TypeHandle) (old mid mid' new : List ℕ) → mid ≡ old ++ repeated_words (list_depth t) (codes "List(") → mid' ≡ mid ++ type_text set (seen_base (base_of t)) →
+    new ≡ mid' ++ repeated_words (list_depth t) (codes ")") → new ≡ old ++ type_text set (seen_type t)
 type_whole set t old mid mid' new first then last =
     let n = list_depth t in
     let inner = type_text set (seen_base (base_of t)) in
     last
-    ∙ (ap (λ xs. xs ++ repeated n (codes ")")) (then ∙ (ap (λ xs. xs ++ inner) first ∙ append_assoc old (repeated n (codes "List(")) inner))
-    ∙ (append_assoc old (repeated n (codes "List(") ++ inner) (repeated n (codes ")")) ∙ ap (λ xs. old ++ xs) (lists_text set n (seen_base (base_of t)))))
+    ∙ (ap (λ xs. xs ++ repeated_words n (codes ")")) (then ∙ (ap (λ xs. xs ++ inner) first ∙ append_assoc old (repeated_words n (codes "List(")) inner))
+    ∙ (append_assoc old (repeated_words n (codes "List(") ++ inner) (repeated_words n (codes ")")) ∙ ap (λ xs. old ++ xs) (lists_text set n (seen_base (base_of t)))))
 
-pub type_put : {A : Type 0} (r : Result A Error) (set : Schemas) (t : TypeHandle) (old mid mid' new : List ℕ) → mid ≡ old ++ repeated (list_depth t) (codes "List(") → mid' ≡ mid ++ type_text set (seen_base (base_of t)) →
-    OnOk r (new ≡ mid' ++ repeated (list_depth t) (codes ")")) → OnOk r (new ≡ old ++ type_text set (seen_type t))
+pub type_put : {A : Type 0} (r : Result A Error) (set : Schemas) (t : TypeHandle) (old mid mid' new : List ℕ) → mid ≡ old ++ repeated_words (list_depth t) (codes "List(") → mid' ≡ mid ++ type_text set (seen_base (base_of t)) →
+    OnOk r (new ≡ mid' ++ repeated_words (list_depth t) (codes ")")) → OnOk r (new ≡ old ++ type_text set (seen_type t))
 type_put (Ok a) set t old mid mid' new first then last = type_whole set t old mid mid' new first then last
 type_put (Err e) set t old mid mid' new first then last = tt

@@ -4,7 +4,7 @@ use Rattle.std.proofs.Common.{◌≡◌, ◌∙◌, add-one, ap, arith, subst, s
 use Rattle.capnp_schema.specs.Accepted.{IsParent}
 use Rattle.capnp_schema.specs.Facts.GroupFields.{group_field_found, target_parent}
 use Rattle.capnp_schema.specs.Facts.GroupWalks.{frames_group, frames_outside, steps_advance, steps_enter, steps_leave}
-use Rattle.capnp_schema.specs.FieldLists.{IsFieldOf, index_of, schema_of, typed_of}
+use Rattle.capnp_schema.specs.FieldLists.{IsFieldOf, index_of, field_schema, typed_of}
 use Rattle.capnp_schema.specs.GroupFields.{group_field_of}
 use Rattle.capnp_schema.specs.GroupsDown.{IsGroupFieldOf, place_of_field}
 use Rattle.capnp_schema.specs.GroupWalks.{above, frames, frames_above, steps_left, walk_brand, walk_depth, walk_index, walk_schema, walk_set}
@@ -20,7 +20,7 @@ use Rattle.capnp_structs.proofs.Walked.{AreWaiting, path_group, path_under, wait
 
 -- what is known of the field that a walk stands at, by the walk's set, brand and index
 pub at_place : (set : Schemas) (w : GroupWalk) (f : Field) (P : Schemas → ℕ → ℕ → Type 0) → walk_set w ≡ set → IsFieldOf (walk_schema w) (walk_index w) f →
-    P (set_of (schema_of f)) (number_of (schema_of f)) (index_of f) → P set (walk_brand w) (walk_index w)
+    P (set_of (field_schema f)) (number_of (field_schema f)) (index_of f) → P set (walk_brand w) (walk_index w)
 at_place set w f P same is p =
     subst (λ (z : Schemas). P z (walk_brand w) (walk_index w)) same
     (subst (λ (n : ℕ). P (walk_set w) (walk_brand w) n) is.index
@@ -38,11 +38,11 @@ none_above w s is none = frames_outside (walk_set w) (walk_depth w) (walk_brand 
 
 -- the frames above a group that is left
 above_group : (w outer : GroupWalk) (own : Field) → walk_depth outer + 1 ≡ walk_depth w → frames outer ≡ above w → Some (place_of_field own) ≡ group_field_of (walk_set w) (walk_brand w) →
-    above w ≡ (number_of (schema_of own), index_of own + 1) ∷ above outer
+    above w ≡ (number_of (field_schema own), index_of own + 1) ∷ above outer
 above_group w outer own depth fs place =
-    let here : above w ≡ (number_of (schema_of own), index_of own + 1) ∷ frames_above (walk_set w) (walk_depth outer) (number_of (schema_of own)) =
-    frames_group (walk_set w) (walk_depth outer) (walk_depth w) (walk_brand w) (number_of (schema_of own)) (index_of own) (omega (arith, depth)) (sym place) in
-    here ∙ ap (λ (rest : List (ℕ × ℕ)). (number_of (schema_of own), index_of own + 1) ∷ rest) (sym (above_of outer _ _ _ (fs ∙ here)))
+    let here : above w ≡ (number_of (field_schema own), index_of own + 1) ∷ frames_above (walk_set w) (walk_depth outer) (number_of (field_schema own)) =
+    frames_group (walk_set w) (walk_depth outer) (walk_depth w) (walk_brand w) (number_of (field_schema own)) (index_of own) (omega (arith, depth)) (sym place) in
+    here ∙ ap (λ (rest : List (ℕ × ℕ)). (number_of (field_schema own), index_of own + 1) ∷ rest) (sym (above_of outer _ _ _ (fs ∙ here)))
 
 -- ---- the path ----
 
@@ -66,8 +66,8 @@ pub path_leave : (set : Schemas) (w outer : GroupWalk) (s : StructSchema) (own :
 path_leave set w outer s own path at same depth fs is place e =
     let here : Some (place_of_field own) ≡ group_field_of (walk_set w) (walk_brand w) = subst (λ (z : StructSchema). Some (place_of_field own) ≡ group_field_of (set_of z) (number_of z)) at place in
     e ∙ (ap (path_under set) (above_group w outer own depth fs here)
-    ∙ (path_group set (number_of (schema_of own)) (index_of own) (above outer)
-    ∙ ap (λ (z : Schemas). inside (path_under set (above outer)) (field_at z (number_of (schema_of own)) (index_of own))) (sym (is.set ∙ (ap set_of at ∙ same)))))
+    ∙ (path_group set (number_of (field_schema own)) (index_of own) (above outer)
+    ∙ ap (λ (z : Schemas). inside (path_under set (above outer)) (field_at z (number_of (field_schema own)) (index_of own))) (sym (is.set ∙ (ap set_of at ∙ same)))))
 
 -- ---- the text, and how much is left to do ----
 
@@ -77,11 +77,11 @@ fewer_past set left w new f same is fs =
     subst (λ (l : List (ℕ × ℕ)). steps_left set left l < steps_left set left (frames w)) (sym fs)
     (steps_advance set left (walk_brand w) (walk_index w) (above w) (inside_set set w f same is))
 
-parent : (set : Schemas) (w : GroupWalk) (f : Field) (g : ℕ) → walk_set w ≡ set → IsFieldOf (walk_schema w) (walk_index w) f → group_field_of (set_of (schema_of f)) g ≡ Some (place_of_field f) → IsParent set g (walk_brand w) (walk_index w)
+parent : (set : Schemas) (w : GroupWalk) (f : Field) (g : ℕ) → walk_set w ≡ set → IsFieldOf (walk_schema w) (walk_index w) f → group_field_of (set_of (field_schema f)) g ≡ Some (place_of_field f) → IsParent set g (walk_brand w) (walk_index w)
 parent set w f g same is back =
     target_parent set g (walk_brand w) (walk_index w) (group_field_found set g (walk_brand w) (walk_index w) (at_place set w f (λ z b i. group_field_of z g ≡ Some (b, i)) same is back)).1
 
-pub fewer_inside : (set : Schemas) (left : ℕ) (w new : GroupWalk) (f : Field) (g : ℕ) → (left ≡ 0 → ⊥) → walk_set w ≡ set → IsFieldOf (walk_schema w) (walk_index w) f → group_field_of (set_of (schema_of f)) g ≡ Some (place_of_field f) →
+pub fewer_inside : (set : Schemas) (left : ℕ) (w new : GroupWalk) (f : Field) (g : ℕ) → (left ≡ 0 → ⊥) → walk_set w ≡ set → IsFieldOf (walk_schema w) (walk_index w) f → group_field_of (set_of (field_schema f)) g ≡ Some (place_of_field f) →
     frames new ≡ (g, 0) ∷ (walk_brand w, walk_index w + 1) ∷ above w → steps_left set (left - 1) (frames new) < steps_left set left (frames w)
 fewer_inside set left w new f g some same is back fs =
     let more : suc (left - 1) ≡ left = omega (arith, some) in
@@ -100,7 +100,7 @@ starts set start groups left b w some less fs =
 
 module _ (set : Schemas) (start : List ℕ) (whole : Out) where
   pub said_slot : (left : ℕ) (w new : GroupWalk) (f : Field) (prefix text text' : List ℕ) → walk_set w ≡ set → IsFieldOf (walk_schema w) (walk_index w) f → None ≡ kind_target (typed_of f).field.kind (typed_of f).type →
-      prefix ≡ path_under set (above w) → IsAppended text (slot_line (set_of (schema_of f)) (number_of (schema_of f)) prefix (typed_of f)) text' → frames new ≡ (walk_brand w, walk_index w + 1) ∷ above w →
+      prefix ≡ path_under set (above w) → IsAppended text (slot_line (set_of (field_schema f)) (number_of (field_schema f)) prefix (typed_of f)) text' → frames new ≡ (walk_brand w, walk_index w + 1) ∷ above w →
       AreWaiting set start whole left (frames w) text → AreWaiting set start whole left (frames new) text'
   said_slot left w new f prefix text text' same is leads path put fs waiting =
       subst (λ (l : List (ℕ × ℕ)). AreWaiting set start whole left l text') (sym fs)
@@ -110,13 +110,13 @@ module _ (set : Schemas) (start : List ℕ) (whole : Out) where
       (at_place set w f (λ z b i. IsAppended text (slot_line z b prefix (field_at z b i)) text') same is put)))
 
   group_put : (w : GroupWalk) (f : Field) (prefix text text' : List ℕ) → walk_set w ≡ set → IsFieldOf (walk_schema w) (walk_index w) f → prefix ≡ path_under set (above w) →
-      text' ≡ text ++ group_line (set_of (schema_of f)) (number_of (schema_of f)) prefix (typed_of f) → text' ≡ text ++ group_line set (walk_brand w) (path_under set (above w)) (field_at set (walk_brand w) (walk_index w))
+      text' ≡ text ++ group_line (set_of (field_schema f)) (number_of (field_schema f)) prefix (typed_of f) → text' ≡ text ++ group_line set (walk_brand w) (path_under set (above w)) (field_at set (walk_brand w) (walk_index w))
   group_put w f prefix text text' same is path put =
       subst (λ (p : List ℕ). text' ≡ text ++ group_line set (walk_brand w) p (field_at set (walk_brand w) (walk_index w))) path
       (at_place set w f (λ z b i. text' ≡ text ++ group_line z b prefix (field_at z b i)) same is put)
 
   pub said_group : (left : ℕ) (w new : GroupWalk) (f : Field) (g : ℕ) (prefix text text' : List ℕ) → left ≡ 0 → walk_set w ≡ set → IsFieldOf (walk_schema w) (walk_index w) f → Some g ≡ kind_target (typed_of f).field.kind (typed_of f).type →
-      prefix ≡ path_under set (above w) → text' ≡ text ++ group_line (set_of (schema_of f)) (number_of (schema_of f)) prefix (typed_of f) → frames new ≡ (walk_brand w, walk_index w + 1) ∷ above w →
+      prefix ≡ path_under set (above w) → text' ≡ text ++ group_line (set_of (field_schema f)) (number_of (field_schema f)) prefix (typed_of f) → frames new ≡ (walk_brand w, walk_index w + 1) ∷ above w →
       AreWaiting set start whole left (frames w) text → AreWaiting set start whole left (frames new) text'
   said_group left w new f g prefix text text' none same is leads path put fs waiting =
       subst (λ (l : List (ℕ × ℕ)). AreWaiting set start whole left l text') (sym fs)
@@ -124,7 +124,7 @@ module _ (set : Schemas) (start : List ℕ) (whole : Out) where
       (at_place set w f (λ z b i. Some g ≡ kind_target (field_at z b i).field.kind (field_at z b i).type) same is leads) (group_put w f prefix text text' same is path put))
 
   pub goes_inside : (left : ℕ) (w new : GroupWalk) (f : Field) (g : ℕ) (prefix text text' : List ℕ) → (left ≡ 0 → ⊥) → walk_set w ≡ set → IsFieldOf (walk_schema w) (walk_index w) f → Some g ≡ kind_target (typed_of f).field.kind (typed_of f).type →
-      prefix ≡ path_under set (above w) → text' ≡ text ++ group_line (set_of (schema_of f)) (number_of (schema_of f)) prefix (typed_of f) → frames new ≡ (g, 0) ∷ (walk_brand w, walk_index w + 1) ∷ above w →
+      prefix ≡ path_under set (above w) → text' ≡ text ++ group_line (set_of (field_schema f)) (number_of (field_schema f)) prefix (typed_of f) → frames new ≡ (g, 0) ∷ (walk_brand w, walk_index w + 1) ∷ above w →
       AreWaiting set start whole left (frames w) text → AreWaiting set start whole (left - 1) (frames new) text'
   goes_inside left w new f g prefix text text' some same is leads path put fs waiting =
       let more : left ≡ suc (left - 1) = omega (arith, some) in

@@ -3,7 +3,7 @@
 use Rattle.std.specs.Prelude.{ℕ, suc, ◌+◌, ◌-◌, ◌<◌, ◌≤◌, List, [], ◌∷◌, ◌++◌, drop, length, Option, Some, None}
 use Rattle.std.proofs.Common.{◌≡◌, ap, arith, subst, sym}
 use Rattle.capnp_schema.specs.Schema.{Schemas, TypedField, field_at, fields_of, kind_target}
-use Rattle.capnp_records.specs.Text.{Out, said}
+use Rattle.capnp_records.specs.Text.{Out, said_text}
 use Rattle.capnp_dynamic_readers.specs.Facts.Appended.{both, bytes_put, nothing}
 use Rattle.capnp_dynamic_readers.specs.Pieces.{IsAppended}
 use Rattle.capnp_structs.specs.Fields.{all_lines, field_lines, fields_within, group_line, inside, lines_of, slot_line}
@@ -82,7 +82,7 @@ module _ (set : Schemas) (start : List ℕ) (whole : Out) where
       IsAppended text (field_lines set b (fields_within set groups) (path_under set rest) (field_at set b i)) mid
   field_said groups b i g rest text text' mid leads put inner =
       subst (λ (o : Option ℕ). IsAppended text (lines_of set b (fields_within set groups) (path_under set rest) (field_at set b i) o) mid) leads
-      (both (said (group_line set b (path_under set rest) (field_at set b i))) (fields_within set groups (inside (path_under set rest) (field_at set b i)) g) text text' mid
+      (both (said_text (group_line set b (path_under set rest) (field_at set b i))) (fields_within set groups (inside (path_under set rest) (field_at set b i)) g) text text' mid
       (bytes_put (group_line set b (path_under set rest) (field_at set b i)) text text' put) inner)
 
   -- past a group that is not gone into

@@ -1,6 +1,6 @@
 -- The names of a set's structs.
 use Rattle.std.specs.Prelude.{ℕ, suc, ◌==◌, List, [], ◌∷◌, ◌++◌, Bool, false, cond, Option, Some, None}
-use Rattle.capnp_schema.specs.ByName.{brand_asked, numbered}
+use Rattle.capnp_schema.specs.ByName.{brand_asked, numbered_brand}
 use Rattle.capnp_schema.specs.Schema.{Schemas, Brand, node_of}
 
 -- whether a number is this one
@@ -18,7 +18,7 @@ number_line set None = []
 number_line set (Some b) = cond (has_name set b) ((node_of set b).display_name ++ 10 ∷ []) []
 
 abbrev pub struct_line : Schemas → ℕ → List ℕ
-struct_line set b = number_line set (numbered (Some b))
+struct_line set b = number_line set (numbered_brand (Some b))
 
 -- a line for each of these brands, which are the set's from a number on
 abbrev pub struct_lines : Schemas → List Brand → ℕ → List ℕ

@@ -2,16 +2,16 @@
 ghost use Rattle.std.specs.Prelude.{ℕ, List, [], ◌≡◌, ◌≢◌, ◌++◌, Err, IfErr, IfOk, OnOk, decimal, false, string_bytes};
 ghost use Rattle.capnp_device.specs.declared.error.ErrorKind.TheVariants.{OutOfMemory};
 ghost use Rattle.capnp_schema.specs.Entries.{lists_seen};
-ghost use Rattle.capnp_schema.specs.FieldLists.{schema_of, typed_of};
+ghost use Rattle.capnp_schema.specs.FieldLists.{field_schema, typed_of};
 ghost use Rattle.capnp_schema.specs.Plan.{plan_of};
 ghost use Rattle.capnp_schema.specs.Schema.{default_of, enum_at, kind_default, node_of, seen_kind, seen_value};
 ghost use Rattle.capnp_schema.specs.StructHandles.{IsStruct, number_of, set_of};
 ghost use Rattle.capnp_schema.specs.Types.{seen_base, seen_type};
 ghost use Rattle.capnp_base.specs.Types.{base_of, list_depth};
-ghost use Rattle.capnp_records.specs.Text.{after, said};
+ghost use Rattle.capnp_records.specs.Text.{after, said_text};
 ghost use Rattle.capnp_dynamic_readers.specs.Pieces.{IsAppended};
 ghost use Rattle.capnp_dynamic_readers.specs.Shown.{printed_text};
-ghost use Rattle.capnp_structs.specs.Fields.{default_said, default_text, fields_text, fields_within, group_line, inside, line_end, place_text, repeated, slot_head, slot_line, type_text, words_said};
+ghost use Rattle.capnp_structs.specs.Fields.{default_said, default_text, fields_text, fields_within, group_line, inside, line_end, place_text, repeated_words, slot_head, slot_line, type_text, said_words};
 
 use capnp_base::introspect::{Type, TypeVariant};
 use capnp_base::text;
@@ -54,7 +54,7 @@ fn put_struct(out: &mut String, set: &SchemaSet, number: u32) -> Result<()>
 /// Appends a piece for each list around a type.
 fn put_lists(out: &mut String, of: Type, piece: &str) -> Result<()>
     ensures put { OnOk result (string_bytes out.new
-        ≡ string_bytes out.old ++ repeated (list_depth of) piece.now) }
+        ≡ string_bytes out.old ++ repeated_words (list_depth of) piece.now) }
     ensures memory { IfErr result (λ e. e.kind ≡ OutOfMemory) }
 {
     let mut rest = of;
@@ -141,7 +141,7 @@ fn put_value(out: &mut String, value: Value<'_>) -> Result<()>
 
 /// Appends how many words a default has, and nothing of a null.
 fn put_words(out: &mut String, words: &[u8]) -> Result<()>
-    ensures put { OnOk result (IsAppended (string_bytes out.old) (words_said words.now) (string_bytes out.new)) }
+    ensures put { OnOk result (IsAppended (string_bytes out.old) (said_words words.now) (string_bytes out.new)) }
     ensures memory { IfErr result (λ e. e.kind ≡ OutOfMemory) }
 {
     if PointerReader::from_words(words).is_null() {
@@ -192,8 +192,8 @@ fn put_kind(out: &mut String, kind: &FieldKind) -> Result<()>
 /// Appends what stands before a slot's default.
 fn put_head(out: &mut String, prefix: &str, field: Field<'_>) -> Result<()>
     ensures put { OnOk result (string_bytes out.new
-        ≡ string_bytes out.old ++ slot_head (set_of (schema_of field.entry)) prefix.now (typed_of field.entry)
-        (plan_of (set_of (schema_of field.entry)) (number_of (schema_of field.entry)) (typed_of field.entry)).place) }
+        ≡ string_bytes out.old ++ slot_head (set_of (field_schema field.entry)) prefix.now (typed_of field.entry)
+        (plan_of (set_of (field_schema field.entry)) (number_of (field_schema field.entry)) (typed_of field.entry)).place) }
     ensures memory { IfErr result (λ e. e.kind ≡ OutOfMemory) }
 {
     out.push_str(prefix)?;
@@ -210,7 +210,7 @@ fn put_head(out: &mut String, prefix: &str, field: Field<'_>) -> Result<()>
 /// Appends the line of a slot.
 fn put_slot(out: &mut String, prefix: &str, field: Field<'_>) -> Result<()>
     ensures put { OnOk result (IsAppended (string_bytes out.old)
-        (slot_line (set_of (schema_of field.entry)) (number_of (schema_of field.entry)) prefix.now
+        (slot_line (set_of (field_schema field.entry)) (number_of (field_schema field.entry)) prefix.now
         (typed_of field.entry))
         (string_bytes out.new)) }
     ensures memory { IfErr result (λ e. e.kind ≡ OutOfMemory) }
@@ -223,8 +223,8 @@ fn put_slot(out: &mut String, prefix: &str, field: Field<'_>) -> Result<()>
 /// Appends the line of a group.
 fn put_group(out: &mut String, prefix: &str, field: Field<'_>) -> Result<()>
     ensures put { OnOk result (string_bytes out.new
-        ≡ string_bytes out.old ++ group_line (set_of (schema_of field.entry))
-        (number_of (schema_of field.entry)) prefix.now (typed_of field.entry)) }
+        ≡ string_bytes out.old ++ group_line (set_of (field_schema field.entry))
+        (number_of (field_schema field.entry)) prefix.now (typed_of field.entry)) }
     ensures memory { IfErr result (λ e. e.kind ≡ OutOfMemory) }
 {
     out.push_str(prefix)?;

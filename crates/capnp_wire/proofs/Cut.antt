@@ -4,16 +4,16 @@ use Rattle.std.proofs.lemmas.List.{drop-drop}
 use Rattle.std.proofs.Math.ListN.{drop_of_length-le}
 use Rattle.std.proofs.Math.Seq.{take-nil}
 use Rattle.capnp_wire.specs.Slot.{little_endian}
-use Rattle.capnp_wire.specs.Stream.{cut}
+use Rattle.capnp_wire.specs.Stream.{cut_segments}
 use Rattle.capnp_wire.specs.Stream.{total_words}
 
-pub cut_past : (k : ℕ) (t b : List ℕ) (i : ℕ) → k ≤ i → None ≡ slice_get (cut k t b) i
+pub cut_past : (k : ℕ) (t b : List ℕ) (i : ℕ) → k ≤ i → None ≡ slice_get (cut_segments k t b) i
 cut_past zero t b i h = refl
 cut_past (suc k) t b zero h = absurd (omega arith)
 cut_past (suc k) t b (suc i) h = cut_past k (drop 4 t) (drop (8 * little_endian (take 4 t)) b) i (omega arith)
 
 -- a segment by its place in the table and the words before it
-pub cut_at : (k : ℕ) (t b : List ℕ) (i : ℕ) → i < k → slice_get (cut k t b) i ≡ Some (take (8 * little_endian (take 4 (drop (4 * i) t))) (drop (8 * total_words i t) b))
+pub cut_at : (k : ℕ) (t b : List ℕ) (i : ℕ) → i < k → slice_get (cut_segments k t b) i ≡ Some (take (8 * little_endian (take 4 (drop (4 * i) t))) (drop (8 * total_words i t) b))
 cut_at zero t b i h = absurd (omega arith)
 cut_at (suc k) t b zero h = refl
 cut_at (suc k) t b (suc i) h =

@@ -5,19 +5,19 @@ use Rattle.std.proofs.lemmas.Bool.Decides.{nat_tests}
 use Rattle.std.proofs.lemmas.List.{take-append-le, drop-append-le}
 use Rattle.capnp_wire.specs.Slot.{little_endian}
 use Rattle.capnp_wire.specs.Locate.{Segments}
-use Rattle.capnp_wire.specs.Stream.{cut, total_words, header_bytes, segments_after_table, segments_after_count, segments_of, message_tree_of, root_read}
+use Rattle.capnp_wire.specs.Stream.{cut_segments, total_words, header_bytes, segments_after_table, segments_after_count, segments_of, message_tree_of, root_read}
 use Rattle.capnp_device.specs.declared.error.ErrorKind.{ErrorKind}
 use Rattle.capnp_device.specs.declared.error.ErrorKind.TheVariants.{Truncated, TooManySegments}
 
 -- the segments that a table cuts out of a body that holds them
-cut-more : (k : ℕ) (table body more : List ℕ) → 8 * total_words k table ≤ length body → cut k table (body ++ more) ≡ cut k table body
+cut-more : (k : ℕ) (table body more : List ℕ) → 8 * total_words k table ≤ length body → cut_segments k table (body ++ more) ≡ cut_segments k table body
 cut-more zero table body more h = refl
 cut-more (suc k) table body more h =
     let first : ℕ = 8 * little_endian (take 4 table) in
     let here : first ≤ length body = omega arith in
     let left : 8 * total_words k (drop 4 table) ≤ length (drop first body) = omega (arith, length-drop first body) in
-    ap (λ xs. take first (body ++ more) ∷ cut k (drop 4 table) xs) (drop-append-le first body more here)
-    ∙ ap (λ xs. xs ∷ cut k (drop 4 table) (drop first body ++ more)) (take-append-le first body more here)
+    ap (λ xs. take first (body ++ more) ∷ cut_segments k (drop 4 table) xs) (drop-append-le first body more here)
+    ∙ ap (λ xs. xs ∷ cut_segments k (drop 4 table) (drop first body ++ more)) (take-append-le first body more here)
     ∙ ap (λ gs. take first body ∷ gs) (cut-more k (drop 4 table) (drop first body) more left)
 
 -- a test for too few bytes that is not what refuses
@@ -50,7 +50,7 @@ after_table-more n table b more h k =
     let fits : header_bytes n + 8 * total_words (length table / 4) table ≤ length b = enough _ _ short in
     let body : 8 * total_words (length table / 4) table ≤ length (drop (header_bytes n) b) = omega (arith, length-drop (header_bytes n) b) in
     past_tests _ _ _ _ (not_fewer _ _ (omega (arith, length-append b more))) short
-    (ap Ok (ap (cut (length table / 4) table) (drop-append-le (header_bytes n) b more h) ∙ cut-more (length table / 4) table (drop (header_bytes n) b) more body))
+    (ap Ok (ap (cut_segments (length table / 4) table) (drop-append-le (header_bytes n) b more h) ∙ cut-more (length table / 4) table (drop (header_bytes n) b) more body))
 
 after_count-more : (n : ℕ) (b more : List ℕ) → 4 ≤ length b → (segments_after_count n b ≡ Err Truncated → ⊥) → segments_after_count n (b ++ more) ≡ segments_after_count n b
 after_count-more n b more four h = capped (nat_lt 512 n) _ _ h (λ k.

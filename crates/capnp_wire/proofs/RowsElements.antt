@@ -2,7 +2,7 @@
 use Rattle.std.proofs.Common.{◌≡◌, ◌≤◌, [], ◌∷◌, refl, true, false, arith}
 use Rattle.std.specs.Prelude.{Some, None}
 use Rattle.capnp_wire.specs.Tree.{Null, Struct, Voids, Bits, Numbers, Pointers, Composite, Trees, NoTrees, MoreTrees, NoStructs, MoreStructs}
-use Rattle.capnp_wire.specs.Edits.{HoldsStruct, extended}
+use Rattle.capnp_wire.specs.Edits.{HoldsStruct, extended_struct}
 use Rattle.capnp_wire.specs.Elements.{with_bit_element, with_number_element, with_pointer_element, with_struct_element}
 use Rattle.capnp_wire.specs.StructLists.{HoldsStructs, struct_list, struct_list_refusal}
 use Rattle.capnp_device.specs.declared.error.ErrorKind.TheVariants.{SizePastFormat, WrongElementSize, WrongPointerKind}
@@ -37,11 +37,11 @@ struct_written = refl
 
 -- ---- structs of at least a size ----
 
-pub struct_extended : extended (record { data_words = 2; pointers = 2 }) (record { bytes = 1 ∷ 2 ∷ 3 ∷ 4 ∷ 5 ∷ 6 ∷ 7 ∷ 8 ∷ []; pointers = one })
+pub struct_extended : extended_struct (record { data_words = 2; pointers = 2 }) (record { bytes = 1 ∷ 2 ∷ 3 ∷ 4 ∷ 5 ∷ 6 ∷ 7 ∷ 8 ∷ []; pointers = one })
     ≡ record { bytes = 1 ∷ 2 ∷ 3 ∷ 4 ∷ 5 ∷ 6 ∷ 7 ∷ 8 ∷ 0 ∷ 0 ∷ 0 ∷ 0 ∷ 0 ∷ 0 ∷ 0 ∷ 0 ∷ []; pointers = MoreTrees (Numbers 1 (104 ∷ 105 ∷ 0 ∷ [])) (MoreTrees Null NoTrees) }
 struct_extended = refl
 
-pub larger_struct_stays : extended (record { data_words = 0; pointers = 1 }) (record { bytes = 1 ∷ 2 ∷ 3 ∷ 4 ∷ 5 ∷ 6 ∷ 7 ∷ 8 ∷ []; pointers = two }) ≡ record { bytes = 1 ∷ 2 ∷ 3 ∷ 4 ∷ 5 ∷ 6 ∷ 7 ∷ 8 ∷ []; pointers = two }
+pub larger_struct_stays : extended_struct (record { data_words = 0; pointers = 1 }) (record { bytes = 1 ∷ 2 ∷ 3 ∷ 4 ∷ 5 ∷ 6 ∷ 7 ∷ 8 ∷ []; pointers = two }) ≡ record { bytes = 1 ∷ 2 ∷ 3 ∷ 4 ∷ 5 ∷ 6 ∷ 7 ∷ 8 ∷ []; pointers = two }
 larger_struct_stays = refl
 
 pub same_size_is_enough : HoldsStruct (record { data_words = 1; pointers = 1 }) (Struct (1 ∷ 2 ∷ 3 ∷ 4 ∷ 5 ∷ 6 ∷ 7 ∷ 8 ∷ []) one)

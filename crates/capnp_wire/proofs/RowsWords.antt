@@ -1,7 +1,7 @@
 -- Worked rows: the parts of a pointer word, where a target starts, and the words that a list takes.
 use Rattle.std.specs.Prelude.{◌≡◌, refl, [], ◌∷◌, true, false, map, Some, None}
 use Rattle.capnp_wire.specs.Slot.{little_endian, word_at}
-use Rattle.capnp_wire.specs.Locate.{kind, offset, data_words, pointer_count, element_size, count, is_double, pad_word, pad_segment, start_of, list_words}
+use Rattle.capnp_wire.specs.Locate.{pointer_kind, offset, data_words, pointer_count, element_size_number, count, is_double, pad_word, pad_segment, start_of, list_words}
 use Rattle.capnp_wire.proofs.Rows.{word}
 
 -- eight bytes are a word, lowest first
@@ -15,7 +15,7 @@ second_word = refl
 -- ---- the parts of a word: each part alone is all ones, then all but it ----
 
 -- the low two bits
-pub kinds : map kind (0 ∷ 1 ∷ 2 ∷ 3 ∷ 0xfffffffffffffffc ∷ 0xffffffffffffffff ∷ []) ≡ 0 ∷ 1 ∷ 2 ∷ 3 ∷ 0 ∷ 3 ∷ []
+pub kinds : map pointer_kind (0 ∷ 1 ∷ 2 ∷ 3 ∷ 0xfffffffffffffffc ∷ 0xffffffffffffffff ∷ []) ≡ 0 ∷ 1 ∷ 2 ∷ 3 ∷ 0 ∷ 3 ∷ []
 kinds = refl
 
 -- 30 bits of offset
@@ -31,7 +31,7 @@ pub pointer_counts : map pointer_count (0xffff000000000000 ∷ 0x0000fffffffffff
 pointer_counts = refl
 
 -- 3 bits of element size
-pub element_sizes : map element_size (0x0000000700000000 ∷ 0xfffffff8ffffffff ∷ 0x0000000100000000 ∷ []) ≡ 7 ∷ 0 ∷ 1 ∷ []
+pub element_sizes : map element_size_number (0x0000000700000000 ∷ 0xfffffff8ffffffff ∷ 0x0000000100000000 ∷ []) ≡ 7 ∷ 0 ∷ 1 ∷ []
 element_sizes = refl
 
 -- 29 bits of count

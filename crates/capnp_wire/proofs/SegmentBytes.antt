@@ -1,13 +1,13 @@
 -- The segments of a message are of bytes, as the stream is that they are cut from.
 use Rattle.std.proofs.Common.{ℕ, zero, suc, ◌*◌, List, take, drop}
 use Rattle.capnp_wire.specs.Slot.{little_endian}
-use Rattle.capnp_wire.specs.Stream.{cut}
+use Rattle.capnp_wire.specs.Stream.{cut_segments}
 use Rattle.capnp_wire.specs.WellFormed.{AreBytes, AreSegments}
 use Rattle.capnp_wire.specs.Facts.ByteRuns.{AreBytes-none, AreBytes-take, AreBytes-drop}
 pub use Rattle.capnp_wire.specs.Facts.Bytes.{AreSegments-one}
 
 -- segments that a table cuts from a body
-pub AreSegments-cut : (count : ℕ) (table body : List ℕ) → AreBytes body → AreSegments (cut count table body)
+pub AreSegments-cut : (count : ℕ) (table body : List ℕ) → AreBytes body → AreSegments (cut_segments count table body)
 AreSegments-cut zero table body h i = AreBytes-none
 AreSegments-cut (suc k) table body h zero = AreBytes-take (8 * little_endian (take 4 table)) body h
 AreSegments-cut (suc k) table body h (suc i) =

@@ -2,7 +2,7 @@
 use Rattle.std.specs.Prelude.{Bool, cond, not, ◌&&◌, ◌≡◌, Option, Some, None, option_map, Result, Ok, Err}
 use Rattle.capnp_wire.specs.Tree.{StructTree, Tree, Null}
 use Rattle.capnp_wire.specs.Reading.{as_list, is_null_tree, refusal}
-use Rattle.capnp_wire.specs.Edits.{extended, struct_in, struct_refusal}
+use Rattle.capnp_wire.specs.Edits.{extended_struct, struct_in, struct_refusal}
 use Rattle.capnp_wire.specs.Standing.{tree_of}
 use Rattle.capnp_wire.specs.StructLists.{struct_list, struct_list_refusal}
 use Rattle.capnp_wire.specs.Words.{first_fault}
@@ -33,7 +33,7 @@ taken_default (Some reader) t = cond (takes_default (tree_of reader) t) (Some re
 
 -- a struct of at least a size
 abbrev pub filled_struct : (default : Tree) → StructSize → Tree → StructTree
-filled_struct d size t = extended size (struct_in (or_default d t))
+filled_struct d size t = extended_struct size (struct_in (or_default d t))
 
 -- a list of structs of at least a size; a null without a default stays
 abbrev pub filled_structs : (default : Tree) → StructSize → Tree → Tree

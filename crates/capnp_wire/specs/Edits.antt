@@ -2,7 +2,7 @@
 use Rattle.std.specs.Prelude.{ℕ, zero, suc, ◌+◌, ◌/◌, ◌%◌, ◌^◌, take, drop, slice_set, slice_index, bit_or, bit_and, Bool, true, false, ◌*◌, ◌-◌, ◌≡◌, ◌≢◌, ◌≤◌, List, ◌++◌, length, replicate, Option, Some, None, option_map}
 use Rattle.capnp_wire.specs.Tree.{Tree, Null, Struct, FaultLeaf, Voids, Bits, Numbers, Pointers, Composite, Trees, NoTrees, MoreTrees, StructTree, empty_struct, trees_from, structs_from, tree_count}
 use Rattle.capnp_wire.specs.Words.{byte_words}
-use Rattle.capnp_wire.specs.Encoding.{spelled}
+use Rattle.capnp_wire.specs.Encoding.{spelled_number}
 use Rattle.capnp_wire.specs.Reading.{refusal}
 use Rattle.capnp_wire.specs.declared.size.StructSize.{StructSize}
 use Rattle.capnp_wire.specs.declared.size.ElementSize.{ElementSize}
@@ -17,8 +17,8 @@ abbrev pub whole_words : List ℕ → List ℕ
 whole_words bytes = bytes ++ replicate (8 * byte_words (length bytes) - length bytes) 0
 
 -- a struct, with its data rounded up to whole words
-abbrev pub rounded : StructTree → StructTree
-rounded s = record { bytes = whole_words s.bytes; pointers = s.pointers }
+abbrev pub rounded_struct : StructTree → StructTree
+rounded_struct s = record { bytes = whole_words s.bytes; pointers = s.pointers }
 
 -- why what has this first fault is not copied: for the want of memory, or for the fault
 abbrev pub IsCopyRefusal : Error → Option Fault → Type 0
@@ -37,7 +37,7 @@ IsDueRefusal error due = (error.kind ≢ OutOfMemory → due ≡ Some error.kind
 
 -- bytes with a number written over so many of them, at an offset in units of that width
 abbrev pub with_number : ℕ → ℕ → ℕ → List ℕ → List ℕ
-with_number width offset n bytes = take (offset * width) bytes ++ (spelled width n ++ drop (offset * width + width) bytes)
+with_number width offset n bytes = take (offset * width) bytes ++ (spelled_number width n ++ drop (offset * width + width) bytes)
 
 -- a byte with another bit
 abbrev pub byte_with_bit : ℕ → Bool → ℕ → ℕ
@@ -92,8 +92,8 @@ append_trees NoTrees us = us
 append_trees (MoreTrees t ts) us = MoreTrees t (append_trees ts us)
 
 -- sections that are too short are filled up with zeros and nulls
-abbrev pub extended : StructSize → StructTree → StructTree
-extended size s = record { bytes = s.bytes ++ replicate (8 * size.data_words - length s.bytes) 0; pointers = append_trees s.pointers (nulls (size.pointers - tree_count s.pointers)) }
+abbrev pub extended_struct : StructSize → StructTree → StructTree
+extended_struct size s = record { bytes = s.bytes ++ replicate (8 * size.data_words - length s.bytes) 0; pointers = append_trees s.pointers (nulls (size.pointers - tree_count s.pointers)) }
 
 -- a struct has at least a size, so that nothing has to be filled up
 abbrev pub HasAtLeast : StructSize → StructTree → Type 0
@@ -108,8 +108,8 @@ first_trees (suc n) NoTrees = NoTrees
 first_trees (suc n) (MoreTrees t ts) = MoreTrees t (first_trees n ts)
 
 -- so many bytes and pointers of a struct: what fits of it, and zeros and nulls after that
-abbrev pub fitted : ℕ → ℕ → StructTree → StructTree
-fitted bytes pointers s = record { bytes = take bytes s.bytes ++ replicate (bytes - length s.bytes) 0; pointers = append_trees (first_trees pointers s.pointers) (nulls (pointers - tree_count s.pointers)) }
+abbrev pub fitted_struct : ℕ → ℕ → StructTree → StructTree
+fitted_struct bytes pointers s = record { bytes = take bytes s.bytes ++ replicate (bytes - length s.bytes) 0; pointers = append_trees (first_trees pointers s.pointers) (nulls (pointers - tree_count s.pointers)) }
 
 -- ---- what stands at a pointer ----
 

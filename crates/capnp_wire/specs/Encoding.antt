@@ -8,9 +8,9 @@ use Rattle.capnp_wire.specs.Words.{byte_words, words_of, words_of_all}
 -- ---- bytes ----
 
 -- so many bytes of a number, lowest first
-abbrev pub spelled : ℕ → ℕ → List ℕ
-spelled zero n = []
-spelled (suc k) n = n % 256 ∷ spelled k (n / 256)
+abbrev pub spelled_number : ℕ → ℕ → List ℕ
+spelled_number zero n = []
+spelled_number (suc k) n = n % 256 ∷ spelled_number k (n / 256)
 
 -- the number that bits spell, lowest first
 abbrev pub bits_number : List Bool → ℕ
@@ -18,13 +18,13 @@ bits_number [] = 0
 bits_number (b ∷ bs) = cond b 1 0 + 2 * bits_number bs
 
 -- so many bytes that hold these bits, eight in each
-abbrev pub packed : ℕ → List Bool → List ℕ
-packed zero bs = []
-packed (suc k) bs = bits_number (take 8 bs) ∷ packed k (drop 8 bs)
+abbrev pub packed_bits : ℕ → List Bool → List ℕ
+packed_bits zero bs = []
+packed_bits (suc k) bs = bits_number (take 8 bs) ∷ packed_bits k (drop 8 bs)
 
 -- these bytes, and zeros up to a whole word
-abbrev pub padded : List ℕ → List ℕ
-padded bytes = bytes ++ replicate (8 * byte_words (length bytes) - length bytes) 0
+abbrev pub padded_bytes : List ℕ → List ℕ
+padded_bytes bytes = bytes ++ replicate (8 * byte_words (length bytes) - length bytes) 0
 
 -- ---- pointers ----
 
@@ -57,7 +57,7 @@ pointer_word gap (FaultLeaf fault) = 0
 -- pointers in a row, with so many words between the row and what the first of them leads to
 abbrev pub pointer_row : ℕ → Trees → List ℕ
 pointer_row gap NoTrees = []
-pointer_row gap (MoreTrees t ts) = spelled 8 (pointer_word (tree_count ts + gap) t) ++ pointer_row (gap + words_of t) ts
+pointer_row gap (MoreTrees t ts) = spelled_number 8 (pointer_word (tree_count ts + gap) t) ++ pointer_row (gap + words_of t) ts
 
 -- the elements of a composite list in a row, each of so many words, with such a gap
 abbrev pub element_row : ℕ → ℕ → Structs → List ℕ
@@ -70,10 +70,10 @@ abbrev pub own_bytes : Tree → List ℕ
 own_bytes Null = []
 own_bytes (Struct bytes ps) = bytes ++ pointer_row 0 ps
 own_bytes (Voids n) = []
-own_bytes (Bits bs) = packed (8 * list_words 1 (length bs)) bs
-own_bytes (Numbers width bytes) = padded bytes
+own_bytes (Bits bs) = packed_bits (8 * list_words 1 (length bs)) bs
+own_bytes (Numbers width bytes) = padded_bytes bytes
 own_bytes (Pointers ps) = pointer_row 0 ps
-own_bytes (Composite d p es) = spelled 8 (struct_word (struct_count es) d p) ++ element_row (d + p) 0 es
+own_bytes (Composite d p es) = spelled_number 8 (struct_word (struct_count es) d p) ++ element_row (d + p) 0 es
 own_bytes (FaultLeaf fault) = []
 
 -- what an object's pointers lead to, what all pointers in a row lead to, and what all those of elements in a row do
@@ -104,8 +104,8 @@ bytes_of t = own_bytes t ++ bytes_below t
 
 -- a segment whose root pointer leads to the tree
 abbrev pub encoding_of : Tree → List ℕ
-encoding_of t = spelled 8 (pointer_word 0 t) ++ bytes_of t
+encoding_of t = spelled_number 8 (pointer_word 0 t) ++ bytes_of t
 
 -- the same as a stream of one segment: one less than the count of segments, that segment's words, and the segment
 abbrev pub message_of : Tree → List ℕ
-message_of t = spelled 4 0 ++ (spelled 4 (suc (words_of t)) ++ encoding_of t)
+message_of t = spelled_number 4 0 ++ (spelled_number 4 (suc (words_of t)) ++ encoding_of t)

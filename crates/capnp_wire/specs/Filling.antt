@@ -7,8 +7,8 @@ use Rattle.capnp_wire.specs.WellFormed.{AreElements, AreWellFormed}
 use Rattle.capnp_wire.specs.Encoding.{pointer_row, element_row, bytes_of_all, bytes_below_all}
 
 -- bytes with others in the place of as many, from an index on
-abbrev pub put : ℕ → List ℕ → List ℕ → List ℕ
-put at new bytes = take at bytes ++ (new ++ drop (at + length new) bytes)
+abbrev pub bytes_with : ℕ → List ℕ → List ℕ → List ℕ
+bytes_with at new bytes = take at bytes ++ (new ++ drop (at + length new) bytes)
 
 -- the words from an index to the end
 abbrev pub words_from : ℕ → List ℕ → ℕ
@@ -26,14 +26,14 @@ HasRoom at ts bytes = AreWellFormed ts × (row_end at ts ≤ length bytes) × (t
 
 -- the pointers there, and what they lead to at the end
 abbrev pub with_pointers : ℕ → Trees → List ℕ → List ℕ
-with_pointers at ts bytes = put at (pointer_row (words_from (row_end at ts) bytes) ts) bytes ++ bytes_of_all ts
+with_pointers at ts bytes = bytes_with at (pointer_row (words_from (row_end at ts) bytes) ts) bytes ++ bytes_of_all ts
 
 -- ---- elements of a composite list ----
 
 -- an element there, its data and its pointers in a row, and what these lead to at the end
 abbrev pub with_encoded_element : ℕ → StructTree → List ℕ → List ℕ
 with_encoded_element at s bytes =
-    put at (s.bytes ++ pointer_row (words_from (row_end (at + length s.bytes) s.pointers) bytes) s.pointers) bytes ++ bytes_of_all s.pointers
+    bytes_with at (s.bytes ++ pointer_row (words_from (row_end (at + length s.bytes) s.pointers) bytes) s.pointers) bytes ++ bytes_of_all s.pointers
 
 -- where elements of so many words each end
 abbrev pub elements_end : ℕ → ℕ → Structs → ℕ
@@ -46,4 +46,4 @@ HaveRoom d p at es bytes =
 
 -- the elements there, and what they lead to at the end
 abbrev pub with_encoded_elements : ℕ → ℕ → Structs → List ℕ → List ℕ
-with_encoded_elements size at es bytes = put at (element_row size (words_from (elements_end size at es) bytes) es) bytes ++ bytes_below_all es
+with_encoded_elements size at es bytes = bytes_with at (element_row size (words_from (elements_end size at es) bytes) es) bytes ++ bytes_below_all es

@@ -1,5 +1,5 @@
 -- What the format promises of every message.
-use Rattle.capnp_wire.specs.Edits.{rounded}
+use Rattle.capnp_wire.specs.Edits.{rounded_struct}
 use Rattle.std.specs.Prelude.{ℕ, suc, ◌^◌, ◌<◌, List, Ok, Err, None, ◌++◌, ◌≡◌, ◌≢◌}
 use Rattle.capnp_wire.specs.Tree.{StructTree, Tree}
 use Rattle.capnp_wire.specs.Locate.{Segments}
@@ -19,7 +19,7 @@ TreesAreWellFormed =
 
 -- what a struct's reader stands on is well-formed with its data rounded up to whole words, as a copy of it has it
 abbrev pub CopiedStructsAreWellFormed : Type 0
-CopiedStructsAreWellFormed = (s : StructTree) → IsWellFormedStruct s → IsWellFormed (struct_tree (rounded s))
+CopiedStructsAreWellFormed = (s : StructTree) → IsWellFormedStruct s → IsWellFormed (struct_tree (rounded_struct s))
 
 -- where a stream is not cut short, what follows its first message changes nothing
 abbrev pub MoreBytesChangeNothing : Type 0

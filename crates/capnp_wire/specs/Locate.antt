@@ -13,14 +13,14 @@ pub data Target : Type 0 where
   NoTarget : Target
   BadTarget : (fault : Fault) → Target
   StructAt : (segment : List ℕ) → (start data_words pointer_count : ℕ) → Target
-  ListAt : (segment : List ℕ) → (start element_size count : ℕ) → Target
+  ListAt : (segment : List ℕ) → (start element_size_number count : ℕ) → Target
   CompositeAt : (segment : List ℕ) → (start count data_words pointer_count : ℕ) → Target
 
 -- ---- the parts of a pointer word ----
 
 -- 0 a struct, 1 a list, 2 a far pointer, 3 a capability
-abbrev pub kind : ℕ → ℕ
-kind word = word % 4
+abbrev pub pointer_kind : ℕ → ℕ
+pointer_kind word = word % 4
 
 -- the 30 bits of an offset, without its sign
 abbrev pub offset : ℕ → ℕ
@@ -34,8 +34,8 @@ abbrev pub pointer_count : ℕ → ℕ
 pointer_count word = word / 2 ^ 48
 
 -- the number of a list's element size
-abbrev pub element_size : ℕ → ℕ
-element_size word = (word / 2 ^ 32) % 8
+abbrev pub element_size_number : ℕ → ℕ
+element_size_number word = (word / 2 ^ 32) % 8
 
 -- elements, or the words of a composite list behind its tag
 abbrev pub count : ℕ → ℕ
@@ -81,7 +81,7 @@ struct_target segment start word =
 -- a composite list of so many words, with its tag at the start
 abbrev pub tagged_target : List ℕ → ℕ → ℕ → ℕ → Target
 tagged_target segment start words tag =
-    cond (kind tag == 0)
+    cond (pointer_kind tag == 0)
     (cond (nat_lt (offset tag) (2 ^ 29))
     (cond (nat_le (offset tag * (data_words tag + pointer_count tag)) words)
     (CompositeAt segment (start + 1) (offset tag) (data_words tag) (pointer_count tag))
@@ -92,20 +92,20 @@ tagged_target segment start words tag =
 -- a list lies in its segment, a composite one with its tag
 abbrev pub list_target : List ℕ → ℕ → ℕ → Target
 list_target segment start word =
-    cond (element_size word == 7)
+    cond (element_size_number word == 7)
     (cond (lies segment (start + 1 + count word)) (tagged_target segment start (count word) (word_at segment start)) (BadTarget BadPointer))
-    (cond (lies segment (start + list_words (element_size word) (count word))) (ListAt segment start (element_size word) (count word)) (BadTarget BadPointer))
+    (cond (lies segment (start + list_words (element_size_number word) (count word))) (ListAt segment start (element_size_number word) (count word)) (BadTarget BadPointer))
 
 -- of a word that may be no far pointer, whose target starts there
 abbrev pub near_target : List ℕ → ℕ → ℕ → Target
 near_target segment start word =
-    cond (kind word == 0) (struct_target segment start word)
-    (cond (kind word == 1) (list_target segment start word)
-    (cond (kind word == 2) (BadTarget BadPointer) (BadTarget CapabilityPointer)))
+    cond (pointer_kind word == 0) (struct_target segment start word)
+    (cond (pointer_kind word == 1) (list_target segment start word)
+    (cond (pointer_kind word == 2) (BadTarget BadPointer) (BadTarget CapabilityPointer)))
 
 -- the same where the start may lie before the segment
 abbrev pub near_target_from : List ℕ → Option ℕ → ℕ → Target
-near_target_from segment None word = cond (kind word == 3) (BadTarget CapabilityPointer) (BadTarget BadPointer)
+near_target_from segment None word = cond (pointer_kind word == 3) (BadTarget CapabilityPointer) (BadTarget BadPointer)
 near_target_from segment (Some start) word = near_target segment start word
 
 -- a landing pad of two words: the first names where the target starts, the second is its tag
@@ -117,9 +117,9 @@ tag_target (Some segment) first tag = near_target segment (pad_word first) tag
 -- the place that the first word names
 abbrev pub double_target : Segments → ℕ → ℕ → Target
 double_target segments first tag =
-    cond (kind first == 2)
+    cond (pointer_kind first == 2)
     (cond (is_double first) (BadTarget BadPointer)
-    (cond (kind tag == 3) (BadTarget CapabilityPointer) (tag_target (slice_get segments (pad_segment first)) first tag)))
+    (cond (pointer_kind tag == 3) (BadTarget CapabilityPointer) (tag_target (slice_get segments (pad_segment first)) first tag)))
     (BadTarget BadPointer)
 
 -- of a far pointer, whose landing pad lies in the segment with these bytes
@@ -134,7 +134,7 @@ pad_target segments (Some segment) word =
 abbrev pub word_target : Segments → List ℕ → ℕ → ℕ → Target
 word_target segments segment w word =
     cond (word == 0) NoTarget
-    (cond (kind word == 2)
+    (cond (pointer_kind word == 2)
     (pad_target segments (slice_get segments (pad_segment word)) word)
     (near_target_from segment (start_of w word) word))
 

@@ -11,11 +11,11 @@ use Rattle.capnp_wire.specs.declared.message.Reader.{Reader}
 use Rattle.capnp_device.specs.declared.error.Error.{Error}
 use Rattle.capnp_device.specs.declared.error.ErrorKind.{ErrorKind}
 
-unfoldable pub message_tree : Reader → Tree
-message_tree reader = root_tree (segment_list reader.segments)
+unfoldable pub received_tree : Reader → Tree
+received_tree reader = root_tree (segment_list reader.segments)
 
 abbrev pub message_read : Result Reader Error → Result Tree ErrorKind
-message_read (Ok reader) = Ok (message_tree reader)
+message_read (Ok reader) = Ok (received_tree reader)
 message_read (Err error) = Err error.kind
 
 -- where a tree is shallow, these bytes are read as it, whatever follows them

@@ -8,13 +8,13 @@ use Rattle.capnp_wire.specs.declared.numbers.Numbers.{Numbers}
 use Rattle.capnp_wire.specs.declared.numbers.NumberIter.{NumberIter}
 
 -- the values of the numbers at so many elements of a list, from an index on
-abbrev pub elements_from : {A : Type 0} → (ℕ → A) → ℕ → Tree → ℕ → ℕ → List A
-elements_from of_number width t i zero = []
-elements_from of_number width t i (suc n) = of_number (element_number width t i) ∷ elements_from of_number width t (i + 1) n
+abbrev pub numbers_from : {A : Type 0} → (ℕ → A) → ℕ → Tree → ℕ → ℕ → List A
+numbers_from of_number width t i zero = []
+numbers_from of_number width t i (suc n) = of_number (element_number width t i) ∷ numbers_from of_number width t (i + 1) n
 
 -- those of all its elements
-abbrev pub elements_of : {A : Type 0} → (ℕ → A) → ℕ → Tree → List A
-elements_of of_number width t = elements_from of_number width t 0 (list_length t)
+abbrev pub numbers_in_list : {A : Type 0} → (ℕ → A) → ℕ → Tree → List A
+numbers_in_list of_number width t = numbers_from of_number width t 0 (list_length t)
 
 -- the list whose numbers are read
 unfoldable pub numbers_tree : {T : Type 0} → Numbers T → Tree
@@ -22,4 +22,4 @@ numbers_tree numbers = list_of numbers.list
 
 -- the values that an iterator has left
 unfoldable pub items_left : {T : Type 0} → (ℕ → T) → ℕ → NumberIter T → List T
-items_left of_number width items = elements_from of_number width (found_tree items.found) items.index (items.count - items.index)
+items_left of_number width items = numbers_from of_number width (found_tree items.found) items.index (items.count - items.index)

@@ -8,9 +8,9 @@ use Rattle.capnp_device.specs.declared.error.ErrorKind.{ErrorKind}
 use Rattle.capnp_device.specs.declared.error.ErrorKind.TheVariants.{Truncated, TooManySegments}
 
 -- so many segments, whose sizes in words stand in the table, 4 bytes each, and whose bytes follow one another in the body
-abbrev pub cut : ℕ → List ℕ → List ℕ → Segments
-cut zero table body = []
-cut (suc k) table body = take (8 * little_endian (take 4 table)) body ∷ cut k (drop 4 table) (drop (8 * little_endian (take 4 table)) body)
+abbrev pub cut_segments : ℕ → List ℕ → List ℕ → Segments
+cut_segments zero table body = []
+cut_segments (suc k) table body = take (8 * little_endian (take 4 table)) body ∷ cut_segments k (drop 4 table) (drop (8 * little_endian (take 4 table)) body)
 
 -- the words of so many segments
 abbrev pub total_words : ℕ → List ℕ → ℕ
@@ -29,13 +29,13 @@ abbrev pub table_of : List ℕ → List ℕ
 table_of bytes = take (4 * segment_count bytes) (drop 4 bytes)
 
 abbrev pub stream_segments : List ℕ → Segments
-stream_segments bytes = cut (length (table_of bytes) / 4) (table_of bytes) (drop (header_bytes (segment_count bytes)) bytes)
+stream_segments bytes = cut_segments (length (table_of bytes) / 4) (table_of bytes) (drop (header_bytes (segment_count bytes)) bytes)
 
 abbrev pub segments_after_table : ℕ → List ℕ → List ℕ → Result Segments ErrorKind
 segments_after_table count table bytes =
     cond (nat_lt (length bytes) (header_bytes count + 8 * total_words (length table / 4) table))
     (Err Truncated)
-    (Ok (cut (length table / 4) table (drop (header_bytes count) bytes)))
+    (Ok (cut_segments (length table / 4) table (drop (header_bytes count) bytes)))
 
 abbrev pub segments_after_count : ℕ → List ℕ → Result Segments ErrorKind
 segments_after_count count bytes =

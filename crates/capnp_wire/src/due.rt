@@ -5,7 +5,7 @@ ghost use Rattle.capnp_wire.specs.Edits.{struct_refusal};
 ghost use Rattle.capnp_wire.specs.Elements.{reads_list};
 ghost use Rattle.capnp_wire.specs.Found.{found_tree};
 ghost use Rattle.capnp_wire.specs.Reading.{reads_numbers, reads_structs};
-ghost use Rattle.capnp_wire.specs.StructLists.{grown, struct_list_refusal};
+ghost use Rattle.capnp_wire.specs.StructLists.{grown_size, struct_list_refusal};
 ghost use Rattle.capnp_wire.specs.WellFormed.{IsWellFormed};
 
 use crate::fault::refuse;
@@ -96,7 +96,7 @@ pub fn refuse_as_list(size: ElementSize, found: Found<'_>) -> Option<ErrorKind>
 
 /// At least a size, and what an element of a list takes as a struct.
 pub fn grow(size: StructSize, list: Found<'_>) -> StructSize
-    ensures { result ≡ grown size (found_tree list.entry) }
+    ensures { result ≡ grown_size size (found_tree list.entry) }
 {
     let own = match list {
         Found::Numbers(_, _) => StructSize {

@@ -3,7 +3,7 @@
 //! Pointers").
 ghost use Rattle.std.specs.Prelude.{◌≡◌, ◌+◌, ◌<◌, ◌^◌, slice_get};
 ghost use Rattle.capnp_wire.specs.Backing.{StartFits, segment_list, target_of};
-ghost use Rattle.capnp_wire.specs.Locate.{count, data_words, double_target, element_size, is_double, kind, lies, list_target, list_words, near_target, near_target_from, offset, pad_segment, pad_target, pad_word, pointer_count, start_of, struct_target, tagged_target, target_at};
+ghost use Rattle.capnp_wire.specs.Locate.{count, data_words, double_target, element_size_number, is_double, pointer_kind, lies, list_target, list_words, near_target, near_target_from, offset, pad_segment, pad_target, pad_word, pointer_count, start_of, struct_target, tagged_target, target_at};
 
 use crate::bytes::get_word;
 use crate::fault::Fault;
@@ -40,7 +40,7 @@ pub enum Target<'a> {
 // The parts of a pointer word.
 
 fn get_kind(word: u64) -> u64
-    ensures { result ≡ kind word }
+    ensures { result ≡ pointer_kind word }
 {
     word % 4
 }
@@ -64,7 +64,7 @@ fn get_pointer_count(word: u64) -> u16
 }
 
 fn get_element_size(word: u64) -> u8
-    ensures { result ≡ element_size word }
+    ensures { result ≡ element_size_number word }
 {
     ((word >> 32) % 8) as u8
 }

@@ -27,7 +27,7 @@ impl<'a> Reader<'a> {
     ghost use Rattle.std.specs.Prelude.{◌≡◌};
     ghost use Rattle.capnp_wire.specs.Stream.{message_tree_of};
     ghost use Rattle.capnp_wire.specs.Standing.{levels_of, tree_of};
-    ghost use Rattle.capnp_wire.specs.Message.{message_read, message_tree};
+    ghost use Rattle.capnp_wire.specs.Message.{message_read, received_tree};
 
     /// Reads the table of the first message in these bytes; what follows the message is not looked at. No memory is
     /// taken, and the message's objects are looked at only when they are asked for.
@@ -35,7 +35,7 @@ impl<'a> Reader<'a> {
     /// Refused with `Truncated` where the bytes end within the table's first number, with `TooManySegments` where that
     /// says more than 512 segments, and then with `Truncated` where they end within the table, its padding or a segment
     /// (encoding, "Serialization Over a Stream").
-    #[tactic(auto, unfolding(crate::specs::Message::message_tree))]
+    #[tactic(auto, unfolding(crate::specs::Message::received_tree))]
     pub fn new(_alloc: Global, bytes: &'a [u8]) -> Result<Reader<'a>>
         ensures { message_read result ≡ message_tree_of bytes.now }
     {
@@ -63,9 +63,9 @@ impl<'a> Reader<'a> {
     }
 
     /// The message's root pointer, with 64 levels.
-    #[tactic(auto, unfolding(crate::specs::Message::message_tree))]
+    #[tactic(auto, unfolding(crate::specs::Message::received_tree))]
     pub fn get_root(&self) -> PointerReader<'a>
-        ensures tree { tree_of result ≡ message_tree self.now }
+        ensures tree { tree_of result ≡ received_tree self.now }
         ensures levels { levels_of result ≡ 64 }
     {
         PointerReader::new(get_root_pointer(self.segments), ROOT_LEVELS)

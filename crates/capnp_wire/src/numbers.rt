@@ -50,7 +50,7 @@ fn number_inside<T: PrimitiveElement>(list: Found<'_>, index: usize) -> T
 
 impl<'a, T: PrimitiveElement> Numbers<'a, T> {
     ghost use Rattle.std.specs.Prelude.{◌==◌, ◌^◌};
-    ghost use Rattle.capnp_wire.specs.Numbers.{elements_of, items_left, numbers_tree};
+    ghost use Rattle.capnp_wire.specs.Numbers.{numbers_in_list, items_left, numbers_tree};
     ghost use Rattle.capnp_wire.specs.Standing.{list_of};
 
     /// The numbers of a list.
@@ -96,7 +96,7 @@ impl<'a, T: PrimitiveElement> Numbers<'a, T> {
     #[inline(always)]
     pub fn iter(&self) -> NumberIter<'a, T>
         ensures items { items_left T.of_number T.width result ≡
-            elements_of T.of_number T.width (numbers_tree self.now) }
+            numbers_in_list T.of_number T.width (numbers_tree self.now) }
         ensures bound { list_length (numbers_tree self.now) < 2 ^ 29 }
     {
         let count = self.len() as usize;
@@ -111,14 +111,14 @@ impl<'a, T: PrimitiveElement> Numbers<'a, T> {
 
 impl<'a, T: PrimitiveElement> IntoIterator for Numbers<'a, T> {
     ghost use Rattle.std.specs.Prelude.{◌^◌};
-    ghost use Rattle.capnp_wire.specs.Numbers.{elements_of, items_left, numbers_tree};
+    ghost use Rattle.capnp_wire.specs.Numbers.{numbers_in_list, items_left, numbers_tree};
 
     type Item = T;
 
     type IntoIter = NumberIter<'a, T>;
 
     ghost into_iter_gives = { λ numbers it. (items_left T.of_number T.width it ≡
-        elements_of T.of_number T.width (numbers_tree numbers)) × (list_length (numbers_tree numbers) < 2 ^ 29) };
+        numbers_in_list T.of_number T.width (numbers_tree numbers)) × (list_length (numbers_tree numbers) < 2 ^ 29) };
 
     #[inline(always)]
     fn into_iter(self) -> NumberIter<'a, T> {

@@ -1,7 +1,7 @@
 //! Messages that are built by builders, and written into memory.
 ghost use Rattle.std.specs.Prelude.{◌≡◌, ◌<◌};
 ghost use Rattle.capnp_arena.specs.Forest.{Changes, Forest, PartChanges, tree};
-ghost use Rattle.capnp_arena.specs.Handles.{IsStruct, part};
+ghost use Rattle.capnp_arena.specs.Handles.{IsBuiltStruct, handle_words};
 ghost use Rattle.capnp_arena.specs.Segment.{segment};
 ghost use Rattle.capnp_wire_bench.specs.Items.{AreItems};
 
@@ -17,12 +17,12 @@ const TEXT: &str = "a text of 20 letters";
 
 /// Puts the text of an item, which stays one, also where it is refused.
 fn put_text(item: &mut StructBuilder<'_>, text: &[u8]) -> Result<()>
-    requires item { IsStruct item.old }
+    requires item { IsBuiltStruct item.old }
     requires pointer { 0 < item.old.place.pointers }
     ensures same { item.new.arena.ghost_name ≡ item.old.arena.ghost_name }
     ensures place { item.new.place ≡ item.old.place }
-    ensures item { IsStruct item.new }
-    ensures changes { PartChanges (part item.old.place) (segment item.old.arena.now) (segment item.new.arena.now) }
+    ensures item { IsBuiltStruct item.new }
+    ensures changes { PartChanges (handle_words item.old.place) (segment item.old.arena.now) (segment item.new.arena.now) }
 {
     let place = item.place;
     let mut pointer = item.arena.pointer_field(place, 0);
@@ -32,12 +32,12 @@ fn put_text(item: &mut StructBuilder<'_>, text: &[u8]) -> Result<()>
 
 /// Fills the item of a number.
 fn fill(item: &mut StructBuilder<'_>, number: u32) -> Result<()>
-    requires item { IsStruct item.old }
+    requires item { IsBuiltStruct item.old }
     requires size { (item.old.place.data_words ≡ 2) × (item.old.place.pointers ≡ 2) }
     ensures same { item.new.arena.ghost_name ≡ item.old.arena.ghost_name }
     ensures place { item.new.place ≡ item.old.place }
-    ensures item { IsStruct item.new }
-    ensures changes { PartChanges (part item.old.place) (segment item.old.arena.now) (segment item.new.arena.now) }
+    ensures item { IsBuiltStruct item.new }
+    ensures changes { PartChanges (handle_words item.old.place) (segment item.old.arena.now) (segment item.new.arena.now) }
 {
     item.set_data_field::<u8>(0, (number % 256) as u8);
     item.set_bool_field(8, number % 2 == 1);

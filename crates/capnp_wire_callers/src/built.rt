@@ -5,7 +5,7 @@ ghost use Rattle.capnp_wire.specs.Place.{struct_tree};
 ghost use Rattle.capnp_wire.specs.Reading.{list_length};
 ghost use Rattle.capnp_wire.specs.WellFormed.{IsWellFormed};
 ghost use Rattle.capnp_arena.specs.Forest.{PartChanges};
-ghost use Rattle.capnp_arena.specs.Handles.{IsPointer, IsStruct, built_struct, part, pointer_tree};
+ghost use Rattle.capnp_arena.specs.Handles.{IsBuiltPointer, IsBuiltStruct, built_struct_tree, handle_words, built_pointer_tree};
 ghost use Rattle.capnp_arena.specs.Segment.{segment};
 ghost use Rattle.capnp_arena.specs.Shape.{word_count};
 
@@ -30,8 +30,8 @@ pub fn count_new(pointer: PointerBuilder<'_>, count: u32) -> Result<u32>
 /// Refused as `get_struct_list`.
 #[tactic(auto, using(crate::proofs::Counts::same_count))]
 pub fn count_structs(pointer: PointerBuilder<'_>, size: StructSize) -> Result<u32>
-    requires { IsPointer pointer }
-    ensures { IfOk result (λ n. n ≡ list_length (pointer_tree pointer.entry)) }
+    requires { IsBuiltPointer pointer }
+    ensures { IfOk result (λ n. n ≡ list_length (built_pointer_tree pointer.entry)) }
 {
     let list = pointer.get_struct_list(size)?;
     Ok(list.len())
@@ -41,13 +41,13 @@ pub fn count_structs(pointer: PointerBuilder<'_>, size: StructSize) -> Result<u3
 ///
 /// Refused as `set_text`.
 pub fn put_text(built: &mut StructBuilder<'_>, text: &[u8]) -> Result<()>
-    requires planted { IsStruct built.old }
+    requires planted { IsBuiltStruct built.old }
     requires inside { 0 < built.old.place.pointers }
     ensures same { built.new.arena.ghost_name ≡ built.old.arena.ghost_name }
     ensures place { built.new.place ≡ built.old.place }
-    ensures planted { IsStruct built.new }
-    ensures changes { PartChanges (part built.old.place) (segment built.old.arena.now) (segment built.new.arena.now) }
-    ensures held { IsWellFormed (struct_tree (built_struct built.new)) }
+    ensures planted { IsBuiltStruct built.new }
+    ensures changes { PartChanges (handle_words built.old.place) (segment built.old.arena.now) (segment built.new.arena.now) }
+    ensures held { IsWellFormed (struct_tree (built_struct_tree built.new)) }
 {
     let place = built.place;
     let mut pointer = built.arena.pointer_field(place, 0);
@@ -65,13 +65,13 @@ pub fn put_text(built: &mut StructBuilder<'_>, text: &[u8]) -> Result<()>
 
 /// Writes a number of 64 bits into a struct, which stays well-formed.
 pub fn put_number(built: &mut StructBuilder<'_>, offset: u32, value: u64)
-    requires planted { IsStruct built.old }
+    requires planted { IsBuiltStruct built.old }
     requires inside { offset < built.old.place.data_words }
     ensures same { built.new.arena.ghost_name ≡ built.old.arena.ghost_name }
     ensures place { built.new.place ≡ built.old.place }
-    ensures planted { IsStruct built.new }
-    ensures changes { PartChanges (part built.old.place) (segment built.old.arena.now) (segment built.new.arena.now) }
-    ensures held { IsWellFormed (struct_tree (built_struct built.new)) }
+    ensures planted { IsBuiltStruct built.new }
+    ensures changes { PartChanges (handle_words built.old.place) (segment built.old.arena.now) (segment built.new.arena.now) }
+    ensures held { IsWellFormed (struct_tree (built_struct_tree built.new)) }
 {
     let place = built.place;
     built.set_data_field(offset, value);

@@ -8,7 +8,7 @@ use Rattle.capnp_records.specs.Call.{PathStep, FieldNumber, FieldNamed, ElementA
 use Rattle.capnp_words.specs.Reads.{Read, read_as}
 use Rattle.capnp_words.specs.Paths.{is_space, steps_at, step_word, words_of_path, parts_at}
 use Rattle.capnp_words.specs.Calls.{CallOp, Get, Has, Which, Set, Init, Initn, Clear, call_at, call_of, op_word, size_given, value_given, with_argument}
-use Rattle.capnp_words.specs.Laws.{CallsAreRead, IsCallOf, IsPart, IsStep}
+use Rattle.capnp_words.specs.Laws.{CallsAreRead, IsCallOf, IsNonEmptyPath, IsPathStep}
 use Rattle.capnp_words.proofs.DigitsRead.{decimal_again, decimal_digits}
 use Rattle.capnp_words.proofs.PathsRead.{parts_again, path_again, split_joined}
 
@@ -27,7 +27,7 @@ digit_no_space b h = grind (arith, nat_tests)
 number_no_space : (n : ℕ) → n < 2 ^ 64 → NoSpace (decimal n)
 number_no_space n h = by_places (decimal n) (λ k q. digit_no_space (get_or (decimal n) k 0) (decimal_digits n h k 0 q))
 
-step_no_space : (s : PathStep) → IsStep s → NoSpace (step_word s)
+step_no_space : (s : PathStep) → IsPathStep s → NoSpace (step_word s)
 step_no_space (FieldNumber i) h = (refl, number_no_space i (omega arith))
 step_no_space (FieldNamed name) h = by_places name (λ k q. h.no_space k 0 q)
 step_no_space (ElementAt i) h = number_no_space i (omega arith)
@@ -36,11 +36,11 @@ both_no_space : (xs ys : List ℕ) → NoSpace xs → NoSpace ys → NoSpace (xs
 both_no_space [] ys h k = k
 both_no_space (x ∷ xs) ys h k = (h.0, both_no_space xs ys h.1 k)
 
-steps_no_space : (s : PathStep) (ss : List PathStep) → AllByRecursion IsStep (s ∷ ss) → NoSpace (join_with_byte 46 (map step_word (s ∷ ss)))
+steps_no_space : (s : PathStep) (ss : List PathStep) → AllByRecursion IsPathStep (s ∷ ss) → NoSpace (join_with_byte 46 (map step_word (s ∷ ss)))
 steps_no_space s [] h = step_no_space s h.0
 steps_no_space s (t ∷ ts) h = both_no_space (step_word s) (46 ∷ join_with_byte 46 (map step_word (t ∷ ts))) (step_no_space s h.0) (refl, steps_no_space t ts h.1)
 
-path_no_space : (path : List PathStep) → AllByRecursion IsStep path → NoSpace (words_of_path path)
+path_no_space : (path : List PathStep) → AllByRecursion IsPathStep path → NoSpace (words_of_path path)
 path_no_space [] h = (refl, tt)
 path_no_space (s ∷ ss) h = steps_no_space s ss h
 
@@ -65,7 +65,7 @@ with_again f place w v path op clean steps given =
     let inside : nat_lt (length w) (length (w ++ 32 ∷ v)) ≡ true = grind (arith, nat_tests, length-append w (32 ∷ v)) in
     rw (at, take_front w (32 ∷ v), steps, inside, drop_space w v, given) refl
 
-part_again : (place : ℕ) (path : List PathStep) → IsPart path → steps_at place (words_of_path path) ≡ Ok path
+part_again : (place : ℕ) (path : List PathStep) → IsNonEmptyPath path → steps_at place (words_of_path path) ≡ Ok path
 part_again place [] h = absurd (omega (arith, h.1))
 part_again place (s ∷ ss) h = ap (parts_at place) (split_joined s ss h.0) ∙ parts_again place (s ∷ ss) h.0
 

@@ -4,7 +4,7 @@ use Rattle.std.specs.Prelude.{Option, decimal, ◌==◌, ◌&&◌, not, nat_lt}
 use Rattle.std.specs.Char.{is_ascii_digit}
 use Rattle.std.proofs.lemmas.Bool.Decides.{nat_tests}
 use Rattle.std.proofs.lemmas.Fmt.{decimal_digit, decimal_step, decimal_by_steps, decimal_nonempty, first_decimal}
-use Rattle.capnp_words.specs.Reads.{ended, stands_or}
+use Rattle.capnp_words.specs.Reads.{ended_read, stands_or}
 use Rattle.capnp_words.specs.Numbers.{decimal_at, more_digits, with_digit}
 
 digit_stands : (limit n d : ℕ) → d < 10 → 10 * n + d ≤ limit → with_digit limit n (48 + d) ≡ Some (10 * n + d)
@@ -116,11 +116,11 @@ first_only limit place b bs n small h (Some m) f e =
     let joined : b ∷ bs ≡ decimal m ++ bs = rw one refl in
     joined ∙ more_only limit m (suc place) bs n small some e
 
-zero_only : (place : ℕ) (bs : List ℕ) (n : ℕ) → ended 0 place bs ≡ Ok n → 48 ∷ bs ≡ decimal n
+zero_only : (place : ℕ) (bs : List ℕ) (n : ℕ) → ended_read 0 place bs ≡ Ok n → 48 ∷ bs ≡ decimal n
 zero_only place [] n e = let same : 0 ≡ n = cc in sym (decimal_digit 0 (omega arith)) ∙ ap decimal same
 zero_only place (b ∷ bs) n e = let no : ⊥ = cc in absurd no
 
-by_first : (limit place b : ℕ) (bs : List ℕ) (n : ℕ) → limit < 2 ^ 64 → (t : Bool) → (b == 48) ≡ t → cond t (ended 0 (suc place) bs) (more_digits limit 0 place (b ∷ bs)) ≡ Ok n → b ∷ bs ≡ decimal n
+by_first : (limit place b : ℕ) (bs : List ℕ) (n : ℕ) → limit < 2 ^ 64 → (t : Bool) → (b == 48) ≡ t → cond t (ended_read 0 (suc place) bs) (more_digits limit 0 place (b ∷ bs)) ≡ Ok n → b ∷ bs ≡ decimal n
 by_first limit place b bs n small true f e = let same : b ≡ 48 = grind (arith, nat_tests) in ap (λ x. x ∷ bs) same ∙ zero_only (suc place) bs n e
 by_first limit place b bs n small false f e = first_only limit place b bs n small f (with_digit limit 0 b) refl e
 

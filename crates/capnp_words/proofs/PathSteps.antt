@@ -8,7 +8,7 @@ use Rattle.capnp_records.specs.Call.{PathStep}
 use Rattle.capnp_words.specs.declared.path.PathStep.{PathStep as WordStep}
 use Rattle.capnp_words.specs.Reads.{Read, read_as, read_then}
 use Rattle.capnp_words.specs.Paths.{is_dot, step_at, parts_at, steps_at}
-use Rattle.capnp_words.specs.Seen.{step_seen, steps_seen}
+use Rattle.capnp_words.specs.Seen.{step_text_seen, steps_seen}
 
 -- no byte passes
 pub split_none : (p : ℕ → Bool) (bs : List ℕ) → position_or_len p bs ≡ length bs → slice_split p bs ≡ bs ∷ []
@@ -30,13 +30,13 @@ with_step done s (Err place) = refl
 pub goes_on : (done : List WordStep) (step : WordStep) (place : ℕ) (bs : List ℕ) (all : Read (List PathStep))
     → read_as (λ ss. steps_seen done ++ ss) (steps_at place bs) ≡ all
     → position_or_len is_dot bs < length bs
-    → Ok (step_seen step) ≡ step_at place (before_first is_dot bs)
+    → Ok (step_text_seen step) ≡ step_at place (before_first is_dot bs)
     → read_as (λ ss. steps_seen (done ++ (step ∷ [])) ++ ss) (steps_at (place + (length (before_first is_dot bs) + 1)) (after_first is_dot bs)) ≡ all
 goes_on done step place bs all invariant more read =
-    let next : steps_at place bs ≡ read_as (λ ss. step_seen step ∷ ss) (steps_at (place + (length (before_first is_dot bs) + 1)) (after_first is_dot bs)) =
+    let next : steps_at place bs ≡ read_as (λ ss. step_text_seen step ∷ ss) (steps_at (place + (length (before_first is_dot bs) + 1)) (after_first is_dot bs)) =
     rw (next_step place bs more, ← read) refl in
-    let seen : steps_seen (done ++ (step ∷ [])) ≡ steps_seen done ++ (step_seen step ∷ []) = map-append step_seen done (step ∷ []) in
-    rw (seen, ← with_step (steps_seen done) (step_seen step) (steps_at (place + (length (before_first is_dot bs) + 1)) (after_first is_dot bs)), ← next) invariant
+    let seen : steps_seen (done ++ (step ∷ [])) ≡ steps_seen done ++ (step_text_seen step ∷ []) = map-append step_text_seen done (step ∷ []) in
+    rw (seen, ← with_step (steps_seen done) (step_text_seen step) (steps_at (place + (length (before_first is_dot bs) + 1)) (after_first is_dot bs)), ← next) invariant
 
 -- a step that is refused, where more follow
 pub stops : (done : List PathStep) (fault place : ℕ) (bs : List ℕ) (all : Read (List PathStep))
@@ -53,12 +53,12 @@ stops done fault place bs all invariant more read =
 pub ends : (done : List WordStep) (step : WordStep) (place : ℕ) (bs : List ℕ) (all : Read (List PathStep))
     → read_as (λ ss. steps_seen done ++ ss) (steps_at place bs) ≡ all
     → position_or_len is_dot bs ≡ length bs
-    → Ok (step_seen step) ≡ step_at place bs
+    → Ok (step_text_seen step) ≡ step_at place bs
     → Ok (steps_seen (done ++ (step ∷ []))) ≡ all
 ends done step place bs all invariant last read =
-    let next : steps_at place bs ≡ Ok (step_seen step ∷ []) = rw (last_step place bs last, ← read) refl in
-    let left : read_as (λ ss. steps_seen done ++ ss) (Ok (step_seen step ∷ [])) ≡ all = rw next at invariant in
-    ap Ok (map-append step_seen done (step ∷ [])) ∙ left
+    let next : steps_at place bs ≡ Ok (step_text_seen step ∷ []) = rw (last_step place bs last, ← read) refl in
+    let left : read_as (λ ss. steps_seen done ++ ss) (Ok (step_text_seen step ∷ [])) ≡ all = rw next at invariant in
+    ap Ok (map-append step_text_seen done (step ∷ [])) ∙ left
 
 pub ends_refused : (done : List PathStep) (fault place : ℕ) (bs : List ℕ) (all : Read (List PathStep))
     → read_as (λ ss. done ++ ss) (steps_at place bs) ≡ all

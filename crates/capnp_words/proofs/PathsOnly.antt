@@ -6,9 +6,9 @@ use Rattle.std.specs.Char.{is_ascii_digit}
 use Rattle.std.proofs.lemmas.Bool.Decides.{nat_tests}
 use Rattle.std.proofs.lemmas.List.Splits.{join_with_byte-slice_split, length-slice_split}
 use Rattle.capnp_records.specs.Call.{PathStep, FieldNumber, FieldNamed, ElementAt}
-use Rattle.capnp_words.specs.Reads.{Read, ended, read_as, read_then}
+use Rattle.capnp_words.specs.Reads.{Read, ended_read, read_as, read_then}
 use Rattle.capnp_words.specs.Numbers.{decimal_at}
-use Rattle.capnp_words.specs.Paths.{is_dot, is_space, name_at, path_at, parts_at, steps_at, step_at, step_word, words_of_path}
+use Rattle.capnp_words.specs.Paths.{is_dot, is_space, path_name_at, path_at, parts_at, steps_at, step_at, step_word, words_of_path}
 use Rattle.capnp_words.specs.Laws.{OnlyPathsAreRead, PathsAreDifferent}
 use Rattle.capnp_words.proofs.DigitsRead.{decimal_only}
 use Rattle.capnp_words.proofs.PathsRead.{paths_read}
@@ -32,7 +32,7 @@ name_only place bs s true e = let no : ⊥ = cc in absurd no
 name_only place bs s false e = let same : FieldNamed bs ≡ s = cc in sym (ap step_word same)
 
 by_first : (place b : ℕ) (bs : List ℕ) (s : PathStep) (t u : Bool) → (b == 35) ≡ t
-    → cond t (read_as FieldNumber (decimal_at 65535 (place + 1) bs)) (cond u (read_as ElementAt (decimal_at 4294967295 place (b ∷ bs))) (name_at place (b ∷ bs))) ≡ Ok s → step_word s ≡ b ∷ bs
+    → cond t (read_as FieldNumber (decimal_at 65535 (place + 1) bs)) (cond u (read_as ElementAt (decimal_at 4294967295 place (b ∷ bs))) (path_name_at place (b ∷ bs))) ≡ Ok s → step_word s ≡ b ∷ bs
 by_first place b bs s true u f e =
     let same : 35 ≡ b = grind (arith, nat_tests) in
     field_only (place + 1) bs s (decimal_at 65535 (place + 1) bs) refl e ∙ ap (λ x. x ∷ bs) same
@@ -69,11 +69,11 @@ some_joined : (bs : List ℕ) (ss : List PathStep) → map step_word ss ≡ slic
 some_joined bs [] e = let no : 0 ≡ length (slice_split is_dot bs) = ap length e in absurd (omega (arith, no, length-slice_split is_dot bs))
 some_joined bs (s ∷ ss) e = sym (join_with_byte-slice_split 46 bs) ∙ sym (ap (join_with_byte 46) e)
 
-dot_only : (bs : List ℕ) (ss : List PathStep) → ended [] 1 bs ≡ Ok ss → 46 ∷ bs ≡ words_of_path ss
+dot_only : (bs : List ℕ) (ss : List PathStep) → ended_read [] 1 bs ≡ Ok ss → 46 ∷ bs ≡ words_of_path ss
 dot_only [] ss e = let same : [] ≡ ss = cc in ap words_of_path same
 dot_only (b ∷ bs) ss e = let no : ⊥ = cc in absurd no
 
-by_dot : (b : ℕ) (bs : List ℕ) (ss : List PathStep) (t : Bool) → (b == 46) ≡ t → cond t (ended [] 1 bs) (steps_at 0 (b ∷ bs)) ≡ Ok ss → b ∷ bs ≡ words_of_path ss
+by_dot : (b : ℕ) (bs : List ℕ) (ss : List PathStep) (t : Bool) → (b == 46) ≡ t → cond t (ended_read [] 1 bs) (steps_at 0 (b ∷ bs)) ≡ Ok ss → b ∷ bs ≡ words_of_path ss
 by_dot b bs ss true f e = let same : b ≡ 46 = grind (arith, nat_tests) in ap (λ x. x ∷ bs) same ∙ dot_only bs ss e
 by_dot b bs ss false f e = some_joined (b ∷ bs) ss (parts_only 0 (slice_split is_dot (b ∷ bs)) ss e)
 

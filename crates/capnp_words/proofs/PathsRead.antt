@@ -10,8 +10,8 @@ use Rattle.std.proofs.lemmas.List.Sums.{position_or_len_is}
 use Rattle.capnp_records.specs.Call.{PathStep, FieldNumber, FieldNamed, ElementAt}
 use Rattle.capnp_words.specs.Reads.{read_as}
 use Rattle.capnp_words.specs.Numbers.{decimal_at}
-use Rattle.capnp_words.specs.Paths.{is_dot, is_space, name_at, path_at, parts_at, steps_at, step_at, step_word, words_of_path}
-use Rattle.capnp_words.specs.Laws.{IsName, IsStep, PathsAreRead}
+use Rattle.capnp_words.specs.Paths.{is_dot, is_space, path_name_at, path_at, parts_at, steps_at, step_at, step_word, words_of_path}
+use Rattle.capnp_words.specs.Laws.{IsPathName, IsPathStep, PathsAreRead}
 use Rattle.capnp_words.proofs.DigitsRead.{decimal_again, decimal_digits}
 
 -- ---- one step ----
@@ -20,17 +20,17 @@ number_begins : (place : ℕ) (ds : List ℕ) → 0 < length ds → is_ascii_dig
 number_begins place [] h d = absurd (omega arith)
 number_begins place (b ∷ bs) h d = let e : (b == 35) ≡ false = grind (arith, nat_tests) in rw (e, d) refl
 
-name_begins : (place : ℕ) (name : List ℕ) → 0 < length name → is_ascii_digit (slice_index name 0) ≡ false → slice_index name 0 ≢ 35 → step_at place name ≡ name_at place name
+name_begins : (place : ℕ) (name : List ℕ) → 0 < length name → is_ascii_digit (slice_index name 0) ≡ false → slice_index name 0 ≢ 35 → step_at place name ≡ path_name_at place name
 name_begins place [] h d k = absurd (omega arith)
 name_begins place (b ∷ bs) h d k = let e : (b == 35) ≡ false = grind (arith, nat_tests, k) in rw (e, d) refl
 
-name_again : (place : ℕ) (name : List ℕ) → IsName name → step_at place name ≡ Ok (FieldNamed name)
+name_again : (place : ℕ) (name : List ℕ) → IsPathName name → step_at place name ≡ Ok (FieldNamed name)
 name_again place name n =
     let all : position_or_len is_space name ≡ length name = position_or_len_is is_space name (length name) 0 (omega arith) (λ k h. n.no_space k 0 h) (λ h. absurd (omega (arith, h))) in
     let past : nat_lt (position_or_len is_space name) (length name) ≡ false = grind (arith, nat_tests, all) in
     name_begins place name n.some n.begins n.no_number ∙ rw past refl
 
-step_again : (place : ℕ) (s : PathStep) → IsStep s → step_at place (step_word s) ≡ Ok s
+step_again : (place : ℕ) (s : PathStep) → IsPathStep s → step_at place (step_word s) ≡ Ok s
 step_again place (FieldNumber i) h = rw (decimal_again 65535 (place + 1) i (omega arith) h) refl
 step_again place (FieldNamed name) h = name_again place name h
 step_again place (ElementAt i) h =
@@ -51,22 +51,22 @@ field_no_dot : (ds : List ℕ) → NoDot ds → NoDot (35 ∷ ds)
 field_no_dot ds h zero d q = refl
 field_no_dot ds h (suc k) d q = h k d (omega arith)
 
-step_no_dot : (s : PathStep) → IsStep s → NoDot (step_word s)
+step_no_dot : (s : PathStep) → IsPathStep s → NoDot (step_word s)
 step_no_dot (FieldNumber i) h = field_no_dot (decimal i) (number_no_dot i (omega arith))
 step_no_dot (FieldNamed name) h = h.no_dot
 step_no_dot (ElementAt i) h = number_no_dot i (omega arith)
 
-pub step_some : (s : PathStep) → IsStep s → 0 < length (step_word s)
+pub step_some : (s : PathStep) → IsPathStep s → 0 < length (step_word s)
 step_some (FieldNumber i) h = omega arith
 step_some (FieldNamed name) h = h.some
 step_some (ElementAt i) h = decimal_nonempty i (omega arith)
 
-pub split_joined : (s : PathStep) (ss : List PathStep) → AllByRecursion IsStep (s ∷ ss) → slice_split is_dot (join_with_byte 46 (map step_word (s ∷ ss))) ≡ map step_word (s ∷ ss)
+pub split_joined : (s : PathStep) (ss : List PathStep) → AllByRecursion IsPathStep (s ∷ ss) → slice_split is_dot (join_with_byte 46 (map step_word (s ∷ ss))) ≡ map step_word (s ∷ ss)
 split_joined s [] h = slice_split_none is_dot (step_word s) (step_no_dot s h.0)
 split_joined s (t ∷ ts) h =
     slice_split_at is_dot (step_word s) 46 (join_with_byte 46 (map step_word (t ∷ ts))) (step_no_dot s h.0) refl ∙ ap (λ rest. step_word s ∷ rest) (split_joined t ts h.1)
 
-pub parts_again : (place : ℕ) (ss : List PathStep) → AllByRecursion IsStep ss → parts_at place (map step_word ss) ≡ Ok ss
+pub parts_again : (place : ℕ) (ss : List PathStep) → AllByRecursion IsPathStep ss → parts_at place (map step_word ss) ≡ Ok ss
 parts_again place [] h = refl
 parts_again place (s ∷ ss) h = rw (step_again place s h.0, parts_again (place + (length (step_word s) + 1)) ss h.1) refl
 
@@ -81,7 +81,7 @@ path_begins : (place : ℕ) (bs : List ℕ) → 0 < length bs → is_dot (get_or
 path_begins place [] h k = absurd (omega arith)
 path_begins place (b ∷ bs) h k = rw k refl
 
-pub path_again : (place : ℕ) (path : List PathStep) → AllByRecursion IsStep path → path_at place (words_of_path path) ≡ Ok path
+pub path_again : (place : ℕ) (path : List PathStep) → AllByRecursion IsPathStep path → path_at place (words_of_path path) ≡ Ok path
 path_again place [] h = refl
 path_again place (s ∷ ss) h =
     let begins = joined_begins (step_word s) (map step_word ss) (step_no_dot s h.0) (step_some s h.0) in

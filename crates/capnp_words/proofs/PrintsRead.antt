@@ -15,9 +15,9 @@ use Rattle.capnp_schema.specs.Schema.{Schemas, Enumerant, enum_at}
 use Rattle.capnp_records.specs.Record as value
 use Rattle.capnp_records.specs.Record.{Value}
 use Rattle.capnp_records.specs.Facts.Spelled.{same_said}
-use Rattle.capnp_records.specs.Text.{Out, data_text, name_or, quoted, said}
+use Rattle.capnp_records.specs.Text.{Out, data_text, name_or, quoted_text, said_text}
 use Rattle.capnp_words.specs.Reads.{read_as}
-use Rattle.capnp_words.specs.Values.{enumerant_at, greatest_signed, greatest_unsigned, truth_at, value_at}
+use Rattle.capnp_words.specs.Values.{enumerant_by_word, greatest_signed, greatest_unsigned, truth_at, value_by_word}
 use Rattle.capnp_words.specs.Laws.{AreNames, PrintedValuesAreRead}
 use Rattle.capnp_words.proofs.DigitsRead.{decimal_again}
 use Rattle.capnp_words.proofs.DigitsSigned.{negative_again, positive_again}
@@ -49,15 +49,15 @@ ascii_at [] h i = omega arith
 ascii_at (b ∷ bs) h zero = grind (arith, nat_tests, h.0)
 ascii_at (b ∷ bs) h (suc i) = ascii_at bs h.1 i
 
-quoted_ascii : (bs : List ℕ) → AllByRecursion (λ b. is_ascii b ≡ true) bs → quoted bs ≡ said (34 ∷ (flat_map (debug_escape 34) bs ++ 34 ∷ []))
-quoted_ascii bs h = rw (is_utf8-from_IsUtf8 bs (IsUtf8-from_ascii bs (ascii_at bs h)), quoted) (rw (all_ascii bs h) refl)
+quoted_ascii : (bs : List ℕ) → AllByRecursion (λ b. is_ascii b ≡ true) bs → quoted_text bs ≡ said_text (34 ∷ (flat_map (debug_escape 34) bs ++ 34 ∷ []))
+quoted_ascii bs h = rw (is_utf8-from_IsUtf8 bs (IsUtf8-from_ascii bs (ascii_at bs h)), quoted_text) (rw (all_ascii bs h) refl)
 
 -- ---- enumerants ----
 
-enumerant_again : (xs : List Enumerant) (n : ℕ) → AreNames (map (λ (x : Enumerant). x.name) xs) → n ≤ 65535 → enumerant_at (map (λ (x : Enumerant). x.name) xs) (name_or n (slice_get xs n)) ≡ Ok n
+enumerant_again : (xs : List Enumerant) (n : ℕ) → AreNames (map (λ (x : Enumerant). x.name) xs) → n ≤ 65535 → enumerant_by_word (map (λ (x : Enumerant). x.name) xs) (name_or n (slice_get xs n)) ≡ Ok n
 enumerant_again xs n h small = by_found (slice_get xs n) refl
   where
-    by_found : (o : Option Enumerant) → slice_get xs n ≡ o → enumerant_at (map (λ (x : Enumerant). x.name) xs) (name_or n o) ≡ Ok n
+    by_found : (o : Option Enumerant) → slice_get xs n ≡ o → enumerant_by_word (map (λ (x : Enumerant). x.name) xs) (name_or n o) ≡ Ok n
     by_found None e = number_read (map (λ (x : Enumerant). x.name) xs) n h.begin small
     by_found (Some x) e =
         let there : slice_get (map (λ (y : Enumerant). y.name) xs) n ≡ Some x.name = slice_get-map (λ (y : Enumerant). y.name) xs n ∙ ap (option_map (λ (y : Enumerant). y.name)) e in
@@ -71,10 +71,10 @@ truth_again false = refl
 
 -- a value is read of the word that its text is
 abbrev IsText : Out → List ℕ → Type 0
-IsText text word = text ≡ said word
+IsText text word = text ≡ said_text word
 
-of_word : (set : Schemas) (t : SchemaType) (v : Value) (text word : List ℕ) → IsText (said text) word → value_at set t text ≡ Ok v → value_at set t word ≡ Ok v
-of_word set t v text word e h = subst (λ (x : List ℕ). value_at set t x ≡ Ok v) (same_said text word e) h
+of_word : (set : Schemas) (t : SchemaType) (v : Value) (text word : List ℕ) → IsText (said_text text) word → value_by_word set t text ≡ Ok v → value_by_word set t word ≡ Ok v
+of_word set t v text word e h = subst (λ (x : List ℕ). value_by_word set t x ≡ Ok v) (same_said text word e) h
 
 pub printed_values_read : PrintedValuesAreRead
 printed_values_read set indented VoidType value.Void word w e = of_word set VoidType value.Void (codes "()") word e refl

@@ -8,7 +8,7 @@ use Rattle.std.specs.Fmt.{debug_escape, digits}
 use Rattle.std.proofs.lemmas.Bool.Decides.{nat_tests}
 use Rattle.capnp_records.specs.Text.{data_text}
 use Rattle.capnp_words.specs.Reads.{Read, read_as}
-use Rattle.capnp_words.specs.Quoted.{Step, data_at, piece_bytes, quoted_at, step_of, text_at}
+use Rattle.capnp_words.specs.Quoted.{ByteStep, data_at, piece_bytes, quoted_at, step_of, text_word_at}
 use Rattle.capnp_words.specs.declared.quoted.Expected.{Expected}
 use Rattle.capnp_words.specs.declared.quoted.Expected.TheVariants as expected
 use Rattle.capnp_words.specs.declared.quoted.Piece.{Piece}
@@ -42,7 +42,7 @@ abbrev onto : List ℕ → Run → Run
 onto bs None = None
 onto bs (Some r) = Some (bs ++ r.0, r.1)
 
-abbrev run_then : Step → (Piece × Expected → Run) → Run
+abbrev run_then : ByteStep → (Piece × Expected → Run) → Run
 run_then None f = None
 run_then (Some s) f = f s
 
@@ -68,7 +68,7 @@ by_run a x bs r s f rest (Some q) g h =
 
 by_step : (a : Expected) (x : ℕ) (bs : List ℕ) (r : List ℕ × Expected)
     → ((s : Expected) (q : List ℕ × Expected) → run s bs ≡ Some q → Leads s bs q.0 q.1)
-    → (t : Step) → step_of a x ≡ t → run_then t (λ t. onto (piece_bytes t.0) (run t.1 bs)) ≡ Some r → Leads a (x ∷ bs) r.0 r.1
+    → (t : ByteStep) → step_of a x ≡ t → run_then t (λ t. onto (piece_bytes t.0) (run t.1 bs)) ≡ Some r → Leads a (x ∷ bs) r.0 r.1
 by_step a x bs r rest None f h = let no : ⊥ = cc in absurd no
 by_step a x bs r rest (Some s) f h = by_run a x bs r s f (rest s.1) (run s.1 bs) refl h
 
@@ -171,7 +171,7 @@ text_leads (b ∷ bs) h =
     let small : b < 128 = grind (arith, nat_tests, h.0) in
     joined expected.Character expected.Character expected.Character (debug_escape 34 b) (flat_map (debug_escape 34) bs) (b ∷ []) bs (escape_leads b small) (text_leads bs h.1)
 
-pub text_again : (bs : List ℕ) → AllByRecursion (λ b. is_ascii b ≡ true) bs → text_at (34 ∷ (flat_map (debug_escape 34) bs ++ 34 ∷ [])) ≡ Ok bs
+pub text_again : (bs : List ℕ) → AllByRecursion (λ b. is_ascii b ≡ true) bs → text_word_at (34 ∷ (flat_map (debug_escape 34) bs ++ 34 ∷ [])) ≡ Ok bs
 unfolding Leads
 text_again bs h = text_leads bs h 1 (34 ∷ []) ∙ ap Ok (append-nil bs)
 

@@ -10,7 +10,7 @@ use Rattle.capnp_records.specs.Record as value
 use Rattle.capnp_words.specs.Paths.{path_at}
 use Rattle.capnp_words.specs.Calls.{call_at}
 use Rattle.capnp_words.specs.Calls as call
-use Rattle.capnp_words.specs.Values.{value_at}
+use Rattle.capnp_words.specs.Values.{value_by_word}
 use Rattle.capnp_words.specs.Targets.{type_along}
 
 -- ---- paths ----
@@ -64,53 +64,53 @@ call_of_another_name = refl
 
 -- ---- values ----
 
-value_least : value_at builtin (IntType 1) (codes "-128") ≡ Ok (value.Number (negsuc 127))
+value_least : value_by_word builtin (IntType 1) (codes "-128") ≡ Ok (value.Number (negsuc 127))
 value_least = refl
 
-value_below_the_least : value_at builtin (IntType 1) (codes "-129") ≡ Err 3
+value_below_the_least : value_by_word builtin (IntType 1) (codes "-129") ≡ Err 3
 value_below_the_least = refl
 
-value_minus_zero : value_at builtin (IntType 8) (codes "-0") ≡ Err 1
+value_minus_zero : value_by_word builtin (IntType 8) (codes "-0") ≡ Err 1
 value_minus_zero = refl
 
-value_greatest : value_at builtin (UIntType 8) (codes "18446744073709551615") ≡ Ok (value.Number (pos 18446744073709551615))
+value_greatest : value_by_word builtin (UIntType 8) (codes "18446744073709551615") ≡ Ok (value.Number (pos 18446744073709551615))
 value_greatest = refl
 
-value_past_the_greatest : value_at builtin (UIntType 8) (codes "18446744073709551616") ≡ Err 19
+value_past_the_greatest : value_by_word builtin (UIntType 8) (codes "18446744073709551616") ≡ Err 19
 value_past_the_greatest = refl
 
-value_truth : value_at builtin BoolType (codes "true") ≡ Ok (value.Truth true)
+value_truth : value_by_word builtin BoolType (codes "true") ≡ Ok (value.Truth true)
 value_truth = refl
 
-value_no_truth : value_at builtin BoolType (codes "falsy") ≡ Err 4
+value_no_truth : value_by_word builtin BoolType (codes "falsy") ≡ Err 4
 value_no_truth = refl
 
-value_enumerant : value_at builtin (EnumType 0) (codes "twoBytes") ≡ Ok (value.Enum 3)
+value_enumerant : value_by_word builtin (EnumType 0) (codes "twoBytes") ≡ Ok (value.Enum 3)
 value_enumerant = refl
 
-value_enum_number : value_at builtin (EnumType 0) (codes "65535") ≡ Ok (value.Enum 65535)
+value_enum_number : value_by_word builtin (EnumType 0) (codes "65535") ≡ Ok (value.Enum 65535)
 value_enum_number = refl
 
-value_no_enumerant : value_at builtin (EnumType 0) (codes "bytes") ≡ Err 4
+value_no_enumerant : value_by_word builtin (EnumType 0) (codes "bytes") ≡ Err 4
 value_no_enumerant = refl
 
-value_text : value_at builtin TextType (codes "a b") ≡ Ok (value.Text (codes "a b"))
+value_text : value_by_word builtin TextType (codes "a b") ≡ Ok (value.Text (codes "a b"))
 value_text = refl
 
-value_quoted : value_at builtin TextType (34 ∷ 92 ∷ 34 ∷ 92 ∷ 110 ∷ (92 ∷ (codes "u{41}" ++ 34 ∷ []))) ≡ Ok (value.Text (34 ∷ 10 ∷ 65 ∷ []))
+value_quoted : value_by_word builtin TextType (34 ∷ 92 ∷ 34 ∷ 92 ∷ 110 ∷ (92 ∷ (codes "u{41}" ++ 34 ∷ []))) ≡ Ok (value.Text (34 ∷ 10 ∷ 65 ∷ []))
 unfolding encode_utf8
 value_quoted = refl
 
-value_half_a_character : value_at builtin TextType (34 ∷ 92 ∷ (codes "u{d800}" ++ 34 ∷ [])) ≡ Err 8
+value_half_a_character : value_by_word builtin TextType (34 ∷ 92 ∷ (codes "u{d800}" ++ 34 ∷ [])) ≡ Err 8
 value_half_a_character = refl
 
-value_data : value_at builtin DataType (codes "0x" ++ 34 ∷ (codes "00ff" ++ 34 ∷ [])) ≡ Ok (value.Data (0 ∷ 255 ∷ []))
+value_data : value_by_word builtin DataType (codes "0x" ++ 34 ∷ (codes "00ff" ++ 34 ∷ [])) ≡ Ok (value.Data (0 ∷ 255 ∷ []))
 value_data = refl
 
-value_odd_data : value_at builtin DataType (codes "0x" ++ 34 ∷ (codes "00f" ++ 34 ∷ [])) ≡ Err 6
+value_odd_data : value_by_word builtin DataType (codes "0x" ++ 34 ∷ (codes "00f" ++ 34 ∷ [])) ≡ Err 6
 value_odd_data = refl
 
-value_of_a_list : value_at builtin (ListType BoolType) (codes "[]") ≡ Err 0
+value_of_a_list : value_by_word builtin (ListType BoolType) (codes "[]") ≡ Err 0
 value_of_a_list = refl
 
 -- ---- types along paths ----

@@ -63,8 +63,8 @@ with_argument argument place bs =
     read_then (steps_at place (before_first is_space bs)) (λ path. read_as (λ op. call_of op path) (argument_at argument place bs))
 
 -- a path with no space behind it
-abbrev pub unfinished : (place : ℕ) → List ℕ → Read CallText
-unfinished place bs = read_then (steps_at place bs) (λ path. Err (place + length bs))
+abbrev pub unfinished_call : (place : ℕ) → List ℕ → Read CallText
+unfinished_call place bs = read_then (steps_at place bs) (λ path. Err (place + length bs))
 
 -- the bytes of a value are all that follow
 abbrev pub value_given : (place : ℕ) → List ℕ → Read CallOp

@@ -7,52 +7,52 @@ use Rattle.capnp_schema.specs.Schema.{Schemas}
 use Rattle.capnp_records.specs.Call.{PathStep, FieldNumber, FieldNamed, ElementAt}
 use Rattle.capnp_records.specs.Record as value
 use Rattle.capnp_records.specs.Record.{Value}
-use Rattle.capnp_records.specs.Text.{said, text_of}
+use Rattle.capnp_records.specs.Text.{said_text, text_of}
 use Rattle.capnp_words.specs.Paths.{is_dot, is_space, path_at, words_of_path}
 use Rattle.capnp_words.specs.Calls.{CallOp, CallText, Get, Has, Which, Set, Init, Initn, Clear, call_at, call_word}
-use Rattle.capnp_words.specs.Values.{greatest_signed, greatest_unsigned, names_of, value_at}
+use Rattle.capnp_words.specs.Values.{greatest_signed, greatest_unsigned, enumerant_words, value_by_word}
 
 -- ---- paths ----
 
 -- a name that a path can have
-pub record IsName (name : List ℕ) : Type 0 where
+pub record IsPathName (name : List ℕ) : Type 0 where
   pub some : 0 < length name
   pub begins : is_ascii_digit (slice_index name 0) ≡ false
   pub no_number : slice_index name 0 ≢ 35
   pub no_dot : All (λ b. is_dot b ≡ false) name
   pub no_space : All (λ b. is_space b ≡ false) name
 
-abbrev pub IsStep : PathStep → Type 0
-IsStep (FieldNumber i) = i ≤ 65535
-IsStep (FieldNamed name) = IsName name
-IsStep (ElementAt i) = i ≤ 4294967295
+abbrev pub IsPathStep : PathStep → Type 0
+IsPathStep (FieldNumber i) = i ≤ 65535
+IsPathStep (FieldNamed name) = IsPathName name
+IsPathStep (ElementAt i) = i ≤ 4294967295
 
 -- a path that is written as a word is read as that path
 abbrev pub PathsAreRead : Type 0
-PathsAreRead = (path : List PathStep) → AllByRecursion IsStep path → path_at 0 (words_of_path path) ≡ Ok path
+PathsAreRead = (path : List PathStep) → AllByRecursion IsPathStep path → path_at 0 (words_of_path path) ≡ Ok path
 
 -- a word that is read is the one that its path is written as; so what is refused is no path's word
 abbrev pub OnlyPathsAreRead : Type 0
 OnlyPathsAreRead = (word : List ℕ) (path : List PathStep) → path_at 0 word ≡ Ok path → word ≡ words_of_path path
 
 abbrev pub PathsAreDifferent : Type 0
-PathsAreDifferent = (p q : List PathStep) → AllByRecursion IsStep p → AllByRecursion IsStep q → words_of_path p ≡ words_of_path q → p ≡ q
+PathsAreDifferent = (p q : List PathStep) → AllByRecursion IsPathStep p → AllByRecursion IsPathStep q → words_of_path p ≡ words_of_path q → p ≡ q
 
 -- ---- calls ----
 
 -- a path that is not empty
-abbrev pub IsPart : List PathStep → Type 0
-IsPart path = AllByRecursion IsStep path × (0 < length path)
+abbrev pub IsNonEmptyPath : List PathStep → Type 0
+IsNonEmptyPath path = AllByRecursion IsPathStep path × (0 < length path)
 
 -- a value stands behind the space that follows the path
 abbrev pub IsCallOf : List PathStep → CallOp → Type 0
-IsCallOf path Get = IsPart path
-IsCallOf path Has = IsPart path
-IsCallOf path Which = AllByRecursion IsStep path
-IsCallOf path (Set value place) = IsPart path × (place ≡ 4 + (length (words_of_path path) + 1))
-IsCallOf path Init = IsPart path
-IsCallOf path (Initn size) = IsPart path × (size ≤ 4294967295)
-IsCallOf path Clear = IsPart path
+IsCallOf path Get = IsNonEmptyPath path
+IsCallOf path Has = IsNonEmptyPath path
+IsCallOf path Which = AllByRecursion IsPathStep path
+IsCallOf path (Set value place) = IsNonEmptyPath path × (place ≡ 4 + (length (words_of_path path) + 1))
+IsCallOf path Init = IsNonEmptyPath path
+IsCallOf path (Initn size) = IsNonEmptyPath path × (size ≤ 4294967295)
+IsCallOf path Clear = IsNonEmptyPath path
 
 -- a call that is written as a word is read as that call
 abbrev pub CallsAreRead : Type 0
@@ -72,7 +72,7 @@ IsWritable set BoolType (value.Truth b) = Unit {0}
 IsWritable set (IntType bytes) (value.Number (pos n)) = (bytes ≤ 8) × (n ≤ greatest_signed bytes)
 IsWritable set (IntType bytes) (value.Number (negsuc n)) = (bytes ≤ 8) × (n ≤ greatest_signed bytes)
 IsWritable set (UIntType bytes) (value.Number (pos n)) = (bytes ≤ 8) × (n ≤ greatest_unsigned bytes)
-IsWritable set (EnumType e) (value.Enum n) = AreNames (names_of set e) × (n ≤ 65535)
+IsWritable set (EnumType e) (value.Enum n) = AreNames (enumerant_words set e) × (n ≤ 65535)
 IsWritable set TextType (value.Text bs) = AllByRecursion (λ b. is_ascii b ≡ true) bs
 IsWritable set DataType (value.Data bs) = AllByRecursion (λ b. b < 256) bs
 IsWritable set t v = ⊥
@@ -81,4 +81,4 @@ IsWritable set t v = ⊥
 abbrev pub PrintedValuesAreRead : Type 0
 PrintedValuesAreRead =
     (set : Schemas) (indented : Bool) (t : SchemaType) (v : Value) (word : List ℕ)
-    → IsWritable set t v → text_of set indented t v ≡ said word → value_at set t word ≡ Ok v
+    → IsWritable set t v → text_of set indented t v ≡ said_text word → value_by_word set t word ≡ Ok v

@@ -1,7 +1,7 @@
 -- Decimal numbers: no sign but a minus, no zero in front, and no number past a limit. The place is that of the first byte.
 use Rattle.std.specs.Prelude.{ℕ, zero, suc, ◌+◌, ◌-◌, ◌*◌, ℤ, pos, negsuc, List, [], ◌∷◌, not, ◌&&◌, cond, nat_lt, ◌==◌, Option, Some, None, Ok, Err}
 use Rattle.std.specs.Char.{is_ascii_digit}
-use Rattle.capnp_words.specs.Reads.{Read, read_as, stands_or, ended}
+use Rattle.capnp_words.specs.Reads.{Read, read_as, stands_or, ended_read}
 
 -- a number with one more digit; none where the byte is no digit, or takes the number past the limit
 abbrev pub with_digit : (limit number byte : ℕ) → Option ℕ
@@ -14,7 +14,7 @@ more_digits limit number place (b ∷ bs) = stands_or (with_digit limit number b
 
 abbrev pub decimal_at : (limit place : ℕ) → List ℕ → Read ℕ
 decimal_at limit place [] = Err place
-decimal_at limit place (b ∷ bs) = cond (b == 48) (ended 0 (suc place) bs) (more_digits limit 0 place (b ∷ bs))
+decimal_at limit place (b ∷ bs) = cond (b == 48) (ended_read 0 (suc place) bs) (more_digits limit 0 place (b ∷ bs))
 
 abbrev pub minus : ℕ → ℤ
 minus zero = pos 0

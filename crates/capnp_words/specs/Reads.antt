@@ -18,6 +18,6 @@ stands_or None place f = Err place
 stands_or (Some x) place f = f x
 
 -- the word ends here
-abbrev pub ended : {A : Type 0} → A → (place : ℕ) → List ℕ → Read A
-ended x place [] = Ok x
-ended x place (b ∷ bs) = Err place
+abbrev pub ended_read : {A : Type 0} → A → (place : ℕ) → List ℕ → Read A
+ended_read x place [] = Ok x
+ended_read x place (b ∷ bs) = Err place

@@ -7,7 +7,7 @@ use Rattle.capnp_records.specs.Record.{Value}
 use Rattle.capnp_schema.specs.Enums.{enum_number, enum_set}
 use Rattle.capnp_schema.specs.Schema.{Schemas}
 use Rattle.capnp_schema.specs.Types.{BoolType, DataType, EnumType, IntType, SchemaType, TextType, UIntType, VoidType}
-use Rattle.capnp_dynamic_readers.specs.Handles.{enum_of, number_in}
+use Rattle.capnp_dynamic_readers.specs.Handles.{enum_of, enum_value_number}
 use Rattle.capnp_dynamic_readers.specs.Shown.{no_schemas}
 use Rattle.capnp_words.specs.Calls as text
 use Rattle.capnp_words.specs.Calls.{CallOp, CallText}
@@ -20,64 +20,64 @@ use Rattle.capnp_words.specs.declared.call.CallWord.{CallWord}
 use Rattle.capnp_words.specs.declared.value.PlainValue.{PlainValue}
 use Rattle.capnp_words.specs.declared.value.PlainValue.TheVariants as plain
 
-abbrev pub step_seen : WordStep → PathStep
-step_seen (step.Named name) = FieldNamed (string_bytes name)
-step_seen (step.Field i) = FieldNumber i
-step_seen (step.Element i) = ElementAt i
+abbrev pub step_text_seen : WordStep → PathStep
+step_text_seen (step.Named name) = FieldNamed (string_bytes name)
+step_text_seen (step.Field i) = FieldNumber i
+step_text_seen (step.Element i) = ElementAt i
 
 abbrev pub steps_seen : List WordStep → List PathStep
-steps_seen steps = map step_seen steps
+steps_seen steps = map step_text_seen steps
 
-abbrev pub path_seen : Path → List PathStep
-path_seen path = steps_seen path.steps.items
+abbrev pub path_text_seen : Path → List PathStep
+path_text_seen path = steps_seen path.steps.items
 
-abbrev pub op_seen : WordOp → CallOp
-op_seen op.Get = text.Get
-op_seen op.Has = text.Has
-op_seen op.Which = text.Which
-op_seen (op.Set bytes place) = text.Set bytes.items place
-op_seen op.Init = text.Init
-op_seen (op.Initn size) = text.Initn size
-op_seen op.Clear = text.Clear
+abbrev pub op_text_seen : WordOp → CallOp
+op_text_seen op.Get = text.Get
+op_text_seen op.Has = text.Has
+op_text_seen op.Which = text.Which
+op_text_seen (op.Set bytes place) = text.Set bytes.items place
+op_text_seen op.Init = text.Init
+op_text_seen (op.Initn size) = text.Initn size
+op_text_seen op.Clear = text.Clear
 
-abbrev pub call_seen : CallWord → CallText
-call_seen c = record { path = path_seen c.path; op = op_seen c.op }
+abbrev pub call_text_seen : CallWord → CallText
+call_text_seen c = record { path = path_text_seen c.path; op = op_text_seen c.op }
 
-abbrev pub plain_seen : PlainValue → Value
-plain_seen plain.Void = value.Void
-plain_seen (plain.Bool b) = value.Truth b
-plain_seen (plain.Int8 x) = value.Number x
-plain_seen (plain.Int16 x) = value.Number x
-plain_seen (plain.Int32 x) = value.Number x
-plain_seen (plain.Int64 x) = value.Number x
-plain_seen (plain.UInt8 x) = value.Number (pos x)
-plain_seen (plain.UInt16 x) = value.Number (pos x)
-plain_seen (plain.UInt32 x) = value.Number (pos x)
-plain_seen (plain.UInt64 x) = value.Number (pos x)
-plain_seen (plain.Enum e) = value.Enum (number_in e)
-plain_seen (plain.Text bytes) = value.Text bytes.items
-plain_seen (plain.«Data» bytes) = value.Data bytes.items
+abbrev pub word_value_seen : PlainValue → Value
+word_value_seen plain.Void = value.Void
+word_value_seen (plain.Bool b) = value.Truth b
+word_value_seen (plain.Int8 x) = value.Number x
+word_value_seen (plain.Int16 x) = value.Number x
+word_value_seen (plain.Int32 x) = value.Number x
+word_value_seen (plain.Int64 x) = value.Number x
+word_value_seen (plain.UInt8 x) = value.Number (pos x)
+word_value_seen (plain.UInt16 x) = value.Number (pos x)
+word_value_seen (plain.UInt32 x) = value.Number (pos x)
+word_value_seen (plain.UInt64 x) = value.Number (pos x)
+word_value_seen (plain.Enum e) = value.Enum (enum_value_number e)
+word_value_seen (plain.Text bytes) = value.Text bytes.items
+word_value_seen (plain.«Data» bytes) = value.Data bytes.items
 
 -- the type whose value it is; the integers by their bytes
-abbrev pub plain_type : PlainValue → SchemaType
-plain_type plain.Void = VoidType
-plain_type (plain.Bool b) = BoolType
-plain_type (plain.Int8 x) = IntType 1
-plain_type (plain.Int16 x) = IntType 2
-plain_type (plain.Int32 x) = IntType 4
-plain_type (plain.Int64 x) = IntType 8
-plain_type (plain.UInt8 x) = UIntType 1
-plain_type (plain.UInt16 x) = UIntType 2
-plain_type (plain.UInt32 x) = UIntType 4
-plain_type (plain.UInt64 x) = UIntType 8
-plain_type (plain.Enum e) = EnumType (enum_number (enum_of e))
-plain_type (plain.Text bytes) = TextType
-plain_type (plain.«Data» bytes) = DataType
+abbrev pub word_value_type : PlainValue → SchemaType
+word_value_type plain.Void = VoidType
+word_value_type (plain.Bool b) = BoolType
+word_value_type (plain.Int8 x) = IntType 1
+word_value_type (plain.Int16 x) = IntType 2
+word_value_type (plain.Int32 x) = IntType 4
+word_value_type (plain.Int64 x) = IntType 8
+word_value_type (plain.UInt8 x) = UIntType 1
+word_value_type (plain.UInt16 x) = UIntType 2
+word_value_type (plain.UInt32 x) = UIntType 4
+word_value_type (plain.UInt64 x) = UIntType 8
+word_value_type (plain.Enum e) = EnumType (enum_number (enum_of e))
+word_value_type (plain.Text bytes) = TextType
+word_value_type (plain.«Data» bytes) = DataType
 
 -- the set of an enum's value; others need none
-abbrev pub plain_set : PlainValue → Schemas
-plain_set (plain.Enum e) = enum_set (enum_of e)
-plain_set v = no_schemas
+abbrev pub word_value_set : PlainValue → Schemas
+word_value_set (plain.Enum e) = enum_set (enum_of e)
+word_value_set v = no_schemas
 
 -- an enum's value is of the set
 abbrev pub IsOfSet : Schemas → PlainValue → Type 0

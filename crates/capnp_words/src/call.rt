@@ -5,8 +5,8 @@ ghost use Rattle.capnp_device.specs.declared.error.ErrorKind.TheVariants.{OutOfM
 ghost use Rattle.capnp_words.specs.Reads.{read_as};
 ghost use Rattle.capnp_words.specs.declared.call.Head.TheVariants as head;
 ghost use Rattle.capnp_words.specs.Words.{begins_with_one};
-ghost use Rattle.capnp_words.specs.Calls.{after_head, call_at, call_of, heads, to_part, value_given, size_given, unfinished, with_argument};
-ghost use Rattle.capnp_words.specs.Seen.{call_seen, op_seen, path_seen};
+ghost use Rattle.capnp_words.specs.Calls.{after_head, call_at, call_of, heads, to_part, value_given, size_given, unfinished_call, with_argument};
+ghost use Rattle.capnp_words.specs.Seen.{call_text_seen, op_text_seen, path_text_seen};
 
 use crate::numbers::read_decimal;
 use crate::path::{Path, Read, parse_path_at, parse_steps};
@@ -81,7 +81,7 @@ fn parse_head(word: &str) -> Read<(Head, usize)>
 /// A call of a path alone, which is not empty.
 fn parse_part(alloc: Global, op: WordOp, rest: &str, place: usize) -> Result<Read<CallWord>>
     requires { place + length rest.now < 2 ^ 64 }
-    ensures read { IfOk result (λ r. read_as call_seen r ≡ to_part (op_seen op) place rest.now) }
+    ensures read { IfOk result (λ r. read_as call_text_seen r ≡ to_part (op_text_seen op) place rest.now) }
     ensures memory { IfErr result (λ e. e.kind ≡ OutOfMemory) }
 {
     match parse_steps(alloc, rest, place)? {
@@ -93,7 +93,7 @@ fn parse_part(alloc: Global, op: WordOp, rest: &str, place: usize) -> Result<Rea
 /// The active member of a struct, whose path may be empty.
 fn parse_which(alloc: Global, rest: &str, place: usize) -> Result<Read<CallWord>>
     requires { place + length rest.now < 2 ^ 64 }
-    ensures read { IfOk result (λ r. read_as call_seen r ≡ after_head head.Which place rest.now) }
+    ensures read { IfOk result (λ r. read_as call_text_seen r ≡ after_head head.Which place rest.now) }
     ensures memory { IfErr result (λ e. e.kind ≡ OutOfMemory) }
 {
     match parse_path_at(alloc, rest, place)? {
@@ -108,7 +108,7 @@ fn parse_which(alloc: Global, rest: &str, place: usize) -> Result<Read<CallWord>
 /// A path that is not empty, and after a space a value.
 fn parse_set(alloc: Global, rest: &str, place: usize) -> Result<Read<CallWord>>
     requires { place + length rest.now < 2 ^ 64 }
-    ensures read { IfOk result (λ r. read_as call_seen r ≡ with_argument value_given place rest.now) }
+    ensures read { IfOk result (λ r. read_as call_text_seen r ≡ with_argument value_given place rest.now) }
     ensures memory { IfErr result (λ e. e.kind ≡ OutOfMemory) }
 {
     let Some((steps, value)) = rest.split_once(' ') else {
@@ -127,7 +127,7 @@ fn parse_set(alloc: Global, rest: &str, place: usize) -> Result<Read<CallWord>>
 /// A path that is not empty, and after a space a size.
 fn parse_initn(alloc: Global, rest: &str, place: usize) -> Result<Read<CallWord>>
     requires { place + length rest.now < 2 ^ 64 }
-    ensures read { IfOk result (λ r. read_as call_seen r ≡ with_argument size_given place rest.now) }
+    ensures read { IfOk result (λ r. read_as call_text_seen r ≡ with_argument size_given place rest.now) }
     ensures memory { IfErr result (λ e. e.kind ≡ OutOfMemory) }
 {
     let Some((steps, size)) = rest.split_once(' ') else {
@@ -142,7 +142,7 @@ fn parse_initn(alloc: Global, rest: &str, place: usize) -> Result<Read<CallWord>
 /// A size, to the end of the word.
 fn parse_size(path: Path, size: &[u8], place: usize) -> Read<CallWord>
     requires { place + length size.now < 2 ^ 64 }
-    ensures { read_as call_seen result ≡ read_as (λ op. call_of op (path_seen path)) (size_given place size.now) }
+    ensures { read_as call_text_seen result ≡ read_as (λ op. call_of op (path_text_seen path)) (size_given place size.now) }
 {
     let count = read_decimal(size, place, u64::from(u32::MAX))?;
     let op = WordOp::Initn(count as u32);
@@ -152,7 +152,7 @@ fn parse_size(path: Path, size: &[u8], place: usize) -> Read<CallWord>
 /// A path with no space behind it, where one has to stand: the path's fault, or the end of the word.
 fn parse_unfinished(alloc: Global, rest: &str, place: usize) -> Result<Read<CallWord>>
     requires { place + length rest.now < 2 ^ 64 }
-    ensures read { IfOk result (λ r. read_as call_seen r ≡ unfinished place rest.now) }
+    ensures read { IfOk result (λ r. read_as call_text_seen r ≡ unfinished_call place rest.now) }
     ensures memory { IfErr result (λ e. e.kind ≡ OutOfMemory) }
 {
     match parse_steps(alloc, rest, place)? {
@@ -164,7 +164,7 @@ fn parse_unfinished(alloc: Global, rest: &str, place: usize) -> Result<Read<Call
 /// What follows a call's first word.
 fn parse_rest(alloc: Global, head: Head, rest: &str, place: usize) -> Result<Read<CallWord>>
     requires { place + length rest.now < 2 ^ 64 }
-    ensures read { IfOk result (λ r. read_as call_seen r ≡ after_head head place rest.now) }
+    ensures read { IfOk result (λ r. read_as call_text_seen r ≡ after_head head place rest.now) }
     ensures memory { IfErr result (λ e. e.kind ≡ OutOfMemory) }
 {
     match head {
@@ -185,7 +185,7 @@ fn parse_rest(alloc: Global, head: Head, rest: &str, place: usize) -> Result<Rea
 /// Any other word is refused, in the inner result, with the place of the first byte that can't stand, or with its
 /// length where it ends too soon. The outer result is refused with `OutOfMemory` alone.
 pub fn parse_call(alloc: Global, word: &str) -> Result<Read<CallWord>>
-    ensures read { IfOk result (λ r. read_as call_seen r ≡ call_at word.now) }
+    ensures read { IfOk result (λ r. read_as call_text_seen r ≡ call_at word.now) }
     ensures memory { IfErr result (λ e. e.kind ≡ OutOfMemory) }
 {
     match parse_head(word) {

@@ -4,8 +4,8 @@ ghost use Rattle.capnp_device.specs.declared.error.ErrorKind.TheVariants.{OutOfM
 ghost use Rattle.capnp_words.specs.Reads.{read_as};
 ghost use Rattle.capnp_records.specs.Call.{FieldNumber, ElementAt};
 ghost use Rattle.capnp_words.specs.Numbers.{decimal_at};
-ghost use Rattle.capnp_words.specs.Paths.{name_at, path_at, step_at, steps_at};
-ghost use Rattle.capnp_words.specs.Seen.{path_seen, step_seen};
+ghost use Rattle.capnp_words.specs.Paths.{path_name_at, path_at, step_at, steps_at};
+ghost use Rattle.capnp_words.specs.Seen.{path_text_seen, step_text_seen};
 
 use crate::numbers::read_decimal;
 use capnp_wire::error::Result;
@@ -34,7 +34,7 @@ pub type Read<T> = std::result::Result<T, usize>;
 /// The name of a field, which has no space.
 fn parse_name(alloc: Global, name: &str, place: usize) -> Result<Read<PathStep>>
     requires { place + length name.now < 2 ^ 64 }
-    ensures read { IfOk result (λ r. read_as step_seen r ≡ name_at place name.now) }
+    ensures read { IfOk result (λ r. read_as step_text_seen r ≡ path_name_at place name.now) }
     ensures memory { IfErr result (λ e. e.kind ≡ OutOfMemory) }
 {
     if let Some((before, _)) = name.split_once(' ') {
@@ -46,7 +46,7 @@ fn parse_name(alloc: Global, name: &str, place: usize) -> Result<Read<PathStep>>
 /// A step, which is all of the bytes. `place` is where the first of them stands.
 fn parse_step(alloc: Global, step: &str, place: usize) -> Result<Read<PathStep>>
     requires { place + length step.now < 2 ^ 64 }
-    ensures read { IfOk result (λ r. read_as step_seen r ≡ step_at place step.now) }
+    ensures read { IfOk result (λ r. read_as step_text_seen r ≡ step_at place step.now) }
     ensures memory { IfErr result (λ e. e.kind ≡ OutOfMemory) }
 {
     let bytes = step.as_bytes();
@@ -65,7 +65,7 @@ fn parse_step(alloc: Global, step: &str, place: usize) -> Result<Read<PathStep>>
 /// The number of a field.
 fn parse_field(number: &[u8], place: usize) -> Read<PathStep>
     requires { place + length number.now < 2 ^ 64 }
-    ensures { read_as step_seen result ≡ read_as FieldNumber (decimal_at 65535 place number.now) }
+    ensures { read_as step_text_seen result ≡ read_as FieldNumber (decimal_at 65535 place number.now) }
 {
     let index = read_decimal(number, place, u64::from(u16::MAX))?;
     Ok(PathStep::Field(index as u16))
@@ -74,7 +74,7 @@ fn parse_field(number: &[u8], place: usize) -> Read<PathStep>
 /// The number of an element.
 fn parse_element(number: &[u8], place: usize) -> Read<PathStep>
     requires { place + length number.now < 2 ^ 64 }
-    ensures { read_as step_seen result ≡ read_as ElementAt (decimal_at 4294967295 place number.now) }
+    ensures { read_as step_text_seen result ≡ read_as ElementAt (decimal_at 4294967295 place number.now) }
 {
     let index = read_decimal(number, place, u64::from(u32::MAX))?;
     Ok(PathStep::Element(index as u32))
@@ -83,7 +83,7 @@ fn parse_element(number: &[u8], place: usize) -> Read<PathStep>
 /// The steps of a path that is not empty. `place` is where the first byte stands.
 pub(crate) fn parse_steps(alloc: Global, word: &str, place: usize) -> Result<Read<Path>>
     requires { place + length word.now < 2 ^ 64 }
-    ensures read { IfOk result (λ r. read_as path_seen r ≡ steps_at place word.now) }
+    ensures read { IfOk result (λ r. read_as path_text_seen r ≡ steps_at place word.now) }
     ensures memory { IfErr result (λ e. e.kind ≡ OutOfMemory) }
 {
     let mut steps = Vec::new(alloc);
@@ -107,7 +107,7 @@ pub(crate) fn parse_steps(alloc: Global, word: &str, place: usize) -> Result<Rea
 /// A path, the empty one as a dot. `place` is where the first byte stands.
 pub(crate) fn parse_path_at(alloc: Global, word: &str, place: usize) -> Result<Read<Path>>
     requires { place + length word.now < 2 ^ 64 }
-    ensures read { IfOk result (λ r. read_as path_seen r ≡ path_at place word.now) }
+    ensures read { IfOk result (λ r. read_as path_text_seen r ≡ path_at place word.now) }
     ensures memory { IfErr result (λ e. e.kind ≡ OutOfMemory) }
 {
     let bytes = word.as_bytes();
@@ -132,7 +132,7 @@ pub(crate) fn parse_path_at(alloc: Global, word: &str, place: usize) -> Result<R
 /// Any other word is refused, in the inner result, with the place of the first byte that can't stand, or with its
 /// length where it ends too soon. The outer result is refused with `OutOfMemory` alone.
 pub fn parse_path(alloc: Global, word: &str) -> Result<Read<Path>>
-    ensures read { IfOk result (λ r. read_as path_seen r ≡ path_at 0 word.now) }
+    ensures read { IfOk result (λ r. read_as path_text_seen r ≡ path_at 0 word.now) }
     ensures memory { IfErr result (λ e. e.kind ≡ OutOfMemory) }
 {
     parse_path_at(alloc, word, 0)

@@ -5,7 +5,7 @@ ghost use Rattle.capnp_schema.specs.Entries.{lists_seen};
 ghost use Rattle.capnp_schema.specs.Query.{field_named};
 ghost use Rattle.capnp_schema.specs.StructHandles.{generic_of, number_of, set_of, struct_records};
 ghost use Rattle.capnp_schema.specs.Types.{seen_type, seen_variant, StructType};
-ghost use Rattle.capnp_words.specs.Seen.{path_seen, step_seen};
+ghost use Rattle.capnp_words.specs.Seen.{path_text_seen, step_text_seen};
 ghost use Rattle.capnp_words.specs.Targets.{field_type, type_along, type_behind};
 
 use crate::path::{Path, PathStep};
@@ -35,7 +35,7 @@ fn find_named_type(schema: StructSchema<'_>, name: &str) -> Option<Type>
 
 /// The type of what a step names at a type of the set. None where it fits nothing there.
 fn find_type_behind(set: &SchemaSet, kind: TypeVariant, step: &PathStep) -> Option<Type>
-    ensures { option_map seen_type result ≡ type_behind (lists_seen set.now) (seen_variant kind) (step_seen step.now) }
+    ensures { option_map seen_type result ≡ type_behind (lists_seen set.now) (seen_variant kind) (step_text_seen step.now) }
 {
     match kind {
         TypeVariant::Struct(raw) => match step {
@@ -57,7 +57,7 @@ fn find_type_behind(set: &SchemaSet, kind: TypeVariant, step: &PathStep) -> Opti
 #[tactic(auto, using(capnp_schema::specs::Facts::Layers::seen_which))]
 pub fn target_type(schema: StructSchema<'_>, path: &Path) -> Option<Type>
     ensures { option_map seen_type result ≡ type_along (set_of schema.entry)
-        (StructType (number_of schema.entry) (generic_of schema.entry)) (path_seen path.now) }
+        (StructType (number_of schema.entry) (generic_of schema.entry)) (path_text_seen path.now) }
 {
     let mut target = Type::from(TypeVariant::Struct(schema.into()));
     for step in &path.steps {

@@ -9,12 +9,12 @@ ghost use Rattle.capnp_schema.specs.Types.{BoolType, EnumType, IntType, UIntType
 ghost use Rattle.capnp_dynamic_readers.specs.Seen.{value_seen};
 ghost use Rattle.capnp_dynamic_readers.specs.Shown.{set_seen, type_seen};
 ghost use Rattle.capnp_words.specs.Reads.{read_as};
-ghost use Rattle.capnp_words.specs.Quoted.{text_at, data_at};
+ghost use Rattle.capnp_words.specs.Quoted.{text_word_at, data_at};
 ghost use Rattle.capnp_records.specs.Record.{Truth};
 ghost use Rattle.capnp_records.specs.Record.{Enum as EnumNumber};
 ghost use Rattle.capnp_words.specs.Words.{name_among};
-ghost use Rattle.capnp_words.specs.Values.{IsSmall, enumerant_at, enumerant_names, int_at, truth_at, uint_at, value_at, void_at};
-ghost use Rattle.capnp_words.specs.Seen.{IsOfSet, plain_seen, plain_set, plain_type};
+ghost use Rattle.capnp_words.specs.Values.{IsSmall, enumerant_by_word, enumerant_names, int_at, truth_at, uint_at, value_by_word, void_at};
+ghost use Rattle.capnp_words.specs.Seen.{IsOfSet, word_value_seen, word_value_set, word_value_type};
 
 use crate::numbers::{read_decimal, read_signed};
 use crate::path::Read;
@@ -49,9 +49,9 @@ pub enum PlainValue<'s> {
 impl<'s> PlainValue<'s> {
     /// The value as one that is read, of the same type and the same schemas, which a set can be given.
     pub fn as_reader(&self) -> Reader<'_>
-        ensures value { value_seen result ≡ plain_seen self.now }
-        ensures typed { type_seen result ≡ plain_type self.now }
-        ensures set { set_seen result ≡ plain_set self.now }
+        ensures value { value_seen result ≡ word_value_seen self.now }
+        ensures typed { type_seen result ≡ word_value_type self.now }
+        ensures set { set_seen result ≡ word_value_set self.now }
     {
         match self {
             PlainValue::Void => Reader::Void,
@@ -73,8 +73,8 @@ impl<'s> PlainValue<'s> {
 
 /// `()`.
 fn read_void<'s>(word: &[u8]) -> Read<PlainValue<'s>>
-    ensures read { read_as plain_seen result ≡ void_at word.now }
-    ensures typed { IfOk result (λ v. plain_type v ≡ VoidType) }
+    ensures read { read_as word_value_seen result ≡ void_at word.now }
+    ensures typed { IfOk result (λ v. word_value_type v ≡ VoidType) }
 {
     let mut longest = 0;
     if is_word(b"()", word, &mut longest) {
@@ -132,7 +132,7 @@ fn find_enumerant(schema: EnumSchema<'_>, word: &[u8]) -> Read<u16>
 
 /// An enumerant, by its name or its number.
 fn read_enumerant(schema: EnumSchema<'_>, word: &[u8]) -> Read<u16>
-    ensures { result ≡ enumerant_at (enumerant_names schema.entry) word.now }
+    ensures { result ≡ enumerant_by_word (enumerant_names schema.entry) word.now }
 {
     match find_enumerant(schema, word) {
         Ok(ordinal) => Ok(ordinal),
@@ -145,7 +145,7 @@ fn read_enumerant(schema: EnumSchema<'_>, word: &[u8]) -> Read<u16>
 
 /// A text in quotes, or any bytes that begin with none.
 fn read_text(alloc: Global, word: &[u8]) -> Result<Read<Vec<u8>>>
-    ensures read { IfOk result (λ r. read_as (λ v. v.items) r ≡ text_at word.now) }
+    ensures read { IfOk result (λ r. read_as (λ v. v.items) r ≡ text_word_at word.now) }
     ensures memory { IfErr result (λ e. e.kind ≡ OutOfMemory) }
 {
     if word.first() == Some(&b'"') {
@@ -156,8 +156,8 @@ fn read_text(alloc: Global, word: &[u8]) -> Result<Read<Vec<u8>>>
 
 /// A number of a signed type of one byte.
 fn read_int8<'s>(word: &[u8]) -> Read<PlainValue<'s>>
-    ensures read { read_as plain_seen result ≡ int_at 1 word.now }
-    ensures typed { IfOk result (λ v. plain_type v ≡ IntType 1) }
+    ensures read { read_as word_value_seen result ≡ int_at 1 word.now }
+    ensures typed { IfOk result (λ v. word_value_type v ≡ IntType 1) }
 {
     let number = read_signed(word, 0, 0x7F)?;
     Ok(PlainValue::Int8(number as i8))
@@ -165,8 +165,8 @@ fn read_int8<'s>(word: &[u8]) -> Read<PlainValue<'s>>
 
 /// A number of a signed type of two bytes.
 fn read_int16<'s>(word: &[u8]) -> Read<PlainValue<'s>>
-    ensures read { read_as plain_seen result ≡ int_at 2 word.now }
-    ensures typed { IfOk result (λ v. plain_type v ≡ IntType 2) }
+    ensures read { read_as word_value_seen result ≡ int_at 2 word.now }
+    ensures typed { IfOk result (λ v. word_value_type v ≡ IntType 2) }
 {
     let number = read_signed(word, 0, 0x7FFF)?;
     Ok(PlainValue::Int16(number as i16))
@@ -174,8 +174,8 @@ fn read_int16<'s>(word: &[u8]) -> Read<PlainValue<'s>>
 
 /// A number of a signed type of four bytes.
 fn read_int32<'s>(word: &[u8]) -> Read<PlainValue<'s>>
-    ensures read { read_as plain_seen result ≡ int_at 4 word.now }
-    ensures typed { IfOk result (λ v. plain_type v ≡ IntType 4) }
+    ensures read { read_as word_value_seen result ≡ int_at 4 word.now }
+    ensures typed { IfOk result (λ v. word_value_type v ≡ IntType 4) }
 {
     let number = read_signed(word, 0, 0x7FFF_FFFF)?;
     Ok(PlainValue::Int32(number as i32))
@@ -183,8 +183,8 @@ fn read_int32<'s>(word: &[u8]) -> Read<PlainValue<'s>>
 
 /// A number of a signed type of eight bytes.
 fn read_int64<'s>(word: &[u8]) -> Read<PlainValue<'s>>
-    ensures read { read_as plain_seen result ≡ int_at 8 word.now }
-    ensures typed { IfOk result (λ v. plain_type v ≡ IntType 8) }
+    ensures read { read_as word_value_seen result ≡ int_at 8 word.now }
+    ensures typed { IfOk result (λ v. word_value_type v ≡ IntType 8) }
 {
     let number = read_signed(word, 0, 0x7FFF_FFFF_FFFF_FFFF)?;
     Ok(PlainValue::Int64(number))
@@ -192,8 +192,8 @@ fn read_int64<'s>(word: &[u8]) -> Read<PlainValue<'s>>
 
 /// A number of an unsigned type of one byte.
 fn read_uint8<'s>(word: &[u8]) -> Read<PlainValue<'s>>
-    ensures read { read_as plain_seen result ≡ uint_at 1 word.now }
-    ensures typed { IfOk result (λ v. plain_type v ≡ UIntType 1) }
+    ensures read { read_as word_value_seen result ≡ uint_at 1 word.now }
+    ensures typed { IfOk result (λ v. word_value_type v ≡ UIntType 1) }
 {
     let number = read_decimal(word, 0, 0xFF)?;
     Ok(PlainValue::UInt8(number as u8))
@@ -201,8 +201,8 @@ fn read_uint8<'s>(word: &[u8]) -> Read<PlainValue<'s>>
 
 /// A number of an unsigned type of two bytes.
 fn read_uint16<'s>(word: &[u8]) -> Read<PlainValue<'s>>
-    ensures read { read_as plain_seen result ≡ uint_at 2 word.now }
-    ensures typed { IfOk result (λ v. plain_type v ≡ UIntType 2) }
+    ensures read { read_as word_value_seen result ≡ uint_at 2 word.now }
+    ensures typed { IfOk result (λ v. word_value_type v ≡ UIntType 2) }
 {
     let number = read_decimal(word, 0, 0xFFFF)?;
     Ok(PlainValue::UInt16(number as u16))
@@ -210,8 +210,8 @@ fn read_uint16<'s>(word: &[u8]) -> Read<PlainValue<'s>>
 
 /// A number of an unsigned type of four bytes.
 fn read_uint32<'s>(word: &[u8]) -> Read<PlainValue<'s>>
-    ensures read { read_as plain_seen result ≡ uint_at 4 word.now }
-    ensures typed { IfOk result (λ v. plain_type v ≡ UIntType 4) }
+    ensures read { read_as word_value_seen result ≡ uint_at 4 word.now }
+    ensures typed { IfOk result (λ v. word_value_type v ≡ UIntType 4) }
 {
     let number = read_decimal(word, 0, 0xFFFF_FFFF)?;
     Ok(PlainValue::UInt32(number as u32))
@@ -219,8 +219,8 @@ fn read_uint32<'s>(word: &[u8]) -> Read<PlainValue<'s>>
 
 /// A number of an unsigned type of eight bytes.
 fn read_uint64<'s>(word: &[u8]) -> Read<PlainValue<'s>>
-    ensures read { read_as plain_seen result ≡ uint_at 8 word.now }
-    ensures typed { IfOk result (λ v. plain_type v ≡ UIntType 8) }
+    ensures read { read_as word_value_seen result ≡ uint_at 8 word.now }
+    ensures typed { IfOk result (λ v. word_value_type v ≡ UIntType 8) }
 {
     let number = read_decimal(word, 0, 0xFFFF_FFFF_FFFF_FFFF)?;
     Ok(PlainValue::UInt64(number))
@@ -228,8 +228,8 @@ fn read_uint64<'s>(word: &[u8]) -> Read<PlainValue<'s>>
 
 /// A truth value.
 fn read_bool<'s>(word: &[u8]) -> Read<PlainValue<'s>>
-    ensures read { read_as plain_seen result ≡ read_as Truth (truth_at word.now) }
-    ensures typed { IfOk result (λ v. plain_type v ≡ BoolType) }
+    ensures read { read_as word_value_seen result ≡ read_as Truth (truth_at word.now) }
+    ensures typed { IfOk result (λ v. word_value_type v ≡ BoolType) }
 {
     let truth = read_truth(word)?;
     Ok(PlainValue::Bool(truth))
@@ -237,9 +237,9 @@ fn read_bool<'s>(word: &[u8]) -> Read<PlainValue<'s>>
 
 /// An enumerant of an enum.
 fn read_enum<'s>(schema: EnumSchema<'s>, word: &[u8]) -> Read<PlainValue<'s>>
-    ensures read { read_as plain_seen result
-        ≡ read_as EnumNumber (enumerant_at (enumerant_names schema.entry) word.now) }
-    ensures typed { IfOk result (λ v. plain_type v ≡ EnumType (enum_number schema.entry)) }
+    ensures read { read_as word_value_seen result
+        ≡ read_as EnumNumber (enumerant_by_word (enumerant_names schema.entry) word.now) }
+    ensures typed { IfOk result (λ v. word_value_type v ≡ EnumType (enum_number schema.entry)) }
     ensures set { IfOk result (IsOfSet (enum_set schema.entry)) }
 {
     let number = read_enumerant(schema, word)?;
@@ -250,8 +250,8 @@ fn read_enum<'s>(schema: EnumSchema<'s>, word: &[u8]) -> Read<PlainValue<'s>>
 #[tactic(auto, using(crate::proofs::OfSet::of_no_set))]
 fn read_small<'s>(set: &'s SchemaSet, kind: TypeVariant, word: &[u8]) -> Read<PlainValue<'s>>
     requires { IsSmall (seen_variant kind) }
-    ensures read { read_as plain_seen result ≡ value_at (lists_seen set.now) (seen_variant kind) word.now }
-    ensures typed { IfOk result (λ v. plain_type v ≡ seen_variant kind) }
+    ensures read { read_as word_value_seen result ≡ value_by_word (lists_seen set.now) (seen_variant kind) word.now }
+    ensures typed { IfOk result (λ v. word_value_type v ≡ seen_variant kind) }
     ensures set { IfOk result (IsOfSet (lists_seen set.now)) }
 {
     match kind {
@@ -290,8 +290,8 @@ pub fn parse_value<'s>(
     target: Type,
     word: &[u8],
 ) -> Result<Read<PlainValue<'s>>>
-    ensures read { IfOk result (λ r. read_as plain_seen r ≡ value_at (lists_seen set.now) (seen_type target) word.now) }
-    ensures typed { IfOk result (λ r. IfOk r (λ v. plain_type v ≡ seen_type target)) }
+    ensures read { IfOk result (λ r. read_as word_value_seen r ≡ value_by_word (lists_seen set.now) (seen_type target) word.now) }
+    ensures typed { IfOk result (λ r. IfOk r (λ v. word_value_type v ≡ seen_type target)) }
     ensures set { IfOk result (λ r. IfOk r (IsOfSet (lists_seen set.now))) }
     ensures memory { IfErr result (λ e. e.kind ≡ OutOfMemory) }
 {

@@ -6,7 +6,7 @@ ghost use Rattle.capnp_arena.specs.Segment.{segment};
 ghost use Rattle.capnp_arena.specs.Shape.{word_count};
 ghost use Rattle.capnp_base.specs.Types.{type_from};
 ghost use Rattle.capnp_base.specs.declared.introspect.TypeVariant.TheVariants as variant;
-ghost use Rattle.capnp_builders.specs.Pointers.{IsPointer, arena_behind, word_of};
+ghost use Rattle.capnp_builders.specs.Pointers.{IsUntypedPointer, arena_behind, untyped_word};
 
 use crate::messages::{brand_of, message_of, set_of};
 use crate::script::read_value;
@@ -35,11 +35,11 @@ const LISTED: &[u8] = &[
 
 /// Sets an untyped pointer to a struct or list. Refused as its `set_as`, and with `TypeMismatch` for another value.
 fn set_as(root: &mut any_pointer::Builder<'_>, value: Value<'_>) -> Result<()>
-    requires inside { word_of root.old < word_count (segment (arena_behind root.old).now) }
-    requires forest { IsPointer root.old }
+    requires inside { untyped_word root.old < word_count (segment (arena_behind root.old).now) }
+    requires forest { IsUntypedPointer root.old }
     ensures same { (arena_behind root.new).ghost_name ≡ (arena_behind root.old).ghost_name }
-    ensures at { word_of root.new ≡ word_of root.old }
-    ensures forest { IsPointer root.new }
+    ensures at { untyped_word root.new ≡ untyped_word root.old }
+    ensures forest { IsUntypedPointer root.new }
 {
     match value {
         Value::Struct(reader) => {

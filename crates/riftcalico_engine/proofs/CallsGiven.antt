@@ -7,8 +7,8 @@ use Rattle.capnp_schema.specs.Types.{SchemaType}
 use Rattle.capnp_records.specs.Call.{Call, Op, PathStep}
 use Rattle.capnp_records.specs.Record.{Value}
 use Rattle.capnp_words.specs.Reads.{Read, read_as}
-use Rattle.capnp_words.specs.Seen.{plain_seen, plain_type}
-use Rattle.capnp_words.specs.Values.{value_at}
+use Rattle.capnp_words.specs.Seen.{word_value_seen, word_value_type}
+use Rattle.capnp_words.specs.Values.{value_by_word}
 use Rattle.capnp_words.specs.declared.value.PlainValue.{PlainValue}
 use Rattle.capnp_words.specs.declared.value.PlainValue.TheVariants as plain
 use Rattle.capnp_call.specs.Seen.{call_seen}
@@ -17,13 +17,13 @@ use Rattle.capnp_records.specs.Run.{root_type}
 use Rattle.capnp_schema.specs.StructHandles.{number_of, set_of}
 use Rattle.capnp_schema.specs.declared.schema.structs.StructSchema.{StructSchema}
 use Rattle.capnp_words.specs.Calls.{CallText}
-use Rattle.riftcalico_engine.specs.Calls.{call_read, shifted, source_of, split, with_step}
-use Rattle.riftcalico_engine.specs.Reads.{each_read}
+use Rattle.riftcalico_engine.specs.Calls.{call_read, shifted_read, source_taken, split, with_step}
+use Rattle.riftcalico_engine.specs.Reads.{each_word_read}
 use Rattle.riftcalico_engine.specs.Words.{AreCalls, AreMadeOf}
-use Rattle.riftcalico_engine.specs.CallsSeen.{plain_source}
+use Rattle.riftcalico_engine.specs.CallsSeen.{word_value_source}
 
 -- a value is given by its type
-pub source_is : (v : PlainValue) → source_of (plain_type v) (plain_seen v) ≡ plain_source v
+pub source_is : (v : PlainValue) → source_taken (word_value_type v) (word_value_seen v) ≡ word_value_source v
 source_is plain.Void = refl
 source_is (plain.Bool b) = refl
 source_is (plain.Int8 x) = refl
@@ -39,10 +39,10 @@ source_is (plain.Text bytes) = refl
 source_is (plain.«Data» bytes) = refl
 
 -- one that was read under a type
-pub source_read : (set : Schemas) (t : SchemaType) (bytes : List ℕ) (place : ℕ) (v : PlainValue) → plain_type v ≡ t → Ok (plain_seen v) ≡ value_at set t bytes →
-    Ok (plain_source v) ≡ shifted place (read_as (source_of t) (value_at set t bytes))
+pub source_read : (set : Schemas) (t : SchemaType) (bytes : List ℕ) (place : ℕ) (v : PlainValue) → word_value_type v ≡ t → Ok (word_value_seen v) ≡ value_by_word set t bytes →
+    Ok (word_value_source v) ≡ shifted_read place (read_as (source_taken t) (value_by_word set t bytes))
 source_read set t bytes place v typed read =
-    ap Ok (sym (source_is v) ∙ ap (λ (u : SchemaType). source_of u (plain_seen v)) typed) ∙ ap (λ (r : Read Value). shifted place (read_as (source_of t) r)) read
+    ap Ok (sym (source_is v) ∙ ap (λ (u : SchemaType). source_taken u (word_value_seen v)) typed) ∙ ap (λ (r : Read Value). shifted_read place (read_as (source_taken t) r)) read
 
 -- the last step of a path, and those before it
 pub split_last : (op : Op) (steps : List PathStep) (last : PathStep) → split (steps ++ last ∷ []) op ≡ record { path = steps; last = last; op = op }
@@ -58,7 +58,7 @@ split_seen {S} seen op steps path last e =
 
 -- calls that were read under a schema, as they are made
 pub calls_are : (schema : StructSchema) (texts : List CallText) (calls : List MadeCall) (read : List Call) (so : StructSchema → List MadeCall → Type 0) →
-    Ok read ≡ each_read (call_read (set_of schema) (root_type (set_of schema) (number_of schema))) 0 texts → map call_seen calls ≡ read → so schema calls →
+    Ok read ≡ each_word_read (call_read (set_of schema) (root_type (set_of schema) (number_of schema))) 0 texts → map call_seen calls ≡ read → so schema calls →
     AreCalls (set_of schema) (number_of schema) texts so
 calls_are schema texts calls read so said made is = record {
   schema = schema;
@@ -71,10 +71,10 @@ calls_are schema texts calls read so said made is = record {
 
 -- what is so of calls that were read is so of calls under the schema
 pub under_schema : (schema : StructSchema) (texts : List CallText) (read : List Call) (so : StructSchema → List MadeCall → Type 0) →
-    Ok read ≡ each_read (call_read (set_of schema) (root_type (set_of schema) (number_of schema))) 0 texts → AreMadeOf read (so schema) → AreCalls (set_of schema) (number_of schema) texts so
+    Ok read ≡ each_word_read (call_read (set_of schema) (root_type (set_of schema) (number_of schema))) 0 texts → AreMadeOf read (so schema) → AreCalls (set_of schema) (number_of schema) texts so
 under_schema schema texts read so said made = calls_are schema texts made.calls read so said made.are made.are_so
 
 -- the same of calls that are those
 pub under_seen : (schema : StructSchema) (texts : List CallText) (given read : List Call) (so : StructSchema → List MadeCall → Type 0) → given ≡ read →
-    Ok read ≡ each_read (call_read (set_of schema) (root_type (set_of schema) (number_of schema))) 0 texts → AreMadeOf given (so schema) → AreCalls (set_of schema) (number_of schema) texts so
+    Ok read ≡ each_word_read (call_read (set_of schema) (root_type (set_of schema) (number_of schema))) 0 texts → AreMadeOf given (so schema) → AreCalls (set_of schema) (number_of schema) texts so
 under_seen schema texts given read so same said made = under_schema schema texts given so (ap Ok same ∙ said) made

@@ -8,26 +8,26 @@ use Rattle.capnp_schema.specs.declared.schema.structs.StructSchema.{StructSchema
 use Rattle.capnp_call.specs.declared.calls.Call.{Call}
 use Rattle.capnp_call.specs.declared.calls.Reply.{Reply}
 use Rattle.capnp_show_engine.specs.Show.{IsOfMessage}
-use Rattle.riftcalico_engine.specs.Command.{CallsTask, GetTask, Given, in_lines, in_words}
+use Rattle.riftcalico_engine.specs.Command.{CallsTask, GetTask, GivenCalls, in_lines, in_words}
 use Rattle.capnp_patch.specs.Gets.{IsGetCutShort, IsNotGot}
 use Rattle.capnp_patch.specs.Patches.{IsCutShort, IsLeftOfNew, IsMade, IsNotPatched, IsPatchCutShort, IsPatched}
 use Rattle.riftcalico_engine.specs.Ended.{AreGiven, AreUnder, IsCallsOutcome, IsCallsRefused, IsGetEnded, IsGetOutcome, IsNewEnded, IsNoTextOutcome, IsPatchEnded, IsPath, Streams}
-use Rattle.riftcalico_engine.specs.Roots.{HasReadFailed, HasSetFailed, IsNamed, IsRootOr, Opens}
-use Rattle.riftcalico_engine.specs.Words.{AreCalls, AreSaid, AreWords, HasGivenFailed}
+use Rattle.riftcalico_engine.specs.Roots.{HasSetReadFailed, HasSetFailed, IsNamed, IsRootOr, Opens}
+use Rattle.riftcalico_engine.specs.Words.{AreCalls, AreSaid, AreProgramWords, HasGivenFailed}
 use Rattle.riftcalico_engine.specs.declared.run.Outcome.{Outcome}
 
 -- the words of a request, where they are the program's, and where they are the lines of its file
-pub words_given : {O F : Type 0} (opens : Opens O F) (holds : F → Option (List ℕ)) (old : O) (given : Given) (words : List (List ℕ)) → given ≡ in_words words →
-    AreWords opens holds old old given words
-words_given opens holds old given words e = subst (λ (x : Given). AreWords opens holds old old x words) (sym e) (refl, refl)
+pub words_given : {O F : Type 0} (opens : Opens O F) (holds : F → Option (List ℕ)) (old : O) (given : GivenCalls) (words : List (List ℕ)) → given ≡ in_words words →
+    AreProgramWords opens holds old old given words
+words_given opens holds old given words e = subst (λ (x : GivenCalls). AreProgramWords opens holds old old x words) (sym e) (refl, refl)
 
-pub lines_given : {O F : Type 0} (opens : Opens O F) (holds : F → Option (List ℕ)) (old mid : O) (given : Given) (path : List ℕ) (words lines : List (List ℕ)) →
-    given ≡ in_lines path → words ≡ lines → AreWords opens holds old mid (in_lines path) lines → AreWords opens holds old mid given words
+pub lines_given : {O F : Type 0} (opens : Opens O F) (holds : F → Option (List ℕ)) (old mid : O) (given : GivenCalls) (path : List ℕ) (words lines : List (List ℕ)) →
+    given ≡ in_lines path → words ≡ lines → AreProgramWords opens holds old mid (in_lines path) lines → AreProgramWords opens holds old mid given words
 lines_given opens holds old mid given path words lines e same read =
-    subst (λ (x : Given). AreWords opens holds old mid x words) (sym e) (subst (λ (ws : List (List ℕ)). AreWords opens holds old mid (in_lines path) ws) (sym same) read)
+    subst (λ (x : GivenCalls). AreProgramWords opens holds old mid x words) (sym e) (subst (λ (ws : List (List ℕ)). AreProgramWords opens holds old mid (in_lines path) ws) (sym same) read)
 
 module _ {O F : Type 0} (opens : Opens O F) (holds : F → Option (List ℕ)) (fails : F → ℕ) (old new : O) (unwritten : Type 0) (t : CallsTask) (mid : O) (words : List (List ℕ))
-    (read : AreWords opens holds old mid t.calls words) (r : Result Outcome Error) where
+    (read : AreProgramWords opens holds old mid t.calls words) (r : Result Outcome Error) where
   -- what calls on an empty root ended with
   pub new_ended : (written written' : Option (List ℕ)) (writes writes' : ℕ) →
       IfOk r (IsCallsOutcome opens holds mid new t.root words t.keep_going ⊤ unwritten (λ schema calls replies. IsMade schema calls t.keep_going replies written written')) →
@@ -60,7 +60,7 @@ module _ {O F : Type 0} (opens : Opens O F) (holds : F → Option (List ℕ)) (f
       (λ schema calls replies. IsPatched schema calls t.keep_going replies s.left s.left' s.written s.written')) →
       IfErr r (λ e. IsOfMessage e.kind → AreSaid words (λ texts. IsRootOr opens holds mid new t.root e untouched (λ set b. AreCalls set b texts (λ schema calls.
       IsNotPatched e.kind s.left s.left')))) →
-      IfErr r (λ e. e.kind ≡ ReadFailed → HasReadFailed opens fails mid new t.root.file untouched s.reads s.reads') →
+      IfErr r (λ e. e.kind ≡ ReadFailed → HasSetReadFailed opens fails mid new t.root.file untouched s.reads s.reads') →
       IfErr r (λ e. e.kind ≡ WriteFailed → HasFailed s.writes s.writes') →
       IfErr r (λ e. e.kind ≡ WriteFailed → AreUnder opens holds mid new t.root words (λ schema calls. IsPatchCutShort schema calls t.keep_going s.left s.left' s.written s.written')) →
       IfErr r (λ e. e.kind ≢ WriteFailed → unwritten) → IsPatchEnded opens holds fails old new untouched unwritten s t r
@@ -71,7 +71,7 @@ module _ {O F : Type 0} (opens : Opens O F) (holds : F → Option (List ℕ)) (f
           (λ schema calls replies. IsPatched schema calls t.keep_going replies s.left s.left' s.written s.written')) →
           IfErr r (λ e. IsOfMessage e.kind → AreSaid words (λ texts. IsRootOr opens holds mid new t.root e untouched (λ set b. AreCalls set b texts (λ schema calls.
           IsNotPatched e.kind s.left s.left')))) →
-          IfErr r (λ e. e.kind ≡ ReadFailed → HasReadFailed opens fails mid new t.root.file untouched s.reads s.reads') →
+          IfErr r (λ e. e.kind ≡ ReadFailed → HasSetReadFailed opens fails mid new t.root.file untouched s.reads s.reads') →
           IfErr r (λ e. e.kind ≡ WriteFailed → HasFailed s.writes s.writes') →
           IfErr r (λ e. e.kind ≡ WriteFailed → AreUnder opens holds mid new t.root words (λ schema calls. IsPatchCutShort schema calls t.keep_going s.left s.left' s.written s.written')) →
           IfErr r (λ e. e.kind ≢ WriteFailed → unwritten) → IsPatchEnded opens holds fails old new untouched unwritten s t r

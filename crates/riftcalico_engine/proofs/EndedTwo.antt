@@ -5,7 +5,7 @@ use Rattle.capnp_device.specs.declared.error.Error.{Error}
 use Rattle.capnp_schema.specs.declared.schema.structs.StructSchema.{StructSchema}
 use Rattle.capnp_call.specs.declared.calls.Call.{Call}
 use Rattle.capnp_call.specs.declared.calls.Reply.{Reply}
-use Rattle.riftcalico_engine.specs.Command.{CallsTask, Given, Root, Task, fields_task, get_task, new_task, patch_task, structs_task}
+use Rattle.riftcalico_engine.specs.Command.{CallsTask, GivenCalls, Root, Task, fields_task, get_task, new_task, patch_task, structs_task}
 use Rattle.riftcalico_engine.specs.Ended.{AreGiven, IsCallsOutcome, IsEnded, IsNoTextOutcome, Streams, status_of}
 use Rattle.riftcalico_engine.specs.Roots.{Opens}
 use Rattle.riftcalico_engine.specs.declared.run.Outcome.{Outcome}

@@ -8,11 +8,11 @@ use Rattle.capnp_dynamic_readers.specs.Shown.{type_seen}
 use Rattle.capnp_dynamic_readers.specs.declared.dynamic_value.Reader.{Reader as DynamicValue}
 use Rattle.capnp_dynamic_readers.specs.declared.dynamic_value.Reader.TheVariants as dynamic
 use Rattle.capnp_slots.specs.SetValues.{source_of as given_source}
-use Rattle.capnp_words.specs.Seen.{plain_seen, plain_type}
+use Rattle.capnp_words.specs.Seen.{word_value_seen, word_value_type}
 use Rattle.capnp_words.specs.declared.value.PlainValue.{PlainValue}
 use Rattle.capnp_words.specs.declared.value.PlainValue.TheVariants as plain
-use Rattle.riftcalico_engine.specs.Calls.{source_of}
-use Rattle.riftcalico_engine.specs.CallsSeen.{plain_source}
+use Rattle.riftcalico_engine.specs.Calls.{source_taken}
+use Rattle.riftcalico_engine.specs.CallsSeen.{word_value_source}
 use Rattle.riftcalico_engine.proofs.CallsGiven.{source_is}
 
 abbrev is_plain : SchemaType → Bool
@@ -21,7 +21,7 @@ is_plain (ListType e) = false
 is_plain AnyPointerType = false
 is_plain t = true
 
-plain_is : (v : PlainValue) → is_plain (plain_type v) ≡ true
+plain_is : (v : PlainValue) → is_plain (word_value_type v) ≡ true
 plain_is plain.Void = refl
 plain_is (plain.Bool b) = refl
 plain_is (plain.Int8 x) = refl
@@ -37,7 +37,7 @@ plain_is (plain.Text bytes) = refl
 plain_is (plain.«Data» bytes) = refl
 
 -- a value that no pointer leads on from is given by its type
-given_is : (r : DynamicValue) → is_plain (type_seen r) ≡ true → given_source r ≡ source_of (type_seen r) (value_seen r)
+given_is : (r : DynamicValue) → is_plain (type_seen r) ≡ true → given_source r ≡ source_taken (type_seen r) (value_seen r)
 given_is dynamic.Void h = refl
 given_is (dynamic.Bool b) h = refl
 given_is (dynamic.Int8 x) h = refl
@@ -55,7 +55,7 @@ given_is (dynamic.Struct s) h = absurd (true≢false (sym h))
 given_is (dynamic.List l) h = absurd (true≢false (sym h))
 given_is (dynamic.AnyPointer p) h = absurd (true≢false (sym h))
 
-pub plain_given : (r : DynamicValue) (v : PlainValue) → value_seen r ≡ plain_seen v → type_seen r ≡ plain_type v → given_source r ≡ plain_source v
+pub plain_given : (r : DynamicValue) (v : PlainValue) → value_seen r ≡ word_value_seen v → type_seen r ≡ word_value_type v → given_source r ≡ word_value_source v
 plain_given r v value typed =
     given_is r (ap is_plain typed ∙ plain_is v)
-    ∙ (ap (λ (t : SchemaType). source_of t (value_seen r)) typed ∙ (ap (source_of (plain_type v)) value ∙ source_is v))
+    ∙ (ap (λ (t : SchemaType). source_taken t (value_seen r)) typed ∙ (ap (source_taken (word_value_type v)) value ∙ source_is v))

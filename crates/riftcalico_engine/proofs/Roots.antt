@@ -9,25 +9,25 @@ use Rattle.capnp_words.specs.Calls.{CallText, call_at}
 use Rattle.capnp_words.specs.Paths.{path_at}
 use Rattle.riftcalico_engine.specs.Command.{Root}
 use Rattle.riftcalico_engine.specs.Ended.{IsPath}
-use Rattle.riftcalico_engine.specs.Reads.{each_read}
-use Rattle.riftcalico_engine.specs.Roots.{IsNamed, IsSetOf, Opens}
+use Rattle.riftcalico_engine.specs.Reads.{each_word_read}
+use Rattle.riftcalico_engine.specs.Roots.{IsNamed, IsOpenedSet, Opens}
 use Rattle.riftcalico_engine.specs.Words.{AreSaid}
 
 pub named_by : {O F : Type 0} (opens : Opens O F) (holds : F → Option (List ℕ)) (old new : O) (r : Root) (so : Schemas → ℕ → Type 0) (set : Schemas) (s : StructSchema) →
-    IsSetOf opens holds old new r.file set → set_of s ≡ set → brand_asked set r.name ≡ Some (number_of s) → so (set_of s) (number_of s) → IsNamed opens holds old new r so
+    IsOpenedSet opens holds old new r.file set → set_of s ≡ set → brand_asked set r.name ≡ Some (number_of s) → so (set_of s) (number_of s) → IsNamed opens holds old new r so
 named_by opens holds old new r so set s read same named is = record {
   set = set_of s;
-  read = subst (λ (x : Schemas). IsSetOf opens holds old new r.file x) (sym same) read;
+  read = subst (λ (x : Schemas). IsOpenedSet opens holds old new r.file x) (sym same) read;
   brand = number_of s;
   named = ap (λ (x : Schemas). brand_asked x r.name) same ∙ named;
   is_so = is;
 }
 
 -- words that are calls
-pub said_by : (words : List (List ℕ)) (texts : List CallText) (so : List CallText → Type 0) → Ok texts ≡ each_read call_at 0 words → so texts → AreSaid words so
+pub said_by : (words : List (List ℕ)) (texts : List CallText) (so : List CallText → Type 0) → Ok texts ≡ each_word_read call_at 0 words → so texts → AreSaid words so
 said_by words texts so said is = record { texts = texts; said = sym said; are_so = is }
 
-pub said_seen : (words : List (List ℕ)) (given texts : List CallText) (so : List CallText → Type 0) → given ≡ texts → Ok texts ≡ each_read call_at 0 words → so given → AreSaid words so
+pub said_seen : (words : List (List ℕ)) (given texts : List CallText) (so : List CallText → Type 0) → given ≡ texts → Ok texts ≡ each_word_read call_at 0 words → so given → AreSaid words so
 said_seen words given texts so same said is = said_by words given so (ap Ok same ∙ said) is
 
 -- a word that is a path

@@ -10,28 +10,28 @@ use Rattle.capnp_words.specs.Calls as text
 use Rattle.capnp_words.specs.Calls.{CallOp, CallText}
 use Rattle.capnp_words.specs.Reads.{Read, read_as}
 use Rattle.capnp_words.specs.Targets.{type_along}
-use Rattle.capnp_words.specs.Values.{value_at}
+use Rattle.capnp_words.specs.Values.{value_by_word}
 
 -- what is given to a set, by the type of what is set
-abbrev pub source_of : SchemaType → Value → Source
-source_of BoolType (value.Truth b) = BoolSource b
-source_of (IntType bytes) (value.Number n) = IntSource bytes n
-source_of (UIntType bytes) (value.Number (pos n)) = UIntSource bytes n
-source_of (EnumType e) (value.Enum n) = EnumSource n
-source_of TextType (value.Text bs) = TextSource bs
-source_of DataType (value.Data bs) = DataSource bs
-source_of t v = VoidSource
+abbrev pub source_taken : SchemaType → Value → Source
+source_taken BoolType (value.Truth b) = BoolSource b
+source_taken (IntType bytes) (value.Number n) = IntSource bytes n
+source_taken (UIntType bytes) (value.Number (pos n)) = UIntSource bytes n
+source_taken (EnumType e) (value.Enum n) = EnumSource n
+source_taken TextType (value.Text bs) = TextSource bs
+source_taken DataType (value.Data bs) = DataSource bs
+source_taken t v = VoidSource
 
 -- a place in a value, counted from the word's first byte
-abbrev pub shifted : {A : Type 0} → ℕ → Read A → Read A
-shifted place (Ok x) = Ok x
-shifted place (Err inner) = Err (place + inner)
+abbrev pub shifted_read : {A : Type 0} → ℕ → Read A → Read A
+shifted_read place (Ok x) = Ok x
+shifted_read place (Err inner) = Err (place + inner)
 
 -- What a call is given: of a set the value, read under the type that its path leads to. Where that leads to no type the set is
 -- refused for its path, whatever it is given. Other calls are given nothing, which is a void here.
 abbrev pub source_given : Schemas → Option SchemaType → CallOp → Read Source
 source_given set None (text.Set bytes place) = Ok VoidSource
-source_given set (Some t) (text.Set bytes place) = shifted place (read_as (source_of t) (value_at set t bytes))
+source_given set (Some t) (text.Set bytes place) = shifted_read place (read_as (source_taken t) (value_by_word set t bytes))
 source_given set t text.Get = Ok VoidSource
 source_given set t text.Has = Ok VoidSource
 source_given set t text.Which = Ok VoidSource
@@ -58,17 +58,17 @@ split (s ∷ []) op = record { path = []; last = s; op = op }
 split (s ∷ t ∷ ss) op = with_step s (split (t ∷ ss) op)
 
 -- a struct that is asked for its member stands at the end of the whole path, and no last step is looked at
-abbrev pub placed : List PathStep → Op → Call
-placed path call.Get = split path call.Get
-placed path call.Has = split path call.Has
-placed path call.Which = record { path = path; last = FieldNumber 0; op = call.Which }
-placed path (call.Set s) = split path (call.Set s)
-placed path call.Init = split path call.Init
-placed path (call.Initn size) = split path (call.Initn size)
-placed path call.Clear = split path call.Clear
+abbrev pub placed_call : List PathStep → Op → Call
+placed_call path call.Get = split path call.Get
+placed_call path call.Has = split path call.Has
+placed_call path call.Which = record { path = path; last = FieldNumber 0; op = call.Which }
+placed_call path (call.Set s) = split path (call.Set s)
+placed_call path call.Init = split path call.Init
+placed_call path (call.Initn size) = split path (call.Initn size)
+placed_call path call.Clear = split path call.Clear
 
 abbrev pub call_given : CallText → Source → Call
-call_given c s = placed c.path (op_given s c.op)
+call_given c s = placed_call c.path (op_given s c.op)
 
 -- a call as it is read, with the type of the root
 abbrev pub call_read : Schemas → (root : SchemaType) → CallText → Read Call

@@ -2,35 +2,35 @@
 use Rattle.std.specs.Prelude.{List, map, Result, Ok, Err}
 use Rattle.std.specs.declared.vec.Vec.{Vec}
 use Rattle.capnp_call.specs.Seen as call
-use Rattle.capnp_dynamic_readers.specs.Handles.{number_in}
+use Rattle.capnp_dynamic_readers.specs.Handles.{enum_value_number}
 use Rattle.capnp_records.specs.Call.{BoolSource, Call, DataSource, EnumSource, IntSource, Source, TextSource, UIntSource, VoidSource}
-use Rattle.capnp_words.specs.Seen.{op_seen}
+use Rattle.capnp_words.specs.Seen.{op_text_seen}
 use Rattle.capnp_words.specs.declared.value.PlainValue.{PlainValue}
 use Rattle.capnp_words.specs.declared.value.PlainValue.TheVariants as plain
-use Rattle.riftcalico_engine.specs.Calls.{op_given, placed}
+use Rattle.riftcalico_engine.specs.Calls.{op_given, placed_call}
 use Rattle.riftcalico_engine.specs.Reads.{Reads}
 use Rattle.riftcalico_engine.specs.declared.calls.ReadCall.{ReadCall}
 use Rattle.riftcalico_engine.specs.declared.calls.Unreadable.{Unreadable}
 
 -- a value as it is given to a set
-abbrev pub plain_source : PlainValue → Source
-plain_source plain.Void = VoidSource
-plain_source (plain.Bool b) = BoolSource b
-plain_source (plain.Int8 x) = IntSource 1 x
-plain_source (plain.Int16 x) = IntSource 2 x
-plain_source (plain.Int32 x) = IntSource 4 x
-plain_source (plain.Int64 x) = IntSource 8 x
-plain_source (plain.UInt8 n) = UIntSource 1 n
-plain_source (plain.UInt16 n) = UIntSource 2 n
-plain_source (plain.UInt32 n) = UIntSource 4 n
-plain_source (plain.UInt64 n) = UIntSource 8 n
-plain_source (plain.Enum e) = EnumSource (number_in e)
-plain_source (plain.Text bytes) = TextSource bytes.items
-plain_source (plain.«Data» bytes) = DataSource bytes.items
+abbrev pub word_value_source : PlainValue → Source
+word_value_source plain.Void = VoidSource
+word_value_source (plain.Bool b) = BoolSource b
+word_value_source (plain.Int8 x) = IntSource 1 x
+word_value_source (plain.Int16 x) = IntSource 2 x
+word_value_source (plain.Int32 x) = IntSource 4 x
+word_value_source (plain.Int64 x) = IntSource 8 x
+word_value_source (plain.UInt8 n) = UIntSource 1 n
+word_value_source (plain.UInt16 n) = UIntSource 2 n
+word_value_source (plain.UInt32 n) = UIntSource 4 n
+word_value_source (plain.UInt64 n) = UIntSource 8 n
+word_value_source (plain.Enum e) = EnumSource (enum_value_number e)
+word_value_source (plain.Text bytes) = TextSource bytes.items
+word_value_source (plain.«Data» bytes) = DataSource bytes.items
 
 -- a call that was read, with its value and its steps
 abbrev pub read_call_seen : ReadCall → Call
-read_call_seen c = placed (call.path_seen c.steps.items) (op_given (plain_source c.value) (op_seen c.word.now.op))
+read_call_seen c = placed_call (call.path_seen c.steps.items) (op_given (word_value_source c.value) (op_text_seen c.word.now.op))
 
 -- several that were read, each seen in some way, or where they can't be
 abbrev pub all_seen : {A B C : Type 0} → (A → B) → Result (Vec A C) Unreadable → Reads (List B)

@@ -21,14 +21,14 @@ pub record GetTask : Type 0 where
   pub indented : Bool
 
 -- calls, each a word, or each a line of the file at a path
-pub data Given : Type 0 where
-  in_words : List (List ℕ) → Given
-  in_lines : (path : List ℕ) → Given
+pub data GivenCalls : Type 0 where
+  in_words : List (List ℕ) → GivenCalls
+  in_lines : (path : List ℕ) → GivenCalls
 
 -- calls on a root, and whether what they leave is written where one was refused
 pub record CallsTask : Type 0 where
   pub root : Root
-  pub calls : Given
+  pub calls : GivenCalls
   pub keep_going : Bool
 
 -- A value is shown, calls are made on a copy of a message or on an empty root, or the structs of a set are shown, in the set of a
@@ -41,7 +41,7 @@ pub data Task : Type 0 where
   fields_task : Root → Task
 
 -- the paths of files that a task names, in the order in which they are opened
-abbrev pub given_paths : Given → List (List ℕ)
+abbrev pub given_paths : GivenCalls → List (List ℕ)
 given_paths (in_words words) = []
 given_paths (in_lines path) = path ∷ []
 
@@ -72,9 +72,9 @@ option_word option (first ∷ []) = (None, first ∷ [])
 option_word option (first ∷ second ∷ words) = if bytes_eq first option then (Some second, words) else (None, first ∷ second ∷ words)
 
 -- whether the words begin with an option that has no word behind it, and the words that follow
-abbrev pub flag_word : (flag : List ℕ) → List (List ℕ) → Bool × List (List ℕ)
-flag_word flag [] = (false, [])
-flag_word flag (first ∷ words) = if bytes_eq first flag then (true, words) else (false, first ∷ words)
+abbrev pub flag_taken : (flag : List ℕ) → List (List ℕ) → Bool × List (List ℕ)
+flag_taken flag [] = (false, [])
+flag_taken flag (first ∷ words) = if bytes_eq first flag then (true, words) else (false, first ∷ words)
 
 -- whether a struct may have the name: in the built-in set one has it or none, and a file's set isn't read yet
 abbrev pub is_known : Option (List ℕ) → (name : List ℕ) → Bool
@@ -97,7 +97,7 @@ get_asked None = None
 get_asked (Some x) = get_at x.0 x.1
 
 -- calls are words or the lines of a file, not both
-abbrev pub given_asked : (lines : Option (List ℕ)) → List (List ℕ) → Option Given
+abbrev pub given_asked : (lines : Option (List ℕ)) → List (List ℕ) → Option GivenCalls
 given_asked None words = Some (in_words words)
 given_asked (Some path) [] = Some (in_lines path)
 given_asked (Some path) (word ∷ words) = None
@@ -110,7 +110,7 @@ abbrev pub kept_asked : Option (List ℕ) → (lines : Option (List ℕ)) → Bo
 kept_asked file lines kept = named_asked lines kept.0 (root_asked file kept.1)
 
 abbrev pub lines_asked : Option (List ℕ) → Option (List ℕ) × List (List ℕ) → Option CallsTask
-lines_asked file lines = kept_asked file lines.0 (flag_word (codes "--keep-going") lines.1)
+lines_asked file lines = kept_asked file lines.0 (flag_taken (codes "--keep-going") lines.1)
 
 abbrev pub calls_asked : Option (List ℕ) → List (List ℕ) → Option CallsTask
 calls_asked file words = lines_asked file (option_word (codes "--calls") words)
@@ -139,9 +139,9 @@ asked_of None words = None
 asked_of (Some v) words = in_set v (option_word (codes "--set") words)
 
 -- what the words after the program's name ask for
-abbrev pub asked : List (List ℕ) → Option Task
-asked [] = None
-asked (first ∷ words) = asked_of (verb_of first) words
+abbrev pub asked_task : List (List ℕ) → Option Task
+asked_task [] = None
+asked_task (first ∷ words) = asked_of (verb_of first) words
 
 -- how the program is called
 abbrev pub usage_lines : List ℕ

@@ -16,11 +16,11 @@ use Rattle.capnp_show_engine.specs.Command.{IsTold, refusal_line}
 use Rattle.capnp_show_engine.specs.Show.{IsOfMessage}
 use Rattle.capnp_words.specs.Calls.{CallText}
 use Rattle.capnp_words.specs.Paths.{path_at}
-use Rattle.riftcalico_engine.specs.Command.{CallsTask, GetTask, Given, Root, Task, fields_task, get_task, new_task, patch_task, structs_task}
+use Rattle.riftcalico_engine.specs.Command.{CallsTask, GetTask, GivenCalls, Root, Task, fields_task, get_task, new_task, patch_task, structs_task}
 use Rattle.riftcalico_engine.specs.Listed.{IsFieldsEnded, IsStructsEnded}
 use Rattle.riftcalico_engine.specs.Reads.{unreadable_line}
-use Rattle.riftcalico_engine.specs.Roots.{HasReadFailed, HasSetFailed, IsNamed, IsRootOr, Opens}
-use Rattle.riftcalico_engine.specs.Words.{AreCalls, AreSaid, AreWords, HasGivenFailed, IsNoCall, IsNoText, IsNoValue}
+use Rattle.riftcalico_engine.specs.Roots.{HasSetReadFailed, HasSetFailed, IsNamed, IsRootOr, Opens}
+use Rattle.riftcalico_engine.specs.Words.{AreCalls, AreSaid, AreProgramWords, HasGivenFailed, IsNoCall, IsNoTextFile, IsNoValue}
 use Rattle.riftcalico_engine.specs.declared.run.Outcome.{Outcome}
 use Rattle.riftcalico_engine.specs.declared.run.Outcome.TheVariants.{Made, Shown, Unreadable}
 
@@ -62,7 +62,7 @@ module _ {O F : Type 0} (opens : Opens O F) (holds : F → Option (List ℕ)) (f
   pub record IsGetRefused (t : GetTask) (e : Error) : Type 0 where
     pub message : IsOfMessage e.kind → IsPath t.path (λ path.
         IsRootOr opens holds old new t.root e untouched (λ set b. IsNotGot set b path t.indented e.kind s.left s.left'))
-    pub read_failed : e.kind ≡ ReadFailed → HasReadFailed opens fails old new t.root.file untouched s.reads s.reads'
+    pub read_failed : e.kind ≡ ReadFailed → HasSetReadFailed opens fails old new t.root.file untouched s.reads s.reads'
     pub write_failed : e.kind ≡ WriteFailed → HasFailed s.writes s.writes'
     pub beginning : e.kind ≡ WriteFailed → IsPath t.path (λ path.
         IsNamed opens holds old new t.root (λ set b. IsGetCutShort set b path t.indented s.left s.left' s.written s.written'))
@@ -75,10 +75,10 @@ module _ {O F : Type 0} (opens : Opens O F) (holds : F → Option (List ℕ)) (f
 -- ---- calls ----
 
 -- the words of calls are given, with the opener as it was then, and something is so of both
-pub record AreGiven {O F : Type 0} (opens : Opens O F) (holds : F → Option (List ℕ)) (old : O) (calls : Given) (so : O → List (List ℕ) → Type 0) : Type 0 where
+pub record AreGiven {O F : Type 0} (opens : Opens O F) (holds : F → Option (List ℕ)) (old : O) (calls : GivenCalls) (so : O → List (List ℕ) → Type 0) : Type 0 where
   pub mid : O
   pub words : List (List ℕ)
-  pub read : AreWords opens holds old mid calls words
+  pub read : AreProgramWords opens holds old mid calls words
   pub are_so : so mid words
 
 -- calls under a struct of a set were made, and a line told for each that asked or was refused, or a value can't be read
@@ -110,10 +110,10 @@ module _ {O F : Type 0} (opens : Opens O F) (holds : F → Option (List ℕ)) (o
 
 module _ {O F : Type 0} (opens : Opens O F) (holds : F → Option (List ℕ)) (fails : F → ℕ) (old new : O) (untouched unwritten : Type 0) where
   -- the file of the words is no text
-  abbrev pub IsNoTextOutcome : Given → Outcome → Type 0
+  abbrev pub IsNoTextOutcome : GivenCalls → Outcome → Type 0
   IsNoTextOutcome calls Shown = ⊥
   IsNoTextOutcome calls (Made report) = ⊥
-  IsNoTextOutcome calls (Unreadable line) = IsNoText opens holds old new calls (string_bytes line) × untouched × unwritten
+  IsNoTextOutcome calls (Unreadable line) = IsNoTextFile opens holds old new calls (string_bytes line) × untouched × unwritten
 
   -- a task of calls was refused; `failed` says that a read of the message was, `refused` that the message was for what it is
   pub record IsCallsRefused (t : CallsTask) (e : Error) (failed : Type 0) (refused : Schemas → ℕ → List CallText → Type 0) (cut : StructSchema → List Call → Type 0) (writes writes' : ℕ) : Type 0 where

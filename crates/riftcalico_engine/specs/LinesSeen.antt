@@ -3,8 +3,8 @@ use Rattle.std.specs.Prelude.{ℕ, List, map, Option, Result, Ok, Err, String, s
 use Rattle.std.specs.declared.vec.Vec.{Vec}
 use Rattle.riftcalico_engine.specs.Command.{in_lines}
 use Rattle.riftcalico_engine.specs.Roots.{Opens}
-use Rattle.riftcalico_engine.specs.Words.{AreWords, IsNoText}
+use Rattle.riftcalico_engine.specs.Words.{AreProgramWords, IsNoTextFile}
 
 abbrev pub AreLinesOf : {A B C O F : Type 0} → Opens O F → (holds : F → Option (List ℕ)) → (old new : O) → (path : List ℕ) → Result (Vec (String A) B) (String C) → Type 0
-AreLinesOf opens holds old new path (Ok words) = AreWords opens holds old new (in_lines path) (map string_bytes words.items)
-AreLinesOf opens holds old new path (Err line) = IsNoText opens holds old new (in_lines path) (string_bytes line)
+AreLinesOf opens holds old new path (Ok words) = AreProgramWords opens holds old new (in_lines path) (map string_bytes words.items)
+AreLinesOf opens holds old new path (Err line) = IsNoTextFile opens holds old new (in_lines path) (string_bytes line)

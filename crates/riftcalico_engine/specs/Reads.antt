@@ -10,15 +10,15 @@ abbrev pub at_word : {A : Type 0} → ℕ → Read A → Reads A
 at_word i (Ok x) = Ok x
 at_word i (Err place) = Err (i, place)
 
-abbrev pub joined : {A : Type 0} → Reads A → Reads (List A) → Reads (List A)
-joined (Err at) rest = Err at
-joined (Ok x) (Err at) = Err at
-joined (Ok x) (Ok xs) = Ok (x ∷ xs)
+abbrev pub joined_reads : {A : Type 0} → Reads A → Reads (List A) → Reads (List A)
+joined_reads (Err at) rest = Err at
+joined_reads (Ok x) (Err at) = Err at
+joined_reads (Ok x) (Ok xs) = Ok (x ∷ xs)
 
 -- each is read in the same way, the first of them at this index
-abbrev pub each_read : {A B : Type 0} → (A → Read B) → ℕ → List A → Reads (List B)
-each_read f i [] = Ok []
-each_read f i (x ∷ xs) = joined (at_word i (f x)) (each_read f (suc i) xs)
+abbrev pub each_word_read : {A B : Type 0} → (A → Read B) → ℕ → List A → Reads (List B)
+each_word_read f i [] = Ok []
+each_word_read f i (x ∷ xs) = joined_reads (at_word i (f x)) (each_word_read f (suc i) xs)
 
 -- how that is told: the number of a word among its kind, from 1 on, the word, and the place
 abbrev pub unreadable_line : (number : ℕ) → (word : List ℕ) → (place : ℕ) → List ℕ

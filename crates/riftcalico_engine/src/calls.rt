@@ -9,9 +9,9 @@ ghost use Rattle.capnp_words.specs.Reads.{read_as};
 ghost use Rattle.capnp_words.specs.Seen as said;
 ghost use Rattle.capnp_words.specs.Targets.{type_along};
 ghost use Rattle.capnp_words.specs.Calls.{Set};
-ghost use Rattle.riftcalico_engine.specs.Calls.{call_read, op_given, placed, source_given, split};
-ghost use Rattle.riftcalico_engine.specs.CallsSeen.{all_seen, plain_source, read_call_seen};
-ghost use Rattle.riftcalico_engine.specs.Reads.{each_read};
+ghost use Rattle.riftcalico_engine.specs.Calls.{call_read, op_given, placed_call, source_given, split};
+ghost use Rattle.riftcalico_engine.specs.CallsSeen.{all_seen, word_value_source, read_call_seen};
+ghost use Rattle.riftcalico_engine.specs.Reads.{each_word_read};
 
 use capnp_call::calls::{Call, Op, Step};
 use capnp_schema::schema::StructSchema;
@@ -42,7 +42,7 @@ pub struct ReadCall<'s, 'c> {
 
 /// The calls that words say, or the first word that says none. Refused with `OutOfMemory` alone.
 pub fn read_calls(alloc: Global, words: &[String]) -> Result<Read<Vec<CallWord>>>
-    ensures read { IfOk result (λ r. all_seen said.call_seen r ≡ each_read call_at 0 (map string_bytes words.now)) }
+    ensures read { IfOk result (λ r. all_seen said.call_text_seen r ≡ each_word_read call_at 0 (map string_bytes words.now)) }
     ensures count { IfOk result (λ r. IfOk r (λ calls. length calls.items ≡ length words.now)) }
     ensures inside { IfOk result (λ r. IfErr r (λ at. at.index < length words.now)) }
     ensures memory { IfErr result (λ e. e.kind ≡ OutOfMemory) }
@@ -69,9 +69,9 @@ fn read_set<'s>(
     place: usize,
 ) -> Result<std::result::Result<PlainValue<'s>, u128>>
     requires { IsStruct schema }
-    ensures read { IfOk result (λ r. read_as plain_source r
+    ensures read { IfOk result (λ r. read_as word_value_source r
         ≡ source_given (set_of schema.entry) (type_along (set_of schema.entry)
-        (root_type (set_of schema.entry) (number_of schema.entry)) (said.path_seen path.now)) (Set value.now place)) }
+        (root_type (set_of schema.entry) (number_of schema.entry)) (said.path_text_seen path.now)) (Set value.now place)) }
     ensures memory { IfErr result (λ e. e.kind ≡ OutOfMemory) }
 {
     let Some(target) = target_type(schema, path) else {
@@ -92,10 +92,10 @@ fn read_value<'s>(
     call: &CallWord,
 ) -> Result<std::result::Result<PlainValue<'s>, u128>>
     requires { IsStruct schema }
-    ensures read { IfOk result (λ r. read_as plain_source r
+    ensures read { IfOk result (λ r. read_as word_value_source r
         ≡ source_given (set_of schema.entry) (type_along (set_of schema.entry)
-        (root_type (set_of schema.entry) (number_of schema.entry)) (said.path_seen call.now.path))
-        (said.op_seen call.now.op)) }
+        (root_type (set_of schema.entry) (number_of schema.entry)) (said.path_text_seen call.now.path))
+        (said.op_text_seen call.now.op)) }
     ensures memory { IfErr result (λ e. e.kind ≡ OutOfMemory) }
 {
     match &call.op {
@@ -111,7 +111,7 @@ fn read_value<'s>(
 
 /// A step as calls have it.
 fn step_of(step: &PathStep) -> Step<'_>
-    ensures { step_seen result ≡ said.step_seen step.now }
+    ensures { step_seen result ≡ said.step_text_seen step.now }
 {
     match step {
         PathStep::Named(name) => Step::Named(name.as_str()),
@@ -122,7 +122,7 @@ fn step_of(step: &PathStep) -> Step<'_>
 
 /// The steps of a path as calls have them. Refused with `OutOfMemory` alone.
 pub fn steps_of(alloc: Global, path: &Path) -> Result<Vec<Step<'_>>>
-    ensures steps { IfOk result (λ steps. path_seen steps.items ≡ said.path_seen path.now) }
+    ensures steps { IfOk result (λ steps. path_seen steps.items ≡ said.path_text_seen path.now) }
     ensures memory { IfErr result (λ e. e.kind ≡ OutOfMemory) }
 {
     let mut steps = Vec::with_capacity(alloc, path.steps.len())?;
@@ -142,7 +142,7 @@ fn read_call<'s, 'c>(
     requires { IsStruct schema }
     ensures read { IfOk result (λ r. read_as read_call_seen r
         ≡ call_read (set_of schema.entry) (root_type (set_of schema.entry) (number_of schema.entry))
-        (said.call_seen word.now)) }
+        (said.call_text_seen word.now)) }
     ensures memory { IfErr result (λ e. e.kind ≡ OutOfMemory) }
 {
     match read_value(alloc, schema, word)? {
@@ -163,8 +163,8 @@ pub fn read_all_calls<'s, 'c>(
 ) -> Result<Read<Vec<ReadCall<'s, 'c>>>>
     requires { IsStruct schema }
     ensures read { IfOk result (λ r. all_seen read_call_seen r
-        ≡ each_read (call_read (set_of schema.entry) (root_type (set_of schema.entry) (number_of schema.entry))) 0
-        (map said.call_seen words.now)) }
+        ≡ each_word_read (call_read (set_of schema.entry) (root_type (set_of schema.entry) (number_of schema.entry))) 0
+        (map said.call_text_seen words.now)) }
     ensures inside { IfOk result (λ r. IfErr r (λ at. at.index < length words.now)) }
     ensures memory { IfErr result (λ e. e.kind ≡ OutOfMemory) }
 {
@@ -181,7 +181,7 @@ pub fn read_all_calls<'s, 'c>(
 /// What a call does, by its word, with the value that it sets.
 #[tactic(auto, using(crate::proofs::PlainGiven::plain_given))]
 fn op_of<'c>(op: &WordOp, value: &'c PlainValue<'_>) -> Op<'c>
-    ensures { op_seen result ≡ op_given (plain_source value.now) (said.op_seen op.now) }
+    ensures { op_seen result ≡ op_given (word_value_source value.now) (said.op_text_seen op.now) }
 {
     match op {
         WordOp::Get => Op::Get,
@@ -214,7 +214,7 @@ fn split_call<'a>(op: Op<'a>, steps: &'a [Step<'_>]) -> Call<'a>
 
 /// A call along these steps. The struct that is asked for its member is the one that all steps lead to.
 fn call_of<'a>(op: Op<'a>, steps: &'a [Step<'_>]) -> Call<'a>
-    ensures { call_seen result ≡ placed (path_seen steps.now) (op_seen op.entry) }
+    ensures { call_seen result ≡ placed_call (path_seen steps.now) (op_seen op.entry) }
 {
     match op {
         Op::Which => Call {

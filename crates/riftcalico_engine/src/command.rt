@@ -3,7 +3,7 @@ ghost use Rattle.std.specs.Prelude.{◌≡◌, ◌≤◌, ⊤, None, Some, map, 
 ghost use Rattle.capnp_show_engine.specs.Command.{IsTold};
 ghost use Rattle.capnp_show_engine.specs.declared.opener.FilesOpener.{FilesOpener as OfFiles};
 ghost use Rattle.capnp_show_engine.specs.Opened.{AsksAmong};
-ghost use Rattle.riftcalico_engine.specs.Command.{Task, asked, paths_of, usage_lines};
+ghost use Rattle.riftcalico_engine.specs.Command.{Task, asked_task, paths_of, usage_lines};
 ghost use Rattle.riftcalico_engine.specs.Ended.{IsDone, status_of, streams, told_of};
 
 use crate::request::read_words;
@@ -63,16 +63,16 @@ pub fn command_over<O: Opener, R: Source, W: Sink, F: Sink>(
     errors: &mut F,
 ) -> u8
     ensures statuses { result ≤ 2 }
-    ensures other_words { asked (map string_bytes words.now) ≡ None → result ≡ 2 }
-    ensures usage { asked (map string_bytes words.now) ≡ None
+    ensures other_words { asked_task (map string_bytes words.now) ≡ None → result ≡ 2 }
+    ensures usage { asked_task (map string_bytes words.now) ≡ None
         → IsTold usage_lines (F.written errors.old) (F.written errors.new)
         (F.failures errors.old) (F.failures errors.new) }
-    ensures unopened { asked (map string_bytes words.now) ≡ None → opener.new ≡ opener.old }
-    ensures named { (t : Task) → asked (map string_bytes words.now) ≡ Some t
+    ensures unopened { asked_task (map string_bytes words.now) ≡ None → opener.new ≡ opener.old }
+    ensures named { (t : Task) → asked_task (map string_bytes words.now) ≡ Some t
         → AsksAmong O.opens (paths_of t) opener.old opener.new }
     ensures unread { result ≡ 2 → source.new ≡ source.old }
     ensures unwritten { result ≡ 2 → sink.new ≡ sink.old }
-    ensures done { (t : Task) → asked (map string_bytes words.now) ≡ Some t
+    ensures done { (t : Task) → asked_task (map string_bytes words.now) ≡ Some t
         → IsDone O.opens O.File.left O.File.failures opener.old opener.new (source.new ≡ source.old)
         (sink.new ≡ sink.old)
         (streams (R.left source.old) (R.left source.new) (W.written sink.old) (W.written sink.new)
@@ -98,13 +98,13 @@ pub fn command<S: Files, R: Source, W: Sink, F: Sink>(
     errors: &mut F,
 ) -> u8
     ensures statuses { result ≤ 2 }
-    ensures other_words { asked (map string_bytes words.now) ≡ None → result ≡ 2 }
-    ensures usage { asked (map string_bytes words.now) ≡ None
+    ensures other_words { asked_task (map string_bytes words.now) ≡ None → result ≡ 2 }
+    ensures usage { asked_task (map string_bytes words.now) ≡ None
         → IsTold usage_lines (F.written errors.old) (F.written errors.new)
         (F.failures errors.old) (F.failures errors.new) }
     ensures unread { result ≡ 2 → source.new ≡ source.old }
     ensures unwritten { result ≡ 2 → sink.new ≡ sink.old }
-    ensures done { (t : Task) → asked (map string_bytes words.now) ≡ Some t → (before : OfFiles S) × (after : OfFiles S)
+    ensures done { (t : Task) → asked_task (map string_bytes words.now) ≡ Some t → (before : OfFiles S) × (after : OfFiles S)
         × IsDone
         (λ _ _ _ _. ⊤) ⟦<ReadSource<S::File> as Source>⟧.left ⟦<ReadSource<S::File> as Source>⟧.failures before after
         (source.new ≡ source.old) (sink.new ≡ sink.old)

@@ -1,9 +1,9 @@
 //! What the program's words ask for.
 ghost use Rattle.std.specs.Prelude.{[], ◌≡◌, codes, get_or, length, map, string_bytes};
 ghost use Rattle.std.specs.Option.{option_map};
-ghost use Rattle.riftcalico_engine.specs.Command.{asked, calls_asked, flag_word, get_at, given_asked, in_set, is_known, kept_asked, option_word, root_asked, structs_asked, verb_of};
+ghost use Rattle.riftcalico_engine.specs.Command.{asked_task, calls_asked, flag_taken, get_at, given_asked, in_set, is_known, kept_asked, option_word, root_asked, structs_asked, verb_of};
 ghost use Rattle.riftcalico_engine.specs.declared.request.Verb.TheVariants as verb;
-ghost use Rattle.riftcalico_engine.specs.RequestSeen.{calls_task_of, get_task_of, given_of, root_of, task_of};
+ghost use Rattle.riftcalico_engine.specs.RequestSeen.{calls_task_of, get_task_of, given_of, root_named, task_of};
 
 use capnp_show_engine::request as show;
 
@@ -97,7 +97,7 @@ fn take_option<'a>(option: &str, words: &'a [String]) -> (Option<&'a str>, &'a [
 
 /// Whether the words begin with a flag, and the words that follow.
 fn take_flag<'a>(flag: &str, words: &'a [String]) -> (bool, &'a [String])
-    ensures { (result.0, map string_bytes result.1.now) ≡ flag_word flag.now (map string_bytes words.now) }
+    ensures { (result.0, map string_bytes result.1.now) ≡ flag_taken flag.now (map string_bytes words.now) }
 {
     match words {
         [first, rest @ ..] => {
@@ -129,7 +129,7 @@ fn read_root<'a>(
     file: Option<&'a str>,
     words: &'a [String],
 ) -> Option<(NamedRoot<'a>, &'a [String])>
-    ensures { option_map (λ x. (root_of x.0, map string_bytes x.1.now)) result
+    ensures { option_map (λ x. (root_named x.0, map string_bytes x.1.now)) result
         ≡ root_asked (option_map (λ f. f.now) file.entry) (map string_bytes words.now) }
 {
     match words {
@@ -147,7 +147,7 @@ fn read_root<'a>(
 
 /// A path under a struct, and after it perhaps `--indent`.
 fn read_get<'a>(root: NamedRoot<'a>, words: &'a [String]) -> Option<GetRequest<'a>>
-    ensures { option_map get_task_of result ≡ get_at (root_of root.entry) (map string_bytes words.now) }
+    ensures { option_map get_task_of result ≡ get_at (root_named root.entry) (map string_bytes words.now) }
 {
     match words {
         [path] => Some(GetRequest {
@@ -265,7 +265,7 @@ fn read_verb_words<'a>(verb: Verb, words: &'a [String]) -> Option<Asked<'a>>
 ///
 /// Without `--set` a NAME that is no struct's of the built-in set makes them other words.
 pub fn read_words(words: &[String]) -> Option<Asked<'_>>
-    ensures { option_map task_of result ≡ asked (map string_bytes words.now) }
+    ensures { option_map task_of result ≡ asked_task (map string_bytes words.now) }
 {
     match words {
         [] => None,

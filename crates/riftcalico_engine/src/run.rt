@@ -10,12 +10,12 @@ ghost use Rattle.capnp_patch.specs.Gets.{IsGetCutShort, IsGot, IsNotGot};
 ghost use Rattle.capnp_patch.specs.Patches.{IsCutShort, IsLeftOfNew, IsMade, IsNotPatched, IsPatchCutShort, IsPatched, is_kept};
 ghost use Rattle.capnp_show_engine.specs.Opened.{AsksAmong, file_paths};
 ghost use Rattle.capnp_show_engine.specs.Show.{IsOfMessage};
-ghost use Rattle.capnp_words.specs.Seen.{call_seen};
+ghost use Rattle.capnp_words.specs.Seen.{call_text_seen};
 ghost use Rattle.riftcalico_engine.specs.Command.{calls_paths, paths_of};
 ghost use Rattle.riftcalico_engine.specs.Ended.{AreUnder, IsCallsOutcome, IsEnded, IsGetOutcome, IsNewEnded, IsPatchEnded, IsPath, IsUnderOutcome, streams};
 ghost use Rattle.riftcalico_engine.specs.Listed.{IsFieldsEnded, IsStructsEnded};
-ghost use Rattle.riftcalico_engine.specs.RequestSeen.{calls_task_of, get_task_of, root_of, task_of};
-ghost use Rattle.riftcalico_engine.specs.Roots.{HasReadFailed, HasSetFailed, IsNamed, IsRootOr};
+ghost use Rattle.riftcalico_engine.specs.RequestSeen.{calls_task_of, get_task_of, root_named, task_of};
+ghost use Rattle.riftcalico_engine.specs.Roots.{HasSetReadFailed, HasSetFailed, IsNamed, IsRootOr};
 ghost use Rattle.riftcalico_engine.specs.CallsSeen.{read_call_seen};
 ghost use Rattle.riftcalico_engine.specs.Words.{AreCalls, AreMadeOf, AreSaid};
 
@@ -56,23 +56,23 @@ fn get_at<O: Opener, R: Source, W: Sink>(
     sink: &mut W,
     indented: bool,
 ) -> Result<()>
-    ensures got { OnOk result (IsNamed O.opens O.File.left opener.old opener.new (root_of root.entry) (λ set b.
+    ensures got { OnOk result (IsNamed O.opens O.File.left opener.old opener.new (root_named root.entry) (λ set b.
         IsGot set b (path_seen path.now) indented (R.left source.old) (R.left source.new) (W.written sink.old)
         (W.written sink.new))) }
     ensures refused { IfErr result (λ e. IsOfMessage e.kind
-        → IsRootOr O.opens O.File.left opener.old opener.new (root_of root.entry) e (source.new ≡ source.old) (λ set b.
+        → IsRootOr O.opens O.File.left opener.old opener.new (root_named root.entry) e (source.new ≡ source.old) (λ set b.
         IsNotGot set b (path_seen path.now) indented e.kind (R.left source.old) (R.left source.new))) }
     ensures read_failed { IfErr result (λ e. e.kind ≡ ReadFailed
-        → HasReadFailed O.opens O.File.failures opener.old opener.new (root_of root.entry).file
+        → HasSetReadFailed O.opens O.File.failures opener.old opener.new (root_named root.entry).file
         (source.new ≡ source.old)
         (R.failures source.old) (R.failures source.new)) }
     ensures write_failed { IfErr result (λ e. e.kind ≡ WriteFailed
         → HasFailed (W.failures sink.old) (W.failures sink.new)) }
     ensures beginning { IfErr result (λ e. e.kind ≡ WriteFailed
-        → IsNamed O.opens O.File.left opener.old opener.new (root_of root.entry) (λ set b.
+        → IsNamed O.opens O.File.left opener.old opener.new (root_named root.entry) (λ set b.
         IsGetCutShort set b (path_seen path.now) indented (R.left source.old) (R.left source.new) (W.written sink.old)
         (W.written sink.new))) }
-    ensures opened { AsksAmong O.opens (file_paths (root_of root.entry).file) opener.old opener.new }
+    ensures opened { AsksAmong O.opens (file_paths (root_named root.entry).file) opener.old opener.new }
     ensures nothing { IfErr result (λ e. e.kind ≢ WriteFailed → sink.new ≡ sink.old) }
 {
     let set = read_set(alloc, opener, root.file)?;
@@ -95,19 +95,19 @@ fn run_get<O: Opener, R: Source, W: Sink>(
         (R.failures source.old) (R.failures source.new) (W.failures sink.old) (W.failures sink.new))
         (get_task_of request.entry)) }
     ensures refused { IfErr result (λ e. IsOfMessage e.kind → IsPath request.entry.path.now (λ path.
-        IsRootOr O.opens O.File.left opener.old opener.new (root_of request.entry.root) e (source.new ≡ source.old)
+        IsRootOr O.opens O.File.left opener.old opener.new (root_named request.entry.root) e (source.new ≡ source.old)
         (λ set b.
         IsNotGot set b path request.entry.indented e.kind (R.left source.old) (R.left source.new)))) }
     ensures read_failed { IfErr result (λ e. e.kind ≡ ReadFailed
-        → HasReadFailed O.opens O.File.failures opener.old opener.new (root_of request.entry.root).file
+        → HasSetReadFailed O.opens O.File.failures opener.old opener.new (root_named request.entry.root).file
         (source.new ≡ source.old) (R.failures source.old) (R.failures source.new)) }
     ensures write_failed { IfErr result (λ e. e.kind ≡ WriteFailed
         → HasFailed (W.failures sink.old) (W.failures sink.new)) }
     ensures beginning { IfErr result (λ e. e.kind ≡ WriteFailed → IsPath request.entry.path.now (λ path.
-        IsNamed O.opens O.File.left opener.old opener.new (root_of request.entry.root) (λ set b.
+        IsNamed O.opens O.File.left opener.old opener.new (root_named request.entry.root) (λ set b.
         IsGetCutShort set b path request.entry.indented (R.left source.old) (R.left source.new) (W.written sink.old)
         (W.written sink.new)))) }
-    ensures opened { AsksAmong O.opens (file_paths (root_of request.entry.root).file) opener.old opener.new }
+    ensures opened { AsksAmong O.opens (file_paths (root_named request.entry.root).file) opener.old opener.new }
     ensures nothing { IfErr result (λ e. e.kind ≢ WriteFailed → sink.new ≡ sink.old) }
 {
     match parse_path(alloc, request.path)? {
@@ -172,19 +172,19 @@ fn patch_calls<R: Source, W: Sink>(
     requires accepted { IsStruct schema }
     requires as_many { length texts.now ≡ length words.now }
     ensures outcome { IfOk result (IsUnderOutcome (set_of schema.entry) (number_of schema.entry)
-        (map call_seen texts.now) (map string_bytes words.now) keep_going (source.new ≡ source.old)
+        (map call_text_seen texts.now) (map string_bytes words.now) keep_going (source.new ≡ source.old)
         (sink.new ≡ sink.old)
         (λ schema calls replies. IsPatched schema calls keep_going replies (R.left source.old) (R.left source.new)
         (W.written sink.old) (W.written sink.new))) }
     ensures refused { IfErr result (λ e. IsOfMessage e.kind
-        → AreCalls (set_of schema.entry) (number_of schema.entry) (map call_seen texts.now) (λ schema calls.
+        → AreCalls (set_of schema.entry) (number_of schema.entry) (map call_text_seen texts.now) (λ schema calls.
         IsNotPatched e.kind (R.left source.old) (R.left source.new))) }
     ensures read_failed { IfErr result (λ e. e.kind ≡ ReadFailed
         → HasFailed (R.failures source.old) (R.failures source.new)) }
     ensures write_failed { IfErr result (λ e. e.kind ≡ WriteFailed
         → HasFailed (W.failures sink.old) (W.failures sink.new)) }
     ensures beginning { IfErr result (λ e. e.kind ≡ WriteFailed
-        → AreCalls (set_of schema.entry) (number_of schema.entry) (map call_seen texts.now) (λ schema calls.
+        → AreCalls (set_of schema.entry) (number_of schema.entry) (map call_text_seen texts.now) (λ schema calls.
         IsPatchCutShort schema calls keep_going (R.left source.old) (R.left source.new) (W.written sink.old)
         (W.written sink.new))) }
     ensures nothing { IfErr result (λ e. e.kind ≢ WriteFailed → sink.new ≡ sink.old) }
@@ -240,14 +240,14 @@ fn new_calls<W: Sink>(
     requires accepted { IsStruct schema }
     requires as_many { length texts.now ≡ length words.now }
     ensures outcome { IfOk result (IsUnderOutcome (set_of schema.entry) (number_of schema.entry)
-        (map call_seen texts.now) (map string_bytes words.now) keep_going ⊤ (sink.new ≡ sink.old)
+        (map call_text_seen texts.now) (map string_bytes words.now) keep_going ⊤ (sink.new ≡ sink.old)
         (λ schema calls replies. IsMade schema calls keep_going replies (W.written sink.old) (W.written sink.new))) }
     ensures refused { IfErr result (λ e. e.kind ≢ OutOfMemory → e.kind ≡ WriteFailed) }
     ensures read_failed { IfErr result (λ e. e.kind ≢ ReadFailed) }
     ensures write_failed { IfErr result (λ e. e.kind ≡ WriteFailed
         → HasFailed (W.failures sink.old) (W.failures sink.new)) }
     ensures beginning { IfErr result (λ e. e.kind ≡ WriteFailed
-        → AreCalls (set_of schema.entry) (number_of schema.entry) (map call_seen texts.now) (λ schema calls.
+        → AreCalls (set_of schema.entry) (number_of schema.entry) (map call_text_seen texts.now) (λ schema calls.
         IsCutShort keep_going (IsLeftOfNew schema calls) (W.written sink.old) (W.written sink.new))) }
     ensures nothing { IfErr result (λ e. e.kind ≢ WriteFailed → sink.new ≡ sink.old) }
 {
@@ -275,27 +275,27 @@ fn patch_root<O: Opener, R: Source, W: Sink>(
     sink: &mut W,
 ) -> Result<Outcome>
     requires { length texts.now ≡ length words.now }
-    ensures outcome { IfOk result (λ o. IsNamed O.opens O.File.left opener.old opener.new (root_of root.entry) (λ set b.
-        IsUnderOutcome set b (map call_seen texts.now) (map string_bytes words.now) keep_going
+    ensures outcome { IfOk result (λ o. IsNamed O.opens O.File.left opener.old opener.new (root_named root.entry) (λ set b.
+        IsUnderOutcome set b (map call_text_seen texts.now) (map string_bytes words.now) keep_going
         (source.new ≡ source.old) (sink.new ≡ sink.old)
         (λ schema calls replies. IsPatched schema calls keep_going replies (R.left source.old) (R.left source.new)
         (W.written sink.old) (W.written sink.new)) o)) }
     ensures refused { IfErr result (λ e. IsOfMessage e.kind
-        → IsRootOr O.opens O.File.left opener.old opener.new (root_of root.entry) e (source.new ≡ source.old) (λ set b.
-        AreCalls set b (map call_seen texts.now)
+        → IsRootOr O.opens O.File.left opener.old opener.new (root_named root.entry) e (source.new ≡ source.old) (λ set b.
+        AreCalls set b (map call_text_seen texts.now)
         (λ schema calls. IsNotPatched e.kind (R.left source.old) (R.left source.new)))) }
     ensures read_failed { IfErr result (λ e. e.kind ≡ ReadFailed
-        → HasReadFailed O.opens O.File.failures opener.old opener.new (root_of root.entry).file
+        → HasSetReadFailed O.opens O.File.failures opener.old opener.new (root_named root.entry).file
         (source.new ≡ source.old)
         (R.failures source.old) (R.failures source.new)) }
     ensures write_failed { IfErr result (λ e. e.kind ≡ WriteFailed
         → HasFailed (W.failures sink.old) (W.failures sink.new)) }
     ensures beginning { IfErr result (λ e. e.kind ≡ WriteFailed
-        → IsNamed O.opens O.File.left opener.old opener.new (root_of root.entry) (λ set b.
-        AreCalls set b (map call_seen texts.now)
+        → IsNamed O.opens O.File.left opener.old opener.new (root_named root.entry) (λ set b.
+        AreCalls set b (map call_text_seen texts.now)
         (λ schema calls. IsPatchCutShort schema calls keep_going (R.left source.old) (R.left source.new)
         (W.written sink.old) (W.written sink.new)))) }
-    ensures opened { AsksAmong O.opens (file_paths (root_of root.entry).file) opener.old opener.new }
+    ensures opened { AsksAmong O.opens (file_paths (root_named root.entry).file) opener.old opener.new }
     ensures nothing { IfErr result (λ e. e.kind ≢ WriteFailed → sink.new ≡ sink.old) }
 {
     let set = read_set(alloc, opener, root.file)?;
@@ -314,26 +314,26 @@ fn patch_words<O: Opener, R: Source, W: Sink>(
     source: &mut R,
     sink: &mut W,
 ) -> Result<Outcome>
-    ensures outcome { IfOk result (IsCallsOutcome O.opens O.File.left opener.old opener.new (root_of root.entry)
+    ensures outcome { IfOk result (IsCallsOutcome O.opens O.File.left opener.old opener.new (root_named root.entry)
         (map string_bytes words.now) keep_going (source.new ≡ source.old) (sink.new ≡ sink.old)
         (λ schema calls replies. IsPatched schema calls keep_going replies (R.left source.old) (R.left source.new)
         (W.written sink.old) (W.written sink.new))) }
     ensures refused { IfErr result (λ e. IsOfMessage e.kind → AreSaid (map string_bytes words.now) (λ texts.
-        IsRootOr O.opens O.File.left opener.old opener.new (root_of root.entry) e (source.new ≡ source.old)
+        IsRootOr O.opens O.File.left opener.old opener.new (root_named root.entry) e (source.new ≡ source.old)
         (λ set b. AreCalls set b texts (λ schema calls.
         IsNotPatched e.kind (R.left source.old) (R.left source.new))))) }
     ensures read_failed { IfErr result (λ e. e.kind ≡ ReadFailed
-        → HasReadFailed O.opens O.File.failures opener.old opener.new (root_of root.entry).file
+        → HasSetReadFailed O.opens O.File.failures opener.old opener.new (root_named root.entry).file
         (source.new ≡ source.old)
         (R.failures source.old) (R.failures source.new)) }
     ensures write_failed { IfErr result (λ e. e.kind ≡ WriteFailed
         → HasFailed (W.failures sink.old) (W.failures sink.new)) }
     ensures beginning { IfErr result (λ e. e.kind ≡ WriteFailed
-        → AreUnder O.opens O.File.left opener.old opener.new (root_of root.entry) (map string_bytes words.now)
+        → AreUnder O.opens O.File.left opener.old opener.new (root_named root.entry) (map string_bytes words.now)
         (λ schema calls.
         IsPatchCutShort schema calls keep_going (R.left source.old) (R.left source.new) (W.written sink.old)
         (W.written sink.new))) }
-    ensures opened { AsksAmong O.opens (file_paths (root_of root.entry).file) opener.old opener.new }
+    ensures opened { AsksAmong O.opens (file_paths (root_named root.entry).file) opener.old opener.new }
     ensures nothing { IfErr result (λ e. e.kind ≢ WriteFailed → sink.new ≡ sink.old) }
 {
     match read_calls(alloc, words)? {
@@ -353,20 +353,20 @@ fn new_root<O: Opener, W: Sink>(
     sink: &mut W,
 ) -> Result<Outcome>
     requires { length texts.now ≡ length words.now }
-    ensures outcome { IfOk result (λ o. IsNamed O.opens O.File.left opener.old opener.new (root_of root.entry) (λ set b.
-        IsUnderOutcome set b (map call_seen texts.now) (map string_bytes words.now) keep_going ⊤ (sink.new ≡ sink.old)
+    ensures outcome { IfOk result (λ o. IsNamed O.opens O.File.left opener.old opener.new (root_named root.entry) (λ set b.
+        IsUnderOutcome set b (map call_text_seen texts.now) (map string_bytes words.now) keep_going ⊤ (sink.new ≡ sink.old)
         (λ schema calls replies. IsMade schema calls keep_going replies (W.written sink.old) (W.written sink.new)) o)) }
     ensures refused { IfErr result (λ e. IsOfMessage e.kind
-        → IsRootOr O.opens O.File.left opener.old opener.new (root_of root.entry) e ⊤ (λ set b. ⊥)) }
+        → IsRootOr O.opens O.File.left opener.old opener.new (root_named root.entry) e ⊤ (λ set b. ⊥)) }
     ensures read_failed { IfErr result (λ e. e.kind ≡ ReadFailed
-        → HasSetFailed O.opens O.File.failures opener.old opener.new (root_of root.entry).file) }
+        → HasSetFailed O.opens O.File.failures opener.old opener.new (root_named root.entry).file) }
     ensures write_failed { IfErr result (λ e. e.kind ≡ WriteFailed
         → HasFailed (W.failures sink.old) (W.failures sink.new)) }
     ensures beginning { IfErr result (λ e. e.kind ≡ WriteFailed
-        → IsNamed O.opens O.File.left opener.old opener.new (root_of root.entry) (λ set b.
-        AreCalls set b (map call_seen texts.now)
+        → IsNamed O.opens O.File.left opener.old opener.new (root_named root.entry) (λ set b.
+        AreCalls set b (map call_text_seen texts.now)
         (λ schema calls. IsCutShort keep_going (IsLeftOfNew schema calls) (W.written sink.old) (W.written sink.new)))) }
-    ensures opened { AsksAmong O.opens (file_paths (root_of root.entry).file) opener.old opener.new }
+    ensures opened { AsksAmong O.opens (file_paths (root_named root.entry).file) opener.old opener.new }
     ensures nothing { IfErr result (λ e. e.kind ≢ WriteFailed → sink.new ≡ sink.old) }
 {
     let set = read_set(alloc, opener, root.file)?;
@@ -384,20 +384,20 @@ fn new_words<O: Opener, W: Sink>(
     keep_going: bool,
     sink: &mut W,
 ) -> Result<Outcome>
-    ensures outcome { IfOk result (IsCallsOutcome O.opens O.File.left opener.old opener.new (root_of root.entry)
+    ensures outcome { IfOk result (IsCallsOutcome O.opens O.File.left opener.old opener.new (root_named root.entry)
         (map string_bytes words.now) keep_going ⊤ (sink.new ≡ sink.old)
         (λ schema calls replies. IsMade schema calls keep_going replies (W.written sink.old) (W.written sink.new))) }
     ensures refused { IfErr result (λ e. IsOfMessage e.kind → AreSaid (map string_bytes words.now) (λ texts.
-        IsRootOr O.opens O.File.left opener.old opener.new (root_of root.entry) e ⊤ (λ set b. ⊥))) }
+        IsRootOr O.opens O.File.left opener.old opener.new (root_named root.entry) e ⊤ (λ set b. ⊥))) }
     ensures read_failed { IfErr result (λ e. e.kind ≡ ReadFailed
-        → HasSetFailed O.opens O.File.failures opener.old opener.new (root_of root.entry).file) }
+        → HasSetFailed O.opens O.File.failures opener.old opener.new (root_named root.entry).file) }
     ensures write_failed { IfErr result (λ e. e.kind ≡ WriteFailed
         → HasFailed (W.failures sink.old) (W.failures sink.new)) }
     ensures beginning { IfErr result (λ e. e.kind ≡ WriteFailed
-        → AreUnder O.opens O.File.left opener.old opener.new (root_of root.entry) (map string_bytes words.now)
+        → AreUnder O.opens O.File.left opener.old opener.new (root_named root.entry) (map string_bytes words.now)
         (λ schema calls.
         IsCutShort keep_going (IsLeftOfNew schema calls) (W.written sink.old) (W.written sink.new))) }
-    ensures opened { AsksAmong O.opens (file_paths (root_of root.entry).file) opener.old opener.new }
+    ensures opened { AsksAmong O.opens (file_paths (root_named root.entry).file) opener.old opener.new }
     ensures nothing { IfErr result (λ e. e.kind ≢ WriteFailed → sink.new ≡ sink.old) }
 {
     match read_calls(alloc, words)? {
@@ -496,8 +496,8 @@ fn run_fields<O: Opener, W: Sink>(
 ) -> Result<Outcome>
     ensures ended { IsFieldsEnded O.opens O.File.left O.File.failures opener.old opener.new (sink.new ≡ sink.old)
         (W.written sink.old) (W.written sink.new)
-        (W.failures sink.old) (W.failures sink.new) (root_of root.entry) result }
-    ensures opened { AsksAmong O.opens (file_paths (root_of root.entry).file) opener.old opener.new }
+        (W.failures sink.old) (W.failures sink.new) (root_named root.entry) result }
+    ensures opened { AsksAmong O.opens (file_paths (root_named root.entry).file) opener.old opener.new }
 {
     match show_fields(alloc, opener, root, sink) {
         Ok(()) => Ok(Outcome::Shown),

@@ -5,10 +5,10 @@ ghost use Rattle.capnp_device.specs.declared.error.ErrorKind.TheVariants.{NameNo
 ghost use Rattle.capnp_schema.specs.ByName.{brand_asked};
 ghost use Rattle.capnp_schema.specs.Entries.{lists_seen};
 ghost use Rattle.capnp_schema.specs.StructHandles.{IsStruct, number_of, set_of};
-ghost use Rattle.capnp_show_engine.specs.Opened.{AsksAmong, IsNotOpened, IsOpened, file_paths};
+ghost use Rattle.capnp_show_engine.specs.Opened.{AsksAmong, IsNotOpened, IsFileOpened, file_paths};
 ghost use Rattle.capnp_show_engine.specs.Show.{IsOfMessage};
 ghost use Rattle.capnp_show_engine.specs.WithSet.{IsSetRead, IsSetRefused};
-ghost use Rattle.riftcalico_engine.specs.Roots.{HasSetFailed, IsNoSet, IsSetOf};
+ghost use Rattle.riftcalico_engine.specs.Roots.{HasSetFailed, IsNoSet, IsOpenedSet};
 
 use capnp_schema::builtin;
 use capnp_schema::schema::StructSchema;
@@ -21,7 +21,7 @@ use std::alloc::Global;
 
 /// The set that a file holds as a message.
 fn read_file<O: Opener>(alloc: Global, opener: &mut O, path: &str) -> Result<SchemaSet>
-    ensures set { IfOk result (λ set. IsSetOf O.opens O.File.left opener.old opener.new (Some path.now)
+    ensures set { IfOk result (λ set. IsOpenedSet O.opens O.File.left opener.old opener.new (Some path.now)
         (lists_seen set)) }
     ensures refused { IfErr result (λ e. IsOfMessage e.kind
         → IsNoSet O.opens O.File.left opener.old opener.new (Some path.now) e) }
@@ -43,7 +43,7 @@ fn read_file<O: Opener>(alloc: Global, opener: &mut O, path: &str) -> Result<Sch
 /// `capnp_sets::message::read_message` refuses the set. No other file is opened.
 #[tactic(auto, using(capnp_show_engine::specs::Facts::Opening::none_asked))]
 pub fn read_set<O: Opener>(alloc: Global, opener: &mut O, file: Option<&str>) -> Result<SchemaSet>
-    ensures set { IfOk result (λ set. IsSetOf O.opens O.File.left opener.old opener.new
+    ensures set { IfOk result (λ set. IsOpenedSet O.opens O.File.left opener.old opener.new
         (option_map (λ f. f.now) file.entry) (lists_seen set)) }
     ensures refused { IfErr result (λ e. IsOfMessage e.kind
         → IsNoSet O.opens O.File.left opener.old opener.new (option_map (λ f. f.now) file.entry) e) }

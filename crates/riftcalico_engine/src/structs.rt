@@ -3,13 +3,13 @@ ghost use Rattle.std.specs.Prelude.{◌≡◌, ◌≢◌, ⊤, IfErr, OnOk};
 ghost use Rattle.std.specs.Option.{option_map};
 ghost use Rattle.capnp_device.specs.Device.{HasFailed};
 ghost use Rattle.capnp_device.specs.declared.error.ErrorKind.TheVariants.{ReadFailed, WriteFailed};
-ghost use Rattle.capnp_records.specs.Text.{said};
+ghost use Rattle.capnp_records.specs.Text.{said_text};
 ghost use Rattle.capnp_show_engine.specs.Opened.{AsksAmong, file_paths};
 ghost use Rattle.capnp_show_engine.specs.Show.{IsOfMessage};
 ghost use Rattle.capnp_structs.specs.Fields.{fields_text};
 ghost use Rattle.capnp_structs.specs.Names.{structs_text};
-ghost use Rattle.riftcalico_engine.specs.Listed.{IsBegun, IsOfSet, IsWritten};
-ghost use Rattle.riftcalico_engine.specs.RequestSeen.{root_of};
+ghost use Rattle.riftcalico_engine.specs.Listed.{IsBegun, IsOfSet, IsListWritten};
+ghost use Rattle.riftcalico_engine.specs.RequestSeen.{root_named};
 ghost use Rattle.riftcalico_engine.specs.Roots.{HasSetFailed, IsNamed, IsNoSet, IsRootOr};
 
 use crate::request::NamedRoot;
@@ -34,7 +34,7 @@ pub fn show_structs<O: Opener, W: Sink>(
 ) -> Result<()>
     ensures shown { OnOk result (IsOfSet O.opens O.File.left opener.old opener.new (option_map (λ f. f.now) file.entry)
         (λ set.
-        IsWritten (said (structs_text set)) (W.written sink.old) (W.written sink.new))) }
+        IsListWritten (said_text (structs_text set)) (W.written sink.old) (W.written sink.new))) }
     ensures refused { IfErr result (λ e. IsOfMessage e.kind
         → IsNoSet O.opens O.File.left opener.old opener.new (option_map (λ f. f.now) file.entry) e) }
     ensures read_failed { IfErr result (λ e. e.kind ≡ ReadFailed
@@ -43,7 +43,7 @@ pub fn show_structs<O: Opener, W: Sink>(
         → HasFailed (W.failures sink.old) (W.failures sink.new)) }
     ensures beginning { IfErr result (λ e. e.kind ≡ WriteFailed
         → IsOfSet O.opens O.File.left opener.old opener.new (option_map (λ f. f.now) file.entry) (λ set.
-        IsBegun (said (structs_text set)) (W.written sink.old) (W.written sink.new))) }
+        IsBegun (said_text (structs_text set)) (W.written sink.old) (W.written sink.new))) }
     ensures opened { AsksAmong O.opens (file_paths (option_map (λ f. f.now) file.entry)) opener.old opener.new }
     ensures nothing { IfErr result (λ e. e.kind ≢ WriteFailed → sink.new ≡ sink.old) }
 {
@@ -61,18 +61,18 @@ pub fn show_fields<O: Opener, W: Sink>(
     root: NamedRoot<'_>,
     sink: &mut W,
 ) -> Result<()>
-    ensures shown { OnOk result (IsNamed O.opens O.File.left opener.old opener.new (root_of root.entry) (λ set b.
-        IsWritten (fields_text set b) (W.written sink.old) (W.written sink.new))) }
+    ensures shown { OnOk result (IsNamed O.opens O.File.left opener.old opener.new (root_named root.entry) (λ set b.
+        IsListWritten (fields_text set b) (W.written sink.old) (W.written sink.new))) }
     ensures refused { IfErr result (λ e. IsOfMessage e.kind
-        → IsRootOr O.opens O.File.left opener.old opener.new (root_of root.entry) e ⊤ (λ set b. ⊥)) }
+        → IsRootOr O.opens O.File.left opener.old opener.new (root_named root.entry) e ⊤ (λ set b. ⊥)) }
     ensures read_failed { IfErr result (λ e. e.kind ≡ ReadFailed
-        → HasSetFailed O.opens O.File.failures opener.old opener.new (root_of root.entry).file) }
+        → HasSetFailed O.opens O.File.failures opener.old opener.new (root_named root.entry).file) }
     ensures write_failed { IfErr result (λ e. e.kind ≡ WriteFailed
         → HasFailed (W.failures sink.old) (W.failures sink.new)) }
     ensures beginning { IfErr result (λ e. e.kind ≡ WriteFailed
-        → IsNamed O.opens O.File.left opener.old opener.new (root_of root.entry) (λ set b.
+        → IsNamed O.opens O.File.left opener.old opener.new (root_named root.entry) (λ set b.
         IsBegun (fields_text set b) (W.written sink.old) (W.written sink.new))) }
-    ensures opened { AsksAmong O.opens (file_paths (root_of root.entry).file) opener.old opener.new }
+    ensures opened { AsksAmong O.opens (file_paths (root_named root.entry).file) opener.old opener.new }
     ensures nothing { IfErr result (λ e. e.kind ≢ WriteFailed → sink.new ≡ sink.old) }
 {
     let set = read_set(alloc, opener, root.file)?;

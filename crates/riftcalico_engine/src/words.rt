@@ -5,7 +5,7 @@ ghost use Rattle.capnp_device.specs.declared.error.ErrorKind.TheVariants.{OutOfM
 ghost use Rattle.capnp_show_engine.specs.Opened.{AsksAmong};
 ghost use Rattle.riftcalico_engine.specs.Command.{in_lines};
 ghost use Rattle.riftcalico_engine.specs.Reads.{line_at, unreadable_line};
-ghost use Rattle.riftcalico_engine.specs.Words.{HasGivenFailed, IsNoText, no_text_line};
+ghost use Rattle.riftcalico_engine.specs.Words.{HasGivenFailed, IsNoTextFile, no_text_line};
 ghost use Rattle.riftcalico_engine.specs.LinesSeen.{AreLinesOf};
 
 use crate::calls::Unreadable;

@@ -3,7 +3,7 @@ use Rattle.std.proofs.Common.{◌≡◌, ℕ, suc, ◌*◌, ◌<◌, ◌≤◌, 
 use Rattle.std.proofs.lemmas.Bool.{cases_eq}
 use Rattle.capnp_wire.specs.Place.{tree_with_level}
 use Rattle.capnp_wire.specs.Tree.{Null}
-use Rattle.capnp_arena.specs.Shape.{Shape, NoShape, IsWithin, IsPointerOf, IsTagOf, IsWordAt, Points, end_of, placed, shape_at, word_count}
+use Rattle.capnp_arena.specs.Shape.{Shape, NoShape, IsWordWithin, IsPointerOf, IsTagOf, IsWordAt, Points, end_of, shape_target, shape_at, word_count}
 use Rattle.capnp_arena.specs.Forest.{IsSame, Owns, Itself, Below, Forest, Grown, OwnedBy, Planted, Changes, PartChanges, tree}
 use Rattle.capnp_arena.specs.Facts.Words.{shape, points_kept}
 use Rattle.capnp_arena.specs.Facts.Shapes.{pointer_within, tag_within, tag_no_pointer, before_end, end_inside, itself_inside}
@@ -20,11 +20,11 @@ null_forest bytes j h =
     Grown j (subst (Points bytes j) e h) (λ i p. absurd (subst (λ s. IsPointerOf s i) (sym e) p)) (λ i k p o q. subst (λ s. IsPointerOf s i) (sym e) p) (λ i k l p q o r. absurd (subst (λ s. IsPointerOf s i) (sym e) p))
 
 pub null_owns : (bytes : List ℕ) (j k : ℕ) → IsWordAt bytes j 0 → Owns bytes j k → ⊥
-null_owns bytes j k h (Itself _ _ i) = subst (λ s. IsWithin s k) (null_shape bytes j h) i
+null_owns bytes j k h (Itself _ _ i) = subst (λ s. IsWordWithin s k) (null_shape bytes j h) i
 null_owns bytes j k h (Below _ i _ p o) = subst (λ s. IsPointerOf s i) (null_shape bytes j h) p
 
 pub null_tree : (bytes : List ℕ) (j : ℕ) → IsWordAt bytes j 0 → tree bytes j ≡ Null
-null_tree bytes j h = tree_step bytes j (null_forest bytes j h) ∙ ap (λ s. tree_with_level tree tree (placed bytes s)) (null_shape bytes j h)
+null_tree bytes j h = tree_step bytes j (null_forest bytes j h) ∙ ap (λ s. tree_with_level tree tree (shape_target bytes s)) (null_shape bytes j h)
 
 -- ---- one call after another ----
 
@@ -46,7 +46,7 @@ planted bytes w f = record {
 }
 
 -- its words are words of the segment
-pub planted_inside : (bytes : List ℕ) (s : Shape) (k : ℕ) → Planted bytes s → IsWithin s k → k < word_count bytes
+pub planted_inside : (bytes : List ℕ) (s : Shape) (k : ℕ) → Planted bytes s → IsWordWithin s k → k < word_count bytes
 planted_inside bytes s k f i = let l : k < end_of s = before_end s k i in omega (arith, l, f.ends)
 
 pub grown : (bytes : List ℕ) (w : ℕ) (s : Shape) → Points bytes w s → Planted bytes s → Forest bytes w
@@ -74,11 +74,11 @@ parts_one_by_one a b c s x y = record {
 -- ---- a call at a pointer of a part ----
 
 module _ (old new : List ℕ) (s : Shape) (w : ℕ) (f : Planted old s) (i : IsPointerOf s w) (g : Forest new w) (c : Changes w old new) where
-  w_within : IsWithin s w
+  w_within : IsWordWithin s w
   w_within = pointer_within s w i
 
   -- its own words stay, but for the one where the call was
-  pub own_same : (k : ℕ) → IsWithin s k → (k ≡ w → ⊥) → IsSame old new k
+  pub own_same : (k : ℕ) → IsWordWithin s k → (k ≡ w → ⊥) → IsSame old new k
   own_same k h n = c.stays k (let l : k < word_count old = planted_inside old s k f h in omega (arith, l)) n (λ o. f.child_apart w k i o h)
 
   -- the trees at its other pointers stay
@@ -102,13 +102,13 @@ module _ (old new : List ℕ) (s : Shape) (w : ℕ) (f : Planted old s) (i : IsP
   led : (j k : ℕ) → IsPointerOf s j → Owns new j k → ((j ≡ w) × (Owns old w k ⊎ (word_count old ≤ k))) ⊎ ((j ≡ w → ⊥) × Owns old j k)
   led j k p o = elim (cases_eq j w) [ inl e ↦ inl (e, c.grows k (subst (λ z. Owns new z k) e o)) | inr n ↦ inr (n, sibling_back j p n k o) ]
 
-  low : (k : ℕ) → word_count old ≤ k → IsWithin s k → ⊥
+  low : (k : ℕ) → word_count old ≤ k → IsWordWithin s k → ⊥
   low k h r = let l : k < word_count old = planted_inside old s k f r in omega (arith, h, l)
 
   low_owned : (j k : ℕ) → IsPointerOf s j → word_count old ≤ k → Owns old j k → ⊥
   low_owned j k p h o = let l : k < word_count old = owned_inside old j k (f.child j p) o in omega (arith, h, l)
 
-  one_apart : (j k : ℕ) → IsPointerOf s j → Owns new j k → IsWithin s k → ⊥
+  one_apart : (j k : ℕ) → IsPointerOf s j → Owns new j k → IsWordWithin s k → ⊥
   one_apart j k p o r = elim (led j k p o) [
     | inl x ↦ elim x.1 [ inl y ↦ f.child_apart w k i y r | inr y ↦ low k y r ]
     | inr x ↦ f.child_apart j k p x.1 r
@@ -138,7 +138,7 @@ module _ (old new : List ℕ) (s : Shape) (w : ℕ) (f : Planted old s) (i : IsP
   pub inner_changes : PartChanges s old new
   inner_changes = record {
     longer = c.longer;
-    stays = λ k l o. c.stays k l (λ e. o (inl (subst (IsWithin s) (sym e) w_within))) (λ r. o (inr (w, i, r)));
+    stays = λ k l o. c.stays k l (λ e. o (inl (subst (IsWordWithin s) (sym e) w_within))) (λ r. o (inr (w, i, r)));
     grows = λ k o. elim o [ inl r ↦ inl (inl r) | inr r ↦ below r.0 k r.1 r.2 ];
     tags = λ k t. own_same k (tag_within s k t) (λ e. tag_no_pointer s k t (subst (IsPointerOf s) (sym e) i));
   }
@@ -175,9 +175,9 @@ module _ (old new : List ℕ) (w : ℕ) (f : Forest old w) (p : Planted new (sha
 -- ---- data of a part that is written ----
 
 module _ (old new : List ℕ) (longer : length old ≤ length new) (s : Shape) (f : Planted old s) (written : ℕ → Type 0)
-    (is_data : (k : ℕ) → written k → IsWithin s k × (IsPointerOf s k → ⊥) × (IsTagOf s k → ⊥))
+    (is_data : (k : ℕ) → written k → IsWordWithin s k × (IsPointerOf s k → ⊥) × (IsTagOf s k → ⊥))
     (same : (k : ℕ) → 8 * suc k ≤ length old → (written k → ⊥) → IsSame old new k) where
-  low_word : (k : ℕ) → IsWithin s k → 8 * suc k ≤ length old
+  low_word : (k : ℕ) → IsWordWithin s k → 8 * suc k ≤ length old
   low_word k h = let l : k < word_count old = planted_inside old s k f h in omega (arith, l)
 
   pointer_stays : (j : ℕ) → IsPointerOf s j → IsSame old new j
@@ -211,7 +211,7 @@ module _ (old new : List ℕ) (longer : length old ≤ length new) (s : Shape) (
 -- ---- a new part at the end ----
 
 module _ (old new : List ℕ) (longer : length old ≤ length new) (w : ℕ) (s : Shape) (h : Points new w s)
-    (fresh : (k : ℕ) → IsWithin s k → word_count old ≤ k) (nulls : (j : ℕ) → IsPointerOf s j → IsWordAt new j 0)
+    (fresh : (k : ℕ) → IsWordWithin s k → word_count old ≤ k) (nulls : (j : ℕ) → IsPointerOf s j → IsWordAt new j 0)
     (same : (k : ℕ) → 8 * suc k ≤ length old → (k ≡ w → ⊥) → IsSame old new k) where
   pub new_planted : Planted new s
   new_planted = record {

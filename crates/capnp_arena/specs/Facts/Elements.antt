@@ -3,7 +3,7 @@ use Rattle.std.proofs.Common.{◌≡◌, ℕ, zero, suc, ◌+◌, ◌*◌, ◌<�
 use Rattle.std.proofs.lemmas.Bool.{cases_eq}
 use Rattle.capnp_wire.specs.Elements.{with_pointer_element, with_struct, with_struct_element}
 use Rattle.capnp_wire.specs.Tree.{Composite, Pointers, StructTree, structs_from}
-use Rattle.capnp_arena.specs.Shape.{CompositeIn, IsPointerOf, IsWithin, ListIn, StructIn, shape_at, word_count}
+use Rattle.capnp_arena.specs.Shape.{CompositeIn, IsPointerOf, IsWordWithin, ListIn, StructIn, shape_at, word_count}
 use Rattle.capnp_arena.specs.Forest.{Changes, Forest, IsSame, OwnedBy, Owns, PartChanges, Planted, struct_from, tree}
 use Rattle.capnp_arena.specs.Facts.Calls.{inner_changes, inner_planted, outer_changes, outer_forest, outer_shape, planted, planted_inside, sibling_tree}
 use Rattle.capnp_arena.specs.Facts.Forests.{forest_kept, owned_inside, owns_back, same_tree}
@@ -18,7 +18,7 @@ module _ (tag n d p i : ℕ) (l : i < n) where
   start : ℕ
   start = tag + 1 + i * (d + p)
 
-  pub element_within : (k : ℕ) → IsWithin (StructIn (tag + 1 + i * (d + p)) d p) k → IsWithin (CompositeIn tag n d p) k
+  pub element_within : (k : ℕ) → IsWordWithin (StructIn (tag + 1 + i * (d + p)) d p) k → IsWordWithin (CompositeIn tag n d p) k
   element_within k h =
       let e : i * (d + p) + (d + p) ≤ n * (d + p) = element_end i n (d + p) l in
       (omega (arith, h.0), omega (arith, h.1, e))
@@ -39,15 +39,15 @@ module _ (tag n d p i : ℕ) (l : i < n) where
   -- ---- a call in it ----
 
   module _ (old new : List ℕ) (f : Planted old (CompositeIn tag n d p)) (g : Planted new (StructIn (tag + 1 + i * (d + p)) d p)) (c : PartChanges (StructIn (tag + 1 + i * (d + p)) d p) old new) where
-    low : (k : ℕ) → IsWithin (CompositeIn tag n d p) k → 8 * suc k ≤ length old
+    low : (k : ℕ) → IsWordWithin (CompositeIn tag n d p) k → 8 * suc k ≤ length old
     low k h = let q : k < word_count old = planted_inside old (CompositeIn tag n d p) k f h in omega (arith, q)
 
     -- a word of the list that is not this struct's stays
-    own_same : (k : ℕ) → IsWithin (CompositeIn tag n d p) k → (IsWithin (StructIn (tag + 1 + i * (d + p)) d p) k → ⊥) → IsSame old new k
+    own_same : (k : ℕ) → IsWordWithin (CompositeIn tag n d p) k → (IsWordWithin (StructIn (tag + 1 + i * (d + p)) d p) k → ⊥) → IsSame old new k
     own_same k h away = c.stays k (low k h) (λ o. elim o [ inl q ↦ away q | inr q ↦ f.child_apart q.0 k (element_pointer q.0 q.1) q.2 h ])
 
     -- a pointer of another struct does not lie in this one
-    not_here : (j x : ℕ) → (x ≡ i → ⊥) → tag + 1 + x * (d + p) + d ≤ j → j < tag + 1 + x * (d + p) + d + p → IsWithin (StructIn (tag + 1 + i * (d + p)) d p) j → ⊥
+    not_here : (j x : ℕ) → (x ≡ i → ⊥) → tag + 1 + x * (d + p) + d ≤ j → j < tag + 1 + x * (d + p) + d + p → IsWordWithin (StructIn (tag + 1 + i * (d + p)) d p) j → ⊥
     not_here j x away a b h = elim (order x i) [
       | inl q ↦ let e : x * (d + p) + (d + p) ≤ i * (d + p) = element_end x i (d + p) q in omega (arith, a, b, h.0, h.1, e)
       | inr q ↦ elim q [
@@ -60,7 +60,7 @@ module _ (tag n d p i : ℕ) (l : i < n) where
         order a b = grind arith
 
     -- the trees at the pointers of other structs stay
-    module _ (j : ℕ) (q : IsPointerOf (CompositeIn tag n d p) j) (away : IsWithin (StructIn (tag + 1 + i * (d + p)) d p) j → ⊥) where
+    module _ (j : ℕ) (q : IsPointerOf (CompositeIn tag n d p) j) (away : IsWordWithin (StructIn (tag + 1 + i * (d + p)) d p) j → ⊥) where
       other_itself : IsSame old new j
       other_itself = own_same j (pointer_within (CompositeIn tag n d p) j q) away
 
@@ -68,7 +68,7 @@ module _ (tag n d p i : ℕ) (l : i < n) where
       other_words k o = c.stays k (let r : k < word_count old = owned_inside old j k (f.child j q) o in omega (arith, r))
           (λ r. elim r [
             | inl h ↦ f.child_apart j k q o (element_within k h)
-            | inr h ↦ away (subst (IsWithin (StructIn (tag + 1 + i * (d + p)) d p)) (f.children_apart h.0 j k (element_pointer h.0 h.1) q h.2 o) (pointer_within (StructIn (tag + 1 + i * (d + p)) d p) h.0 h.1))
+            | inr h ↦ away (subst (IsWordWithin (StructIn (tag + 1 + i * (d + p)) d p)) (f.children_apart h.0 j k (element_pointer h.0 h.1) q h.2 o) (pointer_within (StructIn (tag + 1 + i * (d + p)) d p) h.0 h.1))
           ])
 
       other_forest : Forest new j
@@ -81,19 +81,19 @@ module _ (tag n d p i : ℕ) (l : i < n) where
       other_tree = same_tree old new c.longer j (f.child j q) other_itself other_words
 
     -- a pointer of the list is one of this struct's, or not in it
-    sort : (j : ℕ) → IsPointerOf (CompositeIn tag n d p) j → IsPointerOf (StructIn (tag + 1 + i * (d + p)) d p) j ⊎ (IsWithin (StructIn (tag + 1 + i * (d + p)) d p) j → ⊥)
+    sort : (j : ℕ) → IsPointerOf (CompositeIn tag n d p) j → IsPointerOf (StructIn (tag + 1 + i * (d + p)) d p) j ⊎ (IsWordWithin (StructIn (tag + 1 + i * (d + p)) d p) j → ⊥)
     sort j q = elim (cases_eq q.0 i) [
       | inl e ↦ let m : q.0 * (d + p) ≡ i * (d + p) = ap (λ x. x * (d + p)) e in inl (omega (arith, q.2, m), omega (arith, q.3, m))
       | inr away ↦ inr (not_here j q.0 away q.2 q.3)
     ]
 
-    past : (k : ℕ) → word_count old ≤ k → IsWithin (CompositeIn tag n d p) k → ⊥
+    past : (k : ℕ) → word_count old ≤ k → IsWordWithin (CompositeIn tag n d p) k → ⊥
     past k h r = let q : k < word_count old = planted_inside old (CompositeIn tag n d p) k f r in omega (arith, h, q)
 
     past_owned : (j k : ℕ) → IsPointerOf (CompositeIn tag n d p) j → word_count old ≤ k → Owns old j k → ⊥
     past_owned j k q h o = let r : k < word_count old = owned_inside old j k (f.child j q) o in omega (arith, h, r)
 
-    one_apart : (j k : ℕ) → IsPointerOf (CompositeIn tag n d p) j → Owns new j k → IsWithin (CompositeIn tag n d p) k → ⊥
+    one_apart : (j k : ℕ) → IsPointerOf (CompositeIn tag n d p) j → Owns new j k → IsWordWithin (CompositeIn tag n d p) k → ⊥
     one_apart j k q o r = elim (sort j q) [
       | inl h ↦ elim (c.grows k (inr (j, h, o))) [
         | inl x ↦ elim x [ inl y ↦ g.child_apart j k h o y | inr y ↦ f.child_apart y.0 k (element_pointer y.0 y.1) y.2 r ]
@@ -103,11 +103,11 @@ module _ (tag n d p i : ℕ) (l : i < n) where
     ]
 
     -- what one of this struct's pointers and another's share
-    mixed : (a b k : ℕ) → IsPointerOf (StructIn (tag + 1 + i * (d + p)) d p) a → IsPointerOf (CompositeIn tag n d p) b → (IsWithin (StructIn (tag + 1 + i * (d + p)) d p) b → ⊥) → Owns new a k → Owns old b k → ⊥
+    mixed : (a b k : ℕ) → IsPointerOf (StructIn (tag + 1 + i * (d + p)) d p) a → IsPointerOf (CompositeIn tag n d p) b → (IsWordWithin (StructIn (tag + 1 + i * (d + p)) d p) b → ⊥) → Owns new a k → Owns old b k → ⊥
     mixed a b k q r away o s = elim (c.grows k (inr (a, q, o))) [
       | inl x ↦ elim x [
         | inl y ↦ f.child_apart b k r s (element_within k y)
-        | inr y ↦ away (subst (IsWithin (StructIn (tag + 1 + i * (d + p)) d p)) (f.children_apart y.0 b k (element_pointer y.0 y.1) r y.2 s) (pointer_within (StructIn (tag + 1 + i * (d + p)) d p) y.0 y.1))
+        | inr y ↦ away (subst (IsWordWithin (StructIn (tag + 1 + i * (d + p)) d p)) (f.children_apart y.0 b k (element_pointer y.0 y.1) r y.2 s) (pointer_within (StructIn (tag + 1 + i * (d + p)) d p) y.0 y.1))
       ]
       | inr x ↦ past_owned b k r x s
     ]
@@ -161,7 +161,7 @@ module _ (tag n d p i : ℕ) (l : i < n) where
         (run_same old new a d (λ k y z. own_same k (omega (arith, y), omega (arith, z, e)) (λ h. not_within k y z h)))
         (trees_same (tree new) (tree old) (a + d) p (λ j y z. other_tree j (x, m, y, z) (not_here j x away y z)))
       where
-        not_within : (k : ℕ) → tag + 1 + x * (d + p) ≤ k → k < tag + 1 + x * (d + p) + d → IsWithin (StructIn (tag + 1 + i * (d + p)) d p) k → ⊥
+        not_within : (k : ℕ) → tag + 1 + x * (d + p) ≤ k → k < tag + 1 + x * (d + p) + d → IsWordWithin (StructIn (tag + 1 + i * (d + p)) d p) k → ⊥
         not_within k y z h = elim (order x i) [
           | inl q ↦ let e : x * (d + p) + (d + p) ≤ i * (d + p) = element_end x i (d + p) q in omega (arith, y, z, h.0, h.1, e)
           | inr q ↦ elim q [

@@ -1,7 +1,7 @@
 -- Trees that stay where other words change.
 use Rattle.std.proofs.Common.{◌≡◌, ℕ, zero, suc, ◌+◌, ◌<◌, ◌≤◌, refl, sym, ap, subst, ◌∙◌, arith, List, [], ◌∷◌, length}
 use Rattle.capnp_wire.specs.Place.{tree_at, tree_below, tree_with_level}
-use Rattle.capnp_arena.specs.Shape.{IsWithin, IsPointerOf, IsTagOf, Points, placed, shape_at, word_count}
+use Rattle.capnp_arena.specs.Shape.{IsWordWithin, IsPointerOf, IsTagOf, Points, shape_target, shape_at, word_count}
 use Rattle.capnp_arena.specs.Forest.{IsSame, Owns, Itself, Below, Forest, Grown, tree}
 use Rattle.capnp_arena.specs.Facts.Words.{target, shape, points_kept}
 use Rattle.capnp_arena.specs.Facts.Shapes.{pointer_within, tag_within, after, inside, itself_inside}
@@ -15,7 +15,7 @@ points bytes w (Grown _ p k a b) = p
 pub child : (bytes : List ℕ) (w : ℕ) → Forest bytes w → (j : ℕ) → IsPointerOf (shape_at bytes w) j → Forest bytes j
 child bytes w (Grown _ p k a b) = k
 
-pub child_apart : (bytes : List ℕ) (w : ℕ) → Forest bytes w → (j k : ℕ) → IsPointerOf (shape_at bytes w) j → Owns bytes j k → IsWithin (shape_at bytes w) k → ⊥
+pub child_apart : (bytes : List ℕ) (w : ℕ) → Forest bytes w → (j k : ℕ) → IsPointerOf (shape_at bytes w) j → Owns bytes j k → IsWordWithin (shape_at bytes w) k → ⊥
 child_apart bytes w (Grown _ p k a b) = a
 
 pub children_apart : (bytes : List ℕ) (w : ℕ) → Forest bytes w → (i j k : ℕ) → IsPointerOf (shape_at bytes w) i → IsPointerOf (shape_at bytes w) j → Owns bytes i k → Owns bytes j k → i ≡ j
@@ -47,7 +47,7 @@ module _ (old new : List ℕ) (longer : length old ≤ length new) where
 
   -- it leads to no other words
   pub owns_back : (w : ℕ) → Forest old w → IsSame old new w → ((k : ℕ) → Owns old w k → IsSame old new k) → (k : ℕ) → Owns new w k → Owns old w k
-  owns_back w (Grown _ p f a b) e h k (Itself _ _ i) = Itself w k (subst (λ s. IsWithin s k) (same_shape w (Grown w p f a b) e h) i)
+  owns_back w (Grown _ p f a b) e h k (Itself _ _ i) = Itself w k (subst (λ s. IsWordWithin s k) (same_shape w (Grown w p f a b) e h) i)
   owns_back w (Grown _ p f a b) e h k (Below _ j _ i o) =
       let q : IsPointerOf (shape_at old w) j = subst (λ s. IsPointerOf s j) (same_shape w (Grown w p f a b) e h) i in
       Below w j k q (owns_back j (f j q) (h j (Itself w j (pointer_within (shape_at old w) j q))) (λ m r. h m (Below w j m q r)) k o)
@@ -60,7 +60,7 @@ module _ (old new : List ℕ) (longer : length old ≤ length new) where
       let back : (j k : ℕ) → IsPointerOf (shape_at new w) j → Owns new j k → Owns old j k = λ j k i o. owns_back j (f j (there j i)) (same j (there j i)) (λ m r. h m (Below w j m (there j i) r)) k o in
       Grown w (subst (Points new w) (sym s) (shape_kept w (Grown w p f a b) e (tags_kept w h)))
       (λ j i. forest_kept j (f j (there j i)) (same j (there j i)) (λ m r. h m (Below w j m (there j i) r)))
-      (λ j k i o q. a j k (there j i) (back j k i o) (subst (λ z. IsWithin z k) s q))
+      (λ j k i o q. a j k (there j i) (back j k i o) (subst (λ z. IsWordWithin z k) s q))
       (λ i j k x y o r. b i j k (there i x) (there j y) (back i k x o) (back j k y r))
 
   lower : (j w : ℕ) → suc w < j → j < word_count old → ((n m : ℕ) → word_count new ≤ n + j → word_count old ≤ m + j → tree_at n (new ∷ []) new j ≡ tree_at m (old ∷ []) old j)
@@ -98,7 +98,7 @@ unfolding tree
 same_tree old new longer w f e h = tree_kept old new longer w f e h (word_count new) (word_count old) (omega arith) (omega arith)
 
 -- a tree by what its pointer leads to and the trees there
-pub tree_step : (bytes : List ℕ) (w : ℕ) → Forest bytes w → tree bytes w ≡ tree_with_level tree tree (placed bytes (shape_at bytes w))
+pub tree_step : (bytes : List ℕ) (w : ℕ) → Forest bytes w → tree bytes w ≡ tree_with_level tree tree (shape_target bytes (shape_at bytes w))
 unfolding tree tree_at tree_below
 tree_step bytes w f =
     enough bytes w f (word_count bytes) (suc (word_count bytes)) (omega arith) (omega arith)

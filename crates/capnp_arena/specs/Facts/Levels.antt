@@ -3,7 +3,7 @@ use Rattle.std.proofs.Common.{◌≡◌, ℕ, zero, suc, ◌+◌, ◌*◌, ◌<�
 use Rattle.capnp_wire.specs.Locate.{list_words}
 use Rattle.capnp_wire.specs.Place.{bytes_at, bits_from, struct_at, struct_tree, list_tree, tree_with_level}
 use Rattle.capnp_wire.specs.Tree.{Tree, MoreTrees, Structs, MoreStructs, StructTree, trees_from, structs_from, Bits, Numbers, Pointers, Composite}
-use Rattle.capnp_arena.specs.Shape.{Shape, NoShape, StructIn, ListIn, CompositeIn, IsWithin, IsPointerOf, Points, placed}
+use Rattle.capnp_arena.specs.Shape.{Shape, NoShape, StructIn, ListIn, CompositeIn, IsWordWithin, IsPointerOf, Points, shape_target}
 use Rattle.capnp_arena.specs.Forest.{IsSame}
 use Rattle.capnp_arena.specs.Facts.Words.{run_same, part_same}
 use Rattle.capnp_arena.specs.Facts.Shapes.{apart, element_end}
@@ -41,9 +41,9 @@ module _ (old new : List ℕ) where
   list_same f g a (suc (suc (suc (suc (suc (suc z)))))) n l h k = ap Pointers (trees_same f g a n (λ j x y. k j (omega (arith, l)) x y))
 
   -- a level whose data stays: only what stands at its pointers may be other
-  pub level_same : (f g f2 g2 : List ℕ → ℕ → Tree) (w : ℕ) (s : Shape) → Points old w s → ((k : ℕ) → IsWithin s k → (IsPointerOf s k → ⊥) → IsSame old new k)
+  pub level_same : (f g f2 g2 : List ℕ → ℕ → Tree) (w : ℕ) (s : Shape) → Points old w s → ((k : ℕ) → IsWordWithin s k → (IsPointerOf s k → ⊥) → IsSame old new k)
       → ((j : ℕ) → IsPointerOf s j → f new j ≡ f2 old j) → ((j : ℕ) → suc w < j → IsPointerOf s j → g new j ≡ g2 old j)
-      → tree_with_level f g (placed new s) ≡ tree_with_level f2 g2 (placed old s)
+      → tree_with_level f g (shape_target new s) ≡ tree_with_level f2 g2 (shape_target old s)
   level_same f g f2 g2 w NoShape p h k m = refl
   level_same f g f2 g2 w (StructIn a d p) r h k m = ap struct_tree (struct_same (f new) (f2 old) d p a (λ j x y. h j (x, omega (arith, y)) (λ q. omega (arith, y, q.0))) (λ j x y. k j (x, y)))
   level_same f g f2 g2 w (ListIn a size n) r h k m = list_same (f new) (f2 old) a size n r.2 (λ j x y z. h j (x, y) (λ q. z q.0)) (λ j x y z. k j (x, y, z))

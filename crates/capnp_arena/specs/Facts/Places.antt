@@ -4,7 +4,7 @@ use Rattle.std.proofs.lemmas.List.{length-drop, length-take-le}
 use Rattle.capnp_wire.specs.Edits.{with_pointer_tree}
 use Rattle.capnp_wire.specs.Facts.Indexed.{tree_count-from}
 use Rattle.capnp_wire.specs.Tree.{tree_count}
-use Rattle.capnp_arena.specs.Built.{LeavesIn, built, part}
+use Rattle.capnp_arena.specs.Built.{LeavesIn, built_at, place_words}
 use Rattle.capnp_arena.specs.Facts.Calls.{one_by_one, parts_one_by_one}
 use Rattle.capnp_arena.specs.Facts.Laws.{IsInPointer, in_pointer}
 use Rattle.capnp_arena.specs.Forest.{Changes, Forest, PartChanges, Planted, struct_from, tree}
@@ -28,11 +28,11 @@ unchanged old new s e = subst (PartChanges s old) (sym e) (record {
 })
 
 -- a call at a pointer of a struct
-pub pointer_leaves : (old : Arena) (p : Place) (i at : ℕ) → Planted (segment old) (part p) → i < tree_count (built old p).pointers → at ≡ p.start + p.data_words + i
+pub pointer_leaves : (old : Arena) (p : Place) (i at : ℕ) → Planted (segment old) (place_words p) → i < tree_count (built_at old p).pointers → at ≡ p.start + p.data_words + i
     → (new : List ℕ) → Forest new at → Changes at (segment old) new → LeavesIn p i old at new
 pointer_leaves old p i at f l w new g c =
     let z : IsInPointer (segment old) new p.start p.data_words p.pointers i = in_pointer (segment old) new p.start p.data_words p.pointers i f (omega (arith, l, pointers_of (segment old) p.start p.data_words p.pointers)) (subst (Forest new) w g) (subst (λ k. Changes k (segment old) new) w c) in
-    record { planted = z.planted; changes = z.changes; struct = z.struct ∙ ap (λ k. with_pointer_tree (built old p) i (tree new k)) (sym w) }
+    record { planted = z.planted; changes = z.changes; struct = z.struct ∙ ap (λ k. with_pointer_tree (built_at old p) i (tree new k)) (sym w) }
 
 -- one call after another, in a struct and at a pointer
 pub then : {s : Shape} {a b c : List ℕ} → PartChanges s a b → PartChanges s b c → PartChanges s a c

@@ -3,7 +3,7 @@ use Rattle.std.proofs.Common.{◌≡◌, ℕ, zero, suc, ◌+◌, ◌*◌, ◌<�
 use Rattle.capnp_wire.specs.Edits.{with_bytes, with_pointer_tree, with_tree}
 use Rattle.capnp_wire.specs.Place.{bytes_at, struct_tree, tree_with_level, list_tree}
 use Rattle.capnp_wire.specs.Tree.{MoreTrees, Null, StructTree, Tree, trees_from, Composite, structs_from}
-use Rattle.capnp_arena.specs.Shape.{IsPointerOf, StructIn, placed, shape_at, CompositeIn, ListIn}
+use Rattle.capnp_arena.specs.Shape.{IsPointerOf, StructIn, shape_target, shape_at, CompositeIn, ListIn}
 use Rattle.capnp_arena.specs.Forest.{Changes, Forest, Planted, struct_from, tree}
 use Rattle.capnp_arena.specs.Facts.Calls.{own_same, sibling_tree}
 use Rattle.capnp_arena.specs.Facts.Forests.{tree_step}
@@ -12,15 +12,15 @@ use Rattle.capnp_arena.specs.Facts.Words.{run_same}
 
 -- a pointer to a struct
 pub tree_struct : (bytes : List ℕ) (w a d p : ℕ) → Forest bytes w → shape_at bytes w ≡ StructIn a d p → tree bytes w ≡ struct_tree (struct_from bytes a d p)
-tree_struct bytes w a d p f e = tree_step bytes w f ∙ ap (λ s. tree_with_level tree tree (placed bytes s)) e
+tree_struct bytes w a d p f e = tree_step bytes w f ∙ ap (λ s. tree_with_level tree tree (shape_target bytes s)) e
 
 -- to a list that is not composite
 pub tree_list : (bytes : List ℕ) (w a size n : ℕ) → Forest bytes w → shape_at bytes w ≡ ListIn a size n → tree bytes w ≡ list_tree (tree bytes) bytes a size n
-tree_list bytes w a size n f e = tree_step bytes w f ∙ ap (λ s. tree_with_level tree tree (placed bytes s)) e
+tree_list bytes w a size n f e = tree_step bytes w f ∙ ap (λ s. tree_with_level tree tree (shape_target bytes s)) e
 
 -- to a composite list
 pub tree_composite : (bytes : List ℕ) (w tag n d p : ℕ) → Forest bytes w → shape_at bytes w ≡ CompositeIn tag n d p → tree bytes w ≡ Composite d p (structs_from (λ i. struct_from bytes (tag + 1 + i * (d + p)) d p) 0 n)
-tree_composite bytes w tag n d p f e = tree_step bytes w f ∙ ap (λ s. tree_with_level tree tree (placed bytes s)) e
+tree_composite bytes w tag n d p f e = tree_step bytes w f ∙ ap (λ s. tree_with_level tree tree (shape_target bytes s)) e
 
 -- pointers that are null
 pub null_row : (f : ℕ → Tree) (a b n : ℕ) → ((j : ℕ) → a ≤ j → j < a + n → f j ≡ Null) → trees_from f a n ≡ trees_from (λ _. Null) b n

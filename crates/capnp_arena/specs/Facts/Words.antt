@@ -2,18 +2,18 @@
 use Rattle.std.proofs.Common.{◌≡◌, ℕ, zero, suc, ◌+◌, ◌-◌, ◌*◌, ◌/◌, ◌^◌, ◌<◌, ◌≤◌, inl, inr, true, refl, sym, ap, subst, ◌∙◌, arith, List, [], ◌∷◌, ◌++◌, length, take, drop}
 use Rattle.std.proofs.lemmas.List.{drop-drop, take-take, take-append-drop}
 use Rattle.capnp_wire.specs.Place.{bytes_at}
-use Rattle.capnp_wire.specs.Encoding.{spelled, struct_word, list_word}
+use Rattle.capnp_wire.specs.Encoding.{spelled_number, struct_word, list_word}
 use Rattle.capnp_wire.specs.Locate.{target_at, list_words, lies}
 use Rattle.capnp_wire.specs.Facts.Bytes.{length_spelled}
 use Rattle.capnp_wire.specs.Facts.Stands.{Stands}
 use Rattle.capnp_wire.specs.Facts.PointerWords.{target_null, target_zero, target_struct, target_list, target_composite, is_at_most}
 use Rattle.std.proofs.Math.Seq.{take-add}
 use Rattle.capnp_arena.specs.Forest.{IsSame}
-use Rattle.capnp_arena.specs.Shape.{IsTagOf, Shape, NoShape, StructIn, ListIn, CompositeIn, shape_of, placed, shape_at, IsWordAt, Points}
+use Rattle.capnp_arena.specs.Shape.{IsTagOf, Shape, NoShape, StructIn, ListIn, CompositeIn, shape_of, shape_target, shape_at, IsWordAt, Points}
 
 -- ---- a word that is spelled ----
 
-pub stands : (bytes : List ℕ) (w word : ℕ) → IsWordAt bytes w word → Stands bytes w (spelled 8 word)
+pub stands : (bytes : List ℕ) (w word : ℕ) → IsWordAt bytes w word → Stands bytes w (spelled_number 8 word)
 stands bytes w word h = record {
   rest = drop 8 (drop (8 * w) bytes);
   within = omega (arith, h.0, length_spelled 8 word);
@@ -21,25 +21,25 @@ stands bytes w word h = record {
 }
 
 -- the target of a pointer as it was written
-pub target : (bytes : List ℕ) (w : ℕ) (s : Shape) → Points bytes w s → target_at (bytes ∷ []) bytes w ≡ placed bytes s
+pub target : (bytes : List ℕ) (w : ℕ) (s : Shape) → Points bytes w s → target_at (bytes ∷ []) bytes w ≡ shape_target bytes s
 target bytes w NoShape h = target_null (bytes ∷ []) bytes w (stands bytes w 0 h)
 target bytes w (StructIn a d p) h = elim h [
-  | inl z ↦ subst (λ n. target_at (bytes ∷ []) bytes w ≡ placed bytes (StructIn n d p)) (sym z.0) (subst (λ n. target_at (bytes ∷ []) bytes w ≡ placed bytes (StructIn w n p)) (sym z.1) (subst (λ n. target_at (bytes ∷ []) bytes w ≡ placed bytes (StructIn w 0 n)) (sym z.2) (target_zero (bytes ∷ []) bytes w (stands bytes w (struct_word (2 ^ 30 - 1) 0 0) z.3))))
+  | inl z ↦ subst (λ n. target_at (bytes ∷ []) bytes w ≡ shape_target bytes (StructIn n d p)) (sym z.0) (subst (λ n. target_at (bytes ∷ []) bytes w ≡ shape_target bytes (StructIn w n p)) (sym z.1) (subst (λ n. target_at (bytes ∷ []) bytes w ≡ shape_target bytes (StructIn w 0 n)) (sym z.2) (target_zero (bytes ∷ []) bytes w (stands bytes w (struct_word (2 ^ 30 - 1) 0 0) z.3))))
   | inr z ↦
       let e : w + 1 + (a - suc w) ≡ a = omega (arith, z.0) in
       let l : lies bytes (w + 1 + (a - suc w) + d + p) ≡ true = is_at_most (w + 1 + (a - suc w) + d + p) (length bytes / 8) (omega (arith, z.0, z.5)) in
-      target_struct (bytes ∷ []) bytes w (a - suc w) z.1 d p z.2 z.3 z.4 (stands bytes w (struct_word (a - suc w) d p) z.6) l ∙ ap (λ n. placed bytes (StructIn n d p)) e
+      target_struct (bytes ∷ []) bytes w (a - suc w) z.1 d p z.2 z.3 z.4 (stands bytes w (struct_word (a - suc w) d p) z.6) l ∙ ap (λ n. shape_target bytes (StructIn n d p)) e
 ]
 target bytes w (ListIn a size n) h =
     let e : w + 1 + (a - suc w) ≡ a = omega (arith, h.0) in
     let l : lies bytes (w + 1 + (a - suc w) + list_words size n) ≡ true = is_at_most (w + 1 + (a - suc w) + list_words size n) (length bytes / 8) (omega (arith, h.0, h.4)) in
-    target_list (bytes ∷ []) bytes w (a - suc w) h.1 size n h.2 h.3 (stands bytes w (list_word (a - suc w) size n) h.5) l ∙ ap (λ x. placed bytes (ListIn x size n)) e
+    target_list (bytes ∷ []) bytes w (a - suc w) h.1 size n h.2 h.3 (stands bytes w (list_word (a - suc w) size n) h.5) l ∙ ap (λ x. shape_target bytes (ListIn x size n)) e
 target bytes w (CompositeIn tag n d p) h =
     let e : w + 1 + (tag - suc w) ≡ tag = omega (arith, h.0) in
     let l : lies bytes (w + 1 + (tag - suc w) + 1 + n * (d + p)) ≡ true = is_at_most (w + 1 + (tag - suc w) + 1 + n * (d + p)) (length bytes / 8) (omega (arith, h.0, h.6)) in
-    target_composite (bytes ∷ []) bytes w (tag - suc w) h.1 n d p h.4 h.2 h.3 h.5 (stands bytes w (list_word (tag - suc w) 7 (n * (d + p))) h.7) (subst (λ x. Stands bytes x (spelled 8 (struct_word n d p))) (sym e) (stands bytes tag (struct_word n d p) h.8)) l ∙ ap (λ x. placed bytes (CompositeIn x n d p)) e
+    target_composite (bytes ∷ []) bytes w (tag - suc w) h.1 n d p h.4 h.2 h.3 h.5 (stands bytes w (list_word (tag - suc w) 7 (n * (d + p))) h.7) (subst (λ x. Stands bytes x (spelled_number 8 (struct_word n d p))) (sym e) (stands bytes tag (struct_word n d p) h.8)) l ∙ ap (λ x. shape_target bytes (CompositeIn x n d p)) e
 
-shape_placed : (bytes : List ℕ) (s : Shape) → shape_of (placed bytes s) ≡ s
+shape_placed : (bytes : List ℕ) (s : Shape) → shape_of (shape_target bytes s) ≡ s
 shape_placed bytes NoShape = refl
 shape_placed bytes (StructIn a d p) = refl
 shape_placed bytes (ListIn a size n) = refl

@@ -7,7 +7,7 @@ ghost use Rattle.std.specs.Prelude.{None, Ok, IfErr, IsErrAnd, IsOk, IsOkAnd, On
 ghost use Rattle.std.specs.Borrow.{sem};
 ghost use Rattle.capnp_device.specs.declared.error.ErrorKind.TheVariants.{FieldNotFound};
 ghost use Rattle.capnp_wire.specs.Depth.{AreBelow, memory_depth};
-ghost use Rattle.capnp_wire.specs.Edits.{IsStructRefusal, extended, struct_in};
+ghost use Rattle.capnp_wire.specs.Edits.{IsStructRefusal, extended_struct, struct_in};
 ghost use Rattle.capnp_wire.specs.Standing.{struct_levels, struct_of};
 ghost use Rattle.capnp_arena.specs.Forest.{Changes, Forest, tree};
 ghost use Rattle.capnp_arena.specs.Same.{IsStructCutOf};
@@ -21,7 +21,7 @@ ghost use Rattle.capnp_schema.specs.Types.{seen_type};
 ghost use Rattle.capnp_schema.specs.declared.schema.fields.Field.{Field};
 ghost use Rattle.capnp_records.specs.Part.{has_of, which_of};
 ghost use Rattle.capnp_records.specs.Writes.Slots.{Fits};
-ghost use Rattle.capnp_arena.specs.Built.{ChangesIn, IsBuilt, built};
+ghost use Rattle.capnp_arena.specs.Built.{ChangesIn, IsBuilt, built_at};
 ghost use Rattle.capnp_slots.specs.Copied.{refusal_of};
 ghost use Rattle.capnp_slots.specs.Fields.{IsSlot, Keeps, names_of};
 ghost use Rattle.capnp_slots.specs.FieldWrites.{IsFieldSet, field_cleared};
@@ -31,7 +31,7 @@ ghost use Rattle.capnp_dynamic_readers.specs.Reads.{BelongsTo};
 ghost use Rattle.capnp_dynamic_readers.specs.Typed.{struct_type};
 ghost use Rattle.capnp_dynamic.specs.Built.{IsReady, LendsStruct, built_record, built_schema, built_struct, handle_of, place_of, struct_behind};
 ghost use Rattle.capnp_dynamic.specs.Names.{IsNamed};
-ghost use Rattle.capnp_dynamic.specs.Opened.{StructRests};
+ghost use Rattle.capnp_dynamic.specs.Opened.{BuilderStructRests};
 
 use crate::dynamic_struct::Reader;
 use crate::dynamic_value;
@@ -62,7 +62,7 @@ pub struct Builder<'a> {
 impl<'a> Builder<'a> {
     /// A builder of a struct under a schema, of which the struct has to have at least the sections.
     pub fn new(builder: StructBuilder<'a>, schema: StructSchema<'a>) -> Builder<'a>
-        requires { Fits (set_of schema) (number_of schema) (built builder.arena.now builder.place) }
+        requires { Fits (set_of schema) (number_of schema) (built_at builder.arena.now builder.place) }
         ensures behind { struct_behind result ≡ builder.entry.arena }
         ensures place { place_of result ≡ builder.entry.place }
         ensures schema { built_schema result ≡ schema.entry }
@@ -83,7 +83,7 @@ impl<'a> Builder<'a> {
     #[tactic(auto, using(crate::proofs::Opened::entered_stands, crate::proofs::Opened::entered_is))]
     pub fn open(pointer: PointerBuilder<'a>, schema: StructSchema<'a>) -> Result<Builder<'a>>
         requires forest { Forest (segment pointer.arena.now) pointer.at }
-        ensures* rests { sem 𝓛 (StructRests pointer.entry.arena result) }
+        ensures* rests { sem 𝓛 (BuilderStructRests pointer.entry.arena result) }
         ensures same { IfOk result (λ b. (struct_behind b).ghost_name ≡ pointer.entry.arena.ghost_name) }
         ensures ready { IfOk result IsReady }
         ensures schema { IfOk result (λ b. built_schema b ≡ schema.entry) }
@@ -93,7 +93,7 @@ impl<'a> Builder<'a> {
         ensures changes { IfOk result (λ b. Changes pointer.entry.at (segment pointer.entry.arena.now)
             (segment (struct_behind b).now)) }
         ensures now { IfOk result (λ b. built_struct b ≡
-            extended (brand_size (set_of schema.entry) (number_of schema.entry))
+            extended_struct (brand_size (set_of schema.entry) (number_of schema.entry))
             (struct_in (tree (segment pointer.entry.arena.now) pointer.entry.at))) }
         ensures cause { IfErr result (λ e. IsStructRefusal e
             (tree (segment pointer.entry.arena.now) pointer.entry.at)) }

@@ -9,7 +9,7 @@ use Rattle.capnp_wire.specs.Reading.{is_null_tree}
 use Rattle.capnp_base.specs.declared.introspect.TypeVariant.{TypeVariant}
 use Rattle.capnp_base.specs.declared.introspect.TypeVariant.TheVariants as variant
 use Rattle.capnp_schema.specs.Accepted.{IsAccepted}
-use Rattle.capnp_schema.specs.Plan.{member_plan, place_of, plan_of}
+use Rattle.capnp_schema.specs.Plan.{member_plan, plan_place, plan_of}
 use Rattle.capnp_schema.specs.Query.{is_member_of, member_of, records_of}
 use Rattle.capnp_schema.specs.Schema.{FieldKind, Group, Schemas, Slot, TypedField, field_at, fields_of, is_member, node_of}
 use Rattle.capnp_schema.specs.Types.{SchemaType, seen_variant}
@@ -20,7 +20,7 @@ use Rattle.capnp_records.specs.Facts.PartRead.{found-active, nth-plain_parts}
 use Rattle.capnp_records.specs.Facts.Pointers.{values_of-nth}
 use Rattle.capnp_records.specs.Facts.Readers.{null-is, value-there}
 use Rattle.capnp_records.specs.Reading.{part_of}
-use Rattle.capnp_records.specs.Reading.{Reading, active_among, discriminant, kind_value, plain_parts, record_within, slot_value, struct_record, union_of, value_of, values_of}
+use Rattle.capnp_records.specs.Reading.{Reading, active_among, discriminant, kind_value, non_union_parts, record_within, slot_value, struct_record, union_of, value_of, values_of}
 use Rattle.capnp_records.specs.Record.{Active, Levels, NoUnion, Parts, Union, Value, Values, is_there}
 use Rattle.capnp_records.specs.Part.{active_value, has_of, is_active, is_inactive, nth_value, which_of}
 use Rattle.capnp_dynamic_readers.specs.Planned.{member_there, place_there, planned_has}
@@ -36,7 +36,7 @@ module _ (set : Schemas) (l : Levels) (s : StructTree) where
   pointer-there : (o : ℕ) (t : SchemaType) (r : Reading) → r ≡ value_of set (nth_tree s.pointers o) → is_there (r l t) ≡ not (is_null_tree (nth_tree s.pointers o))
   pointer-there o t r e = ap (λ (r : Reading). is_there (r l t)) e ∙ not-null set (nth_tree s.pointers o) l t
 
-  slot-there : (v : TypeVariant) (o : ℕ) (d : SchemaValue) → is_there (slot_value l s.bytes (values_of set s.pointers) o d (seen_variant v)) ≡ place_there s (place_of (Slot o d) (seen_variant v))
+  slot-there : (v : TypeVariant) (o : ℕ) (d : SchemaValue) → is_there (slot_value l s.bytes (values_of set s.pointers) o d (seen_variant v)) ≡ place_there s (plan_place (Slot o d) (seen_variant v))
   slot-there variant.Void o d = refl
   slot-there variant.Bool o d = refl
   slot-there variant.Int8 o d = refl
@@ -55,11 +55,11 @@ module _ (set : Schemas) (l : Levels) (s : StructTree) where
   slot-there variant.AnyPointer o d = pointer-there o _ _ (values_of-nth set s.pointers o)
 
   pub part-there : (b i : ℕ) (v : TypeVariant) → seen_variant v ≡ (field_at set b i).type →
-      is_there (part_of set l s.bytes (values_of set s.pointers) (field_at set b i)) ≡ place_there s (place_of (field_at set b i).field.kind (field_at set b i).type)
+      is_there (part_of set l s.bytes (values_of set s.pointers) (field_at set b i)) ≡ place_there s (plan_place (field_at set b i).field.kind (field_at set b i).type)
   part-there b i v e = go (field_at set b i).field.kind (field_at set b i).type e
     where
-      go : (k : FieldKind) (t : SchemaType) → seen_variant v ≡ t → is_there (kind_value (record_within (length set.brands) set l s.bytes (values_of set s.pointers)) l s.bytes (values_of set s.pointers) k t) ≡ place_there s (place_of k t)
-      go (Slot o d) t e = subst (λ t. is_there (slot_value l s.bytes (values_of set s.pointers) o d t) ≡ place_there s (place_of (Slot o d) t)) e (slot-there v o d)
+      go : (k : FieldKind) (t : SchemaType) → seen_variant v ≡ t → is_there (kind_value (record_within (length set.brands) set l s.bytes (values_of set s.pointers)) l s.bytes (values_of set s.pointers) k t) ≡ place_there s (plan_place k t)
+      go (Slot o d) t e = subst (λ t. is_there (slot_value l s.bytes (values_of set s.pointers) o d t) ≡ place_there s (plan_place (Slot o d) t)) e (slot-there v o d)
       go (Group n) t e = refl
 
   module _ (accepted : IsAccepted set) (b i : ℕ) (b_in : b < length set.brands) (i_in : i < length (fields_of set b)) where
@@ -124,9 +124,9 @@ module _ (set : Schemas) (l : Levels) (s : StructTree) where
     has_by_plan v e = go (is_member f.field) refl
       where
         vs : Values
-        vs = plain_parts part (fields_of set b)
+        vs = non_union_parts part (fields_of set b)
 
-        there : is_there (part (field_at set b i)) ≡ place_there s (place_of (field_at set b i).field.kind (field_at set b i).type)
+        there : is_there (part (field_at set b i)) ≡ place_there s (plan_place (field_at set b i).field.kind (field_at set b i).type)
         there = part-there b i v e
 
         both : Bool → Bool → Value → Value → Bool
@@ -134,7 +134,7 @@ module _ (set : Schemas) (l : Levels) (s : StructTree) where
 
         go : (q : Bool) → is_member f.field ≡ q → planned_has s (plan_of set b (field_at set b i)) ≡ has_of (struct_record set l s b) (field_at set b i).field i
         go false plain =
-            ap (λ q. member_there s.bytes (member_plan q (node_of set b) f.field) && place_there s (place_of f.field.kind f.type)) plain
+            ap (λ q. member_there s.bytes (member_plan q (node_of set b) f.field) && place_there s (plan_place f.field.kind f.type)) plain
             ∙ (sym there
             ∙ (sym (ap is_there (nth-plain_parts part (fields_of set b) i i_in plain))
             ∙ sym (ap (λ q. both q (is_active union i) (active_value union) (nth_value vs i)) plain)))
@@ -142,15 +142,15 @@ module _ (set : Schemas) (l : Levels) (s : StructTree) where
           where
             at : (q : Bool) → (number == f.field.discriminant_value) ≡ q → planned_has s (plan_of set b (field_at set b i)) ≡ has_of (struct_record set l s b) (field_at set b i).field i
             at true is =
-                ap (λ q. member_there s.bytes (member_plan q (node_of set b) f.field) && place_there s (place_of f.field.kind f.type)) member
-                ∙ (ap (λ q. q && place_there s (place_of f.field.kind f.type)) is
+                ap (λ q. member_there s.bytes (member_plan q (node_of set b) f.field) && place_there s (plan_place f.field.kind f.type)) member
+                ∙ (ap (λ q. q && place_there s (plan_place f.field.kind f.type)) is
                 ∙ (sym there
                 ∙ (sym (ap (λ q. not (true && not q) && is_there (part f)) (eq-eqb i i refl))
                 ∙ (sym (ap (λ u. both true (is_active u i) (active_value u) (nth_value vs i)) (member-active member is))
                 ∙ sym (ap (λ q. both q (is_active union i) (active_value union) (nth_value vs i)) member)))))
             at false is =
-                ap (λ q. member_there s.bytes (member_plan q (node_of set b) f.field) && place_there s (place_of f.field.kind f.type)) member
-                ∙ (ap (λ q. q && place_there s (place_of f.field.kind f.type)) is
+                ap (λ q. member_there s.bytes (member_plan q (node_of set b) f.field) && place_there s (plan_place f.field.kind f.type)) member
+                ∙ (ap (λ q. q && place_there s (plan_place f.field.kind f.type)) is
                 ∙ (sym (ap (λ q. both true q (active_value union) (nth_value vs i)) (member-inactive member is))
                 ∙ sym (ap (λ q. both q (is_active union i) (active_value union) (nth_value vs i)) member)))
 
@@ -194,8 +194,8 @@ pub which_counted : (set : Schemas) (l : Levels) (s : StructTree) (b d : ℕ) �
 which_counted set l s b d counted is =
     ap (member_of (records_of set b)) is
     ∙ (sym (from-zero (member_of (records_of set b) (discriminant (node_of set b) s.bytes)))
-    ∙ (sym (which_among (plain_parts part (fields_of set b)) part (fields_of set b) 0 (discriminant (node_of set b) s.bytes))
-    ∙ ap (λ u. which_of (Parts (plain_parts part (fields_of set b)) u)) (sym (second-of ((node_of set b).discriminant_count == 0) NoUnion (active_among part (fields_of set b) 0 (discriminant (node_of set b) s.bytes)) counted))))
+    ∙ (sym (which_among (non_union_parts part (fields_of set b)) part (fields_of set b) 0 (discriminant (node_of set b) s.bytes))
+    ∙ ap (λ u. which_of (Parts (non_union_parts part (fields_of set b)) u)) (sym (second-of ((node_of set b).discriminant_count == 0) NoUnion (active_among part (fields_of set b) 0 (discriminant (node_of set b) s.bytes)) counted))))
   where
     part : TypedField → Value
     part = part_of set l s.bytes (values_of set s.pointers)

@@ -2,7 +2,7 @@
 ghost use Rattle.std.specs.Prelude.{◌≡◌, Result};
 ghost use Rattle.capnp_device.specs.declared.error.Error.{Error};
 ghost use Rattle.capnp_dynamic_readers.specs.Annotated.{annotation_read};
-ghost use Rattle.capnp_dynamic_readers.specs.Seen.{answered};
+ghost use Rattle.capnp_dynamic_readers.specs.Seen.{answered_value};
 ghost use Rattle.capnp_dynamic_readers.specs.declared.dynamic_value.Reader.{Reader};
 
 use crate::dynamic_value;
@@ -20,7 +20,7 @@ pub trait AnnotationValue<'s>: Sized {
 }
 
 impl<'s> AnnotationValue<'s> for Annotation<'s> {
-    ghost gives = { λ x r. answered r ≡ annotation_read x };
+    ghost gives = { λ x r. answered_value r ≡ annotation_read x };
 
     /// The value of the annotation: a void, a truth value, a number, a text or data whatever its type, and an enum, a
     /// struct, a list and an untyped pointer under their type; refused as `TypeMismatch` under another. A struct or

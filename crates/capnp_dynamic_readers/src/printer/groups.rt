@@ -4,7 +4,7 @@ ghost use Rattle.capnp_schema.specs.GroupFields.{group_field_of};
 ghost use Rattle.capnp_schema.specs.GroupWalks.{above, frames, walk_brand, walk_depth, walk_index, walk_schema, walk_set};
 ghost use Rattle.capnp_schema.specs.StructHandles.{number_of, set_of, struct_fields};
 ghost use Rattle.capnp_records.specs.Text.{deeper};
-ghost use Rattle.capnp_dynamic_readers.specs.GroupTexts.{IsClosed, IsOpened, IsPast, IsStart, has_fields};
+ghost use Rattle.capnp_dynamic_readers.specs.GroupTexts.{IsBracketClosed, IsGroupOpened, IsPast, IsStart, has_fields};
 ghost use Rattle.capnp_dynamic_readers.specs.Pieces.{IsFull};
 
 use crate::printer::output::{Out, Stop};
@@ -67,7 +67,7 @@ pub(crate) fn open<'a, F>(
     requires set { set_of group ≡ walk_set now.walk }
     requires field { group_field_of (walk_set now.walk) (number_of group)
         ≡ Some (walk_brand now.walk, walk_index now.walk) }
-    ensures opened { IfOk result (IsOpened now.entry group.entry) }
+    ensures opened { IfOk result (IsGroupOpened now.entry group.entry) }
     ensures full { IfErr result IsFull }
 {
     if now.walk.get_depth() == usize::MAX {
@@ -85,7 +85,7 @@ pub(crate) fn close<'a, O: Out>(
     now: Standing<'a>,
     out: &mut O,
 ) -> Result<Option<Standing<'a>>, Stop<O::Error>>
-    ensures closed { IfOk result (IsClosed now.entry (O.text out.old) (O.text out.new)) }
+    ensures closed { IfOk result (IsBracketClosed now.entry (O.text out.old) (O.text out.new)) }
     ensures full { IfErr result IsFull }
 {
     let at = one_shallower(now.at);

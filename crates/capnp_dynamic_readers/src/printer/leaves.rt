@@ -1,8 +1,8 @@
 //! The text of a value that is no struct and no list.
 ghost use Rattle.std.specs.Prelude.{[], ◌≡◌, ◌<◌, ◌∷◌, flat_map, OnOk};
 ghost use Rattle.std.specs.Char.{digit_char};
-ghost use Rattle.capnp_records.specs.Text.{data_text, decimals, quoted, said};
-ghost use Rattle.capnp_dynamic_readers.specs.Leaf.{IsLeaf, enum_name, leaf_text, two_digits};
+ghost use Rattle.capnp_records.specs.Text.{data_text, decimals, quoted_text, said_text};
+ghost use Rattle.capnp_dynamic_readers.specs.Leaf.{IsLeaf, enumerant_text, leaf_text, two_digits};
 ghost use Rattle.capnp_dynamic_readers.specs.Pieces.{IsPut};
 
 use super::output::Out;
@@ -10,7 +10,7 @@ use crate::dynamic_value::{Enum, Reader};
 
 /// Appends bytes in decimal, with a comma and a space between them.
 fn put_decimals<O: Out>(bytes: &[u8], out: &mut O) -> Result<(), O::Error>
-    ensures { OnOk result (IsPut (O.text out.old) (said (decimals bytes.now)) (O.text out.new)) }
+    ensures { OnOk result (IsPut (O.text out.old) (said_text (decimals bytes.now)) (O.text out.new)) }
 {
     if bytes.is_empty() {
         return Ok(());
@@ -25,7 +25,7 @@ fn put_decimals<O: Out>(bytes: &[u8], out: &mut O) -> Result<(), O::Error>
 
 /// Appends a text in quotes, or the bytes of one that is no UTF-8.
 fn put_text<O: Out>(bytes: &[u8], out: &mut O) -> Result<(), O::Error>
-    ensures { OnOk result (IsPut (O.text out.old) (quoted bytes.now) (O.text out.new)) }
+    ensures { OnOk result (IsPut (O.text out.old) (quoted_text bytes.now) (O.text out.new)) }
 {
     if let Ok(string) = std::str::from_utf8(bytes) {
         out.put_debug(string)?;
@@ -64,7 +64,7 @@ fn digit(value: u8) -> &'static str
 
 /// Appends bytes, each by two digits.
 fn put_digits<O: Out>(bytes: &[u8], out: &mut O) -> Result<(), O::Error>
-    ensures { OnOk result (IsPut (O.text out.old) (said (flat_map two_digits bytes.now)) (O.text out.new)) }
+    ensures { OnOk result (IsPut (O.text out.old) (said_text (flat_map two_digits bytes.now)) (O.text out.new)) }
 {
     for i in 0..bytes.len() {
         let byte = bytes[i];
@@ -76,7 +76,7 @@ fn put_digits<O: Out>(bytes: &[u8], out: &mut O) -> Result<(), O::Error>
 
 /// Appends data in hexadecimal.
 fn put_data<O: Out>(bytes: &[u8], out: &mut O) -> Result<(), O::Error>
-    ensures { OnOk result (IsPut (O.text out.old) (said (data_text bytes.now)) (O.text out.new)) }
+    ensures { OnOk result (IsPut (O.text out.old) (said_text (data_text bytes.now)) (O.text out.new)) }
 {
     out.put("0x\"")?;
     put_digits(bytes, out)?;
@@ -86,7 +86,7 @@ fn put_data<O: Out>(bytes: &[u8], out: &mut O) -> Result<(), O::Error>
 
 /// Appends an enum by its enumerant's name, and past the enumerants by its number.
 fn put_enum<O: Out>(value: Enum<'_>, out: &mut O) -> Result<(), O::Error>
-    ensures { OnOk result (IsPut (O.text out.old) (said (enum_name value.entry)) (O.text out.new)) }
+    ensures { OnOk result (IsPut (O.text out.old) (said_text (enumerant_text value.entry)) (O.text out.new)) }
 {
     match value.get_enumerant() {
         Ok(Some(enumerant)) => out.put(enumerant.get_proto().name.as_str()),

@@ -2,7 +2,7 @@
 ghost use Rattle.std.specs.Prelude.{[], ◌≡◌, ◌++◌, ◌<◌, Some, None, Ok, IfErr, OnErr, OnOk, decimal, string_bytes};
 ghost use Rattle.std.specs.Fmt.{signed_decimal};
 ghost use Rattle.capnp_device.specs.declared.error.ErrorKind.TheVariants.{OutOfMemory};
-ghost use Rattle.capnp_records.specs.Text.{debug_pieces, said};
+ghost use Rattle.capnp_records.specs.Text.{debug_pieces, said_text};
 ghost use Rattle.capnp_dynamic_readers.specs.Pieces.{IsPut, Taken, made_bytes, made_text, stopped_kind};
 
 use capnp_wire::error::{Error, ErrorKind};
@@ -19,7 +19,7 @@ pub(crate) trait Out {
 
     /// Appends a piece.
     fn put(&mut self, piece: &str) -> Result<(), Self::Error>
-        ensures { OnOk result (IsPut (text self.old) (said piece.now) (text self.new)) };
+        ensures { OnOk result (IsPut (text self.old) (said_text piece.now) (text self.new)) };
 
     /// Appends the debug form of a string.
     fn put_debug(&mut self, piece: &str) -> Result<(), Self::Error>
@@ -27,11 +27,11 @@ pub(crate) trait Out {
 
     /// Appends a number in decimal.
     fn put_unsigned(&mut self, number: u64) -> Result<(), Self::Error>
-        ensures { OnOk result (IsPut (text self.old) (said (decimal number)) (text self.new)) };
+        ensures { OnOk result (IsPut (text self.old) (said_text (decimal number)) (text self.new)) };
 
     /// Appends a number in decimal, with its sign where it is negative.
     fn put_signed(&mut self, number: i64) -> Result<(), Self::Error>
-        ensures { OnOk result (IsPut (text self.old) (said (signed_decimal number)) (text self.new)) };
+        ensures { OnOk result (IsPut (text self.old) (said_text (signed_decimal number)) (text self.new)) };
 }
 
 /// A string that is being made.

@@ -6,9 +6,9 @@ ghost use Rattle.capnp_schema.specs.Types.{seen_type};
 ghost use Rattle.capnp_records.specs.Part.{which_of};
 ghost use Rattle.capnp_records.specs.Record.{is_there};
 ghost use Rattle.capnp_records.specs.Text.{entering_fault, is_entered};
-ghost use Rattle.capnp_dynamic_readers.specs.GroupTexts.{IsSlot, is_item};
+ghost use Rattle.capnp_dynamic_readers.specs.GroupTexts.{IsSlotField, is_item};
 ghost use Rattle.capnp_dynamic_readers.specs.Handles.{schema_of};
-ghost use Rattle.capnp_dynamic_readers.specs.PartsRead.{IsElement, IsElementRefused, IsPart, IsPartRefused, fault_at, field_in};
+ghost use Rattle.capnp_dynamic_readers.specs.PartsRead.{IsElementRead, IsElementRefused, IsPart, IsPartRefused, fault_at, field_in};
 ghost use Rattle.capnp_dynamic_readers.specs.Seen.{record_seen};
 ghost use Rattle.capnp_dynamic_readers.specs.Shown.{IsPending, is_member_shown, part_seen};
 
@@ -24,7 +24,7 @@ pub(crate) fn read_slot<'a>(
     field: Field<'a>,
 ) -> Result<Value<'a>>
     requires field { IsFieldOf (schema_of reader) (index_of field) field }
-    requires slot { IsSlot field }
+    requires slot { IsSlotField field }
     ensures read { IfOk result (IsPart reader.entry field.entry) }
     ensures refused { IfErr result (λ e. IsPartRefused reader.entry field.entry e.kind) }
 {
@@ -75,7 +75,7 @@ fn is_shown<'a>(reader: dynamic_struct::Reader<'a>, member: Field<'a>) -> bool
 
 /// An element of a list.
 pub(crate) fn read_element<'a>(list: dynamic_list::Reader<'a>, index: u32) -> Result<Value<'a>>
-    ensures read { IfOk result (IsElement list.entry index) }
+    ensures read { IfOk result (IsElementRead list.entry index) }
     ensures refused { IfErr result (λ e. IsElementRefused list.entry index e.kind) }
 {
     list.get(index)

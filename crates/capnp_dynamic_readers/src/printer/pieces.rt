@@ -1,7 +1,7 @@
 //! Pieces of text: lines, and what stands before an item.
 ghost use Rattle.std.specs.Prelude.{◌≡◌, IfErr, IfOk, None, OnOk, Some, cond};
 ghost use Rattle.capnp_schema.specs.FieldLists.{typed_of};
-ghost use Rattle.capnp_records.specs.Text.{deeper, line, said, separator};
+ghost use Rattle.capnp_records.specs.Text.{deeper, line, said_text, separator};
 ghost use Rattle.capnp_dynamic_readers.specs.GroupTexts.{IsNamePut, shallower};
 ghost use Rattle.capnp_dynamic_readers.specs.Leaf.{IsLeaf, leaf_text};
 ghost use Rattle.capnp_dynamic_readers.specs.Pieces.{IsFull, IsPut};
@@ -21,7 +21,7 @@ pub(crate) fn layout(indented: bool) -> Option<u64>
 
 /// Appends a piece.
 pub(crate) fn put<O: Out>(piece: &str, out: &mut O) -> Result<(), Stop<O::Error>>
-    ensures put { OnOk result (IsPut (O.text out.old) (said piece.now) (O.text out.new)) }
+    ensures put { OnOk result (IsPut (O.text out.old) (said_text piece.now) (O.text out.new)) }
     ensures full { IfErr result IsFull }
 {
     match out.put(piece) {
@@ -68,7 +68,7 @@ pub(crate) fn one_shallower(at: Option<u64>) -> Option<u64>
 
 /// A line break, where lines are broken.
 pub(crate) fn put_line<O: Out>(at: Option<u64>, out: &mut O) -> Result<(), Stop<O::Error>>
-    ensures put { OnOk result (IsPut (O.text out.old) (said (line at)) (O.text out.new)) }
+    ensures put { OnOk result (IsPut (O.text out.old) (said_text (line at)) (O.text out.new)) }
     ensures full { IfErr result IsFull }
 {
     let Some(depth) = at else {
@@ -87,7 +87,7 @@ pub(crate) fn put_separator<O: Out>(
     first: bool,
     out: &mut O,
 ) -> Result<(), Stop<O::Error>>
-    ensures put { OnOk result (IsPut (O.text out.old) (said (separator at first)) (O.text out.new)) }
+    ensures put { OnOk result (IsPut (O.text out.old) (said_text (separator at first)) (O.text out.new)) }
     ensures full { IfErr result IsFull }
 {
     if first {

@@ -4,7 +4,7 @@ ghost use Rattle.std.specs.Prelude.{true, false, IfErr, IfOk, OnOk};
 ghost use Rattle.capnp_schema.specs.GroupWalks.{walk_index, walk_schema};
 ghost use Rattle.capnp_schema.specs.FieldLists.{IsFieldOf, index_of};
 ghost use Rattle.capnp_records.specs.Text.{more_text};
-ghost use Rattle.capnp_dynamic_readers.specs.GroupTexts.{IsStep, IsSlot, onward_of};
+ghost use Rattle.capnp_dynamic_readers.specs.GroupTexts.{IsPrintStep, IsSlotField, onward_of};
 ghost use Rattle.capnp_dynamic_readers.specs.Handles.{reader_of, schema_of};
 ghost use Rattle.capnp_dynamic_readers.specs.PartsRead.{field_in};
 ghost use Rattle.capnp_dynamic_readers.specs.Pieces.{IsPut, IsStopped};
@@ -139,7 +139,7 @@ fn print_field<'a, O: Out>(
     out: &mut O,
 ) -> Result<Standing<'a>, Stop<O::Error>>
     requires field { IsFieldOf (walk_schema now.walk) (walk_index now.walk) field }
-    ensures put { IfOk result (IsStep left sections.entry now.entry (O.text out.old) (O.text out.new)) }
+    ensures put { IfOk result (IsPrintStep left sections.entry now.entry (O.text out.old) (O.text out.new)) }
     ensures stopped { IfErr result (IsStopped (onward_of left sections.entry now.entry)) }
 {
     let reader = dynamic_struct::Reader::new(sections, now.walk.get_schema());
@@ -171,7 +171,7 @@ fn print_slot<O: Out>(
     out: &mut O,
 ) -> Result<(), Stop<O::Error>>
     requires field { IsFieldOf (schema_of reader) (index_of field) field }
-    requires slot { IsSlot field }
+    requires slot { IsSlotField field }
     ensures put { OnOk result (IsPut (O.text out.old)
         (field_shown left at reader.entry (field_in reader.entry field.entry)) (O.text out.new)) }
     ensures stopped { IfErr result (IsStopped (field_shown left at reader.entry (field_in reader.entry field.entry))) }

@@ -7,7 +7,7 @@ use Rattle.capnp_wire.specs.Facts.Lists.{IsWellFormed-data, IsWellFormed-text}
 use Rattle.capnp_schema.specs.Schema.{DataValue, FieldKind, Group, ListValue, Schemas, Slot, StructValue, TextValue, brand_at, field_at, kind_default, node_of}
 use Rattle.capnp_schema.specs.Schema.{Value as SchemaValue}
 use Rattle.capnp_schema.specs.Types.{SchemaType}
-use Rattle.capnp_schema.specs.Accepted.{Decodes, EachField, IsAccepted, KindDefault, root_of}
+use Rattle.capnp_schema.specs.Accepted.{Decodes, EachField, IsAccepted, KindDefault, words_root}
 use Rattle.capnp_schema.specs.Ranges.{HasRanges, ValueFits}
 use Rattle.capnp_records.specs.Facts.Members.{default-decodes}
 use Rattle.capnp_records.specs.Given.{data_tree}
@@ -17,8 +17,8 @@ use Rattle.capnp_base.specs.Text.{text_tree}
 abbrev pub DefaultFormed : SchemaValue → Type 0
 DefaultFormed (TextValue bytes) = IsWellFormed (text_tree bytes)
 DefaultFormed (DataValue bytes) = IsWellFormed (data_tree bytes)
-DefaultFormed (StructValue words) = IsWellFormed (root_of words)
-DefaultFormed (ListValue words) = IsWellFormed (root_of words)
+DefaultFormed (StructValue words) = IsWellFormed (words_root words)
+DefaultFormed (ListValue words) = IsWellFormed (words_root words)
 DefaultFormed d = ⊤
 
 pub record HasFormedParts (set : Schemas) : Type 0 where
@@ -26,7 +26,7 @@ pub record HasFormedParts (set : Schemas) : Type 0 where
   pub pointers : (b : ℕ) → (node_of set b).pointer_count < 2 ^ 16
   pub defaults : EachField set (λ b i f. KindDefault (λ d t. DefaultFormed d) f.field.kind f.type)
 
-pub formed-words : (words : List ℕ) → AreBytes words → IsWellFormed (root_of words)
+pub formed-words : (words : List ℕ) → AreBytes words → IsWellFormed (words_root words)
 formed-words words h = IsWellFormed-tree_at 64 (words ∷ []) (slice_index_or (words ∷ []) 0 []) 0 segments h
   where
     segments : AreSegments (words ∷ [])

@@ -8,16 +8,16 @@ use Rattle.capnp_wire.specs.Tree.{StructTree, Structs, Tree, Trees}
 use Rattle.capnp_wire.specs.declared.fault.Fault.{Fault}
 use Rattle.capnp_wire.specs.declared.fault.Fault.TheVariants as fault
 use Rattle.capnp_wire.specs.declared.size.ElementSize.{ElementSize}
-use Rattle.capnp_schema.specs.Accepted.{root_of}
+use Rattle.capnp_schema.specs.Accepted.{words_root}
 use Rattle.capnp_schema.specs.Schema.{DataValue, Field, FieldKind, Group, ListValue, Node, Schemas, Slot, StructValue, TextValue, TypedField, fields_of, is_member, node_of}
 use Rattle.capnp_schema.specs.Schema.{Value as SchemaValue}
 use Rattle.capnp_schema.specs.SlotValue.{slot_number}
 use Rattle.capnp_schema.specs.Types.{AnyPointerType, BoolType, DataType, EnumType, IntType, ListType, SchemaType, StructType, TextType, UIntType, VoidType, element_size, is_pointer, struct_brand}
 use Rattle.capnp_records.specs.Part.{active_value, nth_value, part_at}
 use Rattle.capnp_records.specs.Default.{default_levels, default_value, empty_value, read_of, unless_null}
-use Rattle.capnp_records.specs.Reading.{Below, Body, Reading, active_among, bodies_of, bytes_below, discriminant, element_value, elements_value, entered, first_pointer, group_record, kind_value, nth_body, nth_reading, null, number_value, of_read, only_reading, plain_parts, pointers_below, reads, record_of, record_within, slot_value, struct_below, structs_below, tree_value, union_of, value_of, values_of}
+use Rattle.capnp_records.specs.Reading.{Below, Body, Reading, active_among, bodies_of, bytes_below, discriminant, element_value, elements_value, entered_value, first_pointer, group_record, kind_value, nth_body, nth_reading, null, number_value, of_read, only_reading, non_union_parts, pointers_below, reads, record_of, record_within, slot_value, struct_below, structs_below, tree_value, union_of, value_of, values_of}
 use Rattle.capnp_records.specs.Record as value
-use Rattle.capnp_records.specs.Record.{Active, Endless, Levels, MoreValues, NoUnion, NoValues, Parts, Record, Union, Unknown, Value, Values, asked, is_there, one_less, values_from}
+use Rattle.capnp_records.specs.Record.{Active, Endless, Levels, MoreValues, NoUnion, NoValues, Parts, Record, Union, Unknown, Value, Values, levels_asked, is_there, one_less, values_from}
 
 -- the kinds that a read of a tree is refused with
 abbrev pub is_read_kind : ErrorKind → Bool
@@ -138,8 +138,8 @@ read-sound : {A : Type 0} (f : A → Value) (r : Result A ErrorKind) → ((a : A
 read-sound f (Ok a) h told = h a
 read-sound f (Err kind) h told = told
 
-entered-sound : (l : Levels) (v : Value) → Sound v → Sound (entered l v)
-entered-sound l v h = go (asked l == 0)
+entered-sound : (l : Levels) (v : Value) → Sound v → Sound (entered_value l v)
+entered-sound l v h = go (levels_asked l == 0)
   where
     go : (q : Bool) → Sound (elim q as (λ _. Value) [ true ↦ value.Fault TooDeep | false ↦ v ])
     go true = refl
@@ -185,7 +185,7 @@ module _ (set : Schemas) where
         group-sound None = (tt, tt)
         group-sound (Some b) = h b
 
-    plain-sound : (v : TypedField → Value) → ((f : TypedField) → Sound (v f)) → (fs : List TypedField) → AllSound (plain_parts v fs)
+    plain-sound : (v : TypedField → Value) → ((f : TypedField) → Sound (v f)) → (fs : List TypedField) → AllSound (non_union_parts v fs)
     plain-sound v h [] = tt
     plain-sound v h (f ∷ fs) = (go (is_member f.field), plain-sound v h fs)
       where
@@ -245,11 +245,11 @@ module _ (set : Schemas) where
   tree-sound x below all l TextType = read-sound value.Text (as_text x) (λ bytes. tt) (as_text-told x)
   tree-sound x below all l DataType = read-sound value.Data (as_data x) (λ bytes. tt) (as_data-told x)
   tree-sound x below all l (StructType b g) =
-      read-sound (λ (s : StructTree). value.Struct (record_of set (one_less l) s.bytes below.pointers b)) (as_struct x (asked l))
-      (λ s. record-sound (one_less l) s.bytes below.pointers all.pointers (suc (length set.brands)) b) (as_struct-told x (asked l))
+      read-sound (λ (s : StructTree). value.Struct (record_of set (one_less l) s.bytes below.pointers b)) (as_struct x (levels_asked l))
+      (λ s. record-sound (one_less l) s.bytes below.pointers all.pointers (suc (length set.brands)) b) (as_struct-told x (levels_asked l))
   tree-sound x below all l (ListType e) =
-      read-sound (λ (_ : Tree). elements_value set x below (one_less l) e) (as_list (element_size e) x (asked l))
-      (λ _. row-sound (element_value set x below (one_less l) e) (element-sound x below all (one_less l) e) 0 (list_length x)) (as_list-told (element_size e) x (asked l))
+      read-sound (λ (_ : Tree). elements_value set x below (one_less l) e) (as_list (element_size e) x (levels_asked l))
+      (λ _. row-sound (element_value set x below (one_less l) e) (element-sound x below all (one_less l) e) 0 (list_length x)) (as_list-told (element_size e) x (levels_asked l))
   tree-sound x below all l AnyPointerType = tt
 
   -- ---- what stands below ----
@@ -269,7 +269,7 @@ module _ (set : Schemas) where
   pointers-below rs all = record { pointers = tt; element_pointers = nth-sound rs all; element_bodies = only-sound rs all }
 
   first-sound : (body : Body) → AllReadings body.pointers → ReadingSound (first_pointer set body)
-  first-sound body all l t = go (is_there (nth_reading body.pointers 0 l t) && (asked l == 0))
+  first-sound body all l t = go (is_there (nth_reading body.pointers 0 l t) && (levels_asked l == 0))
     where
       go : (q : Bool) → Sound (elim q as (λ _. Value) [ true ↦ tree_value set (tree.FaultLeaf fault.TooDeep) (struct_below []) l t | false ↦ nth_reading body.pointers 0 (one_less l) t ])
       go true = tree-sound (tree.FaultLeaf fault.TooDeep) (struct_below []) (struct-below [] tt) l t
@@ -321,8 +321,8 @@ module _ (set : Schemas) where
   default-sound : (l : Levels) (d : SchemaValue) (t : SchemaType) → Sound (default_value set l d t)
   default-sound l (TextValue bytes) TextType = tt
   default-sound l (DataValue bytes) DataType = tt
-  default-sound l (StructValue words) (StructType b g) = entered-sound l _ (unless_null-sound l (StructType b g) (root_of words))
-  default-sound l (ListValue words) (ListType e) = entered-sound l _ (unless_null-sound l (ListType e) (root_of words))
+  default-sound l (StructValue words) (StructType b g) = entered-sound l _ (unless_null-sound l (StructType b g) (words_root words))
+  default-sound l (ListValue words) (ListType e) = entered-sound l _ (unless_null-sound l (ListType e) (words_root words))
   default-sound l d (StructType b g) = entered-sound l _ (empty-sound l (StructType b g))
   default-sound l d (ListType e) = entered-sound l _ (empty-sound l (ListType e))
   default-sound l d t = empty-sound l t

@@ -3,16 +3,16 @@ use Rattle.std.specs.Prelude.{ℕ, ◌≡◌, refl, List, [], ◌∷◌, ◌++�
 use Rattle.std.specs.Str.{IsUtf8}
 use Rattle.std.proofs.lemmas.Str.{IsUtf8-nil}
 use Rattle.std.proofs.Common.{ap, append_assoc, append-nil, sym, ◌∙◌}
-use Rattle.capnp_records.specs.Text.{Byte, DebugForm, IsSpelled, IsText, Out, Pieces, after, known, said}
+use Rattle.capnp_records.specs.Text.{Byte, DebugForm, IsSpelled, IsText, Out, Pieces, after, known_pieces, said_text}
 
 -- bytes that are known are spelled so
-pub known_spelled : (bytes : List ℕ) → IsSpelled (known bytes) bytes
+pub known_spelled : (bytes : List ℕ) → IsSpelled (known_pieces bytes) bytes
 unfolding IsSpelled
 known_spelled [] = refl
 known_spelled (b ∷ bytes) = (bytes, known_spelled bytes, refl)
 
 -- and not otherwise
-pub spelled_known : (known_bytes bytes : List ℕ) → IsSpelled (known known_bytes) bytes → bytes ≡ known_bytes
+pub spelled_known : (known_bytes bytes : List ℕ) → IsSpelled (known_pieces known_bytes) bytes → bytes ≡ known_bytes
 unfolding IsSpelled
 spelled_known [] bytes h = h
 spelled_known (b ∷ bs) bytes (rest, h, e) = e ∙ ap (λ (xs : List ℕ). b ∷ xs) (spelled_known bs rest h)
@@ -56,11 +56,11 @@ both_text (Ok a) (Err kind) xs ys h k = absurd k
 both_text (Err kind) b xs ys h k = absurd h
 
 -- known bytes, one after another
-pub known_both : (a b : List ℕ) → known (a ++ b) ≡ known a ++ known b
+pub known_both : (a b : List ℕ) → known_pieces (a ++ b) ≡ known_pieces a ++ known_pieces b
 known_both [] b = refl
 known_both (x ∷ a) b = ap (λ (pieces : Pieces). Byte x ∷ pieces) (known_both a b)
 
-pub said_both : (a b : List ℕ) → after (said a) (said b) ≡ said (a ++ b)
+pub said_both : (a b : List ℕ) → after (said_text a) (said_text b) ≡ said_text (a ++ b)
 said_both a b = ap Ok (sym (known_both a b))
 
 -- of a text that is said what it is
@@ -68,9 +68,9 @@ abbrev bytes_said : Out → List ℕ
 bytes_said (Ok pieces) = some_bytes pieces
 bytes_said (Err kind) = []
 
-known-again : (bytes : List ℕ) → some_bytes (known bytes) ≡ bytes
+known-again : (bytes : List ℕ) → some_bytes (known_pieces bytes) ≡ bytes
 known-again [] = refl
 known-again (b ∷ bytes) = ap (λ (xs : List ℕ). b ∷ xs) (known-again bytes)
 
-pub same_said : (a b : List ℕ) → said a ≡ said b → a ≡ b
+pub same_said : (a b : List ℕ) → said_text a ≡ said_text b → a ≡ b
 same_said a b e = sym (known-again a) ∙ (ap bytes_said e ∙ known-again b)

@@ -12,14 +12,14 @@ use Rattle.capnp_schema.specs.Schema.{Schemas, VoidValue, FieldKind, Slot, Group
 use Rattle.capnp_schema.specs.Schema.{Value as SchemaValue}
 use Rattle.capnp_schema.specs.Query.{records_of, field_named}
 use Rattle.capnp_schema.specs.Accepted.{NamesEntries}
-use Rattle.capnp_schema.specs.Laws.{struct_names}
+use Rattle.capnp_schema.specs.Laws.{struct_spots}
 use Rattle.capnp_records.specs.Record as value
 use Rattle.capnp_records.specs.Record.{Endless, Value}
 use Rattle.capnp_records.specs.Reading.{number_value, value_of, reads}
 use Rattle.capnp_records.specs.Call.{PathStep, FieldNumber, FieldNamed, ElementAt}
 use Rattle.capnp_records.specs.Writes.Slots.{At, with_content, Writes, Fits}
 use Rattle.capnp_schema.specs.Plan.{brand_size}
-use Rattle.capnp_records.specs.Writes.Fill.{IsAtRest, filled_struct, or_default, filled_list}
+use Rattle.capnp_records.specs.Writes.Fill.{IsAtRest, filled_slot_struct, list_or_default, filled_list}
 
 -- a struct, the struct of a group, or a list
 pub data Stand : Type 0 where
@@ -27,10 +27,10 @@ pub data Stand : Type 0 where
   OnGroup : StructTree → Stand
   OnList : Tree → Stand
 
-abbrev pub seen : Schemas → SchemaType → Stand → Value
-seen set t (OnStruct s) = value.Struct (reads set s (struct_number t))
-seen set t (OnGroup s) = value.Group (reads set s (struct_number t))
-seen set t (OnList x) = value_of set x Endless t
+abbrev pub seen_stand : Schemas → SchemaType → Stand → Value
+seen_stand set t (OnStruct s) = value.Struct (reads set s (struct_number t))
+seen_stand set t (OnGroup s) = value.Group (reads set s (struct_number t))
+seen_stand set t (OnList x) = value_of set x Endless t
 
 abbrev pub stand_tree : Stand → Tree
 stand_tree (OnStruct s) = struct_tree s
@@ -68,7 +68,7 @@ step_field set b step = field_at set b (step_index set b step)
 
 -- what a builder's get of a slot stands on
 abbrev pub entered_slot : Schemas → SchemaValue → SchemaType → Tree → Stand
-entered_slot set d (StructType b g) x = OnStruct (filled_struct set b d x)
+entered_slot set d (StructType b g) x = OnStruct (filled_slot_struct set b d x)
 entered_slot set d (ListType e) x = OnList (filled_list set e d x)
 entered_slot set d t x = OnList x
 
@@ -99,17 +99,17 @@ entered_field set f s = entered_kind set f.field.kind f.type s
 abbrev pub left_field : TypedField → StructTree → Stand → StructTree
 left_field f s inner = left_kind f.field.kind f.type s inner
 
-abbrev pub entered : Schemas → SchemaType → Stand → PathStep → Stand
-entered set (StructType b g) (OnStruct s) step = entered_field set (step_field set b step) s
-entered set (StructType b g) (OnGroup s) step = entered_field set (step_field set b step) s
-entered set (ListType e) (OnList x) step = entered_element set e x (step_index set 0 step)
-entered set t old step = old
+abbrev pub entered_stand : Schemas → SchemaType → Stand → PathStep → Stand
+entered_stand set (StructType b g) (OnStruct s) step = entered_field set (step_field set b step) s
+entered_stand set (StructType b g) (OnGroup s) step = entered_field set (step_field set b step) s
+entered_stand set (ListType e) (OnList x) step = entered_element set e x (step_index set 0 step)
+entered_stand set t old step = old
 
-abbrev pub left : Schemas → SchemaType → Stand → PathStep → Stand → Stand
-left set (StructType b g) (OnStruct s) step inner = OnStruct (left_field (step_field set b step) s inner)
-left set (StructType b g) (OnGroup s) step inner = OnGroup (left_field (step_field set b step) s inner)
-left set (ListType e) (OnList x) step inner = OnList (left_element e x (step_index set 0 step) inner)
-left set t old step inner = old
+abbrev pub left_stand : Schemas → SchemaType → Stand → PathStep → Stand → Stand
+left_stand set (StructType b g) (OnStruct s) step inner = OnStruct (left_field (step_field set b step) s inner)
+left_stand set (StructType b g) (OnGroup s) step inner = OnGroup (left_field (step_field set b step) s inner)
+left_stand set (ListType e) (OnList x) step inner = OnList (left_element e x (step_index set 0 step) inner)
+left_stand set t old step inner = old
 
 -- ---- what a builder's handle stands on by its own invariants ----
 
@@ -133,8 +133,8 @@ pub record Sound (set : Schemas) (t : SchemaType) (stand : Stand) : Type 0 where
 
 -- what a call behind a part leaves of it: the same kind of part, a struct written inside what its brand names
 abbrev pub Kept : Schemas → SchemaType → Stand → Stand → Type 0
-Kept set t (OnStruct s) (OnStruct s') = Writes (struct_names set (struct_number t)) s s'
-Kept set t (OnGroup s) (OnGroup s') = Writes (struct_names set (struct_number t)) s s'
+Kept set t (OnStruct s) (OnStruct s') = Writes (struct_spots set (struct_number t)) s s'
+Kept set t (OnGroup s) (OnGroup s') = Writes (struct_spots set (struct_number t)) s s'
 Kept set (ListType e) (OnList x) (OnList x') = ListSound set e x'
 Kept set t a b = ⊥
 
@@ -147,7 +147,7 @@ HasElement set t old step = ⊤
 
 -- the list of structs that is entered at a slot is within the format with the sizes that its elements get
 abbrev pub SlotWithin : Schemas → SchemaType → SchemaValue → Tree → Type 0
-SlotWithin set (ListType (StructType b g)) d x = struct_list_refusal (brand_size set b) (or_default d x) ≡ None
+SlotWithin set (ListType (StructType b g)) d x = struct_list_refusal (brand_size set b) (list_or_default d x) ≡ None
 SlotWithin set t d x = ⊤
 
 abbrev pub KindWithin : Schemas → FieldKind → SchemaType → StructTree → Type 0
@@ -157,11 +157,11 @@ KindWithin set (Group node) t s = ⊤
 abbrev pub FieldWithin : Schemas → TypedField → StructTree → Type 0
 FieldWithin set f s = KindWithin set f.field.kind f.type s
 
-abbrev pub IsWithin : Schemas → SchemaType → Stand → PathStep → Type 0
-IsWithin set (StructType b g) (OnStruct s) step = FieldWithin set (step_field set b step) s
-IsWithin set (StructType b g) (OnGroup s) step = FieldWithin set (step_field set b step) s
-IsWithin set (ListType e) (OnList x) step = SlotWithin set e VoidValue (element_pointer x (step_index set 0 step) 1)
-IsWithin set t old step = ⊤
+abbrev pub IsStepWithin : Schemas → SchemaType → Stand → PathStep → Type 0
+IsStepWithin set (StructType b g) (OnStruct s) step = FieldWithin set (step_field set b step) s
+IsStepWithin set (StructType b g) (OnGroup s) step = FieldWithin set (step_field set b step) s
+IsStepWithin set (ListType e) (OnList x) step = SlotWithin set e VoidValue (element_pointer x (step_index set 0 step) 1)
+IsStepWithin set t old step = ⊤
 
 -- ---- steps that take no memory ----
 

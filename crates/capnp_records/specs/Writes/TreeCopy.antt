@@ -9,33 +9,33 @@ use Rattle.capnp_schema.specs.Types.{SchemaType, TextType, DataType, StructType,
 use Rattle.capnp_schema.specs.Schema.{Schemas, TextValue, DataValue, StructValue, ListValue, FieldKind, Slot, Group, TypedField, node_of, field_at}
 use Rattle.capnp_schema.specs.Schema.{Value as SchemaValue}
 use Rattle.capnp_schema.specs.SlotValue.{bits_at}
-use Rattle.capnp_schema.specs.Accepted.{root_of}
+use Rattle.capnp_schema.specs.Accepted.{words_root}
 use Rattle.capnp_records.specs.Record.{Levels}
 use Rattle.capnp_records.specs.Reading.{struct_record}
 use Rattle.capnp_records.specs.Given.{copy_refusal, data_tree, Given, Gives, Copies, CopiesGroup, Fails}
 use Rattle.capnp_base.specs.Text.{text_tree}
 use Rattle.capnp_records.specs.GroupCopy.{slot_copy, copied_fields}
 use Rattle.capnp_records.specs.Writes.Slots.{Content, Bits, At}
-use Rattle.capnp_records.specs.Writes.Overlay.{switched, with_slot, cleared_group}
+use Rattle.capnp_records.specs.Writes.Overlay.{switched_struct, with_slot, cleared_group}
 
 -- ---- a default as a tree, which a builder's get of a null writes and a copy of a null gives ----
 
 abbrev pub or_else : Tree → Tree → Tree
 or_else x other = elim (is_null_tree x) [ true ↦ other | false ↦ x ]
 
-abbrev pub default_tree : SchemaValue → SchemaType → Tree
-default_tree (TextValue bytes) TextType = text_tree bytes
-default_tree (DataValue bytes) DataType = data_tree bytes
-default_tree (StructValue words) (StructType b g) = or_else (root_of words) (struct_tree empty_struct)
-default_tree (ListValue words) (ListType e) = or_else (root_of words) (empty_list (element_size e))
-default_tree d TextType = text_tree []
-default_tree d DataType = data_tree []
-default_tree d (StructType b g) = struct_tree empty_struct
-default_tree d (ListType e) = empty_list (element_size e)
-default_tree d t = Null
+abbrev pub slot_default_tree : SchemaValue → SchemaType → Tree
+slot_default_tree (TextValue bytes) TextType = text_tree bytes
+slot_default_tree (DataValue bytes) DataType = data_tree bytes
+slot_default_tree (StructValue words) (StructType b g) = or_else (words_root words) (struct_tree empty_struct)
+slot_default_tree (ListValue words) (ListType e) = or_else (words_root words) (empty_list (element_size e))
+slot_default_tree d TextType = text_tree []
+slot_default_tree d DataType = data_tree []
+slot_default_tree d (StructType b g) = struct_tree empty_struct
+slot_default_tree d (ListType e) = empty_list (element_size e)
+slot_default_tree d t = Null
 
 abbrev pub read_tree : SchemaValue → SchemaType → Tree → Tree
-read_tree d t x = or_else x (default_tree d t)
+read_tree d t x = or_else x (slot_default_tree d t)
 
 -- ---- the copies ----
 
@@ -62,8 +62,8 @@ abbrev pub TreeCopiesPart : TreeCopying → Schemas → Levels → StructTree �
 TreeCopiesPart group set l source b f (Slot offset d) s copied refused cut =
     TreeCopiesSlot (slot_copy set l source offset d f.type) (copied (with_slot set b f offset (copied_content source offset d f.type) s)) refused
 TreeCopiesPart group set l source b f (Group node) s copied refused cut =
-    ((y : StructTree) × group (struct_number f.type) (switched (node_of set b) f.field s) None y × copied y)
-    ⊎ ((kind : ErrorKind) × (y : StructTree) × group (struct_number f.type) (switched (node_of set b) f.field s) (Some kind) y × cut kind y)
+    ((y : StructTree) × group (struct_number f.type) (switched_struct (node_of set b) f.field s) None y × copied y)
+    ⊎ ((kind : ErrorKind) × (y : StructTree) × group (struct_number f.type) (switched_struct (node_of set b) f.field s) (Some kind) y × cut kind y)
 
 abbrev pub TreeCopiesFields : TreeCopying → Schemas → Levels → StructTree → ℕ → List ℕ → StructTree → Option ErrorKind → StructTree → Type 0
 TreeCopiesFields group set l source b [] s refused s' = (refused ≡ None) × (s' ≡ s)

@@ -6,7 +6,7 @@ use Rattle.std.specs.Option.{unwrap_or}
 use Rattle.std.proofs.lemmas.Option.{slice_get_within, unwrap_or-slice_get}
 use Rattle.capnp_device.specs.declared.error.ErrorKind.{ErrorKind}
 use Rattle.capnp_device.specs.declared.error.SchemaTable.TheVariants.{Brand as InBrands}
-use Rattle.capnp_base.specs.Types.{element_size as size_of_variant, variant_of}
+use Rattle.capnp_base.specs.Types.{variant_element_size as size_of_variant, variant_of}
 use Rattle.capnp_base.specs.declared.introspect.«Type».{«Type» as TypeHandle}
 use Rattle.capnp_base.specs.declared.introspect.TypeVariant.{TypeVariant}
 use Rattle.capnp_wire.specs.Reading.{as_list}
@@ -15,7 +15,7 @@ use Rattle.capnp_wire.specs.Tree.{Tree}
 use Rattle.capnp_wire.specs.declared.size.ElementSize.{ElementSize}
 use Rattle.capnp_schema.specs.Types.{SchemaType, element_size, seen_type, seen_variant}
 use Rattle.capnp_schema.specs.Schema.{Schemas, ListValue, TypedField, fields_of, no_field}
-use Rattle.capnp_schema.specs.Accepted.{HaveAllWords, ListDefaultsRead, ListReads, ReadsDefault, ReadsElements, Rule6, root_of}
+use Rattle.capnp_schema.specs.Accepted.{HaveAllWords, ListDefaultsRead, ListReads, ReadsDefault, ReadsElements, Rule6, words_root}
 use Rattle.capnp_schema.specs.Broken.{IsBroken, default_list}
 use Rattle.capnp_schema.specs.Facts.Fields.{brand_there}
 use Rattle.capnp_schema.specs.Facts.Layers.{elements_sized, seen_which}
@@ -36,11 +36,11 @@ one_level size (tree.FaultLeaf k) = refl
 
 -- whether a list was found says whether words are read as such elements
 pub read_decides : (b : Bool) (found : Result Tree ErrorKind) (element : TypeHandle) (words : List ℕ) (size : ElementSize) (t : Tree) (levels : ℕ)
-    → b ≡ is_ok found → found ≡ as_list size t levels → size ≡ size_of_variant (variant_of element) → t ≡ root_of words → levels ≡ 64
-    → IsTrue b ↔ ReadsElements (seen_type element) (root_of words)
+    → b ≡ is_ok found → found ≡ as_list size t levels → size ≡ size_of_variant (variant_of element) → t ≡ words_root words → levels ≡ 64
+    → IsTrue b ↔ ReadsElements (seen_type element) (words_root words)
 read_decides b found element words size t levels is read sized tree all = (λ yes. sym same ∙ yes, λ yes. same ∙ yes)
   where
-    same : b ≡ is_ok (as_list (element_size (seen_type element)) (root_of words) 1)
+    same : b ≡ is_ok (as_list (element_size (seen_type element)) (words_root words) 1)
     same = is ∙ ap is_ok (read ∙ ap (λ n. as_list size t n) all ∙ one_level size t ∙ ap (λ s. as_list s t 1) (sized ∙ elements_sized element) ∙ ap (λ x. as_list (element_size (seen_type element)) x 1) tree)
 
 module _ (set : Schemas) (b i : ℕ) (f : TypedField) (here : slice_get (fields_of set b) i ≡ Some f) where

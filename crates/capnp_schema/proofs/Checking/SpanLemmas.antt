@@ -11,7 +11,7 @@ use Rattle.capnp_schema.specs.Entries.{brand_node, seen_typed}
 use Rattle.capnp_schema.specs.Footprint.{Spot, DataBit, PointerAt, is_in, slot_names, group_names, kind_names, some_field, brand_names, discriminant_names}
 use Rattle.capnp_schema.specs.declared.check.spans.Span.{Span}
 use Rattle.capnp_schema.specs.declared.check.spans.Span.TheVariants.{Data, Pointer}
-use Rattle.capnp_schema.specs.Checking.Spans.{span_names, some_span, field_names, entry_names, some_brand, reached}
+use Rattle.capnp_schema.specs.Checking.Spans.{span_names, some_span, field_names, entry_names, some_brand, reached_spot}
 use Rattle.capnp_schema.proofs.FoundEntries.{found_node}
 use Rattle.capnp_schema.proofs.GroupTargets.{node_missing}
 
@@ -98,7 +98,7 @@ or_none true = refl
 or_none false = refl
 
 -- one more span
-span_reached : (groups : ℕ) (set : Schemas) (out : List Span) (below : List ℕ) (s : Span) (p : Spot) → reached groups set (out ++ s ∷ []) below p ≡ (reached groups set out below p || span_names s p)
+span_reached : (groups : ℕ) (set : Schemas) (out : List Span) (below : List ℕ) (s : Span) (p : Spot) → reached_spot groups set (out ++ s ∷ []) below p ≡ (reached_spot groups set out below p || span_names s p)
 span_reached groups set out below s p =
     ap (λ x. x || some_brand groups set below p) (some_span-append out s p) ∙ or_swap (some_span out p) (span_names s p) (some_brand groups set below p)
 
@@ -124,12 +124,12 @@ field_added groups set fs p before after i whole one kept =
 -- a struct's fields and its discriminant
 pub brand_added : (set : Schemas) (groups b : ℕ) (p : Spot) (before : Bool) (out : List Span) (below : List ℕ) (n : Node) (s : Span)
     → Some n ≡ brand_node set b
-    → reached groups set out below p ≡ (before || some_field (field_names groups set) (fields_of set b) p)
+    → reached_spot groups set out below p ≡ (before || some_field (field_names groups set) (fields_of set b) p)
     → span_names s p ≡ discriminant_names n p
-    → reached groups set (out ++ s ∷ []) below p ≡ (before || brand_names (suc groups) set b p)
+    → reached_spot groups set (out ++ s ∷ []) below p ≡ (before || brand_names (suc groups) set b p)
 brand_added set groups b p before out below n s there fields names =
     span_reached groups set out below s p
-    ∙ ap (λ x. reached groups set out below p || x) (names ∙ ap (λ m. discriminant_names m p) (sym (found_node set b n there)))
+    ∙ ap (λ x. reached_spot groups set out below p || x) (names ∙ ap (λ m. discriminant_names m p) (sym (found_node set b n there)))
     ∙ ap (λ x. x || discriminant_names (node_of set b) p) fields
     ∙ or_assoc before (some_field (field_names groups set) (fields_of set b) p) (discriminant_names (node_of set b) p)
 
@@ -148,22 +148,22 @@ fields_alone set groups b p before after missing fields =
 -- one more slot
 pub slot_added : (groups : ℕ) (set : Schemas) (entry : Option TypedField) (f : TypedRecord) (offset : ℕ) (default : ValueRecord) (out : List Span) (below : List ℕ) (s : Span) (p : Spot)
     → Some (seen_typed f) ≡ entry → f.field.now.kind ≡ kind.Slot offset default → span_names s p ≡ slot_names offset (seen_type f.field_type.now) p
-    → reached groups set (out ++ s ∷ []) below p ≡ (reached groups set out below p || entry_names groups set entry p)
+    → reached_spot groups set (out ++ s ∷ []) below p ≡ (reached_spot groups set out below p || entry_names groups set entry p)
 slot_added groups set entry f offset default out below s p there is names =
     span_reached groups set out below s p
-    ∙ ap (λ x. reached groups set out below p || x) (names ∙ ap (λ k. kind_names (brand_names groups set) (seen_kind k) (seen_type f.field_type.now) p) (sym is) ∙ ap (λ e. entry_names groups set e p) there)
+    ∙ ap (λ x. reached_spot groups set out below p || x) (names ∙ ap (λ k. kind_names (brand_names groups set) (seen_kind k) (seen_type f.field_type.now) p) (sym is) ∙ ap (λ e. entry_names groups set e p) there)
 
 -- one more group
 pub group_added : (groups : ℕ) (set : Schemas) (entry : Option TypedField) (f : TypedRecord) (node g : ℕ) (out : List Span) (below : List ℕ) (p : Spot)
     → Some (seen_typed f) ≡ entry → f.field.now.kind ≡ kind.Group node → Some g ≡ struct_brand (seen_type f.field_type.now)
-    → reached groups set out (below ++ g ∷ []) p ≡ (reached groups set out below p || entry_names groups set entry p)
+    → reached_spot groups set out (below ++ g ∷ []) p ≡ (reached_spot groups set out below p || entry_names groups set entry p)
 group_added groups set entry f node g out below p there is target =
     ap (λ x. some_span out p || x) (some_brand-append groups set below g p)
     ∙ sym (or_assoc (some_span out p) (some_brand groups set below p) (brand_names groups set g p))
-    ∙ ap (λ x. reached groups set out below p || x) (ap (λ t. group_names (brand_names groups set) t p) target ∙ ap (λ k. kind_names (brand_names groups set) (seen_kind k) (seen_type f.field_type.now) p) (sym is) ∙ ap (λ e. entry_names groups set e p) there)
+    ∙ ap (λ x. reached_spot groups set out below p || x) (ap (λ t. group_names (brand_names groups set) t p) target ∙ ap (λ k. kind_names (brand_names groups set) (seen_kind k) (seen_type f.field_type.now) p) (sym is) ∙ ap (λ e. entry_names groups set e p) there)
 
 -- nothing is reached below the last depth
-pub reached_all : (set : Schemas) (out : List Span) (brands : List ℕ) (p : Spot) → reached 0 set out brands p ≡ some_span out p
+pub reached_all : (set : Schemas) (out : List Span) (brands : List ℕ) (p : Spot) → reached_spot 0 set out brands p ≡ some_span out p
 reached_all set out brands p = ap (λ x. some_span out p || x) (none brands) ∙ or_none (some_span out p)
   where
     none : (bs : List ℕ) → some_brand 0 set bs p ≡ false

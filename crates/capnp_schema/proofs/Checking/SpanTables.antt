@@ -8,7 +8,7 @@ use Rattle.capnp_schema.specs.Footprint.{Spot, footprint, discriminant_names}
 use Rattle.capnp_schema.specs.Accepted.{FieldsApart, DiscriminantApart}
 use Rattle.capnp_schema.specs.Broken.{FieldBreaks}
 use Rattle.capnp_schema.specs.declared.check.spans.Span.{Span}
-use Rattle.capnp_schema.specs.Checking.Spans.{some_span, entry_names, SpansMeet, AreSpansOf, IsNamedBy}
+use Rattle.capnp_schema.specs.Checking.Spans.{some_span, entry_names, SpansMeet, AreSpansOf, IsSpotNamedBy}
 use Rattle.capnp_schema.specs.Tables.{items_of, table_at}
 use Rattle.capnp_schema.proofs.EntryTables.{EachTable}
 use Rattle.capnp_schema.proofs.Checking.FieldWalk.{one_more}
@@ -81,7 +81,7 @@ pub apart_from_member : (set : Schemas) (b i : ℕ) → (is_member (field_at set
 apart_from_member set b i member j p within ne plain named = absurd (member plain)
 
 -- two fields, of which one is plain, that name a place
-pub named_twice : (set : Schemas) (b i j other : ℕ) (p : Spot) → b < length set.brands → IsNamedBy set b p other true i → IsNamedBy set b p i false j → FieldBreaks set (FieldsApart set b i) b i
+pub named_twice : (set : Schemas) (b i j other : ℕ) (p : Spot) → b < length set.brands → IsSpotNamedBy set b p other true i → IsSpotNamedBy set b p i false j → FieldBreaks set (FieldsApart set b i) b i
 named_twice set b i j other p within n m = record {
   brand = within;
   field = n.field;
@@ -89,7 +89,7 @@ named_twice set b i j other p within n m = record {
 }
 
 -- a field that names a place of the discriminant
-pub discriminant_named : (set : Schemas) (b i other : ℕ) (plain : Bool) (p : Spot) → b < length set.brands → IsNamedBy set b p other plain i → discriminant_names (node_of set b) p ≡ true → FieldBreaks set (DiscriminantApart set b) b i
+pub discriminant_named : (set : Schemas) (b i other : ℕ) (plain : Bool) (p : Spot) → b < length set.brands → IsSpotNamedBy set b p other plain i → discriminant_names (node_of set b) p ≡ true → FieldBreaks set (DiscriminantApart set b) b i
 discriminant_named set b i other plain p within n d = record {
   brand = within;
   field = n.field;

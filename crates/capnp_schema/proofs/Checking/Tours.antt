@@ -7,7 +7,7 @@ use Rattle.std.proofs.lemmas.Option.{slice_get_within, same_Some, slice_get_past
 use Rattle.capnp_schema.specs.Schema.{Schemas, fields_of}
 use Rattle.capnp_schema.specs.Footprint.{Spot}
 use Rattle.capnp_schema.specs.Checking.Spans.{span_names, entry_names}
-use Rattle.capnp_schema.specs.Checking.Levels.{IsOpen, AreOpen, AreInOrder, mark_at, IsClaimed, member_at, Names, PlainDone, by_discriminant, by_plain, Done, among_plain, by_member, IsCurrent, plain, member, IsClear, LevelStands, IsAbove, IsCurrentGroup, LevelsStand, TourStands}
+use Rattle.capnp_schema.specs.Checking.Levels.{IsOpen, AreOpen, AreInOrder, mark_at, IsClaimed, member_at, Names, NonUnionDone, by_discriminant, by_plain, Done, among_plain, by_member, IsCurrent, plain, member, IsClear, LevelStands, IsAbove, IsCurrentGroup, LevelsStand, TourStands}
 use Rattle.capnp_schema.specs.declared.check.claims.Claims.{Claims}
 use Rattle.capnp_schema.specs.declared.check.claims.Level.{Level}
 use Rattle.capnp_schema.specs.declared.check.spans.Span.{Span}
@@ -35,7 +35,7 @@ order_of_one l le = record { each = each; pairs = pairs }
 
 -- ---- what is past, and more of it ----
 
-pub plain_more : (set : Schemas) (b s t : ℕ) (p : Spot) → s ≤ t → PlainDone set b s p → PlainDone set b t p
+pub plain_more : (set : Schemas) (b s t : ℕ) (p : Spot) → s ≤ t → NonUnionDone set b s p → NonUnionDone set b t p
 plain_more set b s t p le (by_discriminant e) = by_discriminant e
 plain_more set b s t p le (by_plain i m lt n) = by_plain i m (omega arith) n
 
@@ -74,7 +74,7 @@ levels_kept set old new now levels keeps s = record {
 }
 
 -- a place that is open to a level is named by no plain field that it is past
-pub open_is_apart : (set : Schemas) (mark : Spot → ℕ) (now : ℕ) (l : Level) (p : Spot) → LevelStands set mark now l → IsOpen l (mark p) → PlainDone set l.brand l.steps p → ⊥
+pub open_is_apart : (set : Schemas) (mark : Spot → ℕ) (now : ℕ) (l : Level) (p : Spot) → LevelStands set mark now l → IsOpen l (mark p) → NonUnionDone set l.brand l.steps p → ⊥
 open_is_apart set mark now l p s o d = o (s.started p (among_plain d)) (s.plain p d)
 
 -- ---- another top ----
@@ -164,7 +164,7 @@ pub record NewStands (set : Schemas) (mark : Spot → ℕ) (below : List Level) 
   pub clear : IsClear set b i
   pub started : (p : Spot) → Names set b i p → start ≤ mark p
   pub plain : (p : Spot) → Names set b i p → member_at set b i ≡ false → mark p < plain_end
-  pub apart : (p : Spot) → Names set b i p → (k : ℕ) (l : Level) → slice_get below k ≡ Some l → PlainDone set l.brand l.steps p → ⊥
+  pub apart : (p : Spot) → Names set b i p → (k : ℕ) (l : Level) → slice_get below k ≡ Some l → NonUnionDone set l.brand l.steps p → ⊥
 
 nothing_new : (set : Schemas) (mark : Spot → ℕ) (below : List Level) (b start plain_end i : ℕ) → length (fields_of set b) ≤ i → NewStands set mark below b start plain_end i
 nothing_new set mark below b start plain_end i past = record {
@@ -179,7 +179,7 @@ module _ (set : Schemas) (mark : Spot → ℕ) (now : ℕ) (below : List Level) 
   abbrev more : Level
   more = record { brand = top.brand; steps = top.steps + 1; start = top.start; plain_end = end }
 
-  plain_split : (p : Spot) → PlainDone set top.brand (top.steps + 1) p → PlainDone set top.brand top.steps p ⊎ ((i : ℕ) × IsNew set top.brand top.steps i × (member_at set top.brand i ≡ false) × Names set top.brand i p)
+  plain_split : (p : Spot) → NonUnionDone set top.brand (top.steps + 1) p → NonUnionDone set top.brand top.steps p ⊎ ((i : ℕ) × IsNew set top.brand top.steps i × (member_at set top.brand i ≡ false) × Names set top.brand i p)
   plain_split p (by_discriminant e) = inl (by_discriminant e)
   plain_split p (by_plain i m lt n) = ⊎_elim (λ less. inl (by_plain i m less n)) (λ le. inr (i, new_plain m (omega arith), m, n)) (cases_lt i top.steps)
 
@@ -224,7 +224,7 @@ module _ (set : Schemas) (mark : Spot → ℕ) (below : List Level) (b s start e
   new_none_late field le is m i (new_member n f) = absurd (let same : i ≡ field = omega arith in let e : member_at set b i ≡ false = ap (member_at set b) same ∙ m in cc)
 
 -- the field is clear, where it names nothing that the plain part of its level does
-pub clear_current : (set : Schemas) (b s field : ℕ) → IsCurrent set b s field → ((p : Spot) → Names set b field p → PlainDone set b s p → ⊥) → IsClear set b field
+pub clear_current : (set : Schemas) (b s field : ℕ) → IsCurrent set b s field → ((p : Spot) → Names set b field p → NonUnionDone set b s p → ⊥) → IsClear set b field
 clear_current set b s field (plain m lt e) h = record {
   plain = λ n p names d. h p names (plain_more set b field s p (omega arith) d);
   member = λ n. absurd (cc);
@@ -273,7 +273,7 @@ module _ (set : Schemas) (tour : Tour) (top : Level) where
       ends : (top.plain_end ≤ end) × (end ≤ tour.now + 1)
       ends = end_of (member_at set top.brand field)
 
-      all_apart : (p : Spot) → Names set top.brand field p → (k : ℕ) (l : Level) → slice_get levels k ≡ Some l → PlainDone set l.brand l.steps p → ⊥
+      all_apart : (p : Spot) → Names set top.brand field p → (k : ℕ) (l : Level) → slice_get levels k ≡ Some l → NonUnionDone set l.brand l.steps p → ⊥
       all_apart p n k l e d = open_is_apart set mark tour.now l p (t.levels.each k l e) ((c.inside p (names p n)).0 k l e) d
 
       new : NewStands set (mark_at claims) tour.below.items top.brand top.start end field

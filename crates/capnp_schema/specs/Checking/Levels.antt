@@ -51,13 +51,13 @@ pub record Names (set : Schemas) (b i : ℕ) (p : Spot) : Type 0 where
   pub names : entry_names groups set (slice_get (fields_of set b) i) p ≡ true
 
 -- the discriminant, or a plain field that so many steps are past, names a spot
-pub data PlainDone (set : Schemas) (b steps : ℕ) (p : Spot) : Type 0 where
-  by_discriminant : discriminant_names (node_of set b) p ≡ true → PlainDone set b steps p
-  by_plain : (i : ℕ) → member_at set b i ≡ false → i < steps → Names set b i p → PlainDone set b steps p
+pub data NonUnionDone (set : Schemas) (b steps : ℕ) (p : Spot) : Type 0 where
+  by_discriminant : discriminant_names (node_of set b) p ≡ true → NonUnionDone set b steps p
+  by_plain : (i : ℕ) → member_at set b i ≡ false → i < steps → Names set b i p → NonUnionDone set b steps p
 
 -- the same of any field: the members follow on the plain fields
 pub data Done (set : Schemas) (b steps : ℕ) (p : Spot) : Type 0 where
-  among_plain : PlainDone set b steps p → Done set b steps p
+  among_plain : NonUnionDone set b steps p → Done set b steps p
   by_member : (i : ℕ) → member_at set b i ≡ true → length (fields_of set b) + i < steps → Names set b i p → Done set b steps p
 
 -- the field that a step is about
@@ -67,15 +67,15 @@ pub data IsCurrent (set : Schemas) (b steps i : ℕ) : Type 0 where
 
 -- a field names nothing that the discriminant names, or a plain field that is gone through before it
 pub record IsClear (set : Schemas) (b i : ℕ) : Type 0 where
-  pub plain : member_at set b i ≡ false → (p : Spot) → Names set b i p → PlainDone set b i p → ⊥
-  pub member : member_at set b i ≡ true → (p : Spot) → Names set b i p → PlainDone set b (length (fields_of set b)) p → ⊥
+  pub plain : member_at set b i ≡ false → (p : Spot) → Names set b i p → NonUnionDone set b i p → ⊥
+  pub member : member_at set b i ≡ true → (p : Spot) → Names set b i p → NonUnionDone set b (length (fields_of set b)) p → ⊥
 
 -- ---- levels ----
 
 -- what a level is past has its marks in the level's time, and the plain part of it in the level's plain part
 pub record LevelStands (set : Schemas) (mark : Spot → ℕ) (now : ℕ) (l : Level) : Type 0 where
   pub started : (p : Spot) → Done set l.brand l.steps p → l.start ≤ mark p
-  pub plain : (p : Spot) → PlainDone set l.brand l.steps p → mark p < l.plain_end
+  pub plain : (p : Spot) → NonUnionDone set l.brand l.steps p → mark p < l.plain_end
   pub clear_plain : (i : ℕ) → member_at set l.brand i ≡ false → i < l.steps → IsClear set l.brand i
   pub clear_members : (i : ℕ) → member_at set l.brand i ≡ true → length (fields_of set l.brand) + i < l.steps → IsClear set l.brand i
   pub ordered : l.start ≤ l.plain_end
@@ -84,7 +84,7 @@ pub record LevelStands (set : Schemas) (mark : Spot → ℕ) (now : ℕ) (l : Le
 -- a level above another names nothing that the plain part of the other does
 pub record IsAbove (set : Schemas) (l m : Level) : Type 0 where
   pub later : l.plain_end ≤ m.start
-  pub apart : (p : Spot) → Done set m.brand m.steps p → PlainDone set l.brand l.steps p → ⊥
+  pub apart : (p : Spot) → Done set m.brand m.steps p → NonUnionDone set l.brand l.steps p → ⊥
 
 -- a level is at a field that names the group
 pub record IsCurrentGroup (set : Schemas) (l : Level) (group : ℕ) : Type 0 where

@@ -38,28 +38,28 @@ some_brand groups set [] p = false
 some_brand groups set (b ∷ bs) p = brand_names groups set b p || some_brand groups set bs p
 
 -- what spans name, and brands whose own spans are still to be added
-abbrev pub reached : ℕ → Schemas → List Span → List ℕ → Spot → Bool
-reached groups set spans brands p = some_span spans p || some_brand groups set brands p
+abbrev pub reached_spot : ℕ → Schemas → List Span → List ℕ → Spot → Bool
+reached_spot groups set spans brands p = some_span spans p || some_brand groups set brands p
 
 -- what that is once a brand's discriminant and fields are added, at each depth of groups
 abbrev pub AddsBrand : Schemas → ℕ → (old new : List Span × List ℕ) → Type 0
-AddsBrand set b old new = (groups : ℕ) (p : Spot) → reached groups set new.0 new.1 p ≡ (reached groups set old.0 old.1 p || brand_names (suc groups) set b p)
+AddsBrand set b old new = (groups : ℕ) (p : Spot) → reached_spot groups set new.0 new.1 p ≡ (reached_spot groups set old.0 old.1 p || brand_names (suc groups) set b p)
 
 -- a brand's fields
 abbrev pub AddsFields : Schemas → ℕ → (old new : List Span × List ℕ) → Type 0
-AddsFields set b old new = (groups : ℕ) (p : Spot) → reached groups set new.0 new.1 p ≡ (reached groups set old.0 old.1 p || some_field (field_names groups set) (fields_of set b) p)
+AddsFields set b old new = (groups : ℕ) (p : Spot) → reached_spot groups set new.0 new.1 p ≡ (reached_spot groups set old.0 old.1 p || some_field (field_names groups set) (fields_of set b) p)
 
 -- a field, nothing where it isn't there
 abbrev pub AddsField : Schemas → (b i : ℕ) → (old new : List Span × List ℕ) → Type 0
-AddsField set b i old new = (groups : ℕ) (p : Spot) → reached groups set new.0 new.1 p ≡ (reached groups set old.0 old.1 p || entry_names groups set (slice_get (fields_of set b) i) p)
+AddsField set b i old new = (groups : ℕ) (p : Spot) → reached_spot groups set new.0 new.1 p ≡ (reached_spot groups set old.0 old.1 p || entry_names groups set (slice_get (fields_of set b) i) p)
 
 -- brands, by the brands of their groups
 abbrev pub AddsBrands : Schemas → List ℕ → (old : List Span) → (new : List Span × List ℕ) → Type 0
-AddsBrands set brands old new = (groups : ℕ) (p : Spot) → reached groups set new.0 new.1 p ≡ reached (suc groups) set old brands p
+AddsBrands set brands old new = (groups : ℕ) (p : Spot) → reached_spot groups set new.0 new.1 p ≡ reached_spot (suc groups) set old brands p
 
 -- brands, through all their groups
 abbrev pub AddsDepths : Schemas → List ℕ → (old new : List Span) → Type 0
-AddsDepths set brands old new = (p : Spot) → some_span new p ≡ reached (length set.brands) set old brands p
+AddsDepths set brands old new = (p : Spot) → some_span new p ≡ reached_spot (length set.brands) set old brands p
 
 -- the spans of a field that is there or not, through its groups
 abbrev pub AreSpansAt : Schemas → (b i : ℕ) → List Span → Type 0
@@ -76,7 +76,7 @@ pub record AreSpansOf (set : Schemas) (b : ℕ) (spans : List (Vec Span Global))
   pub each : (i : ℕ) (v : Vec Span Global) (p : Spot) → slice_get spans i ≡ Some v → some_span v.items p ≡ footprint set (field_at set b i) p
 
 -- another field than that one, plain where a plain one is asked for, names the spot
-pub record IsNamedBy (set : Schemas) (b : ℕ) (p : Spot) (other : ℕ) (plain : Bool) (i : ℕ) : Type 0 where
+pub record IsSpotNamedBy (set : Schemas) (b : ℕ) (p : Spot) (other : ℕ) (plain : Bool) (i : ℕ) : Type 0 where
   pub field : i < length (fields_of set b)
   pub differs : i ≢ other
   pub is_plain : plain ≡ true → is_member (field_at set b i).field ≡ false

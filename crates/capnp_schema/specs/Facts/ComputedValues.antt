@@ -11,7 +11,7 @@ use Rattle.capnp_wire.specs.Reading.{as_list, is_null_tree}
 use Rattle.capnp_wire.specs.Words.{first_fault}
 use Rattle.capnp_schema.specs.Types.{SchemaType, ListType, element_size}
 use Rattle.capnp_schema.specs.Schema.{Schemas, Node, Field, Annotation, FieldKind, Slot, Group, Value, TextValue, DataValue, StructValue, ListValue, AnyPointerValue, default_of}
-use Rattle.capnp_schema.specs.Accepted.{KindDefault, ReadsDefault, AreWords, HasWords, HaveWords, IsStructOrNull, IsListOrNull, Decodes, ListReads, DefaultStands, NodeHasWords, root_of, EachOfEnum, Rule6}
+use Rattle.capnp_schema.specs.Accepted.{KindDefault, ReadsDefault, AreWords, HasWords, HaveWords, IsStructOrNull, IsListOrNull, Decodes, ListReads, DefaultStands, NodeHasWords, words_root, EachOfEnum, Rule6}
 use Rattle.capnp_schema.specs.Facts.Computed.{both, all_pass, all_fields, each_field}
 use Rattle.capnp_schema.specs.Facts.ComputedRules.{passes_node, passes_enum, of_node, of_enum}
 
@@ -60,9 +60,9 @@ is_list_or_null (tree.Composite data_words pointer_count elements) = true
 is_list_or_null t = false
 
 abbrev pub decodes : Value → Bool
-decodes (StructValue words) = is_none (first_fault (root_of words)) && is_struct_or_null (root_of words)
-decodes (ListValue words) = is_none (first_fault (root_of words)) && is_list_or_null (root_of words)
-decodes (AnyPointerValue words) = is_null_tree (root_of words)
+decodes (StructValue words) = is_none (first_fault (words_root words)) && is_struct_or_null (words_root words)
+decodes (ListValue words) = is_none (first_fault (words_root words)) && is_list_or_null (words_root words)
+decodes (AnyPointerValue words) = is_null_tree (words_root words)
 decodes (TextValue bytes) = nat_le (length bytes) (2 ^ 29 - 2)
 decodes (DataValue bytes) = nat_le (length bytes) (2 ^ 29 - 1)
 decodes value = true
@@ -91,12 +91,12 @@ null_there t e = cc
 
 decoded : (value : Value) → decodes value ≡ true → Decodes value
 decoded (StructValue words) e =
-    let parts = both (is_none (first_fault (root_of words))) (is_struct_or_null (root_of words)) e in
-    (none_there (first_fault (root_of words)) parts.0, struct_there (root_of words) parts.1)
+    let parts = both (is_none (first_fault (words_root words))) (is_struct_or_null (words_root words)) e in
+    (none_there (first_fault (words_root words)) parts.0, struct_there (words_root words) parts.1)
 decoded (ListValue words) e =
-    let parts = both (is_none (first_fault (root_of words))) (is_list_or_null (root_of words)) e in
-    (none_there (first_fault (root_of words)) parts.0, list_there (root_of words) parts.1)
-decoded (AnyPointerValue words) e = null_there (root_of words) e
+    let parts = both (is_none (first_fault (words_root words))) (is_list_or_null (words_root words)) e in
+    (none_there (first_fault (words_root words)) parts.0, list_there (words_root words) parts.1)
+decoded (AnyPointerValue words) e = null_there (words_root words) e
 decoded (TextValue bytes) e = leb-true (length bytes) (2 ^ 29 - 2) e
 decoded (DataValue bytes) e = leb-true (length bytes) (2 ^ 29 - 1) e
 decoded value e = tt
@@ -104,7 +104,7 @@ decoded value e = tt
 -- ---- lists ----
 
 abbrev pub list_reads : Value → SchemaType → Bool
-list_reads (ListValue words) (ListType element) = is_ok (as_list (element_size element) (root_of words) 1)
+list_reads (ListValue words) (ListType element) = is_ok (as_list (element_size element) (words_root words) 1)
 list_reads value t = true
 
 abbrev pub kind_reads : FieldKind → SchemaType → Bool

@@ -5,10 +5,10 @@ use Rattle.std.proofs.Common.{arith, ap, subst, ◌∙◌, ⊎_elim}
 use Rattle.std.proofs.lemmas.Bool.{cases_lt}
 use Rattle.std.proofs.lemmas.Option.{get_or_from_slice_get, slice_get_past, slice_get_within}
 use Rattle.capnp_schema.specs.Types.{SchemaType}
-use Rattle.capnp_schema.specs.Schema.{Schemas, Node, Brand, Field, TypedField, no_node, no_brand, no_field, typed, brand_at, node_of, fields_of, field_at, is_member}
+use Rattle.capnp_schema.specs.Schema.{Schemas, Node, Brand, Field, TypedField, no_node, no_brand, no_field, typed_fields, brand_at, node_of, fields_of, field_at, is_member}
 use Rattle.capnp_schema.specs.Accepted.{IsAccepted, HasEachMember}
 
-pub typed_nothing : (fs : List Field) → typed fs [] ≡ []
+pub typed_nothing : (fs : List Field) → typed_fields fs [] ≡ []
 typed_nothing [] = refl
 typed_nothing (f ∷ fs) = refl
 
@@ -27,7 +27,7 @@ pub of_node : (set : Schemas) → IsAccepted set → (P : Node → Type 0) → A
 of_node set accepted P all b b_in =
     All-entry P set.nodes (brand_at set b).node (node_of set b) all (entry-some set.nodes (brand_at set b).node no_node (accepted.rule2.brands b b_in).node)
 
-pub typed-field : (fs : List Field) (ts : List SchemaType) (i : ℕ) → i < length (typed fs ts) → slice_get fs i ≡ Some (unwrap_or (slice_get (typed fs ts) i) no_field).field
+pub typed-field : (fs : List Field) (ts : List SchemaType) (i : ℕ) → i < length (typed_fields fs ts) → slice_get fs i ≡ Some (unwrap_or (slice_get (typed_fields fs ts) i) no_field).field
 typed-field [] ts i a = absurd (omega arith)
 typed-field (f ∷ fs) [] i a = absurd (omega arith)
 typed-field (f ∷ fs) (t ∷ ts) zero a = refl
@@ -50,6 +50,6 @@ brand_there set b i h = ⊎_elim (λ inside. inside) (λ past. absurd (none past
     none : length set.brands ≤ b → ⊥
     none past =
         let gone : brand_at set b ≡ (no_brand set) = ap (λ (o : Option Brand). unwrap_or o (no_brand set)) (slice_get_past set.brands b past) in
-        let empty : fields_of set b ≡ [] = ap (λ (x : Brand). typed (node_of set b).fields x.field_types) gone ∙ typed_nothing (node_of set b).fields in
+        let empty : fields_of set b ≡ [] = ap (λ (x : Brand). typed_fields (node_of set b).fields x.field_types) gone ∙ typed_nothing (node_of set b).fields in
         let count = ap (λ (l : List TypedField). length l) empty in
         absurd (omega arith)

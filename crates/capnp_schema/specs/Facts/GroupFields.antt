@@ -8,7 +8,7 @@ use Rattle.capnp_schema.specs.Accepted.{HasOneParent, IsAccepted, IsGroupBrand, 
 use Rattle.capnp_schema.specs.Checking.Parents.{entry_target, group_target}
 use Rattle.capnp_schema.specs.Facts.Fields.{brand_there, entry-some}
 use Rattle.capnp_schema.specs.Facts.Groups.{group_in_set, group_of_field}
-use Rattle.capnp_schema.specs.GroupFields.{group_field_of, index_naming, index_or, is_brand, names_brand, numbered, place_naming, place_or}
+use Rattle.capnp_schema.specs.GroupFields.{group_field_of, index_naming, index_or, is_brand, names_brand, numbered_pair, place_naming, place_or}
 use Rattle.capnp_schema.specs.Schema.{FieldKind, Group, Schemas, Slot, TypedField, field_at, fields_of, kind_target, no_field}
 use Rattle.capnp_schema.specs.Types.{SchemaType}
 
@@ -85,7 +85,7 @@ place_missing set g (suc n) b i none lt t = go (index_naming g 0 (fields_of set 
 
 -- ---- by numbers of handles ----
 
-numbered_is : (o : Option (ℕ × ℕ)) (b i : ℕ) → numbered o ≡ Some (b, i) → o ≡ Some (b, i)
+numbered_is : (o : Option (ℕ × ℕ)) (b i : ℕ) → numbered_pair o ≡ Some (b, i) → o ≡ Some (b, i)
 numbered_is None b i e = cc
 numbered_is (Some (c, j)) b i e = go (nat_lt c (2 ^ 32)) e
   where
@@ -96,10 +96,10 @@ numbered_is (Some (c, j)) b i e = go (nat_lt c (2 ^ 32)) e
 small_test : (b : ℕ) → b < 2 ^ 32 → nat_lt b (2 ^ 32) ≡ true
 small_test b small = grind (arith, nat_tests, small)
 
-numbered_small : (o : Option (ℕ × ℕ)) (b i : ℕ) → o ≡ Some (b, i) → b < 2 ^ 32 → numbered o ≡ Some (b, i)
-numbered_small o b i e small = ap numbered e ∙ ap (λ (q : Bool). cond {A = Option (ℕ × ℕ)} q (Some (b, i)) None) (small_test b small)
+numbered_small : (o : Option (ℕ × ℕ)) (b i : ℕ) → o ≡ Some (b, i) → b < 2 ^ 32 → numbered_pair o ≡ Some (b, i)
+numbered_small o b i e small = ap numbered_pair e ∙ ap (λ (q : Bool). cond {A = Option (ℕ × ℕ)} q (Some (b, i)) None) (small_test b small)
 
-numbered_none : (o : Option (ℕ × ℕ)) → numbered o ≡ None → ((b i : ℕ) → o ≡ Some (b, i) → b < 2 ^ 32) → o ≡ None
+numbered_none : (o : Option (ℕ × ℕ)) → numbered_pair o ≡ None → ((b i : ℕ) → o ≡ Some (b, i) → b < 2 ^ 32) → o ≡ None
 numbered_none None e small = refl
 numbered_none (Some (b, i)) e small = sym (numbered_small (Some (b, i)) b i refl (small b i refl)) ∙ e
 

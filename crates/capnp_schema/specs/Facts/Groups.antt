@@ -7,7 +7,7 @@ use Rattle.capnp_schema.specs.Types.{SchemaType, StructType, struct_brand, struc
 use Rattle.capnp_schema.specs.Schema.{Schemas, FieldKind, Slot, Group, TypedField, no_field, node_of, fields_of, field_at, is_member}
 use Rattle.capnp_schema.specs.Footprint.{Spot, some_field, group_names, kind_names, brand_names, discriminant_names, footprint}
 use Rattle.capnp_schema.specs.Accepted.{IsAccepted, IsGroupBrand, IsGroupOf, IsParent, HasOneParent, EndsAtStruct, GroupFits, NamesEntries}
-use Rattle.capnp_schema.specs.Laws.{struct_names, height_above, kind_height, highest, height_within, group_height, LeadsDown}
+use Rattle.capnp_schema.specs.Laws.{struct_spots, height_above, kind_height, highest, height_within, group_height, LeadsDown}
 
 true≢false : true ≡ false → ⊥
 true≢false e = cc
@@ -113,10 +113,10 @@ group_fields_name_brands set accepted b i node b_in i_in is = go (field_at set b
     go (Group m) t f e = absurd f
 
 pub group_names_its_parts : (set : Schemas) → IsAccepted set → (b i g : ℕ) (p : Spot) → b < length set.brands → i < length (fields_of set b) →
-    IsGroupOf (field_at set b i).field.kind (field_at set b i).type g → footprint set (field_at set b i) p ≡ struct_names set g p
+    IsGroupOf (field_at set b i).field.kind (field_at set b i).type g → footprint set (field_at set b i) p ≡ struct_spots set g p
 group_names_its_parts set accepted b i g p b_in i_in h = go (field_at set b i).field.kind (field_at set b i).type h (is_shallow set accepted b b_in i i_in g h)
   where
-    go : (k : FieldKind) (t : SchemaType) → IsGroupOf k t g → IsShallow (length set.brands) set g → kind_names (brand_names (length set.brands) set) k t p ≡ struct_names set g p
+    go : (k : FieldKind) (t : SchemaType) → IsGroupOf k t g → IsShallow (length set.brands) set g → kind_names (brand_names (length set.brands) set) k t p ≡ struct_spots set g p
     go (Slot o d) t h s = absurd h
     go (Group m) t h s = ap (λ o. group_names (brand_names (length set.brands) set) o p) h ∙ brand_names-more (length set.brands) set g p s
 

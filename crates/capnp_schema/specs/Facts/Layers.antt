@@ -1,6 +1,6 @@
 -- What one layer of a type stands for, and the size of elements of a type.
 use Rattle.std.specs.Prelude.{ℕ, zero, suc, ◌≡◌, refl}
-use Rattle.capnp_base.specs.Types.{base_variant, element_size as size_of_variant, variant_by, variant_of}
+use Rattle.capnp_base.specs.Types.{base_variant, variant_element_size as size_of_variant, variant_by, variant_of}
 use Rattle.capnp_base.specs.declared.introspect.«Type».{«Type» as TypeHandle}
 use Rattle.capnp_base.specs.declared.introspect.BaseType.{BaseType}
 use Rattle.capnp_base.specs.declared.introspect.BaseType.TheVariants as base

@@ -5,7 +5,7 @@ ghost use Rattle.capnp_schema.specs.Schema.{fields_of, field_at, is_member};
 ghost use Rattle.capnp_schema.specs.Entries.{lists_seen};
 ghost use Rattle.capnp_schema.specs.Accepted.{Rule3, Rule11, Rule12};
 ghost use Rattle.capnp_schema.specs.Broken.{IsRefusalOf};
-ghost use Rattle.capnp_schema.specs.Checking.Spans.{AreSpansOf, IsNamedBy, seen_spot};
+ghost use Rattle.capnp_schema.specs.Checking.Spans.{AreSpansOf, IsSpotNamedBy, seen_spot};
 ghost use Rattle.capnp_schema.specs.Checking.Meetings.{IsMeetingField, IsDiscriminantField};
 
 use crate::check::groups::brand_count;
@@ -75,7 +75,7 @@ fn named_at(
     plain: bool,
 ) -> Option<usize>
     requires { AreSpansOf (lists_seen lists.now) brand spans.now }
-    ensures { IfSome result (IsNamedBy (lists_seen lists.now) brand (seen_spot spot) other plain) }
+    ensures { IfSome result (IsSpotNamedBy (lists_seen lists.now) brand (seen_spot spot) other plain) }
 {
     for i in 0..spans.len() {
         if i != other && some_holds(&spans[i], spot) {

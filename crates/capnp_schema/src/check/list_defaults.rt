@@ -3,7 +3,7 @@ ghost use Rattle.std.specs.Prelude.{◌↔◌, All, IsTrue, MatchResult};
 ghost use Rattle.capnp_schema.specs.Types.{seen_type, seen_variant};
 ghost use Rattle.capnp_schema.specs.Schema.{ListValue, fields_of, seen_kind, seen_value};
 ghost use Rattle.capnp_schema.specs.Entries.{lists_seen};
-ghost use Rattle.capnp_schema.specs.Accepted.{KindDefault, ListDefaultsRead, ListReads, ReadsDefault, ReadsElements, Rule3, root_of};
+ghost use Rattle.capnp_schema.specs.Accepted.{KindDefault, ListDefaultsRead, ListReads, ReadsDefault, ReadsElements, Rule3, words_root};
 ghost use Rattle.capnp_schema.specs.Broken.{IsRefusalOf};
 ghost use Rattle.capnp_schema.specs.Checking.Entry.{IsSoAt};
 
@@ -16,7 +16,7 @@ use capnp_wire::PointerReader;
 
 /// Whether words hold null or a list that is read as such elements.
 fn are_read_as(words: &[u8], element: Type) -> bool
-    ensures { IsTrue result ↔ ReadsElements (seen_type element) (root_of words.now) }
+    ensures { IsTrue result ↔ ReadsElements (seen_type element) (words_root words.now) }
 {
     let root = PointerReader::from_words(words);
     match root.get_list(element.expected_element_size()) {

@@ -5,7 +5,7 @@ ghost use Rattle.capnp_wire.specs.Words.{first_fault};
 ghost use Rattle.capnp_schema.specs.Schema.{Field, seen_annotations, seen_field, seen_value};
 ghost use Rattle.capnp_schema.specs.Entries.{lists_seen};
 ghost use Rattle.capnp_schema.specs.Accepted.{AreWords, Decodes, DefaultStands, EachOfEnum, HasWords, HaveAllWords, HaveWords};
-ghost use Rattle.capnp_schema.specs.Accepted.{IsListOrNull, IsStructOrNull, NodeHasWords, Rule3, Rule6, root_of};
+ghost use Rattle.capnp_schema.specs.Accepted.{IsListOrNull, IsStructOrNull, NodeHasWords, Rule3, Rule6, words_root};
 ghost use Rattle.capnp_schema.specs.Broken.{IsRefusalOf};
 ghost use Rattle.capnp_schema.specs.Checking.Entry.{IsSoAt};
 
@@ -51,7 +51,7 @@ fn have_words(annotations: &[AnnotationRecord]) -> bool
 
 /// Whether words hold a struct or null, in which each pointer can be followed.
 fn is_struct(words: &[u8]) -> bool
-    ensures { IsTrue result ↔ (first_fault (root_of words.now) ≡ None) × IsStructOrNull (root_of words.now) }
+    ensures { IsTrue result ↔ (first_fault (words_root words.now) ≡ None) × IsStructOrNull (words_root words.now) }
 {
     let root = PointerReader::from_words(words);
     match root.first_fault() {
@@ -65,7 +65,7 @@ fn is_struct(words: &[u8]) -> bool
 
 /// Whether words hold a list or null, in which each pointer can be followed.
 fn is_list(words: &[u8]) -> bool
-    ensures { IsTrue result ↔ (first_fault (root_of words.now) ≡ None) × IsListOrNull (root_of words.now) }
+    ensures { IsTrue result ↔ (first_fault (words_root words.now) ≡ None) × IsListOrNull (words_root words.now) }
 {
     let root = PointerReader::from_words(words);
     match root.first_fault() {
@@ -79,7 +79,7 @@ fn is_list(words: &[u8]) -> bool
 
 /// Whether words hold null.
 fn is_null(words: &[u8]) -> bool
-    ensures { IsTrue result ↔ (root_of words.now ≡ Null) }
+    ensures { IsTrue result ↔ (words_root words.now ≡ Null) }
 {
     let root = PointerReader::from_words(words);
     root.is_null()

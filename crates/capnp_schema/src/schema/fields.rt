@@ -39,14 +39,14 @@ impl<'s> Field<'s> {
     ghost use Rattle.std.specs.Option.{option_map};
     ghost use Rattle.capnp_schema.specs.Defaults.{DefaultFits};
     ghost use Rattle.capnp_schema.specs.GroupFields.{group_field_of};
-    ghost use Rattle.capnp_schema.specs.GroupsDown.{IfGroup, IsGroupIn, LeadsToGroup, place_of_field};
+    ghost use Rattle.capnp_schema.specs.GroupsDown.{IfGroup, IsGroupSchemaIn, LeadsToGroup, place_of_field};
     ghost use Rattle.capnp_schema.specs.Plan.{IsPlan, plan_of};
     ghost use Rattle.capnp_schema.specs.Schema.{default_of, kind_target};
     ghost use Rattle.capnp_schema.specs.Views.{IsViewOf};
     ghost use Rattle.capnp_schema.specs.StructHandles.{IsStruct, number_of};
     ghost use Rattle.capnp_schema.specs.Annotated.{annotations_of};
     ghost use Rattle.capnp_schema.specs.AnnotationLists.{annotations_in, annotations_set};
-    ghost use Rattle.capnp_schema.specs.FieldLists.{IsFieldOf, index_of, schema_of, typed_of, default_behind, field_annotated};
+    ghost use Rattle.capnp_schema.specs.FieldLists.{IsFieldOf, index_of, field_schema, typed_of, default_behind, field_annotated};
 
     /// The field of an index, which is below the count of fields.
     #[inline(always)]
@@ -75,7 +75,7 @@ impl<'s> Field<'s> {
     /// The struct or group that the field is of. A field's schema always is that of a brand of the set, and the field
     /// is one of it.
     pub fn get_containing_struct(&self) -> StructSchema<'s>
-        ensures is { result ≡ schema_of self.now }
+        ensures is { result ≡ field_schema self.now }
         ensures stands { IsStruct result }
         ensures field { IsFieldOf result (index_of self.now) self.now }
     {
@@ -87,7 +87,7 @@ impl<'s> Field<'s> {
     /// The field's type. The struct or enum that it names, or that its lists hold, is there in the set.
     pub fn get_type(&self) -> Type
         ensures is { seen_type result ≡ (typed_of self.now).type }
-        ensures named { NamesEntries (set_of (schema_of self.now)) (seen_type result) }
+        ensures named { NamesEntries (set_of (field_schema self.now)) (seen_type result) }
     {
         self.field_type
     }
@@ -136,8 +136,8 @@ impl<'s> Field<'s> {
     pub fn get_group(&self) -> Option<StructSchema<'s>>
         ensures number { option_map number_of result
             ≡ kind_target (typed_of self.now).field.kind (typed_of self.now).type }
-        ensures down { IfSome result (IsGroupIn (schema_of self.now)) }
-        ensures back { IfSome result (λ g. group_field_of (set_of (schema_of self.now)) (number_of g)
+        ensures down { IfSome result (IsGroupSchemaIn (field_schema self.now)) }
+        ensures back { IfSome result (λ g. group_field_of (set_of (field_schema self.now)) (number_of g)
             ≡ Some (place_of_field self.now)) }
     {
         // A handle's number has 32 bits, which is known of it once it is read.
@@ -153,7 +153,7 @@ impl<'s> Field<'s> {
         ensures typed { IsOkAnd result (λ list. annotations_in list ≡ field_annotated self.entry) }
         ensures whole { IsOkAnd result (λ list. annotations_of (annotations_in list)
             ≡ (typed_of self.entry).field.annotations) }
-        ensures set { IsOkAnd result (λ list. annotations_set list ≡ set_of (schema_of self.entry)) }
+        ensures set { IsOkAnd result (λ list. annotations_set list ≡ set_of (field_schema self.entry)) }
     {
         Ok(AnnotationList::of_field(self.schema.set, self.schema.number, self.index))
     }
@@ -162,12 +162,12 @@ impl<'s> Field<'s> {
     /// sections of the field's schema.
     #[inline(always)]
     pub fn plan(&self) -> SlotPlan
-        ensures is { result ≡ plan_of (set_of (schema_of self.now)) (number_of (schema_of self.now))
-            (struct_field (schema_of self.now) (index_of self.now)) }
-        ensures stands { IsPlan (set_of (schema_of self.now)) (number_of (schema_of self.now))
-            (struct_field (schema_of self.now) (index_of self.now)) result }
-        ensures group { IfGroup result.place (LeadsToGroup (set_of (schema_of self.now))
-            (number_of (schema_of self.now))) }
+        ensures is { result ≡ plan_of (set_of (field_schema self.now)) (number_of (field_schema self.now))
+            (struct_field (field_schema self.now) (index_of self.now)) }
+        ensures stands { IsPlan (set_of (field_schema self.now)) (number_of (field_schema self.now))
+            (struct_field (field_schema self.now) (index_of self.now)) result }
+        ensures group { IfGroup result.place (LeadsToGroup (set_of (field_schema self.now))
+            (number_of (field_schema self.now))) }
     {
         *self.schema.set.plan(self.schema.number, self.index)
     }

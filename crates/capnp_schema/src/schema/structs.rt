@@ -33,7 +33,7 @@ impl<'s> StructSchema<'s> {
     ghost use Rattle.capnp_schema.specs.Schema.{brand_at, seen_node};
     ghost use Rattle.capnp_schema.specs.Discriminant.{discriminant_of};
     ghost use Rattle.capnp_schema.specs.Entries.{lists_seen};
-    ghost use Rattle.capnp_schema.specs.Query.{AreMembers, field_named, member_of, plain_fields};
+    ghost use Rattle.capnp_schema.specs.Query.{AreMembers, field_named, member_of, non_union_fields};
     ghost use Rattle.capnp_schema.specs.StructHandles.{IsStruct, generic_of, number_of, set_of, struct_node, struct_records};
     ghost use Rattle.std.specs.Option.{option_map};
     ghost use Rattle.capnp_schema.specs.GroupFields.{group_field_of};
@@ -153,7 +153,7 @@ impl<'s> StructSchema<'s> {
     #[tactic(auto, using(crate::proofs::StructLookUps::plain_are_typed))]
     pub fn get_non_union_fields(self) -> Result<FieldSubset<'s>>
         ensures { IsOkAnd result (λ fields. (subset_schema fields ≡ self.entry)
-            × (subset_indices fields ≡ plain_fields (struct_records self.entry))) }
+            × (subset_indices fields ≡ non_union_fields (struct_records self.entry))) }
     {
         Ok(FieldSubset::new(self, self.set.plain(self.number)))
     }

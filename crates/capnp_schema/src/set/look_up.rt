@@ -9,7 +9,7 @@ ghost use Rattle.capnp_schema.specs.GroupFields.{group_field_of};
 ghost use Rattle.capnp_schema.specs.GroupsDown.{IfGroup, LeadsToGroup};
 ghost use Rattle.capnp_schema.specs.Names.{IsNameTable};
 ghost use Rattle.capnp_schema.specs.Plan.{IsPlan, plan_of};
-ghost use Rattle.capnp_schema.specs.Query.{AreMembers, field_named, member_of, plain_fields, records_of};
+ghost use Rattle.capnp_schema.specs.Query.{AreMembers, field_named, member_of, non_union_fields, records_of};
 ghost use Rattle.capnp_schema.specs.Tables.{no_plan, table_at};
 ghost use Rattle.capnp_schema.specs.Types.{seen_type};
 
@@ -114,7 +114,7 @@ impl SchemaSet {
 
     /// The indices of a node's plain fields, by index.
     fn node_plain(&self, node: usize) -> &[u16]
-        ensures is { result.now ≡ plain_fields (node_at (lists_seen self.now) node).fields }
+        ensures is { result.now ≡ non_union_fields (node_at (lists_seen self.now) node).fields }
         ensures few { length result.now ≤ 65535 }
     {
         table_at(&self.tables.plain, node)
@@ -154,7 +154,7 @@ impl SchemaSet {
 
     /// The indices of the plain fields, by index.
     pub(crate) fn plain(&self, brand: u32) -> &[u16]
-        ensures is { result.now ≡ plain_fields (records_of (lists_seen self.now) brand) }
+        ensures is { result.now ≡ non_union_fields (records_of (lists_seen self.now) brand) }
         ensures few { length result.now ≤ 65535 }
     {
         match self.node_number(brand) {

@@ -10,7 +10,7 @@ use Rattle.capnp_records.specs.Default.{read_of}
 use Rattle.capnp_records.specs.Reading.{element_type}
 use Rattle.capnp_records.specs.Record as value
 use Rattle.capnp_records.specs.Record.{Active, MoreValues, NoUnion, NoValues, Parts, Record, Union, Unknown, Value, Values, is_there}
-use Rattle.capnp_records.specs.Text.{Inner, Layout, Member, Out, after, before, bracketed, debug_pieces, decimals, deeper, element_texts, entering_fault, fault_kind, is_entered, item, item_if, later, line, list_text, member, more_text, part_text, record_text, rest_of, said, separator, shown, stands_before, struct_text, text_of, text_within, value_text, quoted}
+use Rattle.capnp_records.specs.Text.{Inner, Layout, Member, Out, after, before, bracketed_text, debug_pieces, decimals, deeper, element_texts, entering_fault, fault_kind, is_entered, item, item_if, later, line, list_text, member, more_text, part_text, record_text, member_rest, said_text, separator, shown, stands_before, struct_text, text_of, text_within, value_text, quoted_text}
 use Rattle.capnp_records.specs.Facts.ReadFaults.{AllSound, IsReadKind, RecordSound, Sound, UnionSound, read_of-sound}
 use Rattle.std.specs.Str.{is_utf8}
 
@@ -33,11 +33,11 @@ append-sound (x ∷ xs) ys h k = (h.0, append-sound xs ys h.1 k)
 
 more-sound : (at : Layout) (first : Bool) (xs : List Out) → AllOut xs → OutSound (more_text at first xs)
 more-sound at first [] h = tt
-more-sound at first (x ∷ xs) h = after-sound (said (separator at first)) _ tt (after-sound x (more_text at false xs) h.0 (more-sound at false xs h.1))
+more-sound at first (x ∷ xs) h = after-sound (said_text (separator at first)) _ tt (after-sound x (more_text at false xs) h.0 (more-sound at false xs h.1))
 
-bracketed-sound : (opening closing : List ℕ) (at : Layout) (xs : List Out) → AllOut xs → OutSound (bracketed opening closing at xs)
+bracketed-sound : (opening closing : List ℕ) (at : Layout) (xs : List Out) → AllOut xs → OutSound (bracketed_text opening closing at xs)
 bracketed-sound opening closing at xs h =
-    after-sound (said opening) _ tt (after-sound (more_text (deeper at) true xs) (said (line at ++ closing)) (more-sound (deeper at) true xs h) tt)
+    after-sound (said_text opening) _ tt (after-sound (more_text (deeper at) true xs) (said_text (line at ++ closing)) (more-sound (deeper at) true xs h) tt)
 
 list-sound : (at : Layout) (xs : List Out) → AllOut xs → OutSound (list_text at xs)
 list-sound at [] h = tt
@@ -51,7 +51,7 @@ abbrev MemberSound : Member → Type 0
 MemberSound None = ⊤
 MemberSound (Some m) = AllOut m.1
 
-rest-sound : (m : Member) → MemberSound m → AllOut (rest_of m)
+rest-sound : (m : Member) → MemberSound m → AllOut (member_rest m)
 rest-sound None h = tt
 rest-sound (Some m) h = h
 
@@ -62,7 +62,7 @@ one-sound false o h = tt
 before-sound : (m : Member) (i : ℕ) → MemberSound m → AllOut (before m i)
 before-sound m i h = go (stands_before m i)
   where
-    go : (q : Bool) → AllOut (cond q (rest_of m) [])
+    go : (q : Bool) → AllOut (cond q (member_rest m) [])
     go true = rest-sound m h
     go false = tt
 
@@ -78,7 +78,7 @@ InnerSound inner = (at : Layout) (t : SchemaType) (v : Value) → Sound v → Ou
 
 module _ (set : Schemas) (inner : Inner) (sound : InnerSound inner) where
   item-sound : (f : TypedField) (o : Out) → OutSound o → OutSound (item f o)
-  item-sound f o h = after-sound (said (f.field.name ++ codes " = ")) o tt h
+  item-sound f o h = after-sound (said_text (f.field.name ++ codes " = ")) o tt h
 
   mutual
     part-sound : (at : Layout) (d : SchemaValue) (t : SchemaType) (v : Value) → Sound v → OutSound (part_text set inner at d t v)
@@ -132,10 +132,10 @@ fault-sound None t kind h = go (is_entered t)
     go false = h
 fault-sound (Some inner) t kind h = h
 
-quoted-sound : (bs : List ℕ) → OutSound (quoted bs)
+quoted-sound : (bs : List ℕ) → OutSound (quoted_text bs)
 quoted-sound bs = go (is_utf8 bs)
   where
-    go : (q : Bool) → OutSound (elim q as (λ _. Out) [ true ↦ Ok (debug_pieces bs) | false ↦ said (codes "<invalid utf-8: [" ++ decimals bs ++ codes "]>") ])
+    go : (q : Bool) → OutSound (elim q as (λ _. Out) [ true ↦ Ok (debug_pieces bs) | false ↦ said_text (codes "<invalid utf-8: [" ++ decimals bs ++ codes "]>") ])
     go true = tt
     go false = tt
 

@@ -5,7 +5,7 @@ use Rattle.std.proofs.lemmas.Nat.{shr-shr, mod-pow-add}
 use Rattle.std.proofs.lemmas.Bool.Decides.{nat_tests}
 use Rattle.capnp_wire.specs.Slot.{bit_at}
 use Rattle.capnp_wire.specs.Place.{bits_from}
-use Rattle.capnp_wire.specs.Encoding.{bits_number, packed}
+use Rattle.capnp_wire.specs.Encoding.{bits_number, packed_bits}
 use Rattle.capnp_wire.specs.Facts.Indexed.{length-bits_from}
 use Rattle.capnp_wire.specs.Facts.Appending.{part_next}
 
@@ -88,10 +88,10 @@ bits_past b k n h =
     sym (bits_some b k n (omega arith) ∙ ap (λ x. get_or b k 0 % 2 ^ x) z ∙ omega arith)
 
 -- one more byte of packed bits
-pub packed_next : (before after whole : List ℕ) (byte size k : ℕ) (bs : List Bool) → k < size → after ≡ before ++ byte ∷ [] → byte ≡ bits_number (take 8 (drop (8 * k) bs)) → before ++ packed (size - k) (drop (8 * k) bs) ≡ whole → after ++ packed (size - (k + 1)) (drop (8 * (k + 1)) bs) ≡ whole
+pub packed_next : (before after whole : List ℕ) (byte size k : ℕ) (bs : List Bool) → k < size → after ≡ before ++ byte ∷ [] → byte ≡ bits_number (take 8 (drop (8 * k) bs)) → before ++ packed_bits (size - k) (drop (8 * k) bs) ≡ whole → after ++ packed_bits (size - (k + 1)) (drop (8 * (k + 1)) bs) ≡ whole
 packed_next before after whole byte size k bs h a e d =
     let s : size - k ≡ suc (size - (k + 1)) = omega arith in
     let p : 8 * k + 8 ≡ 8 * (k + 1) = omega arith in
     let q : drop 8 (drop (8 * k) bs) ≡ drop (8 * (k + 1)) bs = drop-drop 8 (8 * k) bs ∙ ap (λ x. drop x bs) p in
-    let d2 : before ++ packed (suc (size - (k + 1))) (drop (8 * k) bs) ≡ whole = ap (λ x. before ++ packed x (drop (8 * k) bs)) (sym s) ∙ d in
-    ap (λ x. after ++ packed (size - (k + 1)) x) (sym q) ∙ part_next before after (bits_number (take 8 (drop (8 * k) bs)) ∷ []) (packed (size - (k + 1)) (drop 8 (drop (8 * k) bs))) whole (a ∙ ap (λ x. before ++ x ∷ []) e) d2
+    let d2 : before ++ packed_bits (suc (size - (k + 1))) (drop (8 * k) bs) ≡ whole = ap (λ x. before ++ packed_bits x (drop (8 * k) bs)) (sym s) ∙ d in
+    ap (λ x. after ++ packed_bits (size - (k + 1)) x) (sym q) ∙ part_next before after (bits_number (take 8 (drop (8 * k) bs)) ∷ []) (packed_bits (size - (k + 1)) (drop 8 (drop (8 * k) bs))) whole (a ∙ ap (λ x. before ++ x ∷ []) e) d2

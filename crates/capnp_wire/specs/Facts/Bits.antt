@@ -8,16 +8,16 @@ use Rattle.std.proofs.lemmas.Nat.Bits as number
 use Rattle.std.proofs.lemmas.Nat.{pow_below}
 use Rattle.capnp_wire.specs.Slot.{bit_at, little_endian, number_at}
 use Rattle.capnp_wire.specs.Edits.{byte_with_bit, with_bit, with_number}
-use Rattle.capnp_wire.specs.Encoding.{spelled}
+use Rattle.capnp_wire.specs.Encoding.{spelled_number}
 use Rattle.capnp_wire.specs.Facts.Bytes.{length_spelled, little_endian_spelled, spelled_first}
 
 -- ---- a number that is written ----
 
 -- the bytes of a number spell it
-spelled-whole : (k n : ℕ) → n < 256 ^ k → little_endian (take k (spelled k n)) ≡ n
+spelled-whole : (k n : ℕ) → n < 256 ^ k → little_endian (take k (spelled_number k n)) ≡ n
 spelled-whole k n h = ap little_endian (all-spelled k n) ∙ little_endian_spelled k n h
   where
-    all-spelled : (k n : ℕ) → take k (spelled k n) ≡ spelled k n
+    all-spelled : (k n : ℕ) → take k (spelled_number k n) ≡ spelled_number k n
     all-spelled zero n = refl
     all-spelled (suc k) n = ap (λ bs. n % 256 ∷ bs) (all-spelled k (n / 256))
 
@@ -28,16 +28,16 @@ module _ (bytes : List ℕ) (k offset n : ℕ) (inside : (offset + 1) * k ≤ le
   pub byte-before : (i : ℕ) → i < offset * k → get_or (with_number k offset n bytes) i 0 ≡ get_or bytes i 0
   byte-before i a = get_or_append_left (take (offset * k) bytes) _ 0 i (omega (arith, before-length, a)) ∙ get_or-take (offset * k) bytes i 0 a
 
-  pub byte-inside : (r : ℕ) → r < k → get_or (with_number k offset n bytes) (offset * k + r) 0 ≡ get_or (spelled k n) r 0
+  pub byte-inside : (r : ℕ) → r < k → get_or (with_number k offset n bytes) (offset * k + r) 0 ≡ get_or (spelled_number k n) r 0
   byte-inside r a =
       get_or-append_right (take (offset * k) bytes) _ (offset * k) (offset * k + r) 0 before-length (omega arith)
-      ∙ (ap (λ i. get_or (spelled k n ++ drop (offset * k + k) bytes) i 0) (omega arith)
-      ∙ get_or_append_left (spelled k n) (drop (offset * k + k) bytes) 0 r (omega (arith, length_spelled k n, a)))
+      ∙ (ap (λ i. get_or (spelled_number k n ++ drop (offset * k + k) bytes) i 0) (omega arith)
+      ∙ get_or_append_left (spelled_number k n) (drop (offset * k + k) bytes) 0 r (omega (arith, length_spelled k n, a)))
 
   pub byte-after : (i : ℕ) → offset * k + k ≤ i → get_or (with_number k offset n bytes) i 0 ≡ get_or bytes i 0
   byte-after i a =
       get_or-append_right (take (offset * k) bytes) _ (offset * k) i 0 before-length (omega (arith, a))
-      ∙ (get_or-append_right (spelled k n) (drop (offset * k + k) bytes) k (i - offset * k) 0 (length_spelled k n) (omega (arith, a))
+      ∙ (get_or-append_right (spelled_number k n) (drop (offset * k + k) bytes) k (i - offset * k) 0 (length_spelled k n) (omega (arith, a))
       ∙ (get_or-drop (offset * k + k) bytes (i - offset * k - k) 0 ∙ ap (λ j. get_or bytes j 0) (omega (arith, a))))
 
 -- a number depends on its own bytes alone
@@ -52,7 +52,7 @@ little_endian-same (suc k) m m' xs ys h =
 -- the number that was written is there
 pub number_at-with_number : (bytes : List ℕ) (k offset n : ℕ) → (offset + 1) * k ≤ length bytes → n < 256 ^ k → number_at k offset (with_number k offset n bytes) ≡ n
 number_at-with_number bytes k offset n inside small =
-    little_endian-same k (offset * k) 0 (with_number k offset n bytes) (spelled k n) (λ r a. byte-inside bytes k offset n inside r a ∙ ap (λ i. get_or (spelled k n) i 0) (omega arith))
+    little_endian-same k (offset * k) 0 (with_number k offset n bytes) (spelled_number k n) (λ r a. byte-inside bytes k offset n inside r a ∙ ap (λ i. get_or (spelled_number k n) i 0) (omega arith))
     ∙ spelled-whole k n small
 
 -- and every other number is as it was

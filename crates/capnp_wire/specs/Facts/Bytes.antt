@@ -7,7 +7,7 @@ use Rattle.std.proofs.lemmas.Nat.{and_le_l, or_lt, pow_below}
 use Rattle.capnp_wire.specs.Slot.{little_endian}
 use Rattle.capnp_wire.specs.WellFormed.{AreBytes, AreSegments}
 use Rattle.capnp_wire.specs.Edits.{byte_with_bit, with_bit, with_number}
-use Rattle.capnp_wire.specs.Encoding.{spelled}
+use Rattle.capnp_wire.specs.Encoding.{spelled_number}
 
 -- ---- runs ----
 
@@ -46,12 +46,12 @@ AreSegments-one bytes h (suc i) = AreBytes-none
 -- ---- numbers that are spelled ----
 
 -- a number is spelled in as many bytes as were asked for
-pub length_spelled : (k n : ℕ) → length (spelled k n) ≡ k
+pub length_spelled : (k n : ℕ) → length (spelled_number k n) ≡ k
 length_spelled zero n = refl
 length_spelled (suc k) n = ap suc (length_spelled k (n / 256))
 
 -- and these bytes are that number
-pub little_endian_spelled : (k n : ℕ) → n < 256 ^ k → little_endian (spelled k n) ≡ n
+pub little_endian_spelled : (k n : ℕ) → n < 256 ^ k → little_endian (spelled_number k n) ≡ n
 little_endian_spelled zero n h = omega arith
 little_endian_spelled (suc k) n h =
     let p : 256 ^ suc k ≡ 256 * 256 ^ k = grind (arith, pow-suc) in
@@ -79,7 +79,7 @@ AreBytes-append (x ∷ a) b h g zero = h 0
 AreBytes-append (x ∷ a) b h g (suc i) = AreBytes-append a b (λ k. h (suc k)) g i
 
 -- the bytes of a number
-pub AreBytes-spelled : (k n : ℕ) → AreBytes (spelled k n)
+pub AreBytes-spelled : (k n : ℕ) → AreBytes (spelled_number k n)
 AreBytes-spelled zero n i = omega arith
 AreBytes-spelled (suc k) n zero = mod-lt n (omega arith)
 AreBytes-spelled (suc k) n (suc i) = AreBytes-spelled k (n / 256) i
@@ -100,15 +100,15 @@ AreBytes-set (y ∷ bytes) (suc i) x h b (suc k) = AreBytes-set bytes i x (λ j.
 -- with a number
 pub AreBytes-with_number : (width offset n : ℕ) (bytes : List ℕ) → AreBytes bytes → AreBytes (with_number width offset n bytes)
 AreBytes-with_number width offset n bytes h =
-    AreBytes-append (take (offset * width) bytes) (spelled width n ++ drop (offset * width + width) bytes) (AreBytes-take (offset * width) bytes h)
-    (AreBytes-append (spelled width n) (drop (offset * width + width) bytes) (AreBytes-spelled width n) (AreBytes-drop (offset * width + width) bytes h))
+    AreBytes-append (take (offset * width) bytes) (spelled_number width n ++ drop (offset * width + width) bytes) (AreBytes-take (offset * width) bytes h)
+    (AreBytes-append (spelled_number width n) (drop (offset * width + width) bytes) (AreBytes-spelled width n) (AreBytes-drop (offset * width + width) bytes h))
 
 pub length-with_number : (width offset n : ℕ) (bytes : List ℕ) → (offset + 1) * width ≤ length bytes → length (with_number width offset n bytes) ≡ length bytes
 length-with_number width offset n bytes h = omega (
   arith,
   inside,
-  length-append (take (offset * width) bytes) (spelled width n ++ drop (offset * width + width) bytes),
-  length-append (spelled width n) (drop (offset * width + width) bytes),
+  length-append (take (offset * width) bytes) (spelled_number width n ++ drop (offset * width + width) bytes),
+  length-append (spelled_number width n) (drop (offset * width + width) bytes),
   length_spelled width n,
   length-take-le (offset * width) bytes (omega (arith, inside)),
   length-drop (offset * width + width) bytes,

@@ -2,29 +2,29 @@
 use Rattle.std.proofs.Common.{◌≡◌, ℕ, zero, suc, ◌+◌, ◌-◌, ◌<◌, [], ◌∷◌, length, get_or, refl, sym, ap, ◌∙◌, arith}
 use Rattle.capnp_wire.specs.Tree.{Tree}
 use Rattle.capnp_wire.specs.Reading.{element_number, list_length}
-use Rattle.capnp_wire.specs.Numbers.{elements_from, elements_of}
+use Rattle.capnp_wire.specs.Numbers.{numbers_from, numbers_in_list}
 
 module _ {A : Type 0} (of_number : ℕ → A) (width : ℕ) (t : Tree) where
   -- none from the end on
-  pub elements_from-none : (i n : ℕ) → i ≡ n → elements_from of_number width t i (n - i) ≡ []
+  pub elements_from-none : (i n : ℕ) → i ≡ n → numbers_from of_number width t i (n - i) ≡ []
   elements_from-none i n h =
       let e : n - i ≡ 0 = omega (arith, h) in
-      ap (elements_from of_number width t i) e
+      ap (numbers_from of_number width t i) e
 
   -- else the first, which is a value x, and those behind it
   pub elements_from-first : (i n : ℕ) (x : A) → i < n → x ≡ of_number (element_number width t i)
-      → elements_from of_number width t i (n - i) ≡ x ∷ elements_from of_number width t (i + 1) (n - (i + 1))
+      → numbers_from of_number width t i (n - i) ≡ x ∷ numbers_from of_number width t (i + 1) (n - (i + 1))
   elements_from-first i n x h is =
       let e : n - i ≡ suc (n - (i + 1)) = omega (arith, h) in
-      ap (elements_from of_number width t i) e ∙ ap (λ y. y ∷ elements_from of_number width t (i + 1) (n - (i + 1))) (sym is)
+      ap (numbers_from of_number width t i) e ∙ ap (λ y. y ∷ numbers_from of_number width t (i + 1) (n - (i + 1))) (sym is)
 
   -- as many as are asked
-  pub count_of_elements_from : (i n : ℕ) → length (elements_from of_number width t i n) ≡ n
+  pub count_of_elements_from : (i n : ℕ) → length (numbers_from of_number width t i n) ≡ n
   count_of_elements_from i zero = refl
   count_of_elements_from i (suc n) = ap suc (count_of_elements_from (i + 1) n)
 
   -- and each at its index
-  pub get_or-elements_from : (i n k : ℕ) (d : A) → k < n → get_or (elements_from of_number width t i n) k d ≡ of_number (element_number width t (i + k))
+  pub get_or-elements_from : (i n k : ℕ) (d : A) → k < n → get_or (numbers_from of_number width t i n) k d ≡ of_number (element_number width t (i + k))
   get_or-elements_from i zero k d h = absurd (omega (arith, h))
   get_or-elements_from i (suc n) zero d h =
       let e : i ≡ i + 0 = omega arith in
@@ -35,10 +35,10 @@ module _ {A : Type 0} (of_number : ℕ → A) (width : ℕ) (t : Tree) where
 
   -- ---- of a whole list ----
 
-  pub count_of_elements_of : length (elements_of of_number width t) ≡ list_length t
+  pub count_of_elements_of : length (numbers_in_list of_number width t) ≡ list_length t
   count_of_elements_of = count_of_elements_from 0 (list_length t)
 
-  pub get_or-elements_of : (k : ℕ) (d : A) → k < list_length t → get_or (elements_of of_number width t) k d ≡ of_number (element_number width t k)
+  pub get_or-elements_of : (k : ℕ) (d : A) → k < list_length t → get_or (numbers_in_list of_number width t) k d ≡ of_number (element_number width t k)
   get_or-elements_of k d h =
       let e : 0 + k ≡ k = omega arith in
       get_or-elements_from 0 (list_length t) k d h ∙ ap (λ j. of_number (element_number width t j)) e

@@ -9,7 +9,7 @@ use Rattle.capnp_wire.specs.Place.{tree_below, bytes_at, bits_from, struct_at, s
 use Rattle.capnp_wire.specs.Level.{list_at_depth, tree_at_depth}
 use Rattle.capnp_wire.specs.Words.{byte_words}
 use Rattle.capnp_wire.specs.WellFormed.{is_width}
-use Rattle.capnp_wire.specs.Encoding.{spelled, packed, padded, number_size, struct_word, list_word}
+use Rattle.capnp_wire.specs.Encoding.{spelled_number, packed_bits, padded_bytes, number_size, struct_word, list_word}
 use Rattle.capnp_wire.specs.Facts.Levels.{below_step}
 use Rattle.capnp_wire.specs.Facts.Stands.{Stands, stands_first, stands_all, stands_lies}
 use Rattle.capnp_wire.specs.Facts.EncodedSizes.{length_packed, length_padded}
@@ -64,11 +64,11 @@ module _ (segments : Segments) (segment : List ℕ) (l w : ℕ) where
   -- ---- objects without pointers ----
 
   -- a null
-  pub reads_null : Stands segment w (spelled 8 0) → tree_below l segments segment w ≡ Null
+  pub reads_null : Stands segment w (spelled_number 8 0) → tree_below l segments segment w ≡ Null
   reads_null s = at_null (target_null segments segment w s)
 
   -- a struct of size zero
-  pub reads_zero : (bytes : List ℕ) (ps : Trees) → length bytes ≡ 8 * (length bytes / 8) → length bytes / 8 + tree_count ps ≡ 0 → 2 ≤ l → Stands segment w (spelled 8 (struct_word (2 ^ 30 - 1) 0 0)) → tree_below l segments segment w ≡ Struct bytes ps
+  pub reads_zero : (bytes : List ℕ) (ps : Trees) → length bytes ≡ 8 * (length bytes / 8) → length bytes / 8 + tree_count ps ≡ 0 → 2 ≤ l → Stands segment w (spelled_number 8 (struct_word (2 ^ 30 - 1) 0 0)) → tree_below l segments segment w ≡ Struct bytes ps
   reads_zero bytes ps h z k s =
       let eb : [] ≡ bytes = sym (nil_from_length bytes (omega arith)) in
       let ep : NoTrees ≡ ps = sym (no_trees_of_count ps (omega arith)) in
@@ -76,31 +76,31 @@ module _ (segments : Segments) (segment : List ℕ) (l w : ℕ) where
 
   module _ (g : ℕ) (near : g < 2 ^ 29) where
     -- a list of nothing
-    pub reads_voids : (n : ℕ) → n < 2 ^ 29 → 2 ≤ l → Stands segment w (spelled 8 (list_word g 0 n)) → Stands segment (w + 1 + g) [] → tree_below l segments segment w ≡ Voids n
+    pub reads_voids : (n : ℕ) → n < 2 ^ 29 → 2 ≤ l → Stands segment w (spelled_number 8 (list_word g 0 n)) → Stands segment (w + 1 + g) [] → tree_below l segments segment w ≡ Voids n
     reads_voids n h k s there =
         let q : 0 ≡ list_words 0 n = omega arith in
         let lie : lies segment (w + 1 + g + list_words 0 n) ≡ true = ap (λ m. lies segment (w + 1 + g + m)) (sym q) ∙ stands_lies segment (w + 1 + g) 0 [] refl there in
         at_list (w + 1 + g) 0 n k (λ x. omega arith) (target_list segments segment w g near 0 n (omega arith) h s lie)
 
     -- a list of bits
-    pub reads_bits : (bs : List Bool) → length bs < 2 ^ 29 → 2 ≤ l → Stands segment w (spelled 8 (list_word g 1 (length bs))) → Stands segment (w + 1 + g) (packed (8 * list_words 1 (length bs)) bs) → tree_below l segments segment w ≡ Bits bs
+    pub reads_bits : (bs : List Bool) → length bs < 2 ^ 29 → 2 ≤ l → Stands segment w (spelled_number 8 (list_word g 1 (length bs))) → Stands segment (w + 1 + g) (packed_bits (8 * list_words 1 (length bs)) bs) → tree_below l segments segment w ≡ Bits bs
     reads_bits bs h k s there =
         let n : ℕ = list_words 1 (length bs) in
-        let lie : lies segment (w + 1 + g + n) ≡ true = stands_lies segment (w + 1 + g) n (packed (8 * n) bs) (length_packed (8 * n) bs) there in
+        let lie : lies segment (w + 1 + g + n) ≡ true = stands_lies segment (w + 1 + g) n (packed_bits (8 * n) bs) (length_packed (8 * n) bs) there in
         at_list (w + 1 + g) 1 (length bs) k (λ x. omega arith) (target_list segments segment w g near 1 (length bs) (omega arith) h s lie)
-        ∙ ap (λ x. Bits (bits_from x 0 (length bs))) (stands_all segment (w + 1 + g) (8 * n) (packed (8 * n) bs) (length_packed (8 * n) bs) there)
+        ∙ ap (λ x. Bits (bits_from x 0 (length bs))) (stands_all segment (w + 1 + g) (8 * n) (packed_bits (8 * n) bs) (length_packed (8 * n) bs) there)
         ∙ ap Bits (bits_packed (8 * n) bs (omega arith))
 
     -- ---- a list of numbers ----
 
-    module _ (bytes : List ℕ) (there : Stands segment (w + 1 + g) (padded bytes)) where
+    module _ (bytes : List ℕ) (there : Stands segment (w + 1 + g) (padded_bytes bytes)) where
       -- it is read as numbers of that width
       IsReadAs : ℕ → Type 0
-      IsReadAs v = length bytes ≡ v * (length bytes / v) → length bytes / v < 2 ^ 29 → cond (v == 1) 1 2 ≤ l → Stands segment w (spelled 8 (list_word g (number_size v) (length bytes / v))) → tree_below l segments segment w ≡ Numbers v bytes
+      IsReadAs v = length bytes ≡ v * (length bytes / v) → length bytes / v < 2 ^ 29 → cond (v == 1) 1 2 ≤ l → Stands segment w (spelled_number 8 (list_word g (number_size v) (length bytes / v))) → tree_below l segments segment w ≡ Numbers v bytes
 
       -- its words lie in the segment
       numbers_lie : (e n : ℕ) → list_words e n ≡ byte_words (length bytes) → lies segment (w + 1 + g + list_words e n) ≡ true
-      numbers_lie e n q = ap (λ k. lies segment (w + 1 + g + k)) q ∙ stands_lies segment (w + 1 + g) (byte_words (length bytes)) (padded bytes) (length_padded bytes) there
+      numbers_lie e n q = ap (λ k. lies segment (w + 1 + g + k)) q ∙ stands_lies segment (w + 1 + g) (byte_words (length bytes)) (padded_bytes bytes) (length_padded bytes) there
 
       -- its bytes stand at its start
       numbers_are : (n : ℕ) → length bytes ≡ n → bytes_at segment (w + 1 + g) n ≡ bytes
@@ -139,6 +139,6 @@ module _ (segments : Segments) (segment : List ℕ) (l w : ℕ) where
           ∙ ap (Numbers 8) (numbers_are (8 * (length bytes / 8)) e)
 
       -- of any of these widths
-      pub reads_numbers : (v : ℕ) → IsTrue (is_width v) → length bytes ≡ v * (length bytes / v) → length bytes / v < 2 ^ 29 → cond (v == 1) 1 2 ≤ l → Stands segment w (spelled 8 (list_word g (number_size v) (length bytes / v))) → tree_below l segments segment w ≡ Numbers v bytes
+      pub reads_numbers : (v : ℕ) → IsTrue (is_width v) → length bytes ≡ v * (length bytes / v) → length bytes / v < 2 ^ 29 → cond (v == 1) 1 2 ≤ l → Stands segment w (spelled_number 8 (list_word g (number_size v) (length bytes / v))) → tree_below l segments segment w ≡ Numbers v bytes
       unfolding IsReadAs
       reads_numbers v h = width_cases IsReadAs reads_one reads_two reads_four reads_eight v h

@@ -5,7 +5,7 @@ use Rattle.capnp_wire.specs.Tree.{Tree, Null, Struct, Voids, Bits, Numbers, Poin
 use Rattle.capnp_wire.specs.Locate.{list_words}
 use Rattle.capnp_wire.specs.WellFormed.{IsWellFormed, AreWellFormed, AreElements}
 use Rattle.capnp_wire.specs.Words.{byte_words, own_words, words_below, words_of_all, words_below_all, words_of}
-use Rattle.capnp_wire.specs.Encoding.{packed, padded, pointer_row, element_row, own_bytes, bytes_below, bytes_of_all, bytes_below_all, bytes_of, encoding_of}
+use Rattle.capnp_wire.specs.Encoding.{packed_bits, padded_bytes, pointer_row, element_row, own_bytes, bytes_below, bytes_of_all, bytes_below_all, bytes_of, encoding_of}
 
 -- a pointer takes a word
 pub length_pointer_row : (gap : ℕ) (ts : Trees) → length (pointer_row gap ts) ≡ 8 * tree_count ts
@@ -15,12 +15,12 @@ length_pointer_row gap (MoreTrees t ts) =
     omega (arith, n)
 
 -- bits are packed in as many bytes as were asked for
-pub length_packed : (k : ℕ) (bs : List Bool) → length (packed k bs) ≡ k
+pub length_packed : (k : ℕ) (bs : List Bool) → length (packed_bits k bs) ≡ k
 length_packed zero bs = refl
 length_packed (suc k) bs = ap suc (length_packed k (drop 8 bs))
 
 -- whole words
-pub length_padded : (bytes : List ℕ) → length (padded bytes) ≡ 8 * byte_words (length bytes)
+pub length_padded : (bytes : List ℕ) → length (padded_bytes bytes) ≡ 8 * byte_words (length bytes)
 length_padded bytes = omega (arith, length-append bytes (replicate (8 * byte_words (length bytes) - length bytes) 0), length-replicate {A = ℕ} (8 * byte_words (length bytes) - length bytes) 0)
 
 -- an element of a composite list: its data words and its pointers

@@ -3,7 +3,7 @@ use Rattle.std.proofs.Common.{◌≡◌, ℕ, zero, suc, ◌+◌, ◌*◌, ◌/�
 use Rattle.std.specs.Prelude.{◌==◌, nat_lt, nat_le, IfSome}
 use Rattle.std.proofs.lemmas.Bool.Decides.{nat_tests}
 use Rattle.capnp_wire.specs.Slot.{word_at}
-use Rattle.capnp_wire.specs.Locate.{Segments, Target, NoTarget, BadTarget, StructAt, ListAt, CompositeAt, kind, offset, data_words, pointer_count, element_size, count, is_double, pad_word, pad_segment, lies, start_of, list_words, struct_target, tagged_target, list_target, near_target, near_target_from, tag_target, double_target, pad_target, word_target, target_at}
+use Rattle.capnp_wire.specs.Locate.{Segments, Target, NoTarget, BadTarget, StructAt, ListAt, CompositeAt, pointer_kind, offset, data_words, pointer_count, element_size_number, count, is_double, pad_word, pad_segment, lies, start_of, list_words, struct_target, tagged_target, list_target, near_target, near_target_from, tag_target, double_target, pad_target, word_target, target_at}
 use Rattle.capnp_wire.specs.WellFormed.{AreBytes, AreSegments, IsInside}
 use Rattle.capnp_wire.specs.declared.fault.Fault.TheVariants.{BadPointer, CapabilityPointer}
 use Rattle.capnp_wire.specs.Facts.ByteRuns.{word_at-lt}
@@ -44,7 +44,7 @@ IsInside-struct_target segment start word h b =
 -- a composite list ends within the words that its pointer counts, and these within its segment
 pub IsInside-tagged_target : (segment : List ℕ) (start words tag : ℕ) → AreBytes segment → start + 1 + words ≤ length segment / 8 → words < 2 ^ 29 → tag < 2 ^ 64 → IsInside (tagged_target segment start words tag)
 IsInside-tagged_target segment start words tag h l w b =
-    IsInside-cond (kind tag == 0) _ (BadTarget BadPointer)
+    IsInside-cond (pointer_kind tag == 0) _ (BadTarget BadPointer)
     (λ _. IsInside-cond (nat_lt (offset tag) (2 ^ 29)) _ (BadTarget BadPointer)
     (λ c. IsInside-cond (nat_le (offset tag * (data_words tag + pointer_count tag)) words) (CompositeAt segment (start + 1) (offset tag) (data_words tag) (pointer_count tag)) (BadTarget BadPointer)
     (λ e.
@@ -57,26 +57,26 @@ IsInside-tagged_target segment start words tag h l w b =
 -- a list ends within its segment
 pub IsInside-list_target : (segment : List ℕ) (start word : ℕ) → AreBytes segment → word < 2 ^ 64 → IsInside (list_target segment start word)
 IsInside-list_target segment start word h b =
-    IsInside-cond (element_size word == 7) _ _
+    IsInside-cond (element_size_number word == 7) _ _
     (λ _. IsInside-cond (lies segment (start + 1 + count word)) (tagged_target segment start (count word) (word_at segment start)) (BadTarget BadPointer)
     (λ e. IsInside-tagged_target segment start (count word) (word_at segment start) h (le_from_test _ _ e) (omega arith) (word_at-lt segment start h))
     (λ _. tt))
-    (λ n. IsInside-cond (lies segment (start + list_words (element_size word) (count word))) (ListAt segment start (element_size word) (count word)) (BadTarget BadPointer)
-    (λ e. (h, le_from_test _ _ e, below_seven (element_size word) (omega arith) n, omega arith))
+    (λ n. IsInside-cond (lies segment (start + list_words (element_size_number word) (count word))) (ListAt segment start (element_size_number word) (count word)) (BadTarget BadPointer)
+    (λ e. (h, le_from_test _ _ e, below_seven (element_size_number word) (omega arith) n, omega arith))
     (λ _. tt))
 
 -- a pointer of any kind, from a known start
 pub IsInside-near_target : (segment : List ℕ) (start word : ℕ) → AreBytes segment → word < 2 ^ 64 → IsInside (near_target segment start word)
 IsInside-near_target segment start word h b =
-    IsInside-cond (kind word == 0) (struct_target segment start word) _
+    IsInside-cond (pointer_kind word == 0) (struct_target segment start word) _
     (λ _. IsInside-struct_target segment start word h b)
-    (λ _. IsInside-cond (kind word == 1) (list_target segment start word) _
+    (λ _. IsInside-cond (pointer_kind word == 1) (list_target segment start word) _
     (λ _. IsInside-list_target segment start word h b)
-    (λ _. IsInside-cond (kind word == 2) (BadTarget BadPointer) (BadTarget CapabilityPointer) (λ _. tt) (λ _. tt)))
+    (λ _. IsInside-cond (pointer_kind word == 2) (BadTarget BadPointer) (BadTarget CapabilityPointer) (λ _. tt) (λ _. tt)))
 
 -- the same where the start may lie before the segment
 pub IsInside-near_target_from : (segment : List ℕ) (start : Option ℕ) (word : ℕ) → AreBytes segment → word < 2 ^ 64 → IsInside (near_target_from segment start word)
-IsInside-near_target_from segment None word h b = IsInside-cond (kind word == 3) (BadTarget CapabilityPointer) (BadTarget BadPointer) (λ _. tt) (λ _. tt)
+IsInside-near_target_from segment None word h b = IsInside-cond (pointer_kind word == 3) (BadTarget CapabilityPointer) (BadTarget BadPointer) (λ _. tt) (λ _. tt)
 IsInside-near_target_from segment (Some start) word h b = IsInside-near_target segment start word h b
 
 -- ---- through far pointers ----
@@ -89,9 +89,9 @@ IsInside-tag_target (Some segment) first tag h b = IsInside-near_target segment 
 -- a landing pad of two words
 pub IsInside-double_target : (segments : Segments) (first tag : ℕ) → AreSegments segments → tag < 2 ^ 64 → IsInside (double_target segments first tag)
 IsInside-double_target segments first tag h b =
-    IsInside-cond (kind first == 2) _ (BadTarget BadPointer)
+    IsInside-cond (pointer_kind first == 2) _ (BadTarget BadPointer)
     (λ _. IsInside-cond (is_double first) (BadTarget BadPointer) _ (λ _. tt)
-    (λ _. IsInside-cond (kind tag == 3) (BadTarget CapabilityPointer) (tag_target (slice_get segments (pad_segment first)) first tag) (λ _. tt)
+    (λ _. IsInside-cond (pointer_kind tag == 3) (BadTarget CapabilityPointer) (tag_target (slice_get segments (pad_segment first)) first tag) (λ _. tt)
     (λ _. IsInside-tag_target (slice_get segments (pad_segment first)) first tag (AreSegments-slice_get segments (pad_segment first) h) b)))
     (λ _. tt)
 
@@ -113,7 +113,7 @@ IsInside-pad_target segments (Some segment) word h s =
 pub IsInside-word_target : (segments : Segments) (segment : List ℕ) (w word : ℕ) → AreSegments segments → AreBytes segment → word < 2 ^ 64 → IsInside (word_target segments segment w word)
 IsInside-word_target segments segment w word h s b =
     IsInside-cond (word == 0) NoTarget _ (λ _. tt)
-    (λ _. IsInside-cond (kind word == 2) (pad_target segments (slice_get segments (pad_segment word)) word) (near_target_from segment (start_of w word) word)
+    (λ _. IsInside-cond (pointer_kind word == 2) (pad_target segments (slice_get segments (pad_segment word)) word) (near_target_from segment (start_of w word) word)
     (λ _. IsInside-pad_target segments (slice_get segments (pad_segment word)) word h (AreSegments-slice_get segments (pad_segment word) h))
     (λ _. IsInside-near_target_from segment (start_of w word) word s b))
 

@@ -3,9 +3,9 @@ use Rattle.std.proofs.Common.{◌≡◌, ℕ, ◌*◌, ◌<◌, refl, arith, fal
 use Rattle.std.proofs.lemmas.List.{length-replicate}
 use Rattle.capnp_wire.specs.Tree.{Tree, Null, Voids, Numbers, Pointers, Composite, StructTree, empty_struct, nth_struct}
 use Rattle.capnp_wire.specs.Reading.{element_struct, list_length}
-use Rattle.capnp_wire.specs.Edits.{HasAtLeast, extended, zero_list, zero_struct}
+use Rattle.capnp_wire.specs.Edits.{HasAtLeast, extended_struct, zero_list, zero_struct}
 use Rattle.capnp_wire.specs.Elements.{HasStruct, with_struct_element}
-use Rattle.capnp_wire.specs.StructLists.{HoldsStructs, as_structs, grown, struct_list}
+use Rattle.capnp_wire.specs.StructLists.{HoldsStructs, as_structs, grown_size, struct_list}
 use Rattle.capnp_wire.specs.WellFormed.{IsElement, IsWellFormed}
 use Rattle.capnp_wire.specs.declared.size.ElementSize.{ElementSize}
 use Rattle.capnp_wire.specs.declared.size.ElementSize.TheVariants.{Void, Bit, Byte, TwoBytes, FourBytes, EightBytes, Pointer, InlineComposite}
@@ -20,7 +20,7 @@ pub HasAtLeast-zero_struct : (size : StructSize) → HasAtLeast size (zero_struc
 HasAtLeast-zero_struct size = (omega (arith, length-replicate {A = ℕ} (8 * size.data_words) 0), omega (arith, tree_count-nulls size.pointers))
 
 -- an extended one has the size to which it was, and what it had before
-pub HasAtLeast-extended : (size : StructSize) (s : StructTree) → HasAtLeast size (extended size s)
+pub HasAtLeast-extended : (size : StructSize) (s : StructTree) → HasAtLeast size (extended_struct size s)
 HasAtLeast-extended size s = (omega (arith, length-extended size s), omega (arith, tree_count-extended size s))
 
 -- ---- new lists ----
@@ -38,13 +38,13 @@ list_length-zero_list InlineComposite count = struct_count-structs_from (λ _. e
 -- ---- lists that become lists of structs ----
 
 length-as_structs : (size : StructSize) (t : Tree) → list_length (as_structs size t) ≡ list_length t
-length-as_structs size t = struct_count-structs_from (λ i. extended size (element_struct t i)) 0 (list_length t)
+length-as_structs size t = struct_count-structs_from (λ i. extended_struct size (element_struct t i)) 0 (list_length t)
 
 pub list_length-struct_list : (size : StructSize) (t : Tree) → list_length (struct_list size t) ≡ list_length t
-list_length-struct_list size (Voids n) = length-as_structs (grown size (Voids n)) (Voids n)
-list_length-struct_list size (Numbers w bytes) = length-as_structs (grown size (Numbers w bytes)) (Numbers w bytes)
-list_length-struct_list size (Pointers ps) = length-as_structs (grown size (Pointers ps)) (Pointers ps)
-list_length-struct_list size (Composite d p es) = length-as_structs (grown size (Composite d p es)) (Composite d p es)
+list_length-struct_list size (Voids n) = length-as_structs (grown_size size (Voids n)) (Voids n)
+list_length-struct_list size (Numbers w bytes) = length-as_structs (grown_size size (Numbers w bytes)) (Numbers w bytes)
+list_length-struct_list size (Pointers ps) = length-as_structs (grown_size size (Pointers ps)) (Pointers ps)
+list_length-struct_list size (Composite d p es) = length-as_structs (grown_size size (Composite d p es)) (Composite d p es)
 list_length-struct_list size t = refl
 
 pub HasStruct-there : (size : StructSize) (t : Tree) (i : ℕ) → HoldsStructs size t → i < list_length t → HasStruct t i

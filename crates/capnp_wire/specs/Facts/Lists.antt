@@ -6,9 +6,9 @@ use Rattle.std.proofs.lemmas.List.{length-append, length-replicate}
 use Rattle.capnp_wire.specs.Tree.{Tree, Null, Struct, Voids, Bits, Numbers, Pointers, Composite, FaultLeaf, Structs, StructTree, empty_struct, nth_struct, struct_count, structs_from, tree_count}
 use Rattle.capnp_wire.specs.Reading.{element_struct, list_length}
 use Rattle.capnp_wire.specs.WellFormed.{AreBytes, IsElement, IsWellFormed, IsWellFormedStruct, is_width}
-use Rattle.capnp_wire.specs.Edits.{extended, with_bytes, with_number, with_pointer_tree, zero_list, zero_struct, zero_structs}
+use Rattle.capnp_wire.specs.Edits.{extended_struct, with_bytes, with_number, with_pointer_tree, zero_list, zero_struct, zero_structs}
 use Rattle.capnp_wire.specs.Elements.{HasNumber, with_bit_element, with_number_element, with_pointer_element, with_struct, with_struct_element}
-use Rattle.capnp_wire.specs.StructLists.{as_structs, grown, past_format, struct_list, struct_list_refusal}
+use Rattle.capnp_wire.specs.StructLists.{as_structs, grown_size, past_format, struct_list, struct_list_refusal}
 use Rattle.capnp_wire.specs.declared.size.ElementSize.{ElementSize}
 use Rattle.capnp_wire.specs.declared.size.ElementSize.TheVariants.{Void, Bit, Byte, TwoBytes, FourBytes, EightBytes, Pointer, InlineComposite}
 use Rattle.capnp_wire.specs.declared.size.StructSize.{StructSize}
@@ -78,20 +78,20 @@ IsWithin size s = (length s.bytes ≤ 8 * size.data_words) × (tree_count s.poin
 
 IsWellFormed-as_structs : (size : StructSize) (t : Tree) → IsWellFormed t → size.data_words < 2 ^ 16 → size.pointers < 2 ^ 16 → ((i : ℕ) → i < list_length t → IsWithin size (element_struct t i)) → past_format (list_length t) size ≡ None → IsWellFormed (as_structs size t)
 IsWellFormed-as_structs size t h a b within room =
-    IsWellFormed-structs_from (λ i. extended size (element_struct t i)) size (list_length t) a b (list_length-lt t h) (few_words (list_length t) size room)
+    IsWellFormed-structs_from (λ i. extended_struct size (element_struct t i)) size (list_length t) a b (list_length-lt t h) (few_words (list_length t) size room)
     (λ i c. IsElement-extended size (element_struct t i) (IsWellFormedStruct-element_struct t i h) (within i c).0 (within i c).1)
 
 pub IsWellFormed-struct_list : (size : StructSize) (t : Tree) → size.data_words < 2 ^ 16 → size.pointers < 2 ^ 16 → struct_list_refusal size t ≡ None → IsWellFormed t → IsWellFormed (struct_list size t)
 IsWellFormed-struct_list size Null a b r h = tt
 IsWellFormed-struct_list size (Struct bytes ps) a b r h = h
-IsWellFormed-struct_list size (Voids n) a b r h = IsWellFormed-as_structs (grown size (Voids n)) (Voids n) h (omega arith) (omega arith) (λ i c. (omega arith, omega arith)) r
+IsWellFormed-struct_list size (Voids n) a b r h = IsWellFormed-as_structs (grown_size size (Voids n)) (Voids n) h (omega arith) (omega arith) (λ i c. (omega arith, omega arith)) r
 IsWellFormed-struct_list size (Bits bs) a b r h = h
 IsWellFormed-struct_list size (Numbers w bytes) a b r h =
-    IsWellFormed-as_structs (grown size (Numbers w bytes)) (Numbers w bytes) h (omega arith) (omega arith) (λ i c. (omega (arith, length-part-le w (i * w) bytes, width_bound w h.1), omega arith)) r
+    IsWellFormed-as_structs (grown_size size (Numbers w bytes)) (Numbers w bytes) h (omega arith) (omega arith) (λ i c. (omega (arith, length-part-le w (i * w) bytes, width_bound w h.1), omega arith)) r
 IsWellFormed-struct_list size (Pointers ps) a b r h =
-    IsWellFormed-as_structs (grown size (Pointers ps)) (Pointers ps) h (omega arith) (omega arith) (λ i c. (omega arith, omega (arith, tree_count-only_tree-le ps i))) r
+    IsWellFormed-as_structs (grown_size size (Pointers ps)) (Pointers ps) h (omega arith) (omega arith) (λ i c. (omega arith, omega (arith, tree_count-only_tree-le ps i))) r
 IsWellFormed-struct_list size (Composite d p es) a b r h =
-    IsWellFormed-as_structs (grown size (Composite d p es)) (Composite d p es) h (omega (arith, h.0)) (omega (arith, h.1))
+    IsWellFormed-as_structs (grown_size size (Composite d p es)) (Composite d p es) h (omega (arith, h.0)) (omega (arith, h.1))
     (λ i c. let e : IsElement d p (nth_struct es i) = IsElement-nth_struct d p es i h.4 c in (omega (arith, e.1), omega (arith, e.2))) r
 IsWellFormed-struct_list size (FaultLeaf k) a b r h = h
 

@@ -2,8 +2,8 @@
 use Rattle.std.proofs.Common.{◌≡◌, ℕ, ◌+◌, ◌-◌, ◌*◌, ◌/◌, ◌<◌, ◌≤◌, ◌^◌, List, length, refl, ◌∙◌, arith, true, false, ◌==◌, nat_lt, nat_le, Some}
 use Rattle.std.proofs.lemmas.Bool.Decides.{nat_tests}
 use Rattle.capnp_wire.specs.Slot.{word_at}
-use Rattle.capnp_wire.specs.Locate.{Segments, NoTarget, StructAt, ListAt, CompositeAt, kind, offset, element_size, count, data_words, pointer_count, lies, start_of, list_words, word_target, target_at}
-use Rattle.capnp_wire.specs.Encoding.{spelled, struct_word, list_word}
+use Rattle.capnp_wire.specs.Locate.{Segments, NoTarget, StructAt, ListAt, CompositeAt, pointer_kind, offset, element_size_number, count, data_words, pointer_count, lies, start_of, list_words, word_target, target_at}
+use Rattle.capnp_wire.specs.Encoding.{spelled_number, struct_word, list_word}
 use Rattle.capnp_wire.specs.Facts.Stands.{Stands, stands_word, stands_lies}
 
 -- ---- tests ----
@@ -32,7 +32,7 @@ module _ (o d p : ℕ) (ho : o < 2 ^ 30) (hd : d < 2 ^ 16) (hp : p < 2 ^ 16) whe
   struct_fits = omega arith
 
   -- of the kind of structs
-  struct_kind : kind (struct_word o d p) ≡ 0
+  struct_kind : pointer_kind (struct_word o d p) ≡ 0
   struct_kind = omega arith
 
   -- with that offset
@@ -53,7 +53,7 @@ module _ (o e n : ℕ) (ho : o < 2 ^ 30) (he : e < 8) (hn : n < 2 ^ 29) where
   list_fits = omega arith
 
   -- of the kind of lists
-  list_kind : kind (list_word o e n) ≡ 1
+  list_kind : pointer_kind (list_word o e n) ≡ 1
   list_kind = omega arith
 
   -- with that offset
@@ -61,7 +61,7 @@ module _ (o e n : ℕ) (ho : o < 2 ^ 30) (he : e < 8) (hn : n < 2 ^ 29) where
   list_offset = omega arith
 
   -- that element size
-  list_element_size : element_size (list_word o e n) ≡ e
+  list_element_size : element_size_number (list_word o e n) ≡ e
   list_element_size = omega arith
 
   -- and that count
@@ -85,24 +85,24 @@ start_back w n e =
 
 module _ (segments : Segments) (segment : List ℕ) where
   -- a word that is spelled there
-  word_there : (w n : ℕ) → Stands segment w (spelled 8 n) → n < 2 ^ 64 → target_at segments segment w ≡ word_target segments segment w n
-  word_there w n s fits = rw (stands_lies segment w 1 (spelled 8 n) refl s, stands_word segment w n fits s) refl
+  word_there : (w n : ℕ) → Stands segment w (spelled_number 8 n) → n < 2 ^ 64 → target_at segments segment w ≡ word_target segments segment w n
+  word_there w n s fits = rw (stands_lies segment w 1 (spelled_number 8 n) refl s, stands_word segment w n fits s) refl
 
   module _ (w n a : ℕ) (some : (n ≡ 0) → ⊥) (start : start_of w n ≡ Some a) where
     -- a word with the parts of a struct pointer
-    of_struct : (d p : ℕ) → kind n ≡ 0 → data_words n ≡ d → pointer_count n ≡ p → lies segment (a + d + p) ≡ true → word_target segments segment w n ≡ StructAt segment a d p
+    of_struct : (d p : ℕ) → pointer_kind n ≡ 0 → data_words n ≡ d → pointer_count n ≡ p → lies segment (a + d + p) ≡ true → word_target segments segment w n ≡ StructAt segment a d p
     of_struct d p k ed ep l = rw (not_equal n 0 some, k, start, k, ed, ep, l) refl
 
     -- one with those of a list pointer
-    of_list : (e m : ℕ) → kind n ≡ 1 → element_size n ≡ e → count n ≡ m → e < 7 → lies segment (a + list_words e m) ≡ true → word_target segments segment w n ≡ ListAt segment a e m
+    of_list : (e m : ℕ) → pointer_kind n ≡ 1 → element_size_number n ≡ e → count n ≡ m → e < 7 → lies segment (a + list_words e m) ≡ true → word_target segments segment w n ≡ ListAt segment a e m
     of_list e m k es em h l = rw (not_equal n 0 some, k, start, k, es, not_equal e 7 (λ x. omega arith), em, l) refl
 
     -- and one with those of a composite list's, whose tag is known
-    of_composite : (m t c d p : ℕ) → kind n ≡ 1 → element_size n ≡ 7 → count n ≡ m → lies segment (a + 1 + m) ≡ true → word_at segment a ≡ t → kind t ≡ 0 → offset t ≡ c → data_words t ≡ d → pointer_count t ≡ p → c < 2 ^ 29 → c * (d + p) ≤ m → word_target segments segment w n ≡ CompositeAt segment (a + 1) c d p
+    of_composite : (m t c d p : ℕ) → pointer_kind n ≡ 1 → element_size_number n ≡ 7 → count n ≡ m → lies segment (a + 1 + m) ≡ true → word_at segment a ≡ t → pointer_kind t ≡ 0 → offset t ≡ c → data_words t ≡ d → pointer_count t ≡ p → c < 2 ^ 29 → c * (d + p) ≤ m → word_target segments segment w n ≡ CompositeAt segment (a + 1) c d p
     of_composite m t c d p k es em l et kt ec ed ep h f = rw (not_equal n 0 some, k, start, k, es, em, l, et, kt, ec, is_below c (2 ^ 29) h, ed, ep, is_at_most (c * (d + p)) m f) refl
 
   -- a struct of size zero
-  pub target_zero : (w : ℕ) → Stands segment w (spelled 8 (struct_word (2 ^ 30 - 1) 0 0)) → target_at segments segment w ≡ StructAt segment w 0 0
+  pub target_zero : (w : ℕ) → Stands segment w (spelled_number 8 (struct_word (2 ^ 30 - 1) 0 0)) → target_at segments segment w ≡ StructAt segment w 0 0
   target_zero w s =
       let q : w + 0 + 0 ≤ length segment / 8 = omega (arith, s.within) in
       let l : lies segment (w + 0 + 0) ≡ true = is_at_most (w + 0 + 0) (length segment / 8) q in
@@ -110,12 +110,12 @@ module _ (segments : Segments) (segment : List ℕ) where
       ∙ of_struct w (struct_word (2 ^ 30 - 1) 0 0) w (λ e. omega arith) (start_back w (struct_word (2 ^ 30 - 1) 0 0) refl) 0 0 refl refl refl l
 
   -- a null
-  pub target_null : (w : ℕ) → Stands segment w (spelled 8 0) → target_at segments segment w ≡ NoTarget
+  pub target_null : (w : ℕ) → Stands segment w (spelled_number 8 0) → target_at segments segment w ≡ NoTarget
   target_null w s = word_there w 0 s (omega arith)
 
   module _ (w g : ℕ) (near : g < 2 ^ 29) where
     -- any other struct
-    pub target_struct : (d p : ℕ) → d < 2 ^ 16 → p < 2 ^ 16 → 0 < d + p → Stands segment w (spelled 8 (struct_word g d p)) → lies segment (w + 1 + g + d + p) ≡ true → target_at segments segment w ≡ StructAt segment (w + 1 + g) d p
+    pub target_struct : (d p : ℕ) → d < 2 ^ 16 → p < 2 ^ 16 → 0 < d + p → Stands segment w (spelled_number 8 (struct_word g d p)) → lies segment (w + 1 + g + d + p) ≡ true → target_at segments segment w ≡ StructAt segment (w + 1 + g) d p
     target_struct d p hd hp some s l =
         let o : g < 2 ^ 30 = omega arith in
         word_there w (struct_word g d p) s (struct_fits g d p o hd hp)
@@ -123,7 +123,7 @@ module _ (segments : Segments) (segment : List ℕ) where
         (struct_kind g d p o hd hp) (struct_data_words g d p o hd hp) (struct_pointer_count g d p o hd hp) l
 
     -- a list that is not of structs
-    pub target_list : (e n : ℕ) → e < 7 → n < 2 ^ 29 → Stands segment w (spelled 8 (list_word g e n)) → lies segment (w + 1 + g + list_words e n) ≡ true → target_at segments segment w ≡ ListAt segment (w + 1 + g) e n
+    pub target_list : (e n : ℕ) → e < 7 → n < 2 ^ 29 → Stands segment w (spelled_number 8 (list_word g e n)) → lies segment (w + 1 + g + list_words e n) ≡ true → target_at segments segment w ≡ ListAt segment (w + 1 + g) e n
     target_list e n he hn s l =
         let o : g < 2 ^ 30 = omega arith in
         let e8 : e < 8 = omega arith in
@@ -132,7 +132,7 @@ module _ (segments : Segments) (segment : List ℕ) where
         (list_kind g e n o e8 hn) (list_element_size g e n o e8 hn) (list_count g e n o e8 hn) he l
 
     -- a composite list, whose tag stands at its start
-    pub target_composite : (c d p : ℕ) → c < 2 ^ 29 → d < 2 ^ 16 → p < 2 ^ 16 → c * (d + p) < 2 ^ 29 → Stands segment w (spelled 8 (list_word g 7 (c * (d + p)))) → Stands segment (w + 1 + g) (spelled 8 (struct_word c d p)) → lies segment (w + 1 + g + 1 + c * (d + p)) ≡ true → target_at segments segment w ≡ CompositeAt segment (w + 1 + g + 1) c d p
+    pub target_composite : (c d p : ℕ) → c < 2 ^ 29 → d < 2 ^ 16 → p < 2 ^ 16 → c * (d + p) < 2 ^ 29 → Stands segment w (spelled_number 8 (list_word g 7 (c * (d + p)))) → Stands segment (w + 1 + g) (spelled_number 8 (struct_word c d p)) → lies segment (w + 1 + g + 1 + c * (d + p)) ≡ true → target_at segments segment w ≡ CompositeAt segment (w + 1 + g + 1) c d p
     target_composite c d p hc hd hp hm s t l =
         let o : g < 2 ^ 30 = omega arith in
         let oc : c < 2 ^ 30 = omega arith in

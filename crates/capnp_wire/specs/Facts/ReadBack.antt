@@ -8,7 +8,7 @@ use Rattle.capnp_wire.specs.Place.{tree_at, tree_below, struct_at, struct_tree}
 use Rattle.capnp_wire.specs.WellFormed.{IsWellFormed, AreWellFormed, AreElements}
 use Rattle.capnp_wire.specs.Words.{words_of, words_of_all, words_below_all, first_of, first_fault, first_fault_of_all, first_fault_of_elements}
 use Rattle.capnp_wire.specs.Depth.{IsBelow, AreBelow, ElementsAreBelow, IsShallow}
-use Rattle.capnp_wire.specs.Encoding.{spelled, packed, padded, struct_word, pointer_word, pointer_row, element_row, own_bytes, bytes_below, bytes_of_all, bytes_below_all, bytes_of, encoding_of}
+use Rattle.capnp_wire.specs.Encoding.{spelled_number, packed_bits, padded_bytes, struct_word, pointer_word, pointer_row, element_row, own_bytes, bytes_below, bytes_of_all, bytes_below_all, bytes_of, encoding_of}
 use Rattle.capnp_wire.specs.declared.fault.Fault.{Fault}
 use Rattle.capnp_wire.specs.Facts.Stands.{Stands, stands_left, stands_right, stands_first, stands_lies, stands_at}
 use Rattle.capnp_wire.specs.Facts.EncodedSizes.{length_pointer_row, length_element, length_element_row, length_bytes_of_all, length_bytes_of}
@@ -42,7 +42,7 @@ module _ (segments : Segments) (segment : List ℕ) where
 
   mutual
     -- the tree that a pointer leads to
-    pub read_back : (t : Tree) (l w g : ℕ) → IsWellFormed t → first_fault t ≡ None → IsBelow l t → g + words_of t < 2 ^ 29 → Stands segment w (spelled 8 (pointer_word g t)) → Stands segment (w + 1 + g) (own_bytes t ++ bytes_below t) → tree_below l segments segment w ≡ t
+    pub read_back : (t : Tree) (l w g : ℕ) → IsWellFormed t → first_fault t ≡ None → IsBelow l t → g + words_of t < 2 ^ 29 → Stands segment w (spelled_number 8 (pointer_word g t)) → Stands segment (w + 1 + g) (own_bytes t ++ bytes_below t) → tree_below l segments segment w ≡ t
     read_back Null l w g well none wi bound s there = reads_null segments segment l w s
     read_back (Struct b ps) l w g well none wi bound s there =
         let a : ℕ = w + 1 + g in
@@ -56,18 +56,18 @@ module _ (segments : Segments) (segment : List ℕ) where
         let back : trees_from (tree_below (l - 1) segments segment) (a + d) p ≡ ps = all_back ps (l - 1) (a + d) 0 well.4 none wi.1 (omega arith) row at_row in
         elim (cases_eq (d + p) 0) [
           | inl z ↦
-              let s0 : Stands segment w (spelled 8 (struct_word (2 ^ 30 - 1) 0 0)) = subst (λ n. Stands segment w (spelled 8 (cond (n == 0) (struct_word (2 ^ 30 - 1) 0 0) (struct_word g d p)))) z s in
+              let s0 : Stands segment w (spelled_number 8 (struct_word (2 ^ 30 - 1) 0 0)) = subst (λ n. Stands segment w (spelled_number 8 (cond (n == 0) (struct_word (2 ^ 30 - 1) 0 0) (struct_word g d p)))) z s in
               reads_zero segments segment l w b ps well.1 z wi.0 s0
           | inr nz ↦
-              let s1 : Stands segment w (spelled 8 (struct_word g d p)) = subst (λ c. Stands segment w (spelled 8 (cond c (struct_word (2 ^ 30 - 1) 0 0) (struct_word g d p)))) (not_equal (d + p) 0 nz) s in
+              let s1 : Stands segment w (spelled_number 8 (struct_word g d p)) = subst (λ c. Stands segment w (spelled_number 8 (cond c (struct_word (2 ^ 30 - 1) 0 0) (struct_word g d p)))) (not_equal (d + p) 0 nz) s in
               let q : a + (d + p) ≡ a + d + p = omega arith in
               let lie : lies segment (a + d + p) ≡ true = ap (lies segment) (sym q) ∙ stands_lies segment a (d + p) (b ++ pointer_row 0 ps) len own in
               at_struct segments segment l w a d p wi.0 (target_struct segments segment w g (omega arith) d p well.2 well.3 (omega arith) s1 lie)
               ∙ struct_back b (tree_below (l - 1) segments segment) a d p ps (pointer_row 0 ps) well.1 refl own back
         ]
     read_back (Voids n) l w g well none wi bound s there = reads_voids segments segment l w g (omega arith) n well wi s there
-    read_back (Bits bs) l w g well none wi bound s there = reads_bits segments segment l w g (omega arith) bs well wi s (stands_left segment (w + 1 + g) (packed (8 * list_words 1 (length bs)) bs) [] there)
-    read_back (Numbers v b) l w g well none wi bound s there = reads_numbers segments segment l w g (omega arith) b (stands_left segment (w + 1 + g) (padded b) [] there) v well.1 well.2 well.3 wi s
+    read_back (Bits bs) l w g well none wi bound s there = reads_bits segments segment l w g (omega arith) bs well wi s (stands_left segment (w + 1 + g) (packed_bits (8 * list_words 1 (length bs)) bs) [] there)
+    read_back (Numbers v b) l w g well none wi bound s there = reads_numbers segments segment l w g (omega arith) b (stands_left segment (w + 1 + g) (padded_bytes b) [] there) v well.1 well.2 well.3 wi s
     read_back (Pointers ps) l w g well none wi bound s there =
         let a : ℕ = w + 1 + g in
         let p : ℕ = tree_count ps in
@@ -81,7 +81,7 @@ module _ (segments : Segments) (segment : List ℕ) where
     read_back (Composite d p es) l w g well none wi bound s there =
         let a : ℕ = w + 1 + g in
         let c : ℕ = struct_count es in
-        let tag : List ℕ = spelled 8 (struct_word c d p) in
+        let tag : List ℕ = spelled_number 8 (struct_word c d p) in
         let row : List ℕ = element_row (d + p) 0 es in
         let own : Stands segment a (tag ++ row) = stands_left segment a (tag ++ row) (bytes_below_all es) there in
         let tag_at : Stands segment a tag = stands_left segment a tag row own in
@@ -103,7 +103,7 @@ module _ (segments : Segments) (segment : List ℕ) where
         let n : ℕ = tree_count ts in
         let none_here : first_fault t ≡ None = none_first (first_fault t) (first_fault_of_all ts) none in
         let none_there : first_fault_of_all ts ≡ None = none_later (first_fault t) (first_fault_of_all ts) none in
-        let word : List ℕ = spelled 8 (pointer_word (n + g) t) in
+        let word : List ℕ = spelled_number 8 (pointer_word (n + g) t) in
         let row : List ℕ = pointer_row (g + words_of t) ts in
         let here : Stands segment (w + 1 + (n + g)) ((own_bytes t ++ bytes_below t) ++ bytes_of_all ts) = stands_at segment ((own_bytes t ++ bytes_below t) ++ bytes_of_all ts) (w + suc n + g) (w + 1 + (n + g)) (omega arith) there in
         let first : tree_below l segments segment w ≡ t = read_back t l w (n + g) well.0 none_here wi.0 (omega arith) (stands_left segment w word row s) (stands_left segment (w + 1 + (n + g)) (own_bytes t ++ bytes_below t) (bytes_of_all ts) here) in
@@ -145,6 +145,6 @@ pub encoding_reads : (t : Tree) (segments : Segments) (rest : List ℕ) → IsWe
 unfolding tree_below
 encoding_reads t segments rest well none wi bound =
     let segment : List ℕ = encoding_of t ++ rest in
-    let word : List ℕ = spelled 8 (pointer_word 0 t) in
+    let word : List ℕ = spelled_number 8 (pointer_word 0 t) in
     let all : Stands segment 0 (encoding_of t) = record { rest = rest; within = omega (arith, length-append (encoding_of t) rest); is = refl } in
     read_back segments segment t 65 0 0 well none wi (omega arith) (stands_left segment 0 word (bytes_of t) all) (stands_right segment 0 1 word (bytes_of t) refl all)

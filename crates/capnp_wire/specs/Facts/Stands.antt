@@ -5,7 +5,7 @@ use Rattle.std.proofs.lemmas.Bool.Decides.{nat_tests}
 use Rattle.capnp_wire.specs.Slot.{little_endian, word_at}
 use Rattle.capnp_wire.specs.Locate.{lies}
 use Rattle.capnp_wire.specs.Place.{bytes_at}
-use Rattle.capnp_wire.specs.Encoding.{spelled}
+use Rattle.capnp_wire.specs.Encoding.{spelled_number}
 pub use Rattle.capnp_wire.specs.Facts.Bytes.{length_spelled, little_endian_spelled}
 
 -- these bytes stand at that word, and others follow them
@@ -53,5 +53,5 @@ module _ (segment : List ℕ) where
   stands_at xs v w e s = subst (λ x. Stands segment x xs) e s
 
 -- a word that is spelled there
-pub stands_word : (segment : List ℕ) (w n : ℕ) → n < 2 ^ 64 → Stands segment w (spelled 8 n) → word_at segment w ≡ n
-stands_word segment w n h s = ap little_endian (stands_all segment w 8 (spelled 8 n) refl s) ∙ little_endian_spelled 8 n h
+pub stands_word : (segment : List ℕ) (w n : ℕ) → n < 2 ^ 64 → Stands segment w (spelled_number 8 n) → word_at segment w ≡ n
+stands_word segment w n h s = ap little_endian (stands_all segment w 8 (spelled_number 8 n) refl s) ∙ little_endian_spelled 8 n h

@@ -5,7 +5,7 @@ use Rattle.capnp_wire.specs.Tree.{Tree, Null, Struct, Voids, Bits, Numbers, Poin
 use Rattle.capnp_wire.specs.Place.{struct_tree}
 use Rattle.capnp_wire.specs.WellFormed.{AreBytes, AreWellFormed, IsElement, IsWellFormed, IsWellFormedStruct}
 use Rattle.capnp_wire.specs.Words.{byte_words}
-use Rattle.capnp_wire.specs.Edits.{rounded, whole_words, extended, first_trees, fitted, nulls, struct_in, with_bit, with_bytes, with_number, with_pointer_tree, zero_struct}
+use Rattle.capnp_wire.specs.Edits.{rounded_struct, whole_words, extended_struct, first_trees, fitted_struct, nulls, struct_in, with_bit, with_bytes, with_number, with_pointer_tree, zero_struct}
 use Rattle.capnp_wire.specs.declared.size.StructSize.{StructSize}
 use Rattle.capnp_wire.specs.Facts.Bytes.{AreBytes-append, AreBytes-none, AreBytes-take, AreBytes-with_bit, AreBytes-with_number, AreBytes-zeros, length-with_bit, length-with_number}
 use Rattle.capnp_wire.specs.Facts.Rows.{AreWellFormed-append_trees, AreWellFormed-first_trees, AreWellFormed-nulls, AreWellFormed-with_tree, tree_count-append_trees, tree_count-first_trees, tree_count-nulls, tree_count-with_tree}
@@ -52,27 +52,27 @@ IsWellFormed-struct_in (FaultLeaf k) h = IsWellFormed-empty_struct
 
 -- ---- extended structs ----
 
-pub length-extended : (size : StructSize) (s : StructTree) → length (extended size s).bytes ≡ length s.bytes + (8 * size.data_words - length s.bytes)
+pub length-extended : (size : StructSize) (s : StructTree) → length (extended_struct size s).bytes ≡ length s.bytes + (8 * size.data_words - length s.bytes)
 length-extended size s = omega (
   arith,
   length-append s.bytes (replicate (8 * size.data_words - length s.bytes) 0),
   length-replicate {A = ℕ} (8 * size.data_words - length s.bytes) 0,
 )
 
-pub tree_count-extended : (size : StructSize) (s : StructTree) → tree_count (extended size s).pointers ≡ tree_count s.pointers + (size.pointers - tree_count s.pointers)
+pub tree_count-extended : (size : StructSize) (s : StructTree) → tree_count (extended_struct size s).pointers ≡ tree_count s.pointers + (size.pointers - tree_count s.pointers)
 tree_count-extended size s = omega (
   arith,
   tree_count-append_trees s.pointers (nulls (size.pointers - tree_count s.pointers)),
   tree_count-nulls (size.pointers - tree_count s.pointers),
 )
 
-AreBytes-extended : (size : StructSize) (s : StructTree) → AreBytes s.bytes → AreBytes (extended size s).bytes
+AreBytes-extended : (size : StructSize) (s : StructTree) → AreBytes s.bytes → AreBytes (extended_struct size s).bytes
 AreBytes-extended size s h = AreBytes-append s.bytes (replicate (8 * size.data_words - length s.bytes) 0) h (AreBytes-zeros (8 * size.data_words - length s.bytes))
 
-AreWellFormed-extended : (size : StructSize) (s : StructTree) → AreWellFormed s.pointers → AreWellFormed (extended size s).pointers
+AreWellFormed-extended : (size : StructSize) (s : StructTree) → AreWellFormed s.pointers → AreWellFormed (extended_struct size s).pointers
 AreWellFormed-extended size s h = AreWellFormed-append_trees s.pointers (nulls (size.pointers - tree_count s.pointers)) h (AreWellFormed-nulls (size.pointers - tree_count s.pointers))
 
-pub IsWellFormed-extended : (size : StructSize) (s : StructTree) → size.data_words < 2 ^ 16 → size.pointers < 2 ^ 16 → IsWellFormed (struct_tree s) → IsWellFormed (struct_tree (extended size s))
+pub IsWellFormed-extended : (size : StructSize) (s : StructTree) → size.data_words < 2 ^ 16 → size.pointers < 2 ^ 16 → IsWellFormed (struct_tree s) → IsWellFormed (struct_tree (extended_struct size s))
 IsWellFormed-extended size s a b h = (
   AreBytes-extended size s h.0,
   omega (arith, length-extended size s, h.1),
@@ -82,12 +82,12 @@ IsWellFormed-extended size s a b h = (
 )
 
 -- one that is no larger than the size has just that size then; its data may have ended within a word
-pub IsElement-extended : (size : StructSize) (s : StructTree) → IsWellFormedStruct s → length s.bytes ≤ 8 * size.data_words → tree_count s.pointers ≤ size.pointers → IsElement size.data_words size.pointers (extended size s)
+pub IsElement-extended : (size : StructSize) (s : StructTree) → IsWellFormedStruct s → length s.bytes ≤ 8 * size.data_words → tree_count s.pointers ≤ size.pointers → IsElement size.data_words size.pointers (extended_struct size s)
 IsElement-extended size s h a b = (AreBytes-extended size s h.0, omega (arith, length-extended size s, a), omega (arith, tree_count-extended size s, b), AreWellFormed-extended size s h.3)
 
 -- ---- structs that are cut to a size, or filled up to it ----
 
-pub length-fitted : (bytes pointers : ℕ) (s : StructTree) → length (fitted bytes pointers s).bytes ≡ bytes
+pub length-fitted : (bytes pointers : ℕ) (s : StructTree) → length (fitted_struct bytes pointers s).bytes ≡ bytes
 length-fitted bytes pointers s = omega (
   arith,
   length-append (take bytes s.bytes) (replicate (bytes - length s.bytes) 0),
@@ -95,7 +95,7 @@ length-fitted bytes pointers s = omega (
   length-take bytes s.bytes,
 )
 
-pub tree_count-fitted : (bytes pointers : ℕ) (s : StructTree) → tree_count (fitted bytes pointers s).pointers ≡ pointers
+pub tree_count-fitted : (bytes pointers : ℕ) (s : StructTree) → tree_count (fitted_struct bytes pointers s).pointers ≡ pointers
 tree_count-fitted bytes pointers s = omega (
   arith,
   tree_count-append_trees (first_trees pointers s.pointers) (nulls (pointers - tree_count s.pointers)),
@@ -103,7 +103,7 @@ tree_count-fitted bytes pointers s = omega (
   tree_count-first_trees pointers s.pointers,
 )
 
-pub IsElement-fitted : (d p bytes pointers : ℕ) (s : StructTree) → bytes ≡ 8 * d → pointers ≡ p → IsWellFormedStruct s → IsElement d p (fitted bytes pointers s)
+pub IsElement-fitted : (d p bytes pointers : ℕ) (s : StructTree) → bytes ≡ 8 * d → pointers ≡ p → IsWellFormedStruct s → IsElement d p (fitted_struct bytes pointers s)
 IsElement-fitted d p bytes pointers s a b h = (
   AreBytes-append (take bytes s.bytes) (replicate (bytes - length s.bytes) 0) (AreBytes-take bytes s.bytes h.0) (AreBytes-zeros (bytes - length s.bytes)),
   omega (arith, length-fitted bytes pointers s, a),
@@ -122,7 +122,7 @@ length_whole bytes = omega (arith, length-append bytes zeros, length-replicate {
     zeros : List ℕ
     zeros = replicate missing 0
 
-pub copied_struct_is_well_formed : (s : StructTree) → IsWellFormedStruct s → IsWellFormed (struct_tree (rounded s))
+pub copied_struct_is_well_formed : (s : StructTree) → IsWellFormedStruct s → IsWellFormed (struct_tree (rounded_struct s))
 copied_struct_is_well_formed s h = let n = length_whole s.bytes in
     (AreBytes-append s.bytes (replicate (8 * byte_words (length s.bytes) - length s.bytes) 0) h.0 (AreBytes-zeros (8 * byte_words (length s.bytes) - length s.bytes)), omega (arith, n), omega (arith, n, h.1), h.2, h.3)
 

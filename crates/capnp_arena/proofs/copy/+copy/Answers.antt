@@ -1,6 +1,6 @@
 use Rattle.std.proofs.Common.{arith, OnOk, ◌++◌, ◌≡◌, ◌+◌, ◌*◌, ◌/◌, ◌<◌, ◌≤◌, length, refl, sym, ap, subst, ◌∙◌}
 use Rattle.std.proofs.lemmas.Result.{err_from_is_err_and}
-use Rattle.capnp_wire.specs.Encoding.{bytes_of, spelled}
+use Rattle.capnp_wire.specs.Encoding.{bytes_of, spelled_number}
 use Rattle.capnp_wire.specs.Facts.EncodedSizes.{length_element_row}
 use Rattle.capnp_wire.specs.Facts.Filling.{composite_last, element_put, row_last}
 use Rattle.capnp_wire.specs.Facts.Parts.{IsWellFormed-nth_tree}
@@ -54,7 +54,7 @@ append_composite-returns-in-Some-clause-copy t c =
     let row : length c.in-Some.plain.now ≡ 8 * (struct_count (element_structs c.args.size.data_words c.args.size.pointers c.args.elements) * (c.args.size.data_words + c.args.size.pointers)) =
     ap length (sym (c.in-Some.ensures.plain.own 0)) ∙ length_element_row c.args.size.data_words c.args.size.pointers 0 (element_structs c.args.size.data_words c.args.size.pointers c.args.elements) c.requires.held.4 in
     plain_list c.args.size.data_words c.args.size.pointers c.count_elements-count.result (element_structs c.args.size.data_words c.args.size.pointers c.args.elements) c.in-Some.plain.now c.args.arena.now.bytes.items c.append_word.new.self.bytes.items _ (sym c.count_elements-count.ensures) c.in-Some.ensures.plain
-    (c.in_ok-append_word.ensures.longer ∙ ap (λ w. c.args.arena.now.bytes.items ++ spelled 8 w) c.make_struct_word.ensures)
+    (c.in_ok-append_word.ensures.longer ∙ ap (λ w. c.args.arena.now.bytes.items ++ spelled_number 8 w) c.make_struct_word.ensures)
     (c.in_ok-append_bytes.ensures.longer ∙ ap (λ z. c.append_word.new.self.bytes.items ++ z) (padded_whole c.in-Some.plain.now _ row))
 
 pub append_composite-returns-in-Some-clause-sound : goal.append_composite-returns-in-Some-clause-sound

@@ -1,10 +1,10 @@
 use Rattle.std.proofs.Common.{rules, arith, ◌≡◌, ◌++◌, ◌+◌, ◌-◌, ◌*◌, ◌/◌, ◌<◌, ◌≤◌, inl, inr, ◌∙◌, sym, ap, subst, length, List, ℕ}
 use Rattle.std.specs.Prelude.{IfOk}
 use Rattle.std.proofs.lemmas.List.{append-nil}
-use Rattle.capnp_wire.specs.Encoding.{pointer_word, spelled}
+use Rattle.capnp_wire.specs.Encoding.{pointer_word, spelled_number}
 use Rattle.capnp_wire.specs.Facts.Bytes.{AreBytes-fits}
 use Rattle.capnp_wire.specs.Facts.Rows.{struct_count-structs_from, tree_count-trees_from}
-use Rattle.capnp_wire.specs.Filling.{put, with_pointers, words_from}
+use Rattle.capnp_wire.specs.Filling.{bytes_with, with_pointers, words_from}
 use Rattle.capnp_wire.specs.Tree.{trees_from}
 use Rattle.capnp_wire.specs.WellFormed.{AreBytes}
 use Rattle.capnp_wire.specs.Facts.Filling.{composite_last, element_filled, element_put, elements_room, pointer_filled, row_last, row_room}
@@ -134,7 +134,7 @@ append_composite-returns-then-pointers-eq0 t c =
     let plain = plain_row (tree c.args.bytes.now) c.args.bytes.now (c.args.tag + 1) c.args.data_words c.args.pointers c.args.count c.if-pointers-eq0.true in
     let size : 8 * (c.args.count * c.args.data_words) ≡ 8 * (c.args.count * (c.args.data_words + c.args.pointers)) = sym (ap (λ k. 8 * (c.args.count * (c.args.data_words + k))) c.if-pointers-eq0.true ∙ omega arith) in
     plain_list c.args.data_words c.args.pointers c.args.count _ _ c.args.out.now.items c.append_word.new.out.items _ (struct_count-structs_from _ 0 c.args.count) plain
-    (c.in_ok-append_word.ensures ∙ ap (λ w. c.args.out.now.items ++ spelled 8 w) c.make_struct_word.ensures)
+    (c.in_ok-append_word.ensures ∙ ap (λ w. c.args.out.now.items ++ spelled_number 8 w) c.make_struct_word.ensures)
     (c.in_ok-extend_from_slice.ensures.items ∙ ap (λ z. c.append_word.new.out.items ++ z) (c.get_part.ensures.part ∙ ap (bytes_at c.args.bytes.now (c.args.tag + 1)) size))
 
 pub fill_row-overflow_sub-gap-in-loop-i : goal.fill_row-overflow_sub-gap-in-loop-i
@@ -174,7 +174,7 @@ pub fill_element-returns : goal.fill_element-returns
 fill_element-returns t c =
     let n : length (bytes_at c.args.bytes.now c.args.start (8 * c.args.data_words)) ≡ 8 * c.args.data_words = length_part c.args.bytes.now c.args.start (8 * c.args.data_words) (omega (arith, c.requires.inside)) in
     element_put c.args.at (struct_from c.args.bytes.now c.args.start c.args.data_words c.args.pointers) c.args.out.now.items c.put_bytes.new.out.items _ (omega (arith, n, c.requires.room.1))
-    (c.put_bytes.ensures.put ∙ ap (λ z. put c.args.at z c.args.out.now.items) c.get_part.ensures.part)
+    (c.put_bytes.ensures.put ∙ ap (λ z. bytes_with c.args.at z c.args.out.now.items) c.get_part.ensures.part)
     (c.in_ok-fill_row.ensures ∙ ap (λ k. with_pointers (c.args.at + k) (trees_from (tree c.args.bytes.now) (c.args.start + c.args.data_words) c.args.pointers) c.put_bytes.new.out.items) (sym n))
 
 pub fill_elements-fill_element-requires : goal.fill_elements-fill_element-requires

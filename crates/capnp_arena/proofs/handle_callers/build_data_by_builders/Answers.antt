@@ -2,7 +2,7 @@ use Rattle.std.proofs.Common.{List, rules, ℕ, ap, length, replicate, slice_set
 use Rattle.std.proofs.lemmas.List.{length-replicate, length-set}
 use Rattle.capnp_wire.specs.Tree.{Numbers}
 use Rattle.capnp_arena.specs.Forest.{tree}
-use Rattle.capnp_arena.specs.Parts.{with_part}
+use Rattle.capnp_arena.specs.Parts.{with_struct_part}
 use Rattle.capnp_arena.specs.Segment.{segment}
 use Rattle.capnp_arena.proofs.Fronts.{all_left}
 use Rattle.capnp_arena.proofs.handle_callers.build_data_by_builders.Goals as goal
@@ -14,7 +14,7 @@ returns-clause-tree c =
     let zeros : List ℕ = replicate c.args.count 0 in
     let left : List ℕ = slice_set c.into_bytes-bytes.result.now 0 c.args.first in
     let long : length left ≡ b.count = length-set c.into_bytes-bytes.result.now 0 c.args.first ∙ c.into_bytes-bytes.ensures.long in
-    let n : List ℕ = segment (with_part b.arena.now b.start left) in
+    let n : List ℕ = segment (with_struct_part b.arena.now b.start left) in
     let l = (c.into_bytes-bytes.ensures.leaves left long).tree in
     let t : tree (segment b.arena.now) b.at ≡ Numbers 1 zeros = ap (tree (segment b.arena.now)) e.at ∙ e.tree in
     let same : c.into_bytes-bytes.result.now ≡ zeros = c.into_bytes-bytes.ensures.now ∙ e.bytes in

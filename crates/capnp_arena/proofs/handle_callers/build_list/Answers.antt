@@ -4,17 +4,17 @@ use Rattle.capnp_wire.specs.Elements.{with_struct_element}
 use Rattle.capnp_wire.specs.Reading.{element_struct}
 use Rattle.capnp_wire.specs.Tree.{Numbers}
 use Rattle.capnp_arena.specs.Forest.{Forest, PartChanges, tree}
-use Rattle.capnp_arena.specs.Handles.{list_tree, part}
+use Rattle.capnp_arena.specs.Handles.{built_list_tree, handle_words}
 use Rattle.capnp_arena.specs.Segment.{segment}
 use Rattle.capnp_arena.proofs.BuiltParts.{list_message, list_tree_is, new_has, new_pointers}
 use Rattle.capnp_arena.proofs.handle_callers.build_list.Goals as goal
 
 pub get_struct_element-built-requires-clause-there : goal.get_struct_element-built-requires-clause-there
-get_struct_element-built-requires-clause-there c = new_has c.args.size c.args.count c.args.element c.requires.element (list_tree c.in_ok-list.list) c.in_ok-list.ensures.tree
+get_struct_element-built-requires-clause-there c = new_has c.args.size c.args.count c.args.element c.requires.element (built_list_tree c.in_ok-list.list) c.in_ok-list.ensures.tree
 
 pub get_pointer_field-pointer-requires-clause-inside : goal.get_pointer_field-pointer-requires-clause-inside
 get_pointer_field-pointer-requires-clause-inside c =
-    let e = new_pointers c.args.size c.args.count c.args.element c.requires.element (list_tree c.in_ok-list.list) c.in_ok-list.ensures.tree _ _ _ _ c.get_struct_element-built.ensures.tree in
+    let e = new_pointers c.args.size c.args.count c.args.element c.requires.element (built_list_tree c.in_ok-list.list) c.in_ok-list.ensures.tree _ _ _ _ c.get_struct_element-built.ensures.tree in
     omega (arith, c.requires.pointer, e)
 
 pub returns-clause-message : goal.returns-clause-message
@@ -22,7 +22,7 @@ returns-clause-message c =
     let n : List ℕ = segment c.set_text.new.self.arena.now in
     let x = c.get_pointer_field-pointer.ensures.leaves n (search rules) (search rules) in
     let same : segment c.get_struct_element-built.result.arena.now ≡ segment c.in_ok-list.list.arena.now = ap segment c.get_struct_element-built.ensures.now in
-    let l = c.get_struct_element-built.ensures.leaves n x.planted (subst (λ b. PartChanges (part c.get_struct_element-built.result.place) b n) same x.changes) in
+    let l = c.get_struct_element-built.ensures.leaves n x.planted (subst (λ b. PartChanges (handle_words c.get_struct_element-built.result.place) b n) same x.changes) in
     subst (λ b. Forest b 0) (search rules) (list_message c.args.element x l (search rules))
 
 pub returns-clause-tree : goal.returns-clause-tree
@@ -32,6 +32,6 @@ returns-clause-tree c =
     let z = zero_structs c.args.size c.args.count in
     let x = c.get_pointer_field-pointer.ensures.leaves n (search rules) (search rules) in
     let same : segment c.get_struct_element-built.result.arena.now ≡ segment c.in_ok-list.list.arena.now = ap segment c.get_struct_element-built.ensures.now in
-    let l = c.get_struct_element-built.ensures.leaves n x.planted (subst (λ b. PartChanges (part c.get_struct_element-built.result.place) b n) same x.changes) in
+    let l = c.get_struct_element-built.ensures.leaves n x.planted (subst (λ b. PartChanges (handle_words c.get_struct_element-built.result.place) b n) same x.changes) in
     subst (λ b. tree b 0 ≡ with_struct_element c.args.element (with_pointer_tree (element_struct z c.args.element) c.args.index t) z) (search rules)
     (list_tree_is c.args.element x l z t c.in_ok-list.ensures.tree c.get_struct_element-built.ensures.tree (search rules) (search rules))

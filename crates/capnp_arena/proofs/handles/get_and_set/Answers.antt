@@ -1,6 +1,6 @@
 use Rattle.std.proofs.Common.{rules, subst, arith, ap, ◌∙◌, ◌≡◌, ◌≤◌, ◌+◌, ◌-◌, ◌*◌, List, ℕ, length, replicate}
 use Rattle.std.proofs.lemmas.List.{length-append, length-replicate}
-use Rattle.capnp_wire.specs.Edits.{extended, struct_in, with_bytes, with_number}
+use Rattle.capnp_wire.specs.Edits.{extended_struct, struct_in, with_bytes, with_number}
 use Rattle.capnp_wire.specs.Place.{struct_tree}
 use Rattle.capnp_wire.specs.Tree.{StructTree}
 use Rattle.capnp_wire.specs.declared.size.StructSize.{StructSize}
@@ -13,12 +13,12 @@ use Rattle.capnp_arena.specs.Shape.{StructIn, shape_at}
 use Rattle.capnp_arena.proofs.handles.get_and_set.Goals as goal
 
 -- the struct has the data that were asked
-module _ (m : List ℕ) (at a d p : ℕ) (f : Forest m at) (e : shape_at m at ≡ StructIn a d p) (size : StructSize) (u : StructTree) (t : tree m at ≡ struct_tree (extended size u)) where
+module _ (m : List ℕ) (at a d p : ℕ) (f : Forest m at) (e : shape_at m at ≡ StructIn a d p) (size : StructSize) (u : StructTree) (t : tree m at ≡ struct_tree (extended_struct size u)) where
   large : 8 * size.data_words ≤ 8 * d
   large =
-      let n : length (extended size u).bytes ≡ length u.bytes + (8 * size.data_words - length u.bytes) =
+      let n : length (extended_struct size u).bytes ≡ length u.bytes + (8 * size.data_words - length u.bytes) =
       length-append u.bytes (replicate (8 * size.data_words - length u.bytes) 0) ∙ ap (λ k. length u.bytes + k) (length-replicate (8 * size.data_words - length u.bytes) 0) in
-      let same : length (struct_from m a d p).bytes ≡ length (extended size u).bytes = ap (λ s. length s.bytes) (struct_is m at a d p (extended size u) f e t) in
+      let same : length (struct_from m a d p).bytes ≡ length (extended_struct size u).bytes = ap (λ s. length s.bytes) (struct_is m at a d p (extended_struct size u) f e t) in
       let l : length (struct_from m a d p).bytes ≡ 8 * d = data_of m a d p (struct_planted m at a d p f e) in
       omega (arith, n, same, l)
 
@@ -45,7 +45,7 @@ returns-clause-forest g c =
 
 pub returns-clause-tree : goal.returns-clause-tree
 returns-clause-tree g c =
-    let s : StructTree = extended c.args.size (struct_in (tree (segment c.args.arena.now) c.args.at)) in
+    let s : StructTree = extended_struct c.args.size (struct_in (tree (segment c.args.arena.now) c.args.at)) in
     subst (λ b. tree b c.args.at ≡ struct_tree (with_bytes s (with_number g.T.PrimitiveElement.width c.args.offset (g.T.PrimitiveElement.to_number c.args.value) s.bytes))) (search rules)
     (has_number (segment c.in_ok-built.built.arena.now) (segment c.set_data_field.new.self.arena.now) _ _ _ _ c.in_ok-built.ensures.forest c.in_ok-built.ensures.place c.set_data_field.ensures.planted c.set_data_field.ensures.changes
     s g.T.PrimitiveElement.width c.args.offset (g.T.PrimitiveElement.to_number c.args.value) c.in_ok-built.ensures.tree c.set_data_field.ensures.tree)

@@ -1,12 +1,12 @@
 use Rattle.std.specs.Prelude.{None, Option, Some}
 use Rattle.std.proofs.Common.{arith, refl, ◌≡◌, ◌+◌, ◌-◌, ◌*◌, ◌<◌, ◌≤◌, ◌∙◌, suc, sym, ap, subst, List, ℕ}
 use Rattle.capnp_wire.specs.Facts.Bytes.{AreBytes-fits}
-use Rattle.capnp_wire.specs.Locate.{count, element_size, kind, list_words, offset}
+use Rattle.capnp_wire.specs.Locate.{count, element_size_number, pointer_kind, list_words, offset}
 use Rattle.capnp_wire.specs.Slot.{number_at}
 use Rattle.capnp_wire.specs.WellFormed.{AreBytes}
 use Rattle.capnp_arena.specs.Forest.{Forest}
 use Rattle.capnp_arena.specs.InOrder.{AreLaid, IfKnown, IsLaid, IsRowLaid}
-use Rattle.capnp_arena.specs.Looked.{looked, shape_found}
+use Rattle.capnp_arena.specs.Looked.{looked_shape, shape_found}
 use Rattle.capnp_arena.specs.Shape.{CompositeIn, ListIn, NoShape, Points, StructIn, end_of, shape_at, word_count}
 use Rattle.capnp_arena.proofs.Counted.{element_rows, ends_at, list_row}
 use Rattle.capnp_arena.proofs.LaidOut.{composite_laid, null_laid, plain_laid, plain_structs_laid, pointers_laid, row_more_laid, struct_laid, structs_end_laid, structs_more_laid, zero_laid}
@@ -111,13 +111,13 @@ follow_at-get_inner_word-word-requires t c =
 pub follow_at-returns-then-word-eq0 : goal.follow_at-returns-then-word-eq0
 follow_at-returns-then-word-eq0 t c =
     let bytes = c.args.bytes.now in let w = c.args.w in
-    let e : shape_at bytes w ≡ NoShape = sym (looked_is bytes w _ (points bytes w c.requires.forest)) ∙ ap (looked bytes w) (sym c.get_inner_word-word.ensures ∙ c.if-word-eq0.true) in
+    let e : shape_at bytes w ≡ NoShape = sym (looked_is bytes w _ (points bytes w c.requires.forest)) ∙ ap (looked_shape bytes w) (sym c.get_inner_word-word.ensures ∙ c.if-word-eq0.true) in
     null_laid bytes w c.requires.forest c.args.end c.requires.inside e (subst (Points bytes w) e (points bytes w c.requires.forest))
 
 -- bytes that start where the targets before them end
-bytes_there : (bytes : List ℕ) (w end word : ℕ) → Forest bytes w → word ≡ number_at 8 w bytes → w < end → kind word ≡ 1 → element_size word ≡ 2 → offset word ≡ end - w - 1 → shape_at bytes w ≡ ListIn end 2 (count word)
+bytes_there : (bytes : List ℕ) (w end word : ℕ) → Forest bytes w → word ≡ number_at 8 w bytes → w < end → pointer_kind word ≡ 1 → element_size_number word ≡ 2 → offset word ≡ end - w - 1 → shape_at bytes w ≡ ListIn end 2 (count word)
 bytes_there bytes w end word f n l k s o =
-    sym (looked_is bytes w _ (points bytes w f)) ∙ ap (looked bytes w) (sym n)
+    sym (looked_is bytes w _ (points bytes w f)) ∙ ap (looked_shape bytes w) (sym n)
     ∙ of_list bytes w word end 2 (count word) (λ z. omega (arith, z, k)) k s refl (λ z. omega (arith, z)) (omega (arith, o, l))
 
 pub follow_at-end_of_plain-requires-clause-inside : goal.follow_at-end_of_plain-requires-clause-inside

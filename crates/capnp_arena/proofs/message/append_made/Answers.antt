@@ -1,8 +1,8 @@
 use Rattle.std.proofs.Common.{arith, suc, ◌/◌, ◌*◌, ◌-◌, ◌≤◌, ◌≡◌, ◌++◌, ◌∙◌, ap, length, List, [], ℕ}
-use Rattle.capnp_wire.specs.Encoding.{encoding_of, spelled}
+use Rattle.capnp_wire.specs.Encoding.{encoding_of, spelled_number}
 use Rattle.capnp_wire.specs.Facts.Bytes.{AreBytes-fits}
 use Rattle.capnp_wire.specs.Facts.EncodedSizes.{length_encoding}
-use Rattle.capnp_wire.specs.Filling.{put}
+use Rattle.capnp_wire.specs.Filling.{bytes_with}
 use Rattle.capnp_wire.specs.WellFormed.{IsWellFormed}
 use Rattle.capnp_wire.specs.Words.{words_of}
 use Rattle.capnp_arena.specs.Forest.{tree}
@@ -12,13 +12,13 @@ use Rattle.capnp_arena.proofs.Encodings.{tree_held}
 use Rattle.capnp_arena.proofs.message.append_made.Goals as goal
 
 -- the table with no words yet, and the encoding
-begun : (first second third : List ℕ) (encoding : List ℕ) → first ≡ [] → second ≡ first ++ spelled 8 0 → third ≡ second ++ encoding → third ≡ spelled 8 0 ++ encoding
-begun first second third encoding e f g = g ∙ ap (λ z. z ++ encoding) (f ∙ ap (λ z. z ++ spelled 8 0) e)
+begun : (first second third : List ℕ) (encoding : List ℕ) → first ≡ [] → second ≡ first ++ spelled_number 8 0 → third ≡ second ++ encoding → third ≡ spelled_number 8 0 ++ encoding
+begun first second third encoding e f g = g ∙ ap (λ z. z ++ encoding) (f ∙ ap (λ z. z ++ spelled_number 8 0) e)
 
 -- so many words are counted in it
-counted : (out encoding : List ℕ) (words : ℕ) → out ≡ spelled 8 0 ++ encoding → length encoding ≡ 8 * words → length out / 8 - 1 ≡ words
+counted : (out encoding : List ℕ) (words : ℕ) → out ≡ spelled_number 8 0 ++ encoding → length encoding ≡ 8 * words → length out / 8 - 1 ≡ words
 counted out encoding words e l =
-    let n : length out ≡ length (spelled 8 0 ++ encoding) = ap length e in
+    let n : length out ≡ length (spelled_number 8 0 ++ encoding) = ap length e in
     omega (arith, n, l)
 
 pub append_anew-requires-clause-small : goal.append_anew-requires-clause-small
@@ -40,7 +40,7 @@ returns-clause-bytes c =
     let e = begun c.args.out.now.items c.append_word.new.out.items c.append_anew.new.out.items (encoding_of t) c.requires.new c.in_ok-append_word.ensures c.in_ok-append_anew.ensures in
     let n : length c.append_anew.new.out.items / 8 - 1 ≡ suc (words_of t) = counted c.append_anew.new.out.items (encoding_of t) (suc (words_of t)) e (length_encoding t h) in
     let m : c.len.result / 8 - 1 ≡ suc (words_of t) = omega (arith, c.len.ensures, n) in
-    c.put_half.ensures.put ∙ ap (put 4 (spelled 4 (c.len.result / 8 - 1))) e ∙ ap (λ k. spelled 4 0 ++ (spelled 4 k ++ encoding_of t)) m
+    c.put_half.ensures.put ∙ ap (bytes_with 4 (spelled_number 4 (c.len.result / 8 - 1))) e ∙ ap (λ k. spelled_number 4 0 ++ (spelled_number 4 k ++ encoding_of t)) m
 
 pub returns-clause-held : goal.returns-clause-held
 returns-clause-held c = tree_held c.args.bytes.now 0 (AreBytes-fits c.args.bytes.now c.type_inv.bytes)

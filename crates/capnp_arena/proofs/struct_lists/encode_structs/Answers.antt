@@ -4,7 +4,7 @@ use Rattle.capnp_wire.specs.Facts.Bytes.{AreBytes-fits}
 use Rattle.capnp_wire.specs.WellFormed.{AreBytes}
 use Rattle.capnp_wire.specs.Words.{words_of}
 use Rattle.capnp_arena.specs.Forest.{tree}
-use Rattle.capnp_arena.specs.Grown.{part_at}
+use Rattle.capnp_arena.specs.Grown.{grown_part_at}
 use Rattle.capnp_arena.specs.Shape.{word_count}
 use Rattle.capnp_arena.proofs.Bounded.{words_fit}
 use Rattle.capnp_arena.proofs.PartLists.{grown_below, parts_as_structs, parts_held, parts_length}
@@ -13,7 +13,7 @@ use Rattle.capnp_arena.proofs.struct_lists.encode_structs.Goals as goal
 pub encode_all_grown-requires-clause-small : goal.encode_all_grown-requires-clause-small
 encode_all_grown-requires-clause-small c =
     let fit : suc (words_of (tree c.args.bytes.now c.args.at)) ≤ word_count c.args.bytes.now = words_fit c.args.bytes.now c.args.at c.requires.forest in
-    omega (arith, grown_below c.args.size (part_at c.args.bytes.now c.args.row) 0 c.args.count, c.requires.list.below, fit, c.requires.room, c.requires.few.0)
+    omega (arith, grown_below c.args.size (grown_part_at c.args.bytes.now c.args.row) 0 c.args.count, c.requires.list.below, fit, c.requires.room, c.requires.few.0)
 
 pub returns-clause-content : goal.returns-clause-content
 returns-clause-content c = c.in_ok-content.ensures ∙ ap bytes_of (parts_as_structs _ _ _ _ c.args.size c.requires.list)

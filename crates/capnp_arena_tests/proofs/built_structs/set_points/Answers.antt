@@ -1,7 +1,7 @@
 use Rattle.std.proofs.Common.{rules, subst}
 use Rattle.capnp_arena.specs.Facts.Calls.{one_by_one}
 use Rattle.capnp_arena.specs.Forest.{PartChanges, Planted}
-use Rattle.capnp_arena.specs.Handles.{part}
+use Rattle.capnp_arena.specs.Handles.{handle_words}
 use Rattle.capnp_arena.specs.Segment.{segment}
 use Rattle.capnp_arena_tests.proofs.built_structs.set_points.Goals as goal
 
@@ -10,7 +10,7 @@ returns-clause-planted c =
     let a = segment c.in_ok-points.points.arena.now in
     let b = segment c.set_data_element.new.self.arena.now in
     let n = segment c.set_data_element-2.new.self.arena.now in
-    subst (λ z. Planted z (part c.args.fields.now.place)) (search rules)
+    subst (λ z. Planted z (handle_words c.args.fields.now.place)) (search rules)
     (c.pointer_field-pointer.ensures.leaves n (search rules) (one_by_one _ b _ _ (one_by_one _ a _ _ (search rules) (search rules)) (search rules))).planted
 
 pub returns-clause-changes : goal.returns-clause-changes
@@ -18,5 +18,5 @@ returns-clause-changes c =
     let a = segment c.in_ok-points.points.arena.now in
     let b = segment c.set_data_element.new.self.arena.now in
     let n = segment c.set_data_element-2.new.self.arena.now in
-    subst (PartChanges (part c.args.fields.now.place) (segment c.args.fields.now.arena.now)) (search rules)
+    subst (PartChanges (handle_words c.args.fields.now.place) (segment c.args.fields.now.arena.now)) (search rules)
     (c.pointer_field-pointer.ensures.leaves n (search rules) (one_by_one _ b _ _ (one_by_one _ a _ _ (search rules) (search rules)) (search rules))).changes

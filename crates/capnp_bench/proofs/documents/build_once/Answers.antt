@@ -2,7 +2,7 @@
 use Rattle.std.proofs.Common.{subst, sym}
 use Rattle.capnp_wire.specs.StructLists.{HoldsStructs}
 use Rattle.capnp_wire.specs.declared.size.StructSize.{StructSize}
-use Rattle.capnp_arena.specs.Built.{built}
+use Rattle.capnp_arena.specs.Built.{built_at}
 use Rattle.capnp_arena.specs.Forest.{tree}
 use Rattle.capnp_arena.specs.Segment.{segment}
 use Rattle.capnp_arena.specs.Facts.Laws.{in_struct}
@@ -11,7 +11,7 @@ use Rattle.capnp_bench.proofs.Items.{holds_structs}
 use Rattle.capnp_bench.proofs.documents.build_once.Goals as goal
 
 pub initn-requires-clause-room : goal.initn-requires-clause-room
-initn-requires-clause-room c = c.requires.lies (built c.start_root.new.message c.in_ok-root.root) c.in_ok-root.ensures.standing.room
+initn-requires-clause-room c = c.requires.lies (built_at c.start_root.new.message c.in_ok-root.root) c.in_ok-root.ensures.standing.room
 
 pub fill_items-requires-clause-holds : goal.fill_items-requires-clause-holds
 fill_items-requires-clause-holds c =

@@ -1,6 +1,6 @@
 -- An item of the list is written, and the list holds items still.
 use Rattle.capnp_wire.specs.Facts.Lengths.{HasStruct-there}
-use Rattle.capnp_arena.specs.Built.{built}
+use Rattle.capnp_arena.specs.Built.{built_at}
 use Rattle.capnp_arena.specs.Forest.{tree}
 use Rattle.capnp_arena.specs.Segment.{segment}
 use Rattle.capnp_schema.specs.Plan.{brand_size}
@@ -17,7 +17,7 @@ pub fill_item-requires-clause-standing : goal.fill_item-requires-clause-standing
 fill_item-requires-clause-standing c =
     let size = brand_size (set_of c.args.item) (number_of c.args.item) in record {
       planted = c.get_struct_at-place.ensures.planted;
-      room = item_fits size (tree (segment c.args.arena.now) c.args.at) c.args.index (built c.args.arena.now c.get_struct_at-place.result) c.requires.holds c.tree_is_sound.ensures.formed c.requires.inside c.get_struct_at-place.ensures.tree;
+      room = item_fits size (tree (segment c.args.arena.now) c.args.at) c.args.index (built_at c.args.arena.now c.get_struct_at-place.result) c.requires.holds c.tree_is_sound.ensures.formed c.requires.inside c.get_struct_at-place.ensures.tree;
     }
 
 pub returns-clause-forest : goal.returns-clause-forest

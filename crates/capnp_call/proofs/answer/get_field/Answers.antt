@@ -1,8 +1,8 @@
 -- The read of a field is the machine's, whatever levels the reader has.
 use Rattle.std.proofs.Common.{ap, ◌∙◌, sym}
-use Rattle.capnp_arena.specs.Built.{built}
+use Rattle.capnp_arena.specs.Built.{built_at}
 use Rattle.capnp_wire.specs.Standing.{struct_levels, struct_of}
-use Rattle.capnp_schema.specs.FieldLists.{schema_of}
+use Rattle.capnp_schema.specs.FieldLists.{field_schema}
 use Rattle.capnp_call.specs.Seen.{reply_seen}
 use Rattle.capnp_call.proofs.FieldReads.{StandsOn, get_reads}
 use Rattle.capnp_call.proofs.answer.get_field.Goals as goal
@@ -10,9 +10,9 @@ use Rattle.capnp_call.proofs.answer.get_field.Goals as goal
 pub returns : goal.returns
 returns c =
     let f = c.args.field in
-    let s = built c.args.arena.now c.args.place in
+    let s = built_at c.args.arena.now c.args.place in
     let x = struct_of c.get_struct_reader.result in
-    let on : StandsOn c.new-reader.result (schema_of f) x = record {
+    let on : StandsOn c.new-reader.result (field_schema f) x = record {
       schema_is = c.new-reader.ensures.schema ∙ c.get_containing_struct.ensures.is;
       struct_is = ap struct_of c.new-reader.ensures.reader;
       levels = ap struct_levels c.new-reader.ensures.reader ∙ c.get_struct_reader.ensures.levels;

@@ -1,9 +1,9 @@
 -- A field is there whatever levels the reader has.
 use Rattle.std.proofs.Common.{ap, ◌∙◌, subst, refl}
-use Rattle.capnp_arena.specs.Built.{built}
+use Rattle.capnp_arena.specs.Built.{built_at}
 use Rattle.capnp_wire.specs.Standing.{struct_levels, struct_of}
 use Rattle.capnp_schema.specs.Facts.Layers.{seen_which}
-use Rattle.capnp_schema.specs.FieldLists.{schema_of}
+use Rattle.capnp_schema.specs.FieldLists.{field_schema}
 use Rattle.capnp_schema.specs.StructHandles.{IsStruct}
 use Rattle.capnp_schema.specs.Types.{seen_variant}
 use Rattle.capnp_records.specs.Call.{Flag}
@@ -14,10 +14,10 @@ use Rattle.capnp_call.proofs.answer.has_field.Goals as goal
 pub returns : goal.returns
 returns c whole old =
     let f = c.args.field in
-    let is : IsStruct (schema_of f) = subst IsStruct c.get_containing_struct.ensures.is c.get_containing_struct.ensures.stands in
-    let s = built c.args.arena.now c.args.place in
+    let is : IsStruct (field_schema f) = subst IsStruct c.get_containing_struct.ensures.is c.get_containing_struct.ensures.stands in
+    let s = built_at c.args.arena.now c.args.place in
     let x = struct_of c.get_struct_reader.result in
-    let on : StandsOn c.new-reader.result (schema_of f) x = record {
+    let on : StandsOn c.new-reader.result (field_schema f) x = record {
       schema_is = c.new-reader.ensures.schema ∙ c.get_containing_struct.ensures.is;
       struct_is = ap struct_of c.new-reader.ensures.reader;
       levels = ap struct_levels c.new-reader.ensures.reader ∙ c.get_struct_reader.ensures.levels;

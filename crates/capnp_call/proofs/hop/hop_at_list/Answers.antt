@@ -9,7 +9,7 @@ use Rattle.capnp_schema.specs.Entries.{lists_seen}
 use Rattle.capnp_schema.specs.Types.{seen_type}
 use Rattle.capnp_call.proofs.Hopping.{list_refused}
 use Rattle.capnp_call.proofs.ListWalks.{names_none}
-use Rattle.capnp_call.specs.Hops.{Leads, ListGoes, first_step}
+use Rattle.capnp_call.specs.Hops.{HopLeads, ListGoes, first_step}
 use Rattle.capnp_call.specs.declared.calls.Step.{Step}
 use Rattle.capnp_call.specs.declared.calls.Step.TheVariants as step
 use Rattle.capnp_call.proofs.hop.hop_at_list.Goals as goal
@@ -22,7 +22,7 @@ name_element e = cc
 
 pub returns-in-Element : goal.returns-in-Element
 returns-in-Element c =
-    subst (λ (s : Step). Leads (first_step (ListGoes c.args.word (lists_seen c.args.set.now) (seen_type c.args.element) (segment c.args.arena.now)) s) c.hop_in_list.result (segment c.hop_in_list.new.arena))
+    subst (λ (s : Step). HopLeads (first_step (ListGoes c.args.word (lists_seen c.args.set.now) (seen_type c.args.element) (segment c.args.arena.now)) s) c.hop_in_list.result (segment c.hop_in_list.new.arena))
     (sym c.in-Element.is) c.hop_in_list.ensures
 
 pub returns-in-Field : goal.returns-in-Field

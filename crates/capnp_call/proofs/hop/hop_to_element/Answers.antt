@@ -8,7 +8,7 @@ use Rattle.capnp_schema.specs.Facts.Layers.{seen_which}
 use Rattle.capnp_schema.specs.Types.{SchemaType, seen_type, seen_variant}
 use Rattle.capnp_call.proofs.Hopping.{element_refused}
 use Rattle.capnp_call.proofs.ListWalks.{other_stops, untyped_stops}
-use Rattle.capnp_call.specs.Hops.{ElementGoes, Leads}
+use Rattle.capnp_call.specs.Hops.{ElementGoes, HopLeads}
 use Rattle.capnp_call.specs.Lists.{ElementWalks}
 use Rattle.capnp_call.specs.declared.calls.Reply.TheVariants as reply
 use Rattle.capnp_call.proofs.hop.hop_to_element.Goals as goal
@@ -30,5 +30,5 @@ returns-in_default c = λ rest end.
 
 pub returns-in-List : goal.returns-in-List
 returns-in-List c =
-    subst (λ (e : SchemaType). Leads (ElementGoes c.args.word (lists_seen c.args.set.now) e c.args.index (segment c.args.arena.now)) c.hop_to_list_in.result (segment c.hop_to_list_in.new.arena))
+    subst (λ (e : SchemaType). HopLeads (ElementGoes c.args.word (lists_seen c.args.set.now) e c.args.index (segment c.args.arena.now)) c.hop_to_list_in.result (segment c.hop_to_list_in.new.arena))
     (ap seen_variant c.in-List.ensures ∙ seen_which c.args.element) c.hop_to_list_in.ensures

@@ -4,7 +4,7 @@ use Rattle.capnp_arena.specs.Forest.{tree}
 use Rattle.capnp_arena.specs.Segment.{segment}
 use Rattle.capnp_schema.specs.Entries.{lists_seen}
 use Rattle.capnp_schema.specs.Types.{ListType, seen_type}
-use Rattle.capnp_records.specs.Writes.Stand.{OnList, seen}
+use Rattle.capnp_records.specs.Writes.Stand.{OnList, seen_stand}
 use Rattle.capnp_call.proofs.Replies.{get_undone}
 use Rattle.capnp_records.specs.Record as value
 use Rattle.capnp_call.specs.Seen.{reply_seen}
@@ -19,7 +19,7 @@ returns-in-Get-clause-does c =
     let x = tree (segment c.args.arena.now) c.args.at in
     subst (λ (o : Op). ElementDoes set e c.args.index o x c.get_element.result x) (sym c.in-Get.is)
     (inl (
-      c.get_element.ensures (seen set (ListType e) (OnList x)),
+      c.get_element.ensures (seen_stand set (ListType e) (OnList x)),
       refl,
       get_undone set (element_at set e x c.args.index) value.Void (reply_seen c.get_element.result) value.Void (c.get_element.ensures value.Void),
     ))

@@ -7,7 +7,7 @@ use Rattle.capnp_schema.specs.Types.{ListType, seen_type}
 use Rattle.capnp_records.specs.Call.{ElementAt, Initn, Reply}
 use Rattle.capnp_records.specs.Writes.Contents.{initn_tree}
 use Rattle.capnp_records.specs.Writes.Slots.{At}
-use Rattle.capnp_records.specs.Writes.Stand.{OnList, seen}
+use Rattle.capnp_records.specs.Writes.Stand.{OnList, seen_stand}
 use Rattle.capnp_records.specs.Writes.TreeEnds.{TreeDoes}
 use Rattle.capnp_call.proofs.ElementsDone.{element_init_refused, room_at}
 use Rattle.capnp_call.proofs.Outcomes.{both, by_outcome}
@@ -31,4 +31,4 @@ returns-clause-does c =
     by_outcome (λ (r : Reply). TreeDoes set (Initn n) (element_at set e x i) (ListType e) (OnList x) (ElementAt i) r (OnList x')) c.init.result (reply_seen c.reply_of.result) c.reply_of.ensures
     (both _ _ c.init.result c.init.ensures.has c.init.ensures.written) (λ h. inr (inl (At (initn_tree set e n), h.0, there, refl, ap OnList h.1)))
     c.init.ensures.refused c.init.ensures.cause
-    (λ y same cause. inl (element_init_refused set (element_at set e x i) n e (seen set (ListType e) (OnList x)) y.kind refl cause, ap (λ (b : List ℕ). OnList (tree b c.args.at)) same, refused_undone y.kind))
+    (λ y same cause. inl (element_init_refused set (element_at set e x i) n e (seen_stand set (ListType e) (OnList x)) y.kind refl cause, ap (λ (b : List ℕ). OnList (tree b c.args.at)) same, refused_undone y.kind))

@@ -10,13 +10,13 @@ use Rattle.capnp_arena.specs.declared.arena.Arena.{Arena}
 use Rattle.capnp_arena.specs.declared.arena.Place.{Place}
 use Rattle.capnp_schema.specs.StructHandles.{number_of, set_of}
 use Rattle.capnp_schema.specs.declared.schema.structs.StructSchema.{StructSchema}
-use Rattle.capnp_arena.specs.Built.{built, part}
+use Rattle.capnp_arena.specs.Built.{built_at, place_words}
 use Rattle.capnp_slots.specs.Standing.{IsStanding, IsUnder}
 use Rattle.capnp_call.proofs.Sizes.{standing_on}
 use Rattle.capnp_call.proofs.Starts.{is_made_here, is_struct_root}
 use Rattle.capnp_call.proofs.message.call_on_root.Goals as goal
 
-root_standing : (schema : StructSchema) (a : Arena) (p : Place) → IsMessage a → shape_at (segment a) 0 ≡ part p → IsUnder schema (struct_in (message_tree a)) → IsStanding schema a p
+root_standing : (schema : StructSchema) (a : Arena) (p : Place) → IsMessage a → shape_at (segment a) 0 ≡ place_words p → IsUnder schema (struct_in (message_tree a)) → IsStanding schema a p
 root_standing schema a p message place room = record {
   planted = struct_planted (segment a) 0 p.start p.data_words p.pointers message place;
   room = subst (IsUnder schema) (ap struct_in (tree_struct (segment a) 0 p.start p.data_words p.pointers message place)) room;
@@ -57,5 +57,5 @@ returns-clause-made c =
     let p = c.struct_here-place.result in
     let s : IsInStruct (segment c.args.message.now) (segment c.call_at.new.arena) 0 p.start p.data_words p.pointers =
     in_struct _ _ 0 p.start p.data_words p.pointers c.requires.message c.struct_here-place.ensures.place c.call_at.ensures.planted c.call_at.ensures.changes in
-    is_made_here (set_of c.args.schema) (number_of c.args.schema) (message_tree c.args.message.now) (message_tree c.call_at.new.arena) (built c.args.message.now p) (built c.call_at.new.arena p) c.args.call.now c.call_at.result
+    is_made_here (set_of c.args.schema) (number_of c.args.schema) (message_tree c.args.message.now) (message_tree c.call_at.new.arena) (built_at c.args.message.now p) (built_at c.call_at.new.arena p) c.args.call.now c.call_at.result
     (sym (ap struct_in (tree_struct (segment c.args.message.now) 0 p.start p.data_words p.pointers c.requires.message c.struct_here-place.ensures.place))) s.tree c.call_at.ensures.made

@@ -1,7 +1,7 @@
 -- The struct that was got is the root; else the copy was refused, or what was copied is a list.
 use Rattle.std.proofs.Common.{ap, arith, refl, ◌∙◌}
 use Rattle.std.proofs.lemmas.Result.{err_from_is_err_and}
-use Rattle.capnp_wire.specs.Edits.{extended, struct_in}
+use Rattle.capnp_wire.specs.Edits.{extended_struct, struct_in}
 use Rattle.capnp_wire.specs.Place.{struct_tree}
 use Rattle.capnp_wire.specs.Standing.{tree_of}
 use Rattle.capnp_wire.specs.Tree.{Tree}
@@ -21,14 +21,14 @@ returns-in_err-get_struct-clause-cause c =
 
 pub returns-clause-root : goal.returns-clause-root
 returns-clause-root c =
-    copied_root c.args.schema c.size_of-size.result (extended c.size_of-size.result (struct_in (tree_of c.args.source))) (tree_of c.args.source) (message_tree c.get_struct.new.self) c.size_of-size.ensures
-    refl (c.in_ok-get_struct.ensures.tree ∙ ap (λ (t : Tree). struct_tree (extended c.size_of-size.result (struct_in t))) c.in_ok-set_root.ensures.tree) (omega arith) (omega arith)
+    copied_root c.args.schema c.size_of-size.result (extended_struct c.size_of-size.result (struct_in (tree_of c.args.source))) (tree_of c.args.source) (message_tree c.get_struct.new.self) c.size_of-size.ensures
+    refl (c.in_ok-get_struct.ensures.tree ∙ ap (λ (t : Tree). struct_tree (extended_struct c.size_of-size.result (struct_in t))) c.in_ok-set_root.ensures.tree) (omega arith) (omega arith)
     c.pointer_is_well_formed.ensures
 
 pub returns-clause-copied : goal.returns-clause-copied
 returns-clause-copied c =
-    root_copied c.args.schema c.size_of-size.result (extended c.size_of-size.result (struct_in (tree_of c.args.source))) c.args.source (message_tree c.get_struct.new.self) c.size_of-size.ensures
-    refl (c.in_ok-get_struct.ensures.tree ∙ ap (λ (t : Tree). struct_tree (extended c.size_of-size.result (struct_in t))) c.in_ok-set_root.ensures.tree)
+    root_copied c.args.schema c.size_of-size.result (extended_struct c.size_of-size.result (struct_in (tree_of c.args.source))) c.args.source (message_tree c.get_struct.new.self) c.size_of-size.ensures
+    refl (c.in_ok-get_struct.ensures.tree ∙ ap (λ (t : Tree). struct_tree (extended_struct c.size_of-size.result (struct_in t))) c.in_ok-set_root.ensures.tree)
 
 pub returns-clause-sound : goal.returns-clause-sound
 returns-clause-sound c = refused_whole (tree_of c.args.source) _ _ c.in_ok-set_root.ensures.sound c.in_ok-set_root.ensures.tree c.in_ok-get_struct.ensures.within

@@ -6,7 +6,7 @@ use Rattle.capnp_wire.specs.Tree.{StructTree, Tree}
 use Rattle.capnp_arena.specs.Message.{message_tree}
 use Rattle.capnp_schema.specs.StructHandles.{number_of, set_of}
 use Rattle.capnp_slots.specs.Standing.{IsUnder}
-use Rattle.capnp_call.specs.Runs.{IsMade, Makes}
+use Rattle.capnp_call.specs.Runs.{IsCallMade, MakesCalls}
 use Rattle.capnp_call.specs.declared.calls.Call.{Call}
 use Rattle.capnp_call.specs.declared.calls.Reply.{Reply}
 use Rattle.capnp_call.proofs.Making.{makes_more, makes_none}
@@ -16,7 +16,7 @@ pub loop-call-init : goal.loop-call-init
 loop-call-init c =
     let s = struct_in (message_tree c.args.message.now) in
     record {
-      made = subst (λ (rs : List Reply). Makes (set_of c.args.schema) (number_of c.args.schema) s [] rs s) (sym c.in_ok-replies.ensures.items) (makes_none (set_of c.args.schema) (number_of c.args.schema) s);
+      made = subst (λ (rs : List Reply). MakesCalls (set_of c.args.schema) (number_of c.args.schema) s [] rs s) (sym c.in_ok-replies.ensures.items) (makes_none (set_of c.args.schema) (number_of c.args.schema) s);
       message = c.requires.message;
       here = c.requires.here;
       room = c.requires.room;
@@ -43,11 +43,11 @@ loop-call-preserved c =
     let len = rw c.if-is_err.ensures.negation at c.push.ensures.len in
     let call : Call = c.call-item.result in
     let item : get_or calls i call ≡ call = sym c.call-item.is in
-    let made = subst (λ (s : StructTree). IsMade set b s call c.call_on_root-reply.result now) (ap struct_in c.keep_room-held.ensures.tree) c.call_on_root-reply.ensures.made in
+    let made = subst (λ (s : StructTree). IsCallMade set b s call c.call_on_root-reply.result now) (ap struct_in c.keep_room-held.ensures.tree) c.call_on_root-reply.ensures.made in
     let next = makes_more set b old _ now (take i calls) c.loop-call.replies.items call c.call_on_root-reply.result c.loop-call.invariant.made made in
     record {
-      made = subst (λ (rs : List Reply). Makes set b old (take (i + 1) calls) rs now) (sym items)
-          (subst (λ (cs : List Call). Makes set b old cs (c.loop-call.replies.items ++ c.call_on_root-reply.result ∷ []) now) (sym (take_more calls i call inside ∙ ap (λ (k : Call). take i calls ++ k ∷ []) item)) next);
+      made = subst (λ (rs : List Reply). MakesCalls set b old (take (i + 1) calls) rs now) (sym items)
+          (subst (λ (cs : List Call). MakesCalls set b old cs (c.loop-call.replies.items ++ c.call_on_root-reply.result ∷ []) now) (sym (take_more calls i call inside ∙ ap (λ (k : Call). take i calls ++ k ∷ []) item)) next);
       message = c.call_on_root-reply.ensures.message;
       here = c.call_on_root-reply.ensures.here;
       room = c.call_on_root-reply.ensures.room;

@@ -2,8 +2,8 @@
 use Rattle.std.proofs.Common.{◌<◌, ◌+◌, ◌++◌, ◌∷◌, ◌≡◌, ◌∙◌, [], List, ap, get_or, refl, sym, subst, arith, length, take}
 use Rattle.std.proofs.lemmas.List.{take_more}
 use Rattle.capnp_schema.specs.StructHandles.{number_of, set_of}
-use Rattle.capnp_arena.specs.Built.{built}
-use Rattle.capnp_call.specs.Runs.{Makes}
+use Rattle.capnp_arena.specs.Built.{built_at}
+use Rattle.capnp_call.specs.Runs.{MakesCalls}
 use Rattle.capnp_call.specs.declared.calls.Call.{Call}
 use Rattle.capnp_call.specs.declared.calls.Reply.{Reply}
 use Rattle.capnp_call.proofs.Making.{makes_more, makes_none}
@@ -12,9 +12,9 @@ use Rattle.capnp_call.proofs.runs.make_calls.Goals as goal
 
 pub loop-call-init : goal.loop-call-init
 loop-call-init c =
-    let s = built c.args.arena.now c.args.place in
+    let s = built_at c.args.arena.now c.args.place in
     record {
-      made = subst (λ (rs : List Reply). Makes (set_of c.args.schema) (number_of c.args.schema) s [] rs s) (sym c.in_ok-replies.ensures.items) (makes_none (set_of c.args.schema) (number_of c.args.schema) s);
+      made = subst (λ (rs : List Reply). MakesCalls (set_of c.args.schema) (number_of c.args.schema) s [] rs s) (sym c.in_ok-replies.ensures.items) (makes_none (set_of c.args.schema) (number_of c.args.schema) s);
       standing = c.requires.ready.standing;
       changes = changes_none c.args.place c.args.arena.now c.args.arena.now refl;
       capacity = c.in_ok-replies.ensures.capacity;
@@ -25,8 +25,8 @@ pub loop-call-preserved : goal.loop-call-preserved
 loop-call-preserved c =
     let set = set_of c.args.schema in
     let b = number_of c.args.schema in
-    let old = built c.args.arena.now c.args.place in
-    let now = built c.call_at-reply.new.arena c.args.place in
+    let old = built_at c.args.arena.now c.args.place in
+    let now = built_at c.call_at-reply.new.arena c.args.place in
     let calls = c.args.calls.now in
     let i = c.loop-call.call-index in
     let inside : i < length calls = omega (arith, c.loop-call-test.true) in
@@ -36,8 +36,8 @@ loop-call-preserved c =
     let item : get_or calls i call ≡ call = sym c.call-item.is in
     let next = makes_more set b old _ now (take i calls) c.loop-call.replies.items call c.call_at-reply.result c.loop-call.invariant.made c.call_at-reply.ensures.made in
     record {
-      made = subst (λ (rs : List Reply). Makes set b old (take (i + 1) calls) rs now) (sym items)
-          (subst (λ (cs : List Call). Makes set b old cs (c.loop-call.replies.items ++ c.call_at-reply.result ∷ []) now) (sym (take_more calls i call inside ∙ ap (λ (k : Call). take i calls ++ k ∷ []) item)) next);
+      made = subst (λ (rs : List Reply). MakesCalls set b old (take (i + 1) calls) rs now) (sym items)
+          (subst (λ (cs : List Call). MakesCalls set b old cs (c.loop-call.replies.items ++ c.call_at-reply.result ∷ []) now) (sym (take_more calls i call inside ∙ ap (λ (k : Call). take i calls ++ k ∷ []) item)) next);
       standing = standing_on c.args.schema c.loop-call.arena c.call_at-reply.new.arena c.args.place c.loop-call.invariant.standing c.call_at-reply.ensures.planted;
       changes = changes_then c.args.place c.args.arena.now c.loop-call.arena c.call_at-reply.new.arena c.loop-call.invariant.changes c.call_at-reply.ensures.changes;
       capacity = omega (arith, c.push.ensures.capacity, c.loop-call.invariant.capacity);

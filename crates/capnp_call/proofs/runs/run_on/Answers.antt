@@ -1,7 +1,7 @@
 -- A run on trees is a run of the machine of records.
 use Rattle.std.proofs.Common.{subst}
 use Rattle.capnp_schema.specs.Ranges.{HasRanges}
-use Rattle.capnp_arena.specs.Built.{built}
+use Rattle.capnp_arena.specs.Built.{built_at}
 use Rattle.capnp_call.proofs.Making.{machine_runs}
 use Rattle.capnp_call.proofs.RunsRest.{run_rests}
 use Rattle.capnp_call.proofs.Results.{if_ok}
@@ -11,13 +11,13 @@ use Rattle.capnp_call.proofs.runs.run_on.Goals as goal
 pub returns-clause-runs : goal.returns-clause-runs
 returns-clause-runs c =
     if_ok c.make_calls-replies.result
-    (λ replies. machine_runs c.args.schema (built c.args.arena.now c.args.place) (built c.make_calls-replies.new.arena c.args.place) c.args.calls.now replies.items c.requires.ready.stands
+    (λ replies. machine_runs c.args.schema (built_at c.args.arena.now c.args.place) (built_at c.make_calls-replies.new.arena c.args.place) c.args.calls.now replies.items c.requires.ready.stands
     (subst HasRanges c.get_set.ensures c.numbers_fit.ensures) c.overlay_law.ensures c.requires.ready.standing.room)
     c.make_calls-replies.ensures.made
 
 pub returns-clause-rests : goal.returns-clause-rests
 returns-clause-rests c =
-    if_ok c.make_calls-replies.result (λ replies made. run_rests c.args.schema (built c.args.arena.now c.args.place) (built c.make_calls-replies.new.arena c.args.place) c.args.calls.now replies.items made)
+    if_ok c.make_calls-replies.result (λ replies made. run_rests c.args.schema (built_at c.args.arena.now c.args.place) (built_at c.make_calls-replies.new.arena c.args.place) c.args.calls.now replies.items made)
     c.make_calls-replies.ensures.made
 
 pub returns-clause-kept : goal.returns-clause-kept

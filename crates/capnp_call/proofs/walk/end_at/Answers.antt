@@ -3,7 +3,7 @@ use Rattle.std.proofs.Common.{[], refl, subst, sym}
 use Rattle.capnp_arena.specs.Segment.{segment}
 use Rattle.capnp_schema.specs.StructHandles.{number_of, set_of}
 use Rattle.capnp_call.proofs.Walking.{walks_end}
-use Rattle.capnp_call.specs.Hops.{Goes, IsAt, IsAtStruct, placed}
+use Rattle.capnp_call.specs.Hops.{HopGoes, IsAt, IsAtStruct, placed_struct}
 use Rattle.capnp_call.specs.declared.hop.At.{At}
 use Rattle.capnp_call.proofs.walk.end_at.Goals as goal
 
@@ -21,12 +21,12 @@ returns-in-Struct c =
     let schema = c.in-Struct.schema in
     let old = segment c.args.arena.now in
     let new = segment c.end_at_struct.new.arena in
-    subst (λ (x : At). Goes x old [] c.args.end c.end_at_struct.result new) (sym c.in-Struct.is)
+    subst (λ (x : At). HopGoes x old [] c.args.end c.end_at_struct.result new) (sym c.in-Struct.is)
     (record {
-      walks = walks_end (set_of schema) (number_of schema) [] c.args.end (placed old p) c.end_at_struct.result (placed new p) refl c.end_at_struct.ensures.ends;
+      walks = walks_end (set_of schema) (number_of schema) [] c.args.end (placed_struct old p) c.end_at_struct.result (placed_struct new p) refl c.end_at_struct.ensures.ends;
       planted = c.end_at_struct.ensures.planted;
       changes = c.end_at_struct.ensures.changes;
     })
 
 pub returns-in-List : goal.returns-in-List
-returns-in-List c = subst (λ (x : At). Goes x (segment c.args.arena.now) [] c.args.end c.end_in_list.result (segment c.end_in_list.new.arena)) (sym c.in-List.is) c.end_in_list.ensures
+returns-in-List c = subst (λ (x : At). HopGoes x (segment c.args.arena.now) [] c.args.end c.end_in_list.result (segment c.end_in_list.new.arena)) (sym c.in-List.is) c.end_in_list.ensures

@@ -3,7 +3,7 @@ use Rattle.std.specs.Prelude.{Ok, length}
 use Rattle.std.proofs.Common.{ap, arith, sym, ◌∙◌}
 use Rattle.std.proofs.lemmas.Result.{err_from_is_err_and}
 use Rattle.capnp_base.specs.IndexIter.{source, to_come}
-use Rattle.capnp_callers.specs.Values.{count_of}
+use Rattle.capnp_callers.specs.Values.{built_count}
 use Rattle.capnp_callers.proofs.ListNumbers.{element-mismatched, element-refused, next-element, no-index, read-on}
 use Rattle.capnp_callers.proofs.values.numbers_of.Goals as goal
 
@@ -39,6 +39,6 @@ returns-in_default c =
 pub returns-clause-numbers : goal.returns-clause-numbers
 returns-clause-numbers c =
     let so-far = c.loop-element.invariant in
-    let left = no-index (length c.loop-element.numbers.items) (count_of c.args.list) (sym so-far.1 ∙ c.in-None.ensures.steps.0) in
+    let left = no-index (length c.loop-element.numbers.items) (built_count c.args.list) (sym so-far.1 ∙ c.in-None.ensures.steps.0) in
     let most = so-far.2 in
     (omega (arith, left, most), so-far.3)

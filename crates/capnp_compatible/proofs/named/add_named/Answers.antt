@@ -2,7 +2,7 @@ use Rattle.std.proofs.Common.{subst, arith}
 use Rattle.std.specs.Prelude.{Option}
 use Rattle.capnp_schema.specs.Entries.{lists_seen}
 use Rattle.capnp_compatible.specs.declared.pairs.Pair.{Pair}
-use Rattle.capnp_compatible.specs.Closing.{Adds, Holds, listed}
+use Rattle.capnp_compatible.specs.Closing.{Adds, Holds, listed_pairs}
 use Rattle.capnp_compatible.proofs.Growth.{far_only, grown_more}
 use Rattle.capnp_compatible.proofs.named.add_named.Goals as goal
 
@@ -13,7 +13,7 @@ returns-in_err-add_some-clause-only c = far_only c.args.lists (lists_seen c.args
 pub loop-i-preserved : goal.loop-i-preserved
 loop-i-preserved c = grown_more c.args.lists (lists_seen c.args.set.now) c.args.older c.args.newer c.loop-i.i _ _ _ c.loop-i.invariant c.add_some.ensures.more c.add_some.ensures.begins
     (subst (λ (o : Option Pair). Adds c.loop-i.pairs c.add_some.new.pairs (λ sets. Holds sets o)) c.named_at.ensures c.add_some.ensures.only)
-    (subst (λ (o : Option Pair). Holds (listed c.add_some.new.pairs) o) c.named_at.ensures c.in_ok-add_some.ensures.added) c.add_some.ensures.apart
+    (subst (λ (o : Option Pair). Holds (listed_pairs c.add_some.new.pairs) o) c.named_at.ensures c.in_ok-add_some.ensures.added) c.add_some.ensures.apart
 
 pub returns-clause-only : goal.returns-clause-only
 returns-clause-only c = λ pairs within holds. c.loop-i.invariant.only pairs within (λ k below. holds k (omega arith))

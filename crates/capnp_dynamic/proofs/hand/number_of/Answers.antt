@@ -6,7 +6,7 @@ use Rattle.capnp_arena.specs.Same.{IsStructCutOf}
 use Rattle.capnp_schema.specs.FieldLists.{index_of}
 use Rattle.capnp_schema.specs.StructHandles.{set_of, struct_field}
 use Rattle.capnp_schema.specs.declared.schema.structs.StructSchema.{StructSchema}
-use Rattle.capnp_arena.specs.Built.{built}
+use Rattle.capnp_arena.specs.Built.{built_at}
 use Rattle.capnp_dynamic_readers.specs.Typed.{IsOf}
 use Rattle.std.specs.Prelude.{◌≡◌}
 use Rattle.capnp_wire.specs.Standing.{struct_levels}
@@ -16,7 +16,7 @@ use Rattle.capnp_dynamic.proofs.hand.number_of.Goals as goal
 pub returns-clause-stands : goal.returns-clause-stands
 returns-clause-stands c =
     let f = c.args.field in
-    let s = built c.args.arena.now c.args.place in
+    let s = built_at c.args.arena.now c.args.place in
     let same = c.new-reader.ensures.schema ∙ c.get_containing_struct.ensures.is in (
       c.in-Ok.value,
       c.built_number.ensures.reads,

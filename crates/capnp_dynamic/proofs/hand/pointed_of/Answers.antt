@@ -9,7 +9,7 @@ use Rattle.capnp_schema.specs.Schema.{default_of}
 use Rattle.capnp_schema.specs.StructHandles.{set_of}
 use Rattle.capnp_schema.specs.Facts.Layers.{seen_which}
 use Rattle.capnp_schema.specs.Types.{is_pointer, seen_variant}
-use Rattle.capnp_arena.specs.Built.{built}
+use Rattle.capnp_arena.specs.Built.{built_at}
 use Rattle.capnp_slots.specs.Fields.{field_set}
 use Rattle.capnp_slots.specs.Fills.{filled_in, pointer_in}
 use Rattle.capnp_dynamic.proofs.HandedOut.{can-fill, can-hand, handed-out}
@@ -18,7 +18,7 @@ use Rattle.capnp_dynamic.proofs.hand.pointed_of.Goals as goal
 pub hand_out-requires-clause-handed : goal.hand_out-requires-clause-handed
 hand_out-requires-clause-handed c =
     let f = c.args.field in
-    let s : StructTree = built c.args.arena.now c.args.place in
+    let s : StructTree = built_at c.args.arena.now c.args.place in
     can-hand (lists_seen c.get_set-set.result.now) (field_set f) (seen_variant c.which-variant.result) (typed_of f).type _ (filled_in f s)
     (c.get_set-set.ensures ∙ ap set_of c.get_containing_struct.ensures.is)
     (ap seen_variant c.which-variant.ensures ∙ (seen_which c.get_type.result ∙ c.get_type.ensures.is))
@@ -29,7 +29,7 @@ hand_out-requires-clause-handed c =
 pub returns-clause-stands : goal.returns-clause-stands
 returns-clause-stands c =
     let f = c.args.field in
-    let s : StructTree = built c.args.arena.now c.args.place in
+    let s : StructTree = built_at c.args.arena.now c.args.place in
     handed-out false (lists_seen c.get_set-set.result.now) (field_set f) (seen_variant c.which-variant.result) (typed_of f).type _ (filled_in f s) c.hand_out.result
     (c.get_set-set.ensures ∙ ap set_of c.get_containing_struct.ensures.is)
     (ap seen_variant c.which-variant.ensures ∙ (seen_which c.get_type.result ∙ c.get_type.ensures.is))

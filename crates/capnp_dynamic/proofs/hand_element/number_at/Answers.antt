@@ -14,7 +14,7 @@ use Rattle.capnp_schema.specs.Schema.{Schemas, VoidValue}
 use Rattle.capnp_schema.specs.Types.{SchemaType, element_size, is_pointer, seen_type, seen_variant}
 use Rattle.capnp_records.specs.Default.{read_of}
 use Rattle.capnp_records.specs.Facts.Readers.{element_read}
-use Rattle.capnp_dynamic_readers.specs.Typed.{IsUnder}
+use Rattle.capnp_dynamic_readers.specs.Typed.{IsValueUnder}
 use Rattle.capnp_dynamic.specs.Handed.{element_read_of}
 use Rattle.capnp_dynamic.proofs.Heads.{element_cut}
 use Rattle.capnp_dynamic.proofs.hand_element.number_at.Goals as goal
@@ -33,5 +33,5 @@ returns-clause-stands c =
           ∙ (ap (λ (n : ℕ). read_of set VoidValue t (element_read set x n t c.args.index)) c.read_list-reader.ensures.levels
           ∙ (element_cut set 64 x y cut t c.args.index (ap is_pointer e ∙ c.requires.number)
           ∙ ap (λ (u : SchemaType). element_read_of set u y c.args.index) e)),
-      subst (λ (u : SchemaType). IsUnder set u c.in-Ok.value) e c.in-Ok.ensures.under,
+      subst (λ (u : SchemaType). IsValueUnder set u c.in-Ok.value) e c.in-Ok.ensures.under,
     )

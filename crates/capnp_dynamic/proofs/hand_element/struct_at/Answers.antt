@@ -6,7 +6,7 @@ use Rattle.capnp_wire.specs.Tree.{Tree}
 use Rattle.capnp_arena.specs.Forest.{tree}
 use Rattle.capnp_arena.specs.Segment.{segment}
 use Rattle.capnp_schema.specs.Entries.{lists_seen}
-use Rattle.capnp_arena.specs.Built.{built}
+use Rattle.capnp_arena.specs.Built.{built_at}
 use Rattle.capnp_dynamic.proofs.ElementsHanded.{struct_ready, struct_there}
 use Rattle.capnp_dynamic.proofs.hand_element.struct_at.Goals as goal
 
@@ -18,7 +18,7 @@ returns-clause-ready c =
     record {
       planted = place.ensures.planted;
       room = struct_ready (lists_seen c.args.set.now) c.args.raw.number c.args.raw.generic x c.args.index schema.result schema.ensures.set schema.ensures.number
-          c.requires.under.holds c.tree_is_sound.ensures.formed c.requires.inside (built c.args.arena.now place.result) place.ensures.tree;
+          c.requires.under.holds c.tree_is_sound.ensures.formed c.requires.inside (built_at c.args.arena.now place.result) place.ensures.tree;
     }
 
 pub get_struct_at-place-requires-clause-there : goal.get_struct_at-place-requires-clause-there

@@ -6,7 +6,7 @@ use Rattle.capnp_dynamic_readers.specs.Handles.{element_of, list_set}
 use Rattle.capnp_dynamic_readers.specs.Reads.{element_seen}
 use Rattle.capnp_dynamic_readers.specs.Seen.{value_seen}
 use Rattle.capnp_dynamic_readers.specs.Taken.{only_struct}
-use Rattle.capnp_dynamic_readers.specs.Typed.{IsOf, IsUnder}
+use Rattle.capnp_dynamic_readers.specs.Typed.{IsOf, IsValueUnder}
 use Rattle.capnp_dynamic_readers.specs.declared.dynamic_value.Reader.{Reader as DynamicValue}
 use Rattle.capnp_dynamic_readers.specs.declared.dynamic_value.Reader.TheVariants as dynamic
 use Rattle.capnp_dynamic_readers.specs.Facts.Taken.{read_refused, taken}
@@ -23,7 +23,7 @@ returns-clause-value c =
 
 pub returns-clause-under : goal.returns-clause-under
 returns-clause-under c =
-    taken dynamic.Struct c.in_ok-part.part (IsUnder (list_set c.args.list) (element_of c.args.list)) c.struct_of.result c.struct_of.ensures.is c.in_ok-part.ensures.under
+    taken dynamic.Struct c.in_ok-part.part (IsValueUnder (list_set c.args.list) (element_of c.args.list)) c.struct_of.result c.struct_of.ensures.is c.in_ok-part.ensures.under
 
 pub returns-clause-typed : goal.returns-clause-typed
 returns-clause-typed c = λ named.

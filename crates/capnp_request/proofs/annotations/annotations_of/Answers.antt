@@ -6,12 +6,12 @@ use Rattle.capnp_dynamic_readers.specs.Seen.{record_seen}
 use Rattle.capnp_request.specs.Bindings.{bounds}
 use Rattle.capnp_request.specs.Done.{between}
 use Rattle.capnp_request.specs.Nodes.{nodes_of}
-use Rattle.capnp_request.specs.Parts.{read_at}
+use Rattle.capnp_request.specs.Parts.{request_read_at}
 use Rattle.capnp_request.proofs.Refused.{err_done}
 use Rattle.capnp_request.specs.Conversion.{annotation_of, annotations_of}
 use Rattle.capnp_request.specs.ConvertedSeen.{typed_annotations}
 use Rattle.capnp_request.specs.Handles.{values_left}
-use Rattle.capnp_request.specs.Reading.{annotation_said, annotations_in, each_said}
+use Rattle.capnp_request.specs.Reading.{annotation_said, annotation_terms_in, each_said}
 use Rattle.capnp_request.specs.Work.{each_read}
 use Rattle.capnp_request.proofs.AnnotationsDone.{annotations_start, annotations_unread}
 use Rattle.capnp_request.proofs.FieldsDone.{typed_longer, typed_more}
@@ -19,7 +19,7 @@ use Rattle.capnp_request.proofs.Walks.{begun_with, prefixed, walk_end, walk_ok, 
 use Rattle.capnp_request.proofs.annotations.annotations_of.Goals as goal
 
 pub returns-in_err-listed-clause-done : goal.returns-in_err-listed-clause-done
-returns-in_err-listed-clause-done c = err_done (λ r. typed_annotations r.0.items r.1.items) (annotations_of (nodes_of c.args.context.nodes.now) c.args.context.strict (bounds c.args.inside.now) (annotations_in (read_at c.args.brand c.args.index (record_seen c.args.reader)))) (between c.args.entries.now) _ c.from_residual.result _ c.from_residual.ensures.1 (λ n. annotations_unread (nodes_of c.args.context.nodes.now) c.args.context.strict (bounds c.args.inside.now) (between c.args.entries.now) _ _ c.in_err-listed.ensures.refused)
+returns-in_err-listed-clause-done c = err_done (λ r. typed_annotations r.0.items r.1.items) (annotations_of (nodes_of c.args.context.nodes.now) c.args.context.strict (bounds c.args.inside.now) (annotation_terms_in (request_read_at c.args.brand c.args.index (record_seen c.args.reader)))) (between c.args.entries.now) _ c.from_residual.result _ c.from_residual.ensures.1 (λ n. annotations_unread (nodes_of c.args.context.nodes.now) c.args.context.strict (bounds c.args.inside.now) (between c.args.entries.now) _ _ c.in_err-listed.ensures.refused)
 
 pub loop-at-init : goal.loop-at-init
 loop-at-init c =
@@ -33,10 +33,10 @@ loop-at-init c =
     }
 
 pub returns-in_err-annotation-clause-done : goal.returns-in_err-annotation-clause-done
-returns-in_err-annotation-clause-done c = err_done (λ r. typed_annotations r.0.items r.1.items) (annotations_of (nodes_of c.args.context.nodes.now) c.args.context.strict (bounds c.args.inside.now) (annotations_in (read_at c.args.brand c.args.index (record_seen c.args.reader)))) (between c.args.entries.now) _ c.from_residual-in_err-annotation.result _ c.from_residual-in_err-annotation.ensures.1 (λ n. c.loop-at.invariant.done ∙ walk_unread (annotation_of (nodes_of c.args.context.nodes.now) c.args.context.strict (bounds c.args.inside.now)) 12 annotation_said c.in_ok-listed.listed c.loop-at.at (typed_annotations c.loop-at.records.items c.loop-at.types.items) (between c.loop-at.entries) _ c.in_ok-listed.ensures.elements (omega arith) c.in_err-annotation.ensures.refused)
+returns-in_err-annotation-clause-done c = err_done (λ r. typed_annotations r.0.items r.1.items) (annotations_of (nodes_of c.args.context.nodes.now) c.args.context.strict (bounds c.args.inside.now) (annotation_terms_in (request_read_at c.args.brand c.args.index (record_seen c.args.reader)))) (between c.args.entries.now) _ c.from_residual-in_err-annotation.result _ c.from_residual-in_err-annotation.ensures.1 (λ n. c.loop-at.invariant.done ∙ walk_unread (annotation_of (nodes_of c.args.context.nodes.now) c.args.context.strict (bounds c.args.inside.now)) 12 annotation_said c.in_ok-listed.listed c.loop-at.at (typed_annotations c.loop-at.records.items c.loop-at.types.items) (between c.loop-at.entries) _ c.in_ok-listed.ensures.elements (omega arith) c.in_err-annotation.ensures.refused)
 
 pub returns-in_err-made-clause-done : goal.returns-in_err-made-clause-done
-returns-in_err-made-clause-done c = err_done (λ r. typed_annotations r.0.items r.1.items) (annotations_of (nodes_of c.args.context.nodes.now) c.args.context.strict (bounds c.args.inside.now) (annotations_in (read_at c.args.brand c.args.index (record_seen c.args.reader)))) (between c.args.entries.now) _ c.from_residual-in_err-made.result _ c.from_residual-in_err-made.ensures.1 (λ n. c.loop-at.invariant.done ∙ walk_refused (annotation_of (nodes_of c.args.context.nodes.now) c.args.context.strict (bounds c.args.inside.now)) 12 annotation_said c.in_ok-listed.listed c.loop-at.at (typed_annotations c.loop-at.records.items c.loop-at.types.items) (between c.loop-at.entries) (record_seen c.in_ok-annotation.annotation) _ c.in_ok-listed.ensures.elements (omega arith) c.in_ok-annotation.ensures.read (c.in_err-made.ensures.done n))
+returns-in_err-made-clause-done c = err_done (λ r. typed_annotations r.0.items r.1.items) (annotations_of (nodes_of c.args.context.nodes.now) c.args.context.strict (bounds c.args.inside.now) (annotation_terms_in (request_read_at c.args.brand c.args.index (record_seen c.args.reader)))) (between c.args.entries.now) _ c.from_residual-in_err-made.result _ c.from_residual-in_err-made.ensures.1 (λ n. c.loop-at.invariant.done ∙ walk_refused (annotation_of (nodes_of c.args.context.nodes.now) c.args.context.strict (bounds c.args.inside.now)) 12 annotation_said c.in_ok-listed.listed c.loop-at.at (typed_annotations c.loop-at.records.items c.loop-at.types.items) (between c.loop-at.entries) (record_seen c.in_ok-annotation.annotation) _ c.in_ok-listed.ensures.elements (omega arith) c.in_ok-annotation.ensures.read (c.in_err-made.ensures.done n))
 
 pub loop-at-preserved : goal.loop-at-preserved
 loop-at-preserved c =

@@ -8,8 +8,8 @@ use Rattle.capnp_request.specs.Done.{between}
 use Rattle.capnp_request.specs.Handles.{values_left}
 use Rattle.capnp_request.specs.Nodes.{nodes_of}
 use Rattle.capnp_request.specs.Numbers.{AreNumbered}
-use Rattle.capnp_request.specs.Parts.{read_at}
-use Rattle.capnp_request.specs.Reading.{annotation_said, annotations_in, each_said}
+use Rattle.capnp_request.specs.Parts.{request_read_at}
+use Rattle.capnp_request.specs.Reading.{annotation_said, annotation_terms_in, each_said}
 use Rattle.capnp_request.specs.Work.{each_read}
 use Rattle.capnp_request.proofs.Walks.{prefixed}
 use Rattle.capnp_request.proofs.annotations.annotations_of.Given as goal
@@ -18,6 +18,6 @@ abbrev pub invariant-loop-at : goal.invariant-loop-at
 invariant-loop-at l = record {
   numbers : AreNumbered l.entries;
   typed : length l.types.items ≡ length l.records.items;
-  done : annotations_of (nodes_of l.context.nodes.now) l.context.strict (bounds l.inside) (annotations_in (read_at l.brand l.index (record_seen l.reader))) (between l.fn.entries)
+  done : annotations_of (nodes_of l.context.nodes.now) l.context.strict (bounds l.inside) (annotation_terms_in (request_read_at l.brand l.index (record_seen l.reader))) (between l.fn.entries)
       ≡ prefixed (typed_annotations l.records.items l.types.items) (each_read (annotation_of (nodes_of l.context.nodes.now) l.context.strict (bounds l.inside)) (each_said 12 annotation_said (values_left l.listed l.at)) (between l.entries));
 }

@@ -7,8 +7,8 @@ use Rattle.capnp_request.specs.Done.{so_far}
 use Rattle.capnp_request.specs.Handles.{values_left}
 use Rattle.capnp_request.specs.Meant.{float_type}
 use Rattle.capnp_request.specs.Nodes.{nodes_of}
-use Rattle.capnp_request.specs.Numbers.{numbered}
-use Rattle.capnp_request.specs.Parts.{read_at}
+use Rattle.capnp_request.specs.Numbers.{numbered_entries}
+use Rattle.capnp_request.specs.Parts.{request_read_at}
 use Rattle.capnp_request.specs.Reading.{binding_said, bindings_said, brand_in, enum_term, list_term, scope_said, scopes_said, struct_term, type_said, untyped_term}
 use Rattle.capnp_request.specs.Terms.{Float32, Float64, Interface}
 use Rattle.capnp_request.specs.Types.{bind_scope, binding_types, brand_types, interface, named_scopes, scope_types, type_of}
@@ -41,43 +41,43 @@ pub type_of-returns-in-10-clause-done : goal.type_of-returns-in-10-clause-done
 type_of-returns-in-10-clause-done t c =
     let deep : c.args.depth ≡ suc (c.args.depth - 1) = omega (arith, c.if-depth-eq0.false) in
     let which : which_of (record_seen c.args.term) ≡ Some c.in-Some.member = sym c.active_member.ensures ∙ c.in-Some.is in
-    work_done (nodes_of c.args.context.nodes.now) c.args.context.strict (bounds c.args.inside.now) seen_type (type_said c.args.depth (record_seen c.args.term)) Float32 (float_type false c.args.context.strict) _ _ _ (type_by (c.args.depth - 1) c.args.depth (record_seen c.args.term) c.in-Some.member 10 deep which c.in-10.is) refl (c.float_type.ensures.done (numbered c.args.entries.now))
+    work_done (nodes_of c.args.context.nodes.now) c.args.context.strict (bounds c.args.inside.now) seen_type (type_said c.args.depth (record_seen c.args.term)) Float32 (float_type false c.args.context.strict) _ _ _ (type_by (c.args.depth - 1) c.args.depth (record_seen c.args.term) c.in-Some.member 10 deep which c.in-10.is) refl (c.float_type.ensures.done (numbered_entries c.args.entries.now))
 
 pub type_of-returns-in-11-clause-done : goal.type_of-returns-in-11-clause-done
 type_of-returns-in-11-clause-done t c =
     let deep : c.args.depth ≡ suc (c.args.depth - 1) = omega (arith, c.if-depth-eq0.false) in
     let which : which_of (record_seen c.args.term) ≡ Some c.in-Some.member = sym c.active_member.ensures ∙ c.in-Some.is in
-    work_done (nodes_of c.args.context.nodes.now) c.args.context.strict (bounds c.args.inside.now) seen_type (type_said c.args.depth (record_seen c.args.term)) Float64 (float_type true c.args.context.strict) _ _ _ (type_by (c.args.depth - 1) c.args.depth (record_seen c.args.term) c.in-Some.member 11 deep which c.in-11.is) refl (c.float_type-in-11.ensures.done (numbered c.args.entries.now))
+    work_done (nodes_of c.args.context.nodes.now) c.args.context.strict (bounds c.args.inside.now) seen_type (type_said c.args.depth (record_seen c.args.term)) Float64 (float_type true c.args.context.strict) _ _ _ (type_by (c.args.depth - 1) c.args.depth (record_seen c.args.term) c.in-Some.member 11 deep which c.in-11.is) refl (c.float_type-in-11.ensures.done (numbered_entries c.args.entries.now))
 
 pub type_of-returns-in-17-clause-done : goal.type_of-returns-in-17-clause-done
 type_of-returns-in-17-clause-done t c =
     let deep : c.args.depth ≡ suc (c.args.depth - 1) = omega (arith, c.if-depth-eq0.false) in
     let which : which_of (record_seen c.args.term) ≡ Some c.in-Some.member = sym c.active_member.ensures ∙ c.in-Some.is in
-    work_done (nodes_of c.args.context.nodes.now) c.args.context.strict (bounds c.args.inside.now) seen_type (type_said c.args.depth (record_seen c.args.term)) Interface (interface c.args.context.strict) _ _ _ (type_by (c.args.depth - 1) c.args.depth (record_seen c.args.term) c.in-Some.member 17 deep which c.in-17.is) refl (c.interface_type.ensures.done (numbered c.args.entries.now))
+    work_done (nodes_of c.args.context.nodes.now) c.args.context.strict (bounds c.args.inside.now) seen_type (type_said c.args.depth (record_seen c.args.term)) Interface (interface c.args.context.strict) _ _ _ (type_by (c.args.depth - 1) c.args.depth (record_seen c.args.term) c.in-Some.member 17 deep which c.in-17.is) refl (c.interface_type.ensures.done (numbered_entries c.args.entries.now))
 
 pub type_of-returns-in-14-clause-done : goal.type_of-returns-in-14-clause-done
 type_of-returns-in-14-clause-done t c =
     let deep : c.args.depth ≡ suc (c.args.depth - 1) = omega (arith, c.if-depth-eq0.false) in
     let which : which_of (record_seen c.args.term) ≡ Some c.in-Some.member = sym c.active_member.ensures ∙ c.in-Some.is in
-    term_done (nodes_of c.args.context.nodes.now) c.args.context.strict (bounds c.args.inside.now) seen_type (type_said c.args.depth (record_seen c.args.term)) (list_term (type_said (c.args.depth - 1)) (read_at 13 14 (record_seen c.args.term))) _ _ _ (type_by (c.args.depth - 1) c.args.depth (record_seen c.args.term) c.in-Some.member 14 deep which c.in-14.is) c.list_type_of.ensures.done
+    term_done (nodes_of c.args.context.nodes.now) c.args.context.strict (bounds c.args.inside.now) seen_type (type_said c.args.depth (record_seen c.args.term)) (list_term (type_said (c.args.depth - 1)) (request_read_at 13 14 (record_seen c.args.term))) _ _ _ (type_by (c.args.depth - 1) c.args.depth (record_seen c.args.term) c.in-Some.member 14 deep which c.in-14.is) c.list_type_of.ensures.done
 
 pub type_of-returns-in-15-clause-done : goal.type_of-returns-in-15-clause-done
 type_of-returns-in-15-clause-done t c =
     let deep : c.args.depth ≡ suc (c.args.depth - 1) = omega (arith, c.if-depth-eq0.false) in
     let which : which_of (record_seen c.args.term) ≡ Some c.in-Some.member = sym c.active_member.ensures ∙ c.in-Some.is in
-    term_done (nodes_of c.args.context.nodes.now) c.args.context.strict (bounds c.args.inside.now) seen_type (type_said c.args.depth (record_seen c.args.term)) (enum_term (type_said (c.args.depth - 1)) (read_at 13 15 (record_seen c.args.term))) _ _ _ (type_by (c.args.depth - 1) c.args.depth (record_seen c.args.term) c.in-Some.member 15 deep which c.in-15.is) (c.enum_type_of.ensures.done (bounds c.args.inside.now) (c.args.depth - 1) (flags c.args.seen.now))
+    term_done (nodes_of c.args.context.nodes.now) c.args.context.strict (bounds c.args.inside.now) seen_type (type_said c.args.depth (record_seen c.args.term)) (enum_term (type_said (c.args.depth - 1)) (request_read_at 13 15 (record_seen c.args.term))) _ _ _ (type_by (c.args.depth - 1) c.args.depth (record_seen c.args.term) c.in-Some.member 15 deep which c.in-15.is) (c.enum_type_of.ensures.done (bounds c.args.inside.now) (c.args.depth - 1) (flags c.args.seen.now))
 
 pub type_of-returns-in-16-clause-done : goal.type_of-returns-in-16-clause-done
 type_of-returns-in-16-clause-done t c =
     let deep : c.args.depth ≡ suc (c.args.depth - 1) = omega (arith, c.if-depth-eq0.false) in
     let which : which_of (record_seen c.args.term) ≡ Some c.in-Some.member = sym c.active_member.ensures ∙ c.in-Some.is in
-    term_done (nodes_of c.args.context.nodes.now) c.args.context.strict (bounds c.args.inside.now) seen_type (type_said c.args.depth (record_seen c.args.term)) (struct_term (type_said (c.args.depth - 1)) (read_at 13 16 (record_seen c.args.term))) _ _ _ (type_by (c.args.depth - 1) c.args.depth (record_seen c.args.term) c.in-Some.member 16 deep which c.in-16.is) c.struct_type_of.ensures.done
+    term_done (nodes_of c.args.context.nodes.now) c.args.context.strict (bounds c.args.inside.now) seen_type (type_said c.args.depth (record_seen c.args.term)) (struct_term (type_said (c.args.depth - 1)) (request_read_at 13 16 (record_seen c.args.term))) _ _ _ (type_by (c.args.depth - 1) c.args.depth (record_seen c.args.term) c.in-Some.member 16 deep which c.in-16.is) c.struct_type_of.ensures.done
 
 pub type_of-returns-in-18-clause-done : goal.type_of-returns-in-18-clause-done
 type_of-returns-in-18-clause-done t c =
     let deep : c.args.depth ≡ suc (c.args.depth - 1) = omega (arith, c.if-depth-eq0.false) in
     let which : which_of (record_seen c.args.term) ≡ Some c.in-Some.member = sym c.active_member.ensures ∙ c.in-Some.is in
-    term_done (nodes_of c.args.context.nodes.now) c.args.context.strict (bounds c.args.inside.now) seen_type (type_said c.args.depth (record_seen c.args.term)) (untyped_term (read_at 13 18 (record_seen c.args.term))) _ _ _ (type_by (c.args.depth - 1) c.args.depth (record_seen c.args.term) c.in-Some.member 18 deep which c.in-18.is) (c.untyped_or_bound.ensures.done (nodes_of c.args.context.nodes.now) c.args.context.strict (so_far c.args.entries.now c.args.seen.now))
+    term_done (nodes_of c.args.context.nodes.now) c.args.context.strict (bounds c.args.inside.now) seen_type (type_said c.args.depth (record_seen c.args.term)) (untyped_term (request_read_at 13 18 (record_seen c.args.term))) _ _ _ (type_by (c.args.depth - 1) c.args.depth (record_seen c.args.term) c.in-Some.member 18 deep which c.in-18.is) (c.untyped_or_bound.ensures.done (nodes_of c.args.context.nodes.now) c.args.context.strict (so_far c.args.entries.now c.args.seen.now))
 
 pub type_of-returns-in_default-member-clause-done : goal.type_of-returns-in_default-member-clause-done
 type_of-returns-in_default-member-clause-done t c =
@@ -92,50 +92,50 @@ type_of-returns-in_default-member-clause-done t c =
 
 pub list_type_of-returns-in_err-element-clause-done : goal.list_type_of-returns-in_err-element-clause-done
 list_type_of-returns-in_err-element-clause-done t c =
-    err_done seen_type (type_of (nodes_of c.args.context.nodes.now) c.args.context.strict (bounds c.args.inside.now) (list_term (type_said c.args.depth) (read_at 13 14 (record_seen c.args.term)))) (so_far c.args.entries.now c.args.seen.now) _ c.from_residual.result _ c.from_residual.ensures.1 (λ n. list_unread (nodes_of c.args.context.nodes.now) c.args.context.strict (bounds c.args.inside.now) (type_said c.args.depth) (read_at 13 14 (record_seen c.args.term)) (record_seen c.group_at-list.result) c.group_at-list.ensures.read (so_far c.args.entries.now c.args.seen.now) _ c.in_err-element.ensures.refused)
+    err_done seen_type (type_of (nodes_of c.args.context.nodes.now) c.args.context.strict (bounds c.args.inside.now) (list_term (type_said c.args.depth) (request_read_at 13 14 (record_seen c.args.term)))) (so_far c.args.entries.now c.args.seen.now) _ c.from_residual.result _ c.from_residual.ensures.1 (λ n. list_unread (nodes_of c.args.context.nodes.now) c.args.context.strict (bounds c.args.inside.now) (type_said c.args.depth) (request_read_at 13 14 (record_seen c.args.term)) (record_seen c.group_at-list.result) c.group_at-list.ensures.read (so_far c.args.entries.now c.args.seen.now) _ c.in_err-element.ensures.refused)
 
 pub list_type_of-returns-in_err-element_type-clause-done : goal.list_type_of-returns-in_err-element_type-clause-done
 list_type_of-returns-in_err-element_type-clause-done t c =
-    err_done seen_type (type_of (nodes_of c.args.context.nodes.now) c.args.context.strict (bounds c.args.inside.now) (list_term (type_said c.args.depth) (read_at 13 14 (record_seen c.args.term)))) (so_far c.args.entries.now c.args.seen.now) _ c.from_residual-in_err-element_type.result _ c.from_residual-in_err-element_type.ensures.1 (λ n.
-    list_refused (nodes_of c.args.context.nodes.now) c.args.context.strict (bounds c.args.inside.now) (type_said c.args.depth) (read_at 13 14 (record_seen c.args.term)) (record_seen c.group_at-list.result) c.group_at-list.ensures.read (record_seen c.in_ok-element.element) c.in_ok-element.ensures.read (so_far c.args.entries.now c.args.seen.now) _ (c.in_err-element_type.ensures.done n))
+    err_done seen_type (type_of (nodes_of c.args.context.nodes.now) c.args.context.strict (bounds c.args.inside.now) (list_term (type_said c.args.depth) (request_read_at 13 14 (record_seen c.args.term)))) (so_far c.args.entries.now c.args.seen.now) _ c.from_residual-in_err-element_type.result _ c.from_residual-in_err-element_type.ensures.1 (λ n.
+    list_refused (nodes_of c.args.context.nodes.now) c.args.context.strict (bounds c.args.inside.now) (type_said c.args.depth) (request_read_at 13 14 (record_seen c.args.term)) (record_seen c.group_at-list.result) c.group_at-list.ensures.read (record_seen c.in_ok-element.element) c.in_ok-element.ensures.read (so_far c.args.entries.now c.args.seen.now) _ (c.in_err-element_type.ensures.done n))
 
 pub list_type_of-returns-clause-done : goal.list_type_of-returns-clause-done
 list_type_of-returns-clause-done t c =
-    list_end (nodes_of c.args.context.nodes.now) c.args.context.strict (bounds c.args.inside.now) (type_said c.args.depth) (read_at 13 14 (record_seen c.args.term)) (record_seen c.group_at-list.result) c.group_at-list.ensures.read (record_seen c.in_ok-element.element) c.in_ok-element.ensures.read (so_far c.args.entries.now c.args.seen.now) _ (seen_type c.in_ok-element_type.element_type) c.in_ok-element_type.ensures.done c.list_type.result c.list_type.ensures.list c.list_type.ensures.full c.list_type.ensures.kinds
+    list_end (nodes_of c.args.context.nodes.now) c.args.context.strict (bounds c.args.inside.now) (type_said c.args.depth) (request_read_at 13 14 (record_seen c.args.term)) (record_seen c.group_at-list.result) c.group_at-list.ensures.read (record_seen c.in_ok-element.element) c.in_ok-element.ensures.read (so_far c.args.entries.now c.args.seen.now) _ (seen_type c.in_ok-element_type.element_type) c.in_ok-element_type.ensures.done c.list_type.result c.list_type.ensures.list c.list_type.ensures.full c.list_type.ensures.kinds
 
 pub struct_type_of-returns-in_err-struct_node-clause-done : goal.struct_type_of-returns-in_err-struct_node-clause-done
 struct_type_of-returns-in_err-struct_node-clause-done t c =
-    err_done seen_type (type_of (nodes_of c.args.context.nodes.now) c.args.context.strict (bounds c.args.inside.now) (struct_term (type_said c.args.depth) (read_at 13 16 (record_seen c.args.term)))) (so_far c.args.entries.now c.args.seen.now) _ c.from_residual.result _ c.from_residual.ensures.1 (λ n. struct_missing (nodes_of c.args.context.nodes.now) c.args.context.strict (bounds c.args.inside.now) (type_said c.args.depth) (read_at 13 16 (record_seen c.args.term)) (record_seen c.group_at-named.result) c.u64_at-id.result (brand_in (type_said c.args.depth) (read_at 16 1 (record_seen c.group_at-named.result))) c.group_at-named.ensures.read (struct_named (nodes_of c.args.context.nodes.now) c.args.context.strict (bounds c.args.inside.now) (type_said c.args.depth) (record_seen c.group_at-named.result) c.u64_at-id.result c.u64_at-id.ensures) (so_far c.args.entries.now c.args.seen.now) c.in_err-struct_node.ensures.missing ∙ ap (λ k. Err k) (sym c.in_err-struct_node.ensures.kinds))
+    err_done seen_type (type_of (nodes_of c.args.context.nodes.now) c.args.context.strict (bounds c.args.inside.now) (struct_term (type_said c.args.depth) (request_read_at 13 16 (record_seen c.args.term)))) (so_far c.args.entries.now c.args.seen.now) _ c.from_residual.result _ c.from_residual.ensures.1 (λ n. struct_missing (nodes_of c.args.context.nodes.now) c.args.context.strict (bounds c.args.inside.now) (type_said c.args.depth) (request_read_at 13 16 (record_seen c.args.term)) (record_seen c.group_at-named.result) c.u64_at-id.result (brand_in (type_said c.args.depth) (request_read_at 16 1 (record_seen c.group_at-named.result))) c.group_at-named.ensures.read (struct_named (nodes_of c.args.context.nodes.now) c.args.context.strict (bounds c.args.inside.now) (type_said c.args.depth) (record_seen c.group_at-named.result) c.u64_at-id.result c.u64_at-id.ensures) (so_far c.args.entries.now c.args.seen.now) c.in_err-struct_node.ensures.missing ∙ ap (λ k. Err k) (sym c.in_err-struct_node.ensures.kinds))
 
 pub struct_type_of-returns-in_err-scopes-clause-done : goal.struct_type_of-returns-in_err-scopes-clause-done
 struct_type_of-returns-in_err-scopes-clause-done t c =
-    err_done seen_type (type_of (nodes_of c.args.context.nodes.now) c.args.context.strict (bounds c.args.inside.now) (struct_term (type_said c.args.depth) (read_at 13 16 (record_seen c.args.term)))) (so_far c.args.entries.now c.args.seen.now) _ c.from_residual-in_err-scopes.result _ c.from_residual-in_err-scopes.ensures.1 (λ n. struct_unbound (nodes_of c.args.context.nodes.now) c.args.context.strict (bounds c.args.inside.now) (type_said c.args.depth) (read_at 13 16 (record_seen c.args.term)) (record_seen c.group_at-named.result) c.u64_at-id.result (brand_in (type_said c.args.depth) (read_at 16 1 (record_seen c.group_at-named.result))) c.group_at-named.ensures.read (struct_named (nodes_of c.args.context.nodes.now) c.args.context.strict (bounds c.args.inside.now) (type_said c.args.depth) (record_seen c.group_at-named.result) c.u64_at-id.result c.u64_at-id.ensures) (so_far c.args.entries.now c.args.seen.now) c.in_ok-struct_node.ensures.found _ (c.in_err-scopes.ensures.done n))
+    err_done seen_type (type_of (nodes_of c.args.context.nodes.now) c.args.context.strict (bounds c.args.inside.now) (struct_term (type_said c.args.depth) (request_read_at 13 16 (record_seen c.args.term)))) (so_far c.args.entries.now c.args.seen.now) _ c.from_residual-in_err-scopes.result _ c.from_residual-in_err-scopes.ensures.1 (λ n. struct_unbound (nodes_of c.args.context.nodes.now) c.args.context.strict (bounds c.args.inside.now) (type_said c.args.depth) (request_read_at 13 16 (record_seen c.args.term)) (record_seen c.group_at-named.result) c.u64_at-id.result (brand_in (type_said c.args.depth) (request_read_at 16 1 (record_seen c.group_at-named.result))) c.group_at-named.ensures.read (struct_named (nodes_of c.args.context.nodes.now) c.args.context.strict (bounds c.args.inside.now) (type_said c.args.depth) (record_seen c.group_at-named.result) c.u64_at-id.result c.u64_at-id.ensures) (so_far c.args.entries.now c.args.seen.now) c.in_ok-struct_node.ensures.found _ (c.in_err-scopes.ensures.done n))
 
 pub struct_type_of-returns-in_err-number-clause-done : goal.struct_type_of-returns-in_err-number-clause-done
 struct_type_of-returns-in_err-number-clause-done t c =
-    err_done seen_type (type_of (nodes_of c.args.context.nodes.now) c.args.context.strict (bounds c.args.inside.now) (struct_term (type_said c.args.depth) (read_at 13 16 (record_seen c.args.term)))) (so_far c.args.entries.now c.args.seen.now) _ c.from_residual-in_err-number.result _ c.from_residual-in_err-number.ensures.1 (λ n. struct_refused (nodes_of c.args.context.nodes.now) c.args.context.strict (bounds c.args.inside.now) (type_said c.args.depth) (read_at 13 16 (record_seen c.args.term)) (record_seen c.group_at-named.result) c.u64_at-id.result (brand_in (type_said c.args.depth) (read_at 16 1 (record_seen c.group_at-named.result))) c.group_at-named.ensures.read (struct_named (nodes_of c.args.context.nodes.now) c.args.context.strict (bounds c.args.inside.now) (type_said c.args.depth) (record_seen c.group_at-named.result) c.u64_at-id.result c.u64_at-id.ensures) (so_far c.args.entries.now c.args.seen.now) c.in_ok-struct_node.ensures.found (bounds c.in_ok-scopes.scopes.items) _ c.in_ok-scopes.ensures.done _ (c.in_err-number.ensures.refused n (flags c.bindings_of.new.seen)))
+    err_done seen_type (type_of (nodes_of c.args.context.nodes.now) c.args.context.strict (bounds c.args.inside.now) (struct_term (type_said c.args.depth) (request_read_at 13 16 (record_seen c.args.term)))) (so_far c.args.entries.now c.args.seen.now) _ c.from_residual-in_err-number.result _ c.from_residual-in_err-number.ensures.1 (λ n. struct_refused (nodes_of c.args.context.nodes.now) c.args.context.strict (bounds c.args.inside.now) (type_said c.args.depth) (request_read_at 13 16 (record_seen c.args.term)) (record_seen c.group_at-named.result) c.u64_at-id.result (brand_in (type_said c.args.depth) (request_read_at 16 1 (record_seen c.group_at-named.result))) c.group_at-named.ensures.read (struct_named (nodes_of c.args.context.nodes.now) c.args.context.strict (bounds c.args.inside.now) (type_said c.args.depth) (record_seen c.group_at-named.result) c.u64_at-id.result c.u64_at-id.ensures) (so_far c.args.entries.now c.args.seen.now) c.in_ok-struct_node.ensures.found (bounds c.in_ok-scopes.scopes.items) _ c.in_ok-scopes.ensures.done _ (c.in_err-number.ensures.refused n (flags c.bindings_of.new.seen)))
 
 pub struct_type_of-returns-clause-done : goal.struct_type_of-returns-clause-done
 struct_type_of-returns-clause-done t c =
-    struct_done (nodes_of c.args.context.nodes.now) c.args.context.strict (bounds c.args.inside.now) (type_said c.args.depth) (read_at 13 16 (record_seen c.args.term)) (record_seen c.group_at-named.result) c.u64_at-id.result (brand_in (type_said c.args.depth) (read_at 16 1 (record_seen c.group_at-named.result))) c.group_at-named.ensures.read (struct_named (nodes_of c.args.context.nodes.now) c.args.context.strict (bounds c.args.inside.now) (type_said c.args.depth) (record_seen c.group_at-named.result) c.u64_at-id.result c.u64_at-id.ensures) (so_far c.args.entries.now c.args.seen.now) c.in_ok-struct_node.ensures.found (bounds c.in_ok-scopes.scopes.items) _ c.in_ok-scopes.ensures.done c.in_ok-number.number _ _ (c.in_ok-number.ensures.done (flags c.bindings_of.new.seen)) c.entry_type.ensures
+    struct_done (nodes_of c.args.context.nodes.now) c.args.context.strict (bounds c.args.inside.now) (type_said c.args.depth) (request_read_at 13 16 (record_seen c.args.term)) (record_seen c.group_at-named.result) c.u64_at-id.result (brand_in (type_said c.args.depth) (request_read_at 16 1 (record_seen c.group_at-named.result))) c.group_at-named.ensures.read (struct_named (nodes_of c.args.context.nodes.now) c.args.context.strict (bounds c.args.inside.now) (type_said c.args.depth) (record_seen c.group_at-named.result) c.u64_at-id.result c.u64_at-id.ensures) (so_far c.args.entries.now c.args.seen.now) c.in_ok-struct_node.ensures.found (bounds c.in_ok-scopes.scopes.items) _ c.in_ok-scopes.ensures.done c.in_ok-number.number _ _ (c.in_ok-number.ensures.done (flags c.bindings_of.new.seen)) c.entry_type.ensures
 
 pub bindings_of-returns-in_err-generic-clause-done : goal.bindings_of-returns-in_err-generic-clause-done
 bindings_of-returns-in_err-generic-clause-done t c =
-    err_done (λ scopes. bounds scopes.items) (named_scopes (nodes_of c.args.context.nodes.now) c.args.context.strict (bounds c.args.inside.now) c.args.id (brand_in (type_said c.args.depth) (read_at c.args.place.holder c.args.place.index (record_seen c.args.place.reader)))) (so_far c.args.entries.now c.args.seen.now) _ c.from_residual.result _ c.from_residual.ensures.1 (λ n. scopes_unread (nodes_of c.args.context.nodes.now) c.args.context.strict (bounds c.args.inside.now) c.args.id (brand_in (type_said c.args.depth) (read_at c.args.place.holder c.args.place.index (record_seen c.args.place.reader))) (so_far c.args.entries.now c.args.seen.now) _ (c.in_err-generic.ensures.refused n))
+    err_done (λ scopes. bounds scopes.items) (named_scopes (nodes_of c.args.context.nodes.now) c.args.context.strict (bounds c.args.inside.now) c.args.id (brand_in (type_said c.args.depth) (request_read_at c.args.place.holder c.args.place.index (record_seen c.args.place.reader)))) (so_far c.args.entries.now c.args.seen.now) _ c.from_residual.result _ c.from_residual.ensures.1 (λ n. scopes_unread (nodes_of c.args.context.nodes.now) c.args.context.strict (bounds c.args.inside.now) c.args.id (brand_in (type_said c.args.depth) (request_read_at c.args.place.holder c.args.place.index (record_seen c.args.place.reader))) (so_far c.args.entries.now c.args.seen.now) _ (c.in_err-generic.ensures.refused n))
 
 pub bindings_of-returns-then-count-eq0-clause-done : goal.bindings_of-returns-then-count-eq0-clause-done
 bindings_of-returns-then-count-eq0-clause-done t c =
     let none : c.new.result.items ≡ [] = search rules in
-    scopes_none (nodes_of c.args.context.nodes.now) c.args.context.strict (bounds c.args.inside.now) c.args.id (brand_in (type_said c.args.depth) (read_at c.args.place.holder c.args.place.index (record_seen c.args.place.reader))) (so_far c.args.entries.now c.args.seen.now) c.in_ok-generic.generic.items c.in_ok-generic.ensures.read (omega (arith, c.len-count.ensures)) _ (ap bounds none)
+    scopes_none (nodes_of c.args.context.nodes.now) c.args.context.strict (bounds c.args.inside.now) c.args.id (brand_in (type_said c.args.depth) (request_read_at c.args.place.holder c.args.place.index (record_seen c.args.place.reader))) (so_far c.args.entries.now c.args.seen.now) c.in_ok-generic.generic.items c.in_ok-generic.ensures.read (omega (arith, c.len-count.ensures)) _ (ap bounds none)
 
 pub bindings_of-returns-in_err-said-clause-done : goal.bindings_of-returns-in_err-said-clause-done
 bindings_of-returns-in_err-said-clause-done t c =
-    err_done (λ scopes. bounds scopes.items) (named_scopes (nodes_of c.args.context.nodes.now) c.args.context.strict (bounds c.args.inside.now) c.args.id (brand_in (type_said c.args.depth) (read_at c.args.place.holder c.args.place.index (record_seen c.args.place.reader)))) (so_far c.args.entries.now c.args.seen.now) _ c.from_residual-in_err-said.result _ c.from_residual-in_err-said.ensures.1 (λ n. scopes_fault (nodes_of c.args.context.nodes.now) c.args.context.strict (bounds c.args.inside.now) c.args.id (brand_in (type_said c.args.depth) (read_at c.args.place.holder c.args.place.index (record_seen c.args.place.reader))) (so_far c.args.entries.now c.args.seen.now) c.in_ok-generic.generic.items c.in_ok-generic.ensures.read _ (λ none. omega (arith, none, c.len-count.ensures)) (c.in_err-said.ensures.refused (type_said c.args.depth)))
+    err_done (λ scopes. bounds scopes.items) (named_scopes (nodes_of c.args.context.nodes.now) c.args.context.strict (bounds c.args.inside.now) c.args.id (brand_in (type_said c.args.depth) (request_read_at c.args.place.holder c.args.place.index (record_seen c.args.place.reader)))) (so_far c.args.entries.now c.args.seen.now) _ c.from_residual-in_err-said.result _ c.from_residual-in_err-said.ensures.1 (λ n. scopes_fault (nodes_of c.args.context.nodes.now) c.args.context.strict (bounds c.args.inside.now) c.args.id (brand_in (type_said c.args.depth) (request_read_at c.args.place.holder c.args.place.index (record_seen c.args.place.reader))) (so_far c.args.entries.now c.args.seen.now) c.in_ok-generic.generic.items c.in_ok-generic.ensures.read _ (λ none. omega (arith, none, c.len-count.ensures)) (c.in_err-said.ensures.refused (type_said c.args.depth)))
 
 pub bindings_of-returns-clause-done : goal.bindings_of-returns-clause-done
 bindings_of-returns-clause-done t c =
-    done_as (λ scopes. bounds scopes.items) (each (bind_scope (brand_types (nodes_of c.args.context.nodes.now) c.args.context.strict (bounds c.args.inside.now) (scopes_said (type_said c.args.depth) (values_left c.in_ok-said.said 0)))) (map with_nothing c.as_slice.result.now)) (named_scopes (nodes_of c.args.context.nodes.now) c.args.context.strict (bounds c.args.inside.now) c.args.id (brand_in (type_said c.args.depth) (read_at c.args.place.holder c.args.place.index (record_seen c.args.place.reader)))) (so_far c.args.entries.now c.args.seen.now) _ _
-    (scopes_by (nodes_of c.args.context.nodes.now) c.args.context.strict (bounds c.args.inside.now) c.args.id (brand_in (type_said c.args.depth) (read_at c.args.place.holder c.args.place.index (record_seen c.args.place.reader))) (so_far c.args.entries.now c.args.seen.now) c.in_ok-generic.generic.items c.in_ok-generic.ensures.read _ (c.in_ok-said.ensures.read (type_said c.args.depth))
+    done_as (λ scopes. bounds scopes.items) (each (bind_scope (brand_types (nodes_of c.args.context.nodes.now) c.args.context.strict (bounds c.args.inside.now) (scopes_said (type_said c.args.depth) (values_left c.in_ok-said.said 0)))) (map with_nothing c.as_slice.result.now)) (named_scopes (nodes_of c.args.context.nodes.now) c.args.context.strict (bounds c.args.inside.now) c.args.id (brand_in (type_said c.args.depth) (request_read_at c.args.place.holder c.args.place.index (record_seen c.args.place.reader)))) (so_far c.args.entries.now c.args.seen.now) _ _
+    (scopes_by (nodes_of c.args.context.nodes.now) c.args.context.strict (bounds c.args.inside.now) c.args.id (brand_in (type_said c.args.depth) (request_read_at c.args.place.holder c.args.place.index (record_seen c.args.place.reader))) (so_far c.args.entries.now c.args.seen.now) c.in_ok-generic.generic.items c.in_ok-generic.ensures.read _ (c.in_ok-said.ensures.read (type_said c.args.depth))
     ∙ ap (λ (xs : List GenericScope). each (bind_scope (brand_types (nodes_of c.args.context.nodes.now) c.args.context.strict (bounds c.args.inside.now) (scopes_said (type_said c.args.depth) (values_left c.in_ok-said.said 0)))) (map with_nothing xs) (so_far c.args.entries.now c.args.seen.now)) (sym c.as_slice.ensures.value)) c.bound_scopes.ensures.done
 
 pub scope_types-returns-in_err-found-clause-done : goal.scope_types-returns-in_err-found-clause-done

@@ -2,7 +2,7 @@ use Rattle.std.proofs.Common.{◌≡◌, ◌∙◌, ap, arith, length, refl}
 use Rattle.std.proofs.lemmas.List.{length-map}
 use Rattle.capnp_schema.specs.Schema.{node_at, seen_field, seen_node}
 use Rattle.capnp_schema.specs.Entries.{lists_seen}
-use Rattle.capnp_schema.specs.Query.{indices_from, is_plain, plain_fields}
+use Rattle.capnp_schema.specs.Query.{indices_from, is_non_union, non_union_fields}
 use Rattle.capnp_schema.proofs.EntryTables.{all_node_tables, one_table}
 use Rattle.capnp_schema.proofs.FieldCounts.{few_fields}
 use Rattle.capnp_schema.proofs.tables.plain_tables.Goals as goal
@@ -15,7 +15,7 @@ plain_table-requires c =
     omega arith
 
 pub loop-n-preserved : goal.loop-n-preserved
-loop-n-preserved c = rw c.in_ok-push.ensures.items (one_table (λ n table. table ≡ plain_fields (node_at (lists_seen c.args.lists.now) n).fields) c.loop-n.tables.items c.loop-n.n c.in_ok-table.table c.loop-n.invariant (c.in_ok-table.ensures.table ∙ ap (indices_from 0 is_plain) c.fields_at.ensures))
+loop-n-preserved c = rw c.in_ok-push.ensures.items (one_table (λ n table. table ≡ non_union_fields (node_at (lists_seen c.args.lists.now) n).fields) c.loop-n.tables.items c.loop-n.n c.in_ok-table.table c.loop-n.invariant (c.in_ok-table.ensures.table ∙ ap (indices_from 0 is_non_union) c.fields_at.ensures))
 
 pub returns-clause-tables : goal.returns-clause-tables
-returns-clause-tables c = all_node_tables (lists_seen c.args.lists.now) (λ x table. table ≡ plain_fields x.fields) c.loop-n.tables.items c.loop-n.n c.loop-n.invariant (let n = length-map c.args.lists.now.nodes.items seen_node in omega arith) refl
+returns-clause-tables c = all_node_tables (lists_seen c.args.lists.now) (λ x table. table ≡ non_union_fields x.fields) c.loop-n.tables.items c.loop-n.n c.loop-n.invariant (let n = length-map c.args.lists.now.nodes.items seen_node in omega arith) refl

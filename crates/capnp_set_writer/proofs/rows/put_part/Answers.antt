@@ -1,7 +1,7 @@
 -- What the call leaves at the pointer is what it leaves in the struct.
 use Rattle.std.proofs.Common.{arith, ap, ◌∙◌}
 use Rattle.capnp_wire.specs.Edits.{with_pointer_tree}
-use Rattle.capnp_arena.specs.Built.{built}
+use Rattle.capnp_arena.specs.Built.{built_at}
 use Rattle.capnp_arena.specs.Facts.Places.{pointers_of}
 use Rattle.capnp_arena.specs.Segment.{segment}
 use Rattle.capnp_set_writer.proofs.Trees.{both_ok, three_ok}
@@ -20,5 +20,5 @@ returns-clause-changes g c = both_ok c.put_struct.result (λ f h. (c.pointer_at-
 
 pub returns-clause-written : goal.returns-clause-written
 returns-clause-written g c = three_ok c.put_struct.result
-    (λ f h e. (c.pointer_at-at.ensures.leaves _ f h).struct ∙ ap (with_pointer_tree (built c.args.arena.now c.args.place) c.args.index) e)
+    (λ f h e. (c.pointer_at-at.ensures.leaves _ f h).struct ∙ ap (with_pointer_tree (built_at c.args.arena.now c.args.place) c.args.index) e)
     c.put_struct.ensures.forest c.put_struct.ensures.changes c.put_struct.ensures.written

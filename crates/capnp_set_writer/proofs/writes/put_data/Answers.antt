@@ -2,7 +2,7 @@
 use Rattle.std.proofs.Common.{arith, ap, ◌∙◌, ◌^◌, ◌≤◌, length}
 use Rattle.capnp_wire.specs.Edits.{with_pointer_tree}
 use Rattle.capnp_wire.specs.Facts.Bytes.{AreBytes-fits}
-use Rattle.capnp_arena.specs.Built.{built}
+use Rattle.capnp_arena.specs.Built.{built_at}
 use Rattle.capnp_arena.specs.Facts.Places.{pointers_of}
 use Rattle.capnp_arena.specs.Segment.{segment}
 use Rattle.capnp_set_writer.proofs.Trees.{both_ok, if_err, room-part-refused, three_ok}
@@ -21,7 +21,7 @@ returns-clause-changes c = both_ok c.set_data.result (λ f h. (c.pointer_at-at.e
 
 pub returns-clause-written : goal.returns-clause-written
 returns-clause-written c = three_ok c.set_data.result
-    (λ f h e. (c.pointer_at-at.ensures.leaves _ f h).struct ∙ ap (with_pointer_tree (built c.args.arena.now c.args.place) c.args.index) e)
+    (λ f h e. (c.pointer_at-at.ensures.leaves _ f h).struct ∙ ap (with_pointer_tree (built_at c.args.arena.now c.args.place) c.args.index) e)
     c.set_data.ensures.forest c.set_data.ensures.changes c.set_data.ensures.tree
 
 pub returns-clause-bytes : goal.returns-clause-bytes

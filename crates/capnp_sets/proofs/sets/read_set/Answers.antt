@@ -1,6 +1,6 @@
 use Rattle.std.proofs.Common.{ap, sym, ◌∙◌}
 use Rattle.std.proofs.lemmas.Result.{err_from_is_err_and}
-use Rattle.capnp_sets.specs.Lists.{lists_of}
+use Rattle.capnp_sets.specs.Lists.{lists_meant}
 use Rattle.capnp_sets.proofs.SetsRead.{brand_refused, brands_refused, enum_refused, node_refused, root_cause, root_in, set_made}
 use Rattle.capnp_sets.proofs.sets.read_set.Goals as goal
 
@@ -26,5 +26,5 @@ returns-in_err-enums-clause-refused c =
 
 pub returns-clause-lists : goal.returns-clause-lists
 returns-clause-lists c =
-    ap lists_of (sym (root_in c.args.reader _ c.requires c.get_sections-sections.ensures))
+    ap lists_meant (sym (root_in c.args.reader _ c.requires c.get_sections-sections.ensures))
     ∙ set_made _ c.in_ok-brand_records.brand_records _ _ _ c.in_ok-brand_records.ensures.read c.in_ok-nodes.ensures.read c.in_ok-brands.ensures.read c.in_ok-enums.ensures.read

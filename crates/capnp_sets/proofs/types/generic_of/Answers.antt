@@ -2,16 +2,16 @@ use Rattle.std.proofs.Common.{arith, ◌∙◌}
 use Rattle.std.proofs.lemmas.Result.{err_from_is_err_and}
 use Rattle.capnp_wire.specs.Reading.{list_length}
 use Rattle.capnp_wire.specs.Standing.{list_of}
-use Rattle.capnp_schema.specs.Meta.{one}
+use Rattle.capnp_schema.specs.Meta.{meta_struct}
 use Rattle.capnp_records.specs.Record as value
-use Rattle.capnp_sets.specs.Handles.{record_in}
+use Rattle.capnp_sets.specs.Handles.{meta_record_in}
 use Rattle.capnp_sets.proofs.Elements.{struct_refused, struct_there}
 use Rattle.capnp_sets.proofs.Generics.{generic_here, generic_past, generic_refused}
 use Rattle.capnp_sets.proofs.RowsRead.{element_in}
 use Rattle.capnp_sets.proofs.types.generic_of.Goals as goal
 
 pub returns-then-number-len-clause-read : goal.returns-then-number-len-clause-read
-returns-then-number-len-clause-read c = generic_past (element_in (one 6) c.args.brands.now) 0 (list_length (list_of c.args.brands.now)) c.args.number (omega (arith, c.if-number-len.true, c.len.ensures.length))
+returns-then-number-len-clause-read c = generic_past (element_in (meta_struct 6) c.args.brands.now) 0 (list_length (list_of c.args.brands.now)) c.args.number (omega (arith, c.if-number-len.true, c.len.ensures.length))
 
 pub returns-in_err-record-clause-refused : goal.returns-in_err-record-clause-refused
 returns-in_err-record-clause-refused c =
@@ -19,5 +19,5 @@ returns-in_err-record-clause-refused c =
 
 pub returns-clause-read : goal.returns-clause-read
 returns-clause-read c =
-    generic_here c.args.brands.now c.args.number (omega (arith, c.if-number-len.false, c.len.ensures.length)) (value.Struct (record_in 6 c.in_ok-record.record)) (struct_there 6 c.args.brands.now c.args.number c.in_ok-record.record c.in_ok-record.ensures.read c.in_ok-record.ensures.levels)
+    generic_here c.args.brands.now c.args.number (omega (arith, c.if-number-len.false, c.len.ensures.length)) (value.Struct (meta_record_in 6 c.in_ok-record.record)) (struct_there 6 c.args.brands.now c.args.number c.in_ok-record.record c.in_ok-record.ensures.read c.in_ok-record.ensures.levels)
     ∙ c.u32_at.ensures

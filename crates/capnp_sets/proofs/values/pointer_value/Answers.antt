@@ -1,14 +1,14 @@
 use Rattle.std.proofs.Common.{ℕ, List, arith, ap, refl, sym, ◌∙◌, ◌≡◌, Ok}
 use Rattle.std.proofs.lemmas.Result.{err_from_is_err_and}
 use Rattle.capnp_schema.specs.Schema.{DataValue, StructValue, TextValue}
-use Rattle.capnp_sets.specs.Handles.{record_in}
+use Rattle.capnp_sets.specs.Handles.{meta_record_in}
 use Rattle.capnp_sets.specs.Values.{value_by}
 use Rattle.capnp_sets.proofs.AppliedReads.{cause_right, made}
 use Rattle.capnp_sets.proofs.Bases.{list_made, only_memory, past_kinds}
 use Rattle.capnp_sets.proofs.values.pointer_value.Goals as goal
 
 pub returns-then-member-gt14-clause-refused : goal.returns-then-member-gt14-clause-refused
-returns-then-member-gt14-clause-refused c = λ _. past_kinds (record_in 5 c.args.reader.now) c.args.member c.if-member-gt14.true
+returns-then-member-gt14-clause-refused c = λ _. past_kinds (meta_record_in 5 c.args.reader.now) c.args.member c.if-member-gt14.true
 
 pub returns-in_err-text-clause-refused : goal.returns-in_err-text-clause-refused
 unfolding value_by

@@ -1,5 +1,5 @@
 use Rattle.std.proofs.Common.{ap, ◌∙◌}
-use Rattle.capnp_wire.specs.Message.{message_tree}
+use Rattle.capnp_wire.specs.Message.{received_tree}
 use Rattle.capnp_wire.specs.Standing.{levels_of, struct_of, tree_of}
 use Rattle.capnp_schema.specs.Schema.{seen_schemas}
 use Rattle.capnp_schema.specs.StructHandles.{number_of, set_of}
@@ -8,7 +8,7 @@ use Rattle.capnp_sets_callers.proofs.readers.lists_in.Goals as goal
 
 pub returns-clause-lists : goal.returns-clause-lists
 returns-clause-lists c =
-    let root = root_entered c.args.bytes.now (message_tree c.in_ok-reader.reader) (tree_of c.get_root.result) (levels_of c.get_root.result) (struct_of c.in_ok-root.root) c.in_ok-reader.ensures c.get_root.ensures.tree c.get_root.ensures.levels c.in_ok-root.ensures.read in
+    let root = root_entered c.args.bytes.now (received_tree c.in_ok-reader.reader) (tree_of c.get_root.result) (levels_of c.get_root.result) (struct_of c.in_ok-root.root) c.in_ok-reader.ensures c.get_root.ensures.tree c.get_root.ensures.levels c.in_ok-root.ensures.read in
     let seen = root_seen c.new-record.result c.in_ok-root.root (levels_of c.get_root.result) c.new-record.ensures.reader
     (record { set = ap set_of c.new-record.ensures.schema ∙ (c.struct_schema.ensures.set ∙ c.requires); number = ap number_of c.new-record.ensures.schema ∙ c.struct_schema.ensures.number })
     c.in_ok-root.ensures.levels c.get_root.ensures.levels in
@@ -16,7 +16,7 @@ returns-clause-lists c =
 
 pub returns-clause-refused : goal.returns-clause-refused
 returns-clause-refused c =
-    let root = root_entered c.args.bytes.now (message_tree c.in_ok-reader.reader) (tree_of c.get_root.result) (levels_of c.get_root.result) (struct_of c.in_ok-root.root) c.in_ok-reader.ensures c.get_root.ensures.tree c.get_root.ensures.levels c.in_ok-root.ensures.read in
+    let root = root_entered c.args.bytes.now (received_tree c.in_ok-reader.reader) (tree_of c.get_root.result) (levels_of c.get_root.result) (struct_of c.in_ok-root.root) c.in_ok-reader.ensures c.get_root.ensures.tree c.get_root.ensures.levels c.in_ok-root.ensures.read in
     let seen = root_seen c.new-record.result c.in_ok-root.root (levels_of c.get_root.result) c.new-record.ensures.reader
     (record { set = ap set_of c.new-record.ensures.schema ∙ (c.struct_schema.ensures.set ∙ c.requires); number = ap number_of c.new-record.ensures.schema ∙ c.struct_schema.ensures.number })
     c.in_ok-root.ensures.levels c.get_root.ensures.levels in

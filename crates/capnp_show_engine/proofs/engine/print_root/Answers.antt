@@ -1,4 +1,4 @@
-use Rattle.capnp_wire.specs.Message.{message_tree}
+use Rattle.capnp_wire.specs.Message.{received_tree}
 use Rattle.capnp_wire.specs.Standing.{levels_of, tree_of}
 use Rattle.capnp_schema.specs.Entries.{lists_seen}
 use Rattle.capnp_show_engine.specs.Show.{shown_text}
@@ -9,7 +9,7 @@ use Rattle.capnp_show_engine.proofs.engine.print_root.Goals as goal
 
 pub returns-clause-printed : goal.returns-clause-printed
 returns-clause-printed c =
-    let text = text_seen (lists_seen c.args.set.now) c.args.brand c.args.indented c.args.bytes.now (message_tree c.in_ok-reader.reader)
+    let text = text_seen (lists_seen c.args.set.now) c.args.brand c.args.indented c.args.bytes.now (received_tree c.in_ok-reader.reader)
     (tree_of c.get_root.result) (levels_of c.get_root.result) c.new-value.result c.struct_schema.result c.in_ok-root.root c.in_ok-reader.ensures
     c.get_root.ensures.tree c.get_root.ensures.levels c.in_ok-root.ensures.read c.in_ok-root.ensures.levels c.new-value.ensures.schema
     c.new-value.ensures.reader (c.struct_schema.ensures.stands c.requires) c.struct_schema.ensures.set c.struct_schema.ensures.number in
@@ -17,7 +17,7 @@ returns-clause-printed c =
 
 pub returns-clause-refused : goal.returns-clause-refused
 returns-clause-refused c =
-    let text = text_seen (lists_seen c.args.set.now) c.args.brand c.args.indented c.args.bytes.now (message_tree c.in_ok-reader.reader)
+    let text = text_seen (lists_seen c.args.set.now) c.args.brand c.args.indented c.args.bytes.now (received_tree c.in_ok-reader.reader)
     (tree_of c.get_root.result) (levels_of c.get_root.result) c.new-value.result c.struct_schema.result c.in_ok-root.root c.in_ok-reader.ensures
     c.get_root.ensures.tree c.get_root.ensures.levels c.in_ok-root.ensures.read c.in_ok-root.ensures.levels c.new-value.ensures.schema
     c.new-value.ensures.reader (c.struct_schema.ensures.stands c.requires) c.struct_schema.ensures.set c.struct_schema.ensures.number in
@@ -25,5 +25,5 @@ returns-clause-refused c =
 
 pub returns-clause-of_no_device : goal.returns-clause-of_no_device
 returns-clause-of_no_device c =
-    let sound = shown_by_read (lists_seen c.args.set.now) c.args.brand c.args.indented c.args.bytes.now (message_tree c.in_ok-reader.reader) c.in_ok-reader.ensures in
+    let sound = shown_by_read (lists_seen c.args.set.now) c.args.brand c.args.indented c.args.bytes.now (received_tree c.in_ok-reader.reader) c.in_ok-reader.ensures in
     each_refusal c.print.result (λ e h. of_no_device (shown_text (lists_seen c.args.set.now) c.args.brand c.args.indented c.args.bytes.now) e.kind sound h) (returns-clause-refused c)

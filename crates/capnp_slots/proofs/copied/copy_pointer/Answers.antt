@@ -1,6 +1,6 @@
 -- A null is copied as the default, and everything else as it stands.
 use Rattle.std.proofs.Common.{arith}
-use Rattle.capnp_arena.specs.Built.{built}
+use Rattle.capnp_arena.specs.Built.{built_at}
 use Rattle.capnp_wire.specs.Standing.{levels_of, tree_of}
 use Rattle.capnp_slots.proofs.CopiedSlots.{null-cause, null-copied, there-cause, there-copied}
 use Rattle.capnp_slots.proofs.copied.copy_pointer.Goals as goal
@@ -12,7 +12,7 @@ returns-then-is_null-clause-copied c =
 
 pub returns-then-is_null-clause-cause : goal.returns-then-is_null-clause-cause
 returns-then-is_null-clause-cause c =
-    null-cause c.args.field (levels_of c.args.pointer) (tree_of c.args.pointer) c.in_ok-check_copy.ensures.given (built c.args.arena.now c.args.place) (built c.args.arena.now c.args.place) c.put_default.result c.put_default.ensures.cause
+    null-cause c.args.field (levels_of c.args.pointer) (tree_of c.args.pointer) c.in_ok-check_copy.ensures.given (built_at c.args.arena.now c.args.place) (built_at c.args.arena.now c.args.place) c.put_default.result c.put_default.ensures.cause
 
 pub returns-else-is_null-clause-copied : goal.returns-else-is_null-clause-copied
 returns-else-is_null-clause-copied c =
@@ -21,4 +21,4 @@ returns-else-is_null-clause-copied c =
 
 pub returns-else-is_null-clause-cause : goal.returns-else-is_null-clause-cause
 returns-else-is_null-clause-cause c =
-    there-cause c.args.field (levels_of c.args.pointer) (tree_of c.args.pointer) c.in_ok-check_copy.ensures.given (built c.args.arena.now c.args.place) (built c.args.arena.now c.args.place) c.put.result c.put.ensures.cause
+    there-cause c.args.field (levels_of c.args.pointer) (tree_of c.args.pointer) c.in_ok-check_copy.ensures.given (built_at c.args.arena.now c.args.place) (built_at c.args.arena.now c.args.place) c.put.result c.put.ensures.cause

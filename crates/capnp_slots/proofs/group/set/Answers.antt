@@ -1,6 +1,6 @@
 -- A struct of the group's schema is copied.
 use Rattle.std.proofs.Common.{arith, subst, sym}
-use Rattle.capnp_arena.specs.Built.{built}
+use Rattle.capnp_arena.specs.Built.{built_at}
 use Rattle.capnp_wire.specs.Standing.{struct_levels, struct_of}
 use Rattle.capnp_schema.specs.StructHandles.{number_of}
 use Rattle.capnp_records.specs.Record.{Left}
@@ -13,6 +13,6 @@ use Rattle.capnp_slots.proofs.group.set.Goals as goal
 
 pub returns-clause-set : goal.returns-clause-set
 returns-clause-set c =
-    subst (λ (y : Source). IsGroupSet c.args.field (given_to_group c.args.field (source_seen y)) (built c.args.arena.now c.args.place) (refusal_of c.copy.result) (built c.copy.new.arena c.args.place)) (sym c.in-Struct.is)
+    subst (λ (y : Source). IsGroupSet c.args.field (given_to_group c.args.field (source_seen y)) (built_at c.args.arena.now c.args.place) (refusal_of c.copy.result) (built_at c.copy.new.arena c.args.place)) (sym c.in-Struct.is)
     (set-copied c.args.field c.in-Some.group (Left (struct_levels c.in-Struct.reader)) (struct_of c.in-Struct.reader) (number_of c.in-Struct.schema) _ _ _ c.in-Some.ensures
     (omega (arith, c.if-given-from.false, c.from-given.ensures, c.from-2.ensures)) c.copy.ensures.copied)

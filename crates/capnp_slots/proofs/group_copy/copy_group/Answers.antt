@@ -5,7 +5,7 @@ use Rattle.capnp_device.specs.declared.error.Error.{Error}
 use Rattle.capnp_wire.specs.Standing.{struct_levels, struct_of}
 use Rattle.capnp_wire.specs.Tree.{StructTree}
 use Rattle.capnp_wire.specs.declared.struct_reader.StructReader.{StructReader}
-use Rattle.capnp_arena.specs.Built.{built}
+use Rattle.capnp_arena.specs.Built.{built_at}
 use Rattle.capnp_arena.specs.Facts.Places.{then}
 use Rattle.capnp_schema.specs.StructHandles.{number_of, set_of}
 use Rattle.capnp_records.specs.Record.{Left, Levels}
@@ -24,7 +24,7 @@ err-of e = Err e
 
 pub loop-next-init : goal.loop-next-init
 loop-next-init c = record {
-  left = starts c.args.groups _ (levels c.args.source) (struct_of c.args.source) c.args.schema (built c.args.arena.now c.args.place) _ (omega (arith, c.requires.height)) refl c.clear_whole.ensures.cleared;
+  left = starts c.args.groups _ (levels c.args.source) (struct_of c.args.source) c.args.schema (built_at c.args.arena.now c.args.place) _ (omega (arith, c.requires.height)) refl c.clear_whole.ensures.cleared;
   low = low-starts c.args.groups _ c.args.schema refl c.requires.height;
   few = omega (arith, c.requires.height);
   room = fits-kept (set_of c.args.schema) (number_of c.args.schema) _ _ c.clear_whole.ensures.kept c.requires.room;
@@ -35,11 +35,11 @@ loop-next-init c = record {
 
 pub returns-then-left-groups-clause-copied : goal.returns-then-left-groups-clause-copied
 returns-then-left-groups-clause-copied c =
-    ends c.args.groups c.loop-next.left (Through c.args.groups c.args.schema (levels c.args.source) (struct_of c.args.source) (built c.args.arena.now c.args.place)) (levels c.args.source) (struct_of c.args.source) c.loop-next.at c.loop-next.next _ (omega (arith, c.field_count.ensures.count, c.if-next-field_count.true)) c.if-left-groups.true c.loop-next.invariant.left
+    ends c.args.groups c.loop-next.left (Through c.args.groups c.args.schema (levels c.args.source) (struct_of c.args.source) (built_at c.args.arena.now c.args.place)) (levels c.args.source) (struct_of c.args.source) c.loop-next.at c.loop-next.next _ (omega (arith, c.field_count.ensures.count, c.if-next-field_count.true)) c.if-left-groups.true c.loop-next.invariant.left
 
 pub returns-in_default-clause-copied : goal.returns-in_default-clause-copied
 returns-in_default-clause-copied c =
-    ends-outside c.args.groups c.loop-next.left (Through c.args.groups c.args.schema (levels c.args.source) (struct_of c.args.source) (built c.args.arena.now c.args.place)) (levels c.args.source) (struct_of c.args.source) c.loop-next.at c.loop-next.next _ (omega (arith, c.field_count.ensures.count, c.if-next-field_count.true)) (sym c.in_default.ensures.place) c.loop-next.invariant.left
+    ends-outside c.args.groups c.loop-next.left (Through c.args.groups c.args.schema (levels c.args.source) (struct_of c.args.source) (built_at c.args.arena.now c.args.place)) (levels c.args.source) (struct_of c.args.source) c.loop-next.at c.loop-next.next _ (omega (arith, c.field_count.ensures.count, c.if-next-field_count.true)) (sym c.in_default.ensures.place) c.loop-next.invariant.left
 
 pub loop-next-smaller-then-next-field_count : goal.loop-next-smaller-then-next-field_count
 loop-next-smaller-then-next-field_count c =
@@ -47,7 +47,7 @@ loop-next-smaller-then-next-field_count c =
 
 pub loop-next-preserved-then-next-field_count : goal.loop-next-preserved-then-next-field_count
 loop-next-preserved-then-next-field_count c = record {
-  left = goes-above c.args.groups c.loop-next.left c.loop-next.at c.loop-next.next c.in-Some.field _ _ c.get_containing_struct-at.ensures.is c.cleared_behind-next.ensures c.loop-next.invariant.few c.if-left-groups.false c.in-Some.ensures.field c.in-Some.ensures.place (Through c.args.groups c.args.schema (levels c.args.source) (struct_of c.args.source) (built c.args.arena.now c.args.place)) (levels c.args.source) (struct_of c.args.source) _ (omega (arith, c.field_count.ensures.count, c.if-next-field_count.true)) c.loop-next.invariant.left;
+  left = goes-above c.args.groups c.loop-next.left c.loop-next.at c.loop-next.next c.in-Some.field _ _ c.get_containing_struct-at.ensures.is c.cleared_behind-next.ensures c.loop-next.invariant.few c.if-left-groups.false c.in-Some.ensures.field c.in-Some.ensures.place (Through c.args.groups c.args.schema (levels c.args.source) (struct_of c.args.source) (built_at c.args.arena.now c.args.place)) (levels c.args.source) (struct_of c.args.source) _ (omega (arith, c.field_count.ensures.count, c.if-next-field_count.true)) c.loop-next.invariant.left;
   low = low-at-above c.args.groups c.loop-next.left c.loop-next.at c.loop-next.next c.in-Some.field _ _ c.get_containing_struct-at.ensures.is c.cleared_behind-next.ensures c.loop-next.invariant.few c.if-left-groups.false c.in-Some.ensures.field c.in-Some.ensures.place c.loop-next.invariant.low;
   few = below-top c.args.groups c.loop-next.left c.loop-next.invariant.few c.if-left-groups.false;
   room = fits-above c.loop-next.at c.in-Some.field _ _ c.get_containing_struct-at.ensures.is c.in-Some.ensures.field c.loop-next.invariant.room;
@@ -61,7 +61,7 @@ loop-next-smaller-in_default-copied_at c = less-on c.loop-next.left c.loop-next.
 
 pub loop-next-preserved-in_default-copied_at : goal.loop-next-preserved-in_default-copied_at
 loop-next-preserved-in_default-copied_at c = record {
-  left = past-nothing (Through c.args.groups c.args.schema (levels c.args.source) (struct_of c.args.source) (built c.args.arena.now c.args.place)) (levels c.args.source) (struct_of c.args.source) c.loop-next.left c.loop-next.at (depth_at c.args.groups c.loop-next.left) c.loop-next.next _ c.in_default-copied_at.ensures (omega (arith, c.field_count.ensures.count, c.if-next-field_count.false)) c.loop-next.invariant.left;
+  left = past-nothing (Through c.args.groups c.args.schema (levels c.args.source) (struct_of c.args.source) (built_at c.args.arena.now c.args.place)) (levels c.args.source) (struct_of c.args.source) c.loop-next.left c.loop-next.at (depth_at c.args.groups c.loop-next.left) c.loop-next.next _ c.in_default-copied_at.ensures (omega (arith, c.field_count.ensures.count, c.if-next-field_count.false)) c.loop-next.invariant.left;
   low = low-next c.loop-next.left c.loop-next.at (depth_at c.args.groups c.loop-next.left) c.loop-next.next _ c.loop-next.invariant.low;
   few = c.loop-next.invariant.few;
   room = c.loop-next.invariant.room;
@@ -75,21 +75,21 @@ copy-requires-clause-room c = room-at c.args.groups c.loop-next.left (levels c.a
 
 pub returns-in-Err-clause-copied : goal.returns-in-Err-clause-copied
 returns-in-Err-clause-copied c =
-    cut-slot (Through c.args.groups c.args.schema (levels c.args.source) (struct_of c.args.source) (built c.args.arena.now c.args.place)) (levels c.args.source) (struct_of c.args.source) c.loop-next.left c.loop-next.at (depth_at c.args.groups c.loop-next.left) c.loop-next.next c.in-Some-copied_at.field _ _ c.in-Err.error.kind c.in-Some-copied_at.ensures (omega (arith, c.field_count.ensures.count, c.if-next-field_count.false))
+    cut-slot (Through c.args.groups c.args.schema (levels c.args.source) (struct_of c.args.source) (built_at c.args.arena.now c.args.place)) (levels c.args.source) (struct_of c.args.source) c.loop-next.left c.loop-next.at (depth_at c.args.groups c.loop-next.left) c.loop-next.next c.in-Some-copied_at.field _ _ c.in-Err.error.kind c.in-Some-copied_at.ensures (omega (arith, c.field_count.ensures.count, c.if-next-field_count.false))
     (slot-refused c.loop-next.left c.in-Some-copied_at.field (levels c.args.source) (struct_of c.args.source) _ _ c.in-Err.error c.in_default-group_of.ensures (same_struct c.args.place c.loop-next.arena c.copy.new.arena (err-of c.in-Err.error) c.in-Err.ensures.refused) c.in-Err.ensures.cause) c.loop-next.invariant.left
 
 pub returns-in-Err-clause-changes : goal.returns-in-Err-clause-changes
 returns-in-Err-clause-changes c = then c.loop-next.invariant.changes (either c.args.place c.loop-next.arena c.copy.new.arena (err-of c.in-Err.error) tt c.in-Err.ensures.refused)
 
 pub returns-in-Err-clause-kept : goal.returns-in-Err-clause-kept
-returns-in-Err-clause-kept c = subst (λ (y : StructTree). KeepsSize (built c.args.arena.now c.args.place) y) (sym (same_struct c.args.place c.loop-next.arena c.copy.new.arena (err-of c.in-Err.error) c.in-Err.ensures.refused)) c.loop-next.invariant.size
+returns-in-Err-clause-kept c = subst (λ (y : StructTree). KeepsSize (built_at c.args.arena.now c.args.place) y) (sym (same_struct c.args.place c.loop-next.arena c.copy.new.arena (err-of c.in-Err.error) c.in-Err.ensures.refused)) c.loop-next.invariant.size
 
 pub loop-next-smaller-in_default-group_of : goal.loop-next-smaller-in_default-group_of
 loop-next-smaller-in_default-group_of c = less-on c.loop-next.left c.loop-next.at (depth_at c.args.groups c.loop-next.left) c.loop-next.next (omega (arith, c.field_count.ensures.count, c.if-next-field_count.false))
 
 pub loop-next-preserved-in_default-group_of : goal.loop-next-preserved-in_default-group_of
 loop-next-preserved-in_default-group_of c = record {
-  left = past-slot (Through c.args.groups c.args.schema (levels c.args.source) (struct_of c.args.source) (built c.args.arena.now c.args.place)) (levels c.args.source) (struct_of c.args.source) c.loop-next.left c.loop-next.at (depth_at c.args.groups c.loop-next.left) c.loop-next.next c.in-Some-copied_at.field _ _ c.in-Some-copied_at.ensures (omega (arith, c.field_count.ensures.count, c.if-next-field_count.false)) (slot-taken c.loop-next.left c.in-Some-copied_at.field (levels c.args.source) (struct_of c.args.source) _ _ c.in_default-group_of.ensures c.in_default-copy.ensures.copied) c.loop-next.invariant.left;
+  left = past-slot (Through c.args.groups c.args.schema (levels c.args.source) (struct_of c.args.source) (built_at c.args.arena.now c.args.place)) (levels c.args.source) (struct_of c.args.source) c.loop-next.left c.loop-next.at (depth_at c.args.groups c.loop-next.left) c.loop-next.next c.in-Some-copied_at.field _ _ c.in-Some-copied_at.ensures (omega (arith, c.field_count.ensures.count, c.if-next-field_count.false)) (slot-taken c.loop-next.left c.in-Some-copied_at.field (levels c.args.source) (struct_of c.args.source) _ _ c.in_default-group_of.ensures c.in_default-copy.ensures.copied) c.loop-next.invariant.left;
   low = low-next c.loop-next.left c.loop-next.at (depth_at c.args.groups c.loop-next.left) c.loop-next.next _ c.loop-next.invariant.low;
   few = c.loop-next.invariant.few;
   room = fits-kept (set_of c.loop-next.at) (number_of c.loop-next.at) _ _ (keeps-size _ _ _ c.in_default-copy.ensures.copied.kept) c.loop-next.invariant.room;
@@ -109,7 +109,7 @@ loop-next-smaller c = fewer-in c.args.groups (levels c.args.source) (struct_of c
 
 pub loop-next-preserved : goal.loop-next-preserved
 loop-next-preserved c = record {
-  left = goes-in c.args.groups (levels c.args.source) (struct_of c.args.source) c.loop-next.at c.loop-next.next c.in-Some-copied_at.field c.in-Some-group_of.group c.in-Some-copied_at.ensures (omega (arith, c.field_count.ensures.count, c.if-next-field_count.false)) c.in-Some-group_of.ensures (Through c.args.groups c.args.schema (levels c.args.source) (struct_of c.args.source) (built c.args.arena.now c.args.place)) c.loop-next.left _ _ c.loop-next.invariant.few c.loop-next.invariant.low c.open.ensures.cleared c.loop-next.invariant.left;
+  left = goes-in c.args.groups (levels c.args.source) (struct_of c.args.source) c.loop-next.at c.loop-next.next c.in-Some-copied_at.field c.in-Some-group_of.group c.in-Some-copied_at.ensures (omega (arith, c.field_count.ensures.count, c.if-next-field_count.false)) c.in-Some-group_of.ensures (Through c.args.groups c.args.schema (levels c.args.source) (struct_of c.args.source) (built_at c.args.arena.now c.args.place)) c.loop-next.left _ _ c.loop-next.invariant.few c.loop-next.invariant.low c.open.ensures.cleared c.loop-next.invariant.left;
   low = low-in c.args.groups (levels c.args.source) (struct_of c.args.source) c.loop-next.at c.loop-next.next c.in-Some-copied_at.field c.in-Some-group_of.group c.in-Some-copied_at.ensures (omega (arith, c.field_count.ensures.count, c.if-next-field_count.false)) c.in-Some-group_of.ensures c.loop-next.left c.loop-next.invariant.few c.loop-next.invariant.low;
   few = omega (arith, c.loop-next.invariant.few);
   room = group-fits c.args.groups c.loop-next.left (levels c.args.source) (struct_of c.args.source) c.loop-next.at c.loop-next.next c.in-Some-copied_at.field c.in-Some-copied_at.ensures c.in-Some-group_of.group _ _ c.in-Some-group_of.ensures c.open.ensures.kept c.loop-next.invariant.room;

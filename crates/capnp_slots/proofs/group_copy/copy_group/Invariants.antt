@@ -1,5 +1,5 @@
 use Rattle.std.proofs.Common.{◌<◌}
-use Rattle.capnp_arena.specs.Built.{ChangesIn, IsBuilt, built}
+use Rattle.capnp_arena.specs.Built.{ChangesIn, IsBuilt, built_at}
 use Rattle.capnp_wire.specs.Standing.{struct_levels, struct_of}
 use Rattle.capnp_schema.specs.StructHandles.{number_of, set_of}
 use Rattle.capnp_records.specs.Record.{Left}
@@ -10,11 +10,11 @@ use Rattle.capnp_slots.proofs.group_copy.copy_group.Given as goal
 
 abbrev pub invariant-loop-next : goal.invariant-loop-next
 invariant-loop-next l = record {
-  left : StandsAt l.fn.groups (Through l.fn.groups l.fn.schema (Left (struct_levels l.fn.source)) (struct_of l.fn.source) (built l.fn.arena l.fn.place)) l.left (Left (struct_levels l.fn.source)) (struct_of l.fn.source) l.at l.next (built l.arena l.place);
+  left : StandsAt l.fn.groups (Through l.fn.groups l.fn.schema (Left (struct_levels l.fn.source)) (struct_of l.fn.source) (built_at l.fn.arena l.fn.place)) l.left (Left (struct_levels l.fn.source)) (struct_of l.fn.source) l.at l.next (built_at l.arena l.place);
   low : IsLowAt l.fn.groups l.left l.at l.next;
   few : l.left < l.fn.groups;
-  room : Fits (set_of l.at) (number_of l.at) (built l.arena l.place);
-  size : KeepsSize (built l.fn.arena l.fn.place) (built l.arena l.place);
+  room : Fits (set_of l.at) (number_of l.at) (built_at l.arena l.place);
+  size : KeepsSize (built_at l.fn.arena l.fn.place) (built_at l.arena l.place);
   planted : IsBuilt l.arena l.place;
   changes : ChangesIn l.place l.fn.arena l.arena;
 }

@@ -1,6 +1,6 @@
 -- The switch to a group's field keeps the sections of the group.
 use Rattle.std.proofs.Common.{◌∙◌, ap}
-use Rattle.capnp_arena.specs.Built.{built}
+use Rattle.capnp_arena.specs.Built.{built_at}
 use Rattle.capnp_arena.specs.Facts.Places.{then}
 use Rattle.capnp_schema.specs.StructHandles.{number_of, set_of}
 use Rattle.capnp_records.specs.Facts.FieldWrite.{fits-after}
@@ -11,7 +11,7 @@ use Rattle.capnp_slots.proofs.group_copy.open.Goals as goal
 
 pub clear_whole-requires-clause-room : goal.clear_whole-requires-clause-room
 clear_whole-requires-clause-room c =
-    c.requires.group.room _ (fits-after _ (field_set c.args.field) (field_brand c.args.field) (built c.args.arena.now c.args.place) (built c.switch.new.arena c.args.place) c.switch.ensures.kept.writes c.requires.room)
+    c.requires.group.room _ (fits-after _ (field_set c.args.field) (field_brand c.args.field) (built_at c.args.arena.now c.args.place) (built_at c.switch.new.arena c.args.place) c.switch.ensures.kept.writes c.requires.room)
 
 pub returns-clause-changes : goal.returns-clause-changes
 returns-clause-changes c = then c.switch.ensures.changes c.clear_whole.ensures.changes

@@ -1,5 +1,5 @@
 -- The pointer has what was filled.
-use Rattle.capnp_arena.specs.Built.{built}
+use Rattle.capnp_arena.specs.Built.{built_at}
 use Rattle.capnp_slots.proofs.Pointers.{slot_read}
 use Rattle.capnp_slots.proofs.part.fill.Goals as goal
 
@@ -8,4 +8,4 @@ fill_slot-requires-clause-inside c = c.pointer_slot-index.ensures.inside _ c.req
 
 pub returns-clause-here : goal.returns-clause-here
 returns-clause-here c =
-    slot_read c.args.field _ c.fill_slot.result (built c.args.arena.now c.args.place) (built c.fill_slot.new.arena c.args.place) _ c.pointer_slot-index.ensures.is (c.pointer_slot-index.ensures.inside _ c.requires.room) c.fill_slot.ensures.written.filled
+    slot_read c.args.field _ c.fill_slot.result (built_at c.args.arena.now c.args.place) (built_at c.fill_slot.new.arena c.args.place) _ c.pointer_slot-index.ensures.is (c.pointer_slot-index.ensures.inside _ c.requires.room) c.fill_slot.ensures.written.filled

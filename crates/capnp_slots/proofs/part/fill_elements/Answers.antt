@@ -2,7 +2,7 @@
 use Rattle.std.proofs.Common.{◌≡◌, ap, subst, sym, ◌∙◌, None, IfErr, OnOk}
 use Rattle.capnp_wire.specs.Defaults.{default_tree as reader_tree, filled_structs, filled_structs_refusal, or_default}
 use Rattle.capnp_wire.specs.Edits.{IsDueRefusal}
-use Rattle.capnp_arena.specs.Built.{built}
+use Rattle.capnp_arena.specs.Built.{built_at}
 use Rattle.capnp_wire.specs.StructLists.{HoldsStructs}
 use Rattle.capnp_wire.specs.Tree.{Tree, nth_tree}
 use Rattle.capnp_wire.specs.declared.size.StructSize.{StructSize}
@@ -22,9 +22,9 @@ pub returns-in-Struct-clause-written : goal.returns-in-Struct-clause-written
 returns-in-Struct-clause-written c =
     let set : Schemas = lists_seen c.args.set.now in
     let D : Tree = reader_tree c.args.default in
-    let x : Tree = nth_tree (built c.args.arena.now c.args.place).pointers c.args.index in
-    let s = (built c.args.arena.now c.args.place) in
-    let s' = (built c.fill_structs.new.arena c.args.place) in
+    let x : Tree = nth_tree (built_at c.args.arena.now c.args.place).pointers c.args.index in
+    let s = (built_at c.args.arena.now c.args.place) in
+    let s' = (built_at c.fill_structs.new.arena c.args.place) in
     let r = c.fill_structs.result in
     let t : StructType c.in-Struct.raw.number c.in-Struct.raw.generic ≡ seen_type c.args.element = ap seen_variant (sym c.in-Struct.is) ∙ (ap seen_variant c.which.ensures ∙ seen_which c.args.element) in
     let size : c.size_of-size.result ≡ brand_size set c.in-Struct.raw.number =
@@ -42,7 +42,7 @@ fill_list-requires-clause-simple c = (is_plain (lists_seen c.args.set.now) c.arg
 
 pub returns-in_default-clause-written : goal.returns-in_default-clause-written
 returns-in_default-clause-written c =
-    let x : Tree = nth_tree (built c.args.arena.now c.args.place).pointers c.args.index in
+    let x : Tree = nth_tree (built_at c.args.arena.now c.args.place).pointers c.args.index in
     let D : Tree = reader_tree c.args.default in
     let list = is_plain (lists_seen c.args.set.now) c.args.element c.which.result _ c.which.ensures c.expected_element_size.ensures c.in_default.not-Struct in
-    made-filled (built c.args.arena.now c.args.place) (built c.fill_list.new.arena c.args.place) c.args.index c.fill_list.result _ _ _ _ _ _ (sym (list.enters (or_default D x))) (sym (list.due D x)) (list.rests D x) c.fill_list.ensures.ok c.fill_list.ensures.within (same_struct c.args.place c.args.arena.now c.fill_list.new.arena c.fill_list.result c.fill_list.ensures.refused) c.fill_list.ensures.cause (λ h. c.fill_list.ensures.succeeds h.0 h.1)
+    made-filled (built_at c.args.arena.now c.args.place) (built_at c.fill_list.new.arena c.args.place) c.args.index c.fill_list.result _ _ _ _ _ _ (sym (list.enters (or_default D x))) (sym (list.due D x)) (list.rests D x) c.fill_list.ensures.ok c.fill_list.ensures.within (same_struct c.args.place c.args.arena.now c.fill_list.new.arena c.fill_list.result c.fill_list.ensures.refused) c.fill_list.ensures.cause (λ h. c.fill_list.ensures.succeeds h.0 h.1)

@@ -2,7 +2,7 @@
 use Rattle.std.proofs.Common.{ℕ, List, subst, ◌∙◌}
 use Rattle.capnp_arena.specs.Forest.{Changes, Forest}
 use Rattle.capnp_arena.specs.Segment.{segment}
-use Rattle.capnp_arena.specs.Built.{LeavesIn, built}
+use Rattle.capnp_arena.specs.Built.{LeavesIn, built_at}
 use Rattle.capnp_slots.proofs.Pointers.{pointer_read, pointer_there}
 use Rattle.capnp_slots.proofs.part.get.Goals as goal
 
@@ -10,10 +10,10 @@ pub fill_slot-requires-clause-inside : goal.fill_slot-requires-clause-inside
 fill_slot-requires-clause-inside c = c.pointer_slot-index.ensures.inside _ c.requires.room
 
 pub pointer_at-requires-clause-inside : goal.pointer_at-requires-clause-inside
-pointer_at-requires-clause-inside c = pointer_there _ (built c.args.arena.now c.args.place) _ _ c.in_ok-fill_slot.ensures.written.filled (c.pointer_slot-index.ensures.inside _ c.requires.room)
+pointer_at-requires-clause-inside c = pointer_there _ (built_at c.args.arena.now c.args.place) _ _ c.in_ok-fill_slot.ensures.written.filled (c.pointer_slot-index.ensures.inside _ c.requires.room)
 
 pub returns-clause-now : goal.returns-clause-now
-returns-clause-now c = c.pointer_at.ensures.tree ∙ pointer_read _ (built c.args.arena.now c.args.place) _ _ c.in_ok-fill_slot.ensures.written.filled (c.pointer_slot-index.ensures.inside _ c.requires.room)
+returns-clause-now c = c.pointer_at.ensures.tree ∙ pointer_read _ (built_at c.args.arena.now c.args.place) _ _ c.in_ok-fill_slot.ensures.written.filled (c.pointer_slot-index.ensures.inside _ c.requires.room)
 
 pub returns-clause-leaves : goal.returns-clause-leaves
 returns-clause-leaves c =

@@ -1,6 +1,6 @@
 use Rattle.std.proofs.Common.{◌∙◌, ap}
 use Rattle.capnp_wire.specs.Edits.{with_pointer_tree}
-use Rattle.capnp_arena.specs.Built.{built}
+use Rattle.capnp_arena.specs.Built.{built_at}
 use Rattle.capnp_slots.proofs.pointer.make_empty_at.Goals as goal
 
 pub returns-clause-planted : goal.returns-clause-planted
@@ -12,4 +12,4 @@ returns-clause-changes c = (c.pointer_at-at.ensures.leaves _ c.in_ok-make_empty.
 pub returns-clause-ok : goal.returns-clause-ok
 returns-clause-ok c =
     (c.pointer_at-at.ensures.leaves _ c.in_ok-make_empty.ensures.forest c.in_ok-make_empty.ensures.changes).struct
-    ∙ ap (with_pointer_tree (built c.args.arena.now c.args.place) c.args.index) c.in_ok-make_empty.ensures.ok
+    ∙ ap (with_pointer_tree (built_at c.args.arena.now c.args.place) c.args.index) c.in_ok-make_empty.ensures.ok

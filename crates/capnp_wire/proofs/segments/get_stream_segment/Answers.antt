@@ -1,14 +1,14 @@
 use Rattle.std.proofs.Common.{◌≡◌, ◌*◌, ◌/◌, ◌<◌, ◌≤◌, List, ℕ, length, take, drop, Some, None, slice_get, subst, sym, ap, ◌∙◌, arith}
 use Rattle.std.proofs.lemmas.List.{drop-drop, length-drop}
 use Rattle.capnp_wire.specs.Slot.{little_endian}
-use Rattle.capnp_wire.specs.Stream.{cut, header_bytes, segment_count, table_of, total_words}
+use Rattle.capnp_wire.specs.Stream.{cut_segments, header_bytes, segment_count, table_of, total_words}
 use Rattle.capnp_wire.proofs.Cut.{cut_at, cut_past, taken_past}
 use Rattle.capnp_wire.proofs.segments.get_stream_segment.Goals as goal
 
 pub returns-then-index-table : goal.returns-then-index-table
 returns-then-index-table c =
     let body : List ℕ = drop (header_bytes (segment_count c.args.stream.now)) c.args.stream.now in
-    subst (λ t. None ≡ slice_get (cut (length t / 4) t body) c.args.index) c.get_table-table.ensures (cut_past _ _ body _ c.if-index-table.true)
+    subst (λ t. None ≡ slice_get (cut_segments (length t / 4) t body) c.args.index) c.get_table-table.ensures (cut_past _ _ body _ c.if-index-table.true)
 
 pub returns-then-words-stream : goal.returns-then-words-stream
 returns-then-words-stream c =

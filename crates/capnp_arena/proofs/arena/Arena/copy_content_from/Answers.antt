@@ -1,7 +1,7 @@
 use Rattle.std.proofs.Common.{arith, ◌≡◌, ◌*◌, ◌<◌, ◌≤◌, ◌^◌, List, ℕ, length, sym, ap, subst, ◌∙◌}
 use Rattle.std.specs.Prelude.{None}
 use Rattle.std.proofs.lemmas.Result.{err_from_is_err_and}
-use Rattle.capnp_wire.specs.Edits.{IsCopyRefusal, fitted}
+use Rattle.capnp_wire.specs.Edits.{IsCopyRefusal, fitted_struct}
 use Rattle.capnp_wire.specs.Facts.Structs.{length-fitted}
 use Rattle.capnp_wire.specs.Filling.{with_encoded_element}
 use Rattle.capnp_wire.specs.Found.{parts_tree}
@@ -16,10 +16,10 @@ use Rattle.capnp_arena.proofs.arena.Arena.copy_content_from.Goals as goal
 use Rattle.capnp_arena.proofs.arena.Arena.copy_content_from.Goals.{then-count_pointers-place+in_ok-find_fault, else-count_pointers-place}
 
 content : (old new : List ℕ) (a d p : ℕ) (s r : StructTree) → s ≡ r → IsWellFormedStruct r → length old ≡ 8 * word_count old → Planted old (StructIn a d p) → word_count new < 2 ^ 29 → first_fault_of_all (fitted_row p s.pointers) ≡ None
-    → new ≡ with_encoded_element (8 * a) (fitted (8 * d) p s) old → IsContent old new a d p (fitted (8 * d) p r)
+    → new ≡ with_encoded_element (8 * a) (fitted_struct (8 * d) p s) old → IsContent old new a d p (fitted_struct (8 * d) p r)
 content old new a d p s r q held whole planted few none e =
     let h : IsWellFormedStruct s = subst IsWellFormedStruct (sym q) held in
-    subst (λ x. IsContent old new a d p (fitted (8 * d) p x)) q (content_made old new a d p (fitted (8 * d) p s) (length-fitted (8 * d) p s) (fitted_count p s.pointers) (fitted_held p s.pointers h.3) none whole planted.ends few e)
+    subst (λ x. IsContent old new a d p (fitted_struct (8 * d) p x)) q (content_made old new a d p (fitted_struct (8 * d) p s) (length-fitted (8 * d) p s) (fitted_count p s.pointers) (fitted_held p s.pointers h.3) none whole planted.ends few e)
 
 pub fill_content-requires-clause-held : goal.fill_content-requires-clause-held
 fill_content-requires-clause-held c = subst IsWellFormedStruct (sym c.parts-parts.ensures) c.struct_is_well_formed.ensures

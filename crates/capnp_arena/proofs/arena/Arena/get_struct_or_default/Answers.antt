@@ -2,7 +2,7 @@ use Rattle.std.proofs.Common.{◌≡◌, sym, ap, ◌∙◌, subst}
 use Rattle.std.specs.Prelude.{Option, None, IfErr, IfOk, OnOk}
 use Rattle.capnp_device.specs.declared.error.ErrorKind.{ErrorKind}
 use Rattle.capnp_wire.specs.Defaults.{default_tree, struct_default_refusal}
-use Rattle.capnp_wire.specs.Edits.{IsDueRefusal, extended, struct_in}
+use Rattle.capnp_wire.specs.Edits.{IsDueRefusal, extended_struct, struct_in}
 use Rattle.capnp_wire.specs.Place.{struct_tree}
 use Rattle.capnp_arena.specs.Forest.{tree}
 use Rattle.capnp_arena.specs.Segment.{segment}
@@ -18,7 +18,7 @@ pub returns-in-Some-clause-tree : goal.returns-in-Some-clause-tree
 returns-in-Some-clause-tree c =
     let t = tree (segment c.args.self.now) c.args.at in
     let taken = is_taken c.args.default t c.in-Some.reader (sym c.in-Some.is ∙ c.take_default.ensures) in
-    subst (λ u. IfOk c.put_struct.result (λ _. tree (segment c.put_struct.new.self) c.args.at ≡ struct_tree (extended c.args.size (struct_in u)))) (taken.is ∙ taken_tree (default_tree c.args.default) t taken.null) c.put_struct.ensures.tree
+    subst (λ u. IfOk c.put_struct.result (λ _. tree (segment c.put_struct.new.self) c.args.at ≡ struct_tree (extended_struct c.args.size (struct_in u)))) (taken.is ∙ taken_tree (default_tree c.args.default) t taken.null) c.put_struct.ensures.tree
 
 pub returns-in-Some-clause-within : goal.returns-in-Some-clause-within
 returns-in-Some-clause-within c =
@@ -43,7 +43,7 @@ returns-in-Some-clause-stays c = λ h. no_struct c.args.size _ (is_taken c.args.
 pub returns-in-None-clause-tree : goal.returns-in-None-clause-tree
 returns-in-None-clause-tree c =
     let t = tree (segment c.args.self.now) c.args.at in
-    subst (λ u. IfOk c.get_struct.result (λ _. tree (segment c.get_struct.new.self) c.args.at ≡ struct_tree (extended c.args.size (struct_in u)))) (left_tree c.args.default t (sym c.in-None.is ∙ c.take_default.ensures)) c.get_struct.ensures.tree
+    subst (λ u. IfOk c.get_struct.result (λ _. tree (segment c.get_struct.new.self) c.args.at ≡ struct_tree (extended_struct c.args.size (struct_in u)))) (left_tree c.args.default t (sym c.in-None.is ∙ c.take_default.ensures)) c.get_struct.ensures.tree
 
 pub returns-in-None-clause-within : goal.returns-in-None-clause-within
 returns-in-None-clause-within c =

@@ -3,14 +3,14 @@ use Rattle.std.specs.Prelude.{IfOk}
 use Rattle.std.proofs.lemmas.Result.{IfErr-weaker, on_ok_weaker}
 use Rattle.capnp_wire.specs.StructLists.{IsDueRefusal}
 use Rattle.capnp_arena.specs.Forest.{tree}
-use Rattle.capnp_arena.specs.Grown.{IsPartList, kind_pointers, kind_words, plain_parts}
+use Rattle.capnp_arena.specs.Grown.{IsPartList, kind_pointers, kind_words, pointerless_parts}
 use Rattle.capnp_arena.proofs.PartLists.{plain_list}
 use Rattle.capnp_arena.proofs.StructListTrees.{plain_becomes, plain_refusal, simple_small}
 use Rattle.capnp_arena.proofs.arena.Arena.grow_plain_list.Goals as goal
 
 pub make_structs-requires-clause-list : goal.make_structs-requires-clause-list
 make_structs-requires-clause-list c =
-    subst (λ r. IsPartList c.args.self.now.bytes.items c.args.at r c.args.list.count) (sym (c.get_plain_row-row.ensures ∙ ap (plain_parts c.args.list.start) c.get_number-number.ensures))
+    subst (λ r. IsPartList c.args.self.now.bytes.items c.args.at r c.args.list.count) (sym (c.get_plain_row-row.ensures ∙ ap (pointerless_parts c.args.list.start) c.get_number-number.ensures))
     (plain_list _ _ c.requires.forest _ _ _ c.requires.there (simple_small _ _ c.requires.forest _ _ _ c.requires.there) c.requires.simple)
 
 pub returns-clause-tree : goal.returns-clause-tree

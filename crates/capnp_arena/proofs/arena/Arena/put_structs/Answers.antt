@@ -1,6 +1,6 @@
 use Rattle.std.proofs.Common.{◌*◌, ◌∙◌, ap, arith, length, take}
-use Rattle.capnp_wire.specs.Encoding.{spelled}
-use Rattle.capnp_wire.specs.Filling.{put}
+use Rattle.capnp_wire.specs.Encoding.{spelled_number}
+use Rattle.capnp_wire.specs.Filling.{bytes_with}
 use Rattle.capnp_arena.specs.Facts.Forests.{points}
 use Rattle.capnp_arena.specs.Facts.Shapes.{itself_inside}
 use Rattle.capnp_arena.proofs.Restored.{taken_back}
@@ -14,5 +14,5 @@ restore-requires c =
 pub returns-in-Err-clause-refused : goal.returns-in-Err-clause-refused
 returns-in-Err-clause-refused c =
     c.restore.ensures
-    ∙ ap (λ b. put (8 * c.args.at) (spelled 8 0) (take (8 * c.count_words-words.result) b)) c.in-Err.ensures.refused
+    ∙ ap (λ b. bytes_with (8 * c.args.at) (spelled_number 8 0) (take (8 * c.count_words-words.result) b)) c.in-Err.ensures.refused
     ∙ taken_back _ _ c.args.at _ c.count_words-words.ensures.whole c.requires.forest c.requires.null c.in_ok-copy_from.ensures.changes

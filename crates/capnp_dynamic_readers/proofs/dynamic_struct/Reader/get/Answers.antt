@@ -2,7 +2,7 @@
 use Rattle.std.proofs.Common.{◌≡◌, ap, subst, sym, IfOk, ◌∙◌}
 use Rattle.capnp_wire.specs.Standing.{struct_levels, struct_of}
 use Rattle.capnp_schema.specs.Accepted.{NamesEntries}
-use Rattle.capnp_schema.specs.FieldLists.{index_of, schema_of as field_schema, typed_of}
+use Rattle.capnp_schema.specs.FieldLists.{index_of, field_schema as field_schema, typed_of}
 use Rattle.capnp_schema.specs.Plan.{IsSlotPlace}
 use Rattle.capnp_schema.specs.Schema.{Field, Schemas, TypedField, default_of, kind_default, seen_kind}
 use Rattle.capnp_schema.specs.StructHandles.{IsStruct, number_of, set_of}

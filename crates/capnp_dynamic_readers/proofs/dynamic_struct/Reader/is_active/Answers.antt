@@ -1,7 +1,7 @@
 -- The plan is the field's.
 use Rattle.std.proofs.Common.{ap, subst, ◌∙◌}
 use Rattle.capnp_wire.specs.Standing.{struct_levels, struct_of}
-use Rattle.capnp_schema.specs.FieldLists.{index_of, schema_of as field_schema}
+use Rattle.capnp_schema.specs.FieldLists.{index_of, field_schema as field_schema}
 use Rattle.capnp_schema.specs.StructHandles.{IsStruct, number_of, set_of}
 use Rattle.capnp_schema.specs.declared.plan.SlotPlan.{SlotPlan}
 use Rattle.capnp_schema.specs.declared.schema.structs.StructSchema.{StructSchema}

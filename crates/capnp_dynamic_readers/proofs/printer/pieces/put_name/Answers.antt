@@ -2,7 +2,7 @@ use Rattle.std.proofs.Common.{ap, subst, ◌∙◌, List, ℕ}
 use Rattle.std.specs.Prelude.{codes}
 use Rattle.capnp_schema.specs.FieldLists.{typed_of}
 use Rattle.capnp_schema.specs.Schema.{Field as FieldRecord}
-use Rattle.capnp_records.specs.Text.{said, separator}
+use Rattle.capnp_records.specs.Text.{said_text, separator}
 use Rattle.capnp_dynamic_readers.specs.Pieces.{IsPut}
 use Rattle.capnp_dynamic_readers.proofs.Steps.{ok_map}
 use Rattle.capnp_dynamic_readers.proofs.Streams.{three_put}
@@ -13,5 +13,5 @@ returns-clause-put g c =
     let name = c.as_str.ensures.value ∙ ap (λ (x : FieldRecord). x.name) c.get_proto.ensures in
     ok_map c.put-2.result
     (three_put (g.O.Out.text c.args.out.now) (g.O.Out.text c.put_separator.new.out) (g.O.Out.text c.put.new.out) (g.O.Out.text c.put-2.new.out) (separator c.args.at c.args.first) (typed_of c.args.field).field.name (codes " = ")
-    c.in_ok-put_separator.ensures.put (subst (λ (z : List ℕ). IsPut (g.O.Out.text c.put_separator.new.out) (said z) (g.O.Out.text c.put.new.out)) name c.in_ok-put.ensures.put))
+    c.in_ok-put_separator.ensures.put (subst (λ (z : List ℕ). IsPut (g.O.Out.text c.put_separator.new.out) (said_text z) (g.O.Out.text c.put.new.out)) name c.in_ok-put.ensures.put))
     c.put-2.ensures.put

@@ -5,7 +5,7 @@ use Rattle.capnp_base.specs.declared.introspect.«Type».{«Type» as TypeHandle
 use Rattle.capnp_schema.specs.StructHandles.{struct_fields}
 use Rattle.capnp_schema.specs.Types.{seen_type}
 use Rattle.capnp_schema.specs.declared.schema.structs.StructSchema.{StructSchema}
-use Rattle.capnp_records.specs.Text.{said}
+use Rattle.capnp_records.specs.Text.{said_text}
 use Rattle.capnp_dynamic_readers.specs.GroupTexts.{has_fields, onward_of}
 use Rattle.capnp_dynamic_readers.specs.Handles.{element_of}
 use Rattle.capnp_dynamic_readers.specs.PartsRead.{fault_at, field_in}
@@ -140,7 +140,7 @@ print_field-returns-clause-stopped g t c = err_map c.open.result (full_stopped (
 pub print_record-returns-then-not-has_fields-clause-put : goal.print_record-returns-then-not-has_fields-clause-put
 print_record-returns-then-not-has_fields-clause-put g t c =
     ok_map c.put.result
-    (same_put (g.O.Out.text c.args.out.now) (g.O.Out.text c.put.new.out) (record_shown c.args.left c.args.at c.args.reader) (said (codes "()"))
+    (same_put (g.O.Out.text c.args.out.now) (g.O.Out.text c.put.new.out) (record_shown c.args.left c.args.at c.args.reader) (said_text (codes "()"))
     (no_record c.args.left c.args.at c.args.reader
     (sym c.if-not-has_fields.true ∙ (c.has_fields.ensures ∙ ap (λ (s : StructSchema). has_fields (struct_fields s)) c.get_schema.ensures))))
     c.put.ensures.put

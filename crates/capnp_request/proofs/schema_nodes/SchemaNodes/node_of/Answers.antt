@@ -1,8 +1,8 @@
 use Rattle.std.proofs.Common.{sym}
 use Rattle.std.proofs.Common.{rules}
-use Rattle.capnp_request.specs.Handles.{IsRecord}
+use Rattle.capnp_request.specs.Handles.{IsRequestRecord}
 use Rattle.capnp_request.proofs.NodesListed.{section_record}
 use Rattle.capnp_request.proofs.schema_nodes.SchemaNodes.node_of.Goals as goal
 
 pub returns-clause-read : goal.returns-clause-read
-returns-clause-read c = let is : IsRecord 2 c.new.result = search rules in sym (section_record c.new.result c.args.sections is (sym c.new.ensures.reader))
+returns-clause-read c = let is : IsRequestRecord 2 c.new.result = search rules in sym (section_record c.new.result c.args.sections is (sym c.new.ensures.reader))

@@ -1,6 +1,6 @@
 use Rattle.std.proofs.Common.{◌≡◌, ◌+◌, ◌-◌, ◌∙◌, suc, ap, sym, arith, length}
 use Rattle.capnp_schema.specs.Entries.{lists_seen}
-use Rattle.capnp_schema.specs.Checking.Spans.{reached}
+use Rattle.capnp_schema.specs.Checking.Spans.{reached_spot}
 use Rattle.capnp_schema.proofs.Checking.SpanLemmas.{reached_all}
 use Rattle.capnp_schema.proofs.check.spans.add_depths.Goals as goal
 
@@ -8,13 +8,13 @@ pub loop-depth-preserved : goal.loop-depth-preserved
 loop-depth-preserved c = λ p.
     let left : suc (length (lists_seen c.args.lists.now).brands - (c.loop-depth.depth + 1)) ≡ length (lists_seen c.args.lists.now).brands - c.loop-depth.depth = omega arith in
     c.in_ok-below.ensures.added (length (lists_seen c.args.lists.now).brands - (c.loop-depth.depth + 1)) p
-    ∙ ap (λ brands. reached (suc (length (lists_seen c.args.lists.now).brands - (c.loop-depth.depth + 1))) (lists_seen c.args.lists.now) c.loop-depth.out.items brands p) c.deref.ensures.value
-    ∙ ap (λ groups. reached groups (lists_seen c.args.lists.now) c.loop-depth.out.items c.loop-depth.brands.items p) left
+    ∙ ap (λ brands. reached_spot (suc (length (lists_seen c.args.lists.now).brands - (c.loop-depth.depth + 1))) (lists_seen c.args.lists.now) c.loop-depth.out.items brands p) c.deref.ensures.value
+    ∙ ap (λ groups. reached_spot groups (lists_seen c.args.lists.now) c.loop-depth.out.items c.loop-depth.brands.items p) left
     ∙ c.loop-depth.invariant p
 
 pub returns-clause-added : goal.returns-clause-added
 returns-clause-added c = λ p.
     let last : 0 ≡ length (lists_seen c.args.lists.now).brands - c.loop-depth.depth = omega arith in
     sym (reached_all (lists_seen c.args.lists.now) c.loop-depth.out.items c.loop-depth.brands.items p)
-    ∙ ap (λ groups. reached groups (lists_seen c.args.lists.now) c.loop-depth.out.items c.loop-depth.brands.items p) last
+    ∙ ap (λ groups. reached_spot groups (lists_seen c.args.lists.now) c.loop-depth.out.items c.loop-depth.brands.items p) last
     ∙ c.loop-depth.invariant p

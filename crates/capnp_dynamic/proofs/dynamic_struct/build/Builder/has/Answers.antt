@@ -2,7 +2,7 @@
 use Rattle.std.proofs.Common.{Ok, ap, subst, ℕ, ◌∙◌}
 use Rattle.capnp_wire.specs.Standing.{struct_levels, struct_of}
 use Rattle.capnp_schema.specs.Facts.Layers.{seen_which}
-use Rattle.capnp_schema.specs.FieldLists.{index_of, schema_of as field_schema}
+use Rattle.capnp_schema.specs.FieldLists.{index_of, field_schema as field_schema}
 use Rattle.capnp_schema.specs.StructHandles.{IsStruct, number_of, set_of, struct_field}
 use Rattle.capnp_schema.specs.Types.{seen_variant}
 use Rattle.capnp_schema.specs.declared.schema.structs.StructSchema.{StructSchema}

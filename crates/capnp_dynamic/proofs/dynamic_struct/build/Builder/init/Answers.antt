@@ -1,7 +1,7 @@
 -- A group was cleared and is the same struct, and a slot has what was started there.
 use Rattle.std.specs.Prelude.{refl}
 use Rattle.std.proofs.lemmas.Result.{IfErr-weaker, IfOk-weaker}
-use Rattle.capnp_arena.specs.Built.{built}
+use Rattle.capnp_arena.specs.Built.{built_at}
 use Rattle.capnp_schema.specs.FieldLists.{typed_of}
 use Rattle.capnp_slots.specs.Fields.{field_set, names_of}
 use Rattle.capnp_slots.specs.Inits.{IsInitRefusal}
@@ -24,7 +24,7 @@ pub returns-in-Some-clause-ready : goal.returns-in-Some-clause-ready
 returns-in-Some-clause-ready c =
     let f = c.args.field in
     let s = built_struct c.args.self in
-    let new = built c.init.new.arena (place_of c.args.self) in
+    let new = built_at c.init.new.arena (place_of c.args.self) in
     record {
       planted = c.init.ensures.planted;
       room = c.in-Some.ensures.room new (room_kept f (names_of f) s new (room_for f (built_schema c.args.self) s c.requires.belongs c.requires.ready.room) c.init.ensures.kept);
