@@ -6,6 +6,7 @@ ghost use Rattle.std.specs.Prelude.{◌≡◌, List, map, IfOk};
 ghost use Rattle.capnp_schema.specs.Types.{SchemaType, seen_type};
 ghost use Rattle.capnp_schema.specs.Builtin.{annotated_node};
 ghost use Rattle.capnp_schema.specs.Schema.{Annotation, Brand, Field, Node, Slot, seen_annotation, seen_brand, seen_field, seen_kind, seen_node, seen_value};
+ghost use Rattle.capnp_schema.specs.Steps.TableRows as row_steps;
 ghost use Rattle.capnp_schema.specs.TableRows as rows;
 
 use crate::record::{
@@ -116,7 +117,7 @@ pub fn brand_records(alloc: Global, table: &[NodeRow]) -> Result<Vec<BrandRecord
 
 /// The struct whose brand and node have a number.
 fn struct_variant(number: u32) -> TypeVariant
-    ensures { result ≡ rows.struct_variant number }
+    ensures { result ≡ row_steps.struct_variant number }
 {
     TypeVariant::Struct(RawBrandedStructSchema {
         number,
@@ -218,7 +219,7 @@ fn field_of(
     annotations: &[AnnotationRow],
 ) -> Result<FieldRecord, AllocError>
     ensures { IfOk result (λ f. seen_field f
-        ≡ rows.typed_row_field discriminant_value name.now (seen_kind kind) (map rows.row_annotation annotations.now)) }
+        ≡ row_steps.typed_row_field discriminant_value name.now (seen_kind kind) (map rows.row_annotation annotations.now)) }
 {
     Ok(FieldRecord {
         name: String::from_str(alloc, name)?,
