@@ -8,7 +8,7 @@ use Rattle.capnp_wire.specs.Locate.{list_words}
 use Rattle.capnp_wire.specs.Tree.{StructTree, structs_from, trees_from}
 use Rattle.capnp_wire.specs.Words.{words_below_all, words_of, words_of_all}
 use Rattle.std.specs.Prelude.{None, Option, Some}
-use Rattle.capnp_arena.specs.Counts.{IsCounted}
+use Rattle.capnp_arena.specs.Steps.Counts.{IsCounted}
 use Rattle.capnp_arena.specs.Facts.Calls.{planted, planted_inside}
 use Rattle.capnp_arena.specs.Facts.Forests.{owned_after, owned_inside, points}
 use Rattle.capnp_arena.specs.Facts.Shapes.{element_end, itself_inside}

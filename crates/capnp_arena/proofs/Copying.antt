@@ -10,7 +10,7 @@ use Rattle.capnp_wire.specs.Facts.Bytes.{length_spelled}
 use Rattle.capnp_wire.specs.Facts.Indexed.{length-bits_from}
 use Rattle.capnp_wire.specs.Facts.EncodedSizes.{length_bytes_of, length_bytes_of_all, length_element, length_element_row, length_pointer_row}
 use Rattle.capnp_wire.specs.Facts.Filling.{length_put, put_next}
-use Rattle.capnp_wire.specs.Filling.{elements_end, bytes_with, row_end, with_encoded_element, with_encoded_elements, with_pointers, words_from}
+use Rattle.capnp_wire.specs.Steps.Filling.{elements_end, bytes_with, row_end, with_encoded_element, with_encoded_elements, with_pointers, words_from}
 use Rattle.capnp_wire.specs.Locate.{list_words}
 use Rattle.capnp_wire.specs.Place.{bits_from}
 use Rattle.capnp_wire.specs.Reading.{refusal}
@@ -18,7 +18,7 @@ use Rattle.capnp_wire.specs.Tree.{Bits, MoreStructs, MoreTrees, NoStructs, NoTre
 use Rattle.capnp_wire.specs.WellFormed.{AreElements, AreWellFormed}
 use Rattle.capnp_wire.specs.Words.{first_fault, first_fault_of_all, first_fault_of_elements, first_of, words_of, words_of_all}
 use Rattle.capnp_wire.specs.declared.fault.Fault.{Fault}
-use Rattle.capnp_arena.specs.Copies.{Spares}
+use Rattle.capnp_arena.specs.Steps.Copies.{Spares}
 use Rattle.capnp_arena.specs.Shape.{word_count}
 use Rattle.capnp_arena.proofs.Encodings.{no_elements, no_pointers}
 use Rattle.capnp_arena.proofs.Puts.{longer_same, put_before, put_behind}

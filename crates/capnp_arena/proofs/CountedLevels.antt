@@ -4,9 +4,10 @@ use Rattle.std.proofs.Common.{◌≡◌, ◌==◌, ℕ, zero, suc, ◌+◌, ◌-
 use Rattle.capnp_wire.specs.Depth.{AreBelow, ElementsAreBelow, IsBelow}
 use Rattle.capnp_wire.specs.Place.{list_tree, tree_with_level}
 use Rattle.capnp_wire.specs.Tree.{Tree, StructTree, structs_from, trees_from}
-use Rattle.capnp_arena.specs.Counts.{IsCount, IsCounted}
+use Rattle.capnp_arena.specs.Steps.Counts.{IsCount, IsCounted}
 use Rattle.capnp_arena.specs.Forest.{Forest, struct_from, tree}
-use Rattle.capnp_arena.specs.Shape.{CompositeIn, ListIn, NoShape, StructIn, shape_target, shape_at}
+use Rattle.capnp_arena.specs.Shape.{CompositeIn, ListIn, NoShape, StructIn, shape_at}
+use Rattle.capnp_arena.specs.Steps.Shape.{shape_target}
 use Rattle.capnp_arena.specs.Facts.Forests.{tree_step}
 use Rattle.capnp_arena.specs.Facts.Structs.{tree_composite, tree_list, tree_struct}
 

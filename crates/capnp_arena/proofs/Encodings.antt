@@ -6,16 +6,17 @@ use Rattle.capnp_wire.specs.Facts.Bytes.{AreBytes-part, AreSegments-one}
 use Rattle.capnp_wire.specs.Facts.EmptyStructs.{no_sections}
 use Rattle.capnp_wire.specs.Facts.Places.{IsWellFormed-tree_at}
 use Rattle.capnp_wire.specs.Facts.Rows.{struct_count-structs_from, tree_count-trees_from}
-use Rattle.capnp_wire.specs.Filling.{HasRoom, HaveRoom, elements_end, bytes_with, with_encoded_elements, with_pointers, words_from}
+use Rattle.capnp_wire.specs.Steps.Filling.{HasRoom, HaveRoom, elements_end, bytes_with, with_encoded_elements, with_pointers, words_from}
 use Rattle.capnp_wire.specs.Locate.{list_words}
 use Rattle.capnp_wire.specs.Place.{bits_from, bytes_at, list_tree, tree_with_level}
 use Rattle.capnp_wire.specs.Tree.{Composite, MoreStructs, MoreTrees, NoStructs, NoTrees, Null, StructTree, Structs, Tree, Trees, empty_struct, struct_count, structs_from, tree_count, trees_from}
 use Rattle.capnp_wire.specs.WellFormed.{AreBytes, AreElements, AreWellFormed, IsWellFormed}
 use Rattle.capnp_wire.specs.Words.{words_of_all}
 use Rattle.capnp_wire.specs.Facts.Indexed.{length-bits_from}
-use Rattle.capnp_arena.specs.Encoded.{HasSize, pointer_to}
+use Rattle.capnp_arena.specs.Steps.Encoded.{HasSize, pointer_to}
 use Rattle.capnp_arena.specs.Forest.{Forest, struct_from, tree}
-use Rattle.capnp_arena.specs.Shape.{CompositeIn, ListIn, NoShape, Points, Shape, StructIn, shape_target, shape_at, word_count}
+use Rattle.capnp_arena.specs.Shape.{CompositeIn, ListIn, NoShape, Points, Shape, StructIn, shape_at, word_count}
+use Rattle.capnp_arena.specs.Steps.Shape.{shape_target}
 use Rattle.capnp_arena.proofs.Counted.{ends_at}
 use Rattle.capnp_arena.specs.Facts.Forests.{points, tree_step}
 use Rattle.capnp_arena.specs.Facts.Shapes.{element_end}

@@ -8,14 +8,15 @@ use Rattle.capnp_wire.specs.Facts.EncodedSizes.{length_pointer_row}
 use Rattle.capnp_wire.specs.Facts.Filling.{length_put, put_after}
 use Rattle.capnp_wire.specs.Facts.Rows.{AreElements-structs_from, tree_count-append_trees, tree_count-nulls, tree_count-trees_from}
 use Rattle.capnp_wire.specs.Facts.Structs.{IsElement-extended}
-use Rattle.capnp_wire.specs.Filling.{HasRoom, HaveRoom, bytes_with, row_end, with_encoded_element, with_pointers, words_from}
+use Rattle.capnp_wire.specs.Steps.Filling.{HasRoom, HaveRoom, bytes_with, row_end, with_encoded_element, with_pointers, words_from}
 use Rattle.capnp_wire.specs.Place.{struct_tree}
 use Rattle.capnp_wire.specs.Tree.{MoreStructs, MoreTrees, NoTrees, Null, StructTree, Structs, Trees, structs_from, tree_count, trees_from}
-use Rattle.capnp_wire.specs.WellFormed.{AreBytes, AreElements, AreWellFormed, IsElement, IsWellFormedStruct}
+use Rattle.capnp_wire.specs.WellFormed.{AreBytes, AreElements, AreWellFormed, IsWellFormedStruct}
+use Rattle.capnp_wire.specs.Steps.WellFormed.{IsElement}
 use Rattle.capnp_wire.specs.Words.{words_of, words_of_all}
 use Rattle.capnp_wire.specs.declared.size.StructSize.{StructSize}
 use Rattle.capnp_arena.specs.Forest.{tree}
-use Rattle.capnp_arena.specs.Grown.{grown_part_at}
+use Rattle.capnp_arena.specs.Steps.Grown.{grown_part_at}
 use Rattle.capnp_arena.specs.declared.grown.PartRow.{PartRow}
 use Rattle.capnp_arena.proofs.Encodings.{row_held}
 

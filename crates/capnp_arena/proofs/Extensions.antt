@@ -11,11 +11,12 @@ use Rattle.capnp_wire.specs.Facts.Structs.{IsElement-extended, IsWellFormed-elem
 use Rattle.capnp_wire.specs.Facts.Bytes.{AreBytes-part, length-part-le}
 use Rattle.capnp_wire.specs.Place.{struct_tree}
 use Rattle.capnp_wire.specs.Tree.{MoreTrees, NoTrees, Null, StructTree, Trees, tree_count, trees_from}
-use Rattle.capnp_wire.specs.WellFormed.{AreBytes, IsElement, IsWellFormed, IsWellFormedStruct}
+use Rattle.capnp_wire.specs.WellFormed.{AreBytes, IsWellFormed, IsWellFormedStruct}
+use Rattle.capnp_wire.specs.Steps.WellFormed.{IsElement}
 use Rattle.capnp_wire.specs.Words.{first_fault, first_fault_of_all, first_of, words_of, words_of_all}
 use Rattle.capnp_wire.specs.declared.size.StructSize.{StructSize}
 use Rattle.capnp_arena.specs.Forest.{Changes, Forest, struct_from, tree}
-use Rattle.capnp_arena.specs.Made.{IsObjectMade, filled_up}
+use Rattle.capnp_arena.specs.Steps.Made.{IsObjectMade, filled_up}
 use Rattle.capnp_arena.specs.Shape.{IsWordAt, Points, StructIn, shape_at, word_count}
 use Rattle.capnp_arena.proofs.Encodings.{row_held}
 use Rattle.capnp_arena.proofs.Enlarged.{words_more}

@@ -3,7 +3,7 @@ use Rattle.std.proofs.Common.{◌≡◌, ◌≤◌, ◌+◌, ◌*◌, ℕ, ap, a
 use Rattle.std.specs.Prelude.{Bool, true, false, cond, ◌-◌, ◌==◌, ◌∷◌, get_or}
 use Rattle.std.proofs.lemmas.List.{append-nil, drop_all, length-take-le, take-append-drop}
 use Rattle.capnp_device.specs.declared.error.ErrorKind.TheVariants.{TextNotTerminated, WrongElementSize}
-use Rattle.capnp_wire.specs.Filling.{bytes_with}
+use Rattle.capnp_wire.specs.Steps.Filling.{bytes_with}
 use Rattle.capnp_wire.specs.Place.{bytes_at}
 use Rattle.capnp_wire.specs.Reading.{as_data, as_text, terminated_text}
 use Rattle.capnp_wire.specs.Tree as tree

@@ -10,10 +10,10 @@ use Rattle.capnp_wire.specs.Place.{bytes_at, list_tree}
 use Rattle.capnp_wire.specs.Tree.{Structs, Tree, Trees, struct_count, structs_from, tree_count, trees_from}
 use Rattle.capnp_wire.specs.WellFormed.{AreBytes}
 use Rattle.capnp_wire.specs.Words.{byte_words, words_of, words_of_all}
-use Rattle.capnp_arena.specs.Copies.{ArePointerless}
-use Rattle.capnp_arena.specs.Encoded.{pointer_to}
+use Rattle.capnp_arena.specs.Steps.Copies.{ArePointerless}
+use Rattle.capnp_arena.specs.Steps.Encoded.{pointer_to}
 use Rattle.capnp_arena.specs.Forest.{Forest, struct_from, tree}
-use Rattle.capnp_arena.specs.InOrder.{AreLaid, IsLaid, IsRowLaid}
+use Rattle.capnp_arena.specs.Steps.InOrder.{AreLaid, IsLaid, IsRowLaid}
 use Rattle.capnp_arena.specs.Shape.{CompositeIn, IsWordAt, ListIn, NoShape, Points, Shape, StructIn, shape_at, word_count}
 use Rattle.capnp_arena.proofs.Encodings.{bytes_composite, bytes_null, bytes_plain, bytes_pointers, bytes_struct, bytes_zero, pointer_is, row_held, tree_held}
 use Rattle.capnp_arena.proofs.PlainRows.{joined, plain_row}

@@ -2,7 +2,7 @@
 use Rattle.std.proofs.Common.{◌≡◌, ℕ, ◌+◌, ◌-◌, ◌*◌, ◌≤◌, sym, ap, subst, ◌∙◌, arith, List, ◌++◌, length, take, drop}
 use Rattle.std.proofs.lemmas.List.{append_assoc, drop-drop, drop-take, length-append, length-drop, length-take-le, take-append-drop, with_items_is}
 use Rattle.capnp_wire.specs.Facts.Filling.{length_put}
-use Rattle.capnp_wire.specs.Filling.{bytes_with}
+use Rattle.capnp_wire.specs.Steps.Filling.{bytes_with}
 use Rattle.capnp_wire.specs.Locate.{list_words}
 use Rattle.capnp_wire.specs.Place.{bytes_at}
 use Rattle.capnp_wire.specs.Tree.{Numbers}

@@ -3,7 +3,7 @@ use Rattle.std.proofs.Common.{◌≡◌, ℕ, ◌+◌, ◌-◌, refl, sym, ap, �
 use Rattle.capnp_device.specs.declared.error.Error.{Error}
 use Rattle.capnp_device.specs.declared.error.ErrorKind.{ErrorKind}
 use Rattle.capnp_wire.specs.ElementSizes.{element_size_of}
-use Rattle.capnp_wire.specs.Level.{tree_at_depth}
+use Rattle.capnp_wire.specs.Steps.Level.{tree_at_depth}
 use Rattle.capnp_wire.specs.Locate.{CompositeAt, ListAt}
 use Rattle.capnp_wire.specs.Place.{tree_below}
 use Rattle.capnp_wire.specs.Reading.{as_list, empty_list}
@@ -19,7 +19,8 @@ use Rattle.capnp_arena.specs.Facts.Words.{target}
 use Rattle.capnp_arena.specs.Forest.{Forest, tree}
 use Rattle.capnp_arena.specs.Listed.{list_shape, listed_tree}
 use Rattle.capnp_arena.specs.Made.{size_number}
-use Rattle.capnp_arena.specs.Shape.{Shape, shape_target, shape_at}
+use Rattle.capnp_arena.specs.Shape.{Shape, shape_at}
+use Rattle.capnp_arena.specs.Steps.Shape.{shape_target}
 use Rattle.capnp_arena.specs.declared.list_reads.ListTarget.{ListTarget}
 use Rattle.capnp_arena.specs.declared.list_reads.ListTarget.TheVariants as list
 use Rattle.capnp_arena.proofs.ListsRead.{plain_size_is, size_is_simple}

@@ -12,7 +12,7 @@ use Rattle.capnp_wire.specs.declared.size.ElementSize.{ElementSize}
 use Rattle.capnp_wire.specs.declared.size.ElementSize.TheVariants.{Void, Bit, Byte, TwoBytes, FourBytes, EightBytes, Pointer, InlineComposite}
 use Rattle.capnp_arena.specs.Forest.{Forest, struct_from, tree}
 use Rattle.capnp_arena.specs.Made.{size_number}
-use Rattle.capnp_arena.specs.Reads.{reads_kind}
+use Rattle.capnp_arena.specs.Steps.Reads.{reads_kind}
 use Rattle.capnp_arena.specs.Shape.{CompositeIn, ListIn, Points, shape_at, word_count}
 use Rattle.capnp_arena.proofs.Counted.{ends_at}
 use Rattle.capnp_arena.specs.Facts.Forests.{points}

@@ -5,7 +5,7 @@ use Rattle.capnp_wire.specs.Facts.Bytes.{little_endian_spelled}
 use Rattle.capnp_wire.specs.Locate.{count, data_words, element_size_number, pointer_kind, offset, pointer_count}
 use Rattle.capnp_wire.specs.Slot.{little_endian, number_at}
 use Rattle.capnp_wire.specs.Facts.PointerWords.{not_equal}
-use Rattle.capnp_arena.specs.Looked.{looked_shape}
+use Rattle.capnp_arena.specs.Steps.Looked.{looked_shape}
 use Rattle.capnp_arena.specs.Shape.{CompositeIn, IsWordAt, ListIn, NoShape, Points, Shape, StructIn}
 
 -- a word that stands there

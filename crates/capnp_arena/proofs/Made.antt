@@ -9,7 +9,7 @@ use Rattle.capnp_wire.specs.Locate.{list_words}
 use Rattle.capnp_wire.specs.Place.{bytes_at, list_tree}
 use Rattle.capnp_wire.specs.Tree.{Composite, Null, Struct, structs_from, trees_from}
 use Rattle.capnp_wire.specs.Facts.Filling.{length_put}
-use Rattle.capnp_arena.specs.Made.{IsObjectMade, struct_pointer, struct_start}
+use Rattle.capnp_arena.specs.Steps.Made.{IsObjectMade, struct_pointer, struct_start}
 use Rattle.capnp_arena.specs.Shape.{NoShape, CompositeIn, ListIn, IsPointerOf, IsWordWithin, IsWordAt, Points, StructIn, shape_at, word_count}
 use Rattle.capnp_arena.specs.Forest.{Changes, Forest, IsSame, struct_from, tree}
 use Rattle.capnp_arena.specs.Facts.Calls.{new_changes, new_forest, new_null, null_tree}

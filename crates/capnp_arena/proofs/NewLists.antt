@@ -5,7 +5,7 @@ use Rattle.std.proofs.lemmas.List.{append-nil, length-append, length-replicate, 
 use Rattle.capnp_wire.specs.Edits.{nulls, zero_list, zero_structs}
 use Rattle.capnp_wire.specs.Encoding.{list_word, spelled_number, struct_word}
 use Rattle.capnp_wire.specs.Facts.Bytes.{length_spelled}
-use Rattle.capnp_wire.specs.Filling.{bytes_with}
+use Rattle.capnp_wire.specs.Steps.Filling.{bytes_with}
 use Rattle.capnp_wire.specs.Locate.{list_words}
 use Rattle.capnp_wire.specs.Place.{bits_from, bytes_at, list_tree}
 use Rattle.capnp_wire.specs.Tree.{Bits, Null, Numbers, Pointers, Tree, Voids}
@@ -13,7 +13,8 @@ use Rattle.capnp_wire.specs.declared.size.ElementSize.{ElementSize}
 use Rattle.capnp_wire.specs.declared.size.ElementSize.TheVariants.{Void, Bit, Byte, TwoBytes, FourBytes, EightBytes, Pointer, InlineComposite}
 use Rattle.capnp_wire.specs.declared.size.StructSize.{StructSize}
 use Rattle.capnp_wire.specs.Facts.NewTrees.{no_bits}
-use Rattle.capnp_arena.specs.Made.{IsObjectMade, filled_up, size_number}
+use Rattle.capnp_arena.specs.Made.{size_number}
+use Rattle.capnp_arena.specs.Steps.Made.{IsObjectMade, filled_up}
 use Rattle.capnp_arena.specs.Shape.{CompositeIn, ListIn, Shape, shape_at, word_count}
 use Rattle.capnp_arena.specs.Forest.{Changes, Forest, tree}
 use Rattle.capnp_arena.proofs.Made.{composite_changes, composite_forest, composite_is, composite_shape, list_changes, list_forest, list_is, list_null, list_shape, made_added}

@@ -9,9 +9,9 @@ use Rattle.capnp_wire.specs.Place.{bytes_at}
 use Rattle.capnp_wire.specs.Tree.{Tree}
 use Rattle.capnp_wire.specs.WellFormed.{IsWellFormed}
 use Rattle.capnp_wire.specs.Words.{first_fault, words_of}
-use Rattle.capnp_wire.specs.Filling.{bytes_with}
-use Rattle.capnp_arena.specs.Copies.{Spares}
-use Rattle.capnp_arena.specs.Made.{IsObjectMade}
+use Rattle.capnp_wire.specs.Steps.Filling.{bytes_with}
+use Rattle.capnp_arena.specs.Steps.Copies.{Spares}
+use Rattle.capnp_arena.specs.Steps.Made.{IsObjectMade}
 use Rattle.capnp_arena.specs.Shape.{IsWordAt, word_count}
 use Rattle.capnp_arena.specs.Forest.{Changes, Forest, tree}
 use Rattle.capnp_arena.proofs.EncodedForests.{IsTreeIn, tree_stands}

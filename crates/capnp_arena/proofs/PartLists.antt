@@ -16,9 +16,9 @@ use Rattle.capnp_wire.specs.Tree.{Composite, MoreTrees, NoTrees, StructTree, Tre
 use Rattle.capnp_wire.specs.Words.{first_fault, first_fault_of_all, first_fault_of_elements, first_of, words_below_all, words_of, words_of_all}
 use Rattle.capnp_wire.specs.declared.fault.Fault.{Fault}
 use Rattle.capnp_wire.specs.declared.size.StructSize.{StructSize}
-use Rattle.capnp_arena.specs.Counts.{AreForests}
+use Rattle.capnp_arena.specs.Steps.Counts.{AreForests}
 use Rattle.capnp_arena.specs.Forest.{Forest, struct_from, tree}
-use Rattle.capnp_arena.specs.Grown.{IsPartList, kind_pointers, kind_words, no_parts, number_parts, grown_part_at, pointerless_parts, pointer_parts, struct_parts}
+use Rattle.capnp_arena.specs.Steps.Grown.{IsPartList, kind_pointers, kind_words, no_parts, number_parts, grown_part_at, pointerless_parts, pointer_parts, struct_parts}
 use Rattle.capnp_arena.specs.Shape.{CompositeIn, ListIn, shape_at, word_count}
 use Rattle.capnp_arena.specs.declared.grown.PartRow.{PartRow}
 use Rattle.capnp_arena.proofs.Counted.{element_rows, ends_at, list_row, words_composite, words_pointers}

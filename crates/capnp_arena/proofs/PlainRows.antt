@@ -5,7 +5,7 @@ use Rattle.std.proofs.lemmas.List.{append-nil, append_assoc, drop-drop}
 use Rattle.capnp_wire.specs.Encoding.{bytes_of, element_row, spelled_number, struct_word}
 use Rattle.capnp_wire.specs.Place.{bytes_at, struct_at}
 use Rattle.capnp_wire.specs.Tree.{Composite, Structs, Tree, struct_count, structs_from}
-use Rattle.capnp_arena.specs.Copies.{ArePointerless}
+use Rattle.capnp_arena.specs.Steps.Copies.{ArePointerless}
 
 -- two parts, one after the other
 pub joined : (x : List ℕ) (a d n : ℕ) → bytes_at x a (8 * d) ++ bytes_at x (a + d) n ≡ bytes_at x a (8 * d + n)

@@ -2,7 +2,7 @@
 use Rattle.std.proofs.Common.{refl, ◌≡◌, ℕ, suc, ◌+◌, ◌-◌, ◌*◌, ◌≤◌, sym, ap, ◌∙◌, arith, List, ◌++◌, length, take, drop, replicate}
 use Rattle.std.proofs.lemmas.List.{append_assoc, take_at, drop_at, drop-drop, drop-take, take-take, take-append-le, drop-append-le, length-append, length-drop, length-take-le, drop-replicate, take-replicate}
 use Rattle.capnp_wire.specs.Place.{bytes_at}
-use Rattle.capnp_wire.specs.Filling.{bytes_with}
+use Rattle.capnp_wire.specs.Steps.Filling.{bytes_with}
 use Rattle.capnp_wire.specs.Facts.Filling.{put_after}
 use Rattle.capnp_arena.specs.Forest.{IsSame}
 

@@ -10,7 +10,8 @@ use Rattle.capnp_wire.specs.Place.{list_tree, struct_tree, tree_with_level}
 use Rattle.capnp_wire.specs.Tree.{MoreTrees, NoTrees, Null, Tree, Trees, empty_struct, tree_count}
 use Rattle.capnp_wire.specs.declared.size.StructSize.{StructSize}
 use Rattle.capnp_arena.specs.Forest.{Forest, struct_from, tree}
-use Rattle.capnp_arena.specs.Shape.{CompositeIn, ListIn, NoShape, StructIn, end_of, shape_target, shape_at, word_count}
+use Rattle.capnp_arena.specs.Shape.{CompositeIn, ListIn, NoShape, StructIn, end_of, shape_at, word_count}
+use Rattle.capnp_arena.specs.Steps.Shape.{shape_target}
 use Rattle.capnp_arena.proofs.Counted.{ends_at}
 use Rattle.capnp_arena.proofs.Extensions.{larger_extended}
 use Rattle.capnp_arena.specs.Facts.Forests.{tree_step}

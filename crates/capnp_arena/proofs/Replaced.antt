@@ -10,13 +10,13 @@ use Rattle.capnp_wire.specs.Facts.Filling.{length_put, put_next}
 use Rattle.capnp_wire.specs.Facts.Indexed.{nth_tree-from}
 use Rattle.capnp_wire.specs.Facts.Rows.{AreWellFormed-append_trees, AreWellFormed-first_trees, AreWellFormed-nulls, tree_count-append_trees, tree_count-first_trees, tree_count-nulls}
 use Rattle.capnp_wire.specs.Facts.Stands.{Stands, stands_at, stands_first, stands_right}
-use Rattle.capnp_wire.specs.Filling.{bytes_with, row_end, with_encoded_element, words_from}
+use Rattle.capnp_wire.specs.Steps.Filling.{bytes_with, row_end, with_encoded_element, words_from}
 use Rattle.capnp_wire.specs.Place.{bytes_at}
 use Rattle.capnp_wire.specs.Tree.{MoreTrees, NoTrees, Null, StructTree, Tree, Trees, nth_tree, tree_count, trees_from}
 use Rattle.capnp_wire.specs.WellFormed.{AreWellFormed}
 use Rattle.capnp_wire.specs.Words.{first_fault, first_fault_of_all, first_of, words_of_all}
 use Rattle.capnp_wire.specs.declared.fault.Fault.{Fault}
-use Rattle.capnp_arena.specs.Copies.{Spares, fitted_row}
+use Rattle.capnp_arena.specs.Steps.Copies.{Spares, fitted_row}
 use Rattle.capnp_arena.specs.Forest.{PartChanges, Planted, struct_from, tree}
 use Rattle.capnp_arena.specs.Shape.{StructIn, word_count}
 use Rattle.capnp_arena.proofs.Copying.{first_none, first_refused, spares_append, spares_put, spares_then, trees_after, trees_after-end}

@@ -1,17 +1,18 @@
 -- A tree that is shallow enough is read whole, and of another one the first levels.
 use Rattle.std.proofs.Common.{◌≡◌, ℕ, zero, suc, ◌+◌, ◌-◌, ◌*◌, ◌<◌, ◌≤◌, ◌⊎◌, inl, inr, refl, sym, ap, subst, ◌∙◌, arith, List, [], ◌∷◌}
 use Rattle.capnp_wire.specs.Depth.{AreBelow, ElementsAreBelow, IsBelow}
-use Rattle.capnp_wire.specs.Level.{tree_at_depth}
+use Rattle.capnp_wire.specs.Steps.Level.{tree_at_depth}
 use Rattle.capnp_wire.specs.Place.{list_tree, struct_at, struct_tree, tree_below, tree_with_level}
 use Rattle.capnp_wire.specs.Tree.{Composite, Null, Pointers, StructTree, Tree, empty_struct, nth_struct, nth_tree, structs_from, trees_from}
 use Rattle.capnp_wire.specs.Facts.Indexed.{nth_struct-past, nth_struct-start, nth_tree-from, nth_tree-past, tree_count-from}
 use Rattle.capnp_wire.specs.Facts.Rows.{struct_count-structs_from}
 use Rattle.capnp_wire.specs.Facts.Levels.{below_step}
 use Rattle.capnp_wire.specs.Facts.PointerWords.{not_below, not_equal}
-use Rattle.capnp_arena.specs.Encoded.{HasSize}
+use Rattle.capnp_arena.specs.Steps.Encoded.{HasSize}
 use Rattle.capnp_arena.specs.Forest.{Forest, Grown, Planted, struct_from, tree}
 use Rattle.capnp_arena.specs.Same.{IsCutOf, IsStructCutOf, SameElements, SameParts, SameRow, SameTo}
-use Rattle.capnp_arena.specs.Shape.{CompositeIn, IsPointerOf, ListIn, NoShape, Points, Shape, StructIn, shape_target, shape_at}
+use Rattle.capnp_arena.specs.Shape.{CompositeIn, IsPointerOf, ListIn, NoShape, Points, Shape, StructIn, shape_at}
+use Rattle.capnp_arena.specs.Steps.Shape.{shape_target}
 use Rattle.capnp_arena.proofs.Encodings.{has_size}
 use Rattle.capnp_arena.specs.Facts.Forests.{tree_step}
 use Rattle.capnp_arena.specs.Facts.Levels.{struct_same, structs_same, trees_same}

@@ -13,7 +13,7 @@ use Rattle.capnp_wire.specs.StructLists.{HoldsStructs, as_structs, grown_size, p
 use Rattle.capnp_wire.specs.Tree.{Composite, MoreTrees, NoTrees, StructTree, Tree, Trees, structs_from, tree_count}
 use Rattle.capnp_wire.specs.declared.size.StructSize.{StructSize}
 use Rattle.capnp_arena.specs.Forest.{Forest, struct_from, tree}
-use Rattle.capnp_arena.specs.Grown.{kind_pointers, kind_words, pointerless_parts}
+use Rattle.capnp_arena.specs.Steps.Grown.{kind_pointers, kind_words, pointerless_parts}
 use Rattle.capnp_arena.specs.Shape.{CompositeIn, ListIn, NoShape, Points, StructIn, shape_at, word_count}
 use Rattle.capnp_arena.proofs.Counted.{ends_at}
 use Rattle.capnp_arena.specs.Facts.Forests.{points}

@@ -13,8 +13,8 @@ use Rattle.capnp_wire.specs.WellFormed.{IsWellFormed}
 use Rattle.capnp_wire.specs.Words.{first_fault, words_of}
 use Rattle.capnp_wire.specs.declared.size.StructSize.{StructSize}
 use Rattle.capnp_arena.specs.Forest.{Changes, Forest, tree}
-use Rattle.capnp_arena.specs.Grown.{IsPartList}
-use Rattle.capnp_arena.specs.Made.{IsObjectMade, filled_up}
+use Rattle.capnp_arena.specs.Steps.Grown.{IsPartList}
+use Rattle.capnp_arena.specs.Steps.Made.{IsObjectMade, filled_up}
 use Rattle.capnp_arena.specs.Shape.{CompositeIn, IsWordAt, Points, shape_at, word_count}
 use Rattle.capnp_arena.specs.declared.grown.PartRow.{PartRow}
 use Rattle.capnp_arena.proofs.Extensions.{filled_whole}

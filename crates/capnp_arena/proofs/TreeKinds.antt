@@ -5,8 +5,9 @@ use Rattle.capnp_wire.specs.Place.{list_tree, tree_with_level}
 use Rattle.capnp_wire.specs.Reading.{is_list, is_null_tree}
 use Rattle.capnp_wire.specs.Tree.{Tree}
 use Rattle.capnp_arena.specs.Forest.{Forest, tree}
-use Rattle.capnp_arena.specs.Reads.{is_list_shape, is_no_shape, is_struct_shape}
-use Rattle.capnp_arena.specs.Shape.{CompositeIn, ListIn, NoShape, Shape, StructIn, shape_target, shape_at}
+use Rattle.capnp_arena.specs.Steps.Reads.{is_list_shape, is_no_shape, is_struct_shape}
+use Rattle.capnp_arena.specs.Shape.{CompositeIn, ListIn, NoShape, Shape, StructIn, shape_at}
+use Rattle.capnp_arena.specs.Steps.Shape.{shape_target}
 use Rattle.capnp_arena.specs.Facts.Forests.{tree_step}
 
 -- ---- a list that is not composite, whatever its elements are ----

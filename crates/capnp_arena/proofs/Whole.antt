@@ -4,9 +4,10 @@ use Rattle.capnp_wire.specs.Place.{list_tree, tree_with_level}
 use Rattle.capnp_wire.specs.Tree.{StructTree, Tree, structs_from, trees_from}
 use Rattle.capnp_wire.specs.Words.{first_fault, first_fault_of_all, first_fault_of_elements, first_of}
 use Rattle.capnp_wire.specs.declared.fault.Fault.{Fault}
-use Rattle.capnp_arena.specs.Encoded.{HasSize}
+use Rattle.capnp_arena.specs.Steps.Encoded.{HasSize}
 use Rattle.capnp_arena.specs.Forest.{Forest, Grown, Planted, struct_from, tree}
-use Rattle.capnp_arena.specs.Shape.{CompositeIn, IsPointerOf, ListIn, NoShape, Shape, StructIn, shape_target, shape_at}
+use Rattle.capnp_arena.specs.Shape.{CompositeIn, IsPointerOf, ListIn, NoShape, Shape, StructIn, shape_at}
+use Rattle.capnp_arena.specs.Steps.Shape.{shape_target}
 use Rattle.capnp_arena.proofs.Encodings.{has_size}
 use Rattle.capnp_arena.specs.Facts.Forests.{tree_step}
 

@@ -3,7 +3,7 @@ use Rattle.std.proofs.Common.{◌≡◌, ℕ, suc, ◌+◌, ◌*◌, ◌<◌, �
 use Rattle.std.proofs.lemmas.List.{length-drop, length-take-le}
 use Rattle.capnp_wire.specs.Edits.{with_bytes, with_number}
 use Rattle.capnp_wire.specs.Facts.Bytes.{length-with_number}
-use Rattle.capnp_wire.specs.Filling.{bytes_with}
+use Rattle.capnp_wire.specs.Steps.Filling.{bytes_with}
 use Rattle.capnp_wire.specs.Place.{bytes_at}
 use Rattle.capnp_arena.specs.Shape.{IsPointerOf, IsTagOf, IsWordWithin, StructIn, word_count}
 use Rattle.capnp_arena.specs.Forest.{IsSame, PartChanges, Planted, struct_from}

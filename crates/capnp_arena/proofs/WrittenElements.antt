@@ -4,7 +4,7 @@ use Rattle.capnp_wire.specs.Edits.{with_bit, with_bytes, with_number}
 use Rattle.capnp_wire.specs.Elements.{HasBit, HasNumber, HasStruct, with_bit_element, with_number_element, with_struct, with_struct_element}
 use Rattle.capnp_wire.specs.Facts.Bytes.{length-part-le, length-with_bit, length-with_number}
 use Rattle.capnp_wire.specs.Facts.Indexed.{length-bits_from}
-use Rattle.capnp_wire.specs.Filling.{bytes_with}
+use Rattle.capnp_wire.specs.Steps.Filling.{bytes_with}
 use Rattle.capnp_wire.specs.Locate.{list_words}
 use Rattle.capnp_wire.specs.Place.{bits_from, bytes_at, list_tree}
 use Rattle.capnp_wire.specs.Reading.{element_struct}
@@ -17,7 +17,7 @@ use Rattle.capnp_arena.specs.Facts.Forests.{points}
 use Rattle.capnp_arena.specs.Facts.Structs.{tree_composite, tree_list, tree_struct}
 use Rattle.capnp_arena.specs.Forest.{Forest, Planted, struct_from, tree}
 use Rattle.capnp_arena.specs.Leaves.{Leaves}
-use Rattle.capnp_arena.specs.Looked.{shape_found}
+use Rattle.capnp_arena.specs.Steps.Looked.{shape_found}
 use Rattle.capnp_arena.specs.Made.{size_number, width_of}
 use Rattle.capnp_arena.specs.declared.look.Target.{Target}
 use Rattle.capnp_arena.specs.declared.look.Target.TheVariants as target

@@ -4,7 +4,7 @@ use Rattle.std.proofs.lemmas.Nat.{mul-le}
 use Rattle.capnp_wire.specs.Edits.{with_bit, with_number}
 use Rattle.capnp_wire.specs.Elements.{with_number_element}
 use Rattle.capnp_wire.specs.Facts.Bytes.{length-with_bit, length-with_number}
-use Rattle.capnp_wire.specs.Filling.{bytes_with}
+use Rattle.capnp_wire.specs.Steps.Filling.{bytes_with}
 use Rattle.capnp_wire.specs.Locate.{list_words}
 use Rattle.capnp_wire.specs.Place.{bytes_at, list_tree}
 use Rattle.capnp_wire.specs.Tree.{Numbers}

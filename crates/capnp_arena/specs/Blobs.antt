@@ -1,6 +1,5 @@
 -- Bytes of texts and data by where they stand, and what a message ends as that lends them.
 use Rattle.std.specs.Prelude.{ℕ, ◌≡◌, ◌≤◌, ◌⊎◌, ◌++◌, List, drop, length, Result, Ok, Err}
-use Rattle.std.specs.Borrow.{Fml, MutBor, RestsIfErr}
 use Rattle.capnp_device.specs.declared.error.Error.{Error}
 use Rattle.capnp_device.specs.declared.error.ErrorKind.{ErrorKind}
 use Rattle.capnp_wire.specs.Place.{bytes_at}
@@ -8,15 +7,7 @@ use Rattle.capnp_wire.specs.Tree.{Tree, Null, Struct, Voids, Bits, Numbers, Poin
 use Rattle.capnp_arena.specs.Forest.{Forest}
 use Rattle.capnp_arena.specs.Segment.{segment}
 use Rattle.capnp_arena.specs.Shape.{ListIn, NoShape, shape_at}
-use Rattle.capnp_arena.specs.declared.arena.Arena.{Arena}
-use Rattle.capnp_arena.specs.contracts.arena.Arena.{the_row as arena_row}
 use Rattle.capnp_arena.specs.declared.blob_builder.BlobBuilder.{BlobBuilder}
-use Rattle.capnp_arena.specs.declared.blob_builder.Bytes.{Bytes}
-
--- what was found, or refused
-abbrev pub bytes_found : List ℕ → Result Bytes Error → Result (List ℕ) ErrorKind
-bytes_found words (Ok b) = Ok (bytes_at words b.start b.count)
-bytes_found words (Err error) = Err error.kind
 
 -- so many bytes from a word on are the first of the list of bytes that the pointer at a word leads to; of a null, none
 abbrev pub IsFront : List ℕ → ℕ → ℕ → ℕ → Type 0
@@ -36,9 +27,6 @@ blob_bytes b = bytes_at (segment b.arena.now) b.start b.count
 abbrev pub bytes_built : Result BlobBuilder Error → Result (List ℕ) ErrorKind
 bytes_built (Ok b) = Ok (blob_bytes b)
 bytes_built (Err error) = Err error.kind
-
-abbrev pub BlobRests : {E : Type 0} → MutBor Arena → Result BlobBuilder E → Fml
-BlobRests arena r = RestsIfErr arena_row arena (λ b. b.arena.ghost_name) r (λ n. segment n ≡ segment arena.now)
 
 -- a list of bytes with others in place of its first
 abbrev pub with_front : List ℕ → Tree → Tree

@@ -1,9 +1,7 @@
 -- How a part of a message's bytes is lent: the message ends with these as they were left.
 use Rattle.std.proofs.Common.{ℕ, List, ◌*◌, ◌/◌, ◌<◌, ◌≤◌, ◌^◌, ◌≡◌, ◌∙◌, length, subst, sym}
-use Rattle.std.specs.Borrow.{Array, Fml, Lends, MutBor, u8}
 use Rattle.std.specs.Vec.{with_items_from}
 use Rattle.capnp_arena.specs.declared.arena.Arena.{Arena}
-use Rattle.capnp_arena.specs.contracts.arena.Arena.{the_row as arena_row}
 
 -- others written over them take as many
 abbrev pub as_long : (a : Arena) (start : ℕ) (left : List ℕ) → length a.bytes.items ≡ length (with_items_from a.bytes (8 * start) left).items
@@ -19,6 +17,3 @@ with_struct_part a start left = record {
   low = a.low;
   some = a.some;
 }
-
-abbrev pub LendsPart : MutBor Arena → ℕ → MutBor (List ℕ) → Fml
-LendsPart a start r = Lends arena_row (Array u8 0) a r (with_struct_part a.now start)

@@ -19,13 +19,6 @@ shape_of (StructAt segment start d p) = StructIn start d p
 shape_of (ListAt segment start size count) = ListIn start size count
 shape_of (CompositeAt segment start count d p) = CompositeIn (start - 1) count d p
 
--- the target of a shape in the segment with these bytes
-abbrev pub shape_target : List ℕ → Shape → Target
-shape_target bytes NoShape = NoTarget
-shape_target bytes (StructIn start d p) = StructAt bytes start d p
-shape_target bytes (ListIn start size count) = ListAt bytes start size count
-shape_target bytes (CompositeIn tag count d p) = CompositeAt bytes (tag + 1) count d p
-
 -- what the pointer at a word leads to, where these bytes are the one segment
 unfoldable pub shape_at : List ℕ → ℕ → Shape
 shape_at bytes w = shape_of (target_at (bytes ∷ []) bytes w)

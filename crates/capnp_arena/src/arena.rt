@@ -4,7 +4,8 @@
 //! is made at the end, so that each target lies after its pointer. What no pointer leads to any more stays where it
 //! was.
 ghost use Rattle.std.specs.Prelude.{◌*◌, ◌/◌, ◌^◌, ◌<◌, ◌≡◌, ◌≤◌, length};
-ghost use Rattle.capnp_arena.specs.Made.{size_number, struct_pointer, struct_start};
+ghost use Rattle.capnp_arena.specs.Made.{size_number};
+ghost use Rattle.capnp_arena.specs.Steps.Made.{struct_pointer, struct_start};
 ghost use Rattle.capnp_wire.specs.Locate.{list_words};
 
 use crate::spell::{
@@ -111,7 +112,7 @@ impl Arena {
     ghost use Rattle.capnp_wire.specs.Place.{struct_tree};
     ghost use Rattle.capnp_wire.specs.Tree.{Null, Numbers};
     ghost use Rattle.capnp_device.specs.declared.error.ErrorKind.TheVariants.{OutOfMemory};
-    ghost use Rattle.capnp_arena.specs.Made.{IsObjectMade, filled_up};
+    ghost use Rattle.capnp_arena.specs.Steps.Made.{IsObjectMade, filled_up};
     ghost use Rattle.capnp_arena.specs.Segment.{segment};
     ghost use Rattle.capnp_arena.specs.Shape.{CompositeIn, ListIn, StructIn, shape_at, word_count};
     ghost use Rattle.capnp_arena.specs.Forest.{Changes, Forest, PartChanges, Planted, struct_from, tree};

@@ -36,9 +36,11 @@ impl Arena {
     ghost use Rattle.std.specs.Borrow.{sem};
     ghost use Rattle.capnp_wire.specs.Place.{bytes_at};
     ghost use Rattle.capnp_wire.specs.Reading.{as_data, as_text};
-    ghost use Rattle.capnp_arena.specs.Blobs.{IsFront, bytes_found, with_front};
+    ghost use Rattle.capnp_arena.specs.Blobs.{IsFront, with_front};
+    ghost use Rattle.capnp_arena.specs.Steps.Blobs.{bytes_found};
     ghost use Rattle.capnp_arena.specs.Forest.{Changes, Forest, tree};
-    ghost use Rattle.capnp_arena.specs.Parts.{LendsPart, with_struct_part};
+    ghost use Rattle.capnp_arena.specs.Parts.{with_struct_part};
+    ghost use Rattle.capnp_arena.specs.Steps.Parts.{LendsPart};
     ghost use Rattle.capnp_arena.specs.Segment.{segment};
 
     /// So many bytes from a word on, as they stand. The message ends with what is left in them.
@@ -156,7 +158,8 @@ impl<'a> BlobBuilder<'a> {
     ghost use Rattle.capnp_arena.specs.Blobs.{IsBlob, blob_bytes, with_front};
     ghost use Rattle.capnp_arena.specs.Forest.{tree};
     ghost use Rattle.capnp_arena.specs.Leaves.{Leaves};
-    ghost use Rattle.capnp_arena.specs.Parts.{LendsPart, with_struct_part};
+    ghost use Rattle.capnp_arena.specs.Parts.{with_struct_part};
+    ghost use Rattle.capnp_arena.specs.Steps.Parts.{LendsPart};
     ghost use Rattle.capnp_arena.specs.Segment.{segment};
 
     /// How many bytes there are.
@@ -193,10 +196,12 @@ impl<'a> PointerBuilder<'a> {
     ghost use Rattle.capnp_wire.specs.Place.{bytes_at};
     ghost use Rattle.capnp_wire.specs.Tree.{Numbers};
     ghost use Rattle.capnp_arena.specs.Leaves.{Leaves};
-    ghost use Rattle.capnp_arena.specs.Parts.{LendsPart, with_struct_part};
+    ghost use Rattle.capnp_arena.specs.Parts.{with_struct_part};
+    ghost use Rattle.capnp_arena.specs.Steps.Parts.{LendsPart};
     ghost use Rattle.capnp_wire.specs.Edits.{IsRoomRefusal};
     ghost use Rattle.capnp_wire.specs.Reading.{as_data, as_text};
-    ghost use Rattle.capnp_arena.specs.Blobs.{BlobRests, IsBlob, blob_bytes, bytes_built};
+    ghost use Rattle.capnp_arena.specs.Blobs.{IsBlob, blob_bytes, bytes_built};
+    ghost use Rattle.capnp_arena.specs.Steps.Blobs.{BlobRests};
     ghost use Rattle.capnp_arena.specs.Forest.{Changes, tree};
     ghost use Rattle.capnp_arena.specs.Handles.{IsBuiltPointer, built_pointer_tree};
     ghost use Rattle.capnp_arena.specs.Segment.{segment};

@@ -1,12 +1,12 @@
 //! What a struct of the segment holds, replaced by what another one does: the struct keeps its place and its size.
 ghost use Rattle.std.specs.Prelude.{IfErr, None, OnErr, OnOk, replicate, take, ◌*◌, ◌++◌, ◌+◌, ◌-◌, ◌/◌, ◌≡◌, ◌≤◌, length};
 ghost use Rattle.capnp_wire.specs.Edits.{IsCopyRefusal, fitted_struct};
-ghost use Rattle.capnp_wire.specs.Filling.{bytes_with, with_encoded_element, with_pointers};
+ghost use Rattle.capnp_wire.specs.Steps.Filling.{bytes_with, with_encoded_element, with_pointers};
 ghost use Rattle.capnp_wire.specs.Found.{parts_tree, pointer_trees};
 ghost use Rattle.capnp_wire.specs.Standing.{struct_of};
 ghost use Rattle.capnp_wire.specs.WellFormed.{AreWellFormed, IsWellFormedStruct};
 ghost use Rattle.capnp_wire.specs.Words.{first_fault_of_all};
-ghost use Rattle.capnp_arena.specs.Copies.{Spares, fitted_row};
+ghost use Rattle.capnp_arena.specs.Steps.Copies.{Spares, fitted_row};
 ghost use Rattle.capnp_arena.specs.Forest.{PartChanges, Planted, struct_from};
 ghost use Rattle.capnp_arena.specs.Segment.{segment};
 ghost use Rattle.capnp_arena.specs.Shape.{StructIn, word_count};

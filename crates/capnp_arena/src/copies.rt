@@ -33,7 +33,7 @@ impl Arena {
     ghost use Rattle.capnp_wire.specs.WellFormed.{IsWellFormed, IsWellFormedStruct};
     ghost use Rattle.capnp_wire.specs.Words.{first_fault, first_fault_of_all};
     ghost use Rattle.capnp_arena.specs.Forest.{Changes, Forest, tree};
-    ghost use Rattle.capnp_arena.specs.Made.{IsObjectMade};
+    ghost use Rattle.capnp_arena.specs.Steps.Made.{IsObjectMade};
     ghost use Rattle.capnp_arena.specs.Segment.{segment};
     ghost use Rattle.capnp_arena.specs.Shape.{word_count};
 

@@ -4,13 +4,13 @@
 ghost use Rattle.std.specs.Prelude.{IfErr, IfOk, IsSome, IsTrue, None, OnOk, suc, ◌*◌, ◌++◌, ◌+◌, ◌-◌, ◌/◌, ◌<◌, ◌^◌, ◌≡◌, ◌≤◌, length};
 ghost use Rattle.capnp_wire.specs.Edits.{IsCopyRefusal, rounded_struct};
 ghost use Rattle.capnp_wire.specs.Encoding.{bytes_of, bytes_of_all, list_word, number_size, pointer_row, pointer_word, spelled_number};
-ghost use Rattle.capnp_wire.specs.Filling.{bytes_with, with_encoded_element, with_encoded_elements, with_pointers};
+ghost use Rattle.capnp_wire.specs.Steps.Filling.{bytes_with, with_encoded_element, with_encoded_elements, with_pointers};
 ghost use Rattle.capnp_wire.specs.Found.{element_structs, found_tree, parts_tree, pointer_tree, pointer_trees};
 ghost use Rattle.capnp_wire.specs.Place.{struct_tree};
 ghost use Rattle.capnp_wire.specs.Tree.{Composite, struct_count, tree_count};
 ghost use Rattle.capnp_wire.specs.WellFormed.{AreElements, AreWellFormed, IsWellFormed, IsWellFormedStruct, is_width};
 ghost use Rattle.capnp_wire.specs.Words.{first_fault, first_fault_of_all, first_fault_of_elements};
-ghost use Rattle.capnp_arena.specs.Copies.{ArePointerlessIn, Spares};
+ghost use Rattle.capnp_arena.specs.Steps.Copies.{ArePointerlessIn, Spares};
 ghost use Rattle.capnp_arena.specs.Segment.{segment};
 ghost use Rattle.capnp_arena.specs.Shape.{word_count};
 

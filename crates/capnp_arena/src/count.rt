@@ -4,7 +4,7 @@ ghost use Rattle.capnp_wire.specs.Depth.{AreBelow, ElementsAreBelow, IsBelow, me
 ghost use Rattle.capnp_wire.specs.Locate.{list_words};
 ghost use Rattle.capnp_wire.specs.Tree.{structs_from, trees_from};
 ghost use Rattle.capnp_wire.specs.Words.{words_below_all, words_of, words_of_all};
-ghost use Rattle.capnp_arena.specs.Counts.{AreElementForests, AreForests, IsCount, IsCounted};
+ghost use Rattle.capnp_arena.specs.Steps.Counts.{AreElementForests, AreForests, IsCount, IsCounted};
 ghost use Rattle.capnp_arena.specs.Forest.{Forest, struct_from, tree};
 ghost use Rattle.capnp_arena.specs.Shape.{word_count};
 

@@ -16,7 +16,8 @@ use capnp_wire::size::{ElementSize, StructSize};
 
 impl Arena {
     ghost use Rattle.std.specs.Prelude.{IfErr, IfOk, IsOk, None, OnErr, OnOk, false, true, take, ◌+◌, ◌*◌, ◌/◌, ◌<◌, ◌≡◌, ◌≢◌, ◌≤◌};
-    ghost use Rattle.capnp_wire.specs.Defaults.{default_tree, filled_list_refusal, filled_struct, filled_struct_refusal, filled_structs, filled_structs_refusal, list_default_refusal, list_refusal, or_default, struct_default_refusal, structs_default_refusal, taken_default, takes_default};
+    ghost use Rattle.capnp_wire.specs.Defaults.{default_tree, filled_list_refusal, filled_struct, filled_struct_refusal, filled_structs, filled_structs_refusal, list_default_refusal, list_refusal, or_default, struct_default_refusal, structs_default_refusal, takes_default};
+    ghost use Rattle.capnp_wire.specs.Steps.Defaults.{taken_default};
     ghost use Rattle.capnp_wire.specs.Edits.{HoldsStruct, IsDueRefusal, extended_struct, struct_in};
     ghost use Rattle.capnp_wire.specs.Elements.{or_empty};
     ghost use Rattle.capnp_wire.specs.Reading.{is_null_tree};
@@ -24,7 +25,7 @@ impl Arena {
     ghost use Rattle.capnp_wire.specs.StructLists.{HoldsStructs, struct_list};
     ghost use Rattle.capnp_arena.specs.Listed.{list_shape, listed_tree};
     ghost use Rattle.capnp_wire.specs.Encoding.{spelled_number};
-    ghost use Rattle.capnp_wire.specs.Filling.{bytes_with};
+    ghost use Rattle.capnp_wire.specs.Steps.Filling.{bytes_with};
     ghost use Rattle.capnp_wire.specs.Place.{struct_tree};
     ghost use Rattle.capnp_arena.specs.Forest.{Changes, Forest, tree};
     ghost use Rattle.capnp_arena.specs.Segment.{segment};

@@ -2,15 +2,15 @@
 //! nothing that no pointer leads to. Room is left for a row of pointers, and each is put there when its target is due.
 ghost use Rattle.std.specs.Prelude.{IfOk, ⊤, ℕ, ◌*◌, ◌++◌, ◌+◌, ◌-◌, ◌/◌, ◌<◌, ◌^◌, ◌≡◌, ◌≤◌, length};
 ghost use Rattle.capnp_wire.specs.Encoding.{bytes_below_all, bytes_of, bytes_of_all, element_row, own_bytes, padded_bytes, pointer_row, struct_word, spelled_number};
-ghost use Rattle.capnp_wire.specs.Filling.{HasRoom, HaveRoom, with_encoded_element, with_encoded_elements, with_pointers};
+ghost use Rattle.capnp_wire.specs.Steps.Filling.{HasRoom, HaveRoom, with_encoded_element, with_encoded_elements, with_pointers};
 ghost use Rattle.capnp_wire.specs.Locate.{list_words};
 ghost use Rattle.capnp_wire.specs.Place.{bytes_at, list_tree};
 ghost use Rattle.capnp_wire.specs.Tree.{Composite, structs_from, trees_from};
 ghost use Rattle.capnp_wire.specs.Words.{words_below_all, words_of, words_of_all};
-ghost use Rattle.capnp_arena.specs.Counts.{AreElementForests, AreForests};
-ghost use Rattle.capnp_arena.specs.Encoded.{HasSize, pointer_to};
+ghost use Rattle.capnp_arena.specs.Steps.Counts.{AreElementForests, AreForests};
+ghost use Rattle.capnp_arena.specs.Steps.Encoded.{HasSize, pointer_to};
 ghost use Rattle.capnp_arena.specs.Forest.{Forest, struct_from, tree};
-ghost use Rattle.capnp_arena.specs.Looked.{shape_found};
+ghost use Rattle.capnp_arena.specs.Steps.Looked.{shape_found};
 ghost use Rattle.capnp_arena.specs.Shape.{Points, shape_at, word_count};
 
 use crate::append::{Appended, append_bits, append_padded, append_room, append_word, get_part};

@@ -3,7 +3,7 @@ ghost use Rattle.std.specs.Prelude.{IfErr, IfOk, length, max, ◌*◌, ◌+◌, 
 ghost use Rattle.capnp_device.specs.declared.error.ErrorKind.TheVariants.{OutOfMemory};
 ghost use Rattle.capnp_wire.specs.Edits.{extended_struct};
 ghost use Rattle.capnp_wire.specs.Encoding.{bytes_of};
-ghost use Rattle.capnp_wire.specs.WellFormed.{IsElement};
+ghost use Rattle.capnp_wire.specs.Steps.WellFormed.{IsElement};
 ghost use Rattle.capnp_wire.specs.Place.{struct_tree};
 ghost use Rattle.capnp_arena.specs.Forest.{Forest, struct_from};
 ghost use Rattle.capnp_arena.specs.Shape.{StructIn, shape_at, word_count};

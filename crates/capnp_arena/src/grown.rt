@@ -3,11 +3,11 @@
 ghost use Rattle.std.specs.Prelude.{IfOk, replicate, ◌*◌, ◌+◌, ◌<◌, ◌^◌, ◌≡◌, ◌≤◌, length};
 ghost use Rattle.capnp_wire.specs.Edits.{extended_struct};
 ghost use Rattle.capnp_wire.specs.Encoding.{bytes_of};
-ghost use Rattle.capnp_wire.specs.Filling.{HasRoom, HaveRoom, bytes_with, with_encoded_element, with_encoded_elements};
+ghost use Rattle.capnp_wire.specs.Steps.Filling.{HasRoom, HaveRoom, bytes_with, with_encoded_element, with_encoded_elements};
 ghost use Rattle.capnp_wire.specs.Place.{struct_tree};
 ghost use Rattle.capnp_wire.specs.Tree.{Composite, structs_from};
 ghost use Rattle.capnp_wire.specs.Words.{words_below_all, words_of_all};
-ghost use Rattle.capnp_arena.specs.Grown.{ArePartsIn, IsPartIn, grown_part_at};
+ghost use Rattle.capnp_arena.specs.Steps.Grown.{ArePartsIn, IsPartIn, grown_part_at};
 ghost use Rattle.capnp_arena.specs.Shape.{word_count};
 
 use crate::append::{Appended, append_room, append_word};

@@ -4,9 +4,9 @@ ghost use Rattle.std.specs.Prelude.{IsTrue, drop, replicate, take, ◌*◌, ◌+
 ghost use Rattle.capnp_wire.specs.Encoding.{encoding_of, own_bytes, packed_bits, padded_bytes};
 ghost use Rattle.capnp_wire.specs.Locate.{element_size_number, pointer_kind, list_words, offset};
 ghost use Rattle.capnp_wire.specs.Place.{bits_from, bytes_at, list_tree};
-ghost use Rattle.capnp_arena.specs.Counts.{AreElementForests, AreForests};
+ghost use Rattle.capnp_arena.specs.Steps.Counts.{AreElementForests, AreForests};
 ghost use Rattle.capnp_arena.specs.Forest.{Forest, tree};
-ghost use Rattle.capnp_arena.specs.InOrder.{AreLaid, IfKnown, IsLaid, IsRowLaid};
+ghost use Rattle.capnp_arena.specs.Steps.InOrder.{AreLaid, IfKnown, IsLaid, IsRowLaid};
 ghost use Rattle.capnp_arena.specs.Shape.{word_count};
 
 use crate::append::{get_bits, get_part};

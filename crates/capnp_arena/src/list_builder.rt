@@ -30,7 +30,8 @@ impl<'a> ListBuilder<'a> {
     ghost use Rattle.capnp_wire.specs.Reading.{element_bit, element_number, element_pointer, element_struct, list_length};
     ghost use Rattle.capnp_wire.specs.Standing.{list_levels, list_of};
     ghost use Rattle.capnp_arena.specs.Forest.{Changes, Forest, PartChanges, Planted, struct_from, tree};
-    ghost use Rattle.capnp_arena.specs.Handles.{IsBuiltPointer, IsBuiltStruct, LentByList, built_struct_tree, built_list_tree, handle_words, built_pointer_tree};
+    ghost use Rattle.capnp_arena.specs.Handles.{IsBuiltPointer, IsBuiltStruct, built_struct_tree, built_list_tree, handle_words, built_pointer_tree};
+    ghost use Rattle.capnp_arena.specs.Steps.Handles.{LentByList};
     ghost use Rattle.capnp_arena.specs.Leaves.{Leaves};
     ghost use Rattle.capnp_arena.specs.Listed.{list_shape, listed_tree};
     ghost use Rattle.capnp_arena.specs.Segment.{segment};

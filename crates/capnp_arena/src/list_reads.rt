@@ -1,7 +1,7 @@
 //! Lists, read where they stand.
 ghost use Rattle.std.specs.Prelude.{◌<◌, ◌≡◌};
 ghost use Rattle.capnp_arena.specs.Made.{size_number};
-ghost use Rattle.capnp_arena.specs.Reads.{reads_kind};
+ghost use Rattle.capnp_arena.specs.Steps.Reads.{reads_kind};
 
 use crate::arena::{Arena, Place};
 use crate::lists::{ListPlace, StructsPlace};

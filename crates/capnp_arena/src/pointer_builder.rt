@@ -35,7 +35,8 @@ impl<'a> PointerBuilder<'a> {
     ghost use Rattle.capnp_wire.specs.Tree.{Null, Numbers};
     ghost use Rattle.capnp_wire.specs.Words.{first_fault, first_fault_of_all};
     ghost use Rattle.capnp_arena.specs.Forest.{Changes, Forest, tree};
-    ghost use Rattle.capnp_arena.specs.Handles.{IsBuiltPointer, IsBuiltStruct, LentByPointer, ListRests, StructRests, built_pointer_tree};
+    ghost use Rattle.capnp_arena.specs.Handles.{IsBuiltPointer, IsBuiltStruct, built_pointer_tree};
+    ghost use Rattle.capnp_arena.specs.Steps.Handles.{LentByPointer, ListRests, StructRests};
     ghost use Rattle.capnp_arena.specs.Listed.{list_shape, listed_tree};
     ghost use Rattle.capnp_arena.specs.Segment.{segment};
     ghost use Rattle.capnp_arena.specs.Shape.{StructIn, shape_at, word_count};

@@ -27,7 +27,7 @@ impl Arena {
     ghost use Rattle.capnp_wire.specs.Reading.{as_data, as_text};
     ghost use Rattle.std.specs.Borrow.{sem};
     ghost use Rattle.capnp_wire.specs.Standing.{levels_of, list_levels, list_of, struct_levels, struct_of, tree_of};
-    ghost use Rattle.capnp_arena.specs.Ends.{EndsUnchanged};
+    ghost use Rattle.capnp_arena.specs.Steps.Ends.{EndsUnchanged};
     ghost use Rattle.capnp_arena.specs.Forest.{Forest, Planted};
     ghost use Rattle.capnp_arena.specs.Listed.{list_shape, listed_tree};
     ghost use Rattle.capnp_arena.specs.Same.{IsCutOf, IsStructCutOf};

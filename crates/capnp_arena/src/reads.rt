@@ -1,7 +1,7 @@
 //! What is read in a message in memory, where it stands.
 ghost use Rattle.std.specs.Prelude.{◌≡◌};
-ghost use Rattle.capnp_arena.specs.Looked.{shape_found};
-ghost use Rattle.capnp_arena.specs.Reads.{is_list_shape, is_no_shape, is_struct_shape};
+ghost use Rattle.capnp_arena.specs.Steps.Looked.{shape_found};
+ghost use Rattle.capnp_arena.specs.Steps.Reads.{is_list_shape, is_no_shape, is_struct_shape};
 
 use crate::append::get_part;
 use crate::arena::{Arena, Place};

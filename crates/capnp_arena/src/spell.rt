@@ -2,7 +2,7 @@
 ghost use Rattle.std.specs.Prelude.{IfOk, OnErr, bit_xor, drop, replicate, take, ◌*◌, ◌++◌, ◌+◌, ◌<◌, ◌^◌, ◌≡◌, ◌≤◌, length};
 ghost use Rattle.capnp_wire.specs.Edits.{with_bit, with_number};
 ghost use Rattle.capnp_wire.specs.Encoding.{list_word, spelled_number, struct_word};
-ghost use Rattle.capnp_wire.specs.Filling.{bytes_with};
+ghost use Rattle.capnp_wire.specs.Steps.Filling.{bytes_with};
 
 use capnp_wire::primitive::PrimitiveElement;
 use std::alloc::AllocError;

@@ -28,7 +28,8 @@ impl<'a> StructBuilder<'a> {
     ghost use Rattle.capnp_wire.specs.Words.{first_fault_of_all, words_of_struct};
     ghost use Rattle.capnp_arena.specs.Facts.Laws.{IsInPointer};
     ghost use Rattle.capnp_arena.specs.Forest.{Changes, Forest, PartChanges, Planted, struct_from, tree};
-    ghost use Rattle.capnp_arena.specs.Handles.{IsBuiltPointer, IsBuiltStruct, LentByStruct, built_struct_tree, handle_words, built_pointer_tree};
+    ghost use Rattle.capnp_arena.specs.Handles.{IsBuiltPointer, IsBuiltStruct, built_struct_tree, handle_words, built_pointer_tree};
+    ghost use Rattle.capnp_arena.specs.Steps.Handles.{LentByStruct};
     ghost use Rattle.capnp_arena.specs.Segment.{segment};
     ghost use Rattle.capnp_arena.specs.Shape.{StructIn, word_count};
 

@@ -5,7 +5,7 @@ ghost use Rattle.capnp_wire.specs.Encoding.{bytes_of};
 ghost use Rattle.capnp_wire.specs.StructLists.{as_structs};
 ghost use Rattle.capnp_wire.specs.WellFormed.{IsWellFormed};
 ghost use Rattle.capnp_arena.specs.Forest.{Forest, tree};
-ghost use Rattle.capnp_arena.specs.Grown.{IsPartList, kind_pointers, kind_words, number_parts, pointerless_parts, struct_parts};
+ghost use Rattle.capnp_arena.specs.Steps.Grown.{IsPartList, kind_pointers, kind_words, number_parts, pointerless_parts, struct_parts};
 ghost use Rattle.capnp_arena.specs.Made.{size_number};
 ghost use Rattle.capnp_arena.specs.Shape.{word_count};
 

@@ -2,7 +2,7 @@
 ghost use Rattle.std.specs.Prelude.{◌+◌, ◌*◌, ◌/◌, ◌<◌, ◌^◌, ◌≡◌, length};
 ghost use Rattle.capnp_wire.specs.Slot.{number_at};
 ghost use Rattle.capnp_arena.specs.Forest.{Forest};
-ghost use Rattle.capnp_arena.specs.Looked.{composite_looked, list_looked, looked_shape, shape_found, struct_looked};
+ghost use Rattle.capnp_arena.specs.Steps.Looked.{composite_looked, list_looked, looked_shape, shape_found, struct_looked};
 ghost use Rattle.capnp_arena.specs.Shape.{Points, shape_at};
 
 use crate::look::{

@@ -5,3 +5,4 @@ pub mod Taking
 pub mod Text
 pub mod Traits
 pub mod Types
+pub mod Steps

@@ -1,9 +1,9 @@
 -- What a pointer is read as, and what stands in its place where it is null and there is a default.
-use Rattle.std.specs.Prelude.{ℕ, Bool, true, false, cond, ◌==◌, ◌≡◌, Option, Some, None, Result, Ok, Err}
+use Rattle.std.specs.Prelude.{Bool, true, false, cond, ◌≡◌, Option, Some, None, Result, Ok, Err}
 use Rattle.capnp_wire.specs.Tree.{Tree}
 use Rattle.capnp_wire.specs.Edits.{IsDueRefusal}
 use Rattle.capnp_wire.specs.Reading.{is_null_tree}
-use Rattle.capnp_wire.specs.Standing.{tree_of, levels_of}
+use Rattle.capnp_wire.specs.Standing.{tree_of}
 use Rattle.capnp_wire.specs.declared.pointer_reader.PointerReader.{PointerReader}
 use Rattle.capnp_device.specs.declared.error.Error.{Error}
 use Rattle.capnp_device.specs.declared.error.ErrorKind.{ErrorKind}
@@ -17,11 +17,6 @@ takes_pointer_default t (Some default) = is_null_tree t
 abbrev pub tree_or : Tree → Option PointerReader → Tree
 tree_or t None = t
 tree_or t (Some default) = cond (is_null_tree t) (tree_of default) t
-
--- the levels that are left for it: those of the default, unless the null itself has none
-abbrev pub levels_or : Tree → ℕ → Option PointerReader → ℕ
-levels_or t levels None = levels
-levels_or t levels (Some default) = cond (is_null_tree t) (cond (levels == 0) 0 (levels_of default)) levels
 
 -- what an answer is refused with
 abbrev pub refusal_in : {A : Type 0} → Result A ErrorKind → Option ErrorKind

@@ -9,7 +9,8 @@ ghost use Rattle.capnp_wire.specs.declared.struct_reader.StructReader.{StructRea
 ghost use Rattle.capnp_device.specs.declared.error.Error.{Error};
 ghost use Rattle.capnp_wire.specs.Tree.{Tree};
 ghost use Rattle.capnp_wire.specs.Standing.{levels_of, tree_of};
-ghost use Rattle.capnp_base.specs.Traits.{levels_or, tree_or};
+ghost use Rattle.capnp_base.specs.Traits.{tree_or};
+ghost use Rattle.capnp_base.specs.Steps.Traits.{levels_or};
 
 pub mod iterators;
 

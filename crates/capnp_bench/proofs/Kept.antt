@@ -14,7 +14,7 @@ use Rattle.capnp_schema.specs.Plan.{brand_size}
 use Rattle.capnp_slots.specs.Fields.{Keeps}
 use Rattle.capnp_slots.specs.Groups.{IsGroupAt}
 use Rattle.capnp_slots.specs.Standing.{IsStanding}
-use Rattle.capnp_bench.specs.Room.{LiesIn}
+use Rattle.capnp_bench.specs.Steps.Room.{LiesIn}
 
 pub kept_ready : (schema : StructSchema) (inside : Spot → Bool) (place : Place) (old new : Arena) → IsStanding schema old place → IsBuilt new place
     → Keeps inside (built_at old place) (built_at new place) → IsStanding schema new place

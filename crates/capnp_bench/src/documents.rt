@@ -7,7 +7,7 @@ ghost use Rattle.capnp_arena.specs.Segment.{segment};
 ghost use Rattle.capnp_wire.specs.Reading.{list_length};
 ghost use Rattle.capnp_schema.specs.StructHandles.{IsStruct};
 ghost use Rattle.capnp_slots.specs.Standing.{IsStanding};
-ghost use Rattle.capnp_bench.specs.Room.{AreItemFields, HoldsItems, IsSlotOfList, LiesIn};
+ghost use Rattle.capnp_bench.specs.Steps.Room.{AreItemFields, HoldsItems, IsSlotOfList, LiesIn};
 
 use crate::sets::{field_of, set, start_root};
 use capnp_arena::arena::{Arena, Place};

@@ -7,7 +7,7 @@ ghost use Rattle.capnp_arena.specs.Shape.{shape_at, word_count};
 ghost use Rattle.capnp_schema.specs.FieldLists.{field_schema};
 ghost use Rattle.capnp_slots.specs.Groups.{IsGroup, IsGroupAt};
 ghost use Rattle.capnp_slots.specs.Standing.{IsStanding};
-ghost use Rattle.capnp_bench.specs.Room.{AreShapes, LiesIn};
+ghost use Rattle.capnp_bench.specs.Steps.Room.{AreShapes, LiesIn};
 
 use crate::reads::number_of;
 use capnp_arena::arena::{Arena, Place};

@@ -5,7 +5,8 @@ use Rattle.std.proofs.lemmas.List.{length-set}
 use Rattle.capnp_arena.specs.Facts.Places.{at_then}
 use Rattle.capnp_arena.specs.Forest.{Changes}
 use Rattle.capnp_arena.specs.Segment.{segment}
-use Rattle.capnp_builders.specs.Blobs.{IsBuiltText, position, text_behind, text_bytes, text_word, written_bytes}
+use Rattle.capnp_builders.specs.Blobs.{IsBuiltText, position, text_behind, text_bytes, text_word}
+use Rattle.capnp_builders.specs.Steps.Blobs.{written_bytes}
 use Rattle.capnp_builders.specs.declared.text.Builder.{Builder}
 
 -- so many of them have been pushed

@@ -10,7 +10,7 @@ use Rattle.capnp_wire.specs.Tree.{Tree}
 use Rattle.capnp_wire.specs.declared.pointer_reader.PointerReader.{PointerReader}
 use Rattle.capnp_base.specs.Traits.{IsDefaultRefusal, IsReadRefusal, default_refusal, refusal_in, takes_pointer_default, tree_or}
 use Rattle.capnp_arena.specs.Forest.{Changes}
-use Rattle.capnp_builders.specs.Defaults.{default_taken}
+use Rattle.capnp_builders.specs.Steps.Defaults.{default_taken}
 
 not_null : (q : Bool) (d : PointerReader) → cond q (Some d) None ≡ None → q ≡ false
 not_null true d h = absurd cc

@@ -9,7 +9,8 @@ use Rattle.capnp_wire.specs.Elements.{with_number_element}
 use Rattle.capnp_wire.specs.Reading.{as_data, as_text, terminated_text}
 use Rattle.capnp_wire.specs.Tree as tree
 use Rattle.capnp_wire.specs.Tree.{Tree}
-use Rattle.capnp_builders.specs.Blobs.{bytes_in, written_bytes}
+use Rattle.capnp_builders.specs.Blobs.{bytes_in}
+use Rattle.capnp_builders.specs.Steps.Blobs.{written_bytes}
 
 -- ---- rows of bytes ----
 

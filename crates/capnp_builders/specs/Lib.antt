@@ -1,4 +1,3 @@
 pub mod Blobs
-pub mod Defaults
 pub mod Pointers
-pub mod Rests
+pub mod Steps

@@ -15,7 +15,8 @@ ghost use Rattle.capnp_arena.specs.Forest.{Changes, Forest, tree};
 ghost use Rattle.capnp_arena.specs.Same.{IsCutOf};
 ghost use Rattle.capnp_arena.specs.Segment.{segment};
 ghost use Rattle.capnp_arena.specs.Shape.{word_count};
-ghost use Rattle.capnp_builders.specs.Pointers.{IsUntypedPointer, LendsPointer, arena_behind, untyped_tree, untyped_word};
+ghost use Rattle.capnp_builders.specs.Pointers.{IsUntypedPointer, arena_behind, untyped_tree, untyped_word};
+ghost use Rattle.capnp_builders.specs.Steps.Pointers.{LendsPointer};
 
 use crate::traits::{self, FromPointerBuilder, SetterInput};
 use capnp_arena::arena::Arena;

@@ -11,7 +11,8 @@ ghost use Rattle.capnp_base.specs.ReadBack.{data_read_back};
 ghost use Rattle.capnp_base.specs.Traits.{IsDefaultRefusal, IsReadRefusal, default_refusal, tree_or};
 ghost use Rattle.capnp_arena.specs.Forest.{Changes, Forest, tree};
 ghost use Rattle.capnp_arena.specs.Segment.{segment};
-ghost use Rattle.capnp_builders.specs.Blobs.{IsData, LendsData, data_behind, data_bytes, data_there, data_word};
+ghost use Rattle.capnp_builders.specs.Blobs.{IsData, data_behind, data_bytes, data_there, data_word};
+ghost use Rattle.capnp_builders.specs.Steps.Blobs.{LendsData};
 
 use crate::defaults::{enter, fill};
 use crate::traits::{self, FromPointerBuilder};

@@ -5,8 +5,9 @@ ghost use Rattle.capnp_wire.specs.Standing.{bytes_read, tree_of};
 ghost use Rattle.capnp_base.specs.Traits.{IsDefaultRefusal, IsReadRefusal, default_refusal, refusal_in, tree_or};
 ghost use Rattle.capnp_arena.specs.Forest.{Changes, Forest, tree};
 ghost use Rattle.capnp_arena.specs.Segment.{segment};
-ghost use Rattle.capnp_builders.specs.Blobs.{as_blob, bytes_in};
-ghost use Rattle.capnp_builders.specs.Defaults.{default_taken};
+ghost use Rattle.capnp_builders.specs.Blobs.{bytes_in};
+ghost use Rattle.capnp_builders.specs.Steps.Blobs.{as_blob};
+ghost use Rattle.capnp_builders.specs.Steps.Defaults.{default_taken};
 
 use capnp_arena::arena::Arena;
 use capnp_wire::PointerReader;

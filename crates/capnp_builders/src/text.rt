@@ -18,7 +18,8 @@ ghost use Rattle.capnp_base.specs.Traits.{IsDefaultRefusal, IsReadRefusal, defau
 ghost use Rattle.capnp_arena.specs.Forest.{Changes, Forest, tree};
 ghost use Rattle.capnp_arena.specs.Segment.{segment};
 ghost use Rattle.capnp_arena.specs.Shape.{word_count};
-ghost use Rattle.capnp_builders.specs.Blobs.{IsBuiltText, LendsText, position, text_behind, text_bytes, text_seen, text_there, text_word, written_bytes};
+ghost use Rattle.capnp_builders.specs.Blobs.{IsBuiltText, position, text_behind, text_bytes, text_seen, text_there, text_word};
+ghost use Rattle.capnp_builders.specs.Steps.Blobs.{LendsText, written_bytes};
 
 use crate::defaults::{enter, fill};
 use crate::traits::{self, FromPointerBuilder};

@@ -13,7 +13,7 @@ ghost use Rattle.capnp_arena.specs.Forest.{Changes, Forest, tree};
 ghost use Rattle.capnp_arena.specs.Segment.{segment};
 ghost use Rattle.capnp_arena.specs.Shape.{word_count};
 ghost use Rattle.capnp_arena.specs.declared.arena.Arena.{Arena};
-ghost use Rattle.capnp_builders.specs.Rests.{Rests};
+ghost use Rattle.capnp_builders.specs.Steps.Rests.{Rests};
 
 use capnp_arena::handles::{PointerBuilder, StructBuilder};
 use capnp_base::introspect::Introspect;

@@ -32,7 +32,8 @@ use Rattle.capnp_records.specs.Writes.TreeRun.{TreeEnd, TreeWalks}
 use Rattle.capnp_slots.specs.Fields.{IsPointerField, IsSlot, field_brand, field_set}
 use Rattle.capnp_slots.specs.Fills.{RestsIn, due_in, fill_due, pointer_in}
 use Rattle.capnp_call.proofs.Entered.{enters, part_in, passes, short, unread}
-use Rattle.capnp_call.specs.Walks.{FieldEnters, IsWalked, StepGoes, StepStops}
+use Rattle.capnp_call.specs.Walks.{IsWalked, StepGoes, StepStops}
+use Rattle.capnp_call.specs.Steps.Walks.{FieldEnters}
 use Rattle.capnp_call.specs.Ways.{target_in}
 
 -- ---- trees ----

@@ -20,7 +20,7 @@ use Rattle.capnp_records.specs.Reading.{element_value, value_of}
 use Rattle.capnp_records.specs.Record as value
 use Rattle.capnp_records.specs.Record.{Endless, Left, Value}
 use Rattle.capnp_records.specs.Step.{fault_of}
-use Rattle.capnp_records.specs.Writes.Stand.{seen_element}
+use Rattle.capnp_records.specs.Steps.Stand.{seen_element}
 use Rattle.capnp_dynamic_readers.specs.Handles.{element_of, list_reader_of, list_set}
 use Rattle.capnp_dynamic_readers.specs.Reads.{element_seen}
 use Rattle.capnp_dynamic_readers.specs.Seen.{answered_value}
@@ -31,7 +31,7 @@ use Rattle.capnp_arena.specs.Same.{IsCutOf}
 use Rattle.capnp_call.proofs.Heads.{element_cut}
 use Rattle.capnp_call.proofs.Levels.{SameAnswer, answers_same, same_from, same_then, there}
 use Rattle.capnp_call.proofs.ListWalks.{part_seen}
-use Rattle.capnp_call.specs.Lists.{element_at}
+use Rattle.capnp_call.specs.Steps.Lists.{element_at}
 
 -- ---- a pointer that is an element ----
 

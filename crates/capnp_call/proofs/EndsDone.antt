@@ -27,8 +27,10 @@ use Rattle.capnp_slots.specs.FieldWrites.{IsFieldInit, KindIsInit, cleared_field
 use Rattle.capnp_slots.specs.Groups.{IsGroup, group_without}
 use Rattle.capnp_slots.specs.Inits.{IsInitRefusal, IsInitnRefusal, IsRoomless, init_content}
 use Rattle.capnp_call.proofs.Replies.{refused_undone}
-use Rattle.capnp_call.specs.Ends.{AsGroup, AsStruct, FieldDoes, NamedDoes, Whole, stand_of, whole_of}
-use Rattle.capnp_call.specs.Seen.{reply_by, step_seen}
+use Rattle.capnp_call.specs.Ends.{AsGroup, AsStruct, Whole, stand_of, whole_of}
+use Rattle.capnp_call.specs.Steps.Ends.{FieldDoes, NamedDoes}
+use Rattle.capnp_call.specs.Seen.{step_seen}
+use Rattle.capnp_call.specs.Steps.Seen.{reply_by}
 use Rattle.capnp_call.specs.Ways.{IsNamedBy, found_target, target_in}
 use Rattle.capnp_call.specs.declared.calls.Step.{Step}
 

@@ -16,7 +16,8 @@ use Rattle.capnp_records.specs.Writes.Stand.{FieldRests, FieldWithin, OnGroup, O
 use Rattle.capnp_records.specs.Writes.TreeRun.{TreeEnd, TreeEnters, TreeGoes, TreePasses}
 use Rattle.capnp_slots.specs.Fields.{field_brand, field_set}
 use Rattle.capnp_call.specs.Ends.{AsGroup, AsStruct, Whole, stand_of, whole_of}
-use Rattle.capnp_call.specs.Walks.{FieldEnters, FieldPasses}
+use Rattle.capnp_call.specs.Walks.{FieldPasses}
+use Rattle.capnp_call.specs.Steps.Walks.{FieldEnters}
 use Rattle.capnp_call.specs.Ways.{target_in}
 
 abbrev pub part_in : Field → StructTree → Value

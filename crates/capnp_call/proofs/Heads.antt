@@ -26,9 +26,10 @@ use Rattle.capnp_records.specs.Part.{has_of, is_inactive}
 use Rattle.capnp_records.specs.Reading.{Reading, element_value, kind_value, nth_reading, number_value, of_read, part_of, record_within, struct_record, value_of, values_of}
 use Rattle.capnp_records.specs.Record as value
 use Rattle.capnp_records.specs.Record.{Endless, Left, Levels, Record, Value, one_less, values_from}
-use Rattle.capnp_records.specs.Writes.Stand.{seen_element}
+use Rattle.capnp_records.specs.Steps.Stand.{seen_element}
 use Rattle.capnp_dynamic_readers.specs.Facts.HasWhich.{active_by_plan, has_by_plan}
-use Rattle.capnp_dynamic_readers.specs.Planned.{member_there, place_there, planned_has}
+use Rattle.capnp_dynamic_readers.specs.Planned.{place_there}
+use Rattle.capnp_dynamic_readers.specs.Steps.Planned.{member_there, planned_has}
 use Rattle.capnp_dynamic_readers.specs.Reads.{field_read}
 use Rattle.capnp_call.proofs.Levels.{SameAnswer, alike, field_same, same_from, same_then}
 

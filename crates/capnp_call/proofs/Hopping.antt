@@ -37,10 +37,12 @@ use Rattle.capnp_slots.specs.Standing.{IsUnder}
 use Rattle.capnp_call.proofs.ListWalks.{element_in_list, element_in_struct, element_there, fits_at, nothing_steps}
 use Rattle.capnp_call.proofs.Parts.{here_is, struct_here}
 use Rattle.capnp_call.proofs.Walking.{field_group, field_list, field_struct, pointer_again, step_found}
-use Rattle.capnp_call.specs.Hops.{ElementGoes, FieldGoes, HopGoes, Going, IsAt, IsAtList, HopLeads, LeadsOn, ListGoes, StructGoes, first_step, placed_struct}
-use Rattle.capnp_call.specs.Lists.{ElementWalks, IsListStand, ListWalks, refusal_at_nothing}
+use Rattle.capnp_call.specs.Steps.Hops.{ElementGoes, FieldGoes, HopGoes, Going, IsAt, IsAtList, HopLeads, LeadsOn, ListGoes, StructGoes, first_step, placed_struct}
+use Rattle.capnp_call.specs.Lists.{IsListStand}
+use Rattle.capnp_call.specs.Steps.Lists.{ElementWalks, ListWalks, refusal_at_nothing}
 use Rattle.capnp_call.specs.Seen.{step_seen}
-use Rattle.capnp_call.specs.Walks.{FieldWalks, StepGoes, StructWalks}
+use Rattle.capnp_call.specs.Walks.{StepGoes, StructWalks}
+use Rattle.capnp_call.specs.Steps.Walks.{FieldWalks}
 use Rattle.capnp_call.specs.Ways.{IsListSlot, IsNamedBy, IsStructSlot, found_target}
 use Rattle.capnp_call.specs.declared.calls.Ending.{Ending}
 use Rattle.capnp_call.specs.declared.calls.Reply.{Reply}

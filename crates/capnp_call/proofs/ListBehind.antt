@@ -43,7 +43,8 @@ use Rattle.capnp_call.proofs.Behind.{due_memory, nth_sound, pointed, rests_in}
 use Rattle.capnp_call.proofs.Entered.{enters, part_in, passes, short, unread}
 use Rattle.capnp_call.proofs.ListReads.{IsPastSize, IsTooLarge, IsUnreadable, kept_default, list_read, list_unfilled, plain_reads, structs_stand}
 use Rattle.capnp_call.specs.Lists.{IsListStand}
-use Rattle.capnp_call.specs.Walks.{FieldEnters, IsWalked, StepGoes, StepStops}
+use Rattle.capnp_call.specs.Walks.{IsWalked, StepGoes, StepStops}
+use Rattle.capnp_call.specs.Steps.Walks.{FieldEnters}
 use Rattle.capnp_call.specs.Ways.{target_in}
 
 -- ---- defaults ----

@@ -26,7 +26,7 @@ use Rattle.capnp_records.specs.Record.{Endless}
 use Rattle.capnp_records.specs.Step.{fault_of, filled_value, is_struct_list, size_of}
 use Rattle.capnp_records.specs.Writes.Fill.{list_or_default}
 use Rattle.capnp_schema.specs.Plan.{brand_size}
-use Rattle.capnp_records.specs.Writes.Stand.{seen_element}
+use Rattle.capnp_records.specs.Steps.Stand.{seen_element}
 use Rattle.capnp_slots.specs.Fills.{fill_due}
 
 some_none : {A : Type 0} {a : A} → Some a ≡ None → ⊥

@@ -33,7 +33,8 @@ use Rattle.capnp_records.specs.Step.{CanRefuse, Found, StepTarget, fault_of, fil
 use Rattle.capnp_records.specs.Writes.Fill.{IsAtRest, entered_list}
 use Rattle.capnp_records.specs.Writes.Slots.{Fits}
 use Rattle.capnp_schema.specs.Plan.{brand_size}
-use Rattle.capnp_records.specs.Writes.Stand.{ListSound, OnList, OnStruct, seen_element}
+use Rattle.capnp_records.specs.Writes.Stand.{ListSound, OnList, OnStruct}
+use Rattle.capnp_records.specs.Steps.Stand.{seen_element}
 use Rattle.capnp_records.specs.Writes.TreeEnds.{TreeDoesAt, TreeEnds}
 use Rattle.capnp_records.specs.Writes.TreeRun.{TreeEnd, TreeEnters, TreePasses, TreeWalks}
 use Rattle.capnp_slots.specs.Fills.{fill_due}
@@ -41,7 +42,8 @@ use Rattle.capnp_call.proofs.Behind.{due_memory}
 use Rattle.capnp_call.proofs.ListBehind.{IsListDefault, memory_there, null_holds, slot_within}
 use Rattle.capnp_call.proofs.ListReads.{IsTooLarge, IsUnreadable, list_read, list_unfilled}
 use Rattle.capnp_call.specs.Ends.{AsStruct}
-use Rattle.capnp_call.specs.Lists.{ElementDoes, ElementWalks, IsListStand, ListEnds, ListWalks, element_at, refusal_at_nothing}
+use Rattle.capnp_call.specs.Lists.{IsListStand, ListEnds}
+use Rattle.capnp_call.specs.Steps.Lists.{ElementDoes, ElementWalks, ListWalks, element_at, refusal_at_nothing}
 use Rattle.capnp_call.specs.Seen.{op_seen, path_seen, reply_seen, step_seen}
 use Rattle.capnp_call.specs.Walks.{EndsAt, StructWalks}
 use Rattle.capnp_call.specs.declared.calls.Ending.{Ending}

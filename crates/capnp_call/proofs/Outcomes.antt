@@ -9,7 +9,7 @@ use Rattle.capnp_arena.specs.declared.arena.Arena.{Arena}
 use Rattle.capnp_arena.specs.declared.arena.Place.{Place}
 use Rattle.capnp_records.specs.Call.{Done, Refused, Reply}
 use Rattle.capnp_slots.specs.Copied.{refusal_of}
-use Rattle.capnp_call.specs.Seen.{reply_by}
+use Rattle.capnp_call.specs.Steps.Seen.{reply_by}
 
 -- two facts of a write that was done
 pub both : {A : Type 0} (V W : Type 0) (r : Result A Error) → OnOk r V → OnOk r W → OnOk r (V × W)

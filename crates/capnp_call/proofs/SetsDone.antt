@@ -32,9 +32,10 @@ use Rattle.capnp_slots.specs.Sources.{IsSet, IsSetRefusal, IsTaken, copy_due}
 use Rattle.capnp_call.proofs.Behind.{is_memory, memory_is}
 use Rattle.capnp_call.proofs.EndsDone.{slot_does, stays}
 use Rattle.capnp_call.proofs.Replies.{refused_undone}
-use Rattle.capnp_call.specs.Ends.{AsGroup, AsStruct, FieldDoes, Whole, stand_of, whole_of}
-use Rattle.capnp_call.specs.Lists.{element_at}
-use Rattle.capnp_call.specs.Seen.{reply_by}
+use Rattle.capnp_call.specs.Ends.{AsGroup, AsStruct, Whole, stand_of, whole_of}
+use Rattle.capnp_call.specs.Steps.Ends.{FieldDoes}
+use Rattle.capnp_call.specs.Steps.Lists.{element_at}
+use Rattle.capnp_call.specs.Steps.Seen.{reply_by}
 use Rattle.capnp_call.specs.Ways.{target_in}
 
 -- ---- why a set is refused ----

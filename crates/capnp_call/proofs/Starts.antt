@@ -34,7 +34,8 @@ use Rattle.capnp_records.specs.Facts.Extension.{fits-extended, reads-extended, r
 use Rattle.capnp_records.specs.Record.{Levels, Record}
 use Rattle.capnp_records.specs.Writes.Slots.{Fits}
 use Rattle.capnp_schema.specs.Plan.{brand_size}
-use Rattle.capnp_call.specs.Messages.{HasRoot, IsWhole, IsWholeRefusal, LeavesRun, RunsOn, fault_or, new_record, new_root, record_left, root_refusal, root_value, record_text}
+use Rattle.capnp_call.specs.Messages.{HasRoot, IsWhole, IsWholeRefusal, LeavesRun, fault_or, new_record, new_root, record_left, root_refusal, root_value, record_text}
+use Rattle.capnp_call.specs.Steps.Messages.{RunsOn}
 use Rattle.capnp_call.specs.Messages.{copied_root as copied_root_of}
 use Rattle.capnp_call.specs.Runs.{IsCallMade, IsRunFrom, MakesCalls, record_under_schema}
 use Rattle.capnp_call.specs.declared.calls.Call.{Call}

@@ -29,9 +29,10 @@ use Rattle.capnp_slots.specs.Fills.{filled_in, filled_tree}
 use Rattle.capnp_slots.specs.Groups.{IsGroupAt}
 use Rattle.capnp_call.proofs.Entered.{stops}
 use Rattle.capnp_call.specs.Ends.{AsGroup, AsStruct, StructEnds, Whole, stand_of, whole_of}
-use Rattle.capnp_call.specs.Lists.{ListWalks}
+use Rattle.capnp_call.specs.Steps.Lists.{ListWalks}
 use Rattle.capnp_call.specs.Seen.{op_seen, path_seen, reply_seen, step_seen}
-use Rattle.capnp_call.specs.Walks.{EndsAt, FieldWalks, StepGoes, StepStops, StructWalks}
+use Rattle.capnp_call.specs.Walks.{EndsAt, StepGoes, StepStops, StructWalks}
+use Rattle.capnp_call.specs.Steps.Walks.{FieldWalks}
 use Rattle.capnp_call.specs.Ways.{IsListSlot, IsNamedBy, IsStructSlot, found_target, target_in, way_target}
 use Rattle.capnp_call.specs.declared.calls.Ending.{Ending}
 use Rattle.capnp_call.specs.declared.calls.Reply.{Reply}

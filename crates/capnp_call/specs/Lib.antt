@@ -1,5 +1,4 @@
 pub mod Ends
-pub mod Hops
 pub mod Lists
 pub mod Memory
 pub mod Messages
@@ -8,3 +7,4 @@ pub mod Runs
 pub mod Seen
 pub mod Walks
 pub mod Ways
+pub mod Steps

@@ -62,10 +62,6 @@ pub record LeavesRun (schema : StructSchema) (r : Record) (calls : List Call) (r
   pub formed : IsWellFormed t
   pub runs : IsRunFrom schema r calls replies (record_under_schema schema (struct_in t))
 
--- what calls on one root leave as another
-abbrev pub RunsOn : StructSchema → Tree → List Call → List Reply → Tree → Type 0
-RunsOn schema old calls replies new = LeavesRun schema (record_under_schema schema (struct_in old)) calls replies new
-
 -- why a tree is not copied as a root, memory aside: for its first fault in preorder, and else because it is a list
 abbrev pub fault_or : Option Fault → Option ErrorKind → Option ErrorKind
 fault_or None later = later
@@ -88,13 +84,6 @@ record_text schema indented r = text_of (set_of schema) indented (struct_type sc
 -- the record of a root as a reader of the message sees it, which takes one of its 64 levels
 abbrev pub record_left : StructSchema → StructTree → Record
 record_left schema s = struct_record (set_of schema) (Left 63) s (number_of schema)
-
--- the text of a root's record, and of what a reader of it sees
-abbrev pub root_text : StructSchema → (indented : Bool) → Tree → Out
-root_text schema indented t = record_text schema indented (record_under_schema schema (struct_in t))
-
-abbrev pub read_text : StructSchema → (indented : Bool) → Tree → Out
-read_text schema indented t = record_text schema indented (record_left schema (struct_in t))
 
 -- the words of the segment of a root's message
 abbrev pub message_words : StructTree → ℕ

@@ -1,6 +1,5 @@
 -- Calls and replies as the machine of records has them.
-use Rattle.std.specs.Prelude.{List, map, Option, Some, None}
-use Rattle.capnp_device.specs.declared.error.ErrorKind.{ErrorKind}
+use Rattle.std.specs.Prelude.{List, map}
 use Rattle.capnp_records.specs.Call.{PathStep, FieldNumber, FieldNamed, ElementAt}
 use Rattle.capnp_records.specs.Call.{VoidPlain, BoolPlain, IntPlain, UIntPlain, EnumPlain, TextPlain, DataPlain, StructPlain, ListPlain, AnyPointerPlain}
 use Rattle.capnp_records.specs.Call as record_call
@@ -59,8 +58,3 @@ reply_seen (reply.Value p) = record_call.GivesValue (answer_seen p)
 reply_seen (reply.Flag b) = record_call.Flag b
 reply_seen (reply.Member i) = record_call.Member i
 reply_seen (reply.Refused kind) = record_call.Refused kind
-
--- the reply to a write, which may have been refused
-abbrev pub reply_by : Option ErrorKind → record_call.Reply
-reply_by None = record_call.Done
-reply_by (Some kind) = record_call.Refused kind

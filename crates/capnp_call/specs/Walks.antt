@@ -8,10 +8,10 @@ use Rattle.capnp_schema.specs.FieldLists.{index_of, typed_of}
 use Rattle.capnp_schema.specs.declared.schema.fields.Field.{Field}
 use Rattle.capnp_records.specs.Call.{Op, PathStep, Refused, Reply}
 use Rattle.capnp_records.specs.Record.{Record, Value}
-use Rattle.capnp_records.specs.Step.{fault_of, passed_target}
+use Rattle.capnp_records.specs.Step.{passed_target}
 use Rattle.capnp_records.specs.Writes.Stand.{Stand, entered_field, left_field, step_index}
 use Rattle.capnp_records.specs.Writes.TreeEnds.{TreeEnds}
-use Rattle.capnp_records.specs.Writes.TreeRun.{TreeEnd, TreeEnters, TreePasses, TreeWalks}
+use Rattle.capnp_records.specs.Writes.TreeRun.{TreeEnd, TreePasses, TreeWalks}
 use Rattle.capnp_slots.specs.Fields.{field_brand, field_set}
 use Rattle.capnp_call.specs.Ends.{Whole, stand_of, whole_of}
 use Rattle.capnp_call.specs.Seen.{op_seen, path_seen, reply_seen, step_seen}
@@ -23,12 +23,6 @@ use Rattle.capnp_call.specs.declared.calls.Ending.{Ending}
 -- a field that a step goes into: it is active, and leads to a struct, group or list
 abbrev pub IsWalked : Field → StructTree → Type 0
 IsWalked f s = (whole : Record → Value) → Ok (target_in whole f s) ≡ passed_target (target_in whole f s)
-
--- the walk goes on into a field whose tests passed
-abbrev pub FieldEnters : Field → TreeEnd → StructTree → Reply → StructTree → Type 0
-FieldEnters f further old reply new =
-    (w : Whole) (g : ℕ) (step : PathStep) → step_index (field_set f) (field_brand f) step ≡ index_of f →
-    TreeEnters (field_set f) further (StructType (field_brand f) g) (stand_of w old) step (fault_of (target_in (whole_of w) f old).part) (target_in (whole_of w) f old) reply (stand_of w new)
 
 -- a field that is there is tested, and the walk goes on into it
 abbrev pub FieldPasses : Field → TreeEnd → StructTree → Reply → StructTree → Type 0
@@ -56,7 +50,3 @@ EndsAt set end = TreeEnds set (step_seen end.call.now.last) (op_seen end.call.no
 -- a path is walked from a struct of a brand, or the struct of a group, and the operation is done at its end
 unfoldable pub StructWalks : Schemas → ℕ → List Step → Ending → StructTree → ReplyOf → StructTree → Type 0
 StructWalks set b path end old reply new = (w : Whole) (g : ℕ) → TreeWalks set (EndsAt set end) (path_seen path) (StructType b g) (stand_of w old) (reply_seen reply) (stand_of w new)
-
--- the same into a field that is there, and along the rest of the path
-unfoldable pub FieldWalks : Field → List Step → Ending → StructTree → ReplyOf → StructTree → Type 0
-FieldWalks f rest end old reply new = FieldPasses f (TreeWalks (field_set f) (EndsAt (field_set f) end) (path_seen rest)) old (reply_seen reply) new

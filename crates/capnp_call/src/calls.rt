@@ -2,7 +2,8 @@
 ghost use Rattle.std.specs.Prelude.{◌≡◌};
 ghost use Rattle.capnp_slots.specs.Copied.{refusal_of};
 ghost use Rattle.capnp_call.specs.Refusals.{any_refused, is_refused};
-ghost use Rattle.capnp_call.specs.Seen.{reply_by, reply_seen};
+ghost use Rattle.capnp_call.specs.Seen.{reply_seen};
+ghost use Rattle.capnp_call.specs.Steps.Seen.{reply_by};
 
 use capnp_dynamic_readers::dynamic_value::Reader as Value;
 use capnp_wire::error::{ErrorKind, Result};

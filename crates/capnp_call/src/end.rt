@@ -9,7 +9,8 @@ ghost use Rattle.capnp_slots.specs.Fields.{IsRoomFor};
 ghost use Rattle.capnp_slots.specs.Sources.{source_seen};
 ghost use Rattle.capnp_slots.specs.SetValues.{source_of};
 ghost use Rattle.capnp_slots.specs.Standing.{IsStanding, TakesCalls};
-ghost use Rattle.capnp_call.specs.Ends.{FieldDoes, NamedDoes, StructEnds};
+ghost use Rattle.capnp_call.specs.Ends.{StructEnds};
+ghost use Rattle.capnp_call.specs.Steps.Ends.{FieldDoes, NamedDoes};
 ghost use Rattle.capnp_call.specs.Seen.{op_seen, reply_seen, step_seen};
 
 use crate::answer::{get_field, has_field, which_member};

@@ -10,8 +10,9 @@ ghost use Rattle.capnp_schema.specs.StructHandles.{IsStruct, generic_of, number_
 ghost use Rattle.capnp_schema.specs.Types.{ListType, StructType, seen_type};
 ghost use Rattle.capnp_slots.specs.Fields.{IsRoomFor};
 ghost use Rattle.capnp_slots.specs.Groups.{IsGroupAt};
-ghost use Rattle.capnp_call.specs.Hops.{ElementGoes, FieldGoes, HopGoes, IsAt, IsAtList, IsAtStruct, HopLeads, LeadsOn, ListGoes, StructGoes, first_step};
-ghost use Rattle.capnp_call.specs.Lists.{IsListStand, refusal_at_nothing};
+ghost use Rattle.capnp_call.specs.Steps.Hops.{ElementGoes, FieldGoes, HopGoes, IsAt, IsAtList, IsAtStruct, HopLeads, LeadsOn, ListGoes, StructGoes, first_step};
+ghost use Rattle.capnp_call.specs.Lists.{IsListStand};
+ghost use Rattle.capnp_call.specs.Steps.Lists.{refusal_at_nothing};
 ghost use Rattle.capnp_call.specs.Seen.{step_seen};
 ghost use Rattle.capnp_call.specs.Walks.{IsWalked};
 ghost use Rattle.capnp_call.specs.Ways.{IsListSlot, IsStructSlot, LeadsTo};

@@ -9,7 +9,8 @@ ghost use Rattle.capnp_schema.specs.Types.{seen_type};
 ghost use Rattle.capnp_records.specs.Call.{Get};
 ghost use Rattle.capnp_records.specs.Operation.{Does};
 ghost use Rattle.capnp_records.specs.Record.{Value as RecordValue};
-ghost use Rattle.capnp_call.specs.Lists.{ElementDoes, IsListStand, ListEnds, element_at};
+ghost use Rattle.capnp_call.specs.Lists.{IsListStand, ListEnds};
+ghost use Rattle.capnp_call.specs.Steps.Lists.{ElementDoes, element_at};
 ghost use Rattle.capnp_call.specs.Seen.{reply_seen};
 
 use crate::answer::answer;

@@ -13,7 +13,8 @@ use Rattle.capnp_slots.specs.Fields.{field_set}
 use Rattle.capnp_dynamic.specs.Handed.{HandsField, HandsOut, field_filled, part_handed}
 use Rattle.capnp_dynamic.specs.declared.dynamic_value.build.Builder.{Builder as BuiltValue}
 use Rattle.capnp_dynamic.specs.declared.dynamic_value.build.Builder.TheVariants as built
-use Rattle.capnp_callers.specs.Values.{IsNoText, hands_text, is_text_type}
+use Rattle.capnp_callers.specs.Values.{hands_text, is_text_type}
+use Rattle.capnp_callers.specs.Steps.Values.{IsNoText}
 
 -- a value of another kind is a mismatch
 pub mismatched : {A : Type 0} (N : Type 0) (q : Bool) → (N → q ≡ false) → (As : Error → Type 0) (Within : Type 0) (r : Result A Error) → Within → IfErr r (λ e. (e.kind ≡ TypeMismatch) × N) →

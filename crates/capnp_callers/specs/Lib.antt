@@ -1,3 +1,4 @@
 pub mod Sight
 pub mod Streams
 pub mod Values
+pub mod Steps

@@ -1,5 +1,5 @@
 -- Lists of UInt16s, and fields that hand out a text.
-use Rattle.std.specs.Prelude.{ℕ, ◌≡◌, ◌<◌, ⊤, List, length, get_or, pos, Bool, true, false, not, ◌&&◌}
+use Rattle.std.specs.Prelude.{ℕ, ◌≡◌, ◌<◌, List, length, get_or, pos, Bool, true, false, not, ◌&&◌}
 use Rattle.capnp_device.specs.declared.error.ErrorKind.{ErrorKind}
 use Rattle.capnp_device.specs.declared.error.ErrorKind.TheVariants.{TypeMismatch}
 use Rattle.capnp_wire.specs.Reading.{list_length}
@@ -11,8 +11,6 @@ use Rattle.capnp_records.specs.Record as value
 use Rattle.capnp_records.specs.Record.{Value}
 use Rattle.capnp_records.specs.Step.{is_group_field}
 use Rattle.capnp_slots.specs.SetValues.{source_of}
-use Rattle.capnp_dynamic.specs.declared.dynamic_value.build.Builder.{Builder as BuiltValue}
-use Rattle.capnp_dynamic.specs.declared.dynamic_value.build.Builder.TheVariants as built
 use Rattle.capnp_dynamic_readers.specs.Handles.{element_of, list_reader_of}
 use Rattle.capnp_dynamic_readers.specs.Reads.{element_seen}
 use Rattle.capnp_dynamic_readers.specs.declared.dynamic_list.Reader.{Reader as ListHandle}
@@ -43,11 +41,6 @@ IsNoNumberOf l kind = (numbers : List ℕ) × (length numbers < built_count l) �
 -- a number that is given
 abbrev pub number_source : ℕ → Source
 number_source n = source_of (dynamic.UInt16 n)
-
--- a value is no text
-abbrev pub IsNoText : BuiltValue → Type 0
-IsNoText (built.Text b) = ⊥
-IsNoText v = ⊤
 
 -- whether a builder's get of a field hands out a text
 abbrev pub is_text_type : SchemaType → Bool

@@ -19,7 +19,8 @@ ghost use Rattle.capnp_dynamic.specs.Names.{IsNamed};
 ghost use Rattle.capnp_dynamic.specs.Owners.{IsGotOf};
 ghost use Rattle.capnp_dynamic.specs.Taken.{IsKindRefusal};
 ghost use Rattle.capnp_dynamic.specs.declared.dynamic_value.build.Builder.TheVariants as built;
-ghost use Rattle.capnp_callers.specs.Values.{AreNumbersOf, IsNoNumberOf, IsNoText, hands_text, number_source};
+ghost use Rattle.capnp_callers.specs.Values.{AreNumbersOf, IsNoNumberOf, hands_text, number_source};
+ghost use Rattle.capnp_callers.specs.Steps.Values.{IsNoText};
 
 use capnp_builders::text;
 use capnp_dynamic::{dynamic_list, dynamic_struct, dynamic_value};

@@ -8,7 +8,8 @@ use Rattle.std.proofs.lemmas.Map.Steps.{length-le_from_distinct_below}
 use Rattle.std.proofs.lemmas.Map.Keys.{IsDistinct-cons}
 use Rattle.capnp_schema.specs.Schema.{Schemas}
 use Rattle.capnp_compatible.specs.declared.pairs.Pair.{Pair}
-use Rattle.capnp_compatible.specs.Closing.{Apart, Within, brand_pairs, is_pair, listed_pairs}
+use Rattle.capnp_compatible.specs.Closing.{is_pair, listed_pairs}
+use Rattle.capnp_compatible.specs.Steps.Closing.{Apart, Within, brand_pairs}
 use Rattle.capnp_compatible.proofs.Lists.{at_listed, is-same, or-right}
 use Rattle.capnp_compatible.proofs.Walking.{first_in, second_in}
 

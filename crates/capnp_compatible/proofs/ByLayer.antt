@@ -9,7 +9,7 @@ use Rattle.capnp_schema.specs.Schema.{Schemas}
 use Rattle.capnp_schema.specs.Types.{SchemaType, ListType, seen_type, seen_variant}
 use Rattle.capnp_schema.specs.Facts.Layers.{seen_which}
 use Rattle.capnp_records.specs.Compatible.{Related, type_in_place}
-use Rattle.capnp_compatible.specs.Closing.{all_pairs, inside_lists, named_pair}
+use Rattle.capnp_compatible.specs.Steps.Closing.{all_pairs, inside_lists, named_pair}
 use Rattle.capnp_compatible.specs.declared.pairs.Pair.{Pair}
 
 pub seen : (s : TypeHandle) (u : TypeVariant) → u ≡ variant_of s → seen_variant u ≡ seen_type s

@@ -4,7 +4,7 @@ use Rattle.std.proofs.Common.{ap}
 use Rattle.capnp_schema.specs.Accepted.{words_root}
 use Rattle.capnp_schema.specs.Schema.{Value, VoidValue, BoolValue, IntValue, UIntValue, EnumValue, TextValue, DataValue, StructValue, ListValue, AnyPointerValue}
 use Rattle.capnp_records.specs.Compatible.{SameDefault}
-use Rattle.capnp_compatible.specs.Closing.{tree_kind, value_words}
+use Rattle.capnp_compatible.specs.Steps.Closing.{tree_kind, value_words}
 
 pub by_value : (c d : Value) → tree_kind c ≡ 0 → (SameDefault c d ↔ (c ≡ d))
 by_value (StructValue x) d h = cc

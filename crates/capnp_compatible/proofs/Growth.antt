@@ -3,7 +3,8 @@ use Rattle.std.specs.Prelude.{ℕ, ◌+◌, ◌<◌, List, Bool}
 use Rattle.std.proofs.Common.{arith, ◌∙◌, below_more}
 use Rattle.capnp_schema.specs.Schema.{Schemas, field_at}
 use Rattle.capnp_compatible.specs.declared.pairs.Pair.{Pair}
-use Rattle.capnp_compatible.specs.Closing.{Adds, Apart, Begins, Holds, HoldsNamed, Within, listed_pairs, named_pair}
+use Rattle.capnp_compatible.specs.Closing.{listed_pairs}
+use Rattle.capnp_compatible.specs.Steps.Closing.{Adds, Apart, Begins, Holds, HoldsNamed, Within, named_pair}
 use Rattle.capnp_compatible.proofs.Relating.{named_within}
 use Rattle.capnp_compatible.proofs.Lists.{begins_same}
 

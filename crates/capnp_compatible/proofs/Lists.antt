@@ -3,7 +3,8 @@ use Rattle.std.specs.Prelude.{ℕ, zero, suc, ◌<◌, ◌≡◌, refl, List, []
 use Rattle.std.proofs.Common.{arith, sym, subst}
 use Rattle.capnp_compatible.specs.declared.pairs.Pair.{Pair}
 use Rattle.capnp_records.specs.Compatible.{Pairs}
-use Rattle.capnp_compatible.specs.Closing.{Adds, Begins, Within, is_pair, listed_pairs}
+use Rattle.capnp_compatible.specs.Closing.{is_pair, listed_pairs}
+use Rattle.capnp_compatible.specs.Steps.Closing.{Adds, Begins, Within}
 
 pub within_same : (xs : List Pair) → Within (listed_pairs xs) (listed_pairs xs)
 within_same xs a b h = h

@@ -4,7 +4,7 @@ use Rattle.capnp_schema.specs.Types.{SchemaType, VoidType, BoolType, IntType, UI
 use Rattle.capnp_schema.specs.Schema.{Schemas, fields_of, field_at}
 use Rattle.capnp_records.specs.Compatible.{Pairs, Related, SharedStruct, type_in_place}
 use Rattle.capnp_compatible.specs.declared.pairs.Pair.{Pair}
-use Rattle.capnp_compatible.specs.Closing.{Holds, HoldsNamed, Within, all_pairs, named_pair}
+use Rattle.capnp_compatible.specs.Steps.Closing.{Holds, HoldsNamed, Within, all_pairs, named_pair}
 
 module _ (lists : Bool) (set : Schemas) (pairs : Pairs) where
   pub related_from : (s t : SchemaType) → Related lists set all_pairs s t → Holds pairs (named_pair lists set s t) → Related lists set pairs s t

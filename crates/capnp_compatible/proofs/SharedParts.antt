@@ -2,7 +2,7 @@
 use Rattle.std.specs.Prelude.{ℕ, Bool, ◌≤◌, ◌≡◌, ◌↔◌, length}
 use Rattle.capnp_schema.specs.Schema.{Schemas, TypedField, fields_of, node_of}
 use Rattle.capnp_records.specs.Compatible.{Pairs, Related, SameKind, SharedField, SharedStruct}
-use Rattle.capnp_compatible.specs.Closing.{FieldsShared, UnionGrows}
+use Rattle.capnp_compatible.specs.Steps.Closing.{FieldsShared, UnionGrows}
 
 pub field_parts : (lists : Bool) (set : Schemas) (pairs : Pairs) (f g : TypedField) →
     (SharedField lists set pairs f g ↔ ((SameKind f.field.kind g.field.kind) × (f.field.discriminant_value ≡ g.field.discriminant_value) × Related lists set pairs f.type g.type))

@@ -9,7 +9,8 @@ use Rattle.std.specs.Option.{unwrap_or}
 use Rattle.capnp_schema.specs.Accepted.{IsAccepted, NamesEntries}
 use Rattle.capnp_records.specs.Compatible.{IsSuccessor, SharedStruct, can_become_struct, stands_first, type_in_place}
 use Rattle.capnp_compatible.specs.declared.pairs.Pair.{Pair}
-use Rattle.capnp_compatible.specs.Closing.{Adds, Apart, AreForced, Begins, Holds, HoldsNamed, Within, all_pairs, brand_pairs, listed_pairs, named_pair}
+use Rattle.capnp_compatible.specs.Closing.{listed_pairs}
+use Rattle.capnp_compatible.specs.Steps.Closing.{Adds, Apart, AreForced, Begins, Holds, HoldsNamed, Within, all_pairs, brand_pairs, named_pair}
 use Rattle.capnp_compatible.proofs.Relating.{struct_all, struct_from, struct_named, struct_within}
 use Rattle.capnp_compatible.proofs.Lists.{at_listed, listed_at, within_pairs}
 

@@ -3,7 +3,7 @@ ghost use Rattle.std.specs.Prelude.{◌≡◌, ◌↔◌, [], IsTrue};
 ghost use Rattle.capnp_schema.specs.Accepted.{words_root};
 ghost use Rattle.capnp_schema.specs.Schema.{seen_value, seen_kind};
 ghost use Rattle.capnp_records.specs.Compatible.{SameDefault, SameKind};
-ghost use Rattle.capnp_compatible.specs.Closing.{tree_kind, value_words};
+ghost use Rattle.capnp_compatible.specs.Steps.Closing.{tree_kind, value_words};
 
 use capnp_schema::record::{FieldKind, ValueRecord};
 use capnp_wire::PointerReader;

@@ -4,7 +4,7 @@ ghost use Rattle.capnp_schema.specs.Entries.{lists_seen};
 ghost use Rattle.capnp_schema.specs.Schema.{fields_of, node_of};
 ghost use Rattle.capnp_schema.specs.FieldLists.{typed_of};
 ghost use Rattle.capnp_records.specs.Compatible.{SharedField, SharedStruct};
-ghost use Rattle.capnp_compatible.specs.Closing.{UnionGrows, all_pairs, FieldsShared};
+ghost use Rattle.capnp_compatible.specs.Steps.Closing.{UnionGrows, all_pairs, FieldsShared};
 
 use crate::brands::{field_count, field_of, node_of};
 use crate::defaults::are_same_kind;

@@ -3,7 +3,8 @@ ghost use Rattle.std.specs.Prelude.{◌≡◌, ◌<◌, ◌≤◌, IfErr, OnOk, 
 ghost use Rattle.capnp_device.specs.declared.error.ErrorKind.TheVariants.{OutOfMemory};
 ghost use Rattle.capnp_schema.specs.Entries.{lists_seen};
 ghost use Rattle.capnp_schema.specs.Schema.{fields_of, field_at};
-ghost use Rattle.capnp_compatible.specs.Closing.{Adds, Apart, Begins, Holds, HoldsNamed, Within, listed_pairs, named_pair};
+ghost use Rattle.capnp_compatible.specs.Closing.{listed_pairs};
+ghost use Rattle.capnp_compatible.specs.Steps.Closing.{Adds, Apart, Begins, Holds, HoldsNamed, Within, named_pair};
 
 use crate::brands::{field_count, field_of};
 use crate::pairs::{Pair, Pairs};

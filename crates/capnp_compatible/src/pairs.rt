@@ -1,7 +1,8 @@
 //! Pairs of brands, in the order in which they were added, and none of them twice.
 ghost use Rattle.std.specs.Prelude.{◌≡◌, ◌<◌, ◌++◌, [], ◌∷◌, IsTrue, IfErr, IfOk, OnErr, OnOk, Some, length, slice_get};
 ghost use Rattle.capnp_device.specs.declared.error.ErrorKind.TheVariants.{OutOfMemory};
-ghost use Rattle.capnp_compatible.specs.Closing.{Adds, Apart, Begins, Within, listed_pairs};
+ghost use Rattle.capnp_compatible.specs.Closing.{listed_pairs};
+ghost use Rattle.capnp_compatible.specs.Steps.Closing.{Adds, Apart, Begins, Within};
 
 use capnp_wire::error::{Error, Result};
 use std::alloc::Global;

@@ -6,7 +6,7 @@ ghost use Rattle.capnp_schema.specs.Entries.{lists_seen};
 ghost use Rattle.capnp_schema.specs.Schema.{enum_at};
 ghost use Rattle.capnp_schema.specs.Types.{seen_type, seen_variant};
 ghost use Rattle.capnp_records.specs.Compatible.{Related};
-ghost use Rattle.capnp_compatible.specs.Closing.{all_pairs, inside_lists, named_pair};
+ghost use Rattle.capnp_compatible.specs.Steps.Closing.{all_pairs, inside_lists, named_pair};
 
 use crate::first::type_in_place;
 use crate::pairs::Pair;

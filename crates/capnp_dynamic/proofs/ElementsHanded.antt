@@ -28,7 +28,7 @@ use Rattle.capnp_slots.specs.Standing.{IsUnder as IsStructUnder}
 use Rattle.capnp_dynamic.specs.Built.{HoldsElements}
 use Rattle.capnp_dynamic.specs.Handed.{HandsElementNumber, HandsOut, element_handed}
 use Rattle.capnp_dynamic.specs.declared.dynamic_value.build.Builder.{Builder as BuiltValue}
-use Rattle.capnp_dynamic_readers.specs.Leaf.{IsNumber}
+use Rattle.capnp_dynamic_readers.specs.Steps.Leaf.{IsNumber}
 use Rattle.capnp_dynamic_readers.specs.Seen.{answered_value}
 use Rattle.capnp_dynamic_readers.specs.Typed.{IsValueUnder}
 use Rattle.capnp_dynamic_readers.specs.declared.dynamic_value.Reader.{Reader as DynamicValue}

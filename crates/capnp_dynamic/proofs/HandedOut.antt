@@ -37,7 +37,8 @@ use Rattle.capnp_slots.specs.Fields.{IsPointerField, IsSlot, field_set}
 use Rattle.capnp_slots.specs.Fills.{RestsIn, due_in, filled_in}
 use Rattle.capnp_slots.specs.Groups.{IsGroupAt}
 use Rattle.capnp_dynamic.specs.Built.{HoldsElements, built_schema, built_struct}
-use Rattle.capnp_dynamic.specs.Handed.{CanBeHanded, HandsField, HandsNumber, HandsOut, IsPartRefusal, IsPartWithin, IsRefusalAt, IsWithinAt, part_handed}
+use Rattle.capnp_dynamic.specs.Handed.{HandsField, HandsNumber, HandsOut, IsPartRefusal, IsPartWithin, IsRefusalAt, IsWithinAt, part_handed}
+use Rattle.capnp_dynamic.specs.Steps.Handed.{CanBeHanded}
 use Rattle.capnp_dynamic.specs.declared.dynamic_struct.build.Builder.{Builder as StructHandle}
 use Rattle.capnp_dynamic.specs.declared.dynamic_value.build.Builder.TheVariants as built
 use Rattle.capnp_dynamic.proofs.Builders.{moved}

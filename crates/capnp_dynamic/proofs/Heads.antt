@@ -24,7 +24,8 @@ use Rattle.capnp_records.specs.Reading.{Reading, active_among, discriminant, ele
 use Rattle.capnp_records.specs.Record.{Active, Left, Levels, NoUnion, Parts, Record, Truth, Union, Value, Values}
 use Rattle.capnp_records.specs.Step.{is_group_field}
 use Rattle.capnp_dynamic_readers.specs.Facts.HasWhich.{has_by_plan}
-use Rattle.capnp_dynamic_readers.specs.Planned.{member_there, place_there, planned_has}
+use Rattle.capnp_dynamic_readers.specs.Planned.{place_there}
+use Rattle.capnp_dynamic_readers.specs.Steps.Planned.{member_there, planned_has}
 use Rattle.capnp_dynamic_readers.specs.Reads.{field_read, handed_out}
 
 -- ---- whether a field is there ----

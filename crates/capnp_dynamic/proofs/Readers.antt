@@ -15,7 +15,8 @@ use Rattle.capnp_arena.specs.Facts.Forests.{tree_step}
 use Rattle.capnp_arena.specs.Facts.Structs.{tree_struct}
 use Rattle.capnp_arena.specs.Forest.{Forest, struct_from, tree as tree_in}
 use Rattle.capnp_arena.specs.Same.{IsCutOf}
-use Rattle.capnp_arena.specs.Shape.{CompositeIn, ListIn, NoShape, Shape, StructIn, shape_target, shape_at}
+use Rattle.capnp_arena.specs.Shape.{CompositeIn, ListIn, NoShape, Shape, StructIn, shape_at}
+use Rattle.capnp_arena.specs.Steps.Shape.{shape_target}
 use Rattle.capnp_builders.specs.Blobs.{bytes_in}
 
 -- ---- nothing ----

@@ -24,7 +24,8 @@ use Rattle.capnp_slots.specs.Fills.{pointer_in}
 use Rattle.capnp_slots.specs.Groups.{IsGroupAt, group_without}
 use Rattle.capnp_slots.specs.Inits.{HasInit, HasInitn, IsInitRefusal, IsInitnRefusal, init_content, initn_content}
 use Rattle.capnp_dynamic.specs.Built.{built_schema, built_struct}
-use Rattle.capnp_dynamic.specs.Handed.{CanBeHanded, HandsInit, HandsInitn, HandsNew, HandsNewSized, HandsOut, IsSizedRefusal, IsStartRefusal, start_handed}
+use Rattle.capnp_dynamic.specs.Handed.{HandsInit, HandsInitn, HandsNew, HandsNewSized, HandsOut, IsSizedRefusal, IsStartRefusal, start_handed}
+use Rattle.capnp_dynamic.specs.Steps.Handed.{CanBeHanded}
 use Rattle.capnp_dynamic.specs.declared.dynamic_struct.build.Builder.{Builder as StructHandle}
 use Rattle.capnp_dynamic.specs.declared.dynamic_value.build.Builder.{Builder as BuiltValue}
 use Rattle.capnp_dynamic.specs.declared.dynamic_value.build.Builder.TheVariants as built

@@ -16,7 +16,8 @@ use Rattle.capnp_slots.specs.Fields.{field_set}
 use Rattle.capnp_slots.specs.Fills.{element_filled}
 use Rattle.capnp_dynamic.specs.Built.{built_element, built_elements, built_reading, built_set}
 use Rattle.capnp_dynamic.specs.Handed.{HandsElement, HandsField, HandsGroup, HandsOut, element_handed, field_filled, part_handed}
-use Rattle.capnp_dynamic.specs.Taken.{IsNoList, IsNoStruct, hands_list, hands_struct, is_list_type, is_struct_type}
+use Rattle.capnp_dynamic.specs.Taken.{hands_list, hands_struct, is_list_type, is_struct_type}
+use Rattle.capnp_dynamic.specs.Steps.Taken.{IsNoList, IsNoStruct}
 use Rattle.capnp_dynamic.specs.declared.dynamic_list.build.Builder.{Builder as ListHandle}
 use Rattle.capnp_dynamic.specs.declared.dynamic_value.build.Builder.{Builder as BuiltValue}
 use Rattle.capnp_dynamic.specs.declared.dynamic_value.build.Builder.TheVariants as built

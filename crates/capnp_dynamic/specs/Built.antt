@@ -1,8 +1,7 @@
 -- What builders of dynamic values stand on. Contracts cite these words; a builder's fields are public, so that it can be
 -- taken apart.
-use Rattle.std.specs.Prelude.{ℕ, [], ◌<◌, ◌≡◌, None}
-use Rattle.std.specs.Borrow.{Fml, Lends, MutBor}
-use mir.Syntax.{named}
+use Rattle.std.specs.Prelude.{ℕ, ◌<◌, ◌≡◌, None}
+use Rattle.std.specs.Borrow.{MutBor}
 use Rattle.capnp_wire.specs.Defaults.{list_refusal}
 use Rattle.capnp_wire.specs.Elements.{or_empty}
 use Rattle.capnp_wire.specs.Reading.{list_length}
@@ -10,7 +9,6 @@ use Rattle.capnp_wire.specs.StructLists.{HoldsStructs}
 use Rattle.capnp_wire.specs.Tree.{StructTree, Tree}
 use Rattle.capnp_arena.specs.Forest.{Forest, tree}
 use Rattle.capnp_arena.specs.Segment.{segment}
-use Rattle.capnp_arena.specs.contracts.arena.Arena.{the_row as arena_row}
 use Rattle.capnp_arena.specs.declared.arena.Arena.{Arena}
 use Rattle.capnp_arena.specs.declared.arena.Place.{Place}
 use Rattle.capnp_arena.specs.declared.struct_builder.StructBuilder.{StructBuilder}
@@ -25,8 +23,6 @@ use Rattle.capnp_records.specs.Record.{Left, Record}
 use Rattle.capnp_schema.specs.Plan.{brand_size}
 use Rattle.capnp_arena.specs.Built.{built_at}
 use Rattle.capnp_slots.specs.Standing.{IsStanding}
-use Rattle.capnp_dynamic.specs.contracts.dynamic_list.build.Builder.{the_row as list_handle_row}
-use Rattle.capnp_dynamic.specs.contracts.dynamic_struct.build.Builder.{the_row as struct_handle_row}
 use Rattle.capnp_dynamic.specs.declared.dynamic_list.build.Builder.{Builder as ListHandle}
 use Rattle.capnp_dynamic.specs.declared.dynamic_struct.build.Builder.{Builder as StructHandle}
 
@@ -95,19 +91,3 @@ IsListReady l = IsListStanding (built_set l) (built_element l) l.arena.now l.at
 -- an element is there
 abbrev pub IsIn : ℕ → ListHandle → Type 0
 IsIn j l = j < list_length (built_elements l)
-
--- ---- what is lent for a shorter time ----
-
--- a builder with the message as it was left
-abbrev pub with_message : StructHandle → Arena → StructHandle
-with_message b a = record b { arena = record b.arena { now = a } }
-
-abbrev pub with_list : ListHandle → Arena → ListHandle
-with_list l a = record l { arena = record l.arena { now = a } }
-
--- a builder that is lent for a shorter time ends as itself, with the message as it was left
-abbrev pub LendsStruct : MutBor StructHandle → StructHandle → Fml
-LendsStruct b result = Lends (struct_handle_row (record { mir = named 0; lft = [] })) arena_row b (struct_behind result) (with_message b.now)
-
-abbrev pub LendsList : MutBor ListHandle → ListHandle → Fml
-LendsList l result = Lends (list_handle_row (record { mir = named 0; lft = [] })) arena_row l (list_behind result) (with_list l.now)

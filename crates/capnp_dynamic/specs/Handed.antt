@@ -1,10 +1,10 @@
 -- What builders hand out of a pointer, an element or a field, and when it can be.
-use Rattle.std.specs.Prelude.{ℕ, ◌≡◌, ⊤, Bool, true, false, cond, None, Some, IsOk, length}
+use Rattle.std.specs.Prelude.{ℕ, ◌≡◌, Bool, true, false, cond, None, Some, length}
 use Rattle.capnp_device.specs.declared.error.Error.{Error}
-use Rattle.capnp_wire.specs.Edits.{IsDueRefusal, is_struct, struct_in}
+use Rattle.capnp_wire.specs.Edits.{IsDueRefusal}
 use Rattle.capnp_wire.specs.Elements.{or_empty}
 use Rattle.capnp_wire.specs.Place.{struct_tree}
-use Rattle.capnp_wire.specs.Reading.{as_data, as_text, element_pointer, element_struct}
+use Rattle.capnp_wire.specs.Reading.{element_pointer, element_struct}
 use Rattle.capnp_wire.specs.Tree.{StructTree, Tree, nth_tree}
 use Rattle.capnp_builders.specs.Blobs.{data_there, position, text_bytes, text_there}
 use Rattle.capnp_builders.specs.Pointers.{untyped_tree}
@@ -18,14 +18,14 @@ use Rattle.capnp_records.specs.Facts.ListValues.{below_of}
 use Rattle.capnp_records.specs.Reading.{element_value}
 use Rattle.capnp_records.specs.Record.{Left, Value}
 use Rattle.capnp_records.specs.Step.{is_group_field}
-use Rattle.capnp_records.specs.Writes.Slots.{At, Fits}
+use Rattle.capnp_records.specs.Writes.Slots.{At}
 use Rattle.capnp_slots.specs.Fields.{field_brand, field_set}
 use Rattle.capnp_slots.specs.Inits.{IsInitRefusal, IsInitnRefusal}
 use Rattle.capnp_records.specs.Writes.Contents.{init_tree, initn_tree}
 use Rattle.capnp_records.specs.Writes.ElementEnds.{InitnContent}
-use Rattle.capnp_slots.specs.Fills.{ElementRests, element_due, element_filled, fill_due, filled_in, filled_tree, is_behind}
+use Rattle.capnp_slots.specs.Fills.{ElementRests, element_due, element_filled, fill_due, filled_tree, is_behind}
 use Rattle.capnp_records.specs.Writes.TreeEnds.{InitContent, group_cleared, offset_of}
-use Rattle.capnp_dynamic.specs.Built.{HoldsElements, built_element, built_elements, built_reading, built_schema, built_set, built_struct}
+use Rattle.capnp_dynamic.specs.Built.{built_element, built_elements, built_reading, built_schema, built_set, built_struct}
 use Rattle.capnp_dynamic.specs.BuiltValues.{IsReaderOf}
 use Rattle.capnp_dynamic_readers.specs.Reads.{field_read}
 use Rattle.capnp_dynamic_readers.specs.Seen.{value_seen}
@@ -34,17 +34,6 @@ use Rattle.capnp_dynamic.specs.declared.dynamic_list.build.Builder.{Builder as L
 use Rattle.capnp_dynamic_readers.specs.declared.dynamic_value.Reader.{Reader as DynamicValue}
 use Rattle.capnp_dynamic.specs.declared.dynamic_value.build.Builder.{Builder as BuiltValue}
 use Rattle.capnp_dynamic.specs.declared.dynamic_value.build.Builder.TheVariants as built
-
--- ---- pointers ----
-
--- what stands at a pointer is of its type: text or data that can be read, a struct of its schema's sections, a list of
--- elements of their type, or null
-abbrev pub CanBeHanded : Schemas → SchemaType → Tree → Type 0
-CanBeHanded set TextType x = IsOk (as_text x)
-CanBeHanded set DataType x = IsOk (as_data x)
-CanBeHanded set (StructType b g) x = (is_struct x ≡ true) × Fits set b (struct_in x)
-CanBeHanded set (ListType e) x = HoldsElements set e x
-CanBeHanded set t x = ⊤
 
 -- a value stands on the tree of a pointer of a type: a text that is new writes at its start, and another one after its last
 -- byte; a null list reads as an empty one
@@ -66,10 +55,6 @@ HandsNumber set f s v = (r : DynamicValue) × IsReaderOf v r × (value_seen r �
 abbrev pub HandsGroup : Schemas → TypedField → StructTree → BuiltValue → Type 0
 HandsGroup set f s (built.Struct g) = (set_of (built_schema g) ≡ set) × (number_of (built_schema g) ≡ struct_number f.type) × (built_struct g ≡ s)
 HandsGroup set f s v = ⊥
-
--- the value at the pointer of a slot that was filled
-abbrev pub HandsFilled : Field → StructTree → BuiltValue → Type 0
-HandsFilled f s v = HandsOut false (field_set f) (typed_of f).type (filled_in f s) v
 
 -- what stands at the pointer of a slot once it was filled
 abbrev pub field_filled : Schemas → TypedField → StructTree → Tree

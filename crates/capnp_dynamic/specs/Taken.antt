@@ -1,5 +1,5 @@
 -- Parts that are taken as a struct or as a list alone: where a builder hands out something else, it is a mismatch.
-use Rattle.std.specs.Prelude.{ℕ, ◌≡◌, ◌⊎◌, ⊤, Bool, true, false, not, ◌&&◌, ◌||◌}
+use Rattle.std.specs.Prelude.{ℕ, ◌≡◌, ◌⊎◌, Bool, true, false, not, ◌&&◌, ◌||◌}
 use Rattle.capnp_device.specs.declared.error.Error.{Error}
 use Rattle.capnp_device.specs.declared.error.ErrorKind.TheVariants.{TypeMismatch}
 use Rattle.capnp_wire.specs.Tree.{StructTree}
@@ -11,17 +11,6 @@ use Rattle.capnp_records.specs.Step.{is_group_field}
 use Rattle.capnp_dynamic.specs.Built.{built_element}
 use Rattle.capnp_dynamic.specs.Handed.{IsElementPartRefusal, IsElementWithin, IsPartRefusal, IsPartWithin}
 use Rattle.capnp_dynamic.specs.declared.dynamic_list.build.Builder.{Builder as ListHandle}
-use Rattle.capnp_dynamic.specs.declared.dynamic_value.build.Builder.{Builder as BuiltValue}
-use Rattle.capnp_dynamic.specs.declared.dynamic_value.build.Builder.TheVariants as built
-
--- a value is no struct, and no list
-abbrev pub IsNoStruct : BuiltValue → Type 0
-IsNoStruct (built.Struct s) = ⊥
-IsNoStruct v = ⊤
-
-abbrev pub IsNoList : BuiltValue → Type 0
-IsNoList (built.List l) = ⊥
-IsNoList v = ⊤
 
 -- whether a type is a struct's, and a list's
 abbrev pub is_struct_type : SchemaType → Bool

@@ -17,9 +17,10 @@ ghost use Rattle.capnp_slots.specs.Fills.{RestsIn, due_in, filled_in};
 ghost use Rattle.capnp_dynamic.specs.Built.{IsReady, built_schema, built_struct, place_of, struct_behind};
 ghost use Rattle.capnp_dynamic.specs.BuiltValues.{CanBeRead, IsReaderOf};
 ghost use Rattle.capnp_dynamic.specs.Names.{IsNamed};
-ghost use Rattle.capnp_dynamic.specs.Handed.{HandsField, HandsFilled, HandsNumber, IsPartRefusal, IsPartWithin};
+ghost use Rattle.capnp_dynamic.specs.Handed.{HandsField, HandsNumber, IsPartRefusal, IsPartWithin};
+ghost use Rattle.capnp_dynamic.specs.Steps.Handed.{HandsFilled};
 ghost use Rattle.capnp_dynamic.specs.Owners.{IsGotOf, IsPartOf};
-ghost use Rattle.capnp_dynamic_readers.specs.Leaf.{IsNumber};
+ghost use Rattle.capnp_dynamic_readers.specs.Steps.Leaf.{IsNumber};
 ghost use Rattle.capnp_dynamic_readers.specs.Reads.{BelongsTo};
 
 use crate::dynamic_struct::{Builder, Reader};

@@ -14,7 +14,8 @@ ghost use Rattle.capnp_schema.specs.Types.{is_pointer, seen_variant};
 ghost use Rattle.capnp_records.specs.Writes.Slots.{Fits};
 ghost use Rattle.capnp_dynamic.specs.Built.{IsReady, built_schema, built_struct, place_of, struct_behind};
 ghost use Rattle.capnp_dynamic.specs.BuiltValues.{CanBeRead};
-ghost use Rattle.capnp_dynamic.specs.Handed.{CanBeHanded, HandsOut};
+ghost use Rattle.capnp_dynamic.specs.Handed.{HandsOut};
+ghost use Rattle.capnp_dynamic.specs.Steps.Handed.{CanBeHanded};
 ghost use Rattle.capnp_dynamic.specs.Owners.{IsValueAt};
 
 use crate::dynamic_value::Builder;

@@ -16,7 +16,8 @@ ghost use Rattle.capnp_slots.specs.Inits.{IsInitRefusal, IsInitnRefusal, init_co
 ghost use Rattle.capnp_dynamic.specs.Built.{IsReady, built_schema, built_struct, place_of, struct_behind};
 ghost use Rattle.capnp_dynamic.specs.BuiltValues.{CanBeRead};
 ghost use Rattle.capnp_dynamic.specs.Names.{IsNamed};
-ghost use Rattle.capnp_dynamic.specs.Handed.{CanBeHanded, HandsInit, HandsInitn, HandsNew, HandsNewSized, HandsOut, IsStartRefusal, IsSizedRefusal};
+ghost use Rattle.capnp_dynamic.specs.Handed.{HandsInit, HandsInitn, HandsNew, HandsNewSized, HandsOut, IsStartRefusal, IsSizedRefusal};
+ghost use Rattle.capnp_dynamic.specs.Steps.Handed.{CanBeHanded};
 ghost use Rattle.capnp_dynamic.specs.Owners.{IsAtPointer, IsPartOf, IsSizedOf, IsStartedOf};
 ghost use Rattle.capnp_dynamic_readers.specs.Reads.{BelongsTo};
 

@@ -10,7 +10,8 @@ use Rattle.capnp_schema.specs.Facts.GroupWalks.{steps_advance, steps_enter, step
 use Rattle.capnp_schema.specs.FieldLists.{IsFieldOf, index_of, field_schema as field_schema, typed_of}
 use Rattle.capnp_schema.specs.GroupFields.{group_field_of}
 use Rattle.capnp_schema.specs.GroupsDown.{IsGroupSchemaIn, place_of_field}
-use Rattle.capnp_schema.specs.GroupWalks.{above, frames, steps_left, walk_brand, walk_depth, walk_index, walk_schema, walk_set}
+use Rattle.capnp_schema.specs.GroupWalks.{above, frames, walk_brand, walk_depth, walk_index, walk_schema, walk_set}
+use Rattle.capnp_schema.specs.Steps.GroupWalks.{steps_left}
 use Rattle.capnp_schema.specs.Schema.{Field as FieldRecord}
 use Rattle.capnp_schema.specs.Schema.{Schemas, TypedField, is_member, kind_target}
 use Rattle.capnp_schema.specs.StructHandles.{number_of, set_of, struct_field, struct_fields}
@@ -20,12 +21,13 @@ use Rattle.capnp_records.specs.Part.{is_active, is_inactive, which_of}
 use Rattle.capnp_records.specs.Reading.{non_union_parts}
 use Rattle.capnp_records.specs.Record.{Active, NoUnion, Parts, Union, Unknown, Values, is_there}
 use Rattle.capnp_records.specs.Text.{Layout, Out, after, bracketed_text, deeper, item_if, said_text}
-use Rattle.capnp_dynamic_readers.specs.GroupTexts.{IsBracketClosed, IsNamePut, IsGroupOpened, IsOutside, IsPast, IsStart, IsPrintStep, closing, has_fields, is_item, item_by, items_from, onward, onward_of, shallower, steps_onward}
+use Rattle.capnp_dynamic_readers.specs.Steps.GroupTexts.{IsBracketClosed, IsNamePut, IsGroupOpened, IsOutside, IsPast, IsStart, IsPrintStep, closing, has_fields, is_item, item_by, items_from, onward, onward_of, shallower, steps_onward}
 use Rattle.capnp_dynamic_readers.specs.Handles.{reader_of, schema_of}
-use Rattle.capnp_dynamic_readers.specs.PartsRead.{field_in}
-use Rattle.capnp_dynamic_readers.specs.Pieces.{IsPut, IsStopped, Leads, Taken}
+use Rattle.capnp_dynamic_readers.specs.Steps.PartsRead.{field_in}
+use Rattle.capnp_dynamic_readers.specs.Pieces.{Taken}
+use Rattle.capnp_dynamic_readers.specs.Steps.Pieces.{IsPut, IsStopped, Leads}
 use Rattle.capnp_dynamic_readers.specs.Seen.{record_seen}
-use Rattle.capnp_dynamic_readers.specs.Shown.{field_item, field_shown, is_member_shown, part_seen, record_items, record_shown, union_seen}
+use Rattle.capnp_dynamic_readers.specs.Steps.Shown.{field_item, field_shown, is_member_shown, part_seen, record_items, record_shown, union_seen}
 use Rattle.capnp_dynamic_readers.specs.declared.dynamic_struct.Reader.{Reader as StructHandle}
 use Rattle.capnp_dynamic_readers.specs.declared.printer.groups.Standing.{Standing}
 use Rattle.capnp_dynamic_readers.specs.declared.printer.output.Stop.{Stop}

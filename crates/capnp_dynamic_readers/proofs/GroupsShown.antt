@@ -13,10 +13,11 @@ use Rattle.capnp_records.specs.Part.{is_active}
 use Rattle.capnp_records.specs.Reading.{active_among, discriminant, non_union_parts}
 use Rattle.capnp_records.specs.Record.{Active, MoreValues, NoUnion, NoValues, Union, Unknown, Value, Values, is_there}
 use Rattle.capnp_records.specs.Text.{Inner, Layout, Member, Out, after, before, bracketed_text, deeper, item, item_if, later, line, member, more_text, part_text, member_rest, said_text, separator, shown}
-use Rattle.capnp_dynamic_readers.specs.GroupTexts.{item_by, closing, is_item, items_from, onward, shallower}
+use Rattle.capnp_dynamic_readers.specs.Steps.GroupTexts.{item_by, closing, is_item, items_from, onward, shallower}
 use Rattle.capnp_dynamic_readers.specs.Handles.{reader_of, schema_of}
-use Rattle.capnp_dynamic_readers.specs.Pieces.{IsPut, Leads, Taken}
-use Rattle.capnp_dynamic_readers.specs.Shown.{field_item, is_member_shown, member_items, part_seen, record_items, still_pending, union_seen, unless_member, within_struct}
+use Rattle.capnp_dynamic_readers.specs.Pieces.{Taken}
+use Rattle.capnp_dynamic_readers.specs.Steps.Pieces.{IsPut, Leads}
+use Rattle.capnp_dynamic_readers.specs.Steps.Shown.{field_item, is_member_shown, member_items, part_seen, record_items, still_pending, union_seen, unless_member, within_struct}
 use Rattle.capnp_dynamic_readers.specs.declared.dynamic_struct.Reader.{Reader as StructHandle}
 use Rattle.capnp_dynamic_readers.proofs.ItemsShown.{IsActivePart, active-part, before_none, before_some, drop-end, drop-next, later_none, later_some, member-at, shown-next, suc-is}
 use Rattle.capnp_dynamic_readers.proofs.Streams.{nothing_put, same, then}

@@ -19,10 +19,10 @@ use Rattle.capnp_records.specs.Text.{Layout, Member, Out, before, item, item_if,
 use Rattle.capnp_wire.specs.Standing.{struct_of}
 use Rattle.capnp_dynamic_readers.specs.Facts.HasWhich.{not_zero}
 use Rattle.capnp_dynamic_readers.specs.Handles.{reader_of, schema_of}
-use Rattle.capnp_dynamic_readers.specs.PartsRead.{field_in}
+use Rattle.capnp_dynamic_readers.specs.Steps.PartsRead.{field_in}
 use Rattle.capnp_dynamic_readers.specs.Reads.{BelongsTo}
 use Rattle.capnp_dynamic_readers.specs.Seen.{record_seen}
-use Rattle.capnp_dynamic_readers.specs.Shown.{field_item, field_items, is_member_shown, part_seen, still_pending, union_seen, unless_member, within_struct}
+use Rattle.capnp_dynamic_readers.specs.Steps.Shown.{field_item, field_items, is_member_shown, part_seen, still_pending, union_seen, unless_member, within_struct}
 use Rattle.capnp_dynamic_readers.specs.declared.dynamic_struct.Reader.{Reader as StructHandle}
 
 -- ---- a field of a struct ----

@@ -26,10 +26,11 @@ use Rattle.capnp_records.specs.Record as value
 use Rattle.capnp_records.specs.Record.{Left, Levels, Record, Value, levels_asked}
 use Rattle.capnp_records.specs.Text.{Inner, Layout, part_text, record_text, text_within, value_text}
 use Rattle.capnp_dynamic_readers.specs.Handles.{element_of, list_set, reader_of, schema_of}
-use Rattle.capnp_dynamic_readers.specs.PartsRead.{IsElementRead, IsElementRefused, IsPart, IsPartRefused, fault_at, field_in}
+use Rattle.capnp_dynamic_readers.specs.Steps.PartsRead.{IsElementRead, IsElementRefused, IsPart, IsPartRefused, fault_at, field_in}
 use Rattle.capnp_dynamic_readers.specs.Reads.{element_seen, field_seen, handed_out}
 use Rattle.capnp_dynamic_readers.specs.Seen.{answered_value, record_seen, value_seen}
-use Rattle.capnp_dynamic_readers.specs.Shown.{field_shown, no_schemas, record_shown, set_seen, value_shown}
+use Rattle.capnp_dynamic_readers.specs.Shown.{no_schemas, set_seen}
+use Rattle.capnp_dynamic_readers.specs.Steps.Shown.{field_shown, record_shown, value_shown}
 use Rattle.capnp_dynamic_readers.specs.Typed.{IsOf, IsValueUnder}
 use Rattle.capnp_dynamic_readers.specs.declared.dynamic_list.Reader.{Reader as ListHandle}
 use Rattle.capnp_dynamic_readers.specs.declared.dynamic_struct.Reader.{Reader as StructHandle}

@@ -8,8 +8,9 @@ use Rattle.std.specs.Result.{is_ok}
 use Rattle.std.specs.Str.{IsAscii, IsNotAscii, IsUtf8, is_utf8}
 use Rattle.capnp_records.specs.Facts.Spelled.{form_spelled, some_bytes, some_spelled}
 use Rattle.capnp_records.specs.Text.{Out, Pieces, debug_pieces, decimals, form_or, quoted_text, said_text}
-use Rattle.capnp_dynamic_readers.specs.Leaf.{two_digits}
-use Rattle.capnp_dynamic_readers.specs.Pieces.{IsAppended, IsPut, Taken}
+use Rattle.capnp_dynamic_readers.specs.Steps.Leaf.{two_digits}
+use Rattle.capnp_dynamic_readers.specs.Pieces.{IsAppended, Taken}
+use Rattle.capnp_dynamic_readers.specs.Steps.Pieces.{IsPut}
 use Rattle.capnp_dynamic_readers.proofs.Streams.{bytes_put, nothing_put, three_put, two_put}
 use Rattle.std.proofs.lemmas.Bool.{true≢false}
 use Rattle.std.proofs.lemmas.Bool.Decides.{nat_tests}

@@ -16,7 +16,7 @@ use Rattle.capnp_records.specs.Reading.{Reading, kind_value, record_of, record_w
 use Rattle.capnp_records.specs.Record.{Levels}
 use Rattle.capnp_records.specs.Record as value
 use Rattle.capnp_dynamic_readers.specs.Reads.{field_read, handed_out}
-use Rattle.capnp_dynamic_readers.specs.Planned.{IsSound, placed_read}
+use Rattle.capnp_dynamic_readers.specs.Steps.Planned.{IsSound, placed_read}
 
 -- a group's type is that of a struct
 group-brand : (set : Schemas) (v : TypeVariant) (n : ℕ) → GroupFits set (Group n) (seen_variant v) → struct_brand (seen_variant v) ≡ Some (struct_number (seen_variant v))

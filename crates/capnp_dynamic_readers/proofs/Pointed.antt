@@ -23,7 +23,7 @@ use Rattle.capnp_records.specs.Default.{default_value, empty_value, read_of, unl
 use Rattle.capnp_records.specs.Reading.{elements_value, entered_value, of_read, struct_record, value_of}
 use Rattle.capnp_records.specs.Record.{Left, Levels, Value}
 use Rattle.capnp_records.specs.Record as value
-use Rattle.capnp_dynamic_readers.specs.Behind.{data_of, list_answered, default_list_words, struct_answered, struct_words, default_text_bytes}
+use Rattle.capnp_dynamic_readers.specs.Steps.Behind.{data_of, list_answered, default_list_words, struct_answered, struct_words, default_text_bytes}
 
 -- a value that is there, and a null
 pub there : (set : Schemas) (d : SchemaValue) (t : SchemaType) (x : Tree) (l : Levels) → is_null_tree x ≡ false → read_of set d t (value_of set x l t) ≡ value_of set x l t

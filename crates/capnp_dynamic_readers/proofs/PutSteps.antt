@@ -3,9 +3,10 @@ use Rattle.std.specs.Prelude.{ℕ, ◌+◌, ◌-◌, ◌<◌, ◌≡◌, ◌==�
 use Rattle.std.proofs.Common.{sym, subst, ◌∙◌}
 use Rattle.capnp_device.specs.declared.error.ErrorKind.{ErrorKind}
 use Rattle.capnp_records.specs.Text.{Layout, deeper, more_text, said_text, separator}
-use Rattle.capnp_dynamic_readers.specs.Pieces.{IsPut, IsStopped, Leads, Taken}
+use Rattle.capnp_dynamic_readers.specs.Pieces.{Taken}
+use Rattle.capnp_dynamic_readers.specs.Steps.Pieces.{IsPut, IsStopped, Leads}
 use Rattle.capnp_dynamic_readers.specs.Reads.{element_seen}
-use Rattle.capnp_dynamic_readers.specs.Shown.{count_of, element_items, element_shown, list_shown, record_shown, value_shown}
+use Rattle.capnp_dynamic_readers.specs.Steps.Shown.{count_of, element_items, element_shown, list_shown, record_shown, value_shown}
 use Rattle.capnp_dynamic_readers.specs.declared.dynamic_list.Reader.{Reader as ListHandle}
 use Rattle.capnp_dynamic_readers.specs.declared.dynamic_struct.Reader.{Reader as StructHandle}
 use Rattle.capnp_dynamic_readers.specs.declared.dynamic_value.Reader.{Reader as DynamicValue}

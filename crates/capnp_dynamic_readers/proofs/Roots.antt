@@ -9,8 +9,10 @@ use Rattle.capnp_schema.specs.Schema.{VoidValue, node_of}
 use Rattle.capnp_schema.specs.StructHandles.{number_of, set_of}
 use Rattle.capnp_records.specs.Text.{Layout, Out, part_text, text_within}
 use Rattle.capnp_dynamic_readers.specs.Handles.{schema_of}
-use Rattle.capnp_dynamic_readers.specs.Pieces.{IsPut, IsStopped, Taken, stopped_kind}
-use Rattle.capnp_dynamic_readers.specs.Shown.{record_shown, root_shown, struct_printed, value_shown}
+use Rattle.capnp_dynamic_readers.specs.Pieces.{Taken, stopped_kind}
+use Rattle.capnp_dynamic_readers.specs.Steps.Pieces.{IsPut, IsStopped}
+use Rattle.capnp_dynamic_readers.specs.Shown.{struct_printed}
+use Rattle.capnp_dynamic_readers.specs.Steps.Shown.{record_shown, root_shown, value_shown}
 use Rattle.capnp_dynamic_readers.specs.Typed.{struct_type}
 use Rattle.capnp_dynamic_readers.specs.declared.dynamic_struct.Reader.{Reader as StructHandle}
 use Rattle.capnp_dynamic_readers.specs.declared.dynamic_value.Reader.{Reader as DynamicValue}

@@ -8,10 +8,12 @@ use Rattle.capnp_schema.specs.Types.{SchemaType}
 use Rattle.capnp_records.specs.Record.{Value}
 use Rattle.capnp_records.specs.Text.{Inner, Layout, Out, after, bracketed_text, deeper, line, list_text, more_text, said_text, separator, struct_text, text_within, value_text}
 use Rattle.capnp_dynamic_readers.specs.Handles.{schema_of}
-use Rattle.capnp_dynamic_readers.specs.Leaf.{IsLeaf, leaf_text}
-use Rattle.capnp_dynamic_readers.specs.Pieces.{IsFull, IsPut, IsStopped, Leads, Taken}
+use Rattle.capnp_dynamic_readers.specs.Steps.Leaf.{IsLeaf, leaf_text}
+use Rattle.capnp_dynamic_readers.specs.Pieces.{Taken}
+use Rattle.capnp_dynamic_readers.specs.Steps.Pieces.{IsFull, IsPut, IsStopped, Leads}
 use Rattle.capnp_dynamic_readers.specs.Reads.{element_seen}
-use Rattle.capnp_dynamic_readers.specs.Shown.{count_of, element_items, element_shown, list_shown, record_items, record_shown, set_seen, type_seen, value_shown}
+use Rattle.capnp_dynamic_readers.specs.Shown.{set_seen, type_seen}
+use Rattle.capnp_dynamic_readers.specs.Steps.Shown.{count_of, element_items, element_shown, list_shown, record_items, record_shown, value_shown}
 use Rattle.capnp_dynamic_readers.specs.Seen.{value_seen}
 use Rattle.capnp_dynamic_readers.specs.declared.dynamic_list.Reader.{Reader as ListHandle}
 use Rattle.capnp_dynamic_readers.specs.declared.dynamic_struct.Reader.{Reader as StructHandle}

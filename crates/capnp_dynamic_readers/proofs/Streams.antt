@@ -5,7 +5,8 @@ use Rattle.std.proofs.Common.{ap, sym, subst, ◌∙◌, append_assoc, append-ni
 use Rattle.std.proofs.lemmas.Bool.{true≢false}
 use Rattle.capnp_records.specs.Facts.Spelled.{both_text, known_spelled, said_both}
 use Rattle.capnp_records.specs.Text.{Layout, Out, after, deeper, line, said_text, separator}
-use Rattle.capnp_dynamic_readers.specs.Pieces.{Gives, IsPut, Leads, Taken}
+use Rattle.capnp_dynamic_readers.specs.Pieces.{Taken}
+use Rattle.capnp_dynamic_readers.specs.Steps.Pieces.{Gives, IsPut, Leads}
 
 pub deeper_is : (n : ℕ) → Some (n + 1) ≡ deeper (Some n)
 deeper_is n = ap Some (omega arith)

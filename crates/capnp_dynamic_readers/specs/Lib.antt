@@ -1,10 +1,7 @@
 pub mod Annotated
-pub mod Behind
 pub mod Facts
 pub mod Handles
 pub mod Kinds
-pub mod Leaf
-pub mod PartsRead
 pub mod Pieces
 pub mod Planned
 pub mod Reads
@@ -13,4 +10,4 @@ pub mod Shown
 pub mod Taken
 pub mod Typed
 pub mod Viewed
-pub mod GroupTexts
+pub mod Steps

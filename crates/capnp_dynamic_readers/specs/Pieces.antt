@@ -1,6 +1,5 @@
 -- Texts as they are put piece by piece into a place.
-use Rattle.std.specs.Prelude.{ℕ, List, ◌++◌, Option, Some, Result, Ok, Err, ◌≡◌, ◌≢◌, ⊤, string_bytes}
-use Rattle.std.specs.Fmt.{◌++?◌}
+use Rattle.std.specs.Prelude.{ℕ, List, ◌++◌, Option, Some, ◌≡◌, string_bytes}
 use Rattle.std.specs.declared.alloc.AllocError.{AllocError}
 use Rattle.capnp_device.specs.declared.error.ErrorKind.{ErrorKind}
 use Rattle.capnp_device.specs.declared.error.ErrorKind.TheVariants.{OutOfMemory}
@@ -23,29 +22,6 @@ made_bytes made = string_bytes made.text
 
 abbrev pub made_text : Made → Taken
 made_text made = Some (made_bytes made)
-
--- a text was put after what was taken
-abbrev pub IsPut : Taken → Out → Taken → Type 0
-IsPut old o new = (bytes : List ℕ) × IsText o bytes × (old ++? Some bytes ≡ new)
-
--- what comes of a text that is to be put: it was put, or it is refused
-abbrev pub Gives : Taken → Out → Result Taken ErrorKind → Type 0
-Gives old o (Ok new) = IsPut old o new
-Gives old o (Err kind) = o ≡ Err kind
-
--- what comes of the rest of a text comes of the whole
-abbrev pub Leads : (old : Taken) → (whole : Out) → (now : Taken) → (rest : Out) → Type 0
-Leads old whole now rest = (r : Result Taken ErrorKind) → Gives now rest r → Gives old whole r
-
--- why a printer stopped that was to put a text: the text is refused with that number, or there was no room
-abbrev pub IsStopped : {F : Type 0} → Out → Stop F → Type 0
-IsStopped o (Refused e) = e.kind ≢ OutOfMemory → o ≡ Err e.kind
-IsStopped o (Full fault) = ⊤
-
--- there was no room
-abbrev pub IsFull : {F : Type 0} → Stop F → Type 0
-IsFull (Refused e) = e.kind ≡ OutOfMemory
-IsFull (Full fault) = ⊤
 
 -- the number of the refusal of a printer that stopped in a string
 abbrev pub stopped_kind : Stop AllocError → ErrorKind

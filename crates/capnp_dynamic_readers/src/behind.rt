@@ -4,7 +4,7 @@ ghost use Rattle.std.specs.Option.{option_copied};
 ghost use Rattle.capnp_schema.specs.Schema.{Schemas, VoidValue, kind_default, seen_kind};
 ghost use Rattle.capnp_schema.specs.Types.{DataType, ListType, SchemaType, StructType, TextType, element_size};
 ghost use Rattle.capnp_dynamic_readers.specs.Reads.{pointer_read};
-ghost use Rattle.capnp_dynamic_readers.specs.Behind.{data_answered, data_of, list_answered, default_list_words, struct_answered, struct_words, text_answered, default_text_bytes};
+ghost use Rattle.capnp_dynamic_readers.specs.Steps.Behind.{data_answered, data_of, list_answered, default_list_words, struct_answered, struct_words, text_answered, default_text_bytes};
 
 use capnp_schema::record::{FieldKind, ValueRecord};
 use capnp_wire::error::Result;

@@ -8,7 +8,7 @@ ghost use Rattle.capnp_schema.specs.SlotValue.{bits_at};
 ghost use Rattle.capnp_schema.specs.Types.{is_pointer, width, seen_variant};
 ghost use Rattle.capnp_records.specs.Reading.{number_value};
 ghost use Rattle.capnp_records.specs.Record.{Left};
-ghost use Rattle.capnp_dynamic_readers.specs.Planned.{IsSound, member_there, placed_read, planned_has};
+ghost use Rattle.capnp_dynamic_readers.specs.Steps.Planned.{IsSound, member_there, placed_read, planned_has};
 ghost use Rattle.capnp_dynamic_readers.specs.Reads.{pointer_read};
 ghost use Rattle.capnp_dynamic_readers.specs.Seen.{answered_value};
 ghost use Rattle.capnp_dynamic_readers.specs.Typed.{IsOf};

@@ -1,8 +1,10 @@
 //! The text of a value.
 ghost use Rattle.std.specs.Prelude.{◌≡◌, ◌≢◌, Err, IfErr, OnErr, OnOk, string_bytes};
 ghost use Rattle.capnp_device.specs.declared.error.ErrorKind.TheVariants.{OutOfMemory};
-ghost use Rattle.capnp_dynamic_readers.specs.Pieces.{IsAppended, IsPut, IsStopped};
-ghost use Rattle.capnp_dynamic_readers.specs.Shown.{printed_text, root_shown};
+ghost use Rattle.capnp_dynamic_readers.specs.Pieces.{IsAppended};
+ghost use Rattle.capnp_dynamic_readers.specs.Steps.Pieces.{IsPut, IsStopped};
+ghost use Rattle.capnp_dynamic_readers.specs.Shown.{printed_text};
+ghost use Rattle.capnp_dynamic_readers.specs.Steps.Shown.{root_shown};
 
 mod groups;
 mod leaves;

@@ -18,7 +18,7 @@ use Rattle.capnp_records.specs.Record.{Left, NoValues, Record, Value, Values}
 use Rattle.capnp_records.specs.Run.{root_type}
 use Rattle.capnp_records.specs.Step.{Found, StepTarget, element_target, field_found, field_target, in_list, in_record, step_target, walked_by_type}
 use Rattle.capnp_records.specs.Text.{Out}
-use Rattle.capnp_show_engine.specs.Refusals.{IsOfRead}
+use Rattle.capnp_show_engine.specs.Steps.Refusals.{IsOfRead}
 use Rattle.capnp_show_engine.specs.Show.{as_printed}
 use Rattle.capnp_patch.specs.Gets.{Reached, handed_value, got_text, is_empty, is_group_type, path_read, reached_value, reached_text, target_read, tested_step, tested_found, tested_type, text_at}
 use Rattle.capnp_show_engine.specs.Facts.TextSound.{OutSound, whole-sound}

@@ -1,4 +1,4 @@
 pub mod Gets
 pub mod Lines
 pub mod Patches
-pub mod Reaching
+pub mod Steps

@@ -6,7 +6,7 @@ ghost use Rattle.capnp_arena.specs.Message.{IsMessage, message_tree};
 ghost use Rattle.capnp_schema.specs.StructHandles.{IsStruct};
 ghost use Rattle.capnp_patch.specs.Lines.{AreTold};
 ghost use Rattle.capnp_patch.specs.Patches.{IsBeginning, IsCutShort, IsLeftOfBytes, IsLeftOfNew, IsMade, IsNotPatched, IsOutput, IsPatchCutShort, IsPatched, IsUnread, is_kept};
-ghost use Rattle.capnp_show_engine.specs.Refusals.{IsOfRead};
+ghost use Rattle.capnp_show_engine.specs.Steps.Refusals.{IsOfRead};
 ghost use Rattle.capnp_show_engine.specs.Show.{IsOfMessage};
 
 use crate::lines::get_lines;

@@ -6,7 +6,7 @@ ghost use Rattle.capnp_schema.specs.StructHandles.{IsStruct, number_of, set_of};
 ghost use Rattle.capnp_call.specs.Seen.{path_seen};
 ghost use Rattle.capnp_dynamic_readers.specs.Pieces.{IsAppended};
 ghost use Rattle.capnp_patch.specs.Gets.{IsGetCutShort, IsGot, IsNotGot, got_text};
-ghost use Rattle.capnp_show_engine.specs.Refusals.{IsOfRead};
+ghost use Rattle.capnp_show_engine.specs.Steps.Refusals.{IsOfRead};
 ghost use Rattle.capnp_show_engine.specs.Show.{IsLineOf, IsOfMessage};
 
 use crate::reach::read_path;

@@ -11,7 +11,7 @@ ghost use Rattle.capnp_dynamic_readers.specs.Shown.{type_seen};
 ghost use Rattle.capnp_dynamic_readers.specs.Typed.{IsOf};
 ghost use Rattle.capnp_dynamic_readers.specs.declared.dynamic_value.Reader.TheVariants.{List as ListOf, Struct as StructOf};
 ghost use Rattle.capnp_patch.specs.Gets.{value_part_seen, path_read, seen_read, step_read, tested_type};
-ghost use Rattle.capnp_patch.specs.Reaching.{test_found};
+ghost use Rattle.capnp_patch.specs.Steps.Reaching.{test_found};
 
 use capnp_base::introspect::{Type, TypeVariant};
 use capnp_call::calls::Step;

@@ -20,7 +20,8 @@ use Rattle.capnp_records.specs.Facts.NewTrees.{copied-given, text-closed}
 use Rattle.capnp_records.specs.Facts.Numbers.{IsStored, number-content, stored-given, suits-number}
 use Rattle.capnp_records.specs.Facts.PartRead.{nth-plain_parts, slot-part}
 use Rattle.capnp_records.specs.Default.{default_record, default_value, read_of}
-use Rattle.capnp_records.specs.Laws.{IsFieldAt, SameOutside}
+use Rattle.capnp_records.specs.Laws.{IsFieldAt}
+use Rattle.capnp_records.specs.Steps.Laws.{SameOutside}
 use Rattle.capnp_records.specs.Part.{active_value, has_of, is_active, is_inactive, nth_value, part_at, which_of, with_part, with_value}
 use Rattle.capnp_records.specs.ReadBack.{AreApart, ClearIsRead, ClearedIsActive, ContentIsRead, CopiedIsActive, CopyIsRead, DataIsRead, GroupStartsAtFirst, IsSlotIn, NumberIsRead, OthersAreRead, OthersAreThere, NonUnionKeepsActive, TextIsRead, WrittenIsActive, content_read}
 use Rattle.capnp_records.specs.Reading.{number_value, part_of, reads, struct_record, value_of, values_of}

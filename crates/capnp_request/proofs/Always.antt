@@ -17,7 +17,8 @@ use Rattle.capnp_dynamic_readers.specs.Handles.{reader_of, schema_of}
 use Rattle.capnp_dynamic_readers.specs.Reads.{handed_out}
 use Rattle.capnp_dynamic_readers.specs.Seen.{record_seen}
 use Rattle.capnp_dynamic_readers.specs.declared.dynamic_struct.Reader.{Reader as StructHandle}
-use Rattle.capnp_request.specs.Handles.{IsRequestFieldActive, IsAlwaysRead, IsRequestRecord, is_always_read, is_whole}
+use Rattle.capnp_request.specs.Handles.{IsRequestRecord}
+use Rattle.capnp_request.specs.Steps.Handles.{IsRequestFieldActive, IsAlwaysRead, is_always_read, is_whole}
 use Rattle.capnp_request.specs.Parts.{request_read_at}
 use Rattle.capnp_request.proofs.PartsSeen.{seen_part}
 

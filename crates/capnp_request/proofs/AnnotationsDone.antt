@@ -9,7 +9,7 @@ use Rattle.capnp_records.specs.Record.{Record}
 use Rattle.capnp_records.specs.Record.{Value as RecordValue}
 use Rattle.capnp_dynamic_readers.specs.Seen.{list_seen}
 use Rattle.capnp_dynamic_readers.specs.declared.dynamic_list.Reader.{Reader as ListHandle}
-use Rattle.capnp_request.specs.Handles.{values_left}
+use Rattle.capnp_request.specs.Steps.Handles.{values_left}
 use Rattle.capnp_request.proofs.ListsRead.{each_whole}
 use Rattle.capnp_request.specs.Conversion.{annotation_of, annotations_of, declared_in, declared_term, declared_type}
 use Rattle.capnp_request.specs.Parts.{request_read_at}
@@ -18,7 +18,8 @@ use Rattle.capnp_request.specs.Scopes.{node_named}
 use Rattle.capnp_request.specs.Terms.{BrandTerm, SchemaNode, TypeTerm, UnreadType, ValueTerm}
 use Rattle.capnp_request.specs.Types.{named_scopes, type_of}
 use Rattle.capnp_request.specs.Values.{value_stated}
-use Rattle.capnp_request.specs.Work.{◌>>=◌, Bound, Named, Numbered, Seen, Work, work_continued, each_read, work_of, named_with, nothing_seen, work_said, seen_in, work_unnoted}
+use Rattle.capnp_request.specs.Work.{Bound, Named, Seen, Work, each_read, work_of, nothing_seen, work_said, seen_in, work_unnoted}
+use Rattle.capnp_request.specs.Steps.Work.{◌>>=◌, Numbered, work_continued, named_with}
 
 -- ---- work with what is seen in it alone ----
 

@@ -11,7 +11,7 @@ use Rattle.capnp_base.specs.declared.introspect.BaseType.TheVariants as base
 use Rattle.capnp_base.specs.contracts.introspect.BaseTypePartialEq.TheImpl as base_eq
 use Rattle.capnp_base.specs.contracts.introspect.TypePartialEq.TheImpl as type_eq
 use Rattle.capnp_schema.specs.Types.{ListType, lists_of, seen_base, seen_type}
-use Rattle.capnp_request.specs.Bindings.{bounds, seen_bound}
+use Rattle.capnp_request.specs.Steps.Bindings.{bounds, seen_bound}
 use Rattle.capnp_request.specs.Types.{innermost_type, kind_number, lists_in, named_entry, same_bound, same_scope, same_type, same_types}
 use Rattle.capnp_request.specs.contracts.entries.BoundNodePartialEq.TheImpl as node_eq
 use Rattle.capnp_request.specs.contracts.entries.BoundScopePartialEq.TheImpl as scope_eq

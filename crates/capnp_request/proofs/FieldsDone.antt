@@ -13,14 +13,15 @@ use Rattle.capnp_records.specs.Record as value
 use Rattle.capnp_records.specs.Record.{Record}
 use Rattle.capnp_records.specs.Record.{Value as RecordValue}
 use Rattle.capnp_request.specs.Conversion.{Converted, Note, annotations_of, field_of, is_untyped, is_untyped_default, kind_of, converted_name, notes_of}
-use Rattle.capnp_request.specs.ConvertedSeen.{typed_annotations}
+use Rattle.capnp_request.specs.Steps.ConvertedSeen.{typed_annotations}
 use Rattle.capnp_request.specs.Parts.{request_read_at}
 use Rattle.capnp_request.specs.Reading.{annotation_terms_in, by_member, field_kinds, field_said, group_said, in_struct, number_in, slot_said, text_term, type_levels, type_said, value_in, value_said, whole_type}
 use Rattle.capnp_request.specs.Scopes.{node_named}
 use Rattle.capnp_request.specs.Terms.{AnnotationTerm, FieldKindTerm, GroupTerm, Said, SchemaNode, SlotTerm, TypeTerm, UnreadField, UnreadType, UnreadValue, ValueTerm}
 use Rattle.capnp_request.specs.Types.{add_entry, is_of_kind, is_struct_kind, type_of}
 use Rattle.capnp_request.specs.Values.{value_stated}
-use Rattle.capnp_request.specs.Work.{◌>>=◌, Bound, Entry, GroupOf, Named, Numbered, Seen, Work, work_continued, work_of, named_with, nothing_seen, work_said, seen_in, where_so}
+use Rattle.capnp_request.specs.Work.{Bound, Entry, GroupOf, Named, Seen, Work, work_of, nothing_seen, work_said, seen_in, where_so}
+use Rattle.capnp_request.specs.Steps.Work.{◌>>=◌, Numbered, work_continued, named_with}
 use Rattle.capnp_request.proofs.AnnotationsDone.{seen_done, seen_refused}
 
 module _ (nodes : List SchemaNode) (strict : Bool) (inside : List Bound) (n i : ℕ) where

@@ -6,7 +6,7 @@ use Rattle.std.specs.Global.{Global}
 use Rattle.std.specs.HashMap.{Updates, get}
 use Rattle.std.specs.Prelude.{Vec}
 use Rattle.capnp_request.specs.Names.{Holder, is_taken}
-use Rattle.capnp_request.specs.NamesMade.{AreHolders, holder_of, one_more}
+use Rattle.capnp_request.specs.Steps.NamesMade.{AreHolders, holder_of, one_more}
 use Rattle.capnp_request.specs.declared.names.Holder.{Holder as HolderRecord}
 use Rattle.capnp_request.specs.declared.names.Names.{Names}
 

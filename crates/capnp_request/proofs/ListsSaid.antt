@@ -13,7 +13,7 @@ use Rattle.capnp_dynamic_readers.specs.Handles.{element_of, list_reader_of}
 use Rattle.capnp_dynamic_readers.specs.Reads.{element_seen}
 use Rattle.capnp_dynamic_readers.specs.Seen.{list_seen}
 use Rattle.capnp_dynamic_readers.specs.declared.dynamic_list.Reader.{Reader as ListHandle}
-use Rattle.capnp_request.specs.Handles.{IsListOf, element_in, values_left}
+use Rattle.capnp_request.specs.Steps.Handles.{IsListOf, element_in, values_left}
 use Rattle.capnp_request.specs.Parts.{element_read, request_struct}
 use Rattle.capnp_request.specs.Reading.{each_said, in_struct, list_said}
 use Rattle.capnp_request.specs.Terms.{Said}

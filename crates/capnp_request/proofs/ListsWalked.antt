@@ -7,11 +7,11 @@ use Rattle.capnp_records.specs.Record.{Record}
 use Rattle.capnp_dynamic_readers.specs.Reads.{element_seen}
 use Rattle.capnp_dynamic_readers.specs.declared.dynamic_list.Reader.{Reader as ListHandle}
 use Rattle.capnp_request.specs.Conversion.{Converted, field_of, fields_of}
-use Rattle.capnp_request.specs.ConvertedSeen.{seen_converted}
-use Rattle.capnp_request.specs.Handles.{IsListOf, values_left}
+use Rattle.capnp_request.specs.Steps.ConvertedSeen.{seen_converted}
+use Rattle.capnp_request.specs.Steps.Handles.{IsListOf, values_left}
 use Rattle.capnp_request.specs.Parts.{request_struct}
 use Rattle.capnp_request.specs.Reading.{each_said, field_said}
-use Rattle.capnp_request.specs.StructsSeen.{seen_fields}
+use Rattle.capnp_request.specs.Steps.StructsSeen.{seen_fields}
 use Rattle.capnp_request.specs.Terms.{FieldTerm, Said, SchemaNode}
 use Rattle.capnp_request.specs.Work.{Bound, Named, Work, each_read}
 use Rattle.capnp_request.specs.declared.fields.ConvertedField.{ConvertedField}

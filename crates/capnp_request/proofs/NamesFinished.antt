@@ -5,7 +5,7 @@ use Rattle.capnp_device.specs.declared.error.ErrorKind.{ErrorKind}
 use Rattle.capnp_device.specs.declared.error.ErrorKind.TheVariants.{OutOfMemory, TooManyTypes}
 use Rattle.capnp_request.specs.Conversion.{converted_name}
 use Rattle.capnp_request.specs.Names.{finished_name}
-use Rattle.capnp_request.specs.NamesMade.{IsTooLong}
+use Rattle.capnp_request.specs.Steps.NamesMade.{IsTooLong}
 use Rattle.capnp_request.specs.Terms.{Said}
 
 abbrev by_length : Bool → Said (List ℕ) → Said (List ℕ)

@@ -16,9 +16,9 @@ use Rattle.capnp_schema.specs.Schema.{Field, Node, seen_field, seen_node}
 use Rattle.capnp_schema.specs.declared.record.FieldRecord.{FieldRecord}
 use Rattle.capnp_schema.specs.declared.record.NodeRecord.{NodeRecord}
 use Rattle.capnp_schema.specs.Types.{SchemaType, lists_of, seen_base, seen_variant}
-use Rattle.capnp_request.specs.Bindings.{bounds, seen_bound}
+use Rattle.capnp_request.specs.Steps.Bindings.{bounds, seen_bound}
 use Rattle.capnp_request.specs.Names.{bindings_name, bound_name, dotted_name, finished_name, group_name, more_names, part_bindings, type_name}
-use Rattle.capnp_request.specs.NamesMade.{IsTooLong, bound_name_at, names_nothing, repeated_piece, struct_names, texts}
+use Rattle.capnp_request.specs.Steps.NamesMade.{IsTooLong, bound_name_at, names_nothing, repeated_piece, struct_names, texts}
 use Rattle.capnp_request.specs.declared.entries.BoundScope.{BoundScope}
 
 -- a name that begins with one that is too long is too long

@@ -17,8 +17,9 @@ use Rattle.capnp_dynamic_readers.specs.Reads.{element_seen}
 use Rattle.capnp_dynamic_readers.specs.Seen.{list_seen, record_seen}
 use Rattle.capnp_dynamic_readers.specs.declared.dynamic_list.Reader.{Reader as ListHandle}
 use Rattle.capnp_dynamic_readers.specs.declared.dynamic_struct.Reader.{Reader as StructHandle}
-use Rattle.capnp_request.specs.Handles.{IsListOf, IsRequestRecord, values_left}
-use Rattle.capnp_request.specs.Nodes.{first_kept, node_record, or_none}
+use Rattle.capnp_request.specs.Handles.{IsRequestRecord}
+use Rattle.capnp_request.specs.Steps.Handles.{IsListOf, values_left}
+use Rattle.capnp_request.specs.Steps.Nodes.{first_kept, node_record, or_none}
 use Rattle.capnp_request.specs.Parts.{request_struct, request_read_at}
 use Rattle.capnp_request.specs.Reading.{all_said, both_said, each_said, node_said, nodes_in, whole_list}
 use Rattle.capnp_request.specs.Scopes.{node_named, some_where}

@@ -13,7 +13,8 @@ use Rattle.capnp_request.specs.Conversion.{declared_term, kind_declared}
 use Rattle.capnp_request.specs.Parts.{request_read_at}
 use Rattle.capnp_request.specs.Reading.{annotation_terms_in, by_member, declaration_said, enumerant_said, enumerants_said, id_said, list_or, list_said, node_kinds, node_said, number_in, struct_said, text_term, truth_in, list_value_count, whole_list}
 use Rattle.capnp_request.specs.Terms.{AnnotationNode, EnumNode, NodeKind, OtherNode, SchemaNode, StructNode}
-use Rattle.capnp_request.specs.Types.{is_annotation, is_enum, is_of_kind, is_root, is_struct_kind}
+use Rattle.capnp_request.specs.Types.{is_enum, is_of_kind, is_root, is_struct_kind}
+use Rattle.capnp_request.specs.Steps.Types.{is_annotation}
 
 pub node_id : (r : Record) → (node_said r).id ≡ number_in (request_read_at 2 0 r)
 unfolding node_said

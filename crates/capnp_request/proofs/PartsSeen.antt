@@ -19,7 +19,8 @@ use Rattle.capnp_dynamic_readers.specs.Seen.{record_seen}
 use Rattle.capnp_dynamic_readers.specs.Typed.{IsOf}
 use Rattle.capnp_dynamic_readers.specs.declared.dynamic_value.Reader.{Reader as DynamicValue}
 use Rattle.capnp_dynamic_readers.specs.declared.dynamic_struct.Reader.{Reader as StructHandle}
-use Rattle.capnp_request.specs.Handles.{IsRequestFieldActive, IsRequestRecord}
+use Rattle.capnp_request.specs.Handles.{IsRequestRecord}
+use Rattle.capnp_request.specs.Steps.Handles.{IsRequestFieldActive}
 use Rattle.capnp_request.specs.Parts.{request_read_at}
 
 -- a field is plain, or the active member of a record

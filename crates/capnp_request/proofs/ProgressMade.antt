@@ -5,12 +5,12 @@ use Rattle.capnp_device.specs.declared.error.ErrorKind.{ErrorKind}
 use Rattle.capnp_device.specs.declared.error.ErrorKind.TheVariants.{TooManyTypes}
 use Rattle.capnp_schema.specs.Schema.{Brand, Node, seen_brand, seen_enum, seen_node}
 use Rattle.capnp_schema.specs.declared.record.NodeRecord.{NodeRecord}
-use Rattle.capnp_request.specs.Bindings.{bounds}
+use Rattle.capnp_request.specs.Steps.Bindings.{bounds}
 use Rattle.capnp_request.specs.Conversion.{Note}
 use Rattle.capnp_request.specs.Names.{Holder}
-use Rattle.capnp_request.specs.NamesMade.{AreHolders, texts}
+use Rattle.capnp_request.specs.Steps.NamesMade.{AreHolders, texts}
 use Rattle.capnp_request.specs.Order.{Begun, Made, add_struct, begin_struct, make_all, make_struct, name_entry, nothing_made, struct_made, with_struct}
-use Rattle.capnp_request.specs.ProgressSeen.{begun_of, made_of, work_rest}
+use Rattle.capnp_request.specs.Steps.ProgressSeen.{begun_of, made_of, work_rest}
 use Rattle.capnp_request.specs.StructsSeen.{seen_notes}
 use Rattle.capnp_request.specs.Terms.{Said, SchemaNode}
 use Rattle.capnp_request.specs.Work.{Bound, Entry, Named, Place, work_of}

@@ -4,7 +4,7 @@ use Rattle.std.proofs.lemmas.Result.{err_from_is_err_and}
 use Rattle.std.specs.Result.{IsErrAnd}
 use Rattle.capnp_device.specs.declared.error.Error.{Error}
 use Rattle.capnp_device.specs.declared.error.ErrorKind.TheVariants.{OutOfMemory}
-use Rattle.capnp_request.specs.Done.{IsWorkDone, IsSaid}
+use Rattle.capnp_request.specs.Steps.Done.{IsWorkDone, IsSaid}
 use Rattle.capnp_request.specs.Terms.{Said}
 use Rattle.capnp_request.specs.Work.{Named, Work}
 

@@ -10,15 +10,16 @@ use Rattle.capnp_device.specs.declared.error.ErrorKind.TheVariants.{NodeNotFound
 use Rattle.capnp_records.specs.Record.{Record, values_from}
 use Rattle.capnp_dynamic_readers.specs.Seen.{list_seen}
 use Rattle.capnp_dynamic_readers.specs.declared.dynamic_list.Reader.{Reader as ListHandle}
-use Rattle.capnp_request.specs.Handles.{element_in, values_left}
-use Rattle.capnp_request.specs.Met.{AreMet}
+use Rattle.capnp_request.specs.Steps.Handles.{element_in, values_left}
+use Rattle.capnp_request.specs.Steps.Met.{AreMet}
 use Rattle.capnp_request.specs.Order.{at_node, is_node_there, name_files, name_root, name_roots, new_ids}
 use Rattle.capnp_request.specs.Reading.{all_said, both_said, each_said, node_said, whole_list, id_said}
 use Rattle.capnp_request.specs.Parts.{request_read_at}
 use Rattle.capnp_request.specs.Scopes.{is_met, node_named, scopes_of}
 use Rattle.capnp_request.specs.Terms.{Said, SchemaNode}
 use Rattle.capnp_request.specs.Types.{is_root, number_struct}
-use Rattle.capnp_request.specs.Work.{◌>>=◌, Bound, Named, Work, work_continued, work_of, work_said}
+use Rattle.capnp_request.specs.Work.{Bound, Named, Work, work_of, work_said}
+use Rattle.capnp_request.specs.Steps.Work.{◌>>=◌, work_continued}
 use Rattle.capnp_request.proofs.ListsSaid.{length_of}
 use Rattle.capnp_request.proofs.OrderMade.{drop_at, drop_past}
 use Rattle.capnp_request.proofs.Works.{then_err, then_ok}

@@ -9,16 +9,17 @@ use Rattle.capnp_records.specs.Record as value
 use Rattle.capnp_records.specs.Record.{Record, Value}
 use Rattle.capnp_dynamic_readers.specs.Reads.{element_seen}
 use Rattle.capnp_dynamic_readers.specs.declared.dynamic_list.Reader.{Reader as ListHandle}
-use Rattle.capnp_request.specs.Bindings.{with_nothing}
+use Rattle.capnp_request.specs.Steps.Bindings.{with_nothing}
 use Rattle.capnp_request.specs.Conversion.{is_untyped}
-use Rattle.capnp_request.specs.Handles.{IsListOf, values_left}
-use Rattle.capnp_request.specs.Meant.{says_or, scope_in}
+use Rattle.capnp_request.specs.Steps.Handles.{IsListOf, values_left}
+use Rattle.capnp_request.specs.Steps.Meant.{says_or, scope_in}
 use Rattle.capnp_request.specs.Parts.{request_struct, request_read_at}
 use Rattle.capnp_request.specs.Reading.{binding_said, bindings_said, brand_in, list_or, in_struct, number_in, scope_said, scopes_said, with_scope}
 use Rattle.capnp_request.specs.Scopes.{scopes_of}
 use Rattle.capnp_request.specs.Terms.{BindingTerms, BrandTerm, MoreBindings, NoBindings, Said, SchemaNode, TypeTerm, UnreadBrand, UnreadType}
 use Rattle.capnp_request.specs.Types.{bind_scope, binding_types, brand_types, named_scopes, type_of, with_type, without_untyped}
-use Rattle.capnp_request.specs.Work.{◌>>=◌, Bound, Named, work_continued, each, work_of, work_said}
+use Rattle.capnp_request.specs.Work.{Bound, Named, each, work_of, work_said}
+use Rattle.capnp_request.specs.Steps.Work.{◌>>=◌, work_continued}
 use Rattle.capnp_request.specs.declared.schema_nodes.GenericScope.{GenericScope}
 use Rattle.capnp_request.proofs.ListsRead.{count_of, element_is, none_left, one_left}
 use Rattle.capnp_request.proofs.Walks.{all_done, more_done, prefixed, step_err, step_ok}

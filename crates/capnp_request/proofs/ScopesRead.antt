@@ -3,7 +3,7 @@ use Rattle.std.proofs.Common.{ℕ, ◌+◌, ◌-◌, ◌<◌, ◌≡◌, ◌∙�
 use Rattle.std.proofs.lemmas.List.{append-nil, map-append}
 use Rattle.std.specs.HashSet.{HashSet, Updates, contains}
 use Rattle.capnp_device.specs.declared.error.ErrorKind.{ErrorKind}
-use Rattle.capnp_request.specs.Bindings.{with_nothing}
+use Rattle.capnp_request.specs.Steps.Bindings.{with_nothing}
 use Rattle.capnp_request.specs.Scopes.{and_scope, is_met, node_named, scopes_from, scopes_of, scopes_of_node, with_scope}
 use Rattle.capnp_request.specs.Terms.{Said, SchemaNode}
 use Rattle.capnp_request.specs.Work.{Bound}

@@ -15,16 +15,19 @@ use Rattle.capnp_schema.specs.declared.record.AnnotationRecord.{AnnotationRecord
 use Rattle.capnp_schema.specs.declared.record.BrandRecord.{BrandRecord}
 use Rattle.capnp_schema.specs.declared.record.NodeRecord.{NodeRecord}
 use Rattle.capnp_request.specs.Conversion.{Converted, Note, annotations_of, fields_of, note_at, note_where}
-use Rattle.capnp_request.specs.ConvertedSeen.{seen_converted, typed_annotations}
+use Rattle.capnp_request.specs.Steps.ConvertedSeen.{seen_converted, typed_annotations}
 use Rattle.capnp_request.specs.Order.{all_fields, all_notes, at_struct, firsts, seconds, struct_made}
-use Rattle.capnp_request.specs.Handles.{values_left}
+use Rattle.capnp_request.specs.Steps.Handles.{values_left}
 use Rattle.capnp_request.specs.Parts.{request_read_at}
 use Rattle.capnp_request.specs.Reading.{annotation_terms_in, each_said, field_said, list_said, node_said, struct_said}
-use Rattle.capnp_request.specs.Shapes.{IsBrandOf, note, noted_where}
-use Rattle.capnp_request.specs.StructsSeen.{converted_child_types, field_records, field_types, seen_fields, seen_note, seen_notes, seen_stand_in}
+use Rattle.capnp_request.specs.Shapes.{IsBrandOf}
+use Rattle.capnp_request.specs.Steps.Shapes.{note, noted_where}
+use Rattle.capnp_request.specs.StructsSeen.{seen_note, seen_notes, seen_stand_in}
+use Rattle.capnp_request.specs.Steps.StructsSeen.{converted_child_types, field_records, field_types, seen_fields}
 use Rattle.capnp_request.specs.Terms.{AnnotationNode, EnumNode, FieldTerm, NodeKind, OtherNode, Said, SchemaNode, StructNode, StructPart}
 use Rattle.capnp_request.specs.Types.{is_struct_kind}
-use Rattle.capnp_request.specs.Work.{◌>>=◌, Bound, Named, Work, work_continued, work_of, work_said}
+use Rattle.capnp_request.specs.Work.{Bound, Named, Work, work_of, work_said}
+use Rattle.capnp_request.specs.Steps.Work.{◌>>=◌, work_continued}
 use Rattle.capnp_request.specs.declared.fields.ConvertedField.{ConvertedField}
 use Rattle.capnp_request.specs.declared.notes.Note.{Note as NoteRecord}
 use Rattle.capnp_request.specs.declared.notes.StandIn.{StandIn as StandInRecord}

@@ -13,7 +13,8 @@ use Rattle.capnp_dynamic_readers.specs.declared.dynamic_list.Reader.{Reader as L
 use Rattle.capnp_dynamic_readers.specs.declared.dynamic_struct.Reader.{Reader as StructHandle}
 use Rattle.capnp_dynamic_readers.specs.declared.dynamic_value.Reader.{Reader as DynamicValue}
 use Rattle.capnp_dynamic_readers.specs.declared.dynamic_value.Reader.TheVariants as dynamic
-use Rattle.capnp_request.specs.Handles.{IsListOf, IsRequestRecord}
+use Rattle.capnp_request.specs.Handles.{IsRequestRecord}
+use Rattle.capnp_request.specs.Steps.Handles.{IsListOf}
 use Rattle.capnp_request.specs.Parts.{request_struct}
 
 abbrev by_bytes : ℕ → (request_struct two four eight : Kind) → Kind

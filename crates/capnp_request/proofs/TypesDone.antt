@@ -11,14 +11,15 @@ use Rattle.capnp_schema.specs.Types.{SchemaType, AnyPointerType, EnumType, ListT
 use Rattle.capnp_records.specs.Part.{which_of}
 use Rattle.capnp_records.specs.Record as value
 use Rattle.capnp_records.specs.Record.{Record, Value, Values}
-use Rattle.capnp_request.specs.Done.{IsWorkDone, IsSaid}
-use Rattle.capnp_request.specs.Meant.{IsPlainMember, IsPlainOr, says_or, scope_in, type_kind}
+use Rattle.capnp_request.specs.Steps.Done.{IsWorkDone, IsSaid}
+use Rattle.capnp_request.specs.Steps.Meant.{IsPlainMember, IsPlainOr, says_or, scope_in, type_kind}
 use Rattle.capnp_request.specs.Parts.{request_read_at}
 use Rattle.capnp_request.specs.Reading.{binding_kinds, binding_said, bindings_said, brand_in, by_member, enum_term, list_or, in_struct, list_term, number_in, parameter_said, scope_kinds, scope_said, struct_term, type_in, type_kinds, type_said, untyped_kinds, untyped_term}
 use Rattle.capnp_request.specs.Scopes.{bound_types, node_named}
 use Rattle.capnp_request.specs.Terms.{BrandTerm, Binds, EnumTerm, ListTerm, MoreScopes, NoScopes, Plain, Said, SchemaNode, ScopeTerm, StructTerm, TypeTerm, UnreadBrand, UnreadScope, UnreadType}
 use Rattle.capnp_request.specs.Types.{binding_types, bound_to, brand_types, is_of_kind, is_struct_kind, lists_in, listed_type, named_scopes, number_enum, number_struct, scope_types, type_of, without_untyped}
-use Rattle.capnp_request.specs.Work.{◌>>=◌, Bound, Named, Work, work_continued, work_of, where_else, where_so}
+use Rattle.capnp_request.specs.Work.{Bound, Named, Work, work_of, where_else, where_so}
+use Rattle.capnp_request.specs.Steps.Work.{◌>>=◌, work_continued}
 
 -- the same work
 pub done_as : {A B : Type 0} (seen : B → A) (w v : Work A) (s t : Named) (r : Result B Error) → v s ≡ w s → IsWorkDone seen w s t r → IsWorkDone seen v s t r

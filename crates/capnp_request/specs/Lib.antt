@@ -1,15 +1,6 @@
-pub mod Bindings
 pub mod Conversion
-pub mod ConvertedSeen
-pub mod Done
-pub mod EntriesSeen
 pub mod Handles
-pub mod Meant
-pub mod Met
 pub mod Names
-pub mod NamesMade
-pub mod Nodes
-pub mod Numbers
 pub mod Order
 pub mod Parts
 pub mod ProgressSeen
@@ -21,6 +12,6 @@ pub mod Shapes
 pub mod StructsSeen
 pub mod Terms
 pub mod Types
-pub mod ValueMembers
 pub mod Values
 pub mod Work
+pub mod Steps

@@ -2,7 +2,7 @@
 use Rattle.std.specs.Prelude.{ℕ}
 use Rattle.capnp_request.specs.RequestSet.{request_set}
 use Rattle.capnp_schema.specs.Schema.{VoidValue, TypedField, field_at}
-use Rattle.capnp_schema.specs.Types.{SchemaType, ListType, StructType}
+use Rattle.capnp_schema.specs.Types.{SchemaType, StructType}
 use Rattle.capnp_records.specs.Default.{read_field, read_of}
 use Rattle.capnp_records.specs.Part.{part_at}
 use Rattle.capnp_records.specs.Record.{Record, Value}
@@ -11,9 +11,6 @@ use Rattle.capnp_dynamic_readers.specs.Reads.{handed_out}
 -- the type of the structs of a brand, and that of lists of these
 abbrev pub request_struct : ℕ → SchemaType
 request_struct number = StructType number number
-
-abbrev pub request_structs : ℕ → SchemaType
-request_structs number = ListType (request_struct number)
 
 -- what is read of a part under a field: its default in the place of a missing one, and a group as a struct
 abbrev pub request_read_under : TypedField → Value → Value

@@ -1,11 +1,7 @@
 -- Brands and the nodes that they are of: brand i is of node i, and has a type for each of its fields and annotations.
-use Rattle.std.specs.Prelude.{ℕ, ◌≡◌, Bool, true, false, List, [], ◌∷◌, length, suc, ⊤}
+use Rattle.std.specs.Prelude.{ℕ, ◌≡◌, List, [], ◌∷◌, length, suc, ⊤}
 use Rattle.capnp_schema.specs.declared.record.BrandRecord.{BrandRecord}
 use Rattle.capnp_schema.specs.declared.record.NodeRecord.{NodeRecord}
-use Rattle.capnp_schema.specs.declared.record.StructRecord.{StructRecord}
-use Rattle.capnp_request.specs.Terms.{StructPart}
-use Rattle.capnp_request.specs.declared.notes.Note.{Note}
-use Rattle.capnp_request.specs.declared.notes.StandIn.{StandIn}
 
 -- a brand of node number i: a type for each field, for each annotation of its own, and a list of types for each field
 pub record IsBrandOf (i : ℕ) (n : NodeRecord) (b : BrandRecord) : Type 0 where
@@ -23,19 +19,3 @@ AreBrandsFrom i (n ∷ ns) (b ∷ bs) = IsBrandOf i n b × AreBrandsFrom (suc i)
 
 abbrev pub AreBrandsOf : List NodeRecord → List BrandRecord → Type 0
 AreBrandsOf nodes brands = AreBrandsFrom 0 nodes brands
-
--- a note, and notes where something was seen
-abbrev pub note : (entry field : ℕ) → StandIn → Note
-note entry field stand_in = record { entry = entry; field = field; stand_in = stand_in }
-
-abbrev pub noted_where : Bool → Note → List Note
-noted_where true n = n ∷ []
-noted_where false n = []
-
--- the sections, the group mark and the discriminant of a struct are those that the struct part of its node says
-pub record HasParts (part : StructPart) (body : StructRecord) : Type 0 where
-  pub data_words : part.data_words ≡ body.data_word_count
-  pub pointers : part.pointers ≡ body.pointer_count
-  pub group : part.is_group ≡ body.is_group
-  pub discriminant_count : part.discriminant_count ≡ body.discriminant_count
-  pub discriminant_offset : part.discriminant_offset ≡ body.discriminant_offset

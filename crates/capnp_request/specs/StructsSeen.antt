@@ -1,18 +1,9 @@
 -- What the code has of structs and enums, as the definition sees it.
-use Rattle.std.specs.Prelude.{ℕ, ◌+◌, List, [], ◌∷◌, map}
-use Rattle.capnp_base.specs.declared.introspect.«Type».{«Type» as TypeHandle}
-use Rattle.capnp_schema.specs.Schema.{Brand, Enumerant, Node, seen_brand, seen_enumerant, seen_node}
-use Rattle.capnp_schema.specs.Types.{SchemaType, seen_type}
-use Rattle.capnp_schema.specs.declared.record.EnumerantRecord.{EnumerantRecord}
-use Rattle.capnp_schema.specs.declared.record.FieldRecord.{FieldRecord}
-use Rattle.capnp_request.specs.Conversion.{Converted, Float32Note, Float64Note, InterfaceNote, Note, StandIn, UntypedDefaultNote}
-use Rattle.capnp_request.specs.ConvertedSeen.{seen_converted}
-use Rattle.capnp_request.specs.declared.enums.ConvertedEnumerant.{ConvertedEnumerant}
-use Rattle.capnp_request.specs.declared.fields.ConvertedField.{ConvertedField}
+use Rattle.std.specs.Prelude.{List, map}
+use Rattle.capnp_request.specs.Conversion.{Float32Note, Float64Note, InterfaceNote, Note, StandIn, UntypedDefaultNote}
 use Rattle.capnp_request.specs.declared.notes.Note.{Note as NoteRecord}
 use Rattle.capnp_request.specs.declared.notes.StandIn.{StandIn as StandInRecord}
 use Rattle.capnp_request.specs.declared.notes.StandIn.TheVariants as stand
-use Rattle.capnp_request.specs.declared.structs.MadeStruct.{MadeStruct}
 
 abbrev pub seen_stand_in : StandInRecord → StandIn
 seen_stand_in stand.Float32 = Float32Note
@@ -25,33 +16,3 @@ seen_note n = record { entry = n.entry; field = n.field; stand_in = seen_stand_i
 
 abbrev pub seen_notes : List NoteRecord → List Note
 seen_notes notes = map seen_note notes
-
--- the fields of entry n from index i on
-abbrev pub seen_fields : (n i : ℕ) → List ConvertedField → List Converted
-seen_fields n i [] = []
-seen_fields n i (f ∷ fs) = seen_converted n i f ∷ seen_fields n (i + 1) fs
-
--- the records of fields, and their types
-abbrev pub field_records : List ConvertedField → List FieldRecord
-field_records fields = map (λ f. f.record) fields
-
-abbrev pub field_types : List ConvertedField → List TypeHandle
-field_types fields = map (λ f. f.field_type) fields
-
-abbrev pub converted_child_types : List ConvertedField → List (List TypeHandle)
-converted_child_types fields = map (λ f. f.annotation_types.items) fields
-
-abbrev pub seen_struct : MadeStruct → Node × Brand × List Note
-seen_struct made = (seen_node made.record, seen_brand made.brand, seen_notes made.notes.items)
-
-abbrev pub seen_converted_enumerant : ConvertedEnumerant → Enumerant × List SchemaType
-seen_converted_enumerant e = (seen_enumerant e.record, map seen_type e.annotation_types.items)
-
-abbrev pub seen_enumerants : List ConvertedEnumerant → List (Enumerant × List SchemaType)
-seen_enumerants es = map seen_converted_enumerant es
-
-abbrev pub enumerant_records : List ConvertedEnumerant → List EnumerantRecord
-enumerant_records es = map (λ e. e.record) es
-
-abbrev pub enumerant_types : List ConvertedEnumerant → List (List TypeHandle)
-enumerant_types es = map (λ e. e.annotation_types.items) es

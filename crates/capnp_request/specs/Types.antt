@@ -5,7 +5,8 @@ use Rattle.capnp_device.specs.declared.error.ErrorKind.TheVariants.{FloatType, I
 use Rattle.capnp_schema.specs.Types.{SchemaType, VoidType, BoolType, IntType, UIntType, EnumType, TextType, DataType, StructType, ListType, AnyPointerType}
 use Rattle.capnp_request.specs.Scopes.{bound_types, node_named, scopes_of}
 use Rattle.capnp_request.specs.Terms.{AnnotationNode, Binds, BindingTerms, BrandTerm, EnumNode, EnumTerm, Float32, Float64, Inherits, Interface, ListTerm, MoreBindings, MoreScopes, NoBindings, NoScopes, NodeKind, OtherNode, Parameter, Plain, SchemaNode, ScopeTerm, StructNode, StructTerm, TypeTerm, UnreadBrand, UnreadScope, UnreadType}
-use Rattle.capnp_request.specs.Work.{◌>>=◌, Bound, Entry, GroupOf, Place, Whole, Work, each, work_of, work_said, where_else, where_so}
+use Rattle.capnp_request.specs.Work.{Bound, Entry, GroupOf, Place, Whole, Work, each, work_of, work_said, where_else, where_so}
+use Rattle.capnp_request.specs.Steps.Work.{◌>>=◌}
 
 -- ---- entries by number ----
 
@@ -120,12 +121,6 @@ enum_or_add nodes None id s = where_node is_enum nodes id (add_enum id) s
 -- the number of an enum, by its id, which it gets when it is first named
 abbrev pub number_enum : List SchemaNode → ℕ → Work ℕ
 number_enum nodes id s = enum_or_add nodes (enum_position s.enums id 0) id s
-
-abbrev pub is_annotation : NodeKind → Bool
-is_annotation (StructNode part) = false
-is_annotation (EnumNode enumerants) = false
-is_annotation (AnnotationNode t) = true
-is_annotation OtherNode = false
 
 -- a struct that is no group
 abbrev pub is_root : NodeKind → Bool

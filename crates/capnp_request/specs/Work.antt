@@ -37,15 +37,6 @@ pub record Named : Type 0 where
   pub enums : List ℕ
   pub seen : Seen
 
--- the entries and enums alone
-pub record Numbered : Type 0 where
-  pub entries : List Entry
-  pub enums : List ℕ
-
--- what was named, with what was seen of the type at hand
-abbrev pub named_with : Numbered → Seen → Named
-named_with numbered seen = record { entries = numbered.entries; enums = numbered.enums; seen = seen }
-
 abbrev pub Work : Type 0 → Type 0
 Work A = Named → Result (A × Named) ErrorKind
 
@@ -63,15 +54,6 @@ work_of a s = Ok (a, s)
 
 abbrev pub work_refused : {A : Type 0} → ErrorKind → Work A
 work_refused kind s = Err kind
-
-abbrev pub work_continued : {A B : Type 0} → (A → Work B) → Result (A × Named) ErrorKind → Result (B × Named) ErrorKind
-work_continued f (Ok p) = f p.0 p.1
-work_continued f (Err kind) = Err kind
-
--- work, and then what is done with what it gives
-infixr 10 ◌>>=◌
-abbrev pub ◌>>=◌ : {A B : Type 0} → Work A → (A → Work B) → Work B
-(w >>= f) s = work_continued f (w s)
 
 -- what is said, where it can be read
 abbrev pub work_said : {A : Type 0} → Said A → Work A

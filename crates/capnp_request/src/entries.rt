@@ -3,13 +3,14 @@
 ghost use Rattle.std.specs.Prelude.{◌≡◌, ◌≢◌, ◌<◌, ◌≤◌, [], length, slice_get, option_map, IfErr, IfOk, Ok, Err};
 ghost use Rattle.capnp_device.specs.declared.error.ErrorKind.TheVariants.{OutOfMemory, TooManyTypes};
 ghost use Rattle.capnp_schema.specs.Types.{EnumType, StructType, seen_type};
-ghost use Rattle.capnp_request.specs.Bindings.{bounds};
-ghost use Rattle.capnp_request.specs.EntriesSeen.{group_entry, seen_entry};
-ghost use Rattle.capnp_request.specs.Nodes.{AreNodes, nodes_of};
-ghost use Rattle.capnp_request.specs.Numbers.{AreNumbered, numbered_entries};
+ghost use Rattle.capnp_request.specs.Steps.Bindings.{bounds};
+ghost use Rattle.capnp_request.specs.Steps.EntriesSeen.{group_entry, seen_entry};
+ghost use Rattle.capnp_request.specs.Steps.Nodes.{AreNodes, nodes_of};
+ghost use Rattle.capnp_request.specs.Steps.Numbers.{AreNumbered, numbered_entries};
 ghost use Rattle.capnp_request.specs.Refusals.{IsUnstrict};
 ghost use Rattle.capnp_request.specs.Types.{add_entry, number_enum, number_struct};
-ghost use Rattle.capnp_request.specs.Work.{Seen, named_with};
+ghost use Rattle.capnp_request.specs.Work.{Seen};
+ghost use Rattle.capnp_request.specs.Steps.Work.{named_with};
 
 use crate::schema_nodes::SchemaNodes;
 use crate::scopes::copied_scopes;

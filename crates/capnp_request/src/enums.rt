@@ -3,15 +3,16 @@ ghost use Rattle.std.specs.Prelude.{◌≡◌, [], length, map, string_bytes, If
 ghost use Rattle.capnp_device.specs.declared.error.ErrorKind.TheVariants.{OutOfMemory};
 ghost use Rattle.capnp_schema.specs.Schema.{seen_enum};
 ghost use Rattle.capnp_dynamic_readers.specs.Seen.{list_seen, record_seen};
-ghost use Rattle.capnp_request.specs.Done.{IsWorkDone, between};
-ghost use Rattle.capnp_request.specs.Handles.{IsListOf, IsRequestRecord, values_left};
-ghost use Rattle.capnp_request.specs.Nodes.{AreNodes, nodes_of};
-ghost use Rattle.capnp_request.specs.Numbers.{AreNumbered};
+ghost use Rattle.capnp_request.specs.Steps.Done.{IsWorkDone, between};
+ghost use Rattle.capnp_request.specs.Handles.{IsRequestRecord};
+ghost use Rattle.capnp_request.specs.Steps.Handles.{IsListOf, values_left};
+ghost use Rattle.capnp_request.specs.Steps.Nodes.{AreNodes, nodes_of};
+ghost use Rattle.capnp_request.specs.Steps.Numbers.{AreNumbered};
 ghost use Rattle.capnp_request.specs.Order.{enum_made, enumerant_of};
 ghost use Rattle.capnp_request.specs.Parts.{request_struct};
 ghost use Rattle.capnp_request.specs.Reading.{each_said, enumerant_said, node_said};
 ghost use Rattle.capnp_request.specs.Refusals.{IsRefusal};
-ghost use Rattle.capnp_request.specs.StructsSeen.{enumerant_records, enumerant_types, seen_converted_enumerant, seen_enumerants};
+ghost use Rattle.capnp_request.specs.Steps.StructsSeen.{enumerant_records, enumerant_types, seen_converted_enumerant, seen_enumerants};
 ghost use Rattle.capnp_request.specs.Work.{each_read};
 
 use crate::annotations::annotations_of;

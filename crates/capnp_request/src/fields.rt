@@ -2,13 +2,13 @@
 ghost use Rattle.std.specs.Prelude.{◌≡◌, ◌&&◌, length, Some, IfErr, IfOk};
 ghost use Rattle.capnp_records.specs.Part.{which_of};
 ghost use Rattle.capnp_dynamic_readers.specs.Seen.{record_seen};
-ghost use Rattle.capnp_request.specs.Bindings.{bounds};
+ghost use Rattle.capnp_request.specs.Steps.Bindings.{bounds};
 ghost use Rattle.capnp_request.specs.Conversion.{field_of, kind_of};
-ghost use Rattle.capnp_request.specs.ConvertedSeen.{seen_converted, seen_converted_kind};
-ghost use Rattle.capnp_request.specs.Done.{IsWorkDone, between};
+ghost use Rattle.capnp_request.specs.Steps.ConvertedSeen.{seen_converted, seen_converted_kind};
+ghost use Rattle.capnp_request.specs.Steps.Done.{IsWorkDone, between};
 ghost use Rattle.capnp_request.specs.Handles.{IsRequestRecord};
-ghost use Rattle.capnp_request.specs.Nodes.{AreNodes, nodes_of};
-ghost use Rattle.capnp_request.specs.Numbers.{AreNumbered};
+ghost use Rattle.capnp_request.specs.Steps.Nodes.{AreNodes, nodes_of};
+ghost use Rattle.capnp_request.specs.Steps.Numbers.{AreNumbered};
 ghost use Rattle.capnp_request.specs.Parts.{request_read_at};
 ghost use Rattle.capnp_request.specs.Reading.{field_said, group_said, in_struct, slot_said};
 ghost use Rattle.capnp_request.specs.Refusals.{IsRefusal};

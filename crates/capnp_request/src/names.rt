@@ -4,11 +4,11 @@ ghost use Rattle.capnp_device.specs.declared.error.ErrorKind.TheVariants.{OutOfM
 ghost use Rattle.capnp_schema.specs.Schema.{seen_node};
 ghost use Rattle.capnp_schema.specs.Types.{seen_base, seen_type, seen_variant};
 ghost use Rattle.capnp_base.specs.Types.{base_of, list_depth};
-ghost use Rattle.capnp_request.specs.Bindings.{bounds, seen_bound};
-ghost use Rattle.capnp_request.specs.EntriesSeen.{seen_entry, seen_place};
+ghost use Rattle.capnp_request.specs.Steps.Bindings.{bounds, seen_bound};
+ghost use Rattle.capnp_request.specs.Steps.EntriesSeen.{seen_entry, seen_place};
 ghost use Rattle.capnp_request.specs.Names.{Holder as NameHolder, bindings_name, bound_name, occurrences_of, dotted_of, enum_name, file_of, finished_name, group_name, is_taken, more_names, part_bindings, struct_name, type_name};
-ghost use Rattle.capnp_request.specs.NamesMade.{AreHolders, IsTooLong, file_when, bound_name_at, names_nothing, one_more, repeated_piece, struct_names, texts};
-ghost use Rattle.capnp_request.specs.Nodes.{AreNodes, nodes_of};
+ghost use Rattle.capnp_request.specs.Steps.NamesMade.{AreHolders, IsTooLong, file_when, bound_name_at, names_nothing, one_more, repeated_piece, struct_names, texts};
+ghost use Rattle.capnp_request.specs.Steps.Nodes.{AreNodes, nodes_of};
 ghost use Rattle.capnp_request.specs.Order.{name_entry};
 ghost use Rattle.capnp_request.specs.Refusals.{IsUnstrict};
 ghost use Rattle.capnp_request.specs.Work.{Whole};

@@ -1,6 +1,6 @@
 //! Notes on what stands for something else in a converted set.
 ghost use Rattle.std.specs.Prelude.{◌≡◌, false};
-ghost use Rattle.capnp_request.specs.Bindings.{flags};
+ghost use Rattle.capnp_request.specs.Steps.Bindings.{flags};
 ghost use Rattle.capnp_request.specs.Work.{nothing_seen};
 
 /// What stands for a type or default that sets of schemas do not have.

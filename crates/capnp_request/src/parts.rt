@@ -16,8 +16,10 @@ ghost use Rattle.capnp_dynamic_readers.specs.Seen.{answered_value, list_seen, re
 ghost use Rattle.capnp_dynamic_readers.specs.Typed.{IsOf};
 ghost use Rattle.capnp_dynamic_readers.specs.declared.dynamic_value.Reader.TheVariants as dynamic;
 ghost use Rattle.capnp_request.specs.Conversion.{converted_name};
-ghost use Rattle.capnp_request.specs.Handles.{IsRequestFieldActive, IsAlwaysRead, IsRequestField, IsGroupField, IsListOf, IsRequestRecord};
-ghost use Rattle.capnp_request.specs.Parts.{request_structs, request_struct, request_read_at};
+ghost use Rattle.capnp_request.specs.Handles.{IsRequestRecord};
+ghost use Rattle.capnp_request.specs.Steps.Handles.{IsRequestFieldActive, IsAlwaysRead, IsRequestField, IsGroupField, IsListOf};
+ghost use Rattle.capnp_request.specs.Parts.{request_struct, request_read_at};
+ghost use Rattle.capnp_request.specs.Steps.Parts.{request_structs};
 ghost use Rattle.capnp_request.specs.Refusals.{IsUnstrict};
 
 use capnp_base::{any_pointer, text};

@@ -4,16 +4,18 @@ ghost use Rattle.std.specs.Prelude.{ℕ, [], ◌++◌, nat_eq, OnOk, ◌≡◌, 
 ghost use Rattle.capnp_device.specs.declared.error.ErrorKind.TheVariants.{NodeNotFound, OutOfMemory};
 ghost use Rattle.capnp_records.specs.Part.{which_of};
 ghost use Rattle.capnp_dynamic_readers.specs.Seen.{list_seen, record_seen};
-ghost use Rattle.capnp_request.specs.Bindings.{with_nothing};
+ghost use Rattle.capnp_request.specs.Steps.Bindings.{with_nothing};
 ghost use Rattle.capnp_request.specs.Conversion.{declared_term};
-ghost use Rattle.capnp_request.specs.Handles.{IsListOf, IsRequestRecord};
-ghost use Rattle.capnp_request.specs.Nodes.{AreNodes, first_kept, node_record, nodes_of};
+ghost use Rattle.capnp_request.specs.Handles.{IsRequestRecord};
+ghost use Rattle.capnp_request.specs.Steps.Handles.{IsListOf};
+ghost use Rattle.capnp_request.specs.Steps.Nodes.{AreNodes, first_kept, node_record, nodes_of};
 ghost use Rattle.capnp_request.specs.Parts.{request_struct};
 ghost use Rattle.capnp_request.specs.Reading.{declaration_said, enumerant_said, list_said, node_said, nodes_in, struct_said};
 ghost use Rattle.capnp_request.specs.Refusals.{IsUnstrict};
 ghost use Rattle.capnp_request.specs.Scopes.{node_named, scopes_of, with_scope};
 ghost use Rattle.capnp_request.specs.Terms.{EnumNode, StructNode};
-ghost use Rattle.capnp_request.specs.Types.{is_annotation, is_enum, is_of_kind, is_root, is_struct_kind};
+ghost use Rattle.capnp_request.specs.Types.{is_enum, is_of_kind, is_root, is_struct_kind};
+ghost use Rattle.capnp_request.specs.Steps.Types.{is_annotation};
 
 use crate::parts::{active_member, bool_at, element_at, group_at, list_at, text_at, u64_at};
 use crate::places::{

@@ -2,9 +2,9 @@
 ghost use Rattle.std.specs.Prelude.{◌≡◌, ◌≢◌, map, option_map, IfErr, IfOk, Ok, Err};
 ghost use Rattle.capnp_device.specs.declared.error.ErrorKind.TheVariants.{OutOfMemory};
 ghost use Rattle.capnp_schema.specs.Types.{AnyPointerType, seen_type};
-ghost use Rattle.capnp_request.specs.Bindings.{bounds, seen_bound, with_nothing};
+ghost use Rattle.capnp_request.specs.Steps.Bindings.{bounds, seen_bound, with_nothing};
 ghost use Rattle.capnp_request.specs.Conversion.{is_untyped};
-ghost use Rattle.capnp_request.specs.Nodes.{AreNodes, nodes_of};
+ghost use Rattle.capnp_request.specs.Steps.Nodes.{AreNodes, nodes_of};
 ghost use Rattle.capnp_request.specs.Refusals.{IsUnstrict};
 ghost use Rattle.capnp_request.specs.Scopes.{scope_among, scopes_of};
 ghost use Rattle.capnp_request.specs.Types.{bound_to};

@@ -3,17 +3,19 @@ ghost use Rattle.std.specs.Prelude.{◌≡◌, ◌++◌, length, map, string_byt
 ghost use Rattle.capnp_device.specs.declared.error.ErrorKind.TheVariants.{OutOfMemory};
 ghost use Rattle.capnp_schema.specs.Types.{seen_type};
 ghost use Rattle.capnp_dynamic_readers.specs.Seen.{record_seen};
-ghost use Rattle.capnp_request.specs.Bindings.{bounds, flags};
+ghost use Rattle.capnp_request.specs.Steps.Bindings.{bounds, flags};
 ghost use Rattle.capnp_request.specs.Conversion.{notes_of};
-ghost use Rattle.capnp_request.specs.Done.{IsWorkDone, between};
+ghost use Rattle.capnp_request.specs.Steps.Done.{IsWorkDone, between};
 ghost use Rattle.capnp_request.specs.Handles.{IsRequestRecord};
-ghost use Rattle.capnp_request.specs.Nodes.{AreNodes, nodes_of};
-ghost use Rattle.capnp_request.specs.Numbers.{AreNumbered};
+ghost use Rattle.capnp_request.specs.Steps.Nodes.{AreNodes, nodes_of};
+ghost use Rattle.capnp_request.specs.Steps.Numbers.{AreNumbered};
 ghost use Rattle.capnp_request.specs.Order.{all_fields, all_notes, struct_made};
 ghost use Rattle.capnp_request.specs.Reading.{node_said, struct_said};
 ghost use Rattle.capnp_request.specs.Refusals.{IsRefusal};
-ghost use Rattle.capnp_request.specs.Shapes.{HasParts, IsBrandOf, note, noted_where};
-ghost use Rattle.capnp_request.specs.StructsSeen.{converted_child_types, field_records, field_types, seen_fields, seen_notes, seen_struct};
+ghost use Rattle.capnp_request.specs.Shapes.{IsBrandOf};
+ghost use Rattle.capnp_request.specs.Steps.Shapes.{HasParts, note, noted_where};
+ghost use Rattle.capnp_request.specs.StructsSeen.{seen_notes};
+ghost use Rattle.capnp_request.specs.Steps.StructsSeen.{converted_child_types, field_records, field_types, seen_fields, seen_struct};
 
 use crate::annotations::annotations_of;
 use crate::context::Context;

@@ -10,7 +10,7 @@ ghost use Rattle.capnp_schema.specs.Schema.{seen_value};
 ghost use Rattle.capnp_records.specs.Part.{which_of};
 ghost use Rattle.capnp_dynamic_readers.specs.Seen.{record_seen};
 ghost use Rattle.capnp_request.specs.Handles.{IsRequestRecord};
-ghost use Rattle.capnp_request.specs.ValueMembers.{IsDataMember};
+ghost use Rattle.capnp_request.specs.Steps.ValueMembers.{IsDataMember};
 ghost use Rattle.capnp_request.specs.Conversion.{is_untyped_default};
 ghost use Rattle.capnp_request.specs.Reading.{value_said};
 ghost use Rattle.capnp_request.specs.Refusals.{IsUnstrict};

@@ -3,7 +3,8 @@ use Rattle.std.proofs.Common.{ℕ, ◌≡◌, ◌<◌, length, slice_get, Option
 use Rattle.std.specs.Option.{option_map, unwrap_or}
 use Rattle.std.proofs.lemmas.Option.{slice_get-get_or}
 use Rattle.capnp_schema.specs.Schema.{Schemas, Brand, Node, brand_at, no_brand, no_node, node_of}
-use Rattle.capnp_schema.specs.Entries.{brand_node, lists_seen}
+use Rattle.capnp_schema.specs.Entries.{lists_seen}
+use Rattle.capnp_schema.specs.Steps.Entries.{brand_node}
 use Rattle.capnp_schema.specs.Accepted.{IsAccepted, DiscriminantFits}
 use Rattle.capnp_schema.specs.StructHandles.{IsStruct, generic_at, number_of, set_of}
 use Rattle.capnp_schema.specs.declared.schema.structs.StructSchema.{StructSchema}

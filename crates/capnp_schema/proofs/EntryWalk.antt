@@ -6,7 +6,7 @@ use Rattle.std.proofs.lemmas.Bool.{cases_lt}
 use Rattle.std.proofs.lemmas.Option.{get_or_from_slice_get, slice_get-get_or, slice_get-map, slice_get_read, slice_get_within, same_Some}
 use Rattle.capnp_schema.specs.Schema.{Schemas, Node, no_node, node_at}
 use Rattle.capnp_schema.specs.Broken.{EntryBreaks}
-use Rattle.capnp_schema.specs.Checking.Entry.{IsSoAt}
+use Rattle.capnp_schema.specs.Steps.Checking.Entry.{IsSoAt}
 
 -- P of the first so many entries
 abbrev pub StandBelow : {A : Type 0} → List A → (A → Type 0) → ℕ → Type 0

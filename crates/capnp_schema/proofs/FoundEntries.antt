@@ -2,7 +2,7 @@
 use Rattle.std.proofs.Common.{ℕ, ◌≡◌, slice_get, Option, Some, None, sym, ap}
 use Rattle.std.specs.Option.{unwrap_or}
 use Rattle.capnp_schema.specs.Schema.{Schemas, Node, Brand, TypedField, no_node, no_brand, no_field, node_of, node_at, fields_of, field_at}
-use Rattle.capnp_schema.specs.Entries.{brand_node, node_of_entry}
+use Rattle.capnp_schema.specs.Steps.Entries.{brand_node, node_of_entry}
 
 -- the node of a brand, where it is found
 pub found_node : (set : Schemas) (b : ℕ) (n : Node) → Some n ≡ brand_node set b → node_of set b ≡ n

@@ -5,7 +5,7 @@ use Rattle.std.proofs.lemmas.Bool.{cases_lt, false_from_ne_true}
 use Rattle.std.proofs.lemmas.List.{append_assoc}
 use Rattle.std.proofs.lemmas.Option.{same_Some, slice_get_read}
 use Rattle.capnp_schema.specs.Accepted.{IsAccepted, IsGroupOf, IsParent}
-use Rattle.capnp_schema.specs.Checking.Parents.{IsParentTable, TargetsAreGroups, group_target}
+use Rattle.capnp_schema.specs.Steps.Checking.Parents.{IsParentTable, TargetsAreGroups, group_target}
 use Rattle.capnp_schema.specs.Facts.GroupFields.{group_field_found, group_field_is, group_of, no_group_field, place_found, place_missing, target_parent}
 use Rattle.capnp_schema.specs.Facts.Groups.{group_of_field}
 use Rattle.capnp_schema.specs.GroupFields.{AreGroupFields, group_field_of, numbered_pair, place_naming}

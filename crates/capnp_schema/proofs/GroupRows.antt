@@ -1,10 +1,10 @@
 -- Worked examples of groups and spans, computed.
 use Rattle.std.specs.Prelude.{◌≡◌, refl, [], ◌∷◌, true, false, Some, None}
 use Rattle.capnp_schema.specs.Footprint.{DataBit, PointerAt}
-use Rattle.capnp_schema.specs.Checking.Parents.{group_target}
+use Rattle.capnp_schema.specs.Steps.Checking.Parents.{group_target}
 use Rattle.capnp_schema.specs.Builtin.{builtin}
 use Rattle.capnp_schema.specs.declared.check.spans.Span.TheVariants.{Data, Pointer}
-use Rattle.capnp_schema.specs.Checking.Spans.{span_names, some_span}
+use Rattle.capnp_schema.specs.Steps.Checking.Spans.{span_names, some_span}
 
 -- Shapes.circle and Shapes.tag are the groups of brands 4 and 5; Shapes.id and Loop.again are slots
 shapes_id : group_target builtin 3 0 ≡ None

@@ -5,9 +5,10 @@ use Rattle.std.proofs.lemmas.Bool.{cases_lt}
 use Rattle.std.specs.Option.{unwrap_or}
 use Rattle.capnp_schema.specs.Types.{SchemaType, VoidType, BoolType, IntType, UIntType, EnumType, TextType, DataType, StructType, ListType, AnyPointerType, struct_brand}
 use Rattle.capnp_schema.specs.Schema.{Schemas, Node, Brand, FieldKind, Slot, Group, TypedField, node_of, node_at, no_node, no_brand, no_field, fields_of, field_at, typed_fields, kind_target}
-use Rattle.capnp_schema.specs.Entries.{brand_entry, brand_node, node_of_entry}
+use Rattle.capnp_schema.specs.Entries.{brand_entry}
+use Rattle.capnp_schema.specs.Steps.Entries.{brand_node, node_of_entry}
 use Rattle.capnp_schema.specs.Accepted.{Rule1, Rule7, NamesEntries, GroupFits, IsGroupBrand, IsParent, IsGroupOf}
-use Rattle.capnp_schema.specs.Checking.Parents.{group_target, entry_target, TargetsAreGroups}
+use Rattle.capnp_schema.specs.Steps.Checking.Parents.{group_target, entry_target, TargetsAreGroups}
 use Rattle.capnp_schema.specs.Facts.Fields.{typed_nothing}
 
 -- ---- nodes ----

@@ -7,7 +7,8 @@ use Rattle.std.proofs.lemmas.Bool.{cases_lt}
 use Rattle.std.proofs.lemmas.Option.{slice_get_within, unwrap_or-slice_get}
 use Rattle.capnp_schema.specs.Types.{SchemaType}
 use Rattle.capnp_schema.specs.Schema.{Schemas, Brand, Field, Node, TypedField, no_brand, no_field, node_at, node_of, brand_at, fields_of, field_at, typed_fields}
-use Rattle.capnp_schema.specs.Entries.{brand_node, lists_seen}
+use Rattle.capnp_schema.specs.Entries.{lists_seen}
+use Rattle.capnp_schema.specs.Steps.Entries.{brand_node}
 use Rattle.capnp_schema.specs.Accepted.{IsAccepted}
 use Rattle.capnp_schema.specs.Plan.{IsPlan, LiesInNode, plan_of}
 use Rattle.capnp_schema.specs.Ranges.{HasRanges}
@@ -15,7 +16,8 @@ use Rattle.capnp_schema.specs.Query.{records_of}
 use Rattle.capnp_schema.specs.declared.lists.Lists.{Lists}
 use Rattle.capnp_schema.specs.declared.plan.SlotPlan.{SlotPlan}
 use Rattle.capnp_schema.specs.declared.tables.FieldTables.{FieldTables}
-use Rattle.capnp_schema.specs.Tables.{AreTables, no_plan}
+use Rattle.capnp_schema.specs.Tables.{AreTables}
+use Rattle.capnp_schema.specs.Steps.Tables.{no_plan}
 use Rattle.capnp_schema.proofs.FoundEntries.{found_field, found_node}
 use Rattle.capnp_schema.proofs.GroupTargets.{no_fields}
 use Rattle.capnp_schema.proofs.Plans.{lies_in_node, plans_stand}

@@ -15,7 +15,8 @@ use Rattle.capnp_schema.specs.Query.{is_member_of, is_non_union, member_of}
 use Rattle.capnp_schema.specs.Accepted.{AreApartBelow, HasEachMember, IsAccepted}
 use Rattle.capnp_schema.proofs.EntryWalk.{at_node}
 use Rattle.capnp_schema.proofs.Members.{member_by_value}
-use Rattle.capnp_schema.specs.Tables.{ArePlaced, IsMemberTable, placed_member}
+use Rattle.capnp_schema.specs.Tables.{IsMemberTable}
+use Rattle.capnp_schema.specs.Steps.Tables.{ArePlaced, placed_member}
 
 not_plain : (b : Bool) → not b ≡ false → b ≡ true
 not_plain true e = refl

@@ -9,7 +9,7 @@ use Rattle.std.specs.Bool.{Decides}
 use Rattle.capnp_schema.specs.declared.record.FieldRecord.{FieldRecord}
 use Rattle.capnp_schema.specs.Schema.{Node, Field, is_member, seen_field}
 use Rattle.capnp_schema.specs.Accepted.{HasEachMember}
-use Rattle.capnp_schema.specs.Checking.Marks.{Marked}
+use Rattle.capnp_schema.specs.Steps.Checking.Marks.{Marked}
 
 -- a mark that is set stands inside
 set_inside : (marks : List Bool) (d : ℕ) → get_or marks d false ≡ true → d < length marks

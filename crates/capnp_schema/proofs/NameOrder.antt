@@ -9,7 +9,8 @@ use Rattle.std.specs.List.{IsDistinct, Contains}
 use Rattle.std.specs.List.Sorted.{IsPermutation, IsSortedBy}
 use Rattle.std.specs.Ordering.{nat_cmp, is_eq, is_lt}
 use Rattle.capnp_schema.specs.Schema.{Field}
-use Rattle.capnp_schema.specs.Names.{name_at, name_in, IsNameOrder, IsNameTable, IsRepeated}
+use Rattle.capnp_schema.specs.Names.{name_at, name_in, IsNameTable}
+use Rattle.capnp_schema.specs.Steps.Names.{IsNameOrder, IsRepeated}
 use Rattle.capnp_schema.specs.Accepted.{HasOwnName}
 use Rattle.std.proofs.lemmas.Option.{slice_get_within, slice_get_cases}
 use Rattle.capnp_schema.proofs.NameSearch.{less_then_less, greater_is_less, same_is_equal}

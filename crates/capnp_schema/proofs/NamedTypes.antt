@@ -12,7 +12,8 @@ use Rattle.capnp_schema.specs.declared.record.EnumRecord.{EnumRecord}
 use Rattle.capnp_schema.specs.Types.{seen_type}
 use Rattle.capnp_schema.specs.Schema.{Schemas, Brand, Enum, TypedField, field_at, fields_of, seen_brand, seen_enum}
 use Rattle.capnp_schema.specs.Accepted.{AllName, HasNamedType, IsAccepted, NamesEntries, TypesName}
-use Rattle.capnp_schema.specs.Entries.{lists_seen, seen_typed}
+use Rattle.capnp_schema.specs.Entries.{lists_seen}
+use Rattle.capnp_schema.specs.Steps.Entries.{seen_typed}
 use Rattle.capnp_schema.specs.declared.lists.Lists.{Lists}
 use Rattle.capnp_schema.specs.declared.lists.TypedField.{TypedField as TypedRecord}
 use Rattle.capnp_schema.proofs.AnnotatedPlaces.{child_seen}

@@ -17,7 +17,7 @@ use Rattle.capnp_schema.specs.SlotValue.{bit_number, default_bits, unsigned_numb
 use Rattle.capnp_schema.specs.Accepted.{IsAccepted, IsDefaultOf, KindDefault}
 use Rattle.capnp_schema.specs.Entries.{lists_seen}
 use Rattle.capnp_schema.specs.Ranges.{HasRanges, HasWidths, HaveWidths, IsSigned, NodeFits, ValueFits}
-use Rattle.capnp_schema.specs.EntryRanges.{EntriesFit, FieldFits}
+use Rattle.capnp_schema.specs.Steps.EntryRanges.{EntriesFit, FieldFits}
 use Rattle.capnp_schema.specs.declared.lists.Lists.{Lists}
 use Rattle.capnp_schema.specs.declared.record.AnnotationTypes.{AnnotationTypes as TypesRecord}
 use Rattle.capnp_schema.proofs.EntryWalk.{at_node, entry_has}

@@ -5,11 +5,9 @@ pub mod Broken
 pub mod BrokenLaw
 pub mod Builtin
 pub mod ByName
-pub mod Checking
 pub mod Defaults
 pub mod Discriminant
 pub mod Entries
-pub mod EntryRanges
 pub mod Enumerants
 pub mod Enums
 pub mod Facts
@@ -22,7 +20,6 @@ pub mod Laws
 pub mod Layers
 pub mod Making
 pub mod Meta
-pub mod Named
 pub mod Names
 pub mod Plan
 pub mod Query
@@ -35,3 +32,4 @@ pub mod TableRows
 pub mod Tables
 pub mod Types
 pub mod Views
+pub mod Steps

@@ -1,7 +1,5 @@
 -- What the rows of a table of schemas stand for.
 use Rattle.std.specs.Prelude.{ℕ, List, [], map}
-use Rattle.capnp_base.specs.declared.introspect.TypeVariant.{TypeVariant}
-use Rattle.capnp_base.specs.declared.introspect.TypeVariant.TheVariants as variant
 use Rattle.capnp_base.specs.Types.{type_from}
 use Rattle.capnp_schema.specs.declared.table_rows.ValueRow.{ValueRow}
 use Rattle.capnp_schema.specs.declared.table_rows.ValueRow.TheVariants as row
@@ -11,7 +9,7 @@ use Rattle.capnp_schema.specs.declared.table_rows.FieldRow.TheVariants as field
 use Rattle.capnp_schema.specs.declared.table_rows.NodeRow.{NodeRow}
 use Rattle.capnp_schema.specs.declared.table_rows.NodeRow.TheVariants as node
 use Rattle.capnp_schema.specs.Types.{SchemaType, VoidType, BoolType, IntType, UIntType, EnumType, TextType, DataType, ListType, AnyPointerType, seen_type}
-use Rattle.capnp_schema.specs.Schema.{Node, Brand, Field, FieldKind, Annotation, Value, VoidValue, BoolValue, IntValue, UIntValue, EnumValue, TextValue, DataValue, StructValue, ListValue, AnyPointerValue}
+use Rattle.capnp_schema.specs.Schema.{Node, Brand, Field, Annotation, Value, VoidValue, BoolValue, IntValue, UIntValue, EnumValue, TextValue, DataValue, StructValue, ListValue, AnyPointerValue}
 use Rattle.capnp_schema.specs.Meta.{meta_structs, meta_struct}
 use Rattle.capnp_schema.specs.Builtin.{annotated_field, annotated_node, annotation, group_member, group_node, member, builtin_field, builtin_struct_node, union_node}
 
@@ -34,10 +32,6 @@ row_value (row.StructList number words) = ListValue words.now
 row_value (row.StructListList number words) = ListValue words.now
 row_value (row.UInt8List words) = ListValue words.now
 row_value (row.AnyPointer words) = AnyPointerValue words.now
-
--- the struct whose brand and node have a number
-abbrev pub struct_variant : ℕ → TypeVariant
-struct_variant number = variant.Struct (record { number = number; generic = number })
 
 -- the type of the field whose default a value is
 abbrev pub row_type : ValueRow → SchemaType
@@ -65,9 +59,6 @@ row_annotation a = annotation a.0 (row_value a.2)
 
 abbrev pub annotation_type : AnnotationRow → SchemaType
 annotation_type a = seen_type (type_from a.1)
-
-abbrev pub typed_row_field : ℕ → List ℕ → FieldKind → List Annotation → Field
-typed_row_field value name kind annotations = record { name = name; discriminant_value = value; annotations = annotations; kind = kind }
 
 abbrev pub row_field : FieldRow → Field
 row_field (field.Plain name offset default) = builtin_field name.now offset (row_value default)

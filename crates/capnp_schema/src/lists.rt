@@ -3,7 +3,8 @@ ghost use Rattle.std.specs.Prelude.{◌≡◌, ◌<◌, length, map, slice_get};
 ghost use Rattle.std.specs.Option.{option_copied, option_map};
 ghost use Rattle.capnp_schema.specs.Types.{seen_type};
 ghost use Rattle.capnp_schema.specs.Schema.{seen_node, seen_brand, seen_enum, seen_field, typed_fields, fields_of};
-ghost use Rattle.capnp_schema.specs.Entries.{lists_seen, node_entry, brand_entry, enum_entry, brand_node, seen_typed};
+ghost use Rattle.capnp_schema.specs.Entries.{lists_seen, brand_entry};
+ghost use Rattle.capnp_schema.specs.Steps.Entries.{node_entry, enum_entry, brand_node, seen_typed};
 
 use crate::record::{BrandRecord, EnumRecord, FieldRecord, NodeRecord};
 use capnp_base::introspect::Type;

@@ -3,7 +3,8 @@ ghost use Rattle.std.specs.Prelude.{◌≡◌, ◌+◌, ◌*◌, ◌^◌, ◌<�
 ghost use Rattle.std.specs.Cmp.Lexicographic.{slice_cmp};
 ghost use Rattle.std.specs.Ordering.{nat_cmp};
 ghost use Rattle.capnp_schema.specs.Schema.{Field, seen_field};
-ghost use Rattle.capnp_schema.specs.Names.{name_at, IsNameTable, IsNameOrder, IsRepeated};
+ghost use Rattle.capnp_schema.specs.Names.{name_at, IsNameTable};
+ghost use Rattle.capnp_schema.specs.Steps.Names.{IsNameOrder, IsRepeated};
 
 use crate::record::FieldRecord;
 use std::alloc::{AllocError, Global};

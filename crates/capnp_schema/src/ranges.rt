@@ -6,7 +6,7 @@ ghost use Rattle.capnp_schema.specs.Schema.{seen_node, seen_value, kind_default,
 ghost use Rattle.capnp_schema.specs.Entries.{lists_seen};
 ghost use Rattle.capnp_schema.specs.Accepted.{EachOfEnum, IsAccepted};
 ghost use Rattle.capnp_schema.specs.Ranges.{HasRanges, IsSigned, KindFits, NodeFits, ValueFits, ValuesFit};
-ghost use Rattle.capnp_schema.specs.EntryRanges.{EntriesFit, EntryFits, FieldFits};
+ghost use Rattle.capnp_schema.specs.Steps.EntryRanges.{EntriesFit, EntryFits, FieldFits};
 
 use crate::lists::Lists;
 use crate::record::{

@@ -5,7 +5,7 @@ ghost use Rattle.capnp_schema.specs.Accepted.{IsAccepted};
 ghost use Rattle.capnp_schema.specs.Broken.{IsRefusalOf};
 ghost use Rattle.capnp_schema.specs.Entries.{lists_seen};
 ghost use Rattle.capnp_schema.specs.Schema.{seen_brand, seen_enum, seen_node, seen_schemas};
-ghost use Rattle.capnp_schema.specs.Checking.Parents.{IsParentTable};
+ghost use Rattle.capnp_schema.specs.Steps.Checking.Parents.{IsParentTable};
 ghost use Rattle.capnp_schema.specs.Tables.{AreNameTables};
 
 mod annotated;

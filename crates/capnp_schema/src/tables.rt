@@ -4,10 +4,11 @@ ghost use Rattle.capnp_device.specs.declared.error.ErrorKind.TheVariants.{OutOfM
 ghost use Rattle.capnp_schema.specs.Schema.{node_at, seen_field, seen_node};
 ghost use Rattle.capnp_schema.specs.Entries.{lists_seen};
 ghost use Rattle.capnp_schema.specs.Query.{indices_from, keep_index, is_non_union};
-ghost use Rattle.capnp_schema.specs.Checking.Parents.{IsParentTable};
+ghost use Rattle.capnp_schema.specs.Steps.Checking.Parents.{IsParentTable};
 ghost use Rattle.capnp_schema.specs.GroupFields.{AreGroupFields, numbered_pair};
 ghost use Rattle.capnp_schema.specs.Accepted.{AreApartBelow, HasEachMember, IsAccepted};
-ghost use Rattle.capnp_schema.specs.Tables.{AreMemberTables, AreNameTables, ArePlaced, AreNonUnionTables, AreTables, IsMemberTable, placed_member};
+ghost use Rattle.capnp_schema.specs.Tables.{AreMemberTables, AreNameTables, AreNonUnionTables, AreTables, IsMemberTable};
+ghost use Rattle.capnp_schema.specs.Steps.Tables.{ArePlaced, placed_member};
 
 mod empty;
 

@@ -8,7 +8,7 @@ use Rattle.capnp_wire.specs.Stream.{message_tree_of}
 use Rattle.capnp_wire.specs.Tree.{Tree}
 use Rattle.capnp_request.specs.Refusals.{IsRefusal, is_unstrict}
 use Rattle.capnp_sets.specs.Facts.MessageRefusals.{message_refused, struct_refused}
-use Rattle.capnp_show_engine.specs.Refusals.{IsOfRead}
+use Rattle.capnp_show_engine.specs.Steps.Refusals.{IsOfRead}
 
 -- a test of kinds that no device's passes
 tested : (test : ErrorKind → Bool) → test kind.ReadFailed ≡ false → test kind.WriteFailed ≡ false → (k : ErrorKind) → test k ≡ true → IsOfRead k

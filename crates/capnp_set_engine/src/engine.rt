@@ -2,7 +2,7 @@
 ghost use Rattle.std.specs.Prelude.{◌≡◌, ◌≢◌, IfErr, IfOk, OnErr, OnOk, string_bytes};
 ghost use Rattle.capnp_device.specs.Device.{HasFailed};
 ghost use Rattle.capnp_device.specs.declared.error.ErrorKind.TheVariants.{OutOfMemory, ReadFailed, WriteFailed};
-ghost use Rattle.capnp_show_engine.specs.Refusals.{IsOfRead};
+ghost use Rattle.capnp_show_engine.specs.Steps.Refusals.{IsOfRead};
 ghost use Rattle.capnp_show_engine.specs.Show.{IsOfMessage};
 ghost use Rattle.capnp_set_engine.specs.Convert.{HasNoSet, IsConvertedFrom, IsCutShort, IsConvertedMessage, IsRefused, IsSetOf, IsRequestUnread, IsUnwritten, IsWritten};
 

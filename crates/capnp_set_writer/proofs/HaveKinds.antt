@@ -2,7 +2,8 @@
 use Rattle.std.specs.Prelude.{All, List}
 use Rattle.capnp_schema.specs.Schema.{Annotation, Enum, Enumerant, Field, FieldKind, Group, Node, Schemas, Slot}
 use Rattle.capnp_schema.specs.Schema.{Value, VoidValue, BoolValue, IntValue, UIntValue, EnumValue, TextValue, DataValue, StructValue, ListValue, AnyPointerValue}
-use Rattle.capnp_set_writer.specs.Kept.{AnnotationKept, EnumKept, EnumerantKept, FieldKept, KindKept, NodeKept, SetKept, ValueKept}
+use Rattle.capnp_set_writer.specs.Kept.{AnnotationKept, EnumKept, EnumerantKept, FieldKept, KindKept, NodeKept, ValueKept}
+use Rattle.capnp_set_writer.specs.Steps.Kept.{SetKept}
 use Rattle.capnp_set_writer.specs.Limits.{AnnotationHasKind, DefaultHasKind, EnumHasKinds, EnumerantHasKinds, FieldHasKinds, HasForm, NodeHasKinds, SetHasKinds}
 
 all : {A : Type 0} {P Q : A → Type 0} → ((a : A) → P a → Q a) → (xs : List A) → All P xs → All Q xs

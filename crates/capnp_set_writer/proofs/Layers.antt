@@ -12,7 +12,7 @@ use Rattle.capnp_schema.specs.Ranges.{HasWidths}
 use Rattle.capnp_schema.specs.Types.{SchemaType, lists_of, seen_base, seen_type, seen_variant}
 use Rattle.capnp_set_writer.specs.Kept.{TypeKept}
 use Rattle.capnp_set_writer.specs.Trees.{base_number, list_count, named_number, type_row, type_tree}
-use Rattle.capnp_set_writer.specs.Writes.{blank, number_put}
+use Rattle.capnp_set_writer.specs.Steps.Writes.{blank, number_put}
 
 bare : (v : TypeVariant) → ((x : TypeHandle) → v ≡ variant.List x → ⊥) → list_count (seen_variant v) ≡ 0
 bare variant.Void h = refl

@@ -15,7 +15,7 @@ use Rattle.capnp_arena.specs.Shape.{shape_at}
 use Rattle.capnp_arena.specs.declared.arena.Arena.{Arena}
 use Rattle.capnp_arena.specs.declared.arena.Place.{Place}
 use Rattle.capnp_set_writer.specs.Trees.{zeros}
-use Rattle.capnp_set_writer.specs.Writes.{IsNew, blank}
+use Rattle.capnp_set_writer.specs.Steps.Writes.{IsNew, blank}
 
 -- where nothing has changed
 pub changes_none : (w : ℕ) (bytes : List ℕ) → Changes w bytes bytes

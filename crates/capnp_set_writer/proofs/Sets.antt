@@ -16,7 +16,8 @@ use Rattle.capnp_records.specs.Record.{Left}
 use Rattle.capnp_sets.specs.Fields.{node_meant}
 use Rattle.capnp_sets.specs.Lists.{brand_of, enum_meant, read_or_none, set_meant}
 use Rattle.capnp_sets.specs.Parts.{meta_read_at, structs}
-use Rattle.capnp_set_writer.specs.Kept.{NodeKept, SetKept}
+use Rattle.capnp_set_writer.specs.Kept.{NodeKept}
+use Rattle.capnp_set_writer.specs.Steps.Kept.{SetKept}
 use Rattle.capnp_set_writer.specs.Limits.{set_message_words}
 use Rattle.capnp_set_writer.specs.Message.{IsReadAsSet}
 use Rattle.capnp_sets.specs.Message.{root_set, root_struct}

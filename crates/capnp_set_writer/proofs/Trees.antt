@@ -13,7 +13,8 @@ use Rattle.capnp_wire.specs.Reading.{element_struct}
 use Rattle.capnp_wire.specs.declared.size.StructSize.{StructSize}
 use Rattle.capnp_set_writer.specs.Limits.{ListFits}
 use Rattle.capnp_set_writer.specs.Trees.{struct_list_tree, structs_of, trees_of, zeros}
-use Rattle.capnp_set_writer.specs.Writes.{IsPartWriteRefusal, IsWriteRefusal, blank, filled_rows, filled_trees}
+use Rattle.capnp_set_writer.specs.Writes.{IsWriteRefusal}
+use Rattle.capnp_set_writer.specs.Steps.Writes.{IsPartWriteRefusal, blank, filled_rows, filled_trees}
 
 pub on_ok : {A E : Type 0} {P Q : Type 0} (r : Result A E) → (P → Q) → OnOk r P → OnOk r Q
 on_ok (Ok a) f p = f p

@@ -5,7 +5,7 @@ use Rattle.std.specs.Str.{is_utf8}
 use Rattle.capnp_wire.specs.WellFormed.{AreBytes, is_width}
 use Rattle.capnp_schema.specs.Builtin.{zero_word}
 use Rattle.capnp_schema.specs.Ranges.{HasWidths, IsSigned}
-use Rattle.capnp_schema.specs.Schema.{Annotation, Brand, Enum, Enumerant, Field, FieldKind, Group, Node, Schemas, Slot}
+use Rattle.capnp_schema.specs.Schema.{Annotation, Brand, Enum, Enumerant, Field, FieldKind, Group, Node, Slot}
 use Rattle.capnp_schema.specs.Schema.{Value, VoidValue, BoolValue, IntValue, UIntValue, EnumValue, TextValue, DataValue, StructValue, ListValue, AnyPointerValue}
 use Rattle.capnp_schema.specs.Types.{SchemaType}
 use Rattle.capnp_set_writer.specs.Trees.{list_count, named_number}
@@ -76,8 +76,3 @@ pub record EnumKept (e : Enum) : Type 0 where
   pub enumerants : All EnumerantKept e.enumerants
   pub own : All TypeKept e.annotation_types.own
   pub children : All (All TypeKept) e.annotation_types.children
-
-pub record SetKept (s : Schemas) : Type 0 where
-  pub nodes : All NodeKept s.nodes
-  pub brands : All BrandKept s.brands
-  pub enums : All EnumKept s.enums

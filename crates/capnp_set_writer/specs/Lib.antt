@@ -3,3 +3,4 @@ pub mod Limits
 pub mod Message
 pub mod Trees
 pub mod Writes
+pub mod Steps

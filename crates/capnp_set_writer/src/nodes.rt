@@ -5,7 +5,7 @@ ghost use Rattle.capnp_schema.specs.Schema.{Field, Node, seen_field, seen_kind, 
 ghost use Rattle.capnp_set_writer.specs.Kept.{AreSectionsKept, FieldKept, KindKept, NodeKept};
 ghost use Rattle.capnp_set_writer.specs.Limits.{DefaultHasForm, DefaultHasKind, FieldHasForm, FieldHasKinds, NodeHasForm, NodeHasKinds};
 ghost use Rattle.capnp_set_writer.specs.Trees.{field_tree, node_tree};
-ghost use Rattle.capnp_set_writer.specs.Writes.{HasSections, IsPartWriteRefusal, kind_written, sections_written};
+ghost use Rattle.capnp_set_writer.specs.Steps.Writes.{HasSections, IsPartWriteRefusal, kind_written, sections_written};
 
 use crate::rows::{Part, put_part, put_parts};
 use crate::values::bit_number;

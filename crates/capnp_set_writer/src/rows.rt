@@ -12,7 +12,7 @@ ghost use Rattle.capnp_arena.specs.Segment.{segment};
 ghost use Rattle.capnp_arena.specs.Shape.{word_count};
 ghost use Rattle.capnp_set_writer.specs.Limits.{ListFits};
 ghost use Rattle.capnp_set_writer.specs.Trees.{struct_list_tree};
-ghost use Rattle.capnp_set_writer.specs.Writes.{IsNew, IsPartWriteRefusal, blank, filled_rows};
+ghost use Rattle.capnp_set_writer.specs.Steps.Writes.{IsNew, IsPartWriteRefusal, blank, filled_rows};
 
 use capnp_arena::arena::{Arena, Place};
 use capnp_arena::structs::pointer_at;

@@ -8,11 +8,12 @@ ghost use Rattle.capnp_arena.specs.Segment.{segment};
 ghost use Rattle.capnp_arena.specs.Shape.{word_count};
 ghost use Rattle.capnp_schema.specs.Accepted.{IsAccepted};
 ghost use Rattle.capnp_schema.specs.Entries.{lists_seen};
-ghost use Rattle.capnp_set_writer.specs.Kept.{SetKept};
+ghost use Rattle.capnp_set_writer.specs.Steps.Kept.{SetKept};
 ghost use Rattle.capnp_set_writer.specs.Limits.{HasFormless, IsPastFormat, SetFits, SetHasKinds, set_message_words};
 ghost use Rattle.capnp_set_writer.specs.Message.{IsReadAsSet, set_message};
 ghost use Rattle.capnp_set_writer.specs.Trees.{set_tree};
-ghost use Rattle.capnp_set_writer.specs.Writes.{IsNew, IsPartWriteRefusal, IsWriteRefusal};
+ghost use Rattle.capnp_set_writer.specs.Writes.{IsWriteRefusal};
+ghost use Rattle.capnp_set_writer.specs.Steps.Writes.{IsNew, IsPartWriteRefusal};
 
 use crate::rows::put_parts;
 use capnp_arena::arena::{Arena, Place};

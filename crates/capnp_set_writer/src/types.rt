@@ -12,7 +12,7 @@ ghost use Rattle.capnp_schema.specs.Types.{SchemaType, seen_type, seen_variant};
 ghost use Rattle.capnp_set_writer.specs.Kept.{TypeKept};
 ghost use Rattle.capnp_set_writer.specs.Limits.{TypeFits, TypeListsFit, TypesFit};
 ghost use Rattle.capnp_set_writer.specs.Trees.{base_number, list_count, named_number, type_lists_tree, type_tree, types_tree};
-ghost use Rattle.capnp_set_writer.specs.Writes.{IsBare, IsPartWriteRefusal, filled_trees};
+ghost use Rattle.capnp_set_writer.specs.Steps.Writes.{IsBare, IsPartWriteRefusal, filled_trees};
 
 use crate::rows::{Part, count_of, put_list};
 use capnp_arena::arena::{Arena, Place};

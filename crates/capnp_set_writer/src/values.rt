@@ -12,7 +12,7 @@ ghost use Rattle.capnp_schema.specs.SlotValue.{bit_number};
 ghost use Rattle.capnp_set_writer.specs.Kept.{AnnotationKept, ValueKept};
 ghost use Rattle.capnp_set_writer.specs.Limits.{AnnotationFits, AnnotationHasKind, HasForm, IsDataLength, IsTextLength, ValueHasForm};
 ghost use Rattle.capnp_set_writer.specs.Trees.{annotation_tree, value_tree};
-ghost use Rattle.capnp_set_writer.specs.Writes.{IsNew, IsPartWriteRefusal, blank, number_put};
+ghost use Rattle.capnp_set_writer.specs.Steps.Writes.{IsNew, IsPartWriteRefusal, blank, number_put};
 
 use crate::rows::{Part, put_part};
 use crate::writes::{put_data, put_text};

@@ -7,7 +7,7 @@ ghost use Rattle.capnp_arena.specs.Built.{ChangesIn, IsBuilt, built_at};
 ghost use Rattle.capnp_base.specs.Text.{text_tree};
 ghost use Rattle.capnp_set_writer.specs.Kept.{IsWrittenName};
 ghost use Rattle.capnp_set_writer.specs.Limits.{IsDataLength, IsTextLength};
-ghost use Rattle.capnp_set_writer.specs.Writes.{IsPartWriteRefusal};
+ghost use Rattle.capnp_set_writer.specs.Steps.Writes.{IsPartWriteRefusal};
 
 use capnp_arena::arena::{Arena, Place};
 use capnp_arena::structs::pointer_at;

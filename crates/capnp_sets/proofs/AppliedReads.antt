@@ -1,7 +1,8 @@
 -- What is made of parts, and which causes stand in it.
 use Rattle.std.proofs.Common.{◌≡◌, refl, ap, subst, sym, inl, inr, Ok, Err}
 use Rattle.capnp_device.specs.declared.error.ErrorKind.{ErrorKind}
-use Rattle.capnp_sets.specs.Causes.{◌<*>◌, HasCause, SetRead, flat, refused_read}
+use Rattle.capnp_sets.specs.Causes.{HasCause, SetRead, flat, refused_read}
+use Rattle.capnp_sets.specs.Steps.Causes.{◌<*>◌}
 
 ok_ok : {A B : Type 0} (f : A → B) (a : A) → Ok f <*> Ok a ≡ Ok (f a)
 unfolding ◌<*>◌

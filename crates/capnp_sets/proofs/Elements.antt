@@ -16,7 +16,7 @@ use Rattle.capnp_records.specs.Reading.{of_read, struct_record, value_of}
 use Rattle.capnp_records.specs.Record as value
 use Rattle.capnp_records.specs.Record.{Left, Value}
 use Rattle.capnp_sets.specs.Causes.{HasCause, SetRead}
-use Rattle.capnp_sets.specs.Handles.{meta_record_in}
+use Rattle.capnp_sets.specs.Steps.Handles.{meta_record_in}
 use Rattle.capnp_sets.specs.Parts.{unless_fault}
 use Rattle.capnp_sets.proofs.AppliedReads.{only_cause}
 use Rattle.capnp_sets.proofs.RowsRead.{element_seen}

@@ -12,7 +12,7 @@ use Rattle.capnp_records.specs.Reading.{kind_value, record_within, values_of}
 use Rattle.capnp_records.specs.Record as value
 use Rattle.capnp_records.specs.Record.{Left, Levels, Value}
 use Rattle.capnp_dynamic_readers.specs.Reads.{field_read, handed_out}
-use Rattle.capnp_sets.specs.Handles.{IsMetaFieldActive, IsMetaField, meta_record_in}
+use Rattle.capnp_sets.specs.Steps.Handles.{IsMetaFieldActive, IsMetaField, meta_record_in}
 use Rattle.capnp_sets.specs.Parts.{meta_read_at}
 use Rattle.capnp_sets.proofs.PartsSeen.{part-here}
 

@@ -11,7 +11,7 @@ use Rattle.capnp_sets.proofs.AppliedReads.{only_cause}
 use Rattle.capnp_wire.specs.Reading.{list_length}
 use Rattle.capnp_wire.specs.Standing.{list_of}
 use Rattle.capnp_wire.specs.declared.list_reader.ListReader.{ListReader}
-use Rattle.capnp_sets.specs.Handles.{values_in}
+use Rattle.capnp_sets.specs.Steps.Handles.{values_in}
 use Rattle.capnp_sets.proofs.RowsRead.{element_in, element_seen}
 use Rattle.capnp_sets.specs.Types.{generic_in, node_number}
 

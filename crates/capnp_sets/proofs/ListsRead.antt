@@ -11,7 +11,7 @@ use Rattle.capnp_records.specs.Default.{read_of}
 use Rattle.capnp_records.specs.Record as value
 use Rattle.capnp_records.specs.Record.{Value}
 use Rattle.capnp_sets.specs.Causes.{HasCause, SetRead}
-use Rattle.capnp_sets.specs.Handles.{list_in}
+use Rattle.capnp_sets.specs.Steps.Handles.{list_in}
 use Rattle.capnp_sets.specs.Parts.{list, unless_fault}
 use Rattle.capnp_sets.proofs.Elements.{element_caused, element_made, element_refused}
 use Rattle.capnp_sets.proofs.RowsRead.{IsReadTo, element_in, element_seen, read_all, read_more, read_none, read_stopped}

@@ -10,7 +10,7 @@ use Rattle.capnp_schema.specs.SlotValue.{bits_at}
 use Rattle.capnp_records.specs.Part.{which_of}
 use Rattle.capnp_records.specs.Reading.{active_among, part_of, non_union_parts, values_of}
 use Rattle.capnp_records.specs.Record.{Active, Left, Parts, Union, Unknown, Value, Values}
-use Rattle.capnp_sets.specs.Handles.{meta_record_in}
+use Rattle.capnp_sets.specs.Steps.Handles.{meta_record_in}
 
 differs : (a b : ℕ) → a ≢ b → (b == a) ≡ false
 differs a b h = go (b == a) refl

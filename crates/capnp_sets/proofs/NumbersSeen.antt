@@ -10,7 +10,7 @@ use Rattle.capnp_schema.specs.Schema.{BoolValue, IntValue, UIntValue}
 use Rattle.capnp_schema.specs.SlotValue.{bit_number, bits_at}
 use Rattle.capnp_schema.specs.Types.{BoolType, IntType, UIntType}
 use Rattle.capnp_records.specs.Reading.{signed_number}
-use Rattle.capnp_sets.specs.Handles.{IsMetaFieldActive, IsMetaSlot, meta_record_in}
+use Rattle.capnp_sets.specs.Steps.Handles.{IsMetaFieldActive, IsMetaSlot, meta_record_in}
 use Rattle.capnp_sets.specs.Parts.{integer, number, meta_read_at, truth}
 use Rattle.capnp_sets.proofs.FieldsSeen.{seen_by}
 

@@ -25,7 +25,7 @@ use Rattle.capnp_records.specs.Facts.Readers.{data-read, list-value, null-is, st
 use Rattle.capnp_records.specs.Reading.{elements_value, entered_value, of_read, struct_record, value_of}
 use Rattle.capnp_records.specs.Record as value
 use Rattle.capnp_records.specs.Record.{Left, Levels, NoValues, Value, one_less}
-use Rattle.capnp_dynamic_readers.specs.Behind.{list_answered, struct_answered}
+use Rattle.capnp_dynamic_readers.specs.Steps.Behind.{list_answered, struct_answered}
 
 -- a value that is there, and a null
 there : (d : SchemaValue) (t : SchemaType) (x : Tree) (l : Levels) → is_null_tree x ≡ false → read_of meta d t (value_of meta x l t) ≡ value_of meta x l t

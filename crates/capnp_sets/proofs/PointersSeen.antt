@@ -20,10 +20,10 @@ use Rattle.capnp_records.specs.Facts.Pointers.{values_of-nth}
 use Rattle.capnp_records.specs.Reading.{Reading, element_type, value_of}
 use Rattle.capnp_records.specs.Record as value
 use Rattle.capnp_records.specs.Record.{Left, Value}
-use Rattle.capnp_dynamic_readers.specs.Behind.{data_answered, list_answered, struct_answered, text_answered}
+use Rattle.capnp_dynamic_readers.specs.Steps.Behind.{data_answered, list_answered, struct_answered, text_answered}
 use Rattle.capnp_dynamic_readers.specs.Reads.{pointer_read}
 use Rattle.capnp_sets.specs.Causes.{HasCause}
-use Rattle.capnp_sets.specs.Handles.{IsMetaFieldActive, IsMetaSlot, list_in, meta_record_in}
+use Rattle.capnp_sets.specs.Steps.Handles.{IsMetaFieldActive, IsMetaSlot, list_in, meta_record_in}
 use Rattle.capnp_sets.specs.Parts.{blob, meta_read_at, text}
 use Rattle.capnp_sets.proofs.Faults.{fault_blob, fault_text}
 use Rattle.capnp_sets.proofs.FieldsSeen.{seen_by}

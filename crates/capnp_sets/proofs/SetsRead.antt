@@ -15,7 +15,8 @@ use Rattle.capnp_wire.specs.declared.struct_reader.StructReader.{StructReader}
 use Rattle.capnp_wire.specs.declared.list_reader.ListReader.{ListReader}
 use Rattle.capnp_sets.specs.Causes.{HasCause, SetRead}
 use Rattle.capnp_sets.specs.Fields.{node_meant}
-use Rattle.capnp_sets.specs.Handles.{IsMetaRecord, list_in, meta_record_in}
+use Rattle.capnp_sets.specs.Handles.{IsMetaRecord}
+use Rattle.capnp_sets.specs.Steps.Handles.{list_in, meta_record_in}
 use Rattle.capnp_sets.specs.Lists.{brand_of, brands_in, elements_of, enum_meant, has_cause, lists_meant, made_set, read_or_none, set_meant}
 use Rattle.capnp_sets.specs.Parts.{meta_read_at, struct, structs}
 use Rattle.capnp_sets.proofs.AppliedReads.{cause_left, cause_right, made}

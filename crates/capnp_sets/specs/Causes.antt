@@ -13,14 +13,6 @@ SetRead A = Result A Causes
 abbrev pub refused_read : {A : Type 0} → ErrorKind → SetRead A
 refused_read kind = Err (One kind)
 
--- a function of what a part stands for; where both parts have causes, all of them count
-infixl 10 ◌<*>◌
-unfoldable pub ◌<*>◌ : {A B : Type 0} → SetRead (A → B) → SetRead A → SetRead B
-Ok f <*> Ok a = Ok (f a)
-Ok f <*> Err causes = Err causes
-Err causes <*> Ok a = Err causes
-Err causes <*> Err others = Err (Both causes others)
-
 -- what stands for a part that may stand for none itself
 unfoldable pub flat : {A : Type 0} → SetRead (SetRead A) → SetRead A
 flat (Ok part) = part

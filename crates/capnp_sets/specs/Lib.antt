@@ -9,3 +9,4 @@ pub mod Parts
 pub mod Refusals
 pub mod Types
 pub mod Values
+pub mod Steps

@@ -5,7 +5,7 @@ ghost use Rattle.capnp_schema.specs.Schema.{Field, Node, seen_field, seen_kind, 
 ghost use Rattle.capnp_records.specs.Part.{which_of};
 ghost use Rattle.capnp_sets.specs.Causes.{HasCause};
 ghost use Rattle.capnp_sets.specs.Fields.{field_of, kind_by, node_meant, slot_of};
-ghost use Rattle.capnp_sets.specs.Handles.{meta_record_in};
+ghost use Rattle.capnp_sets.specs.Steps.Handles.{meta_record_in};
 
 use crate::numbers::{bool_at, u16_at, u32_at, u64_at};
 use crate::parts::{FIELD, NODE, SLOT, field_member, name_at};

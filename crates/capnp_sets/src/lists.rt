@@ -3,7 +3,7 @@ ghost use Rattle.std.specs.Prelude.{◌≡◌, ◌≢◌, Ok, IfErr, IfOk};
 ghost use Rattle.capnp_device.specs.declared.error.ErrorKind.TheVariants.{OutOfMemory};
 ghost use Rattle.capnp_schema.specs.Schema.{Brand, Enum, Enumerant, seen_brand, seen_enum, seen_enumerant};
 ghost use Rattle.capnp_sets.specs.Causes.{HasCause};
-ghost use Rattle.capnp_sets.specs.Handles.{meta_record_in, values_in};
+ghost use Rattle.capnp_sets.specs.Steps.Handles.{meta_record_in, values_in};
 ghost use Rattle.capnp_sets.specs.Lists.{brand_of, enum_meant, enumerant_of};
 
 use crate::numbers::{u32_at, u64_at};

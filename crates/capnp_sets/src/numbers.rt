@@ -4,7 +4,7 @@
 ghost use Rattle.std.specs.Prelude.{◌≡◌, false, pos, Ok};
 ghost use Rattle.capnp_schema.specs.Schema.{BoolValue, IntValue, UIntValue};
 ghost use Rattle.capnp_schema.specs.Types.{BoolType, IntType, UIntType};
-ghost use Rattle.capnp_sets.specs.Handles.{IsMetaFieldActive, IsMetaSlot, meta_record_in};
+ghost use Rattle.capnp_sets.specs.Steps.Handles.{IsMetaFieldActive, IsMetaSlot, meta_record_in};
 ghost use Rattle.capnp_sets.specs.Parts.{integer, number, meta_read_at, truth};
 
 use capnp_wire::StructReader;

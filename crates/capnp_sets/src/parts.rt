@@ -13,7 +13,7 @@ ghost use Rattle.capnp_records.specs.Part.{which_of};
 ghost use Rattle.capnp_records.specs.Reading.{element_type};
 ghost use Rattle.capnp_records.specs.Record as value;
 ghost use Rattle.capnp_sets.specs.Causes.{HasCause};
-ghost use Rattle.capnp_sets.specs.Handles.{IsMetaFieldActive, IsMetaSlot, list_in, meta_record_in};
+ghost use Rattle.capnp_sets.specs.Steps.Handles.{IsMetaFieldActive, IsMetaSlot, list_in, meta_record_in};
 ghost use Rattle.capnp_sets.specs.Parts.{blob, name, name_meant, meta_read_at, text};
 
 use capnp_base::text;

@@ -6,7 +6,7 @@ ghost use Rattle.capnp_schema.specs.Meta.{meta_structs, meta_struct};
 ghost use Rattle.capnp_schema.specs.Schema.{ListValue};
 ghost use Rattle.capnp_records.specs.Record.{Record, Values};
 ghost use Rattle.capnp_sets.specs.Causes.{HasCause, SetRead};
-ghost use Rattle.capnp_sets.specs.Handles.{IsMetaFieldActive, IsMetaSlot, list_in, meta_record_in, values_in};
+ghost use Rattle.capnp_sets.specs.Steps.Handles.{IsMetaFieldActive, IsMetaSlot, list_in, meta_record_in, values_in};
 ghost use Rattle.capnp_sets.specs.Parts.{meta_read_at, structs};
 
 use crate::parts::{is_no_list, list_at};

@@ -7,8 +7,9 @@ ghost use Rattle.capnp_schema.specs.Meta.{meta_structs, meta};
 ghost use Rattle.capnp_schema.specs.Schema.{ListValue, VoidValue};
 ghost use Rattle.capnp_schema.specs.Types.{ListType, SchemaType, StructType, lists_of, seen_type};
 ghost use Rattle.capnp_dynamic_readers.specs.Reads.{pointer_read};
-ghost use Rattle.capnp_sets.specs.Causes.{HasCause, ◌<*>◌};
-ghost use Rattle.capnp_sets.specs.Handles.{IsMetaFieldActive, IsMetaSlot, list_in, meta_record_in, values_in};
+ghost use Rattle.capnp_sets.specs.Causes.{HasCause};
+ghost use Rattle.capnp_sets.specs.Steps.Causes.{◌<*>◌};
+ghost use Rattle.capnp_sets.specs.Steps.Handles.{IsMetaFieldActive, IsMetaSlot, list_in, meta_record_in, values_in};
 ghost use Rattle.capnp_sets.specs.Parts.{meta_read_at};
 ghost use Rattle.capnp_sets.specs.Types.{base_type_meant, generic_in, type_lists, type_meant, types};
 

@@ -6,7 +6,7 @@ ghost use Rattle.capnp_schema.specs.Meta.{meta_struct};
 ghost use Rattle.capnp_schema.specs.Schema.{Annotation, StructValue, seen_annotation, seen_value};
 ghost use Rattle.capnp_records.specs.Part.{which_of};
 ghost use Rattle.capnp_sets.specs.Causes.{HasCause};
-ghost use Rattle.capnp_sets.specs.Handles.{IsMetaFieldActive, IsMetaSlot, meta_record_in};
+ghost use Rattle.capnp_sets.specs.Steps.Handles.{IsMetaFieldActive, IsMetaSlot, meta_record_in};
 ghost use Rattle.capnp_sets.specs.Parts.{meta_read_at, struct};
 ghost use Rattle.capnp_sets.specs.Values.{annotation_meant, list_value, value_by, value_meant};
 

@@ -12,7 +12,7 @@ use Rattle.capnp_records.specs.Record as value
 use Rattle.capnp_records.specs.Record.{Left, Value}
 use Rattle.capnp_records.specs.Text.{Out}
 use Rattle.capnp_show_engine.specs.Facts.TextSound.{OutSound, whole-sound}
-use Rattle.capnp_show_engine.specs.Refusals.{IsOfRead}
+use Rattle.capnp_show_engine.specs.Steps.Refusals.{IsOfRead}
 use Rattle.capnp_show_engine.specs.Show.{as_printed, message_root_text, message_root_value, shown_text}
 use Rattle.capnp_records.specs.Run.{root_type}
 use Rattle.capnp_records.specs.Facts.ReadFaults.{Sound, is_read_kind, read_of-sound, value_of-sound}

@@ -3,7 +3,7 @@ ghost use Rattle.std.specs.Prelude.{◌≡◌, ◌≢◌, ◌<◌, length, Ok, E
 ghost use Rattle.capnp_device.specs.Device.{HasFailed};
 ghost use Rattle.capnp_device.specs.declared.error.ErrorKind.TheVariants.{OutOfMemory, ReadFailed, WriteFailed};
 ghost use Rattle.capnp_schema.specs.Entries.{lists_seen};
-ghost use Rattle.capnp_show_engine.specs.Refusals.{IsOfRead};
+ghost use Rattle.capnp_show_engine.specs.Steps.Refusals.{IsOfRead};
 ghost use Rattle.capnp_show_engine.specs.Show.{IsTextCutShort, IsLineOf, IsOfMessage, IsShowRefused, IsShown, shown_text};
 ghost use Rattle.capnp_dynamic_readers.specs.Pieces.{IsAppended};
 

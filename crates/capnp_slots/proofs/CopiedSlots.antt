@@ -46,9 +46,11 @@ use Rattle.capnp_base.specs.declared.text.Reader.{Reader as TextReader}
 use Rattle.capnp_wire.specs.Place.{struct_tree}
 use Rattle.capnp_wire.specs.Standing.{tree_of}
 use Rattle.capnp_wire.specs.declared.pointer_reader.PointerReader.{PointerReader}
-use Rattle.capnp_slots.specs.Copied.{IsCopied, IsCopiedFrom, IsGivenCopy, copy_content, copy_given, default_in, empty_tree, pointer_content, pointer_given, read_due, refusal_of}
-use Rattle.capnp_slots.specs.Fields.{IsPointerField, IsRoomFor, IsSlot, IsSlotPlan, field_set, Keeps, names_of, pointer_index, slot_with}
-use Rattle.capnp_slots.specs.Planned.{place_bits, plan_written}
+use Rattle.capnp_slots.specs.Copied.{IsCopied, IsCopiedFrom, copy_content, copy_given, refusal_of}
+use Rattle.capnp_slots.specs.Steps.Copied.{IsGivenCopy, default_in, empty_tree, pointer_content, pointer_given, read_due}
+use Rattle.capnp_slots.specs.Fields.{IsPointerField, IsRoomFor, IsSlot, field_set, Keeps, names_of, pointer_index, slot_with}
+use Rattle.capnp_slots.specs.Steps.Fields.{IsSlotPlan}
+use Rattle.capnp_slots.specs.Steps.Planned.{place_bits, plan_written}
 use Rattle.capnp_slots.specs.Sources.{IsSetRefusal, IsTaken, copy_due}
 
 -- ---- the fault of a read ----

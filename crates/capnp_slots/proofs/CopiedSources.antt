@@ -15,7 +15,8 @@ use Rattle.capnp_records.specs.Given.{Given, Gives, Copies, CopiesGroup, Fails, 
 use Rattle.capnp_records.specs.Record.{Value}
 use Rattle.capnp_slots.specs.Fields.{field_set}
 use Rattle.capnp_slots.specs.Primitives.{given_to}
-use Rattle.capnp_slots.specs.Sources.{GivesCopy, IsCopy, IsPointed, TakesSource, source_copied, source_past}
+use Rattle.capnp_slots.specs.Sources.{IsPointed}
+use Rattle.capnp_slots.specs.Steps.Sources.{GivesCopy, IsCopy, TakesSource, source_copied, source_past}
 
 -- what stands behind a pointer is given at once to a void slot alone
 pub void-only : (set : Schemas) (t : SchemaType) (s : Source) (v : Value) → IsPointed s → given_slot set t s ≡ Gives v → VoidType ≡ t

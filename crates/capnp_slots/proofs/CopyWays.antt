@@ -8,12 +8,12 @@ use Rattle.capnp_device.specs.declared.error.Error.{Error}
 use Rattle.capnp_device.specs.declared.error.ErrorKind.{ErrorKind}
 use Rattle.capnp_wire.specs.Tree.{StructTree}
 use Rattle.capnp_schema.specs.Accepted.{IsParent}
-use Rattle.capnp_schema.specs.Checking.Parents.{group_target}
+use Rattle.capnp_schema.specs.Steps.Checking.Parents.{group_target}
 use Rattle.capnp_schema.specs.Facts.GroupFields.{group_field_found, parent_target, target_parent}
 use Rattle.capnp_schema.specs.FieldLists.{IsFound, index_of, field_schema, typed_of}
 use Rattle.capnp_schema.specs.GroupFields.{group_field_of}
 use Rattle.capnp_schema.specs.GroupsDown.{IsGroupFieldOf, place_of_field}
-use Rattle.capnp_schema.specs.GroupWalks.{steps_into}
+use Rattle.capnp_schema.specs.Steps.GroupWalks.{steps_into}
 use Rattle.capnp_schema.specs.Laws.{group_height}
 use Rattle.capnp_schema.specs.Query.{indices_from, is_non_union, keep_index}
 use Rattle.capnp_schema.specs.Schema.{Schemas, TypedField, field_at, fields_of, is_member, node_of}
@@ -28,8 +28,8 @@ use Rattle.capnp_records.specs.Writes.Slots.{Fits}
 use Rattle.capnp_records.specs.Writes.TreeCopy.{TreeCopiesWithin}
 use Rattle.capnp_slots.specs.Copied.{IsCopied, copy_content, copy_given}
 use Rattle.capnp_slots.specs.Fields.{IsRoomFor, IsSlot, field_brand, field_set, switched_to}
-use Rattle.capnp_slots.specs.GroupClears.{field_cleared_at, cleared_behind, place_behind, unless_member_place}
-use Rattle.capnp_slots.specs.GroupSets.{CopiesIndices, CopiesThrough, active_in, copied_at, if_passes, is_index_there, is_part_there, kept_indices, member_indices, non_union_in}
+use Rattle.capnp_slots.specs.Steps.GroupClears.{field_cleared_at, cleared_behind, place_behind, unless_member_place}
+use Rattle.capnp_slots.specs.Steps.GroupSets.{CopiesIndices, CopiesThrough, active_in, copied_at, if_passes, is_index_there, is_part_there, kept_indices, member_indices, non_union_in}
 use Rattle.capnp_slots.specs.Groups.{IsGroupAt, KeepsSize}
 use Rattle.capnp_slots.specs.Sources.{IsSetRefusal}
 use Rattle.capnp_slots.proofs.GroupClears.{entry, fits-kept, records}

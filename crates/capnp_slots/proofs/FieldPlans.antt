@@ -20,8 +20,10 @@ use Rattle.capnp_records.specs.Writes.Overlay.{cleared_content, with_slot}
 use Rattle.capnp_records.specs.Writes.Slots.{Content, Bits, Fits, Suits, with_content}
 use Rattle.capnp_records.specs.Writes.Overlay.{field_spots}
 use Rattle.capnp_records.specs.Writes.TreeEnds.{offset_of}
-use Rattle.capnp_slots.specs.Fields.{IsFieldPlan, IsFormed, IsSlot, IsSlotPlan, Keeps, field_brand, field_set, switched_to}
-use Rattle.capnp_slots.specs.Planned.{HoldsNumber, member_switched, place_bits, place_cleared, place_mask, place_written}
+use Rattle.capnp_slots.specs.Fields.{IsFieldPlan, IsSlot, Keeps, field_brand, field_set, switched_to}
+use Rattle.capnp_slots.specs.Steps.Fields.{IsFormed, IsSlotPlan}
+use Rattle.capnp_slots.specs.Planned.{member_switched}
+use Rattle.capnp_slots.specs.Steps.Planned.{HoldsNumber, place_bits, place_cleared, place_mask, place_written}
 use Rattle.capnp_slots.proofs.SlotPlans.{member-switched, place-clears, place-holds, place-stores, slot-loads, slot_formed, slot_place-written, switch_formed}
 
 -- ---- the kind of a slot ----

@@ -40,7 +40,8 @@ use Rattle.capnp_records.specs.Step.{is_group_field}
 use Rattle.capnp_records.specs.Writes.Fill.{IsAtRest, default_struct, entered_list, filled_slot_struct, list_or_default}
 use Rattle.capnp_schema.specs.Plan.{brand_size}
 use Rattle.capnp_slots.specs.Fields.{IsSlot}
-use Rattle.capnp_slots.specs.Fills.{IsDefaultPointer, FilledListRests, blob_filled, fill_due, list_due}
+use Rattle.capnp_slots.specs.Fills.{fill_due}
+use Rattle.capnp_slots.specs.Steps.Fills.{IsDefaultPointer, FilledListRests, blob_filled, list_due}
 
 -- ---- the pointer of a default ----
 

@@ -26,7 +26,8 @@ use Rattle.capnp_schema.specs.Types.{SchemaType, TextType, DataType, StructType,
 use Rattle.capnp_records.specs.Writes.Fill.{IsAtRest, entered_list}
 use Rattle.capnp_schema.specs.Plan.{brand_size}
 use Rattle.capnp_slots.specs.Copied.{refusal_of}
-use Rattle.capnp_slots.specs.Fills.{HoldsThere, IsDefaultPointer, IsFilled, IsSlotFilled, FilledListRests, RestsIn, blob_filled, due_in, fill_due, filled_in, filled_tree, list_due, pointer_in}
+use Rattle.capnp_slots.specs.Fills.{RestsIn, due_in, fill_due, filled_in, filled_tree, pointer_in}
+use Rattle.capnp_slots.specs.Steps.Fills.{HoldsThere, IsDefaultPointer, IsFilled, IsSlotFilled, FilledListRests, blob_filled, list_due}
 use Rattle.capnp_slots.specs.Fields.{IsSlot, field_set, pointer_index}
 use Rattle.capnp_slots.proofs.ElementFills.{always, due_cause, due_within}
 use Rattle.capnp_slots.proofs.Filled.{default-is, list-due, list-filled, same-there, struct-due, struct-filled, structs-due}

@@ -20,7 +20,8 @@ use Rattle.capnp_records.specs.Laws.{GroupClearStaysInside}
 use Rattle.capnp_records.specs.Writes.Overlay.{cleared_field, cleared_group, cleared_member, cleared_non_union, cleared_within}
 use Rattle.capnp_records.specs.Writes.Slots.{Fits, Writes}
 use Rattle.capnp_slots.specs.Fields.{IsRoomFor, Keeps, field_brand, field_set, names_of, switched_to}
-use Rattle.capnp_slots.specs.Groups.{IsGroupAt, KeepsSize, clear_index, cleared_indices, cleared_option, cleared_through, group_without}
+use Rattle.capnp_slots.specs.Groups.{IsGroupAt, KeepsSize, group_without}
+use Rattle.capnp_slots.specs.Steps.Groups.{clear_index, cleared_indices, cleared_option, cleared_through}
 
 -- ---- sizes ----
 

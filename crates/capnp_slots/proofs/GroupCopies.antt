@@ -34,8 +34,10 @@ use Rattle.capnp_dynamic_readers.specs.Facts.HasWhich.{part-there}
 use Rattle.capnp_dynamic_readers.specs.Planned.{IsActiveMember, place_there}
 use Rattle.capnp_slots.specs.Copied.{IsCopied, copy_content, copy_given, refusal_of}
 use Rattle.capnp_slots.specs.Fields.{IsRoomFor, IsSlot, Keeps, field_brand, field_set, names_of, switched_to}
-use Rattle.capnp_slots.specs.GroupSets.{CopiesIndices, CopiesThrough, IsGroupSet, active_in, given_to_group, is_part_there, kept_indices, member_indices, non_union_in}
-use Rattle.capnp_slots.specs.Groups.{IsGroupAt, KeepsSize, cleared_through}
+use Rattle.capnp_slots.specs.GroupSets.{IsGroupSet, given_to_group}
+use Rattle.capnp_slots.specs.Steps.GroupSets.{CopiesIndices, CopiesThrough, active_in, is_part_there, kept_indices, member_indices, non_union_in}
+use Rattle.capnp_slots.specs.Groups.{IsGroupAt, KeepsSize}
+use Rattle.capnp_slots.specs.Steps.Groups.{cleared_through}
 use Rattle.capnp_slots.specs.Sources.{IsSetRefusal, IsTaken, copy_due}
 use Rattle.capnp_slots.proofs.GroupClears.{cleared-whole, entry, records}
 

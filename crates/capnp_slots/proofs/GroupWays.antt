@@ -9,14 +9,14 @@ use Rattle.std.specs.List.{position_or_len}
 use Rattle.std.specs.Option.{option_map, unwrap_or}
 use Rattle.capnp_wire.specs.Tree.{StructTree}
 use Rattle.capnp_schema.specs.Accepted.{HasOneParent, HaveSameSizes, IsGroupOf, IsParent}
-use Rattle.capnp_schema.specs.Checking.Parents.{entry_target, group_target}
+use Rattle.capnp_schema.specs.Steps.Checking.Parents.{entry_target, group_target}
 use Rattle.capnp_schema.specs.Facts.GroupFields.{group_field_found, parent_target, target_parent}
 use Rattle.capnp_schema.specs.Facts.Groups.{group_in_set, group_of_field}
 use Rattle.capnp_schema.specs.Facts.GroupWalks.{some_steps, step_into, steps_past}
 use Rattle.capnp_schema.specs.FieldLists.{IsFieldOf, IsFound, index_of, field_schema, typed_of}
 use Rattle.capnp_schema.specs.GroupFields.{group_field_of}
 use Rattle.capnp_schema.specs.GroupsDown.{IsGroupFieldOf, place_of_field}
-use Rattle.capnp_schema.specs.GroupWalks.{steps_into, steps_through}
+use Rattle.capnp_schema.specs.Steps.GroupWalks.{steps_into, steps_through}
 use Rattle.capnp_schema.specs.Query.{is_member_of, member_of, records_of}
 use Rattle.capnp_schema.specs.Schema.{FieldKind, Group, Schemas, Slot, TypedField, field_at, fields_of, is_member, kind_target}
 use Rattle.capnp_schema.specs.StructHandles.{IsStruct, number_of, set_of, struct_field, struct_fields}
@@ -27,8 +27,9 @@ use Rattle.capnp_records.specs.Step.{is_group_field}
 use Rattle.capnp_records.specs.Writes.Overlay.{cleared_field, cleared_kind, cleared_member, cleared_non_union, cleared_within}
 use Rattle.capnp_records.specs.Writes.Slots.{Fits}
 use Rattle.capnp_slots.specs.Fields.{IsSlot, field_brand, field_set, switched_to}
-use Rattle.capnp_slots.specs.GroupClears.{IsSlotCleared, field_cleared_at, cleared_behind, place_behind, unless_member_place}
-use Rattle.capnp_slots.specs.Groups.{IsGroupAt, KeepsSize, clear_by, cleared_option, cleared_through}
+use Rattle.capnp_slots.specs.Steps.GroupClears.{IsSlotCleared, field_cleared_at, cleared_behind, place_behind, unless_member_place}
+use Rattle.capnp_slots.specs.Groups.{IsGroupAt, KeepsSize}
+use Rattle.capnp_slots.specs.Steps.Groups.{clear_by, cleared_option, cleared_through}
 use Rattle.capnp_slots.proofs.GroupClears.{cleared-member, cleared-none, entry, fits-kept, records}
 
 -- ---- what is left of a group from a place on ----

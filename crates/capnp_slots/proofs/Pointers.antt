@@ -12,8 +12,10 @@ use Rattle.capnp_schema.specs.declared.plan.SlotPlan.{SlotPlan}
 use Rattle.capnp_schema.specs.declared.schema.fields.Field.{Field}
 use Rattle.capnp_records.specs.Facts.Pointers.{nth_tree-put_same}
 use Rattle.capnp_records.specs.Writes.Slots.{At}
-use Rattle.capnp_slots.specs.Fields.{IsPointerField, IsPointerSlot, IsRoomFor, IsSlotPlan, Keeps, names_of, pointer_index, slot_with}
-use Rattle.capnp_slots.specs.Planned.{member_switched, place_written}
+use Rattle.capnp_slots.specs.Fields.{IsPointerField, IsPointerSlot, IsRoomFor, Keeps, names_of, pointer_index, slot_with}
+use Rattle.capnp_slots.specs.Steps.Fields.{IsSlotPlan}
+use Rattle.capnp_slots.specs.Planned.{member_switched}
+use Rattle.capnp_slots.specs.Steps.Planned.{place_written}
 
 -- ---- a pointer's slot ----
 

@@ -14,9 +14,12 @@ use Rattle.capnp_records.specs.Call.{Source, BoolSource, IntSource, UIntSource, 
 use Rattle.capnp_records.specs.Given.{Given, Gives, Copies, CopiesGroup, Fails, given_element, given_slot}
 use Rattle.capnp_records.specs.Writes.Contents.{SourceFits}
 use Rattle.capnp_records.specs.Writes.ElementEnds.{element_written, with_element_number}
-use Rattle.capnp_slots.specs.ElementSets.{IsBlobOrList, IsElementSet, IsPointerElement, NoStruct, TakesInto, element_given}
-use Rattle.capnp_slots.specs.Primitives.{GivesNumber, IsGivenAs, primitive_source}
-use Rattle.capnp_slots.specs.Sources.{GivesCopy, IsPointed, IsSetRefusal, IsTaken, source_copied}
+use Rattle.capnp_slots.specs.ElementSets.{IsElementSet, element_given}
+use Rattle.capnp_slots.specs.Steps.ElementSets.{IsBlobOrList, IsPointerElement, NoStruct, TakesInto}
+use Rattle.capnp_slots.specs.Primitives.{primitive_source}
+use Rattle.capnp_slots.specs.Steps.Primitives.{GivesNumber, IsGivenAs}
+use Rattle.capnp_slots.specs.Sources.{IsPointed, IsSetRefusal, IsTaken}
+use Rattle.capnp_slots.specs.Steps.Sources.{GivesCopy, source_copied}
 use Rattle.capnp_records.specs.Record.{Levels, Value}
 use Rattle.capnp_records.specs.Facts.NewTrees.{fails-copies, gives-copies}
 use Rattle.capnp_slots.proofs.CopiedSources.{void-only}

@@ -18,8 +18,9 @@ use Rattle.capnp_schema.specs.Types.{SchemaType, VoidType, BoolType, IntType, UI
 use Rattle.capnp_schema.specs.declared.plan.Place.TheVariants as place
 use Rattle.capnp_records.specs.Writes.Overlay.{cleared_content, switch, switched_struct}
 use Rattle.capnp_records.specs.Writes.Slots.{Content, Bits, At, Suits, with_content}
-use Rattle.capnp_slots.specs.Fields.{IsFormed}
-use Rattle.capnp_slots.specs.Planned.{HoldsNumber, member_switched, place_bits, place_cleared, place_mask, place_written}
+use Rattle.capnp_slots.specs.Steps.Fields.{IsFormed}
+use Rattle.capnp_slots.specs.Planned.{member_switched}
+use Rattle.capnp_slots.specs.Steps.Planned.{HoldsNumber, place_bits, place_cleared, place_mask, place_written}
 
 -- ---- the place of a slot ----
 

@@ -24,7 +24,8 @@ use Rattle.capnp_records.specs.Given.{data_tree}
 use Rattle.capnp_base.specs.Text.{text_tree}
 use Rattle.capnp_records.specs.Writes.Fill.{IsAtRest, default_struct, entered_list, list_or_default}
 use Rattle.capnp_schema.specs.Plan.{brand_size}
-use Rattle.capnp_slots.specs.Fills.{FilledListRests, fill_due, filled_tree, list_due, pointer_in}
+use Rattle.capnp_slots.specs.Fills.{fill_due, filled_tree, pointer_in}
+use Rattle.capnp_slots.specs.Steps.Fills.{FilledListRests, list_due}
 use Rattle.capnp_slots.specs.Fields.{field_set, pointer_index}
 use Rattle.capnp_slots.proofs.FilledSlots.{IsPart, part-as, part-left}
 

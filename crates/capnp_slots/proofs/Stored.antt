@@ -17,9 +17,11 @@ use Rattle.capnp_records.specs.Given.{Given, Gives, Copies, CopiesGroup, Fails, 
 use Rattle.capnp_records.specs.Writes.Contents.{SourceFits}
 use Rattle.capnp_records.specs.Writes.Overlay.{cleared_content, number_content}
 use Rattle.capnp_records.specs.Writes.Slots.{Bits, At, Content, Suits}
-use Rattle.capnp_slots.specs.Fields.{IsFormed, IsRoomFor, IsSlotPlan, Keeps, field_set, names_of, slot_with}
-use Rattle.capnp_slots.specs.Planned.{HoldsNumber, place_mask, plan_written}
-use Rattle.capnp_slots.specs.Primitives.{GivesAtOnce, GivesNumber, IsGiven, IsGivenAs, given_content, given_to, refusal_at, set_content}
+use Rattle.capnp_slots.specs.Fields.{IsRoomFor, Keeps, field_set, names_of, slot_with}
+use Rattle.capnp_slots.specs.Steps.Fields.{IsFormed, IsSlotPlan}
+use Rattle.capnp_slots.specs.Steps.Planned.{HoldsNumber, place_mask, plan_written}
+use Rattle.capnp_slots.specs.Primitives.{IsGiven, given_content, given_to, set_content}
+use Rattle.capnp_slots.specs.Steps.Primitives.{GivesAtOnce, GivesNumber, IsGivenAs, refusal_at}
 
 module _ (set : Schemas) (t : SchemaType) (s : Source) where
   pub given-ok : (r : Result ℕ Error) → SourceFits s → GivesNumber t (given_slot set t s) r → IfOk r (IsGivenAs set t s)

@@ -1,22 +1,16 @@
 -- The copy of a slot out of a struct of the same schema: what is copied, and why it is not.
-use Rattle.std.specs.Prelude.{ℕ, [], ◌≡◌, false, Option, Some, None, Result, Ok, Err}
+use Rattle.std.specs.Prelude.{ℕ, ◌≡◌, Option, Some, None, Result, Ok, Err}
 use Rattle.capnp_device.specs.declared.error.Error.{Error}
 use Rattle.capnp_device.specs.declared.error.ErrorKind.{ErrorKind}
-use Rattle.capnp_device.specs.declared.error.ErrorKind.TheVariants.{CannotSetAnyPointerFieldToAPrimitiveValue}
-use Rattle.capnp_wire.specs.Defaults.{error_of}
-use Rattle.capnp_wire.specs.Reading.{as_data, as_list, as_struct, as_text, empty_list}
-use Rattle.capnp_wire.specs.Place.{struct_tree}
-use Rattle.capnp_wire.specs.Tree.{StructTree, Tree, Null, empty_struct}
+use Rattle.capnp_wire.specs.Tree.{StructTree}
 use Rattle.capnp_schema.specs.FieldLists.{typed_of}
 use Rattle.capnp_schema.specs.Schema.{default_of}
-use Rattle.capnp_schema.specs.Types.{SchemaType, TextType, DataType, StructType, ListType, element_size}
 use Rattle.capnp_schema.specs.declared.schema.fields.Field.{Field}
-use Rattle.capnp_records.specs.Given.{Given, Copies, data_tree}
-use Rattle.capnp_base.specs.Text.{text_tree}
-use Rattle.capnp_records.specs.GroupCopy.{pointer_copy, slot_copy}
-use Rattle.capnp_records.specs.Record.{Levels, Left, Value}
-use Rattle.capnp_records.specs.Writes.Slots.{Content, At}
-use Rattle.capnp_records.specs.Writes.TreeCopy.{copied_content, slot_default_tree, read_tree}
+use Rattle.capnp_records.specs.Given.{Given}
+use Rattle.capnp_records.specs.GroupCopy.{slot_copy}
+use Rattle.capnp_records.specs.Record.{Levels, Left}
+use Rattle.capnp_records.specs.Writes.Slots.{Content}
+use Rattle.capnp_records.specs.Writes.TreeCopy.{copied_content}
 use Rattle.capnp_records.specs.Writes.TreeEnds.{offset_of}
 use Rattle.capnp_slots.specs.Fields.{Keeps, field_set, names_of, slot_with}
 use Rattle.capnp_slots.specs.Sources.{IsTaken}
@@ -29,25 +23,6 @@ copy_given f l x = slot_copy (field_set f) l x (offset_of (typed_of f).field.kin
 abbrev pub copy_content : Field → StructTree → Content
 copy_content f x = copied_content x (offset_of (typed_of f).field.kind) (default_of (typed_of f).field) (typed_of f).type
 
--- the same of a pointer: what it leads to, and a null as its default
-abbrev pub pointer_given : Field → ℕ → Tree → Given
-pointer_given f n x = pointer_copy (field_set f) (Left n) x (default_of (typed_of f).field) (typed_of f).type
-
-abbrev pub pointer_content : Field → Tree → Content
-pointer_content f x = At (read_tree (default_of (typed_of f).field) (typed_of f).type x)
-
--- what is copied in the place of a default that is none
-abbrev pub empty_tree : SchemaType → Tree
-empty_tree TextType = text_tree []
-empty_tree DataType = data_tree []
-empty_tree (StructType b g) = struct_tree empty_struct
-empty_tree (ListType e) = empty_list (element_size e)
-empty_tree t = Null
-
--- the default of a field as a tree
-abbrev pub default_in : Field → Tree
-default_in f = slot_default_tree (default_of (typed_of f).field) (typed_of f).type
-
 -- a slot was copied: it took what is given, which stands there now, and the rest is kept
 pub record IsCopied (f : Field) (given : Given) (c : Content) (old new : StructTree) : Type 0 where
   pub taken : IsTaken given
@@ -56,18 +31,6 @@ pub record IsCopied (f : Field) (given : Given) (c : Content) (old new : StructT
 
 abbrev pub IsCopiedFrom : Field → ℕ → StructTree → StructTree → StructTree → Type 0
 IsCopiedFrom f n x old new = IsCopied f (copy_given f (Left n) x) (copy_content f x) old new
-
--- a pointer is given as a copy of what it leads to
-abbrev pub IsGivenCopy : Field → ℕ → Tree → Type 0
-IsGivenCopy f n x = (v : Value) × (pointer_given f n x ≡ Copies x false v)
-
--- why a pointer is not read as a value of a type, where its reader has so many levels left
-abbrev pub read_due : SchemaType → Tree → ℕ → Option ErrorKind
-read_due TextType x n = error_of (as_text x)
-read_due DataType x n = error_of (as_data x)
-read_due (StructType b g) x n = error_of (as_struct x n)
-read_due (ListType e) x n = error_of (as_list (element_size e) x n)
-read_due t x n = Some CannotSetAnyPointerFieldToAPrimitiveValue
 
 abbrev pub refusal_of : {A : Type 0} → Result A Error → Option ErrorKind
 refusal_of (Ok a) = None

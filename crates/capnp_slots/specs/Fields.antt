@@ -1,26 +1,22 @@
 -- Writes of a field by its handle, in the words of writes on trees.
-use Rattle.std.specs.Prelude.{ℕ, List, ◌+◌, ◌*◌, ◌^◌, ◌<◌, ◌≤◌, ◌≡◌, ⊤, Bool, ◌&&◌, true, false, bit_xor, length, IfSome, Option}
+use Rattle.std.specs.Prelude.{ℕ, ◌+◌, ◌*◌, ◌<◌, ◌≤◌, ◌≡◌, Bool, ◌&&◌, true, false, length, IfSome, Option}
 use Rattle.capnp_wire.specs.Tree.{StructTree, Tree, tree_count}
 use Rattle.capnp_wire.specs.Place.{struct_tree}
 use Rattle.capnp_wire.specs.Edits.{with_pointer_tree}
 use Rattle.capnp_wire.specs.WellFormed.{IsWellFormed}
 use Rattle.capnp_schema.specs.FieldLists.{field_schema, typed_of}
 use Rattle.capnp_schema.specs.Footprint.{Spot, discriminant_names}
-use Rattle.capnp_schema.specs.Plan.{IsSlotPlace, PlanFits}
-use Rattle.capnp_schema.specs.Schema.{Schemas, default_of, is_member}
-use Rattle.capnp_schema.specs.SlotValue.{bits_at, default_bits}
+use Rattle.capnp_schema.specs.Plan.{PlanFits}
+use Rattle.capnp_schema.specs.Schema.{Schemas, is_member}
 use Rattle.capnp_schema.specs.StructHandles.{number_of, set_of, struct_node}
-use Rattle.capnp_schema.specs.Types.{is_pointer, width}
-use Rattle.capnp_schema.specs.declared.plan.Place.TheVariants as place
+use Rattle.capnp_schema.specs.Types.{is_pointer}
 use Rattle.capnp_schema.specs.declared.plan.SlotPlan.{SlotPlan}
 use Rattle.capnp_schema.specs.declared.schema.fields.Field.{Field}
-use Rattle.capnp_records.specs.Facts.Numbers.{IsStored}
-use Rattle.capnp_records.specs.Record.{Value}
 use Rattle.capnp_records.specs.Step.{is_group_field}
-use Rattle.capnp_records.specs.Writes.Overlay.{cleared_content, field_spots, stored_number, switched_struct}
-use Rattle.capnp_records.specs.Writes.Slots.{Content, Bits, At, Fits, Suits, Writes}
+use Rattle.capnp_records.specs.Writes.Overlay.{field_spots, switched_struct}
+use Rattle.capnp_records.specs.Writes.Slots.{Content, At, Fits, Writes}
 use Rattle.capnp_records.specs.Writes.TreeEnds.{offset_of, slot_written}
-use Rattle.capnp_slots.specs.Planned.{HoldsNumber, member_switched, place_bits, place_cleared, place_mask, plan_written}
+use Rattle.capnp_slots.specs.Planned.{member_switched}
 
 -- the set and the brand that a field is of
 abbrev pub field_set : Field → Schemas
@@ -67,10 +63,6 @@ pub record Keeps (inside : Spot → Bool) (s s' : StructTree) : Type 0 where
   pub writes : Writes inside s s'
   pub formed : IsWellFormed (struct_tree s) → IsWellFormed (struct_tree s')
 
-abbrev pub IsFormed : Content → Type 0
-IsFormed (Bits n) = ⊤
-IsFormed (At t) = IsWellFormed t
-
 -- ---- plans ----
 
 -- the plan of a field: its member is the field's discriminant, and lies inside each struct that is room for the field
@@ -78,20 +70,6 @@ pub record IsFieldPlan (f : Field) (plan : SlotPlan) : Type 0 where
   pub fits : (s : StructTree) → IsRoomFor f s → PlanFits plan s
   pub switches : (s : StructTree) → member_switched plan.member s ≡ switched_to f s
   pub keeps : (s : StructTree) → IsRoomFor f s → Keeps (switch_names f) s (switched_to f s)
-
--- the plan of a slot: it lies inside each struct that is room for the field, what is written by it is written into the
--- slot, and what is written into the slot keeps the rest
-pub record IsSlotPlan (f : Field) (plan : SlotPlan) : Type 0 where
-  pub slot : IsSlotPlace plan.place
-  pub fits : (s : StructTree) → IsRoomFor f s → PlanFits plan s
-  pub writes : (c : Content) (s : StructTree) → Suits (typed_of f).type c → plan_written plan c s ≡ slot_with f c s
-  pub clears : (s : StructTree) → plan_written plan (place_cleared plan.place) s ≡ plan_written plan (cleared_content (typed_of f).type) s
-  pub holds : (v : Value) → IsStored (typed_of f).type v → HoldsNumber plan.place (stored_number (typed_of f).type v)
-  pub stores : (n : ℕ) (s : StructTree) → plan_written plan (Bits (bit_xor n (place_mask plan.place))) s ≡ plan_written plan (Bits (bit_xor n (default_bits (default_of (typed_of f).field)))) s
-  pub loads : (bytes : List ℕ) → is_pointer (typed_of f).type ≡ false → place_bits plan.place bytes ≡ bits_at bytes (pointer_index f * width (typed_of f).type) (width (typed_of f).type)
-  pub pointer : IsPointerField f → plan.place ≡ place.Pointer (pointer_index f)
-  pub small : default_bits (default_of (typed_of f).field) < 2 ^ width (typed_of f).type
-  pub keeps : (c : Content) (s : StructTree) → IsRoomFor f s → Suits (typed_of f).type c → IsFormed c → Keeps (names_of f) s (slot_with f c s)
 
 -- the pointer of a slot, and the discriminant of its field: both lie inside each struct that is room for the field; what is
 -- put at the pointer, and the union switched after it, is written into the slot, and keeps the rest

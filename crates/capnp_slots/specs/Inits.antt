@@ -44,10 +44,3 @@ IsInitnRefusal set n TextType kind = IsRoomless (nat_lt (2 ^ 29 - 2) n) kind
 IsInitnRefusal set n DataType kind = IsRoomless (nat_lt (2 ^ 29 - 1) n) kind
 IsInitnRefusal set n (ListType e) kind = IsRoomless (elements_past set e n) kind
 IsInitnRefusal set n t kind = kind ≡ InitnIsOnlyValidForListTextOrDataFields
-
--- whether a type's values have a size
-abbrev pub is_sized : SchemaType → Bool
-is_sized TextType = true
-is_sized DataType = true
-is_sized (ListType e) = true
-is_sized t = false

@@ -7,10 +7,10 @@ pub mod SetValues
 pub mod Copied
 pub mod Inits
 pub mod Groups
-pub mod GroupClears
 pub mod Fills
 pub mod ElementSets
 pub mod GroupSets
 pub mod FieldWrites
 pub mod ReadBack
 pub mod Facts
+pub mod Steps

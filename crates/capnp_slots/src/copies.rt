@@ -12,7 +12,8 @@ ghost use Rattle.capnp_records.specs.Writes.Contents.{source_tree};
 ghost use Rattle.capnp_records.specs.Writes.Slots.{At};
 ghost use Rattle.capnp_slots.specs.Fields.{IsPointerField, IsRoomFor, IsSlot, Keeps, names_of, slot_with};
 ghost use Rattle.capnp_slots.specs.Primitives.{given_to};
-ghost use Rattle.capnp_slots.specs.Sources.{GivesCopy, GivesUntyped, IsCopy, IsCopyDue, IsPointed, IsSoundCopy, TakesSource, source_seen};
+ghost use Rattle.capnp_slots.specs.Sources.{IsPointed, source_seen};
+ghost use Rattle.capnp_slots.specs.Steps.Sources.{GivesCopy, GivesUntyped, IsCopy, IsCopyDue, IsSoundCopy, TakesSource};
 
 use crate::slot::set_pointer;
 use crate::source::{ListInput, Source, StructInput};

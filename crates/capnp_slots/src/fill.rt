@@ -6,7 +6,7 @@ ghost use Rattle.capnp_arena.specs.Segment.{segment};
 ghost use Rattle.capnp_arena.specs.Built.{ChangesIn, IsBuilt, built_at};
 ghost use Rattle.capnp_wire.specs.Place.{struct_tree};
 ghost use Rattle.capnp_wire.specs.StructLists.{HoldsStructs};
-ghost use Rattle.capnp_slots.specs.Fills.{HoldsThere, IsThere, tree_there};
+ghost use Rattle.capnp_slots.specs.Steps.Fills.{HoldsThere, IsThere, tree_there};
 
 use capnp_arena::arena::{Arena, Place as StructPlace};
 use capnp_arena::structs::pointer_at;

@@ -6,7 +6,7 @@ ghost use Rattle.capnp_arena.specs.Forest.{Changes, Forest, tree};
 ghost use Rattle.capnp_arena.specs.Segment.{segment};
 ghost use Rattle.capnp_wire.specs.StructLists.{HoldsStructs, struct_list, struct_list_refusal};
 ghost use Rattle.capnp_slots.specs.Copied.{refusal_of};
-ghost use Rattle.capnp_slots.specs.Fills.{filled_blob};
+ghost use Rattle.capnp_slots.specs.Steps.Fills.{filled_blob};
 
 use capnp_arena::arena::Arena;
 use capnp_wire::error::Result;

@@ -7,9 +7,11 @@ ghost use Rattle.capnp_schema.specs.StructHandles.{number_of, set_of, struct_fie
 ghost use Rattle.capnp_records.specs.Writes.Slots.{Fits};
 ghost use Rattle.capnp_slots.specs.Copied.{refusal_of};
 ghost use Rattle.capnp_slots.specs.Fields.{IsRoomFor, IsSlot, Keeps, field_brand, field_set, names_of, switched_to};
-ghost use Rattle.capnp_slots.specs.GroupClears.{IsSlotCleared, field_cleared_at, cleared_behind};
-ghost use Rattle.capnp_slots.specs.Groups.{IsGroup, IsGroupAt, KeepsSize, cleared_through, group_without};
-ghost use Rattle.capnp_slots.specs.GroupSets.{IsCopiedInto, IsGroupSet, given_to_group};
+ghost use Rattle.capnp_slots.specs.Steps.GroupClears.{IsSlotCleared, field_cleared_at, cleared_behind};
+ghost use Rattle.capnp_slots.specs.Groups.{IsGroup, IsGroupAt, KeepsSize, group_without};
+ghost use Rattle.capnp_slots.specs.Steps.Groups.{cleared_through};
+ghost use Rattle.capnp_slots.specs.GroupSets.{IsGroupSet, given_to_group};
+ghost use Rattle.capnp_slots.specs.Steps.GroupSets.{IsCopiedInto};
 ghost use Rattle.capnp_slots.specs.Sources.{source_seen};
 
 use crate::group_copy::copy_group;

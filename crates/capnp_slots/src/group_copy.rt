@@ -10,7 +10,7 @@ ghost use Rattle.capnp_records.specs.Writes.Slots.{Fits};
 ghost use Rattle.capnp_slots.specs.Copied.{refusal_of};
 ghost use Rattle.capnp_slots.specs.Fields.{IsRoomFor, switched_to};
 ghost use Rattle.capnp_slots.specs.Groups.{IsGroupAt, KeepsSize};
-ghost use Rattle.capnp_slots.specs.GroupSets.{IsCopiedThrough, active_field, copied_field, has_field};
+ghost use Rattle.capnp_slots.specs.Steps.GroupSets.{IsCopiedThrough, active_field, copied_field, has_field};
 
 use crate::copied::copy;
 use crate::group::{clear_group, cleared_at, cleared_behind, field_count, group_of};

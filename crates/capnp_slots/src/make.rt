@@ -17,8 +17,9 @@ ghost use Rattle.capnp_records.specs.Writes.Contents.{initn_tree, new_list};
 ghost use Rattle.capnp_records.specs.Writes.ElementEnds.{InitnContent};
 ghost use Rattle.capnp_records.specs.Writes.Slots.{At};
 ghost use Rattle.capnp_schema.specs.Plan.{brand_size};
-ghost use Rattle.capnp_slots.specs.Copied.{empty_tree};
-ghost use Rattle.capnp_slots.specs.Inits.{IsInitnRefusal, IsRoomless, is_sized};
+ghost use Rattle.capnp_slots.specs.Steps.Copied.{empty_tree};
+ghost use Rattle.capnp_slots.specs.Inits.{IsInitnRefusal, IsRoomless};
+ghost use Rattle.capnp_slots.specs.Steps.Inits.{is_sized};
 
 use capnp_arena::arena::Arena;
 use capnp_base::introspect::{Type, TypeVariant};

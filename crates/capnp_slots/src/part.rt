@@ -13,7 +13,8 @@ ghost use Rattle.capnp_schema.specs.Schema.{default_of};
 ghost use Rattle.capnp_schema.specs.StructHandles.{generic_of, number_of, set_of};
 ghost use Rattle.capnp_schema.specs.Types.{ListType, StructType, seen_type};
 ghost use Rattle.capnp_slots.specs.Fields.{IsPointerField, IsRoomFor, IsSlot, field_set, pointer_index};
-ghost use Rattle.capnp_slots.specs.Fills.{HoldsThere, IsDefaultPointer, IsListFilled, IsSlotFilled, IsThere, RestsIn, filled_blob, blob_filled, due_in, filled_in, pointer_in, tree_there};
+ghost use Rattle.capnp_slots.specs.Fills.{RestsIn, due_in, filled_in, pointer_in};
+ghost use Rattle.capnp_slots.specs.Steps.Fills.{HoldsThere, IsDefaultPointer, IsListFilled, IsSlotFilled, IsThere, filled_blob, blob_filled, tree_there};
 
 use crate::fill::{extend_struct, fill_list, fill_struct, fill_structs};
 use crate::fill_element::check_blob;

@@ -4,7 +4,8 @@ ghost use Rattle.capnp_schema.specs.Schema.{Schemas};
 ghost use Rattle.capnp_schema.specs.Types.{seen_variant};
 ghost use Rattle.capnp_records.specs.Given.{given_slot};
 ghost use Rattle.capnp_records.specs.Writes.Contents.{SourceFits};
-ghost use Rattle.capnp_slots.specs.Primitives.{GivesAtOnce, GivesNumber, primitive_source, refusal_at};
+ghost use Rattle.capnp_slots.specs.Primitives.{primitive_source};
+ghost use Rattle.capnp_slots.specs.Steps.Primitives.{GivesAtOnce, GivesNumber, refusal_at};
 
 use capnp_base::introspect::TypeVariant;
 use capnp_wire::error::{Error, ErrorKind, Result};

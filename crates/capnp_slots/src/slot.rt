@@ -15,7 +15,8 @@ ghost use Rattle.capnp_records.specs.Writes.Slots.{At};
 ghost use Rattle.capnp_slots.specs.Fields.{field_set, IsPointerField, IsRoomFor, IsSlot, Keeps, names_of, slot_with, switch_names, switched_to};
 ghost use Rattle.capnp_slots.specs.Sources.{IsPointed, IsSet, IsSetRefusal, source_seen};
 ghost use Rattle.capnp_slots.specs.Inits.{HasInit, HasInitn, IsInitRefusal, IsInitnRefusal, init_content, initn_content};
-ghost use Rattle.capnp_slots.specs.Primitives.{IsGiven, IsGivenAs, given_to, primitive_source, refusal_at, set_content};
+ghost use Rattle.capnp_slots.specs.Primitives.{IsGiven, given_to, primitive_source, set_content};
+ghost use Rattle.capnp_slots.specs.Steps.Primitives.{IsGivenAs, refusal_at};
 
 use crate::copies::{copies_to, copy_to};
 use crate::make::{is_sized, size_of};

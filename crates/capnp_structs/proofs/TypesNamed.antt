@@ -6,7 +6,8 @@ use Rattle.capnp_base.specs.Types.{base_of, list_depth}
 use Rattle.capnp_base.specs.declared.introspect.«Type».{«Type» as TypeHandle}
 use Rattle.capnp_schema.specs.Schema.{Schemas}
 use Rattle.capnp_schema.specs.Types.{SchemaType, lists_of, seen_base, seen_type}
-use Rattle.capnp_structs.specs.Fields.{repeated_words, type_text}
+use Rattle.capnp_structs.specs.Fields.{type_text}
+use Rattle.capnp_structs.specs.Steps.Fields.{repeated_words}
 
 nothing_behind : (xs : List ℕ) → xs ++ [] ≡ xs
 nothing_behind [] = refl

@@ -7,7 +7,8 @@ use Rattle.capnp_schema.specs.Facts.GroupWalks.{frames_group, frames_outside, st
 use Rattle.capnp_schema.specs.FieldLists.{IsFieldOf, index_of, field_schema, typed_of}
 use Rattle.capnp_schema.specs.GroupFields.{group_field_of}
 use Rattle.capnp_schema.specs.GroupsDown.{IsGroupFieldOf, place_of_field}
-use Rattle.capnp_schema.specs.GroupWalks.{above, frames, frames_above, steps_left, walk_brand, walk_depth, walk_index, walk_schema, walk_set}
+use Rattle.capnp_schema.specs.GroupWalks.{above, frames, frames_above, walk_brand, walk_depth, walk_index, walk_schema, walk_set}
+use Rattle.capnp_schema.specs.Steps.GroupWalks.{steps_left}
 use Rattle.capnp_schema.specs.Schema.{Schemas, field_at, fields_of, kind_target}
 use Rattle.capnp_schema.specs.StructHandles.{number_of, set_of, struct_fields}
 use Rattle.capnp_schema.specs.declared.schema.fields.Field.{Field}

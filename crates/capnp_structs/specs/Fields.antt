@@ -27,11 +27,6 @@ type_text set (StructType b g) = (node_of set b).display_name
 type_text set (ListType t) = codes "List(" ++ type_text set t ++ codes ")"
 type_text set AnyPointerType = codes "AnyPointer"
 
--- a piece so many times
-abbrev pub repeated_words : ℕ → List ℕ → List ℕ
-repeated_words zero piece = []
-repeated_words (suc n) piece = piece ++ repeated_words n piece
-
 -- a place: the first bit of a slot in the data section, or a pointer's number
 abbrev pub place_text : Place → List ℕ
 place_text place.Nothing = []

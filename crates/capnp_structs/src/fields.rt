@@ -11,7 +11,8 @@ ghost use Rattle.capnp_base.specs.Types.{base_of, list_depth};
 ghost use Rattle.capnp_records.specs.Text.{after, said_text};
 ghost use Rattle.capnp_dynamic_readers.specs.Pieces.{IsAppended};
 ghost use Rattle.capnp_dynamic_readers.specs.Shown.{printed_text};
-ghost use Rattle.capnp_structs.specs.Fields.{default_said, default_text, fields_text, fields_within, group_line, inside, line_end, place_text, repeated_words, slot_head, slot_line, type_text, said_words};
+ghost use Rattle.capnp_structs.specs.Fields.{default_said, default_text, fields_text, fields_within, group_line, inside, line_end, place_text, slot_head, slot_line, type_text, said_words};
+ghost use Rattle.capnp_structs.specs.Steps.Fields.{repeated_words};
 
 use capnp_base::introspect::{Type, TypeVariant};
 use capnp_base::text;

@@ -2,7 +2,7 @@
 use Rattle.std.proofs.Common.{◌≡◌, ℕ, ◌-◌, List, ap, ◌∙◌}
 use Rattle.capnp_wire.specs.Tree.{Null}
 use Rattle.capnp_wire.specs.Locate.{NoTarget, Segments, target_at}
-use Rattle.capnp_wire.specs.Level.{tree_at_depth}
+use Rattle.capnp_wire.specs.Steps.Level.{tree_at_depth}
 use Rattle.capnp_wire.specs.Place.{tree_below}
 use Rattle.capnp_wire.specs.Facts.Levels.{below_step}
 

@@ -6,7 +6,7 @@ use Rattle.capnp_wire.specs.declared.total.Stop.{Stop}
 use Rattle.capnp_wire.specs.declared.total.Stop.TheVariants as stop
 use Rattle.capnp_wire.specs.Tree.{Tree, Trees, NoTrees, MoreTrees, Structs, NoStructs, MoreStructs, StructTree, nth_tree, nth_struct, tree_count, struct_count}
 use Rattle.capnp_wire.specs.Words.{first_of, first_fault, first_fault_of_all, first_fault_of_elements, words_of, words_of_all, words_below_all}
-use Rattle.capnp_wire.specs.Total.{Totals}
+use Rattle.capnp_wire.specs.Steps.Total.{Totals}
 
 -- an error at the first of a row
 first_stops : (e : Stop) (f g : Option Fault) (m n : ℕ) → m ≤ n → Totals (Err e) f m → Totals (Err e) (first_of f g) n

@@ -24,11 +24,6 @@ or_default d t = cond (is_null_tree t) d t
 abbrev pub takes_default : (default : Tree) → Tree → Bool
 takes_default d t = is_null_tree t && not (is_null_tree d)
 
--- the default that is copied, if one is
-abbrev pub taken_default : Option PointerReader → Tree → Option PointerReader
-taken_default None t = None
-taken_default (Some reader) t = cond (takes_default (tree_of reader) t) (Some reader) None
-
 -- ---- what stands there then ----
 
 -- a struct of at least a size

@@ -2,7 +2,6 @@ pub mod Tree
 pub mod Slot
 pub mod Locate
 pub mod Place
-pub mod Level
 pub mod Reading
 pub mod WellFormed
 pub mod Stream
@@ -15,7 +14,6 @@ pub mod Laws
 pub mod Words
 pub mod Total
 pub mod Encoding
-pub mod Filling
 pub mod Depth
 pub mod Edits
 pub mod Elements
@@ -24,3 +22,4 @@ pub mod ElementSizes
 pub mod StructLists
 pub mod Defaults
 pub mod Facts
+pub mod Steps

@@ -30,17 +30,6 @@ is_null_tree (Pointers ps) = false
 is_null_tree (Composite d p es) = false
 is_null_tree (FaultLeaf k) = false
 
--- whether a pointer can't be followed
-abbrev pub is_fault_leaf : Tree → Bool
-is_fault_leaf Null = false
-is_fault_leaf (Struct bytes ps) = false
-is_fault_leaf (Voids n) = false
-is_fault_leaf (Bits bs) = false
-is_fault_leaf (Numbers w bytes) = false
-is_fault_leaf (Pointers ps) = false
-is_fault_leaf (Composite d p es) = false
-is_fault_leaf (FaultLeaf k) = true
-
 -- whether a pointer leads to a list
 abbrev pub is_list : Tree → Bool
 is_list Null = false

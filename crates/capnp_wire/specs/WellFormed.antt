@@ -1,8 +1,7 @@
 -- What the format lets a tree be: bytes, counts and sizes within their fields, and whole words of data.
 use Rattle.std.specs.Prelude.{ℕ, ◌+◌, ◌*◌, ◌/◌, ◌^◌, ◌<◌, ◌≤◌, ◌≡◌, ⊤, List, [], length, get_or, IsTrue, ◌||◌, ◌==◌, Bool}
-use Rattle.std.specs.Coded.{×_prop, Π_prop, Unit-prop, le_prop, Coded-set, coded_ℕ, coded_bool}
 use Rattle.capnp_wire.specs.Tree.{Tree, Null, Struct, Voids, Bits, Numbers, Pointers, Composite, FaultLeaf, Trees, NoTrees, MoreTrees, Structs, NoStructs, MoreStructs, StructTree, tree_count, struct_count}
-use Rattle.capnp_wire.specs.Locate.{Segments, Target, NoTarget, BadTarget, StructAt, ListAt, CompositeAt, list_words}
+use Rattle.capnp_wire.specs.Locate.{Segments}
 
 -- each number is a byte
 abbrev pub AreBytes : List ℕ → Type 0
@@ -40,48 +39,6 @@ abbrev mutual
 abbrev pub IsWellFormedStruct : StructTree → Type 0
 IsWellFormedStruct s = AreBytes s.bytes × (length s.bytes ≤ 8 * 65535) × (tree_count s.pointers < 2 ^ 16) × AreWellFormed s.pointers
 
--- an element of a composite list of this size
-abbrev pub IsElement : ℕ → ℕ → StructTree → Type 0
-IsElement d p s = AreBytes s.bytes × (length s.bytes ≡ 8 * d) × (tree_count s.pointers ≡ p) × AreWellFormed s.pointers
-
 -- each segment of a message is of bytes
 abbrev pub AreSegments : Segments → Type 0
 AreSegments segments = (i : ℕ) → AreBytes (get_or segments i [])
-
--- a target lies in a segment of bytes, with sizes within their fields
-abbrev pub IsInside : Target → Type 0
-IsInside NoTarget = ⊤
-IsInside (BadTarget fault) = ⊤
-IsInside (StructAt segment start d p) = AreBytes segment × (start + d + p ≤ length segment / 8) × (d < 2 ^ 16) × (p < 2 ^ 16)
-IsInside (ListAt segment start size count) = AreBytes segment × (start + list_words size count ≤ length segment / 8) × (size < 7) × (count < 2 ^ 29)
-IsInside (CompositeAt segment start count d p) = AreBytes segment × (start + count * (d + p) ≤ length segment / 8) × (d < 2 ^ 16) × (p < 2 ^ 16) × (count < 2 ^ 29) × (count * (d + p) < 2 ^ 29)
-
--- ---- these facts have one proof at most, so that a reader can keep them ----
-
-pub AreBytes-prop : (bytes : List ℕ) → IsProp (AreBytes bytes)
-AreBytes-prop bytes = Π_prop (λ i. le_prop)
-
-mutual
-  pub IsWellFormed-prop : (t : Tree) → IsProp (IsWellFormed t)
-  IsWellFormed-prop Null = Unit-prop
-  IsWellFormed-prop (Struct bytes ps) = λ u v i. (AreBytes-prop bytes u.0 v.0 i, Coded-set coded_ℕ _ _ u.1 v.1 i, le_prop u.2 v.2 i, le_prop u.3 v.3 i, AreWellFormed-prop ps u.4 v.4 i)
-  IsWellFormed-prop (Voids count) = le_prop
-  IsWellFormed-prop (Bits bits) = le_prop
-  IsWellFormed-prop (Numbers width bytes) = λ u v i. (AreBytes-prop bytes u.0 v.0 i, Coded-set coded_bool _ _ u.1 v.1 i, Coded-set coded_ℕ _ _ u.2 v.2 i, le_prop u.3 v.3 i)
-  IsWellFormed-prop (Pointers ps) = λ u v i. (le_prop u.0 v.0 i, AreWellFormed-prop ps u.1 v.1 i)
-  IsWellFormed-prop (Composite d p es) = λ u v i. (le_prop u.0 v.0 i, le_prop u.1 v.1 i, le_prop u.2 v.2 i, le_prop u.3 v.3 i, AreElements-prop d p es u.4 v.4 i)
-  IsWellFormed-prop (FaultLeaf fault) = Unit-prop
-
-  pub AreWellFormed-prop : (ts : Trees) → IsProp (AreWellFormed ts)
-  AreWellFormed-prop NoTrees = Unit-prop
-  AreWellFormed-prop (MoreTrees t ts) = ×_prop (IsWellFormed-prop t) (AreWellFormed-prop ts)
-
-  pub AreElements-prop : (d p : ℕ) (es : Structs) → IsProp (AreElements d p es)
-  AreElements-prop d p NoStructs = Unit-prop
-  AreElements-prop d p (MoreStructs bytes ps es) = λ u v i. (AreBytes-prop bytes u.0 v.0 i, Coded-set coded_ℕ _ _ u.1 v.1 i, Coded-set coded_ℕ _ _ u.2 v.2 i, AreWellFormed-prop ps u.3 v.3 i, AreElements-prop d p es u.4 v.4 i)
-
-pub IsWellFormedStruct-prop : (s : StructTree) → IsProp (IsWellFormedStruct s)
-IsWellFormedStruct-prop s = λ u v i. (AreBytes-prop s.bytes u.0 v.0 i, le_prop u.1 v.1 i, le_prop u.2 v.2 i, AreWellFormed-prop s.pointers u.3 v.3 i)
-
-pub AreSegments-prop : (segments : Segments) → IsProp (AreSegments segments)
-AreSegments-prop segments = Π_prop (λ i. AreBytes-prop _)

@@ -1,7 +1,8 @@
 //! Readers of lists.
 ghost use Rattle.std.specs.Prelude.{◌≡◌};
 ghost use Rattle.capnp_wire.specs.Found.{found_tree};
-ghost use Rattle.capnp_wire.specs.WellFormed.{IsWellFormed, IsWellFormed-prop};
+ghost use Rattle.capnp_wire.specs.WellFormed.{IsWellFormed};
+ghost use Rattle.capnp_wire.specs.Steps.WellFormed.{IsWellFormed-prop};
 
 use crate::block::get_element;
 use crate::due::reads_list_as;
@@ -43,7 +44,8 @@ const _: () = prove!(size_of::<ListReader<'static>>() <= 80);
 impl<'a> ListReader<'a> {
     ghost use Rattle.capnp_wire.specs.ElementSizes.{element_size_of};
     ghost use Rattle.std.specs.Prelude.{Ok, false, ◌≡◌, ◌==◌, ◌+◌, ◌<◌, ◌^◌, IfOk};
-    ghost use Rattle.capnp_wire.specs.Reading.{as_list, empty_list, is_fault_leaf, element_bit, element_levels, element_number, element_pointer, element_struct, list_length, with_level};
+    ghost use Rattle.capnp_wire.specs.Reading.{as_list, empty_list, element_bit, element_levels, element_number, element_pointer, element_struct, list_length, with_level};
+    ghost use Rattle.capnp_wire.specs.Steps.Reading.{is_fault_leaf};
     ghost use Rattle.capnp_wire.specs.Numbers.{numbers_tree};
     ghost use Rattle.capnp_wire.specs.Standing.{levels_of, list_levels, list_of, list_read, struct_levels, struct_read, tree_of};
 

@@ -2,7 +2,7 @@
 ghost use Rattle.std.specs.Prelude.{◌≡◌, ◌-◌, ◌<◌, ◌≤◌, ◌^◌};
 ghost use Rattle.capnp_wire.specs.Place.{bytes_at, tree_below};
 ghost use Rattle.capnp_wire.specs.Locate.{BadTarget, CompositeAt, ListAt, StructAt};
-ghost use Rattle.capnp_wire.specs.Level.{list_at_depth, tree_at_depth};
+ghost use Rattle.capnp_wire.specs.Steps.Level.{list_at_depth, tree_at_depth};
 ghost use Rattle.capnp_wire.specs.Backing.{StartFits, segment_list, target_of};
 ghost use Rattle.capnp_wire.specs.Found.{found_tree};
 

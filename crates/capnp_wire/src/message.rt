@@ -1,6 +1,7 @@
 //! Whole messages, as they are received.
 ghost use Rattle.capnp_wire.specs.Backing.{segment_list};
-ghost use Rattle.capnp_wire.specs.WellFormed.{AreSegments, AreSegments-prop};
+ghost use Rattle.capnp_wire.specs.WellFormed.{AreSegments};
+ghost use Rattle.capnp_wire.specs.Steps.WellFormed.{AreSegments-prop};
 
 use crate::bytes::{half_at, part};
 use crate::pointer::{ROOT_LEVELS, get_root_pointer};

@@ -1,6 +1,7 @@
 //! Readers of pointers.
 ghost use Rattle.capnp_wire.specs.Found.{pointer_tree};
-ghost use Rattle.capnp_wire.specs.WellFormed.{IsWellFormed, IsWellFormed-prop};
+ghost use Rattle.capnp_wire.specs.WellFormed.{IsWellFormed};
+ghost use Rattle.capnp_wire.specs.Steps.WellFormed.{IsWellFormed-prop};
 
 use crate::elements::{data_of, text_of};
 use crate::fault::refuse;

@@ -1,6 +1,7 @@
 //! Readers of structs.
 ghost use Rattle.capnp_wire.specs.Found.{parts_tree};
-ghost use Rattle.capnp_wire.specs.WellFormed.{IsWellFormedStruct, IsWellFormedStruct-prop};
+ghost use Rattle.capnp_wire.specs.WellFormed.{IsWellFormedStruct};
+ghost use Rattle.capnp_wire.specs.Steps.WellFormed.{IsWellFormedStruct-prop};
 
 use crate::bytes::get_bit;
 use crate::found::{StructParts, empty_parts};

@@ -6,7 +6,8 @@ ghost use Rattle.capnp_wire.specs.Place.{tree_below};
 ghost use Rattle.capnp_wire.specs.Tree.{Composite, tree_count};
 ghost use Rattle.capnp_wire.specs.Found.{element_structs, found_tree, parts_tree, pointer_tree, pointer_trees};
 ghost use Rattle.capnp_wire.specs.Words.{first_fault, first_fault_of_all, first_fault_of_elements, words_below_all, words_of, words_of_all, words_of_struct};
-ghost use Rattle.capnp_wire.specs.Total.{IsSize, IsSizeRefusal, Totals, size_of_total, size_read};
+ghost use Rattle.capnp_wire.specs.Total.{IsSize, IsSizeRefusal};
+ghost use Rattle.capnp_wire.specs.Steps.Total.{Totals, size_of_total, size_read};
 
 use crate::block::{count_elements, get_element, have_no_pointers};
 use crate::bytes::get_word;

@@ -4,14 +4,15 @@ use Rattle.capnp_wire.specs.Tree.{Tree, Composite, StructTree, nth_struct, struc
 use Rattle.capnp_wire.specs.Edits.{zero_struct, zero_structs}
 use Rattle.capnp_wire.specs.Elements.{HasStruct, with_struct_element}
 use Rattle.capnp_wire.specs.Reading.{element_struct}
-use Rattle.capnp_wire.specs.WellFormed.{IsElement, IsWellFormed}
+use Rattle.capnp_wire.specs.WellFormed.{IsWellFormed}
+use Rattle.capnp_wire.specs.Steps.WellFormed.{IsElement}
 use Rattle.capnp_wire.specs.declared.size.StructSize.{StructSize}
 use Rattle.capnp_wire.specs.Facts.Lists.{IsWellFormed-zero_structs}
 use Rattle.capnp_wire.specs.Facts.Rows.{IsElement-nth_struct, struct_count-structs_from, struct_count-with_struct}
 use Rattle.capnp_arena.specs.Facts.Places.{data_of, pointers_of}
 use Rattle.capnp_arena.specs.Forest.{Planted, struct_from}
 use Rattle.capnp_arena.specs.Shape.{StructIn}
-use Rattle.capnp_wire_bench.specs.Items.{AreItems}
+use Rattle.capnp_wire_bench.specs.Steps.Items.{AreItems}
 
 pub there : (count : ℕ) (t : Tree) (i : ℕ) → AreItems count t → i < count → HasStruct t i
 there count (Composite d p es) i h a = omega (arith, h.3, a)

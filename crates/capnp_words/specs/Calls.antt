@@ -62,10 +62,6 @@ abbrev pub with_argument : (ℕ → List ℕ → Read CallOp) → (place : ℕ) 
 with_argument argument place bs =
     read_then (steps_at place (before_first is_space bs)) (λ path. read_as (λ op. call_of op path) (argument_at argument place bs))
 
--- a path with no space behind it
-abbrev pub unfinished_call : (place : ℕ) → List ℕ → Read CallText
-unfinished_call place bs = read_then (steps_at place bs) (λ path. Err (place + length bs))
-
 -- the bytes of a value are all that follow
 abbrev pub value_given : (place : ℕ) → List ℕ → Read CallOp
 value_given place bs = Ok (Set bs place)

@@ -8,3 +8,4 @@ pub mod Seen
 pub mod Targets
 pub mod Values
 pub mod Words
+pub mod Steps

@@ -1,5 +1,5 @@
 -- Texts and data in quotes, byte for byte.
-use Rattle.std.specs.Prelude.{ℕ, suc, ◌+◌, ◌-◌, ◌*◌, ◌<◌, List, [], ◌∷◌, ◌++◌, Bool, true, false, not, ◌&&◌, ◌||◌, cond, nat_lt, ◌==◌, Option, Some, None, Ok, Err}
+use Rattle.std.specs.Prelude.{ℕ, suc, ◌+◌, ◌-◌, ◌*◌, List, [], ◌∷◌, ◌++◌, Bool, true, false, not, ◌&&◌, ◌||◌, cond, nat_lt, ◌==◌, Option, Some, None, Ok, Err}
 use Rattle.std.specs.Char.{encode_utf8}
 use Rattle.std.specs.Int.{is_in_range}
 use Rattle.capnp_words.specs.Reads.{Read, read_as, stands_or}
@@ -107,9 +107,3 @@ text_word_at (b ∷ bs) = cond (b == 34) (quoted_at expected.Character 1 bs) (Ok
 
 abbrev pub data_at : List ℕ → Read (List ℕ)
 data_at bs = quoted_at expected.Zero 0 bs
-
--- what the numbers of a state are in a word: a character's number in a row of digits, and one digit
-abbrev pub IsReached : Expected → Type 0
-IsReached (expected.CodeDigit count number) = number < 1114112
-IsReached (expected.LowDigit high) = high < 16
-IsReached _ = Unit {0}

@@ -2,8 +2,6 @@
 use Rattle.std.specs.Prelude.{ℕ, ◌-◌, ◌*◌, ◌^◌, List, [], ◌∷◌, Bool, true, false, map, codes, pos, Err}
 use Rattle.capnp_schema.specs.Types.{SchemaType, VoidType, BoolType, IntType, UIntType, EnumType, TextType, DataType, StructType, ListType, AnyPointerType}
 use Rattle.capnp_schema.specs.Schema.{Schemas, Enumerant, enum_at}
-use Rattle.capnp_schema.specs.Enums.{enum_number, enum_set}
-use Rattle.capnp_schema.specs.declared.schema.enums.EnumSchema.{EnumSchema}
 use Rattle.capnp_records.specs.Record as value
 use Rattle.capnp_records.specs.Record.{Value}
 use Rattle.capnp_words.specs.Reads.{Read, read_as}
@@ -20,9 +18,6 @@ truth_at bs = one_of ((codes "false", false) ∷ (codes "true", true) ∷ []) 0 
 -- the names of an enum's enumerants
 abbrev pub enumerant_words : Schemas → ℕ → List (List ℕ)
 enumerant_words set e = map (λ (x : Enumerant). x.name) (enum_at set e).enumerants
-
-abbrev pub enumerant_names : EnumSchema → List (List ℕ)
-enumerant_names e = enumerant_words (enum_set e) (enum_number e)
 
 -- an enumerant by its name, or a number
 abbrev pub enumerant_by_word : List (List ℕ) → List ℕ → Read ℕ
@@ -53,9 +48,3 @@ value_by_word set DataType bs = read_as value.Data (data_at bs)
 value_by_word set (StructType number generic) bs = Err 0
 value_by_word set (ListType element) bs = Err 0
 value_by_word set AnyPointerType bs = Err 0
-
--- a type whose values are no texts and no data
-abbrev pub IsSmall : SchemaType → Type 0
-IsSmall TextType = ⊥
-IsSmall DataType = ⊥
-IsSmall t = Unit {0}

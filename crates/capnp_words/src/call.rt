@@ -5,7 +5,8 @@ ghost use Rattle.capnp_device.specs.declared.error.ErrorKind.TheVariants.{OutOfM
 ghost use Rattle.capnp_words.specs.Reads.{read_as};
 ghost use Rattle.capnp_words.specs.declared.call.Head.TheVariants as head;
 ghost use Rattle.capnp_words.specs.Words.{begins_with_one};
-ghost use Rattle.capnp_words.specs.Calls.{after_head, call_at, call_of, heads, to_part, value_given, size_given, unfinished_call, with_argument};
+ghost use Rattle.capnp_words.specs.Calls.{after_head, call_at, call_of, heads, to_part, value_given, size_given, with_argument};
+ghost use Rattle.capnp_words.specs.Steps.Calls.{unfinished_call};
 ghost use Rattle.capnp_words.specs.Seen.{call_text_seen, op_text_seen, path_text_seen};
 
 use crate::numbers::read_decimal;

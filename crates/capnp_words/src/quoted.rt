@@ -2,7 +2,8 @@
 ghost use Rattle.std.specs.Prelude.{◌≡◌, ◌+◌, ◌++◌, ◌<◌, ◌≤◌, ◌^◌, length, IfErr, IfOk, IfSome, OnOk};
 ghost use Rattle.capnp_device.specs.declared.error.ErrorKind.TheVariants.{OutOfMemory};
 ghost use Rattle.capnp_words.specs.Reads.{read_as};
-ghost use Rattle.capnp_words.specs.Quoted.{character_step, code_step, escape_step, hex_value, high_step, is_code_begun, IsReached, low_digit, only, piece_bytes, quoted_at, step_of};
+ghost use Rattle.capnp_words.specs.Quoted.{character_step, code_step, escape_step, hex_value, high_step, is_code_begun, low_digit, only, piece_bytes, quoted_at, step_of};
+ghost use Rattle.capnp_words.specs.Steps.Quoted.{IsReached};
 
 use crate::path::Read;
 use capnp_wire::error::Result;

@@ -13,7 +13,8 @@ ghost use Rattle.capnp_words.specs.Quoted.{text_word_at, data_at};
 ghost use Rattle.capnp_records.specs.Record.{Truth};
 ghost use Rattle.capnp_records.specs.Record.{Enum as EnumNumber};
 ghost use Rattle.capnp_words.specs.Words.{name_among};
-ghost use Rattle.capnp_words.specs.Values.{IsSmall, enumerant_by_word, enumerant_names, int_at, truth_at, uint_at, value_by_word, void_at};
+ghost use Rattle.capnp_words.specs.Values.{enumerant_by_word, int_at, truth_at, uint_at, value_by_word, void_at};
+ghost use Rattle.capnp_words.specs.Steps.Values.{IsSmall, enumerant_names};
 ghost use Rattle.capnp_words.specs.Seen.{IsOfSet, word_value_seen, word_value_set, word_value_type};
 
 use crate::numbers::{read_decimal, read_signed};

@@ -19,7 +19,8 @@ use Rattle.capnp_schema.specs.declared.schema.structs.StructSchema.{StructSchema
 use Rattle.capnp_words.specs.Calls.{CallText}
 use Rattle.riftcalico_engine.specs.Calls.{call_read, shifted_read, source_taken, split, with_step}
 use Rattle.riftcalico_engine.specs.Reads.{each_word_read}
-use Rattle.riftcalico_engine.specs.Words.{AreCalls, AreMadeOf}
+use Rattle.riftcalico_engine.specs.Words.{AreCalls}
+use Rattle.riftcalico_engine.specs.Steps.Words.{AreMadeOf}
 use Rattle.riftcalico_engine.specs.CallsSeen.{word_value_source}
 
 -- a value is given by its type

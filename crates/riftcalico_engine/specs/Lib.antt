@@ -8,3 +8,4 @@ pub mod Reads
 pub mod RequestSeen
 pub mod Roots
 pub mod Words
+pub mod Steps

@@ -6,7 +6,6 @@ use Rattle.std.specs.Str.Lossy.{utf8_valid_len}
 use Rattle.capnp_device.specs.Device.{HasFailed}
 use Rattle.capnp_call.specs.Seen.{call_seen}
 use Rattle.capnp_call.specs.declared.calls.Call.{Call}
-use Rattle.capnp_records.specs.Call as record_call
 use Rattle.capnp_records.specs.Run.{root_type}
 use Rattle.capnp_schema.specs.Schema.{Schemas}
 use Rattle.capnp_schema.specs.StructHandles.{number_of, set_of}
@@ -74,9 +73,3 @@ pub record IsNoValue (set : Schemas) (b : ℕ) (texts : List CallText) (words : 
   pub at : ℕ × ℕ
   pub refused : each_word_read (call_read set (root_type set b)) 0 texts ≡ Err at
   pub told : line ≡ line_at words at
-
--- calls that were read, as the code makes them, and something is so of these
-pub record AreMadeOf (read : List record_call.Call) (so : List Call → Type 0) : Type 0 where
-  pub calls : List Call
-  pub are : map call_seen calls ≡ read
-  pub are_so : so calls

@@ -17,7 +17,8 @@ ghost use Rattle.riftcalico_engine.specs.Listed.{IsFieldsEnded, IsStructsEnded};
 ghost use Rattle.riftcalico_engine.specs.RequestSeen.{calls_task_of, get_task_of, root_named, task_of};
 ghost use Rattle.riftcalico_engine.specs.Roots.{HasSetReadFailed, HasSetFailed, IsNamed, IsRootOr};
 ghost use Rattle.riftcalico_engine.specs.CallsSeen.{read_call_seen};
-ghost use Rattle.riftcalico_engine.specs.Words.{AreCalls, AreMadeOf, AreSaid};
+ghost use Rattle.riftcalico_engine.specs.Words.{AreCalls, AreSaid};
+ghost use Rattle.riftcalico_engine.specs.Steps.Words.{AreMadeOf};
 
 use crate::calls::{ReadCall, make_calls, read_all_calls, read_calls, steps_of};
 use crate::request::{Asked, CallWords, CallsRequest, GetRequest, NamedRoot};

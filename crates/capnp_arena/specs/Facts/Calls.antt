@@ -3,7 +3,8 @@ use Rattle.std.proofs.Common.{◌≡◌, ℕ, suc, ◌*◌, ◌<◌, ◌≤◌, 
 use Rattle.std.proofs.lemmas.Bool.{cases_eq}
 use Rattle.capnp_wire.specs.Place.{tree_with_level}
 use Rattle.capnp_wire.specs.Tree.{Null}
-use Rattle.capnp_arena.specs.Shape.{Shape, NoShape, IsWordWithin, IsPointerOf, IsTagOf, IsWordAt, Points, end_of, shape_target, shape_at, word_count}
+use Rattle.capnp_arena.specs.Shape.{Shape, NoShape, IsWordWithin, IsPointerOf, IsTagOf, IsWordAt, Points, end_of, shape_at, word_count}
+use Rattle.capnp_arena.specs.Steps.Shape.{shape_target}
 use Rattle.capnp_arena.specs.Forest.{IsSame, Owns, Itself, Below, Forest, Grown, OwnedBy, Planted, Changes, PartChanges, tree}
 use Rattle.capnp_arena.specs.Facts.Words.{shape, points_kept}
 use Rattle.capnp_arena.specs.Facts.Shapes.{pointer_within, tag_within, tag_no_pointer, before_end, end_inside, itself_inside}

@@ -1,7 +1,8 @@
 -- Trees that stay where other words change.
 use Rattle.std.proofs.Common.{◌≡◌, ℕ, zero, suc, ◌+◌, ◌<◌, ◌≤◌, refl, sym, ap, subst, ◌∙◌, arith, List, [], ◌∷◌, length}
 use Rattle.capnp_wire.specs.Place.{tree_at, tree_below, tree_with_level}
-use Rattle.capnp_arena.specs.Shape.{IsWordWithin, IsPointerOf, IsTagOf, Points, shape_target, shape_at, word_count}
+use Rattle.capnp_arena.specs.Shape.{IsWordWithin, IsPointerOf, IsTagOf, Points, shape_at, word_count}
+use Rattle.capnp_arena.specs.Steps.Shape.{shape_target}
 use Rattle.capnp_arena.specs.Forest.{IsSame, Owns, Itself, Below, Forest, Grown, tree}
 use Rattle.capnp_arena.specs.Facts.Words.{target, shape, points_kept}
 use Rattle.capnp_arena.specs.Facts.Shapes.{pointer_within, tag_within, after, inside, itself_inside}

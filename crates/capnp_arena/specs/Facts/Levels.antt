@@ -3,7 +3,8 @@ use Rattle.std.proofs.Common.{◌≡◌, ℕ, zero, suc, ◌+◌, ◌*◌, ◌<�
 use Rattle.capnp_wire.specs.Locate.{list_words}
 use Rattle.capnp_wire.specs.Place.{bytes_at, bits_from, struct_at, struct_tree, list_tree, tree_with_level}
 use Rattle.capnp_wire.specs.Tree.{Tree, MoreTrees, Structs, MoreStructs, StructTree, trees_from, structs_from, Bits, Numbers, Pointers, Composite}
-use Rattle.capnp_arena.specs.Shape.{Shape, NoShape, StructIn, ListIn, CompositeIn, IsWordWithin, IsPointerOf, Points, shape_target}
+use Rattle.capnp_arena.specs.Shape.{Shape, NoShape, StructIn, ListIn, CompositeIn, IsWordWithin, IsPointerOf, Points}
+use Rattle.capnp_arena.specs.Steps.Shape.{shape_target}
 use Rattle.capnp_arena.specs.Forest.{IsSame}
 use Rattle.capnp_arena.specs.Facts.Words.{run_same, part_same}
 use Rattle.capnp_arena.specs.Facts.Shapes.{apart, element_end}

@@ -3,7 +3,8 @@ use Rattle.std.proofs.Common.{◌≡◌, ℕ, zero, suc, ◌+◌, ◌*◌, ◌<�
 use Rattle.capnp_wire.specs.Edits.{with_bytes, with_pointer_tree, with_tree}
 use Rattle.capnp_wire.specs.Place.{bytes_at, struct_tree, tree_with_level, list_tree}
 use Rattle.capnp_wire.specs.Tree.{MoreTrees, Null, StructTree, Tree, trees_from, Composite, structs_from}
-use Rattle.capnp_arena.specs.Shape.{IsPointerOf, StructIn, shape_target, shape_at, CompositeIn, ListIn}
+use Rattle.capnp_arena.specs.Shape.{IsPointerOf, StructIn, shape_at, CompositeIn, ListIn}
+use Rattle.capnp_arena.specs.Steps.Shape.{shape_target}
 use Rattle.capnp_arena.specs.Forest.{Changes, Forest, Planted, struct_from, tree}
 use Rattle.capnp_arena.specs.Facts.Calls.{own_same, sibling_tree}
 use Rattle.capnp_arena.specs.Facts.Forests.{tree_step}

@@ -9,7 +9,8 @@ use Rattle.capnp_wire.specs.Facts.Stands.{Stands}
 use Rattle.capnp_wire.specs.Facts.PointerWords.{target_null, target_zero, target_struct, target_list, target_composite, is_at_most}
 use Rattle.std.proofs.Math.Seq.{take-add}
 use Rattle.capnp_arena.specs.Forest.{IsSame}
-use Rattle.capnp_arena.specs.Shape.{IsTagOf, Shape, NoShape, StructIn, ListIn, CompositeIn, shape_of, shape_target, shape_at, IsWordAt, Points}
+use Rattle.capnp_arena.specs.Shape.{IsTagOf, Shape, NoShape, StructIn, ListIn, CompositeIn, shape_of, shape_at, IsWordAt, Points}
+use Rattle.capnp_arena.specs.Steps.Shape.{shape_target}
 
 -- ---- a word that is spelled ----
 

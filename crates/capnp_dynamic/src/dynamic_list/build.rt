@@ -13,7 +13,8 @@ ghost use Rattle.capnp_slots.specs.ElementSets.{IsElementInitRefusal, IsElementS
 ghost use Rattle.capnp_slots.specs.SetValues.{source_of};
 ghost use Rattle.capnp_slots.specs.Sources.{IsSetRefusal};
 ghost use Rattle.capnp_dynamic_readers.specs.Handles.{list_reader_of, list_set, type_of};
-ghost use Rattle.capnp_dynamic.specs.Built.{IsIn, IsListReady, LendsList, built_element, built_elements, built_reading, built_set, built_type, list_behind, word_of};
+ghost use Rattle.capnp_dynamic.specs.Built.{IsIn, IsListReady, built_element, built_elements, built_reading, built_set, built_type, list_behind, word_of};
+ghost use Rattle.capnp_dynamic.specs.Steps.Built.{LendsList};
 ghost use Rattle.capnp_dynamic.specs.BuiltValues.{CanBeRead};
 ghost use Rattle.capnp_dynamic.specs.Handed.{HandsSized};
 ghost use Rattle.capnp_dynamic.specs.Owners.{IsElementStarted};

@@ -29,9 +29,10 @@ ghost use Rattle.capnp_slots.specs.SetValues.{source_of};
 ghost use Rattle.capnp_dynamic_readers.specs.Handles.{reader_of, schema_of};
 ghost use Rattle.capnp_dynamic_readers.specs.Reads.{BelongsTo};
 ghost use Rattle.capnp_dynamic_readers.specs.Typed.{struct_type};
-ghost use Rattle.capnp_dynamic.specs.Built.{IsReady, LendsStruct, built_record, built_schema, built_struct, handle_of, place_of, struct_behind};
+ghost use Rattle.capnp_dynamic.specs.Built.{IsReady, built_record, built_schema, built_struct, handle_of, place_of, struct_behind};
+ghost use Rattle.capnp_dynamic.specs.Steps.Built.{LendsStruct};
 ghost use Rattle.capnp_dynamic.specs.Names.{IsNamed};
-ghost use Rattle.capnp_dynamic.specs.Opened.{BuilderStructRests};
+ghost use Rattle.capnp_dynamic.specs.Steps.Opened.{BuilderStructRests};
 
 use crate::dynamic_struct::Reader;
 use crate::dynamic_value;

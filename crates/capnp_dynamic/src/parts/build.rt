@@ -15,7 +15,8 @@ ghost use Rattle.capnp_dynamic.specs.BuiltValues.{CanBeRead};
 ghost use Rattle.capnp_dynamic.specs.Names.{IsNamed};
 ghost use Rattle.capnp_dynamic.specs.Handed.{HandsElement, HandsField, RestsAt};
 ghost use Rattle.capnp_dynamic.specs.Owners.{IsElementGot, IsGotOf};
-ghost use Rattle.capnp_dynamic.specs.Taken.{IsListElementRefusal, IsListPartRefusal, IsNoList, IsNoStruct, IsStructElementRefusal, IsStructPartRefusal, hands_list, hands_struct, is_list_type};
+ghost use Rattle.capnp_dynamic.specs.Taken.{IsListElementRefusal, IsListPartRefusal, IsStructElementRefusal, IsStructPartRefusal, hands_list, hands_struct, is_list_type};
+ghost use Rattle.capnp_dynamic.specs.Steps.Taken.{IsNoList, IsNoStruct};
 ghost use Rattle.capnp_dynamic.specs.declared.dynamic_value.build.Builder.TheVariants as built;
 
 use crate::dynamic_value::Builder as Value;

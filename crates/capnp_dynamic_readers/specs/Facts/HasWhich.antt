@@ -23,7 +23,8 @@ use Rattle.capnp_records.specs.Reading.{part_of}
 use Rattle.capnp_records.specs.Reading.{Reading, active_among, discriminant, kind_value, non_union_parts, record_within, slot_value, struct_record, union_of, value_of, values_of}
 use Rattle.capnp_records.specs.Record.{Active, Levels, NoUnion, Parts, Union, Value, Values, is_there}
 use Rattle.capnp_records.specs.Part.{active_value, has_of, is_active, is_inactive, nth_value, which_of}
-use Rattle.capnp_dynamic_readers.specs.Planned.{member_there, place_there, planned_has}
+use Rattle.capnp_dynamic_readers.specs.Planned.{place_there}
+use Rattle.capnp_dynamic_readers.specs.Steps.Planned.{member_there, planned_has}
 
 not-null : (set : Schemas) (x : Tree) (l : Levels) (t : SchemaType) → is_there (value_of set x l t) ≡ not (is_null_tree x)
 not-null set x l t = go (is_null_tree x) refl

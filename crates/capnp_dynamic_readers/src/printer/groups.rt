@@ -4,8 +4,8 @@ ghost use Rattle.capnp_schema.specs.GroupFields.{group_field_of};
 ghost use Rattle.capnp_schema.specs.GroupWalks.{above, frames, walk_brand, walk_depth, walk_index, walk_schema, walk_set};
 ghost use Rattle.capnp_schema.specs.StructHandles.{number_of, set_of, struct_fields};
 ghost use Rattle.capnp_records.specs.Text.{deeper};
-ghost use Rattle.capnp_dynamic_readers.specs.GroupTexts.{IsBracketClosed, IsGroupOpened, IsPast, IsStart, has_fields};
-ghost use Rattle.capnp_dynamic_readers.specs.Pieces.{IsFull};
+ghost use Rattle.capnp_dynamic_readers.specs.Steps.GroupTexts.{IsBracketClosed, IsGroupOpened, IsPast, IsStart, has_fields};
+ghost use Rattle.capnp_dynamic_readers.specs.Steps.Pieces.{IsFull};
 
 use crate::printer::output::{Out, Stop};
 use crate::printer::pieces::{one_deeper, one_shallower, put, put_line};

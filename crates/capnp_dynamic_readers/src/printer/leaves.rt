@@ -2,8 +2,8 @@
 ghost use Rattle.std.specs.Prelude.{[], ◌≡◌, ◌<◌, ◌∷◌, flat_map, OnOk};
 ghost use Rattle.std.specs.Char.{digit_char};
 ghost use Rattle.capnp_records.specs.Text.{data_text, decimals, quoted_text, said_text};
-ghost use Rattle.capnp_dynamic_readers.specs.Leaf.{IsLeaf, enumerant_text, leaf_text, two_digits};
-ghost use Rattle.capnp_dynamic_readers.specs.Pieces.{IsPut};
+ghost use Rattle.capnp_dynamic_readers.specs.Steps.Leaf.{IsLeaf, enumerant_text, leaf_text, two_digits};
+ghost use Rattle.capnp_dynamic_readers.specs.Steps.Pieces.{IsPut};
 
 use super::output::Out;
 use crate::dynamic_value::{Enum, Reader};

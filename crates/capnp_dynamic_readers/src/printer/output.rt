@@ -3,7 +3,8 @@ ghost use Rattle.std.specs.Prelude.{[], ◌≡◌, ◌++◌, ◌<◌, Some, None
 ghost use Rattle.std.specs.Fmt.{signed_decimal};
 ghost use Rattle.capnp_device.specs.declared.error.ErrorKind.TheVariants.{OutOfMemory};
 ghost use Rattle.capnp_records.specs.Text.{debug_pieces, said_text};
-ghost use Rattle.capnp_dynamic_readers.specs.Pieces.{IsPut, Taken, made_bytes, made_text, stopped_kind};
+ghost use Rattle.capnp_dynamic_readers.specs.Pieces.{Taken, made_bytes, made_text, stopped_kind};
+ghost use Rattle.capnp_dynamic_readers.specs.Steps.Pieces.{IsPut};
 
 use capnp_wire::error::{Error, ErrorKind};
 use std::alloc::{AllocError, Global};

@@ -6,11 +6,11 @@ ghost use Rattle.capnp_schema.specs.Types.{seen_type};
 ghost use Rattle.capnp_records.specs.Part.{which_of};
 ghost use Rattle.capnp_records.specs.Record.{is_there};
 ghost use Rattle.capnp_records.specs.Text.{entering_fault, is_entered};
-ghost use Rattle.capnp_dynamic_readers.specs.GroupTexts.{IsSlotField, is_item};
+ghost use Rattle.capnp_dynamic_readers.specs.Steps.GroupTexts.{IsSlotField, is_item};
 ghost use Rattle.capnp_dynamic_readers.specs.Handles.{schema_of};
-ghost use Rattle.capnp_dynamic_readers.specs.PartsRead.{IsElementRead, IsElementRefused, IsPart, IsPartRefused, fault_at, field_in};
+ghost use Rattle.capnp_dynamic_readers.specs.Steps.PartsRead.{IsElementRead, IsElementRefused, IsPart, IsPartRefused, fault_at, field_in};
 ghost use Rattle.capnp_dynamic_readers.specs.Seen.{record_seen};
-ghost use Rattle.capnp_dynamic_readers.specs.Shown.{IsPending, is_member_shown, part_seen};
+ghost use Rattle.capnp_dynamic_readers.specs.Steps.Shown.{IsPending, is_member_shown, part_seen};
 
 use crate::dynamic_value::Reader as Value;
 use crate::{dynamic_list, dynamic_struct};

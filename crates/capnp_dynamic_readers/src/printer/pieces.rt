@@ -2,9 +2,9 @@
 ghost use Rattle.std.specs.Prelude.{◌≡◌, IfErr, IfOk, None, OnOk, Some, cond};
 ghost use Rattle.capnp_schema.specs.FieldLists.{typed_of};
 ghost use Rattle.capnp_records.specs.Text.{deeper, line, said_text, separator};
-ghost use Rattle.capnp_dynamic_readers.specs.GroupTexts.{IsNamePut, shallower};
-ghost use Rattle.capnp_dynamic_readers.specs.Leaf.{IsLeaf, leaf_text};
-ghost use Rattle.capnp_dynamic_readers.specs.Pieces.{IsFull, IsPut};
+ghost use Rattle.capnp_dynamic_readers.specs.Steps.GroupTexts.{IsNamePut, shallower};
+ghost use Rattle.capnp_dynamic_readers.specs.Steps.Leaf.{IsLeaf, leaf_text};
+ghost use Rattle.capnp_dynamic_readers.specs.Steps.Pieces.{IsFull, IsPut};
 
 use crate::dynamic_value::Reader as Value;
 use crate::printer::leaves::put_leaf;

@@ -4,11 +4,11 @@ ghost use Rattle.std.specs.Prelude.{true, false, IfErr, IfOk, OnOk};
 ghost use Rattle.capnp_schema.specs.GroupWalks.{walk_index, walk_schema};
 ghost use Rattle.capnp_schema.specs.FieldLists.{IsFieldOf, index_of};
 ghost use Rattle.capnp_records.specs.Text.{more_text};
-ghost use Rattle.capnp_dynamic_readers.specs.GroupTexts.{IsPrintStep, IsSlotField, onward_of};
+ghost use Rattle.capnp_dynamic_readers.specs.Steps.GroupTexts.{IsPrintStep, IsSlotField, onward_of};
 ghost use Rattle.capnp_dynamic_readers.specs.Handles.{reader_of, schema_of};
-ghost use Rattle.capnp_dynamic_readers.specs.PartsRead.{field_in};
-ghost use Rattle.capnp_dynamic_readers.specs.Pieces.{IsPut, IsStopped};
-ghost use Rattle.capnp_dynamic_readers.specs.Shown.{count_of, element_items, field_shown, list_shown, record_shown, value_shown};
+ghost use Rattle.capnp_dynamic_readers.specs.Steps.PartsRead.{field_in};
+ghost use Rattle.capnp_dynamic_readers.specs.Steps.Pieces.{IsPut, IsStopped};
+ghost use Rattle.capnp_dynamic_readers.specs.Steps.Shown.{count_of, element_items, field_shown, list_shown, record_shown, value_shown};
 
 use crate::dynamic_value::Reader as Value;
 use crate::printer::groups::{Standing, close, has_fields, open, past, start};

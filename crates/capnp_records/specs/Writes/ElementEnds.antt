@@ -7,8 +7,6 @@ use Rattle.capnp_wire.specs.Edits.{fitted_struct, struct_in}
 use Rattle.capnp_wire.specs.Elements.{with_bit_element, with_number_element, with_pointer_element, with_struct_element, HasBit, HasNumber, HasPointer, HasStruct}
 use Rattle.capnp_schema.specs.Types.{SchemaType, VoidType, BoolType, IntType, UIntType, EnumType, TextType, DataType, StructType, ListType, AnyPointerType}
 use Rattle.capnp_schema.specs.Schema.{Schemas}
-use Rattle.capnp_records.specs.Record.{Endless, Value}
-use Rattle.capnp_records.specs.Reading.{number_value, value_of}
 use Rattle.capnp_records.specs.Call.{PathStep, Source, StructSource, Op, Set, Initn}
 use Rattle.capnp_records.specs.Step.{StepTarget}
 use Rattle.capnp_records.specs.Given.{copy_refusal, Given, Gives, Copies, given_part}
@@ -35,10 +33,6 @@ with_element_tree t x j y = with_pointer_element j y x
 abbrev pub element_written : SchemaType → Tree → ℕ → Content → Tree
 element_written t x j (Bits n) = with_element_number t x j n
 element_written t x j (At y) = with_element_tree t x j y
-
-abbrev pub element_content_value : Schemas → SchemaType → Content → Value
-element_content_value set t (Bits n) = number_value t n
-element_content_value set t (At y) = value_of set y Endless t
 
 -- an element of its type is there
 abbrev pub HasElementThere : SchemaType → Tree → ℕ → Type 0

@@ -9,10 +9,10 @@ use Rattle.capnp_device.specs.declared.error.SchemaTable.TheVariants.{Brand as I
 use Rattle.capnp_device.specs.declared.error.ErrorKind.{ErrorKind}
 use Rattle.capnp_device.specs.declared.error.ErrorKind.TheVariants as error
 use Rattle.capnp_schema.specs.Schema.{Schemas, Node, TypedField, node_of, fields_of, field_at}
-use Rattle.capnp_schema.specs.Entries.{brand_node}
+use Rattle.capnp_schema.specs.Steps.Entries.{brand_node}
 use Rattle.capnp_schema.specs.Accepted.{DefaultIsOfType, EachField, HasNamedType, NamesOwnGroup, SlotLiesInside}
 use Rattle.capnp_schema.specs.Broken.{FieldBreaks, IsBroken, field_type, slot_outside, default_kind, group_type, IsKindOf}
-use Rattle.capnp_schema.specs.Checking.Fields.{FieldStands, FieldsStand}
+use Rattle.capnp_schema.specs.Steps.Checking.Fields.{FieldStands, FieldsStand}
 use Rattle.capnp_schema.proofs.FoundEntries.{found_field, found_node}
 
 -- a refusal that names a broken rule

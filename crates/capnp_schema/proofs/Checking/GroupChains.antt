@@ -10,7 +10,7 @@ use Rattle.std.specs.Option.{option_flatten}
 use Rattle.std.specs.List.{IsDistinct, AllByRecursion, list_any}
 use Rattle.capnp_schema.specs.Schema.{Schemas, node_of}
 use Rattle.capnp_schema.specs.Accepted.{EndsAtStruct, HasOneParent, HaveSameSizes, StandsInStruct}
-use Rattle.capnp_schema.specs.Checking.Parents.{group_target, TargetsAreGroups, IsParentTable, AreKnown}
+use Rattle.capnp_schema.specs.Steps.Checking.Parents.{group_target, TargetsAreGroups, IsParentTable, AreKnown}
 use Rattle.capnp_schema.proofs.GroupTargets.{is_parent, from_parent, within_brands}
 
 abbrev pub is_group : Schemas → ℕ → Bool

@@ -7,7 +7,7 @@ use Rattle.std.proofs.lemmas.Bool.{cases_lt}
 use Rattle.std.proofs.lemmas.List.{length_push}
 use Rattle.capnp_schema.specs.Schema.{Schemas, fields_of}
 use Rattle.capnp_schema.specs.Accepted.{HasOneParent}
-use Rattle.capnp_schema.specs.Checking.Parents.{group_target, HasNoParents, IsParentTable}
+use Rattle.capnp_schema.specs.Steps.Checking.Parents.{group_target, HasNoParents, IsParentTable}
 use Rattle.capnp_schema.proofs.GroupTargets.{past_fields, within_brands, is_parent}
 
 abbrev pub Table : Type 0

@@ -9,10 +9,10 @@ use Rattle.capnp_base.specs.declared.introspect.«Type».{«Type» as TypeHandle
 use Rattle.capnp_device.specs.declared.error.SchemaTable.TheVariants.{Brand as InBrands}
 use Rattle.capnp_schema.specs.Types.{seen_type}
 use Rattle.capnp_schema.specs.Schema.{Schemas, Node, Brand, Annotation, no_brand, no_node, brand_at}
-use Rattle.capnp_schema.specs.Entries.{brand_node, node_of_entry}
+use Rattle.capnp_schema.specs.Steps.Entries.{brand_node, node_of_entry}
 use Rattle.capnp_schema.specs.Accepted.{BrandHasTypes, BrandStands}
 use Rattle.capnp_schema.specs.Broken.{IsBroken, brand_node as broken_node, brand_lengths}
-use Rattle.capnp_schema.specs.Checking.Lengths.{annotation_count, annotation_counts, children_counts, types_count}
+use Rattle.capnp_schema.specs.Steps.Checking.Lengths.{annotation_count, annotation_counts, children_counts, types_count}
 use Rattle.capnp_schema.proofs.FoundEntries.{found_node}
 
 pub types_at : (types : List (Vec TypeHandle Global)) (i : ℕ) → get_or (children_counts types) i 0 ≡ types_count (slice_get types i)

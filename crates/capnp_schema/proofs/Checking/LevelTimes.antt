@@ -8,8 +8,8 @@ use Rattle.std.proofs.lemmas.Option.{slice_get_within, slice_get_read, same_Some
 use Rattle.std.specs.declared.alloc.Global.{Global}
 use Rattle.capnp_device.specs.declared.error.Error.{Error}
 use Rattle.capnp_schema.specs.Footprint.{Spot, DataBit, PointerAt, is_in}
-use Rattle.capnp_schema.specs.Checking.Spans.{span_names}
-use Rattle.capnp_schema.specs.Checking.Levels.{AreOpen, AreInOrder, AreClaimed, IsClaimed, mark_at}
+use Rattle.capnp_schema.specs.Steps.Checking.Spans.{span_names}
+use Rattle.capnp_schema.specs.Steps.Checking.Levels.{AreOpen, AreInOrder, AreClaimed, IsClaimed, mark_at}
 use Rattle.capnp_schema.specs.declared.check.claims.Claims.{Claims}
 use Rattle.capnp_schema.specs.declared.check.spans.Span.{Span}
 use Rattle.capnp_schema.specs.declared.check.spans.Span.TheVariants.{Data, Pointer}

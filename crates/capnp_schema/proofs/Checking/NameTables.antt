@@ -7,7 +7,8 @@ use Rattle.capnp_device.specs.declared.error.SchemaTable.TheVariants.{Node as In
 use Rattle.capnp_schema.specs.Schema.{Schemas, Node, no_node, node_at}
 use Rattle.capnp_schema.specs.Accepted.{HasOwnName, HasSmallCounts, Rule3}
 use Rattle.capnp_schema.specs.Broken.{IsBroken, name}
-use Rattle.capnp_schema.specs.Names.{IsNameTable, IsRepeated}
+use Rattle.capnp_schema.specs.Names.{IsNameTable}
+use Rattle.capnp_schema.specs.Steps.Names.{IsRepeated}
 use Rattle.capnp_schema.specs.Tables.{AreNameTables, table_at}
 use Rattle.capnp_schema.proofs.NameOrder.{distinct_from_table, repeated_is_not_own}
 use Rattle.capnp_schema.proofs.EntryWalk.{entry_breaks}

@@ -7,11 +7,11 @@ use Rattle.capnp_schema.specs.declared.record.ValueRecord.{ValueRecord}
 use Rattle.capnp_schema.specs.declared.record.FieldKind.TheVariants as kind
 use Rattle.capnp_schema.specs.declared.lists.TypedField.{TypedField as TypedRecord}
 use Rattle.capnp_schema.specs.Types.{seen_type, struct_brand}
-use Rattle.capnp_schema.specs.Entries.{brand_node, seen_typed}
+use Rattle.capnp_schema.specs.Steps.Entries.{brand_node, seen_typed}
 use Rattle.capnp_schema.specs.Footprint.{Spot, DataBit, PointerAt, is_in, slot_names, group_names, kind_names, some_field, brand_names, discriminant_names}
 use Rattle.capnp_schema.specs.declared.check.spans.Span.{Span}
 use Rattle.capnp_schema.specs.declared.check.spans.Span.TheVariants.{Data, Pointer}
-use Rattle.capnp_schema.specs.Checking.Spans.{span_names, some_span, field_names, entry_names, some_brand, reached_spot}
+use Rattle.capnp_schema.specs.Steps.Checking.Spans.{span_names, some_span, field_names, entry_names, some_brand, reached_spot}
 use Rattle.capnp_schema.proofs.FoundEntries.{found_node}
 use Rattle.capnp_schema.proofs.GroupTargets.{node_missing}
 

@@ -8,7 +8,7 @@ use Rattle.capnp_schema.specs.Footprint.{Spot, footprint, discriminant_names}
 use Rattle.capnp_schema.specs.Accepted.{FieldsApart, DiscriminantApart}
 use Rattle.capnp_schema.specs.Broken.{FieldBreaks}
 use Rattle.capnp_schema.specs.declared.check.spans.Span.{Span}
-use Rattle.capnp_schema.specs.Checking.Spans.{some_span, entry_names, SpansMeet, AreSpansOf, IsSpotNamedBy}
+use Rattle.capnp_schema.specs.Steps.Checking.Spans.{some_span, entry_names, SpansMeet, AreSpansOf, IsSpotNamedBy}
 use Rattle.capnp_schema.specs.Tables.{items_of, table_at}
 use Rattle.capnp_schema.proofs.EntryTables.{EachTable}
 use Rattle.capnp_schema.proofs.Checking.FieldWalk.{one_more}

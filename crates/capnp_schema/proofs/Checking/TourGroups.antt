@@ -8,9 +8,9 @@ use Rattle.capnp_schema.specs.Types.{SchemaType}
 use Rattle.capnp_schema.specs.Schema.{Schemas, Node, FieldKind, Slot, Group, TypedField, node_of, fields_of, field_at, kind_target}
 use Rattle.capnp_schema.specs.Footprint.{Spot, kind_names, group_names, brand_names, some_field, discriminant_names, footprint}
 use Rattle.capnp_schema.specs.Accepted.{Rule11, Rule12}
-use Rattle.capnp_schema.specs.Checking.Parents.{group_target, entry_target}
-use Rattle.capnp_schema.specs.Checking.Spans.{span_names, entry_names, field_names}
-use Rattle.capnp_schema.specs.Checking.Levels.{mark_at, IsClaimed, member_at, Names, by_discriminant, by_plain, Done, among_plain, by_member, IsCurrent, plain, member, IsClear, LevelStands, IsAbove, IsCurrentGroup, LevelsStand, AreClear, DoneStand, TourStands, TourRests}
+use Rattle.capnp_schema.specs.Steps.Checking.Parents.{group_target, entry_target}
+use Rattle.capnp_schema.specs.Steps.Checking.Spans.{span_names, entry_names, field_names}
+use Rattle.capnp_schema.specs.Steps.Checking.Levels.{mark_at, IsClaimed, member_at, Names, by_discriminant, by_plain, Done, among_plain, by_member, IsCurrent, plain, member, IsClear, LevelStands, IsAbove, IsCurrentGroup, LevelsStand, AreClear, DoneStand, TourStands, TourRests}
 use Rattle.capnp_schema.specs.declared.check.claims.Claims.{Claims}
 use Rattle.capnp_schema.specs.declared.check.claims.Level.{Level}
 use Rattle.capnp_schema.specs.declared.check.spans.Span.{Span}

@@ -6,8 +6,8 @@ use Rattle.std.proofs.lemmas.List.{length_push}
 use Rattle.std.proofs.lemmas.Option.{slice_get_within, same_Some, slice_get_past}
 use Rattle.capnp_schema.specs.Schema.{Schemas, fields_of}
 use Rattle.capnp_schema.specs.Footprint.{Spot}
-use Rattle.capnp_schema.specs.Checking.Spans.{span_names, entry_names}
-use Rattle.capnp_schema.specs.Checking.Levels.{IsOpen, AreOpen, AreInOrder, mark_at, IsClaimed, member_at, Names, NonUnionDone, by_discriminant, by_plain, Done, among_plain, by_member, IsCurrent, plain, member, IsClear, LevelStands, IsAbove, IsCurrentGroup, LevelsStand, TourStands}
+use Rattle.capnp_schema.specs.Steps.Checking.Spans.{span_names, entry_names}
+use Rattle.capnp_schema.specs.Steps.Checking.Levels.{IsOpen, AreOpen, AreInOrder, mark_at, IsClaimed, member_at, Names, NonUnionDone, by_discriminant, by_plain, Done, among_plain, by_member, IsCurrent, plain, member, IsClear, LevelStands, IsAbove, IsCurrentGroup, LevelsStand, TourStands}
 use Rattle.capnp_schema.specs.declared.check.claims.Claims.{Claims}
 use Rattle.capnp_schema.specs.declared.check.claims.Level.{Level}
 use Rattle.capnp_schema.specs.declared.check.spans.Span.{Span}

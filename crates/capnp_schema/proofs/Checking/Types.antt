@@ -13,8 +13,8 @@ use Rattle.capnp_schema.specs.Types.{seen_type}
 use Rattle.capnp_schema.specs.Schema.{Schemas, Brand, Enum, Field, Enumerant, AnnotationTypes, no_brand, node_of, brand_at}
 use Rattle.capnp_schema.specs.Accepted.{AllName, EnumHasTypes, Rule2, Rule3, TypesName}
 use Rattle.capnp_schema.specs.Broken.{EntryBreaks, IsBroken, brand_types, brand_child_types, enum_types, enum_child_types}
-use Rattle.capnp_schema.specs.Checking.Types.{seen_children, IsUnnamed, own, child, TypesStand}
-use Rattle.capnp_schema.specs.Checking.Fields.{FieldsStand}
+use Rattle.capnp_schema.specs.Steps.Checking.Types.{seen_children, IsUnnamed, own, child, TypesStand}
+use Rattle.capnp_schema.specs.Steps.Checking.Fields.{FieldsStand}
 use Rattle.capnp_schema.proofs.FieldCounts.{few_fields}
 
 pub not_all : {A : Type 0} (entries : List A) (P : A → Type 0) (n : ℕ) (x : A) → Some x ≡ slice_get entries n → (P x → ⊥) → Decides false (All P entries)

@@ -8,7 +8,7 @@ use Rattle.capnp_schema.specs.Footprint.{Spot, DataBit, PointerAt, is_in, slot_n
 use Rattle.capnp_schema.specs.Accepted.{FieldsApart, DiscriminantApart, Rule11, Rule12}
 use Rattle.capnp_schema.specs.declared.check.spans.Span.{Span}
 use Rattle.capnp_schema.specs.declared.check.spans.Span.TheVariants.{Data, Pointer}
-use Rattle.capnp_schema.specs.Checking.Spans.{span_names, some_span}
+use Rattle.capnp_schema.specs.Steps.Checking.Spans.{span_names, some_span}
 use Rattle.capnp_schema.specs.Facts.Computed.{both, either, all_below, passes_below, all_fields, each_field}
 
 -- ---- the spans of a field ----

@@ -5,7 +5,7 @@ use Rattle.std.proofs.lemmas.Bool.{cases_lt, eq-eqb}
 use Rattle.std.proofs.lemmas.Bool.Decides.{nat_tests}
 use Rattle.std.proofs.lemmas.Option.{same_Some, slice_get_past, some_pair_parts}
 use Rattle.capnp_schema.specs.Accepted.{HasOneParent, IsAccepted, IsGroupBrand, IsGroupOf, IsParent}
-use Rattle.capnp_schema.specs.Checking.Parents.{entry_target, group_target}
+use Rattle.capnp_schema.specs.Steps.Checking.Parents.{entry_target, group_target}
 use Rattle.capnp_schema.specs.Facts.Fields.{brand_there, entry-some}
 use Rattle.capnp_schema.specs.Facts.Groups.{group_in_set, group_of_field}
 use Rattle.capnp_schema.specs.GroupFields.{group_field_of, index_naming, index_or, is_brand, names_brand, numbered_pair, place_naming, place_or}

@@ -1,11 +1,12 @@
 -- Each step of a walk through groups leaves less to do.
 use Rattle.std.specs.Prelude.{ℕ, zero, suc, ◌+◌, ◌<◌, ◌≡◌, refl, List, [], ◌∷◌, drop, length, slice_get, Option, Some, None}
 use Rattle.std.proofs.Common.{add-one, arith, ap, sym, ◌∙◌}
-use Rattle.capnp_schema.specs.Checking.Parents.{entry_target, group_target}
+use Rattle.capnp_schema.specs.Steps.Checking.Parents.{entry_target, group_target}
 use Rattle.capnp_schema.specs.Facts.GroupFields.{parent_target}
 use Rattle.capnp_schema.specs.Accepted.{IsParent}
 use Rattle.capnp_schema.specs.GroupFields.{group_field_of}
-use Rattle.capnp_schema.specs.GroupWalks.{behind, brand_steps, frames_above, steps_into, steps_left, steps_through}
+use Rattle.capnp_schema.specs.GroupWalks.{behind, frames_above}
+use Rattle.capnp_schema.specs.Steps.GroupWalks.{brand_steps, steps_into, steps_left, steps_through}
 use Rattle.capnp_schema.specs.Schema.{Schemas, TypedField, fields_of}
 
 -- ---- frames ----

@@ -2,7 +2,7 @@
 //! what comes.
 ghost use Rattle.std.specs.Prelude.{true, false, ◌≡◌, ◌++◌, ◌∷◌, [], ℕ, ◌≤◌, ◌+◌, ◌^◌, length, get_or, IfOk, OnOk, IfErr};
 ghost use Rattle.capnp_device.specs.declared.error.ErrorKind.TheVariants.{OutOfMemory};
-ghost use Rattle.capnp_schema.specs.Checking.Levels.{AreOpen, AreInOrder, AreClaimed, IsClaimed};
+ghost use Rattle.capnp_schema.specs.Steps.Checking.Levels.{AreOpen, AreInOrder, AreClaimed, IsClaimed};
 
 use crate::check::spans::{Span, Spot};
 use capnp_wire::error::Result;

@@ -4,7 +4,7 @@ ghost use Rattle.capnp_schema.specs.Schema.{seen_annotations};
 ghost use Rattle.capnp_schema.specs.Entries.{lists_seen};
 ghost use Rattle.capnp_schema.specs.Accepted.{HasFewAnnotations, HasFewEnumerants, HasFewFields, HasSmallCounts};
 ghost use Rattle.capnp_schema.specs.Broken.{IsRefusalOf};
-ghost use Rattle.capnp_schema.specs.Checking.Entry.{IsSoAt};
+ghost use Rattle.capnp_schema.specs.Steps.Checking.Entry.{IsSoAt};
 
 use crate::check::entries::{Annotated, Asked, broken_entry};
 use crate::check::refusal::{WHOLE, refusal};

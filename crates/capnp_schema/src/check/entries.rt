@@ -1,7 +1,7 @@
 //! What is asked of each entry of a list, and the annotations of fields and enumerants.
 ghost use Rattle.std.specs.Prelude.{◌↔◌, ◌≡◌, IsTrue, List, map};
 ghost use Rattle.capnp_schema.specs.Schema.{Annotation, Enumerant, Field, seen_annotations, seen_enumerant, seen_field};
-ghost use Rattle.capnp_schema.specs.Checking.Entry.{AllOrBroken};
+ghost use Rattle.capnp_schema.specs.Steps.Checking.Entry.{AllOrBroken};
 
 use crate::record::{AnnotationRecord, EnumerantRecord, FieldRecord};
 

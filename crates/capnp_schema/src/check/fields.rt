@@ -7,7 +7,7 @@ ghost use Rattle.capnp_schema.specs.Schema.{Value, Slot, Group, seen_node, seen_
 ghost use Rattle.capnp_schema.specs.Entries.{lists_seen};
 ghost use Rattle.capnp_schema.specs.Accepted.{NamesEntries, LiesInside, IsDefaultOf, KindDefault, NamesNoGroup, GroupFits, Rule3};
 ghost use Rattle.capnp_schema.specs.Broken.{IsRefusalOf};
-ghost use Rattle.capnp_schema.specs.Checking.Fields.{FieldsStand, FieldStandsAt, FieldsStandIn};
+ghost use Rattle.capnp_schema.specs.Steps.Checking.Fields.{FieldsStand, FieldStandsAt, FieldsStandIn};
 
 use crate::check::groups::is_group;
 use crate::check::refusal::refusal;

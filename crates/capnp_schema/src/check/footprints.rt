@@ -5,8 +5,8 @@ ghost use Rattle.capnp_schema.specs.Schema.{fields_of, field_at, is_member};
 ghost use Rattle.capnp_schema.specs.Entries.{lists_seen};
 ghost use Rattle.capnp_schema.specs.Accepted.{Rule3, Rule11, Rule12};
 ghost use Rattle.capnp_schema.specs.Broken.{IsRefusalOf};
-ghost use Rattle.capnp_schema.specs.Checking.Spans.{AreSpansOf, IsSpotNamedBy, seen_spot};
-ghost use Rattle.capnp_schema.specs.Checking.Meetings.{IsMeetingField, IsDiscriminantField};
+ghost use Rattle.capnp_schema.specs.Steps.Checking.Spans.{AreSpansOf, IsSpotNamedBy, seen_spot};
+ghost use Rattle.capnp_schema.specs.Steps.Checking.Meetings.{IsMeetingField, IsDiscriminantField};
 
 use crate::check::groups::brand_count;
 use crate::check::refusal::refusal;

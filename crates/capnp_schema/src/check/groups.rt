@@ -6,7 +6,7 @@ ghost use Rattle.capnp_schema.specs.Schema.{node_of};
 ghost use Rattle.capnp_schema.specs.Entries.{lists_seen};
 ghost use Rattle.capnp_schema.specs.Accepted.{GroupStands, HaveSameSizes, IsGroupBrand, Rule1, Rule7, Rule8, StandsInStruct};
 ghost use Rattle.capnp_schema.specs.Broken.{IsRefusalOf};
-ghost use Rattle.capnp_schema.specs.Checking.Parents.{group_target, TargetsAreGroups, HasNoParents, IsParentTable, AreKnown};
+ghost use Rattle.capnp_schema.specs.Steps.Checking.Parents.{group_target, TargetsAreGroups, HasNoParents, IsParentTable, AreKnown};
 
 use crate::check::refusal::{WHOLE, refusal};
 use crate::check::unions::no_marks;

@@ -5,7 +5,7 @@ ghost use Rattle.capnp_schema.specs.Schema.{seen_node, seen_brand, seen_enum};
 ghost use Rattle.capnp_schema.specs.Entries.{lists_seen};
 ghost use Rattle.capnp_schema.specs.Accepted.{BrandHasTypes, BrandStands, EnumHasTypes, Rule2, BrandsStand};
 ghost use Rattle.capnp_schema.specs.Broken.{IsRefusalOf};
-ghost use Rattle.capnp_schema.specs.Checking.Lengths.{annotation_counts, children_counts};
+ghost use Rattle.capnp_schema.specs.Steps.Checking.Lengths.{annotation_counts, children_counts};
 
 use crate::check::entries::Annotated;
 use crate::check::refusal::{WHOLE, refusal};

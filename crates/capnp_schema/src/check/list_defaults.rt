@@ -5,7 +5,7 @@ ghost use Rattle.capnp_schema.specs.Schema.{ListValue, fields_of, seen_kind, see
 ghost use Rattle.capnp_schema.specs.Entries.{lists_seen};
 ghost use Rattle.capnp_schema.specs.Accepted.{KindDefault, ListDefaultsRead, ListReads, ReadsDefault, ReadsElements, Rule3, words_root};
 ghost use Rattle.capnp_schema.specs.Broken.{IsRefusalOf};
-ghost use Rattle.capnp_schema.specs.Checking.Entry.{IsSoAt};
+ghost use Rattle.capnp_schema.specs.Steps.Checking.Entry.{IsSoAt};
 
 use crate::check::refusal::refusal;
 use crate::lists::Lists;

@@ -5,9 +5,9 @@ ghost use Rattle.capnp_schema.specs.Schema.{fields_of, is_member};
 ghost use Rattle.capnp_schema.specs.Footprint.{Spot};
 ghost use Rattle.capnp_schema.specs.Entries.{lists_seen};
 ghost use Rattle.capnp_schema.specs.Accepted.{Rule11, Rule12};
-ghost use Rattle.capnp_schema.specs.Checking.Parents.{group_target};
-ghost use Rattle.capnp_schema.specs.Checking.Spans.{span_names};
-ghost use Rattle.capnp_schema.specs.Checking.Levels.{member_at, Names, IsCurrent, IsCurrentGroup, TourStands, TourRests, StepStands};
+ghost use Rattle.capnp_schema.specs.Steps.Checking.Parents.{group_target};
+ghost use Rattle.capnp_schema.specs.Steps.Checking.Spans.{span_names};
+ghost use Rattle.capnp_schema.specs.Steps.Checking.Levels.{member_at, Names, IsCurrent, IsCurrentGroup, TourStands, TourRests, StepStands};
 ghost use Rattle.capnp_schema.specs.declared.check.tour.Step.TheVariants.{Ended};
 
 use crate::check::claims::{Claims, Level, Meeting};

@@ -6,8 +6,8 @@ ghost use Rattle.capnp_schema.specs.Schema.{Brand, Enum, seen_types};
 ghost use Rattle.capnp_schema.specs.Entries.{lists_seen};
 ghost use Rattle.capnp_schema.specs.Accepted.{AllName, BrandTypesName, EnumTypesName, Rule2, Rule3, TypesName};
 ghost use Rattle.capnp_schema.specs.Broken.{IsRefusalOf};
-ghost use Rattle.capnp_schema.specs.Checking.Types.{seen_children, IsUnnamed, TypesStand};
-ghost use Rattle.capnp_schema.specs.Checking.Entry.{AllOrBroken};
+ghost use Rattle.capnp_schema.specs.Steps.Checking.Types.{seen_children, IsUnnamed, TypesStand};
+ghost use Rattle.capnp_schema.specs.Steps.Checking.Entry.{AllOrBroken};
 
 use crate::check::fields::{check_fields, names_entry};
 use crate::check::refusal::{WHOLE, refusal};

@@ -6,7 +6,7 @@ ghost use Rattle.capnp_schema.specs.Schema.{Node, seen_node, seen_field};
 ghost use Rattle.capnp_schema.specs.Entries.{lists_seen};
 ghost use Rattle.capnp_schema.specs.Accepted.{DiscriminantFits, HasEachMember, Rule9, Rule10};
 ghost use Rattle.capnp_schema.specs.Broken.{IsRefusalOf};
-ghost use Rattle.capnp_schema.specs.Checking.Marks.{Marked};
+ghost use Rattle.capnp_schema.specs.Steps.Checking.Marks.{Marked};
 
 use crate::check::refusal::{WHOLE, refusal};
 use crate::lists::Lists;

@@ -7,7 +7,7 @@ ghost use Rattle.capnp_schema.specs.Entries.{lists_seen};
 ghost use Rattle.capnp_schema.specs.Accepted.{AreWords, Decodes, DefaultStands, EachOfEnum, HasWords, HaveAllWords, HaveWords};
 ghost use Rattle.capnp_schema.specs.Accepted.{IsListOrNull, IsStructOrNull, NodeHasWords, Rule3, Rule6, words_root};
 ghost use Rattle.capnp_schema.specs.Broken.{IsRefusalOf};
-ghost use Rattle.capnp_schema.specs.Checking.Entry.{IsSoAt};
+ghost use Rattle.capnp_schema.specs.Steps.Checking.Entry.{IsSoAt};
 
 use crate::check::entries::{Annotated, Asked, broken_entry};
 use crate::check::list_defaults::check_list_defaults;

@@ -2,7 +2,7 @@
 ghost use Rattle.std.specs.Prelude.{◌≡◌, ◌<◌, ◌^◌, length, map};
 ghost use Rattle.capnp_schema.specs.Accepted.{AllName, NamesEntries};
 ghost use Rattle.capnp_schema.specs.Entries.{lists_seen};
-ghost use Rattle.capnp_schema.specs.Named.{NamesEntries-prop, name_entries-prop};
+ghost use Rattle.capnp_schema.specs.Steps.Named.{NamesEntries-prop, name_entries-prop};
 ghost use Rattle.capnp_schema.specs.Types.{seen_type};
 
 use crate::lists::entry_at;

@@ -1,7 +1,7 @@
 //! Handles of fields.
 ghost use Rattle.std.specs.Prelude.{◌≡◌, ◌<◌, length, IsOkAnd};
 ghost use Rattle.capnp_schema.specs.Accepted.{NamesEntries};
-ghost use Rattle.capnp_schema.specs.Named.{NamesEntries-prop, same_type-prop};
+ghost use Rattle.capnp_schema.specs.Steps.Named.{NamesEntries-prop, same_type-prop};
 ghost use Rattle.capnp_schema.specs.Schema.{seen_field};
 ghost use Rattle.capnp_schema.specs.StructHandles.{set_of, struct_field, struct_fields};
 ghost use Rattle.capnp_schema.specs.Types.{seen_type};

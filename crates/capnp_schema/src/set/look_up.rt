@@ -4,13 +4,15 @@ ghost use Rattle.std.specs.Option.{option_flatten, option_map, unwrap_or};
 ghost use Rattle.capnp_schema.specs.Accepted.{IsAccepted, NamesEntries};
 ghost use Rattle.capnp_schema.specs.Schema.{seen_field, field_at, fields_of, node_at, node_of};
 ghost use Rattle.capnp_schema.specs.Discriminant.{discriminant_of};
-ghost use Rattle.capnp_schema.specs.Entries.{lists_seen, seen_typed};
+ghost use Rattle.capnp_schema.specs.Entries.{lists_seen};
+ghost use Rattle.capnp_schema.specs.Steps.Entries.{seen_typed};
 ghost use Rattle.capnp_schema.specs.GroupFields.{group_field_of};
 ghost use Rattle.capnp_schema.specs.GroupsDown.{IfGroup, LeadsToGroup};
 ghost use Rattle.capnp_schema.specs.Names.{IsNameTable};
 ghost use Rattle.capnp_schema.specs.Plan.{IsPlan, plan_of};
 ghost use Rattle.capnp_schema.specs.Query.{AreMembers, field_named, member_of, non_union_fields, records_of};
-ghost use Rattle.capnp_schema.specs.Tables.{no_plan, table_at};
+ghost use Rattle.capnp_schema.specs.Tables.{table_at};
+ghost use Rattle.capnp_schema.specs.Steps.Tables.{no_plan};
 ghost use Rattle.capnp_schema.specs.Types.{seen_type};
 
 use crate::check::names::fields_at;

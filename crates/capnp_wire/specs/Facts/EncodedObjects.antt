@@ -6,7 +6,7 @@ use Rattle.std.proofs.lemmas.Bool.Decides.{nat_tests}
 use Rattle.capnp_wire.specs.Tree.{Null, Struct, Voids, Bits, Numbers, Trees, NoTrees, MoreTrees, tree_count}
 use Rattle.capnp_wire.specs.Locate.{Segments, NoTarget, StructAt, ListAt, CompositeAt, target_at, lies, list_words}
 use Rattle.capnp_wire.specs.Place.{tree_below, bytes_at, bits_from, struct_at, struct_tree, composite_tree}
-use Rattle.capnp_wire.specs.Level.{list_at_depth, tree_at_depth}
+use Rattle.capnp_wire.specs.Steps.Level.{list_at_depth, tree_at_depth}
 use Rattle.capnp_wire.specs.Words.{byte_words}
 use Rattle.capnp_wire.specs.WellFormed.{is_width}
 use Rattle.capnp_wire.specs.Encoding.{spelled_number, packed_bits, padded_bytes, number_size, struct_word, list_word}

@@ -7,7 +7,8 @@ use Rattle.capnp_wire.specs.Reading.{is_null_tree}
 use Rattle.capnp_wire.specs.Standing.{tree_of}
 use Rattle.capnp_wire.specs.Edits.{HoldsStruct, struct_refusal}
 use Rattle.capnp_wire.specs.StructLists.{struct_list_refusal}
-use Rattle.capnp_wire.specs.Defaults.{default_tree, filled_list_refusal, filled_struct_refusal, filled_structs_refusal, list_default_refusal, list_refusal, or_default, struct_default_refusal, structs_default_refusal, taken_default, takes_default}
+use Rattle.capnp_wire.specs.Defaults.{default_tree, filled_list_refusal, filled_struct_refusal, filled_structs_refusal, list_default_refusal, list_refusal, or_default, struct_default_refusal, structs_default_refusal, takes_default}
+use Rattle.capnp_wire.specs.Steps.Defaults.{taken_default}
 use Rattle.capnp_wire.specs.declared.pointer_reader.PointerReader.{PointerReader}
 use Rattle.capnp_wire.specs.declared.size.ElementSize.{ElementSize}
 use Rattle.capnp_wire.specs.declared.size.StructSize.{StructSize}

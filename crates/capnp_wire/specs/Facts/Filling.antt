@@ -5,7 +5,7 @@ use Rattle.capnp_wire.specs.Tree.{Tree, Trees, Composite, MoreTrees, Structs, Mo
 use Rattle.capnp_wire.specs.Words.{words_of, words_of_all, words_below_all}
 use Rattle.capnp_wire.specs.WellFormed.{AreElements, AreWellFormed}
 use Rattle.capnp_wire.specs.Encoding.{spelled_number, struct_word, pointer_word, pointer_row, element_row, bytes_of, bytes_of_all, bytes_below_all}
-use Rattle.capnp_wire.specs.Filling.{bytes_with, words_from, row_end, HasRoom, with_pointers, with_encoded_element, elements_end, HaveRoom, with_encoded_elements}
+use Rattle.capnp_wire.specs.Steps.Filling.{bytes_with, words_from, row_end, HasRoom, with_pointers, with_encoded_element, elements_end, HaveRoom, with_encoded_elements}
 use Rattle.capnp_wire.specs.Facts.Appending.{append_two}
 use Rattle.capnp_wire.specs.Facts.EncodedSizes.{length_bytes_of, length_bytes_of_all, length_pointer_row, length_element, length_element_row}
 

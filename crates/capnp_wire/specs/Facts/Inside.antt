@@ -4,7 +4,8 @@ use Rattle.std.specs.Prelude.{◌==◌, nat_lt, nat_le, IfSome}
 use Rattle.std.proofs.lemmas.Bool.Decides.{nat_tests}
 use Rattle.capnp_wire.specs.Slot.{word_at}
 use Rattle.capnp_wire.specs.Locate.{Segments, Target, NoTarget, BadTarget, StructAt, ListAt, CompositeAt, pointer_kind, offset, data_words, pointer_count, element_size_number, count, is_double, pad_word, pad_segment, lies, start_of, list_words, struct_target, tagged_target, list_target, near_target, near_target_from, tag_target, double_target, pad_target, word_target, target_at}
-use Rattle.capnp_wire.specs.WellFormed.{AreBytes, AreSegments, IsInside}
+use Rattle.capnp_wire.specs.WellFormed.{AreBytes, AreSegments}
+use Rattle.capnp_wire.specs.Steps.WellFormed.{IsInside}
 use Rattle.capnp_wire.specs.declared.fault.Fault.TheVariants.{BadPointer, CapabilityPointer}
 use Rattle.capnp_wire.specs.Facts.ByteRuns.{word_at-lt}
 

@@ -6,7 +6,8 @@ use Rattle.capnp_wire.specs.Reading.{element_struct, list_length}
 use Rattle.capnp_wire.specs.Edits.{HasAtLeast, extended_struct, zero_list, zero_struct}
 use Rattle.capnp_wire.specs.Elements.{HasStruct, with_struct_element}
 use Rattle.capnp_wire.specs.StructLists.{HoldsStructs, as_structs, grown_size, struct_list}
-use Rattle.capnp_wire.specs.WellFormed.{IsElement, IsWellFormed}
+use Rattle.capnp_wire.specs.WellFormed.{IsWellFormed}
+use Rattle.capnp_wire.specs.Steps.WellFormed.{IsElement}
 use Rattle.capnp_wire.specs.declared.size.ElementSize.{ElementSize}
 use Rattle.capnp_wire.specs.declared.size.ElementSize.TheVariants.{Void, Bit, Byte, TwoBytes, FourBytes, EightBytes, Pointer, InlineComposite}
 use Rattle.capnp_wire.specs.declared.size.StructSize.{StructSize}

@@ -8,7 +8,7 @@ use Rattle.capnp_wire.specs.Slot.{word_at}
 use Rattle.capnp_wire.specs.declared.fault.Fault.TheVariants.{BadPointer}
 use Rattle.capnp_wire.specs.Locate.{Segments, Target, NoTarget, BadTarget, StructAt, ListAt, CompositeAt, lies, target_at, word_target}
 use Rattle.capnp_wire.specs.Place.{tree_below, tree_below_levels, tree_without_level, tree_with_level, bytes_at, list_tree}
-use Rattle.capnp_wire.specs.Level.{list_at_depth, tree_at_depth}
+use Rattle.capnp_wire.specs.Steps.Level.{list_at_depth, tree_at_depth}
 
 past_zero : (l : ℕ) → (suc l == 0) ≡ false
 past_zero l = search rules

@@ -5,7 +5,8 @@ use Rattle.std.proofs.lemmas.Bool.Decides.{nat_tests}
 use Rattle.std.proofs.lemmas.List.{length-append, length-replicate}
 use Rattle.capnp_wire.specs.Tree.{Tree, Null, Struct, Voids, Bits, Numbers, Pointers, Composite, FaultLeaf, Structs, StructTree, empty_struct, nth_struct, struct_count, structs_from, tree_count}
 use Rattle.capnp_wire.specs.Reading.{element_struct, list_length}
-use Rattle.capnp_wire.specs.WellFormed.{AreBytes, IsElement, IsWellFormed, IsWellFormedStruct, is_width}
+use Rattle.capnp_wire.specs.WellFormed.{AreBytes, IsWellFormed, IsWellFormedStruct, is_width}
+use Rattle.capnp_wire.specs.Steps.WellFormed.{IsElement}
 use Rattle.capnp_wire.specs.Edits.{extended_struct, with_bytes, with_number, with_pointer_tree, zero_list, zero_struct, zero_structs}
 use Rattle.capnp_wire.specs.Elements.{HasNumber, with_bit_element, with_number_element, with_pointer_element, with_struct, with_struct_element}
 use Rattle.capnp_wire.specs.StructLists.{as_structs, grown_size, past_format, struct_list, struct_list_refusal}

@@ -4,7 +4,8 @@ use Rattle.std.specs.Prelude.{◌==◌}
 use Rattle.capnp_wire.specs.Tree.{Tree, Numbers, FaultLeaf}
 use Rattle.capnp_wire.specs.Locate.{Segments, Target, NoTarget, BadTarget, StructAt, ListAt, CompositeAt, target_at, list_words}
 use Rattle.capnp_wire.specs.Place.{bytes_at, tree_at, tree_below, tree_below_levels, tree_without_level, tree_with_level, root_tree}
-use Rattle.capnp_wire.specs.WellFormed.{AreBytes, AreSegments, IsWellFormed, IsInside}
+use Rattle.capnp_wire.specs.WellFormed.{AreBytes, AreSegments, IsWellFormed}
+use Rattle.capnp_wire.specs.Steps.WellFormed.{IsInside}
 use Rattle.capnp_wire.specs.declared.fault.Fault.TheVariants.{TooDeep}
 use Rattle.capnp_wire.specs.Facts.ByteRuns.{AreBytes-bytes_at, length-bytes_at}
 use Rattle.capnp_wire.specs.Facts.Inside.{IsInside-target_at}

@@ -6,7 +6,7 @@ use Rattle.std.proofs.lemmas.Bool.Decides.{nat_tests}
 use Rattle.capnp_wire.specs.Tree.{Tree, Null, Struct, Voids, Bits, Numbers, Pointers, Composite, FaultLeaf, nth_struct}
 use Rattle.capnp_wire.specs.Reading.{as_list, is_null_tree, list_length, reads_bits, reads_numbers, reads_pointers, reads_structs, reads_voids}
 use Rattle.capnp_wire.specs.Elements.{HasBit, HasNumber, HasPointer, reads_list}
-use Rattle.capnp_wire.specs.WellFormed.{IsElement}
+use Rattle.capnp_wire.specs.Steps.WellFormed.{IsElement}
 use Rattle.capnp_wire.specs.WellFormed.{IsWellFormed}
 use Rattle.capnp_wire.specs.declared.size.ElementSize.{ElementSize}
 use Rattle.capnp_wire.specs.declared.size.ElementSize.TheVariants.{Void, Bit, Byte, TwoBytes, FourBytes, EightBytes, Pointer, InlineComposite}

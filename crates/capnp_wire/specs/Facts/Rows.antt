@@ -1,7 +1,8 @@
 -- Trees and structs in a row: how many there are, and that they are well-formed, also with another one, lengthened or cut.
 use Rattle.std.proofs.Common.{◌≡◌, ℕ, zero, suc, ◌+◌, ◌-◌, ◌<◌, refl, ap, ◌∙◌, arith}
 use Rattle.capnp_wire.specs.Tree.{Tree, Null, Trees, NoTrees, MoreTrees, Structs, NoStructs, MoreStructs, StructTree, nth_struct, struct_count, structs_from, tree_count, trees_from}
-use Rattle.capnp_wire.specs.WellFormed.{AreElements, AreWellFormed, IsElement, IsWellFormed}
+use Rattle.capnp_wire.specs.WellFormed.{AreElements, AreWellFormed, IsWellFormed}
+use Rattle.capnp_wire.specs.Steps.WellFormed.{IsElement}
 use Rattle.capnp_wire.specs.Edits.{append_trees, first_trees, nulls, with_tree}
 use Rattle.capnp_wire.specs.Elements.{with_struct}
 

@@ -3,7 +3,8 @@ use Rattle.std.proofs.Common.{List, ◌≡◌, ℕ, ◌+◌, ◌-◌, ◌*◌, �
 use Rattle.std.proofs.lemmas.List.{length-append, length-replicate, length-take}
 use Rattle.capnp_wire.specs.Tree.{Tree, Null, Struct, Voids, Bits, Numbers, Pointers, Composite, FaultLeaf, StructTree, empty_struct, tree_count}
 use Rattle.capnp_wire.specs.Place.{struct_tree}
-use Rattle.capnp_wire.specs.WellFormed.{AreBytes, AreWellFormed, IsElement, IsWellFormed, IsWellFormedStruct}
+use Rattle.capnp_wire.specs.WellFormed.{AreBytes, AreWellFormed, IsWellFormed, IsWellFormedStruct}
+use Rattle.capnp_wire.specs.Steps.WellFormed.{IsElement}
 use Rattle.capnp_wire.specs.Words.{byte_words}
 use Rattle.capnp_wire.specs.Edits.{rounded_struct, whole_words, extended_struct, first_trees, fitted_struct, nulls, struct_in, with_bit, with_bytes, with_number, with_pointer_tree, zero_struct}
 use Rattle.capnp_wire.specs.declared.size.StructSize.{StructSize}

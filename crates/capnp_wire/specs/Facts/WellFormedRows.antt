@@ -4,7 +4,8 @@ use Rattle.std.proofs.lemmas.Nat.{row_fits}
 use Rattle.capnp_wire.specs.Tree.{Tree, StructTree, struct_count, structs_from}
 use Rattle.capnp_wire.specs.Place.{bytes_at, bits_from, struct_at, struct_tree, composite_tree, list_tree}
 use Rattle.capnp_wire.specs.Locate.{list_words}
-use Rattle.capnp_wire.specs.WellFormed.{AreBytes, IsElement, IsWellFormed, IsWellFormedStruct}
+use Rattle.capnp_wire.specs.WellFormed.{AreBytes, IsWellFormed, IsWellFormedStruct}
+use Rattle.capnp_wire.specs.Steps.WellFormed.{IsElement}
 use Rattle.capnp_wire.specs.Facts.ByteRuns.{AreBytes-bytes_at, length-bytes_at, length-part-le}
 pub use Rattle.capnp_wire.specs.Facts.Rows.{AreElements-structs_from, AreWellFormed-trees_from, struct_count-structs_from, tree_count-trees_from}
 

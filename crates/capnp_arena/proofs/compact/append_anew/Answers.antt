@@ -1,7 +1,7 @@
 use Rattle.std.proofs.Common.{◌≡◌, ◌++◌, ◌∙◌, ap}
 use Rattle.capnp_wire.specs.Encoding.{pointer_word, spelled_number}
 use Rattle.capnp_wire.specs.Facts.Appending.{append_two}
-use Rattle.capnp_arena.specs.Encoded.{pointer_to}
+use Rattle.capnp_arena.specs.Steps.Encoded.{pointer_to}
 use Rattle.capnp_arena.specs.Forest.{tree}
 use Rattle.capnp_arena.proofs.Encodings.{pointer_is}
 use Rattle.capnp_arena.proofs.compact.append_anew.Goals as goal

@@ -4,7 +4,7 @@ use Rattle.capnp_wire.specs.Facts.Parts.{IsWellFormed-nth_tree}
 use Rattle.capnp_wire.specs.Found.{pointer_tree, pointer_trees}
 use Rattle.capnp_wire.specs.Tree.{nth_tree}
 use Rattle.capnp_wire.specs.WellFormed.{IsWellFormed}
-use Rattle.capnp_arena.specs.Copies.{Spares, fitted_row}
+use Rattle.capnp_arena.specs.Steps.Copies.{Spares, fitted_row}
 use Rattle.capnp_arena.proofs.Copying.{pointer_kept, pointer_next, pointer_refused, row_begins, row_filled, row_sound}
 use Rattle.capnp_arena.proofs.Replaced.{fitted_count, fitted_held, fitted_nth}
 use Rattle.capnp_arena.proofs.contents.fill_fitted.Goals as goal

@@ -1,5 +1,5 @@
 use Rattle.capnp_wire.specs.Found.{pointer_trees}
-use Rattle.capnp_arena.specs.Copies.{fitted_row}
+use Rattle.capnp_arena.specs.Steps.Copies.{fitted_row}
 use Rattle.capnp_arena.proofs.Copying.{IsRowFilled}
 use Rattle.capnp_arena.proofs.contents.fill_fitted.Given as goal
 

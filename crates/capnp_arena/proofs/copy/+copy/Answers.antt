@@ -6,11 +6,12 @@ use Rattle.capnp_wire.specs.Facts.Filling.{composite_last, element_put, row_last
 use Rattle.capnp_wire.specs.Facts.Parts.{IsWellFormed-nth_tree}
 use Rattle.capnp_wire.specs.Facts.Rows.{IsElement-nth_struct}
 use Rattle.capnp_wire.specs.Facts.Structs.{IsWellFormed-element}
-use Rattle.capnp_wire.specs.Filling.{with_pointers}
+use Rattle.capnp_wire.specs.Steps.Filling.{with_pointers}
 use Rattle.capnp_wire.specs.Found.{element_structs, found_tree, parts_tree, pointer_tree, pointer_trees}
 use Rattle.capnp_wire.specs.Tree.{StructTree, nth_struct, nth_tree, struct_count, tree_count}
-use Rattle.capnp_wire.specs.WellFormed.{IsElement, IsWellFormed}
-use Rattle.capnp_arena.specs.Copies.{Spares}
+use Rattle.capnp_wire.specs.WellFormed.{IsWellFormed}
+use Rattle.capnp_wire.specs.Steps.WellFormed.{IsElement}
+use Rattle.capnp_arena.specs.Steps.Copies.{Spares}
 use Rattle.capnp_arena.proofs.Copying.{added_kept, bits_appended, element_kept, kept_then, pointer_kept, pointer_next, pointer_refused, pointer_spared, room_kept, row_filled, row_sound, struct_after, struct_kept, struct_refused, structs_filled, structs_sound}
 use Rattle.capnp_arena.proofs.Padding.{padded_whole}
 use Rattle.capnp_arena.proofs.PlainRows.{plain_list}

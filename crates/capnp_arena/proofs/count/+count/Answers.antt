@@ -2,9 +2,9 @@ use Rattle.std.proofs.Common.{arith, cond, ◌==◌, ◌≡◌, ◌+◌, ◌-◌
 use Rattle.capnp_wire.specs.Depth.{AreBelow, ElementsAreBelow, IsBelow}
 use Rattle.capnp_wire.specs.Tree.{Tree, structs_from, trees_from}
 use Rattle.capnp_wire.specs.Words.{words_below_all, words_of, words_of_all}
-use Rattle.capnp_arena.specs.Counts.{IsCount, IsCounted}
+use Rattle.capnp_arena.specs.Steps.Counts.{IsCount, IsCounted}
 use Rattle.capnp_arena.specs.Facts.Shapes.{itself_inside}
-use Rattle.capnp_arena.specs.Looked.{shape_found}
+use Rattle.capnp_arena.specs.Steps.Looked.{shape_found}
 use Rattle.capnp_arena.specs.Forest.{struct_from, tree}
 use Rattle.capnp_arena.specs.Shape.{Points, CompositeIn, ListIn, NoShape, StructIn, end_of, shape_at, word_count}
 use Rattle.capnp_arena.proofs.Counted.{element_rows, ends_at, list_row, row_step, structs_step, words_composite, words_list, words_null, words_pointers, words_struct}

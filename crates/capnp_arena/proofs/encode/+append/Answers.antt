@@ -4,13 +4,13 @@ use Rattle.std.proofs.lemmas.List.{append-nil}
 use Rattle.capnp_wire.specs.Encoding.{pointer_word, spelled_number}
 use Rattle.capnp_wire.specs.Facts.Bytes.{AreBytes-fits}
 use Rattle.capnp_wire.specs.Facts.Rows.{struct_count-structs_from, tree_count-trees_from}
-use Rattle.capnp_wire.specs.Filling.{bytes_with, with_pointers, words_from}
+use Rattle.capnp_wire.specs.Steps.Filling.{bytes_with, with_pointers, words_from}
 use Rattle.capnp_wire.specs.Tree.{trees_from}
 use Rattle.capnp_wire.specs.WellFormed.{AreBytes}
 use Rattle.capnp_wire.specs.Facts.Filling.{composite_last, element_filled, element_put, elements_room, pointer_filled, row_last, row_room}
-use Rattle.capnp_arena.specs.Encoded.{pointer_to}
+use Rattle.capnp_arena.specs.Steps.Encoded.{pointer_to}
 use Rattle.capnp_arena.specs.Forest.{Forest, struct_from, tree}
-use Rattle.capnp_arena.specs.Looked.{shape_found}
+use Rattle.capnp_arena.specs.Steps.Looked.{shape_found}
 use Rattle.capnp_arena.specs.Shape.{CompositeIn, ListIn, NoShape, Points, StructIn, end_of, shape_at, word_count}
 use Rattle.capnp_arena.proofs.Counted.{element_rows, ends_at, list_row, struct_row, words_composite, words_pointers, words_struct}
 use Rattle.capnp_arena.proofs.Encodings.{bytes_composite, bytes_null, bytes_plain, bytes_pointers, bytes_struct, bytes_zero, element_room, elements_done, elements_held, elements_lie, pointer_is, row_done, row_held, row_next, structs_next}

@@ -1,6 +1,6 @@
 -- A pointer leads to words after it; what is left of a row is what is still to be filled.
 use Rattle.std.proofs.Common.{◌≡◌, ◌+◌, ◌-◌, ◌*◌, length}
-use Rattle.capnp_wire.specs.Filling.{HasRoom, HaveRoom, with_encoded_elements, with_pointers}
+use Rattle.capnp_wire.specs.Steps.Filling.{HasRoom, HaveRoom, with_encoded_elements, with_pointers}
 use Rattle.capnp_wire.specs.Tree.{structs_from, trees_from}
 use Rattle.capnp_arena.specs.Forest.{struct_from, tree}
 use Rattle.capnp_arena.proofs.encode.+append.Given as goal

@@ -4,7 +4,7 @@ use Rattle.capnp_wire.specs.Facts.Bytes.{AreBytes-fits}
 use Rattle.capnp_wire.specs.Facts.Filling.{composite_last, elements_room}
 use Rattle.capnp_wire.specs.Facts.Rows.{struct_count-structs_from}
 use Rattle.capnp_wire.specs.WellFormed.{AreBytes}
-use Rattle.capnp_arena.specs.Grown.{grown_part_at}
+use Rattle.capnp_arena.specs.Steps.Grown.{grown_part_at}
 use Rattle.capnp_arena.proofs.Enlarged.{parts_extended}
 use Rattle.capnp_arena.proofs.grown.encode_all_grown.Goals as goal
 

@@ -2,7 +2,7 @@ use Rattle.std.proofs.Common.{arith, rules}
 use Rattle.capnp_wire.specs.Edits.{extended_struct}
 use Rattle.capnp_wire.specs.Facts.Bytes.{AreBytes-fits}
 use Rattle.capnp_wire.specs.WellFormed.{AreBytes}
-use Rattle.capnp_arena.specs.Grown.{grown_part_at}
+use Rattle.capnp_arena.specs.Steps.Grown.{grown_part_at}
 use Rattle.capnp_arena.proofs.Encodings.{row_held}
 use Rattle.capnp_arena.proofs.Enlarged.{one_grown, one_room, part_extended, part_tree_count}
 use Rattle.capnp_arena.proofs.grown.encode_grown.Goals as goal

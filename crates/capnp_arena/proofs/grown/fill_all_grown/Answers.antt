@@ -4,7 +4,7 @@ use Rattle.capnp_wire.specs.Facts.Bytes.{AreBytes-fits}
 use Rattle.capnp_wire.specs.Facts.Filling.{element_filled}
 use Rattle.capnp_wire.specs.Tree.{structs_from}
 use Rattle.capnp_wire.specs.WellFormed.{AreBytes}
-use Rattle.capnp_arena.specs.Grown.{grown_part_at}
+use Rattle.capnp_arena.specs.Steps.Grown.{grown_part_at}
 use Rattle.capnp_arena.proofs.Encodings.{elements_done, nothing_filled, row_held, structs_next}
 use Rattle.capnp_arena.proofs.Enlarged.{grown_room, part_tree_count}
 use Rattle.capnp_arena.proofs.grown.fill_all_grown.Goals as goal

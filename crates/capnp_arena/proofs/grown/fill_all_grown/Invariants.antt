@@ -1,8 +1,8 @@
 use Rattle.std.proofs.Common.{◌≡◌, ◌+◌, ◌-◌}
 use Rattle.capnp_wire.specs.Edits.{extended_struct}
-use Rattle.capnp_wire.specs.Filling.{HaveRoom, with_encoded_elements}
+use Rattle.capnp_wire.specs.Steps.Filling.{HaveRoom, with_encoded_elements}
 use Rattle.capnp_wire.specs.Tree.{structs_from}
-use Rattle.capnp_arena.specs.Grown.{grown_part_at}
+use Rattle.capnp_arena.specs.Steps.Grown.{grown_part_at}
 use Rattle.capnp_arena.proofs.grown.fill_all_grown.Given as goal
 
 abbrev pub invariant-loop-i : goal.invariant-loop-i

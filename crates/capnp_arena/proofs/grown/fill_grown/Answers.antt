@@ -1,5 +1,5 @@
 use Rattle.std.proofs.Common.{arith, rules}
-use Rattle.capnp_arena.specs.Grown.{grown_part_at}
+use Rattle.capnp_arena.specs.Steps.Grown.{grown_part_at}
 use Rattle.capnp_arena.proofs.Enlarged.{element_grown, part_length, part_tree_count}
 use Rattle.capnp_arena.proofs.grown.fill_grown.Goals as goal
 

@@ -5,8 +5,8 @@ use Rattle.capnp_wire.specs.Locate.{count, element_size_number, pointer_kind, li
 use Rattle.capnp_wire.specs.Slot.{number_at}
 use Rattle.capnp_wire.specs.WellFormed.{AreBytes}
 use Rattle.capnp_arena.specs.Forest.{Forest}
-use Rattle.capnp_arena.specs.InOrder.{AreLaid, IfKnown, IsLaid, IsRowLaid}
-use Rattle.capnp_arena.specs.Looked.{looked_shape, shape_found}
+use Rattle.capnp_arena.specs.Steps.InOrder.{AreLaid, IfKnown, IsLaid, IsRowLaid}
+use Rattle.capnp_arena.specs.Steps.Looked.{looked_shape, shape_found}
 use Rattle.capnp_arena.specs.Shape.{CompositeIn, ListIn, NoShape, Points, StructIn, end_of, shape_at, word_count}
 use Rattle.capnp_arena.proofs.Counted.{element_rows, ends_at, list_row}
 use Rattle.capnp_arena.proofs.LaidOut.{composite_laid, null_laid, plain_laid, plain_structs_laid, pointers_laid, row_more_laid, struct_laid, structs_end_laid, structs_more_laid, zero_laid}

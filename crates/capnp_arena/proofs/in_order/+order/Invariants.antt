@@ -1,6 +1,6 @@
 -- A pointer leads to words after it; where what is left of a row lies in order, so does the row.
 use Rattle.std.proofs.Common.{ℕ, ◌+◌, ◌-◌, ◌*◌, ◌≤◌, length}
-use Rattle.capnp_arena.specs.InOrder.{AreLaid, IsRowLaid}
+use Rattle.capnp_arena.specs.Steps.InOrder.{AreLaid, IsRowLaid}
 use Rattle.capnp_arena.specs.Shape.{word_count}
 use Rattle.capnp_arena.proofs.in_order.+order.Given as goal
 

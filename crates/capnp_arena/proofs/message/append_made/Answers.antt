@@ -2,7 +2,7 @@ use Rattle.std.proofs.Common.{arith, suc, ◌/◌, ◌*◌, ◌-◌, ◌≤◌, 
 use Rattle.capnp_wire.specs.Encoding.{encoding_of, spelled_number}
 use Rattle.capnp_wire.specs.Facts.Bytes.{AreBytes-fits}
 use Rattle.capnp_wire.specs.Facts.EncodedSizes.{length_encoding}
-use Rattle.capnp_wire.specs.Filling.{bytes_with}
+use Rattle.capnp_wire.specs.Steps.Filling.{bytes_with}
 use Rattle.capnp_wire.specs.WellFormed.{IsWellFormed}
 use Rattle.capnp_wire.specs.Words.{words_of}
 use Rattle.capnp_arena.specs.Forest.{tree}

@@ -1,7 +1,7 @@
 use Rattle.std.proofs.Common.{◌-◌, ◌^◌}
 use Rattle.capnp_arena.specs.Forest.{Changes, Forest, tree}
 use Rattle.capnp_arena.specs.Segment.{segment}
-use Rattle.capnp_bench.specs.Room.{HoldsItems}
+use Rattle.capnp_bench.specs.Steps.Room.{HoldsItems}
 use Rattle.capnp_bench.proofs.documents.fill_items.Given as goal
 
 abbrev pub invariant-loop-index : goal.invariant-loop-index

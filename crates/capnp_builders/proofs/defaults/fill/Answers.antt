@@ -2,7 +2,7 @@
 use Rattle.std.proofs.Common.{sym}
 use Rattle.capnp_arena.specs.Forest.{tree}
 use Rattle.capnp_arena.specs.Segment.{segment}
-use Rattle.capnp_builders.specs.Blobs.{as_blob}
+use Rattle.capnp_builders.specs.Steps.Blobs.{as_blob}
 use Rattle.capnp_builders.proofs.Taken.{refused_default}
 use Rattle.capnp_builders.proofs.defaults.fill.Goals as goal
 

@@ -2,7 +2,7 @@
 use Rattle.std.proofs.Common.{refl, subst, sym}
 use Rattle.capnp_arena.specs.Built.{built_at}
 use Rattle.capnp_records.specs.Call.{Get, Has}
-use Rattle.capnp_call.specs.Ends.{FieldDoes}
+use Rattle.capnp_call.specs.Steps.Ends.{FieldDoes}
 use Rattle.capnp_call.specs.Seen.{op_seen, reply_seen}
 use Rattle.capnp_call.specs.declared.calls.Op.{Op}
 use Rattle.capnp_call.proofs.EndsDone.{stays}

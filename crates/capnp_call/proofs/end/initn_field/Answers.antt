@@ -5,7 +5,7 @@ use Rattle.capnp_schema.specs.FieldLists.{typed_of}
 use Rattle.capnp_records.specs.Call.{Initn, Refused, Reply}
 use Rattle.capnp_slots.specs.Fields.{field_set}
 use Rattle.capnp_slots.specs.Inits.{initn_content}
-use Rattle.capnp_call.specs.Ends.{FieldDoes}
+use Rattle.capnp_call.specs.Steps.Ends.{FieldDoes}
 use Rattle.capnp_call.specs.Seen.{reply_seen}
 use Rattle.capnp_call.specs.Ways.{target_in}
 use Rattle.capnp_call.proofs.EndsDone.{initn_refused, slot_does, stays}

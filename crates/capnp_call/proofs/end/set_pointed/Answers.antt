@@ -2,7 +2,7 @@
 use Rattle.std.proofs.Common.{subst}
 use Rattle.capnp_arena.specs.Built.{built_at}
 use Rattle.capnp_records.specs.Call.{Set, Source}
-use Rattle.capnp_call.specs.Ends.{FieldDoes}
+use Rattle.capnp_call.specs.Steps.Ends.{FieldDoes}
 use Rattle.capnp_call.specs.Seen.{reply_seen}
 use Rattle.capnp_call.proofs.end.set_pointed.Goals as goal
 

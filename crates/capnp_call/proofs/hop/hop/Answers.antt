@@ -1,7 +1,7 @@
 -- At a struct or at a list.
 use Rattle.std.proofs.Common.{subst, sym}
 use Rattle.capnp_arena.specs.Segment.{segment}
-use Rattle.capnp_call.specs.Hops.{HopGoes, IsAt, HopLeads, first_step}
+use Rattle.capnp_call.specs.Steps.Hops.{HopGoes, IsAt, HopLeads, first_step}
 use Rattle.capnp_call.specs.declared.hop.At.{At}
 use Rattle.capnp_call.proofs.hop.hop.Goals as goal
 

@@ -9,7 +9,7 @@ use Rattle.capnp_schema.specs.Entries.{lists_seen}
 use Rattle.capnp_schema.specs.Types.{seen_type}
 use Rattle.capnp_call.proofs.Hopping.{list_refused}
 use Rattle.capnp_call.proofs.ListWalks.{names_none}
-use Rattle.capnp_call.specs.Hops.{HopLeads, ListGoes, first_step}
+use Rattle.capnp_call.specs.Steps.Hops.{HopLeads, ListGoes, first_step}
 use Rattle.capnp_call.specs.declared.calls.Step.{Step}
 use Rattle.capnp_call.specs.declared.calls.Step.TheVariants as step
 use Rattle.capnp_call.proofs.hop.hop_at_list.Goals as goal

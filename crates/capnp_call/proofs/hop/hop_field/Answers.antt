@@ -3,7 +3,7 @@ use Rattle.std.specs.Prelude.{◌∷◌}
 use Rattle.capnp_arena.specs.Segment.{segment}
 use Rattle.capnp_call.proofs.Hopping.{named_leads, struct_refused}
 use Rattle.capnp_call.proofs.Walking.{step_missing}
-use Rattle.capnp_call.specs.Hops.{placed_struct}
+use Rattle.capnp_call.specs.Steps.Hops.{placed_struct}
 use Rattle.capnp_call.specs.declared.calls.Reply.TheVariants as reply
 use Rattle.capnp_call.proofs.hop.hop_field.Goals as goal
 

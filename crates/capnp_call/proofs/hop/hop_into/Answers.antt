@@ -3,7 +3,7 @@ use Rattle.std.proofs.Common.{refl}
 use Rattle.capnp_arena.specs.Segment.{segment}
 use Rattle.capnp_call.proofs.Hopping.{field_refused_at}
 use Rattle.capnp_call.proofs.Walking.{field_stops}
-use Rattle.capnp_call.specs.Hops.{placed_struct}
+use Rattle.capnp_call.specs.Steps.Hops.{placed_struct}
 use Rattle.capnp_call.specs.declared.calls.Reply.TheVariants as reply
 use Rattle.capnp_call.proofs.hop.hop_into.Goals as goal
 

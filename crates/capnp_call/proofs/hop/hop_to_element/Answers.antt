@@ -8,8 +8,8 @@ use Rattle.capnp_schema.specs.Facts.Layers.{seen_which}
 use Rattle.capnp_schema.specs.Types.{SchemaType, seen_type, seen_variant}
 use Rattle.capnp_call.proofs.Hopping.{element_refused}
 use Rattle.capnp_call.proofs.ListWalks.{other_stops, untyped_stops}
-use Rattle.capnp_call.specs.Hops.{ElementGoes, HopLeads}
-use Rattle.capnp_call.specs.Lists.{ElementWalks}
+use Rattle.capnp_call.specs.Steps.Hops.{ElementGoes, HopLeads}
+use Rattle.capnp_call.specs.Steps.Lists.{ElementWalks}
 use Rattle.capnp_call.specs.declared.calls.Reply.TheVariants as reply
 use Rattle.capnp_call.proofs.hop.hop_to_element.Goals as goal
 

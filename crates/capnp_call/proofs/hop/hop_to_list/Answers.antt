@@ -8,7 +8,7 @@ use Rattle.capnp_slots.specs.Fields.{field_brand, field_set, pointer_index}
 use Rattle.capnp_call.proofs.Hopping.{IsSlotAt, field_refused_at, list_leads}
 use Rattle.capnp_call.proofs.Parts.{fits_filled}
 use Rattle.capnp_call.proofs.Walking.{field_refused}
-use Rattle.capnp_call.specs.Hops.{placed_struct}
+use Rattle.capnp_call.specs.Steps.Hops.{placed_struct}
 use Rattle.capnp_call.specs.declared.calls.Reply.TheVariants as reply
 use Rattle.capnp_call.specs.declared.hop.At.TheVariants as at
 use Rattle.capnp_call.proofs.hop.hop_to_list.Goals as goal

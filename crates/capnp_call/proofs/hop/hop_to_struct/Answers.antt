@@ -7,7 +7,7 @@ use Rattle.capnp_slots.specs.Fields.{field_brand, field_set, pointer_index}
 use Rattle.capnp_call.proofs.Hopping.{IsSlotAt, field_refused_at, struct_leads}
 use Rattle.capnp_call.proofs.Parts.{fits_filled, struct_here}
 use Rattle.capnp_call.proofs.Walking.{field_refused}
-use Rattle.capnp_call.specs.Hops.{placed_struct}
+use Rattle.capnp_call.specs.Steps.Hops.{placed_struct}
 use Rattle.capnp_call.specs.declared.calls.Reply.TheVariants as reply
 use Rattle.capnp_call.proofs.hop.hop_to_struct.Goals as goal
 

@@ -8,7 +8,7 @@ use Rattle.capnp_records.specs.Writes.Stand.{OnList, seen_stand}
 use Rattle.capnp_call.proofs.Replies.{get_undone}
 use Rattle.capnp_records.specs.Record as value
 use Rattle.capnp_call.specs.Seen.{reply_seen}
-use Rattle.capnp_call.specs.Lists.{ElementDoes, element_at}
+use Rattle.capnp_call.specs.Steps.Lists.{ElementDoes, element_at}
 use Rattle.capnp_call.specs.declared.calls.Op.{Op}
 use Rattle.capnp_call.proofs.list_end.do_element.Goals as goal
 

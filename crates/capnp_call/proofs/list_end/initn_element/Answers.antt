@@ -12,7 +12,7 @@ use Rattle.capnp_records.specs.Writes.TreeEnds.{TreeDoes}
 use Rattle.capnp_call.proofs.ElementsDone.{element_init_refused, room_at}
 use Rattle.capnp_call.proofs.Outcomes.{both, by_outcome}
 use Rattle.capnp_call.proofs.Replies.{refused_undone}
-use Rattle.capnp_call.specs.Lists.{element_at}
+use Rattle.capnp_call.specs.Steps.Lists.{element_at}
 use Rattle.capnp_call.specs.Seen.{reply_seen}
 use Rattle.capnp_call.proofs.list_end.initn_element.Goals as goal
 

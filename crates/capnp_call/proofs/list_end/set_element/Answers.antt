@@ -11,7 +11,7 @@ use Rattle.capnp_slots.specs.Sources.{source_seen}
 use Rattle.capnp_call.proofs.ElementsDone.{room_at}
 use Rattle.capnp_call.proofs.Outcomes.{by_outcome}
 use Rattle.capnp_call.proofs.SetsDone.{element_set, element_unset}
-use Rattle.capnp_call.specs.Lists.{element_at}
+use Rattle.capnp_call.specs.Steps.Lists.{element_at}
 use Rattle.capnp_call.specs.Seen.{reply_seen}
 use Rattle.capnp_call.proofs.list_end.set_element.Goals as goal
 

@@ -3,7 +3,7 @@ use Rattle.std.proofs.Common.{[], refl, subst, sym}
 use Rattle.capnp_arena.specs.Segment.{segment}
 use Rattle.capnp_schema.specs.StructHandles.{number_of, set_of}
 use Rattle.capnp_call.proofs.Walking.{walks_end}
-use Rattle.capnp_call.specs.Hops.{HopGoes, IsAt, IsAtStruct, placed_struct}
+use Rattle.capnp_call.specs.Steps.Hops.{HopGoes, IsAt, IsAtStruct, placed_struct}
 use Rattle.capnp_call.specs.declared.hop.At.{At}
 use Rattle.capnp_call.proofs.walk.end_at.Goals as goal
 

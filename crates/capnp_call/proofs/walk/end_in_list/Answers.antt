@@ -7,7 +7,7 @@ use Rattle.capnp_schema.specs.Entries.{lists_seen}
 use Rattle.capnp_schema.specs.Types.{seen_type}
 use Rattle.capnp_call.proofs.Hopping.{list_refused, list_there, null_there}
 use Rattle.capnp_call.proofs.ListWalks.{list_end}
-use Rattle.capnp_call.specs.Lists.{ListWalks}
+use Rattle.capnp_call.specs.Steps.Lists.{ListWalks}
 use Rattle.capnp_call.specs.declared.calls.Reply.TheVariants as reply
 use Rattle.capnp_call.proofs.walk.end_in_list.Goals as goal
 

@@ -2,7 +2,7 @@
 use Rattle.std.proofs.Common.{drop}
 use Rattle.capnp_arena.specs.Segment.{segment}
 use Rattle.capnp_call.proofs.Hopping.{Onward}
-use Rattle.capnp_call.specs.Hops.{IsAt}
+use Rattle.capnp_call.specs.Steps.Hops.{IsAt}
 use Rattle.capnp_call.proofs.walk.walk_all.Given as goal
 
 abbrev pub invariant-loop-step : goal.invariant-loop-step

@@ -7,7 +7,8 @@ use Rattle.capnp_dynamic.specs.Handed.{HandsField, IsPartRefusal, IsPartWithin}
 use Rattle.capnp_dynamic.specs.Owners.{IsGotOf}
 use Rattle.capnp_dynamic.specs.declared.dynamic_value.build.Builder.TheVariants as built
 use Rattle.capnp_dynamic_readers.specs.Facts.Taken.{taken}
-use Rattle.capnp_callers.specs.Values.{IsNoText, hands_text}
+use Rattle.capnp_callers.specs.Values.{hands_text}
+use Rattle.capnp_callers.specs.Steps.Values.{IsNoText}
 use Rattle.capnp_callers.proofs.TextParts.{mismatched, no_text}
 use Rattle.capnp_callers.proofs.values.text_in.Goals as goal
 

@@ -3,7 +3,7 @@ use Rattle.capnp_schema.specs.Entries.{lists_seen}
 use Rattle.capnp_schema.specs.FieldLists.{typed_of}
 use Rattle.capnp_schema.specs.Schema.{TypedField, field_at}
 use Rattle.capnp_records.specs.Compatible.{SharedField}
-use Rattle.capnp_compatible.specs.Closing.{all_pairs}
+use Rattle.capnp_compatible.specs.Steps.Closing.{all_pairs}
 use Rattle.capnp_compatible.proofs.fields.are_fields_shared.Goals as goal
 
 pub loop-i-preserved : goal.loop-i-preserved

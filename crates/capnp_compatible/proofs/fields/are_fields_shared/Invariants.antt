@@ -1,5 +1,5 @@
 use Rattle.capnp_schema.specs.Entries.{lists_seen}
-use Rattle.capnp_compatible.specs.Closing.{FieldsShared, all_pairs}
+use Rattle.capnp_compatible.specs.Steps.Closing.{FieldsShared, all_pairs}
 use Rattle.capnp_compatible.proofs.fields.are_fields_shared.Given as goal
 
 abbrev pub invariant-loop-i : goal.invariant-loop-i

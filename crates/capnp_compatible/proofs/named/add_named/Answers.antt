@@ -2,7 +2,8 @@ use Rattle.std.proofs.Common.{subst, arith}
 use Rattle.std.specs.Prelude.{Option}
 use Rattle.capnp_schema.specs.Entries.{lists_seen}
 use Rattle.capnp_compatible.specs.declared.pairs.Pair.{Pair}
-use Rattle.capnp_compatible.specs.Closing.{Adds, Holds, listed_pairs}
+use Rattle.capnp_compatible.specs.Closing.{listed_pairs}
+use Rattle.capnp_compatible.specs.Steps.Closing.{Adds, Holds}
 use Rattle.capnp_compatible.proofs.Growth.{far_only, grown_more}
 use Rattle.capnp_compatible.proofs.named.add_named.Goals as goal
 

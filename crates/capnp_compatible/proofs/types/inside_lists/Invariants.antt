@@ -1,7 +1,7 @@
 use Rattle.std.proofs.Common.{◌≡◌}
 use Rattle.capnp_schema.specs.Entries.{lists_seen}
 use Rattle.capnp_schema.specs.Types.{seen_type}
-use Rattle.capnp_compatible.specs.Closing.{inside_lists}
+use Rattle.capnp_compatible.specs.Steps.Closing.{inside_lists}
 use Rattle.capnp_compatible.proofs.types.inside_lists.Given as goal
 
 abbrev pub invariant-loop-x : goal.invariant-loop-x

@@ -1,8 +1,10 @@
 use Rattle.std.specs.Prelude.{string_bytes}
 use Rattle.std.proofs.Common.{subst}
 use Rattle.capnp_records.specs.Text.{Layout}
-use Rattle.capnp_dynamic_readers.specs.Pieces.{IsPut, IsStopped, Taken, made_bytes, made_text}
-use Rattle.capnp_dynamic_readers.specs.Shown.{printed_text, root_shown}
+use Rattle.capnp_dynamic_readers.specs.Pieces.{Taken, made_bytes, made_text}
+use Rattle.capnp_dynamic_readers.specs.Steps.Pieces.{IsPut, IsStopped}
+use Rattle.capnp_dynamic_readers.specs.Shown.{printed_text}
+use Rattle.capnp_dynamic_readers.specs.Steps.Shown.{root_shown}
 use Rattle.capnp_dynamic_readers.proofs.Pieces.{appended_whole}
 use Rattle.capnp_dynamic_readers.proofs.Roots.{stopped_refused}
 use Rattle.capnp_dynamic_readers.proofs.Steps.{ok_map}

@@ -1,9 +1,9 @@
 use Rattle.capnp_schema.specs.Schema.{seen_annotation, seen_value}
 use Rattle.capnp_schema.specs.Types.{seen_type}
 use Rattle.capnp_dynamic_readers.specs.Seen.{record_seen}
-use Rattle.capnp_request.specs.Bindings.{bounds}
-use Rattle.capnp_request.specs.Done.{between}
-use Rattle.capnp_request.specs.Nodes.{nodes_of}
+use Rattle.capnp_request.specs.Steps.Bindings.{bounds}
+use Rattle.capnp_request.specs.Steps.Done.{between}
+use Rattle.capnp_request.specs.Steps.Nodes.{nodes_of}
 use Rattle.capnp_request.proofs.Refused.{err_done}
 use Rattle.capnp_request.specs.Conversion.{annotation_of}
 use Rattle.capnp_request.specs.Reading.{annotation_said}

@@ -3,14 +3,14 @@ use Rattle.capnp_schema.specs.Schema.{Annotation}
 use Rattle.capnp_schema.specs.Types.{SchemaType}
 use Rattle.capnp_schema.specs.declared.record.AnnotationRecord.{AnnotationRecord}
 use Rattle.capnp_dynamic_readers.specs.Seen.{record_seen}
-use Rattle.capnp_request.specs.Bindings.{bounds}
-use Rattle.capnp_request.specs.Done.{between}
-use Rattle.capnp_request.specs.Nodes.{nodes_of}
+use Rattle.capnp_request.specs.Steps.Bindings.{bounds}
+use Rattle.capnp_request.specs.Steps.Done.{between}
+use Rattle.capnp_request.specs.Steps.Nodes.{nodes_of}
 use Rattle.capnp_request.specs.Parts.{request_read_at}
 use Rattle.capnp_request.proofs.Refused.{err_done}
 use Rattle.capnp_request.specs.Conversion.{annotation_of, annotations_of}
-use Rattle.capnp_request.specs.ConvertedSeen.{typed_annotations}
-use Rattle.capnp_request.specs.Handles.{values_left}
+use Rattle.capnp_request.specs.Steps.ConvertedSeen.{typed_annotations}
+use Rattle.capnp_request.specs.Steps.Handles.{values_left}
 use Rattle.capnp_request.specs.Reading.{annotation_said, annotation_terms_in, each_said}
 use Rattle.capnp_request.specs.Work.{each_read}
 use Rattle.capnp_request.proofs.AnnotationsDone.{annotations_start, annotations_unread}

@@ -1,9 +1,9 @@
 use Rattle.std.proofs.Common.{◌≡◌, ◌<◌, ◌+◌, ◌∙◌, [], ap, arith, length, rules, refl, suc, sym, true}
 use Rattle.std.proofs.lemmas.Result.{err_from_is_err_and}
-use Rattle.capnp_request.specs.Done.{between}
-use Rattle.capnp_request.specs.Nodes.{nodes_of}
+use Rattle.capnp_request.specs.Steps.Done.{between}
+use Rattle.capnp_request.specs.Steps.Nodes.{nodes_of}
 use Rattle.capnp_request.specs.Order.{result_of}
-use Rattle.capnp_request.specs.ProgressSeen.{made_of}
+use Rattle.capnp_request.specs.Steps.ProgressSeen.{made_of}
 use Rattle.capnp_request.proofs.ProgressMade.{steps_begun, steps_done, steps_more, steps_over, steps_refused}
 use Rattle.capnp_request.proofs.conversion.make_all.Goals as goal
 

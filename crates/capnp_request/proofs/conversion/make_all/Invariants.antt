@@ -1,12 +1,12 @@
 -- What is left of the definition's steps.
 use Rattle.std.proofs.Common.{List, ◌≡◌, ◌+◌, suc, length}
-use Rattle.capnp_request.specs.Done.{between}
+use Rattle.capnp_request.specs.Steps.Done.{between}
 use Rattle.capnp_request.specs.Names.{Holder}
-use Rattle.capnp_request.specs.NamesMade.{AreHolders}
-use Rattle.capnp_request.specs.Nodes.{nodes_of}
-use Rattle.capnp_request.specs.Numbers.{AreNumbered}
+use Rattle.capnp_request.specs.Steps.NamesMade.{AreHolders}
+use Rattle.capnp_request.specs.Steps.Nodes.{nodes_of}
+use Rattle.capnp_request.specs.Steps.Numbers.{AreNumbered}
 use Rattle.capnp_request.specs.Order.{make_all, nothing_made}
-use Rattle.capnp_request.specs.ProgressSeen.{made_of}
+use Rattle.capnp_request.specs.Steps.ProgressSeen.{made_of}
 use Rattle.capnp_request.specs.Shapes.{AreBrandsOf}
 use Rattle.capnp_request.proofs.conversion.make_all.Given as goal
 

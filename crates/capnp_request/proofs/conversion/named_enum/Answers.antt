@@ -1,6 +1,6 @@
 use Rattle.std.proofs.lemmas.Result.{err_from_is_err_and}
 use Rattle.capnp_dynamic_readers.specs.Seen.{record_seen}
-use Rattle.capnp_request.specs.Nodes.{nodes_of}
+use Rattle.capnp_request.specs.Steps.Nodes.{nodes_of}
 use Rattle.capnp_request.specs.Reading.{node_said}
 use Rattle.capnp_request.proofs.OrderMade.{enum_begun, enum_missing, enum_unnamed, enum_unread}
 use Rattle.capnp_request.proofs.conversion.named_enum.Goals as goal

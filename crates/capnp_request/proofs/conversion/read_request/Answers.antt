@@ -1,11 +1,12 @@
 use Rattle.std.proofs.Common.{◌∙◌, ap, sym}
 use Rattle.std.proofs.lemmas.Result.{err_from_is_err_and}
 use Rattle.capnp_dynamic_readers.specs.Seen.{record_seen}
-use Rattle.capnp_request.specs.Nodes.{nodes_of}
+use Rattle.capnp_request.specs.Steps.Nodes.{nodes_of}
 use Rattle.capnp_request.specs.Order.{name_files, result_of}
 use Rattle.capnp_request.specs.Parts.{request_read_at}
 use Rattle.capnp_request.specs.Reading.{id_said, nodes_in, whole_list}
-use Rattle.capnp_request.specs.Work.{named_with, nothing_seen}
+use Rattle.capnp_request.specs.Work.{nothing_seen}
+use Rattle.capnp_request.specs.Steps.Work.{named_with}
 use Rattle.capnp_request.proofs.OrderMade.{nodes_refused, roots_named, roots_refused}
 use Rattle.capnp_request.proofs.conversion.read_request.Goals as goal
 

@@ -3,10 +3,10 @@ use Rattle.std.proofs.lemmas.Result.{err_from_is_err_and}
 use Rattle.capnp_dynamic_readers.specs.Seen.{record_seen}
 use Rattle.capnp_schema.specs.Schema.{seen_enumerant}
 use Rattle.capnp_request.specs.Conversion.{annotations_of}
-use Rattle.capnp_request.specs.Done.{between}
-use Rattle.capnp_request.specs.Nodes.{nodes_of}
+use Rattle.capnp_request.specs.Steps.Done.{between}
+use Rattle.capnp_request.specs.Steps.Nodes.{nodes_of}
 use Rattle.capnp_request.specs.Reading.{enumerant_said, node_said}
-use Rattle.capnp_request.specs.StructsSeen.{seen_enumerants}
+use Rattle.capnp_request.specs.Steps.StructsSeen.{seen_enumerants}
 use Rattle.capnp_request.specs.Terms.{EnumNode}
 use Rattle.capnp_request.proofs.EnumsMade.{enum_given, enum_off, enum_seen, enumerant_types_seen, enumerants_counted, enumerants_refused, enumerants_seen, own_refused}
 use Rattle.capnp_request.proofs.ListsSaid.{said_all}

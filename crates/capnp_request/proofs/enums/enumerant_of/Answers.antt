@@ -2,8 +2,8 @@ use Rattle.std.proofs.Common.{[], ◌∙◌, ap, refl}
 use Rattle.std.proofs.lemmas.Result.{err_from_is_err_and}
 use Rattle.capnp_dynamic_readers.specs.Seen.{record_seen}
 use Rattle.capnp_request.specs.Conversion.{annotations_of}
-use Rattle.capnp_request.specs.Done.{between}
-use Rattle.capnp_request.specs.Nodes.{nodes_of}
+use Rattle.capnp_request.specs.Steps.Done.{between}
+use Rattle.capnp_request.specs.Steps.Nodes.{nodes_of}
 use Rattle.capnp_request.specs.Reading.{enumerant_said}
 use Rattle.capnp_request.proofs.EnumsMade.{annotations_on, enumerant_given, enumerant_pair, enumerant_refused, enumerant_unnamed, enumerant_unread, name_on}
 use Rattle.capnp_request.proofs.StructsMade.{first_annotations, second_types}

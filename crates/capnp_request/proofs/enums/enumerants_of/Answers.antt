@@ -1,12 +1,12 @@
 use Rattle.std.proofs.Common.{[], ◌+◌, ◌<◌, ◌≤◌, ◌≡◌, ◌∙◌, ap, arith, refl, rules}
 use Rattle.std.proofs.lemmas.Result.{err_from_is_err_and}
 use Rattle.capnp_dynamic_readers.specs.Seen.{record_seen}
-use Rattle.capnp_request.specs.Done.{between}
-use Rattle.capnp_request.specs.Handles.{values_left}
-use Rattle.capnp_request.specs.Nodes.{nodes_of}
+use Rattle.capnp_request.specs.Steps.Done.{between}
+use Rattle.capnp_request.specs.Steps.Handles.{values_left}
+use Rattle.capnp_request.specs.Steps.Nodes.{nodes_of}
 use Rattle.capnp_request.specs.Order.{enumerant_of}
 use Rattle.capnp_request.specs.Reading.{each_said, enumerant_said}
-use Rattle.capnp_request.specs.StructsSeen.{seen_converted_enumerant, seen_enumerants}
+use Rattle.capnp_request.specs.Steps.StructsSeen.{seen_converted_enumerant, seen_enumerants}
 use Rattle.capnp_request.specs.Work.{each_read}
 use Rattle.capnp_request.proofs.ListsSaid.{length_of}
 use Rattle.capnp_request.proofs.ListsWalked.{all_given, element_refused, item_given, item_refused}

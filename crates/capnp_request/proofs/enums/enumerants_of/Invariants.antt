@@ -1,12 +1,12 @@
 -- What is left are the enumerants from the next one on.
 use Rattle.std.proofs.Common.{◌≡◌}
-use Rattle.capnp_request.specs.Done.{between}
-use Rattle.capnp_request.specs.Handles.{values_left}
-use Rattle.capnp_request.specs.Nodes.{nodes_of}
-use Rattle.capnp_request.specs.Numbers.{AreNumbered}
+use Rattle.capnp_request.specs.Steps.Done.{between}
+use Rattle.capnp_request.specs.Steps.Handles.{values_left}
+use Rattle.capnp_request.specs.Steps.Nodes.{nodes_of}
+use Rattle.capnp_request.specs.Steps.Numbers.{AreNumbered}
 use Rattle.capnp_request.specs.Order.{enumerant_of}
 use Rattle.capnp_request.specs.Reading.{each_said, enumerant_said}
-use Rattle.capnp_request.specs.StructsSeen.{seen_enumerants}
+use Rattle.capnp_request.specs.Steps.StructsSeen.{seen_enumerants}
 use Rattle.capnp_request.specs.Work.{each_read}
 use Rattle.capnp_request.proofs.Works.{ahead}
 use Rattle.capnp_request.proofs.enums.enumerants_of.Given as goal

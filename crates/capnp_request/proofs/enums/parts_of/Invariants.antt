@@ -1,6 +1,6 @@
 -- The parts of the enumerants so far.
 use Rattle.std.proofs.Common.{◌≡◌, map}
-use Rattle.capnp_request.specs.StructsSeen.{enumerant_records, enumerant_types}
+use Rattle.capnp_request.specs.Steps.StructsSeen.{enumerant_records, enumerant_types}
 use Rattle.capnp_request.proofs.enums.parts_of.Given as goal
 
 abbrev pub invariant-loop-enumerant : goal.invariant-loop-enumerant

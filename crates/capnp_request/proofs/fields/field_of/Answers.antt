@@ -1,11 +1,11 @@
 use Rattle.std.proofs.Common.{string_bytes, ◌∙◌}
 use Rattle.capnp_dynamic_readers.specs.Seen.{record_seen}
-use Rattle.capnp_request.specs.Bindings.{bounds}
-use Rattle.capnp_request.specs.Done.{between}
-use Rattle.capnp_request.specs.Nodes.{nodes_of}
+use Rattle.capnp_request.specs.Steps.Bindings.{bounds}
+use Rattle.capnp_request.specs.Steps.Done.{between}
+use Rattle.capnp_request.specs.Steps.Nodes.{nodes_of}
 use Rattle.capnp_request.proofs.Refused.{err_done}
 use Rattle.capnp_request.specs.Conversion.{field_of}
-use Rattle.capnp_request.specs.ConvertedSeen.{seen_converted, seen_converted_kind}
+use Rattle.capnp_request.specs.Steps.ConvertedSeen.{seen_converted, seen_converted_kind}
 use Rattle.capnp_request.specs.Reading.{field_said}
 use Rattle.capnp_request.proofs.FieldsDone.{annotations_refused, field_done, field_made, kind_refused, name_refused, name_unread}
 use Rattle.capnp_request.proofs.fields.field_of.Goals as goal

@@ -2,14 +2,14 @@ use Rattle.std.proofs.Common.{◌∙◌, ap, sym, Err, Ok, List}
 use Rattle.capnp_schema.specs.Schema.{Group}
 use Rattle.capnp_schema.specs.Types.{seen_type}
 use Rattle.capnp_dynamic_readers.specs.Seen.{record_seen}
-use Rattle.capnp_request.specs.Bindings.{bounds}
-use Rattle.capnp_request.specs.Done.{between}
-use Rattle.capnp_request.specs.Nodes.{nodes_of}
+use Rattle.capnp_request.specs.Steps.Bindings.{bounds}
+use Rattle.capnp_request.specs.Steps.Done.{between}
+use Rattle.capnp_request.specs.Steps.Nodes.{nodes_of}
 use Rattle.capnp_request.specs.Parts.{request_read_at}
 use Rattle.capnp_request.specs.Work.{nothing_seen}
 use Rattle.capnp_request.proofs.Refused.{err_done}
 use Rattle.capnp_request.specs.Conversion.{Note, kind_of}
-use Rattle.capnp_request.specs.ConvertedSeen.{seen_converted_kind}
+use Rattle.capnp_request.specs.Steps.ConvertedSeen.{seen_converted_kind}
 use Rattle.capnp_request.specs.Reading.{group_said, in_struct}
 use Rattle.capnp_request.specs.Terms.{UnreadField}
 use Rattle.capnp_request.specs.Types.{add_entry}

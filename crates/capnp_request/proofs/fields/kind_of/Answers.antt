@@ -1,11 +1,11 @@
 use Rattle.std.proofs.Common.{◌∙◌, arith, ap, sym, Err, Some}
 use Rattle.capnp_dynamic_readers.specs.Seen.{record_seen}
-use Rattle.capnp_request.specs.Bindings.{bounds}
-use Rattle.capnp_request.specs.Done.{between}
-use Rattle.capnp_request.specs.Nodes.{nodes_of}
+use Rattle.capnp_request.specs.Steps.Bindings.{bounds}
+use Rattle.capnp_request.specs.Steps.Done.{between}
+use Rattle.capnp_request.specs.Steps.Nodes.{nodes_of}
 use Rattle.capnp_request.specs.Parts.{request_read_at}
 use Rattle.capnp_request.specs.Conversion.{kind_of}
-use Rattle.capnp_request.specs.ConvertedSeen.{seen_converted_kind}
+use Rattle.capnp_request.specs.Steps.ConvertedSeen.{seen_converted_kind}
 use Rattle.capnp_request.specs.Reading.{field_said, group_said, in_struct, slot_said}
 use Rattle.capnp_request.specs.Terms.{UnreadField}
 use Rattle.capnp_request.proofs.FieldsDone.{is_group, is_slot, kind_none, kind_other}

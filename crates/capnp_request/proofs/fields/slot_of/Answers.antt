@@ -2,18 +2,18 @@ use Rattle.std.proofs.Common.{◌&&◌, ◌∙◌, ap, sym}
 use Rattle.capnp_schema.specs.Schema.{seen_value}
 use Rattle.capnp_schema.specs.Types.{seen_type}
 use Rattle.capnp_dynamic_readers.specs.Seen.{record_seen}
-use Rattle.capnp_request.specs.Bindings.{bounds, flags}
-use Rattle.capnp_request.specs.Done.{between}
-use Rattle.capnp_request.specs.Nodes.{nodes_of}
-use Rattle.capnp_request.specs.Numbers.{numbered_entries}
+use Rattle.capnp_request.specs.Steps.Bindings.{bounds, flags}
+use Rattle.capnp_request.specs.Steps.Done.{between}
+use Rattle.capnp_request.specs.Steps.Nodes.{nodes_of}
+use Rattle.capnp_request.specs.Steps.Numbers.{numbered_entries}
 use Rattle.capnp_request.specs.Parts.{request_read_at}
 use Rattle.capnp_request.proofs.Refused.{err_done}
 use Rattle.capnp_request.specs.Conversion.{kind_of}
-use Rattle.capnp_request.specs.ConvertedSeen.{seen_converted_kind}
+use Rattle.capnp_request.specs.Steps.ConvertedSeen.{seen_converted_kind}
 use Rattle.capnp_request.specs.Reading.{in_struct, slot_said, type_said}
 use Rattle.capnp_request.specs.Terms.{UnreadField}
 use Rattle.capnp_request.specs.Types.{type_of}
-use Rattle.capnp_request.specs.Work.{named_with}
+use Rattle.capnp_request.specs.Steps.Work.{named_with}
 use Rattle.capnp_request.proofs.FieldsDone.{default_refused, default_unread, slot_done, slot_refused, slot_unread}
 use Rattle.capnp_request.proofs.fields.slot_of.Goals as goal
 

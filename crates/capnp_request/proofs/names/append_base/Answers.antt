@@ -4,7 +4,7 @@ use Rattle.std.proofs.lemmas.List.{append-nil}
 use Rattle.capnp_base.specs.Types.{base_of}
 use Rattle.capnp_schema.specs.Types.{seen_base}
 use Rattle.capnp_request.specs.Names.{type_name}
-use Rattle.capnp_request.specs.NamesMade.{struct_names, texts}
+use Rattle.capnp_request.specs.Steps.NamesMade.{struct_names, texts}
 use Rattle.capnp_request.proofs.NamesJoined.{enum_word, name_missing, name_there, struct_word, text_missing, text_there}
 use Rattle.capnp_request.proofs.names.append_base.Goals as goal
 

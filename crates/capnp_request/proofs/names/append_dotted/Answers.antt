@@ -1,7 +1,7 @@
 use Rattle.std.proofs.Common.{[], ◌∷◌, ◌++◌, ◌∙◌, ap, arith, get_or}
 use Rattle.std.proofs.lemmas.Bool.{eq-eqb, ne_eqb}
 use Rattle.std.proofs.lemmas.Result.{err_from_is_err_and}
-use Rattle.capnp_request.specs.NamesMade.{struct_names, texts}
+use Rattle.capnp_request.specs.Steps.NamesMade.{struct_names, texts}
 use Rattle.capnp_request.proofs.NamesJoined.{byte_appended, dot_appended, dot_pushed, part_long}
 use Rattle.capnp_request.proofs.names.append_dotted.Goals as goal
 use Rattle.capnp_request.proofs.names.append_dotted.Goals.{else-byte-eq46, then-byte-eq46+in_ok-append_part_bindings}

@@ -1,8 +1,8 @@
 -- What is left is the dotted name from the next byte on.
 use Rattle.std.proofs.Common.{◌≡◌, ◌++◌, ◌≤◌, drop}
-use Rattle.capnp_request.specs.Bindings.{bounds}
+use Rattle.capnp_request.specs.Steps.Bindings.{bounds}
 use Rattle.capnp_request.specs.Names.{bound_name, occurrences_of}
-use Rattle.capnp_request.specs.NamesMade.{struct_names, texts}
+use Rattle.capnp_request.specs.Steps.NamesMade.{struct_names, texts}
 use Rattle.capnp_request.proofs.names.append_dotted.Given as goal
 
 abbrev pub invariant-loop-byte : goal.invariant-loop-byte

@@ -1,7 +1,7 @@
 -- What is left is a piece for each list around the inner type.
 use Rattle.std.proofs.Common.{◌≡◌, ◌++◌}
 use Rattle.capnp_base.specs.Types.{list_depth}
-use Rattle.capnp_request.specs.NamesMade.{repeated_piece}
+use Rattle.capnp_request.specs.Steps.NamesMade.{repeated_piece}
 use Rattle.capnp_request.proofs.names.append_lists.Given as goal
 
 abbrev pub invariant-loop-element : goal.invariant-loop-element

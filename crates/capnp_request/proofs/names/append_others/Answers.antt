@@ -1,7 +1,7 @@
 use Rattle.std.proofs.Common.{map}
 use Rattle.std.proofs.lemmas.Result.{err_from_is_err_and}
 use Rattle.capnp_schema.specs.Types.{seen_type}
-use Rattle.capnp_request.specs.NamesMade.{struct_names, texts}
+use Rattle.capnp_request.specs.Steps.NamesMade.{struct_names, texts}
 use Rattle.capnp_request.proofs.NamesJoined.{bound_long, comma_long, other_appended}
 use Rattle.capnp_request.proofs.names.append_others.Goals as goal
 

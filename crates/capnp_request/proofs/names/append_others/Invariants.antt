@@ -2,7 +2,7 @@
 use Rattle.std.proofs.Common.{◌≡◌, ◌++◌, ◌-◌, drop, map}
 use Rattle.capnp_schema.specs.Types.{seen_type}
 use Rattle.capnp_request.specs.Names.{more_names}
-use Rattle.capnp_request.specs.NamesMade.{struct_names, texts}
+use Rattle.capnp_request.specs.Steps.NamesMade.{struct_names, texts}
 use Rattle.capnp_request.proofs.names.append_others.Given as goal
 
 abbrev pub invariant-loop-index : goal.invariant-loop-index

@@ -1,8 +1,8 @@
 -- What is left are the scopes from the next one on.
 use Rattle.std.proofs.Common.{◌≡◌, ◌++◌, drop}
-use Rattle.capnp_request.specs.Bindings.{bounds}
+use Rattle.capnp_request.specs.Steps.Bindings.{bounds}
 use Rattle.capnp_request.specs.Names.{part_bindings}
-use Rattle.capnp_request.specs.NamesMade.{struct_names, texts}
+use Rattle.capnp_request.specs.Steps.NamesMade.{struct_names, texts}
 use Rattle.capnp_request.proofs.names.append_part_bindings.Given as goal
 
 abbrev pub invariant-loop-scope : goal.invariant-loop-scope

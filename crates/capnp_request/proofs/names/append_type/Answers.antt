@@ -1,7 +1,7 @@
 use Rattle.std.proofs.lemmas.Result.{err_from_is_err_and}
 use Rattle.capnp_base.specs.Types.{base_of, list_depth}
 use Rattle.capnp_schema.specs.Types.{seen_base}
-use Rattle.capnp_request.specs.NamesMade.{struct_names, texts}
+use Rattle.capnp_request.specs.Steps.NamesMade.{struct_names, texts}
 use Rattle.capnp_request.proofs.NamesJoined.{first_long, joined, lists_name, second_long, third_long}
 use Rattle.capnp_request.proofs.names.append_type.Goals as goal
 

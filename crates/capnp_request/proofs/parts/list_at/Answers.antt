@@ -3,7 +3,8 @@ use Rattle.capnp_request.specs.RequestSet.{request_set}
 use Rattle.capnp_schema.specs.Schema.{field_at}
 use Rattle.capnp_records.specs.Facts.ReadFaults.{Sound}
 use Rattle.capnp_dynamic_readers.specs.Seen.{record_seen, value_seen}
-use Rattle.capnp_request.specs.Parts.{request_structs, request_struct}
+use Rattle.capnp_request.specs.Parts.{request_struct}
+use Rattle.capnp_request.specs.Steps.Parts.{request_structs}
 use Rattle.capnp_request.proofs.Sounds.{read_at-sound, seen_sound}
 use Rattle.capnp_request.proofs.Taken.{kind_is, list_under}
 use Rattle.capnp_request.proofs.parts.list_at.Goals as goal

@@ -1,6 +1,6 @@
 use Rattle.std.proofs.Common.{ℕ, [], rules, ◌+◌, ◌<◌, ◌≤◌, ◌≡◌, ◌∙◌, ◌∷◌, ap, arith, sym, Ok}
 use Rattle.std.proofs.lemmas.Result.{err_from_is_err_and}
-use Rattle.capnp_request.specs.Handles.{values_left}
+use Rattle.capnp_request.specs.Steps.Handles.{values_left}
 use Rattle.capnp_dynamic_readers.specs.Seen.{record_seen}
 use Rattle.capnp_request.specs.Reading.{all_said, each_said, id_said, number_in, whole_list}
 use Rattle.capnp_request.proofs.ListsSaid.{length_of, said_fault, said_none, said_record}

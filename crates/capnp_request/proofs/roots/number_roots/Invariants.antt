@@ -1,9 +1,9 @@
 -- What is left are the nodes of the queue from the next one on.
 use Rattle.std.proofs.Common.{ℕ, List, [], ◌≡◌, ◌-◌, drop, length}
-use Rattle.capnp_request.specs.Done.{between}
-use Rattle.capnp_request.specs.Met.{AreMet}
-use Rattle.capnp_request.specs.Nodes.{nodes_of}
-use Rattle.capnp_request.specs.Numbers.{AreNumbered}
+use Rattle.capnp_request.specs.Steps.Done.{between}
+use Rattle.capnp_request.specs.Steps.Met.{AreMet}
+use Rattle.capnp_request.specs.Steps.Nodes.{nodes_of}
+use Rattle.capnp_request.specs.Steps.Numbers.{AreNumbered}
 use Rattle.capnp_request.specs.Order.{name_roots, new_ids}
 use Rattle.capnp_request.proofs.roots.number_roots.Given as goal
 

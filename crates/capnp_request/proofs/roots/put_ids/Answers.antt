@@ -1,6 +1,6 @@
 use Rattle.std.proofs.Common.{◌+◌, ◌<◌, ◌≤◌, ◌∙◌, ◌++◌, ◌∷◌, [], ap, arith, get_or, length, refl, sym}
 use Rattle.std.proofs.lemmas.List.{append-nil}
-use Rattle.capnp_request.specs.Nodes.{nodes_of}
+use Rattle.capnp_request.specs.Steps.Nodes.{nodes_of}
 use Rattle.capnp_request.specs.Order.{new_ids}
 use Rattle.capnp_request.specs.Scopes.{is_met}
 use Rattle.capnp_request.proofs.RootsNamed.{met_stays, none_new, put_more}

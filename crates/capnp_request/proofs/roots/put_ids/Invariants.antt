@@ -1,7 +1,7 @@
 -- The ids that were met: those of before, and the new ones so far.
 use Rattle.std.proofs.Common.{ℕ, List, ◌≡◌, ◌++◌, drop}
-use Rattle.capnp_request.specs.Met.{AreMet}
-use Rattle.capnp_request.specs.Nodes.{nodes_of}
+use Rattle.capnp_request.specs.Steps.Met.{AreMet}
+use Rattle.capnp_request.specs.Steps.Nodes.{nodes_of}
 use Rattle.capnp_request.specs.Order.{new_ids}
 use Rattle.capnp_request.specs.Scopes.{is_met}
 use Rattle.capnp_request.proofs.roots.put_ids.Given as goal

@@ -1,6 +1,6 @@
 use Rattle.std.proofs.Common.{ap, sym, ◌∙◌}
 use Rattle.capnp_dynamic_readers.specs.Seen.{record_seen}
-use Rattle.capnp_request.specs.Types.{is_annotation}
+use Rattle.capnp_request.specs.Steps.Types.{is_annotation}
 use Rattle.capnp_request.proofs.NodesRead.{kind_none, annotation_where}
 use Rattle.capnp_request.proofs.schema_nodes.is_annotation_node.Goals as goal
 

@@ -1,6 +1,6 @@
 -- No scope so far is it.
 use Rattle.std.proofs.Common.{◌≡◌, drop}
-use Rattle.capnp_request.specs.Bindings.{bounds}
+use Rattle.capnp_request.specs.Steps.Bindings.{bounds}
 use Rattle.capnp_request.specs.Scopes.{scope_among}
 use Rattle.capnp_request.proofs.scopes.scope_of.Given as goal
 

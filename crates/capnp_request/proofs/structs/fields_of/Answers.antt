@@ -1,14 +1,15 @@
 use Rattle.std.proofs.Common.{[], ◌<◌, ◌≤◌, ◌≡◌, ◌∙◌, ap, arith, length, length-append, rules, sym}
 use Rattle.std.proofs.lemmas.Result.{err_from_is_err_and}
 use Rattle.capnp_dynamic_readers.specs.Seen.{record_seen}
-use Rattle.capnp_request.specs.Bindings.{bounds}
+use Rattle.capnp_request.specs.Steps.Bindings.{bounds}
 use Rattle.capnp_request.specs.Conversion.{fields_of}
-use Rattle.capnp_request.specs.Done.{between}
-use Rattle.capnp_request.specs.Handles.{values_left}
-use Rattle.capnp_request.specs.Nodes.{nodes_of}
+use Rattle.capnp_request.specs.Steps.Done.{between}
+use Rattle.capnp_request.specs.Steps.Handles.{values_left}
+use Rattle.capnp_request.specs.Steps.Nodes.{nodes_of}
 use Rattle.capnp_request.specs.Order.{all_notes}
 use Rattle.capnp_request.specs.Reading.{each_said, field_said}
-use Rattle.capnp_request.specs.StructsSeen.{seen_fields, seen_notes}
+use Rattle.capnp_request.specs.StructsSeen.{seen_notes}
+use Rattle.capnp_request.specs.Steps.StructsSeen.{seen_fields}
 use Rattle.capnp_request.proofs.ListsSaid.{length_of}
 use Rattle.capnp_request.proofs.ListsWalked.{all_made, field_made, field_unmade, field_unread}
 use Rattle.capnp_request.proofs.StructsMade.{fields_in, fields_opened, fields_unread, listed_fields, notes_of_fields}

@@ -1,14 +1,15 @@
 -- What is left are the fields from the next one on.
 use Rattle.std.proofs.Common.{◌≡◌, length}
-use Rattle.capnp_request.specs.Bindings.{bounds}
+use Rattle.capnp_request.specs.Steps.Bindings.{bounds}
 use Rattle.capnp_request.specs.Conversion.{fields_of}
-use Rattle.capnp_request.specs.Done.{between}
-use Rattle.capnp_request.specs.Handles.{values_left}
-use Rattle.capnp_request.specs.Nodes.{nodes_of}
-use Rattle.capnp_request.specs.Numbers.{AreNumbered}
+use Rattle.capnp_request.specs.Steps.Done.{between}
+use Rattle.capnp_request.specs.Steps.Handles.{values_left}
+use Rattle.capnp_request.specs.Steps.Nodes.{nodes_of}
+use Rattle.capnp_request.specs.Steps.Numbers.{AreNumbered}
 use Rattle.capnp_request.specs.Order.{all_notes}
 use Rattle.capnp_request.specs.Reading.{each_said, field_said}
-use Rattle.capnp_request.specs.StructsSeen.{seen_fields, seen_notes}
+use Rattle.capnp_request.specs.StructsSeen.{seen_notes}
+use Rattle.capnp_request.specs.Steps.StructsSeen.{seen_fields}
 use Rattle.capnp_request.proofs.Works.{ahead}
 use Rattle.capnp_request.proofs.structs.fields_of.Given as goal
 

@@ -1,6 +1,6 @@
 -- The parts of the fields so far.
 use Rattle.std.proofs.Common.{◌≡◌, map}
-use Rattle.capnp_request.specs.StructsSeen.{converted_child_types, field_records, field_types}
+use Rattle.capnp_request.specs.Steps.StructsSeen.{converted_child_types, field_records, field_types}
 use Rattle.capnp_request.proofs.structs.parts_of.Given as goal
 
 abbrev pub invariant-loop-field : goal.invariant-loop-field

@@ -3,12 +3,12 @@ use Rattle.std.proofs.lemmas.Result.{err_from_is_err_and}
 use Rattle.capnp_dynamic_readers.specs.Seen.{record_seen}
 use Rattle.capnp_schema.specs.Schema.{seen_field}
 use Rattle.capnp_schema.specs.Types.{seen_type}
-use Rattle.capnp_request.specs.Bindings.{bounds}
+use Rattle.capnp_request.specs.Steps.Bindings.{bounds}
 use Rattle.capnp_request.specs.Conversion.{annotations_of}
-use Rattle.capnp_request.specs.Done.{between}
-use Rattle.capnp_request.specs.Nodes.{nodes_of}
+use Rattle.capnp_request.specs.Steps.Done.{between}
+use Rattle.capnp_request.specs.Steps.Nodes.{nodes_of}
 use Rattle.capnp_request.specs.Reading.{node_said, struct_said}
-use Rattle.capnp_request.specs.StructsSeen.{seen_fields}
+use Rattle.capnp_request.specs.Steps.StructsSeen.{seen_fields}
 use Rattle.capnp_request.proofs.StructsMade.{annotations_on, brand_counted, brand_seen, children_of, children_seen, fields_seen, first_annotations, node_seen, second_types, struct_annotations_refused, struct_fields_refused, struct_given, struct_missing, three_seen, types_seen}
 use Rattle.capnp_request.proofs.structs.struct_of.Goals as goal
 

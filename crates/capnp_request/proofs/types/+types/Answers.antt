@@ -2,12 +2,12 @@ use Rattle.std.proofs.Common.{true, false, drop, None, ◌-◌, ◌≤◌, ◌�
 use Rattle.capnp_schema.specs.Types.{seen_type}
 use Rattle.capnp_records.specs.Part.{which_of}
 use Rattle.capnp_dynamic_readers.specs.Seen.{record_seen}
-use Rattle.capnp_request.specs.Bindings.{bounds, flags, seen_bound, with_nothing}
-use Rattle.capnp_request.specs.Done.{so_far}
-use Rattle.capnp_request.specs.Handles.{values_left}
-use Rattle.capnp_request.specs.Meant.{float_type}
-use Rattle.capnp_request.specs.Nodes.{nodes_of}
-use Rattle.capnp_request.specs.Numbers.{numbered_entries}
+use Rattle.capnp_request.specs.Steps.Bindings.{bounds, flags, seen_bound, with_nothing}
+use Rattle.capnp_request.specs.Steps.Done.{so_far}
+use Rattle.capnp_request.specs.Steps.Handles.{values_left}
+use Rattle.capnp_request.specs.Steps.Meant.{float_type}
+use Rattle.capnp_request.specs.Steps.Nodes.{nodes_of}
+use Rattle.capnp_request.specs.Steps.Numbers.{numbered_entries}
 use Rattle.capnp_request.specs.Parts.{request_read_at}
 use Rattle.capnp_request.specs.Reading.{binding_said, bindings_said, brand_in, enum_term, list_term, scope_said, scopes_said, struct_term, type_said, untyped_term}
 use Rattle.capnp_request.specs.Terms.{Float32, Float64, Interface}

@@ -1,10 +1,10 @@
 use Rattle.std.proofs.Common.{◌+◌, ◌*◌, ◌-◌, ◌≤◌, ◌≡◌, drop, map}
 use Rattle.capnp_schema.specs.Types.{seen_type}
-use Rattle.capnp_request.specs.Bindings.{bounds, with_nothing}
-use Rattle.capnp_request.specs.Done.{so_far}
-use Rattle.capnp_request.specs.Handles.{values_left}
-use Rattle.capnp_request.specs.Nodes.{nodes_of}
-use Rattle.capnp_request.specs.Numbers.{AreNumbered}
+use Rattle.capnp_request.specs.Steps.Bindings.{bounds, with_nothing}
+use Rattle.capnp_request.specs.Steps.Done.{so_far}
+use Rattle.capnp_request.specs.Steps.Handles.{values_left}
+use Rattle.capnp_request.specs.Steps.Nodes.{nodes_of}
+use Rattle.capnp_request.specs.Steps.Numbers.{AreNumbered}
 use Rattle.capnp_request.specs.Reading.{bindings_said, scopes_said, type_said}
 use Rattle.capnp_request.specs.Types.{bind_scope, binding_types, brand_types}
 use Rattle.capnp_request.specs.Work.{each}

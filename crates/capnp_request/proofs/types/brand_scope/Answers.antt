@@ -1,8 +1,8 @@
 use Rattle.std.proofs.Common.{arith, refl, ◌∙◌}
 use Rattle.std.specs.Option.{option_map}
 use Rattle.capnp_dynamic_readers.specs.Seen.{record_seen}
-use Rattle.capnp_request.specs.Handles.{values_left}
-use Rattle.capnp_request.specs.Meant.{scope_in}
+use Rattle.capnp_request.specs.Steps.Handles.{values_left}
+use Rattle.capnp_request.specs.Steps.Meant.{scope_in}
 use Rattle.capnp_request.specs.Reading.{scope_said, scopes_said}
 use Rattle.capnp_request.proofs.Refused.{err_said}
 use Rattle.capnp_request.proofs.ScopesBound.{scope_end, scope_fault, scope_here, scope_next}

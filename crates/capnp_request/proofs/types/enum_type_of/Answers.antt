@@ -1,11 +1,11 @@
 use Rattle.capnp_schema.specs.Types.{seen_type}
 use Rattle.capnp_dynamic_readers.specs.Seen.{record_seen}
-use Rattle.capnp_request.specs.Nodes.{nodes_of}
-use Rattle.capnp_request.specs.Numbers.{numbered_entries}
+use Rattle.capnp_request.specs.Steps.Nodes.{nodes_of}
+use Rattle.capnp_request.specs.Steps.Numbers.{numbered_entries}
 use Rattle.capnp_request.specs.Parts.{request_read_at}
 use Rattle.capnp_request.specs.Reading.{enum_term, type_said}
 use Rattle.capnp_request.specs.Types.{type_of}
-use Rattle.capnp_request.specs.Work.{named_with}
+use Rattle.capnp_request.specs.Steps.Work.{named_with}
 use Rattle.capnp_request.proofs.Refused.{err_done}
 use Rattle.capnp_request.proofs.TypesDone.{enum_done, enum_refused}
 use Rattle.capnp_request.proofs.types.enum_type_of.Goals as goal

@@ -1,5 +1,5 @@
 use Rattle.std.proofs.Common.{ap, arith}
-use Rattle.capnp_request.specs.Meant.{IsPlainMember, type_kind}
+use Rattle.capnp_request.specs.Steps.Meant.{IsPlainMember, type_kind}
 use Rattle.capnp_request.proofs.types.plain_variant.Goals as goal
 
 pub returns-in-0 : goal.returns-in-0

@@ -1,6 +1,6 @@
 use Rattle.std.proofs.Common.{ap, arith, sym, ◌∙◌, Err}
 use Rattle.capnp_dynamic_readers.specs.Seen.{record_seen}
-use Rattle.capnp_request.specs.Bindings.{bounds}
+use Rattle.capnp_request.specs.Steps.Bindings.{bounds}
 use Rattle.capnp_request.proofs.TypesDone.{untyped_bound, untyped_free, untyped_method, untyped_none, untyped_past}
 use Rattle.capnp_request.proofs.types.untyped_or_bound.Goals as goal
 

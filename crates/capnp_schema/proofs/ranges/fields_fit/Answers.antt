@@ -1,7 +1,7 @@
 use Rattle.std.proofs.Common.{arith, map}
 use Rattle.std.proofs.lemmas.List.{length-map}
 use Rattle.capnp_schema.specs.Schema.{Field, seen_field}
-use Rattle.capnp_schema.specs.EntryRanges.{FieldFits}
+use Rattle.capnp_schema.specs.Steps.EntryRanges.{FieldFits}
 use Rattle.capnp_schema.proofs.EntryWalk.{all_stand, is_so_here, more_stand, none_stand, seen_read}
 use Rattle.capnp_schema.proofs.ranges.fields_fit.Goals as goal
 

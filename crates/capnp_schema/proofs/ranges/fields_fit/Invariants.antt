@@ -1,6 +1,6 @@
 use Rattle.std.proofs.Common.{map}
 use Rattle.capnp_schema.specs.Schema.{Field, seen_field}
-use Rattle.capnp_schema.specs.EntryRanges.{FieldFits}
+use Rattle.capnp_schema.specs.Steps.EntryRanges.{FieldFits}
 use Rattle.capnp_schema.proofs.EntryWalk.{StandBelow}
 use Rattle.capnp_schema.proofs.ranges.fields_fit.Given as goal
 

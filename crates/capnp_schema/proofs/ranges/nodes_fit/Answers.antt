@@ -1,7 +1,7 @@
 use Rattle.std.proofs.Common.{arith, map}
 use Rattle.std.proofs.lemmas.List.{length-map}
 use Rattle.capnp_schema.specs.Schema.{Node, seen_node}
-use Rattle.capnp_schema.specs.EntryRanges.{EntryFits}
+use Rattle.capnp_schema.specs.Steps.EntryRanges.{EntryFits}
 use Rattle.capnp_schema.proofs.EntryWalk.{all_stand, is_so_here, more_stand, none_stand, seen_read}
 use Rattle.capnp_schema.proofs.ranges.nodes_fit.Goals as goal
 

@@ -1,6 +1,6 @@
 use Rattle.std.proofs.Common.{map}
 use Rattle.capnp_schema.specs.Schema.{Node, seen_node}
-use Rattle.capnp_schema.specs.EntryRanges.{EntryFits}
+use Rattle.capnp_schema.specs.Steps.EntryRanges.{EntryFits}
 use Rattle.capnp_schema.proofs.EntryWalk.{StandBelow}
 use Rattle.capnp_schema.proofs.ranges.nodes_fit.Given as goal
 

@@ -1,6 +1,6 @@
 use Rattle.std.proofs.Common.{length, map}
 use Rattle.capnp_schema.specs.Schema.{seen_field}
-use Rattle.capnp_schema.specs.Tables.{ArePlaced}
+use Rattle.capnp_schema.specs.Steps.Tables.{ArePlaced}
 use Rattle.capnp_schema.proofs.tables.place_members.Given as goal
 
 abbrev pub invariant-loop-i : goal.invariant-loop-i

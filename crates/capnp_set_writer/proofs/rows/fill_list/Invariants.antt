@@ -2,7 +2,7 @@ use Rattle.std.proofs.Common.{◌≡◌, ℕ, ◌<◌, get_or, map}
 use Rattle.capnp_wire.specs.Tree.{Composite}
 use Rattle.capnp_arena.specs.Forest.{Changes, Forest, tree}
 use Rattle.capnp_arena.specs.Segment.{segment}
-use Rattle.capnp_set_writer.specs.Writes.{blank, filled_rows}
+use Rattle.capnp_set_writer.specs.Steps.Writes.{blank, filled_rows}
 use Rattle.capnp_set_writer.proofs.rows.fill_list.Given as goal
 
 abbrev pub invariant-loop-index : goal.invariant-loop-index

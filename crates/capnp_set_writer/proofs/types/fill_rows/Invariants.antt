@@ -8,7 +8,7 @@ use Rattle.capnp_schema.specs.Types.{SchemaType, seen_type}
 use Rattle.capnp_set_writer.specs.Kept.{TypeKept}
 use Rattle.capnp_set_writer.specs.Limits.{TypesFit}
 use Rattle.capnp_set_writer.specs.Trees.{types_tree}
-use Rattle.capnp_set_writer.specs.Writes.{filled_trees}
+use Rattle.capnp_set_writer.specs.Steps.Writes.{filled_trees}
 use Rattle.capnp_set_writer.proofs.types.fill_rows.Given as goal
 
 abbrev pub invariant-loop-index : goal.invariant-loop-index

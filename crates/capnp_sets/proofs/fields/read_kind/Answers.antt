@@ -3,7 +3,7 @@ use Rattle.capnp_device.specs.declared.error.ErrorKind.TheVariants.{OutOfMemory}
 use Rattle.capnp_schema.specs.Schema.{FieldKind, seen_kind}
 use Rattle.capnp_sets.specs.Causes.{HasCause, SetRead}
 use Rattle.capnp_sets.specs.Fields.{slot_of}
-use Rattle.capnp_sets.specs.Handles.{meta_record_in}
+use Rattle.capnp_sets.specs.Steps.Handles.{meta_record_in}
 use Rattle.capnp_sets.specs.Parts.{struct}
 use Rattle.capnp_sets.proofs.AppliedReads.{made}
 use Rattle.capnp_sets.proofs.Bases.{group_kind, no_kind, other_kind, slot_kind}

@@ -1,7 +1,7 @@
 use Rattle.capnp_schema.specs.Meta.{meta}
 use Rattle.capnp_schema.specs.Schema.{field_at}
 use Rattle.capnp_records.specs.Reading.{element_type}
-use Rattle.capnp_sets.specs.Handles.{meta_record_in}
+use Rattle.capnp_sets.specs.Steps.Handles.{meta_record_in}
 use Rattle.capnp_sets.specs.Parts.{meta_read_at}
 use Rattle.capnp_sets.proofs.PointersSeen.{list_refused, list_taken, list_there}
 use Rattle.capnp_sets.proofs.parts.list_at.Goals as goal

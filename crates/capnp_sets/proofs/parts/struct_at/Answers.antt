@@ -1,4 +1,4 @@
-use Rattle.capnp_sets.specs.Handles.{meta_record_in}
+use Rattle.capnp_sets.specs.Steps.Handles.{meta_record_in}
 use Rattle.capnp_sets.specs.Parts.{meta_read_at}
 use Rattle.capnp_sets.proofs.PointersSeen.{struct_refused, struct_taken, struct_there}
 use Rattle.capnp_sets.proofs.parts.struct_at.Goals as goal

@@ -2,7 +2,7 @@ use Rattle.std.proofs.Common.{arith, ap, map, refl}
 use Rattle.std.proofs.lemmas.Result.{err_from_is_err_and}
 use Rattle.capnp_schema.specs.Meta.{meta_struct}
 use Rattle.capnp_records.specs.Record as value
-use Rattle.capnp_sets.specs.Handles.{meta_record_in, values_in}
+use Rattle.capnp_sets.specs.Steps.Handles.{meta_record_in, values_in}
 use Rattle.capnp_sets.specs.Parts.{struct}
 use Rattle.capnp_sets.proofs.Elements.{map_more, struct_refused, struct_there}
 use Rattle.capnp_sets.proofs.ListsRead.{list_all, list_made_refused, list_more, list_none, list_part_refused}

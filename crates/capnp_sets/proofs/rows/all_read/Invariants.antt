@@ -1,7 +1,7 @@
 -- What the elements so far stand for was read, and the rest is still to be read.
 use Rattle.std.proofs.Common.{map}
 use Rattle.capnp_schema.specs.Meta.{meta_struct}
-use Rattle.capnp_sets.specs.Handles.{values_in}
+use Rattle.capnp_sets.specs.Steps.Handles.{values_in}
 use Rattle.capnp_sets.specs.Parts.{struct}
 use Rattle.capnp_sets.proofs.ListsRead.{ListReadTo}
 use Rattle.capnp_sets.proofs.rows.all_read.Given as goal

@@ -4,7 +4,7 @@ use Rattle.capnp_device.specs.declared.error.ErrorKind.TheVariants.{OutOfMemory}
 use Rattle.capnp_schema.specs.Meta.{meta_struct}
 use Rattle.capnp_records.specs.Record.{Value}
 use Rattle.capnp_sets.specs.Causes.{HasCause}
-use Rattle.capnp_sets.specs.Handles.{meta_record_in, values_in}
+use Rattle.capnp_sets.specs.Steps.Handles.{meta_record_in, values_in}
 use Rattle.capnp_sets.specs.Parts.{meta_read_at, struct, structs}
 use Rattle.capnp_sets.proofs.Faults.{fault_list}
 use Rattle.capnp_sets.proofs.PointersSeen.{list_under, null_there}

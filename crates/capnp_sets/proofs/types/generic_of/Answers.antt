@@ -4,7 +4,7 @@ use Rattle.capnp_wire.specs.Reading.{list_length}
 use Rattle.capnp_wire.specs.Standing.{list_of}
 use Rattle.capnp_schema.specs.Meta.{meta_struct}
 use Rattle.capnp_records.specs.Record as value
-use Rattle.capnp_sets.specs.Handles.{meta_record_in}
+use Rattle.capnp_sets.specs.Steps.Handles.{meta_record_in}
 use Rattle.capnp_sets.proofs.Elements.{struct_refused, struct_there}
 use Rattle.capnp_sets.proofs.Generics.{generic_here, generic_past, generic_refused}
 use Rattle.capnp_sets.proofs.RowsRead.{element_in}

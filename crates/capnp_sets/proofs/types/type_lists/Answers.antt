@@ -4,7 +4,7 @@ use Rattle.capnp_schema.specs.Meta.{meta_structs, meta, meta_struct}
 use Rattle.capnp_schema.specs.Schema.{VoidValue}
 use Rattle.capnp_schema.specs.Types.{seen_type}
 use Rattle.capnp_dynamic_readers.specs.Reads.{pointer_read}
-use Rattle.capnp_sets.specs.Handles.{values_in}
+use Rattle.capnp_sets.specs.Steps.Handles.{values_in}
 use Rattle.capnp_sets.specs.Parts.{struct}
 use Rattle.capnp_sets.specs.Types.{type_meant, types}
 use Rattle.capnp_sets.proofs.Elements.{map_more, pointer_seen}

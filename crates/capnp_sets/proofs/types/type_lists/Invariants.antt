@@ -2,7 +2,7 @@
 use Rattle.std.proofs.Common.{map}
 use Rattle.capnp_schema.specs.Meta.{meta_structs}
 use Rattle.capnp_schema.specs.Types.{seen_type}
-use Rattle.capnp_sets.specs.Handles.{values_in}
+use Rattle.capnp_sets.specs.Steps.Handles.{values_in}
 use Rattle.capnp_sets.specs.Types.{types}
 use Rattle.capnp_sets.proofs.ListsRead.{ListReadTo}
 use Rattle.capnp_sets.proofs.types.type_lists.Given as goal

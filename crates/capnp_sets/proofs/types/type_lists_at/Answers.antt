@@ -5,7 +5,7 @@ use Rattle.capnp_schema.specs.Meta.{meta_structs}
 use Rattle.capnp_schema.specs.Types.{seen_type}
 use Rattle.capnp_records.specs.Record.{Value}
 use Rattle.capnp_sets.specs.Causes.{HasCause}
-use Rattle.capnp_sets.specs.Handles.{meta_record_in, values_in}
+use Rattle.capnp_sets.specs.Steps.Handles.{meta_record_in, values_in}
 use Rattle.capnp_sets.specs.Parts.{meta_read_at}
 use Rattle.capnp_sets.specs.Types.{type_lists, types}
 use Rattle.capnp_sets.proofs.Faults.{fault_list}

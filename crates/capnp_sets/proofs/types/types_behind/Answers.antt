@@ -8,7 +8,7 @@ use Rattle.capnp_schema.specs.Schema.{VoidValue}
 use Rattle.capnp_schema.specs.Types.{seen_type}
 use Rattle.capnp_records.specs.Record.{Value}
 use Rattle.capnp_sets.specs.Causes.{HasCause}
-use Rattle.capnp_sets.specs.Handles.{values_in}
+use Rattle.capnp_sets.specs.Steps.Handles.{values_in}
 use Rattle.capnp_sets.specs.Types.{types}
 use Rattle.capnp_sets.proofs.Faults.{fault_list}
 use Rattle.capnp_sets.specs.Parts.{struct}

@@ -1,7 +1,7 @@
 use Rattle.std.proofs.Common.{ℕ, List, arith, ap, refl, sym, ◌∙◌, ◌≡◌, Ok}
 use Rattle.std.proofs.lemmas.Result.{err_from_is_err_and}
 use Rattle.capnp_schema.specs.Schema.{DataValue, StructValue, TextValue}
-use Rattle.capnp_sets.specs.Handles.{meta_record_in}
+use Rattle.capnp_sets.specs.Steps.Handles.{meta_record_in}
 use Rattle.capnp_sets.specs.Values.{value_by}
 use Rattle.capnp_sets.proofs.AppliedReads.{cause_right, made}
 use Rattle.capnp_sets.proofs.Bases.{list_made, only_memory, past_kinds}

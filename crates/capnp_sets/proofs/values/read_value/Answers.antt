@@ -2,7 +2,7 @@ use Rattle.std.proofs.Common.{subst, sym, ◌≡◌, ◌≢◌, IfErr, IfOk, Ok}
 use Rattle.capnp_device.specs.declared.error.ErrorKind.TheVariants.{OutOfMemory}
 use Rattle.capnp_schema.specs.Schema.{Value as SchemaValue, seen_value}
 use Rattle.capnp_sets.specs.Causes.{HasCause, SetRead}
-use Rattle.capnp_sets.specs.Handles.{meta_record_in}
+use Rattle.capnp_sets.specs.Steps.Handles.{meta_record_in}
 use Rattle.capnp_sets.specs.Values.{value_meant}
 use Rattle.capnp_sets.proofs.Bases.{by_member, no_member, whatever_memory}
 use Rattle.capnp_sets.proofs.values.read_value.Goals as goal

@@ -2,7 +2,8 @@ use Rattle.std.proofs.Common.{◌≡◌, ◌+◌, ◌≤◌, ℕ, length}
 use Rattle.capnp_arena.specs.Built.{ChangesIn, IsBuilt, built_at}
 use Rattle.capnp_schema.specs.StructHandles.{number_of, set_of, struct_fields}
 use Rattle.capnp_records.specs.Writes.Slots.{Fits}
-use Rattle.capnp_slots.specs.Groups.{KeepsSize, cleared_through}
+use Rattle.capnp_slots.specs.Groups.{KeepsSize}
+use Rattle.capnp_slots.specs.Steps.Groups.{cleared_through}
 use Rattle.capnp_slots.proofs.GroupWays.{left_of, steps_of}
 use Rattle.capnp_slots.proofs.group.clear_group.Given as goal
 

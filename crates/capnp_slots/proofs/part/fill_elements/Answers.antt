@@ -12,7 +12,7 @@ use Rattle.capnp_schema.specs.Schema.{Schemas}
 use Rattle.capnp_schema.specs.StructHandles.{number_of}
 use Rattle.capnp_schema.specs.Types.{SchemaType, StructType, seen_type, seen_variant}
 use Rattle.capnp_schema.specs.Plan.{brand_size}
-use Rattle.capnp_slots.specs.Fills.{HoldsThere, IsListFilled}
+use Rattle.capnp_slots.specs.Steps.Fills.{HoldsThere, IsListFilled}
 use Rattle.capnp_slots.proofs.Filled.{is_plain}
 use Rattle.capnp_slots.proofs.FilledSlots.{made-filled}
 use Rattle.capnp_slots.proofs.Places.{same_struct}

@@ -2,7 +2,7 @@
 use Rattle.std.proofs.Common.{ap, ◌∙◌}
 use Rattle.capnp_schema.specs.Facts.Layers.{seen_which}
 use Rattle.capnp_schema.specs.Types.{seen_variant}
-use Rattle.capnp_slots.specs.Primitives.{refusal_at}
+use Rattle.capnp_slots.specs.Steps.Primitives.{refusal_at}
 use Rattle.capnp_slots.proofs.slot.refuse_at.Goals as goal
 
 pub returns : goal.returns

@@ -1,6 +1,7 @@
 -- What is left of the walk's frames is appended of the whole, and the path is that of the innermost of them.
 use Rattle.std.proofs.Common.{◌≡◌, ◌+◌, [], string_bytes}
-use Rattle.capnp_schema.specs.GroupWalks.{above, frames, steps_left, walk_depth, walk_set}
+use Rattle.capnp_schema.specs.GroupWalks.{above, frames, walk_depth, walk_set}
+use Rattle.capnp_schema.specs.Steps.GroupWalks.{steps_left}
 use Rattle.capnp_schema.specs.StructHandles.{number_of, set_of}
 use Rattle.capnp_structs.specs.Fields.{fields_within}
 use Rattle.capnp_structs.proofs.Walked.{AreWaiting, path_under}

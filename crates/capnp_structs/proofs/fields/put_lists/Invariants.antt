@@ -1,7 +1,7 @@
 -- What is left is a piece for each list around the inner type.
 use Rattle.std.proofs.Common.{◌≡◌, ◌++◌, string_bytes}
 use Rattle.capnp_base.specs.Types.{list_depth}
-use Rattle.capnp_structs.specs.Fields.{repeated_words}
+use Rattle.capnp_structs.specs.Steps.Fields.{repeated_words}
 use Rattle.capnp_structs.proofs.fields.put_lists.Given as goal
 
 abbrev pub invariant-loop-element : goal.invariant-loop-element

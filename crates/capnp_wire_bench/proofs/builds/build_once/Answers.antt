@@ -2,7 +2,7 @@ use Rattle.std.proofs.Common.{rules, List, ℕ, arith, refl, subst}
 use Rattle.capnp_arena.specs.Facts.Calls.{one_by_one}
 use Rattle.capnp_arena.specs.Forest.{Changes, Forest, tree}
 use Rattle.capnp_arena.specs.Segment.{segment}
-use Rattle.capnp_wire_bench.specs.Items.{AreItems}
+use Rattle.capnp_wire_bench.specs.Steps.Items.{AreItems}
 use Rattle.capnp_wire_bench.proofs.ArenaItems.{root_left}
 use Rattle.capnp_wire_bench.proofs.Lists.{new}
 use Rattle.capnp_wire_bench.proofs.builds.build_once.Goals as goal

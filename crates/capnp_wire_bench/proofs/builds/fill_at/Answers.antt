@@ -1,7 +1,7 @@
 use Rattle.std.proofs.Common.{rules, List, ℕ, subst}
 use Rattle.capnp_arena.specs.Forest.{struct_from, tree}
 use Rattle.capnp_arena.specs.Segment.{segment}
-use Rattle.capnp_wire_bench.specs.Items.{AreItems}
+use Rattle.capnp_wire_bench.specs.Steps.Items.{AreItems}
 use Rattle.capnp_wire_bench.proofs.Lists.{size, still, there}
 use Rattle.capnp_wire_bench.proofs.builds.fill_at.Goals as goal
 

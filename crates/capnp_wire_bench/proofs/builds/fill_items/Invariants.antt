@@ -1,6 +1,6 @@
 use Rattle.capnp_arena.specs.Forest.{Changes, Forest, tree}
 use Rattle.capnp_arena.specs.Segment.{segment}
-use Rattle.capnp_wire_bench.specs.Items.{AreItems}
+use Rattle.capnp_wire_bench.specs.Steps.Items.{AreItems}
 use Rattle.capnp_wire_bench.proofs.builds.fill_items.Given as goal
 
 abbrev pub invariant-loop-index : goal.invariant-loop-index

@@ -1,6 +1,7 @@
 use Rattle.std.proofs.Common.{◌≡◌, ◌+◌, ◌++◌, drop}
 use Rattle.capnp_words.specs.Reads.{read_as}
-use Rattle.capnp_words.specs.Quoted.{IsReached, quoted_at}
+use Rattle.capnp_words.specs.Quoted.{quoted_at}
+use Rattle.capnp_words.specs.Steps.Quoted.{IsReached}
 use Rattle.capnp_words.proofs.quoted.read_quoted.Given as goal
 
 abbrev pub invariant-loop-index : goal.invariant-loop-index

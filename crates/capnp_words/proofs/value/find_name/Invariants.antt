@@ -1,7 +1,7 @@
 use Rattle.std.proofs.Common.{◌≡◌, drop}
 use Rattle.capnp_schema.specs.Enumerants.{enum_of_list}
 use Rattle.capnp_words.specs.Words.{name_among}
-use Rattle.capnp_words.specs.Values.{enumerant_names}
+use Rattle.capnp_words.specs.Steps.Values.{enumerant_names}
 use Rattle.capnp_words.proofs.value.find_name.Given as goal
 
 abbrev pub invariant-loop-ordinal : goal.invariant-loop-ordinal

@@ -3,12 +3,12 @@ use Rattle.std.specs.Prelude.{None}
 use Rattle.std.proofs.lemmas.Result.{err_from_is_err_and}
 use Rattle.capnp_wire.specs.Edits.{IsCopyRefusal, fitted_struct}
 use Rattle.capnp_wire.specs.Facts.Structs.{length-fitted}
-use Rattle.capnp_wire.specs.Filling.{with_encoded_element}
+use Rattle.capnp_wire.specs.Steps.Filling.{with_encoded_element}
 use Rattle.capnp_wire.specs.Found.{parts_tree}
 use Rattle.capnp_wire.specs.Tree.{StructTree, tree_count}
 use Rattle.capnp_wire.specs.WellFormed.{IsWellFormedStruct}
 use Rattle.capnp_wire.specs.Words.{first_fault_of_all}
-use Rattle.capnp_arena.specs.Copies.{fitted_row}
+use Rattle.capnp_arena.specs.Steps.Copies.{fitted_row}
 use Rattle.capnp_arena.specs.Forest.{Planted}
 use Rattle.capnp_arena.specs.Shape.{StructIn, word_count}
 use Rattle.capnp_arena.proofs.Replaced.{IsContent, content_made, fitted_count, fitted_held, fitted_refused, fitted_sound}

@@ -2,10 +2,10 @@ use Rattle.std.proofs.Common.{arith, ◌≡◌, ◌+◌, ◌*◌, length, ap, �
 use Rattle.capnp_wire.specs.Edits.{fitted_struct}
 use Rattle.capnp_wire.specs.Facts.Filling.{element_put}
 use Rattle.capnp_wire.specs.Facts.Structs.{length-fitted, tree_count-fitted}
-use Rattle.capnp_wire.specs.Filling.{bytes_with, with_pointers}
+use Rattle.capnp_wire.specs.Steps.Filling.{bytes_with, with_pointers}
 use Rattle.capnp_wire.specs.Found.{parts_tree, pointer_trees}
 use Rattle.capnp_wire.specs.Place.{bytes_at}
-use Rattle.capnp_arena.specs.Copies.{Spares, fitted_row}
+use Rattle.capnp_arena.specs.Steps.Copies.{Spares, fitted_row}
 use Rattle.capnp_arena.proofs.Copying.{element_kept}
 use Rattle.capnp_arena.proofs.Replaced.{put_back}
 use Rattle.capnp_arena.proofs.arena.Arena.fill_content.Goals as goal

@@ -1,6 +1,6 @@
 use Rattle.std.proofs.Common.{rules, ◌∙◌, ◌≡◌, Err, ap, false, sym, true}
 use Rattle.capnp_wire.specs.Reading.{as_list, reads_structs}
-use Rattle.capnp_arena.specs.Reads.{reads_kind}
+use Rattle.capnp_arena.specs.Steps.Reads.{reads_kind}
 use Rattle.capnp_arena.proofs.ListsRead.{plain_got, plain_refused, structs_got, structs_refused}
 use Rattle.capnp_arena.proofs.Refusals.{null_is}
 use Rattle.capnp_arena.specs.Facts.Structs.{tree_struct}

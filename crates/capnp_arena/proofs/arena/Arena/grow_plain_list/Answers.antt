@@ -3,7 +3,7 @@ use Rattle.std.specs.Prelude.{IfOk}
 use Rattle.std.proofs.lemmas.Result.{IfErr-weaker, on_ok_weaker}
 use Rattle.capnp_wire.specs.StructLists.{IsDueRefusal}
 use Rattle.capnp_arena.specs.Forest.{tree}
-use Rattle.capnp_arena.specs.Grown.{IsPartList, kind_pointers, kind_words, pointerless_parts}
+use Rattle.capnp_arena.specs.Steps.Grown.{IsPartList, kind_pointers, kind_words, pointerless_parts}
 use Rattle.capnp_arena.proofs.PartLists.{plain_list}
 use Rattle.capnp_arena.proofs.StructListTrees.{plain_becomes, plain_refusal, simple_small}
 use Rattle.capnp_arena.proofs.arena.Arena.grow_plain_list.Goals as goal

@@ -3,7 +3,7 @@ use Rattle.std.specs.Prelude.{IfOk}
 use Rattle.std.proofs.lemmas.Result.{IfErr-weaker, on_ok_weaker}
 use Rattle.capnp_wire.specs.StructLists.{IsDueRefusal}
 use Rattle.capnp_arena.specs.Forest.{tree}
-use Rattle.capnp_arena.specs.Grown.{IsPartList}
+use Rattle.capnp_arena.specs.Steps.Grown.{IsPartList}
 use Rattle.capnp_arena.proofs.PartLists.{struct_parts_list}
 use Rattle.capnp_arena.proofs.StructListTrees.{structs_become, structs_refusal}
 use Rattle.capnp_arena.proofs.arena.Arena.grow_struct_list.Goals as goal

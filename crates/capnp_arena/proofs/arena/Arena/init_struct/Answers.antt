@@ -1,5 +1,5 @@
 use Rattle.std.proofs.Common.{replicate, ◌*◌, rules, arith, ◌≡◌, ◌+◌, ◌/◌, ◌<◌, ◌^◌, List, ℕ, sym, ap, ◌∙◌, subst}
-use Rattle.capnp_arena.specs.Made.{IsObjectMade, struct_pointer, struct_start}
+use Rattle.capnp_arena.specs.Steps.Made.{IsObjectMade, struct_pointer, struct_start}
 use Rattle.capnp_arena.specs.Shape.{word_count}
 use Rattle.capnp_arena.proofs.Made.{IsNewStruct, struct_made}
 use Rattle.capnp_arena.proofs.arena.Arena.init_struct.Goals as goal

@@ -1,5 +1,5 @@
 use Rattle.std.proofs.Common.{◌∙◌, ap, sym}
-use Rattle.capnp_arena.specs.Reads.{is_list_shape}
+use Rattle.capnp_arena.specs.Steps.Reads.{is_list_shape}
 use Rattle.capnp_arena.proofs.TreeKinds.{list_is}
 use Rattle.capnp_arena.proofs.arena.Arena.is_list.Goals as goal
 

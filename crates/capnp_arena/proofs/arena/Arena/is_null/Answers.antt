@@ -1,5 +1,5 @@
 use Rattle.std.proofs.Common.{◌∙◌, ap, sym}
-use Rattle.capnp_arena.specs.Reads.{is_no_shape}
+use Rattle.capnp_arena.specs.Steps.Reads.{is_no_shape}
 use Rattle.capnp_arena.proofs.TreeKinds.{null_is}
 use Rattle.capnp_arena.proofs.arena.Arena.is_null.Goals as goal
 

@@ -1,6 +1,6 @@
 use Rattle.std.proofs.Common.{◌*◌, ◌∙◌, ap, arith, length, take}
 use Rattle.capnp_wire.specs.Encoding.{spelled_number}
-use Rattle.capnp_wire.specs.Filling.{bytes_with}
+use Rattle.capnp_wire.specs.Steps.Filling.{bytes_with}
 use Rattle.capnp_arena.specs.Facts.Forests.{points}
 use Rattle.capnp_arena.specs.Facts.Shapes.{itself_inside}
 use Rattle.capnp_arena.proofs.Restored.{taken_back}

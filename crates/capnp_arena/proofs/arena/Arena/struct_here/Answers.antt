@@ -1,5 +1,5 @@
 use Rattle.std.proofs.Common.{◌∙◌, ap, false, sym, true, ◌≡◌}
-use Rattle.capnp_arena.specs.Reads.{is_struct_shape}
+use Rattle.capnp_arena.specs.Steps.Reads.{is_struct_shape}
 use Rattle.capnp_arena.proofs.TreeKinds.{struct_is}
 use Rattle.capnp_arena.proofs.arena.Arena.struct_here.Goals as goal
 

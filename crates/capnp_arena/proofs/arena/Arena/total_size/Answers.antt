@@ -2,7 +2,7 @@ use Rattle.std.proofs.Common.{◌+◌, ◌^◌, ◌<◌, ◌≤◌, arith, refl,
 use Rattle.capnp_wire.specs.Depth.{AreBelow}
 use Rattle.capnp_wire.specs.Tree.{trees_from}
 use Rattle.capnp_wire.specs.Words.{words_of_all}
-use Rattle.capnp_arena.specs.Counts.{IsCounted}
+use Rattle.capnp_arena.specs.Steps.Counts.{IsCounted}
 use Rattle.capnp_arena.specs.Forest.{tree}
 use Rattle.std.specs.Prelude.{Some}
 use Rattle.capnp_arena.specs.Segment.{segment}

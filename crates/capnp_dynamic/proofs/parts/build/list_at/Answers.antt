@@ -4,7 +4,8 @@ use Rattle.std.proofs.lemmas.Result.{err_from_is_err_and}
 use Rattle.capnp_dynamic.specs.Built.{built_element}
 use Rattle.capnp_dynamic.specs.Handed.{HandsElement, IsElementPartRefusal, IsElementWithin}
 use Rattle.capnp_dynamic.specs.Owners.{IsElementGot}
-use Rattle.capnp_dynamic.specs.Taken.{IsNoList, is_list_type}
+use Rattle.capnp_dynamic.specs.Taken.{is_list_type}
+use Rattle.capnp_dynamic.specs.Steps.Taken.{IsNoList}
 use Rattle.capnp_dynamic.specs.declared.dynamic_value.build.Builder.TheVariants as built
 use Rattle.capnp_dynamic_readers.specs.Facts.Taken.{taken}
 use Rattle.capnp_dynamic.proofs.Taken.{is_taken, mismatched, no_list_there}

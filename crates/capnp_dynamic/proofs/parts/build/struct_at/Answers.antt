@@ -4,7 +4,8 @@ use Rattle.std.proofs.lemmas.Result.{err_from_is_err_and}
 use Rattle.capnp_dynamic.specs.Built.{built_element}
 use Rattle.capnp_dynamic.specs.Handed.{HandsElement, IsElementPartRefusal, IsElementWithin}
 use Rattle.capnp_dynamic.specs.Owners.{IsElementGot}
-use Rattle.capnp_dynamic.specs.Taken.{IsNoStruct, is_struct_type}
+use Rattle.capnp_dynamic.specs.Taken.{is_struct_type}
+use Rattle.capnp_dynamic.specs.Steps.Taken.{IsNoStruct}
 use Rattle.capnp_dynamic.specs.declared.dynamic_value.build.Builder.TheVariants as built
 use Rattle.capnp_dynamic_readers.specs.Facts.Taken.{taken}
 use Rattle.capnp_dynamic.proofs.Taken.{mismatched, no_struct_there}

@@ -5,7 +5,8 @@ use Rattle.capnp_schema.specs.FieldLists.{typed_of}
 use Rattle.capnp_dynamic.specs.Built.{built_struct, place_of, struct_behind}
 use Rattle.capnp_dynamic.specs.Handed.{HandsField, IsPartRefusal, IsPartWithin}
 use Rattle.capnp_dynamic.specs.Owners.{IsGotOf}
-use Rattle.capnp_dynamic.specs.Taken.{IsNoStruct, hands_struct}
+use Rattle.capnp_dynamic.specs.Taken.{hands_struct}
+use Rattle.capnp_dynamic.specs.Steps.Taken.{IsNoStruct}
 use Rattle.capnp_dynamic.specs.declared.dynamic_value.build.Builder.TheVariants as built
 use Rattle.capnp_dynamic_readers.specs.Facts.Taken.{taken}
 use Rattle.capnp_dynamic.proofs.Taken.{is_taken, mismatched, no_struct}

@@ -13,7 +13,7 @@ use Rattle.capnp_schema.specs.declared.schema.structs.StructSchema.{StructSchema
 use Rattle.capnp_schema.specs.Facts.Layers.{seen_which}
 use Rattle.capnp_records.specs.Record.{Left}
 use Rattle.capnp_dynamic_readers.specs.Handles.{reader_of, schema_of}
-use Rattle.capnp_dynamic_readers.specs.Planned.{IsSound, placed_read}
+use Rattle.capnp_dynamic_readers.specs.Steps.Planned.{IsSound, placed_read}
 use Rattle.capnp_dynamic_readers.specs.Typed.{IsOf}
 use Rattle.capnp_dynamic_readers.proofs.FieldHandles.{same_field, same_read}
 use Rattle.capnp_dynamic_readers.proofs.PlacedReads.{field_placed, place_sound}

@@ -8,7 +8,7 @@ use Rattle.capnp_schema.specs.declared.schema.structs.StructSchema.{StructSchema
 use Rattle.capnp_schema.specs.Facts.Layers.{seen_which}
 use Rattle.capnp_records.specs.Record.{Left}
 use Rattle.capnp_dynamic_readers.specs.Handles.{reader_of}
-use Rattle.capnp_dynamic_readers.specs.Planned.{planned_has}
+use Rattle.capnp_dynamic_readers.specs.Steps.Planned.{planned_has}
 use Rattle.capnp_dynamic_readers.proofs.FieldHandles.{same_has}
 use Rattle.capnp_dynamic_readers.specs.Facts.HasWhich.{has_by_plan}
 use Rattle.capnp_dynamic_readers.proofs.dynamic_struct.Reader.has.Goals as goal

@@ -8,7 +8,7 @@ use Rattle.capnp_schema.specs.declared.schema.structs.StructSchema.{StructSchema
 use Rattle.capnp_records.specs.Record.{Left}
 use Rattle.capnp_dynamic_readers.specs.Facts.HasWhich.{active_by_plan}
 use Rattle.capnp_dynamic_readers.specs.Handles.{reader_of}
-use Rattle.capnp_dynamic_readers.specs.Planned.{member_there}
+use Rattle.capnp_dynamic_readers.specs.Steps.Planned.{member_there}
 use Rattle.capnp_dynamic_readers.proofs.FieldHandles.{same_active}
 use Rattle.capnp_dynamic_readers.proofs.dynamic_struct.Reader.is_active.Goals as goal
 

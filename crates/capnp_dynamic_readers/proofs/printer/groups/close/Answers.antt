@@ -1,7 +1,7 @@
 use Rattle.std.proofs.Common.{refl, subst, ◌++◌}
 use Rattle.std.specs.Prelude.{codes}
 use Rattle.capnp_records.specs.Text.{Layout, line, said_text}
-use Rattle.capnp_dynamic_readers.specs.Pieces.{IsPut}
+use Rattle.capnp_dynamic_readers.specs.Steps.Pieces.{IsPut}
 use Rattle.capnp_dynamic_readers.proofs.Streams.{two_put}
 use Rattle.capnp_dynamic_readers.proofs.printer.groups.close.Goals as goal
 

@@ -1,5 +1,5 @@
 use Rattle.std.specs.Prelude.{codes, flat_map}
-use Rattle.capnp_dynamic_readers.specs.Leaf.{two_digits}
+use Rattle.capnp_dynamic_readers.specs.Steps.Leaf.{two_digits}
 use Rattle.capnp_dynamic_readers.proofs.Streams.{three_put}
 use Rattle.capnp_dynamic_readers.proofs.printer.leaves.put_data.Goals as goal
 

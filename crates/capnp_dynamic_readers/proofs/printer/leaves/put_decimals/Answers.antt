@@ -1,6 +1,6 @@
 use Rattle.std.proofs.Common.{ℕ, rules, subst, decimal}
 use Rattle.capnp_records.specs.Text.{said_text}
-use Rattle.capnp_dynamic_readers.specs.Pieces.{IsPut}
+use Rattle.capnp_dynamic_readers.specs.Steps.Pieces.{IsPut}
 use Rattle.capnp_dynamic_readers.proofs.Pieces.{more_decimals, no_decimals}
 use Rattle.capnp_dynamic_readers.proofs.printer.leaves.put_decimals.Goals as goal
 

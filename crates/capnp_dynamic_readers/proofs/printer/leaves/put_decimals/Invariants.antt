@@ -1,6 +1,6 @@
 use Rattle.std.proofs.Common.{take}
 use Rattle.capnp_records.specs.Text.{decimals, said_text}
-use Rattle.capnp_dynamic_readers.specs.Pieces.{IsPut}
+use Rattle.capnp_dynamic_readers.specs.Steps.Pieces.{IsPut}
 use Rattle.capnp_dynamic_readers.proofs.printer.leaves.put_decimals.Given as goal
 
 abbrev pub invariant-loop-i : goal.invariant-loop-i

@@ -1,5 +1,5 @@
 use Rattle.std.proofs.Common.{arith, get_or}
-use Rattle.capnp_dynamic_readers.specs.Leaf.{two_digits}
+use Rattle.capnp_dynamic_readers.specs.Steps.Leaf.{two_digits}
 use Rattle.capnp_dynamic_readers.proofs.Pieces.{byte_put, more_put}
 use Rattle.capnp_dynamic_readers.proofs.Streams.{nothing_put}
 use Rattle.capnp_dynamic_readers.proofs.printer.leaves.put_digits.Goals as goal

@@ -1,8 +1,8 @@
 use Rattle.std.proofs.Common.{take}
 use Rattle.std.specs.Prelude.{flat_map}
-use Rattle.capnp_dynamic_readers.specs.Leaf.{two_digits}
+use Rattle.capnp_dynamic_readers.specs.Steps.Leaf.{two_digits}
 use Rattle.capnp_records.specs.Text.{said_text}
-use Rattle.capnp_dynamic_readers.specs.Pieces.{IsPut}
+use Rattle.capnp_dynamic_readers.specs.Steps.Pieces.{IsPut}
 use Rattle.capnp_dynamic_readers.proofs.printer.leaves.put_digits.Given as goal
 
 abbrev pub invariant-loop-i : goal.invariant-loop-i

@@ -1,7 +1,7 @@
 use Rattle.std.proofs.Common.{◌∙◌, sym, false, true}
 use Rattle.capnp_schema.specs.FieldLists.{index_of}
 use Rattle.capnp_dynamic_readers.specs.Handles.{schema_of}
-use Rattle.capnp_dynamic_readers.specs.PartsRead.{field_in}
+use Rattle.capnp_dynamic_readers.specs.Steps.PartsRead.{field_in}
 use Rattle.capnp_dynamic_readers.proofs.GroupSteps.{active_member, active_which, item_of_active, item_of_inactive, item_of_plain, member_from}
 use Rattle.capnp_dynamic_readers.proofs.ItemsShown.{belongs}
 use Rattle.capnp_dynamic_readers.proofs.printer.parts.has_item.Goals as goal

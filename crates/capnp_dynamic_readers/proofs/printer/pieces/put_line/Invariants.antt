@@ -1,6 +1,6 @@
 use Rattle.std.proofs.Common.{◌∷◌, ◌*◌, replicate}
 use Rattle.capnp_records.specs.Text.{said_text}
-use Rattle.capnp_dynamic_readers.specs.Pieces.{IsPut}
+use Rattle.capnp_dynamic_readers.specs.Steps.Pieces.{IsPut}
 use Rattle.capnp_dynamic_readers.proofs.printer.pieces.put_line.Given as goal
 
 abbrev pub invariant-loop-step : goal.invariant-loop-step

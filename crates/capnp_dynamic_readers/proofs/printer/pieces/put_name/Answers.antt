@@ -3,7 +3,7 @@ use Rattle.std.specs.Prelude.{codes}
 use Rattle.capnp_schema.specs.FieldLists.{typed_of}
 use Rattle.capnp_schema.specs.Schema.{Field as FieldRecord}
 use Rattle.capnp_records.specs.Text.{said_text, separator}
-use Rattle.capnp_dynamic_readers.specs.Pieces.{IsPut}
+use Rattle.capnp_dynamic_readers.specs.Steps.Pieces.{IsPut}
 use Rattle.capnp_dynamic_readers.proofs.Steps.{ok_map}
 use Rattle.capnp_dynamic_readers.proofs.Streams.{three_put}
 use Rattle.capnp_dynamic_readers.proofs.printer.pieces.put_name.Goals as goal

@@ -6,10 +6,10 @@ use Rattle.capnp_schema.specs.StructHandles.{struct_fields}
 use Rattle.capnp_schema.specs.Types.{seen_type}
 use Rattle.capnp_schema.specs.declared.schema.structs.StructSchema.{StructSchema}
 use Rattle.capnp_records.specs.Text.{said_text}
-use Rattle.capnp_dynamic_readers.specs.GroupTexts.{has_fields, onward_of}
+use Rattle.capnp_dynamic_readers.specs.Steps.GroupTexts.{has_fields, onward_of}
 use Rattle.capnp_dynamic_readers.specs.Handles.{element_of}
-use Rattle.capnp_dynamic_readers.specs.PartsRead.{fault_at, field_in}
-use Rattle.capnp_dynamic_readers.specs.Shown.{field_shown, record_shown, value_shown}
+use Rattle.capnp_dynamic_readers.specs.Steps.PartsRead.{fault_at, field_in}
+use Rattle.capnp_dynamic_readers.specs.Steps.Shown.{field_shown, record_shown, value_shown}
 use Rattle.capnp_dynamic_readers.proofs.GroupSteps.{begins, done_of, fewer_out, field_here, group-field, group-set, if_ok_map, is_at, leads_end, leads_out, no_record, out_small, outside_of, start_small, step_empty, step_in, step_over, step_past, stopped_later, stopped_there}
 use Rattle.capnp_dynamic_readers.proofs.PutSteps.{elements_after, elements_put, elements_refused, elements_stopped, list_was_put, list_stopped, list_stopped_inside, struct_put, struct_stopped}
 use Rattle.capnp_dynamic_readers.proofs.Steps.{full_stopped, leaf_from, err_map, leaf_put, list_put, ok_map, stopped_by}

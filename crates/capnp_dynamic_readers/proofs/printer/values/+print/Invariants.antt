@@ -2,9 +2,9 @@ use Rattle.std.proofs.Common.{◌+◌, ◌*◌, ◌-◌, true}
 use Rattle.std.specs.Prelude.{◌==◌, ◌<◌, ◌^◌}
 use Rattle.capnp_schema.specs.GroupWalks.{walk_depth}
 use Rattle.capnp_records.specs.Text.{more_text}
-use Rattle.capnp_dynamic_readers.specs.GroupTexts.{onward_of, steps_onward}
-use Rattle.capnp_dynamic_readers.specs.Pieces.{Leads}
-use Rattle.capnp_dynamic_readers.specs.Shown.{count_of, element_items, record_shown}
+use Rattle.capnp_dynamic_readers.specs.Steps.GroupTexts.{onward_of, steps_onward}
+use Rattle.capnp_dynamic_readers.specs.Steps.Pieces.{Leads}
+use Rattle.capnp_dynamic_readers.specs.Steps.Shown.{count_of, element_items, record_shown}
 use Rattle.capnp_dynamic_readers.proofs.printer.values.+print.Given as goal
 
 abbrev pub decreases-print_value : goal.decreases-print_value

@@ -1,9 +1,9 @@
 use Rattle.std.proofs.Common.{◌∙◌, ap, map, refl, sym, Ok}
 use Rattle.std.proofs.lemmas.Result.{err_from_is_err_and}
 use Rattle.capnp_schema.specs.Schema.{seen_enum}
-use Rattle.capnp_request.specs.Done.{between}
-use Rattle.capnp_request.specs.Nodes.{nodes_of}
-use Rattle.capnp_request.specs.ProgressSeen.{made_of}
+use Rattle.capnp_request.specs.Steps.Done.{between}
+use Rattle.capnp_request.specs.Steps.Nodes.{nodes_of}
+use Rattle.capnp_request.specs.Steps.ProgressSeen.{made_of}
 use Rattle.capnp_request.proofs.Numbering.{map_more}
 use Rattle.capnp_request.proofs.OrderMade.{enum_done, enum_refused, enum_unmade, same_made}
 use Rattle.capnp_request.proofs.conversion.Progress.add_enum.Goals as goal

@@ -2,12 +2,12 @@ use Rattle.std.proofs.Common.{◌≡◌, ◌∙◌, ap, length, map, refl, strin
 use Rattle.std.proofs.lemmas.Result.{err_from_is_err_and}
 use Rattle.capnp_dynamic_readers.specs.Seen.{record_seen}
 use Rattle.capnp_schema.specs.Schema.{seen_brand, seen_enum, seen_node}
-use Rattle.capnp_request.specs.Bindings.{bounds}
-use Rattle.capnp_request.specs.Done.{between}
-use Rattle.capnp_request.specs.Nodes.{nodes_of}
-use Rattle.capnp_request.specs.ProgressSeen.{begun_of, made_of}
+use Rattle.capnp_request.specs.Steps.Bindings.{bounds}
+use Rattle.capnp_request.specs.Steps.Done.{between}
+use Rattle.capnp_request.specs.Steps.Nodes.{nodes_of}
+use Rattle.capnp_request.specs.Steps.ProgressSeen.{begun_of, made_of}
 use Rattle.capnp_request.specs.Reading.{node_said}
-use Rattle.capnp_request.specs.StructsSeen.{seen_struct}
+use Rattle.capnp_request.specs.Steps.StructsSeen.{seen_struct}
 use Rattle.capnp_request.proofs.BrandsMade.{brand_made}
 use Rattle.capnp_request.proofs.Numbering.{map_more}
 use Rattle.capnp_request.proofs.OrderMade.{same_made}

@@ -1,11 +1,11 @@
 use Rattle.std.proofs.Common.{◌≡◌, ap, length, rules}
 use Rattle.std.proofs.lemmas.Result.{err_from_is_err_and}
 use Rattle.capnp_dynamic_readers.specs.Seen.{record_seen}
-use Rattle.capnp_request.specs.EntriesSeen.{seen_entry, seen_place}
-use Rattle.capnp_request.specs.NamesMade.{AreHolders, texts}
-use Rattle.capnp_request.specs.Nodes.{nodes_of}
-use Rattle.capnp_request.specs.Numbers.{numbered_entries}
-use Rattle.capnp_request.specs.ProgressSeen.{made_of}
+use Rattle.capnp_request.specs.Steps.EntriesSeen.{seen_entry, seen_place}
+use Rattle.capnp_request.specs.Steps.NamesMade.{AreHolders, texts}
+use Rattle.capnp_request.specs.Steps.Nodes.{nodes_of}
+use Rattle.capnp_request.specs.Steps.Numbers.{numbered_entries}
+use Rattle.capnp_request.specs.Steps.ProgressSeen.{made_of}
 use Rattle.capnp_request.specs.Reading.{node_said}
 use Rattle.capnp_request.proofs.OrderMade.{begin_done, begin_missing, begin_unnamed, begin_unnamed_enum, too_many}
 use Rattle.capnp_request.proofs.ProgressMade.{few_nodes, held_since, many_nodes, named_since}

@@ -1,10 +1,10 @@
 use Rattle.std.proofs.Common.{◌≡◌, ◌∙◌, length, rules, slice_get, sym, Some, None}
 use Rattle.std.proofs.lemmas.Result.{err_from_is_err_and}
-use Rattle.capnp_request.specs.Done.{between}
-use Rattle.capnp_request.specs.EntriesSeen.{seen_entry}
-use Rattle.capnp_request.specs.Nodes.{nodes_of}
-use Rattle.capnp_request.specs.Numbers.{numbered_entries}
-use Rattle.capnp_request.specs.ProgressSeen.{made_of}
+use Rattle.capnp_request.specs.Steps.Done.{between}
+use Rattle.capnp_request.specs.Steps.EntriesSeen.{seen_entry}
+use Rattle.capnp_request.specs.Steps.Nodes.{nodes_of}
+use Rattle.capnp_request.specs.Steps.Numbers.{numbered_entries}
+use Rattle.capnp_request.specs.Steps.ProgressSeen.{made_of}
 use Rattle.capnp_request.proofs.OrderMade.{next_enum, next_enum_refused, next_made, next_none, next_refused, struct_refused}
 use Rattle.capnp_request.proofs.ProgressMade.{held_since, next_enum_id, next_node, struct_so}
 use Rattle.capnp_request.proofs.conversion.Progress.make_next.Goals as goal

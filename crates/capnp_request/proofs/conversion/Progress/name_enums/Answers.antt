@@ -1,8 +1,8 @@
 use Rattle.std.proofs.Common.{◌≡◌, ◌+◌, ◌∙◌, ap, arith, drop, length, length-append, rules, slice_get, string_bytes, sym, None, Some}
 use Rattle.std.proofs.lemmas.Result.{err_from_is_err_and}
-use Rattle.capnp_request.specs.NamesMade.{texts}
-use Rattle.capnp_request.specs.Nodes.{nodes_of}
-use Rattle.capnp_request.specs.Numbers.{numbered_entries}
+use Rattle.capnp_request.specs.Steps.NamesMade.{texts}
+use Rattle.capnp_request.specs.Steps.Nodes.{nodes_of}
+use Rattle.capnp_request.specs.Steps.Numbers.{numbered_entries}
 use Rattle.capnp_request.specs.Order.{enum_names}
 use Rattle.capnp_request.proofs.Numbering.{map_more}
 use Rattle.capnp_request.proofs.OrderMade.{names_end, names_more, names_refused}

@@ -1,8 +1,8 @@
 -- The names of the enums so far, and what is left.
 use Rattle.std.proofs.Common.{◌≡◌, drop, length}
-use Rattle.capnp_request.specs.NamesMade.{texts}
-use Rattle.capnp_request.specs.Nodes.{nodes_of}
-use Rattle.capnp_request.specs.Numbers.{numbered_entries}
+use Rattle.capnp_request.specs.Steps.NamesMade.{texts}
+use Rattle.capnp_request.specs.Steps.Nodes.{nodes_of}
+use Rattle.capnp_request.specs.Steps.Numbers.{numbered_entries}
 use Rattle.capnp_request.specs.Order.{enum_names}
 use Rattle.capnp_request.proofs.conversion.Progress.name_enums.Given as goal
 

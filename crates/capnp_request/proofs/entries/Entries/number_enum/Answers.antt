@@ -2,7 +2,7 @@ use Rattle.std.proofs.Common.{◌≡◌, arith, rules, None, nat_eq, length}
 use Rattle.std.specs.Cmp.{nat_eq_equiv}
 use Rattle.std.specs.HashMap.{get}
 use Rattle.capnp_request.proofs.Numbering.{added_enum, number_added}
-use Rattle.capnp_request.specs.Numbers.{AreNumbered}
+use Rattle.capnp_request.specs.Steps.Numbers.{AreNumbered}
 use Rattle.capnp_request.proofs.entries.Entries.number_enum.Goals as goal
 
 pub returns-clause-numbers : goal.returns-clause-numbers

@@ -1,9 +1,9 @@
 use Rattle.std.proofs.Common.{◌≡◌, ◌∙◌, refl, sym, map, List, [], ◌∷◌, ◌++◌}
-use Rattle.capnp_request.specs.Bindings.{bounds}
-use Rattle.capnp_request.specs.EntriesSeen.{group_entry, seen_entry}
+use Rattle.capnp_request.specs.Steps.Bindings.{bounds}
+use Rattle.capnp_request.specs.Steps.EntriesSeen.{group_entry, seen_entry}
 use Rattle.capnp_request.specs.Work.{Entry}
 use Rattle.capnp_request.proofs.Numbering.{added_group, few_more, map_more}
-use Rattle.capnp_request.specs.Numbers.{AreNumbered}
+use Rattle.capnp_request.specs.Steps.Numbers.{AreNumbered}
 use Rattle.capnp_request.proofs.entries.Entries.number_group.Goals as goal
 
 pub returns-clause-numbers : goal.returns-clause-numbers

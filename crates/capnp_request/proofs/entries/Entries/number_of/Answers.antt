@@ -1,13 +1,13 @@
 use Rattle.std.proofs.Common.{◌≡◌, ◌∙◌, ap, rules, None, map, List, [], ◌∷◌, ◌++◌}
 use Rattle.std.specs.HashMap.{get}
-use Rattle.capnp_request.specs.Bindings.{bounds}
-use Rattle.capnp_request.specs.EntriesSeen.{seen_entry}
+use Rattle.capnp_request.specs.Steps.Bindings.{bounds}
+use Rattle.capnp_request.specs.Steps.EntriesSeen.{seen_entry}
 use Rattle.capnp_request.specs.Work.{Entry, Whole}
 use Rattle.capnp_request.specs.contracts.entries.BoundNodePartialEq.TheImpl as node_eq
 use Rattle.capnp_request.specs.contracts.entries.BoundNodeEq.TheImpl.Laws.{laws-law}
 use Rattle.capnp_request.proofs.BindingsCompared.{compared}
 use Rattle.capnp_request.proofs.Numbering.{added_entry, few_more, map_more, number_added}
-use Rattle.capnp_request.specs.Numbers.{AreNumbered}
+use Rattle.capnp_request.specs.Steps.Numbers.{AreNumbered}
 use Rattle.capnp_request.proofs.entries.Entries.number_of.Goals as goal
 
 pub returns-clause-numbers : goal.returns-clause-numbers

@@ -1,6 +1,6 @@
 use Rattle.std.proofs.Common.{◌≡◌, rules}
 use Rattle.std.specs.HashMap.{get}
-use Rattle.capnp_request.specs.NamesMade.{one_more}
+use Rattle.capnp_request.specs.Steps.NamesMade.{one_more}
 use Rattle.capnp_request.proofs.HoldersHeld.{eq, taken_now}
 use Rattle.capnp_request.proofs.names.Names.is_taken.Goals as goal
 

@@ -2,10 +2,10 @@ use Rattle.std.proofs.Common.{◌∷◌, map}
 use Rattle.std.proofs.lemmas.Result.{err_from_is_err_and}
 use Rattle.capnp_schema.specs.Schema.{seen_node}
 use Rattle.capnp_dynamic_readers.specs.Seen.{record_seen}
-use Rattle.capnp_request.specs.EntriesSeen.{seen_entry}
+use Rattle.capnp_request.specs.Steps.EntriesSeen.{seen_entry}
 use Rattle.capnp_request.specs.Names.{dotted_of}
-use Rattle.capnp_request.specs.NamesMade.{texts}
-use Rattle.capnp_request.specs.Nodes.{nodes_of}
+use Rattle.capnp_request.specs.Steps.NamesMade.{texts}
+use Rattle.capnp_request.specs.Steps.Nodes.{nodes_of}
 use Rattle.capnp_request.specs.Reading.{node_said}
 use Rattle.capnp_request.proofs.OrderMade.{entry_missing, entry_named, entry_unnamed, entry_unread}
 use Rattle.capnp_request.proofs.names.Names.struct_name.Goals as goal

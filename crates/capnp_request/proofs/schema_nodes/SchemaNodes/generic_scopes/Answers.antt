@@ -1,6 +1,6 @@
 use Rattle.std.proofs.Common.{ℕ, arith, ap, sym, ◌-◌, ◌+◌, ◌∙◌, Ok}
 use Rattle.capnp_dynamic_readers.specs.Seen.{record_seen}
-use Rattle.capnp_request.specs.Nodes.{nodes_of}
+use Rattle.capnp_request.specs.Steps.Nodes.{nodes_of}
 use Rattle.capnp_request.specs.Reading.{node_said}
 use Rattle.capnp_request.proofs.NodesRead.{parameters_read, parameters_unread, scope_read}
 use Rattle.capnp_request.proofs.Refused.{err_if}

@@ -1,6 +1,6 @@
 -- The scopes so far, and the ids that were met.
 use Rattle.std.proofs.Common.{◌-◌}
-use Rattle.capnp_request.specs.Nodes.{nodes_of}
+use Rattle.capnp_request.specs.Steps.Nodes.{nodes_of}
 use Rattle.capnp_request.proofs.ScopesRead.{ScopesSoFar}
 use Rattle.capnp_request.proofs.schema_nodes.SchemaNodes.generic_scopes.Given as goal
 

@@ -1,7 +1,7 @@
 use Rattle.std.proofs.Common.{arith, ap, sym, ◌∙◌, ◌≡◌, List, length, Ok}
 use Rattle.capnp_schema.specs.StructHandles.{set_of}
 use Rattle.capnp_dynamic_readers.specs.Seen.{record_seen}
-use Rattle.capnp_request.specs.Nodes.{nodes_of}
+use Rattle.capnp_request.specs.Steps.Nodes.{nodes_of}
 use Rattle.capnp_request.specs.Reading.{nodes_in}
 use Rattle.capnp_request.specs.Scopes.{node_named}
 use Rattle.capnp_request.specs.Terms.{SchemaNode}

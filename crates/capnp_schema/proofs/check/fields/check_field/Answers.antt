@@ -1,7 +1,8 @@
 use Rattle.std.proofs.Common.{◌<◌, arith}
 use Rattle.capnp_device.specs.declared.error.SchemaTable.TheVariants.{Brand as InBrands}
 use Rattle.capnp_schema.specs.Schema.{seen_node}
-use Rattle.capnp_schema.specs.Entries.{lists_seen, seen_typed}
+use Rattle.capnp_schema.specs.Entries.{lists_seen}
+use Rattle.capnp_schema.specs.Steps.Entries.{seen_typed}
 use Rattle.capnp_schema.proofs.FieldCounts.{index_fits}
 use Rattle.capnp_schema.proofs.Checking.FieldWalk.{refused, breaks_names, breaks_inside, breaks_default, breaks_group, stands}
 use Rattle.capnp_schema.proofs.check.fields.check_field.Goals as goal

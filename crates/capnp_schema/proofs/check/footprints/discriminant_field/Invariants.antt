@@ -1,7 +1,7 @@
 use Rattle.std.proofs.Common.{ℕ, ◌<◌, ◌≡◌, true, false}
 use Rattle.capnp_schema.specs.Footprint.{Spot}
 use Rattle.capnp_schema.specs.Entries.{lists_seen}
-use Rattle.capnp_schema.specs.Checking.Spans.{some_span}
+use Rattle.capnp_schema.specs.Steps.Checking.Spans.{some_span}
 use Rattle.capnp_schema.proofs.Checking.SpanTables.{footprint_at}
 use Rattle.capnp_schema.proofs.check.footprints.discriminant_field.Given as goal
 

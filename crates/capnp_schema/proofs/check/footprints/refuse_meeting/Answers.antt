@@ -1,7 +1,7 @@
 use Rattle.std.proofs.Common.{arith, refl, sym, ap, ◌∙◌}
 use Rattle.capnp_schema.specs.Schema.{Node, seen_node}
 use Rattle.capnp_schema.specs.Footprint.{discriminant_names}
-use Rattle.capnp_schema.specs.Checking.Spans.{seen_spot}
+use Rattle.capnp_schema.specs.Steps.Checking.Spans.{seen_spot}
 use Rattle.capnp_schema.specs.Entries.{lists_seen}
 use Rattle.capnp_schema.proofs.Checking.BrandRefusals.{refused_at_field, refused_at_discriminant}
 use Rattle.capnp_schema.proofs.FieldCounts.{index_fits}

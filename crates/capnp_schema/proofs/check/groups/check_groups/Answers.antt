@@ -1,7 +1,7 @@
 use Rattle.std.proofs.Common.{refl, sym, subst, arith, below_more}
 use Rattle.capnp_schema.specs.Accepted.{GroupStands}
 use Rattle.capnp_schema.specs.Entries.{lists_seen}
-use Rattle.capnp_schema.specs.Checking.Parents.{AreKnown}
+use Rattle.capnp_schema.specs.Steps.Checking.Parents.{AreKnown}
 use Rattle.capnp_schema.proofs.Checking.BrandRefusals.{refused_at_group}
 use Rattle.capnp_schema.proofs.Checking.GroupChains.{none_known}
 use Rattle.capnp_schema.proofs.GroupTargets.{targets_are_groups}

@@ -1,7 +1,7 @@
 use Rattle.std.proofs.Common.{◌<◌, length}
 use Rattle.capnp_schema.specs.Accepted.{IsGroupBrand, StandsInStruct}
 use Rattle.capnp_schema.specs.Entries.{lists_seen}
-use Rattle.capnp_schema.specs.Checking.Parents.{AreKnown}
+use Rattle.capnp_schema.specs.Steps.Checking.Parents.{AreKnown}
 use Rattle.capnp_schema.proofs.check.groups.mark_way.Given as goal
 
 abbrev pub invariant-loop : goal.invariant-loop

@@ -1,4 +1,4 @@
-use Rattle.capnp_schema.specs.Checking.Parents.{HasNoParents}
+use Rattle.capnp_schema.specs.Steps.Checking.Parents.{HasNoParents}
 use Rattle.capnp_schema.proofs.check.groups.no_parents.Given as goal
 
 abbrev pub invariant-loop : goal.invariant-loop

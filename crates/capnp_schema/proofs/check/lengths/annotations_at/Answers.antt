@@ -1,7 +1,7 @@
 use Rattle.std.proofs.Common.{ap, sym, ◌∙◌, length}
 use Rattle.std.proofs.lemmas.List.{length-map}
 use Rattle.capnp_schema.specs.Schema.{seen_annotation}
-use Rattle.capnp_schema.specs.Checking.Lengths.{annotation_count}
+use Rattle.capnp_schema.specs.Steps.Checking.Lengths.{annotation_count}
 use Rattle.capnp_schema.proofs.Checking.Lengths.{annotations_at}
 use Rattle.capnp_schema.proofs.check.lengths.annotations_at.Goals as goal
 

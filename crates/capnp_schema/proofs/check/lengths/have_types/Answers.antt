@@ -1,5 +1,5 @@
 use Rattle.std.proofs.Common.{sym, ◌∙◌, arith}
-use Rattle.capnp_schema.specs.Checking.Lengths.{annotation_counts, children_counts}
+use Rattle.capnp_schema.specs.Steps.Checking.Lengths.{annotation_counts, children_counts}
 use Rattle.capnp_schema.proofs.Checking.Lengths.{other_length, other_at, same_counts, children_length, annotations_length}
 use Rattle.capnp_schema.proofs.check.lengths.have_types.Goals as goal
 

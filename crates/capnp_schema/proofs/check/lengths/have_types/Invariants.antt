@@ -1,5 +1,5 @@
 use Rattle.std.proofs.Common.{ℕ, ◌<◌, ◌≡◌, get_or}
-use Rattle.capnp_schema.specs.Checking.Lengths.{annotation_counts, children_counts}
+use Rattle.capnp_schema.specs.Steps.Checking.Lengths.{annotation_counts, children_counts}
 use Rattle.capnp_schema.proofs.check.lengths.have_types.Given as goal
 
 abbrev pub invariant-loop-i : goal.invariant-loop-i

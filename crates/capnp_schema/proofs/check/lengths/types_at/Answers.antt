@@ -1,5 +1,5 @@
 use Rattle.std.proofs.Common.{◌≡◌, ap, sym, ◌∙◌, length, arith}
-use Rattle.capnp_schema.specs.Checking.Lengths.{types_count}
+use Rattle.capnp_schema.specs.Steps.Checking.Lengths.{types_count}
 use Rattle.capnp_schema.proofs.Checking.Lengths.{types_at}
 use Rattle.capnp_schema.proofs.check.lengths.types_at.Goals as goal
 

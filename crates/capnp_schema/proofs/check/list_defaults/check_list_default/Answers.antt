@@ -1,5 +1,6 @@
 use Rattle.std.proofs.Common.{arith, sym}
-use Rattle.capnp_schema.specs.Entries.{lists_seen, seen_typed}
+use Rattle.capnp_schema.specs.Entries.{lists_seen}
+use Rattle.capnp_schema.specs.Steps.Entries.{seen_typed}
 use Rattle.capnp_schema.specs.Schema.{fields_of}
 use Rattle.capnp_schema.specs.Accepted.{ReadsDefault}
 use Rattle.capnp_schema.proofs.EntryWalk.{is_so_here}

@@ -1,7 +1,7 @@
 use Rattle.std.proofs.Common.{List, ap, arith, length, subst}
 use Rattle.std.proofs.lemmas.List.{length-map}
 use Rattle.capnp_schema.specs.Entries.{lists_seen}
-use Rattle.capnp_schema.specs.Names.{IsRepeated}
+use Rattle.capnp_schema.specs.Steps.Names.{IsRepeated}
 use Rattle.capnp_schema.specs.Schema.{Field, seen_field}
 use Rattle.capnp_schema.proofs.FieldCounts.{few_fields}
 use Rattle.capnp_schema.proofs.Checking.NameTables.{repeated_at}

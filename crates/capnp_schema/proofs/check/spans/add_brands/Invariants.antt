@@ -1,7 +1,7 @@
 use Rattle.std.proofs.Common.{ℕ, suc, ◌≡◌, ◌||◌, drop}
 use Rattle.capnp_schema.specs.Entries.{lists_seen}
 use Rattle.capnp_schema.specs.Footprint.{Spot}
-use Rattle.capnp_schema.specs.Checking.Spans.{reached_spot, some_brand}
+use Rattle.capnp_schema.specs.Steps.Checking.Spans.{reached_spot, some_brand}
 use Rattle.capnp_schema.proofs.check.spans.add_brands.Given as goal
 
 -- what is reached so far, and by the brands that are left

@@ -1,6 +1,6 @@
 use Rattle.std.proofs.Common.{◌≡◌, ◌+◌, ◌-◌, ◌∙◌, suc, ap, sym, arith, length}
 use Rattle.capnp_schema.specs.Entries.{lists_seen}
-use Rattle.capnp_schema.specs.Checking.Spans.{reached_spot}
+use Rattle.capnp_schema.specs.Steps.Checking.Spans.{reached_spot}
 use Rattle.capnp_schema.proofs.Checking.SpanLemmas.{reached_all}
 use Rattle.capnp_schema.proofs.check.spans.add_depths.Goals as goal
 

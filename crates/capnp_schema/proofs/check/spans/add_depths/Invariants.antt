@@ -1,7 +1,7 @@
 use Rattle.std.proofs.Common.{◌≡◌, ◌-◌, length}
 use Rattle.capnp_schema.specs.Entries.{lists_seen}
 use Rattle.capnp_schema.specs.Footprint.{Spot}
-use Rattle.capnp_schema.specs.Checking.Spans.{reached_spot}
+use Rattle.capnp_schema.specs.Steps.Checking.Spans.{reached_spot}
 use Rattle.capnp_schema.proofs.check.spans.add_depths.Given as goal
 
 -- what is reached within the depths that are left

@@ -2,7 +2,7 @@ use Rattle.std.proofs.Common.{ℕ, ◌≡◌, ◌||◌, drop}
 use Rattle.capnp_schema.specs.Schema.{fields_of}
 use Rattle.capnp_schema.specs.Entries.{lists_seen}
 use Rattle.capnp_schema.specs.Footprint.{Spot, some_field}
-use Rattle.capnp_schema.specs.Checking.Spans.{field_names, reached_spot}
+use Rattle.capnp_schema.specs.Steps.Checking.Spans.{field_names, reached_spot}
 use Rattle.capnp_schema.proofs.check.spans.add_fields.Given as goal
 
 -- what is added so far, and what the fields that are left name

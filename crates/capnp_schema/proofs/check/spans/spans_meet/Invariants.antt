@@ -1,7 +1,7 @@
 use Rattle.std.proofs.Common.{ℕ, ◌≡◌, ◌<◌, true, false, get_or}
 use Rattle.capnp_schema.specs.Footprint.{Spot}
 use Rattle.capnp_schema.specs.declared.check.spans.Span.{Span}
-use Rattle.capnp_schema.specs.Checking.Spans.{span_names, some_span}
+use Rattle.capnp_schema.specs.Steps.Checking.Spans.{span_names, some_span}
 use Rattle.capnp_schema.proofs.check.spans.spans_meet.Given as goal
 
 abbrev pub invariant-loop-x : goal.invariant-loop-x

@@ -1,7 +1,7 @@
 use Rattle.std.proofs.Common.{rules, subst, List, ◌++◌, ◌∷◌, []}
 use Rattle.capnp_schema.specs.Schema.{seen_node}
 use Rattle.capnp_schema.specs.Entries.{lists_seen}
-use Rattle.capnp_schema.specs.Checking.Levels.{IsClaimed}
+use Rattle.capnp_schema.specs.Steps.Checking.Levels.{IsClaimed}
 use Rattle.capnp_schema.specs.declared.check.claims.Level.{Level}
 use Rattle.capnp_schema.proofs.FoundEntries.{found_node}
 use Rattle.capnp_schema.proofs.Checking.TourGroups.{group_entered}

@@ -1,6 +1,6 @@
 use Rattle.std.proofs.Common.{rules, subst, List, ◌++◌, ◌∷◌, []}
 use Rattle.capnp_schema.specs.Entries.{lists_seen}
-use Rattle.capnp_schema.specs.Checking.Levels.{IsClaimed}
+use Rattle.capnp_schema.specs.Steps.Checking.Levels.{IsClaimed}
 use Rattle.capnp_schema.specs.declared.check.claims.Level.{Level}
 use Rattle.capnp_schema.proofs.Checking.Tours.{slot_taken}
 use Rattle.capnp_schema.proofs.check.tour.take_slot.Goals as goal

@@ -1,5 +1,5 @@
 use Rattle.capnp_schema.specs.Schema.{seen_types}
-use Rattle.capnp_schema.specs.Checking.Types.{own}
+use Rattle.capnp_schema.specs.Steps.Checking.Types.{own}
 use Rattle.capnp_schema.specs.Entries.{lists_seen}
 use Rattle.capnp_schema.proofs.Checking.Types.{own_or_child, decided_at, decided_not, of_children}
 use Rattle.capnp_schema.proofs.check.types.unnamed.Goals as goal

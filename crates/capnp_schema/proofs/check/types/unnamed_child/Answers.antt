@@ -1,7 +1,7 @@
 use Rattle.std.proofs.Common.{map, arith}
 use Rattle.capnp_schema.specs.Types.{seen_type}
 use Rattle.capnp_schema.specs.Accepted.{AllName}
-use Rattle.capnp_schema.specs.Checking.Types.{seen_children, seen_list}
+use Rattle.capnp_schema.specs.Steps.Checking.Types.{seen_children, seen_list}
 use Rattle.capnp_schema.specs.Entries.{lists_seen}
 use Rattle.capnp_schema.proofs.EntryWalk.{one_stands, all_stand, entry_breaks, seen_at}
 use Rattle.capnp_schema.proofs.Checking.Types.{children_length, decided_at, decided_not}

@@ -1,6 +1,6 @@
 use Rattle.std.proofs.Common.{length, map, ◌≡◌}
 use Rattle.capnp_schema.specs.Schema.{seen_field}
-use Rattle.capnp_schema.specs.Checking.Marks.{Marked}
+use Rattle.capnp_schema.specs.Steps.Checking.Marks.{Marked}
 use Rattle.capnp_schema.proofs.check.unions.mark_members.Given as goal
 
 abbrev pub invariant-loop-field : goal.invariant-loop-field

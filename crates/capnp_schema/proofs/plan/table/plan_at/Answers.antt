@@ -1,5 +1,6 @@
 use Rattle.capnp_schema.specs.Schema.{seen_node}
-use Rattle.capnp_schema.specs.Entries.{lists_seen, seen_typed}
+use Rattle.capnp_schema.specs.Entries.{lists_seen}
+use Rattle.capnp_schema.specs.Steps.Entries.{seen_typed}
 use Rattle.capnp_schema.proofs.LookUps.{lies_here}
 use Rattle.capnp_schema.proofs.plan.table.plan_at.Goals as goal
 

@@ -8,7 +8,8 @@ use Rattle.capnp_schema.specs.Types.{is_pointer, seen_variant}
 use Rattle.capnp_slots.specs.Fields.{pointer_index}
 use Rattle.capnp_slots.specs.Fills.{due_in, filled_in}
 use Rattle.capnp_dynamic.specs.Built.{built_schema, built_struct, place_of, struct_behind}
-use Rattle.capnp_dynamic.specs.Handed.{HandsField, HandsFilled, IsPartRefusal, IsPartWithin}
+use Rattle.capnp_dynamic.specs.Handed.{HandsField, IsPartRefusal, IsPartWithin}
+use Rattle.capnp_dynamic.specs.Steps.Handed.{HandsFilled}
 use Rattle.capnp_dynamic.specs.Owners.{IsGotOf, IsPartOf}
 use Rattle.capnp_dynamic.proofs.Builders.{room_for}
 use Rattle.capnp_dynamic.proofs.HandedOut.{group_within, hands_group, hands_number, hands_pointed, number_within, pointed_within}

@@ -3,7 +3,8 @@ use Rattle.std.specs.declared.alloc.Global.{Global}
 use Rattle.capnp_base.specs.declared.introspect.«Type».{«Type» as TypeHandle}
 use Rattle.std.proofs.lemmas.List.{length-map}
 use Rattle.capnp_schema.specs.declared.lists.Lists.{Lists}
-use Rattle.capnp_schema.specs.Entries.{lists_seen, seen_typed}
+use Rattle.capnp_schema.specs.Entries.{lists_seen}
+use Rattle.capnp_schema.specs.Steps.Entries.{seen_typed}
 use Rattle.capnp_schema.specs.Types.{seen_type}
 use Rattle.capnp_schema.specs.Schema.{field_at, seen_annotation, seen_brand}
 use Rattle.capnp_schema.specs.Accepted.{IsAccepted}

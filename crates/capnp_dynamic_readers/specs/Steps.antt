@@ -1,0 +1,8 @@
+-- Steps of the code: no contract of a public function stands on them.
+pub mod Behind
+pub mod GroupTexts
+pub mod Leaf
+pub mod PartsRead
+pub mod Pieces
+pub mod Planned
+pub mod Shown

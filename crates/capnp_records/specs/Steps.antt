@@ -1,0 +1,4 @@
+-- Steps of the code: no contract of a public function stands on them.
+pub mod ElementEnds
+pub mod Laws
+pub mod Stand
