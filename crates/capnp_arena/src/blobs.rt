@@ -4,8 +4,8 @@ use crate::append::get_part;
 use crate::arena::Arena;
 use crate::look::Target;
 use capnp_device::error::{Error, ErrorKind, Result};
-use capnp_wire::elements::text_of;
-use capnp_wire::found::Found;
+use capnp_wire::parts::elements::text_of;
+use capnp_wire::parts::found::Found;
 
 impl Arena {
     ghost use Rattle.std.specs.Prelude.{◌≡◌};

@@ -15,7 +15,7 @@ use crate::encode::{append_tree, make_pointer};
 use crate::in_order::is_in_order;
 use crate::target::look;
 use capnp_device::error::{Error, ErrorKind, Result};
-use capnp_wire::pointer::MEMORY_DEPTH;
+use capnp_wire::parts::pointer::MEMORY_DEPTH;
 use std::alloc::Global;
 
 /// The root pointer, and what it leads to: the segment as it is, where it is that already.

@@ -17,14 +17,14 @@ ghost use Rattle.capnp_arena.specs.Shape.{word_count};
 use crate::arena::Arena;
 use crate::spell::{make_list_word, make_struct_word, put_bytes, put_word};
 use capnp_device::error::Result;
-use capnp_wire::block::{count_elements, get_element};
-use capnp_wire::bytes::divide;
+use capnp_wire::parts::block::{count_elements, get_element};
+use capnp_wire::parts::bytes::divide;
 use capnp_wire::fault::refuse;
-use capnp_wire::found::{Found, StructParts};
-use capnp_wire::look::bytes_from;
-use capnp_wire::pointer::{Pointer, look};
-use capnp_wire::pointers::{count_pointers, get_pointer};
-use capnp_wire::row::{Elements, Pointers};
+use capnp_wire::parts::found::{Found, StructParts};
+use capnp_wire::parts::look::bytes_from;
+use capnp_wire::parts::pointer::{Pointer, look};
+use capnp_wire::parts::pointers::{count_pointers, get_pointer};
+use capnp_wire::parts::row::{Elements, Pointers};
 use capnp_wire::size::StructSize;
 
 // ---- pointers ----

@@ -10,7 +10,7 @@ ghost use Rattle.capnp_arena.specs.Shape.{word_count};
 
 use crate::look::Target;
 use crate::target::look;
-use capnp_wire::pointer::MEMORY_DEPTH;
+use capnp_wire::parts::pointer::MEMORY_DEPTH;
 
 /// The sum, where it is below 2^29, the words that a message has at most.
 #[inline(always)]

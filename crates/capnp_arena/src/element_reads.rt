@@ -5,8 +5,8 @@ use crate::arena::Arena;
 use crate::list_reads::ListTarget;
 use crate::lists::{ListPlace, StructsPlace, get_width};
 use crate::struct_lists::get_number;
-use capnp_wire::elements::bit_at;
-use capnp_wire::found::Found;
+use capnp_wire::parts::elements::bit_at;
+use capnp_wire::parts::found::Found;
 use capnp_wire::primitive::PrimitiveElement;
 
 impl Arena {

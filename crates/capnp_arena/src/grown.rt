@@ -13,7 +13,7 @@ ghost use Rattle.capnp_arena.specs.Shape.{word_count};
 use crate::append::{Appended, append_room, append_word};
 use crate::encode::fill_row;
 use crate::spell::{make_struct_word, put_bytes};
-use capnp_wire::pointer::MEMORY_DEPTH;
+use capnp_wire::parts::pointer::MEMORY_DEPTH;
 use capnp_wire::size::StructSize;
 use std::alloc::{AllocError, Global};
 

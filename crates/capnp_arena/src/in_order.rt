@@ -13,7 +13,7 @@ use crate::append::{get_bits, get_part};
 use crate::count::get_list_depth;
 use crate::look::{Target, get_count, get_inner_word};
 use crate::target::look;
-use capnp_wire::pointer::MEMORY_DEPTH;
+use capnp_wire::parts::pointer::MEMORY_DEPTH;
 
 /// Whether bytes are those that hold so many bits.
 fn are_packed(bytes: &[u8], count: u32) -> bool

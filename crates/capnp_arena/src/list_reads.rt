@@ -7,7 +7,7 @@ use crate::arena::{Arena, Place};
 use crate::lists::{ListPlace, StructsPlace};
 use crate::look::Target;
 use capnp_device::error::{Error, ErrorKind, Result};
-use capnp_wire::due::{reads_numbers_as, reads_structs_as};
+use capnp_wire::parts::due::{reads_numbers_as, reads_structs_as};
 use capnp_wire::size::{ElementSize, StructSize};
 
 /// Where a list stands. A null is read as one without elements, of the size that was asked.

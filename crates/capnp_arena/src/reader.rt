@@ -8,7 +8,7 @@ ghost use Rattle.capnp_arena.specs.Shape.{word_count};
 use crate::arena::{Arena, Place};
 use crate::list_reads::ListTarget;
 use capnp_wire::laws::pointer_is_well_formed;
-use capnp_wire::pointer::{MEMORY_DEPTH, ROOT_LEVELS, look};
+use capnp_wire::parts::pointer::{MEMORY_DEPTH, ROOT_LEVELS, look};
 use capnp_wire::size::StructSize;
 use capnp_wire::{ListReader, PointerReader, StructReader};
 

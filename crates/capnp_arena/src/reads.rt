@@ -7,7 +7,7 @@ use crate::append::get_part;
 use crate::arena::{Arena, Place};
 use crate::look::Target;
 use crate::target::look;
-use capnp_wire::bytes::get_bit;
+use capnp_wire::parts::bytes::get_bit;
 use capnp_wire::primitive::PrimitiveElement;
 use capnp_wire::size::StructSize;
 

@@ -3,7 +3,7 @@
 use crate::arena::{Arena, Place};
 use crate::count::{count_row, count_words};
 use capnp_device::error::{Error, ErrorKind, Result};
-use capnp_wire::pointer::MEMORY_DEPTH;
+use capnp_wire::parts::pointer::MEMORY_DEPTH;
 use capnp_wire::size::MessageSize;
 
 impl Arena {

@@ -12,7 +12,7 @@ use capnp_arena::arena::Arena;
 use capnp_arena::list_reads::ListTarget;
 use capnp_wire::ListReader;
 use capnp_wire::laws::pointer_is_well_formed;
-use capnp_wire::pointer::look;
+use capnp_wire::parts::pointer::look;
 use capnp_wire::size::ElementSize;
 
 /// A reader of the list that a pointer leads to, with 64 levels; a null reads as a list of no elements of a size.

@@ -4,7 +4,7 @@ use Rattle.std.specs.Prelude.{None}
 use Rattle.capnp_wire.specs.Found.{element_structs, struct_of_elements}
 use Rattle.capnp_wire.specs.Tree.{NoTrees, StructTree, structs_from}
 use Rattle.capnp_wire.specs.Words.{first_fault_of_all, first_fault_of_elements, first_of, words_below_all, words_of_all}
-use Rattle.capnp_wire.specs.declared.row.Elements.{Elements}
+use Rattle.capnp_wire.specs.declared.parts.row.Elements.{Elements}
 
 no_words : (f : ℕ → StructTree) (first count : ℕ) → ((i : ℕ) → (f i).pointers ≡ NoTrees) → words_below_all (structs_from f first count) ≡ 0
 no_words f first zero h = refl

@@ -2,9 +2,9 @@
 use Rattle.std.specs.Prelude.{ℕ, ◌^◌, ◌≤◌, ⊤, List, [], ◌∷◌, Bool, true, false}
 use Rattle.capnp_wire.specs.Locate as locate
 use Rattle.capnp_wire.specs.Stream.{stream_segments}
-use Rattle.capnp_wire.specs.declared.segments.Segments.{Segments}
-use Rattle.capnp_wire.specs.declared.locate.Target.{Target}
-use Rattle.capnp_wire.specs.declared.locate.Target.TheVariants as target
+use Rattle.capnp_wire.specs.declared.parts.segments.Segments.{Segments}
+use Rattle.capnp_wire.specs.declared.parts.locate.Target.{Target}
+use Rattle.capnp_wire.specs.declared.parts.locate.Target.TheVariants as target
 
 -- the segments of a stream, or the bytes as one segment
 abbrev pub segments_in : Bool → List ℕ → locate.Segments

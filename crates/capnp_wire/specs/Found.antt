@@ -5,13 +5,13 @@ use Rattle.capnp_wire.specs.Tree.{Tree, Trees, Structs, StructTree, empty_struct
 use Rattle.capnp_wire.specs.Place.{tree_below, struct_at, struct_tree, bits_from}
 use Rattle.capnp_wire.specs.Backing.{segments_in}
 use Rattle.capnp_wire.specs.declared.size.StructSize.{StructSize}
-use Rattle.capnp_wire.specs.declared.pointer.Pointer.{Pointer}
-use Rattle.capnp_wire.specs.declared.pointer.Pointer.TheVariants as pointer
-use Rattle.capnp_wire.specs.declared.row.Pointers.{Pointers}
-use Rattle.capnp_wire.specs.declared.row.Elements.{Elements}
-use Rattle.capnp_wire.specs.declared.found.StructParts.{StructParts}
-use Rattle.capnp_wire.specs.declared.found.Found.{Found}
-use Rattle.capnp_wire.specs.declared.found.Found.TheVariants as found
+use Rattle.capnp_wire.specs.declared.parts.pointer.Pointer.{Pointer}
+use Rattle.capnp_wire.specs.declared.parts.pointer.Pointer.TheVariants as pointer
+use Rattle.capnp_wire.specs.declared.parts.row.Pointers.{Pointers}
+use Rattle.capnp_wire.specs.declared.parts.row.Elements.{Elements}
+use Rattle.capnp_wire.specs.declared.parts.found.StructParts.{StructParts}
+use Rattle.capnp_wire.specs.declared.parts.found.Found.{Found}
+use Rattle.capnp_wire.specs.declared.parts.found.Found.TheVariants as found
 
 -- the tree at a place; a word's has one level less than its depth
 abbrev pub pointer_tree : Pointer → Tree

@@ -4,26 +4,16 @@
 //! answers in terms of that tree and of the levels that the reader has left.
 #![tactic(auto)]
 
-pub mod block;
-pub mod bytes;
-pub mod due;
-pub mod elements;
 mod equal;
 pub mod fault;
 mod faults;
-pub mod found;
 pub mod laws;
 mod list_reader;
-pub mod locate;
-pub mod look;
 pub mod message;
 mod numbers;
-pub mod pointer;
 mod pointer_reader;
-pub mod pointers;
+pub mod parts;
 pub mod primitive;
-pub mod row;
-pub mod segments;
 pub mod size;
 mod struct_reader;
 mod total;

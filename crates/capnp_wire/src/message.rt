@@ -3,10 +3,10 @@ ghost use Rattle.capnp_wire.specs.Backing.{segment_list};
 ghost use Rattle.capnp_wire.specs.WellFormed.{AreSegments};
 ghost use Rattle.capnp_wire.specs.Steps.WellFormed.{AreSegments-prop};
 
-use crate::bytes::{half_at, part};
-use crate::pointer::{ROOT_LEVELS, get_root_pointer};
+use crate::parts::bytes::{half_at, part};
+use crate::parts::pointer::{ROOT_LEVELS, get_root_pointer};
 use crate::pointer_reader::PointerReader;
-use crate::segments::{Segments, count_words, get_header_bytes};
+use crate::parts::segments::{Segments, count_words, get_header_bytes};
 use capnp_device::error::{Error, ErrorKind, Result};
 use std::alloc::Global;
 

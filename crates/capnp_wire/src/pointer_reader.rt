@@ -3,12 +3,12 @@ ghost use Rattle.capnp_wire.specs.Found.{pointer_tree};
 ghost use Rattle.capnp_wire.specs.WellFormed.{IsWellFormed};
 ghost use Rattle.capnp_wire.specs.Steps.WellFormed.{IsWellFormed-prop};
 
-use crate::elements::{data_of, text_of};
+use crate::parts::elements::{data_of, text_of};
 use crate::fault::refuse;
-use crate::found::Found;
+use crate::parts::found::Found;
 use crate::list_reader::ListReader;
-use crate::pointer::{MEMORY_DEPTH, Pointer, ROOT_LEVELS, get_root_pointer, look};
-use crate::segments::Segments;
+use crate::parts::pointer::{MEMORY_DEPTH, Pointer, ROOT_LEVELS, get_root_pointer, look};
+use crate::parts::segments::Segments;
 use crate::size::{ElementSize, MessageSize};
 use crate::struct_reader::StructReader;
 use crate::total::size_of_pointer;

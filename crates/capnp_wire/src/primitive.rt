@@ -9,7 +9,7 @@ ghost use Rattle.std.proofs.Math.Facts.{Fits-lt-pow, Fits-of_z};
 ghost use Rattle.capnp_wire.specs.Slot.{number_at};
 ghost use Rattle.capnp_wire.specs.Edits.{with_number};
 
-use crate::bytes::{get_word, number_from, read_word};
+use crate::parts::bytes::{get_word, number_from, read_word};
 
 /// A number that a data field or a list element holds.
 pub trait PrimitiveElement: Copy {

@@ -9,15 +9,15 @@ ghost use Rattle.capnp_wire.specs.Words.{first_fault, first_fault_of_all, first_
 ghost use Rattle.capnp_wire.specs.Total.{IsSize, IsSizeRefusal};
 ghost use Rattle.capnp_wire.specs.Steps.Total.{Totals, size_of_total, size_read};
 
-use crate::block::{count_elements, get_element, have_no_pointers};
-use crate::bytes::get_word;
+use crate::parts::block::{count_elements, get_element, have_no_pointers};
+use crate::parts::bytes::get_word;
 use crate::fault::{Fault, refuse};
-use crate::found::{Found, StructParts};
-use crate::look::look_at_word;
-use crate::pointer::Pointer;
-use crate::pointers::{count_pointers, get_pointer};
-use crate::row::{Elements, Pointers};
-use crate::segments::Segments;
+use crate::parts::found::{Found, StructParts};
+use crate::parts::look::look_at_word;
+use crate::parts::pointer::Pointer;
+use crate::parts::pointers::{count_pointers, get_pointer};
+use crate::parts::row::{Elements, Pointers};
+use crate::parts::segments::Segments;
 use crate::size::{MessageSize, StructSize};
 use capnp_device::error::{Error, ErrorKind, Result};
 

@@ -2,7 +2,7 @@ use Rattle.std.proofs.Common.{arith, List, ℕ, ◌≡◌, ◌+◌, ◌*◌, sym
 use Rattle.capnp_wire.specs.Backing.{segments_in}
 use Rattle.capnp_wire.specs.Found.{element_structs}
 use Rattle.capnp_wire.specs.Place.{bytes_at, tree_below}
-use Rattle.capnp_wire.specs.declared.row.Elements.{Elements}
+use Rattle.capnp_wire.specs.declared.parts.row.Elements.{Elements}
 use Rattle.capnp_arena.specs.Steps.Copies.{ArePointerless}
 use Rattle.capnp_arena.proofs.PlainRows.{plain_row}
 use Rattle.capnp_arena.proofs.copy.get_plain_bytes.Goals as goal

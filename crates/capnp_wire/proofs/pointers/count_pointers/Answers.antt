@@ -1,6 +1,0 @@
-use Rattle.std.proofs.Common.{sym}
-use Rattle.capnp_wire.specs.Facts.Indexed.{tree_count-from}
-use Rattle.capnp_wire.proofs.pointers.count_pointers.Goals as goal
-
-pub returns : goal.returns
-returns c = sym (tree_count-from _ _ _)
