@@ -1,7 +1,7 @@
 -- What a pointer word of one segment leads to, as numbers alone, and the words that it takes.
 use Rattle.std.specs.Prelude.{ℕ, suc, ◌+◌, ◌-◌, ◌*◌, ◌/◌, ◌^◌, ◌<◌, ◌≤◌, ◌≡◌, ◌⊎◌, List, [], ◌∷◌, length}
 use Rattle.capnp_wire.specs.Encoding.{spelled_number, struct_word, list_word}
-use Rattle.capnp_wire.specs.Locate.{Target, NoTarget, BadTarget, StructAt, ListAt, CompositeAt, target_at, list_words}
+use Rattle.capnp_wire.specs.Locate.{Target, NoTarget, BadTarget, StructAt, ListAt, CompositeAt, target_at, list_words, words_past_format}
 use Rattle.capnp_wire.specs.Place.{bytes_at}
 
 -- Nothing; a struct, from the word where it starts on; a list that is not composite; a composite list, whose tag stands
@@ -68,9 +68,9 @@ abbrev pub Points : List ℕ → ℕ → Shape → Type 0
 Points bytes w NoShape = IsWordAt bytes w 0
 Points bytes w (StructIn start d p) =
     ((start ≡ w) × (d ≡ 0) × (p ≡ 0) × IsWordAt bytes w (struct_word (2 ^ 30 - 1) 0 0))
-    ⊎ ((w < start) × (start - suc w < 2 ^ 29) × (d < 2 ^ 16) × (p < 2 ^ 16) × (0 < d + p) × (start + (d + p) ≤ word_count bytes) × IsWordAt bytes w (struct_word (start - suc w) d p))
+    ⊎ ((w < start) × (start - suc w < words_past_format) × (d < 2 ^ 16) × (p < 2 ^ 16) × (0 < d + p) × (start + (d + p) ≤ word_count bytes) × IsWordAt bytes w (struct_word (start - suc w) d p))
 Points bytes w (ListIn start size count) =
-    (w < start) × (start - suc w < 2 ^ 29) × (size < 7) × (count < 2 ^ 29) × (start + list_words size count ≤ word_count bytes) × IsWordAt bytes w (list_word (start - suc w) size count)
+    (w < start) × (start - suc w < words_past_format) × (size < 7) × (count < words_past_format) × (start + list_words size count ≤ word_count bytes) × IsWordAt bytes w (list_word (start - suc w) size count)
 Points bytes w (CompositeIn tag count d p) =
-    (w < tag) × (tag - suc w < 2 ^ 29) × (d < 2 ^ 16) × (p < 2 ^ 16) × (count < 2 ^ 29) × (count * (d + p) < 2 ^ 29) × (tag + 1 + count * (d + p) ≤ word_count bytes)
+    (w < tag) × (tag - suc w < words_past_format) × (d < 2 ^ 16) × (p < 2 ^ 16) × (count < words_past_format) × (count * (d + p) < words_past_format) × (tag + 1 + count * (d + p) ≤ word_count bytes)
     × IsWordAt bytes w (list_word (tag - suc w) 7 (count * (d + p))) × IsWordAt bytes tag (struct_word count d p)

@@ -6,7 +6,7 @@
 ghost use Rattle.std.specs.Prelude.{◌*◌, ◌/◌, ◌^◌, ◌<◌, ◌≡◌, ◌≤◌, length};
 ghost use Rattle.capnp_arena.specs.Made.{size_number};
 ghost use Rattle.capnp_arena.specs.Steps.Made.{struct_pointer, struct_start};
-ghost use Rattle.capnp_wire.specs.Locate.{list_words};
+ghost use Rattle.capnp_wire.specs.Locate.{list_words, words_past_format};
 
 use crate::spell::{
     append_zeros, make_list_word, make_struct_word, put_bytes, put_word, write_number,
@@ -24,9 +24,9 @@ pub struct Arena {
     /// So many words at most.
     pub(crate) limit: usize,
     ghost whole: { length bytes.items ≡ 8 * (length bytes.items / 8) },
-    ghost few: { length bytes.items / 8 < 2 ^ 29 },
+    ghost few: { length bytes.items / 8 < words_past_format },
     ghost within: { length bytes.items / 8 ≤ limit },
-    ghost low: { limit < 2 ^ 29 },
+    ghost low: { limit < words_past_format },
     ghost some: { 0 < limit },
 }
 
@@ -55,7 +55,7 @@ fn get_struct_start(end: usize, at: usize, words: usize) -> usize
 /// The pointer to it. One of size zero is not null: it leads to where it stands.
 #[inline(always)]
 fn get_struct_pointer(end: usize, at: usize, size: StructSize) -> u64
-    requires { (at < end) × (end < 2 ^ 29) }
+    requires { (at < end) × (end < words_past_format) }
     ensures { result ≡ struct_pointer end at size.data_words size.pointers }
 {
     if size.data_words as usize + size.pointers as usize == 0 {
@@ -125,7 +125,7 @@ impl Arena {
         ensures forest { IfOk result (λ arena. Forest (segment arena) 0) }
         ensures null { IfOk result (λ arena. tree (segment arena) 0 ≡ Null) }
         ensures alone { IfOk result (λ arena. length (segment arena) ≡ 8) }
-        ensures limit { IfOk result (λ arena. arena.limit ≡ 2 ^ 29 - 1) }
+        ensures limit { IfOk result (λ arena. arena.limit ≡ words_past_format - 1) }
         ensures kind { IfErr result (λ e. e.kind ≡ OutOfMemory) }
     {
         Arena::with_limit(alloc, MOST_WORDS)
@@ -141,9 +141,9 @@ impl Arena {
         ensures forest { IfOk result (λ arena. Forest (segment arena) 0) }
         ensures null { IfOk result (λ arena. tree (segment arena) 0 ≡ Null) }
         ensures alone { IfOk result (λ arena. length (segment arena) ≡ 8) }
-        ensures limit { IfOk result (λ arena. (1 ≤ words → words < 2 ^ 29 → arena.limit ≡ words)) }
+        ensures limit { IfOk result (λ arena. (1 ≤ words → words < words_past_format → arena.limit ≡ words)) }
         ensures least { IfOk result (λ arena. (words ≡ 0 → arena.limit ≡ 1)) }
-        ensures most { IfOk result (λ arena. (2 ^ 29 ≤ words → arena.limit ≡ 2 ^ 29 - 1)) }
+        ensures most { IfOk result (λ arena. (words_past_format ≤ words → arena.limit ≡ words_past_format - 1)) }
         ensures kind { IfErr result (λ e. e.kind ≡ OutOfMemory) }
     {
         let mut bytes = Vec::with_capacity(alloc, FIRST_ROOM)?;
@@ -157,7 +157,7 @@ impl Arena {
     pub fn get_limit(&self) -> usize
         ensures limit { result ≡ self.now.limit }
         ensures within { word_count (segment self.now) ≤ result }
-        ensures few { result < 2 ^ 29 }
+        ensures few { result < words_past_format }
     {
         self.limit
     }
@@ -178,7 +178,7 @@ impl Arena {
     pub(crate) fn grow(&mut self, words: usize) -> Result<()>
         requires { words < 2 ^ 32 }
         ensures longer { IfOk result (λ _. segment self.new ≡ segment self.old ++ replicate (8 * words) 0) }
-        ensures few { IfOk result (λ _. word_count (segment self.old) + words < 2 ^ 29) }
+        ensures few { IfOk result (λ _. word_count (segment self.old) + words < words_past_format) }
         ensures limit { self.new.limit ≡ self.old.limit }
         ensures kind { IfErr result (λ e. e.kind ≡ OutOfMemory) }
         ensures refused { OnErr result (segment self.new ≡ segment self.old) }
@@ -295,8 +295,8 @@ impl Arena {
         ensures place { IfOk result (λ start. shape_at (segment self.new) at ≡ ListIn start (size_number size) count) }
         ensures tree { IfOk result (λ _. tree (segment self.new) at ≡ zero_list size count) }
         ensures changes { IfOk result (λ _. Changes at (segment self.old) (segment self.new)) }
-        ensures within { OnOk result (count < 2 ^ 29) }
-        ensures cause { IfErr result (λ e. IsRoomRefusal e (2 ^ 29 ≤ count)) }
+        ensures within { OnOk result (count < words_past_format) }
+        ensures cause { IfErr result (λ e. IsRoomRefusal e (words_past_format ≤ count)) }
         ensures refused { OnErr result (segment self.new ≡ segment self.old) }
     {
         if count >= 1 << 29 {
@@ -320,9 +320,9 @@ impl Arena {
             ≡ CompositeIn tag count size.data_words size.pointers) }
         ensures tree { IfOk result (λ _. tree (segment self.new) at ≡ zero_structs size count) }
         ensures changes { IfOk result (λ _. Changes at (segment self.old) (segment self.new)) }
-        ensures within { OnOk result ((count < 2 ^ 29) × (count * (size.data_words + size.pointers) < 2 ^ 29)) }
+        ensures within { OnOk result ((count < words_past_format) × (count * (size.data_words + size.pointers) < words_past_format)) }
         ensures cause { IfErr result (λ e. IsRoomRefusal e
-            ((2 ^ 29 ≤ count) ⊎ (2 ^ 29 ≤ count * (size.data_words + size.pointers)))) }
+            ((words_past_format ≤ count) ⊎ (words_past_format ≤ count * (size.data_words + size.pointers)))) }
         ensures refused { OnErr result (segment self.new ≡ segment self.old) }
     {
         if count >= 1 << 29 {
@@ -347,8 +347,8 @@ impl Arena {
         ensures forest { OnOk result (Forest (segment self.new) at) }
         ensures tree { OnOk result (tree (segment self.new) at ≡ Numbers 1 bytes.now) }
         ensures changes { OnOk result (Changes at (segment self.old) (segment self.new)) }
-        ensures within { OnOk result (length bytes.now < 2 ^ 29) }
-        ensures cause { IfErr result (λ e. IsRoomRefusal e (2 ^ 29 ≤ length bytes.now)) }
+        ensures within { OnOk result (length bytes.now < words_past_format) }
+        ensures cause { IfErr result (λ e. IsRoomRefusal e (words_past_format ≤ length bytes.now)) }
         ensures refused { OnErr result (segment self.new ≡ segment self.old) }
     {
         if bytes.len() >= 1 << 29 {
@@ -368,8 +368,8 @@ impl Arena {
         ensures forest { OnOk result (Forest (segment self.new) at) }
         ensures tree { OnOk result (tree (segment self.new) at ≡ Numbers 1 (text.now ++ 0 ∷ [])) }
         ensures changes { OnOk result (Changes at (segment self.old) (segment self.new)) }
-        ensures within { OnOk result (length text.now + 1 < 2 ^ 29) }
-        ensures cause { IfErr result (λ e. IsRoomRefusal e (2 ^ 29 ≤ length text.now + 1)) }
+        ensures within { OnOk result (length text.now + 1 < words_past_format) }
+        ensures cause { IfErr result (λ e. IsRoomRefusal e (words_past_format ≤ length text.now + 1)) }
         ensures refused { OnErr result (segment self.new ≡ segment self.old) }
     {
         if text.len() >= (1 << 29) - 1 {

@@ -1,4 +1,5 @@
 //! Texts and data that are built: their bytes are lent where they stand.
+ghost use Rattle.capnp_wire.specs.Locate.{words_past_format};
 
 use crate::arena::Arena;
 use crate::lists::ListPlace;
@@ -28,7 +29,7 @@ pub struct BlobBuilder<'a> {
 }
 
 impl Arena {
-    ghost use Rattle.std.specs.Prelude.{List, ℕ, IfErr, IfOk, OnErr, OnOk, drop, length, replicate, ◌*◌, ◌+◌, ◌++◌, ◌<◌, ◌≡◌, ◌≤◌, ◌^◌};
+    ghost use Rattle.std.specs.Prelude.{List, ℕ, IfErr, IfOk, OnErr, OnOk, drop, length, replicate, ◌*◌, ◌+◌, ◌++◌, ◌<◌, ◌≡◌, ◌≤◌};
     ghost use Rattle.capnp_wire.specs.Edits.{IsRoomRefusal};
     ghost use Rattle.capnp_wire.specs.Tree.{Numbers};
     ghost use Rattle.capnp_arena.specs.Leaves.{Leaves};
@@ -110,8 +111,8 @@ impl Arena {
         ensures place { IfOk result (λ start. shape_at (segment self.new) at ≡ ListIn start 2 (count + 1)) }
         ensures tree { IfOk result (λ _. tree (segment self.new) at ≡ Numbers 1 (replicate (count + 1) 0)) }
         ensures changes { IfOk result (λ _. Changes at (segment self.old) (segment self.new)) }
-        ensures within { OnOk result (count + 1 < 2 ^ 29) }
-        ensures cause { IfErr result (λ e. IsRoomRefusal e (2 ^ 29 ≤ count + 1)) }
+        ensures within { OnOk result (count + 1 < words_past_format) }
+        ensures cause { IfErr result (λ e. IsRoomRefusal e (words_past_format ≤ count + 1)) }
         ensures refused { OnErr result (segment self.new ≡ segment self.old) }
     {
         if count >= (1 << 29) - 1 {
@@ -191,7 +192,7 @@ impl<'a> BlobBuilder<'a> {
 }
 
 impl<'a> PointerBuilder<'a> {
-    ghost use Rattle.std.specs.Prelude.{List, ℕ, IfErr, IfOk, OnOk, drop, length, replicate, ◌+◌, ◌++◌, ◌<◌, ◌≡◌, ◌≤◌, ◌^◌};
+    ghost use Rattle.std.specs.Prelude.{List, ℕ, IfErr, IfOk, OnOk, drop, length, replicate, ◌+◌, ◌++◌, ◌<◌, ◌≡◌, ◌≤◌};
     ghost use Rattle.std.specs.Borrow.{sem};
     ghost use Rattle.capnp_wire.specs.Place.{bytes_at};
     ghost use Rattle.capnp_wire.specs.Tree.{Numbers};
@@ -268,8 +269,8 @@ impl<'a> PointerBuilder<'a> {
         ensures tree { IfOk result (λ b. tree (segment b.arena.now) self.entry.at ≡ Numbers 1 (replicate count 0)) }
         ensures changes { IfOk result (λ b. Changes self.entry.at (segment self.entry.arena.now)
             (segment b.arena.now)) }
-        ensures within { OnOk result (count < 2 ^ 29) }
-        ensures cause { IfErr result (λ e. IsRoomRefusal e (2 ^ 29 ≤ count)) }
+        ensures within { OnOk result (count < words_past_format) }
+        ensures cause { IfErr result (λ e. IsRoomRefusal e (words_past_format ≤ count)) }
     {
         let PointerBuilder { arena, at } = self;
         let start = arena.init_list(at, ElementSize::Byte, count)?;
@@ -297,8 +298,8 @@ impl<'a> PointerBuilder<'a> {
             ≡ Numbers 1 (replicate (count + 1) 0)) }
         ensures changes { IfOk result (λ b. Changes self.entry.at (segment self.entry.arena.now)
             (segment b.arena.now)) }
-        ensures within { OnOk result (count + 1 < 2 ^ 29) }
-        ensures cause { IfErr result (λ e. IsRoomRefusal e (2 ^ 29 ≤ count + 1)) }
+        ensures within { OnOk result (count + 1 < words_past_format) }
+        ensures cause { IfErr result (λ e. IsRoomRefusal e (words_past_format ≤ count + 1)) }
     {
         let PointerBuilder { arena, at } = self;
         let start = arena.init_text_list(at, count)?;

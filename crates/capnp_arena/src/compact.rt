@@ -1,8 +1,9 @@
 //! The message of a segment without what no pointer leads to any more.
-ghost use Rattle.std.specs.Prelude.{IfErr, IfOk, suc, ◌++◌, ◌+◌, ◌*◌, ◌/◌, ◌<◌, ◌^◌, ◌≡◌, ◌≤◌, length};
+ghost use Rattle.std.specs.Prelude.{IfErr, IfOk, suc, ◌++◌, ◌+◌, ◌*◌, ◌/◌, ◌<◌, ◌≡◌, ◌≤◌, length};
 ghost use Rattle.capnp_device.specs.declared.error.ErrorKind.TheVariants.{OutOfMemory};
 ghost use Rattle.capnp_wire.specs.Depth.{IsBelow, memory_depth};
 ghost use Rattle.capnp_wire.specs.Encoding.{encoding_of};
+ghost use Rattle.capnp_wire.specs.Locate.{words_past_format};
 ghost use Rattle.capnp_wire.specs.WellFormed.{IsWellFormed};
 ghost use Rattle.capnp_wire.specs.Words.{words_of};
 ghost use Rattle.capnp_arena.specs.Forest.{Forest, tree};
@@ -21,9 +22,9 @@ use std::alloc::Global;
 /// The root pointer, and what it leads to: the segment as it is, where it is that already.
 pub(crate) fn append_encoding(out: &mut Vec<u8>, bytes: &[u8]) -> Appended
     requires forest { Forest bytes.now 0 }
-    requires few { word_count bytes.now < 2 ^ 29 }
+    requires few { word_count bytes.now < words_past_format }
     requires whole { length bytes.now ≡ 8 * word_count bytes.now }
-    requires small { words_of (tree bytes.now 0) < 2 ^ 29 }
+    requires small { words_of (tree bytes.now 0) < words_past_format }
     ensures { IfOk result (λ _. out.new.items ≡ out.old.items ++ encoding_of (tree bytes.now 0)) }
 {
     if is_in_order(bytes) {
@@ -36,8 +37,8 @@ pub(crate) fn append_encoding(out: &mut Vec<u8>, bytes: &[u8]) -> Appended
 /// The same, made from the tree.
 pub(crate) fn append_anew(out: &mut Vec<u8>, bytes: &[u8]) -> Appended
     requires forest { Forest bytes.now 0 }
-    requires few { word_count bytes.now < 2 ^ 29 }
-    requires small { words_of (tree bytes.now 0) < 2 ^ 29 }
+    requires few { word_count bytes.now < words_past_format }
+    requires small { words_of (tree bytes.now 0) < words_past_format }
     ensures { IfOk result (λ _. out.new.items ≡ out.old.items ++ encoding_of (tree bytes.now 0)) }
 {
     let target = look(bytes, 0);
@@ -51,8 +52,8 @@ pub(crate) fn append_anew(out: &mut Vec<u8>, bytes: &[u8]) -> Appended
 /// Refused with `OutOfMemory`, also where it would have more words than the limit or is deeper than a walk goes.
 fn encode(alloc: Global, bytes: &[u8], limit: usize) -> Result<Vec<u8>>
     requires forest { Forest bytes.now 0 }
-    requires low { limit < 2 ^ 29 }
-    requires few { word_count bytes.now < 2 ^ 29 }
+    requires low { limit < words_past_format }
+    requires few { word_count bytes.now < words_past_format }
     requires whole { length bytes.now ≡ 8 * word_count bytes.now }
     ensures bytes { IfOk result (λ v. v.items ≡ encoding_of (tree bytes.now 0)) }
     ensures held { IfOk result (λ _. IsWellFormed (tree bytes.now 0) × (suc (words_of (tree bytes.now 0)) ≤ limit)) }

@@ -1,11 +1,12 @@
 //! Copies what a reader stands on to the end of a segment, as its encoding: an object, and then what its pointers lead
 //! to, in their order. Room is left for a row of pointers, and each is put there when its target is due. A message in
 //! memory holds no fault leaf, so what has one is refused.
-ghost use Rattle.std.specs.Prelude.{IfErr, IfOk, IsSome, IsTrue, None, OnOk, suc, ◌*◌, ◌++◌, ◌+◌, ◌-◌, ◌/◌, ◌<◌, ◌^◌, ◌≡◌, ◌≤◌, length};
+ghost use Rattle.std.specs.Prelude.{IfErr, IfOk, IsSome, IsTrue, None, OnOk, suc, ◌*◌, ◌++◌, ◌+◌, ◌-◌, ◌/◌, ◌<◌, ◌≡◌, ◌≤◌, length};
 ghost use Rattle.capnp_wire.specs.Edits.{IsCopyRefusal, rounded_struct};
 ghost use Rattle.capnp_wire.specs.Encoding.{bytes_of, bytes_of_all, list_word, number_size, pointer_row, pointer_word, spelled_number};
 ghost use Rattle.capnp_wire.specs.Steps.Filling.{bytes_with, with_encoded_element, with_encoded_elements, with_pointers};
 ghost use Rattle.capnp_wire.specs.Found.{element_structs, found_tree, parts_tree, pointer_tree, pointer_trees};
+ghost use Rattle.capnp_wire.specs.Locate.{words_past_format};
 ghost use Rattle.capnp_wire.specs.Place.{struct_tree};
 ghost use Rattle.capnp_wire.specs.Tree.{Composite, struct_count, tree_count};
 ghost use Rattle.capnp_wire.specs.WellFormed.{AreElements, AreWellFormed, IsWellFormed, IsWellFormedStruct, is_width};
@@ -47,7 +48,7 @@ fn get_number_size(width: u8) -> u64
 #[inline(always)]
 pub(crate) fn point_to_struct(gap: u64, parts: StructParts<'_>) -> u64
     requires held { IsWellFormedStruct (parts_tree parts) }
-    requires near { gap < 2 ^ 29 }
+    requires near { gap < words_past_format }
     ensures { result ≡ pointer_word gap (struct_tree (rounded_struct (parts_tree parts.entry))) }
 {
     let data_words = parts.data.len().div_ceil(8) as u64;
@@ -62,8 +63,8 @@ pub(crate) fn point_to_struct(gap: u64, parts: StructParts<'_>) -> u64
 #[inline(always)]
 fn point_to_numbers(gap: u64, width: u8, bytes: &[u8]) -> u64
     requires width { IsTrue (is_width width) }
-    requires few { length bytes.now / width < 2 ^ 29 }
-    requires near { gap < 2 ^ 29 }
+    requires few { length bytes.now / width < words_past_format }
+    requires near { gap < words_past_format }
     ensures { result ≡ list_word gap (number_size width) (length bytes.now / width) }
 {
     let count = divide(bytes.len(), width) as u64;
@@ -73,9 +74,9 @@ fn point_to_numbers(gap: u64, width: u8, bytes: &[u8]) -> u64
 /// The pointer to a composite list.
 #[inline(always)]
 fn point_to_structs(gap: u64, size: StructSize, count: usize) -> u64
-    requires few { count * (size.data_words + size.pointers) < 2 ^ 29 }
-    requires count { count < 2 ^ 29 }
-    requires near { gap < 2 ^ 29 }
+    requires few { count * (size.data_words + size.pointers) < words_past_format }
+    requires count { count < words_past_format }
+    requires near { gap < words_past_format }
     ensures { result ≡ list_word gap 7 (count * (size.data_words + size.pointers)) }
 {
     make_list_word(
@@ -89,7 +90,7 @@ fn point_to_structs(gap: u64, size: StructSize, count: usize) -> u64
 #[inline(always)]
 pub(crate) fn point_to(gap: u64, found: Found<'_>) -> u64
     requires held { IsWellFormed (found_tree found) }
-    requires near { gap < 2 ^ 29 }
+    requires near { gap < words_past_format }
     ensures { result ≡ pointer_word gap (found_tree found.entry) }
 {
     match found {
@@ -153,7 +154,7 @@ pub(crate) fn append_struct(arena: &mut Arena, parts: StructParts<'_>) -> Result
 #[cycle(copy)]
 fn append_row(arena: &mut Arena, pointers: Pointers<'_>) -> Result<()>
     requires held { AreWellFormed (pointer_trees pointers) }
-    requires few { tree_count (pointer_trees pointers) < 2 ^ 29 }
+    requires few { tree_count (pointer_trees pointers) < words_past_format }
     ensures copy { OnOk result (segment arena.new
         ≡ segment arena.old ++ (pointer_row 0 (pointer_trees pointers.entry) ++ bytes_of_all
         (pointer_trees pointers.entry))) }

@@ -1,7 +1,7 @@
 //! The words of the tree that a pointer leads to, which may be fewer than the segment has.
 ghost use Rattle.std.specs.Prelude.{cond, ◌*◌, ◌+◌, ◌/◌, ◌<◌, ◌==◌, ◌^◌, ◌≡◌, ◌≤◌, length};
 ghost use Rattle.capnp_wire.specs.Depth.{AreBelow, ElementsAreBelow, IsBelow, memory_depth};
-ghost use Rattle.capnp_wire.specs.Locate.{list_words};
+ghost use Rattle.capnp_wire.specs.Locate.{list_words, words_past_format};
 ghost use Rattle.capnp_wire.specs.Tree.{structs_from, trees_from};
 ghost use Rattle.capnp_wire.specs.Words.{words_below_all, words_of, words_of_all};
 ghost use Rattle.capnp_arena.specs.Steps.Counts.{AreElementForests, AreForests, IsCount, IsCounted};
@@ -55,7 +55,7 @@ fn get_list_words(element_size: u8, count: u32) -> u64
 /// walk goes.
 pub(crate) fn count_words(bytes: &[u8], w: usize) -> Option<u64>
     requires forest { Forest bytes.now w }
-    requires few { word_count bytes.now < 2 ^ 29 }
+    requires few { word_count bytes.now < words_past_format }
     ensures { IsCounted result (words_of (tree bytes.now w)) (IsBelow memory_depth (tree bytes.now w)) }
 {
     count_below(bytes, w, MEMORY_DEPTH)
@@ -65,7 +65,7 @@ pub(crate) fn count_words(bytes: &[u8], w: usize) -> Option<u64>
 #[cycle(count)]
 fn count_below(bytes: &[u8], w: usize, depth: u8) -> Option<u64>
     requires forest { Forest bytes.now w }
-    requires few { word_count bytes.now < 2 ^ 29 }
+    requires few { word_count bytes.now < words_past_format }
     ensures { IsCounted result (words_of (tree bytes.now w)) (IsBelow depth (tree bytes.now w)) }
 {
     match look(bytes, w) {
@@ -132,7 +132,7 @@ fn count_below(bytes: &[u8], w: usize, depth: u8) -> Option<u64>
 pub(crate) fn count_row(bytes: &[u8], first: usize, count: usize, depth: u8) -> Option<u64>
     requires forests { AreForests bytes.now first count }
     requires inside { first + count ≤ word_count bytes.now }
-    requires few { word_count bytes.now < 2 ^ 29 }
+    requires few { word_count bytes.now < words_past_format }
     ensures { IsCounted result (words_of_all (trees_from (tree bytes.now) first count))
         (AreBelow depth (trees_from (tree bytes.now) first count)) }
 {
@@ -156,8 +156,8 @@ fn count_elements(
 ) -> Option<u64>
     requires forests { AreElementForests bytes.now start count data_words pointers }
     requires inside { start + count * (data_words + pointers) ≤ word_count bytes.now }
-    requires few { word_count bytes.now < 2 ^ 29 }
-    requires sizes { (count < 2 ^ 29) × (data_words < 2 ^ 16) × (pointers < 2 ^ 16) }
+    requires few { word_count bytes.now < words_past_format }
+    requires sizes { (count < words_past_format) × (data_words < 2 ^ 16) × (pointers < 2 ^ 16) }
     ensures { IsCounted result (words_below_all
         (structs_from (λ i. struct_from bytes.now (start + i * (data_words + pointers)) data_words pointers) 0 count))
         (ElementsAreBelow depth

@@ -3,7 +3,7 @@
 ghost use Rattle.std.specs.Prelude.{IfOk, ⊤, ℕ, ◌*◌, ◌++◌, ◌+◌, ◌-◌, ◌/◌, ◌<◌, ◌^◌, ◌≡◌, ◌≤◌, length};
 ghost use Rattle.capnp_wire.specs.Encoding.{bytes_below_all, bytes_of, bytes_of_all, element_row, own_bytes, padded_bytes, pointer_row, struct_word, spelled_number};
 ghost use Rattle.capnp_wire.specs.Steps.Filling.{HasRoom, HaveRoom, with_encoded_element, with_encoded_elements, with_pointers};
-ghost use Rattle.capnp_wire.specs.Locate.{list_words};
+ghost use Rattle.capnp_wire.specs.Locate.{list_words, words_past_format};
 ghost use Rattle.capnp_wire.specs.Place.{bytes_at, list_tree};
 ghost use Rattle.capnp_wire.specs.Tree.{Composite, structs_from, trees_from};
 ghost use Rattle.capnp_wire.specs.Words.{words_below_all, words_of, words_of_all};
@@ -24,7 +24,7 @@ use std::alloc::AllocError;
 /// The pointer to a target that starts `gap` words after it.
 #[inline(always)]
 pub(crate) fn make_pointer(gap: u64, target: Target) -> u64
-    requires near { gap < 2 ^ 29 }
+    requires near { gap < words_past_format }
     requires sized { HasSize (shape_found target) }
     ensures { result ≡ pointer_to gap (shape_found target) }
 {
@@ -77,7 +77,7 @@ fn append_plain(
     count: u32,
 ) -> Appended
     requires plain { element_size < 6 }
-    requires few { (count < 2 ^ 29) × (start < 2 ^ 30) }
+    requires few { (count < words_past_format) × (start < 2 ^ 30) }
     requires inside { start + list_words element_size count ≤ word_count bytes.now }
     ensures { IfOk result (λ _. out.new.items
         ≡ out.old.items ++ own_bytes (list_tree (tree bytes.now) bytes.now start element_size count)) }
@@ -115,8 +115,8 @@ pub(crate) fn append_tree(
     depth: u8,
 ) -> Appended
     requires forest { Forest bytes.now w }
-    requires few { word_count bytes.now < 2 ^ 29 }
-    requires small { words_of (tree bytes.now w) < 2 ^ 29 }
+    requires few { word_count bytes.now < words_past_format }
+    requires small { words_of (tree bytes.now w) < words_past_format }
     requires shape { shape_found target ≡ shape_at bytes.now w }
     requires points { Points bytes.now w (shape_found target) }
     ensures { IfOk result (λ _. out.new.items ≡ out.old.items ++ bytes_of (tree bytes.now w)) }
@@ -192,8 +192,8 @@ fn append_struct(
 ) -> Appended
     requires forests { AreForests bytes.now (start + data_words) pointers }
     requires inside { start + (data_words + pointers) ≤ word_count bytes.now }
-    requires few { word_count bytes.now < 2 ^ 29 }
-    requires small { pointers + words_of_all (trees_from (tree bytes.now) (start + data_words) pointers) < 2 ^ 29 }
+    requires few { word_count bytes.now < words_past_format }
+    requires small { pointers + words_of_all (trees_from (tree bytes.now) (start + data_words) pointers) < words_past_format }
     ensures { IfOk result (λ _. out.new.items ≡ out.old.items ++ (bytes_at bytes.now start (8 * data_words)
         ++ (pointer_row 0 (trees_from (tree bytes.now) (start + data_words) pointers) ++ bytes_of_all
         (trees_from (tree bytes.now) (start + data_words) pointers)))) }
@@ -210,8 +210,8 @@ fn append_struct(
 fn append_row(out: &mut Vec<u8>, bytes: &[u8], first: usize, count: usize, depth: u8) -> Appended
     requires forests { AreForests bytes.now first count }
     requires inside { first + count ≤ word_count bytes.now }
-    requires few { word_count bytes.now < 2 ^ 29 }
-    requires small { count + words_of_all (trees_from (tree bytes.now) first count) < 2 ^ 29 }
+    requires few { word_count bytes.now < words_past_format }
+    requires small { count + words_of_all (trees_from (tree bytes.now) first count) < words_past_format }
     ensures { IfOk result (λ _. out.new.items
         ≡ out.old.items ++ (pointer_row 0 (trees_from (tree bytes.now) first count) ++ bytes_of_all
         (trees_from (tree bytes.now) first count))) }
@@ -237,11 +237,11 @@ fn append_composite(
 ) -> Appended
     requires forests { AreElementForests bytes.now (tag + 1) count data_words pointers }
     requires inside { tag + 1 + count * (data_words + pointers) ≤ word_count bytes.now }
-    requires few { word_count bytes.now < 2 ^ 29 }
-    requires sizes { (count < 2 ^ 29) × (data_words < 2 ^ 16) × (pointers < 2 ^ 16) }
+    requires few { word_count bytes.now < words_past_format }
+    requires sizes { (count < words_past_format) × (data_words < 2 ^ 16) × (pointers < 2 ^ 16) }
     requires small { count * (data_words + pointers) + words_below_all
         (structs_from (λ i. struct_from bytes.now
-        (tag + 1 + i * (data_words + pointers)) data_words pointers) 0 count) < 2 ^ 29 }
+        (tag + 1 + i * (data_words + pointers)) data_words pointers) 0 count) < words_past_format }
     ensures { IfOk result (λ _. out.new.items
         ≡ out.old.items ++ bytes_of (Composite data_words pointers
         (structs_from (λ i. struct_from bytes.now
@@ -273,7 +273,7 @@ pub(crate) fn fill_row(
 ) -> Appended
     requires forests { AreForests bytes.now first count }
     requires inside { first + count ≤ word_count bytes.now }
-    requires few { word_count bytes.now < 2 ^ 29 }
+    requires few { word_count bytes.now < words_past_format }
     requires room { HasRoom at (trees_from (tree bytes.now) first count) out.old.items }
     ensures { IfOk result (λ _. out.new.items
         ≡ with_pointers at (trees_from (tree bytes.now) first count) out.old.items) }
@@ -304,8 +304,8 @@ fn fill_elements(
 ) -> Appended
     requires forests { AreElementForests bytes.now start count data_words pointers }
     requires inside { start + count * (data_words + pointers) ≤ word_count bytes.now }
-    requires few { word_count bytes.now < 2 ^ 29 }
-    requires sizes { (count < 2 ^ 29) × (data_words < 2 ^ 16) × (pointers < 2 ^ 16) }
+    requires few { word_count bytes.now < words_past_format }
+    requires sizes { (count < words_past_format) × (data_words < 2 ^ 16) × (pointers < 2 ^ 16) }
     requires room { HaveRoom data_words pointers at
         (structs_from (λ i. struct_from bytes.now
         (start + i * (data_words + pointers)) data_words pointers) 0 count) out.old.items }
@@ -344,7 +344,7 @@ fn fill_element(
 ) -> Appended
     requires forests { AreForests bytes.now (start + data_words) pointers }
     requires inside { start + (data_words + pointers) ≤ word_count bytes.now }
-    requires few { word_count bytes.now < 2 ^ 29 }
+    requires few { word_count bytes.now < words_past_format }
     requires room { HasRoom (at + 8 * data_words)
         (trees_from (tree bytes.now) (start + data_words) pointers) out.old.items }
     ensures { IfOk result (λ _. out.new.items

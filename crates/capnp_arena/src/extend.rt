@@ -1,6 +1,7 @@
 //! Words and bytes at the end of a segment. What is refused has added nothing.
 ghost use Rattle.std.specs.Prelude.{OnErr, OnOk, ◌++◌, ◌≡◌};
 ghost use Rattle.capnp_wire.specs.Encoding.{padded_bytes};
+ghost use Rattle.capnp_wire.specs.Locate.{words_past_format};
 
 use crate::append::{append_bits, append_few_zeros};
 use crate::arena::Arena;
@@ -28,7 +29,7 @@ fn append_whole(out: &mut Vec<u8>, bytes: &[u8]) -> std::result::Result<(), Allo
 }
 
 impl Arena {
-    ghost use Rattle.std.specs.Prelude.{IfErr, take, ◌≤◌, ◌*◌, ◌+◌, ◌/◌, ◌<◌, ◌^◌, length};
+    ghost use Rattle.std.specs.Prelude.{IfErr, take, ◌≤◌, ◌*◌, ◌+◌, ◌/◌, ◌<◌, length};
     ghost use Rattle.capnp_device.specs.declared.error.ErrorKind.TheVariants.{OutOfMemory};
     ghost use Rattle.capnp_wire.specs.Encoding.{packed_bits, spelled_number};
     ghost use Rattle.capnp_wire.specs.Locate.{list_words};
@@ -41,7 +42,7 @@ impl Arena {
     pub(crate) fn count_words(&self) -> usize
         ensures count { result ≡ word_count (segment self.now) }
         ensures whole { length (segment self.now) ≡ 8 * result }
-        ensures few { result < 2 ^ 29 }
+        ensures few { result < words_past_format }
     {
         self.bytes.len() / 8
     }

@@ -1,8 +1,9 @@
 //! Structs that are got with at least a size.
-ghost use Rattle.std.specs.Prelude.{IfErr, IfOk, length, max, ◌*◌, ◌+◌, ◌/◌, ◌<◌, ◌^◌, ◌≡◌, ◌≤◌};
+ghost use Rattle.std.specs.Prelude.{IfErr, IfOk, length, max, ◌*◌, ◌+◌, ◌/◌, ◌<◌, ◌≡◌, ◌≤◌};
 ghost use Rattle.capnp_device.specs.declared.error.ErrorKind.TheVariants.{OutOfMemory};
 ghost use Rattle.capnp_wire.specs.Edits.{extended_struct};
 ghost use Rattle.capnp_wire.specs.Encoding.{bytes_of};
+ghost use Rattle.capnp_wire.specs.Locate.{words_past_format};
 ghost use Rattle.capnp_wire.specs.Steps.WellFormed.{IsElement};
 ghost use Rattle.capnp_wire.specs.Place.{struct_tree};
 ghost use Rattle.capnp_arena.specs.Forest.{Forest, struct_from};
@@ -44,7 +45,7 @@ fn encode_larger(
 ) -> Result<Vec<u8>>
     requires forest { Forest bytes.now at }
     requires there { shape_at bytes.now at ≡ StructIn place.start place.data_words place.pointers }
-    requires few { limit < 2 ^ 29 }
+    requires few { limit < words_past_format }
     requires room { word_count bytes.now + (size.data_words + size.pointers) ≤ limit }
     requires larger { (place.data_words ≤ size.data_words) × (place.pointers ≤ size.pointers) }
     ensures content { IfOk result (λ v. v.items

@@ -1,8 +1,9 @@
 //! The bytes of structs that are made larger: each one's data, with zeros after it, and its pointers, with nulls after
 //! these, and then what they lead to.
-ghost use Rattle.std.specs.Prelude.{IfOk, replicate, ◌*◌, ◌+◌, ◌<◌, ◌^◌, ◌≡◌, ◌≤◌, length};
+ghost use Rattle.std.specs.Prelude.{IfOk, replicate, ◌*◌, ◌+◌, ◌<◌, ◌≡◌, ◌≤◌, length};
 ghost use Rattle.capnp_wire.specs.Edits.{extended_struct};
 ghost use Rattle.capnp_wire.specs.Encoding.{bytes_of};
+ghost use Rattle.capnp_wire.specs.Locate.{words_past_format};
 ghost use Rattle.capnp_wire.specs.Steps.Filling.{HasRoom, HaveRoom, bytes_with, with_encoded_element, with_encoded_elements};
 ghost use Rattle.capnp_wire.specs.Place.{struct_tree};
 ghost use Rattle.capnp_wire.specs.Tree.{Composite, structs_from};
@@ -50,7 +51,7 @@ fn fill_grown(
     size: StructSize,
 ) -> Appended
     requires inside { IsPartIn bytes.now row index }
-    requires few { word_count bytes.now < 2 ^ 29 }
+    requires few { word_count bytes.now < words_past_format }
     requires fits { (row.data_count ≤ 8 * size.data_words) × (row.pointers ≤ size.pointers) }
     requires long { at + 8 * (size.data_words + size.pointers) ≤ length out.old.items }
     requires room { HasRoom (at + 8 * size.data_words) (grown_part_at bytes.now row index).pointers out.old.items }
@@ -82,7 +83,7 @@ fn fill_all_grown(
     size: StructSize,
 ) -> Appended
     requires inside { ArePartsIn bytes.now row count }
-    requires few { word_count bytes.now < 2 ^ 29 }
+    requires few { word_count bytes.now < words_past_format }
     requires fits { (row.data_count ≤ 8 * size.data_words) × (row.pointers ≤ size.pointers) }
     requires room { HaveRoom size.data_words size.pointers at
         (structs_from (λ i. extended_struct size (grown_part_at bytes.now row i)) 0 count) out.old.items }
@@ -112,9 +113,9 @@ pub(crate) fn encode_grown(
     size: StructSize,
 ) -> Result<Vec<u8>, AllocError>
     requires inside { ArePartsIn bytes.now row 1 }
-    requires few { word_count bytes.now < 2 ^ 29 }
+    requires few { word_count bytes.now < words_past_format }
     requires fits { (row.data_count ≤ 8 * size.data_words) × (row.pointers ≤ size.pointers) }
-    requires small { size.data_words + size.pointers + words_of_all (grown_part_at bytes.now row 0).pointers < 2 ^ 29 }
+    requires small { size.data_words + size.pointers + words_of_all (grown_part_at bytes.now row 0).pointers < words_past_format }
     ensures { IfOk result (λ v. v.items ≡ bytes_of (struct_tree (extended_struct size (grown_part_at bytes.now row 0)))) }
 {
     let mut out = Vec::new(alloc);
@@ -134,10 +135,10 @@ pub(crate) fn encode_all_grown(
     size: StructSize,
 ) -> Result<Vec<u8>, AllocError>
     requires inside { ArePartsIn bytes.now row count }
-    requires few { (word_count bytes.now < 2 ^ 29) × (count < 2 ^ 29) }
+    requires few { (word_count bytes.now < words_past_format) × (count < words_past_format) }
     requires fits { (row.data_count ≤ 8 * size.data_words) × (row.pointers ≤ size.pointers) }
     requires small { count * (size.data_words + size.pointers) + words_below_all
-        (structs_from (λ i. extended_struct size (grown_part_at bytes.now row i)) 0 count) < 2 ^ 29 }
+        (structs_from (λ i. extended_struct size (grown_part_at bytes.now row i)) 0 count) < words_past_format }
     ensures { IfOk result (λ v. v.items ≡ bytes_of
         (Composite size.data_words size.pointers
         (structs_from (λ i. extended_struct size (grown_part_at bytes.now row i)) 0 count))) }

@@ -1,9 +1,10 @@
 //! Callers of the builders: what a message holds once the builders of its parts are done.
-ghost use Rattle.std.specs.Prelude.{[], length, replicate, slice_set, IfErr, IfOk, OnErr, OnOk, ◌*◌, ◌+◌, ◌++◌, ◌∷◌, ◌<◌, ◌≡◌, ◌≢◌, ◌≤◌, ◌^◌, ◌⊎◌};
+ghost use Rattle.std.specs.Prelude.{[], length, replicate, slice_set, IfErr, IfOk, OnErr, OnOk, ◌*◌, ◌+◌, ◌++◌, ◌∷◌, ◌<◌, ◌≡◌, ◌≢◌, ◌≤◌, ◌⊎◌};
 ghost use Rattle.capnp_device.specs.declared.error.ErrorKind.TheVariants.{OutOfMemory, SizePastFormat};
 ghost use Rattle.capnp_wire.specs.Edits.{IsRoomRefusal, with_bytes, with_number, with_pointer_tree, zero_struct, zero_structs};
 ghost use Rattle.capnp_wire.specs.Elements.{HasPointer, with_pointer_element, with_struct_element};
 ghost use Rattle.capnp_wire.specs.Encoding.{message_of};
+ghost use Rattle.capnp_wire.specs.Locate.{words_past_format};
 ghost use Rattle.capnp_wire.specs.Place.{bytes_at, struct_tree};
 ghost use Rattle.capnp_wire.specs.Reading.{element_struct};
 ghost use Rattle.capnp_wire.specs.Tree.{Numbers};
@@ -32,7 +33,7 @@ pub fn build_struct(message: &mut Builder, size: StructSize, index: u16, text: &
     ensures message { IsMessage message.new }
     ensures tree { OnOk result (message_tree message.new
         ≡ struct_tree (with_pointer_tree (zero_struct size) index (Numbers 1 (text.now ++ 0 ∷ [])))) }
-    ensures cause { IfErr result (λ e. e.kind ≢ OutOfMemory → (e.kind ≡ SizePastFormat) × (2 ^ 29 ≤ length text.now + 1)) }
+    ensures cause { IfErr result (λ e. e.kind ≢ OutOfMemory → (e.kind ≡ SizePastFormat) × (words_past_format ≤ length text.now + 1)) }
     ensures refused { OnErr result ((segment message.new ≡ segment message.old)
         ⊎ (message_tree message.new ≡ struct_tree (zero_struct size))) }
 {
@@ -55,7 +56,7 @@ pub fn fill_struct(built: &mut StructBuilder<'_>, index: u16, text: &[u8], value
         ≡ with_bytes (with_pointer_tree (built_struct_tree built.old) index (Numbers 1 (text.now ++ 0 ∷ [])))
         (with_number 8 0 value (built_struct_tree built.old).bytes)) }
     ensures changes { PartChanges (handle_words built.old.place) (segment built.old.arena.now) (segment built.new.arena.now) }
-    ensures cause { IfErr result (λ e. IsRoomRefusal e (2 ^ 29 ≤ length text.now + 1)) }
+    ensures cause { IfErr result (λ e. IsRoomRefusal e (words_past_format ≤ length text.now + 1)) }
     ensures refused { OnErr result (segment built.new.arena.now ≡ segment built.old.arena.now) }
 {
     let place = built.place;
@@ -74,7 +75,7 @@ pub fn set_text_at(pointer: PointerBuilder<'_>, text: &[u8]) -> Result<()>
     ensures tree { OnOk result (tree (segment pointer.exit.0.now) pointer.entry.at ≡ Numbers 1 (text.now ++ 0 ∷ [])) }
     ensures changes { OnOk result (Changes pointer.entry.at (segment pointer.entry.arena.now)
         (segment pointer.exit.0.now)) }
-    ensures cause { IfErr result (λ e. IsRoomRefusal e (2 ^ 29 ≤ length text.now + 1)) }
+    ensures cause { IfErr result (λ e. IsRoomRefusal e (words_past_format ≤ length text.now + 1)) }
     ensures refused { OnErr result (segment pointer.exit.0.now ≡ segment pointer.entry.arena.now) }
 {
     let PointerBuilder { arena, at } = pointer;
@@ -92,7 +93,7 @@ pub fn set_text_field(built: &mut StructBuilder<'_>, index: u16, text: &[u8]) ->
     ensures planted { IsBuiltStruct built.new }
     ensures tree { OnOk result (built_struct_tree built.new
         ≡ with_pointer_tree (built_struct_tree built.old) index (Numbers 1 (text.now ++ 0 ∷ []))) }
-    ensures cause { IfErr result (λ e. IsRoomRefusal e (2 ^ 29 ≤ length text.now + 1)) }
+    ensures cause { IfErr result (λ e. IsRoomRefusal e (words_past_format ≤ length text.now + 1)) }
     ensures refused { OnErr result (segment built.new.arena.now ≡ segment built.old.arena.now) }
 {
     set_text_at(built.pointer_field_mut(index), text)
@@ -110,7 +111,7 @@ pub fn set_text_element(list: &mut ListBuilder<'_>, index: u32, text: &[u8]) -> 
     ensures leaves { OnOk result (Leaves list.old.at
         (with_pointer_element index (Numbers 1 (text.now ++ 0 ∷ [])) (built_list_tree list.old)) (segment list.old.arena.now)
         (segment list.new.arena.now)) }
-    ensures cause { IfErr result (λ e. IsRoomRefusal e (2 ^ 29 ≤ length text.now + 1)) }
+    ensures cause { IfErr result (λ e. IsRoomRefusal e (words_past_format ≤ length text.now + 1)) }
     ensures refused { OnErr result (segment list.new.arena.now ≡ segment list.old.arena.now) }
 {
     let at = list.at;
@@ -137,8 +138,8 @@ pub fn build_list(
     ensures tree { OnOk result (message_tree message.new ≡
         with_struct_element element (with_pointer_tree (element_struct (zero_structs size count) element) index
         (Numbers 1 (text.now ++ 0 ∷ []))) (zero_structs size count)) }
-    ensures cause { IfErr result (λ e. e.kind ≢ OutOfMemory → (e.kind ≡ SizePastFormat) × ((2 ^ 29 ≤ count)
-        ⊎ (2 ^ 29 ≤ count * (size.data_words + size.pointers)) ⊎ (2 ^ 29 ≤ length text.now + 1))) }
+    ensures cause { IfErr result (λ e. e.kind ≢ OutOfMemory → (e.kind ≡ SizePastFormat) × ((words_past_format ≤ count)
+        ⊎ (words_past_format ≤ count * (size.data_words + size.pointers)) ⊎ (words_past_format ≤ length text.now + 1))) }
     ensures refused { OnErr result ((segment message.new ≡ segment message.old)
         ⊎ (message_tree message.new ≡ zero_structs size count)) }
 {
@@ -157,7 +158,7 @@ pub fn write_struct(alloc: Global, size: StructSize, index: u16, text: &[u8]) ->
     requires pointer { index < size.pointers }
     ensures bytes { IfOk result (λ v. v.items
         ≡ message_of (struct_tree (with_pointer_tree (zero_struct size) index (Numbers 1 (text.now ++ 0 ∷ []))))) }
-    ensures cause { IfErr result (λ e. e.kind ≢ OutOfMemory → (e.kind ≡ SizePastFormat) × (2 ^ 29 ≤ length text.now + 1)) }
+    ensures cause { IfErr result (λ e. e.kind ≢ OutOfMemory → (e.kind ≡ SizePastFormat) × (words_past_format ≤ length text.now + 1)) }
 {
     let mut message = Builder::new(alloc)?;
     build_struct(&mut message, size, index, text)?;
@@ -172,7 +173,7 @@ pub fn build_data(message: &mut Builder, count: u32, first: u8) -> Result<()>
     requires first { 0 < count }
     ensures message { IsMessage message.new }
     ensures tree { OnOk result (message_tree message.new ≡ Numbers 1 (slice_set (replicate count 0) 0 first)) }
-    ensures cause { IfErr result (λ e. IsRoomRefusal e (2 ^ 29 ≤ count)) }
+    ensures cause { IfErr result (λ e. IsRoomRefusal e (words_past_format ≤ count)) }
     ensures refused { OnErr result (segment message.new ≡ segment message.old) }
 {
     let start = message.init_list(0, ElementSize::Byte, count)?;
@@ -194,7 +195,7 @@ pub fn build_data_by_builders(message: &mut Builder, count: u32, first: u8) -> R
     requires first { 0 < count }
     ensures message { IsMessage message.new }
     ensures tree { OnOk result (message_tree message.new ≡ Numbers 1 (slice_set (replicate count 0) 0 first)) }
-    ensures cause { IfErr result (λ e. IsRoomRefusal e (2 ^ 29 ≤ count)) }
+    ensures cause { IfErr result (λ e. IsRoomRefusal e (words_past_format ≤ count)) }
     ensures refused { OnErr result (segment message.new ≡ segment message.old) }
 {
     let built = message.root().init_data(count)?;

@@ -2,7 +2,7 @@
 //! behind its last element, and no word is left over.
 ghost use Rattle.std.specs.Prelude.{IsTrue, drop, replicate, take, ◌*◌, ◌+◌, ◌-◌, ◌/◌, ◌<◌, ◌^◌, ◌≡◌, ◌≤◌, length};
 ghost use Rattle.capnp_wire.specs.Encoding.{encoding_of, own_bytes, packed_bits, padded_bytes};
-ghost use Rattle.capnp_wire.specs.Locate.{element_size_number, pointer_kind, list_words, offset};
+ghost use Rattle.capnp_wire.specs.Locate.{element_size_number, pointer_kind, list_words, offset, words_past_format};
 ghost use Rattle.capnp_wire.specs.Place.{bits_from, bytes_at, list_tree};
 ghost use Rattle.capnp_arena.specs.Steps.Counts.{AreElementForests, AreForests};
 ghost use Rattle.capnp_arena.specs.Forest.{Forest, tree};
@@ -62,7 +62,7 @@ pub(crate) fn end_of_bytes(bytes: &[u8], start: usize, count: usize) -> Option<u
 #[inline(always)]
 fn end_of_plain(bytes: &[u8], start: usize, element_size: u8, count: u32) -> Option<usize>
     requires plain { element_size < 6 }
-    requires few { (count < 2 ^ 29) × (start < 2 ^ 30) }
+    requires few { (count < words_past_format) × (start < 2 ^ 30) }
     requires inside { start + list_words element_size count ≤ word_count bytes.now }
     ensures { IfKnown result (λ next. (start ≤ next) × (next ≤ word_count bytes.now)
         × (bytes_at bytes.now start (8 * (next - start))
@@ -103,7 +103,7 @@ fn leads_to_bytes(word: u64, gap: usize) -> bool
 #[cycle(order)]
 fn follow(bytes: &[u8], w: usize, end: usize, depth: u8) -> Option<usize>
     requires forest { Forest bytes.now w }
-    requires few { word_count bytes.now < 2 ^ 29 }
+    requires few { word_count bytes.now < words_past_format }
     requires inside { end ≤ word_count bytes.now }
     ensures { IfKnown result (λ next. IsLaid bytes.now w end next) }
 {
@@ -191,7 +191,7 @@ fn follow(bytes: &[u8], w: usize, end: usize, depth: u8) -> Option<usize>
 #[inline(always)]
 fn follow_at(bytes: &[u8], w: usize, end: usize, depth: u8) -> Option<usize>
     requires forest { Forest bytes.now w }
-    requires few { word_count bytes.now < 2 ^ 29 }
+    requires few { word_count bytes.now < words_past_format }
     requires before { w < end }
     requires inside { end ≤ word_count bytes.now }
     ensures { IfKnown result (λ next. IsLaid bytes.now w end next) }
@@ -235,7 +235,7 @@ fn follow_at(bytes: &[u8], w: usize, end: usize, depth: u8) -> Option<usize>
 #[inline(always)]
 fn follow_row(bytes: &[u8], first: usize, count: usize, end: usize, depth: u8) -> Option<usize>
     requires forests { AreForests bytes.now first count }
-    requires few { word_count bytes.now < 2 ^ 29 }
+    requires few { word_count bytes.now < words_past_format }
     requires before { first + count ≤ end }
     requires inside { end ≤ word_count bytes.now }
     ensures { IfKnown result (λ next. IsRowLaid bytes.now first count end next) }
@@ -259,10 +259,10 @@ fn follow_elements(
     depth: u8,
 ) -> Option<usize>
     requires forests { AreElementForests bytes.now start count data_words pointers }
-    requires few { word_count bytes.now < 2 ^ 29 }
+    requires few { word_count bytes.now < words_past_format }
     requires before { start + count * (data_words + pointers) ≤ end }
     requires inside { end ≤ word_count bytes.now }
-    requires sizes { (count < 2 ^ 29) × (data_words < 2 ^ 16) × (pointers < 2 ^ 16) }
+    requires sizes { (count < words_past_format) × (data_words < 2 ^ 16) × (pointers < 2 ^ 16) }
     ensures { IfKnown result (λ next. AreLaid bytes.now start data_words pointers 0 count end next) }
 {
     let mut next = end;
@@ -281,7 +281,7 @@ fn follow_elements(
 /// Whether a segment is the encoding of what its root leads to, so that it is written as it is.
 pub(crate) fn is_in_order(bytes: &[u8]) -> bool
     requires forest { Forest bytes.now 0 }
-    requires few { word_count bytes.now < 2 ^ 29 }
+    requires few { word_count bytes.now < words_past_format }
     requires whole { length bytes.now ≡ 8 * word_count bytes.now }
     ensures { IsTrue result → bytes.now ≡ encoding_of (tree bytes.now 0) }
 {

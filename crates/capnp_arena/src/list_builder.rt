@@ -2,6 +2,7 @@
 //!
 //! The elements of a list that is built are where its pointer leads: that of a list that was got as it is, and those of
 //! a null nowhere.
+ghost use Rattle.capnp_wire.specs.Depth.{message_levels};
 
 use crate::arena::Arena;
 use crate::list_reads::ListTarget;
@@ -62,7 +63,7 @@ impl<'a> ListBuilder<'a> {
             (segment self.now.arena.now) self.now.at) self.now.list }
         ensures list { IsBelow memory_depth (built_list_tree self.now)
             → list_of result ≡ listed_tree (built_list_tree self.now) self.now.list }
-        ensures levels { list_levels result ≡ 64 }
+        ensures levels { list_levels result ≡ message_levels }
     {
         self.arena.get_list_reader(self.at, self.list)
     }
@@ -78,7 +79,7 @@ impl<'a> ListBuilder<'a> {
             (segment self.entry.arena.now) self.entry.at) self.entry.list }
         ensures list { IsBelow memory_depth (built_list_tree self.entry)
             → list_of result ≡ listed_tree (built_list_tree self.entry) self.entry.list }
-        ensures levels { list_levels result ≡ 64 }
+        ensures levels { list_levels result ≡ message_levels }
     {
         let ListBuilder { arena, at, list } = self;
         arena.into_list_reader(at, list)

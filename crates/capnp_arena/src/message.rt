@@ -1,8 +1,9 @@
 //! Whole messages that are built, and what is written of them.
-ghost use Rattle.std.specs.Prelude.{IfErr, IfOk, OnOk, suc, [], ◌*◌, ◌++◌, ◌+◌, ◌/◌, ◌<◌, ◌^◌, ◌≡◌, ◌≢◌, ◌≤◌, length};
+ghost use Rattle.std.specs.Prelude.{IfErr, IfOk, OnOk, suc, [], ◌*◌, ◌++◌, ◌+◌, ◌/◌, ◌<◌, ◌≡◌, ◌≢◌, ◌≤◌, length};
 ghost use Rattle.capnp_device.specs.Device.{HasFailed, HasWorked};
 ghost use Rattle.capnp_device.specs.declared.error.ErrorKind.TheVariants.{OutOfMemory, WriteFailed};
 ghost use Rattle.capnp_wire.specs.Encoding.{encoding_of, message_of};
+ghost use Rattle.capnp_wire.specs.Locate.{words_past_format};
 ghost use Rattle.capnp_wire.specs.Message.{IsCutShort, IsWritten};
 ghost use Rattle.capnp_wire.specs.WellFormed.{IsWellFormed};
 ghost use Rattle.capnp_wire.specs.Words.{words_of};
@@ -25,7 +26,7 @@ use std::alloc::Global;
 fn append_made(out: &mut Vec<u8>, bytes: &[u8]) -> Appended
     requires new { out.old.items ≡ [] }
     requires forest { Forest bytes.now 0 }
-    requires few { word_count bytes.now < 2 ^ 29 }
+    requires few { word_count bytes.now < words_past_format }
     ensures bytes { IfOk result (λ _. out.new.items ≡ message_of (tree bytes.now 0)) }
     ensures held { IfOk result (λ _. IsWellFormed (tree bytes.now 0)) }
 {
@@ -40,7 +41,7 @@ fn append_made(out: &mut Vec<u8>, bytes: &[u8]) -> Appended
 /// The table of a segment that is the encoding already, and the segment.
 fn append_whole(out: &mut Vec<u8>, bytes: &[u8]) -> Appended
     requires new { out.old.items ≡ [] }
-    requires few { word_count bytes.now < 2 ^ 29 }
+    requires few { word_count bytes.now < words_past_format }
     requires order { bytes.now ≡ encoding_of (tree bytes.now 0) }
     ensures bytes { IfOk result (λ _. out.new.items ≡ message_of (tree bytes.now 0)) }
     ensures held { IfOk result (λ _. IsWellFormed (tree bytes.now 0)) }
@@ -55,7 +56,7 @@ fn append_whole(out: &mut Vec<u8>, bytes: &[u8]) -> Appended
 fn append_message(out: &mut Vec<u8>, bytes: &[u8]) -> Appended
     requires new { out.old.items ≡ [] }
     requires forest { Forest bytes.now 0 }
-    requires few { word_count bytes.now < 2 ^ 29 }
+    requires few { word_count bytes.now < words_past_format }
     requires whole { length bytes.now ≡ 8 * word_count bytes.now }
     ensures bytes { IfOk result (λ _. out.new.items ≡ message_of (tree bytes.now 0)) }
     ensures held { IfOk result (λ _. IsWellFormed (tree bytes.now 0)) }
@@ -69,7 +70,7 @@ fn append_message(out: &mut Vec<u8>, bytes: &[u8]) -> Appended
 /// Makes the bytes of a message from its tree, and then writes them.
 fn put_made<W: Sink>(alloc: Global, sink: &mut W, bytes: &[u8]) -> Result<()>
     requires forest { Forest bytes.now 0 }
-    requires few { word_count bytes.now < 2 ^ 29 }
+    requires few { word_count bytes.now < words_past_format }
     ensures written { OnOk result (IsWritten (tree bytes.now 0) (W.written sink.old) (W.written sink.new)) }
     ensures worked { OnOk result (HasWorked (W.failures sink.old) (W.failures sink.new)) }
     ensures kind { IfErr result (λ e. e.kind ≢ OutOfMemory → e.kind ≡ WriteFailed) }
@@ -115,7 +116,7 @@ impl Arena {
     pub fn size_in_words(&self) -> Result<u64>
         requires message { IsMessage self.now }
         ensures words { IfOk result (λ words. words ≡ suc (words_of (message_tree self.now))) }
-        ensures fits { suc (words_of (message_tree self.now)) < 2 ^ 29 }
+        ensures fits { suc (words_of (message_tree self.now)) < words_past_format }
         ensures succeeds { IsBelow memory_depth (message_tree self.now) → IsOk result }
         ensures cause { IfErr result (λ e. (e.kind ≡ OutOfMemory)
             × (IsBelow memory_depth (message_tree self.now) → ⊥)) }
@@ -134,10 +135,10 @@ impl Arena {
         requires forest { Forest (segment self.now) 0 }
         ensures bytes { IfOk result (λ v. v.items ≡ message_of (tree (segment self.now) 0)) }
         ensures held { IfOk result (λ _. IsWellFormed (tree (segment self.now) 0)
-            × (suc (words_of (tree (segment self.now) 0)) < 2 ^ 29)) }
+            × (suc (words_of (tree (segment self.now) 0)) < words_past_format)) }
         ensures read { IfOk result (λ v. IsReadAs (tree (segment self.now) 0) v.items) }
         ensures kind { IfErr result (λ e. e.kind ≡ OutOfMemory) }
-        ensures fits { suc (words_of (tree (segment self.now) 0)) < 2 ^ 29 }
+        ensures fits { suc (words_of (tree (segment self.now) 0)) < words_past_format }
     {
         let bytes = self.bytes.as_slice();
         let mut out = Vec::with_capacity(*self.bytes.allocator(), bytes.len() + 8)?;
@@ -156,11 +157,11 @@ impl Arena {
         ensures written { OnOk result (IsWritten (message_tree self.now) (W.written sink.old) (W.written sink.new)) }
         ensures worked { OnOk result (HasWorked (W.failures sink.old) (W.failures sink.new)) }
         ensures held { OnOk result (IsWellFormed (message_tree self.now)
-            × (suc (words_of (message_tree self.now)) < 2 ^ 29)) }
+            × (suc (words_of (message_tree self.now)) < words_past_format)) }
         ensures read { OnOk result (IsReadAs (message_tree self.now) (message_of (message_tree self.now))) }
         ensures kind { IfErr result (λ e. e.kind ≢ OutOfMemory → e.kind ≡ WriteFailed) }
         ensures fits { IfErr result (λ _. IsWellFormed (message_tree self.now)
-            × (suc (words_of (message_tree self.now)) < 2 ^ 29)) }
+            × (suc (words_of (message_tree self.now)) < words_past_format)) }
         ensures nothing { IfErr result (λ e. e.kind ≢ WriteFailed → sink.new ≡ sink.old) }
         ensures failed { IfErr result (λ e. e.kind ≡ WriteFailed
             → HasFailed (W.failures sink.old) (W.failures sink.new)) }

@@ -2,6 +2,8 @@
 //!
 //! A call by value takes the step that can be refused first, and then hands the reference on. What the message ends as
 //! is known by that reference: `same` where a handle is answered, and `rests` where the call is refused.
+ghost use Rattle.capnp_wire.specs.Depth.{message_levels};
+ghost use Rattle.capnp_wire.specs.Locate.{words_past_format};
 
 use crate::arena::Arena;
 use crate::list_builder::ListBuilder;
@@ -21,7 +23,7 @@ pub struct PointerBuilder<'a> {
 }
 
 impl<'a> PointerBuilder<'a> {
-    ghost use Rattle.std.specs.Prelude.{[], Err, None, Ok, false, IfErr, IfOk, IsOk, OnErr, OnOk, ◌*◌, ◌+◌, ◌++◌, ◌∷◌, ◌≡◌, ◌≢◌, ◌<◌, ◌≤◌, ◌^◌, ◌⊎◌, length};
+    ghost use Rattle.std.specs.Prelude.{[], Err, None, Ok, false, IfErr, IfOk, IsOk, OnErr, OnOk, ◌*◌, ◌+◌, ◌++◌, ◌∷◌, ◌≡◌, ◌≢◌, ◌<◌, ◌≤◌, ◌⊎◌, length};
     ghost use Rattle.std.specs.Borrow.{sem};
     ghost use Rattle.capnp_device.specs.declared.error.ErrorKind.TheVariants.{OutOfMemory};
     ghost use Rattle.capnp_wire.specs.Depth.{IsBelow, memory_depth};
@@ -61,7 +63,7 @@ impl<'a> PointerBuilder<'a> {
         ensures read { tree_of result ≡ tree_below memory_depth (segment self.now.arena.now ∷ [])
             (segment self.now.arena.now) self.now.at }
         ensures tree { IsBelow memory_depth (built_pointer_tree self.now) → tree_of result ≡ built_pointer_tree self.now }
-        ensures levels { levels_of result ≡ 64 }
+        ensures levels { levels_of result ≡ message_levels }
     {
         self.arena.get_pointer_reader(self.at)
     }
@@ -74,7 +76,7 @@ impl<'a> PointerBuilder<'a> {
         ensures read { tree_of result ≡ tree_below memory_depth (segment self.entry.arena.now ∷ [])
             (segment self.entry.arena.now) self.entry.at }
         ensures tree { IsBelow memory_depth (built_pointer_tree self.entry) → tree_of result ≡ built_pointer_tree self.entry }
-        ensures levels { levels_of result ≡ 64 }
+        ensures levels { levels_of result ≡ message_levels }
     {
         let PointerBuilder { arena, at } = self;
         arena.into_pointer_reader(at)
@@ -245,8 +247,8 @@ impl<'a> PointerBuilder<'a> {
         ensures tree { IfOk result (λ l. tree (segment l.arena.now) l.at ≡ zero_list size count) }
         ensures changes { IfOk result (λ l. Changes self.entry.at (segment self.entry.arena.now)
             (segment l.arena.now)) }
-        ensures within { OnOk result (count < 2 ^ 29) }
-        ensures cause { IfErr result (λ e. IsRoomRefusal e (2 ^ 29 ≤ count)) }
+        ensures within { OnOk result (count < words_past_format) }
+        ensures cause { IfErr result (λ e. IsRoomRefusal e (words_past_format ≤ count)) }
     {
         let PointerBuilder { arena, at } = self;
         let start = arena.init_list(at, size, count)?;
@@ -269,9 +271,9 @@ impl<'a> PointerBuilder<'a> {
         ensures tree { IfOk result (λ l. tree (segment l.arena.now) l.at ≡ zero_structs size count) }
         ensures changes { IfOk result (λ l. Changes self.entry.at (segment self.entry.arena.now)
             (segment l.arena.now)) }
-        ensures within { OnOk result ((count < 2 ^ 29) × (count * (size.data_words + size.pointers) < 2 ^ 29)) }
+        ensures within { OnOk result ((count < words_past_format) × (count * (size.data_words + size.pointers) < words_past_format)) }
         ensures cause { IfErr result (λ e. IsRoomRefusal e
-            ((2 ^ 29 ≤ count) ⊎ (2 ^ 29 ≤ count * (size.data_words + size.pointers)))) }
+            ((words_past_format ≤ count) ⊎ (words_past_format ≤ count * (size.data_words + size.pointers)))) }
     {
         let PointerBuilder { arena, at } = self;
         let tag = arena.init_struct_list(at, count, size)?;
@@ -439,8 +441,8 @@ impl<'a> PointerBuilder<'a> {
         ensures forest { OnOk result (IsBuiltPointer self.new) }
         ensures tree { OnOk result (built_pointer_tree self.new ≡ Numbers 1 (text.now ++ 0 ∷ [])) }
         ensures changes { OnOk result (Changes self.old.at (segment self.old.arena.now) (segment self.new.arena.now)) }
-        ensures within { OnOk result (length text.now + 1 < 2 ^ 29) }
-        ensures cause { IfErr result (λ e. IsRoomRefusal e (2 ^ 29 ≤ length text.now + 1)) }
+        ensures within { OnOk result (length text.now + 1 < words_past_format) }
+        ensures cause { IfErr result (λ e. IsRoomRefusal e (words_past_format ≤ length text.now + 1)) }
         ensures refused { OnErr result (segment self.new.arena.now ≡ segment self.old.arena.now) }
     {
         self.arena.set_text(self.at, text)
@@ -457,8 +459,8 @@ impl<'a> PointerBuilder<'a> {
         ensures forest { OnOk result (IsBuiltPointer self.new) }
         ensures tree { OnOk result (built_pointer_tree self.new ≡ Numbers 1 bytes.now) }
         ensures changes { OnOk result (Changes self.old.at (segment self.old.arena.now) (segment self.new.arena.now)) }
-        ensures within { OnOk result (length bytes.now < 2 ^ 29) }
-        ensures cause { IfErr result (λ e. IsRoomRefusal e (2 ^ 29 ≤ length bytes.now)) }
+        ensures within { OnOk result (length bytes.now < words_past_format) }
+        ensures cause { IfErr result (λ e. IsRoomRefusal e (words_past_format ≤ length bytes.now)) }
         ensures refused { OnErr result (segment self.new.arena.now ≡ segment self.old.arena.now) }
     {
         self.arena.set_data(self.at, bytes)

@@ -1,5 +1,6 @@
 //! The segment, read where it lies by the code that reads what is received.
 ghost use Rattle.std.specs.Prelude.{ℕ, ◌+◌, ◌^◌, ◌<◌, ◌≤◌};
+ghost use Rattle.capnp_wire.specs.Depth.{message_levels};
 ghost use Rattle.capnp_wire.specs.Place.{struct_tree};
 ghost use Rattle.capnp_wire.specs.WellFormed.{IsWellFormed};
 ghost use Rattle.capnp_arena.specs.Forest.{struct_from, tree};
@@ -8,7 +9,7 @@ ghost use Rattle.capnp_arena.specs.Shape.{word_count};
 use crate::arena::{Arena, Place};
 use crate::list_reads::ListTarget;
 use capnp_wire::laws::pointer_is_well_formed;
-use capnp_wire::parts::pointer::{MEMORY_DEPTH, ROOT_LEVELS, look};
+use capnp_wire::parts::pointer::{MEMORY_DEPTH, MESSAGE_LEVELS, look};
 use capnp_wire::size::StructSize;
 use capnp_wire::{ListReader, PointerReader, StructReader};
 
@@ -41,20 +42,21 @@ impl Arena {
         ensures read { tree_of result ≡ tree_below memory_depth (segment self.now ∷ []) (segment self.now) at }
         ensures cut { IsCutOf (tree_of result) (tree (segment self.now) at) }
         ensures tree { IsBelow memory_depth (tree (segment self.now) at) → tree_of result ≡ tree (segment self.now) at }
-        ensures levels { levels_of result ≡ 64 }
+        ensures levels { levels_of result ≡ message_levels }
     {
-        PointerReader::of_word(self.bytes.as_slice(), at, MEMORY_DEPTH, 64)
+        PointerReader::of_word(self.bytes.as_slice(), at, MEMORY_DEPTH, MESSAGE_LEVELS)
     }
 
     /// A reader of whatever stands at a word, whether or not that is a tree, with 64 levels, as of what is received: of
     /// a text and of data it has the bytes.
     pub fn peek(&self, at: usize) -> PointerReader<'_>
-        ensures read { tree_of result ≡ tree_at 64 (segment self.now ∷ []) (segment self.now) at }
+        ensures read { tree_of result ≡ tree_at message_levels (segment self.now ∷ []) (segment self.now) at }
         ensures text { Forest (segment self.now) at → as_text (tree_of result) ≡ as_text (tree (segment self.now) at) }
         ensures data { Forest (segment self.now) at → as_data (tree_of result) ≡ as_data (tree (segment self.now) at) }
-        ensures levels { levels_of result ≡ 64 }
+        ensures levels { levels_of result ≡ message_levels }
     {
-        PointerReader::of_word(self.bytes.as_slice(), at, ROOT_LEVELS + 1, ROOT_LEVELS)
+        let levels = MESSAGE_LEVELS;
+        PointerReader::of_word(self.bytes.as_slice(), at, levels + 1, levels)
     }
 
     /// The same for as long as the message is lent, which stays as it is.
@@ -63,7 +65,7 @@ impl Arena {
         ensures* ends { sem 𝓛 (EndsUnchanged self.entry) }
         ensures read { tree_of result ≡ tree_below memory_depth (segment self.old ∷ []) (segment self.old) at }
         ensures tree { IsBelow memory_depth (tree (segment self.old) at) → tree_of result ≡ tree (segment self.old) at }
-        ensures levels { levels_of result ≡ 64 }
+        ensures levels { levels_of result ≡ message_levels }
     {
         self.get_pointer_reader(at)
     }
@@ -78,13 +80,13 @@ impl Arena {
         ensures parts { AreBelow memory_depth (struct_from
             (segment self.now) place.start place.data_words place.pointers).pointers
             → struct_of result ≡ struct_from (segment self.now) place.start place.data_words place.pointers }
-        ensures levels { struct_levels result ≡ 64 }
+        ensures levels { struct_levels result ≡ message_levels }
     {
         let size = StructSize {
             data_words: place.data_words,
             pointers: place.pointers,
         };
-        StructReader::of_words(self.bytes.as_slice(), place.start, size, MEMORY_DEPTH, 64)
+        StructReader::of_words(self.bytes.as_slice(), place.start, size, MEMORY_DEPTH, MESSAGE_LEVELS)
     }
 
     /// The same for as long as the message is lent, which stays as it is.
@@ -96,7 +98,7 @@ impl Arena {
         ensures parts { AreBelow memory_depth (struct_from
             (segment self.old) place.start place.data_words place.pointers).pointers
             → struct_of result ≡ struct_from (segment self.old) place.start place.data_words place.pointers }
-        ensures levels { struct_levels result ≡ 64 }
+        ensures levels { struct_levels result ≡ message_levels }
     {
         self.get_struct_reader(place)
     }
@@ -110,10 +112,11 @@ impl Arena {
             (tree_below memory_depth (segment self.now ∷ []) (segment self.now) at) list }
         ensures list { IsBelow memory_depth (tree (segment self.now) at)
             → list_of result ≡ listed_tree (tree (segment self.now) at) list }
-        ensures levels { list_levels result ≡ 64 }
+        ensures levels { list_levels result ≡ message_levels }
     {
         let size = self.get_element_size(at, list);
-        let reader = PointerReader::of_word(self.bytes.as_slice(), at, MEMORY_DEPTH, 65);
+        let levels = MESSAGE_LEVELS + 1;
+        let reader = PointerReader::of_word(self.bytes.as_slice(), at, MEMORY_DEPTH, levels);
         let Ok(list) = reader.get_list(size) else {
             unreachable!()
         };
@@ -129,7 +132,7 @@ impl Arena {
             (tree_below memory_depth (segment self.old ∷ []) (segment self.old) at) list }
         ensures list { IsBelow memory_depth (tree (segment self.old) at)
             → list_of result ≡ listed_tree (tree (segment self.old) at) list }
-        ensures levels { list_levels result ≡ 64 }
+        ensures levels { list_levels result ≡ message_levels }
     {
         self.get_list_reader(at, list)
     }
@@ -139,11 +142,11 @@ impl Arena {
     pub fn list_reader(&self, at: usize) -> ListReader<'_>
         requires forest { Forest (segment self.now) at }
         ensures cut { IsCutOf (list_of result) (tree (segment self.now) at) }
-        ensures levels { list_levels result ≡ 64 }
+        ensures levels { list_levels result ≡ message_levels }
     {
         let pointer = self.get_pointer_reader(at);
         pointer_is_well_formed(&pointer);
-        ListReader::new(look(pointer.pointer()), 64)
+        ListReader::new(look(pointer.pointer()), MESSAGE_LEVELS)
     }
 
     /// What a pointer of the segment leads to is well-formed, and each pointer in it can be followed.
@@ -171,7 +174,7 @@ impl Arena {
         requires forest { Forest (segment self.now) 0 }
         ensures read { tree_of result ≡ tree_below memory_depth (segment self.now ∷ []) (segment self.now) 0 }
         ensures tree { IsBelow memory_depth (tree (segment self.now) 0) → tree_of result ≡ tree (segment self.now) 0 }
-        ensures levels { levels_of result ≡ 64 }
+        ensures levels { levels_of result ≡ message_levels }
     {
         self.get_pointer_reader(0)
     }

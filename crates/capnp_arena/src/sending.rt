@@ -1,8 +1,9 @@
 //! A segment that is the encoding already goes to a sink as it is.
-ghost use Rattle.std.specs.Prelude.{IfErr, OnErr, OnOk, ◌*◌, ◌++◌, ◌+◌, ◌/◌, ◌<◌, ◌^◌, ◌≡◌, ◌≤◌, length};
+ghost use Rattle.std.specs.Prelude.{IfErr, OnErr, OnOk, ◌*◌, ◌++◌, ◌+◌, ◌/◌, ◌<◌, ◌≡◌, ◌≤◌, length};
 ghost use Rattle.capnp_device.specs.Device.{HasFailed, HasWorked};
 ghost use Rattle.capnp_device.specs.declared.error.ErrorKind.TheVariants.{WriteFailed};
 ghost use Rattle.capnp_wire.specs.Encoding.{encoding_of, spelled_number};
+ghost use Rattle.capnp_wire.specs.Locate.{words_past_format};
 ghost use Rattle.capnp_wire.specs.Message.{IsCutShort, IsWritten};
 ghost use Rattle.capnp_arena.specs.Forest.{tree};
 ghost use Rattle.capnp_arena.specs.Shape.{word_count};
@@ -28,7 +29,7 @@ fn fill_front(front: &mut [u8], words: u32, part: &[u8])
 ///
 /// Refused with `WriteFailed` where a call of the sink failed, and then a proper beginning of the bytes was written.
 pub(crate) fn put_whole<W: Sink>(sink: &mut W, bytes: &[u8]) -> Result<()>
-    requires few { word_count bytes.now < 2 ^ 29 }
+    requires few { word_count bytes.now < words_past_format }
     requires order { bytes.now ≡ encoding_of (tree bytes.now 0) }
     ensures written { OnOk result (IsWritten (tree bytes.now 0) (W.written sink.old) (W.written sink.new)) }
     ensures worked { OnOk result (HasWorked (W.failures sink.old) (W.failures sink.new)) }

@@ -2,6 +2,7 @@
 ghost use Rattle.std.specs.Prelude.{IfOk, OnErr, bit_xor, drop, replicate, take, ◌*◌, ◌++◌, ◌+◌, ◌<◌, ◌^◌, ◌≡◌, ◌≤◌, length};
 ghost use Rattle.capnp_wire.specs.Edits.{with_bit, with_number};
 ghost use Rattle.capnp_wire.specs.Encoding.{list_word, spelled_number, struct_word};
+ghost use Rattle.capnp_wire.specs.Locate.{words_past_format};
 ghost use Rattle.capnp_wire.specs.Steps.Filling.{bytes_with};
 
 use capnp_wire::primitive::PrimitiveElement;
@@ -17,7 +18,7 @@ pub(crate) fn make_struct_word(offset: u64, data_words: u64, pointers: u64) -> u
 
 /// A list pointer.
 pub(crate) fn make_list_word(offset: u64, element_size: u64, count: u64) -> u64
-    requires { (offset < 2 ^ 30) × (element_size < 8) × (count < 2 ^ 29) }
+    requires { (offset < 2 ^ 30) × (element_size < 8) × (count < words_past_format) }
     ensures { result ≡ list_word offset element_size count }
 {
     1 + 4 * offset + (element_size << 32) + (count << 35)

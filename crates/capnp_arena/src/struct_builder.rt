@@ -1,4 +1,5 @@
 //! Builders of structs: a reference to the message beside the struct's place.
+ghost use Rattle.capnp_wire.specs.Depth.{message_levels};
 
 use crate::arena::{Arena, Place};
 use crate::pointer_builder::PointerBuilder;
@@ -54,7 +55,7 @@ impl<'a> StructBuilder<'a> {
             (tree_below memory_depth (segment self.now.arena.now ∷ []) (segment self.now.arena.now))
             (segment self.now.arena.now) self.now.place.data_words self.now.place.pointers self.now.place.start }
         ensures parts { AreBelow memory_depth (built_struct_tree self.now).pointers → struct_of result ≡ built_struct_tree self.now }
-        ensures levels { struct_levels result ≡ 64 }
+        ensures levels { struct_levels result ≡ message_levels }
     {
         self.arena.get_struct_reader(self.place)
     }
@@ -69,7 +70,7 @@ impl<'a> StructBuilder<'a> {
             (segment self.entry.arena.now) self.entry.place.data_words self.entry.place.pointers
             self.entry.place.start }
         ensures parts { AreBelow memory_depth (built_struct_tree self.entry).pointers → struct_of result ≡ built_struct_tree self.entry }
-        ensures levels { struct_levels result ≡ 64 }
+        ensures levels { struct_levels result ≡ message_levels }
     {
         let StructBuilder { arena, place } = self;
         arena.into_struct_reader(place)
@@ -259,7 +260,7 @@ impl<'a> StructBuilder<'a> {
             (self.now.place.start + self.now.place.data_words + index) }
         ensures tree { IsBelow memory_depth (nth_tree (built_struct_tree self.now).pointers index)
             → tree_of result ≡ nth_tree (built_struct_tree self.now).pointers index }
-        ensures levels { levels_of result ≡ 64 }
+        ensures levels { levels_of result ≡ message_levels }
     {
         let at = self.arena.get_pointer_field(self.place, index);
         self.arena.get_pointer_reader(at)

@@ -2,6 +2,7 @@
 ghost use Rattle.std.specs.Prelude.{IfErr, IfOk, OnErr, length, max, ◌*◌, ◌+◌, ◌/◌, ◌<◌, ◌^◌, ◌≡◌, ◌≤◌};
 ghost use Rattle.capnp_device.specs.declared.error.ErrorKind.TheVariants.{OutOfMemory};
 ghost use Rattle.capnp_wire.specs.Encoding.{bytes_of};
+ghost use Rattle.capnp_wire.specs.Locate.{words_past_format};
 ghost use Rattle.capnp_wire.specs.StructLists.{as_structs};
 ghost use Rattle.capnp_wire.specs.WellFormed.{IsWellFormed};
 ghost use Rattle.capnp_arena.specs.Forest.{Forest, tree};
@@ -166,7 +167,7 @@ fn encode_structs(
 ) -> Result<Vec<u8>>
     requires forest { Forest bytes.now at }
     requires list { IsPartList bytes.now at row count }
-    requires few { (limit < 2 ^ 29) × (count < 2 ^ 29) }
+    requires few { (limit < words_past_format) × (count < words_past_format) }
     requires fits { (row.data_count ≤ 8 * size.data_words) × (row.pointers ≤ size.pointers) }
     requires room { word_count bytes.now + (1 + count * (size.data_words + size.pointers)) ≤ limit }
     ensures content { IfOk result (λ v. v.items ≡ bytes_of (as_structs size (tree bytes.now at))) }
@@ -202,7 +203,7 @@ impl Arena {
     ) -> Result<StructsPlace>
         requires forest { Forest (segment self.old) at }
         requires list { IsPartList (segment self.old) at row count }
-        requires few { count < 2 ^ 29 }
+        requires few { count < words_past_format }
         requires fits { (row.data_count ≤ 8 * size.data_words) × (row.pointers ≤ size.pointers) }
         ensures forest { IfOk result (λ _. Forest (segment self.new) at) }
         ensures place { IfOk result (λ l. shape_at (segment self.new) at

@@ -2,6 +2,7 @@
 use Rattle.std.specs.Prelude.{ℕ, List, [], ◌∷◌, Result, Ok, Err, IsOk}
 use Rattle.std.specs.Borrow.{MutBor}
 use Rattle.capnp_device.specs.declared.error.ErrorKind.{ErrorKind}
+use Rattle.capnp_wire.specs.Depth.{message_levels}
 use Rattle.capnp_wire.specs.Place.{tree_at}
 use Rattle.capnp_wire.specs.Reading.{as_data, as_text}
 use Rattle.capnp_wire.specs.Tree.{Tree}
@@ -34,7 +35,7 @@ text_bytes b = bytes_in (as_text (text_there b))
 
 -- the same bytes where a text stands there, and else none; whatever stands there has some
 abbrev pub text_seen : TextBuilder → List ℕ
-text_seen b = bytes_in (as_text (tree_at 64 (segment b.arena.now ∷ []) (segment b.arena.now) b.at))
+text_seen b = bytes_in (as_text (tree_at message_levels (segment b.arena.now ∷ []) (segment b.arena.now) b.at))
 
 abbrev pub position : TextBuilder → ℕ
 position b = b.pos

@@ -2,7 +2,7 @@
 ghost use Rattle.std.specs.Prelude.{None, IfErr, IfOk, IsOk, OnErr, OnOk, ◌<◌, ◌≡◌};
 ghost use Rattle.std.specs.Borrow.{sem};
 ghost use Rattle.capnp_device.specs.declared.error.ErrorKind.TheVariants.{OutOfMemory};
-ghost use Rattle.capnp_wire.specs.Depth.{IsBelow, memory_depth};
+ghost use Rattle.capnp_wire.specs.Depth.{IsBelow, memory_depth, message_levels};
 ghost use Rattle.capnp_wire.specs.Reading.{is_null_tree};
 ghost use Rattle.capnp_wire.specs.Standing.{levels_of, tree_of};
 ghost use Rattle.capnp_wire.specs.Total.{IsSize};
@@ -182,7 +182,7 @@ impl<'a> Builder<'a> {
         requires { IsUntypedPointer self }
         ensures cut { IsCutOf (tree_of (pointer_of result)) (untyped_tree self.entry) }
         ensures tree { IsBelow memory_depth (untyped_tree self.entry) → tree_of (pointer_of result) ≡ untyped_tree self.entry }
-        ensures levels { levels_of (pointer_of result) ≡ 64 }
+        ensures levels { levels_of (pointer_of result) ≡ message_levels }
     {
         let Builder { arena, at } = self;
         Reader::new(arena.get_pointer_reader(at))

@@ -2,9 +2,10 @@
 //!
 //! A builder is the message beside the word of the data's pointer. Each call asks that data stand there, or a null, as
 //! a builder that was handed out has it (`IsData`).
-ghost use Rattle.std.specs.Prelude.{[], None, IfErr, IsTrue, OnErr, OnOk, length, replicate, slice_set, ◌^◌, ◌≤◌, ◌<◌, ◌≡◌, ◌↔◌};
+ghost use Rattle.std.specs.Prelude.{[], None, IfErr, IsTrue, OnErr, OnOk, length, replicate, slice_set, ◌≤◌, ◌<◌, ◌≡◌, ◌↔◌};
 ghost use Rattle.std.specs.Borrow.{sem};
 ghost use Rattle.capnp_wire.specs.Edits.{IsRoomRefusal};
+ghost use Rattle.capnp_wire.specs.Locate.{words_past_format};
 ghost use Rattle.capnp_wire.specs.Reading.{as_data};
 ghost use Rattle.capnp_wire.specs.Tree.{Numbers};
 ghost use Rattle.capnp_base.specs.ReadBack.{data_read_back};
@@ -160,7 +161,7 @@ impl<'a> FromPointerBuilder<'a> for Builder<'a> {
 
     ghost starts = { λ length builder. IsData builder × (data_bytes builder ≡ replicate length 0) };
 
-    ghost new_refusal = { λ length error. IsRoomRefusal error (2 ^ 29 ≤ length) };
+    ghost new_refusal = { λ length error. IsRoomRefusal error (words_past_format ≤ length) };
 
     ghost stands = { λ tree builder. IsData builder × (data_there builder ≡ tree) };
 

@@ -2,7 +2,7 @@
 //!
 //! A builder is the message beside the word of the text's pointer. Each call asks that a text stands there, or a null,
 //! as a builder that was handed out has it (`IsText`).
-ghost use Rattle.std.specs.Prelude.{[], None, Ok, IfErr, IfOk, IsTrue, IsUtf8, OnErr, OnOk, length, nat_eq, replicate, slice_set, take, drop, ◌++◌, ◌+◌, ◌^◌, ◌-◌, ◌<◌, ◌≡◌, ◌≤◌, ◌↔◌};
+ghost use Rattle.std.specs.Prelude.{[], None, Ok, IfErr, IfOk, IsTrue, IsUtf8, OnErr, OnOk, length, nat_eq, replicate, slice_set, take, drop, ◌++◌, ◌+◌, ◌-◌, ◌<◌, ◌≡◌, ◌≤◌, ◌↔◌};
 ghost use Rattle.std.specs.Borrow.{sem};
 ghost use Rattle.std.proofs.Common.{rules};
 ghost use Rattle.std.specs.Cmp.Lexicographic.{pointwise};
@@ -10,6 +10,7 @@ ghost use Rattle.std.specs.Cmp.Rules.{comparing};
 ghost use Rattle.std.specs.Ordering.{on};
 ghost use Rattle.capnp_device.specs.declared.error.ErrorKind.TheVariants.{OutOfMemory};
 ghost use Rattle.capnp_wire.specs.Edits.{IsRoomRefusal};
+ghost use Rattle.capnp_wire.specs.Locate.{words_past_format};
 ghost use Rattle.capnp_wire.specs.Reading.{as_text};
 ghost use Rattle.capnp_wire.specs.Tree.{Numbers};
 ghost use Rattle.capnp_base.specs.Text.{IsStringOf, IsStrOf};
@@ -327,7 +328,7 @@ fn start(arena: &mut Arena, at: usize, length: u32) -> Result<()>
     ensures text { OnOk result (as_text (tree (segment arena.new) at) ≡ Ok (replicate length 0)) }
     ensures changes { OnOk result (Changes at (segment arena.old) (segment arena.new)) }
     ensures refused { OnErr result (segment arena.new ≡ segment arena.old) }
-    ensures cause { IfErr result (λ error. IsRoomRefusal error (2 ^ 29 ≤ length + 1)) }
+    ensures cause { IfErr result (λ error. IsRoomRefusal error (words_past_format ≤ length + 1)) }
 {
     if length >= (1 << 29) - 1 {
         return Err(Error::from(ErrorKind::SizePastFormat));
@@ -367,7 +368,7 @@ impl<'a> FromPointerBuilder<'a> for Builder<'a> {
     ghost starts = { λ length builder. IsBuiltText builder × (text_bytes builder ≡ replicate length 0)
         × (position builder ≡ 0) };
 
-    ghost new_refusal = { λ length error. IsRoomRefusal error (2 ^ 29 ≤ length + 1) };
+    ghost new_refusal = { λ length error. IsRoomRefusal error (words_past_format ≤ length + 1) };
 
     ghost stands = { λ tree builder. IsBuiltText builder × (text_there builder ≡ tree)
         × (position builder ≡ length (text_bytes builder)) };

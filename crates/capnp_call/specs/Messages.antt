@@ -1,9 +1,10 @@
 -- Calls on a message's root.
-use Rattle.std.specs.Prelude.{ℕ, suc, ◌^◌, ◌<◌, ◌≡◌, ◌⊎◌, List, ◌++◌, Bool, true, false, IsTrue, Option, Some, None, Ok, Err}
+use Rattle.std.specs.Prelude.{ℕ, suc, ◌<◌, ◌≡◌, ◌⊎◌, List, ◌++◌, Bool, true, false, IsTrue, Option, Some, None, Ok, Err}
 use Rattle.capnp_device.specs.declared.error.ErrorKind.{ErrorKind}
-use Rattle.capnp_wire.specs.Depth.{IsShallow}
+use Rattle.capnp_wire.specs.Depth.{IsShallow, root_levels}
 use Rattle.capnp_wire.specs.Edits.{extended_struct, is_struct, struct_in, struct_refusal, zero_struct}
 use Rattle.capnp_wire.specs.Encoding.{message_of}
+use Rattle.capnp_wire.specs.Locate.{words_past_format}
 use Rattle.capnp_wire.specs.Place.{struct_tree}
 use Rattle.capnp_wire.specs.Reading.{refusal}
 use Rattle.capnp_wire.specs.Standing.{tree_of}
@@ -81,9 +82,9 @@ root_value false r = value.Struct r
 abbrev pub record_text : StructSchema → (indented : Bool) → Record → Out
 record_text schema indented r = text_of (set_of schema) indented (struct_type schema) (root_value (struct_node schema).is_group r)
 
--- the record of a root as a reader of the message sees it, which takes one of its 64 levels
+-- the record of a root as a reader of the message sees it, which takes one of its levels
 abbrev pub record_left : StructSchema → StructTree → Record
-record_left schema s = struct_record (set_of schema) (Left 63) s (number_of schema)
+record_left schema s = struct_record (set_of schema) (Left root_levels) s (number_of schema)
 
 -- the words of the segment of a root's message
 abbrev pub message_words : StructTree → ℕ
@@ -96,7 +97,7 @@ pub record IsWhole (schema : StructSchema) (r : Record) (start : StructTree) (ca
   pub root : StructTree
   pub runs : IsRunFrom schema r calls replies (record_under_schema schema root)
   pub made : MakesCalls (set_of schema) (number_of schema) start calls replies root
-  pub fits : message_words root < 2 ^ 29
+  pub fits : message_words root < words_past_format
   pub written : bytes ≡ message_of (struct_tree root)
   pub read_back : IsShallow (struct_tree root) → (rest : List ℕ) → message_tree_of (bytes ++ rest) ≡ Ok (struct_tree root)
   pub printed : IsAppended old (record_text schema indented (record_under_schema schema root)) new
@@ -107,7 +108,7 @@ pub record IsWholeRefusal (schema : StructSchema) (r : Record) (calls : List Cal
   pub root : StructTree
   pub replies : List Reply
   pub runs : IsRunFrom schema r calls replies (record_under_schema schema root)
-  pub fits : message_words root < 2 ^ 29
+  pub fits : message_words root < words_past_format
   pub cause : record_text schema indented (record_left schema root) ≡ Err kind
 
 -- the same of a copy: the source is not copied as a root, or the run on the copy is refused so

@@ -2,6 +2,7 @@
 -- taken apart.
 use Rattle.std.specs.Prelude.{ℕ, ◌<◌, ◌≡◌, None}
 use Rattle.std.specs.Borrow.{MutBor}
+use Rattle.capnp_wire.specs.Depth.{message_levels}
 use Rattle.capnp_wire.specs.Defaults.{list_refusal}
 use Rattle.capnp_wire.specs.Elements.{or_empty}
 use Rattle.capnp_wire.specs.Reading.{list_length}
@@ -47,9 +48,9 @@ handle_of b = record { arena = b.arena; place = b.place }
 abbrev pub IsReady : StructHandle → Type 0
 IsReady b = IsStanding (built_schema b) b.arena.now b.place
 
--- the record that it reads as, by a reader with 64 levels
+-- the record that it reads as, by a reader with the levels of a message
 abbrev pub built_record : StructHandle → Record
-built_record b = struct_record (set_of (built_schema b)) (Left 64) (built_struct b) (number_of (built_schema b))
+built_record b = struct_record (set_of (built_schema b)) (Left message_levels) (built_struct b) (number_of (built_schema b))
 
 -- the type of a list's elements, the set that the type is of, the message behind it, and the word of the list's pointer
 abbrev pub built_type : ListHandle → TypeHandle

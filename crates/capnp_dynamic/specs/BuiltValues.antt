@@ -1,5 +1,6 @@
 -- What dynamic values that are built stand on, and what they read as.
 use Rattle.std.specs.Prelude.{◌≡◌, ⊤}
+use Rattle.capnp_wire.specs.Depth.{message_levels}
 use Rattle.capnp_wire.specs.Standing.{levels_of, list_levels, list_of, struct_levels, struct_of, tree_of}
 use Rattle.capnp_arena.specs.Same.{IsCutOf, IsStructCutOf}
 use Rattle.capnp_base.specs.AnyPointer.{pointer_of}
@@ -57,7 +58,7 @@ IsReaderOf (built.UInt64 x) (dynamic.UInt64 y) = y ≡ x
 IsReaderOf (built.Enum x) (dynamic.Enum y) = y ≡ x
 IsReaderOf (built.Text x) (dynamic.Text y) = y.0.now ≡ text_bytes x
 IsReaderOf (built.«Data» x) (dynamic.«Data» y) = y.now ≡ data_bytes x
-IsReaderOf (built.Struct x) (dynamic.Struct y) = (schema_of y ≡ built_schema x) × IsStructCutOf (struct_of (reader_of y)) (built_struct x) × (struct_levels (reader_of y) ≡ 64)
-IsReaderOf (built.List x) (dynamic.List y) = (type_of y ≡ built_type x) × (list_set y ≡ built_set x) × IsCutOf (list_of (list_reader_of y)) (built_reading x) × (list_levels (list_reader_of y) ≡ 64)
-IsReaderOf (built.AnyPointer x) (dynamic.AnyPointer y) = IsCutOf (tree_of (pointer_of y)) (untyped_tree x) × (levels_of (pointer_of y) ≡ 64)
+IsReaderOf (built.Struct x) (dynamic.Struct y) = (schema_of y ≡ built_schema x) × IsStructCutOf (struct_of (reader_of y)) (built_struct x) × (struct_levels (reader_of y) ≡ message_levels)
+IsReaderOf (built.List x) (dynamic.List y) = (type_of y ≡ built_type x) × (list_set y ≡ built_set x) × IsCutOf (list_of (list_reader_of y)) (built_reading x) × (list_levels (list_reader_of y) ≡ message_levels)
+IsReaderOf (built.AnyPointer x) (dynamic.AnyPointer y) = IsCutOf (tree_of (pointer_of y)) (untyped_tree x) × (levels_of (pointer_of y) ≡ message_levels)
 IsReaderOf x y = ⊥

@@ -1,6 +1,7 @@
 -- What builders hand out of a pointer, an element or a field, and when it can be.
 use Rattle.std.specs.Prelude.{ℕ, ◌≡◌, Bool, true, false, cond, None, Some, length}
 use Rattle.capnp_device.specs.declared.error.Error.{Error}
+use Rattle.capnp_wire.specs.Depth.{message_levels}
 use Rattle.capnp_wire.specs.Edits.{IsDueRefusal}
 use Rattle.capnp_wire.specs.Elements.{or_empty}
 use Rattle.capnp_wire.specs.Place.{struct_tree}
@@ -49,7 +50,7 @@ HandsOut new set t x v = ⊥
 
 -- the number of a slot is what a reader of the field answers
 abbrev pub HandsNumber : Schemas → TypedField → StructTree → BuiltValue → Type 0
-HandsNumber set f s v = (r : DynamicValue) × IsReaderOf v r × (value_seen r ≡ field_read set (Left 64) s f) × IsOf set f.type r
+HandsNumber set f s v = (r : DynamicValue) × IsReaderOf v r × (value_seen r ≡ field_read set (Left message_levels) s f) × IsOf set f.type r
 
 -- a group is the same struct under the group's schema
 abbrev pub HandsGroup : Schemas → TypedField → StructTree → BuiltValue → Type 0
@@ -88,9 +89,9 @@ IsPartWithin f s = IsWithinAt (field_set f) (typed_of f) s
 
 -- ---- elements ----
 
--- what a reader of a list, with 64 levels, reads of an element
+-- what a reader of a list, with the levels of a message, reads of an element
 abbrev pub element_read_of : Schemas → SchemaType → Tree → ℕ → Value
-element_read_of set t x j = read_of set VoidValue t (element_value set x (below_of set x) (Left 64) t j)
+element_read_of set t x j = read_of set VoidValue t (element_value set x (below_of set x) (Left message_levels) t j)
 
 -- the number of an element is what a reader of the list answers
 abbrev pub HandsElementNumber : Schemas → SchemaType → Tree → ℕ → BuiltValue → Type 0

@@ -1,7 +1,7 @@
 //! Readers of lists that are built.
 ghost use Rattle.std.specs.Prelude.{None, ◌≡◌};
 ghost use Rattle.capnp_wire.specs.Defaults.{list_refusal};
-ghost use Rattle.capnp_wire.specs.Depth.{IsBelow, memory_depth};
+ghost use Rattle.capnp_wire.specs.Depth.{IsBelow, memory_depth, message_levels};
 ghost use Rattle.capnp_wire.specs.Elements.{or_empty};
 ghost use Rattle.capnp_wire.specs.Standing.{list_levels, list_of};
 ghost use Rattle.capnp_arena.specs.Forest.{Forest, tree};
@@ -12,7 +12,7 @@ use capnp_arena::arena::Arena;
 use capnp_arena::list_reads::ListTarget;
 use capnp_wire::ListReader;
 use capnp_wire::laws::pointer_is_well_formed;
-use capnp_wire::parts::pointer::look;
+use capnp_wire::parts::pointer::{MESSAGE_LEVELS, look};
 use capnp_wire::size::ElementSize;
 
 /// A reader of the list that a pointer leads to, with 64 levels; a null reads as a list of no elements of a size.
@@ -22,12 +22,12 @@ pub(crate) fn read_list(arena: &Arena, at: usize, size: ElementSize) -> ListRead
     ensures cut { IsCutOf (list_of result) (or_empty size (tree (segment arena.now) at)) }
     ensures list { IsBelow memory_depth (tree (segment arena.now) at)
         → list_of result ≡ or_empty size (tree (segment arena.now) at) }
-    ensures levels { list_levels result ≡ 64 }
+    ensures levels { list_levels result ≡ message_levels }
 {
     if arena.is_null(at) {
         return arena.get_list_reader(at, ListTarget::Nothing(size));
     }
     let pointer = arena.get_pointer_reader(at);
     pointer_is_well_formed(&pointer);
-    ListReader::new(look(pointer.pointer()), 64)
+    ListReader::new(look(pointer.pointer()), MESSAGE_LEVELS)
 }

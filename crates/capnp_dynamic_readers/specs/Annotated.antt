@@ -7,14 +7,14 @@ use Rattle.capnp_schema.specs.Schema.{Schemas, VoidValue, BoolValue, IntValue, U
 use Rattle.capnp_schema.specs.Schema.{Value as SchemaValue}
 use Rattle.capnp_schema.specs.Types.{SchemaType, EnumType, StructType, ListType, AnyPointerType}
 use Rattle.capnp_schema.specs.declared.schema.annotations.Annotation.{Annotation}
-use Rattle.capnp_records.specs.Default.{read_of}
+use Rattle.capnp_records.specs.Default.{own_levels, read_of}
 use Rattle.capnp_records.specs.Reading.{value_of}
 use Rattle.capnp_records.specs.Record as value
 use Rattle.capnp_records.specs.Record.{Left, Value}
 
--- what the words of a value read as, from their root on with 64 levels
+-- what the words of a value read as, from their root on with the levels of a default
 abbrev pub words_read : Schemas → List ℕ → SchemaType → Value
-words_read set words t = read_of set VoidValue t (value_of set (words_root words) (Left 64) t)
+words_read set words t = read_of set VoidValue t (value_of set (words_root words) (Left own_levels) t)
 
 -- what a stored value reads as: a void, a truth value, a number, a text and data whatever the type; an enum, a struct, a
 -- list and an untyped pointer under their type alone

@@ -21,6 +21,9 @@ use crate::printer::values::{print_record, print_value};
 use capnp_wire::error::{Error, Result};
 use std::fmt;
 
+/// The levels that a print goes down.
+const PRINT_LEVELS: u32 = 64;
+
 /// Appends the text of a value, on one line or on lines indented by two spaces for each bracket around them.
 ///
 /// A struct is `(name = value, ..)`: the fields that are there by index, and the active member before the first
@@ -74,8 +77,8 @@ fn print_root<O: Out>(
 {
     if let Value::Struct(reader) = value {
         if reader.get_schema().get_proto().body.is_group {
-            return print_record(reader, 64, at, out);
+            return print_record(reader, PRINT_LEVELS, at, out);
         }
     }
-    print_value(value, 64, at, out)
+    print_value(value, PRINT_LEVELS, at, out)
 }

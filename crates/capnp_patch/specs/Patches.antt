@@ -1,10 +1,11 @@
 -- What calls on a message's root, or on an empty one, leave, and what is written of it.
-use Rattle.std.specs.Prelude.{ℕ, suc, ◌≡◌, ◌⊎◌, ◌<◌, ◌^◌, List, ◌++◌, Bool, true, false, not, ◌||◌, length, take, Option, Some, None, Ok, Err}
+use Rattle.std.specs.Prelude.{ℕ, suc, ◌≡◌, ◌⊎◌, ◌<◌, List, ◌++◌, Bool, true, false, not, ◌||◌, length, take, Option, Some, None, Ok, Err}
 use Rattle.std.specs.Io.KnownBytes.{Appends}
 use Rattle.capnp_device.specs.declared.error.ErrorKind.{ErrorKind}
 use Rattle.capnp_wire.specs.Depth.{IsShallow}
 use Rattle.capnp_wire.specs.Edits.{struct_in}
 use Rattle.capnp_wire.specs.Encoding.{message_of}
+use Rattle.capnp_wire.specs.Locate.{words_past_format}
 use Rattle.capnp_wire.specs.Stream.{message_tree_of}
 use Rattle.capnp_wire.specs.Tree.{StructTree, Tree}
 use Rattle.capnp_wire.specs.Words.{words_of}
@@ -54,7 +55,7 @@ is_kept keep_going replies = keep_going || not (any_refused replies)
 
 -- the bytes of a message, which are read back as it where its pointers go at most 64 levels down
 pub record IsMessageOf (t : Tree) (bytes : List ℕ) : Type 0 where
-  pub fits : suc (words_of t) < 2 ^ 29
+  pub fits : suc (words_of t) < words_past_format
   pub encoding : bytes ≡ message_of t
   pub read_back : IsShallow t → (rest : List ℕ) → message_tree_of (bytes ++ rest) ≡ Ok t
 

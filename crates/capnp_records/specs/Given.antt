@@ -1,5 +1,5 @@
 -- What a set gives to a field or an element: the kinds that it takes, and what is copied.
-use Rattle.std.specs.Prelude.{ℕ, ◌-◌, ◌^◌, pos, List, Bool, true, false, ◌==◌, nat_lt, cond, length, Option, option_map}
+use Rattle.std.specs.Prelude.{ℕ, ◌-◌, pos, List, Bool, true, false, ◌==◌, nat_lt, cond, length, Option, option_map}
 use Rattle.capnp_wire.specs.Tree as tree
 use Rattle.capnp_wire.specs.Tree.{Tree, StructTree}
 use Rattle.capnp_wire.specs.Place.{struct_tree}
@@ -8,6 +8,7 @@ use Rattle.capnp_wire.specs.Words.{first_fault}
 use Rattle.capnp_wire.specs.Edits.{rounded_struct}
 use Rattle.capnp_device.specs.declared.error.ErrorKind.{ErrorKind}
 use Rattle.capnp_device.specs.declared.error.ErrorKind.TheVariants.{TypeMismatch, NotAStruct, ListAnyPointerNotSupported, CannotSetAnyPointerFieldToAPrimitiveValue}
+use Rattle.capnp_wire.specs.Locate.{words_past_format}
 use Rattle.capnp_base.specs.Text.{text_tree}
 use Rattle.capnp_schema.specs.Types.{SchemaType, VoidType, BoolType, IntType, UIntType, EnumType, TextType, DataType, StructType, ListType, AnyPointerType, struct_number}
 use Rattle.capnp_schema.specs.Schema.{Schemas}
@@ -29,10 +30,10 @@ data_tree bytes = tree.Numbers 1 bytes
 
 -- whether a text or data is past the format
 abbrev pub text_past : List ℕ → Bool
-text_past bytes = nat_lt (2 ^ 29 - 2) (length bytes)
+text_past bytes = nat_lt (words_past_format - 2) (length bytes)
 
 abbrev pub data_past : List ℕ → Bool
-data_past bytes = nat_lt (2 ^ 29 - 1) (length bytes)
+data_past bytes = nat_lt (words_past_format - 1) (length bytes)
 
 -- the tree of a struct that is copied: its data is rounded up to whole words
 abbrev pub copied_struct : StructTree → Tree

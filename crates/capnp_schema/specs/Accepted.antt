@@ -1,5 +1,6 @@
 -- The twelve rules of a schema set.
-use Rattle.std.specs.Prelude.{ℕ, zero, suc, ◌+◌, ◌-◌, ◌*◌, ◌%◌, ◌^◌, ◌<◌, ◌≤◌, ◌≡◌, ◌≢◌, ⊤, List, [], ◌∷◌, true, IsTrue, IsFalse, All, Contains, length, map, slice_get, Some, None, IsOk}
+use Rattle.std.specs.Prelude.{ℕ, zero, suc, ◌+◌, ◌-◌, ◌*◌, ◌%◌, ◌<◌, ◌≤◌, ◌≡◌, ◌≢◌, ⊤, List, [], ◌∷◌, true, IsTrue, IsFalse, All, Contains, length, map, slice_get, Some, None, IsOk}
+use Rattle.capnp_wire.specs.Locate.{words_past_format}
 use Rattle.capnp_wire.specs.Tree as tree
 use Rattle.capnp_wire.specs.Tree.{Tree}
 use Rattle.capnp_wire.specs.Place.{root_tree}
@@ -98,7 +99,7 @@ abbrev pub AreFew : {A : Type 0} → List A → Type 0
 AreFew entries = length entries ≤ 65535
 
 abbrev pub HasFewAnnotations : List Annotation → Type 0
-HasFewAnnotations annotations = length annotations < 2 ^ 29
+HasFewAnnotations annotations = length annotations < words_past_format
 
 -- no other field has the name of field i
 abbrev pub HasOwnName : List Field → ℕ → Type 0
@@ -196,8 +197,8 @@ abbrev pub Decodes : Value → Type 0
 Decodes (StructValue words) = (first_fault (words_root words) ≡ None) × IsStructOrNull (words_root words)
 Decodes (ListValue words) = (first_fault (words_root words) ≡ None) × IsListOrNull (words_root words)
 Decodes (AnyPointerValue words) = words_root words ≡ tree.Null
-Decodes (TextValue bytes) = length bytes ≤ 2 ^ 29 - 2
-Decodes (DataValue bytes) = length bytes ≤ 2 ^ 29 - 1
+Decodes (TextValue bytes) = length bytes ≤ words_past_format - 2
+Decodes (DataValue bytes) = length bytes ≤ words_past_format - 1
 Decodes value = ⊤
 
 -- a tree is read as a list of such elements

@@ -1,5 +1,6 @@
 -- Values of records, as they are read.
 use Rattle.std.specs.Prelude.{ℕ, ◌≡◌, ⊤, List}
+use Rattle.capnp_wire.specs.Depth.{message_levels}
 use Rattle.capnp_wire.specs.declared.pointer_reader.PointerReader.{PointerReader}
 use Rattle.capnp_wire.specs.Standing.{levels_of, tree_of}
 use Rattle.capnp_schema.specs.Schema.{Value, VoidValue, BoolValue, IntValue, UIntValue, EnumValue, TextValue, DataValue, StructValue, ListValue, AnyPointerValue}
@@ -10,7 +11,7 @@ use Rattle.capnp_schema.specs.declared.value.Value.TheVariants as view
 -- a pointer stands on the tree of words, with the levels of a root
 pub record StandsOnWords (words : List ℕ) (reader : PointerReader) : Type 0 where
   pub tree : tree_of reader ≡ words_root words
-  pub levels : levels_of reader ≡ 64
+  pub levels : levels_of reader ≡ message_levels
 
 -- the view of a value: the same number, the same bytes, or a pointer that stands on the words
 abbrev pub IsViewOf : Value → View → Type 0

@@ -4,6 +4,7 @@ use Rattle.std.specs.Io.KnownBytes.{Appends}
 use Rattle.capnp_device.specs.declared.error.Error.{Error}
 use Rattle.capnp_device.specs.declared.error.ErrorKind.{ErrorKind}
 use Rattle.capnp_device.specs.declared.error.ErrorKind.TheVariants.{SizePastFormat, UnknownKind}
+use Rattle.capnp_wire.specs.Depth.{root_levels}
 use Rattle.capnp_wire.specs.Stream.{message_tree_of}
 use Rattle.capnp_wire.specs.Tree.{StructTree}
 use Rattle.capnp_schema.specs.Accepted.{IsAccepted}
@@ -33,7 +34,7 @@ IsRootRead bytes root = root_struct (message_tree_of bytes) ≡ Ok root
 
 -- the record that a request's root stands for, with the levels that are left below it
 abbrev pub request_record : StructTree → Record
-request_record root = struct_record request_set (Left 63) root 0
+request_record root = struct_record request_set (Left root_levels) root 0
 
 -- the lists and notes that a request with this root stands for, or a refusal whose cause stands in what is read of it
 unfoldable pub conversion_from : (strict : Bool) → StructTree → Said (Schemas × List Note)

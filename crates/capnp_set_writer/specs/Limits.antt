@@ -1,6 +1,7 @@
 -- What the written form and the format have room for: each value has a kind, and texts, data, lists and the whole message
 -- are no longer than the format lets them be.
 use Rattle.std.specs.Prelude.{ℕ, suc, ◌+◌, ◌*◌, ◌^◌, ◌<◌, ◌≡◌, ◌≢◌, ⊤, List, [], All, length}
+use Rattle.capnp_wire.specs.Locate.{words_past_format}
 use Rattle.capnp_wire.specs.Place.{struct_tree}
 use Rattle.capnp_wire.specs.Words.{words_of}
 use Rattle.capnp_schema.specs.Builtin.{zero_word}
@@ -60,14 +61,14 @@ HasFormless s = SetHasKinds s → ⊥
 
 -- a text, with the zero that ends it
 abbrev pub IsTextLength : List ℕ → Type 0
-IsTextLength bytes = length bytes + 1 < 2 ^ 29
+IsTextLength bytes = length bytes + 1 < words_past_format
 
 abbrev pub IsDataLength : List ℕ → Type 0
-IsDataLength bytes = length bytes < 2 ^ 29
+IsDataLength bytes = length bytes < words_past_format
 
 -- a list, by the words that each of its elements takes
 abbrev pub IsListLength : {A : Type 0} → ℕ → List A → Type 0
-IsListLength words parts = (length parts < 2 ^ 29) × (length parts * words < 2 ^ 29)
+IsListLength words parts = (length parts < words_past_format) × (length parts * words < words_past_format)
 
 -- a list of parts of so many words, and each of them
 pub record ListFits {A : Type 0} (words : ℕ) (Fits : A → Type 0) (parts : List A) : Type 0 where

@@ -1,9 +1,10 @@
 //! Lists of parts of a set, each part written as a struct of its own.
-ghost use Rattle.std.specs.Prelude.{◌≡◌, ◌≤◌, ◌<◌, ◌+◌, ◌*◌, ◌^◌, All, length, map, IfErr, IfOk, OnOk};
+ghost use Rattle.std.specs.Prelude.{◌≡◌, ◌≤◌, ◌<◌, ◌+◌, ◌*◌, All, length, map, IfErr, IfOk, OnOk};
 ghost use Rattle.capnp_device.specs.declared.error.ErrorKind.TheVariants.{SizePastFormat};
 ghost use Rattle.capnp_wire.specs.Tree.{Composite};
 ghost use Rattle.capnp_wire.specs.Edits.{with_pointer_tree};
 ghost use Rattle.capnp_wire.specs.Elements.{HasStruct, with_struct_element};
+ghost use Rattle.capnp_wire.specs.Locate.{words_past_format};
 ghost use Rattle.capnp_wire.specs.Place.{struct_tree};
 ghost use Rattle.capnp_wire.specs.Reading.{element_struct};
 ghost use Rattle.capnp_arena.specs.Built.{ChangesIn, IsBuilt, built_at};
@@ -121,7 +122,7 @@ fn fill_list<T: Part>(arena: &mut Arena, at: usize, parts: &[T]) -> Result<()>
     requires new { tree (segment arena.old) at ≡
         Composite T.data_words T.pointers (filled_rows (blank T.data_words T.pointers)
         (map T.tree (map T.seen parts.now)) 0) }
-    requires few { length parts.now < 2 ^ 29 }
+    requires few { length parts.now < words_past_format }
     ensures forest { OnOk result (Forest (segment arena.new) at) }
     ensures changes { OnOk result (Changes at (segment arena.old) (segment arena.new)) }
     ensures written { OnOk result (tree (segment arena.new) at
@@ -141,9 +142,9 @@ fn fill_list<T: Part>(arena: &mut Arena, at: usize, parts: &[T]) -> Result<()>
 ///
 /// Refused with `SizePastFormat` for 2^29 or more, which no list has.
 pub(crate) fn count_of(parts: usize) -> Result<u32>
-    ensures count { OnOk result (parts < 2 ^ 29) }
+    ensures count { OnOk result (parts < words_past_format) }
     ensures is { IfOk result (λ count. count ≡ parts) }
-    ensures past { IfErr result (λ e. 2 ^ 29 ≤ parts) }
+    ensures past { IfErr result (λ e. words_past_format ≤ parts) }
     ensures cause { IfErr result (λ e. e.kind ≡ SizePastFormat) }
 {
     if parts >= 1 << 29 {

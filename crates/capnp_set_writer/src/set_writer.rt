@@ -1,6 +1,7 @@
 //! Sets of schemas as messages.
-ghost use Rattle.std.specs.Prelude.{◌≡◌, ◌<◌, ◌^◌, IfErr, IfOk, OnOk};
+ghost use Rattle.std.specs.Prelude.{◌≡◌, ◌<◌, IfErr, IfOk, OnOk};
 ghost use Rattle.capnp_device.specs.declared.error.ErrorKind.TheVariants.{SizePastFormat, UnknownKind};
+ghost use Rattle.capnp_wire.specs.Locate.{words_past_format};
 ghost use Rattle.capnp_wire.specs.Place.{struct_tree};
 ghost use Rattle.capnp_arena.specs.Built.{ChangesIn, IsBuilt, built_at};
 ghost use Rattle.capnp_arena.specs.Forest.{Forest, tree};
@@ -72,7 +73,7 @@ pub fn write_set(alloc: Global, set: &SchemaSet) -> Result<Vec<u8>>
     ensures read { IfOk result (λ bytes. IsReadAsSet (lists_seen set.now) bytes.items) }
     ensures kinds { OnOk result (SetHasKinds (lists_seen set.now)) }
     ensures fits { OnOk result (SetFits (lists_seen set.now)) }
-    ensures small { OnOk result (set_message_words (lists_seen set.now) < 2 ^ 29) }
+    ensures small { OnOk result (set_message_words (lists_seen set.now) < words_past_format) }
     ensures cause { IfErr result (λ e. IsWriteRefusal e.kind) }
     ensures unknown { IfErr result (λ e. e.kind ≡ UnknownKind → HasFormless (lists_seen set.now)) }
     ensures past { IfErr result (λ e. e.kind ≡ SizePastFormat → IsPastFormat (lists_seen set.now)) }

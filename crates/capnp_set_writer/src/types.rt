@@ -4,6 +4,7 @@ ghost use Rattle.capnp_device.specs.declared.error.ErrorKind.TheVariants.{SizePa
 ghost use Rattle.capnp_wire.specs.Tree.{Pointers};
 ghost use Rattle.capnp_wire.specs.Edits.{with_pointer_tree};
 ghost use Rattle.capnp_wire.specs.Elements.{HasPointer, with_pointer_element};
+ghost use Rattle.capnp_wire.specs.Locate.{words_past_format};
 ghost use Rattle.capnp_arena.specs.Built.{ChangesIn, IsBuilt, built_at};
 ghost use Rattle.capnp_arena.specs.Forest.{Changes, Forest, tree};
 ghost use Rattle.capnp_arena.specs.Segment.{segment};
@@ -148,7 +149,7 @@ fn fill_rows(arena: &mut Arena, at: usize, rows: &[Vec<Type>]) -> Result<()>
     requires forest { Forest (segment arena.old) at }
     requires new { tree (segment arena.old) at
         ≡ Pointers (filled_trees (map types_tree (map (λ row. map seen_type row.items) rows.now)) 0) }
-    requires few { length rows.now < 2 ^ 29 }
+    requires few { length rows.now < words_past_format }
     ensures forest { OnOk result (Forest (segment arena.new) at) }
     ensures changes { OnOk result (Changes at (segment arena.old) (segment arena.new)) }
     ensures written { OnOk result (tree (segment arena.new) at

@@ -2,6 +2,7 @@
 use Rattle.std.specs.Prelude.{ℕ, List, ◌≡◌, Option, None, Result, Ok, Err}
 use Rattle.capnp_device.specs.declared.error.Error.{Error}
 use Rattle.capnp_device.specs.declared.error.ErrorKind.{ErrorKind}
+use Rattle.capnp_wire.specs.Depth.{message_levels, root_levels}
 use Rattle.capnp_wire.specs.Reading.{as_struct}
 use Rattle.capnp_wire.specs.Stream.{message_tree_of}
 use Rattle.capnp_wire.specs.Tree.{StructTree, Tree}
@@ -11,13 +12,13 @@ use Rattle.capnp_records.specs.Reading.{struct_record}
 use Rattle.capnp_records.specs.Record.{Left, Record}
 use Rattle.capnp_sets.specs.Lists.{IsSchemaSetRefusal, lists_meant}
 
--- the record of a root that was read as a struct, which takes one of the 64 levels
+-- the record of a root that was read as a struct, which takes one of the levels of a message
 abbrev pub root_record : StructTree → Record
-root_record root = struct_record meta (Left 63) root 0
+root_record root = struct_record meta (Left root_levels) root 0
 
 -- a root as a struct, or why it is none; of a stream that is refused, its refusal
 abbrev pub root_struct : Result Tree ErrorKind → Result StructTree ErrorKind
-root_struct (Ok t) = as_struct t 64
+root_struct (Ok t) = as_struct t message_levels
 root_struct (Err kind) = Err kind
 
 abbrev pub root_set : Result StructTree ErrorKind → Option Schemas

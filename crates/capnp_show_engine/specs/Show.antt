@@ -5,6 +5,7 @@ use Rattle.capnp_wire.specs.Tree.{Tree}
 use Rattle.capnp_wire.specs.Stream.{message_tree_of}
 use Rattle.capnp_device.specs.declared.error.ErrorKind.{ErrorKind}
 use Rattle.capnp_device.specs.declared.error.ErrorKind.TheVariants.{OutOfMemory, ReadFailed, WriteFailed}
+use Rattle.capnp_wire.specs.Depth.{message_levels}
 use Rattle.capnp_schema.specs.Schema.{Schemas, VoidValue, node_of}
 use Rattle.capnp_records.specs.Reading.{value_of}
 use Rattle.capnp_records.specs.Default.{read_of}
@@ -22,9 +23,9 @@ abbrev pub as_printed : (is_group : Bool) → Value → Value
 as_printed is_group (value.Struct r) = struct_or_group is_group r
 as_printed is_group v = v
 
--- a message's root as it is read as a struct of a brand, with 64 levels
+-- a message's root as it is read as a struct of a brand, with the levels of a message
 abbrev pub message_root_value : Schemas → ℕ → Tree → Value
-message_root_value set b root = read_of set VoidValue (root_type set b) (value_of set root (Left 64) (root_type set b))
+message_root_value set b root = read_of set VoidValue (root_type set b) (value_of set root (Left message_levels) (root_type set b))
 
 -- its text
 abbrev pub message_root_text : Schemas → ℕ → (indented : Bool) → Result Tree ErrorKind → Out

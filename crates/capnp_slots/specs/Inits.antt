@@ -1,7 +1,8 @@
 -- What init and initn write into a slot, and why they are refused.
-use Rattle.std.specs.Prelude.{ℕ, ◌-◌, ◌^◌, ◌≡◌, Bool, true, false, nat_lt}
+use Rattle.std.specs.Prelude.{ℕ, ◌-◌, ◌≡◌, Bool, true, false, nat_lt}
 use Rattle.capnp_device.specs.declared.error.ErrorKind.{ErrorKind}
 use Rattle.capnp_device.specs.declared.error.ErrorKind.TheVariants.{OutOfMemory, SizePastFormat, InitIsOnlyValidForStructAndAnyPointerFields, InitnIsOnlyValidForListTextOrDataFields}
+use Rattle.capnp_wire.specs.Locate.{words_past_format}
 use Rattle.capnp_schema.specs.FieldLists.{typed_of}
 use Rattle.capnp_schema.specs.Schema.{Schemas}
 use Rattle.capnp_schema.specs.Types.{SchemaType, TextType, DataType, StructType, ListType, AnyPointerType}
@@ -40,7 +41,7 @@ IsRoomless false kind = kind ≡ OutOfMemory
 
 -- the same with a size
 abbrev pub IsInitnRefusal : Schemas → ℕ → SchemaType → ErrorKind → Type 0
-IsInitnRefusal set n TextType kind = IsRoomless (nat_lt (2 ^ 29 - 2) n) kind
-IsInitnRefusal set n DataType kind = IsRoomless (nat_lt (2 ^ 29 - 1) n) kind
+IsInitnRefusal set n TextType kind = IsRoomless (nat_lt (words_past_format - 2) n) kind
+IsInitnRefusal set n DataType kind = IsRoomless (nat_lt (words_past_format - 1) n) kind
 IsInitnRefusal set n (ListType e) kind = IsRoomless (elements_past set e n) kind
 IsInitnRefusal set n t kind = kind ≡ InitnIsOnlyValidForListTextOrDataFields

@@ -1,7 +1,8 @@
 //! New structs, lists, texts and data at a pointer, all zero and null.
-ghost use Rattle.std.specs.Prelude.{false, true, ◌-◌, ◌*◌, ◌+◌, ◌^◌, ◌<◌, ◌≡◌, ◌≢◌, ◌||◌, IfErr, OnErr, OnOk, nat_lt, replicate};
+ghost use Rattle.std.specs.Prelude.{false, true, ◌-◌, ◌*◌, ◌+◌, ◌<◌, ◌≡◌, ◌≢◌, ◌||◌, IfErr, OnErr, OnOk, nat_lt, replicate};
 ghost use Rattle.capnp_device.specs.declared.error.ErrorKind.TheVariants.{OutOfMemory};
 ghost use Rattle.capnp_wire.specs.Edits.{zero_list, zero_struct, zero_structs};
+ghost use Rattle.capnp_wire.specs.Locate.{words_past_format};
 ghost use Rattle.capnp_arena.specs.Forest.{Changes, Forest, tree};
 ghost use Rattle.capnp_arena.specs.Segment.{segment};
 ghost use Rattle.capnp_arena.specs.Shape.{word_count};
@@ -65,10 +66,10 @@ fn make_text(arena: &mut Arena, at: usize, count: u32) -> Result<()>
     ensures forest { OnOk result (Forest (segment arena.new) at) }
     ensures changes { OnOk result (Changes at (segment arena.old) (segment arena.new)) }
     ensures ok { OnOk result (tree (segment arena.new) at ≡ text_tree (replicate count 0)) }
-    ensures within { OnOk result (nat_lt (2 ^ 29 - 2) count ≡ false) }
+    ensures within { OnOk result (nat_lt (words_past_format - 2) count ≡ false) }
     ensures formed { OnOk result (IsWellFormed (text_tree (replicate count 0))) }
     ensures refused { OnErr result (segment arena.new ≡ segment arena.old) }
-    ensures cause { IfErr result (λ e. IsRoomless (nat_lt (2 ^ 29 - 2) count) e.kind) }
+    ensures cause { IfErr result (λ e. IsRoomless (nat_lt (words_past_format - 2) count) e.kind) }
 {
     if count >= (1 << 29) - 1 {
         return Err(Error::from(ErrorKind::SizePastFormat));
@@ -87,10 +88,10 @@ fn make_list(arena: &mut Arena, at: usize, size: ElementSize, count: u32) -> Res
     ensures forest { OnOk result (Forest (segment arena.new) at) }
     ensures changes { OnOk result (Changes at (segment arena.old) (segment arena.new)) }
     ensures ok { OnOk result (tree (segment arena.new) at ≡ zero_list size count) }
-    ensures within { OnOk result (nat_lt (2 ^ 29 - 1) count ≡ false) }
+    ensures within { OnOk result (nat_lt (words_past_format - 1) count ≡ false) }
     ensures formed { OnOk result (IsWellFormed (zero_list size count)) }
     ensures refused { OnErr result (segment arena.new ≡ segment arena.old) }
-    ensures cause { IfErr result (λ e. IsRoomless (nat_lt (2 ^ 29 - 1) count) e.kind) }
+    ensures cause { IfErr result (λ e. IsRoomless (nat_lt (words_past_format - 1) count) e.kind) }
 {
     arena.init_list(at, size, count)?;
     Ok(())
@@ -105,12 +106,12 @@ fn make_structs(arena: &mut Arena, at: usize, size: StructSize, count: u32) -> R
     ensures forest { OnOk result (Forest (segment arena.new) at) }
     ensures changes { OnOk result (Changes at (segment arena.old) (segment arena.new)) }
     ensures ok { OnOk result (tree (segment arena.new) at ≡ zero_structs size count) }
-    ensures within { OnOk result ((nat_lt (2 ^ 29 - 1) (count * (size.data_words + size.pointers)) || nat_lt
-        (2 ^ 29 - 1) count) ≡ false) }
+    ensures within { OnOk result ((nat_lt (words_past_format - 1) (count * (size.data_words + size.pointers)) || nat_lt
+        (words_past_format - 1) count) ≡ false) }
     ensures formed { OnOk result (IsWellFormed (zero_structs size count)) }
     ensures refused { OnErr result (segment arena.new ≡ segment arena.old) }
     ensures cause { IfErr result (λ e. IsRoomless
-        (nat_lt (2 ^ 29 - 1) (count * (size.data_words + size.pointers)) || nat_lt (2 ^ 29 - 1) count) e.kind) }
+        (nat_lt (words_past_format - 1) (count * (size.data_words + size.pointers)) || nat_lt (words_past_format - 1) count) e.kind) }
 {
     arena.init_struct_list(at, count, size)?;
     Ok(())

@@ -1,7 +1,8 @@
 //! What a pointer that is built can be set to.
-ghost use Rattle.std.specs.Prelude.{◌^◌, ◌+◌, ◌<◌, ◌≡◌, ◌≤◌, IfErr, None, OnErr, OnOk, false, length};
+ghost use Rattle.std.specs.Prelude.{◌+◌, ◌<◌, ◌≡◌, ◌≤◌, IfErr, None, OnErr, OnOk, false, length};
 ghost use Rattle.capnp_device.specs.declared.error.Error.{Error};
 ghost use Rattle.capnp_wire.specs.Edits.{IsRoomRefusal};
+ghost use Rattle.capnp_wire.specs.Locate.{words_past_format};
 ghost use Rattle.capnp_wire.specs.Tree.{Numbers, Tree};
 ghost use Rattle.capnp_wire.specs.WellFormed.{IsWellFormed};
 ghost use Rattle.capnp_wire.specs.Words.{first_fault};
@@ -49,7 +50,7 @@ fn set_text(arena: &mut Arena, at: usize, bytes: &[u8]) -> Result<()>
     ensures changes { OnOk result (Changes at (segment arena.old) (segment arena.new)) }
     ensures formed { OnOk result (IsWellFormed (text_tree bytes.now)) }
     ensures refused { OnErr result (segment arena.new ≡ segment arena.old) }
-    ensures cause { IfErr result (λ error. IsRoomRefusal error (2 ^ 29 ≤ length bytes.now + 1)) }
+    ensures cause { IfErr result (λ error. IsRoomRefusal error (words_past_format ≤ length bytes.now + 1)) }
 {
     arena.set_text(at, bytes)
 }
@@ -57,7 +58,7 @@ fn set_text(arena: &mut Arena, at: usize, bytes: &[u8]) -> Result<()>
 impl<'a> SetterInput<text::Owned> for text::Reader<'a> {
     ghost set_tree = { λ input. text_tree input.0.now };
 
-    ghost set_refusal = { λ input error. IsRoomRefusal error (2 ^ 29 ≤ length input.0.now + 1) };
+    ghost set_refusal = { λ input error. IsRoomRefusal error (words_past_format ≤ length input.0.now + 1) };
 
     fn set_pointer_builder(
         builder: PointerBuilder<'_>,
@@ -72,7 +73,7 @@ impl<'a> SetterInput<text::Owned> for text::Reader<'a> {
 impl<'a> SetterInput<text::Owned> for &'a str {
     ghost set_tree = { λ input. text_tree input.now };
 
-    ghost set_refusal = { λ input error. IsRoomRefusal error (2 ^ 29 ≤ length input.now + 1) };
+    ghost set_refusal = { λ input error. IsRoomRefusal error (words_past_format ≤ length input.now + 1) };
 
     fn set_pointer_builder(
         builder: PointerBuilder<'_>,
@@ -87,7 +88,7 @@ impl<'a> SetterInput<text::Owned> for &'a str {
 impl<'a> SetterInput<data::Owned> for &'a [u8] {
     ghost set_tree = { λ input. Numbers 1 input.now };
 
-    ghost set_refusal = { λ input error. IsRoomRefusal error (2 ^ 29 ≤ length input.now) };
+    ghost set_refusal = { λ input error. IsRoomRefusal error (words_past_format ≤ length input.now) };
 
     fn set_pointer_builder(
         builder: PointerBuilder<'_>,

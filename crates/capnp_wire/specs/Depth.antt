@@ -29,9 +29,16 @@ abbrev mutual
 abbrev pub IsWithin : ℕ → Tree → Type 0
 IsWithin levels t = IsBelow (suc levels) t
 
--- the depth is at most the 64 levels that a message is read with
+-- the levels that a message is read with, and those that are left inside its root
+abbrev pub message_levels : ℕ
+message_levels = 64
+
+abbrev pub root_levels : ℕ
+root_levels = 63
+
+-- the depth is at most the levels that a message is read with
 abbrev pub IsShallow : Tree → Type 0
-IsShallow t = IsWithin 64 t
+IsShallow t = IsWithin message_levels t
 
 -- One more than the levels of a message in memory that a reader or a walk goes down, so that no stack runs out on a
 -- message that was built: what is read with 64 levels is that of the whole tree, also where each is a composite list.

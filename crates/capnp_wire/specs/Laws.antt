@@ -1,8 +1,8 @@
 -- What the format promises of every message.
 use Rattle.capnp_wire.specs.Edits.{rounded_struct}
-use Rattle.std.specs.Prelude.{ℕ, suc, ◌^◌, ◌<◌, List, Ok, Err, None, ◌++◌, ◌≡◌, ◌≢◌}
+use Rattle.std.specs.Prelude.{ℕ, suc, ◌<◌, List, Ok, Err, None, ◌++◌, ◌≡◌, ◌≢◌}
 use Rattle.capnp_wire.specs.Tree.{StructTree, Tree}
-use Rattle.capnp_wire.specs.Locate.{Segments}
+use Rattle.capnp_wire.specs.Locate.{Segments, words_past_format}
 use Rattle.capnp_wire.specs.Place.{struct_tree, tree_at, tree_below}
 use Rattle.capnp_wire.specs.Stream.{message_tree_of}
 use Rattle.capnp_wire.specs.WellFormed.{AreBytes, AreSegments, IsWellFormed, IsWellFormedStruct}
@@ -31,5 +31,5 @@ MoreBytesChangeNothing =
 -- pointer, is read as that tree, whatever follows it
 abbrev pub IsReadBack : Type 0
 IsReadBack =
-    (t : Tree) (rest : List ℕ) → IsWellFormed t → first_fault t ≡ None → IsShallow t → suc (words_of t) < 2 ^ 29 →
+    (t : Tree) (rest : List ℕ) → IsWellFormed t → first_fault t ≡ None → IsShallow t → suc (words_of t) < words_past_format →
     message_tree_of (message_of t ++ rest) ≡ Ok t

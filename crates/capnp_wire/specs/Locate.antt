@@ -4,6 +4,10 @@ use Rattle.capnp_wire.specs.Slot.{word_at}
 use Rattle.capnp_wire.specs.declared.fault.Fault.{Fault}
 use Rattle.capnp_wire.specs.declared.fault.Fault.TheVariants.{BadPointer, CapabilityPointer}
 
+-- the first number of words, or of elements of a list, that the format has no room for
+abbrev pub words_past_format : ℕ
+words_past_format = 2 ^ 29
+
 -- the bytes of each segment of a message
 abbrev pub Segments : Type 0
 Segments = List (List ℕ)

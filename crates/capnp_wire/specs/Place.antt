@@ -1,5 +1,6 @@
 -- The tree at a place: a place is a word of a segment, from which far pointers may lead to any segment of the message.
 use Rattle.std.specs.Prelude.{ℕ, zero, suc, ◌+◌, ◌*◌, List, take, drop, slice_index_or, [], ◌∷◌, Bool, cond, ◌==◌}
+use Rattle.capnp_wire.specs.Depth.{message_levels}
 use Rattle.capnp_wire.specs.Slot.{bit_at}
 use Rattle.capnp_wire.specs.Tree.{Tree, Null, Struct, Voids, Bits, Numbers, Pointers, Composite, FaultLeaf, StructTree, trees_from, structs_from}
 use Rattle.capnp_wire.specs.Locate.{Segments, Target, NoTarget, BadTarget, StructAt, ListAt, CompositeAt, target_at, list_words}
@@ -72,6 +73,6 @@ unfoldable mutual
   tree_below zero segments segment w = tree_below_levels (target_at segments segment w)
   tree_below (suc levels) segments segment w = tree_at levels segments segment w
 
--- the tree of a message: at the first word of its first segment, with 64 levels
+-- the tree of a message: at the first word of its first segment, with the levels of a message
 abbrev pub root_tree : Segments → Tree
-root_tree segments = tree_at 64 segments (slice_index_or segments 0 []) 0
+root_tree segments = tree_at message_levels segments (slice_index_or segments 0 []) 0

@@ -1,5 +1,5 @@
 -- A list that becomes one of structs of at least a size.
-use Rattle.std.specs.Prelude.{ℕ, ◌+◌, ◌*◌, ◌^◌, ◌≤◌, ⊤, cond, nat_lt, max, Option, Some, None}
+use Rattle.std.specs.Prelude.{ℕ, ◌+◌, ◌*◌, ◌≤◌, ⊤, cond, nat_lt, max, Option, Some, None}
 use Rattle.capnp_wire.specs.Tree.{Tree, Null, Struct, Voids, Bits, Numbers, Pointers, Composite, FaultLeaf, structs_from}
 use Rattle.capnp_wire.specs.Reading.{element_struct, list_length}
 pub use Rattle.capnp_wire.specs.Edits.{IsDueRefusal}
@@ -7,6 +7,7 @@ use Rattle.capnp_wire.specs.Edits.{extended_struct}
 use Rattle.capnp_wire.specs.declared.size.StructSize.{StructSize}
 use Rattle.capnp_device.specs.declared.error.ErrorKind.{ErrorKind}
 use Rattle.capnp_device.specs.declared.error.ErrorKind.TheVariants.{SizePastFormat, WrongElementSize, WrongPointerKind}
+use Rattle.capnp_wire.specs.Locate.{words_past_format}
 
 -- the data words and the pointers that an element takes as a struct
 abbrev pub element_words : Tree → ℕ
@@ -50,7 +51,7 @@ struct_list size (FaultLeaf k) = FaultLeaf k
 
 -- whether so many structs of a size are past the format
 abbrev pub past_format : ℕ → StructSize → Option ErrorKind
-past_format count size = cond (nat_lt (count * (size.data_words + size.pointers)) (2 ^ 29)) None (Some SizePastFormat)
+past_format count size = cond (nat_lt (count * (size.data_words + size.pointers)) words_past_format) None (Some SizePastFormat)
 
 -- what it is refused with, memory aside
 abbrev pub struct_list_refusal : StructSize → Tree → Option ErrorKind

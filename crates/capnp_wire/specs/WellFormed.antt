@@ -1,7 +1,7 @@
 -- What the format lets a tree be: bytes, counts and sizes within their fields, and whole words of data.
 use Rattle.std.specs.Prelude.{ℕ, ◌+◌, ◌*◌, ◌/◌, ◌^◌, ◌<◌, ◌≤◌, ◌≡◌, ⊤, List, [], length, get_or, IsTrue, ◌||◌, ◌==◌, Bool}
 use Rattle.capnp_wire.specs.Tree.{Tree, Null, Struct, Voids, Bits, Numbers, Pointers, Composite, FaultLeaf, Trees, NoTrees, MoreTrees, Structs, NoStructs, MoreStructs, StructTree, tree_count, struct_count}
-use Rattle.capnp_wire.specs.Locate.{Segments}
+use Rattle.capnp_wire.specs.Locate.{Segments, words_past_format}
 
 -- each number is a byte
 abbrev pub AreBytes : List ℕ → Type 0
@@ -18,11 +18,11 @@ abbrev mutual
   pub IsWellFormed : Tree → Type 0
   IsWellFormed Null = ⊤
   IsWellFormed (Struct bytes ps) = AreBytes bytes × (length bytes ≡ 8 * (length bytes / 8)) × (length bytes / 8 < 2 ^ 16) × (tree_count ps < 2 ^ 16) × AreWellFormed ps
-  IsWellFormed (Voids count) = count < 2 ^ 29
-  IsWellFormed (Bits bits) = length bits < 2 ^ 29
-  IsWellFormed (Numbers width bytes) = AreBytes bytes × IsTrue (is_width width) × (length bytes ≡ width * (length bytes / width)) × (length bytes / width < 2 ^ 29)
-  IsWellFormed (Pointers ps) = (tree_count ps < 2 ^ 29) × AreWellFormed ps
-  IsWellFormed (Composite d p es) = (d < 2 ^ 16) × (p < 2 ^ 16) × (struct_count es < 2 ^ 29) × (struct_count es * (d + p) < 2 ^ 29) × AreElements d p es
+  IsWellFormed (Voids count) = count < words_past_format
+  IsWellFormed (Bits bits) = length bits < words_past_format
+  IsWellFormed (Numbers width bytes) = AreBytes bytes × IsTrue (is_width width) × (length bytes ≡ width * (length bytes / width)) × (length bytes / width < words_past_format)
+  IsWellFormed (Pointers ps) = (tree_count ps < words_past_format) × AreWellFormed ps
+  IsWellFormed (Composite d p es) = (d < 2 ^ 16) × (p < 2 ^ 16) × (struct_count es < words_past_format) × (struct_count es * (d + p) < words_past_format) × AreElements d p es
   IsWellFormed (FaultLeaf fault) = ⊤
 
   pub AreWellFormed : Trees → Type 0

@@ -1,6 +1,7 @@
 //! Readers of lists.
 ghost use Rattle.std.specs.Prelude.{◌≡◌};
 ghost use Rattle.capnp_wire.specs.Found.{found_tree};
+ghost use Rattle.capnp_wire.specs.Locate.{words_past_format};
 ghost use Rattle.capnp_wire.specs.WellFormed.{IsWellFormed};
 ghost use Rattle.capnp_wire.specs.Steps.WellFormed.{IsWellFormed-prop};
 
@@ -43,7 +44,7 @@ const _: () = prove!(size_of::<ListReader<'static>>() <= 80);
 
 impl<'a> ListReader<'a> {
     ghost use Rattle.capnp_wire.specs.ElementSizes.{element_size_of};
-    ghost use Rattle.std.specs.Prelude.{Ok, false, ◌≡◌, ◌==◌, ◌+◌, ◌<◌, ◌^◌, IfOk};
+    ghost use Rattle.std.specs.Prelude.{Ok, false, ◌≡◌, ◌==◌, ◌+◌, ◌<◌, IfOk};
     ghost use Rattle.capnp_wire.specs.Reading.{as_list, empty_list, element_bit, element_levels, element_number, element_pointer, element_struct, list_length, with_level};
     ghost use Rattle.capnp_wire.specs.Steps.Reading.{is_fault_leaf};
     ghost use Rattle.capnp_wire.specs.Numbers.{numbers_tree};
@@ -100,7 +101,7 @@ impl<'a> ListReader<'a> {
     #[inline(always)]
     pub fn len(&self) -> u32
         ensures length { result ≡ list_length (list_of self.now) }
-        ensures bound { result < 2 ^ 29 }
+        ensures bound { result < words_past_format }
     {
         count_list(self.found) as u32
     }

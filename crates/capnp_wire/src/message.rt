@@ -1,10 +1,11 @@
 //! Whole messages, as they are received.
 ghost use Rattle.capnp_wire.specs.Backing.{segment_list};
+ghost use Rattle.capnp_wire.specs.Depth.{message_levels};
 ghost use Rattle.capnp_wire.specs.WellFormed.{AreSegments};
 ghost use Rattle.capnp_wire.specs.Steps.WellFormed.{AreSegments-prop};
 
 use crate::parts::bytes::{half_at, part};
-use crate::parts::pointer::{ROOT_LEVELS, get_root_pointer};
+use crate::parts::pointer::{MESSAGE_LEVELS, get_root_pointer};
 use crate::pointer_reader::PointerReader;
 use crate::parts::segments::{Segments, count_words, get_header_bytes};
 use capnp_device::error::{Error, ErrorKind, Result};
@@ -67,8 +68,8 @@ impl<'a> Reader<'a> {
     #[tactic(auto, unfolding(crate::specs::Message::received_tree))]
     pub fn get_root(&self) -> PointerReader<'a>
         ensures tree { tree_of result ≡ received_tree self.now }
-        ensures levels { levels_of result ≡ 64 }
+        ensures levels { levels_of result ≡ message_levels }
     {
-        PointerReader::new(get_root_pointer(self.segments), ROOT_LEVELS)
+        PointerReader::new(get_root_pointer(self.segments), MESSAGE_LEVELS)
     }
 }

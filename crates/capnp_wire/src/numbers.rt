@@ -1,6 +1,7 @@
 //! The numbers of a list, all of one type.
 ghost use Rattle.std.specs.Prelude.{◌≡◌, ◌<◌, ◌≤◌};
 ghost use Rattle.capnp_wire.specs.Found.{found_tree};
+ghost use Rattle.capnp_wire.specs.Locate.{words_past_format};
 ghost use Rattle.capnp_wire.specs.Reading.{element_number, list_length};
 ghost use Rattle.capnp_wire.specs.WellFormed.{IsWellFormed};
 ghost use Rattle.capnp_wire.specs.Steps.WellFormed.{IsWellFormed-prop};
@@ -50,7 +51,7 @@ fn number_inside<T: PrimitiveElement>(list: Found<'_>, index: usize) -> T
 }
 
 impl<'a, T: PrimitiveElement> Numbers<'a, T> {
-    ghost use Rattle.std.specs.Prelude.{◌==◌, ◌^◌};
+    ghost use Rattle.std.specs.Prelude.{◌==◌};
     ghost use Rattle.capnp_wire.specs.Numbers.{numbers_in_list, items_left, numbers_tree};
     ghost use Rattle.capnp_wire.specs.Standing.{list_of};
 
@@ -71,7 +72,7 @@ impl<'a, T: PrimitiveElement> Numbers<'a, T> {
     #[inline(always)]
     pub fn len(&self) -> u32
         ensures length { result ≡ list_length (numbers_tree self.now) }
-        ensures bound { result < 2 ^ 29 }
+        ensures bound { result < words_past_format }
     {
         self.list.len()
     }
@@ -98,7 +99,7 @@ impl<'a, T: PrimitiveElement> Numbers<'a, T> {
     pub fn iter(&self) -> NumberIter<'a, T>
         ensures items { items_left T.of_number T.width result ≡
             numbers_in_list T.of_number T.width (numbers_tree self.now) }
-        ensures bound { list_length (numbers_tree self.now) < 2 ^ 29 }
+        ensures bound { list_length (numbers_tree self.now) < words_past_format }
     {
         let count = self.len() as usize;
         NumberIter {
@@ -119,7 +120,7 @@ impl<'a, T: PrimitiveElement> IntoIterator for Numbers<'a, T> {
     type IntoIter = NumberIter<'a, T>;
 
     ghost into_iter_gives = { λ numbers it. (items_left T.of_number T.width it ≡
-        numbers_in_list T.of_number T.width (numbers_tree numbers)) × (list_length (numbers_tree numbers) < 2 ^ 29) };
+        numbers_in_list T.of_number T.width (numbers_tree numbers)) × (list_length (numbers_tree numbers) < words_past_format) };
 
     #[inline(always)]
     fn into_iter(self) -> NumberIter<'a, T> {

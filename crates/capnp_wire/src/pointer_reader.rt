@@ -1,4 +1,5 @@
 //! Readers of pointers.
+ghost use Rattle.capnp_wire.specs.Depth.{message_levels};
 ghost use Rattle.capnp_wire.specs.Found.{pointer_tree};
 ghost use Rattle.capnp_wire.specs.WellFormed.{IsWellFormed};
 ghost use Rattle.capnp_wire.specs.Steps.WellFormed.{IsWellFormed-prop};
@@ -7,7 +8,7 @@ use crate::parts::elements::{data_of, text_of};
 use crate::fault::refuse;
 use crate::parts::found::Found;
 use crate::list_reader::ListReader;
-use crate::parts::pointer::{MEMORY_DEPTH, Pointer, ROOT_LEVELS, get_root_pointer, look};
+use crate::parts::pointer::{MEMORY_DEPTH, Pointer, MESSAGE_LEVELS, get_root_pointer, look};
 use crate::parts::segments::Segments;
 use crate::size::{ElementSize, MessageSize};
 use crate::struct_reader::StructReader;
@@ -61,13 +62,13 @@ impl<'a> PointerReader<'a> {
     /// word the pointer can't be followed (`BadPointer`).
     pub fn from_words(words: &'a [u8]) -> PointerReader<'a>
         ensures tree { tree_of result ≡ root_tree (words.now ∷ []) }
-        ensures levels { levels_of result ≡ 64 }
+        ensures levels { levels_of result ≡ message_levels }
     {
         let segments = Segments {
             bytes: words,
             is_stream: false,
         };
-        PointerReader::new(get_root_pointer(segments), ROOT_LEVELS)
+        PointerReader::new(get_root_pointer(segments), MESSAGE_LEVELS)
     }
 
     /// A reader of the pointer at the word `index` of one segment that stands alone, whose tree has one level less than

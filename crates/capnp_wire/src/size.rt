@@ -1,5 +1,6 @@
 //! The sizes of structs, of list elements and of messages.
 ghost use Rattle.std.specs.Prelude.{IsTrue, ◌*◌, ◌+◌, ◌<◌, ◌^◌, ◌≡◌, ◌≤◌, ◌↔◌};
+ghost use Rattle.capnp_wire.specs.Locate.{words_past_format};
 
 /// The sections of a struct: its data in words of 8 bytes, and its pointers.
 #[derive(Clone, Copy, Debug, PartialEq, Eq)]
@@ -21,7 +22,7 @@ impl StructSize {
     /// Whether so many structs of this size are 2^29 words or more, which no list can have.
     #[inline(always)]
     pub(crate) fn is_past_format(self, count: u32) -> bool
-        ensures { IsTrue result ↔ 2 ^ 29 ≤ count * (self.data_words + self.pointers) }
+        ensures { IsTrue result ↔ words_past_format ≤ count * (self.data_words + self.pointers) }
     {
         count as u64 * self.total() as u64 >= 1 << 29
     }

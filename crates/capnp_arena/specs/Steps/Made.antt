@@ -1,6 +1,7 @@
 -- What is made at the end of a segment: steps of the code.
 use Rattle.std.specs.Prelude.{ℕ, suc, ◌+◌, ◌-◌, ◌*◌, ◌^◌, ◌<◌, ◌≡◌, ◌==◌, cond, List, ◌++◌, length, replicate}
 use Rattle.capnp_wire.specs.Encoding.{spelled_number, struct_word}
+use Rattle.capnp_wire.specs.Locate.{words_past_format}
 use Rattle.capnp_wire.specs.Steps.Filling.{bytes_with}
 use Rattle.capnp_arena.specs.Shape.{word_count}
 
@@ -9,7 +10,7 @@ pub record IsObjectMade (old new added : List ℕ) (at word : ℕ) : Type 0 wher
   pub whole : length old ≡ 8 * word_count old
   pub inside : at < word_count old
   pub words : length added ≡ 8 * word_count added
-  pub few : word_count old + word_count added < 2 ^ 29
+  pub few : word_count old + word_count added < words_past_format
   pub is : new ≡ bytes_with (8 * at) (spelled_number 8 word) (old ++ added)
 
 -- bytes, and zeros up to so many words

@@ -1,7 +1,8 @@
 //! Lists whose element types are known only at run time, as they are built.
-ghost use Rattle.std.specs.Prelude.{◌==◌, ◌≡◌, ◌<◌, ◌^◌, IfErr, IfOk, OnErr, OnOk};
+ghost use Rattle.std.specs.Prelude.{◌==◌, ◌≡◌, ◌<◌, IfErr, IfOk, OnErr, OnOk};
 ghost use Rattle.std.specs.Borrow.{sem};
-ghost use Rattle.capnp_wire.specs.Depth.{IsBelow, memory_depth};
+ghost use Rattle.capnp_wire.specs.Depth.{IsBelow, memory_depth, message_levels};
+ghost use Rattle.capnp_wire.specs.Locate.{words_past_format};
 ghost use Rattle.capnp_wire.specs.Reading.{list_length};
 ghost use Rattle.capnp_wire.specs.Standing.{list_levels, list_of};
 ghost use Rattle.capnp_arena.specs.Forest.{Changes};
@@ -100,7 +101,7 @@ impl<'a> Builder<'a> {
         ensures cut { IsCutOf (list_of (list_reader_of result)) (built_reading self.entry) }
         ensures list { IsBelow memory_depth (built_elements self.entry)
             → list_of (list_reader_of result) ≡ built_reading self.entry }
-        ensures levels { list_levels (list_reader_of result) ≡ 64 }
+        ensures levels { list_levels (list_reader_of result) ≡ message_levels }
         ensures element { type_of result ≡ built_type self.entry }
         ensures set { list_set result ≡ built_set self.entry }
     {
@@ -118,7 +119,7 @@ impl<'a> Builder<'a> {
     pub fn len(&self) -> u32
         requires { IsListReady self.now }
         ensures length { result ≡ list_length (built_elements self.now) }
-        ensures bound { result < 2 ^ 29 }
+        ensures bound { result < words_past_format }
     {
         self.arena.tree_is_sound(self.at);
         self.arena.get_length(self.at)

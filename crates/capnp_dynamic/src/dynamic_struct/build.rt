@@ -6,7 +6,7 @@
 ghost use Rattle.std.specs.Prelude.{None, Ok, IfErr, IsErrAnd, IsOk, IsOkAnd, OnErr, OnOk, ◌≡◌, ◌≢◌, IfOk};
 ghost use Rattle.std.specs.Borrow.{sem};
 ghost use Rattle.capnp_device.specs.declared.error.ErrorKind.TheVariants.{FieldNotFound};
-ghost use Rattle.capnp_wire.specs.Depth.{AreBelow, memory_depth};
+ghost use Rattle.capnp_wire.specs.Depth.{AreBelow, memory_depth, message_levels};
 ghost use Rattle.capnp_wire.specs.Edits.{IsStructRefusal, extended_struct, struct_in};
 ghost use Rattle.capnp_wire.specs.Standing.{struct_levels, struct_of};
 ghost use Rattle.capnp_arena.specs.Forest.{Changes, Forest, tree};
@@ -134,7 +134,7 @@ impl<'a> Builder<'a> {
         ensures cut { IsStructCutOf (struct_of (reader_of result)) (built_struct self.now) }
         ensures parts { AreBelow memory_depth (built_struct self.now).pointers
             → struct_of (reader_of result) ≡ built_struct self.now }
-        ensures levels { struct_levels (reader_of result) ≡ 64 }
+        ensures levels { struct_levels (reader_of result) ≡ message_levels }
         ensures schema { schema_of result ≡ built_schema self.now }
     {
         Reader::new(self.arena.get_struct_reader(self.place), self.schema)
@@ -147,7 +147,7 @@ impl<'a> Builder<'a> {
         ensures cut { IsStructCutOf (struct_of (reader_of result)) (built_struct self.entry) }
         ensures parts { AreBelow memory_depth (built_struct self.entry).pointers
             → struct_of (reader_of result) ≡ built_struct self.entry }
-        ensures levels { struct_levels (reader_of result) ≡ 64 }
+        ensures levels { struct_levels (reader_of result) ≡ message_levels }
         ensures schema { schema_of result ≡ built_schema self.entry }
     {
         let Builder {

@@ -10,7 +10,7 @@ use Rattle.capnp_records.specs.Facts.ListValues.{below_of}
 use Rattle.capnp_records.specs.Part.{which_of}
 use Rattle.capnp_records.specs.Reading.{element_value, part_of, non_union_parts, union_of, values_of}
 use Rattle.capnp_records.specs.Record.{Left, Union, Value, Values, is_there, values_from}
-use Rattle.capnp_records.specs.Text.{Inner, Layout, Member, Out, before, deeper, element_texts, item, item_if, later, list_text, member, part_text, record_text, shown, text_within}
+use Rattle.capnp_records.specs.Text.{Inner, Layout, Member, Out, before, deeper, element_texts, item, item_if, later, list_text, member, part_text, print_levels, record_text, shown, text_within}
 use Rattle.capnp_dynamic_readers.specs.Handles.{element_of, list_reader_of, list_set, reader_of, schema_of}
 use Rattle.capnp_dynamic_readers.specs.Seen.{record_seen, value_seen}
 use Rattle.capnp_dynamic_readers.specs.declared.dynamic_list.Reader.{Reader as ListHandle}
@@ -18,9 +18,9 @@ use Rattle.capnp_dynamic_readers.specs.declared.dynamic_struct.Reader.{Reader as
 use Rattle.capnp_dynamic_readers.specs.declared.dynamic_value.Reader.{Reader as DynamicValue}
 use Rattle.capnp_dynamic_readers.specs.Shown.{set_seen, type_seen, value_printed}
 
--- the text of a value that stands alone, with 64 levels
+-- the text of a value that stands alone
 abbrev pub root_shown : Layout → DynamicValue → Out
-root_shown at v = part_text (set_seen v) (text_within (set_seen v) 64) at VoidValue (type_seen v) (value_printed v)
+root_shown at v = part_text (set_seen v) (text_within (set_seen v) print_levels) at VoidValue (type_seen v) (value_printed v)
 
 -- ---- the text of a value where so many levels are left ----
 

@@ -1,10 +1,11 @@
 -- What the last step of a call writes into an element of a list.
-use Rattle.std.specs.Prelude.{ℕ, ◌-◌, ◌^◌, ◌≡◌, ⊤, false, ◌==◌, nat_lt, None, length}
+use Rattle.std.specs.Prelude.{ℕ, ◌-◌, ◌≡◌, ⊤, false, ◌==◌, nat_lt, None, length}
 use Rattle.capnp_wire.specs.Tree.{Tree, tree_count}
 use Rattle.capnp_wire.specs.Place.{struct_tree}
 use Rattle.capnp_wire.specs.Reading.{element_struct}
 use Rattle.capnp_wire.specs.Edits.{fitted_struct, struct_in}
 use Rattle.capnp_wire.specs.Elements.{with_bit_element, with_number_element, with_pointer_element, with_struct_element, HasBit, HasNumber, HasPointer, HasStruct}
+use Rattle.capnp_wire.specs.Locate.{words_past_format}
 use Rattle.capnp_schema.specs.Types.{SchemaType, VoidType, BoolType, IntType, UIntType, EnumType, TextType, DataType, StructType, ListType, AnyPointerType}
 use Rattle.capnp_schema.specs.Schema.{Schemas}
 use Rattle.capnp_records.specs.Call.{PathStep, Source, StructSource, Op, Set, Initn}
@@ -49,8 +50,8 @@ HasElementThere AnyPointerType x j = HasPointer x j
 
 -- what initn writes
 abbrev pub InitnContent : Schemas → ℕ → SchemaType → Content → Type 0
-InitnContent set n TextType c = (nat_lt (2 ^ 29 - 2) n ≡ false) × (c ≡ At (initn_tree set TextType n))
-InitnContent set n DataType c = (nat_lt (2 ^ 29 - 1) n ≡ false) × (c ≡ At (initn_tree set DataType n))
+InitnContent set n TextType c = (nat_lt (words_past_format - 2) n ≡ false) × (c ≡ At (initn_tree set TextType n))
+InitnContent set n DataType c = (nat_lt (words_past_format - 1) n ≡ false) × (c ≡ At (initn_tree set DataType n))
 InitnContent set n (ListType e) c = (elements_past set e n ≡ false) × (c ≡ At (initn_tree set (ListType e) n))
 InitnContent set n t c = ⊥
 

@@ -1,5 +1,6 @@
 //! Annotations: those of a struct, a field, an enum or an enumerant.
-ghost use Rattle.std.specs.Prelude.{◌≡◌, ◌<◌, ◌^◌, length, map};
+ghost use Rattle.std.specs.Prelude.{◌≡◌, ◌<◌, length, map};
+ghost use Rattle.capnp_wire.specs.Locate.{words_past_format};
 ghost use Rattle.capnp_schema.specs.Accepted.{AllName, NamesEntries};
 ghost use Rattle.capnp_schema.specs.Entries.{lists_seen};
 ghost use Rattle.capnp_schema.specs.Steps.Named.{NamesEntries-prop, name_entries-prop};
@@ -63,7 +64,7 @@ pub struct AnnotationList<'s> {
     stored: &'s [AnnotationRecord],
     types: &'s [Type],
     ghost have_types: { length types.now ≡ length stored.now },
-    ghost are_few: { length stored.now < 2 ^ 29 },
+    ghost are_few: { length stored.now < words_past_format },
     ghost are_named: { AllName (lists_seen set.now) (map seen_type types.now) } by { name_entries-prop (lists_seen set.now) (map seen_type types.now) },
 }
 
@@ -83,7 +84,7 @@ impl<'s> AnnotationList<'s> {
         types: &'s [Type],
     ) -> AnnotationList<'s>
         requires have_types { length types.now ≡ length stored.now }
-        requires are_few { length stored.now < 2 ^ 29 }
+        requires are_few { length stored.now < words_past_format }
         requires are_named { AllName (lists_seen set.now) (map seen_type types.now) }
         ensures entries { annotations_in result ≡ with_types (seen_annotations stored.now) (map seen_type types.now) }
         ensures set { annotations_set result ≡ lists_seen set.now }
@@ -182,7 +183,7 @@ impl<'s> AnnotationList<'s> {
     #[tactic(auto, using(crate::proofs::AnnotatedLemmas::length_in))]
     pub fn len(&self) -> u32
         ensures length { result ≡ length (annotations_in self.now) }
-        ensures few { result < 2 ^ 29 }
+        ensures few { result < words_past_format }
     {
         self.stored.len() as u32
     }

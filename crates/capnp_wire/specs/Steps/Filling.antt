@@ -1,10 +1,11 @@
 -- What is made of bytes in which room was left for pointers: the pointers are put there, and what they lead to is
 -- appended.
-use Rattle.std.specs.Prelude.{ℕ, ◌+◌, ◌-◌, ◌*◌, ◌/◌, ◌^◌, ◌<◌, ◌≤◌, List, ◌++◌, take, drop, length}
+use Rattle.std.specs.Prelude.{ℕ, ◌+◌, ◌-◌, ◌*◌, ◌/◌, ◌<◌, ◌≤◌, List, ◌++◌, take, drop, length}
 use Rattle.capnp_wire.specs.Tree.{Trees, Structs, StructTree, tree_count, struct_count}
 use Rattle.capnp_wire.specs.Words.{words_of_all, words_below_all}
 use Rattle.capnp_wire.specs.WellFormed.{AreElements, AreWellFormed}
 use Rattle.capnp_wire.specs.Encoding.{pointer_row, element_row, bytes_of_all, bytes_below_all}
+use Rattle.capnp_wire.specs.Locate.{words_past_format}
 
 -- bytes with others in the place of as many, from an index on
 abbrev pub bytes_with : ℕ → List ℕ → List ℕ → List ℕ
@@ -22,7 +23,7 @@ row_end at ts = at + 8 * tree_count ts
 
 -- there is room for them, and what they lead to is near enough
 abbrev pub HasRoom : ℕ → Trees → List ℕ → Type 0
-HasRoom at ts bytes = AreWellFormed ts × (row_end at ts ≤ length bytes) × (tree_count ts + words_from (row_end at ts) bytes + words_of_all ts < 2 ^ 29)
+HasRoom at ts bytes = AreWellFormed ts × (row_end at ts ≤ length bytes) × (tree_count ts + words_from (row_end at ts) bytes + words_of_all ts < words_past_format)
 
 -- the pointers there, and what they lead to at the end
 abbrev pub with_pointers : ℕ → Trees → List ℕ → List ℕ
@@ -42,7 +43,7 @@ elements_end size at es = at + 8 * (struct_count es * size)
 -- there is room for elements of one size, and what they lead to is near enough
 abbrev pub HaveRoom : ℕ → ℕ → ℕ → Structs → List ℕ → Type 0
 HaveRoom d p at es bytes =
-    AreElements d p es × (elements_end (d + p) at es ≤ length bytes) × (struct_count es * (d + p) + words_from (elements_end (d + p) at es) bytes + words_below_all es < 2 ^ 29)
+    AreElements d p es × (elements_end (d + p) at es ≤ length bytes) × (struct_count es * (d + p) + words_from (elements_end (d + p) at es) bytes + words_below_all es < words_past_format)
 
 -- the elements there, and what they lead to at the end
 abbrev pub with_encoded_elements : ℕ → ℕ → Structs → List ℕ → List ℕ

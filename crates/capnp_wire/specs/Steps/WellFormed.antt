@@ -2,7 +2,7 @@
 use Rattle.std.specs.Prelude.{ℕ, ◌+◌, ◌*◌, ◌/◌, ◌^◌, ◌<◌, ◌≤◌, ◌≡◌, ⊤, List, length}
 use Rattle.std.specs.Coded.{×_prop, Π_prop, Unit-prop, le_prop, Coded-set, coded_ℕ, coded_bool}
 use Rattle.capnp_wire.specs.Tree.{Tree, Null, Struct, Voids, Bits, Numbers, Pointers, Composite, FaultLeaf, Trees, NoTrees, MoreTrees, Structs, NoStructs, MoreStructs, StructTree, tree_count}
-use Rattle.capnp_wire.specs.Locate.{Segments, Target, NoTarget, BadTarget, StructAt, ListAt, CompositeAt, list_words}
+use Rattle.capnp_wire.specs.Locate.{Segments, Target, NoTarget, BadTarget, StructAt, ListAt, CompositeAt, list_words, words_past_format}
 use Rattle.capnp_wire.specs.WellFormed.{AreBytes, AreElements, AreSegments, AreWellFormed, IsWellFormed, IsWellFormedStruct}
 
 -- an element of a composite list of this size
@@ -14,8 +14,8 @@ abbrev pub IsInside : Target → Type 0
 IsInside NoTarget = ⊤
 IsInside (BadTarget fault) = ⊤
 IsInside (StructAt segment start d p) = AreBytes segment × (start + d + p ≤ length segment / 8) × (d < 2 ^ 16) × (p < 2 ^ 16)
-IsInside (ListAt segment start size count) = AreBytes segment × (start + list_words size count ≤ length segment / 8) × (size < 7) × (count < 2 ^ 29)
-IsInside (CompositeAt segment start count d p) = AreBytes segment × (start + count * (d + p) ≤ length segment / 8) × (d < 2 ^ 16) × (p < 2 ^ 16) × (count < 2 ^ 29) × (count * (d + p) < 2 ^ 29)
+IsInside (ListAt segment start size count) = AreBytes segment × (start + list_words size count ≤ length segment / 8) × (size < 7) × (count < words_past_format)
+IsInside (CompositeAt segment start count d p) = AreBytes segment × (start + count * (d + p) ≤ length segment / 8) × (d < 2 ^ 16) × (p < 2 ^ 16) × (count < words_past_format) × (count * (d + p) < words_past_format)
 
 -- ---- these facts have one proof at most, so that a reader can keep them ----
 

@@ -46,7 +46,7 @@ pub fn look(pointer: Pointer<'_>) -> Found<'_>
 }
 
 /// The levels of a message's root pointer.
-pub const ROOT_LEVELS: u8 = 64;
+pub const MESSAGE_LEVELS: u8 = 64;
 
 /// One more than the levels of a message in memory that a reader or a walk goes down.
 pub const MEMORY_DEPTH: u8 = 130;
@@ -57,7 +57,7 @@ pub fn get_root_pointer(segments: Segments<'_>) -> Pointer<'_>
     ensures { pointer_tree result ≡ root_tree (segment_list segments.entry) }
 {
     Pointer::Word {
-        depth: ROOT_LEVELS + 1,
+        depth: MESSAGE_LEVELS + 1,
         is_stream: segments.is_stream,
         bytes: segments.bytes,
         segment: get_first_segment(segments),
