@@ -17,8 +17,8 @@ use crate::copy::fill_pointer;
 use crate::spell::put_bytes;
 use capnp_device::error::{Error, ErrorKind, Result};
 use capnp_wire::StructReader;
-use capnp_wire::parts::found::StructParts;
 use capnp_wire::laws::struct_is_well_formed;
+use capnp_wire::parts::found::StructParts;
 use capnp_wire::parts::pointers::{count_pointers, get_pointer};
 use capnp_wire::parts::row::Pointers;
 

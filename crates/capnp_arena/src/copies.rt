@@ -5,8 +5,8 @@ use crate::arena::Arena;
 use crate::copy::{append_found, append_struct, point_to, point_to_struct};
 use crate::spell::put_word;
 use capnp_device::error::Result;
-use capnp_wire::parts::found::{Found, StructParts};
 use capnp_wire::laws::{list_is_well_formed, pointer_is_well_formed, struct_is_well_formed};
+use capnp_wire::parts::found::{Found, StructParts};
 use capnp_wire::parts::pointer::{Pointer, look};
 use capnp_wire::{ListReader, PointerReader, StructReader};
 

@@ -8,9 +8,9 @@ use crate::list_reads::ListTarget;
 use crate::spell::put_word;
 use capnp_device::error::{Error, ErrorKind, Result};
 use capnp_wire::PointerReader;
-use capnp_wire::parts::due::{refuse_as_list, refuse_as_struct, refuse_as_structs};
 use capnp_wire::fault::refuse;
 use capnp_wire::laws::pointer_is_well_formed;
+use capnp_wire::parts::due::{refuse_as_list, refuse_as_struct, refuse_as_structs};
 use capnp_wire::parts::pointer::look;
 use capnp_wire::size::{ElementSize, StructSize};
 

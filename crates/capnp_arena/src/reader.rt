@@ -86,7 +86,13 @@ impl Arena {
             data_words: place.data_words,
             pointers: place.pointers,
         };
-        StructReader::of_words(self.bytes.as_slice(), place.start, size, MEMORY_DEPTH, MESSAGE_LEVELS)
+        StructReader::of_words(
+            self.bytes.as_slice(),
+            place.start,
+            size,
+            MEMORY_DEPTH,
+            MESSAGE_LEVELS,
+        )
     }
 
     /// The same for as long as the message is lent, which stays as it is.

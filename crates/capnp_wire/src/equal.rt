@@ -5,14 +5,14 @@ ghost use Rattle.capnp_wire.specs.Place.{bits_from, struct_tree};
 ghost use Rattle.capnp_wire.specs.Standing.{tree_of};
 ghost use Rattle.capnp_wire.specs.Tree as tree;
 
+use crate::fault::Fault;
 use crate::parts::block::{count_elements, count_empty_structs, get_element};
 use crate::parts::bytes::get_bit;
-use crate::fault::Fault;
 use crate::parts::found::{Found, StructParts};
 use crate::parts::pointer::{Pointer, look};
-use crate::pointer_reader::PointerReader;
 use crate::parts::pointers::{count_pointers, get_pointer};
 use crate::parts::row::{Elements, Pointers};
+use crate::pointer_reader::PointerReader;
 use crate::size::StructSize;
 
 fn is_null(found: Found<'_>) -> bool

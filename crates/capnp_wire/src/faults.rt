@@ -4,13 +4,13 @@ ghost use Rattle.capnp_wire.specs.Found.{element_structs, found_tree, pointer_tr
 ghost use Rattle.capnp_wire.specs.Standing.{tree_of};
 ghost use Rattle.capnp_wire.specs.Words.{first_fault, first_fault_of_all, first_fault_of_elements};
 
-use crate::parts::block::{count_elements, get_element, have_no_pointers};
 use crate::fault::Fault;
+use crate::parts::block::{count_elements, get_element, have_no_pointers};
 use crate::parts::found::Found;
 use crate::parts::pointer::{Pointer, look};
-use crate::pointer_reader::PointerReader;
 use crate::parts::pointers::{count_pointers, get_pointer};
 use crate::parts::row::{Elements, Pointers};
+use crate::pointer_reader::PointerReader;
 use crate::size::StructSize;
 
 /// The first fault leaf of what stands at a place.

@@ -5,15 +5,15 @@ ghost use Rattle.capnp_wire.specs.Locate.{words_past_format};
 ghost use Rattle.capnp_wire.specs.WellFormed.{IsWellFormed};
 ghost use Rattle.capnp_wire.specs.Steps.WellFormed.{IsWellFormed-prop};
 
+use crate::fault::Fault;
+use crate::numbers::Numbers;
 use crate::parts::block::get_element;
 use crate::parts::due::reads_list_as;
 use crate::parts::elements::{bit_at, number_at};
-use crate::fault::Fault;
 use crate::parts::found::{Found, count_list, empty_list, get_element_parts, size_of_elements};
-use crate::numbers::Numbers;
 use crate::parts::pointer::{Pointer, look};
-use crate::pointer_reader::PointerReader;
 use crate::parts::pointers::get_pointer;
+use crate::pointer_reader::PointerReader;
 use crate::primitive::PrimitiveElement;
 use crate::size::{ElementSize, StructSize};
 use crate::struct_reader::StructReader;

@@ -6,8 +6,8 @@ ghost use Rattle.capnp_wire.specs.Steps.WellFormed.{AreSegments-prop};
 
 use crate::parts::bytes::{half_at, part};
 use crate::parts::pointer::{MESSAGE_LEVELS, get_root_pointer};
-use crate::pointer_reader::PointerReader;
 use crate::parts::segments::{Segments, count_words, get_header_bytes};
+use crate::pointer_reader::PointerReader;
 use capnp_device::error::{Error, ErrorKind, Result};
 use std::alloc::Global;
 

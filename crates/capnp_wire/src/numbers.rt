@@ -6,9 +6,9 @@ ghost use Rattle.capnp_wire.specs.Reading.{element_number, list_length};
 ghost use Rattle.capnp_wire.specs.WellFormed.{IsWellFormed};
 ghost use Rattle.capnp_wire.specs.Steps.WellFormed.{IsWellFormed-prop};
 
+use crate::list_reader::ListReader;
 use crate::parts::elements::number_at;
 use crate::parts::found::Found;
-use crate::list_reader::ListReader;
 use crate::primitive::PrimitiveElement;
 use std::marker::PhantomData;
 use std::mem::size_of;

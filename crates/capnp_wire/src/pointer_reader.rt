@@ -4,11 +4,11 @@ ghost use Rattle.capnp_wire.specs.Found.{pointer_tree};
 ghost use Rattle.capnp_wire.specs.WellFormed.{IsWellFormed};
 ghost use Rattle.capnp_wire.specs.Steps.WellFormed.{IsWellFormed-prop};
 
-use crate::parts::elements::{data_of, text_of};
 use crate::fault::refuse;
-use crate::parts::found::Found;
 use crate::list_reader::ListReader;
-use crate::parts::pointer::{MEMORY_DEPTH, Pointer, MESSAGE_LEVELS, get_root_pointer, look};
+use crate::parts::elements::{data_of, text_of};
+use crate::parts::found::Found;
+use crate::parts::pointer::{MEMORY_DEPTH, MESSAGE_LEVELS, Pointer, get_root_pointer, look};
 use crate::parts::segments::Segments;
 use crate::size::{ElementSize, MessageSize};
 use crate::struct_reader::StructReader;

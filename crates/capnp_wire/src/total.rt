@@ -9,9 +9,9 @@ ghost use Rattle.capnp_wire.specs.Words.{first_fault, first_fault_of_all, first_
 ghost use Rattle.capnp_wire.specs.Total.{IsSize, IsSizeRefusal};
 ghost use Rattle.capnp_wire.specs.Steps.Total.{Totals, size_of_total, size_read};
 
+use crate::fault::{Fault, refuse};
 use crate::parts::block::{count_elements, get_element, have_no_pointers};
 use crate::parts::bytes::get_word;
-use crate::fault::{Fault, refuse};
 use crate::parts::found::{Found, StructParts};
 use crate::parts::look::look_at_word;
 use crate::parts::pointer::Pointer;

@@ -4,9 +4,9 @@ ghost use Rattle.capnp_wire.specs.Found.{found_tree};
 ghost use Rattle.capnp_wire.specs.Reading.{as_data, as_text, element_bit, element_number};
 ghost use Rattle.capnp_wire.specs.Standing.{bytes_read};
 
+use crate::fault::refuse;
 use crate::parts::block::get_element;
 use crate::parts::bytes::get_bit;
-use crate::fault::refuse;
 use crate::parts::found::Found;
 use crate::primitive::PrimitiveElement;
 use capnp_device::error::{Error, ErrorKind, Result};

@@ -6,9 +6,9 @@ ghost use Rattle.capnp_wire.specs.Reading.{element_struct, empty_list, list_leng
 ghost use Rattle.capnp_wire.specs.WellFormed.{IsWellFormed};
 ghost use Rattle.capnp_wire.specs.Found.{found_tree, parts_tree};
 
+use crate::fault::Fault;
 use crate::parts::block::{count_elements, get_element, no_elements};
 use crate::parts::bytes::{divide, part};
-use crate::fault::Fault;
 use crate::parts::pointers::{count_pointers, get_only_pointer, no_pointers};
 use crate::parts::row::{Elements, Pointers};
 use crate::size::{ElementSize, StructSize};

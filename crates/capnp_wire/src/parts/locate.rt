@@ -5,8 +5,8 @@ ghost use Rattle.std.specs.Prelude.{◌≡◌, ◌+◌, ◌<◌, ◌^◌, slice_
 ghost use Rattle.capnp_wire.specs.Backing.{StartFits, segment_list, target_of};
 ghost use Rattle.capnp_wire.specs.Locate.{count, data_words, double_target, element_size_number, is_double, pointer_kind, lies, list_target, list_words, near_target, near_target_from, offset, pad_segment, pad_target, pad_word, pointer_count, start_of, struct_target, tagged_target, target_at};
 
-use crate::parts::bytes::get_word;
 use crate::fault::Fault;
+use crate::parts::bytes::get_word;
 use crate::parts::segments::{Segments, get_segment};
 
 /// What a pointer leads to, in the segment with these bytes, from the word `start` on.

@@ -6,8 +6,8 @@ ghost use Rattle.capnp_wire.specs.Steps.Level.{list_at_depth, tree_at_depth};
 ghost use Rattle.capnp_wire.specs.Backing.{StartFits, segment_list, target_of};
 ghost use Rattle.capnp_wire.specs.Found.{found_tree};
 
-use crate::parts::bytes::part;
 use crate::fault::Fault;
+use crate::parts::bytes::part;
 use crate::parts::found::{Found, StructParts};
 use crate::parts::locate::{Target, locate};
 use crate::parts::row::{Elements, Pointers};
