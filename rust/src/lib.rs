@@ -119,7 +119,7 @@ pub mod message {
     pub use crate::capnp_arena::struct_builder::StructBuilder;
     pub use crate::capnp_wire::message::Reader;
     pub use crate::capnp_wire::size::{ElementSize, StructSize};
-    pub use crate::capnp_wire::{ListReader, PointerReader, PrimitiveElement, StructReader};
+    pub use crate::capnp_wire::{ListReader, NumberIter, Numbers, PointerReader, PrimitiveElement, StructReader};
     pub use crate::one_call::read_root;
 }
 

@@ -13,6 +13,9 @@ mod older_program;
 #[allow(dead_code, reason = "its main is not called")]
 #[path = "../examples/query_schema.rs"]
 mod query_schema;
+#[allow(dead_code, reason = "its main is not called")]
+#[path = "../examples/sum_numbers.rs"]
+mod sum_numbers;
 
 const REQUEST: &[u8] = include_bytes!("../../examples/addressbook.request");
 const BOOK: &[u8] = include_bytes!("../../examples/addressbook.bin");
@@ -58,4 +61,9 @@ fn an_older_program_reads_what_it_knows() {
         older_program::lines().expect("it is answered"),
         "(name = \"Alice\", balance = 12)\n(name = \"Alice\")\n"
     );
+}
+
+#[test]
+fn numbers_are_summed() {
+    assert_eq!(sum_numbers::lines().expect("it is answered"), "4000000003\n");
 }

@@ -62,7 +62,9 @@ pub mod message {
     pub use capnp_arena::struct_builder::StructBuilder;
     pub use capnp_wire::message::Reader;
     pub use capnp_wire::size::{ElementSize, StructSize};
-    pub use capnp_wire::{ListReader, PointerReader, PrimitiveElement, StructReader};
+    pub use capnp_wire::{
+        ListReader, NumberIter, Numbers, PointerReader, PrimitiveElement, StructReader,
+    };
 }
 
 /// Calls along paths on messages, as words say them; what stands at a path.
