@@ -18,8 +18,8 @@ use Rattle.capnp_request.specs.Scopes.{node_named}
 use Rattle.capnp_request.specs.Terms.{BrandTerm, SchemaNode, TypeTerm, UnreadType, ValueTerm}
 use Rattle.capnp_request.specs.Types.{named_scopes, type_of}
 use Rattle.capnp_request.specs.Values.{value_stated}
-use Rattle.capnp_request.specs.Work.{Bound, Named, Seen, Work, each_read, work_of, nothing_seen, work_said, seen_in, work_unnoted}
-use Rattle.capnp_request.specs.Steps.Work.{◌>>=◌, Numbered, work_continued, named_with}
+use Rattle.capnp_request.specs.Work.{Bound, Named, Seen, Work, each_read, work_of, nothing_seen, work_said, seen_in, work_unnoted, ◌>>=◌, work_continued}
+use Rattle.capnp_request.specs.Steps.Work.{Numbered, named_with}
 
 -- ---- work with what is seen in it alone ----
 

@@ -18,8 +18,7 @@ use Rattle.capnp_request.specs.Reading.{annotation_terms_in, enumerant_said, tex
 use Rattle.capnp_request.specs.Steps.StructsSeen.{enumerant_records, enumerant_types, seen_converted_enumerant, seen_enumerants}
 use Rattle.capnp_request.specs.Terms.{AnnotationNode, EnumNode, EnumerantTerm, NodeKind, OtherNode, Said, SchemaNode, StructNode}
 use Rattle.capnp_request.specs.Types.{is_enum}
-use Rattle.capnp_request.specs.Work.{Named, Work, each_read, work_of, work_said}
-use Rattle.capnp_request.specs.Steps.Work.{◌>>=◌, work_continued}
+use Rattle.capnp_request.specs.Work.{Named, Work, each_read, work_of, work_said, ◌>>=◌, work_continued}
 use Rattle.capnp_request.specs.declared.enums.ConvertedEnumerant.{ConvertedEnumerant}
 use Rattle.capnp_request.proofs.Works.{then_err, then_ok}
 

@@ -20,8 +20,8 @@ use Rattle.capnp_request.specs.Scopes.{node_named}
 use Rattle.capnp_request.specs.Terms.{AnnotationTerm, FieldKindTerm, GroupTerm, Said, SchemaNode, SlotTerm, TypeTerm, UnreadField, UnreadType, UnreadValue, ValueTerm}
 use Rattle.capnp_request.specs.Types.{add_entry, is_of_kind, is_struct_kind, type_of}
 use Rattle.capnp_request.specs.Values.{value_stated}
-use Rattle.capnp_request.specs.Work.{Bound, Entry, GroupOf, Named, Seen, Work, work_of, nothing_seen, work_said, seen_in, where_so}
-use Rattle.capnp_request.specs.Steps.Work.{◌>>=◌, Numbered, work_continued, named_with}
+use Rattle.capnp_request.specs.Work.{Bound, Entry, GroupOf, Named, Seen, Work, work_of, nothing_seen, work_said, seen_in, where_so, ◌>>=◌, work_continued}
+use Rattle.capnp_request.specs.Steps.Work.{Numbered, named_with}
 use Rattle.capnp_request.proofs.AnnotationsDone.{seen_done, seen_refused}
 
 module _ (nodes : List SchemaNode) (strict : Bool) (inside : List Bound) (n i : ℕ) where

@@ -10,8 +10,7 @@ use Rattle.capnp_request.specs.Order.{Begun, Made, add_struct, and_said, begin_e
 use Rattle.capnp_request.specs.Reading.{request_with}
 use Rattle.capnp_request.specs.Scopes.{node_named}
 use Rattle.capnp_request.specs.Terms.{Said, SchemaNode}
-use Rattle.capnp_request.specs.Work.{Entry, GroupOf, Named, Whole, Work, work_of, work_said}
-use Rattle.capnp_request.specs.Steps.Work.{◌>>=◌, work_continued}
+use Rattle.capnp_request.specs.Work.{Entry, GroupOf, Named, Whole, Work, work_of, work_said, ◌>>=◌, work_continued}
 use Rattle.capnp_request.proofs.Works.{then_err, then_ok}
 
 -- ---- the names of enums ----

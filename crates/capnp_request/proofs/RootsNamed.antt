@@ -18,8 +18,7 @@ use Rattle.capnp_request.specs.Parts.{request_read_at}
 use Rattle.capnp_request.specs.Scopes.{is_met, node_named, scopes_of}
 use Rattle.capnp_request.specs.Terms.{Said, SchemaNode}
 use Rattle.capnp_request.specs.Types.{is_root, number_struct}
-use Rattle.capnp_request.specs.Work.{Bound, Named, Work, work_of, work_said}
-use Rattle.capnp_request.specs.Steps.Work.{◌>>=◌, work_continued}
+use Rattle.capnp_request.specs.Work.{Bound, Named, Work, work_of, work_said, ◌>>=◌, work_continued}
 use Rattle.capnp_request.proofs.ListsSaid.{length_of}
 use Rattle.capnp_request.proofs.OrderMade.{drop_at, drop_past}
 use Rattle.capnp_request.proofs.Works.{then_err, then_ok}

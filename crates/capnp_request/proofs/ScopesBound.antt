@@ -18,8 +18,7 @@ use Rattle.capnp_request.specs.Reading.{binding_said, bindings_said, brand_in, l
 use Rattle.capnp_request.specs.Scopes.{scopes_of}
 use Rattle.capnp_request.specs.Terms.{BindingTerms, BrandTerm, MoreBindings, NoBindings, Said, SchemaNode, TypeTerm, UnreadBrand, UnreadType}
 use Rattle.capnp_request.specs.Types.{bind_scope, binding_types, brand_types, named_scopes, type_of, with_type, without_untyped}
-use Rattle.capnp_request.specs.Work.{Bound, Named, each, work_of, work_said}
-use Rattle.capnp_request.specs.Steps.Work.{◌>>=◌, work_continued}
+use Rattle.capnp_request.specs.Work.{Bound, Named, each, work_of, work_said, ◌>>=◌, work_continued}
 use Rattle.capnp_request.specs.declared.schema_nodes.GenericScope.{GenericScope}
 use Rattle.capnp_request.proofs.ListsRead.{count_of, element_is, none_left, one_left}
 use Rattle.capnp_request.proofs.Walks.{all_done, more_done, prefixed, step_err, step_ok}

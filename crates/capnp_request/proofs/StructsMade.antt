@@ -26,8 +26,7 @@ use Rattle.capnp_request.specs.StructsSeen.{seen_note, seen_notes, seen_stand_in
 use Rattle.capnp_request.specs.Steps.StructsSeen.{converted_child_types, field_records, field_types, seen_fields}
 use Rattle.capnp_request.specs.Terms.{AnnotationNode, EnumNode, FieldTerm, NodeKind, OtherNode, Said, SchemaNode, StructNode, StructPart}
 use Rattle.capnp_request.specs.Types.{is_struct_kind}
-use Rattle.capnp_request.specs.Work.{Bound, Named, Work, work_of, work_said}
-use Rattle.capnp_request.specs.Steps.Work.{◌>>=◌, work_continued}
+use Rattle.capnp_request.specs.Work.{Bound, Named, Work, work_of, work_said, ◌>>=◌, work_continued}
 use Rattle.capnp_request.specs.declared.fields.ConvertedField.{ConvertedField}
 use Rattle.capnp_request.specs.declared.notes.Note.{Note as NoteRecord}
 use Rattle.capnp_request.specs.declared.notes.StandIn.{StandIn as StandInRecord}

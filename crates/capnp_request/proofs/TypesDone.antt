@@ -18,8 +18,7 @@ use Rattle.capnp_request.specs.Reading.{binding_kinds, binding_said, bindings_sa
 use Rattle.capnp_request.specs.Scopes.{bound_types, node_named}
 use Rattle.capnp_request.specs.Terms.{BrandTerm, Binds, EnumTerm, ListTerm, MoreScopes, NoScopes, Plain, Said, SchemaNode, ScopeTerm, StructTerm, TypeTerm, UnreadBrand, UnreadScope, UnreadType}
 use Rattle.capnp_request.specs.Types.{binding_types, bound_to, brand_types, is_of_kind, is_struct_kind, lists_in, listed_type, named_scopes, number_enum, number_struct, scope_types, type_of, without_untyped}
-use Rattle.capnp_request.specs.Work.{Bound, Named, Work, work_of, where_else, where_so}
-use Rattle.capnp_request.specs.Steps.Work.{◌>>=◌, work_continued}
+use Rattle.capnp_request.specs.Work.{Bound, Named, Work, work_of, where_else, where_so, ◌>>=◌, work_continued}
 
 -- the same work
 pub done_as : {A B : Type 0} (seen : B → A) (w v : Work A) (s t : Named) (r : Result B Error) → v s ≡ w s → IsWorkDone seen w s t r → IsWorkDone seen v s t r

@@ -10,8 +10,7 @@ use Rattle.capnp_request.specs.Steps.Handles.{IsListOf, values_left}
 use Rattle.capnp_request.specs.Parts.{request_struct}
 use Rattle.capnp_request.specs.Reading.{each_said}
 use Rattle.capnp_request.specs.Terms.{Said}
-use Rattle.capnp_request.specs.Work.{Named, Work, each, each_read, work_of, work_said}
-use Rattle.capnp_request.specs.Steps.Work.{◌>>=◌, work_continued}
+use Rattle.capnp_request.specs.Work.{Named, Work, each, each_read, work_of, work_said, ◌>>=◌, work_continued}
 use Rattle.capnp_request.proofs.ListsRead.{count_of, each_err, each_none, each_ok}
 
 -- what is left, behind what is done

@@ -4,8 +4,7 @@ use Rattle.std.proofs.lemmas.List.{append-nil}
 use Rattle.capnp_device.specs.declared.error.ErrorKind.{ErrorKind}
 use Rattle.capnp_request.specs.Conversion.{Converted, field_of, fields_of}
 use Rattle.capnp_request.specs.Terms.{FieldTerm, Said, SchemaNode}
-use Rattle.capnp_request.specs.Work.{Bound, Named, Work, each, each_read, work_of}
-use Rattle.capnp_request.specs.Steps.Work.{◌>>=◌, work_continued}
+use Rattle.capnp_request.specs.Work.{Bound, Named, Work, each, each_read, work_of, ◌>>=◌, work_continued}
 
 pub then_ok : {A B : Type 0} (w : Work A) (f : A → Work B) (s after : Named) (a : A) → w s ≡ Ok (a, after) → (w >>= f) s ≡ f a after
 then_ok w f s after a e = ap (work_continued f) e

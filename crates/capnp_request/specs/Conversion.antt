@@ -9,8 +9,7 @@ use Rattle.capnp_request.specs.Scopes.{node_named}
 use Rattle.capnp_request.specs.Terms.{AnnotationNode, AnnotationTerm, BrandTerm, EnumNode, FieldKindTerm, FieldTerm, GroupTerm, ListWords, NodeKind, OtherNode, Said, SchemaNode, SlotTerm, Stands, StructNode, StructWords, TypeTerm, UnreadField, UnreadValue, Untyped, ValueTerm}
 use Rattle.capnp_request.specs.Types.{add_entry, is_struct_kind, named_scopes, type_of, where_node}
 use Rattle.capnp_request.specs.Values.{value_stated}
-use Rattle.capnp_request.specs.Work.{Bound, GroupOf, Seen, Work, each_read, work_of, work_refused, work_said, seen_in, work_unnoted}
-use Rattle.capnp_request.specs.Steps.Work.{◌>>=◌}
+use Rattle.capnp_request.specs.Work.{Bound, GroupOf, Seen, Work, each_read, work_of, work_refused, work_said, seen_in, work_unnoted, ◌>>=◌}
 
 -- ---- notes ----
 

@@ -9,8 +9,7 @@ use Rattle.capnp_request.specs.Names.{Holder, dotted_of, enum_name, group_name, 
 use Rattle.capnp_request.specs.Scopes.{is_met, node_named, scopes_of}
 use Rattle.capnp_request.specs.Terms.{AnnotationNode, EnumNode, EnumerantTerm, FieldTerm, NodeKind, OtherNode, RequestTerm, Said, SchemaNode, StructNode, StructPart}
 use Rattle.capnp_request.specs.Types.{is_root, number_struct}
-use Rattle.capnp_request.specs.Work.{Bound, Entry, GroupOf, Named, Place, Whole, Work, each_read, work_of, nothing_seen, work_refused, work_said}
-use Rattle.capnp_request.specs.Steps.Work.{◌>>=◌}
+use Rattle.capnp_request.specs.Work.{Bound, Entry, GroupOf, Named, Place, Whole, Work, each_read, work_of, nothing_seen, work_refused, work_said, ◌>>=◌}
 
 -- what is made so far, the names of the enums that were named by types, and the dotted names that entries had
 pub record Made : Type 0 where

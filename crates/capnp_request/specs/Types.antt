@@ -5,8 +5,7 @@ use Rattle.capnp_device.specs.declared.error.ErrorKind.TheVariants.{FloatType, I
 use Rattle.capnp_schema.specs.Types.{SchemaType, VoidType, BoolType, IntType, UIntType, EnumType, TextType, DataType, StructType, ListType, AnyPointerType}
 use Rattle.capnp_request.specs.Scopes.{bound_types, node_named, scopes_of}
 use Rattle.capnp_request.specs.Terms.{AnnotationNode, Binds, BindingTerms, BrandTerm, EnumNode, EnumTerm, Float32, Float64, Inherits, Interface, ListTerm, MoreBindings, MoreScopes, NoBindings, NoScopes, NodeKind, OtherNode, Parameter, Plain, SchemaNode, ScopeTerm, StructNode, StructTerm, TypeTerm, UnreadBrand, UnreadScope, UnreadType}
-use Rattle.capnp_request.specs.Work.{Bound, Entry, GroupOf, Place, Whole, Work, each, work_of, work_said, where_else, where_so}
-use Rattle.capnp_request.specs.Steps.Work.{◌>>=◌}
+use Rattle.capnp_request.specs.Work.{Bound, Entry, GroupOf, Place, Whole, Work, each, work_of, work_said, where_else, where_so, ◌>>=◌}
 
 -- ---- entries by number ----
 

@@ -60,6 +60,15 @@ abbrev pub work_said : {A : Type 0} → Said A → Work A
 work_said (Ok a) s = Ok (a, s)
 work_said (Err kind) s = Err kind
 
+abbrev pub work_continued : {A B : Type 0} → (A → Work B) → Result (A × Named) ErrorKind → Result (B × Named) ErrorKind
+work_continued f (Ok p) = f p.0 p.1
+work_continued f (Err kind) = Err kind
+
+-- work, and then what is done with what it gives
+infixr 10 ◌>>=◌
+abbrev pub ◌>>=◌ : {A B : Type 0} → Work A → (A → Work B) → Work B
+(w >>= f) s = work_continued f (w s)
+
 -- work with what was seen in it alone; outside a type nothing is seen
 abbrev pub seen_in : {A : Type 0} → Work A → Work (A × Seen)
 seen_in w s = (w >>= (λ a t. Ok ((a, t.seen), record t { seen = nothing_seen }))) (record s { seen = nothing_seen })

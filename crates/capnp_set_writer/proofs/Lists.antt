@@ -13,8 +13,7 @@ use Rattle.capnp_records.specs.Default.{read_of}
 use Rattle.capnp_records.specs.Reading.{Body, bodies_of, elements_value, entered_value, nth_body, nth_reading, of_read, pointers_below, record_of, struct_record, structs_below, value_of, values_of}
 use Rattle.capnp_records.specs.Record as value
 use Rattle.capnp_records.specs.Record.{Levels, MoreValues, NoValues, Record, Value, Values, levels_asked, one_less, values_from}
-use Rattle.capnp_sets.specs.Causes.{SetRead}
-use Rattle.capnp_sets.specs.Steps.Causes.{◌<*>◌}
+use Rattle.capnp_sets.specs.Causes.{SetRead, ◌<*>◌}
 use Rattle.capnp_sets.specs.Parts.{all_of, list, struct, structs, unless_fault}
 use Rattle.capnp_set_writer.specs.Trees.{struct_list_tree, structs_of, trees_of}
 use Rattle.capnp_set_writer.proofs.Numbers.{applied}

@@ -18,8 +18,7 @@ use Rattle.capnp_records.specs.Default.{read_of}
 use Rattle.capnp_records.specs.Reading.{of_read}
 use Rattle.capnp_records.specs.Record as value
 use Rattle.capnp_device.specs.declared.error.ErrorKind.TheVariants.{NameNotUtf8}
-use Rattle.capnp_sets.specs.Causes.{SetRead, refused_read}
-use Rattle.capnp_sets.specs.Steps.Causes.{◌<*>◌}
+use Rattle.capnp_sets.specs.Causes.{SetRead, refused_read, ◌<*>◌}
 use Rattle.capnp_sets.specs.Parts.{name, text}
 
 -- ---- slots ----

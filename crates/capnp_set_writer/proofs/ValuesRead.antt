@@ -15,8 +15,7 @@ use Rattle.capnp_records.specs.Reading.{signed_number, struct_record}
 use Rattle.capnp_records.specs.Reading.{value_of as tree_value_of}
 use Rattle.capnp_records.specs.Record.{Levels, one_less}
 use Rattle.capnp_records.specs.Facts.Numbers.{signed-unsigned, unsigned-lt}
-use Rattle.capnp_sets.specs.Causes.{SetRead}
-use Rattle.capnp_sets.specs.Steps.Causes.{◌<*>◌}
+use Rattle.capnp_sets.specs.Causes.{SetRead, ◌<*>◌}
 use Rattle.capnp_sets.specs.Parts.{number, meta_read_at, meta_read_under, struct, text}
 use Rattle.capnp_sets.specs.Values.{annotation_meant, annotations, value_by, value_meant}
 use Rattle.capnp_schema.specs.Schema.{field_at}

@@ -1,8 +1,7 @@
 -- What is made of parts, and which causes stand in it.
 use Rattle.std.proofs.Common.{◌≡◌, refl, ap, subst, sym, inl, inr, Ok, Err}
 use Rattle.capnp_device.specs.declared.error.ErrorKind.{ErrorKind}
-use Rattle.capnp_sets.specs.Causes.{HasCause, SetRead, flat, refused_read}
-use Rattle.capnp_sets.specs.Steps.Causes.{◌<*>◌}
+use Rattle.capnp_sets.specs.Causes.{HasCause, SetRead, flat, refused_read, ◌<*>◌}
 
 ok_ok : {A B : Type 0} (f : A → B) (a : A) → Ok f <*> Ok a ≡ Ok (f a)
 unfolding ◌<*>◌

@@ -15,8 +15,7 @@ use Rattle.capnp_device.specs.declared.error.ErrorKind.TheVariants.{OutOfMemory}
 use Rattle.capnp_schema.specs.declared.record.ValueRecord.{ValueRecord}
 use Rattle.capnp_schema.specs.Schema.{Group, seen_value}
 use Rattle.capnp_sets.specs.Fields.{kind_by, slot_of}
-use Rattle.capnp_sets.specs.Causes.{HasCause, SetRead, refused_read}
-use Rattle.capnp_sets.specs.Steps.Causes.{◌<*>◌}
+use Rattle.capnp_sets.specs.Causes.{HasCause, SetRead, refused_read, ◌<*>◌}
 use Rattle.capnp_sets.specs.Parts.{number, meta_read_at, struct}
 use Rattle.capnp_sets.specs.Types.{base_type_meant, base_types}
 use Rattle.capnp_sets.specs.Values.{kinds, list_value, value_by, value_meant}

@@ -14,8 +14,7 @@ use Rattle.capnp_records.specs.Part.{part_at}
 use Rattle.capnp_records.specs.Record as value
 use Rattle.capnp_records.specs.Record.{MoreValues, NoValues, Record, Value, Values}
 use Rattle.capnp_dynamic_readers.specs.Reads.{handed_out}
-use Rattle.capnp_sets.specs.Causes.{HasCause, SetRead, refused_read}
-use Rattle.capnp_sets.specs.Steps.Causes.{◌<*>◌}
+use Rattle.capnp_sets.specs.Causes.{HasCause, SetRead, refused_read, ◌<*>◌}
 use Rattle.capnp_sets.specs.Lists.{elements_of}
 use Rattle.capnp_sets.specs.Parts.{all_of, blob, integer, list, name, name_meant, number, meta_read_at, struct, structs, text, truth, unless_fault}
 use Rattle.capnp_sets.specs.Refusals.{is_set_kind}

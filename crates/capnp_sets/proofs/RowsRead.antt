@@ -10,8 +10,7 @@ use Rattle.capnp_schema.specs.Types.{SchemaType}
 use Rattle.capnp_records.specs.Default.{read_of}
 use Rattle.capnp_records.specs.Facts.ListValues.{below_of}
 use Rattle.capnp_records.specs.Reading.{element_value}
-use Rattle.capnp_sets.specs.Causes.{HasCause, SetRead}
-use Rattle.capnp_sets.specs.Steps.Causes.{◌<*>◌}
+use Rattle.capnp_sets.specs.Causes.{HasCause, SetRead, ◌<*>◌}
 use Rattle.capnp_sets.specs.Parts.{all_of}
 use Rattle.capnp_sets.proofs.AppliedReads.{cause_left, cause_right}
 

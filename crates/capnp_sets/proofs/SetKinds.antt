@@ -9,8 +9,7 @@ use Rattle.capnp_records.specs.Default.{read_of}
 use Rattle.capnp_records.specs.Facts.ReadFaults.{AllSound, RecordSound, Sound, read_of-sound}
 use Rattle.capnp_records.specs.Part.{which_of}
 use Rattle.capnp_records.specs.Record.{MoreValues, NoValues, Record, Value, Values}
-use Rattle.capnp_sets.specs.Causes.{Causes, HasCause, IsAmong, SetRead, flat, refused_read}
-use Rattle.capnp_sets.specs.Steps.Causes.{◌<*>◌}
+use Rattle.capnp_sets.specs.Causes.{Causes, HasCause, IsAmong, SetRead, flat, refused_read, ◌<*>◌}
 use Rattle.capnp_sets.specs.Fields.{field_of, kind_by, node_meant, slot_of}
 use Rattle.capnp_sets.specs.Lists.{brand_of, brands_in, enum_meant, enumerant_of, made_types, set_meant}
 use Rattle.capnp_sets.specs.Parts.{blob, name, number, meta_read_at, struct}

@@ -27,3 +27,11 @@ IsAmong (Both causes others) kind = IsAmong causes kind ⊎ IsAmong others kind
 unfoldable pub HasCause : {A : Type 0} → SetRead A → ErrorKind → Type 0
 HasCause (Ok a) kind = ⊥
 HasCause (Err causes) kind = IsAmong causes kind
+
+-- a function of what a part stands for; where both parts have causes, all of them count
+infixl 10 ◌<*>◌
+unfoldable pub ◌<*>◌ : {A B : Type 0} → SetRead (A → B) → SetRead A → SetRead B
+Ok f <*> Ok a = Ok (f a)
+Ok f <*> Err causes = Err causes
+Err causes <*> Ok a = Err causes
+Err causes <*> Err others = Err (Both causes others)

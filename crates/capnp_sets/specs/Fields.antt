@@ -4,8 +4,7 @@ use Rattle.capnp_device.specs.declared.error.ErrorKind.TheVariants.{UnknownKind}
 use Rattle.capnp_schema.specs.Schema.{Annotation, Field, FieldKind, Group, Node, Slot, Value}
 use Rattle.capnp_records.specs.Part.{which_of}
 use Rattle.capnp_records.specs.Record.{Record}
-use Rattle.capnp_sets.specs.Causes.{SetRead, refused_read}
-use Rattle.capnp_sets.specs.Steps.Causes.{◌<*>◌}
+use Rattle.capnp_sets.specs.Causes.{SetRead, refused_read, ◌<*>◌}
 use Rattle.capnp_sets.specs.Parts.{name, number, meta_read_at, struct, structs, truth}
 use Rattle.capnp_sets.specs.Values.{annotations, value_meant}
 

@@ -7,8 +7,7 @@ use Rattle.capnp_schema.specs.Schema.{Annotation, AnnotationTypes, Brand, Enum, 
 use Rattle.capnp_schema.specs.Types.{SchemaType}
 use Rattle.capnp_records.specs.Record as value
 use Rattle.capnp_records.specs.Record.{NoValues, Record, Value, Values}
-use Rattle.capnp_sets.specs.Causes.{HasCause, SetRead}
-use Rattle.capnp_sets.specs.Steps.Causes.{◌<*>◌}
+use Rattle.capnp_sets.specs.Causes.{HasCause, SetRead, ◌<*>◌}
 use Rattle.capnp_sets.specs.Fields.{node_meant}
 use Rattle.capnp_sets.specs.Parts.{name, number, meta_read_at, structs}
 use Rattle.capnp_sets.specs.Types.{type_lists, types}

@@ -10,8 +10,7 @@ use Rattle.capnp_records.specs.Part.{part_at}
 use Rattle.capnp_records.specs.Record as value
 use Rattle.capnp_records.specs.Record.{NoValues, MoreValues, Record, Value, Values}
 use Rattle.capnp_dynamic_readers.specs.Reads.{handed_out}
-use Rattle.capnp_sets.specs.Causes.{SetRead, refused_read}
-use Rattle.capnp_sets.specs.Steps.Causes.{◌<*>◌}
+use Rattle.capnp_sets.specs.Causes.{SetRead, refused_read, ◌<*>◌}
 
 -- what is read of a part under a field: its default in the place of a missing one, and a group as a struct
 abbrev pub meta_read_under : TypedField → Value → Value

@@ -7,8 +7,7 @@ use Rattle.capnp_schema.specs.Schema.{VoidValue}
 use Rattle.capnp_schema.specs.Types.{SchemaType, VoidType, BoolType, IntType, UIntType, EnumType, TextType, DataType, StructType, AnyPointerType, lists_of}
 use Rattle.capnp_records.specs.Default.{read_of}
 use Rattle.capnp_records.specs.Record.{NoValues, MoreValues, Record, Value, Values}
-use Rattle.capnp_sets.specs.Causes.{SetRead, flat, refused_read}
-use Rattle.capnp_sets.specs.Steps.Causes.{◌<*>◌}
+use Rattle.capnp_sets.specs.Causes.{SetRead, flat, refused_read, ◌<*>◌}
 use Rattle.capnp_sets.specs.Parts.{list, number, meta_read_at, struct, structs}
 
 -- the node of a record of a brand

@@ -7,8 +7,7 @@ use Rattle.capnp_schema.specs.Schema.{Annotation, VoidValue, BoolValue, IntValue
 use Rattle.capnp_schema.specs.Schema.{Value as SchemaValue}
 use Rattle.capnp_records.specs.Part.{which_of}
 use Rattle.capnp_records.specs.Record.{Record, Value}
-use Rattle.capnp_sets.specs.Causes.{SetRead, refused_read}
-use Rattle.capnp_sets.specs.Steps.Causes.{◌<*>◌}
+use Rattle.capnp_sets.specs.Causes.{SetRead, refused_read, ◌<*>◌}
 use Rattle.capnp_sets.specs.Parts.{blob, integer, number, meta_read_at, struct, structs, text, truth}
 
 -- the words of a list; none stand for a null untyped pointer
