@@ -1,0 +1,2 @@
+pub mod RowsPacked
+pub mod Pieces
