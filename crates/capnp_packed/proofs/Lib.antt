@@ -1,2 +1,5 @@
 pub mod RowsPacked
 pub mod Pieces
+pub mod Tags
+pub mod Runs
+pub mod RoundTrip

@@ -1,6 +1,6 @@
 -- Worked rows: those of the encoding page, runs of zeros and of full words, and pieces that are cut.
 use Rattle.std.specs.Prelude.{ℕ, List, [], ◌∷◌, ◌++◌, replicate, length, refl, ◌≡◌}
-use Rattle.capnp_packed.specs.Packing.{packed}
+use Rattle.capnp_packed.specs.Packing.{packed, words_passing}
 use Rattle.capnp_packed.specs.Unpacking.{unpacked, word_under}
 
 page_row : List ℕ
@@ -10,7 +10,7 @@ page_packed : List ℕ
 page_packed = 81 ∷ 8 ∷ 3 ∷ 2 ∷ 49 ∷ 25 ∷ 170 ∷ 1 ∷ []
 
 row-page : packed page_row ≡ page_packed
-unfolding packed page_packed page_row
+unfolding packed words_passing page_packed page_row
 row-page = refl
 
 row-page_unpacked : unpacked page_packed ≡ page_row
@@ -18,7 +18,7 @@ unfolding unpacked word_under page_packed page_row
 row-page_unpacked = refl
 
 row-zeros : packed (replicate 32 0) ≡ 0 ∷ 3 ∷ []
-unfolding packed
+unfolding packed words_passing
 row-zeros = refl
 
 row-zeros_unpacked : unpacked (0 ∷ 3 ∷ []) ≡ replicate 32 0
@@ -26,7 +26,7 @@ unfolding unpacked word_under
 row-zeros_unpacked = refl
 
 row-full : packed (replicate 32 138) ≡ 255 ∷ (replicate 8 138 ++ 3 ∷ replicate 24 138)
-unfolding packed
+unfolding packed words_passing
 row-full = refl
 
 row-full_unpacked : unpacked (255 ∷ (replicate 8 138 ++ 3 ∷ replicate 24 138)) ≡ replicate 32 138
@@ -36,7 +36,7 @@ row-full_unpacked = refl
 -- a run of full words goes on over a word with one zero byte, and ends before one with two
 row-one_zero : packed (replicate 8 1 ++ 0 ∷ replicate 7 1 ++ 0 ∷ 0 ∷ replicate 6 1)
     ≡ 255 ∷ (replicate 8 1 ++ 1 ∷ 0 ∷ replicate 7 1 ++ 252 ∷ replicate 6 1)
-unfolding packed
+unfolding packed words_passing
 row-one_zero = refl
 
 -- a cut piece gives no word: without its count, without a byte of its word, without a word of its run

@@ -1,12 +1,17 @@
 -- How bytes are packed, a whole number of words (encoding, "Packing"): the tag of each word, its bytes that are not
 -- zero, and behind the tags 0 and 255 the number of the words that follow in the piece, at most 255: as many as are zero
 -- behind 0, and as many as have at most one zero byte behind 255.
-use Rattle.std.specs.Prelude.{ℕ, zero, suc, ◌+◌, ◌*◌, ◌==◌, ◌&&◌, Bool, List, [], ◌∷◌, ◌++◌, take, drop, length, replicate, cond, nat_lt, bytes_eq}
+use Rattle.std.specs.Prelude.{ℕ, zero, suc, ◌+◌, ◌*◌, ◌==◌, ◌&&◌, Bool, true, false, List, [], ◌∷◌, ◌++◌, take, drop, length, cond, nat_lt}
 
--- the tag of a word's bytes: a bit for each, lowest first, which is 1 where the byte is not zero
+-- the bit of a byte in a tag
+abbrev pub bit_of : ℕ → ℕ
+bit_of zero = 0
+bit_of (suc b) = 1
+
+-- the tag of a word's bytes: the bit of each, lowest first
 abbrev pub tag_of : List ℕ → ℕ
 tag_of [] = 0
-tag_of (b ∷ word) = cond (b == 0) 0 1 + 2 * tag_of word
+tag_of (b ∷ word) = bit_of b + 2 * tag_of word
 
 abbrev pub unless_zero : ℕ → List ℕ → List ℕ
 unless_zero zero bytes = bytes
@@ -18,20 +23,29 @@ nonzero [] = []
 nonzero (b ∷ bytes) = unless_zero b (nonzero bytes)
 
 abbrev pub is_zero_word : List ℕ → Bool
-is_zero_word word = bytes_eq word (replicate 8 0)
+is_zero_word word = (length word == 8) && (length (nonzero word) == 0)
 
 -- whether a word has at most one zero byte
 abbrev pub is_full_word : List ℕ → Bool
 is_full_word word = (length word == 8) && nat_lt 6 (length (nonzero word))
 
 -- the words at the beginning that pass a test, so many at most
-abbrev pub words_passing : (List ℕ → Bool) → ℕ → List ℕ → ℕ
+unfoldable pub words_passing : (List ℕ → Bool) → ℕ → List ℕ → ℕ
 words_passing test zero bytes = 0
 words_passing test (suc k) bytes = cond (test (take 8 bytes)) (suc (words_passing test k (drop 8 bytes))) 0
 
+-- whether a word goes on with a run of zeros, or else with one of full words
+abbrev pub goes_on : Bool → List ℕ → Bool
+goes_on true word = is_zero_word word
+goes_on false word = is_full_word word
+
+-- the words of a run, which has at most 255
+abbrev pub run_length : Bool → List ℕ → ℕ
+run_length zeros bytes = words_passing (goes_on zeros) 255 bytes
+
 -- the words that go with a word of a tag into one piece
 abbrev pub run_words : ℕ → List ℕ → ℕ
-run_words tag rest = cond (tag == 0) (words_passing is_zero_word 255 rest) (cond (tag == 255) (words_passing is_full_word 255 rest) 0)
+run_words tag rest = cond (tag == 0) (run_length true rest) (cond (tag == 255) (run_length false rest) 0)
 
 -- what stands behind a tag and its bytes: the number of the words that follow, and behind 255 these words
 abbrev pub run_bytes : ℕ → ℕ → List ℕ → List ℕ
