@@ -3,3 +3,5 @@ pub mod Pieces
 pub mod Tags
 pub mod Runs
 pub mod RoundTrip
+pub mod Filled
+pub mod Measured

@@ -1,10 +1,10 @@
 -- What is packed is unpacked.
-use Rattle.std.proofs.Common.{◌≡◌, ℕ, zero, suc, ◌*◌, ◌+◌, ◌-◌, ◌%◌, ◌<◌, ◌≤◌, ◌==◌, Bool, true, false, cond, nat_lt, List, [], ◌∷◌, ◌++◌, length, take, drop, replicate, Option, Some, None, refl, ap, sym, ◌∙◌, arith}
+use Rattle.std.proofs.Common.{◌≡◌, ℕ, zero, suc, ◌*◌, ◌%◌, ◌<◌, ◌≤◌, ◌==◌, Bool, true, false, cond, nat_lt, List, [], ◌∷◌, ◌++◌, length, take, drop, replicate, Some, None, refl, ap, sym, ◌∙◌, arith}
 use Rattle.std.proofs.lemmas.Bool.Decides.{nat_tests}
 use Rattle.std.proofs.lemmas.List.{append_assoc, append-nil, length-append, length-drop, length-take, take-append-drop}
 use Rattle.std.proofs.Math.Seq.{drop-append_seam, take-append_seam}
-use Rattle.capnp_packed.specs.Packing.{nonzero, packed, packed_from, packed_piece, packed_pieces, run_bytes, run_length, run_words, tag_of}
-use Rattle.capnp_packed.specs.Unpacking.{Piece, piece_behind, piece_of, unpacked, words_counted, word_under, zeros_counted}
+use Rattle.capnp_packed.specs.Packing.{nonzero, packed, packed_piece, packed_pieces, run_bytes, run_length, run_words, tag_of}
+use Rattle.capnp_packed.specs.Unpacking.{piece_behind, piece_of, unpacked, words_counted, word_under, zeros_counted}
 use Rattle.capnp_packed.proofs.Pieces.{first_piece, no_piece}
 use Rattle.capnp_packed.proofs.Runs.{length_inside, no_tag, word_again, zeros_again}
 

@@ -1,5 +1,5 @@
 -- Worked rows: those of the encoding page, runs of zeros and of full words, and pieces that are cut.
-use Rattle.std.specs.Prelude.{ℕ, List, [], ◌∷◌, ◌++◌, replicate, length, refl, ◌≡◌}
+use Rattle.std.specs.Prelude.{ℕ, List, [], ◌∷◌, ◌++◌, replicate, refl, ◌≡◌}
 use Rattle.capnp_packed.specs.Packing.{packed, words_passing}
 use Rattle.capnp_packed.specs.Unpacking.{unpacked, word_under}
 

@@ -1,10 +1,10 @@
 -- What runs and words are, by their tags.
-use Rattle.std.proofs.Common.{◌≡◌, ℕ, zero, suc, ◌*◌, ◌+◌, ◌-◌, ◌/◌, ◌%◌, ◌<◌, ◌≤◌, ◌==◌, Bool, true, false, cond, List, [], ◌∷◌, ◌++◌, length, take, drop, replicate, Some, refl, ap, sym, subst, ◌∙◌, arith}
+use Rattle.std.proofs.Common.{◌≡◌, ℕ, zero, suc, ◌*◌, ◌+◌, ◌/◌, ◌%◌, ◌≤◌, ◌==◌, Bool, true, false, cond, List, [], ◌∷◌, ◌++◌, length, take, drop, replicate, Some, refl, ap, sym, ◌∙◌, arith}
 use Rattle.std.proofs.Math.Seq.{take-add}
 use Rattle.std.proofs.lemmas.Bool.Decides.{nat_tests}
 use Rattle.std.proofs.lemmas.List.{length-drop, length-take, replicate-append-replicate}
-use Rattle.capnp_packed.specs.Packing.{goes_on, nonzero, run_length, run_words, tag_of, words_passing}
-use Rattle.capnp_packed.specs.Unpacking.{byte_under, before_rest, bytes_under, tag_bits, with_byte, word_under}
+use Rattle.capnp_packed.specs.Packing.{goes_on, nonzero, run_length, tag_of, words_passing}
+use Rattle.capnp_packed.specs.Unpacking.{bytes_under, tag_bits, with_byte, word_under}
 use Rattle.capnp_packed.proofs.Tags.{goes_on_whole}
 
 -- ---- a word under its tag ----

@@ -1,7 +1,6 @@
 //! Packing: messages with fewer zeros (encoding, "Packing").
 #![tactic(auto)]
 
-pub mod laws;
 pub mod pack;
 pub mod received;
 pub mod unpack;

@@ -3,7 +3,7 @@ ghost use Rattle.std.specs.Prelude.{◌++◌, ◌<◌, ◌≡◌, ◌≤◌, IfE
 ghost use Rattle.std.specs.Option.{option_map};
 ghost use Rattle.capnp_device.specs.declared.error.ErrorKind.TheVariants.{OutOfMemory};
 ghost use Rattle.capnp_packed.specs.Unpacking.{byte_under, piece_of, unpacked, word_under, words_counted, zeros_counted};
-ghost use Rattle.capnp_packed.specs.Seen.{piece_seen};
+ghost use Rattle.capnp_packed.specs.Seen.{piece_seen, run_seen};
 
 use capnp_device::error::Result;
 use std::alloc::Global;
@@ -61,6 +61,7 @@ fn read_word(tag: u8, bytes: &[u8]) -> Option<([u8; 8], &[u8])>
 fn zeros_behind(rest: &[u8]) -> Option<WordRun<'_>>
     ensures piece { option_map piece_seen result ≡ zeros_counted rest.now }
     ensures shorter { IfSome result (λ p. length p.rest.now ≤ length rest.now) }
+    ensures short { IfSome result (λ p. length (run_seen p.run) ≤ 2040) }
 {
     let [count, rest @ ..] = rest else {
         return None;
@@ -76,6 +77,7 @@ fn zeros_behind(rest: &[u8]) -> Option<WordRun<'_>>
 fn words_behind(word: [u8; 8], rest: &[u8]) -> Option<WordRun<'_>>
     ensures piece { option_map piece_seen result ≡ words_counted word rest.now }
     ensures shorter { IfSome result (λ p. length p.rest.now ≤ length rest.now) }
+    ensures short { IfSome result (λ p. length (run_seen p.run) ≤ 2040) }
 {
     let [first, behind @ ..] = rest else {
         return None;
@@ -93,6 +95,7 @@ fn words_behind(word: [u8; 8], rest: &[u8]) -> Option<WordRun<'_>>
 pub(crate) fn next_piece(packed: &[u8]) -> Option<WordRun<'_>>
     ensures piece { option_map piece_seen result ≡ piece_of packed.now }
     ensures shorter { IfSome result (λ p. length p.rest.now < length packed.now) }
+    ensures short { IfSome result (λ p. length (run_seen p.run) ≤ 2040) }
 {
     let [tag, behind @ ..] = packed else {
         return None;

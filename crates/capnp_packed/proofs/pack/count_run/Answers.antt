@@ -1,5 +1,5 @@
 -- A run ends where no word is left, and where a word does not go on with it.
-use Rattle.std.proofs.Common.{◌≡◌, ◌+◌, ◌-◌, ◌*◌, length, ap, sym, ◌∙◌, arith, rules}
+use Rattle.std.proofs.Common.{◌≡◌, ◌+◌, ◌-◌, length, ap, sym, ◌∙◌, arith, rules}
 use Rattle.std.proofs.lemmas.List.{length-drop}
 use Rattle.capnp_packed.specs.Packing.{goes_on, words_passing}
 use Rattle.capnp_packed.proofs.Tags.{count_ends, counted, full_count, too_short}

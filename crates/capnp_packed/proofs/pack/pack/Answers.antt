@@ -1,7 +1,6 @@
 -- What was appended stands before the packed form of what is left.
-use Rattle.std.proofs.Common.{◌≡◌, ◌+◌, ◌-◌, ◌*◌, ◌%◌, ◌<◌, ◌≤◌, ◌++◌, length, take, drop, sym, ap, ◌∙◌, arith, rules}
+use Rattle.std.proofs.Common.{◌++◌, sym, ap, ◌∙◌, arith, rules}
 use Rattle.std.proofs.lemmas.List.{append-nil}
-use Rattle.capnp_packed.specs.Packing.{packed}
 use Rattle.capnp_packed.specs.Unpacking.{unpacked}
 use Rattle.capnp_packed.proofs.RoundTrip.{left_packed, left_whole, packed_none, round_trip}
 use Rattle.capnp_packed.proofs.pack.pack.Goals as goal

@@ -1,5 +1,5 @@
 -- The bytes that are read stand before those under the bits that are left.
-use Rattle.std.proofs.Common.{◌≡◌, ◌+◌, ◌<◌, ◌≤◌, length, refl, arith, rules}
+use Rattle.std.proofs.Common.{refl, arith, rules}
 use Rattle.capnp_packed.proofs.Pieces.{byte_read, word_read, word_start}
 use Rattle.capnp_packed.proofs.unpack.read_word.Goals as goal
 

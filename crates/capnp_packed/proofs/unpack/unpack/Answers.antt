@@ -1,5 +1,5 @@
 -- What was appended stands before what the rest stands for.
-use Rattle.std.proofs.Common.{◌≡◌, ◌++◌, sym, ap, ◌∙◌, rules}
+use Rattle.std.proofs.Common.{◌++◌, sym, ap, ◌∙◌}
 use Rattle.std.proofs.lemmas.List.{append_assoc, append-nil}
 use Rattle.capnp_packed.specs.Unpacking.{unpacked}
 use Rattle.capnp_packed.specs.Seen.{piece_seen}
