@@ -168,6 +168,13 @@ pub mod schema {
     pub use crate::capnp_schema::{builtin, meta, plan, value};
 }
 
+/// Packed messages.
+pub mod serialize_packed {
+    pub use crate::capnp_packed::pack::pack;
+    pub use crate::capnp_packed::received::{read_message, MOST_BYTES};
+    pub use crate::capnp_packed::unpack::unpack;
+}
+
 /// Sets of schemas as messages.
 pub mod sets {
     pub use crate::capnp_set_writer::set_writer::write_set;

@@ -109,6 +109,13 @@ pub mod schema {
     pub use capnp_schema::{builtin, meta, plan, record, value};
 }
 
+/// Packed messages.
+pub mod serialize_packed {
+    pub use capnp_packed::pack::pack;
+    pub use capnp_packed::received::{MOST_BYTES, read_message};
+    pub use capnp_packed::unpack::unpack;
+}
+
 /// Sets of schemas as messages.
 pub mod sets {
     pub use capnp_set_writer::set_writer::write_set;

@@ -1,4 +1,4 @@
 pub mod Packing
 pub mod Unpacking
 pub mod Received
-pub mod Seen
+pub mod Steps

@@ -2,7 +2,7 @@
 ghost use Rattle.std.specs.Prelude.{ℕ, ◌*◌, ◌+◌, ◌++◌, ◌<◌, ◌^◌, ◌↔◌, ◌≡◌, ◌≢◌, ◌≤◌, Err, IfErr, IfOk, IsOk, IsTrue, Ok, length, replicate, take};
 ghost use Rattle.capnp_device.specs.declared.error.ErrorKind.TheVariants.{OutOfMemory};
 ghost use Rattle.capnp_packed.specs.Received.{message_length, most_bytes, received_message};
-ghost use Rattle.capnp_packed.specs.Seen.{piece_seen, run_seen};
+ghost use Rattle.capnp_packed.specs.Steps.Seen.{piece_seen, run_seen};
 ghost use Rattle.capnp_packed.specs.Unpacking.{unpacked};
 
 use crate::unpack::{Run, WordRun, next_piece};

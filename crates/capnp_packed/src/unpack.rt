@@ -3,7 +3,7 @@ ghost use Rattle.std.specs.Prelude.{◌++◌, ◌<◌, ◌≡◌, ◌≤◌, IfE
 ghost use Rattle.std.specs.Option.{option_map};
 ghost use Rattle.capnp_device.specs.declared.error.ErrorKind.TheVariants.{OutOfMemory};
 ghost use Rattle.capnp_packed.specs.Unpacking.{byte_under, piece_of, unpacked, word_under, words_counted, zeros_counted};
-ghost use Rattle.capnp_packed.specs.Seen.{piece_seen, run_seen};
+ghost use Rattle.capnp_packed.specs.Steps.Seen.{piece_seen, run_seen};
 
 use capnp_device::error::Result;
 use std::alloc::Global;

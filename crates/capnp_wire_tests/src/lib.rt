@@ -1,4 +1,4 @@
-//! The tests of `capnp_wire` and `capnp_device` by public calls.
+//! The tests of `capnp_wire`, `capnp_device` and `capnp_packed` by public calls.
 //!
 //! They are rows of text and of plain values. `reads` follows a script, such as
 //! `message.struct.field 3.structs: length; element 0.u16 0`, from bytes in hexadecimal and compares the answers. A new
@@ -17,6 +17,8 @@ mod level_tests;
 mod list_tests;
 #[cfg(test)]
 mod number_tests;
+#[cfg(test)]
+mod packed_tests;
 #[cfg(test)]
 mod pointer_tests;
 #[cfg(test)]

@@ -1,7 +1,7 @@
 -- What was counted stands before what the rest stands for.
 use Rattle.std.proofs.Common.{length, ap, ◌∙◌, arith}
 use Rattle.std.proofs.lemmas.List.{length-append}
-use Rattle.capnp_packed.specs.Seen.{piece_seen}
+use Rattle.capnp_packed.specs.Steps.Seen.{piece_seen}
 use Rattle.capnp_packed.specs.Unpacking.{unpacked}
 use Rattle.capnp_packed.proofs.Pieces.{first_piece, no_piece}
 use Rattle.capnp_packed.proofs.received.has_bytes.Goals as goal

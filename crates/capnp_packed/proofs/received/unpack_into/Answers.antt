@@ -1,6 +1,6 @@
 -- Where there is room, what is written stands before what the rest stands for.
 use Rattle.std.proofs.Common.{◌≡◌, ◌++◌, take, sym, ap, ◌∙◌, arith, rules}
-use Rattle.capnp_packed.specs.Seen.{piece_seen}
+use Rattle.capnp_packed.specs.Steps.Seen.{piece_seen}
 use Rattle.capnp_packed.specs.Unpacking.{unpacked}
 use Rattle.capnp_packed.proofs.Filled.{filled, filled_rest, nothing_left}
 use Rattle.capnp_packed.proofs.Pieces.{first_piece, no_piece}

@@ -2,7 +2,7 @@
 use Rattle.std.proofs.Common.{◌++◌, sym, ap, ◌∙◌}
 use Rattle.std.proofs.lemmas.List.{append_assoc, append-nil}
 use Rattle.capnp_packed.specs.Unpacking.{unpacked}
-use Rattle.capnp_packed.specs.Seen.{piece_seen}
+use Rattle.capnp_packed.specs.Steps.Seen.{piece_seen}
 use Rattle.capnp_packed.proofs.Pieces.{first_piece, no_piece}
 use Rattle.capnp_packed.proofs.unpack.unpack.Goals as goal
 
