@@ -5,3 +5,4 @@ pub mod Runs
 pub mod RoundTrip
 pub mod Filled
 pub mod Measured
+pub mod ReadAlike

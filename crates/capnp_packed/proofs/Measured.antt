@@ -17,7 +17,7 @@ pub record IsBeginning (begin all : List ℕ) (known : ℕ) : Type 0 where
 
 -- ---- parts of it ----
 
-part_inside : (k i n : ℕ) (x : List ℕ) → i + n ≤ k → take n (drop i (take k x)) ≡ take n (drop i x)
+pub part_inside : (k i n : ℕ) (x : List ℕ) → i + n ≤ k → take n (drop i (take k x)) ≡ take n (drop i x)
 part_inside k i n x h = same_lists _ _ (search (rules, places)) (λ j d q. grind (arith, places))
 
 pub same_part : (k i n : ℕ) (x y : List ℕ) → take k x ≡ take k y → i + n ≤ k → take n (drop i x) ≡ take n (drop i y)
@@ -32,7 +32,7 @@ pub count_known : (begin all : List ℕ) (known half : ℕ) → IsBeginning begi
 count_known begin all known half b some h =
     ap (λ n. n + 1) (h ∙ ap little_endian (same_part known 0 4 begin all b.bytes (omega (arith, some))))
 
-header_room : (count : ℕ) → 4 + 4 * count ≤ header_bytes count
+pub header_room : (count : ℕ) → 4 + 4 * count ≤ header_bytes count
 header_room count = omega arith
 
 pub table_known : (begin all table : List ℕ) (known count : ℕ) → IsBeginning begin all known → count ≡ segment_count all → header_bytes count ≤ known

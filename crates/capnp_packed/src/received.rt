@@ -1,12 +1,14 @@
 //! Packed messages as they are received.
 ghost use Rattle.std.specs.Prelude.{ℕ, ◌*◌, ◌+◌, ◌++◌, ◌<◌, ◌^◌, ◌↔◌, ◌≡◌, ◌≢◌, ◌≤◌, Err, IfErr, IfOk, IsOk, IsTrue, Ok, length, replicate, take};
 ghost use Rattle.capnp_device.specs.declared.error.ErrorKind.TheVariants.{OutOfMemory};
+ghost use Rattle.capnp_wire.specs.Stream.{message_tree_of};
 ghost use Rattle.capnp_packed.specs.Received.{message_length, most_bytes, received_message};
 ghost use Rattle.capnp_packed.specs.Steps.Seen.{piece_seen, run_seen};
 ghost use Rattle.capnp_packed.specs.Unpacking.{unpacked};
 
 use crate::unpack::{Run, WordRun, next_piece};
 use capnp_device::error::{Error, ErrorKind, Result};
+use capnp_wire::laws::more_bytes_change_nothing;
 use capnp_wire::parts::bytes::{half_at, part};
 use capnp_wire::parts::segments::{count_words, get_header_bytes};
 use std::alloc::Global;
@@ -148,13 +150,8 @@ fn measure(packed: &[u8]) -> Result<usize>
     Ok(length)
 }
 
-/// The message that packed bytes stand for, as it stands in a stream: the first, if there are several. What follows it is
-/// not looked at. `capnp_wire::message::Reader::new` reads it.
-///
-/// Refused with `Truncated` where the packed bytes stand for less than the message (a piece that is cut stands for
-/// nothing), with `TooManySegments` where its table has more than 512, and with `TooLarge` where the message has more
-/// than 1 GiB. No memory is taken before this is known. Then refused with `OutOfMemory` alone.
-pub fn read_message(alloc: Global, packed: &[u8]) -> Result<Vec<u8>>
+/// The message that packed bytes stand for.
+fn unpack_message(alloc: Global, packed: &[u8]) -> Result<Vec<u8>>
     ensures message { IfOk result (λ v. received_message packed.now ≡ Ok v.items) }
     ensures refused { IfErr result (λ e. e.kind ≢ OutOfMemory → received_message packed.now ≡ Err e.kind) }
     ensures memory { IfErr result (λ e. e.kind ≡ OutOfMemory → IsOk (received_message packed.now)) }
@@ -163,4 +160,22 @@ pub fn read_message(alloc: Global, packed: &[u8]) -> Result<Vec<u8>>
     let mut out = vec![in alloc; 0u8; length]?;
     unpack_into(&mut out, packed);
     Ok(out)
+}
+
+/// The message that packed bytes stand for, as it stands in a stream: the first, if there are several. What follows it is
+/// not looked at. `capnp_wire::message::Reader::new` reads it.
+///
+/// Refused with `Truncated` where the packed bytes stand for less than the message (a piece that is cut stands for
+/// nothing), with `TooManySegments` where its table has more than 512, and with `TooLarge` where the message has more
+/// than 1 GiB. No memory is taken before this is known. Then refused with `OutOfMemory` alone.
+pub fn read_message(alloc: Global, packed: &[u8]) -> Result<Vec<u8>>
+    ensures message { IfOk result (λ v. received_message packed.now ≡ Ok v.items) }
+    ensures read { IfOk result (λ v. message_tree_of v.items ≡ message_tree_of (unpacked packed.now)) }
+    ensures refused { IfErr result (λ e. e.kind ≢ OutOfMemory → received_message packed.now ≡ Err e.kind) }
+    ensures memory { IfErr result (λ e. e.kind ≡ OutOfMemory → IsOk (received_message packed.now)) }
+{
+    // the prover learns that what follows a message changes nothing
+    more_bytes_change_nothing();
+    let message = unpack_message(alloc, packed)?;
+    Ok(message)
 }
