@@ -32,9 +32,6 @@ belongs s i f h = record { set = ap set_of h.schema; number = ap number_of h.sch
 
 -- ---- the active member ----
 
-active-same : {i j : ℕ} {v w : Value} → Active i v ≡ Active j w → i ≡ j
-active-same e = cc
-
 some-same : {i j : ℕ} → Some i ≡ Some j → i ≡ j
 some-same e = cc
 

@@ -171,12 +171,6 @@ some-none : {n : ℕ} → Some n ≡ None → ⊥
 some-none e = cc
 
 module _ (set : Schemas) (group : ℕ → Record) (l : Levels) (s : StructTree) where
-  -- what a field of a kind has, and what its read hands out
-  has : FieldKind → SchemaType → Value
-  has k t = kind_value group l s.bytes (values_of set s.pointers) k t
-
-  reads_as : FieldKind → SchemaType → Value
-  reads_as k t = handed_out k (read_of set (kind_default k) t (has k t))
 
   pub slot_shown : (left : ℕ) (at : Layout) (k : FieldKind) (t : SchemaType) (v : DynamicValue) → GroupFits set k t → kind_target k t ≡ None →
       value_seen v ≡ handed_out k (read_of set (kind_default k) t (kind_value group l s.bytes (values_of set s.pointers) k t)) → IsValueUnder set t v →

@@ -102,10 +102,6 @@ decimals_last (a ∷ b ∷ bs) c h =
     ap (λ (z : List ℕ). (decimal a ++ codes ", ") ++ z) (decimals_last (b ∷ bs) c (omega arith))
     ∙ sym (append_assoc (decimal a ++ codes ", ") (decimals (b ∷ bs)) (codes ", " ++ decimal c))
 
-pub first_decimal : (bs : List ℕ) → 0 < length bs → decimal (get_or bs 0 0) ≡ decimals (take 1 bs)
-first_decimal [] h = absurd (omega (arith, h))
-first_decimal (b ∷ bs) h = refl
-
 pub no_decimals : (a : Taken) (bs : List ℕ) → length bs ≡ 0 → IsPut a (said_text (decimals bs)) a
 no_decimals a [] h = nothing_put a
 no_decimals a (b ∷ bs) h = absurd (omega (arith, h))

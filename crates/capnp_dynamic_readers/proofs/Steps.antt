@@ -134,9 +134,6 @@ list_some left at l h = go (count_of l) h
     go zero h = absurd (omega (arith, h))
     go (suc n) h = refl
 
-pub list_none : (left : ℕ) (at : Layout) (l : ListHandle) → count_of l ≡ 0 → list_shown left at l ≡ said_text (codes "[]")
-list_none left at l h = ap (λ n. list_text at (element_items left (deeper at) l 0 n)) h
-
 pub struct_some : (left : ℕ) (at : Layout) (r : StructHandle) → 0 < length (struct_fields (schema_of r)) → record_shown left at r ≡ bracketed_text (codes "(") (codes ")") at (record_items left (deeper at) r)
 struct_some left at r h = go (struct_fields (schema_of r)) h
   where

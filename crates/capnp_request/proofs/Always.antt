@@ -1,5 +1,5 @@
 -- Numbers, untyped pointers and groups can always be read.
-use Rattle.std.proofs.Common.{ℕ, ◌<◌, ◌≡◌, ◌∙◌, ap, refl, subst, sym, zero, suc, Bool, true, List, length}
+use Rattle.std.proofs.Common.{ℕ, ◌<◌, ◌≡◌, ◌∙◌, ap, refl, subst, sym, zero, suc, true, List, length}
 use Rattle.capnp_device.specs.declared.error.ErrorKind.{ErrorKind}
 use Rattle.capnp_wire.specs.Standing.{struct_levels, struct_of}
 use Rattle.capnp_wire.specs.Tree as tree
@@ -85,6 +85,3 @@ never s b i kind record_is inside active always e =
 pub whole_field : (k : FieldKind) (t u : SchemaType) → t ≡ u → is_whole u ≡ true → is_always_read k t ≡ true
 whole_field (Slot offset default) t u e h = ap is_whole e ∙ h
 whole_field (Group node) t u e h = refl
-
-pub group_field : (k : FieldKind) (t : SchemaType) → (q : Bool) → is_always_read (Group 0) t ≡ true
-group_field k t q = refl

@@ -20,10 +20,6 @@ pub led_by : {T E : Type 0} (r : Result T E) (a : List ℕ) (x : Out) (old mid n
 led_by (Ok t) a x old mid new e put = led a x old mid new e put
 led_by (Err error) a x old mid new e put = tt {0}
 
-pub ended_by : {T E : Type 0} (r : Result T E) (x : Out) (a : List ℕ) (old mid new : List ℕ) → IsAppended old x mid → OnOk r (new ≡ mid ++ a) → OnOk r (IsAppended old (after x (said_text a)) new)
-ended_by (Ok t) x a old mid new put e = ended x a old mid new put e
-ended_by (Err error) x a old mid new put e = tt {0}
-
 -- what stands before a text, the text, and what stands behind it
 pub slot_put : {T E : Type 0} (r : Result T E) (x : Out) (old mid mid' new a b : List ℕ) → mid ≡ old ++ a → IsAppended mid x mid' → OnOk r (new ≡ mid' ++ b) →
     OnOk r (IsAppended old (after (said_text a) (after x (said_text b))) new)

@@ -66,10 +66,6 @@ bit_number-is x = go (x % 2) (omega arith)
     go (suc zero) a = refl
     go (suc (suc y)) a = absurd (omega arith)
 
-pub bit_number-back : (b : Bool) → (bit_number b == 1) ≡ b
-bit_number-back true = refl
-bit_number-back false = refl
-
 -- a number of one bit is that of its bit
 pub bit_number-of : (n : ℕ) → n < 2 → bit_number (n == 1) ≡ n
 bit_number-of zero a = refl

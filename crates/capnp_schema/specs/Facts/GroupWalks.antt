@@ -32,10 +32,6 @@ frames_outside set (suc depth) g is = frames_next set depth g ∙ ap (behind (fr
 
 -- ---- steps ----
 
-pub steps_ended : (set : Schemas) (groups : ℕ) → steps_left set groups [] ≡ 0
-unfolding steps_left
-steps_ended set groups = refl
-
 pub steps_frame : (set : Schemas) (groups b i : ℕ) (rest : List (ℕ × ℕ)) → steps_left set groups ((b, i) ∷ rest) ≡ steps_through (brand_steps groups set) (drop i (fields_of set b)) + steps_left set (suc groups) rest
 unfolding steps_left
 steps_frame set groups b i rest = refl
