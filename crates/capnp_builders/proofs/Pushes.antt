@@ -1,6 +1,5 @@
 -- Bytes that are pushed one after another.
-use Rattle.std.specs.Prelude.{ℕ, suc, ◌+◌, ◌≡◌, ◌∷◌, List, length, drop, slice_set}
-use Rattle.std.proofs.Common.{ap, arith, subst, sym, ◌∙◌}
+use Rattle.std.proofs.Common.{ℕ, suc, ◌+◌, ◌≡◌, ◌∷◌, List, length, drop, slice_set, ap, arith, subst, sym, ◌∙◌}
 use Rattle.std.proofs.lemmas.List.{length-set}
 use Rattle.capnp_arena.specs.Facts.Places.{at_then}
 use Rattle.capnp_arena.specs.Forest.{Changes}

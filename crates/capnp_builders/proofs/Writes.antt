@@ -1,6 +1,5 @@
 -- A byte of a text that is written is that of the text alone.
-use Rattle.std.specs.Prelude.{ℕ, zero, suc, ◌+◌, ◌*◌, ◌-◌, ◌%◌, ◌<◌, ◌≤◌, ◌≡◌, ◌==◌, refl, List, [], ◌∷◌, ◌++◌, Bool, true, false, cond, Ok, Err, IsOk, length, take, drop, get_or, replicate, slice_set}
-use Rattle.std.proofs.Common.{ap, append-nil, append_assoc, arith, sym, subst, ◌∙◌}
+use Rattle.std.proofs.Common.{ℕ, zero, suc, ◌+◌, ◌*◌, ◌-◌, ◌%◌, ◌<◌, ◌≤◌, ◌≡◌, ◌==◌, refl, List, [], ◌∷◌, ◌++◌, Bool, true, false, cond, Ok, Err, IsOk, length, take, drop, get_or, replicate, slice_set, ap, append-nil, append_assoc, arith, sym, subst, ◌∙◌}
 use Rattle.std.proofs.lemmas.Bool.{true≢false}
 use Rattle.std.proofs.lemmas.List.{length-replicate, length-set, length-take-le, take-append-drop}
 use Rattle.capnp_device.specs.declared.error.ErrorKind.TheVariants as kind

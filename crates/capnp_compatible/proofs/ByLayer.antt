@@ -1,6 +1,5 @@
 -- What holds of types inside the lists that both are holds of the types.
-use Rattle.std.specs.Prelude.{◌≡◌, ◌↔◌, refl, Bool, false, IsTrue, Option}
-use Rattle.std.proofs.Common.{ap, ap₂, sym, ◌∙◌, subst}
+use Rattle.std.proofs.Common.{◌≡◌, ◌↔◌, refl, Bool, false, IsTrue, Option, ap, ap₂, sym, ◌∙◌, subst}
 use Rattle.capnp_base.specs.declared.introspect.«Type».{«Type» as TypeHandle}
 use Rattle.capnp_base.specs.declared.introspect.TypeVariant.{TypeVariant}
 use Rattle.capnp_base.specs.declared.introspect.TypeVariant.TheVariants as variant
@@ -16,7 +15,6 @@ pub seen : (s : TypeHandle) (u : TypeVariant) → u ≡ variant_of s → seen_va
 seen s u e = ap seen_variant e ∙ seen_which s
 
 module _ (lists : Bool) (set : Schemas) where
-
   ends-layers : (u v : TypeVariant) → (variant_kind u ≡ 15 → variant_kind v ≡ 15 → ⊥) → inside_lists lists set (seen_variant u) (seen_variant v) ≡ (seen_variant u, seen_variant v)
   ends-layers (variant.List x) (variant.List y) h = absurd (h refl refl)
   ends-layers u v h = refl

@@ -1,6 +1,5 @@
 -- A list of pairs to which those are added that fields name.
-use Rattle.std.specs.Prelude.{ℕ, ◌+◌, ◌<◌, List, Bool}
-use Rattle.std.proofs.Common.{arith, ◌∙◌, below_more}
+use Rattle.std.proofs.Common.{ℕ, ◌+◌, ◌<◌, List, Bool, arith, ◌∙◌, below_more}
 use Rattle.capnp_schema.specs.Schema.{Schemas, field_at}
 use Rattle.capnp_compatible.specs.declared.pairs.Pair.{Pair}
 use Rattle.capnp_compatible.specs.Closing.{listed_pairs}

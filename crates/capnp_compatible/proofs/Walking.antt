@@ -1,7 +1,6 @@
 -- The walk over the pairs that structs name.
-use Rattle.std.specs.Prelude.{ℕ, zero, suc, ◌+◌, ◌<◌, ◌≤◌, ◌≡◌, refl, List, [], ◌∷◌, Bool, true, false, ◌&&◌, nat_lt, IsTrue, Some, length, slice_get}
+use Rattle.std.proofs.Common.{ℕ, zero, suc, ◌+◌, ◌<◌, ◌≤◌, ◌≡◌, refl, List, [], ◌∷◌, Bool, true, false, ◌&&◌, nat_lt, IsTrue, Some, length, slice_get, arith, sym, ◌∙◌, subst, below_more}
 use Rattle.std.specs.Bool.{Decides}
-use Rattle.std.proofs.Common.{arith, sym, ◌∙◌, subst, below_more}
 use Rattle.std.proofs.lemmas.Bool.{le-leb}
 use Rattle.capnp_schema.specs.Types.{SchemaType, StructType, ListType}
 use Rattle.capnp_schema.specs.Schema.{Schemas, TypedField, field_at, fields_of, no_field}

@@ -1,6 +1,5 @@
 -- What was filled, or started anew, can be handed out.
-use Rattle.std.specs.Prelude.{ℕ, ◌≡◌, refl, List, Bool, true, false, Option, Some, None, IsOk, Ok, Err, Result}
-use Rattle.std.proofs.Common.{arith, sym, subst, ◌∙◌}
+use Rattle.std.proofs.Common.{ℕ, ◌≡◌, refl, List, Bool, true, false, Option, Some, None, IsOk, Ok, Err, Result, arith, sym, subst, ◌∙◌}
 use Rattle.std.proofs.lemmas.Bool.{true≢false}
 use Rattle.capnp_device.specs.declared.error.ErrorKind.{ErrorKind}
 use Rattle.capnp_wire.specs.Tree as tree
@@ -25,7 +24,7 @@ use Rattle.capnp_records.specs.Writes.Contents.{new_list}
 use Rattle.capnp_records.specs.Writes.Fill.{IsAtRest, list_or_default}
 use Rattle.capnp_records.specs.Writes.TreeEnds.{offset_of}
 use Rattle.capnp_schema.specs.Plan.{brand_size}
-use Rattle.capnp_slots.specs.Fills.{fill_due, filled_tree}
+use Rattle.capnp_slots.specs.Fills.{fill_due, filled_tree, RestsIn, due_in, filled_in}
 use Rattle.capnp_device.specs.declared.error.Error.{Error}
 use Rattle.capnp_schema.specs.FieldLists.{IsFound, typed_of}
 use Rattle.capnp_schema.specs.StructHandles.{set_of, struct_field}
@@ -33,7 +32,6 @@ use Rattle.capnp_schema.specs.declared.schema.fields.Field.{Field}
 use Rattle.capnp_schema.specs.declared.schema.structs.StructSchema.{StructSchema}
 use Rattle.capnp_records.specs.Step.{is_group_field}
 use Rattle.capnp_slots.specs.Fields.{IsPointerField, IsSlot, field_set}
-use Rattle.capnp_slots.specs.Fills.{RestsIn, due_in, filled_in}
 use Rattle.capnp_slots.specs.Groups.{IsGroupAt}
 use Rattle.capnp_dynamic.specs.Built.{HoldsElements, built_schema, built_struct}
 use Rattle.capnp_dynamic.specs.Handed.{HandsField, HandsNumber, HandsOut, IsPartRefusal, IsPartWithin, IsRefusalAt, IsWithinAt, part_handed}

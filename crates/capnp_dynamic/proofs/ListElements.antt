@@ -1,13 +1,11 @@
 -- In a list that has elements of its type each of them is there, also after one was written.
-use Rattle.std.specs.Prelude.{ℕ, ◌==◌, ◌<◌, ◌≡◌, refl, Bool, true, false, List, None, Result, Ok, Err, OnOk, OnErr}
-use Rattle.std.proofs.Common.{arith, sym, subst, ◌∙◌}
+use Rattle.std.proofs.Common.{ℕ, ◌==◌, ◌<◌, ◌≡◌, refl, Bool, true, false, List, None, Result, Ok, Err, OnOk, OnErr, arith, sym, subst, ◌∙◌}
 use Rattle.capnp_device.specs.declared.error.Error.{Error}
 use Rattle.capnp_device.specs.declared.error.ErrorKind.{ErrorKind}
 use Rattle.capnp_wire.specs.Defaults.{error_of, list_refusal}
-use Rattle.capnp_wire.specs.Elements.{with_bit_element, with_number_element, with_pointer_element}
+use Rattle.capnp_wire.specs.Elements.{with_bit_element, with_number_element, with_pointer_element, reads_list}
 use Rattle.capnp_wire.specs.Facts.Lengths.{HasAtLeast-element_struct, HasStruct-there, HoldsStructs-with_struct_element}
 use Rattle.capnp_wire.specs.Facts.Room.{HasBit-there, HasNumber-there, HasPointer-there, reads_list-as_list}
-use Rattle.capnp_wire.specs.Elements.{reads_list}
 use Rattle.capnp_wire.specs.Reading.{as_list, element_struct, is_null_tree, list_if, list_length, reads_bits, reads_numbers, reads_pointers, reads_structs}
 use Rattle.capnp_wire.specs.Tree as tree
 use Rattle.capnp_wire.specs.Tree.{Tree}

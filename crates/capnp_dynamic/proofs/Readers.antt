@@ -1,6 +1,5 @@
 -- What stands at a pointer, by its tree: nothing, a struct, a list that is read; and a struct at a place.
-use Rattle.std.specs.Prelude.{ℕ, zero, suc, List, ◌≡◌, refl, Bool, true, false, IsOk, Ok, Err, Result, cond}
-use Rattle.std.proofs.Common.{ap, sym, ◌∙◌}
+use Rattle.std.proofs.Common.{ℕ, zero, suc, List, ◌≡◌, refl, Bool, true, false, IsOk, Ok, Err, Result, cond, ap, sym, ◌∙◌}
 use Rattle.std.proofs.lemmas.Bool.{true≢false}
 use Rattle.capnp_device.specs.declared.error.ErrorKind.{ErrorKind}
 use Rattle.capnp_wire.specs.Elements.{or_empty}

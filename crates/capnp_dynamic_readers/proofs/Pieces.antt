@@ -1,9 +1,8 @@
 -- Pieces of texts, as they are put one after another.
-use Rattle.std.proofs.Common.{arith, append_assoc, ◌≡◌, refl, ap, ap₂, sym, ◌∙◌, ℕ, zero, suc, subst, Bool, true, false, List, [], ◌∷◌, ◌++◌, Some, None, Result, Ok, Err, OnOk, cond, ◌<◌, ◌≤◌, get_or, length, take, ◌+◌, ◌/◌, ◌%◌}
+use Rattle.std.proofs.Common.{codes, decimal, arith, append_assoc, ◌≡◌, refl, ap, ap₂, sym, ◌∙◌, ℕ, zero, suc, subst, Bool, true, false, List, [], ◌∷◌, ◌++◌, Some, None, Result, Ok, Err, OnOk, cond, ◌<◌, ◌≤◌, get_or, length, take, ◌+◌, ◌/◌, ◌%◌}
 use Rattle.std.specs.Char.{digit_char, is_ascii}
 use Rattle.std.specs.Fmt.{AppendsText, debug_escape, debug_str}
 use Rattle.std.specs.List.{flat_map, list_all}
-use Rattle.std.specs.Prelude.{codes, decimal}
 use Rattle.std.specs.Result.{is_ok}
 use Rattle.std.specs.Str.{IsAscii, IsNotAscii, IsUtf8, is_utf8}
 use Rattle.capnp_records.specs.Facts.Spelled.{form_spelled, some_bytes, some_spelled}

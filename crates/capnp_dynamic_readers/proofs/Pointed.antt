@@ -1,6 +1,5 @@
 -- What stands behind a pointer, or in its default, is the read of the pointer's value.
-use Rattle.std.specs.Prelude.{ℕ, ◌+◌, ◌-◌, ◌≡◌, refl, List, Bool, true, false, ◌==◌, Result, Ok, Err, Some, None, cond, IfOk}
-use Rattle.std.proofs.Common.{arith, ap, ap₂, sym, ◌∙◌}
+use Rattle.std.proofs.Common.{ℕ, ◌+◌, ◌-◌, ◌≡◌, refl, List, Bool, true, false, ◌==◌, Result, Ok, Err, Some, None, cond, IfOk, arith, ap, ap₂, sym, ◌∙◌}
 use Rattle.capnp_device.specs.declared.error.ErrorKind.{ErrorKind}
 use Rattle.capnp_device.specs.declared.error.ErrorKind.TheVariants.{TooDeep}
 use Rattle.capnp_device.specs.declared.error.Error.{Error}
@@ -13,8 +12,7 @@ use Rattle.capnp_wire.specs.Reading.{as_data, as_list, as_struct, as_text, empty
 use Rattle.capnp_wire.specs.declared.size.ElementSize.{ElementSize}
 use Rattle.capnp_wire.specs.declared.size.ElementSize.TheVariants as size
 use Rattle.capnp_schema.specs.Accepted.{words_root}
-use Rattle.capnp_schema.specs.Schema.{Schemas, VoidValue, StructValue, ListValue}
-use Rattle.capnp_schema.specs.Schema.{Value as SchemaValue}
+use Rattle.capnp_schema.specs.Schema.{Schemas, VoidValue, StructValue, ListValue, Value as SchemaValue}
 use Rattle.capnp_schema.specs.Types.{AnyPointerType, DataType, ListType, SchemaType, StructType, TextType, element_size}
 use Rattle.capnp_records.specs.Facts.DefaultTree.{read-there}
 use Rattle.capnp_records.specs.Facts.ListValues.{below_of}

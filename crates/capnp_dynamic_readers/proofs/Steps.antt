@@ -1,6 +1,5 @@
 -- The steps of a print.
-use Rattle.std.specs.Prelude.{ℕ, zero, suc, ◌+◌, ◌-◌, ◌<◌, ◌≡◌, ◌==◌, refl, List, [], ◌∷◌, ◌++◌, Bool, true, false, length, codes, Ok, Err, Option, Some, None, Result, IfErr, OnOk}
-use Rattle.std.proofs.Common.{rules, ap, sym, subst, ◌∙◌, arith}
+use Rattle.std.proofs.Common.{ℕ, zero, suc, ◌+◌, ◌-◌, ◌<◌, ◌≡◌, ◌==◌, refl, List, [], ◌∷◌, ◌++◌, Bool, true, false, length, codes, Ok, Err, Option, Some, None, Result, IfErr, OnOk, rules, ap, sym, subst, ◌∙◌, arith}
 use Rattle.capnp_device.specs.declared.error.ErrorKind.{ErrorKind}
 use Rattle.capnp_schema.specs.Schema.{Schemas, TypedField}
 use Rattle.capnp_schema.specs.StructHandles.{struct_fields}

@@ -5,8 +5,7 @@ use Rattle.capnp_wire.specs.Standing.{struct_levels, struct_of}
 use Rattle.capnp_wire.specs.Tree as tree
 use Rattle.capnp_wire.specs.Tree.{Tree, Trees}
 use Rattle.capnp_request.specs.RequestSet.{request_set}
-use Rattle.capnp_schema.specs.Schema.{DataValue, FieldKind, Group, ListValue, Schemas, Slot, StructValue, TextValue, default_of, field_at, fields_of}
-use Rattle.capnp_schema.specs.Schema.{Value as SchemaValue}
+use Rattle.capnp_schema.specs.Schema.{DataValue, FieldKind, Group, ListValue, Schemas, Slot, StructValue, TextValue, default_of, field_at, fields_of, Value as SchemaValue}
 use Rattle.capnp_schema.specs.StructHandles.{number_of, set_of}
 use Rattle.capnp_schema.specs.Types.{SchemaType, VoidType, BoolType, IntType, UIntType, EnumType, TextType, DataType, StructType, ListType, AnyPointerType}
 use Rattle.capnp_records.specs.Default.{read_of}

@@ -1,9 +1,8 @@
 -- Who has a dotted name.
-use Rattle.std.proofs.Common.{ℕ, ◌≡◌, ◌==◌, ◌∙◌, arith, ap, refl, sym, Bool, true, false, not, ◌&&◌, ◌||◌, bytes_eq, List, [], ◌∷◌, Option, Some, None}
+use Rattle.std.proofs.Common.{Vec, ℕ, ◌≡◌, ◌==◌, ◌∙◌, arith, ap, refl, sym, Bool, true, false, not, ◌&&◌, ◌||◌, bytes_eq, List, [], ◌∷◌, Option, Some, None}
 use Rattle.std.proofs.lemmas.Bool.Decides.{nat_tests}
 use Rattle.std.specs.Global.{Global}
 use Rattle.std.specs.HashMap.{get}
-use Rattle.std.specs.Prelude.{Vec}
 use Rattle.capnp_request.specs.Names.{Holder, is_taken}
 use Rattle.capnp_request.specs.Steps.NamesMade.{AreHolders, holder_of, one_more}
 use Rattle.capnp_request.specs.declared.names.Holder.{Holder as HolderRecord}

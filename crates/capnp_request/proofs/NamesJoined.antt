@@ -1,9 +1,8 @@
 -- Names piece by piece.
-use Rattle.std.proofs.Common.{ℕ, zero, suc, ◌+◌, ◌-◌, ◌<◌, ◌≤◌, ◌≡◌, ◌==◌, ◌∙◌, arith, ap, refl, sym, subst, codes, Bool, true, false, List, [], ◌∷◌, ◌++◌, length, map, get_or, slice_get, drop, option_map, string_bytes, String, Some, None, Err}
+use Rattle.std.proofs.Common.{ℕ, zero, suc, ◌+◌, ◌-◌, ◌<◌, ◌≤◌, ◌≡◌, ◌==◌, ◌∙◌, arith, ap, refl, sym, subst, codes, Bool, true, false, List, [], ◌∷◌, ◌++◌, length, map, get_or, slice_get, drop, option_map, string_bytes, String, Some, None, Err, append_assoc, drop-cons, length-append}
 use Rattle.std.proofs.lemmas.List.{append-nil}
 use Rattle.std.proofs.lemmas.Option.{slice_get-map}
 use Rattle.std.specs.Option.{unwrap_or}
-use Rattle.std.proofs.Common.{append_assoc, drop-cons, length-append}
 use Rattle.capnp_device.specs.declared.error.ErrorKind.{ErrorKind}
 use Rattle.capnp_device.specs.declared.error.ErrorKind.TheVariants.{NodeNotFound}
 use Rattle.capnp_base.specs.Types.{base_variant}

@@ -90,7 +90,6 @@ test_true a b h = grind (arith, nat_tests)
 -- ---- enums ----
 
 module _ (nodes : List SchemaNode) (id : ℕ) (s : Named) where
-
   module _ (none : enum_position s.enums id 0 ≡ None) where
     at_enum : number_enum nodes id s ≡ where_so (is_of_kind is_enum (node_named nodes id)) NodeNotFound (add_enum id s)
     at_enum = ap (λ o. enum_or_add nodes o id s) none

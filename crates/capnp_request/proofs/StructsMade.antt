@@ -1,10 +1,9 @@
 -- The parts of structs, as the definition sees them.
-use Rattle.std.proofs.Common.{ℕ, ◌+◌, ◌≡◌, ◌∙◌, suc, arith, ap, refl, sym, append_assoc, Bool, false, List, [], ◌∷◌, ◌++◌, length, map, Ok, Err, Result}
+use Rattle.std.proofs.Common.{Vec, string_bytes, ℕ, ◌+◌, ◌≡◌, ◌∙◌, suc, arith, ap, refl, sym, append_assoc, Bool, false, List, [], ◌∷◌, ◌++◌, length, map, Ok, Err, Result}
 use Rattle.std.proofs.lemmas.List.{append-nil, map-append}
 use Rattle.capnp_base.specs.declared.introspect.«Type».{«Type» as TypeHandle}
 use Rattle.capnp_device.specs.declared.error.ErrorKind.{ErrorKind}
 use Rattle.std.specs.Global.{Global}
-use Rattle.std.specs.Prelude.{Vec, string_bytes}
 use Rattle.capnp_device.specs.declared.error.ErrorKind.TheVariants.{NodeNotFound}
 use Rattle.capnp_records.specs.Record.{Record, Value}
 use Rattle.capnp_dynamic_readers.specs.Seen.{list_seen}

@@ -14,8 +14,7 @@ use Rattle.capnp_wire.specs.declared.fault.Fault.{Fault}
 use Rattle.capnp_schema.specs.Schema.{DataValue, TextValue, Value}
 use Rattle.capnp_records.specs.Record as record_value
 use Rattle.capnp_records.specs.Part.{which_of}
-use Rattle.capnp_records.specs.Record.{Record}
-use Rattle.capnp_records.specs.Record.{Value as RecordValue}
+use Rattle.capnp_records.specs.Record.{Record, Value as RecordValue}
 use Rattle.capnp_request.specs.Conversion.{is_untyped_default}
 use Rattle.capnp_request.specs.Parts.{request_read_at}
 use Rattle.capnp_request.specs.Reading.{by_member, bytes_value, pointer_value, value_kinds, value_said}

@@ -1,6 +1,5 @@
 -- What a set answers to the queries of a struct's schema is inside its fields.
-use Rattle.std.proofs.Common.{ℕ, zero, suc, ◌≡◌, ◌+◌, ◌<◌, ◌≤◌, ⊎_elim, Bool, true, false, cond, List, [], ◌∷◌, length, get_or, Some, None, sym, ap, ◌∙◌, subst, arith, position}
-use Rattle.std.specs.Prelude.{All, bytes_eq}
+use Rattle.std.proofs.Common.{All, bytes_eq, ℕ, zero, suc, ◌≡◌, ◌+◌, ◌<◌, ◌≤◌, ⊎_elim, Bool, true, false, cond, List, [], ◌∷◌, length, get_or, Some, None, sym, ap, ◌∙◌, subst, arith, position}
 use Rattle.std.specs.List.{position_or_len}
 use Rattle.std.proofs.lemmas.List.{length-map}
 use Rattle.std.proofs.lemmas.Option.{slice_get-get_or}

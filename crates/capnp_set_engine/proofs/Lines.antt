@@ -1,6 +1,5 @@
 -- The lines of notes, as a walk over the notes makes them.
-use Rattle.std.proofs.Common.{◌≡◌, ℕ, zero, suc, List, [], ◌∷◌, Option, Some, None, map, refl, string_bytes}
-use Rattle.std.specs.Prelude.{slice_get}
+use Rattle.std.proofs.Common.{slice_get, ◌≡◌, ℕ, zero, suc, List, [], ◌∷◌, Option, Some, None, map, refl, string_bytes}
 use Rattle.capnp_schema.specs.Names.{name_at}
 use Rattle.capnp_schema.specs.Schema.{seen_field}
 use Rattle.capnp_schema.specs.declared.record.FieldRecord.{FieldRecord}

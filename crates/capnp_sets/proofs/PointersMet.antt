@@ -15,8 +15,7 @@ use Rattle.capnp_wire.specs.declared.size.ElementSize.TheVariants as size
 use Rattle.capnp_wire.specs.declared.struct_reader.StructReader.{StructReader}
 use Rattle.capnp_schema.specs.Builtin.{zero_word}
 use Rattle.capnp_schema.specs.Meta.{meta, meta_struct}
-use Rattle.capnp_schema.specs.Schema.{DataValue, ListValue, StructValue, TextValue, VoidValue}
-use Rattle.capnp_schema.specs.Schema.{Value as SchemaValue}
+use Rattle.capnp_schema.specs.Schema.{DataValue, ListValue, StructValue, TextValue, VoidValue, Value as SchemaValue}
 use Rattle.capnp_schema.specs.Types.{DataType, ListType, SchemaType, TextType, element_size}
 use Rattle.capnp_records.specs.Default.{default_record, default_value, read_of}
 use Rattle.capnp_records.specs.Facts.DefaultTree.{read-there}

@@ -1,6 +1,5 @@
 -- Texts that are appended one after another.
-use Rattle.std.specs.Prelude.{ℕ, ◌/◌, List, [], ◌++◌, Bool, true, false, codes, decimal, length}
-use Rattle.std.proofs.Common.{◌≡◌, Result, Ok, Err, OnOk, subst}
+use Rattle.std.proofs.Common.{ℕ, ◌/◌, List, [], ◌++◌, Bool, true, false, codes, decimal, length, ◌≡◌, Result, Ok, Err, OnOk, subst}
 use Rattle.capnp_wire.specs.Reading.{is_null_tree}
 use Rattle.capnp_schema.specs.Accepted.{words_root}
 use Rattle.capnp_records.specs.Text.{Out, after, said_text}

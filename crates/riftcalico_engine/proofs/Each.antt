@@ -1,6 +1,5 @@
 -- Several that are read one after another.
-use Rattle.std.specs.Prelude.{ℕ, suc, ◌+◌, ◌<◌, List, [], ◌∷◌, ◌++◌, Ok, Err, drop, get_or, length, map}
-use Rattle.std.proofs.Common.{◌≡◌, ◌∙◌, ap, append_assoc, arith, refl, sym}
+use Rattle.std.proofs.Common.{ℕ, suc, ◌+◌, ◌<◌, List, [], ◌∷◌, ◌++◌, Ok, Err, drop, get_or, length, map, ◌≡◌, ◌∙◌, ap, append_assoc, arith, refl, sym}
 use Rattle.std.proofs.lemmas.List.{drop_more, map-append}
 use Rattle.capnp_words.specs.Reads.{Read}
 use Rattle.riftcalico_engine.specs.Reads.{Reads, at_word, each_word_read, joined_reads}

@@ -1,7 +1,6 @@
 -- Bits of a data section: the numbers that they are, and what they are once a number was written.
-use Rattle.std.specs.Prelude.{ℕ, zero, suc, ◌+◌, ◌*◌, ◌/◌, ◌%◌, ◌^◌, ◌<◌, ◌≤◌, ◌≡◌, ◌⊎◌, refl, List, Bool, true, false, ◌==◌, length, get_or, take, drop, bit_xor}
+use Rattle.std.proofs.Common.{ℕ, zero, suc, ◌+◌, ◌*◌, ◌/◌, ◌%◌, ◌^◌, ◌<◌, ◌≤◌, ◌≡◌, ◌⊎◌, refl, List, Bool, true, false, ◌==◌, length, get_or, take, drop, bit_xor, arith, inl, inr, ap, ap₂, sym, ◌∙◌}
 use Rattle.std.specs.Int.Bits.{xor_assoc, xor_self, xor_zero_r}
-use Rattle.std.proofs.Common.{arith, inl, inr, ap, ap₂, sym, ◌∙◌}
 use Rattle.std.proofs.lemmas.Nat.{xor_lt}
 use Rattle.std.proofs.Math.Nat.{pow-suc}
 use Rattle.capnp_wire.specs.Slot.{bit_at, little_endian, masked_bit, number_at}

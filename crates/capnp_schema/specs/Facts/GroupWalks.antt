@@ -1,6 +1,5 @@
 -- Each step of a walk through groups leaves less to do.
-use Rattle.std.specs.Prelude.{ℕ, zero, suc, ◌+◌, ◌<◌, ◌≡◌, refl, List, [], ◌∷◌, drop, length, slice_get, Option, Some, None}
-use Rattle.std.proofs.Common.{add-one, arith, ap, sym, ◌∙◌}
+use Rattle.std.proofs.Common.{ℕ, zero, suc, ◌+◌, ◌<◌, ◌≡◌, refl, List, [], ◌∷◌, drop, length, slice_get, Option, Some, None, add-one, arith, ap, sym, ◌∙◌}
 use Rattle.capnp_schema.specs.Steps.Checking.Parents.{entry_target, group_target}
 use Rattle.capnp_schema.specs.Facts.GroupFields.{parent_target}
 use Rattle.capnp_schema.specs.Accepted.{IsParent}
