@@ -1,5 +1,4 @@
 //! Cases: what is asked of a message, over devices in memory, and what comes of it.
-ghost use Rattle.std.specs.Prelude.{◌≡◌, ◌<◌};
 ghost use Rattle.capnp_schema.specs.StructHandles.{IsStruct};
 
 use capnp_call::calls::Call;
