@@ -29,7 +29,6 @@ nothing_put start words =
     ap (λ k. take (8 * start) words ++ drop k words) n ∙ take-append-drop (8 * start) words
 
 module _ (a : Arena) (at : ℕ) (f : Forest (segment a) at) where
-
   same_left : (start : ℕ) (left : List ℕ) → start ≡ 0 → length left ≡ 0 → segment (with_struct_part a start left) ≡ segment a
   same_left start [] s l = part_left a start [] (omega (arith, s)) ∙ nothing_put start (segment a)
   same_left start (b ∷ bs) s l = absurd (omega (arith, l))
