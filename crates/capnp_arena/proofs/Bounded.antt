@@ -29,9 +29,6 @@ none P = record { at = λ i. i; holds = λ i l. absurd (omega (arith, l)); apart
 range : (P : ℕ → Type 0) (a n : ℕ) → ((k : ℕ) → a ≤ k → k < a + n → P k) → Counted P n
 range P a n h = record { at = λ i. a + i; holds = λ i l. h (a + i) (omega arith) (omega (arith, l)); apart = λ i j l m e. omega (arith, l, e) }
 
-wider : (P Q : ℕ → Type 0) (n : ℕ) → Counted P n → ((k : ℕ) → P k → Q k) → Counted Q n
-wider P Q n c h = record { at = c.at; holds = λ i l. h (c.at i) (c.holds i l); apart = c.apart }
-
 abbrev choose : Bool → (ℕ → ℕ) → (ℕ → ℕ) → ℕ → ℕ → ℕ
 choose true f g n i = f i
 choose false f g n i = g (i - n)

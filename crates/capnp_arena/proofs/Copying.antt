@@ -258,13 +258,6 @@ pub record AreStructsFilled (at i d p : ℕ) (es : Structs) (old now : List ℕ)
   pub faults : first_fault_of_elements (structs_after i es) ≡ first_fault_of_elements es
   pub kept : Spares at (struct_count es * (d + p)) old now
 
-pub structs_begin : (at d p : ℕ) (es : Structs) (old : List ℕ) → AreStructsFilled at 0 d p es old old
-structs_begin at d p es old = record {
-  done = ap (λ k. with_encoded_elements (d + p) (8 * k) es old) {x = at + 0 * (d + p)} {y = at} (omega arith);
-  faults = refl;
-  kept = spares_itself at (struct_count es * (d + p)) old;
-}
-
 row_parts : (n i m z : ℕ) → n ≡ i + suc m → n * z ≡ i * z + suc m * z
 row_parts n i m z e = ap (λ k. k * z) e ∙ omega arith
 

@@ -84,9 +84,6 @@ module _ (bytes : List ℕ) (w : ℕ) (f : Forest bytes w) (d : ℕ) where
 pub no_row_below : (f : ℕ → Tree) (a p d : ℕ) → p ≡ 0 → AreBelow d (trees_from f a p)
 no_row_below f a p d e = subst (λ k. AreBelow d (trees_from f a k)) (sym e) tt
 
-pub no_structs_below : (f : ℕ → StructTree) (i p d : ℕ) → p ≡ 0 → ElementsAreBelow d (structs_from f i p)
-no_structs_below f i p d e = subst (λ k. ElementsAreBelow d (structs_from f i k)) (sym e) tt
-
 -- structs without pointers
 pub plain_structs_below : (bytes : List ℕ) (start k p d i n : ℕ) → p ≡ 0 → ElementsAreBelow d (structs_from (λ j. struct_from bytes (start + j * (k + p)) k p) i n)
 plain_structs_below bytes start k p d i zero e = tt

@@ -1,56 +1,26 @@
 -- A tree whose encoding stands in a segment is a forest there: by induction on the tree.
-use Rattle.std.proofs.Common.{◌≡◌, ℕ, zero, suc, ◌+◌, ◌-◌, ◌*◌, ◌/◌, ◌^◌, ◌<◌, ◌≤◌, ◌⊎◌, inl, inr, refl, sym, ap, subst, ◌∙◌, arith, List, [], ◌++◌, length, replicate, cond, ◌==◌, Option, Some, None, Bool}
+use Rattle.std.proofs.Common.{◌≡◌, ℕ, suc, ◌+◌, ◌-◌, ◌*◌, ◌/◌, ◌^◌, ◌<◌, ◌≤◌, ◌⊎◌, inl, inr, refl, sym, ap, subst, ◌∙◌, arith, List, [], ◌++◌, length, replicate, cond, ◌==◌, None, Bool}
 use Rattle.std.specs.Prelude.{IsTrue}
 use Rattle.std.proofs.lemmas.Bool.{cases_eq}
-use Rattle.std.proofs.lemmas.Bool.Decides.{nat_tests}
 use Rattle.capnp_wire.specs.Encoding.{bytes_below_all, bytes_of_all, bytes_below, element_row, list_word, number_size, own_bytes, packed_bits, padded_bytes, pointer_row, pointer_word, spelled_number, struct_word}
 use Rattle.capnp_wire.specs.Facts.EmptyStructs.{no_sections}
+use Rattle.capnp_wire.specs.Facts.EncodedObjects.{width_cases}
 use Rattle.capnp_wire.specs.Facts.EncodedSizes.{length_bytes_of, length_bytes_of_all, length_element, length_element_row, length_packed, length_padded, length_pointer_row}
 use Rattle.capnp_wire.specs.Facts.PackedBits.{bits_packed}
 use Rattle.capnp_wire.specs.Facts.PointerWords.{not_equal}
+use Rattle.capnp_wire.specs.Facts.ReadBack.{none_first, none_later}
 use Rattle.capnp_wire.specs.Facts.Stands.{Stands, stands_all, stands_at, stands_first, stands_left, stands_right}
 use Rattle.capnp_wire.specs.Locate.{list_words}
 use Rattle.capnp_wire.specs.Place.{bits_from, bytes_at, list_tree, struct_tree}
 use Rattle.capnp_wire.specs.Tree.{Bits, Composite, FaultLeaf, MoreStructs, MoreTrees, NoStructs, NoTrees, Null, Numbers, Pointers, Struct, StructTree, Structs, Tree, Trees, Voids, struct_count, structs_from, tree_count, trees_from}
 use Rattle.capnp_wire.specs.WellFormed.{AreElements, AreWellFormed, IsWellFormed, is_width}
-use Rattle.capnp_wire.specs.Words.{byte_words, first_fault, first_fault_of_all, first_fault_of_elements, first_of, words_below_all, words_of, words_of_all}
-use Rattle.capnp_wire.specs.declared.fault.Fault.{Fault}
+use Rattle.capnp_wire.specs.Words.{byte_words, first_fault, first_fault_of_all, first_fault_of_elements, words_below_all, words_of, words_of_all}
 use Rattle.capnp_arena.specs.Shape.{CompositeIn, IsPointerOf, IsWordWithin, IsWordAt, ListIn, Points, Shape, StructIn, word_count}
 use Rattle.capnp_arena.specs.Forest.{Forest, OwnedBy, Owns, Planted, struct_from, tree}
 use Rattle.capnp_arena.specs.Facts.Calls.{grown, null_forest, null_owns, null_tree, owned_by}
 use Rattle.capnp_arena.specs.Facts.Shapes.{end_inside}
 use Rattle.capnp_arena.specs.Facts.Structs.{tree_composite, tree_list, tree_struct}
 use Rattle.capnp_arena.specs.Facts.Words.{shape}
-
--- ---- faults ----
-
--- where neither of two has a fault, the first has none
-none_first : (a b : Option Fault) → first_of a b ≡ None → a ≡ None
-none_first None b e = refl
-none_first (Some k) b e = e
-
--- nor has the other
-none_later : (a b : Option Fault) → first_of a b ≡ None → b ≡ None
-none_later None b e = e
-none_later (Some k) b e = cc
-
--- ---- widths ----
-
-past_eight : (v : ℕ) → IsTrue (is_width (suc (suc (suc (suc (suc (suc (suc (suc (suc v)))))))))) → ⊥
-past_eight v h = grind (arith, nat_tests)
-
--- what holds of the four widths holds of each width
-width_cases : (P : ℕ → Type 0) → P 1 → P 2 → P 4 → P 8 → (v : ℕ) → IsTrue (is_width v) → P v
-width_cases P a b c d zero h = absurd (grind (arith, nat_tests))
-width_cases P a b c d (suc zero) h = a
-width_cases P a b c d (suc (suc zero)) h = b
-width_cases P a b c d (suc (suc (suc zero))) h = absurd (grind (arith, nat_tests))
-width_cases P a b c d (suc (suc (suc (suc zero)))) h = c
-width_cases P a b c d (suc (suc (suc (suc (suc zero))))) h = absurd (grind (arith, nat_tests))
-width_cases P a b c d (suc (suc (suc (suc (suc (suc zero)))))) h = absurd (grind (arith, nat_tests))
-width_cases P a b c d (suc (suc (suc (suc (suc (suc (suc zero))))))) h = absurd (grind (arith, nat_tests))
-width_cases P a b c d (suc (suc (suc (suc (suc (suc (suc (suc zero)))))))) h = d
-width_cases P a b c d (suc (suc (suc (suc (suc (suc (suc (suc (suc v))))))))) h = absurd (past_eight v h)
 
 -- ---- ranges of words ----
 

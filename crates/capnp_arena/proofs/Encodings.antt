@@ -98,9 +98,6 @@ structs_next f i n l =
     ap (structs_from f i) {x = n - i} {y = suc (n - (i + 1))} (omega (arith, l))
     ∙ ap (λ a. MoreStructs (f i).bytes (f i).pointers (structs_from f a (n - (i + 1)))) {x = suc i} {y = i + 1} (omega arith)
 
-pub row_start : (f : ℕ → Tree) (first n : ℕ) → trees_from f (first + 0) (n - 0) ≡ trees_from f first n
-row_start f first n = ap (λ a. trees_from f a (n - 0)) {x = first + 0} {y = first} (omega arith) ∙ ap (trees_from f first) {x = n - 0} {y = n} (omega arith)
-
 -- ---- objects ----
 
 plain_below : (bytes : List ℕ) (a size n : ℕ) → size < 6 → bytes_below (list_tree (tree bytes) bytes a size n) ≡ []

@@ -1,8 +1,8 @@
 -- Targets that lie one after another are the encoding.
-use Rattle.std.proofs.Common.{◌≡◌, ◌⊎◌, ℕ, zero, suc, Bool, get_or, replicate, ◌+◌, ◌-◌, ◌*◌, ◌/◌, ◌^◌, ◌<◌, ◌≤◌, eq-eqb, ne_eqb, inl, inr, refl, sym, ap, subst, ◌∙◌, arith, List, [], ◌++◌, length, take, drop, cond}
+use Rattle.std.proofs.Common.{◌≡◌, ℕ, suc, Bool, get_or, replicate, ◌+◌, ◌-◌, ◌*◌, ◌/◌, ◌^◌, ◌<◌, ◌≤◌, eq-eqb, ne_eqb, inl, inr, sym, ap, subst, ◌∙◌, arith, List, [], ◌++◌, length, take, drop, cond}
 use Rattle.std.proofs.Math.Seq.{take-add}
-use Rattle.std.proofs.lemmas.List.{ext_get_or, length-replicate, append_assoc, drop-drop, take_all}
-use Rattle.capnp_wire.specs.Encoding.{bits_number, packed_bits, padded_bytes, bytes_below_all, bytes_of, bytes_of_all, element_row, encoding_of, own_bytes, pointer_row, pointer_word, spelled_number, struct_word}
+use Rattle.std.proofs.lemmas.List.{ext_get_or, append_assoc, drop-drop}
+use Rattle.capnp_wire.specs.Encoding.{bits_number, packed_bits, padded_bytes, bytes_below_all, bytes_of, bytes_of_all, element_row, own_bytes, pointer_row, pointer_word, spelled_number, struct_word}
 use Rattle.capnp_wire.specs.Facts.EncodedSizes.{length_packed, length_bytes_of, length_bytes_of_all}
 use Rattle.capnp_wire.specs.Facts.PackedBits.{packed_at}
 use Rattle.capnp_wire.specs.Facts.Rows.{struct_count-structs_from, tree_count-trees_from}
@@ -42,9 +42,6 @@ module _ (bytes : List ℕ) where
       omega (arith, h.after, m, ap length h.targets, length_bytes_of_all (trees_from (tree bytes) first n) (row_held bytes first n b))
 
   -- ---- pointers in a row ----
-
-  pub row_end_laid : (first end : ℕ) → end ≤ word_count bytes → IsRowLaid bytes first 0 end end
-  row_end_laid first end l = record { after = omega arith; inside = l; row = refl; targets = nothing end (end - end) (omega arith) }
 
   pub row_more_laid : (first n end next last : ℕ) → AreBytes bytes → first + suc n ≤ end → IsLaid bytes first end next → IsRowLaid bytes (suc first) n next last → IsRowLaid bytes first (suc n) end last
   row_more_laid first n end next last b l h r =
@@ -192,31 +189,7 @@ module _ (bytes : List ℕ) where
         targets = nothing (start + n * (d + p)) (start + n * (d + p) - (start + n * (d + p))) (omega arith) ∙ sym plain.below;
       }
 
-  -- all of a segment
-  pub whole_laid : length bytes ≡ 8 * word_count bytes → IsLaid bytes 0 1 (word_count bytes) → bytes ≡ encoding_of (tree bytes 0)
-  whole_laid whole h =
-      sym (take_all (8 * word_count bytes) bytes (omega (arith, whole)))
-      ∙ ap (bytes_at bytes 0) {x = 8 * word_count bytes} {y = 8 * 1 + 8 * (word_count bytes - 1)} (omega (arith, h.after))
-      ∙ sym (joined bytes 0 1 (8 * (word_count bytes - 1)))
-      ∙ ap (λ z. z ++ bytes_at bytes 1 (8 * (word_count bytes - 1))) h.pointer
-      ∙ ap (λ z. spelled_number 8 (pointer_word 0 (tree bytes 0)) ++ z) h.target
-
 -- ---- bytes that are compared one by one ----
-
-here_or_before : (i j : ℕ) → j < i + 1 → (j ≡ i) ⊎ (j < i)
-here_or_before i j l = grind arith
-
--- one more of them
-pub one_more : (f g : ℕ → ℕ) (i : ℕ) → ((j : ℕ) → j < i → f j ≡ g j) → f i ≡ g i → (j : ℕ) → j < i + 1 → f j ≡ g j
-one_more f g i h e j l = elim (here_or_before i j l) [ inl q ↦ ap f q ∙ e ∙ sym (ap g q) | inr q ↦ h j q ]
-
-pub all_zeros : (b : List ℕ) (n : ℕ) → length b ≤ n → ((j : ℕ) → j < n → get_or b j 0 ≡ 0) → b ≡ replicate (length b) 0
-all_zeros b n l h = ext_get_or 0 b (replicate (length b) 0) (sym (length-replicate {A = ℕ} (length b) 0)) (λ i q. h i (omega (arith, q, l)) ∙ sym (zero_at (length b) i))
-  where
-    zero_at : (n i : ℕ) → get_or {A = ℕ} (replicate n 0) i 0 ≡ 0
-    zero_at zero i = refl
-    zero_at (suc n) zero = refl
-    zero_at (suc n) (suc i) = zero_at n i
 
 pub all_packed : (b : List ℕ) (bs : List Bool) (n : ℕ) → length b ≤ n → ((j : ℕ) → j < n → get_or b j 0 ≡ bits_number (take 8 (drop (8 * j) bs))) → packed_bits (length b) bs ≡ b
 all_packed b bs n l h =

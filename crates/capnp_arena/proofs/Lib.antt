@@ -23,7 +23,6 @@ pub mod ElementsRead
 pub mod PartLists
 pub mod StructListsMade
 pub mod StructListTrees
-pub mod TreeSizes
 pub mod Copying
 pub mod Replaced
 pub mod Restored

@@ -4,45 +4,13 @@ use Rattle.capnp_wire.specs.Encoding.{list_word, struct_word}
 use Rattle.capnp_wire.specs.Facts.Bytes.{little_endian_spelled}
 use Rattle.capnp_wire.specs.Locate.{count, data_words, element_size_number, pointer_kind, offset, pointer_count}
 use Rattle.capnp_wire.specs.Slot.{little_endian, number_at}
-use Rattle.capnp_wire.specs.Facts.PointerWords.{not_equal}
+use Rattle.capnp_wire.specs.Facts.PointerWords.{list_count, list_element_size, list_fits, list_kind, list_offset, not_equal, struct_data_words, struct_fits, struct_kind, struct_offset, struct_pointer_count}
 use Rattle.capnp_arena.specs.Steps.Looked.{looked_shape}
 use Rattle.capnp_arena.specs.Shape.{CompositeIn, IsWordAt, ListIn, NoShape, Points, Shape, StructIn}
 
 -- a word that stands there
 word_read : (bytes : List ℕ) (w word : ℕ) → word < 2 ^ 64 → IsWordAt bytes w word → number_at 8 w bytes ≡ word
 word_read bytes w word h i = ap (λ n. little_endian (take 8 (drop n bytes))) {x = w * 8} {y = 8 * w} (omega arith) ∙ ap little_endian i.1 ∙ little_endian_spelled 8 word h
-
-module _ (o d p : ℕ) (ho : o < 2 ^ 30) (hd : d < 2 ^ 16) (hp : p < 2 ^ 16) where
-  struct_fits : struct_word o d p < 2 ^ 64
-  struct_fits = omega arith
-
-  struct_kind : pointer_kind (struct_word o d p) ≡ 0
-  struct_kind = omega arith
-
-  struct_offset : offset (struct_word o d p) ≡ o
-  struct_offset = omega arith
-
-  struct_data_words : data_words (struct_word o d p) ≡ d
-  struct_data_words = omega arith
-
-  struct_pointers : pointer_count (struct_word o d p) ≡ p
-  struct_pointers = omega arith
-
-module _ (o e n : ℕ) (ho : o < 2 ^ 30) (he : e < 8) (hn : n < 2 ^ 29) where
-  list_fits : list_word o e n < 2 ^ 64
-  list_fits = omega arith
-
-  list_kind : pointer_kind (list_word o e n) ≡ 1
-  list_kind = omega arith
-
-  list_offset : offset (list_word o e n) ≡ o
-  list_offset = omega arith
-
-  list_size : element_size_number (list_word o e n) ≡ e
-  list_size = omega arith
-
-  list_count : count (list_word o e n) ≡ n
-  list_count = omega arith
 
 of_struct : (bytes : List ℕ) (w word a d p : ℕ) → (word ≡ 0 → ⊥) → pointer_kind word ≡ 0 → data_words word ≡ d → pointer_count word ≡ p → cond (d + p == 0) w (w + 1 + offset word) ≡ a → looked_shape bytes w word ≡ StructIn a d p
 of_struct bytes w word a d p some k ed ep e = rw (not_equal word 0 some, k, ed, ep, e) refl
@@ -64,19 +32,19 @@ looked_is bytes w (StructIn a d p) h = elim h [
       let f : (d + p == 0) ≡ false = not_equal (d + p) 0 (λ e. omega (arith, e, z.4)) in
       let word : ℕ = struct_word (a - suc w) d p in
       ap (looked_shape bytes w) (word_read bytes w (struct_word (a - suc w) d p) (struct_fits (a - suc w) d p g z.2 z.3) z.6)
-      ∙ of_struct bytes w (struct_word (a - suc w) d p) a d p (λ e. omega (arith, e, z.4)) (struct_kind (a - suc w) d p g z.2 z.3) (struct_data_words (a - suc w) d p g z.2 z.3) (struct_pointers (a - suc w) d p g z.2 z.3)
+      ∙ of_struct bytes w (struct_word (a - suc w) d p) a d p (λ e. omega (arith, e, z.4)) (struct_kind (a - suc w) d p g z.2 z.3) (struct_data_words (a - suc w) d p g z.2 z.3) (struct_pointer_count (a - suc w) d p g z.2 z.3)
       (rw (f, struct_offset (a - suc w) d p g z.2 z.3) (omega (arith, z.0)))
 ]
 looked_is bytes w (ListIn a size n) h =
     let g : a - suc w < 2 ^ 30 = omega (arith, h.1) in
     let e8 : size < 8 = omega (arith, h.2) in
     ap (looked_shape bytes w) (word_read bytes w (list_word (a - suc w) size n) (list_fits (a - suc w) size n g e8 h.3) h.5)
-    ∙ of_list bytes w (list_word (a - suc w) size n) a size n (λ e. omega (arith, e)) (list_kind (a - suc w) size n g e8 h.3) (list_size (a - suc w) size n g e8 h.3) (list_count (a - suc w) size n g e8 h.3) (λ e. omega (arith, e, h.2))
+    ∙ of_list bytes w (list_word (a - suc w) size n) a size n (λ e. omega (arith, e)) (list_kind (a - suc w) size n g e8 h.3) (list_element_size (a - suc w) size n g e8 h.3) (list_count (a - suc w) size n g e8 h.3) (λ e. omega (arith, e, h.2))
     (rw (list_offset (a - suc w) size n g e8 h.3) (omega (arith, h.0)))
 looked_is bytes w (CompositeIn tag n d p) h =
     let g : tag - suc w < 2 ^ 30 = omega (arith, h.1) in
     let n30 : n < 2 ^ 30 = omega (arith, h.4) in
     ap (looked_shape bytes w) (word_read bytes w (list_word (tag - suc w) 7 (n * (d + p))) (list_fits (tag - suc w) 7 (n * (d + p)) g (omega arith) h.5) h.7)
-    ∙ of_composite bytes w (list_word (tag - suc w) 7 (n * (d + p))) tag (struct_word n d p) n d p (λ e. omega (arith, e)) (list_kind (tag - suc w) 7 (n * (d + p)) g (omega arith) h.5) (list_size (tag - suc w) 7 (n * (d + p)) g (omega arith) h.5)
+    ∙ of_composite bytes w (list_word (tag - suc w) 7 (n * (d + p))) tag (struct_word n d p) n d p (λ e. omega (arith, e)) (list_kind (tag - suc w) 7 (n * (d + p)) g (omega arith) h.5) (list_element_size (tag - suc w) 7 (n * (d + p)) g (omega arith) h.5)
     (rw (list_offset (tag - suc w) 7 (n * (d + p)) g (omega arith) h.5) (omega (arith, h.0)))
-    (word_read bytes tag (struct_word n d p) (struct_fits n d p n30 h.2 h.3) h.8) (struct_offset n d p n30 h.2 h.3) (struct_data_words n d p n30 h.2 h.3) (struct_pointers n d p n30 h.2 h.3)
+    (word_read bytes tag (struct_word n d p) (struct_fits n d p n30 h.2 h.3) h.8) (struct_offset n d p n30 h.2 h.3) (struct_data_words n d p n30 h.2 h.3) (struct_pointer_count n d p n30 h.2 h.3)

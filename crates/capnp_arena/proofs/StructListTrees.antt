@@ -1,6 +1,6 @@
 -- What a list becomes that becomes one of structs, by its pointer's target.
 use Rattle.std.proofs.Common.{◌≡◌, ℕ, zero, suc, ◌+◌, ◌-◌, ◌*◌, ◌^◌, ◌<◌, ◌≤◌, cond, false, true, nat_lt, refl, rules, sym, ap, subst, ◌∙◌, arith, List, ◌++◌, length, replicate, max, None, Some}
-use Rattle.std.proofs.Math.Nat.{le-max_right, max-eq_right}
+use Rattle.std.proofs.Math.Nat.{max-eq_right}
 use Rattle.std.proofs.lemmas.List.{append-nil}
 use Rattle.capnp_device.specs.declared.error.ErrorKind.TheVariants.{SizePastFormat, WrongElementSize, WrongPointerKind}
 use Rattle.capnp_wire.specs.Edits.{append_trees, extended_struct, nulls}
@@ -13,7 +13,7 @@ use Rattle.capnp_wire.specs.StructLists.{HoldsStructs, as_structs, grown_size, p
 use Rattle.capnp_wire.specs.Tree.{Composite, MoreTrees, NoTrees, StructTree, Tree, Trees, structs_from, tree_count}
 use Rattle.capnp_wire.specs.declared.size.StructSize.{StructSize}
 use Rattle.capnp_arena.specs.Forest.{Forest, struct_from, tree}
-use Rattle.capnp_arena.specs.Steps.Grown.{kind_pointers, kind_words, pointerless_parts}
+use Rattle.capnp_arena.specs.Steps.Grown.{kind_pointers, kind_words}
 use Rattle.capnp_arena.specs.Shape.{CompositeIn, ListIn, NoShape, Points, StructIn, shape_at, word_count}
 use Rattle.capnp_arena.proofs.Counted.{ends_at}
 use Rattle.capnp_arena.specs.Facts.Forests.{points}
@@ -30,16 +30,6 @@ pub two_sizes : (s t : StructSize) → s.data_words ≡ t.data_words → s.point
 two_sizes s t e h = ap (λ x. record { data_words = x; pointers = s.pointers }) e ∙ ap (λ x. record { data_words = t.data_words; pointers = x }) h
 
 -- ---- lists that are not of structs ----
-
--- an element fits into what it takes
-pub plain_fits : (a size dw ps : ℕ) → ((pointerless_parts a size).data_count ≤ 8 * max dw (kind_words size)) × ((pointerless_parts a size).pointers ≤ max ps (kind_pointers size))
-plain_fits a zero dw ps = (omega arith, omega arith)
-plain_fits a (suc zero) dw ps = (omega arith, omega arith)
-plain_fits a (suc (suc zero)) dw ps = (omega (arith, le-max_right dw 1), omega arith)
-plain_fits a (suc (suc (suc zero))) dw ps = (omega (arith, le-max_right dw 1), omega arith)
-plain_fits a (suc (suc (suc (suc zero)))) dw ps = (omega (arith, le-max_right dw 1), omega arith)
-plain_fits a (suc (suc (suc (suc (suc zero))))) dw ps = (omega (arith, le-max_right dw 1), omega arith)
-plain_fits a (suc (suc (suc (suc (suc (suc size)))))) dw ps = (omega arith, le-max_right ps 1)
 
 plain_list_tree : (f : ℕ → Tree) (bytes : List ℕ) (a size n : ℕ) (s : StructSize) → (size ≡ 1 → ⊥) → struct_list s (list_tree f bytes a size n) ≡ as_structs (grown_size s (list_tree f bytes a size n)) (list_tree f bytes a size n)
 plain_list_tree f bytes a zero n s h = refl

@@ -1,11 +1,12 @@
 //! What is built at the root, and the bytes that are written then.
 
-use crate::fixtures::{ONE_EACH, answer, is_spelled};
+use crate::fixtures::{ONE_EACH, is_spelled};
 use capnp_arena::arena::Arena;
 use capnp_arena::callers::{init_and_set, set_element_number};
 use capnp_arena::lists::{ListPlace, StructsPlace};
 use capnp_device::error::Result;
 use capnp_wire::size::ElementSize;
+use capnp_wire_fixtures::bytes::answer;
 use std::alloc::Global;
 use std::process::Abort;
 

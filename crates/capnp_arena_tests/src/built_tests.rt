@@ -5,9 +5,10 @@
 
 use crate::built::{Built, build};
 use crate::calls::FIVE_AND_TEXT;
-use crate::fixtures::{answer, is_written_as};
+use crate::fixtures::is_written_as;
 use capnp_arena::message::Builder;
 use capnp_device::error::Result;
+use capnp_wire_fixtures::bytes::answer;
 use std::alloc::Global;
 use std::process::Abort;
 

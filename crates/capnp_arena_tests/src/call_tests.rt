@@ -20,7 +20,7 @@ use crate::copied_rows::{
     BECOME_STRUCTS, CONTENTS, COPIED_LISTS, COPIED_NULLS, COPIED_ZEROS, ELEMENTS, MORE_CONTENTS,
     MOST_BECOME_STRUCTS,
 };
-use crate::fixtures::{ONE_EACH, answer};
+use crate::fixtures::ONE_EACH;
 use capnp_arena::message::Builder;
 use capnp_device::error::ErrorKind::{
     OutOfMemory, SizePastFormat, TextNotTerminated, WrongElementSize, WrongPointerKind,
@@ -28,6 +28,7 @@ use capnp_device::error::ErrorKind::{
 use capnp_device::error::Result;
 use capnp_wire::size::ElementSize::{Bit, Byte, EightBytes, FourBytes, Pointer, TwoBytes, Void};
 use capnp_wire::size::StructSize;
+use capnp_wire_fixtures::bytes::answer;
 use std::alloc::Global;
 use std::process::Abort;
 

@@ -2,7 +2,7 @@
 ghost use Rattle.capnp_arena.specs.Handles.{IsBuiltStruct};
 
 use crate::calls::init_list;
-use crate::fixtures::{ONE_EACH, answer, is_spelled, is_written_as};
+use crate::fixtures::{ONE_EACH, is_spelled, is_written_as};
 use capnp_arena::callers::refill;
 use capnp_arena::handle_callers::{
     build_data_by_builders, fill_struct, set_first_byte, set_text_at, set_text_field, write_struct,
@@ -13,6 +13,7 @@ use capnp_arena::message::Builder;
 use capnp_device::error::Result;
 use capnp_wire::size::{ElementSize, StructSize};
 use capnp_wire_callers::built::{count_new, count_structs};
+use capnp_wire_fixtures::bytes::answer;
 use std::alloc::Global;
 
 /// How many numbers a new list has.

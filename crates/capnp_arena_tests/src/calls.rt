@@ -9,7 +9,7 @@ ghost use Rattle.capnp_arena.specs.Message.{IsMessage};
 ghost use Rattle.capnp_arena.specs.Segment.{segment};
 ghost use Rattle.capnp_arena.specs.Shape.{shape_at};
 
-use crate::fixtures::{ONE_EACH, answer, bytes_of, is_written_as, root_of};
+use crate::fixtures::{ONE_EACH, is_written_as};
 use crate::lent::{lend, read_data, read_text};
 use capnp_arena::handles::{ListBuilder, StructBuilder};
 use capnp_arena::message::Builder;
@@ -17,6 +17,7 @@ use capnp_device::error::{ErrorKind, Result};
 use capnp_wire::laws::pointer_is_well_formed;
 use capnp_wire::size::{ElementSize, StructSize};
 use capnp_wire::{PointerReader, StructReader};
+use capnp_wire_fixtures::bytes::{answer, bytes_of, root_of};
 use std::alloc::Global;
 use std::process::Abort;
 

@@ -6,13 +6,14 @@ ghost use Rattle.capnp_arena.specs.Message.{IsMessage};
 ghost use Rattle.capnp_arena.specs.Segment.{segment};
 
 use crate::calls::set_text;
-use crate::fixtures::{answer, refusal};
+use crate::fixtures::refusal;
 use capnp_arena::handles::StructBuilder;
 use capnp_arena::message::Builder;
 use capnp_device::error::ErrorKind::{self, OutOfMemory, TooDeep};
 use capnp_device::error::Result;
 use capnp_wire::PointerReader;
 use capnp_wire::size::StructSize;
+use capnp_wire_fixtures::bytes::answer;
 use std::alloc::Global;
 
 const ONE_POINTER: StructSize = StructSize {

@@ -3,13 +3,14 @@ ghost use Rattle.std.specs.Prelude.{IfOk, None, ◌<◌};
 ghost use Rattle.capnp_arena.specs.Message.{IsMessage};
 
 use crate::calls::{clear, set_text};
-use crate::fixtures::{answer, bytes_of, refusal};
+use crate::fixtures::refusal;
 use capnp_arena::message::Builder;
 use capnp_device::device::{DeviceFault, Sink};
 use capnp_device::error::ErrorKind::{self, WriteFailed};
 use capnp_device::error::Result;
 use capnp_device::memory::MemorySink;
 use capnp_wire::size::ElementSize;
+use capnp_wire_fixtures::bytes::{answer, bytes_of};
 use std::alloc::Global;
 use std::process::Abort;
 

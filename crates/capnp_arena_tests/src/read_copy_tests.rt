@@ -2,11 +2,12 @@
 ghost use Rattle.capnp_arena.specs.Message.{IsMessage};
 
 use crate::calls::get_list;
-use crate::fixtures::{answer, bytes_of, is_written_as};
+use crate::fixtures::is_written_as;
 use capnp_arena::message::Builder;
 use capnp_device::error::Result;
 use capnp_wire::PointerReader;
 use capnp_wire::size::ElementSize;
+use capnp_wire_fixtures::bytes::{answer, bytes_of};
 use std::alloc::Global;
 use std::process::Abort;
 

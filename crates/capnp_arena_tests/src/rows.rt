@@ -1,5 +1,7 @@
 //! Messages, and their copies as they are written.
 
+use capnp_wire_fixtures::messages::SEVEN_SEGMENTS;
+
 /// The messages of a row: its name, the stream, and what is written of a copy of its root.
 pub(crate) type Row = (&'static str, &'static str, &'static str);
 
@@ -28,21 +30,7 @@ const PLAIN_ELEMENTS: &str =
     "00 00 00 00 04 00 00 00 | 01 00 00 00 17 00 00 00 | 08 00 00 00 01 00 00 00 | 05 00 00 00 00 \
      00 00 00 | 06 00 00 00 00 00 00 00";
 
-// echo '(id = 7, name = "far away", scores = [4, 5], points = [(x = 6, y = 7)], next = (id = 8, name = "end"))' |
-//   capnp encode --segment-size=2 examples/reading.capnp Reading | xxd -c 8 -g 1
-const SEVEN_SEGMENTS: &str =
-    "06 00 00 00 01 00 00 00 | 07 00 00 00 03 00 00 00 | 02 00 00 00 03 00 00 00 | \
-     07 00 00 00 02 00 00 00 | 02 00 00 00 01 00 00 00 | 00 00 00 00 02 00 04 00 | \
-     07 00 00 00 00 00 00 00 | 00 00 00 00 00 00 00 00 | 02 00 00 00 02 00 00 00 | \
-     02 00 00 00 03 00 00 00 | 02 00 00 00 04 00 00 00 | 02 00 00 00 05 00 00 00 | \
-     01 00 00 00 4a 00 00 00 | 66 61 72 20 61 77 61 79 | 00 00 00 00 00 00 00 00 | \
-     01 00 00 00 13 00 00 00 | 04 00 05 00 00 00 00 00 | 01 00 00 00 0f 00 00 00 | \
-     04 00 00 00 01 00 00 00 | 06 00 00 00 07 00 00 00 | 00 00 00 00 02 00 04 00 | \
-     08 00 00 00 00 00 00 00 | 00 00 00 00 00 00 00 00 | 02 00 00 00 06 00 00 00 | \
-     00 00 00 00 00 00 00 00 | 00 00 00 00 00 00 00 00 | 00 00 00 00 00 00 00 00 | \
-     01 00 00 00 22 00 00 00 | 65 6e 64 00 00 00 00 00";
-
-// the same, without the size of segments
+/// What the tool writes of the message in seven segments without the size of segments.
 const COPIED_BY_TOOL: &str =
     "00 00 00 00 13 00 00 00 | 00 00 00 00 02 00 04 00 | 07 00 00 00 00 00 00 00 | \
      00 00 00 00 00 00 00 00 | 0d 00 00 00 4a 00 00 00 | 11 00 00 00 13 00 00 00 | \

@@ -1,11 +1,10 @@
 -- the indices from one on, below a size, and what takes them from either end
-use Rattle.std.proofs.Common.{◌≡◌, ℕ, zero, suc, ◌+◌, ◌-◌, ◌<◌, ◌≤◌, List, [], ◌∷◌, ◌++◌, length, get_or, drop, Option, Some, None, sym, ap, ◌∙◌, arith}
+use Rattle.std.proofs.Common.{◌≡◌, ℕ, zero, suc, ◌+◌, ◌-◌, ◌<◌, ◌≤◌, List, [], ◌∷◌, ◌++◌, length, get_or, Option, Some, None, ap, ◌∙◌, arith}
 use Rattle.std.specs.Prelude.{⊤, All}
 use Rattle.std.specs.List.{range_with_len}
 use Rattle.std.specs.Iterator.{MakesProgress, at_most}
 use Rattle.std.proofs.lemmas.List.{length-append}
 use Rattle.std.proofs.lemmas.List.FromFn.{length-range_with_len, get_or-range_with_len}
-use Rattle.std.proofs.Math.Seq.{drop-append_seam}
 use Rattle.capnp_base.specs.Taking.{indices, TakesFirst, TakesLast}
 
 pub count_of_indices : (i n : ℕ) → length (indices i n) ≡ n - i
@@ -63,31 +62,3 @@ indices_below i n m h k d b =
     let b' : k < n - i = omega (arith, b, l) in
     let e : get_or (range_with_len i (n - i)) k d ≡ i + k = get_or-range_with_len i (n - i) k d b' in
     omega (arith, e, b', h)
-
--- ---- for callers: what an item at either end says of its index ----
-
-pub first_of_indices : (a n i : ℕ) (xs : List ℕ) → indices a n ≡ i ∷ xs → (a < n) × (i ≡ a)
-first_of_indices a n i xs h =
-    let l : n - a ≡ suc (length xs) = sym (count_of_indices a n) ∙ ap length h in
-    let b : a < n = omega (arith, l) in
-    let e : i ∷ xs ≡ a ∷ indices (a + 1) n = sym h ∙ indices-first a n b in
-    (b, ap (λ k. get_or k 0 0) e)
-
-pub last_of_indices : (a n i : ℕ) (xs : List ℕ) → indices a n ≡ xs ++ i ∷ [] → (a < n) × (i + 1 ≡ n)
-last_of_indices a n i xs h =
-    let c : length (xs ++ i ∷ []) ≡ length xs + 1 = length-append xs (i ∷ []) in
-    let l : n - a ≡ length xs + 1 = sym (count_of_indices a n) ∙ ap length h ∙ c in
-    let b : a < n = omega (arith, l) in
-    let f : n - 1 + 1 ≡ n = omega (arith, b) in
-    let ys = indices a (n - 1) in
-    let e : xs ++ i ∷ [] ≡ ys ++ (n - 1) ∷ [] = sym h ∙ indices-last a n (n - 1) b f in
-    let k : length ys ≡ n - 1 - a = count_of_indices a (n - 1) in
-    let same : length xs ≡ length ys = omega (arith, l, k, b) in
-    let d : i ∷ [] ≡ (n - 1) ∷ [] =
-    sym (drop-append_seam xs (i ∷ [])) ∙ ap (drop (length xs)) e ∙ ap (λ j. drop j (ys ++ (n - 1) ∷ [])) same ∙ drop-append_seam ys ((n - 1) ∷ []) in
-    (b, omega (arith, ap (λ j. get_or j 0 0) d, f))
-
-pub none_of_indices : (a n : ℕ) → indices a n ≡ [] → n ≤ a
-none_of_indices a n h =
-    let l : n - a ≡ 0 = sym (count_of_indices a n) ∙ ap length h in
-    omega (arith, l)

@@ -1,6 +1,5 @@
 -- What a write keeps: a struct stands at its place, with its schema's sections.
-use Rattle.std.specs.Prelude.{◌*◌, ◌≤◌, ◌≡◌, Bool}
-use Rattle.std.proofs.Common.{subst, sym}
+use Rattle.std.proofs.Common.{◌*◌, ◌≤◌, ◌≡◌, Bool, subst, sym}
 use Rattle.capnp_arena.specs.Built.{IsBuilt, built_at}
 use Rattle.capnp_arena.specs.declared.arena.Arena.{Arena}
 use Rattle.capnp_arena.specs.declared.arena.Place.{Place}

@@ -1,6 +1,5 @@
 -- A struct that is started has its schema's sections, and a run keeps them.
-use Rattle.std.specs.Prelude.{ℕ, ◌*◌, ◌≤◌, ◌≡◌}
-use Rattle.std.proofs.Common.{ap, subst, sym, ◌∙◌}
+use Rattle.std.proofs.Common.{ℕ, ◌*◌, ◌≤◌, ◌≡◌, ap, subst, sym, ◌∙◌}
 use Rattle.capnp_wire.specs.Edits.{HasAtLeast, zero_struct}
 use Rattle.capnp_wire.specs.Facts.Lengths.{HasAtLeast-zero_struct}
 use Rattle.capnp_wire.specs.Place.{struct_tree}

@@ -1,8 +1,7 @@
 -- Texts and data that stand somewhere.
-use Rattle.std.specs.Prelude.{ℕ, List, ◌≡◌, Result, Ok, Err, IsOk}
+use Rattle.std.proofs.Common.{ℕ, List, ◌≡◌, Result, Ok, Err, IsOk, refl, sym}
 use Rattle.capnp_device.specs.declared.error.ErrorKind.{ErrorKind}
 use Rattle.capnp_builders.specs.Blobs.{bytes_in}
-use Rattle.std.proofs.Common.{refl, sym}
 use Rattle.std.proofs.lemmas.Bool.{true≢false}
 
 pub bytes_there : (r : Result (List ℕ) ErrorKind) → IsOk r → r ≡ Ok (bytes_in r)

@@ -1,6 +1,5 @@
 -- Bytes that are pushed one after another.
-use Rattle.std.specs.Prelude.{ℕ, suc, ◌+◌, ◌≡◌, ◌∷◌, refl, List, length, drop, slice_set}
-use Rattle.std.proofs.Common.{ap, arith, inl, subst, sym, ◌∙◌}
+use Rattle.std.proofs.Common.{ℕ, suc, ◌+◌, ◌≡◌, ◌∷◌, List, length, drop, slice_set, ap, arith, subst, sym, ◌∙◌}
 use Rattle.std.proofs.lemmas.List.{length-set}
 use Rattle.capnp_arena.specs.Facts.Places.{at_then}
 use Rattle.capnp_arena.specs.Forest.{Changes}
@@ -18,17 +17,6 @@ pub record ArePushed (old new : Builder) (given : List ℕ) (i : ℕ) : Type 0 w
   pub left : written_bytes (text_bytes new) (position new) (drop i given) ≡ written_bytes (text_bytes old) (position old) given
   pub there : IsBuiltText new
   pub changes : Changes (text_word old) (segment (text_behind old).now) (segment (text_behind new).now)
-
-pub none_pushed : (b : Builder) (bytes : List ℕ) → IsBuiltText b → ArePushed b b bytes 0
-none_pushed b bytes there = record {
-  same = refl;
-  at = refl;
-  pushed = omega arith;
-  size = refl;
-  left = refl;
-  there = there;
-  changes = record { longer = omega arith; stays = λ k l o p. refl; grows = λ k o. inl o };
-}
 
 pub one_pushed : (old mid new : Builder) (bytes : List ℕ) (i v : ℕ) → drop i bytes ≡ v ∷ drop (suc i) bytes → ArePushed old mid bytes i → (text_behind new).ghost_name ≡ (text_behind mid).ghost_name → text_word new ≡ text_word mid →
     position new ≡ position mid + 1 → text_bytes new ≡ slice_set (text_bytes mid) (position mid) v → IsBuiltText new → Changes (text_word mid) (segment (text_behind mid).now) (segment (text_behind new).now) → ArePushed old new bytes (suc i)

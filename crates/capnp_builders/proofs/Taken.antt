@@ -1,6 +1,5 @@
 -- Defaults that stand in for what is at a pointer.
-use Rattle.std.specs.Prelude.{ℕ, List, ◌≡◌, refl, Bool, true, false, cond, Option, Some, None, Result, Err}
-use Rattle.std.proofs.Common.{ap, arith, inl, sym, ◌∙◌}
+use Rattle.std.proofs.Common.{ℕ, List, ◌≡◌, refl, Bool, true, false, cond, Option, Some, None, Result, Err, ap, arith, inl, sym, ◌∙◌}
 use Rattle.capnp_device.specs.declared.error.Error.{Error}
 use Rattle.capnp_device.specs.declared.error.ErrorKind.{ErrorKind}
 use Rattle.capnp_wire.specs.Edits.{IsDueRefusal}

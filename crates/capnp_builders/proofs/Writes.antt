@@ -1,6 +1,5 @@
 -- A byte of a text that is written is that of the text alone.
-use Rattle.std.specs.Prelude.{ℕ, zero, suc, ◌+◌, ◌*◌, ◌-◌, ◌%◌, ◌<◌, ◌≤◌, ◌≡◌, ◌==◌, refl, List, [], ◌∷◌, ◌++◌, Bool, true, false, cond, Ok, Err, IsOk, length, take, drop, get_or, replicate, slice_set}
-use Rattle.std.proofs.Common.{ap, append-nil, append_assoc, arith, sym, subst, ◌∙◌}
+use Rattle.std.proofs.Common.{ℕ, zero, suc, ◌+◌, ◌*◌, ◌-◌, ◌%◌, ◌<◌, ◌≤◌, ◌≡◌, ◌==◌, refl, List, [], ◌∷◌, ◌++◌, Bool, true, false, cond, Ok, Err, IsOk, length, take, drop, get_or, replicate, slice_set, ap, append-nil, append_assoc, arith, sym, subst, ◌∙◌}
 use Rattle.std.proofs.lemmas.Bool.{true≢false}
 use Rattle.std.proofs.lemmas.List.{length-replicate, length-set, length-take-le, take-append-drop}
 use Rattle.capnp_device.specs.declared.error.ErrorKind.TheVariants as kind
@@ -62,17 +61,10 @@ module _ (bytes : List ℕ) (i v : ℕ) (small : v < 256) where
       ∙ (ap (λ (n : ℕ). cond (n == 0) (Ok (take (length bytes - 1) (slice_set bytes i v))) (Err kind.TextNotTerminated)) (get-other bytes i (length bytes - 1) v 1 b)
       ∙ still b (get_or bytes (length bytes - 1) 1 == 0) h))
 
-  terminated-room : i < length (bytes_in (terminated_text bytes)) → (i + 1) * 1 ≤ length bytes
-  terminated-room a = let b = ended (get_or bytes (length bytes - 1) 1 == 0) a in omega (arith, b)
-
   numbers : (q : Bool) → IsOk (cond q (terminated_text bytes) (Err kind.WrongElementSize)) → i < length (bytes_in (cond q (terminated_text bytes) (Err kind.WrongElementSize))) →
       cond q (terminated_text (with_number 1 i v bytes)) (Err kind.WrongElementSize) ≡ Ok (slice_set (bytes_in (cond q (terminated_text bytes) (Err kind.WrongElementSize))) i v)
   numbers true h a = terminated h a
   numbers false h a = absurd (true≢false (sym h))
-
-  numbers-room : (q : Bool) → i < length (bytes_in (cond q (terminated_text bytes) (Err kind.WrongElementSize))) → (i + 1) * 1 ≤ length bytes
-  numbers-room true a = terminated-room a
-  numbers-room false a = absurd (omega (arith, a))
 
 pub text_put : (x : Tree) (i v : ℕ) → v < 256 → IsOk (as_text x) → i < length (bytes_in (as_text x)) → as_text (with_number_element 1 i v x) ≡ Ok (slice_set (bytes_in (as_text x)) i v)
 text_put tree.Null i v small h a = absurd (omega (arith, a))

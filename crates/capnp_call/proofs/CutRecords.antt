@@ -19,7 +19,7 @@ use Rattle.capnp_records.specs.Facts.ListValues.{body_of, nth_body-is, only_read
 use Rattle.capnp_records.specs.Facts.Pointers.{values_of-nth}
 use Rattle.capnp_records.specs.Reading.{Body, Reading, active_among, bodies_of, discriminant, element_value, elements_value, entered_value, first_pointer, group_record, kind_value, nth_body, nth_reading, number_value, of_read, only_reading, non_union_parts, pointers_below, record_of, record_within, slot_value, struct_below, struct_record, structs_below, tree_value, union_of, value_of, values_of}
 use Rattle.capnp_records.specs.Record as value
-use Rattle.capnp_records.specs.Record.{Active, Left, Levels, MoreValues, NoUnion, Parts, Record, Union, Value, Values, is_there, one_less, values_from}
+use Rattle.capnp_records.specs.Record.{Active, Left, Levels, MoreValues, NoUnion, Parts, Record, Union, Value, is_there, one_less, values_from}
 use Rattle.capnp_call.proofs.Trimmed.{trimmed, trimmed-there, trimmed_record, trimmed_union, trimmed_values}
 
 -- ---- records ----

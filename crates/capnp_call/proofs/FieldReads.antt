@@ -3,7 +3,7 @@ use Rattle.std.specs.Prelude.{ℕ, ◌<◌, ◌≡◌, refl, Bool, true, false, 
 use Rattle.std.proofs.Common.{ap, inl, inr, sym, subst, ◌∙◌}
 use Rattle.capnp_device.specs.declared.error.Error.{Error}
 use Rattle.capnp_device.specs.declared.error.ErrorKind.{ErrorKind}
-use Rattle.capnp_device.specs.declared.error.ErrorKind.TheVariants.{InactiveMember, OutOfMemory}
+use Rattle.capnp_device.specs.declared.error.ErrorKind.TheVariants.{OutOfMemory}
 use Rattle.capnp_wire.specs.Standing.{struct_levels, struct_of}
 use Rattle.capnp_wire.specs.Tree.{StructTree}
 use Rattle.capnp_base.specs.declared.introspect.TypeVariant.{TypeVariant}
@@ -16,13 +16,13 @@ use Rattle.capnp_schema.specs.declared.schema.fields.Field.{Field}
 use Rattle.capnp_schema.specs.declared.schema.structs.StructSchema.{StructSchema}
 use Rattle.capnp_records.specs.Call.{Get, GivesValue, Plain, Reply, Refused}
 use Rattle.capnp_records.specs.Default.{read_of}
-use Rattle.capnp_records.specs.Facts.Frame.{choose-false, choose-true}
+use Rattle.capnp_records.specs.Facts.Frame.{choose-false}
 use Rattle.capnp_records.specs.Facts.PartRead.{CanEnter, can-enter}
 use Rattle.capnp_records.specs.Operation.{Answers, Does, answer_of, takes_memory}
 use Rattle.capnp_records.specs.Part.{has_of, is_inactive}
 use Rattle.capnp_records.specs.Reading.{reads, struct_record}
 use Rattle.capnp_records.specs.Record.{Left, Record, Value}
-use Rattle.capnp_records.specs.Step.{StepTarget, fault_of}
+use Rattle.capnp_records.specs.Step.{fault_of}
 use Rattle.capnp_dynamic_readers.specs.Handles.{reader_of, schema_of}
 use Rattle.capnp_dynamic_readers.specs.Reads.{field_read, field_seen}
 use Rattle.capnp_dynamic_readers.specs.Seen.{answered_value, record_seen, value_seen}
@@ -72,9 +72,6 @@ active_reads r f x s schema struct cut is inside q answered_value =
     ∙ not-not _
 
 -- ---- get ----
-
-pub get_inactive : (set : Schemas) (x : StepTarget) (old : Value) (reply : Reply) → x.inactive ≡ true → reply ≡ Refused InactiveMember → Does set Get x old reply old
-get_inactive set x old reply e is = choose-true x.inactive _ _ e (is, refl)
 
 read_is : (r : StructHandle) (f : Field) (s : StructTree) → StandsOn r (field_schema f) s → field_seen r (index_of f) ≡ field_read (field_set f) (Left 64) s (typed_of f)
 read_is r f s on =

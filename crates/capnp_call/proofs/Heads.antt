@@ -45,16 +45,6 @@ null_alike n (tree.Pointers ps) y (qs, e, row) = ap is_null_tree e
 null_alike n (tree.Composite d p es) y (fs, e, row) = ap is_null_tree e
 null_alike n (tree.FaultLeaf k) y h = ap is_null_tree h
 
-length_alike : (n : ℕ) (x y : Tree) → SameTo (suc n) x y → list_length y ≡ list_length x
-length_alike n tree.Null y h = ap list_length h
-length_alike n (tree.Struct bytes ps) y (qs, e, row) = ap list_length e
-length_alike n (tree.Voids k) y h = ap list_length h
-length_alike n (tree.Bits bs) y h = ap list_length h
-length_alike n (tree.Numbers w bytes) y h = ap list_length h
-length_alike n (tree.Pointers ps) y (qs, e, row) = ap list_length e ∙ row.0
-length_alike n (tree.Composite d p es) y (fs, e, row) = ap list_length e ∙ row.0
-length_alike n (tree.FaultLeaf k) y h = ap list_length h
-
 module _ (set : Schemas) where
   list_alike : (f g : ℕ → Value) (t : SchemaType) (x y : Tree) (q : Bool) (kind : ErrorKind) → list_length y ≡ list_length x →
       SameAnswer t (of_read (λ (_ : Tree). value.Elements (values_from f 0 (list_length x))) (cond q (Ok x) (Err kind))) (of_read (λ (_ : Tree). value.Elements (values_from g 0 (list_length y))) (cond q (Ok y) (Err kind)))
@@ -132,10 +122,6 @@ module _ (set : Schemas) where
 pub bytes_cut : (x s : StructTree) → IsStructCutOf x s → s.bytes ≡ x.bytes
 unfolding IsStructCutOf
 bytes_cut x s h = h.0
-
-pub length_cut : (x t : Tree) → IsCutOf x t → list_length t ≡ list_length x
-unfolding IsCutOf
-length_cut x t h = length_alike 64 x t h
 
 -- whether a field is there
 place_alike : (n : ℕ) (x s : StructTree) → SameParts (SameTo (suc n)) x s → (p : Place) → place_there x p ≡ place_there s p

@@ -1,5 +1,5 @@
 -- What a reader with 64 levels is answered is what the whole record says.
-use Rattle.std.specs.Prelude.{ℕ, ◌≡◌, ◌⊎◌, ◌<◌, refl, List, Bool, true, false, not, cond, length, IsTrue, ◌==◌, Result, Option, Some, None, Ok, Err}
+use Rattle.std.specs.Prelude.{ℕ, ◌≡◌, ◌⊎◌, refl, List, Bool, true, false, cond, length, IsTrue, ◌==◌, Result, Option, Some, None, Ok, Err}
 use Rattle.std.proofs.Common.{ap, sym, subst, ◌∙◌}
 use Rattle.std.proofs.lemmas.Bool.{true≢false}
 use Rattle.capnp_wire.specs.Tree as tree
@@ -8,39 +8,22 @@ use Rattle.capnp_device.specs.declared.error.ErrorKind.{ErrorKind}
 use Rattle.capnp_device.specs.declared.error.ErrorKind.TheVariants.{OutOfMemory, TooDeep, WrongElementSize}
 use Rattle.capnp_wire.specs.Reading.{as_list, as_struct, is_null_tree, list_length, reads_bits, reads_numbers, reads_pointers, reads_structs, reads_voids, with_level}
 use Rattle.capnp_wire.specs.declared.size.ElementSize.{ElementSize}
-use Rattle.capnp_base.specs.declared.introspect.TypeVariant.{TypeVariant}
-use Rattle.capnp_schema.specs.Accepted.{IsAccepted, words_root}
-use Rattle.capnp_schema.specs.Schema.{Schemas, StructValue, ListValue, FieldKind, Slot, Group, TypedField, default_of, field_at, fields_of}
+use Rattle.capnp_schema.specs.Accepted.{words_root}
+use Rattle.capnp_schema.specs.Schema.{Schemas, StructValue, ListValue, FieldKind, Slot, Group, TypedField, default_of}
 use Rattle.capnp_schema.specs.Schema.{Value as SchemaValue}
-use Rattle.capnp_schema.specs.Types.{SchemaType, TextType, DataType, StructType, ListType, AnyPointerType, element_size, seen_variant}
+use Rattle.capnp_schema.specs.Types.{SchemaType, TextType, DataType, StructType, ListType, AnyPointerType, element_size}
 use Rattle.capnp_records.specs.Default.{default_value, empty_value, read_of, unless_null}
 use Rattle.capnp_records.specs.Facts.DefaultTree.{read-there}
 use Rattle.capnp_records.specs.Facts.Readers.{null-is, value-there}
 use Rattle.capnp_records.specs.Facts.ListValues.{below_of, count-values_from}
 use Rattle.capnp_records.specs.Facts.Pointers.{values_of-nth}
 use Rattle.capnp_records.specs.Operation.{Answers, answer_of, takes_memory}
-use Rattle.capnp_records.specs.Part.{has_of, is_inactive}
-use Rattle.capnp_records.specs.Reading.{Below, Reading, element_value, elements_value, kind_value, nth_reading, of_read, part_of, record_of, record_within, struct_record, tree_value, value_of, values_of}
+use Rattle.capnp_records.specs.Reading.{Below, Reading, element_value, elements_value, kind_value, nth_reading, of_read, part_of, record_of, record_within, tree_value, value_of, values_of}
 use Rattle.capnp_records.specs.Record as value
-use Rattle.capnp_records.specs.Record.{Endless, Left, Levels, Record, Value, one_less, values_from}
+use Rattle.capnp_records.specs.Record.{Endless, Left, Record, Value, one_less, values_from}
 use Rattle.capnp_records.specs.Call.{GivesValue, ListPlain, Reply}
 use Rattle.capnp_records.specs.Step.{IsRefused, fault_of}
-use Rattle.capnp_dynamic_readers.specs.Facts.HasWhich.{active_by_plan, has_by_plan}
 use Rattle.capnp_dynamic_readers.specs.Reads.{field_read, handed_out}
-
--- ---- has ----
-
-pub has_levels : (set : Schemas) (l : Levels) (s : StructTree) → IsAccepted set → (b i : ℕ) → b < length set.brands → i < length (fields_of set b) → (v : TypeVariant) → seen_variant v ≡ (field_at set b i).type →
-    has_of (struct_record set l s b) (field_at set b i).field i ≡ has_of (struct_record set Endless s b) (field_at set b i).field i
-has_levels set l s accepted b i b_in i_in v e =
-    sym (has_by_plan set l s accepted b i b_in i_in v e) ∙ has_by_plan set Endless s accepted b i b_in i_in v e
-
--- ---- whether a field can be read as it stands ----
-
-pub active_levels : (set : Schemas) (l : Levels) (s : StructTree) → IsAccepted set → (b i : ℕ) → b < length set.brands → i < length (fields_of set b) →
-    not (is_inactive (struct_record set l s b) (field_at set b i).field i) ≡ not (is_inactive (struct_record set Endless s b) (field_at set b i).field i)
-active_levels set l s accepted b i b_in i_in =
-    sym (active_by_plan set l s accepted b i b_in i_in) ∙ active_by_plan set Endless s accepted b i b_in i_in
 
 -- ---- get ----
 
@@ -48,9 +31,6 @@ active_levels set l s accepted b i b_in i_in =
 pub record SameAnswer (t : SchemaType) (v w : Value) : Type 0 where
   pub plain_is : answer_of t v ≡ answer_of t w
   pub fault_is : fault_of v ≡ fault_of w
-
-pub same : {t : SchemaType} {v : Value} → SameAnswer t v v
-same = record { plain_is = refl; fault_is = refl }
 
 pub same_from : {t : SchemaType} {v w : Value} → v ≡ w → SameAnswer t v w
 same_from {t} {v} {w} e = record { plain_is = ap (answer_of t) e; fault_is = ap fault_of e }

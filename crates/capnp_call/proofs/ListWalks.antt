@@ -27,8 +27,7 @@ use Rattle.capnp_records.specs.Facts.ListValues.{count-values_from, list-from, n
 use Rattle.capnp_records.specs.Part.{value_count}
 use Rattle.capnp_records.specs.Reading.{value_of}
 use Rattle.capnp_records.specs.Record as value
-use Rattle.capnp_records.specs.Record.{Endless, NoValues, Value, Values, values_from}
-use Rattle.capnp_records.specs.Run.{Asks}
+use Rattle.capnp_records.specs.Record.{Endless, NoValues, Values, values_from}
 use Rattle.capnp_records.specs.Step.{CanRefuse, Found, StepTarget, fault_of, filled_value, for_memory, for_size, in_list, size_of, takes_room, step_target, walked_by_type, walked_result, walked_target}
 use Rattle.capnp_records.specs.Writes.Fill.{IsAtRest, entered_list}
 use Rattle.capnp_records.specs.Writes.Slots.{Fits}
@@ -147,12 +146,6 @@ module _ (set : Schemas) (e : SchemaType) (x : Tree) where
         go (step.Field i) is = ends_refused end (FieldNumber i) NotAContainer names (ap step_seen is) refl
         go (step.Named name) is = ends_refused end (FieldNamed name.now) NotAContainer names (ap step_seen is) refl
         go (step.Element i) is = absurd (other i is)
-
-    -- a list has no members
-    pub ends_which : (end : Ending) → end.call.now.op ≡ op.Which → ListEnds set e end x (reply.Refused NotAContainer) x
-    ends_which end is =
-        subst (λ (o : Op). TreeEnds set (step_seen end.call.now.last) (op_seen o) (ListType e) (OnList x) (Refused NotAContainer) (OnList x)) (sym is)
-        (subst (λ (v : Value). Asks v (Refused NotAContainer) v) (sym value_is) (refl, refl), refl)
 
 -- ---- a null that no default filled ----
 

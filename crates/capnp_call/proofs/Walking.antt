@@ -47,11 +47,6 @@ pub walks_end : (set : Schemas) (b : ℕ) (path : List Step) (end : Ending) (s :
 unfolding StructWalks
 walks_end set b path end s r s' is ends = subst (λ (p : List Step). StructWalks set b p end s r s') (sym is) ends
 
--- it goes on
-pub walks_on : (set : Schemas) (b : ℕ) (path : List Step) (step : Step) (rest : List Step) (end : Ending) (s : StructTree) (r : Reply) (s' : StructTree) → path ≡ step ∷ rest →
-    StructWalks set b (step ∷ rest) end s r s' → StructWalks set b path end s r s'
-walks_on set b path step rest end s r s' is walks = subst (λ (p : List Step). StructWalks set b p end s r s') (sym is) walks
-
 -- no field of that name
 pub step_missing : (schema : StructSchema) (step : Step) (rest : List Step) (end : Ending) (s : StructTree) (e : Error) →
     ((whole : Record → Value) (r : Record) → found_target whole r (Err e) ≡ in_record (set_of schema) whole r (number_of schema) (step_seen step)) →

@@ -1,6 +1,5 @@
 -- A reader of the struct that a set left answers what was set, also where it is cut off further down.
-use Rattle.std.specs.Prelude.{ℕ, ◌≡◌, None, Result, Ok, Err, IfOk}
-use Rattle.std.proofs.Common.{ap, sym, subst, ◌∙◌}
+use Rattle.std.proofs.Common.{ℕ, ◌≡◌, None, Result, Ok, Err, IfOk, ap, sym, subst, ◌∙◌}
 use Rattle.capnp_device.specs.declared.error.Error.{Error}
 use Rattle.capnp_wire.specs.Standing.{struct_levels, struct_of}
 use Rattle.capnp_wire.specs.Tree.{StructTree}

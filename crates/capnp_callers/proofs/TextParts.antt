@@ -1,6 +1,5 @@
 -- A part that is no text is of a field of another kind.
-use Rattle.std.specs.Prelude.{◌≡◌, ◌⊎◌, refl, Bool, true, false, not, ◌&&◌, Some, Result, Ok, Err, IfErr}
-use Rattle.std.proofs.Common.{ap, inr, sym}
+use Rattle.std.proofs.Common.{◌≡◌, ◌⊎◌, refl, Bool, true, false, not, ◌&&◌, Some, Result, Ok, Err, IfErr, ap, inr, sym}
 use Rattle.capnp_device.specs.declared.error.Error.{Error}
 use Rattle.capnp_device.specs.declared.error.ErrorKind.TheVariants.{TypeMismatch}
 use Rattle.capnp_wire.specs.Tree.{StructTree, Tree}

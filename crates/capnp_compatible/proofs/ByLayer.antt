@@ -1,6 +1,5 @@
 -- What holds of types inside the lists that both are holds of the types.
-use Rattle.std.specs.Prelude.{◌≡◌, ◌↔◌, refl, Bool, false, IsTrue, Option}
-use Rattle.std.proofs.Common.{ap, ap₂, sym, ◌∙◌, subst}
+use Rattle.std.proofs.Common.{◌≡◌, ◌↔◌, refl, Bool, false, IsTrue, Option, ap, ap₂, sym, ◌∙◌, subst}
 use Rattle.capnp_base.specs.declared.introspect.«Type».{«Type» as TypeHandle}
 use Rattle.capnp_base.specs.declared.introspect.TypeVariant.{TypeVariant}
 use Rattle.capnp_base.specs.declared.introspect.TypeVariant.TheVariants as variant
@@ -16,11 +15,6 @@ pub seen : (s : TypeHandle) (u : TypeVariant) → u ≡ variant_of s → seen_va
 seen s u e = ap seen_variant e ∙ seen_which s
 
 module _ (lists : Bool) (set : Schemas) where
-  -- a layer that both have is gone through
-  pub peeled : (s t x y z : TypeHandle) → variant.List x ≡ variant_of s → variant.List y ≡ variant_of t → seen_type z ≡ type_in_place lists set (seen_type x) (seen_type y) →
-      inside_lists lists set (seen_type x) (seen_type z) ≡ inside_lists lists set (seen_type s) (seen_type t)
-  peeled s t x y z e f g = ap (inside_lists lists set (seen_type x)) g ∙ ap₂ (inside_lists lists set) (seen s (variant.List x) e) (seen t (variant.List y) f)
-
   ends-layers : (u v : TypeVariant) → (variant_kind u ≡ 15 → variant_kind v ≡ 15 → ⊥) → inside_lists lists set (seen_variant u) (seen_variant v) ≡ (seen_variant u, seen_variant v)
   ends-layers (variant.List x) (variant.List y) h = absurd (h refl refl)
   ends-layers u v h = refl

@@ -1,6 +1,5 @@
 -- Defaults by their kinds.
-use Rattle.std.specs.Prelude.{◌≡◌, ◌↔◌, refl}
-use Rattle.std.proofs.Common.{ap}
+use Rattle.std.proofs.Common.{◌≡◌, ◌↔◌, refl, ap}
 use Rattle.capnp_schema.specs.Accepted.{words_root}
 use Rattle.capnp_schema.specs.Schema.{Value, VoidValue, BoolValue, IntValue, UIntValue, EnumValue, TextValue, DataValue, StructValue, ListValue, AnyPointerValue}
 use Rattle.capnp_records.specs.Compatible.{SameDefault}

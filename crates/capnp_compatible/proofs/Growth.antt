@@ -1,12 +1,10 @@
 -- A list of pairs to which those are added that fields name.
-use Rattle.std.specs.Prelude.{ℕ, ◌+◌, ◌<◌, List, Bool}
-use Rattle.std.proofs.Common.{arith, ◌∙◌, below_more}
+use Rattle.std.proofs.Common.{ℕ, ◌+◌, ◌<◌, List, Bool, arith, ◌∙◌, below_more}
 use Rattle.capnp_schema.specs.Schema.{Schemas, field_at}
 use Rattle.capnp_compatible.specs.declared.pairs.Pair.{Pair}
 use Rattle.capnp_compatible.specs.Closing.{listed_pairs}
 use Rattle.capnp_compatible.specs.Steps.Closing.{Adds, Apart, Begins, Holds, HoldsNamed, Within, named_pair}
 use Rattle.capnp_compatible.proofs.Relating.{named_within}
-use Rattle.capnp_compatible.proofs.Lists.{begins_same}
 
 pub record Grown (lists : Bool) (set : Schemas) (a b count : ℕ) (old new : List Pair) : Type 0 where
   pub more : Within (listed_pairs old) (listed_pairs new)
@@ -14,15 +12,6 @@ pub record Grown (lists : Bool) (set : Schemas) (a b count : ℕ) (old new : Lis
   pub added : HoldsNamed lists set (listed_pairs new) a b count
   pub only : Adds old new (λ sets. HoldsNamed lists set sets a b count)
   pub apart : Apart old → Apart new
-
-pub grown_none : (lists : Bool) (set : Schemas) (a b : ℕ) (xs : List Pair) → Grown lists set a b 0 xs xs
-grown_none lists set a b xs = record {
-  more = λ m n h. h;
-  begins = begins_same xs;
-  added = λ i below. absurd (omega arith);
-  only = λ pairs h new. h;
-  apart = λ h. h;
-}
 
 pub begins_far : (xs ys zs : List Pair) → Begins xs ys → Begins ys zs → Begins xs zs
 begins_far xs ys zs f g = (let l = f.0 in let m = g.0 in omega arith, λ k below. g.1 k (let l = f.0 in omega arith) ∙ f.1 k below)

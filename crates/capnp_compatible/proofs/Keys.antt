@@ -1,8 +1,7 @@
 -- The keys of a list of pairs, where one is added.
-use Rattle.std.specs.Prelude.{ℕ, ◌≡◌, refl, List, [], ◌∷◌, ◌++◌, Bool, true, false, cond, ◌||◌}
+use Rattle.std.proofs.Common.{ℕ, ◌≡◌, refl, List, [], ◌∷◌, ◌++◌, Bool, true, false, cond, ◌||◌, ap, sym, ◌∙◌}
 use Rattle.std.specs.List.{list_any}
 use Rattle.std.specs.HashSet.{HashSet, IsUnchanged, Updates}
-use Rattle.std.proofs.Common.{ap, sym, ◌∙◌}
 use Rattle.capnp_compatible.specs.declared.pairs.Pair.{Pair}
 use Rattle.capnp_compatible.specs.Closing.{is_pair, listed_pairs}
 use Rattle.capnp_compatible.specs.Keys.{AreKeysOf, same_key}

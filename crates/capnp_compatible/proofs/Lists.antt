@@ -1,6 +1,5 @@
 -- Lists of pairs as sets.
-use Rattle.std.specs.Prelude.{ℕ, zero, suc, ◌<◌, ◌≡◌, refl, List, [], ◌∷◌, ◌++◌, Bool, true, false, ◌||◌, IsTrue, Some, length, slice_get}
-use Rattle.std.proofs.Common.{arith, sym, subst}
+use Rattle.std.proofs.Common.{ℕ, zero, suc, ◌<◌, ◌≡◌, refl, List, [], ◌∷◌, ◌++◌, Bool, true, false, ◌||◌, IsTrue, Some, length, slice_get, arith, sym, subst}
 use Rattle.capnp_compatible.specs.declared.pairs.Pair.{Pair}
 use Rattle.capnp_records.specs.Compatible.{Pairs}
 use Rattle.capnp_compatible.specs.Closing.{is_pair, listed_pairs}

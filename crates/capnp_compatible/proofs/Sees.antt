@@ -1,6 +1,5 @@
 -- What an older schema sees of a struct is the projection of what a newer one sees.
-use Rattle.std.specs.Prelude.{ℕ, ◌≡◌, refl}
-use Rattle.std.proofs.Common.{ap, ap₂, sym, subst, ◌∙◌}
+use Rattle.std.proofs.Common.{ℕ, ◌≡◌, refl, ap, ap₂, sym, subst, ◌∙◌}
 use Rattle.capnp_wire.specs.Standing.{struct_levels, struct_of}
 use Rattle.capnp_wire.specs.WellFormed.{IsWellFormedStruct}
 use Rattle.capnp_wire.specs.declared.struct_reader.StructReader.{StructReader}

@@ -1,7 +1,6 @@
 -- The walk over the pairs that structs name.
-use Rattle.std.specs.Prelude.{ℕ, zero, suc, ◌+◌, ◌<◌, ◌≤◌, ◌≡◌, refl, List, [], ◌∷◌, Bool, true, false, ◌&&◌, nat_lt, IsTrue, Some, length, slice_get}
+use Rattle.std.proofs.Common.{ℕ, zero, suc, ◌+◌, ◌<◌, ◌≤◌, ◌≡◌, refl, List, [], ◌∷◌, Bool, true, false, ◌&&◌, nat_lt, IsTrue, Some, length, slice_get, arith, sym, ◌∙◌, subst, below_more}
 use Rattle.std.specs.Bool.{Decides}
-use Rattle.std.proofs.Common.{arith, sym, ◌∙◌, subst, below_more}
 use Rattle.std.proofs.lemmas.Bool.{le-leb}
 use Rattle.capnp_schema.specs.Types.{SchemaType, StructType, ListType}
 use Rattle.capnp_schema.specs.Schema.{Schemas, TypedField, field_at, fields_of, no_field}
@@ -12,7 +11,7 @@ use Rattle.capnp_compatible.specs.declared.pairs.Pair.{Pair}
 use Rattle.capnp_compatible.specs.Closing.{listed_pairs}
 use Rattle.capnp_compatible.specs.Steps.Closing.{Adds, Apart, AreForced, Begins, Holds, HoldsNamed, Within, all_pairs, brand_pairs, named_pair}
 use Rattle.capnp_compatible.proofs.Relating.{struct_all, struct_from, struct_named, struct_within}
-use Rattle.capnp_compatible.proofs.Lists.{at_listed, listed_at, within_pairs}
+use Rattle.capnp_compatible.proofs.Lists.{at_listed, listed_at}
 
 clash : false ≡ true → ⊥
 clash e = cc
@@ -78,15 +77,6 @@ module _ (lists : Bool) (set : Schemas) where
 
   pub named_in : IsAccepted set → (a b : ℕ) → a < length set.brands → b < length set.brands → length (fields_of set a) ≤ length (fields_of set b) → HoldsNamed lists set (brand_pairs set) a b (length (fields_of set a))
   named_in accepted a b l m le i below = types_in accepted (field_at set a i).type (field_at set b i).type (accepted.rule1.fields a i l below) (accepted.rule1.fields b i m (omega arith))
-
-pub walk_start : (lists : Bool) (set : Schemas) (older newer : ℕ) (p : Pair) → p.older ≡ older → p.newer ≡ newer → older < length set.brands → newer < length set.brands → Walking lists set older newer 0 (p ∷ [])
-walk_start lists set older newer p e f l m = record {
-  given = subst (λ (x : ℕ). IsTrue (listed_pairs (p ∷ []) older x)) f (subst (λ (x : ℕ). IsTrue (listed_pairs (p ∷ []) x p.newer)) e (at_listed (p ∷ []) 0 p refl));
-  brands = within_pairs [] p (brand_pairs set) (λ a b h. cc) (in_brands set p.older p.newer (omega arith) (omega arith));
-  forced = λ pairs here closed. within_pairs [] p pairs (λ a b h. cc) (subst (λ (x : ℕ). IsTrue (pairs p.older x)) (sym f) (subst (λ (x : ℕ). IsTrue (pairs x newer)) (sym e) here));
-  apart = (refl, tt);
-  done = λ k below q at. absurd (omega arith);
-}
 
 module _ (lists : Bool) (set : Schemas) (older newer next : ℕ) (ps : List Pair) (w : Walking lists set older newer next ps) (p : Pair) (at : slice_get ps next ≡ Some p) where
   pub here : IsTrue (listed_pairs ps p.older p.newer)

@@ -43,6 +43,3 @@ module _ (older newer : StructSchema) (one : IsStruct older) (other : IsStruct n
 
   pub follows_upgraded : (IsCompatible (set_of older) (number_of older) (number_of newer) → ⊥) → IsCompatibleOrUpgraded (set_of older) (number_of older) (number_of newer) → Follows older newer true
   follows_upgraded n h = record { older_stands = one; newer_stands = other; one_set = set; pairs = h; decided = decides_yes n }
-
-  pub not_upgraded : (IsCompatibleOrUpgraded (set_of older) (number_of older) (number_of newer) → ⊥) → IsCompatible (set_of older) (number_of older) (number_of newer) → ⊥
-  not_upgraded n h = n (wider (set_of older) (number_of older) (number_of newer) h)

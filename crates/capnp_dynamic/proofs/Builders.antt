@@ -1,15 +1,14 @@
 -- What a write keeps of a struct that is built, and fields of one name.
-use Rattle.std.specs.Prelude.{ℕ, suc, ◌*◌, ◌≤◌, ◌≡◌, refl, Bool, true, false, length, Option, Some, None}
-use Rattle.std.proofs.Common.{ap, sym, subst, ◌∙◌}
+use Rattle.std.proofs.Common.{ℕ, suc, ◌*◌, ◌≤◌, ◌≡◌, refl, Bool, true, false, length, Option, Some, None, ap, sym, subst, ◌∙◌}
 use Rattle.capnp_wire.specs.Tree.{StructTree}
 use Rattle.capnp_schema.specs.FieldLists.{IsFound, index_of, field_schema as field_schema, typed_of}
 use Rattle.capnp_schema.specs.Footprint.{Spot}
-use Rattle.capnp_schema.specs.Schema.{Schemas}
+use Rattle.capnp_schema.specs.Schema.{Schemas, default_of}
 use Rattle.capnp_schema.specs.StructHandles.{number_of, set_of, struct_field, struct_node}
 use Rattle.capnp_schema.specs.declared.schema.fields.Field.{Field}
 use Rattle.capnp_schema.specs.declared.schema.structs.StructSchema.{StructSchema}
 use Rattle.capnp_records.specs.Step.{is_group_field}
-use Rattle.capnp_records.specs.Writes.Overlay.{cleared_content}
+use Rattle.capnp_records.specs.Writes.Overlay.{cleared_content, field_spots, switched_struct}
 use Rattle.capnp_records.specs.Writes.Slots.{Fits}
 use Rattle.capnp_schema.specs.Plan.{brand_size}
 use Rattle.capnp_records.specs.Writes.TreeEnds.{group_cleared, slot_written}
@@ -23,8 +22,6 @@ use Rattle.capnp_device.specs.declared.error.ErrorKind.{ErrorKind}
 use Rattle.capnp_records.specs.Call.{Source}
 use Rattle.capnp_records.specs.Given.{Given, Gives, Copies, CopiesGroup, Fails, given_group, given_slot}
 use Rattle.capnp_records.specs.Writes.TreeCopy.{TreeCopiesWithin}
-use Rattle.capnp_records.specs.Writes.Overlay.{field_spots, switched_struct}
-use Rattle.capnp_schema.specs.Schema.{default_of}
 use Rattle.capnp_dynamic_readers.specs.Reads.{BelongsTo}
 
 -- a struct of a schema is room for the schema's fields

@@ -1,6 +1,5 @@
 -- Elements of lists, as a builder hands them out.
-use Rattle.std.specs.Prelude.{ℕ, ◌<◌, ◌≡◌, refl, true, false, Some, Err}
-use Rattle.std.proofs.Common.{ap, sym, subst, ◌∙◌}
+use Rattle.std.proofs.Common.{ℕ, ◌<◌, ◌≡◌, refl, true, false, Some, Err, ap, sym, subst, ◌∙◌}
 use Rattle.std.proofs.lemmas.Bool.{true≢false}
 use Rattle.capnp_device.specs.declared.error.Error.{Error}
 use Rattle.capnp_wire.specs.Elements.{HasPointer, HasStruct}

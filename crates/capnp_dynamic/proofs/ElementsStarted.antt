@@ -1,6 +1,5 @@
 -- An element that is started anew can be handed out.
-use Rattle.std.specs.Prelude.{ℕ, zero, suc, ◌<◌, ◌≡◌, refl, true}
-use Rattle.std.proofs.Common.{ap, arith, sym, subst, ◌∙◌}
+use Rattle.std.proofs.Common.{ℕ, zero, suc, ◌<◌, ◌≡◌, refl, true, ap, arith, sym, subst, ◌∙◌}
 use Rattle.capnp_wire.specs.Elements.{HasPointer, with_pointer_element, with_struct}
 use Rattle.capnp_wire.specs.Edits.{with_pointer_tree}
 use Rattle.capnp_wire.specs.Facts.Rows.{struct_count-with_struct, tree_count-with_tree}

@@ -1,20 +1,18 @@
 -- Whether a field is there, by the reader of a struct that is cut off further down.
-use Rattle.std.specs.Prelude.{ℕ, ◌<◌, ◌≡◌, false, length}
-use Rattle.std.proofs.Common.{ap, subst, ◌∙◌}
+use Rattle.std.proofs.Common.{ℕ, ◌<◌, ◌≡◌, false, length, ap, subst, ◌∙◌}
 use Rattle.capnp_wire.specs.Tree.{StructTree}
 use Rattle.capnp_arena.specs.Same.{IsStructCutOf}
 use Rattle.capnp_base.specs.declared.introspect.TypeVariant.{TypeVariant}
 use Rattle.capnp_schema.specs.FieldLists.{index_of, field_schema as field_schema, typed_of}
 use Rattle.capnp_schema.specs.Schema.{Schemas, field_at, fields_of}
 use Rattle.capnp_schema.specs.StructHandles.{IsStruct, number_of, set_of, struct_field}
-use Rattle.capnp_schema.specs.Types.{seen_variant}
+use Rattle.capnp_schema.specs.Types.{seen_variant, is_pointer}
 use Rattle.capnp_schema.specs.declared.schema.fields.Field.{Field}
 use Rattle.capnp_schema.specs.declared.schema.structs.StructSchema.{StructSchema}
 use Rattle.capnp_records.specs.Part.{has_of}
 use Rattle.capnp_records.specs.Reading.{struct_record}
 use Rattle.capnp_records.specs.Record.{Left}
 use Rattle.capnp_wire.specs.Standing.{struct_levels, struct_of}
-use Rattle.capnp_schema.specs.Types.{is_pointer}
 use Rattle.capnp_slots.specs.Fields.{IsSlot, field_set}
 use Rattle.capnp_dynamic_readers.specs.Handles.{reader_of, schema_of}
 use Rattle.capnp_dynamic_readers.specs.Reads.{BelongsTo, field_read, field_seen}

@@ -1,12 +1,11 @@
 -- What was filled, or started anew, can be handed out.
-use Rattle.std.specs.Prelude.{ℕ, ◌<◌, ◌≡◌, refl, List, Bool, true, false, Option, Some, None, IsOk, Ok, Err, Result}
-use Rattle.std.proofs.Common.{ap, arith, sym, subst, ◌∙◌}
+use Rattle.std.proofs.Common.{ℕ, ◌≡◌, refl, List, Bool, true, false, Option, Some, None, IsOk, Ok, Err, Result, arith, sym, subst, ◌∙◌}
 use Rattle.std.proofs.lemmas.Bool.{true≢false}
 use Rattle.capnp_device.specs.declared.error.ErrorKind.{ErrorKind}
 use Rattle.capnp_wire.specs.Tree as tree
-use Rattle.capnp_wire.specs.Tree.{StructTree, Tree, nth_tree, tree_count}
+use Rattle.capnp_wire.specs.Tree.{StructTree, Tree, nth_tree}
 use Rattle.capnp_wire.specs.Defaults.{error_of, list_refusal}
-use Rattle.capnp_wire.specs.Edits.{with_pointer_tree, zero_list}
+use Rattle.capnp_wire.specs.Edits.{zero_list}
 use Rattle.capnp_wire.specs.Facts.Lengths.{HasAtLeast-extended}
 use Rattle.capnp_wire.specs.Reading.{as_data, as_list, as_text, is_null_tree}
 use Rattle.capnp_wire.specs.StructLists.{HoldsStructs, struct_list, struct_list_refusal}
@@ -25,8 +24,7 @@ use Rattle.capnp_records.specs.Writes.Contents.{new_list}
 use Rattle.capnp_records.specs.Writes.Fill.{IsAtRest, list_or_default}
 use Rattle.capnp_records.specs.Writes.TreeEnds.{offset_of}
 use Rattle.capnp_schema.specs.Plan.{brand_size}
-use Rattle.capnp_slots.specs.Fills.{fill_due, filled_tree}
-use Rattle.capnp_records.specs.Facts.Pointers.{nth_tree-put_same}
+use Rattle.capnp_slots.specs.Fills.{fill_due, filled_tree, RestsIn, due_in, filled_in}
 use Rattle.capnp_device.specs.declared.error.Error.{Error}
 use Rattle.capnp_schema.specs.FieldLists.{IsFound, typed_of}
 use Rattle.capnp_schema.specs.StructHandles.{set_of, struct_field}
@@ -34,7 +32,6 @@ use Rattle.capnp_schema.specs.declared.schema.fields.Field.{Field}
 use Rattle.capnp_schema.specs.declared.schema.structs.StructSchema.{StructSchema}
 use Rattle.capnp_records.specs.Step.{is_group_field}
 use Rattle.capnp_slots.specs.Fields.{IsPointerField, IsSlot, field_set}
-use Rattle.capnp_slots.specs.Fills.{RestsIn, due_in, filled_in}
 use Rattle.capnp_slots.specs.Groups.{IsGroupAt}
 use Rattle.capnp_dynamic.specs.Built.{HoldsElements, built_schema, built_struct}
 use Rattle.capnp_dynamic.specs.Handed.{HandsField, HandsNumber, HandsOut, IsPartRefusal, IsPartWithin, IsRefusalAt, IsWithinAt, part_handed}
@@ -49,10 +46,6 @@ use Rattle.capnp_dynamic.specs.declared.dynamic_value.build.Builder.{Builder as 
 no-error : {A : Type 0} (r : Result A ErrorKind) → error_of r ≡ None → IsOk r
 no-error (Ok x) e = refl
 no-error (Err k) e = absurd cc
-
-null-text : (x : Tree) → is_null_tree x ≡ true → IsOk (as_text x)
-null-text tree.Null e = refl
-null-text x e = absurd (true≢false (sym e))
 
 pub text-is : (bytes : List ℕ) → IsOk (as_text (text_tree bytes))
 text-is bytes = subst (λ (r : Result (List ℕ) ErrorKind). IsOk r) (sym (as_text-text_tree bytes)) refl
@@ -169,10 +162,6 @@ can-hand set set' t t' x x' a b c h =
 pub handed-out : (new : Bool) (set set' : Schemas) (t t' : SchemaType) (x x' : Tree) (v : BuiltValue) → set ≡ set' → t ≡ t' → x ≡ x' → HandsOut new set t x v → HandsOut new set' t' x' v
 handed-out new set set' t t' x x' v a b c h =
     subst (λ (z : Schemas). HandsOut new z t' x' v) a (subst (λ (u : SchemaType). HandsOut new set u x' v) b (subst (λ (y : Tree). HandsOut new set t y v) c h))
-
--- what was put at a pointer of a struct stands there
-pub put-there : (i : ℕ) (s s' : StructTree) (t x : Tree) → i < tree_count s.pointers → s' ≡ with_pointer_tree s i t → x ≡ nth_tree s'.pointers i → x ≡ t
-put-there i s s' t x there e h = h ∙ (ap (λ (y : StructTree). nth_tree y.pointers i) e ∙ nth_tree-put_same s.pointers i t there)
 
 -- ---- by the kind of a field, and by its name ----
 

@@ -1,6 +1,5 @@
 -- What is answered of a struct or list that is cut off further down is what is answered of the whole one.
-use Rattle.std.specs.Prelude.{ℕ, suc, ◌≡◌, ◌<◌, refl, Bool, true, false, not, ◌&&◌, ◌==◌, length, List, [], ◌∷◌}
-use Rattle.std.proofs.Common.{ap, sym, ◌∙◌}
+use Rattle.std.proofs.Common.{ℕ, suc, ◌≡◌, ◌<◌, refl, Bool, true, false, not, ◌&&◌, ◌==◌, length, List, [], ◌∷◌, ap, sym, ◌∙◌}
 use Rattle.std.proofs.lemmas.Bool.{true≢false}
 use Rattle.capnp_wire.specs.Reading.{element_bit, element_number, is_null_tree}
 use Rattle.capnp_wire.specs.Slot.{number_at}

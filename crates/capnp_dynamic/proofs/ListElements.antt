@@ -1,22 +1,17 @@
 -- In a list that has elements of its type each of them is there, also after one was written.
-use Rattle.std.specs.Prelude.{ℕ, ◌==◌, ◌<◌, ◌≡◌, refl, Bool, true, false, List, None, Result, Ok, Err, OnOk, OnErr}
-use Rattle.std.proofs.Common.{arith, sym, subst, ◌∙◌}
-use Rattle.std.proofs.lemmas.Bool.{true≢false}
+use Rattle.std.proofs.Common.{ℕ, ◌==◌, ◌<◌, ◌≡◌, refl, Bool, true, false, List, None, Result, Ok, Err, OnOk, OnErr, arith, sym, subst, ◌∙◌}
 use Rattle.capnp_device.specs.declared.error.Error.{Error}
 use Rattle.capnp_device.specs.declared.error.ErrorKind.{ErrorKind}
 use Rattle.capnp_wire.specs.Defaults.{error_of, list_refusal}
-use Rattle.capnp_wire.specs.Elements.{with_bit_element, with_number_element, with_pointer_element}
+use Rattle.capnp_wire.specs.Elements.{with_bit_element, with_number_element, with_pointer_element, reads_list}
 use Rattle.capnp_wire.specs.Facts.Lengths.{HasAtLeast-element_struct, HasStruct-there, HoldsStructs-with_struct_element}
 use Rattle.capnp_wire.specs.Facts.Room.{HasBit-there, HasNumber-there, HasPointer-there, reads_list-as_list}
-use Rattle.capnp_wire.specs.Elements.{reads_list}
-use Rattle.capnp_wire.specs.Reading.{as_list, element_struct, is_list, is_null_tree, list_if, list_length, reads_bits, reads_numbers, reads_pointers, reads_structs}
-use Rattle.capnp_wire.specs.StructLists.{HoldsStructs}
+use Rattle.capnp_wire.specs.Reading.{as_list, element_struct, is_null_tree, list_if, list_length, reads_bits, reads_numbers, reads_pointers, reads_structs}
 use Rattle.capnp_wire.specs.Tree as tree
 use Rattle.capnp_wire.specs.Tree.{Tree}
 use Rattle.capnp_wire.specs.WellFormed.{IsWellFormed}
 use Rattle.capnp_wire.specs.declared.size.ElementSize.{ElementSize}
 use Rattle.capnp_wire.specs.declared.size.ElementSize.TheVariants as size
-use Rattle.capnp_wire.specs.declared.size.StructSize.{StructSize}
 use Rattle.capnp_base.specs.declared.introspect.«Type».{«Type» as TypeHandle}
 use Rattle.capnp_base.specs.Types.{variant_of}
 use Rattle.capnp_base.specs.declared.introspect.TypeVariant.{TypeVariant}
@@ -35,34 +30,6 @@ use Rattle.capnp_arena.specs.declared.arena.Arena.{Arena}
 use Rattle.capnp_dynamic.specs.Built.{HoldsElements, IsListStanding}
 
 -- ---- a list, or null ----
-
-module _ (s : ElementSize) where
-  pub there : (x : Tree) → list_refusal s x ≡ None → is_list x ≡ false → is_null_tree x ≡ true
-  there tree.Null e = λ _. refl
-  there (tree.Struct bytes ps) e = absurd cc
-  there (tree.Voids n) e = λ q. absurd (true≢false q)
-  there (tree.Bits bs) e = λ q. absurd (true≢false q)
-  there (tree.Numbers w bytes) e = λ q. absurd (true≢false q)
-  there (tree.Pointers ps) e = λ q. absurd (true≢false q)
-  there (tree.Composite d p es) e = λ q. absurd (true≢false q)
-  there (tree.FaultLeaf k) e = absurd cc
-
-structs-there : (s : StructSize) (x : Tree) → HoldsStructs s x → is_list x ≡ false → is_null_tree x ≡ true
-structs-there s tree.Null h = λ _. refl
-structs-there s (tree.Composite d p es) h = λ q. absurd (true≢false q)
-structs-there s x h = absurd h
-
-pub null_or_list : (set : Schemas) (t : SchemaType) (x : Tree) → HoldsElements set t x → is_list x ≡ false → is_null_tree x ≡ true
-null_or_list set (StructType b g) x h = structs-there (brand_size set b) x h
-null_or_list set VoidType x h = there size.Void x h
-null_or_list set BoolType x h = there size.Bit x h
-null_or_list set (IntType k) x h = there (element_size (IntType k)) x h
-null_or_list set (UIntType k) x h = there (element_size (UIntType k)) x h
-null_or_list set (EnumType k) x h = there size.TwoBytes x h
-null_or_list set TextType x h = there size.Pointer x h
-null_or_list set DataType x h = there size.Pointer x h
-null_or_list set (ListType e) x h = there size.Pointer x h
-null_or_list set AnyPointerType x h = there size.Pointer x h
 
 -- ---- each element is there ----
 

@@ -1,6 +1,5 @@
 -- A struct that was entered under a schema has the schema's sections.
-use Rattle.std.specs.Prelude.{ℕ, ◌≡◌}
-use Rattle.std.proofs.Common.{ap, subst, sym, ◌∙◌}
+use Rattle.std.proofs.Common.{ℕ, ◌≡◌, ap, subst, sym, ◌∙◌}
 use Rattle.capnp_arena.specs.Facts.Laws.{struct_is, struct_planted}
 use Rattle.capnp_arena.specs.Forest.{Forest, tree}
 use Rattle.capnp_arena.specs.Segment.{segment}

@@ -1,6 +1,5 @@
 -- What a part says of the struct that it was handed out of, by the kind of the field, and by its name.
-use Rattle.std.specs.Prelude.{ℕ, ◌≡◌, refl, Bool, true, false, Option, Some, Result, Ok, Err, IfOk}
-use Rattle.std.proofs.Common.{ap, sym, subst}
+use Rattle.std.proofs.Common.{ℕ, ◌≡◌, refl, Bool, true, false, Option, Some, Result, Ok, Err, IfOk, ap, sym, subst}
 use Rattle.std.proofs.lemmas.Bool.{true≢false}
 use Rattle.std.specs.Borrow.{MutBor}
 use Rattle.capnp_device.specs.declared.error.Error.{Error}

@@ -1,9 +1,7 @@
 -- What stands at a pointer, by its tree: nothing, a struct, a list that is read; and a struct at a place.
-use Rattle.std.specs.Prelude.{ℕ, zero, suc, List, ◌≡◌, refl, Bool, true, false, IsOk, Ok, Err, Result, cond}
-use Rattle.std.proofs.Common.{ap, sym, ◌∙◌}
+use Rattle.std.proofs.Common.{ℕ, zero, suc, List, ◌≡◌, refl, Bool, true, false, IsOk, Ok, Err, Result, cond, ap, sym, ◌∙◌}
 use Rattle.std.proofs.lemmas.Bool.{true≢false}
 use Rattle.capnp_device.specs.declared.error.ErrorKind.{ErrorKind}
-use Rattle.capnp_wire.specs.Edits.{struct_in}
 use Rattle.capnp_wire.specs.Elements.{or_empty}
 use Rattle.capnp_wire.specs.Place.{list_tree, struct_tree, tree_with_level}
 use Rattle.capnp_wire.specs.Reading.{empty_list, is_null_tree}
@@ -62,9 +60,6 @@ empty_cut size.InlineComposite = (tree.NoStructs, refl, (refl, λ i. (refl, (ref
 
 pub struct_here : (bytes : List ℕ) (w a d p : ℕ) → Forest bytes w → shape_at bytes w ≡ StructIn a d p → struct_tree (struct_from bytes a d p) ≡ tree_in bytes w
 struct_here bytes w a d p f e = sym (tree_struct bytes w a d p f e)
-
-pub struct_read : (bytes : List ℕ) (w a d p : ℕ) → Forest bytes w → shape_at bytes w ≡ StructIn a d p → struct_in (tree_in bytes w) ≡ struct_from bytes a d p
-struct_read bytes w a d p f e = ap struct_in (tree_struct bytes w a d p f e)
 
 -- ---- texts and data ----
 

@@ -1,6 +1,5 @@
 -- A struct that a pointer leads to stands at its place.
-use Rattle.std.specs.Prelude.{ℕ, ◌≡◌}
-use Rattle.std.proofs.Common.{ap, subst}
+use Rattle.std.proofs.Common.{ℕ, ◌≡◌, ap, subst}
 use Rattle.capnp_wire.specs.Edits.{struct_in}
 use Rattle.capnp_arena.specs.Facts.Laws.{struct_planted}
 use Rattle.capnp_arena.specs.Facts.Structs.{tree_struct}

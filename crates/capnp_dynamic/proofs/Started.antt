@@ -1,6 +1,5 @@
 -- What is started anew can be handed out.
-use Rattle.std.specs.Prelude.{ℕ, ◌*◌, ◌<◌, ◌≤◌, ◌≡◌, refl, Bool, true, false, Option, Some, replicate}
-use Rattle.std.proofs.Common.{ap, sym, subst, ◌∙◌}
+use Rattle.std.proofs.Common.{ℕ, ◌*◌, ◌<◌, ◌≤◌, ◌≡◌, refl, Bool, true, false, Option, Some, replicate, ap, sym, subst, ◌∙◌}
 use Rattle.capnp_device.specs.declared.error.Error.{Error}
 use Rattle.capnp_wire.specs.Facts.Lengths.{HasAtLeast-zero_struct}
 use Rattle.capnp_wire.specs.Tree.{StructTree, Tree, Trees, nth_tree, tree_count}

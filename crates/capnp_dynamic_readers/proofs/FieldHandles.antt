@@ -1,6 +1,5 @@
 -- A field that belongs to a struct's schema is read as that schema's.
-use Rattle.std.specs.Prelude.{ℕ, ◌≡◌, not}
-use Rattle.std.proofs.Common.{ap, ◌∙◌}
+use Rattle.std.proofs.Common.{ℕ, ◌≡◌, not, ap, ◌∙◌}
 use Rattle.capnp_wire.specs.Standing.{struct_levels, struct_of}
 use Rattle.capnp_schema.specs.FieldLists.{index_of, field_schema as field_schema, typed_of}
 use Rattle.capnp_schema.specs.Schema.{Schemas, TypedField, field_at}

@@ -1,6 +1,5 @@
 -- What is read of a field that was found is what is read of the index that was looked up.
-use Rattle.std.specs.Prelude.{ℕ, ◌≡◌, Option, Some, None, Ok, Result, Bool}
-use Rattle.std.proofs.Common.{ap, subst}
+use Rattle.std.proofs.Common.{ℕ, ◌≡◌, Option, Some, None, Ok, Result, Bool, ap, subst}
 use Rattle.capnp_device.specs.declared.error.ErrorKind.{ErrorKind}
 use Rattle.capnp_schema.specs.FieldLists.{IsFound, index_of}
 use Rattle.capnp_schema.specs.StructHandles.{set_of, struct_field}

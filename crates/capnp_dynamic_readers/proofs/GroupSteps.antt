@@ -1,6 +1,5 @@
 -- The steps of a print among the fields of a struct and of the groups in it: what is to come, and that less is left to do.
-use Rattle.std.specs.Prelude.{ℕ, suc, ◌+◌, ◌-◌, ◌^◌, ◌<◌, ◌≤◌, ◌≡◌, ◌==◌, refl, List, [], ◌∷◌, ◌++◌, Bool, true, false, not, ◌&&◌, codes, length, Option, Some, None, Ok, Err, Result, IfOk, MatchOption}
-use Rattle.std.proofs.Common.{ap, append-nil, arith, sym, subst, ◌∙◌}
+use Rattle.std.proofs.Common.{ℕ, suc, ◌+◌, ◌-◌, ◌^◌, ◌<◌, ◌≤◌, ◌≡◌, ◌==◌, refl, List, [], ◌∷◌, ◌++◌, Bool, true, false, not, ◌&&◌, codes, length, Option, Some, None, Ok, Err, Result, IfOk, MatchOption, ap, append-nil, arith, sym, subst, ◌∙◌}
 use Rattle.std.proofs.lemmas.Bool.Decides.{nat_tests}
 use Rattle.capnp_device.specs.declared.error.ErrorKind.{ErrorKind}
 use Rattle.capnp_wire.specs.declared.struct_reader.StructReader.{StructReader}
@@ -12,8 +11,7 @@ use Rattle.capnp_schema.specs.GroupFields.{group_field_of}
 use Rattle.capnp_schema.specs.GroupsDown.{IsGroupSchemaIn, place_of_field}
 use Rattle.capnp_schema.specs.GroupWalks.{above, frames, walk_brand, walk_depth, walk_index, walk_schema, walk_set}
 use Rattle.capnp_schema.specs.Steps.GroupWalks.{steps_left}
-use Rattle.capnp_schema.specs.Schema.{Field as FieldRecord}
-use Rattle.capnp_schema.specs.Schema.{Schemas, TypedField, is_member, kind_target}
+use Rattle.capnp_schema.specs.Schema.{Field as FieldRecord, Schemas, TypedField, is_member, kind_target}
 use Rattle.capnp_schema.specs.StructHandles.{number_of, set_of, struct_field, struct_fields}
 use Rattle.capnp_schema.specs.declared.schema.fields.Field.{Field}
 use Rattle.capnp_schema.specs.declared.schema.structs.StructSchema.{StructSchema}

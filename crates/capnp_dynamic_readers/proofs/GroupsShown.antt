@@ -1,6 +1,5 @@
 -- What a print has put of a struct, and what of it and of the groups around is still to come.
-use Rattle.std.specs.Prelude.{ℕ, zero, suc, ◌+◌, ◌<◌, ◌≤◌, ◌≡◌, ◌==◌, refl, List, [], ◌∷◌, ◌++◌, Bool, true, false, ◌&&◌, codes, drop, length, slice_get, Some, None, Ok, Err}
-use Rattle.std.proofs.Common.{ap, append-nil, append_assoc, arith, sym, subst, ◌∙◌}
+use Rattle.std.proofs.Common.{ℕ, zero, suc, ◌+◌, ◌<◌, ◌≤◌, ◌≡◌, ◌==◌, refl, List, [], ◌∷◌, ◌++◌, Bool, true, false, ◌&&◌, codes, drop, length, slice_get, Some, None, Ok, Err, ap, append-nil, append_assoc, arith, sym, subst, ◌∙◌}
 use Rattle.std.proofs.lemmas.Bool.{and_parts, eq-eqb}
 use Rattle.std.specs.Option.{unwrap_or}
 use Rattle.capnp_wire.specs.Standing.{struct_of}

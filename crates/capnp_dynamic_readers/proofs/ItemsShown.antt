@@ -1,11 +1,9 @@
 -- The items of a struct, from a field on.
-use Rattle.std.specs.Prelude.{ℕ, zero, suc, ◌+◌, ◌<◌, ◌≤◌, ◌≡◌, ◌==◌, refl, List, [], ◌∷◌, ◌++◌, Bool, true, false, not, ◌&&◌, ◌||◌, nat_lt, cond, length, drop, slice_get, Some, None}
-use Rattle.std.proofs.Common.{ap, sym, subst, ◌∙◌, arith}
+use Rattle.std.proofs.Common.{ℕ, zero, suc, ◌+◌, ◌<◌, ◌≤◌, ◌≡◌, ◌==◌, refl, List, [], ◌∷◌, ◌++◌, Bool, true, false, not, ◌&&◌, ◌||◌, nat_lt, cond, length, drop, slice_get, Some, None, ap, sym, subst, ◌∙◌, arith}
 use Rattle.std.proofs.lemmas.Bool.{eq-eqb}
 use Rattle.std.specs.Option.{unwrap_or}
 use Rattle.capnp_schema.specs.FieldLists.{IsFieldOf, index_of, typed_of}
-use Rattle.capnp_schema.specs.Schema.{Field as FieldRecord}
-use Rattle.capnp_schema.specs.Schema.{Schemas, TypedField, default_of, is_member, no_field, node_of}
+use Rattle.capnp_schema.specs.Schema.{Field as FieldRecord, Schemas, TypedField, default_of, is_member, no_field, node_of}
 use Rattle.capnp_schema.specs.StructHandles.{number_of, set_of, struct_field, struct_fields}
 use Rattle.capnp_schema.specs.declared.schema.fields.Field.{Field}
 use Rattle.capnp_schema.specs.declared.schema.structs.StructSchema.{StructSchema}
@@ -31,9 +29,6 @@ pub belongs : (s : StructSchema) (i : ℕ) (f : Field) → IsFieldOf s i f → B
 belongs s i f h = record { set = ap set_of h.schema; number = ap number_of h.schema }
 
 -- ---- the active member ----
-
-active-same : {i j : ℕ} {v w : Value} → Active i v ≡ Active j w → i ≡ j
-active-same e = cc
 
 some-same : {i j : ℕ} → Some i ≡ Some j → i ≡ j
 some-same e = cc

@@ -11,8 +11,7 @@ use Rattle.capnp_wire.specs.Reading.{as_data, as_list, as_struct, as_text}
 use Rattle.capnp_schema.specs.Accepted.{GroupFits, IsAccepted, IsGroupOf}
 use Rattle.capnp_schema.specs.Facts.Fields.{brand_there}
 use Rattle.capnp_schema.specs.FieldLists.{IsFieldOf, index_of, typed_of}
-use Rattle.capnp_schema.specs.Schema.{FieldKind, Group, Schemas, Slot, kind_default, kind_target}
-use Rattle.capnp_schema.specs.Schema.{Value as SchemaValue}
+use Rattle.capnp_schema.specs.Schema.{FieldKind, Group, Schemas, Slot, kind_default, kind_target, Value as SchemaValue}
 use Rattle.capnp_schema.specs.StructHandles.{IsStruct, number_of, set_of, struct_field}
 use Rattle.capnp_schema.specs.declared.schema.fields.Field.{Field}
 use Rattle.capnp_schema.specs.declared.schema.structs.StructSchema.{StructSchema}
@@ -171,13 +170,6 @@ some-none : {n : ℕ} → Some n ≡ None → ⊥
 some-none e = cc
 
 module _ (set : Schemas) (group : ℕ → Record) (l : Levels) (s : StructTree) where
-  -- what a field of a kind has, and what its read hands out
-  has : FieldKind → SchemaType → Value
-  has k t = kind_value group l s.bytes (values_of set s.pointers) k t
-
-  reads_as : FieldKind → SchemaType → Value
-  reads_as k t = handed_out k (read_of set (kind_default k) t (has k t))
-
   pub slot_shown : (left : ℕ) (at : Layout) (k : FieldKind) (t : SchemaType) (v : DynamicValue) → GroupFits set k t → kind_target k t ≡ None →
       value_seen v ≡ handed_out k (read_of set (kind_default k) t (kind_value group l s.bytes (values_of set s.pointers) k t)) → IsValueUnder set t v →
       part_text set (text_within set left) at (kind_default k) t (kind_value group l s.bytes (values_of set s.pointers) k t) ≡ value_shown left at v

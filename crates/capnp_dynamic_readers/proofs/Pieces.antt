@@ -1,9 +1,8 @@
 -- Pieces of texts, as they are put one after another.
-use Rattle.std.proofs.Common.{arith, append_assoc, ◌≡◌, refl, ap, ap₂, sym, ◌∙◌, ℕ, zero, suc, subst, Bool, true, false, List, [], ◌∷◌, ◌++◌, Some, None, Result, Ok, Err, OnOk, cond, ◌<◌, ◌≤◌, get_or, length, take, ◌+◌, ◌/◌, ◌%◌}
+use Rattle.std.proofs.Common.{codes, decimal, arith, append_assoc, ◌≡◌, refl, ap, ap₂, sym, ◌∙◌, ℕ, zero, suc, subst, Bool, true, false, List, [], ◌∷◌, ◌++◌, Some, None, Result, Ok, Err, OnOk, cond, ◌<◌, ◌≤◌, get_or, length, take, ◌+◌, ◌/◌, ◌%◌}
 use Rattle.std.specs.Char.{digit_char, is_ascii}
 use Rattle.std.specs.Fmt.{AppendsText, debug_escape, debug_str}
 use Rattle.std.specs.List.{flat_map, list_all}
-use Rattle.std.specs.Prelude.{codes, decimal}
 use Rattle.std.specs.Result.{is_ok}
 use Rattle.std.specs.Str.{IsAscii, IsNotAscii, IsUtf8, is_utf8}
 use Rattle.capnp_records.specs.Facts.Spelled.{form_spelled, some_bytes, some_spelled}
@@ -101,10 +100,6 @@ decimals_last (a ∷ []) c h = append_assoc (decimal a) (codes ", ") (decimal c)
 decimals_last (a ∷ b ∷ bs) c h =
     ap (λ (z : List ℕ). (decimal a ++ codes ", ") ++ z) (decimals_last (b ∷ bs) c (omega arith))
     ∙ sym (append_assoc (decimal a ++ codes ", ") (decimals (b ∷ bs)) (codes ", " ++ decimal c))
-
-pub first_decimal : (bs : List ℕ) → 0 < length bs → decimal (get_or bs 0 0) ≡ decimals (take 1 bs)
-first_decimal [] h = absurd (omega (arith, h))
-first_decimal (b ∷ bs) h = refl
 
 pub no_decimals : (a : Taken) (bs : List ℕ) → length bs ≡ 0 → IsPut a (said_text (decimals bs)) a
 no_decimals a [] h = nothing_put a

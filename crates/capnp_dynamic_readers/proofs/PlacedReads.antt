@@ -1,13 +1,11 @@
 -- The read at a field's place is the read of its part of the record.
-use Rattle.std.specs.Prelude.{ℕ, ◌<◌, ◌≡◌, refl, length, Some}
-use Rattle.std.proofs.Common.{arith, ap, sym, subst}
+use Rattle.std.proofs.Common.{ℕ, ◌<◌, ◌≡◌, refl, length, Some, arith, ap, sym, subst}
 use Rattle.capnp_wire.specs.Tree.{StructTree}
 use Rattle.capnp_base.specs.declared.introspect.TypeVariant.{TypeVariant}
 use Rattle.capnp_base.specs.declared.introspect.TypeVariant.TheVariants as variant
 use Rattle.capnp_schema.specs.Accepted.{IsAccepted, IsGroupOf, GroupFits, NamesEntries}
 use Rattle.capnp_schema.specs.Plan.{IsSlotPlace, plan_place}
-use Rattle.capnp_schema.specs.Schema.{FieldKind, Group, Schemas, Slot, default_of, field_at, fields_of, kind_default}
-use Rattle.capnp_schema.specs.Schema.{Value as SchemaValue}
+use Rattle.capnp_schema.specs.Schema.{FieldKind, Group, Schemas, Slot, default_of, field_at, fields_of, kind_default, Value as SchemaValue}
 use Rattle.capnp_schema.specs.Types.{SchemaType, StructType, struct_brand, struct_number, seen_variant}
 use Rattle.capnp_records.specs.Facts.Groups.{part_of-group}
 use Rattle.capnp_records.specs.Facts.Pointers.{values_of-nth}

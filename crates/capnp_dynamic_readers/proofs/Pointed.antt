@@ -1,8 +1,6 @@
 -- What stands behind a pointer, or in its default, is the read of the pointer's value.
-use Rattle.std.specs.Prelude.{ℕ, ◌+◌, ◌-◌, ◌≡◌, refl, List, Bool, true, false, ◌==◌, Result, Ok, Err, Some, None, cond, IfOk}
-use Rattle.std.proofs.Common.{arith, ap, ap₂, sym, ◌∙◌}
+use Rattle.std.proofs.Common.{ℕ, ◌+◌, ◌-◌, ◌≡◌, refl, List, Bool, true, false, ◌==◌, Result, Ok, Err, Some, None, IfOk, arith, ap, ap₂, sym, ◌∙◌}
 use Rattle.capnp_device.specs.declared.error.ErrorKind.{ErrorKind}
-use Rattle.capnp_device.specs.declared.error.ErrorKind.TheVariants.{TooDeep}
 use Rattle.capnp_device.specs.declared.error.Error.{Error}
 use Rattle.capnp_wire.specs.Standing.{list_levels, list_of, list_read, struct_levels, struct_of, struct_read}
 use Rattle.capnp_wire.specs.declared.list_reader.ListReader.{ListReader}
@@ -13,52 +11,19 @@ use Rattle.capnp_wire.specs.Reading.{as_data, as_list, as_struct, as_text, empty
 use Rattle.capnp_wire.specs.declared.size.ElementSize.{ElementSize}
 use Rattle.capnp_wire.specs.declared.size.ElementSize.TheVariants as size
 use Rattle.capnp_schema.specs.Accepted.{words_root}
-use Rattle.capnp_schema.specs.Schema.{Schemas, VoidValue, StructValue, ListValue}
-use Rattle.capnp_schema.specs.Schema.{Value as SchemaValue}
+use Rattle.capnp_schema.specs.Schema.{Schemas, VoidValue, StructValue, ListValue, Value as SchemaValue}
 use Rattle.capnp_schema.specs.Types.{AnyPointerType, DataType, ListType, SchemaType, StructType, TextType, element_size}
-use Rattle.capnp_records.specs.Facts.DefaultTree.{read-there}
+use Rattle.capnp_records.specs.Facts.Entered.{entered-ok, entered-some, never-ok, null-read, ok-if, refused-entered, there-read}
 use Rattle.capnp_records.specs.Facts.ListValues.{below_of}
-use Rattle.capnp_records.specs.Facts.Readers.{data-read, list-value, null-is, struct-read, text-read, untyped-read, value-there}
+use Rattle.capnp_records.specs.Facts.Readers.{data-read, list-value, null-is, struct-read, text-read, untyped-read}
 use Rattle.capnp_records.specs.Default.{default_value, empty_value, read_of, unless_null}
 use Rattle.capnp_records.specs.Reading.{elements_value, entered_value, of_read, struct_record, value_of}
 use Rattle.capnp_records.specs.Record.{Left, Levels, Value}
 use Rattle.capnp_records.specs.Record as value
 use Rattle.capnp_dynamic_readers.specs.Steps.Behind.{data_of, list_answered, default_list_words, struct_answered, struct_words, default_text_bytes}
 
--- a value that is there, and a null
-pub there : (set : Schemas) (d : SchemaValue) (t : SchemaType) (x : Tree) (l : Levels) → is_null_tree x ≡ false → read_of set d t (value_of set x l t) ≡ value_of set x l t
-there set d t x l h = read-there set d t (value_of set x l t) (value-there set x l t h)
-
-pub missing : (set : Schemas) (d : SchemaValue) (t : SchemaType) (x : Tree) (l : Levels) → is_null_tree x ≡ true → read_of set d t (value_of set x l t) ≡ default_value set l d t
-missing set d t x l h = ap (λ y. read_of set d t (value_of set y l t)) (null-is x h)
-
--- ---- levels and answers ----
-
 some-same : {X : Type 0} {x y : X} → Some x ≡ Some y → x ≡ y
 some-same e = cc
-
-entered-ok : {X : Type 0} (q : Bool) (x y : X) (k : ErrorKind) → Ok x ≡ cond q (Err k) (Ok y) → x ≡ y
-entered-ok true x y k e = cc
-entered-ok false x y k e = cc
-
-never-ok : {X : Type 0} (q : Bool) (x : X) (k j : ErrorKind) → Ok x ≡ cond q (Err k) (Err j) → ⊥
-never-ok true x k j e = cc
-never-ok false x k j e = cc
-
-ok-if : {X : Type 0} (q p : Bool) (x y : X) (k j : ErrorKind) → Ok x ≡ cond q (Err k) (cond p (Ok y) (Err j)) → x ≡ y
-ok-if true p x y k j e = cc
-ok-if false true x y k j e = cc
-ok-if false false x y k j e = cc
-
-refused-entered : {X : Type 0} (q : Bool) (k : ErrorKind) (y : X) (v : Value) → Err k ≡ cond q (Err TooDeep) (Ok y) → value.Fault k ≡ (elim q as (λ _. Value) [ true ↦ value.Fault TooDeep | false ↦ v ])
-refused-entered true k y v e = cc
-refused-entered false k y v e = cc
-
-entered-some : (n m : ℕ) (v : Value) → m + 1 ≡ n → entered_value (Left n) v ≡ v
-entered-some n m v e = ap (λ q. elim q as (λ _. Value) [ true ↦ value.Fault TooDeep | false ↦ v ]) (not-zero n m e)
-  where
-    not-zero : (n m : ℕ) → m + 1 ≡ n → (n == 0) ≡ false
-    not-zero n m e = grind (arith, e)
 
 -- ---- texts, data and untyped pointers ----
 
@@ -75,23 +40,23 @@ untyped-default set l VoidValue = refl
 untyped-default set l d = refl
 
 pub text_null : (set : Schemas) (d : SchemaValue) (x : Tree) (l : Levels) (bytes : List ℕ) → is_null_tree x ≡ true → bytes ≡ default_text_bytes d → value.Text bytes ≡ read_of set d TextType (value_of set x l TextType)
-text_null set d x l bytes h e = ap value.Text e ∙ (text-default set l d ∙ sym (missing set d TextType x l h))
+text_null set d x l bytes h e = ap value.Text e ∙ (text-default set l d ∙ sym (null-read set d TextType x l h))
 
 pub text_there : (set : Schemas) (d : SchemaValue) (x : Tree) (l : Levels) (r : Result (List ℕ) ErrorKind) → is_null_tree x ≡ false → r ≡ as_text x → of_read value.Text r ≡ read_of set d TextType (value_of set x l TextType)
-text_there set d x l r h e = ap (of_read value.Text) e ∙ (sym (text-read set x l h) ∙ sym (there set d TextType x l h))
+text_there set d x l r h e = ap (of_read value.Text) e ∙ (sym (text-read set x l h) ∙ sym (there-read set d TextType x l h))
 
 pub data_null : (set : Schemas) (d : SchemaValue) (x : Tree) (l : Levels) (bytes : List ℕ) → is_null_tree x ≡ true → bytes ≡ data_of d → value.Data bytes ≡ read_of set d DataType (value_of set x l DataType)
-data_null set d x l bytes h e = ap value.Data e ∙ (data-default set l d ∙ sym (missing set d DataType x l h))
+data_null set d x l bytes h e = ap value.Data e ∙ (data-default set l d ∙ sym (null-read set d DataType x l h))
 
 pub data_there : (set : Schemas) (d : SchemaValue) (x : Tree) (l : Levels) (r : Result (List ℕ) ErrorKind) → is_null_tree x ≡ false → r ≡ as_data x → of_read value.Data r ≡ read_of set d DataType (value_of set x l DataType)
-data_there set d x l r h e = ap (of_read value.Data) e ∙ (sym (data-read set x l h) ∙ sym (there set d DataType x l h))
+data_there set d x l r h e = ap (of_read value.Data) e ∙ (sym (data-read set x l h) ∙ sym (there-read set d DataType x l h))
 
 pub untyped_seen : (set : Schemas) (d : SchemaValue) (x : Tree) (l : Levels) → value.Untyped x ≡ read_of set d AnyPointerType (value_of set x l AnyPointerType)
 untyped_seen set d x l = go (is_null_tree x) refl
   where
     go : (q : Bool) → is_null_tree x ≡ q → value.Untyped x ≡ read_of set d AnyPointerType (value_of set x l AnyPointerType)
-    go true h = ap value.Untyped (null-is x h) ∙ (untyped-default set l d ∙ sym (missing set d AnyPointerType x l h))
-    go false h = sym (untyped-read set x l h) ∙ sym (there set d AnyPointerType x l h)
+    go true h = ap value.Untyped (null-is x h) ∙ (untyped-default set l d ∙ sym (null-read set d AnyPointerType x l h))
+    go false h = sym (untyped-read set x l h) ∙ sym (there-read set d AnyPointerType x l h)
 
 -- ---- structs ----
 
@@ -101,7 +66,7 @@ module _ (set : Schemas) (b g : ℕ) (d : SchemaValue) (x : Tree) (n : ℕ) wher
 
   -- what is there, by its read
   struct-as : is_null_tree x ≡ false → struct_seen ≡ of_read (λ (s : StructTree). value.Struct (struct_record set (Left (n - 1)) s b)) (as_struct x n)
-  struct-as h = there set d (StructType b g) x (Left n) h ∙ struct-read set x (Left n) b g h
+  struct-as h = there-read set d (StructType b g) x (Left n) h ∙ struct-read set x (Left n) b g h
 
   pub struct_there : (s : StructTree) (m : ℕ) → is_null_tree x ≡ false → Ok s ≡ as_struct x n → m + 1 ≡ n → value.Struct (struct_record set (Left m) s b) ≡ struct_seen
   struct_there s m h e levels =
@@ -126,7 +91,7 @@ module _ (set : Schemas) (b g : ℕ) (d : SchemaValue) (x : Tree) (n : ℕ) wher
   struct-words d words e = cc
 
   struct-null : is_null_tree x ≡ true → struct_seen ≡ entered_value (Left n) (struct-inner d)
-  struct-null h = missing set d (StructType b g) x (Left n) h ∙ struct-default d
+  struct-null h = null-read set d (StructType b g) x (Left n) h ∙ struct-default d
 
   struct-empty : (s : StructTree) (m : ℕ) → is_null_tree x ≡ true → Ok s ≡ as_struct x n → m + 1 ≡ n → value.Struct (struct_record set (Left m) s b) ≡ empty_value set (Left n) (StructType b g)
   struct-empty s m h e levels =
@@ -191,7 +156,7 @@ module _ (set : Schemas) (t : SchemaType) (s : ElementSize) (sized : element_siz
       ∙ (ap (of_read (λ (_ : Tree). elements_value set y (below_of set y) (Left (l - 1)) t)) e ∙ sym (list-as y l h))
 
   pub list_there : (y : Tree) (m : ℕ) → is_null_tree x ≡ false → Ok y ≡ as_list s x n → m + 1 ≡ n → elements_value set y (below_of set y) (Left m) t ≡ list_seen
-  list_there y m h e levels = list-ok x y n m h e levels ∙ sym (there set d (ListType t) x (Left n) h)
+  list_there y m h e levels = list-ok x y n m h e levels ∙ sym (there-read set d (ListType t) x (Left n) h)
 
   abbrev list-inner : SchemaValue → Value
   list-inner (ListValue words) = unless_null set (Left n) (ListType t) (words_root words)
@@ -210,7 +175,7 @@ module _ (set : Schemas) (t : SchemaType) (s : ElementSize) (sized : element_siz
   list-words d words e = cc
 
   list-null : is_null_tree x ≡ true → list_seen ≡ entered_value (Left n) (list-inner d)
-  list-null h = missing set d (ListType t) x (Left n) h ∙ list-default d
+  list-null h = null-read set d (ListType t) x (Left n) h ∙ list-default d
 
   list-empty : (y : Tree) (m : ℕ) → is_null_tree x ≡ true → Ok y ≡ as_list s x n → elements_value set y (below_of set y) (Left m) t ≡ value.Elements value.NoValues
   list-empty y m h e = ap (λ v. elements_value set v (below_of set v) (Left m) t) (entered-ok (n == 0) _ _ _ (e ∙ ap (λ y. as_list s y n) (null-is x h))) ∙ no-elements set (Left m) t s
@@ -240,7 +205,7 @@ module _ (set : Schemas) (t : SchemaType) (s : ElementSize) (sized : element_siz
     where
       go : (q : Bool) → is_null_tree x ≡ q → value.Fault k ≡ list_seen
       go true h = refused-entered (n == 0) k _ _ (e ∙ ap (λ y. as_list s y n) (null-is x h)) ∙ sym (list-null h)
-      go false h = ap (of_read (λ (_ : Tree). elements_value set x (below_of set x) (Left (n - 1)) t)) e ∙ (sym (list-as x n h) ∙ sym (there set d (ListType t) x (Left n) h))
+      go false h = ap (of_read (λ (_ : Tree). elements_value set x (below_of set x) (Left (n - 1)) t)) e ∙ (sym (list-as x n h) ∙ sym (there-read set d (ListType t) x (Left n) h))
 
 -- ---- without a default ----
 

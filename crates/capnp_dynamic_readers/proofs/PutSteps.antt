@@ -1,6 +1,5 @@
 -- The steps of a print at the elements of a list: what was put, or why it stopped.
-use Rattle.std.specs.Prelude.{ℕ, ◌+◌, ◌-◌, ◌<◌, ◌≡◌, ◌==◌, true, Ok, Err, Result, IfErr, OnOk}
-use Rattle.std.proofs.Common.{sym, subst, ◌∙◌}
+use Rattle.std.proofs.Common.{ℕ, ◌+◌, ◌-◌, ◌<◌, ◌≡◌, ◌==◌, true, Ok, Err, Result, IfErr, OnOk, sym, subst, ◌∙◌}
 use Rattle.capnp_device.specs.declared.error.ErrorKind.{ErrorKind}
 use Rattle.capnp_records.specs.Text.{Layout, deeper, more_text, said_text, separator}
 use Rattle.capnp_dynamic_readers.specs.Pieces.{Taken}

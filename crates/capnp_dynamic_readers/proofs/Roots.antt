@@ -1,6 +1,5 @@
 -- The text of a value that stands alone.
-use Rattle.std.specs.Prelude.{◌≡◌, ◌≢◌, refl, Bool, true, false, Result, Err, IfErr, OnOk}
-use Rattle.std.proofs.Common.{ap, sym, subst, ◌∙◌}
+use Rattle.std.proofs.Common.{◌≡◌, ◌≢◌, refl, Bool, true, false, Result, Err, IfErr, ap, sym, subst, ◌∙◌}
 use Rattle.std.proofs.lemmas.Bool.{true≢false}
 use Rattle.std.specs.declared.alloc.AllocError.{AllocError}
 use Rattle.capnp_device.specs.declared.error.ErrorKind.{ErrorKind}
@@ -9,8 +8,8 @@ use Rattle.capnp_schema.specs.Schema.{VoidValue, node_of}
 use Rattle.capnp_schema.specs.StructHandles.{number_of, set_of}
 use Rattle.capnp_records.specs.Text.{Layout, Out, part_text, text_within}
 use Rattle.capnp_dynamic_readers.specs.Handles.{schema_of}
-use Rattle.capnp_dynamic_readers.specs.Pieces.{Taken, stopped_kind}
-use Rattle.capnp_dynamic_readers.specs.Steps.Pieces.{IsPut, IsStopped}
+use Rattle.capnp_dynamic_readers.specs.Pieces.{stopped_kind}
+use Rattle.capnp_dynamic_readers.specs.Steps.Pieces.{IsStopped}
 use Rattle.capnp_dynamic_readers.specs.Shown.{struct_printed}
 use Rattle.capnp_dynamic_readers.specs.Steps.Shown.{record_shown, root_shown, value_shown}
 use Rattle.capnp_dynamic_readers.specs.Typed.{struct_type}
@@ -57,11 +56,6 @@ other_root at (dynamic.AnyPointer p) h = refl
 pub root_stopped : {T F : Type 0} (at : Layout) (v : DynamicValue) (result : Result T (Stop F)) → root_shown at v ≡ value_shown 64 at v →
     IfErr result (IsStopped (value_shown 64 at v)) → IfErr result (IsStopped (root_shown at v))
 root_stopped at v result e h = subst (λ (o : Out). IfErr result (IsStopped o)) (sym e) h
-
--- what was put of the one was put of the other
-pub root_put : {T E : Type 0} (at : Layout) (v : DynamicValue) (o : Out) (old new : Taken) (result : Result T E) → root_shown at v ≡ o →
-    OnOk result (IsPut old o new) → OnOk result (IsPut old (root_shown at v) new)
-root_put at v o old new result e h = subst (λ (z : Out). OnOk result (IsPut old z new)) (sym e) h
 
 -- why a string was not made, memory aside
 pub stopped_refused : (o : Out) (stop : Stop AllocError) (kind : ErrorKind) → kind ≡ stopped_kind stop → IsStopped o stop → kind ≢ OutOfMemory → o ≡ Err kind

@@ -1,6 +1,5 @@
 -- The steps of a print.
-use Rattle.std.specs.Prelude.{ℕ, zero, suc, ◌+◌, ◌-◌, ◌<◌, ◌≡◌, ◌==◌, refl, List, [], ◌∷◌, ◌++◌, Bool, true, false, length, codes, Ok, Err, Option, Some, None, Result, IfErr, OnOk}
-use Rattle.std.proofs.Common.{rules, ap, sym, subst, ◌∙◌, arith}
+use Rattle.std.proofs.Common.{ℕ, zero, suc, ◌+◌, ◌-◌, ◌<◌, ◌≡◌, ◌==◌, refl, List, [], ◌∷◌, ◌++◌, Bool, true, false, length, codes, Ok, Err, Option, Some, None, Result, IfErr, OnOk, rules, ap, sym, subst, ◌∙◌, arith}
 use Rattle.capnp_device.specs.declared.error.ErrorKind.{ErrorKind}
 use Rattle.capnp_schema.specs.Schema.{Schemas, TypedField}
 use Rattle.capnp_schema.specs.StructHandles.{struct_fields}
@@ -133,9 +132,6 @@ list_some left at l h = go (count_of l) h
     go : (n : ℕ) → 0 < n → list_text at (element_items left (deeper at) l 0 n) ≡ bracketed_text (codes "[") (codes "]") at (element_items left (deeper at) l 0 n)
     go zero h = absurd (omega (arith, h))
     go (suc n) h = refl
-
-pub list_none : (left : ℕ) (at : Layout) (l : ListHandle) → count_of l ≡ 0 → list_shown left at l ≡ said_text (codes "[]")
-list_none left at l h = ap (λ n. list_text at (element_items left (deeper at) l 0 n)) h
 
 pub struct_some : (left : ℕ) (at : Layout) (r : StructHandle) → 0 < length (struct_fields (schema_of r)) → record_shown left at r ≡ bracketed_text (codes "(") (codes ")") at (record_items left (deeper at) r)
 struct_some left at r h = go (struct_fields (schema_of r)) h

@@ -1,9 +1,7 @@
 -- The view of a stored value reads as the value.
-use Rattle.std.specs.Prelude.{ℕ, List, ◌≡◌, refl, pos}
-use Rattle.std.proofs.Common.{ap, ap₂}
+use Rattle.std.proofs.Common.{ℕ, List, ◌≡◌, refl, pos, ap, ap₂}
 use Rattle.capnp_wire.specs.Tree.{Tree}
-use Rattle.capnp_schema.specs.Schema.{Schemas, VoidValue, BoolValue, IntValue, UIntValue, EnumValue, TextValue, DataValue, StructValue, ListValue, AnyPointerValue}
-use Rattle.capnp_schema.specs.Schema.{Value as SchemaValue}
+use Rattle.capnp_schema.specs.Schema.{Schemas, VoidValue, BoolValue, IntValue, UIntValue, EnumValue, TextValue, DataValue, StructValue, ListValue, AnyPointerValue, Value as SchemaValue}
 use Rattle.capnp_schema.specs.Types.{SchemaType, EnumType, StructType, ListType, AnyPointerType}
 use Rattle.capnp_schema.specs.Views.{IsViewOf, StandsOnWords}
 use Rattle.capnp_schema.specs.declared.value.Value.{Value as View}

@@ -1,7 +1,6 @@
 -- Texts one after another.
-use Rattle.std.specs.Prelude.{ℕ, zero, suc, ◌+◌, ◌*◌, ◌≡◌, refl, List, [], ◌∷◌, ◌++◌, Bool, true, false, codes, Ok, Err, Some, None, Result, OnOk, replicate}
+use Rattle.std.proofs.Common.{ℕ, zero, suc, ◌+◌, ◌*◌, ◌≡◌, refl, List, [], ◌∷◌, ◌++◌, Bool, true, false, codes, Ok, Err, Some, None, Result, OnOk, replicate, ap, sym, subst, ◌∙◌, append_assoc, append-nil, arith}
 use Rattle.std.specs.Fmt.{◌++?◌}
-use Rattle.std.proofs.Common.{ap, sym, subst, ◌∙◌, append_assoc, append-nil, arith}
 use Rattle.std.proofs.lemmas.Bool.{true≢false}
 use Rattle.capnp_records.specs.Facts.Spelled.{both_text, known_spelled, said_both}
 use Rattle.capnp_records.specs.Text.{Layout, Out, after, deeper, line, said_text, separator}

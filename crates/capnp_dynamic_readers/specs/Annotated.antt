@@ -3,8 +3,7 @@ use Rattle.std.specs.Prelude.{ℕ, List, pos}
 use Rattle.capnp_device.specs.declared.error.ErrorKind.TheVariants.{TypeMismatch}
 use Rattle.capnp_schema.specs.Accepted.{words_root}
 use Rattle.capnp_schema.specs.AnnotationLists.{annotation_in, annotation_set}
-use Rattle.capnp_schema.specs.Schema.{Schemas, VoidValue, BoolValue, IntValue, UIntValue, EnumValue, TextValue, DataValue, StructValue, ListValue, AnyPointerValue}
-use Rattle.capnp_schema.specs.Schema.{Value as SchemaValue}
+use Rattle.capnp_schema.specs.Schema.{Schemas, VoidValue, BoolValue, IntValue, UIntValue, EnumValue, TextValue, DataValue, StructValue, ListValue, AnyPointerValue, Value as SchemaValue}
 use Rattle.capnp_schema.specs.Types.{SchemaType, EnumType, StructType, ListType, AnyPointerType}
 use Rattle.capnp_schema.specs.declared.schema.annotations.Annotation.{Annotation}
 use Rattle.capnp_records.specs.Default.{own_levels, read_of}

@@ -6,8 +6,7 @@ use Rattle.capnp_device.specs.declared.error.ErrorKind.TheVariants.{FieldNotFoun
 use Rattle.capnp_wire.specs.Tree.{StructTree}
 use Rattle.capnp_wire.specs.Standing.{levels_of, list_levels, list_of, struct_levels, struct_of, tree_of}
 use Rattle.capnp_wire.specs.declared.pointer_reader.PointerReader.{PointerReader}
-use Rattle.capnp_schema.specs.Schema.{Schemas, VoidValue, FieldKind, Slot, Group, TypedField}
-use Rattle.capnp_schema.specs.Schema.{Value as SchemaValue}
+use Rattle.capnp_schema.specs.Schema.{Schemas, VoidValue, FieldKind, Slot, Group, TypedField, Value as SchemaValue}
 use Rattle.capnp_schema.specs.StructHandles.{number_of, set_of, struct_field}
 use Rattle.capnp_schema.specs.FieldLists.{field_schema as field_schema}
 use Rattle.capnp_schema.specs.Types.{SchemaType}
@@ -15,8 +14,7 @@ use Rattle.capnp_schema.specs.declared.schema.fields.Field.{Field}
 use Rattle.capnp_schema.specs.declared.schema.structs.StructSchema.{StructSchema}
 use Rattle.capnp_records.specs.Facts.ListValues.{below_of}
 use Rattle.capnp_records.specs.Default.{read_of, read_field}
-use Rattle.capnp_records.specs.Reading.{part_of}
-use Rattle.capnp_records.specs.Reading.{element_value, value_of, values_of}
+use Rattle.capnp_records.specs.Reading.{part_of, element_value, value_of, values_of}
 use Rattle.capnp_records.specs.Record as value
 use Rattle.capnp_records.specs.Record.{Left, Levels, Value}
 use Rattle.capnp_records.specs.Part.{has_of}

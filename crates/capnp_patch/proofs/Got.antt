@@ -1,5 +1,5 @@
 -- The text that is got is that of what a path leads to from the struct that the root's reader stands on.
-use Rattle.std.proofs.Common.{arith, ap, ap₂, refl, subst, sym, ◌∙◌, ◌≡◌, ℕ, ◌+◌, ◌++◌, Bool, List, [], ◌∷◌, true, false, Some, None, Result, Ok, Err, IfErr, OnErr}
+use Rattle.std.proofs.Common.{arith, ap, ap₂, refl, subst, sym, ◌∙◌, ◌≡◌, ℕ, ◌+◌, Bool, List, true, false, Result, Ok, Err, IfErr, OnErr}
 use Rattle.capnp_device.specs.declared.error.ErrorKind.{ErrorKind}
 use Rattle.capnp_wire.specs.Reading.{as_struct}
 use Rattle.capnp_wire.specs.Tree as tree
@@ -24,8 +24,7 @@ use Rattle.capnp_dynamic_readers.specs.Typed.{IsOf, struct_type}
 use Rattle.capnp_dynamic_readers.specs.declared.dynamic_struct.Reader.{Reader as StructHandle}
 use Rattle.capnp_dynamic_readers.specs.declared.dynamic_value.Reader.{Reader as DynamicValue}
 use Rattle.capnp_dynamic_readers.specs.declared.dynamic_value.Reader.TheVariants as dynamic
-use Rattle.capnp_dynamic_readers.specs.Pieces.{IsAppended}
-use Rattle.capnp_show_engine.specs.Show.{IsLineOf, message_root_value, struct_or_group}
+use Rattle.capnp_show_engine.specs.Show.{message_root_value, struct_or_group}
 use Rattle.capnp_patch.specs.Gets.{Reached, got_text, value_part_seen, path_read, reached_value, reached_text, text_at}
 
 -- ---- the text of a part ----
@@ -142,10 +141,6 @@ module _ (schema : StructSchema) (path : List PathStep) (indented : Bool) (bytes
   -- and else it is the value's, as it is printed
   pub got_printed : (v : DynamicValue) → IsOf (set_of schema) (type_seen v) v → IsReached (Ok (value_part_seen v)) → printed_text indented v ≡ got_text (set_of schema) (number_of schema) path indented bytes
   got_printed v is_of is = part_text (set_of schema) indented v is_of ∙ ap (reached_text (set_of schema) indented) is ∙ sym got-along
-
--- a text that was put into an empty string, and a line break
-pub line_of : (o : Out) (text line : List ℕ) → IsAppended [] o text → line ≡ text ++ 10 ∷ [] → IsLineOf o line
-line_of o text line (bytes, h, is) e = (bytes, h, e ∙ ap (λ (z : List ℕ). z ++ 10 ∷ []) is)
 
 -- what each refusal says, of what it said before
 pub each_refusal : {T E : Type 0} {P Q : E → Type 0} (r : Result T E) → ((e : E) → P e → Q e) → IfErr r P → IfErr r Q

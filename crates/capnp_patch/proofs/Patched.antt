@@ -1,6 +1,5 @@
 -- What a patch did, by what its last step answered.
-use Rattle.std.specs.Prelude.{ℕ, ◌≡◌, ◌≢◌, List, Bool, true, Option}
-use Rattle.std.proofs.Common.{subst, sym, Result, Ok, Err, IfErr, IfOk, OnOk}
+use Rattle.std.proofs.Common.{ℕ, ◌≡◌, ◌≢◌, List, Bool, true, Option, subst, sym, Result, Ok, Err, IfErr, IfOk, OnOk}
 use Rattle.capnp_device.specs.declared.error.Error.{Error}
 use Rattle.capnp_device.specs.declared.error.ErrorKind.TheVariants.{OutOfMemory, WriteFailed}
 use Rattle.capnp_wire.specs.Tree.{Tree}

@@ -1,6 +1,5 @@
 -- Where a path leads, by its first step.
-use Rattle.std.specs.Prelude.{ℕ, zero, suc, ◌+◌, ◌<◌, ◌≤◌, List, [], ◌∷◌, Bool, drop, length, nat_eq}
-use Rattle.std.proofs.Common.{◌≡◌, ◌∙◌, add-one, ap, arith, get_or, refl, sym, Ok}
+use Rattle.std.proofs.Common.{ℕ, zero, suc, ◌+◌, ◌<◌, ◌≤◌, List, [], ◌∷◌, Bool, drop, length, nat_eq, ◌≡◌, ◌∙◌, add-one, ap, arith, get_or, refl, sym, Ok}
 use Rattle.std.proofs.lemmas.Bool.Decides.{nat_tests}
 use Rattle.std.proofs.lemmas.List.{at_drop_all, drop_more}
 use Rattle.capnp_schema.specs.Schema.{Schemas}

@@ -1,5 +1,5 @@
 -- What a read answers is reached.
-use Rattle.std.proofs.Common.{◌≡◌, refl, ap, sym, subst, ◌∙◌, Result, Ok, Err, IfOk}
+use Rattle.std.proofs.Common.{◌≡◌, refl, ap, sym, ◌∙◌, Result, Ok, Err, IfOk}
 use Rattle.capnp_device.specs.declared.error.Error.{Error}
 use Rattle.capnp_schema.specs.Schema.{Schemas}
 use Rattle.capnp_schema.specs.Types.{SchemaType}
@@ -54,8 +54,3 @@ of_type v t = Ok (record { type = t; value = value_seen v })
 pub read_reached : (set : Schemas) (t : SchemaType) (r : Result DynamicValue Error) → IfOk r (IsOf set t) → seen_read r ≡ reached_value t (answered_value r)
 read_reached set t (Ok v) h = ap (of_type v) (type_is set t v h) ∙ sym (value_reached t v)
 read_reached set t (Err e) h = refl
-
--- and it is of its own type
-pub of_own_type : (set : Schemas) (t : SchemaType) (r : Result DynamicValue Error) → IfOk r (IsOf set t) → IfOk r (λ v. IsOf set (type_seen v) v)
-of_own_type set t (Ok v) h = subst (λ u. IsOf set u v) (sym (type_is set t v h)) h
-of_own_type set t (Err e) h = tt {0}

@@ -1,6 +1,5 @@
 -- Where a step leads, by what its tests and its read found.
-use Rattle.std.specs.Prelude.{ℕ, ◌<◌, ◌≤◌, nat_lt, Bool, true, false, not, length}
-use Rattle.std.proofs.Common.{◌≡◌, refl, ap, sym, subst, arith, ◌∙◌, Result, Ok, Err, IfOk}
+use Rattle.std.proofs.Common.{ℕ, ◌<◌, ◌≤◌, nat_lt, Bool, true, false, not, length, ◌≡◌, refl, ap, sym, subst, arith, ◌∙◌, Result, Ok, Err, IfOk}
 use Rattle.std.proofs.lemmas.Bool.{true≢false}
 use Rattle.capnp_device.specs.declared.error.Error.{Error}
 use Rattle.capnp_device.specs.declared.error.ErrorKind.{ErrorKind}

@@ -1,15 +1,8 @@
 -- Lines that were told one after another.
-use Rattle.std.specs.Prelude.{ℕ, zero, suc, ◌+◌, ◌≤◌, ◌<◌, List, [], ◌∷◌, drop, get_or, length}
-use Rattle.std.proofs.Common.{◌≡◌, ◌∙◌, ap, arith, refl, subst, sym}
+use Rattle.std.proofs.Common.{ℕ, zero, suc, ◌+◌, ◌≤◌, ◌<◌, List, [], ◌∷◌, drop, get_or, length, ◌≡◌, ◌∙◌, ap, arith, refl, subst, sym}
 use Rattle.std.proofs.lemmas.List.{drop_more}
-use Rattle.capnp_records.specs.Text.{IsText, Out}
-use Rattle.capnp_dynamic_readers.specs.Pieces.{IsAppended}
 use Rattle.capnp_call.specs.declared.calls.Reply.{Reply}
 use Rattle.capnp_patch.specs.Lines.{AreTold, IsReplyTold}
-
--- a text that was put into an empty string
-pub text_put : (o : Out) (text : List ℕ) → IsAppended [] o text → IsText o text
-text_put o text (bytes, h, e) = subst (IsText o) (sym e) h
 
 -- the item at an index stands before what is left
 step_from : {X : Type 0} (xs : List X) (i : ℕ) (x : X) → i < length xs → x ≡ get_or xs i x → drop i xs ≡ x ∷ drop (i + 1) xs

@@ -1,5 +1,4 @@
 //! Cases: what is asked of a message, over devices in memory, and what comes of it.
-ghost use Rattle.std.specs.Prelude.{◌≡◌, ◌<◌};
 ghost use Rattle.capnp_schema.specs.StructHandles.{IsStruct};
 
 use capnp_call::calls::Call;
@@ -12,6 +11,7 @@ use capnp_schema::set::SchemaSet;
 use capnp_schema_fixtures::fixtures::schema_of;
 use capnp_wire::error::Result;
 use capnp_wire::memory::{MemorySink, MemorySource};
+use capnp_wire_fixtures::devices::chunk;
 use std::alloc::Global;
 use std::process::Abort;
 
@@ -69,12 +69,6 @@ fn no_report(alloc: Global) -> Report {
         replies: Vec::new(alloc),
         lines: String::new(alloc),
     }
-}
-
-fn chunk(slow: bool) -> usize
-    ensures { 0 < result }
-{
-    if slow { 1 } else { 4096 }
 }
 
 /// Writes the text at a path; nothing is told.

@@ -1,7 +1,6 @@
 -- The default record has each field at its default.
 use Rattle.capnp_schema.specs.Facts.Groups.{group_fields_name_brands}
-use Rattle.std.specs.Prelude.{ℕ, ◌*◌, ◌<◌, ◌≡◌, refl, [], false, ◌==◌, length, bit_xor}
-use Rattle.std.proofs.Common.{arith, ap, sym, ◌∙◌}
+use Rattle.std.proofs.Common.{ℕ, ◌*◌, ◌<◌, ◌≡◌, refl, [], false, ◌==◌, length, bit_xor, arith, ap, sym, ◌∙◌}
 use Rattle.std.specs.Int.Bits.{xor_zero_l}
 use Rattle.capnp_wire.specs.Tree.{empty_struct}
 use Rattle.capnp_schema.specs.Schema.{FieldKind, Group, Schemas, Slot, TypedField, field_at, fields_of, node_of}

@@ -1,6 +1,5 @@
 -- What is read after a write of a field.
-use Rattle.std.specs.Prelude.{ℕ, ◌<◌, ◌≡◌, refl, Bool, true, false, not, ◌&&◌, ◌||◌, Some, length}
-use Rattle.std.proofs.Common.{ap, ap₂, sym, subst, ◌∙◌}
+use Rattle.std.proofs.Common.{ℕ, ◌<◌, ◌≡◌, refl, Bool, true, false, not, ◌&&◌, ◌||◌, Some, length, ap, ap₂, sym, subst, ◌∙◌}
 use Rattle.std.proofs.lemmas.Bool.{true≢false}
 use Rattle.std.specs.Int.Bits.{xor_zero_l}
 use Rattle.capnp_wire.specs.Tree.{Null, StructTree}
@@ -8,8 +7,7 @@ use Rattle.capnp_schema.specs.Accepted.{IsGroupOf}
 use Rattle.capnp_schema.specs.Facts.Groups.{group_fields_name_brands, group_in_set, group_names_its_parts, is_shallow}
 use Rattle.capnp_schema.specs.Footprint.{Spot, discriminant_names, footprint}
 use Rattle.capnp_schema.specs.Laws.{struct_spots}
-use Rattle.capnp_schema.specs.Schema.{Field, FieldKind, Group, Schemas, Slot, TypedField, default_of, field_at, fields_of, is_member, kind_default, node_of}
-use Rattle.capnp_schema.specs.Schema.{Value as SchemaValue}
+use Rattle.capnp_schema.specs.Schema.{Field, FieldKind, Group, Schemas, Slot, TypedField, default_of, field_at, fields_of, is_member, kind_default, node_of, Value as SchemaValue}
 use Rattle.capnp_schema.specs.SlotValue.{default_bits}
 use Rattle.capnp_schema.specs.Types.{AnyPointerType, BoolType, DataType, EnumType, IntType, ListType, SchemaType, StructType, TextType, UIntType, VoidType, is_pointer, struct_number}
 use Rattle.capnp_records.specs.Facts.DefaultTree.{read-there}

@@ -1,9 +1,7 @@
 -- What related types have in common, whether or not lists may have become lists of structs.
-use Rattle.std.specs.Prelude.{ℕ, suc, ◌*◌, ◌<◌, ◌≤◌, ◌≡◌, refl, List, Bool, true, false, nat_lt}
-use Rattle.std.proofs.Common.{arith, ap}
+use Rattle.std.proofs.Common.{ℕ, suc, ◌*◌, ◌<◌, ◌≤◌, ◌≡◌, refl, List, Bool, true, false, nat_lt, arith, ap}
 use Rattle.std.proofs.lemmas.Bool.{le-leb}
-use Rattle.capnp_schema.specs.Schema.{AnyPointerValue, ListValue, Schemas, StructValue}
-use Rattle.capnp_schema.specs.Schema.{Value as SchemaValue}
+use Rattle.capnp_schema.specs.Schema.{AnyPointerValue, ListValue, Schemas, StructValue, Value as SchemaValue}
 use Rattle.capnp_schema.specs.SlotValue.{default_bits, slot_number}
 use Rattle.capnp_schema.specs.Types.{AnyPointerType, BoolType, DataType, EnumType, IntType, ListType, SchemaType, StructType, TextType, UIntType, VoidType, element_size, integer_size, is_pointer, width}
 use Rattle.capnp_records.specs.Compatible.{Pairs, Related, SameDefault}

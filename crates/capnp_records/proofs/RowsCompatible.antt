@@ -1,8 +1,7 @@
 -- Worked rows of a schema that grew: `Mixed`, and `Mixed2` with a plain field and a member more.
-use Rattle.std.specs.Prelude.{ℕ, zero, suc, ◌<◌, ◌≡◌, refl, List, [], ◌∷◌, ◌++◌, false, ◌&&◌, ◌==◌, None, IsTrue, codes}
+use Rattle.std.proofs.Common.{ℕ, zero, suc, ◌<◌, ◌≡◌, refl, List, [], ◌∷◌, ◌++◌, false, ◌&&◌, ◌==◌, None, IsTrue, codes, arith, ap, sym, subst}
 use Rattle.std.specs.Fmt.{debug_escape, digits}
 use Rattle.std.specs.Str.{is_utf8, chars}
-use Rattle.std.proofs.Common.{arith, ap, sym, subst}
 use Rattle.std.proofs.lemmas.Bool.{eqb-true}
 use lib.Utf8.{encode}
 use Rattle.capnp_wire.specs.Tree.{Tree, Null, Struct, Numbers, NoTrees, MoreTrees}

@@ -1,7 +1,6 @@
 -- Worked rows of group copies that end early.
-use Rattle.std.specs.Prelude.{ℕ, true, refl, List, [], ◌∷◌, codes, replicate}
+use Rattle.std.proofs.Common.{ℕ, true, refl, List, [], ◌∷◌, codes, replicate, inr}
 use Rattle.std.specs.Fmt.{digits}
-use Rattle.std.proofs.Common.{inr}
 use Rattle.capnp_wire.specs.Tree.{Null, Numbers, NoTrees, MoreTrees}
 use Rattle.capnp_wire.specs.Place.{tree_at}
 use Rattle.capnp_device.specs.declared.error.ErrorKind.TheVariants.{OutOfMemory, TextNotTerminated}

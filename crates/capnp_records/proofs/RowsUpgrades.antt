@@ -1,7 +1,6 @@
 -- Worked rows of a list of numbers that became one of structs: `Tally`, `Tally2`, and `Pair`, which stands where a number stood.
-use Rattle.std.specs.Prelude.{ℕ, zero, suc, ◌<◌, ◌≡◌, refl, List, [], ◌∷◌, ◌++◌, ◌==◌, false, true, IsTrue, codes, Err}
+use Rattle.std.proofs.Common.{ℕ, zero, suc, ◌<◌, ◌≡◌, refl, List, [], ◌∷◌, ◌++◌, ◌==◌, false, true, IsTrue, codes, Err, arith, sym, subst}
 use Rattle.std.specs.Fmt.{digits}
-use Rattle.std.proofs.Common.{arith, sym, subst}
 use Rattle.std.proofs.lemmas.Bool.{eqb-true}
 use Rattle.capnp_device.specs.declared.error.ErrorKind.TheVariants.{WrongElementSize}
 use Rattle.capnp_wire.specs.Tree.{Tree, Struct, Numbers, NoTrees, MoreTrees}

@@ -1,24 +1,22 @@
 -- A value of which no part was refused for want of levels is, but for the levels of missing parts, what a reader with one level
 -- more sees.
-use Rattle.std.specs.Prelude.{ℕ, zero, suc, ◌≡◌, refl, List, [], ◌∷◌, Bool, true, false, cond, ◌&&◌, ◌==◌, Result, Ok, Err, length, Option, Some, None}
-use Rattle.std.proofs.Common.{arith, ap, ap₂, sym, subst, ◌∙◌}
+use Rattle.std.proofs.Common.{ℕ, zero, suc, ◌≡◌, refl, List, [], ◌∷◌, Bool, true, false, cond, ◌&&◌, ◌==◌, Result, Ok, Err, length, Option, Some, None, arith, ap, ap₂, sym, subst, ◌∙◌}
 use Rattle.std.proofs.lemmas.Bool.{true≢false}
 use Rattle.capnp_wire.specs.Tree as tree
 use Rattle.capnp_device.specs.declared.error.ErrorKind.{ErrorKind}
 use Rattle.capnp_device.specs.declared.error.ErrorKind.TheVariants.{TooDeep}
 use Rattle.capnp_wire.specs.Reading.{as_list, as_struct, list_length, with_level}
 use Rattle.capnp_wire.specs.Tree.{StructTree, Tree, Trees}
-use Rattle.capnp_schema.specs.Schema.{FieldKind, Group, Node, Schemas, Slot, TypedField, fields_of, is_member, node_of}
-use Rattle.capnp_schema.specs.Schema.{Value as SchemaValue}
+use Rattle.capnp_schema.specs.Schema.{FieldKind, Group, Node, Schemas, Slot, TypedField, fields_of, is_member, node_of, Value as SchemaValue}
 use Rattle.capnp_schema.specs.SlotValue.{slot_number}
 use Rattle.capnp_schema.specs.Types.{AnyPointerType, BoolType, DataType, EnumType, IntType, ListType, SchemaType, StructType, TextType, UIntType, VoidType, element_size, is_pointer, struct_brand}
 use Rattle.capnp_records.specs.Facts.Frame.{and-left, and-right, second-of}
-use Rattle.capnp_records.specs.Reading.{Below, Body, Reading, active_among, discriminant, element_value, elements_value, entered_value, first_pointer, group_record, kind_value, nth_reading, null, number_value, of_read, non_union_parts, record_of, record_within, slot_value, struct_below, tree_value, union_of, value_of, values_of}
+use Rattle.capnp_records.specs.Reading.{Below, Body, Reading, active_among, discriminant, element_value, elements_value, entered_value, first_pointer, group_record, kind_value, nth_reading, null, number_value, of_read, non_union_parts, record_of, record_within, slot_value, struct_below, tree_value, union_of, values_of}
 use Rattle.capnp_records.specs.Record.{Active, MoreValues, Left, Levels, NoValues, NoUnion, Parts, Record, Union, Unknown, Value, Values, is_there, one_less, values_from}
 use Rattle.capnp_records.specs.Record as value
 use Rattle.capnp_records.specs.Upgrades.{are_uncut, is_uncut, is_uncut_record, is_uncut_union, unleveled, unleveled_record, unleveled_union, unleveled_values}
 use Rattle.capnp_wire.specs.declared.fault.Fault.TheVariants as fault
-use Rattle.capnp_records.proofs.Readings.{AllBelow, AllReadings, each-pointer, each-reading, nth-reading}
+use Rattle.capnp_records.proofs.Readings.{AllBelow, AllReadings, each-pointer, nth-reading}
 
 no-level : (n : ℕ) → (suc n == 0) ≡ false
 no-level n = grind arith
@@ -254,6 +252,3 @@ module _ (set : Schemas) where
 
   pub values_of-keep : (xs : Trees) → AllReadings Keeps (values_of set xs)
   values_of-keep = each-pointer Keeps null-keeps set first-keeps tree-keeps
-
-  pub value_of-keeps : (x : Tree) → Keeps (value_of set x)
-  value_of-keeps = each-reading Keeps null-keeps set first-keeps tree-keeps

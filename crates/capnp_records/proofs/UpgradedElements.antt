@@ -1,8 +1,7 @@
 -- An element of a list that became one of structs, and field 0 of the struct in its place.
-use Rattle.std.specs.Prelude.{ℕ, zero, suc, ◌*◌, ◌≡◌, refl, pos, negsuc, List, [], ◌∷◌, Bool, true, false, not, ◌&&◌, ◌==◌, nat_lt, length, slice_get, bit_xor}
+use Rattle.std.proofs.Common.{ℕ, zero, suc, ◌*◌, ◌≡◌, refl, pos, negsuc, List, [], ◌∷◌, Bool, true, false, not, ◌&&◌, ◌==◌, nat_lt, length, slice_get, bit_xor, arith, ap, sym, subst, ◌∙◌}
 use Rattle.std.specs.Int.Bits.{xor_zero_r}
 use Rattle.std.specs.Option.{unwrap_or}
-use Rattle.std.proofs.Common.{arith, ap, sym, subst, ◌∙◌}
 use Rattle.std.proofs.lemmas.Bool.{eqb-true, true≢false}
 use Rattle.capnp_wire.specs.Tree as tree
 use Rattle.capnp_wire.specs.Elements.{reads_list}
@@ -13,8 +12,7 @@ use Rattle.capnp_wire.specs.StandFirst.{NumbersStandFirst, number_width}
 use Rattle.capnp_wire.specs.Tree.{Structs, Tree, nth_struct}
 use Rattle.capnp_wire.specs.WellFormed.{AreBytes, AreElements, IsWellFormed, is_width}
 use Rattle.capnp_schema.specs.Facts.Bits.{bits_at-number}
-use Rattle.capnp_schema.specs.Schema.{AnyPointerValue, BoolValue, DataValue, EnumValue, FieldKind, Group, IntValue, ListValue, Schemas, Slot, StructValue, TextValue, TypedField, UIntValue, VoidValue, field_at, fields_of, is_member, no_field}
-use Rattle.capnp_schema.specs.Schema.{Value as SchemaValue}
+use Rattle.capnp_schema.specs.Schema.{AnyPointerValue, BoolValue, DataValue, EnumValue, FieldKind, Group, IntValue, ListValue, Schemas, Slot, StructValue, TextValue, TypedField, UIntValue, VoidValue, field_at, fields_of, is_member, no_field, Value as SchemaValue}
 use Rattle.capnp_schema.specs.SlotValue.{bits_at, default_bits}
 use Rattle.capnp_schema.specs.Types.{integer_size}
 use Rattle.capnp_records.specs.Compatible.{is_empty_default, is_first_slot, stands_first}

@@ -1,12 +1,10 @@
 -- Records under an older schema and a newer one, where lists became lists of structs.
-use Rattle.std.specs.Prelude.{ℕ, zero, suc, ◌+◌, ◌*◌, ◌<◌, ◌≤◌, ◌≡◌, refl, List, [], ◌∷◌, Bool, true, false, not, ◌&&◌, ◌==◌, nat_lt, IsTrue, length, slice_get}
+use Rattle.std.proofs.Common.{ℕ, zero, suc, ◌+◌, ◌*◌, ◌<◌, ◌≤◌, ◌≡◌, refl, List, [], ◌∷◌, Bool, true, false, not, ◌&&◌, ◌==◌, nat_lt, IsTrue, length, slice_get, arith, ap, ap₂, sym, subst, ◌∙◌}
 use Rattle.std.specs.Option.{unwrap_or}
-use Rattle.std.proofs.Common.{arith, ap, ap₂, sym, subst, ◌∙◌}
 use Rattle.std.proofs.lemmas.Bool.{true≢false}
 use Rattle.capnp_schema.specs.Accepted.{GroupFits}
 use Rattle.capnp_schema.specs.Ranges.{HasWidths}
-use Rattle.capnp_schema.specs.Schema.{FieldKind, Group, Schemas, Slot, TypedField, field_at, fields_of, is_member, no_field, node_of}
-use Rattle.capnp_schema.specs.Schema.{Value as SchemaValue}
+use Rattle.capnp_schema.specs.Schema.{FieldKind, Group, Schemas, Slot, TypedField, field_at, fields_of, is_member, no_field, node_of, Value as SchemaValue}
 use Rattle.capnp_schema.specs.SlotValue.{bits_at, slot_number}
 use Rattle.capnp_schema.specs.Types.{BoolType, EnumType, IntType, SchemaType, StructType, UIntType, VoidType, is_pointer}
 use Rattle.capnp_records.specs.Compatible.{Pairs, Related, SameDefault, SameKind, SharedStruct, projected, projected_fields, projected_union, projection_of}

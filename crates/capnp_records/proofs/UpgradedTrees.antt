@@ -1,6 +1,5 @@
 -- Trees under an older schema and a newer one, where lists became lists of structs.
-use Rattle.std.specs.Prelude.{ℕ, zero, suc, ◌<◌, ◌≡◌, ◌⊎◌, refl, List, [], ◌∷◌, Bool, true, false, not, cond, ◌&&◌, ◌==◌, IsTrue, Result, Ok, Err, length}
-use Rattle.std.proofs.Common.{ap, ap₂, inl, inr, sym, subst, ◌∙◌}
+use Rattle.std.proofs.Common.{ℕ, zero, suc, ◌<◌, ◌≡◌, ◌⊎◌, refl, List, [], ◌∷◌, Bool, true, false, not, cond, ◌&&◌, ◌==◌, IsTrue, Result, Ok, Err, length, ap, ap₂, inl, inr, sym, subst, ◌∙◌}
 use Rattle.std.proofs.lemmas.Bool.{true≢false}
 use Rattle.capnp_wire.specs.Tree as tree
 use Rattle.capnp_device.specs.declared.error.ErrorKind.{ErrorKind}
@@ -13,8 +12,7 @@ use Rattle.capnp_wire.specs.WellFormed.{AreElements, AreWellFormed, IsWellFormed
 use Rattle.capnp_wire.specs.declared.size.ElementSize.TheVariants as size
 use Rattle.capnp_schema.specs.Accepted.{GroupFits}
 use Rattle.capnp_schema.specs.Ranges.{HasWidths}
-use Rattle.capnp_schema.specs.Schema.{FieldKind, Schemas, TypedField, field_at, fields_of, node_of}
-use Rattle.capnp_schema.specs.Schema.{Value as SchemaValue}
+use Rattle.capnp_schema.specs.Schema.{FieldKind, Schemas, TypedField, field_at, fields_of, node_of, Value as SchemaValue}
 use Rattle.capnp_schema.specs.SlotValue.{slot_number}
 use Rattle.capnp_schema.specs.Types.{AnyPointerType, BoolType, DataType, EnumType, IntType, ListType, SchemaType, StructType, TextType, UIntType, VoidType, element_size, integer_size, is_pointer, struct_number}
 use Rattle.capnp_records.specs.Compatible.{Pairs, Related, SharedStruct, became_struct, can_become_struct, elements_by, first_field, first_fields, is_empty_default, projected, projected_elements, stands_first}

@@ -1,5 +1,6 @@
 -- Facts of the definitions, with their proofs: what lemmas of crates above cite.
 pub mod DefaultTree
+pub mod Entered
 pub mod Extension
 pub mod FieldWrite
 pub mod FormedSets
@@ -10,6 +11,7 @@ pub mod ListValues
 pub mod Members
 pub mod NewTrees
 pub mod Numbers
+pub mod PartHere
 pub mod PartRead
 pub mod Pointers
 pub mod ReadFaults

@@ -4,8 +4,7 @@ use Rattle.capnp_wire.specs.Tree.{Tree, StructTree, nth_tree}
 use Rattle.capnp_device.specs.declared.error.ErrorKind.{ErrorKind}
 use Rattle.capnp_device.specs.declared.error.ErrorKind.TheVariants.{OutOfMemory, CannotSetAnyPointerFieldToAPrimitiveValue}
 use Rattle.capnp_schema.specs.Types.{SchemaType, AnyPointerType, is_pointer, struct_number}
-use Rattle.capnp_schema.specs.Schema.{Schemas, FieldKind, Slot, Group, TypedField, is_member, fields_of, field_at}
-use Rattle.capnp_schema.specs.Schema.{Value as SchemaValue}
+use Rattle.capnp_schema.specs.Schema.{Schemas, FieldKind, Slot, Group, TypedField, is_member, fields_of, field_at, Value as SchemaValue}
 use Rattle.capnp_records.specs.Record as value
 use Rattle.capnp_records.specs.Record.{Levels, Endless, Value, Values, Union, Record, Parts, NoUnion, Active, Unknown, is_there}
 use Rattle.capnp_records.specs.Reading.{value_of, slot_value, struct_record}

@@ -2,8 +2,7 @@
 use Rattle.std.specs.Prelude.{ℕ, ◌<◌, ◌≡◌, ◌≢◌, List, Bool, true, false, ◌&&◌, Option, Some, bit_xor, length}
 use Rattle.capnp_device.specs.declared.error.ErrorKind.{ErrorKind}
 use Rattle.capnp_wire.specs.Tree.{StructTree, Tree}
-use Rattle.capnp_schema.specs.Schema.{Schemas, TypedField, default_of, field_at, fields_of, is_member, node_of}
-use Rattle.capnp_schema.specs.Schema.{Value as SchemaValue}
+use Rattle.capnp_schema.specs.Schema.{Schemas, TypedField, default_of, field_at, fields_of, is_member, node_of, Value as SchemaValue}
 use Rattle.capnp_schema.specs.SlotValue.{default_bits}
 use Rattle.capnp_schema.specs.Types.{SchemaType, TextType, DataType, is_pointer, struct_number}
 use Rattle.capnp_records.specs.Record.{Levels, Value, Text, Data}

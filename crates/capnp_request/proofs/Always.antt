@@ -1,12 +1,11 @@
 -- Numbers, untyped pointers and groups can always be read.
-use Rattle.std.proofs.Common.{ℕ, ◌<◌, ◌≡◌, ◌∙◌, ap, refl, subst, sym, zero, suc, Bool, true, List, length}
+use Rattle.std.proofs.Common.{ℕ, ◌<◌, ◌≡◌, ◌∙◌, ap, refl, subst, sym, zero, suc, true, List, length}
 use Rattle.capnp_device.specs.declared.error.ErrorKind.{ErrorKind}
 use Rattle.capnp_wire.specs.Standing.{struct_levels, struct_of}
 use Rattle.capnp_wire.specs.Tree as tree
 use Rattle.capnp_wire.specs.Tree.{Tree, Trees}
 use Rattle.capnp_request.specs.RequestSet.{request_set}
-use Rattle.capnp_schema.specs.Schema.{DataValue, FieldKind, Group, ListValue, Schemas, Slot, StructValue, TextValue, default_of, field_at, fields_of}
-use Rattle.capnp_schema.specs.Schema.{Value as SchemaValue}
+use Rattle.capnp_schema.specs.Schema.{DataValue, FieldKind, Group, ListValue, Schemas, Slot, StructValue, TextValue, default_of, field_at, fields_of, Value as SchemaValue}
 use Rattle.capnp_schema.specs.StructHandles.{number_of, set_of}
 use Rattle.capnp_schema.specs.Types.{SchemaType, VoidType, BoolType, IntType, UIntType, EnumType, TextType, DataType, StructType, ListType, AnyPointerType}
 use Rattle.capnp_records.specs.Default.{read_of}
@@ -85,6 +84,3 @@ never s b i kind record_is inside active always e =
 pub whole_field : (k : FieldKind) (t u : SchemaType) → t ≡ u → is_whole u ≡ true → is_always_read k t ≡ true
 whole_field (Slot offset default) t u e h = ap is_whole e ∙ h
 whole_field (Group node) t u e h = refl
-
-pub group_field : (k : FieldKind) (t : SchemaType) → (q : Bool) → is_always_read (Group 0) t ≡ true
-group_field k t q = refl

@@ -5,8 +5,7 @@ use Rattle.capnp_device.specs.declared.error.ErrorKind.TheVariants.{NodeNotFound
 use Rattle.capnp_schema.specs.Schema.{Annotation, Value}
 use Rattle.capnp_schema.specs.Types.{SchemaType}
 use Rattle.capnp_records.specs.Record as value
-use Rattle.capnp_records.specs.Record.{Record}
-use Rattle.capnp_records.specs.Record.{Value as RecordValue}
+use Rattle.capnp_records.specs.Record.{Record, Value as RecordValue}
 use Rattle.capnp_dynamic_readers.specs.Seen.{list_seen}
 use Rattle.capnp_dynamic_readers.specs.declared.dynamic_list.Reader.{Reader as ListHandle}
 use Rattle.capnp_request.specs.Steps.Handles.{values_left}

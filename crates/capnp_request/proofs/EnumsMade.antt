@@ -1,7 +1,6 @@
 -- The parts of enums, as the definition sees them.
-use Rattle.std.proofs.Common.{ℕ, length, suc, ◌≡◌, ◌∙◌, ap, refl, sym, map, string_bytes, Bool, true, false, List, [], ◌∷◌, Result, Ok, Err}
+use Rattle.std.proofs.Common.{Vec, ℕ, length, suc, ◌≡◌, ◌∙◌, ap, refl, sym, map, string_bytes, Bool, true, false, List, [], ◌∷◌, Result, Ok, Err}
 use Rattle.std.specs.Global.{Global}
-use Rattle.std.specs.Prelude.{Vec}
 use Rattle.capnp_base.specs.declared.introspect.«Type».{«Type» as TypeHandle}
 use Rattle.capnp_device.specs.declared.error.ErrorKind.{ErrorKind}
 use Rattle.capnp_device.specs.declared.error.ErrorKind.TheVariants.{NodeNotFound}

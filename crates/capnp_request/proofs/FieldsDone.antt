@@ -10,8 +10,7 @@ use Rattle.capnp_schema.specs.declared.record.AnnotationRecord.{AnnotationRecord
 use Rattle.capnp_base.specs.declared.introspect.«Type».{«Type» as TypeHandle}
 use Rattle.capnp_records.specs.Part.{which_of}
 use Rattle.capnp_records.specs.Record as value
-use Rattle.capnp_records.specs.Record.{Record}
-use Rattle.capnp_records.specs.Record.{Value as RecordValue}
+use Rattle.capnp_records.specs.Record.{Record, Value as RecordValue}
 use Rattle.capnp_request.specs.Conversion.{Converted, Note, annotations_of, field_of, is_untyped, is_untyped_default, kind_of, converted_name, notes_of}
 use Rattle.capnp_request.specs.Steps.ConvertedSeen.{typed_annotations}
 use Rattle.capnp_request.specs.Parts.{request_read_at}

@@ -1,10 +1,8 @@
 -- Who has a dotted name.
-use Rattle.std.proofs.Common.{ℕ, ◌≡◌, ◌==◌, ◌∙◌, arith, ap, cond, refl, sym, subst, Bool, true, false, not, ◌&&◌, ◌||◌, bytes_eq, List, [], ◌∷◌, Option, Some, None}
+use Rattle.std.proofs.Common.{Vec, ℕ, ◌≡◌, ◌==◌, ◌∙◌, arith, ap, refl, sym, Bool, true, false, not, ◌&&◌, ◌||◌, bytes_eq, List, [], ◌∷◌, Option, Some, None}
 use Rattle.std.proofs.lemmas.Bool.Decides.{nat_tests}
-use Rattle.std.proofs.lemmas.Slice.Eq.{bytes_eq-Decides}
 use Rattle.std.specs.Global.{Global}
-use Rattle.std.specs.HashMap.{Updates, get}
-use Rattle.std.specs.Prelude.{Vec}
+use Rattle.std.specs.HashMap.{get}
 use Rattle.capnp_request.specs.Names.{Holder, is_taken}
 use Rattle.capnp_request.specs.Steps.NamesMade.{AreHolders, holder_of, one_more}
 use Rattle.capnp_request.specs.declared.names.Holder.{Holder as HolderRecord}
@@ -50,14 +48,3 @@ pub taken_now : (names : Names) (hs : List Holder) (id : ℕ) (key : Vec ℕ Glo
     holder.is_shared ≡ is_taken hs id d
 taken_now names hs id key d holder h same is =
     ap (λ (x : HolderRecord). x.is_shared) is ∙ (mark_is id (get eq names.holders key) ∙ (ap (taken_by id) (h.held key ∙ ap (holder_of hs) same) ∙ sym (taken_is hs id d)))
-
-pub held_now : (names new : Names) (hs : List Holder) (id : ℕ) (key : Vec ℕ Global) (d : List ℕ) (holder : HolderRecord) → AreHolders names hs → key.items ≡ d → holder ≡ one_more id (get eq names.holders key) → Updates eq names.holders new.holders key (Some holder) →
-    AreHolders new (record { id = id; dotted = d } ∷ hs)
-held_now names new hs id key d holder h same is updates = subst (λ (e : List ℕ). AreHolders new (record { id = id; dotted = e } ∷ hs)) same (record { held = λ q. updates.0 q ∙ go q (bytes_eq key.items q.items) refl })
-  where
-    go : (q : Vec ℕ Global) (b : Bool) → bytes_eq key.items q.items ≡ b →
-        cond b (Some holder) (get eq names.holders q) ≡ (elim b as (λ _. Option HolderRecord) [ true ↦ Some (one_more id (holder_of hs q.items)) | false ↦ holder_of hs q.items ])
-    go q true e =
-        let one : key.items ≡ q.items = (bytes_eq-Decides key.items q.items).0 e in
-        ap (λ (x : HolderRecord). Some x) (is ∙ ap (one_more id) (h.held key ∙ ap (holder_of hs) one))
-    go q false e = h.held q

@@ -1,9 +1,8 @@
 -- Names piece by piece.
-use Rattle.std.proofs.Common.{ℕ, zero, suc, ◌+◌, ◌-◌, ◌<◌, ◌≤◌, ◌≡◌, ◌≢◌, ◌==◌, ◌∙◌, arith, ap, refl, sym, subst, codes, Bool, true, false, List, [], ◌∷◌, ◌++◌, length, map, get_or, slice_get, drop, option_map, string_bytes, String, Some, None, Err}
+use Rattle.std.proofs.Common.{ℕ, zero, suc, ◌+◌, ◌-◌, ◌<◌, ◌≤◌, ◌≡◌, ◌==◌, ◌∙◌, arith, ap, refl, sym, subst, codes, Bool, true, false, List, [], ◌∷◌, ◌++◌, length, map, get_or, slice_get, drop, option_map, string_bytes, String, Some, None, Err, append_assoc, drop-cons, length-append}
 use Rattle.std.proofs.lemmas.List.{append-nil}
 use Rattle.std.proofs.lemmas.Option.{slice_get-map}
 use Rattle.std.specs.Option.{unwrap_or}
-use Rattle.std.proofs.Common.{append_assoc, drop-cons, length-append}
 use Rattle.capnp_device.specs.declared.error.ErrorKind.{ErrorKind}
 use Rattle.capnp_device.specs.declared.error.ErrorKind.TheVariants.{NodeNotFound}
 use Rattle.capnp_base.specs.Types.{base_variant}
@@ -18,7 +17,7 @@ use Rattle.capnp_schema.specs.declared.record.NodeRecord.{NodeRecord}
 use Rattle.capnp_schema.specs.Types.{SchemaType, lists_of, seen_base, seen_variant}
 use Rattle.capnp_request.specs.Steps.Bindings.{bounds, seen_bound}
 use Rattle.capnp_request.specs.Names.{bindings_name, bound_name, dotted_name, finished_name, group_name, more_names, part_bindings, type_name}
-use Rattle.capnp_request.specs.Steps.NamesMade.{IsTooLong, bound_name_at, names_nothing, repeated_piece, struct_names, texts}
+use Rattle.capnp_request.specs.Steps.NamesMade.{IsTooLong, bound_name_at, repeated_piece, struct_names, texts}
 use Rattle.capnp_request.specs.declared.entries.BoundScope.{BoundScope}
 
 -- a name that begins with one that is too long is too long
@@ -81,24 +80,6 @@ variant_seen (base.Struct s) = refl
 variant_seen base.AnyPointer = refl
 variant_seen (base.Enum e) = refl
 
--- a variant that is none of a struct and an enum names nothing, where it is no list
-pub names_none : (b : BaseType) → ((s : RawBrandedStructSchema) → base_variant b ≢ variant.Struct s) → ((e : RawEnumSchema) → base_variant b ≢ variant.Enum e) → names_nothing (base_variant b) ≡ true
-names_none base.Void h g = refl
-names_none base.Bool h g = refl
-names_none base.Int8 h g = refl
-names_none base.Int16 h g = refl
-names_none base.Int32 h g = refl
-names_none base.Int64 h g = refl
-names_none base.UInt8 h g = refl
-names_none base.UInt16 h g = refl
-names_none base.UInt32 h g = refl
-names_none base.UInt64 h g = refl
-names_none base.Text h g = refl
-names_none base.«Data» h g = refl
-names_none (base.Struct s) h g = absurd (h s refl)
-names_none base.AnyPointer h g = refl
-names_none (base.Enum e) h g = absurd (g e refl)
-
 -- the name of a struct or enum, by the name of its number
 pub struct_word : (structs enums : List (List ℕ)) (b : BaseType) (s : RawBrandedStructSchema) (name : List ℕ) → variant.Struct s ≡ base_variant b → unwrap_or (slice_get structs s.number) [] ≡ name →
     type_name structs enums (seen_base b) ≡ name
@@ -149,23 +130,6 @@ more_left structs enums ts i p h =
     ∙ (ap (λ n. (codes ", " ++ n) ++ more_names structs enums (drop 1 (drop i ts)) (p - (i + 1))) (name_behind structs enums ts i)
     ∙ ap (λ us. (codes ", " ++ bound_name_at structs enums ts i) ++ more_names structs enums us (p - (i + 1))) (drop_more ts i)))
 
-pub none_more : (structs enums : List (List ℕ)) (ts : List SchemaType) (i p : ℕ) → p ≤ i → more_names structs enums ts (p - i) ≡ []
-none_more structs enums ts i p h = let e : p - i ≡ 0 = omega (arith, h) in ap (more_names structs enums ts) e ∙ nothing ts
-  where
-    nothing : (ts : List SchemaType) → more_names structs enums ts 0 ≡ []
-    nothing [] = refl
-    nothing (t ∷ ts) = refl
-
--- in parentheses: the first, and the others behind it
-pub bindings_joined : (structs enums : List (List ℕ)) (ts : List SchemaType) (p : ℕ) → 0 < length ts →
-    bindings_name structs enums ts p ≡ ((codes "(" ++ bound_name_at structs enums ts 0) ++ more_names structs enums (drop 1 ts) (p - 1)) ++ codes ")"
-bindings_joined structs enums [] p h = absurd (omega (arith, h))
-bindings_joined structs enums (t ∷ ts) p h = refl
-
-pub bindings_none : (structs enums : List (List ℕ)) (ts : List SchemaType) (p : ℕ) → length ts ≡ 0 → bindings_name structs enums ts p ≡ []
-bindings_none structs enums [] p e = refl
-bindings_none structs enums (t ∷ ts) p e = absurd (omega (arith, e))
-
 -- ---- parts ----
 
 abbrev pub scope_by : Bool → List ℕ → List ℕ → List ℕ
@@ -205,12 +169,6 @@ dotted_left structs enums bs dots k xs i inside =
     go true = refl
     go false = refl
 
-pub nothing_left : (structs enums : List (List ℕ)) (bs : List BoundScope) (dots k : ℕ) (xs : List ℕ) (i : ℕ) → length xs ≤ i → bound_name structs enums (bounds bs) dots k (drop i xs) ≡ part_bindings structs enums (bounds bs) dots k
-nothing_left structs enums bs dots k [] zero h = refl
-nothing_left structs enums bs dots k [] (suc i) h = refl
-nothing_left structs enums bs dots k (x ∷ xs) zero h = absurd (omega (arith, h))
-nothing_left structs enums bs dots k (x ∷ xs) (suc i) h = nothing_left structs enums bs dots k xs i (omega (arith, h))
-
 -- ---- one step of each loop ----
 
 module _ (structs enums : List (List ℕ)) (ts : List SchemaType) (i p : ℕ) (inside : i < p) (name whole : List ℕ) (left : name ++ more_names structs enums (drop i ts) (p - i) ≡ whole) where
@@ -236,12 +194,6 @@ module _ (structs enums : List (List ℕ)) (bs : List BoundScope) (i : ℕ) (b :
 
   pub scope_long : (kind : ErrorKind) → (dots - b.distance == k) ≡ true → IsTooLong kind (name ++ bindings) → IsTooLong kind whole
   scope_long kind e h = subst (IsTooLong kind) (here true e) (begun_two name bindings rest h)
-
-  pub scope_appended : (next : List ℕ) → (dots - b.distance == k) ≡ true → next ≡ name ++ bindings → next ++ rest ≡ whole
-  scope_appended next e f = ap (λ xs. xs ++ rest) f ∙ (append_assoc name bindings rest ∙ here true e)
-
-  pub scope_passed : (dots - b.distance == k) ≡ false → name ++ rest ≡ whole
-  scope_passed e = here false e
 
 module _ (structs enums : List (List ℕ)) (bs : List BoundScope) (dots k : ℕ) (xs : List ℕ) (i : ℕ) (inside : i < length xs) (name whole : List ℕ)
     (left : name ++ bound_name structs enums (bounds bs) dots k (drop i xs) ≡ whole) where

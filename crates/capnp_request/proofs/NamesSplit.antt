@@ -1,5 +1,5 @@
 -- A name behind its last colon, and the file before it.
-use Rattle.std.proofs.Common.{ℕ, zero, suc, ◌+◌, ◌<◌, ◌≤◌, ◌≡◌, ◌≢◌, ◌==◌, ◌∙◌, nat_lt, arith, ap, refl, sym, subst, Bool, true, false, List, [], ◌∷◌, length, get_or, take, drop}
+use Rattle.std.proofs.Common.{ℕ, zero, suc, ◌<◌, ◌≤◌, ◌≡◌, ◌≢◌, ◌==◌, ◌∙◌, nat_lt, arith, ap, refl, sym, subst, Bool, true, false, List, [], ◌∷◌, length, get_or, take, drop}
 use Rattle.std.proofs.lemmas.Bool.{eq-eqb, eqb-true, lt-ltb}
 use Rattle.capnp_request.specs.Names.{occurrences_of, dotted_of, file_of, has_colon}
 
@@ -92,17 +92,3 @@ dotted_behind (x ∷ xs) (suc start) h =
       none = λ k from inside. h.none (suc k) (omega (arith, from)) (omega (arith, inside));
       before = λ k e. h.before (suc k) (ap suc e);
     }) ∙ sym (dotted_more x xs ∙ ap (λ q. dotted_by q x xs) here)
-
--- the count of what is left, by the next byte
-pub count_left : (byte : ℕ) (xs : List ℕ) (i : ℕ) → i < length xs → occurrences_of byte (drop i xs) ≡ by_test (get_or xs i 0 == byte) (occurrences_of byte (drop (i + 1) xs))
-count_left byte [] i inside = absurd (omega (arith, inside))
-count_left byte (x ∷ xs) zero inside = count_more byte x xs
-count_left byte (x ∷ xs) (suc i) inside = let e : suc i + 1 ≡ suc (i + 1) = omega arith in count_left byte xs i (omega (arith, inside)) ∙ ap (λ n. by_test (get_or xs i 0 == byte) (occurrences_of byte (drop n (x ∷ xs)))) (sym e)
-
-pub at_most : (byte : ℕ) (xs : List ℕ) → occurrences_of byte xs ≤ length xs
-at_most byte [] = omega arith
-at_most byte (x ∷ xs) = subst (λ n. n ≤ suc (length xs)) (sym (count_more byte x xs)) (go (x == byte) (at_most byte xs))
-  where
-    go : (q : Bool) → occurrences_of byte xs ≤ length xs → by_test q (occurrences_of byte xs) ≤ suc (length xs)
-    go true rest = omega (arith, rest)
-    go false rest = omega (arith, rest)

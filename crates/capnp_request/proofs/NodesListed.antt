@@ -44,10 +44,6 @@ join_more : {A : Type 0} (xs : List A) (y : A) (r : Said (List A)) → joined xs
 join_more xs y (Ok ys) = ap (λ zs. Ok zs) (sym (append_assoc xs (y ∷ []) ys))
 join_more xs y (Err kind) = refl
 
-pub join_none : {A : Type 0} (r : Said (List A)) → r ≡ joined [] r
-join_none (Ok ys) = refl
-join_none (Err kind) = refl
-
 or_else : Option SchemaNode → Option SchemaNode → Option SchemaNode
 or_else (Some x) other = Some x
 or_else None other = other
@@ -70,11 +66,6 @@ none_more : (o other : Option SchemaNode) → o ≡ None → or_else o other ≡
 unfolding or_else
 none_more o other e = ap (λ p. or_else p other) e
 
-nothing_more : (o : Option SchemaNode) → or_else o None ≡ o
-unfolding or_else
-nothing_more None = refl
-nothing_more (Some x) = refl
-
 -- ---- the loop ----
 
 abbrev pub said_by : StructReader → SchemaNode
@@ -86,9 +77,6 @@ module _ {S : Type 0} where
     pub whole : all_said (each_said 2 node_said (values_left l 0)) ≡ joined nodes (all_said (each_said 2 node_said (values_left l i)))
     pub count : length nodes ≡ i
     pub by_id : (id : ℕ) → option_map said_by (get nat_eq m id) ≡ node_named nodes id
-
-  pub nothing_read : (l : ListHandle) (m : HashMap ℕ StructReader S) → ((id : ℕ) → get nat_eq m id ≡ None) → ReadSoFar l m 0
-  nothing_read l m empty = record { nodes = []; whole = join_none (all_said (each_said 2 node_said (values_left l 0))); count = refl; by_id = λ id. ap (option_map said_by) (empty id) }
 
   module _ (l : ListHandle) (m : HashMap ℕ StructReader S) (i : ℕ) (h : ReadSoFar l m i) (is : IsListOf (request_struct 2) l) (inside : i < count_of l) where
     -- an element that can't be read

@@ -11,9 +11,9 @@ use Rattle.capnp_dynamic_readers.specs.declared.dynamic_list.Reader.{Reader as L
 use Rattle.capnp_request.proofs.ListsRead.{all_left, count_left, count_of}
 use Rattle.capnp_request.specs.Conversion.{declared_term, kind_declared}
 use Rattle.capnp_request.specs.Parts.{request_read_at}
-use Rattle.capnp_request.specs.Reading.{annotation_terms_in, by_member, declaration_said, enumerant_said, enumerants_said, id_said, list_or, list_said, node_kinds, node_said, number_in, struct_said, text_term, truth_in, list_value_count, whole_list}
+use Rattle.capnp_request.specs.Reading.{by_member, declaration_said, enumerant_said, enumerants_said, list_or, list_said, node_kinds, node_said, number_in, struct_said, text_term, truth_in, list_value_count}
 use Rattle.capnp_request.specs.Terms.{AnnotationNode, EnumNode, NodeKind, OtherNode, SchemaNode, StructNode}
-use Rattle.capnp_request.specs.Types.{is_enum, is_of_kind, is_root, is_struct_kind}
+use Rattle.capnp_request.specs.Types.{is_enum, is_root, is_struct_kind}
 use Rattle.capnp_request.specs.Steps.Types.{is_annotation}
 
 pub node_id : (r : Record) → (node_said r).id ≡ number_in (request_read_at 2 0 r)
@@ -27,14 +27,6 @@ node_name r = refl
 pub node_scope : (r : Record) → (node_said r).scope ≡ number_in (request_read_at 2 2 r)
 unfolding node_said
 node_scope r = refl
-
-pub node_nested : (r : Record) → (node_said r).nested ≡ whole_list 6 (id_said 6) (request_read_at 2 3 r)
-unfolding node_said
-node_nested r = refl
-
-pub node_annotations : (r : Record) → (node_said r).annotations ≡ annotation_terms_in (request_read_at 2 4 r)
-unfolding node_said
-node_annotations r = refl
 
 pub node_parameters : (r : Record) → (node_said r).parameters ≡ list_or Err (λ (vs : Values). Ok (list_value_count vs)) (request_read_at 2 11 r)
 unfolding node_said
@@ -154,12 +146,6 @@ no_root OtherNode e = refl
 
 -- ---- nodes of an id ----
 
-pub of_kind : (test : NodeKind → Bool) (o : Option SchemaNode) (r : Record) (q : Bool) → Some (node_said r) ≡ o → test (node_said r).kind ≡ q → is_of_kind test o ≡ q
-of_kind test o r q there is = ap (is_of_kind test) (sym there) ∙ is
-
-pub of_none : (test : NodeKind → Bool) (o : Option SchemaNode) → None ≡ o → is_of_kind test o ≡ false
-of_none test o there = ap (is_of_kind test) (sym there)
-
 pub declared_by : (o : Option SchemaNode) (r s : Record) → Some (node_said r) ≡ o → (node_said r).kind ≡ AnnotationNode (declaration_said s) → declared_term o ≡ Some (declaration_said s)
 declared_by o r s there is = ap declared_term (sym there) ∙ ap kind_declared is
 
@@ -171,9 +157,6 @@ undeclared o r there not = ap declared_term (sym there) ∙ go (node_said r).kin
     go (EnumNode enumerants) e = refl
     go (AnnotationNode t) e = cc
     go OtherNode e = refl
-
-pub undeclared_none : (o : Option SchemaNode) → None ≡ o → declared_term o ≡ None
-undeclared_none o there = ap declared_term (sym there)
 
 -- how many parameters
 pub parameters_unread : (r : Record) (kind : ErrorKind) → value.Fault kind ≡ request_read_at 2 11 r → (node_said r).parameters ≡ Err kind

@@ -1,16 +1,15 @@
 -- The number of one more entry or enum.
-use Rattle.std.proofs.Common.{ℕ, ◌+◌, ◌<◌, ◌≤◌, ◌≡◌, nat_lt, ◌∙◌, suc, arith, ap, refl, sym, cond, Bool, true, false, ◌==◌, List, [], ◌∷◌, ◌++◌, length, map, Option, Some, None, Result, Ok, Err}
+use Rattle.std.proofs.Common.{ℕ, ◌+◌, ◌<◌, ◌≤◌, ◌≡◌, nat_lt, ◌∙◌, suc, arith, ap, refl, sym, cond, Bool, true, false, ◌==◌, List, [], ◌∷◌, ◌++◌, length, map, Option, Some, None, Ok}
 use Rattle.std.proofs.lemmas.Bool.Decides.{nat_tests}
 use Rattle.std.proofs.lemmas.List.{length-append, length-map, map-append}
 use Rattle.std.specs.Cmp.{IsEquivalence}
 use Rattle.std.specs.HashMap.{HashMap, get, Updates}
 use Rattle.std.specs.Map.{lookup}
-use Rattle.capnp_device.specs.declared.error.ErrorKind.{ErrorKind}
 use Rattle.capnp_device.specs.declared.error.ErrorKind.TheVariants.{NodeNotFound, TooManyTypes}
 use Rattle.capnp_request.specs.Scopes.{node_named}
 use Rattle.capnp_request.specs.Terms.{SchemaNode}
-use Rattle.capnp_request.specs.Types.{add_entry, add_enum, entry_number, enum_or_add, enum_position, is_entry_of, is_enum, is_of_kind, number_enum, number_or_add, number_struct, number_where}
-use Rattle.capnp_request.specs.Work.{Bound, Entry, GroupOf, Named, Whole, where_so}
+use Rattle.capnp_request.specs.Types.{add_enum, entry_number, enum_or_add, enum_position, is_entry_of, is_enum, is_of_kind, number_enum, number_where}
+use Rattle.capnp_request.specs.Work.{Bound, Entry, GroupOf, Named, where_so}
 
 -- the first of two
 abbrev pub or_else : {A : Type 0} → Option A → Option A → Option A
@@ -55,10 +54,6 @@ module _ {K S : Type 0} (eq : K → K → Bool) (laws : IsEquivalence eq) (m n :
     pub number_added : get eq n q ≡ after
     number_added = updates.0 q ∙ (ap (cond (eq k q) (Some v)) was ∙ (found (eq k q) refl ∙ (ap (λ b. or_else before (number_where b v None)) (sym same) ∙ sym next)))
 
--- a result where the test holds
-pub where_holds : {A : Type 0} (q : Bool) (kind : ErrorKind) (r : Result A ErrorKind) → q ≡ true → where_so q kind r ≡ r
-where_holds q kind r e = ap (λ b. where_so b kind r) e
-
 -- the number of an entry, where one stands behind the others
 pub added_entry : (id : ℕ) (bound : List Bound) (es : List Entry) (e : Entry) (all : List Entry) (number : ℕ) → all ≡ es ++ e ∷ [] → number ≡ length es →
     entry_number id bound all 0 ≡ or_else (entry_number id bound es 0) (number_where (is_entry_of id bound e e.place) number None)
@@ -89,39 +84,19 @@ added_enum id xs x all number more is =
 
 -- ---- refusals ----
 
-test_false : (a b : ℕ) → b ≤ a → nat_lt a b ≡ false
-test_false a b h = grind (arith, nat_tests)
-
 test_true : (a b : ℕ) → a < b → nat_lt a b ≡ true
 test_true a b h = grind (arith, nat_tests)
-
-pub full_entries : (e : Entry) (s : Named) → 65536 ≤ length s.entries → add_entry e s ≡ Err TooManyTypes
-full_entries e s h = ap (λ q. where_so q TooManyTypes (Ok (length s.entries, record s { entries = s.entries ++ e ∷ [] }))) (test_false (length s.entries) 65536 h)
-
-pub full_struct : (id : ℕ) (bound : List Bound) (s : Named) → entry_number id bound s.entries 0 ≡ None → 65536 ≤ length s.entries → number_struct id bound s ≡ Err TooManyTypes
-full_struct id bound s none h =
-    let e : Entry = record { node = id; bound = bound; place = Whole } in
-    ap (λ o. number_or_add o e s) none ∙ full_entries e s h
 
 -- ---- enums ----
 
 module _ (nodes : List SchemaNode) (id : ℕ) (s : Named) where
-  pub old_enum : (number : ℕ) → enum_position s.enums id 0 ≡ Some number → number_enum nodes id s ≡ Ok (number, s)
-  old_enum number e = ap (λ o. enum_or_add nodes o id s) e
-
   module _ (none : enum_position s.enums id 0 ≡ None) where
     at_enum : number_enum nodes id s ≡ where_so (is_of_kind is_enum (node_named nodes id)) NodeNotFound (add_enum id s)
     at_enum = ap (λ o. enum_or_add nodes o id s) none
 
-    pub missing_enum : is_of_kind is_enum (node_named nodes id) ≡ false → number_enum nodes id s ≡ Err NodeNotFound
-    missing_enum h = at_enum ∙ ap (λ q. where_so q NodeNotFound (add_enum id s)) h
-
     module _ (found : is_of_kind is_enum (node_named nodes id) ≡ true) where
       found_enum : number_enum nodes id s ≡ add_enum id s
       found_enum = at_enum ∙ ap (λ q. where_so q NodeNotFound (add_enum id s)) found
-
-      pub full_enums : 4294967295 ≤ length s.enums → number_enum nodes id s ≡ Err TooManyTypes
-      full_enums h = found_enum ∙ ap (λ q. where_so q TooManyTypes (Ok (length s.enums, record s { enums = s.enums ++ id ∷ [] }))) (test_false (length s.enums) 4294967295 h)
 
       pub new_enum : (number : ℕ) (all : List ℕ) → length s.enums < 4294967295 → number ≡ length s.enums → all ≡ s.enums ++ id ∷ [] → number_enum nodes id s ≡ Ok (number, record s { enums = all })
       new_enum number all h count more =

@@ -5,12 +5,12 @@ use Rattle.capnp_device.specs.declared.error.ErrorKind.{ErrorKind}
 use Rattle.capnp_device.specs.declared.error.ErrorKind.TheVariants.{NodeNotFound, TooManyTypes}
 use Rattle.capnp_schema.specs.Schema.{Brand, Enum, Node}
 use Rattle.capnp_request.specs.Conversion.{Note}
-use Rattle.capnp_request.specs.Names.{Holder, dotted_of, enum_name, group_name, struct_name}
+use Rattle.capnp_request.specs.Names.{Holder, dotted_of, enum_name, struct_name}
 use Rattle.capnp_request.specs.Order.{Begun, Made, add_struct, and_said, begin_enum, begin_struct, conversion_of, enum_made, enum_names, make_all, make_enum, make_next, make_struct, name_entry, name_files, node_there, nothing_made, nothing_named, result_of, said_where}
 use Rattle.capnp_request.specs.Reading.{request_with}
 use Rattle.capnp_request.specs.Scopes.{node_named}
 use Rattle.capnp_request.specs.Terms.{Said, SchemaNode}
-use Rattle.capnp_request.specs.Work.{Entry, GroupOf, Named, Whole, Work, work_of, work_said, ◌>>=◌, work_continued}
+use Rattle.capnp_request.specs.Work.{Entry, Named, Whole, Work, work_of, work_said, ◌>>=◌, work_continued}
 use Rattle.capnp_request.proofs.Works.{then_err, then_ok}
 
 -- ---- the names of enums ----
@@ -91,12 +91,6 @@ module _ (nodes : List SchemaNode) (made : List Node) (enums : List (List ℕ)) 
 
       pub entry_named : (name : List ℕ) → bytes display ≡ Ok name → name_entry nodes made enums hs e Whole ≡ Ok (name, record { id = e.node; dotted = dotted_of display } ∷ hs)
       entry_named name r = shown ∙ (ap (λ r. and_said r (λ display. and_said (bytes display) (held display))) read ∙ ap (λ r. and_said r (held display)) r)
-
-  pub group_refused : (parent field : ℕ) (kind : ErrorKind) → group_name (slice_get made parent) field ≡ Err kind → name_entry nodes made enums hs e (GroupOf parent field) ≡ Err kind
-  group_refused parent field kind r = ap (λ r. and_said r (λ name. Ok (name, hs))) r
-
-  pub group_named : (parent field : ℕ) (name : List ℕ) → group_name (slice_get made parent) field ≡ Ok name → name_entry nodes made enums hs e (GroupOf parent field) ≡ Ok (name, hs)
-  group_named parent field name r = ap (λ r. and_said r (λ name. Ok (name, hs))) r
 
 -- ---- what an entry begins with ----
 

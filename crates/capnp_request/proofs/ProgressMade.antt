@@ -1,6 +1,5 @@
 -- What was made so far.
-use Rattle.std.proofs.Common.{ℕ, ◌<◌, ◌≤◌, ◌≡◌, ◌∙◌, ap, arith, length, map, refl, slice_get, subst, sym, suc, ◌+◌, ◌-◌, Bool, true, false, List, [], ◌∷◌, Option, Result, Ok, Err}
-use Rattle.std.specs.Prelude.{String}
+use Rattle.std.proofs.Common.{String, ℕ, ◌<◌, ◌≤◌, ◌≡◌, ◌∙◌, ap, arith, length, map, refl, slice_get, subst, sym, suc, ◌+◌, ◌-◌, Bool, true, false, List, [], ◌∷◌, Option, Result, Ok, Err}
 use Rattle.capnp_device.specs.declared.error.ErrorKind.{ErrorKind}
 use Rattle.capnp_device.specs.declared.error.ErrorKind.TheVariants.{TooManyTypes}
 use Rattle.capnp_schema.specs.Schema.{Brand, Node, seen_brand, seen_enum, seen_node}

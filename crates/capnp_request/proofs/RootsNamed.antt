@@ -1,10 +1,9 @@
 -- The ids that a request lists, those that are put into a queue, and the roots among them.
-use Rattle.std.proofs.Common.{ℕ, zero, suc, ◌+◌, ◌-◌, ◌<◌, ◌≤◌, ◌≡◌, ◌==◌, ◌∙◌, arith, ap, cond, refl, sym, append_assoc, drop, get_or, length, nat_eq, slice_get, Bool, true, false, not, ◌&&◌, ◌||◌, List, [], ◌∷◌, ◌++◌, Some, None, Ok, Err}
-use Rattle.std.proofs.lemmas.Bool.{eqb-true}
+use Rattle.std.proofs.Common.{ℕ, zero, suc, ◌+◌, ◌-◌, ◌<◌, ◌≤◌, ◌≡◌, ◌==◌, ◌∙◌, arith, ap, refl, sym, append_assoc, drop, get_or, length, nat_eq, slice_get, Bool, true, false, not, ◌&&◌, ◌||◌, List, [], ◌∷◌, ◌++◌, Some, None, Ok, Err}
 use Rattle.std.proofs.lemmas.List.{append-nil}
 use Rattle.std.proofs.lemmas.Option.{slice_get_within}
 use Rattle.std.specs.List.{list_any}
-use Rattle.std.specs.HashSet.{HashSet, Updates, contains}
+use Rattle.std.specs.HashSet.{HashSet}
 use Rattle.capnp_device.specs.declared.error.ErrorKind.{ErrorKind}
 use Rattle.capnp_device.specs.declared.error.ErrorKind.TheVariants.{NodeNotFound}
 use Rattle.capnp_records.specs.Record.{Record, values_from}
@@ -82,49 +81,6 @@ new_first nodes id ids met = go (not (is_met met id) && is_node_there (node_name
     go true = refl
     go false = refl
 
-abbrev pub one_if : Bool → ℕ → List ℕ
-one_if true id = id ∷ []
-one_if false id = []
-
-one_new : (nodes : List SchemaNode) (id : ℕ) (met : List ℕ) → new_ids nodes (id ∷ []) met ≡ one_if (not (is_met met id) && is_node_there (node_named nodes id)) id
-one_new nodes id met = go (not (is_met met id) && is_node_there (node_named nodes id))
-  where
-    go : (q : Bool) → (elim q as (λ _. List ℕ) [ true ↦ id ∷ [] | false ↦ [] ]) ≡ one_if q id
-    go true = refl
-    go false = refl
-
-and_false : (b : Bool) → (b && false) ≡ false
-and_false true = refl
-and_false false = refl
-
-and_true : (b : Bool) → (b && true) ≡ b
-and_true true = refl
-and_true false = refl
-
--- an id that no node has is none of them
-pub none_missing : (nodes : List SchemaNode) (id : ℕ) (met : List ℕ) → node_named nodes id ≡ None → new_ids nodes (id ∷ []) met ≡ []
-none_missing nodes id met e = one_new nodes id met ∙ ap (λ q. one_if q id) (ap (λ o. not (is_met met id) && is_node_there o) e ∙ and_false (not (is_met met id)))
-
--- and else it is where it wasn't met
-pub new_where : (nodes : List SchemaNode) (id : ℕ) (met : List ℕ) (n : SchemaNode) (added : Bool) → node_named nodes id ≡ Some n → added ≡ not (is_met met id) → new_ids nodes (id ∷ []) met ≡ one_if added id
-new_where nodes id met n added e is = one_new nodes id met ∙ ap (λ q. one_if q id) (ap (λ o. not (is_met met id) && is_node_there o) e ∙ (and_true (not (is_met met id)) ∙ sym is))
-
-is_true : (b : Bool) → false ≡ not b → b ≡ true
-is_true true e = refl
-is_true false e = cc
-
-met_more : (b c m : Bool) → c ≡ m → cond b true c ≡ (b || m)
-met_more true c m e = refl
-met_more false c m e = e
-
-met_kept : (b c m : Bool) → c ≡ m → (b ≡ true → m ≡ true) → cond b true c ≡ m
-met_kept true c m e h = sym (h refl)
-met_kept false c m e h = e
-
-pub met_now : {S : Type 0} (old new : HashSet ℕ S) (id : ℕ) (met : List ℕ) (added : Bool) → AreMet old met → added ≡ not (contains nat_eq old id) → Updates nat_eq old new id true → AreMet new (one_if added id ++ met)
-met_now old new id met true h is updates = λ q. updates.0 q ∙ met_more (nat_eq id q) (contains nat_eq old q) (is_met met q) (h q)
-met_now old new id met false h is updates = λ q. updates.0 q ∙ met_kept (nat_eq id q) (contains nat_eq old q) (is_met met q) (h q) (λ e. ap (is_met met) (sym (eqb-true id q e)) ∙ (sym (h id) ∙ is_true (contains nat_eq old id) is))
-
 -- at the beginning none was met
 pub none_met : {S : Type 0} (set : HashSet ℕ S) → set.keys ≡ [] → AreMet set []
 none_met set e = λ q. ap (λ (ks : List ℕ). list_any (nat_eq q) ks) e
@@ -155,9 +111,6 @@ nested_in r = refl
 module _ (nodes : List SchemaNode) (strict : Bool) (id : ℕ) (root : Bool) (s : Named) where
   abbrev numbered_root : List Bound → Work (List ℕ)
   numbered_root bound = number_struct id bound >>= (λ number. work_of [])
-
-  pub no_root : root ≡ false → name_root nodes strict id root s ≡ Ok ([], s)
-  no_root e = ap (λ b. name_root nodes strict id b s) e
 
   module _ (is : root ≡ true) where
     pub root_unscoped : (kind : ErrorKind) → scopes_of nodes id ≡ Err kind → name_root nodes strict id root s ≡ Err kind

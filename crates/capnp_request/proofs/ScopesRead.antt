@@ -1,5 +1,5 @@
 -- The scopes of a node, one more out at a time.
-use Rattle.std.proofs.Common.{ℕ, ◌+◌, ◌-◌, ◌<◌, ◌≡◌, ◌∙◌, ap, arith, refl, sym, zero, suc, nat_eq, ◌||◌, cond, Bool, true, false, not, List, [], ◌∷◌, ◌++◌, append_assoc, length, map, Option, Some, None, Ok, Err}
+use Rattle.std.proofs.Common.{ℕ, ◌+◌, ◌<◌, ◌≡◌, ◌∙◌, ap, arith, refl, sym, zero, suc, nat_eq, ◌||◌, cond, Bool, true, false, not, List, [], ◌∷◌, ◌++◌, append_assoc, map, Option, Some, None, Ok, Err}
 use Rattle.std.proofs.lemmas.List.{append-nil, map-append}
 use Rattle.std.specs.HashSet.{HashSet, Updates, contains}
 use Rattle.capnp_device.specs.declared.error.ErrorKind.{ErrorKind}
@@ -8,7 +8,7 @@ use Rattle.capnp_request.specs.Scopes.{and_scope, is_met, node_named, scopes_fro
 use Rattle.capnp_request.specs.Terms.{Said, SchemaNode}
 use Rattle.capnp_request.specs.Work.{Bound}
 use Rattle.capnp_request.specs.declared.schema_nodes.GenericScope.{GenericScope}
-use Rattle.capnp_request.proofs.NodesListed.{join_none, joined}
+use Rattle.capnp_request.proofs.NodesListed.{joined}
 
 module _ {S : Type 0} (nodes : List SchemaNode) (first : ℕ) where
   -- so many steps are left, and these ids were met
@@ -16,13 +16,6 @@ module _ {S : Type 0} (nodes : List SchemaNode) (first : ℕ) where
     pub ids : List ℕ
     pub are_met : (q : ℕ) → contains nat_eq met q ≡ is_met ids q
     pub rest : scopes_of nodes first ≡ joined (map with_nothing scopes) (scopes_from left nodes ids distance id)
-
-  pub no_scopes : (met : HashSet ℕ S) (scopes : List GenericScope) (left : ℕ) → ((q : ℕ) → contains nat_eq met q ≡ false) → scopes ≡ [] → left ≡ length nodes → ScopesSoFar scopes met left 0 first
-  no_scopes met scopes left empty none is = record {
-    ids = [];
-    are_met = empty;
-    rest = join_none (scopes_of nodes first) ∙ (ap (λ n. joined [] (scopes_from n nodes [] 0 first)) (sym is) ∙ ap (λ (xs : List GenericScope). joined (map with_nothing xs) (scopes_from left nodes [] 0 first)) (sym none));
-  }
 
   module _ (scopes : List GenericScope) (met : HashSet ℕ S) (left distance id : ℕ) (h : ScopesSoFar scopes met left distance id) where
     ended : scopes_from left nodes h.ids distance id ≡ Ok [] → scopes_of nodes first ≡ Ok (map with_nothing scopes)

@@ -1,31 +1,25 @@
 -- Faults of what is read of a request are those of reads, and so are the refusals.
-use Rattle.std.proofs.Common.{ℕ, ◌+◌, ◌-◌, ◌<◌, ◌≡◌, ◌==◌, zero, suc, arith, refl, rules, subst, sym, Bool, true, false, cond, IfErr, IfOk, Ok, Err, Result}
+use Rattle.std.proofs.Common.{ℕ, ◌-◌, ◌≡◌, ◌==◌, suc, arith, refl, rules, subst, sym, Bool, true, false, cond, IfErr, Ok, Err, Result}
 use Rattle.capnp_device.specs.declared.error.Error.{Error}
 use Rattle.capnp_device.specs.declared.error.ErrorKind.{ErrorKind}
 use Rattle.capnp_device.specs.declared.error.ErrorKind.TheVariants.{BadPointer, CapabilityPointer, TextNotTerminated, TooDeep, WrongElementSize, WrongPointerKind}
-use Rattle.capnp_wire.specs.Reading.{list_length}
-use Rattle.capnp_wire.specs.Standing.{list_levels, list_of, struct_levels, struct_of}
+use Rattle.capnp_wire.specs.Standing.{struct_levels, struct_of}
 use Rattle.capnp_wire.specs.Tree as tree
 use Rattle.capnp_wire.specs.Tree.{StructTree}
-use Rattle.capnp_schema.specs.Accepted.{NamesEntries}
 use Rattle.capnp_request.specs.RequestSet.{request_set}
-use Rattle.capnp_schema.specs.Schema.{FieldKind, Group, Schemas, Slot, VoidValue, default_of, field_at}
+use Rattle.capnp_schema.specs.Schema.{FieldKind, Group, Schemas, Slot, default_of, field_at}
 use Rattle.capnp_schema.specs.StructHandles.{number_of, set_of}
-use Rattle.capnp_schema.specs.Types.{SchemaType, StructType}
-use Rattle.capnp_records.specs.Facts.ListValues.{below_of}
-use Rattle.capnp_records.specs.Facts.ReadFaults.{AllSound, IsReadKind, RecordSound, Sound, part-sound, read_of-sound, value_of-sound}
+use Rattle.capnp_schema.specs.Types.{StructType}
+use Rattle.capnp_records.specs.Facts.ReadFaults.{IsReadKind, RecordSound, Sound, part-sound, read_of-sound, value_of-sound}
 use Rattle.capnp_records.specs.Part.{part_at}
-use Rattle.capnp_records.specs.Reading.{element_value, of_read, record_of, struct_record, values_of}
+use Rattle.capnp_records.specs.Reading.{of_read, record_of, struct_record, values_of}
 use Rattle.capnp_records.specs.Record as value
-use Rattle.capnp_records.specs.Record.{Left, Record, Value, values_from}
-use Rattle.capnp_dynamic_readers.specs.Handles.{element_of, list_reader_of, list_set, reader_of, schema_of}
-use Rattle.capnp_dynamic_readers.specs.Reads.{element_seen, handed_out}
-use Rattle.capnp_dynamic_readers.specs.Seen.{answered_value, list_seen, record_seen}
-use Rattle.capnp_dynamic_readers.specs.Typed.{IsOf}
-use Rattle.capnp_dynamic_readers.specs.declared.dynamic_list.Reader.{Reader as ListHandle}
+use Rattle.capnp_records.specs.Record.{Left, Record, Value}
+use Rattle.capnp_dynamic_readers.specs.Handles.{reader_of, schema_of}
+use Rattle.capnp_dynamic_readers.specs.Reads.{handed_out}
+use Rattle.capnp_dynamic_readers.specs.Seen.{answered_value, record_seen}
 use Rattle.capnp_dynamic_readers.specs.declared.dynamic_struct.Reader.{Reader as StructHandle}
 use Rattle.capnp_dynamic_readers.specs.declared.dynamic_value.Reader.{Reader as DynamicValue}
-use Rattle.capnp_request.specs.Steps.Handles.{IsListOf}
 use Rattle.capnp_request.specs.Parts.{request_read_at}
 use Rattle.capnp_request.specs.Refusals.{IsUnstrict}
 
@@ -55,28 +49,6 @@ unfolding request_read_at
 read_at-sound b i r s =
     handed_out-sound (field_at request_set b i).field.kind _
     (read_of-sound request_set (default_of (field_at request_set b i).field) (field_at request_set b i).type (part_at r (field_at request_set b i).field i) (part-sound r s (field_at request_set b i).field i))
-
--- ---- elements of lists ----
-
-from_sound : (f : ℕ → Value) (a n i : ℕ) → AllSound (values_from f a n) → i < n → Sound (f (a + i))
-from_sound f a zero i s h = absurd (omega (arith, h))
-from_sound f a (suc n) zero s h = let e : a ≡ a + 0 = omega arith in subst (λ j. Sound (f j)) e s.0
-from_sound f a (suc n) (suc i) s h = let e : suc a + i ≡ a + suc i = omega arith in subst (λ j. Sound (f j)) e (from_sound f (suc a) n i s.1 (omega (arith, h)))
-
-abbrev element_in : ListHandle → ℕ → Value
-element_in l i = element_value (list_set l) (list_of (list_reader_of l)) (below_of (list_set l) (list_of (list_reader_of l))) (Left (list_levels (list_reader_of l))) (element_of l) i
-
-pub element-sound : (l : ListHandle) (i : ℕ) → Sound (list_seen l) → i < list_length (list_of (list_reader_of l)) → Sound (element_seen l i)
-element-sound l i s h =
-    let e : 0 + i ≡ i = omega arith in
-    read_of-sound (list_set l) VoidValue (element_of l) (element_in l i)
-    (subst (λ j. Sound (element_in l j)) e (from_sound (element_in l) 0 (list_length (list_of (list_reader_of l))) i s h))
-
--- an element is of the list's type
-pub element_typed : (t : SchemaType) (l : ListHandle) (r : Result DynamicValue Error) → IsListOf t l → (NamesEntries (list_set l) (element_of l) → IfOk r (IsOf (list_set l) (element_of l))) → IfOk r (IsOf request_set t)
-element_typed t l r is h =
-    let named : NamesEntries (list_set l) (element_of l) = subst (λ (s : Schemas). NamesEntries s (element_of l)) (sym is.set) (subst (NamesEntries request_set) (sym is.element) is.named) in
-    subst (λ (u : SchemaType). IfOk r (IsOf request_set u)) is.element (subst (λ (s : Schemas). IfOk r (IsOf s (element_of l))) is.set (h named))
 
 -- ---- refusals ----
 

@@ -1,10 +1,9 @@
 -- The parts of structs, as the definition sees them.
-use Rattle.std.proofs.Common.{ℕ, ◌+◌, ◌≡◌, ◌∙◌, suc, arith, ap, refl, sym, append_assoc, Bool, true, false, List, [], ◌∷◌, ◌++◌, length, map, Ok, Err, Result}
+use Rattle.std.proofs.Common.{Vec, string_bytes, ℕ, ◌+◌, ◌≡◌, ◌∙◌, suc, arith, ap, refl, sym, append_assoc, Bool, false, List, [], ◌∷◌, ◌++◌, length, map, Ok, Err, Result}
 use Rattle.std.proofs.lemmas.List.{append-nil, map-append}
 use Rattle.capnp_base.specs.declared.introspect.«Type».{«Type» as TypeHandle}
 use Rattle.capnp_device.specs.declared.error.ErrorKind.{ErrorKind}
 use Rattle.std.specs.Global.{Global}
-use Rattle.std.specs.Prelude.{Vec, string_bytes}
 use Rattle.capnp_device.specs.declared.error.ErrorKind.TheVariants.{NodeNotFound}
 use Rattle.capnp_records.specs.Record.{Record, Value}
 use Rattle.capnp_dynamic_readers.specs.Seen.{list_seen}
@@ -14,22 +13,20 @@ use Rattle.capnp_schema.specs.Types.{SchemaType, seen_type}
 use Rattle.capnp_schema.specs.declared.record.AnnotationRecord.{AnnotationRecord}
 use Rattle.capnp_schema.specs.declared.record.BrandRecord.{BrandRecord}
 use Rattle.capnp_schema.specs.declared.record.NodeRecord.{NodeRecord}
-use Rattle.capnp_request.specs.Conversion.{Converted, Note, annotations_of, fields_of, note_at, note_where}
+use Rattle.capnp_request.specs.Conversion.{Converted, Note, annotations_of, fields_of}
 use Rattle.capnp_request.specs.Steps.ConvertedSeen.{seen_converted, typed_annotations}
 use Rattle.capnp_request.specs.Order.{all_fields, all_notes, at_struct, firsts, seconds, struct_made}
 use Rattle.capnp_request.specs.Steps.Handles.{values_left}
 use Rattle.capnp_request.specs.Parts.{request_read_at}
 use Rattle.capnp_request.specs.Reading.{annotation_terms_in, each_said, field_said, list_said, node_said, struct_said}
 use Rattle.capnp_request.specs.Shapes.{IsBrandOf}
-use Rattle.capnp_request.specs.Steps.Shapes.{note, noted_where}
-use Rattle.capnp_request.specs.StructsSeen.{seen_note, seen_notes, seen_stand_in}
+use Rattle.capnp_request.specs.StructsSeen.{seen_note, seen_notes}
 use Rattle.capnp_request.specs.Steps.StructsSeen.{converted_child_types, field_records, field_types, seen_fields}
 use Rattle.capnp_request.specs.Terms.{AnnotationNode, EnumNode, FieldTerm, NodeKind, OtherNode, Said, SchemaNode, StructNode, StructPart}
 use Rattle.capnp_request.specs.Types.{is_struct_kind}
 use Rattle.capnp_request.specs.Work.{Bound, Named, Work, work_of, work_said, ◌>>=◌, work_continued}
 use Rattle.capnp_request.specs.declared.fields.ConvertedField.{ConvertedField}
 use Rattle.capnp_request.specs.declared.notes.Note.{Note as NoteRecord}
-use Rattle.capnp_request.specs.declared.notes.StandIn.{StandIn as StandInRecord}
 use Rattle.capnp_request.proofs.ListsSaid.{said_all}
 use Rattle.capnp_request.proofs.Works.{then_err, then_ok}
 
@@ -48,16 +45,9 @@ second_types (a ∷ xs) (t ∷ ts) e = ap (λ ys. seen_type t ∷ ys) (second_ty
 
 -- ---- notes ----
 
-pub one_note : (q : Bool) (entry field : ℕ) (s : StandInRecord) → seen_notes (noted_where q (note entry field s)) ≡ note_where q (note_at entry field (seen_stand_in s))
-one_note true entry field s = refl
-one_note false entry field s = refl
-
 -- one note after another
 pub notes_more : (before after added : List NoteRecord) (new : List Note) → after ≡ before ++ added → seen_notes added ≡ new → seen_notes after ≡ seen_notes before ++ new
 notes_more before after added new e is = ap seen_notes e ∙ (map-append seen_note before added ∙ ap (λ xs. seen_notes before ++ xs) is)
-
-pub notes_joined : (z a b c d y : List Note) → y ≡ (((z ++ a) ++ b) ++ c) ++ d → y ≡ z ++ (((a ++ b) ++ c) ++ d)
-notes_joined z a b c d y e = e ∙ simp append_assoc
 
 all_notes-append : (xs ys : List Converted) → all_notes (xs ++ ys) ≡ all_notes xs ++ all_notes ys
 all_notes-append [] ys = refl

@@ -11,7 +11,7 @@ use Rattle.capnp_schema.specs.Types.{SchemaType, AnyPointerType, EnumType, ListT
 use Rattle.capnp_records.specs.Part.{which_of}
 use Rattle.capnp_records.specs.Record as value
 use Rattle.capnp_records.specs.Record.{Record, Value, Values}
-use Rattle.capnp_request.specs.Steps.Done.{IsWorkDone, IsSaid}
+use Rattle.capnp_request.specs.Steps.Done.{IsWorkDone}
 use Rattle.capnp_request.specs.Steps.Meant.{IsPlainMember, IsPlainOr, says_or, scope_in, type_kind}
 use Rattle.capnp_request.specs.Parts.{request_read_at}
 use Rattle.capnp_request.specs.Reading.{binding_kinds, binding_said, bindings_said, brand_in, by_member, enum_term, list_or, in_struct, list_term, number_in, parameter_said, scope_kinds, scope_said, struct_term, type_in, type_kinds, type_said, untyped_kinds, untyped_term}
@@ -24,11 +24,6 @@ use Rattle.capnp_request.specs.Work.{Bound, Named, Work, work_of, where_else, wh
 pub done_as : {A B : Type 0} (seen : B → A) (w v : Work A) (s t : Named) (r : Result B Error) → v s ≡ w s → IsWorkDone seen w s t r → IsWorkDone seen v s t r
 done_as seen w v s t (Ok b) e h = e ∙ h
 done_as seen w v s t (Err k) e h = λ n. e ∙ h n
-
--- what is said, where that is all of the work
-pub said_done : {A B : Type 0} (seen : B → A) (w : Work A) (d : Said A) (s : Named) (r : Result B Error) → ((a : A) → d ≡ Ok a → w s ≡ Ok (a, s)) → ((k : ErrorKind) → d ≡ Err k → w s ≡ Err k) → IsSaid seen d r → IsWorkDone seen w s s r
-said_done seen w d s (Ok b) ok err h = ok (seen b) h
-said_done seen w d s (Err k) ok err h = λ n. err k.kind (h n)
 
 -- ---- terms, by the active member ----
 

@@ -1,5 +1,5 @@
 -- What the record of a value says, by its active member.
-use Rattle.std.proofs.Common.{ℕ, subst, zero, not, ◌^◌, ◌<◌, ◌≤◌, ◌≡◌, suc, arith, nat_lt, true, false, ◌∙◌, ap, refl, sym, List, [], ◌∷◌, length, min, ◌⊎◌, inl, inr, Ok, Err, Option, Some, None, slice_get, drop}
+use Rattle.std.proofs.Common.{ℕ, subst, zero, ◌^◌, ◌<◌, ◌≤◌, ◌≡◌, suc, arith, nat_lt, true, false, ◌∙◌, ap, refl, sym, List, [], ◌∷◌, length, min, ◌⊎◌, inl, inr, Ok, Err, Option, Some, None, slice_get, drop}
 use Rattle.std.proofs.lemmas.Bool.Decides.{nat_tests}
 use Rattle.std.proofs.lemmas.Option.{slice_get_past}
 use Rattle.std.specs.Option.{option_map, unwrap_or}
@@ -8,19 +8,18 @@ use Rattle.capnp_device.specs.declared.error.ErrorKind.TheVariants.{UnknownKind}
 use Rattle.capnp_wire.specs.Encoding.{message_of}
 use Rattle.capnp_wire.specs.Tree.{Tree}
 use Rattle.capnp_wire.specs.Words.{first_fault, words_of}
-use Rattle.capnp_wire.specs.Reading.{is_null_tree, refusal}
+use Rattle.capnp_wire.specs.Reading.{refusal}
 use Rattle.capnp_wire.specs.WellFormed.{IsWellFormed}
 use Rattle.capnp_wire.specs.declared.fault.Fault.{Fault}
 use Rattle.capnp_schema.specs.Schema.{DataValue, TextValue, Value}
 use Rattle.capnp_records.specs.Record as record_value
 use Rattle.capnp_records.specs.Part.{which_of}
-use Rattle.capnp_records.specs.Record.{Record}
-use Rattle.capnp_records.specs.Record.{Value as RecordValue}
+use Rattle.capnp_records.specs.Record.{Record, Value as RecordValue}
 use Rattle.capnp_request.specs.Conversion.{is_untyped_default}
 use Rattle.capnp_request.specs.Parts.{request_read_at}
 use Rattle.capnp_request.specs.Reading.{by_member, bytes_value, pointer_value, value_kinds, value_said}
 use Rattle.capnp_request.specs.Terms.{ListWords, StructWords, UnreadValue, ValueTerm}
-use Rattle.capnp_request.specs.Values.{value_stated, words_or_fault, words_value, words_that_fit}
+use Rattle.capnp_request.specs.Values.{value_stated, words_or_fault, words_that_fit}
 
 -- what member i says, where this is read of it
 abbrev pub kind_at : ℕ → RecordValue → ValueTerm
@@ -33,10 +32,6 @@ said_by r m i v which is read = ap (λ o. by_member (UnreadValue UnknownKind) va
 pub said_so : (r : Record) (m i : ℕ) → which_of r ≡ Some m → m ≡ i → value_said r ≡ kind_at i (request_read_at 22 i r)
 said_so r m i which is = said_by r m i (request_read_at 22 i r) which is refl
 
--- the words of a tree in which each pointer can be followed
-pub words_there : (t : Tree) (f : List ℕ → Value) (w : List ℕ) → words_or_fault (first_fault t) t ≡ Ok w → words_value f (words_or_fault (first_fault t) t) ≡ Ok (f w)
-words_there t f w e = ap (words_value f) e
-
 pub words_of_sound : (t : Tree) (bytes w : List ℕ) → first_fault t ≡ None → suc (words_of t) < 2 ^ 29 → bytes ≡ message_of t → w ≡ drop 8 bytes → words_or_fault (first_fault t) t ≡ Ok w
 words_of_sound t bytes w sound few whole rest =
     let fits : nat_lt (suc (words_of t)) 536870912 ≡ true = grind (arith, nat_tests, few) in
@@ -48,12 +43,6 @@ words_faulty t kind = go (first_fault t)
     go : (o : Option Fault) → option_map refusal o ≡ Some kind → words_or_fault o t ≡ Err kind
     go None e = cc
     go (Some fault) e = let same : refusal fault ≡ kind = cc in ap (λ k. Err k) same
-
-pub words_refused : (t : Tree) (f : List ℕ → Value) (kind : ErrorKind) → words_or_fault (first_fault t) t ≡ Err kind → words_value f (words_or_fault (first_fault t) t) ≡ Err kind
-words_refused t f kind e = ap (words_value f) e
-
-pub value_none : (r : Record) → which_of r ≡ None → value_stated (value_said r) ≡ Err UnknownKind
-value_none r which = ap (λ o. value_stated (by_member (UnreadValue UnknownKind) value_kinds 22 o r)) which
 
 pub value_past : (r : Record) (m : ℕ) → which_of r ≡ Some m → 19 ≤ m → value_stated (value_said r) ≡ Err UnknownKind
 value_past r m which past =
@@ -127,6 +116,3 @@ not_untyped r m which other = ap is_untyped_default (said_so r m m which refl) �
 
 pub no_member : (r : Record) → which_of r ≡ None → is_untyped_default (value_said r) ≡ false
 no_member r which = ap (λ o. is_untyped_default (by_member (UnreadValue UnknownKind) value_kinds 22 o r)) which
-
-pub is_untyped_member : (r : Record) (m : ℕ) (t : Tree) → which_of r ≡ Some m → m ≡ 18 → record_value.Untyped t ≡ request_read_at 22 18 r → is_untyped_default (value_said r) ≡ not (is_null_tree t)
-is_untyped_member r m t which is read = ap is_untyped_default (said_by r m 18 (record_value.Untyped t) which is read)

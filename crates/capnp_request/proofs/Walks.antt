@@ -18,12 +18,6 @@ abbrev pub prefixed : {B : Type 0} → List B → Result (List B × Named) Error
 prefixed ys (Ok p) = Ok (ys ++ p.0, p.1)
 prefixed ys (Err kind) = Err kind
 
-pub then_ok : {A B : Type 0} (w : Work A) (f : A → Work B) (s t : Named) (a : A) → w s ≡ Ok (a, t) → (w >>= f) s ≡ f a t
-then_ok w f s t a e = ap (work_continued f) e
-
-pub then_err : {A B : Type 0} (w : Work A) (f : A → Work B) (s : Named) (kind : ErrorKind) → w s ≡ Err kind → (w >>= f) s ≡ Err kind
-then_err w f s kind e = ap (work_continued f) e
-
 pub nothing_done : {B : Type 0} (r : Result (List B × Named) ErrorKind) → r ≡ prefixed [] r
 nothing_done (Ok p) = refl
 nothing_done (Err kind) = refl

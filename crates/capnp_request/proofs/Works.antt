@@ -1,10 +1,9 @@
 -- Work step by step.
 use Rattle.std.proofs.Common.{ℕ, ◌+◌, ◌≡◌, ◌∙◌, ap, refl, sym, append_assoc, Bool, List, [], ◌∷◌, ◌++◌, Result, Ok, Err}
-use Rattle.std.proofs.lemmas.List.{append-nil}
 use Rattle.capnp_device.specs.declared.error.ErrorKind.{ErrorKind}
 use Rattle.capnp_request.specs.Conversion.{Converted, field_of, fields_of}
 use Rattle.capnp_request.specs.Terms.{FieldTerm, Said, SchemaNode}
-use Rattle.capnp_request.specs.Work.{Bound, Named, Work, each, each_read, work_of, ◌>>=◌, work_continued}
+use Rattle.capnp_request.specs.Work.{Bound, Named, Work, each_read, work_of, ◌>>=◌, work_continued}
 
 pub then_ok : {A B : Type 0} (w : Work A) (f : A → Work B) (s after : Named) (a : A) → w s ≡ Ok (a, after) → (w >>= f) s ≡ f a after
 then_ok w f s after a e = ap (work_continued f) e
@@ -20,9 +19,6 @@ ahead xs (Err kind) = Err kind
 pub ahead_none : {A : Type 0} (r : Result (List A × Named) ErrorKind) → ahead [] r ≡ r
 ahead_none (Ok p) = refl
 ahead_none (Err kind) = refl
-
-pub ahead_end : {A : Type 0} (xs : List A) (s : Named) → ahead xs (Ok ([], s)) ≡ Ok (xs, s)
-ahead_end xs s = ap (λ ys. Ok (ys, s)) (append-nil xs)
 
 one_ahead : {A : Type 0} (xs : List A) (x : A) (r : Result (List A × Named) ErrorKind) → ahead xs (work_continued (λ rest. work_of (x ∷ rest)) r) ≡ ahead (xs ++ x ∷ []) r
 one_ahead xs x (Ok p) = ap (λ ys. Ok (ys, p.1)) (sym (append_assoc xs (x ∷ []) p.0))

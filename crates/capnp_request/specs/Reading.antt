@@ -9,8 +9,7 @@ use Rattle.capnp_schema.specs.Schema.{Value, VoidValue, BoolValue, IntValue, UIn
 use Rattle.capnp_schema.specs.Types.{VoidType, BoolType, IntType, UIntType, TextType, DataType, AnyPointerType}
 use Rattle.capnp_records.specs.Part.{which_of}
 use Rattle.capnp_records.specs.Record as value
-use Rattle.capnp_records.specs.Record.{NoValues, MoreValues, Record, Values}
-use Rattle.capnp_records.specs.Record.{Value as RecordValue}
+use Rattle.capnp_records.specs.Record.{NoValues, MoreValues, Record, Values, Value as RecordValue}
 use Rattle.capnp_request.specs.Parts.{element_read, request_read_at}
 use Rattle.capnp_request.specs.Terms as term
 use Rattle.capnp_request.specs.Terms.{AnnotationTerm, BindingTerms, BrandTerm, EnumerantTerm, FieldKindTerm, FieldTerm, NodeKind, RequestTerm, Said, SchemaNode, ScopeTerm, StructPart, TypeTerm, ValueTerm}

@@ -22,9 +22,8 @@ ghost use Rattle.capnp_request.specs.Refusals.{IsUnstrict, IsRefusal};
 ghost use Rattle.capnp_request.specs.Scopes.{bound_types};
 ghost use Rattle.capnp_request.specs.Terms.{SchemaNode, TypeTerm, UnreadBrand};
 ghost use Rattle.capnp_request.specs.Types.{bind_scope, binding_types, brand_types, interface, lists_in, named_scopes, scope_types, type_of, without_untyped};
-ghost use Rattle.capnp_request.specs.Work.{Bound, Named, each};
+ghost use Rattle.capnp_request.specs.Work.{Bound, Named, each, Seen as WorkSeen};
 ghost use Rattle.capnp_request.specs.Steps.Work.{Numbered, named_with};
-ghost use Rattle.capnp_request.specs.Work.{Seen as WorkSeen};
 
 use crate::context::Context;
 use crate::entries::{BoundNode, BoundScope, Entries, entry_type, enum_type};

@@ -1,6 +1,5 @@
 -- A root that was got has its schema's sections, and calls in it leave a message.
-use Rattle.std.specs.Prelude.{ℕ, ◌≡◌, ◌<◌, List}
-use Rattle.std.proofs.Common.{ap, subst, sym, ◌∙◌}
+use Rattle.std.proofs.Common.{ℕ, ◌≡◌, ◌<◌, List, ap, subst, sym, ◌∙◌}
 use Rattle.capnp_wire.specs.Edits.{extended_struct}
 use Rattle.capnp_wire.specs.Place.{struct_tree}
 use Rattle.capnp_wire.specs.Tree.{StructTree}

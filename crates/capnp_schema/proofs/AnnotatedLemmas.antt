@@ -1,6 +1,5 @@
 -- Annotations with their types, by index.
-use Rattle.std.proofs.Common.{ℕ, zero, suc, ◌≡◌, ◌<◌, ◌==◌, ◌+◌, not, Bool, List, [], ◌∷◌, length, map, slice_get, get_or, min, Option, Some, None, refl, sym, ap, ◌∙◌, cond, arith}
-use Rattle.std.specs.Prelude.{position}
+use Rattle.std.proofs.Common.{position, ℕ, zero, suc, ◌≡◌, ◌<◌, ◌==◌, ◌+◌, not, Bool, List, [], ◌∷◌, length, map, slice_get, get_or, min, Option, Some, None, refl, sym, ap, ◌∙◌, cond, arith}
 use Rattle.std.specs.List.{position_or_len}
 use Rattle.std.proofs.lemmas.List.{length-map}
 use Rattle.std.proofs.lemmas.List.Quantifiers.{position-Some}

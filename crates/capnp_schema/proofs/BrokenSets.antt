@@ -1,6 +1,5 @@
 -- Where a rule is broken at a place the rule doesn't hold, and the set isn't accepted.
-use Rattle.std.proofs.Common.{◌≡◌, refl, ℕ, ◌<◌, List, Option, ap, length, subst}
-use Rattle.std.specs.Prelude.{All, slice_get, Some}
+use Rattle.std.proofs.Common.{All, slice_get, Some, ◌≡◌, refl, ℕ, ◌<◌, List, Option, ap, length, subst}
 use Rattle.std.specs.Option.{unwrap_or}
 use Rattle.std.proofs.lemmas.Option.{slice_get_within, get_or_from_slice_get}
 use Rattle.std.proofs.lemmas.List.Elements.{All-get_or}

@@ -1,7 +1,6 @@
 -- The first brand of a name, as a walk over the brands meets it.
-use Rattle.std.proofs.Common.{◌≡◌, ℕ, suc, rules, ◌+◌, ◌<◌, ◌≤◌, ◌^◌, ◌&&◌, ◌∙◌, [], ◌∷◌, List, Bool, true, false, not, ap, arith, bytes_eq, drop, length, refl, sym, add-one, Some, None}
+use Rattle.std.proofs.Common.{nat_lt, ◌≡◌, ℕ, suc, rules, ◌+◌, ◌<◌, ◌≤◌, ◌^◌, ◌&&◌, ◌∙◌, [], ◌∷◌, List, Bool, true, false, not, ap, arith, bytes_eq, drop, length, refl, sym, add-one, Some, None}
 use Rattle.std.specs.Bool.{if◌then◌else◌}
-use Rattle.std.specs.Prelude.{nat_lt}
 use Rattle.std.proofs.lemmas.Bool.{le-ltb}
 use Rattle.std.proofs.lemmas.List.{drop_more}
 use Rattle.capnp_schema.specs.Schema.{Brand, Schemas, no_brand, node_of}

@@ -1,6 +1,5 @@
 -- The defaults of an accepted set fit their fields.
-use Rattle.std.proofs.Common.{ℕ, ◌≡◌, ◌<◌, length, None, refl, sym, ap, subst}
-use Rattle.std.specs.Prelude.{All}
+use Rattle.std.proofs.Common.{All, ℕ, ◌≡◌, ◌<◌, length, None, refl, sym, ap, subst}
 use Rattle.capnp_wire.specs.Tree as tree
 use Rattle.capnp_wire.specs.Standing.{levels_of, tree_of}
 use Rattle.capnp_wire.specs.Words.{first_fault}

@@ -1,7 +1,6 @@
 -- Where a brand's discriminant stands, by the plan of the member of value 0.
-use Rattle.std.specs.Prelude.{ℕ, zero, suc, ◌+◌, ◌*◌, ◌%◌, ◌<◌, ◌≤◌, ◌≡◌, refl, List, Bool, true, false, Option, Some, None, length, slice_get, IfSome}
+use Rattle.std.proofs.Common.{ℕ, zero, suc, ◌+◌, ◌*◌, ◌%◌, ◌<◌, ◌≤◌, ◌≡◌, refl, List, Bool, true, false, Option, Some, None, length, slice_get, IfSome, arith, ap, sym, subst, ◌∙◌, ⊎_elim}
 use Rattle.std.specs.Option.{option_map, unwrap_or}
-use Rattle.std.proofs.Common.{arith, ap, sym, subst, ◌∙◌, ⊎_elim}
 use Rattle.std.proofs.lemmas.Bool.{cases_lt}
 use Rattle.std.proofs.lemmas.List.{length-map}
 use Rattle.std.proofs.Math.Nat.{mul-mod_right}

@@ -2,13 +2,9 @@
 use Rattle.std.proofs.Common.{ℕ, ◌≡◌, ◌<◌, List, length, map, slice_get, get_or, sym, ap, ◌∙◌}
 use Rattle.std.specs.Option.{unwrap_or, option_map}
 use Rattle.std.proofs.lemmas.Option.{slice_get-get_or, slice_get-map}
-use Rattle.capnp_schema.specs.declared.record.EnumRecord.{EnumRecord}
 use Rattle.capnp_schema.specs.declared.record.EnumerantRecord.{EnumerantRecord}
-use Rattle.capnp_schema.specs.Schema.{no_enum, seen_enum, seen_enumerant}
+use Rattle.capnp_schema.specs.Schema.{seen_enumerant}
 use Rattle.capnp_schema.specs.Annotated.{no_enumerant}
-
-pub enum_read : (es : List EnumRecord) (i : ℕ) (d : EnumRecord) → i < length es → seen_enum (get_or es i d) ≡ unwrap_or (slice_get (map seen_enum es) i) no_enum
-enum_read es i d h = ap (λ o. unwrap_or (option_map seen_enum o) no_enum) (sym (slice_get-get_or es i d h)) ∙ ap (λ o. unwrap_or o no_enum) (sym (slice_get-map seen_enum es i))
 
 pub enumerant_read : (xs : List EnumerantRecord) (i : ℕ) (d : EnumerantRecord) → i < length xs → seen_enumerant (get_or xs i d) ≡ unwrap_or (slice_get (map seen_enumerant xs) i) no_enumerant
 enumerant_read xs i d h = ap (λ o. unwrap_or (option_map seen_enumerant o) no_enumerant) (sym (slice_get-get_or xs i d h)) ∙ ap (λ o. unwrap_or o no_enumerant) (sym (slice_get-map seen_enumerant xs i))

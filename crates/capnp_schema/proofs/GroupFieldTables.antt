@@ -1,9 +1,7 @@
 -- The table of group fields, and what handles of them are.
-use Rattle.std.proofs.Common.{add-one, ℕ, zero, suc, ◌≡◌, ◌<◌, ◌≤◌, ◌^◌, ◌+◌, ◌∙◌, ⊎_elim, IfSome, IsFalse, List, [], ◌∷◌, ◌++◌, drop, length, map, slice_get, get_or, Option, Some, None, ap, arith, refl, subst, sym}
+use Rattle.std.proofs.Common.{ℕ, zero, suc, ◌≡◌, ◌<◌, ◌≤◌, ◌^◌, ◌∙◌, ⊎_elim, IfSome, IsFalse, List, [], ◌∷◌, ◌++◌, drop, length, map, slice_get, Option, Some, None, ap, arith, refl, subst, sym}
 use Rattle.std.specs.Option.{option_flatten}
 use Rattle.std.proofs.lemmas.Bool.{cases_lt, false_from_ne_true}
-use Rattle.std.proofs.lemmas.List.{append_assoc}
-use Rattle.std.proofs.lemmas.Option.{same_Some, slice_get_read}
 use Rattle.capnp_schema.specs.Accepted.{IsAccepted, IsGroupOf, IsParent}
 use Rattle.capnp_schema.specs.Steps.Checking.Parents.{IsParentTable, TargetsAreGroups, group_target}
 use Rattle.capnp_schema.specs.Facts.GroupFields.{group_field_found, group_field_is, group_of, no_group_field, place_found, place_missing, target_parent}
@@ -28,9 +26,6 @@ inside_brand set accepted g (Some (b, i)) e =
     (inside, omega arith)
 
 -- ---- the table by the table of parents ----
-
-Table : Type 0
-Table = List (Option (ℕ × ℕ))
 
 entry_here : (o : Option (Option (ℕ × ℕ))) (p : ℕ × ℕ) → option_flatten o ≡ Some p → o ≡ Some (Some p)
 entry_here None p e = cc
@@ -68,11 +63,6 @@ parent_small set accepted table is g (Some (b, i)) e =
 
 -- ---- the table is filled, one entry after another ----
 
-drop_at : (xs : List (Option (ℕ × ℕ))) (i : ℕ) (x : Option (ℕ × ℕ)) → slice_get xs i ≡ Some x → drop i xs ≡ x ∷ drop (suc i) xs
-drop_at [] i x e = cc
-drop_at (y ∷ ys) zero x e = ap (λ (z : Option (ℕ × ℕ)). z ∷ ys) (same_Some y x e)
-drop_at (y ∷ ys) (suc i) x e = drop_at ys i x e
-
 drop_past : (xs : List (Option (ℕ × ℕ))) (i : ℕ) → length xs ≤ i → drop i xs ≡ []
 drop_past [] zero le = refl
 drop_past [] (suc i) le = refl
@@ -82,13 +72,6 @@ drop_past (x ∷ xs) (suc i) le = drop_past xs i (omega arith)
 nothing_after : (xs : List (Option (ℕ × ℕ))) → xs ++ [] ≡ xs
 nothing_after [] = refl
 nothing_after (x ∷ xs) = ap (λ (ys : List (Option (ℕ × ℕ))). x ∷ ys) (nothing_after xs)
-
-pub numbered_next : (table fields whole : List (Option (ℕ × ℕ))) (i : ℕ) (o : Option (ℕ × ℕ)) → i < length table → o ≡ get_or table i o → fields ++ map numbered_pair (drop i table) ≡ whole → (fields ++ numbered_pair o ∷ []) ++ map numbered_pair (drop (i + 1) table) ≡ whole
-numbered_next table fields whole i o lt e so =
-    append_assoc fields (numbered_pair o ∷ []) (map numbered_pair (drop (i + 1) table))
-    ∙ (ap (λ (k : ℕ). fields ++ numbered_pair o ∷ map numbered_pair (drop k table)) (add-one i)
-    ∙ (ap (λ (xs : List (Option (ℕ × ℕ))). fields ++ map numbered_pair xs) (sym (drop_at table i o (slice_get_read table (length table) i o refl lt e)))
-    ∙ so))
 
 pub numbered_all : (table fields : List (Option (ℕ × ℕ))) (i : ℕ) → length table ≤ i → fields ++ map numbered_pair (drop i table) ≡ map numbered_pair table → fields ≡ map numbered_pair table
 numbered_all table fields i end so = sym (nothing_after fields) ∙ (ap (λ (xs : List (Option (ℕ × ℕ))). fields ++ map numbered_pair xs) (sym (drop_past table i end)) ∙ so)

@@ -1,6 +1,5 @@
 -- The bits of a place are the number that the wire reads there.
-use Rattle.std.specs.Prelude.{ℕ, ◌*◌, ◌/◌, ◌%◌, ◌^◌, ◌<◌, ◌≡◌, List}
-use Rattle.std.proofs.Common.{arith, ap, sym, subst, ◌∙◌}
+use Rattle.std.proofs.Common.{ℕ, ◌*◌, ◌/◌, ◌%◌, ◌^◌, ◌<◌, ◌≡◌, List, arith, ap, sym, subst, ◌∙◌}
 use Rattle.capnp_wire.specs.Slot.{bit_at, number_at}
 use Rattle.capnp_wire.specs.WellFormed.{AreBytes}
 use Rattle.capnp_schema.specs.SlotValue.{bit_number, bits_at}

@@ -1,6 +1,5 @@
 -- The tables of members by their discriminant values.
-use Rattle.std.proofs.Common.{ℕ, ◌≡◌, ◌<◌, ◌≤◌, ◌+◌, ◌==◌, ⊎_elim, Bool, true, false, not, List, [], ◌∷◌, ◌++◌, drop, take, length, map, get_or, position, slice_get, Option, Some, None, refl, sym, ap, ◌∙◌, subst, arith, get_or-set_same, get_or-set_other}
-use Rattle.std.specs.Prelude.{Contains, IsTrue, slice_set, ◌&&◌}
+use Rattle.std.proofs.Common.{Contains, IsTrue, slice_set, ◌&&◌, ℕ, ◌≡◌, ◌<◌, ◌≤◌, ◌+◌, ◌==◌, ⊎_elim, Bool, true, false, not, List, [], ◌∷◌, ◌++◌, drop, take, length, map, get_or, position, slice_get, Option, Some, None, refl, sym, ap, ◌∙◌, subst, arith, get_or-set_same, get_or-set_other}
 use Rattle.std.specs.Option.{option_map, unwrap_or}
 use Rattle.std.specs.List.{position_or_len}
 use Rattle.std.proofs.lemmas.Bool.{cases_lt, cases_Bool, eqb-true, eq-eqb}

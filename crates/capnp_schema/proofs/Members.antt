@@ -1,10 +1,9 @@
 -- Marks for the members of a union, one for each discriminant value.
-use Rattle.std.proofs.Common.{ℕ, zero, suc, ◌≡◌, ◌≢◌, ◌<◌, ◌≤◌, ◌+◌, ◌==◌, ⊎_elim, Bool, true, false, not, List, [], ◌∷◌, length, map, get_or, replicate, slice_get, Option, Some, None, refl, sym, ap, ◌∙◌, subst, arith, get_or-set_same, get_or-set_other}
-use Rattle.std.specs.Prelude.{Contains, IsTrue, slice_set}
+use Rattle.std.proofs.Common.{Contains, IsTrue, slice_set, ℕ, zero, suc, ◌≡◌, ◌≢◌, ◌<◌, ◌≤◌, ◌+◌, ◌==◌, ⊎_elim, Bool, true, false, not, List, [], ◌∷◌, length, map, get_or, slice_get, Option, Some, None, refl, sym, ap, ◌∙◌, subst, arith, get_or-set_same, get_or-set_other}
 use Rattle.std.specs.Option.{option_map}
 use Rattle.std.proofs.lemmas.Bool.{cases_lt, cases_eq, cases_Bool, eqb-true}
 use Rattle.std.proofs.lemmas.Option.{slice_get_within, slice_get-get_or, get_or_from_slice_get, slice_get-map, slice_get_read, same_Some}
-use Rattle.std.proofs.lemmas.List.{get_or_past, get_or-replicate, length-replicate, length-map}
+use Rattle.std.proofs.lemmas.List.{length-map}
 use Rattle.std.specs.Bool.{Decides}
 use Rattle.capnp_schema.specs.declared.record.FieldRecord.{FieldRecord}
 use Rattle.capnp_schema.specs.Schema.{Node, Field, is_member, seen_field}
@@ -16,16 +15,6 @@ set_inside : (marks : List Bool) (d : ℕ) → get_or marks d false ≡ true →
 set_inside [] d e = cc
 set_inside (m ∷ marks) zero e = omega arith
 set_inside (m ∷ marks) (suc d) e = let h = set_inside marks d e in omega arith
-
-unmarked_at : (count d : ℕ) → get_or (replicate count false) d false ≡ false
-unmarked_at count d = ⊎_elim (λ h. get_or-replicate count d false false h) (λ h. get_or_past (replicate count false) d false (omega (arith, length-replicate count false))) (cases_lt d count)
-
-pub no_marks : (fields : List Field) (count : ℕ) → Marked fields 0 (replicate count false)
-no_marks fields count = record {
-  within = λ k f h. absurd (omega arith);
-  found = λ d e. let u = unmarked_at count d in cc;
-  once = λ j k f g h. absurd (omega arith);
-}
 
 -- a value in the range of a union is not that of a plain field
 pub member_by_value : (f : Field) → f.discriminant_value ≢ 65535 → IsTrue (is_member f)

@@ -1,6 +1,5 @@
 -- The types of an accepted set name its entries.
-use Rattle.std.proofs.Common.{ℕ, ◌≡◌, ◌<◌, ⊎_elim, List, get_or, length, map, slice_get, Option, Some, None, Vec, sym, ap, subst, arith}
-use Rattle.std.specs.Prelude.{All, IfSome}
+use Rattle.std.proofs.Common.{All, IfSome, ℕ, ◌≡◌, ◌<◌, ⊎_elim, List, get_or, length, map, slice_get, Option, Some, None, Vec, sym, ap, subst, arith}
 use Rattle.std.specs.declared.alloc.Global.{Global}
 use Rattle.std.proofs.lemmas.List.{get_or-map, length-map}
 use Rattle.std.specs.Option.{option_map}

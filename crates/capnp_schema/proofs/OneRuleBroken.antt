@@ -1,6 +1,5 @@
 -- Sets in which a type names no brand or a group field has no struct type: rule 1 or rule 7 is broken, and no other.
-use Rattle.std.proofs.Common.{ℕ, ◌≡◌, ◌==◌, ◌||◌, Bool, true, false, refl, ap}
-use Rattle.std.specs.Prelude.{List, [], ◌∷◌, codes}
+use Rattle.std.proofs.Common.{List, [], ◌∷◌, codes, ℕ, ◌≡◌, ◌==◌, ◌||◌, Bool, true, false, refl, ap}
 use Rattle.capnp_device.specs.declared.error.SchemaTable.{SchemaTable}
 use Rattle.capnp_wire.specs.Place.{tree_at, tree_below}
 use Rattle.capnp_schema.specs.Types.{VoidType, UIntType, StructType}

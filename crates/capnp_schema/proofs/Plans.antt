@@ -1,6 +1,5 @@
 -- The plan of each field of an accepted set stands for the field's footprint, slot value and discriminant.
-use Rattle.std.specs.Prelude.{ℕ, zero, suc, ◌*◌, ◌<◌, ◌≡◌, refl, List, Bool, true, false, ◌&&◌, ◌==◌, nat_lt, IsTrue, IsFalse, IfSome, IfNone, length, bit_xor}
-use Rattle.std.proofs.Common.{arith, ap, sym, ◌∙◌}
+use Rattle.std.proofs.Common.{ℕ, zero, suc, ◌*◌, ◌<◌, ◌≡◌, refl, List, Bool, true, false, ◌&&◌, ◌==◌, nat_lt, IsTrue, IsFalse, IfSome, IfNone, length, bit_xor, arith, ap, sym, ◌∙◌}
 use Rattle.capnp_schema.specs.Types.{SchemaType, VoidType, BoolType, IntType, UIntType, EnumType, TextType, DataType, StructType, ListType, AnyPointerType, is_pointer, width}
 use Rattle.capnp_schema.specs.Schema.{Schemas, Node, Field, FieldKind, Slot, Group, Value, node_of, fields_of, field_at, is_member}
 use Rattle.capnp_schema.specs.Footprint.{Spot, DataBit, PointerAt, is_in, slot_names, kind_names, brand_names, discriminant_names, footprint}

@@ -1,6 +1,5 @@
 -- What the numbers of a set's entries are, of its brands' fields too.
-use Rattle.std.proofs.Common.{◌≡◌, ℕ, zero, suc, ◌*◌, ◌-◌, ◌<◌, ◌^◌, List, [], ◌∷◌, Bool, true, false, Vec, get_or, length, map, slice_get, Some, refl, sym, ap, ◌∙◌, subst, arith}
-use Rattle.std.specs.Prelude.{All, ℤ, pos, negsuc}
+use Rattle.std.proofs.Common.{All, ℤ, pos, negsuc, ◌≡◌, ℕ, zero, suc, ◌*◌, ◌-◌, ◌<◌, ◌^◌, List, [], ◌∷◌, Bool, true, false, Vec, get_or, length, map, slice_get, Some, refl, sym, ap, ◌∙◌, subst, arith}
 use Rattle.std.specs.Option.{unwrap_or}
 use Rattle.std.specs.declared.alloc.Global.{Global}
 use Rattle.std.proofs.lemmas.List.Elements.{All-map}

@@ -4,10 +4,9 @@ use Rattle.capnp_wire.specs.Tree as tree
 use Rattle.capnp_wire.specs.Tree.{NoTrees, MoreTrees}
 use Rattle.capnp_wire.specs.Place.{tree_at, tree_below}
 use Rattle.capnp_schema.specs.Types.{UIntType, TextType, is_pointer, ListType, EnumType, VoidType, lists_of}
-use Rattle.capnp_schema.specs.Schema.{fields_of, field_at, node_of}
+use Rattle.capnp_schema.specs.Schema.{fields_of, field_at, node_of, VoidValue, BoolValue}
 use Rattle.capnp_schema.specs.Footprint.{Spot, DataBit, PointerAt, footprint, discriminant_names}
 use Rattle.capnp_schema.specs.Accepted.{words_root}
-use Rattle.capnp_schema.specs.Schema.{VoidValue, BoolValue}
 use Rattle.capnp_schema.specs.Query.{member_of, non_union_fields, field_named, records_of, annotation_of}
 use Rattle.capnp_schema.specs.Laws.{height_within, group_height}
 use Rattle.capnp_schema.specs.Builtin.{annotation, builtin, loop_words, zero_word}

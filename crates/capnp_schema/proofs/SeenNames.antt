@@ -1,6 +1,5 @@
 -- Names of the fields that records stand for.
-use Rattle.std.proofs.Common.{◌≡◌, ℕ, zero, suc, List, [], ◌∷◌, Option, Some, None, length, refl, slice_get, map}
-use Rattle.std.specs.Prelude.{string_bytes}
+use Rattle.std.proofs.Common.{string_bytes, ◌≡◌, ℕ, zero, suc, List, [], ◌∷◌, Option, Some, None, length, refl, slice_get, map}
 use Rattle.std.proofs.lemmas.List.{length-map}
 use Rattle.capnp_schema.specs.Schema.{seen_field}
 use Rattle.capnp_schema.specs.Names.{name_at}

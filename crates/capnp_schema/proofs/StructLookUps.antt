@@ -1,33 +1,16 @@
 -- What a set answers to the queries of a struct's schema is inside its fields.
-use Rattle.std.proofs.Common.{ℕ, zero, suc, ◌≡◌, ◌+◌, ◌<◌, ◌≤◌, ⊎_elim, Bool, true, false, cond, List, [], ◌∷◌, length, map, get_or, slice_get, Option, Some, None, sym, ap, ◌∙◌, subst, arith, position}
-use Rattle.std.specs.Prelude.{All, bytes_eq}
+use Rattle.std.proofs.Common.{All, bytes_eq, ℕ, zero, suc, ◌≡◌, ◌+◌, ◌<◌, ◌≤◌, ⊎_elim, Bool, true, false, cond, List, [], ◌∷◌, length, get_or, Some, None, sym, ap, ◌∙◌, subst, arith, position}
 use Rattle.std.specs.List.{position_or_len}
-use Rattle.std.specs.Option.{option_map, unwrap_or}
 use Rattle.std.proofs.lemmas.List.{length-map}
-use Rattle.std.proofs.lemmas.Option.{slice_get-get_or, slice_get-map}
+use Rattle.std.proofs.lemmas.Option.{slice_get-get_or}
 use Rattle.std.proofs.lemmas.Bool.{cases_lt, lt-ltb, le-ltb}
-use Rattle.capnp_schema.specs.declared.record.NodeRecord.{NodeRecord}
 use Rattle.capnp_schema.specs.declared.schema.structs.StructSchema.{StructSchema}
-use Rattle.capnp_schema.specs.Schema.{Schemas, Node, Field, TypedField, no_node, brand_at, node_of, seen_node}
-use Rattle.capnp_schema.specs.Accepted.{IsAccepted}
+use Rattle.capnp_schema.specs.Schema.{Field, TypedField}
 use Rattle.capnp_schema.specs.Query.{AreMembers, field_named, member_of, is_member_of, indices_from, keep_index, is_non_union, non_union_fields}
 use Rattle.capnp_schema.specs.StructHandles.{struct_fields, struct_records}
 use Rattle.capnp_schema.proofs.MemberTables.{found_none, is_of, no_member}
 
 -- ---- a brand's node ----
-
-module _ (set : Schemas) (accepted : IsAccepted set) (nodes : List NodeRecord) (are : map seen_node nodes ≡ set.nodes) (b g : ℕ) (inside : b < length set.brands) (is : g ≡ (brand_at set b).node) where
-  pub node_inside : g < length nodes
-  node_inside =
-      let there = (accepted.rule2.brands b inside).node in
-      let count = sym (length-map nodes seen_node) ∙ ap (λ (l : List Node). length l) are in
-      omega (arith, there, count, is)
-
-  pub node_is_seen : (d : NodeRecord) → seen_node (get_or nodes g d) ≡ node_of set b
-  node_is_seen d =
-      sym (ap (λ (o : Option Node). unwrap_or o no_node) (slice_get-map seen_node nodes g ∙ ap (option_map seen_node) (slice_get-get_or nodes g d node_inside)))
-      ∙ ap (λ (l : List Node). unwrap_or (slice_get l g) no_node) are
-      ∙ ap (λ (i : ℕ). unwrap_or (slice_get set.nodes i) no_node) is
 
 -- ---- fields ----
 

@@ -1,8 +1,7 @@
 //! What Rust's integer types bound in the records of a set. The walk only says so: it computes nothing.
 ghost use Rattle.std.specs.Prelude.{All, map};
 ghost use Rattle.capnp_wire.specs.WellFormed.{AreBytes};
-ghost use Rattle.capnp_schema.specs.Schema.{seen_annotations, seen_enum, seen_enumerant, seen_field, seen_kind};
-ghost use Rattle.capnp_schema.specs.Schema.{seen_node, seen_value, kind_default, Enumerant};
+ghost use Rattle.capnp_schema.specs.Schema.{seen_annotations, seen_enum, seen_enumerant, seen_field, seen_kind, seen_node, seen_value, kind_default, Enumerant};
 ghost use Rattle.capnp_schema.specs.Entries.{lists_seen};
 ghost use Rattle.capnp_schema.specs.Accepted.{EachOfEnum, IsAccepted};
 ghost use Rattle.capnp_schema.specs.Ranges.{HasRanges, IsSigned, KindFits, NodeFits, ValueFits, ValuesFit};

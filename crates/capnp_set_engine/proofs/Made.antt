@@ -1,8 +1,6 @@
 -- What is made of a request, from what its parts answer.
-use Rattle.std.specs.Prelude.{IfErr, IfOk, Result, Ok, Err}
-use Rattle.std.specs.Prelude.{Option, ◌<◌, length, take}
+use Rattle.std.proofs.Common.{IfErr, IfOk, Result, Ok, Err, Option, ◌<◌, length, take, ℕ, ◌+◌, ◌≡◌, ◌∙◌, ap, arith, inr, subst, sym, Bool, List}
 use Rattle.std.specs.Io.KnownBytes.{Appends}
-use Rattle.std.proofs.Common.{ℕ, ◌+◌, ◌≡◌, ◌≢◌, ◌≤◌, ◌^◌, ◌∙◌, ap, arith, inr, subst, sym, Bool, List}
 use Rattle.capnp_device.specs.declared.error.Error.{Error}
 use Rattle.capnp_device.specs.declared.error.ErrorKind.TheVariants.{SizePastFormat, UnknownKind}
 use Rattle.capnp_wire.specs.Standing.{struct_levels, struct_of}

@@ -95,13 +95,6 @@ module _ {A : Type 0} (b : ℕ) (f : Record → SetRead A) (tree_of : A → Stru
   rows-read (x ∷ xs) k =
       row h _ _ x xs (here x (all-head Kept x xs k)) (ap (all_of h) (rest-shifted l b (tree_of x) (map tree_of xs)) ∙ rows-read xs (all-tail Kept x xs k))
 
--- a list of structs
-pub structs-read : {A : Type 0} (b d p : ℕ) (f : Record → SetRead A) (tree_of : A → StructTree) (Kept : A → Type 0) (l : Levels) → HasLevel l → HasLevel (one_less l) →
-    ((a : A) → Kept a → f (struct_record meta (one_less (one_less l)) (tree_of a) b) ≡ Ok a) → (xs : List A) → All Kept xs →
-    structs b f (value_of meta (struct_list_tree d p (map tree_of xs)) l (meta_structs b)) ≡ Ok xs
-structs-read b d p f tree_of Kept l e e' each xs k =
-    ap (structs b f) (list-entered l b d p (map tree_of xs) e) ∙ rows-read b f tree_of Kept (one_less l) e' each xs k
-
 -- the same of what is read in the place of a null, where there is none
 pub structs-there : {A : Type 0} (b d p : ℕ) (f : Record → SetRead A) (tree_of : A → StructTree) (Kept : A → Type 0) (l : Levels) → HasLevel l → HasLevel (one_less l) →
     ((a : A) → Kept a → f (struct_record meta (one_less (one_less l)) (tree_of a) b) ≡ Ok a) → (xs : List A) → All Kept xs → (default : SchemaValue) →

@@ -19,7 +19,7 @@ use Rattle.capnp_records.specs.Reading.{of_read}
 use Rattle.capnp_records.specs.Record as value
 use Rattle.capnp_device.specs.declared.error.ErrorKind.TheVariants.{NameNotUtf8}
 use Rattle.capnp_sets.specs.Causes.{SetRead, refused_read, ◌<*>◌}
-use Rattle.capnp_sets.specs.Parts.{name, text}
+use Rattle.capnp_sets.specs.Parts.{name}
 
 -- ---- slots ----
 
@@ -51,9 +51,6 @@ applied {x = x} {y = y} {f = f} {a = a} e h = subst (λ z. x <*> z ≡ Ok (f a))
 
 abbrev pub text_in : Result (List ℕ) ErrorKind → value.Value
 text_in r = read_of meta (TextValue []) TextType (of_read value.Text r)
-
-pub text-read : (bytes : List ℕ) → text (text_in (as_text (text_tree bytes))) ≡ Ok bytes
-text-read bytes = ap (λ r. text (text_in r)) (as_text-text_tree bytes)
 
 pub name-read : (bytes : List ℕ) → is_utf8 bytes ≡ true → name (text_in (as_text (text_tree bytes))) ≡ Ok bytes
 name-read bytes h = ap (λ r. name (text_in r)) (as_text-text_tree bytes) ∙ named (is_utf8 bytes) h

@@ -28,11 +28,6 @@ pub flat_ok : {A : Type 0} {x : SetRead (SetRead A)} {y : SetRead A} → x ≡ O
 unfolding flat
 flat_ok {y = y} e = ap flat e
 
-pub flat_outer : {A : Type 0} (x : SetRead (SetRead A)) (kind : ErrorKind) → HasCause x kind → HasCause (flat x) kind
-unfolding flat HasCause
-flat_outer (Ok y) kind h = absurd h
-flat_outer (Err causes) kind h = h
-
 -- one cause
 pub only_cause : {A : Type 0} (kind : ErrorKind) (x : SetRead A) → x ≡ refused_read kind → HasCause x kind
 unfolding HasCause

@@ -1,19 +1,16 @@
 -- What stands past the last base of a type, and past the last member of a value.
-use Rattle.std.proofs.Common.{ℕ, ◌≡◌, ◌<◌, arith, ap, refl, sym, None}
+use Rattle.std.proofs.Common.{ℕ, ◌≡◌, ◌<◌, arith, ap, refl, sym, None, Option, Some, ◌∙◌, ◌≢◌, List, Result, Ok, Err, IfErr, IfOk, Bool, true, false, cond, ◌==◌}
 use Rattle.std.proofs.lemmas.Option.{slice_get_past}
 use Rattle.std.specs.Option.{unwrap_or}
-use Rattle.capnp_device.specs.declared.error.ErrorKind.TheVariants.{UnknownKind}
-use Rattle.capnp_schema.specs.Schema.{Value as SchemaValue}
+use Rattle.capnp_device.specs.declared.error.ErrorKind.TheVariants.{UnknownKind, OutOfMemory}
+use Rattle.capnp_schema.specs.Schema.{Value as SchemaValue, Group, seen_value}
 use Rattle.capnp_schema.specs.Types.{SchemaType}
 use Rattle.capnp_records.specs.Part.{which_of}
 use Rattle.capnp_records.specs.Record.{Record, Value, Values}
-use Rattle.std.proofs.Common.{Option, Some, ◌∙◌, ◌≢◌, List, Result, Ok, Err, IfErr, IfOk, Bool, true, false, cond, ◌==◌}
 use Rattle.std.proofs.lemmas.Bool.{eqb-true}
 use Rattle.capnp_device.specs.declared.error.Error.{Error}
 use Rattle.capnp_device.specs.declared.error.ErrorKind.{ErrorKind}
-use Rattle.capnp_device.specs.declared.error.ErrorKind.TheVariants.{OutOfMemory}
 use Rattle.capnp_schema.specs.declared.record.ValueRecord.{ValueRecord}
-use Rattle.capnp_schema.specs.Schema.{Group, seen_value}
 use Rattle.capnp_sets.specs.Fields.{kind_by, slot_of}
 use Rattle.capnp_sets.specs.Causes.{HasCause, SetRead, refused_read, ◌<*>◌}
 use Rattle.capnp_sets.specs.Parts.{number, meta_read_at, struct}

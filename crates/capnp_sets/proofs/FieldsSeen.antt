@@ -6,6 +6,7 @@ use Rattle.capnp_wire.specs.declared.struct_reader.StructReader.{StructReader}
 use Rattle.capnp_schema.specs.Meta.{meta}
 use Rattle.capnp_schema.specs.Schema.{FieldKind, TypedField, field_at, fields_of, kind_default}
 use Rattle.capnp_schema.specs.Types.{SchemaType}
+use Rattle.capnp_records.specs.Facts.PartHere.{part-here}
 use Rattle.capnp_records.specs.Default.{read_field, read_of}
 use Rattle.capnp_records.specs.Part.{which_of}
 use Rattle.capnp_records.specs.Reading.{kind_value, record_within, values_of}
@@ -14,7 +15,6 @@ use Rattle.capnp_records.specs.Record.{Left, Levels, Value}
 use Rattle.capnp_dynamic_readers.specs.Reads.{field_read, handed_out}
 use Rattle.capnp_sets.specs.Steps.Handles.{IsMetaFieldActive, IsMetaField, meta_record_in}
 use Rattle.capnp_sets.specs.Parts.{meta_read_at}
-use Rattle.capnp_sets.proofs.PartsSeen.{part-here}
 
 -- what is read of a part under a field
 abbrev under : TypedField → Value → Value

@@ -10,7 +10,6 @@ pub mod ListsRead
 pub mod MembersSeen
 pub mod MessageKinds
 pub mod NumbersSeen
-pub mod PartsSeen
 pub mod PointersMet
 pub mod PointersSeen
 pub mod RowsRead

@@ -1,6 +1,5 @@
 -- Numbers at the places of fields are what is read of the struct's record.
-use Rattle.std.proofs.Common.{ℕ, ◌+◌, ◌*◌, ◌≡◌, ◌∙◌, arith, ap, refl, Bool, true, false, ◌==◌, bit_xor, Ok}
-use Rattle.std.specs.Prelude.{pos}
+use Rattle.std.proofs.Common.{pos, ℕ, ◌+◌, ◌*◌, ◌≡◌, ◌∙◌, arith, ap, refl, Bool, true, false, ◌==◌, bit_xor, Ok}
 use Rattle.capnp_wire.specs.Slot.{bit_at, number_at}
 use Rattle.capnp_wire.specs.Standing.{struct_of}
 use Rattle.capnp_wire.specs.WellFormed.{AreBytes}

@@ -1,9 +1,8 @@
 -- What stands behind a pointer, as a text, data, struct or list, is the read of the pointer's value, where the slot's default is
 -- empty or leads nowhere.
-use Rattle.std.proofs.Common.{ℕ, ◌+◌, ◌-◌, ◌≡◌, ◌∙◌, arith, ap, ap₂, refl, sym, List, [], Bool, true, false, ◌==◌, cond, Result, Ok, Err, IfOk}
+use Rattle.std.proofs.Common.{ℕ, ◌+◌, ◌-◌, ◌≡◌, ◌∙◌, arith, ap, ap₂, refl, sym, List, [], Bool, true, false, ◌==◌, Result, Ok, Err, IfOk}
 use Rattle.capnp_device.specs.declared.error.Error.{Error}
 use Rattle.capnp_device.specs.declared.error.ErrorKind.{ErrorKind}
-use Rattle.capnp_device.specs.declared.error.ErrorKind.TheVariants.{TooDeep}
 use Rattle.capnp_wire.specs.Place.{tree_at}
 use Rattle.capnp_wire.specs.Reading.{as_data, as_list, as_struct, as_text, empty_list, is_null_tree}
 use Rattle.capnp_wire.specs.Standing.{list_levels, list_of, list_read, struct_levels, struct_of, struct_read}
@@ -15,49 +14,16 @@ use Rattle.capnp_wire.specs.declared.size.ElementSize.TheVariants as size
 use Rattle.capnp_wire.specs.declared.struct_reader.StructReader.{StructReader}
 use Rattle.capnp_schema.specs.Builtin.{zero_word}
 use Rattle.capnp_schema.specs.Meta.{meta, meta_struct}
-use Rattle.capnp_schema.specs.Schema.{DataValue, ListValue, StructValue, TextValue, VoidValue}
-use Rattle.capnp_schema.specs.Schema.{Value as SchemaValue}
+use Rattle.capnp_schema.specs.Schema.{DataValue, ListValue, StructValue, TextValue, VoidValue, Value as SchemaValue}
 use Rattle.capnp_schema.specs.Types.{DataType, ListType, SchemaType, TextType, element_size}
 use Rattle.capnp_records.specs.Default.{default_record, default_value, read_of}
-use Rattle.capnp_records.specs.Facts.DefaultTree.{read-there}
+use Rattle.capnp_records.specs.Facts.Entered.{entered-ok, entered-some, never-ok, null-read, ok-if, refused-entered, there-read}
 use Rattle.capnp_records.specs.Facts.ListValues.{below_of}
-use Rattle.capnp_records.specs.Facts.Readers.{data-read, list-value, null-is, struct-read, text-read, value-there}
+use Rattle.capnp_records.specs.Facts.Readers.{data-read, list-value, null-is, struct-read, text-read}
 use Rattle.capnp_records.specs.Reading.{elements_value, entered_value, of_read, struct_record, value_of}
 use Rattle.capnp_records.specs.Record as value
 use Rattle.capnp_records.specs.Record.{Left, Levels, NoValues, Value, one_less}
 use Rattle.capnp_dynamic_readers.specs.Steps.Behind.{list_answered, struct_answered}
-
--- a value that is there, and a null
-there : (d : SchemaValue) (t : SchemaType) (x : Tree) (l : Levels) → is_null_tree x ≡ false → read_of meta d t (value_of meta x l t) ≡ value_of meta x l t
-there d t x l h = read-there meta d t (value_of meta x l t) (value-there meta x l t h)
-
-missing : (d : SchemaValue) (t : SchemaType) (x : Tree) (l : Levels) → is_null_tree x ≡ true → read_of meta d t (value_of meta x l t) ≡ default_value meta l d t
-missing d t x l h = ap (λ y. read_of meta d t (value_of meta y l t)) (null-is x h)
-
--- ---- levels and answers ----
-
-entered-ok : {X : Type 0} (q : Bool) (x y : X) (k : ErrorKind) → Ok x ≡ cond q (Err k) (Ok y) → x ≡ y
-entered-ok true x y k e = cc
-entered-ok false x y k e = cc
-
-never-ok : {X : Type 0} (q : Bool) (x : X) (k j : ErrorKind) → Ok x ≡ cond q (Err k) (Err j) → ⊥
-never-ok true x k j e = cc
-never-ok false x k j e = cc
-
-ok-if : {X : Type 0} (q p : Bool) (x y : X) (k j : ErrorKind) → Ok x ≡ cond q (Err k) (cond p (Ok y) (Err j)) → x ≡ y
-ok-if true p x y k j e = cc
-ok-if false true x y k j e = cc
-ok-if false false x y k j e = cc
-
-refused-entered : {X : Type 0} (q : Bool) (k : ErrorKind) (y : X) (v : Value) → Err k ≡ cond q (Err TooDeep) (Ok y) → value.Fault k ≡ (elim q as (λ _. Value) [ true ↦ value.Fault TooDeep | false ↦ v ])
-refused-entered true k y v e = cc
-refused-entered false k y v e = cc
-
-pub entered-some : (n m : ℕ) (v : Value) → m + 1 ≡ n → entered_value (Left n) v ≡ v
-entered-some n m v e = ap (λ q. elim q as (λ _. Value) [ true ↦ value.Fault TooDeep | false ↦ v ]) (not-zero n m e)
-  where
-    not-zero : (n m : ℕ) → m + 1 ≡ n → (n == 0) ≡ false
-    not-zero n m e = grind (arith, e)
 
 -- what is read both as data and as a struct is null
 pub only_null : (x : Tree) (n : ℕ) (bytes : List ℕ) (s : StructTree) → Ok bytes ≡ as_data x → Ok s ≡ as_struct x n → x ≡ tree.Null
@@ -72,14 +38,14 @@ text_met x l r e = go (is_null_tree x) refl
   where
     go : (q : Bool) → is_null_tree x ≡ q → of_read value.Text r ≡ read_of meta (TextValue []) TextType (value_of meta x l TextType)
     go true h = ap (of_read value.Text) e ∙ (ap (λ y. of_read value.Text (as_text y)) (null-is x h) ∙ ap (λ y. read_of meta (TextValue []) TextType (value_of meta y l TextType)) (sym (null-is x h)))
-    go false h = ap (of_read value.Text) e ∙ (sym (text-read meta x l h) ∙ sym (there (TextValue []) TextType x l h))
+    go false h = ap (of_read value.Text) e ∙ (sym (text-read meta x l h) ∙ sym (there-read meta (TextValue []) TextType x l h))
 
 pub data_met : (x : Tree) (l : Levels) (r : Result (List ℕ) ErrorKind) → r ≡ as_data x → of_read value.Data r ≡ read_of meta (DataValue []) DataType (value_of meta x l DataType)
 data_met x l r e = go (is_null_tree x) refl
   where
     go : (q : Bool) → is_null_tree x ≡ q → of_read value.Data r ≡ read_of meta (DataValue []) DataType (value_of meta x l DataType)
     go true h = ap (of_read value.Data) e ∙ (ap (λ y. of_read value.Data (as_data y)) (null-is x h) ∙ ap (λ y. read_of meta (DataValue []) DataType (value_of meta y l DataType)) (sym (null-is x h)))
-    go false h = ap (of_read value.Data) e ∙ (sym (data-read meta x l h) ∙ sym (there (DataValue []) DataType x l h))
+    go false h = ap (of_read value.Data) e ∙ (sym (data-read meta x l h) ∙ sym (there-read meta (DataValue []) DataType x l h))
 
 -- ---- structs ----
 
@@ -92,10 +58,10 @@ module _ (b : ℕ) (x : Tree) (n : ℕ) where
   struct_seen = read_of meta (StructValue zero_word) (meta_struct b) (value_of meta x (Left n) (meta_struct b))
 
   struct-null : is_null_tree x ≡ true → struct_seen ≡ entered_value (Left n) (value.Struct (default_record meta (Left (n - 1)) b))
-  struct-null h = missing (StructValue zero_word) (meta_struct b) x (Left n) h ∙ null_struct b (Left n)
+  struct-null h = null-read meta (StructValue zero_word) (meta_struct b) x (Left n) h ∙ null_struct b (Left n)
 
   struct-as : is_null_tree x ≡ false → struct_seen ≡ of_read (λ (s : StructTree). value.Struct (struct_record meta (Left (n - 1)) s b)) (as_struct x n)
-  struct-as h = there (StructValue zero_word) (meta_struct b) x (Left n) h ∙ struct-read meta x (Left n) b b h
+  struct-as h = there-read meta (StructValue zero_word) (meta_struct b) x (Left n) h ∙ struct-read meta x (Left n) b b h
 
   struct-fault : (k : ErrorKind) → Err k ≡ as_struct x n → (q : Bool) → is_null_tree x ≡ q → value.Fault k ≡ struct_seen
   struct-fault k e true h = refused-entered (n == 0) k _ _ (e ∙ ap (λ y. as_struct y n) (null-is x h)) ∙ sym (struct-null h)
@@ -145,11 +111,11 @@ module _ (t : SchemaType) (s : ElementSize) (sized : element_size t ≡ s) (d : 
   list_seen = read_of meta d (ListType t) (value_of meta x (Left n) (ListType t))
 
   list-null : is_null_tree x ≡ true → list_seen ≡ entered_value (Left n) (value.Elements NoValues)
-  list-null h = missing d (ListType t) x (Left n) h ∙ none (Left n)
+  list-null h = null-read meta d (ListType t) x (Left n) h ∙ none (Left n)
 
   list-as : is_null_tree x ≡ false → list_seen ≡ of_read (λ (_ : Tree). elements_value meta x (below_of meta x) (Left (n - 1)) t) (as_list s x n)
   list-as h =
-      there d (ListType t) x (Left n) h
+      there-read meta d (ListType t) x (Left n) h
       ∙ (list-value meta x (Left n) t h ∙ ap (λ z. of_read (λ (_ : Tree). elements_value meta x (below_of meta x) (Left (n - 1)) t) (as_list z x n)) sized)
 
   list-fault : (k : ErrorKind) → Err k ≡ as_list s x n → (q : Bool) → is_null_tree x ≡ q → value.Fault k ≡ list_seen

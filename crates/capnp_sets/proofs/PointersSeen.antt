@@ -11,10 +11,10 @@ use Rattle.capnp_wire.specs.declared.size.ElementSize.{ElementSize}
 use Rattle.capnp_wire.specs.declared.struct_reader.StructReader.{StructReader}
 use Rattle.capnp_schema.specs.Builtin.{zero_word}
 use Rattle.capnp_schema.specs.Meta.{meta, meta_struct}
-use Rattle.capnp_schema.specs.Schema.{DataValue, ListValue, Slot, StructValue, TextValue}
-use Rattle.capnp_schema.specs.Schema.{Value as SchemaValue}
+use Rattle.capnp_schema.specs.Schema.{DataValue, ListValue, Slot, StructValue, TextValue, Value as SchemaValue}
 use Rattle.capnp_schema.specs.Types.{DataType, ListType, SchemaType, TextType, element_size, is_pointer}
 use Rattle.capnp_records.specs.Default.{read_of}
+use Rattle.capnp_records.specs.Facts.Entered.{entered-some}
 use Rattle.capnp_records.specs.Facts.Frame.{first-of}
 use Rattle.capnp_records.specs.Facts.Pointers.{values_of-nth}
 use Rattle.capnp_records.specs.Reading.{Reading, element_type, value_of}
@@ -27,7 +27,7 @@ use Rattle.capnp_sets.specs.Steps.Handles.{IsMetaFieldActive, IsMetaSlot, list_i
 use Rattle.capnp_sets.specs.Parts.{blob, meta_read_at, text}
 use Rattle.capnp_sets.proofs.Faults.{fault_blob, fault_text}
 use Rattle.capnp_sets.proofs.FieldsSeen.{seen_by}
-use Rattle.capnp_sets.proofs.PointersMet.{IsNoList, data_met, entered-some, list_met, null_list, struct_met, text_met}
+use Rattle.capnp_sets.proofs.PointersMet.{IsNoList, data_met, list_met, null_list, struct_met, text_met}
 
 -- ---- what an answer is, by its value ----
 

@@ -2,39 +2,14 @@
 
 use crate::hostile::HOSTILE;
 use crate::kinds::{BRANDS, ENUMS, KINDS, NODES};
-use crate::messages::{BUILTIN, FLAT, META, REFUSED};
+use crate::messages::{BUILTIN, REFUSED};
 use capnp_schema::{builtin, meta};
 use capnp_sets_callers::readers::{lists_in, set_in};
+use capnp_wire_fixtures::bytes::bytes_of;
+use capnp_wire_fixtures::messages::{FLAT, META};
 use std::alloc::Global;
 use std::process::Abort;
 use std::test::Fail;
-
-fn digit(letter: u8) -> Option<u8> {
-    match letter {
-        b'0'..=b'9' => Some(letter - b'0'),
-        b'a'..=b'f' => Some(letter - b'a' + 10),
-        _ => None,
-    }
-}
-
-/// The bytes of hexadecimal digits, two a byte; what is no digit is left out.
-fn bytes_of(alloc: Global, text: &str) -> Result<Vec<u8>, Fail> {
-    let mut bytes = Vec::new(alloc);
-    let mut high = None;
-    for letter in text.as_bytes() {
-        let Some(low) = digit(*letter) else {
-            continue;
-        };
-        high = match high {
-            None => Some(low << 4),
-            Some(first) => {
-                bytes.push(first | low)?;
-                None
-            }
-        };
-    }
-    Ok(bytes)
-}
 
 #[test]
 fn the_built_in_set_is_read(rt: HostRuntime) -> Result<(), Fail> {

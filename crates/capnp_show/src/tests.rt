@@ -3,7 +3,7 @@
 //! A setting says what the program is run on, and what comes of it is one text: the status, how many times the file was
 //! opened, whether the message still has all its bytes, what was written, a bar, and what was told. Rows of messages
 //! are texts (`messages`).
-ghost use Rattle.std.specs.Prelude.{⊤, ◌<◌};
+ghost use Rattle.std.specs.Prelude.{⊤};
 
 use crate::messages::{BEGINNINGS, EXAMPLES, LAST, REFUSED, SHOWN, UNTOLD, row_of};
 use capnp_show_engine::command::{command_over, report};
@@ -11,7 +11,8 @@ use capnp_show_engine::opener::Opener;
 use capnp_wire::device::DeviceFault;
 use capnp_wire::error::{ErrorKind, SchemaTable};
 use capnp_wire::memory::{MemorySink, MemorySource};
-use capnp_wire::transfer::read_all;
+use capnp_wire_fixtures::bytes::bytes_of;
+use capnp_wire_fixtures::devices::{chunk, is_unread};
 use std::alloc::Global;
 use std::process::Abort;
 use std::test::Fail;
@@ -72,33 +73,6 @@ pub(crate) fn run_on<'a>(words: &'a str, message: &'a [u8], set: &'a [u8]) -> Se
     }
 }
 
-fn digit(letter: u8) -> Option<u8> {
-    match letter {
-        b'0'..=b'9' => Some(letter - b'0'),
-        b'a'..=b'f' => Some(letter - b'a' + 10),
-        _ => None,
-    }
-}
-
-/// The bytes of hexadecimal digits, two a byte; what is no digit is left out.
-pub(crate) fn bytes_of(alloc: Global, text: &str) -> Result<Vec<u8>, Fail> {
-    let mut bytes = Vec::new(alloc);
-    let mut high = None;
-    for letter in text.as_bytes() {
-        let Some(low) = digit(*letter) else {
-            continue;
-        };
-        high = match high {
-            None => Some(low << 4),
-            Some(first) => {
-                bytes.push(first | low)?;
-                None
-            }
-        };
-    }
-    Ok(bytes)
-}
-
 pub(crate) fn words_of(alloc: Global, words: &str) -> Result<Vec<String>, Fail> {
     let mut list = Vec::new(alloc);
     for word in words.split_terminator(',') {
@@ -107,25 +81,11 @@ pub(crate) fn words_of(alloc: Global, words: &str) -> Result<Vec<String>, Fail> 
     Ok(list)
 }
 
-fn chunk(slow: bool) -> usize
-    ensures { 0 < result }
-{
-    if slow { 1 } else { 4096 }
-}
-
 fn failing(on: &Setting<'_>, device: &str) -> Option<u64> {
     if on.device == device {
         Some(on.call as u64)
     } else {
         None
-    }
-}
-
-/// Whether a source still has all bytes of a message.
-fn is_unread(alloc: Global, source: &mut MemorySource<'_>, message: &[u8]) -> bool {
-    match read_all(alloc, source) {
-        Ok(left) => !message.is_empty() && left.as_slice() == message,
-        Err(_) => false,
     }
 }
 
@@ -375,7 +335,7 @@ fn chain(alloc: Global, words: &str, again: usize) -> Result<Vec<u8>, Fail> {
     let text = format!(in alloc;
         "00000000{words}000000 {links} 0000000001000100 0000000000000000 0000000000000000"
     )?;
-    bytes_of(alloc, &text)
+    Ok(bytes_of(alloc, &text)?)
 }
 
 #[test]

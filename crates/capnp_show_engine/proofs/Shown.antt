@@ -1,5 +1,5 @@
 -- The text of a message's root is that of the record that its struct's reader stands on.
-use Rattle.std.proofs.Common.{arith, ap, ap₂, ◌∙◌, ◌≡◌, ℕ, ◌+◌, Bool, List, true, false, [], ◌∷◌, ◌++◌, Result, Ok, Err}
+use Rattle.std.proofs.Common.{arith, ap, ap₂, ◌∙◌, ◌≡◌, ℕ, ◌+◌, Bool, List, true, false, Result, Ok}
 use Rattle.capnp_device.specs.declared.error.ErrorKind.{ErrorKind}
 use Rattle.capnp_wire.specs.Reading.{as_struct}
 use Rattle.capnp_wire.specs.Tree as tree
@@ -20,9 +20,8 @@ use Rattle.capnp_records.specs.Reading.{struct_record}
 use Rattle.capnp_records.specs.Record as value
 use Rattle.capnp_records.specs.Record.{Left, Record}
 use Rattle.capnp_records.specs.Text.{Out, text_of}
-use Rattle.capnp_show_engine.specs.Show.{IsLineOf, message_root_text, shown_text, struct_or_group}
+use Rattle.capnp_show_engine.specs.Show.{message_root_text, shown_text, struct_or_group}
 use Rattle.capnp_records.specs.Run.{root_type}
-use Rattle.capnp_dynamic_readers.specs.Pieces.{IsAppended}
 use Rattle.capnp_dynamic_readers.specs.Shown.{printed_text, struct_printed, value_printed}
 
 abbrev Read : Type 0
@@ -31,17 +30,8 @@ Read = Result StructTree ErrorKind
 abbrev entered : StructTree → Read
 entered s = Ok s
 
-abbrev refused : ErrorKind → Read
-refused kind = Err kind
-
-abbrev no_text : ErrorKind → Out
-no_text kind = Err kind
-
 same-struct : (x y : StructTree) → entered x ≡ entered y → x ≡ y
 same-struct x y e = cc
-
-same-kind : (k j : ErrorKind) → refused k ≡ refused j → no_text j ≡ no_text k
-same-kind k j e = cc
 
 module _ (set : Schemas) (b : ℕ) (indented : Bool) where
   -- the text of a struct's record, whose pointers have the levels that are left below a root
@@ -64,17 +54,6 @@ module _ (set : Schemas) (b : ℕ) (indented : Bool) where
   text_of_root root s m e levels =
       ap (λ n. text_of set indented (root_type set b) (struct_or_group (node_of set b).is_group (struct_record set (Left n) s b))) (omega (arith, levels)) ∙ entered-text root s e
 
-  -- a root that can't be
-  pub refused_root : (root : Tree) (kind : ErrorKind) → Err kind ≡ as_struct root 64 → message_root_text set b indented (Ok root) ≡ Err kind
-  refused_root tree.Null kind e = cc
-  refused_root (tree.Struct bytes ps) kind e = cc
-  refused_root (tree.Voids n) kind e = same-kind kind _ e
-  refused_root (tree.Bits bs) kind e = same-kind kind _ e
-  refused_root (tree.Numbers w bytes) kind e = same-kind kind _ e
-  refused_root (tree.Pointers ps) kind e = same-kind kind _ e
-  refused_root (tree.Composite d p es) kind e = same-kind kind _ e
-  refused_root (tree.FaultLeaf k) kind e = same-kind kind _ e
-
 printed-is : (q : Bool) (h : StructHandle) (r : Record) → record_seen h ≡ r → struct_printed q h ≡ struct_or_group q r
 printed-is true h r e = ap value.Group e
 printed-is false h r e = ap value.Struct e
@@ -96,7 +75,3 @@ text_seen set b indented bytes root x n h s r whole tree_is levels_are read leve
     ∙ (ap (λ q. text_of set indented (root_type set b) (struct_printed q h)) group
     ∙ (ap (text_of set indented (root_type set b)) (printed-is (node_of set b).is_group h _ seen)
     ∙ (text_of_root set b indented root (struct_of r) (struct_levels r) read_there (levels ∙ levels_are) ∙ ap (message_root_text set b indented) whole))))
-
--- a text that was put into an empty string, and a line break
-pub line_of : (o : Out) (text line : List ℕ) → IsAppended [] o text → line ≡ text ++ 10 ∷ [] → IsLineOf o line
-line_of o text line (bytes, h, is) e = (bytes, h, e ∙ ap (λ (z : List ℕ). z ++ 10 ∷ []) is)

@@ -1,6 +1,5 @@
 -- What a text is refused with is a number of reads.
-use Rattle.std.specs.Prelude.{Bool, true, false, Ok, Err, ℕ, List}
-use Rattle.std.proofs.Common.{◌≡◌, ◌≢◌, ◌∙◌, ap, subst, sym}
+use Rattle.std.proofs.Common.{Bool, true, false, Ok, Err, ℕ, List, ◌≡◌, ◌≢◌, ◌∙◌, ap, subst, sym}
 use Rattle.std.proofs.lemmas.Bool.{true≢false}
 use Rattle.capnp_device.specs.declared.error.ErrorKind.{ErrorKind}
 use Rattle.capnp_device.specs.declared.error.ErrorKind.TheVariants.{OutOfMemory, ReadFailed, WriteFailed}

@@ -1,6 +1,5 @@
 -- Words that ask for nothing, whatever they are.
-use Rattle.std.proofs.Common.{◌≡◌, ◌<◌, ◌≤◌, List, [], ◌∷◌, None, length, refl, arith}
-use Rattle.std.specs.Prelude.{String}
+use Rattle.std.proofs.Common.{String, ◌≡◌, ◌<◌, ◌≤◌, List, [], ◌∷◌, None, length, refl, arith}
 use Rattle.capnp_show_engine.specs.Command.{asked_show}
 
 pub none_asked : {A : Type 0} (words : List (String A)) → length words < 1 → None ≡ asked_show words

@@ -24,14 +24,13 @@ use Rattle.capnp_records.specs.Facts.DefaultTree.{read-there}
 use Rattle.capnp_records.specs.Facts.ListValues.{below_of}
 use Rattle.capnp_records.specs.Facts.Readers.{data-read, list-value, null-is, struct-read, text-read, value-there}
 use Rattle.capnp_records.specs.Given.{Copies, Fails, Given, data_tree}
-use Rattle.capnp_base.specs.Text.{text_tree}
 use Rattle.capnp_records.specs.GroupCopy.{pointer_copy, read_copy}
 use Rattle.capnp_records.specs.Reading.{elements_value, of_read, struct_record, value_of}
 use Rattle.capnp_records.specs.Record.{Endless, Left, Levels, Value, one_less}
 use Rattle.capnp_records.specs.Record as value
 use Rattle.capnp_records.specs.Step.{fault_of, is_group_field}
 use Rattle.capnp_records.specs.Writes.Slots.{At, Bits, Suits}
-use Rattle.capnp_records.specs.Writes.TreeCopy.{slot_default_tree, or_else}
+use Rattle.capnp_records.specs.Writes.TreeCopy.{slot_default_tree}
 use Rattle.capnp_records.specs.Facts.Frame.{first-of, second-of}
 use Rattle.capnp_schema.specs.Facts.Bits.{bits_at-bounded}
 use Rattle.capnp_schema.specs.FieldLists.{typed_of}
@@ -40,14 +39,9 @@ use Rattle.capnp_schema.specs.Views.{IsViewOf}
 use Rattle.capnp_schema.specs.declared.plan.Place.TheVariants as place
 use Rattle.capnp_schema.specs.declared.plan.SlotPlan.{SlotPlan}
 use Rattle.capnp_schema.specs.declared.schema.fields.Field.{Field}
-use Rattle.capnp_schema.specs.declared.value.Value.{Value as View}
 use Rattle.capnp_schema.specs.declared.value.Value.TheVariants as view
-use Rattle.capnp_base.specs.declared.text.Reader.{Reader as TextReader}
-use Rattle.capnp_wire.specs.Place.{struct_tree}
-use Rattle.capnp_wire.specs.Standing.{tree_of}
-use Rattle.capnp_wire.specs.declared.pointer_reader.PointerReader.{PointerReader}
 use Rattle.capnp_slots.specs.Copied.{IsCopied, IsCopiedFrom, copy_content, copy_given, refusal_of}
-use Rattle.capnp_slots.specs.Steps.Copied.{IsGivenCopy, default_in, empty_tree, pointer_content, pointer_given, read_due}
+use Rattle.capnp_slots.specs.Steps.Copied.{IsGivenCopy, default_in, pointer_content, pointer_given, read_due}
 use Rattle.capnp_slots.specs.Fields.{IsPointerField, IsRoomFor, IsSlot, field_set, Keeps, names_of, pointer_index, slot_with}
 use Rattle.capnp_slots.specs.Steps.Fields.{IsSlotPlan}
 use Rattle.capnp_slots.specs.Steps.Planned.{place_bits, plan_written}
@@ -181,51 +175,10 @@ fails-refusal g k e = subst (λ (y : Given). IsSetRefusal y k) (sym e) refl
 
 -- ---- defaults that are put in the place of a null ----
 
-pub text-put : (d : SchemaValue) (t : SchemaType) (y : TextReader) → IsDefaultOf d t → IsViewOf d (view.Text y) → text_tree y.0.now ≡ slot_default_tree d t
-text-put (TextValue bytes) TextType y of h = ap text_tree h
-text-put (TextValue bytes) t y of h = absurd of
-text-put d t y of h = absurd h
-
 pub data-put : (d : SchemaValue) (t : SchemaType) (y : Bor (List ℕ)) → IsDefaultOf d t → IsViewOf d (view.«Data» y) → data_tree y.now ≡ slot_default_tree d t
 data-put (DataValue bytes) DataType y of h = ap data_tree h
 data-put (DataValue bytes) t y of h = absurd of
 data-put d t y of h = absurd h
-
-pub struct-put : (d : SchemaValue) (t : SchemaType) (y : PointerReader) → IsDefaultOf d t → IsViewOf d (view.Struct y) → or_else (tree_of y) (empty_tree t) ≡ slot_default_tree d t
-struct-put (StructValue words) (StructType b g) y of h = ap (λ x. or_else x (struct_tree empty_struct)) h.tree
-struct-put (StructValue words) t y of h = absurd of
-struct-put d t y of h = absurd h
-
-pub list-put : (d : SchemaValue) (t : SchemaType) (y : PointerReader) → IsDefaultOf d t → IsViewOf d (view.List y) → or_else (tree_of y) (empty_tree t) ≡ slot_default_tree d t
-list-put (ListValue words) (ListType e) y of h = ap (λ x. or_else x (empty_list (element_size e))) h.tree
-list-put (ListValue words) t y of h = absurd of
-list-put d t y of h = absurd h
-
-pub sound-struct : (d : SchemaValue) (y : PointerReader) → first_fault (words_tree d) ≡ None → IsViewOf d (view.Struct y) → first_fault (tree_of y) ≡ None
-sound-struct (StructValue words) y sound h = ap first_fault h.tree ∙ sound
-sound-struct d y sound h = absurd h
-
-pub sound-list : (d : SchemaValue) (y : PointerReader) → first_fault (words_tree d) ≡ None → IsViewOf d (view.List y) → first_fault (tree_of y) ≡ None
-sound-list (ListValue words) y sound h = ap first_fault h.tree ∙ sound
-sound-list d y sound h = absurd h
-
-pub empty-put : (d : SchemaValue) (t : SchemaType) (v : View) → is_pointer t ≡ true → IsDefaultOf d t → IsViewOf d v →
-    ((y : TextReader) → v ≡ view.Text y → ⊥) → ((y : Bor (List ℕ)) → v ≡ view.«Data» y → ⊥) → ((y : PointerReader) → v ≡ view.Struct y → ⊥) → ((y : PointerReader) → v ≡ view.List y → ⊥) →
-    empty_tree t ≡ slot_default_tree d t
-empty-put (TextValue x) t (view.Text y) p of h a b c e = absurd (a y refl)
-empty-put (TextValue x) t v p of h a b c e = absurd h
-empty-put (DataValue x) t (view.«Data» y) p of h a b c e = absurd (b y refl)
-empty-put (DataValue x) t v p of h a b c e = absurd h
-empty-put (StructValue x) t (view.Struct y) p of h a b c e = absurd (c y refl)
-empty-put (StructValue x) t v p of h a b c e = absurd h
-empty-put (ListValue x) t (view.List y) p of h a b c e = absurd (e y refl)
-empty-put (ListValue x) t v p of h a b c e = absurd h
-empty-put d TextType v p of h a b c e = refl
-empty-put d DataType v p of h a b c e = refl
-empty-put d (StructType n g) v p of h a b c e = refl
-empty-put d (ListType k) v p of h a b c e = refl
-empty-put d AnyPointerType v p of h a b c e = refl
-empty-put d t v p of h a b c e = absurd (true≢false (sym p))
 
 -- ---- the bits of a slot ----
 
@@ -247,13 +200,6 @@ module _ (f : Field) (plan : SlotPlan) (is : IsSlotPlan f plan) (l : Levels) (x 
         written = written ∙ ap (λ c. slot_with f c s) (sym content);
         kept = subst (Keeps (names_of f) s) (sym written) (is.keeps (Bits bits) s room suits tt);
       }
-
-pub no-pointer : (f : Field) (plan : SlotPlan) → IsSlotPlan f plan → ((i : ℕ) → plan.place ≡ place.Pointer i → ⊥) → is_pointer (typed_of f).type ≡ false
-no-pointer f plan is none = go (is_pointer (typed_of f).type) refl
-  where
-    go : (q : Bool) → is_pointer (typed_of f).type ≡ q → is_pointer (typed_of f).type ≡ false
-    go true p = absurd (none (pointer_index f) (is.pointer p))
-    go false p = p
 
 -- ---- the copy of a pointer ----
 

@@ -1,5 +1,5 @@
 -- What the wire fills from a field's default is what a builder's get leaves.
-use Rattle.std.specs.Prelude.{ℕ, ◌≡◌, ◌≢◌, refl, List, Bool, true, false, cond, Option, Some, None, option_map, MatchOption, Ok, Err, Result, IsOk}
+use Rattle.std.specs.Prelude.{ℕ, ◌≡◌, ◌≢◌, refl, List, Bool, true, false, cond, Option, Some, None, option_map, Ok, Err, Result, IsOk}
 use Rattle.std.specs.Borrow.{Bor}
 use Rattle.std.proofs.Common.{ap, sym, subst, ◌∙◌}
 use Rattle.std.proofs.lemmas.Bool.{true≢false}
@@ -21,7 +21,6 @@ use Rattle.capnp_schema.specs.declared.value.Value.TheVariants as view
 use Rattle.capnp_wire.specs.Reading.{as_list, is_null_tree, refusal}
 use Rattle.capnp_wire.specs.Defaults as wire
 use Rattle.capnp_wire.specs.Edits.{extended_struct, struct_in, struct_refusal, with_pointer_tree}
-use Rattle.capnp_wire.specs.Standing.{levels_of, tree_of}
 use Rattle.capnp_wire.specs.StructLists.{struct_list_refusal}
 use Rattle.capnp_wire.specs.Words.{first_fault}
 use Rattle.capnp_wire.specs.declared.pointer_reader.PointerReader.{PointerReader}
@@ -44,10 +43,6 @@ use Rattle.capnp_slots.specs.Fills.{fill_due}
 use Rattle.capnp_slots.specs.Steps.Fills.{IsDefaultPointer, FilledListRests, blob_filled, list_due}
 
 -- ---- the pointer of a default ----
-
-pub pointer-tree : (d : Value) (r : Option PointerReader) → MatchOption r (value_default_tree d ≡ tree.Null) (λ x. (tree_of x ≡ value_default_tree d) × (levels_of x ≡ 64)) → wire.default_tree r ≡ value_default_tree d
-pointer-tree d None h = sym h
-pointer-tree d (Some x) h = h.0
 
 kind-is : (k : FieldKind) (t : SchemaType) → is_group_field k ≡ false → KindDefault IsDefaultOf k t → IsDefaultOf (kind_default k) t
 kind-is (Slot o d) t e h = h

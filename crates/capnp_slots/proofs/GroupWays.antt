@@ -1,14 +1,13 @@
 -- A group is cleared place by place, and the groups in it by their own fields: what is left to do of a place, and of the
 -- groups above it.
-use Rattle.std.specs.Prelude.{ℕ, zero, suc, ◌+◌, ◌-◌, ◌<◌, ◌≤◌, ◌≡◌, refl, List, [], ◌∷◌, Bool, true, false, not, ◌&&◌, nat_lt, cond, drop, length, map, position, slice_get, Option, Some, None}
+use Rattle.std.specs.Prelude.{ℕ, zero, suc, ◌+◌, ◌-◌, ◌<◌, ◌≤◌, ◌≡◌, refl, List, [], ◌∷◌, Bool, true, false, not, nat_lt, cond, drop, length, position, slice_get, Option, Some, None}
 use Rattle.std.proofs.Common.{add-one, arith, ap, sym, subst, ◌∙◌}
 use Rattle.std.proofs.lemmas.Bool.{and_parts}
 use Rattle.std.proofs.lemmas.Bool.Decides.{nat_tests}
 use Rattle.std.proofs.lemmas.Option.{cond_some, same_Some}
 use Rattle.std.specs.List.{position_or_len}
-use Rattle.std.specs.Option.{option_map, unwrap_or}
 use Rattle.capnp_wire.specs.Tree.{StructTree}
-use Rattle.capnp_schema.specs.Accepted.{HasOneParent, HaveSameSizes, IsGroupOf, IsParent}
+use Rattle.capnp_schema.specs.Accepted.{HasOneParent, HaveSameSizes, IsParent}
 use Rattle.capnp_schema.specs.Steps.Checking.Parents.{entry_target, group_target}
 use Rattle.capnp_schema.specs.Facts.GroupFields.{group_field_found, parent_target, target_parent}
 use Rattle.capnp_schema.specs.Facts.Groups.{group_in_set, group_of_field}
@@ -18,15 +17,15 @@ use Rattle.capnp_schema.specs.GroupFields.{group_field_of}
 use Rattle.capnp_schema.specs.GroupsDown.{IsGroupFieldOf, place_of_field}
 use Rattle.capnp_schema.specs.Steps.GroupWalks.{steps_into, steps_through}
 use Rattle.capnp_schema.specs.Query.{is_member_of, member_of, records_of}
-use Rattle.capnp_schema.specs.Schema.{FieldKind, Group, Schemas, Slot, TypedField, field_at, fields_of, is_member, kind_target}
-use Rattle.capnp_schema.specs.StructHandles.{IsStruct, number_of, set_of, struct_field, struct_fields}
+use Rattle.capnp_schema.specs.Schema.{FieldKind, Group, Schemas, Slot, TypedField, field_at, fields_of, is_member}
+use Rattle.capnp_schema.specs.StructHandles.{number_of, set_of, struct_field, struct_fields}
 use Rattle.capnp_schema.specs.Types.{SchemaType, struct_number}
 use Rattle.capnp_schema.specs.declared.schema.fields.Field.{Field}
 use Rattle.capnp_schema.specs.declared.schema.structs.StructSchema.{StructSchema}
 use Rattle.capnp_records.specs.Step.{is_group_field}
-use Rattle.capnp_records.specs.Writes.Overlay.{cleared_field, cleared_kind, cleared_member, cleared_non_union, cleared_within}
+use Rattle.capnp_records.specs.Writes.Overlay.{cleared_kind, cleared_member, cleared_non_union}
 use Rattle.capnp_records.specs.Writes.Slots.{Fits}
-use Rattle.capnp_slots.specs.Fields.{IsSlot, field_brand, field_set, switched_to}
+use Rattle.capnp_slots.specs.Fields.{field_brand, field_set, switched_to}
 use Rattle.capnp_slots.specs.Steps.GroupClears.{IsSlotCleared, field_cleared_at, cleared_behind, place_behind, unless_member_place}
 use Rattle.capnp_slots.specs.Groups.{IsGroupAt, KeepsSize}
 use Rattle.capnp_slots.specs.Steps.Groups.{clear_by, cleared_option, cleared_through}
@@ -236,14 +235,6 @@ due-clear n at p f d s =
 group-clear : (k : FieldKind) (t : SchemaType) → is_group_field k ≡ true → (group : ℕ → StructTree → StructTree) (s : StructTree) → cleared_kind group k t s ≡ group (struct_number t) s
 group-clear (Slot offset d) t e group s = cc
 group-clear (Group node) t e group s = refl
-
-group-of : (k : FieldKind) (t : SchemaType) (g : ℕ) → is_group_field k ≡ true → IsGroupOf k t g → kind_target k t ≡ Some g
-group-of (Slot offset d) t g e is = absurd is
-group-of (Group node) t g e is = is
-
-slot-clear : (k : FieldKind) (t : SchemaType) → is_group_field k ≡ false → (group other : ℕ → StructTree → StructTree) (s : StructTree) → cleared_kind group k t s ≡ cleared_kind other k t s
-slot-clear (Slot offset d) t e group other s = refl
-slot-clear (Group node) t e group other s = cc
 
 field-clear : (n : ℕ) (f : Field) (g : StructSchema) → IsGroupAt f g → (s m : StructTree) → m ≡ switched_to f s → clear_by n (field_set f) (field_brand f) (typed_of f) s ≡ cleared_through n (set_of g) (number_of g) m
 field-clear n f g is s m e =

@@ -3,11 +3,9 @@ use Rattle.std.specs.Prelude.{ℕ, suc, ◌≡◌, refl, pos, List, Bool, true, 
 use Rattle.capnp_device.specs.declared.error.ErrorKind.TheVariants.{TypeMismatch}
 use Rattle.std.proofs.Common.{ap, subst, sym, ◌∙◌}
 use Rattle.capnp_wire.specs.Tree.{Null, StructTree}
-use Rattle.capnp_schema.specs.FieldLists.{index_of, field_schema, typed_of}
-use Rattle.capnp_schema.specs.Ranges.{HasRanges}
+use Rattle.capnp_schema.specs.FieldLists.{index_of, typed_of}
 use Rattle.capnp_schema.specs.Schema.{Schemas, default_of, field_at, is_member}
 use Rattle.capnp_schema.specs.Schema.{Value as SchemaValue}
-use Rattle.capnp_schema.specs.StructHandles.{IsStruct}
 use Rattle.capnp_schema.specs.Types.{AnyPointerType, BoolType, DataType, EnumType, IntType, ListType, SchemaType, StructType, TextType, UIntType, VoidType}
 use Rattle.capnp_schema.specs.declared.schema.fields.Field.{Field}
 use Rattle.capnp_records.specs.Call.{BoolSource, DataSource, EnumSource, IntSource, ListSource, Source, StructSource, TextSource, UIntSource}
@@ -63,9 +61,6 @@ takes-whole set t s whole kind taken = absurd taken
 -- the field of a handle
 abbrev pub IsAt : Field → Type 0
 IsAt f = IsFieldAt (field_set f) (field_brand f) (index_of f)
-
-pub handle-at : (f : Field) → IsStruct (field_schema f) → HasRanges (field_set f) → IsAt f
-handle-at f is ranges = record { accepted = is.accepted; ranges = ranges; brand = is.number; index = f.inside }
 
 module _ (f : Field) (at : IsAt f) where
   abbrev b : ℕ

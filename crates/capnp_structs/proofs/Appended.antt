@@ -1,6 +1,5 @@
 -- Texts that are appended one after another.
-use Rattle.std.specs.Prelude.{ℕ, ◌/◌, List, [], ◌++◌, Bool, true, false, codes, decimal, length}
-use Rattle.std.proofs.Common.{◌≡◌, Result, Ok, Err, OnOk, subst}
+use Rattle.std.proofs.Common.{ℕ, ◌/◌, List, [], ◌++◌, Bool, true, false, codes, decimal, length, ◌≡◌, Result, Ok, Err, OnOk, subst}
 use Rattle.capnp_wire.specs.Reading.{is_null_tree}
 use Rattle.capnp_schema.specs.Accepted.{words_root}
 use Rattle.capnp_records.specs.Text.{Out, after, said_text}
@@ -19,10 +18,6 @@ ended x a old mid new put e = both x (said_text a) old mid new put (bytes_put a 
 pub led_by : {T E : Type 0} (r : Result T E) (a : List ℕ) (x : Out) (old mid new : List ℕ) → mid ≡ old ++ a → OnOk r (IsAppended mid x new) → OnOk r (IsAppended old (after (said_text a) x) new)
 led_by (Ok t) a x old mid new e put = led a x old mid new e put
 led_by (Err error) a x old mid new e put = tt {0}
-
-pub ended_by : {T E : Type 0} (r : Result T E) (x : Out) (a : List ℕ) (old mid new : List ℕ) → IsAppended old x mid → OnOk r (new ≡ mid ++ a) → OnOk r (IsAppended old (after x (said_text a)) new)
-ended_by (Ok t) x a old mid new put e = ended x a old mid new put e
-ended_by (Err error) x a old mid new put e = tt {0}
 
 -- what stands before a text, the text, and what stands behind it
 pub slot_put : {T E : Type 0} (r : Result T E) (x : Out) (old mid mid' new a b : List ℕ) → mid ≡ old ++ a → IsAppended mid x mid' → OnOk r (new ≡ mid' ++ b) →

@@ -1,7 +1,6 @@
 -- Lines, as walks over a set's brands and a struct's fields make them.
-use Rattle.std.specs.Prelude.{ℕ, zero, suc, ◌+◌, ◌-◌, ◌<◌, ◌≤◌, List, [], ◌∷◌, ◌++◌, drop, length, slice_get}
+use Rattle.std.proofs.Common.{ℕ, zero, suc, ◌+◌, ◌-◌, ◌<◌, ◌≤◌, List, [], ◌∷◌, ◌++◌, drop, length, slice_get, ◌≡◌, ◌∙◌, ap, append_assoc, arith, refl, sym}
 use Rattle.std.specs.Option.{unwrap_or}
-use Rattle.std.proofs.Common.{◌≡◌, ◌∙◌, ap, append_assoc, arith, refl, sym}
 use Rattle.std.proofs.lemmas.List.{drop_more}
 use Rattle.capnp_schema.specs.Schema.{Schemas, Brand, TypedField, fields_of, no_brand, no_field}
 use Rattle.capnp_records.specs.Text.{said_text}

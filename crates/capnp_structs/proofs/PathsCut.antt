@@ -1,6 +1,5 @@
 -- A path is cut where the name of a group begins.
-use Rattle.std.specs.Prelude.{ℕ, ◌+◌, ◌-◌, List, ◌++◌, codes, length}
-use Rattle.std.proofs.Common.{◌≡◌, ◌∙◌, ap, append_assoc, arith, refl, subst, sym}
+use Rattle.std.proofs.Common.{ℕ, ◌+◌, ◌-◌, List, ◌++◌, codes, length, ◌≡◌, ◌∙◌, ap, append_assoc, arith, refl, subst, sym}
 use Rattle.std.proofs.lemmas.List.{length-append}
 use Rattle.std.proofs.lemmas.Str.{IsCharBoundary-at_seam, IsUtf8-append, IsUtf8-from_is_utf8}
 use Rattle.std.specs.Str.{IsUtf8, chars, is_utf8}

@@ -1,6 +1,5 @@
 -- The name of a list's type, in pieces.
-use Rattle.std.specs.Prelude.{ℕ, zero, suc, List, [], ◌∷◌, ◌++◌, codes}
-use Rattle.std.proofs.Common.{◌≡◌, ◌∙◌, ap, append_assoc, refl, sym, Result, Ok, Err, OnOk}
+use Rattle.std.proofs.Common.{ℕ, zero, suc, List, [], ◌∷◌, ◌++◌, codes, ◌≡◌, ◌∙◌, ap, append_assoc, refl, sym, Result, Ok, Err, OnOk}
 use Rattle.capnp_device.specs.declared.error.Error.{Error}
 use Rattle.capnp_base.specs.Types.{base_of, list_depth}
 use Rattle.capnp_base.specs.declared.introspect.«Type».{«Type» as TypeHandle}

@@ -1,6 +1,5 @@
 -- The steps of a walk that appends the lines of fields, in the words of the walk.
-use Rattle.std.specs.Prelude.{ℕ, suc, ◌+◌, ◌-◌, ◌<◌, ◌≤◌, List, [], ◌∷◌, ◌++◌, drop, length, Some, None}
-use Rattle.std.proofs.Common.{◌≡◌, ◌∙◌, add-one, ap, arith, subst, sym}
+use Rattle.std.proofs.Common.{ℕ, suc, ◌+◌, ◌-◌, ◌<◌, ◌≤◌, List, [], ◌∷◌, ◌++◌, drop, length, Some, None, ◌≡◌, ◌∙◌, add-one, ap, arith, subst, sym}
 use Rattle.capnp_schema.specs.Accepted.{IsParent}
 use Rattle.capnp_schema.specs.Facts.GroupFields.{group_field_found, target_parent}
 use Rattle.capnp_schema.specs.Facts.GroupWalks.{frames_group, frames_outside, steps_advance, steps_enter, steps_leave}

@@ -1,7 +1,6 @@
 -- A walk through the fields of a struct that appends a line for each: what is left to say of each struct or group that it
 -- stands in, and what stands before the names there.
-use Rattle.std.specs.Prelude.{ℕ, suc, ◌+◌, ◌-◌, ◌<◌, ◌≤◌, List, [], ◌∷◌, ◌++◌, drop, length, Option, Some, None}
-use Rattle.std.proofs.Common.{◌≡◌, ap, arith, subst, sym}
+use Rattle.std.proofs.Common.{ℕ, suc, ◌+◌, ◌-◌, ◌<◌, ◌≤◌, List, [], ◌∷◌, ◌++◌, drop, length, Option, Some, None, ◌≡◌, ap, arith, subst, sym}
 use Rattle.capnp_schema.specs.Schema.{Schemas, TypedField, field_at, fields_of, kind_target}
 use Rattle.capnp_records.specs.Text.{Out, said_text}
 use Rattle.capnp_dynamic_readers.specs.Facts.Appended.{both, bytes_put, nothing}

@@ -3,8 +3,7 @@ use Rattle.std.specs.Prelude.{ℕ, zero, suc, ◌*◌, ◌/◌, List, [], ◌∷
 use Rattle.capnp_wire.specs.Reading.{is_null_tree}
 use Rattle.capnp_schema.specs.Accepted.{words_root}
 use Rattle.capnp_schema.specs.Plan.{plan_of}
-use Rattle.capnp_schema.specs.Schema.{Schemas, TypedField, BoolValue, IntValue, UIntValue, EnumValue, TextValue, DataValue, StructValue, ListValue, AnyPointerValue, VoidValue, default_of, enum_at, fields_of, kind_target, node_of}
-use Rattle.capnp_schema.specs.Schema.{Value as SchemaValue}
+use Rattle.capnp_schema.specs.Schema.{Schemas, TypedField, BoolValue, IntValue, UIntValue, EnumValue, TextValue, DataValue, StructValue, ListValue, AnyPointerValue, VoidValue, default_of, enum_at, fields_of, kind_target, node_of, Value as SchemaValue}
 use Rattle.capnp_schema.specs.Types.{SchemaType, AnyPointerType, BoolType, DataType, EnumType, IntType, ListType, StructType, TextType, UIntType, VoidType}
 use Rattle.capnp_schema.specs.declared.plan.Place.{Place}
 use Rattle.capnp_schema.specs.declared.plan.Place.TheVariants as place

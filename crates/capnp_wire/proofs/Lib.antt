@@ -17,7 +17,6 @@ pub mod RowsWellFormed
 pub mod StandFirst
 pub mod RowsEncoding
 pub mod RowsDepth
-pub mod TreeSizes
 pub mod RowsEdits
 pub mod RowsElements
 pub mod FirstFaults

@@ -28,3 +28,4 @@ pub mod Filling
 pub mod BitRows
 pub mod FilledDefaults
 pub mod ElementValues
+pub mod TreeSizes

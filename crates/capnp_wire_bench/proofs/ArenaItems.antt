@@ -42,10 +42,6 @@ module _ (at tag n i : ℕ) (l : i < n) where
       let q = list_still old new f.0 f.1 g c in
       (q.0, q.1, one_by_one first old new at b q.2)
 
--- nothing was done yet
-pub nothing_done : (bytes : List ℕ) (w : ℕ) → Changes w bytes bytes
-nothing_done bytes w = record { longer = omega arith; stays = λ k l n o. refl; grows = λ k o. inl o }
-
 -- the root of a message, once the list of its first pointer was made and filled
 pub root_still : (a b c : List ℕ) (start : ℕ) → Forest a 0 → shape_at a 0 ≡ StructIn start 0 5 → Changes start a b → Forest c start → Changes start b c → Forest c 0
 root_still a b c start f e x g y =

@@ -1,6 +1,5 @@
 -- How many elements a list has that is new, or became one of structs.
-use Rattle.std.specs.Prelude.{ℕ, ◌≡◌}
-use Rattle.std.proofs.Common.{ap, ◌∙◌}
+use Rattle.std.proofs.Common.{ℕ, ◌≡◌, ap, ◌∙◌}
 use Rattle.capnp_wire.specs.Edits.{zero_list}
 use Rattle.capnp_wire.specs.Facts.Lengths.{list_length-struct_list, list_length-zero_list}
 use Rattle.capnp_wire.specs.Reading.{list_length}

@@ -1,6 +1,5 @@
 -- One step of a path.
-use Rattle.std.proofs.Common.{◌≡◌, ℕ, suc, ◌-◌, ◌<◌, List, length, drop, get_or, sym, ap, ◌∙◌}
-use Rattle.std.specs.Prelude.{Err}
+use Rattle.std.proofs.Common.{Err, ◌≡◌, ℕ, suc, ◌-◌, ◌<◌, List, length, drop, get_or, sym, ap, ◌∙◌}
 use Rattle.std.proofs.Math.Seq.{drop-cons}
 use Rattle.capnp_wire.specs.Tree.{Tree, StructTree, nth_tree}
 use Rattle.capnp_wire.specs.Reading.{as_struct}

@@ -10,8 +10,6 @@ mod blob_tests;
 #[cfg(test)]
 mod device_tests;
 #[cfg(test)]
-mod fixtures;
-#[cfg(test)]
 mod level_tests;
 #[cfg(test)]
 mod list_tests;

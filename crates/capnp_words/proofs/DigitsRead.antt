@@ -1,6 +1,5 @@
 -- Decimal digits are read as their number, and nothing else is.
-use Rattle.std.proofs.Common.{◌≡◌, ℕ, zero, suc, ◌+◌, ◌-◌, ◌*◌, ◌/◌, ◌%◌, ◌^◌, ◌<◌, ◌≤◌, List, [], ◌∷◌, ◌++◌, length, get_or, Bool, true, false, cond, Some, None, Ok, refl, ap, sym, ◌∙◌, append_assoc, append-nil, add-one, length-append, arith}
-use Rattle.std.specs.Prelude.{Option, decimal, ◌==◌, ◌&&◌, not, nat_lt}
+use Rattle.std.proofs.Common.{Option, decimal, ◌==◌, ◌&&◌, not, nat_lt, ◌≡◌, ℕ, zero, suc, ◌+◌, ◌-◌, ◌*◌, ◌/◌, ◌%◌, ◌^◌, ◌<◌, ◌≤◌, List, [], ◌∷◌, ◌++◌, length, get_or, Bool, true, false, cond, Some, None, Ok, refl, ap, sym, ◌∙◌, append_assoc, append-nil, add-one, length-append, arith}
 use Rattle.std.specs.Char.{is_ascii_digit}
 use Rattle.std.proofs.lemmas.Bool.Decides.{nat_tests}
 use Rattle.std.proofs.lemmas.Fmt.{decimal_digit, decimal_step, decimal_by_steps, decimal_nonempty, first_decimal}

@@ -1,6 +1,5 @@
 -- Numbers with a sign are read as they are written.
-use Rattle.std.proofs.Common.{◌≡◌, ℕ, zero, suc, ◌^◌, ◌<◌, ◌≤◌, List, [], ◌∷◌, length, get_or, false, Ok, refl, arith}
-use Rattle.std.specs.Prelude.{decimal, ◌==◌, pos, negsuc}
+use Rattle.std.proofs.Common.{decimal, ◌==◌, pos, negsuc, ◌≡◌, ℕ, zero, suc, ◌^◌, ◌<◌, ◌≤◌, List, [], ◌∷◌, length, get_or, false, Ok, refl, arith}
 use Rattle.std.specs.Fmt.{signed_decimal}
 use Rattle.std.proofs.lemmas.Bool.Decides.{nat_tests}
 use Rattle.std.proofs.lemmas.Fmt.{decimal_digit, decimal_nonempty, first_decimal}

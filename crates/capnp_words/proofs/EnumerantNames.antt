@@ -1,6 +1,5 @@
 -- The names of enumerants, one after another.
-use Rattle.std.proofs.Common.{◌≡◌, ℕ, zero, suc, ◌+◌, ◌<◌, max, List, [], ◌∷◌, length, drop, cond, true, false, Ok, refl, map, arith, add-one}
-use Rattle.std.specs.Prelude.{slice_get}
+use Rattle.std.proofs.Common.{slice_get, ◌≡◌, ℕ, zero, suc, ◌+◌, ◌<◌, max, List, [], ◌∷◌, length, drop, cond, true, false, Ok, refl, map, arith, add-one}
 use Rattle.std.specs.Option.{unwrap_or}
 use Rattle.capnp_schema.specs.Schema.{Schemas, Enumerant, enum_at}
 use Rattle.capnp_schema.specs.Annotated.{enumerant_at, no_enumerant}

@@ -1,6 +1,5 @@
 -- Enumerants are read by their names, and by their numbers where they have none.
-use Rattle.std.proofs.Common.{◌≡◌, ℕ, zero, suc, ◌+◌, ◌^◌, ◌<◌, ◌≤◌, max, List, [], ◌∷◌, length, Bool, true, false, cond, Some, Ok, Err, refl, ap, sym, ◌∙◌, add-zero, arith, subst}
-use Rattle.std.specs.Prelude.{decimal, ◌==◌, slice_get, slice_index}
+use Rattle.std.proofs.Common.{decimal, ◌==◌, slice_get, slice_index, ◌≡◌, ℕ, zero, suc, ◌+◌, ◌^◌, ◌<◌, ◌≤◌, max, List, [], ◌∷◌, length, Bool, true, false, cond, Some, Ok, Err, refl, ap, sym, ◌∙◌, add-zero, arith, subst}
 use Rattle.std.specs.Char.{is_ascii_digit}
 use Rattle.std.proofs.lemmas.Bool.Decides.{nat_tests}
 use Rattle.std.proofs.lemmas.Fmt.{decimal_nonempty}

@@ -1,6 +1,5 @@
 -- A value under another type than an enum needs no set.
-use Rattle.std.specs.Prelude.{◌≡◌, Bool, true, false, Result, Ok, Err, IfOk}
-use Rattle.std.proofs.Common.{ap, ◌∙◌, ℕ}
+use Rattle.std.proofs.Common.{◌≡◌, Bool, true, false, Result, Ok, Err, IfOk, ap, ◌∙◌, ℕ}
 use Rattle.std.proofs.lemmas.Bool.{true≢false}
 use Rattle.capnp_schema.specs.Schema.{Schemas}
 use Rattle.capnp_schema.specs.Types.{EnumType, SchemaType}

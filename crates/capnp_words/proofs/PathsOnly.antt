@@ -1,6 +1,5 @@
 -- A word that is read as a path is the one that the path is written as.
-use Rattle.std.proofs.Common.{◌≡◌, ℕ, ◌+◌, List, [], ◌∷◌, length, Bool, true, false, cond, Ok, Err, refl, ap, sym, ◌∙◌, map, arith}
-use Rattle.std.specs.Prelude.{◌==◌, nat_lt}
+use Rattle.std.proofs.Common.{◌==◌, nat_lt, ◌≡◌, ℕ, ◌+◌, List, [], ◌∷◌, length, Bool, true, false, cond, Ok, Err, refl, ap, sym, ◌∙◌, map, arith}
 use Rattle.std.specs.List.{join_with_byte, position_or_len, slice_split}
 use Rattle.std.specs.Char.{is_ascii_digit}
 use Rattle.std.proofs.lemmas.Bool.Decides.{nat_tests}

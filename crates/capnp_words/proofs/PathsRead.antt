@@ -1,6 +1,5 @@
 -- Paths are read as they are written, and nothing else is.
-use Rattle.std.proofs.Common.{◌≡◌, ℕ, zero, suc, ◌+◌, ◌^◌, ◌<◌, List, [], ◌∷◌, length, get_or, true, false, Ok, refl, ap, ◌∙◌, map, arith}
-use Rattle.std.specs.Prelude.{decimal, ◌==◌, All, nat_lt, slice_index, ◌≢◌}
+use Rattle.std.proofs.Common.{decimal, ◌==◌, All, nat_lt, slice_index, ◌≢◌, ◌≡◌, ℕ, zero, suc, ◌+◌, ◌^◌, ◌<◌, List, [], ◌∷◌, length, get_or, true, false, Ok, refl, ap, ◌∙◌, map, arith}
 use Rattle.std.specs.List.{AllByRecursion, join_with_byte, position_or_len, slice_split}
 use Rattle.std.specs.Char.{is_ascii_digit}
 use Rattle.std.proofs.lemmas.Bool.Decides.{nat_tests}

@@ -1,6 +1,5 @@
 -- What the printer prints of a value is read as that value.
-use Rattle.std.proofs.Common.{◌≡◌, ℕ, zero, suc, ◌-◌, ◌*◌, ◌^◌, ◌<◌, ◌≤◌, List, [], ◌∷◌, ◌++◌, Bool, true, false, cond, Some, None, Ok, refl, ap, sym, ◌∙◌, map, arith, subst}
-use Rattle.std.specs.Prelude.{Option, pos, negsuc, decimal, codes, flat_map, slice_get}
+use Rattle.std.proofs.Common.{Option, pos, negsuc, decimal, codes, flat_map, slice_get, ◌≡◌, ℕ, zero, suc, ◌-◌, ◌*◌, ◌^◌, ◌<◌, ◌≤◌, List, [], ◌∷◌, ◌++◌, Bool, true, false, cond, Some, None, Ok, refl, ap, sym, ◌∙◌, map, arith, subst}
 use Rattle.std.specs.Option.{option_map}
 use Rattle.std.specs.List.{AllByRecursion, list_all}
 use Rattle.std.specs.Char.{is_ascii}

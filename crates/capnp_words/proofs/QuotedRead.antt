@@ -1,6 +1,5 @@
 -- What is printed in quotes is read as the bytes that were printed.
-use Rattle.std.proofs.Common.{◌≡◌, ℕ, zero, suc, ◌+◌, ◌<◌, List, [], ◌∷◌, ◌++◌, length, Bool, true, false, Some, None, Ok, Err, refl, ap, ◌∙◌, append_assoc, append-nil, length-append, add-zero, subst, arith}
-use Rattle.std.specs.Prelude.{Option, ◌==◌, ◌&&◌, nat_lt, flat_map}
+use Rattle.std.proofs.Common.{Option, ◌==◌, ◌&&◌, nat_lt, flat_map, ◌≡◌, ℕ, zero, suc, ◌+◌, ◌<◌, List, [], ◌∷◌, ◌++◌, length, Bool, true, false, Some, None, Ok, Err, refl, ap, ◌∙◌, append_assoc, append-nil, length-append, add-zero, subst, arith}
 use Rattle.std.specs.List.{AllByRecursion}
 use Rattle.std.specs.Char.{encode_utf8, is_ascii}
 use Rattle.std.specs.Char.Escape.{hex_digit_at}

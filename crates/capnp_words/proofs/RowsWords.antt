@@ -1,10 +1,8 @@
 -- Worked rows of words.
-use Rattle.std.proofs.Common.{◌≡◌, [], ◌∷◌, ◌++◌, true, Some, None, Ok, Err, refl, codes}
-use Rattle.std.specs.Prelude.{pos, negsuc}
+use Rattle.std.proofs.Common.{pos, negsuc, ◌≡◌, [], ◌∷◌, ◌++◌, true, Some, None, Ok, Err, refl, codes}
 use Rattle.std.specs.Char.{encode_utf8}
-use Rattle.capnp_schema.specs.Types.{BoolType, IntType, UIntType, EnumType, TextType, DataType, ListType}
+use Rattle.capnp_schema.specs.Types.{BoolType, IntType, UIntType, EnumType, TextType, DataType, ListType, StructType}
 use Rattle.capnp_schema.specs.Builtin.{builtin}
-use Rattle.capnp_schema.specs.Types.{StructType}
 use Rattle.capnp_records.specs.Call.{FieldNumber, FieldNamed, ElementAt}
 use Rattle.capnp_records.specs.Record as value
 use Rattle.capnp_words.specs.Paths.{path_at}

@@ -2,7 +2,8 @@
 //!
 //! A row is a message or the program's words, an arrow, and the line that is told, of which `usage` stands for the
 //! lines of the usage. A line that begins with `#` says what the rows below it show.
-use crate::tests::{EMPTY_ROOT, Setting, USAGE, answered, bytes_of, comes_to, run_on, tells};
+use crate::tests::{EMPTY_ROOT, Setting, USAGE, answered, comes_to, run_on, tells};
+use capnp_wire_fixtures::bytes::bytes_of;
 use std::alloc::Global;
 use std::process::Abort;
 use std::test::Fail;

@@ -2,13 +2,14 @@
 //!
 //! A setting says what the program is run on, and what comes of it is one text: whether the message still has all its
 //! bytes, the status, what was told, a bar, and what was written. Rows are texts (`rows`).
-ghost use Rattle.std.specs.Prelude.{⊤, ◌<◌};
+ghost use Rattle.std.specs.Prelude.{⊤};
 
 use crate::rows::{GOT, LISTED, PATCHED};
 use capnp_show_engine::opener::Opener;
 use capnp_wire::device::DeviceFault;
 use capnp_wire::memory::{MemorySink, MemorySource};
-use capnp_wire::transfer::read_all;
+use capnp_wire_fixtures::bytes::bytes_of;
+use capnp_wire_fixtures::devices::{chunk, is_unread};
 use riftcalico_engine::command::command_over;
 use std::alloc::Global;
 use std::process::Abort;
@@ -82,33 +83,6 @@ pub(crate) fn run_on<'a>(words: &'a str, bytes: &'a [u8], slow: bool) -> Setting
     }
 }
 
-fn digit(letter: u8) -> Option<u8> {
-    match letter {
-        b'0'..=b'9' => Some(letter - b'0'),
-        b'a'..=b'f' => Some(letter - b'a' + 10),
-        _ => None,
-    }
-}
-
-/// The bytes of hexadecimal digits, two a byte; what is no digit is left out.
-pub(crate) fn bytes_of(alloc: Global, text: &str) -> Result<Vec<u8>, Fail> {
-    let mut bytes = Vec::new(alloc);
-    let mut high = None;
-    for letter in text.as_bytes() {
-        let Some(low) = digit(*letter) else {
-            continue;
-        };
-        high = match high {
-            None => Some(low << 4),
-            Some(first) => {
-                bytes.push(first | low)?;
-                None
-            }
-        };
-    }
-    Ok(bytes)
-}
-
 fn words_of(alloc: Global, words: &str) -> Result<Vec<String>, Fail> {
     let mut list = Vec::new(alloc);
     for word in words.split('|') {
@@ -117,25 +91,11 @@ fn words_of(alloc: Global, words: &str) -> Result<Vec<String>, Fail> {
     Ok(list)
 }
 
-fn chunk(slow: bool) -> usize
-    ensures { 0 < result }
-{
-    if slow { 1 } else { 4096 }
-}
-
 fn failing(on: &Setting<'_>, device: &str) -> Option<u64> {
     if on.device == device {
         Some(on.call as u64)
     } else {
         None
-    }
-}
-
-/// Whether a source still has all bytes of a message.
-fn is_unread(alloc: Global, source: &mut MemorySource<'_>, message: &[u8]) -> bool {
-    match read_all(alloc, source) {
-        Ok(left) => !message.is_empty() && left.as_slice() == message,
-        Err(_) => false,
     }
 }
 
@@ -217,7 +177,7 @@ fn joined(alloc: Global, text: &str, mark: char, end: &str) -> Result<String, Fa
 /// The bytes of a row's lines with a mark.
 fn joined_bytes(alloc: Global, text: &str, mark: char) -> Result<Vec<u8>, Fail> {
     let digits = joined(alloc, text, mark, "")?;
-    bytes_of(alloc, &digits)
+    Ok(bytes_of(alloc, &digits)?)
 }
 
 /// What has to come of a row.

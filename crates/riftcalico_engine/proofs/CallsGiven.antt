@@ -1,14 +1,8 @@
 -- Calls as they are read and as they are made.
-use Rattle.std.specs.Prelude.{ℕ, List, [], ◌∷◌, ◌++◌, map}
-use Rattle.std.proofs.Common.{◌≡◌, ◌∙◌, Ok, ap, refl, sym}
+use Rattle.std.proofs.Common.{List, [], ◌∷◌, ◌++◌, map, ◌≡◌, ◌∙◌, Ok, ap, refl, sym}
 use Rattle.std.proofs.lemmas.List.{map-append}
-use Rattle.capnp_schema.specs.Schema.{Schemas}
-use Rattle.capnp_schema.specs.Types.{SchemaType}
 use Rattle.capnp_records.specs.Call.{Call, Op, PathStep}
-use Rattle.capnp_records.specs.Record.{Value}
-use Rattle.capnp_words.specs.Reads.{Read, read_as}
 use Rattle.capnp_words.specs.Seen.{word_value_seen, word_value_type}
-use Rattle.capnp_words.specs.Values.{value_by_word}
 use Rattle.capnp_words.specs.declared.value.PlainValue.{PlainValue}
 use Rattle.capnp_words.specs.declared.value.PlainValue.TheVariants as plain
 use Rattle.capnp_call.specs.Seen.{call_seen}
@@ -17,7 +11,7 @@ use Rattle.capnp_records.specs.Run.{root_type}
 use Rattle.capnp_schema.specs.StructHandles.{number_of, set_of}
 use Rattle.capnp_schema.specs.declared.schema.structs.StructSchema.{StructSchema}
 use Rattle.capnp_words.specs.Calls.{CallText}
-use Rattle.riftcalico_engine.specs.Calls.{call_read, shifted_read, source_taken, split, with_step}
+use Rattle.riftcalico_engine.specs.Calls.{call_read, source_taken, split, with_step}
 use Rattle.riftcalico_engine.specs.Reads.{each_word_read}
 use Rattle.riftcalico_engine.specs.Words.{AreCalls}
 use Rattle.riftcalico_engine.specs.Steps.Words.{AreMadeOf}
@@ -38,12 +32,6 @@ source_is (plain.UInt64 x) = refl
 source_is (plain.Enum e) = refl
 source_is (plain.Text bytes) = refl
 source_is (plain.«Data» bytes) = refl
-
--- one that was read under a type
-pub source_read : (set : Schemas) (t : SchemaType) (bytes : List ℕ) (place : ℕ) (v : PlainValue) → word_value_type v ≡ t → Ok (word_value_seen v) ≡ value_by_word set t bytes →
-    Ok (word_value_source v) ≡ shifted_read place (read_as (source_taken t) (value_by_word set t bytes))
-source_read set t bytes place v typed read =
-    ap Ok (sym (source_is v) ∙ ap (λ (u : SchemaType). source_taken u (word_value_seen v)) typed) ∙ ap (λ (r : Read Value). shifted_read place (read_as (source_taken t) r)) read
 
 -- the last step of a path, and those before it
 pub split_last : (op : Op) (steps : List PathStep) (last : PathStep) → split (steps ++ last ∷ []) op ≡ record { path = steps; last = last; op = op }

@@ -1,6 +1,5 @@
 -- Several that are read one after another.
-use Rattle.std.specs.Prelude.{ℕ, zero, suc, ◌+◌, ◌≤◌, ◌<◌, List, [], ◌∷◌, ◌++◌, Ok, Err, drop, get_or, length, map}
-use Rattle.std.proofs.Common.{◌≡◌, ◌∙◌, ap, append_assoc, arith, refl, sym}
+use Rattle.std.proofs.Common.{ℕ, suc, ◌+◌, ◌<◌, List, [], ◌∷◌, ◌++◌, Ok, Err, drop, get_or, length, map, ◌≡◌, ◌∙◌, ap, append_assoc, arith, refl, sym}
 use Rattle.std.proofs.lemmas.List.{drop_more, map-append}
 use Rattle.capnp_words.specs.Reads.{Read}
 use Rattle.riftcalico_engine.specs.Reads.{Reads, at_word, each_word_read, joined_reads}
@@ -31,24 +30,3 @@ module _ {A B C D : Type 0} (f : A → Read B) (g : C → A) (h : D → B) where
     where
       number : i + 1 ≡ suc i
       number = omega arith
-
-  -- one that isn't ends all
-  pub stops : (xs : List C) (i : ℕ) (x : C) (before : List D) (place : ℕ) → i < length xs → x ≡ get_or xs i x → Err place ≡ f (g x) →
-      behind (map h before) (each_word_read f i (map g (drop i xs))) ≡ Err (i, place)
-  stops xs i x before place inside is read =
-      ap (λ (ys : List C). behind (map h before) (each_word_read f i (map g ys))) (item_from xs i x inside is)
-      ∙ ap (λ (r : Read B). behind (map h before) (joined_reads (at_word i r) (each_word_read f (suc i) (map g (drop (i + 1) xs))))) (sym read)
-
-  none_left : (xs : List C) (i : ℕ) → length xs ≤ i → drop i xs ≡ []
-  none_left [] zero past = refl
-  none_left [] (suc i) past = refl
-  none_left (x ∷ xs) zero past = absurd (omega (arith, past))
-  none_left (x ∷ xs) (suc i) past = none_left xs i (omega (arith, past))
-
-  append_nil : (ys : List B) → ys ++ [] ≡ ys
-  append_nil [] = refl
-  append_nil (y ∷ ys) = ap (λ zs. y ∷ zs) (append_nil ys)
-
-  -- where none is left all are read
-  pub all_read : (xs : List C) (i : ℕ) (before : List D) → length xs ≤ i → behind (map h before) (each_word_read f i (map g (drop i xs))) ≡ Ok (map h before)
-  all_read xs i before past = ap (λ (ys : List C). behind (map h before) (each_word_read f i (map g ys))) (none_left xs i past) ∙ ap Ok (append_nil (map h before))

@@ -1,19 +1,15 @@
 -- What a task of calls ended with, from what its words did.
-use Rattle.std.proofs.Common.{◌≡◌, ◌≢◌, ◌⊎◌, ℕ, List, Option, Result, Ok, Err, IfOk, IfErr, inl, inr, refl, subst, sym, ◌∙◌}
+use Rattle.std.proofs.Common.{◌≡◌, ◌≢◌, ℕ, List, Option, Result, Ok, Err, IfOk, IfErr, inl, inr, refl, subst, sym}
 use Rattle.std.specs.Prelude.{⊤}
 use Rattle.capnp_device.specs.Device.{HasFailed}
 use Rattle.capnp_device.specs.declared.error.Error.{Error}
-use Rattle.capnp_device.specs.declared.error.ErrorKind.TheVariants.{OutOfMemory, ReadFailed, WriteFailed}
-use Rattle.capnp_schema.specs.declared.schema.structs.StructSchema.{StructSchema}
-use Rattle.capnp_call.specs.declared.calls.Call.{Call}
-use Rattle.capnp_call.specs.declared.calls.Reply.{Reply}
+use Rattle.capnp_device.specs.declared.error.ErrorKind.TheVariants.{ReadFailed, WriteFailed}
 use Rattle.capnp_show_engine.specs.Show.{IsOfMessage}
-use Rattle.riftcalico_engine.specs.Command.{CallsTask, GetTask, GivenCalls, in_lines, in_words}
-use Rattle.capnp_patch.specs.Gets.{IsGetCutShort, IsNotGot}
+use Rattle.riftcalico_engine.specs.Command.{CallsTask, GivenCalls, in_lines, in_words}
 use Rattle.capnp_patch.specs.Patches.{IsCutShort, IsLeftOfNew, IsMade, IsNotPatched, IsPatchCutShort, IsPatched}
-use Rattle.riftcalico_engine.specs.Ended.{AreGiven, AreUnder, IsCallsOutcome, IsCallsRefused, IsGetEnded, IsGetOutcome, IsNewEnded, IsNoTextOutcome, IsPatchEnded, IsPath, Streams}
-use Rattle.riftcalico_engine.specs.Roots.{HasSetReadFailed, HasSetFailed, IsNamed, IsRootOr, Opens}
-use Rattle.riftcalico_engine.specs.Words.{AreCalls, AreSaid, AreProgramWords, HasGivenFailed}
+use Rattle.riftcalico_engine.specs.Ended.{AreUnder, IsCallsOutcome, IsNewEnded, IsPatchEnded, Streams}
+use Rattle.riftcalico_engine.specs.Roots.{HasSetReadFailed, HasSetFailed, IsRootOr, Opens}
+use Rattle.riftcalico_engine.specs.Words.{AreCalls, AreSaid, AreProgramWords}
 use Rattle.riftcalico_engine.specs.declared.run.Outcome.{Outcome}
 
 -- the words of a request, where they are the program's, and where they are the lines of its file

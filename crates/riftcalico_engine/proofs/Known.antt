@@ -1,7 +1,6 @@
 -- Names that the built-in set has.
-use Rattle.std.specs.Prelude.{ℕ, List, [], ◌∷◌, false, Option, Some, None, String, get_or, is_some, length, map, string_bytes}
+use Rattle.std.proofs.Common.{ℕ, List, [], ◌∷◌, false, Option, Some, None, String, get_or, is_some, length, map, string_bytes, ◌≡◌, arith, refl}
 use Rattle.std.specs.Option.{option_map}
-use Rattle.std.proofs.Common.{◌≡◌, arith, refl}
 use Rattle.capnp_schema.specs.Builtin.{builtin}
 use Rattle.capnp_schema.specs.ByName.{brand_named}
 use Rattle.capnp_show_engine.specs.Command.{asked_show, built_in_asked, show_task_of}

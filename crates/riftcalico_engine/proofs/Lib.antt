@@ -1,8 +1,6 @@
 pub mod CallsGiven
-pub mod CommandDone
 pub mod Each
 pub mod Ended
-pub mod EndedTwo
 pub mod Known
 pub mod Outcomes
 pub mod PlainGiven

@@ -1,6 +1,5 @@
 -- What a set is given, by its value and its type.
-use Rattle.std.specs.Prelude.{◌≡◌, Bool, true, false}
-use Rattle.std.proofs.Common.{ap, refl, sym, ◌∙◌}
+use Rattle.std.proofs.Common.{◌≡◌, Bool, true, false, ap, refl, sym, ◌∙◌}
 use Rattle.std.proofs.lemmas.Bool.{true≢false}
 use Rattle.capnp_schema.specs.Types.{AnyPointerType, ListType, SchemaType, StructType}
 use Rattle.capnp_dynamic_readers.specs.Seen.{value_seen}

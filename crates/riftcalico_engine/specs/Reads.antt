@@ -1,5 +1,5 @@
 -- What several words are read as, or where they can't be.
-use Rattle.std.specs.Prelude.{ℕ, suc, ◌+◌, ◌++◌, List, [], ◌∷◌, Result, Ok, Err, codes, decimal, get_or}
+use Rattle.std.specs.Prelude.{ℕ, suc, ◌++◌, List, [], ◌∷◌, Result, Ok, Err, codes, decimal, get_or}
 use Rattle.capnp_words.specs.Reads.{Read}
 
 -- the index of the first that can't be read, and the place in it of the first byte that can't stand

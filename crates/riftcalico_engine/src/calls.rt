@@ -4,11 +4,10 @@ ghost use Rattle.capnp_device.specs.declared.error.ErrorKind.TheVariants.{OutOfM
 ghost use Rattle.capnp_schema.specs.StructHandles.{IsStruct, number_of, set_of};
 ghost use Rattle.capnp_records.specs.Run.{root_type};
 ghost use Rattle.capnp_call.specs.Seen.{call_seen, op_seen, path_seen, step_seen};
-ghost use Rattle.capnp_words.specs.Calls.{call_at};
+ghost use Rattle.capnp_words.specs.Calls.{call_at, Set};
 ghost use Rattle.capnp_words.specs.Reads.{read_as};
 ghost use Rattle.capnp_words.specs.Seen as said;
 ghost use Rattle.capnp_words.specs.Targets.{type_along};
-ghost use Rattle.capnp_words.specs.Calls.{Set};
 ghost use Rattle.riftcalico_engine.specs.Calls.{call_read, op_given, placed_call, source_given, split};
 ghost use Rattle.riftcalico_engine.specs.CallsSeen.{all_seen, word_value_source, read_call_seen};
 ghost use Rattle.riftcalico_engine.specs.Reads.{each_word_read};

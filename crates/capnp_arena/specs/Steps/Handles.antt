@@ -22,9 +22,6 @@ pub record IsListHere (b : ListBuilder) : Type 0 where
 
 -- ---- handles given for a handle ----
 
-abbrev pub PointerRests : {E : Type 0} → MutBor Arena → Result PointerBuilder E → Fml
-PointerRests arena r = RestsIfErr arena_row arena (λ s. s.arena.ghost_name) r (λ n. segment n ≡ segment arena.now)
-
 abbrev pub StructRests : {E : Type 0} → MutBor Arena → Result StructBuilder E → Fml
 StructRests arena r = RestsIfErr arena_row arena (λ s. s.arena.ghost_name) r (λ n. segment n ≡ segment arena.now)
 

@@ -1,6 +1,5 @@
 -- The member that a struct's discriminant names is the active one of its record.
-use Rattle.std.specs.Prelude.{ℕ, zero, suc, ◌*◌, ◌≡◌, ◌==◌, refl, false, Option, Some, None}
-use Rattle.std.proofs.Common.{arith, ap, subst, ◌∙◌}
+use Rattle.std.proofs.Common.{ℕ, zero, suc, ◌*◌, ◌≡◌, ◌==◌, refl, false, Option, Some, None, arith, ap, subst, ◌∙◌}
 use Rattle.capnp_wire.specs.Tree.{StructTree}
 use Rattle.capnp_schema.specs.Discriminant.{discriminant_of, first_bit}
 use Rattle.capnp_schema.specs.FieldLists.{IsFound}

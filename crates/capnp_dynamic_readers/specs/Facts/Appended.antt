@@ -1,6 +1,5 @@
 -- Texts that are appended one after another.
-use Rattle.std.specs.Prelude.{ℕ, List, [], ◌++◌}
-use Rattle.std.proofs.Common.{◌≡◌, ◌∙◌, ap, append_assoc, append-nil, subst, sym}
+use Rattle.std.proofs.Common.{ℕ, List, [], ◌++◌, ◌≡◌, ◌∙◌, ap, append_assoc, append-nil, subst, sym}
 use Rattle.capnp_records.specs.Facts.Spelled.{both_text, known_spelled, said_both}
 use Rattle.capnp_records.specs.Text.{Out, after, said_text}
 use Rattle.capnp_dynamic_readers.specs.Pieces.{IsAppended}

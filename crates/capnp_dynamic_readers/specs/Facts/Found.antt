@@ -1,6 +1,5 @@
 -- Fields that were found by a name belong to the schema, and those of one name are one.
-use Rattle.std.specs.Prelude.{ℕ, ◌≡◌, Option, Some, None, Bool}
-use Rattle.std.proofs.Common.{ap, sym, ◌∙◌}
+use Rattle.std.proofs.Common.{ℕ, ◌≡◌, Option, Some, None, Bool, ap, sym, ◌∙◌}
 use Rattle.capnp_schema.specs.FieldLists.{IsFound, index_of}
 use Rattle.capnp_schema.specs.StructHandles.{number_of, set_of, struct_field}
 use Rattle.capnp_schema.specs.declared.schema.fields.Field.{Field}

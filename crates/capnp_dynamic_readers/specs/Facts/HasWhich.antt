@@ -1,7 +1,6 @@
 -- Has and which by a plan are the record's.
-use Rattle.std.specs.Prelude.{ℕ, suc, ◌+◌, ◌<◌, ◌≡◌, refl, List, [], ◌∷◌, Bool, true, false, not, ◌&&◌, ◌==◌, nat_lt, cond, length, map, position, Option, Some, None, option_map, Result, Ok}
+use Rattle.std.proofs.Common.{ℕ, suc, ◌+◌, ◌<◌, ◌≡◌, refl, List, [], ◌∷◌, Bool, true, false, not, ◌&&◌, ◌==◌, nat_lt, cond, length, map, position, Option, Some, None, option_map, Result, Ok, arith, ap, sym, subst, ◌∙◌}
 use Rattle.std.specs.List.{position_or_len}
-use Rattle.std.proofs.Common.{arith, ap, sym, subst, ◌∙◌}
 use Rattle.std.proofs.lemmas.Bool.{eq-eqb, eqb-true, true≢false}
 use Rattle.capnp_device.specs.declared.error.Error.{Error}
 use Rattle.capnp_wire.specs.Tree.{StructTree, Tree, nth_tree}
@@ -11,16 +10,14 @@ use Rattle.capnp_base.specs.declared.introspect.TypeVariant.TheVariants as varia
 use Rattle.capnp_schema.specs.Accepted.{IsAccepted}
 use Rattle.capnp_schema.specs.Plan.{member_plan, plan_place, plan_of}
 use Rattle.capnp_schema.specs.Query.{is_member_of, member_of, records_of}
-use Rattle.capnp_schema.specs.Schema.{FieldKind, Group, Schemas, Slot, TypedField, field_at, fields_of, is_member, node_of}
+use Rattle.capnp_schema.specs.Schema.{FieldKind, Group, Schemas, Slot, TypedField, field_at, fields_of, is_member, node_of, Value as SchemaValue}
 use Rattle.capnp_schema.specs.Types.{SchemaType, seen_variant}
-use Rattle.capnp_schema.specs.Schema.{Value as SchemaValue}
 use Rattle.capnp_records.specs.Facts.Frame.{active_among-found, second-of}
 use Rattle.capnp_records.specs.Facts.Members.{counted-from_member, counted-not_zero, once-from_members}
 use Rattle.capnp_records.specs.Facts.PartRead.{found-active, nth-plain_parts}
 use Rattle.capnp_records.specs.Facts.Pointers.{values_of-nth}
 use Rattle.capnp_records.specs.Facts.Readers.{null-is, value-there}
-use Rattle.capnp_records.specs.Reading.{part_of}
-use Rattle.capnp_records.specs.Reading.{Reading, active_among, discriminant, kind_value, non_union_parts, record_within, slot_value, struct_record, union_of, value_of, values_of}
+use Rattle.capnp_records.specs.Reading.{part_of, Reading, active_among, discriminant, kind_value, non_union_parts, record_within, slot_value, struct_record, union_of, value_of, values_of}
 use Rattle.capnp_records.specs.Record.{Active, Levels, NoUnion, Parts, Union, Value, Values, is_there}
 use Rattle.capnp_records.specs.Part.{active_value, has_of, is_active, is_inactive, nth_value, which_of}
 use Rattle.capnp_dynamic_readers.specs.Planned.{place_there}

@@ -5,8 +5,7 @@ use Rattle.capnp_device.specs.declared.error.Error.{Error}
 use Rattle.capnp_wire.specs.Standing.{bytes_read, list_levels, list_of, struct_levels, struct_of}
 use Rattle.capnp_wire.specs.declared.list_reader.ListReader.{ListReader}
 use Rattle.capnp_wire.specs.declared.struct_reader.StructReader.{StructReader}
-use Rattle.capnp_schema.specs.Schema.{Schemas, TextValue, DataValue, StructValue, ListValue}
-use Rattle.capnp_schema.specs.Schema.{Value as SchemaValue}
+use Rattle.capnp_schema.specs.Schema.{Schemas, TextValue, DataValue, StructValue, ListValue, Value as SchemaValue}
 use Rattle.capnp_schema.specs.Types.{SchemaType}
 use Rattle.capnp_records.specs.Facts.ListValues.{below_of}
 use Rattle.capnp_records.specs.Reading.{elements_value, of_read, struct_record}

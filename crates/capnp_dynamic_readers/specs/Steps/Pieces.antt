@@ -1,5 +1,5 @@
 -- Texts as they are put piece by piece into a place: steps of the code.
-use Rattle.std.specs.Prelude.{ℕ, List, ◌++◌, Some, Result, Ok, Err, ◌≡◌, ◌≢◌, ⊤}
+use Rattle.std.specs.Prelude.{ℕ, List, Some, Result, Ok, Err, ◌≡◌, ◌≢◌, ⊤}
 use Rattle.std.specs.Fmt.{◌++?◌}
 use Rattle.capnp_device.specs.declared.error.ErrorKind.{ErrorKind}
 use Rattle.capnp_device.specs.declared.error.ErrorKind.TheVariants.{OutOfMemory}

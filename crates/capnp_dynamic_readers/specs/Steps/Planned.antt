@@ -1,8 +1,7 @@
 -- Reads by a field's place alone: steps of the code.
 use Rattle.std.specs.Prelude.{ℕ, Bool, ◌&&◌, ◌==◌, true, List, length, Option, Some, None, ◌≡◌, ◌^◌, ◌<◌, ◌%◌, bit_xor}
 use Rattle.capnp_wire.specs.Tree.{StructTree, nth_tree}
-use Rattle.capnp_schema.specs.Schema.{Schemas, brand_at}
-use Rattle.capnp_schema.specs.Schema.{Value as SchemaValue}
+use Rattle.capnp_schema.specs.Schema.{Schemas, brand_at, Value as SchemaValue}
 use Rattle.capnp_schema.specs.SlotValue.{bits_at}
 use Rattle.capnp_schema.specs.Types.{SchemaType, VoidType, StructType, is_pointer, width}
 use Rattle.capnp_schema.specs.declared.plan.Place.{Place}

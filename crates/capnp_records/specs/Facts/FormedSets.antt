@@ -4,8 +4,7 @@ use Rattle.std.proofs.Common.{arith}
 use Rattle.capnp_wire.specs.WellFormed.{AreBytes, AreSegments, IsWellFormed}
 use Rattle.capnp_wire.specs.Facts.Places.{IsWellFormed-tree_at}
 use Rattle.capnp_wire.specs.Facts.Lists.{IsWellFormed-data, IsWellFormed-text}
-use Rattle.capnp_schema.specs.Schema.{DataValue, FieldKind, Group, ListValue, Schemas, Slot, StructValue, TextValue, brand_at, field_at, kind_default, node_of}
-use Rattle.capnp_schema.specs.Schema.{Value as SchemaValue}
+use Rattle.capnp_schema.specs.Schema.{DataValue, FieldKind, Group, ListValue, Schemas, Slot, StructValue, TextValue, brand_at, field_at, kind_default, node_of, Value as SchemaValue}
 use Rattle.capnp_schema.specs.Types.{SchemaType}
 use Rattle.capnp_schema.specs.Accepted.{Decodes, EachField, IsAccepted, KindDefault, words_root}
 use Rattle.capnp_schema.specs.Ranges.{HasRanges, ValueFits}

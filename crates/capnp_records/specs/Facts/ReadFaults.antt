@@ -9,8 +9,7 @@ use Rattle.capnp_wire.specs.declared.fault.Fault.{Fault}
 use Rattle.capnp_wire.specs.declared.fault.Fault.TheVariants as fault
 use Rattle.capnp_wire.specs.declared.size.ElementSize.{ElementSize}
 use Rattle.capnp_schema.specs.Accepted.{words_root}
-use Rattle.capnp_schema.specs.Schema.{DataValue, Field, FieldKind, Group, ListValue, Node, Schemas, Slot, StructValue, TextValue, TypedField, fields_of, is_member, node_of}
-use Rattle.capnp_schema.specs.Schema.{Value as SchemaValue}
+use Rattle.capnp_schema.specs.Schema.{DataValue, Field, FieldKind, Group, ListValue, Node, Schemas, Slot, StructValue, TextValue, TypedField, fields_of, is_member, node_of, Value as SchemaValue}
 use Rattle.capnp_schema.specs.SlotValue.{slot_number}
 use Rattle.capnp_schema.specs.Types.{AnyPointerType, BoolType, DataType, EnumType, IntType, ListType, SchemaType, StructType, TextType, UIntType, VoidType, element_size, is_pointer, struct_brand}
 use Rattle.capnp_records.specs.Part.{active_value, nth_value, part_at}

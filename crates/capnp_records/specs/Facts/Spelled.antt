@@ -1,8 +1,7 @@
 -- The bytes of texts, one after another.
-use Rattle.std.specs.Prelude.{ℕ, ◌≡◌, refl, List, [], ◌∷◌, ◌++◌, Ok, Err}
+use Rattle.std.proofs.Common.{ℕ, ◌≡◌, refl, List, [], ◌∷◌, ◌++◌, Ok, Err, ap, append_assoc, append-nil, sym, ◌∙◌}
 use Rattle.std.specs.Str.{IsUtf8}
 use Rattle.std.proofs.lemmas.Str.{IsUtf8-nil}
-use Rattle.std.proofs.Common.{ap, append_assoc, append-nil, sym, ◌∙◌}
 use Rattle.capnp_records.specs.Text.{Byte, DebugForm, IsSpelled, IsText, Out, Pieces, after, known_pieces, said_text}
 
 -- bytes that are known are spelled so

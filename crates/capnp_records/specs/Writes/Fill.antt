@@ -7,8 +7,7 @@ use Rattle.capnp_wire.specs.Edits.{HoldsStruct, extended_struct, struct_in}
 use Rattle.capnp_wire.specs.StructLists.{HoldsStructs, struct_list}
 use Rattle.capnp_schema.specs.Defaults.{value_default_tree}
 use Rattle.capnp_schema.specs.Types.{SchemaType, StructType, ListType, element_size}
-use Rattle.capnp_schema.specs.Schema.{Schemas, StructValue, ListValue}
-use Rattle.capnp_schema.specs.Schema.{Value as SchemaValue}
+use Rattle.capnp_schema.specs.Schema.{Schemas, StructValue, ListValue, Value as SchemaValue}
 use Rattle.capnp_schema.specs.Accepted.{words_root}
 use Rattle.capnp_schema.specs.Plan.{brand_size}
 

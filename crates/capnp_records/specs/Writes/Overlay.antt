@@ -3,8 +3,7 @@ use Rattle.std.specs.Prelude.{ℕ, zero, suc, ◌≡◌, List, [], ◌∷◌, Bo
 use Rattle.capnp_wire.specs.Tree.{StructTree, Null}
 use Rattle.capnp_wire.specs.Edits.{with_bytes, with_number}
 use Rattle.capnp_schema.specs.Types.{SchemaType, is_pointer, struct_number, width}
-use Rattle.capnp_schema.specs.Schema.{Schemas, Node, FieldKind, Slot, Group, Field, TypedField, is_member, node_of, fields_of}
-use Rattle.capnp_schema.specs.Schema.{Value as SchemaValue}
+use Rattle.capnp_schema.specs.Schema.{Schemas, Node, FieldKind, Slot, Group, Field, TypedField, is_member, node_of, fields_of, Value as SchemaValue}
 use Rattle.capnp_schema.specs.SlotValue.{bit_number, unsigned_number, default_bits}
 use Rattle.capnp_schema.specs.Footprint.{Spot, discriminant_names, footprint}
 use Rattle.capnp_schema.specs.Laws.{struct_spots}

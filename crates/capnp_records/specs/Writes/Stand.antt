@@ -8,8 +8,7 @@ use Rattle.capnp_wire.specs.Reading.{element_pointer, element_struct}
 use Rattle.capnp_wire.specs.Elements.{with_pointer_element, with_struct_element, HasPointer}
 use Rattle.capnp_wire.specs.StructLists.{struct_list_refusal}
 use Rattle.capnp_schema.specs.Types.{SchemaType, StructType, ListType, struct_number}
-use Rattle.capnp_schema.specs.Schema.{Schemas, VoidValue, FieldKind, Slot, Group, TypedField, field_at}
-use Rattle.capnp_schema.specs.Schema.{Value as SchemaValue}
+use Rattle.capnp_schema.specs.Schema.{Schemas, VoidValue, FieldKind, Slot, Group, TypedField, field_at, Value as SchemaValue}
 use Rattle.capnp_schema.specs.Query.{records_of, field_named}
 use Rattle.capnp_records.specs.Record as value
 use Rattle.capnp_records.specs.Record.{Endless, Value}

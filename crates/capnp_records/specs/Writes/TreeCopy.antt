@@ -6,8 +6,7 @@ use Rattle.capnp_wire.specs.Tree.{Tree, Null, StructTree, empty_struct, nth_tree
 use Rattle.capnp_wire.specs.Place.{struct_tree}
 use Rattle.capnp_wire.specs.Reading.{is_null_tree, empty_list}
 use Rattle.capnp_schema.specs.Types.{SchemaType, TextType, DataType, StructType, ListType, is_pointer, struct_number, width, element_size}
-use Rattle.capnp_schema.specs.Schema.{Schemas, TextValue, DataValue, StructValue, ListValue, FieldKind, Slot, Group, TypedField, node_of, field_at}
-use Rattle.capnp_schema.specs.Schema.{Value as SchemaValue}
+use Rattle.capnp_schema.specs.Schema.{Schemas, TextValue, DataValue, StructValue, ListValue, FieldKind, Slot, Group, TypedField, node_of, field_at, Value as SchemaValue}
 use Rattle.capnp_schema.specs.SlotValue.{bits_at}
 use Rattle.capnp_schema.specs.Accepted.{words_root}
 use Rattle.capnp_records.specs.Record.{Levels}

@@ -1,7 +1,7 @@
 -- What the code keeps of names, as the definition sees it.
 use Rattle.std.specs.Global.{Global}
 use Rattle.std.specs.HashMap.{get}
-use Rattle.std.specs.Prelude.{ℕ, zero, suc, ◌+◌, ◌<◌, ◌≡◌, ◌≢◌, List, [], ◌∷◌, ◌++◌, Bool, true, false, not, ◌==◌, ◌||◌, bytes_eq, length, map, slice_get, string_bytes, String, Vec, Option, Some, None}
+use Rattle.std.specs.Prelude.{ℕ, zero, suc, ◌<◌, ◌≡◌, ◌≢◌, List, [], ◌∷◌, ◌++◌, Bool, true, false, not, ◌==◌, ◌||◌, bytes_eq, length, map, slice_get, string_bytes, String, Vec, Option, Some, None}
 use Rattle.std.specs.Option.{unwrap_or}
 use Rattle.capnp_base.specs.declared.introspect.TypeVariant.{TypeVariant}
 use Rattle.capnp_base.specs.declared.introspect.TypeVariant.TheVariants as variant

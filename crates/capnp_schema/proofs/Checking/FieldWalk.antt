@@ -10,9 +10,9 @@ use Rattle.capnp_device.specs.declared.error.ErrorKind.{ErrorKind}
 use Rattle.capnp_device.specs.declared.error.ErrorKind.TheVariants as error
 use Rattle.capnp_schema.specs.Schema.{Schemas, Node, TypedField, node_of, fields_of, field_at}
 use Rattle.capnp_schema.specs.Steps.Entries.{brand_node}
-use Rattle.capnp_schema.specs.Accepted.{DefaultIsOfType, EachField, HasNamedType, NamesOwnGroup, SlotLiesInside}
+use Rattle.capnp_schema.specs.Accepted.{DefaultIsOfType, HasNamedType, NamesOwnGroup, SlotLiesInside}
 use Rattle.capnp_schema.specs.Broken.{FieldBreaks, IsBroken, field_type, slot_outside, default_kind, group_type, IsKindOf}
-use Rattle.capnp_schema.specs.Steps.Checking.Fields.{FieldStands, FieldsStand}
+use Rattle.capnp_schema.specs.Steps.Checking.Fields.{FieldStands}
 use Rattle.capnp_schema.proofs.FoundEntries.{found_field, found_node}
 
 -- a refusal that names a broken rule
@@ -46,12 +46,3 @@ module _ (set : Schemas) (b i : ℕ) (f : TypedField) (in_brands : b < length se
 -- one more
 pub one_more : (P : ℕ → Type 0) (n : ℕ) → ((k : ℕ) → k < n → P k) → P n → (k : ℕ) → k < n + 1 → P k
 one_more P n before here k h = ⊎_elim (λ lt. before k lt) (λ le. let e : n ≡ k = omega arith in subst P e here) (cases_lt k n)
-
--- the four rules of each field
-pub all_stand : (set : Schemas) → EachField set (λ b i f. FieldStands set (node_of set b) f) → FieldsStand set
-all_stand set each = record {
-  types = λ b i h k. (each b i h k).names;
-  rule4 = λ b i h k. (each b i h k).inside;
-  rule5 = λ b i h k. (each b i h k).default;
-  rule7 = λ b i h k. (each b i h k).group;
-}

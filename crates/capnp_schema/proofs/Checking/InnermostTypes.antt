@@ -1,6 +1,5 @@
 -- What is decided of what a type's lists hold is decided of the type.
-use Rattle.std.proofs.Common.{ℕ, zero, suc, ◌≡◌, Bool, true, false, not, refl, ap, subst, ◌∙◌}
-use Rattle.std.specs.Prelude.{IsFalse}
+use Rattle.std.proofs.Common.{IsFalse, ℕ, zero, suc, ◌≡◌, Bool, true, false, not, refl, ap, subst, ◌∙◌}
 use Rattle.std.specs.Bool.{Decides}
 use Rattle.capnp_base.specs.declared.introspect.«Type».{«Type» as TypeHandle}
 use Rattle.capnp_base.specs.declared.introspect.BaseType.{BaseType}

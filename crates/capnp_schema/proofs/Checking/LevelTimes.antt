@@ -1,15 +1,13 @@
 -- The times of levels: bisection, and marks one after another.
-use Rattle.std.proofs.Common.{ℕ, zero, suc, ◌≡◌, ◌+◌, ◌<◌, ◌≤◌, ⊎_elim, Bool, true, false, List, [], ◌∷◌, ◌++◌, length, get_or, arith, refl, sym, ap, ◌∙◌, subst, Some, slice_get, ◌==◌, Result, Ok, Err, IfOk, Vec}
-use Rattle.std.proofs.Math.ListN.{set}
+use Rattle.std.proofs.Common.{ℕ, zero, suc, ◌≡◌, ◌+◌, ◌<◌, ◌≤◌, ⊎_elim, Bool, true, false, List, [], ◌∷◌, ◌++◌, length, get_or, arith, refl, sym, ap, ◌∙◌, Some, slice_get, ◌==◌, Result, Ok, Err, IfOk, Vec}
 use Rattle.std.proofs.lemmas.Bool.{cases_lt}
 use Rattle.std.proofs.lemmas.Bool.Decides.{nat_tests}
-use Rattle.std.proofs.lemmas.List.{get_or-set_same, get_or-set_other}
-use Rattle.std.proofs.lemmas.Option.{slice_get_within, slice_get_read, same_Some}
+use Rattle.std.proofs.lemmas.Option.{slice_get_within, same_Some}
 use Rattle.std.specs.declared.alloc.Global.{Global}
 use Rattle.capnp_device.specs.declared.error.Error.{Error}
 use Rattle.capnp_schema.specs.Footprint.{Spot, DataBit, PointerAt, is_in}
 use Rattle.capnp_schema.specs.Steps.Checking.Spans.{span_names}
-use Rattle.capnp_schema.specs.Steps.Checking.Levels.{AreOpen, AreInOrder, AreClaimed, IsClaimed, mark_at}
+use Rattle.capnp_schema.specs.Steps.Checking.Levels.{AreOpen, AreClaimed, IsClaimed, mark_at}
 use Rattle.capnp_schema.specs.declared.check.claims.Claims.{Claims}
 use Rattle.capnp_schema.specs.declared.check.spans.Span.{Span}
 use Rattle.capnp_schema.specs.declared.check.spans.Span.TheVariants.{Data, Pointer}
@@ -21,46 +19,6 @@ pub record Bisected (levels : List Level) (time low high : ℕ) : Type 0 where
   pub after : (k : ℕ) (l : Level) → high ≤ k → slice_get levels k ≡ Some l → time < l.start
   pub ordered : low ≤ high
   pub within : high ≤ length levels
-
-pub all_levels : (levels : List Level) (time : ℕ) → Bisected levels time 0 (length levels)
-all_levels levels time = record {
-  before = λ k l lt e. absurd (omega arith);
-  after = λ k l le e. absurd (let lt = slice_get_within levels k l e in omega arith);
-  ordered = omega arith;
-  within = omega arith;
-}
-
-module _ (levels : List Level) (time low high middle : ℕ) (l : Level) (order : AreInOrder levels) (b : Bisected levels time low high) (above : low ≤ middle) (below : middle < high) (read : l ≡ get_or levels middle l) where
-  there : slice_get levels middle ≡ Some l
-  there = slice_get_read levels (length levels) middle l refl (let w = b.within in omega arith) read
-
-  pub to_left : time < l.start → Bisected levels time low middle
-  to_left early = record {
-    before = b.before;
-    after = λ k m le e. ⊎_elim
-        (λ lt. let o = order.pairs middle k l m lt there e in let s = order.each middle l there in omega arith)
-        (λ past. let same : k ≡ middle = omega arith in let is : l ≡ m = same_Some l m (sym there ∙ ap (slice_get levels) (sym same) ∙ e) in subst (λ (x : Level). time < x.start) is early)
-        (cases_lt middle k);
-    ordered = above;
-    within = (let w = b.within in omega arith);
-  }
-
-  pub to_right : l.plain_end ≤ time → Bisected levels time (middle + 1) high
-  to_right late = record {
-    before = λ k m lt e. ⊎_elim
-        (λ less. let o = order.pairs k middle m l less e there in let s = order.each middle l there in omega arith)
-        (λ past. let same : k ≡ middle = omega arith in let is : l ≡ m = same_Some l m (sym there ∙ ap (slice_get levels) (sym same) ∙ e) in subst (λ (x : Level). x.plain_end ≤ time) is late)
-        (cases_lt k middle);
-    after = b.after;
-    ordered = omega arith;
-    within = b.within;
-  }
-
-pub open_from_bisected : (levels : List Level) (time low high : ℕ) → Bisected levels time low high → high ≤ low → AreOpen levels time
-open_from_bisected levels time low high b end k l e start ends = ⊎_elim
-    (λ lt. let h = b.before k l lt e in omega arith)
-    (λ le. let h = b.after k l (omega arith) e in omega arith)
-    (cases_lt k low)
 
 -- ---- a level above others ----
 
@@ -82,26 +40,6 @@ slice_get-end (x ∷ xs) y z (suc k) h e = let r = slice_get-end xs y z k (omega
 pub pushed : {A : Type 0} (xs : List A) (y z : A) (k : ℕ) → slice_get xs k ≡ Some z → slice_get (xs ++ y ∷ []) k ≡ Some z
 pushed xs y z k e = slice_get-push xs y k (slice_get_within xs k z e) ∙ e
 
-module _ (below : List Level) (top : Level) (order : AreInOrder (below ++ top ∷ [])) where
-  pub order_below : AreInOrder below
-  order_below = record {
-    each = λ k l e. order.each k l (pushed below top l k e);
-    pairs = λ j k l m lt e f. order.pairs j k l m lt (pushed below top l j e) (pushed below top m k f);
-  }
-
-  -- the time is after the start of the top
-  pub open_late : (time : ℕ) → top.start ≤ time → top.plain_end ≤ time → AreOpen (below ++ top ∷ []) time
-  open_late time start late k l e s h = ⊎_elim
-      (λ lt. let before = order.pairs k (length below) l top lt e (slice_get-last below top) in omega arith)
-      (λ le. let r = slice_get-end below top l k le e in let t : l.plain_end ≤ time = subst (λ (x : Level). x.plain_end ≤ time) r.1 late in omega arith)
-      (cases_lt k (length below))
-
-  pub open_early : (time : ℕ) → time < top.start → AreOpen below time → AreOpen (below ++ top ∷ []) time
-  open_early time early rest k l e s h = ⊎_elim
-      (λ lt. rest k l (sym (slice_get-push below top k lt) ∙ e) s h)
-      (λ le. let r = slice_get-end below top l k le e in let t : time < l.start = subst (λ (x : Level). time < x.start) r.1 early in omega arith)
-      (cases_lt k (length below))
-
 -- ---- marks ----
 
 -- the marks from first up to i are claimed
@@ -109,23 +47,6 @@ pub record ClaimedTo (levels : List Level) (now first i : ℕ) (old new : List �
   pub inside : (k : ℕ) → first ≤ k → k < i → AreOpen levels (get_or old k 0) × (get_or new k 0 ≡ now)
   pub before : (k : ℕ) → k < first → get_or new k 0 ≡ get_or old k 0
   pub after : (k : ℕ) → i ≤ k → get_or new k 0 ≡ get_or old k 0
-
-pub none_claimed : (levels : List Level) (now first : ℕ) (old : List ℕ) → ClaimedTo levels now first first old old
-none_claimed levels now first old = record {
-  inside = λ k le lt. absurd (omega arith);
-  before = λ k lt. refl;
-  after = λ k le. refl;
-}
-
-pub one_claimed : (levels : List Level) (now first i : ℕ) (old new : List ℕ) → ClaimedTo levels now first i old new → first ≤ i → i < length new → AreOpen levels (get_or new i 0) → ClaimedTo levels now first (i + 1) old (set new i now)
-one_claimed levels now first i old new c le within is_open = record {
-  inside = λ k from to. ⊎_elim
-      (λ lt. let r = c.inside k from lt in (r.0, get_or-set_other new i k now 0 (λ e. absurd (omega arith)) ∙ r.1))
-      (λ past. let e : i ≡ k = omega arith in (subst (λ x. AreOpen levels x) (ap (λ j. get_or new j 0) e ∙ c.after k (omega arith)) is_open, ap (λ j. get_or (set new i now) j 0) (sym e) ∙ get_or-set_same new i now 0 within))
-      (cases_lt k i);
-  before = λ k lt. get_or-set_other new i k now 0 (λ e. absurd (omega arith)) ∙ c.before k lt;
-  after = λ k past. get_or-set_other new i k now 0 (λ e. absurd (omega arith)) ∙ c.after k (omega arith);
-}
 
 pub all_claimed : (levels : List Level) (now first count i : ℕ) (old new : List ℕ) → ClaimedTo levels now first i old new → first ≤ i → first + count ≤ i → i ≤ first + count → AreClaimed levels now first count old new
 all_claimed levels now first count i old new c le end upto = record {

@@ -1,6 +1,5 @@
 -- List defaults: of a type by its layer, and of the fields of brands.
-use Rattle.std.proofs.Common.{◌≡◌, ℕ, ◌<◌, ◌≤◌, ◌∙◌, Bool, List, Option, Some, ap, arith, length, refl, slice_get, subst, sym}
-use Rattle.std.specs.Prelude.{◌↔◌, IsTrue, Result, is_ok}
+use Rattle.std.proofs.Common.{◌↔◌, IsTrue, Result, is_ok, ◌≡◌, ℕ, ◌<◌, ◌≤◌, ◌∙◌, Bool, List, Option, Some, ap, arith, length, refl, slice_get, subst, sym}
 use Rattle.std.specs.List.{All}
 use Rattle.std.specs.Option.{unwrap_or}
 use Rattle.std.proofs.lemmas.Option.{slice_get_within, unwrap_or-slice_get}

@@ -1,5 +1,5 @@
 -- What one step of a tour keeps.
-use Rattle.std.proofs.Common.{ℕ, zero, suc, ◌≡◌, ◌+◌, ◌-◌, ◌<◌, ◌≤◌, ◌⊎◌, inl, inr, ⊎_elim, Bool, true, false, List, [], ◌∷◌, ◌++◌, length, arith, refl, sym, ap, ◌∙◌, subst, Some, None, slice_get, cond}
+use Rattle.std.proofs.Common.{ℕ, ◌≡◌, ◌+◌, ◌-◌, ◌<◌, ◌≤◌, ◌⊎◌, inl, inr, ⊎_elim, Bool, true, false, List, [], ◌∷◌, ◌++◌, length, arith, refl, sym, ap, ◌∙◌, subst, Some, None, slice_get, cond}
 use Rattle.std.proofs.Math.ListN.{set}
 use Rattle.std.proofs.lemmas.Bool.{cases_lt}
 use Rattle.std.proofs.lemmas.List.{length_push}
@@ -7,31 +7,12 @@ use Rattle.std.proofs.lemmas.Option.{slice_get_within, same_Some, slice_get_past
 use Rattle.capnp_schema.specs.Schema.{Schemas, fields_of}
 use Rattle.capnp_schema.specs.Footprint.{Spot}
 use Rattle.capnp_schema.specs.Steps.Checking.Spans.{span_names, entry_names}
-use Rattle.capnp_schema.specs.Steps.Checking.Levels.{IsOpen, AreOpen, AreInOrder, mark_at, IsClaimed, member_at, Names, NonUnionDone, by_discriminant, by_plain, Done, among_plain, by_member, IsCurrent, plain, member, IsClear, LevelStands, IsAbove, IsCurrentGroup, LevelsStand, TourStands}
+use Rattle.capnp_schema.specs.Steps.Checking.Levels.{IsOpen, AreOpen, mark_at, IsClaimed, member_at, Names, NonUnionDone, by_discriminant, by_plain, Done, among_plain, by_member, IsCurrent, plain, member, IsClear, LevelStands, IsAbove, IsCurrentGroup, LevelsStand, TourStands}
 use Rattle.capnp_schema.specs.declared.check.claims.Claims.{Claims}
 use Rattle.capnp_schema.specs.declared.check.claims.Level.{Level}
 use Rattle.capnp_schema.specs.declared.check.spans.Span.{Span}
 use Rattle.capnp_schema.specs.declared.check.tour.Tour.{Tour}
 use Rattle.capnp_schema.proofs.Checking.LevelTimes.{slice_get-push, slice_get-last, slice_get-end, pushed}
-
--- ---- times ----
-
-pub order_of_levels : (set : Schemas) (mark : Spot → ℕ) (now : ℕ) (levels : List Level) → LevelsStand set mark now levels → AreInOrder levels
-order_of_levels set mark now levels s = record {
-  each = λ k l e. (s.each k l e).ordered;
-  pairs = λ j k l m lt e f. (s.pairs j k l m lt e f).later;
-}
-
--- one level that has no plain part yet, below which there is none
-pub order_of_one : (l : Level) → l.start ≤ l.plain_end → AreInOrder ([] ++ l ∷ [])
-order_of_one l le = record { each = each; pairs = pairs }
-  where
-    each : (k : ℕ) (m : Level) → slice_get (l ∷ []) k ≡ Some m → m.start ≤ m.plain_end
-    each k m e = let r = slice_get-end [] l m k (omega arith) e in subst (λ (x : Level). x.start ≤ x.plain_end) r.1 le
-
-    pairs : (j k : ℕ) (a b : Level) → j < k → slice_get (l ∷ []) j ≡ Some a → slice_get (l ∷ []) k ≡ Some b → a.plain_end ≤ b.start
-    pairs j zero a b lt e f = absurd (omega arith)
-    pairs j (suc k) a b lt e f = cc
 
 -- ---- what is past, and more of it ----
 

@@ -1,6 +1,5 @@
 -- Types of annotations, one after another.
-use Rattle.std.proofs.Common.{ℕ, ◌≡◌, ◌≤◌, Bool, true, false, List, length, map, slice_get, Option, Some, None, Vec, refl, sym, ap, ◌∙◌, subst, arith}
-use Rattle.std.specs.Prelude.{All, MatchOption}
+use Rattle.std.proofs.Common.{All, MatchOption, ℕ, ◌≡◌, ◌≤◌, Bool, true, false, List, length, map, slice_get, Option, Some, None, Vec, refl, sym, ap, ◌∙◌, subst, arith}
 use Rattle.std.specs.Bool.{Decides}
 use Rattle.std.specs.Option.{unwrap_or}
 use Rattle.std.proofs.lemmas.Bool.Decides.{not_from_Decides}

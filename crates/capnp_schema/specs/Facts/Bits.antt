@@ -1,7 +1,6 @@
 -- Bits of a data section: the numbers that they are, and what they are once a number was written.
-use Rattle.std.specs.Prelude.{ℕ, zero, suc, ◌+◌, ◌*◌, ◌/◌, ◌%◌, ◌^◌, ◌<◌, ◌≤◌, ◌≡◌, ◌⊎◌, refl, List, Bool, true, false, ◌==◌, length, get_or, take, drop, bit_xor}
+use Rattle.std.proofs.Common.{ℕ, zero, suc, ◌+◌, ◌*◌, ◌/◌, ◌%◌, ◌^◌, ◌<◌, ◌≤◌, ◌≡◌, ◌⊎◌, refl, List, Bool, true, false, ◌==◌, length, get_or, take, drop, bit_xor, arith, inl, inr, ap, ap₂, sym, ◌∙◌}
 use Rattle.std.specs.Int.Bits.{xor_assoc, xor_self, xor_zero_r}
-use Rattle.std.proofs.Common.{arith, inl, inr, ap, ap₂, sym, ◌∙◌}
 use Rattle.std.proofs.lemmas.Nat.{xor_lt}
 use Rattle.std.proofs.Math.Nat.{pow-suc}
 use Rattle.capnp_wire.specs.Slot.{bit_at, little_endian, masked_bit, number_at}
@@ -65,10 +64,6 @@ bit_number-is x = go (x % 2) (omega arith)
     go zero a = refl
     go (suc zero) a = refl
     go (suc (suc y)) a = absurd (omega arith)
-
-pub bit_number-back : (b : Bool) → (bit_number b == 1) ≡ b
-bit_number-back true = refl
-bit_number-back false = refl
 
 -- a number of one bit is that of its bit
 pub bit_number-of : (n : ℕ) → n < 2 → bit_number (n == 1) ≡ n

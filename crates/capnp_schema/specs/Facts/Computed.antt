@@ -1,6 +1,5 @@
 -- Tests of all numbers below a bound, of all entries, pairs and fields, as they compute.
-use Rattle.std.proofs.Common.{ℕ, zero, suc, ◌≡◌, ◌<◌, ◌&&◌, ◌||◌, ◌==◌, ◌⊎◌, inl, inr, ⊎_elim, Bool, true, false, not, List, length, get_or, arith, refl, sym, ap₂, ◌∙◌, subst, Option, Some, None, slice_get}
-use Rattle.std.specs.Prelude.{All}
+use Rattle.std.proofs.Common.{All, ℕ, zero, suc, ◌≡◌, ◌<◌, ◌&&◌, ◌||◌, ◌==◌, ◌⊎◌, inl, inr, ⊎_elim, Bool, true, false, not, List, length, get_or, arith, refl, sym, ap₂, ◌∙◌, subst, Option, Some, None, slice_get}
 use Rattle.std.specs.List.{list_all}
 use Rattle.std.proofs.lemmas.Bool.{cases_lt}
 use Rattle.std.proofs.lemmas.Bool.Decides.{Decides-eqb}

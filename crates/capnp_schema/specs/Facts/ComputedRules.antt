@@ -1,6 +1,5 @@
 -- Rules of single entries of a set, as tests that compute.
-use Rattle.std.proofs.Common.{ℕ, ◌≡◌, ◌<◌, ◌^◌, ◌&&◌, ◌==◌, nat_lt, nat_le, ⊎_elim, Bool, true, false, not, List, length, map, refl}
-use Rattle.std.specs.Prelude.{IsTrue, bytes_eq}
+use Rattle.std.proofs.Common.{IsTrue, bytes_eq, ℕ, ◌≡◌, ◌<◌, ◌^◌, ◌&&◌, ◌==◌, nat_lt, nat_le, ⊎_elim, Bool, true, false, not, List, length, map, refl}
 use Rattle.std.specs.List.{list_all, list_any}
 use Rattle.std.proofs.lemmas.Bool.{ltb-true, leb-true}
 use Rattle.std.proofs.lemmas.Bool.Decides.{Decides-eqb}

@@ -1,7 +1,6 @@
 -- Fields of brands: what holds of all entries of a list holds of one, and a field shows that its brand is there.
-use Rattle.std.specs.Prelude.{ℕ, zero, suc, ◌<◌, ◌≤◌, ◌≡◌, refl, List, [], ◌∷◌, IsTrue, All, Option, Some, length, slice_get}
+use Rattle.std.proofs.Common.{ℕ, zero, suc, ◌<◌, ◌≤◌, ◌≡◌, refl, List, [], ◌∷◌, IsTrue, All, Option, Some, length, slice_get, arith, ap, subst, ◌∙◌, ⊎_elim}
 use Rattle.std.specs.Option.{unwrap_or}
-use Rattle.std.proofs.Common.{arith, ap, subst, ◌∙◌, ⊎_elim}
 use Rattle.std.proofs.lemmas.Bool.{cases_lt}
 use Rattle.std.proofs.lemmas.Option.{get_or_from_slice_get, slice_get_past, slice_get_within}
 use Rattle.capnp_schema.specs.Types.{SchemaType}

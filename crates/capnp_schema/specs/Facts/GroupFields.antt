@@ -1,6 +1,5 @@
 -- A group field is found by its group, and undone by it.
-use Rattle.std.specs.Prelude.{ℕ, zero, suc, ◌+◌, ◌^◌, ◌<◌, ◌≤◌, ◌≡◌, refl, List, [], ◌∷◌, Bool, true, false, ◌==◌, length, nat_lt, cond, slice_get, Option, Some, None}
-use Rattle.std.proofs.Common.{arith, ap, sym, ◌∙◌, ⊎_elim}
+use Rattle.std.proofs.Common.{ℕ, zero, suc, ◌+◌, ◌^◌, ◌<◌, ◌≤◌, ◌≡◌, refl, List, [], ◌∷◌, Bool, true, false, ◌==◌, length, nat_lt, cond, slice_get, Option, Some, None, arith, ap, sym, ◌∙◌, ⊎_elim}
 use Rattle.std.proofs.lemmas.Bool.{cases_lt, eq-eqb}
 use Rattle.std.proofs.lemmas.Bool.Decides.{nat_tests}
 use Rattle.std.proofs.lemmas.Option.{same_Some, slice_get_past, some_pair_parts}
@@ -98,10 +97,6 @@ small_test b small = grind (arith, nat_tests, small)
 
 numbered_small : (o : Option (ℕ × ℕ)) (b i : ℕ) → o ≡ Some (b, i) → b < 2 ^ 32 → numbered_pair o ≡ Some (b, i)
 numbered_small o b i e small = ap numbered_pair e ∙ ap (λ (q : Bool). cond {A = Option (ℕ × ℕ)} q (Some (b, i)) None) (small_test b small)
-
-numbered_none : (o : Option (ℕ × ℕ)) → numbered_pair o ≡ None → ((b i : ℕ) → o ≡ Some (b, i) → b < 2 ^ 32) → o ≡ None
-numbered_none None e small = refl
-numbered_none (Some (b, i)) e small = sym (numbered_small (Some (b, i)) b i refl (small b i refl)) ∙ e
 
 -- what is found is the group field of the brand
 pub group_field_found : (set : Schemas) (g b i : ℕ) → group_field_of set g ≡ Some (b, i) → (b < length set.brands) × (group_target set b i ≡ Some g)

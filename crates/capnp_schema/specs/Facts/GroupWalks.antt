@@ -1,6 +1,5 @@
 -- Each step of a walk through groups leaves less to do.
-use Rattle.std.specs.Prelude.{ℕ, zero, suc, ◌+◌, ◌<◌, ◌≡◌, refl, List, [], ◌∷◌, drop, length, slice_get, Option, Some, None}
-use Rattle.std.proofs.Common.{add-one, arith, ap, sym, ◌∙◌}
+use Rattle.std.proofs.Common.{ℕ, zero, suc, ◌+◌, ◌<◌, ◌≡◌, refl, List, [], ◌∷◌, drop, length, slice_get, Option, Some, None, add-one, arith, ap, sym, ◌∙◌}
 use Rattle.capnp_schema.specs.Steps.Checking.Parents.{entry_target, group_target}
 use Rattle.capnp_schema.specs.Facts.GroupFields.{parent_target}
 use Rattle.capnp_schema.specs.Accepted.{IsParent}
@@ -31,10 +30,6 @@ frames_outside set zero g is = frames_none set g
 frames_outside set (suc depth) g is = frames_next set depth g ∙ ap (behind (frames_above set depth)) is
 
 -- ---- steps ----
-
-pub steps_ended : (set : Schemas) (groups : ℕ) → steps_left set groups [] ≡ 0
-unfolding steps_left
-steps_ended set groups = refl
 
 pub steps_frame : (set : Schemas) (groups b i : ℕ) (rest : List (ℕ × ℕ)) → steps_left set groups ((b, i) ∷ rest) ≡ steps_through (brand_steps groups set) (drop i (fields_of set b)) + steps_left set (suc groups) rest
 unfolding steps_left

@@ -1,7 +1,6 @@
 -- In an accepted set a number falls at each step into a group, so as many groups as there are brands are enough.
-use Rattle.std.specs.Prelude.{ℕ, zero, suc, ◌+◌, ◌<◌, ◌≤◌, ◌≡◌, ◌≢◌, refl, List, [], ◌∷◌, Bool, true, false, ◌||◌, IsTrue, IsFalse, length, slice_get, max, Option, Some, None}
+use Rattle.std.proofs.Common.{ℕ, zero, suc, ◌+◌, ◌<◌, ◌≤◌, ◌≡◌, ◌≢◌, refl, List, [], ◌∷◌, Bool, true, false, ◌||◌, IsTrue, IsFalse, length, slice_get, max, Option, Some, None, arith, ap, ap₂, sym, subst, ◌∙◌}
 use Rattle.std.specs.Option.{unwrap_or}
-use Rattle.std.proofs.Common.{arith, ap, ap₂, sym, subst, ◌∙◌}
 use Rattle.std.proofs.lemmas.Option.{same_Some}
 use Rattle.capnp_schema.specs.Types.{SchemaType, StructType, struct_brand, struct_number}
 use Rattle.capnp_schema.specs.Schema.{Schemas, FieldKind, Slot, Group, TypedField, no_field, node_of, fields_of, field_at, is_member}

@@ -1,6 +1,5 @@
 -- Data slots: the number that is stored there, and what it is once another one was.
-use Rattle.std.specs.Prelude.{ℕ, ◌+◌, ◌*◌, ◌/◌, ◌%◌, ◌^◌, ◌<◌, ◌≤◌, ◌≡◌, ◌≢◌, ◌⊎◌, List, true, false, ◌==◌, length, bit_xor}
-use Rattle.std.proofs.Common.{arith, inl, inr, ⊎_elim, ap, sym, subst, ◌∙◌}
+use Rattle.std.proofs.Common.{ℕ, ◌+◌, ◌*◌, ◌/◌, ◌%◌, ◌^◌, ◌<◌, ◌≤◌, ◌≡◌, ◌≢◌, ◌⊎◌, List, true, false, ◌==◌, length, bit_xor, arith, inl, inr, ⊎_elim, ap, sym, subst, ◌∙◌}
 use Rattle.std.proofs.lemmas.Bool.Decides.{nat_tests}
 use Rattle.capnp_wire.specs.Slot.{bit_at, number_at}
 use Rattle.capnp_wire.specs.Edits.{with_bit, with_number}

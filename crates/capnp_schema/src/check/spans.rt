@@ -5,8 +5,7 @@ ghost use Rattle.capnp_schema.specs.Types.{seen_type};
 ghost use Rattle.capnp_schema.specs.Schema.{seen_node};
 ghost use Rattle.capnp_schema.specs.Footprint.{Spot as SeenSpot, slot_names, discriminant_names};
 ghost use Rattle.capnp_schema.specs.Entries.{lists_seen};
-ghost use Rattle.capnp_schema.specs.Steps.Checking.Spans.{span_names, some_span, SpansMeet, AreSpansOf, seen_spot};
-ghost use Rattle.capnp_schema.specs.Steps.Checking.Spans.{AddsBrand, AddsBrands, AddsDepths, AddsField, AddsFields, AreSpansAt};
+ghost use Rattle.capnp_schema.specs.Steps.Checking.Spans.{span_names, some_span, SpansMeet, AreSpansOf, seen_spot, AddsBrand, AddsBrands, AddsDepths, AddsField, AddsFields, AreSpansAt};
 
 use crate::check::groups::brand_count;
 use crate::layers::{is_pointer, struct_brand, width};

@@ -4,8 +4,7 @@ ghost use Rattle.capnp_wire.specs.Tree.{Null};
 ghost use Rattle.capnp_wire.specs.Words.{first_fault};
 ghost use Rattle.capnp_schema.specs.Schema.{Field, seen_annotations, seen_field, seen_value};
 ghost use Rattle.capnp_schema.specs.Entries.{lists_seen};
-ghost use Rattle.capnp_schema.specs.Accepted.{AreWords, Decodes, DefaultStands, EachOfEnum, HasWords, HaveAllWords, HaveWords};
-ghost use Rattle.capnp_schema.specs.Accepted.{IsListOrNull, IsStructOrNull, NodeHasWords, Rule3, Rule6, words_root};
+ghost use Rattle.capnp_schema.specs.Accepted.{AreWords, Decodes, DefaultStands, EachOfEnum, HasWords, HaveAllWords, HaveWords, IsListOrNull, IsStructOrNull, NodeHasWords, Rule3, Rule6, words_root};
 ghost use Rattle.capnp_schema.specs.Broken.{IsRefusalOf};
 ghost use Rattle.capnp_schema.specs.Steps.Checking.Entry.{IsSoAt};
 

@@ -1,6 +1,5 @@
 //! What the bits of a data section are to the wire, which reads and writes numbers and single bits.
-ghost use Rattle.capnp_schema.specs.SlotBits.{BitsAreBounded, BitsAreMasked, BitsAreNumbers, BitsAreSingle, BitsAreWritten};
-ghost use Rattle.capnp_schema.specs.SlotBits.{MasksKeepBounds, MasksUndo, NumbersAreWritten, SlotsAreRead, SlotsAreWritten};
+ghost use Rattle.capnp_schema.specs.SlotBits.{BitsAreBounded, BitsAreMasked, BitsAreNumbers, BitsAreSingle, BitsAreWritten, MasksKeepBounds, MasksUndo, NumbersAreWritten, SlotsAreRead, SlotsAreWritten};
 
 /// The bits of whole bytes are the number that the wire reads there, and a single bit is the wire's. So many bits are a
 /// number below 2 to their count.

@@ -74,8 +74,7 @@ impl<'s> AnnotationList<'s> {
     ghost use Rattle.capnp_base.specs.Taking.{indices};
     ghost use Rattle.capnp_base.specs.IndexIter.{source, to_come};
     ghost use Rattle.capnp_schema.specs.Schema.{enum_at, field_at, node_of, seen_annotations};
-    ghost use Rattle.capnp_schema.specs.Annotated.{annotations_of, enum_annotations, enumerant_annotations, enumerant_at};
-    ghost use Rattle.capnp_schema.specs.Annotated.{field_annotations, first_of_id, struct_annotations, with_types};
+    ghost use Rattle.capnp_schema.specs.Annotated.{annotations_of, enum_annotations, enumerant_annotations, enumerant_at, field_annotations, first_of_id, struct_annotations, with_types};
     ghost use Rattle.capnp_schema.specs.AnnotationLists.{annotation_in, annotation_set, annotations_in, annotations_set};
 
     fn new(

@@ -4,8 +4,7 @@ use Rattle.capnp_wire.specs.Standing.{list_levels, list_of, struct_levels, struc
 use Rattle.capnp_wire.specs.declared.list_reader.ListReader.{ListReader}
 use Rattle.capnp_wire.specs.declared.struct_reader.StructReader.{StructReader}
 use Rattle.capnp_schema.specs.Meta.{meta, meta_struct}
-use Rattle.capnp_schema.specs.Schema.{Slot, field_at, fields_of, is_member}
-use Rattle.capnp_schema.specs.Schema.{Value as SchemaValue}
+use Rattle.capnp_schema.specs.Schema.{Slot, field_at, fields_of, is_member, Value as SchemaValue}
 use Rattle.capnp_schema.specs.Types.{SchemaType}
 use Rattle.capnp_records.specs.Facts.ListValues.{below_of}
 use Rattle.capnp_records.specs.Part.{which_of}

@@ -1,6 +1,5 @@
 -- Which files an opener was asked for.
-use Rattle.std.specs.Prelude.{List, [], ◌∷◌, ℕ, ◌≡◌, Result}
-use Rattle.std.proofs.Common.{inl, inr, refl, subst, sym}
+use Rattle.std.proofs.Common.{List, [], ◌∷◌, ℕ, Result, inl, inr, refl, subst}
 use Rattle.capnp_device.specs.declared.device.DeviceFault.{DeviceFault}
 use Rattle.capnp_show_engine.specs.Opened.{AsksAmong}
 

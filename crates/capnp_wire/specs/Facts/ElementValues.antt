@@ -1,8 +1,8 @@
 -- The values of a list's numbers from an index on, one after another.
-use Rattle.std.proofs.Common.{◌≡◌, ℕ, zero, suc, ◌+◌, ◌-◌, ◌<◌, [], ◌∷◌, length, get_or, refl, sym, ap, ◌∙◌, arith}
+use Rattle.std.proofs.Common.{◌≡◌, ℕ, zero, suc, ◌+◌, ◌-◌, ◌<◌, [], ◌∷◌, length, refl, sym, ap, ◌∙◌, arith}
 use Rattle.capnp_wire.specs.Tree.{Tree}
-use Rattle.capnp_wire.specs.Reading.{element_number, list_length}
-use Rattle.capnp_wire.specs.Numbers.{numbers_from, numbers_in_list}
+use Rattle.capnp_wire.specs.Reading.{element_number}
+use Rattle.capnp_wire.specs.Numbers.{numbers_from}
 
 module _ {A : Type 0} (of_number : ℕ → A) (width : ℕ) (t : Tree) where
   -- none from the end on
@@ -22,23 +22,3 @@ module _ {A : Type 0} (of_number : ℕ → A) (width : ℕ) (t : Tree) where
   pub count_of_elements_from : (i n : ℕ) → length (numbers_from of_number width t i n) ≡ n
   count_of_elements_from i zero = refl
   count_of_elements_from i (suc n) = ap suc (count_of_elements_from (i + 1) n)
-
-  -- and each at its index
-  pub get_or-elements_from : (i n k : ℕ) (d : A) → k < n → get_or (numbers_from of_number width t i n) k d ≡ of_number (element_number width t (i + k))
-  get_or-elements_from i zero k d h = absurd (omega (arith, h))
-  get_or-elements_from i (suc n) zero d h =
-      let e : i ≡ i + 0 = omega arith in
-      ap (λ j. of_number (element_number width t j)) e
-  get_or-elements_from i (suc n) (suc k) d h =
-      let e : i + 1 + k ≡ i + suc k = omega arith in
-      get_or-elements_from (i + 1) n k d (omega (arith, h)) ∙ ap (λ j. of_number (element_number width t j)) e
-
-  -- ---- of a whole list ----
-
-  pub count_of_elements_of : length (numbers_in_list of_number width t) ≡ list_length t
-  count_of_elements_of = count_of_elements_from 0 (list_length t)
-
-  pub get_or-elements_of : (k : ℕ) (d : A) → k < list_length t → get_or (numbers_in_list of_number width t) k d ≡ of_number (element_number width t k)
-  get_or-elements_of k d h =
-      let e : 0 + k ≡ k = omega arith in
-      get_or-elements_from 0 (list_length t) k d h ∙ ap (λ j. of_number (element_number width t j)) e

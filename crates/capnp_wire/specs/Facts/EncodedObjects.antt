@@ -26,7 +26,7 @@ past_eight : (v : ℕ) → IsTrue (is_width (suc (suc (suc (suc (suc (suc (suc (
 past_eight v h = grind (arith, nat_tests)
 
 -- what holds of the four widths holds of each width
-width_cases : (P : ℕ → Type 0) → P 1 → P 2 → P 4 → P 8 → (v : ℕ) → IsTrue (is_width v) → P v
+pub width_cases : (P : ℕ → Type 0) → P 1 → P 2 → P 4 → P 8 → (v : ℕ) → IsTrue (is_width v) → P v
 width_cases P a b c d zero h = absurd (grind (arith, nat_tests))
 width_cases P a b c d (suc zero) h = a
 width_cases P a b c d (suc (suc zero)) h = b

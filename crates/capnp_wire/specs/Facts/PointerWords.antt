@@ -28,44 +28,44 @@ is_at_most a b h = grind (arith, nat_tests)
 
 module _ (o d p : ℕ) (ho : o < 2 ^ 30) (hd : d < 2 ^ 16) (hp : p < 2 ^ 16) where
   -- a struct pointer is a word
-  struct_fits : struct_word o d p < 2 ^ 64
+  pub struct_fits : struct_word o d p < 2 ^ 64
   struct_fits = omega arith
 
   -- of the kind of structs
-  struct_kind : pointer_kind (struct_word o d p) ≡ 0
+  pub struct_kind : pointer_kind (struct_word o d p) ≡ 0
   struct_kind = omega arith
 
   -- with that offset
-  struct_offset : offset (struct_word o d p) ≡ o
+  pub struct_offset : offset (struct_word o d p) ≡ o
   struct_offset = omega arith
 
   -- so many data words
-  struct_data_words : data_words (struct_word o d p) ≡ d
+  pub struct_data_words : data_words (struct_word o d p) ≡ d
   struct_data_words = omega arith
 
   -- and so many pointers
-  struct_pointer_count : pointer_count (struct_word o d p) ≡ p
+  pub struct_pointer_count : pointer_count (struct_word o d p) ≡ p
   struct_pointer_count = omega arith
 
 module _ (o e n : ℕ) (ho : o < 2 ^ 30) (he : e < 8) (hn : n < 2 ^ 29) where
   -- a list pointer is a word
-  list_fits : list_word o e n < 2 ^ 64
+  pub list_fits : list_word o e n < 2 ^ 64
   list_fits = omega arith
 
   -- of the kind of lists
-  list_kind : pointer_kind (list_word o e n) ≡ 1
+  pub list_kind : pointer_kind (list_word o e n) ≡ 1
   list_kind = omega arith
 
   -- with that offset
-  list_offset : offset (list_word o e n) ≡ o
+  pub list_offset : offset (list_word o e n) ≡ o
   list_offset = omega arith
 
   -- that element size
-  list_element_size : element_size_number (list_word o e n) ≡ e
+  pub list_element_size : element_size_number (list_word o e n) ≡ e
   list_element_size = omega arith
 
   -- and that count
-  list_count : count (list_word o e n) ≡ n
+  pub list_count : count (list_word o e n) ≡ n
   list_count = omega arith
 
 -- ---- where a target starts ----

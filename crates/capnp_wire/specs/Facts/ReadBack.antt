@@ -16,12 +16,12 @@ use Rattle.capnp_wire.specs.Facts.PointerWords.{not_equal, target_struct, target
 use Rattle.capnp_wire.specs.Facts.EncodedObjects.{at_struct, at_list, at_composite, reads_null, reads_zero, reads_voids, reads_bits, reads_numbers}
 
 -- where neither of two has a fault, the first has none
-none_first : (a b : Option Fault) → first_of a b ≡ None → a ≡ None
+pub none_first : (a b : Option Fault) → first_of a b ≡ None → a ≡ None
 none_first None b e = refl
 none_first (Some k) b e = e
 
 -- nor has the other
-none_later : (a b : Option Fault) → first_of a b ≡ None → b ≡ None
+pub none_later : (a b : Option Fault) → first_of a b ≡ None → b ≡ None
 none_later None b e = e
 none_later (Some k) b e = cc
 

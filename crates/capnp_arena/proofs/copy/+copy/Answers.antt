@@ -16,7 +16,7 @@ use Rattle.capnp_arena.proofs.Copying.{added_kept, bits_appended, element_kept, 
 use Rattle.capnp_arena.proofs.Padding.{padded_whole}
 use Rattle.capnp_arena.proofs.PlainRows.{plain_list}
 use Rattle.capnp_arena.specs.Facts.Shapes.{element_end}
-use Rattle.capnp_arena.proofs.TreeSizes.{nth_struct-smaller, nth_tree-smaller, tree_size, trees_size}
+use Rattle.capnp_wire.specs.Facts.TreeSizes.{nth_struct-smaller, nth_tree-smaller, tree_size, trees_size}
 use Rattle.capnp_arena.proofs.copy.+copy.Goals as goal
 
 -- ---- objects ----

@@ -2,7 +2,7 @@
 use Rattle.std.proofs.Common.{◌+◌, ◌*◌}
 use Rattle.capnp_wire.specs.Found.{element_structs, found_tree, pointer_tree, pointer_trees}
 use Rattle.capnp_arena.proofs.Copying.{AreStructsFilled, IsRowFilled}
-use Rattle.capnp_arena.proofs.TreeSizes.{structs_size, tree_size, trees_size}
+use Rattle.capnp_wire.specs.Facts.TreeSizes.{structs_size, tree_size, trees_size}
 use Rattle.capnp_arena.proofs.copy.+copy.Given as goal
 
 abbrev pub decreases-fill_pointer : goal.decreases-fill_pointer

@@ -1,6 +1,5 @@
 -- What was read so far, one number more, and all.
-use Rattle.std.specs.Prelude.{Ok, length}
-use Rattle.std.proofs.Common.{ap, arith, sym, ◌∙◌}
+use Rattle.std.proofs.Common.{Ok, length, ap, arith, sym, ◌∙◌}
 use Rattle.std.proofs.lemmas.Result.{err_from_is_err_and}
 use Rattle.capnp_base.specs.IndexIter.{source, to_come}
 use Rattle.capnp_callers.specs.Values.{built_count}

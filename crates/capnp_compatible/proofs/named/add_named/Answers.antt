@@ -1,5 +1,4 @@
-use Rattle.std.proofs.Common.{subst, arith}
-use Rattle.std.specs.Prelude.{Option}
+use Rattle.std.proofs.Common.{Option, subst, arith}
 use Rattle.capnp_schema.specs.Entries.{lists_seen}
 use Rattle.capnp_compatible.specs.declared.pairs.Pair.{Pair}
 use Rattle.capnp_compatible.specs.Closing.{listed_pairs}

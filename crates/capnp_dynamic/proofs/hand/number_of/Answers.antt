@@ -1,6 +1,6 @@
 -- The number that is read is the one of the whole struct.
-use Rattle.std.proofs.Common.{subst, sym, ◌∙◌}
-use Rattle.capnp_wire.specs.Standing.{struct_of}
+use Rattle.std.proofs.Common.{◌≡◌, subst, sym, ◌∙◌}
+use Rattle.capnp_wire.specs.Standing.{struct_of, struct_levels}
 use Rattle.capnp_wire.specs.declared.struct_reader.StructReader.{StructReader}
 use Rattle.capnp_arena.specs.Same.{IsStructCutOf}
 use Rattle.capnp_schema.specs.FieldLists.{index_of}
@@ -8,8 +8,6 @@ use Rattle.capnp_schema.specs.StructHandles.{set_of, struct_field}
 use Rattle.capnp_schema.specs.declared.schema.structs.StructSchema.{StructSchema}
 use Rattle.capnp_arena.specs.Built.{built_at}
 use Rattle.capnp_dynamic_readers.specs.Typed.{IsOf}
-use Rattle.std.specs.Prelude.{◌≡◌}
-use Rattle.capnp_wire.specs.Standing.{struct_levels}
 use Rattle.capnp_dynamic.proofs.Fields.{number_same}
 use Rattle.capnp_dynamic.proofs.hand.number_of.Goals as goal
 

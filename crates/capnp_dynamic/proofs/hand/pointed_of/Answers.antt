@@ -1,6 +1,5 @@
 -- What was filled stands at the pointer, under the field's set and type.
-use Rattle.std.specs.Prelude.{refl, false}
-use Rattle.std.proofs.Common.{ap, sym, ◌∙◌}
+use Rattle.std.proofs.Common.{refl, false, ap, sym, ◌∙◌}
 use Rattle.capnp_wire.specs.Tree.{StructTree}
 use Rattle.capnp_wire.specs.Words.{first_fault}
 use Rattle.capnp_schema.specs.Entries.{lists_seen}

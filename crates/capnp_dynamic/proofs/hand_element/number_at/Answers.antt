@@ -1,6 +1,5 @@
 -- The number that is read is the one of the whole list.
-use Rattle.std.specs.Prelude.{ℕ, ◌≡◌}
-use Rattle.std.proofs.Common.{ap, subst, ◌∙◌}
+use Rattle.std.proofs.Common.{ℕ, ◌≡◌, ap, subst, ◌∙◌}
 use Rattle.capnp_wire.specs.Elements.{or_empty}
 use Rattle.capnp_wire.specs.Standing.{list_of}
 use Rattle.capnp_wire.specs.Tree.{Tree}

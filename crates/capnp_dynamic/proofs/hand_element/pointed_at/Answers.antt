@@ -1,6 +1,5 @@
 -- What was filled stands behind the element's pointer, under the elements' type.
-use Rattle.std.specs.Prelude.{◌≡◌, refl, false}
-use Rattle.std.proofs.Common.{ap, sym, subst, ◌∙◌}
+use Rattle.std.proofs.Common.{◌≡◌, refl, false, ap, sym, subst, ◌∙◌}
 use Rattle.capnp_wire.specs.Elements.{HasPointer}
 use Rattle.capnp_wire.specs.Reading.{element_pointer}
 use Rattle.capnp_wire.specs.Tree.{Tree}

@@ -1,6 +1,5 @@
 -- A struct of a list has its schema's sections, and stands at its place.
-use Rattle.std.specs.Prelude.{Some, refl}
-use Rattle.std.proofs.Common.{ap, sym}
+use Rattle.std.proofs.Common.{Some, refl, ap, sym}
 use Rattle.capnp_wire.specs.Place.{struct_tree}
 use Rattle.capnp_wire.specs.Tree.{Tree}
 use Rattle.capnp_arena.specs.Forest.{tree}

@@ -1,6 +1,5 @@
 -- A null is read as a list of no elements, and a list as it stands.
-use Rattle.std.specs.Prelude.{◌≡◌, false, true}
-use Rattle.std.proofs.Common.{subst, sym, ◌∙◌}
+use Rattle.std.proofs.Common.{◌≡◌, false, true, subst, sym, ◌∙◌}
 use Rattle.capnp_wire.specs.Elements.{or_empty}
 use Rattle.capnp_wire.specs.Reading.{empty_list, is_null_tree}
 use Rattle.capnp_wire.specs.Tree.{Tree}

@@ -1,6 +1,5 @@
 -- The pointer is handed out under the field's set and type.
-use Rattle.std.specs.Prelude.{true}
-use Rattle.std.proofs.Common.{ap, ◌∙◌}
+use Rattle.std.proofs.Common.{true, ap, ◌∙◌}
 use Rattle.capnp_schema.specs.Entries.{lists_seen}
 use Rattle.capnp_schema.specs.Facts.Layers.{seen_which}
 use Rattle.capnp_schema.specs.FieldLists.{typed_of}

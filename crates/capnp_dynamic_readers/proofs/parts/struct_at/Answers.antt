@@ -1,6 +1,5 @@
 -- What was read, taken as a struct.
-use Rattle.std.specs.Prelude.{◌≡◌}
-use Rattle.std.proofs.Common.{ap}
+use Rattle.std.proofs.Common.{◌≡◌, ap}
 use Rattle.std.proofs.lemmas.Result.{err_from_is_err_and}
 use Rattle.capnp_dynamic_readers.specs.Handles.{element_of, list_set}
 use Rattle.capnp_dynamic_readers.specs.Reads.{element_seen}

@@ -1,6 +1,5 @@
 -- What was read, taken as a struct.
-use Rattle.std.specs.Prelude.{◌≡◌}
-use Rattle.std.proofs.Common.{ap}
+use Rattle.std.proofs.Common.{◌≡◌, ap}
 use Rattle.std.proofs.lemmas.Result.{err_from_is_err_and}
 use Rattle.capnp_schema.specs.Query.{field_named}
 use Rattle.capnp_schema.specs.StructHandles.{struct_records}

@@ -1,5 +1,4 @@
-use Rattle.std.specs.Prelude.{string_bytes}
-use Rattle.std.proofs.Common.{subst}
+use Rattle.std.proofs.Common.{string_bytes, subst}
 use Rattle.capnp_records.specs.Text.{Layout}
 use Rattle.capnp_dynamic_readers.specs.Pieces.{Taken, made_bytes, made_text}
 use Rattle.capnp_dynamic_readers.specs.Steps.Pieces.{IsPut, IsStopped}

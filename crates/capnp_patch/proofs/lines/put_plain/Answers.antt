@@ -1,5 +1,4 @@
-use Rattle.std.specs.Prelude.{Bool, codes, decimal, string_bytes, ◌++◌}
-use Rattle.std.proofs.Common.{◌∙◌, subst, sym}
+use Rattle.std.proofs.Common.{Bool, codes, decimal, string_bytes, ◌++◌, ◌∙◌, subst, sym}
 use Rattle.capnp_call.specs.declared.calls.Plain.{Plain}
 use Rattle.capnp_call.specs.declared.calls.Plain.TheVariants as plain
 use Rattle.capnp_dynamic_readers.specs.Facts.Appended.{bytes_put}

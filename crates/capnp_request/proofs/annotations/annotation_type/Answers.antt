@@ -2,17 +2,15 @@ use Rattle.std.proofs.Common.{◌∙◌, ap, refl, sym, Err, List}
 use Rattle.capnp_schema.specs.Types.{seen_type}
 use Rattle.capnp_dynamic_readers.specs.Seen.{record_seen}
 use Rattle.capnp_request.specs.Steps.Bindings.{bounds, flags}
-use Rattle.capnp_request.specs.Steps.Done.{between}
+use Rattle.capnp_request.specs.Steps.Done.{between, so_far}
 use Rattle.capnp_request.specs.Steps.Nodes.{nodes_of}
 use Rattle.capnp_request.specs.Steps.Numbers.{numbered_entries}
 use Rattle.capnp_request.specs.Parts.{request_read_at}
-use Rattle.capnp_request.specs.Work.{nothing_seen}
+use Rattle.capnp_request.specs.Work.{nothing_seen, work_unnoted}
 use Rattle.capnp_request.proofs.Refused.{err_done}
 use Rattle.capnp_request.specs.Conversion.{declared_type}
-use Rattle.capnp_request.specs.Steps.Done.{so_far}
 use Rattle.capnp_request.specs.Reading.{brand_in, declaration_said, type_said, whole_type}
 use Rattle.capnp_request.specs.Types.{named_scopes, type_of}
-use Rattle.capnp_request.specs.Work.{work_unnoted}
 use Rattle.capnp_request.specs.Steps.Work.{named_with}
 use Rattle.capnp_request.specs.declared.entries.BoundScope.{BoundScope}
 use Rattle.capnp_request.proofs.AnnotationsDone.{by_levels, declaration_read, declaration_unread, done_type, refused_type, unbound_type, undeclared_type}

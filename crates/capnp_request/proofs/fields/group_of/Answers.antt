@@ -6,14 +6,13 @@ use Rattle.capnp_request.specs.Steps.Bindings.{bounds}
 use Rattle.capnp_request.specs.Steps.Done.{between}
 use Rattle.capnp_request.specs.Steps.Nodes.{nodes_of}
 use Rattle.capnp_request.specs.Parts.{request_read_at}
-use Rattle.capnp_request.specs.Work.{nothing_seen}
+use Rattle.capnp_request.specs.Work.{nothing_seen, GroupOf}
 use Rattle.capnp_request.proofs.Refused.{err_done}
 use Rattle.capnp_request.specs.Conversion.{Note, kind_of}
 use Rattle.capnp_request.specs.Steps.ConvertedSeen.{seen_converted_kind}
 use Rattle.capnp_request.specs.Reading.{group_said, in_struct}
 use Rattle.capnp_request.specs.Terms.{UnreadField}
 use Rattle.capnp_request.specs.Types.{add_entry}
-use Rattle.capnp_request.specs.Work.{GroupOf}
 use Rattle.capnp_request.proofs.FieldsDone.{group_done, group_missing, group_refused, nothing_noted}
 use Rattle.capnp_request.proofs.fields.group_of.Goals as goal
 

@@ -1,4 +1,4 @@
-use Rattle.std.proofs.Common.{◌∙◌, arith, ap, sym, Err, Some}
+use Rattle.std.proofs.Common.{◌∙◌, arith, ap, sym, Err}
 use Rattle.capnp_dynamic_readers.specs.Seen.{record_seen}
 use Rattle.capnp_request.specs.Steps.Bindings.{bounds}
 use Rattle.capnp_request.specs.Steps.Done.{between}

@@ -1,4 +1,4 @@
-use Rattle.std.proofs.Common.{true, false, drop, None, ◌-◌, ◌≤◌, ◌≡◌, ◌∙◌, arith, ap, refl, suc, sym, map, option_map, Err, Ok, Some, rules, List, []}
+use Rattle.std.proofs.Common.{true, false, None, ◌-◌, ◌≤◌, ◌≡◌, ◌∙◌, arith, ap, refl, suc, sym, map, option_map, Err, Ok, Some, rules, List, []}
 use Rattle.capnp_schema.specs.Types.{seen_type}
 use Rattle.capnp_records.specs.Part.{which_of}
 use Rattle.capnp_dynamic_readers.specs.Seen.{record_seen}

@@ -1,6 +1,5 @@
-use Rattle.std.proofs.Common.{map}
+use Rattle.std.proofs.Common.{map, ◌-◌}
 use Rattle.capnp_schema.specs.Schema.{seen_field}
-use Rattle.std.proofs.Common.{◌-◌}
 use Rattle.capnp_schema.proofs.NameSearch.{Searching}
 use Rattle.capnp_schema.proofs.names.find_counted.Given as goal
 

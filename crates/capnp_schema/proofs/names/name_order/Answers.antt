@@ -1,6 +1,5 @@
-use Rattle.std.proofs.Common.{map}
+use Rattle.std.proofs.Common.{map, rules, arith}
 use Rattle.capnp_schema.specs.Schema.{seen_field}
-use Rattle.std.proofs.Common.{rules, arith}
 use Rattle.std.proofs.lemmas.Cmp.{nat_list_cmp_total}
 use Rattle.std.proofs.lemmas.List.Sorted.{ranks_by}
 use Rattle.std.proofs.lemmas.Fn.{always_returns_same}

@@ -1,6 +1,5 @@
-use Rattle.std.proofs.Common.{map}
+use Rattle.std.proofs.Common.{map, ℕ, ◌≢◌, ◌<◌, ◌+◌, get_or}
 use Rattle.capnp_schema.specs.Schema.{seen_field}
-use Rattle.std.proofs.Common.{ℕ, ◌≢◌, ◌<◌, ◌+◌, get_or}
 use Rattle.capnp_schema.specs.Names.{name_at}
 use Rattle.capnp_schema.proofs.names.repeated_name.Given as goal
 

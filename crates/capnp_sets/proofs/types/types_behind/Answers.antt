@@ -9,10 +9,9 @@ use Rattle.capnp_schema.specs.Types.{seen_type}
 use Rattle.capnp_records.specs.Record.{Value}
 use Rattle.capnp_sets.specs.Causes.{HasCause}
 use Rattle.capnp_sets.specs.Steps.Handles.{values_in}
-use Rattle.capnp_sets.specs.Types.{types}
+use Rattle.capnp_sets.specs.Types.{types, type_meant}
 use Rattle.capnp_sets.proofs.Faults.{fault_list}
 use Rattle.capnp_sets.specs.Parts.{struct}
-use Rattle.capnp_sets.specs.Types.{type_meant}
 use Rattle.capnp_sets.proofs.PointersMet.{list_met, list_unmet, no_default}
 use Rattle.capnp_sets.proofs.PointersSeen.{null_read}
 use Rattle.capnp_sets.proofs.RowsRead.{none_left}

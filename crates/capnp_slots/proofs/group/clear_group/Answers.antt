@@ -1,6 +1,6 @@
 -- A group is cleared place by place, and left by its own field.
-use Rattle.std.proofs.Common.{refl, rules, ◌≡◌, ◌+◌, ◌≤◌, ◌<◌, ◌∙◌, ap, arith, length, sym}
-use Rattle.capnp_schema.specs.StructHandles.{number_of, set_of, struct_fields}
+use Rattle.std.proofs.Common.{refl, ◌∙◌, arith, sym}
+use Rattle.capnp_schema.specs.StructHandles.{number_of, set_of}
 use Rattle.capnp_slots.proofs.GroupClears.{cleared-none, fits-kept, keeps-refl, keeps-trans}
 use Rattle.capnp_slots.proofs.GroupWays.{ends, ends-outside, fewer-above, fewer-in, fits-above, goes-above, goes-in, group-fits, less-on, past-group, past-nothing, past-slot, positive, starts}
 use Rattle.capnp_arena.specs.Facts.Places.{then, unchanged}

@@ -1,4 +1,4 @@
-use Rattle.std.proofs.Common.{◌≡◌, ◌+◌, ◌≤◌, ℕ, length}
+use Rattle.std.proofs.Common.{◌≡◌, ◌+◌, ◌≤◌, length}
 use Rattle.capnp_arena.specs.Built.{ChangesIn, IsBuilt, built_at}
 use Rattle.capnp_schema.specs.StructHandles.{number_of, set_of, struct_fields}
 use Rattle.capnp_records.specs.Writes.Slots.{Fits}

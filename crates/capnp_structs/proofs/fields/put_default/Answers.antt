@@ -1,5 +1,4 @@
-use Rattle.std.specs.Prelude.{codes, decimal, string_bytes}
-use Rattle.std.proofs.Common.{subst, sym}
+use Rattle.std.proofs.Common.{codes, decimal, string_bytes, subst, sym}
 use Rattle.capnp_schema.specs.Schema.{seen_value}
 use Rattle.capnp_schema.specs.declared.record.ValueRecord.{ValueRecord}
 use Rattle.capnp_dynamic_readers.specs.Facts.Appended.{nothing, two_put}

@@ -1,6 +1,5 @@
 -- Each step of the walk says a field, or goes into a group or out of one.
-use Rattle.std.specs.Prelude.{Some}
-use Rattle.std.proofs.Common.{◌≡◌, ◌∙◌, [], ap, arith, refl, subst, sym, string_bytes}
+use Rattle.std.proofs.Common.{Some, ◌≡◌, ◌∙◌, [], ap, arith, refl, subst, sym, string_bytes}
 use Rattle.capnp_schema.specs.GroupFields.{group_field_of}
 use Rattle.capnp_schema.specs.GroupWalks.{above, walk_set}
 use Rattle.capnp_schema.specs.StructHandles.{number_of, set_of}

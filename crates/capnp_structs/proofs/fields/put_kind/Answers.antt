@@ -1,5 +1,4 @@
-use Rattle.std.specs.Prelude.{string_bytes}
-use Rattle.std.proofs.Common.{subst, sym}
+use Rattle.std.proofs.Common.{string_bytes, subst, sym}
 use Rattle.capnp_schema.specs.Schema.{kind_default, seen_kind}
 use Rattle.capnp_schema.specs.declared.record.FieldKind.{FieldKind}
 use Rattle.capnp_dynamic_readers.specs.Facts.Appended.{nothing}

@@ -2,7 +2,7 @@ use Rattle.std.proofs.Common.{rules, arith, ◌≡◌, ◌≤◌, ◌<◌, ◌+�
 use Rattle.capnp_wire.specs.Tree.{StructTree, nth_struct, nth_tree, struct_count, tree_count}
 use Rattle.capnp_wire.specs.Found.{element_structs, parts_tree, pointer_tree, pointer_trees}
 use Rattle.capnp_wire.proofs.FirstFaults.{element_fault_here, fault_here, no_element_fault, no_fault, one_more, one_more_element}
-use Rattle.capnp_wire.proofs.TreeSizes.{nth_struct-smaller, nth_tree-smaller, tree_size, trees_size}
+use Rattle.capnp_wire.specs.Facts.TreeSizes.{nth_struct-smaller, nth_tree-smaller, tree_size, trees_size}
 use Rattle.capnp_wire.proofs.faults.+faults.Goals as goal
 
 pub fault_of_pointers-fault_of_pointer-requires : goal.fault_of_pointers-fault_of_pointer-requires

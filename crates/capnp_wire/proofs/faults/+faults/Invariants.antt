@@ -1,7 +1,7 @@
 use Rattle.std.proofs.Common.{◌+◌, ◌*◌}
 use Rattle.capnp_wire.specs.Found.{element_structs, found_tree, pointer_tree, pointer_trees}
 use Rattle.capnp_wire.proofs.FirstFaults.{ElementsHaveNoFault, HaveNoFault}
-use Rattle.capnp_wire.proofs.TreeSizes.{structs_size, tree_size, trees_size}
+use Rattle.capnp_wire.specs.Facts.TreeSizes.{structs_size, tree_size, trees_size}
 use Rattle.capnp_wire.proofs.faults.+faults.Given as goal
 
 abbrev pub decreases-fault_of_pointer : goal.decreases-fault_of_pointer

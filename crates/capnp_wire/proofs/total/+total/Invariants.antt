@@ -3,7 +3,7 @@ use Rattle.capnp_wire.specs.Backing.{segment_list}
 use Rattle.capnp_wire.specs.Place.{tree_below}
 use Rattle.capnp_wire.specs.Found.{element_structs, found_tree, pointer_tree, pointer_trees}
 use Rattle.capnp_wire.proofs.Sums.{AreSummed, ElementsAreSummed}
-use Rattle.capnp_wire.proofs.TreeSizes.{structs_size, tree_size, trees_size}
+use Rattle.capnp_wire.specs.Facts.TreeSizes.{structs_size, tree_size, trees_size}
 use Rattle.capnp_wire.proofs.total.+total.Given as goal
 
 abbrev pub decreases-total_pointer : goal.decreases-total_pointer

@@ -1,6 +1,5 @@
 -- The byte is that of the data.
-use Rattle.std.proofs.Common.{ap, subst, sym, refl, ◌∙◌}
-use Rattle.std.specs.Prelude.{IsOk}
+use Rattle.std.proofs.Common.{IsOk, ap, subst, sym, refl, ◌∙◌}
 use Rattle.capnp_wire.specs.Reading.{as_data}
 use Rattle.capnp_wire.specs.Tree.{Tree}
 use Rattle.capnp_builders.specs.Blobs.{bytes_in, data_there}

@@ -1,6 +1,5 @@
 -- All bytes are zero.
-use Rattle.std.specs.Prelude.{ℕ, replicate}
-use Rattle.std.proofs.Common.{ap, ◌∙◌}
+use Rattle.std.proofs.Common.{ℕ, replicate, ap, ◌∙◌}
 use Rattle.capnp_builders.specs.Blobs.{text_bytes}
 use Rattle.capnp_builders.specs.Steps.Blobs.{written_bytes}
 use Rattle.capnp_builders.proofs.Writes.{zeros_written}

@@ -1,6 +1,5 @@
 -- A zero more is pushed.
-use Rattle.std.specs.Prelude.{ℕ, suc, ◌+◌, ◌≡◌}
-use Rattle.std.proofs.Common.{arith, subst}
+use Rattle.std.proofs.Common.{ℕ, suc, ◌+◌, ◌≡◌, arith, subst}
 use Rattle.capnp_builders.proofs.Pushes.{ArePushed, one_pushed}
 use Rattle.capnp_builders.proofs.Writes.{zeros, zeros_first}
 use Rattle.capnp_builders.proofs.text.Builder.push_zeros.Goals as goal

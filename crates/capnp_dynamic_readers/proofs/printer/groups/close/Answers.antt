@@ -1,5 +1,4 @@
-use Rattle.std.proofs.Common.{refl, subst, ◌++◌}
-use Rattle.std.specs.Prelude.{codes}
+use Rattle.std.proofs.Common.{codes, refl, subst, ◌++◌}
 use Rattle.capnp_records.specs.Text.{Layout, line, said_text}
 use Rattle.capnp_dynamic_readers.specs.Steps.Pieces.{IsPut}
 use Rattle.capnp_dynamic_readers.proofs.Streams.{two_put}

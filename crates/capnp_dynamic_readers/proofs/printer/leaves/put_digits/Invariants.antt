@@ -1,5 +1,4 @@
-use Rattle.std.proofs.Common.{take}
-use Rattle.std.specs.Prelude.{flat_map}
+use Rattle.std.proofs.Common.{flat_map, take}
 use Rattle.capnp_dynamic_readers.specs.Steps.Leaf.{two_digits}
 use Rattle.capnp_records.specs.Text.{said_text}
 use Rattle.capnp_dynamic_readers.specs.Steps.Pieces.{IsPut}

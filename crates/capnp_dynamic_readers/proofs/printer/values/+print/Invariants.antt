@@ -1,5 +1,4 @@
-use Rattle.std.proofs.Common.{◌+◌, ◌*◌, ◌-◌, true}
-use Rattle.std.specs.Prelude.{◌==◌, ◌<◌, ◌^◌}
+use Rattle.std.proofs.Common.{◌==◌, ◌<◌, ◌^◌, ◌+◌, ◌*◌, ◌-◌, true}
 use Rattle.capnp_schema.specs.GroupWalks.{walk_depth}
 use Rattle.capnp_records.specs.Text.{more_text}
 use Rattle.capnp_dynamic_readers.specs.Steps.GroupTexts.{onward_of, steps_onward}

@@ -1,4 +1,4 @@
-use Rattle.std.proofs.Common.{◌∙◌, ap, map, refl, sym, Ok}
+use Rattle.std.proofs.Common.{◌∙◌, ap, refl, sym, Ok}
 use Rattle.std.proofs.lemmas.Result.{err_from_is_err_and}
 use Rattle.capnp_schema.specs.Schema.{seen_enum}
 use Rattle.capnp_request.specs.Steps.Done.{between}

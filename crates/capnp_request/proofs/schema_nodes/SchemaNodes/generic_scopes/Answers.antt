@@ -4,8 +4,7 @@ use Rattle.capnp_request.specs.Steps.Nodes.{nodes_of}
 use Rattle.capnp_request.specs.Reading.{node_said}
 use Rattle.capnp_request.proofs.NodesRead.{parameters_read, parameters_unread, scope_read}
 use Rattle.capnp_request.proofs.Refused.{err_if}
-use Rattle.capnp_request.proofs.ScopesRead.{all_scopes, met_again, no_node, one_out}
-use Rattle.capnp_request.proofs.ScopesRead.{parameters_unread as scope_unread}
+use Rattle.capnp_request.proofs.ScopesRead.{all_scopes, met_again, no_node, one_out, parameters_unread as scope_unread}
 use Rattle.capnp_request.proofs.schema_nodes.SchemaNodes.generic_scopes.Goals as goal
 
 pub returns-in_default-clause-read : goal.returns-in_default-clause-read

@@ -1,5 +1,4 @@
-use Rattle.std.proofs.Common.{sym}
-use Rattle.std.proofs.Common.{rules}
+use Rattle.std.proofs.Common.{sym, rules}
 use Rattle.capnp_request.specs.Handles.{IsRequestRecord}
 use Rattle.capnp_request.proofs.NodesListed.{section_record}
 use Rattle.capnp_request.proofs.schema_nodes.SchemaNodes.node_of.Goals as goal

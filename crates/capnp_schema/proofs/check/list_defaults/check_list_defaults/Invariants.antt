@@ -1,5 +1,4 @@
-use Rattle.std.proofs.Common.{ℕ, ◌<◌}
-use Rattle.std.specs.Prelude.{All}
+use Rattle.std.proofs.Common.{All, ℕ, ◌<◌}
 use Rattle.capnp_schema.specs.Entries.{lists_seen}
 use Rattle.capnp_schema.specs.Schema.{fields_of}
 use Rattle.capnp_schema.specs.Accepted.{ReadsDefault}

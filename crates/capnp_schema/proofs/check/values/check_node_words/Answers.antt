@@ -1,9 +1,8 @@
 use Rattle.std.proofs.Common.{◌≡◌, List, ap, arith, length, map, sym}
 use Rattle.std.proofs.lemmas.List.{length-map}
-use Rattle.capnp_schema.specs.Accepted.{HaveWords}
+use Rattle.capnp_schema.specs.Accepted.{HaveWords, DefaultStands}
 use Rattle.capnp_schema.specs.Schema.{Field, seen_node, seen_field}
 use Rattle.capnp_schema.specs.Entries.{lists_seen}
-use Rattle.capnp_schema.specs.Accepted.{DefaultStands}
 use Rattle.capnp_schema.specs.declared.record.FieldRecord.{FieldRecord}
 use Rattle.capnp_schema.proofs.EntryWalk.{breaks_within}
 use Rattle.capnp_schema.proofs.Checking.WordPlaces.{few_at, wordless_node_at, wordless_field_at, broken_default_at}

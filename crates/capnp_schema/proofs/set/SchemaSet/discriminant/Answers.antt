@@ -1,7 +1,6 @@
 -- The plan of the member of value 0 has the discriminant's place.
-use Rattle.std.specs.Prelude.{ℕ}
+use Rattle.std.proofs.Common.{ℕ, ap}
 use Rattle.std.specs.Option.{option_map}
-use Rattle.std.proofs.Common.{ap}
 use Rattle.capnp_schema.specs.Entries.{lists_seen}
 use Rattle.capnp_schema.specs.declared.plan.SlotPlan.{SlotPlan}
 use Rattle.capnp_schema.proofs.DiscriminantPlaces.{first_place, no_union}

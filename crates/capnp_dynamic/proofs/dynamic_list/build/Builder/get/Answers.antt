@@ -1,6 +1,5 @@
 -- What stands behind an element's pointer is read as its type where it was filled, and a number has no pointer.
-use Rattle.std.specs.Prelude.{◌≡◌, None, refl, false}
-use Rattle.std.proofs.Common.{ap, sym, subst, ◌∙◌}
+use Rattle.std.proofs.Common.{◌≡◌, None, refl, false, ap, sym, subst, ◌∙◌}
 use Rattle.std.proofs.lemmas.Bool.{true≢false}
 use Rattle.std.proofs.lemmas.Result.{IfErr-weaker, IfOk-weaker}
 use Rattle.capnp_wire.specs.Edits.{IsDueRefusal}

@@ -1,6 +1,5 @@
 -- The element was started, and its pointer is handed out under the elements' type.
-use Rattle.std.specs.Prelude.{refl, true}
-use Rattle.std.proofs.Common.{ap, ◌∙◌}
+use Rattle.std.proofs.Common.{refl, true, ap, ◌∙◌}
 use Rattle.capnp_schema.specs.Facts.Layers.{seen_which}
 use Rattle.capnp_schema.specs.Types.{is_pointer, seen_variant}
 use Rattle.capnp_records.specs.Writes.Contents.{initn_tree}

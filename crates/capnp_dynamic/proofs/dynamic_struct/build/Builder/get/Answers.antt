@@ -1,6 +1,5 @@
 -- A group is the same struct, a pointer's slot has what was filled there, and another slot its number.
-use Rattle.std.specs.Prelude.{◌≡◌, None, refl}
-use Rattle.std.proofs.Common.{ap, sym, ◌∙◌}
+use Rattle.std.proofs.Common.{◌≡◌, None, refl, ap, sym, ◌∙◌}
 use Rattle.std.proofs.lemmas.Result.{IfErr-weaker, IfOk-weaker}
 use Rattle.capnp_wire.specs.Edits.{IsDueRefusal, with_pointer_tree}
 use Rattle.capnp_schema.specs.Facts.Layers.{seen_which}

@@ -3,8 +3,7 @@ use Rattle.std.proofs.Common.{Ok, ap, ◌∙◌}
 use Rattle.capnp_schema.specs.Query.{field_named}
 use Rattle.capnp_schema.specs.StructHandles.{struct_records}
 use Rattle.capnp_dynamic.specs.Built.{built_record, built_schema}
-use Rattle.capnp_dynamic_readers.specs.Facts.Found.{found_belongs}
-use Rattle.capnp_dynamic_readers.specs.Facts.Found.{same_there}
+use Rattle.capnp_dynamic_readers.specs.Facts.Found.{found_belongs, same_there}
 use Rattle.capnp_dynamic.proofs.dynamic_struct.build.Builder.has_named.Goals as goal
 
 pub has-requires-clause-belongs : goal.has-requires-clause-belongs

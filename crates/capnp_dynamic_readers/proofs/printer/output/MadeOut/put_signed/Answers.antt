@@ -1,6 +1,5 @@
-use Rattle.std.specs.Prelude.{string_bytes}
+use Rattle.std.proofs.Common.{string_bytes, rules}
 use Rattle.std.specs.Fmt.{signed_decimal}
-use Rattle.std.proofs.Common.{rules}
 use Rattle.capnp_dynamic_readers.proofs.Pieces.{grown}
 use Rattle.capnp_dynamic_readers.proofs.printer.output.MadeOut.put_signed.Goals as goal
 
