@@ -1,5 +1,5 @@
 -- Groups are cleared one field after another.
-use Rattle.std.specs.Prelude.{ℕ, zero, suc, ◌+◌, ◌-◌, ◌<◌, ◌≡◌, refl, List, [], ◌∷◌, Bool, true, false, not, nat_lt, cond, length, map, position, slice_get, Option, Some, None}
+use Rattle.std.specs.Prelude.{ℕ, zero, suc, ◌+◌, ◌<◌, ◌≡◌, refl, List, [], ◌∷◌, Bool, true, false, not, nat_lt, cond, length, map, position, slice_get, Option, Some, None}
 use Rattle.std.proofs.Common.{arith, ap, sym, subst, ◌∙◌}
 use Rattle.std.proofs.lemmas.Bool.{true≢false}
 use Rattle.std.specs.List.{position_or_len}
@@ -7,21 +7,21 @@ use Rattle.std.specs.Option.{unwrap_or}
 use Rattle.capnp_wire.specs.Tree.{StructTree}
 use Rattle.capnp_schema.specs.Footprint.{Spot}
 use Rattle.capnp_schema.specs.FieldLists.{index_of, field_schema, typed_of}
-use Rattle.capnp_schema.specs.Query.{indices_from, is_member_of, is_non_union, keep_index, member_of, non_union_fields, records_of}
+use Rattle.capnp_schema.specs.Query.{is_member_of}
 use Rattle.capnp_schema.specs.Accepted.{IsGroupOf}
 use Rattle.capnp_schema.specs.Ranges.{HasRanges}
-use Rattle.capnp_schema.specs.Schema.{Field as FieldSeen, Schemas, TypedField, field_at, fields_of, is_member, no_field}
+use Rattle.capnp_schema.specs.Schema.{Field as FieldSeen, Schemas, TypedField, no_field}
 use Rattle.capnp_schema.specs.StructHandles.{IsStruct, number_of, set_of}
 use Rattle.capnp_schema.specs.Types.{struct_number}
 use Rattle.capnp_schema.specs.declared.schema.fields.Field.{Field}
 use Rattle.capnp_schema.specs.declared.schema.structs.StructSchema.{StructSchema}
 use Rattle.capnp_records.specs.Facts.FieldWrite.{fits-after, writes-refl, writes-trans, writes-wider}
 use Rattle.capnp_records.specs.Laws.{GroupClearStaysInside}
-use Rattle.capnp_records.specs.Writes.Overlay.{cleared_field, cleared_group, cleared_member, cleared_non_union, cleared_within}
+use Rattle.capnp_records.specs.Writes.Overlay.{cleared_group, cleared_member}
 use Rattle.capnp_records.specs.Writes.Slots.{Fits, Writes}
 use Rattle.capnp_slots.specs.Fields.{IsRoomFor, Keeps, field_brand, field_set, names_of, switched_to}
 use Rattle.capnp_slots.specs.Groups.{IsGroupAt, KeepsSize, group_without}
-use Rattle.capnp_slots.specs.Steps.Groups.{clear_index, cleared_indices, cleared_option, cleared_through}
+use Rattle.capnp_slots.specs.Steps.Groups.{cleared_option, cleared_through}
 
 -- ---- sizes ----
 

@@ -1,12 +1,11 @@
 -- A group is cleared place by place, and the groups in it by their own fields: what is left to do of a place, and of the
 -- groups above it.
-use Rattle.std.specs.Prelude.{ℕ, zero, suc, ◌+◌, ◌-◌, ◌<◌, ◌≤◌, ◌≡◌, refl, List, [], ◌∷◌, Bool, true, false, not, ◌&&◌, nat_lt, cond, drop, length, map, position, slice_get, Option, Some, None}
+use Rattle.std.specs.Prelude.{ℕ, zero, suc, ◌+◌, ◌-◌, ◌<◌, ◌≤◌, ◌≡◌, refl, List, [], ◌∷◌, Bool, true, false, not, nat_lt, cond, drop, length, position, slice_get, Option, Some, None}
 use Rattle.std.proofs.Common.{add-one, arith, ap, sym, subst, ◌∙◌}
 use Rattle.std.proofs.lemmas.Bool.{and_parts}
 use Rattle.std.proofs.lemmas.Bool.Decides.{nat_tests}
 use Rattle.std.proofs.lemmas.Option.{cond_some, same_Some}
 use Rattle.std.specs.List.{position_or_len}
-use Rattle.std.specs.Option.{option_map, unwrap_or}
 use Rattle.capnp_wire.specs.Tree.{StructTree}
 use Rattle.capnp_schema.specs.Accepted.{HasOneParent, HaveSameSizes, IsGroupOf, IsParent}
 use Rattle.capnp_schema.specs.Steps.Checking.Parents.{entry_target, group_target}
@@ -19,14 +18,14 @@ use Rattle.capnp_schema.specs.GroupsDown.{IsGroupFieldOf, place_of_field}
 use Rattle.capnp_schema.specs.Steps.GroupWalks.{steps_into, steps_through}
 use Rattle.capnp_schema.specs.Query.{is_member_of, member_of, records_of}
 use Rattle.capnp_schema.specs.Schema.{FieldKind, Group, Schemas, Slot, TypedField, field_at, fields_of, is_member, kind_target}
-use Rattle.capnp_schema.specs.StructHandles.{IsStruct, number_of, set_of, struct_field, struct_fields}
+use Rattle.capnp_schema.specs.StructHandles.{number_of, set_of, struct_field, struct_fields}
 use Rattle.capnp_schema.specs.Types.{SchemaType, struct_number}
 use Rattle.capnp_schema.specs.declared.schema.fields.Field.{Field}
 use Rattle.capnp_schema.specs.declared.schema.structs.StructSchema.{StructSchema}
 use Rattle.capnp_records.specs.Step.{is_group_field}
-use Rattle.capnp_records.specs.Writes.Overlay.{cleared_field, cleared_kind, cleared_member, cleared_non_union, cleared_within}
+use Rattle.capnp_records.specs.Writes.Overlay.{cleared_kind, cleared_member, cleared_non_union}
 use Rattle.capnp_records.specs.Writes.Slots.{Fits}
-use Rattle.capnp_slots.specs.Fields.{IsSlot, field_brand, field_set, switched_to}
+use Rattle.capnp_slots.specs.Fields.{field_brand, field_set, switched_to}
 use Rattle.capnp_slots.specs.Steps.GroupClears.{IsSlotCleared, field_cleared_at, cleared_behind, place_behind, unless_member_place}
 use Rattle.capnp_slots.specs.Groups.{IsGroupAt, KeepsSize}
 use Rattle.capnp_slots.specs.Steps.Groups.{clear_by, cleared_option, cleared_through}
