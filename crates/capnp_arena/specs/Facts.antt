@@ -7,4 +7,5 @@ pub mod Calls
 pub mod Structs
 pub mod Laws
 pub mod Places
+pub mod Frames
 pub mod Elements

@@ -4,6 +4,7 @@ pub mod Made
 pub mod Segment
 pub mod Leaves
 pub mod Built
+pub mod Frame
 pub mod Handles
 pub mod Parts
 pub mod Blobs

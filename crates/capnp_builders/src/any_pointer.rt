@@ -11,7 +11,8 @@ ghost use Rattle.capnp_wire.specs.WellFormed.{IsWellFormed};
 ghost use Rattle.capnp_wire.specs.Words.{first_fault, words_of};
 ghost use Rattle.capnp_base.specs.AnyPointer.{pointer_of};
 ghost use Rattle.capnp_base.specs.ReadBack.{pointer_read_back};
-ghost use Rattle.capnp_arena.specs.Forest.{Changes, Forest, tree};
+ghost use Rattle.capnp_arena.specs.Frame.{LeavesPointer};
+ghost use Rattle.capnp_arena.specs.Forest.{Changes, tree};
 ghost use Rattle.capnp_arena.specs.Same.{IsCutOf};
 ghost use Rattle.capnp_arena.specs.Segment.{segment};
 ghost use Rattle.capnp_arena.specs.Shape.{word_count};
@@ -101,11 +102,10 @@ impl<'a> Builder<'a> {
         requires { IsUntypedPointer self }
         ensures same { IfOk result (λ b. (T.behind b).ghost_name ≡ (arena_behind self.entry).ghost_name) }
         ensures at { IfOk result (λ b. T.word b ≡ untyped_word self.entry) }
-        ensures forest { IfOk result (λ b. Forest (segment (T.behind b).now) (untyped_word self.entry)) }
+        ensures frame { IfOk result (λ b. LeavesPointer (untyped_word self.entry) (arena_behind self.entry).now
+            (T.behind b).now) }
         ensures tree { IfOk result (λ b. tree (segment (T.behind b).now) (untyped_word self.entry)
             ≡ untyped_tree self.entry) }
-        ensures changes { IfOk result (λ b. Changes (untyped_word self.entry) (segment (arena_behind self.entry).now)
-            (segment (T.behind b).now)) }
         ensures now { IfOk result (T.stands (untyped_tree self.entry)) }
         ensures refused { IfErr result (T.refuses (untyped_tree self.entry) None) }
     {
@@ -117,10 +117,9 @@ impl<'a> Builder<'a> {
         requires { untyped_word self < word_count (segment (arena_behind self).now) }
         ensures same { IfOk result (λ b. (T.behind b).ghost_name ≡ (arena_behind self.entry).ghost_name) }
         ensures at { IfOk result (λ b. T.word b ≡ untyped_word self.entry) }
-        ensures forest { IfOk result (λ b. Forest (segment (T.behind b).now) (untyped_word self.entry)) }
+        ensures frame { IfOk result (λ b. LeavesPointer (untyped_word self.entry) (arena_behind self.entry).now
+            (T.behind b).now) }
         ensures tree { IfOk result (λ b. tree (segment (T.behind b).now) (untyped_word self.entry) ≡ T.started 0) }
-        ensures changes { IfOk result (λ b. Changes (untyped_word self.entry) (segment (arena_behind self.entry).now)
-            (segment (T.behind b).now)) }
         ensures now { IfOk result (T.starts 0) }
         ensures refused { IfErr result (T.new_refusal 0) }
     {
@@ -132,10 +131,9 @@ impl<'a> Builder<'a> {
         requires { untyped_word self < word_count (segment (arena_behind self).now) }
         ensures same { IfOk result (λ b. (T.behind b).ghost_name ≡ (arena_behind self.entry).ghost_name) }
         ensures at { IfOk result (λ b. T.word b ≡ untyped_word self.entry) }
-        ensures forest { IfOk result (λ b. Forest (segment (T.behind b).now) (untyped_word self.entry)) }
+        ensures frame { IfOk result (λ b. LeavesPointer (untyped_word self.entry) (arena_behind self.entry).now
+            (T.behind b).now) }
         ensures tree { IfOk result (λ b. tree (segment (T.behind b).now) (untyped_word self.entry) ≡ T.started size) }
-        ensures changes { IfOk result (λ b. Changes (untyped_word self.entry) (segment (arena_behind self.entry).now)
-            (segment (T.behind b).now)) }
         ensures now { IfOk result (T.starts size) }
         ensures refused { IfErr result (T.new_refusal size) }
     {

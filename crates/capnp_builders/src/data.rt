@@ -10,6 +10,7 @@ ghost use Rattle.capnp_wire.specs.Reading.{as_data};
 ghost use Rattle.capnp_wire.specs.Tree.{Numbers};
 ghost use Rattle.capnp_base.specs.ReadBack.{data_read_back};
 ghost use Rattle.capnp_base.specs.Traits.{IsDefaultRefusal, IsReadRefusal, default_refusal, tree_or};
+ghost use Rattle.capnp_arena.specs.Frame.{LeavesPointer};
 ghost use Rattle.capnp_arena.specs.Forest.{Changes, Forest, tree};
 ghost use Rattle.capnp_arena.specs.Segment.{segment};
 ghost use Rattle.capnp_builders.specs.Blobs.{IsData, data_behind, data_bytes, data_there, data_word};
@@ -137,11 +138,9 @@ impl<'a> Builder<'a> {
 /// with `OutOfMemory`; then nothing has changed.
 pub fn copy_default(builder: PointerBuilder<'_>, default: Option<PointerReader<'_>>) -> Result<()>
     requires { Forest (segment builder.arena.now) builder.at }
-    ensures forest { OnOk result (Forest (segment builder.exit.0.now) builder.entry.at) }
+    ensures frame { OnOk result (LeavesPointer builder.entry.at builder.entry.arena.now builder.exit.0.now) }
     ensures tree { OnOk result (tree (segment builder.exit.0.now) builder.entry.at
         ≡ tree_or (tree (segment builder.entry.arena.now) builder.entry.at) default.entry) }
-    ensures changes { OnOk result (Changes builder.entry.at (segment builder.entry.arena.now)
-        (segment builder.exit.0.now)) }
     ensures reads { OnOk result (default_refusal as_data
         (tree (segment builder.entry.arena.now) builder.entry.at) default.entry ≡ None) }
     ensures refused { OnErr result (segment builder.exit.0.now ≡ segment builder.entry.arena.now) }

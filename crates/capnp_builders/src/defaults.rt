@@ -3,7 +3,8 @@ ghost use Rattle.std.specs.Prelude.{None, IfErr, IfOk, IsOk, OnErr, OnOk, length
 ghost use Rattle.capnp_wire.specs.Edits.{IsDueRefusal};
 ghost use Rattle.capnp_wire.specs.Standing.{bytes_read, tree_of};
 ghost use Rattle.capnp_base.specs.Traits.{IsDefaultRefusal, IsReadRefusal, default_refusal, refusal_in, tree_or};
-ghost use Rattle.capnp_arena.specs.Forest.{Changes, Forest, tree};
+ghost use Rattle.capnp_arena.specs.Frame.{LeavesPointer};
+ghost use Rattle.capnp_arena.specs.Forest.{Forest, tree};
 ghost use Rattle.capnp_arena.specs.Segment.{segment};
 ghost use Rattle.capnp_builders.specs.Blobs.{bytes_in};
 ghost use Rattle.capnp_builders.specs.Steps.Blobs.{as_blob};
@@ -63,9 +64,8 @@ fn put_default(
     is_text: bool,
 ) -> Result<usize>
     requires { Forest (segment arena.old) at }
-    ensures forest { OnOk result (Forest (segment arena.new) at) }
+    ensures frame { OnOk result (LeavesPointer at arena.old arena.new) }
     ensures tree { OnOk result (tree (segment arena.new) at ≡ tree_of default.entry) }
-    ensures changes { OnOk result (Changes at (segment arena.old) (segment arena.new)) }
     ensures reads { OnOk result (refusal_in (as_blob is_text (tree_of default.entry)) ≡ None) }
     ensures bytes { OnOk result (IsOk (as_blob is_text (tree_of default.entry))) }
     ensures count { IfOk result (λ n. n ≡ length (bytes_in (as_blob is_text (tree_of default.entry)))) }
@@ -86,9 +86,8 @@ pub(crate) fn fill(
     is_text: bool,
 ) -> Result<()>
     requires { Forest (segment arena.old) at }
-    ensures forest { OnOk result (Forest (segment arena.new) at) }
+    ensures frame { OnOk result (LeavesPointer at arena.old arena.new) }
     ensures tree { OnOk result (tree (segment arena.new) at ≡ tree_or (tree (segment arena.old) at) default.entry) }
-    ensures changes { OnOk result (Changes at (segment arena.old) (segment arena.new)) }
     ensures reads { OnOk result (default_refusal (as_blob is_text) (tree (segment arena.old) at) default.entry ≡ None) }
     ensures refused { OnErr result (segment arena.new ≡ segment arena.old) }
     ensures cause { IfErr result (IsDefaultRefusal (as_blob is_text) (tree (segment arena.old) at) default.entry) }
@@ -111,9 +110,8 @@ pub(crate) fn enter(
     is_text: bool,
 ) -> Result<usize>
     requires { Forest (segment arena.old) at }
-    ensures forest { OnOk result (Forest (segment arena.new) at) }
+    ensures frame { OnOk result (LeavesPointer at arena.old arena.new) }
     ensures tree { OnOk result (tree (segment arena.new) at ≡ tree_or (tree (segment arena.old) at) default.entry) }
-    ensures changes { OnOk result (Changes at (segment arena.old) (segment arena.new)) }
     ensures bytes { OnOk result (IsOk (as_blob is_text (tree_or (tree (segment arena.old) at) default.entry))) }
     ensures count { IfOk result (λ n. n ≡ length
         (bytes_in (as_blob is_text (tree_or (tree (segment arena.old) at) default.entry)))) }

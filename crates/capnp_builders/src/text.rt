@@ -16,6 +16,7 @@ ghost use Rattle.capnp_wire.specs.Tree.{Numbers};
 ghost use Rattle.capnp_base.specs.Text.{IsStringOf, IsStrOf};
 ghost use Rattle.capnp_base.specs.ReadBack.{text_read_back};
 ghost use Rattle.capnp_base.specs.Traits.{IsDefaultRefusal, IsReadRefusal, default_refusal, tree_or};
+ghost use Rattle.capnp_arena.specs.Frame.{LeavesPointer};
 ghost use Rattle.capnp_arena.specs.Forest.{Changes, Forest, tree};
 ghost use Rattle.capnp_arena.specs.Segment.{segment};
 ghost use Rattle.capnp_arena.specs.Shape.{word_count};
@@ -323,10 +324,9 @@ impl<'a> Builder<'a> {
 /// `OutOfMemory`; then nothing has changed.
 fn start(arena: &mut Arena, at: usize, length: u32) -> Result<()>
     requires { at < word_count (segment arena.old) }
-    ensures forest { OnOk result (Forest (segment arena.new) at) }
+    ensures frame { OnOk result (LeavesPointer at arena.old arena.new) }
     ensures tree { OnOk result (tree (segment arena.new) at ≡ Numbers 1 (replicate (length + 1) 0)) }
     ensures text { OnOk result (as_text (tree (segment arena.new) at) ≡ Ok (replicate length 0)) }
-    ensures changes { OnOk result (Changes at (segment arena.old) (segment arena.new)) }
     ensures refused { OnErr result (segment arena.new ≡ segment arena.old) }
     ensures cause { IfErr result (λ error. IsRoomRefusal error (words_past_format ≤ length + 1)) }
 {
@@ -343,11 +343,9 @@ fn start(arena: &mut Arena, at: usize, length: u32) -> Result<()>
 /// else with `OutOfMemory`; then nothing has changed.
 pub fn copy_default(builder: PointerBuilder<'_>, default: Option<PointerReader<'_>>) -> Result<()>
     requires { Forest (segment builder.arena.now) builder.at }
-    ensures forest { OnOk result (Forest (segment builder.exit.0.now) builder.entry.at) }
+    ensures frame { OnOk result (LeavesPointer builder.entry.at builder.entry.arena.now builder.exit.0.now) }
     ensures tree { OnOk result (tree (segment builder.exit.0.now) builder.entry.at
         ≡ tree_or (tree (segment builder.entry.arena.now) builder.entry.at) default.entry) }
-    ensures changes { OnOk result (Changes builder.entry.at (segment builder.entry.arena.now)
-        (segment builder.exit.0.now)) }
     ensures reads { OnOk result (default_refusal as_text
         (tree (segment builder.entry.arena.now) builder.entry.at) default.entry ≡ None) }
     ensures refused { OnErr result (segment builder.exit.0.now ≡ segment builder.entry.arena.now) }

@@ -9,7 +9,8 @@ ghost use Rattle.capnp_wire.specs.Depth.{IsBelow, memory_depth};
 ghost use Rattle.capnp_wire.specs.Tree.{Tree};
 ghost use Rattle.capnp_wire.specs.declared.pointer_reader.PointerReader.{PointerReader};
 ghost use Rattle.capnp_base.specs.Traits.{tree_or};
-ghost use Rattle.capnp_arena.specs.Forest.{Changes, Forest, tree};
+ghost use Rattle.capnp_arena.specs.Frame.{LeavesPointer};
+ghost use Rattle.capnp_arena.specs.Forest.{Forest, tree};
 ghost use Rattle.capnp_arena.specs.Segment.{segment};
 ghost use Rattle.capnp_arena.specs.Shape.{word_count};
 ghost use Rattle.capnp_arena.specs.declared.arena.Arena.{Arena};
@@ -55,10 +56,8 @@ pub trait FromPointerBuilder<'a>: Sized {
         ensures* rests { sem 𝓛 (Rests builder.entry.arena behind result) }
         ensures same { IfOk result (λ b. (behind b).ghost_name ≡ builder.entry.arena.ghost_name) }
         ensures at { IfOk result (λ b. word b ≡ builder.entry.at) }
-        ensures forest { IfOk result (λ b. Forest (segment (behind b).now) builder.entry.at) }
+        ensures frame { IfOk result (λ b. LeavesPointer builder.entry.at builder.entry.arena.now (behind b).now) }
         ensures tree { IfOk result (λ b. tree (segment (behind b).now) builder.entry.at ≡ started length) }
-        ensures changes { IfOk result (λ b. Changes builder.entry.at (segment builder.entry.arena.now)
-            (segment (behind b).now)) }
         ensures now { IfOk result (starts length) }
         ensures refused { IfErr result (new_refusal length) };
 
@@ -74,11 +73,9 @@ pub trait FromPointerBuilder<'a>: Sized {
         ensures* rests { sem 𝓛 (Rests builder.entry.arena behind result) }
         ensures same { IfOk result (λ b. (behind b).ghost_name ≡ builder.entry.arena.ghost_name) }
         ensures at { IfOk result (λ b. word b ≡ builder.entry.at) }
-        ensures forest { IfOk result (λ b. Forest (segment (behind b).now) builder.entry.at) }
+        ensures frame { IfOk result (λ b. LeavesPointer builder.entry.at builder.entry.arena.now (behind b).now) }
         ensures tree { IfOk result (λ b. tree (segment (behind b).now) builder.entry.at
             ≡ tree_or (tree (segment builder.entry.arena.now) builder.entry.at) default.entry) }
-        ensures changes { IfOk result (λ b. Changes builder.entry.at (segment builder.entry.arena.now)
-            (segment (behind b).now)) }
         ensures now { IfOk result (stands (tree_or
             (tree (segment builder.entry.arena.now) builder.entry.at) default.entry)) }
         ensures refused { IfErr result (refuses (tree

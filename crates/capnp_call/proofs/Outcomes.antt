@@ -4,6 +4,7 @@ use Rattle.std.proofs.Common.{arith, ap, inl, refl, subst, sym}
 use Rattle.capnp_device.specs.declared.error.Error.{Error}
 use Rattle.capnp_arena.specs.Built.{built_at}
 use Rattle.capnp_arena.specs.Forest.{Changes, Forest, struct_from}
+use Rattle.capnp_arena.specs.Frame.{LeavesPointer}
 use Rattle.capnp_arena.specs.Segment.{segment}
 use Rattle.capnp_arena.specs.declared.arena.Arena.{Arena}
 use Rattle.capnp_arena.specs.declared.arena.Place.{Place}
@@ -28,10 +29,9 @@ pub same_struct : (old new : Arena) (p : Place) → segment new ≡ segment old 
 same_struct old new p e = ap (λ (b : List ℕ). struct_from b p.start p.data_words p.pointers) e
 
 -- a list stands where it stood, and nothing else has changed
-pub forest_after : {A : Type 0} (w : ℕ) (old new : List ℕ) (r : Result A Error) → Forest old w → OnOk r (Forest new w) → OnErr r (new ≡ old) → Forest new w
-forest_after w old new (Ok a) before written same = written
-forest_after w old new (Err e) before written same = subst (λ (b : List ℕ). Forest b w) (sym same) before
-
-pub list_changes_after : {A : Type 0} (w : ℕ) (old new : List ℕ) (r : Result A Error) → OnOk r (Changes w old new) → OnErr r (new ≡ old) → Changes w old new
-list_changes_after w old new (Ok a) written same = written
-list_changes_after w old new (Err e) written same = subst (Changes w old) (sym same) (record { longer = omega arith; stays = λ k l o p. refl; grows = λ k o. inl o })
+pub list_frame_after : {A : Type 0} (at : ℕ) (old new : Arena) (r : Result A Error) → Forest (segment old) at → OnOk r (LeavesPointer at old new) → OnErr r (segment new ≡ segment old) → LeavesPointer at old new
+list_frame_after at old new (Ok a) before written same = written
+list_frame_after at old new (Err e) before written same = record {
+  forest = subst (λ (b : List ℕ). Forest b at) (sym same) before;
+  changes = subst (Changes at (segment old)) (sym same) (record { longer = omega arith; stays = λ k l o p. refl; grows = λ k o. inl o });
+}

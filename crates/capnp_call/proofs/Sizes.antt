@@ -4,8 +4,7 @@ use Rattle.std.proofs.Common.{sym, subst, ◌∙◌}
 use Rattle.std.proofs.lemmas.Bool.{true≢false}
 use Rattle.capnp_wire.specs.Place.{struct_tree}
 use Rattle.capnp_wire.specs.WellFormed.{IsWellFormed}
-use Rattle.capnp_arena.specs.Facts.Calls.{parts_one_by_one}
-use Rattle.capnp_arena.specs.Facts.Places.{data_of, pointers_of, unchanged}
+use Rattle.capnp_arena.specs.Facts.Places.{data_of, pointers_of}
 use Rattle.capnp_arena.specs.Segment.{segment}
 use Rattle.capnp_arena.specs.declared.arena.Arena.{Arena}
 use Rattle.capnp_arena.specs.declared.arena.Place.{Place}
@@ -14,15 +13,9 @@ use Rattle.capnp_schema.specs.Schema.{Schemas}
 use Rattle.capnp_schema.specs.StructHandles.{number_of, set_of}
 use Rattle.capnp_schema.specs.declared.schema.structs.StructSchema.{StructSchema}
 use Rattle.capnp_records.specs.Writes.Slots.{Fits}
-use Rattle.capnp_arena.specs.Built.{ChangesIn, IsBuilt, built_at, place_words}
+use Rattle.capnp_arena.specs.Built.{IsBuilt, built_at}
 use Rattle.capnp_slots.specs.Groups.{KeepsSize}
 use Rattle.capnp_slots.specs.Standing.{IsStanding}
-
-pub changes_none : (p : Place) (a b : Arena) → segment b ≡ segment a → ChangesIn p a b
-changes_none p a b = unchanged (segment a) (segment b) (place_words p)
-
-pub changes_then : (p : Place) (a b c : Arena) → ChangesIn p a b → ChangesIn p b c → ChangesIn p a c
-changes_then p a b c = parts_one_by_one (segment a) (segment b) (segment c) (place_words p)
 
 module _ (a b : Arena) (p : Place) (h : IsBuilt a p) (k : IsBuilt b p) where
   pub keeps_size : IsWellFormed (struct_tree (built_at b p)) → KeepsSize (built_at a p) (built_at b p)

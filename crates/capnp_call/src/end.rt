@@ -1,6 +1,6 @@
 //! What a call does at the end of its path, at a struct or group.
-ghost use Rattle.capnp_arena.specs.Segment.{segment};
-ghost use Rattle.capnp_arena.specs.Built.{ChangesIn, IsBuilt, built_at};
+ghost use Rattle.capnp_arena.specs.Frame.{LeavesStruct};
+ghost use Rattle.capnp_arena.specs.Built.{IsBuilt, built_at};
 ghost use Rattle.std.specs.Prelude.{◌≢◌};
 ghost use Rattle.capnp_wire.specs.Place.{struct_tree};
 ghost use Rattle.capnp_schema.specs.StructHandles.{number_of, set_of};
@@ -30,8 +30,7 @@ fn set_to(arena: &mut Arena, place: Place, field: Field<'_>, source: Source<'_>)
     requires room { IsRoomFor field (built_at arena.old place) }
     ensures does { FieldDoes field.entry (Set (source_seen source.entry)) (built_at arena.old place) (reply_seen result)
         (built_at arena.new place) }
-    ensures planted { IsBuilt arena.new place }
-    ensures changes { ChangesIn place arena.old arena.new }
+    ensures frame { LeavesStruct place arena.old arena.new }
 {
     source_fits(source);
     reply_of(field::set(arena, place, field, source))
@@ -44,8 +43,7 @@ fn set_pointed(arena: &mut Arena, place: Place, field: Field<'_>, value: &Value<
     requires room { IsRoomFor field (built_at arena.old place) }
     ensures does { FieldDoes field.entry (Set (source_of value.now)) (built_at arena.old place) (reply_seen result)
         (built_at arena.new place) }
-    ensures planted { IsBuilt arena.new place }
-    ensures changes { ChangesIn place arena.old arena.new }
+    ensures frame { LeavesStruct place arena.old arena.new }
 {
     set_to(arena, place, field, Source::from(*value))
 }
@@ -57,8 +55,7 @@ fn set_field(arena: &mut Arena, place: Place, field: Field<'_>, value: &Value<'_
     requires room { IsRoomFor field (built_at arena.old place) }
     ensures does { FieldDoes field.entry (Set (source_of value.now)) (built_at arena.old place) (reply_seen result)
         (built_at arena.new place) }
-    ensures planted { IsBuilt arena.new place }
-    ensures changes { ChangesIn place arena.old arena.new }
+    ensures frame { LeavesStruct place arena.old arena.new }
 {
     match Primitive::from_value(value) {
         Some(number) => set_to(arena, place, field, Source::Primitive(number)),
@@ -74,8 +71,7 @@ fn init_field(arena: &mut Arena, place: Place, field: Field<'_>) -> Reply
     requires planted { IsBuilt arena.old place }
     requires room { IsRoomFor field (built_at arena.old place) }
     ensures does { FieldDoes field.entry Init (built_at arena.old place) (reply_seen result) (built_at arena.new place) }
-    ensures planted { IsBuilt arena.new place }
-    ensures changes { ChangesIn place arena.old arena.new }
+    ensures frame { LeavesStruct place arena.old arena.new }
 {
     reply_of(field::init(arena, place, field))
 }
@@ -89,8 +85,7 @@ fn initn_field(arena: &mut Arena, place: Place, field: Field<'_>, count: u32) ->
     requires room { IsRoomFor field (built_at arena.old place) }
     ensures does { FieldDoes field.entry (Initn count) (built_at arena.old place) (reply_seen result)
         (built_at arena.new place) }
-    ensures planted { IsBuilt arena.new place }
-    ensures changes { ChangesIn place arena.old arena.new }
+    ensures frame { LeavesStruct place arena.old arena.new }
 {
     reply_of(field::initn(arena, place, field, count))
 }
@@ -100,8 +95,7 @@ fn clear_field(arena: &mut Arena, place: Place, field: Field<'_>) -> Reply
     requires planted { IsBuilt arena.old place }
     requires room { IsRoomFor field (built_at arena.old place) }
     ensures does { FieldDoes field.entry Clear (built_at arena.old place) (reply_seen result) (built_at arena.new place) }
-    ensures planted { IsBuilt arena.new place }
-    ensures changes { ChangesIn place arena.old arena.new }
+    ensures frame { LeavesStruct place arena.old arena.new }
 {
     field::clear(arena, place, field);
     Reply::Done
@@ -115,8 +109,7 @@ fn do_field(arena: &mut Arena, place: Place, field: Field<'_>, end: Ending<'_>) 
     requires names { end.call.now.op ≢ Op.Which }
     ensures does { FieldDoes field.entry (op_seen end.entry.call.now.op) (built_at arena.old place) (reply_seen result)
         (built_at arena.new place) }
-    ensures planted { IsBuilt arena.new place }
-    ensures changes { ChangesIn place arena.old arena.new }
+    ensures frame { LeavesStruct place arena.old arena.new }
 {
     match &end.call.op {
         Op::Get => get_field(end.alloc, arena, place, field),
@@ -137,8 +130,7 @@ fn do_named(arena: &mut Arena, place: Place, schema: StructSchema<'_>, end: Endi
     ensures does { NamedDoes (set_of schema.entry) (number_of schema.entry) (step_seen end.entry.call.now.last)
         (op_seen end.entry.call.now.op)
         (built_at arena.old place) (reply_seen result) (built_at arena.new place) }
-    ensures planted { IsBuilt arena.new place }
-    ensures changes { ChangesIn place arena.old arena.new }
+    ensures frame { LeavesStruct place arena.old arena.new }
 {
     match find_field(schema, end.call.last) {
         Err(error) => Reply::Refused(error.kind),
@@ -164,8 +156,7 @@ pub fn end_at_struct(
     ensures ends { StructEnds (set_of schema.entry) (number_of schema.entry) (step_seen end.entry.call.now.last)
         (op_seen end.entry.call.now.op)
         (built_at arena.old place) (reply_seen result) (built_at arena.new place) }
-    ensures planted { IsBuilt arena.new place }
-    ensures changes { ChangesIn place arena.old arena.new }
+    ensures frame { LeavesStruct place arena.old arena.new }
 {
     match end.call.op {
         Op::Which => which_member(arena, place, schema),

@@ -1,7 +1,8 @@
 //! A step of a path into what stands behind a field.
+ghost use Rattle.capnp_arena.specs.Frame.{LeavesStruct};
 ghost use Rattle.capnp_arena.specs.Segment.{segment};
 ghost use Rattle.capnp_wire.specs.WellFormed.{IsWellFormed};
-ghost use Rattle.capnp_arena.specs.Built.{ChangesIn, IsBuilt, built_at};
+ghost use Rattle.capnp_arena.specs.Built.{IsBuilt, built_at};
 ghost use Rattle.std.specs.Prelude.{◌≡◌, IfErr, OnErr, OnOk};
 ghost use Rattle.capnp_schema.specs.Defaults.{DefaultFits, value_default_tree};
 ghost use Rattle.capnp_schema.specs.FieldLists.{typed_of};
@@ -49,8 +50,7 @@ pub fn enter_struct(
     ensures here { OnOk result (pointer_in field.entry (built_at arena.new place)
         ≡ filled_in field.entry (built_at arena.old place)) }
     ensures goes { OnOk result (StepGoes field.entry (built_at arena.old place)) }
-    ensures planted { OnOk result (IsBuilt arena.new place) }
-    ensures changes { OnOk result (ChangesIn place arena.old arena.new) }
+    ensures frame { OnOk result (LeavesStruct place arena.old arena.new) }
     ensures refused { OnErr result (segment arena.new ≡ segment arena.old) }
     ensures cause { IfErr result (λ e. StepStops field.entry (built_at arena.old place) e.kind) }
 {
@@ -104,8 +104,7 @@ pub fn enter_list(arena: &mut Arena, place: Place, field: Field<'_>, element: Ty
     ensures list { OnOk result (IsListStand (field_set field.entry) (seen_type element)
         (filled_in field.entry (built_at arena.old place))) }
     ensures goes { OnOk result (StepGoes field.entry (built_at arena.old place)) }
-    ensures planted { OnOk result (IsBuilt arena.new place) }
-    ensures changes { OnOk result (ChangesIn place arena.old arena.new) }
+    ensures frame { OnOk result (LeavesStruct place arena.old arena.new) }
     ensures refused { OnErr result (segment arena.new ≡ segment arena.old) }
     ensures cause { IfErr result (λ e. StepStops field.entry (built_at arena.old place) e.kind) }
 {

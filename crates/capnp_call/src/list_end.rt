@@ -1,5 +1,6 @@
 //! What a call does at the end of its path, at a list.
-ghost use Rattle.capnp_arena.specs.Forest.{Changes, Forest, tree};
+ghost use Rattle.capnp_arena.specs.Frame.{LeavesPointer};
+ghost use Rattle.capnp_arena.specs.Forest.{Forest, tree};
 ghost use Rattle.capnp_arena.specs.Segment.{segment};
 ghost use Rattle.std.specs.Prelude.{◌≡◌, ◌≢◌, ◌<◌, false};
 ghost use Rattle.capnp_wire.specs.Reading.{is_null_tree, list_length};
@@ -50,7 +51,7 @@ fn get_element(
 }
 
 /// Starts an element anew with a size, as `element::init`.
-#[tactic(auto, using(crate::proofs::Outcomes::forest_after, crate::proofs::Outcomes::list_changes_after))]
+#[tactic(auto, using(crate::proofs::Outcomes::list_frame_after))]
 fn initn_element(
     arena: &mut Arena,
     at: usize,
@@ -64,14 +65,13 @@ fn initn_element(
     requires inside { index < list_length (tree (segment arena.old) at) }
     ensures does { ElementDoes (lists_seen set.now) (seen_type element) index (Op.Initn count)
         (tree (segment arena.old) at) result (tree (segment arena.new) at) }
-    ensures forest { Forest (segment arena.new) at }
-    ensures changes { Changes at (segment arena.old) (segment arena.new) }
+    ensures frame { LeavesPointer at arena.old arena.new }
 {
     reply_of(element::init(arena, at, set, element, index, count))
 }
 
 /// Sets an element to a value, as `element::set`.
-#[tactic(auto, using(crate::proofs::Outcomes::forest_after, crate::proofs::Outcomes::list_changes_after))]
+#[tactic(auto, using(crate::proofs::Outcomes::list_frame_after))]
 fn set_element(
     arena: &mut Arena,
     at: usize,
@@ -86,8 +86,7 @@ fn set_element(
     ensures does { ElementDoes (lists_seen set.now) (seen_type element) index (Op.Set value.entry)
         (tree (segment arena.old) at) result
         (tree (segment arena.new) at) }
-    ensures forest { Forest (segment arena.new) at }
-    ensures changes { Changes at (segment arena.old) (segment arena.new) }
+    ensures frame { LeavesPointer at arena.old arena.new }
 {
     let source = Source::from(value);
     source_fits(source);
@@ -111,8 +110,7 @@ fn do_element(
     ensures does { ElementDoes (lists_seen set.now) (seen_type element) index end.entry.call.now.op
         (tree (segment arena.old) at) result
         (tree (segment arena.new) at) }
-    ensures forest { Forest (segment arena.new) at }
-    ensures changes { Changes at (segment arena.old) (segment arena.new) }
+    ensures frame { LeavesPointer at arena.old arena.new }
 {
     match end.call.op {
         Op::Get => get_element(end.alloc, arena, at, set, element, index),
@@ -134,8 +132,7 @@ fn do_last(arena: &mut Arena, at: usize, set: &SchemaSet, element: Type, end: En
     requires names { end.call.now.op ≢ Op.Which }
     ensures ends { ListEnds (lists_seen set.now) (seen_type element) end.entry (tree (segment arena.old) at) result
         (tree (segment arena.new) at) }
-    ensures forest { Forest (segment arena.new) at }
-    ensures changes { Changes at (segment arena.old) (segment arena.new) }
+    ensures frame { LeavesPointer at arena.old arena.new }
 {
     let Step::Element(index) = end.call.last else {
         return Reply::Refused(ErrorKind::NotAContainer);
@@ -164,8 +161,7 @@ pub fn end_at_list(
     requires there { is_null_tree (tree (segment arena.old) at) ≡ false }
     ensures ends { ListEnds (lists_seen set.now) (seen_type element) end.entry (tree (segment arena.old) at) result
         (tree (segment arena.new) at) }
-    ensures forest { Forest (segment arena.new) at }
-    ensures changes { Changes at (segment arena.old) (segment arena.new) }
+    ensures frame { LeavesPointer at arena.old arena.new }
 {
     match end.call.op {
         Op::Which => Reply::Refused(ErrorKind::NotAContainer),

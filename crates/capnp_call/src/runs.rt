@@ -1,9 +1,10 @@
 //! Lists of calls on a struct that is built.
 ghost use Rattle.std.specs.Prelude.{◌≡◌, IfErr, IfOk, OnErr};
 ghost use Rattle.capnp_device.specs.declared.error.ErrorKind.TheVariants.{OutOfMemory};
+ghost use Rattle.capnp_arena.specs.Frame.{LeavesStruct};
 ghost use Rattle.capnp_arena.specs.Segment.{segment};
 ghost use Rattle.capnp_schema.specs.StructHandles.{IsStruct, number_of, set_of};
-ghost use Rattle.capnp_arena.specs.Built.{ChangesIn, IsBuilt, built_at};
+ghost use Rattle.capnp_arena.specs.Built.{built_at};
 ghost use Rattle.capnp_slots.specs.Groups.{KeepsSize};
 ghost use Rattle.capnp_slots.specs.Standing.{TakesCalls};
 ghost use Rattle.capnp_call.specs.Runs.{IsCallMade, MakesCalls, RestsWhole, RunsTo};
@@ -29,8 +30,7 @@ pub(crate) fn call_at(
     requires ready { TakesCalls schema arena.old place }
     ensures made { IsCallMade (set_of schema.entry) (number_of schema.entry) (built_at arena.old place) call.now result
         (built_at arena.new place) }
-    ensures planted { IsBuilt arena.new place }
-    ensures changes { ChangesIn place arena.old arena.new }
+    ensures frame { LeavesStruct place arena.old arena.new }
 {
     walk(arena, place, schema, call.path, Ending { alloc, call })
 }
@@ -47,8 +47,7 @@ fn make_calls(
     ensures made { IfOk result (λ replies. MakesCalls (set_of schema.entry) (number_of schema.entry)
         (built_at arena.old place) calls.now replies.items
         (built_at arena.new place)) }
-    ensures planted { IsBuilt arena.new place }
-    ensures changes { ChangesIn place arena.old arena.new }
+    ensures frame { LeavesStruct place arena.old arena.new }
     ensures refused { OnErr result (segment arena.new ≡ segment arena.old) }
     ensures cause { IfErr result (λ e. e.kind ≡ OutOfMemory) }
 {
@@ -84,8 +83,7 @@ pub fn run_on(
         (built_at arena.new place)) }
     ensures rests { IfOk result (λ replies. RestsWhole schema.entry (built_at arena.old place) calls.now replies.items) }
     ensures kept { KeepsSize (built_at arena.old place) (built_at arena.new place) }
-    ensures planted { IsBuilt arena.new place }
-    ensures changes { ChangesIn place arena.old arena.new }
+    ensures frame { LeavesStruct place arena.old arena.new }
     ensures refused { OnErr result (segment arena.new ≡ segment arena.old) }
     ensures cause { IfErr result (λ e. e.kind ≡ OutOfMemory) }
 {

@@ -1,6 +1,7 @@
 //! The walk of a path: a step after another, each into a part of what the one before it entered.
+ghost use Rattle.capnp_arena.specs.Frame.{LeavesStruct};
 ghost use Rattle.capnp_arena.specs.Segment.{segment};
-ghost use Rattle.capnp_arena.specs.Built.{ChangesIn, IsBuilt, built_at};
+ghost use Rattle.capnp_arena.specs.Built.{built_at};
 ghost use Rattle.std.specs.Prelude.{[]};
 ghost use Rattle.capnp_wire.specs.Tree.{Null};
 ghost use Rattle.capnp_schema.specs.Entries.{lists_seen};
@@ -48,8 +49,7 @@ pub fn walk(
         (built_at arena.new place) }
     ensures rests { PathRests schema.entry path.now end.entry (built_at arena.old place)
         → IsNotForRoom (reply_seen result) }
-    ensures planted { IsBuilt arena.new place }
-    ensures changes { ChangesIn place arena.old arena.new }
+    ensures frame { LeavesStruct place arena.old arena.new }
 {
     let mut reply = Reply::Done;
     walk_all(arena, place, schema, path, end, &mut reply);

@@ -8,8 +8,9 @@ use Rattle.capnp_wire.specs.Edits.{with_pointer_tree}
 use Rattle.capnp_wire.specs.Elements.{with_pointer_element, with_struct_element}
 use Rattle.capnp_wire.specs.Reading.{element_pointer}
 use Rattle.capnp_wire.specs.Tree.{StructTree, Tree}
-use Rattle.capnp_arena.specs.Built.{ChangesIn, IsBuilt, LeavesIn, built_at, place_words}
+use Rattle.capnp_arena.specs.Built.{ChangesIn, LeavesIn, built_at, place_words}
 use Rattle.capnp_arena.specs.Forest.{Changes, Forest, PartChanges, Planted, struct_from, tree}
+use Rattle.capnp_arena.specs.Frame.{LeavesPointer, LeavesStruct}
 use Rattle.capnp_arena.specs.Leaves.{Leaves}
 use Rattle.capnp_arena.specs.Segment.{segment}
 use Rattle.capnp_arena.specs.Shape.{shape_at}
@@ -54,8 +55,7 @@ pub record IsPartOf (owner : MutBor Arena) (p : Place) (i : ℕ) (s : StructTree
   pub arena : MutBor Arena
   pub there : IsAtPointer arena p i v
   pub same : arena.ghost_name ≡ owner.ghost_name
-  pub planted : IsBuilt arena.now p
-  pub changes : ChangesIn p owner.now arena.now
+  pub frame : LeavesStruct p owner.now arena.now
   pub becomes : built_at arena.now p ≡ s
 
 -- a group that was got is the same struct, of the same message; in one that was started anew nothing else has changed
@@ -102,8 +102,7 @@ pub record IsElementOf (owner : MutBor Arena) (list j : ℕ) (x : Tree) (v : Bui
   pub arena : MutBor Arena
   pub there : IsAtElement arena list j v
   pub same : arena.ghost_name ≡ owner.ghost_name
-  pub forest : Forest (segment arena.now) list
-  pub changes : Changes list (segment owner.now) (segment arena.now)
+  pub frame : LeavesPointer list owner.now arena.now
   pub becomes : tree (segment arena.now) list ≡ x
 
 -- a value is struct j of the list at a word, in the same message: what is made of the struct, the list has there

@@ -1,9 +1,10 @@
 //! Lists of calls on a struct that is built, at its place or by its builder.
 ghost use Rattle.std.specs.Prelude.{◌≡◌, IfErr, IfOk, OnErr};
 ghost use Rattle.capnp_device.specs.declared.error.ErrorKind.TheVariants.{OutOfMemory};
+ghost use Rattle.capnp_arena.specs.Frame.{LeavesStruct};
 ghost use Rattle.capnp_arena.specs.Segment.{segment};
 ghost use Rattle.capnp_schema.specs.StructHandles.{IsStruct, number_of, set_of};
-ghost use Rattle.capnp_arena.specs.Built.{ChangesIn, IsBuilt, built_at};
+ghost use Rattle.capnp_arena.specs.Built.{built_at};
 ghost use Rattle.capnp_slots.specs.Groups.{KeepsSize};
 ghost use Rattle.capnp_dynamic.specs.Built.{IsReady, built_schema, built_struct, place_of, struct_behind};
 ghost use Rattle.capnp_call.specs.Runs.{MakesCalls, RestsWhole, RunsTo};
@@ -37,8 +38,7 @@ pub fn run(
     ensures rests { IfOk result (λ replies. RestsWhole (built_schema root.entry)
         (built_struct root.entry) calls.now replies.items) }
     ensures kept { KeepsSize (built_struct root.entry) (built_at root.exit.0.now (place_of root.entry)) }
-    ensures planted { IsBuilt root.exit.0.now (place_of root.entry) }
-    ensures changes { ChangesIn (place_of root.entry) (struct_behind root.entry).now root.exit.0.now }
+    ensures frame { LeavesStruct (place_of root.entry) (struct_behind root.entry).now root.exit.0.now }
     ensures refused { OnErr result (segment root.exit.0.now ≡ segment (struct_behind root.entry).now) }
     ensures cause { IfErr result (λ e. e.kind ≡ OutOfMemory) }
 {

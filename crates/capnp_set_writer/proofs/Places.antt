@@ -9,7 +9,8 @@ use Rattle.capnp_wire.specs.declared.size.StructSize.{StructSize}
 use Rattle.capnp_arena.specs.Built.{IsBuilt, built_at, place_words}
 use Rattle.capnp_arena.specs.Facts.Laws.{IsInStruct, in_struct, struct_is, struct_planted}
 use Rattle.capnp_arena.specs.Facts.Places.{at_then, data_of, pointers_of}
-use Rattle.capnp_arena.specs.Forest.{Changes, Forest, PartChanges, Planted, struct_from, tree}
+use Rattle.capnp_arena.specs.Forest.{Changes, Forest, tree}
+use Rattle.capnp_arena.specs.Frame.{LeavesPointer, LeavesStruct}
 use Rattle.capnp_arena.specs.Segment.{segment}
 use Rattle.capnp_arena.specs.Shape.{shape_at}
 use Rattle.capnp_arena.specs.declared.arena.Arena.{Arena}
@@ -46,15 +47,14 @@ pub new_struct : (a : Arena) (at : ℕ) (p : Place) (d q : ℕ) (size : StructSi
 new_struct a at p d q size f e t x y =
     new_by_tree a p d q (struct_planted (segment a) at p.start p.data_words p.pointers f e) (struct_is (segment a) at p.start p.data_words p.pointers (zero_struct size) f e t ∙ blank_of d q size x y)
 
--- A pointer that had another target leads to this tree now.
-pub record IsMade (at : ℕ) (t : Tree) (old new : List ℕ) : Type 0 where
-  pub forest : Forest new at
-  pub tree : tree new at ≡ t
-  pub changes : Changes at old new
+-- A pointer that had another target leads to this tree now, and nothing else has changed.
+pub record IsMade (at : ℕ) (t : Tree) (old new : Arena) : Type 0 where
+  pub frame : LeavesPointer at old new
+  pub tree : tree (segment new) at ≡ t
 
 -- a call in the struct that was made
-pub made : {o m n : List ℕ} (at : ℕ) (p : Place) {s : StructTree} → Forest m at → shape_at m at ≡ place_words p → Changes at o m → Planted n (place_words p) → PartChanges (place_words p) m n
-    → struct_from n p.start p.data_words p.pointers ≡ s → IsMade at (struct_tree s) o n
-made {o} {m} {n} at p f e c g x q =
-    let z : IsInStruct m n at p.start p.data_words p.pointers = in_struct m n at p.start p.data_words p.pointers f e g x in
-    record { forest = z.forest; tree = z.tree ∙ ap struct_tree q; changes = at_then c z.changes }
+pub made : (o : Arena) {m n : Arena} (at : ℕ) (p : Place) {s : StructTree} → Forest (segment m) at → shape_at (segment m) at ≡ place_words p → Changes at (segment o) (segment m) → LeavesStruct p m n → built_at n p ≡ s
+    → IsMade at (struct_tree s) o n
+made o {m} {n} at p f e c g q =
+    let z : IsInStruct (segment m) (segment n) at p.start p.data_words p.pointers = in_struct (segment m) (segment n) at p.start p.data_words p.pointers f e g.planted g.changes in
+    record { frame = record { forest = z.forest; changes = at_then c z.changes }; tree = z.tree ∙ ap struct_tree q }

@@ -1,6 +1,7 @@
 //! Fields and nodes, as their records are written.
 ghost use Rattle.std.specs.Prelude.{◌≡◌, IfErr, OnOk};
-ghost use Rattle.capnp_arena.specs.Built.{ChangesIn, IsBuilt, built_at};
+ghost use Rattle.capnp_arena.specs.Frame.{LeavesStruct};
+ghost use Rattle.capnp_arena.specs.Built.{built_at};
 ghost use Rattle.capnp_schema.specs.Schema.{Field, Node, seen_field, seen_kind, seen_node};
 ghost use Rattle.capnp_set_writer.specs.Kept.{AreSectionsKept, FieldKept, KindKept, NodeKept};
 ghost use Rattle.capnp_set_writer.specs.Limits.{DefaultHasForm, DefaultHasKind, FieldHasForm, FieldHasKinds, NodeHasForm, NodeHasKinds};
@@ -20,8 +21,7 @@ use capnp_wire::size::StructSize;
 /// Refused as the default.
 fn put_kind(arena: &mut Arena, place: Place, kind: &FieldKind) -> Result<()>
     requires { HasSections 1 3 arena.old place }
-    ensures planted { OnOk result (IsBuilt arena.new place) }
-    ensures changes { OnOk result (ChangesIn place arena.old arena.new) }
+    ensures frame { OnOk result (LeavesStruct place arena.old arena.new) }
     ensures written { OnOk result (built_at arena.new place ≡ kind_written (seen_kind kind.now) (built_at arena.old place)) }
     ensures kept { OnOk result (KindKept (seen_kind kind.now)) }
     ensures fits { OnOk result (DefaultHasForm (seen_kind kind.now)) }
@@ -77,8 +77,7 @@ impl Part for FieldRecord {
 /// Puts the numbers of a node.
 fn put_sections(arena: &mut Arena, place: Place, node: &NodeRecord)
     requires { HasSections 3 3 arena.old place }
-    ensures planted { IsBuilt arena.new place }
-    ensures changes { ChangesIn place arena.old arena.new }
+    ensures frame { LeavesStruct place arena.old arena.new }
     ensures written { built_at arena.new place ≡ sections_written (seen_node node.now) (built_at arena.old place) }
     ensures kept { AreSectionsKept (seen_node node.now) }
 {

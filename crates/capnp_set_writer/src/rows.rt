@@ -7,8 +7,9 @@ ghost use Rattle.capnp_wire.specs.Elements.{HasStruct, with_struct_element};
 ghost use Rattle.capnp_wire.specs.Locate.{words_past_format};
 ghost use Rattle.capnp_wire.specs.Place.{struct_tree};
 ghost use Rattle.capnp_wire.specs.Reading.{element_struct};
-ghost use Rattle.capnp_arena.specs.Built.{ChangesIn, IsBuilt, built_at};
-ghost use Rattle.capnp_arena.specs.Forest.{Changes, Forest, tree};
+ghost use Rattle.capnp_arena.specs.Frame.{LeavesPointer, LeavesStruct};
+ghost use Rattle.capnp_arena.specs.Built.{IsBuilt, built_at};
+ghost use Rattle.capnp_arena.specs.Forest.{Forest, tree};
 ghost use Rattle.capnp_arena.specs.Segment.{segment};
 ghost use Rattle.capnp_arena.specs.Shape.{word_count};
 ghost use Rattle.capnp_set_writer.specs.Limits.{ListFits};
@@ -54,8 +55,7 @@ pub(crate) trait Part {
     /// or list is too long for the format or a type has more than 65,535 lists around it, and else with `OutOfMemory`.
     fn put(&self, arena: &mut Arena, place: Place) -> Result<()>
         requires { IsNew data_words pointers arena.old place }
-        ensures planted { OnOk result (IsBuilt arena.new place) }
-        ensures changes { OnOk result (ChangesIn place arena.old arena.new) }
+        ensures frame { OnOk result (LeavesStruct place arena.old arena.new) }
         ensures written { OnOk result (built_at arena.new place ≡ tree (seen self.now)) }
         ensures kept { OnOk result (kept (seen self.now)) }
         ensures fits { OnOk result (fits (seen self.now)) }
@@ -67,8 +67,7 @@ pub(crate) trait Part {
 /// Refused as `Part::put`.
 fn put_struct<T: Part>(arena: &mut Arena, at: usize, part: &T) -> Result<()>
     requires inside { at < word_count (segment arena.old) }
-    ensures forest { OnOk result (Forest (segment arena.new) at) }
-    ensures changes { OnOk result (Changes at (segment arena.old) (segment arena.new)) }
+    ensures frame { OnOk result (LeavesPointer at arena.old arena.new) }
     ensures written { OnOk result (tree (segment arena.new) at ≡ struct_tree (T.tree (T.seen part.now))) }
     ensures kept { OnOk result (T.kept (T.seen part.now)) }
     ensures fits { OnOk result (T.fits (T.seen part.now)) }
@@ -85,8 +84,7 @@ fn put_struct<T: Part>(arena: &mut Arena, at: usize, part: &T) -> Result<()>
 pub(crate) fn put_part<T: Part>(arena: &mut Arena, place: Place, index: u16, part: &T) -> Result<()>
     requires planted { IsBuilt arena.old place }
     requires inside { index < place.pointers }
-    ensures planted { OnOk result (IsBuilt arena.new place) }
-    ensures changes { OnOk result (ChangesIn place arena.old arena.new) }
+    ensures frame { OnOk result (LeavesStruct place arena.old arena.new) }
     ensures written { OnOk result (built_at arena.new place ≡
         with_pointer_tree (built_at arena.old place) index (struct_tree (T.tree (T.seen part.now)))) }
     ensures kept { OnOk result (T.kept (T.seen part.now)) }
@@ -103,8 +101,7 @@ fn put_element<T: Part>(arena: &mut Arena, at: usize, index: u32, part: &T) -> R
     requires forest { Forest (segment arena.old) at }
     requires there { HasStruct (tree (segment arena.old) at) index }
     requires blank { element_struct (tree (segment arena.old) at) index ≡ blank T.data_words T.pointers }
-    ensures forest { OnOk result (Forest (segment arena.new) at) }
-    ensures changes { OnOk result (Changes at (segment arena.old) (segment arena.new)) }
+    ensures frame { OnOk result (LeavesPointer at arena.old arena.new) }
     ensures written { OnOk result (tree (segment arena.new) at
         ≡ with_struct_element index (T.tree (T.seen part.now)) (tree (segment arena.old) at)) }
     ensures kept { OnOk result (T.kept (T.seen part.now)) }
@@ -123,8 +120,7 @@ fn fill_list<T: Part>(arena: &mut Arena, at: usize, parts: &[T]) -> Result<()>
         Composite T.data_words T.pointers (filled_rows (blank T.data_words T.pointers)
         (map T.tree (map T.seen parts.now)) 0) }
     requires few { length parts.now < words_past_format }
-    ensures forest { OnOk result (Forest (segment arena.new) at) }
-    ensures changes { OnOk result (Changes at (segment arena.old) (segment arena.new)) }
+    ensures frame { OnOk result (LeavesPointer at arena.old arena.new) }
     ensures written { OnOk result (tree (segment arena.new) at
         ≡ struct_list_tree T.data_words T.pointers (map T.tree (map T.seen parts.now))) }
     ensures kept { OnOk result (All T.kept (map T.seen parts.now)) }
@@ -159,8 +155,7 @@ pub(crate) fn count_of(parts: usize) -> Result<u32>
 /// `Part::put`.
 pub(crate) fn put_list<T: Part>(arena: &mut Arena, at: usize, parts: &[T]) -> Result<()>
     requires inside { at < word_count (segment arena.old) }
-    ensures forest { OnOk result (Forest (segment arena.new) at) }
-    ensures changes { OnOk result (Changes at (segment arena.old) (segment arena.new)) }
+    ensures frame { OnOk result (LeavesPointer at arena.old arena.new) }
     ensures written { OnOk result (tree (segment arena.new) at
         ≡ struct_list_tree T.data_words T.pointers (map T.tree (map T.seen parts.now))) }
     ensures kept { OnOk result (All T.kept (map T.seen parts.now)) }
@@ -184,8 +179,7 @@ pub(crate) fn put_parts<T: Part>(
 ) -> Result<()>
     requires planted { IsBuilt arena.old place }
     requires inside { index < place.pointers }
-    ensures planted { OnOk result (IsBuilt arena.new place) }
-    ensures changes { OnOk result (ChangesIn place arena.old arena.new) }
+    ensures frame { OnOk result (LeavesStruct place arena.old arena.new) }
     ensures written { OnOk result (built_at arena.new place ≡
         with_pointer_tree (built_at arena.old place) index
         (struct_list_tree T.data_words T.pointers (map T.tree (map T.seen parts.now)))) }

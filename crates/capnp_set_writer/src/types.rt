@@ -5,8 +5,9 @@ ghost use Rattle.capnp_wire.specs.Tree.{Pointers};
 ghost use Rattle.capnp_wire.specs.Edits.{with_pointer_tree};
 ghost use Rattle.capnp_wire.specs.Elements.{HasPointer, with_pointer_element};
 ghost use Rattle.capnp_wire.specs.Locate.{words_past_format};
-ghost use Rattle.capnp_arena.specs.Built.{ChangesIn, IsBuilt, built_at};
-ghost use Rattle.capnp_arena.specs.Forest.{Changes, Forest, tree};
+ghost use Rattle.capnp_arena.specs.Frame.{LeavesPointer, LeavesStruct};
+ghost use Rattle.capnp_arena.specs.Built.{IsBuilt, built_at};
+ghost use Rattle.capnp_arena.specs.Forest.{Forest, tree};
 ghost use Rattle.capnp_arena.specs.Segment.{segment};
 ghost use Rattle.capnp_arena.specs.Shape.{word_count};
 ghost use Rattle.capnp_schema.specs.Types.{SchemaType, seen_type, seen_variant};
@@ -132,8 +133,7 @@ impl Part for Type {
 fn put_row(arena: &mut Arena, at: usize, index: u32, types: &[Type]) -> Result<()>
     requires forest { Forest (segment arena.old) at }
     requires there { HasPointer (tree (segment arena.old) at) index }
-    ensures forest { OnOk result (Forest (segment arena.new) at) }
-    ensures changes { OnOk result (Changes at (segment arena.old) (segment arena.new)) }
+    ensures frame { OnOk result (LeavesPointer at arena.old arena.new) }
     ensures written { OnOk result (tree (segment arena.new) at
         ≡ with_pointer_element index (types_tree (map seen_type types.now)) (tree (segment arena.old) at)) }
     ensures kept { OnOk result (All TypeKept (map seen_type types.now)) }
@@ -150,8 +150,7 @@ fn fill_rows(arena: &mut Arena, at: usize, rows: &[Vec<Type>]) -> Result<()>
     requires new { tree (segment arena.old) at
         ≡ Pointers (filled_trees (map types_tree (map (λ row. map seen_type row.items) rows.now)) 0) }
     requires few { length rows.now < words_past_format }
-    ensures forest { OnOk result (Forest (segment arena.new) at) }
-    ensures changes { OnOk result (Changes at (segment arena.old) (segment arena.new)) }
+    ensures frame { OnOk result (LeavesPointer at arena.old arena.new) }
     ensures written { OnOk result (tree (segment arena.new) at
         ≡ type_lists_tree (map (λ row. map seen_type row.items) rows.now)) }
     ensures kept { OnOk result (All (All TypeKept) (map (λ row. map seen_type row.items) rows.now)) }
@@ -170,8 +169,7 @@ fn fill_rows(arena: &mut Arena, at: usize, rows: &[Vec<Type>]) -> Result<()>
 /// Refused with `SizePastFormat` where there are 2^29 lists or more, and as `put_list`.
 fn put_rows(arena: &mut Arena, at: usize, rows: &[Vec<Type>]) -> Result<()>
     requires inside { at < word_count (segment arena.old) }
-    ensures forest { OnOk result (Forest (segment arena.new) at) }
-    ensures changes { OnOk result (Changes at (segment arena.old) (segment arena.new)) }
+    ensures frame { OnOk result (LeavesPointer at arena.old arena.new) }
     ensures written { OnOk result (tree (segment arena.new) at
         ≡ type_lists_tree (map (λ row. map seen_type row.items) rows.now)) }
     ensures kept { OnOk result (All (All TypeKept) (map (λ row. map seen_type row.items) rows.now)) }
@@ -195,8 +193,7 @@ pub(crate) fn put_type_lists(
 ) -> Result<()>
     requires planted { IsBuilt arena.old place }
     requires inside { index < place.pointers }
-    ensures planted { OnOk result (IsBuilt arena.new place) }
-    ensures changes { OnOk result (ChangesIn place arena.old arena.new) }
+    ensures frame { OnOk result (LeavesStruct place arena.old arena.new) }
     ensures written { OnOk result (built_at arena.new place ≡
         with_pointer_tree (built_at arena.old place) index
         (type_lists_tree (map (λ row. map seen_type row.items) rows.now))) }

@@ -3,7 +3,8 @@ ghost use Rattle.std.specs.Prelude.{◌≡◌, ◌≢◌, ◌≤◌, ◌<◌, �
 ghost use Rattle.capnp_wire.specs.Tree.{Numbers};
 ghost use Rattle.capnp_wire.specs.Edits.{with_pointer_tree};
 ghost use Rattle.capnp_wire.specs.WellFormed.{AreBytes};
-ghost use Rattle.capnp_arena.specs.Built.{ChangesIn, IsBuilt, built_at};
+ghost use Rattle.capnp_arena.specs.Frame.{LeavesStruct};
+ghost use Rattle.capnp_arena.specs.Built.{built_at};
 ghost use Rattle.capnp_base.specs.Text.{text_tree};
 ghost use Rattle.capnp_schema.specs.Builtin.{zero_word};
 ghost use Rattle.capnp_schema.specs.Ranges.{IsSigned};
@@ -32,8 +33,7 @@ fn put_kind<T: PrimitiveElement>(
 ) -> Result<()>
     requires new { IsNew 2 1 arena.old place }
     requires inside { (offset + 1) * T.width ≤ 16 }
-    ensures planted { IsBuilt arena.new place }
-    ensures changes { ChangesIn place arena.old arena.new }
+    ensures frame { LeavesStruct place arena.old arena.new }
     ensures written { built_at arena.new place ≡ number_put T.width offset (T.to_number value)
         (number_put 2 0 kind (blank 2 1)) }
     ensures done { IsOk result }
@@ -46,8 +46,7 @@ fn put_kind<T: PrimitiveElement>(
 /// Stores the number of a value's kind, and puts its text.
 fn put_kind_text(arena: &mut Arena, place: Place, kind: u16, text: &[u8]) -> Result<()>
     requires { IsNew 2 1 arena.old place }
-    ensures planted { OnOk result (IsBuilt arena.new place) }
-    ensures changes { OnOk result (ChangesIn place arena.old arena.new) }
+    ensures frame { OnOk result (LeavesStruct place arena.old arena.new) }
     ensures written { OnOk result (built_at arena.new place
         ≡ with_pointer_tree (number_put 2 0 kind (blank 2 1)) 0 (text_tree text.now)) }
     ensures kept { AreBytes text.now }
@@ -61,8 +60,7 @@ fn put_kind_text(arena: &mut Arena, place: Place, kind: u16, text: &[u8]) -> Res
 /// Stores the number of a value's kind, and puts its data.
 fn put_kind_data(arena: &mut Arena, place: Place, kind: u16, bytes: &[u8]) -> Result<()>
     requires { IsNew 2 1 arena.old place }
-    ensures planted { OnOk result (IsBuilt arena.new place) }
-    ensures changes { OnOk result (ChangesIn place arena.old arena.new) }
+    ensures frame { OnOk result (LeavesStruct place arena.old arena.new) }
     ensures written { OnOk result (built_at arena.new place
         ≡ with_pointer_tree (number_put 2 0 kind (blank 2 1)) 0 (Numbers 1 bytes.now)) }
     ensures kept { AreBytes bytes.now }
@@ -83,8 +81,7 @@ pub(crate) fn bit_number(bit: bool) -> u8
 /// Puts a signed number of one byte. Never refused.
 fn put_int8(arena: &mut Arena, place: Place, number: i8) -> Result<()>
     requires { IsNew 2 1 arena.old place }
-    ensures planted { IsBuilt arena.new place }
-    ensures changes { ChangesIn place arena.old arena.new }
+    ensures frame { LeavesStruct place arena.old arena.new }
     ensures written { built_at arena.new place ≡ value_tree (IntValue 1 number) }
     ensures kept { IsSigned 1 number }
     ensures done { IsOk result }
@@ -95,8 +92,7 @@ fn put_int8(arena: &mut Arena, place: Place, number: i8) -> Result<()>
 /// Puts a signed number of two bytes. Never refused.
 fn put_int16(arena: &mut Arena, place: Place, number: i16) -> Result<()>
     requires { IsNew 2 1 arena.old place }
-    ensures planted { IsBuilt arena.new place }
-    ensures changes { ChangesIn place arena.old arena.new }
+    ensures frame { LeavesStruct place arena.old arena.new }
     ensures written { built_at arena.new place ≡ value_tree (IntValue 2 number) }
     ensures kept { IsSigned 2 number }
     ensures done { IsOk result }
@@ -107,8 +103,7 @@ fn put_int16(arena: &mut Arena, place: Place, number: i16) -> Result<()>
 /// Puts a signed number of four bytes. Never refused.
 fn put_int32(arena: &mut Arena, place: Place, number: i32) -> Result<()>
     requires { IsNew 2 1 arena.old place }
-    ensures planted { IsBuilt arena.new place }
-    ensures changes { ChangesIn place arena.old arena.new }
+    ensures frame { LeavesStruct place arena.old arena.new }
     ensures written { built_at arena.new place ≡ value_tree (IntValue 4 number) }
     ensures kept { IsSigned 4 number }
     ensures done { IsOk result }
@@ -119,8 +114,7 @@ fn put_int32(arena: &mut Arena, place: Place, number: i32) -> Result<()>
 /// Puts a signed number of eight bytes. Never refused.
 fn put_int64(arena: &mut Arena, place: Place, number: i64) -> Result<()>
     requires { IsNew 2 1 arena.old place }
-    ensures planted { IsBuilt arena.new place }
-    ensures changes { ChangesIn place arena.old arena.new }
+    ensures frame { LeavesStruct place arena.old arena.new }
     ensures written { built_at arena.new place ≡ value_tree (IntValue 8 number) }
     ensures kept { IsSigned 8 number }
     ensures done { IsOk result }
@@ -142,8 +136,7 @@ fn is_null(words: &[u8]) -> bool
 /// `OutOfMemory`.
 fn put_list_words(arena: &mut Arena, place: Place, words: &[u8]) -> Result<()>
     requires { IsNew 2 1 arena.old place }
-    ensures planted { OnOk result (IsBuilt arena.new place) }
-    ensures changes { OnOk result (ChangesIn place arena.old arena.new) }
+    ensures frame { OnOk result (LeavesStruct place arena.old arena.new) }
     ensures written { OnOk result (built_at arena.new place
         ≡ with_pointer_tree (number_put 2 0 14 (blank 2 1)) 0 (Numbers 1 words.now)) }
     ensures kept { OnOk result ((words.now ≢ []) × AreBytes words.now) }
@@ -161,8 +154,7 @@ fn put_list_words(arena: &mut Arena, place: Place, words: &[u8]) -> Result<()>
 /// Refused with `UnknownKind` for every other value, and with `OutOfMemory`.
 fn put_untyped(arena: &mut Arena, place: Place, words: &[u8]) -> Result<()>
     requires { IsNew 2 1 arena.old place }
-    ensures planted { OnOk result (IsBuilt arena.new place) }
-    ensures changes { OnOk result (ChangesIn place arena.old arena.new) }
+    ensures frame { OnOk result (LeavesStruct place arena.old arena.new) }
     ensures written { OnOk result (built_at arena.new place
         ≡ with_pointer_tree (number_put 2 0 14 (blank 2 1)) 0 (Numbers 1 [])) }
     ensures kept { OnOk result (words.now ≡ zero_word) }
@@ -177,8 +169,7 @@ fn put_untyped(arena: &mut Arena, place: Place, words: &[u8]) -> Result<()>
 /// Puts a value.
 fn put_value(arena: &mut Arena, place: Place, value: &ValueRecord) -> Result<()>
     requires { IsNew 2 1 arena.old place }
-    ensures planted { OnOk result (IsBuilt arena.new place) }
-    ensures changes { OnOk result (ChangesIn place arena.old arena.new) }
+    ensures frame { OnOk result (LeavesStruct place arena.old arena.new) }
     ensures written { OnOk result (built_at arena.new place ≡ value_tree (seen_value value.now)) }
     ensures kept { OnOk result (ValueKept (seen_value value.now)) }
     ensures fits { OnOk result (ValueHasForm (seen_value value.now)) }

@@ -3,7 +3,8 @@ ghost use Rattle.std.specs.Prelude.{◌≡◌, ◌<◌, ⊤, IfErr, OnOk};
 ghost use Rattle.capnp_wire.specs.Tree.{Numbers};
 ghost use Rattle.capnp_wire.specs.Edits.{with_pointer_tree};
 ghost use Rattle.capnp_wire.specs.WellFormed.{AreBytes};
-ghost use Rattle.capnp_arena.specs.Built.{ChangesIn, IsBuilt, built_at};
+ghost use Rattle.capnp_arena.specs.Frame.{LeavesStruct};
+ghost use Rattle.capnp_arena.specs.Built.{IsBuilt, built_at};
 ghost use Rattle.capnp_base.specs.Text.{text_tree};
 ghost use Rattle.capnp_set_writer.specs.Kept.{IsWrittenName};
 ghost use Rattle.capnp_set_writer.specs.Limits.{IsDataLength, IsTextLength};
@@ -19,8 +20,7 @@ use capnp_wire::error::Result;
 pub(crate) fn put_text(arena: &mut Arena, place: Place, index: u16, text: &[u8]) -> Result<()>
     requires planted { IsBuilt arena.old place }
     requires inside { index < place.pointers }
-    ensures planted { OnOk result (IsBuilt arena.new place) }
-    ensures changes { OnOk result (ChangesIn place arena.old arena.new) }
+    ensures frame { OnOk result (LeavesStruct place arena.old arena.new) }
     ensures written { OnOk result (built_at arena.new place
         ≡ with_pointer_tree (built_at arena.old place) index (text_tree text.now)) }
     ensures bytes { AreBytes text.now }
@@ -37,8 +37,7 @@ pub(crate) fn put_text(arena: &mut Arena, place: Place, index: u16, text: &[u8])
 pub(crate) fn put_data(arena: &mut Arena, place: Place, index: u16, bytes: &[u8]) -> Result<()>
     requires planted { IsBuilt arena.old place }
     requires inside { index < place.pointers }
-    ensures planted { OnOk result (IsBuilt arena.new place) }
-    ensures changes { OnOk result (ChangesIn place arena.old arena.new) }
+    ensures frame { OnOk result (LeavesStruct place arena.old arena.new) }
     ensures written { OnOk result (built_at arena.new place
         ≡ with_pointer_tree (built_at arena.old place) index (Numbers 1 bytes.now)) }
     ensures bytes { AreBytes bytes.now }
@@ -55,8 +54,7 @@ pub(crate) fn put_data(arena: &mut Arena, place: Place, index: u16, bytes: &[u8]
 pub(crate) fn put_name(arena: &mut Arena, place: Place, index: u16, name: &str) -> Result<()>
     requires planted { IsBuilt arena.old place }
     requires inside { index < place.pointers }
-    ensures planted { OnOk result (IsBuilt arena.new place) }
-    ensures changes { OnOk result (ChangesIn place arena.old arena.new) }
+    ensures frame { OnOk result (LeavesStruct place arena.old arena.new) }
     ensures written { OnOk result (built_at arena.new place
         ≡ with_pointer_tree (built_at arena.old place) index (text_tree name.now)) }
     ensures name { IsWrittenName name.now }

@@ -2,8 +2,9 @@
 ghost use Rattle.std.specs.Prelude.{false, true, None, ◌≡◌, ◌≢◌, IfErr, OnErr, OnOk};
 ghost use Rattle.capnp_device.specs.declared.error.ErrorKind.TheVariants.{OutOfMemory};
 ghost use Rattle.capnp_wire.specs.Edits.{IsCopyRefusal};
+ghost use Rattle.capnp_arena.specs.Frame.{LeavesStruct};
 ghost use Rattle.capnp_arena.specs.Segment.{segment};
-ghost use Rattle.capnp_arena.specs.Built.{ChangesIn, IsBuilt, built_at};
+ghost use Rattle.capnp_arena.specs.Built.{IsBuilt, built_at};
 ghost use Rattle.capnp_wire.specs.Standing.{levels_of, struct_levels, struct_of, tree_of};
 ghost use Rattle.capnp_wire.specs.Words.{first_fault};
 ghost use Rattle.capnp_schema.specs.Defaults.{DefaultFits};
@@ -77,8 +78,7 @@ fn put(
     requires slot { IsSlot field }
     requires pointer { IsPointerField field }
     requires room { IsRoomFor field (built_at arena.old place) }
-    ensures planted { OnOk result (IsBuilt arena.new place) }
-    ensures changes { OnOk result (ChangesIn place arena.old arena.new) }
+    ensures frame { OnOk result (LeavesStruct place arena.old arena.new) }
     ensures written { OnOk result (built_at arena.new place
         ≡ slot_with field.entry (At (tree_of pointer.entry)) (built_at arena.old place)) }
     ensures kept { OnOk result (Keeps (names_of field.entry) (built_at arena.old place) (built_at arena.new place)) }
@@ -97,8 +97,7 @@ fn put_empty(arena: &mut Arena, place: StructPlace, field: Field<'_>) -> Result<
     requires pointer { IsPointerField field }
     requires room { IsRoomFor field (built_at arena.old place) }
     requires typed { AnyPointerType ≢ (typed_of field).type }
-    ensures planted { OnOk result (IsBuilt arena.new place) }
-    ensures changes { OnOk result (ChangesIn place arena.old arena.new) }
+    ensures frame { OnOk result (LeavesStruct place arena.old arena.new) }
     ensures written { OnOk result (built_at arena.new place
         ≡ slot_with field.entry (At (empty_tree (typed_of field.entry).type)) (built_at arena.old place)) }
     ensures kept { OnOk result (Keeps (names_of field.entry) (built_at arena.old place) (built_at arena.new place)) }
@@ -125,8 +124,7 @@ fn put_words(
     requires room { IsRoomFor field (built_at arena.old place) }
     requires typed { AnyPointerType ≢ (typed_of field).type }
     requires sound { first_fault (tree_of pointer) ≡ None }
-    ensures planted { OnOk result (IsBuilt arena.new place) }
-    ensures changes { OnOk result (ChangesIn place arena.old arena.new) }
+    ensures frame { OnOk result (LeavesStruct place arena.old arena.new) }
     ensures written { OnOk result (built_at arena.new place
         ≡ slot_with field.entry (At (or_else (tree_of pointer.entry) (empty_tree (typed_of field.entry).type)))
         (built_at arena.old place)) }
@@ -148,8 +146,7 @@ fn put_default(arena: &mut Arena, place: StructPlace, field: Field<'_>) -> Resul
     requires pointer { IsPointerField field }
     requires room { IsRoomFor field (built_at arena.old place) }
     requires typed { AnyPointerType ≢ (typed_of field).type }
-    ensures planted { OnOk result (IsBuilt arena.new place) }
-    ensures changes { OnOk result (ChangesIn place arena.old arena.new) }
+    ensures frame { OnOk result (LeavesStruct place arena.old arena.new) }
     ensures written { OnOk result (built_at arena.new place
         ≡ slot_with field.entry (At (default_in field.entry)) (built_at arena.old place)) }
     ensures kept { OnOk result (Keeps (names_of field.entry) (built_at arena.old place) (built_at arena.new place)) }
@@ -199,8 +196,7 @@ fn copy_pointer(
     requires slot { IsSlot field }
     requires pointer { IsPointerField field }
     requires room { IsRoomFor field (built_at arena.old place) }
-    ensures planted { OnOk result (IsBuilt arena.new place) }
-    ensures changes { OnOk result (ChangesIn place arena.old arena.new) }
+    ensures frame { OnOk result (LeavesStruct place arena.old arena.new) }
     ensures copied { OnOk result (IsCopied field.entry
         (pointer_given field.entry (levels_of pointer.entry) (tree_of pointer.entry))
         (pointer_content field.entry (tree_of pointer.entry)) (built_at arena.old place) (built_at arena.new place)) }
@@ -229,8 +225,7 @@ fn copy_behind(
     requires pointer { IsPointerField field }
     requires is { index ≡ pointer_index field }
     requires room { IsRoomFor field (built_at arena.old place) }
-    ensures planted { OnOk result (IsBuilt arena.new place) }
-    ensures changes { OnOk result (ChangesIn place arena.old arena.new) }
+    ensures frame { OnOk result (LeavesStruct place arena.old arena.new) }
     ensures copied { OnOk result (IsCopiedFrom field.entry (struct_levels source.now) (struct_of source.now)
         (built_at arena.old place)
         (built_at arena.new place)) }
@@ -247,8 +242,7 @@ fn copy_number(arena: &mut Arena, place: StructPlace, field: Field<'_>, source: 
     requires slot { IsSlot field }
     requires number { is_pointer (typed_of field).type ≡ false }
     requires room { IsRoomFor field (built_at arena.old place) }
-    ensures planted { IsBuilt arena.new place }
-    ensures changes { ChangesIn place arena.old arena.new }
+    ensures frame { LeavesStruct place arena.old arena.new }
     ensures written { IsCopiedFrom field.entry (struct_levels source.now) (struct_of source.now)
         (built_at arena.old place) (built_at arena.new place) }
 {
@@ -287,8 +281,7 @@ pub fn copy(
     requires planted { IsBuilt arena.old place }
     requires slot { IsSlot field }
     requires room { IsRoomFor field (built_at arena.old place) }
-    ensures planted { OnOk result (IsBuilt arena.new place) }
-    ensures changes { OnOk result (ChangesIn place arena.old arena.new) }
+    ensures frame { OnOk result (LeavesStruct place arena.old arena.new) }
     ensures copied { OnOk result (IsCopiedFrom field.entry (struct_levels source.entry) (struct_of source.entry)
         (built_at arena.old place)
         (built_at arena.new place)) }

@@ -1,7 +1,8 @@
 //! Sources that are copied into a slot.
 ghost use Rattle.std.specs.Prelude.{ℕ, List, ◌≡◌, IfErr, IfOk, OnErr, OnOk};
+ghost use Rattle.capnp_arena.specs.Frame.{LeavesStruct};
 ghost use Rattle.capnp_arena.specs.Segment.{segment};
-ghost use Rattle.capnp_arena.specs.Built.{ChangesIn, IsBuilt, built_at};
+ghost use Rattle.capnp_arena.specs.Built.{IsBuilt, built_at};
 ghost use Rattle.capnp_wire.specs.Tree.{StructTree, Tree};
 ghost use Rattle.capnp_schema.specs.Schema.{Schemas};
 ghost use Rattle.capnp_schema.specs.Types.{SchemaType, seen_variant};
@@ -131,8 +132,7 @@ pub(crate) fn copy_to(
     requires pointer { IsPointerField field }
     requires room { IsRoomFor field (built_at arena.old place) }
     requires copy { IsCopy (source_seen source) }
-    ensures planted { OnOk result (IsBuilt arena.new place) }
-    ensures changes { OnOk result (ChangesIn place arena.old arena.new) }
+    ensures frame { OnOk result (LeavesStruct place arena.old arena.new) }
     ensures written { OnOk result (built_at arena.new place
         ≡ slot_with field.entry (At (source_tree (source_seen source.entry))) (built_at arena.old place)) }
     ensures kept { OnOk result (Keeps (names_of field.entry) (built_at arena.old place) (built_at arena.new place)) }

@@ -1,6 +1,7 @@
 //! Elements of a list that is built.
 ghost use Rattle.std.specs.Prelude.{None, true, ◌≡◌, ◌<◌, ◌^◌, IfErr, IfOk, IsOk, OnErr, OnOk, length};
-ghost use Rattle.capnp_arena.specs.Forest.{Changes, Forest, tree};
+ghost use Rattle.capnp_arena.specs.Frame.{LeavesPointer};
+ghost use Rattle.capnp_arena.specs.Forest.{Forest, tree};
 ghost use Rattle.capnp_arena.specs.Segment.{segment};
 ghost use Rattle.capnp_wire.specs.WellFormed.{IsWellFormed};
 ghost use Rattle.capnp_wire.specs.Edits.{IsCopyRefusal, IsDueRefusal, fitted_struct};
@@ -50,8 +51,7 @@ fn store_element(arena: &mut Arena, at: usize, variant: TypeVariant, index: u32,
     requires forest { Forest (segment arena.old) at }
     requires room { HasElementThere (seen_variant variant) (tree (segment arena.old) at) index }
     requires fits { number < 2 ^ width (seen_variant variant) }
-    ensures forest { Forest (segment arena.new) at }
-    ensures changes { Changes at (segment arena.old) (segment arena.new) }
+    ensures frame { LeavesPointer at arena.old arena.new }
     ensures written { tree (segment arena.new) at
         ≡ with_element_number (seen_variant variant) (tree (segment arena.old) at) index number }
 {
@@ -106,8 +106,7 @@ pub fn set_primitive(
 ) -> Result<()>
     requires forest { Forest (segment arena.old) at }
     requires room { HasElementThere (seen_type element) (tree (segment arena.old) at) index }
-    ensures forest { OnOk result (Forest (segment arena.new) at) }
-    ensures changes { OnOk result (Changes at (segment arena.old) (segment arena.new)) }
+    ensures frame { OnOk result (LeavesPointer at arena.old arena.new) }
     ensures set { OnOk result (IsElementSet (lists_seen set.now) (seen_type element) (primitive_source value) index
         (tree (segment arena.old) at)
         (tree (segment arena.new) at)) }
@@ -124,8 +123,7 @@ pub fn set_primitive(
 fn set_at<R, S: SetterInput<R>>(arena: &mut Arena, at: usize, index: u32, input: S) -> Result<()>
     requires forest { Forest (segment arena.old) at }
     requires room { HasPointer (tree (segment arena.old) at) index }
-    ensures forest { OnOk result (Forest (segment arena.new) at) }
-    ensures changes { OnOk result (Changes at (segment arena.old) (segment arena.new)) }
+    ensures frame { OnOk result (LeavesPointer at arena.old arena.new) }
     ensures written { OnOk result (tree (segment arena.new) at
         ≡ with_pointer_element index (S.set_tree input) (tree (segment arena.old) at)) }
     ensures sound { OnOk result ((first_fault (S.set_tree input) ≡ None) × IsWellFormed (S.set_tree input)) }
@@ -142,8 +140,7 @@ fn set_at<R, S: SetterInput<R>>(arena: &mut Arena, at: usize, index: u32, input:
 fn copy_at(arena: &mut Arena, at: usize, index: u32, source: &StructReader<'_>) -> Result<()>
     requires forest { Forest (segment arena.old) at }
     requires room { HasStruct (tree (segment arena.old) at) index }
-    ensures forest { OnOk result (Forest (segment arena.new) at) }
-    ensures changes { OnOk result (Changes at (segment arena.old) (segment arena.new)) }
+    ensures frame { OnOk result (LeavesPointer at arena.old arena.new) }
     ensures written { OnOk result (tree (segment arena.new) at
         ≡ with_struct_element index (fitted_struct (length (element_struct (tree (segment arena.old) at) index).bytes)
         (tree_count (element_struct (tree (segment arena.old) at) index).pointers) (struct_of source.now))
@@ -162,8 +159,7 @@ fn set_copied(arena: &mut Arena, at: usize, index: u32, source: Source<'_>) -> R
     requires forest { Forest (segment arena.old) at }
     requires pointer { HasPointer (tree (segment arena.old) at) index }
     requires copy { IsBlobOrList (source_seen source) }
-    ensures forest { OnOk result (Forest (segment arena.new) at) }
-    ensures changes { OnOk result (Changes at (segment arena.old) (segment arena.new)) }
+    ensures frame { OnOk result (LeavesPointer at arena.old arena.new) }
     ensures written { OnOk result (tree (segment arena.new) at
         ≡ with_pointer_element index (source_tree (source_seen source.entry)) (tree (segment arena.old) at)) }
     ensures sound { OnOk result (IsSoundCopy (source_seen source.entry)) }
@@ -198,8 +194,7 @@ fn set_pointed(
     requires room { HasElementThere (seen_type element) (tree (segment arena.old) at) index }
     requires pointed { IsPointed (source_seen source) }
     requires no_struct { NoStruct (source_seen source) }
-    ensures forest { OnOk result (Forest (segment arena.new) at) }
-    ensures changes { OnOk result (Changes at (segment arena.old) (segment arena.new)) }
+    ensures frame { OnOk result (LeavesPointer at arena.old arena.new) }
     ensures set { OnOk result (IsElementSet (lists_seen set.now) (seen_type element) (source_seen source.entry) index
         (tree (segment arena.old) at)
         (tree (segment arena.new) at)) }
@@ -241,8 +236,7 @@ fn set_struct(
 ) -> Result<()>
     requires forest { Forest (segment arena.old) at }
     requires room { HasElementThere (seen_type element) (tree (segment arena.old) at) index }
-    ensures forest { OnOk result (Forest (segment arena.new) at) }
-    ensures changes { OnOk result (Changes at (segment arena.old) (segment arena.new)) }
+    ensures frame { OnOk result (LeavesPointer at arena.old arena.new) }
     ensures set { OnOk result (IsElementSet (lists_seen set.now) (seen_type element)
         (StructSource (Left (struct_levels reader.entry)) (struct_of reader.entry) (number_of schema.entry)) index
         (tree (segment arena.old) at)
@@ -284,8 +278,7 @@ pub fn set(
 ) -> Result<()>
     requires forest { Forest (segment arena.old) at }
     requires room { HasElementThere (seen_type element) (tree (segment arena.old) at) index }
-    ensures forest { OnOk result (Forest (segment arena.new) at) }
-    ensures changes { OnOk result (Changes at (segment arena.old) (segment arena.new)) }
+    ensures frame { OnOk result (LeavesPointer at arena.old arena.new) }
     ensures set { OnOk result (IsElementSet (lists_seen set.now) (seen_type element) (source_seen source.entry) index
         (tree (segment arena.old) at)
         (tree (segment arena.new) at)) }
@@ -316,8 +309,7 @@ fn init_at(
     requires forest { Forest (segment arena.old) at }
     requires inside { HasPointer (tree (segment arena.old) at) index }
     requires is_sized { is_sized (seen_variant variant) ≡ true }
-    ensures forest { OnOk result (Forest (segment arena.new) at) }
-    ensures changes { OnOk result (Changes at (segment arena.old) (segment arena.new)) }
+    ensures frame { OnOk result (LeavesPointer at arena.old arena.new) }
     ensures written { OnOk result (tree (segment arena.new) at
         ≡ with_pointer_element index (initn_tree (lists_seen set.now) (seen_variant variant) count)
         (tree (segment arena.old) at)) }
@@ -349,8 +341,7 @@ pub fn init(
 ) -> Result<()>
     requires forest { Forest (segment arena.old) at }
     requires room { HasElementThere (seen_type element) (tree (segment arena.old) at) index }
-    ensures forest { OnOk result (Forest (segment arena.new) at) }
-    ensures changes { OnOk result (Changes at (segment arena.old) (segment arena.new)) }
+    ensures frame { OnOk result (LeavesPointer at arena.old arena.new) }
     ensures written { OnOk result (tree (segment arena.new) at
         ≡ element_written (seen_type element) (tree (segment arena.old) at) index
         (At (initn_tree (lists_seen set.now) (seen_type element) count))) }
@@ -382,8 +373,7 @@ pub fn fill(arena: &mut Arena, at: usize, set: &SchemaSet, element: Type, index:
     requires forest { Forest (segment arena.old) at }
     requires behind { is_behind (seen_type element) ≡ true }
     requires pointer { HasPointer (tree (segment arena.old) at) index }
-    ensures forest { OnOk result (Forest (segment arena.new) at) }
-    ensures changes { OnOk result (Changes at (segment arena.old) (segment arena.new)) }
+    ensures frame { OnOk result (LeavesPointer at arena.old arena.new) }
     ensures filled { OnOk result (tree (segment arena.new) at
         ≡ with_pointer_element index (element_filled (lists_seen set.now) (seen_type element)
         (element_pointer (tree (segment arena.old) at) index 1))
@@ -410,8 +400,7 @@ fn fill_at(
     requires forest { Forest (segment arena.old) at }
     requires behind { is_behind (seen_variant variant) ≡ true }
     requires pointer { HasPointer (tree (segment arena.old) at) index }
-    ensures forest { OnOk result (Forest (segment arena.new) at) }
-    ensures changes { OnOk result (Changes at (segment arena.old) (segment arena.new)) }
+    ensures frame { OnOk result (LeavesPointer at arena.old arena.new) }
     ensures filled { OnOk result (tree (segment arena.new) at
         ≡ with_pointer_element index (element_filled (lists_seen set.now) (seen_variant variant)
         (element_pointer (tree (segment arena.old) at) index 1))
@@ -436,8 +425,7 @@ fn fill_at(
 fn fill_behind(arena: &mut Arena, at: usize, set: &SchemaSet, variant: TypeVariant) -> Result<()>
     requires forest { Forest (segment arena.old) at }
     requires behind { is_behind (seen_variant variant) ≡ true }
-    ensures forest { OnOk result (Forest (segment arena.new) at) }
-    ensures changes { OnOk result (Changes at (segment arena.old) (segment arena.new)) }
+    ensures frame { OnOk result (LeavesPointer at arena.old arena.new) }
     ensures filled { OnOk result (tree (segment arena.new) at
         ≡ element_filled (lists_seen set.now) (seen_variant variant) (tree (segment arena.old) at)) }
     ensures within { OnOk result (element_due (lists_seen set.now) (seen_variant variant) (tree (segment arena.old) at)
@@ -468,8 +456,7 @@ fn fill_behind(arena: &mut Arena, at: usize, set: &SchemaSet, variant: TypeVaria
 /// What the pointer leads to has to be well-formed.
 pub fn fill_list(arena: &mut Arena, at: usize, set: &SchemaSet, element: Type) -> Result<()>
     requires forest { Forest (segment arena.old) at }
-    ensures forest { OnOk result (Forest (segment arena.new) at) }
-    ensures changes { OnOk result (Changes at (segment arena.old) (segment arena.new)) }
+    ensures frame { OnOk result (LeavesPointer at arena.old arena.new) }
     ensures filled { OnOk result (tree (segment arena.new) at
         ≡ entered_list (lists_seen set.now) (seen_type element) (tree (segment arena.old) at)) }
     ensures within { OnOk result (fill_due (lists_seen set.now) VoidValue (ListType (seen_type element))

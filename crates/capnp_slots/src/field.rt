@@ -1,7 +1,8 @@
 //! Fields of a struct that is built, slots and groups alike.
 ghost use Rattle.std.specs.Prelude.{IfErr, OnErr, OnOk, ◌≡◌};
+ghost use Rattle.capnp_arena.specs.Frame.{LeavesStruct};
 ghost use Rattle.capnp_arena.specs.Segment.{segment};
-ghost use Rattle.capnp_arena.specs.Built.{ChangesIn, IsBuilt, built_at};
+ghost use Rattle.capnp_arena.specs.Built.{IsBuilt, built_at};
 ghost use Rattle.capnp_schema.specs.FieldLists.{typed_of};
 ghost use Rattle.capnp_slots.specs.Copied.{refusal_of};
 ghost use Rattle.capnp_slots.specs.Fields.{IsRoomFor, IsSlot, Keeps, field_set, names_of, slot_with};
@@ -21,7 +22,7 @@ use capnp_wire::error::{Error, ErrorKind, Result};
 /// was copied before, where a copy was refused.
 ///
 /// The struct has to have the sections of the field's schema.
-#[tactic(auto, using(crate::proofs::FieldWrites::slot_was_set, crate::proofs::FieldWrites::group_was_set, crate::specs::Facts::Outcomes::planted_after, crate::specs::Facts::Outcomes::changes_after))]
+#[tactic(auto, using(crate::proofs::FieldWrites::slot_was_set, crate::proofs::FieldWrites::group_was_set, crate::specs::Facts::Outcomes::frame_after))]
 #[inline(always)]
 pub fn set(
     arena: &mut Arena,
@@ -31,8 +32,7 @@ pub fn set(
 ) -> Result<()>
     requires planted { IsBuilt arena.old place }
     requires room { IsRoomFor field (built_at arena.old place) }
-    ensures planted { IsBuilt arena.new place }
-    ensures changes { ChangesIn place arena.old arena.new }
+    ensures frame { LeavesStruct place arena.old arena.new }
     ensures set { IsFieldSet field.entry (source_seen source.entry) (built_at arena.old place) (refusal_of result)
         (built_at arena.new place) }
     ensures kept { Keeps (names_of field.entry) (built_at arena.old place) (built_at arena.new place) }
@@ -50,13 +50,12 @@ pub fn set(
 /// Refused as `slot::init`; then nothing has changed.
 ///
 /// The struct has to have the sections of the field's schema.
-#[tactic(auto, using(crate::proofs::FieldWrites::slot_was_init, crate::proofs::FieldWrites::group_was_init, crate::specs::Facts::Outcomes::planted_after, crate::specs::Facts::Outcomes::changes_after))]
+#[tactic(auto, using(crate::proofs::FieldWrites::slot_was_init, crate::proofs::FieldWrites::group_was_init, crate::specs::Facts::Outcomes::frame_after))]
 #[inline(always)]
 pub fn init(arena: &mut Arena, place: StructPlace, field: Field<'_>) -> Result<()>
     requires planted { IsBuilt arena.old place }
     requires room { IsRoomFor field (built_at arena.old place) }
-    ensures planted { IsBuilt arena.new place }
-    ensures changes { ChangesIn place arena.old arena.new }
+    ensures frame { LeavesStruct place arena.old arena.new }
     ensures init { IsFieldInit field.entry (built_at arena.old place) (refusal_of result) (built_at arena.new place) }
     ensures kept { OnOk result (Keeps (names_of field.entry) (built_at arena.old place) (built_at arena.new place)) }
     ensures refused { OnErr result (segment arena.new ≡ segment arena.old) }
@@ -75,13 +74,12 @@ pub fn init(arena: &mut Arena, place: StructPlace, field: Field<'_>) -> Result<(
 /// changed.
 ///
 /// The struct has to have the sections of the field's schema.
-#[tactic(auto, using(crate::specs::Facts::Outcomes::planted_after, crate::specs::Facts::Outcomes::changes_after))]
+#[tactic(auto, using(crate::specs::Facts::Outcomes::frame_after))]
 #[inline(always)]
 pub fn initn(arena: &mut Arena, place: StructPlace, field: Field<'_>, count: u32) -> Result<()>
     requires planted { IsBuilt arena.old place }
     requires room { IsRoomFor field (built_at arena.old place) }
-    ensures planted { IsBuilt arena.new place }
-    ensures changes { ChangesIn place arena.old arena.new }
+    ensures frame { LeavesStruct place arena.old arena.new }
     ensures slot { OnOk result (IsSlot field.entry) }
     ensures written { OnOk result (built_at arena.new place
         ≡ slot_with field.entry (initn_content field.entry count) (built_at arena.old place)) }
@@ -105,8 +103,7 @@ pub fn initn(arena: &mut Arena, place: StructPlace, field: Field<'_>, count: u32
 pub fn clear(arena: &mut Arena, place: StructPlace, field: Field<'_>)
     requires planted { IsBuilt arena.old place }
     requires room { IsRoomFor field (built_at arena.old place) }
-    ensures planted { IsBuilt arena.new place }
-    ensures changes { ChangesIn place arena.old arena.new }
+    ensures frame { LeavesStruct place arena.old arena.new }
     ensures cleared { built_at arena.new place ≡ field_cleared field.entry (built_at arena.old place) }
     ensures kept { Keeps (names_of field.entry) (built_at arena.old place) (built_at arena.new place) }
 {

@@ -2,8 +2,9 @@
 ghost use Rattle.std.specs.Prelude.{None, false, ◌≡◌, ◌≢◌, ◌<◌, IfErr, IsOk, OnErr, OnOk};
 ghost use Rattle.capnp_wire.specs.Defaults.{default_tree, filled_list_refusal, filled_struct, filled_struct_refusal, filled_structs, filled_structs_refusal, or_default, takes_default};
 ghost use Rattle.capnp_wire.specs.Edits.{HoldsStruct, IsDueRefusal, extended_struct, struct_in, struct_refusal};
+ghost use Rattle.capnp_arena.specs.Frame.{LeavesStruct};
 ghost use Rattle.capnp_arena.specs.Segment.{segment};
-ghost use Rattle.capnp_arena.specs.Built.{ChangesIn, IsBuilt, built_at};
+ghost use Rattle.capnp_arena.specs.Built.{IsBuilt, built_at};
 ghost use Rattle.capnp_wire.specs.Place.{struct_tree};
 ghost use Rattle.capnp_wire.specs.StructLists.{HoldsStructs};
 ghost use Rattle.capnp_slots.specs.Steps.Fills.{HoldsThere, IsThere, tree_there};
@@ -24,8 +25,7 @@ pub(crate) fn fill_struct(
 ) -> Result<()>
     requires planted { IsBuilt arena.old place }
     requires inside { IsThere (built_at arena.old place) index }
-    ensures planted { OnOk result (IsBuilt arena.new place) }
-    ensures changes { OnOk result (ChangesIn place arena.old arena.new) }
+    ensures frame { OnOk result (LeavesStruct place arena.old arena.new) }
     ensures ok { OnOk result (HoldsThere (built_at arena.old place) index (built_at arena.new place)
         (struct_tree (filled_struct (default_tree default.entry) size (tree_there (built_at arena.old place) index)))) }
     ensures within { OnOk result (filled_struct_refusal (default_tree default.entry)
@@ -50,8 +50,7 @@ pub(crate) fn extend_struct(
 ) -> Result<()>
     requires planted { IsBuilt arena.old place }
     requires inside { IsThere (built_at arena.old place) index }
-    ensures planted { OnOk result (IsBuilt arena.new place) }
-    ensures changes { OnOk result (ChangesIn place arena.old arena.new) }
+    ensures frame { OnOk result (LeavesStruct place arena.old arena.new) }
     ensures ok { OnOk result (HoldsThere (built_at arena.old place) index (built_at arena.new place)
         (struct_tree (extended_struct size (struct_in (tree_there (built_at arena.old place) index))))) }
     ensures within { OnOk result (struct_refusal (tree_there (built_at arena.old place) index) ≡ None) }
@@ -75,8 +74,7 @@ pub(crate) fn fill_list(
     requires planted { IsBuilt arena.old place }
     requires inside { IsThere (built_at arena.old place) index }
     requires simple { size ≢ ElementSize.InlineComposite }
-    ensures planted { OnOk result (IsBuilt arena.new place) }
-    ensures changes { OnOk result (ChangesIn place arena.old arena.new) }
+    ensures frame { OnOk result (LeavesStruct place arena.old arena.new) }
     ensures ok { OnOk result (HoldsThere (built_at arena.old place) index (built_at arena.new place)
         (or_default (default_tree default.entry) (tree_there (built_at arena.old place) index))) }
     ensures within { OnOk result (filled_list_refusal (default_tree default.entry) size
@@ -104,8 +102,7 @@ pub(crate) fn fill_structs(
 ) -> Result<()>
     requires planted { IsBuilt arena.old place }
     requires inside { IsThere (built_at arena.old place) index }
-    ensures planted { OnOk result (IsBuilt arena.new place) }
-    ensures changes { OnOk result (ChangesIn place arena.old arena.new) }
+    ensures frame { OnOk result (LeavesStruct place arena.old arena.new) }
     ensures ok { OnOk result (HoldsThere (built_at arena.old place) index (built_at arena.new place)
         (filled_structs (default_tree default.entry) size (tree_there (built_at arena.old place) index))) }
     ensures within { OnOk result (filled_structs_refusal (default_tree default.entry) size

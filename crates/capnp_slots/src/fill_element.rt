@@ -2,7 +2,8 @@
 ghost use Rattle.std.specs.Prelude.{None, ◌≡◌, ◌≢◌, IfErr, IsOk, OnErr, OnOk};
 ghost use Rattle.capnp_wire.specs.Defaults.{error_of, list_refusal};
 ghost use Rattle.capnp_wire.specs.Edits.{IsDueRefusal};
-ghost use Rattle.capnp_arena.specs.Forest.{Changes, Forest, tree};
+ghost use Rattle.capnp_arena.specs.Frame.{LeavesPointer};
+ghost use Rattle.capnp_arena.specs.Forest.{Forest, tree};
 ghost use Rattle.capnp_arena.specs.Segment.{segment};
 ghost use Rattle.capnp_wire.specs.StructLists.{HoldsStructs, struct_list, struct_list_refusal};
 ghost use Rattle.capnp_slots.specs.Copied.{refusal_of};
@@ -41,8 +42,7 @@ pub(crate) fn check_list(arena: &Arena, at: usize, size: ElementSize) -> Result<
 /// where the structs would take 2^29 words or more, and else with `OutOfMemory`; then nothing has changed.
 pub(crate) fn extend_structs(arena: &mut Arena, at: usize, size: StructSize) -> Result<()>
     requires forest { Forest (segment arena.old) at }
-    ensures forest { OnOk result (Forest (segment arena.new) at) }
-    ensures changes { OnOk result (Changes at (segment arena.old) (segment arena.new)) }
+    ensures frame { OnOk result (LeavesPointer at arena.old arena.new) }
     ensures ok { OnOk result (tree (segment arena.new) at ≡ struct_list size (tree (segment arena.old) at)) }
     ensures within { OnOk result (struct_list_refusal size (tree (segment arena.old) at) ≡ None) }
     ensures refused { OnErr result (segment arena.new ≡ segment arena.old) }

@@ -1,7 +1,7 @@
 //! Groups of a struct that is built: their fields lie in the struct's own sections.
 ghost use Rattle.std.specs.Prelude.{◌≡◌, ◌≤◌, length, MatchOption};
-ghost use Rattle.capnp_arena.specs.Segment.{segment};
-ghost use Rattle.capnp_arena.specs.Built.{ChangesIn, IsBuilt, built_at};
+ghost use Rattle.capnp_arena.specs.Frame.{LeavesStruct};
+ghost use Rattle.capnp_arena.specs.Built.{IsBuilt, built_at};
 ghost use Rattle.capnp_schema.specs.FieldLists.{IsFound, index_of};
 ghost use Rattle.capnp_schema.specs.StructHandles.{number_of, set_of, struct_fields};
 ghost use Rattle.capnp_records.specs.Writes.Slots.{Fits};
@@ -80,8 +80,7 @@ fn clear_slot<'s>(
 ) -> Option<StructSchema<'s>>
     requires planted { IsBuilt arena.old place }
     requires room { IsRoomFor field (built_at arena.old place) }
-    ensures planted { IsBuilt arena.new place }
-    ensures changes { ChangesIn place arena.old arena.new }
+    ensures frame { LeavesStruct place arena.old arena.new }
     ensures cleared { MatchOption result (IsSlotCleared field.entry (built_at arena.old place) (built_at arena.new place))
         (λ group. IsGroupAt field.entry group
         × (built_at arena.new place ≡ switched_to field.entry (built_at arena.old place))) }
@@ -117,8 +116,7 @@ pub(crate) fn clear_group(
 )
     requires planted { IsBuilt arena.old place }
     requires room { Fits (set_of schema) (number_of schema) (built_at arena.old place) }
-    ensures planted { IsBuilt arena.new place }
-    ensures changes { ChangesIn place arena.old arena.new }
+    ensures frame { LeavesStruct place arena.old arena.new }
     ensures cleared { built_at arena.new place ≡ cleared_through groups (set_of schema.entry) (number_of schema.entry)
         (built_at arena.old place) }
     ensures kept { KeepsSize (built_at arena.old place) (built_at arena.new place) }
@@ -175,8 +173,7 @@ pub fn clear(arena: &mut Arena, place: StructPlace, field: Field<'_>)
     requires planted { IsBuilt arena.old place }
     requires group { IsGroup field }
     requires room { IsRoomFor field (built_at arena.old place) }
-    ensures planted { IsBuilt arena.new place }
-    ensures changes { ChangesIn place arena.old arena.new }
+    ensures frame { LeavesStruct place arena.old arena.new }
     ensures cleared { built_at arena.new place ≡ group_without field.entry (built_at arena.old place) }
     ensures kept { Keeps (names_of field.entry) (built_at arena.old place) (built_at arena.new place) }
 {
@@ -196,8 +193,7 @@ pub fn init(arena: &mut Arena, place: StructPlace, field: Field<'_>)
     requires planted { IsBuilt arena.old place }
     requires group { IsGroup field }
     requires room { IsRoomFor field (built_at arena.old place) }
-    ensures planted { IsBuilt arena.new place }
-    ensures changes { ChangesIn place arena.old arena.new }
+    ensures frame { LeavesStruct place arena.old arena.new }
     ensures cleared { built_at arena.new place ≡ group_without field.entry (built_at arena.old place) }
     ensures kept { Keeps (names_of field.entry) (built_at arena.old place) (built_at arena.new place) }
 {
@@ -215,8 +211,7 @@ fn copy(
     requires planted { IsBuilt arena.old place }
     requires group { IsGroupAt field group }
     requires room { IsRoomFor field (built_at arena.old place) }
-    ensures planted { IsBuilt arena.new place }
-    ensures changes { ChangesIn place arena.old arena.new }
+    ensures frame { LeavesStruct place arena.old arena.new }
     ensures copied { IsCopiedInto field.entry group.entry source.entry (built_at arena.old place) (refusal_of result)
         (built_at arena.new place) }
     ensures kept { Keeps (names_of field.entry) (built_at arena.old place) (built_at arena.new place) }
@@ -248,8 +243,7 @@ pub fn set(
     requires planted { IsBuilt arena.old place }
     requires group { IsGroup field }
     requires room { IsRoomFor field (built_at arena.old place) }
-    ensures planted { IsBuilt arena.new place }
-    ensures changes { ChangesIn place arena.old arena.new }
+    ensures frame { LeavesStruct place arena.old arena.new }
     ensures set { IsGroupSet field.entry (given_to_group field.entry (source_seen source.entry))
         (built_at arena.old place) (refusal_of result)
         (built_at arena.new place) }

@@ -1,7 +1,7 @@
 //! Copies of a group out of a struct of its schema that is read, field by field.
 ghost use Rattle.std.specs.Prelude.{◌≡◌, ◌≤◌, ◌<◌, length};
-ghost use Rattle.capnp_arena.specs.Segment.{segment};
-ghost use Rattle.capnp_arena.specs.Built.{ChangesIn, IsBuilt, built_at};
+ghost use Rattle.capnp_arena.specs.Frame.{LeavesStruct};
+ghost use Rattle.capnp_arena.specs.Built.{IsBuilt, built_at};
 ghost use Rattle.capnp_schema.specs.FieldLists.{IsFound};
 ghost use Rattle.capnp_schema.specs.Laws.{group_height};
 ghost use Rattle.capnp_schema.specs.StructHandles.{number_of, set_of, struct_fields};
@@ -65,8 +65,7 @@ fn copied_at<'s>(
 fn clear_whole(arena: &mut Arena, place: StructPlace, schema: StructSchema<'_>)
     requires planted { IsBuilt arena.old place }
     requires room { Fits (set_of schema) (number_of schema) (built_at arena.old place) }
-    ensures planted { IsBuilt arena.new place }
-    ensures changes { ChangesIn place arena.old arena.new }
+    ensures frame { LeavesStruct place arena.old arena.new }
     ensures cleared { built_at arena.new place
         ≡ cleared_group (set_of schema.entry) (number_of schema.entry) (built_at arena.old place) }
     ensures kept { KeepsSize (built_at arena.old place) (built_at arena.new place) }
@@ -79,8 +78,7 @@ fn open(arena: &mut Arena, place: StructPlace, field: Field<'_>, group: StructSc
     requires planted { IsBuilt arena.old place }
     requires group { IsGroupAt field group }
     requires room { IsRoomFor field (built_at arena.old place) }
-    ensures planted { IsBuilt arena.new place }
-    ensures changes { ChangesIn place arena.old arena.new }
+    ensures frame { LeavesStruct place arena.old arena.new }
     ensures cleared { built_at arena.new place
         ≡ cleared_group (set_of group.entry) (number_of group.entry) (switched_to field.entry (built_at arena.old place)) }
     ensures kept { KeepsSize (built_at arena.old place) (built_at arena.new place) }
@@ -101,8 +99,7 @@ pub(crate) fn copy_group(
     requires planted { IsBuilt arena.old place }
     requires room { Fits (set_of schema) (number_of schema) (built_at arena.old place) }
     requires height { group_height (set_of schema) (number_of schema) < groups }
-    ensures planted { IsBuilt arena.new place }
-    ensures changes { ChangesIn place arena.old arena.new }
+    ensures frame { LeavesStruct place arena.old arena.new }
     ensures copied { IsCopiedThrough groups schema.entry source.entry (built_at arena.old place) (refusal_of result)
         (built_at arena.new place) }
     ensures kept { KeepsSize (built_at arena.old place) (built_at arena.new place) }

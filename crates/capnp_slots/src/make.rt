@@ -3,7 +3,8 @@ ghost use Rattle.std.specs.Prelude.{false, true, ◌-◌, ◌*◌, ◌+◌, ◌<
 ghost use Rattle.capnp_device.specs.declared.error.ErrorKind.TheVariants.{OutOfMemory};
 ghost use Rattle.capnp_wire.specs.Edits.{zero_list, zero_struct, zero_structs};
 ghost use Rattle.capnp_wire.specs.Locate.{words_past_format};
-ghost use Rattle.capnp_arena.specs.Forest.{Changes, Forest, tree};
+ghost use Rattle.capnp_arena.specs.Frame.{LeavesPointer};
+ghost use Rattle.capnp_arena.specs.Forest.{tree};
 ghost use Rattle.capnp_arena.specs.Segment.{segment};
 ghost use Rattle.capnp_arena.specs.Shape.{word_count};
 ghost use Rattle.capnp_wire.specs.Place.{struct_tree};
@@ -46,8 +47,7 @@ pub fn size_of(schema: StructSchema<'_>) -> StructSize
 /// Refused with `OutOfMemory`, and then nothing has changed; so is each call below.
 pub(crate) fn make_struct(arena: &mut Arena, at: usize, size: StructSize) -> Result<()>
     requires there { at < word_count (segment arena.old) }
-    ensures forest { OnOk result (Forest (segment arena.new) at) }
-    ensures changes { OnOk result (Changes at (segment arena.old) (segment arena.new)) }
+    ensures frame { OnOk result (LeavesPointer at arena.old arena.new) }
     ensures ok { OnOk result (tree (segment arena.new) at ≡ struct_tree (zero_struct size)) }
     ensures formed { OnOk result (IsWellFormed (struct_tree (zero_struct size))) }
     ensures refused { OnErr result (segment arena.new ≡ segment arena.old) }
@@ -63,8 +63,7 @@ pub(crate) fn make_struct(arena: &mut Arena, at: usize, size: StructSize) -> Res
 #[tactic(auto, using(crate::proofs::NewLists::new_text))]
 fn make_text(arena: &mut Arena, at: usize, count: u32) -> Result<()>
     requires there { at < word_count (segment arena.old) }
-    ensures forest { OnOk result (Forest (segment arena.new) at) }
-    ensures changes { OnOk result (Changes at (segment arena.old) (segment arena.new)) }
+    ensures frame { OnOk result (LeavesPointer at arena.old arena.new) }
     ensures ok { OnOk result (tree (segment arena.new) at ≡ text_tree (replicate count 0)) }
     ensures within { OnOk result (nat_lt (words_past_format - 2) count ≡ false) }
     ensures formed { OnOk result (IsWellFormed (text_tree (replicate count 0))) }
@@ -85,8 +84,7 @@ fn make_text(arena: &mut Arena, at: usize, count: u32) -> Result<()>
 fn make_list(arena: &mut Arena, at: usize, size: ElementSize, count: u32) -> Result<()>
     requires there { at < word_count (segment arena.old) }
     requires kind { size ≢ ElementSize.InlineComposite }
-    ensures forest { OnOk result (Forest (segment arena.new) at) }
-    ensures changes { OnOk result (Changes at (segment arena.old) (segment arena.new)) }
+    ensures frame { OnOk result (LeavesPointer at arena.old arena.new) }
     ensures ok { OnOk result (tree (segment arena.new) at ≡ zero_list size count) }
     ensures within { OnOk result (nat_lt (words_past_format - 1) count ≡ false) }
     ensures formed { OnOk result (IsWellFormed (zero_list size count)) }
@@ -103,8 +101,7 @@ fn make_list(arena: &mut Arena, at: usize, size: ElementSize, count: u32) -> Res
 /// `OutOfMemory`.
 fn make_structs(arena: &mut Arena, at: usize, size: StructSize, count: u32) -> Result<()>
     requires there { at < word_count (segment arena.old) }
-    ensures forest { OnOk result (Forest (segment arena.new) at) }
-    ensures changes { OnOk result (Changes at (segment arena.old) (segment arena.new)) }
+    ensures frame { OnOk result (LeavesPointer at arena.old arena.new) }
     ensures ok { OnOk result (tree (segment arena.new) at ≡ zero_structs size count) }
     ensures within { OnOk result ((nat_lt (words_past_format - 1) (count * (size.data_words + size.pointers)) || nat_lt
         (words_past_format - 1) count) ≡ false) }
@@ -128,8 +125,7 @@ fn make_elements(
     count: u32,
 ) -> Result<()>
     requires there { at < word_count (segment arena.old) }
-    ensures forest { OnOk result (Forest (segment arena.new) at) }
-    ensures changes { OnOk result (Changes at (segment arena.old) (segment arena.new)) }
+    ensures frame { OnOk result (LeavesPointer at arena.old arena.new) }
     ensures ok { OnOk result (tree (segment arena.new) at ≡ new_list (lists_seen set.now) (seen_type element) count) }
     ensures within { OnOk result (elements_past (lists_seen set.now) (seen_type element) count ≡ false) }
     ensures formed { OnOk result (IsWellFormed (new_list (lists_seen set.now) (seen_type element) count)) }
@@ -168,8 +164,7 @@ pub(crate) fn make_sized(
 ) -> Result<()>
     requires there { at < word_count (segment arena.old) }
     requires kind { is_sized (seen_variant variant) ≡ true }
-    ensures forest { OnOk result (Forest (segment arena.new) at) }
-    ensures changes { OnOk result (Changes at (segment arena.old) (segment arena.new)) }
+    ensures frame { OnOk result (LeavesPointer at arena.old arena.new) }
     ensures ok { OnOk result (tree (segment arena.new) at
         ≡ initn_tree (lists_seen set.now) (seen_variant variant) count) }
     ensures within { OnOk result (InitnContent (lists_seen set.now) count (seen_variant variant)
@@ -191,8 +186,7 @@ pub(crate) fn make_sized(
 /// Refused with `OutOfMemory`; so is the call below.
 fn make_empty_list(arena: &mut Arena, at: usize, size: ElementSize) -> Result<()>
     requires there { at < word_count (segment arena.old) }
-    ensures forest { OnOk result (Forest (segment arena.new) at) }
-    ensures changes { OnOk result (Changes at (segment arena.old) (segment arena.new)) }
+    ensures frame { OnOk result (LeavesPointer at arena.old arena.new) }
     ensures ok { OnOk result (tree (segment arena.new) at ≡ empty_list size) }
     ensures formed { OnOk result (IsWellFormed (empty_list size)) }
     ensures refused { OnErr result (segment arena.new ≡ segment arena.old) }
@@ -214,8 +208,7 @@ pub(crate) fn make_empty(arena: &mut Arena, at: usize, variant: TypeVariant) -> 
     requires there { at < word_count (segment arena.old) }
     requires pointer { is_pointer (seen_variant variant) ≡ true }
     requires typed { AnyPointerType ≢ seen_variant variant }
-    ensures forest { OnOk result (Forest (segment arena.new) at) }
-    ensures changes { OnOk result (Changes at (segment arena.old) (segment arena.new)) }
+    ensures frame { OnOk result (LeavesPointer at arena.old arena.new) }
     ensures ok { OnOk result (tree (segment arena.new) at ≡ empty_tree (seen_variant variant)) }
     ensures formed { OnOk result (IsWellFormed (empty_tree (seen_variant variant))) }
     ensures refused { OnErr result (segment arena.new ≡ segment arena.old) }

@@ -1,8 +1,9 @@
 //! Parts of a struct that is built: what a builder's `get` of a slot fills, and what it lends.
 ghost use Rattle.std.specs.Prelude.{List, ℕ, None, false, true, ◌≡◌, IfErr, IfOk, IsOk, OnErr, OnOk};
+ghost use Rattle.capnp_arena.specs.Frame.{LeavesStruct};
 ghost use Rattle.capnp_arena.specs.Forest.{Changes, Forest, tree};
 ghost use Rattle.capnp_arena.specs.Segment.{segment};
-ghost use Rattle.capnp_arena.specs.Built.{ChangesIn, IsBuilt, LeavesIn, built_at};
+ghost use Rattle.capnp_arena.specs.Built.{IsBuilt, LeavesIn, built_at};
 ghost use Rattle.capnp_wire.specs.Defaults.{default_tree as reader_tree, error_of};
 ghost use Rattle.capnp_wire.specs.Reading.{is_null_tree};
 ghost use Rattle.capnp_records.specs.Writes.TreeCopy.{or_else};
@@ -51,8 +52,7 @@ fn fill_elements(
 ) -> Result<()>
     requires planted { IsBuilt arena.old place }
     requires inside { IsThere (built_at arena.old place) index }
-    ensures planted { OnOk result (IsBuilt arena.new place) }
-    ensures changes { OnOk result (ChangesIn place arena.old arena.new) }
+    ensures frame { OnOk result (LeavesStruct place arena.old arena.new) }
     ensures written { IsListFilled (lists_seen set.now) (seen_type element) (reader_tree default.entry)
         (built_at arena.old place) index result (built_at arena.new place) }
     ensures refused { OnErr result (segment arena.new ≡ segment arena.old) }
@@ -79,8 +79,7 @@ fn fill_null(arena: &mut Arena, place: StructPlace, field: Field<'_>, index: u16
     requires pointer { IsPointerField field }
     requires is { index ≡ pointer_index field }
     requires inside { IsThere (built_at arena.old place) index }
-    ensures planted { OnOk result (IsBuilt arena.new place) }
-    ensures changes { OnOk result (ChangesIn place arena.old arena.new) }
+    ensures frame { OnOk result (LeavesStruct place arena.old arena.new) }
     ensures written { IsSlotFilled field.entry (built_at arena.old place) index result (built_at arena.new place) }
     ensures refused { OnErr result (segment arena.new ≡ segment arena.old) }
 {
@@ -108,8 +107,7 @@ fn fill_standing(arena: &mut Arena, place: StructPlace, field: Field<'_>, index:
     requires is { index ≡ pointer_index field }
     requires inside { IsThere (built_at arena.old place) index }
     requires standing { is_null_tree (tree_there (built_at arena.old place) index) ≡ false }
-    ensures planted { OnOk result (IsBuilt arena.new place) }
-    ensures changes { OnOk result (ChangesIn place arena.old arena.new) }
+    ensures frame { OnOk result (LeavesStruct place arena.old arena.new) }
     ensures written { IsSlotFilled field.entry (built_at arena.old place) index result (built_at arena.new place) }
     ensures refused { OnErr result (segment arena.new ≡ segment arena.old) }
 {
@@ -135,8 +133,7 @@ fn fill_slot(arena: &mut Arena, place: StructPlace, field: Field<'_>, index: u16
     requires pointer { IsPointerField field }
     requires is { index ≡ pointer_index field }
     requires inside { IsThere (built_at arena.old place) index }
-    ensures planted { OnOk result (IsBuilt arena.new place) }
-    ensures changes { OnOk result (ChangesIn place arena.old arena.new) }
+    ensures frame { OnOk result (LeavesStruct place arena.old arena.new) }
     ensures written { IsSlotFilled field.entry (built_at arena.old place) index result (built_at arena.new place) }
     ensures refused { OnErr result (segment arena.new ≡ segment arena.old) }
 {
@@ -156,8 +153,7 @@ fn fill_blob(
 ) -> Result<()>
     requires planted { IsBuilt arena.old place }
     requires inside { IsThere (built_at arena.old place) index }
-    ensures planted { OnOk result (IsBuilt arena.new place) }
-    ensures changes { OnOk result (ChangesIn place arena.old arena.new) }
+    ensures frame { OnOk result (LeavesStruct place arena.old arena.new) }
     ensures ok { OnOk result (HoldsThere (built_at arena.old place) index (built_at arena.new place)
         (blob_filled (default_of (typed_of field.entry).field) (tree_there (built_at arena.old place) index))) }
     ensures within { OnOk result (error_of (filled_blob is_text (tree_there (built_at arena.old place) index)) ≡ None) }
@@ -182,8 +178,7 @@ fn put<R, S: SetterInput<R> + Copy>(
 ) -> Result<()>
     requires planted { IsBuilt arena.old place }
     requires inside { IsThere (built_at arena.old place) index }
-    ensures planted { OnOk result (IsBuilt arena.new place) }
-    ensures changes { OnOk result (ChangesIn place arena.old arena.new) }
+    ensures frame { OnOk result (LeavesStruct place arena.old arena.new) }
     ensures ok { OnOk result (HoldsThere (built_at arena.old place) index (built_at arena.new place)
         (or_else (tree_there (built_at arena.old place) index) (S.set_tree input))) }
     ensures refused { OnErr result (segment arena.new ≡ segment arena.old) }
@@ -213,8 +208,7 @@ pub fn fill(arena: &mut Arena, place: StructPlace, field: Field<'_>) -> Result<(
     requires slot { IsSlot field }
     requires pointer { IsPointerField field }
     requires room { IsRoomFor field (built_at arena.old place) }
-    ensures planted { OnOk result (IsBuilt arena.new place) }
-    ensures changes { OnOk result (ChangesIn place arena.old arena.new) }
+    ensures frame { OnOk result (LeavesStruct place arena.old arena.new) }
     ensures filled { OnOk result (built_at arena.new place
         ≡ with_pointer_tree (built_at arena.old place) (pointer_index field.entry)
         (filled_in field.entry (built_at arena.old place))) }
@@ -245,8 +239,7 @@ fn fill_struct_at(
     requires type_is { StructType (number_of schema) (generic_of schema) ≡ (typed_of field).type }
     requires is { index ≡ pointer_index field }
     requires inside { IsThere (built_at arena.old place) index }
-    ensures planted { OnOk result (IsBuilt arena.new place) }
-    ensures changes { OnOk result (ChangesIn place arena.old arena.new) }
+    ensures frame { OnOk result (LeavesStruct place arena.old arena.new) }
     ensures written { IsSlotFilled field.entry (built_at arena.old place) index result (built_at arena.new place) }
     ensures refused { OnErr result (segment arena.new ≡ segment arena.old) }
 {
@@ -272,8 +265,7 @@ pub fn fill_struct_slot(
     requires set { set_of schema ≡ field_set field }
     requires type_is { StructType (number_of schema) (generic_of schema) ≡ (typed_of field).type }
     requires room { IsRoomFor field (built_at arena.old place) }
-    ensures planted { OnOk result (IsBuilt arena.new place) }
-    ensures changes { OnOk result (ChangesIn place arena.old arena.new) }
+    ensures frame { OnOk result (LeavesStruct place arena.old arena.new) }
     ensures filled { OnOk result (built_at arena.new place
         ≡ with_pointer_tree (built_at arena.old place) (pointer_index field.entry)
         (filled_in field.entry (built_at arena.old place))) }
@@ -303,8 +295,7 @@ fn fill_list_at(
     requires type_is { ListType (seen_type element) ≡ (typed_of field).type }
     requires is { index ≡ pointer_index field }
     requires inside { IsThere (built_at arena.old place) index }
-    ensures planted { OnOk result (IsBuilt arena.new place) }
-    ensures changes { OnOk result (ChangesIn place arena.old arena.new) }
+    ensures frame { OnOk result (LeavesStruct place arena.old arena.new) }
     ensures written { IsSlotFilled field.entry (built_at arena.old place) index result (built_at arena.new place) }
     ensures refused { OnErr result (segment arena.new ≡ segment arena.old) }
 {
@@ -330,8 +321,7 @@ pub fn fill_list_slot(
     requires slot { IsSlot field }
     requires type_is { ListType (seen_type element) ≡ (typed_of field).type }
     requires room { IsRoomFor field (built_at arena.old place) }
-    ensures planted { OnOk result (IsBuilt arena.new place) }
-    ensures changes { OnOk result (ChangesIn place arena.old arena.new) }
+    ensures frame { OnOk result (LeavesStruct place arena.old arena.new) }
     ensures filled { OnOk result (built_at arena.new place
         ≡ with_pointer_tree (built_at arena.old place) (pointer_index field.entry)
         (filled_in field.entry (built_at arena.old place))) }
@@ -371,8 +361,7 @@ pub fn get(arena: &mut Arena, place: StructPlace, field: Field<'_>) -> Result<us
     requires slot { IsSlot field }
     requires pointer { IsPointerField field }
     requires room { IsRoomFor field (built_at arena.old place) }
-    ensures planted { OnOk result (IsBuilt arena.new place) }
-    ensures changes { OnOk result (ChangesIn place arena.old arena.new) }
+    ensures frame { OnOk result (LeavesStruct place arena.old arena.new) }
     ensures filled { OnOk result (built_at arena.new place
         ≡ with_pointer_tree (built_at arena.old place) (pointer_index field.entry)
         (filled_in field.entry (built_at arena.old place))) }

@@ -1,7 +1,7 @@
 //! Writes by a field's plan.
 ghost use Rattle.std.specs.Prelude.{◌≡◌, ◌≤◌, ◌<◌, ◌+◌, ◌*◌, ◌^◌, IfSome, IsTrue, bit_xor, length};
-ghost use Rattle.capnp_arena.specs.Segment.{segment};
-ghost use Rattle.capnp_arena.specs.Built.{ChangesIn, IsBuilt, built_at};
+ghost use Rattle.capnp_arena.specs.Frame.{LeavesStruct};
+ghost use Rattle.capnp_arena.specs.Built.{IsBuilt, built_at};
 ghost use Rattle.capnp_wire.specs.Edits.{with_bytes};
 ghost use Rattle.capnp_wire.specs.Tree.{tree_count};
 ghost use Rattle.capnp_schema.specs.Plan.{IsSlotPlace, PlanFits, is_slot_width};
@@ -52,8 +52,7 @@ pub(crate) fn slot_plan(field: Field<'_>) -> SlotPlan
 pub(crate) fn switch_member(arena: &mut Arena, place: StructPlace, member: Option<(u32, u16)>)
     requires planted { IsBuilt arena.old place }
     requires inside { IfSome member (λ m. m.0 + 16 ≤ 8 * length (built_at arena.old place).bytes) }
-    ensures planted { IsBuilt arena.new place }
-    ensures changes { ChangesIn place arena.old arena.new }
+    ensures frame { LeavesStruct place arena.old arena.new }
     ensures switched { built_at arena.new place ≡ member_switched member (built_at arena.old place) }
     ensures data_size { length (built_at arena.new place).bytes ≡ length (built_at arena.old place).bytes }
     ensures pointers { (built_at arena.new place).pointers ≡ (built_at arena.old place).pointers }
@@ -70,8 +69,7 @@ fn store_bits(arena: &mut Arena, place: StructPlace, start: u32, width: u8, bits
     requires width { IsTrue (is_slot_width width) }
     requires inside { start + width ≤ 8 * length (built_at arena.old place).bytes }
     requires fits { bits < 2 ^ width }
-    ensures planted { IsBuilt arena.new place }
-    ensures changes { ChangesIn place arena.old arena.new }
+    ensures frame { LeavesStruct place arena.old arena.new }
     ensures written { built_at arena.new place ≡ with_bytes (built_at arena.old place)
         (with_bits start width bits (built_at arena.old place).bytes) }
 {
@@ -93,8 +91,7 @@ pub(crate) fn store_number(arena: &mut Arena, place: StructPlace, plan: SlotPlan
     requires slot { IsSlotPlace plan.place }
     requires inside { PlanFits plan (built_at arena.old place) }
     requires fits { HoldsNumber plan.place number }
-    ensures planted { IsBuilt arena.new place }
-    ensures changes { ChangesIn place arena.old arena.new }
+    ensures frame { LeavesStruct place arena.old arena.new }
     ensures written { built_at arena.new place ≡ plan_written plan (Bits (bit_xor number (place_mask plan.place)))
         (built_at arena.old place) }
 {
@@ -111,8 +108,7 @@ pub(crate) fn store_number(arena: &mut Arena, place: StructPlace, plan: SlotPlan
 fn clear_pointer(arena: &mut Arena, place: StructPlace, index: u16)
     requires planted { IsBuilt arena.old place }
     requires inside { index < tree_count (built_at arena.old place).pointers }
-    ensures planted { IsBuilt arena.new place }
-    ensures changes { ChangesIn place arena.old arena.new }
+    ensures frame { LeavesStruct place arena.old arena.new }
     ensures written { built_at arena.new place ≡ place_written (Place.Pointer index) (place_cleared (Place.Pointer index))
         (built_at arena.old place) }
 {
@@ -126,8 +122,7 @@ pub(crate) fn clear_plan(arena: &mut Arena, place: StructPlace, plan: SlotPlan)
     requires planted { IsBuilt arena.old place }
     requires slot { IsSlotPlace plan.place }
     requires inside { PlanFits plan (built_at arena.old place) }
-    ensures planted { IsBuilt arena.new place }
-    ensures changes { ChangesIn place arena.old arena.new }
+    ensures frame { LeavesStruct place arena.old arena.new }
     ensures written { built_at arena.new place ≡ plan_written plan (place_cleared plan.place) (built_at arena.old place) }
 {
     let member = plan.member;
@@ -154,8 +149,7 @@ pub(crate) fn copy_bits(
     requires planted { IsBuilt arena.old place }
     requires slot { IsSlotPlace plan.place }
     requires inside { PlanFits plan (built_at arena.old place) }
-    ensures planted { IsBuilt arena.new place }
-    ensures changes { ChangesIn place arena.old arena.new }
+    ensures frame { LeavesStruct place arena.old arena.new }
     ensures written { built_at arena.new place ≡ plan_written plan
         (Bits (place_bits plan.place (struct_of source.now).bytes)) (built_at arena.old place) }
 {

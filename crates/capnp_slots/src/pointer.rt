@@ -11,8 +11,9 @@ ghost use Rattle.capnp_schema.specs.Types.{AnyPointerType, is_pointer, seen_vari
 ghost use Rattle.capnp_slots.specs.Steps.Copied.{empty_tree};
 ghost use Rattle.capnp_slots.specs.Inits.{IsInitnRefusal};
 ghost use Rattle.capnp_slots.specs.Steps.Inits.{is_sized};
+ghost use Rattle.capnp_arena.specs.Frame.{LeavesStruct};
 ghost use Rattle.capnp_arena.specs.Segment.{segment};
-ghost use Rattle.capnp_arena.specs.Built.{ChangesIn, IsBuilt, built_at};
+ghost use Rattle.capnp_arena.specs.Built.{IsBuilt, built_at};
 ghost use Rattle.capnp_wire.specs.Tree.{tree_count};
 ghost use Rattle.capnp_wire.specs.WellFormed.{IsWellFormed};
 ghost use Rattle.capnp_wire.specs.Words.{first_fault};
@@ -54,8 +55,7 @@ pub(crate) fn set_at<R, S: SetterInput<R>>(
 ) -> Result<()>
     requires planted { IsBuilt arena.old place }
     requires inside { index < tree_count (built_at arena.old place).pointers }
-    ensures planted { OnOk result (IsBuilt arena.new place) }
-    ensures changes { OnOk result (ChangesIn place arena.old arena.new) }
+    ensures frame { OnOk result (LeavesStruct place arena.old arena.new) }
     ensures ok { OnOk result (built_at arena.new place
         ≡ with_pointer_tree (built_at arena.old place) index (S.set_tree input)) }
     ensures formed { OnOk result (IsWellFormed (S.set_tree input)) }
@@ -79,8 +79,7 @@ pub(crate) fn make_struct_at(
 ) -> Result<()>
     requires planted { IsBuilt arena.old place }
     requires inside { index < tree_count (built_at arena.old place).pointers }
-    ensures planted { OnOk result (IsBuilt arena.new place) }
-    ensures changes { OnOk result (ChangesIn place arena.old arena.new) }
+    ensures frame { OnOk result (LeavesStruct place arena.old arena.new) }
     ensures ok { OnOk result (built_at arena.new place
         ≡ with_pointer_tree (built_at arena.old place) index (struct_tree (zero_struct size))) }
     ensures formed { OnOk result (IsWellFormed (struct_tree (zero_struct size))) }
@@ -104,8 +103,7 @@ pub(crate) fn make_sized_at(
     requires planted { IsBuilt arena.old place }
     requires inside { index < tree_count (built_at arena.old place).pointers }
     requires is_sized { is_sized (seen_variant variant) ≡ true }
-    ensures planted { OnOk result (IsBuilt arena.new place) }
-    ensures changes { OnOk result (ChangesIn place arena.old arena.new) }
+    ensures frame { OnOk result (LeavesStruct place arena.old arena.new) }
     ensures ok { OnOk result (built_at arena.new place
         ≡ with_pointer_tree (built_at arena.old place) index
         (initn_tree (lists_seen set.now) (seen_variant variant) count)) }
@@ -133,8 +131,7 @@ pub(crate) fn make_empty_at(
     requires inside { index < tree_count (built_at arena.old place).pointers }
     requires pointer { is_pointer (seen_variant variant) ≡ true }
     requires typed { AnyPointerType ≢ seen_variant variant }
-    ensures planted { OnOk result (IsBuilt arena.new place) }
-    ensures changes { OnOk result (ChangesIn place arena.old arena.new) }
+    ensures frame { OnOk result (LeavesStruct place arena.old arena.new) }
     ensures ok { OnOk result (built_at arena.new place
         ≡ with_pointer_tree (built_at arena.old place) index (empty_tree (seen_variant variant))) }
     ensures formed { OnOk result (IsWellFormed (empty_tree (seen_variant variant))) }

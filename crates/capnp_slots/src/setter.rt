@@ -6,7 +6,8 @@ ghost use Rattle.capnp_wire.specs.Locate.{words_past_format};
 ghost use Rattle.capnp_wire.specs.Tree.{Numbers, Tree};
 ghost use Rattle.capnp_wire.specs.WellFormed.{IsWellFormed};
 ghost use Rattle.capnp_wire.specs.Words.{first_fault};
-ghost use Rattle.capnp_arena.specs.Forest.{Changes, Forest, tree};
+ghost use Rattle.capnp_arena.specs.Frame.{LeavesPointer};
+ghost use Rattle.capnp_arena.specs.Forest.{tree};
 ghost use Rattle.capnp_arena.specs.Segment.{segment};
 ghost use Rattle.capnp_arena.specs.Shape.{word_count};
 ghost use Rattle.capnp_base.specs.Text.{text_tree};
@@ -32,10 +33,8 @@ pub trait SetterInput<R> {
     ) -> Result<()>
         requires inside { builder.at < word_count (segment builder.arena.now) }
         requires plain { canonicalize ≡ false }
-        ensures forest { OnOk result (Forest (segment builder.exit.0.now) builder.entry.at) }
+        ensures frame { OnOk result (LeavesPointer builder.entry.at builder.entry.arena.now builder.exit.0.now) }
         ensures tree { OnOk result (tree (segment builder.exit.0.now) builder.entry.at ≡ set_tree input) }
-        ensures changes { OnOk result (Changes builder.entry.at (segment builder.entry.arena.now)
-            (segment builder.exit.0.now)) }
         ensures formed { OnOk result (IsWellFormed (set_tree input)) }
         ensures sound { OnOk result (first_fault (set_tree input) ≡ None) }
         ensures refused { OnErr result (segment builder.exit.0.now ≡ segment builder.entry.arena.now) }
@@ -45,9 +44,8 @@ pub trait SetterInput<R> {
 /// Makes a pointer lead to a text of these bytes.
 fn set_text(arena: &mut Arena, at: usize, bytes: &[u8]) -> Result<()>
     requires { at < word_count (segment arena.old) }
-    ensures forest { OnOk result (Forest (segment arena.new) at) }
+    ensures frame { OnOk result (LeavesPointer at arena.old arena.new) }
     ensures tree { OnOk result (tree (segment arena.new) at ≡ text_tree bytes.now) }
-    ensures changes { OnOk result (Changes at (segment arena.old) (segment arena.new)) }
     ensures formed { OnOk result (IsWellFormed (text_tree bytes.now)) }
     ensures refused { OnErr result (segment arena.new ≡ segment arena.old) }
     ensures cause { IfErr result (λ error. IsRoomRefusal error (words_past_format ≤ length bytes.now + 1)) }

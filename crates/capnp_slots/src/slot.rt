@@ -2,8 +2,9 @@
 ghost use Rattle.std.specs.Prelude.{None, ◌≡◌, IfErr, IfSome, OnErr, OnOk, not};
 ghost use Rattle.capnp_device.specs.declared.error.ErrorKind.TheVariants.{OutOfMemory};
 ghost use Rattle.capnp_wire.specs.Edits.{zero_struct};
+ghost use Rattle.capnp_arena.specs.Frame.{LeavesStruct};
 ghost use Rattle.capnp_arena.specs.Segment.{segment};
-ghost use Rattle.capnp_arena.specs.Built.{ChangesIn, IsBuilt, built_at};
+ghost use Rattle.capnp_arena.specs.Built.{IsBuilt, built_at};
 ghost use Rattle.capnp_wire.specs.Place.{struct_tree};
 ghost use Rattle.capnp_wire.specs.WellFormed.{IsWellFormed};
 ghost use Rattle.capnp_wire.specs.Words.{first_fault};
@@ -50,8 +51,7 @@ pub fn is_slot(field: Field<'_>) -> bool
 pub fn switch(arena: &mut Arena, place: StructPlace, field: Field<'_>)
     requires planted { IsBuilt arena.old place }
     requires room { IsRoomFor field (built_at arena.old place) }
-    ensures planted { IsBuilt arena.new place }
-    ensures changes { ChangesIn place arena.old arena.new }
+    ensures frame { LeavesStruct place arena.old arena.new }
     ensures switched { built_at arena.new place ≡ switched_to field.entry (built_at arena.old place) }
     ensures kept { Keeps (switch_names field.entry) (built_at arena.old place) (built_at arena.new place) }
 {
@@ -95,8 +95,7 @@ pub fn set_primitive(
     requires planted { IsBuilt arena.old place }
     requires slot { IsSlot field }
     requires room { IsRoomFor field (built_at arena.old place) }
-    ensures planted { OnOk result (IsBuilt arena.new place) }
-    ensures changes { OnOk result (ChangesIn place arena.old arena.new) }
+    ensures frame { OnOk result (LeavesStruct place arena.old arena.new) }
     ensures written { OnOk result (built_at arena.new place
         ≡ slot_with field.entry (set_content field.entry (primitive_source value)) (built_at arena.old place)) }
     ensures given { OnOk result (IsGiven (given_to field.entry (primitive_source value))) }
@@ -129,8 +128,7 @@ pub fn set_pointer<R, S: SetterInput<R>>(
     requires slot { IsSlot field }
     requires pointer { IsPointerField field }
     requires room { IsRoomFor field (built_at arena.old place) }
-    ensures planted { OnOk result (IsBuilt arena.new place) }
-    ensures changes { OnOk result (ChangesIn place arena.old arena.new) }
+    ensures frame { OnOk result (LeavesStruct place arena.old arena.new) }
     ensures written { OnOk result (built_at arena.new place
         ≡ slot_with field.entry (At (S.set_tree input)) (built_at arena.old place)) }
     ensures kept { OnOk result (Keeps (names_of field.entry) (built_at arena.old place) (built_at arena.new place)) }
@@ -168,8 +166,7 @@ pub fn set(
     requires planted { IsBuilt arena.old place }
     requires slot { IsSlot field }
     requires room { IsRoomFor field (built_at arena.old place) }
-    ensures planted { OnOk result (IsBuilt arena.new place) }
-    ensures changes { OnOk result (ChangesIn place arena.old arena.new) }
+    ensures frame { OnOk result (LeavesStruct place arena.old arena.new) }
     ensures set { OnOk result (IsSet field.entry (source_seen source.entry) (built_at arena.old place)
         (built_at arena.new place)) }
     ensures kept { Keeps (names_of field.entry) (built_at arena.old place) (built_at arena.new place) }
@@ -194,8 +191,7 @@ fn set_pointed(
     requires slot { IsSlot field }
     requires room { IsRoomFor field (built_at arena.old place) }
     requires pointed { IsPointed (source_seen source) }
-    ensures planted { OnOk result (IsBuilt arena.new place) }
-    ensures changes { OnOk result (ChangesIn place arena.old arena.new) }
+    ensures frame { OnOk result (LeavesStruct place arena.old arena.new) }
     ensures set { OnOk result (IsSet field.entry (source_seen source.entry) (built_at arena.old place)
         (built_at arena.new place)) }
     ensures refused { OnErr result (segment arena.new ≡ segment arena.old) }
@@ -219,8 +215,7 @@ pub fn init(arena: &mut Arena, place: StructPlace, field: Field<'_>) -> Result<(
     requires planted { IsBuilt arena.old place }
     requires slot { IsSlot field }
     requires room { IsRoomFor field (built_at arena.old place) }
-    ensures planted { OnOk result (IsBuilt arena.new place) }
-    ensures changes { OnOk result (ChangesIn place arena.old arena.new) }
+    ensures frame { OnOk result (LeavesStruct place arena.old arena.new) }
     ensures written { OnOk result (built_at arena.new place
         ≡ slot_with field.entry (init_content field.entry) (built_at arena.old place)) }
     ensures has { OnOk result (HasInit field.entry) }
@@ -252,8 +247,7 @@ fn init_struct(
     requires slot { IsSlot field }
     requires pointer { IsPointerField field }
     requires room { IsRoomFor field (built_at arena.old place) }
-    ensures planted { OnOk result (IsBuilt arena.new place) }
-    ensures changes { OnOk result (ChangesIn place arena.old arena.new) }
+    ensures frame { OnOk result (LeavesStruct place arena.old arena.new) }
     ensures written { OnOk result (built_at arena.new place
         ≡ slot_with field.entry (At (struct_tree (zero_struct size))) (built_at arena.old place)) }
     ensures kept { OnOk result (Keeps (names_of field.entry) (built_at arena.old place) (built_at arena.new place)) }
@@ -278,8 +272,7 @@ pub fn initn(arena: &mut Arena, place: StructPlace, field: Field<'_>, count: u32
     requires planted { IsBuilt arena.old place }
     requires slot { IsSlot field }
     requires room { IsRoomFor field (built_at arena.old place) }
-    ensures planted { OnOk result (IsBuilt arena.new place) }
-    ensures changes { OnOk result (ChangesIn place arena.old arena.new) }
+    ensures frame { OnOk result (LeavesStruct place arena.old arena.new) }
     ensures written { OnOk result (built_at arena.new place
         ≡ slot_with field.entry (initn_content field.entry count) (built_at arena.old place)) }
     ensures has { OnOk result (HasInitn field.entry count) }
@@ -308,8 +301,7 @@ pub fn clear(arena: &mut Arena, place: StructPlace, field: Field<'_>)
     requires planted { IsBuilt arena.old place }
     requires slot { IsSlot field }
     requires room { IsRoomFor field (built_at arena.old place) }
-    ensures planted { IsBuilt arena.new place }
-    ensures changes { ChangesIn place arena.old arena.new }
+    ensures frame { LeavesStruct place arena.old arena.new }
     ensures cleared { built_at arena.new place ≡ slot_with field.entry (cleared_content (typed_of field.entry).type)
         (built_at arena.old place) }
     ensures kept { Keeps (names_of field.entry) (built_at arena.old place) (built_at arena.new place) }

@@ -9,7 +9,8 @@ ghost use Rattle.capnp_device.specs.declared.error.ErrorKind.TheVariants.{FieldN
 ghost use Rattle.capnp_wire.specs.Depth.{AreBelow, memory_depth, message_levels};
 ghost use Rattle.capnp_wire.specs.Edits.{IsStructRefusal, extended_struct, struct_in};
 ghost use Rattle.capnp_wire.specs.Standing.{struct_levels, struct_of};
-ghost use Rattle.capnp_arena.specs.Forest.{Changes, Forest, tree};
+ghost use Rattle.capnp_arena.specs.Frame.{LeavesPointer};
+ghost use Rattle.capnp_arena.specs.Forest.{Forest, tree};
 ghost use Rattle.capnp_arena.specs.Same.{IsStructCutOf};
 ghost use Rattle.capnp_arena.specs.Segment.{segment};
 ghost use Rattle.capnp_arena.specs.Shape.{StructIn, shape_at};
@@ -21,7 +22,7 @@ ghost use Rattle.capnp_schema.specs.Types.{seen_type};
 ghost use Rattle.capnp_schema.specs.declared.schema.fields.Field.{Field};
 ghost use Rattle.capnp_records.specs.Part.{has_of, which_of};
 ghost use Rattle.capnp_records.specs.Writes.Slots.{Fits};
-ghost use Rattle.capnp_arena.specs.Built.{ChangesIn, IsBuilt, built_at};
+ghost use Rattle.capnp_arena.specs.Built.{ChangesIn, built_at};
 ghost use Rattle.capnp_slots.specs.Copied.{refusal_of};
 ghost use Rattle.capnp_slots.specs.Fields.{IsSlot, Keeps, names_of};
 ghost use Rattle.capnp_slots.specs.FieldWrites.{IsFieldSet, field_cleared};
@@ -88,11 +89,10 @@ impl<'a> Builder<'a> {
         ensures same { IfOk result (λ b. (struct_behind b).ghost_name ≡ pointer.entry.arena.ghost_name) }
         ensures ready { IfOk result IsReady }
         ensures schema { IfOk result (λ b. built_schema b ≡ schema.entry) }
-        ensures forest { IfOk result (λ b. Forest (segment (struct_behind b).now) pointer.entry.at) }
+        ensures frame { IfOk result (λ b. LeavesPointer pointer.entry.at pointer.entry.arena.now
+            (struct_behind b).now) }
         ensures place { IfOk result (λ b. shape_at (segment (struct_behind b).now) pointer.entry.at
             ≡ StructIn (place_of b).start (place_of b).data_words (place_of b).pointers) }
-        ensures changes { IfOk result (λ b. Changes pointer.entry.at (segment pointer.entry.arena.now)
-            (segment (struct_behind b).now)) }
         ensures now { IfOk result (λ b. built_struct b ≡
             extended_struct (brand_size (set_of schema.entry) (number_of schema.entry))
             (struct_in (tree (segment pointer.entry.arena.now) pointer.entry.at))) }

@@ -2,14 +2,17 @@
 use Rattle.std.specs.Prelude.{ℕ, ◌≡◌, List, Result, Ok, Err, OnOk, OnErr}
 use Rattle.std.proofs.Common.{subst, sym}
 use Rattle.capnp_device.specs.declared.error.Error.{Error}
+use Rattle.capnp_arena.specs.Built.{IsBuilt, place_words}
 use Rattle.capnp_arena.specs.Facts.Places.{unchanged}
-use Rattle.capnp_arena.specs.Forest.{PartChanges, Planted}
-use Rattle.capnp_arena.specs.Shape.{Shape}
+use Rattle.capnp_arena.specs.Forest.{Planted}
+use Rattle.capnp_arena.specs.Frame.{LeavesStruct}
+use Rattle.capnp_arena.specs.Segment.{segment}
+use Rattle.capnp_arena.specs.declared.arena.Arena.{Arena}
+use Rattle.capnp_arena.specs.declared.arena.Place.{Place}
 
-pub planted_after : {A : Type 0} (s : Shape) (old new : List ℕ) (r : Result A Error) → Planted old s → OnOk r (Planted new s) → OnErr r (new ≡ old) → Planted new s
-planted_after s old new (Ok a) before written same = written
-planted_after s old new (Err e) before written same = subst (λ (b : List ℕ). Planted b s) (sym same) before
-
-pub changes_after : {A : Type 0} (s : Shape) (old new : List ℕ) (r : Result A Error) → OnOk r (PartChanges s old new) → OnErr r (new ≡ old) → PartChanges s old new
-changes_after s old new (Ok a) written same = written
-changes_after s old new (Err e) written same = unchanged old new s same
+pub frame_after : {A : Type 0} (place : Place) (old new : Arena) (r : Result A Error) → IsBuilt old place → OnOk r (LeavesStruct place old new) → OnErr r (segment new ≡ segment old) → LeavesStruct place old new
+frame_after place old new (Ok a) before written same = written
+frame_after place old new (Err e) before written same = record {
+  planted = subst (λ (b : List ℕ). Planted b (place_words place)) (sym same) before;
+  changes = unchanged (segment old) (segment new) (place_words place) same;
+}

@@ -24,4 +24,4 @@ pub write_message-requires : goal.write_message-requires
 write_message-requires c =
     let p = c.in_ok-root.root in
     let l = c.pointer-at.ensures.leaves _ c.in_ok-fill_items.ensures.forest (at_then c.in_ok-get_struct_list.ensures.changes c.in_ok-fill_items.ensures.changes) in
-    record { forest = (in_struct _ _ 0 p.start p.data_words p.pointers c.in_ok-root.ensures.forest c.in_ok-root.ensures.place l.planted (then c.in_ok-initn.ensures.changes l.changes)).forest }
+    record { forest = (in_struct _ _ 0 p.start p.data_words p.pointers c.in_ok-root.ensures.forest c.in_ok-root.ensures.place l.planted (then c.in_ok-initn.ensures.frame.changes l.changes)).forest }

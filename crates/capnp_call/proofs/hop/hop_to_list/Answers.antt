@@ -28,7 +28,7 @@ returns c =
       goes = c.in_default.ensures.goes;
       filled = c.in_default.ensures.filled;
       here = c.pointer.ensures.tree ∙ c.in_default.ensures.here;
-      changes = c.in_default.ensures.changes;
+      changes = c.in_default.ensures.frame.changes;
       forest = c.pointer.ensures.forest;
       leaves = c.pointer.ensures.leaves;
     } in

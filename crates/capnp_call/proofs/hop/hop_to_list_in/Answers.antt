@@ -44,6 +44,6 @@ returns c =
     let m = segment c.fill_list.new.arena in
     let p = c.get_pointer_element-pointer.result in
     list_in_leads c.args.word set e c.args.index old m p c.requires.inside (has_pointer set e (tree old c.args.word) c.args.index c.requires.list c.requires.inside) c.get_pointer_element-pointer.ensures.tree
-    c.in_default.ensures.within c.tree_is_sound.ensures.whole c.in_default.ensures.filled c.in_default.ensures.forest c.in_default.ensures.changes c.requires.entries
+    c.in_default.ensures.within c.tree_is_sound.ensures.whole c.in_default.ensures.filled c.in_default.ensures.frame.forest c.in_default.ensures.frame.changes c.requires.entries
     (inner_stands set e (tree old p) (tree m p) c.in_default.ensures.filled c.in_default.ensures.within c.tree_is_sound.ensures.whole c.tree_is_sound-2.ensures.formed)
     c.get_pointer_element-pointer.ensures.leaves (at.List p c.args.set c.args.inner) (λ bytes h. h) (λ old path end k new h. h)

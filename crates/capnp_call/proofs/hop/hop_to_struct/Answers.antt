@@ -30,7 +30,7 @@ returns c =
       goes = c.in_default.ensures.goes;
       filled = c.in_default.ensures.filled;
       here = c.pointer-word.ensures.tree ∙ c.in_default.ensures.here;
-      changes = c.in_default.ensures.changes;
+      changes = c.in_default.ensures.frame.changes;
       forest = c.pointer-word.ensures.forest;
       leaves = c.pointer-word.ensures.leaves;
     } in

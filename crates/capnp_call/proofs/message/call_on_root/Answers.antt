@@ -34,28 +34,28 @@ pub returns-clause-message : goal.returns-clause-message
 returns-clause-message c =
     let p = c.struct_here-place.result in
     let s : IsInStruct (segment c.args.message.now) (segment c.call_at.new.arena) 0 p.start p.data_words p.pointers =
-    in_struct _ _ 0 p.start p.data_words p.pointers c.requires.message c.struct_here-place.ensures.place c.call_at.ensures.planted c.call_at.ensures.changes in
+    in_struct _ _ 0 p.start p.data_words p.pointers c.requires.message c.struct_here-place.ensures.place c.call_at.ensures.frame.planted c.call_at.ensures.frame.changes in
     s.forest
 
 pub returns-clause-here : goal.returns-clause-here
 returns-clause-here c =
     let p = c.struct_here-place.result in
     let s : IsInStruct (segment c.args.message.now) (segment c.call_at.new.arena) 0 p.start p.data_words p.pointers =
-    in_struct _ _ 0 p.start p.data_words p.pointers c.requires.message c.struct_here-place.ensures.place c.call_at.ensures.planted c.call_at.ensures.changes in
+    in_struct _ _ 0 p.start p.data_words p.pointers c.requires.message c.struct_here-place.ensures.place c.call_at.ensures.frame.planted c.call_at.ensures.frame.changes in
     is_struct_root _ _ s.tree
 
 pub returns-clause-room : goal.returns-clause-room
 returns-clause-room c =
     let p = c.struct_here-place.result in
     let s : IsInStruct (segment c.args.message.now) (segment c.call_at.new.arena) 0 p.start p.data_words p.pointers =
-    in_struct _ _ 0 p.start p.data_words p.pointers c.requires.message c.struct_here-place.ensures.place c.call_at.ensures.planted c.call_at.ensures.changes in
+    in_struct _ _ 0 p.start p.data_words p.pointers c.requires.message c.struct_here-place.ensures.place c.call_at.ensures.frame.planted c.call_at.ensures.frame.changes in
     let before = root_standing c.args.schema c.args.message.now p c.requires.message c.struct_here-place.ensures.place c.requires.room in
-    subst (IsUnder c.args.schema) (sym (ap struct_in s.tree)) (standing_on c.args.schema c.args.message.now c.call_at.new.arena p before c.call_at.ensures.planted).room
+    subst (IsUnder c.args.schema) (sym (ap struct_in s.tree)) (standing_on c.args.schema c.args.message.now c.call_at.new.arena p before c.call_at.ensures.frame.planted).room
 
 pub returns-clause-made : goal.returns-clause-made
 returns-clause-made c =
     let p = c.struct_here-place.result in
     let s : IsInStruct (segment c.args.message.now) (segment c.call_at.new.arena) 0 p.start p.data_words p.pointers =
-    in_struct _ _ 0 p.start p.data_words p.pointers c.requires.message c.struct_here-place.ensures.place c.call_at.ensures.planted c.call_at.ensures.changes in
+    in_struct _ _ 0 p.start p.data_words p.pointers c.requires.message c.struct_here-place.ensures.place c.call_at.ensures.frame.planted c.call_at.ensures.frame.changes in
     is_made_here (set_of c.args.schema) (number_of c.args.schema) (message_tree c.args.message.now) (message_tree c.call_at.new.arena) (built_at c.args.message.now p) (built_at c.call_at.new.arena p) c.args.call.now c.call_at.result
     (sym (ap struct_in (tree_struct (segment c.args.message.now) 0 p.start p.data_words p.pointers c.requires.message c.struct_here-place.ensures.place))) s.tree c.call_at.ensures.made

@@ -3,11 +3,12 @@ use Rattle.std.proofs.Common.{◌<◌, ◌+◌, ◌++◌, ◌∷◌, ◌≡◌, 
 use Rattle.std.proofs.lemmas.List.{take_more}
 use Rattle.capnp_schema.specs.StructHandles.{number_of, set_of}
 use Rattle.capnp_arena.specs.Built.{built_at}
+use Rattle.capnp_arena.specs.Facts.Places.{then, unchanged}
 use Rattle.capnp_call.specs.Runs.{MakesCalls}
 use Rattle.capnp_call.specs.declared.calls.Call.{Call}
 use Rattle.capnp_call.specs.declared.calls.Reply.{Reply}
 use Rattle.capnp_call.proofs.Making.{makes_more, makes_none}
-use Rattle.capnp_call.proofs.Sizes.{changes_none, changes_then, standing_on}
+use Rattle.capnp_call.proofs.Sizes.{standing_on}
 use Rattle.capnp_call.proofs.runs.make_calls.Goals as goal
 
 pub loop-call-init : goal.loop-call-init
@@ -16,7 +17,7 @@ loop-call-init c =
     record {
       made = subst (λ (rs : List Reply). MakesCalls (set_of c.args.schema) (number_of c.args.schema) s [] rs s) (sym c.in_ok-replies.ensures.items) (makes_none (set_of c.args.schema) (number_of c.args.schema) s);
       standing = c.requires.ready.standing;
-      changes = changes_none c.args.place c.args.arena.now c.args.arena.now refl;
+      changes = unchanged _ _ _ refl;
       capacity = c.in_ok-replies.ensures.capacity;
       count = c.in_ok-replies.ensures.len;
     }
@@ -38,8 +39,8 @@ loop-call-preserved c =
     record {
       made = subst (λ (rs : List Reply). MakesCalls set b old (take (i + 1) calls) rs now) (sym items)
           (subst (λ (cs : List Call). MakesCalls set b old cs (c.loop-call.replies.items ++ c.call_at-reply.result ∷ []) now) (sym (take_more calls i call inside ∙ ap (λ (k : Call). take i calls ++ k ∷ []) item)) next);
-      standing = standing_on c.args.schema c.loop-call.arena c.call_at-reply.new.arena c.args.place c.loop-call.invariant.standing c.call_at-reply.ensures.planted;
-      changes = changes_then c.args.place c.args.arena.now c.loop-call.arena c.call_at-reply.new.arena c.loop-call.invariant.changes c.call_at-reply.ensures.changes;
+      standing = standing_on c.args.schema c.loop-call.arena c.call_at-reply.new.arena c.args.place c.loop-call.invariant.standing c.call_at-reply.ensures.frame.planted;
+      changes = then c.loop-call.invariant.changes c.call_at-reply.ensures.frame.changes;
       capacity = omega (arith, c.push.ensures.capacity, c.loop-call.invariant.capacity);
       count = omega (arith, len, c.loop-call.invariant.count);
     }

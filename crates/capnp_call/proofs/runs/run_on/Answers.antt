@@ -21,4 +21,4 @@ returns-clause-rests c =
     c.make_calls-replies.ensures.made
 
 pub returns-clause-kept : goal.returns-clause-kept
-returns-clause-kept c = keeps_size c.args.arena.now c.make_calls-replies.new.arena c.args.place c.requires.ready.standing.planted c.make_calls-replies.ensures.planted c.struct_is_sound.ensures.formed
+returns-clause-kept c = keeps_size c.args.arena.now c.make_calls-replies.new.arena c.args.place c.requires.ready.standing.planted c.make_calls-replies.ensures.frame.planted c.struct_is_sound.ensures.formed

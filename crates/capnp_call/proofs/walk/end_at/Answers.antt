@@ -24,8 +24,8 @@ returns-in-Struct c =
     subst (λ (x : At). HopGoes x old [] c.args.end c.end_at_struct.result new) (sym c.in-Struct.is)
     (record {
       walks = walks_end (set_of schema) (number_of schema) [] c.args.end (placed_struct old p) c.end_at_struct.result (placed_struct new p) refl c.end_at_struct.ensures.ends;
-      planted = c.end_at_struct.ensures.planted;
-      changes = c.end_at_struct.ensures.changes;
+      planted = c.end_at_struct.ensures.frame.planted;
+      changes = c.end_at_struct.ensures.frame.changes;
     })
 
 pub returns-in-List : goal.returns-in-List

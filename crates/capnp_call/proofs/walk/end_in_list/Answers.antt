@@ -21,8 +21,8 @@ returns-then-is_list c =
     let x = tree (segment c.args.arena.now) c.args.word in
     record {
       walks = list_end set e x c.requires.list (list_there x (sym c.is_list.ensures ∙ c.if-is_list.true)) [] c.args.end c.end_at_list.result (tree (segment c.end_at_list.new.arena) c.args.word) refl c.end_at_list.ensures.ends;
-      forest = c.end_at_list.ensures.forest;
-      changes = c.end_at_list.ensures.changes;
+      forest = c.end_at_list.ensures.frame.forest;
+      changes = c.end_at_list.ensures.frame.changes;
     }
 
 pub returns-else-is_list : goal.returns-else-is_list

@@ -40,8 +40,7 @@ returns-clause-owner c = record {
   arena = _;
   there = record { at = c.in_ok-at.at; stands = c.hand_out.ensures.behind; leaves = c.in_ok-at.ensures.leaves };
   same = refl;
-  planted = c.in_ok-at.ensures.planted;
-  changes = c.in_ok-at.ensures.changes;
+  frame = c.in_ok-at.ensures.frame;
   becomes = c.in_ok-at.ensures.filled;
 }
 

@@ -56,8 +56,7 @@ returns-clause-owner c = record {
   arena = _;
   there = record { at = c.get_pointer_element-at.result; stands = c.hand_out.ensures.behind; leaves = c.get_pointer_element-at.ensures.leaves };
   same = refl;
-  forest = c.in_ok-fill.ensures.forest;
-  changes = c.in_ok-fill.ensures.changes;
+  frame = c.in_ok-fill.ensures.frame;
   becomes = c.in_ok-fill.ensures.filled;
 }
 
@@ -71,7 +70,7 @@ pub fill-requires-clause-behind : goal.fill-requires-clause-behind
 fill-requires-clause-behind c = c.requires.behind
 
 pub get_pointer_element-at-requires-clause-forest : goal.get_pointer_element-at-requires-clause-forest
-get_pointer_element-at-requires-clause-forest c = c.in_ok-fill.ensures.forest
+get_pointer_element-at-requires-clause-forest c = c.in_ok-fill.ensures.frame.forest
 
 pub tree_is_sound-requires-2 : goal.tree_is_sound-requires-2
 tree_is_sound-requires-2 c = c.get_pointer_element-at.ensures.forest

@@ -31,7 +31,6 @@ returns-clause-owner c = record {
   arena = _;
   there = c.hand_new.ensures.there;
   same = refl;
-  planted = c.in_ok-initn.ensures.planted;
-  changes = c.in_ok-initn.ensures.changes;
+  frame = c.in_ok-initn.ensures.frame;
   becomes = c.in_ok-initn.ensures.written;
 }

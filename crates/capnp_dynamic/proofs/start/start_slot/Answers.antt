@@ -31,8 +31,7 @@ returns-clause-owner c = record {
   arena = _;
   there = c.hand_new.ensures.there;
   same = refl;
-  planted = c.in_ok-init.ensures.planted;
-  changes = c.in_ok-init.ensures.changes;
+  frame = c.in_ok-init.ensures.frame;
   becomes = c.in_ok-init.ensures.written;
 }
 

@@ -15,5 +15,5 @@ run-requires-clause-ready c = record {
 
 pub write_message-requires : goal.write_message-requires
 write_message-requires c = record {
-  forest = left c.get_struct.new.self c.get_struct.new.self c.in_ok-place.place c.in_ok-place.place refl refl c.in_ok-place.ensures.forest c.in_ok-place.ensures.place c.in_ok-replies.ensures.planted c.in_ok-replies.ensures.changes;
+  forest = left c.get_struct.new.self c.get_struct.new.self c.in_ok-place.place c.in_ok-place.place refl refl c.in_ok-place.ensures.forest c.in_ok-place.ensures.place c.in_ok-replies.ensures.frame.planted c.in_ok-replies.ensures.frame.changes;
 }

@@ -20,4 +20,4 @@ on_ok (Err e) p = tt
 pub returns : goal.returns
 returns c =
     on_ok c.first_wrong.result
-    (left c.get_struct.new.self c.get_struct.new.self c.in_ok-place.place c.in_ok-place.place refl refl c.in_ok-place.ensures.forest c.in_ok-place.ensures.place c.run.ensures.planted c.run.ensures.changes)
+    (left c.get_struct.new.self c.get_struct.new.self c.in_ok-place.place c.in_ok-place.place refl refl c.in_ok-place.ensures.forest c.in_ok-place.ensures.place c.run.ensures.frame.planted c.run.ensures.frame.changes)

@@ -16,4 +16,4 @@ run-requires-clause-ready c = record {
 pub written-requires : goal.written-requires
 written-requires c =
     left c.get_struct.new.self c.get_struct.new.self c.in_ok-place.place c.in_ok-place.place refl refl c.in_ok-place.ensures.forest c.in_ok-place.ensures.place
-    c.run.ensures.planted c.run.ensures.changes
+    c.run.ensures.frame.planted c.run.ensures.frame.changes

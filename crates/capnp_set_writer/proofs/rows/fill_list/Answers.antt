@@ -1,25 +1,24 @@
 -- The first so many elements have their parts.
 use Rattle.std.proofs.Common.{arith}
 use Rattle.std.proofs.lemmas.Result.{err_from_is_err_and}
-use Rattle.capnp_arena.specs.Facts.Places.{at_then}
+use Rattle.capnp_arena.specs.Facts.Frames.{pointer_after}
 use Rattle.capnp_set_writer.proofs.Places.{changes_none}
 use Rattle.capnp_set_writer.proofs.Trees.{element-blank, element-filled, element-there, kept-more, one-of-all, refused-up, whole-filled}
 use Rattle.capnp_set_writer.proofs.rows.fill_list.Goals as goal
 
 pub loop-index-init : goal.loop-index-init
-loop-index-init g c = record { forest = c.requires.forest; changes = changes_none _ _; filled_so = c.requires.new; kept = λ k a d. absurd (omega arith); fits = λ k a d. absurd (omega arith) }
+loop-index-init g c = record { frame = record { forest = c.requires.forest; changes = changes_none _ _ }; filled_so = c.requires.new; kept = λ k a d. absurd (omega arith); fits = λ k a d. absurd (omega arith) }
 
 pub put_element-requires : goal.put_element-requires
 put_element-requires g c = record {
-  forest = c.loop-index.invariant.forest;
+  forest = c.loop-index.invariant.frame.forest;
   there = element-there g.T.Part.tree g.T.Part.seen g.T.Part.data_words g.T.Part.pointers c.args.parts.now c.loop-index.index c.loop-index-test.true _ c.loop-index.invariant.filled_so;
   blank = element-blank g.T.Part.tree g.T.Part.seen g.T.Part.data_words g.T.Part.pointers c.args.parts.now c.loop-index.index c.loop-index-test.true _ c.loop-index.invariant.filled_so;
 }
 
 pub loop-index-preserved : goal.loop-index-preserved
 loop-index-preserved g c = record {
-  forest = c.in_ok-put_element.ensures.forest;
-  changes = at_then c.loop-index.invariant.changes c.in_ok-put_element.ensures.changes;
+  frame = pointer_after c.loop-index.invariant.frame.changes c.in_ok-put_element.ensures.frame;
   filled_so = element-filled g.T.Part.tree g.T.Part.seen g.T.Part.data_words g.T.Part.pointers c.args.parts.now c.loop-index.index c.loop-index-test.true _ c.loop-index.invariant.filled_so c.index-parts-index.result _ c.index-parts-index.is c.in_ok-put_element.ensures.written;
   kept = kept-more g.T.Part.kept g.T.Part.seen c.args.parts.now c.loop-index.index c.index-parts-index.result c.loop-index-test.true c.index-parts-index.is c.in_ok-put_element.ensures.kept c.loop-index.invariant.kept;
   fits = kept-more g.T.Part.fits g.T.Part.seen c.args.parts.now c.loop-index.index c.index-parts-index.result c.loop-index-test.true c.index-parts-index.is c.in_ok-put_element.ensures.fits c.loop-index.invariant.fits;

@@ -2,7 +2,7 @@
 use Rattle.std.proofs.Common.{arith, sym, ◌+◌, ◌∙◌, map}
 use Rattle.std.proofs.lemmas.List.{length-map}
 use Rattle.std.proofs.lemmas.Result.{err_from_is_err_and}
-use Rattle.capnp_arena.specs.Facts.Places.{at_then}
+use Rattle.capnp_arena.specs.Facts.Frames.{pointer_after}
 use Rattle.capnp_set_writer.specs.Limits.{ListFits}
 use Rattle.capnp_set_writer.proofs.Trees.{if_err, long-list, new-filled, on_ok, parts-fit, refused-up, room-part-refused, size-refused}
 use Rattle.capnp_set_writer.proofs.rows.put_list.Goals as goal
@@ -32,5 +32,5 @@ returns-in_err-init_struct_list-clause-cause g c =
     rw (p.1, p.2) (room-part-refused _ _ c.in_err-init_struct_list.ensures.cause
     (long-list g.T.Part.seen c.args.parts.now c.in_ok-count.count c.size.result g.T.Part.data_words g.T.Part.pointers c.in_ok-count.ensures.is c.size.ensures.data_words c.size.ensures.pointers))
 
-pub returns-clause-changes : goal.returns-clause-changes
-returns-clause-changes g c = on_ok c.fill_list.result (λ h. at_then c.in_ok-init_struct_list.ensures.changes h) c.fill_list.ensures.changes
+pub returns-clause-frame : goal.returns-clause-frame
+returns-clause-frame g c = on_ok c.fill_list.result (λ h. pointer_after c.in_ok-init_struct_list.ensures.changes h) c.fill_list.ensures.frame

@@ -4,7 +4,8 @@ use Rattle.capnp_wire.specs.Edits.{with_pointer_tree}
 use Rattle.capnp_arena.specs.Built.{built_at}
 use Rattle.capnp_arena.specs.Facts.Places.{pointers_of}
 use Rattle.capnp_arena.specs.Segment.{segment}
-use Rattle.capnp_set_writer.proofs.Trees.{both_ok, three_ok}
+use Rattle.capnp_arena.specs.Facts.Frames.{struct_round}
+use Rattle.capnp_set_writer.proofs.Trees.{both_ok, on_ok}
 use Rattle.capnp_set_writer.proofs.rows.put_part.Goals as goal
 
 pub pointer_at-at-requires-clause-inside : goal.pointer_at-at-requires-clause-inside
@@ -12,13 +13,10 @@ pointer_at-at-requires-clause-inside g c =
     let e = pointers_of (segment c.args.arena.now) c.args.place.start c.args.place.data_words c.args.place.pointers in
     omega (arith, c.requires.inside, e)
 
-pub returns-clause-planted : goal.returns-clause-planted
-returns-clause-planted g c = both_ok c.put_struct.result (λ f h. (c.pointer_at-at.ensures.leaves _ f h).planted) c.put_struct.ensures.forest c.put_struct.ensures.changes
-
-pub returns-clause-changes : goal.returns-clause-changes
-returns-clause-changes g c = both_ok c.put_struct.result (λ f h. (c.pointer_at-at.ensures.leaves _ f h).changes) c.put_struct.ensures.forest c.put_struct.ensures.changes
+pub returns-clause-frame : goal.returns-clause-frame
+returns-clause-frame g c = on_ok c.put_struct.result (λ h. struct_round c.pointer_at-at.ensures.leaves h) c.put_struct.ensures.frame
 
 pub returns-clause-written : goal.returns-clause-written
-returns-clause-written g c = three_ok c.put_struct.result
-    (λ f h e. (c.pointer_at-at.ensures.leaves _ f h).struct ∙ ap (with_pointer_tree (built_at c.args.arena.now c.args.place) c.args.index) e)
-    c.put_struct.ensures.forest c.put_struct.ensures.changes c.put_struct.ensures.written
+returns-clause-written g c = both_ok c.put_struct.result
+    (λ h e. (c.pointer_at-at.ensures.leaves _ h.forest h.changes).struct ∙ ap (with_pointer_tree (built_at c.args.arena.now c.args.place) c.args.index) e)
+    c.put_struct.ensures.frame c.put_struct.ensures.written

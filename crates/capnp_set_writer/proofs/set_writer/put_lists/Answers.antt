@@ -3,6 +3,7 @@ use Rattle.std.proofs.lemmas.Result.{err_from_is_err_and}
 use Rattle.capnp_schema.specs.Entries.{lists_seen}
 use Rattle.capnp_set_writer.specs.Limits.{SetFits, SetHasKinds}
 use Rattle.capnp_arena.specs.Facts.Places.{then}
+use Rattle.capnp_arena.specs.Facts.Frames.{struct_after}
 use Rattle.capnp_set_writer.proofs.Trees.{if_err, on_ok, refused-up}
 use Rattle.capnp_set_writer.proofs.set_writer.put_lists.Goals as goal
 
@@ -24,5 +25,5 @@ returns-clause-cause c = if_err c.put_parts-3.result
 
 -- one call after another
 
-pub returns-clause-changes : goal.returns-clause-changes
-returns-clause-changes c = on_ok c.put_parts-3.result (λ h. then (then c.in_ok-put_parts.ensures.changes c.in_ok-put_parts-2.ensures.changes) h) c.put_parts-3.ensures.changes
+pub returns-clause-frame : goal.returns-clause-frame
+returns-clause-frame c = on_ok c.put_parts-3.result (λ h. struct_after (then c.in_ok-put_parts.ensures.frame.changes c.in_ok-put_parts-2.ensures.frame.changes) h) c.put_parts-3.ensures.frame

@@ -1,7 +1,7 @@
 -- The first so many pointers lead to their lists.
 use Rattle.std.proofs.Common.{arith, map, Vec, Global, List}
 use Rattle.std.proofs.lemmas.Result.{err_from_is_err_and}
-use Rattle.capnp_arena.specs.Facts.Places.{at_then}
+use Rattle.capnp_arena.specs.Facts.Frames.{pointer_after}
 use Rattle.capnp_base.specs.declared.introspect.«Type».{«Type» as TypeHandle}
 use Rattle.capnp_schema.specs.Types.{SchemaType, seen_type}
 use Rattle.capnp_set_writer.specs.Kept.{TypeKept}
@@ -16,15 +16,14 @@ abbrev seen_row : Vec TypeHandle Global → List SchemaType
 seen_row row = map seen_type row.items
 
 pub loop-index-init : goal.loop-index-init
-loop-index-init c = record { forest = c.requires.forest; changes = changes_none _ _; filled_so = c.requires.new; kept = λ k a d. absurd (omega arith); fits = λ k a d. absurd (omega arith) }
+loop-index-init c = record { frame = record { forest = c.requires.forest; changes = changes_none _ _ }; filled_so = c.requires.new; kept = λ k a d. absurd (omega arith); fits = λ k a d. absurd (omega arith) }
 
 pub put_row-requires-clause-there : goal.put_row-requires-clause-there
 put_row-requires-clause-there c = row-there types_tree seen_row c.args.rows.now c.loop-index.index _ c.loop-index.invariant.filled_so c.loop-index-test.true
 
 pub loop-index-preserved : goal.loop-index-preserved
 loop-index-preserved c = record {
-  forest = c.in_ok-put_row.ensures.forest;
-  changes = at_then c.loop-index.invariant.changes c.in_ok-put_row.ensures.changes;
+  frame = pointer_after c.loop-index.invariant.frame.changes c.in_ok-put_row.ensures.frame;
   filled_so = row-filled types_tree seen_row c.args.rows.now c.loop-index.index _ c.loop-index.invariant.filled_so c.loop-index-test.true c.index-rows-index.result _ c.index-rows-index.is (rw c.as_slice.ensures.value at c.in_ok-put_row.ensures.written);
   kept = kept-more (All TypeKept) seen_row c.args.rows.now c.loop-index.index c.index-rows-index.result c.loop-index-test.true c.index-rows-index.is (rw c.as_slice.ensures.value at c.in_ok-put_row.ensures.kept) c.loop-index.invariant.kept;
   fits = kept-more TypesFit seen_row c.args.rows.now c.loop-index.index c.index-rows-index.result c.loop-index-test.true c.index-rows-index.is (rw c.as_slice.ensures.value at c.in_ok-put_row.ensures.fits) c.loop-index.invariant.fits;

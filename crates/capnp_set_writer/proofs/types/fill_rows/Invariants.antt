@@ -2,7 +2,8 @@ use Rattle.std.proofs.Common.{◌≡◌, ℕ, ◌<◌, get_or, map, List, Vec, G
 use Rattle.std.specs.Prelude.{All}
 use Rattle.capnp_base.specs.declared.introspect.«Type».{«Type» as TypeHandle}
 use Rattle.capnp_wire.specs.Tree.{Pointers}
-use Rattle.capnp_arena.specs.Forest.{Changes, Forest, tree}
+use Rattle.capnp_arena.specs.Forest.{tree}
+use Rattle.capnp_arena.specs.Frame.{LeavesPointer}
 use Rattle.capnp_arena.specs.Segment.{segment}
 use Rattle.capnp_schema.specs.Types.{SchemaType, seen_type}
 use Rattle.capnp_set_writer.specs.Kept.{TypeKept}
@@ -13,8 +14,7 @@ use Rattle.capnp_set_writer.proofs.types.fill_rows.Given as goal
 
 abbrev pub invariant-loop-index : goal.invariant-loop-index
 invariant-loop-index l = record {
-  forest : Forest (segment l.arena) l.at;
-  changes : Changes l.at (segment l.fn.arena) (segment l.arena);
+  frame : LeavesPointer l.at l.fn.arena l.arena;
   filled_so : tree (segment l.arena) l.at ≡ Pointers (filled_trees (map types_tree (map (λ (row : Vec TypeHandle Global). map seen_type row.items) l.rows)) l.index);
   kept : (k : ℕ) → k < l.index → (d : List SchemaType) → All TypeKept (get_or (map (λ (row : Vec TypeHandle Global). map seen_type row.items) l.rows) k d);
   fits : (k : ℕ) → k < l.index → (d : List SchemaType) → TypesFit (get_or (map (λ (row : Vec TypeHandle Global). map seen_type row.items) l.rows) k d);

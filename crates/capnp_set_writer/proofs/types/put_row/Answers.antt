@@ -4,19 +4,17 @@ use Rattle.capnp_wire.specs.Elements.{with_pointer_element}
 use Rattle.capnp_wire.specs.Tree.{Tree}
 use Rattle.capnp_arena.specs.Forest.{tree}
 use Rattle.capnp_arena.specs.Segment.{segment}
-use Rattle.capnp_set_writer.proofs.Trees.{both_ok, if_err, refused-up, three_ok}
+use Rattle.capnp_arena.specs.Facts.Frames.{list_round}
+use Rattle.capnp_set_writer.proofs.Trees.{both_ok, if_err, on_ok, refused-up}
 use Rattle.capnp_set_writer.proofs.types.put_row.Goals as goal
 
-pub returns-clause-forest : goal.returns-clause-forest
-returns-clause-forest c = both_ok c.put_list.result (λ f h. (c.get_pointer_element-pointer.ensures.leaves _ f h).forest) c.put_list.ensures.forest c.put_list.ensures.changes
-
-pub returns-clause-changes : goal.returns-clause-changes
-returns-clause-changes c = both_ok c.put_list.result (λ f h. (c.get_pointer_element-pointer.ensures.leaves _ f h).changes) c.put_list.ensures.forest c.put_list.ensures.changes
+pub returns-clause-frame : goal.returns-clause-frame
+returns-clause-frame c = on_ok c.put_list.result (λ h. list_round c.get_pointer_element-pointer.ensures.leaves h) c.put_list.ensures.frame
 
 pub returns-clause-written : goal.returns-clause-written
-returns-clause-written c = three_ok c.put_list.result
-    (λ f h e. (c.get_pointer_element-pointer.ensures.leaves _ f h).tree ∙ ap (λ (t : Tree). with_pointer_element c.args.index t (tree (segment c.args.arena.now) c.args.at)) e)
-    c.put_list.ensures.forest c.put_list.ensures.changes c.put_list.ensures.written
+returns-clause-written c = both_ok c.put_list.result
+    (λ h e. (c.get_pointer_element-pointer.ensures.leaves _ h.forest h.changes).tree ∙ ap (λ (t : Tree). with_pointer_element c.args.index t (tree (segment c.args.arena.now) c.args.at)) e)
+    c.put_list.ensures.frame c.put_list.ensures.written
 
 pub returns-clause-cause : goal.returns-clause-cause
 returns-clause-cause c = if_err c.put_list.result (λ e h. refused-up e.kind h (λ k i d a. tt) (λ f. f)) c.put_list.ensures.cause

@@ -2,7 +2,7 @@
 use Rattle.std.proofs.Common.{arith, sym, ◌∙◌, map, Vec, Global, List}
 use Rattle.std.proofs.lemmas.List.{length-map}
 use Rattle.std.proofs.lemmas.Result.{err_from_is_err_and}
-use Rattle.capnp_arena.specs.Facts.Places.{at_then}
+use Rattle.capnp_arena.specs.Facts.Frames.{pointer_after}
 use Rattle.capnp_base.specs.declared.introspect.«Type».{«Type» as TypeHandle}
 use Rattle.capnp_schema.specs.Types.{SchemaType, seen_type}
 use Rattle.capnp_set_writer.specs.Limits.{TypeListsFit}
@@ -44,5 +44,5 @@ returns-in_err-init_list-clause-cause c =
     rw (p.1, p.2) (room-part-refused _ _ c.in_err-init_list.ensures.cause
     (λ past (f : TypeListsFit (map seen_row c.args.rows.now)). omega (arith, past, f.count.0, c.in_ok-count.ensures.is, length-map c.args.rows.now seen_row)))
 
-pub returns-clause-changes : goal.returns-clause-changes
-returns-clause-changes c = on_ok c.fill_rows.result (λ h. at_then c.in_ok-init_list.ensures.changes h) c.fill_rows.ensures.changes
+pub returns-clause-frame : goal.returns-clause-frame
+returns-clause-frame c = on_ok c.fill_rows.result (λ h. pointer_after c.in_ok-init_list.ensures.changes h) c.fill_rows.ensures.frame

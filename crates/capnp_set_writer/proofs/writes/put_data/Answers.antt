@@ -5,6 +5,7 @@ use Rattle.capnp_wire.specs.Facts.Bytes.{AreBytes-fits}
 use Rattle.capnp_arena.specs.Built.{built_at}
 use Rattle.capnp_arena.specs.Facts.Places.{pointers_of}
 use Rattle.capnp_arena.specs.Segment.{segment}
+use Rattle.capnp_arena.specs.Facts.Frames.{struct_round}
 use Rattle.capnp_set_writer.proofs.Trees.{both_ok, if_err, room-part-refused, three_ok}
 use Rattle.capnp_set_writer.proofs.writes.put_data.Goals as goal
 
@@ -13,11 +14,8 @@ pointer_at-at-requires-clause-inside c =
     let e = pointers_of (segment c.args.arena.now) c.args.place.start c.args.place.data_words c.args.place.pointers in
     omega (arith, c.requires.inside, e)
 
-pub returns-clause-planted : goal.returns-clause-planted
-returns-clause-planted c = both_ok c.set_data.result (λ f h. (c.pointer_at-at.ensures.leaves _ f h).planted) c.set_data.ensures.forest c.set_data.ensures.changes
-
-pub returns-clause-changes : goal.returns-clause-changes
-returns-clause-changes c = both_ok c.set_data.result (λ f h. (c.pointer_at-at.ensures.leaves _ f h).changes) c.set_data.ensures.forest c.set_data.ensures.changes
+pub returns-clause-frame : goal.returns-clause-frame
+returns-clause-frame c = both_ok c.set_data.result (λ f h. struct_round c.pointer_at-at.ensures.leaves (record { forest = f; changes = h })) c.set_data.ensures.forest c.set_data.ensures.changes
 
 pub returns-clause-written : goal.returns-clause-written
 returns-clause-written c = three_ok c.set_data.result

@@ -7,13 +7,11 @@ use Rattle.capnp_wire.specs.Tree.{StructTree, tree_count}
 use Rattle.capnp_arena.specs.Forest.{struct_from, tree}
 use Rattle.capnp_arena.specs.Segment.{segment}
 use Rattle.capnp_arena.specs.Facts.Places.{data_of, pointers_of}
+use Rattle.capnp_arena.specs.Facts.Frames.{list_round_struct}
 use Rattle.capnp_slots.proofs.element.copy_at.Goals as goal
 
-pub returns-clause-forest : goal.returns-clause-forest
-returns-clause-forest c = (c.get_struct_at-place.ensures.leaves _ c.in_ok-copy_content_from.ensures.planted c.in_ok-copy_content_from.ensures.changes).forest
-
-pub returns-clause-changes : goal.returns-clause-changes
-returns-clause-changes c = (c.get_struct_at-place.ensures.leaves _ c.in_ok-copy_content_from.ensures.planted c.in_ok-copy_content_from.ensures.changes).changes
+pub returns-clause-frame : goal.returns-clause-frame
+returns-clause-frame c = list_round_struct c.get_struct_at-place.ensures.leaves (record { planted = c.in_ok-copy_content_from.ensures.planted; changes = c.in_ok-copy_content_from.ensures.changes })
 
 pub returns-clause-written : goal.returns-clause-written
 returns-clause-written c =

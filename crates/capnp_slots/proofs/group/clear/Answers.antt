@@ -7,7 +7,7 @@ use Rattle.capnp_schema.specs.Schema.{Schemas, seen_brand}
 use Rattle.capnp_schema.specs.StructHandles.{IsStruct, set_of}
 use Rattle.capnp_slots.specs.Fields.{field_set}
 use Rattle.capnp_slots.proofs.GroupClears.{group-kept, group-whole, keeps-size}
-use Rattle.capnp_arena.specs.Facts.Places.{then}
+use Rattle.capnp_arena.specs.Facts.Frames.{struct_after}
 use Rattle.capnp_slots.proofs.group.clear.Goals as goal
 
 pub returns-clause-cleared : goal.returns-clause-cleared
@@ -26,5 +26,5 @@ returns-clause-kept c =
     c.group_is_cleared.ensures.inside c.in-Some.ensures c.requires.room (returns-clause-cleared c)
     (keeps-size _ _ _ c.switch.ensures.kept) c.clear_group.ensures.kept
 
-pub returns-clause-changes : goal.returns-clause-changes
-returns-clause-changes c = then c.switch.ensures.changes c.clear_group.ensures.changes
+pub returns-clause-frame : goal.returns-clause-frame
+returns-clause-frame c = struct_after c.switch.ensures.frame.changes c.clear_group.ensures.frame

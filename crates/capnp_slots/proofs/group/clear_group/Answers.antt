@@ -3,7 +3,8 @@ use Rattle.std.proofs.Common.{refl, ◌∙◌, arith, sym}
 use Rattle.capnp_schema.specs.StructHandles.{number_of, set_of}
 use Rattle.capnp_slots.proofs.GroupClears.{cleared-none, fits-kept, keeps-refl, keeps-trans}
 use Rattle.capnp_slots.proofs.GroupWays.{ends, ends-outside, fewer-above, fewer-in, fits-above, goes-above, goes-in, group-fits, less-on, past-group, past-nothing, past-slot, positive, starts}
-use Rattle.capnp_arena.specs.Facts.Places.{then, unchanged}
+use Rattle.capnp_arena.specs.Facts.Frames.{struct_after}
+use Rattle.capnp_arena.specs.Facts.Places.{unchanged}
 use Rattle.capnp_slots.proofs.group.clear_group.Goals as goal
 
 pub returns-then-groups-eq0-clause-cleared : goal.returns-then-groups-eq0-clause-cleared
@@ -30,8 +31,7 @@ loop-count-preserved-in_default-cleared_at c = record {
   few = c.loop-count.invariant.few;
   groups = c.loop-count.invariant.groups;
   size = c.loop-count.invariant.size;
-  planted = c.loop-count.invariant.planted;
-  changes = c.loop-count.invariant.changes;
+  frame = c.loop-count.invariant.frame;
 }
 
 pub loop-count-smaller-in_default-clear_slot : goal.loop-count-smaller-in_default-clear_slot
@@ -45,8 +45,7 @@ loop-count-preserved-in_default-clear_slot c = record {
   few = c.loop-count.invariant.few;
   groups = c.loop-count.invariant.groups;
   size = keeps-trans _ _ _ c.loop-count.invariant.size c.in_default-clear_slot.ensures.kept;
-  planted = c.in_default-clear_slot.ensures.planted;
-  changes = then c.loop-count.invariant.changes c.in_default-clear_slot.ensures.changes;
+  frame = struct_after c.loop-count.invariant.frame.changes c.in_default-clear_slot.ensures.frame;
 }
 
 pub loop-count-smaller-then-left-eq0 : goal.loop-count-smaller-then-left-eq0
@@ -60,8 +59,7 @@ loop-count-preserved-then-left-eq0 c = record {
   few = c.loop-count.invariant.few;
   groups = c.loop-count.invariant.groups;
   size = keeps-trans _ _ _ c.loop-count.invariant.size c.in-Some-clear_slot.ensures.kept;
-  planted = c.in-Some-clear_slot.ensures.planted;
-  changes = then c.loop-count.invariant.changes c.in-Some-clear_slot.ensures.changes;
+  frame = struct_after c.loop-count.invariant.frame.changes c.in-Some-clear_slot.ensures.frame;
 }
 
 pub loop-count-smaller : goal.loop-count-smaller
@@ -75,8 +73,7 @@ loop-count-preserved c = record {
   few = c.field_count-count-in-loop-count.ensures.few;
   groups = (let groups = c.loop-count.invariant.groups in let some = positive c.loop-count.left c.if-left-eq0.false in omega arith);
   size = keeps-trans _ _ _ c.loop-count.invariant.size c.in-Some-clear_slot.ensures.kept;
-  planted = c.in-Some-clear_slot.ensures.planted;
-  changes = then c.loop-count.invariant.changes c.in-Some-clear_slot.ensures.changes;
+  frame = struct_after c.loop-count.invariant.frame.changes c.in-Some-clear_slot.ensures.frame;
 }
 
 pub loop-count-init : goal.loop-count-init
@@ -87,8 +84,7 @@ loop-count-init c = record {
   few = c.field_count-count.ensures.few;
   groups = (let some = positive c.args.groups c.if-groups-eq0.false in omega arith);
   size = keeps-refl _;
-  planted = c.requires.planted;
-  changes = unchanged _ _ _ refl;
+  frame = record { planted = c.requires.planted; changes = unchanged _ _ _ refl };
 }
 
 pub loop-count-smaller-then-next-count : goal.loop-count-smaller-then-next-count
@@ -103,6 +99,5 @@ loop-count-preserved-then-next-count c = record {
   few = c.field_count-count-then-next-count.ensures.few;
   groups = (let groups = c.loop-count.invariant.groups in let some = positive c.loop-count.depth c.if-depth-eq0.false in omega arith);
   size = c.loop-count.invariant.size;
-  planted = c.loop-count.invariant.planted;
-  changes = c.loop-count.invariant.changes;
+  frame = c.loop-count.invariant.frame;
 }

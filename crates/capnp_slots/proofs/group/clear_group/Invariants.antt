@@ -1,5 +1,6 @@
 use Rattle.std.proofs.Common.{◌≡◌, ◌+◌, ◌≤◌, length}
-use Rattle.capnp_arena.specs.Built.{ChangesIn, IsBuilt, built_at}
+use Rattle.capnp_arena.specs.Built.{built_at}
+use Rattle.capnp_arena.specs.Frame.{LeavesStruct}
 use Rattle.capnp_schema.specs.StructHandles.{number_of, set_of, struct_fields}
 use Rattle.capnp_records.specs.Writes.Slots.{Fits}
 use Rattle.capnp_slots.specs.Groups.{KeepsSize}
@@ -15,8 +16,7 @@ invariant-loop-count l = record {
   few : l.count ≤ 65535;
   groups : l.left + l.depth + 1 ≡ l.fn.groups;
   size : KeepsSize (built_at l.fn.arena l.fn.place) (built_at l.arena l.place);
-  planted : IsBuilt l.arena l.place;
-  changes : ChangesIn l.place l.fn.arena l.arena;
+  frame : LeavesStruct l.place l.fn.arena l.arena;
 }
 
 abbrev pub decreases-loop-count : goal.decreases-loop-count

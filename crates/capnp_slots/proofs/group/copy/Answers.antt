@@ -10,7 +10,7 @@ use Rattle.capnp_records.specs.Record.{Left}
 use Rattle.capnp_slots.specs.Fields.{field_set}
 use Rattle.capnp_slots.proofs.GroupClears.{keeps-size}
 use Rattle.capnp_slots.proofs.GroupCopies.{copied-kept, copied-whole}
-use Rattle.capnp_arena.specs.Facts.Places.{then}
+use Rattle.capnp_arena.specs.Facts.Frames.{struct_after}
 use Rattle.capnp_slots.proofs.group.copy.Goals as goal
 
 pub returns-clause-copied : goal.returns-clause-copied
@@ -26,5 +26,5 @@ returns-clause-kept c =
     (subst IsStruct c.get_containing_struct.ensures.is c.get_containing_struct.ensures.stands) (subst HasRanges set c.numbers_fit.ensures) c.group_is_copied.ensures.inside
     c.requires.group c.requires.room (returns-clause-copied c) (keeps-size _ _ _ c.switch.ensures.kept) c.copy_group.ensures.kept
 
-pub returns-clause-changes : goal.returns-clause-changes
-returns-clause-changes c = then c.switch.ensures.changes c.copy_group.ensures.changes
+pub returns-clause-frame : goal.returns-clause-frame
+returns-clause-frame c = struct_after c.switch.ensures.frame.changes c.copy_group.ensures.frame

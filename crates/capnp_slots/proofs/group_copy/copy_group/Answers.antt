@@ -6,14 +6,15 @@ use Rattle.capnp_wire.specs.Standing.{struct_levels, struct_of}
 use Rattle.capnp_wire.specs.Tree.{StructTree}
 use Rattle.capnp_wire.specs.declared.struct_reader.StructReader.{StructReader}
 use Rattle.capnp_arena.specs.Built.{built_at}
-use Rattle.capnp_arena.specs.Facts.Places.{then}
+use Rattle.capnp_arena.specs.Facts.Frames.{struct_after}
 use Rattle.capnp_schema.specs.StructHandles.{number_of, set_of}
 use Rattle.capnp_records.specs.Record.{Left, Levels}
+use Rattle.capnp_slots.specs.Facts.Outcomes.{frame_after}
 use Rattle.capnp_slots.specs.Groups.{KeepsSize}
 use Rattle.capnp_slots.proofs.CopyWays.{Through, below-top, cut-slot, depth_at, ends, ends-outside, fewer-at-above, fewer-in, goes-above, goes-in, group-fits, left-some, low-at-above, low-in, low-next, low-starts, past-nothing, past-slot, room-at, slot-refused, slot-taken, starts}
 use Rattle.capnp_slots.proofs.GroupClears.{fits-kept, keeps-size, keeps-trans}
 use Rattle.capnp_slots.proofs.GroupWays.{fits-above, less-on}
-use Rattle.capnp_slots.proofs.Places.{either, same_struct}
+use Rattle.capnp_slots.proofs.Places.{same_struct}
 use Rattle.capnp_slots.proofs.group_copy.copy_group.Goals as goal
 
 abbrev levels : StructReader → Levels
@@ -29,8 +30,7 @@ loop-next-init c = record {
   few = omega (arith, c.requires.height);
   room = fits-kept (set_of c.args.schema) (number_of c.args.schema) _ _ c.clear_whole.ensures.kept c.requires.room;
   size = c.clear_whole.ensures.kept;
-  planted = c.clear_whole.ensures.planted;
-  changes = c.clear_whole.ensures.changes;
+  frame = c.clear_whole.ensures.frame;
 }
 
 pub returns-then-left-groups-clause-copied : goal.returns-then-left-groups-clause-copied
@@ -52,8 +52,7 @@ loop-next-preserved-then-next-field_count c = record {
   few = below-top c.args.groups c.loop-next.left c.loop-next.invariant.few c.if-left-groups.false;
   room = fits-above c.loop-next.at c.in-Some.field _ _ c.get_containing_struct-at.ensures.is c.in-Some.ensures.field c.loop-next.invariant.room;
   size = c.loop-next.invariant.size;
-  planted = c.loop-next.invariant.planted;
-  changes = c.loop-next.invariant.changes;
+  frame = c.loop-next.invariant.frame;
 }
 
 pub loop-next-smaller-in_default-copied_at : goal.loop-next-smaller-in_default-copied_at
@@ -66,8 +65,7 @@ loop-next-preserved-in_default-copied_at c = record {
   few = c.loop-next.invariant.few;
   room = c.loop-next.invariant.room;
   size = c.loop-next.invariant.size;
-  planted = c.loop-next.invariant.planted;
-  changes = c.loop-next.invariant.changes;
+  frame = c.loop-next.invariant.frame;
 }
 
 pub copy-requires-clause-room : goal.copy-requires-clause-room
@@ -78,8 +76,8 @@ returns-in-Err-clause-copied c =
     cut-slot (Through c.args.groups c.args.schema (levels c.args.source) (struct_of c.args.source) (built_at c.args.arena.now c.args.place)) (levels c.args.source) (struct_of c.args.source) c.loop-next.left c.loop-next.at (depth_at c.args.groups c.loop-next.left) c.loop-next.next c.in-Some-copied_at.field _ _ c.in-Err.error.kind c.in-Some-copied_at.ensures (omega (arith, c.field_count.ensures.count, c.if-next-field_count.false))
     (slot-refused c.loop-next.left c.in-Some-copied_at.field (levels c.args.source) (struct_of c.args.source) _ _ c.in-Err.error c.in_default-group_of.ensures (same_struct c.args.place c.loop-next.arena c.copy.new.arena (err-of c.in-Err.error) c.in-Err.ensures.refused) c.in-Err.ensures.cause) c.loop-next.invariant.left
 
-pub returns-in-Err-clause-changes : goal.returns-in-Err-clause-changes
-returns-in-Err-clause-changes c = then c.loop-next.invariant.changes (either c.args.place c.loop-next.arena c.copy.new.arena (err-of c.in-Err.error) tt c.in-Err.ensures.refused)
+pub returns-in-Err-clause-frame : goal.returns-in-Err-clause-frame
+returns-in-Err-clause-frame c = struct_after c.loop-next.invariant.frame.changes (frame_after c.args.place c.loop-next.arena c.copy.new.arena (err-of c.in-Err.error) c.loop-next.invariant.frame.planted tt c.in-Err.ensures.refused)
 
 pub returns-in-Err-clause-kept : goal.returns-in-Err-clause-kept
 returns-in-Err-clause-kept c = subst (λ (y : StructTree). KeepsSize (built_at c.args.arena.now c.args.place) y) (sym (same_struct c.args.place c.loop-next.arena c.copy.new.arena (err-of c.in-Err.error) c.in-Err.ensures.refused)) c.loop-next.invariant.size
@@ -94,8 +92,7 @@ loop-next-preserved-in_default-group_of c = record {
   few = c.loop-next.invariant.few;
   room = fits-kept (set_of c.loop-next.at) (number_of c.loop-next.at) _ _ (keeps-size _ _ _ c.in_default-copy.ensures.copied.kept) c.loop-next.invariant.room;
   size = keeps-trans _ _ _ c.loop-next.invariant.size (keeps-size _ _ _ c.in_default-copy.ensures.copied.kept);
-  planted = c.in_default-copy.ensures.planted;
-  changes = then c.loop-next.invariant.changes c.in_default-copy.ensures.changes;
+  frame = struct_after c.loop-next.invariant.frame.changes c.in_default-copy.ensures.frame;
 }
 
 pub open-requires-clause-room : goal.open-requires-clause-room
@@ -114,6 +111,5 @@ loop-next-preserved c = record {
   few = omega (arith, c.loop-next.invariant.few);
   room = group-fits c.args.groups c.loop-next.left (levels c.args.source) (struct_of c.args.source) c.loop-next.at c.loop-next.next c.in-Some-copied_at.field c.in-Some-copied_at.ensures c.in-Some-group_of.group _ _ c.in-Some-group_of.ensures c.open.ensures.kept c.loop-next.invariant.room;
   size = keeps-trans _ _ _ c.loop-next.invariant.size c.open.ensures.kept;
-  planted = c.open.ensures.planted;
-  changes = then c.loop-next.invariant.changes c.open.ensures.changes;
+  frame = struct_after c.loop-next.invariant.frame.changes c.open.ensures.frame;
 }

@@ -1,5 +1,6 @@
 use Rattle.std.proofs.Common.{◌<◌}
-use Rattle.capnp_arena.specs.Built.{ChangesIn, IsBuilt, built_at}
+use Rattle.capnp_arena.specs.Built.{built_at}
+use Rattle.capnp_arena.specs.Frame.{LeavesStruct}
 use Rattle.capnp_wire.specs.Standing.{struct_levels, struct_of}
 use Rattle.capnp_schema.specs.StructHandles.{number_of, set_of}
 use Rattle.capnp_records.specs.Record.{Left}
@@ -15,8 +16,7 @@ invariant-loop-next l = record {
   few : l.left < l.fn.groups;
   room : Fits (set_of l.at) (number_of l.at) (built_at l.arena l.place);
   size : KeepsSize (built_at l.fn.arena l.fn.place) (built_at l.arena l.place);
-  planted : IsBuilt l.arena l.place;
-  changes : ChangesIn l.place l.fn.arena l.arena;
+  frame : LeavesStruct l.place l.fn.arena l.arena;
 }
 
 abbrev pub decreases-loop-next : goal.decreases-loop-next

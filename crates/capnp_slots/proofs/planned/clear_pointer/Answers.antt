@@ -1,13 +1,11 @@
 use Rattle.std.proofs.Common.{◌∙◌, ap}
 use Rattle.capnp_wire.specs.Edits.{with_pointer_tree}
 use Rattle.capnp_arena.specs.Built.{built_at}
+use Rattle.capnp_arena.specs.Facts.Frames.{struct_round}
 use Rattle.capnp_slots.proofs.planned.clear_pointer.Goals as goal
 
-pub returns-clause-planted : goal.returns-clause-planted
-returns-clause-planted c = (c.pointer_at-at.ensures.leaves _ c.clear.ensures.forest c.clear.ensures.changes).planted
-
-pub returns-clause-changes : goal.returns-clause-changes
-returns-clause-changes c = (c.pointer_at-at.ensures.leaves _ c.clear.ensures.forest c.clear.ensures.changes).changes
+pub returns-clause-frame : goal.returns-clause-frame
+returns-clause-frame c = struct_round c.pointer_at-at.ensures.leaves (record { forest = c.clear.ensures.forest; changes = c.clear.ensures.changes })
 
 pub returns-clause-written : goal.returns-clause-written
 returns-clause-written c =

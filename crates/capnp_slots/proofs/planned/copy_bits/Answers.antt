@@ -1,5 +1,5 @@
-use Rattle.capnp_slots.proofs.Places.{changes_then}
+use Rattle.capnp_arena.specs.Facts.Frames.{struct_after}
 use Rattle.capnp_slots.proofs.planned.copy_bits.Goals as goal
 
-pub returns-in-Bits-clause-changes : goal.returns-in-Bits-clause-changes
-returns-in-Bits-clause-changes c = changes_then c.args.place c.args.arena.now c.switch_member.new.arena c.store_bits.new.arena c.switch_member.ensures.changes c.store_bits.ensures.changes
+pub returns-in-Bits-clause-frame : goal.returns-in-Bits-clause-frame
+returns-in-Bits-clause-frame c = struct_after c.switch_member.ensures.frame.changes c.store_bits.ensures.frame

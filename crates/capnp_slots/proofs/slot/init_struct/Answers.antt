@@ -2,7 +2,7 @@
 use Rattle.std.proofs.Common.{◌*◌, ◌+◌, ◌≤◌, length, subst, sym}
 use Rattle.std.specs.Prelude.{IfSome}
 use Rattle.capnp_wire.specs.Tree.{StructTree}
-use Rattle.capnp_slots.proofs.Places.{changes_then}
+use Rattle.capnp_arena.specs.Facts.Frames.{struct_after}
 use Rattle.capnp_slots.proofs.Pointers.{slot_kept}
 use Rattle.capnp_slots.proofs.slot.init_struct.Goals as goal
 
@@ -13,8 +13,8 @@ pub switch_member-requires-clause-inside : goal.switch_member-requires-clause-in
 switch_member-requires-clause-inside c =
     subst (λ (s : StructTree). IfSome c.pointer_slot-index.result.1 (λ m. m.0 + 16 ≤ 8 * length s.bytes)) (sym c.in_ok-make_struct_at.ensures.ok) (c.pointer_slot-index.ensures.member_inside _ c.requires.room)
 
-pub returns-clause-changes : goal.returns-clause-changes
-returns-clause-changes c = changes_then c.args.place c.args.arena.now c.make_struct_at.new.arena c.switch_member.new.arena c.in_ok-make_struct_at.ensures.changes c.switch_member.ensures.changes
+pub returns-clause-frame : goal.returns-clause-frame
+returns-clause-frame c = struct_after c.in_ok-make_struct_at.ensures.frame.changes c.switch_member.ensures.frame
 
 pub returns-clause-kept : goal.returns-clause-kept
 returns-clause-kept c = slot_kept c.args.field _ _ c.pointer_slot-index.ensures _ _ _ _ c.in_ok-make_struct_at.ensures.ok c.switch_member.ensures.switched c.requires.room c.in_ok-make_struct_at.ensures.formed

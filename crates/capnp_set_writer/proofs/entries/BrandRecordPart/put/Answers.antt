@@ -4,6 +4,7 @@ use Rattle.std.proofs.lemmas.Result.{err_from_is_err_and}
 use Rattle.capnp_schema.specs.Schema.{seen_brand}
 use Rattle.capnp_set_writer.specs.Limits.{BrandFits}
 use Rattle.capnp_arena.specs.Facts.Places.{then}
+use Rattle.capnp_arena.specs.Facts.Frames.{struct_after}
 use Rattle.capnp_set_writer.proofs.Trees.{if_err, on_ok, refused-up}
 use Rattle.capnp_set_writer.proofs.entries.BrandRecordPart.put.Goals as goal
 
@@ -36,5 +37,5 @@ returns-clause-cause c = if_err c.put_type_lists.result
 
 -- one call after another
 
-pub returns-clause-changes : goal.returns-clause-changes
-returns-clause-changes c = on_ok c.put_type_lists.result (λ h. then (then (then c.set_number.ensures.changes c.in_ok-put_parts.ensures.changes) c.in_ok-put_parts-2.ensures.changes) h) c.put_type_lists.ensures.changes
+pub returns-clause-frame : goal.returns-clause-frame
+returns-clause-frame c = on_ok c.put_type_lists.result (λ h. struct_after (then (then c.set_number.ensures.changes c.in_ok-put_parts.ensures.frame.changes) c.in_ok-put_parts-2.ensures.frame.changes) h) c.put_type_lists.ensures.frame

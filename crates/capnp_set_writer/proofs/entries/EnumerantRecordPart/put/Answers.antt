@@ -2,7 +2,7 @@
 use Rattle.std.proofs.lemmas.Result.{err_from_is_err_and}
 use Rattle.capnp_schema.specs.Schema.{seen_enumerant}
 use Rattle.capnp_set_writer.specs.Limits.{EnumerantFits, EnumerantHasKinds}
-use Rattle.capnp_arena.specs.Facts.Places.{then}
+use Rattle.capnp_arena.specs.Facts.Frames.{struct_after}
 use Rattle.capnp_set_writer.proofs.Trees.{if_err, on_ok, refused-up}
 use Rattle.capnp_set_writer.proofs.entries.EnumerantRecordPart.put.Goals as goal
 
@@ -18,5 +18,5 @@ returns-clause-cause c = if_err c.put_parts.result
 
 -- one call after another
 
-pub returns-clause-changes : goal.returns-clause-changes
-returns-clause-changes c = on_ok c.put_parts.result (λ h. then c.in_ok-put_name.ensures.changes h) c.put_parts.ensures.changes
+pub returns-clause-frame : goal.returns-clause-frame
+returns-clause-frame c = on_ok c.put_parts.result (λ h. struct_after c.in_ok-put_name.ensures.frame.changes h) c.put_parts.ensures.frame

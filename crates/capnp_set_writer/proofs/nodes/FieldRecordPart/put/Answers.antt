@@ -3,6 +3,7 @@ use Rattle.std.proofs.lemmas.Result.{err_from_is_err_and}
 use Rattle.capnp_schema.specs.Schema.{seen_field}
 use Rattle.capnp_set_writer.specs.Limits.{FieldHasForm, FieldHasKinds}
 use Rattle.capnp_arena.specs.Facts.Places.{then}
+use Rattle.capnp_arena.specs.Facts.Frames.{struct_after}
 use Rattle.capnp_set_writer.proofs.Trees.{if_err, on_ok, refused-up}
 use Rattle.capnp_set_writer.proofs.nodes.FieldRecordPart.put.Goals as goal
 
@@ -24,5 +25,5 @@ returns-clause-cause c = if_err c.put_kind.result
 
 -- one call after another
 
-pub returns-clause-changes : goal.returns-clause-changes
-returns-clause-changes c = on_ok c.put_kind.result (λ h. then (then (then c.set_number.ensures.changes c.in_ok-put_name.ensures.changes) c.in_ok-put_parts.ensures.changes) h) c.put_kind.ensures.changes
+pub returns-clause-frame : goal.returns-clause-frame
+returns-clause-frame c = on_ok c.put_kind.result (λ h. struct_after (then (then c.set_number.ensures.changes c.in_ok-put_name.ensures.frame.changes) c.in_ok-put_parts.ensures.frame.changes) h) c.put_kind.ensures.frame

@@ -11,8 +11,8 @@ returns-clause-written c =
     type-written c.args.self.now c.innermost-inner.result c.innermost-inner.ensures _ _ _ _ _ _ _ c.base_number.ensures c.in_ok-lists.ensures.count c.named_number.ensures.is
     c.requires.is c.set_number.ensures.tree c.set_number-2.ensures.tree c.set_number-3.ensures.tree
 
-pub returns-clause-changes : goal.returns-clause-changes
-returns-clause-changes c = then (then c.set_number.ensures.changes c.set_number-2.ensures.changes) c.set_number-3.ensures.changes
+pub returns-clause-frame : goal.returns-clause-frame
+returns-clause-frame c = record { planted = c.set_number-3.ensures.planted; changes = then (then c.set_number.ensures.changes c.set_number-2.ensures.changes) c.set_number-3.ensures.changes }
 
 pub returns-clause-kept : goal.returns-clause-kept
 returns-clause-kept c = type-kept c.args.self.now c.innermost-inner.result c.innermost-inner.ensures c.in_ok-lists.ensures.few c.named_number.ensures.bound

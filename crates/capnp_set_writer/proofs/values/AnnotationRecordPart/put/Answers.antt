@@ -1,6 +1,6 @@
-use Rattle.capnp_arena.specs.Facts.Places.{then}
+use Rattle.capnp_arena.specs.Facts.Frames.{struct_after}
 use Rattle.capnp_set_writer.proofs.Trees.{on_ok}
 use Rattle.capnp_set_writer.proofs.values.AnnotationRecordPart.put.Goals as goal
 
-pub returns-clause-changes : goal.returns-clause-changes
-returns-clause-changes c = on_ok c.put_part.result (λ h. then c.set_number.ensures.changes h) c.put_part.ensures.changes
+pub returns-clause-frame : goal.returns-clause-frame
+returns-clause-frame c = on_ok c.put_part.result (λ h. struct_after c.set_number.ensures.changes h) c.put_part.ensures.frame

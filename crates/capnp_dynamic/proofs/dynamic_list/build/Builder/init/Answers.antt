@@ -47,8 +47,7 @@ returns-clause-owner c = record {
   arena = _;
   there = record { at = c.get_pointer_element-at.result; stands = c.hand_out.ensures.behind; leaves = c.get_pointer_element-at.ensures.leaves };
   same = refl;
-  forest = c.in_ok-init.ensures.forest;
-  changes = c.in_ok-init.ensures.changes;
+  frame = c.in_ok-init.ensures.frame;
   becomes = c.in_ok-init.ensures.written;
 }
 
@@ -59,7 +58,7 @@ pub init-requires-clause-forest : goal.init-requires-clause-forest
 init-requires-clause-forest c = c.requires.ready.forest
 
 pub get_pointer_element-at-requires-clause-forest : goal.get_pointer_element-at-requires-clause-forest
-get_pointer_element-at-requires-clause-forest c = c.in_ok-init.ensures.forest
+get_pointer_element-at-requires-clause-forest c = c.in_ok-init.ensures.frame.forest
 
 pub hand_out-requires-clause-forest : goal.hand_out-requires-clause-forest
 hand_out-requires-clause-forest c = c.get_pointer_element-at.ensures.forest

@@ -26,12 +26,12 @@ returns-in-Some-clause-ready c =
     let s = built_struct c.args.self in
     let new = built_at c.init.new.arena (place_of c.args.self) in
     record {
-      planted = c.init.ensures.planted;
+      planted = c.init.ensures.frame.planted;
       room = c.in-Some.ensures.room new (room_kept f (names_of f) s new (room_for f (built_schema c.args.self) s c.requires.belongs c.requires.ready.room) c.init.ensures.kept);
     }
 
 pub returns-in-Some-clause-owner : goal.returns-in-Some-clause-owner
-returns-in-Some-clause-owner c = started_group (struct_behind c.args.self) (place_of c.args.self) c.args.field _ c.in-Some.ensures refl refl c.init.ensures.changes
+returns-in-Some-clause-owner c = started_group (struct_behind c.args.self) (place_of c.args.self) c.args.field _ c.in-Some.ensures refl refl c.init.ensures.frame.changes
 
 -- ---- a slot ----
 

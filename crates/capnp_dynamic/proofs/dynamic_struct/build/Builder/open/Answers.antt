@@ -16,9 +16,8 @@ returns c =
         same = refl;
         ready = entered_stands c.args.schema c.size_of-size.result old c.get_struct.new.self c.args.pointer.at c.in_ok-place.place c.size_of-size.ensures e.forest e.place e.tree;
         schema = refl;
-        forest = e.forest;
+        frame = record { forest = e.forest; changes = e.changes };
         place = e.place;
-        changes = e.changes;
         now = entered_is c.args.schema c.size_of-size.result old c.get_struct.new.self c.args.pointer.at c.in_ok-place.place c.size_of-size.ensures e.forest e.place e.tree;
         cause = tt;
       },
