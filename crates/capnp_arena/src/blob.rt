@@ -2,6 +2,7 @@
 ghost use Rattle.std.specs.Prelude.{IsTrue, ◌*◌, ◌+◌, ◌/◌, ◌<◌, ◌^◌, ◌≡◌, ◌≤◌};
 ghost use Rattle.capnp_wire.specs.Found.{pointer_tree};
 ghost use Rattle.capnp_wire.specs.Locate.{element_size_number, offset, pointer_kind, words_past_format};
+ghost use Rattle.capnp_wire.specs.Tree.{Null};
 ghost use Rattle.capnp_arena.specs.Steps.Blob.{IsBlobAt, IsBlobOf};
 
 use crate::append::get_part;
@@ -46,6 +47,29 @@ fn get_blob(segment: &[u8], start: usize, count: u32) -> Option<Blob<'_>>
             words: get_part(segment, start, 8 * (next - start)),
         }),
         None => None,
+    }
+}
+
+/// Whether the word of a pointer is that of a null.
+#[inline(always)]
+pub(crate) fn is_null_word(pointer: Pointer<'_>) -> bool
+    ensures { IsTrue result → pointer_tree pointer.entry ≡ Null }
+{
+    match pointer {
+        Pointer::Null => false,
+        Pointer::Bad(_) => false,
+        Pointer::Word {
+            depth: _,
+            is_stream: _,
+            bytes: _,
+            segment,
+            index,
+        } => {
+            if index >= segment.len() / 8 {
+                return false;
+            }
+            read_word(segment, index) == 0
+        }
     }
 }
 

@@ -17,7 +17,7 @@ ghost use Rattle.capnp_arena.specs.Segment.{segment};
 ghost use Rattle.capnp_arena.specs.Shape.{word_count};
 
 use crate::arena::Arena;
-use crate::blob::{Blob, find_blob};
+use crate::blob::{Blob, find_blob, is_null_word};
 use crate::spell::{make_list_word, make_struct_word, put_bytes, put_word};
 use capnp_device::error::Result;
 use capnp_wire::fault::refuse;
@@ -218,6 +218,16 @@ fn append_composite(arena: &mut Arena, size: StructSize, elements: Elements<'_>)
 
 // ---- room that is filled ----
 
+/// Puts the pointer of a null into a word.
+#[inline(always)]
+fn fill_null(arena: &mut Arena, at: usize)
+    requires inside { at < word_count (segment arena.old) }
+    ensures copy { segment arena.new ≡ bytes_with (8 * at) (spelled_number 8 0) (segment arena.old) }
+    ensures kept { Spares at 1 (segment arena.old) (segment arena.new) }
+{
+    put_word(&mut arena.bytes, 8 * at, 0);
+}
+
 /// Puts the pointer to bytes into a word, and appends the words that they take.
 #[inline(always)]
 fn fill_blob(arena: &mut Arena, at: usize, blob: Blob<'_>) -> Result<()>
@@ -248,6 +258,10 @@ pub(crate) fn fill_pointer(arena: &mut Arena, at: usize, pointer: Pointer<'_>) -
     ensures cause { IfErr result (λ e. IsCopyRefusal e (first_fault (pointer_tree pointer.entry))) }
     ensures kept { Spares at 1 (segment arena.old) (segment arena.new) }
 {
+    if is_null_word(pointer) {
+        fill_null(arena, at);
+        return Ok(());
+    }
     if let Some(blob) = find_blob(pointer) {
         return fill_blob(arena, at, blob);
     }

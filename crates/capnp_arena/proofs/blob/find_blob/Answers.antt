@@ -1,4 +1,4 @@
-use Rattle.std.proofs.Common.{arith, ◌+◌, ◌≡◌, refl, sym, subst}
+use Rattle.std.proofs.Common.{arith, ◌+◌, refl, sym, subst}
 use Rattle.capnp_wire.specs.Backing.{segments_in}
 use Rattle.capnp_wire.specs.Found.{pointer_tree}
 use Rattle.capnp_wire.specs.Locate.{count, offset}
