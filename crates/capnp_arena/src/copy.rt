@@ -274,6 +274,7 @@ pub(crate) fn fill_pointer(arena: &mut Arena, at: usize, pointer: Pointer<'_>) -
 
 /// Puts pointers in a row into the words from one on, and appends what they lead to.
 #[cycle(copy)]
+#[inline(always)]
 pub(crate) fn fill_row(arena: &mut Arena, at: usize, pointers: Pointers<'_>) -> Result<()>
     requires held { AreWellFormed (pointer_trees pointers) }
     requires inside { at + tree_count (pointer_trees pointers) ≤ word_count (segment arena.old) }
