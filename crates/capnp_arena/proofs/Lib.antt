@@ -41,3 +41,4 @@ pub mod Peeked
 pub mod Fronts
 pub mod ZeroWords
 pub mod Sent
+pub mod BlobsFound

@@ -1,4 +1,5 @@
 -- Steps of the code: no contract of a public function stands on them.
+pub mod Blob
 pub mod Blobs
 pub mod Copies
 pub mod Counts

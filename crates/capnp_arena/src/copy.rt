@@ -3,7 +3,8 @@
 //! memory holds no fault leaf, so what has one is refused.
 ghost use Rattle.std.specs.Prelude.{IfErr, IfOk, IsSome, IsTrue, None, OnOk, suc, ◌*◌, ◌++◌, ◌+◌, ◌-◌, ◌/◌, ◌<◌, ◌≡◌, ◌≤◌, length};
 ghost use Rattle.capnp_wire.specs.Edits.{IsCopyRefusal, rounded_struct};
-ghost use Rattle.capnp_wire.specs.Encoding.{bytes_of, bytes_of_all, list_word, number_size, pointer_row, pointer_word, spelled_number};
+ghost use Rattle.capnp_device.specs.declared.error.ErrorKind.TheVariants.{OutOfMemory};
+ghost use Rattle.capnp_wire.specs.Encoding.{bytes_of, bytes_of_all, list_word, number_size, padded_bytes, pointer_row, pointer_word, spelled_number};
 ghost use Rattle.capnp_wire.specs.Steps.Filling.{bytes_with, with_encoded_element, with_encoded_elements, with_pointers};
 ghost use Rattle.capnp_wire.specs.Found.{element_structs, found_tree, parts_tree, pointer_tree, pointer_trees};
 ghost use Rattle.capnp_wire.specs.Locate.{words_past_format};
@@ -16,6 +17,7 @@ ghost use Rattle.capnp_arena.specs.Segment.{segment};
 ghost use Rattle.capnp_arena.specs.Shape.{word_count};
 
 use crate::arena::Arena;
+use crate::blob::{Blob, find_blob, is_null_word};
 use crate::spell::{make_list_word, make_struct_word, put_bytes, put_word};
 use capnp_device::error::Result;
 use capnp_wire::fault::refuse;
@@ -216,6 +218,33 @@ fn append_composite(arena: &mut Arena, size: StructSize, elements: Elements<'_>)
 
 // ---- room that is filled ----
 
+/// Puts the pointer of a null into a word.
+#[inline(always)]
+fn fill_null(arena: &mut Arena, at: usize)
+    requires inside { at < word_count (segment arena.old) }
+    ensures copy { segment arena.new ≡ bytes_with (8 * at) (spelled_number 8 0) (segment arena.old) }
+    ensures kept { Spares at 1 (segment arena.old) (segment arena.new) }
+{
+    put_word(&mut arena.bytes, 8 * at, 0);
+}
+
+/// Puts the pointer to bytes into a word, and appends the words that they take.
+#[inline(always)]
+fn fill_blob(arena: &mut Arena, at: usize, blob: Blob<'_>) -> Result<()>
+    requires few { blob.count < words_past_format }
+    requires inside { at < word_count (segment arena.old) }
+    ensures copy { OnOk result (segment arena.new ≡
+        bytes_with (8 * at) (spelled_number 8 (list_word (word_count (segment arena.old) - suc at) 2 blob.entry.count))
+        (segment arena.old) ++ padded_bytes blob.entry.words.now) }
+    ensures kind { IfErr result (λ e. e.kind ≡ OutOfMemory) }
+    ensures kept { Spares at 1 (segment arena.old) (segment arena.new) }
+{
+    let gap = arena.count_words() - at - 1;
+    let word = make_list_word(gap as u64, 2, blob.count as u64);
+    put_word(&mut arena.bytes, 8 * at, word);
+    arena.append_bytes(blob.words)
+}
+
 /// Puts a pointer into a word, and appends what it leads to.
 #[cycle(copy)]
 #[inline(always)]
@@ -229,6 +258,13 @@ pub(crate) fn fill_pointer(arena: &mut Arena, at: usize, pointer: Pointer<'_>) -
     ensures cause { IfErr result (λ e. IsCopyRefusal e (first_fault (pointer_tree pointer.entry))) }
     ensures kept { Spares at 1 (segment arena.old) (segment arena.new) }
 {
+    if is_null_word(pointer) {
+        fill_null(arena, at);
+        return Ok(());
+    }
+    if let Some(blob) = find_blob(pointer) {
+        return fill_blob(arena, at, blob);
+    }
     let found = look(pointer);
     let gap = arena.count_words() - at - 1;
     put_word(&mut arena.bytes, 8 * at, point_to(gap as u64, found));
@@ -238,6 +274,7 @@ pub(crate) fn fill_pointer(arena: &mut Arena, at: usize, pointer: Pointer<'_>) -
 
 /// Puts pointers in a row into the words from one on, and appends what they lead to.
 #[cycle(copy)]
+#[inline(always)]
 pub(crate) fn fill_row(arena: &mut Arena, at: usize, pointers: Pointers<'_>) -> Result<()>
     requires held { AreWellFormed (pointer_trees pointers) }
     requires inside { at + tree_count (pointer_trees pointers) ≤ word_count (segment arena.old) }

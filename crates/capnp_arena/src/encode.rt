@@ -263,6 +263,7 @@ fn append_composite(
 
 /// Puts pointers in a row into the room that is left for them, from an index on, and appends what they lead to.
 #[cycle(append)]
+#[inline(always)]
 pub(crate) fn fill_row(
     out: &mut Vec<u8>,
     at: usize,

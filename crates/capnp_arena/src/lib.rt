@@ -3,6 +3,7 @@
 
 mod append;
 pub mod arena;
+mod blob;
 mod blob_builder;
 pub mod blobs;
 pub mod callers;

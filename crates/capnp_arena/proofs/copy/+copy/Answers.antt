@@ -1,4 +1,4 @@
-use Rattle.std.proofs.Common.{arith, OnOk, ◌++◌, ◌≡◌, ◌+◌, ◌*◌, ◌/◌, ◌<◌, ◌≤◌, length, refl, sym, ap, subst, ◌∙◌}
+use Rattle.std.proofs.Common.{arith, OnOk, ◌++◌, ◌≡◌, ◌+◌, ◌*◌, ◌-◌, ◌/◌, ◌<◌, ◌≤◌, suc, length, refl, sym, ap, subst, ◌∙◌}
 use Rattle.std.proofs.lemmas.Result.{err_from_is_err_and}
 use Rattle.capnp_wire.specs.Encoding.{bytes_of, spelled_number}
 use Rattle.capnp_wire.specs.Facts.EncodedSizes.{length_element_row}
@@ -13,6 +13,7 @@ use Rattle.capnp_wire.specs.WellFormed.{IsWellFormed}
 use Rattle.capnp_wire.specs.Steps.WellFormed.{IsElement}
 use Rattle.capnp_arena.specs.Steps.Copies.{Spares}
 use Rattle.capnp_arena.proofs.Copying.{added_kept, bits_appended, element_kept, kept_then, pointer_kept, pointer_next, pointer_refused, pointer_spared, room_kept, row_filled, row_sound, struct_after, struct_kept, struct_refused, structs_filled, structs_sound}
+use Rattle.capnp_arena.proofs.BlobsFound.{blob_filled}
 use Rattle.capnp_arena.proofs.Padding.{padded_whole}
 use Rattle.capnp_arena.proofs.PlainRows.{plain_list}
 use Rattle.capnp_arena.specs.Facts.Shapes.{element_end}
@@ -82,6 +83,11 @@ append_composite-returns-clause-copy t c =
     c.make_struct_word.ensures c.in_ok-append_word.ensures.longer (sym c.count_words-at.ensures.whole) c.count_elements-count.ensures c.in_ok-grow.ensures.longer c.requires.held.4 c.in_ok-fill_elements.ensures.copy
 
 -- ---- pointers ----
+
+pub fill_pointer-returns-in-Some-clause-copy : goal.fill_pointer-returns-in-Some-clause-copy
+fill_pointer-returns-in-Some-clause-copy t c =
+    let old = c.args.arena.now.bytes.items in
+    subst (λ z. OnOk c.fill_blob.result (c.fill_blob.new.arena.bytes.items ≡ z)) (blob_filled c.in-Some.blob (pointer_tree c.args.pointer) c.in-Some.ensures (8 * c.args.at) (length c.args.arena.now.bytes.items / 8 - suc c.args.at) c.args.arena.now.bytes.items) c.fill_blob.ensures.copy
 
 pub fill_pointer-returns-in_err-append_found-clause-kept : goal.fill_pointer-returns-in_err-append_found-clause-kept
 fill_pointer-returns-in_err-append_found-clause-kept t c = pointer_spared c.args.at _ _ _ _ (omega (arith, c.requires.inside)) c.put_word.ensures.put c.append_found.ensures.kept
