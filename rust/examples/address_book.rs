@@ -7,8 +7,8 @@ use riftcalico::{message, patch, printer, schema::SchemaSet};
 
 /// The number of a phone, and the book with another address in it.
 pub fn lines(request: &[u8], book: &[u8]) -> riftcalico::Result<String> {
-    let set = SchemaSet::from_request(request)?;
-    let schema = set.get_struct_named("AddressBook")?;
+    let schemas = SchemaSet::from_request(request)?;
+    let schema = schemas.get_struct_named("AddressBook")?;
     let root = message::read_root(book, schema)?;
     let number = patch::get_path(root.into(), "people.1.phones.0.number")?;
     let number = printer::to_string(number, false)?;

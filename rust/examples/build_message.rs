@@ -26,8 +26,8 @@ fn element(list: dynamic_list::Builder<'_>, index: u32) -> Result<dynamic_struct
 
 /// The bytes of an address book with one person in it.
 fn build(request: &[u8]) -> Result<Vec<u8>, Box<dyn Error>> {
-    let set = SchemaSet::from_request(request)?;
-    let schema = set.get_struct_named("AddressBook")?;
+    let schemas = SchemaSet::from_request(request)?;
+    let schema = schemas.get_struct_named("AddressBook")?;
     let mut message = message::Builder::new(Global)?;
     let book = dynamic_struct::Builder::open(message.root(), schema)?;
     let mut alice = element(init_list(book, "people", 1)?, 0)?;
@@ -42,8 +42,8 @@ fn build(request: &[u8]) -> Result<Vec<u8>, Box<dyn Error>> {
 /// What is printed: the text of the message that is built.
 pub fn lines(request: &[u8]) -> Result<String, Box<dyn Error>> {
     let bytes = build(request)?;
-    let set = SchemaSet::from_request(request)?;
-    let book = message::read_root(&bytes, set.get_struct_named("AddressBook")?)?;
+    let schemas = SchemaSet::from_request(request)?;
+    let book = message::read_root(&bytes, schemas.get_struct_named("AddressBook")?)?;
     Ok(format!("{}\n", printer::to_string(book.into(), false)?))
 }
 

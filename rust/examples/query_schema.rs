@@ -6,11 +6,11 @@ use riftcalico::schema::{Field, SchemaSet};
 use std::error::Error;
 
 /// A type in the words of a schema.
-fn name_of(set: &SchemaSet, variant: TypeVariant) -> String {
+fn name_of(schemas: &SchemaSet, variant: TypeVariant) -> String {
     match variant {
-        TypeVariant::List(element) => format!("List({})", name_of(set, element.which())),
+        TypeVariant::List(element) => format!("List({})", name_of(schemas, element.which())),
         TypeVariant::Struct(schema) => {
-            let found = set.get_struct(schema.number);
+            let found = schemas.get_struct(schema.number);
             found.map_or("?".to_string(), |found| found.get_proto().display_name.to_string())
         }
         other => format!("{other:?}"),
@@ -18,7 +18,7 @@ fn name_of(set: &SchemaSet, variant: TypeVariant) -> String {
 }
 
 /// A field, its type and its place.
-fn describe(set: &SchemaSet, field: Field<'_>) -> String {
+fn describe(schemas: &SchemaSet, field: Field<'_>) -> String {
     let place = match field.plan().place {
         Place::Nothing => "no room".to_string(),
         Place::Bits { start, width, .. } => format!("{width} bits from bit {start}"),
@@ -28,15 +28,15 @@ fn describe(set: &SchemaSet, field: Field<'_>) -> String {
     format!(
         "{}: {}, {place}\n",
         field.get_proto().name,
-        name_of(set, field.get_type().which())
+        name_of(schemas, field.get_type().which())
     )
 }
 
 /// What is printed: a line for each field of a person.
 pub fn lines(request: &[u8]) -> Result<String, Box<dyn Error>> {
-    let set = SchemaSet::from_request(request)?;
-    let person = set.get_struct_named("Person")?;
-    Ok(person.get_fields()?.iter().map(|field| describe(&set, field)).collect())
+    let schemas = SchemaSet::from_request(request)?;
+    let person = schemas.get_struct_named("Person")?;
+    Ok(person.get_fields()?.iter().map(|field| describe(&schemas, field)).collect())
 }
 
 fn main() -> Result<(), Box<dyn Error>> {

@@ -10,8 +10,8 @@
 //! # let request = include_bytes!("../../examples/addressbook.request");
 //! # let bytes = include_bytes!("../../examples/addressbook.bin");
 //! // `capnp compile -o- addressbook.capnp` makes the request
-//! let set = SchemaSet::from_request(request)?;
-//! let book = message::read_root(bytes, set.get_struct_named("AddressBook")?)?;
+//! let schemas = SchemaSet::from_request(request)?;
+//! let book = message::read_root(bytes, schemas.get_struct_named("AddressBook")?)?;
 //! assert!(printer::to_string(book.into(), false)?.starts_with("(people = [(id = 123, name = \"Alice\""));
 //! # Ok(())
 //! # }

@@ -21,8 +21,8 @@ fn a_refusal_is_an_error_with_number_and_name() {
 
 #[test]
 fn a_name_that_no_struct_has_is_refused() {
-    let set = SchemaSet::from_request(REQUEST).expect("the request is whole");
-    let refusal = set.get_struct_named("Nobody").expect_err("there is no such struct");
+    let schemas = SchemaSet::from_request(REQUEST).expect("the request is whole");
+    let refusal = schemas.get_struct_named("Nobody").expect_err("there is no such struct");
     assert_eq!((refusal.number(), refusal.name()), (64, "NameNotFound"));
 }
 
@@ -36,10 +36,10 @@ fn vectors_and_strings_go_both_ways() {
 
 #[test]
 fn a_set_is_the_same_by_its_request_and_by_its_message() {
-    let set = SchemaSet::from_request(REQUEST).expect("the request is whole");
-    let bytes = set.to_message().expect("there is memory");
+    let schemas = SchemaSet::from_request(REQUEST).expect("the request is whole");
+    let bytes = schemas.to_message().expect("there is memory");
     let again = SchemaSet::from_message(&bytes).expect("what was written is read");
-    assert!(set.nodes() == again.nodes() && set.brands() == again.brands() && set.enums() == again.enums());
+    assert!(schemas.nodes() == again.nodes() && schemas.brands() == again.brands() && schemas.enums() == again.enums());
     assert_eq!(
         bytes,
         Vec::from(sets::write_set(Global, &again).expect("there is memory"))
@@ -62,8 +62,8 @@ fn strings_stand_where_texts_are_wanted() {
 
 #[test]
 fn a_root_is_read_under_a_struct_of_the_built_in_set() {
-    let set = builtin::new_set(Global).expect("there is memory");
-    let root = message::read_root(FLAT, set.struct_schema(builtin::FLAT)).expect("the message is whole");
+    let schemas = builtin::new_set(Global).expect("there is memory");
+    let root = message::read_root(FLAT, schemas.struct_schema(builtin::FLAT)).expect("the message is whole");
     assert_eq!(
         printer::to_string(root.into(), false).expect("each value is read"),
         "(a = 5)"
@@ -121,8 +121,8 @@ fn a_value_is_written_where_it_stands_after_what_it_lent() {
 
 #[test]
 fn a_struct_and_a_list_are_written_where_they_stand_after_what_they_lent() {
-    let set = SchemaSet::from_request(REQUEST).expect("the request is whole");
-    let schema = set.get_struct_named("AddressBook").expect("it is named");
+    let schemas = SchemaSet::from_request(REQUEST).expect("the request is whole");
+    let schema = schemas.get_struct_named("AddressBook").expect("it is named");
     let mut message = message::Builder::new(Global).expect("there is memory");
     let book = dynamic_struct::Builder::open(message.root(), schema).expect("there is memory");
     write_twice(book.initn_named("people", 3).expect("there is memory"));

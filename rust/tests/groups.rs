@@ -64,8 +64,8 @@ fn nested_as(names: [&str; 3], groups: u32, words: u16) -> Result<SchemaSet, Err
 #[test]
 fn groups_in_one_another_are_gone_through() {
     in_small_stack(|| {
-        let set = nested(65_535, 16_384).expect("the set is accepted");
-        let mut walk = GroupWalk::start(set.struct_schema(0));
+        let schemas = nested(65_535, 16_384).expect("the set is accepted");
+        let mut walk = GroupWalk::start(schemas.struct_schema(0));
         let (mut slots, mut deepest) = (0, 0);
         loop {
             match walk.get_field() {
@@ -87,15 +87,15 @@ fn groups_in_one_another_are_gone_through() {
             }
         }
         assert_eq!((slots, deepest, walk.get_depth()), (131_072, 65_535, 0));
-        assert!(set.struct_schema(0).get_group_field().is_none());
+        assert!(schemas.struct_schema(0).get_group_field().is_none());
     });
 }
 
 #[test]
 fn groups_in_one_another_are_cleared() {
     in_small_stack(|| {
-        let set = nested(65_535, 16_385).expect("the set is accepted");
-        let schema = set.struct_schema(0);
+        let schemas = nested(65_535, 16_385).expect("the set is accepted");
+        let schema = schemas.struct_schema(0);
         let mut message = message::Builder::new(Global).expect("there is memory");
         let root = message.root();
         let filled = root.init_struct(message::StructSize {
@@ -131,11 +131,11 @@ fn nested_text(groups: usize) -> String {
 #[test]
 fn groups_in_one_another_are_printed() {
     in_small_stack(|| {
-        let set = nested(65_535, 16_384).expect("the set is accepted");
+        let schemas = nested(65_535, 16_384).expect("the set is accepted");
         // One segment of one word, whose root is null.
         let mut bytes = [0; 16];
         bytes[4] = 1;
-        let seen = message::read_root(&bytes, set.struct_schema(0)).expect("a struct stands there");
+        let seen = message::read_root(&bytes, schemas.struct_schema(0)).expect("a struct stands there");
         let text = printer::to_string(seen.into(), false).expect("the print is not refused");
         assert!(text == nested_text(65_535));
     });
@@ -146,8 +146,8 @@ fn groups_in_one_another_are_printed() {
 #[test]
 fn groups_in_one_another_are_copied() {
     in_small_stack(|| {
-        let set = nested(5_000, 1_251).expect("the set is accepted");
-        let schema = set.struct_schema(0);
+        let schemas = nested(5_000, 1_251).expect("the set is accepted");
+        let schema = schemas.struct_schema(0);
         let size = message::StructSize {
             data_words: 1_251,
             pointers: 0,
@@ -204,9 +204,9 @@ fn listed(groups: u32) -> String {
 
 /// The set of so many nested groups, with names of one letter, as a file.
 fn set_file(name: &str, groups: u32, words: u16) -> PathBuf {
-    let set = nested_as(["b", "g", "a"], groups, words).expect("the set is accepted");
+    let schemas = nested_as(["b", "g", "a"], groups, words).expect("the set is accepted");
     let file = Path::new(env!("CARGO_TARGET_TMPDIR")).join(name);
-    fs::write(&file, set.to_message().expect("a set is written")).expect("cargo's folder can be written");
+    fs::write(&file, schemas.to_message().expect("a set is written")).expect("cargo's folder can be written");
     file
 }
 

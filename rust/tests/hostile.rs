@@ -66,12 +66,12 @@ fn try_set(bytes: &[u8], read: fn(&[u8]) -> Result<SchemaSet>) -> Option<bool> {
     if !is_within(bytes, STEPS) {
         return None;
     }
-    let Ok(set) = read(bytes) else {
+    let Ok(schemas) = read(bytes) else {
         return Some(false);
     };
-    let written = set.to_message().expect("a set that was read is short");
+    let written = schemas.to_message().expect("a set that was read is short");
     let again = SchemaSet::from_message(&written).expect("a set that was written is read back");
-    assert!(again.nodes() == set.nodes() && again.brands() == set.brands() && again.enums() == set.enums());
+    assert!(again.nodes() == schemas.nodes() && again.brands() == schemas.brands() && again.enums() == schemas.enums());
     Some(true)
 }
 

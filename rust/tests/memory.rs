@@ -175,8 +175,8 @@ const FIRST_NUMBER: Call<'_> = Call {
 };
 
 /// The address book's schema.
-fn book(set: &SchemaSet) -> StructSchema<'_> {
-    set.get_struct_named("AddressBook").expect("the request has the struct")
+fn book(schemas: &SchemaSet) -> StructSchema<'_> {
+    schemas.get_struct_named("AddressBook").expect("the request has the struct")
 }
 
 fn book_set() -> SchemaSet {
@@ -190,16 +190,16 @@ fn is_out_of_room(replies: &[Reply]) -> bool {
 
 #[test]
 fn a_limit_bounds_memory_of_runs() {
-    let set = book_set();
+    let schemas = book_set();
     let bytes = many_nothings();
     let source = Reader::new(Global, &bytes).expect("the message is whole");
     let (left, held) = most_held(|| {
         let calls = [FIRST_NUMBER];
-        run_copied(Global, LIMIT, source.get_root(), book(&set), &calls)
+        run_copied(Global, LIMIT, source.get_root(), book(&schemas), &calls)
     });
     assert!(left.is_ok_and(|left| is_out_of_room(&left.replies)));
     assert!(held < FEW_BYTES, "{held} bytes");
-    let (patched, held) = most_held(|| patch_bytes(&bytes, book(&set), &[FIRST_NUMBER]));
+    let (patched, held) = most_held(|| patch_bytes(&bytes, book(&schemas), &[FIRST_NUMBER]));
     let (replies, left) = patched.expect("the message is copied, and written again");
     assert!(is_out_of_room(&replies));
     assert_eq!(left, bytes);

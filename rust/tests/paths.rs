@@ -97,8 +97,8 @@ fn reply_to(schema: StructSchema<'_>, path: &[Step<'_>], last: &'static str, op:
 #[test]
 fn calls_of_long_paths_are_answered() {
     on_small_stack(|| {
-        let set = new_set();
-        let schema = set.struct_schema(0);
+        let schemas = new_set();
+        let schema = schemas.struct_schema(0);
         for path in &long_paths() {
             let reply = |last, op| reply_to(schema, path, last, op);
             assert_eq!(reply("number", Op::Get), Reply::Value(Plain::UInt16(7)));
@@ -116,8 +116,8 @@ fn calls_of_long_paths_are_answered() {
 #[test]
 fn reads_along_long_paths_are_answered() {
     on_small_stack(|| {
-        let set = new_set();
-        let schema = set.struct_schema(0);
+        let schemas = new_set();
+        let schema = schemas.struct_schema(0);
         let root = read_root(&EMPTY, schema).expect("a null is read");
         let [nulls, defaults] = long_paths();
         let part = patch::read_path(root.into(), &nulls).err();
@@ -130,8 +130,8 @@ fn reads_along_long_paths_are_answered() {
 #[test]
 fn types_along_long_paths_are_answered() {
     on_small_stack(|| {
-        let set = new_set();
-        let schema = set.struct_schema(0);
+        let schemas = new_set();
+        let schema = schemas.struct_schema(0);
         let mut steps = List::new(Global);
         for _ in 0..STEPS {
             steps.push(PathStep::Field(1)).expect("there is memory");
@@ -144,11 +144,11 @@ fn types_along_long_paths_are_answered() {
 #[test]
 fn types_of_many_lists_are_answered() {
     on_small_stack(|| {
-        let set = new_set();
-        let schema = set.struct_schema(0);
-        let written = set.to_message().expect("a set of one struct is short");
+        let schemas = new_set();
+        let schema = schemas.struct_schema(0);
+        let written = schemas.to_message().expect("a set of one struct is short");
         let again = SchemaSet::from_message(&written).expect("a set that was written is read back");
-        assert!(again.brands() == set.brands());
+        assert!(again.brands() == schemas.brands());
         let same = Compatible::check(Global, schema, schema).expect("there is memory");
         assert!(same.is_some());
         let mut steps = List::new(Global);
@@ -173,8 +173,8 @@ fn types_of_many_lists_are_answered() {
 #[test]
 fn fields_of_many_lists_are_listed() {
     let file = std::path::Path::new(env!("CARGO_TARGET_TMPDIR")).join("paths.set");
-    let set = new_set().to_message().expect("a set of one struct is short");
-    fs::write(&file, set).expect("cargo's folder can be written");
+    let schemas = new_set().to_message().expect("a set of one struct is short");
+    fs::write(&file, schemas).expect("cargo's folder can be written");
     let script = format!("ulimit -s {} && exec \"$0\" structs --set \"$1\" Deep", STACK >> 10);
     let output = Command::new("sh")
         .args(["-c", &script, env!("CARGO_BIN_EXE_riftcalico")])

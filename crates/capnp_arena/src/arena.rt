@@ -403,7 +403,7 @@ impl Arena {
         );
     }
 
-    /// The same of a number that is stored XORed with its default `mask`.
+    /// Stores a number in the data of a struct, XORed with its default `mask`. No memory is taken.
     pub fn set_number_mask<T: PrimitiveElement>(
         &mut self,
         place: Place,

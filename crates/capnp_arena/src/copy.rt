@@ -173,8 +173,8 @@ fn append_row(arena: &mut Arena, pointers: Pointers<'_>) -> Result<()>
 /// The bytes of structs without pointers, which lie one after another in a message: of such of size zero, which it says
 /// by their count alone, none.
 #[inline(always)]
-fn get_plain_bytes<'a>(size: StructSize, elements: Elements<'a>) -> Option<&'a [u8]>
-    ensures plain { ArePointerlessIn result size (element_structs size.data_words size.pointers elements.entry) }
+fn get_pointerless_bytes<'a>(size: StructSize, elements: Elements<'a>) -> Option<&'a [u8]>
+    ensures pointerless { ArePointerlessIn result size (element_structs size.data_words size.pointers elements.entry) }
     ensures told { size.pointers ≡ 0 → IsSome result }
 {
     if size.pointers != 0 {
@@ -206,8 +206,8 @@ fn append_composite(arena: &mut Arena, size: StructSize, elements: Elements<'_>)
         size.data_words as u64,
         size.pointers as u64,
     ))?;
-    if let Some(plain) = get_plain_bytes(size, elements) {
-        arena.append_bytes(plain)?;
+    if let Some(bytes) = get_pointerless_bytes(size, elements) {
+        arena.append_bytes(bytes)?;
         return Ok(());
     }
     let at = arena.count_words();

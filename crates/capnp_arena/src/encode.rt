@@ -69,14 +69,14 @@ fn append_part(out: &mut Vec<u8>, bytes: &[u8], start: usize, count: usize) -> A
 
 /// A list of bits or numbers, or of nothing.
 #[inline(always)]
-fn append_plain(
+fn append_pointerless(
     out: &mut Vec<u8>,
     bytes: &[u8],
     start: usize,
     element_size: u8,
     count: u32,
 ) -> Appended
-    requires plain { element_size < 6 }
+    requires pointerless { element_size < 6 }
     requires few { (count < words_past_format) × (start < 2 ^ 30) }
     requires inside { start + list_words element_size count ≤ word_count bytes.now }
     ensures { IfOk result (λ _. out.new.items
@@ -155,7 +155,7 @@ pub(crate) fn append_tree(
             if element_size == 6 {
                 return append_row(out, bytes, start, count as usize, depth - 1);
             }
-            append_plain(out, bytes, start, element_size, count)
+            append_pointerless(out, bytes, start, element_size, count)
         }
         Target::Composite {
             tag,

@@ -187,7 +187,7 @@ pub fn build_data(message: &mut Builder, count: u32, first: u8) -> Result<()>
     Ok(())
 }
 
-/// The same by builders.
+/// Makes by builders the root data of so many zero bytes, of which the first is another one.
 ///
 /// Refused as `init_data`; then nothing has changed.
 pub fn build_data_by_builders(message: &mut Builder, count: u32, first: u8) -> Result<()>

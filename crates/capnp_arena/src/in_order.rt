@@ -60,8 +60,8 @@ pub(crate) fn end_of_bytes(bytes: &[u8], start: usize, count: usize) -> Option<u
 
 /// Where a list of bits or numbers, or of nothing, ends that starts at a word.
 #[inline(always)]
-fn end_of_plain(bytes: &[u8], start: usize, element_size: u8, count: u32) -> Option<usize>
-    requires plain { element_size < 6 }
+fn end_of_pointerless(bytes: &[u8], start: usize, element_size: u8, count: u32) -> Option<usize>
+    requires pointerless { element_size < 6 }
     requires few { (count < words_past_format) × (start < 2 ^ 30) }
     requires inside { start + list_words element_size count ≤ word_count bytes.now }
     ensures { IfKnown result (λ next. (start ≤ next) × (next ≤ word_count bytes.now)
@@ -154,7 +154,7 @@ fn follow(bytes: &[u8], w: usize, end: usize, depth: u8) -> Option<usize>
                     depth - 1,
                 );
             }
-            end_of_plain(bytes, start, element_size, count)
+            end_of_pointerless(bytes, start, element_size, count)
         }
         Target::Composite {
             tag,
@@ -205,7 +205,7 @@ fn follow_at(bytes: &[u8], w: usize, end: usize, depth: u8) -> Option<usize>
         if depth == 0 {
             return None;
         }
-        return end_of_plain(bytes, end, 2, get_count(word));
+        return end_of_pointerless(bytes, end, 2, get_count(word));
     }
     match look(bytes, w) {
         Target::Null => Some(end),
@@ -224,7 +224,7 @@ fn follow_at(bytes: &[u8], w: usize, end: usize, depth: u8) -> Option<usize>
             if depth < least {
                 return None;
             }
-            end_of_plain(bytes, start, element_size, count)
+            end_of_pointerless(bytes, start, element_size, count)
         }
         _ => follow(bytes, w, end, depth),
     }

@@ -187,7 +187,7 @@ impl<'a> ListBuilder<'a> {
         StructBuilder { arena, place }
     }
 
-    /// The same for a shorter time. What is left there is what this builder has then.
+    /// The struct at `index` for a shorter time. What is left there is what this builder has then.
     #[inline(always)]
     pub fn struct_element_mut(&mut self, index: u32) -> StructBuilder<'_>
         requires forest { Forest (segment self.old.arena.now) self.old.at }
@@ -226,7 +226,7 @@ impl<'a> ListBuilder<'a> {
         PointerBuilder { arena, at }
     }
 
-    /// The same for a shorter time. What is left there is what this builder has then.
+    /// The pointer at `index` for a shorter time. What is left there is what this builder has then.
     #[inline(always)]
     pub fn pointer_element_mut(&mut self, index: u32) -> PointerBuilder<'_>
         requires forest { Forest (segment self.old.arena.now) self.old.at }

@@ -59,7 +59,7 @@ impl Arena {
         PointerReader::of_word(self.bytes.as_slice(), at, levels + 1, levels)
     }
 
-    /// The same for as long as the message is lent, which stays as it is.
+    /// A reader of whatever stands at a word for as long as the message is lent, which stays as it is.
     pub fn into_pointer_reader(&mut self, at: usize) -> PointerReader<'_>
         requires forest { Forest (segment self.old) at }
         ensures* ends { sem 𝓛 (EndsUnchanged self.entry) }
@@ -95,7 +95,7 @@ impl Arena {
         )
     }
 
-    /// The same for as long as the message is lent, which stays as it is.
+    /// A reader of a struct for as long as the message is lent, which stays as it is.
     pub fn into_struct_reader(&mut self, place: Place) -> StructReader<'_>
         requires planted { Planted (segment self.old) (StructIn place.start place.data_words place.pointers) }
         ensures* ends { sem 𝓛 (EndsUnchanged self.entry) }
@@ -129,7 +129,7 @@ impl Arena {
         list
     }
 
-    /// The same for as long as the message is lent, which stays as it is.
+    /// A reader of the list that a pointer leads to for as long as the message is lent, which stays as it is.
     pub fn into_list_reader(&mut self, at: usize, list: ListTarget) -> ListReader<'_>
         requires forest { Forest (segment self.old) at }
         requires there { shape_at (segment self.old) at ≡ list_shape list }

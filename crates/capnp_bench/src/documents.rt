@@ -19,7 +19,7 @@ use capnp_dynamic::{part, slot};
 use capnp_dynamic_readers::dynamic_value::Reader as Value;
 use capnp_schema::schema::{Field, StructSchema};
 use capnp_schema_fixtures::fixtures::schema_of;
-use capnp_schema_fixtures::set_text::read_set;
+use capnp_schema_fixtures::set_text::read_set_text;
 use capnp_slots::size_of;
 use capnp_wire::error::{Error, Result};
 use capnp_wire::message::Reader;
@@ -115,8 +115,8 @@ fn patch_once(
 }
 
 fn patch(alloc: Global, bytes: &[u8], rounds: u64) -> Result<u64> {
-    let set = read_set(alloc, SET)?;
-    let document = schema_of(&set, DOCUMENT)?;
+    let schemas = read_set_text(alloc, SET)?;
+    let document = schema_of(&schemas, DOCUMENT)?;
     let calls = calls_of(alloc)?;
     let mut sum: u64 = 0;
     for _ in 0..rounds {
@@ -128,8 +128,8 @@ fn patch(alloc: Global, bytes: &[u8], rounds: u64) -> Result<u64> {
 
 /// Writes a document that was patched once so many times.
 fn write_patched(alloc: Global, bytes: &[u8], rounds: u64) -> Result<u64> {
-    let set = read_set(alloc, SET)?;
-    let document = schema_of(&set, DOCUMENT)?;
+    let schemas = read_set_text(alloc, SET)?;
+    let document = schema_of(&schemas, DOCUMENT)?;
     let calls = calls_of(alloc)?;
     let message = patch_once(alloc, bytes, document, &calls)?;
     let mut sum: u64 = 0;
@@ -257,9 +257,9 @@ fn build_once(
 }
 
 fn build(alloc: Global, rounds: u64) -> Result<u64> {
-    let set = read_set(alloc, SET)?;
-    let document = schema_of(&set, DOCUMENT)?;
-    let item = schema_of(&set, ITEM)?;
+    let schemas = read_set_text(alloc, SET)?;
+    let document = schema_of(&schemas, DOCUMENT)?;
+    let item = schema_of(&schemas, ITEM)?;
     let fields = item_fields(item)?;
     let items = list_field(document, "items")?;
     let mut sum: u64 = 0;

@@ -11,8 +11,8 @@ use std::alloc::Global;
 const LISTS: u32 = 7;
 
 fn print_lists(alloc: Global, message: &[u8], rounds: u64) -> Result<u64> {
-    let set = new_set(alloc)?;
-    let root = root_of(alloc, message, set.struct_schema(LISTS))?;
+    let schemas = new_set(alloc)?;
+    let root = root_of(alloc, message, schemas.struct_schema(LISTS))?;
     let mut sum: u64 = 0;
     for _ in 0..rounds {
         let mut out = String::new(alloc);

@@ -78,8 +78,8 @@ fn sum_by_name(root: Reader<'_>, sum: &mut u64) {
 }
 
 fn by_name_opened(alloc: Global, message: &[u8], rounds: u64) -> Result<u64> {
-    let set = new_set(alloc)?;
-    let schema = set.struct_schema(MANY);
+    let schemas = new_set(alloc)?;
+    let schema = schemas.struct_schema(MANY);
     let mut sum = 0;
     for _ in 0..rounds {
         let root = root_of(alloc, message, schema)?;
@@ -89,8 +89,8 @@ fn by_name_opened(alloc: Global, message: &[u8], rounds: u64) -> Result<u64> {
 }
 
 fn by_name(alloc: Global, message: &[u8], rounds: u64) -> Result<u64> {
-    let set = new_set(alloc)?;
-    let root = root_of(alloc, message, set.struct_schema(MANY))?;
+    let schemas = new_set(alloc)?;
+    let root = root_of(alloc, message, schemas.struct_schema(MANY))?;
     let mut sum = 0;
     for _ in 0..rounds {
         sum_by_name(root, &mut sum);
@@ -99,8 +99,8 @@ fn by_name(alloc: Global, message: &[u8], rounds: u64) -> Result<u64> {
 }
 
 fn by_field_opened(alloc: Global, message: &[u8], rounds: u64) -> Result<u64> {
-    let set = new_set(alloc)?;
-    let schema = set.struct_schema(MANY);
+    let schemas = new_set(alloc)?;
+    let schema = schemas.struct_schema(MANY);
     let fields = fields_of(alloc, schema)?;
     let mut sum = 0;
     for _ in 0..rounds {
@@ -111,8 +111,8 @@ fn by_field_opened(alloc: Global, message: &[u8], rounds: u64) -> Result<u64> {
 }
 
 fn by_field(alloc: Global, message: &[u8], rounds: u64) -> Result<u64> {
-    let set = new_set(alloc)?;
-    let schema = set.struct_schema(MANY);
+    let schemas = new_set(alloc)?;
+    let schema = schemas.struct_schema(MANY);
     let fields = fields_of(alloc, schema)?;
     let root = root_of(alloc, message, schema)?;
     let mut sum = 0;
@@ -123,8 +123,8 @@ fn by_field(alloc: Global, message: &[u8], rounds: u64) -> Result<u64> {
 }
 
 fn find_by_name(alloc: Global, rounds: u64) -> Result<u64> {
-    let set = new_set(alloc)?;
-    let schema = set.struct_schema(MANY);
+    let schemas = new_set(alloc)?;
+    let schema = schemas.struct_schema(MANY);
     let mut sum: u64 = 0;
     for _ in 0..rounds {
         for name in NAMES {

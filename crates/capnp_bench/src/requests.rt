@@ -11,11 +11,11 @@ use capnp_wire::message::Reader;
 use std::alloc::Global;
 
 /// The checked set of a request.
-fn convert(alloc: Global, set: &SchemaSet, bytes: &[u8]) -> Result<SchemaSet>
-    requires { lists_seen set.now ≡ request_set }
+fn convert(alloc: Global, schemas: &SchemaSet, bytes: &[u8]) -> Result<SchemaSet>
+    requires { lists_seen schemas.now ≡ request_set }
 {
     let root = Reader::new(alloc, bytes)?.get_root().get_struct()?;
-    let record = dynamic_struct::Reader::new(root, set.struct_schema(0));
+    let record = dynamic_struct::Reader::new(root, schemas.struct_schema(0));
     let Converted {
         nodes,
         brands,
@@ -27,10 +27,10 @@ fn convert(alloc: Global, set: &SchemaSet, bytes: &[u8]) -> Result<SchemaSet>
 
 /// Converts a request so many times, and adds the numbers of structs.
 fn convert_all(alloc: Global, bytes: &[u8], rounds: u64) -> Result<u64> {
-    let set = request_set::new_set(alloc)?;
+    let schemas = request_set::new_set(alloc)?;
     let mut sum: u64 = 0;
     for _ in 0..rounds {
-        let made = convert(alloc, &set, bytes)?;
+        let made = convert(alloc, &schemas, bytes)?;
         sum = sum.wrapping_add(made.nodes().len() as u64);
     }
     Ok(sum)

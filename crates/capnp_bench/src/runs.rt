@@ -73,8 +73,8 @@ fn make_after(
     calls: &[Call<'_>],
     rounds: u64,
 ) -> Result<u64> {
-    let set = new_set(alloc)?;
-    let Some(schema) = set.get_struct(brand) else {
+    let schemas = new_set(alloc)?;
+    let Some(schema) = schemas.get_struct(brand) else {
         return Ok(0);
     };
     let mut message = Builder::new(alloc)?;

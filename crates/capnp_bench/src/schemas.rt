@@ -81,7 +81,7 @@ impl Fields {
         })
     }
 
-    /// Adds a plain field, whose name has its number.
+    /// Adds a non-union field, whose name has its number.
     fn push(&mut self, kind: FieldKind, field_type: TypeVariant) -> Result<()> {
         let alloc = *self.records.allocator();
         let number = self.records.len();
@@ -214,8 +214,8 @@ fn check(alloc: Global, shape: Shape, rounds: u64) -> Result<u64> {
             Shape::Chain => add_chain(alloc, &mut records)?,
         }
         let Records { nodes, brands } = records;
-        let set = SchemaSet::new(alloc, nodes, brands, Vec::new(alloc))?;
-        sum = sum.wrapping_add(set.nodes().len() as u64);
+        let schemas = SchemaSet::new(alloc, nodes, brands, Vec::new(alloc))?;
+        sum = sum.wrapping_add(schemas.nodes().len() as u64);
     }
     Ok(sum)
 }

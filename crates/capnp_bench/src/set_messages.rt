@@ -8,8 +8,8 @@ use std::alloc::Global;
 fn read(alloc: Global, bytes: &[u8], rounds: u64) -> Result<u64> {
     let mut sum: u64 = 0;
     for _ in 0..rounds {
-        let set = read_message(alloc, bytes)?;
-        sum = sum.wrapping_add(set.nodes().len() as u64);
+        let schemas = read_message(alloc, bytes)?;
+        sum = sum.wrapping_add(schemas.nodes().len() as u64);
     }
     Ok(sum)
 }

@@ -205,8 +205,8 @@ pub(crate) fn start_root(message: &mut Arena, schema: StructSchema<'_>) -> Resul
 }
 
 fn numbers(alloc: Global, rounds: u64) -> Result<u64> {
-    let set = new_set(alloc)?;
-    let schema = set.struct_schema(SHAPES);
+    let schemas = new_set(alloc)?;
+    let schema = schemas.struct_schema(SHAPES);
     let fields = shapes_of(schema)?;
     let mut message = message::Builder::new(alloc)?;
     let place = start_root(&mut message, schema)?;
@@ -244,8 +244,8 @@ fn build(alloc: Global, schema: StructSchema<'_>, fields: &Shapes<'_>) -> Result
 }
 
 fn messages(alloc: Global, rounds: u64) -> Result<u64> {
-    let set = new_set(alloc)?;
-    let schema = set.struct_schema(SHAPES);
+    let schemas = new_set(alloc)?;
+    let schema = schemas.struct_schema(SHAPES);
     let fields = shapes_of(schema)?;
     let mut sum: u64 = 0;
     for _ in 0..rounds {

@@ -33,9 +33,9 @@ use std::alloc::Global;
 ///
 /// Refused with `OutOfMemory` for the copy of a text or data.
 fn plain_of(alloc: Global, value: Value<'_>) -> Result<Plain>
-    ensures plain { (set : Schemas) (t : SchemaType) → IsOf set t value.entry
+    ensures plain { (schemas : Schemas) (t : SchemaType) → IsOf schemas t value.entry
         → IfOk result (λ p. answer_seen p ≡ answer_of t (value_seen value.entry)) }
-    ensures memory { (set : Schemas) (t : SchemaType) → IsOf set t value.entry → OnErr result (takes_memory t ≡ true) }
+    ensures memory { (schemas : Schemas) (t : SchemaType) → IsOf schemas t value.entry → OnErr result (takes_memory t ≡ true) }
     ensures cause { IfErr result (λ e. e.kind ≡ OutOfMemory) }
 {
     match value {
@@ -60,7 +60,7 @@ fn plain_of(alloc: Global, value: Value<'_>) -> Result<Plain>
 
 /// The reply to a read.
 pub(crate) fn answer(alloc: Global, read: Result<Value<'_>>) -> Reply
-    ensures { (set : Schemas) (t : SchemaType) (old : RecordValue) → IfOk read.entry (IsOf set t)
+    ensures { (schemas : Schemas) (t : SchemaType) (old : RecordValue) → IfOk read.entry (IsOf schemas t)
         → Answers t (answered_value read.entry) (fault_of (answered_value read.entry)) old (reply_seen result) old }
 {
     match read {

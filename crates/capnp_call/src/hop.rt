@@ -46,7 +46,7 @@ pub(crate) fn hop<'s>(arena: &mut Arena, at: At<'s>, step: &Step<'_>) -> Result<
 {
     match at {
         At::Struct(place, schema) => hop_field(arena, place, schema, *step),
-        At::List(word, set, element) => hop_element(arena, word, set, element, *step),
+        At::List(word, schemas, element) => hop_element(arena, word, schemas, element, *step),
     }
 }
 
@@ -153,8 +153,8 @@ fn hop_to_list<'s>(
     if let Err(error) = enter_list(arena, place, field, element) {
         return Err(error);
     }
-    let set = field.get_containing_struct().get_set();
-    Ok(At::List(part::pointer(arena, place, field), set, element))
+    let schemas = field.get_containing_struct().get_set();
+    Ok(At::List(part::pointer(arena, place, field), schemas, element))
 }
 
 /// What a step, or the end of a path, is refused with at a list without elements.
@@ -173,16 +173,16 @@ pub(crate) fn refusal_at_nothing(step: Step<'_>) -> ErrorKind
 fn hop_element<'s>(
     arena: &mut Arena,
     word: usize,
-    set: &'s SchemaSet,
+    schemas: &'s SchemaSet,
     element: Type,
     step: Step<'_>,
 ) -> Result<At<'s>>
-    requires { IsAtList word (lists_seen set.now) (seen_type element) (segment arena.old) }
-    ensures { HopLeads (first_step (ListGoes word (lists_seen set.now) (seen_type element) (segment arena.old))
+    requires { IsAtList word (lists_seen schemas.now) (seen_type element) (segment arena.old) }
+    ensures { HopLeads (first_step (ListGoes word (lists_seen schemas.now) (seen_type element) (segment arena.old))
         step.entry) result (segment arena.new) }
 {
     if arena.is_list(word) {
-        hop_at_list(arena, word, set, element, step)
+        hop_at_list(arena, word, schemas, element, step)
     } else {
         Err(Error::from(refusal_at_nothing(step)))
     }
@@ -193,17 +193,17 @@ fn hop_element<'s>(
 fn hop_at_list<'s>(
     arena: &mut Arena,
     word: usize,
-    set: &'s SchemaSet,
+    schemas: &'s SchemaSet,
     element: Type,
     step: Step<'_>,
 ) -> Result<At<'s>>
-    requires stands { IsAtList word (lists_seen set.now) (seen_type element) (segment arena.old) }
+    requires stands { IsAtList word (lists_seen schemas.now) (seen_type element) (segment arena.old) }
     requires there { is_null_tree (tree (segment arena.old) word) ≡ false }
-    ensures { HopLeads (first_step (ListGoes word (lists_seen set.now) (seen_type element) (segment arena.old))
+    ensures { HopLeads (first_step (ListGoes word (lists_seen schemas.now) (seen_type element) (segment arena.old))
         step.entry) result (segment arena.new) }
 {
     match step {
-        Step::Element(index) => hop_in_list(arena, word, set, element, index),
+        Step::Element(index) => hop_in_list(arena, word, schemas, element, index),
         Step::Field(_) => Err(Error::from(ErrorKind::NotAContainer)),
         Step::Named(_) => Err(Error::from(ErrorKind::NotAContainer)),
     }
@@ -214,19 +214,19 @@ fn hop_at_list<'s>(
 fn hop_in_list<'s>(
     arena: &mut Arena,
     word: usize,
-    set: &'s SchemaSet,
+    schemas: &'s SchemaSet,
     element: Type,
     index: u32,
 ) -> Result<At<'s>>
-    requires stands { IsAtList word (lists_seen set.now) (seen_type element) (segment arena.old) }
+    requires stands { IsAtList word (lists_seen schemas.now) (seen_type element) (segment arena.old) }
     requires there { is_null_tree (tree (segment arena.old) word) ≡ false }
-    ensures { HopLeads (first_step (ListGoes word (lists_seen set.now) (seen_type element) (segment arena.old))
+    ensures { HopLeads (first_step (ListGoes word (lists_seen schemas.now) (seen_type element) (segment arena.old))
         (Step.Element index)) result (segment arena.new) }
 {
     if index >= arena.get_length(word) {
         return Err(Error::from(ErrorKind::NoSuchElement));
     }
-    hop_to_element(arena, word, set, element, index)
+    hop_to_element(arena, word, schemas, element, index)
 }
 
 /// Goes into an element of a list, by its type.
@@ -234,23 +234,23 @@ fn hop_in_list<'s>(
 fn hop_to_element<'s>(
     arena: &mut Arena,
     word: usize,
-    set: &'s SchemaSet,
+    schemas: &'s SchemaSet,
     element: Type,
     index: u32,
 ) -> Result<At<'s>>
-    requires stands { IsAtList word (lists_seen set.now) (seen_type element) (segment arena.old) }
+    requires stands { IsAtList word (lists_seen schemas.now) (seen_type element) (segment arena.old) }
     requires inside { index < list_length (tree (segment arena.old) word) }
-    ensures { HopLeads (ElementGoes word (lists_seen set.now) (seen_type element) index (segment arena.old)) result
+    ensures { HopLeads (ElementGoes word (lists_seen schemas.now) (seen_type element) index (segment arena.old)) result
         (segment arena.new) }
 {
     match element.which() {
         TypeVariant::Struct(raw) => Ok(hop_to_struct_in(
             arena,
             word,
-            set.struct_schema(raw.number),
+            schemas.struct_schema(raw.number),
             index,
         )),
-        TypeVariant::List(inner) => hop_to_list_in(arena, word, set, inner, index),
+        TypeVariant::List(inner) => hop_to_list_in(arena, word, schemas, inner, index),
         TypeVariant::AnyPointer => Err(Error::from(ErrorKind::UntypedStep)),
         _ => Err(Error::from(ErrorKind::NotAContainer)),
     }
@@ -276,23 +276,23 @@ fn hop_to_struct_in<'s>(arena: &Arena, word: usize, schema: StructSchema<'s>, in
 fn hop_to_list_in<'s>(
     arena: &mut Arena,
     word: usize,
-    set: &'s SchemaSet,
+    schemas: &'s SchemaSet,
     inner: Type,
     index: u32,
 ) -> Result<At<'s>>
     requires forest { Forest (segment arena.old) word }
-    requires entries { NamesEntries (lists_seen set.now) (seen_type inner) }
-    requires list { IsListStand (lists_seen set.now) (ListType (seen_type inner)) (tree (segment arena.old) word) }
+    requires entries { NamesEntries (lists_seen schemas.now) (seen_type inner) }
+    requires list { IsListStand (lists_seen schemas.now) (ListType (seen_type inner)) (tree (segment arena.old) word) }
     requires inside { index < list_length (tree (segment arena.old) word) }
-    ensures { HopLeads (ElementGoes word (lists_seen set.now) (ListType (seen_type inner)) index
+    ensures { HopLeads (ElementGoes word (lists_seen schemas.now) (ListType (seen_type inner)) index
         (segment arena.old)) result (segment arena.new) }
 {
-    numbers_fit(set);
+    numbers_fit(schemas);
     let pointer = arena.get_pointer_element(word, index);
     arena.tree_is_sound(pointer);
-    if let Err(error) = element::fill_list(arena, pointer, set, inner) {
+    if let Err(error) = element::fill_list(arena, pointer, schemas, inner) {
         return Err(error);
     }
     arena.tree_is_sound(pointer);
-    Ok(At::List(pointer, set, inner))
+    Ok(At::List(pointer, schemas, inner))
 }

@@ -34,19 +34,19 @@ fn get_element(
     alloc: Global,
     arena: &Arena,
     at: usize,
-    set: &SchemaSet,
+    schemas: &SchemaSet,
     element: Type,
     index: u32,
 ) -> Reply
     requires forest { Forest (segment arena.now) at }
-    requires entries { NamesEntries (lists_seen set.now) (seen_type element) }
-    requires list { IsListStand (lists_seen set.now) (seen_type element) (tree (segment arena.now) at) }
+    requires entries { NamesEntries (lists_seen schemas.now) (seen_type element) }
+    requires list { IsListStand (lists_seen schemas.now) (seen_type element) (tree (segment arena.now) at) }
     requires inside { index < list_length (tree (segment arena.now) at) }
-    ensures { (old : RecordValue) → Does (lists_seen set.now) Get
-        (element_at (lists_seen set.now) (seen_type element) (tree (segment arena.now) at) index) old
+    ensures { (old : RecordValue) → Does (lists_seen schemas.now) Get
+        (element_at (lists_seen schemas.now) (seen_type element) (tree (segment arena.now) at) index) old
         (reply_seen result) old }
 {
-    let reader = dynamic_list::Reader::new(arena.list_reader(at), element, set);
+    let reader = dynamic_list::Reader::new(arena.list_reader(at), element, schemas);
     answer(alloc, reader.get(index))
 }
 
@@ -55,19 +55,19 @@ fn get_element(
 fn initn_element(
     arena: &mut Arena,
     at: usize,
-    set: &SchemaSet,
+    schemas: &SchemaSet,
     element: Type,
     index: u32,
     count: u32,
 ) -> Reply
     requires forest { Forest (segment arena.old) at }
-    requires list { IsListStand (lists_seen set.now) (seen_type element) (tree (segment arena.old) at) }
+    requires list { IsListStand (lists_seen schemas.now) (seen_type element) (tree (segment arena.old) at) }
     requires inside { index < list_length (tree (segment arena.old) at) }
-    ensures does { ElementDoes (lists_seen set.now) (seen_type element) index (Op.Initn count)
+    ensures does { ElementDoes (lists_seen schemas.now) (seen_type element) index (Op.Initn count)
         (tree (segment arena.old) at) result (tree (segment arena.new) at) }
     ensures frame { LeavesPointer at arena.old arena.new }
 {
-    reply_of(element::init(arena, at, set, element, index, count))
+    reply_of(element::init(arena, at, schemas, element, index, count))
 }
 
 /// Sets an element to a value, as `element::set`.
@@ -75,62 +75,62 @@ fn initn_element(
 fn set_element(
     arena: &mut Arena,
     at: usize,
-    set: &SchemaSet,
+    schemas: &SchemaSet,
     element: Type,
     index: u32,
     value: Value<'_>,
 ) -> Reply
     requires forest { Forest (segment arena.old) at }
-    requires list { IsListStand (lists_seen set.now) (seen_type element) (tree (segment arena.old) at) }
+    requires list { IsListStand (lists_seen schemas.now) (seen_type element) (tree (segment arena.old) at) }
     requires inside { index < list_length (tree (segment arena.old) at) }
-    ensures does { ElementDoes (lists_seen set.now) (seen_type element) index (Op.Set value.entry)
+    ensures does { ElementDoes (lists_seen schemas.now) (seen_type element) index (Op.Set value.entry)
         (tree (segment arena.old) at) result
         (tree (segment arena.new) at) }
     ensures frame { LeavesPointer at arena.old arena.new }
 {
     let source = Source::from(value);
     source_fits(source);
-    reply_of(element::set(arena, at, set, element, index, source))
+    reply_of(element::set(arena, at, schemas, element, index, source))
 }
 
 /// Does an operation to an element that is there.
 fn do_element(
     arena: &mut Arena,
     at: usize,
-    set: &SchemaSet,
+    schemas: &SchemaSet,
     element: Type,
     index: u32,
     end: Ending<'_>,
 ) -> Reply
     requires forest { Forest (segment arena.old) at }
-    requires entries { NamesEntries (lists_seen set.now) (seen_type element) }
-    requires list { IsListStand (lists_seen set.now) (seen_type element) (tree (segment arena.old) at) }
+    requires entries { NamesEntries (lists_seen schemas.now) (seen_type element) }
+    requires list { IsListStand (lists_seen schemas.now) (seen_type element) (tree (segment arena.old) at) }
     requires inside { index < list_length (tree (segment arena.old) at) }
     requires names { end.call.now.op ≢ Op.Which }
-    ensures does { ElementDoes (lists_seen set.now) (seen_type element) index end.entry.call.now.op
+    ensures does { ElementDoes (lists_seen schemas.now) (seen_type element) index end.entry.call.now.op
         (tree (segment arena.old) at) result
         (tree (segment arena.new) at) }
     ensures frame { LeavesPointer at arena.old arena.new }
 {
     match end.call.op {
-        Op::Get => get_element(end.alloc, arena, at, set, element, index),
+        Op::Get => get_element(end.alloc, arena, at, schemas, element, index),
         Op::Has => Reply::Refused(ErrorKind::NotAContainer),
         Op::Which => unreachable!(),
-        Op::Set(value) => set_element(arena, at, set, element, index, value),
+        Op::Set(value) => set_element(arena, at, schemas, element, index, value),
         Op::Init => Reply::Refused(ErrorKind::NotAContainer),
-        Op::Initn(count) => initn_element(arena, at, set, element, index, count),
+        Op::Initn(count) => initn_element(arena, at, schemas, element, index, count),
         Op::Clear => Reply::Refused(ErrorKind::NotAContainer),
     }
 }
 
 /// Does an operation to the element that the last step names.
-fn do_last(arena: &mut Arena, at: usize, set: &SchemaSet, element: Type, end: Ending<'_>) -> Reply
+fn do_last(arena: &mut Arena, at: usize, schemas: &SchemaSet, element: Type, end: Ending<'_>) -> Reply
     requires forest { Forest (segment arena.old) at }
-    requires entries { NamesEntries (lists_seen set.now) (seen_type element) }
-    requires list { IsListStand (lists_seen set.now) (seen_type element) (tree (segment arena.old) at) }
+    requires entries { NamesEntries (lists_seen schemas.now) (seen_type element) }
+    requires list { IsListStand (lists_seen schemas.now) (seen_type element) (tree (segment arena.old) at) }
     requires there { is_null_tree (tree (segment arena.old) at) ≡ false }
     requires names { end.call.now.op ≢ Op.Which }
-    ensures ends { ListEnds (lists_seen set.now) (seen_type element) end.entry (tree (segment arena.old) at) result
+    ensures ends { ListEnds (lists_seen schemas.now) (seen_type element) end.entry (tree (segment arena.old) at) result
         (tree (segment arena.new) at) }
     ensures frame { LeavesPointer at arena.old arena.new }
 {
@@ -140,7 +140,7 @@ fn do_last(arena: &mut Arena, at: usize, set: &SchemaSet, element: Type, end: En
     if index >= arena.get_length(at) {
         return Reply::Refused(ErrorKind::NoSuchElement);
     }
-    do_element(arena, at, set, element, index, end)
+    do_element(arena, at, schemas, element, index, end)
 }
 
 /// Does an operation at a list at which a path ends. The list is not null and reads as one of the type, which names
@@ -151,20 +151,20 @@ fn do_last(arena: &mut Arena, at: usize, set: &SchemaSet, element: Type, end: En
 pub fn end_at_list(
     arena: &mut Arena,
     at: usize,
-    set: &SchemaSet,
+    schemas: &SchemaSet,
     element: Type,
     end: Ending<'_>,
 ) -> Reply
     requires forest { Forest (segment arena.old) at }
-    requires entries { NamesEntries (lists_seen set.now) (seen_type element) }
-    requires list { IsListStand (lists_seen set.now) (seen_type element) (tree (segment arena.old) at) }
+    requires entries { NamesEntries (lists_seen schemas.now) (seen_type element) }
+    requires list { IsListStand (lists_seen schemas.now) (seen_type element) (tree (segment arena.old) at) }
     requires there { is_null_tree (tree (segment arena.old) at) ≡ false }
-    ensures ends { ListEnds (lists_seen set.now) (seen_type element) end.entry (tree (segment arena.old) at) result
+    ensures ends { ListEnds (lists_seen schemas.now) (seen_type element) end.entry (tree (segment arena.old) at) result
         (tree (segment arena.new) at) }
     ensures frame { LeavesPointer at arena.old arena.new }
 {
     match end.call.op {
         Op::Which => Reply::Refused(ErrorKind::NotAContainer),
-        _ => do_last(arena, at, set, element, end),
+        _ => do_last(arena, at, schemas, element, end),
     }
 }

@@ -260,7 +260,7 @@ pub fn run_copied(
 }
 
 /// Appends the text of a message's root. Refused as the print, and then nothing is appended.
-fn print_root(
+fn print_message_root(
     message: &Builder,
     schema: StructSchema<'_>,
     out: &mut String,
@@ -313,12 +313,12 @@ pub fn whole_new(
 {
     let Run { message, replies } = run_new(alloc, MOST_WORDS, schema, calls)?;
     let bytes = message.write_message()?;
-    print_root(&message, schema, out, indented)?;
+    print_message_root(&message, schema, out, indented)?;
     Ok((replies, bytes))
 }
 
-/// The same on a copy of a message's root, which is a struct. What the schema doesn't know stays as the source has it.
-/// The schema is one of an accepted set.
+/// Makes calls on a copy of a message's root, writes the message and prints its root, as `whole_new` on an empty one.
+/// The root is a struct, and the schema one of an accepted set. What it doesn't know stays as the source has it.
 ///
 /// Refused as `run_copied`, and then as `whole_new`. Then the string is as it was.
 ///
@@ -349,6 +349,6 @@ pub fn whole_copied(
 {
     let Run { message, replies } = run_copied(alloc, MOST_WORDS, source, schema, calls)?;
     let bytes = message.write_message()?;
-    print_root(&message, schema, out, indented)?;
+    print_message_root(&message, schema, out, indented)?;
     Ok((replies, bytes))
 }

@@ -89,7 +89,7 @@ fn end_at(arena: &mut Arena, at: At<'_>, end: Ending<'_>, reply: &mut Reply)
 {
     match at {
         At::Struct(place, schema) => *reply = end_at_struct(arena, place, schema, end),
-        At::List(word, set, element) => *reply = end_in_list(arena, word, set, element, end),
+        At::List(word, schemas, element) => *reply = end_in_list(arena, word, schemas, element, end),
     }
 }
 
@@ -97,16 +97,16 @@ fn end_at(arena: &mut Arena, at: At<'_>, end: Ending<'_>, reply: &mut Reply)
 fn end_in_list(
     arena: &mut Arena,
     word: usize,
-    set: &SchemaSet,
+    schemas: &SchemaSet,
     element: Type,
     end: Ending<'_>,
 ) -> Reply
-    requires { IsAtList word (lists_seen set.now) (seen_type element) (segment arena.old) }
-    ensures { ListGoes word (lists_seen set.now) (seen_type element) (segment arena.old) [] end.entry result
+    requires { IsAtList word (lists_seen schemas.now) (seen_type element) (segment arena.old) }
+    ensures { ListGoes word (lists_seen schemas.now) (seen_type element) (segment arena.old) [] end.entry result
         (segment arena.new) }
 {
     if arena.is_list(word) {
-        end_at_list(arena, word, set, element, end)
+        end_at_list(arena, word, schemas, element, end)
     } else {
         Reply::Refused(refusal_of_end(end))
     }
@@ -114,7 +114,7 @@ fn end_in_list(
 
 /// What the end of a path is refused with at a null that no default filled: it has no elements.
 fn refusal_of_end(end: Ending<'_>) -> ErrorKind
-    ensures { (set : Schemas) (e : SchemaType) → ListWalks set e [] end.entry Null (Reply.Refused result) Null }
+    ensures { (schemas : Schemas) (e : SchemaType) → ListWalks schemas e [] end.entry Null (Reply.Refused result) Null }
 {
     match end.call.op {
         Op::Which => ErrorKind::NotAContainer,

@@ -99,8 +99,8 @@ pub fn way_of<'s>(arena: &Arena, place: Place, field: Field<'s>) -> Result<Way<'
     match field.get_type().which() {
         TypeVariant::AnyPointer => Err(Error::from(ErrorKind::UntypedStep)),
         TypeVariant::Struct(raw) => {
-            let set = field.get_containing_struct().get_set();
-            Ok(way_into(field, StructSchema::new(set, raw)))
+            let schemas = field.get_containing_struct().get_set();
+            Ok(way_into(field, StructSchema::new(schemas, raw)))
         }
         TypeVariant::List(element) => Ok(way_along(field, element)),
         _ => Err(Error::from(ErrorKind::NotAContainer)),

@@ -18,34 +18,34 @@ use std::alloc::Global;
 /// `NoSuchElement` where the set has no brand of a number, and with `OutOfMemory`.
 pub fn between<'s>(
     alloc: Global,
-    set: &'s SchemaSet,
+    schemas: &'s SchemaSet,
     older: u32,
     newer: u32,
 ) -> Result<Option<Compatible<'s>>>
     ensures answer { IfOk result (λ found. MatchOption found
-        (IsCompatibleOrUpgraded (lists_seen set.now) older newer → ⊥)
-        (IsBetween (lists_seen set.now) older newer)) }
-    ensures there { IfOk result (λ found. HasBoth (lists_seen set.now) older newer) }
+        (IsCompatibleOrUpgraded (lists_seen schemas.now) older newer → ⊥)
+        (IsBetween (lists_seen schemas.now) older newer)) }
+    ensures there { IfOk result (λ found. HasBoth (lists_seen schemas.now) older newer) }
     ensures refused { IfErr result (λ e. e.kind ≢ OutOfMemory → (e.kind ≡ NoSuchElement)
-        × (HasBoth (lists_seen set.now) older newer → ⊥)) }
+        × (HasBoth (lists_seen schemas.now) older newer → ⊥)) }
 {
-    let Some(one) = set.get_struct(older) else {
+    let Some(one) = schemas.get_struct(older) else {
         return Err(Error::from(ErrorKind::NoSuchElement));
     };
-    let Some(other) = set.get_struct(newer) else {
+    let Some(other) = schemas.get_struct(newer) else {
         return Err(Error::from(ErrorKind::NoSuchElement));
     };
     Compatible::check(alloc, one, other)
 }
 
 /// Whether a brand is a compatible successor of another. Refused as `between`.
-pub fn is_successor(alloc: Global, set: &SchemaSet, older: u32, newer: u32) -> Result<bool>
-    ensures answer { IfOk result (λ yes. Decides yes (IsCompatibleOrUpgraded (lists_seen set.now) older newer)) }
-    ensures there { IfOk result (λ yes. HasBoth (lists_seen set.now) older newer) }
+pub fn is_successor(alloc: Global, schemas: &SchemaSet, older: u32, newer: u32) -> Result<bool>
+    ensures answer { IfOk result (λ yes. Decides yes (IsCompatibleOrUpgraded (lists_seen schemas.now) older newer)) }
+    ensures there { IfOk result (λ yes. HasBoth (lists_seen schemas.now) older newer) }
     ensures refused { IfErr result (λ e. e.kind ≢ OutOfMemory → (e.kind ≡ NoSuchElement)
-        × (HasBoth (lists_seen set.now) older newer → ⊥)) }
+        × (HasBoth (lists_seen schemas.now) older newer → ⊥)) }
 {
-    match between(alloc, set, older, newer)? {
+    match between(alloc, schemas, older, newer)? {
         Some(pair) => {
             pair.follows();
             Ok(true)
@@ -58,21 +58,21 @@ pub fn is_successor(alloc: Global, set: &SchemaSet, older: u32, newer: u32) -> R
 /// as `between`.
 pub fn seen_by_older<'s>(
     alloc: Global,
-    set: &'s SchemaSet,
+    schemas: &'s SchemaSet,
     older: u32,
     newer: u32,
     sections: StructReader<'s>,
 ) -> Result<Option<dynamic_struct::Reader<'s>>>
     ensures answer { IfOk result (λ found. MatchOption found
-        (IsCompatibleOrUpgraded (lists_seen set.now) older newer → ⊥)
-        (IsSeenByOlder (lists_seen set.now) older newer sections.entry)) }
-    ensures there { IfOk result (λ found. HasBoth (lists_seen set.now) older newer) }
+        (IsCompatibleOrUpgraded (lists_seen schemas.now) older newer → ⊥)
+        (IsSeenByOlder (lists_seen schemas.now) older newer sections.entry)) }
+    ensures there { IfOk result (λ found. HasBoth (lists_seen schemas.now) older newer) }
     ensures refused { IfErr result (λ e. e.kind ≢ OutOfMemory → (e.kind ≡ NoSuchElement)
-        × (HasBoth (lists_seen set.now) older newer → ⊥)) }
+        × (HasBoth (lists_seen schemas.now) older newer → ⊥)) }
 {
-    match between(alloc, set, older, newer)? {
+    match between(alloc, schemas, older, newer)? {
         Some(pair) => {
-            let reader = dynamic_struct::Reader::new(sections, set.struct_schema(newer));
+            let reader = dynamic_struct::Reader::new(sections, schemas.struct_schema(newer));
             Ok(Some(pair.narrow(reader)))
         }
         None => Ok(None),
@@ -83,21 +83,21 @@ pub fn seen_by_older<'s>(
 /// as `between`.
 pub fn seen_by_newer<'s>(
     alloc: Global,
-    set: &'s SchemaSet,
+    schemas: &'s SchemaSet,
     older: u32,
     newer: u32,
     sections: StructReader<'s>,
 ) -> Result<Option<dynamic_struct::Reader<'s>>>
     ensures answer { IfOk result (λ found. MatchOption found
-        (IsCompatibleOrUpgraded (lists_seen set.now) older newer → ⊥)
-        (IsSeenByNewer (lists_seen set.now) older newer sections.entry)) }
-    ensures there { IfOk result (λ found. HasBoth (lists_seen set.now) older newer) }
+        (IsCompatibleOrUpgraded (lists_seen schemas.now) older newer → ⊥)
+        (IsSeenByNewer (lists_seen schemas.now) older newer sections.entry)) }
+    ensures there { IfOk result (λ found. HasBoth (lists_seen schemas.now) older newer) }
     ensures refused { IfErr result (λ e. e.kind ≢ OutOfMemory → (e.kind ≡ NoSuchElement)
-        × (HasBoth (lists_seen set.now) older newer → ⊥)) }
+        × (HasBoth (lists_seen schemas.now) older newer → ⊥)) }
 {
-    match between(alloc, set, older, newer)? {
+    match between(alloc, schemas, older, newer)? {
         Some(pair) => {
-            let reader = dynamic_struct::Reader::new(sections, set.struct_schema(older));
+            let reader = dynamic_struct::Reader::new(sections, schemas.struct_schema(older));
             Ok(Some(pair.widen(reader)))
         }
         None => Ok(None),

@@ -35,6 +35,6 @@ pub fn element_struct<'s>(field: &Field<'s>) -> Option<StructSchema<'s>>
     let TypeVariant::Struct(raw) = element.which() else {
         return None;
     };
-    let set = field.get_containing_struct().get_set();
-    Some(set.struct_schema(raw.number))
+    let schemas = field.get_containing_struct().get_set();
+    Some(schemas.struct_schema(raw.number))
 }

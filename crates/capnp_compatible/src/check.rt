@@ -79,13 +79,13 @@ impl<'s> Compatible<'s> {
             (IsPair older.entry newer.entry)) }
         ensures refused { IfErr result (λ e. e.kind ≡ OutOfMemory) }
     {
-        let set = older.get_set();
+        let schemas = older.get_set();
         let one = RawBrandedStructSchema::from(older);
         let other = RawBrandedStructSchema::from(newer);
-        if decide(alloc, set, false, one.number, other.number)? {
+        if decide(alloc, schemas, false, one.number, other.number)? {
             return Ok(Some(Compatible::of(older, newer)));
         }
-        if !decide(alloc, set, true, one.number, other.number)? {
+        if !decide(alloc, schemas, true, one.number, other.number)? {
             return Ok(None);
         }
         Ok(Some(Compatible::upgraded(older, newer)))

@@ -17,25 +17,25 @@ use std::alloc::Global;
 /// the given pair on, is looked at once. `lists` is whether lists may have become lists of structs.
 pub(crate) fn decide(
     alloc: Global,
-    set: &SchemaSet,
+    schemas: &SchemaSet,
     lists: bool,
     older: u32,
     newer: u32,
 ) -> Result<bool>
-    requires older { older < length (lists_seen set.now).brands }
-    requires newer { newer < length (lists_seen set.now).brands }
-    ensures decides { IfOk result (λ yes. Decides yes (IsSuccessor lists (lists_seen set.now) older newer)) }
+    requires older { older < length (lists_seen schemas.now).brands }
+    requires newer { newer < length (lists_seen schemas.now).brands }
+    ensures decides { IfOk result (λ yes. Decides yes (IsSuccessor lists (lists_seen schemas.now) older newer)) }
     ensures refused { IfErr result (λ e. e.kind ≡ OutOfMemory) }
 {
-    is_accepted(set);
+    is_accepted(schemas);
     let mut pairs = Pairs::of(alloc, Pair { older, newer })?;
     let mut next = 0;
     while next < pairs.len() {
         let pair = pairs.at(next);
-        if !is_successor(set, lists, pair.older, pair.newer) {
+        if !is_successor(schemas, lists, pair.older, pair.newer) {
             return Ok(false);
         }
-        add_named(set, lists, pair.older, pair.newer, &mut pairs)?;
+        add_named(schemas, lists, pair.older, pair.newer, &mut pairs)?;
         next += 1;
     }
     Ok(true)

@@ -50,17 +50,17 @@ fn is_first_slot(kind: &FieldKind) -> bool
 }
 
 /// Whether field 0 of a brand stands where an element stood.
-fn stands_first(set: &SchemaSet, number: u32) -> bool
-    ensures is { result ≡ stands_first (lists_seen set.now) number }
-    ensures inside { IsTrue result → number < length (lists_seen set.now).brands }
+fn stands_first(schemas: &SchemaSet, number: u32) -> bool
+    ensures is { result ≡ stands_first (lists_seen schemas.now) number }
+    ensures inside { IsTrue result → number < length (lists_seen schemas.now).brands }
 {
-    if number as usize >= set.brands().len() {
+    if number as usize >= schemas.brands().len() {
         return false;
     }
-    if field_count(set, number) == 0 {
+    if field_count(schemas, number) == 0 {
         return false;
     }
-    let field = field_of(set, number, 0).get_proto();
+    let field = field_of(schemas, number, 0).get_proto();
     !field.is_member() && is_first_slot(&field.kind)
 }
 
@@ -86,23 +86,23 @@ fn can_become_struct(layer: TypeVariant) -> bool
 
 /// Whether field 0 of a brand stands where an element of a type stood.
 #[tactic(auto, using(crate::proofs::ByLayer::seen))]
-fn is_in_place(set: &SchemaSet, lists: bool, older: Type, number: u32) -> bool
-    ensures is { result ≡ (lists && (can_become_struct (seen_type older) && stands_first (lists_seen set.now) number)) }
-    ensures inside { IsTrue result → number < length (lists_seen set.now).brands }
+fn is_in_place(schemas: &SchemaSet, lists: bool, older: Type, number: u32) -> bool
+    ensures is { result ≡ (lists && (can_become_struct (seen_type older) && stands_first (lists_seen schemas.now) number)) }
+    ensures inside { IsTrue result → number < length (lists_seen schemas.now).brands }
 {
-    lists && can_become_struct(older.which()) && stands_first(set, number)
+    lists && can_become_struct(older.which()) && stands_first(schemas, number)
 }
 
 /// The type that stands where an older element stood: that of the newer one, or, where lists may have become lists of
 /// structs, that of its field 0.
-pub(crate) fn type_in_place(set: &SchemaSet, lists: bool, older: Type, newer: Type) -> Type
-    ensures { seen_type result ≡ type_in_place lists (lists_seen set.now) (seen_type older) (seen_type newer) }
+pub(crate) fn type_in_place(schemas: &SchemaSet, lists: bool, older: Type, newer: Type) -> Type
+    ensures { seen_type result ≡ type_in_place lists (lists_seen schemas.now) (seen_type older) (seen_type newer) }
 {
     let TypeVariant::Struct(schema) = newer.which() else {
         return newer;
     };
-    if is_in_place(set, lists, older, schema.number) {
-        return field_of(set, schema.number, 0).get_type();
+    if is_in_place(schemas, lists, older, schema.number) {
+        return field_of(schemas, schema.number, 0).get_type();
     }
     newer
 }

@@ -13,19 +13,19 @@ use capnp_schema::set::SchemaSet;
 use capnp_wire::error::Result;
 
 /// The pair that two fields of one index name.
-fn named_at(set: &SchemaSet, lists: bool, older: u32, newer: u32, index: u16) -> Option<Pair>
-    requires older { older < length (lists_seen set.now).brands }
-    requires newer { newer < length (lists_seen set.now).brands }
-    requires older_field { index < length (fields_of (lists_seen set.now) older) }
-    requires newer_field { index < length (fields_of (lists_seen set.now) newer) }
-    ensures { result ≡ named_pair lists (lists_seen set.now) (field_at (lists_seen set.now) older index).type
-        (field_at (lists_seen set.now) newer index).type }
+fn named_at(schemas: &SchemaSet, lists: bool, older: u32, newer: u32, index: u16) -> Option<Pair>
+    requires older { older < length (lists_seen schemas.now).brands }
+    requires newer { newer < length (lists_seen schemas.now).brands }
+    requires older_field { index < length (fields_of (lists_seen schemas.now) older) }
+    requires newer_field { index < length (fields_of (lists_seen schemas.now) newer) }
+    ensures { result ≡ named_pair lists (lists_seen schemas.now) (field_at (lists_seen schemas.now) older index).type
+        (field_at (lists_seen schemas.now) newer index).type }
 {
     named(
-        set,
+        schemas,
         lists,
-        field_of(set, older, index).get_type(),
-        field_of(set, newer, index).get_type(),
+        field_of(schemas, older, index).get_type(),
+        field_of(schemas, newer, index).get_type(),
     )
 }
 
@@ -47,26 +47,26 @@ fn add_some(pairs: &mut Pairs, pair: Option<Pair>) -> Result<()>
 
 /// Adds the pairs that the fields of two structs name.
 pub(crate) fn add_named(
-    set: &SchemaSet,
+    schemas: &SchemaSet,
     lists: bool,
     older: u32,
     newer: u32,
     pairs: &mut Pairs,
 ) -> Result<()>
-    requires older { older < length (lists_seen set.now).brands }
-    requires newer { newer < length (lists_seen set.now).brands }
-    requires enough { length (fields_of (lists_seen set.now) older) ≤ length (fields_of (lists_seen set.now) newer) }
+    requires older { older < length (lists_seen schemas.now).brands }
+    requires newer { newer < length (lists_seen schemas.now).brands }
+    requires enough { length (fields_of (lists_seen schemas.now) older) ≤ length (fields_of (lists_seen schemas.now) newer) }
     ensures more { Within (listed_pairs pairs.old) (listed_pairs pairs.new) }
     ensures begins { Begins pairs.old pairs.new }
-    ensures added { OnOk result (HoldsNamed lists (lists_seen set.now) (listed_pairs pairs.new) older newer
-        (length (fields_of (lists_seen set.now) older))) }
-    ensures only { Adds pairs.old pairs.new (λ sets. HoldsNamed lists (lists_seen set.now) sets older newer
-        (length (fields_of (lists_seen set.now) older))) }
+    ensures added { OnOk result (HoldsNamed lists (lists_seen schemas.now) (listed_pairs pairs.new) older newer
+        (length (fields_of (lists_seen schemas.now) older))) }
+    ensures only { Adds pairs.old pairs.new (λ sets. HoldsNamed lists (lists_seen schemas.now) sets older newer
+        (length (fields_of (lists_seen schemas.now) older))) }
     ensures apart { Apart pairs.old → Apart pairs.new }
     ensures refused { IfErr result (λ e. e.kind ≡ OutOfMemory) }
 {
-    for i in 0..field_count(set, older) {
-        add_some(pairs, named_at(set, lists, older, newer, i))?;
+    for i in 0..field_count(schemas, older) {
+        add_some(pairs, named_at(schemas, lists, older, newer, i))?;
     }
     Ok(())
 }

@@ -44,27 +44,27 @@ fn enum_of(enums: &[EnumRecord], number: u32) -> Option<&EnumRecord>
 }
 
 /// How many names an enum of the set has.
-fn enumerant_count(set: &SchemaSet, number: u32) -> usize
-    ensures { result ≡ length (enum_at (lists_seen set.now) number).enumerants }
+fn enumerant_count(schemas: &SchemaSet, number: u32) -> usize
+    ensures { result ≡ length (enum_at (lists_seen schemas.now) number).enumerants }
 {
-    match enum_of(set.enums(), number) {
+    match enum_of(schemas.enums(), number) {
         Some(record) => record.enumerants.len(),
         None => 0,
     }
 }
 
 /// Whether two layers are related, of which not both are lists.
-fn are_related_layers(set: &SchemaSet, older: TypeVariant, newer: TypeVariant) -> bool
+fn are_related_layers(schemas: &SchemaSet, older: TypeVariant, newer: TypeVariant) -> bool
     requires { variant_kind older ≡ 15 → variant_kind newer ≡ 15 → ⊥ }
-    ensures { IsTrue result ↔ Related false (lists_seen set.now) all_pairs (seen_variant older) (seen_variant newer) }
+    ensures { IsTrue result ↔ Related false (lists_seen schemas.now) all_pairs (seen_variant older) (seen_variant newer) }
 {
     if kind(older) != kind(newer) {
         return false;
     }
     match older {
         TypeVariant::Enum(d) => match newer {
-            TypeVariant::Enum(e) => enumerant_count(set, d.number)
-                <= enumerant_count(set, e.number),
+            TypeVariant::Enum(e) => enumerant_count(schemas, d.number)
+                <= enumerant_count(schemas, e.number),
             _ => false,
         },
         _ => true,
@@ -74,14 +74,14 @@ fn are_related_layers(set: &SchemaSet, older: TypeVariant, newer: TypeVariant) -
 /// The layers of two types inside the lists that both are: not both are lists. Where elements may have become structs,
 /// the type of field 0 is gone on with in such a struct's place.
 fn inside_lists(
-    set: &SchemaSet,
+    schemas: &SchemaSet,
     lists: bool,
     older: Type,
     newer: Type,
 ) -> (TypeVariant, TypeVariant)
-    ensures older { seen_variant result.0 ≡ (inside_lists lists (lists_seen set.now) (seen_type older)
+    ensures older { seen_variant result.0 ≡ (inside_lists lists (lists_seen schemas.now) (seen_type older)
         (seen_type newer)).0 }
-    ensures newer { seen_variant result.1 ≡ (inside_lists lists (lists_seen set.now) (seen_type older)
+    ensures newer { seen_variant result.1 ≡ (inside_lists lists (lists_seen schemas.now) (seen_type older)
         (seen_type newer)).1 }
     ensures all { variant_kind result.0 ≡ 15 → variant_kind result.1 ≡ 15 → ⊥ }
 {
@@ -97,27 +97,27 @@ fn inside_lists(
             return (s, t);
         };
         one = x;
-        other = type_in_place(set, lists, x, y);
+        other = type_in_place(schemas, lists, x, y);
     }
 }
 
 /// Whether an older type is related to a newer one, where all pairs of structs are.
-pub(crate) fn are_related(set: &SchemaSet, lists: bool, older: Type, newer: Type) -> bool
-    ensures { IsTrue result ↔ Related lists (lists_seen set.now) all_pairs (seen_type older) (seen_type newer) }
+pub(crate) fn are_related(schemas: &SchemaSet, lists: bool, older: Type, newer: Type) -> bool
+    ensures { IsTrue result ↔ Related lists (lists_seen schemas.now) all_pairs (seen_type older) (seen_type newer) }
 {
-    let (one, other) = inside_lists(set, lists, older, newer);
-    are_related_layers(set, one, other)
+    let (one, other) = inside_lists(schemas, lists, older, newer);
+    are_related_layers(schemas, one, other)
 }
 
 /// The pair of structs that two layers name, of which not both are lists.
 fn named_layers(
-    set: &SchemaSet,
+    schemas: &SchemaSet,
     lists: bool,
     older: TypeVariant,
     newer: TypeVariant,
 ) -> Option<Pair>
     requires { variant_kind older ≡ 15 → variant_kind newer ≡ 15 → ⊥ }
-    ensures { result ≡ named_pair lists (lists_seen set.now) (seen_variant older) (seen_variant newer) }
+    ensures { result ≡ named_pair lists (lists_seen schemas.now) (seen_variant older) (seen_variant newer) }
 {
     if kind(older) != kind(newer) {
         return None;
@@ -136,9 +136,9 @@ fn named_layers(
 
 /// The pair of structs that two types name, inside lists of the same depth.
 #[tactic(auto, using(crate::proofs::ByLayer::named_through))]
-pub(crate) fn named(set: &SchemaSet, lists: bool, older: Type, newer: Type) -> Option<Pair>
-    ensures { result ≡ named_pair lists (lists_seen set.now) (seen_type older) (seen_type newer) }
+pub(crate) fn named(schemas: &SchemaSet, lists: bool, older: Type, newer: Type) -> Option<Pair>
+    ensures { result ≡ named_pair lists (lists_seen schemas.now) (seen_type older) (seen_type newer) }
 {
-    let (one, other) = inside_lists(set, lists, older, newer);
-    named_layers(set, lists, one, other)
+    let (one, other) = inside_lists(schemas, lists, older, newer);
+    named_layers(schemas, lists, one, other)
 }

@@ -3,8 +3,8 @@
 
 use crate::script::rows_hold;
 
-/// The built-in set and, as struct 9, its struct 1, `Mixed`, with a union that has grown and a plain field more. Struct
-/// 0, `Flat`, has the first field alone.
+/// The built-in set and, as struct 9, its struct 1, `Mixed`, with a union that has grown and a non-union field more.
+/// Struct 0, `Flat`, has the first field alone.
 pub(crate) const GROWN: &str =
     "built-in; struct 1 2 union 3 1, a UInt16 @0, x Void @0 #0, y UInt8 @4 #1, b Text @0, \
     c UInt16 @3, v Text @1 #2";

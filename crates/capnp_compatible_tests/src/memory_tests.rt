@@ -10,7 +10,7 @@ use capnp_schema::set::SchemaSet;
 use capnp_schema_fixtures::fixtures::{
     FieldOf, StructOf, add_struct, list_type, one_word, records_of, slot, struct_type, typed_slot,
 };
-use capnp_schema_fixtures::set_text::read_set;
+use capnp_schema_fixtures::set_text::read_set_text;
 use capnp_wire::error::{ErrorKind, Result};
 use std::alloc::Global;
 use std::test::Fail;
@@ -33,18 +33,18 @@ fn number(reader: dynamic_struct::Reader<'_>, name: &str) -> Result<Option<u16>>
 // alone, and once there is a pair both reads succeed.
 #[test]
 fn narrow_and_widen_take_no_memory(rt: HostRuntime) -> std::result::Result<(), Fail> {
-    let made = read_set(rt.alloc(), GROWN);
-    let Ok(set) = made else {
+    let made = read_set_text(rt.alloc(), GROWN);
+    let Ok(schemas) = made else {
         assert!(rt; made.is_err_and(|error| error.kind == ErrorKind::OutOfMemory));
         return Ok(());
     };
     let part = root_of(rt.alloc(), "nine")?;
-    let found = between(rt.alloc(), &set, MIXED, GROWN_MIXED);
+    let found = between(rt.alloc(), &schemas, MIXED, GROWN_MIXED);
     let Ok(Some(pair)) = found else {
         assert!(rt; found.is_err_and(|error| error.kind == ErrorKind::OutOfMemory));
         return Ok(());
     };
-    let older = dynamic_struct::Reader::new(part, set.struct_schema(MIXED));
+    let older = dynamic_struct::Reader::new(part, schemas.struct_schema(MIXED));
     let newer = pair.widen(older);
     let again = pair.narrow(newer);
     let numbers = [
@@ -89,19 +89,19 @@ fn ring(alloc: Global, count: u32) -> Result<SchemaSet> {
 
 #[test]
 fn a_large_set_has_itself_as_a_successor(rt: HostRuntime) -> std::result::Result<(), Fail> {
-    let set = ring(rt.alloc(), 2_000)?;
-    assert!(rt; is_successor(rt.alloc(), &set, 0, 0)?);
+    let schemas = ring(rt.alloc(), 2_000)?;
+    assert!(rt; is_successor(rt.alloc(), &schemas, 0, 0)?);
     Ok(())
 }
 
 #[test]
 fn all_pairs_of_a_ring(rt: HostRuntime) -> std::result::Result<(), Fail> {
     // each pair leads to all pairs that stand as far apart, and these to others by their lists
-    let set = ring(rt.alloc(), 12)?;
+    let schemas = ring(rt.alloc(), 12)?;
     for older in 0..12 {
         for newer in 0..12 {
             assert!(rt;
-                is_successor(rt.alloc(), &set, older, newer)?,
+                is_successor(rt.alloc(), &schemas, older, newer)?,
                 "{older} {newer}"
             );
         }

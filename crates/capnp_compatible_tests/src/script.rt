@@ -65,8 +65,8 @@ fn has_member(seen: Option<dynamic_struct::Reader<'_>>) -> Result<Answer> {
     }
 }
 
-fn upgrades(alloc: Global, set: &SchemaSet, older: u32, newer: u32) -> Result<Answer> {
-    Ok(match between(alloc, set, older, newer)? {
+fn upgrades(alloc: Global, schemas: &SchemaSet, older: u32, newer: u32) -> Result<Answer> {
+    Ok(match between(alloc, schemas, older, newer)? {
         Some(pair) => Answer::Truth(pair.upgrades()),
         None => Answer::Nothing,
     })
@@ -75,16 +75,16 @@ fn upgrades(alloc: Global, set: &SchemaSet, older: u32, newer: u32) -> Result<An
 /// What is answered of a struct of the older brand or the newer.
 fn answer_about_message(
     alloc: Global,
-    set: &SchemaSet,
+    schemas: &SchemaSet,
     word: &str,
     (older, newer): (u32, u32),
     message: &'static str,
 ) -> Result<Answer> {
     let sections = root_of(alloc, message)?;
     if word == "widen" {
-        return text_of(alloc, seen_by_newer(alloc, set, older, newer, sections)?);
+        return text_of(alloc, seen_by_newer(alloc, schemas, older, newer, sections)?);
     }
-    let narrowed = seen_by_older(alloc, set, older, newer, sections)?;
+    let narrowed = seen_by_older(alloc, schemas, older, newer, sections)?;
     if word == "known" {
         has_member(narrowed)
     } else {
@@ -93,16 +93,16 @@ fn answer_about_message(
 }
 
 /// What a question is answered.
-fn answer_of(alloc: Global, set: &SchemaSet, question: &'static str) -> Result<Answer> {
+fn answer_of(alloc: Global, schemas: &SchemaSet, question: &'static str) -> Result<Answer> {
     let (word, rest) = first_word(question);
     let (older, rest) = first_word(rest);
     let (newer, message) = first_word(rest);
     let (older, newer) = (number(older)?, number(newer)?);
     match word {
-        "follows" => Ok(Answer::Truth(is_successor(alloc, set, older, newer)?)),
-        "upgrades" => upgrades(alloc, set, older, newer),
+        "follows" => Ok(Answer::Truth(is_successor(alloc, schemas, older, newer)?)),
+        "upgrades" => upgrades(alloc, schemas, older, newer),
         "narrow" | "widen" | "known" => {
-            answer_about_message(alloc, set, word, (older, newer), message)
+            answer_about_message(alloc, schemas, word, (older, newer), message)
         }
         _ => Ok(Answer::NoQuestion),
     }
@@ -110,11 +110,11 @@ fn answer_of(alloc: Global, set: &SchemaSet, question: &'static str) -> Result<A
 
 /// The answers to questions about a set that texts describe.
 fn answers_of(alloc: Global, texts: &[&'static str], questions: &'static str) -> Result<String> {
-    let set = read_texts(alloc, texts)?;
+    let schemas = read_texts(alloc, texts)?;
     let mut out = String::new(alloc);
     for question in questions.split(';') {
         let between = if out.is_empty() { "" } else { "; " };
-        match answer_of(alloc, &set, question.trim()) {
+        match answer_of(alloc, &schemas, question.trim()) {
             Ok(answer) => write!(out, "{between}{answer}")?,
             Err(error) => write!(out, "{between}{}", error.kind.number())?,
         }

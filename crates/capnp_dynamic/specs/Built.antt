@@ -60,7 +60,7 @@ abbrev pub built_element : ListHandle → SchemaType
 built_element l = seen_type l.element_type
 
 abbrev pub built_set : ListHandle → Schemas
-built_set l = lists_seen l.set.now
+built_set l = lists_seen l.schemas.now
 
 abbrev pub list_behind : ListHandle → MutBor Arena
 list_behind l = l.arena

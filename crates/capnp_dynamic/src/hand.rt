@@ -97,9 +97,9 @@ fn pointed_of<'a>(
     let _default = field.get_default();
     let at = part::get(arena, place, field)?;
     arena.tree_is_sound(at);
-    let set = field.get_containing_struct().get_set();
+    let schemas = field.get_containing_struct().get_set();
     let variant = field.get_type().which();
-    Ok(hand_out(PointerBuilder { arena, at }, set, variant, false))
+    Ok(hand_out(PointerBuilder { arena, at }, schemas, variant, false))
 }
 
 /// The pointer of a slot lies inside each struct that has the sections of the field's schema.

@@ -32,22 +32,22 @@ use capnp_slots::element;
 use capnp_wire::error::Result;
 
 /// The struct at an index.
-fn struct_at<'a>(
+fn element_struct_at<'a>(
     arena: &'a mut Arena,
     at: usize,
-    set: &'a SchemaSet,
+    schemas: &'a SchemaSet,
     raw: RawBrandedStructSchema,
     index: u32,
 ) -> dynamic_value::Builder<'a>
-    requires under { IsListStanding (lists_seen set.now) (StructType raw.number raw.generic) arena.old at }
+    requires under { IsListStanding (lists_seen schemas.now) (StructType raw.number raw.generic) arena.old at }
     requires inside { index < list_length (tree (segment arena.old) at) }
-    ensures stands { HandsOut false (lists_seen set.now) (StructType raw.number raw.generic)
+    ensures stands { HandsOut false (lists_seen schemas.now) (StructType raw.number raw.generic)
         (struct_tree (element_struct (tree (segment arena.old) at) index)) result }
     ensures ready { CanBeRead result }
     ensures owner { IsStructOf arena.entry at index result }
 {
     arena.tree_is_sound(at);
-    let schema = set.struct_schema(raw.number);
+    let schema = schemas.struct_schema(raw.number);
     let place = arena.get_struct_at(at, index);
     dynamic_value::Builder::Struct(dynamic_struct::Builder {
         arena,
@@ -61,18 +61,18 @@ fn struct_at<'a>(
 fn number_at<'a>(
     arena: &'a Arena,
     at: usize,
-    set: &'a SchemaSet,
+    schemas: &'a SchemaSet,
     element_type: Type,
     index: u32,
 ) -> dynamic_value::Builder<'a>
     requires forest { Forest (segment arena.now) at }
     requires number { is_pointer (seen_type element_type) ≡ false }
-    ensures stands { HandsElementNumber (lists_seen set.now) (seen_type element_type)
+    ensures stands { HandsElementNumber (lists_seen schemas.now) (seen_type element_type)
         (or_empty (element_size (seen_type element_type)) (tree (segment arena.now) at)) index result }
     ensures ready { CanBeRead result }
 {
     let reader = read_list(arena, at, element_type.expected_element_size());
-    let Ok(value) = read_element(&reader, set, element_type.which(), index) else {
+    let Ok(value) = read_element(&reader, schemas, element_type.which(), index) else {
         unreachable!()
     };
     built_number(value)
@@ -82,34 +82,34 @@ fn number_at<'a>(
 fn pointed_at<'a>(
     arena: &'a mut Arena,
     at: usize,
-    set: &'a SchemaSet,
+    schemas: &'a SchemaSet,
     element_type: Type,
     index: u32,
 ) -> Result<dynamic_value::Builder<'a>>
     requires behind { is_behind (seen_type element_type) ≡ true }
-    requires under { IsListStanding (lists_seen set.now) (seen_type element_type) arena.old at }
+    requires under { IsListStanding (lists_seen schemas.now) (seen_type element_type) arena.old at }
     requires inside { index < list_length (tree (segment arena.old) at) }
-    ensures stands { IfOk result (HandsOut false (lists_seen set.now) (seen_type element_type)
-        (element_filled (lists_seen set.now) (seen_type element_type)
+    ensures stands { IfOk result (HandsOut false (lists_seen schemas.now) (seen_type element_type)
+        (element_filled (lists_seen schemas.now) (seen_type element_type)
         (element_pointer (tree (segment arena.old) at) index 1))) }
     ensures ready { IfOk result CanBeRead }
     ensures owner { IfOk result (IsElementOf arena.entry at index (with_pointer_element index
-        (element_filled (lists_seen set.now) (seen_type element_type)
+        (element_filled (lists_seen schemas.now) (seen_type element_type)
         (element_pointer (tree (segment arena.old) at) index 1))
         (tree (segment arena.old) at))) }
-    ensures within { OnOk result (element_due (lists_seen set.now) (seen_type element_type)
+    ensures within { OnOk result (element_due (lists_seen schemas.now) (seen_type element_type)
         (element_pointer (tree (segment arena.old) at) index 1) ≡ None) }
-    ensures cause { IfErr result (λ e. IsDueRefusal e (element_due (lists_seen set.now) (seen_type element_type)
+    ensures cause { IfErr result (λ e. IsDueRefusal e (element_due (lists_seen schemas.now) (seen_type element_type)
         (element_pointer (tree (segment arena.old) at) index 1))) }
-    ensures rests { ElementRests (lists_seen set.now) (seen_type element_type)
+    ensures rests { ElementRests (lists_seen schemas.now) (seen_type element_type)
         (element_pointer (tree (segment arena.old) at) index 1) → IsOk result }
 {
     arena.tree_is_sound(at);
     let variant = element_type.which();
-    element::fill(arena, at, set, element_type, index)?;
+    element::fill(arena, at, schemas, element_type, index)?;
     let at = arena.get_pointer_element(at, index);
     arena.tree_is_sound(at);
-    Ok(hand_out(PointerBuilder { arena, at }, set, variant, false))
+    Ok(hand_out(PointerBuilder { arena, at }, schemas, variant, false))
 }
 
 /// Whether elements of a type stand behind pointers of their own.
@@ -150,15 +150,15 @@ impl<'a> Builder<'a> {
             arena,
             at,
             element_type,
-            set,
+            schemas,
         } = self;
         let variant = element_type.which();
         if let TypeVariant::Struct(raw) = variant {
-            return Ok(struct_at(arena, at, set, raw, index));
+            return Ok(element_struct_at(arena, at, schemas, raw, index));
         }
         if is_behind_pointer(variant) {
-            return pointed_at(arena, at, set, element_type, index);
+            return pointed_at(arena, at, schemas, element_type, index);
         }
-        Ok(number_at(&*arena, at, set, element_type, index))
+        Ok(number_at(&*arena, at, schemas, element_type, index))
     }
 }

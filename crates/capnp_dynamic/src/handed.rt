@@ -60,28 +60,28 @@ fn data_at<'a>(pointer: PointerBuilder<'a>) -> data::Builder<'a>
 /// What stands at a pointer, under a type.
 pub(crate) fn hand_out<'a>(
     pointer: PointerBuilder<'a>,
-    set: &'a SchemaSet,
+    schemas: &'a SchemaSet,
     variant: TypeVariant,
     is_new: bool,
 ) -> Builder<'a>
     requires pointer { is_pointer (seen_variant variant) ≡ true }
     requires forest { Forest (segment pointer.arena.now) pointer.at }
-    requires handed { CanBeHanded (lists_seen set.now) (seen_variant variant)
+    requires handed { CanBeHanded (lists_seen schemas.now) (seen_variant variant)
         (tree (segment pointer.arena.now) pointer.at) }
     ensures ready { CanBeRead result }
-    ensures stands { HandsOut is_new (lists_seen set.now) (seen_variant variant)
+    ensures stands { HandsOut is_new (lists_seen schemas.now) (seen_variant variant)
         (tree (segment pointer.entry.arena.now) pointer.entry.at) result }
     ensures behind { IsValueAt pointer.entry.arena pointer.entry.at result }
 {
     match variant {
         TypeVariant::Text => Builder::Text(text_at(pointer, is_new)),
         TypeVariant::Data => Builder::Data(data_at(pointer)),
-        TypeVariant::Struct(raw) => Builder::Struct(struct_at(
+        TypeVariant::Struct(raw) => Builder::Struct(struct_behind_pointer(
             pointer,
-            set.struct_schema(raw.number),
+            schemas.struct_schema(raw.number),
         )),
         TypeVariant::List(element) => Builder::List(dynamic_list::Builder::new(
-            pointer, element, set,
+            pointer, element, schemas,
         )),
         TypeVariant::AnyPointer => Builder::AnyPointer(any_pointer::Builder::new(pointer)),
         _ => unreachable!(),
@@ -90,7 +90,7 @@ pub(crate) fn hand_out<'a>(
 
 /// The struct at a pointer, under a schema of which it has the sections.
 #[tactic(auto, using(crate::proofs::Readers::struct_here, crate::proofs::Standing::here_stands))]
-fn struct_at<'a>(
+fn struct_behind_pointer<'a>(
     pointer: PointerBuilder<'a>,
     schema: StructSchema<'a>,
 ) -> dynamic_struct::Builder<'a>

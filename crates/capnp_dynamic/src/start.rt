@@ -43,10 +43,10 @@ fn hand_new<'a>(arena: &'a mut Arena, place: Place, field: Field<'a>) -> dynamic
     ensures ready { CanBeRead result }
     ensures there { IsAtPointer arena.entry place (pointer_index field.entry) result }
 {
-    let set = field.get_containing_struct().get_set();
+    let schemas = field.get_containing_struct().get_set();
     let variant = field.get_type().which();
     let at = part::pointer(arena, place, field);
-    hand_out(PointerBuilder { arena, at }, set, variant, true)
+    hand_out(PointerBuilder { arena, at }, schemas, variant, true)
 }
 
 /// What an init of a slot hands out.

@@ -138,7 +138,7 @@ module _ (left : ℕ) (at : Layout) (r : StructHandle) where
       go true = refl
       go false = refl
 
--- ---- the member before a plain field ----
+-- ---- the member before a non-union field ----
 
 pub before_some : (i j : ℕ) (xs : List Out) → i < j → before (Some (i, xs)) j ≡ xs
 before_some i j xs h = ap (λ q. cond q xs []) (lt-true i j h)

@@ -209,34 +209,34 @@ module _ (set : Schemas) (t : SchemaType) (s : ElementSize) (sized : element_siz
 
 -- ---- without a default ----
 
-pub text_plain : (set : Schemas) (x : Tree) (l : Levels) (r : Result (List ℕ) ErrorKind) → r ≡ as_text x → of_read value.Text r ≡ read_of set VoidValue TextType (value_of set x l TextType)
-text_plain set x l r e = go (is_null_tree x) refl
+pub text_undefaulted : (set : Schemas) (x : Tree) (l : Levels) (r : Result (List ℕ) ErrorKind) → r ≡ as_text x → of_read value.Text r ≡ read_of set VoidValue TextType (value_of set x l TextType)
+text_undefaulted set x l r e = go (is_null_tree x) refl
   where
     go : (q : Bool) → is_null_tree x ≡ q → of_read value.Text r ≡ read_of set VoidValue TextType (value_of set x l TextType)
     go true h = ap (of_read value.Text) e ∙ ap (λ y. of_read value.Text (as_text y)) (null-is x h) ∙ ap (λ y. read_of set VoidValue TextType (value_of set y l TextType)) (sym (null-is x h))
     go false h = text_there set VoidValue x l r h e
 
-pub data_plain : (set : Schemas) (x : Tree) (l : Levels) (r : Result (List ℕ) ErrorKind) → r ≡ as_data x → of_read value.Data r ≡ read_of set VoidValue DataType (value_of set x l DataType)
-data_plain set x l r e = go (is_null_tree x) refl
+pub data_undefaulted : (set : Schemas) (x : Tree) (l : Levels) (r : Result (List ℕ) ErrorKind) → r ≡ as_data x → of_read value.Data r ≡ read_of set VoidValue DataType (value_of set x l DataType)
+data_undefaulted set x l r e = go (is_null_tree x) refl
   where
     go : (q : Bool) → is_null_tree x ≡ q → of_read value.Data r ≡ read_of set VoidValue DataType (value_of set x l DataType)
     go true h = ap (of_read value.Data) e ∙ ap (λ y. of_read value.Data (as_data y)) (null-is x h) ∙ ap (λ y. read_of set VoidValue DataType (value_of set y l DataType)) (sym (null-is x h))
     go false h = data_there set VoidValue x l r h e
 
-pub list_plain : (set : Schemas) (t : SchemaType) (s : ElementSize) (sized : element_size t ≡ s) (x : Tree) (n : ℕ) (r : Result ListReader Error) →
+pub list_undefaulted : (set : Schemas) (t : SchemaType) (s : ElementSize) (sized : element_size t ≡ s) (x : Tree) (n : ℕ) (r : Result ListReader Error) →
     list_read r ≡ as_list s x n → IfOk r (λ l. list_levels l + 1 ≡ n) → list_answered set t r ≡ read_of set VoidValue (ListType t) (value_of set x (Left n) (ListType t))
-list_plain set t s sized x n (Ok l) e levels = go (is_null_tree x) refl
+list_undefaulted set t s sized x n (Ok l) e levels = go (is_null_tree x) refl
   where
     go : (q : Bool) → is_null_tree x ≡ q → list_answered set t (Ok l) ≡ read_of set VoidValue (ListType t) (value_of set x (Left n) (ListType t))
     go true h = list_bare set t s sized VoidValue x n (list_of l) (list_levels l) h e levels refl
     go false h = list_there set t s sized VoidValue x n (list_of l) (list_levels l) h e levels
-list_plain set t s sized x n (Err f) e levels = list_refused set t s sized VoidValue x n f.kind e
+list_undefaulted set t s sized x n (Err f) e levels = list_refused set t s sized VoidValue x n f.kind e
 
-pub struct_plain : (set : Schemas) (b g : ℕ) (x : Tree) (n : ℕ) (r : Result StructReader Error) →
+pub struct_undefaulted : (set : Schemas) (b g : ℕ) (x : Tree) (n : ℕ) (r : Result StructReader Error) →
     struct_read r ≡ as_struct x n → IfOk r (λ s. struct_levels s + 1 ≡ n) → struct_answered set b r ≡ read_of set VoidValue (StructType b g) (value_of set x (Left n) (StructType b g))
-struct_plain set b g x n (Ok s) e levels = go (is_null_tree x) refl
+struct_undefaulted set b g x n (Ok s) e levels = go (is_null_tree x) refl
   where
     go : (q : Bool) → is_null_tree x ≡ q → struct_answered set b (Ok s) ≡ read_of set VoidValue (StructType b g) (value_of set x (Left n) (StructType b g))
     go true h = struct_bare set b g VoidValue x n (struct_of s) (struct_levels s) h e levels refl
     go false h = struct_there set b g VoidValue x n (struct_of s) (struct_levels s) h e levels
-struct_plain set b g x n (Err f) e levels = struct_refused set b g VoidValue x n f.kind e
+struct_undefaulted set b g x n (Err f) e levels = struct_refused set b g VoidValue x n f.kind e

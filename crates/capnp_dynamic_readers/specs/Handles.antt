@@ -30,7 +30,7 @@ abbrev pub element_of : ListHandle → SchemaType
 element_of l = seen_type l.element_type
 
 abbrev pub list_set : ListHandle → Schemas
-list_set l = lists_seen l.set.now
+list_set l = lists_seen l.schemas.now
 
 -- the number of an enum's value, and its enum
 abbrev pub enum_value_number : Enum → ℕ

@@ -66,8 +66,8 @@ fn list_default(kind: &FieldKind) -> Option<&[u8]>
 /// The text, or its default's bytes.
 #[tactic(auto, using(crate::proofs::Pointed::text_null, crate::proofs::Pointed::text_there))]
 pub(crate) fn read_text<'a>(kind: &'a FieldKind, pointer: &PointerReader<'a>) -> Result<&'a [u8]>
-    ensures { (set : Schemas) → text_answered result
-        ≡ pointer_read set (kind_default (seen_kind kind.now)) TextType pointer.now }
+    ensures { (schemas : Schemas) → text_answered result
+        ≡ pointer_read schemas (kind_default (seen_kind kind.now)) TextType pointer.now }
 {
     if pointer.is_null() {
         return Ok(text_default(kind));
@@ -78,8 +78,8 @@ pub(crate) fn read_text<'a>(kind: &'a FieldKind, pointer: &PointerReader<'a>) ->
 /// The data, or its default's bytes.
 #[tactic(auto, using(crate::proofs::Pointed::data_null, crate::proofs::Pointed::data_there))]
 pub(crate) fn read_data<'a>(kind: &'a FieldKind, pointer: &PointerReader<'a>) -> Result<&'a [u8]>
-    ensures { (set : Schemas) → data_answered result
-        ≡ pointer_read set (kind_default (seen_kind kind.now)) DataType pointer.now }
+    ensures { (schemas : Schemas) → data_answered result
+        ≡ pointer_read schemas (kind_default (seen_kind kind.now)) DataType pointer.now }
 {
     if pointer.is_null() {
         return Ok(data_default(kind));
@@ -93,8 +93,8 @@ pub(crate) fn read_struct<'a>(
     kind: &'a FieldKind,
     pointer: &PointerReader<'a>,
 ) -> Result<StructReader<'a>>
-    ensures { (set : Schemas) (b g : ℕ) → struct_answered set b result
-        ≡ pointer_read set (kind_default (seen_kind kind.now)) (StructType b g) pointer.now }
+    ensures { (schemas : Schemas) (b g : ℕ) → struct_answered schemas b result
+        ≡ pointer_read schemas (kind_default (seen_kind kind.now)) (StructType b g) pointer.now }
 {
     let here = pointer.get_struct()?;
     if !pointer.is_null() {
@@ -117,8 +117,8 @@ pub(crate) fn read_list<'a>(
     size: ElementSize,
     pointer: &PointerReader<'a>,
 ) -> Result<ListReader<'a>>
-    ensures { (set : Schemas) (e : SchemaType) → element_size e ≡ size
-        → list_answered set e result ≡ pointer_read set (kind_default (seen_kind kind.now)) (ListType e) pointer.now }
+    ensures { (schemas : Schemas) (e : SchemaType) → element_size e ≡ size
+        → list_answered schemas e result ≡ pointer_read schemas (kind_default (seen_kind kind.now)) (ListType e) pointer.now }
 {
     let here = pointer.get_list(size)?;
     if !pointer.is_null() {
@@ -135,38 +135,38 @@ pub(crate) fn read_list<'a>(
 }
 
 /// The text, empty for a null.
-#[tactic(auto, using(crate::proofs::Pointed::text_plain))]
-pub(crate) fn plain_text<'a>(pointer: &PointerReader<'a>) -> Result<&'a [u8]>
-    ensures { (set : Schemas) → text_answered result ≡ pointer_read set VoidValue TextType pointer.now }
+#[tactic(auto, using(crate::proofs::Pointed::text_undefaulted))]
+pub(crate) fn undefaulted_text<'a>(pointer: &PointerReader<'a>) -> Result<&'a [u8]>
+    ensures { (schemas : Schemas) → text_answered result ≡ pointer_read schemas VoidValue TextType pointer.now }
 {
     pointer.get_text()
 }
 
 /// The data, empty for a null.
-#[tactic(auto, using(crate::proofs::Pointed::data_plain))]
-pub(crate) fn plain_data<'a>(pointer: &PointerReader<'a>) -> Result<&'a [u8]>
-    ensures { (set : Schemas) → data_answered result ≡ pointer_read set VoidValue DataType pointer.now }
+#[tactic(auto, using(crate::proofs::Pointed::data_undefaulted))]
+pub(crate) fn undefaulted_data<'a>(pointer: &PointerReader<'a>) -> Result<&'a [u8]>
+    ensures { (schemas : Schemas) → data_answered result ≡ pointer_read schemas VoidValue DataType pointer.now }
 {
     pointer.get_data()
 }
 
 /// The list, empty for a null.
-#[tactic(auto, using(crate::proofs::Pointed::list_plain))]
-pub(crate) fn plain_list<'a>(
+#[tactic(auto, using(crate::proofs::Pointed::list_undefaulted))]
+pub(crate) fn undefaulted_list<'a>(
     size: ElementSize,
     pointer: &PointerReader<'a>,
 ) -> Result<ListReader<'a>>
-    ensures { (set : Schemas) (e : SchemaType) → element_size e ≡ size
-        → list_answered set e result ≡ pointer_read set VoidValue (ListType e) pointer.now }
+    ensures { (schemas : Schemas) (e : SchemaType) → element_size e ≡ size
+        → list_answered schemas e result ≡ pointer_read schemas VoidValue (ListType e) pointer.now }
 {
     pointer.get_list(size)
 }
 
 /// The struct, one of size zero for a null.
-#[tactic(auto, using(crate::proofs::Pointed::struct_plain))]
-pub(crate) fn plain_struct<'a>(pointer: &PointerReader<'a>) -> Result<StructReader<'a>>
-    ensures { (set : Schemas) (b g : ℕ) → struct_answered set b result
-        ≡ pointer_read set VoidValue (StructType b g) pointer.now }
+#[tactic(auto, using(crate::proofs::Pointed::struct_undefaulted))]
+pub(crate) fn undefaulted_struct<'a>(pointer: &PointerReader<'a>) -> Result<StructReader<'a>>
+    ensures { (schemas : Schemas) (b g : ℕ) → struct_answered schemas b result
+        ≡ pointer_read schemas VoidValue (StructType b g) pointer.now }
 {
     pointer.get_struct()
 }

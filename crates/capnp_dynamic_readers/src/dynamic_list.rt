@@ -27,7 +27,7 @@ use std::fmt;
 pub struct Reader<'a> {
     pub(crate) reader: ListReader<'a>,
     pub(crate) element_type: Type,
-    set: &'a SchemaSet,
+    schemas: &'a SchemaSet,
 }
 
 impl<'a> Reader<'a> {
@@ -43,15 +43,15 @@ impl<'a> Reader<'a> {
     ghost use Rattle.capnp_dynamic_readers.specs.Typed.{IsOf, IsValueUnder};
 
     /// A reader of a list whose elements are of a type of the set.
-    pub fn new(reader: ListReader<'a>, element_type: Type, set: &'a SchemaSet) -> Reader<'a>
+    pub fn new(reader: ListReader<'a>, element_type: Type, schemas: &'a SchemaSet) -> Reader<'a>
         ensures reader { list_reader_of result ≡ reader.entry }
         ensures element { type_of result ≡ element_type }
-        ensures set { list_set result ≡ lists_seen set.now }
+        ensures set { list_set result ≡ lists_seen schemas.now }
     {
         Reader {
             reader,
             element_type,
-            set,
+            schemas,
         }
     }
 
@@ -96,7 +96,7 @@ impl<'a> Reader<'a> {
         ensures typed { NamesEntries (list_set self.entry) (element_of self.entry)
             → IfOk result (IsOf (list_set self.entry) (element_of self.entry)) }
     {
-        read_element(&self.reader, self.set, self.element_type.which(), index)
+        read_element(&self.reader, self.schemas, self.element_type.which(), index)
     }
 
     /// The elements from the first to the last, taken from both ends.

@@ -18,7 +18,7 @@ use std::fmt;
 /// ```rust
 /// let root = message.get_root().get_struct()?;
 /// get_number(
-///     dynamic_struct::Reader::new(root, set.struct_schema(builtin::MANY)),
+///     dynamic_struct::Reader::new(root, schemas.struct_schema(builtin::MANY)),
 ///     "n",
 /// )
 /// ```
@@ -96,11 +96,11 @@ impl<'a> Reader<'a> {
             (struct_field (schema_of self.entry) (index_of field.entry)).type) }
     {
         let schema = field.get_containing_struct();
-        let set = schema.get_set();
+        let schemas = schema.get_set();
         let place = field.plan().place;
         let variant = field.get_type().which();
         let kind = &field.get_proto().kind;
-        read_placed(&self.reader, set, kind, variant, place)
+        read_placed(&self.reader, schemas, kind, variant, place)
     }
 
     /// What the field of a name has, as `get`. Refused with `FieldNotFound` where there is none of that name.
@@ -130,7 +130,7 @@ impl<'a> Reader<'a> {
         ensures { result ≡ not (is_inactive (record_seen self.now)
             (struct_field (schema_of self.now) (index_of field.entry)).field (index_of field.entry)) }
     {
-        // What every set is known to meet is known of it here.
+        // The prover learns the set's invariant from this call.
         let _schema = field.get_containing_struct();
         let plan = field.plan();
         is_member_active(&self.reader, plan.member)
@@ -144,7 +144,7 @@ impl<'a> Reader<'a> {
         ensures { result ≡ Ok (has_of (record_seen self.now)
             (struct_field (schema_of self.now) (index_of field.entry)).field (index_of field.entry)) }
     {
-        // What every set is known to meet is known of it here.
+        // The prover learns the set's invariant from this call.
         let _schema = field.get_containing_struct();
         let _variant = field.get_type().which();
         let plan = field.plan();

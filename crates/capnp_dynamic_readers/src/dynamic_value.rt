@@ -130,12 +130,12 @@ impl<'a> Reader<'a> {
     ///
     /// A struct or list is entered as one behind a pointer is, and refused as that is. A type that names a struct or
     /// enum past the set's last is one without fields or enumerants.
-    pub fn new(set: &'a SchemaSet, value: Value<'a>, value_type: Type) -> Result<Reader<'a>>
-        ensures value { answered_value result ≡ view_read (lists_seen set.now) value.entry (seen_type value_type) }
-        ensures typed { NamesEntries (lists_seen set.now) (seen_type value_type)
-            → IfOk result (IsOf (lists_seen set.now) (view_type value.entry (seen_type value_type))) }
+    pub fn new(schemas: &'a SchemaSet, value: Value<'a>, value_type: Type) -> Result<Reader<'a>>
+        ensures value { answered_value result ≡ view_read (lists_seen schemas.now) value.entry (seen_type value_type) }
+        ensures typed { NamesEntries (lists_seen schemas.now) (seen_type value_type)
+            → IfOk result (IsOf (lists_seen schemas.now) (view_type value.entry (seen_type value_type))) }
     {
-        read_view(set, value, value_type.which())
+        read_view(schemas, value, value_type.which())
     }
 
     /// The value that it holds, of the kind that the type names, which has to be this value's.

@@ -10,7 +10,7 @@ ghost use Rattle.capnp_records.specs.Default.{read_of};
 ghost use Rattle.capnp_dynamic_readers.specs.Seen.{answered_value};
 ghost use Rattle.capnp_dynamic_readers.specs.Typed.{IsOf, IsValueUnder};
 
-use crate::behind::{plain_data, plain_list, plain_text};
+use crate::behind::{undefaulted_data, undefaulted_list, undefaulted_text};
 use crate::dynamic_value::{Enum, Reader as Value};
 use crate::{dynamic_list, dynamic_struct};
 use capnp_base::introspect::TypeVariant;
@@ -25,15 +25,15 @@ use capnp_wire::error::Result;
 /// Refused as the read of an element of that type is.
 pub fn read_element<'a>(
     list: &ListReader<'a>,
-    set: &'a SchemaSet,
+    schemas: &'a SchemaSet,
     variant: TypeVariant,
     index: u32,
 ) -> Result<Value<'a>>
-    ensures value { answered_value result ≡ read_of (lists_seen set.now) VoidValue (seen_variant variant)
-        (element_read (lists_seen set.now) (list_of list.now) (list_levels list.now) (seen_variant variant) index) }
-    ensures under { IfOk result (IsValueUnder (lists_seen set.now) (seen_variant variant)) }
-    ensures typed { NamesEntries (lists_seen set.now) (seen_variant variant)
-        → IfOk result (IsOf (lists_seen set.now) (seen_variant variant)) }
+    ensures value { answered_value result ≡ read_of (lists_seen schemas.now) VoidValue (seen_variant variant)
+        (element_read (lists_seen schemas.now) (list_of list.now) (list_levels list.now) (seen_variant variant) index) }
+    ensures under { IfOk result (IsValueUnder (lists_seen schemas.now) (seen_variant variant)) }
+    ensures typed { NamesEntries (lists_seen schemas.now) (seen_variant variant)
+        → IfOk result (IsOf (lists_seen schemas.now) (seen_variant variant)) }
 {
     match variant {
         TypeVariant::Void => Ok(Value::Void),
@@ -48,16 +48,16 @@ pub fn read_element<'a>(
         TypeVariant::UInt64 => Ok(Value::UInt64(list.get_data_element::<u64>(index))),
         TypeVariant::Enum(raw) => {
             let value = list.get_data_element::<u16>(index);
-            Ok(Value::Enum(Enum::new(value, set.enum_schema(raw.number))))
+            Ok(Value::Enum(Enum::new(value, schemas.enum_schema(raw.number))))
         }
         TypeVariant::Text => {
-            let bytes = plain_text(&list.get_pointer_element(index))?;
+            let bytes = undefaulted_text(&list.get_pointer_element(index))?;
             Ok(Value::Text(text::Reader(bytes)))
         }
-        TypeVariant::Data => Ok(Value::Data(plain_data(&list.get_pointer_element(index))?)),
+        TypeVariant::Data => Ok(Value::Data(undefaulted_data(&list.get_pointer_element(index))?)),
         TypeVariant::Struct(raw) => {
             let reader = list.get_struct_element(index)?;
-            let schema = set.struct_schema(raw.number);
+            let schema = schemas.struct_schema(raw.number);
             Ok(Value::Struct(dynamic_struct::Reader::new(reader, schema)))
         }
         TypeVariant::AnyPointer => {
@@ -66,8 +66,8 @@ pub fn read_element<'a>(
         }
         TypeVariant::List(element_type) => {
             let size = element_type.expected_element_size();
-            let reader = plain_list(size, &list.get_pointer_element(index))?;
-            Ok(Value::List(dynamic_list::Reader::new(reader, element_type, set)))
+            let reader = undefaulted_list(size, &list.get_pointer_element(index))?;
+            Ok(Value::List(dynamic_list::Reader::new(reader, element_type, schemas)))
         }
     }
 }

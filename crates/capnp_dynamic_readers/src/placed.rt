@@ -31,7 +31,7 @@ use capnp_wire::{PointerReader, StructReader};
 #[inline(always)]
 fn read_bits<'a>(
     reader: &StructReader<'a>,
-    set: &'a SchemaSet,
+    schemas: &'a SchemaSet,
     variant: TypeVariant,
     start: u32,
     mask: u64,
@@ -41,8 +41,8 @@ fn read_bits<'a>(
     requires mask { mask < 2 ^ width (seen_variant variant) }
     ensures value { answered_value result ≡ number_value (seen_variant variant)
         (bit_xor (bits_at (struct_of reader.now).bytes start (width (seen_variant variant))) mask) }
-    ensures typed { NamesEntries (lists_seen set.now) (seen_variant variant)
-        → IfOk result (IsOf (lists_seen set.now) (seen_variant variant)) }
+    ensures typed { NamesEntries (lists_seen schemas.now) (seen_variant variant)
+        → IfOk result (IsOf (lists_seen schemas.now) (seen_variant variant)) }
 {
     match variant {
         TypeVariant::Bool => Ok(Value::Bool(bit_at(reader, start, mask))),
@@ -56,7 +56,7 @@ fn read_bits<'a>(
         TypeVariant::UInt64 => Ok(Value::UInt64(word_at(reader, start, mask))),
         TypeVariant::Enum(raw) => {
             let value = pair_at(reader, start, mask);
-            Ok(Value::Enum(Enum::new(value, set.enum_schema(raw.number))))
+            Ok(Value::Enum(Enum::new(value, schemas.enum_schema(raw.number))))
         }
         _ => Err(Error::type_mismatch()),
     }
@@ -65,29 +65,29 @@ fn read_bits<'a>(
 /// What stands behind a pointer, or in the default of its slot.
 #[inline(never)]
 fn read_pointer<'a>(
-    set: &'a SchemaSet,
+    schemas: &'a SchemaSet,
     kind: &'a FieldKind,
     variant: TypeVariant,
     pointer: PointerReader<'a>,
 ) -> Result<Value<'a>>
     requires { is_pointer (seen_variant variant) ≡ true }
-    ensures value { answered_value result ≡ pointer_read (lists_seen set.now) (kind_default (seen_kind kind.now))
+    ensures value { answered_value result ≡ pointer_read (lists_seen schemas.now) (kind_default (seen_kind kind.now))
         (seen_variant variant) pointer.entry }
-    ensures typed { NamesEntries (lists_seen set.now) (seen_variant variant)
-        → IfOk result (IsOf (lists_seen set.now) (seen_variant variant)) }
+    ensures typed { NamesEntries (lists_seen schemas.now) (seen_variant variant)
+        → IfOk result (IsOf (lists_seen schemas.now) (seen_variant variant)) }
 {
     match variant {
         TypeVariant::Text => Ok(Value::Text(text::Reader(read_text(kind, &pointer)?))),
         TypeVariant::Data => Ok(Value::Data(read_data(kind, &pointer)?)),
         TypeVariant::Struct(raw) => {
             let reader = read_struct(kind, &pointer)?;
-            let schema = set.struct_schema(raw.number);
+            let schema = schemas.struct_schema(raw.number);
             Ok(Value::Struct(dynamic_struct::Reader::new(reader, schema)))
         }
         TypeVariant::List(element_type) => {
             let size = element_type.expected_element_size();
             let reader = read_list(kind, size, &pointer)?;
-            Ok(Value::List(dynamic_list::Reader::new(reader, element_type, set)))
+            Ok(Value::List(dynamic_list::Reader::new(reader, element_type, schemas)))
         }
         TypeVariant::AnyPointer => Ok(Value::AnyPointer(any_pointer::Reader::new(pointer))),
         _ => Err(Error::type_mismatch()),
@@ -98,17 +98,17 @@ fn read_pointer<'a>(
 #[inline(always)]
 pub(crate) fn read_placed<'a>(
     reader: &StructReader<'a>,
-    set: &'a SchemaSet,
+    schemas: &'a SchemaSet,
     kind: &'a FieldKind,
     variant: TypeVariant,
     place: Place,
 ) -> Result<Value<'a>>
-    requires { IsSound (lists_seen set.now) (seen_variant variant) place }
-    ensures value { answered_value result ≡ placed_read (lists_seen set.now) (Left (struct_levels reader.now))
+    requires { IsSound (lists_seen schemas.now) (seen_variant variant) place }
+    ensures value { answered_value result ≡ placed_read (lists_seen schemas.now) (Left (struct_levels reader.now))
         (struct_of reader.now)
         (kind_default (seen_kind kind.now)) (seen_variant variant) place }
-    ensures typed { NamesEntries (lists_seen set.now) (seen_variant variant)
-        → IfOk result (IsOf (lists_seen set.now) (seen_variant variant)) }
+    ensures typed { NamesEntries (lists_seen schemas.now) (seen_variant variant)
+        → IfOk result (IsOf (lists_seen schemas.now) (seen_variant variant)) }
 {
     match place {
         Place::Nothing => Ok(Value::Void),
@@ -116,10 +116,10 @@ pub(crate) fn read_placed<'a>(
             start,
             width: _,
             mask,
-        } => read_bits(reader, set, variant, start, mask),
-        Place::Pointer(index) => read_pointer(set, kind, variant, reader.get_pointer_field(index)),
+        } => read_bits(reader, schemas, variant, start, mask),
+        Place::Pointer(index) => read_pointer(schemas, kind, variant, reader.get_pointer_field(index)),
         Place::Group(brand) => {
-            let schema = set.struct_schema(brand);
+            let schema = schemas.struct_schema(brand);
             Ok(Value::Struct(dynamic_struct::Reader::new(*reader, schema)))
         }
     }

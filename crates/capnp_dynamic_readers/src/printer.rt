@@ -47,7 +47,7 @@ pub fn print(value: dynamic_value::Reader<'_>, out: &mut String, indented: bool)
     ensures unchanged { OnErr result (string_bytes out.new ≡ string_bytes out.old) }
 {
     let mut made = Made::new(*out.allocator());
-    match print_root(value, layout(indented), &mut made) {
+    match print_root_value(value, layout(indented), &mut made) {
         Ok(()) => made.append_to(out),
         Err(stop) => Err(Error::from(stop)),
     }
@@ -59,7 +59,7 @@ pub(crate) fn print_debug<W: fmt::Write>(
     value: Value<'_>,
     f: &mut fmt::Formatter<W>,
 ) -> fmt::Result {
-    match print_root(value, layout(f.alternate()), f) {
+    match print_root_value(value, layout(f.alternate()), f) {
         Ok(()) => Ok(()),
         Err(_) => Err(fmt::Error),
     }
@@ -67,7 +67,7 @@ pub(crate) fn print_debug<W: fmt::Write>(
 
 /// Appends the text of a value that stands alone. A group takes no level, here as elsewhere.
 #[tactic(auto, using(crate::proofs::Roots::group_root, crate::proofs::Roots::struct_root, crate::proofs::Roots::other_root))]
-fn print_root<O: Out>(
+fn print_root_value<O: Out>(
     value: Value<'_>,
     at: Option<u64>,
     out: &mut O,

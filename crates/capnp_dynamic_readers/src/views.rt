@@ -8,7 +8,7 @@ ghost use Rattle.capnp_dynamic_readers.specs.Seen.{answered_value};
 ghost use Rattle.capnp_dynamic_readers.specs.Typed.{IsOf};
 ghost use Rattle.capnp_dynamic_readers.specs.Viewed.{view_read, view_type};
 
-use crate::behind::{plain_list, plain_struct};
+use crate::behind::{undefaulted_list, undefaulted_struct};
 use crate::dynamic_value::{Enum, Reader};
 use crate::{dynamic_list, dynamic_struct};
 use capnp_base::any_pointer;
@@ -20,13 +20,13 @@ use capnp_wire::error::{Error, Result};
 
 /// A value under a type: one that needs its type is refused under another.
 pub(crate) fn read_view<'a>(
-    set: &'a SchemaSet,
+    schemas: &'a SchemaSet,
     value: Value<'a>,
     variant: TypeVariant,
 ) -> Result<Reader<'a>>
-    ensures value { answered_value result ≡ view_read (lists_seen set.now) value.entry (seen_variant variant) }
-    ensures typed { NamesEntries (lists_seen set.now) (seen_variant variant)
-        → IfOk result (IsOf (lists_seen set.now) (view_type value.entry (seen_variant variant))) }
+    ensures value { answered_value result ≡ view_read (lists_seen schemas.now) value.entry (seen_variant variant) }
+    ensures typed { NamesEntries (lists_seen schemas.now) (seen_variant variant)
+        → IfOk result (IsOf (lists_seen schemas.now) (view_type value.entry (seen_variant variant))) }
 {
     match value {
         Value::Void => Ok(Reader::Void),
@@ -39,74 +39,74 @@ pub(crate) fn read_view<'a>(
         Value::UInt16(x) => Ok(Reader::UInt16(x)),
         Value::UInt32(x) => Ok(Reader::UInt32(x)),
         Value::UInt64(x) => Ok(Reader::UInt64(x)),
-        Value::Enum(x) => view_enum(set, x, variant),
+        Value::Enum(x) => view_enum(schemas, x, variant),
         Value::Text(x) => Ok(Reader::Text(x)),
         Value::Data(x) => Ok(Reader::Data(x)),
-        Value::Struct(pointer) => view_struct(set, pointer, variant),
-        Value::List(pointer) => view_list(set, pointer, variant),
-        Value::AnyPointer(pointer) => view_untyped(set, pointer, variant),
+        Value::Struct(pointer) => view_struct(schemas, pointer, variant),
+        Value::List(pointer) => view_list(schemas, pointer, variant),
+        Value::AnyPointer(pointer) => view_untyped(schemas, pointer, variant),
     }
 }
 
 /// A number under an enum's type.
-fn view_enum<'a>(set: &'a SchemaSet, value: u16, variant: TypeVariant) -> Result<Reader<'a>>
-    ensures value { answered_value result ≡ view_read (lists_seen set.now) (view.Enum value) (seen_variant variant) }
-    ensures typed { NamesEntries (lists_seen set.now) (seen_variant variant)
-        → IfOk result (IsOf (lists_seen set.now) (seen_variant variant)) }
+fn view_enum<'a>(schemas: &'a SchemaSet, value: u16, variant: TypeVariant) -> Result<Reader<'a>>
+    ensures value { answered_value result ≡ view_read (lists_seen schemas.now) (view.Enum value) (seen_variant variant) }
+    ensures typed { NamesEntries (lists_seen schemas.now) (seen_variant variant)
+        → IfOk result (IsOf (lists_seen schemas.now) (seen_variant variant)) }
 {
     let TypeVariant::Enum(raw) = variant else {
         return Err(Error::type_mismatch());
     };
-    Ok(Reader::Enum(Enum::new(value, set.enum_schema(raw.number))))
+    Ok(Reader::Enum(Enum::new(value, schemas.enum_schema(raw.number))))
 }
 
 /// A struct under a struct's type.
 fn view_struct<'a>(
-    set: &'a SchemaSet,
+    schemas: &'a SchemaSet,
     pointer: PointerReader<'a>,
     variant: TypeVariant,
 ) -> Result<Reader<'a>>
-    ensures value { answered_value result ≡ view_read (lists_seen set.now) (view.Struct pointer.entry)
+    ensures value { answered_value result ≡ view_read (lists_seen schemas.now) (view.Struct pointer.entry)
         (seen_variant variant) }
-    ensures typed { NamesEntries (lists_seen set.now) (seen_variant variant)
-        → IfOk result (IsOf (lists_seen set.now) (seen_variant variant)) }
+    ensures typed { NamesEntries (lists_seen schemas.now) (seen_variant variant)
+        → IfOk result (IsOf (lists_seen schemas.now) (seen_variant variant)) }
 {
     let TypeVariant::Struct(raw) = variant else {
         return Err(Error::type_mismatch());
     };
-    let reader = plain_struct(&pointer)?;
-    let schema = set.struct_schema(raw.number);
+    let reader = undefaulted_struct(&pointer)?;
+    let schema = schemas.struct_schema(raw.number);
     Ok(Reader::Struct(dynamic_struct::Reader::new(reader, schema)))
 }
 
 /// A list under a list's type.
 fn view_list<'a>(
-    set: &'a SchemaSet,
+    schemas: &'a SchemaSet,
     pointer: PointerReader<'a>,
     variant: TypeVariant,
 ) -> Result<Reader<'a>>
-    ensures value { answered_value result ≡ view_read (lists_seen set.now) (view.List pointer.entry) (seen_variant variant) }
-    ensures typed { NamesEntries (lists_seen set.now) (seen_variant variant)
-        → IfOk result (IsOf (lists_seen set.now) (seen_variant variant)) }
+    ensures value { answered_value result ≡ view_read (lists_seen schemas.now) (view.List pointer.entry) (seen_variant variant) }
+    ensures typed { NamesEntries (lists_seen schemas.now) (seen_variant variant)
+        → IfOk result (IsOf (lists_seen schemas.now) (seen_variant variant)) }
 {
     let TypeVariant::List(element_type) = variant else {
         return Err(Error::type_mismatch());
     };
     let size = element_type.expected_element_size();
-    let reader = plain_list(size, &pointer)?;
-    Ok(Reader::List(dynamic_list::Reader::new(reader, element_type, set)))
+    let reader = undefaulted_list(size, &pointer)?;
+    Ok(Reader::List(dynamic_list::Reader::new(reader, element_type, schemas)))
 }
 
 /// An untyped pointer under its type.
 fn view_untyped<'a>(
-    set: &'a SchemaSet,
+    schemas: &'a SchemaSet,
     pointer: PointerReader<'a>,
     variant: TypeVariant,
 ) -> Result<Reader<'a>>
-    ensures value { answered_value result ≡ view_read (lists_seen set.now) (view.AnyPointer pointer.entry)
+    ensures value { answered_value result ≡ view_read (lists_seen schemas.now) (view.AnyPointer pointer.entry)
         (seen_variant variant) }
-    ensures typed { NamesEntries (lists_seen set.now) (seen_variant variant)
-        → IfOk result (IsOf (lists_seen set.now) (seen_variant variant)) }
+    ensures typed { NamesEntries (lists_seen schemas.now) (seen_variant variant)
+        → IfOk result (IsOf (lists_seen schemas.now) (seen_variant variant)) }
 {
     match variant {
         TypeVariant::AnyPointer => Ok(Reader::AnyPointer(any_pointer::Reader::new(pointer))),

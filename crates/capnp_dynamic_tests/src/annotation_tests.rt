@@ -62,8 +62,8 @@ static VALUE_ROWS: [(&str, &str); 19] = [
 
 /// What the annotation of the struct is read as.
 fn annotated(alloc: Global, note: &'static str) -> Result<String> {
-    let set = read_texts(alloc, &[SET, note])?;
-    answers_about(alloc, &set, 0, message_of("null_root"), "note 3")
+    let schemas = read_texts(alloc, &[SET, note])?;
+    answers_about(alloc, &schemas, 0, message_of("null_root"), "note 3")
 }
 
 #[test]

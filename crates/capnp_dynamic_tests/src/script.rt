@@ -122,12 +122,12 @@ impl fmt::Display for Answer<'_> {
 /// The root of a message under the struct of a brand.
 fn root_of<'a>(
     alloc: Global,
-    set: &'a SchemaSet,
+    schemas: &'a SchemaSet,
     brand: u32,
     bytes: &'a [u8],
 ) -> Result<dynamic_struct::Reader<'a>> {
     let reader = message::Reader::new(alloc, bytes)?.get_root().get_struct()?;
-    Ok(dynamic_struct::Reader::new(reader, set.struct_schema(brand)))
+    Ok(dynamic_struct::Reader::new(reader, schemas.struct_schema(brand)))
 }
 
 fn number(text: &str) -> u32 {
@@ -293,12 +293,12 @@ fn about<'a>(alloc: Global, value: Value<'a>, word: &str) -> Result<Answer<'a>> 
 /// What a question is answered about a root.
 fn answer_of<'a>(
     alloc: Global,
-    set: &'a SchemaSet,
+    schemas: &'a SchemaSet,
     root: dynamic_struct::Reader<'a>,
     question: &str,
 ) -> Result<Answer<'a>> {
     let (word, rest) = question.split_once(' ').unwrap_or((question, ""));
-    let of_number = Enum::new(rest.parse::<u16>().unwrap_or(0), set.enum_schema(0));
+    let of_number = Enum::new(rest.parse::<u16>().unwrap_or(0), schemas.enum_schema(0));
     match word {
         "has" => has(Value::Struct(root), rest),
         "note" => seen_note(root.get_schema(), rest),
@@ -312,16 +312,16 @@ fn answer_of<'a>(
 /// The answers to questions about the root of a message under the struct of a brand.
 pub(crate) fn answers_about(
     alloc: Global,
-    set: &SchemaSet,
+    schemas: &SchemaSet,
     brand: u32,
     bytes: &[u8],
     questions: &str,
 ) -> Result<String> {
-    let root = root_of(alloc, set, brand, bytes)?;
+    let root = root_of(alloc, schemas, brand, bytes)?;
     let mut out = String::new(alloc);
     for question in questions.split(';') {
         let between = if out.is_empty() { "" } else { "; " };
-        match answer_of(alloc, set, root, question.trim()) {
+        match answer_of(alloc, schemas, root, question.trim()) {
             Ok(answer) => write!(out, "{between}{answer}")?,
             Err(error) => write!(out, "{between}Refused({})", error.kind.number())?,
         }
@@ -331,8 +331,8 @@ pub(crate) fn answers_about(
 
 /// The answers to questions about the root of a message, which is a struct of `messages`.
 fn answers_of(alloc: Global, name: &str, bytes: &[u8], questions: &str) -> Result<String> {
-    let set = set_of(alloc, name)?;
-    answers_about(alloc, &set, brand_of(name), bytes, questions)
+    let schemas = set_of(alloc, name)?;
+    answers_about(alloc, &schemas, brand_of(name), bytes, questions)
 }
 
 /// Asserts that questions about a message are answered so.

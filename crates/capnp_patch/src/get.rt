@@ -22,7 +22,7 @@ use capnp_wire::transfer::{read_all, write_all};
 use std::alloc::Global;
 
 /// Appends the text of what stands at a path of the first message in these bytes.
-fn put_value(
+fn put_text_at_path(
     alloc: Global,
     schema: StructSchema<'_>,
     path: &[Step<'_>],
@@ -64,7 +64,7 @@ fn get_line(
     ensures of_no_device { IfErr result (λ e. IsOfRead e.kind) }
 {
     let mut line = String::new(alloc);
-    put_value(alloc, schema, path, bytes, &mut line, indented)?;
+    put_text_at_path(alloc, schema, path, bytes, &mut line, indented)?;
     line.push_str("\n")?;
     Ok(line)
 }

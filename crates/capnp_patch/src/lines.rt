@@ -57,7 +57,7 @@ fn put_answer(lines: &mut String, number: u64, word: &str, text: &str) -> Result
 }
 
 /// Appends the line of a value.
-fn put_value(lines: &mut String, number: u64, word: &str, plain: &Plain) -> Result<()>
+fn put_value_line(lines: &mut String, number: u64, word: &str, plain: &Plain) -> Result<()>
     ensures put { OnOk result (IsValueTold number word.now plain.now (string_bytes lines.old)
         (string_bytes lines.new)) }
     ensures memory { IfErr result (λ e. e.kind ≡ OutOfMemory) }
@@ -109,7 +109,7 @@ fn put_line(lines: &mut String, number: u64, word: &str, reply: &Reply) -> Resul
 {
     match reply {
         Reply::Done => Ok(()),
-        Reply::Value(plain) => put_value(lines, number, word, plain),
+        Reply::Value(plain) => put_value_line(lines, number, word, plain),
         Reply::Flag(flag) => put_flag(lines, number, word, *flag),
         Reply::Member(member) => put_member(lines, number, word, *member),
         Reply::Refused(kind) => put_refusal(lines, number, word, *kind),

@@ -76,10 +76,10 @@ fn read_element<'a>(
 
 /// What a step leads to from a value.
 fn read_step<'a>(value: Value<'a>, step: Step<'_>, is_last: bool) -> Result<Value<'a>>
-    ensures read { (set : Schemas) → IsOf set (type_seen value.entry) value.entry
-        → seen_read result ≡ step_read set is_last (value_part_seen value.entry) (step_seen step.entry) }
-    ensures typed { (set : Schemas) → IsOf set (type_seen value.entry) value.entry
-        → IfOk result (λ v. IsOf set (type_seen v) v) }
+    ensures read { (schemas : Schemas) → IsOf schemas (type_seen value.entry) value.entry
+        → seen_read result ≡ step_read schemas is_last (value_part_seen value.entry) (step_seen step.entry) }
+    ensures typed { (schemas : Schemas) → IsOf schemas (type_seen value.entry) value.entry
+        → IfOk result (λ v. IsOf schemas (type_seen v) v) }
 {
     match value {
         Value::Struct(reader) => read_field(reader, step, is_last),
@@ -96,10 +96,10 @@ fn read_step<'a>(value: Value<'a>, step: Step<'_>, is_last: bool) -> Result<Valu
 /// `UntypedStep` or `NotAContainer` where steps follow and it leads to no struct, group or list, and as the read of
 /// what stands there.
 pub fn read_path<'a>(value: Value<'a>, path: &[Step<'_>]) -> Result<Value<'a>>
-    ensures read { (set : Schemas) → IsOf set (type_seen value.entry) value.entry
-        → seen_read result ≡ path_read set (path_seen path.now) (Ok (value_part_seen value.entry)) }
-    ensures typed { (set : Schemas) → IsOf set (type_seen value.entry) value.entry
-        → IfOk result (λ v. IsOf set (type_seen v) v) }
+    ensures read { (schemas : Schemas) → IsOf schemas (type_seen value.entry) value.entry
+        → seen_read result ≡ path_read schemas (path_seen path.now) (Ok (value_part_seen value.entry)) }
+    ensures typed { (schemas : Schemas) → IsOf schemas (type_seen value.entry) value.entry
+        → IfOk result (λ v. IsOf schemas (type_seen v) v) }
 {
     let mut reached = value;
     let mut left = path.len();

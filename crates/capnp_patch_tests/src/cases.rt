@@ -29,7 +29,7 @@ pub(crate) enum Verb {
 /// What is asked of a message.
 #[derive(Clone, Copy)]
 pub(crate) struct Case<'c> {
-    pub set: &'c SchemaSet,
+    pub schemas: &'c SchemaSet,
     /// The struct of the root, by number.
     pub brand: u32,
     pub message: &'c [u8],
@@ -151,7 +151,7 @@ fn run(
     source: &mut MemorySource<'_>,
     sink: &mut MemorySink,
 ) -> Result<Report> {
-    let schema = schema_of(case.set, case.brand)?;
+    let schema = schema_of(case.schemas, case.brand)?;
     match case.verb {
         Verb::Get => show(alloc, schema, case, source, sink),
         Verb::Patch | Verb::New => make_all(alloc, schema, case, source, sink),

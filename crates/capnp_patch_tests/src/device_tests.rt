@@ -43,9 +43,9 @@ static ROWS: [Row; 4] = [
     (Verb::Get, MIXED_HI, "b", "", b"\"hi\"\n"),
 ];
 
-fn case_of<'c>(set: &'c SchemaSet, row: &Row) -> Case<'c> {
+fn case_of<'c>(schemas: &'c SchemaSet, row: &Row) -> Case<'c> {
     Case {
-        set,
+        schemas,
         brand: MIXED,
         message: row.1,
         verb: row.0,
@@ -77,10 +77,10 @@ fn reads_fail(rt: &impl Abort, alloc: Global, case: &Case<'_>) {
 
 #[test]
 fn nothing_is_written_after_a_failed_read(rt: HostRuntime) -> Result<(), Fail> {
-    let set = new_set(rt.alloc())?;
+    let schemas = new_set(rt.alloc())?;
     for row in &ROWS {
         if row.0 != Verb::New {
-            reads_fail(&rt, rt.alloc(), &case_of(&set, row));
+            reads_fail(&rt, rt.alloc(), &case_of(&schemas, row));
         }
     }
     Ok(())
@@ -100,16 +100,16 @@ fn writes_fail(rt: &impl Abort, alloc: Global, case: &Case<'_>, written: &[u8]) 
 
 #[test]
 fn a_proper_beginning_is_written_before_a_failed_write(rt: HostRuntime) -> Result<(), Fail> {
-    let set = new_set(rt.alloc())?;
+    let schemas = new_set(rt.alloc())?;
     for row in &ROWS {
-        writes_fail(&rt, rt.alloc(), &case_of(&set, row), row.4);
+        writes_fail(&rt, rt.alloc(), &case_of(&schemas, row), row.4);
     }
     Ok(())
 }
 
 #[test]
 fn devices_of_which_no_call_fails(rt: HostRuntime) -> Result<(), Fail> {
-    let set = new_set(rt.alloc())?;
+    let schemas = new_set(rt.alloc())?;
     for row in &ROWS {
         let expected = Expected {
             refusal: 0,
@@ -118,7 +118,7 @@ fn devices_of_which_no_call_fails(rt: HostRuntime) -> Result<(), Fail> {
         };
         // the calls that are to fail are those after the last
         let devices = slow(Some(row.1.len() as u64 + 1), Some(row.4.len() as u64));
-        comes_over(&rt, rt.alloc(), &case_of(&set, row), devices, &expected);
+        comes_over(&rt, rt.alloc(), &case_of(&schemas, row), devices, &expected);
     }
     Ok(())
 }

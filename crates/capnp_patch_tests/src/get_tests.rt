@@ -7,7 +7,7 @@ use capnp_schema::builtin::new_set;
 use capnp_schema::set::SchemaSet;
 use capnp_schema_fixtures::kinds::{EMPTY, FULL, KINDS, KINDS_SET, SEGMENTS};
 use capnp_schema_fixtures::messages::{MIXED_HI, SHORT};
-use capnp_schema_fixtures::set_text::read_set;
+use capnp_schema_fixtures::set_text::read_set_text;
 use std::alloc::Global;
 use std::process::Abort;
 use std::test::Fail;
@@ -16,9 +16,9 @@ use std::test::Fail;
 type Row = (&'static str, &'static str);
 
 /// A path under a struct of a set.
-fn shown_at<'c>(set: &'c SchemaSet, brand: u32, message: &'c [u8], path: &'c str) -> Case<'c> {
+fn shown_at<'c>(schemas: &'c SchemaSet, brand: u32, message: &'c [u8], path: &'c str) -> Case<'c> {
     Case {
-        set,
+        schemas,
         brand,
         message,
         verb: Verb::Get,
@@ -87,9 +87,9 @@ static FULL_TEXTS: [Row; 28] = [
 
 #[test]
 fn values_of_every_kind_stand_at_paths(rt: HostRuntime) -> Result<(), Fail> {
-    let set = read_set(rt.alloc(), KINDS_SET)?;
+    let schemas = read_set_text(rt.alloc(), KINDS_SET)?;
     for message in [FULL.as_slice(), SEGMENTS.as_slice()] {
-        let of = shown_at(&set, KINDS, message, "");
+        let of = shown_at(&schemas, KINDS, message, "");
         are_shown(&rt, rt.alloc(), of, &FULL_TEXTS);
     }
     Ok(())
@@ -124,8 +124,8 @@ static FULL_REFUSED: [(&str, u32); 22] = [
 
 #[test]
 fn the_first_step_that_fits_nothing_refuses(rt: HostRuntime) -> Result<(), Fail> {
-    let set = read_set(rt.alloc(), KINDS_SET)?;
-    let of = shown_at(&set, KINDS, &FULL, "");
+    let schemas = read_set_text(rt.alloc(), KINDS_SET)?;
+    let of = shown_at(&schemas, KINDS, &FULL, "");
     are_refused(&rt, rt.alloc(), of, &FULL_REFUSED);
     Ok(())
 }
@@ -158,10 +158,10 @@ static DEFAULTS_REFUSED: [(&str, u32); 5] = [
 
 #[test]
 fn paths_lead_into_defaults(rt: HostRuntime) -> Result<(), Fail> {
-    let set = read_set(rt.alloc(), KINDS_SET)?;
+    let schemas = read_set_text(rt.alloc(), KINDS_SET)?;
     // a struct of size zero has none of its fields either
     for message in [EMPTY.as_slice(), SHORT] {
-        let of = shown_at(&set, KINDS, message, "");
+        let of = shown_at(&schemas, KINDS, message, "");
         are_shown(&rt, rt.alloc(), of, &DEFAULTS);
         are_refused(&rt, rt.alloc(), of, &DEFAULTS_REFUSED);
     }
@@ -186,8 +186,8 @@ static SHAPES_REFUSED: [(&str, u32); 5] = [
 
 #[test]
 fn groups_and_unions_are_entered_where_they_are_active(rt: HostRuntime) -> Result<(), Fail> {
-    let set = new_set(rt.alloc())?;
-    let of = shown_at(&set, SHAPES, TAGGED, "");
+    let schemas = new_set(rt.alloc())?;
+    let of = shown_at(&schemas, SHAPES, TAGGED, "");
     are_shown(&rt, rt.alloc(), of, &SHAPES_TEXTS);
     are_refused(&rt, rt.alloc(), of, &SHAPES_REFUSED);
     Ok(())
@@ -208,11 +208,11 @@ static AGAIN_REFUSED: [(&str, u32); 5] = [
 
 #[test]
 fn a_default_that_leads_to_itself_has_no_text(rt: HostRuntime) -> Result<(), Fail> {
-    let set = new_set(rt.alloc())?;
+    let schemas = new_set(rt.alloc())?;
     are_refused(
         &rt,
         rt.alloc(),
-        shown_at(&set, LOOP, AGAIN, ""),
+        shown_at(&schemas, LOOP, AGAIN, ""),
         &AGAIN_REFUSED,
     );
     Ok(())
@@ -231,17 +231,17 @@ static MIXED_TEXTS: [Row; 3] = [
 
 #[test]
 fn roots_are_shown_whole(rt: HostRuntime) -> Result<(), Fail> {
-    let set = new_set(rt.alloc())?;
+    let schemas = new_set(rt.alloc())?;
     are_shown(
         &rt,
         rt.alloc(),
-        shown_at(&set, MANY, SHORT, ""),
+        shown_at(&schemas, MANY, SHORT, ""),
         &SHORT_TEXTS,
     );
     are_shown(
         &rt,
         rt.alloc(),
-        shown_at(&set, MIXED, MIXED_HI, ""),
+        shown_at(&schemas, MIXED, MIXED_HI, ""),
         &MIXED_TEXTS,
     );
     Ok(())
@@ -260,10 +260,10 @@ static INDENTED: [Row; 5] = [
 
 #[test]
 fn values_are_shown_on_lines(rt: HostRuntime) -> Result<(), Fail> {
-    let set = read_set(rt.alloc(), KINDS_SET)?;
+    let schemas = read_set_text(rt.alloc(), KINDS_SET)?;
     let of = Case {
         flag: true,
-        ..shown_at(&set, KINDS, &FULL, "")
+        ..shown_at(&schemas, KINDS, &FULL, "")
     };
     are_shown(&rt, rt.alloc(), of, &INDENTED);
     Ok(())

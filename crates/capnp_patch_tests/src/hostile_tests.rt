@@ -69,7 +69,7 @@ static HOSTILE: [Row; 15] = [
 ];
 
 /// Asserts that a message is refused, with calls and without, whether they go on or not.
-fn is_refused(rt: &impl Abort, alloc: Global, set: &SchemaSet, row: &Row) {
+fn is_refused(rt: &impl Abort, alloc: Global, schemas: &SchemaSet, row: &Row) {
     let expected = Expected {
         refusal: row.2,
         lines: "",
@@ -77,7 +77,7 @@ fn is_refused(rt: &impl Abort, alloc: Global, set: &SchemaSet, row: &Row) {
     };
     for (flag, text) in [(false, ""), (true, ""), (true, "get nothing\nget #0")] {
         let case = Case {
-            set,
+            schemas,
             brand: row.0,
             message: row.1,
             verb: Verb::Patch,
@@ -90,11 +90,11 @@ fn is_refused(rt: &impl Abort, alloc: Global, set: &SchemaSet, row: &Row) {
 
 #[test]
 fn patches_of_hostile_messages_are_refused(rt: HostRuntime) -> Result<(), Fail> {
-    let set = new_set(rt.alloc())?;
+    let schemas = new_set(rt.alloc())?;
     for row in &HOSTILE {
-        is_refused(&rt, rt.alloc(), &set, row);
+        is_refused(&rt, rt.alloc(), &schemas, row);
     }
-    is_refused(&rt, rt.alloc(), &set, &(MIXED, BAD_TEXT, 4));
+    is_refused(&rt, rt.alloc(), &schemas, &(MIXED, BAD_TEXT, 4));
     Ok(())
 }
 
@@ -145,10 +145,10 @@ static GOT: [Got; 24] = [
 
 #[test]
 fn only_what_a_path_touches_is_read(rt: HostRuntime) -> Result<(), Fail> {
-    let set = new_set(rt.alloc())?;
+    let schemas = new_set(rt.alloc())?;
     for (brand, message, path, refusal, written) in &GOT {
         let case = Case {
-            set: &set,
+            schemas: &schemas,
             brand: *brand,
             message,
             verb: Verb::Get,

@@ -100,9 +100,9 @@ static MEETINGS: [Meeting; 4] = [
     },
 ];
 
-fn case_of<'c>(set: &'c SchemaSet, meeting: &Meeting) -> Case<'c> {
+fn case_of<'c>(schemas: &'c SchemaSet, meeting: &Meeting) -> Case<'c> {
     Case {
-        set,
+        schemas,
         brand: meeting.brand,
         message: meeting.message,
         verb: meeting.verb,
@@ -134,16 +134,16 @@ static WHOLE: Devices = Devices {
     failing_write: None,
 };
 
-fn meetings_hold(rt: &impl Abort, alloc: Global, set: &SchemaSet) {
+fn meetings_hold(rt: &impl Abort, alloc: Global, schemas: &SchemaSet) {
     for meeting in &MEETINGS {
-        let outcome = outcome_of(alloc, &case_of(set, meeting), WHOLE);
+        let outcome = outcome_of(alloc, &case_of(schemas, meeting), WHOLE);
         assert!(rt; is_met(&outcome, meeting), "{}", meeting.text);
     }
 }
 
 #[test]
 fn what_is_written_without_memory(rt: HostRuntime) {
-    if let Ok(set) = new_set(rt.alloc()) {
-        meetings_hold(&rt, rt.alloc(), &set);
+    if let Ok(schemas) = new_set(rt.alloc()) {
+        meetings_hold(&rt, rt.alloc(), &schemas);
     }
 }

@@ -26,10 +26,10 @@ fn rows_hold(
     flag: bool,
     rows: &[Row],
 ) -> Result<(), Fail> {
-    let set = new_set(alloc)?;
+    let schemas = new_set(alloc)?;
     for (brand, message, text, lines, written) in rows {
         let case = Case {
-            set: &set,
+            schemas: &schemas,
             brand: *brand,
             message,
             verb,

@@ -2,7 +2,7 @@
 
 use crate::cases::{Case, Expected, Verb, comes_to};
 use capnp_schema_fixtures::kinds::{FULL, KINDS, KINDS_SET, SEGMENTS};
-use capnp_schema_fixtures::set_text::read_set;
+use capnp_schema_fixtures::set_text::read_set_text;
 use std::test::Fail;
 
 const CALLS: &str = "\
@@ -50,7 +50,7 @@ static CHANGED: [u8; 376] = [
 
 #[test]
 fn a_message_of_the_public_tool_is_patched(rt: HostRuntime) -> Result<(), Fail> {
-    let set = read_set(rt.alloc(), KINDS_SET)?;
+    let schemas = read_set_text(rt.alloc(), KINDS_SET)?;
     let expected = Expected {
         refusal: 0,
         lines: LINES,
@@ -58,7 +58,7 @@ fn a_message_of_the_public_tool_is_patched(rt: HostRuntime) -> Result<(), Fail> 
     };
     for message in [FULL.as_slice(), SEGMENTS.as_slice()] {
         let case = Case {
-            set: &set,
+            schemas: &schemas,
             brand: KINDS,
             message,
             verb: Verb::Patch,

@@ -250,7 +250,7 @@ others-part set b i j h s s' w l =
 pub others-read : OthersAreRead
 others-read set b i j h s s' w l = ap (read_of set (default_of (field_at set b j).field) (field_at set b j).type) (others-part set b i j h s s' w l)
 
--- a write of a plain field puts its part into the record
+-- a write of a non-union field puts its part into the record
 plain-put : (set : Schemas) (b i : ℕ) → IsFieldAt set b i → is_member (field_at set b i).field ≡ false → (s s' : StructTree) → Writes (field_spots set b (field_at set b i)) s s' → (l : Levels) →
     struct_record set l s' b ≡ with_part (struct_record set l s b) (field_at set b i).field i (part_of set l s'.bytes (values_of set s'.pointers) (field_at set b i))
 plain-put set b i at plain s s' w l = record_of-plain_write set at.accepted l s.bytes (values_of set s.pointers) s'.bytes (values_of set s'.pointers) b i at.brand at.index plain same

@@ -1,4 +1,4 @@
--- Worked rows of a schema that grew: `Mixed`, and `Mixed2` with a plain field and a member more.
+-- Worked rows of a schema that grew: `Mixed`, and `Mixed2` with a non-union field and a member more.
 use Rattle.std.proofs.Common.{ℕ, zero, suc, ◌<◌, ◌≡◌, refl, List, [], ◌∷◌, ◌++◌, false, ◌&&◌, ◌==◌, None, IsTrue, codes, arith, ap, sym, subst}
 use Rattle.std.specs.Fmt.{debug_escape, digits}
 use Rattle.std.specs.Str.{is_utf8, chars}

@@ -30,7 +30,7 @@ copy_ends_at_a_text = (_, (_, (_, _, (refl, refl), (refl, refl)), refl), refl)
 
 -- ---- a member that is cut ----
 
--- a struct of a group g: plain k, and members e and m
+-- a struct of a group g: non-union k, and members e and m
 abbrev outer : Schemas
 outer = record {
   nodes = builtin_struct_node 1 (codes "Outer") 1 1 (record { name = codes "g"; discriminant_value = 65535; annotations = []; kind = Group 1 } ∷ [])
@@ -40,7 +40,7 @@ outer = record {
   enums = [];
 }
 
--- the member is copied before the plain fields, so where it isn't, none is
+-- the member is copied before the non-union fields, so where it isn't, none is
 the_member_comes_first : RunsIn outer 0 (default_record outer Endless 0)
     (call [] (named "g") (Set (StructSource (Left 63) (record { bytes = 4 ∷ 0 ∷ 1 ∷ 0 ∷ 0 ∷ 0 ∷ 0 ∷ 0 ∷ []; pointers = MoreTrees (Numbers 1 (104 ∷ 105 ∷ [])) NoTrees }) 1)) ∷ [])
     (Refused TextNotTerminated ∷ [])

@@ -1,4 +1,4 @@
--- The copy of a group: the default record, the source's active member, and its plain fields one after another.
+-- The copy of a group: the default record, the source's active member, and its non-union fields one after another.
 use Rattle.std.specs.Prelude.{ℕ, zero, suc, ◌≡◌, ◌⊎◌, List, [], ◌∷◌, true, false, not, ◌&&◌, cond, length, Option, Some, None}
 use Rattle.capnp_wire.specs.Tree.{Tree, StructTree, nth_tree}
 use Rattle.capnp_device.specs.declared.error.ErrorKind.{ErrorKind}
@@ -38,12 +38,12 @@ active_first NoUnion rest = rest
 active_first (Active i v) rest = i ∷ rest
 active_first (Unknown number) rest = rest
 
--- the plain fields that the source has, by index
+-- the non-union fields that the source has, by index
 abbrev pub non_union_there : List TypedField → Values → ℕ → List ℕ
 non_union_there [] vs i = []
 non_union_there (f ∷ fs) vs i = cond (not (is_member f.field) && is_there (nth_value vs i)) (i ∷ non_union_there fs vs (suc i)) (non_union_there fs vs (suc i))
 
--- the fields of a source that are copied: the active member, then the plain fields that it has
+-- the fields of a source that are copied: the active member, then the non-union fields that it has
 abbrev pub copied_fields : Schemas → ℕ → Record → List ℕ
 copied_fields set b (Parts vs u) = active_first u (non_union_there (fields_of set b) vs 0)
 

@@ -38,7 +38,7 @@ active_value (Unknown number) = value.Elsewhere
 
 -- ---- a field ----
 
--- what a field has: a plain field's value, or what stands in the union
+-- what a field has: a non-union field's value, or what stands in the union
 abbrev pub part_at : Record → Field → ℕ → Value
 part_at (Parts vs u) f i = elim (is_member f) [ true ↦ active_value u | false ↦ nth_value vs i ]
 

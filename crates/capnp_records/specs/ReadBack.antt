@@ -126,7 +126,7 @@ abbrev pub OthersAreThere : Type 0
 OthersAreThere = (set : Schemas) (b i j : ℕ) → AreApart set b i j → (s s' : StructTree) → Writes (field_spots set b (field_at set b i)) s s' → (l : Levels) →
     has_of (struct_record set l s' b) (field_at set b j).field j ≡ has_of (struct_record set l s b) (field_at set b j).field j
 
--- and a write of a plain field leaves the active member
+-- and a write of a non-union field leaves the active member
 abbrev pub NonUnionKeepsActive : Type 0
 NonUnionKeepsActive = (set : Schemas) (b i : ℕ) → IsFieldAt set b i → is_member (field_at set b i).field ≡ false →
     (s s' : StructTree) → Writes (field_spots set b (field_at set b i)) s s' → (l : Levels) → active_member set l s' b ≡ active_member set l s b

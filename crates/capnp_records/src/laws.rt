@@ -82,8 +82,8 @@ pub fn projection_law()
     ensures { ProjectionLaw }
 {}
 
-/// The same where lists became lists of structs: of a struct whose lists are read as what they were, the record under
-/// the older schema is the projection of that under the newer one, but for the levels that missing parts carry.
+/// Where lists became lists of structs: of a struct whose lists are read as what they were, the record under the older
+/// schema is the projection of that under the newer one, but for the levels that missing parts carry.
 pub fn upgrade_law()
     ensures { UpgradeLaw }
 {
@@ -116,7 +116,7 @@ pub fn groups_are_active()
 {}
 
 /// A write of a field changes nothing of what another one is read as, nor of whether it is there, unless both are
-/// members; and that of a plain field leaves the active member.
+/// members; and that of a non-union field leaves the active member.
 pub fn other_fields_are_read()
     ensures read { OthersAreRead }
     ensures there { OthersAreThere }

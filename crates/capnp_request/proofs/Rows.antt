@@ -8,7 +8,7 @@ use Rattle.capnp_schema.specs.Types.{SchemaType, StructType, TextType, UIntType,
 use Rattle.capnp_request.specs.Conversion.{Float64Note, Note, note_at}
 use Rattle.capnp_request.specs.Names.{dotted_of, file_of}
 use Rattle.capnp_request.specs.Order.{conversion_of}
-use Rattle.capnp_request.specs.Terms.{AnnotationNode, Binds, FieldKindTerm, FieldTerm, Float64, GroupTerm, Inherits, MoreBindings, MoreScopes, NoBindings, NoScopes, NodeKind, OtherNode, Parameter, Plain, RequestTerm, Said, SchemaNode, SlotTerm, Stands, StructNode, StructTerm, EnumTerm, TypeTerm}
+use Rattle.capnp_request.specs.Terms.{AnnotationNode, Binds, FieldKindTerm, FieldTerm, Float64, GroupTerm, Inherits, MoreBindings, MoreScopes, NoBindings, NoScopes, NodeKind, OtherNode, Parameter, MemberTerm, RequestTerm, Said, SchemaNode, SlotTerm, Stands, StructNode, StructTerm, EnumTerm, TypeTerm}
 
 -- ---- terms of rows ----
 
@@ -57,8 +57,8 @@ file_before_it = refl
 abbrev grouped : RequestTerm
 grouped = request (
     file (2 ∷ [])
-    ∷ node 2 (codes "x.capnp:A") 1 [] 0 (struct_kind false 2 (slot (codes "n") 65535 0 (Plain (UIntType 2)) ∷ field (codes "g") 0 (GroupTerm 3) ∷ slot (codes "v") 1 0 (Plain VoidType) ∷ []))
-    ∷ node 3 (codes "x.capnp:A.g") 2 [] 0 (struct_kind true 0 (slot (codes "t") 65535 1 (Plain TextType) ∷ []))
+    ∷ node 2 (codes "x.capnp:A") 1 [] 0 (struct_kind false 2 (slot (codes "n") 65535 0 (MemberTerm (UIntType 2)) ∷ field (codes "g") 0 (GroupTerm 3) ∷ slot (codes "v") 1 0 (MemberTerm VoidType) ∷ []))
+    ∷ node 3 (codes "x.capnp:A.g") 2 [] 0 (struct_kind true 0 (slot (codes "t") 65535 1 (MemberTerm TextType) ∷ []))
     ∷ [])
 
 group_named : names_in (conversion_of grouped false) ≡ Ok (codes "A" ∷ codes "A.g" ∷ [])
@@ -77,7 +77,7 @@ bound_to t = StructTerm 4 (MoreScopes 4 (Binds (MoreBindings t NoBindings)) NoSc
 abbrev generic : RequestTerm
 generic = request (
     file (5 ∷ 4 ∷ [])
-    ∷ node 5 (codes "x.capnp:U") 1 [] 0 (struct_kind false 0 (slot (codes "a") 65535 0 (bound_to (Plain TextType)) ∷ slot (codes "b") 65535 1 (bound_to (bound_to (Plain TextType))) ∷ slot (codes "c") 65535 1 (bound_to (Plain TextType)) ∷ []))
+    ∷ node 5 (codes "x.capnp:U") 1 [] 0 (struct_kind false 0 (slot (codes "a") 65535 0 (bound_to (MemberTerm TextType)) ∷ slot (codes "b") 65535 1 (bound_to (bound_to (MemberTerm TextType))) ∷ slot (codes "c") 65535 1 (bound_to (MemberTerm TextType)) ∷ []))
     ∷ node 4 (codes "x.capnp:Box") 1 [] 1 (struct_kind false 0 (slot (codes "item") 65535 0 (Parameter 4 0) ∷ slot (codes "next") 65535 1 (StructTerm 4 (MoreScopes 4 Inherits NoScopes)) ∷ []))
     ∷ [])
 
@@ -100,9 +100,9 @@ bindings_typed = refl
 abbrev annotated : RequestTerm
 annotated = request (
     file (2 ∷ [])
-    ∷ node 7 (codes "x.capnp:note") 1 [] 0 (AnnotationNode (Plain TextType))
+    ∷ node 7 (codes "x.capnp:note") 1 [] 0 (AnnotationNode (MemberTerm TextType))
     ∷ node 2 (codes "x.capnp:A") 1 [] 0 (struct_kind false 0 (
-    record { name = Ok (codes "n"); discriminant_value = 65535; annotations = Ok (Ok (record { id = 7; value = Stands (TextValue (codes "hi")); brand = NoScopes }) ∷ []); kind = SlotTerm 0 (Plain (UIntType 2)) (Stands (UIntValue 2 5)) }
+    record { name = Ok (codes "n"); discriminant_value = 65535; annotations = Ok (Ok (record { id = 7; value = Stands (TextValue (codes "hi")); brand = NoScopes }) ∷ []); kind = SlotTerm 0 (MemberTerm (UIntType 2)) (Stands (UIntValue 2 5)) }
     ∷ slot (codes "f") 65535 0 Float64 ∷ []))
     ∷ [])
 

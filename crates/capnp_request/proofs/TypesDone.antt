@@ -12,11 +12,11 @@ use Rattle.capnp_records.specs.Part.{which_of}
 use Rattle.capnp_records.specs.Record as value
 use Rattle.capnp_records.specs.Record.{Record, Value, Values}
 use Rattle.capnp_request.specs.Steps.Done.{IsWorkDone}
-use Rattle.capnp_request.specs.Steps.Meant.{IsPlainMember, IsPlainOr, says_or, scope_in, type_kind}
+use Rattle.capnp_request.specs.Steps.Meant.{IsSaidByMember, IsSaidByMemberOr, says_or, scope_in, type_kind}
 use Rattle.capnp_request.specs.Parts.{request_read_at}
 use Rattle.capnp_request.specs.Reading.{binding_kinds, binding_said, bindings_said, brand_in, by_member, enum_term, list_or, in_struct, list_term, number_in, parameter_said, scope_kinds, scope_said, struct_term, type_in, type_kinds, type_said, untyped_kinds, untyped_term}
 use Rattle.capnp_request.specs.Scopes.{bound_types, node_named}
-use Rattle.capnp_request.specs.Terms.{BrandTerm, Binds, EnumTerm, ListTerm, MoreScopes, NoScopes, Plain, Said, SchemaNode, ScopeTerm, StructTerm, TypeTerm, UnreadBrand, UnreadScope, UnreadType}
+use Rattle.capnp_request.specs.Terms.{BrandTerm, Binds, EnumTerm, ListTerm, MoreScopes, NoScopes, MemberTerm, Said, SchemaNode, ScopeTerm, StructTerm, TypeTerm, UnreadBrand, UnreadScope, UnreadType}
 use Rattle.capnp_request.specs.Types.{binding_types, bound_to, brand_types, is_of_kind, is_struct_kind, lists_in, listed_type, named_scopes, number_enum, number_struct, scope_types, type_of, without_untyped}
 use Rattle.capnp_request.specs.Work.{Bound, Named, Work, work_of, where_else, where_so, ◌>>=◌, work_continued}
 
@@ -39,14 +39,14 @@ type_by levels depth r m i deep which is =
     ∙ (ap (λ o. by_member (UnreadType UnknownKind) (type_kinds (type_said levels)) 13 o r) which
     ∙ ap (λ j. type_kind (type_said levels) j (request_read_at 13 j r)) is)
 
-pub plain_by : (levels depth : ℕ) (r : Record) (m : ℕ) (t : SchemaType) → depth ≡ suc levels → which_of r ≡ Some m → IsPlainMember m t → type_said depth r ≡ Plain t
-unfolding IsPlainMember
-plain_by levels depth r m t deep which plain = type_by levels depth r m m deep which refl ∙ plain (type_said levels) (request_read_at 13 m r)
+pub said_by_member : (levels depth : ℕ) (r : Record) (m : ℕ) (t : SchemaType) → depth ≡ suc levels → which_of r ≡ Some m → IsSaidByMember m t → type_said depth r ≡ MemberTerm t
+unfolding IsSaidByMember
+said_by_member levels depth r m t deep which plain = type_by levels depth r m m deep which refl ∙ plain (type_said levels) (request_read_at 13 m r)
 
 -- a member that says all of a type is none of these
-pub none_plain : (m : ℕ) (o : Option SchemaType) → IsPlainOr m o → o ≡ None → (10 ≤ m) × (12 ≤ m → 14 ≤ m)
-none_plain m None plain none = plain
-none_plain m (Some t) plain none = cc
+pub none_said_by_member : (m : ℕ) (o : Option SchemaType) → IsSaidByMemberOr m o → o ≡ None → (10 ≤ m) × (12 ≤ m → 14 ≤ m)
+none_said_by_member m None plain none = plain
+none_said_by_member m (Some t) plain none = cc
 
 pub past_by : (levels depth : ℕ) (r : Record) (m : ℕ) → depth ≡ suc levels → which_of r ≡ Some m → 19 ≤ m → type_said depth r ≡ UnreadType UnknownKind
 past_by levels depth r m deep which past =

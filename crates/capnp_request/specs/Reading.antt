@@ -76,7 +76,7 @@ abbrev pub parameter_said : Record → TypeTerm
 parameter_said r = term.Parameter (number_in (request_read_at 18 0 r)) (number_in (request_read_at 18 1 r))
 
 abbrev pub untyped_type_term : TypeTerm
-untyped_type_term = term.Plain AnyPointerType
+untyped_type_term = term.MemberTerm AnyPointerType
 
 abbrev pub untyped_kinds : List (RecordValue → TypeTerm)
 untyped_kinds = (λ v. untyped_type_term) ∷ in_struct term.UnreadType parameter_said ∷ (λ v. untyped_type_term) ∷ []
@@ -128,11 +128,11 @@ module _ (inner : Record → TypeTerm) where
   -- the members of a type, by index
   abbrev pub type_kinds : List (RecordValue → TypeTerm)
   type_kinds =
-      (λ v. term.Plain VoidType) ∷ (λ v. term.Plain BoolType)
-      ∷ (λ v. term.Plain (IntType 1)) ∷ (λ v. term.Plain (IntType 2)) ∷ (λ v. term.Plain (IntType 4)) ∷ (λ v. term.Plain (IntType 8))
-      ∷ (λ v. term.Plain (UIntType 1)) ∷ (λ v. term.Plain (UIntType 2)) ∷ (λ v. term.Plain (UIntType 4)) ∷ (λ v. term.Plain (UIntType 8))
+      (λ v. term.MemberTerm VoidType) ∷ (λ v. term.MemberTerm BoolType)
+      ∷ (λ v. term.MemberTerm (IntType 1)) ∷ (λ v. term.MemberTerm (IntType 2)) ∷ (λ v. term.MemberTerm (IntType 4)) ∷ (λ v. term.MemberTerm (IntType 8))
+      ∷ (λ v. term.MemberTerm (UIntType 1)) ∷ (λ v. term.MemberTerm (UIntType 2)) ∷ (λ v. term.MemberTerm (UIntType 4)) ∷ (λ v. term.MemberTerm (UIntType 8))
       ∷ (λ v. term.Float32) ∷ (λ v. term.Float64)
-      ∷ (λ v. term.Plain TextType) ∷ (λ v. term.Plain DataType)
+      ∷ (λ v. term.MemberTerm TextType) ∷ (λ v. term.MemberTerm DataType)
       ∷ list_term
       ∷ enum_term
       ∷ struct_term
@@ -203,7 +203,7 @@ annotation_terms_in = list_said 12 annotation_said
 unfoldable pub slot_said : Record → FieldKindTerm
 slot_said r = term.SlotTerm (number_in (request_read_at 9 0 r)) (in_struct term.UnreadType whole_type (request_read_at 9 1 r)) (value_in (request_read_at 9 2 r))
 
--- the members of a field by index: a slot and a group, behind its plain fields
+-- the members of a field by index: a slot and a group, behind its non-union fields
 abbrev pub no_kind : RecordValue → FieldKindTerm
 no_kind v = term.UnreadField UnknownKind
 

@@ -14,7 +14,7 @@ Said A = Result A ErrorKind
 mutual
   pub data TypeTerm : Type 0 where
     -- a type that needs no other
-    Plain : SchemaType → TypeTerm
+    MemberTerm : SchemaType → TypeTerm
     Float32 : TypeTerm
     Float64 : TypeTerm
     Interface : TypeTerm

@@ -4,7 +4,7 @@ use Rattle.std.specs.Option.{unwrap_or}
 use Rattle.capnp_device.specs.declared.error.ErrorKind.TheVariants.{FloatType, InterfaceType, NodeNotFound, TooManyTypes}
 use Rattle.capnp_schema.specs.Types.{SchemaType, VoidType, BoolType, IntType, UIntType, EnumType, TextType, DataType, StructType, ListType, AnyPointerType}
 use Rattle.capnp_request.specs.Scopes.{bound_types, node_named, scopes_of}
-use Rattle.capnp_request.specs.Terms.{AnnotationNode, Binds, BindingTerms, BrandTerm, EnumNode, EnumTerm, Float32, Float64, Inherits, Interface, ListTerm, MoreBindings, MoreScopes, NoBindings, NoScopes, NodeKind, OtherNode, Parameter, Plain, SchemaNode, ScopeTerm, StructNode, StructTerm, TypeTerm, UnreadBrand, UnreadScope, UnreadType}
+use Rattle.capnp_request.specs.Terms.{AnnotationNode, Binds, BindingTerms, BrandTerm, EnumNode, EnumTerm, Float32, Float64, Inherits, Interface, ListTerm, MoreBindings, MoreScopes, NoBindings, NoScopes, NodeKind, OtherNode, Parameter, MemberTerm, SchemaNode, ScopeTerm, StructNode, StructTerm, TypeTerm, UnreadBrand, UnreadScope, UnreadType}
 use Rattle.capnp_request.specs.Work.{Bound, Entry, GroupOf, Place, Whole, Work, each, work_of, work_said, where_else, where_so, ◌>>=◌}
 
 -- ---- entries by number ----
@@ -168,7 +168,7 @@ bind_scope types scope = types scope >>= (λ ts. work_of (record scope { types =
 module _ (nodes : List SchemaNode) (strict : Bool) (inside : List Bound) where
   abbrev mutual
     pub type_of : TypeTerm → Work SchemaType
-    type_of (Plain t) s = Ok (t, s)
+    type_of (MemberTerm t) s = Ok (t, s)
     type_of Float32 s = float32 strict s
     type_of Float64 s = float64 strict s
     type_of Interface s = interface strict s

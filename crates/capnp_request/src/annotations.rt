@@ -110,7 +110,7 @@ pub(crate) fn annotations_of<'a>(
     requires numbers { AreNumbered entries.now }
     requires record { IsRequestRecord brand reader }
     requires field { IsRequestField brand index (request_structs 12) }
-    requires plain { is_member (field_at request_set brand index).field ≡ false }
+    requires non_union { is_member (field_at request_set brand index).field ≡ false }
     ensures done { IsWorkDone (λ r. typed_annotations r.0.items r.1.items)
         (annotations_of (nodes_of context.entry.nodes.now) context.entry.strict (bounds inside.now)
         (annotation_terms_in (request_read_at brand index (record_seen reader.entry))))

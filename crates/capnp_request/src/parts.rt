@@ -39,7 +39,7 @@ pub(crate) fn active_member(reader: dynamic_struct::Reader<'_>) -> Option<u16>
     }
 }
 
-/// What field `index` of a record of brand `brand` has. It has to be a plain field or the active member.
+/// What field `index` of a record of brand `brand` has. It has to be a non-union field or the active member.
 fn part<'a>(reader: dynamic_struct::Reader<'a>, brand: u32, index: u16) -> Result<Value<'a>>
     requires record { IsRequestRecord brand reader }
     requires field { IsRequestField brand index (field_at request_set brand index).type }

@@ -22,7 +22,7 @@ use crate::context::Context;
 use crate::entries::{BoundNode, Entries};
 use crate::parts::{element_at, list_at, u64_at};
 use crate::places::{LISTED_ID, NODE_NESTED_NODES, REQUEST_FILES, brands};
-use crate::schema_nodes::{SchemaNodes, is_plain_struct};
+use crate::schema_nodes::{SchemaNodes, is_struct_not_group};
 use crate::scopes::unbound;
 use capnp_dynamic_readers::dynamic_struct;
 use capnp_wire::error::Result;
@@ -39,9 +39,9 @@ fn listed_ids(
 ) -> Result<Vec<u64>>
     requires record { IsRequestRecord brand reader }
     requires field { IsRequestField brand index (request_structs inner) }
-    requires plain { is_member (field_at request_set brand index).field ≡ false }
+    requires non_union { is_member (field_at request_set brand index).field ≡ false }
     requires id { IsRequestField inner 0 (UIntType 8) }
-    requires id_plain { is_member (field_at request_set inner 0).field ≡ false }
+    requires id_non_union { is_member (field_at request_set inner 0).field ≡ false }
     ensures said { IsSaid (λ ids. ids.items)
         (whole_list inner (id_said inner) (request_read_at brand index (record_seen reader.entry))) result }
     ensures kinds { IfErr result (λ e. IsUnstrict e.kind) }
@@ -121,7 +121,7 @@ fn number_root<'a>(
     ensures numbers { IfOk result (λ _. AreNumbered entries.new) }
     ensures kinds { IfErr result (λ e. IsUnstrict e.kind) }
 {
-    if !is_plain_struct(node) {
+    if !is_struct_not_group(node) {
         return Ok(());
     }
     let scopes = unbound(context.alloc, context.nodes, id)?;

@@ -33,7 +33,7 @@ use std::collections::{HashMap, HashSet};
 #[derive(Drop)]
 pub(crate) struct SchemaNodes<'a> {
     request: dynamic_struct::Reader<'a>,
-    set: &'a SchemaSet,
+    schemas: &'a SchemaSet,
     count: u32,
     by_id: HashMap<u64, StructReader<'a>>,
 }
@@ -110,11 +110,11 @@ impl<'a> SchemaNodes<'a> {
             let id = u64_at(reader, brands::NODE, NODE_ID);
             keep_first(&mut by_id, id, reader.get_sections())?;
         }
-        let set = request.get_schema().get_set();
+        let schemas = request.get_schema().get_set();
         let count = listed.len();
         Ok(SchemaNodes {
             request,
-            set,
+            schemas,
             count,
             by_id,
         })
@@ -134,7 +134,7 @@ impl<'a> SchemaNodes<'a> {
         ensures record { IsRequestRecord 2 result }
         ensures read { record_seen result ≡ node_record sections.entry }
     {
-        dynamic_struct::Reader::new(sections, self.set.struct_schema(brands::NODE))
+        dynamic_struct::Reader::new(sections, self.schemas.struct_schema(brands::NODE))
     }
 
     /// The node of an id; none where no node has it.
@@ -317,7 +317,7 @@ pub(crate) fn enumerants<'a>(node: dynamic_struct::Reader<'a>) -> Result<dynamic
 }
 
 /// Whether a node is a struct that is no group.
-pub(crate) fn is_plain_struct(node: dynamic_struct::Reader<'_>) -> bool
+pub(crate) fn is_struct_not_group(node: dynamic_struct::Reader<'_>) -> bool
     requires { IsRequestRecord 2 node }
     ensures { is_root (node_said (record_seen node.entry)).kind ≡ result }
 {

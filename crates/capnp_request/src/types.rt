@@ -13,7 +13,7 @@ ghost use Rattle.capnp_request.specs.Conversion.{is_untyped};
 ghost use Rattle.capnp_request.specs.Steps.Done.{IsWorkDone, IsSaid, so_far};
 ghost use Rattle.capnp_request.specs.Handles.{IsRequestRecord};
 ghost use Rattle.capnp_request.specs.Steps.Handles.{IsRequestField, IsListOf, values_left};
-ghost use Rattle.capnp_request.specs.Steps.Meant.{IsPlainOr, float_type, scope_in};
+ghost use Rattle.capnp_request.specs.Steps.Meant.{IsSaidByMemberOr, float_type, scope_in};
 ghost use Rattle.capnp_request.specs.Steps.Nodes.{AreNodes, nodes_of};
 ghost use Rattle.capnp_request.specs.Steps.Numbers.{AreNumbered, numbered_entries};
 ghost use Rattle.capnp_request.specs.Parts.{request_struct, request_read_at};
@@ -58,18 +58,18 @@ pub(crate) fn levels_of_types() -> u32
 }
 
 /// The type of a member of a type's union that says all of it.
-fn plain_type(member: u16) -> Option<Type>
-    ensures { IsPlainOr member (option_map seen_type result) }
+fn type_said_by_member(member: u16) -> Option<Type>
+    ensures { IsSaidByMemberOr member (option_map seen_type result) }
 {
-    match plain_variant(member) {
+    match variant_said_by_member(member) {
         Some(variant) => Some(Type::from(variant)),
         None => None,
     }
 }
 
-/// The same as a variant.
-fn plain_variant(member: u16) -> Option<TypeVariant>
-    ensures { IsPlainOr member (option_map (λ v. seen_type (type_from v)) result) }
+/// That type as a variant.
+fn variant_said_by_member(member: u16) -> Option<TypeVariant>
+    ensures { IsSaidByMemberOr member (option_map (λ v. seen_type (type_from v)) result) }
 {
     match member {
         0 => Some(TypeVariant::Void),
@@ -273,8 +273,8 @@ pub(crate) fn type_of<'a>(
     let Some(member) = active_member(term) else {
         return Err(Error::from(ErrorKind::UnknownKind));
     };
-    if let Some(plain) = plain_type(member) {
-        return Ok(plain);
+    if let Some(said) = type_said_by_member(member) {
+        return Ok(said);
     }
     match member {
         10 => float_type(context.strict, false, seen),
@@ -292,7 +292,7 @@ pub(crate) fn type_of<'a>(
 fn brand_list<'a>(place: BrandPlace<'a>) -> Result<dynamic_list::Reader<'a>>
     requires record { IsRequestRecord place.holder place.reader }
     requires field { IsRequestField place.holder place.index (request_struct 19) }
-    requires plain { is_member (field_at request_set place.holder place.index).field ≡ false }
+    requires non_union { is_member (field_at request_set place.holder place.index).field ≡ false }
     ensures elements { IfOk result (IsListOf (request_struct 20)) }
     ensures read { (inner : Record → TypeTerm)
         → IfOk result (λ l. brand_in inner (request_read_at place.entry.holder place.entry.index
@@ -322,7 +322,7 @@ pub(crate) fn bindings_of<'a>(
     requires numbers { AreNumbered entries.now }
     requires record { IsRequestRecord place.holder place.reader }
     requires field { IsRequestField place.holder place.index (request_struct 19) }
-    requires plain { is_member (field_at request_set place.holder place.index).field ≡ false }
+    requires non_union { is_member (field_at request_set place.holder place.index).field ≡ false }
     ensures done { IsWorkDone (λ scopes. bounds scopes.items)
         (named_scopes (nodes_of context.entry.nodes.now) context.entry.strict (bounds inside.now) id
         (brand_in (type_said depth) (request_read_at place.entry.holder place.entry.index (record_seen place.entry.reader))))

@@ -17,12 +17,12 @@ use std::test::Fail;
 
 /// What a request is converted to.
 fn converted(alloc: Global, bytes: &[u8], strict: bool) -> Result<Converted> {
-    let set = request_set::new_set(alloc)?;
+    let schemas = request_set::new_set(alloc)?;
     let message = Reader::new(alloc, bytes)?;
     let root = message.get_root().get_struct()?;
     read_request(
         alloc,
-        dynamic_struct::Reader::new(root, set.struct_schema(0)),
+        dynamic_struct::Reader::new(root, schemas.struct_schema(0)),
         strict,
     )
 }
@@ -47,11 +47,11 @@ fn text_of(
 ) -> Result<String> {
     let mut text = String::new(alloc);
     let made = converted(alloc, request_bytes, false)?;
-    let set = SchemaSet::new(alloc, made.nodes, made.brands, made.enums)?;
-    let place = set.nodes().iter().position(|node| !node.body.is_group
+    let schemas = SchemaSet::new(alloc, made.nodes, made.brands, made.enums)?;
+    let place = schemas.nodes().iter().position(|node| !node.body.is_group
         && node.display_name.as_str() == name);
     if let Some(place) = place {
-        let schema = set.struct_schema(u32::try_from(place).unwrap_or(0));
+        let schema = schemas.struct_schema(u32::try_from(place).unwrap_or(0));
         let message = Reader::new(alloc, message_bytes)?;
         let root = message.get_root().get_struct()?;
         let reader = dynamic_struct::Reader::new(root, schema);
@@ -62,8 +62,8 @@ fn text_of(
 
 #[test]
 fn the_request_set_is_accepted(rt: HostRuntime) -> std::result::Result<(), Fail> {
-    let set = request_set::new_set(rt.alloc())?;
-    assert!(rt; set.nodes().len() == 23 && set.brands().len() == 23 && set.enums().is_empty());
+    let schemas = request_set::new_set(rt.alloc())?;
+    assert!(rt; schemas.nodes().len() == 23 && schemas.brands().len() == 23 && schemas.enums().is_empty());
     Ok(())
 }
 

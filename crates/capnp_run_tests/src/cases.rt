@@ -156,11 +156,11 @@ fn left_of(
 /// What the calls of a case leave. `Given` is what is given.
 pub(crate) fn left_by(
     alloc: Global,
-    set: &SchemaSet,
+    schemas: &SchemaSet,
     given: Value<'_>,
     case: &Case<'_>,
 ) -> Result<Left> {
-    let schema = schema_of(set, case.brand)?;
+    let schema = schema_of(schemas, case.brand)?;
     let rows = rows_in(alloc, case.rows, given)?;
     left_of(alloc, schema, case, rows.as_slice())
 }
@@ -186,11 +186,11 @@ fn holds(rt: &impl Abort, case: &Case<'_>, left: Result<Left>) {
 pub(crate) fn cases_hold(
     rt: &impl Abort,
     alloc: Global,
-    set: &SchemaSet,
+    schemas: &SchemaSet,
     given: Value<'_>,
     cases: &[Case<'_>],
 ) {
     for case in cases {
-        holds(rt, case, left_by(alloc, set, given, case));
+        holds(rt, case, left_by(alloc, schemas, given, case));
     }
 }

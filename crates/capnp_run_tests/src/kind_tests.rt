@@ -7,7 +7,7 @@ use capnp_dynamic_readers::dynamic_value::{Enum as EnumValue, Reader as Value};
 use capnp_schema::builtin::new_set;
 use capnp_schema_fixtures::kinds::{FULL, KINDS, KINDS_SET};
 use capnp_schema_fixtures::messages::MANY_FULL;
-use capnp_schema_fixtures::set_text::read_set;
+use capnp_schema_fixtures::set_text::read_set_text;
 use std::test::Fail;
 
 /// The text of `FULL`.
@@ -66,7 +66,7 @@ get named.once -> Refused(30)";
 
 #[test]
 fn each_kind_of_field_and_element_is_answered(rt: HostRuntime) -> std::result::Result<(), Fail> {
-    let set = read_set(rt.alloc(), KINDS_SET)?;
+    let schemas = read_set_text(rt.alloc(), KINDS_SET)?;
     let read = Case {
         brand: KINDS,
         start: &FULL,
@@ -74,7 +74,7 @@ fn each_kind_of_field_and_element_is_answered(rt: HostRuntime) -> std::result::R
         text: FULL_TEXT,
         message: &FULL,
     };
-    cases_hold(&rt, rt.alloc(), &set, Value::Void, &[read]);
+    cases_hold(&rt, rt.alloc(), &schemas, Value::Void, &[read]);
     Ok(())
 }
 
@@ -114,8 +114,8 @@ get rows.1.0 -> Int8(0)";
 
 #[test]
 fn each_kind_of_element_is_set(rt: HostRuntime) -> std::result::Result<(), Fail> {
-    let set = read_set(rt.alloc(), KINDS_SET)?;
-    let blue = Value::Enum(EnumValue::new(2, set.enum_schema(0)));
+    let schemas = read_set_text(rt.alloc(), KINDS_SET)?;
+    let blue = Value::Enum(EnumValue::new(2, schemas.enum_schema(0)));
     let elements = Case {
         brand: KINDS,
         start: &FULL,
@@ -123,7 +123,7 @@ fn each_kind_of_element_is_set(rt: HostRuntime) -> std::result::Result<(), Fail>
         text: SET_TEXT,
         message: NONE,
     };
-    cases_hold(&rt, rt.alloc(), &set, blue, &[elements]);
+    cases_hold(&rt, rt.alloc(), &schemas, blue, &[elements]);
     Ok(())
 }
 
@@ -173,8 +173,8 @@ static BESIDE_DEFAULTS: [Case<'static>; 2] = [
 
 #[test]
 fn numbers_beside_their_defaults(rt: HostRuntime) -> std::result::Result<(), Fail> {
-    let set = new_set(rt.alloc())?;
-    let byte = Value::Enum(EnumValue::new(2, set.enum_schema(0)));
-    cases_hold(&rt, rt.alloc(), &set, byte, &BESIDE_DEFAULTS);
+    let schemas = new_set(rt.alloc())?;
+    let byte = Value::Enum(EnumValue::new(2, schemas.enum_schema(0)));
+    cases_hold(&rt, rt.alloc(), &schemas, byte, &BESIDE_DEFAULTS);
     Ok(())
 }

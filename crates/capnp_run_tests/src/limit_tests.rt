@@ -115,8 +115,8 @@ fn call_and_compact(
 
 /// The same of rows of text on an empty root.
 fn run_rows(alloc: Global, text: &str) -> Result<(String, bool)> {
-    let set = new_set(alloc)?;
-    let schema = schema_of(&set, LISTS)?;
+    let schemas = new_set(alloc)?;
+    let schema = schema_of(&schemas, LISTS)?;
     let rows = rows_in(alloc, text, Value::Void)?;
     run_within(alloc, schema, text, rows.as_slice())
 }
@@ -139,8 +139,8 @@ fn runs_compact_behind_a_call_without_room(rt: HostRuntime) -> std::result::Resu
 
 #[test]
 fn full_message_refuses_until_it_is_compacted(rt: HostRuntime) -> std::result::Result<(), Fail> {
-    let set = new_set(rt.alloc())?;
-    let schema = schema_of(&set, LISTS)?;
+    let schemas = new_set(rt.alloc())?;
+    let schema = schema_of(&schemas, LISTS)?;
     let before = rows_in(rt.alloc(), NOT_COMPACTED, Value::Void)?;
     let after = rows_in(rt.alloc(), COMPACTED, Value::Void)?;
     let (full, compacted) = call_and_compact(

@@ -145,8 +145,8 @@ fn met_of(alloc: Global, schema: StructSchema<'_>, start: &[u8], rows: &[Row<'_>
 }
 
 /// The calls of a meeting on a copy of its message. `Given` is what is given.
-fn met_by(alloc: Global, set: &SchemaSet, given: Value<'_>, meeting: &Meeting<'_>) -> Result<Met> {
-    let schema = schema_of(set, meeting.brand)?;
+fn met_by(alloc: Global, schemas: &SchemaSet, given: Value<'_>, meeting: &Meeting<'_>) -> Result<Met> {
+    let schema = schema_of(schemas, meeting.brand)?;
     let rows = rows_in(alloc, meeting.rows, given)?;
     met_of(alloc, schema, meeting.start, rows.as_slice())
 }
@@ -180,12 +180,12 @@ fn is_met(alloc: Global, met: &Met, meeting: &Meeting<'_>) -> bool {
 fn meetings_hold(
     rt: &impl Abort,
     alloc: Global,
-    set: &SchemaSet,
+    schemas: &SchemaSet,
     given: Value<'_>,
     meetings: &[Meeting<'_>],
 ) {
     for meeting in meetings {
-        if let Ok(met) = met_by(alloc, set, given, meeting) {
+        if let Ok(met) = met_by(alloc, schemas, given, meeting) {
             assert!(rt; is_met(alloc, &met, meeting), "{}", meeting.text);
         }
     }
@@ -229,8 +229,8 @@ static TAKING_NONE: [Meeting<'static>; 2] = [
 
 #[test]
 fn calls_that_take_no_memory(rt: HostRuntime) {
-    if let Ok(set) = new_set(rt.alloc()) {
-        meetings_hold(&rt, rt.alloc(), &set, Value::Void, &TAKING_NONE);
+    if let Ok(schemas) = new_set(rt.alloc()) {
+        meetings_hold(&rt, rt.alloc(), &schemas, Value::Void, &TAKING_NONE);
     }
 }
 
@@ -324,8 +324,8 @@ static TAKING_SOME: [Meeting<'static>; 5] = [
 
 #[test]
 fn what_a_refused_call_leaves(rt: HostRuntime) {
-    if let Ok(set) = new_set(rt.alloc()) {
-        meetings_hold(&rt, rt.alloc(), &set, Value::Void, &TAKING_SOME);
+    if let Ok(schemas) = new_set(rt.alloc()) {
+        meetings_hold(&rt, rt.alloc(), &schemas, Value::Void, &TAKING_SOME);
     }
 }
 
@@ -363,17 +363,17 @@ static TAG_COPIED: [Meeting<'static>; 1] = [Meeting {
 
 #[test]
 fn a_group_that_is_cut_by_memory(rt: HostRuntime) -> std::result::Result<(), Fail> {
-    let Ok(set) = new_set(rt.alloc()) else {
+    let Ok(schemas) = new_set(rt.alloc()) else {
         return Ok(());
     };
-    let Ok(source) = met_by(rt.alloc(), &set, Value::Void, &SOURCE) else {
+    let Ok(source) = met_by(rt.alloc(), &schemas, Value::Void, &SOURCE) else {
         return Ok(());
     };
     if source.text.as_str() != WHOLE_TAG {
         return Ok(());
     }
-    let schema = schema_of(&set, SHAPES)?;
+    let schema = schema_of(&schemas, SHAPES)?;
     let tag = root(rt.alloc(), schema, source.after.as_slice())?.get_named("tag")?;
-    meetings_hold(&rt, rt.alloc(), &set, tag, &TAG_COPIED);
+    meetings_hold(&rt, rt.alloc(), &schemas, tag, &TAG_COPIED);
     Ok(())
 }

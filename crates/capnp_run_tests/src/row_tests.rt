@@ -8,7 +8,7 @@ use capnp_schema_fixtures::fixtures::schema_of;
 use capnp_schema_fixtures::messages::{
     ITEMS_AS_NUMBERS, MEMBER_UNENDED, MIXED_HI, PAIR, TAGGED_UNENDED,
 };
-use capnp_schema_fixtures::set_text::read_set;
+use capnp_schema_fixtures::set_text::read_set_text;
 use std::test::Fail;
 
 const LARGEST: &str = "\
@@ -97,8 +97,8 @@ static WORKED: [Case<'static>; 7] = [
 
 #[test]
 fn worked_lists_of_calls(rt: HostRuntime) -> std::result::Result<(), Fail> {
-    let set = new_set(rt.alloc())?;
-    cases_hold(&rt, rt.alloc(), &set, Value::Void, &WORKED);
+    let schemas = new_set(rt.alloc())?;
+    cases_hold(&rt, rt.alloc(), &schemas, Value::Void, &WORKED);
     Ok(())
 }
 
@@ -143,8 +143,8 @@ static WRITTEN: [Case<'static>; 3] = [
 
 #[test]
 fn what_is_written_is_the_messages_bytes(rt: HostRuntime) -> std::result::Result<(), Fail> {
-    let set = new_set(rt.alloc())?;
-    cases_hold(&rt, rt.alloc(), &set, Value::Void, &WRITTEN);
+    let schemas = new_set(rt.alloc())?;
+    cases_hold(&rt, rt.alloc(), &schemas, Value::Void, &WRITTEN);
     Ok(())
 }
 
@@ -178,12 +178,12 @@ static CUT_SHORT: [Case<'static>; 1] = [Case {
 
 #[test]
 fn a_group_that_is_cut_by_an_untyped_field(rt: HostRuntime) -> std::result::Result<(), Fail> {
-    let set = new_set(rt.alloc())?;
-    let source = left_by(rt.alloc(), &set, Value::Void, &SOURCE)?;
+    let schemas = new_set(rt.alloc())?;
+    let source = left_by(rt.alloc(), &schemas, Value::Void, &SOURCE)?;
     assert_eq!(rt; source.wrong.as_str(), "");
-    let schema = schema_of(&set, SHAPES)?;
+    let schema = schema_of(&schemas, SHAPES)?;
     let tag = root(rt.alloc(), schema, source.bytes.as_slice())?.get_named("tag")?;
-    cases_hold(&rt, rt.alloc(), &set, tag, &CUT_SHORT);
+    cases_hold(&rt, rt.alloc(), &schemas, tag, &CUT_SHORT);
     Ok(())
 }
 
@@ -203,10 +203,10 @@ static CUT_AT_A_TEXT: [Case<'static>; 1] = [Case {
 
 #[test]
 fn a_group_that_is_cut_by_a_text(rt: HostRuntime) -> std::result::Result<(), Fail> {
-    let set = new_set(rt.alloc())?;
-    let schema = schema_of(&set, SHAPES)?;
+    let schemas = new_set(rt.alloc())?;
+    let schema = schema_of(&schemas, SHAPES)?;
     let tag = root(rt.alloc(), schema, TAGGED_UNENDED)?.get_named("tag")?;
-    cases_hold(&rt, rt.alloc(), &set, tag, &CUT_AT_A_TEXT);
+    cases_hold(&rt, rt.alloc(), &schemas, tag, &CUT_AT_A_TEXT);
     Ok(())
 }
 
@@ -229,9 +229,9 @@ static CUT_AT_A_MEMBER: [Case<'static>; 1] = [Case {
 
 #[test]
 fn a_group_that_is_cut_by_its_member(rt: HostRuntime) -> std::result::Result<(), Fail> {
-    let set = read_set(rt.alloc(), GROUPED)?;
-    let schema = schema_of(&set, 0)?;
+    let schemas = read_set_text(rt.alloc(), GROUPED)?;
+    let schema = schema_of(&schemas, 0)?;
     let group = root(rt.alloc(), schema, MEMBER_UNENDED)?.get_named("g")?;
-    cases_hold(&rt, rt.alloc(), &set, group, &CUT_AT_A_MEMBER);
+    cases_hold(&rt, rt.alloc(), &schemas, group, &CUT_AT_A_MEMBER);
     Ok(())
 }

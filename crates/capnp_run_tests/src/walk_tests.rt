@@ -5,7 +5,7 @@ use crate::cases::{Case, cases_hold, left_by};
 use crate::fixtures::{LISTS, LOOP, NONE, SHAPES};
 use capnp_dynamic_readers::dynamic_value::Reader as Value;
 use capnp_schema::builtin::new_set;
-use capnp_schema_fixtures::set_text::read_set;
+use capnp_schema_fixtures::set_text::read_set_text;
 use std::test::Fail;
 
 const ORDER: &str = "\
@@ -92,8 +92,8 @@ static STEPS: [Case<'static>; 3] = [
 
 #[test]
 fn steps_are_tested_and_fill_nulls(rt: HostRuntime) -> std::result::Result<(), Fail> {
-    let set = new_set(rt.alloc())?;
-    cases_hold(&rt, rt.alloc(), &set, Value::Void, &STEPS);
+    let schemas = new_set(rt.alloc())?;
+    cases_hold(&rt, rt.alloc(), &schemas, Value::Void, &STEPS);
     Ok(())
 }
 
@@ -110,8 +110,8 @@ static SELF_FED: Case<'static> = Case {
 
 #[test]
 fn a_default_that_feeds_itself_has_no_text(rt: HostRuntime) -> std::result::Result<(), Fail> {
-    let set = new_set(rt.alloc())?;
-    match left_by(rt.alloc(), &set, Value::Void, &SELF_FED) {
+    let schemas = new_set(rt.alloc())?;
+    match left_by(rt.alloc(), &schemas, Value::Void, &SELF_FED) {
         Ok(_) => assert!(rt; false, "it is printed"),
         Err(error) => assert_eq!(rt; error.kind.number(), 8),
     }
@@ -148,8 +148,8 @@ static INTO_DEFAULTS: [Case<'static>; 1] = [Case {
 
 #[test]
 fn steps_go_into_defaults(rt: HostRuntime) -> std::result::Result<(), Fail> {
-    let set = read_set(rt.alloc(), DEFAULT_SET)?;
-    cases_hold(&rt, rt.alloc(), &set, Value::Void, &INTO_DEFAULTS);
+    let schemas = read_set_text(rt.alloc(), DEFAULT_SET)?;
+    cases_hold(&rt, rt.alloc(), &schemas, Value::Void, &INTO_DEFAULTS);
     Ok(())
 }
 
@@ -189,7 +189,7 @@ static PAST_FAULTS: [Case<'static>; 1] = [Case {
 
 #[test]
 fn faults_refuse_what_reads_them_alone(rt: HostRuntime) -> std::result::Result<(), Fail> {
-    let set = new_set(rt.alloc())?;
-    cases_hold(&rt, rt.alloc(), &set, Value::Void, &PAST_FAULTS);
+    let schemas = new_set(rt.alloc())?;
+    cases_hold(&rt, rt.alloc(), &schemas, Value::Void, &PAST_FAULTS);
     Ok(())
 }

@@ -86,7 +86,7 @@ untyped_view v r h = absurd h
 
 -- ---- the default of a field's handle ----
 
-pub handle_fits : (f : FieldHandle) (lists : Lists) → lists ≡ f.schema.set.now → IsAccepted (lists_seen lists) → DefaultFits (typed_of f)
+pub handle_fits : (f : FieldHandle) (lists : Lists) → lists ≡ f.schema.schemas.now → IsAccepted (lists_seen lists) → DefaultFits (typed_of f)
 handle_fits f lists same accepted =
     let set = set_of (field_schema f) in
     default_fits set (accepted_seen same accepted) (number_of (field_schema f)) (index_of f) (brand_of_field set (number_of (field_schema f)) (index_of f) f.inside) f.inside

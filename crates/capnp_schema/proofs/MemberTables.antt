@@ -37,7 +37,7 @@ one_placed fields i count table more f apart here after before = by_kind (is_non
     is_here : (k : ℕ) (x : Field) → k < i + 1 → i ≤ k → slice_get fields k ≡ Some x → (f ≡ x) × (k ≡ i)
     is_here k x h le at = let e : k ≡ i = omega arith in (same_Some f x (sym here ∙ ap (slice_get fields) (sym e) ∙ at), e)
 
-    by_kind : (plain : Bool) → is_non_union f ≡ plain → more ≡ placed_member plain table f.discriminant_value i → ArePlaced fields (i + 1) count more
+    by_kind : (non_union : Bool) → is_non_union f ≡ non_union → more ≡ placed_member non_union table f.discriminant_value i → ArePlaced fields (i + 1) count more
     by_kind true e same = rw same (record {
       counted = before.counted;
       each = λ k x h at member. ⊎_elim
@@ -79,7 +79,7 @@ both false b e = cc
 pub is_of : (d : ℕ) (f : Field) → is_member_of d f ≡ true → IsTrue (is_member f) × (f.discriminant_value ≡ d)
 is_of d f e = let t = both (is_member f) (f.discriminant_value == d) e in (t.0, eqb-true f.discriminant_value d t.1)
 
--- a field of the value of plain fields is no member
+-- a field of the value of non-union fields is no member
 pub no_member : (f : Field) → IsTrue (is_member f) × (f.discriminant_value ≡ 65535) → ⊥
 no_member f h = plain_only (f.discriminant_value == 65535) h.0 (eq-eqb f.discriminant_value 65535 h.1)
 

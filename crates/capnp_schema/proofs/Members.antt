@@ -16,7 +16,7 @@ set_inside [] d e = cc
 set_inside (m ∷ marks) zero e = omega arith
 set_inside (m ∷ marks) (suc d) e = let h = set_inside marks d e in omega arith
 
--- a value in the range of a union is not that of a plain field
+-- a value in the range of a union is not that of a non-union field
 pub member_by_value : (f : Field) → f.discriminant_value ≢ 65535 → IsTrue (is_member f)
 member_by_value f h = by_test (f.discriminant_value == 65535) refl
   where
@@ -25,9 +25,9 @@ member_by_value f h = by_test (f.discriminant_value == 65535) refl
     by_test false e = ap not e
 
 module _ (fields : List Field) (marks : List Bool) (i : ℕ) (f : Field) (here : slice_get fields i ≡ Some f) (so_far : Marked fields i marks) where
-  -- a plain field
+  -- a non-union field
   pub passed : is_member f ≡ false → Marked fields (i + 1) marks
-  passed plain = record {
+  passed non_union = record {
     within = λ k x h at member. ⊎_elim (λ lt. so_far.within k x lt at member) (λ le. absurd (not_here k x h le at member)) (cases_lt k i);
     found = λ d e. let there = so_far.found d e in (there.0, there.1, omega (arith, there.2), there.3, there.4, there.5);
     once = λ j k x y hj hk at_j at_k member same. ⊎_elim

@@ -73,7 +73,7 @@ is_either rule = (rule == 1) || (rule == 7)
 abbrev group_node : List Field → Node
 group_node fields = record { id = 1; display_name = codes "G"; annotations = []; data_word_count = 1; pointer_count = 1; is_group = true; discriminant_count = 0; discriminant_offset = 0; fields = fields }
 
--- a plain field that is a group
+-- a non-union field that is a group
 abbrev group_field : List ℕ → ℕ → Field
 group_field name node = group_member 65535 name node
 
@@ -96,7 +96,7 @@ missing_brand_groups = refl
 pub missing_brand_breaks_rule1 : OnlyBroken missing_brand is_one
 missing_brand_breaks_rule1 = only missing_brand is_one (λ rule e. all_others missing_brand (λ g. (0, 0)) rule missing_brand_others (exempt (Rule1 missing_brand) is_one rule 1 refl e) (λ _. rule7 missing_brand missing_brand_groups))
 
--- ---- a group field of a type that is no struct type, beside a plain field ----
+-- ---- a group field of a type that is no struct type, beside a non-union field ----
 
 abbrev void_group : Schemas
 void_group = record {

@@ -104,14 +104,14 @@ shapes_members = refl
 shapes_past_members : member_of (records_of builtin 3) 3 ≡ None
 shapes_past_members = refl
 
-plain_is_no_member : member_of (records_of builtin 3) 65535 ≡ None
-plain_is_no_member = refl
+non_union_is_no_member : member_of (records_of builtin 3) 65535 ≡ None
+non_union_is_no_member = refl
 
-shapes_plain : non_union_fields (records_of builtin 3) ≡ 0 ∷ []
-shapes_plain = refl
+shapes_non_union : non_union_fields (records_of builtin 3) ≡ 0 ∷ []
+shapes_non_union = refl
 
-tag_plain : non_union_fields (records_of builtin 5) ≡ 0 ∷ 3 ∷ 4 ∷ []
-tag_plain = refl
+tag_non_union : non_union_fields (records_of builtin 5) ≡ 0 ∷ 3 ∷ 4 ∷ []
+tag_non_union = refl
 
 tag_named : field_named (records_of builtin 5) (codes "any") ≡ Some 3
 tag_named = refl

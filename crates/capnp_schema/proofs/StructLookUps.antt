@@ -52,10 +52,10 @@ named_is_typed s name i found = let inside = position_inside (λ (f : Field). by
 pub members_are_typed : (s : StructSchema) (table : List ℕ) → AreMembers (struct_records s) table → All (λ i. i < length (struct_fields s)) table
 members_are_typed s table are k d h = member_is_typed s k (get_or table k d) (sym (slice_get-get_or table k d h) ∙ are k)
 
-pub plain_are_typed : (s : StructSchema) (table : List ℕ) → table ≡ non_union_fields (struct_records s) → All (λ i. i < length (struct_fields s)) table
-plain_are_typed s table plain = subst (λ (l : List ℕ). All (λ i. i < length (struct_fields s)) l) (sym plain) (kept_inside is_non_union (struct_records s) 0 (length (struct_fields s)) (omega (arith, count_of_records s)))
+pub non_union_are_typed : (s : StructSchema) (table : List ℕ) → table ≡ non_union_fields (struct_records s) → All (λ i. i < length (struct_fields s)) table
+non_union_are_typed s table non_union = subst (λ (l : List ℕ). All (λ i. i < length (struct_fields s)) l) (sym non_union) (kept_inside is_non_union (struct_records s) 0 (length (struct_fields s)) (omega (arith, count_of_records s)))
 
--- no member has the value of plain fields, so a table ends there
+-- no member has the value of non-union fields, so a table ends there
 pub members_are_few : (fields : List Field) (table : List ℕ) → AreMembers fields table → length table ≤ 65535
 members_are_few fields table are = ⊎_elim (λ more. absurd (past more)) (λ le. le) (cases_lt 65535 (length table))
   where

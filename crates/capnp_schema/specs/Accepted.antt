@@ -320,7 +320,7 @@ DiscriminantFits n = 0 < n.discriminant_count → 16 * (n.discriminant_offset + 
 abbrev pub Rule10 : Schemas → Type 0
 Rule10 set = All DiscriminantFits set.nodes
 
--- ---- rule 11: a plain field's footprint meets that of no other field of its struct ----
+-- ---- rule 11: a non-union field's footprint meets that of no other field of its struct ----
 
 abbrev pub FieldsApart : Schemas → ℕ → ℕ → TypedField → Type 0
 FieldsApart set b i f = (j : ℕ) (p : Spot) → j < length (fields_of set b) → i ≢ j → IsFalse (is_member f.field) → IsTrue (footprint set f p) → IsFalse (footprint set (field_at set b j) p)

@@ -3,7 +3,7 @@ use Rattle.std.specs.Prelude.{ℕ, List, [], ◌∷◌, true, false, replicate, 
 use Rattle.capnp_schema.specs.Types.{SchemaType, VoidType, BoolType, IntType, UIntType, EnumType, TextType, DataType, StructType, ListType, AnyPointerType}
 use Rattle.capnp_schema.specs.Schema.{Schemas, Node, Brand, Enum, Enumerant, Field, Annotation, Slot, Group, Value, VoidValue, BoolValue, IntValue, UIntValue, EnumValue, TextValue, DataValue, StructValue, ListValue, AnyPointerValue}
 
--- a plain field
+-- a non-union field
 abbrev pub builtin_field : List ℕ → ℕ → Value → Field
 builtin_field name offset default = record { name = name; discriminant_value = 65535; annotations = []; kind = Slot offset default }
 
@@ -18,7 +18,7 @@ group_member number name node = record { name = name; discriminant_value = numbe
 abbrev pub annotation : ℕ → Value → Annotation
 annotation id value = record { id = id; value = value }
 
--- a plain field with annotations
+-- a non-union field with annotations
 abbrev pub annotated_field : List ℕ → ℕ → Value → List Annotation → Field
 annotated_field name offset default annotations = record { name = name; discriminant_value = 65535; annotations = annotations; kind = Slot offset default }
 

@@ -7,7 +7,7 @@ use Rattle.capnp_schema.specs.declared.schema.enums.EnumSchema.{EnumSchema}
 
 -- the set of an enum, its number in that set, and what the set has there: nothing past the end of the enums
 abbrev pub enum_set : EnumSchema → Schemas
-enum_set schema = lists_seen schema.set.now
+enum_set schema = lists_seen schema.schemas.now
 
 abbrev pub enum_number : EnumSchema → ℕ
 enum_number schema = schema.number

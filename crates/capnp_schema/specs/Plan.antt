@@ -111,12 +111,12 @@ abbrev pub brand_size : Schemas → ℕ → StructSize
 brand_size set b = node_size (node_of set b)
 
 -- a plan's place is the field's footprint and has the slot's number; its member is the discriminant with the field's
--- value, and there is none for a plain field; both lie inside each struct that has the brand's sections
+-- value, and there is none for a non-union field; both lie inside each struct that has the brand's sections
 pub record IsPlan (set : Schemas) (b : ℕ) (f : TypedField) (plan : SlotPlan) : Type 0 where
   pub names : (p : Spot) → place_names set plan.place p ≡ footprint set f p
   pub number : HasSlotNumber f.field.kind f.type plan.place
   pub member : IfSome plan.member (λ m. IsTrue (is_member f.field) × (m.1 ≡ f.field.discriminant_value) × ((p : Spot) → discriminant_bits m.0 p ≡ discriminant_names (node_of set b) p))
-  pub plain : IfNone plan.member (IsFalse (is_member f.field))
+  pub non_union : IfNone plan.member (IsFalse (is_member f.field))
   pub slot : IsSlotPlace plan.place
   pub discriminant : IfSome plan.member (λ m. (m.0 % 16 ≡ 0) × (m.1 < 2 ^ 16))
   pub fits : (s : StructTree) → HasAtLeast (brand_size set b) s → PlanFits plan s

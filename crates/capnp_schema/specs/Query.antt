@@ -34,7 +34,7 @@ indices_from first passes (x ∷ xs) = keep_index (passes x) first (indices_from
 abbrev pub is_non_union : Field → Bool
 is_non_union f = not (is_member f)
 
--- the plain fields, by index
+-- the non-union fields, by index
 abbrev pub non_union_fields : List Field → List ℕ
 non_union_fields fields = indices_from 0 is_non_union fields
 

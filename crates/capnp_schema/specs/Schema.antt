@@ -184,7 +184,7 @@ no_field = record { field = record { name = []; discriminant_value = 65535; anno
 abbrev pub field_at : Schemas → ℕ → ℕ → TypedField
 field_at set b i = unwrap_or (slice_get (fields_of set b) i) no_field
 
--- a plain field has the discriminant value 65,535; the others are members of the union
+-- a non-union field has the discriminant value 65,535; the others are members of the union
 abbrev pub is_member : Field → Bool
 is_member f = not (f.discriminant_value == 65535)
 

@@ -9,7 +9,7 @@ use Rattle.capnp_schema.specs.declared.schema.structs.StructSchema.{StructSchema
 
 -- the set that a schema is of
 abbrev pub set_of : StructSchema → Schemas
-set_of s = lists_seen s.set.now
+set_of s = lists_seen s.schemas.now
 
 -- its brand, by number
 abbrev pub number_of : StructSchema → ℕ

@@ -41,7 +41,7 @@ ArePlanTables set tables = (b : ℕ) → table_at tables b ≡ map (plan_of set 
 pub record AreTables (set : Schemas) (tables : FieldTables) : Type 0 where
   pub by_name : AreNameTables set tables.by_name.items
   pub members : AreMemberTables set tables.members.items
-  pub plain : AreNonUnionTables set tables.plain.items
+  pub non_union : AreNonUnionTables set tables.non_union.items
   pub plans : ArePlanTables set tables.plans.items
   pub group_fields : AreGroupFields set tables.group_fields.items
   pub empty_node : seen_node tables.empty.node ≡ no_node

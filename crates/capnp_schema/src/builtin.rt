@@ -39,7 +39,7 @@ impl MadeOf<&'static str> for EnumerantRecord {
 
     ghost of_row = { λ name. set.enumerant name.now };
 
-    fn made(alloc: Global, name: &&'static str) -> Result<EnumerantRecord, AllocError> {
+    fn make(alloc: Global, name: &&'static str) -> Result<EnumerantRecord, AllocError> {
         let name = String::from_str(alloc, name)?;
         Ok(EnumerantRecord {
             name,

@@ -48,10 +48,10 @@ pub fn heights_fall()
 /// The numbers of a set fit the integer types of its records: discriminants, offsets and section sizes, the bytes of
 /// texts and words, and each default, which has no more bits than its type. The numbers of types take 1, 2, 4 or 8
 /// bytes.
-pub fn numbers_fit(set: &SchemaSet)
-    ensures { HasRanges (lists_seen set.now) }
+pub fn numbers_fit(schemas: &SchemaSet)
+    ensures { HasRanges (lists_seen schemas.now) }
 {
-    let _ = set.accepted_lists();
+    let _ = schemas.accepted_lists();
 }
 
 /// Each group field leads to a group of the set that has the sections of its struct, and lesser height.

@@ -115,7 +115,7 @@ impl SchemaSet {
         brands: Vec<BrandRecord>,
         enums: Vec<EnumRecord>,
     ) -> Result<SchemaSet>
-        ensures set { IfOk result (λ set. lists_seen set ≡ seen_schemas nodes.items brands.items enums.items) }
+        ensures set { IfOk result (λ schemas. lists_seen schemas ≡ seen_schemas nodes.items brands.items enums.items) }
         ensures accepted { OnOk result (IsAccepted (seen_schemas nodes.items brands.items enums.items)) }
         ensures refused { IfErr result (IsRefusalOf (seen_schemas nodes.items brands.items enums.items)) }
         ensures memory { IsAccepted (seen_schemas nodes.items brands.items enums.items)

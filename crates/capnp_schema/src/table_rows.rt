@@ -82,7 +82,7 @@ pub(crate) trait MadeOf<Row> {
 
     ghost of_row: { Row → Seen };
 
-    fn made(alloc: Global, row: &Row) -> Result<Self, AllocError>
+    fn make(alloc: Global, row: &Row) -> Result<Self, AllocError>
         ensures { IfOk result (λ made. seen made ≡ of_row row.now) };
 }
 
@@ -95,7 +95,7 @@ pub(crate) fn all_made<Row, T: MadeOf<Row> + Drop>(
 {
     let mut out = Vec::new(alloc);
     for row in rows {
-        let made = T::made(alloc, row)?;
+        let made = T::make(alloc, row)?;
         out.push(made)?;
     }
     Ok(out)
@@ -185,7 +185,7 @@ impl MadeOf<AnnotationRow> for AnnotationRecord {
 
     ghost of_row = { rows.row_annotation };
 
-    fn made(alloc: Global, row: &AnnotationRow) -> Result<AnnotationRecord, AllocError> {
+    fn make(alloc: Global, row: &AnnotationRow) -> Result<AnnotationRecord, AllocError> {
         let value = value_of(alloc, row.2)?;
         Ok(AnnotationRecord { id: row.0, value })
     }
@@ -198,7 +198,7 @@ impl MadeOf<AnnotationRow> for Type {
 
     ghost of_row = { rows.annotation_type };
 
-    fn made(alloc: Global, row: &AnnotationRow) -> Result<Type, AllocError> {
+    fn make(alloc: Global, row: &AnnotationRow) -> Result<Type, AllocError> {
         let _alloc = alloc;
         Ok(Type::from(row.1))
     }
@@ -236,7 +236,7 @@ impl MadeOf<FieldRow> for FieldRecord {
 
     ghost of_row = { rows.row_field };
 
-    fn made(alloc: Global, row: &FieldRow) -> Result<FieldRecord, AllocError> {
+    fn make(alloc: Global, row: &FieldRow) -> Result<FieldRecord, AllocError> {
         let row = *row;
         match row {
             FieldRow::Plain(name, offset, default) => {
@@ -265,7 +265,7 @@ impl MadeOf<FieldRow> for Type {
 
     ghost of_row = { rows.field_row_type };
 
-    fn made(alloc: Global, row: &FieldRow) -> Result<Type, AllocError> {
+    fn make(alloc: Global, row: &FieldRow) -> Result<Type, AllocError> {
         let _alloc = alloc;
         let row = *row;
         match row {
@@ -285,7 +285,7 @@ impl MadeOf<FieldRow> for Vec<Type> {
 
     ghost of_row = { rows.field_annotation_types };
 
-    fn made(alloc: Global, row: &FieldRow) -> Result<Vec<Type>, AllocError> {
+    fn make(alloc: Global, row: &FieldRow) -> Result<Vec<Type>, AllocError> {
         let row = *row;
         match row {
             FieldRow::AnnotatedField(_, _, _, annotations) => all_made(alloc, annotations),
@@ -328,7 +328,7 @@ impl MadeOf<NodeRow> for NodeRecord {
 
     ghost of_row = { rows.row_node };
 
-    fn made(alloc: Global, row: &NodeRow) -> Result<NodeRecord, AllocError> {
+    fn make(alloc: Global, row: &NodeRow) -> Result<NodeRecord, AllocError> {
         let row = *row;
         match row {
             NodeRow::StructNode(_, id, name, words, pointers, fields) => {
@@ -374,7 +374,7 @@ impl MadeOf<NodeRow> for BrandRecord {
 
     ghost of_row = { rows.row_brand };
 
-    fn made(alloc: Global, row: &NodeRow) -> Result<BrandRecord, AllocError> {
+    fn make(alloc: Global, row: &NodeRow) -> Result<BrandRecord, AllocError> {
         let row = *row;
         match row {
             NodeRow::StructNode(number, _, _, _, _, fields) => brand_of(alloc, number, fields, &[]),

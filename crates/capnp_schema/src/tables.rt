@@ -29,8 +29,8 @@ pub(crate) struct FieldTables {
     pub(crate) by_name: Vec<Vec<u16>>,
     /// The members of the union, at their discriminant values.
     pub(crate) members: Vec<Vec<u16>>,
-    /// The plain fields.
-    pub(crate) plain: Vec<Vec<u16>>,
+    /// The non-union fields.
+    pub(crate) non_union: Vec<Vec<u16>>,
     pub(crate) plans: Vec<Vec<SlotPlan>>,
     /// At each brand the brand and the index of the group field that names it.
     pub(crate) group_fields: Vec<Option<(u32, u16)>>,
@@ -48,17 +48,17 @@ fn push_if(indices: &mut Vec<u16>, index: u16, kept: bool) -> Result<()>
     Ok(())
 }
 
-/// The indices of the plain fields.
-fn plain_table(alloc: Global, fields: &[FieldRecord]) -> Result<Vec<u16>>
+/// The indices of the non-union fields.
+fn non_union_table(alloc: Global, fields: &[FieldRecord]) -> Result<Vec<u16>>
     requires { length fields.now ≤ 65535 }
     ensures table { IfOk result (λ v. v.items ≡ indices_from 0 is_non_union (map seen_field fields.now)) }
     ensures refused { IfErr result (λ e. e.kind ≡ OutOfMemory) }
 {
-    let mut plain = Vec::new(alloc);
+    let mut non_union = Vec::new(alloc);
     for i in 0..fields.len() {
-        push_if(&mut plain, i as u16, !fields[i].is_member())?;
+        push_if(&mut non_union, i as u16, !fields[i].is_member())?;
     }
-    Ok(plain)
+    Ok(non_union)
 }
 
 /// So many indices, all 0.
@@ -70,7 +70,7 @@ fn no_indices(alloc: Global, count: u16) -> Result<Vec<u16>>
     Ok(vec![in alloc; 0; count as usize]?)
 }
 
-/// Sets a member's index at its discriminant value; a plain field has none.
+/// Sets a member's index at its discriminant value; a non-union field has none.
 fn place_member(table: &mut [u16], field: &FieldRecord, index: u16)
     requires { is_non_union (seen_field field.now) ≡ false → field.now.discriminant_value < length table.old }
     ensures { table.new ≡ placed_member (is_non_union (seen_field field.now)) table.old field.now.discriminant_value index }
@@ -129,15 +129,15 @@ fn member_tables(alloc: Global, lists: &Lists) -> Result<Vec<Vec<u16>>>
     Ok(tables)
 }
 
-/// The plain fields of each node.
-fn plain_tables(alloc: Global, lists: &Lists) -> Result<Vec<Vec<u16>>>
+/// The non-union fields of each node.
+fn non_union_tables(alloc: Global, lists: &Lists) -> Result<Vec<Vec<u16>>>
     requires { IsAccepted (lists_seen lists.now) }
     ensures tables { IfOk result (λ v. AreNonUnionTables (lists_seen lists.now) v.items) }
     ensures refused { IfErr result (λ e. e.kind ≡ OutOfMemory) }
 {
     let mut tables = Vec::new(alloc);
     for n in 0..lists.nodes.len() {
-        let table = plain_table(alloc, fields_at(lists, n))?;
+        let table = non_union_table(alloc, fields_at(lists, n))?;
         tables.push(table)?;
     }
     Ok(tables)
@@ -192,13 +192,13 @@ pub(crate) fn field_tables(
     ensures refused { IfErr result (λ e. e.kind ≡ OutOfMemory) }
 {
     let members = member_tables(alloc, lists)?;
-    let plain = plain_tables(alloc, lists)?;
+    let non_union = non_union_tables(alloc, lists)?;
     let plans = plan_tables(alloc, lists)?;
     let group_fields = group_fields(alloc, lists, parents)?;
     Ok(FieldTables {
         by_name,
         members,
-        plain,
+        non_union,
         plans,
         group_fields,
         empty: EmptyRecords::new(alloc),

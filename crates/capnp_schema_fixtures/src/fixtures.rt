@@ -122,7 +122,7 @@ fn zero_of(field_type: Type) -> ValueOf {
     }
 }
 
-/// A plain slot of a type, with a default.
+/// A non-union slot of a type, with a default.
 pub fn slot_with(name: &'static str, offset: u32, field_type: Type, default: ValueOf) -> FieldOf {
     FieldOf {
         name,
@@ -132,7 +132,7 @@ pub fn slot_with(name: &'static str, offset: u32, field_type: Type, default: Val
     }
 }
 
-/// A plain slot whose default is zero, empty or null.
+/// A non-union slot whose default is zero, empty or null.
 pub fn slot(name: &'static str, offset: u32, variant: TypeVariant) -> FieldOf {
     let field_type = Type::from(variant);
     slot_with(name, offset, field_type, zero_of(field_type))
@@ -143,7 +143,7 @@ pub fn typed_slot(name: &'static str, offset: u32, field_type: Type) -> FieldOf 
     slot_with(name, offset, field_type, zero_of(field_type))
 }
 
-/// A plain group field, of the group whose brand has the number of its node.
+/// A non-union group field, of the group whose brand has the number of its node.
 pub fn group_field(name: &'static str, node: u32) -> FieldOf {
     FieldOf {
         name,
@@ -303,10 +303,10 @@ pub enum Spot {
 }
 
 /// The schema of a struct that the set has.
-pub fn schema_of(set: &SchemaSet, number: u32) -> Result<StructSchema<'_>>
+pub fn schema_of(schemas: &SchemaSet, number: u32) -> Result<StructSchema<'_>>
     ensures { IfOk result IsStruct }
 {
-    match set.get_struct(number) {
+    match schemas.get_struct(number) {
         Some(schema) => Ok(schema),
         None => Err(Error {
             kind: ErrorKind::NoSuchElement,

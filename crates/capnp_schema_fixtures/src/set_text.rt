@@ -180,6 +180,6 @@ pub fn read_texts(alloc: Global, texts: &[&'static str]) -> Result<SchemaSet> {
 }
 
 /// The set that a text says.
-pub fn read_set(alloc: Global, text: &'static str) -> Result<SchemaSet> {
+pub fn read_set_text(alloc: Global, text: &'static str) -> Result<SchemaSet> {
     read_texts(alloc, &[text])
 }

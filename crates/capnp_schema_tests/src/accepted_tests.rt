@@ -3,48 +3,48 @@
 use capnp_schema::builtin::new_set;
 use capnp_schema::meta;
 use capnp_schema::set::SchemaSet;
-use capnp_schema_fixtures::set_text::read_set;
+use capnp_schema_fixtures::set_text::read_set_text;
 use capnp_wire::error::{ErrorKind, Result};
 use std::test::Fail;
 
 /// Whether a set has so many nodes, brands and enums.
-fn has_counts(set: &SchemaSet, nodes: usize, brands: usize, enums: usize) -> bool {
-    set.nodes().len() == nodes && set.brands().len() == brands && set.enums().len() == enums
+fn has_counts(schemas: &SchemaSet, nodes: usize, brands: usize, enums: usize) -> bool {
+    schemas.nodes().len() == nodes && schemas.brands().len() == brands && schemas.enums().len() == enums
 }
 
 #[test]
 fn the_built_in_set_is_accepted(rt: HostRuntime) -> std::result::Result<(), Fail> {
-    let set = new_set(rt.alloc())?;
-    assert!(rt; has_counts(&set, 9, 9, 1));
+    let schemas = new_set(rt.alloc())?;
+    assert!(rt; has_counts(&schemas, 9, 9, 1));
     Ok(())
 }
 
 #[test]
 fn the_meta_set_is_accepted(rt: HostRuntime) -> std::result::Result<(), Fail> {
-    let set = meta::new_set(rt.alloc())?;
-    assert!(rt; has_counts(&set, 10, 10, 0));
+    let schemas = meta::new_set(rt.alloc())?;
+    assert!(rt; has_counts(&schemas, 10, 10, 0));
     Ok(())
 }
 
 #[test]
 fn empty_lists_are_accepted(rt: HostRuntime) -> std::result::Result<(), Fail> {
-    let set = read_set(rt.alloc(), "")?;
-    assert!(rt; has_counts(&set, 0, 0, 0));
+    let schemas = read_set_text(rt.alloc(), "")?;
+    assert!(rt; has_counts(&schemas, 0, 0, 0));
     Ok(())
 }
 
 #[test]
 fn a_good_set_is_refused_for_memory_alone(rt: HostRuntime) -> std::result::Result<(), Fail> {
     match new_set(rt.alloc()) {
-        Ok(set) => assert_eq!(rt; set.nodes().len(), 9),
+        Ok(schemas) => assert_eq!(rt; schemas.nodes().len(), 9),
         Err(error) => assert_eq!(rt; error.kind, ErrorKind::OutOfMemory),
     }
     Ok(())
 }
 
 /// Whether a struct that is not there has a field or a name.
-fn has_struct(set: &SchemaSet) -> Result<(bool, bool)> {
-    let none = set.struct_schema(0);
+fn has_struct(schemas: &SchemaSet) -> Result<(bool, bool)> {
+    let none = schemas.struct_schema(0);
     let fields = none.get_fields()?;
     Ok((
         !fields.is_empty(),
@@ -53,8 +53,8 @@ fn has_struct(set: &SchemaSet) -> Result<(bool, bool)> {
 }
 
 /// Whether an enum that is not there has an enumerant or a name.
-fn has_enum(set: &SchemaSet) -> Result<(bool, bool)> {
-    let none = set.enum_schema(0);
+fn has_enum(schemas: &SchemaSet) -> Result<(bool, bool)> {
+    let none = schemas.enum_schema(0);
     let enumerants = none.get_enumerants()?;
     Ok((
         !enumerants.is_empty(),
@@ -64,9 +64,9 @@ fn has_enum(set: &SchemaSet) -> Result<(bool, bool)> {
 
 #[test]
 fn nothing_stands_past_the_end(rt: HostRuntime) -> std::result::Result<(), Fail> {
-    let set = read_set(rt.alloc(), "")?;
+    let schemas = read_set_text(rt.alloc(), "")?;
     assert_eq!(rt;
-        (has_struct(&set), has_enum(&set)),
+        (has_struct(&schemas), has_enum(&schemas)),
         (Ok((false, false)), Ok((false, false)))
     );
     Ok(())

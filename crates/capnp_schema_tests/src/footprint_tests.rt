@@ -1,4 +1,4 @@
-//! Rules 11 and 12: plain fields share no place, and no field stands on the discriminant.
+//! Rules 11 and 12: non-union fields share no place, and no field stands on the discriminant.
 
 use crate::verdicts::verdicts_hold;
 use std::test::Fail;
@@ -27,7 +27,7 @@ struct 1 0, b Bool @32, n UInt16 @1 -> accepted
 struct 1 0, n UInt16 @1, b Bool @32 -> accepted";
 
 #[test]
-fn data_bits_have_one_plain_field(rt: HostRuntime) -> Result<(), Fail> {
+fn data_bits_have_one_non_union_field(rt: HostRuntime) -> Result<(), Fail> {
     verdicts_hold(&rt, rt.alloc(), BITS)
 }
 
@@ -37,7 +37,7 @@ struct 1 0, p UInt16 @0, g group(1); group 1 0, x UInt32 @0 -> rule 11 brand 0 f
 struct 1 0, p UInt16 @0, g group(1); group 1 0, x UInt32 @1 -> accepted";
 
 #[test]
-fn groups_share_no_place_with_plain_fields(rt: HostRuntime) -> Result<(), Fail> {
+fn groups_share_no_place_with_non_union_fields(rt: HostRuntime) -> Result<(), Fail> {
     verdicts_hold(&rt, rt.alloc(), GROUPS)
 }
 

@@ -49,22 +49,22 @@ fn compare<T: PartialEq + Hash + Debug>(
     Ok(verdict(*one == *another, one_hash, alike))
 }
 
-fn struct_of<'s>(set: &'s SchemaSet, word: &str) -> Result<StructSchema<'s>> {
-    schema_of(set, number(word)?)
+fn struct_of<'s>(schemas: &'s SchemaSet, word: &str) -> Result<StructSchema<'s>> {
+    schema_of(schemas, number(word)?)
 }
 
-fn structs(alloc: Global, set: &SchemaSet, one: &str, another: &str) -> Result<&'static str> {
-    compare(alloc, &struct_of(set, one)?, &struct_of(set, another)?)
+fn structs(alloc: Global, schemas: &SchemaSet, one: &str, another: &str) -> Result<&'static str> {
+    compare(alloc, &struct_of(schemas, one)?, &struct_of(schemas, another)?)
 }
 
-fn fields(alloc: Global, set: &SchemaSet, one: &str, another: &str) -> Result<&'static str> {
-    compare(alloc, &field_of(set, one)?, &field_of(set, another)?)
+fn fields(alloc: Global, schemas: &SchemaSet, one: &str, another: &str) -> Result<&'static str> {
+    compare(alloc, &field_of(schemas, one)?, &field_of(schemas, another)?)
 }
 
 /// The field that a struct's list has at a place.
-fn listed<'s>(set: &'s SchemaSet, words: &str) -> Result<Field<'s>> {
+fn listed<'s>(schemas: &'s SchemaSet, words: &str) -> Result<Field<'s>> {
     let (word, place) = first_word(words);
-    let fields = struct_of(set, word)?.get_fields()?;
+    let fields = struct_of(schemas, word)?.get_fields()?;
     let place = number(place)?;
     if place < fields.len() {
         Ok(fields.index_move(place))
@@ -73,60 +73,60 @@ fn listed<'s>(set: &'s SchemaSet, words: &str) -> Result<Field<'s>> {
     }
 }
 
-fn listed_fields(alloc: Global, set: &SchemaSet, one: &str, another: &str) -> Result<&'static str> {
-    compare(alloc, &listed(set, one)?, &field_of(set, another)?)
+fn listed_fields(alloc: Global, schemas: &SchemaSet, one: &str, another: &str) -> Result<&'static str> {
+    compare(alloc, &listed(schemas, one)?, &field_of(schemas, another)?)
 }
 
-fn enums(alloc: Global, set: &SchemaSet, one: &str, another: &str) -> Result<&'static str> {
-    compare(alloc, &enum_of(set, one)?, &enum_of(set, another)?)
+fn enums(alloc: Global, schemas: &SchemaSet, one: &str, another: &str) -> Result<&'static str> {
+    compare(alloc, &enum_of(schemas, one)?, &enum_of(schemas, another)?)
 }
 
-fn enumerants(alloc: Global, set: &SchemaSet, one: &str, another: &str) -> Result<&'static str> {
+fn enumerants(alloc: Global, schemas: &SchemaSet, one: &str, another: &str) -> Result<&'static str> {
     compare(
         alloc,
-        &enumerant_of(set, one)?,
-        &enumerant_of(set, another)?,
+        &enumerant_of(schemas, one)?,
+        &enumerant_of(schemas, another)?,
     )
 }
 
 /// Whether two handles are the same, or told apart.
-pub(crate) fn compared(alloc: Global, set: &SchemaSet, words: &str) -> Result<&'static str> {
+pub(crate) fn compared(alloc: Global, schemas: &SchemaSet, words: &str) -> Result<&'static str> {
     let (kind, both) = first_word(words);
     let (one, another) = both.split_once(", ").unwrap_or((both, ""));
     match kind {
-        "struct" => structs(alloc, set, one, another),
-        "field" => fields(alloc, set, one, another),
-        "listed" => listed_fields(alloc, set, one, another),
-        "enum" => enums(alloc, set, one, another),
-        "enumerant" => enumerants(alloc, set, one, another),
+        "struct" => structs(alloc, schemas, one, another),
+        "field" => fields(alloc, schemas, one, another),
+        "listed" => listed_fields(alloc, schemas, one, another),
+        "enum" => enums(alloc, schemas, one, another),
+        "enumerant" => enumerants(alloc, schemas, one, another),
         _ => Err(UNREADABLE),
     }
 }
 
 /// Whether a struct's handle is given again by a look-up in the set that it has, and by its number alone.
-pub(crate) fn again(set: &SchemaSet, word: &str) -> Result<&'static str> {
+pub(crate) fn again(schemas: &SchemaSet, word: &str) -> Result<&'static str> {
     let number = number(word)?;
-    let schema = schema_of(set, number)?;
+    let schema = schema_of(schemas, number)?;
     let looked_up = schema_of(schema.get_set(), number)?;
-    if looked_up == schema && set.struct_schema(number) == schema {
+    if looked_up == schema && schemas.struct_schema(number) == schema {
         Ok("same")
     } else {
         Ok("apart")
     }
 }
 
-fn has_entry(set: &SchemaSet, kind: &str, number: u32) -> Result<bool> {
+fn has_entry(schemas: &SchemaSet, kind: &str, number: u32) -> Result<bool> {
     match kind {
-        "struct" => Ok(set.get_struct(number).is_some()),
-        "enum" => Ok(set.get_enum(number).is_some()),
+        "struct" => Ok(schemas.get_struct(number).is_some()),
+        "enum" => Ok(schemas.get_enum(number).is_some()),
         _ => Err(UNREADABLE),
     }
 }
 
 /// Whether the set has a struct or an enum of a number.
-pub(crate) fn is_there(set: &SchemaSet, words: &str) -> Result<&'static str> {
+pub(crate) fn is_there(schemas: &SchemaSet, words: &str) -> Result<&'static str> {
     let (kind, word) = first_word(words);
-    if has_entry(set, kind, number(word)?)? {
+    if has_entry(schemas, kind, number(word)?)? {
         Ok("there")
     } else {
         Ok("none")

@@ -13,22 +13,22 @@ use std::alloc::Global;
 
 /// The struct of the first word, and the words after it.
 fn struct_and_words<'s, 'w>(
-    set: &'s SchemaSet,
+    schemas: &'s SchemaSet,
     words: &'w str,
 ) -> Result<(StructSchema<'s>, &'w str)> {
     let (struct_number, rest) = first_word(words);
-    Ok((schema_of(set, number(struct_number)?)?, rest))
+    Ok((schema_of(schemas, number(struct_number)?)?, rest))
 }
 
 /// The field of a struct and a name.
-pub(crate) fn field_of<'s>(set: &'s SchemaSet, words: &str) -> Result<Field<'s>> {
-    let (schema, name) = struct_and_words(set, words)?;
+pub(crate) fn field_of<'s>(schemas: &'s SchemaSet, words: &str) -> Result<Field<'s>> {
+    let (schema, name) = struct_and_words(schemas, words)?;
     schema.get_field_by_name(name)
 }
 
 /// The enum of a number.
-pub(crate) fn enum_of<'s>(set: &'s SchemaSet, word: &str) -> Result<EnumSchema<'s>> {
-    set.get_enum(number(word)?).ok_or(UNREADABLE)
+pub(crate) fn enum_of<'s>(schemas: &'s SchemaSet, word: &str) -> Result<EnumSchema<'s>> {
+    schemas.get_enum(number(word)?).ok_or(UNREADABLE)
 }
 
 /// The enumerant of an ordinal, where there is one.
@@ -42,9 +42,9 @@ fn enumerant_in(schema: EnumSchema<'_>, ordinal: u16) -> Result<Option<Enumerant
 }
 
 /// The enumerant of an enum and an ordinal.
-pub(crate) fn enumerant_of<'s>(set: &'s SchemaSet, words: &str) -> Result<Enumerant<'s>> {
+pub(crate) fn enumerant_of<'s>(schemas: &'s SchemaSet, words: &str) -> Result<Enumerant<'s>> {
     let (enum_number, ordinal) = first_word(words);
-    enumerant_in(enum_of(set, enum_number)?, number(ordinal)?)?.ok_or(UNREADABLE)
+    enumerant_in(enum_of(schemas, enum_number)?, number(ordinal)?)?.ok_or(UNREADABLE)
 }
 
 /// The index of a field that may be there.
@@ -205,8 +205,8 @@ fn looked_up(alloc: Global, kind: &str, schema: StructSchema<'_>, words: &str) -
 }
 
 /// What a struct answers.
-pub(crate) fn of_struct(alloc: Global, set: &SchemaSet, kind: &str, words: &str) -> Result<String> {
-    let (schema, rest) = struct_and_words(set, words)?;
+pub(crate) fn of_struct(alloc: Global, schemas: &SchemaSet, kind: &str, words: &str) -> Result<String> {
+    let (schema, rest) = struct_and_words(schemas, words)?;
     match kind {
         "fields" | "members" | "plain" | "indices" => in_order(alloc, kind, schema),
         "last" | "last_member" | "member_at" => listed(alloc, kind, schema, rest),
@@ -249,9 +249,9 @@ fn ordinal_at(schema: EnumSchema<'_>, index: u16) -> Result<Option<u16>> {
 }
 
 /// What an enum answers.
-pub(crate) fn of_enum(alloc: Global, set: &SchemaSet, kind: &str, words: &str) -> Result<String> {
+pub(crate) fn of_enum(alloc: Global, schemas: &SchemaSet, kind: &str, words: &str) -> Result<String> {
     let (enum_number, ordinal) = first_word(words);
-    let schema = enum_of(set, enum_number)?;
+    let schema = enum_of(schemas, enum_number)?;
     match kind {
         "enumerants" => enumerant_names(alloc, schema),
         "enum" => enum_in_words(alloc, schema),

@@ -9,8 +9,8 @@ use std::alloc::Global;
 use std::test::Fail;
 
 /// The number of a struct in a set, by its name; 255 where there is none.
-fn number_of(set: &SchemaSet, name: &str) -> u32 {
-    match set.find_struct(name) {
+fn number_of(schemas: &SchemaSet, name: &str) -> u32 {
+    match schemas.find_struct(name) {
         Some(schema) => RawBrandedStructSchema::from(schema).number,
         None => 255,
     }
@@ -35,9 +35,9 @@ static NAMES: [(&str, u32); 12] = [
 
 #[test]
 fn structs_are_found_by_their_names(rt: HostRuntime) -> std::result::Result<(), Fail> {
-    let set = builtin::new_set(rt.alloc())?;
+    let schemas = builtin::new_set(rt.alloc())?;
     for (name, number) in &NAMES {
-        assert!(rt; number_of(&set, name) == *number, "{name}");
+        assert!(rt; number_of(&schemas, name) == *number, "{name}");
     }
     Ok(())
 }
@@ -85,10 +85,10 @@ fn brands(alloc: Global) -> Result<Vec<BrandRecord>> {
 #[test]
 fn a_set_is_made_in_a_few_lines(rt: HostRuntime) -> std::result::Result<(), Fail> {
     let alloc = rt.alloc();
-    let set = SchemaSet::new(alloc, nodes(alloc)?, brands(alloc)?, Vec::new(alloc))?;
-    assert_eq!(rt; number_of(&set, "Person"), 0);
-    assert_eq!(rt; number_of(&set, "Person.age"), 255);
-    let age = set.struct_schema(1);
+    let schemas = SchemaSet::new(alloc, nodes(alloc)?, brands(alloc)?, Vec::new(alloc))?;
+    assert_eq!(rt; number_of(&schemas, "Person"), 0);
+    assert_eq!(rt; number_of(&schemas, "Person.age"), 255);
+    let age = schemas.struct_schema(1);
     assert!(rt; age.get_proto().body.is_group);
     assert!(rt; age.get_discriminant() == Some(16));
     let values = [0, 1];
@@ -96,7 +96,7 @@ fn a_set_is_made_in_a_few_lines(rt: HostRuntime) -> std::result::Result<(), Fail
         assert!(rt; field.is_member());
         assert!(rt; values.get(i).copied() == Some(field.discriminant_value));
     }
-    for field in set.struct_schema(0).get_proto().body.fields.iter() {
+    for field in schemas.struct_schema(0).get_proto().body.fields.iter() {
         assert!(rt; !field.is_member());
         assert_eq!(rt; field.discriminant_value, NO_DISCRIMINANT);
     }

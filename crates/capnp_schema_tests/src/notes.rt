@@ -10,22 +10,22 @@ use capnp_wire::PointerReader;
 use capnp_wire::error::Result;
 use capnp_wire::size::ElementSize;
 
-fn field_notes<'s>(set: &'s SchemaSet, field: &str) -> Result<AnnotationList<'s>> {
-    field_of(set, field)?.get_annotations()
+fn field_notes<'s>(schemas: &'s SchemaSet, field: &str) -> Result<AnnotationList<'s>> {
+    field_of(schemas, field)?.get_annotations()
 }
 
-fn enumerant_notes<'s>(set: &'s SchemaSet, enumerant: &str) -> Result<AnnotationList<'s>> {
-    enumerant_of(set, enumerant)?.get_annotations()
+fn enumerant_notes<'s>(schemas: &'s SchemaSet, enumerant: &str) -> Result<AnnotationList<'s>> {
+    enumerant_of(schemas, enumerant)?.get_annotations()
 }
 
 /// The annotations at a place.
-fn notes_at<'s>(set: &'s SchemaSet, place: &str) -> Result<AnnotationList<'s>> {
+fn notes_at<'s>(schemas: &'s SchemaSet, place: &str) -> Result<AnnotationList<'s>> {
     let (kind, words) = first_word(place);
     match kind {
-        "struct" => schema_of(set, number(words)?)?.get_annotations(),
-        "field" => field_notes(set, words),
-        "enum" => enum_of(set, words)?.get_annotations(),
-        "enumerant" => enumerant_notes(set, words),
+        "struct" => schema_of(schemas, number(words)?)?.get_annotations(),
+        "field" => field_notes(schemas, words),
+        "enum" => enum_of(schemas, words)?.get_annotations(),
+        "enumerant" => enumerant_notes(schemas, words),
         _ => Err(UNREADABLE),
     }
 }
@@ -45,7 +45,7 @@ fn byte_2(pointer: PointerReader<'_>) -> Result<i128> {
 }
 
 /// The kind of a value and what is seen of it.
-fn seen(value: Value<'_>) -> Result<(&'static str, i128)> {
+fn see_value(value: Value<'_>) -> Result<(&'static str, i128)> {
     match value {
         Value::Void => Ok(("Void", 0)),
         Value::Bool(x) => Ok(("Bool", i128::from(x))),
@@ -67,7 +67,7 @@ fn value_is(value: Value<'_>, expected: &str) -> Result<bool> {
     if let Value::Text(text) = value {
         return Ok(kind == "Text" && text.eq_str(content));
     }
-    let (seen_kind, number_seen) = seen(value)?;
+    let (seen_kind, number_seen) = see_value(value)?;
     Ok(seen_kind == kind && number_seen == number(content)?)
 }
 
@@ -80,8 +80,8 @@ fn note_is(note: Annotation<'_>, expected: &str) -> Result<bool> {
 }
 
 /// Whether the annotations at a place are these, with `;` after each.
-pub(crate) fn notes_are(set: &SchemaSet, place: &str, expected: &str) -> Result<bool> {
-    let notes = notes_at(set, place)?;
+pub(crate) fn notes_are(schemas: &SchemaSet, place: &str, expected: &str) -> Result<bool> {
+    let notes = notes_at(schemas, place)?;
     let mut rest = expected.split_terminator(';');
     let mut alike = notes.is_empty() == expected.is_empty();
     let mut left = notes.len();
@@ -93,9 +93,9 @@ pub(crate) fn notes_are(set: &SchemaSet, place: &str, expected: &str) -> Result<
 }
 
 /// Whether the first annotation of an id at a place is this one, or there is `none`.
-pub(crate) fn found_is(set: &SchemaSet, query: &str, expected: &str) -> Result<bool> {
+pub(crate) fn found_is(schemas: &SchemaSet, query: &str, expected: &str) -> Result<bool> {
     let (id, place) = first_word(query);
-    match notes_at(set, place)?.find(number(id)?) {
+    match notes_at(schemas, place)?.find(number(id)?) {
         Some(note) => note_is(note, expected),
         None => Ok(expected == "none"),
     }

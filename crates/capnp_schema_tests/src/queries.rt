@@ -40,36 +40,36 @@ use crate::look_ups::{field_of, of_enum, of_struct};
 use crate::notes::{found_is, notes_are};
 use capnp_schema::builtin::new_set;
 use capnp_schema::set::SchemaSet;
-use capnp_schema_fixtures::set_text::read_set;
+use capnp_schema_fixtures::set_text::read_set_text;
 use capnp_schema_fixtures::words::{first_word, read_type};
 use capnp_wire::error::Result;
 use std::alloc::Global;
 use std::process::Abort;
 use std::test::Fail;
 
-fn type_is(set: &SchemaSet, field: &str, expected: &str) -> Result<bool> {
-    Ok(field_of(set, field)?.get_type() == read_type(expected)?)
+fn type_is(schemas: &SchemaSet, field: &str, expected: &str) -> Result<bool> {
+    Ok(field_of(schemas, field)?.get_type() == read_type(expected)?)
 }
 
 /// What a query answers, where it is not compared as a whole.
-fn answer(alloc: Global, set: &SchemaSet, kind: &str, words: &str) -> Result<String> {
+fn answer(alloc: Global, schemas: &SchemaSet, kind: &str, words: &str) -> Result<String> {
     match kind {
-        "enum" | "enumerants" | "ordinal" | "at" => of_enum(alloc, set, kind, words),
-        _ => of_struct(alloc, set, kind, words),
+        "enum" | "enumerants" | "ordinal" | "at" => of_enum(alloc, schemas, kind, words),
+        _ => of_struct(alloc, schemas, kind, words),
     }
 }
 
 /// Whether a set gives the answer to a query.
-fn answers(alloc: Global, set: &SchemaSet, query: &str, expected: &str) -> Result<bool> {
+fn answers(alloc: Global, schemas: &SchemaSet, query: &str, expected: &str) -> Result<bool> {
     let (kind, words) = first_word(query);
     match kind {
-        "notes" => notes_are(set, words, expected),
-        "find" => found_is(set, words, expected),
-        "type" => type_is(set, words, expected),
-        "compare" => Ok(compared(alloc, set, words)? == expected),
-        "again" => Ok(again(set, words)? == expected),
-        "has" => Ok(is_there(set, words)? == expected),
-        _ => Ok(answer(alloc, set, kind, words)?.as_str().trim_end() == expected),
+        "notes" => notes_are(schemas, words, expected),
+        "find" => found_is(schemas, words, expected),
+        "type" => type_is(schemas, words, expected),
+        "compare" => Ok(compared(alloc, schemas, words)? == expected),
+        "again" => Ok(again(schemas, words)? == expected),
+        "has" => Ok(is_there(schemas, words)? == expected),
+        _ => Ok(answer(alloc, schemas, kind, words)?.as_str().trim_end() == expected),
     }
 }
 
@@ -77,7 +77,7 @@ fn answers(alloc: Global, set: &SchemaSet, query: &str, expected: &str) -> Resul
 fn set_of(alloc: Global, text: &'static str) -> Result<SchemaSet> {
     match text {
         "built-in" => new_set(alloc),
-        _ => read_set(alloc, text),
+        _ => read_set_text(alloc, text),
     }
 }
 

@@ -132,7 +132,7 @@ members 8 ->
 plain 8 -> id displayName size";
 
 #[test]
-fn members_are_told_from_plain_fields(rt: HostRuntime) -> Result<(), Fail> {
+fn members_are_told_from_non_union_fields(rt: HostRuntime) -> Result<(), Fail> {
     answers_hold(&rt, rt.alloc(), KINDS_OF_FIELDS)
 }
 

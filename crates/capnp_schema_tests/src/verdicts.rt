@@ -6,7 +6,7 @@
 //! the whole entry is meant. Where a row has several answers, with ` or ` between them, the check may give any of them.
 
 use capnp_schema_fixtures::fixtures::WHOLE;
-use capnp_schema_fixtures::set_text::read_set;
+use capnp_schema_fixtures::set_text::read_set_text;
 use capnp_wire::error::{Error, ErrorKind, Result, SchemaTable};
 use std::alloc::Global;
 use std::process::Abort;
@@ -51,7 +51,7 @@ fn in_words(alloc: Global, kind: ErrorKind) -> Result<String> {
 
 /// What the check says of a set.
 fn verdict_on(alloc: Global, set: &'static str) -> Result<String> {
-    match read_set(alloc, set) {
+    match read_set_text(alloc, set) {
         Ok(_) => Ok(String::from_str(alloc, "accepted")?),
         Err(error) => in_words(alloc, error.kind),
     }

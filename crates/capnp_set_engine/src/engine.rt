@@ -31,10 +31,10 @@ fn read_conversion(alloc: Global, bytes: &[u8], strict: bool) -> Result<Converte
     ensures refused { IfErr result (λ e. e.kind ≢ OutOfMemory → IsRequestUnread strict bytes.now e.kind) }
     ensures of_no_device { IfErr result (λ e. IsOfRead e.kind) }
 {
-    let set = request_set::new_set(alloc)?;
+    let schemas = request_set::new_set(alloc)?;
     let reader = Reader::new(alloc, bytes)?;
     let root = reader.get_root().get_struct()?;
-    let record = dynamic_struct::Reader::new(root, set.struct_schema(0));
+    let record = dynamic_struct::Reader::new(root, schemas.struct_schema(0));
     read_request(alloc, record, strict)
 }
 
@@ -50,9 +50,9 @@ fn make(alloc: Global, converted: Converted) -> Result<Made>
         enums,
         notes,
     } = converted;
-    let set = SchemaSet::new(alloc, nodes, brands, enums)?;
-    let message = write_set(alloc, &set)?;
-    let lines = get_lines(alloc, &set, notes.as_slice())?;
+    let schemas = SchemaSet::new(alloc, nodes, brands, enums)?;
+    let message = write_set(alloc, &schemas)?;
+    let lines = get_lines(alloc, &schemas, notes.as_slice())?;
     Ok(Made { message, lines })
 }
 

@@ -51,11 +51,11 @@ fn put_line(lines: &mut String, entry: &str, field: &str, words: &str) -> Result
 }
 
 /// Appends the line of a note on a set.
-fn put_note(lines: &mut String, set: &SchemaSet, note: Note) -> Result<()>
-    ensures put { OnOk result (string_bytes lines.new ≡ string_bytes lines.old ++ note_line (lists_seen set.now) note) }
+fn put_note(lines: &mut String, schemas: &SchemaSet, note: Note) -> Result<()>
+    ensures put { OnOk result (string_bytes lines.new ≡ string_bytes lines.old ++ note_line (lists_seen schemas.now) note) }
     ensures memory { IfErr result (λ e. e.kind ≡ OutOfMemory) }
 {
-    let node = set.struct_schema(note.entry).get_proto();
+    let node = schemas.struct_schema(note.entry).get_proto();
     let field = field_name(&node.body.fields, note.field as usize);
     put_line(
         lines,
@@ -66,13 +66,13 @@ fn put_note(lines: &mut String, set: &SchemaSet, note: Note) -> Result<()>
 }
 
 /// A line for each note on a set, in their order. Refused with `OutOfMemory` alone.
-pub(crate) fn get_lines(alloc: Global, set: &SchemaSet, notes: &[Note]) -> Result<String>
-    ensures lines { IfOk result (λ lines. string_bytes lines ≡ note_lines (lists_seen set.now) notes.now) }
+pub(crate) fn get_lines(alloc: Global, schemas: &SchemaSet, notes: &[Note]) -> Result<String>
+    ensures lines { IfOk result (λ lines. string_bytes lines ≡ note_lines (lists_seen schemas.now) notes.now) }
     ensures memory { IfErr result (λ e. e.kind ≡ OutOfMemory) }
 {
     let mut lines = String::new(alloc);
     for index in 0..notes.len() {
-        put_note(&mut lines, set, notes[index])?;
+        put_note(&mut lines, schemas, notes[index])?;
     }
     Ok(lines)
 }

@@ -31,34 +31,34 @@ const ROOT: StructSize = StructSize {
 };
 
 /// Puts the three lists of a set.
-fn put_lists(arena: &mut Arena, place: Place, set: &SchemaSet) -> Result<()>
+fn put_lists(arena: &mut Arena, place: Place, schemas: &SchemaSet) -> Result<()>
     requires { IsNew 0 3 arena.old place }
     ensures frame { OnOk result (LeavesStruct place arena.old arena.new) }
-    ensures written { OnOk result (built_at arena.new place ≡ set_tree (lists_seen set.now)) }
-    ensures kept { OnOk result (SetKept (lists_seen set.now)) }
-    ensures accepted { IsAccepted (lists_seen set.now) }
-    ensures fits { OnOk result (SetFits (lists_seen set.now)) }
-    ensures cause { IfErr result (λ e. IsPartWriteRefusal (SetHasKinds (lists_seen set.now))
-        (SetFits (lists_seen set.now)) e.kind) }
+    ensures written { OnOk result (built_at arena.new place ≡ set_tree (lists_seen schemas.now)) }
+    ensures kept { OnOk result (SetKept (lists_seen schemas.now)) }
+    ensures accepted { IsAccepted (lists_seen schemas.now) }
+    ensures fits { OnOk result (SetFits (lists_seen schemas.now)) }
+    ensures cause { IfErr result (λ e. IsPartWriteRefusal (SetHasKinds (lists_seen schemas.now))
+        (SetFits (lists_seen schemas.now)) e.kind) }
 {
-    put_parts(arena, place, 0, set.nodes())?;
-    put_parts(arena, place, 1, set.brands())?;
-    put_parts(arena, place, 2, set.enums())
+    put_parts(arena, place, 0, schemas.nodes())?;
+    put_parts(arena, place, 1, schemas.brands())?;
+    put_parts(arena, place, 2, schemas.enums())
 }
 
 /// Makes the root pointer lead to the record of a set.
-fn put_root(arena: &mut Arena, set: &SchemaSet) -> Result<()>
+fn put_root(arena: &mut Arena, schemas: &SchemaSet) -> Result<()>
     requires inside { 0 < word_count (segment arena.old) }
     ensures forest { OnOk result (Forest (segment arena.new) 0) }
-    ensures written { OnOk result (tree (segment arena.new) 0 ≡ struct_tree (set_tree (lists_seen set.now))) }
-    ensures kept { OnOk result (SetKept (lists_seen set.now)) }
-    ensures accepted { OnOk result (IsAccepted (lists_seen set.now)) }
-    ensures fits { OnOk result (SetFits (lists_seen set.now)) }
-    ensures cause { IfErr result (λ e. IsPartWriteRefusal (SetHasKinds (lists_seen set.now))
-        (SetFits (lists_seen set.now)) e.kind) }
+    ensures written { OnOk result (tree (segment arena.new) 0 ≡ struct_tree (set_tree (lists_seen schemas.now))) }
+    ensures kept { OnOk result (SetKept (lists_seen schemas.now)) }
+    ensures accepted { OnOk result (IsAccepted (lists_seen schemas.now)) }
+    ensures fits { OnOk result (SetFits (lists_seen schemas.now)) }
+    ensures cause { IfErr result (λ e. IsPartWriteRefusal (SetHasKinds (lists_seen schemas.now))
+        (SetFits (lists_seen schemas.now)) e.kind) }
 {
     let root = arena.init_struct(0, ROOT)?;
-    put_lists(arena, root, set)
+    put_lists(arena, root, schemas)
 }
 
 /// The message of a set of schemas: a stream of one segment, whose root is the record of the set, and no more bytes.
@@ -68,17 +68,17 @@ fn put_root(arena: &mut Arena, set: &SchemaSet) -> Result<()>
 /// Refused with `UnknownKind` where a value is untyped and isn't one zero word, or is a list without words, for which
 /// the form has no kind; with `SizePastFormat` where a type has more than 65,535 lists around it, or a text, data or
 /// list is too long for the format; and else with `OutOfMemory`, also where the message would be 2^29 words or more.
-pub fn write_set(alloc: Global, set: &SchemaSet) -> Result<Vec<u8>>
-    ensures written { IfOk result (λ bytes. bytes.items ≡ set_message (lists_seen set.now)) }
-    ensures read { IfOk result (λ bytes. IsReadAsSet (lists_seen set.now) bytes.items) }
-    ensures kinds { OnOk result (SetHasKinds (lists_seen set.now)) }
-    ensures fits { OnOk result (SetFits (lists_seen set.now)) }
-    ensures small { OnOk result (set_message_words (lists_seen set.now) < words_past_format) }
+pub fn write_set(alloc: Global, schemas: &SchemaSet) -> Result<Vec<u8>>
+    ensures written { IfOk result (λ bytes. bytes.items ≡ set_message (lists_seen schemas.now)) }
+    ensures read { IfOk result (λ bytes. IsReadAsSet (lists_seen schemas.now) bytes.items) }
+    ensures kinds { OnOk result (SetHasKinds (lists_seen schemas.now)) }
+    ensures fits { OnOk result (SetFits (lists_seen schemas.now)) }
+    ensures small { OnOk result (set_message_words (lists_seen schemas.now) < words_past_format) }
     ensures cause { IfErr result (λ e. IsWriteRefusal e.kind) }
-    ensures unknown { IfErr result (λ e. e.kind ≡ UnknownKind → HasFormless (lists_seen set.now)) }
-    ensures past { IfErr result (λ e. e.kind ≡ SizePastFormat → IsPastFormat (lists_seen set.now)) }
+    ensures unknown { IfErr result (λ e. e.kind ≡ UnknownKind → HasFormless (lists_seen schemas.now)) }
+    ensures past { IfErr result (λ e. e.kind ≡ SizePastFormat → IsPastFormat (lists_seen schemas.now)) }
 {
     let mut arena = Arena::new(alloc)?;
-    put_root(&mut arena, set)?;
+    put_root(&mut arena, schemas)?;
     arena.write_message()
 }

@@ -167,7 +167,7 @@ fn put_untyped(arena: &mut Arena, place: Place, words: &[u8]) -> Result<()>
 }
 
 /// Puts a value.
-fn put_value(arena: &mut Arena, place: Place, value: &ValueRecord) -> Result<()>
+fn put_value_record(arena: &mut Arena, place: Place, value: &ValueRecord) -> Result<()>
     requires { IsNew 2 1 arena.old place }
     ensures frame { OnOk result (LeavesStruct place arena.old arena.new) }
     ensures written { OnOk result (built_at arena.new place ≡ value_tree (seen_value value.now)) }
@@ -222,7 +222,7 @@ impl Part for ValueRecord {
     }
 
     fn put(&self, arena: &mut Arena, place: Place) -> Result<()> {
-        put_value(arena, place, self)
+        put_value_record(arena, place, self)
     }
 }
 

@@ -6,15 +6,15 @@ use capnp_base::introspect::{Type, TypeVariant};
 use capnp_schema::builtin;
 use capnp_schema::set::SchemaSet;
 use capnp_schema_fixtures::fixtures::{StructOf, list_type, records_of, typed_slot};
-use capnp_schema_fixtures::set_text::read_set;
+use capnp_schema_fixtures::set_text::read_set_text;
 use capnp_set_writer::set_writer::write_set;
 use capnp_wire::error::ErrorKind;
 use std::alloc::Global;
 use std::test::Fail;
 
 /// The number that a set is refused with, 0 where it is written.
-fn refusal(alloc: Global, set: &SchemaSet) -> u32 {
-    match write_set(alloc, set) {
+fn refusal(alloc: Global, schemas: &SchemaSet) -> u32 {
+    match write_set(alloc, schemas) {
         Ok(_) => 0,
         Err(error) => error.kind.number(),
     }
@@ -34,8 +34,8 @@ const FORMLESS: [&str; 6] = [
 #[test]
 fn untyped_values_but_one_zero_word_are_refused(rt: HostRuntime) -> Result<(), Fail> {
     for text in &FORMLESS {
-        let set = read_set(rt.alloc(), text)?;
-        assert_eq!(rt; refusal(rt.alloc(), &set), ErrorKind::UnknownKind.number());
+        let schemas = read_set_text(rt.alloc(), text)?;
+        assert_eq!(rt; refusal(rt.alloc(), &schemas), ErrorKind::UnknownKind.number());
     }
     Ok(())
 }
@@ -73,9 +73,9 @@ fn lists_around_a_type_are_counted_in_16_bits(rt: HostRuntime) -> Result<(), Fai
         rt.alloc(),
         &one_pointer(rt.alloc(), lists_around(65_535))?,
     )?;
-    let set = one_pointer(rt.alloc(), lists_around(65_536))?;
+    let schemas = one_pointer(rt.alloc(), lists_around(65_536))?;
     assert_eq!(rt;
-        refusal(rt.alloc(), &set),
+        refusal(rt.alloc(), &schemas),
         ErrorKind::SizePastFormat.number()
     );
     Ok(())
@@ -83,8 +83,8 @@ fn lists_around_a_type_are_counted_in_16_bits(rt: HostRuntime) -> Result<(), Fai
 
 #[test]
 fn a_good_set_is_refused_for_memory_alone(rt: HostRuntime) -> Result<(), Fail> {
-    let set = builtin::new_set(rt.alloc())?;
-    if let Err(error) = write_set(rt.alloc(), &set) {
+    let schemas = builtin::new_set(rt.alloc())?;
+    if let Err(error) = write_set(rt.alloc(), &schemas) {
         assert_eq!(rt; error.kind, ErrorKind::OutOfMemory);
     }
     Ok(())

@@ -7,7 +7,7 @@ use capnp_schema::{builtin, meta};
 use capnp_schema_fixtures::fixtures::{
     Records, StructOf, add_struct, slot, struct_type, typed_slot,
 };
-use capnp_schema_fixtures::set_text::read_set;
+use capnp_schema_fixtures::set_text::read_set_text;
 use capnp_set_writer::set_writer::write_set;
 use capnp_sets_callers::readers::lists_in;
 use std::alloc::Global;
@@ -38,14 +38,14 @@ const SETS: [&str; 9] = [
 
 /// Asserts that a set is written, and read back as the lists of another one that is equal, with bytes after the
 /// message.
-pub(crate) fn same_again(rt: &impl Abort, alloc: Global, set: &SchemaSet) -> Result<(), Fail> {
+pub(crate) fn same_again(rt: &impl Abort, alloc: Global, schemas: &SchemaSet) -> Result<(), Fail> {
     let meta_set = meta::new_set(alloc)?;
-    let mut bytes = write_set(alloc, set)?;
+    let mut bytes = write_set(alloc, schemas)?;
     bytes.extend_from_slice(&REST)?;
     let read = lists_in(alloc, &meta_set, &bytes)?;
-    assert!(rt; read.0.as_slice() == set.nodes());
-    assert!(rt; read.1.as_slice() == set.brands());
-    assert!(rt; read.2.as_slice() == set.enums());
+    assert!(rt; read.0.as_slice() == schemas.nodes());
+    assert!(rt; read.1.as_slice() == schemas.brands());
+    assert!(rt; read.2.as_slice() == schemas.enums());
     Ok(())
 }
 
@@ -67,7 +67,7 @@ fn the_request_set_is_read_back(rt: HostRuntime) -> Result<(), Fail> {
 #[test]
 fn sets_of_texts_are_read_back(rt: HostRuntime) -> Result<(), Fail> {
     for text in &SETS {
-        same_again(&rt, rt.alloc(), &read_set(rt.alloc(), text)?)?;
+        same_again(&rt, rt.alloc(), &read_set_text(rt.alloc(), text)?)?;
     }
     Ok(())
 }
@@ -107,7 +107,7 @@ fn many_structs(alloc: Global) -> capnp_wire::error::Result<Records> {
 #[test]
 fn a_set_of_2000_structs_is_read_back(rt: HostRuntime) -> Result<(), Fail> {
     let records = many_structs(rt.alloc())?;
-    let set = SchemaSet::new(rt.alloc(), records.nodes, records.brands, records.enums)?;
-    assert_eq!(rt; set.nodes().len(), 2_000);
-    same_again(&rt, rt.alloc(), &set)
+    let schemas = SchemaSet::new(rt.alloc(), records.nodes, records.brands, records.enums)?;
+    assert_eq!(rt; schemas.nodes().len(), 2_000);
+    same_again(&rt, rt.alloc(), &schemas)
 }

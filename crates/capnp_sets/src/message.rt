@@ -20,8 +20,8 @@ use std::alloc::Global;
 /// Refused with `OutOfMemory`, as the stream is (`Truncated`, `TooManySegments`), as the root is where it can't be read
 /// as a struct (`BadPointer`, `WrongPointerKind`, `CapabilityPointer`), or as `read_schema_set`.
 pub fn read_message(alloc: Global, bytes: &[u8]) -> Result<SchemaSet>
-    ensures set { IfOk result (λ set. message_set bytes.now ≡ Some (lists_seen set)) }
-    ensures accepted { IfOk result (λ set. IsAccepted (lists_seen set)) }
+    ensures set { IfOk result (λ schemas. message_set bytes.now ≡ Some (lists_seen schemas)) }
+    ensures accepted { IfOk result (λ schemas. IsAccepted (lists_seen schemas)) }
     ensures refused { IfErr result (λ e. e.kind ≢ OutOfMemory → IsMessageRefusal bytes.now e) }
     ensures kinds { IfErr result (λ e. is_set_kind e.kind ≡ true) }
     ensures of_no_device { IfErr result (λ e. IsRefusalOfSet e.kind) }

@@ -53,7 +53,7 @@ pub fn read_set(
 /// stands for lists, with `Schema` and the number of a rule that they break.
 pub fn read_schema_set(alloc: Global, reader: dynamic_struct::Reader<'_>) -> Result<SchemaSet>
     requires { IsMetaRecord 0 reader }
-    ensures set { IfOk result (λ set. lists_meant (record_seen reader.entry) ≡ Some (lists_seen set)) }
+    ensures set { IfOk result (λ schemas. lists_meant (record_seen reader.entry) ≡ Some (lists_seen schemas)) }
     ensures refused { IfErr result (λ e. e.kind ≢ OutOfMemory → IsSchemaSetRefusal (record_seen reader.entry) e) }
 {
     let (nodes, brands, enums) = read_set(alloc, reader)?;

@@ -35,7 +35,7 @@ pub fn lists_in(
 /// `read_schema_set` are.
 pub fn set_in(alloc: Global, meta_set: &SchemaSet, bytes: &[u8]) -> Result<SchemaSet>
     requires { lists_seen meta_set.now ≡ meta }
-    ensures set { IfOk result (λ set. message_set bytes.now ≡ Some (lists_seen set)) }
+    ensures set { IfOk result (λ schemas. message_set bytes.now ≡ Some (lists_seen schemas)) }
     ensures refused { IfErr result (λ e. e.kind ≢ OutOfMemory → IsMessageRefusal bytes.now e) }
 {
     let reader = Reader::new(alloc, bytes)?;

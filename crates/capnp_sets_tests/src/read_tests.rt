@@ -50,9 +50,9 @@ fn each_kind_of_part_is_read(rt: HostRuntime) -> Result<(), Fail> {
 fn a_small_set_is_read_and_checked(rt: HostRuntime) -> Result<(), Fail> {
     let meta_set = meta::new_set(rt.alloc())?;
     let bytes = bytes_of(rt.alloc(), FLAT)?;
-    let set = set_in(rt.alloc(), &meta_set, &bytes)?;
-    assert_eq!(&rt; set.nodes().len(), 1);
-    assert_eq!(&rt; set.nodes()[0].display_name.as_str(), "Flat");
+    let schemas = set_in(rt.alloc(), &meta_set, &bytes)?;
+    assert_eq!(&rt; schemas.nodes().len(), 1);
+    assert_eq!(&rt; schemas.nodes()[0].display_name.as_str(), "Flat");
     Ok(())
 }
 

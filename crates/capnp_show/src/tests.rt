@@ -104,7 +104,7 @@ pub(crate) fn answered(
 }
 
 /// What comes of a setting.
-fn seen(alloc: Global, on: &Setting<'_>) -> Result<String, Fail> {
+fn see_run(alloc: Global, on: &Setting<'_>) -> Result<String, Fail> {
     let words = words_of(alloc, on.words)?;
     let mut opener = OneFile {
         bytes: on.set,
@@ -158,7 +158,7 @@ pub(crate) fn wanted_line(
 
 /// Asserts that a setting comes to this.
 fn comes_to(rt: &impl Abort, alloc: Global, on: &Setting<'_>, wanted: &str) -> Result<(), Fail> {
-    let seen = seen(alloc, on)?;
+    let seen = see_run(alloc, on)?;
     assert_eq!(rt; seen.as_str(), wanted, "{}", on.words);
     Ok(())
 }

@@ -63,8 +63,8 @@ fn show_built_in<R: Source, W: Sink>(
         (W.written sink.old) (W.written sink.new)) }
     ensures nothing { IfErr result (λ e. e.kind ≢ WriteFailed → sink.new ≡ sink.old) }
 {
-    let set = builtin::new_set(alloc)?;
-    show(alloc, &set, request.brand, source, sink, request.indented)
+    let schemas = builtin::new_set(alloc)?;
+    show(alloc, &schemas, request.brand, source, sink, request.indented)
 }
 
 /// Shows what was asked for.
@@ -149,7 +149,7 @@ pub fn command_over<O: Opener, R: Source, W: Sink, F: Sink>(
     }
 }
 
-/// The same over the files of a runtime.
+/// Does what the words of a command ask, as `command_over`, over the files of a runtime.
 pub fn command<O: Files, R: Source, W: Sink, F: Sink>(
     rt: &O,
     alloc: Global,

@@ -28,71 +28,71 @@ use std::alloc::Global;
 /// other refusal nothing.
 pub fn show<R: Source, W: Sink>(
     alloc: Global,
-    set: &SchemaSet,
+    schemas: &SchemaSet,
     brand: u32,
     source: &mut R,
     sink: &mut W,
     indented: bool,
 ) -> Result<()>
-    requires { brand < length (lists_seen set.now).brands }
-    ensures shown { OnOk result (IsShown (lists_seen set.now) brand indented (R.left source.old) (R.left source.new)
+    requires { brand < length (lists_seen schemas.now).brands }
+    ensures shown { OnOk result (IsShown (lists_seen schemas.now) brand indented (R.left source.old) (R.left source.new)
         (W.written sink.old) (W.written sink.new)) }
     ensures refused { IfErr result (λ e. IsOfMessage e.kind →
-        IsShowRefused (lists_seen set.now) brand indented e.kind (R.left source.old) (R.left source.new)) }
+        IsShowRefused (lists_seen schemas.now) brand indented e.kind (R.left source.old) (R.left source.new)) }
     ensures read_failed { IfErr result (λ e. e.kind ≡ ReadFailed →
         HasFailed (R.failures source.old) (R.failures source.new)) }
     ensures write_failed { IfErr result (λ e. e.kind ≡ WriteFailed →
         HasFailed (W.failures sink.old) (W.failures sink.new)) }
     ensures beginning { IfErr result (λ e. e.kind ≡ WriteFailed →
-        IsTextCutShort (lists_seen set.now) brand indented (R.left source.old) (R.left source.new)
+        IsTextCutShort (lists_seen schemas.now) brand indented (R.left source.old) (R.left source.new)
         (W.written sink.old) (W.written sink.new)) }
     ensures nothing { IfErr result (λ e. e.kind ≢ WriteFailed → sink.new ≡ sink.old) }
 {
     let bytes = read_all(alloc, source)?;
-    let line = get_line(alloc, set, brand, &bytes, indented)?;
+    let line = get_line(alloc, schemas, brand, &bytes, indented)?;
     write_all(sink, line.as_bytes())
 }
 
 /// The text of the first message in these bytes, and a line break.
 fn get_line(
     alloc: Global,
-    set: &SchemaSet,
+    schemas: &SchemaSet,
     brand: u32,
     bytes: &[u8],
     indented: bool,
 ) -> Result<String>
-    requires { brand < length (lists_seen set.now).brands }
-    ensures shown { IfOk result (λ line. IsLineOf (shown_text (lists_seen set.now) brand indented bytes.now)
+    requires { brand < length (lists_seen schemas.now).brands }
+    ensures shown { IfOk result (λ line. IsLineOf (shown_text (lists_seen schemas.now) brand indented bytes.now)
         (string_bytes line)) }
     ensures refused { IfErr result (λ e. IsOfMessage e.kind
-        → shown_text (lists_seen set.now) brand indented bytes.now ≡ Err e.kind) }
+        → shown_text (lists_seen schemas.now) brand indented bytes.now ≡ Err e.kind) }
     ensures not_read { IfErr result (λ e. e.kind ≢ ReadFailed) }
     ensures not_written { IfErr result (λ e. e.kind ≢ WriteFailed) }
 {
     let mut line = String::new(alloc);
-    print_root(alloc, set, brand, bytes, &mut line, indented)?;
+    print_first_message(alloc, schemas, brand, bytes, &mut line, indented)?;
     line.push_str("\n")?;
     Ok(line)
 }
 
 /// Appends the text of the first message in these bytes.
-fn print_root(
+fn print_first_message(
     alloc: Global,
-    set: &SchemaSet,
+    schemas: &SchemaSet,
     brand: u32,
     bytes: &[u8],
     out: &mut String,
     indented: bool,
 ) -> Result<()>
-    requires { brand < length (lists_seen set.now).brands }
+    requires { brand < length (lists_seen schemas.now).brands }
     ensures printed { OnOk result (IsAppended (string_bytes out.old)
-        (shown_text (lists_seen set.now) brand indented bytes.now) (string_bytes out.new)) }
+        (shown_text (lists_seen schemas.now) brand indented bytes.now) (string_bytes out.new)) }
     ensures refused { IfErr result (λ e. e.kind ≢ OutOfMemory
-        → shown_text (lists_seen set.now) brand indented bytes.now ≡ Err e.kind) }
+        → shown_text (lists_seen schemas.now) brand indented bytes.now ≡ Err e.kind) }
     ensures of_no_device { IfErr result (λ e. IsOfRead e.kind) }
 {
     let reader = Reader::new(alloc, bytes)?;
     let root = reader.get_root().get_struct()?;
-    let value = dynamic_struct::Reader::new(root, set.struct_schema(brand));
+    let value = dynamic_struct::Reader::new(root, schemas.struct_schema(brand));
     print(dynamic_value::Reader::Struct(value), out, indented)
 }

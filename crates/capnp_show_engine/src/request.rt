@@ -29,7 +29,7 @@ pub enum Asked<'a> {
 
 /// The struct of the built-in set that has the name and is no group. It takes no memory, so that an unknown name is
 /// told whatever memory there is.
-fn find_brand(name: &str) -> Option<u32>
+fn find_builtin_brand(name: &str) -> Option<u32>
     ensures found { result ≡ brand_named builtin name.now }
     ensures inside { IfSome result (λ b. b < length builtin.brands) }
 {
@@ -50,7 +50,7 @@ fn ask_built_in(name: &str, indented: bool) -> Option<Asked<'_>>
     ensures asked { option_map show_task_of result ≡ built_in_asked indented (brand_named builtin name.now) }
     ensures inside { IfSome result IsOfBuiltin }
 {
-    let brand = find_brand(name)?;
+    let brand = find_builtin_brand(name)?;
     Some(Asked::BuiltIn(Request { brand, indented }))
 }
 

@@ -19,11 +19,11 @@ use capnp_wire::transfer::read_all;
 use std::alloc::Global;
 
 /// The number of the struct of a display name.
-fn find_brand(set: &SchemaSet, name: &str) -> Option<u32>
-    ensures found { result ≡ brand_asked (lists_seen set.now) name.now }
-    ensures inside { IfSome result (λ b. b < length (lists_seen set.now).brands) }
+fn find_struct_number(schemas: &SchemaSet, name: &str) -> Option<u32>
+    ensures found { result ≡ brand_asked (lists_seen schemas.now) name.now }
+    ensures inside { IfSome result (λ b. b < length (lists_seen schemas.now).brands) }
 {
-    let schema = set.find_struct(name)?;
+    let schema = schemas.find_struct(name)?;
     Some(RawBrandedStructSchema::from(schema).number)
 }
 
@@ -43,8 +43,8 @@ pub fn show_with_set<S: Source, R: Source, W: Sink>(
     sink: &mut W,
     indented: bool,
 ) -> Result<()>
-    ensures shown { OnOk result (IsStructNamed name.now (S.left set_source.old) (S.left set_source.new) (λ set b.
-        IsShown set b indented (R.left source.old) (R.left source.new) (W.written sink.old) (W.written sink.new))) }
+    ensures shown { OnOk result (IsStructNamed name.now (S.left set_source.old) (S.left set_source.new) (λ schemas b.
+        IsShown schemas b indented (R.left source.old) (R.left source.new) (W.written sink.old) (W.written sink.new))) }
     ensures refused { IfErr result (λ e. IsOfMessage e.kind
         → IsRefusedWithSet name.now indented e (source.new ≡ source.old)
         (S.left set_source.old) (S.left set_source.new) (R.left source.old) (R.left source.new)) }
@@ -53,18 +53,18 @@ pub fn show_with_set<S: Source, R: Source, W: Sink>(
     ensures write_failed { IfErr result (λ e. e.kind ≡ WriteFailed →
         HasFailed (W.failures sink.old) (W.failures sink.new)) }
     ensures beginning { IfErr result (λ e. e.kind ≡ WriteFailed
-        → IsStructNamed name.now (S.left set_source.old) (S.left set_source.new) (λ set b.
-        IsTextCutShort set b indented (R.left source.old) (R.left source.new) (W.written sink.old) (W.written sink.new))) }
+        → IsStructNamed name.now (S.left set_source.old) (S.left set_source.new) (λ schemas b.
+        IsTextCutShort schemas b indented (R.left source.old) (R.left source.new) (W.written sink.old) (W.written sink.new))) }
     ensures nothing { IfErr result (λ e. e.kind ≢ WriteFailed → sink.new ≡ sink.old) }
     ensures first { (source.new ≡ source.old)
         ⊎ IsStructNamed name.now (S.left set_source.old) (S.left set_source.new) (λ _ _. ⊤) }
 {
     let bytes = read_all(alloc, set_source)?;
-    let set = read_message(alloc, &bytes)?;
-    let Some(brand) = find_brand(&set, name) else {
+    let schemas = read_message(alloc, &bytes)?;
+    let Some(brand) = find_struct_number(&schemas, name) else {
         return Err(Error::from(ErrorKind::NameNotFound));
     };
-    show(alloc, &set, brand, source, sink, indented)
+    show(alloc, &schemas, brand, source, sink, indented)
 }
 
 /// `show_with_set` under the set that a file holds: opens it, and then reads it before the message.
@@ -81,8 +81,8 @@ pub fn show_with_file<O: Opener, R: Source, W: Sink>(
     indented: bool,
 ) -> Result<()>
     ensures shown { OnOk result (IsFileOpened O.opens opener.old opener.new path.now (λ f g.
-        IsStructNamed name.now (O.File.left f) (O.File.left g) (λ set b.
-        IsShown set b indented (R.left source.old) (R.left source.new) (W.written sink.old) (W.written sink.new)))) }
+        IsStructNamed name.now (O.File.left f) (O.File.left g) (λ schemas b.
+        IsShown schemas b indented (R.left source.old) (R.left source.new) (W.written sink.old) (W.written sink.new)))) }
     ensures refused { IfErr result (λ e. IsOfMessage e.kind → IsFileOpened O.opens opener.old opener.new path.now (λ f g.
         IsRefusedWithSet name.now indented e (source.new ≡ source.old)
         (O.File.left f) (O.File.left g) (R.left source.old) (R.left source.new))) }
@@ -94,8 +94,8 @@ pub fn show_with_file<O: Opener, R: Source, W: Sink>(
         HasFailed (W.failures sink.old) (W.failures sink.new)) }
     ensures beginning { IfErr result (λ e. e.kind ≡ WriteFailed
         → IsFileOpened O.opens opener.old opener.new path.now (λ f g.
-        IsStructNamed name.now (O.File.left f) (O.File.left g) (λ set b.
-        IsTextCutShort set b indented (R.left source.old) (R.left source.new) (W.written sink.old) (W.written sink.new)))) }
+        IsStructNamed name.now (O.File.left f) (O.File.left g) (λ schemas b.
+        IsTextCutShort schemas b indented (R.left source.old) (R.left source.new) (W.written sink.old) (W.written sink.new)))) }
     ensures nothing { IfErr result (λ e. e.kind ≢ WriteFailed → sink.new ≡ sink.old) }
     ensures opened { AsksAmong O.opens (path.now ∷ []) opener.old opener.new }
     ensures first { (source.new ≡ source.old) ⊎ IsFileOpened O.opens opener.old opener.new path.now (λ f g.

@@ -54,7 +54,7 @@ module _ (clear : TypedField → StructTree → StructTree) where
   plain-past (f ∷ fs) zero s le = absurd (omega arith)
   plain-past (f ∷ fs) (suc i) s le = plain-past fs i s (omega arith)
 
--- a plain field, by what is cleared at its place
+-- a non-union field, by what is cleared at its place
 plain-place : (q : Bool) (j i : ℕ) → unless_member_place q j ≡ Some i → (q ≡ false) × (j ≡ i)
 plain-place true j i e = cc
 plain-place false j i e = (refl, same_Some j i e)
@@ -138,7 +138,7 @@ at-place set b (suc i) q some e =
     let less : suc i - 1 ≡ i = omega arith in
     at-next set b i q (ap (λ (k : ℕ). is_member (field_at set b k).field) (sym less) ∙ e) ∙ ap (unless_member_place q) (sym less)
 
--- a field of a struct is a member or plain, by its record
+-- a field of a struct is a member or non-union, by its record
 member-of : (s : StructSchema) (p : ℕ) (f : Field) (q : Bool) → IsFieldOf s p f → is_member (typed_of f).field ≡ q → is_member (field_at (set_of s) (number_of s) p).field ≡ q
 member-of s p f q is e = sym (ap (λ (z : StructSchema). is_member (struct_field z (index_of f)).field) is.schema ∙ ap (λ (k : ℕ). is_member (struct_field s k).field) is.index) ∙ e
 

@@ -33,7 +33,7 @@ IsRoomFor f s = Fits (field_set f) (field_brand f) s
 abbrev pub IsSlot : Field → Type 0
 IsSlot f = is_group_field (typed_of f).field.kind ≡ false
 
--- the union switched to the field; a plain field changes nothing
+-- the union switched to the field; a non-union field changes nothing
 abbrev pub switched_to : Field → StructTree → StructTree
 switched_to f s = switched_struct (struct_node (field_schema f)) (typed_of f).field s
 
@@ -50,7 +50,7 @@ pointer_index f = offset_of (typed_of f).field.kind
 
 -- ---- what stays ----
 
--- the places of a member's discriminant, of a plain field none
+-- the places of a member's discriminant, of a non-union field none
 abbrev pub switch_names : Field → Spot → Bool
 switch_names f p = is_member (typed_of f).field && discriminant_names (struct_node (field_schema f)) p
 

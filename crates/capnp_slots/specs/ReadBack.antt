@@ -137,6 +137,6 @@ OtherIsGot f g = AreFieldsApart f g → (s s' : StructTree) → Keeps (names_of 
 abbrev pub OtherIsThere : (f g : Field) → Type 0
 OtherIsThere f g = AreFieldsApart f g → (s s' : StructTree) → Keeps (names_of f) s s' → (l : Levels) → is_there_in g l s' ≡ is_there_in g l s
 
--- a write of a plain field leaves the active member
+-- a write of a non-union field leaves the active member
 abbrev pub NonUnionStays : Field → Type 0
 NonUnionStays f = is_member (typed_of f).field ≡ false → (s s' : StructTree) → Keeps (names_of f) s s' → (l : Levels) → member_in f l s' ≡ member_in f l s

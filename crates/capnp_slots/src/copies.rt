@@ -26,8 +26,8 @@ use capnp_wire::error::{Error, ErrorKind, Result};
 
 /// Whether a slot of a type takes a copy of a text.
 fn copies_text(variant: TypeVariant) -> Result<bool>
-    ensures { (set : Schemas) (bytes : List ℕ)
-        → GivesCopy (TextSource bytes) (given_slot set (seen_variant variant) (TextSource bytes)) result }
+    ensures { (schemas : Schemas) (bytes : List ℕ)
+        → GivesCopy (TextSource bytes) (given_slot schemas (seen_variant variant) (TextSource bytes)) result }
 {
     match variant {
         TypeVariant::Void => Ok(false),
@@ -39,8 +39,8 @@ fn copies_text(variant: TypeVariant) -> Result<bool>
 
 /// Whether it takes one of data.
 fn copies_data(variant: TypeVariant) -> Result<bool>
-    ensures { (set : Schemas) (bytes : List ℕ)
-        → GivesCopy (DataSource bytes) (given_slot set (seen_variant variant) (DataSource bytes)) result }
+    ensures { (schemas : Schemas) (bytes : List ℕ)
+        → GivesCopy (DataSource bytes) (given_slot schemas (seen_variant variant) (DataSource bytes)) result }
 {
     match variant {
         TypeVariant::Void => Ok(false),
@@ -52,8 +52,8 @@ fn copies_data(variant: TypeVariant) -> Result<bool>
 
 /// Whether it takes one of a struct, whatever its schema.
 fn copies_struct(variant: TypeVariant) -> Result<bool>
-    ensures { (set : Schemas) (l : Levels) (s : StructTree) (b : ℕ)
-        → GivesCopy (StructSource l s b) (given_slot set (seen_variant variant) (StructSource l s b)) result }
+    ensures { (schemas : Schemas) (l : Levels) (s : StructTree) (b : ℕ)
+        → GivesCopy (StructSource l s b) (given_slot schemas (seen_variant variant) (StructSource l s b)) result }
 {
     match variant {
         TypeVariant::Void => Ok(false),
@@ -65,8 +65,8 @@ fn copies_struct(variant: TypeVariant) -> Result<bool>
 
 /// Whether it takes one of a list, whatever its elements' type.
 fn copies_list(variant: TypeVariant) -> Result<bool>
-    ensures { (set : Schemas) (l : Levels) (t : Tree) (e : SchemaType)
-        → GivesCopy (ListSource l t e) (given_slot set (seen_variant variant) (ListSource l t e)) result }
+    ensures { (schemas : Schemas) (l : Levels) (t : Tree) (e : SchemaType)
+        → GivesCopy (ListSource l t e) (given_slot schemas (seen_variant variant) (ListSource l t e)) result }
 {
     match variant {
         TypeVariant::Void => Ok(false),
@@ -95,8 +95,8 @@ fn copies_untyped(variant: TypeVariant) -> Result<bool>
 /// `TypeMismatch` where the slot is of another kind.
 pub(crate) fn copies_source(variant: TypeVariant, source: Source<'_>) -> Result<bool>
     requires { IsPointed (source_seen source) }
-    ensures { (set : Schemas) → GivesCopy (source_seen source.entry)
-        (given_slot set (seen_variant variant) (source_seen source.entry)) result }
+    ensures { (schemas : Schemas) → GivesCopy (source_seen source.entry)
+        (given_slot schemas (seen_variant variant) (source_seen source.entry)) result }
 {
     match source {
         Source::Primitive(_) => unreachable!(),

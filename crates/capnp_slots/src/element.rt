@@ -77,11 +77,11 @@ fn store_element(arena: &mut Arena, at: usize, variant: TypeVariant, index: u32,
 ///
 /// Refused with `ListAnyPointerNotSupported` for an untyped element, and with `TypeMismatch` where the element is of
 /// another kind than the value.
-fn number_in(set: &SchemaSet, element: Type, value: Primitive) -> Result<u64>
-    ensures number { IfOk result (IsGivenAs (lists_seen set.now) (seen_type element) (primitive_source value)) }
-    ensures given { OnOk result (given_element (lists_seen set.now) (seen_type element) (primitive_source value)
-        ≡ given_slot (lists_seen set.now) (seen_type element) (primitive_source value)) }
-    ensures refused { IfErr result (λ e. given_element (lists_seen set.now) (seen_type element)
+fn number_in(schemas: &SchemaSet, element: Type, value: Primitive) -> Result<u64>
+    ensures number { IfOk result (IsGivenAs (lists_seen schemas.now) (seen_type element) (primitive_source value)) }
+    ensures given { OnOk result (given_element (lists_seen schemas.now) (seen_type element) (primitive_source value)
+        ≡ given_slot (lists_seen schemas.now) (seen_type element) (primitive_source value)) }
+    ensures refused { IfErr result (λ e. given_element (lists_seen schemas.now) (seen_type element)
         (primitive_source value) ≡ Fails e.kind) }
 {
     number_fits(value);
@@ -99,7 +99,7 @@ fn number_in(set: &SchemaSet, element: Type, value: Primitive) -> Result<u64>
 pub fn set_primitive(
     arena: &mut Arena,
     at: usize,
-    set: &SchemaSet,
+    schemas: &SchemaSet,
     element: Type,
     index: u32,
     value: Primitive,
@@ -107,14 +107,14 @@ pub fn set_primitive(
     requires forest { Forest (segment arena.old) at }
     requires room { HasElementThere (seen_type element) (tree (segment arena.old) at) index }
     ensures frame { OnOk result (LeavesPointer at arena.old arena.new) }
-    ensures set { OnOk result (IsElementSet (lists_seen set.now) (seen_type element) (primitive_source value) index
+    ensures set { OnOk result (IsElementSet (lists_seen schemas.now) (seen_type element) (primitive_source value) index
         (tree (segment arena.old) at)
         (tree (segment arena.new) at)) }
     ensures refused { OnErr result (segment arena.new ≡ segment arena.old) }
-    ensures cause { IfErr result (λ e. given_element (lists_seen set.now) (seen_type element) (primitive_source value)
+    ensures cause { IfErr result (λ e. given_element (lists_seen schemas.now) (seen_type element) (primitive_source value)
         ≡ Fails e.kind) }
 {
-    let number = number_in(set, element, value)?;
+    let number = number_in(schemas, element, value)?;
     store_element(arena, at, element.which(), index, number);
     Ok(())
 }
@@ -185,7 +185,7 @@ fn set_copied(arena: &mut Arena, at: usize, index: u32, source: Source<'_>) -> R
 fn set_pointed(
     arena: &mut Arena,
     at: usize,
-    set: &SchemaSet,
+    schemas: &SchemaSet,
     element: Type,
     index: u32,
     source: Source<'_>,
@@ -195,27 +195,27 @@ fn set_pointed(
     requires pointed { IsPointed (source_seen source) }
     requires no_struct { NoStruct (source_seen source) }
     ensures frame { OnOk result (LeavesPointer at arena.old arena.new) }
-    ensures set { OnOk result (IsElementSet (lists_seen set.now) (seen_type element) (source_seen source.entry) index
+    ensures set { OnOk result (IsElementSet (lists_seen schemas.now) (seen_type element) (source_seen source.entry) index
         (tree (segment arena.old) at)
         (tree (segment arena.new) at)) }
     ensures refused { OnErr result (segment arena.new ≡ segment arena.old) }
     ensures cause { IfErr result (λ e. IsSetRefusal
-        (given_element (lists_seen set.now) (seen_type element) (source_seen source.entry)) e.kind) }
+        (given_element (lists_seen schemas.now) (seen_type element) (source_seen source.entry)) e.kind) }
 {
-    match copies_into(set, element, source) {
+    match copies_into(schemas, element, source) {
         Err(error) => Err(error),
         Ok(true) => set_copied(arena, at, index, source),
-        Ok(false) => set_primitive(arena, at, set, element, index, Primitive::Void),
+        Ok(false) => set_primitive(arena, at, schemas, element, index, Primitive::Void),
     }
 }
 
 /// Whether an element of a type takes a copy of a text, data, a list or an untyped pointer; a void one takes nothing of
 /// it.
-fn copies_into(set: &SchemaSet, element: Type, source: Source<'_>) -> Result<bool>
+fn copies_into(schemas: &SchemaSet, element: Type, source: Source<'_>) -> Result<bool>
     requires pointed { IsPointed (source_seen source) }
     requires no_struct { NoStruct (source_seen source) }
-    ensures takes { IfOk result (TakesInto (lists_seen set.now) (seen_type element) (source_seen source.entry)) }
-    ensures refused { IfErr result (λ e. given_element (lists_seen set.now) (seen_type element)
+    ensures takes { IfOk result (TakesInto (lists_seen schemas.now) (seen_type element) (source_seen source.entry)) }
+    ensures refused { IfErr result (λ e. given_element (lists_seen schemas.now) (seen_type element)
         (source_seen source.entry) ≡ Fails e.kind) }
 {
     match element.which() {
@@ -228,7 +228,7 @@ fn copies_into(set: &SchemaSet, element: Type, source: Source<'_>) -> Result<boo
 fn set_struct(
     arena: &mut Arena,
     at: usize,
-    set: &SchemaSet,
+    schemas: &SchemaSet,
     element: Type,
     index: u32,
     reader: StructReader<'_>,
@@ -237,16 +237,16 @@ fn set_struct(
     requires forest { Forest (segment arena.old) at }
     requires room { HasElementThere (seen_type element) (tree (segment arena.old) at) index }
     ensures frame { OnOk result (LeavesPointer at arena.old arena.new) }
-    ensures set { OnOk result (IsElementSet (lists_seen set.now) (seen_type element)
+    ensures set { OnOk result (IsElementSet (lists_seen schemas.now) (seen_type element)
         (StructSource (Left (struct_levels reader.entry)) (struct_of reader.entry) (number_of schema.entry)) index
         (tree (segment arena.old) at)
         (tree (segment arena.new) at)) }
     ensures refused { OnErr result (segment arena.new ≡ segment arena.old) }
-    ensures cause { IfErr result (λ e. IsSetRefusal (given_element (lists_seen set.now) (seen_type element)
+    ensures cause { IfErr result (λ e. IsSetRefusal (given_element (lists_seen schemas.now) (seen_type element)
         (StructSource (Left (struct_levels reader.entry)) (struct_of reader.entry) (number_of schema.entry))) e.kind) }
 {
     match element.which() {
-        TypeVariant::Void => set_primitive(arena, at, set, element, index, Primitive::Void),
+        TypeVariant::Void => set_primitive(arena, at, schemas, element, index, Primitive::Void),
         TypeVariant::AnyPointer => Err(Error::from(ErrorKind::ListAnyPointerNotSupported)),
         TypeVariant::Struct(raw) => {
             if RawBrandedStructSchema::from(schema).number != raw.number {
@@ -271,7 +271,7 @@ fn set_struct(
 pub fn set(
     arena: &mut Arena,
     at: usize,
-    set: &SchemaSet,
+    schemas: &SchemaSet,
     element: Type,
     index: u32,
     source: Source<'_>,
@@ -279,20 +279,20 @@ pub fn set(
     requires forest { Forest (segment arena.old) at }
     requires room { HasElementThere (seen_type element) (tree (segment arena.old) at) index }
     ensures frame { OnOk result (LeavesPointer at arena.old arena.new) }
-    ensures set { OnOk result (IsElementSet (lists_seen set.now) (seen_type element) (source_seen source.entry) index
+    ensures set { OnOk result (IsElementSet (lists_seen schemas.now) (seen_type element) (source_seen source.entry) index
         (tree (segment arena.old) at)
         (tree (segment arena.new) at)) }
     ensures refused { OnErr result (segment arena.new ≡ segment arena.old) }
     ensures cause { IfErr result (λ e. IsSetRefusal
-        (given_element (lists_seen set.now) (seen_type element) (source_seen source.entry)) e.kind) }
+        (given_element (lists_seen schemas.now) (seen_type element) (source_seen source.entry)) e.kind) }
 {
     match source {
-        Source::Primitive(value) => set_primitive(arena, at, set, element, index, value),
+        Source::Primitive(value) => set_primitive(arena, at, schemas, element, index, value),
         Source::Struct(reader, schema) => set_struct(
-            arena, at, set, element, index, reader, schema,
+            arena, at, schemas, element, index, reader, schema,
         ),
         Source::Text(_) | Source::Data(_) | Source::List(_, _) | Source::AnyPointer(_) => {
-            set_pointed(arena, at, set, element, index, source)
+            set_pointed(arena, at, schemas, element, index, source)
         }
     }
 }
@@ -301,7 +301,7 @@ pub fn set(
 fn init_at(
     arena: &mut Arena,
     at: usize,
-    set: &SchemaSet,
+    schemas: &SchemaSet,
     variant: TypeVariant,
     index: u32,
     count: u32,
@@ -311,15 +311,15 @@ fn init_at(
     requires is_sized { is_sized (seen_variant variant) ≡ true }
     ensures frame { OnOk result (LeavesPointer at arena.old arena.new) }
     ensures written { OnOk result (tree (segment arena.new) at
-        ≡ with_pointer_element index (initn_tree (lists_seen set.now) (seen_variant variant) count)
+        ≡ with_pointer_element index (initn_tree (lists_seen schemas.now) (seen_variant variant) count)
         (tree (segment arena.old) at)) }
-    ensures within { OnOk result (InitnContent (lists_seen set.now) count (seen_variant variant)
-        (At (initn_tree (lists_seen set.now) (seen_variant variant) count))) }
+    ensures within { OnOk result (InitnContent (lists_seen schemas.now) count (seen_variant variant)
+        (At (initn_tree (lists_seen schemas.now) (seen_variant variant) count))) }
     ensures refused { OnErr result (segment arena.new ≡ segment arena.old) }
-    ensures cause { IfErr result (λ e. IsInitnRefusal (lists_seen set.now) count (seen_variant variant) e.kind) }
+    ensures cause { IfErr result (λ e. IsInitnRefusal (lists_seen schemas.now) count (seen_variant variant) e.kind) }
 {
     let pointer = arena.get_pointer_element(at, index);
-    make_sized(arena, pointer, set, variant, count)?;
+    make_sized(arena, pointer, schemas, variant, count)?;
     Ok(())
 }
 
@@ -334,7 +334,7 @@ fn init_at(
 pub fn init(
     arena: &mut Arena,
     at: usize,
-    set: &SchemaSet,
+    schemas: &SchemaSet,
     element: Type,
     index: u32,
     count: u32,
@@ -344,17 +344,17 @@ pub fn init(
     ensures frame { OnOk result (LeavesPointer at arena.old arena.new) }
     ensures written { OnOk result (tree (segment arena.new) at
         ≡ element_written (seen_type element) (tree (segment arena.old) at) index
-        (At (initn_tree (lists_seen set.now) (seen_type element) count))) }
-    ensures has { OnOk result (InitnContent (lists_seen set.now) count (seen_type element)
-        (At (initn_tree (lists_seen set.now) (seen_type element) count))) }
+        (At (initn_tree (lists_seen schemas.now) (seen_type element) count))) }
+    ensures has { OnOk result (InitnContent (lists_seen schemas.now) count (seen_type element)
+        (At (initn_tree (lists_seen schemas.now) (seen_type element) count))) }
     ensures refused { OnErr result (segment arena.new ≡ segment arena.old) }
-    ensures cause { IfErr result (λ e. IsElementInitRefusal (lists_seen set.now) count (seen_type element) e.kind) }
+    ensures cause { IfErr result (λ e. IsElementInitRefusal (lists_seen schemas.now) count (seen_type element) e.kind) }
 {
     let variant = element.which();
     match variant {
-        TypeVariant::Text => init_at(arena, at, set, variant, index, count),
-        TypeVariant::Data => init_at(arena, at, set, variant, index, count),
-        TypeVariant::List(_) => init_at(arena, at, set, variant, index, count),
+        TypeVariant::Text => init_at(arena, at, schemas, variant, index, count),
+        TypeVariant::Data => init_at(arena, at, schemas, variant, index, count),
+        TypeVariant::List(_) => init_at(arena, at, schemas, variant, index, count),
         TypeVariant::AnyPointer => Err(Error::from(ErrorKind::ListAnyPointerNotSupported)),
         _ => Err(Error::from(ErrorKind::ExpectedAListOrBlob)),
     }
@@ -369,31 +369,31 @@ pub fn init(
 /// `OutOfMemory`; then nothing has changed. Where nothing has to be extended no memory is taken.
 ///
 /// The list has to be well-formed, and the element to stand behind a pointer.
-pub fn fill(arena: &mut Arena, at: usize, set: &SchemaSet, element: Type, index: u32) -> Result<()>
+pub fn fill(arena: &mut Arena, at: usize, schemas: &SchemaSet, element: Type, index: u32) -> Result<()>
     requires forest { Forest (segment arena.old) at }
     requires behind { is_behind (seen_type element) ≡ true }
     requires pointer { HasPointer (tree (segment arena.old) at) index }
     ensures frame { OnOk result (LeavesPointer at arena.old arena.new) }
     ensures filled { OnOk result (tree (segment arena.new) at
-        ≡ with_pointer_element index (element_filled (lists_seen set.now) (seen_type element)
+        ≡ with_pointer_element index (element_filled (lists_seen schemas.now) (seen_type element)
         (element_pointer (tree (segment arena.old) at) index 1))
         (tree (segment arena.old) at)) }
-    ensures within { OnOk result (element_due (lists_seen set.now) (seen_type element)
+    ensures within { OnOk result (element_due (lists_seen schemas.now) (seen_type element)
         (element_pointer (tree (segment arena.old) at) index 1) ≡ None) }
     ensures refused { OnErr result (segment arena.new ≡ segment arena.old) }
-    ensures cause { IfErr result (λ e. IsDueRefusal e (element_due (lists_seen set.now) (seen_type element)
+    ensures cause { IfErr result (λ e. IsDueRefusal e (element_due (lists_seen schemas.now) (seen_type element)
         (element_pointer (tree (segment arena.old) at) index 1))) }
-    ensures rests { ElementRests (lists_seen set.now) (seen_type element)
+    ensures rests { ElementRests (lists_seen schemas.now) (seen_type element)
         (element_pointer (tree (segment arena.old) at) index 1) → IsOk result }
 {
-    fill_at(arena, at, set, element.which(), index)
+    fill_at(arena, at, schemas, element.which(), index)
 }
 
 /// Fills what stands behind the pointer of an element of a type.
 fn fill_at(
     arena: &mut Arena,
     at: usize,
-    set: &SchemaSet,
+    schemas: &SchemaSet,
     variant: TypeVariant,
     index: u32,
 ) -> Result<()>
@@ -402,19 +402,19 @@ fn fill_at(
     requires pointer { HasPointer (tree (segment arena.old) at) index }
     ensures frame { OnOk result (LeavesPointer at arena.old arena.new) }
     ensures filled { OnOk result (tree (segment arena.new) at
-        ≡ with_pointer_element index (element_filled (lists_seen set.now) (seen_variant variant)
+        ≡ with_pointer_element index (element_filled (lists_seen schemas.now) (seen_variant variant)
         (element_pointer (tree (segment arena.old) at) index 1))
         (tree (segment arena.old) at)) }
-    ensures within { OnOk result (element_due (lists_seen set.now) (seen_variant variant)
+    ensures within { OnOk result (element_due (lists_seen schemas.now) (seen_variant variant)
         (element_pointer (tree (segment arena.old) at) index 1) ≡ None) }
     ensures refused { OnErr result (segment arena.new ≡ segment arena.old) }
-    ensures cause { IfErr result (λ e. IsDueRefusal e (element_due (lists_seen set.now) (seen_variant variant)
+    ensures cause { IfErr result (λ e. IsDueRefusal e (element_due (lists_seen schemas.now) (seen_variant variant)
         (element_pointer (tree (segment arena.old) at) index 1))) }
-    ensures rests { ElementRests (lists_seen set.now) (seen_variant variant)
+    ensures rests { ElementRests (lists_seen schemas.now) (seen_variant variant)
         (element_pointer (tree (segment arena.old) at) index 1) → IsOk result }
 {
     let pointer = arena.get_pointer_element(at, index);
-    fill_behind(arena, pointer, set, variant)?;
+    fill_behind(arena, pointer, schemas, variant)?;
     Ok(())
 }
 
@@ -422,24 +422,24 @@ fn fill_at(
 /// schema's sections, and everything else stays.
 ///
 /// Refused where it is not read as the type, and as `extend_structs`; then nothing has changed.
-fn fill_behind(arena: &mut Arena, at: usize, set: &SchemaSet, variant: TypeVariant) -> Result<()>
+fn fill_behind(arena: &mut Arena, at: usize, schemas: &SchemaSet, variant: TypeVariant) -> Result<()>
     requires forest { Forest (segment arena.old) at }
     requires behind { is_behind (seen_variant variant) ≡ true }
     ensures frame { OnOk result (LeavesPointer at arena.old arena.new) }
     ensures filled { OnOk result (tree (segment arena.new) at
-        ≡ element_filled (lists_seen set.now) (seen_variant variant) (tree (segment arena.old) at)) }
-    ensures within { OnOk result (element_due (lists_seen set.now) (seen_variant variant) (tree (segment arena.old) at)
+        ≡ element_filled (lists_seen schemas.now) (seen_variant variant) (tree (segment arena.old) at)) }
+    ensures within { OnOk result (element_due (lists_seen schemas.now) (seen_variant variant) (tree (segment arena.old) at)
         ≡ None) }
     ensures refused { OnErr result (segment arena.new ≡ segment arena.old) }
     ensures cause { IfErr result (λ e. IsDueRefusal e
-        (element_due (lists_seen set.now) (seen_variant variant) (tree (segment arena.old) at))) }
-    ensures rests { ElementRests (lists_seen set.now) (seen_variant variant) (tree (segment arena.old) at)
+        (element_due (lists_seen schemas.now) (seen_variant variant) (tree (segment arena.old) at))) }
+    ensures rests { ElementRests (lists_seen schemas.now) (seen_variant variant) (tree (segment arena.old) at)
         → IsOk result }
 {
     match variant {
         TypeVariant::Text => check_blob(arena, at, true),
         TypeVariant::Data => check_blob(arena, at, false),
-        TypeVariant::List(element) => fill_list(arena, at, set, element),
+        TypeVariant::List(element) => fill_list(arena, at, schemas, element),
         TypeVariant::AnyPointer => Ok(()),
         _ => unreachable!(),
     }
@@ -454,22 +454,22 @@ fn fill_behind(arena: &mut Arena, at: usize, set: &SchemaSet, variant: TypeVaria
 /// changed. Where no struct has to be extended no memory is taken.
 ///
 /// What the pointer leads to has to be well-formed.
-pub fn fill_list(arena: &mut Arena, at: usize, set: &SchemaSet, element: Type) -> Result<()>
+pub fn fill_list(arena: &mut Arena, at: usize, schemas: &SchemaSet, element: Type) -> Result<()>
     requires forest { Forest (segment arena.old) at }
     ensures frame { OnOk result (LeavesPointer at arena.old arena.new) }
     ensures filled { OnOk result (tree (segment arena.new) at
-        ≡ entered_list (lists_seen set.now) (seen_type element) (tree (segment arena.old) at)) }
-    ensures within { OnOk result (fill_due (lists_seen set.now) VoidValue (ListType (seen_type element))
+        ≡ entered_list (lists_seen schemas.now) (seen_type element) (tree (segment arena.old) at)) }
+    ensures within { OnOk result (fill_due (lists_seen schemas.now) VoidValue (ListType (seen_type element))
         (tree (segment arena.old) at) ≡ None) }
     ensures refused { OnErr result (segment arena.new ≡ segment arena.old) }
     ensures cause { IfErr result (λ e. IsDueRefusal e
-        (fill_due (lists_seen set.now) VoidValue (ListType (seen_type element)) (tree (segment arena.old) at))) }
-    ensures rests { IsAtRest (lists_seen set.now) VoidValue (ListType (seen_type element))
+        (fill_due (lists_seen schemas.now) VoidValue (ListType (seen_type element)) (tree (segment arena.old) at))) }
+    ensures rests { IsAtRest (lists_seen schemas.now) VoidValue (ListType (seen_type element))
         (tree (segment arena.old) at) → IsOk result }
 {
     match element.which() {
         TypeVariant::Struct(raw) => {
-            let size = size_of(set.struct_schema(raw.number));
+            let size = size_of(schemas.struct_schema(raw.number));
             extend_structs(arena, at, size)
         }
         _ => check_list(arena, at, element.expected_element_size()),

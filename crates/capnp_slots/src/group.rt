@@ -106,8 +106,8 @@ pub(crate) fn field_count(schema: StructSchema<'_>) -> u32
     fields.len() as u32
 }
 
-/// Clears a group of a struct: its member of discriminant value 0, and then its non-union fields by index. A group in it
-/// is gone into where it stands, through at most so many groups, and left by its own field.
+/// Clears a group of a struct: its member of discriminant value 0, and then its non-union fields by index. A group in
+/// it is gone into where it stands, through at most so many groups, and left by its own field.
 pub(crate) fn clear_group(
     arena: &mut Arena,
     place: StructPlace,
@@ -180,11 +180,11 @@ pub fn clear(arena: &mut Arena, place: StructPlace, field: Field<'_>)
     let Some(group) = group_of(field) else {
         unreachable!()
     };
-    let set = field.get_containing_struct().get_set();
-    numbers_fit(set);
+    let schemas = field.get_containing_struct().get_set();
+    numbers_fit(schemas);
     group_is_cleared();
     slot::switch(arena, place, field);
-    clear_group(arena, place, group, set.brands().len());
+    clear_group(arena, place, group, schemas.brands().len());
 }
 
 /// Initializes a group, as `clear` does. The field has to be a group, and the struct to have the sections of the
@@ -216,12 +216,12 @@ fn copy(
         (built_at arena.new place) }
     ensures kept { Keeps (names_of field.entry) (built_at arena.old place) (built_at arena.new place) }
 {
-    let set = field.get_containing_struct().get_set();
-    numbers_fit(set);
+    let schemas = field.get_containing_struct().get_set();
+    numbers_fit(schemas);
     group_is_copied();
     heights_fall();
     slot::switch(arena, place, field);
-    copy_group(arena, place, group, source, set.brands().len() + 1)
+    copy_group(arena, place, group, source, schemas.brands().len() + 1)
 }
 
 /// Sets a group to a struct of its schema: it is cleared, as by `clear`, and then the source's fields are copied: first

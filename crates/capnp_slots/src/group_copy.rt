@@ -32,7 +32,7 @@ fn active_member<'s>(schema: StructSchema<'s>, source: &StructReader<'_>) -> Opt
 fn has(field: Field<'_>, source: &StructReader<'_>) -> bool
     ensures { result ≡ has_field field.entry source.now }
 {
-    // What every set is known to meet is known of it here.
+    // The prover learns the set's invariant from this call.
     let _variant = field.get_type().which();
     presence::is_there(source, field.plan().place)
 }

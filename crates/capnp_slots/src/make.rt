@@ -120,22 +120,22 @@ fn make_structs(arena: &mut Arena, at: usize, size: StructSize, count: u32) -> R
 fn make_elements(
     arena: &mut Arena,
     at: usize,
-    set: &SchemaSet,
+    schemas: &SchemaSet,
     element: Type,
     count: u32,
 ) -> Result<()>
     requires there { at < word_count (segment arena.old) }
     ensures frame { OnOk result (LeavesPointer at arena.old arena.new) }
-    ensures ok { OnOk result (tree (segment arena.new) at ≡ new_list (lists_seen set.now) (seen_type element) count) }
-    ensures within { OnOk result (elements_past (lists_seen set.now) (seen_type element) count ≡ false) }
-    ensures formed { OnOk result (IsWellFormed (new_list (lists_seen set.now) (seen_type element) count)) }
+    ensures ok { OnOk result (tree (segment arena.new) at ≡ new_list (lists_seen schemas.now) (seen_type element) count) }
+    ensures within { OnOk result (elements_past (lists_seen schemas.now) (seen_type element) count ≡ false) }
+    ensures formed { OnOk result (IsWellFormed (new_list (lists_seen schemas.now) (seen_type element) count)) }
     ensures refused { OnErr result (segment arena.new ≡ segment arena.old) }
     ensures cause { IfErr result (λ e. IsRoomless
-        (elements_past (lists_seen set.now) (seen_type element) count) e.kind) }
+        (elements_past (lists_seen schemas.now) (seen_type element) count) e.kind) }
 {
     match element.which() {
         TypeVariant::Struct(raw) => {
-            let size = size_of(set.struct_schema(raw.number));
+            let size = size_of(schemas.struct_schema(raw.number));
             make_structs(arena, at, size, count)
         }
         _ => make_list(arena, at, element.expected_element_size(), count),
@@ -158,7 +158,7 @@ pub(crate) fn is_sized(variant: TypeVariant) -> bool
 pub(crate) fn make_sized(
     arena: &mut Arena,
     at: usize,
-    set: &SchemaSet,
+    schemas: &SchemaSet,
     variant: TypeVariant,
     count: u32,
 ) -> Result<()>
@@ -166,17 +166,17 @@ pub(crate) fn make_sized(
     requires kind { is_sized (seen_variant variant) ≡ true }
     ensures frame { OnOk result (LeavesPointer at arena.old arena.new) }
     ensures ok { OnOk result (tree (segment arena.new) at
-        ≡ initn_tree (lists_seen set.now) (seen_variant variant) count) }
-    ensures within { OnOk result (InitnContent (lists_seen set.now) count (seen_variant variant)
-        (At (initn_tree (lists_seen set.now) (seen_variant variant) count))) }
-    ensures formed { OnOk result (IsWellFormed (initn_tree (lists_seen set.now) (seen_variant variant) count)) }
+        ≡ initn_tree (lists_seen schemas.now) (seen_variant variant) count) }
+    ensures within { OnOk result (InitnContent (lists_seen schemas.now) count (seen_variant variant)
+        (At (initn_tree (lists_seen schemas.now) (seen_variant variant) count))) }
+    ensures formed { OnOk result (IsWellFormed (initn_tree (lists_seen schemas.now) (seen_variant variant) count)) }
     ensures refused { OnErr result (segment arena.new ≡ segment arena.old) }
-    ensures cause { IfErr result (λ e. IsInitnRefusal (lists_seen set.now) count (seen_variant variant) e.kind) }
+    ensures cause { IfErr result (λ e. IsInitnRefusal (lists_seen schemas.now) count (seen_variant variant) e.kind) }
 {
     match variant {
         TypeVariant::Text => make_text(arena, at, count),
         TypeVariant::Data => make_list(arena, at, ElementSize::Byte, count),
-        TypeVariant::List(element) => make_elements(arena, at, set, element, count),
+        TypeVariant::List(element) => make_elements(arena, at, schemas, element, count),
         _ => unreachable!(),
     }
 }

@@ -46,20 +46,20 @@ fn fill_elements(
     arena: &mut Arena,
     place: StructPlace,
     index: u16,
-    set: &SchemaSet,
+    schemas: &SchemaSet,
     element: Type,
     default: Option<PointerReader<'_>>,
 ) -> Result<()>
     requires planted { IsBuilt arena.old place }
     requires inside { IsThere (built_at arena.old place) index }
     ensures frame { OnOk result (LeavesStruct place arena.old arena.new) }
-    ensures written { IsListFilled (lists_seen set.now) (seen_type element) (reader_tree default.entry)
+    ensures written { IsListFilled (lists_seen schemas.now) (seen_type element) (reader_tree default.entry)
         (built_at arena.old place) index result (built_at arena.new place) }
     ensures refused { OnErr result (segment arena.new ≡ segment arena.old) }
 {
     match element.which() {
         TypeVariant::Struct(raw) => {
-            let size = size_of(set.struct_schema(raw.number));
+            let size = size_of(schemas.struct_schema(raw.number));
             fill_structs(arena, place, index, size, default)
         }
         _ => fill_list(
@@ -83,14 +83,14 @@ fn fill_null(arena: &mut Arena, place: StructPlace, field: Field<'_>, index: u16
     ensures written { IsSlotFilled field.entry (built_at arena.old place) index result (built_at arena.new place) }
     ensures refused { OnErr result (segment arena.new ≡ segment arena.old) }
 {
-    let set = field.get_containing_struct().get_set();
+    let schemas = field.get_containing_struct().get_set();
     let default = default_pointer(field);
     match field.get_type().which() {
         TypeVariant::Struct(raw) => {
-            let size = size_of(set.struct_schema(raw.number));
+            let size = size_of(schemas.struct_schema(raw.number));
             fill_struct(arena, place, index, size, default)
         }
-        TypeVariant::List(element) => fill_elements(arena, place, index, set, element, default),
+        TypeVariant::List(element) => fill_elements(arena, place, index, schemas, element, default),
         TypeVariant::Text => fill_blob(arena, place, index, field, true),
         TypeVariant::Data => fill_blob(arena, place, index, field, false),
         TypeVariant::AnyPointer => Ok(()),
@@ -111,13 +111,13 @@ fn fill_standing(arena: &mut Arena, place: StructPlace, field: Field<'_>, index:
     ensures written { IsSlotFilled field.entry (built_at arena.old place) index result (built_at arena.new place) }
     ensures refused { OnErr result (segment arena.new ≡ segment arena.old) }
 {
-    let set = field.get_containing_struct().get_set();
+    let schemas = field.get_containing_struct().get_set();
     match field.get_type().which() {
         TypeVariant::Struct(raw) => {
-            let size = size_of(set.struct_schema(raw.number));
+            let size = size_of(schemas.struct_schema(raw.number));
             extend_struct(arena, place, index, size)
         }
-        TypeVariant::List(element) => fill_elements(arena, place, index, set, element, None),
+        TypeVariant::List(element) => fill_elements(arena, place, index, schemas, element, None),
         TypeVariant::Text => check_blob(arena, pointer_at(arena, place, index), true),
         TypeVariant::Data => check_blob(arena, pointer_at(arena, place, index), false),
         TypeVariant::AnyPointer => Ok(()),
@@ -302,8 +302,8 @@ fn fill_list_at(
     if arena.is_null(pointer_at(arena, place, index)) {
         return fill_null(arena, place, field, index);
     }
-    let set = field.get_containing_struct().get_set();
-    fill_elements(arena, place, index, set, element, None)
+    let schemas = field.get_containing_struct().get_set();
+    fill_elements(arena, place, index, schemas, element, None)
 }
 
 /// Fills what stands behind the pointer of a slot of a list's type, as `fill`: for a caller that has the type of the

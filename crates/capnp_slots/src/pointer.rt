@@ -96,7 +96,7 @@ pub(crate) fn make_sized_at(
     arena: &mut Arena,
     place: StructPlace,
     index: u16,
-    set: &SchemaSet,
+    schemas: &SchemaSet,
     variant: TypeVariant,
     count: u32,
 ) -> Result<()>
@@ -106,15 +106,15 @@ pub(crate) fn make_sized_at(
     ensures frame { OnOk result (LeavesStruct place arena.old arena.new) }
     ensures ok { OnOk result (built_at arena.new place
         ≡ with_pointer_tree (built_at arena.old place) index
-        (initn_tree (lists_seen set.now) (seen_variant variant) count)) }
-    ensures within { OnOk result (InitnContent (lists_seen set.now) count (seen_variant variant)
-        (At (initn_tree (lists_seen set.now) (seen_variant variant) count))) }
-    ensures formed { OnOk result (IsWellFormed (initn_tree (lists_seen set.now) (seen_variant variant) count)) }
+        (initn_tree (lists_seen schemas.now) (seen_variant variant) count)) }
+    ensures within { OnOk result (InitnContent (lists_seen schemas.now) count (seen_variant variant)
+        (At (initn_tree (lists_seen schemas.now) (seen_variant variant) count))) }
+    ensures formed { OnOk result (IsWellFormed (initn_tree (lists_seen schemas.now) (seen_variant variant) count)) }
     ensures refused { OnErr result (segment arena.new ≡ segment arena.old) }
-    ensures cause { IfErr result (λ e. IsInitnRefusal (lists_seen set.now) count (seen_variant variant) e.kind) }
+    ensures cause { IfErr result (λ e. IsInitnRefusal (lists_seen schemas.now) count (seen_variant variant) e.kind) }
 {
     let at = pointer_at(arena, place, index);
-    make_sized(arena, at, set, variant, count)?;
+    make_sized(arena, at, schemas, variant, count)?;
     Ok(())
 }
 

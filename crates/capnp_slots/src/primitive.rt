@@ -51,8 +51,8 @@ pub(crate) fn number_fits(value: Primitive)
 /// value.
 #[inline(always)]
 pub(crate) fn number_at_once(variant: TypeVariant, value: Primitive) -> Option<u64>
-    ensures { (set : Schemas) → GivesAtOnce (seen_variant variant)
-        (given_slot set (seen_variant variant) (primitive_source value)) result }
+    ensures { (schemas : Schemas) → GivesAtOnce (seen_variant variant)
+        (given_slot schemas (seen_variant variant) (primitive_source value)) result }
 {
     match variant {
         TypeVariant::Void => Some(0),
@@ -122,8 +122,8 @@ pub(crate) fn refusal_at(variant: TypeVariant) -> Error
 /// Refused with `CannotSetAnyPointerFieldToAPrimitiveValue` for an untyped pointer, and with `TypeMismatch` where the
 /// type is another one than the value's. A void slot takes every value.
 pub(crate) fn number_given(variant: TypeVariant, value: Primitive) -> Result<u64>
-    ensures { (set : Schemas) → GivesNumber (seen_variant variant)
-        (given_slot set (seen_variant variant) (primitive_source value)) result }
+    ensures { (schemas : Schemas) → GivesNumber (seen_variant variant)
+        (given_slot schemas (seen_variant variant) (primitive_source value)) result }
 {
     match number_at_once(variant, value) {
         Some(number) => Ok(number),

@@ -32,7 +32,7 @@ pub trait SetterInput<R> {
         canonicalize: bool,
     ) -> Result<()>
         requires inside { builder.at < word_count (segment builder.arena.now) }
-        requires plain { canonicalize ≡ false }
+        requires as_it_stands { canonicalize ≡ false }
         ensures frame { OnOk result (LeavesPointer builder.entry.at builder.entry.arena.now builder.exit.0.now) }
         ensures tree { OnOk result (tree (segment builder.exit.0.now) builder.entry.at ≡ set_tree input) }
         ensures formed { OnOk result (IsWellFormed (set_tree input)) }

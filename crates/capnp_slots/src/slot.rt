@@ -225,8 +225,8 @@ pub fn init(arena: &mut Arena, place: StructPlace, field: Field<'_>) -> Result<(
 {
     match field.get_type().which() {
         TypeVariant::Struct(raw) => {
-            let set = field.get_containing_struct().get_set();
-            init_struct(arena, place, field, size_of(set.struct_schema(raw.number)))
+            let schemas = field.get_containing_struct().get_set();
+            init_struct(arena, place, field, size_of(schemas.struct_schema(raw.number)))
         }
         TypeVariant::AnyPointer => {
             clear(arena, place, field);
@@ -286,8 +286,8 @@ pub fn initn(arena: &mut Arena, place: StructPlace, field: Field<'_>, count: u32
         return Err(Error::from(ErrorKind::InitnIsOnlyValidForListTextOrDataFields));
     }
     let (index, member) = pointer_slot(field);
-    let set = field.get_containing_struct().get_set();
-    make_sized_at(arena, place, index, set, variant, count)?;
+    let schemas = field.get_containing_struct().get_set();
+    make_sized_at(arena, place, index, schemas, variant, count)?;
     switch_member(arena, place, member);
     Ok(())
 }

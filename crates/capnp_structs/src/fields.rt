@@ -35,21 +35,21 @@ fn put_width(out: &mut String, name: &str, bits: u8) -> Result<()>
 }
 
 /// Appends the name of an enum.
-fn put_enum(out: &mut String, set: &SchemaSet, number: u32) -> Result<()>
+fn put_enum(out: &mut String, schemas: &SchemaSet, number: u32) -> Result<()>
     ensures put { OnOk result (string_bytes out.new
-        ≡ string_bytes out.old ++ (enum_at (lists_seen set.now) number).display_name) }
+        ≡ string_bytes out.old ++ (enum_at (lists_seen schemas.now) number).display_name) }
     ensures memory { IfErr result (λ e. e.kind ≡ OutOfMemory) }
 {
-    Ok(out.push_str(set.enum_schema(number).get_proto().display_name.as_str())?)
+    Ok(out.push_str(schemas.enum_schema(number).get_proto().display_name.as_str())?)
 }
 
 /// Appends the name of a brand's struct.
-fn put_struct(out: &mut String, set: &SchemaSet, number: u32) -> Result<()>
+fn put_struct(out: &mut String, schemas: &SchemaSet, number: u32) -> Result<()>
     ensures put { OnOk result (string_bytes out.new
-        ≡ string_bytes out.old ++ (node_of (lists_seen set.now) number).display_name) }
+        ≡ string_bytes out.old ++ (node_of (lists_seen schemas.now) number).display_name) }
     ensures memory { IfErr result (λ e. e.kind ≡ OutOfMemory) }
 {
-    Ok(out.push_str(set.struct_schema(number).get_proto().display_name.as_str())?)
+    Ok(out.push_str(schemas.struct_schema(number).get_proto().display_name.as_str())?)
 }
 
 /// Appends a piece for each list around a type.
@@ -67,9 +67,9 @@ fn put_lists(out: &mut String, of: Type, piece: &str) -> Result<()>
 }
 
 /// Appends what stands inside all lists around a type.
-fn put_innermost(out: &mut String, set: &SchemaSet, of: Type) -> Result<()>
+fn put_innermost(out: &mut String, schemas: &SchemaSet, of: Type) -> Result<()>
     ensures put { OnOk result (string_bytes out.new
-        ≡ string_bytes out.old ++ type_text (lists_seen set.now) (seen_base (base_of of))) }
+        ≡ string_bytes out.old ++ type_text (lists_seen schemas.now) (seen_base (base_of of))) }
     ensures memory { IfErr result (λ e. e.kind ≡ OutOfMemory) }
 {
     match of.innermost() {
@@ -86,20 +86,20 @@ fn put_innermost(out: &mut String, set: &SchemaSet, of: Type) -> Result<()>
         TypeVariant::Text => Ok(out.push_str("Text")?),
         TypeVariant::Data => Ok(out.push_str("Data")?),
         TypeVariant::AnyPointer => Ok(out.push_str("AnyPointer")?),
-        TypeVariant::Enum(raw) => put_enum(out, set, raw.number),
-        TypeVariant::Struct(raw) => put_struct(out, set, raw.number),
+        TypeVariant::Enum(raw) => put_enum(out, schemas, raw.number),
+        TypeVariant::Struct(raw) => put_struct(out, schemas, raw.number),
         TypeVariant::List(_) => unreachable!(),
     }
 }
 
 /// Appends a type.
-fn put_type(out: &mut String, set: &SchemaSet, of: Type) -> Result<()>
+fn put_type(out: &mut String, schemas: &SchemaSet, of: Type) -> Result<()>
     ensures put { OnOk result (string_bytes out.new
-        ≡ string_bytes out.old ++ type_text (lists_seen set.now) (seen_type of)) }
+        ≡ string_bytes out.old ++ type_text (lists_seen schemas.now) (seen_type of)) }
     ensures memory { IfErr result (λ e. e.kind ≡ OutOfMemory) }
 {
     put_lists(out, of, "List(")?;
-    put_innermost(out, set, of)?;
+    put_innermost(out, schemas, of)?;
     put_lists(out, of, ")")
 }
 
@@ -131,7 +131,7 @@ fn put_end(out: &mut String, member: Option<(u32, u16)>) -> Result<()>
 }
 
 /// Appends a default as its value is printed.
-fn put_value(out: &mut String, value: Value<'_>) -> Result<()>
+fn put_default_value(out: &mut String, value: Value<'_>) -> Result<()>
     ensures put { OnOk result (IsAppended (string_bytes out.old) (default_said (printed_text false value.entry))
         (string_bytes out.new)) }
     ensures refused { IfErr result (λ e. e.kind ≢ OutOfMemory → printed_text false value.entry ≡ Err e.kind) }
@@ -160,18 +160,18 @@ fn put_default(out: &mut String, default: &ValueRecord) -> Result<()>
 {
     match default {
         ValueRecord::Void => Ok(()),
-        ValueRecord::Bool(x) => put_value(out, Value::Bool(*x)),
-        ValueRecord::Int8(x) => put_value(out, Value::Int8(*x)),
-        ValueRecord::Int16(x) => put_value(out, Value::Int16(*x)),
-        ValueRecord::Int32(x) => put_value(out, Value::Int32(*x)),
-        ValueRecord::Int64(x) => put_value(out, Value::Int64(*x)),
-        ValueRecord::UInt8(x) => put_value(out, Value::UInt8(*x)),
-        ValueRecord::UInt16(x) => put_value(out, Value::UInt16(*x)),
-        ValueRecord::UInt32(x) => put_value(out, Value::UInt32(*x)),
-        ValueRecord::UInt64(x) => put_value(out, Value::UInt64(*x)),
+        ValueRecord::Bool(x) => put_default_value(out, Value::Bool(*x)),
+        ValueRecord::Int8(x) => put_default_value(out, Value::Int8(*x)),
+        ValueRecord::Int16(x) => put_default_value(out, Value::Int16(*x)),
+        ValueRecord::Int32(x) => put_default_value(out, Value::Int32(*x)),
+        ValueRecord::Int64(x) => put_default_value(out, Value::Int64(*x)),
+        ValueRecord::UInt8(x) => put_default_value(out, Value::UInt8(*x)),
+        ValueRecord::UInt16(x) => put_default_value(out, Value::UInt16(*x)),
+        ValueRecord::UInt32(x) => put_default_value(out, Value::UInt32(*x)),
+        ValueRecord::UInt64(x) => put_default_value(out, Value::UInt64(*x)),
         ValueRecord::Enum(number) => Ok(write!(out, ", default {number}")?),
-        ValueRecord::Text(bytes) => put_value(out, Value::Text(text::Reader(bytes))),
-        ValueRecord::Data(bytes) => put_value(out, Value::Data(bytes)),
+        ValueRecord::Text(bytes) => put_default_value(out, Value::Text(text::Reader(bytes))),
+        ValueRecord::Data(bytes) => put_default_value(out, Value::Data(bytes)),
         ValueRecord::Struct(words) => put_words(out, words),
         ValueRecord::List(words) => put_words(out, words),
         ValueRecord::AnyPointer(words) => put_words(out, words),

@@ -34,13 +34,13 @@ fn find_named_type(schema: StructSchema<'_>, name: &str) -> Option<Type>
 }
 
 /// The type of what a step names at a type of the set. None where it fits nothing there.
-fn find_type_behind(set: &SchemaSet, kind: TypeVariant, step: &PathStep) -> Option<Type>
-    ensures { option_map seen_type result ≡ type_behind (lists_seen set.now) (seen_variant kind) (step_text_seen step.now) }
+fn find_type_behind(schemas: &SchemaSet, kind: TypeVariant, step: &PathStep) -> Option<Type>
+    ensures { option_map seen_type result ≡ type_behind (lists_seen schemas.now) (seen_variant kind) (step_text_seen step.now) }
 {
     match kind {
         TypeVariant::Struct(raw) => match step {
-            PathStep::Named(name) => find_named_type(set.struct_schema(raw.number), name.as_str()),
-            PathStep::Field(index) => find_field_type(set.struct_schema(raw.number), *index),
+            PathStep::Named(name) => find_named_type(schemas.struct_schema(raw.number), name.as_str()),
+            PathStep::Field(index) => find_field_type(schemas.struct_schema(raw.number), *index),
             PathStep::Element(_) => None,
         },
         TypeVariant::List(element) => match step {

@@ -248,11 +248,11 @@ fn read_enum<'s>(schema: EnumSchema<'s>, word: &[u8]) -> Read<PlainValue<'s>>
 
 /// The value under a type that takes no memory; one under another type has none.
 #[tactic(auto, using(crate::proofs::OfSet::of_no_set))]
-fn read_small<'s>(set: &'s SchemaSet, kind: TypeVariant, word: &[u8]) -> Read<PlainValue<'s>>
+fn read_small<'s>(schemas: &'s SchemaSet, kind: TypeVariant, word: &[u8]) -> Read<PlainValue<'s>>
     requires { IsSmall (seen_variant kind) }
-    ensures read { read_as word_value_seen result ≡ value_by_word (lists_seen set.now) (seen_variant kind) word.now }
+    ensures read { read_as word_value_seen result ≡ value_by_word (lists_seen schemas.now) (seen_variant kind) word.now }
     ensures typed { IfOk result (λ v. word_value_type v ≡ seen_variant kind) }
-    ensures set { IfOk result (IsOfSet (lists_seen set.now)) }
+    ensures set { IfOk result (IsOfSet (lists_seen schemas.now)) }
 {
     match kind {
         TypeVariant::Void => read_void(word),
@@ -265,7 +265,7 @@ fn read_small<'s>(set: &'s SchemaSet, kind: TypeVariant, word: &[u8]) -> Read<Pl
         TypeVariant::UInt16 => read_uint16(word),
         TypeVariant::UInt32 => read_uint32(word),
         TypeVariant::UInt64 => read_uint64(word),
-        TypeVariant::Enum(raw) => read_enum(set.enum_schema(raw.number), word),
+        TypeVariant::Enum(raw) => read_enum(schemas.enum_schema(raw.number), word),
         _ => Err(0),
     }
 }
@@ -286,13 +286,13 @@ fn read_small<'s>(set: &'s SchemaSet, kind: TypeVariant, word: &[u8]) -> Read<Pl
 #[tactic(auto, using(capnp_schema::specs::Facts::Layers::seen_which))]
 pub fn parse_value<'s>(
     alloc: Global,
-    set: &'s SchemaSet,
+    schemas: &'s SchemaSet,
     target: Type,
     word: &[u8],
 ) -> Result<Read<PlainValue<'s>>>
-    ensures read { IfOk result (λ r. read_as word_value_seen r ≡ value_by_word (lists_seen set.now) (seen_type target) word.now) }
+    ensures read { IfOk result (λ r. read_as word_value_seen r ≡ value_by_word (lists_seen schemas.now) (seen_type target) word.now) }
     ensures typed { IfOk result (λ r. IfOk r (λ v. word_value_type v ≡ seen_type target)) }
-    ensures set { IfOk result (λ r. IfOk r (IsOfSet (lists_seen set.now))) }
+    ensures set { IfOk result (λ r. IfOk r (IsOfSet (lists_seen schemas.now))) }
     ensures memory { IfErr result (λ e. e.kind ≡ OutOfMemory) }
 {
     match target.which() {
@@ -304,6 +304,6 @@ pub fn parse_value<'s>(
             Ok(bytes) => Ok(Ok(PlainValue::Data(bytes))),
             Err(place) => Ok(Err(place)),
         },
-        kind => Ok(read_small(set, kind, word)),
+        kind => Ok(read_small(schemas, kind, word)),
     }
 }

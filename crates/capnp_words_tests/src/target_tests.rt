@@ -11,10 +11,10 @@ use std::test::Fail;
 type Row = (u32, &'static str, &'static str);
 
 fn types_are(rt: &impl Abort, alloc: Global, rows: &[Row]) -> Result<(), Fail> {
-    let set = builtin::new_set(alloc)?;
+    let schemas = builtin::new_set(alloc)?;
     for (brand, word, expected) in rows {
         if let Ok(path) = parse_path(alloc, word)? {
-            let target = target_type(set.struct_schema(*brand), &path);
+            let target = target_type(schemas.struct_schema(*brand), &path);
             let kind = target.map(|found| found.which());
             let told = format!(in alloc; "{kind:?}")?;
             assert_eq!(rt; told.as_str(), *expected, "of {word:?}");

@@ -19,17 +19,17 @@ fn printed(alloc: Global, value: &PlainValue<'_>) -> Result<String, Fail> {
 }
 
 /// What a word is read as.
-fn told(alloc: Global, set: &SchemaSet, kind: TypeVariant, word: &str) -> Result<String, Fail> {
-    match parse_value(alloc, set, Type::from(kind), word.as_bytes())? {
+fn tell_value(alloc: Global, schemas: &SchemaSet, kind: TypeVariant, word: &str) -> Result<String, Fail> {
+    match parse_value(alloc, schemas, Type::from(kind), word.as_bytes())? {
         Ok(value) => printed(alloc, &value),
         Err(place) => Ok(format!(in alloc; "at {place}")?),
     }
 }
 
 fn values_are(rt: &impl Abort, alloc: Global, kind: TypeVariant, rows: &[Row]) -> Result<(), Fail> {
-    let set = builtin::new_set(alloc)?;
+    let schemas = builtin::new_set(alloc)?;
     for (word, expected) in rows {
-        let answer = told(alloc, &set, kind, word)?;
+        let answer = tell_value(alloc, &schemas, kind, word)?;
         assert_eq!(rt; answer.as_str(), *expected, "of {word:?}");
     }
     Ok(())

@@ -41,7 +41,7 @@ static MEMBER_ROWS: [(&str, &str, &str); 1] = [(
 )];
 
 #[test]
-fn a_member_comes_before_plain_fields(rt: HostRuntime) {
+fn a_member_comes_before_non_union_fields(rt: HostRuntime) {
     rows_hold(&rt, rt.alloc(), &MEMBER_ROWS);
 }
 

@@ -3,7 +3,7 @@
 use capnp_schema::set::SchemaSet;
 use capnp_schema_fixtures::kinds::{KINDS, KINDS_SET};
 use capnp_schema_fixtures::messages::message_named;
-use capnp_schema_fixtures::set_text::read_set;
+use capnp_schema_fixtures::set_text::read_set_text;
 use capnp_schema_fixtures::words::named;
 use capnp_wire::error::Result;
 use std::alloc::Global;
@@ -163,7 +163,7 @@ pub(crate) fn brand_of(name: &str) -> u32 {
 
 /// The set that has a struct.
 pub(crate) fn set_of(alloc: Global, name: &str) -> Result<SchemaSet> {
-    read_set(alloc, entry_of(name).0)
+    read_set_text(alloc, entry_of(name).0)
 }
 
 /// The message of a name.

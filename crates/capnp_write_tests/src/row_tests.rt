@@ -181,8 +181,8 @@ fn numbers_become_structs_of_a_word(rt: HostRuntime) -> std::result::Result<(), 
 /// group.
 #[tactic(auto, using(capnp_dynamic_readers::specs::Facts::Found::found_belongs))]
 fn set_and_read(alloc: Global, name: &str, field: &str, value: Value<'_>) -> Result<String> {
-    let set = set_of(alloc, name)?;
-    let schema = set.struct_schema(brand_of(name));
+    let schemas = set_of(alloc, name)?;
+    let schema = schemas.struct_schema(brand_of(name));
     let field = schema.get_field_by_name(field)?;
     if !is_slot(field) {
         return Err(Error::from(ErrorKind::FieldNotFound));

@@ -149,7 +149,7 @@ impl fmt::Display for Answer {
 /// given.
 #[derive(Clone, Copy)]
 struct Start<'a> {
-    set: &'a SchemaSet,
+    schemas: &'a SchemaSet,
     brand: u32,
     bytes: &'a [u8],
     given: &'a str,
@@ -181,12 +181,12 @@ fn kind_of(name: &str) -> Kind {
 /// The root of a message under the struct of a brand.
 pub(crate) fn root_of<'a>(
     alloc: Global,
-    set: &'a SchemaSet,
+    schemas: &'a SchemaSet,
     brand: u32,
     bytes: &'a [u8],
 ) -> Result<dynamic_struct::Reader<'a>> {
     let reader = message::Reader::new(alloc, bytes)?.get_root().get_struct()?;
-    Ok(dynamic_struct::Reader::new(reader, set.struct_schema(brand)))
+    Ok(dynamic_struct::Reader::new(reader, schemas.struct_schema(brand)))
 }
 
 /// The message of a name, for as long as its name.
@@ -205,12 +205,12 @@ fn part_of<'a>(root: dynamic_struct::Reader<'a>, field: &str) -> Result<Value<'a
 /// What a message's root, or a field of it, reads as: a struct, a message, and the field's name.
 pub(crate) fn read_value<'a>(
     alloc: Global,
-    set: &'a SchemaSet,
+    schemas: &'a SchemaSet,
     text: &'a str,
 ) -> Result<Value<'a>> {
     let (name, rest) = words_of(text);
     let (message, field) = words_of(rest);
-    let root = root_of(alloc, set, brand_of(name), bytes_named(message))?;
+    let root = root_of(alloc, schemas, brand_of(name), bytes_named(message))?;
     part_of(root, field)
 }
 
@@ -235,8 +235,8 @@ fn unsigned_of<'a>(kind: Kind, digits: &str) -> Value<'a> {
 }
 
 /// The enum of the set's first type with the number that a text says.
-fn enum_of<'a>(set: &'a SchemaSet, digits: &str) -> Value<'a> {
-    Value::Enum(Enum::new(digits.parse::<u16>().unwrap_or(0), set.enum_schema(0)))
+fn enum_of<'a>(schemas: &'a SchemaSet, digits: &str) -> Value<'a> {
+    Value::Enum(Enum::new(digits.parse::<u16>().unwrap_or(0), schemas.enum_schema(0)))
 }
 
 /// A null, untyped.
@@ -245,7 +245,7 @@ fn untyped_null<'a>() -> Value<'a> {
 }
 
 /// The value that a text says.
-fn value_of<'a>(alloc: Global, set: &'a SchemaSet, text: &'a str) -> Result<Value<'a>> {
+fn value_of<'a>(alloc: Global, schemas: &'a SchemaSet, text: &'a str) -> Result<Value<'a>> {
     let (name, rest) = text.split_once(['(', ' ']).unwrap_or((text, ""));
     let rest = rest.strip_suffix(')').unwrap_or(rest);
     let kind = kind_of(name);
@@ -255,10 +255,10 @@ fn value_of<'a>(alloc: Global, set: &'a SchemaSet, text: &'a str) -> Result<Valu
         Kind::Bool => Ok(Value::Bool(rest == "true")),
         Kind::Int8 | Kind::Int16 | Kind::Int32 | Kind::Int64 => Ok(signed_of(kind, rest)),
         Kind::UInt8 | Kind::UInt16 | Kind::UInt32 | Kind::UInt64 => Ok(unsigned_of(kind, rest)),
-        Kind::Enum => Ok(enum_of(set, rest)),
+        Kind::Enum => Ok(enum_of(schemas, rest)),
         Kind::Text => Ok(Value::from(rest)),
         Kind::Data => Ok(Value::Data(rest.as_bytes())),
-        Kind::Read => read_value(alloc, set, rest),
+        Kind::Read => read_value(alloc, schemas, rest),
     }
 }
 
@@ -271,7 +271,7 @@ fn call_of<'a>(alloc: Global, start: Start<'a>, text: &'a str) -> Result<Call<'a
         word: word_of(word),
         path,
         rest,
-        value: value_of(alloc, start.set, value)?,
+        value: value_of(alloc, start.schemas, value)?,
     })
 }
 
@@ -396,7 +396,7 @@ fn after(
     let mut message = full(alloc, source)?;
     let made = match dynamic_struct::Builder::open(
         message.root(),
-        start.set.struct_schema(start.brand),
+        start.schemas.struct_schema(start.brand),
     ) {
         Ok(root) => make(alloc, root, call),
         Err(error) => Err(error),
@@ -409,7 +409,7 @@ fn after(
 }
 
 /// Where the answer is a refusal: whether the message is what it was.
-fn told(answer: Answer, is_same: bool) -> Answer {
+fn tell_answer(answer: Answer, is_same: bool) -> Answer {
     match answer {
         Answer::Refused(number) => {
             if is_same {
@@ -432,7 +432,7 @@ fn answer_call(
     let call = call_of(alloc, start, text)?;
     match call.word {
         Word::Print => {
-            let root = root_of(alloc, start.set, start.brand, &bytes)?;
+            let root = root_of(alloc, start.schemas, start.brand, &bytes)?;
             let answer = text_of(alloc, Value::Struct(root))?;
             Ok((answer, bytes))
         }
@@ -442,7 +442,7 @@ fn answer_call(
         }
         _ => {
             let (answer, next) = after(alloc, start, &bytes, call)?;
-            Ok((told(answer, bytes.as_slice() == next.as_slice()), next))
+            Ok((tell_answer(answer, bytes.as_slice() == next.as_slice()), next))
         }
     }
 }
@@ -464,9 +464,9 @@ fn answer_calls(alloc: Global, start: Start<'_>, calls: &str, out: &mut String) 
 pub(crate) fn answers_of(alloc: Global, built: &str, calls: &str) -> Result<String> {
     let (built, given) = built.split_once(" given ").unwrap_or((built, ""));
     let (name, message) = built.split_once(" from ").unwrap_or((built, ""));
-    let set = set_of(alloc, name)?;
+    let schemas = set_of(alloc, name)?;
     let start = Start {
-        set: &set,
+        schemas: &schemas,
         brand: brand_of(name),
         bytes: message_of(message),
         given,

@@ -74,8 +74,8 @@ fn root_set(alloc: Global, value: Value<'_>) -> Result<(u32, Vec<u8>)> {
 /// The same of a value that a text names.
 fn root_set_to(alloc: Global, text: &str) -> Result<(u32, Vec<u8>)> {
     let (name, _) = text.split_once(' ').unwrap_or((text, ""));
-    let set = set_of(alloc, name)?;
-    root_set(alloc, read_value(alloc, &set, text)?)
+    let schemas = set_of(alloc, name)?;
+    root_set(alloc, read_value(alloc, &schemas, text)?)
 }
 
 /// Values, and the refusal where there is one.
@@ -159,10 +159,10 @@ fn number_read(value: Value<'_>) -> Option<u16> {
 
 #[test]
 fn a_struct_is_taken_by_its_type(rt: HostRuntime) -> std::result::Result<(), Fail> {
-    let set = set_of(rt.alloc(), "flat")?;
-    let flat = read_value(rt.alloc(), &set, "flat five")?;
+    let schemas = set_of(rt.alloc(), "flat")?;
+    let flat = read_value(rt.alloc(), &schemas, "flat five")?;
     assert_eq!(rt; number_read(flat), Some(5));
-    let mixed = read_value(rt.alloc(), &set, "mixed mixed_hi")?;
+    let mixed = read_value(rt.alloc(), &schemas, "mixed mixed_hi")?;
     assert_eq!(rt; number_read(mixed), None);
     Ok(())
 }
@@ -170,8 +170,8 @@ fn a_struct_is_taken_by_its_type(rt: HostRuntime) -> std::result::Result<(), Fai
 /// The type of a list's elements, as it is read, by the text that names the list.
 fn element_type_read(alloc: Global, text: &str) -> Result<Type> {
     let (name, _) = text.split_once(' ').unwrap_or((text, ""));
-    let set = set_of(alloc, name)?;
-    match read_value(alloc, &set, text)? {
+    let schemas = set_of(alloc, name)?;
+    match read_value(alloc, &schemas, text)? {
         Value::List(list) => Ok(list.element_type()),
         _ => Err(Error::from(ErrorKind::TypeMismatch)),
     }
@@ -179,9 +179,9 @@ fn element_type_read(alloc: Global, text: &str) -> Result<Type> {
 
 /// The same of the list of a field of a new struct.
 fn element_type_built(alloc: Global, name: &str, field: &str) -> Result<Type> {
-    let set = set_of(alloc, name)?;
+    let schemas = set_of(alloc, name)?;
     let mut message = Builder::new(alloc)?;
-    let root = dynamic_struct::Builder::open(message.root(), set.struct_schema(brand_of(name)))?;
+    let root = dynamic_struct::Builder::open(message.root(), schemas.struct_schema(brand_of(name)))?;
     Ok(list_in(root, field)?.element_type())
 }
 

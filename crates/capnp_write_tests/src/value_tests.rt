@@ -48,8 +48,8 @@ fn set_and_read(
     sets: &[(u32, u16)],
     out: &mut String,
 ) -> Result<()> {
-    let set = set_of(alloc, "numbered")?;
-    let schema = set.struct_schema(brand_of("numbered"));
+    let schemas = set_of(alloc, "numbered")?;
+    let schema = schemas.struct_schema(brand_of("numbered"));
     let mut message = Builder::new(alloc)?;
     let root = dynamic_struct::Builder::open(message.root(), schema)?;
     let mut list = new_list(root, field, size)?;
@@ -97,8 +97,8 @@ fn write_over(root: dynamic_struct::Builder<'_>, field: &str) -> Result<()>
 
 /// The text of a struct whose `name` was `abc`, once a field's text was written over.
 fn written_over(alloc: Global, field: &str, out: &mut String) -> Result<()> {
-    let set = set_of(alloc, "numbered")?;
-    let schema = set.struct_schema(brand_of("numbered"));
+    let schemas = set_of(alloc, "numbered")?;
+    let schema = schemas.struct_schema(brand_of("numbered"));
     let mut message = Builder::new(alloc)?;
     let mut root = dynamic_struct::Builder::open(message.root(), schema)?;
     root.set_named("name", Value::from("abc"))?;
@@ -106,7 +106,7 @@ fn written_over(alloc: Global, field: &str, out: &mut String) -> Result<()> {
         write!(out, "{} ", error.kind.number())?;
     }
     let bytes = written(alloc, &message)?;
-    let root = root_of(alloc, &set, brand_of("numbered"), &bytes)?;
+    let root = root_of(alloc, &schemas, brand_of("numbered"), &bytes)?;
     print(Value::Struct(root), out, false)
 }
 

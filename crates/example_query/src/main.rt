@@ -31,8 +31,8 @@ fn describe_all(alloc: Global, schema: StructSchema<'_>) -> Result<String> {
 
 /// The lines of `Mixed`: two numbers, a text, and a union.
 fn mixed(alloc: Global) -> Result<String> {
-    let set = builtin::new_set(alloc)?;
-    describe_all(alloc, set.struct_schema(builtin::MIXED))
+    let schemas = builtin::new_set(alloc)?;
+    describe_all(alloc, schemas.struct_schema(builtin::MIXED))
 }
 
 fn main(rt: HostRuntime) -> Result<()> {

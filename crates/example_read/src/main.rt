@@ -29,11 +29,11 @@ fn get_number(reader: dynamic_struct::Reader<'_>, name: &str) -> Result<u16>
 
 /// The field `n` of the message's root.
 fn read(alloc: Global, bytes: &[u8]) -> Result<u16> {
-    let set = builtin::new_set(alloc)?;
+    let schemas = builtin::new_set(alloc)?;
     let message = Reader::new(alloc, bytes)?;
     let root = message.get_root().get_struct()?;
     get_number(
-        dynamic_struct::Reader::new(root, set.struct_schema(builtin::MANY)),
+        dynamic_struct::Reader::new(root, schemas.struct_schema(builtin::MANY)),
         "n",
     )
 }

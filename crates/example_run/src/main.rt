@@ -49,10 +49,10 @@ fn on_field<'c>(name: &'c str, op: Op<'c>) -> Call<'c> {
 }
 
 /// The struct of a name. Refused with `NameNotFound` where the set has none.
-fn struct_named<'s>(set: &'s SchemaSet, name: &str) -> Result<StructSchema<'s>>
-    ensures { IfOk result (λ s. IsStruct s × (set_of s ≡ lists_seen set.now)) }
+fn struct_named<'s>(schemas: &'s SchemaSet, name: &str) -> Result<StructSchema<'s>>
+    ensures { IfOk result (λ s. IsStruct s × (set_of s ≡ lists_seen schemas.now)) }
 {
-    match set.find_struct(name) {
+    match schemas.find_struct(name) {
         Some(schema) => Ok(schema),
         None => Err(Error::from(ErrorKind::NameNotFound)),
     }
@@ -94,9 +94,9 @@ fn patch(
 }
 
 /// What a program that knows the older schema reads of a message of the newer one.
-fn read_as_older(alloc: Global, set: &SchemaSet, message: &[u8], out: &mut String) -> Result<()> {
-    let older = struct_named(set, "OldAccount")?;
-    let newer = struct_named(set, "Account")?;
+fn read_as_older(alloc: Global, schemas: &SchemaSet, message: &[u8], out: &mut String) -> Result<()> {
+    let older = struct_named(schemas, "OldAccount")?;
+    let newer = struct_named(schemas, "Account")?;
     let Some(pair) = Compatible::check(alloc, older, newer)? else {
         return Err(Error::type_mismatch());
     };
@@ -107,14 +107,14 @@ fn read_as_older(alloc: Global, set: &SchemaSet, message: &[u8], out: &mut Strin
 
 /// The three texts, each on a line.
 fn run(alloc: Global) -> Result<String> {
-    let set = schemas(alloc)?;
-    let account = struct_named(&set, "Account")?;
+    let schemas = schemas(alloc)?;
+    let account = struct_named(&schemas, "Account")?;
     let mut out = String::new(alloc);
     let built = build(alloc, account, &mut out)?;
     out.push('\n')?;
     let patched = patch(alloc, account, &built, &mut out)?;
     out.push('\n')?;
-    read_as_older(alloc, &set, &patched, &mut out)?;
+    read_as_older(alloc, &schemas, &patched, &mut out)?;
     out.push('\n')?;
     Ok(out)
 }

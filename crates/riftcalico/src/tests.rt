@@ -115,7 +115,7 @@ pub(crate) fn answered(
 }
 
 /// What comes of a setting.
-fn seen(alloc: Global, on: &Setting<'_>) -> Result<String, Fail> {
+fn see_run(alloc: Global, on: &Setting<'_>) -> Result<String, Fail> {
     let words = words_of(alloc, on.words)?;
     let mut opener = TwoFiles {
         set: on.set,
@@ -145,7 +145,7 @@ pub(crate) fn comes_to(
     on: &Setting<'_>,
     wanted: &str,
 ) -> Result<(), Fail> {
-    let seen = seen(alloc, on)?;
+    let seen = see_run(alloc, on)?;
     assert_eq!(rt; seen.as_str(), wanted, "{}", on.words);
     Ok(())
 }
@@ -157,7 +157,7 @@ pub(crate) fn tells(
     on: &Setting<'_>,
     wanted: &str,
 ) -> Result<(), Fail> {
-    let seen = seen(alloc, on)?;
+    let seen = see_run(alloc, on)?;
     assert!(rt; seen.as_str().starts_with(wanted), "{seen}");
     Ok(())
 }

@@ -60,7 +60,7 @@ pub fn read_calls(alloc: Global, words: &[String]) -> Result<Read<Vec<CallWord>>
 }
 
 /// The value of a call that sets, or the place in its word where that can't be read.
-fn read_set<'s>(
+fn read_value_to_set<'s>(
     alloc: Global,
     schema: StructSchema<'s>,
     path: &Path,
@@ -98,7 +98,7 @@ fn read_value<'s>(
     ensures memory { IfErr result (λ e. e.kind ≡ OutOfMemory) }
 {
     match &call.op {
-        WordOp::Set(value, place) => read_set(alloc, schema, &call.path, value, *place),
+        WordOp::Set(value, place) => read_value_to_set(alloc, schema, &call.path, value, *place),
         WordOp::Get
         | WordOp::Has
         | WordOp::Which

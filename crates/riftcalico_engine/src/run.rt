@@ -22,7 +22,7 @@ ghost use Rattle.riftcalico_engine.specs.Steps.Words.{AreMadeOf};
 
 use crate::calls::{ReadCall, make_calls, read_all_calls, read_calls, steps_of};
 use crate::request::{Asked, CallWords, CallsRequest, GetRequest, NamedRoot};
-use crate::sets::{find_schema, read_set};
+use crate::sets::{find_schema, read_schemas};
 use crate::structs::{show_fields, show_structs};
 use crate::words::{put_unreadable, read_lines, unreadable_line};
 use capnp_call::calls::Step;
@@ -57,12 +57,12 @@ fn get_at<O: Opener, R: Source, W: Sink>(
     sink: &mut W,
     indented: bool,
 ) -> Result<()>
-    ensures got { OnOk result (IsNamed O.opens O.File.left opener.old opener.new (root_named root.entry) (λ set b.
-        IsGot set b (path_seen path.now) indented (R.left source.old) (R.left source.new) (W.written sink.old)
+    ensures got { OnOk result (IsNamed O.opens O.File.left opener.old opener.new (root_named root.entry) (λ schemas b.
+        IsGot schemas b (path_seen path.now) indented (R.left source.old) (R.left source.new) (W.written sink.old)
         (W.written sink.new))) }
     ensures refused { IfErr result (λ e. IsOfMessage e.kind
-        → IsRootOr O.opens O.File.left opener.old opener.new (root_named root.entry) e (source.new ≡ source.old) (λ set b.
-        IsNotGot set b (path_seen path.now) indented e.kind (R.left source.old) (R.left source.new))) }
+        → IsRootOr O.opens O.File.left opener.old opener.new (root_named root.entry) e (source.new ≡ source.old) (λ schemas b.
+        IsNotGot schemas b (path_seen path.now) indented e.kind (R.left source.old) (R.left source.new))) }
     ensures read_failed { IfErr result (λ e. e.kind ≡ ReadFailed
         → HasSetReadFailed O.opens O.File.failures opener.old opener.new (root_named root.entry).file
         (source.new ≡ source.old)
@@ -70,14 +70,14 @@ fn get_at<O: Opener, R: Source, W: Sink>(
     ensures write_failed { IfErr result (λ e. e.kind ≡ WriteFailed
         → HasFailed (W.failures sink.old) (W.failures sink.new)) }
     ensures beginning { IfErr result (λ e. e.kind ≡ WriteFailed
-        → IsNamed O.opens O.File.left opener.old opener.new (root_named root.entry) (λ set b.
-        IsGetCutShort set b (path_seen path.now) indented (R.left source.old) (R.left source.new) (W.written sink.old)
+        → IsNamed O.opens O.File.left opener.old opener.new (root_named root.entry) (λ schemas b.
+        IsGetCutShort schemas b (path_seen path.now) indented (R.left source.old) (R.left source.new) (W.written sink.old)
         (W.written sink.new))) }
     ensures opened { AsksAmong O.opens (file_paths (root_named root.entry).file) opener.old opener.new }
     ensures nothing { IfErr result (λ e. e.kind ≢ WriteFailed → sink.new ≡ sink.old) }
 {
-    let set = read_set(alloc, opener, root.file)?;
-    let schema = find_schema(&set, root.name)?;
+    let schemas = read_schemas(alloc, opener, root.file)?;
+    let schema = find_schema(&schemas, root.name)?;
     get(alloc, schema, path, source, sink, indented)
 }
 
@@ -97,16 +97,16 @@ fn run_get<O: Opener, R: Source, W: Sink>(
         (get_task_of request.entry)) }
     ensures refused { IfErr result (λ e. IsOfMessage e.kind → IsPath request.entry.path.now (λ path.
         IsRootOr O.opens O.File.left opener.old opener.new (root_named request.entry.root) e (source.new ≡ source.old)
-        (λ set b.
-        IsNotGot set b path request.entry.indented e.kind (R.left source.old) (R.left source.new)))) }
+        (λ schemas b.
+        IsNotGot schemas b path request.entry.indented e.kind (R.left source.old) (R.left source.new)))) }
     ensures read_failed { IfErr result (λ e. e.kind ≡ ReadFailed
         → HasSetReadFailed O.opens O.File.failures opener.old opener.new (root_named request.entry.root).file
         (source.new ≡ source.old) (R.failures source.old) (R.failures source.new)) }
     ensures write_failed { IfErr result (λ e. e.kind ≡ WriteFailed
         → HasFailed (W.failures sink.old) (W.failures sink.new)) }
     ensures beginning { IfErr result (λ e. e.kind ≡ WriteFailed → IsPath request.entry.path.now (λ path.
-        IsNamed O.opens O.File.left opener.old opener.new (root_named request.entry.root) (λ set b.
-        IsGetCutShort set b path request.entry.indented (R.left source.old) (R.left source.new) (W.written sink.old)
+        IsNamed O.opens O.File.left opener.old opener.new (root_named request.entry.root) (λ schemas b.
+        IsGetCutShort schemas b path request.entry.indented (R.left source.old) (R.left source.new) (W.written sink.old)
         (W.written sink.new)))) }
     ensures opened { AsksAmong O.opens (file_paths (root_named request.entry.root).file) opener.old opener.new }
     ensures nothing { IfErr result (λ e. e.kind ≢ WriteFailed → sink.new ≡ sink.old) }
@@ -276,14 +276,14 @@ fn patch_root<O: Opener, R: Source, W: Sink>(
     sink: &mut W,
 ) -> Result<Outcome>
     requires { length texts.now ≡ length words.now }
-    ensures outcome { IfOk result (λ o. IsNamed O.opens O.File.left opener.old opener.new (root_named root.entry) (λ set b.
-        IsUnderOutcome set b (map call_text_seen texts.now) (map string_bytes words.now) keep_going
+    ensures outcome { IfOk result (λ o. IsNamed O.opens O.File.left opener.old opener.new (root_named root.entry) (λ schemas b.
+        IsUnderOutcome schemas b (map call_text_seen texts.now) (map string_bytes words.now) keep_going
         (source.new ≡ source.old) (sink.new ≡ sink.old)
         (λ schema calls replies. IsPatched schema calls keep_going replies (R.left source.old) (R.left source.new)
         (W.written sink.old) (W.written sink.new)) o)) }
     ensures refused { IfErr result (λ e. IsOfMessage e.kind
-        → IsRootOr O.opens O.File.left opener.old opener.new (root_named root.entry) e (source.new ≡ source.old) (λ set b.
-        AreCalls set b (map call_text_seen texts.now)
+        → IsRootOr O.opens O.File.left opener.old opener.new (root_named root.entry) e (source.new ≡ source.old) (λ schemas b.
+        AreCalls schemas b (map call_text_seen texts.now)
         (λ schema calls. IsNotPatched e.kind (R.left source.old) (R.left source.new)))) }
     ensures read_failed { IfErr result (λ e. e.kind ≡ ReadFailed
         → HasSetReadFailed O.opens O.File.failures opener.old opener.new (root_named root.entry).file
@@ -292,15 +292,15 @@ fn patch_root<O: Opener, R: Source, W: Sink>(
     ensures write_failed { IfErr result (λ e. e.kind ≡ WriteFailed
         → HasFailed (W.failures sink.old) (W.failures sink.new)) }
     ensures beginning { IfErr result (λ e. e.kind ≡ WriteFailed
-        → IsNamed O.opens O.File.left opener.old opener.new (root_named root.entry) (λ set b.
-        AreCalls set b (map call_text_seen texts.now)
+        → IsNamed O.opens O.File.left opener.old opener.new (root_named root.entry) (λ schemas b.
+        AreCalls schemas b (map call_text_seen texts.now)
         (λ schema calls. IsPatchCutShort schema calls keep_going (R.left source.old) (R.left source.new)
         (W.written sink.old) (W.written sink.new)))) }
     ensures opened { AsksAmong O.opens (file_paths (root_named root.entry).file) opener.old opener.new }
     ensures nothing { IfErr result (λ e. e.kind ≢ WriteFailed → sink.new ≡ sink.old) }
 {
-    let set = read_set(alloc, opener, root.file)?;
-    let schema = find_schema(&set, root.name)?;
+    let schemas = read_schemas(alloc, opener, root.file)?;
+    let schema = find_schema(&schemas, root.name)?;
     patch_calls(alloc, schema, texts, words, keep_going, source, sink)
 }
 
@@ -321,7 +321,7 @@ fn patch_words<O: Opener, R: Source, W: Sink>(
         (W.written sink.old) (W.written sink.new))) }
     ensures refused { IfErr result (λ e. IsOfMessage e.kind → AreSaid (map string_bytes words.now) (λ texts.
         IsRootOr O.opens O.File.left opener.old opener.new (root_named root.entry) e (source.new ≡ source.old)
-        (λ set b. AreCalls set b texts (λ schema calls.
+        (λ schemas b. AreCalls schemas b texts (λ schema calls.
         IsNotPatched e.kind (R.left source.old) (R.left source.new))))) }
     ensures read_failed { IfErr result (λ e. e.kind ≡ ReadFailed
         → HasSetReadFailed O.opens O.File.failures opener.old opener.new (root_named root.entry).file
@@ -354,24 +354,24 @@ fn new_root<O: Opener, W: Sink>(
     sink: &mut W,
 ) -> Result<Outcome>
     requires { length texts.now ≡ length words.now }
-    ensures outcome { IfOk result (λ o. IsNamed O.opens O.File.left opener.old opener.new (root_named root.entry) (λ set b.
-        IsUnderOutcome set b (map call_text_seen texts.now) (map string_bytes words.now) keep_going ⊤ (sink.new ≡ sink.old)
+    ensures outcome { IfOk result (λ o. IsNamed O.opens O.File.left opener.old opener.new (root_named root.entry) (λ schemas b.
+        IsUnderOutcome schemas b (map call_text_seen texts.now) (map string_bytes words.now) keep_going ⊤ (sink.new ≡ sink.old)
         (λ schema calls replies. IsMade schema calls keep_going replies (W.written sink.old) (W.written sink.new)) o)) }
     ensures refused { IfErr result (λ e. IsOfMessage e.kind
-        → IsRootOr O.opens O.File.left opener.old opener.new (root_named root.entry) e ⊤ (λ set b. ⊥)) }
+        → IsRootOr O.opens O.File.left opener.old opener.new (root_named root.entry) e ⊤ (λ schemas b. ⊥)) }
     ensures read_failed { IfErr result (λ e. e.kind ≡ ReadFailed
         → HasSetFailed O.opens O.File.failures opener.old opener.new (root_named root.entry).file) }
     ensures write_failed { IfErr result (λ e. e.kind ≡ WriteFailed
         → HasFailed (W.failures sink.old) (W.failures sink.new)) }
     ensures beginning { IfErr result (λ e. e.kind ≡ WriteFailed
-        → IsNamed O.opens O.File.left opener.old opener.new (root_named root.entry) (λ set b.
-        AreCalls set b (map call_text_seen texts.now)
+        → IsNamed O.opens O.File.left opener.old opener.new (root_named root.entry) (λ schemas b.
+        AreCalls schemas b (map call_text_seen texts.now)
         (λ schema calls. IsCutShort keep_going (IsLeftOfNew schema calls) (W.written sink.old) (W.written sink.new)))) }
     ensures opened { AsksAmong O.opens (file_paths (root_named root.entry).file) opener.old opener.new }
     ensures nothing { IfErr result (λ e. e.kind ≢ WriteFailed → sink.new ≡ sink.old) }
 {
-    let set = read_set(alloc, opener, root.file)?;
-    let schema = find_schema(&set, root.name)?;
+    let schemas = read_schemas(alloc, opener, root.file)?;
+    let schema = find_schema(&schemas, root.name)?;
     new_calls(alloc, schema, texts, words, keep_going, sink)
 }
 
@@ -389,7 +389,7 @@ fn new_words<O: Opener, W: Sink>(
         (map string_bytes words.now) keep_going ⊤ (sink.new ≡ sink.old)
         (λ schema calls replies. IsMade schema calls keep_going replies (W.written sink.old) (W.written sink.new))) }
     ensures refused { IfErr result (λ e. IsOfMessage e.kind → AreSaid (map string_bytes words.now) (λ texts.
-        IsRootOr O.opens O.File.left opener.old opener.new (root_named root.entry) e ⊤ (λ set b. ⊥))) }
+        IsRootOr O.opens O.File.left opener.old opener.new (root_named root.entry) e ⊤ (λ schemas b. ⊥))) }
     ensures read_failed { IfErr result (λ e. e.kind ≡ ReadFailed
         → HasSetFailed O.opens O.File.failures opener.old opener.new (root_named root.entry).file) }
     ensures write_failed { IfErr result (λ e. e.kind ≡ WriteFailed

@@ -21,8 +21,8 @@ use std::alloc::Global;
 
 /// The set that a file holds as a message.
 fn read_file<O: Opener>(alloc: Global, opener: &mut O, path: &str) -> Result<SchemaSet>
-    ensures set { IfOk result (λ set. IsOpenedSet O.opens O.File.left opener.old opener.new (Some path.now)
-        (lists_seen set)) }
+    ensures set { IfOk result (λ schemas. IsOpenedSet O.opens O.File.left opener.old opener.new (Some path.now)
+        (lists_seen schemas)) }
     ensures refused { IfErr result (λ e. IsOfMessage e.kind
         → IsNoSet O.opens O.File.left opener.old opener.new (Some path.now) e) }
     ensures read_failed { IfErr result (λ e. e.kind ≡ ReadFailed
@@ -42,9 +42,9 @@ fn read_file<O: Opener>(alloc: Global, opener: &mut O, path: &str) -> Result<Sch
 /// Refused with `ReadFailed` where the file can't be opened or a read of it failed, with `OutOfMemory`, and as
 /// `capnp_sets::message::read_message` refuses the set. No other file is opened.
 #[tactic(auto, using(capnp_show_engine::specs::Facts::Opening::none_asked))]
-pub fn read_set<O: Opener>(alloc: Global, opener: &mut O, file: Option<&str>) -> Result<SchemaSet>
-    ensures set { IfOk result (λ set. IsOpenedSet O.opens O.File.left opener.old opener.new
-        (option_map (λ f. f.now) file.entry) (lists_seen set)) }
+pub fn read_schemas<O: Opener>(alloc: Global, opener: &mut O, file: Option<&str>) -> Result<SchemaSet>
+    ensures set { IfOk result (λ schemas. IsOpenedSet O.opens O.File.left opener.old opener.new
+        (option_map (λ f. f.now) file.entry) (lists_seen schemas)) }
     ensures refused { IfErr result (λ e. IsOfMessage e.kind
         → IsNoSet O.opens O.File.left opener.old opener.new (option_map (λ f. f.now) file.entry) e) }
     ensures read_failed { IfErr result (λ e. e.kind ≡ ReadFailed
@@ -59,12 +59,12 @@ pub fn read_set<O: Opener>(alloc: Global, opener: &mut O, file: Option<&str>) ->
 }
 
 /// The struct of a display name. Refused with `NameNotFound` where the set has none.
-pub fn find_schema<'s>(set: &'s SchemaSet, name: &str) -> Result<StructSchema<'s>>
-    ensures found { IfOk result (λ s. IsStruct s × (set_of s ≡ lists_seen set.now)
-        × (brand_asked (lists_seen set.now) name.now ≡ Some (number_of s))) }
-    ensures missing { IfErr result (λ e. (e.kind ≡ NameNotFound) × (brand_asked (lists_seen set.now) name.now ≡ None)) }
+pub fn find_schema<'s>(schemas: &'s SchemaSet, name: &str) -> Result<StructSchema<'s>>
+    ensures found { IfOk result (λ s. IsStruct s × (set_of s ≡ lists_seen schemas.now)
+        × (brand_asked (lists_seen schemas.now) name.now ≡ Some (number_of s))) }
+    ensures missing { IfErr result (λ e. (e.kind ≡ NameNotFound) × (brand_asked (lists_seen schemas.now) name.now ≡ None)) }
 {
-    match set.find_struct(name) {
+    match schemas.find_struct(name) {
         Some(schema) => Ok(schema),
         None => Err(Error::from(ErrorKind::NameNotFound)),
     }

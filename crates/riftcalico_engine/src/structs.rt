@@ -13,7 +13,7 @@ ghost use Rattle.riftcalico_engine.specs.RequestSeen.{root_named};
 ghost use Rattle.riftcalico_engine.specs.Roots.{HasSetFailed, IsNamed, IsNoSet, IsRootOr};
 
 use crate::request::NamedRoot;
-use crate::sets::{find_schema, read_set};
+use crate::sets::{find_schema, read_schemas};
 use capnp_show_engine::opener::Opener;
 use capnp_structs::fields::get_fields;
 use capnp_structs::names::get_structs;
@@ -24,8 +24,8 @@ use std::alloc::Global;
 
 /// Writes the names of the structs of a set, one a line: of the set that a file holds, or else of the built-in one.
 ///
-/// Refused as `crate::sets::read_set`, and with `WriteFailed` where a call of the sink failed: a proper beginning of
-/// the text was written then, and nothing after any other refusal.
+/// Refused as `crate::sets::read_schemas`, and with `WriteFailed` where a call of the sink failed: a proper beginning
+/// of the text was written then, and nothing after any other refusal.
 pub fn show_structs<O: Opener, W: Sink>(
     alloc: Global,
     opener: &mut O,
@@ -33,8 +33,8 @@ pub fn show_structs<O: Opener, W: Sink>(
     sink: &mut W,
 ) -> Result<()>
     ensures shown { OnOk result (IsOfSet O.opens O.File.left opener.old opener.new (option_map (λ f. f.now) file.entry)
-        (λ set.
-        IsListWritten (said_text (structs_text set)) (W.written sink.old) (W.written sink.new))) }
+        (λ schemas.
+        IsListWritten (said_text (structs_text schemas)) (W.written sink.old) (W.written sink.new))) }
     ensures refused { IfErr result (λ e. IsOfMessage e.kind
         → IsNoSet O.opens O.File.left opener.old opener.new (option_map (λ f. f.now) file.entry) e) }
     ensures read_failed { IfErr result (λ e. e.kind ≡ ReadFailed
@@ -42,13 +42,13 @@ pub fn show_structs<O: Opener, W: Sink>(
     ensures write_failed { IfErr result (λ e. e.kind ≡ WriteFailed
         → HasFailed (W.failures sink.old) (W.failures sink.new)) }
     ensures beginning { IfErr result (λ e. e.kind ≡ WriteFailed
-        → IsOfSet O.opens O.File.left opener.old opener.new (option_map (λ f. f.now) file.entry) (λ set.
-        IsBegun (said_text (structs_text set)) (W.written sink.old) (W.written sink.new))) }
+        → IsOfSet O.opens O.File.left opener.old opener.new (option_map (λ f. f.now) file.entry) (λ schemas.
+        IsBegun (said_text (structs_text schemas)) (W.written sink.old) (W.written sink.new))) }
     ensures opened { AsksAmong O.opens (file_paths (option_map (λ f. f.now) file.entry)) opener.old opener.new }
     ensures nothing { IfErr result (λ e. e.kind ≢ WriteFailed → sink.new ≡ sink.old) }
 {
-    let set = read_set(alloc, opener, file)?;
-    let text = get_structs(alloc, &set)?;
+    let schemas = read_schemas(alloc, opener, file)?;
+    let text = get_structs(alloc, &schemas)?;
     write_all(sink, text.as_bytes())
 }
 
@@ -61,22 +61,22 @@ pub fn show_fields<O: Opener, W: Sink>(
     root: NamedRoot<'_>,
     sink: &mut W,
 ) -> Result<()>
-    ensures shown { OnOk result (IsNamed O.opens O.File.left opener.old opener.new (root_named root.entry) (λ set b.
-        IsListWritten (fields_text set b) (W.written sink.old) (W.written sink.new))) }
+    ensures shown { OnOk result (IsNamed O.opens O.File.left opener.old opener.new (root_named root.entry) (λ schemas b.
+        IsListWritten (fields_text schemas b) (W.written sink.old) (W.written sink.new))) }
     ensures refused { IfErr result (λ e. IsOfMessage e.kind
-        → IsRootOr O.opens O.File.left opener.old opener.new (root_named root.entry) e ⊤ (λ set b. ⊥)) }
+        → IsRootOr O.opens O.File.left opener.old opener.new (root_named root.entry) e ⊤ (λ schemas b. ⊥)) }
     ensures read_failed { IfErr result (λ e. e.kind ≡ ReadFailed
         → HasSetFailed O.opens O.File.failures opener.old opener.new (root_named root.entry).file) }
     ensures write_failed { IfErr result (λ e. e.kind ≡ WriteFailed
         → HasFailed (W.failures sink.old) (W.failures sink.new)) }
     ensures beginning { IfErr result (λ e. e.kind ≡ WriteFailed
-        → IsNamed O.opens O.File.left opener.old opener.new (root_named root.entry) (λ set b.
-        IsBegun (fields_text set b) (W.written sink.old) (W.written sink.new))) }
+        → IsNamed O.opens O.File.left opener.old opener.new (root_named root.entry) (λ schemas b.
+        IsBegun (fields_text schemas b) (W.written sink.old) (W.written sink.new))) }
     ensures opened { AsksAmong O.opens (file_paths (root_named root.entry).file) opener.old opener.new }
     ensures nothing { IfErr result (λ e. e.kind ≢ WriteFailed → sink.new ≡ sink.old) }
 {
-    let set = read_set(alloc, opener, root.file)?;
-    let schema = find_schema(&set, root.name)?;
+    let schemas = read_schemas(alloc, opener, root.file)?;
+    let schema = find_schema(&schemas, root.name)?;
     let text = get_fields(alloc, schema)?;
     write_all(sink, text.as_bytes())
 }

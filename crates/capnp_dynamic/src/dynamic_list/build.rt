@@ -49,7 +49,7 @@ pub struct Builder<'a> {
     /// The word of the pointer that leads to the list.
     pub at: usize,
     pub element_type: Type,
-    pub set: &'a SchemaSet,
+    pub schemas: &'a SchemaSet,
 }
 
 impl<'a> Builder<'a> {
@@ -57,19 +57,19 @@ impl<'a> Builder<'a> {
     pub(crate) fn new(
         builder: PointerBuilder<'a>,
         element_type: Type,
-        set: &'a SchemaSet,
+        schemas: &'a SchemaSet,
     ) -> Builder<'a>
         ensures behind { list_behind result ≡ builder.entry.arena }
         ensures at { word_of result ≡ builder.entry.at }
         ensures element { built_type result ≡ element_type }
-        ensures set { built_set result ≡ lists_seen set.now }
+        ensures set { built_set result ≡ lists_seen schemas.now }
     {
         let PointerBuilder { arena, at } = builder;
         Builder {
             arena,
             at,
             element_type,
-            set,
+            schemas,
         }
     }
 
@@ -83,13 +83,13 @@ impl<'a> Builder<'a> {
     {
         let at = self.at;
         let element_type = self.element_type;
-        let set = self.set;
+        let schemas = self.schemas;
         let arena = &mut *self.arena;
         Builder {
             arena,
             at,
             element_type,
-            set,
+            schemas,
         }
     }
 
@@ -109,10 +109,10 @@ impl<'a> Builder<'a> {
             arena,
             at,
             element_type,
-            set,
+            schemas,
         } = self;
         let reader = read_list(&*arena, at, element_type.expected_element_size());
-        Reader::new(reader, element_type, set)
+        Reader::new(reader, element_type, schemas)
     }
 
     /// How many elements there are, below 2^29. The list has to be ready (`IsListReady`).
@@ -170,12 +170,12 @@ impl<'a> Builder<'a> {
         ensures ready { IsListReady self.new }
     {
         let element_type = self.element_type;
-        let set = self.set;
+        let schemas = self.schemas;
         self.arena.tree_is_sound(self.at);
         element::set(
             self.arena,
             self.at,
-            set,
+            schemas,
             element_type,
             index,
             Source::from(value),
@@ -205,12 +205,12 @@ impl<'a> Builder<'a> {
             arena,
             at,
             element_type,
-            set,
+            schemas,
         } = self;
         let variant = element_type.which();
         arena.tree_is_sound(at);
-        element::init(arena, at, set, element_type, index, size)?;
+        element::init(arena, at, schemas, element_type, index, size)?;
         let at = arena.get_pointer_element(at, index);
-        Ok(hand_out(PointerBuilder { arena, at }, set, variant, true))
+        Ok(hand_out(PointerBuilder { arena, at }, schemas, variant, true))
     }
 }

@@ -185,7 +185,7 @@ impl<'a> Builder<'a> {
         ensures { result ≡ Ok (has_of (built_record self.now)
             (struct_field (built_schema self.now) (index_of field.entry)).field (index_of field.entry)) }
     {
-        // What every set is known to meet is known of it here.
+        // The prover learns the set's invariant from this call.
         let _schema = field.get_containing_struct();
         let _variant = field.get_type().which();
         self.reborrow_as_reader().has(field)

@@ -30,7 +30,7 @@ has_fields (f ∷ fs) = true
 abbrev pub IsSlotField : Field → Type 0
 IsSlotField f = kind_target (typed_of f).field.kind (typed_of f).type ≡ None
 
--- whether a field has an item: a plain field where it is there, and the active member where it is shown
+-- whether a field has an item: a non-union field where it is there, and the active member where it is shown
 abbrev pub item_by : (is_member is_active is_shown is_there : Bool) → Bool
 item_by true active is_shown there = active && is_shown
 item_by false active is_shown there = there

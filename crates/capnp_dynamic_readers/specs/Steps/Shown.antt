@@ -90,7 +90,7 @@ abbrev pub IsPending : StructHandle → Option Field → Type 0
 IsPending r None = ⊤
 IsPending r (Some f) = IsFieldOf (schema_of r) (index_of f) f × (which_of (record_seen r) ≡ Some (index_of f))
 
--- the items of a plain field with the member before it, and of a member none: it has its place among the plain fields
+-- the items of a non-union field with the member before it, and of a member none: it has its place among the non-union fields
 abbrev pub unless_member : (is_member : Bool) → List Out → List Out
 unless_member true items = []
 unless_member false items = items

@@ -28,7 +28,7 @@ pub(crate) fn read_slot<'a>(
     ensures read { IfOk result (IsPart reader.entry field.entry) }
     ensures refused { IfErr result (λ e. IsPartRefused reader.entry field.entry e.kind) }
 {
-    // What every set is known to meet is known of it here.
+    // The prover learns the set's invariant from this call.
     let _schema = field.get_containing_struct();
     reader.get(field)
 }
@@ -50,7 +50,7 @@ pub(crate) fn has_item<'a>(reader: dynamic_struct::Reader<'a>, field: Field<'a>)
 /// Whether a non-union field is there.
 fn is_field_there<'a>(reader: dynamic_struct::Reader<'a>, field: Field<'a>) -> bool
     requires field { IsFieldOf (schema_of reader) (index_of field) field }
-    requires plain { is_member (field_in reader field).field ≡ false }
+    requires non_union { is_member (field_in reader field).field ≡ false }
     ensures { result ≡ is_there (part_seen reader.entry (field_in reader.entry field.entry)) }
 {
     match reader.has(field) {

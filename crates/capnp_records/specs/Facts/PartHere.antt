@@ -1,4 +1,4 @@
--- The part of a struct's record that a plain field or the active member has.
+-- The part of a struct's record that a non-union field or the active member has.
 use Rattle.std.proofs.Common.{ℕ, ◌<◌, ◌≡◌, ◌⊎◌, ◌∙◌, arith, ap, inl, inr, refl, sym, subst, Bool, true, false, ◌==◌, length, Some}
 use Rattle.std.proofs.lemmas.Bool.{true≢false}
 use Rattle.capnp_wire.specs.Tree.{StructTree}
@@ -9,7 +9,7 @@ use Rattle.capnp_records.specs.Part.{active_value, is_active, nth_value, part_at
 use Rattle.capnp_records.specs.Reading.{active_among, discriminant, part_of, non_union_parts, struct_record, union_of, values_of}
 use Rattle.capnp_records.specs.Record.{Active, Levels, NoUnion, Union, Unknown, Parts, Record, Value, Values}
 
--- a field is plain, or the active member of a record
+-- a field is non-union, or the active member of a record
 abbrev pub IsHere : Record → TypedField → ℕ → Type 0
 IsHere r f i = (is_member f.field ≡ false) ⊎ (which_of r ≡ Some i)
 

@@ -18,7 +18,7 @@ use Rattle.capnp_records.specs.Writes.Slots.{Content, Bits, At, with_content, Wr
 abbrev pub switch : Node → ℕ → StructTree → StructTree
 switch n number s = with_bytes s (with_number 2 n.discriminant_offset number s.bytes)
 
--- the union switched to a member; a plain field changes nothing
+-- the union switched to a member; a non-union field changes nothing
 abbrev pub switched_struct : Node → Field → StructTree → StructTree
 switched_struct n f s = elim (is_member f) [ true ↦ switch n f.discriminant_value s | false ↦ s ]
 
@@ -60,12 +60,12 @@ abbrev pub cleared_member : (TypedField → StructTree → StructTree) → List 
 cleared_member clear [] s = s
 cleared_member clear (f ∷ fs) s = elim (is_member f.field && (f.field.discriminant_value == 0)) [ true ↦ clear f s | false ↦ cleared_member clear fs s ]
 
--- the plain fields by index
+-- the non-union fields by index
 abbrev pub cleared_non_union : (TypedField → StructTree → StructTree) → List TypedField → StructTree → StructTree
 cleared_non_union clear [] s = s
 cleared_non_union clear (f ∷ fs) s = cleared_non_union clear fs (elim (is_member f.field) [ true ↦ s | false ↦ clear f s ])
 
--- a group's struct after its member 0, then its plain fields were cleared, through at most so many groups
+-- a group's struct after its member 0, then its non-union fields were cleared, through at most so many groups
 abbrev pub cleared_within : ℕ → Schemas → ℕ → StructTree → StructTree
 cleared_within zero set b s = s
 cleared_within (suc groups) set b s =
@@ -86,7 +86,7 @@ pub record Turns (set : Schemas) (b : ℕ) (s s' : StructTree) (r : Record) : Ty
   pub writes : Writes (struct_spots set b) s s'
   pub record_after : reads set s' b ≡ r
 
--- the union was switched to the field, or the struct is the same where the field is plain or already active
+-- the union was switched to the field, or the struct is the same where the field is non-union or already active
 pub record IsSwitchedTo (set : Schemas) (b : ℕ) (f : TypedField) (s m : StructTree) : Type 0 where
   pub writes : Writes (λ p. is_member f.field && discriminant_names (node_of set b) p) s m
   pub value : is_member f.field ≡ true → discriminant (node_of set b) m.bytes ≡ f.field.discriminant_value

@@ -16,7 +16,7 @@ use Rattle.capnp_dynamic_readers.specs.Seen.{list_seen, record_seen}
 use Rattle.capnp_dynamic_readers.specs.declared.dynamic_list.Reader.{Reader as ListHandle}
 use Rattle.capnp_dynamic_readers.specs.declared.dynamic_struct.Reader.{Reader as StructHandle}
 
--- field i of such a struct: a plain one, or the active member
+-- field i of such a struct: a non-union one, or the active member
 abbrev pub IsRequestFieldActive : ℕ → ℕ → StructHandle → Type 0
 IsRequestFieldActive b i s = (is_member (field_at request_set b i).field ≡ false) ⊎ (which_of (record_seen s) ≡ Some i)
 

@@ -5,7 +5,7 @@ use Rattle.capnp_device.specs.declared.error.ErrorKind.TheVariants.{UnknownKind}
 use Rattle.capnp_schema.specs.Types.{SchemaType}
 use Rattle.capnp_records.specs.Record.{Record, Value}
 use Rattle.capnp_request.specs.Reading.{type_kinds}
-use Rattle.capnp_request.specs.Terms.{BrandTerm, MoreScopes, NoScopes, Plain, Said, ScopeTerm, TypeTerm, UnreadBrand, UnreadType}
+use Rattle.capnp_request.specs.Terms.{BrandTerm, MemberTerm, MoreScopes, NoScopes, Said, ScopeTerm, TypeTerm, UnreadBrand, UnreadType}
 use Rattle.capnp_request.specs.Types.{float32, float64}
 use Rattle.capnp_request.specs.Work.{Work}
 
@@ -14,13 +14,13 @@ abbrev pub type_kind : (Record → TypeTerm) → ℕ → Value → TypeTerm
 type_kind inner m = unwrap_or (slice_get (type_kinds inner) m) (λ v. UnreadType UnknownKind)
 
 -- a member that says all of a type
-unfoldable pub IsPlainMember : ℕ → SchemaType → Type 0
-IsPlainMember m t = (inner : Record → TypeTerm) (v : Value) → type_kind inner m v ≡ Plain t
+unfoldable pub IsSaidByMember : ℕ → SchemaType → Type 0
+IsSaidByMember m t = (inner : Record → TypeTerm) (v : Value) → type_kind inner m v ≡ MemberTerm t
 
 -- the type that a member says, or that it is 10, 11 or 14 and above, of which none is such a member
-abbrev pub IsPlainOr : ℕ → Option SchemaType → Type 0
-IsPlainOr m (Some t) = IsPlainMember m t
-IsPlainOr m None = (10 ≤ m) × (12 ≤ m → 14 ≤ m)
+abbrev pub IsSaidByMemberOr : ℕ → Option SchemaType → Type 0
+IsSaidByMemberOr m (Some t) = IsSaidByMember m t
+IsSaidByMemberOr m None = (10 ≤ m) × (12 ≤ m → 14 ≤ m)
 
 -- a float of one of two widths
 abbrev pub float_type : (is_double strict : Bool) → Work SchemaType

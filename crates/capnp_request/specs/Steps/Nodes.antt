@@ -33,7 +33,7 @@ first_kept None false new = None
 
 -- They are read under the request set, all can be read, and the map says which has an id.
 pub record AreNodes (nodes : SchemaNodes) : Type 0 where
-  pub set : lists_seen nodes.set.now ≡ request_set
+  pub set : lists_seen nodes.schemas.now ≡ request_set
   pub read : nodes_in (record_seen nodes.request) ≡ Ok (nodes_of nodes)
   pub count : nodes.count ≡ length (nodes_of nodes)
   pub by_id : (id : ℕ) → option_map (λ (s : StructReader). node_said (node_record s)) (get nat_eq nodes.by_id id) ≡ node_named (nodes_of nodes) id

@@ -13,9 +13,9 @@ use Rattle.capnp_schema.specs.declared.check.spans.Span.{Span}
 use Rattle.capnp_schema.specs.declared.check.spans.Span.TheVariants.{Data, Pointer}
 use Rattle.capnp_schema.specs.declared.check.claims.Level.{Level}
 
--- the plain parts before low have ended, and the levels from high on have not started
+-- the non-union parts before low have ended, and the levels from high on have not started
 pub record Bisected (levels : List Level) (time low high : ℕ) : Type 0 where
-  pub before : (k : ℕ) (l : Level) → k < low → slice_get levels k ≡ Some l → l.plain_end ≤ time
+  pub before : (k : ℕ) (l : Level) → k < low → slice_get levels k ≡ Some l → l.non_union_end ≤ time
   pub after : (k : ℕ) (l : Level) → high ≤ k → slice_get levels k ≡ Some l → time < l.start
   pub ordered : low ≤ high
   pub within : high ≤ length levels

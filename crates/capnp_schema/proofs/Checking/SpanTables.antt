@@ -45,13 +45,13 @@ pub meet_from_spans : (set : Schemas) (b : ℕ) (spans : List (Vec Span Global))
     → b < length set.brands
     → i < length spans → j < length spans → x ≡ get_or spans i x → y ≡ get_or spans j y → a ≡ x.items → c ≡ y.items
     → is_member (field_at set b i).field ≡ false → i ≢ j → SpansMeet a c → FieldBreaks set (FieldsApart set b i) b i
-meet_from_spans set b spans i j x y a c s within hi hj ex ey ea ec plain ne m = record {
+meet_from_spans set b spans i j x y a c s within hi hj ex ey ea ec non_union ne m = record {
   brand = within;
   field = (let l = s.counted in omega arith);
   broken = λ apart.
       let first : footprint_at set b i m.spot ≡ true = sym (read_at set b spans i x a m.spot s hi ex ea) ∙ m.first in
       let second : footprint_at set b j m.spot ≡ true = sym (read_at set b spans j y c m.spot s hj ey ec) ∙ m.second in
-      let none : footprint_at set b j m.spot ≡ false = apart j m.spot (let l = s.counted in omega arith) ne plain first in
+      let none : footprint_at set b j m.spot ≡ false = apart j m.spot (let l = s.counted in omega arith) ne non_union first in
       (cc);
 }
 
@@ -68,7 +68,7 @@ more_apart set b i j before here k p h ne named = ⊎_elim
 -- all fields of the inner loop
 pub apart_from_all : (set : Schemas) (b : ℕ) (spans : List (Vec Span Global)) (i n : ℕ) → AreSpansOf set b spans → length spans ≤ n
     → ((k : ℕ) (p : Spot) → k < n → i ≢ k → footprint_at set b i p ≡ true → footprint_at set b k p ≡ false) → FieldsApart set b i (field_at set b i)
-apart_from_all set b spans i n s end all j p within ne plain named = all j p (let l = s.counted in omega arith) ne named
+apart_from_all set b spans i n s end all j p within ne non_union named = all j p (let l = s.counted in omega arith) ne named
 
 -- one more field of the outer loop
 pub more_fields_apart : (set : Schemas) (b i : ℕ) → ((k : ℕ) → k < i → FieldsApart set b k (field_at set b k)) → FieldsApart set b i (field_at set b i) → (k : ℕ) → k < i + 1 → FieldsApart set b k (field_at set b k)
@@ -78,19 +78,19 @@ pub apart_from_same : (set : Schemas) (b i j : ℕ) → i ≡ j → (p : Spot) �
 apart_from_same set b i j e p ne named = absurd (ne e)
 
 pub apart_from_member : (set : Schemas) (b i : ℕ) → (is_member (field_at set b i).field ≡ false → ⊥) → FieldsApart set b i (field_at set b i)
-apart_from_member set b i member j p within ne plain named = absurd (member plain)
+apart_from_member set b i member j p within ne non_union named = absurd (member non_union)
 
--- two fields, of which one is plain, that name a place
+-- two fields, of which one is non-union, that name a place
 pub named_twice : (set : Schemas) (b i j other : ℕ) (p : Spot) → b < length set.brands → IsSpotNamedBy set b p other true i → IsSpotNamedBy set b p i false j → FieldBreaks set (FieldsApart set b i) b i
 named_twice set b i j other p within n m = record {
   brand = within;
   field = n.field;
-  broken = λ apart. let none : footprint set (field_at set b j) p ≡ false = apart j p m.field (λ e. m.differs (sym e)) (n.is_plain refl) n.names in let named = m.names in (cc);
+  broken = λ apart. let none : footprint set (field_at set b j) p ≡ false = apart j p m.field (λ e. m.differs (sym e)) (n.is_outside_union refl) n.names in let named = m.names in (cc);
 }
 
 -- a field that names a place of the discriminant
-pub discriminant_named : (set : Schemas) (b i other : ℕ) (plain : Bool) (p : Spot) → b < length set.brands → IsSpotNamedBy set b p other plain i → discriminant_names (node_of set b) p ≡ true → FieldBreaks set (DiscriminantApart set b) b i
-discriminant_named set b i other plain p within n d = record {
+pub discriminant_named : (set : Schemas) (b i other : ℕ) (non_union : Bool) (p : Spot) → b < length set.brands → IsSpotNamedBy set b p other non_union i → discriminant_names (node_of set b) p ≡ true → FieldBreaks set (DiscriminantApart set b) b i
+discriminant_named set b i other non_union p within n d = record {
   brand = within;
   field = n.field;
   broken = λ apart. let none : footprint set (field_at set b i) p ≡ false = apart p d in let named = n.names in (cc);

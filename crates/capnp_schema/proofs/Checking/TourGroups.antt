@@ -10,7 +10,7 @@ use Rattle.capnp_schema.specs.Footprint.{Spot, kind_names, group_names, brand_na
 use Rattle.capnp_schema.specs.Accepted.{Rule11, Rule12}
 use Rattle.capnp_schema.specs.Steps.Checking.Parents.{group_target, entry_target}
 use Rattle.capnp_schema.specs.Steps.Checking.Spans.{span_names, entry_names, field_names}
-use Rattle.capnp_schema.specs.Steps.Checking.Levels.{mark_at, IsClaimed, member_at, Names, by_discriminant, by_plain, Done, among_plain, by_member, IsCurrent, plain, member, IsClear, LevelStands, IsAbove, IsCurrentGroup, LevelsStand, AreClear, DoneStand, TourStands, TourRests}
+use Rattle.capnp_schema.specs.Steps.Checking.Levels.{mark_at, IsClaimed, member_at, Names, by_discriminant, by_non_union, Done, among_non_union, by_member, IsCurrent, non_union, member, IsClear, LevelStands, IsAbove, IsCurrentGroup, LevelsStand, AreClear, DoneStand, TourStands, TourRests}
 use Rattle.capnp_schema.specs.declared.check.claims.Claims.{Claims}
 use Rattle.capnp_schema.specs.declared.check.claims.Level.{Level}
 use Rattle.capnp_schema.specs.declared.check.spans.Span.{Span}
@@ -23,7 +23,7 @@ use Rattle.capnp_schema.proofs.Checking.Tours.{keeps_from_claim, levels_kept, op
 
 pub group_entered : (set : Schemas) (tour : Tour) (top next : Level) (group : ℕ) (n : Node) (span : Span) (claims : Claims) (below : Vec Level Global) → TourStands set tour top → IsCurrentGroup set top group
     → IsClaimed (tour.below.items ++ top ∷ []) tour.now span tour.claims claims → ((p : Spot) → span_names span p ≡ discriminant_names n p) → node_of set group ≡ n
-    → next ≡ record { brand = group; steps = 0; start = tour.now; plain_end = tour.now + 1 } → below.items ≡ tour.below.items ++ top ∷ []
+    → next ≡ record { brand = group; steps = 0; start = tour.now; non_union_end = tour.now + 1 } → below.items ≡ tour.below.items ++ top ∷ []
     → TourStands set (record { claims = claims; below = below; done = tour.done; now = tour.now + 1 }) next
 group_entered set tour top next group n span claims below t at c names node is pushed_is = record {
   levels = subst (λ (xs : List Level). LevelsStand set (mark_at claims) (tour.now + 1) (xs ++ next ∷ [])) (sym pushed_is)
@@ -35,22 +35,22 @@ group_entered set tour top next group n span claims below t at c names node is p
     levels = tour.below.items ++ top ∷ []
 
     new : Level
-    new = record { brand = group; steps = 0; start = tour.now; plain_end = tour.now + 1 }
+    new = record { brand = group; steps = 0; start = tour.now; non_union_end = tour.now + 1 }
 
     kept : LevelsStand set (mark_at claims) (tour.now + 1) levels
     kept = levels_kept set (mark_at tour.claims) (mark_at claims) tour.now levels (keeps_from_claim levels tour.now span tour.claims claims c) t.levels
 
     named : (p : Spot) → Done set group 0 p → span_names span p ≡ true
-    named p (among_plain (by_discriminant e)) = names p ∙ ap (λ (m : Node). discriminant_names m p) (sym node) ∙ e
-    named p (among_plain (by_plain i m lt k)) = absurd (omega arith)
+    named p (among_non_union (by_discriminant e)) = names p ∙ ap (λ (m : Node). discriminant_names m p) (sym node) ∙ e
+    named p (among_non_union (by_non_union i m lt k)) = absurd (omega arith)
     named p (by_member i m lt k) = absurd (omega arith)
 
     on_top : AtTop set (mark_at claims) (tour.now + 1) levels new
     on_top = (
       record {
         started = λ p d. let e = (c.inside p (named p d)).1 in omega arith;
-        plain = λ p d. let e = (c.inside p (named p (among_plain d))).1 in omega arith;
-        clear_plain = λ i m lt. absurd (omega arith);
+        non_union = λ p d. let e = (c.inside p (named p (among_non_union d))).1 in omega arith;
+        clear_non_union = λ i m lt. absurd (omega arith);
         clear_members = λ i m lt. absurd (omega arith);
         ordered = omega arith;
         ended = omega arith;
@@ -83,12 +83,12 @@ names_done (suc groups) set b steps p past e = at (some_field (λ f. kind_names 
         names = record { groups = groups; names = ap (λ o. entry_names groups set o p) is ∙ named }
 
         of_kind : (m : Bool) → member_at set b k ≡ m → Done set b steps p
-        of_kind false m = among_plain (by_plain k m (omega arith) names)
+        of_kind false m = among_non_union (by_non_union k m (omega arith) names)
         of_kind true m = by_member k m (omega arith) names
 
     at : (c : Bool) → some_field (λ f. kind_names (brand_names groups set) f.field.kind f.type) (fields_of set b) p ≡ c → (c || discriminant_names (node_of set b) p) ≡ true → Done set b steps p
     at true is h = let r = some_field_at (λ f. kind_names (brand_names groups set) f.field.kind f.type) (fields_of set b) p is in by_field r.0 r.2.0 r.1 r.2.1 r.2.2
-    at false is h = among_plain (by_discriminant h)
+    at false is h = among_non_union (by_discriminant h)
 
 -- what a group field names
 group_done : (set : Schemas) (b i g steps : ℕ) (p : Spot) → group_target set b i ≡ Some g → length (fields_of set g) + length (fields_of set g) ≤ steps → Names set b i p → Done set g steps p
@@ -113,7 +113,7 @@ pub all_clear : (set : Schemas) (mark : Spot → ℕ) (now : ℕ) (l : Level) �
 all_clear set mark now l past s i lt = at (member_at set l.brand i) refl
   where
     at : (m : Bool) → member_at set l.brand i ≡ m → IsClear set l.brand i
-    at false m = s.clear_plain i m (omega arith)
+    at false m = s.clear_non_union i m (omega arith)
     at true m = s.clear_members i m (omega arith)
 
 pub done_more : (set : Schemas) (done : List Bool) (b : ℕ) → DoneStand set done → AreClear set b → DoneStand set (set_at done b true)
@@ -153,7 +153,7 @@ module _ (set : Schemas) (old : Tour) (top : Level) (t : TourStands set old top)
 
   pub left_to_level : (new : Tour) (below : Vec Level Global) (level next : Level) (late : Bool) → IsLeft set old new → new.below.items ≡ below.items ++ level ∷ []
       → (late ≡ true → length (fields_of set level.brand) ≤ level.steps) → (late ≡ false → level.steps < length (fields_of set level.brand))
-      → next ≡ record { brand = level.brand; steps = level.steps + 1; start = level.start; plain_end = cond late level.plain_end new.now }
+      → next ≡ record { brand = level.brand; steps = level.steps + 1; start = level.start; non_union_end = cond late level.non_union_end new.now }
       → TourStands set (record { claims = new.claims; below = below; done = new.done; now = new.now }) next
   left_to_level new below level next late left is is_late is_early next_is = record { levels = stands; done = left.done }
     where
@@ -194,17 +194,17 @@ module _ (set : Schemas) (old : Tour) (top : Level) (t : TourStands set old top)
       down p n = group_done set level.brand at.index top.brand top.steps p at.target past n
 
       end : ℕ
-      end = cond late level.plain_end old.now
+      end = cond late level.non_union_end old.now
 
-      ends : (level.plain_end ≤ end) × (end ≤ old.now)
+      ends : (level.non_union_end ≤ end) × (end ≤ old.now)
       ends = of late
         where
-          of : (b : Bool) → (level.plain_end ≤ cond b level.plain_end old.now) × (cond b level.plain_end old.now ≤ old.now)
+          of : (b : Bool) → (level.non_union_end ≤ cond b level.non_union_end old.now) × (cond b level.non_union_end old.now ≤ old.now)
           of true = let e = here.0.ended in (omega arith, omega arith)
           of false = let e = here.0.ended in (omega arith, omega arith)
 
       early : IsCurrent set level.brand level.steps at.index → member_at set level.brand at.index ≡ false → late ≡ false
-      early (plain m lt e) n = of late refl
+      early (non_union m lt e) n = of late refl
         where
           of : (b : Bool) → late ≡ b → late ≡ false
           of true q = absurd (let h = is_late q in omega arith)
@@ -215,12 +215,12 @@ module _ (set : Schemas) (old : Tour) (top : Level) (t : TourStands set old top)
       taken = record {
         clear = clear_current set level.brand level.steps at.index at.current (λ p n d. above.apart p (down p n) d);
         started = λ p n. let a = here.0.ordered in let b = above.later in let c = at_top.0.started p (down p n) in omega arith;
-        plain = λ p n m. let f = t.levels.fresh p in subst (λ b. mark p < cond b level.plain_end old.now) (sym (early at.current m)) f;
+        non_union = λ p n m. let f = t.levels.fresh p in subst (λ b. mark p < cond b level.non_union_end old.now) (sym (early at.current m)) f;
         apart = λ p n k l e d. (at_top.1 k l (pushed below.items level l k e)).apart p (down p n) d;
       }
 
       on_top : AtTop set mark old.now below.items next
-      on_top = subst (AtTop set mark old.now below.items) (sym (next_is ∙ ap (λ x. record { brand = level.brand; steps = level.steps + 1; start = level.start; plain_end = cond late level.plain_end x }) left.now))
+      on_top = subst (AtTop set mark old.now below.items) (sym (next_is ∙ ap (λ x. record { brand = level.brand; steps = level.steps + 1; start = level.start; non_union_end = cond late level.non_union_end x }) left.now))
           (more_stands set mark old.now below.items level end here (new_current set mark below.items level.brand level.steps level.start end at.index at.current taken) ends.0 ends.1)
 
       stands : LevelsStand set (mark_at new.claims) new.now (below.items ++ next ∷ [])
@@ -238,10 +238,10 @@ module _ (set : Schemas) (b : ℕ) (clear : AreClear set b) where
   fields_apart i j p hi hj ne m ei ej = at (member_at set b j) refl
     where
       at : (c : Bool) → member_at set b j ≡ c → ⊥
-      at true n = (clear j hj).member n p (names_of j p hj ej) (by_plain i m hi (names_of i p hi ei))
+      at true n = (clear j hj).member n p (names_of j p hj ej) (by_non_union i m hi (names_of i p hi ei))
       at false n = ⊎_elim
-          (λ lt. (clear j hj).plain n p (names_of j p hj ej) (by_plain i m lt (names_of i p hi ei)))
-          (λ le. (clear i hi).plain m p (names_of i p hi ei) (by_plain j n (⊎_elim (λ lt. lt) (λ ge. absurd (ne (omega arith))) (cases_lt j i)) (names_of j p hj ej)))
+          (λ lt. (clear j hj).non_union n p (names_of j p hj ej) (by_non_union i m lt (names_of i p hi ei)))
+          (λ le. (clear i hi).non_union m p (names_of i p hi ei) (by_non_union j n (⊎_elim (λ lt. lt) (λ ge. absurd (ne (omega arith))) (cases_lt j i)) (names_of j p hj ej)))
           (cases_lt i j)
 
   pub discriminant_apart : (i : ℕ) (p : Spot) → i < length (fields_of set b) → discriminant_names (node_of set b) p ≡ true → footprint set (field_at set b i) p ≡ true → ⊥
@@ -249,7 +249,7 @@ module _ (set : Schemas) (b : ℕ) (clear : AreClear set b) where
     where
       at : (c : Bool) → member_at set b i ≡ c → ⊥
       at true m = (clear i hi).member m p (names_of i p hi e) (by_discriminant d)
-      at false m = (clear i hi).plain m p (names_of i p hi e) (by_discriminant d)
+      at false m = (clear i hi).non_union m p (names_of i p hi e) (by_discriminant d)
 
 not_true : (b : Bool) → (b ≡ true → ⊥) → b ≡ false
 not_true true h = absurd (h refl)

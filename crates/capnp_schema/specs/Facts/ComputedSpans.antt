@@ -150,8 +150,8 @@ abbrev pub meets_rule11 : Schemas → Bool
 meets_rule11 set = all_fields set (field_is_apart set)
 
 fields_apart : (set : Schemas) (b i : ℕ) (f : TypedField) → field_is_apart set b i f ≡ true → FieldsApart set b i f
-fields_apart set b i f e j p j_in differs plain named = ⊎_elim
-    (λ member. absurd (cc (member, plain)))
+fields_apart set b i f e j p j_in differs non_union named = ⊎_elim
+    (λ member. absurd (cc (member, non_union)))
     (λ all. ⊎_elim
     (λ same. absurd (differs ((Decides-eqb i j).0 same)))
     (λ apart. sym (field_named set (field_at set b j) p) ∙ lists_apart (field_spans set f) (field_spans set (field_at set b j)) p apart (field_named set f p ∙ named))

@@ -119,13 +119,13 @@ group_names_its_parts set accepted b i g p b_in i_in h = go (field_at set b i).f
     go (Slot o d) t h s = absurd h
     go (Group m) t h s = ap (λ o. group_names (brand_names (length set.brands) set) o p) h ∙ brand_names-more (length set.brands) set g p s
 
--- a plain field's footprint meets no other, so where two meet both are members
+-- a non-union field's footprint meets no other, so where two meet both are members
 pub only_members_meet : (set : Schemas) → IsAccepted set → (b i j : ℕ) (p : Spot) → b < length set.brands → i < length (fields_of set b) → j < length (fields_of set b) → i ≢ j →
     IsTrue (footprint set (field_at set b i) p) → IsTrue (footprint set (field_at set b j) p) →
     IsTrue (is_member (field_at set b i).field) × IsTrue (is_member (field_at set b j).field)
 only_members_meet set accepted b i j p b_in i_in j_in apart here there = (
-  member (is_member (field_at set b i).field) (λ plain. true≢false (sym there ∙ accepted.rule11 b i b_in i_in j p j_in apart plain here)),
-  member (is_member (field_at set b j).field) (λ plain. true≢false (sym here ∙ accepted.rule11 b j b_in j_in i p i_in (λ e. apart (sym e)) plain there)),
+  member (is_member (field_at set b i).field) (λ non_union. true≢false (sym there ∙ accepted.rule11 b i b_in i_in j p j_in apart non_union here)),
+  member (is_member (field_at set b j).field) (λ non_union. true≢false (sym here ∙ accepted.rule11 b j b_in j_in i p i_in (λ e. apart (sym e)) non_union there)),
 )
   where
     member : (q : Bool) → (q ≡ false → ⊥) → IsTrue q

@@ -5,7 +5,7 @@ use Rattle.capnp_schema.specs.declared.plan.Place.TheVariants.{Nothing}
 use Rattle.capnp_schema.specs.declared.plan.SlotPlan.{SlotPlan}
 
 -- a table in which a member's index is set at its discriminant value
-abbrev pub placed_member : (plain : Bool) → List ℕ → (value index : ℕ) → List ℕ
+abbrev pub placed_member : (non_union : Bool) → List ℕ → (value index : ℕ) → List ℕ
 placed_member true table value index = table
 placed_member false table value index = slice_set table value index
 

@@ -19,12 +19,13 @@ pub(crate) struct Claims {
 pub(crate) struct Level {
     /// Its brand.
     pub(crate) brand: usize,
-    /// How many steps are past: one for each field that takes the plain ones, then one for each that takes the members.
+    /// How many steps are past: one for each field that takes the non-union ones, then one for each that takes the
+    /// members.
     pub(crate) steps: usize,
     /// The time of its first claim.
     pub(crate) start: u32,
-    /// The time after its last plain claim.
-    pub(crate) plain_end: u32,
+    /// The time after its last non-union claim.
+    pub(crate) non_union_end: u32,
 }
 
 /// A spot of a brand's struct where two of its fields may meet, or one its discriminant.
@@ -34,20 +35,20 @@ pub(crate) struct Meeting {
     pub(crate) spot: Spot,
 }
 
-/// The brand of a level in whose plain part a time lies.
+/// The brand of a level in whose non-union part a time lies.
 fn closing_brand(below: &[Level], top: Level, time: u32) -> Option<usize> {
-    if top.start <= time && time < top.plain_end {
+    if top.start <= time && time < top.non_union_end {
         return Some(top.brand);
     }
     for level in below {
-        if level.start <= time && time < level.plain_end {
+        if level.start <= time && time < level.non_union_end {
             return Some(level.brand);
         }
     }
     None
 }
 
-/// Whether a time lies in the plain part of none of the levels.
+/// Whether a time lies in the non-union part of none of the levels.
 fn is_open_below(below: &[Level], time: u32) -> bool
     requires { AreInOrder below.now }
     ensures { result ≡ true → AreOpen below.now time }
@@ -59,7 +60,7 @@ fn is_open_below(below: &[Level], time: u32) -> bool
         let level = below[middle];
         if time < level.start {
             high = middle;
-        } else if time < level.plain_end {
+        } else if time < level.non_union_end {
             return false;
         } else {
             low = middle + 1;
@@ -74,7 +75,7 @@ fn is_open(below: &[Level], top: Level, time: u32) -> bool
     ensures { result ≡ true → AreOpen (below.now ++ top ∷ []) time }
 {
     if time >= top.start {
-        return time >= top.plain_end;
+        return time >= top.non_union_end;
     }
     is_open_below(below, time)
 }
@@ -92,7 +93,7 @@ fn lengthen(marks: &mut Vec<u32>, end: usize) -> Result<()>
     Ok(())
 }
 
-/// Sets so many marks to the time; false where one of them lies in the plain part of a level.
+/// Sets so many marks to the time; false where one of them lies in the non-union part of a level.
 fn claim_marks(
     marks: &mut [u32],
     first: usize,
@@ -163,7 +164,7 @@ fn meeting_bit(
 }
 
 impl Claims {
-    /// Claims the spots of a span; false where one of them was claimed in the plain part of a level.
+    /// Claims the spots of a span; false where one of them was claimed in the non-union part of a level.
     pub(crate) fn claim(
         &mut self,
         span: Span,

@@ -1,5 +1,5 @@
-//! Rules 11 and 12: a plain field's footprint meets that of no other field of its struct, and the discriminant meets
-//! none.
+//! Rules 11 and 12: a non-union field's footprint meets that of no other field of its struct, and the discriminant
+//! meets none.
 ghost use Rattle.std.specs.Prelude.{true, false, ◌<◌, ◌↔◌, IsTrue, IsFalse, length, MatchResult, IfSome, IfErr};
 ghost use Rattle.capnp_schema.specs.Schema.{fields_of, field_at, is_member};
 ghost use Rattle.capnp_schema.specs.Entries.{lists_seen};
@@ -19,7 +19,7 @@ use capnp_wire::error::{Result, SchemaTable};
 use std::alloc::Global;
 
 /// Whether a field is no member of its struct's union.
-fn is_plain(lists: &Lists, brand: usize, field: usize) -> bool
+fn is_outside_union(lists: &Lists, brand: usize, field: usize) -> bool
     requires { field < length (fields_of (lists_seen lists.now) brand) }
     ensures { IsTrue result ↔ IsFalse (is_member (field_at (lists_seen lists.now) brand field).field) }
 {
@@ -29,14 +29,14 @@ fn is_plain(lists: &Lists, brand: usize, field: usize) -> bool
     }
 }
 
-/// A plain field of a brand whose footprint meets that of another field.
+/// A non-union field of a brand whose footprint meets that of another field.
 fn meeting_field(lists: &Lists, brand: usize, spans: &[Vec<Span>]) -> Option<usize>
     requires within { brand < length (lists_seen lists.now).brands }
     requires spans { AreSpansOf (lists_seen lists.now) brand spans.now }
     ensures { IsMeetingField (lists_seen lists.now) brand result }
 {
     for i in 0..spans.len() {
-        if is_plain(lists, brand, i) {
+        if is_outside_union(lists, brand, i) {
             for j in 0..spans.len() {
                 if i != j && spans_meet(&spans[i], &spans[j]) {
                     return Some(i);
@@ -65,21 +65,21 @@ fn discriminant_field(lists: &Lists, brand: usize, spans: &[Vec<Span>]) -> Optio
     None
 }
 
-/// A field of a brand other than one that names a spot, and is plain where a plain one is asked for.
+/// A field of a brand other than one that names a spot, and is non-union where a non-union one is asked for.
 fn named_at(
     lists: &Lists,
     brand: usize,
     spans: &[Vec<Span>],
     spot: Spot,
     other: usize,
-    plain: bool,
+    non_union: bool,
 ) -> Option<usize>
     requires { AreSpansOf (lists_seen lists.now) brand spans.now }
-    ensures { IfSome result (IsSpotNamedBy (lists_seen lists.now) brand (seen_spot spot) other plain) }
+    ensures { IfSome result (IsSpotNamedBy (lists_seen lists.now) brand (seen_spot spot) other non_union) }
 {
     for i in 0..spans.len() {
         if i != other && some_holds(&spans[i], spot) {
-            if !plain || is_plain(lists, brand, i) {
+            if !non_union || is_outside_union(lists, brand, i) {
                 return Some(i);
             }
         }
@@ -87,7 +87,7 @@ fn named_at(
     None
 }
 
-/// Refuses where two fields of a brand, of which one is plain, meet at a spot, or one the brand's discriminant.
+/// Refuses where two fields of a brand, of which one is non-union, meet at a spot, or one the brand's discriminant.
 fn refuse_meeting(alloc: Global, lists: &Lists, brand: usize, spot: Spot) -> Result<()>
     requires rule3 { Rule3 (lists_seen lists.now) }
     requires within { brand < length (lists_seen lists.now).brands }
@@ -128,10 +128,10 @@ fn find_meeting(alloc: Global, lists: &Lists) -> Result<()>
     Ok(())
 }
 
-/// Decides rules 11 and 12: a plain field's footprint meets that of no other field of its struct, and no field's meets
-/// the discriminant of its struct. One tour through each struct and its groups accepts, or finds where fields meet. It
-/// says neither where there are more fields than 32 bits count; then all are compared. It is refused where memory is
-/// short, or at a field for which one of the rules is broken.
+/// Decides rules 11 and 12: a non-union field's footprint meets that of no other field of its struct, and no field's
+/// meets the discriminant of its struct. One tour through each struct and its groups accepts, or finds where fields
+/// meet. It says neither where there are more fields than 32 bits count; then all are compared. It is refused where
+/// memory is short, or at a field for which one of the rules is broken.
 pub(crate) fn check_footprints(alloc: Global, lists: &Lists) -> Result<()>
     requires { Rule3 (lists_seen lists.now) }
     ensures { MatchResult result (λ _. Rule11 (lists_seen lists.now) × Rule12 (lists_seen lists.now))

@@ -53,34 +53,34 @@ fn is_member_at(lists: &Lists, brand: usize, field: usize) -> bool
     }
 }
 
-/// The level after one more step; all that a plain field names is claimed before `now`.
+/// The level after one more step; all that a non-union field names is claimed before `now`.
 fn advanced(level: Level, is_member: bool, now: u32) -> Level
     requires { level.steps < 2 ^ 62 }
     ensures { result ≡ record {
       brand = level.brand;
       steps = level.steps + 1;
       start = level.start;
-      plain_end = cond is_member level.plain_end now;
+      non_union_end = cond is_member level.non_union_end now;
     } }
 {
     Level {
         brand: level.brand,
         steps: level.steps + 1,
         start: level.start,
-        plain_end: if is_member { level.plain_end } else { now },
+        non_union_end: if is_member { level.non_union_end } else { now },
     }
 }
 
 /// A level that is past nothing but its discriminant, which was claimed at a time.
 fn entered(brand: usize, now: u32) -> Level
     requires { now < 2 ^ 32 - 1 }
-    ensures { result ≡ record { brand = brand; steps = 0; start = now; plain_end = now + 1 } }
+    ensures { result ≡ record { brand = brand; steps = 0; start = now; non_union_end = now + 1 } }
 {
     Level {
         brand,
         steps: 0,
         start: now,
-        plain_end: now + 1,
+        non_union_end: now + 1,
     }
 }
 
@@ -188,7 +188,7 @@ fn start(lists: &Lists, tour: &mut Tour, brand: usize) -> Result<Step>
         brand,
         steps: 0,
         start: now,
-        plain_end: now,
+        non_union_end: now,
     };
     let below: [Level; 0] = [];
     if !tour
@@ -260,9 +260,9 @@ fn no_tour(alloc: Global, lists: &Lists) -> Result<Tour>
     })
 }
 
-/// Goes once through each struct and its groups. Where it ends, no plain field meets another field of its struct, and
-/// no discriminant a field; otherwise it may say where two meet, and says nothing of sets where a group stands in no
-/// struct.
+/// Goes once through each struct and its groups. Where it ends, no non-union field meets another field of its struct,
+/// and no discriminant a field; otherwise it may say where two meet, and says nothing of sets where a group stands in
+/// no struct.
 pub(crate) fn tour_all(alloc: Global, lists: &Lists) -> Result<Step>
     ensures apart { IfOk result (λ step. step ≡ Ended → Rule11 (lists_seen lists.now) × Rule12 (lists_seen lists.now)) }
     ensures refused { IfErr result (λ e. e.kind ≡ OutOfMemory) }

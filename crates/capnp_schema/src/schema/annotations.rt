@@ -17,10 +17,10 @@ use capnp_base::traits::{IndexMove, ListIter};
 /// An annotation of a set.
 #[derive(Clone, Copy)]
 pub struct Annotation<'s> {
-    set: &'s SchemaSet,
+    schemas: &'s SchemaSet,
     stored: &'s AnnotationRecord,
     annotation_type: Type,
-    ghost named: { NamesEntries (lists_seen set.now) (seen_type annotation_type) } by { NamesEntries-prop (lists_seen set.now) (seen_type annotation_type) },
+    ghost named: { NamesEntries (lists_seen schemas.now) (seen_type annotation_type) } by { NamesEntries-prop (lists_seen schemas.now) (seen_type annotation_type) },
 }
 
 impl<'s> Annotation<'s> {
@@ -31,7 +31,7 @@ impl<'s> Annotation<'s> {
     pub fn get_set(&self) -> &'s SchemaSet
         ensures { lists_seen result.now ≡ annotation_set self.now }
     {
-        self.set
+        self.schemas
     }
 
     /// The number that the annotation goes by.
@@ -60,12 +60,12 @@ impl<'s> Annotation<'s> {
 /// The annotations at one place, in the order of their records, each with its type. There are fewer than 2^29.
 #[derive(Clone, Copy)]
 pub struct AnnotationList<'s> {
-    set: &'s SchemaSet,
+    schemas: &'s SchemaSet,
     stored: &'s [AnnotationRecord],
     types: &'s [Type],
     ghost have_types: { length types.now ≡ length stored.now },
     ghost are_few: { length stored.now < words_past_format },
-    ghost are_named: { AllName (lists_seen set.now) (map seen_type types.now) } by { name_entries-prop (lists_seen set.now) (map seen_type types.now) },
+    ghost are_named: { AllName (lists_seen schemas.now) (map seen_type types.now) } by { name_entries-prop (lists_seen schemas.now) (map seen_type types.now) },
 }
 
 impl<'s> AnnotationList<'s> {
@@ -78,104 +78,104 @@ impl<'s> AnnotationList<'s> {
     ghost use Rattle.capnp_schema.specs.AnnotationLists.{annotation_in, annotation_set, annotations_in, annotations_set};
 
     fn new(
-        set: &'s SchemaSet,
+        schemas: &'s SchemaSet,
         stored: &'s [AnnotationRecord],
         types: &'s [Type],
     ) -> AnnotationList<'s>
         requires have_types { length types.now ≡ length stored.now }
         requires are_few { length stored.now < words_past_format }
-        requires are_named { AllName (lists_seen set.now) (map seen_type types.now) }
+        requires are_named { AllName (lists_seen schemas.now) (map seen_type types.now) }
         ensures entries { annotations_in result ≡ with_types (seen_annotations stored.now) (map seen_type types.now) }
-        ensures set { annotations_set result ≡ lists_seen set.now }
+        ensures set { annotations_set result ≡ lists_seen schemas.now }
     {
-        AnnotationList { set, stored, types }
+        AnnotationList { schemas, stored, types }
     }
 
-    fn empty(set: &'s SchemaSet) -> AnnotationList<'s>
+    fn empty(schemas: &'s SchemaSet) -> AnnotationList<'s>
         ensures entries { annotations_in result ≡ [] }
-        ensures set { annotations_set result ≡ lists_seen set.now }
+        ensures set { annotations_set result ≡ lists_seen schemas.now }
     {
-        AnnotationList::new(set, &[], &[])
+        AnnotationList::new(schemas, &[], &[])
     }
 
     /// The annotations of a struct, by the number of its brand: those of its node, with the brand's types. None past
     /// the end of the brands.
-    pub(crate) fn of_struct(set: &'s SchemaSet, brand: u32) -> AnnotationList<'s>
-        ensures typed { annotations_in result ≡ struct_annotations (lists_seen set.now) brand }
-        ensures whole { annotations_of (annotations_in result) ≡ (node_of (lists_seen set.now) brand).annotations }
-        ensures set { annotations_set result ≡ lists_seen set.now }
+    pub(crate) fn of_struct(schemas: &'s SchemaSet, brand: u32) -> AnnotationList<'s>
+        ensures typed { annotations_in result ≡ struct_annotations (lists_seen schemas.now) brand }
+        ensures whole { annotations_of (annotations_in result) ≡ (node_of (lists_seen schemas.now) brand).annotations }
+        ensures set { annotations_set result ≡ lists_seen schemas.now }
     {
-        let lists = set.accepted_lists();
+        let lists = schemas.accepted_lists();
         let Some(record) = lists.brand_at(brand as usize) else {
-            return AnnotationList::empty(set);
+            return AnnotationList::empty(schemas);
         };
         let Some(node) = lists.node_at(record.node as usize) else {
-            return AnnotationList::empty(set);
+            return AnnotationList::empty(schemas);
         };
-        AnnotationList::new(set, &node.annotations, &record.annotation_types.own)
+        AnnotationList::new(schemas, &node.annotations, &record.annotation_types.own)
     }
 
     /// The annotations of a field, by the number of its struct's brand and its index, with the brand's types. None past
     /// the end of the brands or of the fields.
-    pub(crate) fn of_field(set: &'s SchemaSet, brand: u32, field: u16) -> AnnotationList<'s>
-        ensures typed { annotations_in result ≡ field_annotations (lists_seen set.now) brand field }
+    pub(crate) fn of_field(schemas: &'s SchemaSet, brand: u32, field: u16) -> AnnotationList<'s>
+        ensures typed { annotations_in result ≡ field_annotations (lists_seen schemas.now) brand field }
         ensures whole { annotations_of (annotations_in result)
-            ≡ (field_at (lists_seen set.now) brand field).field.annotations }
-        ensures set { annotations_set result ≡ lists_seen set.now }
+            ≡ (field_at (lists_seen schemas.now) brand field).field.annotations }
+        ensures set { annotations_set result ≡ lists_seen schemas.now }
     {
-        let lists = set.accepted_lists();
+        let lists = schemas.accepted_lists();
         let Some(record) = lists.brand_at(brand as usize) else {
-            return AnnotationList::empty(set);
+            return AnnotationList::empty(schemas);
         };
         let Some(typed) = lists.field_at(brand as usize, field as usize) else {
-            return AnnotationList::empty(set);
+            return AnnotationList::empty(schemas);
         };
         let Some(types) = entry_at(&record.annotation_types.children, field as usize) else {
-            return AnnotationList::empty(set);
+            return AnnotationList::empty(schemas);
         };
-        AnnotationList::new(set, &typed.field.annotations, types)
+        AnnotationList::new(schemas, &typed.field.annotations, types)
     }
 
     /// The annotations of an enum, by its number. None past the end of the enums.
-    pub(crate) fn of_enum(set: &'s SchemaSet, number: u32) -> AnnotationList<'s>
-        ensures typed { annotations_in result ≡ enum_annotations (lists_seen set.now) number }
-        ensures whole { annotations_of (annotations_in result) ≡ (enum_at (lists_seen set.now) number).annotations }
-        ensures set { annotations_set result ≡ lists_seen set.now }
+    pub(crate) fn of_enum(schemas: &'s SchemaSet, number: u32) -> AnnotationList<'s>
+        ensures typed { annotations_in result ≡ enum_annotations (lists_seen schemas.now) number }
+        ensures whole { annotations_of (annotations_in result) ≡ (enum_at (lists_seen schemas.now) number).annotations }
+        ensures set { annotations_set result ≡ lists_seen schemas.now }
     {
-        let Some(record) = set.accepted_lists().enum_at(number as usize) else {
-            return AnnotationList::empty(set);
+        let Some(record) = schemas.accepted_lists().enum_at(number as usize) else {
+            return AnnotationList::empty(schemas);
         };
-        AnnotationList::new(set, &record.annotations, &record.annotation_types.own)
+        AnnotationList::new(schemas, &record.annotations, &record.annotation_types.own)
     }
 
     /// The annotations of an enumerant, by the number of its enum and its ordinal. None past the end of either.
     pub(crate) fn of_enumerant(
-        set: &'s SchemaSet,
+        schemas: &'s SchemaSet,
         number: u32,
         enumerant: u16,
     ) -> AnnotationList<'s>
-        ensures typed { annotations_in result ≡ enumerant_annotations (lists_seen set.now) number enumerant }
+        ensures typed { annotations_in result ≡ enumerant_annotations (lists_seen schemas.now) number enumerant }
         ensures whole { annotations_of (annotations_in result)
-            ≡ (enumerant_at (lists_seen set.now) number enumerant).annotations }
-        ensures set { annotations_set result ≡ lists_seen set.now }
+            ≡ (enumerant_at (lists_seen schemas.now) number enumerant).annotations }
+        ensures set { annotations_set result ≡ lists_seen schemas.now }
     {
-        let Some(record) = set.accepted_lists().enum_at(number as usize) else {
-            return AnnotationList::empty(set);
+        let Some(record) = schemas.accepted_lists().enum_at(number as usize) else {
+            return AnnotationList::empty(schemas);
         };
         let Some(stored) = entry_at(&record.enumerants, enumerant as usize) else {
-            return AnnotationList::empty(set);
+            return AnnotationList::empty(schemas);
         };
         let Some(types) = entry_at(&record.annotation_types.children, enumerant as usize) else {
-            return AnnotationList::empty(set);
+            return AnnotationList::empty(schemas);
         };
-        AnnotationList::new(set, &stored.annotations, types)
+        AnnotationList::new(schemas, &stored.annotations, types)
     }
 
     /// The set that they are of.
     pub fn get_set(&self) -> &'s SchemaSet
         ensures { lists_seen result.now ≡ annotations_set self.now }
     {
-        self.set
+        self.schemas
     }
 
     /// How many annotations there are.
@@ -202,7 +202,7 @@ impl<'s> AnnotationList<'s> {
         ensures set { annotation_set result ≡ annotations_set self.entry }
     {
         Annotation {
-            set: self.set,
+            schemas: self.schemas,
             stored: &self.stored[index as usize],
             annotation_type: self.types[index as usize],
         }

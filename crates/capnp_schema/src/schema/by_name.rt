@@ -9,24 +9,24 @@ use crate::schema::structs::StructSchema;
 use crate::set::SchemaSet;
 
 /// Whether a brand of a set is no group, and its node has the display name.
-fn is_named(set: &SchemaSet, brand: u32, name: &str) -> bool
-    ensures { result ≡ (not (node_of (lists_seen set.now) brand).is_group && bytes_eq name.now
-        (node_of (lists_seen set.now) brand).display_name) }
+fn is_named(schemas: &SchemaSet, brand: u32, name: &str) -> bool
+    ensures { result ≡ (not (node_of (lists_seen schemas.now) brand).is_group && bytes_eq name.now
+        (node_of (lists_seen schemas.now) brand).display_name) }
 {
-    let node = set.struct_schema(brand).get_proto();
+    let node = schemas.struct_schema(brand).get_proto();
     !node.body.is_group && name == node.display_name.as_str()
 }
 
 /// The number of the first brand that is no group and whose node has the display name.
-fn find_brand(set: &SchemaSet, name: &str) -> Option<u32>
-    ensures found { result ≡ brand_asked (lists_seen set.now) name.now }
-    ensures inside { IfSome result (λ b. b < length (lists_seen set.now).brands) }
+fn find_brand(schemas: &SchemaSet, name: &str) -> Option<u32>
+    ensures found { result ≡ brand_asked (lists_seen schemas.now) name.now }
+    ensures inside { IfSome result (λ b. b < length (lists_seen schemas.now).brands) }
 {
-    for index in 0..set.brands().len() {
+    for index in 0..schemas.brands().len() {
         let Ok(brand) = u32::try_from(index) else {
             return None;
         };
-        if is_named(set, brand, name) {
+        if is_named(schemas, brand, name) {
             return Some(brand);
         }
     }

@@ -18,9 +18,9 @@ impl SchemaSet {
         ensures stands { number < length (lists_seen self.now).brands → IsStruct result }
         ensures accepted { IsAccepted (lists_seen self.now) }
     {
-        // What every set is known to meet is known of it here.
+        // The prover learns the set's invariant from this call.
         let _lists = self.accepted_lists();
-        StructSchema { set: self, number }
+        StructSchema { schemas: self, number }
     }
 
     /// The schema of the struct or group of a brand number, as a struct type and the place of a group have it. None
@@ -43,9 +43,9 @@ impl SchemaSet {
         ensures stands { number < length (lists_seen self.now).enums → IsEnum result }
         ensures accepted { IsAccepted (lists_seen self.now) }
     {
-        // What every set is known to meet is known of it here.
+        // The prover learns the set's invariant from this call.
         let _lists = self.accepted_lists();
-        EnumSchema { set: self, number }
+        EnumSchema { schemas: self, number }
     }
 
     /// The schema of the enum of a number, as an enum type has it. None past the last enum.

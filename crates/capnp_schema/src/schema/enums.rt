@@ -18,7 +18,7 @@ use capnp_wire::error::Result;
 #[derive_where(PartialEq, Eq, Hash, Debug)]
 pub struct EnumSchema<'s> {
     #[derive_where(skip)]
-    pub(crate) set: &'s SchemaSet,
+    pub(crate) schemas: &'s SchemaSet,
     pub(crate) number: u32,
 }
 
@@ -31,27 +31,27 @@ impl<'s> EnumSchema<'s> {
     ghost use Rattle.capnp_schema.specs.Enums.{IsEnum, enum_in, enum_number, enum_set};
 
     /// The enum of a set that a type of the set names. Its number has to be that of an enum there.
-    pub fn new(set: &'s SchemaSet, raw: RawEnumSchema) -> EnumSchema<'s>
-        requires { raw.number < length (lists_seen set.now).enums }
-        ensures set { enum_set result ≡ lists_seen set.now }
+    pub fn new(schemas: &'s SchemaSet, raw: RawEnumSchema) -> EnumSchema<'s>
+        requires { raw.number < length (lists_seen schemas.now).enums }
+        ensures set { enum_set result ≡ lists_seen schemas.now }
         ensures number { enum_number result ≡ raw.number }
         ensures stands { IsEnum result }
     {
-        set.enum_schema(raw.number)
+        schemas.enum_schema(raw.number)
     }
 
     /// The set that it is of.
     pub fn get_set(&self) -> &'s SchemaSet
         ensures { lists_seen result.now ≡ enum_set self.now }
     {
-        self.set
+        self.schemas
     }
 
     /// The record of the enum. One with nothing in it where the schema's number is past the set's last enum.
     pub fn get_proto(self) -> &'s EnumRecord
         ensures { seen_enum result.now ≡ enum_in self.entry }
     {
-        self.set.enum_record(self.number)
+        self.schemas.enum_record(self.number)
     }
 
     /// Its enumerants, by their ordinals. The answer is always Ok.
@@ -69,7 +69,7 @@ impl<'s> EnumSchema<'s> {
             ≡ (enum_in self.entry).annotations) }
         ensures set { IsOkAnd result (λ list. annotations_set list ≡ enum_set self.entry) }
     {
-        Ok(AnnotationList::of_enum(self.set, self.number))
+        Ok(AnnotationList::of_enum(self.schemas, self.number))
     }
 }
 
@@ -132,7 +132,7 @@ impl<'s> Enumerant<'s> {
             ≡ (enumerant_in self.entry).annotations) }
         ensures set { IsOkAnd result (λ list. annotations_set list ≡ enum_set (containing_enum self.entry)) }
     {
-        Ok(AnnotationList::of_enumerant(self.schema.set, self.schema.number, self.ordinal))
+        Ok(AnnotationList::of_enumerant(self.schema.schemas, self.schema.number, self.ordinal))
     }
 }
 
@@ -152,7 +152,7 @@ impl<'s> EnumerantList<'s> {
     pub fn len(&self) -> u16
         ensures { result ≡ length (enumerants_in self.now) }
     {
-        self.schema.set.count_enumerants(self.schema.number)
+        self.schema.schemas.count_enumerants(self.schema.number)
     }
 
     /// Whether there is none.
@@ -172,7 +172,7 @@ impl<'s> EnumerantList<'s> {
             ordinal,
             proto: self
                 .schema
-                .set
+                .schemas
                 .enumerant_in_range(self.schema.number, ordinal),
         }
     }

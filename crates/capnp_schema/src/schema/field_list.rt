@@ -28,7 +28,7 @@ impl<'s> FieldList<'s> {
     pub fn len(&self) -> u16
         ensures { result ≡ length (struct_fields (list_schema self.now)) }
     {
-        self.schema.set.field_count(self.schema.number)
+        self.schema.schemas.field_count(self.schema.number)
     }
 
     /// Whether there are none.

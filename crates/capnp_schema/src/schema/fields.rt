@@ -54,7 +54,7 @@ impl<'s> Field<'s> {
         requires { index < length (struct_fields schema) }
         ensures { IsFieldOf schema.entry index result }
     {
-        let Some(typed) = schema.set.field_record(schema.number, index) else {
+        let Some(typed) = schema.schemas.field_record(schema.number, index) else {
             unreachable!()
         };
         Field {
@@ -79,8 +79,8 @@ impl<'s> Field<'s> {
         ensures stands { IsStruct result }
         ensures field { IsFieldOf result (index_of self.now) self.now }
     {
-        // What every set is known to meet is known of it here.
-        let _lists = self.schema.set.accepted_lists();
+        // The prover learns the set's invariant from this call.
+        let _lists = self.schema.schemas.accepted_lists();
         self.schema
     }
 
@@ -106,8 +106,8 @@ impl<'s> Field<'s> {
         ensures view { IsViewOf (default_of (typed_of self.now).field) result }
         ensures fits { DefaultFits (typed_of self.now) }
     {
-        // What every set is known to meet is known of it here.
-        let _lists = self.schema.set.accepted_lists();
+        // The prover learns the set's invariant from this call.
+        let _lists = self.schema.schemas.accepted_lists();
         match &self.proto.kind {
             FieldKind::Slot { offset: _, default } => view(default),
             FieldKind::Group { node: _ } => Value::Void,
@@ -145,7 +145,7 @@ impl<'s> Field<'s> {
         let Place::Group(brand) = self.plan().place else {
             return None;
         };
-        Some(self.schema.set.struct_schema(brand))
+        Some(self.schema.schemas.struct_schema(brand))
     }
 
     /// Its annotations, each with its type in the brand. The answer is always Ok.
@@ -155,7 +155,7 @@ impl<'s> Field<'s> {
             ≡ (typed_of self.entry).field.annotations) }
         ensures set { IsOkAnd result (λ list. annotations_set list ≡ set_of (field_schema self.entry)) }
     {
-        Ok(AnnotationList::of_field(self.schema.set, self.schema.number, self.index))
+        Ok(AnnotationList::of_field(self.schema.schemas, self.schema.number, self.index))
     }
 
     /// Where the field stands in its struct, worked out when the set was made. It lies inside each struct that has the
@@ -169,6 +169,6 @@ impl<'s> Field<'s> {
         ensures group { IfGroup result.place (LeadsToGroup (set_of (field_schema self.now))
             (number_of (field_schema self.now))) }
     {
-        *self.schema.set.plan(self.schema.number, self.index)
+        *self.schema.schemas.plan(self.schema.number, self.index)
     }
 }

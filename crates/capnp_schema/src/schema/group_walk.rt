@@ -60,7 +60,7 @@ impl<'s> GroupWalk<'s> {
         ensures { MatchOption result (length (struct_fields (walk_schema self.now)) ≤ walk_index self.now)
             (IsFieldOf (walk_schema self.now) (walk_index self.now)) }
     {
-        if self.index < self.schema.set.field_count(self.schema.number) {
+        if self.index < self.schema.schemas.field_count(self.schema.number) {
             return Some(Field::new(self.schema, self.index));
         }
         None
@@ -76,7 +76,7 @@ impl<'s> GroupWalk<'s> {
         ensures frames { frames result ≡ (walk_brand self.entry, walk_index self.entry + 1) ∷ above self.entry }
     {
         // An index is below the count of fields, which 16 bits hold.
-        let _count = self.schema.set.field_count(self.schema.number);
+        let _count = self.schema.schemas.field_count(self.schema.number);
         GroupWalk {
             schema: self.schema,
             index: self.index + 1,
@@ -114,11 +114,11 @@ impl<'s> GroupWalk<'s> {
         if self.depth == 0 {
             return None;
         }
-        let Some((brand, index)) = self.schema.set.group_field(self.schema.number) else {
+        let Some((brand, index)) = self.schema.schemas.group_field(self.schema.number) else {
             return None;
         };
         Some(GroupWalk {
-            schema: self.schema.set.struct_schema(brand),
+            schema: self.schema.schemas.struct_schema(brand),
             index: index + 1,
             depth: self.depth - 1,
         })

@@ -25,7 +25,7 @@ use capnp_wire::error::{Error, ErrorKind, Result};
 #[derive_where(PartialEq, Eq, Hash, Debug)]
 pub struct StructSchema<'s> {
     #[derive_where(skip)]
-    pub(crate) set: &'s SchemaSet,
+    pub(crate) schemas: &'s SchemaSet,
     pub(crate) number: u32,
 }
 
@@ -43,22 +43,22 @@ impl<'s> StructSchema<'s> {
     ghost use Rattle.capnp_schema.specs.FieldLists.{IsFound, list_schema, subset_indices, subset_schema};
 
     /// The schema of those numbers, which have to be a brand of the set and its node.
-    pub fn new(set: &'s SchemaSet, raw: RawBrandedStructSchema) -> StructSchema<'s>
-        requires number { raw.number < length (lists_seen set.now).brands }
-        requires generic { raw.generic ≡ (brand_at (lists_seen set.now) raw.number).node }
-        ensures set { set_of result ≡ lists_seen set.now }
+    pub fn new(schemas: &'s SchemaSet, raw: RawBrandedStructSchema) -> StructSchema<'s>
+        requires number { raw.number < length (lists_seen schemas.now).brands }
+        requires generic { raw.generic ≡ (brand_at (lists_seen schemas.now) raw.number).node }
+        ensures set { set_of result ≡ lists_seen schemas.now }
         ensures number { number_of result ≡ raw.number }
         ensures generic { generic_of result ≡ raw.generic }
         ensures stands { IsStruct result }
     {
-        set.struct_schema(raw.number)
+        schemas.struct_schema(raw.number)
     }
 
     /// The set that it is of.
     pub fn get_set(&self) -> &'s SchemaSet
         ensures { lists_seen result.now ≡ set_of self.now }
     {
-        self.set
+        self.schemas
     }
 
     /// The node: the struct without the types of its fields. One with nothing in it where the schema's number is past
@@ -66,7 +66,7 @@ impl<'s> StructSchema<'s> {
     pub fn get_proto(&self) -> &'s NodeRecord
         ensures { seen_node result.now ≡ struct_node self.now }
     {
-        self.set.node_record(self.number)
+        self.schemas.node_record(self.number)
     }
 
     /// The first of the 16 bits in the data section that say which member of the union is active; none where there is
@@ -78,9 +78,9 @@ impl<'s> StructSchema<'s> {
         ensures aligned { IfSome result (λ first. first % 16 ≡ 0) }
         ensures inside { IfSome result (λ first. first + 16 ≤ 64 * (struct_node self.now).data_word_count) }
     {
-        // What every set is known to meet is known of it here.
-        let _lists = self.set.accepted_lists();
-        self.set.discriminant(self.number)
+        // The prover learns the set's invariant from this call.
+        let _lists = self.schemas.accepted_lists();
+        self.schemas.discriminant(self.number)
     }
 
     /// All fields, by index. The answer is always Ok.
@@ -95,7 +95,7 @@ impl<'s> StructSchema<'s> {
     pub fn get_field_by_discriminant(self, discriminant: u16) -> Result<Option<Field<'s>>>
         ensures { IsOkAnd result (IsFound self.entry (member_of (struct_records self.entry) discriminant)) }
     {
-        match self.set.find_member(self.number, discriminant) {
+        match self.schemas.find_member(self.number, discriminant) {
             Some(index) => Ok(Some(Field::new(self, index))),
             None => Ok(None),
         }
@@ -118,7 +118,7 @@ impl<'s> StructSchema<'s> {
         ensures some { 0 < length (struct_records self.now) → 0 < result.1 }
         ensures digits { 0 < length (struct_records self.now) → 2 ^ result.1 ≤ 2 * length (struct_records self.now) }
     {
-        let (found, count) = self.set.find_field(self.number, name);
+        let (found, count) = self.schemas.find_field(self.number, name);
         match found {
             Some(index) => (Some(Field::new(*self, index)), count),
             None => (None, count),
@@ -146,16 +146,16 @@ impl<'s> StructSchema<'s> {
         ensures { IsOkAnd result (λ fields. (subset_schema fields ≡ self.entry)
             × AreMembers (struct_records self.entry) (subset_indices fields)) }
     {
-        Ok(FieldSubset::new(self, self.set.members(self.number)))
+        Ok(FieldSubset::new(self, self.schemas.members(self.number)))
     }
 
     /// The fields that are no members of the union, by index. The answer is always Ok.
-    #[tactic(auto, using(crate::proofs::StructLookUps::plain_are_typed))]
+    #[tactic(auto, using(crate::proofs::StructLookUps::non_union_are_typed))]
     pub fn get_non_union_fields(self) -> Result<FieldSubset<'s>>
         ensures { IsOkAnd result (λ fields. (subset_schema fields ≡ self.entry)
             × (subset_indices fields ≡ non_union_fields (struct_records self.entry))) }
     {
-        Ok(FieldSubset::new(self, self.set.plain(self.number)))
+        Ok(FieldSubset::new(self, self.schemas.non_union(self.number)))
     }
 
     /// The field whose group this is, which undoes `Field::get_group`; none for a struct that is no group. A handle has a
@@ -166,10 +166,10 @@ impl<'s> StructSchema<'s> {
         ensures none { length (set_of self.now).brands ≤ 2 ^ 32
             → IfNone result (IsFalse (struct_node self.now).is_group) }
     {
-        let Some((brand, index)) = self.set.group_field(self.number) else {
+        let Some((brand, index)) = self.schemas.group_field(self.number) else {
             return None;
         };
-        Some(Field::new(self.set.struct_schema(brand), index))
+        Some(Field::new(self.schemas.struct_schema(brand), index))
     }
 
     /// The annotations of its node, each with its type in the brand. The answer is always Ok.
@@ -180,7 +180,7 @@ impl<'s> StructSchema<'s> {
             ≡ (struct_node self.entry).annotations) }
         ensures set { IsOkAnd result (λ list. annotations_set list ≡ set_of self.entry) }
     {
-        Ok(AnnotationList::of_struct(self.set, self.number))
+        Ok(AnnotationList::of_struct(self.schemas, self.number))
     }
 }
 
@@ -192,7 +192,7 @@ impl<'s> From<StructSchema<'s>> for RawBrandedStructSchema {
     fn from(schema: StructSchema<'s>) -> RawBrandedStructSchema {
         RawBrandedStructSchema {
             number: schema.number,
-            generic: schema.set.generic_number(schema.number),
+            generic: schema.schemas.generic_number(schema.number),
         }
     }
 }

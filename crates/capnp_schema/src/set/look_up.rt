@@ -114,12 +114,12 @@ impl SchemaSet {
         table_at(&self.tables.members, node)
     }
 
-    /// The indices of a node's plain fields, by index.
-    fn node_plain(&self, node: usize) -> &[u16]
+    /// The indices of a node's non-union fields, by index.
+    fn node_non_union(&self, node: usize) -> &[u16]
         ensures is { result.now ≡ non_union_fields (node_at (lists_seen self.now) node).fields }
         ensures few { length result.now ≤ 65535 }
     {
-        table_at(&self.tables.plain, node)
+        table_at(&self.tables.non_union, node)
     }
 
     /// The index of the field of a name, and how many names were compared: none where there are no fields, and
@@ -154,13 +154,13 @@ impl SchemaSet {
         index_at(self.members(brand), discriminant as usize)
     }
 
-    /// The indices of the plain fields, by index.
-    pub(crate) fn plain(&self, brand: u32) -> &[u16]
+    /// The indices of the non-union fields, by index.
+    pub(crate) fn non_union(&self, brand: u32) -> &[u16]
         ensures is { result.now ≡ non_union_fields (records_of (lists_seen self.now) brand) }
         ensures few { length result.now ≤ 65535 }
     {
         match self.node_number(brand) {
-            Some(node) => self.node_plain(node),
+            Some(node) => self.node_non_union(node),
             None => &[],
         }
     }
@@ -194,7 +194,7 @@ impl SchemaSet {
     pub(crate) fn discriminant(&self, brand: u32) -> Option<u32>
         ensures { result ≡ discriminant_of (node_of (lists_seen self.now) brand) }
     {
-        // What every set is known to meet is known of it here.
+        // The prover learns the set's invariant from this call.
         let _lists = self.accepted_lists();
         let Some(index) = self.find_member(brand, 0) else {
             return None;

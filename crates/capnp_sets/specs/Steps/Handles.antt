@@ -16,7 +16,7 @@ use Rattle.capnp_sets.specs.Lists.{elements_of}
 abbrev pub meta_record_in : ℕ → StructReader → Record
 meta_record_in b s = struct_record meta (Left (struct_levels s)) (struct_of s) b
 
--- field i of such a struct: a plain one, or the active member
+-- field i of such a struct: a non-union one, or the active member
 abbrev pub IsMetaFieldActive : ℕ → ℕ → StructReader → Type 0
 IsMetaFieldActive b i s = (is_member (field_at meta b i).field ≡ false) ⊎ (which_of (meta_record_in b s) ≡ Some i)
 

@@ -37,7 +37,7 @@ abbrev pub kept_indices : (ℕ → Bool) → List ℕ → List ℕ
 kept_indices passes [] = []
 kept_indices passes (i ∷ is) = keep_index (passes i) i (kept_indices passes is)
 
--- whether a struct has the field of an index, and those of its plain fields that it has
+-- whether a struct has the field of an index, and those of its non-union fields that it has
 abbrev pub is_index_there : Schemas → Levels → StructTree → ℕ → ℕ → Bool
 is_index_there set l x b i = is_part_there set l x (field_at set b i)
 
@@ -49,7 +49,7 @@ abbrev pub if_passes : (ℕ → Bool) → Option ℕ → Option ℕ
 if_passes passes None = None
 if_passes passes (Some i) = cond (passes i) (Some i) None
 
--- the field that is copied at a place: at 0 the active member, and at i + 1 field i, where that is plain and there
+-- the field that is copied at a place: at 0 the active member, and at i + 1 field i, where that is non-union and there
 unfoldable pub copied_at : Schemas → Levels → StructTree → ℕ → (place : ℕ) → Option ℕ
 copied_at set l x b zero = active_in set l x b
 copied_at set l x b (suc i) = if_passes (is_index_there set l x b) (field_cleared_at set b (suc i))

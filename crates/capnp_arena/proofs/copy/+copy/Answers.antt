@@ -53,14 +53,14 @@ append_row-returns-clause-copy t c =
 
 pub append_composite-returns-in-Some-clause-copy : goal.append_composite-returns-in-Some-clause-copy
 append_composite-returns-in-Some-clause-copy t c =
-    let row : length c.in-Some.plain.now ≡ 8 * (struct_count (element_structs c.args.size.data_words c.args.size.pointers c.args.elements) * (c.args.size.data_words + c.args.size.pointers)) =
-    ap length (sym (c.in-Some.ensures.plain.own 0)) ∙ length_element_row c.args.size.data_words c.args.size.pointers 0 (element_structs c.args.size.data_words c.args.size.pointers c.args.elements) c.requires.held.4 in
-    plain_list c.args.size.data_words c.args.size.pointers c.count_elements-count.result (element_structs c.args.size.data_words c.args.size.pointers c.args.elements) c.in-Some.plain.now c.args.arena.now.bytes.items c.append_word.new.self.bytes.items _ (sym c.count_elements-count.ensures) c.in-Some.ensures.plain
+    let row : length c.in-Some.bytes.now ≡ 8 * (struct_count (element_structs c.args.size.data_words c.args.size.pointers c.args.elements) * (c.args.size.data_words + c.args.size.pointers)) =
+    ap length (sym (c.in-Some.ensures.pointerless.own 0)) ∙ length_element_row c.args.size.data_words c.args.size.pointers 0 (element_structs c.args.size.data_words c.args.size.pointers c.args.elements) c.requires.held.4 in
+    plain_list c.args.size.data_words c.args.size.pointers c.count_elements-count.result (element_structs c.args.size.data_words c.args.size.pointers c.args.elements) c.in-Some.bytes.now c.args.arena.now.bytes.items c.append_word.new.self.bytes.items _ (sym c.count_elements-count.ensures) c.in-Some.ensures.pointerless
     (c.in_ok-append_word.ensures.longer ∙ ap (λ w. c.args.arena.now.bytes.items ++ spelled_number 8 w) c.make_struct_word.ensures)
-    (c.in_ok-append_bytes.ensures.longer ∙ ap (λ z. c.append_word.new.self.bytes.items ++ z) (padded_whole c.in-Some.plain.now _ row))
+    (c.in_ok-append_bytes.ensures.longer ∙ ap (λ z. c.append_word.new.self.bytes.items ++ z) (padded_whole c.in-Some.bytes.now _ row))
 
 pub append_composite-returns-in-Some-clause-sound : goal.append_composite-returns-in-Some-clause-sound
-append_composite-returns-in-Some-clause-sound t c = c.in-Some.ensures.plain.faults
+append_composite-returns-in-Some-clause-sound t c = c.in-Some.ensures.pointerless.faults
 
 pub append_composite-returns-in-Some-clause-kept : goal.append_composite-returns-in-Some-clause-kept
 append_composite-returns-in-Some-clause-kept t c = kept_then _ _ _ (added_kept c.append_word.result _ _ _ c.append_word.ensures.longer c.append_word.ensures.refused) (added_kept c.append_bytes.result _ _ _ c.append_bytes.ensures.longer c.append_bytes.ensures.refused)

@@ -68,7 +68,7 @@ pub append_tree-returns-else-element_size-eq6 : goal.append_tree-returns-else-el
 append_tree-returns-else-element_size-eq6 t c =
     let e : shape_at c.args.bytes.now c.args.w ≡ ListIn c.in-List.start c.in-List.element_size c.in-List.count = sym c.requires.shape ∙ ap shape_found c.in-List.is in
     let q : Points c.args.bytes.now c.args.w (ListIn c.in-List.start c.in-List.element_size c.in-List.count) = subst (Points c.args.bytes.now c.args.w) (ap shape_found c.in-List.is) c.requires.points in
-    subst (λ z. IfOk c.append_plain.result (λ _. c.append_plain.new.out.items ≡ c.args.out.now.items ++ z)) (sym (bytes_plain _ _ c.requires.forest _ _ _ (omega (arith, q.2, c.if-element_size-eq6.false)) e)) c.append_plain.ensures
+    subst (λ z. IfOk c.append_pointerless.result (λ _. c.append_pointerless.new.out.items ≡ c.args.out.now.items ++ z)) (sym (bytes_plain _ _ c.requires.forest _ _ _ (omega (arith, q.2, c.if-element_size-eq6.false)) e)) c.append_pointerless.ensures
 
 pub append_tree-append_composite-requires : goal.append_tree-append_composite-requires
 append_tree-append_composite-requires t c =

@@ -77,7 +77,7 @@ follow-returns-else-element_size-eq6 t c =
     let e : shape_at c.args.bytes.now c.args.w ≡ ListIn c.in-List.start c.in-List.element_size c.in-List.count = sym c.look.ensures.shape ∙ ap shape_found c.in-List.is in
     let q : Points c.args.bytes.now c.args.w (ListIn c.in-List.start c.in-List.element_size c.in-List.count) = subst (Points c.args.bytes.now c.args.w) (ap shape_found c.in-List.is) c.look.ensures.points in
     let same : c.in-List.start ≡ c.args.end = omega (arith, c.if-start-end-2.false) in
-    if_known c.end_of_plain.result _ _ (λ n x. subst (λ a. IsLaid c.args.bytes.now c.args.w a n) same (plain_laid c.args.bytes.now c.args.w c.requires.forest c.in-List.start c.in-List.element_size c.in-List.count n (omega (arith, q.2, c.if-element_size-eq6.false)) e q x.0 x.1 x.2)) c.end_of_plain.ensures
+    if_known c.end_of_pointerless.result _ _ (λ n x. subst (λ a. IsLaid c.args.bytes.now c.args.w a n) same (plain_laid c.args.bytes.now c.args.w c.requires.forest c.in-List.start c.in-List.element_size c.in-List.count n (omega (arith, q.2, c.if-element_size-eq6.false)) e q x.0 x.1 x.2)) c.end_of_pointerless.ensures
 
 pub follow-returns-then-pointers-eq0 : goal.follow-returns-then-pointers-eq0
 follow-returns-then-pointers-eq0 t c =
@@ -120,8 +120,8 @@ bytes_there bytes w end word f n l k s o =
     sym (looked_is bytes w _ (points bytes w f)) ∙ ap (looked_shape bytes w) (sym n)
     ∙ of_list bytes w word end 2 (count word) (λ z. omega (arith, z, k)) k s refl (λ z. omega (arith, z)) (omega (arith, o, l))
 
-pub follow_at-end_of_plain-requires-clause-inside : goal.follow_at-end_of_plain-requires-clause-inside
-follow_at-end_of_plain-requires-clause-inside t c =
+pub follow_at-end_of_pointerless-requires-clause-inside : goal.follow_at-end_of_pointerless-requires-clause-inside
+follow_at-end_of_pointerless-requires-clause-inside t c =
     let bytes = c.args.bytes.now in let w = c.args.w in let word = c.get_inner_word-word.result in
     let h = c.if-leads_to_bytes.ensures refl in
     let e : shape_at bytes w ≡ ListIn c.args.end 2 (count word) = bytes_there bytes w c.args.end word c.requires.forest c.get_inner_word-word.ensures c.requires.before h.0 h.1 h.2 in
@@ -135,7 +135,7 @@ follow_at-returns-then-leads_to_bytes t c =
     let e : shape_at bytes w ≡ ListIn c.args.end 2 (count word) = bytes_there bytes w c.args.end word c.requires.forest c.get_inner_word-word.ensures c.requires.before h.0 h.1 h.2 in
     let f : shape_at bytes w ≡ ListIn c.args.end 2 c.get_count.result = e ∙ ap (ListIn c.args.end 2) (sym c.get_count.ensures) in
     let q : Points bytes w (ListIn c.args.end 2 c.get_count.result) = subst (Points bytes w) f (points bytes w c.requires.forest) in
-    if_known c.end_of_plain.result _ _ (λ n x. plain_laid bytes w c.requires.forest c.args.end 2 c.get_count.result n (omega arith) f q x.0 x.1 x.2) c.end_of_plain.ensures
+    if_known c.end_of_pointerless.result _ _ (λ n x. plain_laid bytes w c.requires.forest c.args.end 2 c.get_count.result n (omega arith) f q x.0 x.1 x.2) c.end_of_pointerless.ensures
 
 pub follow_at-returns-in-Null : goal.follow_at-returns-in-Null
 follow_at-returns-in-Null t c =
@@ -148,7 +148,7 @@ follow_at-returns-else-depth-least t c =
     let e : shape_at c.args.bytes.now c.args.w ≡ ListIn c.in-List.start c.in-List.element_size c.in-List.count = sym c.look.ensures.shape ∙ ap shape_found c.in-List.is in
     let q : Points c.args.bytes.now c.args.w (ListIn c.in-List.start c.in-List.element_size c.in-List.count) = subst (Points c.args.bytes.now c.args.w) (ap shape_found c.in-List.is) c.look.ensures.points in
     let same : c.in-List.start ≡ c.args.end = omega (arith, c.if-start-end.false) in
-    if_known c.end_of_plain-in-List.result _ _ (λ n x. subst (λ a. IsLaid c.args.bytes.now c.args.w a n) same (plain_laid c.args.bytes.now c.args.w c.requires.forest c.in-List.start c.in-List.element_size c.in-List.count n (omega (arith, q.2, c.if-element_size-eq6.false)) e q x.0 x.1 x.2)) c.end_of_plain-in-List.ensures
+    if_known c.end_of_pointerless-in-List.result _ _ (λ n x. subst (λ a. IsLaid c.args.bytes.now c.args.w a n) same (plain_laid c.args.bytes.now c.args.w c.requires.forest c.in-List.start c.in-List.element_size c.in-List.count n (omega (arith, q.2, c.if-element_size-eq6.false)) e q x.0 x.1 x.2)) c.end_of_pointerless-in-List.ensures
 
 -- ---- rows ----
 

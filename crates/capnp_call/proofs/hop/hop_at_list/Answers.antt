@@ -22,19 +22,19 @@ name_element e = cc
 
 pub returns-in-Element : goal.returns-in-Element
 returns-in-Element c =
-    subst (λ (s : Step). HopLeads (first_step (ListGoes c.args.word (lists_seen c.args.set.now) (seen_type c.args.element) (segment c.args.arena.now)) s) c.hop_in_list.result (segment c.hop_in_list.new.arena))
+    subst (λ (s : Step). HopLeads (first_step (ListGoes c.args.word (lists_seen c.args.schemas.now) (seen_type c.args.element) (segment c.args.arena.now)) s) c.hop_in_list.result (segment c.hop_in_list.new.arena))
     (sym c.in-Element.is) c.hop_in_list.ensures
 
 pub returns-in-Field : goal.returns-in-Field
 returns-in-Field c = λ rest end.
-    let set = lists_seen c.args.set.now in
+    let set = lists_seen c.args.schemas.now in
     let e = seen_type c.args.element in
     list_refused c.args.word set e (c.args.step ∷ rest) end (segment c.args.arena.now) _ NotAContainer c.requires.stands.forest c.from.ensures
     (names_none set e (tree (segment c.args.arena.now) c.args.word) c.requires.stands.list c.requires.there (c.args.step ∷ rest) c.args.step rest end refl (λ i e. field_element (sym c.in-Field.is ∙ e)))
 
 pub returns-in-Named : goal.returns-in-Named
 returns-in-Named c = λ rest end.
-    let set = lists_seen c.args.set.now in
+    let set = lists_seen c.args.schemas.now in
     let e = seen_type c.args.element in
     list_refused c.args.word set e (c.args.step ∷ rest) end (segment c.args.arena.now) _ NotAContainer c.requires.stands.forest c.from-in-Named.ensures
     (names_none set e (tree (segment c.args.arena.now) c.args.word) c.requires.stands.list c.requires.there (c.args.step ∷ rest) c.args.step rest end refl (λ i e. name_element (sym c.in-Named.is ∙ e)))

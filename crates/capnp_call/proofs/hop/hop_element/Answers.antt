@@ -13,7 +13,7 @@ hop_at_list-requires-clause-there c = list_there (tree (segment c.args.arena.now
 
 pub returns-else-is_list : goal.returns-else-is_list
 returns-else-is_list c = λ rest end.
-    let set = lists_seen c.args.set.now in
+    let set = lists_seen c.args.schemas.now in
     let e = seen_type c.args.element in
     let x = tree (segment c.args.arena.now) c.args.word in
     list_refused c.args.word set e (c.args.step ∷ rest) end (segment c.args.arena.now) _ c.refusal_at_nothing.result c.requires.forest c.from.ensures

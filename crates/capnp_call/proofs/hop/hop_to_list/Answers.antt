@@ -32,5 +32,5 @@ returns c =
       forest = c.pointer.ensures.forest;
       leaves = c.pointer.ensures.leaves;
     } in
-    list_leads c.args.place c.args.field (segment c.args.arena.now) c.enter_list.new.arena c.pointer.result slot (lists_seen c.get_set-set.result.now) c.args.element c.requires.leads
-    (c.get_set-set.ensures ∙ ap set_of c.get_containing_struct.ensures.is) c.in_default.ensures.list (at.List c.pointer.result c.get_set-set.result c.args.element) (λ bytes h. h) (λ old path end k new h. h)
+    list_leads c.args.place c.args.field (segment c.args.arena.now) c.enter_list.new.arena c.pointer.result slot (lists_seen c.get_set-schemas.result.now) c.args.element c.requires.leads
+    (c.get_set-schemas.ensures ∙ ap set_of c.get_containing_struct.ensures.is) c.in_default.ensures.list (at.List c.pointer.result c.get_set-schemas.result c.args.element) (λ bytes h. h) (λ old path end k new h. h)

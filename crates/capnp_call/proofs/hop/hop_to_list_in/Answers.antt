@@ -19,11 +19,11 @@ use Rattle.capnp_call.specs.declared.hop.At.TheVariants as at
 use Rattle.capnp_call.proofs.hop.hop_to_list_in.Goals as goal
 
 pub get_pointer_element-pointer-requires-clause-pointer : goal.get_pointer_element-pointer-requires-clause-pointer
-get_pointer_element-pointer-requires-clause-pointer c = has_pointer (lists_seen c.args.set.now) (seen_type c.args.inner) (tree (segment c.args.arena.now) c.args.word) c.args.index c.requires.list c.requires.inside
+get_pointer_element-pointer-requires-clause-pointer c = has_pointer (lists_seen c.args.schemas.now) (seen_type c.args.inner) (tree (segment c.args.arena.now) c.args.word) c.args.index c.requires.list c.requires.inside
 
 pub returns-in-Err : goal.returns-in-Err
 returns-in-Err c = λ rest end.
-    let set = lists_seen c.args.set.now in
+    let set = lists_seen c.args.schemas.now in
     let e = seen_type c.args.inner in
     let x = tree (segment c.args.arena.now) c.args.word in
     let i = c.args.index in
@@ -38,7 +38,7 @@ returns-in-Err c = λ rest end.
 
 pub returns : goal.returns
 returns c =
-    let set = lists_seen c.args.set.now in
+    let set = lists_seen c.args.schemas.now in
     let e = seen_type c.args.inner in
     let old = segment c.args.arena.now in
     let m = segment c.fill_list.new.arena in
@@ -46,4 +46,4 @@ returns c =
     list_in_leads c.args.word set e c.args.index old m p c.requires.inside (has_pointer set e (tree old c.args.word) c.args.index c.requires.list c.requires.inside) c.get_pointer_element-pointer.ensures.tree
     c.in_default.ensures.within c.tree_is_sound.ensures.whole c.in_default.ensures.filled c.in_default.ensures.frame.forest c.in_default.ensures.frame.changes c.requires.entries
     (inner_stands set e (tree old p) (tree m p) c.in_default.ensures.filled c.in_default.ensures.within c.tree_is_sound.ensures.whole c.tree_is_sound-2.ensures.formed)
-    c.get_pointer_element-pointer.ensures.leaves (at.List p c.args.set c.args.inner) (λ bytes h. h) (λ old path end k new h. h)
+    c.get_pointer_element-pointer.ensures.leaves (at.List p c.args.schemas c.args.inner) (λ bytes h. h) (λ old path end k new h. h)

@@ -14,7 +14,7 @@ use Rattle.capnp_call.proofs.list_end.do_element.Goals as goal
 
 pub returns-in-Get-clause-does : goal.returns-in-Get-clause-does
 returns-in-Get-clause-does c =
-    let set = lists_seen c.args.set.now in
+    let set = lists_seen c.args.schemas.now in
     let e = seen_type c.args.element in
     let x = tree (segment c.args.arena.now) c.args.at in
     subst (λ (o : Op). ElementDoes set e c.args.index o x c.get_element.result x) (sym c.in-Get.is)

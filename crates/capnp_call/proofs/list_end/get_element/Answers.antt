@@ -11,7 +11,7 @@ use Rattle.capnp_call.proofs.list_end.get_element.Goals as goal
 
 pub returns : goal.returns
 returns c =
-    let set = lists_seen c.args.set.now in
+    let set = lists_seen c.args.schemas.now in
     let e = seen_type c.args.element in
     let x = tree (segment c.args.arena.now) c.args.at in
     let y = list_of c.list_reader.result in

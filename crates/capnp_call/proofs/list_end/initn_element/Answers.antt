@@ -17,11 +17,11 @@ use Rattle.capnp_call.specs.Seen.{reply_seen}
 use Rattle.capnp_call.proofs.list_end.initn_element.Goals as goal
 
 pub init-requires-clause-room : goal.init-requires-clause-room
-init-requires-clause-room c = room_at (lists_seen c.args.set.now) c.args.element (tree (segment c.args.arena.now) c.args.at) c.args.index c.requires.list c.requires.inside
+init-requires-clause-room c = room_at (lists_seen c.args.schemas.now) c.args.element (tree (segment c.args.arena.now) c.args.at) c.args.index c.requires.list c.requires.inside
 
 pub returns-clause-does : goal.returns-clause-does
 returns-clause-does c =
-    let set = lists_seen c.args.set.now in
+    let set = lists_seen c.args.schemas.now in
     let e = seen_type c.args.element in
     let i = c.args.index in
     let n = c.args.count in

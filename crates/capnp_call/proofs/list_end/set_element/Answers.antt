@@ -16,11 +16,11 @@ use Rattle.capnp_call.specs.Seen.{reply_seen}
 use Rattle.capnp_call.proofs.list_end.set_element.Goals as goal
 
 pub set-requires-clause-room : goal.set-requires-clause-room
-set-requires-clause-room c = room_at (lists_seen c.args.set.now) c.args.element (tree (segment c.args.arena.now) c.args.at) c.args.index c.requires.list c.requires.inside
+set-requires-clause-room c = room_at (lists_seen c.args.schemas.now) c.args.element (tree (segment c.args.arena.now) c.args.at) c.args.index c.requires.list c.requires.inside
 
 pub returns-clause-does : goal.returns-clause-does
 returns-clause-does c =
-    let set = lists_seen c.args.set.now in
+    let set = lists_seen c.args.schemas.now in
     let e = seen_type c.args.element in
     let i = c.args.index in
     let s = source_seen c.from-source.result in

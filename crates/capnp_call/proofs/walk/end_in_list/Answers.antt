@@ -16,7 +16,7 @@ end_at_list-requires-clause-there c = list_there (tree (segment c.args.arena.now
 
 pub returns-then-is_list : goal.returns-then-is_list
 returns-then-is_list c =
-    let set = lists_seen c.args.set.now in
+    let set = lists_seen c.args.schemas.now in
     let e = seen_type c.args.element in
     let x = tree (segment c.args.arena.now) c.args.word in
     record {
@@ -27,7 +27,7 @@ returns-then-is_list c =
 
 pub returns-else-is_list : goal.returns-else-is_list
 returns-else-is_list c =
-    let set = lists_seen c.args.set.now in
+    let set = lists_seen c.args.schemas.now in
     let e = seen_type c.args.element in
     let x = tree (segment c.args.arena.now) c.args.word in
     list_refused c.args.word set e [] c.args.end (segment c.args.arena.now) c.refusal_of_end.result c.refusal_of_end.result c.requires.forest refl

@@ -18,8 +18,8 @@ pub hand_out-requires-clause-handed : goal.hand_out-requires-clause-handed
 hand_out-requires-clause-handed c =
     let f = c.args.field in
     let s : StructTree = built_at c.args.arena.now c.args.place in
-    can-hand (lists_seen c.get_set-set.result.now) (field_set f) (seen_variant c.which-variant.result) (typed_of f).type _ (filled_in f s)
-    (c.get_set-set.ensures ∙ ap set_of c.get_containing_struct.ensures.is)
+    can-hand (lists_seen c.get_set-schemas.result.now) (field_set f) (seen_variant c.which-variant.result) (typed_of f).type _ (filled_in f s)
+    (c.get_set-schemas.ensures ∙ ap set_of c.get_containing_struct.ensures.is)
     (ap seen_variant c.which-variant.ensures ∙ (seen_which c.get_type.result ∙ c.get_type.ensures.is))
     c.in_ok-at.ensures.now
     (can-fill (field_set f) (default_of (typed_of f).field) (typed_of f).type c.get_default-default.ensures.fits.read (pointer_in f s) c.in_ok-at.ensures.within
@@ -29,8 +29,8 @@ pub returns-clause-stands : goal.returns-clause-stands
 returns-clause-stands c =
     let f = c.args.field in
     let s : StructTree = built_at c.args.arena.now c.args.place in
-    handed-out false (lists_seen c.get_set-set.result.now) (field_set f) (seen_variant c.which-variant.result) (typed_of f).type _ (filled_in f s) c.hand_out.result
-    (c.get_set-set.ensures ∙ ap set_of c.get_containing_struct.ensures.is)
+    handed-out false (lists_seen c.get_set-schemas.result.now) (field_set f) (seen_variant c.which-variant.result) (typed_of f).type _ (filled_in f s) c.hand_out.result
+    (c.get_set-schemas.ensures ∙ ap set_of c.get_containing_struct.ensures.is)
     (ap seen_variant c.which-variant.ensures ∙ (seen_which c.get_type.result ∙ c.get_type.ensures.is))
     c.in_ok-at.ensures.now
     c.hand_out.ensures.stands

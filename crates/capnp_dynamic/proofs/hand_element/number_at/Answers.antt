@@ -20,7 +20,7 @@ use Rattle.capnp_dynamic.proofs.hand_element.number_at.Goals as goal
 
 pub returns-clause-stands : goal.returns-clause-stands
 returns-clause-stands c =
-    let set : Schemas = lists_seen c.args.set.now in
+    let set : Schemas = lists_seen c.args.schemas.now in
     let t : SchemaType = seen_variant c.which.result in
     let e : t ≡ seen_type c.args.element_type = ap seen_variant c.which.ensures ∙ seen_which c.args.element_type in
     let x : Tree = list_of c.read_list-reader.result in

@@ -14,16 +14,16 @@ use Rattle.capnp_dynamic.proofs.start.hand_new.Goals as goal
 pub hand_out-requires-clause-handed : goal.hand_out-requires-clause-handed
 hand_out-requires-clause-handed c =
     let f = c.args.field in
-    can-hand (lists_seen c.get_set-set.result.now) (field_set f) (seen_variant c.which-variant.result) (typed_of f).type _ (pointer_in f (built_at c.args.arena.now c.args.place))
-    (c.get_set-set.ensures ∙ ap set_of c.get_containing_struct.ensures.is)
+    can-hand (lists_seen c.get_set-schemas.result.now) (field_set f) (seen_variant c.which-variant.result) (typed_of f).type _ (pointer_in f (built_at c.args.arena.now c.args.place))
+    (c.get_set-schemas.ensures ∙ ap set_of c.get_containing_struct.ensures.is)
     (ap seen_variant c.which-variant.ensures ∙ (seen_which c.get_type.result ∙ c.get_type.ensures.is))
     c.pointer-at.ensures.tree c.requires.handed
 
 pub returns-clause-stands : goal.returns-clause-stands
 returns-clause-stands c =
     let f = c.args.field in
-    handed-out true (lists_seen c.get_set-set.result.now) (field_set f) (seen_variant c.which-variant.result) (typed_of f).type _ (pointer_in f (built_at c.args.arena.now c.args.place)) c.hand_out.result
-    (c.get_set-set.ensures ∙ ap set_of c.get_containing_struct.ensures.is)
+    handed-out true (lists_seen c.get_set-schemas.result.now) (field_set f) (seen_variant c.which-variant.result) (typed_of f).type _ (pointer_in f (built_at c.args.arena.now c.args.place)) c.hand_out.result
+    (c.get_set-schemas.ensures ∙ ap set_of c.get_containing_struct.ensures.is)
     (ap seen_variant c.which-variant.ensures ∙ (seen_which c.get_type.result ∙ c.get_type.ensures.is))
     c.pointer-at.ensures.tree
     c.hand_out.ensures.stands

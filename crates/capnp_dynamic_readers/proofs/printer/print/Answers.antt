@@ -11,7 +11,7 @@ use Rattle.capnp_dynamic_readers.proofs.printer.print.Goals as goal
 
 pub returns-in-Ok-clause-printed : goal.returns-in-Ok-clause-printed
 returns-in-Ok-clause-printed c =
-    let m = c.print_root.new.out in
+    let m = c.print_root_value.new.out in
     let put = subst (λ (z : Layout). IsPut (made_text c.new-made.result) (root_shown z c.args.value) (made_text m)) c.layout.ensures c.in-Ok.ensures.put in
     let whole = subst (λ (z : Taken). IsPut z (printed_text c.args.indented c.args.value) (made_text m)) c.new-made.ensures put in
     ok_map c.append_to.result (appended_whole (printed_text c.args.indented c.args.value) (string_bytes c.args.out.now) (string_bytes c.append_to.new.out) (made_bytes m) whole) c.append_to.ensures.appended

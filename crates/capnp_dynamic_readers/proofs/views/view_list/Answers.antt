@@ -11,6 +11,6 @@ use Rattle.capnp_dynamic_readers.proofs.views.view_list.Goals as goal
 
 pub returns-clause-value : goal.returns-clause-value
 returns-clause-value c =
-    handle_seen c.new.result (lists_seen c.args.set.now) c.in_ok-reader.reader c.in-List.element_type c.new.ensures.set c.new.ensures.reader c.new.ensures.element
-    ∙ (c.in_ok-reader.ensures (lists_seen c.args.set.now) (seen_type c.in-List.element_type) (sym (c.expected_element_size-size.ensures ∙ elements_sized c.in-List.element_type))
-    ∙ ap (λ (v : TypeVariant). view_read (lists_seen c.args.set.now) (view.List c.args.pointer) (seen_variant v)) (sym c.in-List.is))
+    handle_seen c.new.result (lists_seen c.args.schemas.now) c.in_ok-reader.reader c.in-List.element_type c.new.ensures.set c.new.ensures.reader c.new.ensures.element
+    ∙ (c.in_ok-reader.ensures (lists_seen c.args.schemas.now) (seen_type c.in-List.element_type) (sym (c.expected_element_size-size.ensures ∙ elements_sized c.in-List.element_type))
+    ∙ ap (λ (v : TypeVariant). view_read (lists_seen c.args.schemas.now) (view.List c.args.pointer) (seen_variant v)) (sym c.in-List.is))

@@ -18,7 +18,7 @@ use Rattle.capnp_request.proofs.ListsRead.{all_left}
 use Rattle.capnp_request.proofs.Numbering.{map_more}
 use Rattle.capnp_request.proofs.Refused.{err_done}
 use Rattle.capnp_request.proofs.ScopesBound.{bind_more, bind_over, bind_refused, binding_fault, binding_more, binding_refused, bindings_all, scopes_by, scopes_fault, scopes_none, scopes_unread}
-use Rattle.capnp_request.proofs.TypesDone.{binding_is, binding_none, binding_past, binding_unbound, binding_unread, brand_none, brand_some, brand_unread, by_depth, by_none, done_as, inherits_end, list_end, list_refused, list_unread, none_plain, past_by, plain_by, scope_done, scope_none, scope_other, scope_refused, scope_unread, struct_done, struct_missing, struct_named, struct_refused, struct_unbound, term_done, type_by, work_done}
+use Rattle.capnp_request.proofs.TypesDone.{binding_is, binding_none, binding_past, binding_unbound, binding_unread, brand_none, brand_some, brand_unread, by_depth, by_none, done_as, inherits_end, list_end, list_refused, list_unread, none_said_by_member, past_by, said_by_member, scope_done, scope_none, scope_other, scope_refused, scope_unread, struct_done, struct_missing, struct_named, struct_refused, struct_unbound, term_done, type_by, work_done}
 use Rattle.capnp_request.proofs.Walks.{begun_with, prefixed}
 use Rattle.capnp_request.proofs.types.+types.Goals as goal
 
@@ -31,11 +31,11 @@ type_of-returns-in_default-clause-done t c =
     let deep : c.args.depth ≡ suc (c.args.depth - 1) = omega (arith, c.if-depth-eq0.false) in
     λ n. ap (λ k. type_of (nodes_of c.args.context.nodes.now) c.args.context.strict (bounds c.args.inside.now) k (so_far c.args.entries.now c.args.seen.now)) (by_none (c.args.depth - 1) c.args.depth (record_seen c.args.term) deep (sym c.active_member.ensures ∙ c.in_default.is)) ∙ ap (λ k. Err k) (sym c.from-in_default.ensures)
 
-pub type_of-returns-in-Some-plain_type-clause-done : goal.type_of-returns-in-Some-plain_type-clause-done
-type_of-returns-in-Some-plain_type-clause-done t c =
+pub type_of-returns-in-Some-type_said_by_member-clause-done : goal.type_of-returns-in-Some-type_said_by_member-clause-done
+type_of-returns-in-Some-type_said_by_member-clause-done t c =
     let deep : c.args.depth ≡ suc (c.args.depth - 1) = omega (arith, c.if-depth-eq0.false) in
     let which : which_of (record_seen c.args.term) ≡ Some c.in-Some.member = sym c.active_member.ensures ∙ c.in-Some.is in
-    ap (λ k. type_of (nodes_of c.args.context.nodes.now) c.args.context.strict (bounds c.args.inside.now) k (so_far c.args.entries.now c.args.seen.now)) (plain_by (c.args.depth - 1) c.args.depth (record_seen c.args.term) c.in-Some.member (seen_type c.in-Some-plain_type.plain) deep which c.in-Some-plain_type.ensures)
+    ap (λ k. type_of (nodes_of c.args.context.nodes.now) c.args.context.strict (bounds c.args.inside.now) k (so_far c.args.entries.now c.args.seen.now)) (said_by_member (c.args.depth - 1) c.args.depth (record_seen c.args.term) c.in-Some.member (seen_type c.in-Some-type_said_by_member.said) deep which c.in-Some-type_said_by_member.ensures)
 
 pub type_of-returns-in-10-clause-done : goal.type_of-returns-in-10-clause-done
 type_of-returns-in-10-clause-done t c =
@@ -83,8 +83,8 @@ pub type_of-returns-in_default-member-clause-done : goal.type_of-returns-in_defa
 type_of-returns-in_default-member-clause-done t c =
     let deep : c.args.depth ≡ suc (c.args.depth - 1) = omega (arith, c.if-depth-eq0.false) in
     let which : which_of (record_seen c.args.term) ≡ Some c.in-Some.member = sym c.active_member.ensures ∙ c.in-Some.is in
-    let none : c.plain_type.result ≡ None = search rules in
-    let other = none_plain c.in-Some.member (option_map seen_type c.plain_type.result) c.plain_type.ensures (ap (option_map seen_type) none) in
+    let none : c.type_said_by_member.result ≡ None = search rules in
+    let other = none_said_by_member c.in-Some.member (option_map seen_type c.type_said_by_member.result) c.type_said_by_member.ensures (ap (option_map seen_type) none) in
     let no_float : 12 ≤ c.in-Some.member = omega (arith, other.0) in
     let behind : 14 ≤ c.in-Some.member = other.1 no_float in
     let past : 19 ≤ c.in-Some.member = omega (arith, behind) in

@@ -4,7 +4,7 @@ pub returns-clause-tables : goal.returns-clause-tables
 returns-clause-tables c = record {
   by_name = c.requires.names;
   members = c.in_ok-members.ensures.tables;
-  plain = c.in_ok-plain.ensures.tables;
+  non_union = c.in_ok-non_union.ensures.tables;
   plans = c.in_ok-plans.ensures.plans;
   group_fields = c.in_ok-group_fields.ensures.fields;
   empty_node = c.new.ensures.node;

@@ -13,17 +13,17 @@ use Rattle.capnp_schema.specs.declared.check.tour.Step.TheVariants as step
 
 -- ---- times ----
 
--- the plain part of a level holds its start and all times up to where it ends
+-- the non-union part of a level holds its start and all times up to where it ends
 abbrev pub IsOpen : Level → ℕ → Type 0
-IsOpen l t = l.start ≤ t → t < l.plain_end → ⊥
+IsOpen l t = l.start ≤ t → t < l.non_union_end → ⊥
 
 abbrev pub AreOpen : List Level → ℕ → Type 0
 AreOpen levels t = (k : ℕ) (l : Level) → slice_get levels k ≡ Some l → IsOpen l t
 
--- each level starts where the plain part of those before it has ended
+-- each level starts where the non-union part of those before it has ended
 pub record AreInOrder (levels : List Level) : Type 0 where
-  pub each : (k : ℕ) (l : Level) → slice_get levels k ≡ Some l → l.start ≤ l.plain_end
-  pub pairs : (j k : ℕ) (l m : Level) → j < k → slice_get levels j ≡ Some l → slice_get levels k ≡ Some m → l.plain_end ≤ m.start
+  pub each : (k : ℕ) (l : Level) → slice_get levels k ≡ Some l → l.start ≤ l.non_union_end
+  pub pairs : (j k : ℕ) (l m : Level) → j < k → slice_get levels j ≡ Some l → slice_get levels k ≡ Some m → l.non_union_end ≤ m.start
 
 -- the levels were open at each of so many marks, which are now the time, and no other mark has changed
 pub record AreClaimed (levels : List Level) (now first count : ℕ) (old new : List ℕ) : Type 0 where
@@ -50,40 +50,40 @@ pub record Names (set : Schemas) (b i : ℕ) (p : Spot) : Type 0 where
   pub groups : ℕ
   pub names : entry_names groups set (slice_get (fields_of set b) i) p ≡ true
 
--- the discriminant, or a plain field that so many steps are past, names a spot
+-- the discriminant, or a non-union field that so many steps are past, names a spot
 pub data NonUnionDone (set : Schemas) (b steps : ℕ) (p : Spot) : Type 0 where
   by_discriminant : discriminant_names (node_of set b) p ≡ true → NonUnionDone set b steps p
-  by_plain : (i : ℕ) → member_at set b i ≡ false → i < steps → Names set b i p → NonUnionDone set b steps p
+  by_non_union : (i : ℕ) → member_at set b i ≡ false → i < steps → Names set b i p → NonUnionDone set b steps p
 
--- the same of any field: the members follow on the plain fields
+-- the same of any field: the members follow on the non-union fields
 pub data Done (set : Schemas) (b steps : ℕ) (p : Spot) : Type 0 where
-  among_plain : NonUnionDone set b steps p → Done set b steps p
+  among_non_union : NonUnionDone set b steps p → Done set b steps p
   by_member : (i : ℕ) → member_at set b i ≡ true → length (fields_of set b) + i < steps → Names set b i p → Done set b steps p
 
 -- the field that a step is about
 pub data IsCurrent (set : Schemas) (b steps i : ℕ) : Type 0 where
-  plain : member_at set b i ≡ false → i < length (fields_of set b) → i ≡ steps → IsCurrent set b steps i
+  non_union : member_at set b i ≡ false → i < length (fields_of set b) → i ≡ steps → IsCurrent set b steps i
   member : member_at set b i ≡ true → length (fields_of set b) + i ≡ steps → IsCurrent set b steps i
 
--- a field names nothing that the discriminant names, or a plain field that is gone through before it
+-- a field names nothing that the discriminant names, or a non-union field that is gone through before it
 pub record IsClear (set : Schemas) (b i : ℕ) : Type 0 where
-  pub plain : member_at set b i ≡ false → (p : Spot) → Names set b i p → NonUnionDone set b i p → ⊥
+  pub non_union : member_at set b i ≡ false → (p : Spot) → Names set b i p → NonUnionDone set b i p → ⊥
   pub member : member_at set b i ≡ true → (p : Spot) → Names set b i p → NonUnionDone set b (length (fields_of set b)) p → ⊥
 
 -- ---- levels ----
 
--- what a level is past has its marks in the level's time, and the plain part of it in the level's plain part
+-- what a level is past has its marks in the level's time, and the non-union part of it in the level's non-union part
 pub record LevelStands (set : Schemas) (mark : Spot → ℕ) (now : ℕ) (l : Level) : Type 0 where
   pub started : (p : Spot) → Done set l.brand l.steps p → l.start ≤ mark p
-  pub plain : (p : Spot) → NonUnionDone set l.brand l.steps p → mark p < l.plain_end
-  pub clear_plain : (i : ℕ) → member_at set l.brand i ≡ false → i < l.steps → IsClear set l.brand i
+  pub non_union : (p : Spot) → NonUnionDone set l.brand l.steps p → mark p < l.non_union_end
+  pub clear_non_union : (i : ℕ) → member_at set l.brand i ≡ false → i < l.steps → IsClear set l.brand i
   pub clear_members : (i : ℕ) → member_at set l.brand i ≡ true → length (fields_of set l.brand) + i < l.steps → IsClear set l.brand i
-  pub ordered : l.start ≤ l.plain_end
-  pub ended : l.plain_end ≤ now
+  pub ordered : l.start ≤ l.non_union_end
+  pub ended : l.non_union_end ≤ now
 
--- a level above another names nothing that the plain part of the other does
+-- a level above another names nothing that the non-union part of the other does
 pub record IsAbove (set : Schemas) (l m : Level) : Type 0 where
-  pub later : l.plain_end ≤ m.start
+  pub later : l.non_union_end ≤ m.start
   pub apart : (p : Spot) → Done set m.brand m.steps p → NonUnionDone set l.brand l.steps p → ⊥
 
 -- a level is at a field that names the group

@@ -75,9 +75,9 @@ pub record AreSpansOf (set : Schemas) (b : ℕ) (spans : List (Vec Span Global))
   pub counted : length spans ≡ length (fields_of set b)
   pub each : (i : ℕ) (v : Vec Span Global) (p : Spot) → slice_get spans i ≡ Some v → some_span v.items p ≡ footprint set (field_at set b i) p
 
--- another field than that one, plain where a plain one is asked for, names the spot
-pub record IsSpotNamedBy (set : Schemas) (b : ℕ) (p : Spot) (other : ℕ) (plain : Bool) (i : ℕ) : Type 0 where
+-- another field than that one, non-union where a non-union one is asked for, names the spot
+pub record IsSpotNamedBy (set : Schemas) (b : ℕ) (p : Spot) (other : ℕ) (non_union : Bool) (i : ℕ) : Type 0 where
   pub field : i < length (fields_of set b)
   pub differs : i ≢ other
-  pub is_plain : plain ≡ true → is_member (field_at set b i).field ≡ false
+  pub is_outside_union : non_union ≡ true → is_member (field_at set b i).field ≡ false
   pub names : footprint set (field_at set b i) p ≡ true

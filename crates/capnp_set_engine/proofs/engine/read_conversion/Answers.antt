@@ -12,7 +12,7 @@ pub returns-clause-converted : goal.returns-clause-converted
 returns-clause-converted c =
     let root = root_entered c.args.bytes.now (received_tree c.in_ok-reader.reader) (tree_of c.get_root.result) (levels_of c.get_root.result) (struct_of c.in_ok-root.root) c.in_ok-reader.ensures c.get_root.ensures.tree c.get_root.ensures.levels c.in_ok-root.ensures.read in
     let seen = request_seen c.new-record.result c.in_ok-root.root (levels_of c.get_root.result) c.new-record.ensures.reader
-    (record { set = ap set_of c.new-record.ensures.schema ∙ (c.struct_schema.ensures.set ∙ c.in_ok-set.ensures.set); number = ap number_of c.new-record.ensures.schema ∙ c.struct_schema.ensures.number })
+    (record { set = ap set_of c.new-record.ensures.schema ∙ (c.struct_schema.ensures.set ∙ c.in_ok-schemas.ensures.set); number = ap number_of c.new-record.ensures.schema ∙ c.struct_schema.ensures.number })
     c.in_ok-root.ensures.levels c.get_root.ensures.levels in
     each_answer c.read_request.result (λ made h. record { root = struct_of c.in_ok-root.root; request = sym root; converted = conversion_is c.args.strict _ (struct_of c.in_ok-root.root) _ seen h }) c.read_request.ensures.read
 
@@ -20,7 +20,7 @@ pub returns-clause-refused : goal.returns-clause-refused
 returns-clause-refused c =
     let root = root_entered c.args.bytes.now (received_tree c.in_ok-reader.reader) (tree_of c.get_root.result) (levels_of c.get_root.result) (struct_of c.in_ok-root.root) c.in_ok-reader.ensures c.get_root.ensures.tree c.get_root.ensures.levels c.in_ok-root.ensures.read in
     let seen = request_seen c.new-record.result c.in_ok-root.root (levels_of c.get_root.result) c.new-record.ensures.reader
-    (record { set = ap set_of c.new-record.ensures.schema ∙ (c.struct_schema.ensures.set ∙ c.in_ok-set.ensures.set); number = ap number_of c.new-record.ensures.schema ∙ c.struct_schema.ensures.number })
+    (record { set = ap set_of c.new-record.ensures.schema ∙ (c.struct_schema.ensures.set ∙ c.in_ok-schemas.ensures.set); number = ap number_of c.new-record.ensures.schema ∙ c.struct_schema.ensures.number })
     c.in_ok-root.ensures.levels c.get_root.ensures.levels in
     each_refusal_of c.read_request.result (λ e h k m. inr (struct_of c.in_ok-root.root, sym root, conversion_is c.args.strict _ (struct_of c.in_ok-root.root) _ seen (h m), k)) c.read_request.ensures.refused c.read_request.ensures.kinds
 

@@ -5,4 +5,4 @@ use Rattle.capnp_set_engine.specs.Notes.{note_lines}
 use Rattle.capnp_set_engine.proofs.notes.get_lines.Given as goal
 
 abbrev pub invariant-loop-index : goal.invariant-loop-index
-invariant-loop-index l = string_bytes l.lines ++ note_lines (lists_seen l.set) (drop l.index l.notes) ≡ note_lines (lists_seen l.set) l.notes
+invariant-loop-index l = string_bytes l.lines ++ note_lines (lists_seen l.schemas) (drop l.index l.notes) ≡ note_lines (lists_seen l.schemas) l.notes

@@ -13,17 +13,17 @@ returns-clause-written c = if_ok c.write_message.result (λ v is. is ∙ ap mess
 
 pub returns-clause-read : goal.returns-clause-read
 returns-clause-read c = if_ok c.write_message.result
-    (λ v reads. message-read (lists_seen c.args.set.now) _ v.items c.in_ok-put_root.ensures.written c.in_ok-put_root.ensures.accepted c.in_ok-put_root.ensures.kept reads)
+    (λ v reads. message-read (lists_seen c.args.schemas.now) _ v.items c.in_ok-put_root.ensures.written c.in_ok-put_root.ensures.accepted c.in_ok-put_root.ensures.kept reads)
     c.write_message.ensures.read
 
 pub returns-clause-kinds : goal.returns-clause-kinds
-returns-clause-kinds c = always-ok c.write_message.result (set-kinds (lists_seen c.args.set.now) c.in_ok-put_root.ensures.kept)
+returns-clause-kinds c = always-ok c.write_message.result (set-kinds (lists_seen c.args.schemas.now) c.in_ok-put_root.ensures.kept)
 
 pub returns-clause-fits : goal.returns-clause-fits
 returns-clause-fits c = always-ok c.write_message.result c.in_ok-put_root.ensures.fits
 
 pub returns-clause-small : goal.returns-clause-small
-returns-clause-small c = on-if-ok c.write_message.result (λ v held. message-small (lists_seen c.args.set.now) _ c.in_ok-put_root.ensures.written held) c.write_message.ensures.held
+returns-clause-small c = on-if-ok c.write_message.result (λ v held. message-small (lists_seen c.args.schemas.now) _ c.in_ok-put_root.ensures.written held) c.write_message.ensures.held
 
 pub returns-clause-cause : goal.returns-clause-cause
 returns-clause-cause c = if_err c.write_message.result (λ e h. whole-refused e.kind h) c.write_message.ensures.kind

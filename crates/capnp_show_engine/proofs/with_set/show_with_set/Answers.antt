@@ -7,8 +7,8 @@ pub returns-clause-refused : goal.returns-clause-refused
 returns-clause-refused g c =
     each_refusal c.show.result
     (λ e f h. inr (inr (record {
-      set = lists_seen c.in_ok-set.set;
-      read = record { bytes = c.in_ok-bytes.bytes.items; read = (c.in_ok-bytes.ensures.whole, c.in_ok-bytes.ensures.to_end); stands = rw c.deref.ensures.value at c.in_ok-set.ensures.set; accepted = c.in_ok-set.ensures.accepted };
+      set = lists_seen c.in_ok-schemas.schemas;
+      read = record { bytes = c.in_ok-bytes.bytes.items; read = (c.in_ok-bytes.ensures.whole, c.in_ok-bytes.ensures.to_end); stands = rw c.deref.ensures.value at c.in_ok-schemas.ensures.set; accepted = c.in_ok-schemas.ensures.accepted };
       brand = c.in-Some.brand;
       named = sym c.in-Some.ensures.found;
       is_so = f h;
@@ -22,8 +22,8 @@ pub returns-clause-beginning : goal.returns-clause-beginning
 returns-clause-beginning g c =
     each_refusal c.show.result
     (λ e f h. record {
-      set = lists_seen c.in_ok-set.set;
-      read = record { bytes = c.in_ok-bytes.bytes.items; read = (c.in_ok-bytes.ensures.whole, c.in_ok-bytes.ensures.to_end); stands = rw c.deref.ensures.value at c.in_ok-set.ensures.set; accepted = c.in_ok-set.ensures.accepted };
+      set = lists_seen c.in_ok-schemas.schemas;
+      read = record { bytes = c.in_ok-bytes.bytes.items; read = (c.in_ok-bytes.ensures.whole, c.in_ok-bytes.ensures.to_end); stands = rw c.deref.ensures.value at c.in_ok-schemas.ensures.set; accepted = c.in_ok-schemas.ensures.accepted };
       brand = c.in-Some.brand;
       named = sym c.in-Some.ensures.found;
       is_so = f h;

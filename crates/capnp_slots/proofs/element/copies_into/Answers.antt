@@ -12,6 +12,6 @@ returns-in_default c =
     let v = c.which.result in
     let t : seen_variant v ≡ seen_type c.args.element = ap seen_variant c.which.ensures ∙ seen_which c.args.element in
     record {
-      takes = into-ok (lists_seen c.args.set.now) (source_seen c.args.source) c.requires.pointed c.requires.no_struct v (seen_type c.args.element) t c.in_default.not-AnyPointer _ c.copies_source.ensures;
-      refused = into-err (lists_seen c.args.set.now) (source_seen c.args.source) c.requires.pointed c.requires.no_struct v (seen_type c.args.element) t c.in_default.not-AnyPointer _ c.copies_source.ensures;
+      takes = into-ok (lists_seen c.args.schemas.now) (source_seen c.args.source) c.requires.pointed c.requires.no_struct v (seen_type c.args.element) t c.in_default.not-AnyPointer _ c.copies_source.ensures;
+      refused = into-err (lists_seen c.args.schemas.now) (source_seen c.args.source) c.requires.pointed c.requires.no_struct v (seen_type c.args.element) t c.in_default.not-AnyPointer _ c.copies_source.ensures;
     }

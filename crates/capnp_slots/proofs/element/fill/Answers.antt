@@ -13,18 +13,18 @@ use Rattle.capnp_slots.proofs.element.fill.Goals as goal
 
 pub returns-clause-filled : goal.returns-clause-filled
 returns-clause-filled c =
-    subst (λ (t : SchemaType). OnOk c.fill_at.result (tree (segment c.fill_at.new.arena) c.args.at ≡ with_pointer_element c.args.index (element_filled (lists_seen c.args.set.now) t (element_pointer (tree (segment c.args.arena.now) c.args.at) c.args.index 1)) (tree (segment c.args.arena.now) c.args.at)))
+    subst (λ (t : SchemaType). OnOk c.fill_at.result (tree (segment c.fill_at.new.arena) c.args.at ≡ with_pointer_element c.args.index (element_filled (lists_seen c.args.schemas.now) t (element_pointer (tree (segment c.args.arena.now) c.args.at) c.args.index 1)) (tree (segment c.args.arena.now) c.args.at)))
     (ap seen_variant c.which.ensures ∙ seen_which c.args.element)
     c.fill_at.ensures.filled
 
 pub returns-clause-within : goal.returns-clause-within
 returns-clause-within c =
-    subst (λ (t : SchemaType). OnOk c.fill_at.result (element_due (lists_seen c.args.set.now) t (element_pointer (tree (segment c.args.arena.now) c.args.at) c.args.index 1) ≡ None))
+    subst (λ (t : SchemaType). OnOk c.fill_at.result (element_due (lists_seen c.args.schemas.now) t (element_pointer (tree (segment c.args.arena.now) c.args.at) c.args.index 1) ≡ None))
     (ap seen_variant c.which.ensures ∙ seen_which c.args.element)
     c.fill_at.ensures.within
 
 pub returns-clause-cause : goal.returns-clause-cause
 returns-clause-cause c =
-    subst (λ (t : SchemaType). IfErr c.fill_at.result (λ e. IsDueRefusal e (element_due (lists_seen c.args.set.now) t (element_pointer (tree (segment c.args.arena.now) c.args.at) c.args.index 1))))
+    subst (λ (t : SchemaType). IfErr c.fill_at.result (λ e. IsDueRefusal e (element_due (lists_seen c.args.schemas.now) t (element_pointer (tree (segment c.args.arena.now) c.args.at) c.args.index 1))))
     (ap seen_variant c.which.ensures ∙ seen_which c.args.element)
     c.fill_at.ensures.cause

@@ -17,4 +17,4 @@ pub returns-clause-filled : goal.returns-clause-filled
 returns-clause-filled c =
     (c.get_pointer_element-pointer.ensures.leaves _ c.in_ok-fill_behind.ensures.frame.forest c.in_ok-fill_behind.ensures.frame.changes).tree
     ∙ (ap (λ (t : Tree). with_pointer_element c.args.index t (tree (segment c.args.arena.now) c.args.at)) c.in_ok-fill_behind.ensures.filled
-    ∙ ap (λ (y : Tree). with_pointer_element c.args.index (element_filled (lists_seen c.args.set.now) (seen_variant c.args.variant) y) (tree (segment c.args.arena.now) c.args.at)) c.get_pointer_element-pointer.ensures.tree)
+    ∙ ap (λ (y : Tree). with_pointer_element c.args.index (element_filled (lists_seen c.args.schemas.now) (seen_variant c.args.variant) y) (tree (segment c.args.arena.now) c.args.at)) c.get_pointer_element-pointer.ensures.tree)

@@ -11,5 +11,5 @@ use Rattle.capnp_slots.proofs.element.fill_behind.Goals as goal
 
 pub returns-in-List-clause-rests : goal.returns-in-List-clause-rests
 returns-in-List-clause-rests c = λ h.
-    c.fill_list.ensures.rests (still_rests (lists_seen c.args.set.now) (seen_type c.in-List.element) _
-    (subst (λ (v : TypeVariant). ElementRests (lists_seen c.args.set.now) (seen_variant v) (tree (segment c.args.arena.now) c.args.at)) c.in-List.is h))
+    c.fill_list.ensures.rests (still_rests (lists_seen c.args.schemas.now) (seen_type c.in-List.element) _
+    (subst (λ (v : TypeVariant). ElementRests (lists_seen c.args.schemas.now) (seen_variant v) (tree (segment c.args.arena.now) c.args.at)) c.in-List.is h))

@@ -11,7 +11,7 @@ returns-in_default c =
     let v = c.which.result in
     let t : seen_variant v ≡ seen_type c.args.element = ap seen_variant c.which.ensures ∙ seen_which c.args.element in
     record {
-      number = number-ok (lists_seen c.args.set.now) c.args.value v (seen_type c.args.element) t c.in_default.not-AnyPointer _ c.number_fits.ensures c.number_given.ensures;
-      given = same-ok (lists_seen c.args.set.now) c.args.value v (seen_type c.args.element) t c.in_default.not-AnyPointer _;
-      refused = number-err (lists_seen c.args.set.now) c.args.value v (seen_type c.args.element) t c.in_default.not-AnyPointer _ c.number_given.ensures;
+      number = number-ok (lists_seen c.args.schemas.now) c.args.value v (seen_type c.args.element) t c.in_default.not-AnyPointer _ c.number_fits.ensures c.number_given.ensures;
+      given = same-ok (lists_seen c.args.schemas.now) c.args.value v (seen_type c.args.element) t c.in_default.not-AnyPointer _;
+      refused = number-err (lists_seen c.args.schemas.now) c.args.value v (seen_type c.args.element) t c.in_default.not-AnyPointer _ c.number_given.ensures;
     }

@@ -17,10 +17,10 @@ store_element-requires-clause-room c =
 pub store_element-requires-clause-fits : goal.store_element-requires-clause-fits
 store_element-requires-clause-fits c =
     let t : seen_variant c.which.result ≡ seen_type c.args.element = ap seen_variant c.which.ensures ∙ seen_which c.args.element in
-    number-small (lists_seen c.args.set.now) (seen_type c.args.element) (seen_variant c.which.result) _ c.in_ok-number.number (sym t) c.in_ok-number.ensures.number
+    number-small (lists_seen c.args.schemas.now) (seen_type c.args.element) (seen_variant c.which.result) _ c.in_ok-number.number (sym t) c.in_ok-number.ensures.number
 
 pub returns-clause-set : goal.returns-clause-set
 returns-clause-set c =
     let t : seen_variant c.which.result ≡ seen_type c.args.element = ap seen_variant c.which.ensures ∙ seen_which c.args.element in
-    number-set (lists_seen c.args.set.now) (seen_type c.args.element) (seen_variant c.which.result) _ c.in_ok-number.number c.args.index _ _ t c.in_ok-number.ensures.number c.in_ok-number.ensures.given
+    number-set (lists_seen c.args.schemas.now) (seen_type c.args.element) (seen_variant c.which.result) _ c.in_ok-number.number c.args.index _ _ t c.in_ok-number.ensures.number c.in_ok-number.ensures.given
     c.store_element.ensures.written

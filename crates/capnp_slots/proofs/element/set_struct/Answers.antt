@@ -11,5 +11,5 @@ use Rattle.capnp_slots.proofs.element.set_struct.Goals as goal
 
 pub returns-in_default-clause-cause : goal.returns-in_default-clause-cause
 returns-in_default-clause-cause c =
-    struct-refused (lists_seen c.args.set.now) c.which.result (seen_type c.args.element) (Left (struct_levels c.args.reader)) (struct_of c.args.reader) (number_of c.args.schema) c.type_mismatch-in_default.result.kind
+    struct-refused (lists_seen c.args.schemas.now) c.which.result (seen_type c.args.element) (Left (struct_levels c.args.reader)) (struct_of c.args.reader) (number_of c.args.schema) c.type_mismatch-in_default.result.kind
     (ap seen_variant c.which.ensures ∙ seen_which c.args.element) c.in_default.not-Void c.in_default.not-Struct c.in_default.not-AnyPointer c.type_mismatch-in_default.ensures

@@ -12,14 +12,14 @@ use Rattle.capnp_slots.proofs.group.clear.Goals as goal
 
 pub returns-clause-cleared : goal.returns-clause-cleared
 returns-clause-cleared c =
-    let set : lists_seen c.get_set-set.result.now ≡ field_set c.args.field = c.get_set-set.ensures ∙ ap set_of c.get_containing_struct.ensures.is in
+    let set : lists_seen c.get_set-schemas.result.now ≡ field_set c.args.field = c.get_set-schemas.ensures ∙ ap set_of c.get_containing_struct.ensures.is in
     group-whole c.args.field c.in-Some.group _ _ _ _ c.in-Some.ensures
     (sym (length-map c.brands.result.now seen_brand) ∙ (ap length c.brands.ensures ∙ ap (λ (z : Schemas). length z.brands) set))
     c.switch.ensures.switched c.clear_group.ensures.cleared
 
 pub returns-clause-kept : goal.returns-clause-kept
 returns-clause-kept c =
-    let set : lists_seen c.get_set-set.result.now ≡ field_set c.args.field = c.get_set-set.ensures ∙ ap set_of c.get_containing_struct.ensures.is in
+    let set : lists_seen c.get_set-schemas.result.now ≡ field_set c.args.field = c.get_set-schemas.ensures ∙ ap set_of c.get_containing_struct.ensures.is in
     group-kept c.args.field c.in-Some.group _ _ _
     (subst IsStruct c.get_containing_struct.ensures.is c.get_containing_struct.ensures.stands)
     (subst HasRanges set c.numbers_fit.ensures)

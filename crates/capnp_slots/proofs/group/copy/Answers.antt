@@ -15,13 +15,13 @@ use Rattle.capnp_slots.proofs.group.copy.Goals as goal
 
 pub returns-clause-copied : goal.returns-clause-copied
 returns-clause-copied c =
-    let set : lists_seen c.get_set-set.result.now ≡ field_set c.args.field = c.get_set-set.ensures ∙ ap set_of c.get_containing_struct.ensures.is in
+    let set : lists_seen c.get_set-schemas.result.now ≡ field_set c.args.field = c.get_set-schemas.ensures ∙ ap set_of c.get_containing_struct.ensures.is in
     copied-whole c.args.field c.args.group _ (Left (struct_levels c.args.source)) (struct_of c.args.source) _ _ _ _ c.requires.group
     (sym (length-map c.brands.result.now seen_brand) ∙ (ap length c.brands.ensures ∙ ap (λ (z : Schemas). length z.brands) set)) c.switch.ensures.switched c.copy_group.ensures.copied
 
 pub returns-clause-kept : goal.returns-clause-kept
 returns-clause-kept c =
-    let set : lists_seen c.get_set-set.result.now ≡ field_set c.args.field = c.get_set-set.ensures ∙ ap set_of c.get_containing_struct.ensures.is in
+    let set : lists_seen c.get_set-schemas.result.now ≡ field_set c.args.field = c.get_set-schemas.ensures ∙ ap set_of c.get_containing_struct.ensures.is in
     copied-kept c.args.field c.args.group (Left (struct_levels c.args.source)) (struct_of c.args.source) _ _ _ _
     (subst IsStruct c.get_containing_struct.ensures.is c.get_containing_struct.ensures.stands) (subst HasRanges set c.numbers_fit.ensures) c.group_is_copied.ensures.inside
     c.requires.group c.requires.room (returns-clause-copied c) (keeps-size _ _ _ c.switch.ensures.kept) c.copy_group.ensures.kept

@@ -20,7 +20,7 @@ use Rattle.capnp_slots.proofs.part.fill_elements.Goals as goal
 
 pub returns-in-Struct-clause-written : goal.returns-in-Struct-clause-written
 returns-in-Struct-clause-written c =
-    let set : Schemas = lists_seen c.args.set.now in
+    let set : Schemas = lists_seen c.args.schemas.now in
     let D : Tree = reader_tree c.args.default in
     let x : Tree = nth_tree (built_at c.args.arena.now c.args.place).pointers c.args.index in
     let s = (built_at c.args.arena.now c.args.place) in
@@ -38,11 +38,11 @@ returns-in-Struct-clause-written c =
     })
 
 pub fill_list-requires-clause-simple : goal.fill_list-requires-clause-simple
-fill_list-requires-clause-simple c = (is_plain (lists_seen c.args.set.now) c.args.element c.which.result _ c.which.ensures c.expected_element_size.ensures c.in_default.not-Struct).simple
+fill_list-requires-clause-simple c = (is_plain (lists_seen c.args.schemas.now) c.args.element c.which.result _ c.which.ensures c.expected_element_size.ensures c.in_default.not-Struct).simple
 
 pub returns-in_default-clause-written : goal.returns-in_default-clause-written
 returns-in_default-clause-written c =
     let x : Tree = nth_tree (built_at c.args.arena.now c.args.place).pointers c.args.index in
     let D : Tree = reader_tree c.args.default in
-    let list = is_plain (lists_seen c.args.set.now) c.args.element c.which.result _ c.which.ensures c.expected_element_size.ensures c.in_default.not-Struct in
+    let list = is_plain (lists_seen c.args.schemas.now) c.args.element c.which.result _ c.which.ensures c.expected_element_size.ensures c.in_default.not-Struct in
     made-filled (built_at c.args.arena.now c.args.place) (built_at c.fill_list.new.arena c.args.place) c.args.index c.fill_list.result _ _ _ _ _ _ (sym (list.enters (or_default D x))) (sym (list.due D x)) (list.rests D x) c.fill_list.ensures.ok c.fill_list.ensures.within (same_struct c.args.place c.args.arena.now c.fill_list.new.arena c.fill_list.result c.fill_list.ensures.refused) c.fill_list.ensures.cause (λ h. c.fill_list.ensures.succeeds h.0 h.1)

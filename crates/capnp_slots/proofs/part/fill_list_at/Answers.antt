@@ -14,5 +14,5 @@ returns-clause-written c =
     part-filled (built_at c.args.arena.now c.args.place) (built_at c.fill_elements.new.arena c.args.place) c.args.index c.fill_elements.result c.args.field _ _ _
     (list-in c.args.field (variant.List c.args.element) c.args.index (built_at c.args.arena.now c.args.place) c.requires.is c.requires.type_is
     (ap is_null_tree (sym c.pointer_at.ensures.tree) ∙ (sym c.is_null.ensures ∙ c.if-is_null.false))
-    (lists_seen c.get_set-set.result.now) c.args.element (c.get_set-set.ensures ∙ ap set_of c.get_containing_struct.ensures.is) refl)
+    (lists_seen c.get_set-schemas.result.now) c.args.element (c.get_set-schemas.ensures ∙ ap set_of c.get_containing_struct.ensures.is) refl)
     c.fill_elements.ensures.written

@@ -16,7 +16,7 @@ use Rattle.capnp_slots.proofs.part.fill_null.Goals as goal
 pub returns-in-Struct-clause-written : goal.returns-in-Struct-clause-written
 returns-in-Struct-clause-written c =
     let s : StructTree = built_at c.args.arena.now c.args.place in
-    let set = c.get_set-set.ensures ∙ ap set_of c.get_containing_struct.ensures.is in
+    let set = c.get_set-schemas.ensures ∙ ap set_of c.get_containing_struct.ensures.is in
     let size = c.size_of-size.ensures ∙ (ap (λ z. brand_size z (number_of c.struct_schema.result)) (c.struct_schema.ensures.set ∙ set) ∙ ap (brand_size (field_set c.args.field)) c.struct_schema.ensures.number) in
     let part = struct-part c.args.field _ c.requires.slot c.default_pointer-default.ensures c.in-Struct.raw c.which.result c.size_of-size.result c.args.index s size c.requires.is c.in-Struct.is
     (ap seen_variant c.which.ensures ∙ (seen_which c.get_type.result ∙ c.get_type.ensures.is)) in
@@ -26,8 +26,8 @@ returns-in-Struct-clause-written c =
 pub returns-in-List-clause-written : goal.returns-in-List-clause-written
 returns-in-List-clause-written c =
     part-filled (built_at c.args.arena.now c.args.place) (built_at c.fill_elements.new.arena c.args.place) c.args.index c.fill_elements.result c.args.field _ _ _
-    (list-part c.args.field _ c.requires.slot c.default_pointer-default.ensures (lists_seen c.get_set-set.result.now) c.in-List.element c.which.result c.args.index (built_at c.args.arena.now c.args.place)
-    (c.get_set-set.ensures ∙ ap set_of c.get_containing_struct.ensures.is) c.requires.is c.in-List.is
+    (list-part c.args.field _ c.requires.slot c.default_pointer-default.ensures (lists_seen c.get_set-schemas.result.now) c.in-List.element c.which.result c.args.index (built_at c.args.arena.now c.args.place)
+    (c.get_set-schemas.ensures ∙ ap set_of c.get_containing_struct.ensures.is) c.requires.is c.in-List.is
     (ap seen_variant c.which.ensures ∙ (seen_which c.get_type.result ∙ c.get_type.ensures.is)))
     c.fill_elements.ensures.written
 

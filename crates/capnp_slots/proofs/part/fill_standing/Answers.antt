@@ -19,7 +19,7 @@ pub returns-in-Struct-clause-written : goal.returns-in-Struct-clause-written
 returns-in-Struct-clause-written c =
     let s : StructTree = built_at c.args.arena.now c.args.place in
     let type = ap seen_variant c.which.ensures ∙ (seen_which c.get_type.result ∙ c.get_type.ensures.is) in
-    let set = c.get_set-set.ensures ∙ ap set_of c.get_containing_struct.ensures.is in
+    let set = c.get_set-schemas.ensures ∙ ap set_of c.get_containing_struct.ensures.is in
     let size = c.size_of-size.ensures ∙ (ap (λ z. brand_size z (number_of c.struct_schema.result)) (c.struct_schema.ensures.set ∙ set) ∙ ap (brand_size (field_set c.args.field)) c.struct_schema.ensures.number) in
     part-made (built_at c.args.arena.now c.args.place) (built_at c.extend_struct.new.arena c.args.place) c.args.index c.extend_struct.result c.args.field _ _ _
     (struct-in c.args.field c.which.result c.args.index s c.requires.is type c.requires.standing c.in-Struct.raw c.size_of-size.result size c.in-Struct.is)
@@ -30,7 +30,7 @@ returns-in-List-clause-written c =
     part-filled (built_at c.args.arena.now c.args.place) (built_at c.fill_elements.new.arena c.args.place) c.args.index c.fill_elements.result c.args.field _ _ _
     (list-in c.args.field c.which.result c.args.index (built_at c.args.arena.now c.args.place) c.requires.is
     (ap seen_variant c.which.ensures ∙ (seen_which c.get_type.result ∙ c.get_type.ensures.is)) c.requires.standing
-    (lists_seen c.get_set-set.result.now) c.in-List.element (c.get_set-set.ensures ∙ ap set_of c.get_containing_struct.ensures.is) c.in-List.is)
+    (lists_seen c.get_set-schemas.result.now) c.in-List.element (c.get_set-schemas.ensures ∙ ap set_of c.get_containing_struct.ensures.is) c.in-List.is)
     c.fill_elements.ensures.written
 
 pub returns-in-Text-clause-written : goal.returns-in-Text-clause-written

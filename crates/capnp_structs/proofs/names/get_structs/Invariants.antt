@@ -5,4 +5,4 @@ use Rattle.capnp_structs.specs.Names.{struct_lines, structs_text}
 use Rattle.capnp_structs.proofs.names.get_structs.Given as goal
 
 abbrev pub invariant-loop-index : goal.invariant-loop-index
-invariant-loop-index l = string_bytes l.lines ++ struct_lines (lists_seen l.set) (drop l.index (lists_seen l.set).brands) l.index ≡ structs_text (lists_seen l.set)
+invariant-loop-index l = string_bytes l.lines ++ struct_lines (lists_seen l.schemas) (drop l.index (lists_seen l.schemas).brands) l.index ≡ structs_text (lists_seen l.schemas)

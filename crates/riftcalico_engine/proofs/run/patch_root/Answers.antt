@@ -9,19 +9,19 @@ use Rattle.riftcalico_engine.proofs.run.patch_root.Goals as goal
 pub returns-clause-outcome : goal.returns-clause-outcome
 returns-clause-outcome g c =
     each_success c.patch_calls.result
-    (λ o h. named_by _ _ _ _ _ _ (lists_seen c.in_ok-set.set) c.in_ok-schema.schema c.in_ok-set.ensures.set c.in_ok-schema.ensures.found.1 c.in_ok-schema.ensures.found.2 h)
+    (λ o h. named_by _ _ _ _ _ _ (lists_seen c.in_ok-schemas.schemas) c.in_ok-schema.schema c.in_ok-schemas.ensures.set c.in_ok-schema.ensures.found.1 c.in_ok-schema.ensures.found.2 h)
     c.patch_calls.ensures.outcome
 
 pub returns-clause-refused : goal.returns-clause-refused
 returns-clause-refused g c =
     each_refusal c.patch_calls.result
-    (λ e f h. inr (inr (named_by _ _ _ _ _ _ (lists_seen c.in_ok-set.set) c.in_ok-schema.schema c.in_ok-set.ensures.set c.in_ok-schema.ensures.found.1 c.in_ok-schema.ensures.found.2 (f h))))
+    (λ e f h. inr (inr (named_by _ _ _ _ _ _ (lists_seen c.in_ok-schemas.schemas) c.in_ok-schema.schema c.in_ok-schemas.ensures.set c.in_ok-schema.ensures.found.1 c.in_ok-schema.ensures.found.2 (f h))))
     c.patch_calls.ensures.refused
 
 pub returns-clause-beginning : goal.returns-clause-beginning
 returns-clause-beginning g c =
     each_refusal c.patch_calls.result
-    (λ e f h. named_by _ _ _ _ _ _ (lists_seen c.in_ok-set.set) c.in_ok-schema.schema c.in_ok-set.ensures.set c.in_ok-schema.ensures.found.1 c.in_ok-schema.ensures.found.2 (f h))
+    (λ e f h. named_by _ _ _ _ _ _ (lists_seen c.in_ok-schemas.schemas) c.in_ok-schema.schema c.in_ok-schemas.ensures.set c.in_ok-schema.ensures.found.1 c.in_ok-schema.ensures.found.2 (f h))
     c.patch_calls.ensures.beginning
 
 pub returns-clause-read_failed : goal.returns-clause-read_failed

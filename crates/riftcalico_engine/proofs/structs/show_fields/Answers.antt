@@ -9,7 +9,7 @@ use Rattle.riftcalico_engine.proofs.structs.show_fields.Goals as goal
 pub returns-clause-shown : goal.returns-clause-shown
 returns-clause-shown g c =
     on_success c.write_all.result
-    (λ h. named_by _ _ _ _ _ _ (lists_seen c.in_ok-set.set) c.in_ok-schema.schema c.in_ok-set.ensures.set c.in_ok-schema.ensures.found.1 c.in_ok-schema.ensures.found.2
+    (λ h. named_by _ _ _ _ _ _ (lists_seen c.in_ok-schemas.schemas) c.in_ok-schema.schema c.in_ok-schemas.ensures.set c.in_ok-schema.ensures.found.1 c.in_ok-schema.ensures.found.2
     (string_bytes c.in_ok-text.text, c.in_ok-text.ensures.text, rw c.as_bytes.ensures.value at h))
     c.write_all.ensures.whole
 
@@ -17,7 +17,7 @@ pub returns-clause-beginning : goal.returns-clause-beginning
 returns-clause-beginning g c =
     refusal_gives _ c.write_all.result
     (λ h. let t = rw c.as_bytes.ensures.value at h in
-    named_by _ _ _ _ _ _ (lists_seen c.in_ok-set.set) c.in_ok-schema.schema c.in_ok-set.ensures.set c.in_ok-schema.ensures.found.1 c.in_ok-schema.ensures.found.2
+    named_by _ _ _ _ _ _ (lists_seen c.in_ok-schemas.schemas) c.in_ok-schema.schema c.in_ok-schemas.ensures.set c.in_ok-schema.ensures.found.1 c.in_ok-schema.ensures.found.2
     (string_bytes c.in_ok-text.text, t.0, c.in_ok-text.ensures.text, t.1, t.2))
     c.write_all.ensures.beginning
 

@@ -10,9 +10,9 @@ pub returns-clause-shown : goal.returns-clause-shown
 returns-clause-shown g c =
     on_success c.write_all.result
     (λ h. record {
-      set = lists_seen c.in_ok-set.set;
-      read = c.in_ok-set.ensures.set;
-      is_so = (string_bytes c.in_ok-text.text, bytes_put (structs_text (lists_seen c.in_ok-set.set)) [] (string_bytes c.in_ok-text.text) c.in_ok-text.ensures.text, rw c.as_bytes.ensures.value at h);
+      set = lists_seen c.in_ok-schemas.schemas;
+      read = c.in_ok-schemas.ensures.set;
+      is_so = (string_bytes c.in_ok-text.text, bytes_put (structs_text (lists_seen c.in_ok-schemas.schemas)) [] (string_bytes c.in_ok-text.text) c.in_ok-text.ensures.text, rw c.as_bytes.ensures.value at h);
     })
     c.write_all.ensures.whole
 
@@ -20,8 +20,8 @@ pub returns-clause-beginning : goal.returns-clause-beginning
 returns-clause-beginning g c =
     refusal_gives _ c.write_all.result
     (λ h. let t = rw c.as_bytes.ensures.value at h in record {
-      set = lists_seen c.in_ok-set.set;
-      read = c.in_ok-set.ensures.set;
-      is_so = (string_bytes c.in_ok-text.text, t.0, bytes_put (structs_text (lists_seen c.in_ok-set.set)) [] (string_bytes c.in_ok-text.text) c.in_ok-text.ensures.text, t.1, t.2);
+      set = lists_seen c.in_ok-schemas.schemas;
+      read = c.in_ok-schemas.ensures.set;
+      is_so = (string_bytes c.in_ok-text.text, t.0, bytes_put (structs_text (lists_seen c.in_ok-schemas.schemas)) [] (string_bytes c.in_ok-text.text) c.in_ok-text.ensures.text, t.1, t.2);
     })
     c.write_all.ensures.beginning

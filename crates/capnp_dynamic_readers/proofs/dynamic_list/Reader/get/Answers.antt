@@ -14,9 +14,9 @@ use Rattle.capnp_dynamic_readers.proofs.dynamic_list.Reader.get.Goals as goal
 pub returns-clause-value : goal.returns-clause-value
 returns-clause-value c =
     c.read_element.ensures.value
-    ∙ (ap (λ (t : SchemaType). read_of (lists_seen c.args.self.set.now) VoidValue t (element_read (lists_seen c.args.self.set.now) (list_of c.args.self.reader) (list_levels c.args.self.reader) t c.args.index)) (ap seen_variant c.which.ensures ∙ seen_which c.args.self.element_type)
-    ∙ ap (read_of (lists_seen c.args.self.set.now) VoidValue (seen_type c.args.self.element_type)) (sym (element-is-read (lists_seen c.args.self.set.now) (list_of c.args.self.reader) (list_levels c.args.self.reader) (seen_type c.args.self.element_type) c.args.index)))
+    ∙ (ap (λ (t : SchemaType). read_of (lists_seen c.args.self.schemas.now) VoidValue t (element_read (lists_seen c.args.self.schemas.now) (list_of c.args.self.reader) (list_levels c.args.self.reader) t c.args.index)) (ap seen_variant c.which.ensures ∙ seen_which c.args.self.element_type)
+    ∙ ap (read_of (lists_seen c.args.self.schemas.now) VoidValue (seen_type c.args.self.element_type)) (sym (element-is-read (lists_seen c.args.self.schemas.now) (list_of c.args.self.reader) (list_levels c.args.self.reader) (seen_type c.args.self.element_type) c.args.index)))
 
 pub returns-clause-typed : goal.returns-clause-typed
 returns-clause-typed c named =
-    subst (λ (t : SchemaType). IfOk c.read_element.result (IsOf (lists_seen c.args.self.set.now) t)) (ap seen_variant c.which.ensures ∙ seen_which c.args.self.element_type) (c.read_element.ensures.typed (subst (NamesEntries (lists_seen c.args.self.set.now)) (sym (ap seen_variant c.which.ensures ∙ seen_which c.args.self.element_type)) named))
+    subst (λ (t : SchemaType). IfOk c.read_element.result (IsOf (lists_seen c.args.self.schemas.now) t)) (ap seen_variant c.which.ensures ∙ seen_which c.args.self.element_type) (c.read_element.ensures.typed (subst (NamesEntries (lists_seen c.args.self.schemas.now)) (sym (ap seen_variant c.which.ensures ∙ seen_which c.args.self.element_type)) named))

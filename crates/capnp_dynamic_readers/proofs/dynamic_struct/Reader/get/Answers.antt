@@ -32,7 +32,7 @@ read_placed-requires c =
     let stands : IsStruct s = subst IsStruct c.get_containing_struct-schema.ensures.is c.get_containing_struct-schema.ensures.stands in
     let type : seen_variant c.which-variant.result ≡ (typed_of c.args.field).type =
     ap seen_variant c.which-variant.ensures ∙ (seen_which c.get_type.result ∙ c.get_type.ensures.is) in
-    sound-same (c.get_set-set.ensures ∙ ap set_of c.get_containing_struct-schema.ensures.is) type
+    sound-same (c.get_set-schemas.ensures ∙ ap set_of c.get_containing_struct-schema.ensures.is) type
     (ap (λ (p : SlotPlan). p.place) c.plan-place.ensures.is)
     (place_sound (set_of s) stands.accepted (number_of s) (index_of c.args.field) stands.number c.args.field.inside c.which-variant.result type
     (subst (λ (p : SlotPlan). IsSlotPlace p.place) c.plan-place.ensures.is c.plan-place.ensures.stands.slot))
@@ -44,7 +44,7 @@ returns-clause-value c =
     let type : seen_variant c.which-variant.result ≡ (typed_of c.args.field).type =
     ap seen_variant c.which-variant.ensures ∙ (seen_which c.get_type.result ∙ c.get_type.ensures.is) in
     c.read_placed.ensures.value
-    ∙ (ap (λ (z : Schemas). placed_read z (Left (struct_levels (reader_of c.args.self))) (struct_of (reader_of c.args.self)) (kind_default (seen_kind c.get_proto.result.now.kind)) (seen_variant c.which-variant.result) c.plan-place.result.place) (c.get_set-set.ensures ∙ ap set_of c.get_containing_struct-schema.ensures.is)
+    ∙ (ap (λ (z : Schemas). placed_read z (Left (struct_levels (reader_of c.args.self))) (struct_of (reader_of c.args.self)) (kind_default (seen_kind c.get_proto.result.now.kind)) (seen_variant c.which-variant.result) c.plan-place.result.place) (c.get_set-schemas.ensures ∙ ap set_of c.get_containing_struct-schema.ensures.is)
     ∙ (ap (λ (z : Field). placed_read (set_of s) (Left (struct_levels (reader_of c.args.self))) (struct_of (reader_of c.args.self)) (default_of z) (seen_variant c.which-variant.result) c.plan-place.result.place) c.get_proto.ensures
     ∙ (ap (λ (z : SchemaType). placed_read (set_of s) (Left (struct_levels (reader_of c.args.self))) (struct_of (reader_of c.args.self)) (default_of (typed_of c.args.field).field) z c.plan-place.result.place) type
     ∙ (ap (λ (p : SlotPlan). placed_read (set_of s) (Left (struct_levels (reader_of c.args.self))) (struct_of (reader_of c.args.self)) (default_of (typed_of c.args.field).field) (typed_of c.args.field).type p.place) c.plan-place.ensures.is
@@ -56,4 +56,4 @@ returns-clause-typed c =
     let s : StructSchema = schema_of c.args.self in
     subst (λ (t : SchemaType). IfOk c.read_placed.result (IsOf (set_of s) t))
     (ap seen_variant c.which-variant.ensures ∙ (seen_which c.get_type.result ∙ (c.get_type.ensures.is ∙ ap (λ (f : TypedField). f.type) (same_field c.args.field s c.requires))))
-    (subst (λ (z : Schemas). IfOk c.read_placed.result (IsOf z (seen_variant c.which-variant.result))) (c.get_set-set.ensures ∙ (ap set_of c.get_containing_struct-schema.ensures.is ∙ c.requires.set)) (c.read_placed.ensures.typed (named-same (c.get_set-set.ensures ∙ ap set_of c.get_containing_struct-schema.ensures.is) (ap seen_variant c.which-variant.ensures ∙ seen_which c.get_type.result) c.get_type.ensures.named)))
+    (subst (λ (z : Schemas). IfOk c.read_placed.result (IsOf z (seen_variant c.which-variant.result))) (c.get_set-schemas.ensures ∙ (ap set_of c.get_containing_struct-schema.ensures.is ∙ c.requires.set)) (c.read_placed.ensures.typed (named-same (c.get_set-schemas.ensures ∙ ap set_of c.get_containing_struct-schema.ensures.is) (ap seen_variant c.which-variant.ensures ∙ seen_which c.get_type.result) c.get_type.ensures.named)))

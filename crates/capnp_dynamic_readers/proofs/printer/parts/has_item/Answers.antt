@@ -6,8 +6,8 @@ use Rattle.capnp_dynamic_readers.proofs.GroupSteps.{active_member, active_which,
 use Rattle.capnp_dynamic_readers.proofs.ItemsShown.{belongs}
 use Rattle.capnp_dynamic_readers.proofs.printer.parts.has_item.Goals as goal
 
-pub is_field_there-requires-clause-plain : goal.is_field_there-requires-clause-plain
-is_field_there-requires-clause-plain c = member_from c.args.reader c.args.field c.requires.field _ false c.get_proto.ensures (sym c.is_member.ensures ∙ c.if-not-is_member.true)
+pub is_field_there-requires-clause-non_union : goal.is_field_there-requires-clause-non_union
+is_field_there-requires-clause-non_union c = member_from c.args.reader c.args.field c.requires.field _ false c.get_proto.ensures (sym c.is_member.ensures ∙ c.if-not-is_member.true)
 
 pub returns-then-not-is_member : goal.returns-then-not-is_member
 returns-then-not-is_member c =

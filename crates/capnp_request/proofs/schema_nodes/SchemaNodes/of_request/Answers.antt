@@ -30,7 +30,7 @@ unfolding nodes_of
 returns-clause-nodes c =
     let read : nodes_in (record_seen c.args.request) ≡ Ok c.loop-index.invariant.nodes = nodes_read (record_seen c.args.request) c.in_ok-listed.listed c.in_ok-listed.ensures.read ∙ all_read c.in_ok-listed.listed c.loop-index.by_id c.loop-index.index c.loop-index.invariant (omega arith) in
     record {
-      set = c.get_set-set.ensures ∙ (ap set_of c.get_schema.ensures ∙ c.requires.set);
+      set = c.get_set-schemas.ensures ∙ (ap set_of c.get_schema.ensures ∙ c.requires.set);
       read = read ∙ ap (λ (ns : List SchemaNode). Ok ns) (sym (nodes_made (record_seen c.args.request) _ read));
       count = let few : c.len-count.result ≡ c.loop-index.index = omega (arith, c.len-count.ensures) in few ∙ (sym c.loop-index.invariant.count ∙ ap length (sym (nodes_made (record_seen c.args.request) _ read)));
       by_id = λ id. c.loop-index.invariant.by_id id ∙ ap (λ (ns : List SchemaNode). node_named ns id) (sym (nodes_made (record_seen c.args.request) _ read));

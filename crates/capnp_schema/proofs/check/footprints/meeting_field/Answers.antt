@@ -2,10 +2,10 @@ use Rattle.std.proofs.Common.{◌≤◌, length, refl, arith}
 use Rattle.capnp_schema.specs.Entries.{lists_seen}
 use Rattle.capnp_schema.proofs.Checking.SpanTables.{apart_from_spans, meet_from_spans, more_apart, apart_from_all, more_fields_apart, apart_from_same, apart_from_member}
 use Rattle.capnp_schema.proofs.check.footprints.meeting_field.Goals as goal
-use Rattle.capnp_schema.proofs.check.footprints.meeting_field.Goals.{else-i-j-via-then-i-j+else-spans_meet, else-i-j-via-else-i-j, then-is_plain+else-loop-j-test, else-is_plain}
+use Rattle.capnp_schema.proofs.check.footprints.meeting_field.Goals.{else-i-j-via-then-i-j+else-spans_meet, else-i-j-via-else-i-j, then-is_outside_union+else-loop-j-test, else-is_outside_union}
 
 pub returns-then-spans_meet : goal.returns-then-spans_meet
-returns-then-spans_meet c = meet_from_spans (lists_seen c.args.lists.now) c.args.brand c.args.spans.now c.loop-i.i c.loop-j.j _ _ _ _ c.requires.spans c.requires.within c.loop-i-test.true c.loop-j-test.true c.index-spans-i.is c.index-spans-j.is c.deref.ensures.value c.deref-then-i-j.ensures.value (c.if-is_plain.ensures.0 refl) c.if-i-j.true (c.if-spans_meet.ensures.yes refl)
+returns-then-spans_meet c = meet_from_spans (lists_seen c.args.lists.now) c.args.brand c.args.spans.now c.loop-i.i c.loop-j.j _ _ _ _ c.requires.spans c.requires.within c.loop-i-test.true c.loop-j-test.true c.index-spans-i.is c.index-spans-j.is c.deref.ensures.value c.deref-then-i-j.ensures.value (c.if-is_outside_union.ensures.0 refl) c.if-i-j.true (c.if-spans_meet.ensures.yes refl)
 
 pub loop-j-preserved : goal.loop-j-preserved
 loop-j-preserved c = more_apart (lists_seen c.args.lists.now) c.args.brand c.loop-i.i c.loop-j.j c.loop-j.invariant (elim c.else-i-j.branch [
@@ -14,7 +14,7 @@ loop-j-preserved c = more_apart (lists_seen c.args.lists.now) c.args.brand c.loo
 ])
 
 pub loop-i-preserved : goal.loop-i-preserved
-loop-i-preserved c = more_fields_apart (lists_seen c.args.lists.now) c.args.brand c.loop-i.i c.loop-i.invariant (elim c.if-is_plain.branch [
-  | then-is_plain+else-loop-j-test w ↦ apart_from_all (lists_seen c.args.lists.now) c.args.brand c.args.spans.now c.loop-i.i w.loop-j.j c.requires.spans (let h : length c.args.spans.now ≤ w.loop-j.j = omega arith in h) w.loop-j.invariant
-  | else-is_plain w ↦ apart_from_member (lists_seen c.args.lists.now) c.args.brand c.loop-i.i (λ plain. let e = w.if-is_plain.ensures.1 plain in cc)
+loop-i-preserved c = more_fields_apart (lists_seen c.args.lists.now) c.args.brand c.loop-i.i c.loop-i.invariant (elim c.if-is_outside_union.branch [
+  | then-is_outside_union+else-loop-j-test w ↦ apart_from_all (lists_seen c.args.lists.now) c.args.brand c.args.spans.now c.loop-i.i w.loop-j.j c.requires.spans (let h : length c.args.spans.now ≤ w.loop-j.j = omega arith in h) w.loop-j.invariant
+  | else-is_outside_union w ↦ apart_from_member (lists_seen c.args.lists.now) c.args.brand c.loop-i.i (λ non_union. let e = w.if-is_outside_union.ensures.1 non_union in cc)
 ])

@@ -13,17 +13,17 @@ inside stored brands i e h = subst (λ n. i < n) (sym (length-map stored seen_br
 
 pub returns-in_default-clause-found : goal.returns-in_default-clause-found
 returns-in_default-clause-found c =
-    sym (ap numbered_brand c.loop-index.invariant ∙ none_past (lists_seen c.args.set.now) (drop c.loop-index.index (lists_seen c.args.set.now).brands) c.loop-index.index c.args.name.now (omega (arith, c.in_default.ensures)))
+    sym (ap numbered_brand c.loop-index.invariant ∙ none_past (lists_seen c.args.schemas.now) (drop c.loop-index.index (lists_seen c.args.schemas.now).brands) c.loop-index.index c.args.name.now (omega (arith, c.in_default.ensures)))
 
 pub returns-then-is_named-clause-found : goal.returns-then-is_named-clause-found
 returns-then-is_named-clause-found c =
-    let here : c.loop-index.index < length (lists_seen c.args.set.now).brands = inside c.brands-index-end.result.now _ c.loop-index.index c.brands-index-end.ensures c.loop-index-test.true in
-    let called : is_called (lists_seen c.args.set.now) c.loop-index.index c.args.name.now ≡ true = subst (λ b. is_called (lists_seen c.args.set.now) b c.args.name.now ≡ true) c.in-Ok.ensures.1 (sym c.is_named.ensures ∙ c.if-is_named.true) in
+    let here : c.loop-index.index < length (lists_seen c.args.schemas.now).brands = inside c.brands-index-end.result.now _ c.loop-index.index c.brands-index-end.ensures c.loop-index-test.true in
+    let called : is_called (lists_seen c.args.schemas.now) c.loop-index.index c.args.name.now ≡ true = subst (λ b. is_called (lists_seen c.args.schemas.now) b c.args.name.now ≡ true) c.in-Ok.ensures.1 (sym c.is_named.ensures ∙ c.if-is_named.true) in
     ap Some c.in-Ok.ensures.1
-    ∙ sym (ap numbered_brand (c.loop-index.invariant ∙ found_here (lists_seen c.args.set.now) (lists_seen c.args.set.now).brands c.loop-index.index c.args.name.now here called) ∙ within c.loop-index.index c.in-Ok.ensures.0)
+    ∙ sym (ap numbered_brand (c.loop-index.invariant ∙ found_here (lists_seen c.args.schemas.now) (lists_seen c.args.schemas.now).brands c.loop-index.index c.args.name.now here called) ∙ within c.loop-index.index c.in-Ok.ensures.0)
 
 pub loop-index-preserved : goal.loop-index-preserved
 loop-index-preserved c =
-    let here : c.loop-index.index < length (lists_seen c.args.set.now).brands = inside c.brands-index-end.result.now _ c.loop-index.index c.brands-index-end.ensures c.loop-index-test.true in
-    let called : is_called (lists_seen c.args.set.now) c.loop-index.index c.args.name.now ≡ false = subst (λ b. is_called (lists_seen c.args.set.now) b c.args.name.now ≡ false) c.in-Ok.ensures.1 (sym c.is_named.ensures ∙ c.if-is_named.false) in
-    c.loop-index.invariant ∙ found_later (lists_seen c.args.set.now) (lists_seen c.args.set.now).brands c.loop-index.index c.args.name.now here called
+    let here : c.loop-index.index < length (lists_seen c.args.schemas.now).brands = inside c.brands-index-end.result.now _ c.loop-index.index c.brands-index-end.ensures c.loop-index-test.true in
+    let called : is_called (lists_seen c.args.schemas.now) c.loop-index.index c.args.name.now ≡ false = subst (λ b. is_called (lists_seen c.args.schemas.now) b c.args.name.now ≡ false) c.in-Ok.ensures.1 (sym c.is_named.ensures ∙ c.if-is_named.false) in
+    c.loop-index.invariant ∙ found_later (lists_seen c.args.schemas.now) (lists_seen c.args.schemas.now).brands c.loop-index.index c.args.name.now here called

@@ -54,25 +54,25 @@ returns-clause-owner c =
 
 -- ---- a struct ----
 
-pub struct_at-requires-clause-under : goal.struct_at-requires-clause-under
-struct_at-requires-clause-under c =
+pub element_struct_at-requires-clause-under : goal.element_struct_at-requires-clause-under
+element_struct_at-requires-clause-under c =
     let l = c.args.self in
     subst (λ (t : SchemaType). IsListStanding (built_set l) t (list_behind l).now (word_of l)) (sym (ap seen_variant c.which-variant.ensures ∙ seen_which c.args.self.element_type) ∙ ap seen_variant c.in-Struct.is) c.requires.ready
 
-pub struct_at-requires-clause-inside : goal.struct_at-requires-clause-inside
-struct_at-requires-clause-inside c = c.requires.inside
+pub element_struct_at-requires-clause-inside : goal.element_struct_at-requires-clause-inside
+element_struct_at-requires-clause-inside c = c.requires.inside
 
 pub returns-in-Struct-clause-stands : goal.returns-in-Struct-clause-stands
 returns-in-Struct-clause-stands c =
     let l = c.args.self in
-    subst (λ (t : SchemaType). element_handed (built_set l) t (built_elements l) (built_reading l) c.args.index c.struct_at.result) (sym (sym (ap seen_variant c.which-variant.ensures ∙ seen_which c.args.self.element_type) ∙ ap seen_variant c.in-Struct.is)) c.struct_at.ensures.stands
+    subst (λ (t : SchemaType). element_handed (built_set l) t (built_elements l) (built_reading l) c.args.index c.element_struct_at.result) (sym (sym (ap seen_variant c.which-variant.ensures ∙ seen_which c.args.self.element_type) ∙ ap seen_variant c.in-Struct.is)) c.element_struct_at.ensures.stands
 
 pub returns-in-Struct-clause-ready : goal.returns-in-Struct-clause-ready
-returns-in-Struct-clause-ready c = c.struct_at.ensures.ready
+returns-in-Struct-clause-ready c = c.element_struct_at.ensures.ready
 
 pub returns-in-Struct-clause-owner : goal.returns-in-Struct-clause-owner
 returns-in-Struct-clause-owner c =
-    struct_got c.args.self c.args.index c.struct_at.result c.in-Struct.raw.number c.in-Struct.raw.generic (sym (sym (ap seen_variant c.which-variant.ensures ∙ seen_which c.args.self.element_type) ∙ ap seen_variant c.in-Struct.is)) c.struct_at.ensures.owner
+    struct_got c.args.self c.args.index c.element_struct_at.result c.in-Struct.raw.number c.in-Struct.raw.generic (sym (sym (ap seen_variant c.which-variant.ensures ∙ seen_which c.args.self.element_type) ∙ ap seen_variant c.in-Struct.is)) c.element_struct_at.ensures.owner
 
 pub returns-in-Struct-clause-within : goal.returns-in-Struct-clause-within
 returns-in-Struct-clause-within c = λ behind. absurd (true≢false (sym behind ∙ ap is_behind (sym (ap seen_variant c.which-variant.ensures ∙ seen_which c.args.self.element_type) ∙ ap seen_variant c.in-Struct.is)))

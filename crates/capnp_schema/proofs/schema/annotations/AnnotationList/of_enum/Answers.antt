@@ -13,7 +13,7 @@ pub returns-clause-whole : goal.returns-clause-whole
 returns-clause-whole c = ap annotations_of (c.new.ensures.entries ∙ same_parts c.deref.result.now c.in-Some.record.now.annotations.items c.deref-2.result.now c.in-Some.record.now.annotation_types.own.items c.deref.ensures.value c.deref-2.ensures.value
     ∙ ap (λ x. with_types x.annotations x.annotation_types.own) (sym (enum_found (lists_seen c.accepted_lists.result.now) c.args.number (seen_enum c.in-Some.record.now) c.in-Some.ensures))
     ∙ ap (λ (l : Lists). enum_annotations (lists_seen l) c.args.number) c.accepted_lists.ensures.is)
-    ∙ enum_whole (lists_seen c.args.set.now) (subst (λ (l : Lists). IsAccepted (lists_seen l)) c.accepted_lists.ensures.is c.accepted_lists.ensures.accepted) c.args.number
+    ∙ enum_whole (lists_seen c.args.schemas.now) (subst (λ (l : Lists). IsAccepted (lists_seen l)) c.accepted_lists.ensures.is c.accepted_lists.ensures.accepted) c.args.number
 
 pub new-requires-clause-are_named : goal.new-requires-clause-are_named
-new-requires-clause-are_named c = enum_own_named c.accepted_lists.result.now c.args.set.now c.accepted_lists.ensures.is c.accepted_lists.ensures.accepted c.args.number c.in-Some.record.now c.in-Some.ensures c.deref-2.result.now c.deref-2.ensures.value
+new-requires-clause-are_named c = enum_own_named c.accepted_lists.result.now c.args.schemas.now c.accepted_lists.ensures.is c.accepted_lists.ensures.accepted c.args.number c.in-Some.record.now c.in-Some.ensures c.deref-2.result.now c.deref-2.ensures.value

@@ -46,7 +46,7 @@ returns-clause-typed c = c.new.ensures.entries ∙ same_parts c.deref-3.result.n
 
 pub returns-clause-whole : goal.returns-clause-whole
 returns-clause-whole c = ap annotations_of (returns-clause-typed c)
-    ∙ enumerant_whole (lists_seen c.args.set.now) (subst (λ (l : Lists). IsAccepted (lists_seen l)) c.accepted_lists.ensures.is c.accepted_lists.ensures.accepted) c.args.number c.args.enumerant
+    ∙ enumerant_whole (lists_seen c.args.schemas.now) (subst (λ (l : Lists). IsAccepted (lists_seen l)) c.accepted_lists.ensures.is c.accepted_lists.ensures.accepted) c.args.number c.args.enumerant
 
 pub new-requires-clause-are_named : goal.new-requires-clause-are_named
-new-requires-clause-are_named c = enum_child_named c.accepted_lists.result.now c.args.set.now c.accepted_lists.ensures.is c.accepted_lists.ensures.accepted c.args.number c.in-Some.record.now c.in-Some.ensures c.deref-2.result.now c.in-Some-entry_at-2.types.now c.args.enumerant c.deref-4.result.now c.deref-2.ensures.value c.in-Some-entry_at-2.ensures c.deref-4.ensures.value
+new-requires-clause-are_named c = enum_child_named c.accepted_lists.result.now c.args.schemas.now c.accepted_lists.ensures.is c.accepted_lists.ensures.accepted c.args.number c.in-Some.record.now c.in-Some.ensures c.deref-2.result.now c.in-Some-entry_at-2.types.now c.args.enumerant c.deref-4.result.now c.deref-2.ensures.value c.in-Some-entry_at-2.ensures c.deref-4.ensures.value

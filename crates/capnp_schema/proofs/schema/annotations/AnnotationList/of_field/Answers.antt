@@ -24,7 +24,7 @@ returns-in_default-clause-typed c = c.empty.ensures.entries ∙ no_brand_field (
     ∙ ap (λ (l : Lists). field_annotations (lists_seen l) c.args.brand c.args.field) c.accepted_lists-lists.ensures.is
 
 pub returns-in_default-clause-whole : goal.returns-in_default-clause-whole
-returns-in_default-clause-whole c = whole_of c.accepted_lists-lists.result.now c.args.set.now c.accepted_lists-lists.ensures.is c.accepted_lists-lists.ensures.accepted c.args.brand c.args.field (annotations_in c.empty.result) (returns-in_default-clause-typed c)
+returns-in_default-clause-whole c = whole_of c.accepted_lists-lists.result.now c.args.schemas.now c.accepted_lists-lists.ensures.is c.accepted_lists-lists.ensures.accepted c.args.brand c.args.field (annotations_in c.empty.result) (returns-in_default-clause-typed c)
 
 pub returns-in_default-entry_at-clause-typed : goal.returns-in_default-entry_at-clause-typed
 returns-in_default-entry_at-clause-typed c = c.empty-in_default-entry_at.ensures.entries ∙ no_child_field (lists_seen c.accepted_lists-lists.result.now) c.args.brand c.args.field (seen_brand c.in-Some.record.now) c.in-Some.ensures
@@ -32,7 +32,7 @@ returns-in_default-entry_at-clause-typed c = c.empty-in_default-entry_at.ensures
     ∙ ap (λ (l : Lists). field_annotations (lists_seen l) c.args.brand c.args.field) c.accepted_lists-lists.ensures.is
 
 pub returns-in_default-entry_at-clause-whole : goal.returns-in_default-entry_at-clause-whole
-returns-in_default-entry_at-clause-whole c = whole_of c.accepted_lists-lists.result.now c.args.set.now c.accepted_lists-lists.ensures.is c.accepted_lists-lists.ensures.accepted c.args.brand c.args.field (annotations_in c.empty-in_default-entry_at.result) (returns-in_default-entry_at-clause-typed c)
+returns-in_default-entry_at-clause-whole c = whole_of c.accepted_lists-lists.result.now c.args.schemas.now c.accepted_lists-lists.ensures.is c.accepted_lists-lists.ensures.accepted c.args.brand c.args.field (annotations_in c.empty-in_default-entry_at.result) (returns-in_default-entry_at-clause-typed c)
 
 -- what is found of the field's types
 children : (xs ys : List (Vec TypeHandle Global)) (types : Vec TypeHandle Global) (i : ℕ) → xs ≡ ys → Some types ≡ slice_get xs i → Some (map seen_type types.items) ≡ slice_get (map (λ (ts : Vec TypeHandle Global). map seen_type ts.items) ys) i
@@ -57,7 +57,7 @@ returns-clause-typed c = c.new.ensures.entries ∙ same_parts c.deref-2.result.n
     ∙ ap (λ (l : Lists). field_annotations (lists_seen l) c.args.brand c.args.field) c.accepted_lists-lists.ensures.is
 
 pub returns-clause-whole : goal.returns-clause-whole
-returns-clause-whole c = whole_of c.accepted_lists-lists.result.now c.args.set.now c.accepted_lists-lists.ensures.is c.accepted_lists-lists.ensures.accepted c.args.brand c.args.field (annotations_in c.new.result) (returns-clause-typed c)
+returns-clause-whole c = whole_of c.accepted_lists-lists.result.now c.args.schemas.now c.accepted_lists-lists.ensures.is c.accepted_lists-lists.ensures.accepted c.args.brand c.args.field (annotations_in c.new.result) (returns-clause-typed c)
 
 pub new-requires-clause-are_named : goal.new-requires-clause-are_named
-new-requires-clause-are_named c = brand_child_named c.accepted_lists-lists.result.now c.args.set.now c.accepted_lists-lists.ensures.is c.accepted_lists-lists.ensures.accepted c.args.brand c.in-Some.record.now c.in-Some.ensures c.deref.result.now c.in-Some-entry_at.types.now c.args.field c.deref-3.result.now c.deref.ensures.value c.in-Some-entry_at.ensures c.deref-3.ensures.value
+new-requires-clause-are_named c = brand_child_named c.accepted_lists-lists.result.now c.args.schemas.now c.accepted_lists-lists.ensures.is c.accepted_lists-lists.ensures.accepted c.args.brand c.in-Some.record.now c.in-Some.ensures c.deref.result.now c.in-Some-entry_at.types.now c.args.field c.deref-3.result.now c.deref.ensures.value c.in-Some-entry_at.ensures c.deref-3.ensures.value

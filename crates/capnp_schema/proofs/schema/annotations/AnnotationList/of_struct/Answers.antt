@@ -30,7 +30,7 @@ pub returns-clause-whole : goal.returns-clause-whole
 returns-clause-whole c = ap annotations_of (c.new.ensures.entries ∙ same_parts c.deref.result.now c.in-Some-node_at.node.now.annotations.items c.deref-2.result.now c.in-Some.record.now.annotation_types.own.items c.deref.ensures.value c.deref-2.ensures.value
     ∙ struct_is (lists_seen c.accepted_lists-lists.result.now) c.accepted_lists-lists.ensures.accepted c.args.brand (seen_brand c.in-Some.record.now) (seen_node c.in-Some-node_at.node.now) c.in-Some.ensures c.in-Some-node_at.ensures
     ∙ ap (λ (l : Lists). struct_annotations (lists_seen l) c.args.brand) c.accepted_lists-lists.ensures.is)
-    ∙ struct_whole_everywhere (lists_seen c.args.set.now) (subst (λ (l : Lists). IsAccepted (lists_seen l)) c.accepted_lists-lists.ensures.is c.accepted_lists-lists.ensures.accepted) c.args.brand
+    ∙ struct_whole_everywhere (lists_seen c.args.schemas.now) (subst (λ (l : Lists). IsAccepted (lists_seen l)) c.accepted_lists-lists.ensures.is c.accepted_lists-lists.ensures.accepted) c.args.brand
 
 pub new-requires-clause-are_named : goal.new-requires-clause-are_named
-new-requires-clause-are_named c = brand_own_named c.accepted_lists-lists.result.now c.args.set.now c.accepted_lists-lists.ensures.is c.accepted_lists-lists.ensures.accepted c.args.brand c.in-Some.record.now c.in-Some.ensures c.deref-2.result.now c.deref-2.ensures.value
+new-requires-clause-are_named c = brand_own_named c.accepted_lists-lists.result.now c.args.schemas.now c.accepted_lists-lists.ensures.is c.accepted_lists-lists.ensures.accepted c.args.brand c.in-Some.record.now c.in-Some.ensures c.deref-2.result.now c.deref-2.ensures.value

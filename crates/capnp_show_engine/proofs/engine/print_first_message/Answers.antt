@@ -1,0 +1,29 @@
+use Rattle.capnp_wire.specs.Message.{received_tree}
+use Rattle.capnp_wire.specs.Standing.{levels_of, tree_of}
+use Rattle.capnp_schema.specs.Entries.{lists_seen}
+use Rattle.capnp_show_engine.specs.Show.{shown_text}
+use Rattle.capnp_show_engine.proofs.Outcomes.{each_refusal}
+use Rattle.capnp_show_engine.proofs.Shown.{text_seen}
+use Rattle.capnp_show_engine.proofs.TextFaults.{of_no_device, shown_by_read}
+use Rattle.capnp_show_engine.proofs.engine.print_first_message.Goals as goal
+
+pub returns-clause-printed : goal.returns-clause-printed
+returns-clause-printed c =
+    let text = text_seen (lists_seen c.args.schemas.now) c.args.brand c.args.indented c.args.bytes.now (received_tree c.in_ok-reader.reader)
+    (tree_of c.get_root.result) (levels_of c.get_root.result) c.new-value.result c.struct_schema.result c.in_ok-root.root c.in_ok-reader.ensures
+    c.get_root.ensures.tree c.get_root.ensures.levels c.in_ok-root.ensures.read c.in_ok-root.ensures.levels c.new-value.ensures.schema
+    c.new-value.ensures.reader (c.struct_schema.ensures.stands c.requires) c.struct_schema.ensures.set c.struct_schema.ensures.number in
+    rw text at c.print.ensures.printed
+
+pub returns-clause-refused : goal.returns-clause-refused
+returns-clause-refused c =
+    let text = text_seen (lists_seen c.args.schemas.now) c.args.brand c.args.indented c.args.bytes.now (received_tree c.in_ok-reader.reader)
+    (tree_of c.get_root.result) (levels_of c.get_root.result) c.new-value.result c.struct_schema.result c.in_ok-root.root c.in_ok-reader.ensures
+    c.get_root.ensures.tree c.get_root.ensures.levels c.in_ok-root.ensures.read c.in_ok-root.ensures.levels c.new-value.ensures.schema
+    c.new-value.ensures.reader (c.struct_schema.ensures.stands c.requires) c.struct_schema.ensures.set c.struct_schema.ensures.number in
+    rw text at c.print.ensures.refused
+
+pub returns-clause-of_no_device : goal.returns-clause-of_no_device
+returns-clause-of_no_device c =
+    let sound = shown_by_read (lists_seen c.args.schemas.now) c.args.brand c.args.indented c.args.bytes.now (received_tree c.in_ok-reader.reader) c.in_ok-reader.ensures in
+    each_refusal c.print.result (λ e h. of_no_device (shown_text (lists_seen c.args.schemas.now) c.args.brand c.args.indented c.args.bytes.now) e.kind sound h) (returns-clause-refused c)
