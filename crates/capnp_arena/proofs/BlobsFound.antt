@@ -1,7 +1,6 @@
 -- What a pointer leads to which lies behind it, as code that looks for bytes finds it.
-use Rattle.std.proofs.Common.{◌≡◌, ℕ, ◌+◌, ◌-◌, ◌*◌, ◌/◌, ◌^◌, ◌<◌, ◌≤◌, List, length, refl, sym, ap, ◌∙◌, arith, ◌++◌, replicate}
+use Rattle.std.proofs.Common.{Option, Some, None, ◌≡◌, ℕ, ◌+◌, ◌-◌, ◌*◌, ◌/◌, ◌^◌, ◌<◌, ◌≤◌, List, length, refl, sym, ap, ◌∙◌, arith, ◌++◌, replicate}
 use Rattle.std.proofs.lemmas.List.{append-nil, length-append, length-replicate}
-use Rattle.std.specs.Prelude.{Option, Some, None}
 use Rattle.capnp_wire.specs.Encoding.{bytes_of, list_word, padded_bytes, pointer_word, spelled_number}
 use Rattle.capnp_wire.specs.Facts.Levels.{below_step}
 use Rattle.capnp_wire.specs.Facts.PointerWords.{is_at_most, is_below, not_equal}

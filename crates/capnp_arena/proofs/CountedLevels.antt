@@ -1,6 +1,5 @@
 -- What a count answers of a tree by the levels that it has.
-use Rattle.std.specs.Prelude.{None, Option, Some, cond}
-use Rattle.std.proofs.Common.{◌≡◌, ◌==◌, ℕ, zero, suc, ◌+◌, ◌-◌, ◌*◌, ◌<◌, ◌≤◌, ◌⊎◌, inl, inr, sym, ap, subst, ◌∙◌, arith, List}
+use Rattle.std.proofs.Common.{None, Option, Some, cond, ◌≡◌, ◌==◌, ℕ, zero, suc, ◌+◌, ◌-◌, ◌*◌, ◌<◌, ◌≤◌, ◌⊎◌, inl, inr, sym, ap, subst, ◌∙◌, arith, List}
 use Rattle.capnp_wire.specs.Depth.{AreBelow, ElementsAreBelow, IsBelow}
 use Rattle.capnp_wire.specs.Place.{list_tree, tree_with_level}
 use Rattle.capnp_wire.specs.Tree.{Tree, StructTree, structs_from, trees_from}

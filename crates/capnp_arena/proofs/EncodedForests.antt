@@ -1,6 +1,5 @@
 -- A tree whose encoding stands in a segment is a forest there: by induction on the tree.
-use Rattle.std.proofs.Common.{◌≡◌, ℕ, suc, ◌+◌, ◌-◌, ◌*◌, ◌/◌, ◌^◌, ◌<◌, ◌≤◌, ◌⊎◌, inl, inr, refl, sym, ap, subst, ◌∙◌, arith, List, [], ◌++◌, length, replicate, cond, ◌==◌, None, Bool}
-use Rattle.std.specs.Prelude.{IsTrue}
+use Rattle.std.proofs.Common.{IsTrue, ◌≡◌, ℕ, suc, ◌+◌, ◌-◌, ◌*◌, ◌/◌, ◌^◌, ◌<◌, ◌≤◌, ◌⊎◌, inl, inr, refl, sym, ap, subst, ◌∙◌, arith, List, [], ◌++◌, length, replicate, cond, ◌==◌, None, Bool}
 use Rattle.std.proofs.lemmas.Bool.{cases_eq}
 use Rattle.capnp_wire.specs.Encoding.{bytes_below_all, bytes_of_all, bytes_below, element_row, list_word, number_size, own_bytes, packed_bits, padded_bytes, pointer_row, pointer_word, spelled_number, struct_word}
 use Rattle.capnp_wire.specs.Facts.EmptyStructs.{no_sections}

@@ -1,6 +1,5 @@
 -- What a call that enters a list answers, by the refusal that is due.
-use Rattle.std.proofs.Common.{◌≡◌, refl, sym, ap, ◌∙◌, Bool, true, false}
-use Rattle.std.specs.Prelude.{Option, Some, None, Result, Ok, Err, IfErr, IfOk, IsOk, OnOk}
+use Rattle.std.proofs.Common.{Option, Some, None, Result, Ok, Err, IfErr, IfOk, IsOk, OnOk, ◌≡◌, refl, sym, ap, ◌∙◌, Bool, true, false}
 use Rattle.capnp_wire.specs.Tree.{Tree, Voids, Bits, Numbers, Pointers, Composite}
 use Rattle.capnp_wire.specs.Reading.{as_list, list_if, reads_bits, reads_numbers, reads_pointers, reads_structs, reads_voids}
 use Rattle.capnp_wire.specs.Edits.{IsDueRefusal}

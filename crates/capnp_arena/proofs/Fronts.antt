@@ -1,6 +1,5 @@
 -- The first bytes of a list of bytes, or of a null, that were left otherwise.
-use Rattle.std.proofs.Common.{◌≡◌, ◌≤◌, ◌+◌, ◌*◌, ℕ, ap, arith, inl, inr, refl, subst, sym, ◌∙◌, List, [], ◌++◌, length, drop, take}
-use Rattle.std.specs.Prelude.{◌∷◌}
+use Rattle.std.proofs.Common.{◌∷◌, ◌≡◌, ◌≤◌, ◌+◌, ◌*◌, ℕ, ap, arith, inl, inr, refl, subst, sym, ◌∙◌, List, [], ◌++◌, length, drop, take}
 use Rattle.std.proofs.lemmas.List.{append-nil, drop_all, take-append-drop}
 use Rattle.capnp_wire.specs.Steps.Filling.{bytes_with}
 use Rattle.capnp_wire.specs.Place.{bytes_at}

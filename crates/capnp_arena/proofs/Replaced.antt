@@ -1,6 +1,5 @@
 -- A struct in its place, replaced by another one of its size.
-use Rattle.std.proofs.Common.{◌≡◌, ℕ, zero, suc, ◌+◌, ◌-◌, ◌*◌, ◌^◌, ◌<◌, ◌≤◌, inl, inr, refl, sym, ap, ◌∙◌, arith, List, [], ◌++◌, length, take, drop, replicate}
-use Rattle.std.specs.Prelude.{Option, None, Some}
+use Rattle.std.proofs.Common.{Option, None, Some, ◌≡◌, ℕ, zero, suc, ◌+◌, ◌-◌, ◌*◌, ◌^◌, ◌<◌, ◌≤◌, inl, inr, refl, sym, ap, ◌∙◌, arith, List, [], ◌++◌, length, take, drop, replicate}
 use Rattle.std.proofs.lemmas.List.{append-nil, drop-take, length-append, length-drop, length-replicate, length-take-le, drop-drop, take-append-drop, take-take, take_all}
 use Rattle.capnp_device.specs.declared.error.Error.{Error}
 use Rattle.capnp_wire.specs.Edits.{IsCopyRefusal, append_trees, first_trees, nulls}

@@ -5,16 +5,14 @@ use Rattle.capnp_wire.specs.Encoding.{spelled_number}
 use Rattle.capnp_wire.specs.Steps.Filling.{bytes_with}
 use Rattle.capnp_wire.specs.Facts.Bytes.{length_spelled}
 use Rattle.capnp_wire.specs.Facts.Filling.{length_put}
-use Rattle.capnp_arena.specs.Shape.{IsWordAt, NoShape, Points, shape_at}
-use Rattle.capnp_arena.specs.Forest.{Changes, Forest, IsSame}
+use Rattle.capnp_arena.specs.Shape.{IsWordAt, NoShape, Points, shape_at, CompositeIn, ListIn, Shape, StructIn}
+use Rattle.capnp_arena.specs.Forest.{Changes, Forest, IsSame, tree}
 use Rattle.capnp_arena.specs.Facts.Calls.{null_owns}
 use Rattle.capnp_arena.specs.Facts.Forests.{points}
 use Rattle.capnp_arena.specs.Facts.Words.{run_same}
 use Rattle.capnp_arena.proofs.Puts.{put_before, put_behind, put_there}
 use Rattle.capnp_arena.proofs.TreeKinds.{null_is}
-use Rattle.capnp_arena.specs.Forest.{tree}
 use Rattle.capnp_arena.specs.Steps.Reads.{is_no_shape}
-use Rattle.capnp_arena.specs.Shape.{CompositeIn, ListIn, Shape, StructIn}
 use Rattle.capnp_wire.specs.Reading.{is_null_tree}
 
 -- a word before a cut

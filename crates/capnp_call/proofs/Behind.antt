@@ -1,6 +1,5 @@
 -- What stands behind a pointer's slot that a step goes into, and why it is refused.
-use Rattle.std.specs.Prelude.{ℕ, zero, suc, ◌≡◌, refl, Bool, true, false, not, ◌&&◌, Option, Some, None, Ok, Err, IsTrue, IfErr, OnOk, Result, IsOk, length}
-use Rattle.std.proofs.Common.{ap, sym, subst, ◌∙◌}
+use Rattle.std.proofs.Common.{ℕ, zero, suc, ◌≡◌, refl, Bool, true, false, not, ◌&&◌, Option, Some, None, Ok, Err, IsTrue, IfErr, OnOk, Result, IsOk, length, ap, sym, subst, ◌∙◌}
 use Rattle.std.proofs.lemmas.Bool.{true≢false}
 use Rattle.capnp_device.specs.declared.error.Error.{Error}
 use Rattle.capnp_device.specs.declared.error.ErrorKind.{ErrorKind}
@@ -11,8 +10,7 @@ use Rattle.capnp_wire.specs.Tree.{MoreTrees, NoTrees, StructTree, Tree, Trees, n
 use Rattle.capnp_wire.specs.Words.{first_fault, first_fault_of_all, first_of}
 use Rattle.capnp_wire.specs.declared.fault.Fault.{Fault}
 use Rattle.capnp_schema.specs.FieldLists.{index_of, typed_of}
-use Rattle.capnp_schema.specs.Schema.{FieldKind, Group, Schemas, Slot, default_of, kind_default}
-use Rattle.capnp_schema.specs.Schema.{Value as SchemaValue}
+use Rattle.capnp_schema.specs.Schema.{FieldKind, Group, Schemas, Slot, default_of, kind_default, Value as SchemaValue}
 use Rattle.capnp_schema.specs.Types.{SchemaType, StructType, is_pointer}
 use Rattle.capnp_schema.specs.declared.schema.fields.Field.{Field}
 use Rattle.capnp_records.specs.Facts.Refusals.{struct-refused}

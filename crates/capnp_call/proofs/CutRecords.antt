@@ -1,7 +1,6 @@
 -- What a reader with few levels has of a tree that is cut off further down is what it has of the whole one, trees behind
 -- untyped pointers aside.
-use Rattle.std.specs.Prelude.{ℕ, zero, suc, ◌-◌, ◌<◌, ◌≡◌, refl, List, [], ◌∷◌, Bool, true, false, cond, ◌&&◌, ◌==◌, length, Option, Some, None, Ok, Err}
-use Rattle.std.proofs.Common.{ap, ap₂, arith, sym, subst, ◌∙◌}
+use Rattle.std.proofs.Common.{ℕ, zero, suc, ◌-◌, ◌<◌, ◌≡◌, refl, List, [], ◌∷◌, Bool, true, false, cond, ◌&&◌, ◌==◌, length, Option, Some, None, Ok, Err, ap, ap₂, arith, sym, subst, ◌∙◌}
 use Rattle.std.proofs.lemmas.Bool.{true≢false}
 use Rattle.capnp_device.specs.declared.error.ErrorKind.{ErrorKind}
 use Rattle.capnp_device.specs.declared.error.ErrorKind.TheVariants.{TooDeep, WrongElementSize, WrongPointerKind}
@@ -11,8 +10,7 @@ use Rattle.capnp_wire.specs.Tree as tree
 use Rattle.capnp_wire.specs.Tree.{StructTree, Structs, Tree, Trees, nth_struct, nth_tree, only_tree, struct_count, tree_count}
 use Rattle.capnp_wire.specs.declared.fault.Fault.TheVariants as fault
 use Rattle.capnp_arena.specs.Same.{SameElements, SameParts, SameRow, SameTo}
-use Rattle.capnp_schema.specs.Schema.{FieldKind, Group, Node, Schemas, Slot, TypedField, fields_of, is_member, node_of}
-use Rattle.capnp_schema.specs.Schema.{Value as SchemaValue}
+use Rattle.capnp_schema.specs.Schema.{FieldKind, Group, Node, Schemas, Slot, TypedField, fields_of, is_member, node_of, Value as SchemaValue}
 use Rattle.capnp_schema.specs.SlotValue.{slot_number}
 use Rattle.capnp_schema.specs.Types.{AnyPointerType, DataType, EnumType, IntType, ListType, SchemaType, StructType, TextType, UIntType, element_size, is_pointer, struct_brand}
 use Rattle.capnp_records.specs.Facts.ListValues.{body_of, nth_body-is, only_reading-is}

@@ -1,6 +1,5 @@
 -- The text of a message's root is that of the reader which stands on it, whose tree is cut off further down.
-use Rattle.std.specs.Prelude.{ℕ, suc, ◌≡◌, refl, List, Bool, true, false, IsTrue, Ok, Err}
-use Rattle.std.proofs.Common.{ap, arith, sym, subst, ◌∙◌}
+use Rattle.std.proofs.Common.{ℕ, suc, ◌≡◌, refl, List, Bool, true, false, IsTrue, Ok, Err, ap, arith, sym, subst, ◌∙◌}
 use Rattle.std.proofs.lemmas.Bool.{true≢false}
 use Rattle.capnp_device.specs.declared.error.ErrorKind.{ErrorKind}
 use Rattle.capnp_wire.specs.Edits.{is_struct, struct_in}

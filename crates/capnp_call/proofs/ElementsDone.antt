@@ -1,6 +1,5 @@
 -- What is done to an element is what the words of writes on trees say of its list.
-use Rattle.std.specs.Prelude.{ℕ, ◌<◌, ◌≡◌, refl, true, cond}
-use Rattle.std.proofs.Common.{ap, sym, subst, ◌∙◌}
+use Rattle.std.proofs.Common.{ℕ, ◌<◌, ◌≡◌, refl, true, cond, ap, sym, subst, ◌∙◌}
 use Rattle.capnp_device.specs.declared.error.ErrorKind.{ErrorKind}
 use Rattle.capnp_device.specs.declared.error.ErrorKind.TheVariants.{ExpectedAListOrBlob, InitnIsOnlyValidForListTextOrDataFields, ListAnyPointerNotSupported}
 use Rattle.capnp_wire.specs.Facts.Room.{HasBit-there, HasNumber-there, HasPointer-there}

@@ -1,6 +1,5 @@
 -- What is done to a field is what the words of writes on trees say of its whole, however the field was named.
-use Rattle.std.specs.Prelude.{ℕ, ◌≡◌, ◌≢◌, ◌⊎◌, refl, Bool, true, false, cond, Option, Some, None, Ok}
-use Rattle.std.proofs.Common.{ap, inl, inr, sym, subst, ◌∙◌}
+use Rattle.std.proofs.Common.{ℕ, ◌≡◌, ◌≢◌, ◌⊎◌, refl, Bool, true, false, cond, Option, Some, None, Ok, ap, inl, inr, sym, subst, ◌∙◌}
 use Rattle.std.proofs.lemmas.Bool.{true≢false}
 use Rattle.capnp_device.specs.declared.error.ErrorKind.{ErrorKind}
 use Rattle.capnp_device.specs.declared.error.ErrorKind.TheVariants.{ExpectedAListOrBlob, InitnIsOnlyValidForListTextOrDataFields, ListAnyPointerNotSupported, OutOfMemory}

@@ -1,14 +1,12 @@
 -- What is read at the end of a path is what the machine of records says.
-use Rattle.std.specs.Prelude.{ℕ, ◌<◌, ◌≡◌, refl, Bool, true, false, not, length, IsTrue, Option, None, Result, Ok, IfOk}
-use Rattle.std.proofs.Common.{ap, inl, inr, sym, subst, ◌∙◌}
+use Rattle.std.proofs.Common.{ℕ, ◌<◌, ◌≡◌, refl, Bool, true, false, not, length, IsTrue, Option, None, Result, Ok, IfOk, ap, inl, inr, sym, subst, ◌∙◌}
 use Rattle.capnp_device.specs.declared.error.Error.{Error}
 use Rattle.capnp_device.specs.declared.error.ErrorKind.{ErrorKind}
 use Rattle.capnp_device.specs.declared.error.ErrorKind.TheVariants.{OutOfMemory}
 use Rattle.capnp_wire.specs.Standing.{struct_levels, struct_of}
 use Rattle.capnp_wire.specs.Tree.{StructTree}
 use Rattle.capnp_base.specs.declared.introspect.TypeVariant.{TypeVariant}
-use Rattle.capnp_schema.specs.FieldLists.{index_of, typed_of}
-use Rattle.capnp_schema.specs.FieldLists.{field_schema as field_schema}
+use Rattle.capnp_schema.specs.FieldLists.{index_of, typed_of, field_schema as field_schema}
 use Rattle.capnp_schema.specs.Schema.{Schemas, default_of}
 use Rattle.capnp_schema.specs.StructHandles.{IsStruct, number_of, set_of, struct_field, struct_fields}
 use Rattle.capnp_schema.specs.Types.{SchemaType, seen_variant}

@@ -1,6 +1,5 @@
 -- The field that a step names.
-use Rattle.std.specs.Prelude.{ℕ, ◌≡◌, refl, Option, Some, None}
-use Rattle.std.proofs.Common.{ap, sym, subst}
+use Rattle.std.proofs.Common.{ℕ, ◌≡◌, refl, Option, Some, None, ap, sym, subst}
 use Rattle.capnp_schema.specs.FieldLists.{IsFound, index_of}
 use Rattle.capnp_schema.specs.declared.schema.fields.Field.{Field}
 use Rattle.capnp_schema.specs.declared.schema.structs.StructSchema.{StructSchema}

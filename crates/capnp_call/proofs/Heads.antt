@@ -1,6 +1,5 @@
 -- What is answered of a tree that is cut off further down is what is answered of the whole one.
-use Rattle.std.specs.Prelude.{ℕ, suc, ◌≡◌, ◌<◌, refl, Bool, true, false, cond, not, ◌&&◌, length, List, Err, Ok}
-use Rattle.std.proofs.Common.{ap, sym, subst, ◌∙◌}
+use Rattle.std.proofs.Common.{ℕ, suc, ◌≡◌, ◌<◌, refl, Bool, true, false, cond, not, ◌&&◌, length, List, Err, Ok, ap, sym, subst, ◌∙◌}
 use Rattle.capnp_device.specs.declared.error.ErrorKind.{ErrorKind}
 use Rattle.capnp_device.specs.declared.error.ErrorKind.TheVariants.{WrongElementSize}
 use Rattle.capnp_wire.specs.Reading.{cut_pointer, is_null_tree, list_length, reads_pointers, reads_structs}

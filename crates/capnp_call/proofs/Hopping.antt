@@ -1,6 +1,5 @@
 -- Steps of a walk, put together: what the rest of a call does in the part that a step enters, the call does to the whole.
-use Rattle.std.specs.Prelude.{ℕ, ◌≡◌, ◌<◌, refl, List, [], ◌∷◌, true, false, None, Result, Ok, Err}
-use Rattle.std.proofs.Common.{ap, arith, drop, get_or, inl, length, sym, subst, ◌+◌, ◌≤◌, ◌∙◌}
+use Rattle.std.proofs.Common.{ℕ, ◌≡◌, ◌<◌, refl, List, [], ◌∷◌, true, false, None, Result, Ok, Err, ap, arith, drop, get_or, inl, length, sym, subst, ◌+◌, ◌≤◌, ◌∙◌}
 use Rattle.std.proofs.lemmas.Bool.{true≢false}
 use Rattle.std.proofs.lemmas.List.{at_drop_all, drop_more}
 use Rattle.capnp_device.specs.declared.error.Error.{Error}

@@ -1,6 +1,5 @@
 -- What a reader with 64 levels is answered is what the whole record says.
-use Rattle.std.specs.Prelude.{ℕ, ◌≡◌, ◌⊎◌, refl, List, Bool, true, false, cond, length, IsTrue, ◌==◌, Result, Option, Some, None, Ok, Err}
-use Rattle.std.proofs.Common.{ap, sym, subst, ◌∙◌}
+use Rattle.std.proofs.Common.{ℕ, ◌≡◌, ◌⊎◌, refl, List, Bool, true, false, cond, length, IsTrue, ◌==◌, Result, Option, Some, None, Ok, Err, ap, sym, subst, ◌∙◌}
 use Rattle.std.proofs.lemmas.Bool.{true≢false}
 use Rattle.capnp_wire.specs.Tree as tree
 use Rattle.capnp_wire.specs.Tree.{StructTree, Tree, Trees, nth_tree}
@@ -9,8 +8,7 @@ use Rattle.capnp_device.specs.declared.error.ErrorKind.TheVariants.{OutOfMemory,
 use Rattle.capnp_wire.specs.Reading.{as_list, as_struct, is_null_tree, list_length, reads_bits, reads_numbers, reads_pointers, reads_structs, reads_voids, with_level}
 use Rattle.capnp_wire.specs.declared.size.ElementSize.{ElementSize}
 use Rattle.capnp_schema.specs.Accepted.{words_root}
-use Rattle.capnp_schema.specs.Schema.{Schemas, StructValue, ListValue, FieldKind, Slot, Group, TypedField, default_of}
-use Rattle.capnp_schema.specs.Schema.{Value as SchemaValue}
+use Rattle.capnp_schema.specs.Schema.{Schemas, StructValue, ListValue, FieldKind, Slot, Group, TypedField, default_of, Value as SchemaValue}
 use Rattle.capnp_schema.specs.Types.{SchemaType, TextType, DataType, StructType, ListType, AnyPointerType, element_size}
 use Rattle.capnp_records.specs.Default.{default_value, empty_value, read_of, unless_null}
 use Rattle.capnp_records.specs.Facts.DefaultTree.{read-there}

@@ -1,6 +1,5 @@
 -- What stands behind a list's slot that a step goes into, and why it is refused.
-use Rattle.std.specs.Prelude.{ℕ, ◌-◌, ◌*◌, ◌^◌, ◌<◌, ◌≡◌, ◌⊎◌, refl, List, Bool, true, false, not, ◌&&◌, Option, Some, None, Result, Ok, Err, IsOk, IsTrue, IfErr, OnOk}
-use Rattle.std.proofs.Common.{ap, inl, inr, sym, subst, ◌∙◌}
+use Rattle.std.proofs.Common.{ℕ, ◌-◌, ◌*◌, ◌^◌, ◌<◌, ◌≡◌, ◌⊎◌, refl, List, Bool, true, false, not, ◌&&◌, Option, Some, None, Result, Ok, Err, IsOk, IsTrue, IfErr, OnOk, ap, inl, inr, sym, subst, ◌∙◌}
 use Rattle.std.proofs.lemmas.Bool.{true≢false}
 use Rattle.capnp_device.specs.declared.error.Error.{Error}
 use Rattle.capnp_device.specs.declared.error.ErrorKind.{ErrorKind}
@@ -20,8 +19,7 @@ use Rattle.capnp_schema.specs.Accepted.{Decodes, IsDefaultOf, KindDefault, words
 use Rattle.capnp_schema.specs.Defaults.{DefaultFits, IsDefaultReadAs, value_default_tree}
 use Rattle.capnp_schema.specs.FieldLists.{typed_of}
 use Rattle.capnp_schema.specs.Ranges.{HasRanges}
-use Rattle.capnp_schema.specs.Schema.{AnyPointerValue, FieldKind, Group, ListValue, Schemas, Slot, StructValue, brand_at, default_of, kind_default}
-use Rattle.capnp_schema.specs.Schema.{Value as SchemaValue}
+use Rattle.capnp_schema.specs.Schema.{AnyPointerValue, FieldKind, Group, ListValue, Schemas, Slot, StructValue, brand_at, default_of, kind_default, Value as SchemaValue}
 use Rattle.capnp_schema.specs.Types.{ListType, SchemaType, StructType, element_size}
 use Rattle.capnp_schema.specs.declared.schema.fields.Field.{Field}
 use Rattle.capnp_records.specs.Call.{Refused}

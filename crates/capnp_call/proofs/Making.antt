@@ -1,6 +1,5 @@
 -- Calls one after another.
-use Rattle.std.specs.Prelude.{ℕ, ◌≡◌, refl, List, [], ◌∷◌, ◌++◌, map}
-use Rattle.std.proofs.Common.{subst}
+use Rattle.std.proofs.Common.{ℕ, ◌≡◌, refl, List, [], ◌∷◌, ◌++◌, map, subst}
 use Rattle.capnp_wire.specs.Tree.{StructTree}
 use Rattle.capnp_schema.specs.Schema.{Schemas, brand_at}
 use Rattle.capnp_schema.specs.StructHandles.{IsStruct, number_of, set_of}

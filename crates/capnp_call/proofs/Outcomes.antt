@@ -1,6 +1,5 @@
 -- What a write comes to that may have been refused: it was done, or nothing has changed.
-use Rattle.std.specs.Prelude.{ℕ, ◌≡◌, List, Result, Ok, Err, OnOk, OnErr, IfErr}
-use Rattle.std.proofs.Common.{arith, ap, inl, refl, subst, sym}
+use Rattle.std.proofs.Common.{ℕ, ◌≡◌, List, Result, Ok, Err, OnOk, OnErr, IfErr, arith, ap, inl, refl, subst, sym}
 use Rattle.capnp_device.specs.declared.error.Error.{Error}
 use Rattle.capnp_arena.specs.Built.{built_at}
 use Rattle.capnp_arena.specs.Forest.{Changes, Forest, struct_from}

@@ -1,6 +1,5 @@
 -- Parts that a walk enters: what is known of them, and what is left of their owner.
-use Rattle.std.specs.Prelude.{ℕ, ◌≡◌, refl, List, IsTrue, None}
-use Rattle.std.proofs.Common.{ap, arith, sym, subst}
+use Rattle.std.proofs.Common.{ℕ, ◌≡◌, refl, List, IsTrue, None, ap, arith, sym, subst}
 use Rattle.capnp_wire.specs.Edits.{is_struct, struct_in, with_pointer_tree}
 use Rattle.capnp_wire.specs.Facts.Rows.{tree_count-with_tree}
 use Rattle.capnp_wire.specs.Tree.{StructTree, Tree}

@@ -5,11 +5,10 @@ use Rattle.std.proofs.lemmas.List.Elements.{All-from_recursion}
 use Rattle.capnp_wire.specs.Tree.{StructTree}
 use Rattle.capnp_schema.specs.StructHandles.{number_of, set_of}
 use Rattle.capnp_schema.specs.declared.schema.structs.StructSchema.{StructSchema}
-use Rattle.capnp_call.specs.Memory.{IsNotForRoom}
+use Rattle.capnp_call.specs.Memory.{IsNotForRoom, RunRests}
 use Rattle.capnp_call.specs.Seen.{reply_seen}
 use Rattle.capnp_call.specs.declared.calls.Call.{Call}
 use Rattle.capnp_call.specs.declared.calls.Reply.{Reply}
-use Rattle.capnp_call.specs.Memory.{RunRests}
 use Rattle.capnp_call.specs.Runs.{MakesCalls, RestsWhole}
 
 made_rests : (schema : StructSchema) (old new : StructTree) (calls : List Call) (replies : List Reply) → MakesCalls (set_of schema) (number_of schema) old calls replies new → RunRests schema old calls →

@@ -1,12 +1,10 @@
 -- What a set does is what the machine of records says, and why it is refused.
-use Rattle.std.specs.Prelude.{ℕ, suc, ◌≡◌, ◌≢◌, refl, Bool, true, false, length, Option, Some, None}
-use Rattle.std.proofs.Common.{ap, inl, inr, sym, subst, ◌∙◌}
+use Rattle.std.proofs.Common.{ℕ, suc, ◌≡◌, ◌≢◌, refl, Bool, true, false, length, Option, Some, None, ap, inl, inr, sym, subst, ◌∙◌}
 use Rattle.std.proofs.lemmas.Bool.{true≢false}
 use Rattle.capnp_device.specs.declared.error.ErrorKind.{ErrorKind}
 use Rattle.capnp_wire.specs.Tree.{StructTree, Tree}
 use Rattle.capnp_schema.specs.FieldLists.{field_schema, typed_of}
-use Rattle.capnp_schema.specs.Schema.{Schemas, TypedField, default_of, field_at}
-use Rattle.capnp_schema.specs.Schema.{Value as SchemaValue}
+use Rattle.capnp_schema.specs.Schema.{Schemas, TypedField, default_of, field_at, Value as SchemaValue}
 use Rattle.capnp_schema.specs.StructHandles.{struct_node}
 use Rattle.capnp_schema.specs.Types.{ListType, SchemaType, StructType}
 use Rattle.capnp_schema.specs.declared.schema.fields.Field.{Field}

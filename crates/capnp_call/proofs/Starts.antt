@@ -1,7 +1,6 @@
 -- The root that a run starts from, and what a run leaves there.
-use Rattle.std.specs.Prelude.{ℕ, suc, ◌^◌, ◌<◌, ◌≡◌, ◌≢◌, refl, List, ◌++◌, Bool, true, false, cond, ◌==◌, IsTrue, Option, Some, None, option_map, Result, Ok, Err}
+use Rattle.std.proofs.Common.{ℕ, suc, ◌^◌, ◌<◌, ◌≡◌, ◌≢◌, refl, List, ◌++◌, Bool, true, false, cond, ◌==◌, IsTrue, Option, Some, None, option_map, Result, Ok, Err, ap, sym, subst, ◌∙◌}
 use Rattle.std.specs.Result.{is_ok}
-use Rattle.std.proofs.Common.{ap, sym, subst, ◌∙◌}
 use Rattle.std.proofs.lemmas.Bool.{true≢false}
 use Rattle.capnp_device.specs.declared.error.Error.{Error}
 use Rattle.capnp_device.specs.declared.error.ErrorKind.{ErrorKind}
@@ -34,9 +33,8 @@ use Rattle.capnp_records.specs.Facts.Extension.{fits-extended, reads-extended, r
 use Rattle.capnp_records.specs.Record.{Levels, Record}
 use Rattle.capnp_records.specs.Writes.Slots.{Fits}
 use Rattle.capnp_schema.specs.Plan.{brand_size}
-use Rattle.capnp_call.specs.Messages.{HasRoot, IsWhole, IsWholeRefusal, LeavesRun, fault_or, new_record, new_root, record_left, root_refusal, root_value, record_text}
+use Rattle.capnp_call.specs.Messages.{HasRoot, IsWhole, IsWholeRefusal, LeavesRun, fault_or, new_record, new_root, record_left, root_refusal, root_value, record_text, copied_root as copied_root_of}
 use Rattle.capnp_call.specs.Steps.Messages.{RunsOn}
-use Rattle.capnp_call.specs.Messages.{copied_root as copied_root_of}
 use Rattle.capnp_call.specs.Runs.{IsCallMade, IsRunFrom, MakesCalls, record_under_schema}
 use Rattle.capnp_call.specs.declared.calls.Call.{Call}
 use Rattle.capnp_call.specs.declared.calls.Reply.{Reply}

@@ -1,6 +1,5 @@
 -- The walk of a path from a struct, a step after another.
-use Rattle.std.specs.Prelude.{ℕ, zero, suc, ◌≡◌, refl, List, [], ◌∷◌, false, Some, None, Ok, Err}
-use Rattle.std.proofs.Common.{ap, sym, subst, ◌∙◌}
+use Rattle.std.proofs.Common.{ℕ, zero, suc, ◌≡◌, refl, List, [], ◌∷◌, false, Some, None, Ok, Err, ap, sym, subst, ◌∙◌}
 use Rattle.std.proofs.lemmas.Bool.{true≢false}
 use Rattle.capnp_device.specs.declared.error.Error.{Error}
 use Rattle.capnp_device.specs.declared.error.ErrorKind.{ErrorKind}

@@ -1,6 +1,5 @@
 -- The active member is the same whatever levels a reader has left, and of two structs with the same data.
-use Rattle.std.specs.Prelude.{ℕ, ◌≡◌, refl, Bool, true, false, ◌==◌, None}
-use Rattle.std.proofs.Common.{ap, sym, ◌∙◌}
+use Rattle.std.proofs.Common.{ℕ, ◌≡◌, refl, Bool, true, false, ◌==◌, None, ap, sym, ◌∙◌}
 use Rattle.capnp_wire.specs.Tree.{StructTree}
 use Rattle.capnp_wire.specs.Standing.{struct_levels, struct_of}
 use Rattle.capnp_schema.specs.Schema.{Schemas, fields_of, node_of}

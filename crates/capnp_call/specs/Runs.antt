@@ -8,11 +8,10 @@ use Rattle.capnp_records.specs.Reading.{reads}
 use Rattle.capnp_records.specs.Record.{Record}
 use Rattle.capnp_records.specs.Run.{Run}
 use Rattle.capnp_records.specs.Writes.TreeEnds.{TreeStep}
-use Rattle.capnp_call.specs.Memory.{IsNotForRoom}
+use Rattle.capnp_call.specs.Memory.{IsNotForRoom, RestsOn, RunRests}
 use Rattle.capnp_call.specs.Seen.{call_seen, reply_seen}
 use Rattle.capnp_call.specs.declared.calls.Call.{Call}
 use Rattle.capnp_call.specs.declared.calls.Reply.{Reply}
-use Rattle.capnp_call.specs.Memory.{RestsOn, RunRests}
 
 -- one call is made: a step on trees, with a reply that is no refusal for room where the call takes no memory
 pub record IsCallMade (set : Schemas) (b : ℕ) (old : StructTree) (call : Call) (reply : Reply) (new : StructTree) : Type 0 where

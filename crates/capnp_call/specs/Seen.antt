@@ -1,7 +1,6 @@
 -- Calls and replies as the machine of records has them.
 use Rattle.std.specs.Prelude.{List, map}
-use Rattle.capnp_records.specs.Call.{PathStep, FieldNumber, FieldNamed, ElementAt}
-use Rattle.capnp_records.specs.Call.{VoidPlain, BoolPlain, IntPlain, UIntPlain, EnumPlain, TextPlain, DataPlain, StructPlain, ListPlain, AnyPointerPlain}
+use Rattle.capnp_records.specs.Call.{PathStep, FieldNumber, FieldNamed, ElementAt, VoidPlain, BoolPlain, IntPlain, UIntPlain, EnumPlain, TextPlain, DataPlain, StructPlain, ListPlain, AnyPointerPlain}
 use Rattle.capnp_records.specs.Call as record_call
 use Rattle.capnp_slots.specs.SetValues.{source_of}
 use Rattle.capnp_call.specs.declared.calls.Call.{Call}

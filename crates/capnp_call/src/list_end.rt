@@ -124,7 +124,13 @@ fn do_element(
 }
 
 /// Does an operation to the element that the last step names.
-fn do_last(arena: &mut Arena, at: usize, schemas: &SchemaSet, element: Type, end: Ending<'_>) -> Reply
+fn do_last(
+    arena: &mut Arena,
+    at: usize,
+    schemas: &SchemaSet,
+    element: Type,
+    end: Ending<'_>,
+) -> Reply
     requires forest { Forest (segment arena.old) at }
     requires entries { NamesEntries (lists_seen schemas.now) (seen_type element) }
     requires list { IsListStand (lists_seen schemas.now) (seen_type element) (tree (segment arena.old) at) }

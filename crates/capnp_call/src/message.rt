@@ -9,8 +9,7 @@ ghost use Rattle.capnp_arena.specs.Shape.{word_count};
 ghost use Rattle.capnp_schema.specs.StructHandles.{IsStruct, number_of, set_of};
 ghost use Rattle.capnp_slots.specs.Standing.{IsUnder};
 ghost use Rattle.capnp_dynamic_readers.specs.Pieces.{IsAppended};
-ghost use Rattle.capnp_call.specs.Messages.{HasRoot, IsCopiedRefusal, IsRoot, IsWhole, IsWholeRefusal, LeavesRun};
-ghost use Rattle.capnp_call.specs.Messages.{copied_record, copied_root, new_record, new_root, root_refusal};
+ghost use Rattle.capnp_call.specs.Messages.{HasRoot, IsCopiedRefusal, IsRoot, IsWhole, IsWholeRefusal, LeavesRun, copied_record, copied_root, new_record, new_root, root_refusal};
 ghost use Rattle.capnp_call.specs.Steps.Messages.{RunsOn, read_text, root_text};
 ghost use Rattle.capnp_call.specs.Runs.{IsCallMade, MakesCalls, RestsWhole};
 

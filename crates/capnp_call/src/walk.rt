@@ -89,7 +89,9 @@ fn end_at(arena: &mut Arena, at: At<'_>, end: Ending<'_>, reply: &mut Reply)
 {
     match at {
         At::Struct(place, schema) => *reply = end_at_struct(arena, place, schema, end),
-        At::List(word, schemas, element) => *reply = end_in_list(arena, word, schemas, element, end),
+        At::List(word, schemas, element) => *reply = end_in_list(
+            arena, word, schemas, element, end,
+        ),
     }
 }
 

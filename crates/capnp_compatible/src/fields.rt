@@ -41,7 +41,12 @@ fn are_fields_shared(schemas: &SchemaSet, lists: bool, older: u32, newer: u32) -
         (length (fields_of (lists_seen schemas.now) older)) → IsTrue result }
 {
     for i in 0..field_count(schemas, older) {
-        if !is_shared(schemas, lists, field_of(schemas, older, i), field_of(schemas, newer, i)) {
+        if !is_shared(
+            schemas,
+            lists,
+            field_of(schemas, older, i),
+            field_of(schemas, newer, i),
+        ) {
             return false;
         }
     }

@@ -82,7 +82,10 @@ fn answer_about_message(
 ) -> Result<Answer> {
     let sections = root_of(alloc, message)?;
     if word == "widen" {
-        return text_of(alloc, seen_by_newer(alloc, schemas, older, newer, sections)?);
+        return text_of(
+            alloc,
+            seen_by_newer(alloc, schemas, older, newer, sections)?,
+        );
     }
     let narrowed = seen_by_older(alloc, schemas, older, newer, sections)?;
     if word == "known" {

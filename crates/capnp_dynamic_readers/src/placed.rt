@@ -117,7 +117,12 @@ pub(crate) fn read_placed<'a>(
             width: _,
             mask,
         } => read_bits(reader, schemas, variant, start, mask),
-        Place::Pointer(index) => read_pointer(schemas, kind, variant, reader.get_pointer_field(index)),
+        Place::Pointer(index) => read_pointer(
+            schemas,
+            kind,
+            variant,
+            reader.get_pointer_field(index),
+        ),
         Place::Group(brand) => {
             let schema = schemas.struct_schema(brand);
             Ok(Value::Struct(dynamic_struct::Reader::new(*reader, schema)))

@@ -63,7 +63,9 @@ fn text_of(
 #[test]
 fn the_request_set_is_accepted(rt: HostRuntime) -> std::result::Result<(), Fail> {
     let schemas = request_set::new_set(rt.alloc())?;
-    assert!(rt; schemas.nodes().len() == 23 && schemas.brands().len() == 23 && schemas.enums().is_empty());
+    assert!(rt;
+        schemas.nodes().len() == 23 && schemas.brands().len() == 23 && schemas.enums().is_empty()
+    );
     Ok(())
 }
 

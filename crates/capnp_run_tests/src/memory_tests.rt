@@ -145,7 +145,12 @@ fn met_of(alloc: Global, schema: StructSchema<'_>, start: &[u8], rows: &[Row<'_>
 }
 
 /// The calls of a meeting on a copy of its message. `Given` is what is given.
-fn met_by(alloc: Global, schemas: &SchemaSet, given: Value<'_>, meeting: &Meeting<'_>) -> Result<Met> {
+fn met_by(
+    alloc: Global,
+    schemas: &SchemaSet,
+    given: Value<'_>,
+    meeting: &Meeting<'_>,
+) -> Result<Met> {
     let schema = schema_of(schemas, meeting.brand)?;
     let rows = rows_in(alloc, meeting.rows, given)?;
     met_of(alloc, schema, meeting.start, rows.as_slice())

@@ -9,7 +9,9 @@ use std::test::Fail;
 
 /// Whether a set has so many nodes, brands and enums.
 fn has_counts(schemas: &SchemaSet, nodes: usize, brands: usize, enums: usize) -> bool {
-    schemas.nodes().len() == nodes && schemas.brands().len() == brands && schemas.enums().len() == enums
+    schemas.nodes().len() == nodes
+        && schemas.brands().len() == brands
+        && schemas.enums().len() == enums
 }
 
 #[test]

@@ -54,11 +54,19 @@ fn struct_of<'s>(schemas: &'s SchemaSet, word: &str) -> Result<StructSchema<'s>>
 }
 
 fn structs(alloc: Global, schemas: &SchemaSet, one: &str, another: &str) -> Result<&'static str> {
-    compare(alloc, &struct_of(schemas, one)?, &struct_of(schemas, another)?)
+    compare(
+        alloc,
+        &struct_of(schemas, one)?,
+        &struct_of(schemas, another)?,
+    )
 }
 
 fn fields(alloc: Global, schemas: &SchemaSet, one: &str, another: &str) -> Result<&'static str> {
-    compare(alloc, &field_of(schemas, one)?, &field_of(schemas, another)?)
+    compare(
+        alloc,
+        &field_of(schemas, one)?,
+        &field_of(schemas, another)?,
+    )
 }
 
 /// The field that a struct's list has at a place.
@@ -73,7 +81,12 @@ fn listed<'s>(schemas: &'s SchemaSet, words: &str) -> Result<Field<'s>> {
     }
 }
 
-fn listed_fields(alloc: Global, schemas: &SchemaSet, one: &str, another: &str) -> Result<&'static str> {
+fn listed_fields(
+    alloc: Global,
+    schemas: &SchemaSet,
+    one: &str,
+    another: &str,
+) -> Result<&'static str> {
     compare(alloc, &listed(schemas, one)?, &field_of(schemas, another)?)
 }
 
@@ -81,7 +94,12 @@ fn enums(alloc: Global, schemas: &SchemaSet, one: &str, another: &str) -> Result
     compare(alloc, &enum_of(schemas, one)?, &enum_of(schemas, another)?)
 }
 
-fn enumerants(alloc: Global, schemas: &SchemaSet, one: &str, another: &str) -> Result<&'static str> {
+fn enumerants(
+    alloc: Global,
+    schemas: &SchemaSet,
+    one: &str,
+    another: &str,
+) -> Result<&'static str> {
     compare(
         alloc,
         &enumerant_of(schemas, one)?,

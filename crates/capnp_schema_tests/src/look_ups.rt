@@ -205,7 +205,12 @@ fn looked_up(alloc: Global, kind: &str, schema: StructSchema<'_>, words: &str) -
 }
 
 /// What a struct answers.
-pub(crate) fn of_struct(alloc: Global, schemas: &SchemaSet, kind: &str, words: &str) -> Result<String> {
+pub(crate) fn of_struct(
+    alloc: Global,
+    schemas: &SchemaSet,
+    kind: &str,
+    words: &str,
+) -> Result<String> {
     let (schema, rest) = struct_and_words(schemas, words)?;
     match kind {
         "fields" | "members" | "plain" | "indices" => in_order(alloc, kind, schema),
@@ -249,7 +254,12 @@ fn ordinal_at(schema: EnumSchema<'_>, index: u16) -> Result<Option<u16>> {
 }
 
 /// What an enum answers.
-pub(crate) fn of_enum(alloc: Global, schemas: &SchemaSet, kind: &str, words: &str) -> Result<String> {
+pub(crate) fn of_enum(
+    alloc: Global,
+    schemas: &SchemaSet,
+    kind: &str,
+    words: &str,
+) -> Result<String> {
     let (enum_number, ordinal) = first_word(words);
     let schema = enum_of(schemas, enum_number)?;
     match kind {

@@ -1,11 +1,9 @@
 -- The tree of a set is shallow enough to be read in full.
-use Rattle.std.proofs.Common.{ℕ, ◌-◌, ◌≤◌, arith, List, [], ◌∷◌}
-use Rattle.std.specs.Prelude.{map}
+use Rattle.std.proofs.Common.{map, ℕ, ◌-◌, ◌≤◌, arith, List, [], ◌∷◌}
 use Rattle.capnp_wire.specs.Depth.{AreBelow, ElementsAreBelow, IsBelow, IsShallow}
 use Rattle.capnp_wire.specs.Place.{struct_tree}
 use Rattle.capnp_wire.specs.Tree.{StructTree, Tree}
-use Rattle.capnp_schema.specs.Schema.{Annotation, Brand, Enum, Enumerant, Field, FieldKind, Group, Node, Schemas, Slot}
-use Rattle.capnp_schema.specs.Schema.{Value, VoidValue, BoolValue, IntValue, UIntValue, EnumValue, TextValue, DataValue, StructValue, ListValue, AnyPointerValue}
+use Rattle.capnp_schema.specs.Schema.{Annotation, Brand, Enum, Enumerant, Field, FieldKind, Group, Node, Schemas, Slot, Value, VoidValue, BoolValue, IntValue, UIntValue, EnumValue, TextValue, DataValue, StructValue, ListValue, AnyPointerValue}
 use Rattle.capnp_schema.specs.Types.{SchemaType}
 use Rattle.capnp_set_writer.specs.Trees.{annotation_tree, annotations_tree, brand_tree, enum_tree, enumerant_tree, enumerants_tree, field_kind_tree, field_tree, fields_tree, node_tree, set_tree, structs_of, trees_of, type_lists_tree, type_tree, types_tree, value_tree}
 

@@ -1,7 +1,6 @@
 -- Each value that is kept has a kind.
 use Rattle.std.specs.Prelude.{All, List}
-use Rattle.capnp_schema.specs.Schema.{Annotation, Enum, Enumerant, Field, FieldKind, Group, Node, Schemas, Slot}
-use Rattle.capnp_schema.specs.Schema.{Value, VoidValue, BoolValue, IntValue, UIntValue, EnumValue, TextValue, DataValue, StructValue, ListValue, AnyPointerValue}
+use Rattle.capnp_schema.specs.Schema.{Annotation, Enum, Enumerant, Field, FieldKind, Group, Node, Schemas, Slot, Value, VoidValue, BoolValue, IntValue, UIntValue, EnumValue, TextValue, DataValue, StructValue, ListValue, AnyPointerValue}
 use Rattle.capnp_set_writer.specs.Kept.{AnnotationKept, EnumKept, EnumerantKept, FieldKept, KindKept, NodeKept, ValueKept}
 use Rattle.capnp_set_writer.specs.Steps.Kept.{SetKept}
 use Rattle.capnp_set_writer.specs.Limits.{AnnotationHasKind, DefaultHasKind, EnumHasKinds, EnumerantHasKinds, FieldHasKinds, HasForm, NodeHasKinds, SetHasKinds}

@@ -6,8 +6,7 @@ use Rattle.capnp_wire.specs.Tree as tree
 use Rattle.capnp_wire.specs.Tree.{StructTree, Tree, struct_count, tree_count}
 use Rattle.capnp_wire.specs.Place.{struct_tree}
 use Rattle.capnp_schema.specs.Meta.{meta, meta_structs, meta_struct}
-use Rattle.capnp_schema.specs.Schema.{VoidValue}
-use Rattle.capnp_schema.specs.Schema.{Value as SchemaValue}
+use Rattle.capnp_schema.specs.Schema.{VoidValue, Value as SchemaValue}
 use Rattle.capnp_schema.specs.Types.{ListType}
 use Rattle.capnp_records.specs.Default.{read_of}
 use Rattle.capnp_records.specs.Reading.{Body, bodies_of, elements_value, entered_value, nth_body, nth_reading, of_read, pointers_below, record_of, struct_record, structs_below, value_of, values_of}

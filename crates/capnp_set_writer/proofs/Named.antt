@@ -1,6 +1,5 @@
 -- The types of an accepted set name brands whose nodes are their generic numbers: so the records of the brands say these.
-use Rattle.std.proofs.Common.{◌≡◌, ℕ, zero, suc, ◌<◌, refl, ap, subst, ◌∙◌, arith, List, [], ◌∷◌, length, get_or, Ok}
-use Rattle.std.specs.Prelude.{All, map, slice_get}
+use Rattle.std.proofs.Common.{All, map, slice_get, ◌≡◌, ℕ, zero, suc, ◌<◌, refl, ap, subst, ◌∙◌, arith, List, [], ◌∷◌, length, get_or, Ok}
 use Rattle.std.specs.Option.{unwrap_or}
 use Rattle.capnp_schema.specs.Accepted.{AllName, IsAccepted, NamesEntries}
 use Rattle.capnp_schema.specs.Schema.{Brand, Enum, Field, Schemas, TypedField, brand_at, fields_of, no_brand, no_field, node_of, typed_fields}

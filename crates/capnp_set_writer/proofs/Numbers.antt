@@ -1,6 +1,5 @@
 -- Numbers that are spelled among others, as the slots of their fields read them; and parts that stand for something.
-use Rattle.std.proofs.Common.{◌≡◌, ℕ, refl, ap, sym, subst, ◌∙◌, List, [], Bool, true, false, Result, Ok}
-use Rattle.std.specs.Prelude.{pos, bit_xor}
+use Rattle.std.proofs.Common.{pos, bit_xor, ◌≡◌, ℕ, refl, ap, sym, subst, ◌∙◌, List, [], Bool, true, false, Result, Ok}
 use Rattle.std.specs.Int.Bits.{xor_zero_r}
 use Rattle.std.specs.Str.{is_utf8}
 use Rattle.capnp_device.specs.declared.error.ErrorKind.{ErrorKind}

@@ -1,6 +1,5 @@
 -- Records of nodes, brands and enums that were written are read as themselves.
-use Rattle.std.proofs.Common.{◌≡◌, ℕ, ◌^◌, ◌<◌, refl, ap, ◌∙◌, arith, List, ◌++◌, Bool, true, false, Ok}
-use Rattle.std.specs.Prelude.{All, bit_xor}
+use Rattle.std.proofs.Common.{All, bit_xor, ◌≡◌, ℕ, ◌^◌, ◌<◌, refl, ap, ◌∙◌, arith, List, ◌++◌, Bool, true, false, Ok}
 use Rattle.capnp_wire.specs.Encoding.{spelled_number}
 use Rattle.capnp_wire.specs.WellFormed.{AreBytes}
 use Rattle.capnp_wire.specs.Place.{struct_tree}

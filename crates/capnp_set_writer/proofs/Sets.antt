@@ -1,6 +1,5 @@
 -- A set that was written is read as itself: its tree, and the message of that tree.
-use Rattle.std.proofs.Common.{◌≡◌, ℕ, suc, ◌^◌, ◌<◌, refl, ap, sym, subst, ◌∙◌, List, Ok}
-use Rattle.std.specs.Prelude.{All}
+use Rattle.std.proofs.Common.{All, ◌≡◌, ℕ, suc, ◌^◌, ◌<◌, refl, ap, sym, subst, ◌∙◌, List, Ok}
 use Rattle.capnp_wire.specs.Message.{IsReadAs}
 use Rattle.capnp_wire.specs.Depth.{IsShallow}
 use Rattle.capnp_wire.specs.Place.{struct_tree}

@@ -1,6 +1,5 @@
 -- Values and annotations that were written are read as themselves.
-use Rattle.std.proofs.Common.{◌≡◌, ℕ, ◌-◌, ◌*◌, ◌^◌, ◌<◌, refl, ap, sym, subst, ◌∙◌, arith, List, [], ◌∷◌, ◌++◌, Bool, true, false, Ok}
-use Rattle.std.specs.Prelude.{ℤ, All}
+use Rattle.std.proofs.Common.{ℤ, All, ◌≡◌, ℕ, ◌-◌, ◌*◌, ◌^◌, ◌<◌, refl, ap, sym, subst, ◌∙◌, arith, List, [], ◌∷◌, ◌++◌, Bool, true, false, Ok}
 use Rattle.capnp_wire.specs.Encoding.{spelled_number}
 use Rattle.capnp_wire.specs.WellFormed.{AreBytes}
 use Rattle.capnp_wire.specs.Facts.Bytes.{AreBytes-append, AreBytes-spelled, AreBytes-zeros, little_endian_spelled}
@@ -8,17 +7,15 @@ use Rattle.capnp_base.specs.ReadBack.{as_text-text_tree}
 use Rattle.capnp_schema.specs.Builtin.{zero_word}
 use Rattle.capnp_schema.specs.Meta.{meta, meta_structs}
 use Rattle.capnp_schema.specs.Ranges.{IsSigned}
-use Rattle.capnp_schema.specs.Schema.{Annotation, Value, VoidValue, BoolValue, IntValue, UIntValue, EnumValue, TextValue, DataValue, StructValue, ListValue, AnyPointerValue}
+use Rattle.capnp_schema.specs.Schema.{Annotation, Value, VoidValue, BoolValue, IntValue, UIntValue, EnumValue, TextValue, DataValue, StructValue, ListValue, AnyPointerValue, field_at}
 use Rattle.capnp_schema.specs.SlotValue.{unsigned_number}
 use Rattle.capnp_records.specs.Default.{read_of}
-use Rattle.capnp_records.specs.Reading.{signed_number, struct_record}
-use Rattle.capnp_records.specs.Reading.{value_of as tree_value_of}
+use Rattle.capnp_records.specs.Reading.{signed_number, struct_record, value_of as tree_value_of}
 use Rattle.capnp_records.specs.Record.{Levels, one_less}
 use Rattle.capnp_records.specs.Facts.Numbers.{signed-unsigned, unsigned-lt}
 use Rattle.capnp_sets.specs.Causes.{SetRead, ◌<*>◌}
 use Rattle.capnp_sets.specs.Parts.{number, meta_read_at, meta_read_under, struct, text}
 use Rattle.capnp_sets.specs.Values.{annotation_meant, annotations, value_by, value_meant}
-use Rattle.capnp_schema.specs.Schema.{field_at}
 use Rattle.capnp_set_writer.specs.Kept.{AnnotationKept, ValueKept}
 use Rattle.capnp_set_writer.proofs.Widths.{by-width}
 use Rattle.capnp_set_writer.specs.Trees.{annotation_tree, annotations_tree, in_word, value_tree, zeros}

@@ -1,6 +1,5 @@
 -- What holds of each width of a number.
-use Rattle.std.specs.Prelude.{ℕ, ◌≡◌, ◌⊎◌, true}
-use Rattle.std.proofs.Common.{arith, inl, inr, subst, sym}
+use Rattle.std.proofs.Common.{ℕ, ◌≡◌, ◌⊎◌, true, arith, inl, inr, subst, sym}
 use Rattle.std.proofs.lemmas.Bool.Decides.{nat_tests}
 use Rattle.capnp_wire.specs.WellFormed.{is_width}
 

@@ -5,8 +5,7 @@ use Rattle.std.specs.Str.{is_utf8}
 use Rattle.capnp_wire.specs.WellFormed.{AreBytes, is_width}
 use Rattle.capnp_schema.specs.Builtin.{zero_word}
 use Rattle.capnp_schema.specs.Ranges.{HasWidths, IsSigned}
-use Rattle.capnp_schema.specs.Schema.{Annotation, Brand, Enum, Enumerant, Field, FieldKind, Group, Node, Slot}
-use Rattle.capnp_schema.specs.Schema.{Value, VoidValue, BoolValue, IntValue, UIntValue, EnumValue, TextValue, DataValue, StructValue, ListValue, AnyPointerValue}
+use Rattle.capnp_schema.specs.Schema.{Annotation, Brand, Enum, Enumerant, Field, FieldKind, Group, Node, Slot, Value, VoidValue, BoolValue, IntValue, UIntValue, EnumValue, TextValue, DataValue, StructValue, ListValue, AnyPointerValue}
 use Rattle.capnp_schema.specs.Types.{SchemaType}
 use Rattle.capnp_set_writer.specs.Trees.{list_count, named_number}
 

@@ -35,7 +35,10 @@ const FORMLESS: [&str; 6] = [
 fn untyped_values_but_one_zero_word_are_refused(rt: HostRuntime) -> Result<(), Fail> {
     for text in &FORMLESS {
         let schemas = read_set_text(rt.alloc(), text)?;
-        assert_eq!(rt; refusal(rt.alloc(), &schemas), ErrorKind::UnknownKind.number());
+        assert_eq!(rt;
+            refusal(rt.alloc(), &schemas),
+            ErrorKind::UnknownKind.number()
+        );
     }
     Ok(())
 }

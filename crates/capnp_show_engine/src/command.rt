@@ -64,7 +64,14 @@ fn show_built_in<R: Source, W: Sink>(
     ensures nothing { IfErr result (λ e. e.kind ≢ WriteFailed → sink.new ≡ sink.old) }
 {
     let schemas = builtin::new_set(alloc)?;
-    show(alloc, &schemas, request.brand, source, sink, request.indented)
+    show(
+        alloc,
+        &schemas,
+        request.brand,
+        source,
+        sink,
+        request.indented,
+    )
 }
 
 /// Shows what was asked for.

@@ -14,10 +14,8 @@ use Rattle.capnp_wire.specs.Reading.{as_data, as_list, as_struct, as_text, empty
 use Rattle.capnp_wire.specs.Words.{first_fault}
 use Rattle.capnp_wire.specs.declared.size.ElementSize.{ElementSize}
 use Rattle.capnp_schema.specs.Accepted.{IsDefaultOf, KindDefault, IsListOrNull, IsStructOrNull}
-use Rattle.capnp_schema.specs.Defaults.{DefaultFits, IsDefaultReadAs}
-use Rattle.capnp_schema.specs.Defaults.{value_default_tree as words_tree}
-use Rattle.capnp_schema.specs.Schema.{FieldKind, Group, Slot, default_of, kind_default, Schemas, TextValue, DataValue, StructValue, ListValue, AnyPointerValue}
-use Rattle.capnp_schema.specs.Schema.{Value as SchemaValue}
+use Rattle.capnp_schema.specs.Defaults.{DefaultFits, IsDefaultReadAs, value_default_tree as words_tree}
+use Rattle.capnp_schema.specs.Schema.{FieldKind, Group, Slot, default_of, kind_default, Schemas, TextValue, DataValue, StructValue, ListValue, AnyPointerValue, Value as SchemaValue}
 use Rattle.capnp_schema.specs.Types.{width, AnyPointerType, DataType, ListType, SchemaType, StructType, TextType, element_size, is_pointer}
 use Rattle.capnp_records.specs.Default.{default_value, read_of, unless_null}
 use Rattle.capnp_records.specs.Facts.DefaultTree.{read-there}

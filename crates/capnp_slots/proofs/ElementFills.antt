@@ -1,6 +1,5 @@
 -- What follows for a builder's get of an element from what is due alone.
-use Rattle.std.specs.Prelude.{◌≡◌, refl, false, Option, Some, None, Result, Ok, Err, IsOk, OnOk, IfErr}
-use Rattle.std.proofs.Common.{sym}
+use Rattle.std.proofs.Common.{◌≡◌, refl, false, Option, Some, None, Result, Ok, Err, IsOk, OnOk, IfErr, sym}
 use Rattle.capnp_device.specs.declared.error.Error.{Error}
 use Rattle.capnp_device.specs.declared.error.ErrorKind.{ErrorKind}
 use Rattle.capnp_wire.specs.Defaults.{takes_default}

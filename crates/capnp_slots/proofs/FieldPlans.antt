@@ -1,6 +1,5 @@
 -- What the plan of a field's handle gives.
-use Rattle.std.specs.Prelude.{ℕ, List, ◌*◌, ◌^◌, ◌<◌, ◌≡◌, refl, true, false, bit_xor}
-use Rattle.std.proofs.Common.{ap, sym, subst, ◌∙◌}
+use Rattle.std.proofs.Common.{ℕ, List, ◌*◌, ◌^◌, ◌<◌, ◌≡◌, refl, true, false, bit_xor, ap, sym, subst, ◌∙◌}
 use Rattle.std.proofs.lemmas.Bool.{true≢false}
 use Rattle.capnp_wire.specs.Tree.{StructTree}
 use Rattle.capnp_schema.specs.FieldLists.{index_of, field_schema, typed_of}
@@ -16,9 +15,8 @@ use Rattle.capnp_schema.specs.declared.schema.fields.Field.{Field}
 use Rattle.capnp_records.specs.Facts.FieldWrite.{ready-switched}
 use Rattle.capnp_records.specs.Laws.{IsFieldAt, SlotWriteStaysInside}
 use Rattle.capnp_records.specs.Step.{is_group_field}
-use Rattle.capnp_records.specs.Writes.Overlay.{cleared_content, with_slot}
+use Rattle.capnp_records.specs.Writes.Overlay.{cleared_content, with_slot, field_spots}
 use Rattle.capnp_records.specs.Writes.Slots.{Content, Bits, Fits, Suits, with_content}
-use Rattle.capnp_records.specs.Writes.Overlay.{field_spots}
 use Rattle.capnp_records.specs.Writes.TreeEnds.{offset_of}
 use Rattle.capnp_slots.specs.Fields.{IsFieldPlan, IsSlot, Keeps, field_brand, field_set, switched_to}
 use Rattle.capnp_slots.specs.Steps.Fields.{IsFormed, IsSlotPlan}

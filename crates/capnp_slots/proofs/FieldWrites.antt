@@ -1,6 +1,5 @@
 -- What is set, initialized and cleared by a field's kind.
-use Rattle.std.specs.Prelude.{ℕ, ◌≡◌, refl, Bool, true, false, not, None, Some, Result, Ok, Err, OnOk, OnErr, IfErr}
-use Rattle.std.proofs.Common.{subst, sym}
+use Rattle.std.proofs.Common.{ℕ, ◌≡◌, refl, Bool, true, false, not, None, Some, Result, Ok, Err, OnOk, OnErr, IfErr, subst, sym}
 use Rattle.std.proofs.lemmas.Bool.{true≢false}
 use Rattle.capnp_device.specs.declared.error.Error.{Error}
 use Rattle.capnp_device.specs.declared.error.ErrorKind.TheVariants.{InitnIsOnlyValidForListTextOrDataFields}

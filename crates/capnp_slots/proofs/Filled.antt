@@ -1,14 +1,12 @@
 -- What the wire fills from a field's default is what a builder's get leaves.
-use Rattle.std.specs.Prelude.{ℕ, ◌≡◌, ◌≢◌, refl, List, Bool, true, false, cond, Option, Some, None, option_map, Ok, Err, Result, IsOk}
+use Rattle.std.proofs.Common.{ℕ, ◌≡◌, ◌≢◌, refl, List, Bool, true, false, cond, Option, Some, None, option_map, Ok, Err, Result, IsOk, ap, sym, subst, ◌∙◌}
 use Rattle.std.specs.Borrow.{Bor}
-use Rattle.std.proofs.Common.{ap, sym, subst, ◌∙◌}
 use Rattle.std.proofs.lemmas.Bool.{true≢false}
 use Rattle.capnp_device.specs.declared.error.ErrorKind.{ErrorKind}
 use Rattle.capnp_wire.specs.Tree as tree
 use Rattle.capnp_wire.specs.Tree.{StructTree, Tree, Trees, nth_tree}
 use Rattle.capnp_wire.specs.declared.size.ElementSize.TheVariants.{InlineComposite}
-use Rattle.capnp_base.specs.Types.{variant_of}
-use Rattle.capnp_base.specs.Types.{variant_element_size as size_of_variant}
+use Rattle.capnp_base.specs.Types.{variant_of, variant_element_size as size_of_variant}
 use Rattle.capnp_base.specs.declared.introspect.RawBrandedStructSchema.{RawBrandedStructSchema}
 use Rattle.capnp_base.specs.declared.introspect.«Type».{«Type» as TypeHandle}
 use Rattle.capnp_base.specs.declared.introspect.TypeVariant.{TypeVariant}

@@ -9,13 +9,11 @@ use Rattle.capnp_wire.specs.Tree.{StructTree, Tree, nth_tree}
 use Rattle.capnp_schema.specs.FieldLists.{IsFound, index_of, field_schema, typed_of}
 use Rattle.capnp_schema.specs.Query.{indices_from, is_non_union, keep_index}
 use Rattle.capnp_schema.specs.Ranges.{HasRanges}
-use Rattle.capnp_schema.specs.Schema.{FieldKind, Group, Schemas, Slot, TypedField, field_at, fields_of, is_member, kind_default, node_of}
-use Rattle.capnp_schema.specs.Schema.{Value as SchemaValue}
+use Rattle.capnp_schema.specs.Schema.{FieldKind, Group, Schemas, Slot, TypedField, field_at, fields_of, is_member, kind_default, node_of, Value as SchemaValue}
 use Rattle.capnp_schema.specs.StructHandles.{IsStruct, number_of, set_of}
-use Rattle.capnp_schema.specs.Types.{AnyPointerType, SchemaType, is_pointer, struct_number}
+use Rattle.capnp_schema.specs.Types.{AnyPointerType, SchemaType, is_pointer, struct_number, seen_variant}
 use Rattle.capnp_base.specs.declared.introspect.TypeVariant.{TypeVariant}
 use Rattle.capnp_schema.specs.Plan.{plan_place}
-use Rattle.capnp_schema.specs.Types.{seen_variant}
 use Rattle.capnp_schema.specs.declared.schema.fields.Field.{Field}
 use Rattle.capnp_schema.specs.declared.schema.structs.StructSchema.{StructSchema}
 use Rattle.capnp_records.specs.Call.{StructSource}

@@ -1,7 +1,6 @@
 -- A group is cleared place by place, and the groups in it by their own fields: what is left to do of a place, and of the
 -- groups above it.
-use Rattle.std.specs.Prelude.{ℕ, zero, suc, ◌+◌, ◌-◌, ◌<◌, ◌≤◌, ◌≡◌, refl, List, [], ◌∷◌, Bool, true, false, not, nat_lt, cond, drop, length, position, slice_get, Option, Some, None}
-use Rattle.std.proofs.Common.{add-one, arith, ap, sym, subst, ◌∙◌}
+use Rattle.std.proofs.Common.{ℕ, zero, suc, ◌+◌, ◌-◌, ◌<◌, ◌≤◌, ◌≡◌, refl, List, [], ◌∷◌, Bool, true, false, not, nat_lt, cond, drop, length, position, slice_get, Option, Some, None, add-one, arith, ap, sym, subst, ◌∙◌}
 use Rattle.std.proofs.lemmas.Bool.{and_parts}
 use Rattle.std.proofs.lemmas.Bool.Decides.{nat_tests}
 use Rattle.std.proofs.lemmas.Option.{cond_some, same_Some}

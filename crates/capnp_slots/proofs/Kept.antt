@@ -1,6 +1,5 @@
 -- A set that is refused keeps everything, and one that is not keeps what it did not write.
-use Rattle.std.specs.Prelude.{Bool, Err, Ok, OnErr, OnOk, Result, ◌≡◌}
-use Rattle.std.proofs.Common.{subst, sym}
+use Rattle.std.proofs.Common.{Bool, Err, Ok, OnErr, OnOk, Result, ◌≡◌, subst, sym}
 use Rattle.capnp_device.specs.declared.error.Error.{Error}
 use Rattle.capnp_wire.specs.Tree.{StructTree}
 use Rattle.capnp_schema.specs.Footprint.{Spot}

@@ -1,6 +1,5 @@
 -- New texts, and lists of elements that are no structs.
-use Rattle.std.specs.Prelude.{ℕ, ◌+◌, ◌-◌, ◌^◌, ◌<◌, ◌≡◌, ◌≢◌, refl, nat_lt, replicate}
-use Rattle.std.proofs.Common.{ap, subst, sym, ◌∙◌}
+use Rattle.std.proofs.Common.{ℕ, ◌+◌, ◌-◌, ◌^◌, ◌<◌, ◌≡◌, ◌≢◌, refl, nat_lt, replicate, ap, subst, sym, ◌∙◌}
 use Rattle.capnp_wire.specs.Edits.{zero_list}
 use Rattle.capnp_wire.specs.Facts.Lists.{IsWellFormed-new_text, IsWellFormed-zero_list}
 use Rattle.capnp_wire.specs.WellFormed.{IsWellFormed}

@@ -1,6 +1,5 @@
 -- Structs by their places, where a call was refused.
-use Rattle.std.proofs.Common.{◌≡◌, ap}
-use Rattle.std.specs.Prelude.{Err, Ok, OnErr, Result}
+use Rattle.std.proofs.Common.{Err, Ok, OnErr, Result, ◌≡◌, ap}
 use Rattle.capnp_arena.specs.Built.{built_at}
 use Rattle.capnp_arena.specs.Forest.{struct_from}
 use Rattle.capnp_arena.specs.Segment.{segment}

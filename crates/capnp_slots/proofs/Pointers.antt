@@ -1,6 +1,5 @@
 -- What is written into a pointer's slot, and read there.
-use Rattle.std.specs.Prelude.{ℕ, ◌<◌, ◌≡◌, refl, Option, Some, None, Result, Ok, Err, OnOk}
-use Rattle.std.proofs.Common.{ap, arith, sym, subst, ◌∙◌}
+use Rattle.std.proofs.Common.{ℕ, ◌<◌, ◌≡◌, refl, Option, Some, None, Result, Ok, Err, OnOk, ap, arith, sym, subst, ◌∙◌}
 use Rattle.capnp_wire.specs.Tree.{StructTree, Tree, nth_tree, tree_count}
 use Rattle.capnp_wire.specs.Edits.{with_pointer_tree}
 use Rattle.capnp_wire.specs.WellFormed.{IsWellFormed}

@@ -1,11 +1,9 @@
 -- What is read of a field after a write of it, by its handle.
-use Rattle.std.specs.Prelude.{ℕ, suc, ◌≡◌, refl, pos, List, Bool, true, false, ◌&&◌, ◌==◌, cond, length}
+use Rattle.std.proofs.Common.{ℕ, suc, ◌≡◌, refl, pos, List, Bool, true, false, ◌&&◌, ◌==◌, cond, length, ap, subst, sym, ◌∙◌}
 use Rattle.capnp_device.specs.declared.error.ErrorKind.TheVariants.{TypeMismatch}
-use Rattle.std.proofs.Common.{ap, subst, sym, ◌∙◌}
 use Rattle.capnp_wire.specs.Tree.{Null, StructTree}
 use Rattle.capnp_schema.specs.FieldLists.{index_of, typed_of}
-use Rattle.capnp_schema.specs.Schema.{Schemas, default_of, field_at, is_member}
-use Rattle.capnp_schema.specs.Schema.{Value as SchemaValue}
+use Rattle.capnp_schema.specs.Schema.{Schemas, default_of, field_at, is_member, Value as SchemaValue}
 use Rattle.capnp_schema.specs.Types.{AnyPointerType, BoolType, DataType, EnumType, IntType, ListType, SchemaType, StructType, TextType, UIntType, VoidType}
 use Rattle.capnp_schema.specs.declared.schema.fields.Field.{Field}
 use Rattle.capnp_records.specs.Call.{BoolSource, DataSource, EnumSource, IntSource, ListSource, Source, StructSource, TextSource, UIntSource}
@@ -15,8 +13,7 @@ use Rattle.capnp_records.specs.Facts.Numbers.{stored-given, suits-number}
 use Rattle.capnp_records.specs.Given.{Copies, CopiesGroup, Fails, Given, Gives, data_past, given_slot, text_past}
 use Rattle.capnp_records.specs.Laws.{IsFieldAt}
 use Rattle.capnp_records.specs.Part.{has_of}
-use Rattle.capnp_records.specs.ReadBack.{ClearIsRead, ClearedIsActive, CopiedIsActive, CopyIsRead, DataIsRead, GroupStartsAtFirst, IsGroupIn, IsSlotIn, NumberIsRead, OthersAreRead, OthersAreThere, NonUnionKeepsActive, TextIsRead, WrittenIsActive, field_got}
-use Rattle.capnp_records.specs.ReadBack.{AreApart as ArePlaces}
+use Rattle.capnp_records.specs.ReadBack.{ClearIsRead, ClearedIsActive, CopiedIsActive, CopyIsRead, DataIsRead, GroupStartsAtFirst, IsGroupIn, IsSlotIn, NumberIsRead, OthersAreRead, OthersAreThere, NonUnionKeepsActive, TextIsRead, WrittenIsActive, field_got, AreApart as ArePlaces}
 use Rattle.capnp_records.specs.Reading.{struct_record}
 use Rattle.capnp_records.specs.Record as value
 use Rattle.capnp_records.specs.Record.{Value}

@@ -1,6 +1,5 @@
 -- What an element is given, and what stands there then.
-use Rattle.std.specs.Prelude.{ℕ, ◌^◌, ◌<◌, ◌≡◌, refl, Bool, Result, Ok, Err, IfOk, IfErr, OnOk}
-use Rattle.std.proofs.Common.{ap, sym, subst, ◌∙◌}
+use Rattle.std.proofs.Common.{ℕ, ◌^◌, ◌<◌, ◌≡◌, refl, Bool, Result, Ok, Err, IfOk, IfErr, OnOk, ap, sym, subst, ◌∙◌}
 use Rattle.capnp_device.specs.declared.error.Error.{Error}
 use Rattle.capnp_device.specs.declared.error.ErrorKind.{ErrorKind}
 use Rattle.capnp_device.specs.declared.error.ErrorKind.TheVariants.{TypeMismatch}

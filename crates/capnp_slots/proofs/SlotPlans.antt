@@ -1,6 +1,5 @@
 -- What is written by a field's plan is written into the field's slot, and keeps the rest.
-use Rattle.std.specs.Prelude.{ℕ, List, zero, suc, ◌+◌, ◌*◌, ◌^◌, ◌<◌, ◌≤◌, ◌≡◌, ◌⊎◌, refl, Bool, true, false, ◌==◌, length, bit_xor}
-use Rattle.std.proofs.Common.{arith, ⊎_elim, ap, sym, subst}
+use Rattle.std.proofs.Common.{ℕ, List, zero, suc, ◌+◌, ◌*◌, ◌^◌, ◌<◌, ◌≤◌, ◌≡◌, ◌⊎◌, refl, Bool, true, false, ◌==◌, length, bit_xor, arith, ⊎_elim, ap, sym, subst}
 use Rattle.std.proofs.lemmas.Bool.Decides.{nat_tests}
 use Rattle.std.proofs.lemmas.Bool.{true≢false}
 use Rattle.capnp_wire.specs.Tree.{StructTree, Tree, Null}

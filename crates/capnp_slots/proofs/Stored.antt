@@ -1,6 +1,5 @@
 -- What is given at once is stored as its number.
-use Rattle.std.specs.Prelude.{ℕ, ◌≡◌, refl, Bool, true, false, Option, Some, None, Result, Ok, Err, IfOk, IfErr, IfSome, bit_xor}
-use Rattle.std.proofs.Common.{ap, sym, subst, ◌∙◌}
+use Rattle.std.proofs.Common.{ℕ, ◌≡◌, refl, Bool, true, false, Option, Some, None, Result, Ok, Err, IfOk, IfErr, IfSome, bit_xor, ap, sym, subst, ◌∙◌}
 use Rattle.capnp_device.specs.declared.error.Error.{Error}
 use Rattle.capnp_wire.specs.Tree.{StructTree, Null}
 use Rattle.capnp_base.specs.declared.introspect.TypeVariant.{TypeVariant}

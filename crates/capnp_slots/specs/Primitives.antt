@@ -1,8 +1,7 @@
 -- Values that stand in a data section, and what a slot takes of them.
 use Rattle.std.specs.Prelude.{⊤}
 use Rattle.capnp_schema.specs.FieldLists.{typed_of}
-use Rattle.capnp_schema.specs.Schema.{default_of}
-use Rattle.capnp_schema.specs.Schema.{Value as SchemaValue}
+use Rattle.capnp_schema.specs.Schema.{default_of, Value as SchemaValue}
 use Rattle.capnp_schema.specs.Types.{SchemaType}
 use Rattle.capnp_schema.specs.declared.schema.fields.Field.{Field}
 use Rattle.capnp_records.specs.Call.{Source, VoidSource, BoolSource, IntSource, UIntSource, EnumSource}

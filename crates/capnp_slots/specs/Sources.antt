@@ -8,8 +8,7 @@ use Rattle.capnp_base.specs.AnyPointer.{pointer_of}
 use Rattle.capnp_schema.specs.declared.schema.fields.Field.{Field}
 use Rattle.capnp_schema.specs.StructHandles.{number_of}
 use Rattle.capnp_schema.specs.Types.{seen_type}
-use Rattle.capnp_records.specs.Call.{TextSource, DataSource, StructSource, ListSource, AnyPointerSource}
-use Rattle.capnp_records.specs.Call.{Source as GivenSource}
+use Rattle.capnp_records.specs.Call.{TextSource, DataSource, StructSource, ListSource, AnyPointerSource, Source as GivenSource}
 use Rattle.capnp_records.specs.Given.{Given, Gives, Copies, CopiesGroup, Fails, copy_refusal}
 use Rattle.capnp_records.specs.Record.{Left}
 use Rattle.capnp_slots.specs.Primitives.{given_to, primitive_source, set_content}

@@ -369,7 +369,13 @@ pub fn init(
 /// `OutOfMemory`; then nothing has changed. Where nothing has to be extended no memory is taken.
 ///
 /// The list has to be well-formed, and the element to stand behind a pointer.
-pub fn fill(arena: &mut Arena, at: usize, schemas: &SchemaSet, element: Type, index: u32) -> Result<()>
+pub fn fill(
+    arena: &mut Arena,
+    at: usize,
+    schemas: &SchemaSet,
+    element: Type,
+    index: u32,
+) -> Result<()>
     requires forest { Forest (segment arena.old) at }
     requires behind { is_behind (seen_type element) ≡ true }
     requires pointer { HasPointer (tree (segment arena.old) at) index }
@@ -422,7 +428,12 @@ fn fill_at(
 /// schema's sections, and everything else stays.
 ///
 /// Refused where it is not read as the type, and as `extend_structs`; then nothing has changed.
-fn fill_behind(arena: &mut Arena, at: usize, schemas: &SchemaSet, variant: TypeVariant) -> Result<()>
+fn fill_behind(
+    arena: &mut Arena,
+    at: usize,
+    schemas: &SchemaSet,
+    variant: TypeVariant,
+) -> Result<()>
     requires forest { Forest (segment arena.old) at }
     requires behind { is_behind (seen_variant variant) ≡ true }
     ensures frame { OnOk result (LeavesPointer at arena.old arena.new) }

@@ -8,11 +8,10 @@ ghost use Rattle.capnp_schema.specs.Plan.{IsSlotPlace, PlanFits, is_slot_width};
 ghost use Rattle.capnp_schema.specs.SlotBits.{with_bits};
 ghost use Rattle.capnp_records.specs.Writes.Slots.{Bits};
 ghost use Rattle.capnp_wire.specs.Standing.{struct_of};
-ghost use Rattle.capnp_slots.specs.Steps.Planned.{place_bits};
+ghost use Rattle.capnp_slots.specs.Steps.Planned.{place_bits, HoldsNumber, place_cleared, place_mask, place_written, plan_written};
 ghost use Rattle.capnp_slots.specs.Fields.{IsFieldPlan, IsSlot};
 ghost use Rattle.capnp_slots.specs.Steps.Fields.{IsSlotPlan};
 ghost use Rattle.capnp_slots.specs.Planned.{member_switched};
-ghost use Rattle.capnp_slots.specs.Steps.Planned.{HoldsNumber, place_cleared, place_mask, place_written, plan_written};
 
 use capnp_arena::arena::{Arena, Place as StructPlace};
 use capnp_arena::structs::{pointer_at, set_bool_field, set_data_field};

@@ -226,7 +226,12 @@ pub fn init(arena: &mut Arena, place: StructPlace, field: Field<'_>) -> Result<(
     match field.get_type().which() {
         TypeVariant::Struct(raw) => {
             let schemas = field.get_containing_struct().get_set();
-            init_struct(arena, place, field, size_of(schemas.struct_schema(raw.number)))
+            init_struct(
+                arena,
+                place,
+                field,
+                size_of(schemas.struct_schema(raw.number)),
+            )
         }
         TypeVariant::AnyPointer => {
             clear(arena, place, field);

@@ -40,7 +40,13 @@ fn put_enum(out: &mut String, schemas: &SchemaSet, number: u32) -> Result<()>
         ≡ string_bytes out.old ++ (enum_at (lists_seen schemas.now) number).display_name) }
     ensures memory { IfErr result (λ e. e.kind ≡ OutOfMemory) }
 {
-    Ok(out.push_str(schemas.enum_schema(number).get_proto().display_name.as_str())?)
+    Ok(out.push_str(
+        schemas
+            .enum_schema(number)
+            .get_proto()
+            .display_name
+            .as_str(),
+    )?)
 }
 
 /// Appends the name of a brand's struct.
@@ -49,7 +55,13 @@ fn put_struct(out: &mut String, schemas: &SchemaSet, number: u32) -> Result<()>
         ≡ string_bytes out.old ++ (node_of (lists_seen schemas.now) number).display_name) }
     ensures memory { IfErr result (λ e. e.kind ≡ OutOfMemory) }
 {
-    Ok(out.push_str(schemas.struct_schema(number).get_proto().display_name.as_str())?)
+    Ok(out.push_str(
+        schemas
+            .struct_schema(number)
+            .get_proto()
+            .display_name
+            .as_str(),
+    )?)
 }
 
 /// Appends a piece for each list around a type.

@@ -26,7 +26,11 @@ fn put_struct(lines: &mut String, schemas: &SchemaSet, brand: u32) -> Result<()>
         ≡ string_bytes lines.old ++ number_line (lists_seen schemas.now) (Some brand)) }
     ensures memory { IfErr result (λ e. e.kind ≡ OutOfMemory) }
 {
-    let name = schemas.struct_schema(brand).get_proto().display_name.as_str();
+    let name = schemas
+        .struct_schema(brand)
+        .get_proto()
+        .display_name
+        .as_str();
     if is_found(schemas, name, brand) {
         lines.push_str(name)?;
         lines.push_str("\n")?;

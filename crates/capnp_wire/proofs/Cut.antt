@@ -4,8 +4,7 @@ use Rattle.std.proofs.lemmas.List.{drop-drop}
 use Rattle.std.proofs.Math.ListN.{drop_of_length-le}
 use Rattle.std.proofs.Math.Seq.{take-nil}
 use Rattle.capnp_wire.specs.Slot.{little_endian}
-use Rattle.capnp_wire.specs.Stream.{cut_segments}
-use Rattle.capnp_wire.specs.Stream.{total_words}
+use Rattle.capnp_wire.specs.Stream.{cut_segments, total_words}
 
 pub cut_past : (k : ℕ) (t b : List ℕ) (i : ℕ) → k ≤ i → None ≡ slice_get (cut_segments k t b) i
 cut_past zero t b i h = refl

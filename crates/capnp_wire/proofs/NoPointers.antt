@@ -1,6 +1,5 @@
 -- Structs without pointers lead to nothing.
-use Rattle.std.proofs.Common.{◌≡◌, ℕ, zero, suc, refl, sym, ap, ◌∙◌, subst, arith}
-use Rattle.std.specs.Prelude.{None}
+use Rattle.std.proofs.Common.{None, ◌≡◌, ℕ, zero, suc, refl, sym, ap, ◌∙◌, subst, arith}
 use Rattle.capnp_wire.specs.Found.{element_structs, struct_of_elements}
 use Rattle.capnp_wire.specs.Tree.{NoTrees, StructTree, structs_from}
 use Rattle.capnp_wire.specs.Words.{first_fault_of_all, first_fault_of_elements, first_of, words_below_all, words_of_all}

@@ -1,6 +1,5 @@
 -- Worked rows: composite lists and their tags.
-use Rattle.std.specs.Prelude.{◌≡◌, refl, ℕ, zero, suc, List, [], ◌∷◌, ◌++◌}
-use Rattle.std.proofs.Common.{ap, ◌∙◌}
+use Rattle.std.proofs.Common.{◌≡◌, refl, ℕ, zero, suc, List, [], ◌∷◌, ◌++◌, ap, ◌∙◌}
 use Rattle.capnp_wire.specs.Tree.{Tree, Null, Struct, Numbers, Composite, StructTree, NoStructs, MoreStructs, structs_from, struct_count}
 use Rattle.capnp_wire.specs.Locate.{Segments, CompositeAt, target_at}
 use Rattle.capnp_wire.specs.Place.{tree_at, tree_below, tree_with_level}

@@ -1,6 +1,5 @@
 -- Worked rows: the levels that it takes to read a tree in full, and one fewer, which don't do.
-use Rattle.std.specs.Prelude.{[], ◌∷◌, true}
-use Rattle.std.proofs.Common.{arith}
+use Rattle.std.proofs.Common.{[], ◌∷◌, true, arith}
 use Rattle.capnp_wire.specs.Tree.{Null, Struct, Voids, Bits, Numbers, Pointers, Composite, NoTrees, MoreTrees, NoStructs, MoreStructs}
 use Rattle.capnp_wire.specs.Depth.{IsBelow, IsWithin}
 

@@ -1,6 +1,5 @@
 -- Rows of elements that are written, and of lists that become lists of structs.
-use Rattle.std.proofs.Common.{◌≡◌, ◌≤◌, [], ◌∷◌, refl, true, false, arith}
-use Rattle.std.specs.Prelude.{Some, None}
+use Rattle.std.proofs.Common.{Some, None, ◌≡◌, ◌≤◌, [], ◌∷◌, refl, true, false, arith}
 use Rattle.capnp_wire.specs.Tree.{Null, Struct, Voids, Bits, Numbers, Pointers, Composite, Trees, NoTrees, MoreTrees, NoStructs, MoreStructs}
 use Rattle.capnp_wire.specs.Edits.{HoldsStruct, extended_struct}
 use Rattle.capnp_wire.specs.Elements.{with_bit_element, with_number_element, with_pointer_element, with_struct_element}

@@ -1,6 +1,5 @@
 -- Worked rows: what the format lets a tree be, at its limits.
-use Rattle.std.proofs.Common.{arith}
-use Rattle.std.specs.Prelude.{◌≡◌, ◌<◌, refl, ℕ, [], ◌∷◌, true, false, map}
+use Rattle.std.proofs.Common.{◌≡◌, ◌<◌, refl, ℕ, [], ◌∷◌, true, false, map, arith}
 use Rattle.capnp_wire.specs.Tree.{Null, Struct, Voids, Numbers, Pointers, Composite, NoTrees, NoStructs}
 use Rattle.capnp_wire.specs.WellFormed.{IsWellFormed, is_width}
 use Rattle.capnp_wire.proofs.Rows.{trees, flat_structs, bad}

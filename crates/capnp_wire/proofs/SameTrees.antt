@@ -1,8 +1,7 @@
 -- Trees that are the same, by their parts and by index; and heights, by which a walk down two trees ends.
-use Rattle.std.proofs.Common.{ℕ, zero, suc, ◌+◌, ◌<◌, ◌≤◌, ◌≡◌, ◌↔◌, refl, List, ◌∷◌, Bool, true, false, not, get_or, length, arith, ap, ap₂, sym, ◌∙◌}
+use Rattle.std.proofs.Common.{IsTrue, ◌==◌, ℕ, zero, suc, ◌+◌, ◌<◌, ◌≤◌, ◌≡◌, ◌↔◌, refl, List, ◌∷◌, Bool, true, false, not, get_or, length, arith, ap, ap₂, sym, ◌∙◌}
 use Rattle.capnp_wire.specs.Tree.{Tree, Null, Struct, Voids, Bits, Numbers, Pointers, Composite, FaultLeaf, Trees, NoTrees, MoreTrees, Structs, NoStructs, MoreStructs, StructTree, empty_structs, nth_tree, nth_struct, tree_count, struct_count}
 use mathlib.Core.Bool.{beq}
-use Rattle.std.specs.Prelude.{IsTrue, ◌==◌}
 use Rattle.std.proofs.lemmas.Bool.Decides.{nat_tests}
 use Rattle.capnp_wire.specs.Facts.EmptyStructs.{struct_count-empty_structs}
 use Rattle.capnp_wire.specs.Slot.{bit_at}

@@ -1,6 +1,5 @@
 -- In a list that is read as numbers or pointers, an element stands first in that element read as a struct.
-use Rattle.std.specs.Prelude.{ℕ, zero, suc, ◌*◌, ◌<◌, ◌≡◌, refl, List, [], Bool, true, false, cond, ◌==◌, drop, take}
-use Rattle.std.proofs.Common.{arith, ap, sym, subst, ◌∙◌}
+use Rattle.std.proofs.Common.{ℕ, zero, suc, ◌*◌, ◌<◌, ◌≡◌, refl, List, [], Bool, true, false, cond, ◌==◌, drop, take, arith, ap, sym, subst, ◌∙◌}
 use Rattle.std.proofs.lemmas.Bool.{eqb-true}
 use Rattle.std.proofs.lemmas.List.{take-take}
 use Rattle.capnp_wire.specs.StandFirst.{NumbersStandFirst, PointersStandFirst, number_width}

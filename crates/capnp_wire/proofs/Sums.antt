@@ -1,6 +1,5 @@
 -- Pointers and elements in a row, as a loop sums their words: what it has left of them.
-use Rattle.std.proofs.Common.{◌≡◌, ℕ, zero, suc, ◌+◌, ◌<◌, ◌≤◌, refl, sym, ap, ◌∙◌, subst, arith}
-use Rattle.std.specs.Prelude.{Option, None, Err}
+use Rattle.std.proofs.Common.{Option, None, Err, ◌≡◌, ℕ, zero, suc, ◌+◌, ◌<◌, ◌≤◌, refl, sym, ap, ◌∙◌, subst, arith}
 use Rattle.capnp_wire.specs.declared.fault.Fault.{Fault}
 use Rattle.capnp_wire.specs.declared.total.Stop.{Stop}
 use Rattle.capnp_wire.specs.declared.total.Stop.TheVariants as stop

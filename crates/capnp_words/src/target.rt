@@ -39,7 +39,10 @@ fn find_type_behind(schemas: &SchemaSet, kind: TypeVariant, step: &PathStep) -> 
 {
     match kind {
         TypeVariant::Struct(raw) => match step {
-            PathStep::Named(name) => find_named_type(schemas.struct_schema(raw.number), name.as_str()),
+            PathStep::Named(name) => find_named_type(
+                schemas.struct_schema(raw.number),
+                name.as_str(),
+            ),
             PathStep::Field(index) => find_field_type(schemas.struct_schema(raw.number), *index),
             PathStep::Element(_) => None,
         },

@@ -19,7 +19,12 @@ fn printed(alloc: Global, value: &PlainValue<'_>) -> Result<String, Fail> {
 }
 
 /// What a word is read as.
-fn tell_value(alloc: Global, schemas: &SchemaSet, kind: TypeVariant, word: &str) -> Result<String, Fail> {
+fn tell_value(
+    alloc: Global,
+    schemas: &SchemaSet,
+    kind: TypeVariant,
+    word: &str,
+) -> Result<String, Fail> {
     match parse_value(alloc, schemas, Type::from(kind), word.as_bytes())? {
         Ok(value) => printed(alloc, &value),
         Err(place) => Ok(format!(in alloc; "at {place}")?),

@@ -442,7 +442,10 @@ fn answer_call(
         }
         _ => {
             let (answer, next) = after(alloc, start, &bytes, call)?;
-            Ok((tell_answer(answer, bytes.as_slice() == next.as_slice()), next))
+            Ok((
+                tell_answer(answer, bytes.as_slice() == next.as_slice()),
+                next,
+            ))
         }
     }
 }

@@ -181,7 +181,10 @@ fn element_type_read(alloc: Global, text: &str) -> Result<Type> {
 fn element_type_built(alloc: Global, name: &str, field: &str) -> Result<Type> {
     let schemas = set_of(alloc, name)?;
     let mut message = Builder::new(alloc)?;
-    let root = dynamic_struct::Builder::open(message.root(), schemas.struct_schema(brand_of(name)))?;
+    let root = dynamic_struct::Builder::open(
+        message.root(),
+        schemas.struct_schema(brand_of(name)),
+    )?;
     Ok(list_in(root, field)?.element_type())
 }
 

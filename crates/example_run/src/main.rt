@@ -94,7 +94,12 @@ fn patch(
 }
 
 /// What a program that knows the older schema reads of a message of the newer one.
-fn read_as_older(alloc: Global, schemas: &SchemaSet, message: &[u8], out: &mut String) -> Result<()> {
+fn read_as_older(
+    alloc: Global,
+    schemas: &SchemaSet,
+    message: &[u8],
+    out: &mut String,
+) -> Result<()> {
     let older = struct_named(schemas, "OldAccount")?;
     let newer = struct_named(schemas, "Account")?;
     let Some(pair) = Compatible::check(alloc, older, newer)? else {

@@ -42,7 +42,11 @@ fn read_file<O: Opener>(alloc: Global, opener: &mut O, path: &str) -> Result<Sch
 /// Refused with `ReadFailed` where the file can't be opened or a read of it failed, with `OutOfMemory`, and as
 /// `capnp_sets::message::read_message` refuses the set. No other file is opened.
 #[tactic(auto, using(capnp_show_engine::specs::Facts::Opening::none_asked))]
-pub fn read_schemas<O: Opener>(alloc: Global, opener: &mut O, file: Option<&str>) -> Result<SchemaSet>
+pub fn read_schemas<O: Opener>(
+    alloc: Global,
+    opener: &mut O,
+    file: Option<&str>,
+) -> Result<SchemaSet>
     ensures set { IfOk result (λ schemas. IsOpenedSet O.opens O.File.left opener.old opener.new
         (option_map (λ f. f.now) file.entry) (lists_seen schemas)) }
     ensures refused { IfErr result (λ e. IsOfMessage e.kind

@@ -88,7 +88,11 @@ impl<'s> AnnotationList<'s> {
         ensures entries { annotations_in result ≡ with_types (seen_annotations stored.now) (map seen_type types.now) }
         ensures set { annotations_set result ≡ lists_seen schemas.now }
     {
-        AnnotationList { schemas, stored, types }
+        AnnotationList {
+            schemas,
+            stored,
+            types,
+        }
     }
 
     fn empty(schemas: &'s SchemaSet) -> AnnotationList<'s>

@@ -20,7 +20,10 @@ impl SchemaSet {
     {
         // The prover learns the set's invariant from this call.
         let _lists = self.accepted_lists();
-        StructSchema { schemas: self, number }
+        StructSchema {
+            schemas: self,
+            number,
+        }
     }
 
     /// The schema of the struct or group of a brand number, as a struct type and the place of a group have it. None
@@ -45,7 +48,10 @@ impl SchemaSet {
     {
         // The prover learns the set's invariant from this call.
         let _lists = self.accepted_lists();
-        EnumSchema { schemas: self, number }
+        EnumSchema {
+            schemas: self,
+            number,
+        }
     }
 
     /// The schema of the enum of a number, as an enum type has it. None past the last enum.

@@ -1,6 +1,5 @@
 -- Where a struct stands after a write that may have been refused and then has changed nothing.
-use Rattle.std.specs.Prelude.{ℕ, ◌≡◌, List, Result, Ok, Err, OnOk, OnErr}
-use Rattle.std.proofs.Common.{subst, sym}
+use Rattle.std.proofs.Common.{ℕ, ◌≡◌, List, Result, Ok, Err, OnOk, OnErr, subst, sym}
 use Rattle.capnp_device.specs.declared.error.Error.{Error}
 use Rattle.capnp_arena.specs.Built.{IsBuilt, place_words}
 use Rattle.capnp_arena.specs.Facts.Places.{unchanged}

@@ -4,8 +4,7 @@ use Rattle.capnp_device.specs.declared.error.Error.{Error}
 use Rattle.capnp_device.specs.declared.error.ErrorKind.{ErrorKind}
 use Rattle.capnp_wire.specs.Tree.{StructTree, Tree, nth_tree, tree_count}
 use Rattle.capnp_wire.specs.Reading.{as_data, as_text}
-use Rattle.capnp_wire.specs.Defaults.{filled_list_refusal, filled_structs_refusal, takes_default}
-use Rattle.capnp_wire.specs.Defaults.{default_tree as reader_tree, or_default as tree_or_default}
+use Rattle.capnp_wire.specs.Defaults.{filled_list_refusal, filled_structs_refusal, takes_default, default_tree as reader_tree, or_default as tree_or_default}
 use Rattle.capnp_wire.specs.declared.pointer_reader.PointerReader.{PointerReader}
 use Rattle.capnp_wire.specs.Edits.{IsDueRefusal, with_pointer_tree}
 use Rattle.capnp_wire.specs.StructLists.{HoldsStructs}

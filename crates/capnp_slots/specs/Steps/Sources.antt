@@ -8,8 +8,7 @@ use Rattle.capnp_schema.specs.FieldLists.{typed_of}
 use Rattle.capnp_schema.specs.declared.schema.fields.Field.{Field}
 use Rattle.capnp_schema.specs.Schema.{Schemas}
 use Rattle.capnp_schema.specs.Types.{SchemaType, VoidType}
-use Rattle.capnp_records.specs.Call.{TextSource, DataSource, StructSource, ListSource, AnyPointerSource}
-use Rattle.capnp_records.specs.Call.{Source as GivenSource}
+use Rattle.capnp_records.specs.Call.{TextSource, DataSource, StructSource, ListSource, AnyPointerSource, Source as GivenSource}
 use Rattle.capnp_records.specs.Given.{Given, Gives, Copies, CopiesGroup, Fails, copied_struct, copy_refusal, data_past, given_slot, text_past}
 use Rattle.capnp_records.specs.Record.{Levels, Value}
 use Rattle.capnp_slots.specs.Primitives.{given_to}

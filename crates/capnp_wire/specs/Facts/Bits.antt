@@ -1,7 +1,6 @@
 -- Bits and numbers written into bytes: what is read then at their place, and that every other one is as it was.
-use Rattle.std.specs.Prelude.{ℕ, zero, suc, ◌+◌, ◌-◌, ◌*◌, ◌/◌, ◌%◌, ◌^◌, ◌<◌, ◌≤◌, ◌≡◌, ◌≢◌, ◌⊎◌, refl, List, ◌∷◌, ◌++◌, Bool, true, false, ◌==◌, length, get_or, take, drop}
+use Rattle.std.proofs.Common.{ℕ, zero, suc, ◌+◌, ◌-◌, ◌*◌, ◌/◌, ◌%◌, ◌^◌, ◌<◌, ◌≤◌, ◌≡◌, ◌≢◌, ◌⊎◌, refl, List, ◌∷◌, ◌++◌, Bool, true, false, ◌==◌, length, get_or, take, drop, arith, inl, inr, ap, sym, ◌∙◌, get_or-set_other, get_or-set_same}
 use Rattle.std.specs.Int.{w8}
-use Rattle.std.proofs.Common.{arith, inl, inr, ap, sym, ◌∙◌, get_or-set_other, get_or-set_same}
 use Rattle.std.proofs.lemmas.Bool.{cases_eq, cases_order}
 use Rattle.std.proofs.lemmas.List.{get_or_append_left, get_or-append_right, get_or-take, get_or-drop, length-take-le}
 use Rattle.std.proofs.lemmas.Nat.Bits as number

@@ -1,6 +1,5 @@
 -- Bytes: runs of them, the numbers that they spell, and what is written into them.
-use Rattle.std.proofs.Common.{◌≡◌, ℕ, zero, suc, ◌+◌, ◌-◌, ◌*◌, ◌/◌, ◌%◌, ◌^◌, ◌<◌, ◌≤◌, refl, ap, ◌∙◌, arith, Bool, true, false, Fits, w8, List, [], ◌∷◌, ◌++◌, length, get_or, take, drop, replicate, length-set}
-use Rattle.std.specs.Prelude.{slice_set}
+use Rattle.std.proofs.Common.{slice_set, ◌≡◌, ℕ, zero, suc, ◌+◌, ◌-◌, ◌*◌, ◌/◌, ◌%◌, ◌^◌, ◌<◌, ◌≤◌, refl, ap, ◌∙◌, arith, Bool, true, false, Fits, w8, List, [], ◌∷◌, ◌++◌, length, get_or, take, drop, replicate, length-set}
 use Rattle.std.proofs.Math.Nat.{mod-lt, pow-suc}
 use Rattle.std.proofs.lemmas.List.{get_or-drop, length-append, length-drop, length-take, length-take-le}
 use Rattle.std.proofs.lemmas.Nat.{and_le_l, or_lt, pow_below}

@@ -1,6 +1,5 @@
 -- Objects that stand in a segment as the encoding has them, read with their levels.
-use Rattle.std.proofs.Common.{◌≡◌, ℕ, zero, suc, ◌+◌, ◌-◌, ◌*◌, ◌/◌, ◌<◌, ◌≤◌, ◌^◌, List, [], length, refl, sym, ap, ◌∙◌, arith, true, Bool, cond, ◌==◌, replicate}
-use Rattle.std.specs.Prelude.{IsTrue}
+use Rattle.std.proofs.Common.{IsTrue, ◌≡◌, ℕ, zero, suc, ◌+◌, ◌-◌, ◌*◌, ◌/◌, ◌<◌, ◌≤◌, ◌^◌, List, [], length, refl, sym, ap, ◌∙◌, arith, true, Bool, cond, ◌==◌, replicate}
 use Rattle.std.proofs.lemmas.List.{nil_from_length}
 use Rattle.std.proofs.lemmas.Bool.Decides.{nat_tests}
 use Rattle.capnp_wire.specs.Tree.{Null, Struct, Voids, Bits, Numbers, Trees, NoTrees, MoreTrees, tree_count}

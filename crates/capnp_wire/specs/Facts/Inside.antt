@@ -1,6 +1,5 @@
 -- The target of a place lies in its segment.
-use Rattle.std.proofs.Common.{◌≡◌, ℕ, zero, suc, ◌+◌, ◌*◌, ◌/◌, ◌<◌, ◌≤◌, ◌^◌, List, [], ◌∷◌, length, refl, arith, Bool, true, false, cond, Option, Some, None, slice_get}
-use Rattle.std.specs.Prelude.{◌==◌, nat_lt, nat_le, IfSome}
+use Rattle.std.proofs.Common.{◌==◌, nat_lt, nat_le, IfSome, ◌≡◌, ℕ, zero, suc, ◌+◌, ◌*◌, ◌/◌, ◌<◌, ◌≤◌, ◌^◌, List, [], ◌∷◌, length, refl, arith, Bool, true, false, cond, Option, Some, None, slice_get}
 use Rattle.std.proofs.lemmas.Bool.Decides.{nat_tests}
 use Rattle.capnp_wire.specs.Slot.{word_at}
 use Rattle.capnp_wire.specs.Locate.{Segments, Target, NoTarget, BadTarget, StructAt, ListAt, CompositeAt, pointer_kind, offset, data_words, pointer_count, element_size_number, count, is_double, pad_word, pad_segment, lies, start_of, list_words, struct_target, tagged_target, list_target, near_target, near_target_from, tag_target, double_target, pad_target, word_target, target_at}

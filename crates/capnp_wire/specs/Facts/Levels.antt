@@ -1,6 +1,5 @@
 -- One level of the tree at a place, with its number of levels tested as code does.
-use Rattle.std.proofs.Common.{◌≡◌, ℕ, zero, suc, ◌+◌, ◌-◌, ◌/◌, ◌<◌, ◌≤◌, List, length, refl, sym, ap, ◌∙◌, arith, cond, ◌==◌, nat_lt, Bool, true, false, rules}
-use Rattle.std.specs.Prelude.{min}
+use Rattle.std.proofs.Common.{min, ◌≡◌, ℕ, zero, suc, ◌+◌, ◌-◌, ◌/◌, ◌<◌, ◌≤◌, List, length, refl, sym, ap, ◌∙◌, arith, cond, ◌==◌, nat_lt, Bool, true, false, rules}
 use Rattle.std.proofs.Math.Nat.{min-eq_left, min-eq_right}
 use Rattle.std.proofs.lemmas.Bool.Decides.{nat_tests}
 use Rattle.capnp_wire.specs.Tree.{Tree, Numbers, Pointers, MoreTrees, NoTrees, trees_from}

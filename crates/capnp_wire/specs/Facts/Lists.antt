@@ -1,6 +1,5 @@
 -- Lists that are new, become lists of structs or are written into are well-formed.
-use Rattle.std.proofs.Common.{◌≡◌, ℕ, ◌+◌, ◌*◌, ◌/◌, ◌^◌, ◌<◌, ◌≤◌, refl, sym, ap, subst, arith, Bool, true, false, nat_lt, List, [], ◌∷◌, ◌++◌, length, replicate, length-set}
-use Rattle.std.specs.Prelude.{Some, None, cond}
+use Rattle.std.proofs.Common.{Some, None, cond, ◌≡◌, ℕ, ◌+◌, ◌*◌, ◌/◌, ◌^◌, ◌<◌, ◌≤◌, refl, sym, ap, subst, arith, Bool, true, false, nat_lt, List, [], ◌∷◌, ◌++◌, length, replicate, length-set}
 use Rattle.std.proofs.lemmas.Bool.Decides.{nat_tests}
 use Rattle.std.proofs.lemmas.List.{length-append, length-replicate}
 use Rattle.capnp_wire.specs.Tree.{Tree, Null, Struct, Voids, Bits, Numbers, Pointers, Composite, FaultLeaf, Structs, StructTree, empty_struct, nth_struct, struct_count, structs_from, tree_count}

@@ -1,6 +1,5 @@
 -- Parts of well-formed trees are well-formed.
-use Rattle.std.proofs.Common.{ℕ, zero, suc, ◌*◌, ◌<◌, ◌≤◌, ◌^◌, refl, arith, Bool, true, false, cond}
-use Rattle.std.specs.Prelude.{◌==◌, IsTrue}
+use Rattle.std.proofs.Common.{◌==◌, IsTrue, ℕ, zero, suc, ◌*◌, ◌<◌, ◌≤◌, ◌^◌, refl, arith, Bool, true, false, cond}
 use Rattle.std.proofs.lemmas.Bool.Decides.{nat_tests}
 use Rattle.capnp_wire.specs.Tree.{Tree, Null, Struct, Voids, Bits, Numbers, Pointers, Composite, FaultLeaf, Trees, NoTrees, MoreTrees, Structs, NoStructs, MoreStructs, empty_struct, nth_tree, only_tree, nth_struct, tree_count}
 use Rattle.capnp_wire.specs.Reading.{is_null_tree, empty_list, list_length, cut_pointer, element_pointer, element_struct}

@@ -1,6 +1,5 @@
 -- The tree at a place is well-formed, with any number of levels.
-use Rattle.std.proofs.Common.{◌≡◌, ℕ, zero, suc, ◌+◌, ◌/◌, ◌<◌, ◌≤◌, ◌^◌, List, [], length, get_or, refl, arith, Bool, true, false, cond}
-use Rattle.std.specs.Prelude.{◌==◌}
+use Rattle.std.proofs.Common.{◌==◌, ◌≡◌, ℕ, zero, suc, ◌+◌, ◌/◌, ◌<◌, ◌≤◌, ◌^◌, List, [], length, get_or, refl, arith, Bool, true, false, cond}
 use Rattle.capnp_wire.specs.Tree.{Tree, Numbers, FaultLeaf}
 use Rattle.capnp_wire.specs.Locate.{Segments, Target, NoTarget, BadTarget, StructAt, ListAt, CompositeAt, target_at, list_words}
 use Rattle.capnp_wire.specs.Place.{bytes_at, tree_at, tree_below, tree_below_levels, tree_without_level, tree_with_level, root_tree}

@@ -1,7 +1,6 @@
 -- In a well-formed list that is read as elements of a size, each of them is there to be written.
 use mathlib.Core.Bool.{true≢false}
-use Rattle.std.proofs.Common.{◌≡◌, ℕ, ◌+◌, ◌*◌, ◌/◌, ◌<◌, ◌≤◌, refl, sym, ◌∙◌, arith, Bool, true, false, length}
-use Rattle.std.specs.Prelude.{Result, Ok, Err, cond, ◌==◌}
+use Rattle.std.proofs.Common.{Result, Ok, Err, cond, ◌==◌, ◌≡◌, ℕ, ◌+◌, ◌*◌, ◌/◌, ◌<◌, ◌≤◌, refl, sym, ◌∙◌, arith, Bool, true, false, length}
 use Rattle.std.proofs.lemmas.Bool.Decides.{nat_tests}
 use Rattle.capnp_wire.specs.Tree.{Tree, Null, Struct, Voids, Bits, Numbers, Pointers, Composite, FaultLeaf, nth_struct}
 use Rattle.capnp_wire.specs.Reading.{as_list, is_null_tree, list_length, reads_bits, reads_numbers, reads_pointers, reads_structs, reads_voids}

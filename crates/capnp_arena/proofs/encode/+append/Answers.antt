@@ -1,5 +1,4 @@
-use Rattle.std.proofs.Common.{rules, arith, ◌≡◌, ◌++◌, ◌+◌, ◌-◌, ◌*◌, ◌/◌, ◌<◌, ◌≤◌, inl, inr, ◌∙◌, sym, ap, subst, length, List, ℕ}
-use Rattle.std.specs.Prelude.{IfOk}
+use Rattle.std.proofs.Common.{IfOk, rules, arith, ◌≡◌, ◌++◌, ◌+◌, ◌-◌, ◌*◌, ◌/◌, ◌<◌, ◌≤◌, inl, inr, ◌∙◌, sym, ap, subst, length, List, ℕ}
 use Rattle.std.proofs.lemmas.List.{append-nil}
 use Rattle.capnp_wire.specs.Encoding.{pointer_word, spelled_number}
 use Rattle.capnp_wire.specs.Facts.Bytes.{AreBytes-fits}

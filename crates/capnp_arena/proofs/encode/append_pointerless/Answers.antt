@@ -1,5 +1,4 @@
-use Rattle.std.proofs.Common.{◌≡◌, ◌++◌, ◌∙◌, ap, subst, sym}
-use Rattle.std.specs.Prelude.{IfOk}
+use Rattle.std.proofs.Common.{IfOk, ◌≡◌, ◌++◌, ◌∙◌, ap, subst, sym}
 use Rattle.capnp_wire.specs.Encoding.{own_bytes}
 use Rattle.capnp_wire.specs.Place.{list_tree}
 use Rattle.capnp_arena.specs.Forest.{tree}

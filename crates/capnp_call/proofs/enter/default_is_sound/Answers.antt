@@ -4,8 +4,7 @@ use Rattle.capnp_wire.specs.WellFormed.{IsWellFormed}
 use Rattle.capnp_schema.specs.Defaults.{value_default_tree}
 use Rattle.capnp_schema.specs.FieldLists.{index_of, field_schema, typed_of}
 use Rattle.capnp_schema.specs.Ranges.{HasRanges, ValueFits}
-use Rattle.capnp_schema.specs.Schema.{AnyPointerValue, ListValue, StructValue, default_of}
-use Rattle.capnp_schema.specs.Schema.{Value as SchemaValue}
+use Rattle.capnp_schema.specs.Schema.{AnyPointerValue, ListValue, StructValue, default_of, Value as SchemaValue}
 use Rattle.capnp_schema.specs.StructHandles.{IsStruct, set_of}
 use Rattle.capnp_records.specs.Facts.FormedSets.{formed-words}
 use Rattle.capnp_slots.specs.Fields.{field_brand, field_set}

@@ -1,6 +1,5 @@
 -- A step that names a field is refused.
-use Rattle.std.specs.Prelude.{ℕ, List, ◌∷◌, ◌≡◌}
-use Rattle.std.proofs.Common.{refl, subst, sym, ◌∙◌}
+use Rattle.std.proofs.Common.{ℕ, List, ◌∷◌, ◌≡◌, refl, subst, sym, ◌∙◌}
 use Rattle.std.specs.Borrow.{Bor}
 use Rattle.capnp_device.specs.declared.error.ErrorKind.TheVariants.{NotAContainer}
 use Rattle.capnp_arena.specs.Forest.{tree}

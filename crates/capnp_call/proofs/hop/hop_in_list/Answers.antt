@@ -1,6 +1,5 @@
 -- An element past the end, or one that is there.
-use Rattle.std.specs.Prelude.{◌∷◌}
-use Rattle.std.proofs.Common.{arith}
+use Rattle.std.proofs.Common.{◌∷◌, arith}
 use Rattle.capnp_device.specs.declared.error.ErrorKind.TheVariants.{NoSuchElement}
 use Rattle.capnp_arena.specs.Forest.{tree}
 use Rattle.capnp_arena.specs.Segment.{segment}

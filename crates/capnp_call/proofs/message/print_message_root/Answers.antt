@@ -1,6 +1,5 @@
 -- What is printed is the text of the whole record; the reader sees the first levels of it.
-use Rattle.std.proofs.Common.{ap, arith, ◌∙◌, ◌≡◌}
-use Rattle.std.specs.Prelude.{string_bytes}
+use Rattle.std.proofs.Common.{string_bytes, ap, arith, ◌∙◌, ◌≡◌}
 use Rattle.capnp_wire.specs.Standing.{levels_of, struct_levels, struct_of, tree_of}
 use Rattle.capnp_arena.specs.Message.{message_tree}
 use Rattle.capnp_call.proofs.Starts.{struct_reads}

@@ -1,7 +1,6 @@
 -- The run, the bytes and the print are of one root.
-use Rattle.std.proofs.Common.{inl, inr}
+use Rattle.std.proofs.Common.{string_bytes, inl, inr}
 use Rattle.std.proofs.lemmas.Result.{err_from_is_err_and}
-use Rattle.std.specs.Prelude.{string_bytes}
 use Rattle.capnp_arena.specs.Message.{message_tree}
 use Rattle.capnp_call.proofs.Starts.{is_root, not_printed, whole}
 use Rattle.capnp_call.specs.Messages.{copied_root}

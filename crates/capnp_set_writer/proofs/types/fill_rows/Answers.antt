@@ -1,5 +1,5 @@
 -- The first so many pointers lead to their lists.
-use Rattle.std.proofs.Common.{arith, map, Vec, Global, List}
+use Rattle.std.proofs.Common.{All, arith, map, Vec, Global, List}
 use Rattle.std.proofs.lemmas.Result.{err_from_is_err_and}
 use Rattle.capnp_arena.specs.Facts.Frames.{pointer_after}
 use Rattle.capnp_base.specs.declared.introspect.«Type».{«Type» as TypeHandle}
@@ -9,7 +9,6 @@ use Rattle.capnp_set_writer.specs.Limits.{TypesFit}
 use Rattle.capnp_set_writer.specs.Trees.{types_tree}
 use Rattle.capnp_set_writer.proofs.Places.{changes_none}
 use Rattle.capnp_set_writer.proofs.Trees.{kept-more, one-of-all, refused-up, row-filled, row-there, whole-rows}
-use Rattle.std.specs.Prelude.{All}
 use Rattle.capnp_set_writer.proofs.types.fill_rows.Goals as goal
 
 abbrev seen_row : Vec TypeHandle Global → List SchemaType

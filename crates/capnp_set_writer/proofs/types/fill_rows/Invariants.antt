@@ -1,5 +1,4 @@
-use Rattle.std.proofs.Common.{◌≡◌, ℕ, ◌<◌, get_or, map, List, Vec, Global}
-use Rattle.std.specs.Prelude.{All}
+use Rattle.std.proofs.Common.{All, ◌≡◌, ℕ, ◌<◌, get_or, map, List, Vec, Global}
 use Rattle.capnp_base.specs.declared.introspect.«Type».{«Type» as TypeHandle}
 use Rattle.capnp_wire.specs.Tree.{Pointers}
 use Rattle.capnp_arena.specs.Forest.{tree}

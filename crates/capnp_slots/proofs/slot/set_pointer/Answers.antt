@@ -1,6 +1,5 @@
 -- What stands at the pointer is put, and then the union is switched.
-use Rattle.std.proofs.Common.{◌*◌, ◌+◌, ◌≤◌, length, subst, sym}
-use Rattle.std.specs.Prelude.{IfSome}
+use Rattle.std.proofs.Common.{IfSome, ◌*◌, ◌+◌, ◌≤◌, length, subst, sym}
 use Rattle.capnp_wire.specs.Tree.{StructTree}
 use Rattle.capnp_arena.specs.Facts.Frames.{struct_after}
 use Rattle.capnp_slots.proofs.Pointers.{slot_kept}

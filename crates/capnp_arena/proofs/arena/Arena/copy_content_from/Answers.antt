@@ -1,5 +1,4 @@
-use Rattle.std.proofs.Common.{arith, ◌≡◌, ◌*◌, ◌<◌, ◌≤◌, ◌^◌, List, ℕ, length, sym, ap, subst, ◌∙◌}
-use Rattle.std.specs.Prelude.{None}
+use Rattle.std.proofs.Common.{None, arith, ◌≡◌, ◌*◌, ◌<◌, ◌≤◌, ◌^◌, List, ℕ, length, sym, ap, subst, ◌∙◌}
 use Rattle.std.proofs.lemmas.Result.{err_from_is_err_and}
 use Rattle.capnp_wire.specs.Edits.{IsCopyRefusal, fitted_struct}
 use Rattle.capnp_wire.specs.Facts.Structs.{length-fitted}

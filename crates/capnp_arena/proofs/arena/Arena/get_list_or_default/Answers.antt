@@ -1,5 +1,4 @@
-use Rattle.std.proofs.Common.{◌≡◌, sym, ap, ◌∙◌, subst}
-use Rattle.std.specs.Prelude.{Option, None, IfErr, IfOk, OnOk}
+use Rattle.std.proofs.Common.{Option, None, IfErr, IfOk, OnOk, Err, Ok, Result, ◌≡◌, sym, ap, ◌∙◌, subst}
 use Rattle.capnp_device.specs.declared.error.ErrorKind.{ErrorKind}
 use Rattle.capnp_wire.specs.Defaults.{default_tree, list_default_refusal}
 use Rattle.capnp_wire.specs.Edits.{IsDueRefusal}
@@ -8,7 +7,6 @@ use Rattle.capnp_arena.specs.Forest.{tree}
 use Rattle.capnp_arena.specs.Listed.{listed_tree}
 use Rattle.capnp_arena.specs.Segment.{segment}
 use Rattle.capnp_wire.specs.Facts.FilledDefaults.{is_taken, left_list, left_tree, not_taken, taken_list, taken_tree}
-use Rattle.std.specs.Prelude.{Err, Ok, Result}
 use Rattle.capnp_arena.proofs.arena.Arena.get_list_or_default.Goals as goal
 
 -- ---- a default that is copied ----

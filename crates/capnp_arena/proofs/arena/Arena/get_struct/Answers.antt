@@ -1,5 +1,4 @@
-use Rattle.std.proofs.Common.{rules, arith, ◌≡◌, sym, subst}
-use Rattle.std.specs.Prelude.{IfOk}
+use Rattle.std.proofs.Common.{IfOk, rules, arith, ◌≡◌, sym, subst}
 use Rattle.std.proofs.lemmas.Result.{IfErr-weaker, IfOk-weaker}
 use Rattle.capnp_arena.specs.Forest.{tree}
 use Rattle.capnp_arena.proofs.Refusals.{composite_due, composite_holds, list_at_due, list_at_holds, none_due, null_due, null_extended, null_holds, some_due, struct_due, struct_grown, struct_holds, struct_stays}

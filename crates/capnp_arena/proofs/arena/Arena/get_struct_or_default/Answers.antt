@@ -1,5 +1,4 @@
-use Rattle.std.proofs.Common.{◌≡◌, sym, ap, ◌∙◌, subst}
-use Rattle.std.specs.Prelude.{Option, None, IfErr, IfOk, OnOk}
+use Rattle.std.proofs.Common.{Option, None, IfErr, IfOk, OnOk, ◌≡◌, sym, ap, ◌∙◌, subst}
 use Rattle.capnp_device.specs.declared.error.ErrorKind.{ErrorKind}
 use Rattle.capnp_wire.specs.Defaults.{default_tree, struct_default_refusal}
 use Rattle.capnp_wire.specs.Edits.{IsDueRefusal, extended_struct, struct_in}

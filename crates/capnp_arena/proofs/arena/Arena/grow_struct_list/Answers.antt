@@ -1,5 +1,4 @@
-use Rattle.std.proofs.Common.{◌≡◌, ◌∙◌, subst, sym}
-use Rattle.std.specs.Prelude.{IfOk}
+use Rattle.std.proofs.Common.{IfOk, ◌≡◌, ◌∙◌, subst, sym}
 use Rattle.std.proofs.lemmas.Result.{IfErr-weaker, on_ok_weaker}
 use Rattle.capnp_wire.specs.StructLists.{IsDueRefusal}
 use Rattle.capnp_arena.specs.Forest.{tree}

@@ -1,10 +1,9 @@
-use Rattle.std.proofs.Common.{◌+◌, ◌^◌, ◌<◌, ◌≤◌, arith, refl, rules, subst}
+use Rattle.std.proofs.Common.{Some, ◌+◌, ◌^◌, ◌<◌, ◌≤◌, arith, refl, rules, subst}
 use Rattle.capnp_wire.specs.Depth.{AreBelow}
 use Rattle.capnp_wire.specs.Tree.{trees_from}
 use Rattle.capnp_wire.specs.Words.{words_of_all}
 use Rattle.capnp_arena.specs.Steps.Counts.{IsCounted}
 use Rattle.capnp_arena.specs.Forest.{tree}
-use Rattle.std.specs.Prelude.{Some}
 use Rattle.capnp_arena.specs.Segment.{segment}
 use Rattle.capnp_arena.specs.Shape.{word_count}
 use Rattle.capnp_arena.proofs.Bounded.{struct_fits, too_deep}
