@@ -11,7 +11,7 @@ use Rattle.capnp_schema.specs.Types.{ListType, StructType}
 use Rattle.capnp_records.specs.Reading.{struct_record}
 use Rattle.capnp_records.specs.Record as value
 use Rattle.capnp_records.specs.Record.{Left, MoreValues, NoValues, Record, Values}
-use Rattle.capnp_sets.specs.Causes.{flat, refused_read}
+use Rattle.capnp_sets.specs.Causes.{flat, refused_read, ◌<*>◌}
 use Rattle.capnp_sets.specs.Fields.{field_of, kind_by, made_field, slot_of}
 use Rattle.capnp_sets.specs.Lists.{lists_meant, made_set, set_meant}
 use Rattle.capnp_sets.specs.Message.{root_record}
