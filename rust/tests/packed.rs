@@ -62,8 +62,7 @@ fn what_follows_a_message_is_not_looked_at() {
 fn each_beginning_of_a_packed_message_is_cut_short() {
     for length in 0..PACKED_BOOK.len() {
         let refusal = read_message(Global, &PACKED_BOOK[..length])
-            .err()
-            .expect("the message is cut");
+            .expect_err("the message is cut");
         assert_eq!(refusal.number(), 2);
         assert!(BOOK.starts_with(&unpacked(&PACKED_BOOK[..length])));
     }
@@ -88,8 +87,7 @@ fn each_refusal_has_its_cause() {
     ];
     for (numbers, number) in rows {
         let refusal = read_message(Global, &table(numbers))
-            .err()
-            .expect("no message is there");
+            .expect_err("no message is there");
         assert_eq!(refusal.number(), number, "{numbers:?}");
     }
 }
