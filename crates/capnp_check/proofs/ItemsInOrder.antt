@@ -1,21 +1,16 @@
 -- The items of a struct by index: those from a field on are its own, and those from the next one on.
-use Rattle.std.proofs.Common.{ℕ, zero, suc, ◌+◌, ◌<◌, ◌≤◌, ◌≡◌, ◌==◌, refl, List, [], ◌∷◌, ◌++◌, Bool, true, false, ◌&&◌, codes, drop, length, slice_get, Some, None, Ok, Err, ap, append-nil, append_assoc, arith, sym, subst, ◌∙◌}
+use Rattle.std.proofs.Common.{ℕ, zero, suc, ◌+◌, ◌<◌, ◌≤◌, ◌≡◌, ◌==◌, refl, List, [], ◌∷◌, ◌++◌, Bool, true, false, ◌&&◌, drop, length, slice_get, Some, None, ap, append-nil, append_assoc, arith, sym, subst, ◌∙◌}
 use Rattle.std.proofs.lemmas.Bool.{and_parts, eq-eqb}
 use Rattle.std.specs.Option.{unwrap_or}
 use Rattle.capnp_wire.specs.Standing.{struct_of}
-use Rattle.capnp_wire.specs.declared.struct_reader.StructReader.{StructReader}
-use Rattle.capnp_schema.specs.GroupWalks.{frames}
 use Rattle.capnp_schema.specs.Schema.{Schemas, TypedField, default_of, is_member, no_field, node_of}
 use Rattle.capnp_schema.specs.StructHandles.{number_of, set_of, struct_field, struct_fields}
-use Rattle.capnp_records.specs.Facts.Spelled.{said_both}
 use Rattle.capnp_records.specs.Part.{is_active}
 use Rattle.capnp_records.specs.Reading.{active_among, discriminant, non_union_parts}
 use Rattle.capnp_records.specs.Record.{Active, MoreValues, NoUnion, NoValues, Union, Unknown, Value, Values, is_there}
-use Rattle.capnp_records.specs.Text.{Inner, Layout, Member, Out, after, before, bracketed_text, deeper, item, item_if, later, line, member, more_text, part_text, member_rest, said_text, separator, shown}
-use Rattle.capnp_dynamic_readers.specs.Steps.GroupTexts.{item_by, closing, is_item, items_from, onward, shallower}
+use Rattle.capnp_records.specs.Text.{Inner, Layout, Member, Out, before, item, item_if, later, member, part_text, member_rest, shown}
+use Rattle.capnp_dynamic_readers.specs.Steps.GroupTexts.{item_by, is_item, items_from}
 use Rattle.capnp_dynamic_readers.specs.Handles.{reader_of, schema_of}
-use Rattle.capnp_dynamic_readers.specs.Pieces.{Taken}
-use Rattle.capnp_dynamic_readers.specs.Steps.Pieces.{IsPut, Leads}
 use Rattle.capnp_dynamic_readers.specs.Steps.Shown.{field_item, is_member_shown, member_items, part_seen, record_items, still_pending, union_seen, unless_member, within_struct}
 use Rattle.capnp_dynamic_readers.specs.declared.dynamic_struct.Reader.{Reader as StructHandle}
 use Rattle.capnp_check.proofs.ItemsShown.{IsActivePart, active-part, before_none, before_some, drop-end, drop-next, later_none, later_some, member-at, shown-next, suc-is}

@@ -1,26 +1,22 @@
 -- The items of a struct, from a field on.
-use Rattle.std.proofs.Common.{ℕ, zero, suc, ◌+◌, ◌<◌, ◌≤◌, ◌≡◌, ◌==◌, refl, List, [], ◌∷◌, ◌++◌, Bool, true, false, not, ◌&&◌, ◌||◌, nat_lt, cond, length, drop, slice_get, Some, None, ap, sym, subst, ◌∙◌, arith}
+use Rattle.std.proofs.Common.{ℕ, zero, suc, ◌+◌, ◌<◌, ◌≤◌, ◌≡◌, ◌==◌, refl, List, [], ◌∷◌, ◌++◌, Bool, true, false, not, ◌||◌, nat_lt, cond, length, drop, slice_get, Some, None, ap, sym, subst, ◌∙◌, arith}
 use Rattle.std.proofs.lemmas.Bool.{eq-eqb}
 use Rattle.std.specs.Option.{unwrap_or}
-use Rattle.capnp_schema.specs.FieldLists.{IsFieldOf, index_of, typed_of}
-use Rattle.capnp_schema.specs.Schema.{Field as FieldRecord, Schemas, TypedField, default_of, is_member, no_field, node_of}
+use Rattle.capnp_schema.specs.FieldLists.{IsFieldOf}
+use Rattle.capnp_schema.specs.Schema.{Schemas, TypedField, default_of, is_member, no_field, node_of}
 use Rattle.capnp_schema.specs.StructHandles.{number_of, set_of, struct_field, struct_fields}
 use Rattle.capnp_schema.specs.declared.schema.fields.Field.{Field}
 use Rattle.capnp_schema.specs.declared.schema.structs.StructSchema.{StructSchema}
-use Rattle.capnp_records.specs.Facts.Frame.{first-of, second-of}
-use Rattle.capnp_records.specs.Facts.PartRead.{found-active, nth-plain_parts}
-use Rattle.capnp_records.specs.Part.{active_value, has_of, is_active, nth_value, which_of}
+use Rattle.capnp_records.specs.Facts.PartRead.{found-active}
+use Rattle.capnp_records.specs.Part.{active_value, is_active}
 use Rattle.capnp_records.specs.Reading.{active_among, discriminant, non_union_parts}
 use Rattle.capnp_records.specs.Record as value
 use Rattle.capnp_records.specs.Record.{Active, NoUnion, Parts, Union, Unknown, Value, Values, is_there}
 use Rattle.capnp_records.specs.Text.{Layout, Member, Out, before, item, item_if, later, part_text, shown}
 use Rattle.capnp_wire.specs.Standing.{struct_of}
-use Rattle.capnp_dynamic_readers.specs.Facts.HasWhich.{not_zero}
 use Rattle.capnp_dynamic_readers.specs.Handles.{reader_of, schema_of}
-use Rattle.capnp_dynamic_readers.specs.Steps.PartsRead.{field_in}
 use Rattle.capnp_dynamic_readers.specs.Reads.{BelongsTo}
-use Rattle.capnp_dynamic_readers.specs.Seen.{record_seen}
-use Rattle.capnp_dynamic_readers.specs.Steps.Shown.{field_item, field_items, is_member_shown, part_seen, still_pending, union_seen, unless_member, within_struct}
+use Rattle.capnp_dynamic_readers.specs.Steps.Shown.{field_item, field_items, part_seen, still_pending, union_seen, unless_member, within_struct}
 use Rattle.capnp_dynamic_readers.specs.declared.dynamic_struct.Reader.{Reader as StructHandle}
 
 -- ---- a field of a struct ----

@@ -1,15 +1,14 @@
 -- Whether a text is refused does not stand on its lines.
-use Rattle.std.proofs.Common.{ℕ, zero, suc, ◌≡◌, refl, List, [], ◌∷◌, ◌++◌, Bool, true, false, not, cond, ◌||◌, ◌==◌, nat_lt, Option, Some, None, Ok, Err, codes, ap, ap₂, sym, ◌∙◌}
+use Rattle.std.proofs.Common.{ℕ, zero, suc, ◌≡◌, refl, List, [], ◌∷◌, ◌++◌, Bool, true, false, not, cond, ◌||◌, ◌==◌, nat_lt, Option, Some, None, codes, ap, ap₂, sym, ◌∙◌}
 use Rattle.std.specs.Prelude.{⊤}
 use Rattle.std.proofs.lemmas.Bool.{true≢false}
-use Rattle.capnp_device.specs.declared.error.ErrorKind.{ErrorKind}
 use Rattle.capnp_schema.specs.Schema.{Schemas, TypedField, VoidValue, default_of, field_at, fields_of, is_member, Value as SchemaValue}
 use Rattle.capnp_schema.specs.Types.{SchemaType, struct_number}
 use Rattle.capnp_records.specs.Default.{read_of}
 use Rattle.capnp_records.specs.Reading.{element_type}
 use Rattle.capnp_records.specs.Record as value
 use Rattle.capnp_records.specs.Record.{Active, MoreValues, NoValues, NoUnion, Parts, Record, Union, Unknown, Value, Values, is_there}
-use Rattle.capnp_records.specs.Text.{Inner, Layout, Member, Out, before, deeper, element_texts, item, item_if, later, list_text, member, member_rest, more_text, part_text, record_text, said_text, shown, stands_before, struct_text, text_within, value_text}
+use Rattle.capnp_records.specs.Text.{Inner, Layout, Member, Out, before, deeper, element_texts, item, item_if, later, member, member_rest, part_text, record_text, shown, stands_before, struct_text, text_within, value_text}
 use Rattle.capnp_dynamic_readers.specs.Shown.{printed_text, set_seen, type_seen, value_printed}
 use Rattle.capnp_dynamic_readers.specs.Steps.Shown.{root_shown}
 use Rattle.capnp_dynamic_readers.specs.declared.dynamic_value.Reader.{Reader as DynamicValue}

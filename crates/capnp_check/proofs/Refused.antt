@@ -1,10 +1,8 @@
 -- The refusal of a text is the first one of its parts.
-use Rattle.std.proofs.Common.{ℕ, zero, suc, ◌+◌, ◌-◌, ◌<◌, ◌≤◌, ◌≡◌, refl, List, [], ◌∷◌, ◌++◌, Bool, true, false, codes, length, Option, Some, None, Ok, Err, ap, sym, ◌∙◌, arith}
+use Rattle.std.proofs.Common.{ℕ, zero, suc, ◌+◌, ◌-◌, ◌<◌, ◌≡◌, refl, List, [], ◌∷◌, ◌++◌, Bool, true, false, codes, length, Option, Some, None, Ok, Err, ap, sym, ◌∙◌, arith}
 use Rattle.capnp_device.specs.declared.error.ErrorKind.{ErrorKind}
-use Rattle.capnp_schema.specs.Schema.{Schemas, TypedField}
+use Rattle.capnp_schema.specs.Schema.{TypedField}
 use Rattle.capnp_schema.specs.StructHandles.{struct_fields}
-use Rattle.capnp_schema.specs.Types.{SchemaType}
-use Rattle.capnp_records.specs.Record.{Value}
 use Rattle.capnp_records.specs.Text.{Inner, Layout, Out, after, bracketed_text, deeper, item, item_if, line, list_text, more_text, quoted_text, said_text, debug_pieces, decimals, separator, struct_text, text_within, value_text}
 use Rattle.std.specs.Str.{is_utf8}
 use Rattle.capnp_dynamic_readers.specs.Handles.{schema_of}

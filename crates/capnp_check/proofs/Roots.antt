@@ -1,9 +1,9 @@
 -- The text of a value that stands alone.
-use Rattle.std.proofs.Common.{◌≡◌, ◌≢◌, refl, Bool, true, false, Result, Err, IfErr, ap, sym, subst, ◌∙◌}
+use Rattle.std.proofs.Common.{◌≡◌, refl, Bool, true, false, ap, sym, ◌∙◌}
 use Rattle.std.proofs.lemmas.Bool.{true≢false}
 use Rattle.capnp_schema.specs.Schema.{VoidValue, node_of}
 use Rattle.capnp_schema.specs.StructHandles.{number_of, set_of}
-use Rattle.capnp_records.specs.Text.{Layout, Out, part_text, text_within}
+use Rattle.capnp_records.specs.Text.{Layout, part_text, text_within}
 use Rattle.capnp_dynamic_readers.specs.Handles.{schema_of}
 use Rattle.capnp_dynamic_readers.specs.Shown.{struct_printed}
 use Rattle.capnp_dynamic_readers.specs.Steps.Shown.{record_shown, root_shown, value_shown}

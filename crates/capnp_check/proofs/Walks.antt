@@ -1,5 +1,5 @@
 -- The steps of a check among the fields of a struct and of the groups in it: what is to come, and that less is left to do.
-use Rattle.std.proofs.Common.{ℕ, suc, ◌+◌, ◌-◌, ◌^◌, ◌<◌, ◌≤◌, ◌≡◌, ◌==◌, refl, List, [], ◌∷◌, ◌++◌, Bool, true, false, not, ◌&&◌, ◌||◌, ◌⊎◌, inl, inr, length, map, Option, Some, None, ap, arith, sym, subst, ◌∙◌}
+use Rattle.std.proofs.Common.{ℕ, suc, ◌+◌, ◌-◌, ◌^◌, ◌<◌, ◌≤◌, ◌≡◌, refl, List, [], ◌∷◌, ◌++◌, Bool, true, length, Option, Some, None, ap, arith, sym, subst, ◌∙◌}
 use Rattle.capnp_device.specs.declared.error.ErrorKind.{ErrorKind}
 use Rattle.capnp_wire.specs.declared.struct_reader.StructReader.{StructReader}
 use Rattle.capnp_schema.specs.Accepted.{IsAccepted}
@@ -13,8 +13,8 @@ use Rattle.capnp_schema.specs.GroupsDown.{IsGroupSchemaIn, place_of_field}
 use Rattle.capnp_schema.specs.GroupWalks.{above, frames, walk_brand, walk_depth, walk_index, walk_schema, walk_set}
 use Rattle.capnp_schema.specs.Laws.{group_height}
 use Rattle.capnp_schema.specs.Steps.GroupWalks.{steps_left}
-use Rattle.capnp_schema.specs.Schema.{Schemas, TypedField, fields_of, is_member, kind_target}
-use Rattle.capnp_schema.specs.StructHandles.{number_of, set_of, struct_field, struct_fields}
+use Rattle.capnp_schema.specs.Schema.{Schemas, kind_target}
+use Rattle.capnp_schema.specs.StructHandles.{number_of, set_of, struct_fields}
 use Rattle.capnp_schema.specs.declared.schema.fields.Field.{Field}
 use Rattle.capnp_schema.specs.declared.schema.group_walk.GroupWalk.{GroupWalk}
 use Rattle.capnp_schema.specs.declared.schema.structs.StructSchema.{StructSchema}

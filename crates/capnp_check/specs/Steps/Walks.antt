@@ -1,9 +1,9 @@
 -- The refusal of what is to come of a struct in which a check stands: from a field on, of it or of a group in it, and out through
 -- the groups around.
-use Rattle.std.specs.Prelude.{ℕ, zero, suc, ◌+◌, ◌-◌, ◌^◌, ◌<◌, ◌≡◌, List, [], ◌∷◌, length, Option, Some, None}
+use Rattle.std.specs.Prelude.{ℕ, suc, ◌-◌, ◌^◌, ◌<◌, ◌≡◌, List, [], ◌∷◌, length, Option, Some, None}
 use Rattle.capnp_device.specs.declared.error.ErrorKind.{ErrorKind}
 use Rattle.capnp_wire.specs.declared.struct_reader.StructReader.{StructReader}
-use Rattle.capnp_schema.specs.GroupWalks.{above, frames, walk_brand, walk_depth, walk_index, walk_set}
+use Rattle.capnp_schema.specs.GroupWalks.{above, frames, walk_brand, walk_depth, walk_set}
 use Rattle.capnp_schema.specs.Laws.{group_height}
 use Rattle.capnp_schema.specs.Schema.{Schemas}
 use Rattle.capnp_schema.specs.Steps.GroupWalks.{steps_left}

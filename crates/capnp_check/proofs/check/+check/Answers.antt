@@ -1,9 +1,8 @@
-use Rattle.std.proofs.Common.{ℕ, ◌≡◌, ◌+◌, ◌<◌, ◌^◌, ◌∙◌, Bool, true, ap, sym, arith, Option, None, Some, Ok, Err}
+use Rattle.std.proofs.Common.{◌≡◌, ◌+◌, ◌∙◌, Bool, true, ap, sym, arith, Option, None, Some}
 use Rattle.capnp_device.specs.declared.error.ErrorKind.{ErrorKind}
 use Rattle.capnp_base.specs.declared.introspect.«Type».{«Type» as TypeHandle}
 use Rattle.capnp_schema.specs.Types.{seen_type}
 use Rattle.capnp_schema.specs.FieldLists.{index_of}
-use Rattle.capnp_records.specs.Text.{Out}
 use Rattle.capnp_dynamic_readers.specs.Handles.{element_of}
 use Rattle.capnp_dynamic_readers.specs.Steps.PartsRead.{fault_at, field_in}
 use Rattle.capnp_dynamic_readers.specs.Steps.Shown.{field_shown}
