@@ -1,0 +1,4 @@
+pub mod Naturals
+pub mod Reaching
+pub mod Rounding
+pub mod Going

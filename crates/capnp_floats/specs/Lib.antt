@@ -1,0 +1,3 @@
+pub mod Naturals
+pub mod Shortest
+pub mod Steps

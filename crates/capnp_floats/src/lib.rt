@@ -1,0 +1,6 @@
+//! Decimal texts of binary floating point numbers.
+#![tactic(auto)]
+
+mod search;
+mod limbs;
+mod natural;
