@@ -5,11 +5,11 @@ use Rattle.std.proofs.lemmas.Nat.{mul-le, pow-add, pow_pos}
 use Rattle.std.proofs.lemmas.Bool.{cases_lt, both_ways}
 use Rattle.capnp_floats.specs.declared.search.Search.{Search}
 use Rattle.capnp_floats.specs.Naturals.{room}
-use Rattle.capnp_floats.specs.Shortest.{Interval, Lies, IsRounded, reaches}
+use Rattle.capnp_floats.specs.Shortest.{interval, Interval, Lies, IsRounded, reaches}
 use Rattle.capnp_floats.specs.Steps.Going.{Advances, Follows, IsGoing, IsOpen, around}
 use Rattle.capnp_floats.proofs.Naturals.{few_factors}
 use Rattle.capnp_floats.proofs.Reaching.{reached, not_reached}
-use Rattle.capnp_floats.proofs.Rounding.{coarse_next, interval, floor_rounded, ceiling_rounded, never_above, never_below}
+use Rattle.capnp_floats.proofs.Rounding.{coarse_next, floor_rounded, ceiling_rounded, never_above, never_below}
 
 pub count_small : (count one rest all : ℕ) → count * one + rest ≡ all → all < 10 * one → count < 10
 count_small count one rest all e h = lt_of_mul-lt-mul_right one {m = count} {n = 10} (omega arith)

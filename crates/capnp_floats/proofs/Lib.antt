@@ -2,3 +2,4 @@ pub mod Naturals
 pub mod Reaching
 pub mod Rounding
 pub mod Going
+pub mod Finding

@@ -4,11 +4,8 @@ use Rattle.std.proofs.Math.Nat.{lt_of_mul-lt-mul_right, mul-lt-mul_of_pos_right,
 use Rattle.std.proofs.lemmas.Nat.{mul-le, pow-add}
 use Rattle.std.proofs.lemmas.Bool.{cases_lt, cases_order, both_ways}
 use lib.IntN.{ℤ, pos, negsuc}
-use Rattle.capnp_floats.specs.Shortest.{Interval, Lies, IsRounded, IsShortest, reaches, distance, away, in_units, tens, tenths}
+use Rattle.capnp_floats.specs.Shortest.{interval, Interval, Lies, IsRounded, IsShortest, reaches, distance, away, in_units, tens, tenths}
 use Rattle.capnp_floats.proofs.Reaching.{reached, not_reached, past, between, reaches_more, reaches_times, distance_times}
-
-abbrev pub interval : Bool → ℕ → ℕ → ℕ → ℕ → Interval
-interval ends s v b a = record { one = s; value = v; below = b; above = a; has_ends = ends }
 
 -- ---- naturals in the interval whose value is d and a rest
 
@@ -147,7 +144,7 @@ rounded_unscaled ends c s v b a d p h =
         (h.nearest n (more n l) e);
     }
 
-same_interval : (ends : Bool) (s s' v v' b b' a a' : ℕ) → s ≡ s' → v ≡ v' → b ≡ b' → a ≡ a' → interval ends s v b a ≡ interval ends s' v' b' a'
+pub same_interval : (ends : Bool) (s s' v v' b b' a a' : ℕ) → s ≡ s' → v ≡ v' → b ≡ b' → a ≡ a' → interval ends s v b a ≡ interval ends s' v' b' a'
 same_interval ends s s' v v' b b' a a' p q r t =
     ap (λ z. interval ends z v b a) p ∙ ap (λ z. interval ends s' z b a) q ∙ ap (λ z. interval ends s' v' z a) r ∙ ap (λ z. interval ends s' v' b' z) t
 

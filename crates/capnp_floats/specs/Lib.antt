@@ -1,3 +1,4 @@
 pub mod Naturals
 pub mod Shortest
+pub mod Floats
 pub mod Steps

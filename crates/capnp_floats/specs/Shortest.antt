@@ -11,6 +11,9 @@ pub record Interval : Type 0 where
   pub above : ℕ
   pub has_ends : Bool
 
+abbrev pub interval : Bool → ℕ → ℕ → ℕ → ℕ → Interval
+interval ends s v b a = record { one = s; value = v; below = b; above = a; has_ends = ends }
+
 -- whether a number is at least another, or more than it where an end does not belong
 abbrev pub reaches : Bool → ℕ → ℕ → Bool
 reaches true a b = nat_le b a
