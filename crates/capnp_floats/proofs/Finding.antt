@@ -77,8 +77,8 @@ shortest_found o t x s v b a up d k f eo ex ev eb ea ek h =
     let below : t.below ≡ b * 10 ^ t.tenths = f.below ∙ ap (λ z. z * 10 ^ t.tenths) eb in
     let above : t.above ≡ a * 10 ^ t.tenths = f.above ∙ ap (λ z. z * 10 ^ t.tenths) ea in
     to_shortest o.has_ends s v b a d up t.tenths k ek
-      (subst (λ i. IsRounded i d) (same_interval o.has_ends _ _ _ _ _ _ _ _ one value below above)
-        (subst (λ z. IsRounded (interval z t.one (t.digits * t.one + t.rest) t.below t.above) d) f.ends h))
+    (subst (λ i. IsRounded i d) (same_interval o.has_ends _ _ _ _ _ _ _ _ one value below above)
+    (subst (λ z. IsRounded (interval z t.one (t.digits * t.one + t.rest) t.below t.above) d) f.ends h))
 
 pub tens_up : (k : ℤ) → tens k ≡ differences.up k
 tens_up (pos n) = refl

@@ -66,7 +66,7 @@ going_on s t o v =
       coarse = λ n lies. coarse_next s.has_ends s.one s.digits s.rest s.below s.above (t.digits * t.one + t.rest) t.below t.above
           o.not_down o.not_up e4 e2 e3 n
           (subst (λ z. Lies (interval s.has_ends z (t.digits * t.one + t.rest) t.below t.above) (10 * n)) e1
-            (subst (λ z. Lies (interval z t.one (t.digits * t.one + t.rest) t.below t.above) (10 * n)) v.ends lies));
+          (subst (λ z. Lies (interval z t.one (t.digits * t.one + t.rest) t.below t.above) (10 * n)) v.ends lies));
       many = subst (λ z. 2 ^ z ≤ t.below) (sym e5) (subst (λ z. 2 ^ (s.tenths + 1) ≤ z) (sym e2) (two_more s.below s.tenths o.many));
       above = let a : 0 < s.above = o.above in omega arith;
       size = let z : s.digits * s.one + s.rest ≤ s.below * 2 ^ 56 = o.size in omega arith;
@@ -82,8 +82,8 @@ follows_first s t d n v =
       one = v.one;
       ends = v.ends;
       value = let e : t.digits * t.one + t.rest ≡ (s.digits * s.one + s.rest) * 10 = v.value in
-        let w : s.digits * s.one ≡ 0 * s.one = ap (λ z. z * s.one) d in
-        let q : s.rest * 10 ^ t.tenths ≡ s.rest * 10 = ap (λ z. s.rest * z) p in omega arith;
+          let w : s.digits * s.one ≡ 0 * s.one = ap (λ z. z * s.one) d in
+          let q : s.rest * 10 ^ t.tenths ≡ s.rest * 10 = ap (λ z. s.rest * z) p in omega arith;
       below = v.below ∙ ap (λ z. s.below * z) (sym p);
       above = v.above ∙ ap (λ z. s.above * z) (sym p);
     }

@@ -54,7 +54,7 @@ scale_kept row row0 i f c m n inside long same is value =
     ap (λ z. z + 2 ^ (32 * (i + 1)) * (n / 4294967296)) (low_set row i (n % 4294967296) inside)
     ∙ ap (λ z. natural_of (take i row) + 2 ^ (32 * i) * (n % 4294967296) + z * (n / 4294967296)) (power_more i)
     ∙ scale_step (2 ^ (32 * i)) f (get_or row0 i 0) c 4294967296 (n / 4294967296) (n % 4294967296) (natural_of (take i row)) (natural_of (take i row0)) m
-        (div-add-mod' n 4294967296 ∙ is ∙ ap (λ z. z * f + c) same) value
+    (div-add-mod' n 4294967296 ∙ is ∙ ap (λ z. z * f + c) same) value
     ∙ ap (λ z. z * f + m) (sym (low_more row0 i (omega arith)))
 
 pub add_kept : (row row0 other : List ℕ) (i c n : ℕ) → i < length row → length row ≡ length row0 → length row ≡ length other → get_or row i 0 ≡ get_or row0 i 0
@@ -65,7 +65,7 @@ add_kept row row0 other i c n inside long long' same is value =
     ap (λ z. z + 2 ^ (32 * (i + 1)) * (n / 4294967296)) (low_set row i (n % 4294967296) inside)
     ∙ ap (λ z. natural_of (take i row) + 2 ^ (32 * i) * (n % 4294967296) + z * (n / 4294967296)) (power_more i)
     ∙ add_step (2 ^ (32 * i)) (get_or row0 i 0) (get_or other i 0) c 4294967296 (n / 4294967296) (n % 4294967296) (natural_of (take i row)) (natural_of (take i row0)) (natural_of (take i other))
-        (div-add-mod' n 4294967296 ∙ is ∙ ap (λ z. z + get_or other i 0 + c) same) value
+    (div-add-mod' n 4294967296 ∙ is ∙ ap (λ z. z + get_or other i 0 + c) same) value
     ∙ ap (λ z. z + (natural_of (take i other) + 2 ^ (32 * i) * get_or other i 0)) (sym (low_more row0 i (omega arith)))
     ∙ ap (λ z. natural_of (take (i + 1) row0) + z) (sym (low_more other i (omega arith)))
 
@@ -77,7 +77,7 @@ subtract_kept row row0 other i c n d inside long long' same is value =
     ap (λ z. z + natural_of (take (i + 1) other)) (low_set row i (n % 4294967296) inside)
     ∙ ap (λ z. natural_of (take i row) + 2 ^ (32 * i) * (n % 4294967296) + z) (low_more other i (omega arith))
     ∙ subtract_step (2 ^ (32 * i)) (get_or row0 i 0) (get_or other i 0) c 4294967296 d (n % 4294967296) (natural_of (take i row)) (natural_of (take i row0)) (natural_of (take i other))
-        (is ∙ ap (λ z. z + d * 4294967296) same) value
+    (is ∙ ap (λ z. z + d * 4294967296) same) value
     ∙ ap (λ z. z + 2 ^ (32 * i) * 4294967296 * d) (sym (low_more row0 i (omega arith)))
     ∙ ap (λ z. natural_of (take (i + 1) row0) + z * d) (sym (power_more i))
 
@@ -114,16 +114,16 @@ below_kept row other i before after inside long f g is branch =
     let r : natural_of (take (i + 1) row) ≡ natural_of (take i row) + 2 ^ (32 * i) * get_or row i 0 = low_more row i inside in
     let o : natural_of (take (i + 1) other) ≡ natural_of (take i other) + 2 ^ (32 * i) * get_or other i 0 = low_more other i (omega arith) in
     ⊎_elim
-      (λ w. w.1 ∙ sym (below_differs (2 ^ (32 * i)) (get_or row i 0) (get_or other i 0) (natural_of (take i row)) (natural_of (take i other)) (natural_low row i f) (natural_low other i g) w.0)
-         ∙ ap (λ z. ltb z (natural_of (take i other) + 2 ^ (32 * i) * get_or other i 0)) (sym r) ∙ ap (λ z. ltb (natural_of (take (i + 1) row)) z) (sym o))
-      (λ w. w.1 ∙ is ∙ sym (below_same (2 ^ (32 * i)) (get_or row i 0) (get_or other i 0) (natural_of (take i row)) (natural_of (take i other)) w.0)
-         ∙ ap (λ z. ltb z (natural_of (take i other) + 2 ^ (32 * i) * get_or other i 0)) (sym r) ∙ ap (λ z. ltb (natural_of (take (i + 1) row)) z) (sym o))
-      branch
+    (λ w. w.1 ∙ sym (below_differs (2 ^ (32 * i)) (get_or row i 0) (get_or other i 0) (natural_of (take i row)) (natural_of (take i other)) (natural_low row i f) (natural_low other i g) w.0)
+    ∙ ap (λ z. ltb z (natural_of (take i other) + 2 ^ (32 * i) * get_or other i 0)) (sym r) ∙ ap (λ z. ltb (natural_of (take (i + 1) row)) z) (sym o))
+    (λ w. w.1 ∙ is ∙ sym (below_same (2 ^ (32 * i)) (get_or row i 0) (get_or other i 0) (natural_of (take i row)) (natural_of (take i other)) w.0)
+    ∙ ap (λ z. ltb z (natural_of (take i other) + 2 ^ (32 * i) * get_or other i 0)) (sym r) ∙ ap (λ z. ltb (natural_of (take (i + 1) row)) z) (sym o))
+    branch
 
 -- what is lent at a place
 pub lent_kept : (x y c : ℕ) → x < 2 ^ 32 → y < 2 ^ 32 → c ≤ 1
     → ((x + 4294967296 - (y + c)) % 4294967296 + y + c ≡ x + (1 - (x + 4294967296 - (y + c)) / 4294967296) * 4294967296)
-      × (1 - (x + 4294967296 - (y + c)) / 4294967296 ≤ 1)
+    × (1 - (x + 4294967296 - (y + c)) / 4294967296 ≤ 1)
 lent_kept x y c f g h =
     let n : ℕ = x + 4294967296 - (y + c) in
     let e : n / 4294967296 * 4294967296 + n % 4294967296 ≡ n = div-add-mod' n 4294967296 in

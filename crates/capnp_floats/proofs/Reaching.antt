@@ -39,7 +39,7 @@ reaches_times false c x y p = ⊎_elim
 pub distance_times : (c a b : ℕ) → distance (a * c) (b * c) ≡ distance a b * c
 distance_times c a b = ⊎_elim
     (λ l. let t : ℕ = b - a in let e : (a + t) * c ≡ b * c = ap (λ z. z * c) (let f : a + t ≡ b = omega arith in f) in
-        let g : (distance a b) * c ≡ t * c = ap (λ z. z * c) (let f : distance a b ≡ t = omega arith in f) in omega arith)
+    let g : (distance a b) * c ≡ t * c = ap (λ z. z * c) (let f : distance a b ≡ t = omega arith in f) in omega arith)
     (λ m. let t : ℕ = a - b in let e : (b + t) * c ≡ a * c = ap (λ z. z * c) (let f : b + t ≡ a = omega arith in f) in
-        let g : (distance a b) * c ≡ t * c = ap (λ z. z * c) (let f : distance a b ≡ t = omega arith in f) in omega arith)
+    let g : (distance a b) * c ≡ t * c = ap (λ z. z * c) (let f : distance a b ≡ t = omega arith in f) in omega arith)
     (cases_lt a b)

@@ -20,7 +20,11 @@ fn less(number: u64, other: u64) -> u32
     requires { number ≤ 4096 }
     ensures { result ≡ number - other }
 {
-    if number > other { (number - other) as u32 } else { 0 }
+    if number > other {
+        (number - other) as u32
+    } else {
+        0
+    }
 }
 
 /// A number times a power of two.
@@ -61,7 +65,15 @@ fn find(significand: u64, gap: u64, up: u32, down: u32, has_ends: bool) -> Decim
     let mut one = scaled(1, down);
     let high = value.sum(&above);
     let power = raise(&mut one, &high, has_ends);
-    let mut search = Search { one, rest: value, below, above, has_ends, digits: 0, tenths: 0 };
+    let mut search = Search {
+        one,
+        rest: value,
+        below,
+        above,
+        has_ends,
+        digits: 0,
+        tenths: 0,
+    };
     search.run();
     let digits = search.rounded();
     let exponent = exponent_of(power, search.tenths);
@@ -76,7 +88,13 @@ fn shortest_of(width: Width, bits: u64) -> Decimal
     let last = less(exponent(width, bits), 1) as u64;
     let quarter = quarter_places(width);
     let number = significand(width, bits);
-    find(number, gap_below(width, bits), less(last, quarter), less(quarter, last), number % 2 == 0)
+    find(
+        number,
+        gap_below(width, bits),
+        less(last, quarter),
+        less(quarter, last),
+        number % 2 == 0,
+    )
 }
 
 /// The shortest decimal that is nearer to a number than to any other of its width, without its sign; a middle between
@@ -91,7 +109,10 @@ pub fn decimal_of(width: Width, bits: u64) -> Option<Decimal>
         return None;
     }
     if significand(width, bits) == 0 {
-        return Some(Decimal { digits: 0, exponent: 0 });
+        return Some(Decimal {
+            digits: 0,
+            exponent: 0,
+        });
     }
     Some(shortest_of(width, bits))
 }

@@ -10,7 +10,11 @@ use crate::natural::Natural;
 fn reaches(has_ends: bool, first: &Natural, second: &Natural) -> bool
     ensures { result ≡ reaches has_ends first.now second.now }
 {
-    if has_ends { !first.is_below(second) } else { second.is_below(first) }
+    if has_ends {
+        !first.is_below(second)
+    } else {
+        second.is_below(first)
+    }
 }
 
 /// How often a number can be taken from another, less than ten times. What is left stays.
@@ -138,6 +142,10 @@ impl Search {
         if self.one.is_below(&twice) {
             return self.digits + 1;
         }
-        if self.digits % 2 == 0 { self.digits } else { self.digits + 1 }
+        if self.digits % 2 == 0 {
+            self.digits
+        } else {
+            self.digits + 1
+        }
     }
 }

@@ -66,7 +66,11 @@ pub(crate) fn significand(width: Width, bits: u64) -> u64
     ensures few { result < 9007199254740992 }
 {
     let part = fraction(width, bits);
-    if exponent(width, bits) == 0 { part } else { part + fraction_end(width) }
+    if exponent(width, bits) == 0 {
+        part
+    } else {
+        part + fraction_end(width)
+    }
 }
 
 /// How far the lower end is, in quarters of the last place: one below a power of two, else two.
@@ -75,5 +79,9 @@ pub(crate) fn gap_below(width: Width, bits: u64) -> u64
     ensures positive { 1 ≤ result }
     ensures few { result ≤ 2 }
 {
-    if fraction(width, bits) == 0 && exponent(width, bits) > 1 { 1 } else { 2 }
+    if fraction(width, bits) == 0 && exponent(width, bits) > 1 {
+        1
+    } else {
+        2
+    }
 }

@@ -11,7 +11,7 @@ pub loop-i-preserved : goal.loop-i-preserved
 loop-i-preserved c =
     let few = c.loop-i.invariant.few in
     let step = lent_kept (get_or c.loop-i.row c.loop-i.i 0) (get_or c.args.other.now c.loop-i.i 0) c.loop-i.lent
-        (search rules) (c.type_inv.other c.loop-i.i).fits few in
+    (search rules) (c.type_inv.other c.loop-i.i).fits few in
     record {
       value = subtract_kept c.loop-i.row c.args.row.now c.args.other.now c.loop-i.i c.loop-i.lent _ _ (omega arith) (omega arith) (omega arith) (c.loop-i.invariant.rest c.loop-i.i (omega arith)) step.0 c.loop-i.invariant.value;
       rest = rest_kept c.loop-i.row c.args.row.now c.loop-i.i _ c.loop-i.invariant.rest;

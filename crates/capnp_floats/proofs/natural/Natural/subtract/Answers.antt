@@ -9,4 +9,3 @@ returns c =
     let w : natural_of c.other.inside.row ≡ c.args.other.now = c.other.view_is in
     let e : natural_of c.subtract.new.row + c.args.other.now ≡ c.args.self.now + 2 ^ (32 * length c.self.inside.row) * c.subtract.result = omega (arith, c.subtract.ensures.value) in
     none_lent (natural_of c.subtract.new.row) c.args.other.now c.args.self.now (2 ^ (32 * length c.self.inside.row)) c.subtract.result e c.subtract.ensures.less c.requires
-
