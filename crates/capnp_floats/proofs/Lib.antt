@@ -1,0 +1,5 @@
+pub mod Naturals
+pub mod Reaching
+pub mod Rounding
+pub mod Going
+pub mod Finding

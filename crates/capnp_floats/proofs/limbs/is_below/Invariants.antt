@@ -1,0 +1,6 @@
+use Rattle.std.proofs.Common.{◌≡◌, ◌+◌, ◌*◌, ◌^◌, ◌<◌, ◌≤◌, length, ℕ, take, get_or, ltb}
+use Rattle.capnp_floats.specs.Naturals.{natural_of}
+use Rattle.capnp_floats.proofs.limbs.is_below.Given as goal
+
+abbrev pub invariant-loop-i : goal.invariant-loop-i
+invariant-loop-i l = l.below ≡ ltb (natural_of (take l.i l.row)) (natural_of (take l.i l.other))

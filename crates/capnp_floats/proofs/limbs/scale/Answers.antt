@@ -1,0 +1,15 @@
+use Rattle.std.proofs.Common.{arith, rules, refl, get_or, ◌*◌, ◌+◌}
+use Rattle.std.proofs.lemmas.List.{places}
+use Rattle.capnp_floats.specs.Naturals.{natural_of}
+use Rattle.capnp_floats.proofs.Naturals.{scale_kept, rest_kept}
+use Rattle.capnp_floats.proofs.limbs.scale.Goals as goal
+
+pub loop-i-init : goal.loop-i-init
+unfolding natural_of
+loop-i-init c = record { value = omega arith; rest = λ k h. refl }
+
+pub loop-i-preserved : goal.loop-i-preserved
+loop-i-preserved c = record {
+  value = scale_kept c.loop-i.row c.args.row.now c.loop-i.i c.args.factor c.loop-i.carry c.args.more _ (omega arith) (omega arith) (c.loop-i.invariant.rest c.loop-i.i (omega arith)) refl c.loop-i.invariant.value;
+  rest = rest_kept c.loop-i.row c.args.row.now c.loop-i.i _ c.loop-i.invariant.rest;
+}

@@ -1,0 +1,4 @@
+pub mod Naturals
+pub mod Shortest
+pub mod Floats
+pub mod Steps

@@ -1,0 +1,118 @@
+//! The shortest decimals of binary floating point numbers.
+ghost use Rattle.std.specs.Prelude.{◌≡◌, ◌+◌, ◌*◌, ◌-◌, ◌^◌, ◌<◌, ◌≤◌, ◌%◌, ◌==◌, IfSome, is_some};
+ghost use Rattle.capnp_floats.specs.Floats.{IsDecimalOf, interval_of, is_finite, place, quarter_places, significand};
+ghost use Rattle.capnp_floats.specs.Naturals.{room};
+ghost use Rattle.capnp_floats.specs.Shortest.{IsShortest, interval, tens, tenths};
+
+use crate::natural::Natural;
+use crate::search::{Search, raise};
+use crate::width::{Width, exponent, exponent_end, gap_below, quarter_places, significand};
+
+/// A decimal: `digits` times ten to the power of `exponent`.
+#[derive(Clone, Copy, Drop)]
+pub struct Decimal {
+    pub digits: u64,
+    pub exponent: i32,
+}
+
+/// What is left of a number where another is taken from it, or 0.
+fn less(number: u64, other: u64) -> u32
+    requires { number ≤ 4096 }
+    ensures { result ≡ number - other }
+{
+    if number > other {
+        (number - other) as u32
+    } else {
+        0
+    }
+}
+
+/// A number times a power of two.
+fn scaled(number: u64, times: u32) -> Natural
+    requires number { number ≤ 2 ^ 56 }
+    requires times { times ≤ 1076 }
+    ensures value { result ≡ number * 2 ^ times }
+    ensures small { 10000 * result < room }
+    ensures positive { 0 < number → 0 < result }
+{
+    let mut natural = Natural::new(number);
+    natural.double(times);
+    natural
+}
+
+/// The power of ten that is so many tens over so many.
+fn exponent_of(up: u32, down: u32) -> i32
+    requires up { up ≤ 1152 }
+    requires down { down ≤ 1152 }
+    ensures { up + tenths result ≡ down + tens result }
+{
+    up as i32 - down as i32
+}
+
+/// The shortest decimal around `4 significand` quarters, of which each is 2^up / 2^down.
+fn find(significand: u64, gap: u64, up: u32, down: u32, has_ends: bool) -> Decimal
+    requires positive { 0 < significand }
+    requires few { significand < 2 ^ 53 }
+    requires wide { 1 ≤ gap }
+    requires narrow { gap ≤ 2 }
+    requires up { up ≤ 1076 }
+    requires down { down ≤ 1076 }
+    ensures { IsShortest (interval has_ends (2 ^ down) (4 * significand * 2 ^ up) (gap * 2 ^ up) (2 * 2 ^ up)) result.digits result.exponent }
+{
+    let value = scaled(4 * significand, up);
+    let below = scaled(gap, up);
+    let above = scaled(2, up);
+    let mut one = scaled(1, down);
+    let high = value.sum(&above);
+    let power = raise(&mut one, &high, has_ends);
+    let mut search = Search {
+        one,
+        rest: value,
+        below,
+        above,
+        has_ends,
+        digits: 0,
+        tenths: 0,
+    };
+    search.run();
+    let digits = search.rounded();
+    let exponent = exponent_of(power, search.tenths);
+    Decimal { digits, exponent }
+}
+
+/// The shortest decimal of a number that is not zero.
+fn shortest_of(width: Width, bits: u64) -> Decimal
+    requires { 0 < significand width bits }
+    ensures { IsShortest (interval_of width bits) result.digits result.exponent }
+{
+    let last = less(exponent(width, bits), 1) as u64;
+    let quarter = quarter_places(width);
+    let number = significand(width, bits);
+    find(
+        number,
+        gap_below(width, bits),
+        less(last, quarter),
+        less(quarter, last),
+        number % 2 == 0,
+    )
+}
+
+/// The shortest decimal that is nearer to a number than to any other of its width, without its sign; a middle between
+/// two belongs to the one whose significand is even. Of the shortest it is the nearest. 0 has the decimal 0.
+///
+/// `bits` are those of the number, of which a width of 32 has the lowest 32. Infinities and what is no number have none.
+pub fn decimal_of(width: Width, bits: u64) -> Option<Decimal>
+    ensures finite { is_some result ≡ is_finite width bits }
+    ensures decimal { IfSome result (λ d. IsDecimalOf width bits d.digits d.exponent) }
+{
+    if exponent(width, bits) >= exponent_end(width) - 1 {
+        return None;
+    }
+    if significand(width, bits) == 0 {
+        return Some(Decimal {
+            digits: 0,
+            exponent: 0,
+        });
+    }
+    Some(shortest_of(width, bits))
+}

@@ -1,0 +1,80 @@
+//! Naturals below 2^1152.
+ghost use Rattle.std.specs.Prelude.{ℕ, ◌≡◌, ◌+◌, ◌*◌, ◌^◌, ◌<◌, ◌≤◌, nat_lt};
+ghost use Rattle.capnp_floats.specs.Naturals.{natural_of, room};
+
+use crate::limbs;
+use std::marker::Model;
+
+/// A natural below 2^1152.
+#[derive(Drop)]
+pub struct Natural {
+    row: [u32; 36],
+}
+
+impl Model for Natural {
+    ghost Value = { ℕ };
+
+    ghost view = { λ n. natural_of n.row };
+}
+
+impl Natural {
+    /// The natural of a number.
+    pub fn new(number: u64) -> Natural
+        ensures { result ≡ number }
+    {
+        let mut row = [0u32; 36];
+        row[0] = (number % 4294967296) as u32;
+        row[1] = (number / 4294967296) as u32;
+        Natural { row }
+    }
+
+    /// The same natural once more.
+    pub fn copied(&self) -> Natural
+        ensures { result ≡ self.now }
+    {
+        Natural { row: self.row }
+    }
+
+    /// The natural times a factor.
+    pub fn multiply(&mut self, factor: u32)
+        requires { self.old * factor < room }
+        ensures { self.new ≡ self.old * factor }
+    {
+        limbs::scale(&mut self.row, factor, 0);
+    }
+
+    /// The natural times a power of two.
+    pub fn double(&mut self, times: u32)
+        requires { self.old * 2 ^ times < room }
+        ensures { self.new ≡ self.old * 2 ^ times }
+    {
+        'doubling: for i in 0..times {
+            self.multiply(2);
+        }
+    }
+
+    /// The sum with another.
+    pub fn sum(&self, other: &Natural) -> Natural
+        requires { self.now + other.now < room }
+        ensures { result ≡ self.now + other.now }
+    {
+        let mut row = self.row;
+        limbs::add(&mut row, &other.row);
+        Natural { row }
+    }
+
+    /// Takes another from the natural.
+    pub fn subtract(&mut self, other: &Natural)
+        requires { other.now ≤ self.old }
+        ensures { self.new + other.now ≡ self.old }
+    {
+        limbs::subtract(&mut self.row, &other.row);
+    }
+
+    /// Whether it is less than another.
+    pub fn is_below(&self, other: &Natural) -> bool
+        ensures { result ≡ nat_lt self.now other.now }
+    {
+        limbs::is_below(&self.row, &other.row)
+    }
+}
