@@ -24,15 +24,6 @@ pub(crate) const PRINT_LEVELS: u32 = 64;
 
 /// Whether a value has a text, or with which number its text is refused: as `printer::print` is, but for memory, of
 /// which none is taken here.
-///
-/// # Example
-///
-/// ```rust
-/// match check_text(Value::Struct(root)) {
-///     Ok(()) => println!(rt; "fine")?,
-///     Err(error) => println!(rt; "refused: {error}")?,
-/// }
-/// ```
 pub fn check_text(value: Value<'_>) -> Result<()>
     ensures { (indented : Bool) → told result ≡ refusal (printed_text indented value.entry) }
 {

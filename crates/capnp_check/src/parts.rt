@@ -8,7 +8,7 @@ ghost use Rattle.capnp_dynamic_readers.specs.Handles.{schema_of};
 ghost use Rattle.capnp_dynamic_readers.specs.Seen.{record_seen};
 ghost use Rattle.capnp_dynamic_readers.specs.Steps.GroupTexts.{IsSlotField};
 ghost use Rattle.capnp_dynamic_readers.specs.Steps.PartsRead.{IsElementRead, IsElementRefused, IsPart, IsPartRefused, fault_at, field_in};
-ghost use Rattle.capnp_check.specs.Places.{is_shown};
+ghost use Rattle.capnp_check.specs.Steps.ShownFields.{is_shown};
 
 use capnp_base::introspect::{Type, TypeVariant};
 use capnp_dynamic_readers::dynamic_value::Reader as Value;

@@ -1,6 +1,6 @@
 -- From the parts of a number to its search for digits, and from the digits found to its decimal.
-use Rattle.std.proofs.Common.{ℕ, zero, suc, ◌≡◌, ◌≢◌, ◌+◌, ◌-◌, ◌*◌, ◌/◌, ◌^◌, ◌%◌, ◌<◌, ◌≤◌, ◌⊎◌, ⊎_elim, inl, inr, Bool, true, false, sym, ap, ◌∙◌, refl, subst, arith, rules, lit<, ltb, leb}
-use Rattle.std.proofs.Math.Nat.{pow-le-pow_right, mul-lt-mul_of_pos_right}
+use Rattle.std.proofs.Common.{ℕ, zero, suc, ◌≡◌, ◌+◌, ◌-◌, ◌*◌, ◌/◌, ◌^◌, ◌%◌, ◌<◌, ◌≤◌, Bool, true, false, sym, ap, ◌∙◌, refl, subst, arith, lit<}
+use Rattle.std.proofs.Math.Nat.{pow-le-pow_right}
 use Rattle.std.proofs.lemmas.Nat.{mul-le, pow-add, pow_pos, mod_below}
 use Rattle.std.proofs.lemmas.Bool.{lt-leb, le-ltb}
 use lib.IntN.{ℤ, pos, negsuc}
@@ -9,9 +9,10 @@ use Rattle.capnp_floats.specs.declared.search.Search.{Search}
 use Rattle.capnp_floats.specs.declared.width.Width.{Width}
 use Rattle.capnp_floats.specs.declared.width.Width.TheVariants.{Float32, Float64}
 use Rattle.capnp_floats.specs.Naturals.{room}
-use Rattle.capnp_floats.specs.Floats.{place, quarter_places, exponent}
-use Rattle.capnp_floats.specs.Shortest.{interval, Interval, Lies, IsRounded, IsShortest, reaches, tens, tenths}
-use Rattle.capnp_floats.specs.Steps.Going.{Advances, Follows, IsGoing, IsOpen, around}
+use Rattle.capnp_floats.specs.Floats.{place, quarter_places}
+use Rattle.capnp_floats.specs.Shortest.{IsRounded, IsShortest, reaches, tens, tenths}
+use Rattle.capnp_floats.specs.Steps.Intervals.{interval}
+use Rattle.capnp_floats.specs.Steps.Going.{Follows, IsOpen, around}
 use Rattle.capnp_floats.proofs.Rounding.{same_interval, units_less}
 
 pub fits : (x k : ℕ) → x ≤ 2 ^ 56 → k ≤ 1076 → 10000 * (x * 2 ^ k) < room

@@ -1,14 +1,15 @@
 -- The steps of the search for digits.
-use Rattle.std.proofs.Common.{ℕ, zero, suc, ◌≡◌, ◌≢◌, ◌+◌, ◌-◌, ◌*◌, ◌^◌, ◌%◌, ◌<◌, ◌≤◌, ◌⊎◌, ⊎_elim, inl, inr, Bool, true, false, sym, ap, ◌∙◌, refl, subst, arith, rules, lit<}
+use Rattle.std.proofs.Common.{ℕ, ◌≡◌, ◌+◌, ◌-◌, ◌*◌, ◌^◌, ◌%◌, ◌<◌, ◌≤◌, ◌⊎◌, ⊎_elim, inl, inr, true, false, sym, ap, ◌∙◌, subst, arith}
 use Rattle.std.proofs.Math.Nat.{lt_of_mul-lt-mul_right}
-use Rattle.std.proofs.lemmas.Nat.{mul-le, pow-add, pow_pos}
-use Rattle.std.proofs.lemmas.Bool.{cases_lt, both_ways}
+use Rattle.std.proofs.lemmas.Nat.{pow-add, pow_pos}
+use Rattle.std.proofs.lemmas.Bool.{both_ways}
 use Rattle.capnp_floats.specs.declared.search.Search.{Search}
 use Rattle.capnp_floats.specs.Naturals.{room}
-use Rattle.capnp_floats.specs.Shortest.{interval, Interval, Lies, IsRounded, reaches}
+use Rattle.capnp_floats.specs.Shortest.{Lies, IsRounded, reaches}
+use Rattle.capnp_floats.specs.Steps.Intervals.{interval}
 use Rattle.capnp_floats.specs.Steps.Going.{Advances, Follows, IsGoing, IsOpen, around}
 use Rattle.capnp_floats.proofs.Naturals.{few_factors}
-use Rattle.capnp_floats.proofs.Reaching.{reached, not_reached}
+use Rattle.capnp_floats.proofs.Reaching.{not_reached}
 use Rattle.capnp_floats.proofs.Rounding.{coarse_next, floor_rounded, ceiling_rounded, never_above, never_below}
 
 pub count_small : (count one rest all : ℕ) → count * one + rest ≡ all → all < 10 * one → count < 10

@@ -1,11 +1,11 @@
 -- Where the search for digits stops, one of two naturals is the one that is wanted.
-use Rattle.std.proofs.Common.{ℕ, zero, suc, ◌≡◌, ◌≢◌, ◌+◌, ◌-◌, ◌*◌, ◌^◌, ◌%◌, ◌<◌, ◌≤◌, ◌⊎◌, ⊎_elim, inl, inr, Bool, true, false, sym, ap, ◌∙◌, refl, subst, arith, rules, lit<}
-use Rattle.std.proofs.Math.Nat.{lt_of_mul-lt-mul_right, mul-lt-mul_of_pos_right, pos_of_ne-zero}
+use Rattle.std.proofs.Common.{ℕ, ◌≡◌, ◌+◌, ◌*◌, ◌^◌, ◌%◌, ◌<◌, ◌≤◌, ◌⊎◌, ⊎_elim, inl, inr, Bool, true, false, sym, ap, ◌∙◌, subst, arith, lit<}
+use Rattle.std.proofs.Math.Nat.{lt_of_mul-lt-mul_right, mul-lt-mul_of_pos_right}
 use Rattle.std.proofs.lemmas.Nat.{mul-le, pow-add}
-use Rattle.std.proofs.lemmas.Bool.{cases_lt, cases_order, both_ways}
-use lib.IntN.{ℤ, pos, negsuc}
-use Rattle.capnp_floats.specs.Shortest.{interval, Interval, Lies, IsRounded, IsShortest, reaches, distance, away, in_units, tens, tenths}
-use Rattle.capnp_floats.proofs.Reaching.{reached, not_reached, past, between, reaches_more, reaches_times, distance_times}
+use Rattle.std.proofs.lemmas.Bool.{cases_lt, cases_order}
+use Rattle.capnp_floats.specs.Shortest.{Lies, IsRounded, reaches, distance}
+use Rattle.capnp_floats.specs.Steps.Intervals.{interval}
+use Rattle.capnp_floats.proofs.Reaching.{past, between, reaches_more, reaches_times, distance_times}
 
 -- ---- naturals in the interval whose value is d and a rest
 

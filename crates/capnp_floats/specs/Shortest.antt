@@ -1,5 +1,5 @@
 -- The shortest decimal in an interval of numbers.
-use Rattle.std.specs.Prelude.{ℕ, ◌+◌, ◌-◌, ◌*◌, ◌^◌, ◌%◌, ◌<◌, ◌≤◌, ◌≡◌, ◌≢◌, ◌⊎◌, Bool, true, false, nat_lt, nat_le}
+use Rattle.std.specs.Prelude.{ℕ, ◌+◌, ◌-◌, ◌*◌, ◌^◌, ◌%◌, ◌<◌, ◌≡◌, ◌≢◌, ◌⊎◌, Bool, true, false, nat_lt, nat_le}
 use lib.IntN.{ℤ, pos, negsuc}
 use Prim.Native.Nat.{suc}
 
@@ -10,9 +10,6 @@ pub record Interval : Type 0 where
   pub below : ℕ
   pub above : ℕ
   pub has_ends : Bool
-
-abbrev pub interval : Bool → ℕ → ℕ → ℕ → ℕ → Interval
-interval ends s v b a = record { one = s; value = v; below = b; above = a; has_ends = ends }
 
 -- whether a number is at least another, or more than it where an end does not belong
 abbrev pub reaches : Bool → ℕ → ℕ → Bool

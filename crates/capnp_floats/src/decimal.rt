@@ -2,7 +2,8 @@
 ghost use Rattle.std.specs.Prelude.{◌≡◌, ◌+◌, ◌*◌, ◌-◌, ◌^◌, ◌<◌, ◌≤◌, ◌%◌, ◌==◌, IfSome, is_some};
 ghost use Rattle.capnp_floats.specs.Floats.{IsDecimalOf, interval_of, is_finite, place, quarter_places, significand};
 ghost use Rattle.capnp_floats.specs.Naturals.{room};
-ghost use Rattle.capnp_floats.specs.Shortest.{IsShortest, interval, tens, tenths};
+ghost use Rattle.capnp_floats.specs.Shortest.{IsShortest, tens, tenths};
+ghost use Rattle.capnp_floats.specs.Steps.Intervals.{interval};
 
 use crate::natural::Natural;
 use crate::search::{Search, raise};

@@ -1,5 +1,5 @@
 -- The states of the search for digits. No contract of a public function stands on them.
-use Rattle.std.specs.Prelude.{ℕ, ◌+◌, ◌*◌, ◌^◌, ◌<◌, ◌≤◌, ◌≡◌, true, false}
+use Rattle.std.specs.Prelude.{ℕ, ◌+◌, ◌*◌, ◌^◌, ◌<◌, ◌≤◌, ◌≡◌, false}
 use Rattle.capnp_floats.specs.declared.search.Search.{Search}
 use Rattle.capnp_floats.specs.Naturals.{room}
 use Rattle.capnp_floats.specs.Shortest.{Interval, Lies, reaches}

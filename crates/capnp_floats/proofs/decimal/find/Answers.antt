@@ -1,6 +1,7 @@
-use Rattle.std.proofs.Common.{rules, subst, sym, w32, ◌*◌, ◌^◌, ◌+◌, ◌≡◌}
+use Rattle.std.proofs.Common.{rules, subst, sym, w32, ◌*◌, ◌^◌}
 use Rattle.std.proofs.lemmas.Int.{to_z-of_z}
-use Rattle.capnp_floats.specs.Shortest.{IsShortest, interval}
+use Rattle.capnp_floats.specs.Shortest.{IsShortest}
+use Rattle.capnp_floats.specs.Steps.Intervals.{interval}
 use Rattle.capnp_floats.proofs.Finding.{shortest_found}
 use Rattle.capnp_floats.proofs.decimal.find.Goals as goal
 

@@ -1,4 +1,4 @@
-use Rattle.std.proofs.Common.{arith, rules, refl, get_or, ◌*◌, ◌+◌}
+use Rattle.std.proofs.Common.{arith, refl}
 use Rattle.capnp_floats.specs.Naturals.{natural_of}
 use Rattle.capnp_floats.proofs.Naturals.{add_kept, rest_kept}
 use Rattle.capnp_floats.proofs.limbs.add.Goals as goal

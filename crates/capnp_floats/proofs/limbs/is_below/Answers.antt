@@ -1,5 +1,4 @@
-use Rattle.std.proofs.Common.{arith, rules, refl, inl, inr, get_or}
-use Rattle.capnp_floats.specs.Naturals.{natural_of}
+use Rattle.std.proofs.Common.{arith, inl, inr}
 use Rattle.capnp_floats.proofs.Naturals.{below_kept}
 use Rattle.capnp_floats.proofs.limbs.is_below.Goals as goal
 use Rattle.capnp_floats.proofs.limbs.is_below.Goals.{then-row-i, else-row-i}

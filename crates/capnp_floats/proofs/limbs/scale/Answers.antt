@@ -1,5 +1,4 @@
-use Rattle.std.proofs.Common.{arith, rules, refl, get_or, ◌*◌, ◌+◌}
-use Rattle.std.proofs.lemmas.List.{places}
+use Rattle.std.proofs.Common.{arith, refl}
 use Rattle.capnp_floats.specs.Naturals.{natural_of}
 use Rattle.capnp_floats.proofs.Naturals.{scale_kept, rest_kept}
 use Rattle.capnp_floats.proofs.limbs.scale.Goals as goal

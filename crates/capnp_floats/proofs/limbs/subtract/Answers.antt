@@ -1,4 +1,4 @@
-use Rattle.std.proofs.Common.{arith, rules, refl, get_or, ◌*◌, ◌+◌, ◌-◌, ◌/◌, ◌%◌, ◌<◌, ◌≡◌}
+use Rattle.std.proofs.Common.{arith, rules, refl, get_or}
 use Rattle.capnp_floats.specs.Naturals.{natural_of}
 use Rattle.capnp_floats.proofs.Naturals.{bound_kept, subtract_kept, lent_kept, rest_kept}
 use Rattle.capnp_floats.proofs.limbs.subtract.Goals as goal

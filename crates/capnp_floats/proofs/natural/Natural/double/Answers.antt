@@ -1,4 +1,4 @@
-use Rattle.std.proofs.Common.{arith, ap, ◌*◌, ◌+◌, ◌^◌, ◌≡◌, ◌<◌}
+use Rattle.std.proofs.Common.{arith, ◌*◌, ◌^◌, ◌≡◌, ◌<◌}
 use Rattle.capnp_floats.specs.Naturals.{room}
 use Rattle.capnp_floats.proofs.Naturals.{doubling_fits}
 use Rattle.capnp_floats.proofs.natural.Natural.double.Goals as goal

@@ -1,4 +1,4 @@
-use Rattle.std.proofs.Common.{arith, ap, ◌*◌, ◌+◌, ◌^◌, ◌≡◌, length}
+use Rattle.std.proofs.Common.{arith, ◌*◌, ◌+◌, ◌^◌, ◌≡◌, length}
 use Rattle.capnp_floats.specs.Naturals.{natural_of}
 use Rattle.capnp_floats.proofs.Naturals.{none_carried}
 use Rattle.capnp_floats.proofs.natural.Natural.sum.Goals as goal

@@ -1,6 +1,5 @@
-use Rattle.std.proofs.Common.{arith, rules, ltb, ◌+◌, ◌%◌, ◌≡◌, ◌≤◌, ◌<◌, true, false}
+use Rattle.std.proofs.Common.{arith, rules, ltb, ◌+◌, ◌≡◌, ◌≤◌, ◌<◌, true, false}
 use Rattle.std.proofs.lemmas.Bool.{ltb-true, ltb-false, not-true, not-false}
-use Rattle.std.proofs.lemmas.Bool.Decides.{nat_tests}
 use Rattle.capnp_floats.proofs.Going.{end_floor_alone, end_floor_nearer, end_floor_even, end_ceiling_alone, end_ceiling_nearer, end_ceiling_odd}
 use Rattle.capnp_floats.proofs.search.Search.rounded.Goals as goal
 

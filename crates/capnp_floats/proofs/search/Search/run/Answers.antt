@@ -1,4 +1,4 @@
-use Rattle.std.proofs.Common.{arith, rules}
+use Rattle.std.proofs.Common.{rules}
 use Rattle.capnp_floats.specs.Steps.Going.{IsOpen}
 use Rattle.capnp_floats.proofs.Going.{going_on, follows_first, follows_on, open_again, shrinks}
 use Rattle.capnp_floats.proofs.search.Search.run.Goals as goal
