@@ -1,0 +1,6 @@
+pub mod Options
+pub mod OptionsSeen
+pub mod RequestSeen
+pub mod Requests
+pub mod Tasks
+pub mod Usage

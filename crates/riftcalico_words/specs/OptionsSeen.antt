@@ -1,0 +1,22 @@
+-- Options as the code has them.
+use Rattle.std.specs.Prelude.{ℕ, List, map, Result, Ok, Err}
+use Rattle.std.specs.Borrow.{Bor}
+use Rattle.std.specs.Option.{option_map}
+use Rattle.riftcalico_words.specs.Options.{WordOptions}
+use Rattle.riftcalico_words.specs.declared.options.Options.{Options}
+
+abbrev pub options_seen : Options → WordOptions
+options_seen o = record {
+  set = option_map (λ w. w.now) o.set;
+  calls = option_map (λ w. w.now) o.calls;
+  indent = o.indent;
+  keep_going = o.keep_going;
+  strict = o.strict;
+  help = o.help;
+  others = map (λ w. w.now) o.others.items;
+  waiting = o.waiting;
+}
+
+abbrev pub read_seen : Result Options (Bor (List ℕ)) → Result WordOptions (List ℕ)
+read_seen (Ok o) = Ok (options_seen o)
+read_seen (Err word) = Err word.now

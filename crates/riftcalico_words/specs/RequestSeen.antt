@@ -1,0 +1,53 @@
+-- Requests as the code has them.
+use Rattle.std.specs.Prelude.{ℕ, List, map, Result, Ok, Err}
+use Rattle.std.specs.Option.{option_map}
+use Rattle.riftcalico_words.specs.Requests.{AskedRequest, Request, WordFault, help_request, no_verb, other_words, task_request, unknown_option, unknown_verb, version_request}
+use Rattle.riftcalico_words.specs.Tasks as tasks
+use Rattle.riftcalico_words.specs.Tasks.{CallsTask, GetTask, GivenCalls, Root, convert_task, fields_task, get_task, in_lines, in_words, new_task, patch_task, structs_task}
+use Rattle.riftcalico_words.specs.declared.request.Asked.{Asked}
+use Rattle.riftcalico_words.specs.declared.request.Asked.TheVariants as asked
+use Rattle.riftcalico_words.specs.declared.request.CallWords.{CallWords}
+use Rattle.riftcalico_words.specs.declared.request.CallWords.TheVariants as words
+use Rattle.riftcalico_words.specs.declared.request.CallsRequest.{CallsRequest}
+use Rattle.riftcalico_words.specs.declared.request.GetRequest.{GetRequest}
+use Rattle.riftcalico_words.specs.declared.request.Misuse.{Misuse}
+use Rattle.riftcalico_words.specs.declared.request.Misuse.TheVariants as misuse
+use Rattle.riftcalico_words.specs.declared.request.NamedRoot.{NamedRoot}
+use Rattle.riftcalico_words.specs.declared.request.Task.{Task}
+use Rattle.riftcalico_words.specs.declared.request.Task.TheVariants as task
+
+abbrev pub root_named : NamedRoot → Root
+root_named r = record { file = option_map (λ f. f.now) r.file; name = r.name.now }
+
+abbrev pub get_task_of : GetRequest → GetTask
+get_task_of r = record { root = root_named r.root; path = r.path.now; indented = r.indented }
+
+abbrev pub given_of : CallWords → GivenCalls
+given_of (words.Words ws) = in_words (map (λ w. w.now) ws.items)
+given_of (words.Lines path) = in_lines path.now
+
+abbrev pub calls_task_of : CallsRequest → CallsTask
+calls_task_of r = record { root = root_named r.root; calls = given_of r.calls; keep_going = r.keep_going }
+
+abbrev pub task_seen : Task → tasks.Task
+task_seen (task.Get r) = get_task (get_task_of r)
+task_seen (task.Patch r) = patch_task (calls_task_of r)
+task_seen (task.New r) = new_task (calls_task_of r)
+task_seen (task.Structs file) = structs_task (option_map (λ f. f.now) file)
+task_seen (task.Fields r) = fields_task (root_named r)
+task_seen (task.Convert strict) = convert_task strict
+
+abbrev pub request_seen : Asked → Request
+request_seen (asked.«Task» t) = task_request (task_seen t)
+request_seen (asked.Help v) = help_request v
+request_seen asked.Version = version_request
+
+abbrev pub fault_seen : Misuse → WordFault
+fault_seen misuse.NoVerb = no_verb
+fault_seen (misuse.UnknownVerb word) = unknown_verb word.now
+fault_seen (misuse.UnknownOption v word) = unknown_option v word.now
+fault_seen (misuse.OtherWords v) = other_words v
+
+abbrev pub asked_seen : Result Asked Misuse → AskedRequest
+asked_seen (Ok a) = Ok (request_seen a)
+asked_seen (Err m) = Err (fault_seen m)

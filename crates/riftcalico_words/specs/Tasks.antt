@@ -1,0 +1,34 @@
+-- What the program may be asked for.
+use Rattle.std.specs.Prelude.{ℕ, List, Bool, Option}
+
+-- a struct by its name, in the set that a file holds, or else in the built-in one
+pub record Root : Type 0 where
+  pub file : Option (List ℕ)
+  pub name : List ℕ
+
+-- the text of the value at a path
+pub record GetTask : Type 0 where
+  pub root : Root
+  pub path : List ℕ
+  pub indented : Bool
+
+-- calls, each a word, or each a line of the file at a path
+pub data GivenCalls : Type 0 where
+  in_words : List (List ℕ) → GivenCalls
+  in_lines : (path : List ℕ) → GivenCalls
+
+-- calls on a root, and whether what they leave is written where one was refused
+pub record CallsTask : Type 0 where
+  pub root : Root
+  pub calls : GivenCalls
+  pub keep_going : Bool
+
+-- A value is shown, calls are made on a copy of a message or on an empty root, the structs of a set are shown, in the set of a
+-- file or else in the built-in one, or the fields of a struct, or a compiler's request is made a set.
+pub data Task : Type 0 where
+  get_task : GetTask → Task
+  patch_task : CallsTask → Task
+  new_task : CallsTask → Task
+  structs_task : (file : Option (List ℕ)) → Task
+  fields_task : Root → Task
+  convert_task : (strict : Bool) → Task

@@ -1,0 +1,93 @@
+-- What the program tells of itself, and of words that ask for nothing.
+use Rattle.std.specs.Prelude.{ℕ, List, [], ◌∷◌, ◌++◌, Option, Some, None, codes}
+use Rattle.riftcalico_words.specs.Requests.{WordFault, no_verb, other_words, unknown_option, unknown_verb}
+use Rattle.riftcalico_words.specs.declared.request.Verb.{Verb}
+use Rattle.riftcalico_words.specs.declared.request.Verb.TheVariants as verb
+
+-- how the program is called
+abbrev pub usage_lines : List ℕ
+usage_lines =
+    codes "usage: riftcalico show [--set FILE] NAME [--indent]\n"
+    ++ codes "       riftcalico get [--set FILE] NAME PATH [--indent]\n"
+    ++ codes "       riftcalico patch [--set FILE] [--calls FILE] [--keep-going] NAME CALL..\n"
+    ++ codes "       riftcalico new [--set FILE] [--calls FILE] [--keep-going] NAME CALL..\n"
+    ++ codes "       riftcalico structs [--set FILE] [NAME]\n"
+    ++ codes "       riftcalico schemas [--strict]\n"
+
+-- how a verb is
+abbrev pub verb_usage : Verb → List ℕ
+verb_usage verb.Show = codes "usage: riftcalico show [--set FILE] NAME [--indent]\n"
+verb_usage verb.Get = codes "usage: riftcalico get [--set FILE] NAME PATH [--indent]\n"
+verb_usage verb.Patch = codes "usage: riftcalico patch [--set FILE] [--calls FILE] [--keep-going] NAME CALL..\n"
+verb_usage verb.New = codes "usage: riftcalico new [--set FILE] [--calls FILE] [--keep-going] NAME CALL..\n"
+verb_usage verb.Structs = codes "usage: riftcalico structs [--set FILE] [NAME]\n"
+verb_usage verb.Schemas = codes "usage: riftcalico schemas [--strict]\n"
+
+-- what a verb does
+abbrev pub verb_help : Verb → List ℕ
+verb_help verb.Show =
+    codes "usage: riftcalico show [--set FILE] NAME [--indent]\n"
+    ++ codes "\n"
+    ++ codes "Prints the root of the first message as a struct NAME, on one line, or with --indent on several.\n"
+    ++ codes "NAME is a struct of the set in FILE, as 'riftcalico schemas' writes it, or else of the built-in set.\n"
+verb_help verb.Get =
+    codes "usage: riftcalico get [--set FILE] NAME PATH [--indent]\n"
+    ++ codes "\n"
+    ++ codes "Prints what stands at PATH of the first message's root, a struct NAME. PATH has steps joined by '.': a field's name,\n"
+    ++ codes "#3, a field by its number, or 4, an element of a list. '.' alone is the root.\n"
+    ++ codes "NAME is a struct of the set in FILE, as 'riftcalico schemas' writes it, or else of the built-in set.\n"
+verb_help verb.Patch =
+    codes "usage: riftcalico patch [--set FILE] [--calls FILE] [--keep-going] NAME CALL..\n"
+    ++ codes "\n"
+    ++ codes "Makes calls on a copy of the first message's root, a struct NAME, and writes the message that they leave.\n"
+    ++ codes "A CALL is one word: 'set PATH VALUE', 'init PATH', 'initn PATH N', 'clear PATH', 'get PATH', 'has PATH' or\n"
+    ++ codes "'which PATH'. With --calls they are the lines of FILE, but empty ones and those that begin with '#'. With --keep-going\n"
+    ++ codes "the message is written also where a call is refused.\n"
+    ++ codes "NAME is a struct of the set in FILE, as 'riftcalico schemas' writes it, or else of the built-in set.\n"
+verb_help verb.New =
+    codes "usage: riftcalico new [--set FILE] [--calls FILE] [--keep-going] NAME CALL..\n"
+    ++ codes "\n"
+    ++ codes "Makes calls on an empty struct NAME, and writes the message that they leave.\n"
+    ++ codes "A CALL is one word: 'set PATH VALUE', 'init PATH', 'initn PATH N', 'clear PATH', 'get PATH', 'has PATH' or\n"
+    ++ codes "'which PATH'. With --calls they are the lines of FILE, but empty ones and those that begin with '#'. With --keep-going\n"
+    ++ codes "the message is written also where a call is refused.\n"
+    ++ codes "NAME is a struct of the set in FILE, as 'riftcalico schemas' writes it, or else of the built-in set.\n"
+verb_help verb.Structs =
+    codes "usage: riftcalico structs [--set FILE] [NAME]\n"
+    ++ codes "\n"
+    ++ codes "Lists the structs of a set, or the fields of the struct NAME.\n"
+    ++ codes "The set is that of FILE, as 'riftcalico schemas' writes it, or else the built-in one.\n"
+verb_help verb.Schemas =
+    codes "usage: riftcalico schemas [--strict]\n"
+    ++ codes "\n"
+    ++ codes "Reads a request of the public compiler, as 'capnp compile -o- FILE..' writes it, and writes its set of schemas.\n"
+    ++ codes "With --strict floats and interfaces are refused.\n"
+
+-- what the program does, or one verb
+abbrev pub help_text : Option Verb → List ℕ
+help_text (Some v) = verb_help v
+help_text None =
+    codes "Shows, makes and patches Cap'n Proto messages under schemas that are known at run time. Messages are read from standard\n"
+    ++ codes "input and written to standard output.\n"
+    ++ codes "\n"
+    ++ codes "usage: riftcalico show [--set FILE] NAME [--indent]\n"
+    ++ codes "       riftcalico get [--set FILE] NAME PATH [--indent]\n"
+    ++ codes "       riftcalico patch [--set FILE] [--calls FILE] [--keep-going] NAME CALL..\n"
+    ++ codes "       riftcalico new [--set FILE] [--calls FILE] [--keep-going] NAME CALL..\n"
+    ++ codes "       riftcalico structs [--set FILE] [NAME]\n"
+    ++ codes "       riftcalico schemas [--strict]\n"
+    ++ codes "\n"
+    ++ codes "More of a verb is told by 'riftcalico VERB --help', the version by 'riftcalico --version'.\n"
+
+abbrev pub version_line : List ℕ
+version_line = codes "riftcalico 0.1.0\n"
+
+-- what there isn't, and the word that asked for it
+abbrev pub unknown_line : (noun word : List ℕ) → List ℕ
+unknown_line noun word = codes "unknown " ++ noun ++ codes ": " ++ word ++ 10 ∷ []
+
+abbrev pub fault_text : WordFault → List ℕ
+fault_text no_verb = usage_lines
+fault_text (unknown_verb word) = unknown_line (codes "verb") word ++ usage_lines
+fault_text (unknown_option v word) = unknown_line (codes "option") word ++ verb_usage v
+fault_text (other_words v) = verb_usage v

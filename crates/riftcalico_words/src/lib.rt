@@ -1,0 +1,6 @@
+//! What the words of the program `riftcalico` ask for, and what it tells of itself.
+#![tactic(auto)]
+
+pub mod options;
+pub mod request;
+pub mod usage;

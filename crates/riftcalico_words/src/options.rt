@@ -1,0 +1,180 @@
+//! Options among words. They stand in any order, and of one that stands twice the last counts.
+ghost use Rattle.std.specs.Prelude.{◌≡◌, IfErr, IfOk, map, string_bytes};
+ghost use Rattle.std.specs.Option.{option_map};
+ghost use Rattle.capnp_device.specs.declared.error.ErrorKind.TheVariants.{OutOfMemory};
+ghost use Rattle.riftcalico_words.specs.Options.{is_option, no_options, options_read, with_flag, with_kind, with_other, with_path, with_word, word_kind};
+ghost use Rattle.riftcalico_words.specs.OptionsSeen.{options_seen, read_seen};
+
+use capnp_device::error::Result;
+use std::alloc::Global;
+
+/// An option that has no word behind it.
+#[derive(Clone, Copy, Debug, PartialEq, Eq)]
+pub enum Flag {
+    /// `--indent`
+    Indent,
+    /// `--keep-going`
+    KeepGoing,
+    /// `--strict`
+    Strict,
+    /// `--help`
+    Help,
+}
+
+/// An option that has the path of a file behind it.
+#[derive(Clone, Copy, Debug, PartialEq, Eq)]
+pub enum FileOption {
+    /// `--set`
+    Set,
+    /// `--calls`
+    Calls,
+}
+
+/// What a word is that stands behind no option of a file.
+#[derive(Clone, Copy, Debug, PartialEq, Eq)]
+pub enum WordKind {
+    /// No option.
+    Other,
+    Flag(Flag),
+    File(FileOption),
+    /// A word that begins with `--` and is no option.
+    Unknown,
+}
+
+/// The options of words, and the other words in their order.
+#[derive(Drop)]
+pub struct Options<'a> {
+    pub set: Option<&'a str>,
+    pub calls: Option<&'a str>,
+    pub indent: bool,
+    pub keep_going: bool,
+    pub strict: bool,
+    pub help: bool,
+    pub others: Vec<&'a str>,
+    /// The option whose file comes next.
+    pub waiting: Option<FileOption>,
+}
+
+/// Whether a word begins with `--`.
+fn is_option_word(word: &str) -> bool
+    ensures { result ≡ is_option word.now }
+{
+    match word.as_bytes() {
+        [first, second, ..] => *first == b'-' && *second == b'-',
+        _ => false,
+    }
+}
+
+/// What a word is.
+fn kind_of(word: &str) -> WordKind
+    ensures { result ≡ word_kind word.now }
+{
+    match word {
+        "--set" => WordKind::File(FileOption::Set),
+        "--calls" => WordKind::File(FileOption::Calls),
+        "--indent" => WordKind::Flag(Flag::Indent),
+        "--keep-going" => WordKind::Flag(Flag::KeepGoing),
+        "--strict" => WordKind::Flag(Flag::Strict),
+        "--help" => WordKind::Flag(Flag::Help),
+        _ => {
+            if is_option_word(word) {
+                WordKind::Unknown
+            } else {
+                WordKind::Other
+            }
+        }
+    }
+}
+
+/// The options with a flag more.
+fn put_flag(options: Options<'_>, flag: Flag) -> Options<'_>
+    ensures { options_seen result ≡ with_flag (options_seen options.entry) flag }
+{
+    let mut options = options;
+    match flag {
+        Flag::Indent => options.indent = true,
+        Flag::KeepGoing => options.keep_going = true,
+        Flag::Strict => options.strict = true,
+        Flag::Help => options.help = true,
+    }
+    options
+}
+
+/// The options with the file of one of them.
+fn put_path<'a>(options: Options<'a>, option: FileOption, path: &'a str) -> Options<'a>
+    ensures { options_seen result ≡ with_path (options_seen options.entry) option path.now }
+{
+    let mut options = options;
+    options.waiting = None;
+    match option {
+        FileOption::Set => options.set = Some(path),
+        FileOption::Calls => options.calls = Some(path),
+    }
+    options
+}
+
+/// The options with a word more that is none. Refused with `OutOfMemory` alone.
+fn put_other<'a>(options: Options<'a>, word: &'a str) -> Result<Options<'a>>
+    ensures put { IfOk result (λ o. options_seen o ≡ with_other (options_seen options.entry) word.now) }
+    ensures memory { IfErr result (λ e. e.kind ≡ OutOfMemory) }
+{
+    let mut options = options;
+    options.others.push(word)?;
+    Ok(options)
+}
+
+/// The options with a word more; none where it is an unknown option.
+fn put_kind<'a>(options: Options<'a>, word: &'a str) -> Result<Option<Options<'a>>>
+    ensures put { IfOk result (λ r. option_map options_seen r
+        ≡ with_kind (options_seen options.entry) word.now (word_kind word.now)) }
+    ensures memory { IfErr result (λ e. e.kind ≡ OutOfMemory) }
+{
+    match kind_of(word) {
+        WordKind::Other => Ok(Some(put_other(options, word)?)),
+        WordKind::Flag(flag) => Ok(Some(put_flag(options, flag))),
+        WordKind::File(option) => {
+            let mut options = options;
+            options.waiting = Some(option);
+            Ok(Some(options))
+        }
+        WordKind::Unknown => Ok(None),
+    }
+}
+
+/// The options with a word more; none where it is an unknown option.
+fn put_word<'a>(options: Options<'a>, word: &'a str) -> Result<Option<Options<'a>>>
+    ensures put { IfOk result (λ r. option_map options_seen r ≡ with_word (options_seen options.entry) word.now) }
+    ensures memory { IfErr result (λ e. e.kind ≡ OutOfMemory) }
+{
+    match options.waiting {
+        Some(option) => Ok(Some(put_path(options, option, word))),
+        None => put_kind(options, word),
+    }
+}
+
+/// The options of words, or the first of them that is an unknown one. Refused with `OutOfMemory` alone.
+pub fn read_options<'a>(
+    alloc: Global,
+    words: &'a [String],
+) -> Result<std::result::Result<Options<'a>, &'a str>>
+    ensures read { IfOk result (λ r. read_seen r ≡ options_read no_options (map string_bytes words.now)) }
+    ensures memory { IfErr result (λ e. e.kind ≡ OutOfMemory) }
+{
+    let mut options = Options {
+        set: None,
+        calls: None,
+        indent: false,
+        keep_going: false,
+        strict: false,
+        help: false,
+        others: Vec::new(alloc),
+        waiting: None,
+    };
+    for word in words {
+        match put_word(options, word.as_str())? {
+            Some(more) => options = more,
+            None => return Ok(Err(word.as_str())),
+        }
+    }
+    Ok(Ok(options))
+}

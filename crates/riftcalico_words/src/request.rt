@@ -1,0 +1,290 @@
+//! What the program's words ask for.
+ghost use Rattle.std.specs.Prelude.{◌≡◌, IfErr, IfOk, map, string_bytes};
+ghost use Rattle.capnp_device.specs.declared.error.ErrorKind.TheVariants.{OutOfMemory};
+ghost use Rattle.std.specs.Option.{option_map};
+ghost use Rattle.riftcalico_words.specs.OptionsSeen.{options_seen};
+ghost use Rattle.riftcalico_words.specs.Requests.{asked_request, calls_asked, given_asked, is_fitting, options_asked, plain_asked, verb_of, verb_request};
+ghost use Rattle.riftcalico_words.specs.RequestSeen.{asked_seen, calls_task_of, given_of, task_seen};
+
+use crate::options::{Options, read_options};
+use capnp_device::error::Result;
+use std::alloc::Global;
+
+/// What is done.
+#[derive(Clone, Copy, Debug, PartialEq, Eq)]
+pub enum Verb {
+    /// A message is shown.
+    Show,
+    /// A value of a message is shown.
+    Get,
+    /// Calls are made on a copy of a message.
+    Patch,
+    /// Calls are made on an empty root.
+    New,
+    /// The structs of a set are shown, or the fields of one.
+    Structs,
+    /// A compiler's request is made a set of schemas.
+    Schemas,
+}
+
+/// The struct of a name, in the set that a file holds, or else in the built-in one.
+#[derive(Clone, Copy)]
+pub struct NamedRoot<'a> {
+    pub file: Option<&'a str>,
+    pub name: &'a str,
+}
+
+/// The text of the value at a path, and whether it is indented.
+#[derive(Clone, Copy)]
+pub struct GetRequest<'a> {
+    pub root: NamedRoot<'a>,
+    pub path: &'a str,
+    pub indented: bool,
+}
+
+/// Calls, each a word, or each a line of the file at a path.
+#[derive(Drop)]
+pub enum CallWords<'a> {
+    Words(Vec<&'a str>),
+    Lines(&'a str),
+}
+
+/// Calls on a root, and whether what they leave is written where one was refused.
+#[derive(Drop)]
+pub struct CallsRequest<'a> {
+    pub root: NamedRoot<'a>,
+    pub calls: CallWords<'a>,
+    pub keep_going: bool,
+}
+
+/// What is to be done.
+#[derive(Drop)]
+pub enum Task<'a> {
+    /// A value of a message is shown; the whole message is the value at the path `.`.
+    Get(GetRequest<'a>),
+    /// Calls are made on a copy of a message.
+    Patch(CallsRequest<'a>),
+    /// Calls are made on an empty root.
+    New(CallsRequest<'a>),
+    /// The structs of the set that a file holds, or else of the built-in one.
+    Structs(Option<&'a str>),
+    /// The fields of a struct.
+    Fields(NamedRoot<'a>),
+    /// The set of a compiler's request; whether floats and interfaces are refused.
+    Convert(bool),
+}
+
+/// What the words ask for.
+#[derive(Drop)]
+pub enum Asked<'a> {
+    Task(Task<'a>),
+    /// What can be done, or how one verb is called.
+    Help(Option<Verb>),
+    /// The version of the program.
+    Version,
+}
+
+/// Words that ask for nothing.
+#[derive(Clone, Copy)]
+pub enum Misuse<'a> {
+    /// There is no word.
+    NoVerb,
+    /// The first word is none of the verbs.
+    UnknownVerb(&'a str),
+    /// A word behind the verb is an option that there isn't.
+    UnknownOption(Verb, &'a str),
+    /// The verb is called with other words.
+    OtherWords(Verb),
+}
+
+/// What words ask for, or why they ask for nothing.
+pub type Read<'a> = std::result::Result<Asked<'a>, Misuse<'a>>;
+
+/// What is done, by its word.
+fn read_verb(word: &str) -> Option<Verb>
+    ensures { result ≡ verb_of word.now }
+{
+    match word {
+        "show" => Some(Verb::Show),
+        "get" => Some(Verb::Get),
+        "patch" => Some(Verb::Patch),
+        "new" => Some(Verb::New),
+        "structs" => Some(Verb::Structs),
+        "schemas" => Some(Verb::Schemas),
+        _ => None,
+    }
+}
+
+/// Whether a verb takes these options.
+fn is_fit(verb: Verb, options: &Options<'_>) -> bool
+    ensures { result ≡ is_fitting verb (options_seen options.now) }
+{
+    match verb {
+        Verb::Show | Verb::Get => {
+            options.calls.is_none() && !options.keep_going && !options.strict
+        }
+        Verb::Patch | Verb::New => !options.indent && !options.strict,
+        Verb::Structs => {
+            options.calls.is_none() && !options.indent && !options.keep_going && !options.strict
+        }
+        Verb::Schemas => {
+            options.set.is_none()
+                && options.calls.is_none()
+                && !options.indent
+                && !options.keep_going
+        }
+    }
+}
+
+/// The words of calls, but the first of these words: them, or where a file is named its lines, and then there are no
+/// other words. Refused with `OutOfMemory` alone.
+fn read_given<'a>(
+    alloc: Global,
+    calls: Option<&'a str>,
+    words: &[&'a str],
+) -> Result<Option<CallWords<'a>>>
+    ensures given { IfOk result (λ r. option_map given_of r ≡ given_asked (option_map (λ f. f.now) calls.entry)
+        (map (λ w. w.now) words.now)) }
+    ensures memory { IfErr result (λ e. e.kind ≡ OutOfMemory) }
+{
+    match calls {
+        None => {
+            let mut list = Vec::with_capacity(alloc, words.len())?;
+            list.extend_from_slice(words)?;
+            Ok(Some(CallWords::Words(list)))
+        }
+        Some(path) => {
+            if words.is_empty() {
+                Ok(Some(CallWords::Lines(path)))
+            } else {
+                Ok(None)
+            }
+        }
+    }
+}
+
+/// Calls on a root under the struct that the first of the other words names. Refused with `OutOfMemory` alone.
+fn read_calls<'a>(alloc: Global, options: &Options<'a>) -> Result<Option<CallsRequest<'a>>>
+    ensures calls { IfOk result (λ r. option_map calls_task_of r ≡ calls_asked (options_seen options.now)) }
+    ensures memory { IfErr result (λ e. e.kind ≡ OutOfMemory) }
+{
+    let words = options.others.as_slice();
+    match words {
+        [] => Ok(None),
+        [name, rest @ ..] => {
+            let root = NamedRoot {
+                file: options.set,
+                name: *name,
+            };
+            match read_given(alloc, options.calls, rest)? {
+                Some(calls) => Ok(Some(CallsRequest {
+                    root,
+                    calls,
+                    keep_going: options.keep_going,
+                })),
+                None => Ok(None),
+            }
+        }
+    }
+}
+
+/// What is asked of a message that is shown, or of a set, by its verb and the other words.
+fn read_plain<'a>(verb: Verb, options: &Options<'a>) -> Option<Task<'a>>
+    ensures { option_map task_seen result ≡ plain_asked verb (options_seen options.now) }
+{
+    let file = options.set;
+    match (verb, options.others.as_slice()) {
+        (Verb::Show, [name]) => Some(Task::Get(GetRequest {
+            root: NamedRoot { file, name: *name },
+            path: ".",
+            indented: options.indent,
+        })),
+        (Verb::Get, [name, path]) => Some(Task::Get(GetRequest {
+            root: NamedRoot { file, name: *name },
+            path: *path,
+            indented: options.indent,
+        })),
+        (Verb::Structs, []) => Some(Task::Structs(file)),
+        (Verb::Structs, [name]) => Some(Task::Fields(NamedRoot { file, name: *name })),
+        (Verb::Schemas, []) => Some(Task::Convert(options.strict)),
+        _ => None,
+    }
+}
+
+/// What is asked of a verb with its options. Refused with `OutOfMemory` alone.
+fn read_task<'a>(alloc: Global, verb: Verb, options: &Options<'a>) -> Result<Option<Task<'a>>>
+    ensures asked { IfOk result (λ r. option_map task_seen r ≡ options_asked verb (options_seen options.now)) }
+    ensures memory { IfErr result (λ e. e.kind ≡ OutOfMemory) }
+{
+    if !is_fit(verb, options) {
+        return Ok(None);
+    }
+    match verb {
+        Verb::Patch => match read_calls(alloc, options)? {
+            Some(request) => Ok(Some(Task::Patch(request))),
+            None => Ok(None),
+        },
+        Verb::New => match read_calls(alloc, options)? {
+            Some(request) => Ok(Some(Task::New(request))),
+            None => Ok(None),
+        },
+        Verb::Show | Verb::Get | Verb::Structs | Verb::Schemas => Ok(read_plain(verb, options)),
+    }
+}
+
+/// What is asked of a verb by these words. Refused with `OutOfMemory` alone.
+fn read_behind<'a>(alloc: Global, verb: Verb, words: &'a [String]) -> Result<Read<'a>>
+    ensures asked { IfOk result (λ r. asked_seen r ≡ verb_request verb (map string_bytes words.now)) }
+    ensures memory { IfErr result (λ e. e.kind ≡ OutOfMemory) }
+{
+    let options = match read_options(alloc, words)? {
+        Ok(options) => options,
+        Err(word) => return Ok(Err(Misuse::UnknownOption(verb, word))),
+    };
+    if options.help {
+        return Ok(Ok(Asked::Help(Some(verb))));
+    }
+    if options.waiting.is_some() {
+        return Ok(Err(Misuse::OtherWords(verb)));
+    }
+    match read_task(alloc, verb, &options)? {
+        Some(task) => Ok(Ok(Asked::Task(task))),
+        None => Ok(Err(Misuse::OtherWords(verb))),
+    }
+}
+
+/// What the words after the program's name ask for, or why they ask for nothing:
+///
+/// |words|what is done|
+/// |---|---|
+/// |`show NAME`|a message is shown|
+/// |`get NAME PATH`|a value of a message is shown|
+/// |`patch NAME CALL..`|calls are made on a copy of a message|
+/// |`new NAME CALL..`|calls are made on an empty root|
+/// |`structs`, `structs NAME`|the structs of a set are shown, or the fields of one|
+/// |`schemas`|a compiler's request is made a set|
+/// |`--help`, and behind a verb|help, of all or of the verb|
+/// |`--version`|the version|
+///
+/// Options stand anywhere behind the verb: `--set FILE` but of `schemas`, `--indent` of `show` and `get`, `--calls FILE`,
+/// with no call beside it, and `--keep-going` of `patch` and `new`, `--strict` of `schemas`. Of one that stands twice the
+/// last counts. Refused with `OutOfMemory` alone.
+pub fn read_words<'a>(alloc: Global, words: &'a [String]) -> Result<Read<'a>>
+    ensures asked { IfOk result (λ r. asked_seen r ≡ asked_request (map string_bytes words.now)) }
+    ensures memory { IfErr result (λ e. e.kind ≡ OutOfMemory) }
+{
+    let [first, rest @ ..] = words else {
+        return Ok(Err(Misuse::NoVerb));
+    };
+    let word = first.as_str();
+    if word == "--help" {
+        return Ok(Ok(Asked::Help(None)));
+    }
+    if word == "--version" {
+        return Ok(Ok(Asked::Version));
+    }
+    match read_verb(word) {
+        Some(verb) => read_behind(alloc, verb, rest),
+        None => Ok(Err(Misuse::UnknownVerb(word))),
+    }
+}

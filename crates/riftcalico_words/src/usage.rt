@@ -1,0 +1,188 @@
+//! What the program tells of itself, and of words that ask for nothing.
+ghost use Rattle.std.specs.Prelude.{◌≡◌, ◌++◌, IfErr, IfOk, OnOk, string_bytes};
+ghost use Rattle.capnp_device.specs.declared.error.ErrorKind.TheVariants.{OutOfMemory};
+ghost use Rattle.riftcalico_words.specs.RequestSeen.{fault_seen};
+ghost use Rattle.riftcalico_words.specs.Usage.{fault_text, help_text, unknown_line, verb_help, verb_usage, version_line};
+
+use crate::request::{Misuse, Verb};
+use capnp_device::error::Result;
+use std::alloc::Global;
+
+/// The version of the program.
+pub const VERSION: &str = "riftcalico 0.1.0\n";
+
+const USAGE: &str = "\
+usage: riftcalico show [--set FILE] NAME [--indent]
+       riftcalico get [--set FILE] NAME PATH [--indent]
+       riftcalico patch [--set FILE] [--calls FILE] [--keep-going] NAME CALL..
+       riftcalico new [--set FILE] [--calls FILE] [--keep-going] NAME CALL..
+       riftcalico structs [--set FILE] [NAME]
+       riftcalico schemas [--strict]
+";
+
+const HELP: &str = "\
+Shows, makes and patches Cap'n Proto messages under schemas that are known at run time. Messages are read from standard
+input and written to standard output.
+
+usage: riftcalico show [--set FILE] NAME [--indent]
+       riftcalico get [--set FILE] NAME PATH [--indent]
+       riftcalico patch [--set FILE] [--calls FILE] [--keep-going] NAME CALL..
+       riftcalico new [--set FILE] [--calls FILE] [--keep-going] NAME CALL..
+       riftcalico structs [--set FILE] [NAME]
+       riftcalico schemas [--strict]
+
+More of a verb is told by 'riftcalico VERB --help', the version by 'riftcalico --version'.
+";
+
+const SHOW_USAGE: &str = "\
+usage: riftcalico show [--set FILE] NAME [--indent]
+";
+
+const GET_USAGE: &str = "\
+usage: riftcalico get [--set FILE] NAME PATH [--indent]
+";
+
+const PATCH_USAGE: &str = "\
+usage: riftcalico patch [--set FILE] [--calls FILE] [--keep-going] NAME CALL..
+";
+
+const NEW_USAGE: &str = "\
+usage: riftcalico new [--set FILE] [--calls FILE] [--keep-going] NAME CALL..
+";
+
+const STRUCTS_USAGE: &str = "\
+usage: riftcalico structs [--set FILE] [NAME]
+";
+
+const SCHEMAS_USAGE: &str = "\
+usage: riftcalico schemas [--strict]
+";
+
+const SHOW_HELP: &str = "\
+usage: riftcalico show [--set FILE] NAME [--indent]
+
+Prints the root of the first message as a struct NAME, on one line, or with --indent on several.
+NAME is a struct of the set in FILE, as 'riftcalico schemas' writes it, or else of the built-in set.
+";
+
+const GET_HELP: &str = "\
+usage: riftcalico get [--set FILE] NAME PATH [--indent]
+
+Prints what stands at PATH of the first message's root, a struct NAME. PATH has steps joined by '.': a field's name,
+#3, a field by its number, or 4, an element of a list. '.' alone is the root.
+NAME is a struct of the set in FILE, as 'riftcalico schemas' writes it, or else of the built-in set.
+";
+
+const PATCH_HELP: &str = "\
+usage: riftcalico patch [--set FILE] [--calls FILE] [--keep-going] NAME CALL..
+
+Makes calls on a copy of the first message's root, a struct NAME, and writes the message that they leave.
+A CALL is one word: 'set PATH VALUE', 'init PATH', 'initn PATH N', 'clear PATH', 'get PATH', 'has PATH' or
+'which PATH'. With --calls they are the lines of FILE, but empty ones and those that begin with '#'. With --keep-going
+the message is written also where a call is refused.
+NAME is a struct of the set in FILE, as 'riftcalico schemas' writes it, or else of the built-in set.
+";
+
+const NEW_HELP: &str = "\
+usage: riftcalico new [--set FILE] [--calls FILE] [--keep-going] NAME CALL..
+
+Makes calls on an empty struct NAME, and writes the message that they leave.
+A CALL is one word: 'set PATH VALUE', 'init PATH', 'initn PATH N', 'clear PATH', 'get PATH', 'has PATH' or
+'which PATH'. With --calls they are the lines of FILE, but empty ones and those that begin with '#'. With --keep-going
+the message is written also where a call is refused.
+NAME is a struct of the set in FILE, as 'riftcalico schemas' writes it, or else of the built-in set.
+";
+
+const STRUCTS_HELP: &str = "\
+usage: riftcalico structs [--set FILE] [NAME]
+
+Lists the structs of a set, or the fields of the struct NAME.
+The set is that of FILE, as 'riftcalico schemas' writes it, or else the built-in one.
+";
+
+const SCHEMAS_HELP: &str = "\
+usage: riftcalico schemas [--strict]
+
+Reads a request of the public compiler, as 'capnp compile -o- FILE..' writes it, and writes its set of schemas.
+With --strict floats and interfaces are refused.
+";
+
+/// How a verb is called.
+fn get_verb_usage(verb: Verb) -> &'static str
+    ensures { result.now ≡ verb_usage verb }
+{
+    match verb {
+        Verb::Show => SHOW_USAGE,
+        Verb::Get => GET_USAGE,
+        Verb::Patch => PATCH_USAGE,
+        Verb::New => NEW_USAGE,
+        Verb::Structs => STRUCTS_USAGE,
+        Verb::Schemas => SCHEMAS_USAGE,
+    }
+}
+
+/// What a verb does.
+fn get_verb_help(verb: Verb) -> &'static str
+    ensures { result.now ≡ verb_help verb }
+{
+    match verb {
+        Verb::Show => SHOW_HELP,
+        Verb::Get => GET_HELP,
+        Verb::Patch => PATCH_HELP,
+        Verb::New => NEW_HELP,
+        Verb::Structs => STRUCTS_HELP,
+        Verb::Schemas => SCHEMAS_HELP,
+    }
+}
+
+/// What the program does, or one verb.
+pub fn get_help(verb: Option<Verb>) -> &'static str
+    ensures { result.now ≡ help_text verb }
+{
+    match verb {
+        Some(verb) => get_verb_help(verb),
+        None => HELP,
+    }
+}
+
+/// The version of the program, as a line.
+pub fn get_version() -> &'static str
+    ensures { result.now ≡ version_line }
+{
+    VERSION
+}
+
+/// Appends a line of what is unknown.
+fn put_unknown(text: &mut String, noun: &str, word: &str) -> Result<()>
+    ensures put { OnOk result (string_bytes text.new ≡ string_bytes text.old ++ unknown_line noun.now word.now) }
+    ensures memory { IfErr result (λ e. e.kind ≡ OutOfMemory) }
+{
+    text.push_str("unknown ")?;
+    text.push_str(noun)?;
+    text.push_str(": ")?;
+    text.push_str(word)?;
+    text.push_str("\n")?;
+    Ok(())
+}
+
+/// What is told of words that ask for nothing: the word that is unknown, if one is, and how the program or the verb is
+/// called. Refused with `OutOfMemory` alone.
+pub fn get_misuse(alloc: Global, misuse: Misuse<'_>) -> Result<String>
+    ensures told { IfOk result (λ text. string_bytes text ≡ fault_text (fault_seen misuse.entry)) }
+    ensures memory { IfErr result (λ e. e.kind ≡ OutOfMemory) }
+{
+    let mut text = String::new(alloc);
+    match misuse {
+        Misuse::NoVerb => text.push_str(USAGE)?,
+        Misuse::UnknownVerb(word) => {
+            put_unknown(&mut text, "verb", word)?;
+            text.push_str(USAGE)?;
+        }
+        Misuse::UnknownOption(verb, word) => {
+            put_unknown(&mut text, "option", word)?;
+            text.push_str(get_verb_usage(verb))?;
+        }
+        Misuse::OtherWords(verb) => text.push_str(get_verb_usage(verb))?,
+    }
+    Ok(text)
+}
