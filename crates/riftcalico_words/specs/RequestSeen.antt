@@ -1,11 +1,9 @@
 -- Requests as the code has them.
 use Rattle.std.specs.Prelude.{ℕ, List, map, Result, Ok, Err}
 use Rattle.std.specs.Option.{option_map}
-use Rattle.riftcalico_words.specs.Requests.{AskedRequest, Request, WordFault, help_request, no_verb, other_words, task_request, unknown_option, unknown_verb, version_request}
+use Rattle.riftcalico_words.specs.Requests.{AskedRequest, WordFault, no_verb, other_words, unknown_option, unknown_verb}
 use Rattle.riftcalico_words.specs.Tasks as tasks
-use Rattle.riftcalico_words.specs.Tasks.{CallsTask, GetTask, GivenCalls, Root, convert_task, fields_task, get_task, in_lines, in_words, new_task, patch_task, structs_task}
-use Rattle.riftcalico_words.specs.declared.request.Asked.{Asked}
-use Rattle.riftcalico_words.specs.declared.request.Asked.TheVariants as asked
+use Rattle.riftcalico_words.specs.Tasks.{CallsTask, GetTask, GivenCalls, Root, convert_task, fields_task, get_task, help_task, in_lines, in_words, new_task, patch_task, structs_task, version_task}
 use Rattle.riftcalico_words.specs.declared.request.CallWords.{CallWords}
 use Rattle.riftcalico_words.specs.declared.request.CallWords.TheVariants as words
 use Rattle.riftcalico_words.specs.declared.request.CallsRequest.{CallsRequest}
@@ -36,11 +34,8 @@ task_seen (task.New r) = new_task (calls_task_of r)
 task_seen (task.Structs file) = structs_task (option_map (λ f. f.now) file)
 task_seen (task.Fields r) = fields_task (root_named r)
 task_seen (task.Convert strict) = convert_task strict
-
-abbrev pub request_seen : Asked → Request
-request_seen (asked.«Task» t) = task_request (task_seen t)
-request_seen (asked.Help v) = help_request v
-request_seen asked.Version = version_request
+task_seen (task.Help v) = help_task v
+task_seen task.Version = version_task
 
 abbrev pub fault_seen : Misuse → WordFault
 fault_seen misuse.NoVerb = no_verb
@@ -48,6 +43,6 @@ fault_seen (misuse.UnknownVerb word) = unknown_verb word.now
 fault_seen (misuse.UnknownOption v word) = unknown_option v word.now
 fault_seen (misuse.OtherWords v) = other_words v
 
-abbrev pub asked_seen : Result Asked Misuse → AskedRequest
-asked_seen (Ok a) = Ok (request_seen a)
+abbrev pub asked_seen : Result Task Misuse → AskedRequest
+asked_seen (Ok t) = Ok (task_seen t)
 asked_seen (Err m) = Err (fault_seen m)

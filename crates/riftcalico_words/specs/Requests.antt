@@ -2,17 +2,11 @@
 use Rattle.std.specs.Prelude.{ℕ, List, [], ◌∷◌, Bool, true, false, not, ◌&&◌, Option, Some, None, Result, Ok, Err, is_none, is_some, codes, bytes_eq, if◌then◌else◌}
 use Rattle.std.specs.Option.{option_map}
 use Rattle.riftcalico_words.specs.Options.{WordOptions, no_options, options_read}
-use Rattle.riftcalico_words.specs.Tasks.{CallsTask, GivenCalls, Task, convert_task, fields_task, get_task, in_lines, in_words, new_task, patch_task, structs_task}
+use Rattle.riftcalico_words.specs.Tasks.{CallsTask, GivenCalls, Task, convert_task, fields_task, get_task, help_task, in_lines, in_words, new_task, patch_task, structs_task, version_task}
 use Rattle.riftcalico_words.specs.declared.request.Verb.{Verb}
 use Rattle.riftcalico_words.specs.declared.request.Verb.TheVariants as verb
 
--- what words ask for: a task, help, of all or of a verb, or the version
-pub data Request : Type 0 where
-  task_request : Task → Request
-  help_request : Option Verb → Request
-  version_request : Request
-
--- why they ask for nothing
+-- why words ask for nothing
 pub data WordFault : Type 0 where
   no_verb : WordFault
   unknown_verb : (word : List ℕ) → WordFault
@@ -20,7 +14,7 @@ pub data WordFault : Type 0 where
   other_words : Verb → WordFault
 
 abbrev pub AskedRequest : Type 0
-AskedRequest = Result Request WordFault
+AskedRequest = Result Task WordFault
 
 abbrev pub verb_of : List ℕ → Option Verb
 verb_of word =
@@ -93,14 +87,14 @@ options_asked v o = elim (is_fitting v o) [ true ↦ verb_asked v o | false ↦ 
 -- with help among the options that is asked for, and an option of a file needs its path
 abbrev pub task_or_fault : Verb → Option Task → AskedRequest
 task_or_fault v None = Err (other_words v)
-task_or_fault v (Some t) = Ok (task_request t)
+task_or_fault v (Some t) = Ok t
 
 abbrev pub waited_request : (waits : Bool) → Verb → WordOptions → AskedRequest
 waited_request true v o = Err (other_words v)
 waited_request false v o = task_or_fault v (options_asked v o)
 
 abbrev pub helped_request : (help : Bool) → Verb → WordOptions → AskedRequest
-helped_request true v o = Ok (help_request (Some v))
+helped_request true v o = Ok (help_task (Some v))
 helped_request false v o = waited_request (is_some o.waiting) v o
 
 abbrev pub read_request : Verb → Result WordOptions (List ℕ) → AskedRequest
@@ -118,6 +112,6 @@ first_request word (Some v) words = verb_request v words
 abbrev pub asked_request : List (List ℕ) → AskedRequest
 asked_request [] = Err no_verb
 asked_request (first ∷ words) =
-    if bytes_eq first (codes "--help") then Ok (help_request None)
-    else if bytes_eq first (codes "--version") then Ok version_request
+    if bytes_eq first (codes "--help") then Ok (help_task None)
+    else if bytes_eq first (codes "--version") then Ok version_task
     else first_request first (verb_of first) words

@@ -1,5 +1,6 @@
 -- What the program may be asked for.
 use Rattle.std.specs.Prelude.{ℕ, List, Bool, Option}
+use Rattle.riftcalico_words.specs.declared.request.Verb.{Verb}
 
 -- a struct by its name, in the set that a file holds, or else in the built-in one
 pub record Root : Type 0 where
@@ -24,7 +25,8 @@ pub record CallsTask : Type 0 where
   pub keep_going : Bool
 
 -- A value is shown, calls are made on a copy of a message or on an empty root, the structs of a set are shown, in the set of a
--- file or else in the built-in one, or the fields of a struct, or a compiler's request is made a set.
+-- file or else in the built-in one, or the fields of a struct, a compiler's request is made a set, or
+-- help is told, of all or of a verb, or the version.
 pub data Task : Type 0 where
   get_task : GetTask → Task
   patch_task : CallsTask → Task
@@ -32,3 +34,5 @@ pub data Task : Type 0 where
   structs_task : (file : Option (List ℕ)) → Task
   fields_task : Root → Task
   convert_task : (strict : Bool) → Task
+  help_task : Option Verb → Task
+  version_task : Task

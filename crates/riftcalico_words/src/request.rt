@@ -72,15 +72,9 @@ pub enum Task<'a> {
     Fields(NamedRoot<'a>),
     /// The set of a compiler's request; whether floats and interfaces are refused.
     Convert(bool),
-}
-
-/// What the words ask for.
-#[derive(Drop)]
-pub enum Asked<'a> {
-    Task(Task<'a>),
-    /// What can be done, or how one verb is called.
+    /// What can be done is told, or how one verb is called.
     Help(Option<Verb>),
-    /// The version of the program.
+    /// The version of the program is told.
     Version,
 }
 
@@ -98,7 +92,7 @@ pub enum Misuse<'a> {
 }
 
 /// What words ask for, or why they ask for nothing.
-pub type Read<'a> = std::result::Result<Asked<'a>, Misuse<'a>>;
+pub type Asked<'a> = std::result::Result<Task<'a>, Misuse<'a>>;
 
 /// What is done, by its word.
 fn read_verb(word: &str) -> Option<Verb>
@@ -233,7 +227,7 @@ fn read_task<'a>(alloc: Global, verb: Verb, options: &Options<'a>) -> Result<Opt
 }
 
 /// What is asked of a verb by these words. Refused with `OutOfMemory` alone.
-fn read_behind<'a>(alloc: Global, verb: Verb, words: &'a [String]) -> Result<Read<'a>>
+fn read_behind<'a>(alloc: Global, verb: Verb, words: &'a [String]) -> Result<Asked<'a>>
     ensures asked { IfOk result (λ r. asked_seen r ≡ verb_request verb (map string_bytes words.now)) }
     ensures memory { IfErr result (λ e. e.kind ≡ OutOfMemory) }
 {
@@ -242,13 +236,13 @@ fn read_behind<'a>(alloc: Global, verb: Verb, words: &'a [String]) -> Result<Rea
         Err(word) => return Ok(Err(Misuse::UnknownOption(verb, word))),
     };
     if options.help {
-        return Ok(Ok(Asked::Help(Some(verb))));
+        return Ok(Ok(Task::Help(Some(verb))));
     }
     if options.waiting.is_some() {
         return Ok(Err(Misuse::OtherWords(verb)));
     }
     match read_task(alloc, verb, &options)? {
-        Some(task) => Ok(Ok(Asked::Task(task))),
+        Some(task) => Ok(Ok(task)),
         None => Ok(Err(Misuse::OtherWords(verb))),
     }
 }
@@ -269,7 +263,7 @@ fn read_behind<'a>(alloc: Global, verb: Verb, words: &'a [String]) -> Result<Rea
 /// Options stand anywhere behind the verb: `--set FILE` but of `schemas`, `--indent` of `show` and `get`, `--calls FILE`,
 /// with no call beside it, and `--keep-going` of `patch` and `new`, `--strict` of `schemas`. Of one that stands twice the
 /// last counts. Refused with `OutOfMemory` alone.
-pub fn read_words<'a>(alloc: Global, words: &'a [String]) -> Result<Read<'a>>
+pub fn read_words<'a>(alloc: Global, words: &'a [String]) -> Result<Asked<'a>>
     ensures asked { IfOk result (λ r. asked_seen r ≡ asked_request (map string_bytes words.now)) }
     ensures memory { IfErr result (λ e. e.kind ≡ OutOfMemory) }
 {
@@ -278,10 +272,10 @@ pub fn read_words<'a>(alloc: Global, words: &'a [String]) -> Result<Read<'a>>
     };
     let word = first.as_str();
     if word == "--help" {
-        return Ok(Ok(Asked::Help(None)));
+        return Ok(Ok(Task::Help(None)));
     }
     if word == "--version" {
-        return Ok(Ok(Asked::Version));
+        return Ok(Ok(Task::Version));
     }
     match read_verb(word) {
         Some(verb) => read_behind(alloc, verb, rest),

@@ -3,11 +3,11 @@ use Rattle.std.proofs.Common.{◌≡◌, drop, map}
 use Rattle.capnp_records.specs.Run.{root_type}
 use Rattle.capnp_schema.specs.StructHandles.{number_of, set_of}
 use Rattle.capnp_words.specs.Seen.{call_text_seen}
-use Rattle.riftcalico_engine.specs.Calls.{call_read}
-use Rattle.riftcalico_engine.specs.CallsSeen.{read_call_seen}
-use Rattle.riftcalico_engine.specs.Reads.{each_word_read}
-use Rattle.riftcalico_engine.proofs.Each.{behind}
-use Rattle.riftcalico_engine.proofs.calls.read_all_calls.Given as goal
+use Rattle.riftcalico_core.specs.Calls.{call_read}
+use Rattle.riftcalico_core.specs.CallsSeen.{read_call_seen}
+use Rattle.riftcalico_core.specs.Reads.{each_word_read}
+use Rattle.riftcalico_core.proofs.Each.{behind}
+use Rattle.riftcalico_core.proofs.calls.read_all_calls.Given as goal
 
 abbrev pub invariant-loop-index : goal.invariant-loop-index
 invariant-loop-index l =

@@ -11,11 +11,11 @@ use Rattle.capnp_records.specs.Run.{root_type}
 use Rattle.capnp_schema.specs.StructHandles.{number_of, set_of}
 use Rattle.capnp_schema.specs.declared.schema.structs.StructSchema.{StructSchema}
 use Rattle.capnp_words.specs.Calls.{CallText}
-use Rattle.riftcalico_engine.specs.Calls.{call_read, source_taken, split, with_step}
-use Rattle.riftcalico_engine.specs.Reads.{each_word_read}
-use Rattle.riftcalico_engine.specs.Words.{AreCalls}
-use Rattle.riftcalico_engine.specs.Steps.Words.{AreMadeOf}
-use Rattle.riftcalico_engine.specs.CallsSeen.{word_value_source}
+use Rattle.riftcalico_core.specs.Calls.{call_read, source_taken, split, with_step}
+use Rattle.riftcalico_core.specs.Reads.{each_word_read}
+use Rattle.riftcalico_core.specs.Words.{AreCalls}
+use Rattle.riftcalico_core.specs.Steps.Words.{AreMadeOf}
+use Rattle.riftcalico_core.specs.CallsSeen.{word_value_source}
 
 -- a value is given by its type
 pub source_is : (v : PlainValue) → source_taken (word_value_type v) (word_value_seen v) ≡ word_value_source v

@@ -7,10 +7,10 @@ use Rattle.capnp_records.specs.Call.{BoolSource, Call, DataSource, EnumSource, I
 use Rattle.capnp_words.specs.Seen.{op_text_seen}
 use Rattle.capnp_words.specs.declared.value.PlainValue.{PlainValue}
 use Rattle.capnp_words.specs.declared.value.PlainValue.TheVariants as plain
-use Rattle.riftcalico_engine.specs.Calls.{op_given, placed_call}
-use Rattle.riftcalico_engine.specs.Reads.{Reads}
-use Rattle.riftcalico_engine.specs.declared.calls.ReadCall.{ReadCall}
-use Rattle.riftcalico_engine.specs.declared.calls.Unreadable.{Unreadable}
+use Rattle.riftcalico_core.specs.Calls.{op_given, placed_call}
+use Rattle.riftcalico_core.specs.Reads.{Reads}
+use Rattle.riftcalico_core.specs.declared.calls.ReadCall.{ReadCall}
+use Rattle.riftcalico_core.specs.declared.calls.Unreadable.{Unreadable}
 
 -- a value as it is given to a set
 abbrev pub word_value_source : PlainValue → Source

@@ -1,5 +1,5 @@
 //! Calls that words say, under a struct of a set.
-ghost use Rattle.std.specs.Prelude.{[], ◌≡◌, ◌+◌, ◌<◌, IfErr, IfOk, length, map, string_bytes};
+ghost use Rattle.std.specs.Prelude.{[], ◌≡◌, ◌+◌, ◌<◌, IfErr, IfOk, length, map};
 ghost use Rattle.capnp_device.specs.declared.error.ErrorKind.TheVariants.{OutOfMemory};
 ghost use Rattle.capnp_schema.specs.StructHandles.{IsStruct, number_of, set_of};
 ghost use Rattle.capnp_records.specs.Run.{root_type};
@@ -8,9 +8,9 @@ ghost use Rattle.capnp_words.specs.Calls.{call_at, Set};
 ghost use Rattle.capnp_words.specs.Reads.{read_as};
 ghost use Rattle.capnp_words.specs.Seen as said;
 ghost use Rattle.capnp_words.specs.Targets.{type_along};
-ghost use Rattle.riftcalico_engine.specs.Calls.{call_read, op_given, placed_call, source_given, split};
-ghost use Rattle.riftcalico_engine.specs.CallsSeen.{all_seen, word_value_source, read_call_seen};
-ghost use Rattle.riftcalico_engine.specs.Reads.{each_word_read};
+ghost use Rattle.riftcalico_core.specs.Calls.{call_read, op_given, placed_call, source_given, split};
+ghost use Rattle.riftcalico_core.specs.CallsSeen.{all_seen, word_value_source, read_call_seen};
+ghost use Rattle.riftcalico_core.specs.Reads.{each_word_read};
 
 use capnp_call::calls::{Call, Op, Step};
 use capnp_schema::schema::StructSchema;
@@ -40,15 +40,15 @@ pub struct ReadCall<'s, 'c> {
 }
 
 /// The calls that words say, or the first word that says none. Refused with `OutOfMemory` alone.
-pub fn read_calls(alloc: Global, words: &[String]) -> Result<Read<Vec<CallWord>>>
-    ensures read { IfOk result (λ r. all_seen said.call_text_seen r ≡ each_word_read call_at 0 (map string_bytes words.now)) }
+pub fn read_calls(alloc: Global, words: &[&str]) -> Result<Read<Vec<CallWord>>>
+    ensures read { IfOk result (λ r. all_seen said.call_text_seen r ≡ each_word_read call_at 0 (map (λ w. w.now) words.now)) }
     ensures count { IfOk result (λ r. IfOk r (λ calls. length calls.items ≡ length words.now)) }
     ensures inside { IfOk result (λ r. IfErr r (λ at. at.index < length words.now)) }
     ensures memory { IfErr result (λ e. e.kind ≡ OutOfMemory) }
 {
     let mut calls = Vec::new(alloc);
     for index in 0..words.len() {
-        match parse_call(alloc, words[index].as_str())? {
+        match parse_call(alloc, words[index])? {
             Ok(call) => calls.push(call)?,
             Err(place) => {
                 let place = place as u128;

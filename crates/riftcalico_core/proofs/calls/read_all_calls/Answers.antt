@@ -3,10 +3,10 @@ use Rattle.std.proofs.Common.{◌∙◌, rules}
 use Rattle.capnp_records.specs.Run.{root_type}
 use Rattle.capnp_schema.specs.StructHandles.{number_of, set_of}
 use Rattle.capnp_words.specs.Seen.{call_text_seen}
-use Rattle.riftcalico_engine.specs.Calls.{call_read}
-use Rattle.riftcalico_engine.specs.CallsSeen.{read_call_seen}
-use Rattle.riftcalico_engine.proofs.Each.{goes_on}
-use Rattle.riftcalico_engine.proofs.calls.read_all_calls.Goals as goal
+use Rattle.riftcalico_core.specs.Calls.{call_read}
+use Rattle.riftcalico_core.specs.CallsSeen.{read_call_seen}
+use Rattle.riftcalico_core.proofs.Each.{goes_on}
+use Rattle.riftcalico_core.proofs.calls.read_all_calls.Goals as goal
 
 pub loop-index-preserved : goal.loop-index-preserved
 loop-index-preserved c =

@@ -10,9 +10,9 @@ use Rattle.capnp_slots.specs.SetValues.{source_of as given_source}
 use Rattle.capnp_words.specs.Seen.{word_value_seen, word_value_type}
 use Rattle.capnp_words.specs.declared.value.PlainValue.{PlainValue}
 use Rattle.capnp_words.specs.declared.value.PlainValue.TheVariants as plain
-use Rattle.riftcalico_engine.specs.Calls.{source_taken}
-use Rattle.riftcalico_engine.specs.CallsSeen.{word_value_source}
-use Rattle.riftcalico_engine.proofs.CallsGiven.{source_is}
+use Rattle.riftcalico_core.specs.Calls.{source_taken}
+use Rattle.riftcalico_core.specs.CallsSeen.{word_value_source}
+use Rattle.riftcalico_core.proofs.CallsGiven.{source_is}
 
 abbrev is_plain : SchemaType → Bool
 is_plain (StructType b g) = false

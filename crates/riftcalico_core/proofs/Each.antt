@@ -2,7 +2,7 @@
 use Rattle.std.proofs.Common.{ℕ, suc, ◌+◌, ◌<◌, List, [], ◌∷◌, ◌++◌, Ok, Err, drop, get_or, length, map, ◌≡◌, ◌∙◌, ap, append_assoc, arith, refl, sym}
 use Rattle.std.proofs.lemmas.List.{drop_more, map-append}
 use Rattle.capnp_words.specs.Reads.{Read}
-use Rattle.riftcalico_engine.specs.Reads.{Reads, at_word, each_word_read, joined_reads}
+use Rattle.riftcalico_core.specs.Reads.{Reads, at_word, each_word_read, joined_reads}
 
 -- those that are read before
 abbrev pub behind : {A : Type 0} → List A → Reads (List A) → Reads (List A)

@@ -2,8 +2,8 @@
 use Rattle.std.proofs.Common.{◌∙◌, ap}
 use Rattle.std.specs.Str.Lossy.{utf8_valid_len}
 use Rattle.capnp_show_engine.specs.Facts.Opening.{one_asked}
-use Rattle.riftcalico_engine.specs.Words.{no_text_line}
-use Rattle.riftcalico_engine.proofs.words.read_lines.Goals as goal
+use Rattle.riftcalico_core.specs.Words.{no_text_line}
+use Rattle.riftcalico_core.proofs.words.read_lines.Goals as goal
 
 pub returns-clause-lines : goal.returns-clause-lines
 returns-clause-lines g c = record {
