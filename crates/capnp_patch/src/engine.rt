@@ -20,8 +20,13 @@ use capnp_wire::message::Reader;
 use capnp_wire::transfer::read_all;
 use std::alloc::Global;
 
-/// Makes calls on a copy of the root of the first message in these bytes.
-fn run_bytes(
+/// Makes calls on a copy of the root of the first message in these bytes, read as a struct of the schema, which is one of
+/// an accepted set. What follows the message is not looked at.
+///
+/// Refused with `OutOfMemory`, as the message is (`Truncated`, `TooManySegments`), with `BadPointer`, `TooDeep` or
+/// `CapabilityPointer` where a pointer in it can't be followed, by the first of these in preorder, and with
+/// `WrongPointerKind` where its root is a list.
+pub fn run_bytes(
     alloc: Global,
     bytes: &[u8],
     schema: StructSchema<'_>,
@@ -76,13 +81,13 @@ fn finish<W: Sink>(
     alloc: Global,
     message: &Builder,
     replies: Vec<Reply>,
-    words: &[String],
+    words: &[&str],
     keep_going: bool,
     sink: &mut W,
 ) -> Result<Report>
     requires { IsMessage message.now }
     ensures replies { IfOk result (λ r. r.replies.items ≡ replies.items) }
-    ensures lines { IfOk result (λ r. AreTold 0 (map string_bytes words.now) r.replies.items []
+    ensures lines { IfOk result (λ r. AreTold 0 (map (λ w. w.now) words.now) r.replies.items []
         (string_bytes r.lines)) }
     ensures output { OnOk result (IsOutput (is_kept keep_going replies.items) (message_tree message.now)
         (W.written sink.old) (W.written sink.new)) }
@@ -114,7 +119,7 @@ pub fn patch<R: Source, W: Sink>(
     alloc: Global,
     schema: StructSchema<'_>,
     calls: &[Call<'_>],
-    words: &[String],
+    words: &[&str],
     keep_going: bool,
     source: &mut R,
     sink: &mut W,
@@ -123,7 +128,7 @@ pub fn patch<R: Source, W: Sink>(
     ensures patched { IfOk result (λ r. IsPatched schema.entry calls.now keep_going r.replies.items (R.left source.old)
         (R.left source.new)
         (W.written sink.old) (W.written sink.new)) }
-    ensures lines { IfOk result (λ r. AreTold 0 (map string_bytes words.now) r.replies.items []
+    ensures lines { IfOk result (λ r. AreTold 0 (map (λ w. w.now) words.now) r.replies.items []
         (string_bytes r.lines)) }
     ensures unwritten { IfOk result (λ r. is_kept keep_going r.replies.items ≡ false → sink.new ≡ sink.old) }
     ensures refused { IfErr result (λ e. IsOfMessage e.kind
@@ -150,14 +155,14 @@ pub fn new_message<W: Sink>(
     alloc: Global,
     schema: StructSchema<'_>,
     calls: &[Call<'_>],
-    words: &[String],
+    words: &[&str],
     keep_going: bool,
     sink: &mut W,
 ) -> Result<Report>
     requires { IsStruct schema }
     ensures made { IfOk result (λ r. IsMade schema.entry calls.now keep_going r.replies.items (W.written sink.old)
         (W.written sink.new)) }
-    ensures lines { IfOk result (λ r. AreTold 0 (map string_bytes words.now) r.replies.items []
+    ensures lines { IfOk result (λ r. AreTold 0 (map (λ w. w.now) words.now) r.replies.items []
         (string_bytes r.lines)) }
     ensures unwritten { IfOk result (λ r. is_kept keep_going r.replies.items ≡ false → sink.new ≡ sink.old) }
     ensures refused { IfErr result (λ e. e.kind ≢ OutOfMemory → e.kind ≡ WriteFailed) }

@@ -46,8 +46,12 @@ fn put_text_at_path(
     print(part, out, indented)
 }
 
-/// The text of what stands at a path of the first message in these bytes, and a line break.
-fn get_line(
+/// The text of what stands at a path of the first message in these bytes, and a line break. The schema is one of an
+/// accepted set.
+///
+/// Refused with `OutOfMemory`, as the message is (`Truncated`, `TooManySegments`), as its root is where it can't be read
+/// as a struct, as `crate::reach::read_path`, and with the number of the first value of the text that can't be read.
+pub fn get_line(
     alloc: Global,
     schema: StructSchema<'_>,
     path: &[Step<'_>],

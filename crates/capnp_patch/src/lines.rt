@@ -117,11 +117,11 @@ fn put_line(lines: &mut String, number: u64, word: &str, reply: &Reply) -> Resul
 }
 
 /// The word of the call at an index, empty where none is given.
-fn word_at(words: &[String], index: usize) -> &str
-    ensures { result.now ≡ get_or (map string_bytes words.now) index [] }
+fn word_at<'a>(words: &[&'a str], index: usize) -> &'a str
+    ensures { result.now ≡ get_or (map (λ w. w.now) words.now) index [] }
 {
     match words.get(index) {
-        Some(word) => word.as_str(),
+        Some(word) => *word,
         None => "",
     }
 }
@@ -129,8 +129,8 @@ fn word_at(words: &[String], index: usize) -> &str
 /// A line for each reply that answers or refuses, in order: the number of its call, from 1 on, the call's word, and the
 /// answer or the refusal's number and name. A call that no word is given for is told with an empty one. Refused with
 /// `OutOfMemory` alone.
-pub fn get_lines(alloc: Global, words: &[String], replies: &[Reply]) -> Result<String>
-    ensures lines { IfOk result (λ lines. AreTold 0 (map string_bytes words.now) replies.now [] (string_bytes lines)) }
+pub fn get_lines(alloc: Global, words: &[&str], replies: &[Reply]) -> Result<String>
+    ensures lines { IfOk result (λ lines. AreTold 0 (map (λ w. w.now) words.now) replies.now [] (string_bytes lines)) }
     ensures memory { IfErr result (λ e. e.kind ≡ OutOfMemory) }
 {
     let mut lines = String::new(alloc);

@@ -20,9 +20,11 @@ use std::alloc::Global;
 
 /// What is written and told of a request.
 #[derive(Drop)]
-struct Made {
-    message: Vec<u8>,
-    lines: String,
+pub struct Made {
+    /// The message of its set.
+    pub message: Vec<u8>,
+    /// A line for each note on the set.
+    pub lines: String,
 }
 
 /// What the request in these bytes is converted to.
@@ -56,8 +58,13 @@ fn make(alloc: Global, converted: Converted) -> Result<Made>
     Ok(Made { message, lines })
 }
 
-/// The message of the set of the request in these bytes, and the lines of its notes.
-fn make_of(alloc: Global, bytes: &[u8], strict: bool) -> Result<Made>
+/// The message of the set that the root of the first message in these bytes stands for, a compiler's request, and a line
+/// for each note. Where `strict` says so, floats and interfaces are refused.
+///
+/// Refused with `OutOfMemory`, as the request's stream is (`Truncated`, `TooManySegments`), as its root is where it can't
+/// be read as a struct (`BadPointer`, `WrongPointerKind`, `CapabilityPointer`), as `read_request`, as `SchemaSet::new`
+/// with a rule that the lists break, or as `write_set`.
+pub fn convert_bytes(alloc: Global, bytes: &[u8], strict: bool) -> Result<Made>
     ensures made { IfOk result (λ m. IsSetOf strict bytes.now m.message.items (string_bytes m.lines)) }
     ensures refused { IfErr result (λ e. e.kind ≢ OutOfMemory → HasNoSet strict bytes.now e) }
     ensures of_no_device { IfErr result (λ e. IsOfRead e.kind) }
@@ -98,7 +105,7 @@ pub fn convert<R: Source, W: Sink, F: Sink>(
     ensures quiet { OnErr result (errors.new ≡ errors.old) }
 {
     let bytes = read_all(alloc, source)?;
-    let made = make_of(alloc, &bytes, strict)?;
+    let made = convert_bytes(alloc, &bytes, strict)?;
     write_all(sink, &made.message)?;
     tell(made.lines.as_bytes(), errors);
     Ok(())

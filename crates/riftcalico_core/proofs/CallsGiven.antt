@@ -44,26 +44,3 @@ pub split_seen : {S : Type 0} (seen : S → PathStep) (op : Op) (steps path : Li
     record { path = map seen path; last = seen last; op = op } ≡ split (map seen steps) op
 split_seen {S} seen op steps path last e =
     sym (ap (λ (xs : List S). split (map seen xs) op) e ∙ (ap (λ (xs : List PathStep). split xs op) (map-append seen path (last ∷ [])) ∙ split_last op (map seen path) (seen last)))
-
--- calls that were read under a schema, as they are made
-pub calls_are : (schema : StructSchema) (texts : List CallText) (calls : List MadeCall) (read : List Call) (so : StructSchema → List MadeCall → Type 0) →
-    Ok read ≡ each_word_read (call_read (set_of schema) (root_type (set_of schema) (number_of schema))) 0 texts → map call_seen calls ≡ read → so schema calls →
-    AreCalls (set_of schema) (number_of schema) texts so
-calls_are schema texts calls read so said made is = record {
-  schema = schema;
-  of_set = refl;
-  of_struct = refl;
-  calls = calls;
-  read = sym said ∙ ap Ok (sym made);
-  are_so = is;
-}
-
--- what is so of calls that were read is so of calls under the schema
-pub under_schema : (schema : StructSchema) (texts : List CallText) (read : List Call) (so : StructSchema → List MadeCall → Type 0) →
-    Ok read ≡ each_word_read (call_read (set_of schema) (root_type (set_of schema) (number_of schema))) 0 texts → AreMadeOf read (so schema) → AreCalls (set_of schema) (number_of schema) texts so
-under_schema schema texts read so said made = calls_are schema texts made.calls read so said made.are made.are_so
-
--- the same of calls that are those
-pub under_seen : (schema : StructSchema) (texts : List CallText) (given read : List Call) (so : StructSchema → List MadeCall → Type 0) → given ≡ read →
-    Ok read ≡ each_word_read (call_read (set_of schema) (root_type (set_of schema) (number_of schema))) 0 texts → AreMadeOf given (so schema) → AreCalls (set_of schema) (number_of schema) texts so
-under_seen schema texts given read so same said made = under_schema schema texts given so (ap Ok same ∙ said) made

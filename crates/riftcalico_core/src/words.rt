@@ -1,8 +1,8 @@
 //! Words that are the lines of a file, and words that can't be read.
-ghost use Rattle.std.specs.Prelude.{[], ◌≡◌, ◌+◌, ◌<◌, string_bytes, get_or, IfErr, IfOk, length, map};
+ghost use Rattle.std.specs.Prelude.{[], ◌≡◌, string_bytes, get_or, IfErr, IfOk, map};
 ghost use Rattle.capnp_device.specs.declared.error.ErrorKind.TheVariants.{OutOfMemory};
 ghost use Rattle.riftcalico_core.specs.Reads.{line_at, unreadable_line};
-ghost use Rattle.riftcalico_core.specs.Scripts.{call_lines, is_remark, no_text_line};
+ghost use Rattle.riftcalico_core.specs.Plans.{call_lines, is_remark, no_text_line};
 
 use crate::calls::Unreadable;
 use capnp_wire::error::Result;
@@ -10,7 +10,7 @@ use std::alloc::Global;
 
 /// The line of a word that can't be read: its number among the words of its kind, the word, and the place of the first
 /// byte that can't stand. Refused with `OutOfMemory` alone.
-pub fn put_unreadable(alloc: Global, number: u64, word: &str, place: u128) -> Result<String>
+pub(crate) fn put_unreadable(alloc: Global, number: u128, word: &str, place: u128) -> Result<String>
     ensures line { IfOk result (λ line. string_bytes line ≡ unreadable_line number word.now place) }
     ensures memory { IfErr result (λ e. e.kind ≡ OutOfMemory) }
 {
@@ -28,13 +28,12 @@ fn word_at<'a>(words: &[&'a str], index: usize) -> &'a str
 }
 
 /// The line of one of these words. Refused with `OutOfMemory` alone.
-pub fn put_word_line(alloc: Global, words: &[&str], at: Unreadable) -> Result<String>
-    requires { at.index < length words.now }
+pub(crate) fn put_word_line(alloc: Global, words: &[&str], at: Unreadable) -> Result<String>
     ensures line { IfOk result (λ line. string_bytes line
         ≡ line_at (map (λ w. w.now) words.now) (at.index, at.place)) }
     ensures memory { IfErr result (λ e. e.kind ≡ OutOfMemory) }
 {
-    let number = at.index as u64 + 1;
+    let number = at.index as u128 + 1;
     put_unreadable(alloc, number, word_at(words, at.index), at.place)
 }
 
@@ -49,7 +48,7 @@ fn is_remark_line(line: &str) -> bool
 }
 
 /// The lines of a text that have calls. Refused with `OutOfMemory` alone.
-pub fn split_lines(alloc: Global, text: &str) -> Result<Vec<&str>>
+pub(crate) fn split_lines(alloc: Global, text: &str) -> Result<Vec<&str>>
     ensures lines { IfOk result (λ words. map (λ w. w.now) words.items ≡ call_lines text.now) }
     ensures memory { IfErr result (λ e. e.kind ≡ OutOfMemory) }
 {
@@ -64,7 +63,7 @@ pub fn split_lines(alloc: Global, text: &str) -> Result<Vec<&str>>
 
 /// The line of a file whose bytes are no text: its path, and the place of the first byte that no character has. Refused
 /// with `OutOfMemory` alone.
-pub fn put_no_text(alloc: Global, path: &str, place: usize) -> Result<String>
+pub(crate) fn put_no_text(alloc: Global, path: &str, place: usize) -> Result<String>
     ensures line { IfOk result (λ line. string_bytes line ≡ no_text_line path.now place) }
     ensures memory { IfErr result (λ e. e.kind ≡ OutOfMemory) }
 {

@@ -1,11 +1,4 @@
-pub mod Calls
-pub mod CallsSeen
-pub mod Command
-pub mod Ended
-pub mod LinesSeen
-pub mod Listed
-pub mod Reads
-pub mod RequestSeen
-pub mod Roots
-pub mod Words
-pub mod Steps
+pub mod Files
+pub mod Outputs
+pub mod Programs
+pub mod Runs

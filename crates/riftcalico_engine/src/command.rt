@@ -1,45 +1,64 @@
 //! What the program does with its words.
-ghost use Rattle.std.specs.Prelude.{◌≡◌, ◌≤◌, ⊤, None, Some, map, string_bytes};
-ghost use Rattle.capnp_show_engine.specs.Command.{IsTold};
+ghost use Rattle.std.specs.Prelude.{◌≡◌, ⊤, Ok, map, string_bytes};
 ghost use Rattle.capnp_show_engine.specs.declared.opener.FilesOpener.{FilesOpener as OfFiles};
 ghost use Rattle.capnp_show_engine.specs.Opened.{AsksAmong};
-ghost use Rattle.riftcalico_engine.specs.Command.{Task, asked_task, paths_of, usage_lines};
-ghost use Rattle.riftcalico_engine.specs.Ended.{IsDone, status_of, streams, told_of};
+ghost use Rattle.riftcalico_engine.specs.Programs.{IsDone, IsFaultTold, IsMisuseTold, IsRanTold, IsTaskDone, status_of};
+ghost use Rattle.riftcalico_engine.specs.Runs.{task_paths};
+ghost use Rattle.riftcalico_words.specs.Requests.{asked_request};
+ghost use Rattle.riftcalico_words.specs.RequestSeen.{fault_seen, task_seen};
+ghost use Rattle.riftcalico_words.specs.Tasks as tasks;
 
-use crate::request::read_words;
-use crate::run::{Outcome, run};
-use capnp_call::calls::any_refused;
+use crate::shell::{Ended, Ran, run};
 use capnp_show_engine::command::{report, tell};
 use capnp_show_engine::opener::{FilesOpener, Opener};
 use capnp_wire::device::{ReadSource, Sink, Source};
-use capnp_wire::error::Result;
+use riftcalico_core::fault::{Fault, put_fault};
+use riftcalico_words::request::{Misuse, Task, read_words};
+use riftcalico_words::usage::get_misuse;
 use std::alloc::Global;
 use std::rt::Files;
 
-const USAGE: &str = "\
-usage: riftcalico get [--set FILE] NAME PATH [--indent]
-       riftcalico patch [--set FILE] [--calls FILE] [--keep-going] NAME CALL..
-       riftcalico new [--set FILE] [--calls FILE] [--keep-going] NAME CALL..
-       riftcalico structs [--set FILE] [NAME]
-";
-
-/// Tells what a task ended with, as far as the sink takes it, and answers the status.
-fn tell_ended<F: Sink>(ended: &Result<Outcome>, errors: &mut F) -> u8
-    ensures status { result ≡ status_of ended.now }
-    ensures told { IsTold (told_of ended.now) (F.written errors.old) (F.written errors.new) (F.failures errors.old)
-        (F.failures errors.new) }
+/// Tells a refusal: the number and name, and what is to be looked at; where there is no memory for that the number alone.
+fn tell_fault<F: Sink>(alloc: Global, task: &Task<'_>, fault: Fault, errors: &mut F)
+    ensures { IsFaultTold (task_seen task.now) fault (F.written errors.old) (F.written errors.new)
+        (F.failures errors.old) (F.failures errors.new) }
 {
-    match ended {
-        Ok(Outcome::Shown) => {
-            tell(b"", errors);
-            0
+    match put_fault(alloc, task, fault) {
+        Ok(line) => tell(line.as_bytes(), errors),
+        Err(_) => report(fault.error.kind, errors),
+    }
+}
+
+/// Tells what a task came to, as far as the sink takes it, and answers the status.
+fn tell_ran<F: Sink>(alloc: Global, task: &Task<'_>, ran: &Ran, errors: &mut F) -> u8
+    ensures status { result ≡ status_of ran.now }
+    ensures told { IsRanTold (task_seen task.now) ran.now (F.written errors.old) (F.written errors.new)
+        (F.failures errors.old) (F.failures errors.new) }
+{
+    match ran {
+        Ok(Ended::Answered(answer)) => {
+            tell(answer.lines.as_bytes(), errors);
+            u8::from(answer.refused)
         }
-        Ok(Outcome::Made(made)) => {
-            tell(made.lines.as_bytes(), errors);
-            u8::from(any_refused(&made.replies))
-        }
-        Ok(Outcome::Unreadable(line)) => {
+        Ok(Ended::Unreadable(line)) => {
             tell(line.as_bytes(), errors);
+            2
+        }
+        Err(fault) => {
+            tell_fault(alloc, task, *fault, errors);
+            1
+        }
+    }
+}
+
+/// Tells why words ask for nothing, as far as the sink takes it, and answers the status.
+fn tell_misuse<F: Sink>(alloc: Global, misuse: Misuse<'_>, errors: &mut F) -> u8
+    ensures { IsMisuseTold (fault_seen misuse.entry) result (F.written errors.old) (F.written errors.new)
+        (F.failures errors.old) (F.failures errors.new) }
+{
+    match get_misuse(alloc, misuse) {
+        Ok(text) => {
+            tell(text.as_bytes(), errors);
             2
         }
         Err(error) => {
@@ -49,11 +68,30 @@ fn tell_ended<F: Sink>(ended: &Result<Outcome>, errors: &mut F) -> u8
     }
 }
 
+/// Does a task and tells what it came to.
+fn run_task<O: Opener, R: Source, W: Sink, F: Sink>(
+    opener: &mut O,
+    alloc: Global,
+    task: &Task<'_>,
+    source: &mut R,
+    sink: &mut W,
+    errors: &mut F,
+) -> u8
+    ensures done { IsTaskDone O.opens O.File.left O.File.failures opener.old opener.new (source.new ≡ source.old)
+        (R.left source.old) (R.left source.new) (R.failures source.old) (R.failures source.new) (sink.new ≡ sink.old)
+        (W.written sink.old) (W.written sink.new) (W.failures sink.old) (W.failures sink.new) (task_seen task.now)
+        result (F.written errors.old) (F.written errors.new) (F.failures errors.old) (F.failures errors.new) }
+    ensures named { AsksAmong O.opens (task_paths (task_seen task.now)) opener.old opener.new }
+{
+    let ran = run(alloc, opener, task, source, sink);
+    tell_ran(alloc, task, &ran, errors)
+}
+
 /// Runs the program on its words over what opens files, and answers its exit status: 0 where a text or a message was
-/// written, 1 where a call was refused, or the set, the message or a device, and 2 for other words, with the usage on
-/// `errors`, or for a word that can't be read, which is told with its place. Replies to calls and refusals are told on
-/// `errors`, a line each. Where a line can't be written there, the status is the same. No files are opened but those
-/// that the words name, first that of the calls.
+/// written, 1 where a call was refused, or the set, the message or a device, and 2 for words that ask for nothing, with
+/// what is unknown and the usage on `errors`, or for a word that can't be read, which is told with its place. Replies to
+/// calls and refusals are told on `errors`, a line each. Where a line can't be written there, the status is the same. No
+/// files are opened but those that the words name, first that of the calls.
 pub fn command_over<O: Opener, R: Source, W: Sink, F: Sink>(
     opener: &mut O,
     alloc: Global,
@@ -62,29 +100,22 @@ pub fn command_over<O: Opener, R: Source, W: Sink, F: Sink>(
     sink: &mut W,
     errors: &mut F,
 ) -> u8
-    ensures statuses { result ≤ 2 }
-    ensures other_words { asked_task (map string_bytes words.now) ≡ None → result ≡ 2 }
-    ensures usage { asked_task (map string_bytes words.now) ≡ None
-        → IsTold usage_lines (F.written errors.old) (F.written errors.new)
+    ensures done { IsDone O.opens O.File.left O.File.failures opener.old opener.new (source.new ≡ source.old)
+        (R.left source.old) (R.left source.new) (R.failures source.old) (R.failures source.new) (sink.new ≡ sink.old)
+        (W.written sink.old) (W.written sink.new) (W.failures sink.old) (W.failures sink.new)
+        (asked_request (map string_bytes words.now)) result (F.written errors.old) (F.written errors.new)
         (F.failures errors.old) (F.failures errors.new) }
-    ensures unopened { asked_task (map string_bytes words.now) ≡ None → opener.new ≡ opener.old }
-    ensures named { (t : Task) → asked_task (map string_bytes words.now) ≡ Some t
-        → AsksAmong O.opens (paths_of t) opener.old opener.new }
-    ensures unread { result ≡ 2 → source.new ≡ source.old }
-    ensures unwritten { result ≡ 2 → sink.new ≡ sink.old }
-    ensures done { (t : Task) → asked_task (map string_bytes words.now) ≡ Some t
-        → IsDone O.opens O.File.left O.File.failures opener.old opener.new (source.new ≡ source.old)
-        (sink.new ≡ sink.old)
-        (streams (R.left source.old) (R.left source.new) (W.written sink.old) (W.written sink.new)
-        (R.failures source.old) (R.failures source.new) (W.failures sink.old) (W.failures sink.new))
-        t result (F.written errors.old) (F.written errors.new) (F.failures errors.old) (F.failures errors.new) }
+    ensures named { (t : tasks.Task) → asked_request (map string_bytes words.now) ≡ Ok t
+        → AsksAmong O.opens (task_paths t) opener.old opener.new }
 {
-    let Some(asked) = read_words(words) else {
-        tell(USAGE.as_bytes(), errors);
-        return 2;
-    };
-    let ended = run(alloc, opener, asked, source, sink);
-    tell_ended(&ended, errors)
+    match read_words(alloc, words) {
+        Ok(Ok(task)) => run_task(opener, alloc, &task, source, sink, errors),
+        Ok(Err(misuse)) => tell_misuse(alloc, misuse, errors),
+        Err(error) => {
+            report(error.kind, errors);
+            1
+        }
+    }
 }
 
 /// `command_over` over the files of a runtime, where any of them may be opened at a path: no contract of the system
@@ -97,20 +128,13 @@ pub fn command<S: Files, R: Source, W: Sink, F: Sink>(
     sink: &mut W,
     errors: &mut F,
 ) -> u8
-    ensures statuses { result ≤ 2 }
-    ensures other_words { asked_task (map string_bytes words.now) ≡ None → result ≡ 2 }
-    ensures usage { asked_task (map string_bytes words.now) ≡ None
-        → IsTold usage_lines (F.written errors.old) (F.written errors.new)
-        (F.failures errors.old) (F.failures errors.new) }
-    ensures unread { result ≡ 2 → source.new ≡ source.old }
-    ensures unwritten { result ≡ 2 → sink.new ≡ sink.old }
-    ensures done { (t : Task) → asked_task (map string_bytes words.now) ≡ Some t → (before : OfFiles S) × (after : OfFiles S)
-        × IsDone
+    ensures done { (before : OfFiles S) × (after : OfFiles S) × IsDone
         (λ _ _ _ _. ⊤) ⟦<ReadSource<S::File> as Source>⟧.left ⟦<ReadSource<S::File> as Source>⟧.failures before after
-        (source.new ≡ source.old) (sink.new ≡ sink.old)
-        (streams (R.left source.old) (R.left source.new) (W.written sink.old) (W.written sink.new)
-        (R.failures source.old) (R.failures source.new) (W.failures sink.old) (W.failures sink.new))
-        t result (F.written errors.old) (F.written errors.new) (F.failures errors.old) (F.failures errors.new) }
+        (source.new ≡ source.old)
+        (R.left source.old) (R.left source.new) (R.failures source.old) (R.failures source.new) (sink.new ≡ sink.old)
+        (W.written sink.old) (W.written sink.new) (W.failures sink.old) (W.failures sink.new)
+        (asked_request (map string_bytes words.now)) result (F.written errors.old) (F.written errors.new)
+        (F.failures errors.old) (F.failures errors.new) }
 {
     let mut opener = FilesOpener::new(rt);
     command_over(&mut opener, alloc, words, source, sink, errors)

@@ -1,11 +1,8 @@
-//! Messages read and patched by words: the program `riftcalico`, from its words to its exit status, over a source and
-//! sinks in place of the standard streams.
+//! The program `riftcalico` over its files and streams: what it reads before what, what it writes and what it tells.
+//!
+//! What is answered to words and bytes is `riftcalico_core`'s. `command::command_over` is the program from its words to
+//! its exit status, over sources, sinks and what opens files.
 #![tactic(auto)]
 
-pub mod calls;
 pub mod command;
-pub mod request;
-pub mod run;
-pub mod sets;
-pub mod structs;
-pub mod words;
+pub mod shell;

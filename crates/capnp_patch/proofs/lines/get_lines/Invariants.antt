@@ -5,4 +5,4 @@ use Rattle.capnp_patch.proofs.lines.get_lines.Given as goal
 
 abbrev pub invariant-loop-index : goal.invariant-loop-index
 invariant-loop-index l =
-    (new : List ℕ) → AreTold l.index (map string_bytes l.words) (drop l.index l.replies) (string_bytes l.lines) new → AreTold 0 (map string_bytes l.words) l.replies [] new
+    (new : List ℕ) → AreTold l.index (map (λ w. w.now) l.words) (drop l.index l.replies) (string_bytes l.lines) new → AreTold 0 (map (λ w. w.now) l.words) l.replies [] new

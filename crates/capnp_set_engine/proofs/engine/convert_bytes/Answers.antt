@@ -1,0 +1,16 @@
+use Rattle.std.proofs.Common.{inl, inr}
+use Rattle.std.proofs.lemmas.Result.{err_from_is_err_and}
+use Rattle.capnp_set_engine.proofs.Made.{each_answer, each_refusal}
+use Rattle.capnp_set_engine.proofs.engine.convert_bytes.Goals as goal
+
+pub returns-clause-made : goal.returns-clause-made
+returns-clause-made c =
+    each_answer c.make.result (λ m h. record { conversion = c.in_ok-conversion.conversion; request = c.in_ok-conversion.ensures.converted; made = h }) c.make.ensures.made
+
+pub returns-clause-refused : goal.returns-clause-refused
+returns-clause-refused c =
+    each_refusal c.make.result (λ e h m. inr (c.in_ok-conversion.conversion, c.in_ok-conversion.ensures.converted, h m)) c.make.ensures.refused
+
+pub returns-in_err-conversion-clause-refused : goal.returns-in_err-conversion-clause-refused
+returns-in_err-conversion-clause-refused c =
+    let p = err_from_is_err_and c.from_residual.result c.from_residual.ensures.1 in rw (p.1, p.2) (λ m. inl (c.in_err-conversion.ensures.refused m))

@@ -1,0 +1,3 @@
+pub mod CallsGiven
+pub mod Each
+pub mod PlainGiven

@@ -1,0 +1,42 @@
+-- Refusals, and what they blame.
+use Rattle.std.specs.Prelude.{ℕ, List, [], ◌∷◌, ◌++◌, Option, Some, None, codes, decimal}
+use Rattle.capnp_device.specs.ErrorNumber.{error_name, error_number}
+use Rattle.riftcalico_core.specs.Plans.{calls_file}
+use Rattle.riftcalico_core.specs.declared.fault.Blamed.{Blamed}
+use Rattle.riftcalico_core.specs.declared.fault.Blamed.TheVariants as blamed
+use Rattle.riftcalico_core.specs.declared.fault.Fault.{Fault}
+use Rattle.riftcalico_words.specs.Tasks.{Task, fields_task, get_task, new_task, patch_task, structs_task}
+
+-- the file of a task's set
+abbrev pub task_set_file : Task → Option (List ℕ)
+task_set_file (get_task t) = t.root.file
+task_set_file (patch_task t) = t.root.file
+task_set_file (new_task t) = t.root.file
+task_set_file (structs_task file) = file
+task_set_file (fields_task r) = r.file
+task_set_file t = None
+
+-- the name of a task's root
+abbrev pub task_name : Task → List ℕ
+task_name (get_task t) = t.root.name
+task_name (patch_task t) = t.root.name
+task_name (new_task t) = t.root.name
+task_name (fields_task r) = r.name
+task_name t = []
+
+-- a file by its path, or what stands for none
+abbrev pub file_word : Option (List ℕ) → (other : List ℕ) → List ℕ
+file_word (Some path) other = path
+file_word None other = other
+
+-- what is to be looked at
+abbrev pub blamed_word : Task → Blamed → List ℕ
+blamed_word t blamed.Calls = file_word (calls_file t) []
+blamed_word t blamed.Set = file_word (task_set_file t) (codes "the built-in set")
+blamed_word t blamed.Name = task_name t
+blamed_word t blamed.Input = codes "standard input"
+blamed_word t blamed.Output = codes "standard output"
+
+-- a refusal's number and name, and what is to be looked at
+abbrev pub fault_line : Task → Fault → List ℕ
+fault_line t f = codes "refused: " ++ decimal (error_number f.error.kind) ++ codes " " ++ error_name f.error.kind ++ codes " (" ++ blamed_word t f.blamed ++ codes ")" ++ 10 ∷ []

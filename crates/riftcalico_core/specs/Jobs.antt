@@ -1,0 +1,112 @@
+-- A plan under its set: the struct of its root, and the values of its calls.
+use Rattle.std.specs.Prelude.{ℕ, ◌≡◌, ⊤, List, map, Bool, true, false, Option, Some, None, Ok, Err}
+use Rattle.capnp_device.specs.declared.error.Error.{Error}
+use Rattle.capnp_device.specs.declared.error.ErrorKind.{ErrorKind}
+use Rattle.capnp_device.specs.declared.error.ErrorKind.TheVariants.{NameNotFound}
+use Rattle.capnp_call.specs.Seen.{path_seen}
+use Rattle.capnp_records.specs.Run.{root_type}
+use Rattle.capnp_schema.specs.Accepted.{IsAccepted}
+use Rattle.capnp_schema.specs.Builtin.{builtin}
+use Rattle.capnp_schema.specs.ByName.{brand_asked}
+use Rattle.capnp_schema.specs.Entries.{lists_seen}
+use Rattle.capnp_schema.specs.Schema.{Schemas}
+use Rattle.capnp_schema.specs.StructHandles.{IsStruct, number_of, set_of}
+use Rattle.capnp_schema.specs.declared.schema.structs.StructSchema.{StructSchema}
+use Rattle.capnp_sets.specs.Message.{IsMessageRefusal, message_set}
+use Rattle.riftcalico_core.specs.Calls.{call_read}
+use Rattle.riftcalico_core.specs.CallsSeen.{read_call_seen}
+use Rattle.riftcalico_core.specs.Plans as plans
+use Rattle.riftcalico_core.specs.Plans.{CallsPlan, GetPlan, Plan, convert_plan, fields_plan, get_plan, help_plan, new_plan, patch_plan, structs_plan, version_plan}
+use Rattle.riftcalico_core.specs.Reads.{each_word_read, line_at}
+use Rattle.riftcalico_core.specs.declared.job.CallsJob.{CallsJob}
+use Rattle.riftcalico_core.specs.declared.job.GetJob.{GetJob}
+use Rattle.riftcalico_core.specs.declared.job.Job.{Job}
+use Rattle.riftcalico_core.specs.declared.job.Job.TheVariants as job
+use Rattle.riftcalico_words.specs.Tasks.{Root}
+
+-- ---- the set ----
+
+-- the built-in one where no file is named; else that of the message in these bytes, which is accepted
+abbrev pub IsSetOfFile : (file : Option (List ℕ)) → (bytes : List ℕ) → Schemas → Type 0
+IsSetOfFile None bytes set = set ≡ builtin
+IsSetOfFile (Some path) bytes set = (message_set bytes ≡ Some set) × IsAccepted set
+
+-- these bytes give none
+abbrev pub IsNoSetOf : (file : Option (List ℕ)) → (bytes : List ℕ) → Error → Type 0
+IsNoSetOf None bytes e = ⊥
+IsNoSetOf (Some path) bytes e = IsMessageRefusal bytes e
+
+-- ---- the struct of the root, and what is done ----
+
+-- the struct that the set has under a name
+pub record IsNamedStruct (set : Schemas) (name : List ℕ) (s : StructSchema) : Type 0 where
+  pub stands : IsStruct s
+  pub of_set : set_of s ≡ set
+  pub named : brand_asked set name ≡ Some (number_of s)
+
+-- it has none, and that is the refusal
+abbrev pub IsNotNamed : (set : Schemas) → (name : List ℕ) → ErrorKind → Type 0
+IsNotNamed set name kind = (kind ≡ NameNotFound) × (brand_asked set name ≡ None)
+
+pub record IsGetJob (p : GetPlan) (set : Schemas) (j : GetJob) : Type 0 where
+  pub schema : IsNamedStruct set p.root.name j.schema
+  pub path : path_seen j.steps.items ≡ p.path
+  pub indented : j.indented ≡ p.indented
+
+pub record IsCallsJob (p : CallsPlan) (set : Schemas) (j : CallsJob) : Type 0 where
+  pub schema : IsNamedStruct set p.root.name j.schema
+  pub read : each_word_read (call_read set (root_type set (number_of j.schema))) 0 p.texts ≡ Ok (map read_call_seen j.calls.items)
+  pub words : map (λ w. w.now) j.words.now ≡ p.words
+  pub keep_going : j.keep_going ≡ p.keep_going
+
+-- the value of a call can't be read under the root's struct, and the line tells which
+pub record IsValueUnread (p : CallsPlan) (set : Schemas) (line : List ℕ) : Type 0 where
+  pub brand : ℕ
+  pub named : brand_asked set p.root.name ≡ Some brand
+  pub at : ℕ × ℕ
+  pub unread : each_word_read (call_read set (root_type set brand)) 0 p.texts ≡ Err at
+  pub told : line ≡ line_at p.words at
+
+abbrev pub IsJob : Plan → Schemas → Job → Type 0
+IsJob (get_plan p) set (job.Get j) = IsGetJob p set j
+IsJob (patch_plan p) set (job.Patch j) = IsCallsJob p set j
+IsJob (new_plan p) set (job.New j) = IsCallsJob p set j
+IsJob (structs_plan file) set (job.Structs schemas) = lists_seen schemas.now ≡ set
+IsJob (fields_plan r) set (job.Fields s) = IsNamedStruct set r.name s
+IsJob (convert_plan strict) set (job.Convert given) = given ≡ strict
+IsJob (help_plan v) set (job.Help given) = given ≡ v
+IsJob version_plan set job.Version = ⊤
+IsJob p set j = ⊥
+
+-- a line tells which value can't be read
+abbrev pub IsLineOfPlan : Plan → Schemas → (line : List ℕ) → Type 0
+IsLineOfPlan (patch_plan p) set line = IsValueUnread p set line
+IsLineOfPlan (new_plan p) set line = IsValueUnread p set line
+IsLineOfPlan p set line = ⊥
+
+-- the name of a plan's root
+abbrev pub root_name : Plan → Option (List ℕ)
+root_name (get_plan p) = Some p.root.name
+root_name (patch_plan p) = Some p.root.name
+root_name (new_plan p) = Some p.root.name
+root_name (fields_plan r) = Some r.name
+root_name p = None
+
+-- no struct of the set has it
+abbrev pub IsNoneNamed : Schemas → Option (List ℕ) → ErrorKind → Type 0
+IsNoneNamed set None kind = ⊥
+IsNoneNamed set (Some name) kind = IsNotNamed set name kind
+
+abbrev pub IsNameMissing : Plan → Schemas → ErrorKind → Type 0
+IsNameMissing p set kind = IsNoneNamed set (root_name p) kind
+
+-- whether a message is read
+abbrev pub wants_input : Job → Bool
+wants_input (job.Get j) = true
+wants_input (job.Patch j) = true
+wants_input (job.New j) = false
+wants_input (job.Structs schemas) = false
+wants_input (job.Fields s) = false
+wants_input (job.Convert strict) = true
+wants_input (job.Help v) = false
+wants_input job.Version = false

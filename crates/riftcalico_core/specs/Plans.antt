@@ -1,0 +1,114 @@
+-- What a task asks, once its words are read: a path, or calls, whose words may be the lines of a file.
+use Rattle.std.specs.Prelude.{ℕ, List, [], ◌∷◌, ◌++◌, ◌==◌, Bool, true, false, not, filter, Option, Some, None, Result, Ok, Err, codes, decimal}
+use Rattle.std.specs.Str.{is_utf8}
+use Rattle.std.specs.Str.Lines.{lines}
+use Rattle.std.specs.Str.Lossy.{utf8_valid_len}
+use Rattle.capnp_records.specs.Call.{PathStep}
+use Rattle.capnp_words.specs.Calls.{CallText, call_at}
+use Rattle.capnp_words.specs.Paths.{path_at}
+use Rattle.capnp_words.specs.Reads.{Read}
+use Rattle.riftcalico_core.specs.Reads.{Reads, each_word_read, line_at, unreadable_line}
+use Rattle.riftcalico_words.specs.Tasks.{CallsTask, GetTask, GivenCalls, Root, Task, convert_task, fields_task, get_task, help_task, in_lines, in_words, new_task, patch_task, structs_task, version_task}
+use Rattle.riftcalico_words.specs.declared.request.Verb.{Verb}
+
+-- the value at a path of a root
+pub record GetPlan : Type 0 where
+  pub root : Root
+  pub path : List PathStep
+  pub indented : Bool
+
+-- calls on a root, with their words
+pub record CallsPlan : Type 0 where
+  pub root : Root
+  pub texts : List CallText
+  pub words : List (List ℕ)
+  pub keep_going : Bool
+
+pub data Plan : Type 0 where
+  get_plan : GetPlan → Plan
+  patch_plan : CallsPlan → Plan
+  new_plan : CallsPlan → Plan
+  structs_plan : (file : Option (List ℕ)) → Plan
+  fields_plan : Root → Plan
+  convert_plan : (strict : Bool) → Plan
+  help_plan : Option Verb → Plan
+  version_plan : Plan
+
+-- the file of a task's calls
+abbrev pub given_file : GivenCalls → Option (List ℕ)
+given_file (in_words words) = None
+given_file (in_lines path) = Some path
+
+abbrev pub calls_file : Task → Option (List ℕ)
+calls_file (patch_task t) = given_file t.calls
+calls_file (new_task t) = given_file t.calls
+calls_file t = None
+
+-- ---- what words say, or the line that tells what can't be read ----
+
+abbrev pub Told : Type 0 → Type 0
+Told A = Result A (List ℕ)
+
+-- calls and their words
+abbrev pub SaidCalls : Type 0
+SaidCalls = List CallText × List (List ℕ)
+
+abbrev pub calls_said : (words : List (List ℕ)) → Reads (List CallText) → Told SaidCalls
+calls_said words (Ok texts) = Ok (texts, words)
+calls_said words (Err at) = Err (line_at words at)
+
+-- calls, each a word
+abbrev pub words_plan : List (List ℕ) → Told SaidCalls
+words_plan words = calls_said words (each_word_read call_at 0 words)
+
+-- a line without a call: an empty one, or one that begins with `#`
+abbrev pub is_remark : List ℕ → Bool
+is_remark [] = true
+is_remark (c ∷ line) = c == 35
+
+-- the lines of a text that have calls
+abbrev pub call_lines : List ℕ → List (List ℕ)
+call_lines text = filter (λ line. not (is_remark line)) (lines text)
+
+-- how a file is told whose bytes are no text: its path, and the place of the first byte that no character has
+abbrev pub no_text_line : (path : List ℕ) → (place : ℕ) → List ℕ
+no_text_line path place = path ++ codes ": can't be read at " ++ decimal place ++ 10 ∷ []
+
+-- calls, each a line of a file, if its bytes are a text
+abbrev pub text_plan : (is_text : Bool) → (path bytes : List ℕ) → Told SaidCalls
+text_plan true path bytes = words_plan (call_lines bytes)
+text_plan false path bytes = Err (no_text_line path (utf8_valid_len bytes))
+
+-- calls, of which a file may have the words: these bytes
+abbrev pub given_plan : GivenCalls → (file : List ℕ) → Told SaidCalls
+given_plan (in_words words) file = words_plan words
+given_plan (in_lines path) file = text_plan (is_utf8 file) path file
+
+abbrev pub under_root : CallsTask → Told SaidCalls → Told CallsPlan
+under_root t (Ok said) = Ok (record { root = t.root; texts = said.0; words = said.1; keep_going = t.keep_going })
+under_root t (Err line) = Err line
+
+abbrev pub calls_plan_of : CallsTask → (file : List ℕ) → Told CallsPlan
+calls_plan_of t file = under_root t (given_plan t.calls file)
+
+abbrev pub path_plan : GetTask → Read (List PathStep) → Told Plan
+path_plan t (Ok path) = Ok (get_plan (record { root = t.root; path = path; indented = t.indented }))
+path_plan t (Err place) = Err (unreadable_line 1 t.path place)
+
+abbrev pub get_plan_of : GetTask → Told Plan
+get_plan_of t = path_plan t (path_at 0 t.path)
+
+abbrev pub as_plan : (CallsPlan → Plan) → Told CallsPlan → Told Plan
+as_plan plan (Ok p) = Ok (plan p)
+as_plan plan (Err line) = Err line
+
+-- what a task asks, with the bytes of the file of its calls, if it has one
+abbrev pub plan_of : Task → (file : List ℕ) → Told Plan
+plan_of (get_task t) file = get_plan_of t
+plan_of (patch_task t) file = as_plan patch_plan (calls_plan_of t file)
+plan_of (new_task t) file = as_plan new_plan (calls_plan_of t file)
+plan_of (structs_task set) file = Ok (structs_plan set)
+plan_of (fields_task r) file = Ok (fields_plan r)
+plan_of (convert_task strict) file = Ok (convert_plan strict)
+plan_of (help_task v) file = Ok (help_plan v)
+plan_of version_task file = Ok version_plan

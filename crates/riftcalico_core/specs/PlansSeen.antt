@@ -1,0 +1,42 @@
+-- Plans as the code has them.
+use Rattle.std.specs.Prelude.{ℕ, List, map, Result, Ok, Err, String, string_bytes}
+use Rattle.std.specs.Borrow.{Bor}
+use Rattle.std.specs.Option.{option_map}
+use Rattle.std.specs.declared.vec.Vec.{Vec}
+use Rattle.capnp_words.specs.Seen.{call_text_seen, path_text_seen}
+use Rattle.capnp_words.specs.declared.call.CallWord.{CallWord}
+use Rattle.riftcalico_core.specs.Plans as plans
+use Rattle.riftcalico_core.specs.Plans.{SaidCalls, Told, convert_plan, fields_plan, get_plan, help_plan, new_plan, patch_plan, structs_plan, version_plan}
+use Rattle.riftcalico_core.specs.declared.plan.CallsPlan.{CallsPlan}
+use Rattle.riftcalico_core.specs.declared.plan.GetPlan.{GetPlan}
+use Rattle.riftcalico_core.specs.declared.plan.Plan.{Plan}
+use Rattle.riftcalico_core.specs.declared.plan.Plan.TheVariants as plan
+use Rattle.riftcalico_words.specs.RequestSeen.{root_named}
+
+abbrev pub get_plan_seen : GetPlan → plans.GetPlan
+get_plan_seen p = record { root = root_named p.root; path = path_text_seen p.path; indented = p.indented }
+
+abbrev pub calls_plan_seen : CallsPlan → plans.CallsPlan
+calls_plan_seen p = record { root = root_named p.root; texts = map call_text_seen p.texts.items; words = map (λ w. w.now) p.words.items; keep_going = p.keep_going }
+
+abbrev pub plan_seen : Plan → plans.Plan
+plan_seen (plan.Get p) = get_plan (get_plan_seen p)
+plan_seen (plan.Patch p) = patch_plan (calls_plan_seen p)
+plan_seen (plan.New p) = new_plan (calls_plan_seen p)
+plan_seen (plan.Structs file) = structs_plan (option_map (λ f. f.now) file)
+plan_seen (plan.Fields r) = fields_plan (root_named r)
+plan_seen (plan.Convert strict) = convert_plan strict
+plan_seen (plan.Help v) = help_plan v
+plan_seen plan.Version = version_plan
+
+abbrev pub told_plan : {A : Type 0} → Result Plan (String A) → Told plans.Plan
+told_plan (Ok p) = Ok (plan_seen p)
+told_plan (Err line) = Err (string_bytes line)
+
+abbrev pub told_calls_plan : {A : Type 0} → Result CallsPlan (String A) → Told plans.CallsPlan
+told_calls_plan (Ok p) = Ok (calls_plan_seen p)
+told_calls_plan (Err line) = Err (string_bytes line)
+
+abbrev pub told_calls : {A B C : Type 0} → Result (Vec CallWord A × Vec (Bor (List ℕ)) B) (String C) → Told SaidCalls
+told_calls (Ok said) = Ok (map call_text_seen said.0.items, map (λ w. w.now) said.1.items)
+told_calls (Err line) = Err (string_bytes line)

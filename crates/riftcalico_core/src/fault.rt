@@ -1,0 +1,92 @@
+//! Refusals, and what they blame.
+ghost use Rattle.std.specs.Prelude.{◌≡◌, IfErr, IfOk, string_bytes};
+ghost use Rattle.std.specs.Option.{option_map};
+ghost use Rattle.capnp_device.specs.declared.error.ErrorKind.TheVariants.{OutOfMemory};
+ghost use Rattle.riftcalico_core.specs.Faults.{blamed_word, fault_line, file_word, task_name, task_set_file};
+ghost use Rattle.riftcalico_words.specs.RequestSeen.{task_seen};
+
+use crate::plan::get_calls_file;
+use capnp_wire::error::{Error, Result};
+use riftcalico_words::request::Task;
+use std::alloc::Global;
+
+/// What is to be looked at.
+#[derive(Clone, Copy, Debug, PartialEq, Eq)]
+pub enum Blamed {
+    /// The file of the calls.
+    Calls,
+    /// The file of the set, or the built-in set.
+    Set,
+    /// The name of the root's struct.
+    Name,
+    /// Standard input.
+    Input,
+    /// Standard output.
+    Output,
+}
+
+/// A refusal, and what is to be looked at.
+#[derive(Clone, Copy, Debug, PartialEq, Eq)]
+pub struct Fault {
+    pub error: Error,
+    pub blamed: Blamed,
+}
+
+/// The file of a task's set; none where it is the built-in one, or where there is no set to look into.
+pub fn get_set_file<'a>(task: &Task<'a>) -> Option<&'a str>
+    ensures { option_map (λ f. f.now) result ≡ task_set_file (task_seen task.now) }
+{
+    match task {
+        Task::Get(request) => request.root.file,
+        Task::Patch(request) | Task::New(request) => request.root.file,
+        Task::Structs(file) => *file,
+        Task::Fields(root) => root.file,
+        Task::Convert(_) | Task::Help(_) | Task::Version => None,
+    }
+}
+
+/// The name of a task's root, empty where it has none.
+fn get_name<'a>(task: &Task<'a>) -> &'a str
+    ensures { result.now ≡ task_name (task_seen task.now) }
+{
+    match task {
+        Task::Get(request) => request.root.name,
+        Task::Patch(request) | Task::New(request) => request.root.name,
+        Task::Fields(root) => root.name,
+        Task::Structs(_) | Task::Convert(_) | Task::Help(_) | Task::Version => "",
+    }
+}
+
+/// A file by its path, or what stands for none.
+fn get_file_word<'a>(file: Option<&'a str>, other: &'a str) -> &'a str
+    ensures { result.now ≡ file_word (option_map (λ f. f.now) file.entry) other.now }
+{
+    match file {
+        Some(path) => path,
+        None => other,
+    }
+}
+
+/// How that is called which is to be looked at.
+fn get_word<'a>(task: &Task<'a>, blamed: Blamed) -> &'a str
+    ensures { result.now ≡ blamed_word (task_seen task.now) blamed }
+{
+    match blamed {
+        Blamed::Calls => get_file_word(get_calls_file(task), ""),
+        Blamed::Set => get_file_word(get_set_file(task), "the built-in set"),
+        Blamed::Name => get_name(task),
+        Blamed::Input => "standard input",
+        Blamed::Output => "standard output",
+    }
+}
+
+/// The line of a refusal: its number and name, and what is to be looked at. Refused with `OutOfMemory` alone.
+pub fn put_fault(alloc: Global, task: &Task<'_>, fault: Fault) -> Result<String>
+    ensures line { IfOk result (λ line. string_bytes line ≡ fault_line (task_seen task.now) fault) }
+    ensures memory { IfErr result (λ e. e.kind ≡ OutOfMemory) }
+{
+    let number = fault.error.kind.number();
+    let name = fault.error.kind.name();
+    let word = get_word(task, fault.blamed);
+    Ok(format!(in alloc; "refused: {number} {name} ({word})\n")?)
+}

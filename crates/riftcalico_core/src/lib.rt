@@ -1,0 +1,11 @@
+//! What the program `riftcalico` does, without its files and streams: words to a plan, a set's bytes to a checked set, and
+//! a plan, a set and a message's bytes to an answer.
+#![tactic(auto)]
+
+pub mod answer;
+pub mod calls;
+pub mod fault;
+pub mod job;
+pub mod plan;
+pub mod schemas;
+mod words;

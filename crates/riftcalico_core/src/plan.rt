@@ -1,0 +1,201 @@
+//! What is to be done, once its words are read.
+ghost use Rattle.std.specs.Prelude.{◌≡◌, IfErr, IfOk, map};
+ghost use Rattle.std.specs.Option.{option_map};
+ghost use Rattle.std.specs.Str.{is_utf8};
+ghost use Rattle.capnp_device.specs.declared.error.ErrorKind.TheVariants.{OutOfMemory};
+ghost use Rattle.riftcalico_core.specs.Plans.{calls_file, calls_plan_of, get_plan_of, given_file, given_plan, plan_of, text_plan, words_plan};
+ghost use Rattle.riftcalico_core.specs.PlansSeen.{told_calls, told_calls_plan, told_plan};
+ghost use Rattle.riftcalico_words.specs.RequestSeen.{calls_task_of, get_task_of, given_of, task_seen};
+
+use crate::calls::read_calls;
+use crate::words::{put_no_text, put_unreadable, put_word_line, split_lines};
+use capnp_wire::error::Result;
+use capnp_words::call::CallWord;
+use capnp_words::path::{Path, parse_path};
+use riftcalico_words::request::{CallWords, CallsRequest, GetRequest, NamedRoot, Task, Verb};
+use std::alloc::Global;
+use std::str;
+
+/// A value, or the line that tells what can't be read.
+pub type Told<T> = std::result::Result<T, String>;
+
+/// The value at a path of a root.
+#[derive(Drop)]
+pub struct GetPlan<'a> {
+    pub root: NamedRoot<'a>,
+    pub path: Path,
+    pub indented: bool,
+}
+
+/// Calls on a root, each with its word, and whether what they leave is written where one was refused.
+#[derive(Drop)]
+pub struct CallsPlan<'a> {
+    pub root: NamedRoot<'a>,
+    pub texts: Vec<CallWord>,
+    pub words: Vec<&'a str>,
+    pub keep_going: bool,
+}
+
+/// What is to be done.
+#[derive(Drop)]
+pub enum Plan<'a> {
+    /// The value at a path is shown.
+    Get(GetPlan<'a>),
+    /// Calls are made on a copy of a message.
+    Patch(CallsPlan<'a>),
+    /// Calls are made on an empty root.
+    New(CallsPlan<'a>),
+    /// The structs of the set that a file holds are shown, or else of the built-in one.
+    Structs(Option<&'a str>),
+    /// The fields of a struct are shown.
+    Fields(NamedRoot<'a>),
+    /// A compiler's request is made a set; whether floats and interfaces are refused.
+    Convert(bool),
+    /// Help is told, of all or of a verb.
+    Help(Option<Verb>),
+    /// The version is told.
+    Version,
+}
+
+/// The file whose lines the calls are.
+fn get_given_file<'a>(calls: &CallWords<'a>) -> Option<&'a str>
+    ensures { option_map (λ f. f.now) result ≡ given_file (given_of calls.now) }
+{
+    match calls {
+        CallWords::Lines(path) => Some(*path),
+        CallWords::Words(_) => None,
+    }
+}
+
+/// The file of a task's calls.
+pub fn get_calls_file<'a>(task: &Task<'a>) -> Option<&'a str>
+    ensures { option_map (λ f. f.now) result ≡ calls_file (task_seen task.now) }
+{
+    match task {
+        Task::Patch(request) | Task::New(request) => get_given_file(&request.calls),
+        Task::Get(_)
+        | Task::Structs(_)
+        | Task::Fields(_)
+        | Task::Convert(_)
+        | Task::Help(_)
+        | Task::Version => None,
+    }
+}
+
+/// The calls that words say, or the line of the first that says none. Refused with `OutOfMemory` alone.
+fn read_words<'a>(
+    alloc: Global,
+    words: Vec<&'a str>,
+) -> Result<Told<(Vec<CallWord>, Vec<&'a str>)>>
+    ensures said { IfOk result (λ r. told_calls r ≡ words_plan (map (λ w. w.now) words.items)) }
+    ensures memory { IfErr result (λ e. e.kind ≡ OutOfMemory) }
+{
+    match read_calls(alloc, &words)? {
+        Ok(texts) => Ok(Ok((texts, words))),
+        Err(at) => Ok(Err(put_word_line(alloc, &words, at)?)),
+    }
+}
+
+/// The calls that the lines of a file say, or the line that tells what in it can't be read. Refused with `OutOfMemory`
+/// alone.
+fn read_text<'a>(
+    alloc: Global,
+    path: &str,
+    file: &'a [u8],
+) -> Result<Told<(Vec<CallWord>, Vec<&'a str>)>>
+    ensures said { IfOk result (λ r. told_calls r ≡ text_plan (is_utf8 file.now) path.now file.now) }
+    ensures memory { IfErr result (λ e. e.kind ≡ OutOfMemory) }
+{
+    match str::from_utf8(file) {
+        Ok(text) => {
+            let words = split_lines(alloc, text)?;
+            read_words(alloc, words)
+        }
+        Err(error) => {
+            let place = error.valid_up_to();
+            let line = put_no_text(alloc, path, place)?;
+            Ok(Err(line))
+        }
+    }
+}
+
+/// Calls of which the file may have the words. Refused with `OutOfMemory` alone.
+fn read_given<'a>(
+    alloc: Global,
+    calls: &CallWords<'a>,
+    file: &'a [u8],
+) -> Result<Told<(Vec<CallWord>, Vec<&'a str>)>>
+    ensures said { IfOk result (λ r. told_calls r ≡ given_plan (given_of calls.now) file.now) }
+    ensures memory { IfErr result (λ e. e.kind ≡ OutOfMemory) }
+{
+    match calls {
+        CallWords::Words(words) => {
+            let mut list = Vec::with_capacity(alloc, words.len())?;
+            list.extend_from_slice(words)?;
+            read_words(alloc, list)
+        }
+        CallWords::Lines(path) => read_text(alloc, path, file),
+    }
+}
+
+/// Calls on a root with their words read. Refused with `OutOfMemory` alone.
+fn plan_calls<'a>(
+    alloc: Global,
+    request: &CallsRequest<'a>,
+    file: &'a [u8],
+) -> Result<Told<CallsPlan<'a>>>
+    ensures planned { IfOk result (λ r. told_calls_plan r ≡ calls_plan_of (calls_task_of request.now) file.now) }
+    ensures memory { IfErr result (λ e. e.kind ≡ OutOfMemory) }
+{
+    match read_given(alloc, &request.calls, file)? {
+        Ok((texts, words)) => Ok(Ok(CallsPlan {
+            root: request.root,
+            texts,
+            words,
+            keep_going: request.keep_going,
+        })),
+        Err(line) => Ok(Err(line)),
+    }
+}
+
+/// The value at a path, whose word is read. Refused with `OutOfMemory` alone.
+fn plan_get<'a>(alloc: Global, request: GetRequest<'a>) -> Result<Told<Plan<'a>>>
+    ensures planned { IfOk result (λ r. told_plan r ≡ get_plan_of (get_task_of request.entry)) }
+    ensures memory { IfErr result (λ e. e.kind ≡ OutOfMemory) }
+{
+    match parse_path(alloc, request.path)? {
+        Ok(path) => Ok(Ok(Plan::Get(GetPlan {
+            root: request.root,
+            path,
+            indented: request.indented,
+        }))),
+        Err(place) => {
+            let line = put_unreadable(alloc, 1, request.path, place as u128)?;
+            Ok(Err(line))
+        }
+    }
+}
+
+/// What a task asks, once its words are read; or the line that tells which of them can't be. `file` has the bytes of the
+/// file of its calls, if it has one. Refused with `OutOfMemory` alone.
+pub fn read_plan<'a>(alloc: Global, task: &Task<'a>, file: &'a [u8]) -> Result<Told<Plan<'a>>>
+    ensures planned { IfOk result (λ r. told_plan r ≡ plan_of (task_seen task.now) file.now) }
+    ensures memory { IfErr result (λ e. e.kind ≡ OutOfMemory) }
+{
+    match task {
+        Task::Get(request) => plan_get(alloc, *request),
+        Task::Patch(request) => match plan_calls(alloc, request, file)? {
+            Ok(plan) => Ok(Ok(Plan::Patch(plan))),
+            Err(line) => Ok(Err(line)),
+        },
+        Task::New(request) => match plan_calls(alloc, request, file)? {
+            Ok(plan) => Ok(Ok(Plan::New(plan))),
+            Err(line) => Ok(Err(line)),
+        },
+        Task::Structs(set) => Ok(Ok(Plan::Structs(*set))),
+        Task::Fields(root) => Ok(Ok(Plan::Fields(*root))),
+        Task::Convert(strict) => Ok(Ok(Plan::Convert(*strict))),
+        Task::Help(verb) => Ok(Ok(Plan::Help(*verb))),
+        Task::Version => Ok(Ok(Plan::Version)),
+    }
+}
