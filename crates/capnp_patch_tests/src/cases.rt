@@ -87,10 +87,10 @@ fn show(
 }
 
 /// The words of rows: their lines.
-fn words_in(alloc: Global, text: &str) -> Result<Vec<String>> {
+fn words_in(alloc: Global, text: &str) -> Result<Vec<&str>> {
     let mut words = Vec::new(alloc);
     for line in text.lines() {
-        words.push(String::from_str(alloc, line)?)?;
+        words.push(line)?;
     }
     Ok(words)
 }
@@ -101,7 +101,7 @@ fn report_of(
     schema: StructSchema<'_>,
     case: &Case<'_>,
     calls: &[Call<'_>],
-    words: &[String],
+    words: &[&str],
     source: &mut MemorySource<'_>,
     sink: &mut MemorySink,
 ) -> Result<Report>
@@ -119,7 +119,7 @@ fn make(
     schema: StructSchema<'_>,
     case: &Case<'_>,
     rows: &[Row<'_>],
-    words: &[String],
+    words: &[&str],
     source: &mut MemorySource<'_>,
     sink: &mut MemorySink,
 ) -> Result<Report>

@@ -1,7 +1,8 @@
 //! Messages that are refused, devices that fail, and words that can't be read.
 //!
-//! A row is a message or the program's words, an arrow, and the line that is told, of which `usage` stands for the
-//! lines of the usage. A line that begins with `#` says what the rows below it show.
+//! A row is a message or the program's words, an arrow, and the line that is told. `usage` stands for the usage of
+//! the verb, or of all verbs; it is told too behind what is unknown. A line that begins with `#` says what the
+//! rows below it show.
 use crate::tests::{EMPTY_ROOT, Setting, USAGE, answered, comes_to, run_on, tells};
 use capnp_wire_fixtures::bytes::bytes_of;
 use std::alloc::Global;
@@ -11,27 +12,60 @@ use std::test::Fail;
 /// Messages that a patch under `Lists` refuses.
 const HOSTILE: &str = "\
 # no bytes
- -> refused: 2
-00020000 -> refused: 3
+ -> refused: 2 Truncated (standard input)
+00020000 -> refused: 3 TooManySegments (standard input)
 # a pointer past the end
-0000000001000000 fcffff7f01000000 -> refused: 4
+0000000001000000 fcffff7f01000000 -> refused: 4 BadPointer (standard input)
 # a list where the root struct should be
-0000000001000000 0100000000000000 -> refused: 5
+0000000001000000 0100000000000000 -> refused: 5 WrongPointerKind (standard input)
 # a capability as the root, and inside
-0000000001000000 0300000000000000 -> refused: 9
-0000000002000000 0000000000000100 0300000000000000 -> refused: 9
+0000000001000000 0300000000000000 -> refused: 9 CapabilityPointer (standard input)
+0000000002000000 0000000000000100 0300000000000000 -> refused: 9 CapabilityPointer (standard input)
 # a pointer inside past the end, in a field that no call names
-0000000002000000 0000000000000100 fcffff7f01000000 -> refused: 4
+0000000002000000 0000000000000100 fcffff7f01000000 -> refused: 4 BadPointer (standard input)
 # a struct that points to itself
-0000000002000000 0000000000000100 f8ffffff00000100 -> refused: 8
+0000000002000000 0000000000000100 f8ffffff00000100 -> refused: 8 TooDeep (standard input)
 # a byte short
-0000000002000000 0000000001000000 05000000000000 -> refused: 2
+0000000002000000 0000000001000000 05000000000000 -> refused: 2 Truncated (standard input)
 ";
+
+/// How verbs are called.
+static USAGES: [(&str, &str); 6] = [
+    ("show", "[--set FILE] NAME [--indent]"),
+    ("get", "[--set FILE] NAME PATH [--indent]"),
+    ("patch", "[--set FILE] [--calls FILE] [--keep-going] NAME CALL.."),
+    ("new", "[--set FILE] [--calls FILE] [--keep-going] NAME CALL.."),
+    ("structs", "[--set FILE] [NAME]"),
+    ("schemas", "[--strict]"),
+];
+
+/// How a verb is called, as a line; all of them for another word.
+fn usage_of(alloc: Global, verb: &str) -> Result<String, Fail> {
+    for (name, words) in &USAGES {
+        if *name == verb {
+            return Ok(format!(in alloc; "usage: riftcalico {name} {words}")?);
+        }
+    }
+    Ok(String::from_str(alloc, USAGE)?)
+}
+
+/// What is told of words for a row's line.
+fn told_of(alloc: Global, words: &str, line: &str) -> Result<String, Fail> {
+    let (verb, _) = words.split_once('|').unwrap_or((words, ""));
+    if line == "usage" {
+        return usage_of(alloc, verb);
+    }
+    if line.starts_with("unknown ") {
+        let usage = usage_of(alloc, verb)?;
+        return Ok(format!(in alloc; "{line}\n{usage}")?);
+    }
+    Ok(String::from_str(alloc, line)?)
+}
 
 /// Asserts that words tell a line before the message is read: a refusal, the usage, or that they can't be read.
 fn line_is_told(rt: &impl Abort, alloc: Global, words: &str, line: &str) -> Result<(), Fail> {
     let status = if line.starts_with("refused: ") { 1 } else { 2 };
-    let told = if line == "usage" { USAGE } else { line };
+    let told = told_of(alloc, words, line)?;
     let wanted = format!(in alloc; "true {status} {told}\n|")?;
     comes_to(rt, alloc, &run_on(words, &EMPTY_ROOT, false), &wanted)?;
     comes_to(rt, alloc, &run_on(words, &EMPTY_ROOT, true), &wanted)
@@ -89,17 +123,20 @@ fn hostile_messages_are_refused_and_nothing_is_written(rt: HostRuntime) -> Resul
 
 /// Words that ask for nothing.
 const OTHER_WORDS: &str = "\
-# no words, and no verb
- -> usage
+# no verb, and none of the verbs; no words are one empty word here
+ -> unknown verb: 
+Get|Flat|a -> unknown verb: Get
+--indent|show|Flat -> unknown verb: --indent
+# words of a verb
 show -> usage
-Get|Flat|a -> usage
+show|Flat|a -> usage
+show|--strict|Flat -> usage
 get -> usage
 get|Flat -> usage
-get|Flat|a|--indented -> usage
-get|Flat|a|--indent|--indent -> usage
 get|--indent|Flat|a|b -> usage
 get|--set|set -> usage
 get|--set|set|Flat -> usage
+get|Flat|a|--set -> usage
 get|--calls|calls|Flat|a -> usage
 get|--keep-going|Flat|a|b -> usage
 patch -> usage
@@ -107,20 +144,27 @@ patch|--keep-going -> usage
 patch|--set|set -> usage
 patch|--calls|calls -> usage
 patch|--calls|calls|Flat|get a -> usage
+patch|Flat|--indent -> usage
 patch|--set|set|--calls|calls|--keep-going -> usage
 new -> usage
 new|--keep-going -> usage
 new|--set|set|--keep-going -> usage
 new|--calls|calls|Flat| -> usage
-# no struct of the built-in set
-get|Nope|a -> usage
-patch|Nope|get a -> usage
-new|Shapes.circle -> usage
-structs|Nope -> usage
 structs|Flat|a -> usage
 structs|--set -> usage
 structs|--set|set|Flat|a -> usage
 structs|--indent -> usage
+schemas|Flat -> usage
+schemas|--set|set -> usage
+# options that there aren't
+get|Flat|a|--indented -> unknown option: --indented
+patch|Flat|--limit|set a 1 -> unknown option: --limit
+structs|-- -> unknown option: --
+# no struct of the built-in set
+get|Nope|a -> refused: 64 NameNotFound (Nope)
+patch|Nope|get a -> refused: 64 NameNotFound (Nope)
+new|Shapes.circle -> refused: 64 NameNotFound (Shapes.circle)
+structs|Nope -> refused: 64 NameNotFound (Nope)
 ";
 
 #[test]
@@ -154,12 +198,12 @@ fn words_that_cannot_be_read_are_told_with_their_place(rt: HostRuntime) -> Resul
 
 /// Words under sets and names that there are none of.
 const NO_ROOTS: &str = "\
-get|--set|nowhere|Flat|a -> refused: 12
-patch|--set|nowhere|Flat|get a -> refused: 12
-new|--set|set|Flat -> refused: 2
-patch|--calls|nowhere|Flat -> refused: 12
-structs|--set|nowhere -> refused: 12
-structs|--set|set|Flat -> refused: 2
+get|--set|nowhere|Flat|a -> refused: 12 ReadFailed (nowhere)
+patch|--set|nowhere|Flat|get a -> refused: 12 ReadFailed (nowhere)
+new|--set|set|Flat -> refused: 2 Truncated (set)
+patch|--calls|nowhere|Flat -> refused: 12 ReadFailed (nowhere)
+structs|--set|nowhere -> refused: 12 ReadFailed (nowhere)
+structs|--set|set|Flat -> refused: 2 Truncated (set)
 ";
 
 #[test]
@@ -170,8 +214,12 @@ fn sets_and_names_are_refused_before_the_message_is_read(rt: HostRuntime) -> Res
 /// A message of `Flat`, whose number is 5.
 const FLAT: &str = "0000000002000000 0000000001000000 0500000000000000";
 
-/// The lines of a file of calls; the second has no line break at its end.
-static LINES: [&str; 2] = ["get a\nset a 6\nget a\n", "get a\nset a 6\r\nget a"];
+/// The lines of a file of calls. The second has no line break at its end, the third a remark and empty lines.
+static LINES: [&str; 3] = [
+    "get a\nset a 6\nget a\n",
+    "get a\nset a 6\r\nget a",
+    "# a remark\n\nget a\nset a 6\n\n#get a\nget a\n",
+];
 
 /// Asserts that lines are three calls.
 fn lines_are_calls(rt: &impl Abort, alloc: Global, calls: &str) -> Result<(), Fail> {
@@ -206,7 +254,7 @@ fn an_empty_file_has_no_calls(rt: HostRuntime) -> Result<(), Fail> {
 
 /// Files of calls, one of which can't be read, and what is told.
 static CALL_FILES: [(&[u8], &str); 5] = [
-    (b"get a\n\nget a\n", "2: : can't be read at 0\n"),
+    (b"get a\n\n # get\nget a\n", "2:  # get: can't be read at 0\n"),
     (
         b"get a\nset a 65536",
         "2: set a 65536: can't be read at 10\n",
@@ -262,7 +310,7 @@ fn each_write_fails(
     written: &[u8],
 ) -> Result<(), Fail> {
     for call in 0..written.len() {
-        let wanted = answered(alloc, unread, 1, &written[..call], b"refused: 13\n")?;
+        let wanted = answered(alloc, unread, 1, &written[..call], b"refused: 13 WriteFailed (standard output)\n")?;
         comes_to(rt, alloc, &Setting { call, ..*on }, &wanted)?;
     }
     Ok(())
@@ -305,16 +353,18 @@ fn each_write_fails_in_turn(rt: HostRuntime) -> Result<(), Fail> {
 /// Words of which each read of the message fails in turn.
 static READING: [&str; 2] = ["get|Flat|a", "patch|Flat|set a 7"];
 
-/// Asserts that each of so many calls of a device fails.
+/// Asserts that each of so many calls of a device fails, which is told by a place.
 fn each_call_fails(
     rt: &impl Abort,
     alloc: Global,
     on: &Setting<'_>,
     calls: usize,
+    place: &str,
 ) -> Result<(), Fail> {
     for call in 0..calls {
         let unread = call == 0 || on.device == "file";
-        let wanted = answered(alloc, unread, 1, &[], b"refused: 12\n")?;
+        let told = format!(in alloc; "refused: 12 ReadFailed ({place})\n")?;
+        let wanted = answered(alloc, unread, 1, &[], told.as_bytes())?;
         comes_to(rt, alloc, &Setting { call, ..*on }, &wanted)?;
     }
     Ok(())
@@ -328,7 +378,7 @@ fn each_read_fails_in_turn(rt: HostRuntime) -> Result<(), Fail> {
             device: "message",
             ..run_on(words, &bytes, true)
         };
-        each_call_fails(&rt, rt.alloc(), &on, bytes.len() + 1)?;
+        each_call_fails(&rt, rt.alloc(), &on, bytes.len() + 1, "standard input")?;
     }
     Ok(())
 }
@@ -341,7 +391,7 @@ fn each_read_of_a_file_fails_in_turn(rt: HostRuntime) -> Result<(), Fail> {
             device: "file",
             ..run_on(words, &EMPTY_ROOT, true)
         };
-        each_call_fails(&rt, rt.alloc(), &on, 7)?;
+        each_call_fails(&rt, rt.alloc(), &on, 7, "calls")?;
     }
     Ok(())
 }

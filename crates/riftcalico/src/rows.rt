@@ -14,6 +14,24 @@ pub(crate) const GOT: &str = "\
 =0
 \"(a = 5, y = 9, b = \"hi\")
 
+# the same by its own verb
+:show
+:Mixed
+<0000000004000000 0000000001000100 0500010009000000 010000001a000000 6869000000000000
+=0
+\"(a = 5, y = 9, b = \"hi\")
+
+# on lines, asked for before the name
+:show
+:--indent
+:Mixed
+<0000000003000000 0000000001000100 0500010009000000 0000000000000000
+=0
+\"(
+\"  a = 5,
+\"  y = 9
+\")
+
 # on lines
 :get
 :Mixed
@@ -64,7 +82,7 @@ pub(crate) const GOT: &str = "\
 :x
 <0000000003000000 0000000001000100 0500010009000000 0000000000000000
 =1
-!refused: 30
+!refused: 30 InactiveMember (standard input)
 
 # no field of the name
 :get
@@ -72,7 +90,7 @@ pub(crate) const GOT: &str = "\
 :c
 <0000000003000000 0000000001000100 0500010009000000 0000000000000000
 =1
-!refused: 20
+!refused: 20 FieldNotFound (standard input)
 
 # no field of the number
 :get
@@ -80,7 +98,7 @@ pub(crate) const GOT: &str = "\
 :#4
 <0000000003000000 0000000001000100 0500010009000000 0000000000000000
 =1
-!refused: 20
+!refused: 20 FieldNotFound (standard input)
 
 # a field of a number
 :get
@@ -88,7 +106,7 @@ pub(crate) const GOT: &str = "\
 :a.b
 <0000000003000000 0000000001000100 0500010009000000 0000000000000000
 =1
-!refused: 33
+!refused: 33 NotAContainer (standard input)
 
 # a group, and a union in it
 :get
@@ -110,7 +128,7 @@ pub(crate) const GOT: &str = "\
 :tag.u1
 <0000000005000000 0000000002000200 0000010003000000 0000000000000000 0000000000000000 0000000000000000
 =1
-!refused: 30
+!refused: 30 InactiveMember (standard input)
 
 # a group that isn't active
 :get
@@ -118,7 +136,7 @@ pub(crate) const GOT: &str = "\
 :circle.r
 <0000000005000000 0000000002000200 0000010003000000 0000000000000000 0000000000000000 0000000000000000
 =1
-!refused: 30
+!refused: 30 InactiveMember (standard input)
 
 # a step past an untyped pointer
 :get
@@ -126,7 +144,7 @@ pub(crate) const GOT: &str = "\
 :tag.any.#0
 <0000000005000000 0000000002000200 0000010003000000 0000000000000000 0000000000000000 0000000000000000
 =1
-!refused: 31
+!refused: 31 UntypedStep (standard input)
 
 # an element of a list of structs, and its field
 :get
@@ -161,7 +179,7 @@ pub(crate) const GOT: &str = "\
 <000000000b000000 0000000000000400 0d0000001a000000 0d00000012000000 0d00000012000000 0d00000017000000 \
     0102ff0000000000 00ff000000000000 7800000000000000 0800000001000000 0100000000000000 0200000000000000
 =1
-!refused: 32
+!refused: 32 NoSuchElement (standard input)
 
 # a field of a list
 :get
@@ -170,7 +188,7 @@ pub(crate) const GOT: &str = "\
 <000000000b000000 0000000000000400 0d0000001a000000 0d00000012000000 0d00000012000000 0d00000017000000 \
     0102ff0000000000 00ff000000000000 7800000000000000 0800000001000000 0100000000000000 0200000000000000
 =1
-!refused: 33
+!refused: 33 NotAContainer (standard input)
 
 # what the path doesn't touch is not looked at: `bytes` is a capability
 :get
@@ -185,7 +203,7 @@ pub(crate) const GOT: &str = "\
 :bytes
 <0000000006000000 0000000000000400 0300000000000000 0000000000000000 0500000012000000 0000000000000000 7800000000000000
 =1
-!refused: 9
+!refused: 9 CapabilityPointer (standard input)
 
 # a message that ends too soon
 :get
@@ -193,7 +211,7 @@ pub(crate) const GOT: &str = "\
 :a
 <0000000002000000 0000000001000000
 =1
-!refused: 2
+!refused: 2 Truncated (standard input)
 
 # a default that leads to itself is entered as far as the path goes
 :get
@@ -201,7 +219,7 @@ pub(crate) const GOT: &str = "\
 :again.again.again.end
 <0000000003000000 0000000001000100 0100000000000000 0000000000000000
 =1
-!refused: 30
+!refused: 30 InactiveMember (standard input)
 ";
 
 /// Calls on messages and on empty roots.
@@ -290,10 +308,10 @@ pub(crate) const PATCHED: &str = "\
 
 # the same where the run goes on: what it leaves is written
 :patch
-:--keep-going
 :Mixed
 :set a 6
 :get x
+:--keep-going
 :set c 1
 :get y
 <0000000003000000 0000000001000100 0500010009000000 0000000000000000
@@ -469,4 +487,43 @@ pub(crate) const LISTED: &str = "\
 \"id: UInt64, data bit 0, default 0
 \"displayName: Text, pointer 0, default \"\"
 \"size: ElementSize, data bit 64, default 0
+";
+
+/// What the program tells of itself.
+pub(crate) const TOLD: &str = "\
+# its verbs
+:--help
+<
+=0
+\"Shows, makes and patches Cap'n Proto messages under schemas that are known at run time. Messages are read from standard
+\"input and written to standard output.
+\"
+\"usage: riftcalico show [--set FILE] NAME [--indent]
+\"       riftcalico get [--set FILE] NAME PATH [--indent]
+\"       riftcalico patch [--set FILE] [--calls FILE] [--keep-going] NAME CALL..
+\"       riftcalico new [--set FILE] [--calls FILE] [--keep-going] NAME CALL..
+\"       riftcalico structs [--set FILE] [NAME]
+\"       riftcalico schemas [--strict]
+\"
+\"More of a verb is told by 'riftcalico VERB --help', the version by 'riftcalico --version'.
+
+# a verb, whatever else is said
+:structs
+:Flat
+:--set
+:set
+:Flat
+:--help
+<
+=0
+\"usage: riftcalico structs [--set FILE] [NAME]
+\"
+\"Lists the structs of a set, or the fields of the struct NAME.
+\"The set is that of FILE, as 'riftcalico schemas' writes it, or else the built-in one.
+
+# the version
+:--version
+<
+=0
+\"riftcalico 0.1.0
 ";

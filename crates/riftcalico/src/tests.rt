@@ -4,7 +4,7 @@
 //! bytes, the status, what was told, a bar, and what was written. Rows are texts (`rows`).
 ghost use Rattle.std.specs.Prelude.{⊤};
 
-use crate::rows::{GOT, LISTED, PATCHED};
+use crate::rows::{GOT, LISTED, PATCHED, TOLD};
 use capnp_show_engine::opener::Opener;
 use capnp_wire::device::DeviceFault;
 use capnp_wire::memory::{MemorySink, MemorySource};
@@ -16,10 +16,12 @@ use std::process::Abort;
 use std::test::Fail;
 
 pub(crate) const USAGE: &str = "\
-usage: riftcalico get [--set FILE] NAME PATH [--indent]
+usage: riftcalico show [--set FILE] NAME [--indent]
+       riftcalico get [--set FILE] NAME PATH [--indent]
        riftcalico patch [--set FILE] [--calls FILE] [--keep-going] NAME CALL..
        riftcalico new [--set FILE] [--calls FILE] [--keep-going] NAME CALL..
-       riftcalico structs [--set FILE] [NAME]";
+       riftcalico structs [--set FILE] [NAME]
+       riftcalico schemas [--strict]";
 
 /// The only paths that have a file: of a set and of calls.
 const SET: &str = "set";
@@ -219,4 +221,9 @@ fn messages_are_patched(rt: HostRuntime) -> Result<(), Fail> {
 #[test]
 fn structs_are_listed(rt: HostRuntime) -> Result<(), Fail> {
     rows_are_so(&rt, rt.alloc(), LISTED)
+}
+
+#[test]
+fn the_program_tells_of_itself(rt: HostRuntime) -> Result<(), Fail> {
+    rows_are_so(&rt, rt.alloc(), TOLD)
 }

@@ -42,12 +42,12 @@ IsSoundJob (job.Help v) = ⊤
 IsSoundJob job.Version = ⊤
 
 -- a message in memory that is written is one
-abbrev pub IsWritable : Output → Type 0
-IsWritable output.Nothing = ⊤
-IsWritable (output.Fixed text) = ⊤
-IsWritable (output.Text text) = ⊤
-IsWritable (output.Bytes bytes) = ⊤
-IsWritable (output.Message m) = IsMessage m
+abbrev pub IsWritableOutput : Output → Type 0
+IsWritableOutput output.Nothing = ⊤
+IsWritableOutput (output.Fixed text) = ⊤
+IsWritableOutput (output.Text text) = ⊤
+IsWritableOutput (output.Bytes bytes) = ⊤
+IsWritableOutput (output.Message m) = IsMessage m
 
 -- nothing is told, and no call was refused
 pub record IsQuiet (a : Answer) : Type 0 where
@@ -55,15 +55,15 @@ pub record IsQuiet (a : Answer) : Type 0 where
   pub refused : a.refused ≡ false
 
 -- a text is written, of which something is so
-abbrev pub IsText : Output → (so : List ℕ → Type 0) → Type 0
-IsText (output.Fixed text) so = so text.now
-IsText (output.Text text) so = so (string_bytes text)
-IsText output.Nothing so = ⊥
-IsText (output.Bytes bytes) so = ⊥
-IsText (output.Message m) so = ⊥
+abbrev pub IsTextOutput : Output → (so : List ℕ → Type 0) → Type 0
+IsTextOutput (output.Fixed text) so = so text.now
+IsTextOutput (output.Text text) so = so (string_bytes text)
+IsTextOutput output.Nothing so = ⊥
+IsTextOutput (output.Bytes bytes) so = ⊥
+IsTextOutput (output.Message m) so = ⊥
 
 pub record IsTextAnswer (a : Answer) (so : List ℕ → Type 0) : Type 0 where
-  pub text : IsText a.output so
+  pub text : IsTextOutput a.output so
   pub quiet : IsQuiet a
 
 -- ---- a value ----
@@ -73,8 +73,8 @@ abbrev pub IsGetAnswer : GetJob → (bytes : List ℕ) → Answer → Type 0
 IsGetAnswer j bytes a = IsTextAnswer a (IsLineOf (got_text (set_of j.schema) (number_of j.schema) (path_seen j.steps.items) j.indented bytes))
 
 -- there is none
-abbrev pub IsNoText : GetJob → (bytes : List ℕ) → ErrorKind → Type 0
-IsNoText j bytes kind = got_text (set_of j.schema) (number_of j.schema) (path_seen j.steps.items) j.indented bytes ≡ Err kind
+abbrev pub IsNoGetAnswer : GetJob → (bytes : List ℕ) → ErrorKind → Type 0
+IsNoGetAnswer j bytes kind = got_text (set_of j.schema) (number_of j.schema) (path_seen j.steps.items) j.indented bytes ≡ Err kind
 
 -- ---- calls ----
 
@@ -136,7 +136,7 @@ IsAnswer job.Version bytes a = IsTextAnswer a (λ text. text ≡ version_line)
 
 -- there is no answer, for this refusal
 abbrev pub IsNoAnswer : Job → (bytes : List ℕ) → Error → Type 0
-IsNoAnswer (job.Get j) bytes e = IsNoText j bytes e.kind
+IsNoAnswer (job.Get j) bytes e = IsNoGetAnswer j bytes e.kind
 IsNoAnswer (job.Patch j) bytes e = IsUnread bytes e.kind
 IsNoAnswer (job.New j) bytes e = ⊥
 IsNoAnswer (job.Structs schemas) bytes e = ⊥

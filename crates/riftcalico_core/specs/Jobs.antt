@@ -97,8 +97,8 @@ abbrev pub IsNoneNamed : Schemas → Option (List ℕ) → ErrorKind → Type 0
 IsNoneNamed set None kind = ⊥
 IsNoneNamed set (Some name) kind = IsNotNamed set name kind
 
-abbrev pub IsNameMissing : Plan → Schemas → ErrorKind → Type 0
-IsNameMissing p set kind = IsNoneNamed set (root_name p) kind
+abbrev pub IsRootUnnamed : Plan → Schemas → ErrorKind → Type 0
+IsRootUnnamed p set kind = IsNoneNamed set (root_name p) kind
 
 -- whether a message is read
 abbrev pub wants_input : Job → Bool

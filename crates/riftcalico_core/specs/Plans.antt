@@ -103,12 +103,12 @@ as_plan plan (Ok p) = Ok (plan p)
 as_plan plan (Err line) = Err line
 
 -- what a task asks, with the bytes of the file of its calls, if it has one
-abbrev pub plan_of : Task → (file : List ℕ) → Told Plan
-plan_of (get_task t) file = get_plan_of t
-plan_of (patch_task t) file = as_plan patch_plan (calls_plan_of t file)
-plan_of (new_task t) file = as_plan new_plan (calls_plan_of t file)
-plan_of (structs_task set) file = Ok (structs_plan set)
-plan_of (fields_task r) file = Ok (fields_plan r)
-plan_of (convert_task strict) file = Ok (convert_plan strict)
-plan_of (help_task v) file = Ok (help_plan v)
-plan_of version_task file = Ok version_plan
+abbrev pub task_plan : Task → (file : List ℕ) → Told Plan
+task_plan (get_task t) file = get_plan_of t
+task_plan (patch_task t) file = as_plan patch_plan (calls_plan_of t file)
+task_plan (new_task t) file = as_plan new_plan (calls_plan_of t file)
+task_plan (structs_task set) file = Ok (structs_plan set)
+task_plan (fields_task r) file = Ok (fields_plan r)
+task_plan (convert_task strict) file = Ok (convert_plan strict)
+task_plan (help_task v) file = Ok (help_plan v)
+task_plan version_task file = Ok version_plan

@@ -6,7 +6,7 @@ ghost use Rattle.capnp_patch.specs.Patches.{IsUnread};
 ghost use Rattle.capnp_schema.specs.Entries.{lists_seen};
 ghost use Rattle.capnp_schema.specs.StructHandles.{IsStruct};
 ghost use Rattle.capnp_set_engine.specs.Convert.{HasNoSet};
-ghost use Rattle.riftcalico_core.specs.Answers.{IsAnswer, IsConvertAnswer, IsFieldsAnswer, IsGetAnswer, IsNewAnswer, IsNoAnswer, IsNoText, IsPatchAnswer, IsQuiet, IsRunAnswer, IsSoundJob, IsStructsAnswer, IsWritable};
+ghost use Rattle.riftcalico_core.specs.Answers.{IsAnswer, IsConvertAnswer, IsFieldsAnswer, IsGetAnswer, IsNewAnswer, IsNoAnswer, IsNoGetAnswer, IsPatchAnswer, IsQuiet, IsRunAnswer, IsSoundJob, IsStructsAnswer, IsWritableOutput};
 
 use crate::calls::make_calls;
 use crate::job::{CallsJob, GetJob, Job};
@@ -67,7 +67,7 @@ fn answer_quietly(alloc: Global, output: Output) -> Answer
 fn answer_get(alloc: Global, job: &GetJob<'_, '_>, input: &[u8]) -> Result<Answer>
     requires { IsStruct job.now.schema }
     ensures answer { IfOk result (IsGetAnswer job.now input.now) }
-    ensures refused { IfErr result (λ e. e.kind ≢ OutOfMemory → IsNoText job.now input.now e.kind) }
+    ensures refused { IfErr result (λ e. e.kind ≢ OutOfMemory → IsNoGetAnswer job.now input.now e.kind) }
 {
     let line = get_line(alloc, job.schema, &job.steps, input, job.indented)?;
     Ok(answer_quietly(alloc, Output::Text(line)))
@@ -78,7 +78,7 @@ fn answer_run(alloc: Global, run: Run, words: &[&str], keep_going: bool) -> Resu
     requires { IsMessage run.message }
     ensures answer { IfOk result (IsRunAnswer (map (λ w. w.now) words.now) keep_going run.replies.items
         (message_tree run.message)) }
-    ensures writable { IfOk result (λ a. IsWritable a.output) }
+    ensures writable { IfOk result (λ a. IsWritableOutput a.output) }
     ensures memory { IfErr result (λ e. e.kind ≡ OutOfMemory) }
 {
     let Run { message, replies } = run;
@@ -100,7 +100,7 @@ fn answer_run(alloc: Global, run: Run, words: &[&str], keep_going: bool) -> Resu
 fn answer_patch(alloc: Global, job: &CallsJob<'_, '_, '_>, input: &[u8]) -> Result<Answer>
     requires { IsStruct job.now.schema }
     ensures answer { IfOk result (IsPatchAnswer job.now input.now) }
-    ensures writable { IfOk result (λ a. IsWritable a.output) }
+    ensures writable { IfOk result (λ a. IsWritableOutput a.output) }
     ensures refused { IfErr result (λ e. e.kind ≢ OutOfMemory → IsUnread input.now e.kind) }
 {
     let calls = make_calls(alloc, &job.calls)?;
@@ -112,7 +112,7 @@ fn answer_patch(alloc: Global, job: &CallsJob<'_, '_, '_>, input: &[u8]) -> Resu
 fn answer_new(alloc: Global, job: &CallsJob<'_, '_, '_>) -> Result<Answer>
     requires { IsStruct job.now.schema }
     ensures answer { IfOk result (IsNewAnswer job.now) }
-    ensures writable { IfOk result (λ a. IsWritable a.output) }
+    ensures writable { IfOk result (λ a. IsWritableOutput a.output) }
     ensures memory { IfErr result (λ e. e.kind ≡ OutOfMemory) }
 {
     let calls = make_calls(alloc, &job.calls)?;
@@ -160,7 +160,7 @@ fn answer_convert(alloc: Global, strict: bool, input: &[u8]) -> Result<Answer>
 pub fn get_answer(alloc: Global, job: &Job<'_, '_, '_>, input: &[u8]) -> Result<Answer>
     requires { IsSoundJob job.now }
     ensures answer { IfOk result (IsAnswer job.now input.now) }
-    ensures writable { IfOk result (λ a. IsWritable a.output) }
+    ensures writable { IfOk result (λ a. IsWritableOutput a.output) }
     ensures refused { IfErr result (λ e. e.kind ≢ OutOfMemory → IsNoAnswer job.now input.now e) }
 {
     match job {

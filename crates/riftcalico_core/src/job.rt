@@ -2,7 +2,7 @@
 ghost use Rattle.std.specs.Prelude.{◌≡◌, ◌≢◌, IfErr, IfOk, MatchResult, string_bytes};
 ghost use Rattle.capnp_device.specs.declared.error.ErrorKind.TheVariants.{OutOfMemory};
 ghost use Rattle.capnp_schema.specs.Entries.{lists_seen};
-ghost use Rattle.riftcalico_core.specs.Jobs.{IsCallsJob, IsGetJob, IsJob, IsLineOfPlan, IsNameMissing, IsNotNamed, IsValueUnread, wants_input};
+ghost use Rattle.riftcalico_core.specs.Jobs.{IsCallsJob, IsGetJob, IsJob, IsLineOfPlan, IsRootUnnamed, IsNotNamed, IsValueUnread, wants_input};
 ghost use Rattle.riftcalico_core.specs.PlansSeen.{calls_plan_seen, get_plan_seen, plan_seen};
 
 use crate::calls::{ReadCall, read_all_calls, steps_of};
@@ -123,7 +123,7 @@ pub fn find_job<'s, 'c, 'w>(
     ensures job { IfOk result (λ r. MatchResult r (IsJob (plan_seen plan.now) (lists_seen schemas.now))
         (λ line. IsLineOfPlan (plan_seen plan.now) (lists_seen schemas.now) (string_bytes line))) }
     ensures refused { IfErr result (λ e. e.kind ≢ OutOfMemory
-        → IsNameMissing (plan_seen plan.now) (lists_seen schemas.now) e.kind) }
+        → IsRootUnnamed (plan_seen plan.now) (lists_seen schemas.now) e.kind) }
 {
     match plan {
         Plan::Get(plan) => Ok(Ok(Job::Get(find_get_job(alloc, schemas, plan)?))),

@@ -3,7 +3,7 @@ ghost use Rattle.std.specs.Prelude.{◌≡◌, IfErr, IfOk, map};
 ghost use Rattle.std.specs.Option.{option_map};
 ghost use Rattle.std.specs.Str.{is_utf8};
 ghost use Rattle.capnp_device.specs.declared.error.ErrorKind.TheVariants.{OutOfMemory};
-ghost use Rattle.riftcalico_core.specs.Plans.{calls_file, calls_plan_of, get_plan_of, given_file, given_plan, plan_of, text_plan, words_plan};
+ghost use Rattle.riftcalico_core.specs.Plans.{calls_file, calls_plan_of, get_plan_of, given_file, given_plan, task_plan, text_plan, words_plan};
 ghost use Rattle.riftcalico_core.specs.PlansSeen.{told_calls, told_calls_plan, told_plan};
 ghost use Rattle.riftcalico_words.specs.RequestSeen.{calls_task_of, get_task_of, given_of, task_seen};
 
@@ -179,7 +179,7 @@ fn plan_get<'a>(alloc: Global, request: GetRequest<'a>) -> Result<Told<Plan<'a>>
 /// What a task asks, once its words are read; or the line that tells which of them can't be. `file` has the bytes of the
 /// file of its calls, if it has one. Refused with `OutOfMemory` alone.
 pub fn read_plan<'a>(alloc: Global, task: &Task<'a>, file: &'a [u8]) -> Result<Told<Plan<'a>>>
-    ensures planned { IfOk result (λ r. told_plan r ≡ plan_of (task_seen task.now) file.now) }
+    ensures planned { IfOk result (λ r. told_plan r ≡ task_plan (task_seen task.now) file.now) }
     ensures memory { IfErr result (λ e. e.kind ≡ OutOfMemory) }
 {
     match task {

@@ -61,7 +61,7 @@ IsNotPut o unwritten written written' failures failures' kind =
     ((kind ≡ WriteFailed) × HasFailed failures failures' × IsOutputCut o written written') ⊎ ((kind ≡ OutOfMemory) × unwritten)
 
 -- an answer was written, or not
-abbrev pub IsPut : Answer → (unwritten : Type 0) → (written written' : Option (List ℕ)) → (failures failures' : ℕ) → Ran → Type 0
-IsPut a unwritten written written' failures failures' r =
+abbrev pub IsAnswerPut : Answer → (unwritten : Type 0) → (written written' : Option (List ℕ)) → (failures failures' : ℕ) → Ran → Type 0
+IsAnswerPut a unwritten written written' failures failures' r =
     IsFault r (λ f. (f.blamed ≡ blamed.«Output») × IsNotPut a.output unwritten written written' failures failures' f.error.kind)
     ⊎ (IsAnswered r a × IsOutputPut a.output unwritten written written')

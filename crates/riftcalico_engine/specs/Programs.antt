@@ -49,8 +49,8 @@ module _ {O F : Type 0} (opens : Opens O F) (holds : F → Option (List ℕ)) (f
   IsIdle = (new ≡ old) × untouched × unwritten
 
   -- What words ask for was done; or why they ask for nothing was told. There may be no memory for the words: that is told.
-  abbrev pub IsDone : AskedRequest → (status : ℕ) → (errors errors' : Option (List ℕ)) → (failures failures' : ℕ) → Type 0
-  IsDone (Ok t) status errors errors' failures failures' =
+  abbrev pub IsProgramDone : AskedRequest → (status : ℕ) → (errors errors' : Option (List ℕ)) → (failures failures' : ℕ) → Type 0
+  IsProgramDone (Ok t) status errors errors' failures failures' =
       IsTaskDone t status errors errors' failures failures'
       ⊎ ((status ≡ 1) × IsTold (refusal_line OutOfMemory) errors errors' failures failures' × IsIdle)
-  IsDone (Err m) status errors errors' failures failures' = IsMisuseTold m status errors errors' failures failures' × IsIdle
+  IsProgramDone (Err m) status errors errors' failures failures' = IsMisuseTold m status errors errors' failures failures' × IsIdle

@@ -9,13 +9,13 @@ use Rattle.capnp_show_engine.specs.Opened.{file_paths}
 use Rattle.capnp_show_engine.specs.Show.{IsRead}
 use Rattle.riftcalico_core.specs.Answers.{IsAnswer, IsNoAnswer}
 use Rattle.riftcalico_core.specs.Faults.{task_set_file}
-use Rattle.riftcalico_core.specs.Jobs.{IsJob, IsLineOfPlan, IsNameMissing, IsNoSetOf, IsSetOfFile, wants_input}
-use Rattle.riftcalico_core.specs.Plans.{Plan, calls_file, plan_of}
+use Rattle.riftcalico_core.specs.Jobs.{IsJob, IsLineOfPlan, IsRootUnnamed, IsNoSetOf, IsSetOfFile, wants_input}
+use Rattle.riftcalico_core.specs.Plans.{Plan, calls_file, task_plan}
 use Rattle.riftcalico_core.specs.declared.answer.Answer.{Answer}
 use Rattle.riftcalico_core.specs.declared.fault.Blamed.TheVariants as blamed
 use Rattle.riftcalico_core.specs.declared.job.Job.{Job}
 use Rattle.riftcalico_engine.specs.Files.{IsFileRead, IsFileUnread, Opens}
-use Rattle.riftcalico_engine.specs.Outputs.{IsFault, IsPut, IsUnreadable, Ran}
+use Rattle.riftcalico_engine.specs.Outputs.{IsFault, IsAnswerPut, IsUnreadable, Ran}
 use Rattle.riftcalico_words.specs.Tasks.{Task}
 
 -- the files that a task may open, in their order
@@ -28,7 +28,7 @@ task_paths t = file_paths (calls_file t) ++ file_paths (task_set_file t)
 abbrev pub IsAnsweredTo : Job → (bytes : List ℕ) → (unwritten : Type 0) → (written written' : Option (List ℕ)) → (writes writes' : ℕ) → Ran → Type 0
 IsAnsweredTo j bytes unwritten written written' writes writes' r =
     (IsFault r (λ f. (f.blamed ≡ blamed.Input) × ((f.error.kind ≡ OutOfMemory) ⊎ IsNoAnswer j bytes f.error)) × unwritten)
-    ⊎ ((a : Answer) × IsAnswer j bytes a × IsPut a unwritten written written' writes writes' r)
+    ⊎ ((a : Answer) × IsAnswer j bytes a × IsAnswerPut a unwritten written written' writes writes' r)
 
 -- these are the message's bytes, read to the end, or none is wanted, and then nothing was read
 abbrev pub IsInputRead : (wanted : Bool) → (untouched : Type 0) → (left left' : Option (List ℕ)) → (bytes : List ℕ) → Type 0
@@ -50,7 +50,7 @@ module _ (untouched : Type 0) (left left' : Option (List ℕ)) (reads reads' : �
   -- the struct of the root is in the set, and the values of calls can be read
   abbrev pub IsUnderSchemas : Plan → Schemas → Ran → Type 0
   IsUnderSchemas p set r =
-      (IsFault r (λ f. (f.blamed ≡ blamed.Name) × ((f.error.kind ≡ OutOfMemory) ⊎ IsNameMissing p set f.error.kind)) × untouched × unwritten)
+      (IsFault r (λ f. (f.blamed ≡ blamed.Name) × ((f.error.kind ≡ OutOfMemory) ⊎ IsRootUnnamed p set f.error.kind)) × untouched × unwritten)
       ⊎ ((IsUnreadable r (λ line. IsLineOfPlan p set line) × untouched × unwritten)
       ⊎ ((j : Job) × IsJob p set j × IsJobRun j r))
 
@@ -73,8 +73,8 @@ module _ {O F : Type 0} (opens : Opens O F) (holds : F → Option (List ℕ)) (f
   abbrev pub IsWordsRun : Task → (calls : List ℕ) → Ran → Type 0
   IsWordsRun t calls r =
       (IsFault r (λ f. f.error.kind ≡ OutOfMemory) × (new ≡ old) × untouched × unwritten)
-      ⊎ ((IsUnreadable r (λ line. plan_of t calls ≡ Err line) × (new ≡ old) × untouched × unwritten)
-      ⊎ ((p : Plan) × (plan_of t calls ≡ Ok p) × IsPlanRun (task_set_file t) p r))
+      ⊎ ((IsUnreadable r (λ line. task_plan t calls ≡ Err line) × (new ≡ old) × untouched × unwritten)
+      ⊎ ((p : Plan) × (task_plan t calls ≡ Ok p) × IsPlanRun (task_set_file t) p r))
 
 module _ {O F : Type 0} (opens : Opens O F) (holds : F → Option (List ℕ)) (fails : F → ℕ) (old new : O)
     (untouched : Type 0) (left left' : Option (List ℕ)) (reads reads' : ℕ) (unwritten : Type 0) (written written' : Option (List ℕ)) (writes writes' : ℕ) where

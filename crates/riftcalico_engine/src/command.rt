@@ -2,7 +2,7 @@
 ghost use Rattle.std.specs.Prelude.{◌≡◌, ⊤, Ok, map, string_bytes};
 ghost use Rattle.capnp_show_engine.specs.declared.opener.FilesOpener.{FilesOpener as OfFiles};
 ghost use Rattle.capnp_show_engine.specs.Opened.{AsksAmong};
-ghost use Rattle.riftcalico_engine.specs.Programs.{IsDone, IsFaultTold, IsMisuseTold, IsRanTold, IsTaskDone, status_of};
+ghost use Rattle.riftcalico_engine.specs.Programs.{IsProgramDone, IsFaultTold, IsMisuseTold, IsRanTold, IsTaskDone, status_of};
 ghost use Rattle.riftcalico_engine.specs.Runs.{task_paths};
 ghost use Rattle.riftcalico_words.specs.Requests.{asked_request};
 ghost use Rattle.riftcalico_words.specs.RequestSeen.{fault_seen, task_seen};
@@ -100,7 +100,7 @@ pub fn command_over<O: Opener, R: Source, W: Sink, F: Sink>(
     sink: &mut W,
     errors: &mut F,
 ) -> u8
-    ensures done { IsDone O.opens O.File.left O.File.failures opener.old opener.new (source.new ≡ source.old)
+    ensures done { IsProgramDone O.opens O.File.left O.File.failures opener.old opener.new (source.new ≡ source.old)
         (R.left source.old) (R.left source.new) (R.failures source.old) (R.failures source.new) (sink.new ≡ sink.old)
         (W.written sink.old) (W.written sink.new) (W.failures sink.old) (W.failures sink.new)
         (asked_request (map string_bytes words.now)) result (F.written errors.old) (F.written errors.new)
@@ -128,7 +128,7 @@ pub fn command<S: Files, R: Source, W: Sink, F: Sink>(
     sink: &mut W,
     errors: &mut F,
 ) -> u8
-    ensures done { (before : OfFiles S) × (after : OfFiles S) × IsDone
+    ensures done { (before : OfFiles S) × (after : OfFiles S) × IsProgramDone
         (λ _ _ _ _. ⊤) ⟦<ReadSource<S::File> as Source>⟧.left ⟦<ReadSource<S::File> as Source>⟧.failures before after
         (source.new ≡ source.old)
         (R.left source.old) (R.left source.new) (R.failures source.old) (R.failures source.new) (sink.new ≡ sink.old)

@@ -5,13 +5,13 @@ ghost use Rattle.std.specs.Prelude.{[], ◌≡◌, ◌≢◌, IfErr, IfOk, OnOk}
 ghost use Rattle.std.specs.Option.{option_map};
 ghost use Rattle.capnp_schema.specs.Entries.{lists_seen};
 ghost use Rattle.capnp_show_engine.specs.Opened.{AsksAmong, file_paths};
-ghost use Rattle.riftcalico_core.specs.Answers.{IsSoundJob, IsWritable};
+ghost use Rattle.riftcalico_core.specs.Answers.{IsSoundJob, IsWritableOutput};
 ghost use Rattle.riftcalico_core.specs.Faults.{task_set_file};
 ghost use Rattle.riftcalico_core.specs.Jobs.{wants_input};
 ghost use Rattle.riftcalico_core.specs.Plans.{calls_file};
 ghost use Rattle.riftcalico_core.specs.PlansSeen.{plan_seen};
 ghost use Rattle.riftcalico_engine.specs.Files.{IsFileRead, IsFileUnread};
-ghost use Rattle.riftcalico_engine.specs.Outputs.{IsNotPut, IsOutputPut, IsPut};
+ghost use Rattle.riftcalico_engine.specs.Outputs.{IsNotPut, IsOutputPut, IsAnswerPut};
 ghost use Rattle.riftcalico_engine.specs.Runs.{IsAnsweredTo, IsInputRead, IsInputUnread, IsJobRun, IsPlanRun, IsRun, IsSetRun, IsUnderSchemas, IsWordsRun, task_paths};
 ghost use Rattle.riftcalico_words.specs.RequestSeen.{task_seen};
 
@@ -50,7 +50,7 @@ fn fault(error: Error, blamed: Blamed) -> Fault
 
 /// Writes an output.
 fn put_output<W: Sink>(output: &Output, sink: &mut W) -> Result<()>
-    requires { IsWritable output.now }
+    requires { IsWritableOutput output.now }
     ensures put { OnOk result (IsOutputPut output.now (sink.new ≡ sink.old) (W.written sink.old) (W.written sink.new)) }
     ensures refused { IfErr result (λ e. IsNotPut output.now (sink.new ≡ sink.old) (W.written sink.old)
         (W.written sink.new) (W.failures sink.old) (W.failures sink.new) e.kind) }
@@ -66,8 +66,8 @@ fn put_output<W: Sink>(output: &Output, sink: &mut W) -> Result<()>
 
 /// Writes an answer.
 fn put_answer<W: Sink>(answer: Answer, sink: &mut W) -> Ran
-    requires { IsWritable answer.output }
-    ensures { IsPut answer (sink.new ≡ sink.old) (W.written sink.old) (W.written sink.new) (W.failures sink.old)
+    requires { IsWritableOutput answer.output }
+    ensures { IsAnswerPut answer (sink.new ≡ sink.old) (W.written sink.old) (W.written sink.new) (W.failures sink.old)
         (W.failures sink.new) result }
 {
     match put_output(&answer.output, sink) {
