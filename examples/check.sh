@@ -306,16 +306,30 @@ expect 'a number past its type' $? 2 '' "1: set a 65536: can't be read at 10"
 ./riftcalico get Mixed a..b < examples/mixed.bin > "$scratch/out" 2> "$scratch/err"
 expect 'a path with an empty name' $? 2 '' "1: a..b: can't be read at 2"
 ./riftcalico show Mixed a < examples/mixed.bin > "$scratch/out" 2> "$scratch/err"
-expect 'another form' $? 2 '' 'usage: riftcalico get [--set FILE] NAME PATH [--indent]
+expect 'another form' $? 2 '' 'usage: riftcalico show [--set FILE] NAME [--indent]'
+./riftcalico shows Mixed < examples/mixed.bin > "$scratch/out" 2> "$scratch/err"
+expect 'another verb' $? 2 '' 'unknown verb: shows
+usage: riftcalico show [--set FILE] NAME [--indent]
+       riftcalico get [--set FILE] NAME PATH [--indent]
        riftcalico patch [--set FILE] [--calls FILE] [--keep-going] NAME CALL..
        riftcalico new [--set FILE] [--calls FILE] [--keep-going] NAME CALL..
-       riftcalico structs [--set FILE] [NAME]'
+       riftcalico structs [--set FILE] [NAME]
+       riftcalico schemas [--strict]'
 ./riftcalico get Flat a < /dev/null > "$scratch/out" 2> "$scratch/err"
-expect 'a path of no bytes' $? 1 '' 'refused: 2'
+expect 'a path of no bytes' $? 1 '' 'refused: 2 Truncated (standard input)'
 ./riftcalico get Shapes circle.r < examples/shapes_tag.bin > "$scratch/out" 2> "$scratch/err"
-expect "a member that isn't active" $? 1 '' 'refused: 30'
+expect "a member that isn't active" $? 1 '' 'refused: 30 InactiveMember (standard input)'
+./riftcalico get Shape . < examples/shapes_tag.bin > "$scratch/out" 2> "$scratch/err"
+expect 'no struct of the name' $? 1 '' 'refused: 64 NameNotFound (Shape)'
 ./riftcalico new Flat 'set a 5' > /dev/full 2> "$scratch/err"
-expect 'a full output' $? 1 '' 'refused: 13'
+expect 'a full output' $? 1 '' 'refused: 13 WriteFailed (standard output)'
+
+# verbs that do what the other programs do
+./riftcalico show --indent Mixed < examples/mixed_segments.bin > "$scratch/out" 2> "$scratch/err"
+expect 'show' $? 0 "$(./capnp_show Mixed --indent < examples/mixed_segments.bin)" ''
+./riftcalico schemas < examples/addressbook.request > "$scratch/made" 2> "$scratch/err"
+expect 'schemas' $? 0 '' ''
+cmp -- "$scratch/made" "$scratch/addressbook.set" || fail 'schemas: other bytes than those of capnp_set'
 
 [ "$failures" -eq 0 ] || exit 1
 echo "$checks cases: all as expected"

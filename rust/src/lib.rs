@@ -126,8 +126,8 @@ pub mod message {
 /// Calls along paths on messages, as words say them; what stands at a path.
 pub mod patch {
     pub use crate::capnp_call::calls::{any_refused, is_refused};
-    pub use crate::capnp_patch::engine::{new_message, patch, Report};
-    pub use crate::capnp_patch::get::get;
+    pub use crate::capnp_patch::engine::run_bytes;
+    pub use crate::capnp_patch::get::get_line;
     pub use crate::capnp_patch::lines::get_lines;
     pub use crate::capnp_patch::reach::read_path;
     pub use crate::capnp_words::call::{parse_call, CallWord, WordOp};

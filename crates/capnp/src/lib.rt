@@ -70,8 +70,8 @@ pub mod message {
 /// Calls along paths on messages, as words say them; what stands at a path.
 pub mod patch {
     pub use capnp_call::calls::{any_refused, is_refused};
-    pub use capnp_patch::engine::{Report, new_message, patch};
-    pub use capnp_patch::get::get;
+    pub use capnp_patch::engine::run_bytes;
+    pub use capnp_patch::get::get_line;
     pub use capnp_patch::lines::get_lines;
     pub use capnp_patch::reach::read_path;
     pub use capnp_words::call::{CallWord, WordOp, parse_call};

@@ -1,5 +1,5 @@
 -- The text that is got is that of what a path leads to from the struct that the root's reader stands on.
-use Rattle.std.proofs.Common.{arith, ap, ap₂, refl, subst, sym, ◌∙◌, ◌≡◌, ℕ, ◌+◌, Bool, List, true, false, Result, Ok, Err, IfErr, OnErr}
+use Rattle.std.proofs.Common.{arith, ap, ap₂, refl, subst, sym, ◌∙◌, ◌≡◌, ℕ, ◌+◌, Bool, List, true, false, Result, Ok, Err}
 use Rattle.capnp_device.specs.declared.error.ErrorKind.{ErrorKind}
 use Rattle.capnp_wire.specs.Reading.{as_struct}
 use Rattle.capnp_wire.specs.Tree as tree
@@ -141,13 +141,3 @@ module _ (schema : StructSchema) (path : List PathStep) (indented : Bool) (bytes
   -- and else it is the value's, as it is printed
   pub got_printed : (v : DynamicValue) → IsOf (set_of schema) (type_seen v) v → IsReached (Ok (value_part_seen v)) → printed_text indented v ≡ got_text (set_of schema) (number_of schema) path indented bytes
   got_printed v is_of is = part_text (set_of schema) indented v is_of ∙ ap (reached_text (set_of schema) indented) is ∙ sym got-along
-
--- what each refusal says, of what it said before
-pub each_refusal : {T E : Type 0} {P Q : E → Type 0} (r : Result T E) → ((e : E) → P e → Q e) → IfErr r P → IfErr r Q
-each_refusal (Ok x) f h = tt {0}
-each_refusal (Err e) f h = f e h
-
--- where each refusal comes with a fact, and that gives another, each refusal of a kind comes with the other
-pub refusal_gives : {T E P Q : Type 0} (K : E → Type 0) (r : Result T E) → (P → Q) → OnErr r P → IfErr r (λ e. K e → Q)
-refusal_gives K (Ok x) f h = tt {0}
-refusal_gives K (Err e) f h = λ k. f h

@@ -1,7 +1,5 @@
 pub mod Got
 pub mod Parts
-pub mod Patched
-pub mod PathSound
 pub mod Paths
 pub mod Reached
 pub mod RowsGets

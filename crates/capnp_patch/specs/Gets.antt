@@ -1,6 +1,5 @@
 -- What stands at a path of a message, and its text.
-use Rattle.std.specs.Prelude.{ℕ, ◌≡◌, ◌∷◌, ◌<◌, List, [], Bool, true, false, length, take, Option, Result, Ok, Err}
-use Rattle.std.specs.Io.KnownBytes.{Appends}
+use Rattle.std.specs.Prelude.{ℕ, ◌∷◌, List, [], Bool, true, false, Result, Ok, Err}
 use Rattle.capnp_device.specs.declared.error.Error.{Error}
 use Rattle.capnp_device.specs.declared.error.ErrorKind.{ErrorKind}
 use Rattle.capnp_device.specs.declared.error.ErrorKind.TheVariants.{InactiveMember}
@@ -19,7 +18,7 @@ use Rattle.capnp_dynamic_readers.specs.Reads.{as_struct_value}
 use Rattle.capnp_dynamic_readers.specs.Seen.{value_seen}
 use Rattle.capnp_dynamic_readers.specs.Shown.{type_seen}
 use Rattle.capnp_dynamic_readers.specs.declared.dynamic_value.Reader.{Reader as DynamicValue}
-use Rattle.capnp_show_engine.specs.Show.{IsLineOf, IsRead, as_printed, message_root_value}
+use Rattle.capnp_show_engine.specs.Show.{as_printed, message_root_value}
 
 -- ---- where a path leads ----
 
@@ -93,23 +92,6 @@ text_at set b path indented (Err kind) = Err kind
 -- the text at a path of the first message of a stream, or why there is none
 abbrev pub got_text : Schemas → ℕ → List PathStep → (indented : Bool) → List ℕ → Out
 got_text set b path indented bytes = text_at set b path indented (message_tree_of bytes)
-
--- ---- what a get did to its source and sink ----
-
--- some bytes were read to the end, and the text of what stands at the path, a line break and nothing else was written
-abbrev pub IsGot : Schemas → ℕ → List PathStep → (indented : Bool) → (left left' written written' : Option (List ℕ)) → Type 0
-IsGot set b path indented left left' written written' =
-    (bytes : List ℕ) × (line : List ℕ) × IsRead bytes left left' × IsLineOf (got_text set b path indented bytes) line × Appends written written' line
-
--- some bytes were read to the end, for which there is no such text
-abbrev pub IsNotGot : Schemas → ℕ → List PathStep → (indented : Bool) → ErrorKind → (left left' : Option (List ℕ)) → Type 0
-IsNotGot set b path indented kind left left' = (bytes : List ℕ) × IsRead bytes left left' × (got_text set b path indented bytes ≡ Err kind)
-
--- some bytes were read to the end, and a beginning of their line, not the whole, was written
-abbrev pub IsGetCutShort : Schemas → ℕ → List PathStep → (indented : Bool) → (left left' written written' : Option (List ℕ)) → Type 0
-IsGetCutShort set b path indented left left' written written' =
-    (bytes : List ℕ) × (line : List ℕ) × (n : ℕ) × IsRead bytes left left' × IsLineOf (got_text set b path indented bytes) line
-    × (n < length line) × Appends written written' (take n line)
 
 -- ---- values as the code has them ----
 

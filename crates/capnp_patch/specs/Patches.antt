@@ -17,7 +17,6 @@ use Rattle.capnp_call.specs.declared.calls.Reply.{Reply}
 use Rattle.capnp_call.specs.Messages.{LeavesRun, copy_of, new_record, new_root, root_refusal}
 use Rattle.capnp_call.specs.Refusals.{any_refused}
 use Rattle.capnp_call.specs.Runs.{MakesCalls, RestsWhole, record_under_schema}
-use Rattle.capnp_show_engine.specs.Show.{IsRead}
 
 -- ---- what calls leave ----
 
@@ -59,47 +58,6 @@ pub record IsMessageOf (t : Tree) (bytes : List ℕ) : Type 0 where
   pub encoding : bytes ≡ message_of t
   pub read_back : IsShallow t → (rest : List ℕ) → message_tree_of (bytes ++ rest) ≡ Ok t
 
--- it is written and nothing else, or nothing is
-abbrev pub IsOutput : (kept : Bool) → Tree → (written written' : Option (List ℕ)) → Type 0
-IsOutput true t written written' = (bytes : List ℕ) × IsMessageOf t bytes × Appends written written' bytes
-IsOutput false t written written' = written' ≡ written
-
 -- a beginning of it, not the whole, is written
 abbrev pub IsBeginning : Tree → (written written' : Option (List ℕ)) → Type 0
 IsBeginning t written written' = (n : ℕ) × (n < length (message_of t)) × Appends written written' (take n (message_of t))
-
--- ---- what was done to source and sink, by what was left before and after, and what was written ----
-
--- some bytes were read to the end, calls were made on a copy of the root of the first message in them, and what they left was
--- written or not
-pub record IsPatched (schema : StructSchema) (calls : List Call) (keep_going : Bool) (replies : List Reply) (left left' written written' : Option (List ℕ)) : Type 0 where
-  pub bytes : List ℕ
-  pub read : IsRead bytes left left'
-  pub root : Tree
-  pub leaves : IsLeftOfBytes schema bytes calls replies root
-  pub output : IsOutput (is_kept keep_going replies) root written written'
-
--- some bytes were read to the end, of whose root no copy is made
-pub record IsNotPatched (kind : ErrorKind) (left left' : Option (List ℕ)) : Type 0 where
-  pub bytes : List ℕ
-  pub read : IsRead bytes left left'
-  pub cause : IsUnread bytes kind
-
--- what the calls left is to be written, and a beginning of it was
-pub record IsCutShort (keep_going : Bool) (leaves : List Reply → Tree → Type 0) (written written' : Option (List ℕ)) : Type 0 where
-  pub replies : List Reply
-  pub kept : is_kept keep_going replies ≡ true
-  pub root : Tree
-  pub left : leaves replies root
-  pub beginning : IsBeginning root written written'
-
-pub record IsPatchCutShort (schema : StructSchema) (calls : List Call) (keep_going : Bool) (left left' written written' : Option (List ℕ)) : Type 0 where
-  pub bytes : List ℕ
-  pub read : IsRead bytes left left'
-  pub cut : IsCutShort keep_going (IsLeftOfBytes schema bytes calls) written written'
-
--- the same of an empty root
-pub record IsMade (schema : StructSchema) (calls : List Call) (keep_going : Bool) (replies : List Reply) (written written' : Option (List ℕ)) : Type 0 where
-  pub root : Tree
-  pub leaves : IsLeftOfNew schema calls replies root
-  pub output : IsOutput (is_kept keep_going replies) root written written'

@@ -1,13 +1,11 @@
 //! What stands at a path of a message that is read, as its text.
-ghost use Rattle.std.specs.Prelude.{◌≡◌, ◌≢◌, Err, IfErr, IfOk, OnErr, OnOk, string_bytes};
-ghost use Rattle.capnp_device.specs.Device.{HasFailed};
-ghost use Rattle.capnp_device.specs.declared.error.ErrorKind.TheVariants.{OutOfMemory, ReadFailed, WriteFailed};
+ghost use Rattle.std.specs.Prelude.{◌≡◌, ◌≢◌, Err, IfErr, IfOk, OnOk, string_bytes};
+ghost use Rattle.capnp_device.specs.declared.error.ErrorKind.TheVariants.{OutOfMemory};
 ghost use Rattle.capnp_schema.specs.StructHandles.{IsStruct, number_of, set_of};
 ghost use Rattle.capnp_call.specs.Seen.{path_seen};
 ghost use Rattle.capnp_dynamic_readers.specs.Pieces.{IsAppended};
-ghost use Rattle.capnp_patch.specs.Gets.{IsGetCutShort, IsGot, IsNotGot, got_text};
-ghost use Rattle.capnp_show_engine.specs.Steps.Refusals.{IsOfRead};
-ghost use Rattle.capnp_show_engine.specs.Show.{IsLineOf, IsOfMessage};
+ghost use Rattle.capnp_patch.specs.Gets.{got_text};
+ghost use Rattle.capnp_show_engine.specs.Show.{IsLineOf};
 
 use crate::reach::read_path;
 use capnp_call::calls::Step;
@@ -15,10 +13,8 @@ use capnp_dynamic_readers::dynamic_struct;
 use capnp_dynamic_readers::dynamic_value::Reader as Value;
 use capnp_dynamic_readers::printer::print;
 use capnp_schema::schema::StructSchema;
-use capnp_wire::device::{Sink, Source};
 use capnp_wire::error::Result;
 use capnp_wire::message::Reader;
-use capnp_wire::transfer::{read_all, write_all};
 use std::alloc::Global;
 
 /// Appends the text of what stands at a path of the first message in these bytes.
@@ -37,7 +33,6 @@ fn put_text_at_path(
     ensures refused { IfErr result (λ e. e.kind ≢ OutOfMemory
         → got_text (set_of schema.entry) (number_of schema.entry) (path_seen path.now) indented bytes.now
         ≡ Err e.kind) }
-    ensures of_no_device { IfErr result (λ e. IsOfRead e.kind) }
 {
     let reader = Reader::new(alloc, bytes)?;
     let root = reader.get_root().get_struct()?;
@@ -62,51 +57,12 @@ pub fn get_line(
     ensures got { IfOk result (λ line. IsLineOf
         (got_text (set_of schema.entry) (number_of schema.entry) (path_seen path.now) indented bytes.now)
         (string_bytes line)) }
-    ensures refused { IfErr result (λ e. IsOfMessage e.kind
+    ensures refused { IfErr result (λ e. e.kind ≢ OutOfMemory
         → got_text (set_of schema.entry) (number_of schema.entry) (path_seen path.now) indented bytes.now
         ≡ Err e.kind) }
-    ensures of_no_device { IfErr result (λ e. IsOfRead e.kind) }
 {
     let mut line = String::new(alloc);
     put_text_at_path(alloc, schema, path, bytes, &mut line, indented)?;
     line.push_str("\n")?;
     Ok(line)
-}
-
-/// Reads the source to its end and writes the text of what stands at a path of the first message's root, read as a
-/// struct of the schema, and a line break, as `capnp_show_engine::engine::show` writes the root's. An empty path is
-/// that of the root. What the path doesn't touch isn't looked at, nor is what follows the message. The schema is one of
-/// an accepted set.
-///
-/// Refused with `ReadFailed` or `WriteFailed` where a call of the source or the sink failed, with `OutOfMemory`, as the
-/// message is (`Truncated`, `TooManySegments`), as its root is where it can't be read as a struct, as
-/// `crate::reach::read_path`, and with the number of the first value of the text that can't be read. After
-/// `WriteFailed` a proper beginning of the line was written, after any other refusal nothing.
-pub fn get<R: Source, W: Sink>(
-    alloc: Global,
-    schema: StructSchema<'_>,
-    path: &[Step<'_>],
-    source: &mut R,
-    sink: &mut W,
-    indented: bool,
-) -> Result<()>
-    requires { IsStruct schema }
-    ensures got { OnOk result (IsGot (set_of schema.entry) (number_of schema.entry) (path_seen path.now) indented
-        (R.left source.old) (R.left source.new)
-        (W.written sink.old) (W.written sink.new)) }
-    ensures refused { IfErr result (λ e. IsOfMessage e.kind
-        → IsNotGot (set_of schema.entry) (number_of schema.entry) (path_seen path.now) indented e.kind
-        (R.left source.old) (R.left source.new)) }
-    ensures read_failed { IfErr result (λ e. e.kind ≡ ReadFailed
-        → HasFailed (R.failures source.old) (R.failures source.new)) }
-    ensures write_failed { IfErr result (λ e. e.kind ≡ WriteFailed
-        → HasFailed (W.failures sink.old) (W.failures sink.new)) }
-    ensures beginning { IfErr result (λ e. e.kind ≡ WriteFailed
-        → IsGetCutShort (set_of schema.entry) (number_of schema.entry) (path_seen path.now) indented
-        (R.left source.old) (R.left source.new) (W.written sink.old) (W.written sink.new)) }
-    ensures nothing { IfErr result (λ e. e.kind ≢ WriteFailed → sink.new ≡ sink.old) }
-{
-    let bytes = read_all(alloc, source)?;
-    let line = get_line(alloc, schema, path, &bytes, indented)?;
-    write_all(sink, line.as_bytes())
 }

@@ -1,6 +1,5 @@
-//! Messages that are patched: what a source has is read to its end, calls are made on a copy of its first message's
-//! root, and the message that they leave is written to a sink, with a line for each call that asked or was refused. A
-//! message is made of calls on an empty root in the same way.
+//! Messages that are patched: calls are made on a copy of the root of a message's bytes, and each that asked or was
+//! refused has its line. What stands at a path of a message is shown as its text.
 #![tactic(auto)]
 
 pub mod engine;

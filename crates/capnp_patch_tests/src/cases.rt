@@ -1,17 +1,19 @@
-//! Cases: what is asked of a message, over devices in memory, and what comes of it.
+//! Cases: what is asked of a message, and what comes of it.
+ghost use Rattle.std.specs.Prelude.{IfOk};
+ghost use Rattle.capnp_arena.specs.Message.{IsMessage};
 ghost use Rattle.capnp_schema.specs.StructHandles.{IsStruct};
 
-use capnp_call::calls::Call;
+use capnp_call::calls::{Call, any_refused};
+use capnp_call::message::{MOST_WORDS, Run, run_new};
 use capnp_call_rows::{Row, calls_of, rows_in, steps_of};
 use capnp_dynamic_readers::dynamic_value::Reader as Value;
-use capnp_patch::engine::{Report, new_message, patch};
-use capnp_patch::get::get;
+use capnp_patch::engine::run_bytes;
+use capnp_patch::get::get_line;
+use capnp_patch::lines::get_lines;
 use capnp_schema::schema::StructSchema;
 use capnp_schema::set::SchemaSet;
 use capnp_schema_fixtures::fixtures::schema_of;
 use capnp_wire::error::Result;
-use capnp_wire::memory::{MemorySink, MemorySource};
-use capnp_wire_fixtures::devices::chunk;
 use std::alloc::Global;
 use std::process::Abort;
 
@@ -47,43 +49,25 @@ pub(crate) struct Expected<'c> {
     pub written: &'c [u8],
 }
 
-/// How the devices go: whether a call moves one byte, and else up to 4096; and which calls fail.
-#[derive(Clone, Copy)]
-pub(crate) struct Devices {
-    pub slow: bool,
-    pub failing_read: Option<u64>,
-    pub failing_write: Option<u64>,
-}
-
-/// What came of it: the number of its refusal, what is told, and the sink.
+/// What came of it: the number of its refusal, what is told, and what is written.
 #[derive(Drop)]
 pub(crate) struct Outcome {
     pub refusal: u32,
-    pub report: Report,
-    pub sink: MemorySink,
+    pub lines: String,
+    pub written: Vec<u8>,
 }
 
-/// A report of nothing.
-fn no_report(alloc: Global) -> Report {
-    Report {
-        replies: Vec::new(alloc),
-        lines: String::new(alloc),
-    }
-}
-
-/// Writes the text at a path; nothing is told.
-fn show(
-    alloc: Global,
-    schema: StructSchema<'_>,
-    case: &Case<'_>,
-    source: &mut MemorySource<'_>,
-    sink: &mut MemorySink,
-) -> Result<Report>
+/// The text at a path; nothing is told.
+fn show(alloc: Global, schema: StructSchema<'_>, case: &Case<'_>) -> Result<Outcome>
     requires { IsStruct schema }
 {
     let steps = steps_of(alloc, case.text)?;
-    get(alloc, schema, &steps, source, sink, case.flag)?;
-    Ok(no_report(alloc))
+    let line = get_line(alloc, schema, &steps, case.message, case.flag)?;
+    Ok(Outcome {
+        refusal: 0,
+        lines: String::new(alloc),
+        written: line.into_bytes(),
+    })
 }
 
 /// The words of rows: their lines.
@@ -96,20 +80,24 @@ fn words_in(alloc: Global, text: &str) -> Result<Vec<&str>> {
 }
 
 /// Makes calls on a message or on an empty root.
-fn report_of(
-    alloc: Global,
-    schema: StructSchema<'_>,
-    case: &Case<'_>,
-    calls: &[Call<'_>],
-    words: &[&str],
-    source: &mut MemorySource<'_>,
-    sink: &mut MemorySink,
-) -> Result<Report>
+fn run_of(alloc: Global, schema: StructSchema<'_>, case: &Case<'_>, calls: &[Call<'_>]) -> Result<Run>
     requires { IsStruct schema }
+    ensures { IfOk result (λ run. IsMessage run.message) }
 {
     match case.verb {
-        Verb::New => new_message(alloc, schema, calls, words, case.flag, sink),
-        Verb::Patch | Verb::Get => patch(alloc, schema, calls, words, case.flag, source, sink),
+        Verb::New => run_new(alloc, MOST_WORDS, schema, calls),
+        Verb::Patch | Verb::Get => run_bytes(alloc, case.message, schema, calls),
+    }
+}
+
+/// The bytes of what a run left, none where a call was refused and they aren't kept all the same.
+fn bytes_of(alloc: Global, run: &Run, kept: bool) -> Result<Vec<u8>>
+    requires { IsMessage run.now.message }
+{
+    if kept || !any_refused(&run.replies) {
+        run.message.write_message()
+    } else {
+        Ok(Vec::new(alloc))
     }
 }
 
@@ -120,86 +108,55 @@ fn make(
     case: &Case<'_>,
     rows: &[Row<'_>],
     words: &[&str],
-    source: &mut MemorySource<'_>,
-    sink: &mut MemorySink,
-) -> Result<Report>
+) -> Result<Outcome>
     requires { IsStruct schema }
 {
     let calls = calls_of(alloc, rows)?;
-    report_of(alloc, schema, case, &calls, words, source, sink)
+    let run = run_of(alloc, schema, case, &calls)?;
+    let lines = get_lines(alloc, words, &run.replies)?;
+    let written = bytes_of(alloc, &run, case.flag)?;
+    Ok(Outcome {
+        refusal: 0,
+        lines,
+        written,
+    })
 }
 
 /// Makes the calls of a case.
-fn make_all(
-    alloc: Global,
-    schema: StructSchema<'_>,
-    case: &Case<'_>,
-    source: &mut MemorySource<'_>,
-    sink: &mut MemorySink,
-) -> Result<Report>
+fn make_all(alloc: Global, schema: StructSchema<'_>, case: &Case<'_>) -> Result<Outcome>
     requires { IsStruct schema }
 {
     let words = words_in(alloc, case.text)?;
     let rows = rows_in(alloc, case.text, Value::Void)?;
-    make(alloc, schema, case, &rows, &words, source, sink)
+    make(alloc, schema, case, &rows, &words)
 }
 
 /// Does what is asked.
-fn run(
-    alloc: Global,
-    case: &Case<'_>,
-    source: &mut MemorySource<'_>,
-    sink: &mut MemorySink,
-) -> Result<Report> {
+fn run(alloc: Global, case: &Case<'_>) -> Result<Outcome> {
     let schema = schema_of(case.schemas, case.brand)?;
     match case.verb {
-        Verb::Get => show(alloc, schema, case, source, sink),
-        Verb::Patch | Verb::New => make_all(alloc, schema, case, source, sink),
+        Verb::Get => show(alloc, schema, case),
+        Verb::Patch | Verb::New => make_all(alloc, schema, case),
     }
 }
 
-/// What comes of a case over devices.
-pub(crate) fn outcome_of(alloc: Global, case: &Case<'_>, devices: Devices) -> Outcome {
-    let step = chunk(devices.slow);
-    let mut source = MemorySource::new(case.message, step, devices.failing_read);
-    let mut sink = MemorySink::new(alloc, step, devices.failing_write);
-    match run(alloc, case, &mut source, &mut sink) {
-        Ok(report) => Outcome {
-            refusal: 0,
-            report,
-            sink,
-        },
+/// What comes of a case.
+pub(crate) fn outcome_of(alloc: Global, case: &Case<'_>) -> Outcome {
+    match run(alloc, case) {
+        Ok(outcome) => outcome,
         Err(error) => Outcome {
             refusal: error.kind.number(),
-            report: no_report(alloc),
-            sink,
+            lines: String::new(alloc),
+            written: Vec::new(alloc),
         },
     }
 }
 
-/// Asserts what comes of a case over devices.
-pub(crate) fn comes_over(
-    rt: &impl Abort,
-    alloc: Global,
-    case: &Case<'_>,
-    devices: Devices,
-    expected: &Expected<'_>,
-) {
-    let text = case.text;
-    let outcome = outcome_of(alloc, case, devices);
-    assert_eq!(rt; outcome.refusal, expected.refusal, "{text}");
-    assert_eq!(rt; outcome.report.lines.as_str(), expected.lines);
-    assert_eq!(rt; outcome.sink.as_slice(), expected.written, "{text}");
-}
-
-/// Asserts what comes of a case, whatever a call of a device moves.
+/// Asserts what comes of a case.
 pub(crate) fn comes_to(rt: &impl Abort, alloc: Global, case: &Case<'_>, expected: &Expected<'_>) {
-    for slow in [true, false] {
-        let devices = Devices {
-            slow,
-            failing_read: None,
-            failing_write: None,
-        };
-        comes_over(rt, alloc, case, devices, expected);
-    }
+    let text = case.text;
+    let outcome = outcome_of(alloc, case);
+    assert_eq!(rt; outcome.refusal, expected.refusal, "{text}");
+    assert_eq!(rt; outcome.lines.as_str(), expected.lines);
+    assert_eq!(rt; outcome.written.as_slice(), expected.written, "{text}");
 }

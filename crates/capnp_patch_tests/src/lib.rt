@@ -1,15 +1,12 @@
 //! The tests of patched messages and of values at paths, by the public calls of `capnp_patch`: it has tests alone.
 //!
 //! A case (`cases`) is a text of calls, or a path, on a message or an empty root, with the lines and bytes that are to
-//! come of it, over devices in memory that move one byte a call or many. A call is a row of text (`capnp_call_rows`),
-//! as `set items.1.a UInt16(7)`. Bytes and texts are those of worked lists of calls, of the encoding, and of the public
+//! come of it. A call is a row of text (`capnp_call_rows`), as `set items.1.a UInt16(7)`. Bytes and texts are those of worked lists of calls, of the encoding, and of the public
 //! tool.
 #![tactic(auto)]
 
 #[cfg(test)]
 mod cases;
-#[cfg(test)]
-mod device_tests;
 #[cfg(test)]
 mod fixtures;
 #[cfg(test)]

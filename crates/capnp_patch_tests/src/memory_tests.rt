@@ -2,7 +2,7 @@
 //! meets it, it is refused and nothing is written. Or its line says so, and what is written is what the other calls
 //! left, where it goes on after a refused call, and else nothing.
 
-use crate::cases::{Case, Devices, Outcome, Verb, outcome_of};
+use crate::cases::{Case, Outcome, Verb, outcome_of};
 use crate::fixtures::{LISTS, MIXED, MIXED_HO, NONE};
 use capnp_schema::builtin::new_set;
 use capnp_schema::set::SchemaSet;
@@ -112,31 +112,24 @@ fn case_of<'c>(schemas: &'c SchemaSet, meeting: &Meeting) -> Case<'c> {
 }
 
 fn is_as_said(outcome: &Outcome, lines: &str, written: &[u8]) -> bool {
-    outcome.report.lines.as_str() == lines && outcome.sink.as_slice() == written
+    outcome.lines.as_str() == lines && outcome.written.as_slice() == written
 }
 
-/// Whether what came of a case is as its meeting says. The sink fails where it finds no memory.
+/// Whether what came of a case is as its meeting says.
 fn is_met(outcome: &Outcome, meeting: &Meeting) -> bool {
     match outcome.refusal {
         0 => {
             is_as_said(outcome, meeting.lines, meeting.written)
                 || is_as_said(outcome, meeting.refused, meeting.left)
         }
-        1 | 13 => is_as_said(outcome, "", NONE),
+        1 => is_as_said(outcome, "", NONE),
         _ => false,
     }
 }
 
-/// Devices that move all at once, and fail at no call that is chosen.
-static WHOLE: Devices = Devices {
-    slow: false,
-    failing_read: None,
-    failing_write: None,
-};
-
 fn meetings_hold(rt: &impl Abort, alloc: Global, schemas: &SchemaSet) {
     for meeting in &MEETINGS {
-        let outcome = outcome_of(alloc, &case_of(schemas, meeting), WHOLE);
+        let outcome = outcome_of(alloc, &case_of(schemas, meeting));
         assert!(rt; is_met(&outcome, meeting), "{}", meeting.text);
     }
 }

@@ -6,3 +6,4 @@ pub mod Jobs
 pub mod Plans
 pub mod PlansSeen
 pub mod Reads
+pub mod Steps

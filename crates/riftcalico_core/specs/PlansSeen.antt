@@ -1,12 +1,10 @@
 -- Plans as the code has them.
 use Rattle.std.specs.Prelude.{ℕ, List, map, Result, Ok, Err, String, string_bytes}
-use Rattle.std.specs.Borrow.{Bor}
 use Rattle.std.specs.Option.{option_map}
-use Rattle.std.specs.declared.vec.Vec.{Vec}
 use Rattle.capnp_words.specs.Seen.{call_text_seen, path_text_seen}
 use Rattle.capnp_words.specs.declared.call.CallWord.{CallWord}
 use Rattle.riftcalico_core.specs.Plans as plans
-use Rattle.riftcalico_core.specs.Plans.{SaidCalls, Told, convert_plan, fields_plan, get_plan, help_plan, new_plan, patch_plan, structs_plan, version_plan}
+use Rattle.riftcalico_core.specs.Plans.{Told, convert_plan, fields_plan, get_plan, help_plan, new_plan, patch_plan, structs_plan, version_plan}
 use Rattle.riftcalico_core.specs.declared.plan.CallsPlan.{CallsPlan}
 use Rattle.riftcalico_core.specs.declared.plan.GetPlan.{GetPlan}
 use Rattle.riftcalico_core.specs.declared.plan.Plan.{Plan}
@@ -32,11 +30,3 @@ plan_seen plan.Version = version_plan
 abbrev pub told_plan : {A : Type 0} → Result Plan (String A) → Told plans.Plan
 told_plan (Ok p) = Ok (plan_seen p)
 told_plan (Err line) = Err (string_bytes line)
-
-abbrev pub told_calls_plan : {A : Type 0} → Result CallsPlan (String A) → Told plans.CallsPlan
-told_calls_plan (Ok p) = Ok (calls_plan_seen p)
-told_calls_plan (Err line) = Err (string_bytes line)
-
-abbrev pub told_calls : {A B C : Type 0} → Result (Vec CallWord A × Vec (Bor (List ℕ)) B) (String C) → Told SaidCalls
-told_calls (Ok said) = Ok (map call_text_seen said.0.items, map (λ w. w.now) said.1.items)
-told_calls (Err line) = Err (string_bytes line)

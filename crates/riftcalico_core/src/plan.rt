@@ -4,7 +4,8 @@ ghost use Rattle.std.specs.Option.{option_map};
 ghost use Rattle.std.specs.Str.{is_utf8};
 ghost use Rattle.capnp_device.specs.declared.error.ErrorKind.TheVariants.{OutOfMemory};
 ghost use Rattle.riftcalico_core.specs.Plans.{calls_file, calls_plan_of, get_plan_of, given_file, given_plan, task_plan, text_plan, words_plan};
-ghost use Rattle.riftcalico_core.specs.PlansSeen.{told_calls, told_calls_plan, told_plan};
+ghost use Rattle.riftcalico_core.specs.PlansSeen.{told_plan};
+ghost use Rattle.riftcalico_core.specs.Steps.Plans.{told_calls, told_calls_plan};
 ghost use Rattle.riftcalico_words.specs.RequestSeen.{calls_task_of, get_task_of, given_of, task_seen};
 
 use crate::calls::read_calls;

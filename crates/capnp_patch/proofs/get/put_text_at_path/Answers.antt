@@ -4,9 +4,7 @@ use Rattle.capnp_wire.specs.Message.{received_tree}
 use Rattle.capnp_wire.specs.Standing.{levels_of, tree_of}
 use Rattle.capnp_schema.specs.StructHandles.{number_of, set_of}
 use Rattle.capnp_call.specs.Seen.{path_seen}
-use Rattle.capnp_patch.specs.Gets.{got_text}
-use Rattle.capnp_patch.proofs.Got.{each_refusal, got_printed, no_root, not_got, root_is}
-use Rattle.capnp_patch.proofs.PathSound.{got_by_read, of_no_device}
+use Rattle.capnp_patch.proofs.Got.{got_printed, no_root, not_got, root_is}
 use Rattle.capnp_patch.proofs.get.put_text_at_path.Goals as goal
 
 pub returns-in_err-root-clause-refused : goal.returns-in_err-root-clause-refused
@@ -26,19 +24,6 @@ returns-in_err-part-clause-refused c =
     (tree_of c.get_root.result) (levels_of c.get_root.result) c.new-value.result c.in_ok-root.root c.in_ok-reader.ensures
     c.get_root.ensures.tree c.get_root.ensures.levels c.in_ok-root.ensures.read c.in_ok-root.ensures.levels c.new-value.ensures.schema
     c.new-value.ensures.reader c.requires))))
-
-pub returns-in_err-part-clause-of_no_device : goal.returns-in_err-part-clause-of_no_device
-returns-in_err-part-clause-of_no_device c =
-    let p = err_from_is_err_and c.from_residual-in_err-part.result c.from_residual-in_err-part.ensures.1 in rw (p.1, p.2)
-    (of_no_device (got_text (set_of c.args.schema) (number_of c.args.schema) (path_seen c.args.path.now) c.args.indented c.args.bytes.now) _
-    (got_by_read (set_of c.args.schema) (number_of c.args.schema) (path_seen c.args.path.now) c.args.indented c.args.bytes.now (received_tree c.in_ok-reader.reader) c.in_ok-reader.ensures) (λ _. (not_got c.args.schema (path_seen c.args.path.now) c.args.indented c.args.bytes.now (received_tree c.in_ok-reader.reader)
-    (tree_of c.get_root.result) (levels_of c.get_root.result) c.new-value.result c.in_ok-root.root c.in_ok-reader.ensures
-    c.get_root.ensures.tree c.get_root.ensures.levels c.in_ok-root.ensures.read c.in_ok-root.ensures.levels c.new-value.ensures.schema
-    c.new-value.ensures.reader c.requires
-    _ (c.in_err-part.ensures.read (set_of c.args.schema) (root_is c.args.schema (path_seen c.args.path.now) c.args.indented c.args.bytes.now (received_tree c.in_ok-reader.reader)
-    (tree_of c.get_root.result) (levels_of c.get_root.result) c.new-value.result c.in_ok-root.root c.in_ok-reader.ensures
-    c.get_root.ensures.tree c.get_root.ensures.levels c.in_ok-root.ensures.read c.in_ok-root.ensures.levels c.new-value.ensures.schema
-    c.new-value.ensures.reader c.requires)))))
 
 pub returns-clause-printed : goal.returns-clause-printed
 returns-clause-printed c =
@@ -65,8 +50,3 @@ returns-clause-refused c =
     c.new-value.ensures.reader c.requires
     c.in_ok-part.part (c.in_ok-part.ensures.typed (set_of c.args.schema) is) (c.in_ok-part.ensures.read (set_of c.args.schema) is) in
     rw text at c.print.ensures.refused
-
-pub returns-clause-of_no_device : goal.returns-clause-of_no_device
-returns-clause-of_no_device c =
-    let sound = got_by_read (set_of c.args.schema) (number_of c.args.schema) (path_seen c.args.path.now) c.args.indented c.args.bytes.now (received_tree c.in_ok-reader.reader) c.in_ok-reader.ensures in
-    each_refusal c.print.result (λ e h. of_no_device (got_text (set_of c.args.schema) (number_of c.args.schema) (path_seen c.args.path.now) c.args.indented c.args.bytes.now) e.kind sound h) (returns-clause-refused c)
