@@ -67,7 +67,7 @@ fn make(alloc: Global, converted: Converted) -> Result<Made>
 pub fn convert_bytes(alloc: Global, bytes: &[u8], strict: bool) -> Result<Made>
     ensures made { IfOk result (λ m. IsSetOf strict bytes.now m.message.items (string_bytes m.lines)) }
     ensures refused { IfErr result (λ e. e.kind ≢ OutOfMemory → HasNoSet strict bytes.now e) }
-    ensures of_no_device { IfErr result (λ e. IsOfRead e.kind) }
+    ensures of_no_device { IfErr result (λ e. (e.kind ≢ ReadFailed) × (e.kind ≢ WriteFailed)) }
 {
     let conversion = read_conversion(alloc, bytes, strict)?;
     make(alloc, conversion)
