@@ -311,6 +311,7 @@ expect 'another form' $? 2 '' 'usage: riftcalico show [--set FILE] NAME [--inden
 expect 'another verb' $? 2 '' 'unknown verb: shows
 usage: riftcalico show [--set FILE] NAME [--indent]
        riftcalico get [--set FILE] NAME PATH [--indent]
+       riftcalico check [--set FILE] NAME [PATH]
        riftcalico patch [--set FILE] [--calls FILE] [--keep-going] NAME CALL..
        riftcalico new [--set FILE] [--calls FILE] [--keep-going] NAME CALL..
        riftcalico structs [--set FILE] [NAME]
@@ -323,6 +324,12 @@ expect "a member that isn't active" $? 1 '' 'refused: 30 InactiveMember (standar
 expect 'no struct of the name' $? 1 '' 'refused: 64 NameNotFound (Shape)'
 ./riftcalico new Flat 'set a 5' > /dev/full 2> "$scratch/err"
 expect 'a full output' $? 1 '' 'refused: 13 WriteFailed (standard output)'
+
+# a message that is only looked at
+./riftcalico check --set "$scratch/addressbook.set" AddressBook < examples/addressbook.bin > "$scratch/out" 2> "$scratch/err"
+expect 'check' $? 0 '' ''
+./riftcalico check Shapes circle < examples/shapes_tag.bin > "$scratch/out" 2> "$scratch/err"
+expect 'check, of a member that is not active' $? 1 '' 'refused: 30 InactiveMember (standard input)'
 
 # verbs that do what the other programs do
 ./riftcalico show --indent Mixed < examples/mixed_segments.bin > "$scratch/out" 2> "$scratch/err"

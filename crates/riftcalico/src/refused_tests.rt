@@ -30,9 +30,10 @@ const HOSTILE: &str = "\
 ";
 
 /// How verbs are called.
-static USAGES: [(&str, &str); 6] = [
+static USAGES: [(&str, &str); 7] = [
     ("show", "[--set FILE] NAME [--indent]"),
     ("get", "[--set FILE] NAME PATH [--indent]"),
+    ("check", "[--set FILE] NAME [PATH]"),
     ("patch", "[--set FILE] [--calls FILE] [--keep-going] NAME CALL.."),
     ("new", "[--set FILE] [--calls FILE] [--keep-going] NAME CALL.."),
     ("structs", "[--set FILE] [NAME]"),
@@ -139,6 +140,9 @@ get|--set|set|Flat -> usage
 get|Flat|a|--set -> usage
 get|--calls|calls|Flat|a -> usage
 get|--keep-going|Flat|a|b -> usage
+check -> usage
+check|Flat|--indent -> usage
+check|Flat|a|b -> usage
 patch -> usage
 patch|--keep-going -> usage
 patch|--set|set -> usage

@@ -205,6 +205,31 @@ pub(crate) const GOT: &str = "\
 =1
 !refused: 9 CapabilityPointer (standard input)
 
+# what can be shown is looked at without a text: but for the capability
+:check
+:Lists
+:t
+<0000000006000000 0000000000000400 0300000000000000 0000000000000000 0500000012000000 0000000000000000 7800000000000000
+=0
+
+:check
+:Lists
+<0000000006000000 0000000000000400 0300000000000000 0000000000000000 0500000012000000 0000000000000000 7800000000000000
+=1
+!refused: 9 CapabilityPointer (standard input)
+
+:check
+:Mixed
+<0000000004000000 0000000001000100 0500010009000000 010000001a000000 6869000000000000
+=0
+
+:check
+:Mixed
+:c
+<0000000003000000 0000000001000100 0500010009000000 0000000000000000
+=1
+!refused: 20 FieldNotFound (standard input)
+
 # a message that ends too soon
 :get
 :Flat
@@ -500,6 +525,7 @@ pub(crate) const TOLD: &str = "\
 \"
 \"usage: riftcalico show [--set FILE] NAME [--indent]
 \"       riftcalico get [--set FILE] NAME PATH [--indent]
+\"       riftcalico check [--set FILE] NAME [PATH]
 \"       riftcalico patch [--set FILE] [--calls FILE] [--keep-going] NAME CALL..
 \"       riftcalico new [--set FILE] [--calls FILE] [--keep-going] NAME CALL..
 \"       riftcalico structs [--set FILE] [NAME]

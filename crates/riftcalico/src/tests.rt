@@ -18,6 +18,7 @@ use std::test::Fail;
 pub(crate) const USAGE: &str = "\
 usage: riftcalico show [--set FILE] NAME [--indent]
        riftcalico get [--set FILE] NAME PATH [--indent]
+       riftcalico check [--set FILE] NAME [PATH]
        riftcalico patch [--set FILE] [--calls FILE] [--keep-going] NAME CALL..
        riftcalico new [--set FILE] [--calls FILE] [--keep-going] NAME CALL..
        riftcalico structs [--set FILE] [NAME]

@@ -1,5 +1,5 @@
 -- What is answered to a message's bytes: what is written, what is told, and whether a call was refused.
-use Rattle.std.specs.Prelude.{ℕ, ◌≡◌, ⊤, List, [], map, Bool, true, false, Err, string_bytes}
+use Rattle.std.specs.Prelude.{ℕ, ◌≡◌, ⊤, List, [], map, Bool, true, false, None, Err, string_bytes}
 use Rattle.capnp_device.specs.declared.error.Error.{Error}
 use Rattle.capnp_device.specs.declared.error.ErrorKind.{ErrorKind}
 use Rattle.capnp_arena.specs.Message.{IsMessage, message_tree}
@@ -7,6 +7,7 @@ use Rattle.capnp_call.specs.Refusals.{any_refused}
 use Rattle.capnp_call.specs.Seen.{call_seen, path_seen}
 use Rattle.capnp_call.specs.declared.calls.Call.{Call}
 use Rattle.capnp_call.specs.declared.calls.Reply.{Reply}
+use Rattle.capnp_check.specs.Refusals.{text_refusal}
 use Rattle.capnp_dynamic_readers.specs.Pieces.{IsAppended}
 use Rattle.capnp_patch.specs.Gets.{got_text}
 use Rattle.capnp_patch.specs.Lines.{AreTold}
@@ -33,6 +34,7 @@ use Rattle.riftcalico_words.specs.Usage.{help_text, version_line}
 -- the struct of a job is one of an accepted set
 abbrev pub IsSoundJob : Job → Type 0
 IsSoundJob (job.Get j) = IsStruct j.schema
+IsSoundJob (job.Check j) = IsStruct j.schema
 IsSoundJob (job.Patch j) = IsStruct j.schema
 IsSoundJob (job.New j) = IsStruct j.schema
 IsSoundJob (job.Structs schemas) = ⊤
@@ -75,6 +77,16 @@ IsGetAnswer j bytes a = IsTextAnswer a (IsLineOf (got_text (set_of j.schema) (nu
 -- there is none
 abbrev pub IsNoGetAnswer : GetJob → (bytes : List ℕ) → ErrorKind → Type 0
 IsNoGetAnswer j bytes kind = got_text (set_of j.schema) (number_of j.schema) (path_seen j.steps.items) j.indented bytes ≡ Err kind
+
+-- there is one, in both forms, and nothing is written
+pub record IsCheckAnswer (j : GetJob) (bytes : List ℕ) (a : Answer) : Type 0 where
+  pub shown : (indented : Bool) → text_refusal (got_text (set_of j.schema) (number_of j.schema) (path_seen j.steps.items) indented bytes) ≡ None
+  pub output : a.output ≡ output.Nothing
+  pub quiet : IsQuiet a
+
+-- there is none, in both
+abbrev pub IsNotShown : GetJob → (bytes : List ℕ) → ErrorKind → Type 0
+IsNotShown j bytes kind = (indented : Bool) → got_text (set_of j.schema) (number_of j.schema) (path_seen j.steps.items) indented bytes ≡ Err kind
 
 -- ---- calls ----
 
@@ -126,6 +138,7 @@ pub record IsConvertAnswer (strict : Bool) (bytes : List ℕ) (a : Answer) : Typ
 
 abbrev pub IsAnswer : Job → (bytes : List ℕ) → Answer → Type 0
 IsAnswer (job.Get j) bytes a = IsGetAnswer j bytes a
+IsAnswer (job.Check j) bytes a = IsCheckAnswer j bytes a
 IsAnswer (job.Patch j) bytes a = IsPatchAnswer j bytes a
 IsAnswer (job.New j) bytes a = IsNewAnswer j a
 IsAnswer (job.Structs schemas) bytes a = IsStructsAnswer (lists_seen schemas.now) a
@@ -137,6 +150,7 @@ IsAnswer job.Version bytes a = IsTextAnswer a (λ text. text ≡ version_line)
 -- there is no answer, for this refusal
 abbrev pub IsNoAnswer : Job → (bytes : List ℕ) → Error → Type 0
 IsNoAnswer (job.Get j) bytes e = IsNoGetAnswer j bytes e.kind
+IsNoAnswer (job.Check j) bytes e = IsNotShown j bytes e.kind
 IsNoAnswer (job.Patch j) bytes e = IsUnread bytes e.kind
 IsNoAnswer (job.New j) bytes e = ⊥
 IsNoAnswer (job.Structs schemas) bytes e = ⊥

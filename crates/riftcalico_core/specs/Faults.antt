@@ -5,11 +5,12 @@ use Rattle.riftcalico_core.specs.Plans.{calls_file}
 use Rattle.riftcalico_core.specs.declared.fault.Blamed.{Blamed}
 use Rattle.riftcalico_core.specs.declared.fault.Blamed.TheVariants as blamed
 use Rattle.riftcalico_core.specs.declared.fault.Fault.{Fault}
-use Rattle.riftcalico_words.specs.Tasks.{Task, fields_task, get_task, new_task, patch_task, structs_task}
+use Rattle.riftcalico_words.specs.Tasks.{Task, check_task, fields_task, get_task, new_task, patch_task, structs_task}
 
 -- the file of a task's set
 abbrev pub task_set_file : Task → Option (List ℕ)
 task_set_file (get_task t) = t.root.file
+task_set_file (check_task t) = t.root.file
 task_set_file (patch_task t) = t.root.file
 task_set_file (new_task t) = t.root.file
 task_set_file (structs_task file) = file
@@ -19,6 +20,7 @@ task_set_file t = None
 -- the name of a task's root
 abbrev pub task_name : Task → List ℕ
 task_name (get_task t) = t.root.name
+task_name (check_task t) = t.root.name
 task_name (patch_task t) = t.root.name
 task_name (new_task t) = t.root.name
 task_name (fields_task r) = r.name

@@ -16,7 +16,7 @@ use Rattle.capnp_sets.specs.Message.{IsMessageRefusal, message_set}
 use Rattle.riftcalico_core.specs.Calls.{call_read}
 use Rattle.riftcalico_core.specs.CallsSeen.{read_call_seen}
 use Rattle.riftcalico_core.specs.Plans as plans
-use Rattle.riftcalico_core.specs.Plans.{CallsPlan, GetPlan, Plan, convert_plan, fields_plan, get_plan, help_plan, new_plan, patch_plan, structs_plan, version_plan}
+use Rattle.riftcalico_core.specs.Plans.{CallsPlan, GetPlan, Plan, check_plan, convert_plan, fields_plan, get_plan, help_plan, new_plan, patch_plan, structs_plan, version_plan}
 use Rattle.riftcalico_core.specs.Reads.{each_word_read, line_at}
 use Rattle.riftcalico_core.specs.declared.job.CallsJob.{CallsJob}
 use Rattle.riftcalico_core.specs.declared.job.GetJob.{GetJob}
@@ -69,6 +69,7 @@ pub record IsValueUnread (p : CallsPlan) (set : Schemas) (line : List ℕ) : Typ
 
 abbrev pub IsJob : Plan → Schemas → Job → Type 0
 IsJob (get_plan p) set (job.Get j) = IsGetJob p set j
+IsJob (check_plan p) set (job.Check j) = IsGetJob p set j
 IsJob (patch_plan p) set (job.Patch j) = IsCallsJob p set j
 IsJob (new_plan p) set (job.New j) = IsCallsJob p set j
 IsJob (structs_plan file) set (job.Structs schemas) = lists_seen schemas.now ≡ set
@@ -87,6 +88,7 @@ IsLineOfPlan p set line = ⊥
 -- the name of a plan's root
 abbrev pub root_name : Plan → Option (List ℕ)
 root_name (get_plan p) = Some p.root.name
+root_name (check_plan p) = Some p.root.name
 root_name (patch_plan p) = Some p.root.name
 root_name (new_plan p) = Some p.root.name
 root_name (fields_plan r) = Some r.name
@@ -103,6 +105,7 @@ IsRootUnnamed p set kind = IsNoneNamed set (root_name p) kind
 -- whether a message is read
 abbrev pub wants_input : Job → Bool
 wants_input (job.Get j) = true
+wants_input (job.Check j) = true
 wants_input (job.Patch j) = true
 wants_input (job.New j) = false
 wants_input (job.Structs schemas) = false

@@ -8,7 +8,7 @@ use Rattle.capnp_words.specs.Calls.{CallText, call_at}
 use Rattle.capnp_words.specs.Paths.{path_at}
 use Rattle.capnp_words.specs.Reads.{Read}
 use Rattle.riftcalico_core.specs.Reads.{Reads, each_word_read, line_at, unreadable_line}
-use Rattle.riftcalico_words.specs.Tasks.{CallsTask, GetTask, GivenCalls, Root, Task, convert_task, fields_task, get_task, help_task, in_lines, in_words, new_task, patch_task, structs_task, version_task}
+use Rattle.riftcalico_words.specs.Tasks.{CallsTask, GetTask, GivenCalls, Root, Task, check_task, convert_task, fields_task, get_task, help_task, in_lines, in_words, new_task, patch_task, structs_task, version_task}
 use Rattle.riftcalico_words.specs.declared.request.Verb.{Verb}
 
 -- the value at a path of a root
@@ -26,6 +26,7 @@ pub record CallsPlan : Type 0 where
 
 pub data Plan : Type 0 where
   get_plan : GetPlan → Plan
+  check_plan : GetPlan → Plan
   patch_plan : CallsPlan → Plan
   new_plan : CallsPlan → Plan
   structs_plan : (file : Option (List ℕ)) → Plan
@@ -91,20 +92,21 @@ under_root t (Err line) = Err line
 abbrev pub calls_plan_of : CallsTask → (file : List ℕ) → Told CallsPlan
 calls_plan_of t file = under_root t (given_plan t.calls file)
 
-abbrev pub path_plan : GetTask → Read (List PathStep) → Told Plan
-path_plan t (Ok path) = Ok (get_plan (record { root = t.root; path = path; indented = t.indented }))
+abbrev pub path_plan : GetTask → Read (List PathStep) → Told GetPlan
+path_plan t (Ok path) = Ok (record { root = t.root; path = path; indented = t.indented })
 path_plan t (Err place) = Err (unreadable_line 1 t.path place)
 
-abbrev pub get_plan_of : GetTask → Told Plan
+abbrev pub get_plan_of : GetTask → Told GetPlan
 get_plan_of t = path_plan t (path_at 0 t.path)
 
-abbrev pub as_plan : (CallsPlan → Plan) → Told CallsPlan → Told Plan
+abbrev pub as_plan : {A : Type 0} → (A → Plan) → Told A → Told Plan
 as_plan plan (Ok p) = Ok (plan p)
 as_plan plan (Err line) = Err line
 
 -- what a task asks, with the bytes of the file of its calls, if it has one
 abbrev pub task_plan : Task → (file : List ℕ) → Told Plan
-task_plan (get_task t) file = get_plan_of t
+task_plan (get_task t) file = as_plan get_plan (get_plan_of t)
+task_plan (check_task t) file = as_plan check_plan (get_plan_of t)
 task_plan (patch_task t) file = as_plan patch_plan (calls_plan_of t file)
 task_plan (new_task t) file = as_plan new_plan (calls_plan_of t file)
 task_plan (structs_task set) file = Ok (structs_plan set)

@@ -4,7 +4,7 @@ use Rattle.std.specs.Option.{option_map}
 use Rattle.capnp_words.specs.Seen.{call_text_seen, path_text_seen}
 use Rattle.capnp_words.specs.declared.call.CallWord.{CallWord}
 use Rattle.riftcalico_core.specs.Plans as plans
-use Rattle.riftcalico_core.specs.Plans.{Told, convert_plan, fields_plan, get_plan, help_plan, new_plan, patch_plan, structs_plan, version_plan}
+use Rattle.riftcalico_core.specs.Plans.{Told, check_plan, convert_plan, fields_plan, get_plan, help_plan, new_plan, patch_plan, structs_plan, version_plan}
 use Rattle.riftcalico_core.specs.declared.plan.CallsPlan.{CallsPlan}
 use Rattle.riftcalico_core.specs.declared.plan.GetPlan.{GetPlan}
 use Rattle.riftcalico_core.specs.declared.plan.Plan.{Plan}
@@ -19,6 +19,7 @@ calls_plan_seen p = record { root = root_named p.root; texts = map call_text_see
 
 abbrev pub plan_seen : Plan → plans.Plan
 plan_seen (plan.Get p) = get_plan (get_plan_seen p)
+plan_seen (plan.Check p) = check_plan (get_plan_seen p)
 plan_seen (plan.Patch p) = patch_plan (calls_plan_seen p)
 plan_seen (plan.New p) = new_plan (calls_plan_seen p)
 plan_seen (plan.Structs file) = structs_plan (option_map (λ f. f.now) file)

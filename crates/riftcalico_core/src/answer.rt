@@ -6,13 +6,14 @@ ghost use Rattle.capnp_patch.specs.Patches.{IsUnread};
 ghost use Rattle.capnp_schema.specs.Entries.{lists_seen};
 ghost use Rattle.capnp_schema.specs.StructHandles.{IsStruct};
 ghost use Rattle.capnp_set_engine.specs.Convert.{HasNoSet};
-ghost use Rattle.riftcalico_core.specs.Answers.{IsAnswer, IsConvertAnswer, IsFieldsAnswer, IsGetAnswer, IsNewAnswer, IsNoAnswer, IsNoGetAnswer, IsPatchAnswer, IsQuiet, IsRunAnswer, IsSoundJob, IsStructsAnswer, IsWritableOutput};
+ghost use Rattle.riftcalico_core.specs.Answers.{IsAnswer, IsCheckAnswer, IsConvertAnswer, IsFieldsAnswer, IsGetAnswer, IsNewAnswer, IsNoAnswer, IsNoGetAnswer, IsNotShown, IsPatchAnswer, IsQuiet, IsRunAnswer, IsSoundJob, IsStructsAnswer, IsWritableOutput};
 
 use crate::calls::make_calls;
 use crate::job::{CallsJob, GetJob, Job};
 use capnp_arena::message::Builder;
 use capnp_call::calls::any_refused;
 use capnp_call::message::{MOST_WORDS, Run, run_new};
+use capnp_patch::check::check_path;
 use capnp_patch::engine::run_bytes;
 use capnp_patch::get::get_line;
 use capnp_patch::lines::get_lines;
@@ -28,7 +29,7 @@ use std::alloc::Global;
 /// What is written.
 #[derive(Drop)]
 pub enum Output {
-    /// Nothing: a call was refused.
+    /// Nothing: a call was refused, or a value was only looked at.
     Nothing,
     /// A text that stands in the program.
     Fixed(&'static str),
@@ -71,6 +72,16 @@ fn answer_get(alloc: Global, job: &GetJob<'_, '_>, input: &[u8]) -> Result<Answe
 {
     let line = get_line(alloc, job.schema, &job.steps, input, job.indented)?;
     Ok(answer_quietly(alloc, Output::Text(line)))
+}
+
+/// Whether a value can be shown.
+fn answer_check(alloc: Global, job: &GetJob<'_, '_>, input: &[u8]) -> Result<Answer>
+    requires { IsStruct job.now.schema }
+    ensures answer { IfOk result (IsCheckAnswer job.now input.now) }
+    ensures refused { IfErr result (λ e. e.kind ≢ OutOfMemory → IsNotShown job.now input.now e.kind) }
+{
+    check_path(alloc, job.schema, &job.steps, input)?;
+    Ok(answer_quietly(alloc, Output::Nothing))
 }
 
 /// What a run leaves, unless a call was refused and it is not kept all the same; and what is told of the replies.
@@ -155,7 +166,7 @@ fn answer_convert(alloc: Global, strict: bool, input: &[u8]) -> Result<Answer>
 /// What a job answers to a message's bytes; for a job that wants none they don't count. The struct of the job is one of
 /// an accepted set.
 ///
-/// Refused with `OutOfMemory`; of `get` as `capnp_patch::get::get_line`, of `patch` as `capnp_patch::engine::run_bytes`,
+/// Refused with `OutOfMemory`; of `get` and `check` as `capnp_patch::get::get_line`, of `patch` as `capnp_patch::engine::run_bytes`,
 /// and of `schemas` as `capnp_set_engine::engine::convert_bytes`.
 pub fn get_answer(alloc: Global, job: &Job<'_, '_, '_>, input: &[u8]) -> Result<Answer>
     requires { IsSoundJob job.now }
@@ -165,6 +176,7 @@ pub fn get_answer(alloc: Global, job: &Job<'_, '_, '_>, input: &[u8]) -> Result<
 {
     match job {
         Job::Get(job) => answer_get(alloc, job, input),
+        Job::Check(job) => answer_check(alloc, job, input),
         Job::Patch(job) => answer_patch(alloc, job, input),
         Job::New(job) => answer_new(alloc, job),
         Job::Structs(schemas) => answer_structs(alloc, schemas),

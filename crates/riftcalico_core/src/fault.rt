@@ -37,7 +37,7 @@ pub fn get_set_file<'a>(task: &Task<'a>) -> Option<&'a str>
     ensures { option_map (λ f. f.now) result ≡ task_set_file (task_seen task.now) }
 {
     match task {
-        Task::Get(request) => request.root.file,
+        Task::Get(request) | Task::Check(request) => request.root.file,
         Task::Patch(request) | Task::New(request) => request.root.file,
         Task::Structs(file) => *file,
         Task::Fields(root) => root.file,
@@ -50,7 +50,7 @@ fn get_name<'a>(task: &Task<'a>) -> &'a str
     ensures { result.now ≡ task_name (task_seen task.now) }
 {
     match task {
-        Task::Get(request) => request.root.name,
+        Task::Get(request) | Task::Check(request) => request.root.name,
         Task::Patch(request) | Task::New(request) => request.root.name,
         Task::Fields(root) => root.name,
         Task::Structs(_) | Task::Convert(_) | Task::Help(_) | Task::Version => "",

@@ -38,6 +38,8 @@ pub struct CallsJob<'s, 'c, 'w> {
 pub enum Job<'s, 'c, 'w> {
     /// A value of it is shown.
     Get(GetJob<'s, 'c>),
+    /// A value of it is looked at, whether it can be shown.
+    Check(GetJob<'s, 'c>),
     /// Calls are made on a copy of it.
     Patch(CallsJob<'s, 'c, 'w>),
     /// Calls are made on an empty root, and no message is read.
@@ -60,7 +62,7 @@ impl Job<'_, '_, '_> {
         ensures { result ≡ wants_input self.now }
     {
         match self {
-            Job::Get(_) | Job::Patch(_) | Job::Convert(_) => true,
+            Job::Get(_) | Job::Check(_) | Job::Patch(_) | Job::Convert(_) => true,
             Job::New(_) | Job::Structs(_) | Job::Fields(_) | Job::Help(_) | Job::Version => false,
         }
     }
@@ -127,6 +129,7 @@ pub fn find_job<'s, 'c, 'w>(
 {
     match plan {
         Plan::Get(plan) => Ok(Ok(Job::Get(find_get_job(alloc, schemas, plan)?))),
+        Plan::Check(plan) => Ok(Ok(Job::Check(find_get_job(alloc, schemas, plan)?))),
         Plan::Patch(plan) => match find_calls_job(alloc, schemas, plan)? {
             Ok(job) => Ok(Ok(Job::Patch(job))),
             Err(line) => Ok(Err(line)),

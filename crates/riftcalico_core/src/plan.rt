@@ -5,7 +5,7 @@ ghost use Rattle.std.specs.Str.{is_utf8};
 ghost use Rattle.capnp_device.specs.declared.error.ErrorKind.TheVariants.{OutOfMemory};
 ghost use Rattle.riftcalico_core.specs.Plans.{calls_file, calls_plan_of, get_plan_of, given_file, given_plan, task_plan, text_plan, words_plan};
 ghost use Rattle.riftcalico_core.specs.PlansSeen.{told_plan};
-ghost use Rattle.riftcalico_core.specs.Steps.Plans.{told_calls, told_calls_plan};
+ghost use Rattle.riftcalico_core.specs.Steps.Plans.{told_calls, told_calls_plan, told_get_plan};
 ghost use Rattle.riftcalico_words.specs.RequestSeen.{calls_task_of, get_task_of, given_of, task_seen};
 
 use crate::calls::read_calls;
@@ -42,6 +42,8 @@ pub struct CallsPlan<'a> {
 pub enum Plan<'a> {
     /// The value at a path is shown.
     Get(GetPlan<'a>),
+    /// It is looked at, whether it can be shown.
+    Check(GetPlan<'a>),
     /// Calls are made on a copy of a message.
     Patch(CallsPlan<'a>),
     /// Calls are made on an empty root.
@@ -75,6 +77,7 @@ pub fn get_calls_file<'a>(task: &Task<'a>) -> Option<&'a str>
     match task {
         Task::Patch(request) | Task::New(request) => get_given_file(&request.calls),
         Task::Get(_)
+        | Task::Check(_)
         | Task::Structs(_)
         | Task::Fields(_)
         | Task::Convert(_)
@@ -160,16 +163,16 @@ fn plan_calls<'a>(
 }
 
 /// The value at a path, whose word is read. Refused with `OutOfMemory` alone.
-fn plan_get<'a>(alloc: Global, request: GetRequest<'a>) -> Result<Told<Plan<'a>>>
-    ensures planned { IfOk result (λ r. told_plan r ≡ get_plan_of (get_task_of request.entry)) }
+fn plan_get<'a>(alloc: Global, request: GetRequest<'a>) -> Result<Told<GetPlan<'a>>>
+    ensures planned { IfOk result (λ r. told_get_plan r ≡ get_plan_of (get_task_of request.entry)) }
     ensures memory { IfErr result (λ e. e.kind ≡ OutOfMemory) }
 {
     match parse_path(alloc, request.path)? {
-        Ok(path) => Ok(Ok(Plan::Get(GetPlan {
+        Ok(path) => Ok(Ok(GetPlan {
             root: request.root,
             path,
             indented: request.indented,
-        }))),
+        })),
         Err(place) => {
             let line = put_unreadable(alloc, 1, request.path, place as u128)?;
             Ok(Err(line))
@@ -184,7 +187,14 @@ pub fn read_plan<'a>(alloc: Global, task: &Task<'a>, file: &'a [u8]) -> Result<T
     ensures memory { IfErr result (λ e. e.kind ≡ OutOfMemory) }
 {
     match task {
-        Task::Get(request) => plan_get(alloc, *request),
+        Task::Get(request) => match plan_get(alloc, *request)? {
+            Ok(plan) => Ok(Ok(Plan::Get(plan))),
+            Err(line) => Ok(Err(line)),
+        },
+        Task::Check(request) => match plan_get(alloc, *request)? {
+            Ok(plan) => Ok(Ok(Plan::Check(plan))),
+            Err(line) => Ok(Err(line)),
+        },
         Task::Patch(request) => match plan_calls(alloc, request, file)? {
             Ok(plan) => Ok(Ok(Plan::Patch(plan))),
             Err(line) => Ok(Err(line)),

@@ -3,7 +3,7 @@ use Rattle.std.specs.Prelude.{ℕ, List, map, Result, Ok, Err}
 use Rattle.std.specs.Option.{option_map}
 use Rattle.riftcalico_words.specs.Requests.{AskedRequest, WordFault, no_verb, other_words, unknown_option, unknown_verb}
 use Rattle.riftcalico_words.specs.Tasks as tasks
-use Rattle.riftcalico_words.specs.Tasks.{CallsTask, GetTask, GivenCalls, Root, convert_task, fields_task, get_task, help_task, in_lines, in_words, new_task, patch_task, structs_task, version_task}
+use Rattle.riftcalico_words.specs.Tasks.{CallsTask, GetTask, GivenCalls, Root, check_task, convert_task, fields_task, get_task, help_task, in_lines, in_words, new_task, patch_task, structs_task, version_task}
 use Rattle.riftcalico_words.specs.declared.request.CallWords.{CallWords}
 use Rattle.riftcalico_words.specs.declared.request.CallWords.TheVariants as words
 use Rattle.riftcalico_words.specs.declared.request.CallsRequest.{CallsRequest}
@@ -29,6 +29,7 @@ calls_task_of r = record { root = root_named r.root; calls = given_of r.calls; k
 
 abbrev pub task_seen : Task → tasks.Task
 task_seen (task.Get r) = get_task (get_task_of r)
+task_seen (task.Check r) = check_task (get_task_of r)
 task_seen (task.Patch r) = patch_task (calls_task_of r)
 task_seen (task.New r) = new_task (calls_task_of r)
 task_seen (task.Structs file) = structs_task (option_map (λ f. f.now) file)

@@ -2,7 +2,7 @@
 use Rattle.std.specs.Prelude.{ℕ, List, [], ◌∷◌, Bool, true, false, not, ◌&&◌, Option, Some, None, Result, Ok, Err, is_none, is_some, codes, bytes_eq, if◌then◌else◌}
 use Rattle.std.specs.Option.{option_map}
 use Rattle.riftcalico_words.specs.Options.{WordOptions, no_options, options_read}
-use Rattle.riftcalico_words.specs.Tasks.{CallsTask, GivenCalls, Task, convert_task, fields_task, get_task, help_task, in_lines, in_words, new_task, patch_task, structs_task, version_task}
+use Rattle.riftcalico_words.specs.Tasks.{CallsTask, GivenCalls, Task, check_task, convert_task, fields_task, get_task, help_task, in_lines, in_words, new_task, patch_task, structs_task, version_task}
 use Rattle.riftcalico_words.specs.declared.request.Verb.{Verb}
 use Rattle.riftcalico_words.specs.declared.request.Verb.TheVariants as verb
 
@@ -20,6 +20,7 @@ abbrev pub verb_of : List ℕ → Option Verb
 verb_of word =
     if bytes_eq word (codes "show") then Some verb.Show
     else if bytes_eq word (codes "get") then Some verb.Get
+    else if bytes_eq word (codes "check") then Some verb.Check
     else if bytes_eq word (codes "patch") then Some verb.Patch
     else if bytes_eq word (codes "new") then Some verb.New
     else if bytes_eq word (codes "structs") then Some verb.Structs
@@ -30,6 +31,7 @@ verb_of word =
 abbrev pub is_fitting : Verb → WordOptions → Bool
 is_fitting verb.Show o = is_none o.calls && not o.keep_going && not o.strict
 is_fitting verb.Get o = is_none o.calls && not o.keep_going && not o.strict
+is_fitting verb.Check o = is_none o.calls && not o.indent && not o.keep_going && not o.strict
 is_fitting verb.Patch o = not o.indent && not o.strict
 is_fitting verb.New o = not o.indent && not o.strict
 is_fitting verb.Structs o = is_none o.calls && not o.indent && not o.keep_going && not o.strict
@@ -59,6 +61,11 @@ abbrev pub get_asked : WordOptions → List (List ℕ) → Option Task
 get_asked o (name ∷ path ∷ []) = Some (get_task (record { root = record { file = o.set; name = name }; path = path; indented = o.indent }))
 get_asked o words = None
 
+abbrev pub check_asked : WordOptions → List (List ℕ) → Option Task
+check_asked o (name ∷ []) = Some (check_task (record { root = record { file = o.set; name = name }; path = codes "."; indented = false }))
+check_asked o (name ∷ path ∷ []) = Some (check_task (record { root = record { file = o.set; name = name }; path = path; indented = false }))
+check_asked o words = None
+
 abbrev pub structs_asked : WordOptions → List (List ℕ) → Option Task
 structs_asked o [] = Some (structs_task o.set)
 structs_asked o (name ∷ []) = Some (fields_task (record { file = o.set; name = name }))
@@ -71,6 +78,7 @@ schemas_asked o words = None
 abbrev pub plain_asked : Verb → WordOptions → Option Task
 plain_asked verb.Show o = show_asked o o.others
 plain_asked verb.Get o = get_asked o o.others
+plain_asked verb.Check o = check_asked o o.others
 plain_asked verb.Patch o = None
 plain_asked verb.New o = None
 plain_asked verb.Structs o = structs_asked o o.others

@@ -24,11 +24,12 @@ pub record CallsTask : Type 0 where
   pub calls : GivenCalls
   pub keep_going : Bool
 
--- A value is shown, calls are made on a copy of a message or on an empty root, the structs of a set are shown, in the set of a
+-- A value is shown, or only looked at whether it can be, calls are made on a copy of a message or on an empty root, the structs of a set are shown, in the set of a
 -- file or else in the built-in one, or the fields of a struct, a compiler's request is made a set, or
 -- help is told, of all or of a verb, or the version.
 pub data Task : Type 0 where
   get_task : GetTask → Task
+  check_task : GetTask → Task
   patch_task : CallsTask → Task
   new_task : CallsTask → Task
   structs_task : (file : Option (List ℕ)) → Task

@@ -9,6 +9,7 @@ abbrev pub usage_lines : List ℕ
 usage_lines =
     codes "usage: riftcalico show [--set FILE] NAME [--indent]\n"
     ++ codes "       riftcalico get [--set FILE] NAME PATH [--indent]\n"
+    ++ codes "       riftcalico check [--set FILE] NAME [PATH]\n"
     ++ codes "       riftcalico patch [--set FILE] [--calls FILE] [--keep-going] NAME CALL..\n"
     ++ codes "       riftcalico new [--set FILE] [--calls FILE] [--keep-going] NAME CALL..\n"
     ++ codes "       riftcalico structs [--set FILE] [NAME]\n"
@@ -18,6 +19,7 @@ usage_lines =
 abbrev pub verb_usage : Verb → List ℕ
 verb_usage verb.Show = codes "usage: riftcalico show [--set FILE] NAME [--indent]\n"
 verb_usage verb.Get = codes "usage: riftcalico get [--set FILE] NAME PATH [--indent]\n"
+verb_usage verb.Check = codes "usage: riftcalico check [--set FILE] NAME [PATH]\n"
 verb_usage verb.Patch = codes "usage: riftcalico patch [--set FILE] [--calls FILE] [--keep-going] NAME CALL..\n"
 verb_usage verb.New = codes "usage: riftcalico new [--set FILE] [--calls FILE] [--keep-going] NAME CALL..\n"
 verb_usage verb.Structs = codes "usage: riftcalico structs [--set FILE] [NAME]\n"
@@ -35,6 +37,12 @@ verb_help verb.Get =
     ++ codes "\n"
     ++ codes "Prints what stands at PATH of the first message's root, a struct NAME. PATH has steps joined by '.': a field's name,\n"
     ++ codes "#3, a field by its number, or 4, an element of a list. '.' alone is the root.\n"
+    ++ codes "NAME is a struct of the set in FILE, as 'riftcalico schemas' writes it, or else of the built-in set.\n"
+verb_help verb.Check =
+    codes "usage: riftcalico check [--set FILE] NAME [PATH]\n"
+    ++ codes "\n"
+    ++ codes "Reads the first message's root, a struct NAME, or what stands at PATH of it, and tells the first value that can't be\n"
+    ++ codes "read, if one can't. Nothing is printed.\n"
     ++ codes "NAME is a struct of the set in FILE, as 'riftcalico schemas' writes it, or else of the built-in set.\n"
 verb_help verb.Patch =
     codes "usage: riftcalico patch [--set FILE] [--calls FILE] [--keep-going] NAME CALL..\n"
@@ -72,6 +80,7 @@ help_text None =
     ++ codes "\n"
     ++ codes "usage: riftcalico show [--set FILE] NAME [--indent]\n"
     ++ codes "       riftcalico get [--set FILE] NAME PATH [--indent]\n"
+    ++ codes "       riftcalico check [--set FILE] NAME [PATH]\n"
     ++ codes "       riftcalico patch [--set FILE] [--calls FILE] [--keep-going] NAME CALL..\n"
     ++ codes "       riftcalico new [--set FILE] [--calls FILE] [--keep-going] NAME CALL..\n"
     ++ codes "       riftcalico structs [--set FILE] [NAME]\n"

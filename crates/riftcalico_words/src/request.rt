@@ -17,6 +17,8 @@ pub enum Verb {
     Show,
     /// A value of a message is shown.
     Get,
+    /// A value of a message is looked at, whether it can be shown.
+    Check,
     /// Calls are made on a copy of a message.
     Patch,
     /// Calls are made on an empty root.
@@ -62,6 +64,8 @@ pub struct CallsRequest<'a> {
 pub enum Task<'a> {
     /// A value of a message is shown; the whole message is the value at the path `.`.
     Get(GetRequest<'a>),
+    /// The same is looked at, whether it can be shown.
+    Check(GetRequest<'a>),
     /// Calls are made on a copy of a message.
     Patch(CallsRequest<'a>),
     /// Calls are made on an empty root.
@@ -101,6 +105,7 @@ fn read_verb(word: &str) -> Option<Verb>
     match word {
         "show" => Some(Verb::Show),
         "get" => Some(Verb::Get),
+        "check" => Some(Verb::Check),
         "patch" => Some(Verb::Patch),
         "new" => Some(Verb::New),
         "structs" => Some(Verb::Structs),
@@ -118,7 +123,7 @@ fn is_fit(verb: Verb, options: &Options<'_>) -> bool
             options.calls.is_none() && !options.keep_going && !options.strict
         }
         Verb::Patch | Verb::New => !options.indent && !options.strict,
-        Verb::Structs => {
+        Verb::Check | Verb::Structs => {
             options.calls.is_none() && !options.indent && !options.keep_going && !options.strict
         }
         Verb::Schemas => {
@@ -198,6 +203,16 @@ fn read_plain<'a>(verb: Verb, options: &Options<'a>) -> Option<Task<'a>>
             path: *path,
             indented: options.indent,
         })),
+        (Verb::Check, [name]) => Some(Task::Check(GetRequest {
+            root: NamedRoot { file, name: *name },
+            path: ".",
+            indented: false,
+        })),
+        (Verb::Check, [name, path]) => Some(Task::Check(GetRequest {
+            root: NamedRoot { file, name: *name },
+            path: *path,
+            indented: false,
+        })),
         (Verb::Structs, []) => Some(Task::Structs(file)),
         (Verb::Structs, [name]) => Some(Task::Fields(NamedRoot { file, name: *name })),
         (Verb::Schemas, []) => Some(Task::Convert(options.strict)),
@@ -222,7 +237,9 @@ fn read_task<'a>(alloc: Global, verb: Verb, options: &Options<'a>) -> Result<Opt
             Some(request) => Ok(Some(Task::New(request))),
             None => Ok(None),
         },
-        Verb::Show | Verb::Get | Verb::Structs | Verb::Schemas => Ok(read_plain(verb, options)),
+        Verb::Show | Verb::Get | Verb::Check | Verb::Structs | Verb::Schemas => {
+            Ok(read_plain(verb, options))
+        }
     }
 }
 
@@ -253,6 +270,7 @@ fn read_behind<'a>(alloc: Global, verb: Verb, words: &'a [String]) -> Result<Ask
 /// |---|---|
 /// |`show NAME`|a message is shown|
 /// |`get NAME PATH`|a value of a message is shown|
+/// |`check NAME`, `check NAME PATH`|a message is looked at, or a value of it, whether it can be shown|
 /// |`patch NAME CALL..`|calls are made on a copy of a message|
 /// |`new NAME CALL..`|calls are made on an empty root|
 /// |`structs`, `structs NAME`|the structs of a set are shown, or the fields of one|

@@ -14,6 +14,7 @@ pub const VERSION: &str = "riftcalico 0.1.0\n";
 const USAGE: &str = "\
 usage: riftcalico show [--set FILE] NAME [--indent]
        riftcalico get [--set FILE] NAME PATH [--indent]
+       riftcalico check [--set FILE] NAME [PATH]
        riftcalico patch [--set FILE] [--calls FILE] [--keep-going] NAME CALL..
        riftcalico new [--set FILE] [--calls FILE] [--keep-going] NAME CALL..
        riftcalico structs [--set FILE] [NAME]
@@ -26,6 +27,7 @@ input and written to standard output.
 
 usage: riftcalico show [--set FILE] NAME [--indent]
        riftcalico get [--set FILE] NAME PATH [--indent]
+       riftcalico check [--set FILE] NAME [PATH]
        riftcalico patch [--set FILE] [--calls FILE] [--keep-going] NAME CALL..
        riftcalico new [--set FILE] [--calls FILE] [--keep-going] NAME CALL..
        riftcalico structs [--set FILE] [NAME]
@@ -40,6 +42,10 @@ usage: riftcalico show [--set FILE] NAME [--indent]
 
 const GET_USAGE: &str = "\
 usage: riftcalico get [--set FILE] NAME PATH [--indent]
+";
+
+const CHECK_USAGE: &str = "\
+usage: riftcalico check [--set FILE] NAME [PATH]
 ";
 
 const PATCH_USAGE: &str = "\
@@ -70,6 +76,14 @@ usage: riftcalico get [--set FILE] NAME PATH [--indent]
 
 Prints what stands at PATH of the first message's root, a struct NAME. PATH has steps joined by '.': a field's name,
 #3, a field by its number, or 4, an element of a list. '.' alone is the root.
+NAME is a struct of the set in FILE, as 'riftcalico schemas' writes it, or else of the built-in set.
+";
+
+const CHECK_HELP: &str = "\
+usage: riftcalico check [--set FILE] NAME [PATH]
+
+Reads the first message's root, a struct NAME, or what stands at PATH of it, and tells the first value that can't be
+read, if one can't. Nothing is printed.
 NAME is a struct of the set in FILE, as 'riftcalico schemas' writes it, or else of the built-in set.
 ";
 
@@ -114,6 +128,7 @@ fn get_verb_usage(verb: Verb) -> &'static str
     match verb {
         Verb::Show => SHOW_USAGE,
         Verb::Get => GET_USAGE,
+        Verb::Check => CHECK_USAGE,
         Verb::Patch => PATCH_USAGE,
         Verb::New => NEW_USAGE,
         Verb::Structs => STRUCTS_USAGE,
@@ -128,6 +143,7 @@ fn get_verb_help(verb: Verb) -> &'static str
     match verb {
         Verb::Show => SHOW_HELP,
         Verb::Get => GET_HELP,
+        Verb::Check => CHECK_HELP,
         Verb::Patch => PATCH_HELP,
         Verb::New => NEW_HELP,
         Verb::Structs => STRUCTS_HELP,
