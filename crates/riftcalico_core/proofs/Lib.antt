@@ -1,3 +1,4 @@
 pub mod CallsGiven
 pub mod Each
 pub mod PlainGiven
+pub mod Texts

@@ -102,6 +102,7 @@ fn read_words<'a>(
 
 /// The calls that the lines of a file say, or the line that tells what in it can't be read. Refused with `OutOfMemory`
 /// alone.
+#[tactic(auto, using(crate::proofs::Texts::text_is, crate::proofs::Texts::no_text_is))]
 fn read_text<'a>(
     alloc: Global,
     path: &str,
