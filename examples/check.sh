@@ -321,7 +321,7 @@ expect 'a path of no bytes' $? 1 '' 'refused: 2 Truncated (standard input)'
 ./riftcalico get Shapes circle.r < examples/shapes_tag.bin > "$scratch/out" 2> "$scratch/err"
 expect "a member that isn't active" $? 1 '' 'refused: 30 InactiveMember (standard input)'
 ./riftcalico get Shape . < examples/shapes_tag.bin > "$scratch/out" 2> "$scratch/err"
-expect 'no struct of the name' $? 1 '' 'refused: 64 NameNotFound (Shape)'
+expect 'no struct of the name' $? 1 '' 'refused: 64 NameNotFound (Shape); see riftcalico structs'
 ./riftcalico new Flat 'set a 5' > /dev/full 2> "$scratch/err"
 expect 'a full output' $? 1 '' 'refused: 13 WriteFailed (standard output)'
 

@@ -165,10 +165,10 @@ get|Flat|a|--indented -> unknown option: --indented
 patch|Flat|--limit|set a 1 -> unknown option: --limit
 structs|-- -> unknown option: --
 # no struct of the built-in set
-get|Nope|a -> refused: 64 NameNotFound (Nope)
-patch|Nope|get a -> refused: 64 NameNotFound (Nope)
-new|Shapes.circle -> refused: 64 NameNotFound (Shapes.circle)
-structs|Nope -> refused: 64 NameNotFound (Nope)
+get|Nope|a -> refused: 64 NameNotFound (Nope); see riftcalico structs
+patch|Nope|get a -> refused: 64 NameNotFound (Nope); see riftcalico structs
+new|Shapes.circle -> refused: 64 NameNotFound (Shapes.circle); see riftcalico structs
+structs|Nope -> refused: 64 NameNotFound (Nope); see riftcalico structs
 ";
 
 #[test]

@@ -1,6 +1,8 @@
 -- Refusals, and what they blame.
 use Rattle.std.specs.Prelude.{ℕ, List, [], ◌∷◌, ◌++◌, Option, Some, None, codes, decimal}
 use Rattle.capnp_device.specs.ErrorNumber.{error_name, error_number}
+use Rattle.capnp_device.specs.declared.error.ErrorKind.{ErrorKind}
+use Rattle.capnp_device.specs.declared.error.ErrorKind.TheVariants.{NameNotFound}
 use Rattle.riftcalico_core.specs.Plans.{calls_file}
 use Rattle.riftcalico_core.specs.declared.fault.Blamed.{Blamed}
 use Rattle.riftcalico_core.specs.declared.fault.Blamed.TheVariants as blamed
@@ -39,6 +41,11 @@ blamed_word t blamed.Name = task_name t
 blamed_word t blamed.Input = codes "standard input"
 blamed_word t blamed.Output = codes "standard output"
 
--- a refusal's number and name, and what is to be looked at
+-- of a name that no struct has, how all are listed
+abbrev pub hint_of : ErrorKind → List ℕ
+hint_of NameNotFound = codes "; see riftcalico structs"
+hint_of kind = []
+
+-- a refusal's number and name, what is to be looked at, and what tells more
 abbrev pub fault_line : Task → Fault → List ℕ
-fault_line t f = codes "refused: " ++ decimal (error_number f.error.kind) ++ codes " " ++ error_name f.error.kind ++ codes " (" ++ blamed_word t f.blamed ++ codes ")" ++ 10 ∷ []
+fault_line t f = codes "refused: " ++ decimal (error_number f.error.kind) ++ codes " " ++ error_name f.error.kind ++ codes " (" ++ blamed_word t f.blamed ++ codes ")" ++ hint_of f.error.kind ++ 10 ∷ []

@@ -2,11 +2,11 @@
 ghost use Rattle.std.specs.Prelude.{◌≡◌, IfErr, IfOk, string_bytes};
 ghost use Rattle.std.specs.Option.{option_map};
 ghost use Rattle.capnp_device.specs.declared.error.ErrorKind.TheVariants.{OutOfMemory};
-ghost use Rattle.riftcalico_core.specs.Faults.{blamed_word, fault_line, file_word, task_name, task_set_file};
+ghost use Rattle.riftcalico_core.specs.Faults.{blamed_word, fault_line, file_word, hint_of, task_name, task_set_file};
 ghost use Rattle.riftcalico_words.specs.RequestSeen.{task_seen};
 
 use crate::plan::get_calls_file;
-use capnp_wire::error::{Error, Result};
+use capnp_wire::error::{Error, ErrorKind, Result};
 use riftcalico_words::request::Task;
 use std::alloc::Global;
 
@@ -80,7 +80,17 @@ fn get_word<'a>(task: &Task<'a>, blamed: Blamed) -> &'a str
     }
 }
 
-/// The line of a refusal: its number and name, and what is to be looked at. Refused with `OutOfMemory` alone.
+/// What tells more of a refusal: of a name that no struct has, how all are listed.
+fn get_hint(kind: ErrorKind) -> &'static str
+    ensures { result.now ≡ hint_of kind }
+{
+    match kind {
+        ErrorKind::NameNotFound => "; see riftcalico structs",
+        _ => "",
+    }
+}
+
+/// The line of a refusal: its number and name, what is to be looked at, and what tells more. Refused with `OutOfMemory` alone.
 pub fn put_fault(alloc: Global, task: &Task<'_>, fault: Fault) -> Result<String>
     ensures line { IfOk result (λ line. string_bytes line ≡ fault_line (task_seen task.now) fault) }
     ensures memory { IfErr result (λ e. e.kind ≡ OutOfMemory) }
@@ -88,5 +98,6 @@ pub fn put_fault(alloc: Global, task: &Task<'_>, fault: Fault) -> Result<String>
     let number = fault.error.kind.number();
     let name = fault.error.kind.name();
     let word = get_word(task, fault.blamed);
-    Ok(format!(in alloc; "refused: {number} {name} ({word})\n")?)
+    let hint = get_hint(fault.error.kind);
+    Ok(format!(in alloc; "refused: {number} {name} ({word}){hint}\n")?)
 }
