@@ -1,3 +1,4 @@
+pub mod Checked
 pub mod Got
 pub mod Parts
 pub mod Paths

@@ -1,20 +1,11 @@
 -- Calls as they are read and as they are made.
 use Rattle.std.proofs.Common.{List, [], ◌∷◌, ◌++◌, map, ◌≡◌, ◌∙◌, Ok, ap, refl, sym}
 use Rattle.std.proofs.lemmas.List.{map-append}
-use Rattle.capnp_records.specs.Call.{Call, Op, PathStep}
+use Rattle.capnp_records.specs.Call.{Op, PathStep}
 use Rattle.capnp_words.specs.Seen.{word_value_seen, word_value_type}
 use Rattle.capnp_words.specs.declared.value.PlainValue.{PlainValue}
 use Rattle.capnp_words.specs.declared.value.PlainValue.TheVariants as plain
-use Rattle.capnp_call.specs.Seen.{call_seen}
-use Rattle.capnp_call.specs.declared.calls.Call.{Call as MadeCall}
-use Rattle.capnp_records.specs.Run.{root_type}
-use Rattle.capnp_schema.specs.StructHandles.{number_of, set_of}
-use Rattle.capnp_schema.specs.declared.schema.structs.StructSchema.{StructSchema}
-use Rattle.capnp_words.specs.Calls.{CallText}
-use Rattle.riftcalico_core.specs.Calls.{call_read, source_taken, split, with_step}
-use Rattle.riftcalico_core.specs.Reads.{each_word_read}
-use Rattle.riftcalico_core.specs.Words.{AreCalls}
-use Rattle.riftcalico_core.specs.Steps.Words.{AreMadeOf}
+use Rattle.riftcalico_core.specs.Calls.{source_taken, split, with_step}
 use Rattle.riftcalico_core.specs.CallsSeen.{word_value_source}
 
 -- a value is given by its type

@@ -12,6 +12,7 @@ ghost use Rattle.riftcalico_core.specs.Calls.{call_read, op_given, placed_call, 
 ghost use Rattle.riftcalico_core.specs.CallsSeen.{all_seen, word_value_source, read_call_seen};
 ghost use Rattle.riftcalico_core.specs.Reads.{each_word_read};
 
+use crate::words::word_at;
 use capnp_call::calls::{Call, Op, Step};
 use capnp_schema::schema::StructSchema;
 use capnp_wire::error::Result;
@@ -48,7 +49,7 @@ pub fn read_calls(alloc: Global, words: &[&str]) -> Result<Read<Vec<CallWord>>>
 {
     let mut calls = Vec::new(alloc);
     for index in 0..words.len() {
-        match parse_call(alloc, words[index])? {
+        match parse_call(alloc, word_at(words, index))? {
             Ok(call) => calls.push(call)?,
             Err(place) => {
                 let place = place as u128;

@@ -91,7 +91,7 @@ fn read_words<'a>(
     alloc: Global,
     words: Vec<&'a str>,
 ) -> Result<Told<(Vec<CallWord>, Vec<&'a str>)>>
-    ensures said { IfOk result (λ r. told_calls r ≡ words_plan (map (λ w. w.now) words.items)) }
+    ensures said { IfOk result (λ r. told_calls r ≡ words_plan (map (λ w. w.now) words.entry.items)) }
     ensures memory { IfErr result (λ e. e.kind ≡ OutOfMemory) }
 {
     match read_calls(alloc, &words)? {

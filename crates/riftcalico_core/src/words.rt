@@ -18,7 +18,7 @@ pub(crate) fn put_unreadable(alloc: Global, number: u128, word: &str, place: u12
 }
 
 /// The word at an index, empty where there is none.
-fn word_at<'a>(words: &[&'a str], index: usize) -> &'a str
+pub(crate) fn word_at<'a>(words: &[&'a str], index: usize) -> &'a str
     ensures { result.now ≡ get_or (map (λ w. w.now) words.now) index [] }
 {
     match words.get(index) {
