@@ -3,3 +3,4 @@ pub mod Reaching
 pub mod Rounding
 pub mod Going
 pub mod Finding
+pub mod RowsFloats
