@@ -4,3 +4,4 @@ pub mod Rounding
 pub mod Going
 pub mod Finding
 pub mod RowsFloats
+pub mod RowsTexts

@@ -1,4 +1,5 @@
 pub mod Naturals
 pub mod Shortest
 pub mod Floats
+pub mod Layout
 pub mod Steps

@@ -5,4 +5,5 @@ pub mod decimal;
 mod limbs;
 mod natural;
 mod search;
+pub mod text;
 pub mod width;
