@@ -2,4 +2,5 @@ pub mod Naturals
 pub mod Shortest
 pub mod Floats
 pub mod Layout
+pub mod Nearest
 pub mod Steps

@@ -2,8 +2,10 @@
 #![tactic(auto)]
 
 pub mod decimal;
+mod large;
 mod limbs;
 mod natural;
+pub mod nearest;
 mod search;
 pub mod text;
 pub mod width;

@@ -3,9 +3,8 @@ ghost use Rattle.std.specs.Prelude.{ℕ, List, [], ◌++◌, ◌≡◌, ◌+◌,
 ghost use Rattle.std.specs.Str.{IsAscii};
 ghost use Rattle.capnp_floats.specs.Floats.{fraction, is_finite};
 ghost use Rattle.capnp_floats.specs.Layout.{AppendsFloat, IsFloatText, digits_text, few_places, is_negative, is_plain, layout, many_places, others_text, places_for, plain_text, power_text, scientific_text, sign_text, two_digits_text};
-ghost use Rattle.capnp_floats.specs.Shortest.{tens, tenths};
 
-use crate::decimal::{Decimal, decimal_of};
+use crate::decimal::{Decimal, decimal_of, tens_of, tenths_of};
 use crate::width::{Width, fraction, is_negative};
 use std::alloc::{AllocError, Global};
 
@@ -140,26 +139,6 @@ fn put_digits(
         put_plain(out, digits, up, down)
     } else {
         put_scientific(out, digits, up, down)
-    }
-}
-
-/// The tens of a power of ten.
-fn tens_of(exponent: i32) -> u64
-    ensures value { result ≡ tens exponent }
-    ensures few { result < 2 ^ 32 }
-{
-    if exponent < 0 { 0 } else { exponent as u64 }
-}
-
-/// The tenths of a power of ten.
-fn tenths_of(exponent: i32) -> u64
-    ensures value { result ≡ tenths exponent }
-    ensures few { result < 2 ^ 32 }
-{
-    if exponent < 0 {
-        (0 - exponent as i64) as u64
-    } else {
-        0
     }
 }
 
