@@ -4,5 +4,6 @@ pub mod Rounding
 pub mod Going
 pub mod Finding
 pub mod Nearing
+pub mod ReadBack
 pub mod RowsFloats
 pub mod RowsTexts

@@ -125,7 +125,7 @@ next_number Float64 b h = ⊎_elim
     ∙ next_exponent (2 ^ 52) (b / 2 ^ 52 % 2 ^ 11) (b % 2 ^ 52) (omega arith))
     (cases_lt (b % 2 ^ 52 + 1) (2 ^ 52))
 
-numbers_are : (w : Width) (b : ℕ) → least_numbers w b ≡ significand w b * 2 ^ place w b
+pub numbers_are : (w : Width) (b : ℕ) → least_numbers w b ≡ significand w b * 2 ^ place w b
 unfolding least_numbers
 numbers_are w b = refl
 
@@ -190,10 +190,10 @@ more_than w a b h f =
     omega arith
 
 -- the same of so many parts
-at_least_parts : (w : Width) (t a b : ℕ) → a ≤ b → b ≤ infinity_bits w → least_numbers w a * t ≤ least_numbers w b * t
+pub at_least_parts : (w : Width) (t a b : ℕ) → a ≤ b → b ≤ infinity_bits w → least_numbers w a * t ≤ least_numbers w b * t
 at_least_parts w t a b h f = mul-le (least_numbers w a) t (least_numbers w b) t (at_least w a b h f) (omega arith)
 
-more_than_parts : (w : Width) (t a b : ℕ) → 0 < t → a < b → b ≤ infinity_bits w → least_numbers w a * t < least_numbers w b * t
+pub more_than_parts : (w : Width) (t a b : ℕ) → 0 < t → a < b → b ≤ infinity_bits w → least_numbers w a * t < least_numbers w b * t
 more_than_parts w t a b p h f = mul-lt-mul_of_pos_right {m = least_numbers w a} {n = least_numbers w b} {k = t} (more_than w a b h f) p
 
 -- the largest number's bits are odd

@@ -3,4 +3,5 @@ pub mod Shortest
 pub mod Floats
 pub mod Layout
 pub mod Nearest
+pub mod Laws
 pub mod Steps

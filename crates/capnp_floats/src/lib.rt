@@ -3,6 +3,7 @@
 
 pub mod decimal;
 mod large;
+pub mod laws;
 mod limbs;
 mod natural;
 pub mod nearest;
