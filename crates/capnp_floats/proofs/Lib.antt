@@ -7,3 +7,4 @@ pub mod Nearing
 pub mod ReadBack
 pub mod RowsFloats
 pub mod RowsTexts
+pub mod RowsNearest

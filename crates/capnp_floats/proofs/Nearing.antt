@@ -1,5 +1,5 @@
 -- Numbers in the order of their bits, and which of two is the nearest to a decimal.
-use Rattle.std.proofs.Common.{ℕ, zero, suc, ◌≡◌, ◌≢◌, ◌+◌, ◌-◌, ◌*◌, ◌/◌, ◌%◌, ◌^◌, ◌<◌, ◌≤◌, ◌==◌, ◌⊎◌, ⊎_elim, inl, inr, Bool, true, false, not, cond, ltb, leb, refl, sym, ap, ◌∙◌, subst, arith, rules, lit<, lit≤}
+use Rattle.std.proofs.Common.{ℕ, zero, suc, ◌≡◌, ◌+◌, ◌-◌, ◌*◌, ◌/◌, ◌%◌, ◌^◌, ◌<◌, ◌≤◌, ◌==◌, ◌⊎◌, ⊎_elim, inl, inr, false, not, cond, ltb, leb, refl, sym, ap, ◌∙◌, subst, arith, lit<, lit≤}
 use Rattle.std.proofs.Math.Nat.{pow-suc, pow-zero, pow-le-pow_right, mul-lt-mul_of_pos_right}
 use Rattle.std.proofs.lemmas.Nat.{mul-le, pow-add}
 use Rattle.std.proofs.lemmas.Bool.{cases_lt, cases_order, lt-ltb, le-ltb, le-leb, lt-leb}
@@ -8,10 +8,10 @@ use lib.IntN.{ℤ, pos, negsuc}
 use Rattle.capnp_floats.specs.declared.width.Width.{Width}
 use Rattle.capnp_floats.specs.declared.width.Width.TheVariants.{Float32, Float64}
 use Rattle.capnp_floats.specs.Naturals.{large_room}
-use Rattle.capnp_floats.specs.Shortest.{apart_by, tens, tenths}
+use Rattle.capnp_floats.specs.Shortest.{tens, tenths}
 use Rattle.capnp_floats.specs.Floats.{place, significand}
 use Rattle.capnp_floats.specs.Nearest.{IsNearest, IsPastRange, decimal_numbers, far_from, infinity_bits, least_numbers, least_places, twice_last_middle}
-use Rattle.capnp_floats.specs.Steps.Nearing.{IsChosen, IsFloor, TakesNearer, twice_middle}
+use Rattle.capnp_floats.specs.Steps.Nearing.{IsChosen, TakesNearer, twice_middle}
 
 -- ---- powers ----
 

@@ -1,19 +1,18 @@
 -- A decimal that lies in a number's interval is nearer to it than to any other.
-use Rattle.std.proofs.Common.{ℕ, zero, suc, ◌≡◌, ◌≢◌, ◌+◌, ◌-◌, ◌*◌, ◌/◌, ◌%◌, ◌^◌, ◌<◌, ◌≤◌, ◌==◌, ◌&&◌, ◌⊎◌, ⊎_elim, inl, inr, Bool, true, false, cond, ltb, refl, sym, ap, ◌∙◌, subst, arith, rules, lit<}
-use Rattle.std.proofs.Math.Nat.{mul-lt-mul_of_pos_right}
+use Rattle.std.proofs.Common.{ℕ, zero, suc, ◌≡◌, ◌+◌, ◌-◌, ◌*◌, ◌/◌, ◌%◌, ◌^◌, ◌<◌, ◌≤◌, ◌==◌, ◌&&◌, ◌⊎◌, ⊎_elim, inl, inr, Bool, true, false, cond, ltb, refl, sym, ap, ◌∙◌, subst, arith, lit<}
 use Rattle.std.proofs.lemmas.Nat.{pow-add}
-use Rattle.std.proofs.lemmas.Bool.{cases_lt, cases_order, ltb-true, ltb-false}
+use Rattle.std.proofs.lemmas.Bool.{cases_lt, cases_order, ltb-true}
 use Rattle.std.proofs.lemmas.Bool.Decides.{nat_tests}
-use lib.IntN.{ℤ, pos, negsuc}
+use lib.IntN.{ℤ}
 use Rattle.capnp_floats.specs.declared.width.Width.{Width}
 use Rattle.capnp_floats.specs.declared.width.Width.TheVariants.{Float32, Float64}
-use Rattle.capnp_floats.specs.Shortest.{Interval, IsShortest, Lies, apart_by, in_units, reaches, tens, tenths}
-use Rattle.capnp_floats.specs.Floats.{IsDecimalOf, exponent, fraction, fraction_bits, gap_below, interval_of, is_finite, place, quarter_places, significand}
+use Rattle.capnp_floats.specs.Shortest.{Interval, Lies, apart_by, in_units, reaches, tens, tenths}
+use Rattle.capnp_floats.specs.Floats.{exponent, fraction, fraction_bits, gap_below, interval_of, is_finite, place, quarter_places, significand}
 use Rattle.capnp_floats.specs.Nearest.{IsNearest, decimal_numbers, far_from, infinity_bits, least_numbers, least_places}
 use Rattle.capnp_floats.specs.Steps.Nearing.{twice_middle}
 use Rattle.capnp_floats.specs.Laws.{DecimalsAreRead, OneIsNearest, without_sign}
 use Rattle.capnp_floats.proofs.Reaching.{reached, reaches_times}
-use Rattle.capnp_floats.proofs.Nearing.{low_is_nearest, more_than, more_than_parts, next_is_nearest, next_number, numbers_are, power_positive, zero_is_zero, zero_number}
+use Rattle.capnp_floats.proofs.Nearing.{low_is_nearest, more_than, more_than_parts, next_is_nearest, next_number, numbers_are, power_positive, zero_is_zero}
 
 -- ---- one number alone is the nearest ----
 

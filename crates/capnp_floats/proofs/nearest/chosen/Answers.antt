@@ -1,4 +1,4 @@
-use Rattle.std.proofs.Common.{ℕ, ◌^◌, subst}
+use Rattle.std.proofs.Common.{◌^◌, subst}
 use Rattle.capnp_floats.specs.Nearest.{least_places}
 use Rattle.capnp_floats.specs.Steps.Nearing.{IsFloor, TakesNearer}
 use Rattle.capnp_floats.proofs.Nearing.{decimal_is, twice_is}

@@ -1,5 +1,4 @@
-use Rattle.std.proofs.Common.{◌≡◌, ◌*◌, ◌^◌, ◌∙◌, ap, arith, subst, sym, ◌≤◌}
-use Rattle.capnp_floats.specs.Nearest.{least_numbers}
+use Rattle.std.proofs.Common.{◌*◌, ◌^◌, arith, subst, sym, ◌≤◌}
 use Rattle.capnp_floats.proofs.Nearing.{zero_number}
 use Rattle.capnp_floats.proofs.nearest.floor.Goals as goal
 

@@ -1,4 +1,4 @@
-use Rattle.std.proofs.Common.{◌≡◌, ◌*◌, ◌^◌, ◌+◌, ◌-◌, ◌<◌, ◌≤◌}
+use Rattle.std.proofs.Common.{◌*◌, ◌^◌, ◌-◌, ◌<◌, ◌≤◌}
 use Rattle.capnp_floats.specs.Nearest.{infinity_bits, least_numbers}
 use Rattle.capnp_floats.proofs.nearest.floor.Given as goal
 

@@ -1,4 +1,4 @@
-use Rattle.std.proofs.Common.{◌≡◌, ◌*◌, ◌^◌, ◌∙◌, ap, leb, not}
+use Rattle.std.proofs.Common.{◌*◌, ◌^◌, ◌∙◌, ap, leb, not}
 use Rattle.capnp_floats.specs.Floats.{significand}
 use Rattle.capnp_floats.specs.Nearest.{least_numbers}
 use Rattle.capnp_floats.proofs.Nearing.{not_below}

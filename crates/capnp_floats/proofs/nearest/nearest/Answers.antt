@@ -1,4 +1,4 @@
-use Rattle.std.proofs.Common.{ℕ, ◌≡◌, ◌<◌, ◌≤◌, ◌∙◌, ap, arith, w32}
+use Rattle.std.proofs.Common.{◌≡◌, ◌∙◌, ap, arith, w32}
 use Rattle.std.proofs.lemmas.Int.{to_z-of_z}
 use Rattle.capnp_floats.specs.Shortest.{tens, tenths}
 use Rattle.capnp_floats.proofs.Nearing.{chosen_is_nearest, chosen_is_past, chosen_of, tiny_is_zero, vast_is_past, zero_is_zero}

@@ -1,4 +1,4 @@
-use Rattle.std.proofs.Common.{◌≡◌, ◌*◌, ◌^◌, ◌<◌, ◌∙◌, ap, sym, subst, arith}
+use Rattle.std.proofs.Common.{◌*◌, ◌^◌, ◌<◌, ◌∙◌, ap, sym, subst, arith}
 use Rattle.capnp_floats.specs.Naturals.{large_room}
 use Rattle.capnp_floats.proofs.Nearing.{large_fits, large_fits_twice}
 use Rattle.capnp_floats.proofs.nearest.scaled.Goals as goal

@@ -1,4 +1,4 @@
-use Rattle.std.proofs.Common.{◌≡◌, ◌*◌, ◌-◌, ◌^◌, ◌<◌, ◌∙◌, ap, sym, subst, arith}
+use Rattle.std.proofs.Common.{◌*◌, ◌-◌, ◌^◌, ◌<◌, ◌∙◌, ap, sym, subst, arith}
 use Rattle.capnp_floats.specs.Naturals.{large_room}
 use Rattle.capnp_floats.proofs.Nearing.{factor_fits, factor_split, factors_fit, factors_split}
 use Rattle.capnp_floats.proofs.large.Large.raise.Goals as goal
