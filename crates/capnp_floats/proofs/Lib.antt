@@ -5,6 +5,7 @@ pub mod Going
 pub mod Finding
 pub mod Nearing
 pub mod ReadBack
+pub mod Unique
 pub mod RowsFloats
 pub mod RowsTexts
 pub mod RowsNearest

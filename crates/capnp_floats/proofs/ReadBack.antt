@@ -17,7 +17,7 @@ use Rattle.capnp_floats.proofs.Nearing.{low_is_nearest, more_than, more_than_par
 -- ---- one number alone is the nearest ----
 
 -- two that are as near have a third between them that is nearer
-between_is_nearer : (a b c d : ℕ) → a < c → c < b → apart_by a d ≡ apart_by b d → apart_by a d ≤ apart_by c d → ⊥
+pub between_is_nearer : (a b c d : ℕ) → a < c → c < b → apart_by a d ≡ apart_by b d → apart_by a d ≤ apart_by c d → ⊥
 between_is_nearer a b c d h f e g = omega arith
 
 not_two : (w : Width) (d : ℕ) (k : ℤ) (a b : ℕ) → a < b → IsNearest w d k a → IsNearest w d k b → ⊥

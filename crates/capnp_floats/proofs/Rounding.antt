@@ -112,11 +112,11 @@ cancel_equal c a b p e = ⊎_elim (λ x. x)
     x)
     (cases_order a b)
 
-low_scaled : (ends : Bool) (c s v b n : ℕ) → 0 < c → reaches ends (n * (s * c) + b * c) (v * c) ≡ reaches ends (n * s + b) v
+pub low_scaled : (ends : Bool) (c s v b n : ℕ) → 0 < c → reaches ends (n * (s * c) + b * c) (v * c) ≡ reaches ends (n * s + b) v
 low_scaled ends c s v b n p =
     ap (λ z. reaches ends z (v * c)) (let e : n * (s * c) + b * c ≡ (n * s + b) * c = omega arith in e) ∙ reaches_times ends c (n * s + b) v p
 
-high_scaled : (ends : Bool) (c s v a n : ℕ) → 0 < c → reaches ends (v * c + a * c) (n * (s * c)) ≡ reaches ends (v + a) (n * s)
+pub high_scaled : (ends : Bool) (c s v a n : ℕ) → 0 < c → reaches ends (v * c + a * c) (n * (s * c)) ≡ reaches ends (v + a) (n * s)
 high_scaled ends c s v a n p =
     ap (λ z. reaches ends z (n * (s * c))) (let e : v * c + a * c ≡ (v + a) * c = omega arith in e)
     ∙ ap (λ z. reaches ends ((v + a) * c) z) (let e : n * (s * c) ≡ n * s * c = omega arith in e) ∙ reaches_times ends c (v + a) (n * s) p

@@ -16,3 +16,7 @@ DecimalsAreRead = (w : Width) (bits d : ℕ) (k : ℤ) → is_finite w bits ≡ 
 -- No decimal has two nearest numbers.
 abbrev pub OneIsNearest : Type 0
 OneIsNearest = (w : Width) (d : ℕ) (k : ℤ) (a b : ℕ) → IsNearest w d k a → IsNearest w d k b → a ≡ b
+
+-- No number has two decimals.
+abbrev pub OneDecimal : Type 0
+OneDecimal = (w : Width) (bits d d' : ℕ) (k k' : ℤ) → IsDecimalOf w bits d k → IsDecimalOf w bits d' k' → (d ≡ d') × (k ≡ k')
