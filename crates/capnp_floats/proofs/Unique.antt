@@ -1,12 +1,11 @@
 -- A number has one decimal.
-use Rattle.std.proofs.Common.{ℕ, zero, suc, ◌≡◌, ◌+◌, ◌-◌, ◌*◌, ◌%◌, ◌^◌, ◌<◌, ◌≤◌, ◌⊎◌, ⊎_elim, inl, inr, Bool, true, false, refl, sym, ap, ◌∙◌, subst, arith, lit<}
+use Rattle.std.proofs.Common.{ℕ, suc, ◌≡◌, ◌+◌, ◌-◌, ◌*◌, ◌%◌, ◌^◌, ◌<◌, ◌≤◌, ⊎_elim, Bool, true, false, sym, ap, ◌∙◌, subst, arith, lit<}
 use Rattle.std.proofs.Math.Nat.{pow-suc}
 use Rattle.std.proofs.lemmas.Nat.{mul-le, pow-add}
 use Rattle.std.proofs.lemmas.Bool.{cases_lt, cases_order, ltb-true, leb-true, lt-ltb, le-leb}
 use lib.IntN.{ℤ, pos, negsuc}
-use Rattle.capnp_floats.specs.declared.width.Width.{Width}
-use Rattle.capnp_floats.specs.Shortest.{Interval, IsRounded, IsShortest, Lies, apart_by, away, in_units, reaches, tens, tenths}
-use Rattle.capnp_floats.specs.Floats.{IsDecimalOf, interval_of, significand}
+use Rattle.capnp_floats.specs.Shortest.{Interval, IsRounded, IsShortest, Lies, away, in_units, reaches, tens, tenths}
+use Rattle.capnp_floats.specs.Floats.{interval_of, significand}
 use Rattle.capnp_floats.specs.Laws.{OneDecimal}
 use Rattle.capnp_floats.proofs.Rounding.{high_scaled, low_scaled}
 use Rattle.capnp_floats.proofs.Nearing.{power_positive}
