@@ -12,7 +12,7 @@ use Rattle.capnp_floats.specs.Naturals.{room}
 use Rattle.capnp_floats.specs.Floats.{place, quarter_places}
 use Rattle.capnp_floats.specs.Shortest.{IsRounded, IsShortest, reaches, tens, tenths}
 use Rattle.capnp_floats.specs.Steps.Intervals.{interval}
-use Rattle.capnp_floats.specs.Steps.Going.{Follows, IsOpen, around}
+use Rattle.capnp_floats.specs.Steps.Going.{FollowsSearch, IsSearchOpen, around}
 use Rattle.capnp_floats.proofs.Rounding.{same_interval, units_less}
 
 pub fits : (x k : ℕ) → x ≤ 2 ^ 56 → k ≤ 1076 → 10000 * (x * 2 ^ k) < room
@@ -41,7 +41,7 @@ short_of false x y h = le-ltb y x (omega arith)
 -- a search that begins is open
 pub open_start : (s : Search) (m gap u : ℕ) → 0 < m → m < 2 ^ 53 → 1 ≤ gap → gap ≤ 2 → 0 < u
     → s.rest ≡ 4 * m * u → s.below ≡ gap * u → s.above ≡ 2 * u → s.digits ≡ 0 → s.tenths ≡ 0
-    → reaches s.has_ends (s.rest + s.above) s.one ≡ false → 100 * s.one < room → IsOpen s
+    → reaches s.has_ends (s.rest + s.above) s.one ≡ false → 100 * s.one < room → IsSearchOpen s
 open_start s m gap u mp mf wide narrow up er eb ea ed et passed small =
     let low : gap * u ≤ 2 * u = mul-le gap u 2 u narrow (omega arith) in
     let high : 1 * u ≤ gap * u = mul-le 1 u gap u wide (omega arith) in
@@ -69,7 +69,7 @@ to_shortest ends s v b a d up down (pos n) e h = units_less ends s v b a d up do
 to_shortest ends s v b a d up down (negsuc n) e h = units_less ends s v b a d up down 0 (suc n) up (ten_positive up) (omega arith) (omega arith) h
 
 -- what a search found is the shortest decimal of the interval that it began with
-pub shortest_found : (o t : Search) (x s v b a up d : ℕ) (k : ℤ) → Follows o t → o.one ≡ x * 10 ^ up → x ≡ 1 * s
+pub shortest_found : (o t : Search) (x s v b a up d : ℕ) (k : ℤ) → FollowsSearch o t → o.one ≡ x * 10 ^ up → x ≡ 1 * s
     → o.rest ≡ v → o.below ≡ b → o.above ≡ a → up + tenths k ≡ t.tenths + tens k
     → IsRounded (around t) d → IsShortest (interval o.has_ends s v b a) d k
 shortest_found o t x s v b a up d k f eo ex ev eb ea ek h =

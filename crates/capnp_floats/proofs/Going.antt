@@ -7,7 +7,7 @@ use Rattle.capnp_floats.specs.declared.search.Search.{Search}
 use Rattle.capnp_floats.specs.Naturals.{room}
 use Rattle.capnp_floats.specs.Shortest.{Lies, IsRounded, reaches}
 use Rattle.capnp_floats.specs.Steps.Intervals.{interval}
-use Rattle.capnp_floats.specs.Steps.Going.{Advances, Follows, IsGoing, IsOpen, around}
+use Rattle.capnp_floats.specs.Steps.Going.{Advances, FollowsSearch, IsGoing, IsSearchOpen, around}
 use Rattle.capnp_floats.proofs.Naturals.{few_factors}
 use Rattle.capnp_floats.proofs.Reaching.{not_reached}
 use Rattle.capnp_floats.proofs.Rounding.{coarse_next, floor_rounded, ceiling_rounded, never_above, never_below}
@@ -22,7 +22,7 @@ pub two_more : (x t : ℕ) → 2 ^ t ≤ x → 2 ^ (t + 1) ≤ x * 10
 two_more x t h = let p : 2 ^ (t + 1) ≡ 2 ^ t * 2 = pow-add 2 t 1 in omega arith
 
 -- what is known of an open state: what the next digit needs
-pub record Open (s : Search) : Type 0 where
+pub record OpenFacts (s : Search) : Type 0 where
   pub below : s.below ≤ s.rest
   pub up : s.rest + s.above ≤ s.one
   pub less : s.rest < s.one
@@ -31,7 +31,7 @@ pub record Open (s : Search) : Type 0 where
   pub tenths : s.tenths < 1152
   pub small : 100 * s.one < room
 
-pub open_facts : (s : Search) → IsOpen s → Open s
+pub open_facts : (s : Search) → IsSearchOpen s → OpenFacts s
 open_facts s o =
     let b : s.below ≤ s.rest = not_reached s.has_ends s.below s.rest o.not_down in
     let u : s.rest + s.above ≤ s.one = not_reached s.has_ends (s.rest + s.above) s.one o.not_up in
@@ -49,9 +49,9 @@ open_facts s o =
       small = r;
     }
 
-pub going_on : (s t : Search) → IsOpen s → Advances s t → IsGoing t
+pub going_on : (s t : Search) → IsSearchOpen s → Advances s t → IsGoing t
 going_on s t o v =
-    let f : Open s = open_facts s o in
+    let f : OpenFacts s = open_facts s o in
     let e1 : t.one ≡ s.one = v.one in
     let e2 : t.below ≡ s.below * 10 = v.below in
     let e3 : t.above ≡ s.above * 10 = v.above in
@@ -76,7 +76,7 @@ going_on s t o v =
       few = let d : s.tenths < 1152 = f.tenths in omega arith;
     }
 
-pub follows_first : (s t : Search) → s.digits ≡ 0 → s.tenths ≡ 0 → Advances s t → Follows s t
+pub follows_first : (s t : Search) → s.digits ≡ 0 → s.tenths ≡ 0 → Advances s t → FollowsSearch s t
 follows_first s t d n v =
     let p : 10 ^ t.tenths ≡ 10 = ap (λ z. 10 ^ z) (v.tenths ∙ ap (λ z. z + 1) n) in
     record {
@@ -89,7 +89,7 @@ follows_first s t d n v =
       above = v.above ∙ ap (λ z. s.above * z) (sym p);
     }
 
-pub follows_on : (o s t : Search) → Follows o s → Advances s t → Follows o t
+pub follows_on : (o s t : Search) → FollowsSearch o s → Advances s t → FollowsSearch o t
 follows_on o s t f v =
     let more : (x : ℕ) → x * 10 ^ s.tenths * 10 ≡ x * 10 ^ t.tenths = λ x. ten_more x s.tenths ∙ ap (λ z. x * 10 ^ z) (sym v.tenths) in
     record {
@@ -100,13 +100,13 @@ follows_on o s t f v =
       above = v.above ∙ ap (λ z. z * 10) f.above ∙ more o.above;
     }
 
-pub open_again : (s : Search) → IsGoing s → reaches s.has_ends s.below s.rest ≡ false → reaches s.has_ends (s.rest + s.above) s.one ≡ false → IsOpen s
+pub open_again : (s : Search) → IsGoing s → reaches s.has_ends s.below s.rest ≡ false → reaches s.has_ends (s.rest + s.above) s.one ≡ false → IsSearchOpen s
 open_again s g d u = record { not_down = d; not_up = u; many = g.many; above = g.above; size = g.size; small = g.small }
 
 -- below grows towards one
-pub shrinks : (s t : Search) → IsOpen s → Advances s t → t.one - t.below < s.one - s.below
+pub shrinks : (s t : Search) → IsSearchOpen s → Advances s t → t.one - t.below < s.one - s.below
 shrinks s t o v =
-    let f : Open s = open_facts s o in
+    let f : OpenFacts s = open_facts s o in
     let e1 : t.one ≡ s.one = v.one in
     let e2 : t.below ≡ s.below * 10 = v.below in
     let b : s.below ≤ s.rest = f.below in

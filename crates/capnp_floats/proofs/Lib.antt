@@ -3,3 +3,9 @@ pub mod Reaching
 pub mod Rounding
 pub mod Going
 pub mod Finding
+pub mod Nearing
+pub mod ReadBack
+pub mod Unique
+pub mod RowsFloats
+pub mod RowsTexts
+pub mod RowsNearest

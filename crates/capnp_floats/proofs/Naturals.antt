@@ -5,7 +5,7 @@ use Rattle.std.proofs.lemmas.List.{take_more, take_more_set, length-take-le, get
 use Rattle.std.proofs.Math.Nat.{pow-le-pow_right}
 use Rattle.std.proofs.lemmas.Bool.{cases_lt}
 use Rattle.std.proofs.lemmas.Bool.Decides.{nat_tests}
-use Rattle.capnp_floats.specs.Naturals.{natural_of, room}
+use Rattle.capnp_floats.specs.Naturals.{large_room, natural_of, room}
 
 pub power_more : (i : ℕ) → 2 ^ (32 * (i + 1)) ≡ 2 ^ (32 * i) * 2 ^ 32
 power_more i = ap (λ k. 2 ^ k) (let e : 32 * (i + 1) ≡ 32 * i + 32 = omega arith in e) ∙ pow-add 2 (32 * i) 32
@@ -179,3 +179,12 @@ bound_kept row i n inside h =
     let q : n % 4294967296 < 4294967296 = mod_below n 4294967296 (lit< tt) in
     let k : 2 ^ (32 * i) * (n % 4294967296 + 1) ≤ 2 ^ (32 * i) * 4294967296 = mul-le (2 ^ (32 * i)) (n % 4294967296 + 1) (2 ^ (32 * i)) 4294967296 (omega arith) (omega arith) in
     omega arith
+
+-- nothing is carried out of 192 places where the number has room
+pub none_carried_large : (n l c x : ℕ) → n + 2 ^ (32 * l) * c ≡ x → l ≡ 192 → x < large_room → n ≡ x
+unfolding large_room
+none_carried_large n l zero x e h f = omega arith
+none_carried_large n l (suc c) x e h f =
+    let p : 2 ^ (32 * l) ≡ 2 ^ 6144 = ap (λ k. 2 ^ (32 * k)) h in
+    let q : 2 ^ (32 * l) * 1 ≤ 2 ^ (32 * l) * suc c = mul-le (2 ^ (32 * l)) 1 (2 ^ (32 * l)) (suc c) (omega arith) (omega arith) in
+    absurd (omega arith)

@@ -3,7 +3,7 @@ use Rattle.std.proofs.Common.{ℕ, ◌≡◌, ◌+◌, ◌-◌, ◌*◌, ◌<◌
 use Rattle.std.proofs.Math.Nat.{mul-lt-mul_of_pos_right}
 use Rattle.std.proofs.lemmas.Nat.{mul-le}
 use Rattle.std.proofs.lemmas.Bool.{cases_lt, ltb-true, ltb-false, leb-true, leb-false, lt-ltb, le-ltb, le-leb, lt-leb}
-use Rattle.capnp_floats.specs.Shortest.{reaches, distance}
+use Rattle.capnp_floats.specs.Shortest.{reaches, apart_by}
 
 pub reached : (ends : Bool) (x y : ℕ) → reaches ends x y ≡ true → y ≤ x
 reached true x y h = leb-true y x h
@@ -36,10 +36,10 @@ reaches_times false c x y p = ⊎_elim
     (λ m. le-ltb (y * c) (x * c) (mul-le x c y c m (omega arith)) ∙ sym (le-ltb y x m))
     (cases_lt y x)
 
-pub distance_times : (c a b : ℕ) → distance (a * c) (b * c) ≡ distance a b * c
-distance_times c a b = ⊎_elim
+pub apart_by_times : (c a b : ℕ) → apart_by (a * c) (b * c) ≡ apart_by a b * c
+apart_by_times c a b = ⊎_elim
     (λ l. let t : ℕ = b - a in let e : (a + t) * c ≡ b * c = ap (λ z. z * c) (let f : a + t ≡ b = omega arith in f) in
-    let g : (distance a b) * c ≡ t * c = ap (λ z. z * c) (let f : distance a b ≡ t = omega arith in f) in omega arith)
+    let g : (apart_by a b) * c ≡ t * c = ap (λ z. z * c) (let f : apart_by a b ≡ t = omega arith in f) in omega arith)
     (λ m. let t : ℕ = a - b in let e : (b + t) * c ≡ a * c = ap (λ z. z * c) (let f : b + t ≡ a = omega arith in f) in
-    let g : (distance a b) * c ≡ t * c = ap (λ z. z * c) (let f : distance a b ≡ t = omega arith in f) in omega arith)
+    let g : (apart_by a b) * c ≡ t * c = ap (λ z. z * c) (let f : apart_by a b ≡ t = omega arith in f) in omega arith)
     (cases_lt a b)

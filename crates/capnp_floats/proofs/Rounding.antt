@@ -3,9 +3,9 @@ use Rattle.std.proofs.Common.{ℕ, ◌≡◌, ◌+◌, ◌*◌, ◌^◌, ◌%◌
 use Rattle.std.proofs.Math.Nat.{lt_of_mul-lt-mul_right, mul-lt-mul_of_pos_right}
 use Rattle.std.proofs.lemmas.Nat.{mul-le, pow-add}
 use Rattle.std.proofs.lemmas.Bool.{cases_lt, cases_order}
-use Rattle.capnp_floats.specs.Shortest.{Lies, IsRounded, reaches, distance}
+use Rattle.capnp_floats.specs.Shortest.{Lies, IsRounded, reaches, apart_by}
 use Rattle.capnp_floats.specs.Steps.Intervals.{interval}
-use Rattle.capnp_floats.proofs.Reaching.{past, between, reaches_more, reaches_times, distance_times}
+use Rattle.capnp_floats.proofs.Reaching.{past, between, reaches_more, reaches_times, apart_by_times}
 
 -- ---- naturals in the interval whose value is d and a rest
 
@@ -54,18 +54,18 @@ floor_rounded ends s d r b a less up down coarse far = record {
   nearest = λ n l e. ⊎_elim
       (λ (m : n < d).
       let k : (n + 1) * s ≤ d * s = mul-le (n + 1) s d s (omega arith) (omega arith) in
-      inl (let w : distance (d * s) (d * s + r) < distance (n * s) (d * s + r) = omega arith in w))
+      inl (let w : apart_by (d * s) (d * s + r) < apart_by (n * s) (d * s + r) = omega arith in w))
       (λ (m : d ≤ n).
       let d' : d < n = ⊎_elim (λ x. absurd (e x)) (λ x. ⊎_elim (λ y. absurd (let z : n < d = y in omega arith)) (λ y. y) x) (cases_order n d) in
       let k : (d + 1) * s ≤ n * s = mul-le (d + 1) s n s (omega arith) (omega arith) in
       ⊎_elim
-      (λ (x : r + r < s). inl (let w : distance (d * s) (d * s + r) < distance (n * s) (d * s + r) = omega arith in w))
+      (λ (x : r + r < s). inl (let w : apart_by (d * s) (d * s + r) < apart_by (n * s) (d * s + r) = omega arith in w))
       (λ x. ⊎_elim
-      (λ (y : distance (d * s) (d * s + r) < distance (n * s) (d * s + r)). inl y)
-      (λ (y : distance (n * s) (d * s + r) ≤ distance (d * s) (d * s + r)).
+      (λ (y : apart_by (d * s) (d * s + r) < apart_by (n * s) (d * s + r)). inl y)
+      (λ (y : apart_by (n * s) (d * s + r) ≤ apart_by (d * s) (d * s + r)).
       let x0 : r + r ≡ s = x.0 in
-      inr (let w : distance (d * s) (d * s + r) ≡ distance (n * s) (d * s + r) = omega arith in w, x.1))
-      (cases_lt (distance (d * s) (d * s + r)) (distance (n * s) (d * s + r))))
+      inr (let w : apart_by (d * s) (d * s + r) ≡ apart_by (n * s) (d * s + r) = omega arith in w, x.1))
+      (cases_lt (apart_by (d * s) (d * s + r)) (apart_by (n * s) (d * s + r))))
       (far n l d'))
       (cases_lt n d);
 }
@@ -87,18 +87,18 @@ ceiling_rounded ends s d r b a less down up coarse near = record {
       (λ (m : n < d + 1).
       let k : n * s ≤ d * s = mul-le n s d s (omega arith) (omega arith) in
       ⊎_elim
-      (λ (x : s < r + r). inl (let w : distance ((d + 1) * s) (d * s + r) < distance (n * s) (d * s + r) = omega arith in w))
+      (λ (x : s < r + r). inl (let w : apart_by ((d + 1) * s) (d * s + r) < apart_by (n * s) (d * s + r) = omega arith in w))
       (λ x. ⊎_elim
-      (λ (y : distance ((d + 1) * s) (d * s + r) < distance (n * s) (d * s + r)). inl y)
-      (λ (y : distance (n * s) (d * s + r) ≤ distance ((d + 1) * s) (d * s + r)).
+      (λ (y : apart_by ((d + 1) * s) (d * s + r) < apart_by (n * s) (d * s + r)). inl y)
+      (λ (y : apart_by (n * s) (d * s + r) ≤ apart_by ((d + 1) * s) (d * s + r)).
       let x0 : r + r ≡ s = x.0 in
-      inr (let w : distance ((d + 1) * s) (d * s + r) ≡ distance (n * s) (d * s + r) = omega arith in w, x.1))
-      (cases_lt (distance ((d + 1) * s) (d * s + r)) (distance (n * s) (d * s + r))))
+      inr (let w : apart_by ((d + 1) * s) (d * s + r) ≡ apart_by (n * s) (d * s + r) = omega arith in w, x.1))
+      (cases_lt (apart_by ((d + 1) * s) (d * s + r)) (apart_by (n * s) (d * s + r))))
       (near n l (omega arith)))
       (λ (m : d + 1 ≤ n).
       let d' : d + 1 < n = ⊎_elim (λ x. absurd (e x)) (λ x. ⊎_elim (λ y. absurd (let z : n < d + 1 = y in omega arith)) (λ y. y) x) (cases_order n (d + 1)) in
       let k : (d + 2) * s ≤ n * s = mul-le (d + 2) s n s (omega arith) (omega arith) in
-      inl (let w : distance ((d + 1) * s) (d * s + r) < distance (n * s) (d * s + r) = omega arith in w))
+      inl (let w : apart_by ((d + 1) * s) (d * s + r) < apart_by (n * s) (d * s + r) = omega arith in w))
       (cases_lt n (d + 1));
 }
 
@@ -112,17 +112,17 @@ cancel_equal c a b p e = ⊎_elim (λ x. x)
     x)
     (cases_order a b)
 
-low_scaled : (ends : Bool) (c s v b n : ℕ) → 0 < c → reaches ends (n * (s * c) + b * c) (v * c) ≡ reaches ends (n * s + b) v
+pub low_scaled : (ends : Bool) (c s v b n : ℕ) → 0 < c → reaches ends (n * (s * c) + b * c) (v * c) ≡ reaches ends (n * s + b) v
 low_scaled ends c s v b n p =
     ap (λ z. reaches ends z (v * c)) (let e : n * (s * c) + b * c ≡ (n * s + b) * c = omega arith in e) ∙ reaches_times ends c (n * s + b) v p
 
-high_scaled : (ends : Bool) (c s v a n : ℕ) → 0 < c → reaches ends (v * c + a * c) (n * (s * c)) ≡ reaches ends (v + a) (n * s)
+pub high_scaled : (ends : Bool) (c s v a n : ℕ) → 0 < c → reaches ends (v * c + a * c) (n * (s * c)) ≡ reaches ends (v + a) (n * s)
 high_scaled ends c s v a n p =
     ap (λ z. reaches ends z (n * (s * c))) (let e : v * c + a * c ≡ (v + a) * c = omega arith in e)
     ∙ ap (λ z. reaches ends ((v + a) * c) z) (let e : n * (s * c) ≡ n * s * c = omega arith in e) ∙ reaches_times ends c (v + a) (n * s) p
 
-away_scaled : (c s v n : ℕ) → distance (n * (s * c)) (v * c) ≡ distance (n * s) v * c
-away_scaled c s v n = ap (λ z. distance z (v * c)) (let e : n * (s * c) ≡ n * s * c = omega arith in e) ∙ distance_times c (n * s) v
+away_scaled : (c s v n : ℕ) → apart_by (n * (s * c)) (v * c) ≡ apart_by (n * s) v * c
+away_scaled c s v n = ap (λ z. apart_by z (v * c)) (let e : n * (s * c) ≡ n * s * c = omega arith in e) ∙ apart_by_times c (n * s) v
 
 pub rounded_unscaled : (ends : Bool) (c s v b a d : ℕ) → 0 < c → IsRounded (interval ends (s * c) (v * c) (b * c) (a * c)) d → IsRounded (interval ends s v b a) d
 rounded_unscaled ends c s v b a d p h =
@@ -135,12 +135,12 @@ rounded_unscaled ends c s v b a d p h =
       };
       coarsest = λ n l. h.coarsest n (more (10 * n) l);
       nearest = λ n l e. ⊎_elim
-          (λ x. inl (lt_of_mul-lt-mul_right c {m = distance (d * s) v} {n = distance (n * s) v}
-          (let g : distance (d * (s * c)) (v * c) < distance (n * (s * c)) (v * c) = x in
-          let i : distance (d * (s * c)) (v * c) ≡ distance (d * s) v * c = away_scaled c s v d in
-          let j : distance (n * (s * c)) (v * c) ≡ distance (n * s) v * c = away_scaled c s v n in
-          subst (λ z. z < distance (n * s) v * c) i (subst (λ z. distance (d * (s * c)) (v * c) < z) j g))))
-          (λ x. inr (cancel_equal c (distance (d * s) v) (distance (n * s) v) p (sym (away_scaled c s v d) ∙ x.0 ∙ away_scaled c s v n), x.1))
+          (λ x. inl (lt_of_mul-lt-mul_right c {m = apart_by (d * s) v} {n = apart_by (n * s) v}
+          (let g : apart_by (d * (s * c)) (v * c) < apart_by (n * (s * c)) (v * c) = x in
+          let i : apart_by (d * (s * c)) (v * c) ≡ apart_by (d * s) v * c = away_scaled c s v d in
+          let j : apart_by (n * (s * c)) (v * c) ≡ apart_by (n * s) v * c = away_scaled c s v n in
+          subst (λ z. z < apart_by (n * s) v * c) i (subst (λ z. apart_by (d * (s * c)) (v * c) < z) j g))))
+          (λ x. inr (cancel_equal c (apart_by (d * s) v) (apart_by (n * s) v) p (sym (away_scaled c s v d) ∙ x.0 ∙ away_scaled c s v n), x.1))
           (h.nearest n (more n l) e);
     }
 

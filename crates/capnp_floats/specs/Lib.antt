@@ -1,4 +1,7 @@
 pub mod Naturals
 pub mod Shortest
 pub mod Floats
+pub mod Layout
+pub mod Nearest
+pub mod Laws
 pub mod Steps

@@ -21,12 +21,12 @@ pub record Lies (i : Interval) (n : ℕ) : Type 0 where
   pub above_low : reaches i.has_ends (n * i.one + i.below) i.value ≡ true
   pub below_high : reaches i.has_ends (i.value + i.above) (n * i.one) ≡ true
 
-abbrev pub distance : ℕ → ℕ → ℕ
-distance a b = (a - b) + (b - a)
+abbrev pub apart_by : ℕ → ℕ → ℕ
+apart_by a b = (a - b) + (b - a)
 
 -- how far a natural is from the value
 abbrev pub away : Interval → ℕ → ℕ
-away i n = distance (n * i.one) i.value
+away i n = apart_by (n * i.one) i.value
 
 -- A natural lies in the interval, and no multiple of ten does. Of all that do it is nearest to the value, of two the
 -- even one.

@@ -1,2 +1,3 @@
 pub mod Going
 pub mod Intervals
+pub mod Nearing

@@ -16,6 +16,26 @@ pub struct Decimal {
     pub exponent: i32,
 }
 
+/// The tens of a power of ten.
+pub(crate) fn tens_of(exponent: i32) -> u64
+    ensures value { result ≡ tens exponent }
+    ensures few { result < 2 ^ 32 }
+{
+    if exponent < 0 { 0 } else { exponent as u64 }
+}
+
+/// The tenths of a power of ten.
+pub(crate) fn tenths_of(exponent: i32) -> u64
+    ensures value { result ≡ tenths exponent }
+    ensures few { result < 2 ^ 32 }
+{
+    if exponent < 0 {
+        (0 - exponent as i64) as u64
+    } else {
+        0
+    }
+}
+
 /// What is left of a number where another is taken from it, or 0.
 fn less(number: u64, other: u64) -> u32
     requires { number ≤ 4096 }

@@ -2,7 +2,11 @@
 #![tactic(auto)]
 
 pub mod decimal;
+mod large;
+pub mod laws;
 mod limbs;
 mod natural;
+pub mod nearest;
 mod search;
+pub mod text;
 pub mod width;

@@ -2,7 +2,7 @@
 ghost use Rattle.std.specs.Prelude.{◌≡◌, ◌+◌, ◌*◌, ◌^◌, ◌<◌, ◌≤◌, ◌⊎◌, true, false};
 ghost use Rattle.capnp_floats.specs.Naturals.{room};
 ghost use Rattle.capnp_floats.specs.Shortest.{IsRounded, reaches};
-ghost use Rattle.capnp_floats.specs.Steps.Going.{Advances, Follows, IsGoing, IsOpen, around};
+ghost use Rattle.capnp_floats.specs.Steps.Going.{Advances, FollowsSearch, IsGoing, IsSearchOpen, around};
 
 use crate::natural::Natural;
 
@@ -96,7 +96,7 @@ impl Search {
 
     /// Finds one digit more.
     fn advance(&mut self)
-        requires { IsOpen self.old }
+        requires { IsSearchOpen self.old }
         ensures { Advances self.old self.new }
     {
         self.rest.multiply(10);
@@ -108,11 +108,11 @@ impl Search {
 
     /// Finds the digits up to the first place where a number of so many lies in the interval.
     pub(crate) fn run(&mut self)
-        requires begun { IsOpen self.old }
+        requires begun { IsSearchOpen self.old }
         requires digits { self.old.digits ≡ 0 }
         requires tenths { self.old.tenths ≡ 0 }
         ensures going { IsGoing self.new }
-        ensures follows { Follows self.old self.new }
+        ensures follows { FollowsSearch self.old self.new }
         ensures done { (reaches self.new.has_ends self.new.below self.new.rest ≡ true)
             ⊎ (reaches self.new.has_ends (self.new.rest + self.new.above) self.new.one ≡ true) }
     {

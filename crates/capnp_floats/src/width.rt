@@ -1,6 +1,7 @@
 //! The parts of a binary floating point number.
 ghost use Rattle.std.specs.Prelude.{◌≡◌, ◌^◌, ◌<◌, ◌≤◌, ◌-◌};
 ghost use Rattle.capnp_floats.specs.Floats.{exponent, exponent_bits, fraction, fraction_bits, gap_below, quarter_places, significand};
+ghost use Rattle.capnp_floats.specs.Layout.{is_negative};
 
 /// A width of binary floating point numbers: 32 or 64 bits.
 #[derive(Clone, Copy, Drop)]
@@ -45,7 +46,7 @@ pub(crate) fn quarter_places(width: Width) -> u64
 }
 
 /// The bits of the fraction.
-fn fraction(width: Width, bits: u64) -> u64
+pub(crate) fn fraction(width: Width, bits: u64) -> u64
     ensures value { result ≡ fraction width bits }
     ensures few { result < 4503599627370496 }
 {
@@ -84,4 +85,15 @@ pub(crate) fn gap_below(width: Width, bits: u64) -> u64
     } else {
         2
     }
+}
+
+/// Whether the sign is set.
+pub(crate) fn is_negative(width: Width, bits: u64) -> bool
+    ensures { result ≡ is_negative width bits }
+{
+    let sign = match width {
+        Width::Float32 => bits / 2147483648 % 2,
+        Width::Float64 => bits / 9223372036854775808 % 2,
+    };
+    sign == 1
 }

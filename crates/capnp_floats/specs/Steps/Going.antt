@@ -15,7 +15,7 @@ around s = record {
 }
 
 -- neither the digits found nor these and one more lie in the interval
-pub record IsOpen (s : Search) : Type 0 where
+pub record IsSearchOpen (s : Search) : Type 0 where
   pub not_down : reaches s.has_ends s.below s.rest ≡ false
   pub not_up : reaches s.has_ends (s.rest + s.above) s.one ≡ false
   pub many : 2 ^ s.tenths ≤ s.below
@@ -48,7 +48,7 @@ pub record Advances (s t : Search) : Type 0 where
   pub tenths : t.tenths ≡ s.tenths + 1
 
 -- a state that came from one without digits
-pub record Follows (s t : Search) : Type 0 where
+pub record FollowsSearch (s t : Search) : Type 0 where
   pub one : t.one ≡ s.one
   pub ends : t.has_ends ≡ s.has_ends
   pub value : t.digits * t.one + t.rest ≡ s.rest * 10 ^ t.tenths

@@ -1,0 +1,26 @@
+use Rattle.std.proofs.Common.{◌*◌, ◌-◌, ◌^◌, ◌<◌, ◌∙◌, ap, sym, subst, arith}
+use Rattle.capnp_floats.specs.Naturals.{large_room}
+use Rattle.capnp_floats.proofs.Nearing.{factor_fits, factor_split, factors_fit, factors_split}
+use Rattle.capnp_floats.proofs.large.Large.raise.Goals as goal
+
+pub multiply-requires : goal.multiply-requires
+multiply-requires c =
+    subst (λ z. c.many.self * z < large_room) (sym c.requires.power)
+    (factors_fit c.many.self c.args.base c.args.few c.many.left large_room c.requires.positive (omega arith)
+    (subst (λ z. z < large_room) (sym c.many.invariant) c.requires.room))
+
+pub many-preserved : goal.many-preserved
+many-preserved c =
+    ap (λ z. z * c.args.base ^ (c.many.left - c.args.few)) c.multiply.ensures
+    ∙ ap (λ z. c.many.self * z * c.args.base ^ (c.many.left - c.args.few)) c.requires.power
+    ∙ sym (factors_split c.many.self c.args.base c.args.few c.many.left (omega arith)) ∙ c.many.invariant
+
+pub multiply-requires-in-single : goal.multiply-requires-in-single
+multiply-requires-in-single c =
+    factor_fits c.single.self c.args.base c.single.left large_room c.requires.positive (omega arith)
+    (subst (λ z. z < large_room) (sym c.single.invariant) c.requires.room)
+
+pub single-preserved : goal.single-preserved
+single-preserved c =
+    ap (λ z. z * c.args.base ^ (c.single.left - 1)) c.multiply-in-single.ensures
+    ∙ sym (factor_split c.single.self c.args.base c.single.left (omega arith)) ∙ c.single.invariant

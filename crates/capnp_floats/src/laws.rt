@@ -1,0 +1,14 @@
+//! What holds of floats and their decimals.
+ghost use Rattle.capnp_floats.specs.Laws.{DecimalsAreRead, OneDecimal, OneIsNearest};
+
+/// The decimal of a finite number is read back as the bits of this number, without its sign: they are the nearest to
+/// it, and no others are.
+pub fn decimals_are_read()
+    ensures read { DecimalsAreRead }
+    ensures only { OneIsNearest }
+{}
+
+/// A finite number has one decimal: where two are its shortest and nearest, they have the same digits and exponent.
+pub fn decimals_are_unique()
+    ensures { OneDecimal }
+{}
