@@ -1,8 +1,7 @@
 -- What is open of a value that is read is what a text shows of it.
-use Rattle.std.proofs.Common.{ℕ, zero, suc, ◌+◌, ◌-◌, ◌<◌, ◌≤◌, ◌≡◌, refl, List, [], ◌∷◌, length, Bool, true, false, max, Option, Some, None, Result, Ok, Err, ap, sym, subst, arith, ◌∙◌}
+use Rattle.std.proofs.Common.{ℕ, zero, suc, ◌-◌, ◌<◌, ◌≤◌, ◌≡◌, refl, List, [], ◌∷◌, length, Bool, true, false, max, Option, Some, None, ap, sym, subst, arith, ◌∙◌}
 use Rattle.std.proofs.lemmas.Bool.{true≢false}
 use Rattle.std.specs.Option.{unwrap_or}
-use Rattle.capnp_device.specs.declared.error.Error.{Error}
 use Rattle.capnp_device.specs.declared.error.ErrorKind.{ErrorKind}
 use Rattle.capnp_device.specs.declared.error.ErrorKind.TheVariants.{TooDeep}
 use Rattle.capnp_wire.specs.Standing.{struct_levels, struct_of}
@@ -26,7 +25,7 @@ use Rattle.capnp_records.specs.Record.{Left, Levels, Record, Value}
 use Rattle.capnp_records.specs.Text.{part_text, text_within}
 use Rattle.capnp_dynamic_readers.specs.Handles.{element_of, list_set, reader_of, schema_of}
 use Rattle.capnp_dynamic_readers.specs.Reads.{element_seen, field_seen, handed_out}
-use Rattle.capnp_dynamic_readers.specs.Seen.{answered_value, record_seen, value_seen}
+use Rattle.capnp_dynamic_readers.specs.Seen.{record_seen, value_seen}
 use Rattle.capnp_dynamic_readers.specs.Shown.{set_seen, struct_printed, type_seen, value_printed}
 use Rattle.capnp_dynamic_readers.specs.Steps.GroupTexts.{IsSlotField}
 use Rattle.capnp_dynamic_readers.specs.Steps.PartsRead.{fault_at, field_in}
@@ -36,7 +35,7 @@ use Rattle.capnp_dynamic_readers.specs.declared.dynamic_list.Reader.{Reader as L
 use Rattle.capnp_dynamic_readers.specs.declared.dynamic_struct.Reader.{Reader as StructHandle}
 use Rattle.capnp_dynamic_readers.specs.declared.dynamic_value.Reader.{Reader as DynamicValue}
 use Rattle.capnp_dynamic_readers.specs.declared.dynamic_value.Reader.TheVariants as dynamic
-use Rattle.capnp_check.specs.Places.{ElementParts, RecordParts, NoParts, RefusedAs, TextParts, kind_within, part_parts, root_parts, value_parts}
+use Rattle.capnp_check.specs.Places.{ElementParts, RecordParts, RefusedAs, kind_within, part_parts, root_parts, value_parts}
 use Rattle.capnp_check.specs.Refusals.{text_refusal}
 use Rattle.capnp_check.specs.Steps.PlaceSteps.{IsElementOpened, IsFieldOpened, IsOpenIn, level_steps, parts_refusal, parts_seen, steps_below, value_opened}
 use Rattle.capnp_check.specs.declared.parts_below.OpenValue.{OpenValue}

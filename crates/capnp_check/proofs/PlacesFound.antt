@@ -1,17 +1,17 @@
 -- The first part of a struct or list that is refused is found by index.
-use Rattle.std.proofs.Common.{ℕ, zero, suc, ◌+◌, ◌-◌, ◌<◌, ◌≤◌, ◌≡◌, refl, List, [], ◌∷◌, ◌++◌, length, Bool, true, false, Option, Some, None, MatchOption, ap, sym, subst, arith, ◌∙◌}
+use Rattle.std.proofs.Common.{ℕ, ◌+◌, ◌<◌, ◌≤◌, ◌≡◌, refl, List, [], ◌∷◌, ◌++◌, length, Bool, true, false, Option, Some, None, MatchOption, ap, sym, subst, arith, ◌∙◌}
 use Rattle.capnp_device.specs.declared.error.ErrorKind.{ErrorKind}
 use Rattle.capnp_schema.specs.FieldLists.{IsFieldOf, index_of}
-use Rattle.capnp_schema.specs.Schema.{Schemas, TypedField, VoidValue, default_of, field_at}
+use Rattle.capnp_schema.specs.Schema.{Schemas, TypedField, VoidValue, default_of}
 use Rattle.capnp_schema.specs.StructHandles.{number_of, set_of, struct_field, struct_fields}
 use Rattle.capnp_schema.specs.declared.schema.fields.Field.{Field as FieldHandle}
 use Rattle.capnp_schema.specs.declared.schema.structs.StructSchema.{StructSchema}
 use Rattle.capnp_records.specs.Default.{read_of}
 use Rattle.capnp_records.specs.Facts.ListValues.{below_of, count-values_from, nth-values_from}
-use Rattle.capnp_records.specs.Part.{nth_value, part_at, value_count}
+use Rattle.capnp_records.specs.Part.{nth_value}
 use Rattle.capnp_records.specs.Reading.{element_value}
 use Rattle.capnp_records.specs.Record.{Left, Value}
-use Rattle.capnp_records.specs.Text.{Out, part_text, text_within}
+use Rattle.capnp_records.specs.Text.{part_text, text_within}
 use Rattle.capnp_wire.specs.Standing.{list_levels, list_of}
 use Rattle.capnp_dynamic_readers.specs.Handles.{element_of, list_reader_of, list_set, schema_of}
 use Rattle.capnp_dynamic_readers.specs.Reads.{element_seen}
@@ -22,7 +22,7 @@ use Rattle.capnp_dynamic_readers.specs.Steps.Shown.{count_of, element_shown, ele
 use Rattle.capnp_dynamic_readers.specs.declared.dynamic_list.Reader.{Reader as ListHandle}
 use Rattle.capnp_dynamic_readers.specs.declared.dynamic_struct.Reader.{Reader as StructHandle}
 use Rattle.capnp_dynamic_readers.specs.declared.dynamic_value.Reader.{Reader as DynamicValue}
-use Rattle.capnp_check.specs.Places.{IsFirstElement, IsFirstField, IsFirstStep, IsPathTo, RefusedAs, TextParts, field_refusal, part_parts, parts_after, root_parts, value_parts}
+use Rattle.capnp_check.specs.Places.{IsFirstStep, IsPathTo, RefusedAs, TextParts, field_refusal, part_parts, parts_after, root_parts, value_parts}
 use Rattle.capnp_check.specs.Refusals.{text_refusal}
 use Rattle.capnp_check.specs.ShownFields.{is_shown}
 use Rattle.capnp_check.specs.Steps.PlaceSteps.{IsElementSaid, IsElementUnsaid, IsFieldRefused, IsFieldSaid, IsOpenIn, IsStepBelow, own_number, parts_refusal, parts_seen}

@@ -1,7 +1,7 @@
 -- Where a value's text is refused: the steps that lead from the value to the part whose own read is refused. Each step is the
 -- first, in the order of the text, at which it is refused. The text has the fields of a struct by index, with the active
 -- member at its own, and the elements of a list by index.
-use Rattle.std.specs.Prelude.{ℕ, zero, suc, ◌<◌, ◌≡◌, List, [], ◌∷◌, length, Bool, true, Option, Some, None}
+use Rattle.std.specs.Prelude.{ℕ, zero, suc, ◌<◌, ◌≡◌, List, [], ◌∷◌, length, true, Option, Some, None}
 use Rattle.capnp_device.specs.declared.error.ErrorKind.{ErrorKind}
 use Rattle.capnp_device.specs.declared.error.ErrorKind.TheVariants.{TooDeep}
 use Rattle.capnp_schema.specs.Schema.{Schemas, VoidValue, default_of, field_at, fields_of, Value as SchemaValue}

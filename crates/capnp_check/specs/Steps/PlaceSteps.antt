@@ -1,5 +1,5 @@
 -- What a place's search sees of values that are read.
-use Rattle.std.specs.Prelude.{ℕ, zero, suc, ◌+◌, ◌*◌, ◌<◌, ◌≡◌, ⊤, length, Bool, true, Option, Some, None}
+use Rattle.std.specs.Prelude.{ℕ, zero, suc, ◌+◌, ◌<◌, ◌≡◌, ⊤, length, true, Option, Some, None}
 use Rattle.capnp_device.specs.declared.error.ErrorKind.{ErrorKind}
 use Rattle.capnp_device.specs.declared.error.ErrorKind.TheVariants.{TooDeep}
 use Rattle.capnp_schema.specs.Laws.{group_height}

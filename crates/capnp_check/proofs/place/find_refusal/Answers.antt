@@ -1,7 +1,6 @@
-use Rattle.std.proofs.Common.{sym, refl, None, Some}
+use Rattle.std.proofs.Common.{sym, None, Some}
 use Rattle.capnp_dynamic_readers.specs.Shown.{set_seen}
 use Rattle.capnp_check.specs.Places.{root_parts}
-use Rattle.capnp_check.specs.Steps.PlaceSteps.{own_number, parts_refusal, parts_seen}
 use Rattle.capnp_check.proofs.PlacesFound.{begins, number_told, path_ends, steps_on}
 use Rattle.capnp_check.proofs.place.find_refusal.Goals as goal
 
