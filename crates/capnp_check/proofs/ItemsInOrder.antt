@@ -74,7 +74,7 @@ member-found v (f ∷ fs) k d j w e = go (is_member f.field && (f.field.discrimi
         }
 
 -- before, at, and behind
-by-order : {P : Type 0} (j i : ℕ) → (j < i → P) → (j ≡ i → P) → (i < j → P) → P
+pub by-order : {P : Type 0} (j i : ℕ) → (j < i → P) → (j ≡ i → P) → (i < j → P) → P
 by-order zero zero l e g = e refl
 by-order zero (suc i) l e g = l (omega arith)
 by-order (suc j) zero l e g = g (omega arith)

@@ -12,7 +12,7 @@ use Rattle.capnp_records.specs.Text.{Inner, Layout, Member, Out, before, deeper,
 use Rattle.capnp_dynamic_readers.specs.Shown.{printed_text, set_seen, type_seen, value_printed}
 use Rattle.capnp_dynamic_readers.specs.Steps.Shown.{root_shown}
 use Rattle.capnp_dynamic_readers.specs.declared.dynamic_value.Reader.{Reader as DynamicValue}
-use Rattle.capnp_check.specs.Refusals.{refusal}
+use Rattle.capnp_check.specs.Refusals.{text_refusal}
 use Rattle.capnp_check.specs.Steps.Walks.{first_refusal, or_later}
 use Rattle.capnp_check.proofs.Refused.{bracketed_refusal, first_append, item_refusal, list_refusal, own_refusal}
 
@@ -22,11 +22,11 @@ Alike xs ys = first_refusal xs ≡ first_refusal ys
 append-alike : (xs ys us vs : List Out) → Alike xs ys → Alike us vs → Alike (xs ++ us) (ys ++ vs)
 append-alike xs ys us vs h k = first_append xs us ∙ (ap₂ or_later h k ∙ sym (first_append ys vs))
 
-struct-alike : (at other : Layout) (fs : List TypedField) (xs ys : List Out) → Alike xs ys → refusal (struct_text at fs xs) ≡ refusal (struct_text other fs ys)
+struct-alike : (at other : Layout) (fs : List TypedField) (xs ys : List Out) → Alike xs ys → text_refusal (struct_text at fs xs) ≡ text_refusal (struct_text other fs ys)
 struct-alike at other [] xs ys h = refl
 struct-alike at other (f ∷ fs) xs ys h = bracketed_refusal (codes "(") (codes ")") at xs ∙ (h ∙ sym (bracketed_refusal (codes "(") (codes ")") other ys))
 
-shown-one : (q : Bool) (f : TypedField) (o p : Out) → refusal o ≡ refusal p → Alike (item_if q (item f o)) (item_if q (item f p))
+shown-one : (q : Bool) (f : TypedField) (o p : Out) → text_refusal o ≡ text_refusal p → Alike (item_if q (item f o)) (item_if q (item f p))
 shown-one q f o p h = item_refusal q f o ∙ (ap (own_refusal q) h ∙ sym (item_refusal q f p))
 
 abbrev MemberAlike : Member → Member → Type 0
@@ -47,11 +47,11 @@ before-same None (Some n) i h = absurd h
 before-same (Some m) None i h = absurd h
 
 abbrev IsAlike : Inner → Type 0
-IsAlike inner = (at other : Layout) (t : SchemaType) (v : Value) → refusal (inner at t v) ≡ refusal (inner other t v)
+IsAlike inner = (at other : Layout) (t : SchemaType) (v : Value) → text_refusal (inner at t v) ≡ text_refusal (inner other t v)
 
 module _ (set : Schemas) (inner : Inner) (alike : IsAlike inner) where
   mutual
-    pub part-alike : (at other : Layout) (d : SchemaValue) (t : SchemaType) (v : Value) → refusal (part_text set inner at d t v) ≡ refusal (part_text set inner other d t v)
+    pub part-alike : (at other : Layout) (d : SchemaValue) (t : SchemaType) (v : Value) → text_refusal (part_text set inner at d t v) ≡ text_refusal (part_text set inner other d t v)
     part-alike at other d t (value.Group r) = record-alike at other (struct_number t) r
     part-alike at other d t (value.Fault kind) = alike at other t (read_of set d t (value.Fault kind))
     part-alike at other d t value.Void = alike at other t (read_of set d t value.Void)
@@ -66,7 +66,7 @@ module _ (set : Schemas) (inner : Inner) (alike : IsAlike inner) where
     part-alike at other d t (value.Missing l) = alike at other t (read_of set d t (value.Missing l))
     part-alike at other d t value.Elsewhere = alike at other t (read_of set d t value.Elsewhere)
 
-    pub record-alike : (at other : Layout) (b : ℕ) (r : Record) → refusal (record_text set inner at b r) ≡ refusal (record_text set inner other b r)
+    pub record-alike : (at other : Layout) (b : ℕ) (r : Record) → text_refusal (record_text set inner at b r) ≡ text_refusal (record_text set inner other b r)
     record-alike at other b (Parts vs u) =
         struct-alike at other (fields_of set b) (shown set inner (deeper at) (fields_of set b) 0 vs (member set inner (deeper at) b u)) (shown set inner (deeper other) (fields_of set b) 0 vs (member set inner (deeper other) b u))
         (shown-alike (deeper at) (deeper other) (fields_of set b) 0 vs (member set inner (deeper at) b u) (member set inner (deeper other) b u) (member-alike (deeper at) (deeper other) b u))
@@ -93,7 +93,7 @@ module _ (set : Schemas) (inner : Inner) (alike : IsAlike inner) where
         still false true e = absurd (true≢false (sym e))
 
         Part : Type 0
-        Part = refusal (part_text set inner at (default_of f.field) f.type v) ≡ refusal (part_text set inner other (default_of f.field) f.type v)
+        Part = text_refusal (part_text set inner at (default_of f.field) f.type v) ≡ text_refusal (part_text set inner other (default_of f.field) f.type v)
 
         plain : Later → Part →
             Alike (before m i ++ item_if (is_there v) (item f (part_text set inner at (default_of f.field) f.type v)) ++ shown set inner at fs (suc i) vs (later m i))
@@ -148,5 +148,5 @@ pub within-alike : (set : Schemas) (n : ℕ) → IsAlike (text_within set n)
 within-alike set zero = value-alike set None tt
 within-alike set (suc n) = value-alike set (Some (text_within set n)) (within-alike set n)
 
-pub any_lines : (indented : Bool) (v : DynamicValue) → refusal (root_shown None v) ≡ refusal (printed_text indented v)
+pub any_lines : (indented : Bool) (v : DynamicValue) → text_refusal (root_shown None v) ≡ text_refusal (printed_text indented v)
 any_lines indented v = part-alike (set_seen v) (text_within (set_seen v) 64) (within-alike (set_seen v) 64) None (cond indented (Some 0) None) VoidValue (type_seen v) (value_printed v)

@@ -1,8 +1,11 @@
 pub mod ItemsInOrder
 pub mod ItemsShown
 pub mod Layouts
+pub mod OpenValues
 pub mod PartsShown
+pub mod PlacesFound
 pub mod Refused
 pub mod Roots
+pub mod RowsPlaces
 pub mod Shown
 pub mod Walks

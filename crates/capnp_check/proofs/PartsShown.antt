@@ -100,7 +100,7 @@ fault_text set (suc n) at t kind = refl
 
 -- ---- a slot has no group ----
 
-abbrev IsNoGroup : Value → Type 0
+abbrev pub IsNoGroup : Value → Type 0
 IsNoGroup (value.Group r) = ⊥
 IsNoGroup v = ⊤
 
@@ -142,7 +142,7 @@ no_group_value set (tree.Pointers ps) l t = no_group_tree set (tree.Pointers ps)
 no_group_value set (tree.Composite d p es) l t = no_group_tree set (tree.Composite d p es) (structs_below set (bodies_of set es)) l t
 no_group_value set (tree.FaultLeaf k) l t = no_group_tree set (tree.FaultLeaf k) (struct_below []) l t
 
-no_group_slot : (set : Schemas) (l : Levels) (s : StructTree) (o : ℕ) (d : SchemaValue) (t : SchemaType) → IsNoGroup (slot_value l s.bytes (values_of set s.pointers) o d t)
+pub no_group_slot : (set : Schemas) (l : Levels) (s : StructTree) (o : ℕ) (d : SchemaValue) (t : SchemaType) → IsNoGroup (slot_value l s.bytes (values_of set s.pointers) o d t)
 no_group_slot set l s o d t = go (is_pointer t)
   where
     go : (q : Bool) → IsNoGroup (elim q as (λ _. Value) [ true ↦ nth_reading (values_of set s.pointers) o l t | false ↦ number_value t (slot_number s.bytes o d t) ])
@@ -166,7 +166,7 @@ no_group_text set inner at d t value.Elsewhere h = refl
 
 -- ---- what stands under a field ----
 
-some-none : {n : ℕ} → Some n ≡ None → ⊥
+pub some-none : {n : ℕ} → Some n ≡ None → ⊥
 some-none e = cc
 
 module _ (set : Schemas) (group : ℕ → Record) (l : Levels) (s : StructTree) where
@@ -202,7 +202,7 @@ module _ (l : ListHandle) (i : ℕ) where
   element_refused (Err e) is = λ left at. ap (text_within (list_set l) left at (element_of l)) (sym is) ∙ fault_text (list_set l) left at (element_of l) e.kind
 
 -- the text of a group's field is that of its record
-group_named : (k : FieldKind) (t : SchemaType) (g : ℕ) → kind_target k t ≡ Some g → IsGroupOf k t g
+pub group_named : (k : FieldKind) (t : SchemaType) (g : ℕ) → kind_target k t ≡ Some g → IsGroupOf k t g
 group_named (Slot o d) t g e = cc
 group_named (Group m) t g e = e
 

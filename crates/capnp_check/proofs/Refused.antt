@@ -15,7 +15,7 @@ use Rattle.capnp_dynamic_readers.specs.declared.dynamic_list.Reader.{Reader as L
 use Rattle.capnp_dynamic_readers.specs.declared.dynamic_struct.Reader.{Reader as StructHandle}
 use Rattle.capnp_dynamic_readers.specs.declared.dynamic_value.Reader.{Reader as DynamicValue}
 use Rattle.capnp_dynamic_readers.specs.declared.dynamic_value.Reader.TheVariants as dynamic
-use Rattle.capnp_check.specs.Refusals.{refusal}
+use Rattle.capnp_check.specs.Refusals.{text_refusal}
 use Rattle.capnp_check.specs.Steps.Walks.{first_refusal, or_later}
 use Rattle.capnp_check.proofs.ItemsInOrder.{from_end, from_here, from_start}
 
@@ -29,58 +29,58 @@ pub or_assoc : (a b c : Option ErrorKind) → or_later (or_later a b) c ≡ or_l
 or_assoc None b c = refl
 or_assoc (Some kind) b c = refl
 
-pub refusal_after : (x y : Out) → refusal (after x y) ≡ or_later (refusal x) (refusal y)
+pub refusal_after : (x y : Out) → text_refusal (after x y) ≡ or_later (text_refusal x) (text_refusal y)
 refusal_after (Err k) y = refl
 refusal_after (Ok a) (Err k) = refl
 refusal_after (Ok a) (Ok b) = refl
 
-pub refusal_said : (bytes : List ℕ) (y : Out) → refusal (after (said_text bytes) y) ≡ refusal y
+pub refusal_said : (bytes : List ℕ) (y : Out) → text_refusal (after (said_text bytes) y) ≡ text_refusal y
 refusal_said bytes y = refusal_after (said_text bytes) y
 
 pub first_append : (xs ys : List Out) → first_refusal (xs ++ ys) ≡ or_later (first_refusal xs) (first_refusal ys)
 first_append [] ys = refl
-first_append (x ∷ xs) ys = ap (or_later (refusal x)) (first_append xs ys) ∙ sym (or_assoc (refusal x) (first_refusal xs) (first_refusal ys))
+first_append (x ∷ xs) ys = ap (or_later (text_refusal x)) (first_append xs ys) ∙ sym (or_assoc (text_refusal x) (first_refusal xs) (first_refusal ys))
 
 -- ---- items and brackets ----
 
-pub more_refusal : (at : Layout) (first : Bool) (xs : List Out) → refusal (more_text at first xs) ≡ first_refusal xs
+pub more_refusal : (at : Layout) (first : Bool) (xs : List Out) → text_refusal (more_text at first xs) ≡ first_refusal xs
 more_refusal at first [] = refl
 more_refusal at first (x ∷ xs) =
     refusal_said (separator at first) (after x (more_text at false xs))
-    ∙ (refusal_after x (more_text at false xs) ∙ ap (or_later (refusal x)) (more_refusal at false xs))
+    ∙ (refusal_after x (more_text at false xs) ∙ ap (or_later (text_refusal x)) (more_refusal at false xs))
 
-pub bracketed_refusal : (opening closing : List ℕ) (at : Layout) (items : List Out) → refusal (bracketed_text opening closing at items) ≡ first_refusal items
+pub bracketed_refusal : (opening closing : List ℕ) (at : Layout) (items : List Out) → text_refusal (bracketed_text opening closing at items) ≡ first_refusal items
 bracketed_refusal opening closing at items =
     refusal_said opening (after (more_text (deeper at) true items) (said_text (line at ++ closing)))
     ∙ (refusal_after (more_text (deeper at) true items) (said_text (line at ++ closing))
-    ∙ (or_none (refusal (more_text (deeper at) true items)) ∙ more_refusal (deeper at) true items))
+    ∙ (or_none (text_refusal (more_text (deeper at) true items)) ∙ more_refusal (deeper at) true items))
 
 -- the refusal of an item where it is shown
 abbrev pub own_refusal : Bool → Option ErrorKind → Option ErrorKind
 own_refusal true o = o
 own_refusal false o = None
 
-pub item_refusal : (q : Bool) (f : TypedField) (text : Out) → first_refusal (item_if q (item f text)) ≡ own_refusal q (refusal text)
-item_refusal true f text = or_none (refusal (item f text)) ∙ refusal_said (f.field.name ++ codes " = ") text
+pub item_refusal : (q : Bool) (f : TypedField) (text : Out) → first_refusal (item_if q (item f text)) ≡ own_refusal q (text_refusal text)
+item_refusal true f text = or_none (text_refusal (item f text)) ∙ refusal_said (f.field.name ++ codes " = ") text
 item_refusal false f text = refl
 
 -- ---- structs ----
 
-pub record_refusal : (left : ℕ) (h : StructHandle) → refusal (record_shown left None h) ≡ first_refusal (from_here left None h 0)
+pub record_refusal : (left : ℕ) (h : StructHandle) → text_refusal (record_shown left None h) ≡ first_refusal (from_here left None h 0)
 record_refusal left h = go (struct_fields (schema_of h)) refl
   where
-    go : (fs : List TypedField) → struct_fields (schema_of h) ≡ fs → refusal (record_shown left None h) ≡ first_refusal (from_here left None h 0)
+    go : (fs : List TypedField) → struct_fields (schema_of h) ≡ fs → text_refusal (record_shown left None h) ≡ first_refusal (from_here left None h 0)
     go [] e =
-        ap (λ (fs : List TypedField). refusal (struct_text None fs (record_items left None h))) e
+        ap (λ (fs : List TypedField). text_refusal (struct_text None fs (record_items left None h))) e
         ∙ sym (ap first_refusal (from_end left None h 0 (omega (arith, ap length e))))
     go (f ∷ fs) e =
-        ap (λ (fs : List TypedField). refusal (struct_text None fs (record_items left None h))) e
+        ap (λ (fs : List TypedField). text_refusal (struct_text None fs (record_items left None h))) e
         ∙ (bracketed_refusal (codes "(") (codes ")") None (record_items left None h)
         ∙ ap first_refusal (sym (from_start left None h)))
 
 -- ---- lists ----
 
-pub list_refusal : (at : Layout) (items : List Out) → refusal (list_text at items) ≡ first_refusal items
+pub list_refusal : (at : Layout) (items : List Out) → text_refusal (list_text at items) ≡ first_refusal items
 list_refusal at [] = refl
 list_refusal at (x ∷ xs) = bracketed_refusal (codes "[") (codes "]") at (x ∷ xs)
 
@@ -98,13 +98,13 @@ abbrev pub elements_refusal : ℕ → ListHandle → ℕ → Option ErrorKind
 elements_refusal left l i = first_refusal (element_items left None l i (count_of l - i))
 
 module _ (left : ℕ) (l : ListHandle) where
-  pub elements_start : refusal (list_shown left None l) ≡ elements_refusal left l 0
+  pub elements_start : text_refusal (list_shown left None l) ≡ elements_refusal left l 0
   elements_start = list_refusal None (element_items left None l 0 (count_of l)) ∙ ap (λ (n : ℕ). first_refusal (element_items left None l 0 n)) (omega arith)
 
-  pub elements_next : (i : ℕ) → i < count_of l → elements_refusal left l i ≡ or_later (refusal (element_shown left None l (element_seen l i))) (elements_refusal left l (i + 1))
+  pub elements_next : (i : ℕ) → i < count_of l → elements_refusal left l i ≡ or_later (text_refusal (element_shown left None l (element_seen l i))) (elements_refusal left l (i + 1))
   elements_next i h =
       ap (λ (m : ℕ). first_refusal (element_items left None l i m)) (less-one (count_of l) i h)
-      ∙ ap (λ (j : ℕ). or_later (refusal (element_shown left None l (element_seen l i))) (first_refusal (element_items left None l j (count_of l - (i + 1))))) (next-is i)
+      ∙ ap (λ (j : ℕ). or_later (text_refusal (element_shown left None l (element_seen l i))) (first_refusal (element_items left None l j (count_of l - (i + 1))))) (next-is i)
 
   pub elements_end : (i : ℕ) → count_of l < i + 1 → elements_refusal left l i ≡ None
   elements_end i h = ap (λ (m : ℕ). first_refusal (element_items left None l i m)) (none-left (count_of l) i h)
@@ -124,18 +124,18 @@ list_deep (suc n) at l h = ap (λ m. list_shown m at l) (sym (before-suc n))
 
 -- ---- a value that is no struct and no list has a text ----
 
-by_levels : (left : ℕ) (v : DynamicValue) → ((inner : Option Inner) → refusal (value_text (set_seen v) inner None (type_seen v) (value_seen v)) ≡ None) → refusal (value_shown left None v) ≡ None
+by_levels : (left : ℕ) (v : DynamicValue) → ((inner : Option Inner) → text_refusal (value_text (set_seen v) inner None (type_seen v) (value_seen v)) ≡ None) → text_refusal (value_shown left None v) ≡ None
 by_levels zero v h = h None
 by_levels (suc n) v h = h (Some (text_within (set_seen v) n))
 
-quoted_said : (bs : List ℕ) → refusal (quoted_text bs) ≡ None
+pub quoted_said : (bs : List ℕ) → text_refusal (quoted_text bs) ≡ None
 quoted_said bs = go (is_utf8 bs)
   where
-    go : (q : Bool) → refusal (elim q as (λ _. Out) [ true ↦ Ok (debug_pieces bs) | false ↦ said_text (codes "<invalid utf-8: [" ++ decimals bs ++ codes "]>") ]) ≡ None
+    go : (q : Bool) → text_refusal (elim q as (λ _. Out) [ true ↦ Ok (debug_pieces bs) | false ↦ said_text (codes "<invalid utf-8: [" ++ decimals bs ++ codes "]>") ]) ≡ None
     go true = refl
     go false = refl
 
-pub leaf_said : (left : ℕ) (v : DynamicValue) → IsLeaf v → refusal (value_shown left None v) ≡ None
+pub leaf_said : (left : ℕ) (v : DynamicValue) → IsLeaf v → text_refusal (value_shown left None v) ≡ None
 leaf_said left dynamic.Void h = by_levels left dynamic.Void (λ inner. refl)
 leaf_said left (dynamic.Bool b) h = by_levels left (dynamic.Bool b) (λ inner. refl)
 leaf_said left (dynamic.Int8 x) h = by_levels left (dynamic.Int8 x) (λ inner. refl)
@@ -160,8 +160,8 @@ leaf_from v h k = tt {0}
 
 -- ---- a value by its level ----
 
-pub struct_refusal : (left : ℕ) (v : DynamicValue) (o : Option ErrorKind) (s : StructHandle) → (left ≡ 0 → ⊥) → v ≡ dynamic.Struct s → o ≡ refusal (record_shown (left - 1) None s) → o ≡ refusal (value_shown left None v)
-struct_refusal left v o s some is e = e ∙ (ap refusal (sym (struct_deep left None s (omega (arith, some)))) ∙ ap (λ (z : DynamicValue). refusal (value_shown left None z)) (sym is))
+pub struct_refusal : (left : ℕ) (v : DynamicValue) (o : Option ErrorKind) (s : StructHandle) → (left ≡ 0 → ⊥) → v ≡ dynamic.Struct s → o ≡ text_refusal (record_shown (left - 1) None s) → o ≡ text_refusal (value_shown left None v)
+struct_refusal left v o s some is e = e ∙ (ap text_refusal (sym (struct_deep left None s (omega (arith, some)))) ∙ ap (λ (z : DynamicValue). text_refusal (value_shown left None z)) (sym is))
 
-pub list_value_refusal : (left : ℕ) (v : DynamicValue) (o : Option ErrorKind) (l : ListHandle) → (left ≡ 0 → ⊥) → v ≡ dynamic.List l → o ≡ refusal (list_shown (left - 1) None l) → o ≡ refusal (value_shown left None v)
-list_value_refusal left v o l some is e = e ∙ (ap refusal (sym (list_deep left None l (omega (arith, some)))) ∙ ap (λ (z : DynamicValue). refusal (value_shown left None z)) (sym is))
+pub list_value_refusal : (left : ℕ) (v : DynamicValue) (o : Option ErrorKind) (l : ListHandle) → (left ≡ 0 → ⊥) → v ≡ dynamic.List l → o ≡ text_refusal (list_shown (left - 1) None l) → o ≡ text_refusal (value_shown left None v)
+list_value_refusal left v o l some is e = e ∙ (ap text_refusal (sym (list_deep left None l (omega (arith, some)))) ∙ ap (λ (z : DynamicValue). text_refusal (value_shown left None z)) (sym is))

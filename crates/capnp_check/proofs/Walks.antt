@@ -24,8 +24,8 @@ use Rattle.capnp_dynamic_readers.specs.Steps.GroupTexts.{is_item, items_from}
 use Rattle.capnp_dynamic_readers.specs.Steps.PartsRead.{field_in}
 use Rattle.capnp_dynamic_readers.specs.Steps.Shown.{field_item, field_shown, record_shown}
 use Rattle.capnp_dynamic_readers.specs.declared.dynamic_struct.Reader.{Reader as StructHandle}
-use Rattle.capnp_check.specs.Refusals.{refusal}
-use Rattle.capnp_check.specs.Steps.Walks.{CameDown, IsCheckStep, IsInside, first_refusal, onward, onward_of, or_later, steps_onward}
+use Rattle.capnp_check.specs.Refusals.{text_refusal}
+use Rattle.capnp_check.specs.Steps.Walks.{CameDown, IsCheckStep, IsWalkInside, first_refusal, walk_onward, walk_onward_of, or_later, walk_steps_onward}
 use Rattle.capnp_check.proofs.ItemsInOrder.{from_end, from_next, own_items}
 use Rattle.capnp_check.proofs.PartsShown.{part_group, target_in}
 use Rattle.capnp_check.proofs.Refused.{first_append, item_refusal, or_assoc, or_none, own_refusal, record_refusal}
@@ -53,7 +53,7 @@ abbrev past-frames : GroupWalk → List (ℕ × ℕ)
 past-frames walk = (walk_brand walk, walk_index walk + 1) ∷ above walk
 
 abbrev pub onward_past : ℕ → StructReader → GroupWalk → Option ErrorKind
-onward_past left r walk = onward left (walk_set walk) r ((walk_brand walk, walk_index walk + 1) ∷ above walk)
+onward_past left r walk = walk_onward left (walk_set walk) r ((walk_brand walk, walk_index walk + 1) ∷ above walk)
 
 frames-rest : {x y : ℕ × ℕ} {xs ys : List (ℕ × ℕ)} → x ∷ xs ≡ y ∷ ys → xs ≡ ys
 frames-rest e = cc
@@ -61,23 +61,23 @@ frames-rest e = cc
 -- ---- a walk past a field ----
 
 module _ (walk next : GroupWalk) (schema : walk_schema next ≡ walk_schema walk) (depth : walk_depth next ≡ walk_depth walk) (is : frames next ≡ (walk_brand walk, walk_index walk + 1) ∷ above walk) where
-  pub past-onward : (left : ℕ) (r : StructReader) → onward_past left r walk ≡ onward_of left r next
+  pub past-onward : (left : ℕ) (r : StructReader) → onward_past left r walk ≡ walk_onward_of left r next
   past-onward left r =
-      ap (λ (z : StructSchema). onward left (set_of z) r ((walk_brand walk, walk_index walk + 1) ∷ above walk)) (sym schema)
-      ∙ ap (λ (fs : List (ℕ × ℕ)). onward left (walk_set next) r fs) (sym is)
+      ap (λ (z : StructSchema). walk_onward left (set_of z) r ((walk_brand walk, walk_index walk + 1) ∷ above walk)) (sym schema)
+      ∙ ap (λ (fs : List (ℕ × ℕ)). walk_onward left (walk_set next) r fs) (sym is)
 
-  pub past-fewer : walk_index walk < length (struct_fields (walk_schema walk)) → steps_onward next < steps_onward walk
+  pub past-fewer : walk_index walk < length (struct_fields (walk_schema walk)) → walk_steps_onward next < walk_steps_onward walk
   past-fewer lt =
-      subst (λ (n : ℕ). n < steps_onward walk) (sym same-steps)
+      subst (λ (n : ℕ). n < walk_steps_onward walk) (sym same-steps)
       (steps_advance (walk_set walk) (2 ^ 64 - 1 - walk_depth walk) (walk_brand walk) (walk_index walk) (above walk) lt)
     where
-      same-steps : steps_onward next ≡ steps_left (walk_set walk) (2 ^ 64 - 1 - walk_depth walk) ((walk_brand walk, walk_index walk + 1) ∷ above walk)
+      same-steps : walk_steps_onward next ≡ steps_left (walk_set walk) (2 ^ 64 - 1 - walk_depth walk) ((walk_brand walk, walk_index walk + 1) ∷ above walk)
       same-steps =
           ap (λ (fs : List (ℕ × ℕ)). steps_left (walk_set next) (2 ^ 64 - 1 - walk_depth next) fs) is
           ∙ (ap (λ (d : ℕ). steps_left (walk_set next) (2 ^ 64 - 1 - d) ((walk_brand walk, walk_index walk + 1) ∷ above walk)) depth
           ∙ ap (λ (z : StructSchema). steps_left (set_of z) (2 ^ 64 - 1 - walk_depth walk) ((walk_brand walk, walk_index walk + 1) ∷ above walk)) schema)
 
-  pub past-inside : IsInside walk → IsInside next
+  pub past-inside : IsWalkInside walk → IsWalkInside next
   past-inside inside =
       subst (λ (fs : List (ℕ × ℕ)). CameDown (walk_set next) fs (walk_brand next) (walk_depth next)) (sym (frames-rest is))
       (subst (λ (d : ℕ). CameDown (walk_set next) (above walk) (walk_brand next) d) (sym depth)
@@ -96,11 +96,11 @@ module _ (left : ℕ) (r : StructReader) (walk : GroupWalk) (h : StructHandle) (
       (from_next left None h (walk_index walk) (subst (λ (z : StructSchema). walk_index walk < length (struct_fields z)) (sym here.schema) here.field.inside)))
 
   -- its refusal, where it is shown, and then what is to come past it
-  pub own_first : (q : Bool) → q ≡ is_item h (field_in h f) (index_of f) → onward_of left r walk ≡ or_later (own_refusal q (refusal (field_shown left None h (field_in h f)))) (onward_past left r walk)
+  pub own_first : (q : Bool) → q ≡ is_item h (field_in h f) (index_of f) → walk_onward_of left r walk ≡ or_later (own_refusal q (text_refusal (field_shown left None h (field_in h f)))) (onward_past left r walk)
   own_first q e =
-      ap (λ (xs : List Out). or_later (first_refusal xs) (onward left (walk_set walk) r (above walk))) items-by
-      ∙ (ap (λ (o : Option ErrorKind). or_later o (onward left (walk_set walk) r (above walk))) (first_append (item_if q (field_item left None h (field_in h f))) (items-at (walk_index walk + 1)))
-      ∙ (or_assoc (first_refusal (item_if q (field_item left None h (field_in h f)))) (first_refusal (items-at (walk_index walk + 1))) (onward left (walk_set walk) r (above walk))
+      ap (λ (xs : List Out). or_later (first_refusal xs) (walk_onward left (walk_set walk) r (above walk))) items-by
+      ∙ (ap (λ (o : Option ErrorKind). or_later o (walk_onward left (walk_set walk) r (above walk))) (first_append (item_if q (field_item left None h (field_in h f))) (items-at (walk_index walk + 1)))
+      ∙ (or_assoc (first_refusal (item_if q (field_item left None h (field_in h f)))) (first_refusal (items-at (walk_index walk + 1))) (walk_onward left (walk_set walk) r (above walk))
       ∙ ap (λ (o : Option ErrorKind). or_later o (onward_past left r walk)) (item_refusal q (field_in h f) (field_shown left None h (field_in h f)))))
     where
       items-by : items-at (walk_index walk) ≡ item_if q (field_item left None h (field_in h f)) ++ items-at (walk_index walk + 1)
@@ -110,17 +110,17 @@ module _ (left : ℕ) (r : StructReader) (walk : GroupWalk) (h : StructHandle) (
           ∙ ap (λ (b : Bool). item_if b (field_item left None h (field_in h f)) ++ items-at (walk_index walk + 1)) (sym e))
 
   -- it isn't shown, or has a text
-  pub step_past : (q : Bool) → q ≡ is_item h (field_in h f) (index_of f) → own_refusal q (refusal (field_shown left None h (field_in h f))) ≡ None → IsInside walk →
+  pub step_past : (q : Bool) → q ≡ is_item h (field_in h f) (index_of f) → own_refusal q (text_refusal (field_shown left None h (field_in h f))) ≡ None → IsWalkInside walk →
       (next : GroupWalk) → walk_schema next ≡ walk_schema walk → walk_depth next ≡ walk_depth walk → frames next ≡ (walk_brand walk, walk_index walk + 1) ∷ above walk → IsCheckStep left r walk next
   step_past q e said inside next schema depth is = record {
     same = own_first q e ∙ (ap (λ (o : Option ErrorKind). or_later o (onward_past left r walk)) said ∙ past-onward walk next schema depth is left r);
-    fewer = past-fewer walk next schema depth is here.field.inside;
+    fewer_steps = past-fewer walk next schema depth is here.field.inside;
     inside = past-inside walk next schema depth is inside;
     small = λ h. omega (arith, h, depth);
   }
 
   -- it is refused
-  pub refused_there : (kind : ErrorKind) → true ≡ is_item h (field_in h f) (index_of f) → Some kind ≡ refusal (field_shown left None h (field_in h f)) → onward_of left r walk ≡ Some kind
+  pub refused_there : (kind : ErrorKind) → true ≡ is_item h (field_in h f) (index_of f) → Some kind ≡ text_refusal (field_shown left None h (field_in h f)) → walk_onward_of left r walk ≡ Some kind
   refused_there kind shown refused = own_first true shown ∙ ap (λ (o : Option ErrorKind). or_later o (onward_past left r walk)) (sym refused)
 
   -- it is a group
@@ -151,7 +151,7 @@ module _ (left : ℕ) (r : StructReader) (walk : GroupWalk) (h : StructHandle) (
     height-here : group_height (walk_set walk) (walk_brand walk) ≤ length (walk_set walk).brands
     height-here = (heights_fall (walk_set walk) (subst IsAccepted group-set down.stands.accepted) (walk_brand walk) (brand_there (walk_set walk) (walk_brand walk) (walk_index walk) here.field.inside)).0
 
-    pub room : (s : StructSchema) → s ≡ walk_schema walk → length (set_of s).brands < 2 ^ 64 → IsInside walk → walk_depth walk + 1 < 2 ^ 64
+    pub room : (s : StructSchema) → s ≡ walk_schema walk → length (set_of s).brands < 2 ^ 64 → IsWalkInside walk → walk_depth walk + 1 < 2 ^ 64
     room s e counted inside =
         let small : length (walk_set walk).brands < 2 ^ 64 = subst (λ (z : StructSchema). length (set_of z).brands < 2 ^ 64) e counted in
         omega (arith, bound (walk_set walk) (above walk) (walk_brand walk) (walk_depth walk) inside height-here, lower, small)
@@ -162,11 +162,11 @@ module _ (left : ℕ) (r : StructReader) (walk : GroupWalk) (h : StructHandle) (
             let above_it = bound set rest outer further h (omega (arith, small)) in
             omega (arith, above_it, is, less)
 
-    pub step_in : IsInside walk → true ≡ is_item h (field_in h f) (index_of f) → walk_depth walk + 1 < 2 ^ 64 →
+    pub step_in : IsWalkInside walk → true ≡ is_item h (field_in h f) (index_of f) → walk_depth walk + 1 < 2 ^ 64 →
         (next : GroupWalk) → walk_schema next ≡ g → walk_depth next ≡ walk_depth walk + 1 → frames next ≡ (number_of g, 0) ∷ (walk_brand walk, walk_index walk + 1) ∷ above walk → IsCheckStep left r walk next
     step_in inside shown small next schema depth is = record {
       same = own_first true shown ∙ (ap (λ (o : Option ErrorKind). or_later o (onward_past left r walk)) group-refusal ∙ entered);
-      fewer = omega (arith, same-steps, more-groups, enter);
+      fewer_steps = omega (arith, same-steps, more-groups, enter);
       inside =
           subst (λ (fs : List (ℕ × ℕ)). CameDown (walk_set next) fs (walk_brand next) (walk_depth next)) (sym (frames-rest is))
           (subst (λ (d : ℕ). CameDown (walk_set next) ((walk_brand walk, walk_index walk + 1) ∷ above walk) (walk_brand next) d) (sym depth)
@@ -176,22 +176,22 @@ module _ (left : ℕ) (r : StructReader) (walk : GroupWalk) (h : StructHandle) (
       small = λ h. omega (arith, small, depth);
     }
       where
-        group-refusal : refusal (field_shown left None h (field_in h f)) ≡ first_refusal (items_from left (walk_set walk) r None (number_of g) 0)
+        group-refusal : text_refusal (field_shown left None h (field_in h f)) ≡ first_refusal (items_from left (walk_set walk) r None (number_of g) 0)
         group-refusal =
-            ap refusal shown-group
+            ap text_refusal shown-group
             ∙ (record_refusal left (record { reader = reader_of h; schema = g })
             ∙ (ap (λ (z : Schemas). first_refusal (items_from left z (reader_of h) None (number_of g) 0)) group-set
             ∙ ap (λ (x : StructReader). first_refusal (items_from left (walk_set walk) x None (number_of g) 0)) here.reader))
 
-        entered : or_later (first_refusal (items_from left (walk_set walk) r None (number_of g) 0)) (onward_past left r walk) ≡ onward_of left r next
+        entered : or_later (first_refusal (items_from left (walk_set walk) r None (number_of g) 0)) (onward_past left r walk) ≡ walk_onward_of left r next
         entered =
-            ap (λ (z : Schemas). onward left z r ((number_of g, 0) ∷ (walk_brand walk, walk_index walk + 1) ∷ above walk)) (sym (ap set_of schema ∙ group-set))
-            ∙ ap (λ (fs : List (ℕ × ℕ)). onward left (walk_set next) r fs) (sym is)
+            ap (λ (z : Schemas). walk_onward left z r ((number_of g, 0) ∷ (walk_brand walk, walk_index walk + 1) ∷ above walk)) (sym (ap set_of schema ∙ group-set))
+            ∙ ap (λ (fs : List (ℕ × ℕ)). walk_onward left (walk_set next) r fs) (sym is)
 
-        more-groups : steps_onward walk ≡ steps_left (walk_set walk) (suc (2 ^ 64 - 1 - walk_depth next)) (frames walk)
+        more-groups : walk_steps_onward walk ≡ steps_left (walk_set walk) (suc (2 ^ 64 - 1 - walk_depth next)) (frames walk)
         more-groups = ap (λ (n : ℕ). steps_left (walk_set walk) n (frames walk)) (omega (arith, depth, small))
 
-        same-steps : steps_onward next ≡ steps_left (walk_set walk) (2 ^ 64 - 1 - walk_depth next) ((number_of g, 0) ∷ (walk_brand walk, walk_index walk + 1) ∷ above walk)
+        same-steps : walk_steps_onward next ≡ steps_left (walk_set walk) (2 ^ 64 - 1 - walk_depth next) ((number_of g, 0) ∷ (walk_brand walk, walk_index walk + 1) ∷ above walk)
         same-steps =
             ap (λ (fs : List (ℕ × ℕ)). steps_left (walk_set next) (2 ^ 64 - 1 - walk_depth next) fs) is
             ∙ ap (λ (z : Schemas). steps_left z (2 ^ 64 - 1 - walk_depth next) ((number_of g, 0) ∷ (walk_brand walk, walk_index walk + 1) ∷ above walk)) (ap set_of schema ∙ group-set)
@@ -206,46 +206,46 @@ module _ (left : ℕ) (r : StructReader) (walk : GroupWalk) (h : StructHandle) (
 
 -- at its first field all is to come
 pub starts : (left : ℕ) (h : StructHandle) (r : StructReader) (s : StructSchema) (walk : GroupWalk) → r ≡ reader_of h → s ≡ schema_of h → walk_schema walk ≡ s → frames walk ≡ (number_of s, 0) ∷ [] →
-    refusal (record_shown left None h) ≡ onward_of left r walk
+    text_refusal (record_shown left None h) ≡ walk_onward_of left r walk
 starts left h r s walk er es schema is =
     record_refusal left h
     ∙ (sym (or_none (first_refusal (items_from left (set_of (schema_of h)) (reader_of h) None (number_of (schema_of h)) 0)))
-    ∙ (ap (λ (x : StructReader). onward left (set_of (schema_of h)) x ((number_of (schema_of h), 0) ∷ [])) (sym er)
-    ∙ (ap (λ (z : StructSchema). onward left (set_of z) r ((number_of z, 0) ∷ [])) (sym es)
-    ∙ (ap (λ (z : StructSchema). onward left (set_of z) r ((number_of s, 0) ∷ [])) (sym schema)
-    ∙ ap (λ (fs : List (ℕ × ℕ)). onward left (walk_set walk) r fs) (sym is)))))
+    ∙ (ap (λ (x : StructReader). walk_onward left (set_of (schema_of h)) x ((number_of (schema_of h), 0) ∷ [])) (sym er)
+    ∙ (ap (λ (z : StructSchema). walk_onward left (set_of z) r ((number_of z, 0) ∷ [])) (sym es)
+    ∙ (ap (λ (z : StructSchema). walk_onward left (set_of z) r ((number_of s, 0) ∷ [])) (sym schema)
+    ∙ ap (λ (fs : List (ℕ × ℕ)). walk_onward left (walk_set walk) r fs) (sym is)))))
 
-pub start-inside : (s : StructSchema) (walk : GroupWalk) → walk_depth walk ≡ 0 → frames walk ≡ (number_of s, 0) ∷ [] → IsInside walk
+pub start-inside : (s : StructSchema) (walk : GroupWalk) → walk_depth walk ≡ 0 → frames walk ≡ (number_of s, 0) ∷ [] → IsWalkInside walk
 start-inside s walk depth is = subst (λ (fs : List (ℕ × ℕ)). CameDown (walk_set walk) fs (walk_brand walk) (walk_depth walk)) (sym (frames-rest is)) depth
 
 -- past the last field
 module _ (left : ℕ) (r : StructReader) (walk : GroupWalk) (done : length (struct_fields (walk_schema walk)) ≤ walk_index walk) where
-  ends : onward_of left r walk ≡ onward left (walk_set walk) r (above walk)
-  ends = ap (λ (xs : List Out). or_later (first_refusal xs) (onward left (walk_set walk) r (above walk))) (from_end left None (record { reader = r; schema = walk_schema walk }) (walk_index walk) done)
+  ends : walk_onward_of left r walk ≡ walk_onward left (walk_set walk) r (above walk)
+  ends = ap (λ (xs : List Out). or_later (first_refusal xs) (walk_onward left (walk_set walk) r (above walk))) (from_end left None (record { reader = r; schema = walk_schema walk }) (walk_index walk) done)
 
-  pub said_whole : above walk ≡ [] → onward_of left r walk ≡ None
-  said_whole none = ends ∙ ap (λ (fs : List (ℕ × ℕ)). onward left (walk_set walk) r fs) none
+  pub said_whole : above walk ≡ [] → walk_onward_of left r walk ≡ None
+  said_whole none = ends ∙ ap (λ (fs : List (ℕ × ℕ)). walk_onward left (walk_set walk) r fs) none
 
   module _ (outer : GroupWalk) (same : walk_set outer ≡ walk_set walk) (is : frames outer ≡ above walk) (depth : walk_depth outer + 1 ≡ walk_depth walk) where
-    pub goes_out : onward_of left r walk ≡ onward_of left r outer
-    goes_out = ends ∙ (ap (λ (z : Schemas). onward left z r (above walk)) (sym same) ∙ ap (λ (fs : List (ℕ × ℕ)). onward left (walk_set outer) r fs) (sym is))
+    pub goes_out : walk_onward_of left r walk ≡ walk_onward_of left r outer
+    goes_out = ends ∙ (ap (λ (z : Schemas). walk_onward left z r (above walk)) (sym same) ∙ ap (λ (fs : List (ℕ × ℕ)). walk_onward left (walk_set outer) r fs) (sym is))
 
-    pub out-inside : IsInside walk → IsInside outer
+    pub out-inside : IsWalkInside walk → IsWalkInside outer
     out-inside inside = go (subst (λ (fs : List (ℕ × ℕ)). CameDown (walk_set walk) fs (walk_brand walk) (walk_depth walk)) (sym is) inside)
       where
-        go : CameDown (walk_set walk) (frames outer) (walk_brand walk) (walk_depth walk) → IsInside outer
+        go : CameDown (walk_set walk) (frames outer) (walk_brand walk) (walk_depth walk) → IsWalkInside outer
         go (further, e, less, small, h) =
             subst (λ (d : ℕ). CameDown (walk_set outer) (above outer) (walk_brand outer) d) (omega (arith, e, depth))
             (subst (λ (z : Schemas). CameDown z (above outer) (walk_brand outer) further) (sym same) h)
 
-    pub fewer-out : walk_depth walk < 2 ^ 64 → steps_onward outer < steps_onward walk
+    pub fewer-out : walk_depth walk < 2 ^ 64 → walk_steps_onward outer < walk_steps_onward walk
     fewer-out small = omega (arith, same-steps, leave)
       where
-        same-steps : steps_onward outer ≡ steps_left (walk_set walk) (suc (2 ^ 64 - 1 - walk_depth walk)) (above walk)
+        same-steps : walk_steps_onward outer ≡ steps_left (walk_set walk) (suc (2 ^ 64 - 1 - walk_depth walk)) (above walk)
         same-steps =
             ap (λ (fs : List (ℕ × ℕ)). steps_left (walk_set outer) (2 ^ 64 - 1 - walk_depth outer) fs) is
             ∙ (ap (λ (z : Schemas). steps_left z (2 ^ 64 - 1 - walk_depth outer) (above walk)) same
             ∙ ap (λ (n : ℕ). steps_left (walk_set walk) n (above walk)) (omega (arith, small, depth)))
 
-        leave : steps_left (walk_set walk) (suc (2 ^ 64 - 1 - walk_depth walk)) (above walk) < steps_onward walk
+        leave : steps_left (walk_set walk) (suc (2 ^ 64 - 1 - walk_depth walk)) (above walk) < walk_steps_onward walk
         leave = steps_leave (walk_set walk) (2 ^ 64 - 1 - walk_depth walk) (walk_brand walk) (walk_index walk) (above walk)

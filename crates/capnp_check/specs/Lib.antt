@@ -1,2 +1,4 @@
+pub mod Places
 pub mod Refusals
+pub mod ShownFields
 pub mod Steps

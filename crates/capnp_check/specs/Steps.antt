@@ -1,3 +1,3 @@
 -- Steps of the code: no contract of a public function stands on them.
+pub mod PlaceSteps
 pub mod Walks
-pub mod ShownFields

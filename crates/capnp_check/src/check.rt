@@ -9,8 +9,8 @@ ghost use Rattle.capnp_dynamic_readers.specs.Shown.{printed_text};
 ghost use Rattle.capnp_dynamic_readers.specs.Steps.GroupTexts.{IsSlotField};
 ghost use Rattle.capnp_dynamic_readers.specs.Steps.PartsRead.{field_in};
 ghost use Rattle.capnp_dynamic_readers.specs.Steps.Shown.{field_shown, list_shown, record_shown, root_shown, value_shown};
-ghost use Rattle.capnp_check.specs.Refusals.{refusal, told};
-ghost use Rattle.capnp_check.specs.Steps.Walks.{IsCheckStep, IsInside, onward_of};
+ghost use Rattle.capnp_check.specs.Refusals.{text_refusal, answer_refusal};
+ghost use Rattle.capnp_check.specs.Steps.Walks.{IsCheckStep, IsWalkInside, walk_onward_of};
 
 use crate::parts::{is_field_shown, read_element, read_slot, refusal_at};
 use capnp_dynamic_readers::dynamic_value::Reader as Value;
@@ -25,7 +25,7 @@ pub(crate) const PRINT_LEVELS: u32 = 64;
 /// Whether a value has a text, or with which number its text is refused: as `printer::print` is, but for memory, of
 /// which none is taken here.
 pub fn check_text(value: Value<'_>) -> Result<()>
-    ensures { (indented : Bool) → told result ≡ refusal (printed_text indented value.entry) }
+    ensures { (indented : Bool) → answer_refusal result ≡ text_refusal (printed_text indented value.entry) }
 {
     check_root(value)
 }
@@ -33,7 +33,7 @@ pub fn check_text(value: Value<'_>) -> Result<()>
 /// The refusal of a value that stands alone. A group takes no level, here as elsewhere.
 #[tactic(auto, using(crate::proofs::Roots::group_root, crate::proofs::Roots::struct_root, crate::proofs::Roots::other_root))]
 fn check_root(value: Value<'_>) -> Result<()>
-    ensures { told result ≡ refusal (root_shown None value.entry) }
+    ensures { answer_refusal result ≡ text_refusal (root_shown None value.entry) }
 {
     if let Value::Struct(reader) = value {
         if reader.get_schema().get_proto().body.is_group {
@@ -46,7 +46,7 @@ fn check_root(value: Value<'_>) -> Result<()>
 /// The refusal of a value. A struct or list takes a level.
 #[cycle(check)]
 pub(crate) fn check_value(value: Value<'_>, left: u32) -> Result<()>
-    ensures { told result ≡ refusal (value_shown left None value.entry) }
+    ensures { answer_refusal result ≡ text_refusal (value_shown left None value.entry) }
 {
     match value {
         Value::Struct(reader) => {
@@ -67,8 +67,8 @@ pub(crate) fn check_value(value: Value<'_>, left: u32) -> Result<()>
 
 /// The refusal of a list, whose elements have so many levels.
 #[cycle(check)]
-fn check_list(list: dynamic_list::Reader<'_>, left: u32) -> Result<()>
-    ensures { told result ≡ refusal (list_shown left None list.entry) }
+pub(crate) fn check_list(list: dynamic_list::Reader<'_>, left: u32) -> Result<()>
+    ensures { answer_refusal result ≡ text_refusal (list_shown left None list.entry) }
 {
     for i in 0..list.len() {
         match read_element(list, i) {
@@ -87,7 +87,7 @@ fn check_list(list: dynamic_list::Reader<'_>, left: u32) -> Result<()>
 /// by its own field.
 #[cycle(check)]
 pub(crate) fn check_record(reader: dynamic_struct::Reader<'_>, left: u32) -> Result<()>
-    ensures { told result ≡ refusal (record_shown left None reader.entry) }
+    ensures { answer_refusal result ≡ text_refusal (record_shown left None reader.entry) }
 {
     let sections = reader.get_sections();
     let mut walk = GroupWalk::start(reader.get_schema());
@@ -115,9 +115,9 @@ fn check_field<'a>(
     left: u32,
 ) -> Result<GroupWalk<'a>>
     requires field { IsFieldOf (walk_schema walk) (walk_index walk) field }
-    requires inside { IsInside walk }
+    requires inside { IsWalkInside walk }
     ensures step { IfOk result (IsCheckStep left sections.entry walk.entry) }
-    ensures refused { IfErr result (λ e. onward_of left sections.entry walk.entry ≡ Some e.kind) }
+    ensures refused { IfErr result (λ e. walk_onward_of left sections.entry walk.entry ≡ Some e.kind) }
 {
     let reader = dynamic_struct::Reader::new(sections, walk.get_schema());
     if !is_field_shown(reader, field) {
@@ -147,7 +147,7 @@ fn count_brands(schema: StructSchema<'_>) -> usize
 fn check_slot<'a>(reader: dynamic_struct::Reader<'a>, field: Field<'a>, left: u32) -> Result<()>
     requires field { IsFieldOf (schema_of reader) (index_of field) field }
     requires slot { IsSlotField field }
-    ensures { told result ≡ refusal (field_shown left None reader.entry (field_in reader.entry field.entry)) }
+    ensures { answer_refusal result ≡ text_refusal (field_shown left None reader.entry (field_in reader.entry field.entry)) }
 {
     match read_slot(reader, field) {
         Ok(value) => check_value(value, left),

@@ -6,3 +6,5 @@
 
 pub mod check;
 mod parts;
+mod parts_below;
+pub mod place;

@@ -2,13 +2,16 @@
 ghost use Rattle.std.specs.Prelude.{◌≡◌, ◌&&◌, ◌==◌, not, IfErr, IfOk};
 ghost use Rattle.capnp_schema.specs.FieldLists.{IsFieldOf, index_of, typed_of};
 ghost use Rattle.capnp_schema.specs.Schema.{is_member};
+ghost use Rattle.capnp_schema.specs.StructHandles.{IsStruct, set_of};
 ghost use Rattle.capnp_schema.specs.Types.{seen_type};
 ghost use Rattle.capnp_records.specs.Text.{entering_fault, is_entered};
-ghost use Rattle.capnp_dynamic_readers.specs.Handles.{schema_of};
-ghost use Rattle.capnp_dynamic_readers.specs.Seen.{record_seen};
+ghost use Rattle.capnp_dynamic_readers.specs.Handles.{element_of, list_set, schema_of};
+ghost use Rattle.capnp_dynamic_readers.specs.Reads.{element_seen, field_seen};
+ghost use Rattle.capnp_dynamic_readers.specs.Seen.{answered_value, record_seen};
 ghost use Rattle.capnp_dynamic_readers.specs.Steps.GroupTexts.{IsSlotField};
 ghost use Rattle.capnp_dynamic_readers.specs.Steps.PartsRead.{IsElementRead, IsElementRefused, IsPart, IsPartRefused, fault_at, field_in};
-ghost use Rattle.capnp_check.specs.Steps.ShownFields.{is_shown};
+ghost use Rattle.capnp_dynamic_readers.specs.Typed.{IsOf, IsValueUnder};
+ghost use Rattle.capnp_check.specs.ShownFields.{is_shown};
 
 use capnp_base::introspect::{Type, TypeVariant};
 use capnp_dynamic_readers::dynamic_value::Reader as Value;
@@ -23,6 +26,9 @@ pub(crate) fn read_slot<'a>(
 ) -> Result<Value<'a>>
     requires field { IsFieldOf (schema_of reader) (index_of field) field }
     requires slot { IsSlotField field }
+    ensures value { answered_value result ≡ field_seen reader.entry (index_of field.entry) }
+    ensures typed { IfOk result (IsOf (set_of (schema_of reader.entry)) (field_in reader.entry field.entry).type) }
+    ensures stands { IsStruct (schema_of reader.entry) }
     ensures read { IfOk result (IsPart reader.entry field.entry) }
     ensures refused { IfErr result (λ e. IsPartRefused reader.entry field.entry e.kind) }
 {
@@ -53,14 +59,13 @@ fn is_always_shown(field: Field<'_>) -> bool
     ensures { result ≡ (is_member (typed_of field.entry).field && not ((typed_of field.entry).field.discriminant_value == 0)) }
 {
     let proto = field.get_proto();
-    if !proto.is_member() {
-        return false;
-    }
-    proto.discriminant_value != 0
+    proto.is_member() && proto.discriminant_value != 0
 }
 
 /// An element of a list.
 pub(crate) fn read_element<'a>(list: dynamic_list::Reader<'a>, index: u32) -> Result<Value<'a>>
+    ensures value { answered_value result ≡ element_seen list.entry index }
+    ensures under { IfOk result (IsValueUnder (list_set list.entry) (element_of list.entry)) }
     ensures read { IfOk result (IsElementRead list.entry index) }
     ensures refused { IfErr result (λ e. IsElementRefused list.entry index e.kind) }
 {

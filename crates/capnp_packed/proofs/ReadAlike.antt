@@ -7,8 +7,8 @@ use Rattle.capnp_device.specs.declared.error.ErrorKind.TheVariants.{Truncated, T
 use Rattle.capnp_wire.specs.Laws.{MoreBytesChangeNothing}
 use Rattle.capnp_wire.specs.Slot.{little_endian}
 use Rattle.capnp_wire.specs.Stream.{cut_segments, header_bytes, message_tree_of, root_read, segment_count, segments_after_count, segments_after_table, segments_of, table_of, total_words}
-use Rattle.capnp_packed.specs.Received.{length_by_count, length_by_table, message_bytes, message_length, most_bytes, received_message, taken}
-use Rattle.capnp_packed.specs.Unpacking.{unpacked}
+use Rattle.capnp_packed.specs.Received.{length_by_count, length_by_table, message_bytes, message_length, most_bytes, received_message, message_taken}
+use Rattle.capnp_packed.specs.Unpacking.{unpacked_bytes}
 use Rattle.capnp_packed.proofs.Measured.{header_room, part_inside}
 
 -- ---- what is known where no test refuses ----
@@ -84,12 +84,12 @@ bytes_of : Result (List ℕ) ErrorKind → List ℕ
 bytes_of (Ok bytes) = bytes
 bytes_of (Err kind) = []
 
-alike_by : MoreBytesChangeNothing → (all items : List ℕ) (r : Result ℕ ErrorKind) → message_length all ≡ r → taken all r ≡ Ok items
+alike_by : MoreBytesChangeNothing → (all items : List ℕ) (r : Result ℕ ErrorKind) → message_length all ≡ r → message_taken all r ≡ Ok items
     → message_tree_of items ≡ message_tree_of all
 unfolding bytes_of
 alike_by law all items (Ok n) h t = ap message_tree_of (sym (ap bytes_of t)) ∙ read_alike law all n h
 alike_by law all items (Err kind) h t = absurd (grind (arith, t))
 
 pub received_alike : MoreBytesChangeNothing → (packed items : List ℕ) → received_message packed ≡ Ok items
-    → message_tree_of items ≡ message_tree_of (unpacked packed)
-received_alike law packed items r = alike_by law (unpacked packed) items (message_length (unpacked packed)) refl r
+    → message_tree_of items ≡ message_tree_of (unpacked_bytes packed)
+received_alike law packed items r = alike_by law (unpacked_bytes packed) items (message_length (unpacked_bytes packed)) refl r

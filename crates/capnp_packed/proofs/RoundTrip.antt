@@ -3,8 +3,8 @@ use Rattle.std.proofs.Common.{◌≡◌, ℕ, zero, suc, ◌*◌, ◌%◌, ◌<�
 use Rattle.std.proofs.lemmas.Bool.Decides.{nat_tests}
 use Rattle.std.proofs.lemmas.List.{append_assoc, append-nil, length-append, length-drop, length-take, take-append-drop}
 use Rattle.std.proofs.Math.Seq.{drop-append_seam, take-append_seam}
-use Rattle.capnp_packed.specs.Packing.{nonzero, packed, packed_piece, packed_pieces, run_bytes, run_length, run_words, tag_of}
-use Rattle.capnp_packed.specs.Unpacking.{piece_behind, piece_of, unpacked, words_counted, word_under, zeros_counted}
+use Rattle.capnp_packed.specs.Packing.{nonzero, packed_form, packed_piece, packed_pieces, run_bytes, run_length, run_words, tag_of}
+use Rattle.capnp_packed.specs.Unpacking.{piece_behind, piece_of, unpacked_bytes, words_counted, word_under, zeros_counted}
 use Rattle.capnp_packed.proofs.Pieces.{first_piece, no_piece}
 use Rattle.capnp_packed.proofs.Runs.{length_inside, no_tag, word_again, zeros_again}
 
@@ -80,30 +80,30 @@ enough (suc k) (suc m) (b ∷ bytes) h g =
 
 -- bytes are packed a piece at a time
 pub packed_more : (bytes : List ℕ) → 0 < length bytes
-    → packed bytes ≡ packed_piece (take 8 bytes) (run_words (tag_of (take 8 bytes)) (drop 8 bytes)) (drop 8 bytes)
-    ++ packed (drop (8 * run_words (tag_of (take 8 bytes)) (drop 8 bytes)) (drop 8 bytes))
-unfolding packed
+    → packed_form bytes ≡ packed_piece (take 8 bytes) (run_words (tag_of (take 8 bytes)) (drop 8 bytes)) (drop 8 bytes)
+    ++ packed_form (drop (8 * run_words (tag_of (take 8 bytes)) (drop 8 bytes)) (drop 8 bytes))
+unfolding packed_form
 packed_more [] h = absurd (omega (arith, h))
 packed_more (b ∷ bytes) h =
     let n = run_words (tag_of (take 8 (b ∷ bytes))) (drop 8 (b ∷ bytes)) in
     let rest = drop (8 * n) (drop 8 (b ∷ bytes)) in
     ap (λ x. packed_piece (take 8 (b ∷ bytes)) n (drop 8 (b ∷ bytes)) ++ x) (enough (length bytes) (length rest) rest (rest_shorter b n bytes) (omega arith))
 
-pub packed_none : (bytes : List ℕ) → length bytes ≡ 0 → packed bytes ≡ []
-unfolding packed
+pub packed_none : (bytes : List ℕ) → length bytes ≡ 0 → packed_form bytes ≡ []
+unfolding packed_form
 packed_none [] h = refl
 packed_none (b ∷ bytes) h = absurd (omega (arith, h))
 
-unpacked_none : unpacked [] ≡ []
+unpacked_none : unpacked_bytes [] ≡ []
 unpacked_none = no_piece [] refl
 
 no_bytes : (bytes : List ℕ) → length bytes ≡ 0 → bytes ≡ []
 no_bytes [] h = refl
 no_bytes (b ∷ bytes) h = absurd (omega (arith, h))
 
-back : (k : ℕ) (bytes : List ℕ) → length bytes ≤ k → length bytes % 8 ≡ 0 → unpacked (packed bytes) ≡ bytes
-back zero bytes h whole = ap unpacked (packed_none bytes (omega (arith, h))) ∙ unpacked_none ∙ sym (no_bytes bytes (omega (arith, h)))
-back (suc k) [] h whole = ap unpacked (packed_none [] refl) ∙ unpacked_none
+back : (k : ℕ) (bytes : List ℕ) → length bytes ≤ k → length bytes % 8 ≡ 0 → unpacked_bytes (packed_form bytes) ≡ bytes
+back zero bytes h whole = ap unpacked_bytes (packed_none bytes (omega (arith, h))) ∙ unpacked_none ∙ sym (no_bytes bytes (omega (arith, h)))
+back (suc k) [] h whole = ap unpacked_bytes (packed_none [] refl) ∙ unpacked_none
 back (suc k) (b ∷ bytes) h whole =
     let all = b ∷ bytes in
     let word = take 8 all in
@@ -113,29 +113,29 @@ back (suc k) (b ∷ bytes) h whole =
     let lw = length-take 8 all in let lb = length-drop 8 all in let lr = length-drop (8 * n) behind in
     let inside = run_words_inside (tag_of word == 0) (tag_of word == 255) behind in
     let long : length word ≡ 8 = omega (arith, lw, whole) in
-    ap unpacked (packed_more all (omega arith))
-    ∙ first_piece (packed_piece word n behind ++ packed rest) (word ++ take (8 * n) behind, packed rest) (sym (piece_again word behind (packed rest) long))
+    ap unpacked_bytes (packed_more all (omega arith))
+    ∙ first_piece (packed_piece word n behind ++ packed_form rest) (word ++ take (8 * n) behind, packed_form rest) (sym (piece_again word behind (packed_form rest) long))
     ∙ ap (λ x. (word ++ take (8 * n) behind) ++ x) (back k rest (omega (arith, h, lb, lr)) (omega (arith, whole, lb, lr, inside)))
     ∙ append_assoc word (take (8 * n) behind) rest
     ∙ ap (λ x. word ++ x) (take-append-drop (8 * n) behind)
     ∙ take-append-drop 8 all
 
-pub round_trip : (bytes : List ℕ) → length bytes % 8 ≡ 0 → unpacked (packed bytes) ≡ bytes
+pub round_trip : (bytes : List ℕ) → length bytes % 8 ≡ 0 → unpacked_bytes (packed_form bytes) ≡ bytes
 round_trip bytes whole = back (length bytes) bytes (omega arith) whole
 
 -- ---- one turn of the loop that packs ----
 
 piece_and_rest : List ℕ → List ℕ → List ℕ
-piece_and_rest word behind = packed_piece word (run_words (tag_of word) behind) behind ++ packed (drop (8 * run_words (tag_of word) behind) behind)
+piece_and_rest word behind = packed_piece word (run_words (tag_of word) behind) behind ++ packed_form (drop (8 * run_words (tag_of word) behind) behind)
 
 pub left_packed : (out new left word behind rest all : List ℕ) (n : ℕ) → 8 ≤ length left → word ≡ take 8 left → behind ≡ drop 8 left
     → n ≡ run_words (tag_of word) behind → rest ≡ drop (8 * n) behind
-    → new ≡ out ++ packed_piece word (run_words (tag_of word) behind) behind → out ++ packed left ≡ all → new ++ packed rest ≡ all
+    → new ≡ out ++ packed_piece word (run_words (tag_of word) behind) behind → out ++ packed_form left ≡ all → new ++ packed_form rest ≡ all
 unfolding piece_and_rest
 left_packed out new left word behind rest all n some w b c r o h =
     let piece = packed_piece word (run_words (tag_of word) behind) behind in
-    ap (λ x. x ++ packed rest) o ∙ append_assoc out piece (packed rest)
-    ∙ ap (λ x. out ++ (piece ++ packed x)) (r ∙ ap (λ k. drop (8 * k) behind) c)
+    ap (λ x. x ++ packed_form rest) o ∙ append_assoc out piece (packed_form rest)
+    ∙ ap (λ x. out ++ (piece ++ packed_form x)) (r ∙ ap (λ k. drop (8 * k) behind) c)
     ∙ ap (λ x. out ++ piece_and_rest x behind) w ∙ ap (λ x. out ++ piece_and_rest (take 8 left) x) b
     ∙ ap (λ x. out ++ x) (sym (packed_more left (omega (arith, some)))) ∙ h
 

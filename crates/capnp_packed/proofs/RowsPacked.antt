@@ -1,7 +1,7 @@
 -- Worked rows: those of the encoding page, runs of zeros and of full words, and pieces that are cut.
 use Rattle.std.specs.Prelude.{ℕ, List, [], ◌∷◌, ◌++◌, replicate, refl, ◌≡◌}
-use Rattle.capnp_packed.specs.Packing.{packed, words_passing}
-use Rattle.capnp_packed.specs.Unpacking.{unpacked, word_under}
+use Rattle.capnp_packed.specs.Packing.{packed_form, words_passing}
+use Rattle.capnp_packed.specs.Unpacking.{unpacked_bytes, word_under}
 
 page_row : List ℕ
 page_row = 8 ∷ 0 ∷ 0 ∷ 0 ∷ 3 ∷ 0 ∷ 2 ∷ 0 ∷ 25 ∷ 0 ∷ 0 ∷ 0 ∷ 170 ∷ 1 ∷ 0 ∷ 0 ∷ []
@@ -9,50 +9,50 @@ page_row = 8 ∷ 0 ∷ 0 ∷ 0 ∷ 3 ∷ 0 ∷ 2 ∷ 0 ∷ 25 ∷ 0 ∷ 0 ∷ 0 
 page_packed : List ℕ
 page_packed = 81 ∷ 8 ∷ 3 ∷ 2 ∷ 49 ∷ 25 ∷ 170 ∷ 1 ∷ []
 
-row-page : packed page_row ≡ page_packed
-unfolding packed words_passing page_packed page_row
+row-page : packed_form page_row ≡ page_packed
+unfolding packed_form words_passing page_packed page_row
 row-page = refl
 
-row-page_unpacked : unpacked page_packed ≡ page_row
-unfolding unpacked word_under page_packed page_row
+row-page_unpacked : unpacked_bytes page_packed ≡ page_row
+unfolding unpacked_bytes word_under page_packed page_row
 row-page_unpacked = refl
 
-row-zeros : packed (replicate 32 0) ≡ 0 ∷ 3 ∷ []
-unfolding packed words_passing
+row-zeros : packed_form (replicate 32 0) ≡ 0 ∷ 3 ∷ []
+unfolding packed_form words_passing
 row-zeros = refl
 
-row-zeros_unpacked : unpacked (0 ∷ 3 ∷ []) ≡ replicate 32 0
-unfolding unpacked word_under
+row-zeros_unpacked : unpacked_bytes (0 ∷ 3 ∷ []) ≡ replicate 32 0
+unfolding unpacked_bytes word_under
 row-zeros_unpacked = refl
 
-row-full : packed (replicate 32 138) ≡ 255 ∷ (replicate 8 138 ++ 3 ∷ replicate 24 138)
-unfolding packed words_passing
+row-full : packed_form (replicate 32 138) ≡ 255 ∷ (replicate 8 138 ++ 3 ∷ replicate 24 138)
+unfolding packed_form words_passing
 row-full = refl
 
-row-full_unpacked : unpacked (255 ∷ (replicate 8 138 ++ 3 ∷ replicate 24 138)) ≡ replicate 32 138
-unfolding unpacked word_under
+row-full_unpacked : unpacked_bytes (255 ∷ (replicate 8 138 ++ 3 ∷ replicate 24 138)) ≡ replicate 32 138
+unfolding unpacked_bytes word_under
 row-full_unpacked = refl
 
 -- a run of full words goes on over a word with one zero byte, and ends before one with two
-row-one_zero : packed (replicate 8 1 ++ 0 ∷ replicate 7 1 ++ 0 ∷ 0 ∷ replicate 6 1)
+row-one_zero : packed_form (replicate 8 1 ++ 0 ∷ replicate 7 1 ++ 0 ∷ 0 ∷ replicate 6 1)
     ≡ 255 ∷ (replicate 8 1 ++ 1 ∷ 0 ∷ replicate 7 1 ++ 252 ∷ replicate 6 1)
-unfolding packed words_passing
+unfolding packed_form words_passing
 row-one_zero = refl
 
 -- a cut piece gives no word: without its count, without a byte of its word, without a word of its run
-row-no_count : unpacked (0 ∷ []) ≡ []
-unfolding unpacked word_under
+row-no_count : unpacked_bytes (0 ∷ []) ≡ []
+unfolding unpacked_bytes word_under
 row-no_count = refl
 
-row-cut_word : unpacked (1 ∷ 7 ∷ 3 ∷ 7 ∷ []) ≡ 7 ∷ replicate 7 0
-unfolding unpacked word_under
+row-cut_word : unpacked_bytes (1 ∷ 7 ∷ 3 ∷ 7 ∷ []) ≡ 7 ∷ replicate 7 0
+unfolding unpacked_bytes word_under
 row-cut_word = refl
 
-row-cut_run : unpacked (255 ∷ replicate 8 1 ++ 2 ∷ replicate 15 1) ≡ []
-unfolding unpacked word_under
+row-cut_run : unpacked_bytes (255 ∷ replicate 8 1 ++ 2 ∷ replicate 15 1) ≡ []
+unfolding unpacked_bytes word_under
 row-cut_run = refl
 
 -- the count of a run doesn't count its first word
-row-one_zero_word : unpacked (0 ∷ 0 ∷ []) ≡ replicate 8 0
-unfolding unpacked word_under
+row-one_zero_word : unpacked_bytes (0 ∷ 0 ∷ []) ≡ replicate 8 0
+unfolding unpacked_bytes word_under
 row-one_zero_word = refl

@@ -3,7 +3,7 @@ use Rattle.std.proofs.Common.{◌≡◌, ℕ, zero, suc, ◌*◌, ◌+◌, ◌/�
 use Rattle.std.proofs.Math.Seq.{take-add}
 use Rattle.std.proofs.lemmas.Bool.Decides.{nat_tests}
 use Rattle.std.proofs.lemmas.List.{length-drop, length-take, replicate-append-replicate}
-use Rattle.capnp_packed.specs.Packing.{goes_on, nonzero, run_length, tag_of, words_passing}
+use Rattle.capnp_packed.specs.Packing.{goes_on_packed, nonzero, run_length, tag_of, words_passing}
 use Rattle.capnp_packed.specs.Unpacking.{bytes_under, tag_bits, with_byte, word_under}
 use Rattle.capnp_packed.proofs.Tags.{goes_on_whole}
 
@@ -42,32 +42,32 @@ none_left [] h = refl
 none_left (zero ∷ word) h = ap (λ w. 0 ∷ w) (none_left word h)
 none_left (suc b ∷ word) h = absurd (omega (arith, h))
 
-zero_word : (word : List ℕ) → goes_on true word ≡ true → word ≡ replicate 8 0
+zero_word : (word : List ℕ) → goes_on_packed true word ≡ true → word ≡ replicate 8 0
 zero_word word h =
     let none : length (nonzero word) ≡ 0 = grind (arith, nat_tests, h) in
     none_left word none ∙ ap (λ k. replicate k 0) (goes_on_whole true word h)
 
 -- ---- runs ----
 
-run_inside : (zeros : Bool) (k : ℕ) (bytes : List ℕ) → 8 * words_passing (goes_on zeros) k bytes ≤ length bytes
+run_inside : (zeros : Bool) (k : ℕ) (bytes : List ℕ) → 8 * words_passing (goes_on_packed zeros) k bytes ≤ length bytes
 unfolding words_passing
 run_inside zeros zero bytes = omega arith
-run_inside zeros (suc k) bytes = either (goes_on zeros (take 8 bytes)) (goes_on_whole zeros (take 8 bytes)) (run_inside zeros k (drop 8 bytes))
+run_inside zeros (suc k) bytes = either (goes_on_packed zeros (take 8 bytes)) (goes_on_whole zeros (take 8 bytes)) (run_inside zeros k (drop 8 bytes))
   where
     n : ℕ
-    n = words_passing (goes_on zeros) k (drop 8 bytes)
+    n = words_passing (goes_on_packed zeros) k (drop 8 bytes)
 
     either : (t : Bool) → (t ≡ true → length (take 8 bytes) ≡ 8) → 8 * n ≤ length (drop 8 bytes) → 8 * cond t (suc n) 0 ≤ length bytes
     either false g i = omega arith
     either true g i = let e = g refl in let f = length-take 8 bytes in let d = length-drop 8 bytes in omega (arith, e, f, i, d)
 
-zero_run : (k : ℕ) (bytes : List ℕ) → take (8 * words_passing (goes_on true) k bytes) bytes ≡ replicate (8 * words_passing (goes_on true) k bytes) 0
+zero_run : (k : ℕ) (bytes : List ℕ) → take (8 * words_passing (goes_on_packed true) k bytes) bytes ≡ replicate (8 * words_passing (goes_on_packed true) k bytes) 0
 unfolding words_passing
 zero_run zero bytes = refl
-zero_run (suc k) bytes = either (goes_on true (take 8 bytes)) (zero_word (take 8 bytes)) (zero_run k (drop 8 bytes))
+zero_run (suc k) bytes = either (goes_on_packed true (take 8 bytes)) (zero_word (take 8 bytes)) (zero_run k (drop 8 bytes))
   where
     n : ℕ
-    n = words_passing (goes_on true) k (drop 8 bytes)
+    n = words_passing (goes_on_packed true) k (drop 8 bytes)
 
     either : (t : Bool) → (t ≡ true → take 8 bytes ≡ replicate 8 0) → take (8 * n) (drop 8 bytes) ≡ replicate (8 * n) 0 → take (8 * cond t (suc n) 0) bytes ≡ replicate (8 * cond t (suc n) 0) 0
     either false g i = refl

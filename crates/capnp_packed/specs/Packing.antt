@@ -35,13 +35,13 @@ words_passing test zero bytes = 0
 words_passing test (suc k) bytes = cond (test (take 8 bytes)) (suc (words_passing test k (drop 8 bytes))) 0
 
 -- whether a word goes on with a run of zeros, or else with one of full words
-abbrev pub goes_on : Bool → List ℕ → Bool
-goes_on true word = is_zero_word word
-goes_on false word = is_full_word word
+abbrev pub goes_on_packed : Bool → List ℕ → Bool
+goes_on_packed true word = is_zero_word word
+goes_on_packed false word = is_full_word word
 
 -- the words of a run, which has at most 255
 abbrev pub run_length : Bool → List ℕ → ℕ
-run_length zeros bytes = words_passing (goes_on zeros) 255 bytes
+run_length zeros bytes = words_passing (goes_on_packed zeros) 255 bytes
 
 -- the words that go with a word of a tag into one piece
 abbrev pub run_words : ℕ → List ℕ → ℕ
@@ -65,5 +65,5 @@ packed_pieces (suc k) [] = []
 packed_pieces (suc k) (b ∷ bytes) = packed_from (packed_pieces k) (take 8 (b ∷ bytes)) (drop 8 (b ∷ bytes))
 
 -- The packed form of bytes, which has no more pieces than there are bytes.
-unfoldable pub packed : List ℕ → List ℕ
-packed bytes = packed_pieces (length bytes) bytes
+unfoldable pub packed_form : List ℕ → List ℕ
+packed_form bytes = packed_pieces (length bytes) bytes

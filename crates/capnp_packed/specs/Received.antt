@@ -1,7 +1,7 @@
 -- The first message of the stream that packed bytes stand for, and why it is refused.
 use Rattle.std.specs.Prelude.{ℕ, ◌+◌, ◌*◌, ◌^◌, ◌/◌, List, take, length, cond, nat_lt, Result, Ok, Err}
 use Rattle.capnp_wire.specs.Stream.{header_bytes, segment_count, table_of, total_words}
-use Rattle.capnp_packed.specs.Unpacking.{unpacked}
+use Rattle.capnp_packed.specs.Unpacking.{unpacked_bytes}
 use Rattle.capnp_device.specs.declared.error.ErrorKind.{ErrorKind}
 use Rattle.capnp_device.specs.declared.error.ErrorKind.TheVariants.{Truncated, TooManySegments, TooLarge}
 
@@ -29,10 +29,10 @@ length_by_count bytes =
 abbrev pub message_length : List ℕ → Result ℕ ErrorKind
 message_length bytes = cond (nat_lt (length bytes) 8) (Err Truncated) (length_by_count bytes)
 
-abbrev pub taken : List ℕ → Result ℕ ErrorKind → Result (List ℕ) ErrorKind
-taken bytes (Ok n) = Ok (take n bytes)
-taken bytes (Err kind) = Err kind
+abbrev pub message_taken : List ℕ → Result ℕ ErrorKind → Result (List ℕ) ErrorKind
+message_taken bytes (Ok n) = Ok (take n bytes)
+message_taken bytes (Err kind) = Err kind
 
 -- the first message of the stream that packed bytes stand for
 abbrev pub received_message : List ℕ → Result (List ℕ) ErrorKind
-received_message packed = taken (unpacked packed) (message_length (unpacked packed))
+received_message packed = message_taken (unpacked_bytes packed) (message_length (unpacked_bytes packed))

@@ -1,8 +1,8 @@
 //! Packed bytes out of bytes.
 ghost use Rattle.std.specs.Prelude.{◌%◌, ◌*◌, ◌+◌, ◌++◌, ◌≡◌, ◌≤◌, IfErr, IfOk, OnOk, length};
 ghost use Rattle.capnp_device.specs.declared.error.ErrorKind.TheVariants.{OutOfMemory};
-ghost use Rattle.capnp_packed.specs.Packing.{bit_of, goes_on, nonzero, packed, packed_piece, run_bytes, run_length, run_words, tag_of};
-ghost use Rattle.capnp_packed.specs.Unpacking.{unpacked};
+ghost use Rattle.capnp_packed.specs.Packing.{bit_of, goes_on_packed, nonzero, packed_form, packed_piece, run_bytes, run_length, run_words, tag_of};
+ghost use Rattle.capnp_packed.specs.Unpacking.{unpacked_bytes};
 
 use capnp_device::error::Result;
 use capnp_wire::parts::bytes::{part, rest};
@@ -46,7 +46,7 @@ fn count_nonzero(bytes: &[u8]) -> usize
 /// Whether a word goes on with a run of zeros, or else with one of full words.
 fn goes_on(zeros: bool, word: &[u8]) -> bool
     requires { length word.now ≡ 8 }
-    ensures { result ≡ goes_on zeros word.now }
+    ensures { result ≡ goes_on_packed zeros word.now }
 {
     let count = count_nonzero(word);
     if zeros { count == 0 } else { count > 6 }
@@ -128,8 +128,8 @@ fn append_piece(out: &mut Vec<u8>, word: &[u8], behind: &[u8]) -> Result<usize>
 /// Refused with `OutOfMemory` alone.
 pub fn pack(alloc: Global, bytes: &[u8]) -> Result<Vec<u8>>
     requires whole { length bytes.now % 8 ≡ 0 }
-    ensures packed { IfOk result (λ v. v.items ≡ packed bytes.now) }
-    ensures back { IfOk result (λ v. unpacked v.items ≡ bytes.now) }
+    ensures packed { IfOk result (λ v. v.items ≡ packed_form bytes.now) }
+    ensures back { IfOk result (λ v. unpacked_bytes v.items ≡ bytes.now) }
     ensures memory { IfErr result (λ e. e.kind ≡ OutOfMemory) }
 {
     let mut out = Vec::new(alloc);

@@ -4,7 +4,7 @@ ghost use Rattle.capnp_device.specs.declared.error.ErrorKind.TheVariants.{OutOfM
 ghost use Rattle.capnp_wire.specs.Stream.{message_tree_of};
 ghost use Rattle.capnp_packed.specs.Received.{message_length, most_bytes, received_message};
 ghost use Rattle.capnp_packed.specs.Steps.Seen.{piece_seen, run_seen};
-ghost use Rattle.capnp_packed.specs.Unpacking.{unpacked};
+ghost use Rattle.capnp_packed.specs.Unpacking.{unpacked_bytes};
 
 use crate::unpack::{Run, WordRun, next_piece};
 use capnp_device::error::{Error, ErrorKind, Result};
@@ -77,8 +77,8 @@ fn put_piece(out: &mut [u8], at: usize, piece: WordRun<'_>) -> usize
 /// Writes the first of the bytes that packed bytes stand for, as many as there is room for, and answers their number.
 fn unpack_into(out: &mut [u8], packed: &[u8]) -> usize
     ensures inside { result ≤ length out.old }
-    ensures whole { result < length out.old → result ≡ length (unpacked packed.now) }
-    ensures bytes { take result out.new ≡ take result (unpacked packed.now) }
+    ensures whole { result < length out.old → result ≡ length (unpacked_bytes packed.now) }
+    ensures bytes { take result out.new ≡ take result (unpacked_bytes packed.now) }
     ensures length { length out.new ≡ length out.old }
 {
     let mut at = 0;
@@ -108,7 +108,7 @@ fn count_bytes(piece: WordRun<'_>) -> usize
 /// Whether packed bytes stand for so many bytes.
 fn has_bytes(packed: &[u8], needed: usize) -> bool
     requires { needed ≤ most_bytes }
-    ensures { IsTrue result ↔ needed ≤ length (unpacked packed.now) }
+    ensures { IsTrue result ↔ needed ≤ length (unpacked_bytes packed.now) }
 {
     let mut at = 0;
     let mut left = packed;
@@ -124,8 +124,8 @@ fn has_bytes(packed: &[u8], needed: usize) -> bool
 
 /// The bytes of the message that packed bytes stand for, its table with them. No memory is taken.
 fn measure(packed: &[u8]) -> Result<usize>
-    ensures length { IfOk result (λ n. message_length (unpacked packed.now) ≡ Ok n) }
-    ensures refused { IfErr result (λ e. message_length (unpacked packed.now) ≡ Err e.kind) }
+    ensures length { IfOk result (λ n. message_length (unpacked_bytes packed.now) ≡ Ok n) }
+    ensures refused { IfErr result (λ e. message_length (unpacked_bytes packed.now) ≡ Err e.kind) }
 {
     let mut begin = [0u8; LONGEST_TABLE];
     let known = unpack_into(&mut begin, packed);
@@ -170,7 +170,7 @@ fn unpack_message(alloc: Global, packed: &[u8]) -> Result<Vec<u8>>
 /// than 1 GiB. No memory is taken before this is known. Then refused with `OutOfMemory` alone.
 pub fn read_message(alloc: Global, packed: &[u8]) -> Result<Vec<u8>>
     ensures message { IfOk result (λ v. received_message packed.now ≡ Ok v.items) }
-    ensures read { IfOk result (λ v. message_tree_of v.items ≡ message_tree_of (unpacked packed.now)) }
+    ensures read { IfOk result (λ v. message_tree_of v.items ≡ message_tree_of (unpacked_bytes packed.now)) }
     ensures refused { IfErr result (λ e. e.kind ≢ OutOfMemory → received_message packed.now ≡ Err e.kind) }
     ensures memory { IfErr result (λ e. e.kind ≡ OutOfMemory → IsOk (received_message packed.now)) }
 {

@@ -2,7 +2,7 @@
 ghost use Rattle.std.specs.Prelude.{◌++◌, ◌<◌, ◌≡◌, ◌≤◌, IfErr, IfOk, IfSome, OnOk, length};
 ghost use Rattle.std.specs.Option.{option_map};
 ghost use Rattle.capnp_device.specs.declared.error.ErrorKind.TheVariants.{OutOfMemory};
-ghost use Rattle.capnp_packed.specs.Unpacking.{byte_under, piece_of, unpacked, word_under, words_counted, zeros_counted};
+ghost use Rattle.capnp_packed.specs.Unpacking.{byte_under, piece_of, unpacked_bytes, word_under, words_counted, zeros_counted};
 ghost use Rattle.capnp_packed.specs.Steps.Seen.{piece_seen, run_seen};
 
 use capnp_device::error::Result;
@@ -133,7 +133,7 @@ fn append_piece(out: &mut Vec<u8>, piece: WordRun<'_>) -> Result<()>
 ///
 /// Refused with `OutOfMemory` alone.
 pub fn unpack(alloc: Global, packed: &[u8]) -> Result<Vec<u8>>
-    ensures bytes { IfOk result (λ v. v.items ≡ unpacked packed.now) }
+    ensures bytes { IfOk result (λ v. v.items ≡ unpacked_bytes packed.now) }
     ensures memory { IfErr result (λ e. e.kind ≡ OutOfMemory) }
 {
     let mut out = Vec::new(alloc);

@@ -6,7 +6,7 @@ use Rattle.capnp_schema.specs.FieldLists.{index_of}
 use Rattle.capnp_dynamic_readers.specs.Handles.{element_of}
 use Rattle.capnp_dynamic_readers.specs.Steps.PartsRead.{fault_at, field_in}
 use Rattle.capnp_dynamic_readers.specs.Steps.Shown.{field_shown}
-use Rattle.capnp_check.specs.Refusals.{refusal}
+use Rattle.capnp_check.specs.Refusals.{text_refusal}
 use Rattle.capnp_check.specs.Steps.Walks.{or_later}
 use Rattle.capnp_check.proofs.Refused.{elements_end, elements_next, elements_refusal, elements_start, leaf_from, leaf_said, list_value_refusal, own_refusal, struct_refusal}
 use Rattle.capnp_check.proofs.Shown.{shown_item}
@@ -33,13 +33,13 @@ pub check_list-loop-i-preserved : goal.check_list-loop-i-preserved
 check_list-loop-i-preserved t c =
     c.loop-i.invariant
     ∙ (elements_next c.args.left c.args.list c.loop-i.i (omega (arith, c.loop-i-test.true, c.len-i-end.ensures))
-    ∙ ap (λ (o : Option ErrorKind). or_later o (elements_refusal c.args.left c.args.list (c.loop-i.i + 1))) (ap refusal (c.in-Ok.ensures.read c.args.left None) ∙ sym c.in_default.ensures))
+    ∙ ap (λ (o : Option ErrorKind). or_later o (elements_refusal c.args.left c.args.list (c.loop-i.i + 1))) (ap text_refusal (c.in-Ok.ensures.read c.args.left None) ∙ sym c.in_default.ensures))
 
 pub check_list-returns-in-Err-check_value : goal.check_list-returns-in-Err-check_value
 check_list-returns-in-Err-check_value t c =
     sym (c.loop-i.invariant
     ∙ (elements_next c.args.left c.args.list c.loop-i.i (omega (arith, c.loop-i-test.true, c.len-i-end.ensures))
-    ∙ ap (λ (o : Option ErrorKind). or_later o (elements_refusal c.args.left c.args.list (c.loop-i.i + 1))) (ap refusal (c.in-Ok.ensures.read c.args.left None) ∙ sym c.in-Err-check_value.ensures)))
+    ∙ ap (λ (o : Option ErrorKind). or_later o (elements_refusal c.args.left c.args.list (c.loop-i.i + 1))) (ap text_refusal (c.in-Ok.ensures.read c.args.left None) ∙ sym c.in-Err-check_value.ensures)))
 
 pub check_list-returns-in-Err : goal.check_list-returns-in-Err
 check_list-returns-in-Err t c =
@@ -47,7 +47,7 @@ check_list-returns-in-Err t c =
     sym (c.refusal_at.ensures ∙ ap (λ (z : TypeHandle). fault_at c.args.left (seen_type z) c.in-Err.error.kind) c.element_type.ensures) in
     sym (c.loop-i.invariant
     ∙ (elements_next c.args.left c.args.list c.loop-i.i (omega (arith, c.loop-i-test.true, c.len-i-end.ensures))
-    ∙ ap (λ (o : Option ErrorKind). or_later o (elements_refusal c.args.left c.args.list (c.loop-i.i + 1))) (ap refusal (c.in-Err.ensures.refused c.args.left None) ∙ ap Some is)))
+    ∙ ap (λ (o : Option ErrorKind). or_later o (elements_refusal c.args.left c.args.list (c.loop-i.i + 1))) (ap text_refusal (c.in-Err.ensures.refused c.args.left None) ∙ ap Some is)))
 
 pub check_list-returns : goal.check_list-returns
 check_list-returns t c = sym (c.loop-i.invariant ∙ elements_end c.args.left c.args.list c.loop-i.i (omega (arith, c.loop-i-test.false, c.len-i-end.ensures)))
@@ -64,7 +64,7 @@ check_field-returns-then-not-is_field_shown-clause-step t c =
     let here = is_at c.args.sections c.args.walk c.new-reader.result c.args.field _ c.new-reader.ensures.reader c.new-reader.ensures.schema c.get_schema.ensures c.requires.field in
     step_past c.args.left c.args.sections c.args.walk c.new-reader.result c.args.field here c.is_field_shown.result
     (c.is_field_shown.ensures ∙ shown_item c.new-reader.result (index_of c.args.field) (field_here c.args.sections c.args.walk c.new-reader.result c.args.field here).inside)
-    (ap (λ (q : Bool). own_refusal q (refusal (field_shown c.args.left None c.new-reader.result (field_in c.new-reader.result c.args.field)))) c.if-not-is_field_shown.true) c.requires.inside
+    (ap (λ (q : Bool). own_refusal q (text_refusal (field_shown c.args.left None c.new-reader.result (field_in c.new-reader.result c.args.field)))) c.if-not-is_field_shown.true) c.requires.inside
     c.advance.result c.advance.ensures.schema c.advance.ensures.depth c.advance.ensures.frames
 
 pub check_field-check_slot-requires : goal.check_field-check_slot-requires
@@ -120,7 +120,7 @@ check_record-loop-field-init t c = record {
 }
 
 pub check_record-loop-field-smaller-in-Ok : goal.check_record-loop-field-smaller-in-Ok
-check_record-loop-field-smaller-in-Ok t c = c.in-Ok.ensures.step.fewer
+check_record-loop-field-smaller-in-Ok t c = c.in-Ok.ensures.step.fewer_steps
 
 pub check_record-loop-field-preserved-in-Ok : goal.check_record-loop-field-preserved-in-Ok
 check_record-loop-field-preserved-in-Ok t c = record {
@@ -152,4 +152,4 @@ check_record-returns-in-None-leave t c =
 -- ---- what stands under a field ----
 
 pub check_slot-returns-in-Ok : goal.check_slot-returns-in-Ok
-check_slot-returns-in-Ok t c = c.check_value.ensures ∙ ap refusal (sym (c.in-Ok.ensures.read c.args.left None))
+check_slot-returns-in-Ok t c = c.check_value.ensures ∙ ap text_refusal (sym (c.in-Ok.ensures.read c.args.left None))

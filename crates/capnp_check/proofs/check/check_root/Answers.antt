@@ -4,7 +4,7 @@ use Rattle.capnp_schema.specs.Schema.{Node}
 use Rattle.capnp_schema.specs.StructHandles.{struct_node}
 use Rattle.capnp_schema.specs.declared.schema.structs.StructSchema.{StructSchema}
 use Rattle.capnp_dynamic_readers.specs.Steps.Shown.{root_shown, value_shown}
-use Rattle.capnp_check.specs.Refusals.{refusal}
+use Rattle.capnp_check.specs.Refusals.{text_refusal}
 use Rattle.capnp_check.proofs.Roots.{other_root, struct_root}
 use Rattle.capnp_check.proofs.check.check_root.Goals as goal
 use Rattle.capnp_check.proofs.check.check_root.Goals.{in-Struct+else-get_proto, in_default}
@@ -12,7 +12,7 @@ use Rattle.capnp_check.proofs.check.check_root.Goals.{in-Struct+else-get_proto, 
 pub returns : goal.returns
 returns c =
     c.check_value.ensures
-    ∙ ap refusal
+    ∙ ap text_refusal
     (sym (elim c.match-value.branch as (λ _. root_shown None c.args.value ≡ value_shown 64 None c.args.value) [
       | in-Struct+else-get_proto w ↦
           struct_root None c.args.value w.in-Struct.reader w.in-Struct.is

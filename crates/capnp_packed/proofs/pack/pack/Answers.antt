@@ -1,7 +1,7 @@
 -- What was appended stands before the packed form of what is left.
 use Rattle.std.proofs.Common.{◌++◌, sym, ap, ◌∙◌, arith, rules}
 use Rattle.std.proofs.lemmas.List.{append-nil}
-use Rattle.capnp_packed.specs.Unpacking.{unpacked}
+use Rattle.capnp_packed.specs.Unpacking.{unpacked_bytes}
 use Rattle.capnp_packed.proofs.RoundTrip.{left_packed, left_whole, packed_none, round_trip}
 use Rattle.capnp_packed.proofs.pack.pack.Goals as goal
 
@@ -21,4 +21,4 @@ returns-clause-packed c =
     ∙ c.loop-left.invariant.bytes
 
 pub returns-clause-back : goal.returns-clause-back
-returns-clause-back c = ap unpacked (returns-clause-packed c) ∙ round_trip c.args.bytes.now c.requires.whole
+returns-clause-back c = ap unpacked_bytes (returns-clause-packed c) ∙ round_trip c.args.bytes.now c.requires.whole

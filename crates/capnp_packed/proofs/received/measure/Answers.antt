@@ -1,14 +1,14 @@
 -- Each outcome, by what is known of the beginning of the stream.
 use Rattle.std.proofs.Common.{Err, Ok, ap, sym, ◌∙◌, arith, rules}
 use Rattle.capnp_wire.specs.Stream.{header_bytes}
-use Rattle.capnp_packed.specs.Unpacking.{unpacked}
+use Rattle.capnp_packed.specs.Unpacking.{unpacked_bytes}
 use Rattle.capnp_packed.proofs.Measured.{IsBeginning, by_count, by_table, bytes_known, count_known, cut, known_there, large, many, there}
 use Rattle.capnp_packed.proofs.received.measure.Goals as goal
 
 pub returns-then-count-gt512-clause-refused : goal.returns-then-count-gt512-clause-refused
 returns-then-count-gt512-clause-refused c =
     let u = c.unpack_into-known.ensures in
-    let all = unpacked c.args.packed.now in
+    let all = unpacked_bytes c.args.packed.now in
     let b : IsBeginning c.unpack_into-known.new.out all c.unpack_into-known.result = record { inside = search rules; room = u.length; whole = search rules; bytes = u.bytes } in
     let known = known_there _ all _ b in
     let some = c.if-known-lt8.false in
@@ -19,7 +19,7 @@ returns-then-count-gt512-clause-refused c =
 pub returns-then-length-gt-MOST_BYTES-clause-refused : goal.returns-then-length-gt-MOST_BYTES-clause-refused
 returns-then-length-gt-MOST_BYTES-clause-refused c =
     let u = c.unpack_into-known.ensures in
-    let all = unpacked c.args.packed.now in
+    let all = unpacked_bytes c.args.packed.now in
     let b : IsBeginning c.unpack_into-known.new.out all c.unpack_into-known.result = record { inside = search rules; room = u.length; whole = search rules; bytes = u.bytes } in
     let known = known_there _ all _ b in
     let some = c.if-known-lt8.false in
@@ -36,7 +36,7 @@ returns-then-length-gt-MOST_BYTES-clause-refused c =
 pub returns-then-not-has_bytes-clause-refused : goal.returns-then-not-has_bytes-clause-refused
 returns-then-not-has_bytes-clause-refused c =
     let u = c.unpack_into-known.ensures in
-    let all = unpacked c.args.packed.now in
+    let all = unpacked_bytes c.args.packed.now in
     let b : IsBeginning c.unpack_into-known.new.out all c.unpack_into-known.result = record { inside = search rules; room = u.length; whole = search rules; bytes = u.bytes } in
     let known = known_there _ all _ b in
     let some = c.if-known-lt8.false in
@@ -55,7 +55,7 @@ returns-then-not-has_bytes-clause-refused c =
 pub returns-clause-length : goal.returns-clause-length
 returns-clause-length c =
     let u = c.unpack_into-known.ensures in
-    let all = unpacked c.args.packed.now in
+    let all = unpacked_bytes c.args.packed.now in
     let b : IsBeginning c.unpack_into-known.new.out all c.unpack_into-known.result = record { inside = search rules; room = u.length; whole = search rules; bytes = u.bytes } in
     let known = known_there _ all _ b in
     let some = c.if-known-lt8.false in
