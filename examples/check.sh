@@ -287,7 +287,8 @@ Shapes
 Loop
 Lists
 Node'
-listed 'a: UInt16, data bit 0, default 0
+listed 'union: 2 members, tag at data bit 16
+a: UInt16, data bit 0, default 0
 x: Void, member 0
 y: UInt8, data bit 32, default 0, member 1
 b: Text, pointer 0, default ""' Mixed

@@ -1,6 +1,6 @@
 -- What a check of a text answers, in both forms of it.
 use Rattle.std.proofs.Common.{Bool, Option, Some, None, Result, Ok, Err, IfErr, OnOk, ap, sym, ◌≡◌, ◌≢◌}
-use Rattle.capnp_check.specs.Refusals.{refusal as text_refusal, told as answer_refusal}
+use Rattle.capnp_check.specs.Refusals.{answer_refusal, text_refusal}
 use Rattle.capnp_device.specs.declared.error.Error.{Error}
 use Rattle.capnp_device.specs.declared.error.ErrorKind.{ErrorKind}
 use Rattle.capnp_device.specs.declared.error.ErrorKind.TheVariants.{OutOfMemory}

@@ -1,6 +1,6 @@
 //! Whether what stands at a path of a message that is read has a text.
 ghost use Rattle.std.specs.Prelude.{Bool, Err, None, ◌≡◌, ◌≢◌, IfErr, OnOk};
-ghost use Rattle.capnp_check.specs.Refusals.{refusal as text_refusal};
+ghost use Rattle.capnp_check.specs.Refusals.{text_refusal};
 ghost use Rattle.capnp_device.specs.declared.error.ErrorKind.TheVariants.{OutOfMemory};
 ghost use Rattle.capnp_schema.specs.StructHandles.{IsStruct, number_of, set_of};
 ghost use Rattle.capnp_call.specs.Seen.{path_seen};

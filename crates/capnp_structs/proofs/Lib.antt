@@ -1,7 +1,10 @@
 pub mod Appended
+pub mod EnumsPut
 pub mod Lines
+pub mod NamesMet
 pub mod Rows
 pub mod TypesNamed
+pub mod TypesOfEnums
 pub mod Walked
 pub mod WalkSteps
 pub mod PathsCut

@@ -3,8 +3,7 @@ use Rattle.std.proofs.Common.{ℕ, zero, suc, ◌+◌, ◌-◌, ◌<◌, ◌≤�
 use Rattle.std.specs.Option.{unwrap_or}
 use Rattle.std.proofs.lemmas.List.{drop_more}
 use Rattle.capnp_schema.specs.Schema.{Schemas, Brand, TypedField, fields_of, no_brand, no_field}
-use Rattle.capnp_records.specs.Text.{said_text}
-use Rattle.capnp_structs.specs.Fields.{all_lines, field_lines, fields_within, inside}
+use Rattle.capnp_structs.specs.Fields.{UnionLine, all_lines, field_lines, lines_within}
 use Rattle.capnp_structs.specs.Names.{struct_line, struct_lines}
 
 next : (i : ℕ) → i + 1 ≡ suc i
@@ -40,18 +39,18 @@ none_left [] (suc i) past = refl
 none_left (f ∷ fs) zero past = absurd (omega (arith, past))
 none_left (f ∷ fs) (suc i) past = none_left fs i (omega (arith, past))
 
--- through no group nothing is said
-pub within_none : (set : Schemas) (groups : ℕ) (prefix : List ℕ) (b : ℕ) → groups ≡ 0 → fields_within set groups prefix b ≡ said_text []
-unfolding fields_within
+-- through no group there is no line
+pub within_none : (set : Schemas) (groups : ℕ) (prefix : List ℕ) (b : ℕ) → groups ≡ 0 → lines_within set groups prefix b ≡ []
+unfolding lines_within
 within_none set zero prefix b e = refl
 within_none set (suc groups) prefix b e = absurd (omega (arith, e))
 
--- through one more group the fields are said one after another
+-- through one more group there are the line of the union, and those of the fields one after another
 pub within_next : (set : Schemas) (groups : ℕ) (prefix : List ℕ) (b : ℕ) → 0 < groups →
-    fields_within set groups prefix b ≡ all_lines (field_lines set b (fields_within set (groups - 1)) prefix) (fields_of set b)
-unfolding fields_within
+    lines_within set groups prefix b ≡ UnionLine prefix b ∷ all_lines (field_lines b (lines_within set (groups - 1)) prefix) (fields_of set b)
+unfolding lines_within
 within_next set zero prefix b e = absurd (omega (arith, e))
-within_next set (suc groups) prefix b e = ap (λ (n : ℕ). all_lines (field_lines set b (fields_within set n) prefix) (fields_of set b)) (fewer groups)
+within_next set (suc groups) prefix b e = ap (λ (n : ℕ). UnionLine prefix b ∷ all_lines (field_lines b (lines_within set n) prefix) (fields_of set b)) (fewer groups)
   where
     fewer : (n : ℕ) → n ≡ suc n - 1
     fewer n = omega arith

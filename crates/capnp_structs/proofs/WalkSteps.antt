@@ -1,5 +1,5 @@
 -- The steps of a walk that appends the lines of fields, in the words of the walk.
-use Rattle.std.proofs.Common.{ℕ, suc, ◌+◌, ◌-◌, ◌<◌, ◌≤◌, List, [], ◌∷◌, ◌++◌, drop, length, Some, None, ◌≡◌, ◌∙◌, add-one, ap, arith, subst, sym}
+use Rattle.std.proofs.Common.{ℕ, suc, ◌+◌, ◌-◌, ◌<◌, ◌≤◌, List, [], ◌∷◌, ◌++◌, drop, length, Option, Some, None, ◌≡◌, ◌∙◌, add-one, ap, arith, refl, subst, sym}
 use Rattle.capnp_schema.specs.Accepted.{IsParent}
 use Rattle.capnp_schema.specs.Facts.GroupFields.{group_field_found, target_parent}
 use Rattle.capnp_schema.specs.Facts.GroupWalks.{frames_group, frames_outside, steps_advance, steps_enter, steps_leave}
@@ -8,15 +8,16 @@ use Rattle.capnp_schema.specs.GroupFields.{group_field_of}
 use Rattle.capnp_schema.specs.GroupsDown.{IsGroupFieldOf, place_of_field}
 use Rattle.capnp_schema.specs.GroupWalks.{above, frames, frames_above, walk_brand, walk_depth, walk_index, walk_schema, walk_set}
 use Rattle.capnp_schema.specs.Steps.GroupWalks.{steps_left}
-use Rattle.capnp_schema.specs.Schema.{Schemas, field_at, fields_of, kind_target}
+use Rattle.capnp_schema.specs.Schema.{FieldKind, Group, Schemas, Slot, TypedField, field_at, fields_of, kind_target}
 use Rattle.capnp_schema.specs.StructHandles.{number_of, set_of, struct_fields}
+use Rattle.capnp_schema.specs.Types.{SchemaType, AnyPointerType, BoolType, DataType, EnumType, IntType, ListType, StructType, TextType, UIntType, VoidType, struct_brand}
 use Rattle.capnp_schema.specs.declared.schema.fields.Field.{Field}
 use Rattle.capnp_schema.specs.declared.schema.group_walk.GroupWalk.{GroupWalk}
 use Rattle.capnp_schema.specs.declared.schema.structs.StructSchema.{StructSchema}
-use Rattle.capnp_records.specs.Text.{Out}
+use Rattle.capnp_dynamic_readers.specs.Facts.Appended.{bytes_put}
 use Rattle.capnp_dynamic_readers.specs.Pieces.{IsAppended}
-use Rattle.capnp_structs.specs.Fields.{fields_within, group_line, inside, slot_line}
-use Rattle.capnp_structs.proofs.Walked.{AreWaiting, path_group, path_under, waits_first, waits_group, waits_inside, waits_none, waits_outside, waits_slot}
+use Rattle.capnp_structs.specs.Fields.{Line, UnionLine, FieldLine, enums_named, field_line, group_line, inside, line_text, lines_within, slot_line, union_line}
+use Rattle.capnp_structs.proofs.Walked.{IsListed, left_first, left_group, left_inside, left_none, left_outside, left_slot, lines_left, listed_first, listed_left, listed_more, listed_plain, path_group, path_under}
 
 -- what is known of the field that a walk stands at, by the walk's set, brand and index
 pub at_place : (set : Schemas) (w : GroupWalk) (f : Field) (P : Schemas → ℕ → ℕ → Type 0) → walk_set w ≡ set → IsFieldOf (walk_schema w) (walk_index w) f →
@@ -94,55 +95,121 @@ fewer_outside set left w outer fs =
     subst (λ (l : List (ℕ × ℕ)). steps_left set (left + 1) l < steps_left set left (frames w)) (sym fs)
     (subst (λ (n : ℕ). steps_left set n (above w) < steps_left set left (frames w)) (sym (add-one left)) (steps_leave set left (walk_brand w) (walk_index w) (above w)))
 
-pub starts : (set : Schemas) (start : List ℕ) (groups left b : ℕ) (w : GroupWalk) → (groups ≡ 0 → ⊥) → left ≡ groups - 1 → frames w ≡ (b, 0) ∷ [] → AreWaiting set start (fields_within set groups [] b) left (frames w) start
-starts set start groups left b w some less fs =
-    subst (λ (l : List (ℕ × ℕ)). AreWaiting set start (fields_within set groups [] b) left l start) (sym fs) (waits_first set start groups left b some less)
+-- ---- the lines that are left ----
 
-module _ (set : Schemas) (start : List ℕ) (whole : Out) where
-  pub said_slot : (left : ℕ) (w new : GroupWalk) (f : Field) (prefix text text' : List ℕ) → walk_set w ≡ set → IsFieldOf (walk_schema w) (walk_index w) f → None ≡ kind_target (typed_of f).field.kind (typed_of f).type →
-      prefix ≡ path_under set (above w) → IsAppended text (slot_line (set_of (field_schema f)) (number_of (field_schema f)) prefix (typed_of f)) text' → frames new ≡ (walk_brand w, walk_index w + 1) ∷ above w →
-      AreWaiting set start whole left (frames w) text → AreWaiting set start whole left (frames new) text'
-  said_slot left w new f prefix text text' same is leads path put fs waiting =
-      subst (λ (l : List (ℕ × ℕ)). AreWaiting set start whole left l text') (sym fs)
-      (waits_slot set start whole left (walk_brand w) (walk_index w) (above w) text text' (inside_set set w f same is) waiting
-      (at_place set w f (λ z b i. None ≡ kind_target (field_at z b i).field.kind (field_at z b i).type) same is leads)
-      (subst (λ (p : List ℕ). IsAppended text (slot_line set (walk_brand w) p (field_at set (walk_brand w) (walk_index w))) text') path
-      (at_place set w f (λ z b i. IsAppended text (slot_line z b prefix (field_at z b i)) text') same is put)))
+-- a group names no enum
+struct_unnamed : (t : SchemaType) (g : ℕ) → Some g ≡ struct_brand t → enums_named t ≡ []
+struct_unnamed VoidType g is = refl
+struct_unnamed BoolType g is = refl
+struct_unnamed (IntType bytes) g is = refl
+struct_unnamed (UIntType bytes) g is = refl
+struct_unnamed (EnumType e) g is = absurd (cc is)
+struct_unnamed TextType g is = refl
+struct_unnamed DataType g is = refl
+struct_unnamed (StructType b n) g is = refl
+struct_unnamed (ListType t) g is = absurd (cc is)
+struct_unnamed AnyPointerType g is = refl
 
-  group_put : (w : GroupWalk) (f : Field) (prefix text text' : List ℕ) → walk_set w ≡ set → IsFieldOf (walk_schema w) (walk_index w) f → prefix ≡ path_under set (above w) →
-      text' ≡ text ++ group_line (set_of (field_schema f)) (number_of (field_schema f)) prefix (typed_of f) → text' ≡ text ++ group_line set (walk_brand w) (path_under set (above w)) (field_at set (walk_brand w) (walk_index w))
-  group_put w f prefix text text' same is path put =
-      subst (λ (p : List ℕ). text' ≡ text ++ group_line set (walk_brand w) p (field_at set (walk_brand w) (walk_index w))) path
-      (at_place set w f (λ z b i. text' ≡ text ++ group_line z b prefix (field_at z b i)) same is put)
+group_unnamed : (k : FieldKind) (t : SchemaType) (g : ℕ) → Some g ≡ kind_target k t → enums_named t ≡ []
+group_unnamed (Slot offset default) t g is = absurd (cc is)
+group_unnamed (Group node) t g is = struct_unnamed t g is
 
-  pub said_group : (left : ℕ) (w new : GroupWalk) (f : Field) (g : ℕ) (prefix text text' : List ℕ) → left ≡ 0 → walk_set w ≡ set → IsFieldOf (walk_schema w) (walk_index w) f → Some g ≡ kind_target (typed_of f).field.kind (typed_of f).type →
-      prefix ≡ path_under set (above w) → text' ≡ text ++ group_line (set_of (field_schema f)) (number_of (field_schema f)) prefix (typed_of f) → frames new ≡ (walk_brand w, walk_index w + 1) ∷ above w →
-      AreWaiting set start whole left (frames w) text → AreWaiting set start whole left (frames new) text'
-  said_group left w new f g prefix text text' none same is leads path put fs waiting =
-      subst (λ (l : List (ℕ × ℕ)). AreWaiting set start whole left l text') (sym fs)
-      (waits_group set start whole left (walk_brand w) (walk_index w) g (above w) text text' none (inside_set set w f same is) waiting
-      (at_place set w f (λ z b i. Some g ≡ kind_target (field_at z b i).field.kind (field_at z b i).type) same is leads) (group_put w f prefix text text' same is path put))
+-- the union of the struct that a walk starts at
+pub starts : (set : Schemas) (start first : List ℕ) (groups left b : ℕ) (w : GroupWalk) (prefix text' : List ℕ) → (groups ≡ 0 → ⊥) → left ≡ groups - 1 → frames w ≡ (b, 0) ∷ [] →
+    prefix ≡ [] → text' ≡ start ++ union_line set prefix b → IsListed set start first (lines_within set groups [] b) (lines_left set left (frames w)) text' first
+starts set start first groups left b w prefix text' some less fs none put =
+    let whole : List Line = lines_within set groups [] b in
+    let line : text' ≡ start ++ union_line set [] b = put ∙ ap (λ (p : List ℕ). start ++ union_line set p b) none in
+    listed_left set start first whole (lines_left set left ((b, 0) ∷ [])) (lines_left set left (frames w)) text' first (ap (lines_left set left) (sym fs))
+    (listed_plain set start first whole (UnionLine [] b) (lines_left set left ((b, 0) ∷ [])) start text' first (bytes_put (union_line set [] b) start text' line) refl
+    (listed_left set start first whole whole (UnionLine [] b ∷ lines_left set left ((b, 0) ∷ [])) start first (left_first set groups left b some less) (listed_first set start first whole)))
 
-  pub goes_inside : (left : ℕ) (w new : GroupWalk) (f : Field) (g : ℕ) (prefix text text' : List ℕ) → (left ≡ 0 → ⊥) → walk_set w ≡ set → IsFieldOf (walk_schema w) (walk_index w) f → Some g ≡ kind_target (typed_of f).field.kind (typed_of f).type →
-      prefix ≡ path_under set (above w) → text' ≡ text ++ group_line (set_of (field_schema f)) (number_of (field_schema f)) prefix (typed_of f) → frames new ≡ (g, 0) ∷ (walk_brand w, walk_index w + 1) ∷ above w →
-      AreWaiting set start whole left (frames w) text → AreWaiting set start whole (left - 1) (frames new) text'
-  goes_inside left w new f g prefix text text' some same is leads path put fs waiting =
+module _ (set : Schemas) (start first : List ℕ) (whole : List Line) where
+  pub said_slot : (left : ℕ) (w new : GroupWalk) (f : Field) (prefix text text' enums enums' : List ℕ) (t : SchemaType) → walk_set w ≡ set → IsFieldOf (walk_schema w) (walk_index w) f →
+      None ≡ kind_target (typed_of f).field.kind (typed_of f).type → prefix ≡ path_under set (above w) →
+      IsAppended text (slot_line (set_of (field_schema f)) (number_of (field_schema f)) prefix (typed_of f)) text' → t ≡ (typed_of f).type → enums' ≡ enums ++ enums_named t →
+      frames new ≡ (walk_brand w, walk_index w + 1) ∷ above w → IsListed set start first whole (lines_left set left (frames w)) text enums → IsListed set start first whole (lines_left set left (frames new)) text' enums'
+  said_slot left w new f prefix text text' enums enums' t same is leads path put typed add fs before =
+      let b : ℕ = walk_brand w in
+      let i : ℕ = walk_index w in
+      let p : List ℕ = path_under set (above w) in
+      let leads_here : None ≡ kind_target (field_at set b i).field.kind (field_at set b i).type = at_place set w f (λ z b i. None ≡ kind_target (field_at z b i).field.kind (field_at z b i).type) same is leads in
+      let put_here : IsAppended text (slot_line set b p (field_at set b i)) text' =
+      subst (λ (q : List ℕ). IsAppended text (slot_line set b q (field_at set b i)) text') path (at_place set w f (λ z b i. IsAppended text (slot_line z b prefix (field_at z b i)) text') same is put) in
+      let line_here : IsAppended text (line_text set (FieldLine p b (field_at set b i))) text' = subst (λ (o : Option ℕ). IsAppended text (field_line set b p (field_at set b i) o) text') leads_here put_here in
+      let add_here : enums' ≡ enums ++ enums_named (field_at set b i).type =
+      at_place set w f (λ z b i. enums' ≡ enums ++ enums_named (field_at z b i).type) same is (add ∙ ap (λ (u : SchemaType). enums ++ enums_named u) typed) in
+      listed_left set start first whole (lines_left set left ((b, i + 1) ∷ above w)) (lines_left set left (frames new)) text' enums' (ap (lines_left set left) (sym fs))
+      (listed_more set start first whole (FieldLine p b (field_at set b i)) (lines_left set left ((b, i + 1) ∷ above w)) text text' enums enums' line_here add_here
+      (listed_left set start first whole (lines_left set left (frames w)) _ text enums (left_slot set left b i (above w) (inside_set set w f same is) leads_here) before))
+
+  -- the line of a group
+  group_put : (w : GroupWalk) (f : Field) (g : ℕ) (prefix text text' : List ℕ) → walk_set w ≡ set → IsFieldOf (walk_schema w) (walk_index w) f → prefix ≡ path_under set (above w) →
+      Some g ≡ kind_target (field_at set (walk_brand w) (walk_index w)).field.kind (field_at set (walk_brand w) (walk_index w)).type →
+      text' ≡ text ++ group_line (set_of (field_schema f)) (number_of (field_schema f)) prefix (typed_of f) →
+      IsAppended text (line_text set (FieldLine (path_under set (above w)) (walk_brand w) (field_at set (walk_brand w) (walk_index w)))) text'
+  group_put w f g prefix text text' same is path leads put =
+      let b : ℕ = walk_brand w in
+      let i : ℕ = walk_index w in
+      let put_here : text' ≡ text ++ group_line set b (path_under set (above w)) (field_at set b i) =
+      at_place set w f (λ z b i. text' ≡ text ++ group_line z b prefix (field_at z b i)) same is put ∙ ap (λ (p : List ℕ). text ++ group_line set b p (field_at set b i)) path in
+      subst (λ (o : Option ℕ). IsAppended text (field_line set b (path_under set (above w)) (field_at set b i) o) text') leads (bytes_put (group_line set b (path_under set (above w)) (field_at set b i)) text text' put_here)
+
+  leads_set : (w : GroupWalk) (f : Field) (g : ℕ) → walk_set w ≡ set → IsFieldOf (walk_schema w) (walk_index w) f → Some g ≡ kind_target (typed_of f).field.kind (typed_of f).type →
+      Some g ≡ kind_target (field_at set (walk_brand w) (walk_index w)).field.kind (field_at set (walk_brand w) (walk_index w)).type
+  leads_set w f g same is leads = at_place set w f (λ z b i. Some g ≡ kind_target (field_at z b i).field.kind (field_at z b i).type) same is leads
+
+  pub said_group : (left : ℕ) (w new : GroupWalk) (f : Field) (g : ℕ) (prefix text text' enums : List ℕ) → left ≡ 0 → walk_set w ≡ set → IsFieldOf (walk_schema w) (walk_index w) f →
+      Some g ≡ kind_target (typed_of f).field.kind (typed_of f).type → prefix ≡ path_under set (above w) →
+      text' ≡ text ++ group_line (set_of (field_schema f)) (number_of (field_schema f)) prefix (typed_of f) → frames new ≡ (walk_brand w, walk_index w + 1) ∷ above w →
+      IsListed set start first whole (lines_left set left (frames w)) text enums → IsListed set start first whole (lines_left set left (frames new)) text' enums
+  said_group left w new f g prefix text text' enums none same is leads path put fs before =
+      let b : ℕ = walk_brand w in
+      let i : ℕ = walk_index w in
+      let leads_here = leads_set w f g same is leads in
+      listed_left set start first whole (lines_left set left ((b, i + 1) ∷ above w)) (lines_left set left (frames new)) text' enums (ap (lines_left set left) (sym fs))
+      (listed_plain set start first whole (FieldLine (path_under set (above w)) b (field_at set b i)) (lines_left set left ((b, i + 1) ∷ above w)) text text' enums
+      (group_put w f g prefix text text' same is path leads_here put) (group_unnamed (field_at set b i).field.kind (field_at set b i).type g leads_here)
+      (listed_left set start first whole (lines_left set left (frames w)) _ text enums (left_group set left b i g (above w) none (inside_set set w f same is) leads_here) before))
+
+  -- the path of a group that is gone into
+  path_inside : (w : GroupWalk) (f : Field) (path path' : List ℕ) → walk_set w ≡ set → IsFieldOf (walk_schema w) (walk_index w) f → path ≡ path_under set (above w) → path' ≡ inside path (typed_of f) →
+      path' ≡ inside (path_under set (above w)) (field_at set (walk_brand w) (walk_index w))
+  path_inside w f path path' same is here long =
+      at_place set w f (λ z b i. path' ≡ inside path (field_at z b i)) same is long ∙ ap (λ (p : List ℕ). inside p (field_at set (walk_brand w) (walk_index w))) here
+
+  pub goes_inside : (left : ℕ) (w new : GroupWalk) (f : Field) (s : StructSchema) (prefix base prefix' text mid text' enums : List ℕ) → (left ≡ 0 → ⊥) → walk_set w ≡ set → IsFieldOf (walk_schema w) (walk_index w) f →
+      Some (number_of s) ≡ kind_target (typed_of f).field.kind (typed_of f).type → set_of s ≡ set → prefix ≡ path_under set (above w) → base ≡ path_under set (above w) →
+      mid ≡ text ++ group_line (set_of (field_schema f)) (number_of (field_schema f)) prefix (typed_of f) → prefix' ≡ inside base (typed_of f) →
+      text' ≡ mid ++ union_line (set_of s) prefix' (number_of s) → frames new ≡ (number_of s, 0) ∷ (walk_brand w, walk_index w + 1) ∷ above w →
+      IsListed set start first whole (lines_left set left (frames w)) text enums → IsListed set start first whole (lines_left set (left - 1) (frames new)) text' enums
+  goes_inside left w new f s prefix base prefix' text mid text' enums some same is leads of_set path path_base put long union fs before =
+      let b : ℕ = walk_brand w in
+      let i : ℕ = walk_index w in
+      let g : ℕ = number_of s in
+      let p : List ℕ = path_under set (above w) in
+      let p' : List ℕ = inside p (field_at set b i) in
       let more : left ≡ suc (left - 1) = omega (arith, some) in
-      subst (λ (l : List (ℕ × ℕ)). AreWaiting set start whole (left - 1) l text') (sym fs)
-      (waits_inside set start whole (left - 1) (walk_brand w) (walk_index w) g (above w) text text' (inside_set set w f same is)
-      (subst (λ (n : ℕ). AreWaiting set start whole n (frames w) text) more waiting)
-      (at_place set w f (λ z b i. Some g ≡ kind_target (field_at z b i).field.kind (field_at z b i).type) same is leads) (group_put w f prefix text text' same is path put))
+      let leads_here = leads_set w f g same is leads in
+      let rest : List Line = lines_left set (left - 1) ((g, 0) ∷ (b, i + 1) ∷ above w) in
+      let left_here = ap (λ (n : ℕ). lines_left set n (frames w)) more ∙ left_inside set (left - 1) b i g (above w) (inside_set set w f same is) leads_here in
+      let union_here : text' ≡ mid ++ union_line set p' g =
+      union ∙ (ap (λ (z : Schemas). mid ++ union_line z prefix' g) of_set ∙ ap (λ (q : List ℕ). mid ++ union_line set q g) (path_inside w f base prefix' same is path_base long)) in
+      listed_left set start first whole rest (lines_left set (left - 1) (frames new)) text' enums (ap (lines_left set (left - 1)) (sym fs))
+      (listed_plain set start first whole (UnionLine p' g) rest mid text' enums (bytes_put (union_line set p' g) mid text' union_here) refl
+      (listed_plain set start first whole (FieldLine p b (field_at set b i)) (UnionLine p' g ∷ rest) text mid enums
+      (group_put w f g prefix text mid same is path leads_here put) (group_unnamed (field_at set b i).field.kind (field_at set b i).type g leads_here)
+      (listed_left set start first whole (lines_left set left (frames w)) _ text enums left_here before)))
 
-  past_all : (left : ℕ) (w : GroupWalk) (text : List ℕ) → walk_set w ≡ set → length (struct_fields (walk_schema w)) ≤ walk_index w → AreWaiting set start whole left (frames w) text → AreWaiting set start whole (suc left) (above w) text
-  past_all left w text same past waiting =
-      waits_outside set start whole left (walk_brand w) (walk_index w) (above w) text (subst (λ (z : Schemas). length (fields_of z (walk_brand w)) ≤ walk_index w) same past) waiting
+  -- past the last field
+  past_all : (left : ℕ) (w : GroupWalk) → walk_set w ≡ set → length (struct_fields (walk_schema w)) ≤ walk_index w → lines_left set left (frames w) ≡ lines_left set (suc left) (above w)
+  past_all left w same past = left_outside set left (walk_brand w) (walk_index w) (above w) (subst (λ (z : Schemas). length (fields_of z (walk_brand w)) ≤ walk_index w) same past)
 
-  pub goes_outside : (left : ℕ) (w outer : GroupWalk) (text : List ℕ) → walk_set w ≡ set → length (struct_fields (walk_schema w)) ≤ walk_index w → frames outer ≡ above w →
-      AreWaiting set start whole left (frames w) text → AreWaiting set start whole (left + 1) (frames outer) text
-  goes_outside left w outer text same past fs waiting =
-      subst (λ (l : List (ℕ × ℕ)). AreWaiting set start whole (left + 1) l text) (sym fs)
-      (subst (λ (n : ℕ). AreWaiting set start whole n (above w) text) (sym (add-one left)) (past_all left w text same past waiting))
+  pub goes_outside : (left : ℕ) (w outer : GroupWalk) (text enums : List ℕ) → walk_set w ≡ set → length (struct_fields (walk_schema w)) ≤ walk_index w → frames outer ≡ above w →
+      IsListed set start first whole (lines_left set left (frames w)) text enums → IsListed set start first whole (lines_left set (left + 1) (frames outer)) text enums
+  goes_outside left w outer text enums same past fs before =
+      listed_left set start first whole (lines_left set left (frames w)) (lines_left set (left + 1) (frames outer)) text enums
+      (past_all left w same past ∙ (ap (λ (n : ℕ). lines_left set n (above w)) (sym (add-one left)) ∙ ap (lines_left set (left + 1)) (sym fs))) before
 
-  pub all_said : (left : ℕ) (w : GroupWalk) (text : List ℕ) → walk_set w ≡ set → length (struct_fields (walk_schema w)) ≤ walk_index w → above w ≡ [] →
-      AreWaiting set start whole left (frames w) text → IsAppended start whole text
-  all_said left w text same past none waiting = waits_none set start whole (suc left) (above w) text none (past_all left w text same past waiting)
+  pub none_left_of : (left : ℕ) (w : GroupWalk) → walk_set w ≡ set → length (struct_fields (walk_schema w)) ≤ walk_index w → above w ≡ [] → lines_left set left (frames w) ≡ []
+  none_left_of left w same past none = past_all left w same past ∙ left_none set (suc left) (above w) none

@@ -1,11 +1,10 @@
--- A walk through the fields of a struct that appends a line for each: what is left to say of each struct or group that it
--- stands in, and what stands before the names there.
-use Rattle.std.proofs.Common.{ℕ, suc, ◌+◌, ◌-◌, ◌<◌, ◌≤◌, List, [], ◌∷◌, ◌++◌, drop, length, Option, Some, None, ◌≡◌, ap, arith, subst, sym}
+-- A walk through the fields of a struct: the lines that are left of each struct or group that it stands in, and what stands
+-- before the names there.
+use Rattle.std.proofs.Common.{ℕ, suc, ◌+◌, ◌-◌, ◌<◌, ◌≤◌, List, [], ◌∷◌, ◌++◌, drop, length, Option, Some, None, ◌≡◌, ◌∙◌, ap, append_assoc, append-nil, arith, refl, subst, sym}
 use Rattle.capnp_schema.specs.Schema.{Schemas, TypedField, field_at, fields_of, kind_target}
-use Rattle.capnp_records.specs.Text.{Out, said_text}
-use Rattle.capnp_dynamic_readers.specs.Facts.Appended.{both, bytes_put, nothing}
+use Rattle.capnp_dynamic_readers.specs.Facts.Appended.{both, nothing}
 use Rattle.capnp_dynamic_readers.specs.Pieces.{IsAppended}
-use Rattle.capnp_structs.specs.Fields.{all_lines, field_lines, fields_within, group_line, inside, lines_of, slot_line}
+use Rattle.capnp_structs.specs.Fields.{Line, UnionLine, FieldLine, all_enums, all_lines, field_lines, inside, line_enums, line_text, lines_inside, lines_text, lines_within}
 use Rattle.capnp_structs.proofs.Lines.{from_field, none_left, within_next, within_none}
 
 -- ---- what is left ----
@@ -15,14 +14,14 @@ unfoldable pub path_under : Schemas → List (ℕ × ℕ) → List ℕ
 path_under set [] = []
 path_under set ((b, j) ∷ rest) = inside (path_under set rest) (field_at set b (j - 1))
 
--- what is said of the fields of a brand from an index on, with frames above it, and through so many groups
-abbrev pub lines_from_index : Schemas → (groups : ℕ) → List (ℕ × ℕ) → ℕ → ℕ → Out
-lines_from_index set groups rest b i = all_lines (field_lines set b (fields_within set groups) (path_under set rest)) (drop i (fields_of set b))
+-- the lines of the fields of a brand from an index on, with frames above it, and through so many groups
+abbrev pub lines_from_index : Schemas → (groups : ℕ) → List (ℕ × ℕ) → ℕ → ℕ → List Line
+lines_from_index set groups rest b i = all_lines (field_lines b (lines_within set groups) (path_under set rest)) (drop i (fields_of set b))
 
--- the whole is appended to the start, once what is left of each frame is appended, the innermost first
-unfoldable pub AreWaiting : Schemas → (start : List ℕ) → (whole : Out) → (groups : ℕ) → List (ℕ × ℕ) → List ℕ → Type 0
-AreWaiting set start whole groups [] text = IsAppended start whole text
-AreWaiting set start whole groups ((b, i) ∷ rest) text = (new : List ℕ) → IsAppended text (lines_from_index set groups rest b i) new → AreWaiting set start whole (suc groups) rest new
+-- the lines that are left of each frame, those of the innermost first
+unfoldable pub lines_left : Schemas → (groups : ℕ) → List (ℕ × ℕ) → List Line
+lines_left set groups [] = []
+lines_left set groups ((b, i) ∷ rest) = lines_from_index set groups rest b i ++ lines_left set (suc groups) rest
 
 -- in a group the path is that of the struct or group around it, and the group's name and a point
 pub path_group : (set : Schemas) (b i : ℕ) (rest : List (ℕ × ℕ)) → path_under set ((b, i + 1) ∷ rest) ≡ inside (path_under set rest) (field_at set b i)
@@ -31,75 +30,108 @@ path_group set b i rest =
     let back : i + 1 - 1 ≡ i = omega arith in
     ap (λ (k : ℕ). inside (path_under set rest) (field_at set b k)) back
 
--- the lines of a group through one more group
-group_said : (set : Schemas) (groups b i g : ℕ) (rest : List (ℕ × ℕ)) (text mid : List ℕ) → IsAppended text (lines_from_index set groups ((b, i + 1) ∷ rest) g 0) mid →
-    IsAppended text (fields_within set (suc groups) (inside (path_under set rest) (field_at set b i)) g) mid
-unfolding fields_within
-group_said set groups b i g rest text mid inner =
-    subst (λ (p : List ℕ). IsAppended text (all_lines (field_lines set g (fields_within set groups) p) (fields_of set g)) mid) (path_group set b i rest) inner
+module _ (set : Schemas) where
+  left_frame : (groups b i : ℕ) (rest : List (ℕ × ℕ)) → lines_left set groups ((b, i) ∷ rest) ≡ lines_from_index set groups rest b i ++ lines_left set (suc groups) rest
+  unfolding lines_left
+  left_frame groups b i rest = refl
 
-first_said : (set : Schemas) (groups left b : ℕ) (text mid : List ℕ) → (groups ≡ 0 → ⊥) → left ≡ groups - 1 → IsAppended text (lines_from_index set left [] b 0) mid → IsAppended text (fields_within set groups [] b) mid
-unfolding path_under
-first_said set groups left b text mid some less inner =
-    let lines : fields_within set groups [] b ≡ all_lines (field_lines set b (fields_within set (groups - 1)) []) (fields_of set b) = within_next set groups [] b (omega (arith, some)) in
-    let same : all_lines (field_lines set b (fields_within set left) []) (fields_of set b) ≡ all_lines (field_lines set b (fields_within set (groups - 1)) []) (fields_of set b) =
-    ap (λ (n : ℕ). all_lines (field_lines set b (fields_within set n) []) (fields_of set b)) less in
-    subst (λ (o : Out). IsAppended text o mid) (sym lines) (subst (λ (o : Out). IsAppended text o mid) same inner)
+  pub left_none : (groups : ℕ) (fs : List (ℕ × ℕ)) → fs ≡ [] → lines_left set groups fs ≡ []
+  unfolding lines_left
+  left_none groups fs none = ap (lines_left set groups) none
 
-module _ (set : Schemas) (start : List ℕ) where
-  pub waits_first : (groups left b : ℕ) → (groups ≡ 0 → ⊥) → left ≡ groups - 1 → AreWaiting set start (fields_within set groups [] b) left ((b, 0) ∷ []) start
-  unfolding AreWaiting
-  waits_first groups left b some less = λ new put. first_said set groups left b start new some less put
+  -- the lines of a struct are that of its union, and those of its fields
+  pub left_first : (groups left b : ℕ) → (groups ≡ 0 → ⊥) → left ≡ groups - 1 → lines_within set groups [] b ≡ UnionLine [] b ∷ lines_left set left ((b, 0) ∷ [])
+  unfolding lines_left path_under
+  left_first groups left b some less =
+      within_next set groups [] b (omega (arith, some))
+      ∙ (ap (λ (n : ℕ). UnionLine [] b ∷ all_lines (field_lines b (lines_within set n) []) (fields_of set b)) (sym less)
+      ∙ ap (λ (ls : List Line). UnionLine [] b ∷ ls) (sym (append-nil (all_lines (field_lines b (lines_within set left) []) (fields_of set b)))))
 
-module _ (set : Schemas) (start : List ℕ) (whole : Out) where
-  none_waits : (groups : ℕ) (text : List ℕ) → AreWaiting set start whole groups [] text → IsAppended start whole text
-  unfolding AreWaiting
-  none_waits groups text left = left
+  -- past a field
+  left_past : (groups b i : ℕ) (rest : List (ℕ × ℕ)) → i < length (fields_of set b) →
+      lines_left set groups ((b, i) ∷ rest)
+      ≡ field_lines b (lines_within set groups) (path_under set rest) (field_at set b i) ++ lines_left set groups ((b, i + 1) ∷ rest)
+  left_past groups b i rest within =
+      let f : List Line = field_lines b (lines_within set groups) (path_under set rest) (field_at set b i) in
+      left_frame groups b i rest
+      ∙ (ap (λ (fs : List TypedField). all_lines (field_lines b (lines_within set groups) (path_under set rest)) fs ++ lines_left set (suc groups) rest) (from_field (fields_of set b) i within)
+      ∙ (append_assoc f (lines_from_index set groups rest b (i + 1)) (lines_left set (suc groups) rest)
+      ∙ ap (λ (ls : List Line). f ++ ls) (sym (left_frame groups b (i + 1) rest))))
 
-  -- nothing is left
-  pub waits_none : (groups : ℕ) (fs : List (ℕ × ℕ)) (text : List ℕ) → fs ≡ [] → AreWaiting set start whole groups fs text → IsAppended start whole text
-  waits_none groups fs text none left = none_waits groups text (subst (λ (l : List (ℕ × ℕ)). AreWaiting set start whole groups l text) none left)
+  -- a field's line, and what is behind it by what it leads to
+  left_by : (groups b i : ℕ) (rest : List (ℕ × ℕ)) (o : Option ℕ) → i < length (fields_of set b) → o ≡ kind_target (field_at set b i).field.kind (field_at set b i).type →
+      lines_left set groups ((b, i) ∷ rest)
+      ≡ FieldLine (path_under set rest) b (field_at set b i) ∷ (lines_inside (lines_within set groups) (path_under set rest) (field_at set b i) o ++ lines_left set groups ((b, i + 1) ∷ rest))
+  left_by groups b i rest o within leads =
+      left_past groups b i rest within
+      ∙ ap (λ (p : Option ℕ). FieldLine (path_under set rest) b (field_at set b i) ∷ (lines_inside (lines_within set groups) (path_under set rest) (field_at set b i) p ++ lines_left set groups ((b, i + 1) ∷ rest))) (sym leads)
 
-  -- past a field that was said
-  waits_past : (groups b i : ℕ) (rest : List (ℕ × ℕ)) (text text' : List ℕ) → i < length (fields_of set b) → AreWaiting set start whole groups ((b, i) ∷ rest) text →
-      IsAppended text (field_lines set b (fields_within set groups) (path_under set rest) (field_at set b i)) text' → AreWaiting set start whole groups ((b, i + 1) ∷ rest) text'
-  unfolding AreWaiting
-  waits_past groups b i rest text text' within left put = λ new more.
-      left new (subst (λ (fs : List TypedField). IsAppended text (all_lines (field_lines set b (fields_within set groups) (path_under set rest)) fs) new) (sym (from_field (fields_of set b) i within))
-      (both (field_lines set b (fields_within set groups) (path_under set rest) (field_at set b i)) (lines_from_index set groups rest b (i + 1)) text text' new put more))
+  -- a slot
+  pub left_slot : (groups b i : ℕ) (rest : List (ℕ × ℕ)) → i < length (fields_of set b) → None ≡ kind_target (field_at set b i).field.kind (field_at set b i).type →
+      lines_left set groups ((b, i) ∷ rest) ≡ FieldLine (path_under set rest) b (field_at set b i) ∷ lines_left set groups ((b, i + 1) ∷ rest)
+  left_slot groups b i rest within leads = left_by groups b i rest None within leads
 
-  -- past a slot
-  pub waits_slot : (groups b i : ℕ) (rest : List (ℕ × ℕ)) (text text' : List ℕ) → i < length (fields_of set b) → AreWaiting set start whole groups ((b, i) ∷ rest) text →
-      None ≡ kind_target (field_at set b i).field.kind (field_at set b i).type → IsAppended text (slot_line set b (path_under set rest) (field_at set b i)) text' → AreWaiting set start whole groups ((b, i + 1) ∷ rest) text'
-  waits_slot groups b i rest text text' within left leads put =
-      waits_past groups b i rest text text' within left
-      (subst (λ (o : Option ℕ). IsAppended text (lines_of set b (fields_within set groups) (path_under set rest) (field_at set b i) o) text') leads put)
+  -- a group that is not gone into
+  pub left_group : (groups b i g : ℕ) (rest : List (ℕ × ℕ)) → groups ≡ 0 → i < length (fields_of set b) → Some g ≡ kind_target (field_at set b i).field.kind (field_at set b i).type →
+      lines_left set groups ((b, i) ∷ rest) ≡ FieldLine (path_under set rest) b (field_at set b i) ∷ lines_left set groups ((b, i + 1) ∷ rest)
+  left_group groups b i g rest none within leads =
+      left_by groups b i rest (Some g) within leads
+      ∙ ap (λ (ls : List Line). FieldLine (path_under set rest) b (field_at set b i) ∷ (ls ++ lines_left set groups ((b, i + 1) ∷ rest))) (within_none set groups (inside (path_under set rest) (field_at set b i)) g none)
 
-  -- a group's line and the lines of its fields are those of its field
-  field_said : (groups b i g : ℕ) (rest : List (ℕ × ℕ)) (text text' mid : List ℕ) → Some g ≡ kind_target (field_at set b i).field.kind (field_at set b i).type →
-      text' ≡ text ++ group_line set b (path_under set rest) (field_at set b i) → IsAppended text' (fields_within set groups (inside (path_under set rest) (field_at set b i)) g) mid →
-      IsAppended text (field_lines set b (fields_within set groups) (path_under set rest) (field_at set b i)) mid
-  field_said groups b i g rest text text' mid leads put inner =
-      subst (λ (o : Option ℕ). IsAppended text (lines_of set b (fields_within set groups) (path_under set rest) (field_at set b i) o) mid) leads
-      (both (said_text (group_line set b (path_under set rest) (field_at set b i))) (fields_within set groups (inside (path_under set rest) (field_at set b i)) g) text text' mid
-      (bytes_put (group_line set b (path_under set rest) (field_at set b i)) text text' put) inner)
+  -- the lines of a group through one more group
+  group_lines : (groups b i g : ℕ) (rest : List (ℕ × ℕ)) →
+      lines_within set (suc groups) (inside (path_under set rest) (field_at set b i)) g
+      ≡ UnionLine (inside (path_under set rest) (field_at set b i)) g ∷ lines_from_index set groups ((b, i + 1) ∷ rest) g 0
+  unfolding lines_within
+  group_lines groups b i g rest =
+      ap (λ (p : List ℕ). UnionLine (inside (path_under set rest) (field_at set b i)) g ∷ all_lines (field_lines g (lines_within set groups) p) (fields_of set g)) (sym (path_group set b i rest))
 
-  -- past a group that is not gone into
-  pub waits_group : (groups b i g : ℕ) (rest : List (ℕ × ℕ)) (text text' : List ℕ) → groups ≡ 0 → i < length (fields_of set b) → AreWaiting set start whole groups ((b, i) ∷ rest) text →
-      Some g ≡ kind_target (field_at set b i).field.kind (field_at set b i).type → text' ≡ text ++ group_line set b (path_under set rest) (field_at set b i) → AreWaiting set start whole groups ((b, i + 1) ∷ rest) text'
-  waits_group groups b i g rest text text' none within left leads put =
-      waits_past groups b i rest text text' within left (field_said groups b i g rest text text' text' leads put
-      (subst (λ (o : Out). IsAppended text' o text') (sym (within_none set groups (inside (path_under set rest) (field_at set b i)) g none)) (nothing text')))
-
-  -- into a group
-  pub waits_inside : (groups b i g : ℕ) (rest : List (ℕ × ℕ)) (text text' : List ℕ) → i < length (fields_of set b) → AreWaiting set start whole (suc groups) ((b, i) ∷ rest) text →
-      Some g ≡ kind_target (field_at set b i).field.kind (field_at set b i).type → text' ≡ text ++ group_line set b (path_under set rest) (field_at set b i) → AreWaiting set start whole groups ((g, 0) ∷ (b, i + 1) ∷ rest) text'
-  unfolding AreWaiting
-  waits_inside groups b i g rest text text' within left leads put = λ mid inner.
-      waits_past (suc groups) b i rest text mid within left (field_said (suc groups) b i g rest text text' mid leads put (group_said set groups b i g rest text' mid inner))
+  -- a group that is gone into
+  pub left_inside : (groups b i g : ℕ) (rest : List (ℕ × ℕ)) → i < length (fields_of set b) → Some g ≡ kind_target (field_at set b i).field.kind (field_at set b i).type →
+      lines_left set (suc groups) ((b, i) ∷ rest)
+      ≡ FieldLine (path_under set rest) b (field_at set b i) ∷ UnionLine (inside (path_under set rest) (field_at set b i)) g ∷ lines_left set groups ((g, 0) ∷ (b, i + 1) ∷ rest)
+  left_inside groups b i g rest within leads =
+      let f : Line = FieldLine (path_under set rest) b (field_at set b i) in
+      let u : Line = UnionLine (inside (path_under set rest) (field_at set b i)) g in
+      left_by (suc groups) b i rest (Some g) within leads
+      ∙ (ap (λ (ls : List Line). f ∷ (ls ++ lines_left set (suc groups) ((b, i + 1) ∷ rest))) (group_lines groups b i g rest)
+      ∙ ap (λ (ls : List Line). f ∷ u ∷ ls) (sym (left_frame groups g 0 ((b, i + 1) ∷ rest))))
 
   -- out of one
-  pub waits_outside : (groups b i : ℕ) (rest : List (ℕ × ℕ)) (text : List ℕ) → length (fields_of set b) ≤ i → AreWaiting set start whole groups ((b, i) ∷ rest) text → AreWaiting set start whole (suc groups) rest text
-  unfolding AreWaiting
-  waits_outside groups b i rest text past left =
-      left text (subst (λ (fs : List TypedField). IsAppended text (all_lines (field_lines set b (fields_within set groups) (path_under set rest)) fs) text) (sym (none_left (fields_of set b) i past)) (nothing text))
+  pub left_outside : (groups b i : ℕ) (rest : List (ℕ × ℕ)) → length (fields_of set b) ≤ i → lines_left set groups ((b, i) ∷ rest) ≡ lines_left set (suc groups) rest
+  left_outside groups b i rest past =
+      left_frame groups b i rest
+      ∙ ap (λ (fs : List TypedField). all_lines (field_lines b (lines_within set groups) (path_under set rest)) fs ++ lines_left set (suc groups) rest) (none_left (fields_of set b) i past)
+
+-- ---- what was said ----
+
+-- once the lines that are left are appended, and the enums that they name added, all lines and enums stand behind the start
+pub record IsListed (set : Schemas) (start first : List ℕ) (whole left : List Line) (text enums : List ℕ) : Type 0 where
+  pub said : (new : List ℕ) → IsAppended text (lines_text set left) new → IsAppended start (lines_text set whole) new
+  pub added : enums ++ all_enums left ≡ first ++ all_enums whole
+
+pub listed_first : (set : Schemas) (start first : List ℕ) (whole : List Line) → IsListed set start first whole whole start first
+listed_first set start first whole = record { said = λ new put. put; added = refl }
+
+module _ (set : Schemas) (start first : List ℕ) (whole : List Line) where
+  pub listed_more : (l : Line) (left : List Line) (text text' enums enums' : List ℕ) → IsAppended text (line_text set l) text' → enums' ≡ enums ++ line_enums l →
+      IsListed set start first whole (l ∷ left) text enums → IsListed set start first whole left text' enums'
+  listed_more l left text text' enums enums' put add before = record {
+    said = λ new more. before.said new (both (line_text set l) (lines_text set left) text text' new put more);
+    added = ap (λ (es : List ℕ). es ++ all_enums left) add ∙ (append_assoc enums (line_enums l) (all_enums left) ∙ before.added);
+  }
+
+  -- a line that names no enum
+  pub listed_plain : (l : Line) (left : List Line) (text text' enums : List ℕ) → IsAppended text (line_text set l) text' → line_enums l ≡ [] →
+      IsListed set start first whole (l ∷ left) text enums → IsListed set start first whole left text' enums
+  listed_plain l left text text' enums put none before =
+      listed_more l left text text' enums enums put (sym (append-nil enums) ∙ ap (λ (es : List ℕ). enums ++ es) (sym none)) before
+
+  pub listed_left : (left left' : List Line) (text enums : List ℕ) → left ≡ left' → IsListed set start first whole left text enums → IsListed set start first whole left' text enums
+  listed_left left left' text enums same before = subst (λ (ls : List Line). IsListed set start first whole ls text enums) same before
+
+  pub all_said : (left : List Line) (text enums : List ℕ) → left ≡ [] → IsListed set start first whole left text enums → IsAppended start (lines_text set whole) text
+  all_said left text enums none before = (listed_left left [] text enums none before).said text (nothing text)
+
+  pub all_added : (left : List Line) (text enums : List ℕ) → left ≡ [] → IsListed set start first whole left text enums → enums ≡ first ++ all_enums whole
+  all_added left text enums none before = sym (append-nil enums) ∙ (listed_left left [] text enums none before).added

@@ -1,19 +1,20 @@
-//! The fields of a struct.
+//! The fields of a struct, and the enums that they name.
 ghost use Rattle.std.specs.Prelude.{ℕ, List, [], ◌≡◌, ◌≢◌, ◌++◌, Err, IfErr, IfOk, OnOk, decimal, false, string_bytes};
 ghost use Rattle.capnp_device.specs.declared.error.ErrorKind.TheVariants.{OutOfMemory};
 ghost use Rattle.capnp_schema.specs.Entries.{lists_seen};
 ghost use Rattle.capnp_schema.specs.FieldLists.{field_schema, typed_of};
 ghost use Rattle.capnp_schema.specs.Plan.{plan_of};
-ghost use Rattle.capnp_schema.specs.Schema.{default_of, enum_at, kind_default, node_of, seen_kind, seen_value};
+ghost use Rattle.capnp_schema.specs.Schema.{default_of, kind_default, node_of, seen_kind, seen_value};
 ghost use Rattle.capnp_schema.specs.StructHandles.{IsStruct, number_of, set_of};
 ghost use Rattle.capnp_schema.specs.Types.{seen_base, seen_type};
 ghost use Rattle.capnp_base.specs.Types.{base_of, list_depth};
 ghost use Rattle.capnp_records.specs.Text.{after, said_text};
 ghost use Rattle.capnp_dynamic_readers.specs.Pieces.{IsAppended};
 ghost use Rattle.capnp_dynamic_readers.specs.Shown.{printed_text};
-ghost use Rattle.capnp_structs.specs.Fields.{default_said, default_text, fields_text, fields_within, group_line, inside, line_end, place_text, slot_head, slot_line, type_text, said_words};
+ghost use Rattle.capnp_structs.specs.Fields.{all_enums, default_said, default_text, enum_lines, fields_text, group_line, inside, line_end, lines_text, lines_within, place_text, slot_head, slot_line, type_text, said_words, union_line};
 ghost use Rattle.capnp_structs.specs.Steps.Fields.{repeated_words};
 
+use crate::enums::{add_enum, put_enum, put_enum_lines, put_enumerant};
 use capnp_base::introspect::{Type, TypeVariant};
 use capnp_base::text;
 use capnp_dynamic_readers::dynamic_value::Reader as Value;
@@ -32,21 +33,6 @@ fn put_width(out: &mut String, name: &str, bits: u8) -> Result<()>
     ensures memory { IfErr result (λ e. e.kind ≡ OutOfMemory) }
 {
     Ok(write!(out, "{name}{bits}")?)
-}
-
-/// Appends the name of an enum.
-fn put_enum(out: &mut String, schemas: &SchemaSet, number: u32) -> Result<()>
-    ensures put { OnOk result (string_bytes out.new
-        ≡ string_bytes out.old ++ (enum_at (lists_seen schemas.now) number).display_name) }
-    ensures memory { IfErr result (λ e. e.kind ≡ OutOfMemory) }
-{
-    Ok(out.push_str(
-        schemas
-            .enum_schema(number)
-            .get_proto()
-            .display_name
-            .as_str(),
-    )?)
 }
 
 /// Appends the name of a brand's struct.
@@ -164,10 +150,10 @@ fn put_words(out: &mut String, words: &[u8]) -> Result<()>
     Ok(write!(out, ", default words: {count}")?)
 }
 
-/// Appends a default.
-fn put_default(out: &mut String, default: &ValueRecord) -> Result<()>
-    ensures put { OnOk result (IsAppended (string_bytes out.old) (default_text (seen_value default.now))
-        (string_bytes out.new)) }
+/// Appends a default of a type.
+fn put_default(out: &mut String, schemas: &SchemaSet, of: Type, default: &ValueRecord) -> Result<()>
+    ensures put { OnOk result (IsAppended (string_bytes out.old)
+        (default_text (lists_seen schemas.now) (seen_type of) (seen_value default.now)) (string_bytes out.new)) }
     ensures memory { IfErr result (λ e. e.kind ≡ OutOfMemory) }
 {
     match default {
@@ -181,7 +167,7 @@ fn put_default(out: &mut String, default: &ValueRecord) -> Result<()>
         ValueRecord::UInt16(x) => put_default_value(out, Value::UInt16(*x)),
         ValueRecord::UInt32(x) => put_default_value(out, Value::UInt32(*x)),
         ValueRecord::UInt64(x) => put_default_value(out, Value::UInt64(*x)),
-        ValueRecord::Enum(number) => Ok(write!(out, ", default {number}")?),
+        ValueRecord::Enum(number) => put_enumerant(out, schemas, of, *number),
         ValueRecord::Text(bytes) => put_default_value(out, Value::Text(text::Reader(bytes))),
         ValueRecord::Data(bytes) => put_default_value(out, Value::Data(bytes)),
         ValueRecord::Struct(words) => put_words(out, words),
@@ -191,13 +177,14 @@ fn put_default(out: &mut String, default: &ValueRecord) -> Result<()>
 }
 
 /// Appends the default of a slot, and nothing of a group.
-fn put_kind(out: &mut String, kind: &FieldKind) -> Result<()>
-    ensures put { OnOk result (IsAppended (string_bytes out.old) (default_text (kind_default (seen_kind kind.now)))
+fn put_kind(out: &mut String, schemas: &SchemaSet, of: Type, kind: &FieldKind) -> Result<()>
+    ensures put { OnOk result (IsAppended (string_bytes out.old)
+        (default_text (lists_seen schemas.now) (seen_type of) (kind_default (seen_kind kind.now)))
         (string_bytes out.new)) }
     ensures memory { IfErr result (λ e. e.kind ≡ OutOfMemory) }
 {
     match kind {
-        FieldKind::Slot { offset: _, default } => put_default(out, default),
+        FieldKind::Slot { offset: _, default } => put_default(out, schemas, of, default),
         FieldKind::Group { node: _ } => Ok(()),
     }
 }
@@ -229,7 +216,8 @@ fn put_slot(out: &mut String, prefix: &str, field: Field<'_>) -> Result<()>
     ensures memory { IfErr result (λ e. e.kind ≡ OutOfMemory) }
 {
     put_head(out, prefix, field)?;
-    put_kind(out, &field.get_proto().kind)?;
+    let schemas = field.get_containing_struct().get_set();
+    put_kind(out, schemas, field.get_type(), &field.get_proto().kind)?;
     put_end(out, field.plan().member)
 }
 
@@ -244,6 +232,22 @@ fn put_group(out: &mut String, prefix: &str, field: Field<'_>) -> Result<()>
     out.push_str(field.get_proto().name.as_str())?;
     out.push_str(": group")?;
     put_end(out, field.plan().member)
+}
+
+/// Appends the line of a union, where a struct or group has one.
+fn put_union(out: &mut String, prefix: &str, schema: StructSchema<'_>) -> Result<()>
+    ensures put { OnOk result (string_bytes out.new
+        ≡ string_bytes out.old ++ union_line (set_of schema.entry) prefix.now (number_of schema.entry)) }
+    ensures memory { IfErr result (λ e. e.kind ≡ OutOfMemory) }
+{
+    let Some(bit) = schema.get_discriminant() else {
+        return Ok(());
+    };
+    let members = schema.get_proto().body.discriminant_count;
+    Ok(write!(
+        out,
+        "{prefix}union: {members} members, tag at data bit {bit}\n"
+    )?)
 }
 
 /// Lengthens what stands before the names of fields, for those of a field's group.
@@ -266,17 +270,26 @@ fn leave_path(path: &mut String, field: Field<'_>)
     path.truncate(path.len() - name.len() - 1);
 }
 
-/// Appends the lines of all fields of a struct or group, through at most so many groups. A group in it is gone into
-/// where it stands, and left by its own field.
-fn put_fields(out: &mut String, schema: StructSchema<'_>, groups: usize) -> Result<()>
+/// Appends the lines of the unions and fields of a struct or group, through at most so many groups, and adds the enums
+/// that the fields name. A group in it is gone into where it stands, and left by its own field.
+fn put_fields(
+    out: &mut String,
+    enums: &mut Vec<u32>,
+    schema: StructSchema<'_>,
+    groups: usize,
+) -> Result<()>
     ensures put { OnOk result (IsAppended (string_bytes out.old)
-        (fields_within (set_of schema.entry) groups [] (number_of schema.entry)) (string_bytes out.new)) }
+        (lines_text (set_of schema.entry) (lines_within (set_of schema.entry) groups [] (number_of schema.entry)))
+        (string_bytes out.new)) }
+    ensures added { OnOk result (enums.new.items ≡ enums.old.items
+        ++ all_enums (lines_within (set_of schema.entry) groups [] (number_of schema.entry))) }
     ensures memory { IfErr result (λ e. e.kind ≡ OutOfMemory) }
 {
     if groups == 0 {
         return Ok(());
     }
     let mut path = String::new(*out.allocator());
+    put_union(out, path.as_str(), schema)?;
     let mut walk = GroupWalk::start(schema);
     let mut left = groups - 1;
     loop {
@@ -294,6 +307,7 @@ fn put_fields(out: &mut String, schema: StructSchema<'_>, groups: usize) -> Resu
         };
         let Some(group) = field.get_group() else {
             put_slot(out, path.as_str(), field)?;
+            add_enum(enums, field.get_type())?;
             walk = walk.advance();
             continue;
         };
@@ -303,14 +317,17 @@ fn put_fields(out: &mut String, schema: StructSchema<'_>, groups: usize) -> Resu
             continue;
         }
         enter_path(&mut path, field)?;
+        put_union(out, path.as_str(), group)?;
         walk = walk.enter(group);
         left -= 1;
     }
 }
 
 /// The fields of a struct, by index, one a line: its name and type, the first bit of its slot in the data section or
-/// the number of its pointer, its default, and of a union's member its discriminant value. Behind a group's line stand
-/// those of its fields, each by its path. The schema is one of an accepted set. Refused with `OutOfMemory` alone.
+/// the number of its pointer, its default, and of a union's member its discriminant value. Before the fields of a
+/// struct or group with a union stands how many members it has, and the first bit of the discriminant. Behind a group's
+/// line stand those of its union and its fields, each by its path. Behind all fields stands each enum that one of them
+/// names, or its lists, with its enumerants. The schema is one of an accepted set. Refused with `OutOfMemory` alone.
 pub fn get_fields(alloc: Global, schema: StructSchema<'_>) -> Result<String>
     requires { IsStruct schema }
     ensures text { IfOk result (λ text. IsAppended [] (fields_text (set_of schema.entry) (number_of schema.entry))
@@ -318,6 +335,13 @@ pub fn get_fields(alloc: Global, schema: StructSchema<'_>) -> Result<String>
     ensures memory { IfErr result (λ e. e.kind ≡ OutOfMemory) }
 {
     let mut lines = String::new(alloc);
-    put_fields(&mut lines, schema, schema.get_set().brands().len())?;
+    let mut enums = Vec::new(alloc);
+    put_fields(
+        &mut lines,
+        &mut enums,
+        schema,
+        schema.get_set().brands().len(),
+    )?;
+    put_enum_lines(&mut lines, schema.get_set(), enums.as_slice())?;
     Ok(lines)
 }

@@ -1,5 +1,6 @@
 //! A set of schemas as text: its structs by their names, and the fields of a struct.
 #![tactic(auto)]
 
+mod enums;
 pub mod fields;
 pub mod names;

@@ -453,6 +453,7 @@ pub(crate) const LISTED: &str = "\
 :Mixed
 <
 =0
+\"union: 2 members, tag at data bit 16
 \"a: UInt16, data bit 0, default 0
 \"x: Void, member 0
 \"y: UInt8, data bit 32, default 0, member 1
@@ -475,10 +476,12 @@ pub(crate) const LISTED: &str = "\
 :Shapes
 <
 =0
+\"union: 3 members, tag at data bit 16
 \"id: UInt16, data bit 0, default 0
 \"circle: group, member 0
 \"circle.r: UInt32, data bit 32, default 0
 \"tag: group, member 1
+\"tag.union: 2 members, tag at data bit 48
 \"tag.n: UInt16, data bit 32, default 0
 \"tag.u0: Void, member 0
 \"tag.u1: UInt8, data bit 64, default 0, member 1
@@ -491,6 +494,7 @@ pub(crate) const LISTED: &str = "\
 :Loop
 <
 =0
+\"union: 2 members, tag at data bit 0
 \"end: Void, member 0
 \"again: Loop, pointer 0, default words: 3, member 1
 
@@ -511,7 +515,8 @@ pub(crate) const LISTED: &str = "\
 =0
 \"id: UInt64, data bit 0, default 0
 \"displayName: Text, pointer 0, default \"\"
-\"size: ElementSize, data bit 64, default 0
+\"size: ElementSize, data bit 64, default empty
+\"enum ElementSize: empty, bit, byte, twoBytes, fourBytes, eightBytes, pointer, inlineComposite
 ";
 
 /// What the program tells of itself.

@@ -7,7 +7,7 @@ use Rattle.capnp_call.specs.Refusals.{any_refused}
 use Rattle.capnp_call.specs.Seen.{call_seen, path_seen}
 use Rattle.capnp_call.specs.declared.calls.Call.{Call}
 use Rattle.capnp_call.specs.declared.calls.Reply.{Reply}
-use Rattle.capnp_check.specs.Refusals.{refusal as text_refusal}
+use Rattle.capnp_check.specs.Refusals.{text_refusal}
 use Rattle.capnp_dynamic_readers.specs.Pieces.{IsAppended}
 use Rattle.capnp_patch.specs.Gets.{got_text}
 use Rattle.capnp_patch.specs.Lines.{AreTold}

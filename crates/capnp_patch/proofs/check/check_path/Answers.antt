@@ -1,7 +1,7 @@
 -- What the check of the part at the path says, or the refusal of its root or of a step.
 use Rattle.std.proofs.Common.{Bool, ap, ◌≡◌, ◌∙◌}
 use Rattle.std.proofs.lemmas.Result.{err_from_is_err_and}
-use Rattle.capnp_check.specs.Refusals.{refusal as text_refusal}
+use Rattle.capnp_check.specs.Refusals.{text_refusal}
 use Rattle.capnp_wire.specs.Message.{received_tree}
 use Rattle.capnp_wire.specs.Standing.{levels_of, tree_of}
 use Rattle.capnp_schema.specs.StructHandles.{number_of, set_of}

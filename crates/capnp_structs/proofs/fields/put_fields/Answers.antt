@@ -1,38 +1,52 @@
 -- Each step of the walk says a field, or goes into a group or out of one.
-use Rattle.std.proofs.Common.{Some, ◌≡◌, ◌∙◌, [], ap, arith, refl, subst, sym, string_bytes}
+use Rattle.std.proofs.Common.{Some, List, ◌≡◌, ◌++◌, ◌∙◌, [], ap, append-nil, arith, refl, subst, sym, string_bytes}
 use Rattle.capnp_schema.specs.GroupFields.{group_field_of}
 use Rattle.capnp_schema.specs.GroupWalks.{above, walk_set}
 use Rattle.capnp_schema.specs.StructHandles.{number_of, set_of}
-use Rattle.capnp_records.specs.Text.{Out}
 use Rattle.capnp_dynamic_readers.specs.Facts.Appended.{nothing}
 use Rattle.capnp_dynamic_readers.specs.Pieces.{IsAppended}
-use Rattle.capnp_structs.specs.Fields.{fields_within}
+use Rattle.capnp_structs.specs.Fields.{Line, all_enums, lines_text}
 use Rattle.capnp_structs.proofs.Lines.{within_none}
-use Rattle.capnp_structs.proofs.Walked.{path_under}
-use Rattle.capnp_structs.proofs.WalkSteps.{all_said, at_place, fewer_inside, fewer_outside, fewer_past, goes_inside, goes_outside, none_above, path_advance, path_enter, path_leave, path_start, said_group, said_slot, starts}
+use Rattle.capnp_structs.proofs.Walked.{all_added, all_said, path_under}
+use Rattle.capnp_structs.proofs.WalkSteps.{at_place, fewer_inside, fewer_outside, fewer_past, goes_inside, goes_outside, none_above, none_left_of, path_advance, path_enter, path_leave, path_start, said_group, said_slot, starts}
 use Rattle.capnp_structs.proofs.fields.put_fields.Goals as goal
 
 pub returns-then-groups-eq0-clause-put : goal.returns-then-groups-eq0-clause-put
 returns-then-groups-eq0-clause-put c =
-    subst (λ (x : Out). IsAppended (string_bytes c.args.out.now) x (string_bytes c.args.out.now))
+    subst (λ (ls : List Line). IsAppended (string_bytes c.args.out.now) (lines_text (set_of c.args.schema) ls) (string_bytes c.args.out.now))
     (sym (within_none (set_of c.args.schema) c.args.groups [] (number_of c.args.schema) c.if-groups-eq0.true)) (nothing (string_bytes c.args.out.now))
+
+pub returns-then-groups-eq0-clause-added : goal.returns-then-groups-eq0-clause-added
+returns-then-groups-eq0-clause-added c =
+    sym (append-nil c.args.enums.now.items)
+    ∙ ap (λ (ls : List Line). c.args.enums.now.items ++ all_enums ls) (sym (within_none (set_of c.args.schema) c.args.groups [] (number_of c.args.schema) c.if-groups-eq0.true))
 
 pub loop-field-init : goal.loop-field-init
 loop-field-init c = record {
   set = ap set_of c.start-walk.ensures.schema;
-  waiting = starts (set_of c.args.schema) (string_bytes c.args.out.now) c.args.groups _ (number_of c.args.schema) c.start-walk.result c.if-groups-eq0.false refl c.start-walk.ensures.frames;
+  listed = starts (set_of c.args.schema) (string_bytes c.args.out.now) c.args.enums.now.items c.args.groups _ (number_of c.args.schema) c.start-walk.result _ _ c.if-groups-eq0.false refl c.start-walk.ensures.frames
+      (c.as_str.ensures.value ∙ c.new-path.ensures.bytes) c.in_ok-put_union.ensures.put;
   path = path_start (set_of c.args.schema) c.start-walk.result (number_of c.args.schema) _ c.start-walk.ensures.frames c.new-path.ensures.bytes;
   groups = omega (arith, c.start-walk.ensures.depth, c.if-groups-eq0.false);
 }
 
 pub returns-in_default-get_group_field-clause-put : goal.returns-in_default-get_group_field-clause-put
 returns-in_default-get_group_field-clause-put c =
-    all_said (set_of c.args.schema) (string_bytes c.args.out.now) (fields_within (set_of c.args.schema) c.args.groups [] (number_of c.args.schema)) c.loop-field.left c.loop-field.walk _ c.loop-field.invariant.set c.in_default.ensures
-    (none_above c.loop-field.walk c.get_schema.result c.get_schema.ensures c.in_default-get_group_field.ensures.place) c.loop-field.invariant.waiting
+    all_said (set_of c.args.schema) _ _ _ _ _ c.loop-field.enums.items (none_left_of (set_of c.args.schema) [] [] [] c.loop-field.left c.loop-field.walk c.loop-field.invariant.set c.in_default.ensures
+    (none_above c.loop-field.walk c.get_schema.result c.get_schema.ensures c.in_default-get_group_field.ensures.place)) c.loop-field.invariant.listed
+
+pub returns-in_default-get_group_field-clause-added : goal.returns-in_default-get_group_field-clause-added
+returns-in_default-get_group_field-clause-added c =
+    all_added (set_of c.args.schema) (string_bytes c.args.out.now) _ _ _ _ _ (none_left_of (set_of c.args.schema) [] [] [] c.loop-field.left c.loop-field.walk c.loop-field.invariant.set c.in_default.ensures
+    (none_above c.loop-field.walk c.get_schema.result c.get_schema.ensures c.in_default-get_group_field.ensures.place)) c.loop-field.invariant.listed
 
 pub returns-in_default-leave-clause-put : goal.returns-in_default-leave-clause-put
 returns-in_default-leave-clause-put c =
-    all_said (set_of c.args.schema) (string_bytes c.args.out.now) (fields_within (set_of c.args.schema) c.args.groups [] (number_of c.args.schema)) c.loop-field.left c.loop-field.walk _ c.loop-field.invariant.set c.in_default.ensures c.in_default-leave.ensures.frames c.loop-field.invariant.waiting
+    all_said (set_of c.args.schema) _ _ _ _ _ c.loop-field.enums.items (none_left_of (set_of c.args.schema) [] [] [] c.loop-field.left c.loop-field.walk c.loop-field.invariant.set c.in_default.ensures c.in_default-leave.ensures.frames) c.loop-field.invariant.listed
+
+pub returns-in_default-leave-clause-added : goal.returns-in_default-leave-clause-added
+returns-in_default-leave-clause-added c =
+    all_added (set_of c.args.schema) (string_bytes c.args.out.now) _ _ _ _ _ (none_left_of (set_of c.args.schema) [] [] [] c.loop-field.left c.loop-field.walk c.loop-field.invariant.set c.in_default.ensures c.in_default-leave.ensures.frames) c.loop-field.invariant.listed
 
 pub leave_path-requires : goal.leave_path-requires
 leave_path-requires c = (
@@ -47,7 +61,7 @@ loop-field-smaller-in_default c = fewer_outside (set_of c.args.schema) c.loop-fi
 pub loop-field-preserved-in_default : goal.loop-field-preserved-in_default
 loop-field-preserved-in_default c = record {
   set = c.in-Some-leave.ensures.set ∙ c.loop-field.invariant.set;
-  waiting = goes_outside (set_of c.args.schema) _ _ c.loop-field.left c.loop-field.walk c.in-Some-leave.outer _ c.loop-field.invariant.set c.in_default.ensures c.in-Some-leave.ensures.frames c.loop-field.invariant.waiting;
+  listed = goes_outside (set_of c.args.schema) _ _ _ c.loop-field.left c.loop-field.walk c.in-Some-leave.outer _ _ c.loop-field.invariant.set c.in_default.ensures c.in-Some-leave.ensures.frames c.loop-field.invariant.listed;
   path = c.leave_path.ensures (path_under (set_of c.args.schema) (above c.in-Some-leave.outer))
       (path_leave (set_of c.args.schema) c.loop-field.walk c.in-Some-leave.outer c.get_schema.result c.in-Some-get_group_field.own _ c.get_schema.ensures c.loop-field.invariant.set c.in-Some-leave.ensures.depth c.in-Some-leave.ensures.frames
       c.in-Some-get_group_field.ensures.field c.in-Some-get_group_field.ensures.place c.loop-field.invariant.path);
@@ -63,8 +77,8 @@ loop-field-smaller-in_default-get_group c = fewer_past (set_of c.args.schema) c.
 pub loop-field-preserved-in_default-get_group : goal.loop-field-preserved-in_default-get_group
 loop-field-preserved-in_default-get_group c = record {
   set = ap set_of c.advance-walk.ensures.schema ∙ c.loop-field.invariant.set;
-  waiting = said_slot (set_of c.args.schema) _ _ c.loop-field.left c.loop-field.walk c.advance-walk.result c.in-Some.field _ _ _ c.loop-field.invariant.set c.in-Some.ensures c.in_default-get_group.ensures.number
-      (c.as_str.ensures.value ∙ c.loop-field.invariant.path) c.in_ok-put_slot.ensures.put c.advance-walk.ensures.frames c.loop-field.invariant.waiting;
+  listed = said_slot (set_of c.args.schema) _ _ _ c.loop-field.left c.loop-field.walk c.advance-walk.result c.in-Some.field _ _ _ _ _ _ c.loop-field.invariant.set c.in-Some.ensures c.in_default-get_group.ensures.number
+      (c.as_str-in_default-get_group.ensures.value ∙ c.loop-field.invariant.path) c.in_ok-put_slot.ensures.put c.get_type.ensures.is c.in_ok-add_enum.ensures.added c.advance-walk.ensures.frames c.loop-field.invariant.listed;
   path = path_advance (set_of c.args.schema) c.loop-field.walk c.advance-walk.result _ c.advance-walk.ensures.frames c.loop-field.invariant.path;
   groups = omega (arith, c.loop-field.invariant.groups, c.advance-walk.ensures.depth);
 }
@@ -79,8 +93,8 @@ loop-field-smaller-then-left-eq0 c =
 pub loop-field-preserved-then-left-eq0 : goal.loop-field-preserved-then-left-eq0
 loop-field-preserved-then-left-eq0 c = record {
   set = ap set_of c.advance-walk-then-left-eq0.ensures.schema ∙ c.loop-field.invariant.set;
-  waiting = said_group (set_of c.args.schema) _ _ c.loop-field.left c.loop-field.walk c.advance-walk-then-left-eq0.result c.in-Some.field (number_of c.in-Some-get_group.group) _ _ _ c.if-left-eq0.true c.loop-field.invariant.set c.in-Some.ensures
-      c.in-Some-get_group.ensures.number (c.as_str-in-loop-field.ensures.value ∙ c.loop-field.invariant.path) c.in_ok-put_group.ensures.put c.advance-walk-then-left-eq0.ensures.frames c.loop-field.invariant.waiting;
+  listed = said_group (set_of c.args.schema) _ _ _ c.loop-field.left c.loop-field.walk c.advance-walk-then-left-eq0.result c.in-Some.field (number_of c.in-Some-get_group.group) _ _ _ _ c.if-left-eq0.true c.loop-field.invariant.set c.in-Some.ensures
+      c.in-Some-get_group.ensures.number (c.as_str-in-loop-field.ensures.value ∙ c.loop-field.invariant.path) c.in_ok-put_group.ensures.put c.advance-walk-then-left-eq0.ensures.frames c.loop-field.invariant.listed;
   path = path_advance (set_of c.args.schema) c.loop-field.walk c.advance-walk-then-left-eq0.result _ c.advance-walk-then-left-eq0.ensures.frames c.loop-field.invariant.path;
   groups = omega (arith, c.loop-field.invariant.groups, c.advance-walk-then-left-eq0.ensures.depth);
 }
@@ -100,8 +114,9 @@ loop-field-smaller c =
 pub loop-field-preserved : goal.loop-field-preserved
 loop-field-preserved c = record {
   set = ap set_of c.enter-walk.ensures.schema ∙ (c.in-Some-get_group.ensures.down.set ∙ (ap set_of c.in-Some.ensures.schema ∙ c.loop-field.invariant.set));
-  waiting = goes_inside (set_of c.args.schema) _ _ c.loop-field.left c.loop-field.walk c.enter-walk.result c.in-Some.field (number_of c.in-Some-get_group.group) _ _ _ c.if-left-eq0.false c.loop-field.invariant.set c.in-Some.ensures
-      c.in-Some-get_group.ensures.number (c.as_str-in-loop-field.ensures.value ∙ c.loop-field.invariant.path) c.in_ok-put_group.ensures.put c.enter-walk.ensures.frames c.loop-field.invariant.waiting;
+  listed = goes_inside (set_of c.args.schema) _ _ _ c.loop-field.left c.loop-field.walk c.enter-walk.result c.in-Some.field c.in-Some-get_group.group _ (string_bytes c.loop-field.path) _ _ _ _ _ c.if-left-eq0.false c.loop-field.invariant.set c.in-Some.ensures
+      c.in-Some-get_group.ensures.number (c.in-Some-get_group.ensures.down.set ∙ (ap set_of c.in-Some.ensures.schema ∙ c.loop-field.invariant.set)) (c.as_str-in-loop-field.ensures.value ∙ c.loop-field.invariant.path) c.loop-field.invariant.path
+      c.in_ok-put_group.ensures.put (c.as_str-in-loop-field-2.ensures.value ∙ c.in_ok-enter_path.ensures.path) c.in_ok-put_union-2.ensures.put c.enter-walk.ensures.frames c.loop-field.invariant.listed;
   path = path_enter (set_of c.args.schema) c.loop-field.walk c.enter-walk.result c.in-Some.field (number_of c.in-Some-get_group.group) _ _ c.loop-field.invariant.set c.in-Some.ensures c.enter-walk.ensures.frames c.loop-field.invariant.path c.in_ok-enter_path.ensures.path;
   groups = omega (arith, c.loop-field.invariant.groups, c.enter-walk.ensures.depth, c.if-left-eq0.false);
 }

@@ -1,5 +1,7 @@
 use Rattle.std.proofs.Common.{string_bytes, subst, sym}
+use Rattle.capnp_schema.specs.Entries.{lists_seen}
 use Rattle.capnp_schema.specs.Schema.{kind_default, seen_kind}
+use Rattle.capnp_schema.specs.Types.{seen_type}
 use Rattle.capnp_schema.specs.declared.record.FieldKind.{FieldKind}
 use Rattle.capnp_dynamic_readers.specs.Facts.Appended.{nothing}
 use Rattle.capnp_dynamic_readers.specs.Pieces.{IsAppended}
@@ -8,4 +10,4 @@ use Rattle.capnp_structs.proofs.fields.put_kind.Goals as goal
 
 pub returns-in-Group-clause-put : goal.returns-in-Group-clause-put
 returns-in-Group-clause-put c =
-    subst (λ (z : FieldKind). IsAppended (string_bytes c.args.out.now) (default_text (kind_default (seen_kind z))) (string_bytes c.args.out.now)) (sym c.in-Group.is) (nothing (string_bytes c.args.out.now))
+    subst (λ (z : FieldKind). IsAppended (string_bytes c.args.out.now) (default_text (lists_seen c.args.schemas.now) (seen_type c.args.of) (kind_default (seen_kind z))) (string_bytes c.args.out.now)) (sym c.in-Group.is) (nothing (string_bytes c.args.out.now))
