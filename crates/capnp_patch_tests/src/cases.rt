@@ -80,7 +80,12 @@ fn words_in(alloc: Global, text: &str) -> Result<Vec<&str>> {
 }
 
 /// Makes calls on a message or on an empty root.
-fn run_of(alloc: Global, schema: StructSchema<'_>, case: &Case<'_>, calls: &[Call<'_>]) -> Result<Run>
+fn run_of(
+    alloc: Global,
+    schema: StructSchema<'_>,
+    case: &Case<'_>,
+    calls: &[Call<'_>],
+) -> Result<Run>
     requires { IsStruct schema }
     ensures { IfOk result (λ run. IsMessage run.message) }
 {

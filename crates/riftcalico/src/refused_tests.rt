@@ -34,8 +34,14 @@ static USAGES: [(&str, &str); 7] = [
     ("show", "[--set FILE] NAME [--indent]"),
     ("get", "[--set FILE] NAME PATH [--indent]"),
     ("check", "[--set FILE] NAME [PATH]"),
-    ("patch", "[--set FILE] [--calls FILE] [--keep-going] NAME CALL.."),
-    ("new", "[--set FILE] [--calls FILE] [--keep-going] NAME CALL.."),
+    (
+        "patch",
+        "[--set FILE] [--calls FILE] [--keep-going] NAME CALL..",
+    ),
+    (
+        "new",
+        "[--set FILE] [--calls FILE] [--keep-going] NAME CALL..",
+    ),
     ("structs", "[--set FILE] [NAME]"),
     ("schemas", "[--strict]"),
 ];
@@ -258,7 +264,10 @@ fn an_empty_file_has_no_calls(rt: HostRuntime) -> Result<(), Fail> {
 
 /// Files of calls, one of which can't be read, and what is told.
 static CALL_FILES: [(&[u8], &str); 5] = [
-    (b"get a\n\n # get\nget a\n", "2:  # get: can't be read at 0\n"),
+    (
+        b"get a\n\n # get\nget a\n",
+        "2:  # get: can't be read at 0\n",
+    ),
     (
         b"get a\nset a 65536",
         "2: set a 65536: can't be read at 10\n",
@@ -314,7 +323,13 @@ fn each_write_fails(
     written: &[u8],
 ) -> Result<(), Fail> {
     for call in 0..written.len() {
-        let wanted = answered(alloc, unread, 1, &written[..call], b"refused: 13 WriteFailed (standard output)\n")?;
+        let wanted = answered(
+            alloc,
+            unread,
+            1,
+            &written[..call],
+            b"refused: 13 WriteFailed (standard output)\n",
+        )?;
         comes_to(rt, alloc, &Setting { call, ..*on }, &wanted)?;
     }
     Ok(())

@@ -87,10 +87,7 @@ pub fn get_calls_file<'a>(task: &Task<'a>) -> Option<&'a str>
 }
 
 /// The calls that words say, or the line of the first that says none. Refused with `OutOfMemory` alone.
-fn read_words<'a>(
-    alloc: Global,
-    words: Vec<&'a str>,
-) -> Result<Told<(Vec<CallWord>, Vec<&'a str>)>>
+fn read_words<'a>(alloc: Global, words: Vec<&'a str>) -> Result<Told<(Vec<CallWord>, Vec<&'a str>)>>
     ensures said { IfOk result (λ r. told_calls r ≡ words_plan (map (λ w. w.now) words.entry.items)) }
     ensures memory { IfErr result (λ e. e.kind ≡ OutOfMemory) }
 {

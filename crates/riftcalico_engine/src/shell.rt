@@ -77,12 +77,7 @@ fn put_answer<W: Sink>(answer: Answer, sink: &mut W) -> Ran
 }
 
 /// Answers to a message's bytes, and writes the answer.
-fn answer_input<W: Sink>(
-    alloc: Global,
-    job: &Job<'_, '_, '_>,
-    input: &[u8],
-    sink: &mut W,
-) -> Ran
+fn answer_input<W: Sink>(alloc: Global, job: &Job<'_, '_, '_>, input: &[u8], sink: &mut W) -> Ran
     requires { IsSoundJob job.now }
     ensures { IsAnsweredTo job.now input.now (sink.new ≡ sink.old) (W.written sink.old) (W.written sink.new)
         (W.failures sink.old) (W.failures sink.new) result }
