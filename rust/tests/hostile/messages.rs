@@ -6,7 +6,6 @@ use super::common::damage::damaged;
 use super::common::random::Random;
 use super::common::words;
 use super::reading::read_value;
-use riftcalico::device::{MemorySink, MemorySource};
 use riftcalico::dynamic_value::Reader as Value;
 use riftcalico::memory::{Global, String as Text};
 use riftcalico::message::read_root;
@@ -226,20 +225,11 @@ fn run_limited(bytes: &[u8], schema: StructSchema<'_>, calls: &[Call<'_>]) {
 }
 
 /// Makes calls on a copy of a message, which is written and printed: what is read back has that text. The call that
-/// patches from a source to a sink writes the same bytes, or nothing where a call was refused.
+/// patches bytes leaves the same message.
 fn run_whole(bytes: &[u8], schema: StructSchema<'_>, calls: &[Call<'_>]) -> Calls {
     let mut text = Text::new(Global);
     let whole = whole_copied(Global, root(bytes), schema, calls, &mut text, false);
-    let mut sink = MemorySink::new(Global, 100, None);
-    let patched = patch::patch(
-        Global,
-        schema,
-        calls,
-        &[],
-        false,
-        &mut MemorySource::new(bytes, 64, None),
-        &mut sink,
-    );
+    let patched = patch::run_bytes(Global, bytes, schema, calls);
     let Ok((replies, written)) = whole else {
         assert!(text.is_empty());
         return Calls::default();
@@ -250,10 +240,8 @@ fn run_whole(bytes: &[u8], schema: StructSchema<'_>, calls: &[Call<'_>]) -> Call
         Ok(text.as_str())
     );
     assert_eq!(replies.len(), calls.len());
-    let report = patched.expect("the same calls are not refused elsewhere");
-    assert!(report.replies == replies, "the same calls have the same replies");
-    let counts = Calls::of(&replies);
-    let expected: &[u8] = if counts.refused > 0 { &[] } else { &written };
-    assert_eq!(sink.as_slice(), expected);
-    counts
+    let left = patched.expect("the same calls are not refused elsewhere");
+    assert!(left.replies == replies, "the same calls have the same replies");
+    assert_eq!(left.message.write_message(), Ok(written));
+    Calls::of(&replies)
 }
