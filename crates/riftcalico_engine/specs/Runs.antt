@@ -72,7 +72,7 @@ module _ {O F : Type 0} (opens : Opens O F) (holds : F → Option (List ℕ)) (f
   -- the words can be read; where one can't be, no set was opened
   abbrev pub IsWordsRun : Task → (calls : List ℕ) → Ran → Type 0
   IsWordsRun t calls r =
-      (IsFault r (λ f. f.error.kind ≡ OutOfMemory) × (new ≡ old) × untouched × unwritten)
+      (IsFault r (λ f. (f.blamed ≡ blamed.Calls) × (f.error.kind ≡ OutOfMemory)) × (new ≡ old) × untouched × unwritten)
       ⊎ ((IsUnreadable r (λ line. task_plan t calls ≡ Err line) × (new ≡ old) × untouched × unwritten)
       ⊎ ((p : Plan) × (task_plan t calls ≡ Ok p) × IsPlanRun (task_set_file t) p r))
 
