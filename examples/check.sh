@@ -307,22 +307,22 @@ expect 'a number past its type' $? 2 '' "1: set a 65536: can't be read at 10"
 ./riftcalico get Mixed a..b < examples/mixed.bin > "$scratch/out" 2> "$scratch/err"
 expect 'a path with an empty name' $? 2 '' "1: a..b: can't be read at 2"
 ./riftcalico show Mixed a < examples/mixed.bin > "$scratch/out" 2> "$scratch/err"
-expect 'another form' $? 2 '' 'usage: riftcalico show [--set FILE] NAME [--indent]'
+expect 'another form' $? 2 '' 'usage: riftcalico show [--set FILE] [--packed] NAME [--indent]'
 ./riftcalico shows Mixed < examples/mixed.bin > "$scratch/out" 2> "$scratch/err"
 expect 'another verb' $? 2 '' 'unknown verb: shows
-usage: riftcalico show [--set FILE] NAME [--indent]
-       riftcalico get [--set FILE] NAME PATH [--indent]
-       riftcalico check [--set FILE] NAME [PATH]
-       riftcalico patch [--set FILE] [--calls FILE] [--keep-going] NAME CALL..
-       riftcalico new [--set FILE] [--calls FILE] [--keep-going] NAME CALL..
+usage: riftcalico show [--set FILE] [--packed] NAME [--indent]
+       riftcalico get [--set FILE] [--packed] NAME PATH [--indent]
+       riftcalico check [--set FILE] [--packed] NAME [PATH]
+       riftcalico patch [--set FILE] [--calls FILE] [--keep-going] [--packed] NAME CALL..
+       riftcalico new [--set FILE] [--calls FILE] [--keep-going] [--packed] NAME CALL..
        riftcalico structs [--set FILE] [NAME]
        riftcalico schemas [--strict]'
 ./riftcalico get Flat a < /dev/null > "$scratch/out" 2> "$scratch/err"
 expect 'a path of no bytes' $? 1 '' 'refused: 2 Truncated (standard input)'
 ./riftcalico get Shapes circle.r < examples/shapes_tag.bin > "$scratch/out" 2> "$scratch/err"
-expect "a member that isn't active" $? 1 '' 'refused: 30 InactiveMember (standard input)'
+expect "a member that isn't active" $? 1 '' 'refused: 30 InactiveMember (standard input) at circle'
 ./riftcalico get Shape . < examples/shapes_tag.bin > "$scratch/out" 2> "$scratch/err"
-expect 'no struct of the name' $? 1 '' 'refused: 64 NameNotFound (Shape); see riftcalico structs'
+expect 'no struct of the name' $? 1 '' 'refused: 64 NameNotFound (Shape); near: Shapes; see riftcalico structs'
 ./riftcalico new Flat 'set a 5' > /dev/full 2> "$scratch/err"
 expect 'a full output' $? 1 '' 'refused: 13 WriteFailed (standard output)'
 
@@ -330,7 +330,7 @@ expect 'a full output' $? 1 '' 'refused: 13 WriteFailed (standard output)'
 ./riftcalico check --set "$scratch/addressbook.set" AddressBook < examples/addressbook.bin > "$scratch/out" 2> "$scratch/err"
 expect 'check' $? 0 '' ''
 ./riftcalico check Shapes circle < examples/shapes_tag.bin > "$scratch/out" 2> "$scratch/err"
-expect 'check, of a member that is not active' $? 1 '' 'refused: 30 InactiveMember (standard input)'
+expect 'check, of a member that is not active' $? 1 '' 'refused: 30 InactiveMember (standard input) at circle'
 
 # verbs that do what the other programs do
 ./riftcalico show --indent Mixed < examples/mixed_segments.bin > "$scratch/out" 2> "$scratch/err"

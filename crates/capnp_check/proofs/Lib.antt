@@ -3,6 +3,7 @@ pub mod ItemsShown
 pub mod Layouts
 pub mod OpenValues
 pub mod PartsShown
+pub mod PlaceWords
 pub mod PlacesFound
 pub mod Refused
 pub mod Roots

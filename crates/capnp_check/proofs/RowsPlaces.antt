@@ -1,5 +1,5 @@
 -- Worked rows of places: the steps that lead to what is refused. They judge the definitions.
-use Rattle.std.proofs.Common.{ℕ, zero, suc, ◌<◌, ◌≡◌, refl, List, [], ◌∷◌, true, pos, None, sym, arith}
+use Rattle.std.proofs.Common.{ℕ, zero, suc, ◌<◌, ◌≡◌, refl, List, [], ◌∷◌, true, pos, None, sym, arith, codes}
 use Rattle.std.proofs.lemmas.Bool.{true≢false}
 use Rattle.std.specs.Str.{is_utf8, chars}
 use Rattle.std.specs.Fmt.{debug_escape, digits}
@@ -12,7 +12,7 @@ use Rattle.capnp_schema.specs.Schema.{field_at}
 use Rattle.capnp_schema.specs.Types.{ListType, StructType}
 use Rattle.capnp_records.specs.Record as value
 use Rattle.capnp_records.specs.Record.{Active, Left, MoreValues, NoUnion, NoValues, Parts, Record, Values}
-use Rattle.capnp_check.specs.Places.{RecordParts, IsPathTo, NoParts, RefusedAs, TextParts, element_refusal, field_refusal, value_parts}
+use Rattle.capnp_check.specs.Places.{RecordParts, IsPathTo, place_words, NoParts, RefusedAs, TextParts, element_refusal, field_refusal, value_parts}
 use Rattle.capnp_check.specs.ShownFields.{is_shown}
 use Rattle.capnp_check.specs.declared.place.PlaceStep.{PlaceStep}
 use Rattle.capnp_check.specs.declared.place.PlaceStep.TheVariants.{Field, Element}
@@ -38,6 +38,10 @@ first_field (suc j) lt shown = absurd (omega (arith, lt))
 in_second_element : IsPathTo builtin (Element 1 ∷ Field 1 ∷ []) (value_parts 64 (ListType (StructType 8 8)) (value.Elements nodes)) (RefusedAs WrongPointerKind)
 unfolding IsPathTo
 in_second_element = (record { inside = omega arith; before = first_element }, (record { inside = omega arith; shown = refl; before = first_field }, refl))
+
+words_of_second_element : place_words builtin (value_parts 64 (ListType (StructType 8 8)) (value.Elements nodes)) (Element 1 ∷ Field 1 ∷ []) ≡ codes ".1.displayName"
+unfolding place_words digits
+words_of_second_element = refl
 
 -- the first one has a text
 not_in_first_element : IsPathTo builtin (Element 0 ∷ Field 1 ∷ []) (value_parts 64 (ListType (StructType 8 8)) (value.Elements nodes)) (RefusedAs WrongPointerKind) → ⊥
@@ -73,6 +77,10 @@ before_name (suc (suc (suc (suc j)))) lt shown = absurd (omega (arith, lt))
 in_group : IsPathTo builtin (Field 2 ∷ Field 4 ∷ []) (value_parts 64 (StructType 3 3) (value.Struct shapes)) (RefusedAs BadPointer)
 unfolding IsPathTo
 in_group = (record { inside = omega arith; shown = refl; before = before_tag }, (record { inside = omega arith; shown = refl; before = before_name }, refl))
+
+words_in_group : place_words builtin (value_parts 64 (StructType 3 3) (value.Struct shapes)) (Field 2 ∷ Field 4 ∷ []) ≡ codes ".tag.q"
+unfolding place_words
+words_in_group = refl
 
 -- a member that isn't active is not shown
 not_in_inactive_member : (steps : List PlaceStep) (to : TextParts) → IsPathTo builtin (Field 1 ∷ steps) (RecordParts 63 3 shapes) to → ⊥

@@ -1,7 +1,7 @@
 -- Where a value's text is refused: the steps that lead from the value to the part whose own read is refused. Each step is the
 -- first, in the order of the text, at which it is refused. The text has the fields of a struct by index, with the active
 -- member at its own, and the elements of a list by index.
-use Rattle.std.specs.Prelude.{ℕ, zero, suc, ◌<◌, ◌≡◌, List, [], ◌∷◌, length, true, Option, Some, None}
+use Rattle.std.specs.Prelude.{ℕ, zero, suc, ◌<◌, ◌≡◌, List, [], ◌∷◌, ◌++◌, length, true, Option, Some, None, decimal, string_bytes}
 use Rattle.capnp_device.specs.declared.error.ErrorKind.{ErrorKind}
 use Rattle.capnp_device.specs.declared.error.ErrorKind.TheVariants.{TooDeep}
 use Rattle.capnp_schema.specs.Schema.{Schemas, VoidValue, default_of, field_at, fields_of, Value as SchemaValue}
@@ -102,10 +102,22 @@ unfoldable pub IsPathTo : Schemas → List PlaceStep → (from to : TextParts) �
 IsPathTo set [] from to = from ≡ to
 IsPathTo set (step ∷ steps) from to = IsFirstStep set from step × IsPathTo set steps (parts_after set from step) to
 
+-- the word of a step: the name of a field, or the index of an element
+abbrev pub part_word : Schemas → TextParts → PlaceStep → List ℕ
+part_word set (RecordParts left b r) (Field i) = (field_at set b i).field.name
+part_word set (ElementParts left t vs) (Element i) = decimal i
+part_word set parts step = []
+
+-- the words of steps, each behind a point
+unfoldable pub place_words : Schemas → TextParts → List PlaceStep → List ℕ
+place_words set parts [] = []
+place_words set parts (step ∷ steps) = 46 ∷ part_word set parts step ++ place_words set (parts_after set parts step) steps
+
 -- The place of a value's first refusal: at the end of its steps stands a part that is refused itself, with this number, and
 -- all before it has a text.
-abbrev pub IsPlace : DynamicValue → RefusedPlace → Type 0
-IsPlace v place = IsPathTo (set_seen v) place.path.items (root_parts v) (RefusedAs place.kind)
+pub record IsPlace (v : DynamicValue) (place : RefusedPlace) : Type 0 where
+  pub steps : IsPathTo (set_seen v) place.path.items (root_parts v) (RefusedAs place.kind)
+  pub words : string_bytes place.words ≡ place_words (set_seen v) (root_parts v) place.path.items
 
 -- the number with which a place is refused; none where there is no place
 abbrev pub place_refusal : Option RefusedPlace → Option ErrorKind

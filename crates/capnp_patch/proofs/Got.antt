@@ -1,5 +1,6 @@
 -- The text that is got is that of what a path leads to from the struct that the root's reader stands on.
-use Rattle.std.proofs.Common.{arith, ap, ap₂, refl, subst, sym, ◌∙◌, ◌≡◌, ℕ, ◌+◌, Bool, List, true, false, Result, Ok, Err}
+use Rattle.std.proofs.Common.{arith, ap, ap₂, refl, subst, sym, ◌∙◌, ◌≡◌, ℕ, ◌+◌, Bool, List, [], ◌∷◌, true, false, Option, Some, Result, Ok, Err}
+use Rattle.capnp_check.specs.Refusals.{text_refusal}
 use Rattle.capnp_device.specs.declared.error.ErrorKind.{ErrorKind}
 use Rattle.capnp_wire.specs.Reading.{as_struct}
 use Rattle.capnp_wire.specs.Tree as tree
@@ -25,6 +26,7 @@ use Rattle.capnp_dynamic_readers.specs.declared.dynamic_struct.Reader.{Reader as
 use Rattle.capnp_dynamic_readers.specs.declared.dynamic_value.Reader.{Reader as DynamicValue}
 use Rattle.capnp_dynamic_readers.specs.declared.dynamic_value.Reader.TheVariants as dynamic
 use Rattle.capnp_show_engine.specs.Show.{message_root_value, struct_or_group}
+use Rattle.capnp_patch.specs.Places.{root_reached}
 use Rattle.capnp_patch.specs.Gets.{Reached, got_text, value_part_seen, path_read, reached_value, reached_text, text_at}
 
 -- ---- the text of a part ----
@@ -78,10 +80,10 @@ module _ (set : Schemas) (b : ℕ) where
   abbrev root_part : StructTree → Reached
   root_part s = struct_part (root_type set b) (struct_record set (Left 63) s b)
 
-  abbrev root_reached : Tree → Reached
-  root_reached root = reached_value (root_type set b) (message_root_value set b root)
+  abbrev tree_reached : Tree → Reached
+  tree_reached root = reached_value (root_type set b) (message_root_value set b root)
 
-  entered-root : (root : Tree) (s : StructTree) → Ok s ≡ as_struct root 64 → root_part s ≡ root_reached root
+  entered-root : (root : Tree) (s : StructTree) → Ok s ≡ as_struct root 64 → root_part s ≡ tree_reached root
   entered-root tree.Null s e = ap root_part (same-struct s _ e)
   entered-root (tree.Struct bytes ps) s e = ap root_part (same-struct s _ e)
   entered-root (tree.Voids n) s e = cc
@@ -91,7 +93,7 @@ module _ (set : Schemas) (b : ℕ) where
   entered-root (tree.Composite d p es) s e = cc
   entered-root (tree.FaultLeaf k) s e = cc
 
-  refused-root : (root : Tree) (kind : ErrorKind) → Err kind ≡ as_struct root 64 → root_reached root ≡ Err kind
+  refused-root : (root : Tree) (kind : ErrorKind) → Err kind ≡ as_struct root 64 → tree_reached root ≡ Err kind
   refused-root tree.Null kind e = cc
   refused-root (tree.Struct bytes ps) kind e = cc
   refused-root (tree.Voids n) kind e = same-kind kind _ e
@@ -110,10 +112,22 @@ module _ (set : Schemas) (b : ℕ) where
   no_root path indented bytes root x n kind whole tree_is levels_are read =
       ap (text_at set b path indented) (sym whole) ∙ ap (along path indented) (refused-root root kind (read ∙ ap₂ as_struct tree_is levels_are))
 
+  pub root_refused : (bytes : List ℕ) (root x : Tree) (n : ℕ) (kind : ErrorKind) → Ok root ≡ message_tree_of bytes → x ≡ root → n ≡ 64 → Err kind ≡ as_struct x n →
+      root_reached set b (message_tree_of bytes) ≡ Err kind
+  root_refused bytes root x n kind whole tree_is levels_are read =
+      ap (root_reached set b) (sym whole) ∙ refused-root root kind (read ∙ ap₂ as_struct tree_is levels_are)
+
+  -- bytes that are no message have none
+  pub no_message : (path : List PathStep) (indented : Bool) (bytes : List ℕ) (kind : ErrorKind) → Err kind ≡ message_tree_of bytes → got_text set b path indented bytes ≡ Err kind
+  no_message path indented bytes kind none = ap (text_at set b path indented) (sym none)
+
+  pub message_refused : (bytes : List ℕ) (kind : ErrorKind) → Err kind ≡ message_tree_of bytes → root_reached set b (message_tree_of bytes) ≡ Err kind
+  message_refused bytes kind none = ap (root_reached set b) (sym none)
+
 module _ (schema : StructSchema) (path : List PathStep) (indented : Bool) (bytes : List ℕ) (root x : Tree) (n : ℕ) (h : StructHandle) (r : StructReader)
     (whole : Ok root ≡ message_tree_of bytes) (tree_is : x ≡ root) (levels_are : n ≡ 64) (read : Ok (struct_of r) ≡ as_struct x n) (levels : struct_levels r + 1 ≡ n)
     (same : schema_of h ≡ schema) (reader : reader_of h ≡ r) (stands : IsStruct schema) where
-  root-seen : Ok (value_part_seen (dynamic.Struct h)) ≡ root_reached (set_of schema) (number_of schema) root
+  root-seen : Ok (value_part_seen (dynamic.Struct h)) ≡ tree_reached (set_of schema) (number_of schema) root
   root-seen =
       let left : struct_levels r ≡ 63 = omega (arith, levels, levels_are) in
       let typed : struct_type (schema_of h) ≡ root_type (set_of schema) (number_of schema) = ap struct_type same ∙ ap (λ (g : ℕ). StructType (number_of schema) g) stands.generic in
@@ -126,6 +140,10 @@ module _ (schema : StructSchema) (path : List PathStep) (indented : Bool) (bytes
   -- the text is that of what the path leads to from the root's struct
   got-along : got_text (set_of schema) (number_of schema) path indented bytes ≡ along (set_of schema) (number_of schema) path indented (Ok (value_part_seen (dynamic.Struct h)))
   got-along = ap (text_at (set_of schema) (number_of schema) path indented) (sym whole) ∙ ap (along (set_of schema) (number_of schema) path indented) (sym root-seen)
+
+  -- the root is the struct that the reader stands on
+  pub root_known : root_reached (set_of schema) (number_of schema) (message_tree_of bytes) ≡ Ok (value_part_seen (dynamic.Struct h))
+  root_known = ap (root_reached (set_of schema) (number_of schema)) (sym whole) ∙ sym root-seen
 
   abbrev IsReached : Reached → Type 0
   IsReached y = y ≡ path_read (set_of schema) path (Ok (value_part_seen (dynamic.Struct h)))
@@ -141,3 +159,56 @@ module _ (schema : StructSchema) (path : List PathStep) (indented : Bool) (bytes
   -- and else it is the value's, as it is printed
   pub got_printed : (v : DynamicValue) → IsOf (set_of schema) (type_seen v) v → IsReached (Ok (value_part_seen v)) → printed_text indented v ≡ got_text (set_of schema) (number_of schema) path indented bytes
   got_printed v is_of is = part_text (set_of schema) indented v is_of ∙ ap (reached_text (set_of schema) indented) is ∙ sym got-along
+
+-- ---- the root as it is read ----
+
+-- a path that begins at no value leads to none
+nowhere : (set : Schemas) (path : List PathStep) (kind : ErrorKind) → path_read set path (Err kind) ≡ Err kind
+nowhere set [] kind = refl
+nowhere set (s ∷ path) kind = refl
+
+got_is : (set : Schemas) (b : ℕ) (path : List PathStep) (indented : Bool) (bytes : List ℕ) →
+    got_text set b path indented bytes ≡ reached_text set indented (path_read set path (root_reached set b (message_tree_of bytes)))
+got_is set b path indented bytes = go (message_tree_of bytes)
+  where
+    go : (m : Result Tree ErrorKind) → text_at set b path indented m ≡ reached_text set indented (path_read set path (root_reached set b m))
+    go (Ok root) = refl
+    go (Err kind) = sym (ap (reached_text set indented) (nowhere set path kind))
+
+-- the root of these bytes is a struct that was read
+pub record IsRootRead (schema : StructSchema) (bytes : List ℕ) (h : StructHandle) : Type 0 where
+  pub known : root_reached (set_of schema) (number_of schema) (message_tree_of bytes) ≡ Ok (value_part_seen (dynamic.Struct h))
+  pub typed : IsOf (set_of schema) (type_seen (dynamic.Struct h)) (dynamic.Struct h)
+
+pub root_read : (schema : StructSchema) (bytes : List ℕ) (root x : Tree) (n : ℕ) (h : StructHandle) (r : StructReader) →
+    Ok root ≡ message_tree_of bytes → x ≡ root → n ≡ 64 → Ok (struct_of r) ≡ as_struct x n → struct_levels r + 1 ≡ n →
+    schema_of h ≡ schema → reader_of h ≡ r → IsStruct schema → IsRootRead schema bytes h
+root_read schema bytes root x n h r whole tree_is levels_are read levels same reader stands = record {
+  known = root_known schema [] false bytes root x n h r whole tree_is levels_are read levels same reader stands;
+  typed = root_is schema [] false bytes root x n h r whole tree_is levels_are read levels same reader stands;
+}
+
+module _ (schema : StructSchema) (bytes : List ℕ) (h : StructHandle) (path : List PathStep) (root : IsRootRead schema bytes h) where
+  abbrev path-text : Bool → Out
+  path-text indented = got_text (set_of schema) (number_of schema) path indented bytes
+
+  abbrev from-root : Reached
+  from-root = path_read (set_of schema) path (Ok (value_part_seen (dynamic.Struct h)))
+
+  text-along : (indented : Bool) (y : Reached) → y ≡ from-root → path-text indented ≡ reached_text (set_of schema) indented y
+  text-along indented y is =
+      got_is (set_of schema) (number_of schema) path indented bytes
+      ∙ ap (reached_text (set_of schema) indented) (ap (path_read (set_of schema) path) root.known ∙ sym is)
+
+  -- the number of a step's refusal
+  pub step_number : (kind : ErrorKind) → Err kind ≡ from-root → (indented : Bool) → Some kind ≡ text_refusal (path-text indented)
+  step_number kind is indented = sym (ap text_refusal (text-along indented (Err kind) is))
+
+  -- that of what the path leads to
+  pub part_number : (v : DynamicValue) (o : Option ErrorKind) → IsOf (set_of schema) (type_seen v) v → Ok (value_part_seen v) ≡ from-root →
+      ((indented : Bool) → o ≡ text_refusal (printed_text indented v)) → (indented : Bool) → o ≡ text_refusal (path-text indented)
+  part_number v o typed is number indented =
+      number indented ∙ ap text_refusal (part_text (set_of schema) indented v typed ∙ sym (text-along indented (Ok (value_part_seen v)) is))
+
+  pub part_reached : (v : DynamicValue) → Ok (value_part_seen v) ≡ from-root → path_read (set_of schema) path (root_reached (set_of schema) (number_of schema) (message_tree_of bytes)) ≡ Ok (value_part_seen v)
+  part_reached v is = ap (path_read (set_of schema) path) root.known ∙ sym is

@@ -1,8 +1,8 @@
 -- Lines that were told one after another.
-use Rattle.std.proofs.Common.{ℕ, zero, suc, ◌+◌, ◌≤◌, ◌<◌, List, [], ◌∷◌, drop, get_or, length, ◌≡◌, ◌∙◌, ap, arith, refl, subst, sym}
+use Rattle.std.proofs.Common.{ℕ, zero, suc, ◌+◌, ◌≤◌, ◌<◌, List, [], ◌∷◌, ◌++◌, append-nil, append_assoc, drop, get_or, length, ◌≡◌, ◌∙◌, ap, arith, refl, subst, sym}
 use Rattle.std.proofs.lemmas.List.{drop_more}
 use Rattle.capnp_call.specs.declared.calls.Reply.{Reply}
-use Rattle.capnp_patch.specs.Lines.{AreTold, IsReplyTold}
+use Rattle.capnp_patch.specs.Lines.{AreTold, IsReplyTold, told_char, told_chars}
 
 -- the item at an index stands before what is left
 step_from : {X : Type 0} (xs : List X) (i : ℕ) (x : X) → i < length xs → x ≡ get_or xs i x → drop i xs ≡ x ∷ drop (i + 1) xs
@@ -35,3 +35,12 @@ none_left [] zero h = refl
 none_left [] (suc i) h = refl
 none_left (x ∷ xs) zero h = absurd (omega (arith, h))
 none_left (x ∷ xs) (suc i) h = none_left xs i (omega (arith, h))
+
+-- one character more is told
+told_more : (cs : List ℕ) (c : ℕ) → told_chars (cs ++ c ∷ []) ≡ told_chars cs ++ told_char c
+told_more [] c = append-nil (told_char c)
+told_more (d ∷ cs) c = ap (λ (ws : List ℕ). told_char d ++ ws) (told_more cs c) ∙ sym (append_assoc (told_char d) (told_chars cs) (told_char c))
+
+pub chars_next : (start now next : List ℕ) (cs : List ℕ) (c : ℕ) → now ≡ start ++ told_chars cs → next ≡ now ++ told_char c → next ≡ start ++ told_chars (cs ++ c ∷ [])
+chars_next start now next cs c e m =
+    m ∙ (ap (λ (ws : List ℕ). ws ++ told_char c) e ∙ (append_assoc start (told_chars cs) (told_char c) ∙ ap (λ (ws : List ℕ). start ++ ws) (sym (told_more cs c))))

@@ -1,4 +1,5 @@
 pub mod Gets
 pub mod Lines
 pub mod Patches
+pub mod Places
 pub mod Steps

@@ -1,4 +1,8 @@
 -- What is told of the replies to calls.
+use Rattle.std.specs.Char.{is_ascii_control}
+use Rattle.std.specs.Fmt.{digits}
+use Rattle.std.specs.Str.{chars}
+use lib.Utf8.{encode}
 use Rattle.std.specs.Prelude.{ℕ, suc, ◌≡◌, List, [], ◌∷◌, ◌++◌, Bool, false, cond, Option, Some, None, pos, codes, decimal, get_or}
 use Rattle.capnp_device.specs.ErrorNumber.{error_name, error_number}
 use Rattle.capnp_device.specs.declared.error.ErrorKind.{ErrorKind}
@@ -41,11 +45,25 @@ abbrev pub member_word : Option ℕ → List ℕ
 member_word None = codes "none"
 member_word (Some i) = codes "#" ++ decimal i
 
+-- ---- words ----
+
+-- a character as it is told: a control character by its number, in hexadecimal
+abbrev pub told_char : ℕ → List ℕ
+told_char c = cond (is_ascii_control c) (codes "\\u{" ++ digits 16 false c ++ codes "}") (encode c)
+
+abbrev pub told_chars : List ℕ → List ℕ
+told_chars [] = []
+told_chars (c ∷ cs) = told_char c ++ told_chars cs
+
+-- a word as it is told, character by character
+abbrev pub told_word : List ℕ → List ℕ
+told_word word = told_chars (chars word)
+
 -- ---- lines ----
 
 -- a line: the number of a call, its word, and what is told
 abbrev pub told_line : ℕ → (word between text : List ℕ) → List ℕ
-told_line n word between text = decimal n ++ codes ": " ++ word ++ between ++ text ++ 10 ∷ []
+told_line n word between text = decimal n ++ codes ": " ++ told_word word ++ between ++ text ++ 10 ∷ []
 
 -- what a call asked for
 abbrev pub answer_line : ℕ → (word text : List ℕ) → List ℕ

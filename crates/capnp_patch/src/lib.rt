@@ -2,8 +2,8 @@
 //! refused has its line. What stands at a path of a message is shown as its text.
 #![tactic(auto)]
 
-pub mod check;
 pub mod engine;
 pub mod get;
 pub mod lines;
+pub mod place;
 pub mod reach;

@@ -2,7 +2,7 @@
 ghost use Rattle.std.specs.Prelude.{◌≡◌, ◌++◌, [], IfErr, IfOk, OnOk, get_or, map, string_bytes};
 ghost use Rattle.capnp_device.specs.declared.error.ErrorKind.TheVariants.{OutOfMemory};
 ghost use Rattle.capnp_dynamic_readers.specs.Pieces.{IsAppended};
-ghost use Rattle.capnp_patch.specs.Lines.{AreTold, IsReplyTold, IsValueTold, answer_line, flag_word, member_word, answer_text, reply_refusal_line, told_line};
+ghost use Rattle.capnp_patch.specs.Lines.{AreTold, IsReplyTold, IsValueTold, answer_line, flag_word, member_word, answer_text, reply_refusal_line, told_char, told_line, told_word};
 
 use capnp_base::text;
 use capnp_call::calls::{Plain, Reply};
@@ -37,14 +37,38 @@ fn put_plain(out: &mut String, plain: &Plain) -> Result<()>
     }
 }
 
+/// Appends a character of a word as it is told.
+fn put_char(out: &mut String, c: char) -> Result<()>
+    ensures put { OnOk result (string_bytes out.new ≡ string_bytes out.old ++ told_char c) }
+    ensures memory { IfErr result (λ e. e.kind ≡ OutOfMemory) }
+{
+    if c.is_ascii_control() {
+        Ok(write!(out, "\\u{{{:x}}}", u32::from(c))?)
+    } else {
+        Ok(out.push(c)?)
+    }
+}
+
+/// Appends a word as it is told: its control characters by their numbers, as `\u{1b}`. Refused with `OutOfMemory` alone.
+pub fn put_word(out: &mut String, word: &str) -> Result<()>
+    ensures put { OnOk result (string_bytes out.new ≡ string_bytes out.old ++ told_word word.now) }
+    ensures memory { IfErr result (λ e. e.kind ≡ OutOfMemory) }
+{
+    for c in word.chars() {
+        put_char(out, c)?;
+    }
+    Ok(())
+}
+
 /// Appends a line: the number of a call, its word, and what is told.
 fn put_told(lines: &mut String, number: u64, word: &str, between: &str, text: &str) -> Result<()>
     ensures put { OnOk result (string_bytes lines.new
         ≡ string_bytes lines.old ++ told_line number word.now between.now text.now) }
     ensures memory { IfErr result (λ e. e.kind ≡ OutOfMemory) }
 {
-    write!(lines, "{number}: {word}{between}{text}\n")?;
-    Ok(())
+    write!(lines, "{number}: ")?;
+    put_word(lines, word)?;
+    Ok(write!(lines, "{between}{text}\n")?)
 }
 
 /// Appends the line of an answer.

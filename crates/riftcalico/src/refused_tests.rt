@@ -31,16 +31,16 @@ const HOSTILE: &str = "\
 
 /// How verbs are called.
 static USAGES: [(&str, &str); 7] = [
-    ("show", "[--set FILE] NAME [--indent]"),
-    ("get", "[--set FILE] NAME PATH [--indent]"),
-    ("check", "[--set FILE] NAME [PATH]"),
+    ("show", "[--set FILE] [--packed] NAME [--indent]"),
+    ("get", "[--set FILE] [--packed] NAME PATH [--indent]"),
+    ("check", "[--set FILE] [--packed] NAME [PATH]"),
     (
         "patch",
-        "[--set FILE] [--calls FILE] [--keep-going] NAME CALL..",
+        "[--set FILE] [--calls FILE] [--keep-going] [--packed] NAME CALL..",
     ),
     (
         "new",
-        "[--set FILE] [--calls FILE] [--keep-going] NAME CALL..",
+        "[--set FILE] [--calls FILE] [--keep-going] [--packed] NAME CALL..",
     ),
     ("structs", "[--set FILE] [NAME]"),
     ("schemas", "[--strict]"),
@@ -164,6 +164,8 @@ structs|Flat|a -> usage
 structs|--set -> usage
 structs|--set|set|Flat|a -> usage
 structs|--indent -> usage
+structs|--packed -> usage
+schemas|--packed -> usage
 schemas|Flat -> usage
 schemas|--set|set -> usage
 # options that there aren't
@@ -171,10 +173,20 @@ get|Flat|a|--indented -> unknown option: --indented
 patch|Flat|--limit|set a 1 -> unknown option: --limit
 structs|-- -> unknown option: --
 # no struct of the built-in set
-get|Nope|a -> refused: 64 NameNotFound (Nope); see riftcalico structs
-patch|Nope|get a -> refused: 64 NameNotFound (Nope); see riftcalico structs
+get|Absent|a -> refused: 64 NameNotFound (Absent); see riftcalico structs
+patch|Absent|get a -> refused: 64 NameNotFound (Absent); see riftcalico structs
 new|Shapes.circle -> refused: 64 NameNotFound (Shapes.circle); see riftcalico structs
-structs|Nope -> refused: 64 NameNotFound (Nope); see riftcalico structs
+structs|Absent -> refused: 64 NameNotFound (Absent); see riftcalico structs
+# names that may have been meant: in other letters, or one change away
+get|flat|a -> refused: 64 NameNotFound (flat); near: Flat; see riftcalico structs
+show|Shape -> refused: 64 NameNotFound (Shape); near: Shapes; see riftcalico structs
+check|Lists2 -> refused: 64 NameNotFound (Lists2); near: Lists; see riftcalico structs
+new|Mixde -> refused: 64 NameNotFound (Mixde); near: Mixed; see riftcalico structs
+structs|Nide -> refused: 64 NameNotFound (Nide); near: Node; see riftcalico structs
+structs|LOOT -> refused: 64 NameNotFound (LOOT); near: Loop; see riftcalico structs
+# two changes are too many, and a short word has none
+structs|Fla1e -> refused: 64 NameNotFound (Fla1e); see riftcalico structs
+structs|a -> refused: 64 NameNotFound (a); see riftcalico structs
 ";
 
 #[test]
@@ -198,6 +210,8 @@ patch|--keep-going|Flat|set a -> 1: set a: can't be read at 5
 new|Flat|initn a 4294967296 -> 1: initn a 4294967296: can't be read at 17
 new|Flat|initn a -> 1: initn a: can't be read at 7
 new|Flat|which -> 1: which: can't be read at 5
+# a control character is told by its number
+patch|Flat|get\u{1b}a -> 1: get\\u{1b}a: can't be read at 3
 new|Flat|clear a b -> 1: clear a b: can't be read at 7
 ";
 

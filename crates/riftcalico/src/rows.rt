@@ -82,7 +82,7 @@ pub(crate) const GOT: &str = "\
 :x
 <0000000003000000 0000000001000100 0500010009000000 0000000000000000
 =1
-!refused: 30 InactiveMember (standard input)
+!refused: 30 InactiveMember (standard input) at x
 
 # no field of the name
 :get
@@ -90,7 +90,7 @@ pub(crate) const GOT: &str = "\
 :c
 <0000000003000000 0000000001000100 0500010009000000 0000000000000000
 =1
-!refused: 20 FieldNotFound (standard input)
+!refused: 20 FieldNotFound (standard input) at c in Mixed
 
 # no field of the number
 :get
@@ -98,7 +98,7 @@ pub(crate) const GOT: &str = "\
 :#4
 <0000000003000000 0000000001000100 0500010009000000 0000000000000000
 =1
-!refused: 20 FieldNotFound (standard input)
+!refused: 20 FieldNotFound (standard input) at #4 in Mixed
 
 # a field of a number
 :get
@@ -106,7 +106,7 @@ pub(crate) const GOT: &str = "\
 :a.b
 <0000000003000000 0000000001000100 0500010009000000 0000000000000000
 =1
-!refused: 33 NotAContainer (standard input)
+!refused: 33 NotAContainer (standard input) at a
 
 # a group, and a union in it
 :get
@@ -128,7 +128,7 @@ pub(crate) const GOT: &str = "\
 :tag.u1
 <0000000005000000 0000000002000200 0000010003000000 0000000000000000 0000000000000000 0000000000000000
 =1
-!refused: 30 InactiveMember (standard input)
+!refused: 30 InactiveMember (standard input) at tag.u1
 
 # a group that isn't active
 :get
@@ -136,7 +136,7 @@ pub(crate) const GOT: &str = "\
 :circle.r
 <0000000005000000 0000000002000200 0000010003000000 0000000000000000 0000000000000000 0000000000000000
 =1
-!refused: 30 InactiveMember (standard input)
+!refused: 30 InactiveMember (standard input) at circle
 
 # a step past an untyped pointer
 :get
@@ -144,7 +144,7 @@ pub(crate) const GOT: &str = "\
 :tag.any.#0
 <0000000005000000 0000000002000200 0000010003000000 0000000000000000 0000000000000000 0000000000000000
 =1
-!refused: 31 UntypedStep (standard input)
+!refused: 31 UntypedStep (standard input) at tag.any
 
 # an element of a list of structs, and its field
 :get
@@ -179,7 +179,7 @@ pub(crate) const GOT: &str = "\
 <000000000b000000 0000000000000400 0d0000001a000000 0d00000012000000 0d00000012000000 0d00000017000000 \
     0102ff0000000000 00ff000000000000 7800000000000000 0800000001000000 0100000000000000 0200000000000000
 =1
-!refused: 32 NoSuchElement (standard input)
+!refused: 32 NoSuchElement (standard input) at items.2
 
 # a field of a list
 :get
@@ -188,7 +188,7 @@ pub(crate) const GOT: &str = "\
 <000000000b000000 0000000000000400 0d0000001a000000 0d00000012000000 0d00000012000000 0d00000017000000 \
     0102ff0000000000 00ff000000000000 7800000000000000 0800000001000000 0100000000000000 0200000000000000
 =1
-!refused: 33 NotAContainer (standard input)
+!refused: 33 NotAContainer (standard input) at items.a
 
 # what the path doesn't touch is not looked at: `bytes` is a capability
 :get
@@ -203,7 +203,7 @@ pub(crate) const GOT: &str = "\
 :bytes
 <0000000006000000 0000000000000400 0300000000000000 0000000000000000 0500000012000000 0000000000000000 7800000000000000
 =1
-!refused: 9 CapabilityPointer (standard input)
+!refused: 9 CapabilityPointer (standard input) at bytes
 
 # what can be shown is looked at without a text: but for the capability
 :check
@@ -216,7 +216,7 @@ pub(crate) const GOT: &str = "\
 :Lists
 <0000000006000000 0000000000000400 0300000000000000 0000000000000000 0500000012000000 0000000000000000 7800000000000000
 =1
-!refused: 9 CapabilityPointer (standard input)
+!refused: 9 CapabilityPointer (standard input) at bytes
 
 :check
 :Mixed
@@ -228,7 +228,59 @@ pub(crate) const GOT: &str = "\
 :c
 <0000000003000000 0000000001000100 0500010009000000 0000000000000000
 =1
-!refused: 20 FieldNotFound (standard input)
+!refused: 20 FieldNotFound (standard input) at c in Mixed
+
+# the names that may have been meant
+:get
+:Lists
+:itmes
+<0000000001000000 0000000000000000
+=1
+!refused: 20 FieldNotFound (standard input) at itmes in Lists; near: items
+
+# the place of what can't be read, in a group, from the root and from a path
+:show
+:Shapes
+<0000000005000000 0000000002000200 0000010003000000 0000000000000000 0000000000000000 0300000000000000
+=1
+!refused: 9 CapabilityPointer (standard input) at tag.q
+
+:get
+:Shapes
+:tag
+<0000000005000000 0000000002000200 0000010003000000 0000000000000000 0000000000000000 0300000000000000
+=1
+!refused: 9 CapabilityPointer (standard input) at tag.q
+
+# a packed message
+:show
+:--packed
+:Flat
+<100210010105
+=0
+\"(a = 5)
+
+:get
+:Flat
+:a
+:--packed
+<100210010105
+=0
+\"5
+
+:check
+:Flat
+:--packed
+<100210010105
+=0
+
+# cut within its last word
+:check
+:Flat
+:--packed
+<1002100101
+=1
+!refused: 2 Truncated (standard input)
 
 # a message that ends too soon
 :get
@@ -244,11 +296,27 @@ pub(crate) const GOT: &str = "\
 :again.again.again.end
 <0000000003000000 0000000001000100 0100000000000000 0000000000000000
 =1
-!refused: 30 InactiveMember (standard input)
+!refused: 30 InactiveMember (standard input) at again.again.again.end
 ";
 
 /// Calls on messages and on empty roots.
 pub(crate) const PATCHED: &str = "\
+# a packed message, written packed
+:patch
+:--packed
+:Flat
+:set a 7
+<100210010105
+=0
+>100210010107
+
+:new
+:--packed
+:Flat
+:set a 7
+=0
+>100210010107
+
 # a number and a text
 :patch
 :Mixed
@@ -528,11 +596,11 @@ pub(crate) const TOLD: &str = "\
 \"Shows, makes and patches Cap'n Proto messages under schemas that are known at run time. Messages are read from standard
 \"input and written to standard output.
 \"
-\"usage: riftcalico show [--set FILE] NAME [--indent]
-\"       riftcalico get [--set FILE] NAME PATH [--indent]
-\"       riftcalico check [--set FILE] NAME [PATH]
-\"       riftcalico patch [--set FILE] [--calls FILE] [--keep-going] NAME CALL..
-\"       riftcalico new [--set FILE] [--calls FILE] [--keep-going] NAME CALL..
+\"usage: riftcalico show [--set FILE] [--packed] NAME [--indent]
+\"       riftcalico get [--set FILE] [--packed] NAME PATH [--indent]
+\"       riftcalico check [--set FILE] [--packed] NAME [PATH]
+\"       riftcalico patch [--set FILE] [--calls FILE] [--keep-going] [--packed] NAME CALL..
+\"       riftcalico new [--set FILE] [--calls FILE] [--keep-going] [--packed] NAME CALL..
 \"       riftcalico structs [--set FILE] [NAME]
 \"       riftcalico schemas [--strict]
 \"

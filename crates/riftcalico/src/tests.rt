@@ -16,11 +16,11 @@ use std::process::Abort;
 use std::test::Fail;
 
 pub(crate) const USAGE: &str = "\
-usage: riftcalico show [--set FILE] NAME [--indent]
-       riftcalico get [--set FILE] NAME PATH [--indent]
-       riftcalico check [--set FILE] NAME [PATH]
-       riftcalico patch [--set FILE] [--calls FILE] [--keep-going] NAME CALL..
-       riftcalico new [--set FILE] [--calls FILE] [--keep-going] NAME CALL..
+usage: riftcalico show [--set FILE] [--packed] NAME [--indent]
+       riftcalico get [--set FILE] [--packed] NAME PATH [--indent]
+       riftcalico check [--set FILE] [--packed] NAME [PATH]
+       riftcalico patch [--set FILE] [--calls FILE] [--keep-going] [--packed] NAME CALL..
+       riftcalico new [--set FILE] [--calls FILE] [--keep-going] [--packed] NAME CALL..
        riftcalico structs [--set FILE] [NAME]
        riftcalico schemas [--strict]";
 

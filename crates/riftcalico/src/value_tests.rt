@@ -100,7 +100,7 @@ static READ: [(&str, &str, &str); 44] = [
 ];
 
 /// Fields, words that can't be read, and the place in the word of their call.
-static UNREAD: [(&str, &str, usize); 49] = [
+static UNREAD: [(&str, &str, usize); 48] = [
     ("nothing", "", 12),
     ("nothing", "(", 13),
     ("nothing", "())", 14),
@@ -139,7 +139,6 @@ static UNREAD: [(&str, &str, usize); 49] = [
     ("text", "\"ab", 12),
     ("text", "\"a\"b", 12),
     ("text", "\"a\\x\"", 12),
-    ("text", "\"\u{1}\"", 10),
     ("text", "\"\\u{d800}\"", 17),
     ("text", "\"\\u{110000}\"", 18),
     ("text", "\"\\u{}\"", 13),

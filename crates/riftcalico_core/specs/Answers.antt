@@ -1,6 +1,5 @@
 -- What is answered to a message's bytes: what is written, what is told, and whether a call was refused.
-use Rattle.std.specs.Prelude.{ℕ, ◌≡◌, ⊤, List, [], map, Bool, true, false, None, Err, string_bytes}
-use Rattle.capnp_device.specs.declared.error.Error.{Error}
+use Rattle.std.specs.Prelude.{ℕ, suc, ◌<◌, ◌≡◌, ◌⊎◌, ⊤, List, [], map, Bool, true, false, cond, None, Result, Ok, Err, string_bytes}
 use Rattle.capnp_device.specs.declared.error.ErrorKind.{ErrorKind}
 use Rattle.capnp_arena.specs.Message.{IsMessage, message_tree}
 use Rattle.capnp_call.specs.Refusals.{any_refused}
@@ -9,9 +8,12 @@ use Rattle.capnp_call.specs.declared.calls.Call.{Call}
 use Rattle.capnp_call.specs.declared.calls.Reply.{Reply}
 use Rattle.capnp_check.specs.Refusals.{text_refusal}
 use Rattle.capnp_dynamic_readers.specs.Pieces.{IsAppended}
+use Rattle.capnp_packed.specs.Received.{received_message}
 use Rattle.capnp_patch.specs.Gets.{got_text}
 use Rattle.capnp_patch.specs.Lines.{AreTold}
 use Rattle.capnp_patch.specs.Patches.{IsLeftOfBytes, IsLeftOfNew, IsUnread, is_kept}
+use Rattle.capnp_patch.specs.Places.{IsRefusedAt}
+use Rattle.capnp_patch.specs.declared.place.Place.{Place}
 use Rattle.capnp_schema.specs.Entries.{lists_seen}
 use Rattle.capnp_schema.specs.Schema.{Schemas}
 use Rattle.capnp_schema.specs.StructHandles.{IsStruct, number_of, set_of}
@@ -20,11 +22,19 @@ use Rattle.capnp_set_engine.specs.Convert.{HasNoSet, IsSetOf}
 use Rattle.capnp_show_engine.specs.Show.{IsLineOf}
 use Rattle.capnp_structs.specs.Fields.{fields_text}
 use Rattle.capnp_structs.specs.Names.{structs_text}
+use Rattle.capnp_wire.specs.Encoding.{message_of}
+use Rattle.capnp_wire.specs.Locate.{words_past_format}
 use Rattle.capnp_wire.specs.Tree.{Tree}
+use Rattle.capnp_wire.specs.Words.{words_of}
 use Rattle.riftcalico_core.specs.CallsSeen.{read_call_seen}
+use Rattle.riftcalico_core.specs.Jobs.{is_packed, wants_input}
+use Rattle.riftcalico_core.specs.Notes.{place_note}
 use Rattle.riftcalico_core.specs.declared.answer.Answer.{Answer}
 use Rattle.riftcalico_core.specs.declared.answer.Output.{Output}
 use Rattle.riftcalico_core.specs.declared.answer.Output.TheVariants as output
+use Rattle.riftcalico_core.specs.declared.fault.Blamed.{Blamed}
+use Rattle.riftcalico_core.specs.declared.fault.Blamed.TheVariants as blamed
+use Rattle.riftcalico_core.specs.declared.fault.Fault.{Fault}
 use Rattle.riftcalico_core.specs.declared.job.CallsJob.{CallsJob}
 use Rattle.riftcalico_core.specs.declared.job.GetJob.{GetJob}
 use Rattle.riftcalico_core.specs.declared.job.Job.{Job}
@@ -74,31 +84,46 @@ pub record IsTextAnswer (a : Answer) (so : List ℕ → Type 0) : Type 0 where
 abbrev pub IsGetAnswer : GetJob → (bytes : List ℕ) → Answer → Type 0
 IsGetAnswer j bytes a = IsTextAnswer a (IsLineOf (got_text (set_of j.schema) (number_of j.schema) (path_seen j.steps.items) j.indented bytes))
 
--- there is none
-abbrev pub IsNoGetAnswer : GetJob → (bytes : List ℕ) → ErrorKind → Type 0
-IsNoGetAnswer j bytes kind = got_text (set_of j.schema) (number_of j.schema) (path_seen j.steps.items) j.indented bytes ≡ Err kind
+-- there is one, in both forms
+abbrev pub IsTextThere : GetJob → (bytes : List ℕ) → Type 0
+IsTextThere j bytes = (indented : Bool) → text_refusal (got_text (set_of j.schema) (number_of j.schema) (path_seen j.steps.items) indented bytes) ≡ None
 
--- there is one, in both forms, and nothing is written
+-- and nothing is written
 pub record IsCheckAnswer (j : GetJob) (bytes : List ℕ) (a : Answer) : Type 0 where
-  pub shown : (indented : Bool) → text_refusal (got_text (set_of j.schema) (number_of j.schema) (path_seen j.steps.items) indented bytes) ≡ None
+  pub shown : IsTextThere j bytes
   pub output : a.output ≡ output.Nothing
   pub quiet : IsQuiet a
 
--- there is none, in both
-abbrev pub IsNotShown : GetJob → (bytes : List ℕ) → ErrorKind → Type 0
-IsNotShown j bytes kind = (indented : Bool) → got_text (set_of j.schema) (number_of j.schema) (path_seen j.steps.items) indented bytes ≡ Err kind
+-- there is none in both forms, and the refusal tells where
+pub record IsNotShown (j : GetJob) (bytes : List ℕ) (f : Fault) : Type 0 where
+  pub refused : (indented : Bool) → got_text (set_of j.schema) (number_of j.schema) (path_seen j.steps.items) indented bytes ≡ Err f.error.kind
+  pub place : Place
+  pub at : IsRefusedAt (set_of j.schema) (number_of j.schema) (path_seen j.steps.items) bytes f.error.kind place
+  pub told : string_bytes f.note ≡ place_note (path_seen j.steps.items) place
 
 -- ---- calls ----
 
--- a message with this tree is written, or nothing
-abbrev pub IsRunOutput : (kept : Bool) → Tree → Output → Type 0
-IsRunOutput true t (output.Message m) = message_tree m ≡ t
-IsRunOutput true t o = ⊥
-IsRunOutput false t o = o ≡ output.Nothing
+-- the packed bytes of a message, which are unpacked to its own
+pub record IsPackedMessage (t : Tree) (packed : List ℕ) : Type 0 where
+  pub fits : suc (words_of t) < words_past_format
+  pub encoding : packed ≡ packed_form (message_of t)
+  pub back : unpacked_bytes packed ≡ message_of t
+
+-- a message with this tree is written, packed or not
+abbrev pub IsMessageOutput : (packed : Bool) → Tree → Output → Type 0
+IsMessageOutput false t (output.Message m) = message_tree m ≡ t
+IsMessageOutput false t o = ⊥
+IsMessageOutput true t (output.Bytes bytes) = IsPackedMessage t bytes.items
+IsMessageOutput true t o = ⊥
+
+-- it is, or nothing
+abbrev pub IsRunOutput : (kept packed : Bool) → Tree → Output → Type 0
+IsRunOutput true packed t o = IsMessageOutput packed t o
+IsRunOutput false packed t o = o ≡ output.Nothing
 
 -- what a run left is written, unless a call was refused and it isn't kept all the same; and the replies are told
-pub record IsRunAnswer (words : List (List ℕ)) (keep_going : Bool) (replies : List Reply) (root : Tree) (a : Answer) : Type 0 where
-  pub output : IsRunOutput (is_kept keep_going replies) root a.output
+pub record IsRunAnswer (words : List (List ℕ)) (keep_going packed : Bool) (replies : List Reply) (root : Tree) (a : Answer) : Type 0 where
+  pub output : IsRunOutput (is_kept keep_going replies) packed root a.output
   pub told : AreTold 0 words replies [] (string_bytes a.lines)
   pub refused : a.refused ≡ any_refused replies
 
@@ -109,7 +134,7 @@ pub record IsCallsAnswer (j : CallsJob) (leaves : List Call → List Reply → T
   pub replies : List Reply
   pub root : Tree
   pub left : leaves calls replies root
-  pub answer : IsRunAnswer (map (λ w. w.now) j.words.now) j.keep_going replies root a
+  pub answer : IsRunAnswer (map (λ w. w.now) j.words.now) j.keep_going j.packed replies root a
 
 abbrev pub IsPatchAnswer : CallsJob → (bytes : List ℕ) → Answer → Type 0
 IsPatchAnswer j bytes a = IsCallsAnswer j (λ calls replies root. IsLeftOfBytes j.schema bytes calls replies root) a
@@ -136,25 +161,46 @@ pub record IsConvertAnswer (strict : Bool) (bytes : List ℕ) (a : Answer) : Typ
 
 -- ---- a job ----
 
-abbrev pub IsAnswer : Job → (bytes : List ℕ) → Answer → Type 0
-IsAnswer (job.Get j) bytes a = IsGetAnswer j bytes a
-IsAnswer (job.Check j) bytes a = IsCheckAnswer j bytes a
-IsAnswer (job.Patch j) bytes a = IsPatchAnswer j bytes a
-IsAnswer (job.New j) bytes a = IsNewAnswer j a
-IsAnswer (job.Structs schemas) bytes a = IsStructsAnswer (lists_seen schemas.now) a
-IsAnswer (job.Fields s) bytes a = IsFieldsAnswer s a
-IsAnswer (job.Convert strict) bytes a = IsConvertAnswer strict bytes a
-IsAnswer (job.Help v) bytes a = IsTextAnswer a (λ text. text ≡ help_text v)
-IsAnswer job.Version bytes a = IsTextAnswer a (λ text. text ≡ version_line)
+-- to a message that is not packed
+abbrev pub IsMessageAnswer : Job → (bytes : List ℕ) → Answer → Type 0
+IsMessageAnswer (job.Get j) bytes a = IsGetAnswer j bytes a
+IsMessageAnswer (job.Check j) bytes a = IsCheckAnswer j bytes a
+IsMessageAnswer (job.Patch j) bytes a = IsPatchAnswer j bytes a
+IsMessageAnswer (job.New j) bytes a = IsNewAnswer j a
+IsMessageAnswer (job.Structs schemas) bytes a = IsStructsAnswer (lists_seen schemas.now) a
+IsMessageAnswer (job.Fields s) bytes a = IsFieldsAnswer s a
+IsMessageAnswer (job.Convert strict) bytes a = IsConvertAnswer strict bytes a
+IsMessageAnswer (job.Help v) bytes a = IsTextAnswer a (λ text. text ≡ help_text v)
+IsMessageAnswer job.Version bytes a = IsTextAnswer a (λ text. text ≡ version_line)
 
 -- there is no answer, for this refusal
-abbrev pub IsNoAnswer : Job → (bytes : List ℕ) → Error → Type 0
-IsNoAnswer (job.Get j) bytes e = IsNoGetAnswer j bytes e.kind
-IsNoAnswer (job.Check j) bytes e = IsNotShown j bytes e.kind
-IsNoAnswer (job.Patch j) bytes e = IsUnread bytes e.kind
-IsNoAnswer (job.New j) bytes e = ⊥
-IsNoAnswer (job.Structs schemas) bytes e = ⊥
-IsNoAnswer (job.Fields s) bytes e = ⊥
-IsNoAnswer (job.Convert strict) bytes e = HasNoSet strict bytes e
-IsNoAnswer (job.Help v) bytes e = ⊥
-IsNoAnswer job.Version bytes e = ⊥
+abbrev pub IsNoMessageAnswer : Job → (bytes : List ℕ) → Fault → Type 0
+IsNoMessageAnswer (job.Get j) bytes f = IsNotShown j bytes f
+IsNoMessageAnswer (job.Check j) bytes f = IsNotShown j bytes f
+IsNoMessageAnswer (job.Patch j) bytes f = IsUnread bytes f.error.kind × (string_bytes f.note ≡ [])
+IsNoMessageAnswer (job.New j) bytes f = ⊥
+IsNoMessageAnswer (job.Structs schemas) bytes f = ⊥
+IsNoMessageAnswer (job.Fields s) bytes f = ⊥
+IsNoMessageAnswer (job.Convert strict) bytes f = HasNoSet strict bytes f.error × (string_bytes f.note ≡ [])
+IsNoMessageAnswer (job.Help v) bytes f = ⊥
+IsNoMessageAnswer job.Version bytes f = ⊥
+
+-- the message that bytes have, which may be packed; or why they have none
+abbrev pub message_in : (packed : Bool) → List ℕ → Result (List ℕ) ErrorKind
+message_in false bytes = Ok bytes
+message_in true bytes = received_message bytes
+
+pub record IsAnswer (j : Job) (bytes : List ℕ) (a : Answer) : Type 0 where
+  pub message : List ℕ
+  pub has : message_in (is_packed j) bytes ≡ Ok message
+  pub answer : IsMessageAnswer j message a
+
+-- there is no answer, for what the message is, or as there is none
+abbrev pub IsNoAnswer : Job → (bytes : List ℕ) → Fault → Type 0
+IsNoAnswer j bytes f =
+    ((message_in (is_packed j) bytes ≡ Err f.error.kind) × (string_bytes f.note ≡ []))
+    ⊎ ((message : List ℕ) × (message_in (is_packed j) bytes ≡ Ok message) × IsNoMessageAnswer j message f)
+
+-- what is to be looked at where there is none: what is read, or else what is written
+abbrev pub answer_blamed : Job → Blamed
+answer_blamed j = cond (wants_input j) blamed.Input blamed.«Output»

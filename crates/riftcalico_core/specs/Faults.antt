@@ -1,6 +1,7 @@
 -- Refusals, and what they blame.
-use Rattle.std.specs.Prelude.{ℕ, List, [], ◌∷◌, ◌++◌, Option, Some, None, codes, decimal}
+use Rattle.std.specs.Prelude.{ℕ, ◌≡◌, List, [], ◌∷◌, ◌++◌, Option, Some, None, Result, Ok, Err, codes, decimal, string_bytes}
 use Rattle.capnp_device.specs.ErrorNumber.{error_name, error_number}
+use Rattle.capnp_device.specs.declared.error.Error.{Error}
 use Rattle.capnp_device.specs.declared.error.ErrorKind.{ErrorKind}
 use Rattle.capnp_device.specs.declared.error.ErrorKind.TheVariants.{NameNotFound}
 use Rattle.riftcalico_core.specs.Plans.{calls_file}
@@ -8,6 +9,17 @@ use Rattle.riftcalico_core.specs.declared.fault.Blamed.{Blamed}
 use Rattle.riftcalico_core.specs.declared.fault.Blamed.TheVariants as blamed
 use Rattle.riftcalico_core.specs.declared.fault.Fault.{Fault}
 use Rattle.riftcalico_words.specs.Tasks.{Task, check_task, fields_task, get_task, new_task, patch_task, structs_task}
+
+-- a refusal of which no more is told
+pub record IsPlainFault (f : Fault) (e : Error) (b : Blamed) : Type 0 where
+  pub error : f.error ≡ e
+  pub blamed : f.blamed ≡ b
+  pub note : string_bytes f.note ≡ []
+
+-- the refusal of what has no value, with what is to be looked at
+abbrev pub IsFaultOf : {A : Type 0} → Result A Error → Blamed → Fault → Type 0
+IsFaultOf (Ok x) b f = ⊥
+IsFaultOf (Err e) b f = IsPlainFault f e b
 
 -- the file of a task's set
 abbrev pub task_set_file : Task → Option (List ℕ)
@@ -48,4 +60,4 @@ hint_of kind = []
 
 -- a refusal's number and name, what is to be looked at, and what tells more
 abbrev pub fault_line : Task → Fault → List ℕ
-fault_line t f = codes "refused: " ++ decimal (error_number f.error.kind) ++ codes " " ++ error_name f.error.kind ++ codes " (" ++ blamed_word t f.blamed ++ codes ")" ++ hint_of f.error.kind ++ 10 ∷ []
+fault_line t f = codes "refused: " ++ decimal (error_number f.error.kind) ++ codes " " ++ error_name f.error.kind ++ codes " (" ++ blamed_word t f.blamed ++ codes ")" ++ string_bytes f.note ++ hint_of f.error.kind ++ 10 ∷ []

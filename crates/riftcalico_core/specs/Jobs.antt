@@ -1,7 +1,6 @@
 -- A plan under its set: the struct of its root, and the values of its calls.
-use Rattle.std.specs.Prelude.{ℕ, ◌≡◌, ⊤, List, map, Bool, true, false, Option, Some, None, Ok, Err}
+use Rattle.std.specs.Prelude.{ℕ, ◌≡◌, ⊤, List, map, Bool, true, false, Option, Some, None, Ok, Err, string_bytes}
 use Rattle.capnp_device.specs.declared.error.Error.{Error}
-use Rattle.capnp_device.specs.declared.error.ErrorKind.{ErrorKind}
 use Rattle.capnp_device.specs.declared.error.ErrorKind.TheVariants.{NameNotFound}
 use Rattle.capnp_call.specs.Seen.{path_seen}
 use Rattle.capnp_records.specs.Run.{root_type}
@@ -18,6 +17,9 @@ use Rattle.riftcalico_core.specs.CallsSeen.{read_call_seen}
 use Rattle.riftcalico_core.specs.Plans as plans
 use Rattle.riftcalico_core.specs.Plans.{CallsPlan, GetPlan, Plan, check_plan, convert_plan, fields_plan, get_plan, help_plan, new_plan, patch_plan, structs_plan, version_plan}
 use Rattle.riftcalico_core.specs.Reads.{each_word_read, line_at}
+use Rattle.riftcalico_core.specs.Notes.{name_note}
+use Rattle.riftcalico_core.specs.declared.fault.Blamed.TheVariants as blamed
+use Rattle.riftcalico_core.specs.declared.fault.Fault.{Fault}
 use Rattle.riftcalico_core.specs.declared.job.CallsJob.{CallsJob}
 use Rattle.riftcalico_core.specs.declared.job.GetJob.{GetJob}
 use Rattle.riftcalico_core.specs.declared.job.Job.{Job}
@@ -44,20 +46,25 @@ pub record IsNamedStruct (set : Schemas) (name : List ℕ) (s : StructSchema) : 
   pub of_set : set_of s ≡ set
   pub named : brand_asked set name ≡ Some (number_of s)
 
--- it has none, and that is the refusal
-abbrev pub IsNotNamed : (set : Schemas) → (name : List ℕ) → ErrorKind → Type 0
-IsNotNamed set name kind = (kind ≡ NameNotFound) × (brand_asked set name ≡ None)
+-- it has none, and that is the refusal, which tells the names that may have been meant
+pub record IsNotNamed (set : Schemas) (name : List ℕ) (f : Fault) : Type 0 where
+  pub kind : f.error.kind ≡ NameNotFound
+  pub blamed : f.blamed ≡ blamed.Name
+  pub missing : brand_asked set name ≡ None
+  pub meant : string_bytes f.note ≡ name_note set name
 
 pub record IsGetJob (p : GetPlan) (set : Schemas) (j : GetJob) : Type 0 where
   pub schema : IsNamedStruct set p.root.name j.schema
   pub path : path_seen j.steps.items ≡ p.path
   pub indented : j.indented ≡ p.indented
+  pub packed : j.packed ≡ p.packed
 
 pub record IsCallsJob (p : CallsPlan) (set : Schemas) (j : CallsJob) : Type 0 where
   pub schema : IsNamedStruct set p.root.name j.schema
   pub read : each_word_read (call_read set (root_type set (number_of j.schema))) 0 p.texts ≡ Ok (map read_call_seen j.calls.items)
   pub words : map (λ w. w.now) j.words.now ≡ p.words
   pub keep_going : j.keep_going ≡ p.keep_going
+  pub packed : j.packed ≡ p.packed
 
 -- the value of a call can't be read under the root's struct, and the line tells which
 pub record IsValueUnread (p : CallsPlan) (set : Schemas) (line : List ℕ) : Type 0 where
@@ -95,12 +102,12 @@ root_name (fields_plan r) = Some r.name
 root_name p = None
 
 -- no struct of the set has it
-abbrev pub IsNoneNamed : Schemas → Option (List ℕ) → ErrorKind → Type 0
-IsNoneNamed set None kind = ⊥
-IsNoneNamed set (Some name) kind = IsNotNamed set name kind
+abbrev pub IsNoneNamed : Schemas → Option (List ℕ) → Fault → Type 0
+IsNoneNamed set None f = ⊥
+IsNoneNamed set (Some name) f = IsNotNamed set name f
 
-abbrev pub IsRootUnnamed : Plan → Schemas → ErrorKind → Type 0
-IsRootUnnamed p set kind = IsNoneNamed set (root_name p) kind
+abbrev pub IsRootUnnamed : Plan → Schemas → Fault → Type 0
+IsRootUnnamed p set f = IsNoneNamed set (root_name p) f
 
 -- whether a message is read
 abbrev pub wants_input : Job → Bool
@@ -113,3 +120,15 @@ wants_input (job.Fields s) = false
 wants_input (job.Convert strict) = true
 wants_input (job.Help v) = false
 wants_input job.Version = false
+
+-- whether it comes packed
+abbrev pub is_packed : Job → Bool
+is_packed (job.Get j) = j.packed
+is_packed (job.Check j) = j.packed
+is_packed (job.Patch j) = j.packed
+is_packed (job.New j) = false
+is_packed (job.Structs schemas) = false
+is_packed (job.Fields s) = false
+is_packed (job.Convert strict) = false
+is_packed (job.Help v) = false
+is_packed job.Version = false

@@ -3,6 +3,8 @@ pub mod Calls
 pub mod CallsSeen
 pub mod Faults
 pub mod Jobs
+pub mod Near
+pub mod Notes
 pub mod Plans
 pub mod PlansSeen
 pub mod Reads

@@ -16,6 +16,7 @@ pub record GetPlan : Type 0 where
   pub root : Root
   pub path : List PathStep
   pub indented : Bool
+  pub packed : Bool
 
 -- calls on a root, with their words
 pub record CallsPlan : Type 0 where
@@ -23,6 +24,7 @@ pub record CallsPlan : Type 0 where
   pub texts : List CallText
   pub words : List (List ℕ)
   pub keep_going : Bool
+  pub packed : Bool
 
 pub data Plan : Type 0 where
   get_plan : GetPlan → Plan
@@ -86,14 +88,14 @@ given_plan (in_words words) file = words_plan words
 given_plan (in_lines path) file = text_plan (is_utf8 file) path file
 
 abbrev pub under_root : CallsTask → Told SaidCalls → Told CallsPlan
-under_root t (Ok said) = Ok (record { root = t.root; texts = said.0; words = said.1; keep_going = t.keep_going })
+under_root t (Ok said) = Ok (record { root = t.root; texts = said.0; words = said.1; keep_going = t.keep_going; packed = t.packed })
 under_root t (Err line) = Err line
 
 abbrev pub calls_plan_of : CallsTask → (file : List ℕ) → Told CallsPlan
 calls_plan_of t file = under_root t (given_plan t.calls file)
 
 abbrev pub path_plan : GetTask → Read (List PathStep) → Told GetPlan
-path_plan t (Ok path) = Ok (record { root = t.root; path = path; indented = t.indented })
+path_plan t (Ok path) = Ok (record { root = t.root; path = path; indented = t.indented; packed = t.packed })
 path_plan t (Err place) = Err (unreadable_line 1 t.path place)
 
 abbrev pub get_plan_of : GetTask → Told GetPlan

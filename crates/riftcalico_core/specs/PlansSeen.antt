@@ -12,10 +12,10 @@ use Rattle.riftcalico_core.specs.declared.plan.Plan.TheVariants as plan
 use Rattle.riftcalico_words.specs.RequestSeen.{root_named}
 
 abbrev pub get_plan_seen : GetPlan → plans.GetPlan
-get_plan_seen p = record { root = root_named p.root; path = path_text_seen p.path; indented = p.indented }
+get_plan_seen p = record { root = root_named p.root; path = path_text_seen p.path; indented = p.indented; packed = p.packed }
 
 abbrev pub calls_plan_seen : CallsPlan → plans.CallsPlan
-calls_plan_seen p = record { root = root_named p.root; texts = map call_text_seen p.texts.items; words = map (λ w. w.now) p.words.items; keep_going = p.keep_going }
+calls_plan_seen p = record { root = root_named p.root; texts = map call_text_seen p.texts.items; words = map (λ w. w.now) p.words.items; keep_going = p.keep_going; packed = p.packed }
 
 abbrev pub plan_seen : Plan → plans.Plan
 plan_seen (plan.Get p) = get_plan (get_plan_seen p)

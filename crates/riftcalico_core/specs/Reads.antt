@@ -1,5 +1,6 @@
 -- What several words are read as, or where they can't be.
 use Rattle.std.specs.Prelude.{ℕ, suc, ◌++◌, List, [], ◌∷◌, Result, Ok, Err, codes, decimal, get_or}
+use Rattle.capnp_patch.specs.Lines.{told_word}
 use Rattle.capnp_words.specs.Reads.{Read}
 
 -- the index of the first that can't be read, and the place in it of the first byte that can't stand
@@ -20,9 +21,9 @@ abbrev pub each_word_read : {A B : Type 0} → (A → Read B) → ℕ → List A
 each_word_read f i [] = Ok []
 each_word_read f i (x ∷ xs) = joined_reads (at_word i (f x)) (each_word_read f (suc i) xs)
 
--- how that is told: the number of a word among its kind, from 1 on, the word, and the place
+-- how that is told: the number of a word among its kind, from 1 on, the word as it is told, and the place
 abbrev pub unreadable_line : (number : ℕ) → (word : List ℕ) → (place : ℕ) → List ℕ
-unreadable_line number word place = decimal number ++ codes ": " ++ word ++ codes ": can't be read at " ++ decimal place ++ 10 ∷ []
+unreadable_line number word place = decimal number ++ codes ": " ++ told_word word ++ codes ": can't be read at " ++ decimal place ++ 10 ∷ []
 
 -- the same of words by their index
 abbrev pub line_at : List (List ℕ) → ℕ × ℕ → List ℕ

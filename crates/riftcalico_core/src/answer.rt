@@ -1,28 +1,34 @@
 //! What is answered to a message's bytes.
-ghost use Rattle.std.specs.Prelude.{◌≡◌, ◌≢◌, IfErr, IfOk, map};
+ghost use Rattle.std.specs.Prelude.{◌≡◌, ◌≢◌, IfErr, IfOk, MatchOption, map};
 ghost use Rattle.capnp_device.specs.declared.error.ErrorKind.TheVariants.{OutOfMemory};
 ghost use Rattle.capnp_arena.specs.Message.{IsMessage, message_tree};
 ghost use Rattle.capnp_patch.specs.Patches.{IsUnread};
 ghost use Rattle.capnp_schema.specs.Entries.{lists_seen};
 ghost use Rattle.capnp_schema.specs.StructHandles.{IsStruct};
 ghost use Rattle.capnp_set_engine.specs.Convert.{HasNoSet};
-ghost use Rattle.riftcalico_core.specs.Answers.{IsAnswer, IsCheckAnswer, IsConvertAnswer, IsFieldsAnswer, IsGetAnswer, IsNewAnswer, IsNoAnswer, IsNoGetAnswer, IsNotShown, IsPatchAnswer, IsQuiet, IsRunAnswer, IsSoundJob, IsStructsAnswer, IsWritableOutput};
+ghost use Rattle.riftcalico_core.specs.Answers.{IsAnswer, IsCheckAnswer, IsConvertAnswer, IsFieldsAnswer, IsGetAnswer, IsMessageAnswer, IsMessageOutput, IsNewAnswer, IsNoAnswer, IsNoMessageAnswer, IsNotShown, IsPackedMessage, IsPatchAnswer, IsQuiet, IsRunAnswer, IsSoundJob, IsStructsAnswer, IsTextThere, IsWritableOutput, answer_blamed};
+ghost use Rattle.riftcalico_core.specs.Steps.Texts.{IsNoText};
+ghost use Rattle.riftcalico_core.specs.declared.fault.Blamed.TheVariants.{Input};
 
 use crate::calls::make_calls;
+use crate::fault::{Blamed, Fault, Faulty, blame, get_fault};
 use crate::job::{CallsJob, GetJob, Job};
+use crate::note::get_place_note;
 use capnp_arena::message::Builder;
 use capnp_call::calls::any_refused;
 use capnp_call::message::{MOST_WORDS, Run, run_new};
-use capnp_patch::check::check_path;
+use capnp_packed::pack::pack;
+use capnp_packed::received::read_message;
 use capnp_patch::engine::run_bytes;
 use capnp_patch::get::get_line;
 use capnp_patch::lines::get_lines;
+use capnp_patch::place::find_place;
 use capnp_schema::schema::StructSchema;
 use capnp_schema::set::SchemaSet;
 use capnp_set_engine::engine::convert_bytes;
 use capnp_structs::fields::get_fields;
 use capnp_structs::names::get_structs;
-use capnp_wire::error::Result;
+use capnp_wire::error::{Error, ErrorKind, Result};
 use riftcalico_words::usage::{get_help, get_version};
 use std::alloc::Global;
 
@@ -64,30 +70,103 @@ fn answer_quietly(alloc: Global, output: Output) -> Answer
     }
 }
 
-/// The text of a value.
-fn answer_get(alloc: Global, job: &GetJob<'_, '_>, input: &[u8]) -> Result<Answer>
+/// Why a value that is asked for has no text, in both forms, and where; none where it has one. Refused with `OutOfMemory`
+/// alone.
+fn find_fault(alloc: Global, job: &GetJob<'_, '_>, message: &[u8]) -> Result<Option<Fault>>
     requires { IsStruct job.now.schema }
-    ensures answer { IfOk result (IsGetAnswer job.now input.now) }
-    ensures refused { IfErr result (λ e. e.kind ≢ OutOfMemory → IsNoGetAnswer job.now input.now e.kind) }
+    ensures found { IfOk result (λ found. MatchOption found (IsTextThere job.now message.now)
+        (IsNotShown job.now message.now)) }
+    ensures memory { IfErr result (λ e. e.kind ≡ OutOfMemory) }
 {
-    let line = get_line(alloc, job.schema, &job.steps, input, job.indented)?;
-    Ok(answer_quietly(alloc, Output::Text(line)))
+    let Some(refusal) = find_place(alloc, job.schema, &job.steps, message)? else {
+        return Ok(None);
+    };
+    let note = get_place_note(alloc, &job.steps, &refusal.place)?;
+    Ok(Some(Fault {
+        error: Error::from(refusal.kind),
+        blamed: Blamed::Input,
+        note,
+    }))
+}
+
+/// The refusal of a text with its place; or that there is no memory for it.
+fn explain(alloc: Global, job: &GetJob<'_, '_>, message: &[u8], error: Error) -> Fault
+    requires stands { IsStruct job.now.schema }
+    requires refused { error.kind ≢ OutOfMemory → IsNoText job.now message.now error.kind }
+    ensures shown { result.error.kind ≢ OutOfMemory → IsNotShown job.now message.now result }
+    ensures blamed { result.blamed ≡ Input }
+{
+    if error.kind == ErrorKind::OutOfMemory {
+        return get_fault(alloc, error, Blamed::Input);
+    }
+    match find_fault(alloc, job, message) {
+        Ok(Some(fault)) => fault,
+        Ok(None) => get_fault(alloc, error, Blamed::Input),
+        Err(error) => get_fault(alloc, error, Blamed::Input),
+    }
+}
+
+/// The text of a value.
+fn answer_get(alloc: Global, job: &GetJob<'_, '_>, message: &[u8]) -> Faulty<Answer>
+    requires { IsStruct job.now.schema }
+    ensures answer { IfOk result (IsGetAnswer job.now message.now) }
+    ensures refused { IfErr result (λ f. f.error.kind ≢ OutOfMemory → IsNotShown job.now message.now f) }
+    ensures blamed { IfErr result (λ f. f.blamed ≡ Input) }
+{
+    match get_line(alloc, job.schema, &job.steps, message, job.indented) {
+        Ok(line) => Ok(answer_quietly(alloc, Output::Text(line))),
+        Err(error) => Err(explain(alloc, job, message, error)),
+    }
 }
 
 /// Whether a value can be shown.
-fn answer_check(alloc: Global, job: &GetJob<'_, '_>, input: &[u8]) -> Result<Answer>
+fn answer_check(alloc: Global, job: &GetJob<'_, '_>, message: &[u8]) -> Faulty<Answer>
     requires { IsStruct job.now.schema }
-    ensures answer { IfOk result (IsCheckAnswer job.now input.now) }
-    ensures refused { IfErr result (λ e. e.kind ≢ OutOfMemory → IsNotShown job.now input.now e.kind) }
+    ensures answer { IfOk result (IsCheckAnswer job.now message.now) }
+    ensures refused { IfErr result (λ f. f.error.kind ≢ OutOfMemory → IsNotShown job.now message.now f) }
+    ensures blamed { IfErr result (λ f. f.blamed ≡ Input) }
 {
-    check_path(alloc, job.schema, &job.steps, input)?;
-    Ok(answer_quietly(alloc, Output::Nothing))
+    match find_fault(alloc, job, message) {
+        Ok(None) => Ok(answer_quietly(alloc, Output::Nothing)),
+        Ok(Some(fault)) => Err(fault),
+        Err(error) => Err(get_fault(alloc, error, Blamed::Input)),
+    }
+}
+
+/// The packed bytes of a message. Refused with `OutOfMemory` alone.
+fn pack_message(alloc: Global, message: &Builder) -> Result<Vec<u8>>
+    requires { IsMessage message.now }
+    ensures packed { IfOk result (λ v. IsPackedMessage (message_tree message.now) v.items) }
+    ensures memory { IfErr result (λ e. e.kind ≡ OutOfMemory) }
+{
+    let bytes = message.write_message()?;
+    pack(alloc, &bytes)
+}
+
+/// A message as it is written. Refused with `OutOfMemory` alone.
+fn get_output(alloc: Global, message: Builder, packed: bool) -> Result<Output>
+    requires { IsMessage message }
+    ensures output { IfOk result (IsMessageOutput packed (message_tree message.entry)) }
+    ensures writable { IfOk result IsWritableOutput }
+    ensures memory { IfErr result (λ e. e.kind ≡ OutOfMemory) }
+{
+    if packed {
+        Ok(Output::Bytes(pack_message(alloc, &message)?))
+    } else {
+        Ok(Output::Message(message))
+    }
 }
 
 /// What a run leaves, unless a call was refused and it is not kept all the same; and what is told of the replies.
-fn answer_run(alloc: Global, run: Run, words: &[&str], keep_going: bool) -> Result<Answer>
+fn answer_run(
+    alloc: Global,
+    run: Run,
+    words: &[&str],
+    keep_going: bool,
+    packed: bool,
+) -> Result<Answer>
     requires { IsMessage run.message }
-    ensures answer { IfOk result (IsRunAnswer (map (λ w. w.now) words.now) keep_going run.replies.items
+    ensures answer { IfOk result (IsRunAnswer (map (λ w. w.now) words.now) keep_going packed run.replies.items
         (message_tree run.message)) }
     ensures writable { IfOk result (λ a. IsWritableOutput a.output) }
     ensures memory { IfErr result (λ e. e.kind ≡ OutOfMemory) }
@@ -96,7 +175,7 @@ fn answer_run(alloc: Global, run: Run, words: &[&str], keep_going: bool) -> Resu
     let lines = get_lines(alloc, words, &replies)?;
     let refused = any_refused(&replies);
     let output = if keep_going || !refused {
-        Output::Message(message)
+        get_output(alloc, message, packed)?
     } else {
         Output::Nothing
     };
@@ -108,15 +187,15 @@ fn answer_run(alloc: Global, run: Run, words: &[&str], keep_going: bool) -> Resu
 }
 
 /// The message that calls leave of a copy of a root.
-fn answer_patch(alloc: Global, job: &CallsJob<'_, '_, '_>, input: &[u8]) -> Result<Answer>
+fn answer_patch(alloc: Global, job: &CallsJob<'_, '_, '_>, message: &[u8]) -> Result<Answer>
     requires { IsStruct job.now.schema }
-    ensures answer { IfOk result (IsPatchAnswer job.now input.now) }
+    ensures answer { IfOk result (IsPatchAnswer job.now message.now) }
     ensures writable { IfOk result (λ a. IsWritableOutput a.output) }
-    ensures refused { IfErr result (λ e. e.kind ≢ OutOfMemory → IsUnread input.now e.kind) }
+    ensures refused { IfErr result (λ e. e.kind ≢ OutOfMemory → IsUnread message.now e.kind) }
 {
     let calls = make_calls(alloc, &job.calls)?;
-    let run = run_bytes(alloc, input, job.schema, &calls)?;
-    answer_run(alloc, run, job.words, job.keep_going)
+    let run = run_bytes(alloc, message, job.schema, &calls)?;
+    answer_run(alloc, run, job.words, job.keep_going, job.packed)
 }
 
 /// The message that calls leave of an empty root.
@@ -128,7 +207,7 @@ fn answer_new(alloc: Global, job: &CallsJob<'_, '_, '_>) -> Result<Answer>
 {
     let calls = make_calls(alloc, &job.calls)?;
     let run = run_new(alloc, MOST_WORDS, job.schema, &calls)?;
-    answer_run(alloc, run, job.words, job.keep_going)
+    answer_run(alloc, run, job.words, job.keep_going, job.packed)
 }
 
 /// The structs of a set, as text.
@@ -163,26 +242,47 @@ fn answer_convert(alloc: Global, strict: bool, input: &[u8]) -> Result<Answer>
     })
 }
 
-/// What a job answers to a message's bytes; for a job that wants none they don't count. The struct of the job is one of
-/// an accepted set.
-///
-/// Refused with `OutOfMemory`; of `get` and `check` as `capnp_patch::get::get_line`, of `patch` as `capnp_patch::engine::run_bytes`,
-/// and of `schemas` as `capnp_set_engine::engine::convert_bytes`.
-pub fn get_answer(alloc: Global, job: &Job<'_, '_, '_>, input: &[u8]) -> Result<Answer>
+/// What a job answers to a message that is not packed.
+fn answer_message(alloc: Global, job: &Job<'_, '_, '_>, message: &[u8]) -> Faulty<Answer>
     requires { IsSoundJob job.now }
-    ensures answer { IfOk result (IsAnswer job.now input.now) }
+    ensures answer { IfOk result (IsMessageAnswer job.now message.now) }
     ensures writable { IfOk result (λ a. IsWritableOutput a.output) }
-    ensures refused { IfErr result (λ e. e.kind ≢ OutOfMemory → IsNoAnswer job.now input.now e) }
+    ensures refused { IfErr result (λ f. f.error.kind ≢ OutOfMemory → IsNoMessageAnswer job.now message.now f) }
+    ensures blamed { IfErr result (λ f. f.blamed ≡ answer_blamed job.now) }
 {
     match job {
-        Job::Get(job) => answer_get(alloc, job, input),
-        Job::Check(job) => answer_check(alloc, job, input),
-        Job::Patch(job) => answer_patch(alloc, job, input),
-        Job::New(job) => answer_new(alloc, job),
-        Job::Structs(schemas) => answer_structs(alloc, schemas),
-        Job::Fields(schema) => answer_fields(alloc, *schema),
-        Job::Convert(strict) => answer_convert(alloc, *strict, input),
+        Job::Get(job) => answer_get(alloc, job, message),
+        Job::Check(job) => answer_check(alloc, job, message),
+        Job::Patch(job) => blame(alloc, answer_patch(alloc, job, message), Blamed::Input),
+        Job::New(job) => blame(alloc, answer_new(alloc, job), Blamed::Output),
+        Job::Structs(schemas) => blame(alloc, answer_structs(alloc, schemas), Blamed::Output),
+        Job::Fields(schema) => blame(alloc, answer_fields(alloc, *schema), Blamed::Output),
+        Job::Convert(strict) => blame(
+            alloc,
+            answer_convert(alloc, *strict, message),
+            Blamed::Input,
+        ),
         Job::Help(verb) => Ok(answer_quietly(alloc, Output::Fixed(get_help(*verb)))),
         Job::Version => Ok(answer_quietly(alloc, Output::Fixed(get_version()))),
     }
+}
+
+/// What a job answers to the bytes of a message, which may be packed; for a job that wants none they don't count. The struct
+/// of the job is one of an accepted set.
+///
+/// Refused with `OutOfMemory`; of `get` and `check` as `capnp_patch::get::get_line`, with the place, of `patch` as
+/// `capnp_patch::engine::run_bytes`, of `schemas` as `capnp_set_engine::engine::convert_bytes`; and where the message is
+/// packed as `capnp_packed::received::read_message`.
+pub fn get_answer(alloc: Global, job: &Job<'_, '_, '_>, input: &[u8]) -> Faulty<Answer>
+    requires { IsSoundJob job.now }
+    ensures answer { IfOk result (IsAnswer job.now input.now) }
+    ensures writable { IfOk result (λ a. IsWritableOutput a.output) }
+    ensures refused { IfErr result (λ f. f.error.kind ≢ OutOfMemory → IsNoAnswer job.now input.now f) }
+    ensures blamed { IfErr result (λ f. f.blamed ≡ answer_blamed job.now) }
+{
+    if !job.is_packed() {
+        return answer_message(alloc, job, input);
+    }
+    let message = blame(alloc, read_message(alloc, input), Blamed::Input)?;
+    answer_message(alloc, job, &message)
 }

@@ -1,8 +1,8 @@
 //! Refusals, and what they blame.
-ghost use Rattle.std.specs.Prelude.{◌≡◌, IfErr, IfOk, string_bytes};
+ghost use Rattle.std.specs.Prelude.{◌≡◌, IfErr, IfOk, Ok, string_bytes};
 ghost use Rattle.std.specs.Option.{option_map};
 ghost use Rattle.capnp_device.specs.declared.error.ErrorKind.TheVariants.{OutOfMemory};
-ghost use Rattle.riftcalico_core.specs.Faults.{blamed_word, fault_line, file_word, hint_of, task_name, task_set_file};
+ghost use Rattle.riftcalico_core.specs.Faults.{IsFaultOf, IsPlainFault, blamed_word, fault_line, file_word, hint_of, task_name, task_set_file};
 ghost use Rattle.riftcalico_words.specs.RequestSeen.{task_seen};
 
 use crate::plan::get_calls_file;
@@ -25,11 +25,37 @@ pub enum Blamed {
     Output,
 }
 
-/// A refusal, and what is to be looked at.
-#[derive(Clone, Copy, Debug, PartialEq, Eq)]
+/// A refusal, what is to be looked at, and what tells more.
+#[derive(Debug, Drop, PartialEq, Eq)]
 pub struct Fault {
     pub error: Error,
     pub blamed: Blamed,
+    pub note: String,
+}
+
+/// A value, or the refusal of what has none.
+pub type Faulty<T> = std::result::Result<T, Fault>;
+
+/// A refusal of which no more is told.
+pub fn get_fault(alloc: Global, error: Error, blamed: Blamed) -> Fault
+    ensures { IsPlainFault result error blamed }
+{
+    Fault {
+        error,
+        blamed,
+        note: String::new(alloc),
+    }
+}
+
+/// The same of what may be refused.
+pub fn blame<T>(alloc: Global, found: Result<T>, blamed: Blamed) -> Faulty<T>
+    ensures value { IfOk result (λ x. found.entry ≡ Ok x) }
+    ensures refused { IfErr result (IsFaultOf found.entry blamed) }
+{
+    match found {
+        Ok(value) => Ok(value),
+        Err(error) => Err(get_fault(alloc, error, blamed)),
+    }
 }
 
 /// The file of a task's set; none where it is the built-in one, or where there is no set to look into.
@@ -91,13 +117,14 @@ fn get_hint(kind: ErrorKind) -> &'static str
 }
 
 /// The line of a refusal: its number and name, what is to be looked at, and what tells more. Refused with `OutOfMemory` alone.
-pub fn put_fault(alloc: Global, task: &Task<'_>, fault: Fault) -> Result<String>
-    ensures line { IfOk result (λ line. string_bytes line ≡ fault_line (task_seen task.now) fault) }
+pub fn put_fault(alloc: Global, task: &Task<'_>, fault: &Fault) -> Result<String>
+    ensures line { IfOk result (λ line. string_bytes line ≡ fault_line (task_seen task.now) fault.now) }
     ensures memory { IfErr result (λ e. e.kind ≡ OutOfMemory) }
 {
     let number = fault.error.kind.number();
     let name = fault.error.kind.name();
     let word = get_word(task, fault.blamed);
+    let note = fault.note.as_str();
     let hint = get_hint(fault.error.kind);
-    Ok(format!(in alloc; "refused: {number} {name} ({word}){hint}\n")?)
+    Ok(format!(in alloc; "refused: {number} {name} ({word}){note}{hint}\n")?)
 }

@@ -1,36 +1,41 @@
 //! A plan under its set: the struct of its root, and the values of its calls.
 ghost use Rattle.std.specs.Prelude.{◌≡◌, ◌≢◌, IfErr, IfOk, MatchResult, string_bytes};
+ghost use Rattle.riftcalico_core.specs.declared.fault.Blamed.TheVariants.{Name};
 ghost use Rattle.capnp_device.specs.declared.error.ErrorKind.TheVariants.{OutOfMemory};
 ghost use Rattle.capnp_schema.specs.Entries.{lists_seen};
-ghost use Rattle.riftcalico_core.specs.Jobs.{IsCallsJob, IsGetJob, IsJob, IsLineOfPlan, IsRootUnnamed, IsNotNamed, IsValueUnread, wants_input};
+ghost use Rattle.riftcalico_core.specs.Jobs.{IsCallsJob, IsGetJob, IsJob, IsLineOfPlan, IsNamedStruct, IsNotNamed, IsRootUnnamed, IsValueUnread, is_packed, wants_input};
 ghost use Rattle.riftcalico_core.specs.PlansSeen.{calls_plan_seen, get_plan_seen, plan_seen};
 
 use crate::calls::{ReadCall, read_all_calls, steps_of};
+use crate::fault::{Blamed, Fault, Faulty, blame, get_fault};
+use crate::near::get_near_structs;
 use crate::plan::{CallsPlan, GetPlan, Plan, Told};
 use crate::schemas::find_schema;
 use crate::words::put_word_line;
 use capnp_call::calls::Step;
 use capnp_schema::schema::StructSchema;
 use capnp_schema::set::SchemaSet;
-use capnp_wire::error::Result;
 use riftcalico_words::request::Verb;
 use std::alloc::Global;
 
-/// The text of what stands at a path.
+/// The text of what stands at a path, and whether the message comes packed.
 #[derive(Drop)]
 pub struct GetJob<'s, 'c> {
     pub schema: StructSchema<'s>,
     pub steps: Vec<Step<'c>>,
     pub indented: bool,
+    pub packed: bool,
 }
 
-/// Calls with their values, each with its word, and whether what they leave is written where one is refused.
+/// Calls with their values, each with its word, whether what they leave is written where one is refused, and whether
+/// messages come and go packed.
 #[derive(Drop)]
 pub struct CallsJob<'s, 'c, 'w> {
     pub schema: StructSchema<'s>,
     pub calls: Vec<ReadCall<'s, 'c>>,
     pub words: &'c [&'w str],
     pub keep_going: bool,
+    pub packed: bool,
 }
 
 /// What is done to a message.
@@ -57,6 +62,22 @@ pub enum Job<'s, 'c, 'w> {
 }
 
 impl Job<'_, '_, '_> {
+    /// Whether the message that is read comes packed.
+    pub fn is_packed(&self) -> bool
+        ensures { result ≡ is_packed self.now }
+    {
+        match self {
+            Job::Get(job) | Job::Check(job) => job.packed,
+            Job::Patch(job) => job.packed,
+            Job::New(_)
+            | Job::Structs(_)
+            | Job::Fields(_)
+            | Job::Convert(_)
+            | Job::Help(_)
+            | Job::Version => false,
+        }
+    }
+
     /// Whether a message is read.
     pub fn wants_input(&self) -> bool
         ensures { result ≡ wants_input self.now }
@@ -68,64 +89,92 @@ impl Job<'_, '_, '_> {
     }
 }
 
-/// A value that is shown, under the struct of its root. Refused as `find_schema`, and with `OutOfMemory`.
+/// The struct of a root. Refused with `NameNotFound`, and then the note tells the structs that may have been meant; and
+/// with `OutOfMemory`, where there is none for that.
+fn find_root<'s>(alloc: Global, schemas: &'s SchemaSet, name: &str) -> Faulty<StructSchema<'s>>
+    ensures found { IfOk result (IsNamedStruct (lists_seen schemas.now) name.now) }
+    ensures missing { IfErr result (λ f. f.error.kind ≢ OutOfMemory
+        → IsNotNamed (lists_seen schemas.now) name.now f) }
+    ensures blamed { IfErr result (λ f. f.blamed ≡ Name) }
+{
+    match find_schema(schemas, name) {
+        Ok(schema) => Ok(schema),
+        Err(error) => match get_near_structs(alloc, schemas, name) {
+            Ok(note) => Err(Fault {
+                error,
+                blamed: Blamed::Name,
+                note,
+            }),
+            Err(error) => Err(get_fault(alloc, error, Blamed::Name)),
+        },
+    }
+}
+
+/// A value that is shown, under the struct of its root. Refused as `find_root`, and with `OutOfMemory`.
 fn find_get_job<'s, 'c>(
     alloc: Global,
     schemas: &'s SchemaSet,
     plan: &'c GetPlan<'_>,
-) -> Result<GetJob<'s, 'c>>
+) -> Faulty<GetJob<'s, 'c>>
     ensures job { IfOk result (IsGetJob (get_plan_seen plan.now) (lists_seen schemas.now)) }
-    ensures refused { IfErr result (λ e. e.kind ≢ OutOfMemory
-        → IsNotNamed (lists_seen schemas.now) (get_plan_seen plan.now).root.name e.kind) }
+    ensures refused { IfErr result (λ f. f.error.kind ≢ OutOfMemory
+        → IsNotNamed (lists_seen schemas.now) (get_plan_seen plan.now).root.name f) }
+    ensures blamed { IfErr result (λ f. f.blamed ≡ Name) }
 {
-    let schema = find_schema(schemas, plan.root.name)?;
-    let steps = steps_of(alloc, &plan.path)?;
+    let schema = find_root(alloc, schemas, plan.root.name)?;
+    let steps = blame(alloc, steps_of(alloc, &plan.path), Blamed::Name)?;
     Ok(GetJob {
         schema,
         steps,
         indented: plan.indented,
+        packed: plan.packed,
     })
 }
 
-/// Calls under the struct of their root, or the line of the first whose value can't be read. Refused as `find_schema`,
+/// Calls under the struct of their root, or the line of the first whose value can't be read. Refused as `find_root`,
 /// and with `OutOfMemory`.
 fn find_calls_job<'s, 'c, 'w>(
     alloc: Global,
     schemas: &'s SchemaSet,
     plan: &'c CallsPlan<'w>,
-) -> Result<Told<CallsJob<'s, 'c, 'w>>>
+) -> Faulty<Told<CallsJob<'s, 'c, 'w>>>
     ensures job { IfOk result (λ r. MatchResult r (IsCallsJob (calls_plan_seen plan.now) (lists_seen schemas.now))
         (λ line. IsValueUnread (calls_plan_seen plan.now) (lists_seen schemas.now) (string_bytes line))) }
-    ensures refused { IfErr result (λ e. e.kind ≢ OutOfMemory
-        → IsNotNamed (lists_seen schemas.now) (calls_plan_seen plan.now).root.name e.kind) }
+    ensures refused { IfErr result (λ f. f.error.kind ≢ OutOfMemory
+        → IsNotNamed (lists_seen schemas.now) (calls_plan_seen plan.now).root.name f) }
+    ensures blamed { IfErr result (λ f. f.blamed ≡ Name) }
 {
-    let schema = find_schema(schemas, plan.root.name)?;
-    match read_all_calls(alloc, schema, plan.texts.as_slice())? {
+    let schema = find_root(alloc, schemas, plan.root.name)?;
+    let read = read_all_calls(alloc, schema, plan.texts.as_slice());
+    match blame(alloc, read, Blamed::Name)? {
         Ok(calls) => Ok(Ok(CallsJob {
             schema,
             calls,
             words: plan.words.as_slice(),
             keep_going: plan.keep_going,
+            packed: plan.packed,
         })),
         Err(at) => {
-            let line = put_word_line(alloc, plan.words.as_slice(), at)?;
-            Ok(Err(line))
+            let line = put_word_line(alloc, plan.words.as_slice(), at);
+            Ok(Err(blame(alloc, line, Blamed::Name)?))
         }
     }
 }
 
 /// A plan under its set, or the line that tells which value of its calls can't be read.
 ///
-/// Refused with `NameNotFound` where the set has no struct of the root's name, and with `OutOfMemory`.
+/// Refused with `NameNotFound` where the set has no struct of the root's name, with those that may have been meant, and
+/// with `OutOfMemory`.
 pub fn find_job<'s, 'c, 'w>(
     alloc: Global,
     schemas: &'s SchemaSet,
     plan: &'c Plan<'w>,
-) -> Result<Told<Job<'s, 'c, 'w>>>
+) -> Faulty<Told<Job<'s, 'c, 'w>>>
     ensures job { IfOk result (λ r. MatchResult r (IsJob (plan_seen plan.now) (lists_seen schemas.now))
         (λ line. IsLineOfPlan (plan_seen plan.now) (lists_seen schemas.now) (string_bytes line))) }
-    ensures refused { IfErr result (λ e. e.kind ≢ OutOfMemory
-        → IsRootUnnamed (plan_seen plan.now) (lists_seen schemas.now) e.kind) }
+    ensures refused { IfErr result (λ f. f.error.kind ≢ OutOfMemory
+        → IsRootUnnamed (plan_seen plan.now) (lists_seen schemas.now) f) }
+    ensures blamed { IfErr result (λ f. f.blamed ≡ Name) }
 {
     match plan {
         Plan::Get(plan) => Ok(Ok(Job::Get(find_get_job(alloc, schemas, plan)?))),
@@ -139,7 +188,7 @@ pub fn find_job<'s, 'c, 'w>(
             Err(line) => Ok(Err(line)),
         },
         Plan::Structs(_) => Ok(Ok(Job::Structs(schemas))),
-        Plan::Fields(root) => Ok(Ok(Job::Fields(find_schema(schemas, root.name)?))),
+        Plan::Fields(root) => Ok(Ok(Job::Fields(find_root(alloc, schemas, root.name)?))),
         Plan::Convert(strict) => Ok(Ok(Job::Convert(*strict))),
         Plan::Help(verb) => Ok(Ok(Job::Help(*verb))),
         Plan::Version => Ok(Ok(Job::Version)),

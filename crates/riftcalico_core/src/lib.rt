@@ -6,6 +6,8 @@ pub mod answer;
 pub mod calls;
 pub mod fault;
 pub mod job;
+mod near;
+mod note;
 pub mod plan;
 pub mod schemas;
 mod words;

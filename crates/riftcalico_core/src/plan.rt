@@ -26,6 +26,7 @@ pub struct GetPlan<'a> {
     pub root: NamedRoot<'a>,
     pub path: Path,
     pub indented: bool,
+    pub packed: bool,
 }
 
 /// Calls on a root, each with its word, and whether what they leave is written where one was refused.
@@ -35,6 +36,7 @@ pub struct CallsPlan<'a> {
     pub texts: Vec<CallWord>,
     pub words: Vec<&'a str>,
     pub keep_going: bool,
+    pub packed: bool,
 }
 
 /// What is to be done.
@@ -155,6 +157,7 @@ fn plan_calls<'a>(
             texts,
             words,
             keep_going: request.keep_going,
+            packed: request.packed,
         })),
         Err(line) => Ok(Err(line)),
     }
@@ -170,6 +173,7 @@ fn plan_get<'a>(alloc: Global, request: GetRequest<'a>) -> Result<Told<GetPlan<'
             root: request.root,
             path,
             indented: request.indented,
+            packed: request.packed,
         })),
         Err(place) => {
             let line = put_unreadable(alloc, 1, request.path, place as u128)?;

@@ -5,6 +5,7 @@ ghost use Rattle.riftcalico_core.specs.Reads.{line_at, unreadable_line};
 ghost use Rattle.riftcalico_core.specs.Plans.{call_lines, is_remark, no_text_line};
 
 use crate::calls::Unreadable;
+use capnp_patch::lines::put_word;
 use capnp_wire::error::Result;
 use std::alloc::Global;
 
@@ -14,7 +15,10 @@ pub(crate) fn put_unreadable(alloc: Global, number: u128, word: &str, place: u12
     ensures line { IfOk result (λ line. string_bytes line ≡ unreadable_line number word.now place) }
     ensures memory { IfErr result (λ e. e.kind ≡ OutOfMemory) }
 {
-    Ok(format!(in alloc; "{number}: {word}: can't be read at {place}\n")?)
+    let mut line = format!(in alloc; "{number}: ")?;
+    put_word(&mut line, word)?;
+    write!(line, ": can't be read at {place}\n")?;
+    Ok(line)
 }
 
 /// The word at an index, empty where there is none.

@@ -7,7 +7,7 @@ use Rattle.capnp_device.specs.declared.error.ErrorKind.TheVariants.{OutOfMemory,
 use Rattle.capnp_schema.specs.Schema.{Schemas}
 use Rattle.capnp_show_engine.specs.Opened.{file_paths}
 use Rattle.capnp_show_engine.specs.Show.{IsRead}
-use Rattle.riftcalico_core.specs.Answers.{IsAnswer, IsNoAnswer}
+use Rattle.riftcalico_core.specs.Answers.{IsAnswer, IsNoAnswer, answer_blamed}
 use Rattle.riftcalico_core.specs.Faults.{task_set_file}
 use Rattle.riftcalico_core.specs.Jobs.{IsJob, IsLineOfPlan, IsRootUnnamed, IsNoSetOf, IsSetOfFile, wants_input}
 use Rattle.riftcalico_core.specs.Plans.{Plan, calls_file, task_plan}
@@ -27,7 +27,7 @@ task_paths t = file_paths (calls_file t) ++ file_paths (task_set_file t)
 -- there is none, for want of memory or for what the bytes are; or there is one, and it was written or not
 abbrev pub IsAnsweredTo : Job → (bytes : List ℕ) → (unwritten : Type 0) → (written written' : Option (List ℕ)) → (writes writes' : ℕ) → Ran → Type 0
 IsAnsweredTo j bytes unwritten written written' writes writes' r =
-    (IsFault r (λ f. (f.blamed ≡ blamed.Input) × ((f.error.kind ≡ OutOfMemory) ⊎ IsNoAnswer j bytes f.error)) × unwritten)
+    (IsFault r (λ f. (f.blamed ≡ answer_blamed j) × ((f.error.kind ≡ OutOfMemory) ⊎ IsNoAnswer j bytes f)) × unwritten)
     ⊎ ((a : Answer) × IsAnswer j bytes a × IsAnswerPut a unwritten written written' writes writes' r)
 
 -- these are the message's bytes, read to the end, or none is wanted, and then nothing was read
@@ -50,7 +50,7 @@ module _ (untouched : Type 0) (left left' : Option (List ℕ)) (reads reads' : �
   -- the struct of the root is in the set, and the values of calls can be read
   abbrev pub IsUnderSchemas : Plan → Schemas → Ran → Type 0
   IsUnderSchemas p set r =
-      (IsFault r (λ f. (f.blamed ≡ blamed.Name) × ((f.error.kind ≡ OutOfMemory) ⊎ IsRootUnnamed p set f.error.kind)) × untouched × unwritten)
+      (IsFault r (λ f. (f.blamed ≡ blamed.Name) × ((f.error.kind ≡ OutOfMemory) ⊎ IsRootUnnamed p set f)) × untouched × unwritten)
       ⊎ ((IsUnreadable r (λ line. IsLineOfPlan p set line) × untouched × unwritten)
       ⊎ ((j : Job) × IsJob p set j × IsJobRun j r))
 

@@ -11,6 +11,7 @@ options_seen o = record {
   calls = option_map (λ w. w.now) o.calls;
   indent = o.indent;
   keep_going = o.keep_going;
+  packed = o.packed;
   strict = o.strict;
   help = o.help;
   others = map (λ w. w.now) o.others.items;

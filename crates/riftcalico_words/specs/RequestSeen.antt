@@ -18,14 +18,14 @@ abbrev pub root_named : NamedRoot → Root
 root_named r = record { file = option_map (λ f. f.now) r.file; name = r.name.now }
 
 abbrev pub get_task_of : GetRequest → GetTask
-get_task_of r = record { root = root_named r.root; path = r.path.now; indented = r.indented }
+get_task_of r = record { root = root_named r.root; path = r.path.now; indented = r.indented; packed = r.packed }
 
 abbrev pub given_of : CallWords → GivenCalls
 given_of (words.Words ws) = in_words (map (λ w. w.now) ws.items)
 given_of (words.Lines path) = in_lines path.now
 
 abbrev pub calls_task_of : CallsRequest → CallsTask
-calls_task_of r = record { root = root_named r.root; calls = given_of r.calls; keep_going = r.keep_going }
+calls_task_of r = record { root = root_named r.root; calls = given_of r.calls; keep_going = r.keep_going; packed = r.packed }
 
 abbrev pub task_seen : Task → tasks.Task
 task_seen (task.Get r) = get_task (get_task_of r)

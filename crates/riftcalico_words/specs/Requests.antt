@@ -34,8 +34,8 @@ is_fitting verb.Get o = is_none o.calls && not o.keep_going && not o.strict
 is_fitting verb.Check o = is_none o.calls && not o.indent && not o.keep_going && not o.strict
 is_fitting verb.Patch o = not o.indent && not o.strict
 is_fitting verb.New o = not o.indent && not o.strict
-is_fitting verb.Structs o = is_none o.calls && not o.indent && not o.keep_going && not o.strict
-is_fitting verb.Schemas o = is_none o.set && is_none o.calls && not o.indent && not o.keep_going
+is_fitting verb.Structs o = is_none o.calls && not o.indent && not o.keep_going && not o.packed && not o.strict
+is_fitting verb.Schemas o = is_none o.set && is_none o.calls && not o.indent && not o.keep_going && not o.packed
 
 -- calls are words or the lines of a file, not both
 abbrev pub given_asked : (file : Option (List ℕ)) → List (List ℕ) → Option GivenCalls
@@ -47,23 +47,23 @@ given_asked (Some path) (word ∷ words) = None
 abbrev pub named_calls : WordOptions → List (List ℕ) → Option CallsTask
 named_calls o [] = None
 named_calls o (name ∷ words) =
-    option_map (λ given. record { root = record { file = o.set; name = name }; calls = given; keep_going = o.keep_going }) (given_asked o.calls words)
+    option_map (λ given. record { root = record { file = o.set; name = name }; calls = given; keep_going = o.keep_going; packed = o.packed }) (given_asked o.calls words)
 
 abbrev pub calls_asked : WordOptions → Option CallsTask
 calls_asked o = named_calls o o.others
 
 -- what is asked of a message that is shown, or of a set, by the other words
 abbrev pub show_asked : WordOptions → List (List ℕ) → Option Task
-show_asked o (name ∷ []) = Some (get_task (record { root = record { file = o.set; name = name }; path = codes "."; indented = o.indent }))
+show_asked o (name ∷ []) = Some (get_task (record { root = record { file = o.set; name = name }; path = codes "."; indented = o.indent; packed = o.packed }))
 show_asked o words = None
 
 abbrev pub get_asked : WordOptions → List (List ℕ) → Option Task
-get_asked o (name ∷ path ∷ []) = Some (get_task (record { root = record { file = o.set; name = name }; path = path; indented = o.indent }))
+get_asked o (name ∷ path ∷ []) = Some (get_task (record { root = record { file = o.set; name = name }; path = path; indented = o.indent; packed = o.packed }))
 get_asked o words = None
 
 abbrev pub check_asked : WordOptions → List (List ℕ) → Option Task
-check_asked o (name ∷ []) = Some (check_task (record { root = record { file = o.set; name = name }; path = codes "."; indented = false }))
-check_asked o (name ∷ path ∷ []) = Some (check_task (record { root = record { file = o.set; name = name }; path = path; indented = false }))
+check_asked o (name ∷ []) = Some (check_task (record { root = record { file = o.set; name = name }; path = codes "."; indented = false; packed = o.packed }))
+check_asked o (name ∷ path ∷ []) = Some (check_task (record { root = record { file = o.set; name = name }; path = path; indented = false; packed = o.packed }))
 check_asked o words = None
 
 abbrev pub structs_asked : WordOptions → List (List ℕ) → Option Task

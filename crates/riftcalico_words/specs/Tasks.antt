@@ -7,22 +7,24 @@ pub record Root : Type 0 where
   pub file : Option (List ℕ)
   pub name : List ℕ
 
--- the text of the value at a path
+-- the text of the value at a path, and whether the message comes packed
 pub record GetTask : Type 0 where
   pub root : Root
   pub path : List ℕ
   pub indented : Bool
+  pub packed : Bool
 
 -- calls, each a word, or each a line of the file at a path
 pub data GivenCalls : Type 0 where
   in_words : List (List ℕ) → GivenCalls
   in_lines : (path : List ℕ) → GivenCalls
 
--- calls on a root, and whether what they leave is written where one was refused
+-- calls on a root, whether what they leave is written where one was refused, and whether messages come and go packed
 pub record CallsTask : Type 0 where
   pub root : Root
   pub calls : GivenCalls
   pub keep_going : Bool
+  pub packed : Bool
 
 -- A value is shown, or only looked at whether it can be, calls are made on a copy of a message or on an empty root, the structs of a set are shown, in the set of a
 -- file or else in the built-in one, or the fields of a struct, a compiler's request is made a set, or

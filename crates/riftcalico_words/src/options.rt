@@ -15,6 +15,8 @@ pub enum Flag {
     Indent,
     /// `--keep-going`
     KeepGoing,
+    /// `--packed`
+    Packed,
     /// `--strict`
     Strict,
     /// `--help`
@@ -48,6 +50,7 @@ pub struct Options<'a> {
     pub calls: Option<&'a str>,
     pub indent: bool,
     pub keep_going: bool,
+    pub packed: bool,
     pub strict: bool,
     pub help: bool,
     pub others: Vec<&'a str>,
@@ -74,6 +77,7 @@ fn kind_of(word: &str) -> WordKind
         "--calls" => WordKind::File(FileOption::Calls),
         "--indent" => WordKind::Flag(Flag::Indent),
         "--keep-going" => WordKind::Flag(Flag::KeepGoing),
+        "--packed" => WordKind::Flag(Flag::Packed),
         "--strict" => WordKind::Flag(Flag::Strict),
         "--help" => WordKind::Flag(Flag::Help),
         _ => {
@@ -94,6 +98,7 @@ fn put_flag(options: Options<'_>, flag: Flag) -> Options<'_>
     match flag {
         Flag::Indent => options.indent = true,
         Flag::KeepGoing => options.keep_going = true,
+        Flag::Packed => options.packed = true,
         Flag::Strict => options.strict = true,
         Flag::Help => options.help = true,
     }
@@ -165,6 +170,7 @@ pub fn read_options<'a>(
         calls: None,
         indent: false,
         keep_going: false,
+        packed: false,
         strict: false,
         help: false,
         others: Vec::new(alloc),

@@ -36,12 +36,13 @@ pub struct NamedRoot<'a> {
     pub name: &'a str,
 }
 
-/// The text of the value at a path, and whether it is indented.
+/// The text of the value at a path, whether it is indented, and whether the message comes packed.
 #[derive(Clone, Copy)]
 pub struct GetRequest<'a> {
     pub root: NamedRoot<'a>,
     pub path: &'a str,
     pub indented: bool,
+    pub packed: bool,
 }
 
 /// Calls, each a word, or each a line of the file at a path.
@@ -51,12 +52,13 @@ pub enum CallWords<'a> {
     Lines(&'a str),
 }
 
-/// Calls on a root, and whether what they leave is written where one was refused.
+/// Calls on a root, whether what they leave is written where one was refused, and whether messages come and go packed.
 #[derive(Drop)]
 pub struct CallsRequest<'a> {
     pub root: NamedRoot<'a>,
     pub calls: CallWords<'a>,
     pub keep_going: bool,
+    pub packed: bool,
 }
 
 /// What is to be done.
@@ -123,14 +125,22 @@ fn is_fit(verb: Verb, options: &Options<'_>) -> bool
             options.calls.is_none() && !options.keep_going && !options.strict
         }
         Verb::Patch | Verb::New => !options.indent && !options.strict,
-        Verb::Check | Verb::Structs => {
+        Verb::Check => {
             options.calls.is_none() && !options.indent && !options.keep_going && !options.strict
+        }
+        Verb::Structs => {
+            options.calls.is_none()
+                && !options.indent
+                && !options.keep_going
+                && !options.packed
+                && !options.strict
         }
         Verb::Schemas => {
             options.set.is_none()
                 && options.calls.is_none()
                 && !options.indent
                 && !options.keep_going
+                && !options.packed
         }
     }
 }
@@ -180,6 +190,7 @@ fn read_calls<'a>(alloc: Global, options: &Options<'a>) -> Result<Option<CallsRe
                     root,
                     calls,
                     keep_going: options.keep_going,
+                    packed: options.packed,
                 })),
                 None => Ok(None),
             }
@@ -197,21 +208,25 @@ fn read_plain<'a>(verb: Verb, options: &Options<'a>) -> Option<Task<'a>>
             root: NamedRoot { file, name: *name },
             path: ".",
             indented: options.indent,
+            packed: options.packed,
         })),
         (Verb::Get, [name, path]) => Some(Task::Get(GetRequest {
             root: NamedRoot { file, name: *name },
             path: *path,
             indented: options.indent,
+            packed: options.packed,
         })),
         (Verb::Check, [name]) => Some(Task::Check(GetRequest {
             root: NamedRoot { file, name: *name },
             path: ".",
             indented: false,
+            packed: options.packed,
         })),
         (Verb::Check, [name, path]) => Some(Task::Check(GetRequest {
             root: NamedRoot { file, name: *name },
             path: *path,
             indented: false,
+            packed: options.packed,
         })),
         (Verb::Structs, []) => Some(Task::Structs(file)),
         (Verb::Structs, [name]) => Some(Task::Fields(NamedRoot { file, name: *name })),
@@ -279,8 +294,8 @@ fn read_behind<'a>(alloc: Global, verb: Verb, words: &'a [String]) -> Result<Ask
 /// |`--version`|the version|
 ///
 /// Options stand anywhere behind the verb: `--set FILE` but of `schemas`, `--indent` of `show` and `get`, `--calls FILE`,
-/// with no call beside it, and `--keep-going` of `patch` and `new`, `--strict` of `schemas`. Of one that stands twice the
-/// last counts. Refused with `OutOfMemory` alone.
+/// with no call beside it, and `--keep-going` of `patch` and `new`, `--packed` of all these, `--strict` of `schemas`. Of
+/// one that stands twice the last counts. Refused with `OutOfMemory` alone.
 pub fn read_words<'a>(alloc: Global, words: &'a [String]) -> Result<Asked<'a>>
     ensures asked { IfOk result (λ r. asked_seen r ≡ asked_request (map string_bytes words.now)) }
     ensures memory { IfErr result (λ e. e.kind ≡ OutOfMemory) }

@@ -1,19 +1,32 @@
-use Rattle.std.proofs.Common.{sym, None, Some}
+use Rattle.std.proofs.Common.{sym, None, Some, string_bytes, rules}
 use Rattle.capnp_dynamic_readers.specs.Shown.{set_seen}
 use Rattle.capnp_check.specs.Places.{root_parts}
 use Rattle.capnp_check.proofs.PlacesFound.{begins, number_told, path_ends, steps_on}
+use Rattle.capnp_check.proofs.PlaceWords.{words_on, words_start}
 use Rattle.capnp_check.proofs.place.find_refusal.Goals as goal
 
 pub loop-step-init : goal.loop-step-init
 loop-step-init c =
     let b = begins c.args.value c.new-path.result.items c.open_root-current.result c.new-path.ensures.items c.open_root-current.ensures.parts in
-    record { path = b.0; of_set = c.open_root-current.ensures.set; same = b.1 }
+    record {
+      path = b.0;
+      words = words_start (set_seen c.args.value) (root_parts c.args.value) c.new-path.result.items (string_bytes c.new-words.result) c.new-path.ensures.items (search rules);
+      of_set = c.open_root-current.ensures.set;
+      same = b.1;
+    }
 
 pub loop-step-preserved : goal.loop-step-preserved
 loop-step-preserved c =
     let found = c.in-Some.ensures (set_seen c.args.value) c.loop-step.invariant.of_set in
     let on = steps_on c.args.value c.loop-step.path.items c.push.new.self.items c.in-Some.step c.loop-step.current c.in-Some.next c.in_ok-push.ensures.items c.loop-step.invariant.path c.loop-step.invariant.same found in
-    record { path = on.0; of_set = found.of_set; same = on.1 }
+    record {
+      path = on.0;
+      words = words_on (set_seen c.args.value) (root_parts c.args.value) c.loop-step.path.items c.push.new.self.items c.in-Some.step c.loop-step.current
+          (string_bytes c.loop-step.words) (string_bytes c.put_step.new.out) c.in_ok-push.ensures.items c.loop-step.invariant.path c.loop-step.invariant.words
+          (c.in_ok-put_step.ensures.put (set_seen c.args.value) c.loop-step.invariant.of_set found.first);
+      of_set = found.of_set;
+      same = on.1;
+    }
 
 pub loop-step-smaller : goal.loop-step-smaller
 loop-step-smaller c = (c.in-Some.ensures (set_seen c.args.value) c.loop-step.invariant.of_set).less
@@ -30,5 +43,8 @@ returns-clause-number c =
 
 pub returns-clause-place : goal.returns-clause-place
 returns-clause-place c =
-    path_ends (set_seen c.args.value) c.loop-step.path.items (root_parts c.args.value) c.loop-step.current c.in-Some-get_own_kind.kind (sym c.in-Some-get_own_kind.ensures)
-    c.loop-step.invariant.path
+    record {
+      steps = path_ends (set_seen c.args.value) c.loop-step.path.items (root_parts c.args.value) c.loop-step.current c.in-Some-get_own_kind.kind (sym c.in-Some-get_own_kind.ensures)
+          c.loop-step.invariant.path;
+      words = c.loop-step.invariant.words;
+    }

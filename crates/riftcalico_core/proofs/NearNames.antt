@@ -1,0 +1,35 @@
+-- Names one after another, and the notes of those that are near.
+use Rattle.std.proofs.Common.{ℕ, zero, suc, ◌+◌, ◌<◌, ◌≤◌, List, [], ◌∷◌, ◌++◌, drop, length, map, ◌≡◌, ◌∙◌, ap, arith, refl, sym}
+use Rattle.capnp_schema.specs.Schema.{TypedField, no_field}
+use Rattle.std.specs.Prelude.{slice_get, unwrap_or}
+use Rattle.riftcalico_core.specs.Near.{near_note, with_all_near, with_near}
+use Rattle.riftcalico_core.specs.Notes.{field_name}
+
+-- one name more is the last
+pub near_more : (asked note : List ℕ) (names : List (List ℕ)) (name : List ℕ) → with_all_near asked note (names ++ name ∷ []) ≡ with_near asked (with_all_near asked note names) name
+near_more asked note [] name = refl
+near_more asked note (n ∷ names) name = near_more asked (with_near asked note n) names name
+
+pub near_next : (asked note more : List ℕ) (names : List (List ℕ)) (name : List ℕ) → note ≡ near_note asked names → more ≡ with_near asked note name → more ≡ near_note asked (names ++ name ∷ [])
+near_next asked note more names name e m = m ∙ (ap (λ (n : List ℕ). with_near asked n name) e ∙ sym (near_more asked [] names name))
+
+-- fields by index
+field-next : (fs : List TypedField) (i : ℕ) → i < length fs → drop i fs ≡ unwrap_or (slice_get fs i) no_field ∷ drop (i + 1) fs
+field-next [] i lt = absurd (omega (arith, lt))
+field-next (f ∷ fs) zero lt = refl
+field-next (f ∷ fs) (suc i) lt = field-next fs i (omega (arith, lt))
+
+no-field : (fs : List TypedField) (i : ℕ) → length fs ≤ i → drop i fs ≡ []
+no-field [] zero le = refl
+no-field [] (suc i) le = refl
+no-field (f ∷ fs) zero le = absurd (omega (arith, le))
+no-field (f ∷ fs) (suc i) le = no-field fs i (omega (arith, le))
+
+pub fields_next : (asked note more name : List ℕ) (fs : List TypedField) (i : ℕ) → i < length fs → name ≡ field_name (unwrap_or (slice_get fs i) no_field) → more ≡ with_near asked note name →
+    with_all_near asked note (map field_name (drop i fs)) ≡ near_note asked (map field_name fs) → with_all_near asked more (map field_name (drop (i + 1) fs)) ≡ near_note asked (map field_name fs)
+fields_next asked note more name fs i lt named m before =
+    ap (λ (n : List ℕ). with_all_near asked n (map field_name (drop (i + 1) fs))) (m ∙ ap (with_near asked note) named)
+    ∙ (sym (ap (λ (xs : List TypedField). with_all_near asked note (map field_name xs)) (field-next fs i lt)) ∙ before)
+
+pub fields_end : (asked note : List ℕ) (fs : List TypedField) (i : ℕ) → length fs ≤ i → with_all_near asked note (map field_name (drop i fs)) ≡ near_note asked (map field_name fs) → note ≡ near_note asked (map field_name fs)
+fields_end asked note fs i le before = sym (ap (λ (xs : List TypedField). with_all_near asked note (map field_name xs)) (no-field fs i le)) ∙ before
