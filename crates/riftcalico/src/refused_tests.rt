@@ -175,18 +175,18 @@ structs|-- -> unknown option: --
 # no struct of the built-in set
 get|Absent|a -> refused: 64 NameNotFound (Absent); see riftcalico structs
 patch|Absent|get a -> refused: 64 NameNotFound (Absent); see riftcalico structs
-new|Shapes.circle -> refused: 64 NameNotFound (Shapes.circle); see riftcalico structs
+new|Shapes.circle -> refused: 64 NameNotFound (Shapes.circle); near: Shapes; see riftcalico structs
 structs|Absent -> refused: 64 NameNotFound (Absent); see riftcalico structs
-# names that may have been meant: in other letters, or one change away
+# names that may have been meant begin with the same three letters, in upper or lower case
 get|flat|a -> refused: 64 NameNotFound (flat); near: Flat; see riftcalico structs
 show|Shape -> refused: 64 NameNotFound (Shape); near: Shapes; see riftcalico structs
 check|Lists2 -> refused: 64 NameNotFound (Lists2); near: Lists; see riftcalico structs
 new|Mixde -> refused: 64 NameNotFound (Mixde); near: Mixed; see riftcalico structs
-structs|Nide -> refused: 64 NameNotFound (Nide); near: Node; see riftcalico structs
+structs|nodes -> refused: 64 NameNotFound (nodes); near: Node; see riftcalico structs
 structs|LOOT -> refused: 64 NameNotFound (LOOT); near: Loop; see riftcalico structs
-# two changes are too many, and a short word has none
-structs|Fla1e -> refused: 64 NameNotFound (Fla1e); see riftcalico structs
-structs|a -> refused: 64 NameNotFound (a); see riftcalico structs
+# two letters are too few
+structs|Fl -> refused: 64 NameNotFound (Fl); see riftcalico structs
+structs|Flip -> refused: 64 NameNotFound (Flip); see riftcalico structs
 ";
 
 #[test]

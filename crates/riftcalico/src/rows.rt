@@ -233,10 +233,10 @@ pub(crate) const GOT: &str = "\
 # the names that may have been meant
 :get
 :Lists
-:itmes
+:itemz
 <0000000001000000 0000000000000000
 =1
-!refused: 20 FieldNotFound (standard input) at itmes in Lists; near: items
+!refused: 20 FieldNotFound (standard input) at itemz in Lists; near: items
 
 # the place of what can't be read, in a group, from the root and from a path
 :show

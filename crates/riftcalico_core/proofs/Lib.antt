@@ -1,6 +1,9 @@
+pub mod Blamed
 pub mod CallsGiven
 pub mod Each
 pub mod NearNames
+pub mod Packed
+pub mod PathsTaken
 pub mod PlainGiven
 pub mod Texts
 pub mod Told

@@ -17,7 +17,9 @@ near_next asked note more names name e m = m ∙ (ap (λ (n : List ℕ). with_ne
 field-next : (fs : List TypedField) (i : ℕ) → i < length fs → drop i fs ≡ unwrap_or (slice_get fs i) no_field ∷ drop (i + 1) fs
 field-next [] i lt = absurd (omega (arith, lt))
 field-next (f ∷ fs) zero lt = refl
-field-next (f ∷ fs) (suc i) lt = field-next fs i (omega (arith, lt))
+field-next (f ∷ fs) (suc i) lt =
+    let e : suc i + 1 ≡ suc (i + 1) = omega arith in
+    field-next fs i (omega (arith, lt)) ∙ ap (λ n. unwrap_or (slice_get fs i) no_field ∷ drop n (f ∷ fs)) (sym e)
 
 no-field : (fs : List TypedField) (i : ℕ) → length fs ≤ i → drop i fs ≡ []
 no-field [] zero le = refl

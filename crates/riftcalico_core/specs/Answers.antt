@@ -8,7 +8,9 @@ use Rattle.capnp_call.specs.declared.calls.Call.{Call}
 use Rattle.capnp_call.specs.declared.calls.Reply.{Reply}
 use Rattle.capnp_check.specs.Refusals.{text_refusal}
 use Rattle.capnp_dynamic_readers.specs.Pieces.{IsAppended}
+use Rattle.capnp_packed.specs.Packing.{packed_form}
 use Rattle.capnp_packed.specs.Received.{received_message}
+use Rattle.capnp_packed.specs.Unpacking.{unpacked_bytes}
 use Rattle.capnp_patch.specs.Gets.{got_text}
 use Rattle.capnp_patch.specs.Lines.{AreTold}
 use Rattle.capnp_patch.specs.Patches.{IsLeftOfBytes, IsLeftOfNew, IsUnread, is_kept}

@@ -1,5 +1,5 @@
 //! What is answered to a message's bytes.
-ghost use Rattle.std.specs.Prelude.{◌≡◌, ◌≢◌, IfErr, IfOk, MatchOption, map};
+ghost use Rattle.std.specs.Prelude.{◌≡◌, ◌≢◌, IfErr, IfOk, IfSome, MatchOption, map};
 ghost use Rattle.capnp_device.specs.declared.error.ErrorKind.TheVariants.{OutOfMemory};
 ghost use Rattle.capnp_arena.specs.Message.{IsMessage, message_tree};
 ghost use Rattle.capnp_patch.specs.Patches.{IsUnread};
@@ -76,6 +76,7 @@ fn find_fault(alloc: Global, job: &GetJob<'_, '_>, message: &[u8]) -> Result<Opt
     requires { IsStruct job.now.schema }
     ensures found { IfOk result (λ found. MatchOption found (IsTextThere job.now message.now)
         (IsNotShown job.now message.now)) }
+    ensures blamed { IfOk result (λ found. IfSome found (λ f. f.blamed ≡ Input)) }
     ensures memory { IfErr result (λ e. e.kind ≡ OutOfMemory) }
 {
     let Some(refusal) = find_place(alloc, job.schema, &job.steps, message)? else {
@@ -146,7 +147,7 @@ fn pack_message(alloc: Global, message: &Builder) -> Result<Vec<u8>>
 /// A message as it is written. Refused with `OutOfMemory` alone.
 fn get_output(alloc: Global, message: Builder, packed: bool) -> Result<Output>
     requires { IsMessage message }
-    ensures output { IfOk result (IsMessageOutput packed (message_tree message.entry)) }
+    ensures output { IfOk result (IsMessageOutput packed (message_tree message)) }
     ensures writable { IfOk result IsWritableOutput }
     ensures memory { IfErr result (λ e. e.kind ≡ OutOfMemory) }
 {

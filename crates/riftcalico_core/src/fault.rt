@@ -49,8 +49,8 @@ pub fn get_fault(alloc: Global, error: Error, blamed: Blamed) -> Fault
 
 /// The same of what may be refused.
 pub fn blame<T>(alloc: Global, found: Result<T>, blamed: Blamed) -> Faulty<T>
-    ensures value { IfOk result (λ x. found.entry ≡ Ok x) }
-    ensures refused { IfErr result (IsFaultOf found.entry blamed) }
+    ensures value { IfOk result (λ x. found ≡ Ok x) }
+    ensures refused { IfErr result (IsFaultOf found blamed) }
 {
     match found {
         Ok(value) => Ok(value),
@@ -124,7 +124,9 @@ pub fn put_fault(alloc: Global, task: &Task<'_>, fault: &Fault) -> Result<String
     let number = fault.error.kind.number();
     let name = fault.error.kind.name();
     let word = get_word(task, fault.blamed);
-    let note = fault.note.as_str();
-    let hint = get_hint(fault.error.kind);
-    Ok(format!(in alloc; "refused: {number} {name} ({word}){note}{hint}\n")?)
+    let mut line = format!(in alloc; "refused: {number} {name} ({word})")?;
+    line.push_str(fault.note.as_str())?;
+    line.push_str(get_hint(fault.error.kind))?;
+    line.push_str("\n")?;
+    Ok(line)
 }

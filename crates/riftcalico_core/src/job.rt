@@ -15,6 +15,7 @@ use crate::words::put_word_line;
 use capnp_call::calls::Step;
 use capnp_schema::schema::StructSchema;
 use capnp_schema::set::SchemaSet;
+use capnp_wire::error::Result;
 use riftcalico_words::request::Verb;
 use std::alloc::Global;
 
@@ -131,6 +132,33 @@ fn find_get_job<'s, 'c>(
     })
 }
 
+/// Calls under a struct, or the line of the first whose value can't be read. Refused with `OutOfMemory` alone.
+fn read_under<'s, 'c, 'w>(
+    alloc: Global,
+    schemas: &'s SchemaSet,
+    schema: StructSchema<'s>,
+    plan: &'c CallsPlan<'w>,
+) -> Result<Told<CallsJob<'s, 'c, 'w>>>
+    requires { IsNamedStruct (lists_seen schemas.now) (calls_plan_seen plan.now).root.name schema }
+    ensures job { IfOk result (λ r. MatchResult r (IsCallsJob (calls_plan_seen plan.now) (lists_seen schemas.now))
+        (λ line. IsValueUnread (calls_plan_seen plan.now) (lists_seen schemas.now) (string_bytes line))) }
+    ensures memory { IfErr result (λ e. e.kind ≡ OutOfMemory) }
+{
+    match read_all_calls(alloc, schema, plan.texts.as_slice())? {
+        Ok(calls) => Ok(Ok(CallsJob {
+            schema,
+            calls,
+            words: plan.words.as_slice(),
+            keep_going: plan.keep_going,
+            packed: plan.packed,
+        })),
+        Err(at) => {
+            let line = put_word_line(alloc, plan.words.as_slice(), at)?;
+            Ok(Err(line))
+        }
+    }
+}
+
 /// Calls under the struct of their root, or the line of the first whose value can't be read. Refused as `find_root`,
 /// and with `OutOfMemory`.
 fn find_calls_job<'s, 'c, 'w>(
@@ -145,20 +173,8 @@ fn find_calls_job<'s, 'c, 'w>(
     ensures blamed { IfErr result (λ f. f.blamed ≡ Name) }
 {
     let schema = find_root(alloc, schemas, plan.root.name)?;
-    let read = read_all_calls(alloc, schema, plan.texts.as_slice());
-    match blame(alloc, read, Blamed::Name)? {
-        Ok(calls) => Ok(Ok(CallsJob {
-            schema,
-            calls,
-            words: plan.words.as_slice(),
-            keep_going: plan.keep_going,
-            packed: plan.packed,
-        })),
-        Err(at) => {
-            let line = put_word_line(alloc, plan.words.as_slice(), at);
-            Ok(Err(blame(alloc, line, Blamed::Name)?))
-        }
-    }
+    let job = read_under(alloc, schemas, schema, plan);
+    blame(alloc, job, Blamed::Name)
 }
 
 /// A plan under its set, or the line that tells which value of its calls can't be read.

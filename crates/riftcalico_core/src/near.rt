@@ -1,15 +1,14 @@
 //! Names that may have been meant by another one.
 //!
-//! A name is near to a word where they are alike; letters from A to Z are alike in both cases. Of words of three bytes and
-//! more those are alike too that differ by one change: a byte more, one less, another one, or two neighbours that stand the
-//! other way round. And a name is near that ends with the word, behind a point or colon.
-ghost use Rattle.std.specs.Prelude.{◌≡◌, ◌+◌, [], IfErr, IfOk, OnOk, map, string_bytes};
+//! A name is near to a word where both have three bytes and more, of which the first three are the same, whatever the case
+//! of letters from A to Z. And where it ends with the word, behind a point or colon.
+ghost use Rattle.std.specs.Prelude.{◌≡◌, ◌<◌, length, IfErr, IfOk, OnOk, map, string_bytes};
 ghost use Rattle.std.specs.Str.Lines.{lines};
 ghost use Rattle.capnp_device.specs.declared.error.ErrorKind.TheVariants.{OutOfMemory};
 ghost use Rattle.capnp_schema.specs.Entries.{lists_seen};
 ghost use Rattle.capnp_schema.specs.StructHandles.{struct_fields};
 ghost use Rattle.capnp_structs.specs.Names.{structs_text};
-ghost use Rattle.riftcalico_core.specs.Near.{are_swapped, is_alike, is_last_part, is_near, is_one_change, is_one_off, near_note, with_near};
+ghost use Rattle.riftcalico_core.specs.Near.{begins_alike, is_alike_at, is_last_part, is_near, near_note, with_near};
 ghost use Rattle.riftcalico_core.specs.Notes.{field_name};
 
 use capnp_schema::schema::StructSchema;
@@ -18,49 +17,23 @@ use capnp_structs::names::get_structs;
 use capnp_wire::error::Result;
 use std::alloc::Global;
 
-/// Whether two neighbours stand the other way round, and the rest is alike.
-fn are_swapped(x: u8, xs: &[u8], y: u8, ys: &[u8]) -> bool
-    ensures { result ≡ are_swapped x xs.now y ys.now }
+/// Whether two words have the same byte at an index, whatever the case of letters.
+fn is_alike_at(asked: &[u8], name: &[u8], index: usize) -> bool
+    requires asked { index < length asked.now }
+    requires name { index < length name.now }
+    ensures { result ≡ is_alike_at asked.now name.now index }
 {
-    match (xs, ys) {
-        ([a, xs @ ..], [b, ys @ ..]) => {
-            x.eq_ignore_ascii_case(b) && a.eq_ignore_ascii_case(&y) && xs.eq_ignore_ascii_case(ys)
-        }
-        _ => false,
-    }
+    asked[index].eq_ignore_ascii_case(&name[index])
 }
 
-/// Whether one change makes two words alike whose first bytes are not.
-fn is_one_change(word: &[u8], x: u8, xs: &[u8], name: &[u8], y: u8, ys: &[u8]) -> bool
-    requires word { word.now ≡ x ∷ xs.now }
-    requires name { name.now ≡ y ∷ ys.now }
-    ensures { result ≡ is_one_change x xs.now y ys.now }
+/// Whether two words of three bytes and more begin alike.
+fn begins_alike(asked: &[u8], name: &[u8]) -> bool
+    ensures { result ≡ begins_alike asked.now name.now }
 {
-    xs.eq_ignore_ascii_case(ys)
-        || xs.eq_ignore_ascii_case(name)
-        || word.eq_ignore_ascii_case(ys)
-        || are_swapped(x, xs, y, ys)
-}
-
-/// Whether two words are alike but for one change at most.
-fn is_one_off(asked: &[u8], name: &[u8]) -> bool
-    ensures { result ≡ is_one_off asked.now name.now }
-{
-    let mut word = asked;
-    let mut rest = name;
-    loop {
-        let [x, xs @ ..] = word else {
-            return rest.len() < 2;
-        };
-        let [y, ys @ ..] = rest else {
-            return word.len() < 2;
-        };
-        if !x.eq_ignore_ascii_case(y) {
-            return is_one_change(word, *x, xs, rest, *y, ys);
-        }
-        word = xs;
-        rest = ys;
+    if asked.len() < 3 || name.len() < 3 {
+        return false;
     }
+    is_alike_at(asked, name, 0) && is_alike_at(asked, name, 1) && is_alike_at(asked, name, 2)
 }
 
 /// Whether a name ends with a word, behind a point or colon.
@@ -74,22 +47,11 @@ fn is_last_part(asked: &str, name: &str) -> bool
     }
 }
 
-/// Whether a name is that of a word, but for one change at most of a longer word.
-fn is_alike(asked: &[u8], name: &[u8]) -> bool
-    ensures { result ≡ is_alike asked.now name.now }
-{
-    if asked.len() > 2 {
-        is_one_off(asked, name)
-    } else {
-        asked.eq_ignore_ascii_case(name)
-    }
-}
-
 /// Whether a name is near to a word.
 fn is_near(asked: &str, name: &str) -> bool
     ensures { result ≡ is_near asked.now name.now }
 {
-    is_alike(asked.as_bytes(), name.as_bytes()) || is_last_part(asked, name)
+    begins_alike(asked.as_bytes(), name.as_bytes()) || is_last_part(asked, name)
 }
 
 /// Appends a name, if it is near. Refused with `OutOfMemory` alone.

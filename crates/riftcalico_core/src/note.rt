@@ -1,7 +1,8 @@
 //! What tells more of a refusal: the place, the struct there, and names that may have been meant.
-ghost use Rattle.std.specs.Prelude.{[], ◌≡◌, ◌++◌, ◌∷◌, IfErr, IfOk, OnOk, string_bytes};
+ghost use Rattle.std.specs.Prelude.{suc, ◌≡◌, ◌++◌, ◌∷◌, IfErr, IfOk, OnOk, get_or, string_bytes, take};
 ghost use Rattle.capnp_device.specs.declared.error.ErrorKind.TheVariants.{OutOfMemory};
 ghost use Rattle.capnp_call.specs.Seen.{path_seen, step_seen};
+ghost use Rattle.capnp_records.specs.Call.{FieldNumber};
 ghost use Rattle.capnp_words.specs.Paths.{step_word};
 ghost use Rattle.riftcalico_core.specs.Notes.{at_note, meant_note, place_note, within_note, words_behind_points};
 
@@ -78,19 +79,35 @@ fn put_within(
     Ok(write!(note, " in {name}{meant}")?)
 }
 
+/// The step of an index; the field 0 where there is none.
+fn step_at<'a>(path: &[Step<'a>], index: usize) -> Step<'a>
+    ensures { step_seen result ≡ get_or (path_seen path.now) index (FieldNumber 0) }
+{
+    match path.get(index) {
+        Some(step) => *step,
+        None => Step::Field(0),
+    }
+}
+
+/// The steps of a path up to that of an index.
+fn steps_to<'p, 'a>(path: &'p [Step<'a>], index: usize) -> &'p [Step<'a>]
+    ensures { path_seen result.now ≡ take (suc index) (path_seen path.now) }
+{
+    if index < path.len() {
+        &path[..index + 1]
+    } else {
+        path
+    }
+}
+
 /// The note of a step that is refused.
 fn get_step_note(alloc: Global, path: &[Step<'_>], refused: RefusedStep<'_>) -> Result<String>
     ensures note { IfOk result (λ note. string_bytes note ≡ place_note (path_seen path.now) (Place.Step refused.entry)) }
     ensures memory { IfErr result (λ e. e.kind ≡ OutOfMemory) }
 {
-    let index = refused.index;
-    let step = match path.get(index) {
-        Some(step) => *step,
-        None => Step::Field(0),
-    };
-    let end = path.len().min(index.saturating_add(1));
-    let words = get_words(alloc, &path[..end])?;
+    let words = get_words(alloc, steps_to(path, refused.index))?;
     let mut note = get_at(alloc, words.as_str())?;
+    let step = step_at(path, refused.index);
     put_within(&mut note, refused.within, refused.error.kind, step)?;
     Ok(note)
 }

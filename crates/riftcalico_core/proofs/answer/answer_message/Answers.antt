@@ -1,0 +1,20 @@
+-- A refusal with what it blames.
+use Rattle.std.proofs.Common.{IfErr, subst, sym, ◌≢◌}
+use Rattle.capnp_device.specs.declared.error.ErrorKind.TheVariants.{OutOfMemory}
+use Rattle.capnp_patch.specs.Patches.{IsUnread}
+use Rattle.capnp_set_engine.specs.Convert.{HasNoSet}
+use Rattle.riftcalico_core.specs.Answers.{IsNoMessageAnswer}
+use Rattle.riftcalico_core.specs.declared.fault.Blamed.TheVariants.{Input}
+use Rattle.riftcalico_core.specs.declared.job.Job.{Job}
+use Rattle.riftcalico_core.proofs.Blamed.{blamed_so}
+use Rattle.riftcalico_core.proofs.answer.answer_message.Goals as goal
+
+pub returns-in-Patch-clause-refused : goal.returns-in-Patch-clause-refused
+returns-in-Patch-clause-refused c =
+    subst (λ (x : Job). IfErr c.blame.result (λ f. f.error.kind ≢ OutOfMemory → IsNoMessageAnswer x c.args.message.now f)) (sym c.in-Patch.is)
+    (blamed_so c.answer_patch.result c.blame.result Input (λ e. IsUnread c.args.message.now e.kind) c.answer_patch.ensures.refused c.blame.ensures.refused)
+
+pub returns-in-Convert-clause-refused : goal.returns-in-Convert-clause-refused
+returns-in-Convert-clause-refused c =
+    subst (λ (x : Job). IfErr c.blame-in-Convert.result (λ f. f.error.kind ≢ OutOfMemory → IsNoMessageAnswer x c.args.message.now f)) (sym c.in-Convert.is)
+    (blamed_so c.answer_convert.result c.blame-in-Convert.result Input (λ e. HasNoSet c.in-Convert.strict c.args.message.now e) c.answer_convert.ensures.refused c.blame-in-Convert.ensures.refused)
