@@ -2,4 +2,3 @@ pub mod Files
 pub mod Outputs
 pub mod Programs
 pub mod Runs
-pub mod Steps

@@ -18,19 +18,22 @@ status_of (Ok (ended.Answered a)) = cond a.refused 1 0
 status_of (Ok (ended.Unreadable line)) = 2
 status_of (Err f) = 1
 
--- what is told of a refusal; where there is no memory for its line its number
-abbrev pub IsFaultText : Task → Fault → (text : List ℕ) → Type 0
-IsFaultText t f text = (text ≡ fault_line t f) ⊎ (text ≡ refusal_line f.error.kind)
+-- a refusal was told, or where there is no memory for its line its number
+abbrev pub IsFaultTold : Task → Fault → (errors errors' : Option (List ℕ)) → (failures failures' : ℕ) → Type 0
+IsFaultTold t f errors errors' failures failures' =
+    IsTold (fault_line t f) errors errors' failures failures' ⊎ IsTold (refusal_line f.error.kind) errors errors' failures failures'
 
--- of what a task came to
-abbrev pub IsRanText : Task → Ran → (text : List ℕ) → Type 0
-IsRanText t (Ok (ended.Answered a)) text = text ≡ string_bytes a.lines
-IsRanText t (Ok (ended.Unreadable line)) text = text ≡ string_bytes line
-IsRanText t (Err f) text = IsFaultText t f text
+-- what a task came to was told
+abbrev pub IsRanTold : Task → Ran → (errors errors' : Option (List ℕ)) → (failures failures' : ℕ) → Type 0
+IsRanTold t (Ok (ended.Answered a)) errors errors' failures failures' = IsTold (string_bytes a.lines) errors errors' failures failures'
+IsRanTold t (Ok (ended.Unreadable line)) errors errors' failures failures' = IsTold (string_bytes line) errors errors' failures failures'
+IsRanTold t (Err f) errors errors' failures failures' = IsFaultTold t f errors errors' failures failures'
 
--- and of words that ask for nothing; where there is no memory for that the refusal's number
-abbrev pub IsMisuseText : WordFault → (status : ℕ) → (text : List ℕ) → Type 0
-IsMisuseText m status text = ((status ≡ 2) × (text ≡ fault_text m)) ⊎ ((status ≡ 1) × (text ≡ refusal_line OutOfMemory))
+-- why words ask for nothing was told; where there is no memory for that the refusal's number
+abbrev pub IsMisuseTold : WordFault → (status : ℕ) → (errors errors' : Option (List ℕ)) → (failures failures' : ℕ) → Type 0
+IsMisuseTold m status errors errors' failures failures' =
+    ((status ≡ 2) × IsTold (fault_text m) errors errors' failures failures')
+    ⊎ ((status ≡ 1) × IsTold (refusal_line OutOfMemory) errors errors' failures failures')
 
 module _ {O F : Type 0} (opens : Opens O F) (holds : F → Option (List ℕ)) (fails : F → ℕ) (old new : O)
     (untouched : Type 0) (left left' : Option (List ℕ)) (reads reads' : ℕ) (unwritten : Type 0) (written written' : Option (List ℕ)) (writes writes' : ℕ) where
@@ -39,9 +42,7 @@ module _ {O F : Type 0} (opens : Opens O F) (holds : F → Option (List ℕ)) (f
     pub by : Ran
     pub ran : IsRun opens holds fails old new untouched left left' reads reads' unwritten written written' writes writes' t by
     pub status_is : status ≡ status_of by
-    pub text : List ℕ
-    pub says : IsRanText t by text
-    pub told : IsTold text errors errors' failures failures'
+    pub told : IsRanTold t by errors errors' failures failures'
 
   -- no file was opened, nothing was read and nothing written
   abbrev pub IsIdle : Type 0
@@ -52,5 +53,4 @@ module _ {O F : Type 0} (opens : Opens O F) (holds : F → Option (List ℕ)) (f
   IsProgramDone (Ok t) status errors errors' failures failures' =
       IsTaskDone t status errors errors' failures failures'
       ⊎ ((status ≡ 1) × IsTold (refusal_line OutOfMemory) errors errors' failures failures' × IsIdle)
-  IsProgramDone (Err m) status errors errors' failures failures' =
-      ((text : List ℕ) × IsMisuseText m status text × IsTold text errors errors' failures failures') × IsIdle
+  IsProgramDone (Err m) status errors errors' failures failures' = IsMisuseTold m status errors errors' failures failures' × IsIdle

@@ -2,8 +2,7 @@
 ghost use Rattle.std.specs.Prelude.{◌≡◌, ⊤, Ok, map, string_bytes};
 ghost use Rattle.capnp_show_engine.specs.declared.opener.FilesOpener.{FilesOpener as OfFiles};
 ghost use Rattle.capnp_show_engine.specs.Opened.{AsksAmong};
-ghost use Rattle.riftcalico_engine.specs.Programs.{IsFaultText, IsMisuseText, IsProgramDone, IsRanText, status_of};
-ghost use Rattle.riftcalico_engine.specs.Steps.Tellings.{telling_text};
+ghost use Rattle.riftcalico_engine.specs.Programs.{IsProgramDone, IsFaultTold, IsMisuseTold, IsRanTold, IsTaskDone, status_of};
 ghost use Rattle.riftcalico_engine.specs.Runs.{task_paths};
 ghost use Rattle.riftcalico_words.specs.Requests.{asked_request};
 ghost use Rattle.riftcalico_words.specs.RequestSeen.{fault_seen, task_seen};
@@ -13,60 +12,79 @@ use crate::shell::{Ended, Ran, run};
 use capnp_show_engine::command::{report, tell};
 use capnp_show_engine::opener::{FilesOpener, Opener};
 use capnp_wire::device::{ReadSource, Sink, Source};
-use capnp_wire::error::ErrorKind;
-use riftcalico_core::answer::Answer;
 use riftcalico_core::fault::{Fault, put_fault};
 use riftcalico_words::request::{Misuse, Task, read_words};
 use riftcalico_words::usage::get_misuse;
 use std::alloc::Global;
 use std::rt::Files;
 
-/// What is told on standard error.
-#[derive(Drop)]
-pub enum Telling {
-    /// Lines, or none.
-    Lines(String),
-    /// A refusal by its number alone, where there is no memory for its line.
-    Number(ErrorKind),
-}
-
-/// A refusal as it is told: the number and name, what is to be looked at, and what tells more.
-fn get_fault_told(alloc: Global, task: &Task<'_>, fault: &Fault) -> Telling
-    ensures { IsFaultText (task_seen task.now) fault.now (telling_text result) }
+/// Tells a refusal: the number and name, and what is to be looked at; where there is no memory for that the number alone.
+fn tell_fault<F: Sink>(alloc: Global, task: &Task<'_>, fault: &Fault, errors: &mut F)
+    ensures { IsFaultTold (task_seen task.now) fault.now (F.written errors.old) (F.written errors.new)
+        (F.failures errors.old) (F.failures errors.new) }
 {
     match put_fault(alloc, task, fault) {
-        Ok(line) => Telling::Lines(line),
-        Err(_) => Telling::Number(fault.error.kind),
+        Ok(line) => tell(line.as_bytes(), errors),
+        Err(_) => report(fault.error.kind, errors),
     }
 }
 
-/// The status of what a task came to, and what is told of it.
-fn get_told(alloc: Global, task: &Task<'_>, ran: Ran) -> (u8, Telling)
-    ensures status { result.0 ≡ status_of ran.entry }
-    ensures told { IsRanText (task_seen task.now) ran.entry (telling_text result.1) }
+/// Tells what a task came to, as far as the sink takes it, and answers the status.
+fn tell_ran<F: Sink>(alloc: Global, task: &Task<'_>, ran: &Ran, errors: &mut F) -> u8
+    ensures status { result ≡ status_of ran.now }
+    ensures told { IsRanTold (task_seen task.now) ran.now (F.written errors.old) (F.written errors.new)
+        (F.failures errors.old) (F.failures errors.new) }
 {
     match ran {
         Ok(Ended::Answered(answer)) => {
-            let Answer {
-                output: _,
-                lines,
-                refused,
-            } = answer;
-            (u8::from(refused), Telling::Lines(lines))
+            tell(answer.lines.as_bytes(), errors);
+            u8::from(answer.refused)
         }
-        Ok(Ended::Unreadable(line)) => (2, Telling::Lines(line)),
-        Err(fault) => (1, get_fault_told(alloc, task, &fault)),
+        Ok(Ended::Unreadable(line)) => {
+            tell(line.as_bytes(), errors);
+            2
+        }
+        Err(fault) => {
+            tell_fault(alloc, task, fault, errors);
+            1
+        }
     }
 }
 
-/// The status where words ask for nothing, and what is told of them.
-fn get_misuse_told(alloc: Global, misuse: Misuse<'_>) -> (u8, Telling)
-    ensures { IsMisuseText (fault_seen misuse.entry) result.0 (telling_text result.1) }
+/// Tells why words ask for nothing, as far as the sink takes it, and answers the status.
+fn tell_misuse<F: Sink>(alloc: Global, misuse: Misuse<'_>, errors: &mut F) -> u8
+    ensures { IsMisuseTold (fault_seen misuse.entry) result (F.written errors.old) (F.written errors.new)
+        (F.failures errors.old) (F.failures errors.new) }
 {
     match get_misuse(alloc, misuse) {
-        Ok(text) => (2, Telling::Lines(text)),
-        Err(error) => (1, Telling::Number(error.kind)),
+        Ok(text) => {
+            tell(text.as_bytes(), errors);
+            2
+        }
+        Err(error) => {
+            report(error.kind, errors);
+            1
+        }
     }
+}
+
+/// Does a task and tells what it came to.
+fn run_task<O: Opener, R: Source, W: Sink, F: Sink>(
+    opener: &mut O,
+    alloc: Global,
+    task: &Task<'_>,
+    source: &mut R,
+    sink: &mut W,
+    errors: &mut F,
+) -> u8
+    ensures done { IsTaskDone O.opens O.File.left O.File.failures opener.old opener.new (source.new ≡ source.old)
+        (R.left source.old) (R.left source.new) (R.failures source.old) (R.failures source.new) (sink.new ≡ sink.old)
+        (W.written sink.old) (W.written sink.new) (W.failures sink.old) (W.failures sink.new) (task_seen task.now)
+        result (F.written errors.old) (F.written errors.new) (F.failures errors.old) (F.failures errors.new) }
+    ensures named { AsksAmong O.opens (task_paths (task_seen task.now)) opener.old opener.new }
+{
+    let ran = run(alloc, opener, task, source, sink);
+    tell_ran(alloc, task, &ran, errors)
 }
 
 /// Runs the program on its words over what opens files, and answers its exit status: 0 where a text or a message was
@@ -90,19 +108,14 @@ pub fn command_over<O: Opener, R: Source, W: Sink, F: Sink>(
     ensures named { (t : tasks.Task) → asked_request (map string_bytes words.now) ≡ Ok t
         → AsksAmong O.opens (task_paths t) opener.old opener.new }
 {
-    let (status, telling) = match read_words(alloc, words) {
-        Ok(Ok(task)) => {
-            let ran = run(alloc, opener, &task, source, sink);
-            get_told(alloc, &task, ran)
+    match read_words(alloc, words) {
+        Ok(Ok(task)) => run_task(opener, alloc, &task, source, sink, errors),
+        Ok(Err(misuse)) => tell_misuse(alloc, misuse, errors),
+        Err(error) => {
+            report(error.kind, errors);
+            1
         }
-        Ok(Err(misuse)) => get_misuse_told(alloc, misuse),
-        Err(error) => (1, Telling::Number(error.kind)),
-    };
-    match telling {
-        Telling::Lines(text) => tell(text.as_bytes(), errors),
-        Telling::Number(kind) => report(kind, errors),
     }
-    status
 }
 
 /// `command_over` over the files of a runtime, where any of them may be opened at a path: no contract of the system

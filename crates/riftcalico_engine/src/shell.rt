@@ -3,21 +3,27 @@
 //! that comes after it has touched a file or stream.
 ghost use Rattle.std.specs.Prelude.{[], ◌≡◌, ◌≢◌, IfErr, IfOk, OnOk};
 ghost use Rattle.std.specs.Option.{option_map};
+ghost use Rattle.capnp_schema.specs.Entries.{lists_seen};
 ghost use Rattle.capnp_show_engine.specs.Opened.{AsksAmong, file_paths};
-ghost use Rattle.riftcalico_core.specs.Answers.{IsWritableOutput};
+ghost use Rattle.riftcalico_core.specs.Answers.{IsSoundJob, IsWritableOutput};
+ghost use Rattle.riftcalico_core.specs.Faults.{task_set_file};
+ghost use Rattle.riftcalico_core.specs.Jobs.{wants_input};
+ghost use Rattle.riftcalico_core.specs.Plans.{calls_file};
+ghost use Rattle.riftcalico_core.specs.PlansSeen.{plan_seen};
 ghost use Rattle.riftcalico_engine.specs.Files.{IsFileRead, IsFileUnread};
-ghost use Rattle.riftcalico_engine.specs.Outputs.{IsNotPut, IsOutputPut};
-ghost use Rattle.riftcalico_engine.specs.Runs.{IsRun, task_paths};
+ghost use Rattle.riftcalico_engine.specs.Outputs.{IsNotPut, IsOutputPut, IsAnswerPut};
+ghost use Rattle.riftcalico_engine.specs.Runs.{IsAnsweredTo, IsInputRead, IsInputUnread, IsJobRun, IsPlanRun, IsRun, IsSetRun, IsUnderSchemas, IsWordsRun, task_paths};
 ghost use Rattle.riftcalico_words.specs.RequestSeen.{task_seen};
 
+use capnp_schema::set::SchemaSet;
 use capnp_show_engine::opener::Opener;
 use capnp_wire::device::{Sink, Source};
 use capnp_wire::error::{Error, ErrorKind, Result};
 use capnp_wire::transfer::{read_all, write_all};
 use riftcalico_core::answer::{Answer, Output, get_answer};
-use riftcalico_core::fault::{Blamed, Faulty, blame, get_set_file};
-use riftcalico_core::job::find_job;
-use riftcalico_core::plan::{get_calls_file, read_plan};
+use riftcalico_core::fault::{Blamed, Fault, get_fault, get_set_file};
+use riftcalico_core::job::{Job, find_job};
+use riftcalico_core::plan::{Plan, get_calls_file, read_plan};
 use riftcalico_core::schemas::make_schemas;
 use riftcalico_words::request::Task;
 use std::alloc::Global;
@@ -32,7 +38,15 @@ pub enum Ended {
 }
 
 /// What a task came to, or its refusal.
-pub type Ran = Faulty<Ended>;
+pub type Ran = std::result::Result<Ended, Fault>;
+
+/// A refusal that blames this, of which no more is told.
+fn fault(alloc: Global, error: Error, blamed: Blamed) -> Fault
+    ensures error { result.error ≡ error }
+    ensures blamed { result.blamed ≡ blamed }
+{
+    get_fault(alloc, error, blamed)
+}
 
 /// Writes an output.
 fn put_output<W: Sink>(output: &Output, sink: &mut W) -> Result<()>
@@ -47,6 +61,99 @@ fn put_output<W: Sink>(output: &Output, sink: &mut W) -> Result<()>
         Output::Text(text) => write_all(sink, text.as_bytes()),
         Output::Bytes(bytes) => write_all(sink, bytes),
         Output::Message(message) => message.write_message_to(sink),
+    }
+}
+
+/// Writes an answer.
+fn put_answer<W: Sink>(alloc: Global, answer: Answer, sink: &mut W) -> Ran
+    requires { IsWritableOutput answer.output }
+    ensures { IsAnswerPut answer (sink.new ≡ sink.old) (W.written sink.old) (W.written sink.new) (W.failures sink.old)
+        (W.failures sink.new) result }
+{
+    match put_output(&answer.output, sink) {
+        Ok(()) => Ok(Ended::Answered(answer)),
+        Err(error) => Err(fault(alloc, error, Blamed::Output)),
+    }
+}
+
+/// Answers to a message's bytes, and writes the answer.
+fn answer_input<W: Sink>(alloc: Global, job: &Job<'_, '_, '_>, input: &[u8], sink: &mut W) -> Ran
+    requires { IsSoundJob job.now }
+    ensures { IsAnsweredTo job.now input.now (sink.new ≡ sink.old) (W.written sink.old) (W.written sink.new)
+        (W.failures sink.old) (W.failures sink.new) result }
+{
+    match get_answer(alloc, job, input) {
+        Ok(answer) => put_answer(alloc, answer, sink),
+        Err(fault) => Err(fault),
+    }
+}
+
+/// The bytes of the message, none where no message is wanted.
+fn read_input<R: Source>(alloc: Global, wanted: bool, source: &mut R) -> Result<Vec<u8>>
+    ensures read { IfOk result (λ bytes. IsInputRead wanted (source.new ≡ source.old) (R.left source.old)
+        (R.left source.new) bytes.items) }
+    ensures unread { IfErr result (λ e. IsInputUnread wanted (R.failures source.old) (R.failures source.new) e.kind) }
+{
+    if wanted {
+        read_all(alloc, source)
+    } else {
+        Ok(Vec::new(alloc))
+    }
+}
+
+/// Reads the message, if one is wanted, and answers to it.
+fn run_job<R: Source, W: Sink>(
+    alloc: Global,
+    job: &Job<'_, '_, '_>,
+    source: &mut R,
+    sink: &mut W,
+) -> Ran
+    requires { IsSoundJob job.now }
+    ensures { IsJobRun (source.new ≡ source.old) (R.left source.old) (R.left source.new) (R.failures source.old)
+        (R.failures source.new) (sink.new ≡ sink.old) (W.written sink.old) (W.written sink.new) (W.failures sink.old)
+        (W.failures sink.new) job.now result }
+{
+    match read_input(alloc, job.wants_input(), source) {
+        Ok(input) => answer_input(alloc, job, &input, sink),
+        Err(error) => Err(fault(alloc, error, Blamed::Input)),
+    }
+}
+
+/// Finds the struct of the root and reads the values of calls, and goes on with the message.
+fn run_under<R: Source, W: Sink>(
+    alloc: Global,
+    schemas: &SchemaSet,
+    plan: &Plan<'_>,
+    source: &mut R,
+    sink: &mut W,
+) -> Ran
+    ensures { IsUnderSchemas (source.new ≡ source.old) (R.left source.old) (R.left source.new) (R.failures source.old)
+        (R.failures source.new) (sink.new ≡ sink.old) (W.written sink.old) (W.written sink.new) (W.failures sink.old)
+        (W.failures sink.new) (plan_seen plan.now) (lists_seen schemas.now) result }
+{
+    match find_job(alloc, schemas, plan) {
+        Ok(Ok(job)) => run_job(alloc, &job, source, sink),
+        Ok(Err(line)) => Ok(Ended::Unreadable(line)),
+        Err(fault) => Err(fault),
+    }
+}
+
+/// Makes the set of its file's bytes, or the built-in one, and goes on with it.
+fn run_set<R: Source, W: Sink>(
+    alloc: Global,
+    file: Option<&str>,
+    bytes: &[u8],
+    plan: &Plan<'_>,
+    source: &mut R,
+    sink: &mut W,
+) -> Ran
+    ensures { IsSetRun (source.new ≡ source.old) (R.left source.old) (R.left source.new) (R.failures source.old)
+        (R.failures source.new) (sink.new ≡ sink.old) (W.written sink.old) (W.written sink.new) (W.failures sink.old)
+        (W.failures sink.new) (option_map (λ f. f.now) file.entry) bytes.now (plan_seen plan.now) result }
+{
+    match make_schemas(alloc, file, bytes) {
+        Ok(schemas) => run_under(alloc, &schemas, plan, source, sink),
+        Err(error) => Err(fault(alloc, error, Blamed::Set)),
     }
 }
 
@@ -68,6 +175,49 @@ fn read_file<O: Opener>(alloc: Global, opener: &mut O, file: Option<&str>) -> Re
     read_all(alloc, &mut file)
 }
 
+/// Reads the file of the set, if one is named, and goes on with the set.
+fn run_plan<O: Opener, R: Source, W: Sink>(
+    alloc: Global,
+    opener: &mut O,
+    file: Option<&str>,
+    plan: &Plan<'_>,
+    source: &mut R,
+    sink: &mut W,
+) -> Ran
+    ensures ran { IsPlanRun O.opens O.File.left O.File.failures opener.old opener.new (source.new ≡ source.old)
+        (R.left source.old) (R.left source.new) (R.failures source.old) (R.failures source.new) (sink.new ≡ sink.old)
+        (W.written sink.old) (W.written sink.new) (W.failures sink.old) (W.failures sink.new)
+        (option_map (λ f. f.now) file.entry) (plan_seen plan.now) result }
+    ensures opened { AsksAmong O.opens (file_paths (option_map (λ f. f.now) file.entry)) opener.old opener.new }
+{
+    match read_file(alloc, opener, file) {
+        Ok(bytes) => run_set(alloc, file, &bytes, plan, source, sink),
+        Err(error) => Err(fault(alloc, error, Blamed::Set)),
+    }
+}
+
+/// Reads the words of a task, whose calls may be the lines of a file with these bytes, and goes on with the set.
+fn run_words<O: Opener, R: Source, W: Sink>(
+    alloc: Global,
+    opener: &mut O,
+    task: &Task<'_>,
+    calls: &[u8],
+    source: &mut R,
+    sink: &mut W,
+) -> Ran
+    ensures ran { IsWordsRun O.opens O.File.left O.File.failures opener.old opener.new (source.new ≡ source.old)
+        (R.left source.old) (R.left source.new) (R.failures source.old) (R.failures source.new) (sink.new ≡ sink.old)
+        (W.written sink.old) (W.written sink.new) (W.failures sink.old) (W.failures sink.new) (task_seen task.now)
+        calls.now result }
+    ensures opened { AsksAmong O.opens (file_paths (task_set_file (task_seen task.now))) opener.old opener.new }
+{
+    match read_plan(alloc, task, calls) {
+        Ok(Ok(plan)) => run_plan(alloc, opener, get_set_file(task), &plan, source, sink),
+        Ok(Err(line)) => Ok(Ended::Unreadable(line)),
+        Err(error) => Err(fault(alloc, error, Blamed::Calls)),
+    }
+}
+
 /// Does a task. Files are opened and read first: that of the calls, then that of the set. Then the struct of the root is
 /// looked up and the values of calls are read, and only then the message. The answer is made whole before its first byte
 /// is written.
@@ -84,25 +234,8 @@ pub fn run<O: Opener, R: Source, W: Sink>(
         result }
     ensures opened { AsksAmong O.opens (task_paths (task_seen task.now)) opener.old opener.new }
 {
-    let calls = read_file(alloc, opener, get_calls_file(task));
-    let calls = blame(alloc, calls, Blamed::Calls)?;
-    let plan = match blame(alloc, read_plan(alloc, task, &calls), Blamed::Calls)? {
-        Ok(plan) => plan,
-        Err(line) => return Ok(Ended::Unreadable(line)),
-    };
-    let file = get_set_file(task);
-    let bytes = blame(alloc, read_file(alloc, opener, file), Blamed::Set)?;
-    let schemas = blame(alloc, make_schemas(alloc, file, &bytes), Blamed::Set)?;
-    let job = match find_job(alloc, &schemas, &plan)? {
-        Ok(job) => job,
-        Err(line) => return Ok(Ended::Unreadable(line)),
-    };
-    let input = if job.wants_input() {
-        blame(alloc, read_all(alloc, source), Blamed::Input)?
-    } else {
-        Vec::new(alloc)
-    };
-    let answer = get_answer(alloc, &job, &input)?;
-    blame(alloc, put_output(&answer.output, sink), Blamed::Output)?;
-    Ok(Ended::Answered(answer))
+    match read_file(alloc, opener, get_calls_file(task)) {
+        Ok(calls) => run_words(alloc, opener, task, &calls, source, sink),
+        Err(error) => Err(fault(alloc, error, Blamed::Calls)),
+    }
 }
