@@ -1,5 +1,5 @@
 -- The words of a place, step by step.
-use Rattle.std.proofs.Common.{List, [], ◌∷◌, ◌++◌, ℕ, ◌≡◌, ◌∙◌, ap, append-nil, append_assoc, subst, sym}
+use Rattle.std.proofs.Common.{List, [], ◌∷◌, ◌++◌, ℕ, ◌≡◌, ◌∙◌, ap, append-nil, append_assoc, sym}
 use Rattle.capnp_schema.specs.Schema.{Schemas}
 use Rattle.capnp_check.specs.Places.{IsPathTo, TextParts, parts_after, place_words, part_word}
 use Rattle.capnp_check.specs.Steps.PlaceSteps.{parts_seen}

@@ -1,5 +1,5 @@
 -- The first steps of a path, and one of them, as they are seen.
-use Rattle.std.proofs.Common.{ℕ, zero, suc, ◌+◌, ◌≤◌, List, [], ◌∷◌, get_or, length, map, take, ◌≡◌, ◌∙◌, ap, arith, refl}
+use Rattle.std.proofs.Common.{ℕ, zero, suc, ◌≤◌, List, [], ◌∷◌, get_or, length, map, take, ◌≡◌, ap, arith, refl}
 
 pub seen_at : {A B : Type 0} (f : A → B) (xs : List A) (i : ℕ) (d : A) → get_or (map f xs) i (f d) ≡ f (get_or xs i d)
 seen_at f [] i d = refl

@@ -1,7 +1,6 @@
 -- What a note tells of words behind points, and of a refusal.
 use Rattle.std.proofs.lemmas.Bool.Decides.{nat_tests}
-use Rattle.std.proofs.Common.{arith, Bor, MatchOption, subst, ◌≢◌, ℕ, List, [], ◌∷◌, ◌++◌, ◌==◌, Bool, true, false, cond, Option, Some, None, Err, Ok, codes, ◌≡◌, ◌∙◌, ap, refl, sym, nat_eq}
-use Rattle.std.proofs.lemmas.Bool.{true≢false}
+use Rattle.std.proofs.Common.{arith, Bor, MatchOption, subst, ◌≢◌, ℕ, List, [], ◌∷◌, ◌++◌, ◌==◌, Bool, true, false, cond, Option, Some, None, Err, Ok, codes, ◌≡◌, ◌∙◌, ap, refl, sym}
 use Rattle.capnp_check.specs.Refusals.{text_refusal}
 use Rattle.capnp_device.specs.declared.error.ErrorKind.{ErrorKind}
 use Rattle.capnp_records.specs.Text.{Out}

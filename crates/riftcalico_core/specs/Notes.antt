@@ -1,5 +1,5 @@
 -- What tells more of a refusal: the place, the struct there, and names that may have been meant.
-use Rattle.std.specs.Prelude.{ℕ, suc, ◌==◌, List, [], ◌∷◌, ◌++◌, cond, Option, Some, None, codes, get_or, map, string_bytes, take}
+use Rattle.std.specs.Prelude.{ℕ, suc, ◌==◌, List, [], ◌∷◌, ◌++◌, cond, Option, Some, codes, get_or, map, string_bytes, take}
 use Rattle.std.specs.Str.Lines.{lines}
 use Rattle.capnp_device.specs.declared.error.ErrorKind.{ErrorKind}
 use Rattle.capnp_device.specs.declared.error.ErrorKind.TheVariants.{FieldNotFound}

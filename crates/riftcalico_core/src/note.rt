@@ -113,11 +113,7 @@ fn get_step_note(alloc: Global, path: &[Step<'_>], refused: RefusedStep<'_>) -> 
 }
 
 /// The note of what is refused of a value that is asked for by a path. Refused with `OutOfMemory` alone.
-pub(crate) fn get_place_note(
-    alloc: Global,
-    path: &[Step<'_>],
-    place: &Place<'_>,
-) -> Result<String>
+pub(crate) fn get_place_note(alloc: Global, path: &[Step<'_>], place: &Place<'_>) -> Result<String>
     ensures note { IfOk result (λ note. string_bytes note ≡ place_note (path_seen path.now) place.now) }
     ensures memory { IfErr result (λ e. e.kind ≡ OutOfMemory) }
 {

@@ -1,11 +1,11 @@
 -- The step that is refused, or what the search finds in the part that the path leads to.
-use Rattle.std.proofs.Common.{None, Some, refl, sym}
+use Rattle.std.proofs.Common.{None, Some, refl}
 use Rattle.capnp_wire.specs.Message.{received_tree}
 use Rattle.capnp_wire.specs.Standing.{levels_of, tree_of}
 use Rattle.capnp_schema.specs.StructHandles.{set_of}
 use Rattle.capnp_call.specs.Seen.{path_seen}
 use Rattle.capnp_patch.specs.Gets.{value_part_seen}
-use Rattle.capnp_patch.proofs.Got.{IsRootRead, part_number, part_reached, root_read, step_number}
+use Rattle.capnp_patch.proofs.Got.{part_number, part_reached, root_read, step_number}
 use Rattle.capnp_patch.proofs.PlacesSeen.{part_place}
 use Rattle.capnp_dynamic_readers.specs.declared.dynamic_value.Reader.TheVariants.{Struct as StructOf}
 use Rattle.capnp_patch.proofs.place.find_place.Goals as goal
@@ -41,8 +41,7 @@ returns-in-Some-clause-number c =
 pub returns-in-Some-clause-place : goal.returns-in-Some-clause-place
 returns-in-Some-clause-place c =
     let root = (root_read c.args.schema c.args.bytes.now (received_tree c.in-Ok.reader) (tree_of c.get_root.result) (levels_of c.get_root.result) c.new-2.result c.in-Ok-get_struct.root
-    c.in-Ok.ensures c.get_root.ensures.tree c.get_root.ensures.levels c.in-Ok-get_struct.ensures.read c.in-Ok-get_struct.ensures.levels c.new-2.ensures.schema c.new-2.ensures.reader c.requires) in
-    (
+    c.in-Ok.ensures c.get_root.ensures.tree c.get_root.ensures.levels c.in-Ok-get_struct.ensures.read c.in-Ok-get_struct.ensures.levels c.new-2.ensures.schema c.new-2.ensures.reader c.requires) in (
       value_part_seen c.in-Ok-walk_path.part,
       part_reached c.args.schema c.args.bytes.now c.new-2.result (path_seen c.args.path.now) root c.in-Ok-walk_path.part (c.in-Ok-walk_path.ensures.read (set_of c.args.schema) root.typed),
       refl,

@@ -4,7 +4,7 @@ use Rattle.riftcalico_core.proofs.Told.{text_refused}
 use Rattle.riftcalico_core.proofs.answer.find_fault.Goals as goal
 
 pub returns-in_default-clause-found : goal.returns-in_default-clause-found
-returns-in_default-clause-found c = 
+returns-in_default-clause-found c =
     let number = rw (c.in_default.is, c.deref.ensures.value) at c.in_ok-refusal.ensures.number in λ i. sym (number i)
 
 pub returns-clause-found : goal.returns-clause-found

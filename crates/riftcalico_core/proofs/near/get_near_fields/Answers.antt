@@ -1,5 +1,5 @@
 -- One field more.
-use Rattle.std.proofs.Common.{arith, rules, string_bytes}
+use Rattle.std.proofs.Common.{rules, string_bytes}
 use Rattle.capnp_schema.specs.StructHandles.{struct_fields}
 use Rattle.riftcalico_core.proofs.NearNames.{fields_next}
 use Rattle.riftcalico_core.proofs.near.get_near_fields.Goals as goal

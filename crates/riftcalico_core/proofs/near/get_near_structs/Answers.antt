@@ -1,5 +1,5 @@
 -- One line more, and at the end all lines.
-use Rattle.std.proofs.Common.{List, ℕ, map, ap, sym, ◌∙◌, ◌∷◌, [], ◌++◌, string_bytes}
+use Rattle.std.proofs.Common.{List, ℕ, map, ap, sym, ◌∙◌, ◌∷◌, [], string_bytes}
 use Rattle.std.proofs.lemmas.Iterator.Consumers.{YieldsList-end}
 use Rattle.std.proofs.lemmas.Iterator.Splits.{YieldsList-from_lines}
 use Rattle.std.proofs.lemmas.List.{map-append}
