@@ -48,6 +48,12 @@ row() {
     show "$1" "$(printf '%s' "$2" | sed 's/,/, /g')" "$line"
 }
 
+# listed FILE NAME TEXT: the fields of a struct are told as TEXT
+listed() {
+    ./riftcalico structs --set "$scratch/$1.set" "$2" > "$scratch/out" 2> "$scratch/err"
+    expect "the fields of $1 $2" $? 0 "$3" ''
+}
+
 # refused FILE WORDS NUMBER: the request for a schema of examples/sets is refused
 refused() {
     (cd examples/sets && capnp compile -o- "$1.capnp") > "$scratch/request"
@@ -102,6 +108,32 @@ row defaults Defaults '()'
 row defaults Defaults '(flag = false, tiny = 0, small = 1, plain = 2, large = 3, utiny = 4, usmall = 5, uplain = 6, ularge = 7, colour = red, text = "", point = (y = 2), flags = [true], numbers = [-32768], words = ["w", ""], points = [(), (x = 1)], rows = [[1], [], [2, 3]], colours = [green, red])'
 row defaults Defaults '(bytes = 0x"00 ff")' '(flag = true, tiny = -128, small = -32768, plain = 2147483647, large = -9223372036854775808, utiny = 255, usmall = 65535, uplain = 4294967295, ularge = 18446744073709551615, colour = blue, bytes = 0x"00ff", nothing = ())'
 row defaults Point '(x = -2147483648)'
+listed defaults Point 'struct Point $@0xf1a2b3c4d5e6f708 = "a place"
+x: Int32, data bit 0, default 0
+y: Int32, data bit 32, default -1'
+listed defaults Defaults 'struct Defaults $@0xe1d2c3b4a5968778 = 2
+flag: Bool, data bit 0, default true
+tiny: Int8, data bit 8, default -128
+small: Int16, data bit 16, default -32768
+plain: Int32, data bit 32, default 2147483647
+large: Int64, data bit 64, default -9223372036854775808
+utiny: UInt8, data bit 128, default 255
+usmall: UInt16, data bit 144, default 65535
+uplain: UInt32, data bit 160, default 4294967295
+ularge: UInt64, data bit 192, default 18446744073709551615
+colour: Colour, data bit 256, default blue $@0xf1a2b3c4d5e6f708 = "of a field"
+text: Text, pointer 0, default "a \"text\"" $@0xe1d2c3b4a5968778 = 1
+bytes: Data, pointer 1, default 0x"007fff"
+point: Point, pointer 2, default (x = 5, y = -1) $@0xd1c2b3a495867768 = (x = 1, y = 2)
+flags: List(Bool), pointer 3, default [true, false, true]
+numbers: List(Int16), pointer 4, default [-1, 0, 1]
+words: List(Text), pointer 5, default ["one", "two"]
+points: List(Point), pointer 6, default [(x = 1, y = -1), (x = 0, y = 2)]
+rows: List(List(UInt8)), pointer 7, default [[1, 2], [], [3]]
+colours: List(Colour), pointer 8, default [green, red]
+nothing: Void
+anything: AnyPointer, pointer 9
+enum Colour $@0xf1a2b3c4d5e6f708 = "a colour": red $@0xf1a2b3c4d5e6f708 = "the first", green, blue'
 
 converted generics ''
 row generics Shelf '(texts = (item = "a", next = (item = "b")), nested = (item = (item = "c")), half = (left = (item = "h")))'

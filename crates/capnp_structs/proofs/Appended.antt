@@ -1,13 +1,13 @@
 -- Texts that are appended one after another.
-use Rattle.std.proofs.Common.{ℕ, ◌/◌, List, [], ◌∷◌, ◌++◌, Bool, true, false, codes, decimal, length, ◌≡◌, ◌∙◌, Result, Ok, Err, OnOk, ap, append_assoc, subst, sym}
-use Rattle.capnp_wire.specs.Reading.{is_null_tree}
-use Rattle.capnp_schema.specs.Accepted.{words_root}
-use Rattle.capnp_records.specs.Text.{Out, after, said_text}
-use Rattle.capnp_dynamic_readers.specs.Facts.Appended.{both, bytes_put, nothing, two_put}
-use Rattle.capnp_dynamic_readers.specs.Pieces.{IsAppended}
+use Rattle.std.proofs.Common.{ℕ, List, [], ◌∷◌, ◌++◌, codes, length, ◌≡◌, ◌∙◌, Result, Ok, Err, OnOk, ap, append_assoc, arith, refl, subst, sym}
+use Rattle.capnp_schema.specs.Annotated.{TypedAnnotation}
 use Rattle.capnp_schema.specs.Schema.{Field, Schemas, default_of}
 use Rattle.capnp_schema.specs.Types.{SchemaType}
-use Rattle.capnp_structs.specs.Fields.{default_said, default_text, said_words}
+use Rattle.capnp_records.specs.Text.{Out, after, said_text}
+use Rattle.capnp_dynamic_readers.specs.Facts.Appended.{both, bytes_put, nothing}
+use Rattle.capnp_dynamic_readers.specs.Pieces.{IsAppended}
+use Rattle.capnp_structs.specs.Fields.{annotated_line}
+use Rattle.capnp_structs.specs.Values.{annotations_text, default_text}
 
 -- what stands before a text, and behind one
 pub led : (a : List ℕ) (x : Out) (old mid new : List ℕ) → mid ≡ old ++ a → IsAppended mid x new → IsAppended old (after (said_text a) x) new
@@ -16,26 +16,36 @@ led a x old mid new e put = both (said_text a) x old mid new (bytes_put a old mi
 pub ended : (x : Out) (a : List ℕ) (old mid new : List ℕ) → IsAppended old x mid → new ≡ mid ++ a → IsAppended old (after x (said_text a)) new
 ended x a old mid new put e = both x (said_text a) old mid new put (bytes_put a mid new e)
 
--- the same of a call's answer
+-- what follows where a call answered
+pub on_ok : {T E P Q : Type 0} (r : Result T E) → (P → Q) → OnOk r P → OnOk r Q
+on_ok (Ok t) f h = f h
+on_ok (Err error) f h = tt {0}
+
+-- what stands before what a call appended
 pub led_by : {T E : Type 0} (r : Result T E) (a : List ℕ) (x : Out) (old mid new : List ℕ) → mid ≡ old ++ a → OnOk r (IsAppended mid x new) → OnOk r (IsAppended old (after (said_text a) x) new)
-led_by (Ok t) a x old mid new e put = led a x old mid new e put
-led_by (Err error) a x old mid new e put = tt {0}
+led_by r a x old mid new e put = on_ok r (led a x old mid new e) put
+
+-- what stands before two texts, the first, and what a call appended
+pub three_by : {T E : Type 0} (r : Result T E) (a : List ℕ) (x y : Out) (old mid mid' new : List ℕ) → mid ≡ old ++ a → IsAppended mid x mid' → OnOk r (IsAppended mid' y new) → OnOk r (IsAppended old (after (said_text a) (after x y)) new)
+three_by r a x y old mid mid' new e put more = on_ok r (λ (last : IsAppended mid' y new). led a (after x y) old mid new e (both x y mid mid' new put last)) more
 
 -- what stands before a text, the text, and what stands behind it
-pub slot_put : {T E : Type 0} (r : Result T E) (x : Out) (old mid mid' new a b : List ℕ) → mid ≡ old ++ a → IsAppended mid x mid' → OnOk r (new ≡ mid' ++ b) →
-    OnOk r (IsAppended old (after (said_text a) (after x (said_text b))) new)
-slot_put (Ok t) x old mid mid' new a b e put f = led a (after x (said_text b)) old mid new e (ended x b mid mid' new put f)
-slot_put (Err error) x old mid mid' new a b e put f = tt {0}
+pub between : (x : Out) (a b old mid mid' new : List ℕ) → mid ≡ old ++ a → IsAppended mid x mid' → new ≡ mid' ++ b → IsAppended old (after (said_text a) (after x (said_text b))) new
+between x a b old mid mid' new e put f = led a (after x (said_text b)) old mid new e (ended x b mid mid' new put f)
 
--- how many words a default has, and nothing of a null
-abbrev words_by : List ℕ → (is_null : Bool) → Out
-words_by words is_null = elim is_null [ true ↦ said_text [] | false ↦ default_said (said_text (codes "words: " ++ decimal (length words / 8))) ]
+-- ---- texts that are appended in a loop ----
 
-pub null_put : (words old : List ℕ) → true ≡ is_null_tree (words_root words) → IsAppended old (said_words words) old
-null_put words old e = subst (λ (b : Bool). IsAppended old (words_by words b) old) e (nothing old)
+-- once what is left is appended, the whole stands behind the start
+abbrev pub IsLeft : (start : List ℕ) → (whole : Out) → (text : List ℕ) → (left : Out) → Type 0
+IsLeft start whole text left = (new : List ℕ) → IsAppended text left new → IsAppended start whole new
 
-pub counted_put : (words old new : List ℕ) → false ≡ is_null_tree (words_root words) → new ≡ old ++ (codes ", default " ++ (codes "words: " ++ decimal (length words / 8))) → IsAppended old (said_words words) new
-counted_put words old new e h = subst (λ (b : Bool). IsAppended old (words_by words b) new) e (two_put (codes ", default ") (codes "words: " ++ decimal (length words / 8)) old new h)
+pub left_more : (start : List ℕ) (whole x left : Out) (text text' : List ℕ) → IsLeft start whole text (after x left) → IsAppended text x text' → IsLeft start whole text' left
+left_more start whole x left text text' before put = λ new more. before new (both x left text text' new put more)
+
+pub left_all : (start : List ℕ) (whole left : Out) (text : List ℕ) → left ≡ said_text [] → IsLeft start whole text left → IsAppended start whole text
+left_all start whole left text none before = before text (subst (λ (o : Out). IsAppended text o text) (sym none) (nothing text))
+
+-- ---- the same under other names ----
 
 -- a default under what is the same set and the same type, of the same field
 pub default_here : (set set' : Schemas) (t t' : SchemaType) (f f' : Field) (old new : List ℕ) → set ≡ set' → t ≡ t' → f ≡ f' → IsAppended old (default_text set t (default_of f)) new → IsAppended old (default_text set' t' (default_of f')) new
@@ -43,6 +53,24 @@ default_here set set' t t' f f' old new same_set same_type same_field put =
     subst (λ (g : Field). IsAppended old (default_text set' t' (default_of g)) new) same_field
     (subst (λ (u : SchemaType). IsAppended old (default_text set' u (default_of f)) new) same_type
     (subst (λ (z : Schemas). IsAppended old (default_text z t (default_of f)) new) same_set put))
+
+-- annotations of what is the same set
+pub annotations_here : (set set' : Schemas) (xs xs' : List TypedAnnotation) (old new : List ℕ) → set ≡ set' → xs ≡ xs' → IsAppended old (annotations_text set xs) new → IsAppended old (annotations_text set' xs') new
+annotations_here set set' xs xs' old new same_set same put =
+    subst (λ (ys : List TypedAnnotation). IsAppended old (annotations_text set' ys) new) same
+    (subst (λ (z : Schemas). IsAppended old (annotations_text z xs) new) same_set put)
+
+-- ---- the parts of lines ----
+
+-- a line where there are annotations, and none where there are none
+pub no_line : (set : Schemas) (head : List ℕ) (xs : List TypedAnnotation) (old : List ℕ) → length xs ≡ 0 → IsAppended old (annotated_line set head xs) old
+no_line set head [] old none = nothing old
+no_line set head (x ∷ xs) old none = absurd (omega (arith, none))
+
+pub some_line : (set : Schemas) (head : List ℕ) (xs : List TypedAnnotation) (old mid mid' new : List ℕ) → (length xs ≡ 0 → ⊥) → mid ≡ old ++ head → IsAppended mid (annotations_text set xs) mid' → new ≡ mid' ++ 10 ∷ [] →
+    IsAppended old (annotated_line set head xs) new
+some_line set head [] old mid mid' new some e put f = absurd (some refl)
+some_line set head (x ∷ xs) old mid mid' new some e put f = between (annotations_text set (x ∷ xs)) head (10 ∷ []) old mid mid' new e put f
 
 -- the parts of a union's line
 pub union_put : (p m d old new : List ℕ) → new ≡ old ++ (p ++ (codes "union: " ++ (m ++ (codes " members, tag at data bit " ++ (d ++ 10 ∷ []))))) →

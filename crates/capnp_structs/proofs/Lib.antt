@@ -1,3 +1,4 @@
+pub mod AnnotationsSaid
 pub mod Appended
 pub mod EnumsPut
 pub mod Lines
@@ -5,6 +6,7 @@ pub mod NamesMet
 pub mod Rows
 pub mod TypesNamed
 pub mod TypesOfEnums
+pub mod ValuesSaid
 pub mod Walked
 pub mod WalkSteps
 pub mod PathsCut

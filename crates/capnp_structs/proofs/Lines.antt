@@ -2,11 +2,11 @@
 use Rattle.std.proofs.Common.{ℕ, zero, suc, ◌+◌, ◌-◌, ◌<◌, ◌≤◌, List, [], ◌∷◌, ◌++◌, drop, length, slice_get, ◌≡◌, ◌∙◌, ap, append_assoc, arith, refl, sym}
 use Rattle.std.specs.Option.{unwrap_or}
 use Rattle.std.proofs.lemmas.List.{drop_more}
-use Rattle.capnp_schema.specs.Schema.{Schemas, Brand, TypedField, fields_of, no_brand, no_field}
+use Rattle.capnp_schema.specs.Schema.{Schemas, Brand, fields_of, no_brand}
 use Rattle.capnp_structs.specs.Fields.{UnionLine, all_lines, field_lines, lines_within}
 use Rattle.capnp_structs.specs.Names.{struct_line, struct_lines}
 
-next : (i : ℕ) → i + 1 ≡ suc i
+pub next : (i : ℕ) → i + 1 ≡ suc i
 next i = omega arith
 
 -- the lines of the brands from one on are that brand's line and those of the rest
@@ -22,22 +22,22 @@ next_struct set i text text' whole inside before put =
     ∙ (append_assoc text (struct_line set i) (struct_lines set (drop (i + 1) set.brands) (i + 1))
     ∙ (sym (ap (λ (xs : List ℕ). text ++ xs) (lines_from set i inside)) ∙ before))
 
--- ---- fields ----
+-- ---- entries of lists, and fields ----
 
--- a field stands before those that follow
-from_next : (fs : List TypedField) (i : ℕ) → i < length fs → drop i fs ≡ unwrap_or (slice_get fs i) no_field ∷ drop (suc i) fs
-from_next [] i inside = absurd (omega (arith, inside))
-from_next (f ∷ fs) zero inside = refl
-from_next (f ∷ fs) (suc i) inside = from_next fs i (omega (arith, inside))
+-- an entry stands before those that follow
+from_next : {A : Type 0} (d : A) (xs : List A) (i : ℕ) → i < length xs → drop i xs ≡ unwrap_or (slice_get xs i) d ∷ drop (suc i) xs
+from_next d [] i inside = absurd (omega (arith, inside))
+from_next d (x ∷ xs) zero inside = refl
+from_next d (x ∷ xs) (suc i) inside = from_next d xs i (omega (arith, inside))
 
-pub from_field : (fs : List TypedField) (i : ℕ) → i < length fs → drop i fs ≡ unwrap_or (slice_get fs i) no_field ∷ drop (i + 1) fs
-from_field fs i inside = from_next fs i inside ∙ ap (λ (n : ℕ). unwrap_or (slice_get fs i) no_field ∷ drop n fs) (sym (next i))
+pub from_entry : {A : Type 0} (d : A) (xs : List A) (i : ℕ) → i < length xs → drop i xs ≡ unwrap_or (slice_get xs i) d ∷ drop (i + 1) xs
+from_entry d xs i inside = from_next d xs i inside ∙ ap (λ (n : ℕ). unwrap_or (slice_get xs i) d ∷ drop n xs) (sym (next i))
 
-pub none_left : (fs : List TypedField) (i : ℕ) → length fs ≤ i → drop i fs ≡ []
+pub none_left : {A : Type 0} (xs : List A) (i : ℕ) → length xs ≤ i → drop i xs ≡ []
 none_left [] zero past = refl
 none_left [] (suc i) past = refl
-none_left (f ∷ fs) zero past = absurd (omega (arith, past))
-none_left (f ∷ fs) (suc i) past = none_left fs i (omega (arith, past))
+none_left (x ∷ xs) zero past = absurd (omega (arith, past))
+none_left (x ∷ xs) (suc i) past = none_left xs i (omega (arith, past))
 
 -- through no group there is no line
 pub within_none : (set : Schemas) (groups : ℕ) (prefix : List ℕ) (b : ℕ) → groups ≡ 0 → lines_within set groups prefix b ≡ []
@@ -47,10 +47,10 @@ within_none set (suc groups) prefix b e = absurd (omega (arith, e))
 
 -- through one more group there are the line of the union, and those of the fields one after another
 pub within_next : (set : Schemas) (groups : ℕ) (prefix : List ℕ) (b : ℕ) → 0 < groups →
-    lines_within set groups prefix b ≡ UnionLine prefix b ∷ all_lines (field_lines b (lines_within set (groups - 1)) prefix) (fields_of set b)
+    lines_within set groups prefix b ≡ UnionLine prefix b ∷ all_lines (field_lines b (lines_within set (groups - 1)) prefix) 0 (fields_of set b)
 unfolding lines_within
 within_next set zero prefix b e = absurd (omega (arith, e))
-within_next set (suc groups) prefix b e = ap (λ (n : ℕ). UnionLine prefix b ∷ all_lines (field_lines b (lines_within set n) prefix) (fields_of set b)) (fewer groups)
+within_next set (suc groups) prefix b e = ap (λ (n : ℕ). UnionLine prefix b ∷ all_lines (field_lines b (lines_within set n) prefix) 0 (fields_of set b)) (fewer groups)
   where
     fewer : (n : ℕ) → n ≡ suc n - 1
     fewer n = omega arith

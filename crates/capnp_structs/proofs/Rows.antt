@@ -1,15 +1,16 @@
 -- Worked rows of structs and fields, as equations. They judge the definitions.
-use Rattle.std.specs.Prelude.{List, [], ◌∷◌, ◌≡◌, ◌++◌, refl, codes}
+use Rattle.std.specs.Prelude.{ℕ, List, [], ◌∷◌, ◌≡◌, ◌++◌, false, refl, codes, replicate}
 use Rattle.std.specs.Fmt.{debug_escape, digits}
 use Rattle.std.specs.Str.{is_utf8, chars}
 use lib.Utf8.{encode}
 use Rattle.capnp_wire.specs.Place.{tree_at}
-use Rattle.capnp_schema.specs.Builtin.{builtin, builtin_brand, builtin_field, builtin_struct_node, enumerant, zero_word}
-use Rattle.capnp_schema.specs.Schema.{Enum, EnumValue, ListValue, Node, Schemas}
-use Rattle.capnp_schema.specs.Types.{EnumType, ListType}
+use Rattle.capnp_schema.specs.Builtin.{annotated_field, annotation, builtin, builtin_brand, builtin_field, builtin_struct_node, enumerant, flat_node, group_node, zero_word}
+use Rattle.capnp_schema.specs.Schema.{AnyPointerValue, Brand, Enum, EnumValue, Field, Group, ListValue, Node, Schemas, StructValue, UIntValue, VoidValue}
+use Rattle.capnp_schema.specs.Types.{AnyPointerType, EnumType, ListType, StructType, UIntType, VoidType}
 use Rattle.capnp_records.specs.Text.{said_text}
 use Rattle.capnp_structs.specs.Fields.{fields_text, lines_within}
 use Rattle.capnp_structs.specs.Names.{structs_text}
+use Rattle.capnp_structs.specs.Values.{read_text}
 
 all : structs_text builtin ≡ codes "Flat\nMixed\nMany\nShapes\nLoop\nLists\nNode\n"
 all = refl
@@ -20,7 +21,7 @@ mixed : fields_text builtin 1
     ++ codes "x: Void, member 0\n"
     ++ codes "y: UInt8, data bit 32, default 0, member 1\n"
     ++ codes "b: Text, pointer 0, default \"\"\n")
-unfolding lines_within tree_at digits debug_escape is_utf8 chars encode
+unfolding lines_within read_text tree_at digits debug_escape is_utf8 chars encode
 mixed = refl
 
 many : fields_text builtin 2
@@ -30,7 +31,7 @@ many : fields_text builtin 2
     ++ codes "w: Int32, data bit 32, default 0\n"
     ++ codes "q: UInt64, data bit 64, default 0\n"
     ++ codes "z: Void\n")
-unfolding lines_within tree_at digits debug_escape is_utf8 chars encode
+unfolding lines_within read_text tree_at digits debug_escape is_utf8 chars encode
 many = refl
 
 shapes : fields_text builtin 3
@@ -46,14 +47,14 @@ shapes : fields_text builtin 3
     ++ codes "tag.any: AnyPointer, pointer 0\n"
     ++ codes "tag.q: Text, pointer 1, default \"\"\n"
     ++ codes "word: Text, pointer 0, default \"\", member 2\n")
-unfolding lines_within tree_at digits debug_escape is_utf8 chars encode
+unfolding lines_within read_text tree_at digits debug_escape is_utf8 chars encode
 shapes = refl
 
 loop : fields_text builtin 6
     ≡ said_text (codes "union: 2 members, tag at data bit 0\n"
     ++ codes "end: Void, member 0\n"
     ++ codes "again: Loop, pointer 0, default words: 3, member 1\n")
-unfolding lines_within tree_at digits debug_escape is_utf8 chars encode
+unfolding lines_within read_text tree_at digits debug_escape is_utf8 chars encode
 loop = refl
 
 lists : fields_text builtin 7
@@ -61,15 +62,16 @@ lists : fields_text builtin 7
     ++ codes "raw: Data, pointer 1, default 0x\"\"\n"
     ++ codes "t: Text, pointer 2, default \"\"\n"
     ++ codes "items: List(Flat), pointer 3\n")
-unfolding lines_within tree_at digits debug_escape is_utf8 chars encode
+unfolding lines_within read_text tree_at digits debug_escape is_utf8 chars encode
 lists = refl
 
 node : fields_text builtin 8
-    ≡ said_text (codes "id: UInt64, data bit 0, default 0\n"
+    ≡ said_text (codes "struct Node $@0x7 = \"note\"\n"
+    ++ codes "id: UInt64, data bit 0, default 0 $@0x8 = 5 $@0x9 = byte $@0xa = 2\n"
     ++ codes "displayName: Text, pointer 0, default \"\"\n"
     ++ codes "size: ElementSize, data bit 64, default empty\n"
     ++ codes "enum ElementSize: empty, bit, byte, twoBytes, fourBytes, eightBytes, pointer, inlineComposite\n")
-unfolding lines_within tree_at digits debug_escape is_utf8 chars encode
+unfolding lines_within read_text tree_at digits debug_escape is_utf8 chars encode
 node = refl
 
 -- ---- a struct of enums, in two brands ----
@@ -106,5 +108,68 @@ painted : fields_text paints 0
     ++ codes "mood: Mood, data bit 32, default 0\n"
     ++ codes "enum Mood:\n"
     ++ codes "enum Color: red, green\n")
-unfolding lines_within tree_at digits debug_escape is_utf8 chars encode
+unfolding lines_within read_text tree_at digits debug_escape is_utf8 chars encode
 painted = refl
+
+-- ---- defaults and annotations behind pointers ----
+
+-- a `Flat` of 5, a list of two bytes, and one of eight of which none are there
+abbrev flat_words : List ℕ
+flat_words = 0 ∷ 0 ∷ 0 ∷ 0 ∷ 1 ∷ 0 ∷ 0 ∷ 0 ∷ 5 ∷ replicate 7 0
+
+abbrev bytes_words : List ℕ
+bytes_words = 1 ∷ 0 ∷ 0 ∷ 0 ∷ 18 ∷ 0 ∷ 0 ∷ 0 ∷ 1 ∷ 2 ∷ replicate 6 0
+
+abbrev torn_words : List ℕ
+torn_words = 1 ∷ 0 ∷ 0 ∷ 0 ∷ 66 ∷ 0 ∷ 0 ∷ 0 ∷ []
+
+abbrev noted_fields : List Field
+noted_fields =
+    annotated_field (codes "flat") 0 (StructValue flat_words) (annotation 1 (StructValue flat_words) ∷ annotation 2 (ListValue bytes_words) ∷ annotation 3 (StructValue zero_word) ∷ [])
+    ∷ builtin_field (codes "bytes") 1 (ListValue bytes_words)
+    ∷ builtin_field (codes "any") 2 (AnyPointerValue flat_words)
+    ∷ builtin_field (codes "null") 3 (StructValue zero_word)
+    ∷ builtin_field (codes "torn") 4 (ListValue torn_words)
+    ∷ builtin_field (codes "color") 0 (EnumValue 0)
+    ∷ record { name = codes "place"; discriminant_value = 0; annotations = annotation 4 (UIntValue 2 7) ∷ []; kind = Group 2 }
+    ∷ []
+
+abbrev noted : Node
+noted = record { id = 1; display_name = codes "Noted"; annotations = annotation 0xf20fbfb08027d505 VoidValue ∷ []; data_word_count = 1; pointer_count = 5; is_group = false; discriminant_count = 1; discriminant_offset = 1; fields = noted_fields }
+
+abbrev place : Node
+place = group_node 3 (codes "Noted.place") 1 5 0 0 (builtin_field (codes "x") 2 (UIntValue 2 9) ∷ [])
+
+abbrev noted_brand : Brand
+noted_brand = record {
+  node = 0;
+  field_types = StructType 1 1 ∷ ListType (UIntType 1) ∷ AnyPointerType ∷ StructType 1 1 ∷ ListType (UIntType 1) ∷ EnumType 0 ∷ StructType 2 2 ∷ [];
+  annotation_types = record { own = VoidType ∷ []; children = (StructType 1 1 ∷ ListType (UIntType 1) ∷ StructType 1 1 ∷ []) ∷ [] ∷ [] ∷ [] ∷ [] ∷ [] ∷ (UIntType 2 ∷ []) ∷ [] };
+}
+
+abbrev noted_color : Enum
+noted_color = record {
+  id = 2;
+  display_name = codes "Color";
+  annotations = annotation 10 (EnumValue 1) ∷ [];
+  enumerants = record { name = codes "red"; annotations = annotation 255 (AnyPointerValue zero_word) ∷ annotation 11 VoidValue ∷ [] } ∷ enumerant (codes "green") ∷ [];
+  annotation_types = record { own = EnumType 0 ∷ []; children = (AnyPointerType ∷ VoidType ∷ []) ∷ [] ∷ [] };
+}
+
+abbrev notes : Schemas
+notes = record { nodes = noted ∷ flat_node ∷ place ∷ []; brands = noted_brand ∷ builtin_brand 1 (UIntType 2 ∷ []) ∷ builtin_brand 2 (UIntType 2 ∷ []) ∷ []; enums = noted_color ∷ [] }
+
+told : fields_text notes 0
+    ≡ said_text (codes "struct Noted $@0xf20fbfb08027d505 = ()\n"
+    ++ codes "union: 1 members, tag at data bit 16\n"
+    ++ codes "flat: Flat, pointer 0, default (a = 5) $@0x1 = (a = 5) $@0x2 = [1, 2] $@0x3 = (a = 0)\n"
+    ++ codes "bytes: List(UInt8), pointer 1, default [1, 2]\n"
+    ++ codes "any: AnyPointer, pointer 2, default words: 2\n"
+    ++ codes "null: Flat, pointer 3\n"
+    ++ codes "torn: List(UInt8), pointer 4, default words: 1\n"
+    ++ codes "color: Color, data bit 0, default red\n"
+    ++ codes "place: group, member 0 $@0x4 = 7\n"
+    ++ codes "place.x: UInt16, data bit 32, default 9\n"
+    ++ codes "enum Color $@0xa = green: red $@0xff = words: 1 $@0xb = (), green\n")
+unfolding lines_within read_text tree_at digits debug_escape is_utf8 chars encode
+told = refl

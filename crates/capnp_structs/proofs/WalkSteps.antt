@@ -127,33 +127,33 @@ starts set start first groups left b w prefix text' some less fs none put =
 module _ (set : Schemas) (start first : List ℕ) (whole : List Line) where
   pub said_slot : (left : ℕ) (w new : GroupWalk) (f : Field) (prefix text text' enums enums' : List ℕ) (t : SchemaType) → walk_set w ≡ set → IsFieldOf (walk_schema w) (walk_index w) f →
       None ≡ kind_target (typed_of f).field.kind (typed_of f).type → prefix ≡ path_under set (above w) →
-      IsAppended text (slot_line (set_of (field_schema f)) (number_of (field_schema f)) prefix (typed_of f)) text' → t ≡ (typed_of f).type → enums' ≡ enums ++ enums_named t →
+      IsAppended text (slot_line (set_of (field_schema f)) (number_of (field_schema f)) (index_of f) prefix) text' → t ≡ (typed_of f).type → enums' ≡ enums ++ enums_named t →
       frames new ≡ (walk_brand w, walk_index w + 1) ∷ above w → IsListed set start first whole (lines_left set left (frames w)) text enums → IsListed set start first whole (lines_left set left (frames new)) text' enums'
   said_slot left w new f prefix text text' enums enums' t same is leads path put typed add fs before =
       let b : ℕ = walk_brand w in
       let i : ℕ = walk_index w in
       let p : List ℕ = path_under set (above w) in
       let leads_here : None ≡ kind_target (field_at set b i).field.kind (field_at set b i).type = at_place set w f (λ z b i. None ≡ kind_target (field_at z b i).field.kind (field_at z b i).type) same is leads in
-      let put_here : IsAppended text (slot_line set b p (field_at set b i)) text' =
-      subst (λ (q : List ℕ). IsAppended text (slot_line set b q (field_at set b i)) text') path (at_place set w f (λ z b i. IsAppended text (slot_line z b prefix (field_at z b i)) text') same is put) in
-      let line_here : IsAppended text (line_text set (FieldLine p b (field_at set b i))) text' = subst (λ (o : Option ℕ). IsAppended text (field_line set b p (field_at set b i) o) text') leads_here put_here in
+      let put_here : IsAppended text (slot_line set b i p) text' =
+      subst (λ (q : List ℕ). IsAppended text (slot_line set b i q) text') path (at_place set w f (λ z b i. IsAppended text (slot_line z b i prefix) text') same is put) in
+      let line_here : IsAppended text (line_text set (FieldLine p b i)) text' = subst (λ (o : Option ℕ). IsAppended text (field_line set b i p o) text') leads_here put_here in
       let add_here : enums' ≡ enums ++ enums_named (field_at set b i).type =
       at_place set w f (λ z b i. enums' ≡ enums ++ enums_named (field_at z b i).type) same is (add ∙ ap (λ (u : SchemaType). enums ++ enums_named u) typed) in
       listed_left set start first whole (lines_left set left ((b, i + 1) ∷ above w)) (lines_left set left (frames new)) text' enums' (ap (lines_left set left) (sym fs))
-      (listed_more set start first whole (FieldLine p b (field_at set b i)) (lines_left set left ((b, i + 1) ∷ above w)) text text' enums enums' line_here add_here
+      (listed_more set start first whole (FieldLine p b i) (lines_left set left ((b, i + 1) ∷ above w)) text text' enums enums' line_here add_here
       (listed_left set start first whole (lines_left set left (frames w)) _ text enums (left_slot set left b i (above w) (inside_set set w f same is) leads_here) before))
 
   -- the line of a group
   group_put : (w : GroupWalk) (f : Field) (g : ℕ) (prefix text text' : List ℕ) → walk_set w ≡ set → IsFieldOf (walk_schema w) (walk_index w) f → prefix ≡ path_under set (above w) →
       Some g ≡ kind_target (field_at set (walk_brand w) (walk_index w)).field.kind (field_at set (walk_brand w) (walk_index w)).type →
-      text' ≡ text ++ group_line (set_of (field_schema f)) (number_of (field_schema f)) prefix (typed_of f) →
-      IsAppended text (line_text set (FieldLine (path_under set (above w)) (walk_brand w) (field_at set (walk_brand w) (walk_index w)))) text'
+      IsAppended text (group_line (set_of (field_schema f)) (number_of (field_schema f)) (index_of f) prefix) text' →
+      IsAppended text (line_text set (FieldLine (path_under set (above w)) (walk_brand w) (walk_index w))) text'
   group_put w f g prefix text text' same is path leads put =
       let b : ℕ = walk_brand w in
       let i : ℕ = walk_index w in
-      let put_here : text' ≡ text ++ group_line set b (path_under set (above w)) (field_at set b i) =
-      at_place set w f (λ z b i. text' ≡ text ++ group_line z b prefix (field_at z b i)) same is put ∙ ap (λ (p : List ℕ). text ++ group_line set b p (field_at set b i)) path in
-      subst (λ (o : Option ℕ). IsAppended text (field_line set b (path_under set (above w)) (field_at set b i) o) text') leads (bytes_put (group_line set b (path_under set (above w)) (field_at set b i)) text text' put_here)
+      let put_here : IsAppended text (group_line set b i (path_under set (above w))) text' =
+      subst (λ (p : List ℕ). IsAppended text (group_line set b i p) text') path (at_place set w f (λ z b i. IsAppended text (group_line z b i prefix) text') same is put) in
+      subst (λ (o : Option ℕ). IsAppended text (field_line set b i (path_under set (above w)) o) text') leads put_here
 
   leads_set : (w : GroupWalk) (f : Field) (g : ℕ) → walk_set w ≡ set → IsFieldOf (walk_schema w) (walk_index w) f → Some g ≡ kind_target (typed_of f).field.kind (typed_of f).type →
       Some g ≡ kind_target (field_at set (walk_brand w) (walk_index w)).field.kind (field_at set (walk_brand w) (walk_index w)).type
@@ -161,14 +161,14 @@ module _ (set : Schemas) (start first : List ℕ) (whole : List Line) where
 
   pub said_group : (left : ℕ) (w new : GroupWalk) (f : Field) (g : ℕ) (prefix text text' enums : List ℕ) → left ≡ 0 → walk_set w ≡ set → IsFieldOf (walk_schema w) (walk_index w) f →
       Some g ≡ kind_target (typed_of f).field.kind (typed_of f).type → prefix ≡ path_under set (above w) →
-      text' ≡ text ++ group_line (set_of (field_schema f)) (number_of (field_schema f)) prefix (typed_of f) → frames new ≡ (walk_brand w, walk_index w + 1) ∷ above w →
+      IsAppended text (group_line (set_of (field_schema f)) (number_of (field_schema f)) (index_of f) prefix) text' → frames new ≡ (walk_brand w, walk_index w + 1) ∷ above w →
       IsListed set start first whole (lines_left set left (frames w)) text enums → IsListed set start first whole (lines_left set left (frames new)) text' enums
   said_group left w new f g prefix text text' enums none same is leads path put fs before =
       let b : ℕ = walk_brand w in
       let i : ℕ = walk_index w in
       let leads_here = leads_set w f g same is leads in
       listed_left set start first whole (lines_left set left ((b, i + 1) ∷ above w)) (lines_left set left (frames new)) text' enums (ap (lines_left set left) (sym fs))
-      (listed_plain set start first whole (FieldLine (path_under set (above w)) b (field_at set b i)) (lines_left set left ((b, i + 1) ∷ above w)) text text' enums
+      (listed_plain set start first whole (FieldLine (path_under set (above w)) b i) (lines_left set left ((b, i + 1) ∷ above w)) text text' enums
       (group_put w f g prefix text text' same is path leads_here put) (group_unnamed (field_at set b i).field.kind (field_at set b i).type g leads_here)
       (listed_left set start first whole (lines_left set left (frames w)) _ text enums (left_group set left b i g (above w) none (inside_set set w f same is) leads_here) before))
 
@@ -180,7 +180,7 @@ module _ (set : Schemas) (start first : List ℕ) (whole : List Line) where
 
   pub goes_inside : (left : ℕ) (w new : GroupWalk) (f : Field) (s : StructSchema) (prefix base prefix' text mid text' enums : List ℕ) → (left ≡ 0 → ⊥) → walk_set w ≡ set → IsFieldOf (walk_schema w) (walk_index w) f →
       Some (number_of s) ≡ kind_target (typed_of f).field.kind (typed_of f).type → set_of s ≡ set → prefix ≡ path_under set (above w) → base ≡ path_under set (above w) →
-      mid ≡ text ++ group_line (set_of (field_schema f)) (number_of (field_schema f)) prefix (typed_of f) → prefix' ≡ inside base (typed_of f) →
+      IsAppended text (group_line (set_of (field_schema f)) (number_of (field_schema f)) (index_of f) prefix) mid → prefix' ≡ inside base (typed_of f) →
       text' ≡ mid ++ union_line (set_of s) prefix' (number_of s) → frames new ≡ (number_of s, 0) ∷ (walk_brand w, walk_index w + 1) ∷ above w →
       IsListed set start first whole (lines_left set left (frames w)) text enums → IsListed set start first whole (lines_left set (left - 1) (frames new)) text' enums
   goes_inside left w new f s prefix base prefix' text mid text' enums some same is leads of_set path path_base put long union fs before =
@@ -197,7 +197,7 @@ module _ (set : Schemas) (start first : List ℕ) (whole : List Line) where
       union ∙ (ap (λ (z : Schemas). mid ++ union_line z prefix' g) of_set ∙ ap (λ (q : List ℕ). mid ++ union_line set q g) (path_inside w f base prefix' same is path_base long)) in
       listed_left set start first whole rest (lines_left set (left - 1) (frames new)) text' enums (ap (lines_left set (left - 1)) (sym fs))
       (listed_plain set start first whole (UnionLine p' g) rest mid text' enums (bytes_put (union_line set p' g) mid text' union_here) refl
-      (listed_plain set start first whole (FieldLine p b (field_at set b i)) (UnionLine p' g ∷ rest) text mid enums
+      (listed_plain set start first whole (FieldLine p b i) (UnionLine p' g ∷ rest) text mid enums
       (group_put w f g prefix text mid same is path leads_here put) (group_unnamed (field_at set b i).field.kind (field_at set b i).type g leads_here)
       (listed_left set start first whole (lines_left set left (frames w)) _ text enums left_here before)))
 

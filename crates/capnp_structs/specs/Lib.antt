@@ -1,3 +1,5 @@
+pub mod Enums
 pub mod Fields
 pub mod Names
 pub mod Steps
+pub mod Values

@@ -1,17 +1,21 @@
 //! The enums that the fields of a struct name.
-ghost use Rattle.std.specs.Prelude.{[], ◌≡◌, ◌++◌, codes, cond, IfErr, MatchOption, OnOk, decimal, map, nat_eq, string_bytes, true};
+ghost use Rattle.std.specs.Prelude.{[], ◌≡◌, ◌++◌, IfErr, MatchOption, OnOk, decimal, nat_eq, string_bytes};
 ghost use Rattle.std.specs.HashSet.{contains};
 ghost use Rattle.capnp_device.specs.declared.error.ErrorKind.TheVariants.{OutOfMemory};
 ghost use Rattle.capnp_schema.specs.Entries.{lists_seen};
-ghost use Rattle.capnp_schema.specs.Schema.{enum_at, seen_enumerant};
+ghost use Rattle.capnp_schema.specs.Enumerants.{containing_enum, ordinal_of};
+ghost use Rattle.capnp_schema.specs.Enums.{enum_in, enum_number, enum_set};
+ghost use Rattle.capnp_schema.specs.Schema.{enum_at};
 ghost use Rattle.capnp_schema.specs.Types.{seen_type};
 ghost use Rattle.capnp_records.specs.Text.{enum_text, said_text};
 ghost use Rattle.capnp_dynamic_readers.specs.Pieces.{IsAppended};
-ghost use Rattle.capnp_structs.specs.Fields.{before_name, default_said, enum_line, enum_lines, enums_named, names_text};
+ghost use Rattle.capnp_structs.specs.Enums.{before_name, enum_line, enum_lines, name_text, names_text, unless_met};
+ghost use Rattle.capnp_structs.specs.Fields.{enums_named};
 ghost use Rattle.capnp_structs.specs.Steps.Fields.{IsEnumMet};
 
+use crate::annotations::put_annotations;
 use capnp_base::introspect::{Type, TypeVariant};
-use capnp_schema::record::EnumerantRecord;
+use capnp_schema::schema::{EnumSchema, Enumerant};
 use capnp_schema::set::SchemaSet;
 use capnp_wire::error::Result;
 use std::collections::HashSet;
@@ -46,7 +50,7 @@ fn enumerant_name(schemas: &SchemaSet, of: Type, number: u16) -> Option<&str>
     }
 }
 
-/// Appends the default of an enum.
+/// Appends the value of an enum.
 pub(crate) fn put_enumerant(
     out: &mut String,
     schemas: &SchemaSet,
@@ -54,12 +58,12 @@ pub(crate) fn put_enumerant(
     number: u16,
 ) -> Result<()>
     ensures put { OnOk result (IsAppended (string_bytes out.old)
-        (default_said (said_text (enum_text (lists_seen schemas.now) (seen_type of) number))) (string_bytes out.new)) }
+        (said_text (enum_text (lists_seen schemas.now) (seen_type of) number)) (string_bytes out.new)) }
     ensures memory { IfErr result (λ e. e.kind ≡ OutOfMemory) }
 {
     match enumerant_name(schemas, of, number) {
-        Some(name) => Ok(write!(out, ", default {name}")?),
-        None => Ok(write!(out, ", default {number}")?),
+        Some(name) => Ok(out.push_str(name)?),
+        None => Ok(write!(out, "{number}")?),
     }
 }
 
@@ -74,52 +78,58 @@ pub(crate) fn add_enum(enums: &mut Vec<u32>, of: Type) -> Result<()>
     Ok(())
 }
 
-/// What stands before a name, which is the first of all or not.
-fn before_name(is_first: bool) -> &'static str
-    ensures { result.now ≡ before_name is_first }
+/// What stands before the name of a number.
+fn before_name(number: u16) -> &'static str
+    ensures { result.now ≡ before_name number }
 {
-    match is_first {
-        true => " ",
-        false => ", ",
+    if number == 0 {
+        return " ";
     }
+    ", "
 }
 
-/// Appends a name.
-fn put_name(out: &mut String, is_first: bool, enumerant: &EnumerantRecord) -> Result<()>
-    ensures put { OnOk result (string_bytes out.new
-        ≡ string_bytes out.old ++ (before_name is_first ++ string_bytes enumerant.now.name)) }
+/// Appends a name, with its annotations.
+fn put_name(out: &mut String, enumerant: Enumerant<'_>) -> Result<()>
+    ensures put { OnOk result (IsAppended (string_bytes out.old)
+        (name_text (enum_set (containing_enum enumerant.entry)) (enum_number (containing_enum enumerant.entry))
+        (ordinal_of enumerant.entry)) (string_bytes out.new)) }
     ensures memory { IfErr result (λ e. e.kind ≡ OutOfMemory) }
 {
-    out.push_str(before_name(is_first))?;
-    out.push_str(enumerant.name.as_str())?;
-    Ok(())
+    let annotations = enumerant.get_annotations()?;
+    let record = enumerant.get_proto();
+    out.push_str(before_name(enumerant.get_ordinal()))?;
+    out.push_str(record.name.as_str())?;
+    put_annotations(out, annotations, record.annotations.as_slice())
 }
 
 /// Appends the names of an enum.
-fn put_names(out: &mut String, enumerants: &[EnumerantRecord]) -> Result<()>
-    ensures put { OnOk result (string_bytes out.new
-        ≡ string_bytes out.old ++ names_text true (map seen_enumerant enumerants.now)) }
+fn put_names(out: &mut String, schema: EnumSchema<'_>) -> Result<()>
+    ensures put { OnOk result (IsAppended (string_bytes out.old)
+        (names_text (enum_set schema.entry) (enum_number schema.entry) 0 (enum_in schema.entry).enumerants)
+        (string_bytes out.new)) }
     ensures memory { IfErr result (λ e. e.kind ≡ OutOfMemory) }
 {
-    let mut is_first = true;
-    for enumerant in enumerants {
-        put_name(out, is_first, enumerant)?;
-        is_first = false;
+    let enumerants = schema.get_enumerants()?;
+    for ordinal in 0..enumerants.len() {
+        put_name(out, enumerants.get(ordinal))?;
     }
     Ok(())
 }
 
 /// Appends the line of an enum.
 fn put_enum_line(out: &mut String, schemas: &SchemaSet, number: u32) -> Result<()>
-    ensures put { OnOk result (string_bytes out.new
-        ≡ string_bytes out.old ++ enum_line (lists_seen schemas.now) number) }
+    ensures put { OnOk result (IsAppended (string_bytes out.old) (enum_line (lists_seen schemas.now) number)
+        (string_bytes out.new)) }
     ensures memory { IfErr result (λ e. e.kind ≡ OutOfMemory) }
 {
-    let record = schemas.enum_schema(number).get_proto();
+    let schema = schemas.enum_schema(number);
+    let annotations = schema.get_annotations()?;
+    let enumeration = schema.get_proto();
     out.push_str("enum ")?;
-    out.push_str(record.display_name.as_str())?;
+    out.push_str(enumeration.display_name.as_str())?;
+    put_annotations(out, annotations, enumeration.annotations.as_slice())?;
     out.push_str(":")?;
-    put_names(out, record.enumerants.as_slice())?;
+    put_names(out, schema)?;
     out.push_str("\n")?;
     Ok(())
 }
@@ -131,8 +141,9 @@ fn put_new_enum(
     met: &mut HashSet<u32>,
     number: u32,
 ) -> Result<()>
-    ensures put { OnOk result (string_bytes out.new ≡ string_bytes out.old
-        ++ cond (contains nat_eq met.old number) [] (enum_line (lists_seen schemas.now) number)) }
+    ensures put { OnOk result (IsAppended (string_bytes out.old)
+        (unless_met (contains nat_eq met.old number) (enum_line (lists_seen schemas.now) number))
+        (string_bytes out.new)) }
     ensures met { OnOk result (IsEnumMet number met.old met.new) }
     ensures memory { IfErr result (λ e. e.kind ≡ OutOfMemory) }
 {
@@ -144,8 +155,8 @@ fn put_new_enum(
 
 /// Appends a line for each of these enums, each once.
 pub(crate) fn put_enum_lines(out: &mut String, schemas: &SchemaSet, enums: &[u32]) -> Result<()>
-    ensures put { OnOk result (string_bytes out.new
-        ≡ string_bytes out.old ++ enum_lines (lists_seen schemas.now) [] enums.now) }
+    ensures put { OnOk result (IsAppended (string_bytes out.old) (enum_lines (lists_seen schemas.now) [] enums.now)
+        (string_bytes out.new)) }
     ensures memory { IfErr result (λ e. e.kind ≡ OutOfMemory) }
 {
     let mut met = HashSet::new(*out.allocator());

@@ -1,29 +1,27 @@
 //! The fields of a struct, and the enums that they name.
-ghost use Rattle.std.specs.Prelude.{ℕ, List, [], ◌≡◌, ◌≢◌, ◌++◌, Err, IfErr, IfOk, OnOk, decimal, false, string_bytes};
+ghost use Rattle.std.specs.Prelude.{ℕ, List, [], ◌≡◌, ◌++◌, IfErr, IfOk, OnOk, decimal, string_bytes};
 ghost use Rattle.capnp_device.specs.declared.error.ErrorKind.TheVariants.{OutOfMemory};
+ghost use Rattle.capnp_base.specs.Types.{base_of, list_depth};
+ghost use Rattle.capnp_schema.specs.Accepted.{NamesEntries};
 ghost use Rattle.capnp_schema.specs.Entries.{lists_seen};
-ghost use Rattle.capnp_schema.specs.FieldLists.{field_schema, typed_of};
+ghost use Rattle.capnp_schema.specs.FieldLists.{field_schema, index_of, typed_of};
 ghost use Rattle.capnp_schema.specs.Plan.{plan_of};
-ghost use Rattle.capnp_schema.specs.Schema.{default_of, kind_default, node_of, seen_kind, seen_value};
+ghost use Rattle.capnp_schema.specs.Schema.{kind_default, node_of, seen_kind};
 ghost use Rattle.capnp_schema.specs.StructHandles.{IsStruct, number_of, set_of};
 ghost use Rattle.capnp_schema.specs.Types.{seen_base, seen_type};
-ghost use Rattle.capnp_base.specs.Types.{base_of, list_depth};
-ghost use Rattle.capnp_records.specs.Text.{after, said_text};
 ghost use Rattle.capnp_dynamic_readers.specs.Pieces.{IsAppended};
-ghost use Rattle.capnp_dynamic_readers.specs.Shown.{printed_text};
-ghost use Rattle.capnp_structs.specs.Fields.{all_enums, default_said, default_text, enum_lines, fields_text, group_line, inside, line_end, lines_text, lines_within, place_text, slot_head, slot_line, type_text, said_words, union_line};
+ghost use Rattle.capnp_structs.specs.Fields.{all_enums, field_end, fields_text, group_head, group_line, head_line, inside, lines_text, lines_within, member_text, place_text, slot_head, slot_line, type_text, union_line};
 ghost use Rattle.capnp_structs.specs.Steps.Fields.{repeated_words};
+ghost use Rattle.capnp_structs.specs.Values.{default_text};
 
-use crate::enums::{add_enum, put_enum, put_enum_lines, put_enumerant};
+use crate::annotations::put_annotations;
+use crate::enums::{add_enum, put_enum, put_enum_lines};
+use crate::values::put_default;
 use capnp_base::introspect::{Type, TypeVariant};
-use capnp_base::text;
-use capnp_dynamic_readers::dynamic_value::Reader as Value;
-use capnp_dynamic_readers::printer::print;
 use capnp_schema::plan::Place;
-use capnp_schema::record::{FieldKind, ValueRecord};
+use capnp_schema::record::FieldKind;
 use capnp_schema::schema::{Field, GroupWalk, StructSchema};
 use capnp_schema::set::SchemaSet;
-use capnp_wire::PointerReader;
 use capnp_wire::error::Result;
 use std::alloc::Global;
 
@@ -117,67 +115,35 @@ fn put_place(out: &mut String, place: Place) -> Result<()>
     }
 }
 
-/// Appends the value by which a union has its member, and a line break.
-fn put_end(out: &mut String, member: Option<(u32, u16)>) -> Result<()>
-    ensures put { OnOk result (string_bytes out.new ≡ string_bytes out.old ++ line_end member) }
+/// Appends the value by which a union has its member.
+fn put_member(out: &mut String, member: Option<(u32, u16)>) -> Result<()>
+    ensures put { OnOk result (string_bytes out.new ≡ string_bytes out.old ++ member_text member) }
     ensures memory { IfErr result (λ e. e.kind ≡ OutOfMemory) }
 {
     match member {
-        Some((_, number)) => Ok(write!(out, ", member {number}\n")?),
-        None => Ok(out.push_str("\n")?),
+        Some((_, number)) => Ok(write!(out, ", member {number}")?),
+        None => Ok(()),
     }
 }
 
-/// Appends a default as its value is printed.
-fn put_default_value(out: &mut String, value: Value<'_>) -> Result<()>
-    ensures put { OnOk result (IsAppended (string_bytes out.old) (default_said (printed_text false value.entry))
-        (string_bytes out.new)) }
-    ensures refused { IfErr result (λ e. e.kind ≢ OutOfMemory → printed_text false value.entry ≡ Err e.kind) }
-{
-    out.push_str(", default ")?;
-    print(value, out, false)
-}
-
-/// Appends how many words a default has, and nothing of a null.
-fn put_words(out: &mut String, words: &[u8]) -> Result<()>
-    ensures put { OnOk result (IsAppended (string_bytes out.old) (said_words words.now) (string_bytes out.new)) }
-    ensures memory { IfErr result (λ e. e.kind ≡ OutOfMemory) }
-{
-    if PointerReader::from_words(words).is_null() {
-        return Ok(());
-    }
-    let count = words.len() / 8;
-    Ok(write!(out, ", default words: {count}")?)
-}
-
-/// Appends a default of a type.
-fn put_default(out: &mut String, schemas: &SchemaSet, of: Type, default: &ValueRecord) -> Result<()>
+/// Appends what stands behind a field's default, or behind its name where it is a group.
+fn put_end(out: &mut String, field: Field<'_>) -> Result<()>
     ensures put { OnOk result (IsAppended (string_bytes out.old)
-        (default_text (lists_seen schemas.now) (seen_type of) (seen_value default.now)) (string_bytes out.new)) }
+        (field_end (set_of (field_schema field.entry)) (number_of (field_schema field.entry)) (index_of field.entry))
+        (string_bytes out.new)) }
     ensures memory { IfErr result (λ e. e.kind ≡ OutOfMemory) }
 {
-    match default {
-        ValueRecord::Void => Ok(()),
-        ValueRecord::Bool(x) => put_default_value(out, Value::Bool(*x)),
-        ValueRecord::Int8(x) => put_default_value(out, Value::Int8(*x)),
-        ValueRecord::Int16(x) => put_default_value(out, Value::Int16(*x)),
-        ValueRecord::Int32(x) => put_default_value(out, Value::Int32(*x)),
-        ValueRecord::Int64(x) => put_default_value(out, Value::Int64(*x)),
-        ValueRecord::UInt8(x) => put_default_value(out, Value::UInt8(*x)),
-        ValueRecord::UInt16(x) => put_default_value(out, Value::UInt16(*x)),
-        ValueRecord::UInt32(x) => put_default_value(out, Value::UInt32(*x)),
-        ValueRecord::UInt64(x) => put_default_value(out, Value::UInt64(*x)),
-        ValueRecord::Enum(number) => put_enumerant(out, schemas, of, *number),
-        ValueRecord::Text(bytes) => put_default_value(out, Value::Text(text::Reader(bytes))),
-        ValueRecord::Data(bytes) => put_default_value(out, Value::Data(bytes)),
-        ValueRecord::Struct(words) => put_words(out, words),
-        ValueRecord::List(words) => put_words(out, words),
-        ValueRecord::AnyPointer(words) => put_words(out, words),
-    }
+    put_member(out, field.plan().member)?;
+    let annotations = field.get_annotations()?;
+    let record = field.get_proto();
+    put_annotations(out, annotations, record.annotations.as_slice())?;
+    out.push_str("\n")?;
+    Ok(())
 }
 
 /// Appends the default of a slot, and nothing of a group.
 fn put_kind(out: &mut String, schemas: &SchemaSet, of: Type, kind: &FieldKind) -> Result<()>
+    requires named { NamesEntries (lists_seen schemas.now) (seen_type of) }
     ensures put { OnOk result (IsAppended (string_bytes out.old)
         (default_text (lists_seen schemas.now) (seen_type of) (kind_default (seen_kind kind.now)))
         (string_bytes out.new)) }
@@ -210,28 +176,37 @@ fn put_head(out: &mut String, prefix: &str, field: Field<'_>) -> Result<()>
 /// Appends the line of a slot.
 fn put_slot(out: &mut String, prefix: &str, field: Field<'_>) -> Result<()>
     ensures put { OnOk result (IsAppended (string_bytes out.old)
-        (slot_line (set_of (field_schema field.entry)) (number_of (field_schema field.entry)) prefix.now
-        (typed_of field.entry))
-        (string_bytes out.new)) }
+        (slot_line (set_of (field_schema field.entry)) (number_of (field_schema field.entry)) (index_of field.entry)
+        prefix.now) (string_bytes out.new)) }
     ensures memory { IfErr result (λ e. e.kind ≡ OutOfMemory) }
 {
     put_head(out, prefix, field)?;
     let schemas = field.get_containing_struct().get_set();
     put_kind(out, schemas, field.get_type(), &field.get_proto().kind)?;
-    put_end(out, field.plan().member)
+    put_end(out, field)
 }
 
-/// Appends the line of a group.
-fn put_group(out: &mut String, prefix: &str, field: Field<'_>) -> Result<()>
+/// Appends the name of a group.
+fn put_group_head(out: &mut String, prefix: &str, field: Field<'_>) -> Result<()>
     ensures put { OnOk result (string_bytes out.new
-        ≡ string_bytes out.old ++ group_line (set_of (field_schema field.entry))
-        (number_of (field_schema field.entry)) prefix.now (typed_of field.entry)) }
+        ≡ string_bytes out.old ++ group_head prefix.now (typed_of field.entry)) }
     ensures memory { IfErr result (λ e. e.kind ≡ OutOfMemory) }
 {
     out.push_str(prefix)?;
     out.push_str(field.get_proto().name.as_str())?;
     out.push_str(": group")?;
-    put_end(out, field.plan().member)
+    Ok(())
+}
+
+/// Appends the line of a group.
+fn put_group(out: &mut String, prefix: &str, field: Field<'_>) -> Result<()>
+    ensures put { OnOk result (IsAppended (string_bytes out.old)
+        (group_line (set_of (field_schema field.entry)) (number_of (field_schema field.entry)) (index_of field.entry)
+        prefix.now) (string_bytes out.new)) }
+    ensures memory { IfErr result (λ e. e.kind ≡ OutOfMemory) }
+{
+    put_group_head(out, prefix, field)?;
+    put_end(out, field)
 }
 
 /// Appends the line of a union, where a struct or group has one.
@@ -282,7 +257,8 @@ fn put_fields(
         (lines_text (set_of schema.entry) (lines_within (set_of schema.entry) groups [] (number_of schema.entry)))
         (string_bytes out.new)) }
     ensures added { OnOk result (enums.new.items ≡ enums.old.items
-        ++ all_enums (lines_within (set_of schema.entry) groups [] (number_of schema.entry))) }
+        ++ all_enums (set_of schema.entry)
+        (lines_within (set_of schema.entry) groups [] (number_of schema.entry))) }
     ensures memory { IfErr result (λ e. e.kind ≡ OutOfMemory) }
 {
     if groups == 0 {
@@ -323,11 +299,34 @@ fn put_fields(
     }
 }
 
-/// The fields of a struct, by index, one a line: its name and type, the first bit of its slot in the data section or
-/// the number of its pointer, its default, and of a union's member its discriminant value. Before the fields of a
-/// struct or group with a union stands how many members it has, and the first bit of the discriminant. Behind a group's
-/// line stand those of its union and its fields, each by its path. Behind all fields stands each enum that one of them
-/// names, or its lists, with its enumerants. The schema is one of an accepted set. Refused with `OutOfMemory` alone.
+/// Appends the line of a struct with annotations.
+fn put_head_line(out: &mut String, schema: StructSchema<'_>) -> Result<()>
+    ensures put { OnOk result (IsAppended (string_bytes out.old)
+        (head_line (set_of schema.entry) (number_of schema.entry)) (string_bytes out.new)) }
+    ensures memory { IfErr result (λ e. e.kind ≡ OutOfMemory) }
+{
+    let annotations = schema.get_annotations()?;
+    if annotations.is_empty() {
+        return Ok(());
+    }
+    let node = schema.get_proto();
+    out.push_str("struct ")?;
+    out.push_str(node.display_name.as_str())?;
+    put_annotations(out, annotations, node.annotations.as_slice())?;
+    out.push_str("\n")?;
+    Ok(())
+}
+
+/// The fields of a struct, by index, one a line: name, type, place, default, discriminant value and annotations. The
+/// place is the first bit in the data section, or the number of a pointer. The discriminant value is that of a union's
+/// member. A default is told as it is printed; an untyped one, and one whose text is refused, by how many words it has.
+/// An annotation is ` $@0x`, its id in hexadecimal, and its value, told so.
+///
+/// Before all stand the struct's name and annotations, where it has some. Before the fields of a struct or group with a
+/// union stands how many members it has, and the first bit of the discriminant. Behind a group's line stand those of
+/// its union and its fields, each by its path. Behind all fields stands each enum that one of them names, or its lists,
+/// with its annotations, its enumerants and theirs. The schema is one of an accepted set. Refused with `OutOfMemory`
+/// alone.
 pub fn get_fields(alloc: Global, schema: StructSchema<'_>) -> Result<String>
     requires { IsStruct schema }
     ensures text { IfOk result (λ text. IsAppended [] (fields_text (set_of schema.entry) (number_of schema.entry))
@@ -336,6 +335,7 @@ pub fn get_fields(alloc: Global, schema: StructSchema<'_>) -> Result<String>
 {
     let mut lines = String::new(alloc);
     let mut enums = Vec::new(alloc);
+    put_head_line(&mut lines, schema)?;
     put_fields(
         &mut lines,
         &mut enums,

@@ -1,6 +1,8 @@
 //! A set of schemas as text: its structs by their names, and the fields of a struct.
 #![tactic(auto)]
 
+mod annotations;
 mod enums;
 pub mod fields;
 pub mod names;
+mod values;

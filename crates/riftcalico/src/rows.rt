@@ -557,7 +557,7 @@ pub(crate) const LISTED: &str = "\
 \"tag.q: Text, pointer 1, default \"\"
 \"word: Text, pointer 0, default \"\", member 2
 
-# a default of words
+# a default that leads back to itself
 :structs
 :Loop
 <
@@ -576,12 +576,13 @@ pub(crate) const LISTED: &str = "\
 \"t: Text, pointer 2, default \"\"
 \"items: List(Flat), pointer 3
 
-# an enum
+# an enum, and annotations
 :structs
 :Node
 <
 =0
-\"id: UInt64, data bit 0, default 0
+\"struct Node $@0x7 = \"note\"
+\"id: UInt64, data bit 0, default 0 $@0x8 = 5 $@0x9 = byte $@0xa = 2
 \"displayName: Text, pointer 0, default \"\"
 \"size: ElementSize, data bit 64, default empty
 \"enum ElementSize: empty, bit, byte, twoBytes, fourBytes, eightBytes, pointer, inlineComposite

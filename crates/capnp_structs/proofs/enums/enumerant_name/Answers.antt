@@ -1,5 +1,5 @@
 use Rattle.capnp_schema.specs.Entries.{lists_seen}
-use Rattle.capnp_structs.proofs.TypesOfEnums.{named_text, plain_text}
+use Rattle.capnp_structs.proofs.TypesOfEnums.{plain_text}
 use Rattle.capnp_structs.proofs.enums.enumerant_name.Goals as goal
 
 pub returns-in_default : goal.returns-in_default

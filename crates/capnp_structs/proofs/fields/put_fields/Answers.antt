@@ -19,7 +19,7 @@ returns-then-groups-eq0-clause-put c =
 pub returns-then-groups-eq0-clause-added : goal.returns-then-groups-eq0-clause-added
 returns-then-groups-eq0-clause-added c =
     sym (append-nil c.args.enums.now.items)
-    ∙ ap (λ (ls : List Line). c.args.enums.now.items ++ all_enums ls) (sym (within_none (set_of c.args.schema) c.args.groups [] (number_of c.args.schema) c.if-groups-eq0.true))
+    ∙ ap (λ (ls : List Line). c.args.enums.now.items ++ all_enums (set_of c.args.schema) ls) (sym (within_none (set_of c.args.schema) c.args.groups [] (number_of c.args.schema) c.if-groups-eq0.true))
 
 pub loop-field-init : goal.loop-field-init
 loop-field-init c = record {

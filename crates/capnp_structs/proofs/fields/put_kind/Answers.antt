@@ -5,7 +5,7 @@ use Rattle.capnp_schema.specs.Types.{seen_type}
 use Rattle.capnp_schema.specs.declared.record.FieldKind.{FieldKind}
 use Rattle.capnp_dynamic_readers.specs.Facts.Appended.{nothing}
 use Rattle.capnp_dynamic_readers.specs.Pieces.{IsAppended}
-use Rattle.capnp_structs.specs.Fields.{default_text}
+use Rattle.capnp_structs.specs.Values.{default_text}
 use Rattle.capnp_structs.proofs.fields.put_kind.Goals as goal
 
 pub returns-in-Group-clause-put : goal.returns-in-Group-clause-put

@@ -1,14 +1,21 @@
 -- What stands before the default, the default, and what stands behind it.
-use Rattle.std.proofs.Common.{◌∙◌, ap, string_bytes}
-use Rattle.capnp_schema.specs.FieldLists.{field_schema, typed_of}
-use Rattle.capnp_schema.specs.Schema.{default_of}
-use Rattle.capnp_schema.specs.StructHandles.{set_of}
-use Rattle.capnp_structs.specs.Fields.{default_text}
-use Rattle.capnp_structs.proofs.Appended.{default_here, slot_put}
+use Rattle.std.proofs.Common.{◌∙◌, ap, string_bytes, subst, sym}
+use Rattle.capnp_schema.specs.Accepted.{NamesEntries}
+use Rattle.capnp_schema.specs.FieldLists.{field_schema, index_of, typed_of}
+use Rattle.capnp_schema.specs.Schema.{Schemas, default_of}
+use Rattle.capnp_schema.specs.StructHandles.{number_of, set_of}
+use Rattle.capnp_schema.specs.Types.{seen_type}
+use Rattle.capnp_structs.specs.Fields.{field_end}
+use Rattle.capnp_structs.specs.Values.{default_text}
+use Rattle.capnp_structs.proofs.Appended.{default_here, three_by}
 use Rattle.capnp_structs.proofs.fields.put_slot.Goals as goal
+
+pub put_kind-requires : goal.put_kind-requires
+put_kind-requires c = record { named = subst (λ (z : Schemas). NamesEntries z (seen_type c.get_type.result)) (sym (c.get_set-schemas.ensures ∙ ap set_of c.get_containing_struct.ensures.is)) c.get_type.ensures.named }
 
 pub returns-clause-put : goal.returns-clause-put
 returns-clause-put c =
-    slot_put c.put_end.result (default_text (set_of (field_schema c.args.field)) (typed_of c.args.field).type (default_of (typed_of c.args.field).field)) (string_bytes c.args.out.now) _ _ _ _ _ c.in_ok-put_head.ensures.put
+    three_by c.put_end.result _ (default_text (set_of (field_schema c.args.field)) (typed_of c.args.field).type (default_of (typed_of c.args.field).field))
+    (field_end (set_of (field_schema c.args.field)) (number_of (field_schema c.args.field)) (index_of c.args.field)) (string_bytes c.args.out.now) _ _ _ c.in_ok-put_head.ensures.put
     (default_here _ (set_of (field_schema c.args.field)) _ (typed_of c.args.field).type _ (typed_of c.args.field).field _ _ (c.get_set-schemas.ensures ∙ ap set_of c.get_containing_struct.ensures.is) c.get_type.ensures.is c.get_proto.ensures c.in_ok-put_kind.ensures.put)
-    (rw c.plan.ensures.is at c.put_end.ensures.put)
+    c.put_end.ensures.put

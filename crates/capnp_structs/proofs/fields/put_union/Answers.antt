@@ -1,5 +1,4 @@
-use Rattle.std.proofs.Common.{ℕ, List, Option, Some, ◌≡◌, ◌++◌, ◌∙◌, ap, arith, decimal, rules, string_bytes}
-use Rattle.std.proofs.lemmas.Grind.{common_steps}
+use Rattle.std.proofs.Common.{ℕ, List, Option, Some, ◌≡◌, ◌++◌, ◌∙◌, ap, decimal, string_bytes}
 use Rattle.capnp_schema.specs.Discriminant.{discriminant_of}
 use Rattle.capnp_schema.specs.Schema.{Node}
 use Rattle.capnp_schema.specs.StructHandles.{number_of, set_of, struct_node}

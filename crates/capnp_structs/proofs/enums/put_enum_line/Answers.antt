@@ -1,0 +1,17 @@
+-- The parts of the line, one after another.
+use Rattle.std.proofs.Common.{◌∙◌, ap, string_bytes, sym}
+use Rattle.capnp_schema.specs.AnnotationLists.{annotations_in, annotations_set}
+use Rattle.capnp_schema.specs.Entries.{lists_seen}
+use Rattle.capnp_schema.specs.Schema.{Enum, seen_annotations}
+use Rattle.capnp_structs.proofs.EnumsPut.{line_put}
+use Rattle.capnp_structs.proofs.enums.put_enum_line.Goals as goal
+
+pub put_annotations-requires : goal.put_annotations-requires
+put_annotations-requires c = record { recorded = c.in_ok-annotations.ensures.whole ∙ (sym (ap (λ (x : Enum). x.annotations) c.get_proto-enumeration.ensures) ∙ ap seen_annotations (sym c.as_slice.ensures.value)) }
+
+pub returns-clause-put : goal.returns-clause-put
+returns-clause-put c =
+    line_put (lists_seen c.args.schemas.now) c.args.number c.enum_schema-schema.result (annotations_set c.in_ok-annotations.annotations) (annotations_in c.in_ok-annotations.annotations) c.as_str.result.now (string_bytes c.args.out.now)
+    (string_bytes c.push_str.new.self) (string_bytes c.push_str-2.new.self) (string_bytes c.put_annotations.new.out) (string_bytes c.push_str-3.new.self) (string_bytes c.put_names.new.out) (string_bytes c.push_str-4.new.self)
+    c.enum_schema-schema.ensures.set c.enum_schema-schema.ensures.number (c.as_str.ensures.value ∙ ap (λ (e : Enum). e.display_name) c.get_proto-enumeration.ensures) c.in_ok-annotations.ensures.set c.in_ok-annotations.ensures.typed
+    c.in_ok-push_str.ensures.bytes c.in_ok-push_str-2.ensures.bytes c.in_ok-put_annotations.ensures.put c.in_ok-push_str-3.ensures.bytes c.in_ok-put_names.ensures.put c.in_ok-push_str-4.ensures.bytes

@@ -1,0 +1,15 @@
+use Rattle.std.proofs.Common.{rules, string_bytes, sym}
+use Rattle.std.specs.Bool.{nat_eq}
+use Rattle.std.specs.HashSet.{contains}
+use Rattle.capnp_schema.specs.Entries.{lists_seen}
+use Rattle.capnp_structs.specs.Enums.{enum_line}
+use Rattle.capnp_structs.proofs.Appended.{on_ok}
+use Rattle.capnp_structs.proofs.EnumsPut.{first_met, met_before}
+use Rattle.capnp_structs.proofs.enums.put_new_enum.Goals as goal
+
+pub returns-then-not-branch-clause-put : goal.returns-then-not-branch-clause-put
+returns-then-not-branch-clause-put c = met_before (contains nat_eq c.args.met.now c.args.number) (enum_line (lists_seen c.args.schemas.now) c.args.number) (string_bytes c.args.out.now) (search rules)
+
+pub returns-clause-put : goal.returns-clause-put
+returns-clause-put c =
+    on_ok c.put_enum_line.result (first_met (contains nat_eq c.args.met.now c.args.number) (enum_line (lists_seen c.args.schemas.now) c.args.number) (string_bytes c.args.out.now) (string_bytes c.put_enum_line.new.out) (search rules)) c.put_enum_line.ensures.put

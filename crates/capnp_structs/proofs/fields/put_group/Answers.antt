@@ -1,0 +1,11 @@
+use Rattle.std.proofs.Common.{string_bytes}
+use Rattle.capnp_schema.specs.FieldLists.{field_schema, index_of, typed_of}
+use Rattle.capnp_schema.specs.StructHandles.{number_of, set_of}
+use Rattle.capnp_structs.specs.Fields.{field_end, group_head}
+use Rattle.capnp_structs.proofs.Appended.{led_by}
+use Rattle.capnp_structs.proofs.fields.put_group.Goals as goal
+
+pub returns-clause-put : goal.returns-clause-put
+returns-clause-put c =
+    led_by c.put_end.result (group_head c.args.prefix.now (typed_of c.args.field)) (field_end (set_of (field_schema c.args.field)) (number_of (field_schema c.args.field)) (index_of c.args.field)) (string_bytes c.args.out.now) _ _
+    c.in_ok-put_group_head.ensures.put c.put_end.ensures.put

@@ -1,0 +1,12 @@
+use Rattle.std.proofs.Common.{string_bytes}
+use Rattle.capnp_schema.specs.Entries.{lists_seen}
+use Rattle.capnp_schema.specs.Types.{seen_type}
+use Rattle.capnp_structs.proofs.Appended.{on_ok}
+use Rattle.capnp_structs.proofs.ValuesSaid.{struct_put}
+use Rattle.capnp_structs.proofs.values.put_struct_value.Goals as goal
+
+pub returns-clause-put : goal.returns-clause-put
+returns-clause-put c =
+    on_ok c.put_read.result
+    (struct_put (lists_seen c.args.schemas.now) (seen_type c.args.of) c.args.words.now c.from_words.result (string_bytes c.args.out.now) (string_bytes c.put_read.new.out) c.from_words.ensures.tree c.from_words.ensures.levels)
+    c.put_read.ensures.put
