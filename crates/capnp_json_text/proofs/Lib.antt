@@ -1,0 +1,14 @@
+pub mod RowsFaults
+pub mod RowsValues
+pub mod Shorter
+pub mod ShorterTokens
+pub mod Enough
+pub mod Nesting
+pub mod Utf8
+pub mod ContentSteps
+pub mod ReadBack
+pub mod KeptUtf8
+pub mod ContentUtf8
+pub mod ValueSteps
+pub mod Local
+pub mod LocalTexts

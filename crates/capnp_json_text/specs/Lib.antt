@@ -1,0 +1,12 @@
+pub mod Readings
+pub mod Numbers
+pub mod Strings
+pub mod Texts
+pub mod Faults
+pub mod Decimals
+pub mod Contents
+pub mod Values
+pub mod Writing
+pub mod Laws
+pub mod Seen
+pub mod Steps
