@@ -5,7 +5,11 @@ pub mod Going
 pub mod Finding
 pub mod Nearing
 pub mod ReadBack
+pub mod Appending
+pub mod Cutting
+pub mod Answering
 pub mod Unique
 pub mod RowsFloats
 pub mod RowsTexts
 pub mod RowsNearest
+pub mod RowsWords

@@ -28,12 +28,27 @@ impl Large {
         Large { row }
     }
 
+    /// The same natural once more.
+    pub fn copied(&self) -> Large
+        ensures { result ≡ self.now }
+    {
+        Large { row: self.row }
+    }
+
     /// The natural times a factor.
     pub fn multiply(&mut self, factor: u32)
         requires { self.old * factor < large_room }
         ensures { self.new ≡ self.old * factor }
     {
         limbs::scale(&mut self.row, factor, 0);
+    }
+
+    /// Puts a decimal digit behind those of the natural.
+    pub fn append(&mut self, digit: u8)
+        requires { self.old * 10 + digit < large_room }
+        ensures { self.new ≡ self.old * 10 + digit }
+    {
+        limbs::scale(&mut self.row, 10, digit as u32);
     }
 
     /// The natural times a power of a base, of which a power that fits is given.

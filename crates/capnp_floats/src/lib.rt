@@ -2,6 +2,8 @@
 #![tactic(auto)]
 
 pub mod decimal;
+mod digits;
+mod grammar;
 mod large;
 pub mod laws;
 mod limbs;
@@ -10,3 +12,4 @@ pub mod nearest;
 mod search;
 pub mod text;
 pub mod width;
+pub mod word;

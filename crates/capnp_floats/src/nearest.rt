@@ -1,17 +1,20 @@
 //! The binary floating point number that is nearest to a decimal.
-ghost use Rattle.std.specs.Prelude.{ℕ, ◌≡◌, ◌+◌, ◌-◌, ◌*◌, ◌^◌, ◌<◌, ◌≤◌, ◌%◌, ◌↔◌, true, false, IfSome, IfNone, nat_lt, nat_le};
+ghost use Rattle.std.specs.Prelude.{ℕ, ◌≡◌, ◌+◌, ◌-◌, ◌*◌, ◌^◌, ◌<◌, ◌≤◌, ◌%◌, cond, IfSome, IfNone, nat_le};
 ghost use Rattle.capnp_floats.specs.Floats.{place, significand};
 ghost use Rattle.capnp_floats.specs.Naturals.{large_room};
 ghost use Rattle.capnp_floats.specs.Nearest.{IsNearest, IsPastRange, decimal_numbers, infinity_bits, least_numbers, least_places};
 ghost use Rattle.capnp_floats.specs.Shortest.{tens, tenths};
+ghost use lib.IntN.{ℤ};
+ghost use Rattle.capnp_floats.specs.Steps.Digits.{AreDigits, HoldsDigits, IsCapped};
 ghost use Rattle.capnp_floats.specs.Steps.Nearing.{IsChosen, IsFloor, TakesNearer, twice_middle};
 
 use crate::decimal::{tens_of, tenths_of};
+use crate::digits::Digits;
 use crate::large::Large;
 use crate::width::{Width, exponent, significand};
 
 /// The bits of infinity.
-fn infinity_bits(width: Width) -> u64
+pub(crate) fn infinity_bits(width: Width) -> u64
     ensures value { result ≡ infinity_bits width }
     ensures few { result < 2 ^ 63 }
     ensures some { 0 < result }
@@ -23,7 +26,7 @@ fn infinity_bits(width: Width) -> u64
 }
 
 /// How often one is halved down to the least number.
-fn least_places(width: Width) -> u32
+pub(crate) fn least_places(width: Width) -> u32
     ensures value { result ≡ least_places width }
     ensures few { result ≤ 1074 }
 {
@@ -98,17 +101,149 @@ fn nearer(width: Width, low: u64, twice: &Large, zeros: u32) -> u64
     low + low % 2
 }
 
-/// The number that is nearest to a decimal, or the bits of infinity where it is past the range.
-fn chosen(width: Width, digits: u64, up: u32, down: u32) -> u64
+/// How many least numbers a decimal `digits * 10^up` is.
+fn numbers_of(width: Width, digits: &Large, up: u32) -> Large
+    requires digits { digits.now < 10 ^ 801 }
     requires up { up ≤ 400 }
-    requires down { down ≤ 400 }
-    ensures { IsChosen width (digits * 10 ^ up * 2 ^ least_places width) (10 ^ down) result }
+    ensures { result ≡ digits.now * 10 ^ up * 2 ^ least_places width }
 {
-    let places = least_places(width);
-    let decimal = scaled(digits, places, up);
-    let twice = scaled(digits, places + 1, up);
+    let mut natural = digits.copied();
+    natural.double(least_places(width));
+    natural.multiply_tens(up);
+    natural
+}
+
+/// Twice a natural.
+fn doubled(natural: &Large) -> Large
+    requires { natural.now * 2 < large_room }
+    ensures { result ≡ 2 * natural.now }
+{
+    let mut twice = natural.copied();
+    twice.multiply(2);
+    twice
+}
+
+/// The number that is nearest to `digits * 10^up / 10^down`, or the bits of infinity where it is past the range.
+fn chosen(width: Width, digits: &Large, up: u32, down: u32) -> u64
+    requires digits { digits.now < 10 ^ 801 }
+    requires up { up ≤ 400 }
+    requires down { down ≤ 1150 }
+    ensures { IsChosen width (digits.now * 10 ^ up * 2 ^ least_places width) (10 ^ down) result }
+{
+    let decimal = numbers_of(width, digits, up);
+    let twice = doubled(&decimal);
     let low = floor(width, &decimal, down);
     nearer(width, low, &twice, down)
+}
+
+/// The same of few digits, by numbers of 128 bits where these do.
+fn chosen_few(width: Width, digits: u64, up: u32, down: u32) -> u64
+    requires up { up ≤ 400 }
+    requires down { down ≤ 1150 }
+    ensures { IsChosen width (digits * 10 ^ up * 2 ^ least_places width) (10 ^ down) result }
+{
+    chosen(width, &Large::new(digits), up, down)
+}
+
+/// Bits that are finite.
+fn in_range(width: Width, bits: u64) -> Option<u64>
+    ensures some { IfSome result (λ b. (b ≡ bits) × (bits < infinity_bits width)) }
+    ensures none { IfNone result (infinity_bits width ≤ bits) }
+{
+    if bits < infinity_bits(width) {
+        Some(bits)
+    } else {
+        None
+    }
+}
+
+/// The number that is nearest to `digits * 10^up / 10^down`, of which `up` or `down` is 0. None past the range.
+pub(crate) fn nearest_few(width: Width, digits: u64, up: u128, down: u128) -> Option<u64>
+    ensures found { IfSome result (λ bits. (k : ℤ) → IsCapped (2 ^ 119) up (tens k) → IsCapped (2 ^ 119) down (tenths k) → IsNearest width digits k bits) }
+    ensures past { IfNone result ((k : ℤ) → IsCapped (2 ^ 119) up (tens k) → IsCapped (2 ^ 119) down (tenths k) → IsPastRange width digits k) }
+{
+    if digits == 0 {
+        return Some(0);
+    }
+    if down > 400 {
+        return Some(0);
+    }
+    if up > 400 {
+        return None;
+    }
+    in_range(width, chosen_few(width, digits, up as u32, down as u32))
+}
+
+/// The same of digits that are all kept.
+fn nearest_whole(width: Width, digits: &Digits, up: u128, down: u128) -> Option<u64>
+    requires fits { AreDigits digits.now }
+    requires whole { digits.now.cut ≡ 0 }
+    requires up { up ≤ 400 }
+    ensures found { IfSome result (λ bits. (n : ℕ) (k : ℤ) → HoldsDigits digits.now n → IsCapped (2 ^ 119) up (tens k) → IsCapped (2 ^ 119) down (tenths k) → IsNearest width n k bits) }
+    ensures past { IfNone result ((n : ℕ) (k : ℤ) → HoldsDigits digits.now n → IsCapped (2 ^ 119) up (tens k) → IsCapped (2 ^ 119) down (tenths k) → IsPastRange width n k) }
+{
+    if down > 1150 {
+        return Some(0);
+    }
+    let bits = chosen(width, &digits.front, up as u32, down as u32);
+    in_range(width, bits)
+}
+
+fn one_if(more: bool) -> u8
+    ensures value { result ≡ cond more 1 0 }
+    ensures few { result ≤ 1 }
+{
+    if more { 1 } else { 0 }
+}
+
+/// The digits that are kept, and one more that is 0 where all others are.
+fn cut_digits(digits: &Digits) -> Large
+    requires { AreDigits digits.now }
+    ensures value { result ≡ digits.now.front * 10 + cond digits.now.more 1 0 }
+    ensures few { result < 10 ^ 801 }
+{
+    let mut number = digits.front.copied();
+    number.append(one_if(digits.more));
+    number
+}
+
+/// The same of digits that are not all kept, which have tenths.
+fn nearest_cut(width: Width, digits: &Digits, down: u128) -> Option<u64>
+    requires fits { AreDigits digits.now }
+    requires cut { 0 < digits.now.cut }
+    ensures found { IfSome result (λ bits. (n : ℕ) (k : ℤ) → HoldsDigits digits.now n → IsCapped (2 ^ 119) down (tenths k) → IsNearest width n k bits) }
+    ensures past { IfNone result ((n : ℕ) (k : ℤ) → HoldsDigits digits.now n → IsCapped (2 ^ 119) down (tenths k) → IsPastRange width n k) }
+{
+    let cut = digits.cut as u128;
+    if down <= cut {
+        return None;
+    }
+    let tenths = down - cut;
+    if tenths > 1149 {
+        return Some(0);
+    }
+    let number = cut_digits(digits);
+    let bits = chosen(width, &number, 0, (tenths + 1) as u32);
+    in_range(width, bits)
+}
+
+/// The number that is nearest to digits of any number times `10^up / 10^down`, of which `up` or `down` is 0. None past
+/// the range.
+pub(crate) fn nearest_many(width: Width, digits: &Digits, up: u128, down: u128) -> Option<u64>
+    requires fits { AreDigits digits.now }
+    ensures found { IfSome result (λ bits. (n : ℕ) (k : ℤ) → HoldsDigits digits.now n → IsCapped (2 ^ 119) up (tens k) → IsCapped (2 ^ 119) down (tenths k) → IsNearest width n k bits) }
+    ensures past { IfNone result ((n : ℕ) (k : ℤ) → HoldsDigits digits.now n → IsCapped (2 ^ 119) up (tens k) → IsCapped (2 ^ 119) down (tenths k) → IsPastRange width n k) }
+{
+    if digits.count == 0 {
+        return Some(0);
+    }
+    if up > 400 {
+        return None;
+    }
+    if digits.cut > 0 {
+        return nearest_cut(width, digits, down);
+    }
+    nearest_whole(width, digits, up, down)
 }
 
 /// The bits of the number, without sign, that is nearest to the decimal `digits * 10^exponent`; of two the one whose bits
@@ -119,21 +254,10 @@ pub fn nearest(width: Width, digits: u64, exponent: i32) -> Option<u64>
     ensures found { IfSome result (λ bits. IsNearest width digits exponent bits) }
     ensures past { IfNone result (IsPastRange width digits exponent) }
 {
-    let up = tens_of(exponent);
-    let down = tenths_of(exponent);
-    if digits == 0 {
-        return Some(0);
-    }
-    if down > 400 {
-        return Some(0);
-    }
-    if up > 400 {
-        return None;
-    }
-    let bits = chosen(width, digits, up as u32, down as u32);
-    if bits < infinity_bits(width) {
-        Some(bits)
-    } else {
-        None
-    }
+    nearest_few(
+        width,
+        digits,
+        tens_of(exponent) as u128,
+        tenths_of(exponent) as u128,
+    )
 }
