@@ -10,6 +10,7 @@ mod limbs;
 mod natural;
 pub mod nearest;
 mod search;
+mod small;
 pub mod text;
 pub mod width;
 pub mod word;

@@ -11,6 +11,7 @@ ghost use Rattle.capnp_floats.specs.Steps.Nearing.{IsChosen, IsFloor, TakesNeare
 use crate::decimal::{tens_of, tenths_of};
 use crate::digits::Digits;
 use crate::large::Large;
+use crate::small::chosen_small;
 use crate::width::{Width, exponent, significand};
 
 /// The bits of infinity.
@@ -142,6 +143,9 @@ fn chosen_few(width: Width, digits: u64, up: u32, down: u32) -> u64
     requires down { down ≤ 1150 }
     ensures { IsChosen width (digits * 10 ^ up * 2 ^ least_places width) (10 ^ down) result }
 {
+    if let Some(bits) = chosen_small(width, digits, up, down) {
+        return bits;
+    }
     chosen(width, &Large::new(digits), up, down)
 }
 

@@ -11,7 +11,7 @@ pub enum Width {
 }
 
 /// The power of two that fractions are below.
-fn fraction_end(width: Width) -> u64
+pub(crate) fn fraction_end(width: Width) -> u64
     ensures value { result ≡ 2 ^ fraction_bits width }
     ensures positive { 0 < result }
     ensures few { result ≤ 4503599627370496 }
@@ -19,6 +19,16 @@ fn fraction_end(width: Width) -> u64
     match width {
         Width::Float32 => 8388608,
         Width::Float64 => 4503599627370496,
+    }
+}
+
+/// The bits of a significand that is not cut short.
+pub(crate) fn precision(width: Width) -> u32
+    ensures few { result ≤ 53 }
+{
+    match width {
+        Width::Float32 => 24,
+        Width::Float64 => 53,
     }
 }
 
