@@ -86,6 +86,23 @@ impl Large {
         self.raise(10, 9, 1000000000, times);
     }
 
+    /// The number of its highest places from the first that is not 0, of 32 bits each, up to 128 bits, and how many places
+    /// are below those.
+    pub fn head(&self) -> (u128, u32)
+        ensures { result.1 ≤ 192 }
+    {
+        let mut head: u128 = 0;
+        let mut below: u32 = 192;
+        'places: for i in 0..192 {
+            if head >= 79228162514264337593543950336 {
+                return (head, below);
+            }
+            head = head * 4294967296 + self.row[191 - i] as u128;
+            below = below.saturating_sub(1);
+        }
+        (head, below)
+    }
+
     /// Whether it is less than another.
     pub fn is_below(&self, other: &Large) -> bool
         ensures { result ≡ nat_lt self.now other.now }

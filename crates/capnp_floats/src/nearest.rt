@@ -12,7 +12,7 @@ use crate::decimal::{tens_of, tenths_of};
 use crate::digits::Digits;
 use crate::large::Large;
 use crate::small::chosen_small;
-use crate::width::{Width, exponent, significand};
+use crate::width::{Width, exponent, fraction_end, precision, significand};
 
 /// The bits of infinity.
 pub(crate) fn infinity_bits(width: Width) -> u64
@@ -68,13 +68,59 @@ fn is_reached(width: Width, bits: u64, decimal: &Large, zeros: u32) -> bool
     !decimal.is_below(&number)
 }
 
+/// About the bits of the greatest number that is at most a decimal over so many parts. Nothing rests on them but time.
+fn guess_bits(width: Width, decimal: &Large, parts: &Large) -> u64 {
+    let (value, value_below) = decimal.head();
+    let (one, one_below) = parts.head();
+    let value_shift = value.leading_zeros().min(127);
+    let one_shift = one.leading_zeros().min(127);
+    let divisor = one.wrapping_shl(one_shift) / 18446744073709551616;
+    let Some(quotient) = value.wrapping_shl(value_shift).checked_div(divisor) else {
+        return 0;
+    };
+    // `quotient * 2^(scale - 2^14)` is about the decimal
+    let scale = (16320 + 32 * value_below + one_shift).saturating_sub(32 * one_below + value_shift);
+    let size = 128u32.saturating_sub(quotient.leading_zeros());
+    let place = (scale + size).saturating_sub(16384 + precision(width));
+    let shift = (place + 16384).saturating_sub(scale);
+    if shift > 127 {
+        return 0;
+    }
+    let significand = quotient.wrapping_shr(shift) % 18446744073709551616;
+    (place as u64)
+        .wrapping_mul(fraction_end(width))
+        .wrapping_add(significand as u64)
+}
+
+/// Bits of which the first are a number at most a decimal, and the second one above it or infinity. Few lie between where
+/// the guess is good.
+fn bracket(width: Width, decimal: &Large, zeros: u32, guess: u64) -> (u64, u64)
+    requires { zeros ≤ 1152 }
+    ensures order { result.0 < result.1 }
+    ensures finite { result.1 ≤ infinity_bits width }
+    ensures low { least_numbers width result.0 * 10 ^ zeros ≤ decimal.now }
+    ensures high { result.1 < infinity_bits width → decimal.now < least_numbers width result.1 * 10 ^ zeros }
+{
+    let end = infinity_bits(width);
+    if guess == 0 || guess >= end - 2 {
+        return (0, end);
+    }
+    if !is_reached(width, guess - 1, decimal, zeros) {
+        return (0, end);
+    }
+    if is_reached(width, guess + 2, decimal, zeros) {
+        return (0, end);
+    }
+    (guess - 1, guess + 2)
+}
+
 /// The greatest finite number that is at most a decimal.
 fn floor(width: Width, decimal: &Large, zeros: u32) -> u64
     requires { zeros ≤ 1152 }
     ensures { IsFloor width decimal.now (10 ^ zeros) result }
 {
-    let mut low: u64 = 0;
-    let mut high = infinity_bits(width);
+    let guess = guess_bits(width, decimal, &scaled(1, 0, zeros));
+    let (mut low, mut high) = bracket(width, decimal, zeros, guess);
     'halving: while high - low > 1 {
         let middle = low + (high - low) / 2;
         if is_reached(width, middle, decimal, zeros) {
