@@ -7,6 +7,7 @@
 #[path = "../std/mod.rs"]
 mod rattle_std;
 
+mod floats;
 mod json_text;
 mod memory;
 mod refusing;

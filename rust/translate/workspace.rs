@@ -35,6 +35,7 @@ const MODULE_ALLOWS: &str = "\
 #[allow(dead_code, reason = \"each crate has calls that the others, or the face, don't make\")]
 #[allow(unused_imports, reason = \"what only a contract named is still imported\")]
 #[allow(unused_variables, reason = \"laws have bodies without code\")]
+#[allow(unused_labels, reason = \"a proof names a loop by its label\")]
 #[allow(unused_attributes, reason = \"sections are added to documentation wherever a call requires something\")]
 #[allow(clippy::all, reason = \"the text is that of the proved source, and another form may have no proof\")]
 #[allow(missing_docs, reason = \"what the face does not hand on is documented where its name does not say it\")]

@@ -34,7 +34,7 @@ positive_times x k h =
     let q : 1 * 1 ≤ x * 2 ^ k = mul-le 1 1 x (2 ^ k) (omega arith) (omega arith) in
     omega arith
 
-short_of : (ends : Bool) (x y : ℕ) → x < y → reaches ends x y ≡ false
+pub short_of : (ends : Bool) (x y : ℕ) → x < y → reaches ends x y ≡ false
 short_of true x y h = lt-leb y x h
 short_of false x y h = le-ltb y x (omega arith)
 

@@ -5,7 +5,16 @@ pub mod Going
 pub mod Finding
 pub mod Nearing
 pub mod ReadBack
+pub mod Appending
+pub mod Cutting
+pub mod Significands
+pub mod Answering
 pub mod Unique
+pub mod Sizes
+pub mod Scanning
+pub mod Layouts
+pub mod TextsRead
 pub mod RowsFloats
 pub mod RowsTexts
 pub mod RowsNearest
+pub mod RowsWords

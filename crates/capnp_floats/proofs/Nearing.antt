@@ -325,11 +325,11 @@ zero_is_zero w d k h =
     let e : decimal_numbers w d k ≡ 0 * 10 ^ tens k * 2 ^ least_places w = ap (λ z. z * 10 ^ tens k * 2 ^ least_places w) h in
     small_is_zero w d k (omega arith)
 
-only_tenths : (k : ℤ) → 0 < tenths k → tens k ≡ 0
+pub only_tenths : (k : ℤ) → 0 < tenths k → tens k ≡ 0
 only_tenths (pos n) h = absurd (omega arith)
 only_tenths (negsuc n) h = refl
 
-only_tens : (k : ℤ) → 0 < tens k → tenths k ≡ 0
+pub only_tens : (k : ℤ) → 0 < tens k → tenths k ≡ 0
 only_tens (pos n) h = refl
 only_tens (negsuc n) h = absurd (omega arith)
 
@@ -345,7 +345,7 @@ tiny_is_zero w d k h f =
     let y : 10 ^ 401 ≤ 10 ^ tenths k = pow-le-pow_right {n = 10} (lit< tt) {i = 401} {j = tenths k} (omega arith) in
     small_is_zero w d k (omega arith)
 
-range_ends : (w : Width) → twice_last_middle w ≤ 2 * (1 * 10 ^ 401 * 2 ^ least_places w)
+pub range_ends : (w : Width) → twice_last_middle w ≤ 2 * (1 * 10 ^ 401 * 2 ^ least_places w)
 unfolding least_numbers
 range_ends Float32 = lit≤ tt
 range_ends Float64 = lit≤ tt

@@ -104,7 +104,7 @@ ceiling_rounded ends s d r b a less down up coarse near = record {
 
 -- ---- an interval over other units
 
-cancel_equal : (c a b : ℕ) → 0 < c → a * c ≡ b * c → a ≡ b
+pub cancel_equal : (c a b : ℕ) → 0 < c → a * c ≡ b * c → a ≡ b
 cancel_equal c a b p e = ⊎_elim (λ x. x)
     (λ x. ⊎_elim
     (λ (y : a < b). let k : a * c < b * c = mul-lt-mul_of_pos_right {m = a} {n = b} {k = c} y p in absurd (omega arith))

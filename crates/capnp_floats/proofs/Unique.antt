@@ -11,11 +11,11 @@ use Rattle.capnp_floats.proofs.Rounding.{high_scaled, low_scaled}
 use Rattle.capnp_floats.proofs.Nearing.{power_positive}
 use Rattle.capnp_floats.proofs.ReadBack.{between_is_nearer}
 
-reaches_from : (ends : Bool) (x x' y : ℕ) → x ≤ x' → reaches ends x y ≡ true → reaches ends x' y ≡ true
+pub reaches_from : (ends : Bool) (x x' y : ℕ) → x ≤ x' → reaches ends x y ≡ true → reaches ends x' y ≡ true
 reaches_from true x x' y h r = let l : y ≤ x = leb-true y x r in le-leb y x' (omega arith)
 reaches_from false x x' y h r = let l : y < x = ltb-true y x r in lt-ltb y x' (omega arith)
 
-reaches_down : (ends : Bool) (x y y' : ℕ) → y' ≤ y → reaches ends x y ≡ true → reaches ends x y' ≡ true
+pub reaches_down : (ends : Bool) (x y y' : ℕ) → y' ≤ y → reaches ends x y ≡ true → reaches ends x y' ≡ true
 reaches_down true x y y' h r = let l : y ≤ x = leb-true y x r in le-leb y' x (omega arith)
 reaches_down false x y y' h r = let l : y < x = ltb-true y x r in lt-ltb y' x (omega arith)
 

@@ -1,3 +1,4 @@
 pub mod Going
+pub mod Digits
 pub mod Intervals
 pub mod Nearing

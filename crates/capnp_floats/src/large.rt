@@ -28,12 +28,27 @@ impl Large {
         Large { row }
     }
 
+    /// The same natural once more.
+    pub fn copied(&self) -> Large
+        ensures { result ≡ self.now }
+    {
+        Large { row: self.row }
+    }
+
     /// The natural times a factor.
     pub fn multiply(&mut self, factor: u32)
         requires { self.old * factor < large_room }
         ensures { self.new ≡ self.old * factor }
     {
         limbs::scale(&mut self.row, factor, 0);
+    }
+
+    /// Puts a decimal digit behind those of the natural.
+    pub fn append(&mut self, digit: u8)
+        requires { self.old * 10 + digit < large_room }
+        ensures { self.new ≡ self.old * 10 + digit }
+    {
+        limbs::scale(&mut self.row, 10, digit as u32);
     }
 
     /// The natural times a power of a base, of which a power that fits is given.
@@ -69,6 +84,23 @@ impl Large {
         ensures { self.new ≡ self.old * 10 ^ times }
     {
         self.raise(10, 9, 1000000000, times);
+    }
+
+    /// The number of its highest places from the first that is not 0, of 32 bits each, up to 128 bits, and how many places
+    /// are below those.
+    pub fn head(&self) -> (u128, u32)
+        ensures { result.1 ≤ 192 }
+    {
+        let mut head: u128 = 0;
+        let mut below: u32 = 192;
+        'places: for i in 0..192 {
+            if head >= 79228162514264337593543950336 {
+                return (head, below);
+            }
+            head = head * 4294967296 + self.row[191 - i] as u128;
+            below = below.saturating_sub(1);
+        }
+        (head, below)
     }
 
     /// Whether it is less than another.

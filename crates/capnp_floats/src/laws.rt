@@ -1,5 +1,5 @@
 //! What holds of floats and their decimals.
-ghost use Rattle.capnp_floats.specs.Laws.{DecimalsAreRead, OneDecimal, OneIsNearest};
+ghost use Rattle.capnp_floats.specs.Laws.{DecimalsAreRead, NansAreOne, OneDecimal, OneIsNearest, TextsAreRead};
 
 /// The decimal of a finite number is read back as the bits of this number, without its sign: they are the nearest to
 /// it, and no others are.
@@ -11,4 +11,11 @@ pub fn decimals_are_read()
 /// A finite number has one decimal: where two are its shortest and nearest, they have the same digits and exponent.
 pub fn decimals_are_unique()
     ensures { OneDecimal }
+{}
+
+/// The text of a float, a finite number or an infinity, is read as the float's bits; that of what is no number as the
+/// quiet one's.
+pub fn texts_are_read()
+    ensures read { TextsAreRead }
+    ensures nan { NansAreOne }
 {}

@@ -2,11 +2,15 @@
 #![tactic(auto)]
 
 pub mod decimal;
+mod digits;
+mod grammar;
 mod large;
 pub mod laws;
 mod limbs;
 mod natural;
 pub mod nearest;
 mod search;
+mod small;
 pub mod text;
 pub mod width;
+pub mod word;

@@ -1,5 +1,5 @@
 //! Floats as text.
-ghost use Rattle.std.specs.Prelude.{ℕ, List, [], ◌++◌, ◌≡◌, ◌+◌, ◌-◌, ◌<◌, ◌≤◌, ◌^◌, Bool, OnOk, length, replicate, string_bytes};
+ghost use Rattle.std.specs.Prelude.{ℕ, List, [], ◌++◌, ◌≡◌, ◌+◌, ◌-◌, ◌<◌, ◌≤◌, ◌^◌, Bool, IfOk, OnOk, length, replicate, string_bytes};
 ghost use Rattle.std.specs.Str.{IsAscii};
 ghost use Rattle.capnp_floats.specs.Floats.{fraction, is_finite};
 ghost use Rattle.capnp_floats.specs.Layout.{AppendsFloat, IsFloatText, digits_text, few_places, is_negative, is_plain, layout, many_places, others_text, places_for, plain_text, power_text, scientific_text, sign_text, two_digits_text};
@@ -188,4 +188,15 @@ pub fn put_float(out: &mut String, width: Width, bits: u64) -> Result<(), AllocE
     };
     put_sign(out, width, bits)?;
     put_decimal(out, width, decimal)
+}
+
+/// A number's text, as `put_float` appends it.
+///
+/// `bits` are those of the number, of which a width of 32 has the lowest 32. Refused where there is no memory.
+pub fn float_text(alloc: Global, width: Width, bits: u64) -> Result<String, AllocError>
+    ensures { IfOk result (λ text. IsFloatText width bits (string_bytes text)) }
+{
+    let mut out = String::new(alloc);
+    put_float(&mut out, width, bits)?;
+    Ok(out)
 }

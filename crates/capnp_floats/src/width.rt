@@ -1,5 +1,5 @@
 //! The parts of a binary floating point number.
-ghost use Rattle.std.specs.Prelude.{◌≡◌, ◌^◌, ◌<◌, ◌≤◌, ◌-◌};
+ghost use Rattle.std.specs.Prelude.{◌≡◌, ◌+◌, ◌^◌, ◌<◌, ◌≤◌, ◌-◌};
 ghost use Rattle.capnp_floats.specs.Floats.{exponent, exponent_bits, fraction, fraction_bits, gap_below, quarter_places, significand};
 ghost use Rattle.capnp_floats.specs.Layout.{is_negative};
 
@@ -11,7 +11,7 @@ pub enum Width {
 }
 
 /// The power of two that fractions are below.
-fn fraction_end(width: Width) -> u64
+pub(crate) fn fraction_end(width: Width) -> u64
     ensures value { result ≡ 2 ^ fraction_bits width }
     ensures positive { 0 < result }
     ensures few { result ≤ 4503599627370496 }
@@ -19,6 +19,16 @@ fn fraction_end(width: Width) -> u64
     match width {
         Width::Float32 => 8388608,
         Width::Float64 => 4503599627370496,
+    }
+}
+
+/// The bits of a significand that is not cut short.
+pub(crate) fn precision(width: Width) -> u32
+    ensures few { result ≤ 53 }
+{
+    match width {
+        Width::Float32 => 24,
+        Width::Float64 => 53,
     }
 }
 
@@ -84,6 +94,17 @@ pub(crate) fn gap_below(width: Width, bits: u64) -> u64
         1
     } else {
         2
+    }
+}
+
+/// The bit of the sign.
+pub(crate) fn sign_bit(width: Width) -> u64
+    ensures value { result ≡ 2 ^ (fraction_bits width + exponent_bits width) }
+    ensures few { result ≤ 2 ^ 63 }
+{
+    match width {
+        Width::Float32 => 2147483648,
+        Width::Float64 => 9223372036854775808,
     }
 }
 
