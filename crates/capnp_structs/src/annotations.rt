@@ -21,11 +21,7 @@ fn put_id(out: &mut String, id: u64) -> Result<()>
 }
 
 /// Appends an annotation, which has this value.
-fn put_annotation(
-    out: &mut String,
-    annotation: Annotation<'_>,
-    stored: &ValueRecord,
-) -> Result<()>
+fn put_annotation(out: &mut String, annotation: Annotation<'_>, stored: &ValueRecord) -> Result<()>
     requires stored { seen_value stored.now ≡ (annotation_in annotation).annotation.value }
     ensures put { OnOk result (IsAppended (string_bytes out.old)
         (annotation_text (annotation_set annotation.entry) (annotation_in annotation.entry)) (string_bytes out.new)) }
