@@ -88,7 +88,7 @@ fn check_bits(width: Width, bits: u64) {
     }
     let (digits, exponent) = shortest_by_rust(width, number);
     assert_eq!(decimal.exponent, exponent, "{text}");
-    let is_tie = decimal.digits.abs_diff(digits) == 1 && decimal.digits % 2 == 0;
+    let is_tie = decimal.digits.abs_diff(digits) == 1 && decimal.digits.is_multiple_of(2);
     assert!(decimal.digits == digits || is_tie, "{text}: {digits}");
 }
 
