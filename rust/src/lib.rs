@@ -168,10 +168,15 @@ pub mod schema {
     pub use crate::capnp_schema::{builtin, meta, plan, value};
 }
 
+/// Messages that follow one another in a stream.
+pub mod serialize {
+    pub use crate::capnp_streams::receive::{try_read_message, MOST_BYTES};
+}
+
 /// Packed messages.
 pub mod serialize_packed {
     pub use crate::capnp_packed::pack::pack;
-    pub use crate::capnp_packed::received::{read_message, MOST_BYTES};
+    pub use crate::capnp_packed::received::read_message;
     pub use crate::capnp_packed::unpack::unpack;
 }
 

@@ -9,6 +9,7 @@ pub mod alloc;
 pub mod collections;
 pub mod env;
 pub mod fs;
+pub mod io;
 mod macros;
 pub mod process;
 pub mod rt;
@@ -17,7 +18,7 @@ pub mod string;
 pub mod test;
 pub mod vec;
 
-pub use std::{cmp, fmt, hash, io, marker, mem, result, str};
+pub use std::{cmp, fmt, hash, marker, mem, result, str};
 
 pub(crate) use macros::{rattle_format, rattle_vec};
 

@@ -109,10 +109,15 @@ pub mod schema {
     pub use capnp_schema::{builtin, meta, plan, record, value};
 }
 
+/// Messages that follow one another in a stream.
+pub mod serialize {
+    pub use capnp_streams::receive::{MOST_BYTES, try_read_message};
+}
+
 /// Packed messages.
 pub mod serialize_packed {
     pub use capnp_packed::pack::pack;
-    pub use capnp_packed::received::{MOST_BYTES, read_message};
+    pub use capnp_packed::received::read_message;
     pub use capnp_packed::unpack::unpack;
 }
 

@@ -7,9 +7,10 @@ use Rattle.capnp_device.specs.declared.error.ErrorKind.TheVariants.{Truncated, T
 use Rattle.capnp_wire.specs.Laws.{MoreBytesChangeNothing}
 use Rattle.capnp_wire.specs.Slot.{little_endian}
 use Rattle.capnp_wire.specs.Stream.{cut_segments, header_bytes, message_tree_of, root_read, segment_count, segments_after_count, segments_after_table, segments_of, table_of, total_words}
-use Rattle.capnp_packed.specs.Received.{length_by_count, length_by_table, message_bytes, message_length, most_bytes, received_message, message_taken}
+use Rattle.capnp_packed.specs.Received.{received_message, message_taken}
+use Rattle.capnp_streams.specs.Facts.Lengths.{header_room, part_inside}
+use Rattle.capnp_streams.specs.Lengths.{length_by_count, length_by_table, message_bytes, message_length, most_bytes}
 use Rattle.capnp_packed.specs.Unpacking.{unpacked_bytes}
-use Rattle.capnp_packed.proofs.Measured.{header_room, part_inside}
 
 -- ---- what is known where no test refuses ----
 

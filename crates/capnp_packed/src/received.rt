@@ -2,20 +2,18 @@
 ghost use Rattle.std.specs.Prelude.{ℕ, ◌*◌, ◌+◌, ◌++◌, ◌<◌, ◌^◌, ◌↔◌, ◌≡◌, ◌≢◌, ◌≤◌, Err, IfErr, IfOk, IsOk, IsTrue, Ok, length, replicate, take};
 ghost use Rattle.capnp_device.specs.declared.error.ErrorKind.TheVariants.{OutOfMemory};
 ghost use Rattle.capnp_wire.specs.Stream.{message_tree_of};
-ghost use Rattle.capnp_packed.specs.Received.{message_length, most_bytes, received_message};
+ghost use Rattle.capnp_packed.specs.Received.{received_message};
 ghost use Rattle.capnp_packed.specs.Steps.Seen.{piece_seen, run_seen};
 ghost use Rattle.capnp_packed.specs.Unpacking.{unpacked_bytes};
+ghost use Rattle.capnp_streams.specs.Lengths.{message_length, most_bytes};
 
 use crate::unpack::{Run, WordRun, next_piece};
 use capnp_device::error::{Error, ErrorKind, Result};
+use capnp_streams::receive::MOST_BYTES;
 use capnp_wire::laws::more_bytes_change_nothing;
 use capnp_wire::parts::bytes::{half_at, part};
 use capnp_wire::parts::segments::{count_words, get_header_bytes};
 use std::alloc::Global;
-
-/// The most bytes that a packed message may stand for, its table with them: 1 GiB. 2 packed bytes may stand for 2,048, so
-/// a small input could else ask for all of a machine's memory.
-pub const MOST_BYTES: usize = 1 << 30;
 
 /// The longest table of a message, which has 512 segments.
 const LONGEST_TABLE: usize = 2056;
@@ -167,7 +165,8 @@ fn unpack_message(alloc: Global, packed: &[u8]) -> Result<Vec<u8>>
 ///
 /// Refused with `Truncated` where the packed bytes stand for less than the message (a piece that is cut stands for
 /// nothing), with `TooManySegments` where its table has more than 512, and with `TooLarge` where the message has more
-/// than 1 GiB. No memory is taken before this is known. Then refused with `OutOfMemory` alone.
+/// than 1 GiB: 2 packed bytes may stand for 2,048, so a small input could else ask for all of a machine's memory. No memory
+/// is taken before this is known. Then refused with `OutOfMemory` alone.
 pub fn read_message(alloc: Global, packed: &[u8]) -> Result<Vec<u8>>
     ensures message { IfOk result (λ v. received_message packed.now ≡ Ok v.items) }
     ensures read { IfOk result (λ v. message_tree_of v.items ≡ message_tree_of (unpacked_bytes packed.now)) }

@@ -6,20 +6,31 @@ mod refused_tests;
 #[cfg(test)]
 mod rows;
 #[cfg(test)]
+mod stream_tests;
+#[cfg(test)]
 mod tests;
 #[cfg(test)]
 mod value_tests;
 
 use capnp_show_engine::command::{report, words};
 use capnp_wire::device::{ReadSource, WriteSink};
+use capnp_wire::error::ErrorKind;
 use riftcalico_engine::command::command;
 use std::env;
+use std::io::BufReader;
 use std::process::ExitCode;
 
+/// The bytes that are read of standard input at a time, where messages follow one another.
+const INPUT_BYTES: usize = 1 << 16;
+
 fn main(rt: HostRuntime) -> ExitCode {
-    let mut source = ReadSource::new(rt.stdin());
     let mut sink = WriteSink::new(rt.stdout());
     let mut errors = WriteSink::new(rt.stderr());
+    let Ok(input) = BufReader::with_capacity(rt.alloc(), INPUT_BYTES, rt.stdin()) else {
+        report(ErrorKind::OutOfMemory, &mut errors);
+        return ExitCode::from(1);
+    };
+    let mut source = ReadSource::new(input);
     let status = match words(rt.alloc(), env::args(&rt)) {
         Ok(words) => command(&rt, rt.alloc(), &words, &mut source, &mut sink, &mut errors),
         Err(error) => {

@@ -31,12 +31,21 @@ const HOSTILE: &str = "\
 
 /// How verbs are called.
 static USAGES: [(&str, &str); 7] = [
-    ("show", "[--set FILE] [--packed] NAME [--indent]"),
-    ("get", "[--set FILE] [--packed] NAME PATH [--indent]"),
-    ("check", "[--set FILE] [--packed] NAME [PATH]"),
+    (
+        "show",
+        "[--set FILE] [--packed | --each [--keep-going]] NAME [--indent]",
+    ),
+    (
+        "get",
+        "[--set FILE] [--packed | --each [--keep-going]] NAME PATH [--indent]",
+    ),
+    (
+        "check",
+        "[--set FILE] [--packed | --each [--keep-going]] NAME [PATH]",
+    ),
     (
         "patch",
-        "[--set FILE] [--calls FILE] [--keep-going] [--packed] NAME CALL..",
+        "[--set FILE] [--calls FILE] [--keep-going] [--packed | --each] NAME CALL..",
     ),
     (
         "new",
@@ -146,12 +155,16 @@ get|--set|set|Flat -> usage
 get|Flat|a|--set -> usage
 get|--calls|calls|Flat|a -> usage
 get|--keep-going|Flat|a|b -> usage
+get|--each|--packed|Flat|a -> usage
+show|--keep-going|Flat -> usage
 check -> usage
 check|Flat|--indent -> usage
+check|--packed|--each|Flat -> usage
 check|Flat|a|b -> usage
 patch -> usage
 patch|--keep-going -> usage
 patch|--set|set -> usage
+patch|--each|--packed|Flat|get a -> usage
 patch|--calls|calls -> usage
 patch|--calls|calls|Flat|get a -> usage
 patch|Flat|--indent -> usage
@@ -159,13 +172,16 @@ patch|--set|set|--calls|calls|--keep-going -> usage
 new -> usage
 new|--keep-going -> usage
 new|--set|set|--keep-going -> usage
+new|--each|Flat -> usage
 new|--calls|calls|Flat| -> usage
 structs|Flat|a -> usage
 structs|--set -> usage
 structs|--set|set|Flat|a -> usage
 structs|--indent -> usage
 structs|--packed -> usage
+structs|--each -> usage
 schemas|--packed -> usage
+schemas|--each -> usage
 schemas|Flat -> usage
 schemas|--set|set -> usage
 # options that there aren't
@@ -176,6 +192,8 @@ structs|-- -> unknown option: --
 get|Absent|a -> refused: 64 NameNotFound (Absent); see riftcalico structs
 patch|Absent|get a -> refused: 64 NameNotFound (Absent); see riftcalico structs
 new|Shapes.circle -> refused: 64 NameNotFound (Shapes.circle); near: Shapes; see riftcalico structs
+# a control character is told by its number
+new|Ab\u{1b}sent -> refused: 64 NameNotFound (Ab\\u{1b}sent); see riftcalico structs
 structs|Absent -> refused: 64 NameNotFound (Absent); see riftcalico structs
 # names that may have been meant begin with the same three letters, in upper or lower case
 get|flat|a -> refused: 64 NameNotFound (flat); near: Flat; see riftcalico structs
@@ -284,7 +302,7 @@ static CALL_FILES: [(&[u8], &str); 5] = [
     ),
     (
         b"get a\nset a 65536",
-        "2: set a 65536: can't be read at 10\n",
+        "2: set a 65536: can't be read at 10; wanted: 0 to 65535\n",
     ),
     (b"get a \n", "1: get a : can't be read at 5\n"),
     (b"get a\n\xFF", "calls: can't be read at 6\n"),

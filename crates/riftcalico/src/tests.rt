@@ -16,10 +16,10 @@ use std::process::Abort;
 use std::test::Fail;
 
 pub(crate) const USAGE: &str = "\
-usage: riftcalico show [--set FILE] [--packed] NAME [--indent]
-       riftcalico get [--set FILE] [--packed] NAME PATH [--indent]
-       riftcalico check [--set FILE] [--packed] NAME [PATH]
-       riftcalico patch [--set FILE] [--calls FILE] [--keep-going] [--packed] NAME CALL..
+usage: riftcalico show [--set FILE] [--packed | --each [--keep-going]] NAME [--indent]
+       riftcalico get [--set FILE] [--packed | --each [--keep-going]] NAME PATH [--indent]
+       riftcalico check [--set FILE] [--packed | --each [--keep-going]] NAME [PATH]
+       riftcalico patch [--set FILE] [--calls FILE] [--keep-going] [--packed | --each] NAME CALL..
        riftcalico new [--set FILE] [--calls FILE] [--keep-going] [--packed] NAME CALL..
        riftcalico structs [--set FILE] [NAME]
        riftcalico schemas [--strict]";
@@ -202,7 +202,7 @@ fn row_is_so(rt: &impl Abort, alloc: Global, text: &str) -> Result<(), Fail> {
     comes_to(rt, alloc, &run_on(words, &message, false), &wanted)
 }
 
-fn rows_are_so(rt: &impl Abort, alloc: Global, rows: &str) -> Result<(), Fail> {
+pub(crate) fn rows_are_so(rt: &impl Abort, alloc: Global, rows: &str) -> Result<(), Fail> {
     for text in rows.split_inclusive("\n\n") {
         row_is_so(rt, alloc, text)?;
     }

@@ -177,6 +177,26 @@ fn values_are_read_at_their_bounds(rt: HostRuntime) -> Result<(), Fail> {
     Ok(())
 }
 
+/// The words that are told to stand for a field's values.
+fn wanted_of(path: &str) -> &'static str {
+    match path {
+        "nothing" => "()",
+        "flag" => "true or false",
+        "int8" => "-128 to 127",
+        "int16" => "-32768 to 32767",
+        "int32" => "-2147483648 to 2147483647",
+        "int64" => "-9223372036854775808 to 9223372036854775807",
+        "uint8" => "0 to 255",
+        "uint16" => "0 to 65535",
+        "uint32" => "0 to 4294967295",
+        "uint64" => "0 to 18446744073709551615",
+        "color" => "red, green, 0 to 65535",
+        "text" => "a text, in quotes or as it stands",
+        "bytes" => "0x\"00ff\"",
+        _ => "",
+    }
+}
+
 /// Asserts that a value can't be read, and that the message isn't then.
 fn value_is_unread(
     rt: &impl Abort,
@@ -188,7 +208,10 @@ fn value_is_unread(
     let words = format!(in alloc;
         "patch|--set|set|--keep-going|Values|get {path}|set {path} {word}"
     )?;
-    let wanted = format!(in alloc; "true 2 2: set {path} {word}: can't be read at {place}\n|")?;
+    let kind = wanted_of(path);
+    let wanted = format!(in alloc;
+        "true 2 2: set {path} {word}: can't be read at {place}; wanted: {kind}\n|"
+    )?;
     let setting = Setting {
         set,
         ..run_on(words.as_str(), &EMPTY_ROOT, false)

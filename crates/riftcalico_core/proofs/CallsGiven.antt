@@ -1,5 +1,5 @@
 -- Calls as they are read and as they are made.
-use Rattle.std.proofs.Common.{List, [], ◌∷◌, ◌++◌, map, ◌≡◌, ◌∙◌, Ok, ap, refl, sym}
+use Rattle.std.proofs.Common.{List, [], ◌∷◌, ◌++◌, map, ◌≡◌, ◌∙◌, ap, refl, sym}
 use Rattle.std.proofs.lemmas.List.{map-append}
 use Rattle.capnp_records.specs.Call.{Op, PathStep}
 use Rattle.capnp_words.specs.Seen.{word_value_seen, word_value_type}

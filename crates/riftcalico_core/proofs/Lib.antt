@@ -2,6 +2,7 @@ pub mod Blamed
 pub mod CallsGiven
 pub mod Each
 pub mod NearNames
+pub mod NumberedLines
 pub mod Packed
 pub mod PathsTaken
 pub mod PlainGiven

@@ -1,5 +1,5 @@
 -- The bytes of a message are whole words.
-use Rattle.std.proofs.Common.{ℕ, suc, List, ◌++◌, ◌%◌, ◌+◌, ◌≡◌, ap, arith, length, length-append}
+use Rattle.std.proofs.Common.{ℕ, suc, List, ◌++◌, ◌%◌, ◌≡◌, ap, arith, length, length-append}
 use Rattle.capnp_wire.specs.Encoding.{encoding_of, message_of, spelled_number}
 use Rattle.capnp_wire.specs.Facts.Bytes.{length_spelled}
 use Rattle.capnp_wire.specs.Facts.EncodedSizes.{length_encoding}

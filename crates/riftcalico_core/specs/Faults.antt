@@ -4,6 +4,7 @@ use Rattle.capnp_device.specs.ErrorNumber.{error_name, error_number}
 use Rattle.capnp_device.specs.declared.error.Error.{Error}
 use Rattle.capnp_device.specs.declared.error.ErrorKind.{ErrorKind}
 use Rattle.capnp_device.specs.declared.error.ErrorKind.TheVariants.{NameNotFound}
+use Rattle.capnp_patch.specs.Lines.{told_word}
 use Rattle.riftcalico_core.specs.Plans.{calls_file}
 use Rattle.riftcalico_core.specs.declared.fault.Blamed.{Blamed}
 use Rattle.riftcalico_core.specs.declared.fault.Blamed.TheVariants as blamed
@@ -58,6 +59,11 @@ abbrev pub hint_of : ErrorKind → List ℕ
 hint_of NameNotFound = codes "; see riftcalico structs"
 hint_of kind = []
 
--- a refusal's number and name, what is to be looked at, and what tells more
-abbrev pub fault_line : Task → Fault → List ℕ
-fault_line t f = codes "refused: " ++ decimal (error_number f.error.kind) ++ codes " " ++ error_name f.error.kind ++ codes " (" ++ blamed_word t f.blamed ++ codes ")" ++ string_bytes f.note ++ hint_of f.error.kind ++ 10 ∷ []
+-- of several messages the number of one
+abbrev pub message_word : Option ℕ → List ℕ
+message_word None = []
+message_word (Some number) = codes ", message " ++ decimal number
+
+-- a refusal's number and name, what is to be looked at, of several messages which one, and what tells more
+abbrev pub fault_line : Task → (message : Option ℕ) → Fault → List ℕ
+fault_line t message f = codes "refused: " ++ decimal (error_number f.error.kind) ++ codes " " ++ error_name f.error.kind ++ codes " (" ++ told_word (blamed_word t f.blamed) ++ message_word message ++ codes ")" ++ told_word (string_bytes f.note) ++ hint_of f.error.kind ++ 10 ∷ []

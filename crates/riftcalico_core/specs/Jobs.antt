@@ -1,5 +1,5 @@
 -- A plan under its set: the struct of its root, and the values of its calls.
-use Rattle.std.specs.Prelude.{ℕ, ◌≡◌, ⊤, List, map, Bool, true, false, Option, Some, None, Ok, Err, string_bytes}
+use Rattle.std.specs.Prelude.{ℕ, ◌≡◌, ⊤, List, [], get_or, map, Bool, true, false, Option, Some, None, Ok, Err, string_bytes}
 use Rattle.capnp_device.specs.declared.error.Error.{Error}
 use Rattle.capnp_device.specs.declared.error.ErrorKind.TheVariants.{NameNotFound}
 use Rattle.capnp_call.specs.Seen.{path_seen}
@@ -14,9 +14,9 @@ use Rattle.capnp_schema.specs.declared.schema.structs.StructSchema.{StructSchema
 use Rattle.capnp_sets.specs.Message.{IsMessageRefusal, message_set}
 use Rattle.riftcalico_core.specs.Calls.{call_read}
 use Rattle.riftcalico_core.specs.CallsSeen.{read_call_seen}
-use Rattle.riftcalico_core.specs.Plans as plans
 use Rattle.riftcalico_core.specs.Plans.{CallsPlan, GetPlan, Plan, check_plan, convert_plan, fields_plan, get_plan, help_plan, new_plan, patch_plan, structs_plan, version_plan}
-use Rattle.riftcalico_core.specs.Reads.{each_word_read, line_at}
+use Rattle.riftcalico_core.specs.Reads.{each_word_read, value_line_at}
+use Rattle.riftcalico_core.specs.Wanted.{wanted_note}
 use Rattle.riftcalico_core.specs.Notes.{name_note}
 use Rattle.riftcalico_core.specs.declared.fault.Blamed.TheVariants as blamed
 use Rattle.riftcalico_core.specs.declared.fault.Fault.{Fault}
@@ -24,7 +24,8 @@ use Rattle.riftcalico_core.specs.declared.job.CallsJob.{CallsJob}
 use Rattle.riftcalico_core.specs.declared.job.GetJob.{GetJob}
 use Rattle.riftcalico_core.specs.declared.job.Job.{Job}
 use Rattle.riftcalico_core.specs.declared.job.Job.TheVariants as job
-use Rattle.riftcalico_words.specs.Tasks.{Root}
+use Rattle.capnp_words.specs.Calls.{CallText}
+use Rattle.capnp_words.specs.Targets.{type_along}
 
 -- ---- the set ----
 
@@ -66,13 +67,13 @@ pub record IsCallsJob (p : CallsPlan) (set : Schemas) (j : CallsJob) : Type 0 wh
   pub keep_going : j.keep_going ≡ p.keep_going
   pub packed : j.packed ≡ p.packed
 
--- the value of a call can't be read under the root's struct, and the line tells which
+-- the value of a call can't be read under the root's struct, and the line tells which, and what stands for one of its type
 pub record IsValueUnread (p : CallsPlan) (set : Schemas) (line : List ℕ) : Type 0 where
   pub brand : ℕ
   pub named : brand_asked set p.root.name ≡ Some brand
   pub at : ℕ × ℕ
   pub unread : each_word_read (call_read set (root_type set brand)) 0 p.texts ≡ Err at
-  pub told : line ≡ line_at p.words at
+  pub told : line ≡ value_line_at p.words at (wanted_note set (type_along set (root_type set brand) (get_or (map (λ (c : CallText). c.path) p.texts) at.0 [])))
 
 abbrev pub IsJob : Plan → Schemas → Job → Type 0
 IsJob (get_plan p) set (job.Get j) = IsGetJob p set j

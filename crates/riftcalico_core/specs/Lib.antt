@@ -5,7 +5,9 @@ pub mod Faults
 pub mod Jobs
 pub mod Near
 pub mod Notes
+pub mod Numbered
 pub mod Plans
 pub mod PlansSeen
 pub mod Reads
 pub mod Steps
+pub mod Wanted

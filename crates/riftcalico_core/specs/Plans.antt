@@ -3,6 +3,7 @@ use Rattle.std.specs.Prelude.{ℕ, List, [], ◌∷◌, ◌++◌, ◌==◌, Bool
 use Rattle.std.specs.Str.{is_utf8}
 use Rattle.std.specs.Str.Lines.{lines}
 use Rattle.std.specs.Str.Lossy.{utf8_valid_len}
+use Rattle.capnp_patch.specs.Lines.{told_word}
 use Rattle.capnp_records.specs.Call.{PathStep}
 use Rattle.capnp_words.specs.Calls.{CallText, call_at}
 use Rattle.capnp_words.specs.Paths.{path_at}
@@ -75,7 +76,7 @@ call_lines text = filter (λ line. not (is_remark line)) (lines text)
 
 -- how a file is told whose bytes are no text: its path, and the place of the first byte that no character has
 abbrev pub no_text_line : (path : List ℕ) → (place : ℕ) → List ℕ
-no_text_line path place = path ++ codes ": can't be read at " ++ decimal place ++ 10 ∷ []
+no_text_line path place = told_word path ++ codes ": can't be read at " ++ decimal place ++ 10 ∷ []
 
 -- calls, each a line of a file, if its bytes are a text
 abbrev pub text_plan : (is_text : Bool) → (path bytes : List ℕ) → Told SaidCalls

@@ -1,8 +1,7 @@
 -- Plans as the code has them.
-use Rattle.std.specs.Prelude.{ℕ, List, map, Result, Ok, Err, String, string_bytes}
+use Rattle.std.specs.Prelude.{map, Result, Ok, Err, String, string_bytes}
 use Rattle.std.specs.Option.{option_map}
 use Rattle.capnp_words.specs.Seen.{call_text_seen, path_text_seen}
-use Rattle.capnp_words.specs.declared.call.CallWord.{CallWord}
 use Rattle.riftcalico_core.specs.Plans as plans
 use Rattle.riftcalico_core.specs.Plans.{Told, check_plan, convert_plan, fields_plan, get_plan, help_plan, new_plan, patch_plan, structs_plan, version_plan}
 use Rattle.riftcalico_core.specs.declared.plan.CallsPlan.{CallsPlan}

@@ -28,3 +28,8 @@ unreadable_line number word place = decimal number ++ codes ": " ++ told_word wo
 -- the same of words by their index
 abbrev pub line_at : List (List ℕ) → ℕ × ℕ → List ℕ
 line_at words at = unreadable_line (suc at.0) (get_or words at.0 []) at.1
+
+-- the same of a value, with a note
+abbrev pub value_line_at : List (List ℕ) → ℕ × ℕ → (note : List ℕ) → List ℕ
+value_line_at words at note =
+    decimal (suc at.0) ++ codes ": " ++ told_word (get_or words at.0 []) ++ codes ": can't be read at " ++ decimal at.1 ++ told_word note ++ 10 ∷ []

@@ -1,11 +1,12 @@
 //! Refusals, and what they blame.
-ghost use Rattle.std.specs.Prelude.{◌≡◌, IfErr, IfOk, Ok, string_bytes};
+ghost use Rattle.std.specs.Prelude.{◌≡◌, ◌++◌, IfErr, IfOk, Ok, OnOk, string_bytes};
 ghost use Rattle.std.specs.Option.{option_map};
 ghost use Rattle.capnp_device.specs.declared.error.ErrorKind.TheVariants.{OutOfMemory};
-ghost use Rattle.riftcalico_core.specs.Faults.{IsFaultOf, IsPlainFault, blamed_word, fault_line, file_word, hint_of, task_name, task_set_file};
+ghost use Rattle.riftcalico_core.specs.Faults.{IsFaultOf, IsPlainFault, blamed_word, fault_line, file_word, hint_of, message_word, task_name, task_set_file};
 ghost use Rattle.riftcalico_words.specs.RequestSeen.{task_seen};
 
 use crate::plan::get_calls_file;
+use capnp_patch::lines::put_word;
 use capnp_wire::error::{Error, ErrorKind, Result};
 use riftcalico_words::request::Task;
 use std::alloc::Global;
@@ -116,16 +117,36 @@ fn get_hint(kind: ErrorKind) -> &'static str
     }
 }
 
-/// The line of a refusal: its number and name, what is to be looked at, and what tells more. Refused with `OutOfMemory` alone.
-pub fn put_fault(alloc: Global, task: &Task<'_>, fault: &Fault) -> Result<String>
-    ensures line { IfOk result (λ line. string_bytes line ≡ fault_line (task_seen task.now) fault.now) }
+/// Appends the number of a message of several, if it is one.
+fn put_message(line: &mut String, message: Option<u64>) -> Result<()>
+    ensures put { OnOk result (string_bytes line.new ≡ string_bytes line.old ++ message_word message) }
+    ensures memory { IfErr result (λ e. e.kind ≡ OutOfMemory) }
+{
+    match message {
+        Some(number) => Ok(write!(line, ", message {number}")?),
+        None => Ok(()),
+    }
+}
+
+/// The line of a refusal: its number and name, what is to be looked at, of several messages the number of one, and what
+/// tells more. Control characters are told by their numbers. Refused with `OutOfMemory` alone.
+pub fn put_fault(
+    alloc: Global,
+    task: &Task<'_>,
+    message: Option<u64>,
+    fault: &Fault,
+) -> Result<String>
+    ensures line { IfOk result (λ line. string_bytes line ≡ fault_line (task_seen task.now) message fault.now) }
     ensures memory { IfErr result (λ e. e.kind ≡ OutOfMemory) }
 {
     let number = fault.error.kind.number();
     let name = fault.error.kind.name();
     let word = get_word(task, fault.blamed);
-    let mut line = format!(in alloc; "refused: {number} {name} ({word})")?;
-    line.push_str(fault.note.as_str())?;
+    let mut line = format!(in alloc; "refused: {number} {name} (")?;
+    put_word(&mut line, word)?;
+    put_message(&mut line, message)?;
+    line.push_str(")")?;
+    put_word(&mut line, fault.note.as_str())?;
     line.push_str(get_hint(fault.error.kind))?;
     line.push_str("\n")?;
     Ok(line)

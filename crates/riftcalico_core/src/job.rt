@@ -11,7 +11,8 @@ use crate::fault::{Blamed, Fault, Faulty, blame, get_fault};
 use crate::near::get_near_structs;
 use crate::plan::{CallsPlan, GetPlan, Plan, Told};
 use crate::schemas::find_schema;
-use crate::words::put_word_line;
+use crate::wanted::get_wanted;
+use crate::words::put_value_line;
 use capnp_call::calls::Step;
 use capnp_schema::schema::StructSchema;
 use capnp_schema::set::SchemaSet;
@@ -153,7 +154,8 @@ fn read_under<'s, 'c, 'w>(
             packed: plan.packed,
         })),
         Err(at) => {
-            let line = put_word_line(alloc, plan.words.as_slice(), at)?;
+            let note = get_wanted(alloc, schema, &plan.texts[at.index].path)?;
+            let line = put_value_line(alloc, plan.words.as_slice(), at, note.as_str())?;
             Ok(Err(line))
         }
     }

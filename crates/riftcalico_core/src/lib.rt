@@ -8,6 +8,8 @@ pub mod fault;
 pub mod job;
 mod near;
 mod note;
+pub mod numbered;
 pub mod plan;
 pub mod schemas;
+mod wanted;
 mod words;

@@ -1,7 +1,7 @@
 //! Words that are the lines of a file, and words that can't be read.
 ghost use Rattle.std.specs.Prelude.{[], ◌≡◌, string_bytes, get_or, IfErr, IfOk, map};
 ghost use Rattle.capnp_device.specs.declared.error.ErrorKind.TheVariants.{OutOfMemory};
-ghost use Rattle.riftcalico_core.specs.Reads.{line_at, unreadable_line};
+ghost use Rattle.riftcalico_core.specs.Reads.{line_at, unreadable_line, value_line_at};
 ghost use Rattle.riftcalico_core.specs.Plans.{call_lines, is_remark, no_text_line};
 
 use crate::calls::Unreadable;
@@ -41,6 +41,27 @@ pub(crate) fn put_word_line(alloc: Global, words: &[&str], at: Unreadable) -> Re
     put_unreadable(alloc, number, word_at(words, at.index), at.place)
 }
 
+/// The line of one of these words whose value can't be read, with a note. Refused with `OutOfMemory` alone.
+pub(crate) fn put_value_line(
+    alloc: Global,
+    words: &[&str],
+    at: Unreadable,
+    note: &str,
+) -> Result<String>
+    ensures line { IfOk result (λ line. string_bytes line
+        ≡ value_line_at (map (λ w. w.now) words.now) (at.index, at.place) note.now) }
+    ensures memory { IfErr result (λ e. e.kind ≡ OutOfMemory) }
+{
+    let number = at.index as u128 + 1;
+    let place = at.place;
+    let mut line = format!(in alloc; "{number}: ")?;
+    put_word(&mut line, word_at(words, at.index))?;
+    write!(line, ": can't be read at {place}")?;
+    put_word(&mut line, note)?;
+    line.push_str("\n")?;
+    Ok(line)
+}
+
 /// Whether a line has no call: an empty one, or one that begins with `#`.
 fn is_remark_line(line: &str) -> bool
     ensures { result ≡ is_remark line.now }
@@ -71,5 +92,8 @@ pub(crate) fn put_no_text(alloc: Global, path: &str, place: usize) -> Result<Str
     ensures line { IfOk result (λ line. string_bytes line ≡ no_text_line path.now place) }
     ensures memory { IfErr result (λ e. e.kind ≡ OutOfMemory) }
 {
-    Ok(format!(in alloc; "{path}: can't be read at {place}\n")?)
+    let mut line = String::new(alloc);
+    put_word(&mut line, path)?;
+    write!(line, ": can't be read at {place}\n")?;
+    Ok(line)
 }

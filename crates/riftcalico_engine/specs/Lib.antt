@@ -2,3 +2,4 @@ pub mod Files
 pub mod Outputs
 pub mod Programs
 pub mod Runs
+pub mod Streams

@@ -1,39 +1,55 @@
--- What is written of an answer.
-use Rattle.std.specs.Prelude.{ℕ, ◌≡◌, ◌⊎◌, ◌<◌, List, Option, Result, Ok, Err, length, take, string_bytes}
+-- What is written of an answer, and what is told.
+use Rattle.std.specs.Prelude.{ℕ, ◌≡◌, ◌⊎◌, ◌<◌, List, Bool, Option, None, Result, Ok, Err, length, take, string_bytes}
 use Rattle.std.specs.Io.KnownBytes.{Appends}
 use Rattle.capnp_arena.specs.Message.{message_tree}
 use Rattle.capnp_device.specs.Device.{HasFailed}
 use Rattle.capnp_device.specs.declared.error.ErrorKind.{ErrorKind}
 use Rattle.capnp_device.specs.declared.error.ErrorKind.TheVariants.{OutOfMemory, WriteFailed}
 use Rattle.capnp_patch.specs.Patches.{IsBeginning, IsMessageOf}
+use Rattle.capnp_show_engine.specs.Command.{IsTold, refusal_line}
+use Rattle.riftcalico_core.specs.Answers.{IsAnswer, IsNoAnswer, answer_blamed}
+use Rattle.riftcalico_core.specs.Faults.{fault_line}
+use Rattle.riftcalico_core.specs.Numbered.{told_lines}
 use Rattle.riftcalico_core.specs.declared.answer.Answer.{Answer}
 use Rattle.riftcalico_core.specs.declared.answer.Output.{Output}
 use Rattle.riftcalico_core.specs.declared.answer.Output.TheVariants as output
 use Rattle.riftcalico_core.specs.declared.fault.Blamed.TheVariants as blamed
 use Rattle.riftcalico_core.specs.declared.fault.Fault.{Fault}
-use Rattle.riftcalico_engine.specs.declared.shell.Ended.{Ended}
-use Rattle.riftcalico_engine.specs.declared.shell.Ended.TheVariants as ended
+use Rattle.riftcalico_core.specs.declared.job.Job.{Job}
+use Rattle.riftcalico_engine.specs.declared.ended.Ended.{Ended}
+use Rattle.riftcalico_engine.specs.declared.ended.Ended.TheVariants as ended
+use Rattle.riftcalico_engine.specs.declared.ended.Refusal.{Refusal}
+use Rattle.riftcalico_words.specs.Tasks.{Task}
 
 -- what a task came to, or its refusal
 abbrev pub Ran : Type 0
-Ran = Result Ended Fault
+Ran = Result Ended Refusal
 
--- it was refused, and something is so of the refusal
+-- it was refused, of several messages for the one of this number, and something is so of the refusal
+abbrev pub IsFaultOf : (message : Option ℕ) → Ran → (so : Fault → Type 0) → Type 0
+IsFaultOf message (Err x) so = (x.message ≡ message) × so x.fault
+IsFaultOf message (Ok x) so = ⊥
+
+-- it was refused, for no message of several
 abbrev pub IsFault : Ran → (so : Fault → Type 0) → Type 0
-IsFault (Err f) so = so f
-IsFault (Ok x) so = ⊥
+IsFault r so = IsFaultOf None r so
 
 -- a line tells what can't be read
 abbrev pub IsUnreadable : Ran → (so : List ℕ → Type 0) → Type 0
 IsUnreadable (Ok (ended.Unreadable line)) so = so (string_bytes line)
-IsUnreadable (Ok (ended.Answered a)) so = ⊥
-IsUnreadable (Err f) so = ⊥
+IsUnreadable (Ok (ended.Answered refused)) so = ⊥
+IsUnreadable (Err x) so = ⊥
 
--- this was answered
-abbrev pub IsAnswered : Ran → Answer → Type 0
-IsAnswered (Ok (ended.Answered x)) a = x ≡ a
-IsAnswered (Ok (ended.Unreadable line)) a = ⊥
-IsAnswered (Err f) a = ⊥
+-- all was answered, and a call or a message was refused or not
+abbrev pub IsAnswered : Ran → (refused : Bool) → Type 0
+IsAnswered (Ok (ended.Answered x)) refused = x ≡ refused
+IsAnswered (Ok (ended.Unreadable line)) refused = ⊥
+IsAnswered (Err x) refused = ⊥
+
+-- a refusal was told, or where there is no memory for its line its number
+abbrev pub IsFaultTold : Task → Refusal → (errors errors' : Option (List ℕ)) → (failures failures' : ℕ) → Type 0
+IsFaultTold t x errors errors' failures failures' =
+    IsTold (fault_line t x.message x.fault) errors errors' failures failures' ⊎ IsTold (refusal_line x.fault.error.kind) errors errors' failures failures'
 
 -- a beginning of bytes is written, not the whole
 abbrev pub IsPartPut : (bytes : List ℕ) → (written written' : Option (List ℕ)) → Type 0
@@ -55,13 +71,22 @@ IsOutputCut (output.Text text) written written' = IsPartPut (string_bytes text) 
 IsOutputCut (output.Bytes bytes) written written' = IsPartPut bytes.items written written'
 IsOutputCut (output.Message m) written written' = IsBeginning (message_tree m) written written'
 
--- the sink failed in the midst of it, or there was no memory to put a message in order and nothing was written
+-- the sink failed in the midst of it, or there was no memory for it or its lines and nothing was written
 abbrev pub IsNotPut : Output → (unwritten : Type 0) → (written written' : Option (List ℕ)) → (failures failures' : ℕ) → ErrorKind → Type 0
 IsNotPut o unwritten written written' failures failures' kind =
     ((kind ≡ WriteFailed) × HasFailed failures failures' × IsOutputCut o written written') ⊎ ((kind ≡ OutOfMemory) × unwritten)
 
--- an answer was written, or not
-abbrev pub IsAnswerPut : Answer → (unwritten : Type 0) → (written written' : Option (List ℕ)) → (failures failures' : ℕ) → Ran → Type 0
-IsAnswerPut a unwritten written written' failures failures' r =
-    IsFault r (λ f. (f.blamed ≡ blamed.«Output») × IsNotPut a.output unwritten written written' failures failures' f.error.kind)
-    ⊎ (IsAnswered r a × IsOutputPut a.output unwritten written written')
+module _ {W F : Type 0} (written : W → Option (List ℕ)) (writes : W → ℕ) (told : F → Option (List ℕ)) (tells : F → ℕ) where
+  -- an answer was written and its lines told, or it was not and nothing was told
+  abbrev pub IsAnswerPut : Answer → (message : Option ℕ) → (sink sink' : W) → (errors errors' : F) → Ran → Type 0
+  IsAnswerPut a message sink sink' errors errors' r =
+      (IsFaultOf message r (λ x. (x.blamed ≡ blamed.«Output»)
+      × IsNotPut a.output (sink' ≡ sink) (written sink) (written sink') (writes sink) (writes sink') x.error.kind) × (errors' ≡ errors))
+      ⊎ (IsAnswered r a.refused × IsOutputPut a.output (sink' ≡ sink) (written sink) (written sink')
+      × IsTold (told_lines message (string_bytes a.lines)) (told errors) (told errors') (tells errors) (tells errors'))
+
+  -- there is none to a message's bytes, for want of memory or for what they are; or there is one, and it was written or not
+  abbrev pub IsAnsweredTo : Job → (message : Option ℕ) → (bytes : List ℕ) → (sink sink' : W) → (errors errors' : F) → Ran → Type 0
+  IsAnsweredTo j message bytes sink sink' errors errors' r =
+      (IsFaultOf message r (λ x. (x.blamed ≡ answer_blamed j) × ((x.error.kind ≡ OutOfMemory) ⊎ IsNoAnswer j bytes x)) × (sink' ≡ sink) × (errors' ≡ errors))
+      ⊎ ((a : Answer) × IsAnswer j bytes a × IsAnswerPut a message sink sink' errors errors' r)

@@ -2,50 +2,36 @@
 ghost use Rattle.std.specs.Prelude.{◌≡◌, ⊤, Ok, map, string_bytes};
 ghost use Rattle.capnp_show_engine.specs.declared.opener.FilesOpener.{FilesOpener as OfFiles};
 ghost use Rattle.capnp_show_engine.specs.Opened.{AsksAmong};
-ghost use Rattle.riftcalico_engine.specs.Programs.{IsProgramDone, IsFaultTold, IsMisuseTold, IsRanTold, IsTaskDone, status_of};
+ghost use Rattle.riftcalico_engine.specs.Programs.{IsProgramDone, IsMisuseTold, IsRanTold, IsTaskDone, status_of};
 ghost use Rattle.riftcalico_engine.specs.Runs.{task_paths};
 ghost use Rattle.riftcalico_words.specs.Requests.{asked_request};
 ghost use Rattle.riftcalico_words.specs.RequestSeen.{fault_seen, task_seen};
 ghost use Rattle.riftcalico_words.specs.Tasks as tasks;
 
-use crate::shell::{Ended, Ran, run};
+use crate::answering::tell_refusal;
+use crate::ended::{Ended, Ran};
+use crate::shell::run;
 use capnp_show_engine::command::{report, tell};
 use capnp_show_engine::opener::{FilesOpener, Opener};
 use capnp_wire::device::{ReadSource, Sink, Source};
-use riftcalico_core::fault::{Fault, put_fault};
 use riftcalico_words::request::{Misuse, Task, read_words};
 use riftcalico_words::usage::get_misuse;
 use std::alloc::Global;
 use std::rt::Files;
 
-/// Tells a refusal: the number and name, and what is to be looked at; where there is no memory for that the number alone.
-fn tell_fault<F: Sink>(alloc: Global, task: &Task<'_>, fault: &Fault, errors: &mut F)
-    ensures { IsFaultTold (task_seen task.now) fault.now (F.written errors.old) (F.written errors.new)
-        (F.failures errors.old) (F.failures errors.new) }
-{
-    match put_fault(alloc, task, fault) {
-        Ok(line) => tell(line.as_bytes(), errors),
-        Err(_) => report(fault.error.kind, errors),
-    }
-}
-
 /// Tells what a task came to, as far as the sink takes it, and answers the status.
 fn tell_ran<F: Sink>(alloc: Global, task: &Task<'_>, ran: &Ran, errors: &mut F) -> u8
     ensures status { result ≡ status_of ran.now }
-    ensures told { IsRanTold (task_seen task.now) ran.now (F.written errors.old) (F.written errors.new)
-        (F.failures errors.old) (F.failures errors.new) }
+    ensures told { IsRanTold F.written F.failures (task_seen task.now) ran.now errors.old errors.new }
 {
     match ran {
-        Ok(Ended::Answered(answer)) => {
-            tell(answer.lines.as_bytes(), errors);
-            u8::from(answer.refused)
-        }
+        Ok(Ended::Answered(refused)) => u8::from(*refused),
         Ok(Ended::Unreadable(line)) => {
             tell(line.as_bytes(), errors);
             2
         }
-        Err(fault) => {
-            tell_fault(alloc, task, fault, errors);
+        Err(refusal) => {
+            tell_refusal(alloc, task, refusal, errors);
             1
         }
     }
@@ -77,18 +63,17 @@ fn run_task<O: Opener, R: Source, W: Sink, F: Sink>(
     sink: &mut W,
     errors: &mut F,
 ) -> u8
-    ensures done { IsTaskDone O.opens O.File.left O.File.failures opener.old opener.new (source.new ≡ source.old)
-        (R.left source.old) (R.left source.new) (R.failures source.old) (R.failures source.new) (sink.new ≡ sink.old)
-        (W.written sink.old) (W.written sink.new) (W.failures sink.old) (W.failures sink.new) (task_seen task.now)
-        result (F.written errors.old) (F.written errors.new) (F.failures errors.old) (F.failures errors.new) }
+    ensures done { IsTaskDone O.opens O.File.left O.File.failures R.left R.failures W.written W.failures F.written
+        F.failures (task_seen task.now) result opener.old opener.new source.old source.new sink.old sink.new errors.old
+        errors.new }
     ensures named { AsksAmong O.opens (task_paths (task_seen task.now)) opener.old opener.new }
 {
-    let ran = run(alloc, opener, task, source, sink);
+    let ran = run(alloc, opener, task, source, sink, errors);
     tell_ran(alloc, task, &ran, errors)
 }
 
 /// Runs the program on its words over what opens files, and answers its exit status: 0 where a text or a message was
-/// written, 1 where a call was refused, or the set, the message or a device, and 2 for words that ask for nothing, with
+/// written, 1 where a call was refused, or the set, a message or a device, and 2 for words that ask for nothing, with
 /// what is unknown and the usage on `errors`, or for a word that can't be read, which is told with its place. Replies to
 /// calls and refusals are told on `errors`, a line each. Where a line can't be written there, the status is the same. No
 /// files are opened but those that the words name, first that of the calls.
@@ -100,11 +85,9 @@ pub fn command_over<O: Opener, R: Source, W: Sink, F: Sink>(
     sink: &mut W,
     errors: &mut F,
 ) -> u8
-    ensures done { IsProgramDone O.opens O.File.left O.File.failures opener.old opener.new (source.new ≡ source.old)
-        (R.left source.old) (R.left source.new) (R.failures source.old) (R.failures source.new) (sink.new ≡ sink.old)
-        (W.written sink.old) (W.written sink.new) (W.failures sink.old) (W.failures sink.new)
-        (asked_request (map string_bytes words.now)) result (F.written errors.old) (F.written errors.new)
-        (F.failures errors.old) (F.failures errors.new) }
+    ensures done { IsProgramDone O.opens O.File.left O.File.failures R.left R.failures W.written W.failures F.written
+        F.failures (asked_request (map string_bytes words.now)) result opener.old opener.new source.old source.new sink.old
+        sink.new errors.old errors.new }
     ensures named { (t : tasks.Task) → asked_request (map string_bytes words.now) ≡ Ok t
         → AsksAmong O.opens (task_paths t) opener.old opener.new }
 {
@@ -129,12 +112,9 @@ pub fn command<S: Files, R: Source, W: Sink, F: Sink>(
     errors: &mut F,
 ) -> u8
     ensures done { (before : OfFiles S) × (after : OfFiles S) × IsProgramDone
-        (λ _ _ _ _. ⊤) ⟦<ReadSource<S::File> as Source>⟧.left ⟦<ReadSource<S::File> as Source>⟧.failures before after
-        (source.new ≡ source.old)
-        (R.left source.old) (R.left source.new) (R.failures source.old) (R.failures source.new) (sink.new ≡ sink.old)
-        (W.written sink.old) (W.written sink.new) (W.failures sink.old) (W.failures sink.new)
-        (asked_request (map string_bytes words.now)) result (F.written errors.old) (F.written errors.new)
-        (F.failures errors.old) (F.failures errors.new) }
+        (λ _ _ _ _. ⊤) ⟦<ReadSource<S::File> as Source>⟧.left ⟦<ReadSource<S::File> as Source>⟧.failures R.left R.failures
+        W.written W.failures F.written F.failures (asked_request (map string_bytes words.now)) result before after
+        source.old source.new sink.old sink.new errors.old errors.new }
 {
     let mut opener = FilesOpener::new(rt);
     command_over(&mut opener, alloc, words, source, sink, errors)

@@ -4,5 +4,8 @@
 //! its exit status, over sources, sinks and what opens files.
 #![tactic(auto)]
 
+mod answering;
 pub mod command;
+pub mod ended;
 pub mod shell;
+mod stream;

@@ -14,13 +14,14 @@ pub record WordOptions : Type 0 where
   pub indent : Bool
   pub keep_going : Bool
   pub packed : Bool
+  pub each : Bool
   pub strict : Bool
   pub help : Bool
   pub others : List (List ℕ)
   pub waiting : Option FileOption
 
 abbrev pub no_options : WordOptions
-no_options = record { set = None; calls = None; indent = false; keep_going = false; packed = false; strict = false; help = false; others = []; waiting = None }
+no_options = record { set = None; calls = None; indent = false; keep_going = false; packed = false; each = false; strict = false; help = false; others = []; waiting = None }
 
 -- whether a word begins with `--`
 abbrev pub is_option : List ℕ → Bool
@@ -35,6 +36,7 @@ word_kind word =
     else if bytes_eq word (codes "--indent") then kind.Flag flag.Indent
     else if bytes_eq word (codes "--keep-going") then kind.Flag flag.KeepGoing
     else if bytes_eq word (codes "--packed") then kind.Flag flag.Packed
+    else if bytes_eq word (codes "--each") then kind.Flag flag.Each
     else if bytes_eq word (codes "--strict") then kind.Flag flag.Strict
     else if bytes_eq word (codes "--help") then kind.Flag flag.Help
     else if is_option word then kind.Unknown
@@ -44,6 +46,7 @@ abbrev pub with_flag : WordOptions → Flag → WordOptions
 with_flag o flag.Indent = record o { indent = true }
 with_flag o flag.KeepGoing = record o { keep_going = true }
 with_flag o flag.Packed = record o { packed = true }
+with_flag o flag.Each = record o { each = true }
 with_flag o flag.Strict = record o { strict = true }
 with_flag o flag.Help = record o { help = true }
 

@@ -12,6 +12,7 @@ options_seen o = record {
   indent = o.indent;
   keep_going = o.keep_going;
   packed = o.packed;
+  each = o.each;
   strict = o.strict;
   help = o.help;
   others = map (λ w. w.now) o.others.items;

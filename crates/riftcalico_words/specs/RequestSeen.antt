@@ -1,5 +1,5 @@
 -- Requests as the code has them.
-use Rattle.std.specs.Prelude.{ℕ, List, map, Result, Ok, Err}
+use Rattle.std.specs.Prelude.{map, Result, Ok, Err}
 use Rattle.std.specs.Option.{option_map}
 use Rattle.riftcalico_words.specs.Requests.{AskedRequest, WordFault, no_verb, other_words, unknown_option, unknown_verb}
 use Rattle.riftcalico_words.specs.Tasks as tasks
@@ -18,14 +18,14 @@ abbrev pub root_named : NamedRoot → Root
 root_named r = record { file = option_map (λ f. f.now) r.file; name = r.name.now }
 
 abbrev pub get_task_of : GetRequest → GetTask
-get_task_of r = record { root = root_named r.root; path = r.path.now; indented = r.indented; packed = r.packed }
+get_task_of r = record { root = root_named r.root; path = r.path.now; indented = r.indented; packed = r.packed; messages = r.messages }
 
 abbrev pub given_of : CallWords → GivenCalls
 given_of (words.Words ws) = in_words (map (λ w. w.now) ws.items)
 given_of (words.Lines path) = in_lines path.now
 
 abbrev pub calls_task_of : CallsRequest → CallsTask
-calls_task_of r = record { root = root_named r.root; calls = given_of r.calls; keep_going = r.keep_going; packed = r.packed }
+calls_task_of r = record { root = root_named r.root; calls = given_of r.calls; keep_going = r.keep_going; packed = r.packed; messages = r.messages }
 
 abbrev pub task_seen : Task → tasks.Task
 task_seen (task.Get r) = get_task (get_task_of r)

@@ -1,8 +1,10 @@
 -- How words ask for it.
-use Rattle.std.specs.Prelude.{ℕ, List, [], ◌∷◌, Bool, true, false, not, ◌&&◌, Option, Some, None, Result, Ok, Err, is_none, is_some, codes, bytes_eq, if◌then◌else◌}
+use Rattle.std.specs.Prelude.{ℕ, List, [], ◌∷◌, Bool, true, false, not, ◌&&◌, ◌||◌, Option, Some, None, Result, Ok, Err, is_none, is_some, codes, bytes_eq, if◌then◌else◌}
 use Rattle.std.specs.Option.{option_map}
 use Rattle.riftcalico_words.specs.Options.{WordOptions, no_options, options_read}
 use Rattle.riftcalico_words.specs.Tasks.{CallsTask, GivenCalls, Task, check_task, convert_task, fields_task, get_task, help_task, in_lines, in_words, new_task, patch_task, structs_task, version_task}
+use Rattle.riftcalico_words.specs.declared.request.Messages.{Messages}
+use Rattle.riftcalico_words.specs.declared.request.Messages.TheVariants as messages
 use Rattle.riftcalico_words.specs.declared.request.Verb.{Verb}
 use Rattle.riftcalico_words.specs.declared.request.Verb.TheVariants as verb
 
@@ -27,15 +29,28 @@ verb_of word =
     else if bytes_eq word (codes "schemas") then Some verb.Schemas
     else None
 
+-- the messages that are meant: the first, or with `--each` all
+abbrev pub messages_by : (each keep_going : Bool) → Messages
+messages_by false keep_going = messages.First
+messages_by true false = messages.Each
+messages_by true true = messages.EachGoing
+
+abbrev pub messages_of : WordOptions → Messages
+messages_of o = messages_by o.each o.keep_going
+
+-- whether a verb that only reads takes the options on messages: it goes on behind one that is refused where there are several, which don't come packed
+abbrev pub reads_fit : WordOptions → Bool
+reads_fit o = is_none o.calls && not o.strict && (o.each || not o.keep_going) && not (o.each && o.packed)
+
 -- whether a verb takes the options that stand there
 abbrev pub is_fitting : Verb → WordOptions → Bool
-is_fitting verb.Show o = is_none o.calls && not o.keep_going && not o.strict
-is_fitting verb.Get o = is_none o.calls && not o.keep_going && not o.strict
-is_fitting verb.Check o = is_none o.calls && not o.indent && not o.keep_going && not o.strict
-is_fitting verb.Patch o = not o.indent && not o.strict
-is_fitting verb.New o = not o.indent && not o.strict
-is_fitting verb.Structs o = is_none o.calls && not o.indent && not o.keep_going && not o.packed && not o.strict
-is_fitting verb.Schemas o = is_none o.set && is_none o.calls && not o.indent && not o.keep_going && not o.packed
+is_fitting verb.Show o = reads_fit o
+is_fitting verb.Get o = reads_fit o
+is_fitting verb.Check o = not o.indent && reads_fit o
+is_fitting verb.Patch o = not o.indent && not o.strict && not (o.each && o.packed)
+is_fitting verb.New o = not o.indent && not o.strict && not o.each
+is_fitting verb.Structs o = is_none o.calls && not o.indent && not o.keep_going && not o.packed && not o.each && not o.strict
+is_fitting verb.Schemas o = is_none o.set && is_none o.calls && not o.indent && not o.keep_going && not o.packed && not o.each
 
 -- calls are words or the lines of a file, not both
 abbrev pub given_asked : (file : Option (List ℕ)) → List (List ℕ) → Option GivenCalls
@@ -47,23 +62,23 @@ given_asked (Some path) (word ∷ words) = None
 abbrev pub named_calls : WordOptions → List (List ℕ) → Option CallsTask
 named_calls o [] = None
 named_calls o (name ∷ words) =
-    option_map (λ given. record { root = record { file = o.set; name = name }; calls = given; keep_going = o.keep_going; packed = o.packed }) (given_asked o.calls words)
+    option_map (λ given. record { root = record { file = o.set; name = name }; calls = given; keep_going = o.keep_going; packed = o.packed; messages = messages_of o }) (given_asked o.calls words)
 
 abbrev pub calls_asked : WordOptions → Option CallsTask
 calls_asked o = named_calls o o.others
 
 -- what is asked of a message that is shown, or of a set, by the other words
 abbrev pub show_asked : WordOptions → List (List ℕ) → Option Task
-show_asked o (name ∷ []) = Some (get_task (record { root = record { file = o.set; name = name }; path = codes "."; indented = o.indent; packed = o.packed }))
+show_asked o (name ∷ []) = Some (get_task (record { root = record { file = o.set; name = name }; path = codes "."; indented = o.indent; packed = o.packed; messages = messages_of o }))
 show_asked o words = None
 
 abbrev pub get_asked : WordOptions → List (List ℕ) → Option Task
-get_asked o (name ∷ path ∷ []) = Some (get_task (record { root = record { file = o.set; name = name }; path = path; indented = o.indent; packed = o.packed }))
+get_asked o (name ∷ path ∷ []) = Some (get_task (record { root = record { file = o.set; name = name }; path = path; indented = o.indent; packed = o.packed; messages = messages_of o }))
 get_asked o words = None
 
 abbrev pub check_asked : WordOptions → List (List ℕ) → Option Task
-check_asked o (name ∷ []) = Some (check_task (record { root = record { file = o.set; name = name }; path = codes "."; indented = false; packed = o.packed }))
-check_asked o (name ∷ path ∷ []) = Some (check_task (record { root = record { file = o.set; name = name }; path = path; indented = false; packed = o.packed }))
+check_asked o (name ∷ []) = Some (check_task (record { root = record { file = o.set; name = name }; path = codes "."; indented = false; packed = o.packed; messages = messages_of o }))
+check_asked o (name ∷ path ∷ []) = Some (check_task (record { root = record { file = o.set; name = name }; path = path; indented = false; packed = o.packed; messages = messages_of o }))
 check_asked o words = None
 
 abbrev pub structs_asked : WordOptions → List (List ℕ) → Option Task

@@ -1,5 +1,7 @@
 -- What the program may be asked for.
 use Rattle.std.specs.Prelude.{ℕ, List, Bool, Option}
+use Rattle.riftcalico_words.specs.declared.request.Messages.{Messages}
+use Rattle.riftcalico_words.specs.declared.request.Messages.TheVariants as messages
 use Rattle.riftcalico_words.specs.declared.request.Verb.{Verb}
 
 -- a struct by its name, in the set that a file holds, or else in the built-in one
@@ -7,24 +9,26 @@ pub record Root : Type 0 where
   pub file : Option (List ℕ)
   pub name : List ℕ
 
--- the text of the value at a path, and whether the message comes packed
+-- the text of the value at a path, whether the message comes packed, and of which messages
 pub record GetTask : Type 0 where
   pub root : Root
   pub path : List ℕ
   pub indented : Bool
   pub packed : Bool
+  pub messages : Messages
 
 -- calls, each a word, or each a line of the file at a path
 pub data GivenCalls : Type 0 where
   in_words : List (List ℕ) → GivenCalls
   in_lines : (path : List ℕ) → GivenCalls
 
--- calls on a root, whether what they leave is written where one was refused, and whether messages come and go packed
+-- calls on a root, whether what they leave is written where one was refused, whether messages come and go packed, and of which messages
 pub record CallsTask : Type 0 where
   pub root : Root
   pub calls : GivenCalls
   pub keep_going : Bool
   pub packed : Bool
+  pub messages : Messages
 
 -- A value is shown, or only looked at whether it can be, calls are made on a copy of a message or on an empty root, the structs of a set are shown, in the set of a
 -- file or else in the built-in one, or the fields of a struct, a compiler's request is made a set, or
@@ -39,3 +43,15 @@ pub data Task : Type 0 where
   convert_task : (strict : Bool) → Task
   help_task : Option Verb → Task
   version_task : Task
+
+-- the messages of the input that a task means
+abbrev pub task_messages : Task → Messages
+task_messages (get_task t) = t.messages
+task_messages (check_task t) = t.messages
+task_messages (patch_task t) = t.messages
+task_messages (new_task t) = messages.First
+task_messages (structs_task file) = messages.First
+task_messages (fields_task r) = messages.First
+task_messages (convert_task strict) = messages.First
+task_messages (help_task v) = messages.First
+task_messages version_task = messages.First

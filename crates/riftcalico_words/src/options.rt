@@ -17,6 +17,8 @@ pub enum Flag {
     KeepGoing,
     /// `--packed`
     Packed,
+    /// `--each`
+    Each,
     /// `--strict`
     Strict,
     /// `--help`
@@ -51,6 +53,7 @@ pub struct Options<'a> {
     pub indent: bool,
     pub keep_going: bool,
     pub packed: bool,
+    pub each: bool,
     pub strict: bool,
     pub help: bool,
     pub others: Vec<&'a str>,
@@ -78,6 +81,7 @@ fn kind_of(word: &str) -> WordKind
         "--indent" => WordKind::Flag(Flag::Indent),
         "--keep-going" => WordKind::Flag(Flag::KeepGoing),
         "--packed" => WordKind::Flag(Flag::Packed),
+        "--each" => WordKind::Flag(Flag::Each),
         "--strict" => WordKind::Flag(Flag::Strict),
         "--help" => WordKind::Flag(Flag::Help),
         _ => {
@@ -99,6 +103,7 @@ fn put_flag(options: Options<'_>, flag: Flag) -> Options<'_>
         Flag::Indent => options.indent = true,
         Flag::KeepGoing => options.keep_going = true,
         Flag::Packed => options.packed = true,
+        Flag::Each => options.each = true,
         Flag::Strict => options.strict = true,
         Flag::Help => options.help = true,
     }
@@ -171,6 +176,7 @@ pub fn read_options<'a>(
         indent: false,
         keep_going: false,
         packed: false,
+        each: false,
         strict: false,
         help: false,
         others: Vec::new(alloc),

@@ -3,8 +3,9 @@ ghost use Rattle.std.specs.Prelude.{◌≡◌, IfErr, IfOk, map, string_bytes};
 ghost use Rattle.capnp_device.specs.declared.error.ErrorKind.TheVariants.{OutOfMemory};
 ghost use Rattle.std.specs.Option.{option_map};
 ghost use Rattle.riftcalico_words.specs.OptionsSeen.{options_seen};
-ghost use Rattle.riftcalico_words.specs.Requests.{asked_request, calls_asked, given_asked, is_fitting, options_asked, plain_asked, verb_of, verb_request};
+ghost use Rattle.riftcalico_words.specs.Requests.{asked_request, calls_asked, given_asked, is_fitting, messages_of, options_asked, plain_asked, reads_fit, verb_of, verb_request};
 ghost use Rattle.riftcalico_words.specs.RequestSeen.{asked_seen, calls_task_of, given_of, task_seen};
+ghost use Rattle.riftcalico_words.specs.Tasks.{task_messages};
 
 use crate::options::{Options, read_options};
 use capnp_device::error::Result;
@@ -29,6 +30,17 @@ pub enum Verb {
     Schemas,
 }
 
+/// The messages of the input that are meant.
+#[derive(Clone, Copy, Debug, PartialEq, Eq)]
+pub enum Messages {
+    /// The first. What follows it is not looked at.
+    First,
+    /// All, until one is refused or a call on one.
+    Each,
+    /// All. What is refused is told.
+    EachGoing,
+}
+
 /// The struct of a name, in the set that a file holds, or else in the built-in one.
 #[derive(Clone, Copy)]
 pub struct NamedRoot<'a> {
@@ -36,13 +48,14 @@ pub struct NamedRoot<'a> {
     pub name: &'a str,
 }
 
-/// The text of the value at a path, whether it is indented, and whether the message comes packed.
+/// The text of the value at a path, whether it is indented, whether the message comes packed, and of which messages.
 #[derive(Clone, Copy)]
 pub struct GetRequest<'a> {
     pub root: NamedRoot<'a>,
     pub path: &'a str,
     pub indented: bool,
     pub packed: bool,
+    pub messages: Messages,
 }
 
 /// Calls, each a word, or each a line of the file at a path.
@@ -52,13 +65,15 @@ pub enum CallWords<'a> {
     Lines(&'a str),
 }
 
-/// Calls on a root, whether what they leave is written where one was refused, and whether messages come and go packed.
+/// Calls on a root, whether what they leave is written where one was refused, whether messages come and go packed, and of
+/// which messages.
 #[derive(Drop)]
 pub struct CallsRequest<'a> {
     pub root: NamedRoot<'a>,
     pub calls: CallWords<'a>,
     pub keep_going: bool,
     pub packed: bool,
+    pub messages: Messages,
 }
 
 /// What is to be done.
@@ -100,6 +115,22 @@ pub enum Misuse<'a> {
 /// What words ask for, or why they ask for nothing.
 pub type Asked<'a> = std::result::Result<Task<'a>, Misuse<'a>>;
 
+/// The messages of the input that a task means.
+pub fn get_messages(task: &Task<'_>) -> Messages
+    ensures { result ≡ task_messages (task_seen task.now) }
+{
+    match task {
+        Task::Get(request) | Task::Check(request) => request.messages,
+        Task::Patch(request) => request.messages,
+        Task::New(_)
+        | Task::Structs(_)
+        | Task::Fields(_)
+        | Task::Convert(_)
+        | Task::Help(_)
+        | Task::Version => Messages::First,
+    }
+}
+
 /// What is done, by its word.
 fn read_verb(word: &str) -> Option<Verb>
     ensures { result ≡ verb_of word.now }
@@ -116,23 +147,44 @@ fn read_verb(word: &str) -> Option<Verb>
     }
 }
 
+/// The messages that options mean.
+fn read_messages(options: &Options<'_>) -> Messages
+    ensures { result ≡ messages_of (options_seen options.now) }
+{
+    if !options.each {
+        Messages::First
+    } else if options.keep_going {
+        Messages::EachGoing
+    } else {
+        Messages::Each
+    }
+}
+
+/// Whether the options on messages fit a verb that only reads.
+fn reads_fit(options: &Options<'_>) -> bool
+    ensures { result ≡ reads_fit (options_seen options.now) }
+{
+    options.calls.is_none()
+        && !options.strict
+        && (options.each || !options.keep_going)
+        && !(options.each && options.packed)
+}
+
 /// Whether a verb takes these options.
 fn is_fit(verb: Verb, options: &Options<'_>) -> bool
     ensures { result ≡ is_fitting verb (options_seen options.now) }
 {
     match verb {
-        Verb::Show | Verb::Get => {
-            options.calls.is_none() && !options.keep_going && !options.strict
-        }
-        Verb::Patch | Verb::New => !options.indent && !options.strict,
-        Verb::Check => {
-            options.calls.is_none() && !options.indent && !options.keep_going && !options.strict
-        }
+        Verb::Show | Verb::Get => reads_fit(options),
+        Verb::Check => !options.indent && reads_fit(options),
+        Verb::Patch => !options.indent && !options.strict && !(options.each && options.packed),
+        Verb::New => !options.indent && !options.strict && !options.each,
         Verb::Structs => {
             options.calls.is_none()
                 && !options.indent
                 && !options.keep_going
                 && !options.packed
+                && !options.each
                 && !options.strict
         }
         Verb::Schemas => {
@@ -141,6 +193,7 @@ fn is_fit(verb: Verb, options: &Options<'_>) -> bool
                 && !options.indent
                 && !options.keep_going
                 && !options.packed
+                && !options.each
         }
     }
 }
@@ -191,6 +244,7 @@ fn read_calls<'a>(alloc: Global, options: &Options<'a>) -> Result<Option<CallsRe
                     calls,
                     keep_going: options.keep_going,
                     packed: options.packed,
+                    messages: read_messages(options),
                 })),
                 None => Ok(None),
             }
@@ -203,30 +257,35 @@ fn read_plain<'a>(verb: Verb, options: &Options<'a>) -> Option<Task<'a>>
     ensures { option_map task_seen result ≡ plain_asked verb (options_seen options.now) }
 {
     let file = options.set;
+    let messages = read_messages(options);
     match (verb, options.others.as_slice()) {
         (Verb::Show, [name]) => Some(Task::Get(GetRequest {
             root: NamedRoot { file, name: *name },
             path: ".",
             indented: options.indent,
             packed: options.packed,
+            messages,
         })),
         (Verb::Get, [name, path]) => Some(Task::Get(GetRequest {
             root: NamedRoot { file, name: *name },
             path: *path,
             indented: options.indent,
             packed: options.packed,
+            messages,
         })),
         (Verb::Check, [name]) => Some(Task::Check(GetRequest {
             root: NamedRoot { file, name: *name },
             path: ".",
             indented: false,
             packed: options.packed,
+            messages,
         })),
         (Verb::Check, [name, path]) => Some(Task::Check(GetRequest {
             root: NamedRoot { file, name: *name },
             path: *path,
             indented: false,
             packed: options.packed,
+            messages,
         })),
         (Verb::Structs, []) => Some(Task::Structs(file)),
         (Verb::Structs, [name]) => Some(Task::Fields(NamedRoot { file, name: *name })),
@@ -294,8 +353,9 @@ fn read_behind<'a>(alloc: Global, verb: Verb, words: &'a [String]) -> Result<Ask
 /// |`--version`|the version|
 ///
 /// Options stand anywhere behind the verb: `--set FILE` but of `schemas`, `--indent` of `show` and `get`, `--calls FILE`,
-/// with no call beside it, and `--keep-going` of `patch` and `new`, `--packed` of all these, `--strict` of `schemas`. Of
-/// one that stands twice the last counts. Refused with `OutOfMemory` alone.
+/// with no call beside it, and `--keep-going` of `patch` and `new`, `--packed` of all these, or of all but `new` `--each`
+/// and with it `--keep-going`, `--strict` of `schemas`. Of one that stands twice the last counts. Refused with
+/// `OutOfMemory` alone.
 pub fn read_words<'a>(alloc: Global, words: &'a [String]) -> Result<Asked<'a>>
     ensures asked { IfOk result (λ r. asked_seen r ≡ asked_request (map string_bytes words.now)) }
     ensures memory { IfErr result (λ e. e.kind ≡ OutOfMemory) }

@@ -2,7 +2,8 @@
 use Rattle.std.proofs.Common.{Err, Ok, ap, sym, ◌∙◌, arith, rules}
 use Rattle.capnp_wire.specs.Stream.{header_bytes}
 use Rattle.capnp_packed.specs.Unpacking.{unpacked_bytes}
-use Rattle.capnp_packed.proofs.Measured.{IsBeginning, by_count, by_table, bytes_known, count_known, cut, known_there, large, many, there}
+use Rattle.capnp_streams.specs.Facts.Lengths.{by_count, by_table, cut, large, many, there}
+use Rattle.capnp_packed.proofs.Measured.{IsBeginning, bytes_known, count_known, known_there}
 use Rattle.capnp_packed.proofs.received.measure.Goals as goal
 
 pub returns-then-count-gt512-clause-refused : goal.returns-then-count-gt512-clause-refused

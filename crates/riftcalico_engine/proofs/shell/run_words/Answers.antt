@@ -9,7 +9,7 @@ use Rattle.riftcalico_engine.proofs.shell.run_words.Goals as goal
 
 pub returns-in-Ok-Ok-clause-ran : goal.returns-in-Ok-Ok-clause-ran
 returns-in-Ok-Ok-clause-ran g c =
-    inr (inr (plan_seen c.in-Ok-Ok.plan, sym (rw c.in-Ok-Ok.field-0-is at c.in-Ok-Ok.ensures.planned), rw c.get_set_file.ensures at c.run_plan.ensures.ran))
+    inr (inr (plan_seen c.in-Ok-Ok.plan, sym (rw c.in-Ok-Ok.field-0-is at c.in-Ok-Ok.ensures.planned), c.run_plan.ensures.ran))
 
 pub returns-in-Ok-Err-clause-opened : goal.returns-in-Ok-Err-clause-opened
 returns-in-Ok-Err-clause-opened g c = none_asked g.O.Opener.opens (file_paths (task_set_file (task_seen c.args.task.now))) c.args.opener.now

@@ -1,0 +1,40 @@
+-- The words that stand for values of a type, as a note where the word that is given is none of them.
+use Rattle.std.specs.Prelude.{ℕ, ◌==◌, List, [], ◌∷◌, ◌++◌, Option, Some, None, codes, if◌then◌else◌}
+use Rattle.capnp_schema.specs.Schema.{Enumerant, Schemas, enum_at}
+use Rattle.capnp_schema.specs.Types.{AnyPointerType, BoolType, DataType, EnumType, IntType, ListType, SchemaType, StructType, TextType, UIntType, VoidType}
+
+-- numbers with a sign, of so many bytes, and without
+abbrev pub int_range : (bytes : ℕ) → List ℕ
+int_range bytes =
+    if bytes == 1 then codes "-128 to 127"
+    else if bytes == 2 then codes "-32768 to 32767"
+    else if bytes == 4 then codes "-2147483648 to 2147483647"
+    else codes "-9223372036854775808 to 9223372036854775807"
+
+abbrev pub uint_range : (bytes : ℕ) → List ℕ
+uint_range bytes =
+    if bytes == 1 then codes "0 to 255"
+    else if bytes == 2 then codes "0 to 65535"
+    else if bytes == 4 then codes "0 to 4294967295"
+    else codes "0 to 18446744073709551615"
+
+-- names, each before a comma
+abbrev pub names_listed : List Enumerant → List ℕ
+names_listed [] = []
+names_listed (e ∷ es) = e.name ++ codes ", " ++ names_listed es
+
+abbrev pub wanted_words : Schemas → SchemaType → List ℕ
+wanted_words set VoidType = codes "()"
+wanted_words set BoolType = codes "true or false"
+wanted_words set (IntType bytes) = int_range bytes
+wanted_words set (UIntType bytes) = uint_range bytes
+wanted_words set (EnumType e) = names_listed (enum_at set e).enumerants ++ codes "0 to 65535"
+wanted_words set TextType = codes "a text, in quotes or as it stands"
+wanted_words set DataType = codes "0x\"00ff\""
+wanted_words set (StructType b g) = codes "no word, but its fields"
+wanted_words set (ListType e) = codes "no word, but its elements"
+wanted_words set AnyPointerType = codes "no word"
+
+abbrev pub wanted_note : Schemas → Option SchemaType → List ℕ
+wanted_note set None = []
+wanted_note set (Some t) = codes "; wanted: " ++ wanted_words set t

@@ -1,0 +1,84 @@
+-- One message more was answered to.
+use Rattle.std.proofs.Common.{◌≡◌, ◌∙◌, ℕ, suc, List, [], ◌∷◌, ◌++◌, Bool, false, ◌||◌, ◌≢◌, ◌⊎◌, Option, Some, None, Ok, Err, length, append_assoc, ap, arith, inl, inr, refl, subst, sym}
+use Rattle.std.proofs.lemmas.List.{append-nil, length-append}
+use Rattle.std.proofs.lemmas.List.Elements.{All-push}
+use Rattle.std.specs.Io.KnownBytes.{Consumes}
+use Rattle.capnp_device.specs.Device.{HasFailed}
+use Rattle.capnp_device.specs.declared.error.Error.{Error}
+use Rattle.capnp_device.specs.declared.error.ErrorKind.{ErrorKind}
+use Rattle.capnp_device.specs.declared.error.ErrorKind.TheVariants.{OutOfMemory, ReadFailed}
+use Rattle.capnp_streams.specs.Lengths.{message_length}
+use Rattle.capnp_streams.specs.Received.{IsNotReceived, IsReceived}
+use Rattle.riftcalico_core.specs.declared.fault.Blamed.TheVariants.{Input}
+use Rattle.riftcalico_core.specs.declared.job.Job.{Job}
+use Rattle.riftcalico_engine.specs.Outputs.{IsAnsweredTo, Ran}
+use Rattle.riftcalico_engine.specs.Streams.{IsGoneOn, IsMessageUnread, IsSoFar, IsStopped, IsStreamEnd, joined, none_passed, one_more}
+use Rattle.riftcalico_engine.specs.declared.ended.Refusal.{Refusal}
+use Rattle.riftcalico_words.specs.Tasks.{Task}
+
+pub joined_more : (ms : List (List ℕ)) (m : List ℕ) → joined (ms ++ m ∷ []) ≡ joined ms ++ m
+joined_more [] m = append-nil m
+joined_more (first ∷ ms) m = ap (λ (x : List ℕ). first ++ x) (joined_more ms m) ∙ sym (append_assoc first (joined ms) m)
+
+pub consumed_both : (a b c : Option (List ℕ)) (xs ys : List ℕ) → Consumes a b xs → Consumes b c ys → Consumes a c (xs ++ ys)
+consumed_both None b c xs ys h k = tt {0}
+consumed_both (Some a) None c xs ys h k = absurd h
+consumed_both (Some a) (Some b) None xs ys h k = absurd k
+consumed_both (Some a) (Some b) (Some c) xs ys h k = h ∙ ap (λ rest. xs ++ rest) k ∙ sym (append_assoc xs ys c)
+
+pub consumed_none : (a : Option (List ℕ)) → Consumes a a []
+consumed_none None = tt {0}
+consumed_none (Some a) = refl
+
+pub by_message : {A B : Type 0} (kind : ErrorKind) → (kind ≢ ReadFailed → kind ≢ OutOfMemory → A) → (kind ≡ ReadFailed → B) → ((kind ≡ ReadFailed) × B) ⊎ ((kind ≡ OutOfMemory) ⊎ A)
+by_message ReadFailed cut failed = inl (refl, failed refl)
+by_message OutOfMemory cut failed = inr (inl refl)
+by_message kind cut failed = inr (inr (cut (λ e. cc) (λ e. cc)))
+
+module _ {S W F : Type 0} (left : S → Option (List ℕ)) (reads : S → ℕ) (written : W → Option (List ℕ)) (writes : W → ℕ) (told : F → Option (List ℕ)) (tells : F → ℕ) where
+  pub none_so_far : (t : Task) (j : Job) (going : Bool) (s : S) (w : W) (f : F) → IsSoFar left reads written writes told tells t j going 0 s s w w f f false
+  none_so_far t j going s w f = record {
+    messages = [];
+    count = refl;
+    consumed = consumed_none (left s);
+    whole = λ i d inside. absurd (omega (arith, inside));
+    passed = none_passed w f;
+  }
+
+  pub next_so_far : (t : Task) (j : Job) (going : Bool) (number next : ℕ) (s s' s'' : S) (w w' w'' : W) (f f' mid f'' : F) (some one : Bool) (m : List ℕ) (r : Ran) → next ≡ suc number →
+      IsSoFar left reads written writes told tells t j going number s s' w w' f f' some → IsReceived (left s') (left s'') m →
+      IsAnsweredTo written writes told tells j (Some next) m w' w'' f' mid r → IsGoneOn told tells t going r mid f'' one →
+      IsSoFar left reads written writes told tells t j going next s s'' w w'' f f'' (some || one)
+  next_so_far t j going number next s s' s'' w w' w'' f f' mid f'' some one m r e before received answered on =
+      let l = length-append before.messages (m ∷ []) in
+      let c = before.count in
+      let here : next ≡ suc (length before.messages) = e ∙ ap suc (sym c) in
+      record {
+        messages = before.messages ++ m ∷ [];
+        count = omega (arith, l, e, c);
+        consumed = subst (λ (x : List ℕ). Consumes (left s) (left s'') x) (sym (joined_more before.messages m)) (consumed_both (left s) (left s') (left s'') (joined before.messages) m before.consumed received.consumed);
+        whole = All-push (λ (x : List ℕ). message_length x ≡ Ok (length x)) before.messages m before.whole received.whole;
+        passed = one_more before.messages m w w' w'' f f' f'' some one before.passed (record {
+          by = r;
+          mid = mid;
+          answered = subst (λ (n : ℕ). IsAnsweredTo written writes told tells j (Some n) m w' w'' f' mid r) here answered;
+          gone_on = on;
+        });
+      }
+
+  pub stop_end : (j : Job) (going : Bool) (number next : ℕ) (refused : Bool) (s s' : S) (w w' : W) (f mid f' : F) (bytes given : List ℕ) (r stopped : Ran) → next ≡ suc number →
+      IsReceived (left s) (left s') bytes → given ≡ bytes → IsAnsweredTo written writes told tells j (Some next) given w w' f mid r → stopped ≡ r → IsStopped going r → f' ≡ mid →
+      IsStreamEnd left reads written writes told tells j going (suc number) refused s s' w w' f f' stopped
+  stop_end j going number next refused s s' w w' f mid f' bytes given r stopped here received same answered is stop rest =
+      let a = subst (λ (n : ℕ). IsAnsweredTo written writes told tells j (Some n) given w w' f mid r) here answered in
+      let b = subst (λ (x : List ℕ). IsAnsweredTo written writes told tells j (Some (suc number)) x w w' f mid r) same a in
+      let d = subst (λ (x : F). IsAnsweredTo written writes told tells j (Some (suc number)) bytes w w' f x r) (sym rest) b in
+      let e = subst (λ (x : Ran). IsAnsweredTo written writes told tells j (Some (suc number)) bytes w w' f f' x) (sym is) d in
+      inr (inr (inl (bytes, received, e, subst (λ (x : Ran). IsStopped going x) (sym is) stop)))
+
+  pub unread_end : (j : Job) (going : Bool) (number next : ℕ) (refused : Bool) (s s' : S) (w : W) (f : F) (x : Refusal) (error : Error) → next ≡ suc number → x.message ≡ Some next →
+      x.fault.blamed ≡ Input → x.fault.error ≡ error → (error.kind ≢ ReadFailed → error.kind ≢ OutOfMemory → IsNotReceived (left s) (left s') error.kind) →
+      (error.kind ≡ ReadFailed → HasFailed (reads s) (reads s')) →
+      IsStreamEnd left reads written writes told tells j going (suc number) refused s s' w w f f (Err x)
+  unread_end j going number next refused s s' w f x error here message blamed is cut failed =
+      inr (inl ((message ∙ ap Some here, (blamed, subst (λ (e : Error). IsMessageUnread (left s) (left s') (reads s) (reads s') e.kind) (sym is) (by_message error.kind cut failed))), refl, refl))
