@@ -46,6 +46,15 @@ row() {
     line=$4
     [ -n "$line" ] || line=$(capnp decode --short "examples/sets/$1.capnp" "$2" < "$scratch/message" | sed 's/ = void/ = ()/g')
     show "$1" "$(printf '%s' "$2" | sed 's/,/, /g')" "$line"
+    cat "$scratch/message" >> "$scratch/stream.$1.$2"
+    printf '%s\n' "$line" >> "$scratch/lines.$1.$2"
+}
+
+# streamed FILE.NAME: the messages of all rows of a struct, one after another, are printed as their lines
+streamed() {
+    name=$(printf '%s' "${1#*.}" | sed 's/,/, /g')
+    ./riftcalico show --each --set "$scratch/${1%%.*}.set" "$name" < "$scratch/stream.$1" > "$scratch/out" 2> "$scratch/err"
+    expect "all messages of $1" $? 0 "$(cat "$scratch/lines.$1")" ''
 }
 
 # listed FILE NAME TEXT: the fields of a struct are told as TEXT
@@ -168,6 +177,10 @@ Value.float64: Float64 stands as UInt64'
     cp examples/addressbook.request "$scratch/message"
     show schema CodeGeneratorRequest "$(capnp decode --short "$schema" CodeGeneratorRequest < "$scratch/message" | sed 's/ = void/ = ()/g')"
 }
+
+for stream in "$scratch"/stream.*; do
+    streamed "${stream##*/stream.}"
+done
 
 [ "$failures" -eq 0 ] || exit 1
 echo "$checks cases: all as expected"
