@@ -7,12 +7,13 @@ use Rattle.capnp_records.specs.Compatible.{IsSuccessor}
 use Rattle.capnp_differences.specs.declared.differences.Difference.{Difference}
 use Rattle.capnp_differences.specs.declared.differences.Pair.{Pair}
 use Rattle.capnp_differences.specs.Closing.{is_pair, listed_pairs}
-use Rattle.capnp_differences.specs.Differences.{Given, Holds, IsCompared, IsDifference, Named, struct_pair}
+use Rattle.capnp_differences.specs.Differences.{Given, Holds, IsCompared, IsDifference, Named, struct_pair, turn_of}
 use Rattle.capnp_differences.specs.Steps.Comparing.{Adds, Apart, Explains, IsNamed, Within, brand_pairs, pair_of}
-use Rattle.capnp_differences.specs.Steps.Telling.{AreKnown, IsOfPair, Tells, difference_of}
+use Rattle.capnp_differences.specs.Steps.Telling.{AreKnown, AreOrdered, IsBelow, IsOfPair, Orders, Tells, difference_of}
 use Rattle.capnp_differences.proofs.BrandPairs.{Has, HasNamed, first_in, in_brands, named_in, named_within, second_in}
 use Rattle.capnp_differences.proofs.Listings.{at_listed, index_inside, is-same, listed_at, or-left, same-itself}
 use Rattle.capnp_differences.proofs.Relating.{shared_from, shared_named, shared_same}
+use Rattle.capnp_differences.proofs.Turns.{stands_once}
 use Rattle.capnp_differences.proofs.Tellings.{holds_pair, pair_holds, tells_as, tells_none, tells_then}
 
 -- a difference of one of the pairs before an index
@@ -28,6 +29,7 @@ pub record Comparing (set : Schemas) (older newer next : ℕ) (ps : List Pair) (
   pub followed : (k : ℕ) → k < next → (p : Pair) → slice_get ps k ≡ Some p → HasNamed set (listed_pairs ps) p.older p.newer
   pub known : (k : ℕ) → k < next → (p : Pair) → slice_get ps k ≡ Some p → AreKnown set p.older p.newer (length (fields_of set p.older))
   pub told : Tells [] ts (IsBefore set ps next)
+  pub ordered : AreOrdered ts
 
 -- ---- the start ----
 
@@ -51,6 +53,7 @@ module _ (set : Schemas) (g : Pair) (l : g.older < length set.brands) (m : g.new
     followed = λ k lt p e. absurd (omega arith);
     known = λ k lt p e. absurd (omega arith);
     told = tells_none [] (IsBefore set (g ∷ []) 0) (λ d h. let lt = h.1 in omega arith);
+    ordered = λ i j d lt inside. absurd (omega arith);
   }
 
   pub compare_begins : (ps : List Pair) (ts : List Difference) → ps ≡ g ∷ [] → ts ≡ [] → Comparing set g.older g.newer 0 ps ts
@@ -69,7 +72,7 @@ module _ (set : Schemas) (older newer next : ℕ) (ps : List Pair) (ts : List Di
   newer_in = second_in set p.older p.newer (w.brands p.older p.newer here)
 
   module _ (accepted : IsAccepted set) (qs : List Pair) (us : List Difference) (tells : Tells ts us (IsOfPair set p)) (known : AreKnown set p.older p.newer (length (fields_of set p.older)))
-      (adds : Adds ps qs (IsNamed set p.older p.newer (length (fields_of set p.older)))) (inside : next < length ps) where
+      (high : ℕ) (orders : Orders ts us p 0 high) (adds : Adds ps qs (IsNamed set p.older p.newer (length (fields_of set p.older)))) (inside : next < length ps) where
     more : Within (listed_pairs ps) (listed_pairs qs)
     more a b h = (adds.joined a b).1 (inl h)
 
@@ -104,6 +107,14 @@ module _ (set : Schemas) (older newer next : ℕ) (ps : List Pair) (ts : List Di
         at-next : next ≤ h.0 → d.pair ≡ p
         at-next le = let lt = h.1 in let e : h.0 ≡ next = omega arith in sym (same-here d.pair (subst (λ (k : ℕ). slice_get qs k ≡ Some d.pair) e h.2))
 
+    -- nothing was told of the pair before
+    none-before : IsBelow p 0 ts
+    none-before d h e = at-before ((w.told d).0 h)
+      where
+        at-before : Contains [] d ⊎ IsBefore set ps next d → turn_of d.field d.cause < 0
+        at-before (inl none) = absurd (let l = none.1 in omega arith)
+        at-before (inr (k, lt, stands, holds)) = absurd (stands_once ps w.apart k next lt p (stands ∙ ap (λ (q : Pair). Some q) e) at)
+
     pub compare_more : Comparing set older newer (next + 1) qs us
     compare_more = record {
       given = more older newer w.given;
@@ -117,6 +128,7 @@ module _ (set : Schemas) (older newer next : ℕ) (ps : List Pair) (ts : List Di
           (λ k below q e. w.known k below q (was k q (omega arith) e))
           (λ q e. subst (λ (x : Pair). AreKnown set x.older x.newer (length (fields_of set x.older))) (same-here q e) known);
       told = tells_as [] us (λ d. IsBefore set ps next d ⊎ IsOfPair set p d) (tells_then [] ts (IsBefore set ps next) w.told us (IsOfPair set p) tells) (IsBefore set qs (next + 1)) (λ d. (new-told d, old-told d));
+      ordered = (orders w.ordered none-before).0;
     }
 
 -- ---- the end ----
@@ -185,6 +197,7 @@ module _ (set : Schemas) (older newer : ℕ) where
     compare_ends = record {
       told = λ d. (is-difference d, is-told d);
       none = (follows, nothing-told);
+      ordered = w.ordered;
     }
 
 -- ---- under other names ----

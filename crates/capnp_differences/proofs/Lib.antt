@@ -11,5 +11,6 @@ pub mod Adding
 pub mod Changes
 pub mod Relating
 pub mod Tellings
+pub mod Turns
 pub mod Comparisons
 pub mod Rows

@@ -1,14 +1,16 @@
 -- Worked rows of what differs: `Mixed`, and `Mixed2` with a non-union field and a member more; `Tally` of numbers, and `Tally2`
 -- of structs where numbers stood.
-use Rattle.std.proofs.Common.{ℕ, ◌≡◌, inl, inr, refl, List, [], ◌∷◌, ◌++◌, Some, None, codes, arith, ap}
+use Rattle.std.proofs.Common.{ℕ, ◌≡◌, inl, inr, refl, List, [], ◌∷◌, ◌++◌, Option, Some, None, codes, arith, ap}
 use Rattle.capnp_wire.specs.Place.{tree_at}
 use Rattle.capnp_schema.specs.Types.{SchemaType, BoolType, DataType, EnumType, IntType, ListType, StructType, TextType, UIntType}
 use Rattle.capnp_schema.specs.SlotValue.{default_bits}
 use Rattle.capnp_schema.specs.Schema.{Schemas, Field, Group, Node, ListValue, UIntValue, VoidValue, Slot}
 use Rattle.capnp_schema.specs.Builtin.{builtin, builtin_brand, builtin_field, builtin_struct_node, enumerant, member, union_node, zero_word}
-use Rattle.capnp_differences.specs.Differences.{DiffersAt, Given, IsCompared, Named, SameDefaults, kind_change, member_change, members_change, place_change, struct_pair, type_change}
+use Rattle.capnp_differences.specs.Differences.{ComesFirst, DiffersAt, Given, IsCompared, Named, SameDefaults, kind_change, member_change, members_change, place_change, struct_pair, type_change}
 use Rattle.capnp_differences.specs.Steps.Comparing.{pair_of}
+use Rattle.capnp_differences.specs.declared.differences.Cause.{Cause}
 use Rattle.capnp_differences.specs.declared.differences.Cause.TheVariants as cause
+use Rattle.capnp_differences.specs.declared.differences.Difference.{Difference}
 
 -- ---- fields ----
 
@@ -184,3 +186,23 @@ union_is_gone = inl refl
 union_did_not_move : DiffersAt builtin (pair_of 1 0) None cause.UnionMoved → ⊥
 union_did_not_move (inl e) = cc
 union_did_not_move (inr e) = cc
+
+-- ---- the order ----
+
+abbrev told_at : Option ℕ → Cause → Difference
+told_at o c = record { pair = pair_of 1 0; field = o; cause = c }
+
+union_before_fields : ComesFirst (told_at None cause.UnionMoved) (told_at (Some 0) cause.FieldGone)
+union_before_fields same = omega arith
+
+fields_by_index : ComesFirst (told_at (Some 1) cause.FewerEnumerants) (told_at (Some 2) cause.PlaceChanged)
+fields_by_index same = omega arith
+
+causes_in_order : ComesFirst (told_at (Some 1) cause.PlaceChanged) (told_at (Some 1) cause.TypeChanged)
+causes_in_order same = omega arith
+
+not_the_other_way : ComesFirst (told_at (Some 1) cause.TypeChanged) (told_at (Some 1) cause.PlaceChanged) → ⊥
+not_the_other_way h = let less = h refl in omega arith
+
+not_before_itself : ComesFirst (told_at None cause.UnionGone) (told_at None cause.UnionGone) → ⊥
+not_before_itself h = let less = h refl in omega arith

@@ -1,5 +1,5 @@
 -- Why a struct schema is no compatible successor of another: which pairs of structs are compared, and what differs in one.
-use Rattle.std.specs.Prelude.{ℕ, ◌<◌, ◌≤◌, ◌≡◌, ◌⊎◌, ◌==◌, nat_le, ⊤, Bool, true, false, Option, Some, None, length}
+use Rattle.std.specs.Prelude.{ℕ, ◌+◌, ◌*◌, ◌<◌, ◌≤◌, ◌≡◌, ◌⊎◌, ◌==◌, nat_le, ⊤, Bool, true, false, Option, Some, None, length}
 use Rattle.capnp_schema.specs.Types.{SchemaType, VoidType, BoolType, IntType, UIntType, EnumType, TextType, DataType, StructType, ListType, AnyPointerType}
 use Rattle.capnp_schema.specs.Schema.{Schemas, Node, Field, FieldKind, Slot, Group, TypedField, enum_at, field_at, fields_of, is_member, node_of}
 use Rattle.capnp_records.specs.Compatible.{SameDefault, type_in_place}
@@ -120,3 +120,30 @@ Holds set d = DiffersAt set d.pair d.field d.cause
 pub record IsDifference (set : Schemas) (older newer : ℕ) (d : Difference) : Type 0 where
   pub compared : IsCompared set older newer d.pair.older d.pair.newer
   pub holds : Holds set d
+
+-- ---- the order of what is told ----
+
+-- causes by their order in `Cause`
+abbrev pub cause_number : Cause → ℕ
+cause_number cause.FieldGone = 0
+cause_number cause.KindChanged = 1
+cause_number cause.PlaceChanged = 2
+cause_number cause.DefaultChanged = 3
+cause_number cause.DiscriminantChanged = 4
+cause_number cause.LeftUnion = 5
+cause_number cause.EnteredUnion = 6
+cause_number cause.TypeChanged = 7
+cause_number cause.ElementsBecameStructs = 8
+cause_number cause.FewerEnumerants = 9
+cause_number cause.UnionGone = 10
+cause_number cause.FewerMembers = 11
+cause_number cause.UnionMoved = 12
+
+-- first what differs in the union, then each field by its index, and each of these by the 13 causes
+abbrev pub turn_of : (field : Option ℕ) → Cause → ℕ
+turn_of None c = cause_number c
+turn_of (Some i) c = 13 * (i + 1) + cause_number c
+
+-- a difference is told before another of the same pair
+abbrev pub ComesFirst : Difference → Difference → Type 0
+ComesFirst x y = x.pair ≡ y.pair → turn_of x.field x.cause < turn_of y.field y.cause

@@ -33,10 +33,10 @@ pub enum Cause {
     FewerEnumerants,
     /// The union is gone.
     UnionGone,
-    /// The union's discriminant stands elsewhere.
-    UnionMoved,
     /// The union has fewer members.
     FewerMembers,
+    /// The union's discriminant stands elsewhere.
+    UnionMoved,
 }
 
 /// Why a newer struct does not follow an older one.

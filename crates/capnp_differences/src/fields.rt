@@ -1,11 +1,11 @@
 //! What differs in the fields of two structs.
-ghost use Rattle.std.specs.Prelude.{◌≡◌, ◌<◌, IfErr, OnOk, Some, length};
+ghost use Rattle.std.specs.Prelude.{◌≡◌, ◌<◌, ◌+◌, ◌*◌, IfErr, OnOk, Some, length};
 ghost use Rattle.capnp_device.specs.declared.error.ErrorKind.TheVariants.{OutOfMemory};
 ghost use Rattle.capnp_schema.specs.Entries.{lists_seen};
 ghost use Rattle.capnp_schema.specs.Schema.{fields_of, seen_field, seen_kind};
 ghost use Rattle.capnp_schema.specs.FieldLists.{typed_of};
 ghost use Rattle.capnp_differences.specs.Differences.{FieldDiffers, FieldsDiffer, SameDefaults, kind_change, member_change, membership_change};
-ghost use Rattle.capnp_differences.specs.Steps.Telling.{AreKnown, IsKnown, IsKnownAt, IsOf, IsOfFields, IsOfPair, Tells};
+ghost use Rattle.capnp_differences.specs.Steps.Telling.{AreKnown, IsKnown, IsKnownAt, IsOf, IsOfFields, IsOfPair, Orders, Tells};
 
 use crate::brands::{field_count, field_of, node_of};
 use crate::defaults::are_same_defaults;
@@ -77,6 +77,7 @@ fn tell_shared(
         (FieldsDiffer (lists_seen schemas.now) (typed_of older.entry) (typed_of newer.entry)))) }
     ensures known { OnOk result (IsKnown (SameDefaults (typed_of older.entry).field.kind
         (typed_of newer.entry).field.kind)) }
+    ensures turn { OnOk result (Orders told.old.items told.new.items pair (13 * (index + 1)) (13 * (index + 2))) }
     ensures refused { IfErr result (λ e. e.kind ≡ OutOfMemory) }
 {
     let one = older.get_proto();
@@ -98,6 +99,7 @@ fn tell_field(told: &mut Vec<Difference>, schemas: &SchemaSet, pair: Pair, index
     ensures told { OnOk result (Tells told.old.items told.new.items (IsOf pair (Some index)
         (FieldDiffers (lists_seen schemas.now) pair.older pair.newer index))) }
     ensures known { OnOk result (IsKnownAt (lists_seen schemas.now) pair.older pair.newer index) }
+    ensures turn { OnOk result (Orders told.old.items told.new.items pair (13 * (index + 1)) (13 * (index + 2))) }
     ensures refused { IfErr result (λ e. e.kind ≡ OutOfMemory) }
 {
     if index >= field_count(schemas, pair.newer) {
@@ -116,6 +118,8 @@ fn tell_fields(told: &mut Vec<Difference>, schemas: &SchemaSet, pair: Pair) -> R
         (length (fields_of (lists_seen schemas.now) pair.older)))) }
     ensures known { OnOk result (AreKnown (lists_seen schemas.now) pair.older pair.newer
         (length (fields_of (lists_seen schemas.now) pair.older))) }
+    ensures turn { OnOk result (Orders told.old.items told.new.items pair 13
+        (13 * (length (fields_of (lists_seen schemas.now) pair.older) + 1))) }
     ensures refused { IfErr result (λ e. e.kind ≡ OutOfMemory) }
 {
     for i in 0..field_count(schemas, pair.older) {
@@ -129,6 +133,8 @@ pub(crate) fn tell_pair(told: &mut Vec<Difference>, schemas: &SchemaSet, pair: P
     ensures told { OnOk result (Tells told.old.items told.new.items (IsOfPair (lists_seen schemas.now) pair)) }
     ensures known { OnOk result (AreKnown (lists_seen schemas.now) pair.older pair.newer
         (length (fields_of (lists_seen schemas.now) pair.older))) }
+    ensures turn { OnOk result (Orders told.old.items told.new.items pair 0
+        (13 * (length (fields_of (lists_seen schemas.now) pair.older) + 1))) }
     ensures refused { IfErr result (λ e. e.kind ≡ OutOfMemory) }
 {
     let older = node_of(schemas, pair.older);

@@ -1,8 +1,8 @@
 //! Differences as they are told, one after another.
-ghost use Rattle.std.specs.Prelude.{◌≡◌, IfErr, OnOk, Some};
+ghost use Rattle.std.specs.Prelude.{ℕ, ◌≡◌, IfErr, OnOk, Some};
 ghost use Rattle.capnp_device.specs.declared.error.ErrorKind.TheVariants.{OutOfMemory};
 ghost use Rattle.capnp_differences.specs.Differences.{unless};
-ghost use Rattle.capnp_differences.specs.Steps.Telling.{IsOf, Tells};
+ghost use Rattle.capnp_differences.specs.Steps.Telling.{IsOf, Orders, TakesTurn, Tells};
 
 use crate::differences::{Cause, Difference, Pair};
 use capnp_wire::error::Result;
@@ -22,6 +22,8 @@ pub(crate) fn tell(
     cause: Option<Cause>,
 ) -> Result<()>
     ensures told { OnOk result (Tells told.old.items told.new.items (IsOf pair field (λ c. cause ≡ Some c))) }
+    ensures turn { OnOk result ((low high : ℕ) → TakesTurn field cause low high
+        → Orders told.old.items told.new.items pair low high) }
     ensures refused { IfErr result (λ e. e.kind ≡ OutOfMemory) }
 {
     match cause {

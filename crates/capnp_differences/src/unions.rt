@@ -3,7 +3,7 @@ ghost use Rattle.std.specs.Prelude.{◌≡◌, IfErr, None, OnOk};
 ghost use Rattle.capnp_device.specs.declared.error.ErrorKind.TheVariants.{OutOfMemory};
 ghost use Rattle.capnp_schema.specs.Schema.{seen_node};
 ghost use Rattle.capnp_differences.specs.Differences.{UnionDiffers, members_change, members_lost, place_change, union_moved};
-ghost use Rattle.capnp_differences.specs.Steps.Telling.{IsOf, Tells};
+ghost use Rattle.capnp_differences.specs.Steps.Telling.{IsOf, Orders, Tells};
 
 use crate::differences::{Cause, Difference, Pair};
 use crate::tell::{tell, unless};
@@ -65,6 +65,7 @@ pub(crate) fn tell_union(
 ) -> Result<()>
     ensures told { OnOk result (Tells told.old.items told.new.items (IsOf pair None
         (UnionDiffers (seen_node older.now) (seen_node newer.now)))) }
+    ensures turn { OnOk result (Orders told.old.items told.new.items pair 0 13) }
     ensures refused { IfErr result (λ e. e.kind ≡ OutOfMemory) }
 {
     tell(told, pair, None, members_change(older, newer))?;

@@ -1,11 +1,11 @@
 //! The walk over the pairs of structs that are compared.
-ghost use Rattle.std.specs.Prelude.{◌≡◌, ◌<◌, ◌↔◌, [], Contains, IfErr, IfOk, length};
+ghost use Rattle.std.specs.Prelude.{◌≡◌, ◌<◌, ◌↔◌, [], AllPairs, Contains, IfErr, IfOk, length};
 ghost use Rattle.capnp_device.specs.declared.error.ErrorKind.TheVariants.{OutOfMemory};
 ghost use Rattle.capnp_schema.specs.Entries.{lists_seen};
 ghost use Rattle.capnp_schema.specs.StructHandles.{IsStruct, number_of, set_of};
 ghost use Rattle.capnp_records.specs.Compatible.{IsCompatibleOrUpgraded};
 ghost use Rattle.capnp_differences.specs.declared.differences.Difference.{Difference};
-ghost use Rattle.capnp_differences.specs.Differences.{IsDifference};
+ghost use Rattle.capnp_differences.specs.Differences.{ComesFirst, IsDifference};
 ghost use Rattle.capnp_differences.specs.Steps.Comparing.{Explains};
 
 use crate::brands::is_accepted;
@@ -23,7 +23,8 @@ use std::alloc::Global;
 /// is a compatible successor, as `Compatible::check` answers.
 ///
 /// What is told are all differences in the pairs that are compared: of the given structs, and of each two structs that
-/// two fields of one index name, in a pair that is compared. Each pair is looked at once.
+/// two fields of one index name, in a pair that is compared. Of one pair what differs in the union comes first, then
+/// each field by its index, and each in the order of `Cause`. So none is told twice.
 ///
 /// Refused with `OutOfMemory` where there is no memory for the pairs or the differences, and with nothing else.
 pub fn explain(
@@ -38,6 +39,7 @@ pub fn explain(
         ↔ IsDifference (set_of older.entry) (number_of older.entry) (number_of newer.entry) d)) }
     ensures none { IfOk result (λ told. (told.items ≡ [])
         ↔ IsCompatibleOrUpgraded (set_of older.entry) (number_of older.entry) (number_of newer.entry)) }
+    ensures order { IfOk result (λ told. AllPairs ComesFirst told.items) }
     ensures refused { IfErr result (λ e. e.kind ≡ OutOfMemory) }
 {
     let schemas = older.get_set();

@@ -1,11 +1,11 @@
 -- The walk over the pairs that are compared: steps of the code.
-use Rattle.std.specs.Prelude.{ℕ, ◌<◌, ◌≤◌, ◌≡◌, ◌↔◌, ◌⊎◌, List, [], ◌∷◌, false, nat_lt, ◌&&◌, IsTrue, Contains, Some, length, slice_get}
+use Rattle.std.specs.Prelude.{ℕ, AllPairs, ◌<◌, ◌≤◌, ◌≡◌, ◌↔◌, ◌⊎◌, List, [], ◌∷◌, false, nat_lt, ◌&&◌, IsTrue, Contains, Some, length, slice_get}
 use Rattle.capnp_base.specs.declared.introspect.TypeVariant.{TypeVariant}
 use Rattle.capnp_base.specs.declared.introspect.TypeVariant.TheVariants as variant
 use Rattle.capnp_schema.specs.Schema.{Schemas, Value, VoidValue, BoolValue, IntValue, UIntValue, EnumValue, TextValue, DataValue, StructValue, ListValue, AnyPointerValue, field_at, fields_of}
 use Rattle.capnp_records.specs.Compatible.{IsCompatibleOrUpgraded, Pairs}
 use Rattle.capnp_differences.specs.Closing.{listed_pairs}
-use Rattle.capnp_differences.specs.Differences.{IsDifference, struct_pair}
+use Rattle.capnp_differences.specs.Differences.{ComesFirst, IsDifference, struct_pair}
 use Rattle.capnp_differences.specs.declared.differences.Cause.{Cause}
 use Rattle.capnp_differences.specs.declared.differences.Cause.TheVariants as cause
 use Rattle.capnp_differences.specs.declared.differences.Difference.{Difference}
@@ -86,3 +86,4 @@ pub record Adds (old new : List Pair) (New : ℕ → ℕ → Type 0) : Type 0 wh
 pub record Explains (set : Schemas) (older newer : ℕ) (ts : List Difference) : Type 0 where
   pub told : (d : Difference) → (Contains ts d ↔ IsDifference set older newer d)
   pub none : (ts ≡ []) ↔ IsCompatibleOrUpgraded set older newer
+  pub ordered : AllPairs ComesFirst ts

@@ -1,7 +1,7 @@
 -- What is told of a pair of structs, piece by piece: steps of the code.
-use Rattle.std.specs.Prelude.{ℕ, ◌<◌, ◌≡◌, ◌↔◌, ◌⊎◌, List, Contains, Option, Some, None, length}
+use Rattle.std.specs.Prelude.{ℕ, ◌<◌, ◌≤◌, AllPairs, ◌≡◌, ◌↔◌, ◌⊎◌, List, Contains, Option, Some, None, length}
 use Rattle.capnp_schema.specs.Schema.{Schemas, field_at, fields_of, node_of}
-use Rattle.capnp_differences.specs.Differences.{FieldDiffers, SameDefaults, UnionDiffers}
+use Rattle.capnp_differences.specs.Differences.{ComesFirst, FieldDiffers, SameDefaults, UnionDiffers, turn_of}
 use Rattle.capnp_differences.specs.declared.differences.Cause.{Cause}
 use Rattle.capnp_differences.specs.declared.differences.Difference.{Difference}
 use Rattle.capnp_differences.specs.declared.differences.Pair.{Pair}
@@ -36,3 +36,20 @@ IsKnownAt set a b i = i < length (fields_of set b) → IsKnown (SameDefaults (fi
 -- the same of each of the first so many fields
 abbrev pub AreKnown : Schemas → (older newer count : ℕ) → Type 0
 AreKnown set a b count = (i : ℕ) → i < count → IsKnownAt set a b i
+
+-- ---- in order ----
+
+abbrev pub AreOrdered : List Difference → Type 0
+AreOrdered ds = AllPairs ComesFirst ds
+
+-- the turns of a pair's differences are below a number
+abbrev pub IsBelow : Pair → ℕ → List Difference → Type 0
+IsBelow p high ds = (d : Difference) → Contains ds d → d.pair ≡ p → turn_of d.field d.cause < high
+
+-- what is told stays in order, and goes on from a pair's turns below one number to those below another
+abbrev pub Orders : (old new : List Difference) → Pair → (low high : ℕ) → Type 0
+Orders old new p low high = AreOrdered old → IsBelow p low old → AreOrdered new × IsBelow p high new
+
+-- a cause that there may be has its turn between two numbers
+abbrev pub TakesTurn : Option ℕ → Option Cause → (low high : ℕ) → Type 0
+TakesTurn o k low high = (low ≤ high) × ((c : Cause) → k ≡ Some c → (low ≤ turn_of o c) × (turn_of o c < high))

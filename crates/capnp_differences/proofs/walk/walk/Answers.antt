@@ -9,7 +9,7 @@ loop-next-init c = compare_begins (lists_seen c.args.schemas.now) c.args.given c
 
 pub loop-next-preserved : goal.loop-next-preserved
 loop-next-preserved c = compare_more (lists_seen c.args.schemas.now) c.args.given.older c.args.given.newer c.loop-next.next c.loop-next.pairs c.loop-next.told.items c.loop-next.invariant c.at-pair.result c.at-pair.ensures
-    c.is_accepted.ensures c.add_named.new.pairs c.tell_pair.new.told.items c.in_ok-tell_pair.ensures.told c.in_ok-tell_pair.ensures.known c.in_ok-add_named.ensures.added (omega arith)
+    c.is_accepted.ensures c.add_named.new.pairs c.tell_pair.new.told.items c.in_ok-tell_pair.ensures.told c.in_ok-tell_pair.ensures.known _ c.in_ok-tell_pair.ensures.turn c.in_ok-add_named.ensures.added (omega arith)
 
 pub returns-clause-told : goal.returns-clause-told
 returns-clause-told c = compare_ends (lists_seen c.args.schemas.now) c.args.given.older c.args.given.newer c.loop-next.next c.loop-next.pairs c.loop-next.told.items c.loop-next.invariant (omega arith)
