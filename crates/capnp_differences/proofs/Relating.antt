@@ -83,7 +83,7 @@ module _ (set : Schemas) (pairs : Pairs) where
       where
         at : IsKnown (SameDefaults (field_at set a i).field.kind (field_at set b i).field.kind) → SameDefaults (field_at set a i).field.kind (field_at set b i).field.kind
         at (inl same) = same
-        at (inr other) = absurd (quiet (Some i) cause.DefaultChanged (below, inr (here, inr (inl (refl, other)))))
+        at (inr other) = absurd (quiet (Some i) cause.DefaultChanged (below, inr (here, inr (inl (refl, other, λ e. quiet (Some i) cause.TypeChanged (below, inr (here, inr (inr (inr e)))))))))
 
     pub shared_from : SharedStruct true set pairs a b
     shared_from = record {

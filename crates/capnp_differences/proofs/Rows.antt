@@ -4,9 +4,9 @@ use Rattle.std.proofs.Common.{ℕ, ◌≡◌, inl, inr, refl, List, [], ◌∷�
 use Rattle.capnp_wire.specs.Place.{tree_at}
 use Rattle.capnp_schema.specs.Types.{SchemaType, BoolType, DataType, EnumType, IntType, ListType, StructType, TextType, UIntType}
 use Rattle.capnp_schema.specs.SlotValue.{default_bits}
-use Rattle.capnp_schema.specs.Schema.{Schemas, Field, Group, Node, ListValue, UIntValue, VoidValue, Slot}
+use Rattle.capnp_schema.specs.Schema.{Field, Group, ListValue, Node, Schemas, Slot, TypedField, UIntValue, Value, VoidValue}
 use Rattle.capnp_schema.specs.Builtin.{builtin, builtin_brand, builtin_field, builtin_struct_node, enumerant, member, union_node, zero_word}
-use Rattle.capnp_differences.specs.Differences.{ComesFirst, DiffersAt, Given, IsCompared, Named, SameDefaults, kind_change, member_change, members_change, place_change, struct_pair, type_change}
+use Rattle.capnp_differences.specs.Differences.{ComesFirst, DiffersAt, FieldsDiffer, Given, IsCompared, Named, SameDefaults, kind_change, member_change, members_change, place_change, struct_pair, type_change}
 use Rattle.capnp_differences.specs.Steps.Comparing.{pair_of}
 use Rattle.capnp_differences.specs.declared.differences.Cause.{Cause}
 use Rattle.capnp_differences.specs.declared.differences.Cause.TheVariants as cause
@@ -186,6 +186,19 @@ union_is_gone = inl refl
 union_did_not_move : DiffersAt builtin (pair_of 1 0) None cause.UnionMoved → ⊥
 union_did_not_move (inl e) = cc
 union_did_not_move (inr e) = cc
+
+-- a default of another type is none that changed, and one of the same type is
+abbrev number_field : Value → SchemaType → TypedField
+number_field default type = record { field = builtin_field (codes "a") 0 default; type = type }
+
+default_changed : FieldsDiffer builtin (number_field (UIntValue 2 7) (UIntType 2)) (number_field (UIntValue 2 8) (UIntType 2)) cause.DefaultChanged
+default_changed = inr (inl (refl, other_defaults, λ e. cc))
+
+default_of_another_type : FieldsDiffer builtin (number_field (UIntValue 2 7) (UIntType 2)) (number_field (UIntValue 4 8) (UIntType 4)) cause.DefaultChanged → ⊥
+default_of_another_type (inl e) = cc
+default_of_another_type (inr (inl h)) = h.2 refl
+default_of_another_type (inr (inr (inl e))) = cc
+default_of_another_type (inr (inr (inr e))) = cc
 
 -- ---- the order ----
 

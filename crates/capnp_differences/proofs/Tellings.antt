@@ -5,6 +5,7 @@ use Rattle.std.proofs.lemmas.List.Elements.{Contains-append_left, Contains-push,
 use Rattle.capnp_schema.specs.Schema.{Field, Node, Schemas, TypedField, field_at, fields_of, node_of}
 use Rattle.capnp_schema.specs.Types.{SchemaType}
 use Rattle.capnp_differences.specs.Differences.{DiffersAt, FieldDiffers, FieldsDiffer, Holds, SameDefaults, UnionDiffers, kind_change, member_change, members_change, place_change, type_change, unless}
+use Rattle.capnp_differences.specs.Steps.Comparing.{default_change}
 use Rattle.capnp_differences.specs.Steps.Telling.{IsKnown, IsOf, IsOfFields, IsOfPair, Tells, difference_of}
 use Rattle.capnp_differences.specs.declared.differences.Cause.{Cause}
 use Rattle.capnp_differences.specs.declared.differences.Cause.TheVariants as cause
@@ -91,12 +92,17 @@ known_from false S is = inr (λ s. clash (is.1 s))
     clash : false ≡ true → ⊥
     clash e = cc
 
-default-causes : (same : Bool) (S : Type 0) → (IsTrue same ↔ S) → (c : Cause) → ((unless same cause.DefaultChanged ≡ Some c) ↔ ((c ≡ cause.DefaultChanged) × (S → ⊥)))
-default-causes true S is c = (λ e. absurd (none e), λ h. absurd (h.1 (is.0 refl)))
+-- defaults are compared, unless the types differ
+pub by_types : (t : Option Cause) → (t ≡ Some cause.TypeChanged) ⊎ ((t ≡ Some cause.TypeChanged → ⊥) × ((same : Bool) → default_change same t ≡ unless same cause.DefaultChanged))
+by_types (Some cause.TypeChanged) = inl refl
+by_types t = inr (λ e. cc, λ same. refl)
+
+unless-causes : (same : Bool) (S : Type 0) → (IsTrue same ↔ S) → (c : Cause) → ((unless same cause.DefaultChanged ≡ Some c) ↔ ((c ≡ cause.DefaultChanged) × (S → ⊥)))
+unless-causes true S is c = (λ e. absurd (none e), λ h. absurd (h.1 (is.0 refl)))
   where
     none : None ≡ Some c → ⊥
     none e = cc
-default-causes false S is c = (λ e. (same e, λ s. clash (is.1 s)), λ h. ap (λ (x : Cause). Some x) (sym h.0))
+unless-causes false S is c = (λ e. (same e, λ s. clash (is.1 s)), λ h. ap (λ (x : Cause). Some x) (sym h.0))
   where
     same : Some cause.DefaultChanged ≡ Some c → c ≡ cause.DefaultChanged
     same e = cc
@@ -104,14 +110,24 @@ default-causes false S is c = (λ e. (same e, λ s. clash (is.1 s)), λ h. ap (�
     clash : false ≡ true → ⊥
     clash e = cc
 
+default-causes : (same : Bool) (S : Type 0) → (IsTrue same ↔ S) → (t : Option Cause) (c : Cause) → ((default_change same t ≡ Some c) ↔ ((c ≡ cause.DefaultChanged) × (S → ⊥) × (t ≡ Some cause.TypeChanged → ⊥)))
+default-causes same S is t c = at (by_types t)
+  where
+    at : (t ≡ Some cause.TypeChanged) ⊎ ((t ≡ Some cause.TypeChanged → ⊥) × ((b : Bool) → default_change b t ≡ unless b cause.DefaultChanged)) → ((default_change same t ≡ Some c) ↔ ((c ≡ cause.DefaultChanged) × (S → ⊥) × (t ≡ Some cause.TypeChanged → ⊥)))
+    at (inl e) = (λ h. absurd (none (subst (λ (x : Option Cause). default_change same x ≡ Some c) e h)), λ h. absurd (h.2 e))
+      where
+        none : None ≡ Some c → ⊥
+        none h = cc
+    at (inr (other, plain)) = (λ h. let k = (unless-causes same S is c).0 (sym (plain same) ∙ h) in (k.0, k.1, other), λ h. plain same ∙ (unless-causes same S is c).1 (h.0, h.1))
+
 abbrev pub typed_as : Field → SchemaType → TypedField
 typed_as f t = record { field = f; type = t }
 
 abbrev ByKind : TypedField → TypedField → Cause → Type 0
 ByKind f g c = kind_change f.field.kind g.field.kind ≡ Some c
 
-abbrev ByDefault : TypedField → TypedField → Cause → Type 0
-ByDefault f g c = (c ≡ cause.DefaultChanged) × (SameDefaults f.field.kind g.field.kind → ⊥)
+abbrev ByDefault : Schemas → TypedField → TypedField → Cause → Type 0
+ByDefault set f g c = (c ≡ cause.DefaultChanged) × (SameDefaults f.field.kind g.field.kind → ⊥) × (type_change cause.TypeChanged set f.type g.type ≡ Some cause.TypeChanged → ⊥)
 
 abbrev ByMember : TypedField → TypedField → Cause → Type 0
 ByMember f g c = member_change f.field g.field ≡ Some c
@@ -121,12 +137,12 @@ ByType set f g c = type_change cause.TypeChanged set f.type g.type ≡ Some c
 
 module _ (p : Pair) (o : Option ℕ) (set : Schemas) (f g : TypedField) (xs x1 x2 x3 x4 : List Difference) (kinds defaults members types : Option Cause) (same : Bool)
     (is : IsTrue same ↔ SameDefaults f.field.kind g.field.kind) where
-  pub shared_told : kinds ≡ kind_change f.field.kind g.field.kind → defaults ≡ unless same cause.DefaultChanged → members ≡ member_change f.field g.field → types ≡ type_change cause.TypeChanged set f.type g.type
+  pub shared_told : kinds ≡ kind_change f.field.kind g.field.kind → defaults ≡ default_change same types → members ≡ member_change f.field g.field → types ≡ type_change cause.TypeChanged set f.type g.type
       → Tells xs x1 (IsOf p o (λ c. kinds ≡ Some c)) → Tells x1 x2 (IsOf p o (λ c. defaults ≡ Some c)) → Tells x2 x3 (IsOf p o (λ c. members ≡ Some c)) → Tells x3 x4 (IsOf p o (λ c. types ≡ Some c))
       → Tells xs x4 (IsOf p o (FieldsDiffer set f g))
   shared_told e1 e2 e3 e4 t1 t2 t3 t4 =
-      causes_then p o xs x1 x4 (ByKind f g) (λ c. ByDefault f g c ⊎ (ByMember f g c ⊎ ByType set f g c)) (told_by p o xs x1 kinds (kind_change f.field.kind g.field.kind) e1 t1)
-      (causes_then p o x1 x2 x4 (ByDefault f g) (λ c. ByMember f g c ⊎ ByType set f g c) (causes_as p o x1 x2 (λ c. unless same cause.DefaultChanged ≡ Some c) (ByDefault f g) (default-causes same (SameDefaults f.field.kind g.field.kind) is) (told_by p o x1 x2 defaults (unless same cause.DefaultChanged) e2 t2))
+      causes_then p o xs x1 x4 (ByKind f g) (λ c. ByDefault set f g c ⊎ (ByMember f g c ⊎ ByType set f g c)) (told_by p o xs x1 kinds (kind_change f.field.kind g.field.kind) e1 t1)
+      (causes_then p o x1 x2 x4 (ByDefault set f g) (λ c. ByMember f g c ⊎ ByType set f g c) (causes_as p o x1 x2 (λ c. default_change same (type_change cause.TypeChanged set f.type g.type) ≡ Some c) (ByDefault set f g) (default-causes same (SameDefaults f.field.kind g.field.kind) is (type_change cause.TypeChanged set f.type g.type)) (told_by p o x1 x2 defaults (default_change same (type_change cause.TypeChanged set f.type g.type)) (e2 ∙ ap (default_change same) e4) t2))
       (causes_then p o x2 x3 x4 (ByMember f g) (ByType set f g) (told_by p o x2 x3 members (member_change f.field g.field) e3 t3) (told_by p o x3 x4 types (type_change cause.TypeChanged set f.type g.type) e4 t4)))
 
 -- the same of a field whose record and type are those of what was looked at

@@ -7,13 +7,14 @@ use Rattle.capnp_schema.specs.Types.{SchemaType, VoidType, BoolType, IntType, UI
 use Rattle.capnp_records.specs.Compatible.{type_in_place}
 use Rattle.capnp_differences.specs.Closing.{listed_pairs}
 use Rattle.capnp_differences.specs.Differences.{ComesFirst, cause_number, kind_change, member_change, members_change, members_lost, membership_change, place_change, turn_of, type_change, union_moved, unless}
-use Rattle.capnp_differences.specs.Steps.Comparing.{Apart}
+use Rattle.capnp_differences.specs.Steps.Comparing.{Apart, default_change}
 use Rattle.capnp_differences.specs.Steps.Telling.{IsBelow, Orders, TakesTurn, difference_of}
 use Rattle.capnp_differences.specs.declared.differences.Cause.{Cause}
 use Rattle.capnp_differences.specs.declared.differences.Cause.TheVariants as cause
 use Rattle.capnp_differences.specs.declared.differences.Difference.{Difference}
 use Rattle.capnp_differences.specs.declared.differences.Pair.{Pair}
 use Rattle.capnp_differences.proofs.Listings.{at_listed}
+use Rattle.capnp_differences.proofs.Tellings.{by_types}
 
 -- ---- one after another ----
 
@@ -56,6 +57,13 @@ pub kinds_numbered : (j k : FieldKind) (c : Cause) → kind_change j k ≡ Some 
 kinds_numbered (Slot o x) (Slot o' y) c e = unless_numbered 0 3 (o == o') cause.PlaceChanged c (omega arith, omega arith) e
 kinds_numbered (Group m) (Group n) c e = cc
 kinds_numbered j k c e = numbered 0 3 cause.KindChanged c (omega arith, omega arith) e
+
+defaults-numbered : (same : Bool) (t : Option Cause) (c : Cause) → default_change same t ≡ Some c → IsNumbered 3 4 c
+defaults-numbered same t c e = at (by_types t)
+  where
+    at : (t ≡ Some cause.TypeChanged) ⊎ ((t ≡ Some cause.TypeChanged → ⊥) × ((b : Bool) → default_change b t ≡ unless b cause.DefaultChanged)) → IsNumbered 3 4 c
+    at (inl s) = let none : None ≡ Some c = subst (λ (x : Option Cause). default_change same x ≡ Some c) s e in cc
+    at (inr (other, plain)) = unless_numbered 3 4 same cause.DefaultChanged c (omega arith, omega arith) (sym (plain same) ∙ e)
 
 membership-numbered : (p q s : Bool) (c : Cause) → membership_change p q s ≡ Some c → IsNumbered 4 7 c
 membership-numbered true true s c e = unless_numbered 4 7 s cause.DiscriminantChanged c (omega arith, omega arith) e
@@ -110,7 +118,7 @@ gone_turns p i xs ys only = only (13 * (i + 1)) (13 * (i + 2)) (omega arith, λ 
 
 -- of one that both have
 pub shared_turns : (p : Pair) (i : ℕ) (set : Schemas) (a b : Field) (s t : SchemaType) (xs x1 x2 x3 x4 : List Difference) (kinds defaults members types : Option Cause) (same : Bool)
-    → kinds ≡ kind_change a.kind b.kind → defaults ≡ unless same cause.DefaultChanged → members ≡ member_change a b → types ≡ type_change cause.TypeChanged set s t
+    → kinds ≡ kind_change a.kind b.kind → defaults ≡ default_change same types → members ≡ member_change a b → types ≡ type_change cause.TypeChanged set s t
     → ((low high : ℕ) → TakesTurn (Some i) kinds low high → Orders xs x1 p low high) → ((low high : ℕ) → TakesTurn (Some i) defaults low high → Orders x1 x2 p low high)
     → ((low high : ℕ) → TakesTurn (Some i) members low high → Orders x2 x3 p low high) → ((low high : ℕ) → TakesTurn (Some i) types low high → Orders x3 x4 p low high)
     → Orders xs x4 p (13 * (i + 1)) (13 * (i + 2))
@@ -121,7 +129,7 @@ shared_turns p i set a b s t xs x1 x2 x3 x4 kinds defaults members types same e1
     (orders_then xs x1 x4 p (13 * (i + 1) + 0) (13 * (i + 1) + 3) (13 * (i + 1) + 13)
     (f1 _ _ (at-field i kinds 0 3 (omega arith) (λ c h. kinds_numbered a.kind b.kind c (sym e1 ∙ h))))
     (orders_then x1 x2 x4 p (13 * (i + 1) + 3) (13 * (i + 1) + 4) (13 * (i + 1) + 13)
-    (f2 _ _ (at-field i defaults 3 4 (omega arith) (λ c h. unless_numbered 3 4 same cause.DefaultChanged c (omega arith, omega arith) (sym e2 ∙ h))))
+    (f2 _ _ (at-field i defaults 3 4 (omega arith) (λ c h. defaults-numbered same types c (sym e2 ∙ h))))
     (orders_then x2 x3 x4 p (13 * (i + 1) + 4) (13 * (i + 1) + 7) (13 * (i + 1) + 13)
     (f3 _ _ (at-field i members 4 7 (omega arith) (λ c h. membership-numbered (is_member a) (is_member b) (a.discriminant_value == b.discriminant_value) c (sym e3 ∙ h))))
     (f4 _ _ (at-field i types 7 13 (omega arith) (λ c h. types-numbered cause.TypeChanged set s t c (omega arith, omega arith) (sym e4 ∙ h))))))))

@@ -69,11 +69,12 @@ type_change became set (StructType a g) (StructType b h) = None
 type_change became set s (StructType b h) = Some became
 type_change became set s t = Some cause.TypeChanged
 
--- what differs in a field that both have: its kind or place, its default, its membership in the union, or its type
+-- what differs in a field that both have: its kind or place; its default, unless it is of another type; its membership in
+-- the union; or its type
 abbrev pub FieldsDiffer : Schemas → (older newer : TypedField) → Cause → Type 0
 FieldsDiffer set f g c =
     (kind_change f.field.kind g.field.kind ≡ Some c)
-    ⊎ (((c ≡ cause.DefaultChanged) × (SameDefaults f.field.kind g.field.kind → ⊥))
+    ⊎ (((c ≡ cause.DefaultChanged) × (SameDefaults f.field.kind g.field.kind → ⊥) × (type_change cause.TypeChanged set f.type g.type ≡ Some cause.TypeChanged → ⊥))
     ⊎ ((member_change f.field g.field ≡ Some c) ⊎ (type_change cause.TypeChanged set f.type g.type ≡ Some c)))
 
 -- ---- a pair of structs ----

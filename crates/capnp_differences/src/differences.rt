@@ -16,7 +16,7 @@ pub enum Cause {
     KindChanged,
     /// The field's slot has another offset.
     PlaceChanged,
-    /// The field has another default.
+    /// The field has another default, and its type is no other one.
     DefaultChanged,
     /// The field is a member of the union under another discriminant value.
     DiscriminantChanged,

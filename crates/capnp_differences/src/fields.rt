@@ -5,6 +5,7 @@ ghost use Rattle.capnp_schema.specs.Entries.{lists_seen};
 ghost use Rattle.capnp_schema.specs.Schema.{fields_of, seen_field, seen_kind};
 ghost use Rattle.capnp_schema.specs.FieldLists.{typed_of};
 ghost use Rattle.capnp_differences.specs.Differences.{FieldDiffers, FieldsDiffer, SameDefaults, kind_change, member_change, membership_change};
+ghost use Rattle.capnp_differences.specs.Steps.Comparing.{default_change};
 ghost use Rattle.capnp_differences.specs.Steps.Telling.{AreKnown, IsKnown, IsKnownAt, IsOf, IsOfFields, IsOfPair, Orders, Tells};
 
 use crate::brands::{field_count, field_of, node_of};
@@ -64,6 +65,16 @@ fn member_change(one: &FieldRecord, other: &FieldRecord) -> Option<Cause>
     )
 }
 
+/// Whether a default is another one. Defaults of another type are not compared.
+fn default_change(same: bool, types: Option<Cause>) -> Option<Cause>
+    ensures { result ≡ default_change same types }
+{
+    match types {
+        Some(Cause::TypeChanged) => None,
+        _ => unless(same, Cause::DefaultChanged),
+    }
+}
+
 /// Tells what differs in a field that both structs have.
 fn tell_shared(
     told: &mut Vec<Difference>,
@@ -87,7 +98,7 @@ fn tell_shared(
     let members = member_change(one, other);
     let types = type_change(schemas, older.get_type(), newer.get_type());
     tell(told, pair, Some(index), kinds)?;
-    tell(told, pair, Some(index), unless(same, Cause::DefaultChanged))?;
+    tell(told, pair, Some(index), default_change(same, types))?;
     tell(told, pair, Some(index), members)?;
     tell(told, pair, Some(index), types)?;
     Ok(())

@@ -1,11 +1,11 @@
 -- The walk over the pairs that are compared: steps of the code.
-use Rattle.std.specs.Prelude.{ℕ, AllPairs, ◌<◌, ◌≤◌, ◌≡◌, ◌↔◌, ◌⊎◌, List, [], ◌∷◌, false, nat_lt, ◌&&◌, IsTrue, Contains, Some, length, slice_get}
+use Rattle.std.specs.Prelude.{ℕ, AllPairs, Bool, ◌<◌, ◌≤◌, ◌≡◌, ◌↔◌, ◌⊎◌, List, [], ◌∷◌, false, nat_lt, ◌&&◌, IsTrue, Contains, Some, None, Option, length, slice_get}
 use Rattle.capnp_base.specs.declared.introspect.TypeVariant.{TypeVariant}
 use Rattle.capnp_base.specs.declared.introspect.TypeVariant.TheVariants as variant
 use Rattle.capnp_schema.specs.Schema.{Schemas, Value, VoidValue, BoolValue, IntValue, UIntValue, EnumValue, TextValue, DataValue, StructValue, ListValue, AnyPointerValue, field_at, fields_of}
 use Rattle.capnp_records.specs.Compatible.{IsCompatibleOrUpgraded, Pairs}
 use Rattle.capnp_differences.specs.Closing.{listed_pairs}
-use Rattle.capnp_differences.specs.Differences.{ComesFirst, IsDifference, struct_pair}
+use Rattle.capnp_differences.specs.Differences.{ComesFirst, IsDifference, struct_pair, unless}
 use Rattle.capnp_differences.specs.declared.differences.Cause.{Cause}
 use Rattle.capnp_differences.specs.declared.differences.Cause.TheVariants as cause
 use Rattle.capnp_differences.specs.declared.differences.Difference.{Difference}
@@ -45,6 +45,11 @@ value_words (DataValue bytes) = []
 value_words (StructValue words) = words
 value_words (ListValue words) = words
 value_words (AnyPointerValue words) = words
+
+-- what is said of defaults, by whether they are the same and by what is said of the types
+abbrev pub default_change : (same : Bool) → (types : Option Cause) → Option Cause
+default_change same (Some cause.TypeChanged) = None
+default_change same types = unless same cause.DefaultChanged
 
 -- ---- pairs ----
 
