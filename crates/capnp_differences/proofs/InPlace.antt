@@ -1,0 +1,37 @@
+-- The type that stands where an element stood, by the layers of types.
+use Rattle.std.proofs.Common.{◌≡◌, refl, Bool, true, false, ◌&&◌, ap, sym, ◌∙◌}
+use Rattle.capnp_base.specs.declared.introspect.«Type».{«Type» as TypeHandle}
+use Rattle.capnp_base.specs.declared.introspect.TypeVariant.{TypeVariant}
+use Rattle.capnp_base.specs.declared.introspect.TypeVariant.TheVariants as variant
+use Rattle.capnp_base.specs.declared.introspect.RawBrandedStructSchema.{RawBrandedStructSchema}
+use Rattle.capnp_base.specs.Types.{variant_of}
+use Rattle.capnp_schema.specs.Schema.{Schemas, field_at}
+use Rattle.capnp_schema.specs.Types.{SchemaType, seen_type, seen_variant}
+use Rattle.capnp_records.specs.Compatible.{can_become_struct, stands_first, type_in_place}
+use Rattle.capnp_differences.proofs.Layers.{seen}
+
+module _ (set : Schemas) (s : SchemaType) where
+  layer-stays : (u : TypeVariant) → ((x : RawBrandedStructSchema) → u ≡ variant.Struct x → ⊥) → type_in_place true set s (seen_variant u) ≡ seen_variant u
+  layer-stays (variant.Struct schema) h = absurd (h schema refl)
+  layer-stays u h = refl
+
+  -- what is no struct stands in its own place
+  pub stays : (t : TypeHandle) (u : TypeVariant) → u ≡ variant_of t → ((x : RawBrandedStructSchema) → u ≡ variant.Struct x → ⊥) → seen_type t ≡ type_in_place true set s (seen_type t)
+  stays t u e h = sym (ap (type_in_place true set s) (sym (seen t u e)) ∙ (layer-stays u h ∙ seen t u e))
+
+  by-test : (q : Bool) (a b : SchemaType) → q ≡ true → (elim q as (λ _. SchemaType) [ true ↦ a | false ↦ b ]) ≡ a
+  by-test true a b e = refl
+  by-test false a b e = cc
+
+  by-no-test : (q : Bool) (a b : SchemaType) → q ≡ false → (elim q as (λ _. SchemaType) [ true ↦ a | false ↦ b ]) ≡ b
+  by-no-test true a b e = cc
+  by-no-test false a b e = refl
+
+  module _ (t : TypeHandle) (schema : RawBrandedStructSchema) (e : variant.Struct schema ≡ variant_of t) where
+    -- a struct's field 0 does where it may
+    pub first_in_place : (can_become_struct s && stands_first set schema.number) ≡ true → (field_at set schema.number 0).type ≡ type_in_place true set s (seen_type t)
+    first_in_place h = sym (ap (type_in_place true set s) (sym (seen t (variant.Struct schema) e)) ∙ by-test (can_become_struct s && stands_first set schema.number) _ _ h)
+
+    -- and else the struct itself
+    pub struct_stays : (can_become_struct s && stands_first set schema.number) ≡ false → seen_type t ≡ type_in_place true set s (seen_type t)
+    struct_stays h = sym (ap (type_in_place true set s) (sym (seen t (variant.Struct schema) e)) ∙ (by-no-test (can_become_struct s && stands_first set schema.number) _ _ h ∙ seen t (variant.Struct schema) e))

@@ -1,0 +1,16 @@
+pub mod FieldLookUps
+pub mod DefaultKinds
+pub mod Layers
+pub mod InPlace
+pub mod LayerKinds
+pub mod Listings
+pub mod BrandPairs
+pub mod Bound
+pub mod Keys
+pub mod Adding
+pub mod Changes
+pub mod Relating
+pub mod Tellings
+pub mod Turns
+pub mod Comparisons
+pub mod Rows

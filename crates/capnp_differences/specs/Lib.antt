@@ -1,0 +1,4 @@
+pub mod Differences
+pub mod Closing
+pub mod Keys
+pub mod Steps

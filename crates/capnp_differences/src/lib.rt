@@ -1,0 +1,18 @@
+//! Why a struct schema is no compatible successor of another: each difference, with the pair of structs and the field that it
+//! is of.
+#![tactic(auto)]
+
+mod brands;
+mod defaults;
+mod differences;
+mod fields;
+mod first;
+mod named;
+mod pairs;
+mod tell;
+mod types;
+mod unions;
+mod walk;
+
+pub use differences::{Cause, Difference, Pair};
+pub use walk::explain;

@@ -1,0 +1,101 @@
+//! Pairs of structs, in the order in which they were added, and none of them twice.
+ghost use Rattle.std.specs.Prelude.{◌≡◌, ◌<◌, ◌++◌, [], ◌∷◌, IfErr, IfOk, OnErr, OnOk, Some, length, slice_get};
+ghost use Rattle.capnp_device.specs.declared.error.ErrorKind.TheVariants.{OutOfMemory};
+ghost use Rattle.capnp_differences.specs.Closing.{listed_pairs};
+ghost use Rattle.capnp_differences.specs.Steps.Comparing.{Adds, IsPairOf};
+
+use crate::differences::Pair;
+use capnp_wire::error::{Error, Result};
+use std::alloc::Global;
+use std::collections::HashSet;
+use std::marker::Model;
+
+/// Pairs as a list. Whether it has a pair is asked of a set beside it, so that a long list isn't gone through.
+#[derive(Drop)]
+pub(crate) struct Pairs {
+    list: Vec<Pair>,
+    keys: HashSet<(u32, u32)>,
+}
+
+impl Model for Pairs {
+    ghost use Rattle.std.specs.Prelude.{List};
+    ghost use Rattle.capnp_differences.specs.declared.differences.Pair.{Pair};
+    ghost use Rattle.capnp_differences.specs.Keys.{AreKeysOf};
+
+    ghost Value = { List Pair };
+
+    ghost view = { λ p. p.list.items };
+
+    ghost invariant = { λ p. AreKeysOf p.list.items p.keys };
+}
+
+impl Pairs {
+    /// The list of one pair.
+    pub(crate) fn of(alloc: Global, first: Pair) -> Result<Pairs>
+        ensures list { IfOk result (λ pairs. pairs ≡ first ∷ []) }
+        ensures refused { IfErr result (λ e. e.kind ≡ OutOfMemory) }
+    {
+        let mut pairs = Pairs::empty(alloc);
+        pairs.push(first)?;
+        Ok(pairs)
+    }
+
+    fn empty(alloc: Global) -> Pairs
+        ensures { result ≡ [] }
+    {
+        Pairs {
+            list: Vec::new(alloc),
+            keys: HashSet::new(alloc),
+        }
+    }
+
+    /// How many pairs there are.
+    pub(crate) fn len(&self) -> usize
+        ensures { result ≡ length self.now }
+    {
+        self.list.len()
+    }
+
+    /// The pair at an index.
+    pub(crate) fn at(&self, index: usize) -> Pair
+        requires { index < length self.now }
+        ensures { slice_get self.now index ≡ Some result }
+    {
+        self.list[index]
+    }
+
+    fn has(&self, pair: Pair) -> bool
+        ensures { result ≡ listed_pairs self.now pair.older pair.newer }
+    {
+        self.keys.contains(&(pair.older, pair.newer))
+    }
+
+    /// Puts a pair at the end. Where there is no memory the list stays.
+    #[tactic(auto, using(crate::proofs::Keys::keys_more, crate::proofs::Keys::keys_same))]
+    fn push(&mut self, pair: Pair) -> Result<()>
+        ensures more { OnOk result (self.new ≡ self.old ++ (pair ∷ [])) }
+        ensures unchanged { OnErr result (self.new ≡ self.old) }
+        ensures refused { IfErr result (λ e. e.kind ≡ OutOfMemory) }
+    {
+        self.list.push(pair)?;
+        match self.keys.insert((pair.older, pair.newer)) {
+            Ok(_) => Ok(()),
+            Err(error) => {
+                self.list.pop();
+                Err(Error::from(error))
+            }
+        }
+    }
+
+    /// Adds a pair that isn't there yet.
+    pub(crate) fn add(&mut self, pair: Pair) -> Result<()>
+        ensures added { OnOk result (Adds self.old self.new (IsPairOf pair)) }
+        ensures refused { IfErr result (λ e. e.kind ≡ OutOfMemory) }
+    {
+        if self.has(pair) {
+            return Ok(());
+        }
+        self.push(pair)?;
+        Ok(())
+    }
+}

@@ -1,0 +1,138 @@
+//! What is told of struct 0 and struct 1 of a set. Each difference is the numbers of its structs, its field and its cause.
+
+use capnp_differences::{Difference, explain};
+use capnp_schema_fixtures::set_text::read_set_text;
+use capnp_wire::error::{Error, ErrorKind, Result};
+use std::alloc::Global;
+
+/// The text of differences.
+fn text_of(alloc: Global, told: &[Difference]) -> Result<String> {
+    let mut out = String::new(alloc);
+    for difference in told {
+        let between = if out.is_empty() { "" } else { "; " };
+        let pair = difference.pair;
+        write!(out, "{between}{} {} ", pair.older, pair.newer)?;
+        if let Some(field) = difference.field {
+            write!(out, "{field} ")?;
+        }
+        write!(out, "{:?}", difference.cause)?;
+    }
+    Ok(out)
+}
+
+/// What is told of struct 0 and struct 1.
+fn told_of(alloc: Global, text: &'static str) -> Result<String> {
+    let schemas = read_set_text(alloc, text)?;
+    let Some(older) = schemas.get_struct(0) else {
+        return Err(Error::from(ErrorKind::NoSuchElement));
+    };
+    let Some(newer) = schemas.get_struct(1) else {
+        return Err(Error::from(ErrorKind::NoSuchElement));
+    };
+    let told = explain(alloc, older, newer)?;
+    text_of(alloc, told.as_slice())
+}
+
+static ROWS: [(&str, &str); 20] = [
+    (
+        "struct 1 2, p UInt16 @0; struct 2 2, q UInt16 @0, r Text @0",
+        "",
+    ),
+    (
+        "struct 1 2, p UInt16 @0, q UInt16 @1, r Text @0; struct 1 2, p UInt16 @0",
+        "0 1 1 FieldGone; 0 1 2 FieldGone",
+    ),
+    (
+        "struct 1 2, p UInt16 @0, q UInt16 @1; struct 1 2, p UInt16 @1, q UInt16 @0",
+        "0 1 0 PlaceChanged; 0 1 1 PlaceChanged",
+    ),
+    (
+        "struct 1 2, p UInt16 @0 =UInt16(7); struct 1 2, p UInt16 @1",
+        "0 1 0 PlaceChanged; 0 1 0 DefaultChanged",
+    ),
+    (
+        "struct 1 2, p UInt16 @0 =UInt16(7); struct 1 2, p UInt32 @0",
+        "0 1 0 TypeChanged",
+    ),
+    (
+        "struct 1 2, g group(2); struct 1 2, g Struct(3) @0; group 1 2, p UInt16 @0; \
+        struct 1 2, p UInt16 @0",
+        "0 1 0 KindChanged",
+    ),
+    (
+        "struct 1 2 union 2 1, n Void @0 #0, s UInt16 @0 #1; \
+        struct 1 2 union 2 1, n Void @0 #1, s UInt16 @0 #0",
+        "0 1 0 DiscriminantChanged; 0 1 1 DiscriminantChanged",
+    ),
+    (
+        "struct 1 2 union 0 0, n Void @0, s UInt16 @0; \
+        struct 1 2 union 2 1, n Void @0 #0, s UInt16 @0 #1",
+        "0 1 0 EnteredUnion; 0 1 1 EnteredUnion",
+    ),
+    (
+        "struct 1 2 union 2 1, n Void @0 #0, s UInt16 @0 #1; \
+        struct 1 2 union 0 0, n Void @0, s UInt16 @0",
+        "0 1 UnionGone; 0 1 0 LeftUnion; 0 1 1 LeftUnion",
+    ),
+    (
+        "struct 1 2 union 2 1, n Void @0 #0, s UInt16 @0 #1; \
+        struct 1 2 union 2 2, n Void @0 #0, s UInt16 @0 #1",
+        "0 1 UnionMoved",
+    ),
+    (
+        "struct 1 2 union 3 1, n Void @0 #0, s UInt16 @0 #1, t Text @0 #2; \
+        struct 1 2 union 2 2, n Void @0 #0, s UInt16 @0 #1",
+        "0 1 FewerMembers; 0 1 UnionMoved; 0 1 2 FieldGone",
+    ),
+    (
+        "struct 1 2, e List(Enum(0)) @0; struct 1 2, e List(Enum(1)) @0; enum red blue; enum left",
+        "0 1 0 FewerEnumerants",
+    ),
+    // a number's place is field 0 of the struct
+    (
+        "struct 0 1, xs List(UInt16) @0; struct 0 1, xs List(Struct(2)) @0; struct 1 0, v UInt16 @0",
+        "",
+    ),
+    (
+        "struct 0 1, xs List(UInt16) @0; struct 0 1, xs List(Struct(2)) @0; struct 1 0, v UInt32 @0",
+        "0 1 0 TypeChanged",
+    ),
+    (
+        "struct 0 1, xs List(UInt16) @0; struct 0 1, xs List(Struct(2)) @0; struct 1 0, v UInt16 @1",
+        "0 1 0 ElementsBecameStructs",
+    ),
+    (
+        "struct 0 1, xs List(Struct(2)) @0; struct 0 1, xs List(UInt16) @0; struct 1 0, v UInt16 @0",
+        "0 1 0 TypeChanged",
+    ),
+    // the structs of fields, inside lists too
+    (
+        "struct 0 1, a List(Struct(2)) @0; struct 0 1, a List(Struct(3)) @0; \
+        struct 1 0, v UInt16 @0; struct 1 0, v UInt16 @1",
+        "2 3 0 PlaceChanged",
+    ),
+    // a pair that differs is gone on from
+    (
+        "struct 1 1, a Struct(2) @0, p UInt8 @0; struct 1 1, a Struct(3) @0, p UInt8 @1; \
+        struct 1 1, b Struct(0) @0, v UInt8 @0; struct 1 1, b Struct(1) @0, v UInt8 @1",
+        "0 1 1 PlaceChanged; 2 3 1 PlaceChanged",
+    ),
+    // a pair that two fields name is told of once
+    (
+        "struct 0 2, a Struct(2) @0, b Struct(2) @1; struct 0 2, a Struct(3) @0, b Struct(3) @1; \
+        struct 1 0, v UInt16 @0; struct 1 0",
+        "2 3 0 FieldGone",
+    ),
+    // names and sections are not compared
+    ("struct 1 0, v UInt16 @0; struct 4 4, w UInt16 @0", ""),
+];
+
+#[test]
+fn differences_are_told(rt: HostRuntime) {
+    for (set, told) in &ROWS {
+        match told_of(rt.alloc(), set) {
+            Ok(text) => assert_eq!(rt; text.as_str(), *told, "{set}"),
+            Err(error) => assert!(rt; false, "{set}: {error}"),
+        }
+    }
+}
