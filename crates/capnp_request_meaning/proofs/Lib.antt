@@ -1,0 +1,14 @@
+pub mod AnnotationsMeant
+pub mod EntriesKept
+pub mod EnumsMeant
+pub mod FieldsMeant
+pub mod ListsFound
+pub mod NamesMeant
+pub mod NodesMeant
+pub mod OrderMeant
+pub mod RootsMeant
+pub mod Rows
+pub mod ScopesKept
+pub mod SetsMeant
+pub mod TypesMeant
+pub mod Works
