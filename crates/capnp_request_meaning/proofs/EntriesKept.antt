@@ -50,7 +50,7 @@ same_scope_itself b =
     (and_from (b.distance == b.distance) ((b.parameters == b.parameters) && same_types b.types b.types) (eq-eqb b.distance b.distance refl)
     (and_from (b.parameters == b.parameters) (same_types b.types b.types) (eq-eqb b.parameters b.parameters refl) (same_types_themselves b.types)))
 
-same_bound_itself : (bs : List Bound) → same_bound bs bs ≡ true
+pub same_bound_itself : (bs : List Bound) → same_bound bs bs ≡ true
 same_bound_itself [] = refl
 same_bound_itself (b ∷ bs) = and_from (same_scope b b) (same_bound bs bs) (same_scope_itself b) (same_bound_itself bs)
 

@@ -19,6 +19,7 @@ pub record IsEnumAdded (k : Numbers) (m after : Made) (id : ℕ) : Type 0 where
   pub new : Enum
   pub nodes_are : after.nodes ≡ m.nodes
   pub brands_are : after.brands ≡ m.brands
+  pub holders_are : after.holders ≡ m.holders
   pub enums_are : after.enums ≡ m.enums ++ new ∷ []
   pub is_id : new.id ≡ id
   pub is : IsEnumOf k new
@@ -112,4 +113,4 @@ module _ (K : List Entry → Type 0) (nodes : List SchemaNode) (whole : KeepsWho
     enum_added = said_bind K (begin_enum nodes id) with_begun (λ after z. IsEnumAdded (numbers nodes strict z) m after id) (λ b h.
         bind K (enum_made nodes strict id b.0 b.1) with_enum (λ e z. IsEnumMade (numbers nodes strict z) id b.0 b.1 e) (λ after z. IsEnumAdded (numbers nodes strict z) m after id) (enum_meant id b.0 b.1)
         (λ e. of_work K (record m { enums = m.enums ++ e ∷ [] }) (λ (after : Made) z. IsEnumMade (numbers nodes strict z) id b.0 b.1 e → IsEnumAdded (numbers nodes strict z) m after id)
-        (λ z made. record { new = e; nodes_are = refl; brands_are = refl; enums_are = refl; is_id = made.is_id; is = enum_from z b.0 b.1 e (enum_begun nodes id b h) made })))
+        (λ z made. record { new = e; nodes_are = refl; brands_are = refl; holders_are = refl; enums_are = refl; is_id = made.is_id; is = enum_from z b.0 b.1 e (enum_begun nodes id b h) made })))

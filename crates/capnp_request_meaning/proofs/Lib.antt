@@ -3,6 +3,7 @@ pub mod EntriesKept
 pub mod EnumsMeant
 pub mod FieldsMeant
 pub mod ListsFound
+pub mod NamesDiffer
 pub mod NamesMeant
 pub mod NodesMeant
 pub mod OrderMeant

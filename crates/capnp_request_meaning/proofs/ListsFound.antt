@@ -10,6 +10,11 @@ still_at [] ys i x e = absurd (cc)
 still_at (z ∷ xs) ys zero x e = e
 still_at (z ∷ xs) ys (suc i) x e = still_at xs ys i x e
 
+-- an element of a list
+pub record IsAmong {A : Type 0} (xs : List A) (x : A) : Type 0 where
+  pub index : ℕ
+  pub there : slice_get xs index ≡ Some x
+
 -- the last element
 pub last_at : {A : Type 0} (xs : List A) (x : A) → slice_get (xs ++ x ∷ []) (length xs) ≡ Some x
 last_at [] x = refl

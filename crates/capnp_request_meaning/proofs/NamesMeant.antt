@@ -1,6 +1,6 @@
 -- The display names of entries and enums.
-use Rattle.std.proofs.Common.{ℕ, ◌+◌, ◌-◌, ◌≡◌, ◌∙◌, ◌⊎◌, ◌==◌, ap, drop, inl, inr, refl, subst, sym, length, map, nat_lt, slice_get, Bool, true, false, List, [], ◌∷◌, ◌++◌, Option, Some, None, Ok, Err}
-use Rattle.std.proofs.lemmas.Bool.{eqb-true}
+use Rattle.std.proofs.Common.{ℕ, ◌+◌, ◌-◌, ◌≡◌, ◌∙◌, ◌⊎◌, ◌==◌, ap, drop, inl, inr, refl, subst, sym, length, map, nat_lt, slice_get, Bool, true, false, List, [], ◌∷◌, ◌++◌, Option, Some, None, Ok, Err, zero, suc, ◌&&◌, bytes_eq, not}
+use Rattle.std.proofs.lemmas.Bool.{eqb-true, and_from, or_left, or_right}
 use Rattle.std.specs.Str.{is_utf8}
 use Rattle.capnp_device.specs.declared.error.ErrorKind.{ErrorKind}
 use Rattle.capnp_device.specs.declared.error.ErrorKind.TheVariants.{NameNotUtf8, TooManyTypes}
@@ -12,6 +12,8 @@ use Rattle.capnp_request.specs.Scopes.{node_named}
 use Rattle.capnp_request.specs.Terms.{Said, SchemaNode}
 use Rattle.capnp_request.specs.Work.{Bound, Entry, GroupOf, Place, Whole}
 use Rattle.capnp_request_meaning.specs.Meaning.{AreUnbound, IsEntryName, IsGroupName}
+use Rattle.std.proofs.lemmas.Slice.Eq.{bytes_eq-Decides}
+use Rattle.capnp_request_meaning.proofs.ListsFound.{IsAmong, same_some}
 
 -- ---- what is said one after another ----
 
@@ -24,7 +26,7 @@ pub chained : {A B : Type 0} (d : Said A) (f : A → Said B) (b : B) → and_sai
 chained (Ok a) f b e = record { value = a; first = refl; rest = e }
 chained (Err kind) f b e = absurd (cc)
 
-said_same : {A : Type 0} (x y : A) → ◌≡◌ {A = Said A} (Ok x) (Ok y) → x ≡ y
+pub said_same : {A : Type 0} (x y : A) → ◌≡◌ {A = Said A} (Ok x) (Ok y) → x ≡ y
 said_same x y e = cc
 
 where_ok : {A : Type 0} (q : Bool) (kind : ErrorKind) (d : Said A) (a : A) → said_where q kind d ≡ Ok a → d ≡ Ok a
@@ -86,6 +88,13 @@ module _ (structs enums : List (List ℕ)) where
   name_by bound display name true u h = inr (sym h ∙ (ap (λ xs. file_of display ++ xs) (unbound_name bound (occurrences_of 46 (dotted_of display)) 0 (dotted_of display) u) ∙ file_dotted display))
   name_by bound display name false u h = inl (sym h ∙ unbound_name bound (occurrences_of 46 (dotted_of display)) 0 (dotted_of display) u)
 
+  taken_by : (bound : List Bound) (display name : List ℕ) (q : Bool) → AreUnbound bound → file_where q display ++ whole_name bound display ≡ name → q ≡ true → name ≡ display
+  taken_by bound display name true u h is = sym h ∙ (ap (λ xs. file_of display ++ xs) (unbound_name bound (occurrences_of 46 (dotted_of display)) 0 (dotted_of display) u) ∙ file_dotted display)
+  taken_by bound display name false u h is = absurd (cc)
+
+  pub struct_taken : (holders : List Holder) (id : ℕ) (bound : List Bound) (display name : List ℕ) → AreUnbound bound → struct_name structs enums holders id bound display ≡ Ok name → is_taken holders id (dotted_of display) ≡ true → name ≡ display
+  struct_taken holders id bound display name u h is = taken_by bound display name (is_taken holders id (dotted_of display)) u (name_finished (file_where (is_taken holders id (dotted_of display)) display ++ whole_name bound display) name h) is
+
   pub struct_named : (holders : List Holder) (id : ℕ) (bound : List Bound) (display name : List ℕ) → AreUnbound bound → struct_name structs enums holders id bound display ≡ Ok name → (name ≡ dotted_of display) ⊎ (name ≡ display)
   struct_named holders id bound display name u h = name_by bound display name (is_taken holders id (dotted_of display)) u (name_finished (file_where (is_taken holders id (dotted_of display)) display ++ whole_name bound display) name h)
 
@@ -99,6 +108,27 @@ group_named : (made : List Node) (p i : ℕ) (name : List ℕ) (o : Option Node)
 group_named made p i name (Some parent) there h = field_named made p i name parent (slice_get (map (λ (f : Field). f.name) parent.fields) i) there refl h
 group_named made p i name None there h = absurd (cc)
 
+-- ---- dotted names that earlier entries have ----
+
+abbrev pub holder : ℕ → List ℕ → Holder
+holder id dotted = record { id = id; dotted = dotted }
+
+-- each of these entries that is no group has its dotted name
+abbrev pub AreHeld : List SchemaNode → List Holder → List Entry → Type 0
+AreHeld nodes hs es = (n : ℕ) (e : Entry) (node : SchemaNode) (display : List ℕ) → slice_get es n ≡ Some e → e.place ≡ Whole → node_named nodes e.node ≡ Some node → node.display_name ≡ Ok display → IsAmong hs (holder e.node (dotted_of display))
+
+taken_among : (hs : List Holder) (h : Holder) (id : ℕ) (dotted : List ℕ) → IsAmong hs h → h.dotted ≡ dotted → (h.id == id) ≡ false → is_taken hs id dotted ≡ true
+taken_among hs h id dotted among same other = go hs among.index among.there
+  where
+    go : (ks : List Holder) (i : ℕ) → slice_get ks i ≡ Some h → is_taken ks id dotted ≡ true
+    go [] i e = absurd (cc)
+    go (x ∷ ks) zero e =
+        let is : x ≡ h = same_some e in
+        let bytes : bytes_eq x.dotted dotted ≡ true = (bytes_eq-Decides x.dotted dotted).1 (ap (λ (y : Holder). y.dotted) is ∙ same) in
+        let apart : not (x.id == id) ≡ true = ap (λ (y : Holder). not (y.id == id)) is ∙ ap not other in
+        or_left (bytes_eq x.dotted dotted && not (x.id == id)) (is_taken ks id dotted) (and_from (bytes_eq x.dotted dotted) (not (x.id == id)) bytes apart)
+    go (x ∷ ks) (suc i) e = or_right (bytes_eq x.dotted dotted && not (x.id == id)) (is_taken ks id dotted) (go ks i e)
+
 -- ---- what an entry begins with ----
 
 abbrev first_or : List ℕ → Said (List ℕ × List Holder) → List ℕ
@@ -108,13 +138,29 @@ first_or other (Err kind) = other
 first_same : (x y : List ℕ) (hs ks : List Holder) → ◌≡◌ {A = Said (List ℕ × List Holder)} (Ok (x, hs)) (Ok (y, ks)) → x ≡ y
 first_same x y hs ks e = ap (first_or y) e
 
+abbrev second_or : List Holder → Said (List ℕ × List Holder) → List Holder
+second_or other (Ok p) = p.1
+second_or other (Err kind) = other
+
+second_same : (x y : List ℕ) (hs ks : List Holder) → ◌≡◌ {A = Said (List ℕ × List Holder)} (Ok (x, hs)) (Ok (y, ks)) → hs ≡ ks
+second_same x y hs ks e = ap (second_or ks) e
+
 same_node : (m n : SchemaNode) → Some m ≡ Some n → m ≡ n
 same_node m n e = cc
 
+-- who has dotted names once an entry has begun
+abbrev pub AreHoldersThen : List Holder → SchemaNode → Entry → Place → List Holder → Type 0
+AreHoldersThen holders node e Whole after = (display : List ℕ) × (node.display_name ≡ Ok display) × (after ≡ holder e.node (dotted_of display) ∷ holders)
+AreHoldersThen holders node e (GroupOf p i) after = after ≡ holders
+
+abbrev pub IsNamedSo : List SchemaNode → List Holder → List Node → SchemaNode → Entry → Place → List ℕ → List Holder → Type 0
+IsNamedSo nodes holders made node e p name after = ((earlier : List Entry) → AreHeld nodes holders earlier → IsEntryName nodes earlier made node e p name) × AreHoldersThen holders node e p after
+
 -- the node and the name of an entry, behind the nodes that are made
-pub record IsBegun (nodes : List SchemaNode) (made : List Node) (e : Entry) (b : Begun) : Type 0 where
+pub record IsBegun (nodes : List SchemaNode) (m : Made) (e : Entry) (b : Begun) : Type 0 where
   pub first : node_named nodes e.node ≡ Some b.node
-  pub name : IsEntryName made b.node e.bound e.place b.name
+  pub name : (earlier : List Entry) → AreHeld nodes m.holders earlier → IsEntryName nodes earlier m.nodes b.node e e.place b.name
+  pub holders : AreHoldersThen m.holders b.node e e.place b.holders
 
 pub record IsEnumBegun (nodes : List SchemaNode) (id : ℕ) (name : List ℕ) (n : SchemaNode) : Type 0 where
   pub display : List ℕ
@@ -139,11 +185,11 @@ module _ (nodes : List SchemaNode) where
     abbrev with_holders : List ℕ → Said (List ℕ × List Holder)
     with_holders name = Ok (name, holders)
 
-    entry_name : (p : Place) (node : SchemaNode) (name : List ℕ) (after : List Holder) → node_named nodes e.node ≡ Some node → name_entry nodes made enums holders e p ≡ Ok (name, after) → IsEntryName made node e.bound p name
+    entry_name : (p : Place) (node : SchemaNode) (name : List ℕ) (after : List Holder) → node_named nodes e.node ≡ Some node → name_entry nodes made enums holders e p ≡ Ok (name, after) → IsNamedSo nodes holders made node e p name after
     entry_name (GroupOf parent field) node name after first h =
         let named = chained (group_name (slice_get made parent) field) with_holders (name, after) h in
         let is : named.value ≡ name = first_same named.value name holders after named.rest in
-        group_named made parent field name (slice_get made parent) refl (named.first ∙ ap (λ x. Ok x) is)
+        (λ earlier held. group_named made parent field name (slice_get made parent) refl (named.first ∙ ap (λ x. Ok x) is), sym (second_same named.value name holders after named.rest))
     entry_name Whole node name after first h =
         let found = chained (node_there (node_named nodes e.node)) with_shown (name, after) h in
         let shown = chained found.value.display_name with_display (name, after) found.rest in
@@ -151,7 +197,15 @@ module _ (nodes : List SchemaNode) where
         let is_node : found.value ≡ node = same_node found.value node (sym (there_some (node_named nodes e.node) found.value found.first) ∙ first) in
         let is_name : named.value ≡ name = first_same named.value name (record { id = e.node; dotted = dotted_of shown.value } ∷ holders) after named.rest in
         let is : struct_name structs_made enums holders e.node e.bound shown.value ≡ Ok name = named.first ∙ ap (λ x. Ok x) is_name in
-        λ u. record { display = shown.value; said = ap (λ (n : SchemaNode). n.display_name) (sym is_node) ∙ shown.first; is = struct_named structs_made enums holders e.node e.bound shown.value name u is }
+        let said : node.display_name ≡ Ok shown.value = ap (λ (n : SchemaNode). n.display_name) (sym is_node) ∙ shown.first in (
+          λ earlier held u. record {
+            display = shown.value;
+            said = said;
+            is = struct_named structs_made enums holders e.node e.bound shown.value name u is;
+            taken = λ t. struct_taken structs_made enums holders e.node e.bound shown.value name u is (taken_among holders (holder t.entry.node (dotted_of t.display)) e.node (dotted_of shown.value) (held t.number t.entry t.node t.display t.numbered t.whole t.first t.said) t.same t.other);
+          },
+          (shown.value, said, sym (second_same named.value name (holder e.node (dotted_of shown.value) ∷ holders) after named.rest)),
+        )
 
   module _ (m : Made) (e : Entry) where
     abbrev begun_with : List (List ℕ) → List ℕ × List Holder → SchemaNode → Begun
@@ -166,7 +220,7 @@ module _ (nodes : List SchemaNode) where
     abbrev with_names : List (List ℕ) → Said Begun
     with_names names = and_said (name_entry nodes m.nodes names m.holders e e.place) (with_name names)
 
-    pub struct_begun : (ids : List ℕ) (b : Begun) → begin_struct nodes m e ids ≡ Ok b → IsBegun nodes m.nodes e b
+    pub struct_begun : (ids : List ℕ) (b : Begun) → begin_struct nodes m e ids ≡ Ok b → IsBegun nodes m e b
     struct_begun ids b h =
         let inner = where_ok (nat_lt (length m.nodes) 4294967296) TooManyTypes (and_said (enum_names nodes (drop (length m.enum_names) ids) m.enum_names) with_names) b h in
         let names = chained (enum_names nodes (drop (length m.enum_names) ids) m.enum_names) with_names b inner in
@@ -175,11 +229,11 @@ module _ (nodes : List SchemaNode) where
         let same : begun_with names.value named.value node.value ≡ b = said_same (begun_with names.value named.value node.value) b node.rest in
         let there : node_named nodes e.node ≡ Some node.value = there_some (node_named nodes e.node) node.value node.first in
         let first : node_named nodes e.node ≡ Some b.node = there ∙ ap (λ (x : Begun). Some x.node) same in
-        record {
-          first = first;
-          name = subst (λ (n : SchemaNode). IsEntryName m.nodes n e.bound e.place b.name) (same_node node.value b.node (sym there ∙ first))
-              (subst (λ (x : List ℕ). IsEntryName m.nodes node.value e.bound e.place x) (ap (λ (x : Begun). x.name) same) (entry_name m.nodes names.value m.holders e e.place node.value named.value.0 named.value.1 there named.first));
-        }
+        let is_node : node.value ≡ b.node = same_node node.value b.node (sym there ∙ first) in
+        let so : IsNamedSo nodes m.holders m.nodes node.value e e.place named.value.0 named.value.1 = entry_name m.nodes names.value m.holders e e.place node.value named.value.0 named.value.1 there named.first in
+        let so_named : IsNamedSo nodes m.holders m.nodes node.value e e.place b.name b.holders = subst (λ (x : Begun). IsNamedSo nodes m.holders m.nodes node.value e e.place x.name x.holders) same so in
+        let so_begun : IsNamedSo nodes m.holders m.nodes b.node e e.place b.name b.holders = subst (λ (n : SchemaNode). IsNamedSo nodes m.holders m.nodes n e e.place b.name b.holders) is_node so_named in
+        record { first = first; name = so_begun.0; holders = so_begun.1 }
 
   -- ---- what an enum begins with ----
 

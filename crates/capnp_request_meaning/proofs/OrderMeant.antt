@@ -6,18 +6,19 @@ use Rattle.capnp_device.specs.declared.error.ErrorKind.{ErrorKind}
 use Rattle.capnp_schema.specs.Schema.{Brand, Enum, Node}
 use Rattle.capnp_request.specs.Order.{Begun, Made, add_struct, begin_struct, make_all, make_enum, make_next, make_struct, struct_made, with_struct}
 use Rattle.capnp_request.specs.Scopes.{node_named}
-use Rattle.capnp_request.specs.Terms.{SchemaNode}
+use Rattle.capnp_request.specs.Terms.{Said, SchemaNode}
 use Rattle.capnp_request.specs.Types.{is_entry_of}
-use Rattle.capnp_request.specs.Work.{Entry, Named, Whole, Work, work_continued, work_of}
+use Rattle.capnp_request.specs.Work.{Entry, Named, Whole, Work, work_continued, work_of, GroupOf, Place}
 use Rattle.capnp_request_meaning.specs.Meaning.{AreDistinct, AreEntries, AreEnumsOf, AreNodesFrom, IsEntryAt, IsEntryName, IsEnumOf, IsNodeOf, Numbers}
 use Rattle.capnp_request_meaning.proofs.EntriesKept.{KeepsWhole, not_among, whole_entry}
 use Rattle.capnp_request_meaning.proofs.EnumsMeant.{IsEnumAdded, enum_added}
 use Rattle.capnp_request_meaning.proofs.FieldsMeant.{group_entry}
-use Rattle.capnp_request_meaning.proofs.ListsFound.{Next, next_of, same_some, still_at}
-use Rattle.capnp_request_meaning.proofs.NamesMeant.{IsBegun, struct_begun}
+use Rattle.capnp_request_meaning.proofs.ListsFound.{Next, next_of, same_some, still_at, IsAmong}
+use Rattle.capnp_request_meaning.proofs.NamesMeant.{IsBegun, struct_begun, AreHeld, AreHoldersThen, holder}
 use Rattle.capnp_request_meaning.proofs.NodesMeant.{IsMade, KeepsFields, struct_meant}
 use Rattle.capnp_request_meaning.proofs.TypesMeant.{numbers}
 use Rattle.capnp_request_meaning.proofs.Works.{Done, Grows, IfDone, IsWork, bind, entry_still, enum_still, grows_none, grows_on, of_work, said_bind}
+use Rattle.capnp_request.specs.Names.{Holder, dotted_of}
 
 -- ---- entries are those of the request, whatever comes behind them ----
 
@@ -104,20 +105,49 @@ with_groups nodes n parent node first part members struct listed es i id f there
 
 -- ---- nodes one after another ----
 
-pub nodes_counted : (k : Numbers) (before : List Node) (es : List Entry) (ns : List Node) (bs : List Brand) → AreNodesFrom k before es ns bs → length es ≡ length ns
-nodes_counted k before [] [] [] h = refl
-nodes_counted k before (e ∷ es) (n ∷ ns) (b ∷ bs) h = ap (λ i. suc i) (nodes_counted k (before ++ n ∷ []) es ns bs h.1)
-nodes_counted k before es ns bs h = absurd h
+pub nodes_counted : (k : Numbers) (earlier : List Entry) (before : List Node) (es : List Entry) (ns : List Node) (bs : List Brand) → AreNodesFrom k earlier before es ns bs → length es ≡ length ns
+nodes_counted k earlier before [] [] [] h = refl
+nodes_counted k earlier before (e ∷ es) (n ∷ ns) (b ∷ bs) h = ap (λ i. suc i) (nodes_counted k (earlier ++ e ∷ []) (before ++ n ∷ []) es ns bs h.1)
+nodes_counted k earlier before es ns bs h = absurd h
 
-module _ (k : Numbers) (all : List Node) (e : Entry) (n : Node) (b : Brand) (is : IsNodeOf k all e n b) where
-  nodes_more : (before : List Node) (es : List Entry) (ns : List Node) (bs : List Brand) → all ≡ before ++ ns → AreNodesFrom k before es ns bs → AreNodesFrom k before (es ++ e ∷ []) (ns ++ n ∷ []) (bs ++ b ∷ [])
-  nodes_more before [] [] [] are h = (subst (λ xs. IsNodeOf k xs e n b) (are ∙ append-nil before) is, tt)
-  nodes_more before (x ∷ es) (y ∷ ns) (w ∷ bs) are h = (h.0, nodes_more (before ++ y ∷ []) es ns bs (are ∙ sym (append_assoc before (y ∷ []) ns)) h.1)
-  nodes_more before es ns bs are h = absurd h
+module _ (k : Numbers) (entries : List Entry) (all : List Node) (e : Entry) (n : Node) (b : Brand) (is : IsNodeOf k entries all e n b) where
+  nodes_more : (earlier : List Entry) (before : List Node) (es : List Entry) (ns : List Node) (bs : List Brand) → entries ≡ earlier ++ es → all ≡ before ++ ns → AreNodesFrom k earlier before es ns bs → AreNodesFrom k earlier before (es ++ e ∷ []) (ns ++ n ∷ []) (bs ++ b ∷ [])
+  nodes_more earlier before [] [] [] firsts are h =
+      (subst (λ ys. IsNodeOf k ys before e n b) (firsts ∙ append-nil earlier) (subst (λ xs. IsNodeOf k entries xs e n b) (are ∙ append-nil before) is), tt)
+  nodes_more earlier before (x ∷ es) (y ∷ ns) (w ∷ bs) firsts are h =
+      (h.0, nodes_more (earlier ++ x ∷ []) (before ++ y ∷ []) es ns bs (firsts ∙ sym (append_assoc earlier (x ∷ []) es)) (are ∙ sym (append_assoc before (y ∷ []) ns)) h.1)
+  nodes_more earlier before es ns bs firsts are h = absurd h
 
 enums_more : (k : Numbers) (es : List Enum) (e : Enum) → AreEnumsOf k es → IsEnumOf k e → AreEnumsOf k (es ++ e ∷ [])
 enums_more k [] e h is = (is, tt)
 enums_more k (x ∷ es) e h is = (h.0, enums_more k es e h.1 is)
+
+-- ---- dotted names ----
+
+held_again : (nodes : List SchemaNode) (hs : List Holder) (h : Holder) (es : List Entry) → AreHeld nodes hs es → AreHeld nodes (h ∷ hs) es
+held_again nodes hs h es held n e node display there whole first said = let a : IsAmong hs (holder e.node (dotted_of display)) = held n e node display there whole first said in record { index = suc a.index; there = a.there }
+
+same_said : (d : Said (List ℕ)) (a b : List ℕ) → d ≡ Ok a → d ≡ Ok b → a ≡ b
+same_said d a b e f = let h : ◌≡◌ {A = Said (List ℕ)} (Ok a) (Ok b) = sym e ∙ f in cc
+
+same_found : (o : Option SchemaNode) (m n : SchemaNode) → o ≡ Some m → o ≡ Some n → m ≡ n
+same_found o m n e f = let h : ◌≡◌ {A = Option SchemaNode} (Some m) (Some n) = sym e ∙ f in cc
+
+held_more : (nodes : List SchemaNode) (hs after : List Holder) (es : List Entry) (node : SchemaNode) (e : Entry) → node_named nodes e.node ≡ Some node → (p : Place) → e.place ≡ p → AreHoldersThen hs node e p after → AreHeld nodes hs es → AreHeld nodes after (es ++ e ∷ [])
+held_more nodes hs after es node e first (GroupOf q i) is are held n x other display there whole found said = go (before_or_last es e n x there)
+  where
+    go : (slice_get es n ≡ Some x) ⊎ ((n ≡ length es) × (e ≡ x)) → IsAmong after (holder x.node (dotted_of display))
+    go (inl a) = subst (λ ks. IsAmong ks (holder x.node (dotted_of display))) (sym are) (held n x other display a whole found said)
+    go (inr b) = let w : GroupOf q i ≡ Whole = sym is ∙ (ap (λ (y : Entry). y.place) b.1 ∙ whole) in absurd (cc)
+held_more nodes hs after es node e first Whole is are held n x other display there whole found said = go (before_or_last es e n x there)
+  where
+    go : (slice_get es n ≡ Some x) ⊎ ((n ≡ length es) × (e ≡ x)) → IsAmong after (holder x.node (dotted_of display))
+    go (inl a) = subst (λ ks. IsAmong ks (holder x.node (dotted_of display))) (sym are.2) (held_again nodes hs (holder e.node (dotted_of are.0)) es held n x other display a whole found said)
+    go (inr b) =
+        let same_one : node ≡ other = same_found (node_named nodes e.node) node other first (ap (λ (y : Entry). node_named nodes y.node) b.1 ∙ found) in
+        let shown : are.0 ≡ display = same_said node.display_name are.0 display are.1 (ap (λ (k : SchemaNode). k.display_name) same_one ∙ said) in
+        let last : holder e.node (dotted_of are.0) ≡ holder x.node (dotted_of display) = ap (λ (y : Entry). holder y.node (dotted_of are.0)) b.1 ∙ ap (λ ys. holder x.node (dotted_of ys)) shown in
+        subst (λ ks. IsAmong ks (holder x.node (dotted_of display))) (sym are.2) (record { index = 0; there = ap (λ h. Some h) last })
 
 abbrev pub enum_ids : List Enum → List ℕ
 enum_ids es = map (λ (e : Enum). e.id) es
@@ -129,7 +159,8 @@ pub record AreMade (nodes : List SchemaNode) (strict : Bool) (m : Made) (z : Nam
   pub more : List ℕ
   pub entries_are : z.entries ≡ done ++ rest
   pub enums_are : z.enums ≡ enum_ids m.enums ++ more
-  pub meant : AreNodesFrom (numbers nodes strict z) [] done m.nodes m.brands
+  pub held : AreHeld nodes m.holders done
+  pub meant : AreNodesFrom (numbers nodes strict z) [] [] done m.nodes m.brands
   pub enumerated : AreEnumsOf (numbers nodes strict z) m.enums
 
 record IsAdded (nodes : List SchemaNode) (strict : Bool) (m after : Made) (e : Entry) (z : Named) : Type 0 where
@@ -138,7 +169,8 @@ record IsAdded (nodes : List SchemaNode) (strict : Bool) (m after : Made) (e : E
   nodes_are : after.nodes ≡ m.nodes ++ node ∷ []
   brands_are : after.brands ≡ m.brands ++ brand ∷ []
   enums_are : after.enums ≡ m.enums
-  is : IsNodeOf (numbers nodes strict z) m.nodes e node brand
+  is : (earlier : List Entry) → AreHeld nodes m.holders earlier → IsNodeOf (numbers nodes strict z) earlier m.nodes e node brand
+  held : (earlier : List Entry) → AreHeld nodes m.holders earlier → AreHeld nodes after.holders (earlier ++ e ∷ [])
 
 -- from s, with m made, to the end
 pub record Ends (nodes : List SchemaNode) (strict : Bool) (s : Named) (m after : Made) (t : Named) : Type 0 where
@@ -151,18 +183,19 @@ pub record Ends (nodes : List SchemaNode) (strict : Bool) (s : Named) (m after :
 module _ (nodes : List SchemaNode) (strict : Bool) where
   entry_made : (m after : Made) (e : Entry) (z : Named) → slice_get z.entries (length m.nodes) ≡ Some e → IsAdded nodes strict m after e z → AreMade nodes strict m z → AreMade nodes strict after z
   entry_made m after e z there added made =
-      let count : length made.done ≡ length m.nodes = nodes_counted (numbers nodes strict z) [] made.done m.nodes m.brands made.meant in
+      let count : length made.done ≡ length m.nodes = nodes_counted (numbers nodes strict z) [] [] made.done m.nodes m.brands made.meant in
       let behind : slice_get (made.done ++ made.rest) (length made.done) ≡ Some e = ap (λ i. slice_get (made.done ++ made.rest) i) count ∙ (ap (λ xs. slice_get xs (length m.nodes)) (sym made.entries_are) ∙ there) in
       let next : Next made.rest e = next_of made.done made.rest e behind in
-      let longer : AreNodesFrom (numbers nodes strict z) [] (made.done ++ e ∷ []) (m.nodes ++ added.node ∷ []) (m.brands ++ added.brand ∷ []) = nodes_more (numbers nodes strict z) m.nodes e added.node added.brand added.is [] made.done m.nodes m.brands refl made.meant in
+      let longer : AreNodesFrom (numbers nodes strict z) [] [] (made.done ++ e ∷ []) (m.nodes ++ added.node ∷ []) (m.brands ++ added.brand ∷ []) = nodes_more (numbers nodes strict z) made.done m.nodes e added.node added.brand (added.is made.done made.held) [] [] made.done m.nodes m.brands refl refl made.meant in
       record {
         done = made.done ++ e ∷ [];
         rest = next.more;
         more = made.more;
         entries_are = made.entries_are ∙ (ap (λ xs. made.done ++ xs) next.are ∙ sym (append_assoc made.done (e ∷ []) next.more));
         enums_are = made.enums_are ∙ ap (λ es. enum_ids es ++ made.more) (sym added.enums_are);
-        meant = subst (λ ns. AreNodesFrom (numbers nodes strict z) [] (made.done ++ e ∷ []) ns after.brands) (sym added.nodes_are)
-            (subst (λ bs. AreNodesFrom (numbers nodes strict z) [] (made.done ++ e ∷ []) (m.nodes ++ added.node ∷ []) bs) (sym added.brands_are) longer);
+        held = added.held made.done made.held;
+        meant = subst (λ ns. AreNodesFrom (numbers nodes strict z) [] [] (made.done ++ e ∷ []) ns after.brands) (sym added.nodes_are)
+            (subst (λ bs. AreNodesFrom (numbers nodes strict z) [] [] (made.done ++ e ∷ []) (m.nodes ++ added.node ∷ []) bs) (sym added.brands_are) longer);
         enumerated = subst (AreEnumsOf (numbers nodes strict z)) (sym added.enums_are) made.enumerated;
       }
 
@@ -177,9 +210,10 @@ module _ (nodes : List SchemaNode) (strict : Bool) where
         rest = made.rest;
         more = next.more;
         entries_are = made.entries_are;
+        held = subst (λ hs. AreHeld nodes hs made.done) (sym added.holders_are) made.held;
         enums_are = made.enums_are ∙ (ap (λ xs. enum_ids m.enums ++ xs) next.are ∙ (sym (append_assoc (enum_ids m.enums) (id ∷ []) next.more) ∙ ap (λ xs. xs ++ next.more) (sym ids)));
-        meant = subst (λ ns. AreNodesFrom (numbers nodes strict z) [] made.done ns after.brands) (sym added.nodes_are)
-            (subst (λ bs. AreNodesFrom (numbers nodes strict z) [] made.done m.nodes bs) (sym added.brands_are) made.meant);
+        meant = subst (λ ns. AreNodesFrom (numbers nodes strict z) [] [] made.done ns after.brands) (sym added.nodes_are)
+            (subst (λ bs. AreNodesFrom (numbers nodes strict z) [] [] made.done m.nodes bs) (sym added.brands_are) made.meant);
         enumerated = subst (AreEnumsOf (numbers nodes strict z)) (sym added.enums_are) (enums_more (numbers nodes strict z) m.enums added.new made.enumerated added.is);
       }
 
@@ -192,7 +226,7 @@ module _ (nodes : List SchemaNode) (strict : Bool) where
     abbrev Kept : List Entry → Type 0
     Kept = StayWith nodes (length m.nodes) e
 
-    struct_added : (b : Begun) → IsBegun nodes m.nodes e b → IsWork Kept (add_struct nodes strict m e.node e.bound b) (λ after z. IsAdded nodes strict m after e z)
+    struct_added : (b : Begun) → IsBegun nodes m e b → IsWork Kept (add_struct nodes strict m e.node e.bound b) (λ after z. IsAdded nodes strict m after e z)
     struct_added b begun =
         bind Kept (struct_made nodes strict (length m.nodes) e.node e.bound b.name b.node) (λ made. work_of (with_struct nodes strict m b made)) (λ made z. IsMade (numbers nodes strict z) (length m.nodes) e.node e.bound b.name b.node made.0 made.1) (λ after z. IsAdded nodes strict m after e z)
         (struct_meant Kept nodes (with_whole nodes (length m.nodes) e) strict (length m.nodes) e.node e.bound b.name b.node (with_groups nodes (length m.nodes) e b.node begun.first))
@@ -202,7 +236,7 @@ module _ (nodes : List SchemaNode) (strict : Bool) where
           nodes_are = refl;
           brands_are = refl;
           enums_are = refl;
-          is = record {
+          is = λ earlier held. record {
             node = b.node;
             part = h.part;
             members = h.members;
@@ -210,7 +244,7 @@ module _ (nodes : List SchemaNode) (strict : Bool) where
             struct = h.struct;
             listed = h.listed;
             id = h.is_id;
-            name = subst (λ (x : List ℕ). IsEntryName m.nodes b.node e.bound e.place x) (sym h.is_name) begun.name;
+            name = subst (λ (x : List ℕ). IsEntryName nodes earlier m.nodes b.node e e.place x) (sym h.is_name) (begun.name earlier held);
             annotations = h.annotations;
             data_words = h.data_words;
             pointers = h.pointers;
@@ -220,6 +254,7 @@ module _ (nodes : List SchemaNode) (strict : Bool) where
             brand = h.brand;
             fields = h.fields;
           };
+          held = λ earlier held. held_more nodes m.holders b.holders earlier b.node e begun.first e.place refl begun.holders held;
         }))
 
     without_parent : (r : Result (Made × Named) ErrorKind) → IfDone (λ (after : Made) t. Done Kept s t (λ z. IsAdded nodes strict m after e z)) r → IsStep s m r

@@ -1,5 +1,5 @@
 -- Worked rows: a small request, the set that it is converted to, and what sets don't say of it.
-use Rattle.std.proofs.Common.{ℕ, ◌≡◌, ap, arith, List, [], ◌∷◌, Bool, true, false, codes, refl, slice_get, Option, Some, None, Ok, Err, inl, map}
+use Rattle.std.proofs.Common.{ℕ, ◌≡◌, ap, arith, List, [], ◌∷◌, Bool, true, false, codes, refl, slice_get, Option, Some, None, Ok, Err, inl, map, sym, length, ◌∙◌}
 use Rattle.std.specs.Str.{chars, is_utf8}
 use lib.Utf8.{encode}
 use Rattle.capnp_schema.specs.Schema.{Brand, Enum, Field, Group, Node, Schemas, Slot, VoidValue}
@@ -8,8 +8,10 @@ use Rattle.capnp_request.specs.Conversion.{Note}
 use Rattle.capnp_request.specs.Order.{conversion_of}
 use Rattle.capnp_request.specs.Terms.{Binds, EnumNode, EnumTerm, EnumerantTerm, FieldKindTerm, FieldTerm, Float64, GroupTerm, ListTerm, MemberTerm, MoreBindings, MoreScopes, NoBindings, NoScopes, NodeKind, OtherNode, RequestTerm, Said, SchemaNode, SlotTerm, Stands, StructNode, StructPart, StructTerm, TypeTerm}
 use Rattle.capnp_request.specs.Work.{Entry, GroupOf, Place, Whole}
-use Rattle.capnp_request_meaning.specs.Meaning.{AreEntries, AreEnumsOf, AreNodesFrom, EachSaid, IsBoundBy, IsEnumerantOf, IsFieldOf, IsFound, IsKindOf, IsSetOf, IsTypeOf, NestedIn, Numbers, OfFile, numbers_in}
+use Rattle.capnp_request_meaning.specs.Meaning.{AreEntries, AreEnumsOf, AreNodesFrom, EachSaid, IsBoundBy, IsEnumerantOf, IsFieldOf, IsFound, IsKindOf, IsSetOf, IsTypeOf, NestedIn, Numbers, OfFile, numbers_in, IsNameOf}
 use Rattle.capnp_request_meaning.proofs.SetsMeant.{set_meant}
+use Rattle.capnp_request.specs.Names.{dotted_of}
+use Rattle.capnp_request_meaning.proofs.NamesMeant.{said_same}
 
 -- ---- a request: a struct with a slot, a group and a slot of an enum's type ----
 
@@ -103,7 +105,10 @@ row_enum_type = (EnumType 0, refl, (0, refl, refl))
 row_enums : AreEnumsOf row_numbers row_set.enums
 row_enums = (record { node = enum_node; display = codes "x.capnp:E"; members = Ok (enumerant (codes "p") ∷ enumerant (codes "q") ∷ []); first = refl; enumeration = refl; said = refl; name = refl; annotations = tt; enumerants = (record { name = refl; annotations = tt }, (record { name = refl; annotations = tt }, tt)) }, tt)
 
-row_nodes : AreNodesFrom row_numbers [] row_entries row_set.nodes row_set.brands
+no_entry_at : (i : ℕ) (e : Entry) → slice_get [] i ≡ Some e → ⊥
+no_entry_at i e h = cc
+
+row_nodes : AreNodesFrom row_numbers [] [] row_entries row_set.nodes row_set.brands
 row_nodes = (
   record {
     node = first_node;
@@ -113,7 +118,7 @@ row_nodes = (
     struct = refl;
     listed = refl;
     id = refl;
-    name = λ u. record { display = codes "x.capnp:A"; said = refl; is = inl refl };
+    name = λ u. record { display = codes "x.capnp:A"; said = refl; is = inl refl; taken = λ t. absurd (no_entry_at t.number t.entry t.numbered) };
     annotations = tt;
     data_words = refl;
     pointers = refl;
@@ -202,10 +207,6 @@ row_missing h =
     let found : IsFound (record { nodes = []; brands = []; enums = [] }) 2 first_node = h.roots 2 first_node (struct_part false 2 first_fields) (NestedIn 1 file_node (2 ∷ 5 ∷ []) 2 (OfFile (1 ∷ []) 1 refl refl) refl refl refl) refl refl refl in
     nothing_at found.number found.node found.numbered
 
--- ---- names ----
-
--- Entries of different nodes may have one name: where nodes have one display name, and where a struct is named as a type
--- that needs no node.
 abbrev twins : RequestTerm
 twins = record {
   nodes =
@@ -214,6 +215,19 @@ twins = record {
   files = Ok (1 ∷ []);
 }
 
+-- a name that an earlier entry of another node has stays without its file
+row_taken : IsNameOf twins.nodes (record { node = 2; bound = []; place = Whole } ∷ []) 3 (node 3 (codes "x.capnp:A") 1 [] (StructNode (struct_part false 0 []))) (codes "A") → ⊥
+row_taken h =
+    let shown : h.display ≡ codes "x.capnp:A" = sym (said_same (codes "x.capnp:A") h.display h.said) in
+    let dotted : codes "A" ≡ dotted_of h.display = ap dotted_of (sym shown) in
+    let whole : codes "A" ≡ h.display = h.taken (record { number = 0; entry = record { node = 2; bound = []; place = Whole }; node = node 2 (codes "x.capnp:A") 1 [] (StructNode (struct_part false 0 [])); display = codes "x.capnp:A"; numbered = refl; whole = refl; other = refl; first = refl; said = refl; same = dotted }) in
+    let e : 1 ≡ 9 = ap length (whole ∙ shown) in
+    absurd (omega (arith, e))
+
+-- ---- names ----
+
+-- Entries of different nodes may have one name: where nodes have one display name, and where a struct is named as a type
+-- that needs no node.
 abbrev names_in : Said (Schemas × List Note) → Said (List (List ℕ))
 names_in (Ok p) = Ok (map (λ (n : Node). n.display_name) p.0.nodes)
 names_in (Err kind) = Err kind

@@ -1,6 +1,6 @@
 -- A whole set is that of its request.
-use Rattle.std.proofs.Common.{ℕ, zero, suc, ◌+◌, ◌≡◌, ◌∙◌, ap, not, refl, subst, sym, Bool, true, false, List, [], ◌∷◌, ◌++◌, length, slice_get, Option, Some, Result, Ok, Err}
-use Rattle.std.proofs.lemmas.List.{append-nil, length-map}
+use Rattle.std.proofs.Common.{ℕ, zero, suc, ◌+◌, ◌≡◌, ◌∙◌, ap, not, refl, subst, sym, Bool, true, false, List, [], ◌∷◌, ◌++◌, length, slice_get, Option, Some, Result, Ok, Err, append_assoc, arith}
+use Rattle.std.proofs.lemmas.List.{append-nil, length-map, length-append}
 use Rattle.capnp_device.specs.declared.error.ErrorKind.{ErrorKind}
 use Rattle.capnp_schema.specs.Schema.{Brand, Enum, Node, Schemas}
 use Rattle.capnp_request.specs.Conversion.{Note}
@@ -20,20 +20,36 @@ use Rattle.capnp_request_meaning.proofs.Works.{Done, Grows, IfDone}
 
 -- ---- the node of an entry ----
 
-record NodeAt (k : Numbers) (e : Entry) (ns : List Node) (i : ℕ) : Type 0 where
-  before : List Node
-  node : Node
-  brand : Brand
-  there : slice_get ns i ≡ Some node
-  is : IsNodeOf k before e node brand
+-- with the entries before it
+pub record NodeAt (k : Numbers) (all : List Entry) (e : Entry) (ns : List Node) (i : ℕ) : Type 0 where
+  pub earlier : List Entry
+  pub rest : List Entry
+  pub before : List Node
+  pub node : Node
+  pub brand : Brand
+  pub there : slice_get ns i ≡ Some node
+  pub are : all ≡ earlier ++ rest
+  pub count : length earlier ≡ i
+  pub is : IsNodeOf k earlier before e node brand
 
-node_of_entry : (k : Numbers) (before : List Node) (es : List Entry) (ns : List Node) (bs : List Brand) (i : ℕ) (e : Entry) → AreNodesFrom k before es ns bs → slice_get es i ≡ Some e → NodeAt k e ns i
-node_of_entry k before [] [] [] i e h at_i = absurd (cc)
-node_of_entry k before (x ∷ es) (n ∷ ns) (b ∷ bs) zero e h at_i = let same : x ≡ e = same_some at_i in record { before = before; node = n; brand = b; there = refl; is = subst (λ y. IsNodeOf k before y n b) same h.0 }
-node_of_entry k before (x ∷ es) (n ∷ ns) (b ∷ bs) (suc i) e h at_i =
-    let rest : NodeAt k e ns i = node_of_entry k (before ++ n ∷ []) es ns bs i e h.1 at_i in
-    record { before = rest.before; node = rest.node; brand = rest.brand; there = rest.there; is = rest.is }
-node_of_entry k before es ns bs i e h at_i = absurd h
+node_from : (k : Numbers) (all earlier : List Entry) (before : List Node) (es : List Entry) (ns : List Node) (bs : List Brand) (i j : ℕ) (e : Entry) → AreNodesFrom k earlier before es ns bs → slice_get es i ≡ Some e → all ≡ earlier ++ es → j ≡ length earlier + i → (ms : List Node) → ((l : ℕ) → slice_get ns l ≡ slice_get ms (length earlier + l)) → NodeAt k all e ms j
+node_from k all earlier before [] [] [] i j e h at_i are count ms sits = absurd (cc)
+node_from k all earlier before (x ∷ es) (n ∷ ns) (b ∷ bs) zero j e h at_i are count ms sits =
+    let same : x ≡ e = same_some at_i in
+    let here : j ≡ length earlier + 0 = count in
+    let whole : length earlier ≡ j = omega (arith, count) in
+    record { earlier = earlier; rest = x ∷ es; before = before; node = n; brand = b; there = ap (λ l. slice_get ms l) here ∙ sym (sits 0); are = are; count = whole; is = subst (λ y. IsNodeOf k earlier before y n b) same h.0 }
+node_from k all earlier before (x ∷ es) (n ∷ ns) (b ∷ bs) (suc i) j e h at_i are count ms sits =
+    let longer : length (earlier ++ x ∷ []) ≡ length earlier + 1 = length-append earlier (x ∷ []) in
+    let next : j ≡ length (earlier ++ x ∷ []) + i = omega (arith, count, longer) in
+    node_from k all (earlier ++ x ∷ []) (before ++ n ∷ []) es ns bs i j e h.1 at_i (are ∙ sym (append_assoc earlier (x ∷ []) es)) next ms
+    (λ l. let e : length earlier + suc l ≡ length (earlier ++ x ∷ []) + l = omega (arith, longer) in sits (suc l) ∙ ap (λ q. slice_get ms q) e)
+node_from k all earlier before es ns bs i j e h at_i are count ms sits = absurd h
+
+pub node_of_entry : (k : Numbers) (es : List Entry) (ns : List Node) (bs : List Brand) (i : ℕ) (e : Entry) → AreNodesFrom k [] [] es ns bs → slice_get es i ≡ Some e → NodeAt k es e ns i
+node_of_entry k es ns bs i e h at_i =
+    let start : i ≡ 0 + i = omega arith in
+    node_from k es [] [] es ns bs i i e h at_i refl start ns (λ l. let e : l ≡ 0 + l = omega arith in ap (λ q. slice_get ns q) e)
 
 same_node : (o : Option SchemaNode) (m n : SchemaNode) → o ≡ Some m → o ≡ Some n → m ≡ n
 same_node o m n e f = let h : ◌≡◌ {A = Option SchemaNode} (Some m) (Some n) = sym e ∙ f in cc
@@ -41,18 +57,21 @@ same_node o m n e f = let h : ◌≡◌ {A = Option SchemaNode} (Some m) (Some n
 root_of : (k : NodeKind) (part : StructPart) → k ≡ StructNode part → part.is_group ≡ false → is_root k ≡ true
 root_of k part e g = ap is_root e ∙ ap not g
 
-found_of : (r : RequestTerm) (k : Numbers) → k.nodes ≡ r.nodes → (entries : List Entry) (set : Schemas) → AreNodesFrom k [] entries set.nodes set.brands → AreRooted r entries
+found_of : (r : RequestTerm) (k : Numbers) → k.nodes ≡ r.nodes → (entries : List Entry) (set : Schemas) → AreNodesFrom k [] [] entries set.nodes set.brands → AreRooted r entries
     → (id : ℕ) (n : SchemaNode) (part : StructPart) → IsListed r id → node_named r.nodes id ≡ Some n → n.kind ≡ StructNode part → part.is_group ≡ false → IsFound set id n
 found_of r k same_list entries set meant rooted id n part listed first struct group =
     let root : HasRoot entries id = rooted id n listed first (root_of n.kind part struct group) in
-    let node : NodeAt k root.entry set.nodes root.number = node_of_entry k [] entries set.nodes set.brands root.number root.entry meant root.numbered in
+    let node : NodeAt k entries root.entry set.nodes root.number = node_of_entry k entries set.nodes set.brands root.number root.entry meant root.numbered in
     let same : node.is.node ≡ n = same_node (node_named k.nodes root.entry.node) node.is.node n node.is.first (ap (λ i. node_named k.nodes i) root.node ∙ (ap (λ ns. node_named ns id) same_list ∙ first)) in
+    let named : IsNameOf k.nodes node.earlier root.entry.node node.is.node node.node.display_name = subst (λ p. IsEntryName k.nodes node.earlier node.before node.is.node root.entry p node.node.display_name) root.whole node.is.name root.unbound in
     record {
       number = root.number;
       node = node.node;
+      display = named.display;
       numbered = node.there;
       same_id = node.is.id ∙ root.node;
-      name = subst (λ m. IsNameOf m node.node.display_name) same (subst (λ p. IsEntryName node.before node.is.node root.entry.bound p node.node.display_name) root.whole node.is.name root.unbound);
+      said = ap (λ (m : SchemaNode). m.display_name) (sym same) ∙ named.said;
+      name = named.is;
     }
 
 -- ---- the set ----
@@ -63,17 +82,17 @@ numbers_by nodes strict entries enums = record { nodes = nodes; strict = strict;
 module _ (r : RequestTerm) (strict : Bool) where
   set_of_made : (s t : Named) (m : Made) → Ends r.nodes strict s nothing_made m t → Stay r.nodes s.entries → AreRooted r t.entries → IsSetOf r strict (schemas_made m)
   set_of_made s t m ends stay rooted =
-      let none : AreMade r.nodes strict nothing_made t = record { done = []; rest = t.entries; more = t.enums; entries_are = refl; enums_are = refl; meant = tt; enumerated = tt } in
+      let none : AreMade r.nodes strict nothing_made t = record { done = []; rest = t.entries; more = t.enums; entries_are = refl; enums_are = refl; held = λ n e node display there whole first said. absurd (cc); meant = tt; enumerated = tt } in
       let made : AreMade r.nodes strict m t = ends.made none in
       let kept : Stay r.nodes t.entries = ends.kept stay in
-      let count : length made.done ≡ length m.nodes = nodes_counted (numbers r.nodes strict t) [] made.done m.nodes m.brands made.meant in
+      let count : length made.done ≡ length m.nodes = nodes_counted (numbers r.nodes strict t) [] [] made.done m.nodes m.brands made.meant in
       let no_rest : made.rest ≡ [] = none_left made.done made.rest (ap (λ i. slice_get (made.done ++ made.rest) i) count ∙ (ap (λ xs. slice_get xs (length m.nodes)) (sym made.entries_are) ∙ ends.no_entry)) in
       let enum_count : length (enum_ids m.enums) ≡ length m.enums = length-map m.enums (λ (e : Enum). e.id) in
       let no_more : made.more ≡ [] = none_left (enum_ids m.enums) made.more (ap (λ i. slice_get (enum_ids m.enums ++ made.more) i) enum_count ∙ (ap (λ xs. slice_get xs (length m.enums)) (sym made.enums_are) ∙ ends.no_enum)) in
       let entries : t.entries ≡ made.done = made.entries_are ∙ (ap (λ xs. made.done ++ xs) no_rest ∙ append-nil made.done) in
       let enums : t.enums ≡ enum_ids m.enums = made.enums_are ∙ (ap (λ xs. enum_ids m.enums ++ xs) no_more ∙ append-nil (enum_ids m.enums)) in
-      let meant : AreNodesFrom (numbers_by r.nodes strict t.entries (enum_ids m.enums)) [] t.entries m.nodes m.brands =
-      subst (λ ids. AreNodesFrom (numbers_by r.nodes strict t.entries ids) [] t.entries m.nodes m.brands) enums (subst (λ es. AreNodesFrom (numbers r.nodes strict t) [] es m.nodes m.brands) (sym entries) made.meant) in
+      let meant : AreNodesFrom (numbers_by r.nodes strict t.entries (enum_ids m.enums)) [] [] t.entries m.nodes m.brands =
+      subst (λ ids. AreNodesFrom (numbers_by r.nodes strict t.entries ids) [] [] t.entries m.nodes m.brands) enums (subst (λ es. AreNodesFrom (numbers r.nodes strict t) [] [] es m.nodes m.brands) (sym entries) made.meant) in
       record {
         entries = t.entries;
         bound = kept.entries t.entries [] (sym (append-nil t.entries));

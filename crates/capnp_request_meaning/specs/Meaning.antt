@@ -155,11 +155,25 @@ AreFieldsFrom k inside n i fs gs us ts = ⊥
 
 -- ---- nodes ----
 
--- a node's display name, or what stands behind its last colon
-pub record IsNameOf (n : SchemaNode) (name : List ℕ) : Type 0 where
+-- an earlier entry, of another node, has what stands behind the last colon of its display name
+pub record IsTaken (nodes : List SchemaNode) (earlier : List Entry) (id : ℕ) (dotted : List ℕ) : Type 0 where
+  pub number : ℕ
+  pub entry : Entry
+  pub node : SchemaNode
+  pub display : List ℕ
+  pub numbered : slice_get earlier number ≡ Some entry
+  pub whole : entry.place ≡ Whole
+  pub other : (entry.node == id) ≡ false
+  pub first : node_named nodes entry.node ≡ Some node
+  pub said : node.display_name ≡ Ok display
+  pub same : dotted_of display ≡ dotted
+
+-- a node's display name, or what stands behind its last colon where no earlier entry of another node has that
+pub record IsNameOf (nodes : List SchemaNode) (earlier : List Entry) (id : ℕ) (n : SchemaNode) (name : List ℕ) : Type 0 where
   pub display : List ℕ
   pub said : n.display_name ≡ Ok display
   pub is : (name ≡ dotted_of display) ⊎ (name ≡ display)
+  pub taken : IsTaken nodes earlier id (dotted_of display) → name ≡ display
 
 -- the name of the group that field i of node p names: its parent's, a dot, and the field's
 pub record IsGroupName (before : List Node) (p i : ℕ) (name : List ℕ) : Type 0 where
@@ -170,12 +184,12 @@ pub record IsGroupName (before : List Node) (p i : ℕ) (name : List ℕ) : Type
   pub is : name ≡ parent.display_name ++ 46 ∷ field
 
 -- where nothing is bound, the name is that of the schema node
-abbrev pub IsEntryName : List Node → SchemaNode → List Bound → Place → List ℕ → Type 0
-IsEntryName before node bound Whole name = AreUnbound bound → IsNameOf node name
-IsEntryName before node bound (GroupOf p i) name = IsGroupName before p i name
+abbrev pub IsEntryName : List SchemaNode → (earlier : List Entry) → (before : List Node) → SchemaNode → Entry → Place → List ℕ → Type 0
+IsEntryName nodes earlier before node e Whole name = AreUnbound e.bound → IsNameOf nodes earlier e.node node name
+IsEntryName nodes earlier before node e (GroupOf p i) name = IsGroupName before p i name
 
--- The node and the brand of an entry, behind the nodes before it, have what its schema node has.
-pub record IsNodeOf (k : Numbers) (before : List Node) (e : Entry) (n : Node) (b : Brand) : Type 0 where
+-- The node and the brand of an entry, behind the entries and nodes before it, have what its schema node has.
+pub record IsNodeOf (k : Numbers) (earlier : List Entry) (before : List Node) (e : Entry) (n : Node) (b : Brand) : Type 0 where
   pub node : SchemaNode
   pub part : StructPart
   pub members : List (Said FieldTerm)
@@ -183,7 +197,7 @@ pub record IsNodeOf (k : Numbers) (before : List Node) (e : Entry) (n : Node) (b
   pub struct : node.kind ≡ StructNode part
   pub listed : part.fields ≡ Ok members
   pub id : n.id ≡ e.node
-  pub name : IsEntryName before node e.bound e.place n.display_name
+  pub name : IsEntryName k.nodes earlier before node e e.place n.display_name
   pub annotations : IsSaidList (IsAnnotationOf k e.bound) node.annotations n.annotations b.annotation_types.own
   pub data_words : n.data_word_count ≡ part.data_words
   pub pointers : n.pointer_count ≡ part.pointers
@@ -194,10 +208,10 @@ pub record IsNodeOf (k : Numbers) (before : List Node) (e : Entry) (n : Node) (b
   pub fields : AreFieldsFrom k e.bound (length before) 0 members n.fields b.field_types b.annotation_types.children
 
 -- entry after entry
-abbrev pub AreNodesFrom : Numbers → (before : List Node) → List Entry → List Node → List Brand → Type 0
-AreNodesFrom k before [] [] [] = Unit {0}
-AreNodesFrom k before (e ∷ es) (n ∷ ns) (b ∷ bs) = IsNodeOf k before e n b × AreNodesFrom k (before ++ n ∷ []) es ns bs
-AreNodesFrom k before es ns bs = ⊥
+abbrev pub AreNodesFrom : Numbers → (earlier : List Entry) → (before : List Node) → List Entry → List Node → List Brand → Type 0
+AreNodesFrom k earlier before [] [] [] = Unit {0}
+AreNodesFrom k earlier before (e ∷ es) (n ∷ ns) (b ∷ bs) = IsNodeOf k earlier before e n b × AreNodesFrom k (earlier ++ e ∷ []) (before ++ n ∷ []) es ns bs
+AreNodesFrom k earlier before es ns bs = ⊥
 
 -- ---- enums ----
 
@@ -228,13 +242,15 @@ pub data IsListed (r : RequestTerm) : ℕ → Type 0 where
   OfFile : (ids : List ℕ) (id : ℕ) → r.files ≡ Ok ids → is_met ids id ≡ true → IsListed r id
   NestedIn : (outer : ℕ) (n : SchemaNode) (ids : List ℕ) (id : ℕ) → IsListed r outer → node_named r.nodes outer ≡ Some n → n.nested ≡ Ok ids → is_met ids id ≡ true → IsListed r id
 
--- the set has a node of an id by the name of its schema node
+-- the set has a node of an id by the display name of its schema node, or by what stands behind that name's last colon
 pub record IsFound (set : Schemas) (id : ℕ) (n : SchemaNode) : Type 0 where
   pub number : ℕ
   pub node : Node
+  pub display : List ℕ
   pub numbered : slice_get set.nodes number ≡ Some node
   pub same_id : node.id ≡ id
-  pub name : IsNameOf n node.display_name
+  pub said : n.display_name ≡ Ok display
+  pub name : (node.display_name ≡ dotted_of display) ⊎ (node.display_name ≡ display)
 
 -- ---- the set ----
 
@@ -247,6 +263,6 @@ pub record IsSetOf (r : RequestTerm) (strict : Bool) (set : Schemas) : Type 0 wh
   pub entries : List Entry
   pub bound : AreEntries r.nodes entries entries
   pub distinct : AreDistinct entries
-  pub nodes : AreNodesFrom (numbers_in r strict entries set) [] entries set.nodes set.brands
+  pub nodes : AreNodesFrom (numbers_in r strict entries set) [] [] entries set.nodes set.brands
   pub enums : AreEnumsOf (numbers_in r strict entries set) set.enums
   pub roots : (id : ℕ) (n : SchemaNode) (part : StructPart) → IsListed r id → node_named r.nodes id ≡ Some n → n.kind ≡ StructNode part → part.is_group ≡ false → IsFound set id n

@@ -1,5 +1,5 @@
 //! What holds of each conversion.
-ghost use Rattle.capnp_request_meaning.specs.Laws.{SetMeansItsRecord, SetMeansItsRequest};
+ghost use Rattle.capnp_request_meaning.specs.Laws.{SetMeansItsRecord, SetMeansItsRequest, UnboundNamesDiffer};
 
 /// The set that a request is converted to says of the request what `IsSetOf` says: each entry is a struct node of the
 /// request with bindings, or the group that a field names, and has what its node has. The second clause says so of a
@@ -7,4 +7,10 @@ ghost use Rattle.capnp_request_meaning.specs.Laws.{SetMeansItsRecord, SetMeansIt
 pub fn set_means_its_request()
     ensures terms { SetMeansItsRequest }
     ensures records { SetMeansItsRecord }
+{}
+
+/// Where each node of a request has a display name of its own, entries with nothing bound that are no groups have names of
+/// their own. Bound ones need not: a struct may be named as a type that needs no node.
+pub fn unbound_names_differ()
+    ensures { UnboundNamesDiffer }
 {}
