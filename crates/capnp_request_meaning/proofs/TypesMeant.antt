@@ -7,13 +7,17 @@ use Rattle.capnp_request.specs.Scopes.{bound_types, node_named, scopes_of}
 use Rattle.capnp_request.specs.Terms.{Binds, BindingTerms, BrandTerm, EnumTerm, Float32, Float64, Inherits, Interface, ListTerm, MemberTerm, MoreBindings, MoreScopes, NoBindings, NoScopes, Parameter, SchemaNode, ScopeTerm, StructTerm, TypeTerm, UnreadBrand, UnreadScope, UnreadType}
 use Rattle.capnp_request.specs.Types.{bind_scope, binding_types, bound_to, brand_types, float32, float64, interface, is_of_kind, is_struct_kind, listed_type, lists_in, named_scopes, number_enum, number_struct, scope_types, type_of, without_untyped}
 use Rattle.capnp_request.specs.Work.{Bound, Entry, Named, Work, each, where_else, work_of, ◌>>=◌}
-use Rattle.capnp_request_meaning.specs.Meaning.{AreTypesOf, EachBound, IsBoundBy, IsBoundSo, IsTypeOf, Numbers, binding, without_types}
+use Rattle.capnp_request_meaning.specs.Meaning.{AreTypesOf, EachBound, IsBoundBy, IsBoundSo, IsTypeOf, Numbers, without_types}
 use Rattle.capnp_request_meaning.proofs.EntriesKept.{IsNumbered, KeepsWhole, enum_numbered, struct_numbered}
 use Rattle.capnp_request_meaning.proofs.ScopesKept.{scopes_without}
 use Rattle.capnp_request_meaning.proofs.Works.{Done, IfDone, IsWork, bind, bind_with, done_where, nothing_new, of_work, said_bind, stays, weaken, weaker}
 
 abbrev pub numbers : List SchemaNode → Bool → Named → Numbers
 numbers nodes strict z = record { nodes = nodes; strict = strict; entries = z.entries; enums = z.enums }
+
+-- a scope with the types that are bound to its first parameters
+abbrev pub binding : Bound → List SchemaType → Bound
+binding b ts = record b { types = ts }
 
 -- the scopes of a node, with what a brand binds there
 abbrev pub AreNamedScopes : List SchemaNode → Bool → (inside : List Bound) → ℕ → BrandTerm → List Bound → Named → Type 0

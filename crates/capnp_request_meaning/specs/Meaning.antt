@@ -81,10 +81,6 @@ abbrev pub EachBound : (Bound → Type 0) → List Bound → Type 0
 EachBound P [] = Unit {0}
 EachBound P (b ∷ bs) = P b × EachBound P bs
 
--- a scope with the types that are bound to its first parameters
-abbrev pub binding : Bound → List SchemaType → Bound
-binding b ts = record b { types = ts }
-
 -- The type of a term inside an entry; what a brand binds to the parameters of a scope, where its first scope of that id
 -- counts; and bindings in a row. Floats and interfaces have stand-ins, and none is taken where that is refused.
 abbrev mutual
