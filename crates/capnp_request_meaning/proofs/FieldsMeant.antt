@@ -26,10 +26,10 @@ KeepsGroups K inside n members = (es : List Entry) (i id : ℕ) (f : FieldTerm) 
 abbrev pub AreMembersFrom : List (Said FieldTerm) → ℕ → List (Said FieldTerm) → Type 0
 AreMembersFrom members i fs = (j : ℕ) (x : Said FieldTerm) → slice_get fs j ≡ Some x → slice_get members (i + j) ≡ Some x
 
-first_member : (members : List (Said FieldTerm)) (i : ℕ) (x : Said FieldTerm) (fs : List (Said FieldTerm)) → AreMembersFrom members i (x ∷ fs) → slice_get members i ≡ Some x
+pub first_member : (members : List (Said FieldTerm)) (i : ℕ) (x : Said FieldTerm) (fs : List (Said FieldTerm)) → AreMembersFrom members i (x ∷ fs) → slice_get members i ≡ Some x
 first_member members i x fs h = let e : i ≡ i + 0 = omega arith in ap (λ k. slice_get members k) e ∙ h 0 x refl
 
-other_members : (members : List (Said FieldTerm)) (i : ℕ) (x : Said FieldTerm) (fs : List (Said FieldTerm)) → AreMembersFrom members i (x ∷ fs) → AreMembersFrom members (i + 1) fs
+pub other_members : (members : List (Said FieldTerm)) (i : ℕ) (x : Said FieldTerm) (fs : List (Said FieldTerm)) → AreMembersFrom members i (x ∷ fs) → AreMembersFrom members (i + 1) fs
 other_members members i x fs h j y there = let e : (i + 1) + j ≡ i + suc j = omega arith in ap (λ k. slice_get members k) e ∙ h (suc j) y there
 
 module _ (K : List Entry → Type 0) (nodes : List SchemaNode) (whole : KeepsWhole K nodes) (strict : Bool) (inside : List Bound) (n : ℕ) (members : List (Said FieldTerm)) (groups : KeepsGroups K inside n members) where

@@ -1,5 +1,5 @@
 -- Elements of lists that grow, by their numbers.
-use Rattle.std.proofs.Common.{ℕ, zero, suc, ◌≡◌, ap, refl, List, [], ◌∷◌, ◌++◌, length, slice_get, Some, None}
+use Rattle.std.proofs.Common.{ℕ, zero, suc, ◌≡◌, ap, refl, List, [], ◌∷◌, ◌++◌, length, slice_get, Some, None, ◌<◌, arith}
 
 pub same_some : {A : Type 0} {x y : A} → Some x ≡ Some y → x ≡ y
 same_some e = cc
@@ -34,3 +34,9 @@ pub none_left : {A : Type 0} (done rest : List A) → slice_get (done ++ rest) (
 none_left [] [] e = refl
 none_left [] (y ∷ rest) e = absurd (cc)
 none_left (z ∷ done) rest e = none_left done rest e
+
+-- what stands among the first ones
+pub among_first : {A : Type 0} (xs ys : List A) (i : ℕ) (x : A) → i < length xs → slice_get (xs ++ ys) i ≡ Some x → slice_get xs i ≡ Some x
+among_first [] ys i x less h = absurd (omega (arith, less))
+among_first (z ∷ xs) ys zero x less h = h
+among_first (z ∷ xs) ys (suc i) x less h = among_first xs ys i x (omega (arith, less)) h

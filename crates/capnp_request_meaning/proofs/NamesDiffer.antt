@@ -1,5 +1,5 @@
 -- Entries with nothing bound differ in their names, where the nodes of a request do.
-use Rattle.std.proofs.Common.{ℕ, zero, suc, ◌<◌, ◌≡◌, ◌∙◌, ◌⊎◌, ◌==◌, ap, arith, inl, inr, refl, subst, sym, Bool, true, false, List, [], ◌∷◌, ◌++◌, length, map, slice_get, Some, Ok}
+use Rattle.std.proofs.Common.{ℕ, zero, suc, ◌<◌, ◌≡◌, ◌∙◌, ◌⊎◌, ◌==◌, ap, arith, inl, inr, refl, subst, sym, Bool, true, false, List, [], ◌∷◌, length, map, slice_get, Some, Ok}
 use Rattle.std.proofs.lemmas.Bool.{and_from, cases_order, eq-eqb, eqb-true, true≢false}
 use Rattle.capnp_schema.specs.Schema.{Node, Schemas}
 use Rattle.capnp_request.specs.Names.{dotted_of, has_colon}
@@ -10,7 +10,7 @@ use Rattle.capnp_request.specs.Work.{Bound, Entry, Whole}
 use Rattle.capnp_request_meaning.specs.Laws.{HasOwnNames, IsUnboundAt, UnboundNamesDiffer}
 use Rattle.capnp_request_meaning.specs.Meaning.{AreEntries, AreUnbound, IsEntryAt, IsEntryName, IsNameOf, IsSetOf, IsTaken, Numbers, numbers_in, without_types}
 use Rattle.capnp_request_meaning.proofs.EntriesKept.{same_bound_itself}
-use Rattle.capnp_request_meaning.proofs.ListsFound.{same_some}
+use Rattle.capnp_request_meaning.proofs.ListsFound.{same_some, among_first}
 use Rattle.capnp_request_meaning.proofs.ScopesKept.{same_without}
 use Rattle.capnp_request_meaning.proofs.SetsMeant.{NodeAt, node_of_entry}
 
@@ -25,11 +25,6 @@ no_colon (x ∷ xs) = go (has_colon (x ∷ xs)) refl (no_colon xs)
 
 not_dotted : (xs ys : List ℕ) → has_colon xs ≡ true → xs ≡ dotted_of ys → ⊥
 not_dotted xs ys h e = true≢false (sym h ∙ (ap has_colon e ∙ no_colon ys))
-
-among_first : (xs ys : List Entry) (i : ℕ) (e : Entry) → i < length xs → slice_get (xs ++ ys) i ≡ Some e → slice_get xs i ≡ Some e
-among_first [] ys i e less h = absurd (omega (arith, less))
-among_first (x ∷ xs) ys zero e less h = h
-among_first (x ∷ xs) ys (suc i) e less h = among_first xs ys i e (omega (arith, less)) h
 
 entry_at : (nodes : List SchemaNode) (entries es : List Entry) (i : ℕ) (e : Entry) → AreEntries nodes entries es → slice_get es i ≡ Some e → IsEntryAt nodes entries e e.place
 entry_at nodes entries [] i e h there = absurd (cc)

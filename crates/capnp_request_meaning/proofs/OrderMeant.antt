@@ -34,7 +34,7 @@ stay_more nodes es e k is all more eq = entries_more nodes all es e (k all (e �
 
 -- ---- no two are the same ----
 
-before_or_last : {A : Type 0} (xs : List A) (x : A) (j : ℕ) (y : A) → slice_get (xs ++ x ∷ []) j ≡ Some y → (slice_get xs j ≡ Some y) ⊎ ((j ≡ length xs) × (x ≡ y))
+pub before_or_last : {A : Type 0} (xs : List A) (x : A) (j : ℕ) (y : A) → slice_get (xs ++ x ∷ []) j ≡ Some y → (slice_get xs j ≡ Some y) ⊎ ((j ≡ length xs) × (x ≡ y))
 before_or_last [] x zero y h = inr (refl, same_some h)
 before_or_last [] x (suc j) y h = absurd (cc)
 before_or_last (z ∷ xs) x zero y h = inl h
@@ -219,7 +219,7 @@ module _ (nodes : List SchemaNode) (strict : Bool) where
 
   -- ---- one step ----
 
-  abbrev IsStep : (s : Named) (m : Made) → Result (Made × Named) ErrorKind → Type 0
+  abbrev pub IsStep : (s : Named) (m : Made) → Result (Made × Named) ErrorKind → Type 0
   IsStep s m r = IfDone (λ (after : Made) t. Done (Stay nodes) s t (λ z. AreMade nodes strict m z → AreMade nodes strict after z)) r
 
   module _ (m : Made) (e : Entry) (s : Named) (here : slice_get s.entries (length m.nodes) ≡ Some e) where
@@ -265,7 +265,7 @@ module _ (nodes : List SchemaNode) (strict : Bool) where
       later = λ z g made. entry_made m p.0 e z (entry_still s z (grows_on s p.1 z h.grown g) (length m.nodes) e here) (h.later z g) made;
     }
 
-    struct_step : IsStep s m (make_struct nodes strict m e s)
+    pub struct_step : IsStep s m (make_struct nodes strict m e s)
     struct_step = without_parent (make_struct nodes strict m e s) (said_bind Kept (begin_struct nodes m e s.enums) (add_struct nodes strict m e.node e.bound) (λ after z. IsAdded nodes strict m after e z) (λ b h. struct_added b (struct_begun nodes m e s.enums b h)) s)
 
   module _ (m : Made) (id : ℕ) (s : Named) (here : slice_get s.enums (length m.enums) ≡ Some id) where
@@ -277,7 +277,7 @@ module _ (nodes : List SchemaNode) (strict : Bool) where
       later = λ z g made. enum_made_too m p.0 id z (enum_still s z (grows_on s p.1 z h.grown g) (length m.enums) id here) (h.later z g) made;
     }
 
-    enum_step : IsStep s m (make_enum nodes strict m id s)
+    pub enum_step : IsStep s m (make_enum nodes strict m id s)
     enum_step = as_step (make_enum nodes strict m id s) (enum_added (Stay nodes) nodes (stay_whole nodes) strict m id s)
 
   -- ---- all steps ----

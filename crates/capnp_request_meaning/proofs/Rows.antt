@@ -1,5 +1,5 @@
 -- Worked rows: a small request, the set that it is converted to, and what sets don't say of it.
-use Rattle.std.proofs.Common.{ℕ, ◌≡◌, ap, arith, List, [], ◌∷◌, Bool, true, false, codes, refl, slice_get, Option, Some, None, Ok, Err, inl, map, sym, length, ◌∙◌}
+use Rattle.std.proofs.Common.{ℕ, ◌≡◌, ap, arith, List, [], ◌∷◌, Bool, true, false, codes, refl, slice_get, Option, Some, None, Ok, Err, inl, map, sym, length, ◌∙◌, ◌==◌, subst}
 use Rattle.std.specs.Str.{chars, is_utf8}
 use lib.Utf8.{encode}
 use Rattle.capnp_schema.specs.Schema.{Brand, Enum, Field, Group, Node, Schemas, Slot, VoidValue}
@@ -12,6 +12,10 @@ use Rattle.capnp_request_meaning.specs.Meaning.{AreEntries, AreEnumsOf, AreNodes
 use Rattle.capnp_request_meaning.proofs.SetsMeant.{set_meant}
 use Rattle.capnp_request.specs.Names.{dotted_of}
 use Rattle.capnp_request_meaning.proofs.NamesMeant.{said_same}
+use Rattle.capnp_device.specs.declared.error.ErrorKind.TheVariants.{NodeNotFound}
+use Rattle.capnp_request.specs.Scopes.{node_named, some_where}
+use Rattle.capnp_request_meaning.specs.WellNamed.{EachSaidSo, IsFieldNamed, IsNodeNamed, IsWellNamed}
+use Rattle.capnp_request_meaning.proofs.OrderNamed.{nothing_missing}
 
 -- ---- a request: a struct with a slot, a group and a slot of an enum's type ----
 
@@ -251,3 +255,46 @@ shadowed = record {
 shadowed_named : names_in (conversion_of shadowed false) ≡ Ok (codes "Text" ∷ codes "Box" ∷ codes "U" ∷ codes "Box(Text)" ∷ codes "Box(Text)" ∷ [])
 unfolding is_utf8 chars encode
 shadowed_named = refl
+
+-- ---- ids that are there, and one that isn't ----
+
+abbrev AreNamed : List SchemaNode → List SchemaNode → Type 0
+AreNamed nodes [] = Unit {0}
+AreNamed nodes (n ∷ ns) = IsNodeNamed nodes n × AreNamed nodes ns
+
+all_named : (nodes ns : List SchemaNode) (id : ℕ) (n : SchemaNode) → AreNamed nodes ns → node_named ns id ≡ Some n → IsNodeNamed nodes n
+all_named nodes [] id n h e = absurd (cc)
+all_named nodes (m ∷ ns) id n h e = go (m.id == id) (all_named nodes ns id n h.1) e
+  where
+    go : (q : Bool) → (node_named ns id ≡ Some n → IsNodeNamed nodes n) → some_where q m (node_named ns id) ≡ Some n → IsNodeNamed nodes n
+    go true rest e = let same : m ≡ n = cc in subst (IsNodeNamed nodes) same h.0
+    go false rest e = rest e
+
+row_fields_named : EachSaidSo (IsFieldNamed request.nodes) (map (λ (f : FieldTerm). Ok f) first_fields)
+row_fields_named = (record { name = tt; annotations = tt; kind = (tt, tt) }, (record { name = tt; annotations = tt; kind = refl }, (record { name = tt; annotations = tt; kind = (refl, tt) }, tt)))
+
+row_named : IsWellNamed request
+row_named = record {
+  files = tt;
+  nodes = λ id n e. all_named request.nodes request.nodes id n (
+    record { display_name = tt; nested = tt; parameters = tt; annotations = tt; kind = tt },
+    (
+      record { display_name = tt; nested = tt; parameters = tt; annotations = tt; kind = row_fields_named },
+      (
+        record { display_name = tt; nested = tt; parameters = tt; annotations = tt; kind = (record { name = tt; annotations = tt; kind = (tt, tt) }, tt) },
+        (record { display_name = tt; nested = tt; parameters = tt; annotations = tt; kind = (record { name = tt; annotations = tt }, (record { name = tt; annotations = tt }, tt)) }, tt),
+      ),
+    ),
+  ) e;
+}
+
+abbrev dangling : RequestTerm
+dangling = record { nodes = node 1 (codes "x.capnp") 0 (2 ∷ []) OtherNode ∷ node 2 (codes "x.capnp:A") 1 [] (StructNode (struct_part false 0 (slot (codes "e") 65535 0 (EnumTerm 2) ∷ []))) ∷ []; files = Ok (1 ∷ []) }
+
+-- an enum's id that is a struct's
+dangling_refused : conversion_of dangling false ≡ Err NodeNotFound
+unfolding is_utf8 chars encode
+dangling_refused = refl
+
+row_not_named : IsWellNamed dangling → ⊥
+row_not_named h = nothing_missing dangling false h dangling_refused

@@ -1,5 +1,5 @@
 -- The statements of the laws.
-use Rattle.std.specs.Prelude.{ℕ, ◌≡◌, List, Bool, true, slice_get, Some, Ok}
+use Rattle.std.specs.Prelude.{ℕ, ◌≡◌, List, Bool, true, slice_get, Some, Ok, ◌≢◌, Err}
 use Rattle.capnp_schema.specs.Schema.{Node, Schemas}
 use Rattle.capnp_records.specs.Record.{Record}
 use Rattle.capnp_request.specs.Conversion.{Note}
@@ -10,6 +10,8 @@ use Rattle.capnp_request.specs.Scopes.{node_named}
 use Rattle.capnp_request.specs.Terms.{RequestTerm, SchemaNode}
 use Rattle.capnp_request.specs.Work.{Entry, Whole}
 use Rattle.capnp_request_meaning.specs.Meaning.{AreUnbound, IsSetOf}
+use Rattle.capnp_device.specs.declared.error.ErrorKind.TheVariants.{NodeNotFound}
+use Rattle.capnp_request_meaning.specs.WellNamed.{IsWellNamed}
 
 -- the set that a request is converted to is that of the request
 abbrev pub SetMeansItsRequest : Type 0
@@ -41,3 +43,7 @@ pub record IsUnboundAt (entries : List Entry) (set : Schemas) (i : ℕ) (e : Ent
 abbrev pub UnboundNamesDiffer : Type 0
 UnboundNamesDiffer = (r : RequestTerm) (strict : Bool) (set : Schemas) (is : IsSetOf r strict set) → HasOwnNames r.nodes → (i j : ℕ) (e f : Entry) (n m : Node) →
     IsUnboundAt is.entries set i e n → IsUnboundAt is.entries set j f m → n.display_name ≡ m.display_name → i ≡ j
+
+-- where each id that a request's nodes name is that of a node of its kind, no node is missing
+abbrev pub NothingIsMissing : Type 0
+NothingIsMissing = (r : RequestTerm) (strict : Bool) → IsWellNamed r → conversion_of r strict ≢ Err NodeNotFound
