@@ -1,0 +1,269 @@
+-- The display names of entries and enums.
+use Rattle.std.proofs.Common.{ℕ, ◌+◌, ◌-◌, ◌≡◌, ◌∙◌, ◌⊎◌, ◌==◌, ap, drop, inl, inr, refl, subst, sym, length, map, nat_lt, slice_get, Bool, true, false, List, [], ◌∷◌, ◌++◌, Option, Some, None, Ok, Err, zero, suc, ◌&&◌, bytes_eq, not}
+use Rattle.std.proofs.lemmas.Bool.{eqb-true, and_from, or_left, or_right}
+use Rattle.std.specs.Str.{is_utf8}
+use Rattle.capnp_device.specs.declared.error.ErrorKind.{ErrorKind}
+use Rattle.capnp_device.specs.declared.error.ErrorKind.TheVariants.{NameNotUtf8, TooManyTypes}
+use Rattle.capnp_schema.specs.Schema.{Field, Node}
+use Rattle.capnp_schema.specs.Types.{SchemaType}
+use Rattle.capnp_request.specs.Names.{Holder, bindings_name, bound_name, dotted_name, dotted_of, enum_name, file_of, file_where, finished_name, group_name, has_colon, is_taken, occurrences_of, part_bindings, struct_name}
+use Rattle.capnp_request.specs.Order.{Begun, Made, and_said, begin_enum, begin_struct, enum_names, name_entry, node_there, said_where}
+use Rattle.capnp_request.specs.Scopes.{node_named}
+use Rattle.capnp_request.specs.Terms.{Said, SchemaNode}
+use Rattle.capnp_request.specs.Work.{Bound, Entry, GroupOf, Place, Whole}
+use Rattle.capnp_request_meaning.specs.Meaning.{AreUnbound, IsEntryName, IsGroupName}
+use Rattle.std.proofs.lemmas.Slice.Eq.{bytes_eq-Decides}
+use Rattle.capnp_request_meaning.proofs.ListsFound.{IsAmong, same_some}
+
+-- ---- what is said one after another ----
+
+pub record Chained {A B : Type 0} (d : Said A) (f : A → Said B) (b : B) : Type 0 where
+  pub value : A
+  pub first : d ≡ Ok value
+  pub rest : f value ≡ Ok b
+
+pub chained : {A B : Type 0} (d : Said A) (f : A → Said B) (b : B) → and_said d f ≡ Ok b → Chained d f b
+chained (Ok a) f b e = record { value = a; first = refl; rest = e }
+chained (Err kind) f b e = absurd (cc)
+
+pub said_same : {A : Type 0} (x y : A) → ◌≡◌ {A = Said A} (Ok x) (Ok y) → x ≡ y
+said_same x y e = cc
+
+where_ok : {A : Type 0} (q : Bool) (kind : ErrorKind) (d : Said A) (a : A) → said_where q kind d ≡ Ok a → d ≡ Ok a
+where_ok true kind d a e = e
+where_ok false kind d a e = absurd (cc)
+
+pub there_some : (o : Option SchemaNode) (n : SchemaNode) → node_there o ≡ Ok n → o ≡ Some n
+there_some (Some m) n e = let h : m ≡ n = cc in ap (λ x. Some x) h
+there_some None n e = absurd (cc)
+
+-- ---- finished names ----
+
+pub name_finished : (name out : List ℕ) → finished_name name ≡ Ok out → name ≡ out
+name_finished name out h = go (nat_lt 1024 (length name)) (is_utf8 name) h
+  where
+    go : (q r : Bool) → (elim q as (λ _. Said (List ℕ)) [ true ↦ Err TooManyTypes | false ↦ elim r as (λ _. Said (List ℕ)) [ true ↦ Ok name | false ↦ Err NameNotUtf8 ] ]) ≡ Ok out → name ≡ out
+    go true r e = absurd (cc)
+    go false true e = cc
+    go false false e = absurd (cc)
+
+-- a display name is its file and what stands behind it
+file_dotted : (xs : List ℕ) → file_of xs ++ dotted_of xs ≡ xs
+file_dotted [] = refl
+file_dotted (x ∷ xs) = go (has_colon (x ∷ xs)) (file_dotted xs)
+  where
+    go : (q : Bool) → file_of xs ++ dotted_of xs ≡ xs → (elim q as (λ _. List ℕ) [ true ↦ x ∷ file_of xs | false ↦ [] ]) ++ (elim q as (λ _. List ℕ) [ true ↦ dotted_of xs | false ↦ x ∷ xs ]) ≡ x ∷ xs
+    go true h = ap (λ ys. x ∷ ys) h
+    go false h = refl
+
+-- ---- nothing is bound ----
+
+module _ (structs enums : List (List ℕ)) where
+  nothing_behind : (ts : List SchemaType) (count : ℕ) → ts ≡ [] → bindings_name structs enums ts count ≡ []
+  nothing_behind [] count e = refl
+  nothing_behind (t ∷ ts) count e = absurd (cc)
+
+  no_bindings : (bs : List Bound) (dots k : ℕ) → AreUnbound bs → part_bindings structs enums bs dots k ≡ []
+  no_bindings [] dots k u = refl
+  no_bindings (b ∷ bs) dots k u = go (dots - b.distance == k) (nothing_behind b.types b.parameters u.0) (no_bindings bs dots k u.1)
+    where
+      go : (q : Bool) → bindings_name structs enums b.types b.parameters ≡ [] → part_bindings structs enums bs dots k ≡ []
+          → (elim q as (λ _. List ℕ) [ true ↦ bindings_name structs enums b.types b.parameters ++ part_bindings structs enums bs dots k | false ↦ part_bindings structs enums bs dots k ]) ≡ []
+      go true e f = ap (λ xs. xs ++ part_bindings structs enums bs dots k) e ∙ f
+      go false e f = f
+
+  pub unbound_name : (bs : List Bound) (dots k : ℕ) (name : List ℕ) → AreUnbound bs → bound_name structs enums bs dots k name ≡ name
+  unbound_name bs dots k [] u = no_bindings bs dots k u
+  unbound_name bs dots k (x ∷ xs) u = go (x == 46) refl (unbound_name bs dots (k + 1) xs u) (unbound_name bs dots k xs u)
+    where
+      go : (q : Bool) → (x == 46) ≡ q → bound_name structs enums bs dots (k + 1) xs ≡ xs → bound_name structs enums bs dots k xs ≡ xs
+          → (elim q as (λ _. List ℕ) [ true ↦ part_bindings structs enums bs dots k ++ 46 ∷ bound_name structs enums bs dots (k + 1) xs | false ↦ x ∷ bound_name structs enums bs dots k xs ]) ≡ x ∷ xs
+      go true is e f = ap (λ ys. ys ++ 46 ∷ bound_name structs enums bs dots (k + 1) xs) (no_bindings bs dots k u) ∙ (ap (λ ys. 46 ∷ ys) e ∙ ap (λ y. y ∷ xs) (sym (eqb-true x 46 is)))
+      go false is e f = ap (λ ys. x ∷ ys) f
+
+  abbrev whole_name : List Bound → List ℕ → List ℕ
+  whole_name bound display = bound_name structs enums bound (occurrences_of 46 (dotted_of display)) 0 (dotted_of display)
+
+  name_by : (bound : List Bound) (display name : List ℕ) (q : Bool) → AreUnbound bound → file_where q display ++ whole_name bound display ≡ name → (name ≡ dotted_of display) ⊎ (name ≡ display)
+  name_by bound display name true u h = inr (sym h ∙ (ap (λ xs. file_of display ++ xs) (unbound_name bound (occurrences_of 46 (dotted_of display)) 0 (dotted_of display) u) ∙ file_dotted display))
+  name_by bound display name false u h = inl (sym h ∙ unbound_name bound (occurrences_of 46 (dotted_of display)) 0 (dotted_of display) u)
+
+  taken_by : (bound : List Bound) (display name : List ℕ) (q : Bool) → AreUnbound bound → file_where q display ++ whole_name bound display ≡ name → q ≡ true → name ≡ display
+  taken_by bound display name true u h is = sym h ∙ (ap (λ xs. file_of display ++ xs) (unbound_name bound (occurrences_of 46 (dotted_of display)) 0 (dotted_of display) u) ∙ file_dotted display)
+  taken_by bound display name false u h is = absurd (cc)
+
+  pub struct_taken : (holders : List Holder) (id : ℕ) (bound : List Bound) (display name : List ℕ) → AreUnbound bound → struct_name structs enums holders id bound display ≡ Ok name → is_taken holders id (dotted_of display) ≡ true → name ≡ display
+  struct_taken holders id bound display name u h is = taken_by bound display name (is_taken holders id (dotted_of display)) u (name_finished (file_where (is_taken holders id (dotted_of display)) display ++ whole_name bound display) name h) is
+
+  pub struct_named : (holders : List Holder) (id : ℕ) (bound : List Bound) (display name : List ℕ) → AreUnbound bound → struct_name structs enums holders id bound display ≡ Ok name → (name ≡ dotted_of display) ⊎ (name ≡ display)
+  struct_named holders id bound display name u h = name_by bound display name (is_taken holders id (dotted_of display)) u (name_finished (file_where (is_taken holders id (dotted_of display)) display ++ whole_name bound display) name h)
+
+-- ---- groups ----
+
+field_named : (made : List Node) (p i : ℕ) (name : List ℕ) (parent : Node) (o : Option (List ℕ)) → slice_get made p ≡ Some parent → slice_get (map (λ (f : Field). f.name) parent.fields) i ≡ o → dotted_name parent.display_name o ≡ Ok name → IsGroupName made p i name
+field_named made p i name parent (Some field) there member h = record { parent = parent; field = field; numbered = there; member = member; is = sym (name_finished (parent.display_name ++ 46 ∷ field) name h) }
+field_named made p i name parent None there member h = absurd (cc)
+
+group_named : (made : List Node) (p i : ℕ) (name : List ℕ) (o : Option Node) → slice_get made p ≡ o → group_name o i ≡ Ok name → IsGroupName made p i name
+group_named made p i name (Some parent) there h = field_named made p i name parent (slice_get (map (λ (f : Field). f.name) parent.fields) i) there refl h
+group_named made p i name None there h = absurd (cc)
+
+-- ---- dotted names that earlier entries have ----
+
+abbrev pub holder : ℕ → List ℕ → Holder
+holder id dotted = record { id = id; dotted = dotted }
+
+-- each of these entries that is no group has its dotted name
+abbrev pub AreHeld : List SchemaNode → List Holder → List Entry → Type 0
+AreHeld nodes hs es = (n : ℕ) (e : Entry) (node : SchemaNode) (display : List ℕ) → slice_get es n ≡ Some e → e.place ≡ Whole → node_named nodes e.node ≡ Some node → node.display_name ≡ Ok display → IsAmong hs (holder e.node (dotted_of display))
+
+taken_among : (hs : List Holder) (h : Holder) (id : ℕ) (dotted : List ℕ) → IsAmong hs h → h.dotted ≡ dotted → (h.id == id) ≡ false → is_taken hs id dotted ≡ true
+taken_among hs h id dotted among same other = go hs among.index among.there
+  where
+    go : (ks : List Holder) (i : ℕ) → slice_get ks i ≡ Some h → is_taken ks id dotted ≡ true
+    go [] i e = absurd (cc)
+    go (x ∷ ks) zero e =
+        let is : x ≡ h = same_some e in
+        let bytes : bytes_eq x.dotted dotted ≡ true = (bytes_eq-Decides x.dotted dotted).1 (ap (λ (y : Holder). y.dotted) is ∙ same) in
+        let apart : not (x.id == id) ≡ true = ap (λ (y : Holder). not (y.id == id)) is ∙ ap not other in
+        or_left (bytes_eq x.dotted dotted && not (x.id == id)) (is_taken ks id dotted) (and_from (bytes_eq x.dotted dotted) (not (x.id == id)) bytes apart)
+    go (x ∷ ks) (suc i) e = or_right (bytes_eq x.dotted dotted && not (x.id == id)) (is_taken ks id dotted) (go ks i e)
+
+-- ---- what an entry begins with ----
+
+abbrev first_or : List ℕ → Said (List ℕ × List Holder) → List ℕ
+first_or other (Ok p) = p.0
+first_or other (Err kind) = other
+
+first_same : (x y : List ℕ) (hs ks : List Holder) → ◌≡◌ {A = Said (List ℕ × List Holder)} (Ok (x, hs)) (Ok (y, ks)) → x ≡ y
+first_same x y hs ks e = ap (first_or y) e
+
+abbrev second_or : List Holder → Said (List ℕ × List Holder) → List Holder
+second_or other (Ok p) = p.1
+second_or other (Err kind) = other
+
+second_same : (x y : List ℕ) (hs ks : List Holder) → ◌≡◌ {A = Said (List ℕ × List Holder)} (Ok (x, hs)) (Ok (y, ks)) → hs ≡ ks
+second_same x y hs ks e = ap (second_or ks) e
+
+same_node : (m n : SchemaNode) → Some m ≡ Some n → m ≡ n
+same_node m n e = cc
+
+-- who has dotted names once an entry has begun
+abbrev pub AreHoldersThen : List Holder → SchemaNode → Entry → Place → List Holder → Type 0
+AreHoldersThen holders node e Whole after = (display : List ℕ) × (node.display_name ≡ Ok display) × (after ≡ holder e.node (dotted_of display) ∷ holders)
+AreHoldersThen holders node e (GroupOf p i) after = after ≡ holders
+
+abbrev pub IsNamedSo : List SchemaNode → List Holder → List Node → SchemaNode → Entry → Place → List ℕ → List Holder → Type 0
+IsNamedSo nodes holders made node e p name after = ((earlier : List Entry) → AreHeld nodes holders earlier → IsEntryName nodes earlier made node e p name) × AreHoldersThen holders node e p after
+
+-- the node and the name of an entry, behind the nodes that are made
+pub record IsBegun (nodes : List SchemaNode) (m : Made) (e : Entry) (b : Begun) : Type 0 where
+  pub first : node_named nodes e.node ≡ Some b.node
+  pub name : (earlier : List Entry) → AreHeld nodes m.holders earlier → IsEntryName nodes earlier m.nodes b.node e e.place b.name
+  pub holders : AreHoldersThen m.holders b.node e e.place b.holders
+
+pub record IsEnumBegun (nodes : List SchemaNode) (id : ℕ) (name : List ℕ) (n : SchemaNode) : Type 0 where
+  pub display : List ℕ
+  pub first : node_named nodes id ≡ Some n
+  pub said : n.display_name ≡ Ok display
+  pub is : name ≡ dotted_of display
+
+module _ (nodes : List SchemaNode) where
+  module _ (made : List Node) (enums : List (List ℕ)) (holders : List Holder) (e : Entry) where
+    abbrev structs_made : List (List ℕ)
+    structs_made = map (λ (n : Node). n.display_name) made
+
+    abbrev with_holder : List ℕ → List ℕ → Said (List ℕ × List Holder)
+    with_holder display name = Ok (name, record { id = e.node; dotted = dotted_of display } ∷ holders)
+
+    abbrev with_display : List ℕ → Said (List ℕ × List Holder)
+    with_display display = and_said (struct_name structs_made enums holders e.node e.bound display) (with_holder display)
+
+    abbrev with_shown : SchemaNode → Said (List ℕ × List Holder)
+    with_shown n = and_said n.display_name with_display
+
+    abbrev with_holders : List ℕ → Said (List ℕ × List Holder)
+    with_holders name = Ok (name, holders)
+
+    entry_name : (p : Place) (node : SchemaNode) (name : List ℕ) (after : List Holder) → node_named nodes e.node ≡ Some node → name_entry nodes made enums holders e p ≡ Ok (name, after) → IsNamedSo nodes holders made node e p name after
+    entry_name (GroupOf parent field) node name after first h =
+        let named = chained (group_name (slice_get made parent) field) with_holders (name, after) h in
+        let is : named.value ≡ name = first_same named.value name holders after named.rest in
+        (λ earlier held. group_named made parent field name (slice_get made parent) refl (named.first ∙ ap (λ x. Ok x) is), sym (second_same named.value name holders after named.rest))
+    entry_name Whole node name after first h =
+        let found = chained (node_there (node_named nodes e.node)) with_shown (name, after) h in
+        let shown = chained found.value.display_name with_display (name, after) found.rest in
+        let named = chained (struct_name structs_made enums holders e.node e.bound shown.value) (with_holder shown.value) (name, after) shown.rest in
+        let is_node : found.value ≡ node = same_node found.value node (sym (there_some (node_named nodes e.node) found.value found.first) ∙ first) in
+        let is_name : named.value ≡ name = first_same named.value name (record { id = e.node; dotted = dotted_of shown.value } ∷ holders) after named.rest in
+        let is : struct_name structs_made enums holders e.node e.bound shown.value ≡ Ok name = named.first ∙ ap (λ x. Ok x) is_name in
+        let said : node.display_name ≡ Ok shown.value = ap (λ (n : SchemaNode). n.display_name) (sym is_node) ∙ shown.first in (
+          λ earlier held u. record {
+            display = shown.value;
+            said = said;
+            is = struct_named structs_made enums holders e.node e.bound shown.value name u is;
+            taken = λ t. struct_taken structs_made enums holders e.node e.bound shown.value name u is (taken_among holders (holder t.entry.node (dotted_of t.display)) e.node (dotted_of shown.value) (held t.number t.entry t.node t.display t.numbered t.whole t.first t.said) t.same t.other);
+          },
+          (shown.value, said, sym (second_same named.value name (holder e.node (dotted_of shown.value) ∷ holders) after named.rest)),
+        )
+
+  module _ (m : Made) (e : Entry) where
+    abbrev begun_with : List (List ℕ) → List ℕ × List Holder → SchemaNode → Begun
+    begun_with names named n = record { enum_names = names; name = named.0; holders = named.1; node = n }
+
+    abbrev with_node : List (List ℕ) → List ℕ × List Holder → SchemaNode → Said Begun
+    with_node names named n = Ok (begun_with names named n)
+
+    abbrev with_name : List (List ℕ) → List ℕ × List Holder → Said Begun
+    with_name names named = and_said (node_there (node_named nodes e.node)) (with_node names named)
+
+    abbrev with_names : List (List ℕ) → Said Begun
+    with_names names = and_said (name_entry nodes m.nodes names m.holders e e.place) (with_name names)
+
+    pub struct_begun : (ids : List ℕ) (b : Begun) → begin_struct nodes m e ids ≡ Ok b → IsBegun nodes m e b
+    struct_begun ids b h =
+        let inner = where_ok (nat_lt (length m.nodes) 4294967296) TooManyTypes (and_said (enum_names nodes (drop (length m.enum_names) ids) m.enum_names) with_names) b h in
+        let names = chained (enum_names nodes (drop (length m.enum_names) ids) m.enum_names) with_names b inner in
+        let named = chained (name_entry nodes m.nodes names.value m.holders e e.place) (with_name names.value) b names.rest in
+        let node = chained (node_there (node_named nodes e.node)) (with_node names.value named.value) b named.rest in
+        let same : begun_with names.value named.value node.value ≡ b = said_same (begun_with names.value named.value node.value) b node.rest in
+        let there : node_named nodes e.node ≡ Some node.value = there_some (node_named nodes e.node) node.value node.first in
+        let first : node_named nodes e.node ≡ Some b.node = there ∙ ap (λ (x : Begun). Some x.node) same in
+        let is_node : node.value ≡ b.node = same_node node.value b.node (sym there ∙ first) in
+        let so : IsNamedSo nodes m.holders m.nodes node.value e e.place named.value.0 named.value.1 = entry_name m.nodes names.value m.holders e e.place node.value named.value.0 named.value.1 there named.first in
+        let so_named : IsNamedSo nodes m.holders m.nodes node.value e e.place b.name b.holders = subst (λ (x : Begun). IsNamedSo nodes m.holders m.nodes node.value e e.place x.name x.holders) same so in
+        let so_begun : IsNamedSo nodes m.holders m.nodes b.node e e.place b.name b.holders = subst (λ (n : SchemaNode). IsNamedSo nodes m.holders m.nodes n e e.place b.name b.holders) is_node so_named in
+        record { first = first; name = so_begun.0; holders = so_begun.1 }
+
+  -- ---- what an enum begins with ----
+
+  abbrev with_enum : SchemaNode → List ℕ → Said (List ℕ × SchemaNode)
+  with_enum n name = Ok (name, n)
+
+  abbrev with_enum_name : SchemaNode → List ℕ → Said (List ℕ × SchemaNode)
+  with_enum_name n display = and_said (enum_name display) (with_enum n)
+
+  abbrev with_enum_node : SchemaNode → Said (List ℕ × SchemaNode)
+  with_enum_node n = and_said n.display_name (with_enum_name n)
+
+  abbrev node_or : SchemaNode → Said (List ℕ × SchemaNode) → SchemaNode
+  node_or other (Ok p) = p.1
+  node_or other (Err kind) = other
+
+  abbrev name_or : List ℕ → Said (List ℕ × SchemaNode) → List ℕ
+  name_or other (Ok p) = p.0
+  name_or other (Err kind) = other
+
+  pub enum_begun : (id : ℕ) (b : List ℕ × SchemaNode) → begin_enum nodes id ≡ Ok b → IsEnumBegun nodes id b.0 b.1
+  enum_begun id b h =
+      let found = chained (node_there (node_named nodes id)) with_enum_node b h in
+      let shown = chained found.value.display_name (with_enum_name found.value) b found.rest in
+      let named = chained (enum_name shown.value) (with_enum found.value) b shown.rest in
+      let is_node : found.value ≡ b.1 = ap (node_or b.1) named.rest in
+      let is_name : named.value ≡ b.0 = ap (name_or b.0) named.rest in
+      record {
+        display = shown.value;
+        first = there_some (node_named nodes id) found.value found.first ∙ ap (λ (n : SchemaNode). Some n) is_node;
+        said = ap (λ (n : SchemaNode). n.display_name) (sym is_node) ∙ shown.first;
+        is = sym is_name ∙ sym (name_finished (dotted_of shown.value) named.value named.first);
+      }

@@ -1,0 +1,300 @@
+-- Worked rows: a small request, the set that it is converted to, and what sets don't say of it.
+use Rattle.std.proofs.Common.{ℕ, ◌≡◌, ap, arith, List, [], ◌∷◌, Bool, true, false, codes, refl, slice_get, Option, Some, None, Ok, Err, inl, map, sym, length, ◌∙◌, ◌==◌, subst}
+use Rattle.std.specs.Str.{chars, is_utf8}
+use lib.Utf8.{encode}
+use Rattle.capnp_schema.specs.Schema.{Brand, Enum, Field, Group, Node, Schemas, Slot, VoidValue}
+use Rattle.capnp_schema.specs.Types.{SchemaType, EnumType, ListType, StructType, TextType, UIntType}
+use Rattle.capnp_request.specs.Conversion.{Note}
+use Rattle.capnp_request.specs.Order.{conversion_of}
+use Rattle.capnp_request.specs.Terms.{Binds, EnumNode, EnumTerm, EnumerantTerm, FieldKindTerm, FieldTerm, Float64, GroupTerm, ListTerm, MemberTerm, MoreBindings, MoreScopes, NoBindings, NoScopes, NodeKind, OtherNode, RequestTerm, Said, SchemaNode, SlotTerm, Stands, StructNode, StructPart, StructTerm, TypeTerm}
+use Rattle.capnp_request.specs.Work.{Entry, GroupOf, Place, Whole}
+use Rattle.capnp_request_meaning.specs.Meaning.{AreEntries, AreEnumsOf, AreNodesFrom, EachSaid, IsBoundBy, IsEnumerantOf, IsFieldOf, IsFound, IsKindOf, IsSetOf, IsTypeOf, NestedIn, Numbers, OfFile, numbers_in, IsNameOf}
+use Rattle.capnp_request_meaning.proofs.SetsMeant.{set_meant}
+use Rattle.capnp_request.specs.Names.{dotted_of}
+use Rattle.capnp_request_meaning.proofs.NamesMeant.{said_same}
+use Rattle.capnp_device.specs.declared.error.ErrorKind.TheVariants.{NodeNotFound}
+use Rattle.capnp_request.specs.Scopes.{node_named, some_where}
+use Rattle.capnp_request_meaning.specs.WellNamed.{EachSaidSo, IsFieldNamed, IsNodeNamed, IsWellNamed}
+use Rattle.capnp_request_meaning.proofs.OrderNamed.{nothing_missing}
+
+-- ---- a request: a struct with a slot, a group and a slot of an enum's type ----
+
+abbrev field : List ℕ → ℕ → FieldKindTerm → FieldTerm
+field name discriminant kind = record { name = Ok name; discriminant_value = discriminant; annotations = Ok []; kind = kind }
+
+abbrev slot : List ℕ → ℕ → ℕ → TypeTerm → FieldTerm
+slot name discriminant offset t = field name discriminant (SlotTerm offset t (Stands VoidValue))
+
+abbrev struct_part : (group : Bool) → (members : ℕ) → List FieldTerm → StructPart
+struct_part group members fields = record { data_words = 1; pointers = 2; is_group = group; discriminant_count = members; discriminant_offset = 3; fields = Ok (map (λ (f : FieldTerm). Ok f) fields) }
+
+abbrev enumerant : List ℕ → Said EnumerantTerm
+enumerant name = Ok (record { name = Ok name; annotations = Ok [] })
+
+abbrev node : ℕ → List ℕ → ℕ → List ℕ → NodeKind → SchemaNode
+node id name scope nested kind = record { id = id; display_name = Ok name; scope = scope; nested = Ok nested; annotations = Ok []; parameters = Ok 0; kind = kind }
+
+abbrev first_fields : List FieldTerm
+first_fields = slot (codes "n") 65535 0 (MemberTerm (UIntType 2)) ∷ field (codes "g") 0 (GroupTerm 3) ∷ slot (codes "e") 1 4 (EnumTerm 5) ∷ []
+
+abbrev group_fields : List FieldTerm
+group_fields = slot (codes "t") 65535 1 (MemberTerm TextType) ∷ []
+
+abbrev first_node : SchemaNode
+first_node = node 2 (codes "x.capnp:A") 1 [] (StructNode (struct_part false 2 first_fields))
+
+abbrev group_node : SchemaNode
+group_node = node 3 (codes "x.capnp:A.g") 2 [] (StructNode (struct_part true 0 group_fields))
+
+abbrev enum_node : SchemaNode
+enum_node = node 5 (codes "x.capnp:E") 1 [] (EnumNode (Ok (enumerant (codes "p") ∷ enumerant (codes "q") ∷ [])))
+
+abbrev file_node : SchemaNode
+file_node = node 1 (codes "x.capnp") 0 (2 ∷ 5 ∷ []) OtherNode
+
+abbrev request : RequestTerm
+request = record { nodes = file_node ∷ first_node ∷ group_node ∷ enum_node ∷ []; files = Ok (1 ∷ []) }
+
+-- ---- its set ----
+
+abbrev stands : List ℕ → ℕ → ℕ → Field
+stands name discriminant offset = record { name = name; discriminant_value = discriminant; annotations = []; kind = Slot offset VoidValue }
+
+abbrev struct : ℕ → List ℕ → (group : Bool) → ℕ → List Field → Node
+struct id name group members fields = record { id = id; display_name = name; annotations = []; data_word_count = 1; pointer_count = 2; is_group = group; discriminant_count = members; discriminant_offset = 3; fields = fields }
+
+abbrev brand : ℕ → List SchemaType → List (List SchemaType) → Brand
+brand number types children = record { node = number; field_types = types; annotation_types = record { own = []; children = children } }
+
+abbrev row_enum : Enum
+row_enum = record { id = 5; display_name = codes "E"; annotations = []; enumerants = record { name = codes "p"; annotations = [] } ∷ record { name = codes "q"; annotations = [] } ∷ []; annotation_types = record { own = []; children = [] ∷ [] ∷ [] } }
+
+abbrev set_with : List Field → Schemas
+set_with fields = record {
+  nodes = struct 2 (codes "A") false 2 fields ∷ struct 3 (codes "A.g") true 0 (stands (codes "t") 65535 1 ∷ []) ∷ [];
+  brands = brand 0 (UIntType 2 ∷ StructType 1 1 ∷ EnumType 0 ∷ []) ([] ∷ [] ∷ [] ∷ []) ∷ brand 1 (TextType ∷ []) ([] ∷ []) ∷ [];
+  enums = row_enum ∷ [];
+}
+
+abbrev row_fields : List Field
+row_fields = stands (codes "n") 65535 0 ∷ record { name = codes "g"; discriminant_value = 0; annotations = []; kind = Group 1 } ∷ stands (codes "e") 1 4 ∷ []
+
+abbrev row_set : Schemas
+row_set = set_with row_fields
+
+row_converted : conversion_of request false ≡ Ok (row_set, [])
+unfolding is_utf8 chars encode
+row_converted = refl
+
+-- ---- what the set says ----
+
+abbrev row_entries : List Entry
+row_entries = record { node = 2; bound = []; place = Whole } ∷ record { node = 3; bound = []; place = GroupOf 0 1 } ∷ []
+
+abbrev row_numbers : Numbers
+row_numbers = numbers_in request false row_entries row_set
+
+row_bound : AreEntries request.nodes row_entries row_entries
+row_bound = (refl, (record { parent = record { node = 2; bound = []; place = Whole }; node = first_node; part = struct_part false 2 first_fields; members = map (λ (f : FieldTerm). Ok f) first_fields; field = field (codes "g") 0 (GroupTerm 3); numbered = refl; same_bound = refl; first = refl; struct = refl; listed = refl; member = refl; group = refl }, tt))
+
+row_first : IsFieldOf row_numbers [] 0 0 (slot (codes "n") 65535 0 (MemberTerm (UIntType 2))) (stands (codes "n") 65535 0) (UIntType 2) []
+row_first = record { name = refl; discriminant_value = refl; annotations = tt; kind = (refl, refl, refl) }
+
+row_group : IsKindOf row_numbers [] 0 1 (GroupTerm 3) (Group 1) (StructType 1 1)
+row_group = (refl, refl)
+
+row_enum_type : IsTypeOf row_numbers [] (ListTerm (EnumTerm 5)) (ListType (EnumType 0))
+row_enum_type = (EnumType 0, refl, (0, refl, refl))
+
+row_enums : AreEnumsOf row_numbers row_set.enums
+row_enums = (record { node = enum_node; display = codes "x.capnp:E"; members = Ok (enumerant (codes "p") ∷ enumerant (codes "q") ∷ []); first = refl; enumeration = refl; said = refl; name = refl; annotations = tt; enumerants = (record { name = refl; annotations = tt }, (record { name = refl; annotations = tt }, tt)) }, tt)
+
+no_entry_at : (i : ℕ) (e : Entry) → slice_get [] i ≡ Some e → ⊥
+no_entry_at i e h = cc
+
+row_nodes : AreNodesFrom row_numbers [] [] row_entries row_set.nodes row_set.brands
+row_nodes = (
+  record {
+    node = first_node;
+    part = struct_part false 2 first_fields;
+    members = map (λ (f : FieldTerm). Ok f) first_fields;
+    first = refl;
+    struct = refl;
+    listed = refl;
+    id = refl;
+    name = λ u. record { display = codes "x.capnp:A"; said = refl; is = inl refl; taken = λ t. absurd (no_entry_at t.number t.entry t.numbered) };
+    annotations = tt;
+    data_words = refl;
+    pointers = refl;
+    group = refl;
+    discriminant_count = refl;
+    discriminant_offset = refl;
+    brand = refl;
+    fields = (row_first, (record { name = refl; discriminant_value = refl; annotations = tt; kind = row_group }, (record { name = refl; discriminant_value = refl; annotations = tt; kind = (refl, refl, (0, refl, refl)) }, tt)));
+  },
+  (
+    record {
+      node = group_node;
+      part = struct_part true 0 group_fields;
+      members = map (λ (f : FieldTerm). Ok f) group_fields;
+      first = refl;
+      struct = refl;
+      listed = refl;
+      id = refl;
+      name = record { parent = struct 2 (codes "A") false 2 row_fields; field = codes "g"; numbered = refl; member = refl; is = refl };
+      annotations = tt;
+      data_words = refl;
+      pointers = refl;
+      group = refl;
+      discriminant_count = refl;
+      discriminant_offset = refl;
+      brand = refl;
+      fields = (record { name = refl; discriminant_value = refl; annotations = tt; kind = (refl, refl, refl) }, tt);
+    },
+    tt,
+  ),
+)
+
+-- and so the whole relation holds, as the law says
+row_meant : IsSetOf request false row_set
+row_meant = set_meant request false row_set [] row_converted
+
+-- the bindings of a brand: what it says of the first scope of an id, and nothing where it doesn't speak of one
+row_brand : IsBoundBy row_numbers [] (MoreScopes 4 (Binds (MoreBindings (MemberTerm TextType) NoBindings)) NoScopes) (record { scope = 4; distance = 0; parameters = 1; types = TextType ∷ [] })
+row_brand = (λ e. (TextType ∷ [], refl, (TextType, [], refl, refl, refl)), λ e. absurd (cc))
+
+row_no_scope : IsBoundBy row_numbers [] (MoreScopes 7 (Binds (MoreBindings (MemberTerm TextType) NoBindings)) NoScopes) (record { scope = 4; distance = 0; parameters = 1; types = [] })
+row_no_scope = (λ e. absurd (cc), λ e. refl)
+
+-- ---- what sets don't say ----
+
+-- the field of a group's place, and the first byte of a name
+abbrev place_field : Place → ℕ
+place_field Whole = 0
+place_field (GroupOf n i) = i
+
+abbrev group_of : Option Entry → ℕ
+group_of None = 0
+group_of (Some e) = place_field e.place
+
+abbrev first_byte : Said (List ℕ) → ℕ
+first_byte (Ok (x ∷ xs)) = x
+first_byte (Ok []) = 0
+first_byte (Err kind) = 0
+
+nothing_at : (i : ℕ) (n : Node) → slice_get [] i ≡ Some n → ⊥
+nothing_at i n e = cc
+
+-- a slot at another offset
+row_offset : IsKindOf row_numbers [] 0 0 (SlotTerm 0 (MemberTerm (UIntType 2)) (Stands VoidValue)) (Slot 1 VoidValue) (UIntType 2) → ⊥
+row_offset h = let e : 1 ≡ 0 = h.0 in absurd (omega (arith, e))
+
+-- another discriminant value
+row_discriminant : IsFieldOf row_numbers [] 0 2 (slot (codes "e") 1 4 (EnumTerm 5)) (stands (codes "e") 0 4) (EnumType 0) [] → ⊥
+row_discriminant h = let e : 0 ≡ 1 = h.discriminant_value in absurd (omega (arith, e))
+
+-- a group that is another field's
+row_other_group : IsKindOf row_numbers [] 0 2 (GroupTerm 3) (Group 1) (StructType 1 1) → ⊥
+row_other_group h = let e : 1 ≡ 2 = ap group_of h.1 in absurd (omega (arith, e))
+
+-- a float where its stand-in is refused
+row_float : IsTypeOf (numbers_in request true row_entries row_set) [] Float64 (UIntType 8) → ⊥
+row_float h = let e : true ≡ false = h.0 in absurd (cc)
+
+-- enumerants in another order
+row_order : EachSaid (IsEnumerantOf row_numbers) (enumerant (codes "p") ∷ enumerant (codes "q") ∷ []) (record { name = codes "q"; annotations = [] } ∷ record { name = codes "p"; annotations = [] } ∷ []) ([] ∷ [] ∷ []) → ⊥
+row_order h = let e : first_byte (Ok (codes "p")) ≡ first_byte (Ok (codes "q")) = ap first_byte h.0.name in let same : 112 ≡ 113 = e in absurd (omega (arith, same))
+
+-- a set without the struct of the file
+row_missing : IsSetOf request false (record { nodes = []; brands = []; enums = [] }) → ⊥
+row_missing h =
+    let found : IsFound (record { nodes = []; brands = []; enums = [] }) 2 first_node = h.roots 2 first_node (struct_part false 2 first_fields) (NestedIn 1 file_node (2 ∷ 5 ∷ []) 2 (OfFile (1 ∷ []) 1 refl refl) refl refl refl) refl refl refl in
+    nothing_at found.number found.node found.numbered
+
+abbrev twins : RequestTerm
+twins = record {
+  nodes =
+      node 1 (codes "x.capnp") 0 (2 ∷ 3 ∷ 4 ∷ []) OtherNode ∷ node 2 (codes "x.capnp:A") 1 [] (StructNode (struct_part false 0 [])) ∷ node 3 (codes "x.capnp:A") 1 [] (StructNode (struct_part false 0 []))
+      ∷ node 4 (codes "x.capnp:A") 1 [] (StructNode (struct_part false 0 [])) ∷ [];
+  files = Ok (1 ∷ []);
+}
+
+-- a name that an earlier entry of another node has stays without its file
+row_taken : IsNameOf twins.nodes (record { node = 2; bound = []; place = Whole } ∷ []) 3 (node 3 (codes "x.capnp:A") 1 [] (StructNode (struct_part false 0 []))) (codes "A") → ⊥
+row_taken h =
+    let shown : h.display ≡ codes "x.capnp:A" = sym (said_same (codes "x.capnp:A") h.display h.said) in
+    let dotted : codes "A" ≡ dotted_of h.display = ap dotted_of (sym shown) in
+    let whole : codes "A" ≡ h.display = h.taken (record { number = 0; entry = record { node = 2; bound = []; place = Whole }; node = node 2 (codes "x.capnp:A") 1 [] (StructNode (struct_part false 0 [])); display = codes "x.capnp:A"; numbered = refl; whole = refl; other = refl; first = refl; said = refl; same = dotted }) in
+    let e : 1 ≡ 9 = ap length (whole ∙ shown) in
+    absurd (omega (arith, e))
+
+-- ---- names ----
+
+-- Entries of different nodes may have one name: where nodes have one display name, and where a struct is named as a type
+-- that needs no node.
+abbrev names_in : Said (Schemas × List Note) → Said (List (List ℕ))
+names_in (Ok p) = Ok (map (λ (n : Node). n.display_name) p.0.nodes)
+names_in (Err kind) = Err kind
+
+twins_named : names_in (conversion_of twins false) ≡ Ok (codes "A" ∷ codes "x.capnp:A" ∷ codes "x.capnp:A" ∷ [])
+unfolding is_utf8 chars encode
+twins_named = refl
+
+abbrev box_of : TypeTerm → TypeTerm
+box_of t = StructTerm 4 (MoreScopes 4 (Binds (MoreBindings t NoBindings)) NoScopes)
+
+abbrev shadowed : RequestTerm
+shadowed = record {
+  nodes =
+      node 1 (codes "x.capnp") 0 (2 ∷ 4 ∷ 5 ∷ []) OtherNode ∷ node 2 (codes "x.capnp:Text") 1 [] (StructNode (struct_part false 0 []))
+      ∷ (record (node 4 (codes "x.capnp:Box") 1 [] (StructNode (struct_part false 0 []))) { parameters = Ok 1 })
+      ∷ node 5 (codes "x.capnp:U") 1 [] (StructNode (struct_part false 0 (slot (codes "a") 65535 0 (box_of (MemberTerm TextType)) ∷ slot (codes "b") 65535 1 (box_of (StructTerm 2 NoScopes)) ∷ []))) ∷ [];
+  files = Ok (1 ∷ []);
+}
+
+shadowed_named : names_in (conversion_of shadowed false) ≡ Ok (codes "Text" ∷ codes "Box" ∷ codes "U" ∷ codes "Box(Text)" ∷ codes "Box(Text)" ∷ [])
+unfolding is_utf8 chars encode
+shadowed_named = refl
+
+-- ---- ids that are there, and one that isn't ----
+
+abbrev AreNamed : List SchemaNode → List SchemaNode → Type 0
+AreNamed nodes [] = Unit {0}
+AreNamed nodes (n ∷ ns) = IsNodeNamed nodes n × AreNamed nodes ns
+
+all_named : (nodes ns : List SchemaNode) (id : ℕ) (n : SchemaNode) → AreNamed nodes ns → node_named ns id ≡ Some n → IsNodeNamed nodes n
+all_named nodes [] id n h e = absurd (cc)
+all_named nodes (m ∷ ns) id n h e = go (m.id == id) (all_named nodes ns id n h.1) e
+  where
+    go : (q : Bool) → (node_named ns id ≡ Some n → IsNodeNamed nodes n) → some_where q m (node_named ns id) ≡ Some n → IsNodeNamed nodes n
+    go true rest e = let same : m ≡ n = cc in subst (IsNodeNamed nodes) same h.0
+    go false rest e = rest e
+
+row_fields_named : EachSaidSo (IsFieldNamed request.nodes) (map (λ (f : FieldTerm). Ok f) first_fields)
+row_fields_named = (record { name = tt; annotations = tt; kind = (tt, tt) }, (record { name = tt; annotations = tt; kind = refl }, (record { name = tt; annotations = tt; kind = (refl, tt) }, tt)))
+
+row_named : IsWellNamed request
+row_named = record {
+  files = tt;
+  nodes = λ id n e. all_named request.nodes request.nodes id n (
+    record { display_name = tt; nested = tt; parameters = tt; annotations = tt; kind = tt },
+    (
+      record { display_name = tt; nested = tt; parameters = tt; annotations = tt; kind = row_fields_named },
+      (
+        record { display_name = tt; nested = tt; parameters = tt; annotations = tt; kind = (record { name = tt; annotations = tt; kind = (tt, tt) }, tt) },
+        (record { display_name = tt; nested = tt; parameters = tt; annotations = tt; kind = (record { name = tt; annotations = tt }, (record { name = tt; annotations = tt }, tt)) }, tt),
+      ),
+    ),
+  ) e;
+}
+
+abbrev dangling : RequestTerm
+dangling = record { nodes = node 1 (codes "x.capnp") 0 (2 ∷ []) OtherNode ∷ node 2 (codes "x.capnp:A") 1 [] (StructNode (struct_part false 0 (slot (codes "e") 65535 0 (EnumTerm 2) ∷ []))) ∷ []; files = Ok (1 ∷ []) }
+
+-- an enum's id that is a struct's
+dangling_refused : conversion_of dangling false ≡ Err NodeNotFound
+unfolding is_utf8 chars encode
+dangling_refused = refl
+
+row_not_named : IsWellNamed dangling → ⊥
+row_not_named h = nothing_missing dangling false h dangling_refused

@@ -1,0 +1,130 @@
+-- A whole set is that of its request.
+use Rattle.std.proofs.Common.{ℕ, zero, suc, ◌+◌, ◌≡◌, ◌∙◌, ap, not, refl, subst, sym, Bool, true, false, List, [], ◌∷◌, ◌++◌, length, slice_get, Option, Some, Result, Ok, Err, append_assoc, arith}
+use Rattle.std.proofs.lemmas.List.{append-nil, length-map, length-append}
+use Rattle.capnp_device.specs.declared.error.ErrorKind.{ErrorKind}
+use Rattle.capnp_schema.specs.Schema.{Brand, Enum, Node, Schemas}
+use Rattle.capnp_request.specs.Conversion.{Note}
+use Rattle.capnp_request.specs.Order.{Made, and_said, conversion_of, make_all, name_files, nothing_made, nothing_named, result_of, schemas_made}
+use Rattle.capnp_request.specs.Reading.{request_said}
+use Rattle.capnp_request.specs.Scopes.{node_named}
+use Rattle.capnp_request.specs.Terms.{NodeKind, RequestTerm, Said, SchemaNode, StructNode, StructPart}
+use Rattle.capnp_request.specs.Types.{is_root}
+use Rattle.capnp_request.specs.Work.{Entry, Named, work_continued}
+use Rattle.capnp_request_meaning.specs.Laws.{IsSetOfRecord, SetMeansItsRecord, SetMeansItsRequest}
+use Rattle.capnp_request_meaning.specs.Meaning.{AreEnumsOf, AreNodesFrom, IsEntryName, IsFound, IsListed, IsNameOf, IsNodeOf, IsSetOf, Numbers}
+use Rattle.capnp_request_meaning.proofs.ListsFound.{none_left, same_some}
+use Rattle.capnp_request_meaning.proofs.OrderMeant.{AreMade, Ends, Stay, all_end, enum_ids, nodes_counted, stay_none, stay_whole}
+use Rattle.capnp_request_meaning.proofs.RootsMeant.{AreRooted, HasRoot, files_named}
+use Rattle.capnp_request_meaning.proofs.TypesMeant.{numbers}
+use Rattle.capnp_request_meaning.proofs.Works.{Done, Grows, IfDone}
+
+-- ---- the node of an entry ----
+
+-- with the entries before it
+pub record NodeAt (k : Numbers) (all : List Entry) (e : Entry) (ns : List Node) (i : ℕ) : Type 0 where
+  pub earlier : List Entry
+  pub rest : List Entry
+  pub before : List Node
+  pub node : Node
+  pub brand : Brand
+  pub there : slice_get ns i ≡ Some node
+  pub are : all ≡ earlier ++ rest
+  pub count : length earlier ≡ i
+  pub is : IsNodeOf k earlier before e node brand
+
+node_from : (k : Numbers) (all earlier : List Entry) (before : List Node) (es : List Entry) (ns : List Node) (bs : List Brand) (i j : ℕ) (e : Entry) → AreNodesFrom k earlier before es ns bs → slice_get es i ≡ Some e → all ≡ earlier ++ es → j ≡ length earlier + i → (ms : List Node) → ((l : ℕ) → slice_get ns l ≡ slice_get ms (length earlier + l)) → NodeAt k all e ms j
+node_from k all earlier before [] [] [] i j e h at_i are count ms sits = absurd (cc)
+node_from k all earlier before (x ∷ es) (n ∷ ns) (b ∷ bs) zero j e h at_i are count ms sits =
+    let same : x ≡ e = same_some at_i in
+    let here : j ≡ length earlier + 0 = count in
+    let whole : length earlier ≡ j = omega (arith, count) in
+    record { earlier = earlier; rest = x ∷ es; before = before; node = n; brand = b; there = ap (λ l. slice_get ms l) here ∙ sym (sits 0); are = are; count = whole; is = subst (λ y. IsNodeOf k earlier before y n b) same h.0 }
+node_from k all earlier before (x ∷ es) (n ∷ ns) (b ∷ bs) (suc i) j e h at_i are count ms sits =
+    let longer : length (earlier ++ x ∷ []) ≡ length earlier + 1 = length-append earlier (x ∷ []) in
+    let next : j ≡ length (earlier ++ x ∷ []) + i = omega (arith, count, longer) in
+    node_from k all (earlier ++ x ∷ []) (before ++ n ∷ []) es ns bs i j e h.1 at_i (are ∙ sym (append_assoc earlier (x ∷ []) es)) next ms
+    (λ l. let e : length earlier + suc l ≡ length (earlier ++ x ∷ []) + l = omega (arith, longer) in sits (suc l) ∙ ap (λ q. slice_get ms q) e)
+node_from k all earlier before es ns bs i j e h at_i are count ms sits = absurd h
+
+pub node_of_entry : (k : Numbers) (es : List Entry) (ns : List Node) (bs : List Brand) (i : ℕ) (e : Entry) → AreNodesFrom k [] [] es ns bs → slice_get es i ≡ Some e → NodeAt k es e ns i
+node_of_entry k es ns bs i e h at_i =
+    let start : i ≡ 0 + i = omega arith in
+    node_from k es [] [] es ns bs i i e h at_i refl start ns (λ l. let e : l ≡ 0 + l = omega arith in ap (λ q. slice_get ns q) e)
+
+same_node : (o : Option SchemaNode) (m n : SchemaNode) → o ≡ Some m → o ≡ Some n → m ≡ n
+same_node o m n e f = let h : ◌≡◌ {A = Option SchemaNode} (Some m) (Some n) = sym e ∙ f in cc
+
+root_of : (k : NodeKind) (part : StructPart) → k ≡ StructNode part → part.is_group ≡ false → is_root k ≡ true
+root_of k part e g = ap is_root e ∙ ap not g
+
+found_of : (r : RequestTerm) (k : Numbers) → k.nodes ≡ r.nodes → (entries : List Entry) (set : Schemas) → AreNodesFrom k [] [] entries set.nodes set.brands → AreRooted r entries
+    → (id : ℕ) (n : SchemaNode) (part : StructPart) → IsListed r id → node_named r.nodes id ≡ Some n → n.kind ≡ StructNode part → part.is_group ≡ false → IsFound set id n
+found_of r k same_list entries set meant rooted id n part listed first struct group =
+    let root : HasRoot entries id = rooted id n listed first (root_of n.kind part struct group) in
+    let node : NodeAt k entries root.entry set.nodes root.number = node_of_entry k entries set.nodes set.brands root.number root.entry meant root.numbered in
+    let same : node.is.node ≡ n = same_node (node_named k.nodes root.entry.node) node.is.node n node.is.first (ap (λ i. node_named k.nodes i) root.node ∙ (ap (λ ns. node_named ns id) same_list ∙ first)) in
+    let named : IsNameOf k.nodes node.earlier root.entry.node node.is.node node.node.display_name = subst (λ p. IsEntryName k.nodes node.earlier node.before node.is.node root.entry p node.node.display_name) root.whole node.is.name root.unbound in
+    record {
+      number = root.number;
+      node = node.node;
+      display = named.display;
+      numbered = node.there;
+      same_id = node.is.id ∙ root.node;
+      said = ap (λ (m : SchemaNode). m.display_name) (sym same) ∙ named.said;
+      name = named.is;
+    }
+
+-- ---- the set ----
+
+abbrev numbers_by : List SchemaNode → Bool → List Entry → List ℕ → Numbers
+numbers_by nodes strict entries enums = record { nodes = nodes; strict = strict; entries = entries; enums = enums }
+
+module _ (r : RequestTerm) (strict : Bool) where
+  set_of_made : (s t : Named) (m : Made) → Ends r.nodes strict s nothing_made m t → Stay r.nodes s.entries → AreRooted r t.entries → IsSetOf r strict (schemas_made m)
+  set_of_made s t m ends stay rooted =
+      let none : AreMade r.nodes strict nothing_made t = record { done = []; rest = t.entries; more = t.enums; entries_are = refl; enums_are = refl; held = λ n e node display there whole first said. absurd (cc); meant = tt; enumerated = tt } in
+      let made : AreMade r.nodes strict m t = ends.made none in
+      let kept : Stay r.nodes t.entries = ends.kept stay in
+      let count : length made.done ≡ length m.nodes = nodes_counted (numbers r.nodes strict t) [] [] made.done m.nodes m.brands made.meant in
+      let no_rest : made.rest ≡ [] = none_left made.done made.rest (ap (λ i. slice_get (made.done ++ made.rest) i) count ∙ (ap (λ xs. slice_get xs (length m.nodes)) (sym made.entries_are) ∙ ends.no_entry)) in
+      let enum_count : length (enum_ids m.enums) ≡ length m.enums = length-map m.enums (λ (e : Enum). e.id) in
+      let no_more : made.more ≡ [] = none_left (enum_ids m.enums) made.more (ap (λ i. slice_get (enum_ids m.enums ++ made.more) i) enum_count ∙ (ap (λ xs. slice_get xs (length m.enums)) (sym made.enums_are) ∙ ends.no_enum)) in
+      let entries : t.entries ≡ made.done = made.entries_are ∙ (ap (λ xs. made.done ++ xs) no_rest ∙ append-nil made.done) in
+      let enums : t.enums ≡ enum_ids m.enums = made.enums_are ∙ (ap (λ xs. enum_ids m.enums ++ xs) no_more ∙ append-nil (enum_ids m.enums)) in
+      let meant : AreNodesFrom (numbers_by r.nodes strict t.entries (enum_ids m.enums)) [] [] t.entries m.nodes m.brands =
+      subst (λ ids. AreNodesFrom (numbers_by r.nodes strict t.entries ids) [] [] t.entries m.nodes m.brands) enums (subst (λ es. AreNodesFrom (numbers r.nodes strict t) [] [] es m.nodes m.brands) (sym entries) made.meant) in
+      record {
+        entries = t.entries;
+        bound = kept.entries t.entries [] (sym (append-nil t.entries));
+        distinct = kept.distinct;
+        nodes = meant;
+        enums = subst (λ ids. AreEnumsOf (numbers_by r.nodes strict t.entries ids) m.enums) enums made.enumerated;
+        roots = found_of r (numbers_by r.nodes strict t.entries (enum_ids m.enums)) refl t.entries (schemas_made m) meant rooted;
+      }
+
+  abbrev set_or : Schemas → Said (Schemas × List Note) → Schemas
+  set_or other (Ok p) = p.0
+  set_or other (Err kind) = other
+
+  module _ (set : Schemas) (notes : List Note) where
+    made_meant : (s : Named) → Stay r.nodes s.entries → ((t : Named) → Grows s t → AreRooted r t.entries) → (x : Result (Made × Named) ErrorKind) → IfDone (λ (m : Made) t. Ends r.nodes strict s nothing_made m t) x → result_of x ≡ Ok (set, notes) → IsSetOf r strict set
+    made_meant s stay rooted (Err kind) h e = absurd (cc)
+    made_meant s stay rooted (Ok p) h e =
+        let same : schemas_made p.0 ≡ set = ap (set_or set) e in
+        subst (IsSetOf r strict) same (set_of_made s p.1 p.0 h stay (rooted p.1 h.grown))
+
+    named_meant : (x : Result (List ℕ × Named) ErrorKind) → IfDone (λ (none : List ℕ) t. Done (Stay r.nodes) nothing_named t (λ z. AreRooted r z.entries)) x
+        → result_of (work_continued (λ none. make_all r.nodes strict (65536 + suc (length r.nodes)) nothing_made) x) ≡ Ok (set, notes) → IsSetOf r strict set
+    named_meant (Err kind) h e = absurd (cc)
+    named_meant (Ok p) h e =
+        made_meant p.1 (h.kept (stay_none r.nodes)) (λ t g. h.later t g) (make_all r.nodes strict (65536 + suc (length r.nodes)) nothing_made p.1) (all_end r.nodes strict (65536 + suc (length r.nodes)) nothing_made p.1) e
+
+pub set_meant : SetMeansItsRequest
+set_meant r strict set notes e = named_meant r strict set notes (name_files r.nodes strict r.files nothing_named) (files_named (Stay r.nodes) r (stay_whole r.nodes) strict nothing_named) e
+
+pub record_meant : SetMeansItsRecord
+record_meant r strict set notes e = go (request_said r) refl e
+  where
+    go : (d : Said RequestTerm) → request_said r ≡ d → and_said d (λ request. conversion_of request strict) ≡ Ok (set, notes) → IsSetOfRecord r strict set
+    go (Ok request) said h = record { request = request; said = said; is = set_meant request strict set notes h }
+    go (Err kind) said h = absurd (cc)

@@ -1,0 +1,49 @@
+-- The statements of the laws.
+use Rattle.std.specs.Prelude.{ℕ, ◌≡◌, List, Bool, true, slice_get, Some, Ok, ◌≢◌, Err}
+use Rattle.capnp_schema.specs.Schema.{Node, Schemas}
+use Rattle.capnp_records.specs.Record.{Record}
+use Rattle.capnp_request.specs.Conversion.{Note}
+use Rattle.capnp_request.specs.Names.{has_colon}
+use Rattle.capnp_request.specs.Order.{and_said, conversion_of}
+use Rattle.capnp_request.specs.Reading.{request_said}
+use Rattle.capnp_request.specs.Scopes.{node_named}
+use Rattle.capnp_request.specs.Terms.{RequestTerm, SchemaNode}
+use Rattle.capnp_request.specs.Work.{Entry, Whole}
+use Rattle.capnp_request_meaning.specs.Meaning.{AreUnbound, IsSetOf}
+use Rattle.capnp_device.specs.declared.error.ErrorKind.TheVariants.{NodeNotFound}
+use Rattle.capnp_request_meaning.specs.WellNamed.{IsWellNamed}
+
+-- the set that a request is converted to is that of the request
+abbrev pub SetMeansItsRequest : Type 0
+SetMeansItsRequest = (r : RequestTerm) (strict : Bool) (set : Schemas) (notes : List Note) → conversion_of r strict ≡ Ok (set, notes) → IsSetOf r strict set
+
+-- a set is that of the request that a record says
+pub record IsSetOfRecord (r : Record) (strict : Bool) (set : Schemas) : Type 0 where
+  pub request : RequestTerm
+  pub said : request_said r ≡ Ok request
+  pub is : IsSetOf request strict set
+
+-- the same of a request's record
+abbrev pub SetMeansItsRecord : Type 0
+SetMeansItsRecord = (r : Record) (strict : Bool) (set : Schemas) (notes : List Note) → and_said (request_said r) (λ request. conversion_of request strict) ≡ Ok (set, notes) → IsSetOfRecord r strict set
+
+-- each display name has a file before its last colon, and no other node has it
+pub record HasOwnNames (nodes : List SchemaNode) : Type 0 where
+  pub file : (id : ℕ) (n : SchemaNode) (display : List ℕ) → node_named nodes id ≡ Some n → n.display_name ≡ Ok display → has_colon display ≡ true
+  pub own : (id other : ℕ) (n m : SchemaNode) (display : List ℕ) → node_named nodes id ≡ Some n → node_named nodes other ≡ Some m → n.display_name ≡ Ok display → m.display_name ≡ Ok display → id ≡ other
+
+-- the node of an entry with nothing bound that is no group
+pub record IsUnboundAt (entries : List Entry) (set : Schemas) (i : ℕ) (e : Entry) (n : Node) : Type 0 where
+  pub there : slice_get entries i ≡ Some e
+  pub node : slice_get set.nodes i ≡ Some n
+  pub whole : e.place ≡ Whole
+  pub unbound : AreUnbound e.bound
+
+-- where nodes have names of their own, two such nodes of a set have one name only where they are one
+abbrev pub UnboundNamesDiffer : Type 0
+UnboundNamesDiffer = (r : RequestTerm) (strict : Bool) (set : Schemas) (is : IsSetOf r strict set) → HasOwnNames r.nodes → (i j : ℕ) (e f : Entry) (n m : Node) →
+    IsUnboundAt is.entries set i e n → IsUnboundAt is.entries set j f m → n.display_name ≡ m.display_name → i ≡ j
+
+-- where each id that a request's nodes name is that of a node of its kind, no node is missing
+abbrev pub NothingIsMissing : Type 0
+NothingIsMissing = (r : RequestTerm) (strict : Bool) → IsWellNamed r → conversion_of r strict ≢ Err NodeNotFound

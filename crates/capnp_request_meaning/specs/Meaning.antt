@@ -1,0 +1,264 @@
+-- What a set of schemas says of the request that it is made of, in the request's own words.
+use Rattle.std.specs.Prelude.{ℕ, zero, suc, ◌+◌, ◌<◌, ◌≡◌, ◌⊎◌, ◌==◌, List, [], ◌∷◌, ◌++◌, Bool, true, false, length, map, slice_get, Some, Ok, Err}
+use Rattle.capnp_schema.specs.Schema.{Annotation, Brand, Enum, Enumerant, Field, FieldKind, Group, Node, Schemas, Slot}
+use Rattle.capnp_schema.specs.Types.{SchemaType, AnyPointerType, EnumType, ListType, StructType, UIntType}
+use Rattle.capnp_request.specs.Names.{dotted_of}
+use Rattle.capnp_request.specs.Scopes.{bound_types, is_met, node_named, scopes_of}
+use Rattle.capnp_request.specs.Terms.{AnnotationNode, AnnotationTerm, Binds, BindingTerms, BrandTerm, EnumNode, EnumTerm, EnumerantTerm, FieldKindTerm, FieldTerm, Float32, Float64, GroupTerm, Inherits, Interface, ListTerm, MemberTerm, MoreBindings, MoreScopes, NoBindings, NoScopes, Parameter, RequestTerm, Said, SchemaNode, ScopeTerm, SlotTerm, StructNode, StructPart, StructTerm, TypeTerm, UnreadBrand, UnreadField, UnreadScope, UnreadType}
+use Rattle.capnp_request.specs.Types.{bound_to, is_entry_of, same_bound, without_untyped}
+use Rattle.capnp_request.specs.Values.{value_stated}
+use Rattle.capnp_request.specs.Work.{Bound, Entry, GroupOf, Place, Whole}
+
+-- ---- lists that are read ----
+
+-- each of a list can be read, and stands beside one of each of two other lists, in order
+abbrev pub EachSaid : {A B C : Type 0} → (A → B → C → Type 0) → List (Said A) → List B → List C → Type 0
+EachSaid R [] [] [] = Unit {0}
+EachSaid R (Ok x ∷ xs) (y ∷ ys) (z ∷ zs) = R x y z × EachSaid R xs ys zs
+EachSaid R xs ys zs = ⊥
+
+abbrev pub IsSaidList : {A B C : Type 0} → (A → B → C → Type 0) → Said (List (Said A)) → List B → List C → Type 0
+IsSaidList R (Ok xs) ys zs = EachSaid R xs ys zs
+IsSaidList R (Err kind) ys zs = ⊥
+
+-- ---- entries ----
+
+-- a scope with nothing bound to its parameters
+abbrev pub without_types : Bound → Bound
+without_types b = record { scope = b.scope; distance = b.distance; parameters = b.parameters; types = [] }
+
+abbrev pub AreUnbound : List Bound → Type 0
+AreUnbound [] = Unit {0}
+AreUnbound (b ∷ bs) = (b.types ≡ []) × AreUnbound bs
+
+-- an entry is the group that field i of entry n names, with the bindings of that entry
+pub record IsGroupEntry (nodes : List SchemaNode) (entries : List Entry) (e : Entry) (n i : ℕ) : Type 0 where
+  pub parent : Entry
+  pub node : SchemaNode
+  pub part : StructPart
+  pub members : List (Said FieldTerm)
+  pub field : FieldTerm
+  pub numbered : slice_get entries n ≡ Some parent
+  pub same_bound : e.bound ≡ parent.bound
+  pub first : node_named nodes parent.node ≡ Some node
+  pub struct : node.kind ≡ StructNode part
+  pub listed : part.fields ≡ Ok members
+  pub member : slice_get members i ≡ Some (Ok field)
+  pub group : field.kind ≡ GroupTerm e.node
+
+-- or a struct node, with types that are bound to the parameters of its scopes
+abbrev pub IsEntryAt : List SchemaNode → List Entry → Entry → Place → Type 0
+IsEntryAt nodes entries e Whole = scopes_of nodes e.node ≡ Ok (map without_types e.bound)
+IsEntryAt nodes entries e (GroupOf n i) = IsGroupEntry nodes entries e n i
+
+abbrev pub AreEntries : List SchemaNode → (entries : List Entry) → List Entry → Type 0
+AreEntries nodes entries [] = Unit {0}
+AreEntries nodes entries (e ∷ es) = IsEntryAt nodes entries e e.place × AreEntries nodes entries es
+
+-- no earlier entry is of the same struct node with the same bindings
+abbrev pub AreDistinct : List Entry → Type 0
+AreDistinct es = (i j : ℕ) (e f : Entry) → i < j → slice_get es i ≡ Some e → slice_get es j ≡ Some f → f.place ≡ Whole → is_entry_of f.node f.bound e e.place ≡ false
+
+-- ---- types ----
+
+-- what a set is read beside: the schema nodes, whether stand-ins are refused, and what numbers stand for: entries, and enums
+-- by their ids
+pub record Numbers : Type 0 where
+  pub nodes : List SchemaNode
+  pub strict : Bool
+  pub entries : List Entry
+  pub enums : List ℕ
+
+-- a number is that of the entry of a struct node with these bindings
+pub record IsStructNumber (k : Numbers) (id : ℕ) (bound : List Bound) (n : ℕ) : Type 0 where
+  pub entry : Entry
+  pub numbered : slice_get k.entries n ≡ Some entry
+  pub node : entry.node ≡ id
+  pub whole : entry.place ≡ Whole
+  pub same : same_bound entry.bound bound ≡ true
+
+abbrev pub EachBound : (Bound → Type 0) → List Bound → Type 0
+EachBound P [] = Unit {0}
+EachBound P (b ∷ bs) = P b × EachBound P bs
+
+-- The type of a term inside an entry; what a brand binds to the parameters of a scope, where its first scope of that id
+-- counts; and bindings in a row. Floats and interfaces have stand-ins, and none is taken where that is refused.
+abbrev mutual
+  pub IsTypeOf : Numbers → (inside : List Bound) → TypeTerm → SchemaType → Type 0
+  IsTypeOf k inside (MemberTerm t) u = u ≡ t
+  IsTypeOf k inside Float32 u = (k.strict ≡ false) × (u ≡ UIntType 4)
+  IsTypeOf k inside Float64 u = (k.strict ≡ false) × (u ≡ UIntType 8)
+  IsTypeOf k inside Interface u = (k.strict ≡ false) × (u ≡ AnyPointerType)
+  IsTypeOf k inside (ListTerm t) u = (element : SchemaType) × (u ≡ ListType element) × IsTypeOf k inside t element
+  IsTypeOf k inside (EnumTerm id) u = (n : ℕ) × (u ≡ EnumType n) × (slice_get k.enums n ≡ Some id)
+  IsTypeOf k inside (StructTerm id brand) u = (n : ℕ) × (u ≡ StructType n n) × (bound : List Bound) × IsStructNumber k id bound n × EachBound (IsBoundBy k inside brand) bound
+  IsTypeOf k inside (Parameter scope index) u = u ≡ bound_to inside scope index
+  IsTypeOf k inside (UnreadType kind) u = ⊥
+
+  pub IsBoundBy : Numbers → (inside : List Bound) → BrandTerm → Bound → Type 0
+  IsBoundBy k inside NoScopes b = b.types ≡ []
+  IsBoundBy k inside (MoreScopes id says rest) b = ((id == b.scope) ≡ true → IsBoundSo k inside says b) × ((id == b.scope) ≡ false → IsBoundBy k inside rest b)
+  IsBoundBy k inside (UnreadBrand kind) b = ⊥
+
+  -- untyped pointers at the end are left out; what is inherited is what is bound inside the entry
+  pub IsBoundSo : Numbers → (inside : List Bound) → ScopeTerm → Bound → Type 0
+  IsBoundSo k inside (Binds terms) b = (ts : List SchemaType) × (b.types ≡ without_untyped ts) × AreTypesOf k inside terms b.parameters ts
+  IsBoundSo k inside Inherits b = b.types ≡ bound_types [] (λ (c : Bound). c.types) inside b.scope
+  IsBoundSo k inside (UnreadScope kind) b = ⊥
+
+  -- as many as there are parameters
+  pub AreTypesOf : Numbers → (inside : List Bound) → BindingTerms → (parameters : ℕ) → List SchemaType → Type 0
+  AreTypesOf k inside NoBindings count ts = ts ≡ []
+  AreTypesOf k inside (MoreBindings t rest) zero ts = ts ≡ []
+  AreTypesOf k inside (MoreBindings t rest) (suc count) ts = (u : SchemaType) × (us : List SchemaType) × (ts ≡ u ∷ us) × IsTypeOf k inside t u × AreTypesOf k inside rest count us
+
+-- ---- annotations ----
+
+-- An annotation has its value as it stands. Its type is that of its declaration, read inside what its brand binds there.
+pub record IsAnnotationOf (k : Numbers) (inside : List Bound) (x : AnnotationTerm) (y : Annotation) (u : SchemaType) : Type 0 where
+  pub node : SchemaNode
+  pub declared : TypeTerm
+  pub bound : List Bound
+  pub id : y.id ≡ x.id
+  pub value : value_stated x.value ≡ Ok y.value
+  pub first : node_named k.nodes x.id ≡ Some node
+  pub annotation : node.kind ≡ AnnotationNode declared
+  pub scopes : scopes_of k.nodes x.id ≡ Ok (map without_types bound)
+  pub brand : EachBound (IsBoundBy k inside x.brand) bound
+  pub type : IsTypeOf k bound declared u
+
+-- ---- fields ----
+
+-- field i of entry n: a slot at its offset, with its default and its type, or a group, an entry for itself
+abbrev pub IsKindOf : Numbers → (inside : List Bound) → (n i : ℕ) → FieldKindTerm → FieldKind → SchemaType → Type 0
+IsKindOf k inside n i (SlotTerm offset t default) (Slot o d) u = (o ≡ offset) × (value_stated default ≡ Ok d) × IsTypeOf k inside t u
+IsKindOf k inside n i (SlotTerm offset t default) (Group number) u = ⊥
+IsKindOf k inside n i (GroupTerm id) (Group number) u = (u ≡ StructType number number) × (slice_get k.entries number ≡ Some (record { node = id; bound = inside; place = GroupOf n i }))
+IsKindOf k inside n i (GroupTerm id) (Slot o d) u = ⊥
+IsKindOf k inside n i (UnreadField kind) g u = ⊥
+
+pub record IsFieldOf (k : Numbers) (inside : List Bound) (n i : ℕ) (f : FieldTerm) (g : Field) (u : SchemaType) (types : List SchemaType) : Type 0 where
+  pub name : f.name ≡ Ok g.name
+  pub discriminant_value : g.discriminant_value ≡ f.discriminant_value
+  pub annotations : IsSaidList (IsAnnotationOf k inside) f.annotations g.annotations types
+  pub kind : IsKindOf k inside n i f.kind g.kind u
+
+-- the fields of entry n from field i on, in the request's order, with their types and those of their annotations
+abbrev pub AreFieldsFrom : Numbers → (inside : List Bound) → (n i : ℕ) → List (Said FieldTerm) → List Field → List SchemaType → List (List SchemaType) → Type 0
+AreFieldsFrom k inside n i [] [] [] [] = Unit {0}
+AreFieldsFrom k inside n i (Ok f ∷ fs) (g ∷ gs) (u ∷ us) (t ∷ ts) = IsFieldOf k inside n i f g u t × AreFieldsFrom k inside n (i + 1) fs gs us ts
+AreFieldsFrom k inside n i fs gs us ts = ⊥
+
+-- ---- nodes ----
+
+-- an earlier entry, of another node, has what stands behind the last colon of its display name
+pub record IsTaken (nodes : List SchemaNode) (earlier : List Entry) (id : ℕ) (dotted : List ℕ) : Type 0 where
+  pub number : ℕ
+  pub entry : Entry
+  pub node : SchemaNode
+  pub display : List ℕ
+  pub numbered : slice_get earlier number ≡ Some entry
+  pub whole : entry.place ≡ Whole
+  pub other : (entry.node == id) ≡ false
+  pub first : node_named nodes entry.node ≡ Some node
+  pub said : node.display_name ≡ Ok display
+  pub same : dotted_of display ≡ dotted
+
+-- a node's display name, or what stands behind its last colon where no earlier entry of another node has that
+pub record IsNameOf (nodes : List SchemaNode) (earlier : List Entry) (id : ℕ) (n : SchemaNode) (name : List ℕ) : Type 0 where
+  pub display : List ℕ
+  pub said : n.display_name ≡ Ok display
+  pub is : (name ≡ dotted_of display) ⊎ (name ≡ display)
+  pub taken : IsTaken nodes earlier id (dotted_of display) → name ≡ display
+
+-- the name of the group that field i of node p names: its parent's, a dot, and the field's
+pub record IsGroupName (before : List Node) (p i : ℕ) (name : List ℕ) : Type 0 where
+  pub parent : Node
+  pub field : List ℕ
+  pub numbered : slice_get before p ≡ Some parent
+  pub member : slice_get (map (λ (f : Field). f.name) parent.fields) i ≡ Some field
+  pub is : name ≡ parent.display_name ++ 46 ∷ field
+
+-- where nothing is bound, the name is that of the schema node
+abbrev pub IsEntryName : List SchemaNode → (earlier : List Entry) → (before : List Node) → SchemaNode → Entry → Place → List ℕ → Type 0
+IsEntryName nodes earlier before node e Whole name = AreUnbound e.bound → IsNameOf nodes earlier e.node node name
+IsEntryName nodes earlier before node e (GroupOf p i) name = IsGroupName before p i name
+
+-- The node and the brand of an entry, behind the entries and nodes before it, have what its schema node has.
+pub record IsNodeOf (k : Numbers) (earlier : List Entry) (before : List Node) (e : Entry) (n : Node) (b : Brand) : Type 0 where
+  pub node : SchemaNode
+  pub part : StructPart
+  pub members : List (Said FieldTerm)
+  pub first : node_named k.nodes e.node ≡ Some node
+  pub struct : node.kind ≡ StructNode part
+  pub listed : part.fields ≡ Ok members
+  pub id : n.id ≡ e.node
+  pub name : IsEntryName k.nodes earlier before node e e.place n.display_name
+  pub annotations : IsSaidList (IsAnnotationOf k e.bound) node.annotations n.annotations b.annotation_types.own
+  pub data_words : n.data_word_count ≡ part.data_words
+  pub pointers : n.pointer_count ≡ part.pointers
+  pub group : n.is_group ≡ part.is_group
+  pub discriminant_count : n.discriminant_count ≡ part.discriminant_count
+  pub discriminant_offset : n.discriminant_offset ≡ part.discriminant_offset
+  pub brand : b.node ≡ length before
+  pub fields : AreFieldsFrom k e.bound (length before) 0 members n.fields b.field_types b.annotation_types.children
+
+-- entry after entry
+abbrev pub AreNodesFrom : Numbers → (earlier : List Entry) → (before : List Node) → List Entry → List Node → List Brand → Type 0
+AreNodesFrom k earlier before [] [] [] = Unit {0}
+AreNodesFrom k earlier before (e ∷ es) (n ∷ ns) (b ∷ bs) = IsNodeOf k earlier before e n b × AreNodesFrom k (earlier ++ e ∷ []) (before ++ n ∷ []) es ns bs
+AreNodesFrom k earlier before es ns bs = ⊥
+
+-- ---- enums ----
+
+pub record IsEnumerantOf (k : Numbers) (x : EnumerantTerm) (y : Enumerant) (types : List SchemaType) : Type 0 where
+  pub name : x.name ≡ Ok y.name
+  pub annotations : IsSaidList (IsAnnotationOf k []) x.annotations y.annotations types
+
+-- an enum has the enumerants of its node, in their order; nothing is bound there
+pub record IsEnumOf (k : Numbers) (e : Enum) : Type 0 where
+  pub node : SchemaNode
+  pub display : List ℕ
+  pub members : Said (List (Said EnumerantTerm))
+  pub first : node_named k.nodes e.id ≡ Some node
+  pub enumeration : node.kind ≡ EnumNode members
+  pub said : node.display_name ≡ Ok display
+  pub name : e.display_name ≡ dotted_of display
+  pub annotations : IsSaidList (IsAnnotationOf k []) node.annotations e.annotations e.annotation_types.own
+  pub enumerants : IsSaidList (IsEnumerantOf k) members e.enumerants e.annotation_types.children
+
+abbrev pub AreEnumsOf : Numbers → List Enum → Type 0
+AreEnumsOf k [] = Unit {0}
+AreEnumsOf k (e ∷ es) = IsEnumOf k e × AreEnumsOf k es
+
+-- ---- the structs of the requested files ----
+
+-- a requested file, or what is nested in such a node
+pub data IsListed (r : RequestTerm) : ℕ → Type 0 where
+  OfFile : (ids : List ℕ) (id : ℕ) → r.files ≡ Ok ids → is_met ids id ≡ true → IsListed r id
+  NestedIn : (outer : ℕ) (n : SchemaNode) (ids : List ℕ) (id : ℕ) → IsListed r outer → node_named r.nodes outer ≡ Some n → n.nested ≡ Ok ids → is_met ids id ≡ true → IsListed r id
+
+-- the set has a node of an id by the display name of its schema node, or by what stands behind that name's last colon
+pub record IsFound (set : Schemas) (id : ℕ) (n : SchemaNode) : Type 0 where
+  pub number : ℕ
+  pub node : Node
+  pub display : List ℕ
+  pub numbered : slice_get set.nodes number ≡ Some node
+  pub same_id : node.id ≡ id
+  pub said : n.display_name ≡ Ok display
+  pub name : (node.display_name ≡ dotted_of display) ⊎ (node.display_name ≡ display)
+
+-- ---- the set ----
+
+abbrev pub numbers_in : RequestTerm → (strict : Bool) → List Entry → Schemas → Numbers
+numbers_in r strict entries set = record { nodes = r.nodes; strict = strict; entries = entries; enums = map (λ (e : Enum). e.id) set.enums }
+
+-- A set is that of a request: its nodes and brands are those of entries, each a struct node of the request with bindings or
+-- the group of a field; its enums are the request's; and each struct of the requested files that is no group is found.
+pub record IsSetOf (r : RequestTerm) (strict : Bool) (set : Schemas) : Type 0 where
+  pub entries : List Entry
+  pub bound : AreEntries r.nodes entries entries
+  pub distinct : AreDistinct entries
+  pub nodes : AreNodesFrom (numbers_in r strict entries set) [] [] entries set.nodes set.brands
+  pub enums : AreEnumsOf (numbers_in r strict entries set) set.enums
+  pub roots : (id : ℕ) (n : SchemaNode) (part : StructPart) → IsListed r id → node_named r.nodes id ≡ Some n → n.kind ≡ StructNode part → part.is_group ≡ false → IsFound set id n
