@@ -242,10 +242,10 @@ fn words_that_cannot_be_read_are_told_with_their_place(rt: HostRuntime) -> Resul
 const NO_ROOTS: &str = "\
 get|--set|nowhere|Flat|a -> refused: 12 ReadFailed (nowhere)
 patch|--set|nowhere|Flat|get a -> refused: 12 ReadFailed (nowhere)
-new|--set|set|Flat -> refused: 2 Truncated (set)
+new|--set|set|Flat -> refused: 2 Truncated (set); a set is what riftcalico schemas writes
 patch|--calls|nowhere|Flat -> refused: 12 ReadFailed (nowhere)
 structs|--set|nowhere -> refused: 12 ReadFailed (nowhere)
-structs|--set|set|Flat -> refused: 2 Truncated (set)
+structs|--set|set|Flat -> refused: 2 Truncated (set); a set is what riftcalico schemas writes
 ";
 
 #[test]

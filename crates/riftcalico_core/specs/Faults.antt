@@ -1,9 +1,9 @@
 -- Refusals, and what they blame.
-use Rattle.std.specs.Prelude.{ℕ, ◌≡◌, List, [], ◌∷◌, ◌++◌, Option, Some, None, Result, Ok, Err, codes, decimal, string_bytes}
+use Rattle.std.specs.Prelude.{ℕ, ◌≡◌, List, [], ◌∷◌, ◌++◌, Bool, true, false, cond, Option, Some, None, Result, Ok, Err, codes, decimal, string_bytes}
 use Rattle.capnp_device.specs.ErrorNumber.{error_name, error_number}
 use Rattle.capnp_device.specs.declared.error.Error.{Error}
 use Rattle.capnp_device.specs.declared.error.ErrorKind.{ErrorKind}
-use Rattle.capnp_device.specs.declared.error.ErrorKind.TheVariants.{NameNotFound}
+use Rattle.capnp_device.specs.declared.error.ErrorKind.TheVariants.{NameNotFound, OutOfMemory, ReadFailed}
 use Rattle.capnp_patch.specs.Lines.{told_word}
 use Rattle.riftcalico_core.specs.Plans.{calls_file}
 use Rattle.riftcalico_core.specs.declared.fault.Blamed.{Blamed}
@@ -54,10 +54,29 @@ blamed_word t blamed.Name = task_name t
 blamed_word t blamed.Input = codes "standard input"
 blamed_word t blamed.Output = codes "standard output"
 
+-- what a file holds is refused, and not for memory or because it can't be read
+abbrev pub is_of_bytes : ErrorKind → Bool
+is_of_bytes OutOfMemory = false
+is_of_bytes ReadFailed = false
+is_of_bytes kind = true
+
+-- of the file of a set, what makes one
+abbrev pub set_hint : Option (List ℕ) → ErrorKind → List ℕ
+set_hint (Some path) kind = cond (is_of_bytes kind) (codes "; a set is what riftcalico schemas writes") []
+set_hint None kind = []
+
 -- of a name that no struct has, how all are listed
-abbrev pub hint_of : ErrorKind → List ℕ
-hint_of NameNotFound = codes "; see riftcalico structs"
-hint_of kind = []
+abbrev pub name_hint : ErrorKind → List ℕ
+name_hint NameNotFound = codes "; see riftcalico structs"
+name_hint kind = []
+
+abbrev pub blamed_hint : Task → Blamed → ErrorKind → List ℕ
+blamed_hint t blamed.Name kind = name_hint kind
+blamed_hint t blamed.«Set» kind = set_hint (task_set_file t) kind
+blamed_hint t b kind = []
+
+abbrev pub hint_of : Task → Fault → List ℕ
+hint_of t f = blamed_hint t f.blamed f.error.kind
 
 -- of several messages the number of one
 abbrev pub message_word : Option ℕ → List ℕ
@@ -66,4 +85,4 @@ message_word (Some number) = codes ", message " ++ decimal number
 
 -- a refusal's number and name, what is to be looked at, of several messages which one, and what tells more
 abbrev pub fault_line : Task → (message : Option ℕ) → Fault → List ℕ
-fault_line t message f = codes "refused: " ++ decimal (error_number f.error.kind) ++ codes " " ++ error_name f.error.kind ++ codes " (" ++ told_word (blamed_word t f.blamed) ++ message_word message ++ codes ")" ++ told_word (string_bytes f.note) ++ hint_of f.error.kind ++ 10 ∷ []
+fault_line t message f = codes "refused: " ++ decimal (error_number f.error.kind) ++ codes " " ++ error_name f.error.kind ++ codes " (" ++ told_word (blamed_word t f.blamed) ++ message_word message ++ codes ")" ++ told_word (string_bytes f.note) ++ hint_of t f ++ 10 ∷ []

@@ -2,7 +2,7 @@
 ghost use Rattle.std.specs.Prelude.{◌≡◌, ◌++◌, IfErr, IfOk, Ok, OnOk, string_bytes};
 ghost use Rattle.std.specs.Option.{option_map};
 ghost use Rattle.capnp_device.specs.declared.error.ErrorKind.TheVariants.{OutOfMemory};
-ghost use Rattle.riftcalico_core.specs.Faults.{IsFaultOf, IsPlainFault, blamed_word, fault_line, file_word, hint_of, message_word, task_name, task_set_file};
+ghost use Rattle.riftcalico_core.specs.Faults.{IsFaultOf, IsPlainFault, blamed_word, fault_line, file_word, hint_of, is_of_bytes, message_word, name_hint, set_hint, task_name, task_set_file};
 ghost use Rattle.riftcalico_words.specs.RequestSeen.{task_seen};
 
 use crate::plan::get_calls_file;
@@ -107,13 +107,50 @@ fn get_word<'a>(task: &Task<'a>, blamed: Blamed) -> &'a str
     }
 }
 
-/// What tells more of a refusal: of a name that no struct has, how all are listed.
-fn get_hint(kind: ErrorKind) -> &'static str
-    ensures { result.now ≡ hint_of kind }
+/// Whether what a file holds is refused, and not for memory or because it can't be read.
+fn is_of_bytes(kind: ErrorKind) -> bool
+    ensures { result ≡ is_of_bytes kind }
+{
+    match kind {
+        ErrorKind::OutOfMemory | ErrorKind::ReadFailed => false,
+        _ => true,
+    }
+}
+
+/// What tells more of a refusal of a set's file: what makes one.
+fn get_set_hint(file: Option<&str>, kind: ErrorKind) -> &'static str
+    ensures { result.now ≡ set_hint (option_map (λ f. f.now) file.entry) kind }
+{
+    match file {
+        Some(_) => {
+            if is_of_bytes(kind) {
+                "; a set is what riftcalico schemas writes"
+            } else {
+                ""
+            }
+        }
+        None => "",
+    }
+}
+
+/// What tells more of a refusal of a name: how all are listed.
+fn get_name_hint(kind: ErrorKind) -> &'static str
+    ensures { result.now ≡ name_hint kind }
 {
     match kind {
         ErrorKind::NameNotFound => "; see riftcalico structs",
         _ => "",
+    }
+}
+
+/// What tells more of a refusal: of a name that no struct has, how all are listed; of the file of a set, what makes one.
+fn get_hint(task: &Task<'_>, fault: &Fault) -> &'static str
+    ensures { result.now ≡ hint_of (task_seen task.now) fault.now }
+{
+    match fault.blamed {
+        Blamed::Name => get_name_hint(fault.error.kind),
+        Blamed::Set => get_set_hint(get_set_file(task), fault.error.kind),
+        Blamed::Calls | Blamed::Input | Blamed::Output => "",
     }
 }
 
@@ -147,7 +184,7 @@ pub fn put_fault(
     put_message(&mut line, message)?;
     line.push_str(")")?;
     put_word(&mut line, fault.note.as_str())?;
-    line.push_str(get_hint(fault.error.kind))?;
+    line.push_str(get_hint(task, fault))?;
     line.push_str("\n")?;
     Ok(line)
 }
