@@ -121,13 +121,13 @@ pub record IsNumbered (id : ℕ) (bound : List Bound) (n : ℕ) (entries : List 
 
 -- What is kept of the entries is kept where a struct node is added that isn't there with these types of its parameters.
 abbrev pub KeepsWhole : (List Entry → Type 0) → List SchemaNode → Type 0
-KeepsWhole K nodes = (es : List Entry) (id : ℕ) (bound : List Bound) → entry_number id bound es 0 ≡ None → scopes_of nodes id ≡ Ok (map without_types bound) → K es → K (es ++ whole_entry id bound ∷ [])
+KeepsWhole K nodes = (es : List Entry) (id : ℕ) (bound : List Bound) → nat_lt (length es) 65536 ≡ true → entry_number id bound es 0 ≡ None → scopes_of nodes id ≡ Ok (map without_types bound) → K es → K (es ++ whole_entry id bound ∷ [])
 
 module _ (K : List Entry → Type 0) where
-  pub entry_added : (e : Entry) (s : Named) → (K s.entries → K (s.entries ++ e ∷ [])) → IfDone (λ n t. Done K s t (λ z. slice_get z.entries n ≡ Some e)) (add_entry e s)
+  pub entry_added : (e : Entry) (s : Named) → (nat_lt (length s.entries) 65536 ≡ true → K s.entries → K (s.entries ++ e ∷ [])) → IfDone (λ n t. Done K s t (λ z. slice_get z.entries n ≡ Some e)) (add_entry e s)
   entry_added e s keeps = done_where K (nat_lt (length s.entries) 65536) TooManyTypes (λ n t. Done K s t (λ z. slice_get z.entries n ≡ Some e)) (Ok (length s.entries, record s { entries = s.entries ++ e ∷ [] })) (λ few. record {
     grown = record { entries = e ∷ []; enums = []; entries_are = refl; enums_are = sym (append-nil s.enums) };
-    kept = keeps;
+    kept = keeps few;
     later = λ z g. ap (λ xs. slice_get xs (length s.entries)) g.entries_are ∙ still_at (s.entries ++ e ∷ []) g.entries (length s.entries) e (last_at s.entries e);
   })
 
@@ -145,7 +145,7 @@ module _ (K : List Entry → Type 0) where
         go None is =
             weaken K s (λ n z. slice_get z.entries n ≡ Some (whole_entry id bound)) (λ n z. IsNumbered id bound n z.entries) (add_entry (whole_entry id bound) s)
             (λ n z g h. record { entry = whole_entry id bound; numbered = h; node = refl; whole = refl; same = same_bound_itself bound })
-            (entry_added (whole_entry id bound) s (whole s.entries id bound is scopes))
+            (entry_added (whole_entry id bound) s (λ few. whole s.entries id bound few is scopes))
 
   pub enum_numbered : (nodes : List SchemaNode) (id : ℕ) → IsWork K (number_enum nodes id) (λ n z. slice_get z.enums n ≡ Some id)
   enum_numbered nodes id s = go (enum_position s.enums id 0) refl

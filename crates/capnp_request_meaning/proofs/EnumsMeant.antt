@@ -1,5 +1,5 @@
 -- An enum has what its node has.
-use Rattle.std.proofs.Common.{ℕ, ◌≡◌, ◌∙◌, ap, refl, Bool, List, [], ◌∷◌, ◌++◌, map}
+use Rattle.std.proofs.Common.{ℕ, ◌≡◌, ◌∙◌, ap, refl, Bool, List, [], ◌∷◌, ◌++◌, map, ◌≤◌, length, subst, sym}
 use Rattle.capnp_schema.specs.Schema.{Annotation, Enum, Enumerant}
 use Rattle.capnp_schema.specs.Types.{SchemaType}
 use Rattle.capnp_request.specs.Conversion.{annotations_of, converted_name}
@@ -105,6 +105,7 @@ module _ (K : List Entry → Type 0) (nodes : List SchemaNode) (whole : KeepsWho
       enumeration = made.enumeration;
       said = begun.said;
       name = made.is_name ∙ begun.is;
+      short = subst (λ (xs : List ℕ). length xs ≤ 1024) (sym made.is_name) begun.short;
       annotations = made.annotations;
       enumerants = made.enumerants;
     }

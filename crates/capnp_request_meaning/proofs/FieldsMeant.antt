@@ -1,5 +1,5 @@
 -- The fields of an entry, one after another.
-use Rattle.std.proofs.Common.{ℕ, suc, ◌+◌, ◌≡◌, ◌∙◌, ◌&&◌, ap, arith, refl, Bool, List, [], ◌∷◌, ◌++◌, map, slice_get, Some, Ok, Err}
+use Rattle.std.proofs.Common.{ℕ, suc, ◌+◌, ◌≡◌, ◌∙◌, ◌&&◌, ap, arith, refl, Bool, List, [], ◌∷◌, ◌++◌, map, slice_get, Some, Ok, Err, length, nat_lt, true}
 use Rattle.capnp_device.specs.declared.error.ErrorKind.TheVariants.{NodeNotFound}
 use Rattle.capnp_schema.specs.Schema.{Annotation, FieldKind, Group, Slot}
 use Rattle.capnp_schema.specs.Types.{SchemaType, StructType}
@@ -20,7 +20,7 @@ group_entry id inside n i = record { node = id; bound = inside; place = GroupOf 
 
 -- What is kept of the entries is kept where the group is added that field i of entry n names.
 abbrev pub KeepsGroups : (List Entry → Type 0) → (inside : List Bound) → (n : ℕ) → List (Said FieldTerm) → Type 0
-KeepsGroups K inside n members = (es : List Entry) (i id : ℕ) (f : FieldTerm) → slice_get members i ≡ Some (Ok f) → f.kind ≡ GroupTerm id → K es → K (es ++ group_entry id inside n i ∷ [])
+KeepsGroups K inside n members = (es : List Entry) (i id : ℕ) (f : FieldTerm) → nat_lt (length es) 65536 ≡ true → slice_get members i ≡ Some (Ok f) → f.kind ≡ GroupTerm id → K es → K (es ++ group_entry id inside n i ∷ [])
 
 -- fields from i on, as they stand among all
 abbrev pub AreMembersFrom : List (Said FieldTerm) → ℕ → List (Said FieldTerm) → Type 0
@@ -45,7 +45,7 @@ module _ (K : List Entry → Type 0) (nodes : List SchemaNode) (whole : KeepsWho
 
   group_added : (i id : ℕ) (f : FieldTerm) → slice_get members i ≡ Some (Ok f) → f.kind ≡ GroupTerm id → IsWork K (where_node is_struct_kind nodes id (add_entry (group_entry id inside n i))) (λ number z. slice_get z.entries number ≡ Some (group_entry id inside n i))
   group_added i id f there is s = done_where K (is_of_kind is_struct_kind (node_named nodes id)) NodeNotFound (λ number t. Done K s t (λ z. slice_get z.entries number ≡ Some (group_entry id inside n i))) (add_entry (group_entry id inside n i) s)
-      (λ found. entry_added K (group_entry id inside n i) s (groups s.entries i id f there is))
+      (λ found. entry_added K (group_entry id inside n i) s (λ few. groups s.entries i id f few there is))
 
   group_meant : (i id : ℕ) (f : FieldTerm) → slice_get members i ≡ Some (Ok f) → f.kind ≡ GroupTerm id → IsWork K (kind_of nodes strict inside n i (GroupTerm id)) (λ q z. IsKindOf (numbers nodes strict z) inside n i (GroupTerm id) q.0 q.1)
   group_meant i id f there is =

@@ -1,6 +1,6 @@
 -- The display names of entries and enums.
-use Rattle.std.proofs.Common.{ℕ, ◌+◌, ◌-◌, ◌≡◌, ◌∙◌, ◌⊎◌, ◌==◌, ap, drop, inl, inr, refl, subst, sym, length, map, nat_lt, slice_get, Bool, true, false, List, [], ◌∷◌, ◌++◌, Option, Some, None, Ok, Err, zero, suc, ◌&&◌, bytes_eq, not}
-use Rattle.std.proofs.lemmas.Bool.{eqb-true, and_from, or_left, or_right}
+use Rattle.std.proofs.Common.{ℕ, ◌+◌, ◌-◌, ◌≡◌, ◌∙◌, ◌⊎◌, ◌==◌, ap, drop, inl, inr, refl, subst, sym, length, map, nat_lt, slice_get, Bool, true, false, List, [], ◌∷◌, ◌++◌, Option, Some, None, Ok, Err, zero, suc, ◌&&◌, bytes_eq, not, ◌≤◌}
+use Rattle.std.proofs.lemmas.Bool.{eqb-true, and_from, or_left, or_right, ltb-false}
 use Rattle.std.specs.Str.{is_utf8}
 use Rattle.capnp_device.specs.declared.error.ErrorKind.{ErrorKind}
 use Rattle.capnp_device.specs.declared.error.ErrorKind.TheVariants.{NameNotUtf8, TooManyTypes}
@@ -47,6 +47,14 @@ name_finished name out h = go (nat_lt 1024 (length name)) (is_utf8 name) h
     go false true e = cc
     go false false e = absurd (cc)
 
+-- and it is short
+pub name_short : (name out : List ℕ) → finished_name name ≡ Ok out → length out ≤ 1024
+name_short name out h = subst (λ (xs : List ℕ). length xs ≤ 1024) (name_finished name out h) (go (nat_lt 1024 (length name)) refl (is_utf8 name) h)
+  where
+    go : (q : Bool) → nat_lt 1024 (length name) ≡ q → (r : Bool) → (elim q as (λ _. Said (List ℕ)) [ true ↦ Err TooManyTypes | false ↦ elim r as (λ _. Said (List ℕ)) [ true ↦ Ok name | false ↦ Err NameNotUtf8 ] ]) ≡ Ok out → length name ≤ 1024
+    go true is r e = absurd (cc)
+    go false is r e = ltb-false 1024 (length name) is
+
 -- a display name is its file and what stands behind it
 file_dotted : (xs : List ℕ) → file_of xs ++ dotted_of xs ≡ xs
 file_dotted [] = refl
@@ -92,6 +100,9 @@ module _ (structs enums : List (List ℕ)) where
   taken_by bound display name true u h is = sym h ∙ (ap (λ xs. file_of display ++ xs) (unbound_name bound (occurrences_of 46 (dotted_of display)) 0 (dotted_of display) u) ∙ file_dotted display)
   taken_by bound display name false u h is = absurd (cc)
 
+  pub struct_short : (holders : List Holder) (id : ℕ) (bound : List Bound) (display name : List ℕ) → struct_name structs enums holders id bound display ≡ Ok name → length name ≤ 1024
+  struct_short holders id bound display name h = name_short (file_where (is_taken holders id (dotted_of display)) display ++ whole_name bound display) name h
+
   pub struct_taken : (holders : List Holder) (id : ℕ) (bound : List Bound) (display name : List ℕ) → AreUnbound bound → struct_name structs enums holders id bound display ≡ Ok name → is_taken holders id (dotted_of display) ≡ true → name ≡ display
   struct_taken holders id bound display name u h is = taken_by bound display name (is_taken holders id (dotted_of display)) u (name_finished (file_where (is_taken holders id (dotted_of display)) display ++ whole_name bound display) name h) is
 
@@ -107,6 +118,14 @@ field_named made p i name parent None there member h = absurd (cc)
 group_named : (made : List Node) (p i : ℕ) (name : List ℕ) (o : Option Node) → slice_get made p ≡ o → group_name o i ≡ Ok name → IsGroupName made p i name
 group_named made p i name (Some parent) there h = field_named made p i name parent (slice_get (map (λ (f : Field). f.name) parent.fields) i) there refl h
 group_named made p i name None there h = absurd (cc)
+
+field_short : (parent : List ℕ) (o : Option (List ℕ)) (name : List ℕ) → dotted_name parent o ≡ Ok name → length name ≤ 1024
+field_short parent (Some field) name h = name_short (parent ++ 46 ∷ field) name h
+field_short parent None name h = absurd (cc)
+
+group_short : (o : Option Node) (i : ℕ) (name : List ℕ) → group_name o i ≡ Ok name → length name ≤ 1024
+group_short (Some p) i name h = field_short p.display_name (slice_get (map (λ (f : Field). f.name) p.fields) i) name h
+group_short None i name h = absurd (cc)
 
 -- ---- dotted names that earlier entries have ----
 
@@ -154,19 +173,21 @@ AreHoldersThen holders node e Whole after = (display : List ℕ) × (node.displa
 AreHoldersThen holders node e (GroupOf p i) after = after ≡ holders
 
 abbrev pub IsNamedSo : List SchemaNode → List Holder → List Node → SchemaNode → Entry → Place → List ℕ → List Holder → Type 0
-IsNamedSo nodes holders made node e p name after = ((earlier : List Entry) → AreHeld nodes holders earlier → IsEntryName nodes earlier made node e p name) × AreHoldersThen holders node e p after
+IsNamedSo nodes holders made node e p name after = ((earlier : List Entry) → AreHeld nodes holders earlier → IsEntryName nodes earlier made node e p name) × AreHoldersThen holders node e p after × (length name ≤ 1024)
 
 -- the node and the name of an entry, behind the nodes that are made
 pub record IsBegun (nodes : List SchemaNode) (m : Made) (e : Entry) (b : Begun) : Type 0 where
   pub first : node_named nodes e.node ≡ Some b.node
   pub name : (earlier : List Entry) → AreHeld nodes m.holders earlier → IsEntryName nodes earlier m.nodes b.node e e.place b.name
   pub holders : AreHoldersThen m.holders b.node e e.place b.holders
+  pub short : length b.name ≤ 1024
 
 pub record IsEnumBegun (nodes : List SchemaNode) (id : ℕ) (name : List ℕ) (n : SchemaNode) : Type 0 where
   pub display : List ℕ
   pub first : node_named nodes id ≡ Some n
   pub said : n.display_name ≡ Ok display
   pub is : name ≡ dotted_of display
+  pub short : length name ≤ 1024
 
 module _ (nodes : List SchemaNode) where
   module _ (made : List Node) (enums : List (List ℕ)) (holders : List Holder) (e : Entry) where
@@ -189,7 +210,7 @@ module _ (nodes : List SchemaNode) where
     entry_name (GroupOf parent field) node name after first h =
         let named = chained (group_name (slice_get made parent) field) with_holders (name, after) h in
         let is : named.value ≡ name = first_same named.value name holders after named.rest in
-        (λ earlier held. group_named made parent field name (slice_get made parent) refl (named.first ∙ ap (λ x. Ok x) is), sym (second_same named.value name holders after named.rest))
+        (λ earlier held. group_named made parent field name (slice_get made parent) refl (named.first ∙ ap (λ x. Ok x) is), sym (second_same named.value name holders after named.rest), group_short (slice_get made parent) field name (named.first ∙ ap (λ x. Ok x) is))
     entry_name Whole node name after first h =
         let found = chained (node_there (node_named nodes e.node)) with_shown (name, after) h in
         let shown = chained found.value.display_name with_display (name, after) found.rest in
@@ -205,6 +226,7 @@ module _ (nodes : List SchemaNode) where
             taken = λ t. struct_taken structs_made enums holders e.node e.bound shown.value name u is (taken_among holders (holder t.entry.node (dotted_of t.display)) e.node (dotted_of shown.value) (held t.number t.entry t.node t.display t.numbered t.whole t.first t.said) t.same t.other);
           },
           (shown.value, said, sym (second_same named.value name (holder e.node (dotted_of shown.value) ∷ holders) after named.rest)),
+          struct_short structs_made enums holders e.node e.bound shown.value name is,
         )
 
   module _ (m : Made) (e : Entry) where
@@ -233,7 +255,7 @@ module _ (nodes : List SchemaNode) where
         let so : IsNamedSo nodes m.holders m.nodes node.value e e.place named.value.0 named.value.1 = entry_name m.nodes names.value m.holders e e.place node.value named.value.0 named.value.1 there named.first in
         let so_named : IsNamedSo nodes m.holders m.nodes node.value e e.place b.name b.holders = subst (λ (x : Begun). IsNamedSo nodes m.holders m.nodes node.value e e.place x.name x.holders) same so in
         let so_begun : IsNamedSo nodes m.holders m.nodes b.node e e.place b.name b.holders = subst (λ (n : SchemaNode). IsNamedSo nodes m.holders m.nodes n e e.place b.name b.holders) is_node so_named in
-        record { first = first; name = so_begun.0; holders = so_begun.1 }
+        record { first = first; name = so_begun.0; holders = so_begun.1; short = so_begun.2 }
 
   -- ---- what an enum begins with ----
 
@@ -266,4 +288,5 @@ module _ (nodes : List SchemaNode) where
         first = there_some (node_named nodes id) found.value found.first ∙ ap (λ (n : SchemaNode). Some n) is_node;
         said = ap (λ (n : SchemaNode). n.display_name) (sym is_node) ∙ shown.first;
         is = sym is_name ∙ sym (name_finished (dotted_of shown.value) named.value named.first);
+        short = subst (λ (xs : List ℕ). length xs ≤ 1024) is_name (name_short (dotted_of shown.value) named.value named.first);
       }

@@ -1,6 +1,6 @@
 -- Entries and enums are made one after another, until all are made.
-use Rattle.std.proofs.Common.{ℕ, zero, suc, ◌<◌, ◌≡◌, ◌∙◌, ◌⊎◌, ap, append_assoc, arith, inl, inr, refl, subst, sym, Bool, false, List, [], ◌∷◌, ◌++◌, length, map, slice_get, Option, Some, None, Result, Ok, Err}
-use Rattle.std.proofs.lemmas.List.{append-nil, length-map, map-append}
+use Rattle.std.proofs.Common.{ℕ, zero, suc, ◌<◌, ◌≡◌, ◌∙◌, ◌⊎◌, ap, append_assoc, arith, inl, inr, refl, subst, sym, Bool, false, List, [], ◌∷◌, ◌++◌, length, map, slice_get, Option, Some, None, Result, Ok, Err, nat_lt, true, ◌≤◌, ◌+◌}
+use Rattle.std.proofs.lemmas.List.{append-nil, length-map, map-append, length-append}
 use Rattle.std.proofs.lemmas.Option.{slice_get_within}
 use Rattle.capnp_device.specs.declared.error.ErrorKind.{ErrorKind}
 use Rattle.capnp_schema.specs.Schema.{Brand, Enum, Node}
@@ -19,6 +19,7 @@ use Rattle.capnp_request_meaning.proofs.NodesMeant.{IsMade, KeepsFields, struct_
 use Rattle.capnp_request_meaning.proofs.TypesMeant.{numbers}
 use Rattle.capnp_request_meaning.proofs.Works.{Done, Grows, IfDone, IsWork, bind, entry_still, enum_still, grows_none, grows_on, of_work, said_bind}
 use Rattle.capnp_request.specs.Names.{Holder, dotted_of}
+use Rattle.std.proofs.lemmas.Bool.{ltb-true}
 
 -- ---- entries are those of the request, whatever comes behind them ----
 
@@ -61,14 +62,22 @@ distinct_more es g k other i j e f less at_i at_j whole = go (before_or_last es 
 pub record Stay (nodes : List SchemaNode) (es : List Entry) : Type 0 where
   pub entries : StayEntries nodes es
   pub distinct : AreDistinct es
+  pub few : length es ≤ 65536
+
+one_more : (es : List Entry) (e : Entry) → nat_lt (length es) 65536 ≡ true → length (es ++ e ∷ []) ≤ 65536
+one_more es e h =
+    let less : length es < 65536 = ltb-true (length es) 65536 h in
+    let longer : length (es ++ e ∷ []) ≡ length es + 1 = length-append es (e ∷ []) in
+    omega (arith, less, longer)
 
 pub stay_none : (nodes : List SchemaNode) → Stay nodes []
-stay_none nodes = record { entries = λ all more is. tt; distinct = λ i j e f less at_i at_j whole. absurd (cc) }
+stay_none nodes = record { entries = λ all more is. tt; distinct = λ i j e f less at_i at_j whole. absurd (cc); few = omega arith }
 
 pub stay_whole : (nodes : List SchemaNode) → KeepsWhole (Stay nodes) nodes
-stay_whole nodes es id bound none scopes k = record {
+stay_whole nodes es id bound few none scopes k = record {
   entries = stay_more nodes es (whole_entry id bound) k.entries (λ all more eq. scopes);
   distinct = distinct_more es (whole_entry id bound) k.distinct (λ i e there whole. not_among id bound es 0 i e none there);
+  few = one_more es (whole_entry id bound) few;
 }
 
 -- the same, with the entry that is worked on at its number
@@ -76,10 +85,10 @@ abbrev StayWith : List SchemaNode → (n : ℕ) → Entry → List Entry → Typ
 StayWith nodes n parent es = (slice_get es n ≡ Some parent) × Stay nodes es
 
 with_whole : (nodes : List SchemaNode) (n : ℕ) (parent : Entry) → KeepsWhole (StayWith nodes n parent) nodes
-with_whole nodes n parent es id bound none scopes k = (still_at es (whole_entry id bound ∷ []) n parent k.0, stay_whole nodes es id bound none scopes k.1)
+with_whole nodes n parent es id bound few none scopes k = (still_at es (whole_entry id bound ∷ []) n parent k.0, stay_whole nodes es id bound few none scopes k.1)
 
 with_groups : (nodes : List SchemaNode) (n : ℕ) (parent : Entry) (node : SchemaNode) → node_named nodes parent.node ≡ Some node → KeepsFields (StayWith nodes n parent) parent.bound n node
-with_groups nodes n parent node first part members struct listed es i id f there is k =
+with_groups nodes n parent node first part members struct listed es i id f few there is k =
     let e : Entry = group_entry id parent.bound n i in
     let here : slice_get (es ++ e ∷ []) n ≡ Some parent = still_at es (e ∷ []) n parent k.0 in
     let kept : Stay nodes es = k.1 in (
@@ -100,6 +109,7 @@ with_groups nodes n parent node first part members struct listed es i id f there
           group = is;
         });
         distinct = distinct_more es e kept.distinct (λ j x there whole. absurd (cc));
+        few = one_more es e few;
       },
     )
 
@@ -245,6 +255,7 @@ module _ (nodes : List SchemaNode) (strict : Bool) where
             listed = h.listed;
             id = h.is_id;
             name = subst (λ (x : List ℕ). IsEntryName nodes earlier m.nodes b.node e e.place x) (sym h.is_name) (begun.name earlier held);
+            short = subst (λ (x : List ℕ). length x ≤ 1024) (sym h.is_name) begun.short;
             annotations = h.annotations;
             data_words = h.data_words;
             pointers = h.pointers;

@@ -107,7 +107,7 @@ row_enum_type : IsTypeOf row_numbers [] (ListTerm (EnumTerm 5)) (ListType (EnumT
 row_enum_type = (EnumType 0, refl, (0, refl, refl))
 
 row_enums : AreEnumsOf row_numbers row_set.enums
-row_enums = (record { node = enum_node; display = codes "x.capnp:E"; members = Ok (enumerant (codes "p") ∷ enumerant (codes "q") ∷ []); first = refl; enumeration = refl; said = refl; name = refl; annotations = tt; enumerants = (record { name = refl; annotations = tt }, (record { name = refl; annotations = tt }, tt)) }, tt)
+row_enums = (record { node = enum_node; display = codes "x.capnp:E"; members = Ok (enumerant (codes "p") ∷ enumerant (codes "q") ∷ []); first = refl; enumeration = refl; said = refl; name = refl; short = omega arith; annotations = tt; enumerants = (record { name = refl; annotations = tt }, (record { name = refl; annotations = tt }, tt)) }, tt)
 
 no_entry_at : (i : ℕ) (e : Entry) → slice_get [] i ≡ Some e → ⊥
 no_entry_at i e h = cc
@@ -123,6 +123,7 @@ row_nodes = (
     listed = refl;
     id = refl;
     name = λ u. record { display = codes "x.capnp:A"; said = refl; is = inl refl; taken = λ t. absurd (no_entry_at t.number t.entry t.numbered) };
+    short = omega arith;
     annotations = tt;
     data_words = refl;
     pointers = refl;
@@ -142,6 +143,7 @@ row_nodes = (
       listed = refl;
       id = refl;
       name = record { parent = struct 2 (codes "A") false 2 row_fields; field = codes "g"; numbered = refl; member = refl; is = refl };
+      short = omega arith;
       annotations = tt;
       data_words = refl;
       pointers = refl;

@@ -97,6 +97,7 @@ module _ (r : RequestTerm) (strict : Bool) where
         entries = t.entries;
         bound = kept.entries t.entries [] (sym (append-nil t.entries));
         distinct = kept.distinct;
+        few = kept.few;
         nodes = meant;
         enums = subst (λ ids. AreEnumsOf (numbers_by r.nodes strict t.entries ids) m.enums) enums made.enumerated;
         roots = found_of r (numbers_by r.nodes strict t.entries (enum_ids m.enums)) refl t.entries (schemas_made m) meant rooted;

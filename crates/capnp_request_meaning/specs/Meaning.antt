@@ -1,5 +1,5 @@
 -- What a set of schemas says of the request that it is made of, in the request's own words.
-use Rattle.std.specs.Prelude.{ℕ, zero, suc, ◌+◌, ◌<◌, ◌≡◌, ◌⊎◌, ◌==◌, List, [], ◌∷◌, ◌++◌, Bool, true, false, length, map, slice_get, Some, Ok, Err}
+use Rattle.std.specs.Prelude.{ℕ, zero, suc, ◌+◌, ◌<◌, ◌≡◌, ◌⊎◌, ◌==◌, List, [], ◌∷◌, ◌++◌, Bool, true, false, length, map, slice_get, Some, Ok, Err, ◌≤◌}
 use Rattle.capnp_schema.specs.Schema.{Annotation, Brand, Enum, Enumerant, Field, FieldKind, Group, Node, Schemas, Slot}
 use Rattle.capnp_schema.specs.Types.{SchemaType, AnyPointerType, EnumType, ListType, StructType, UIntType}
 use Rattle.capnp_request.specs.Names.{dotted_of}
@@ -194,6 +194,7 @@ pub record IsNodeOf (k : Numbers) (earlier : List Entry) (before : List Node) (e
   pub listed : part.fields ≡ Ok members
   pub id : n.id ≡ e.node
   pub name : IsEntryName k.nodes earlier before node e e.place n.display_name
+  pub short : length n.display_name ≤ 1024
   pub annotations : IsSaidList (IsAnnotationOf k e.bound) node.annotations n.annotations b.annotation_types.own
   pub data_words : n.data_word_count ≡ part.data_words
   pub pointers : n.pointer_count ≡ part.pointers
@@ -224,6 +225,7 @@ pub record IsEnumOf (k : Numbers) (e : Enum) : Type 0 where
   pub enumeration : node.kind ≡ EnumNode members
   pub said : node.display_name ≡ Ok display
   pub name : e.display_name ≡ dotted_of display
+  pub short : length e.display_name ≤ 1024
   pub annotations : IsSaidList (IsAnnotationOf k []) node.annotations e.annotations e.annotation_types.own
   pub enumerants : IsSaidList (IsEnumerantOf k) members e.enumerants e.annotation_types.children
 
@@ -259,6 +261,7 @@ pub record IsSetOf (r : RequestTerm) (strict : Bool) (set : Schemas) : Type 0 wh
   pub entries : List Entry
   pub bound : AreEntries r.nodes entries entries
   pub distinct : AreDistinct entries
+  pub few : length entries ≤ 65536
   pub nodes : AreNodesFrom (numbers_in r strict entries set) [] [] entries set.nodes set.brands
   pub enums : AreEnumsOf (numbers_in r strict entries set) set.enums
   pub roots : (id : ℕ) (n : SchemaNode) (part : StructPart) → IsListed r id → node_named r.nodes id ≡ Some n → n.kind ≡ StructNode part → part.is_group ≡ false → IsFound set id n
