@@ -65,9 +65,10 @@ pub mod any_pointer {
     pub use crate::capnp_builders::any_pointer::{Builder, Owned, Reader};
 }
 
-/// Compatible successors of a schema, and reads of one under the other.
+/// Compatible successors of a schema, reads of one under the other, and why a schema is none.
 pub mod compatible {
     pub use crate::capnp_compatible::Compatible;
+    pub use crate::capnp_differences::{explain, Cause, Difference, Pair};
 }
 
 /// Data: bytes as they stand.

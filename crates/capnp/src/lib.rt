@@ -13,9 +13,10 @@ pub mod any_pointer {
     pub use capnp_builders::any_pointer::{Builder, Owned, Reader};
 }
 
-/// Compatible successors of a schema, and reads of one under the other.
+/// Compatible successors of a schema, reads of one under the other, and why a schema is none.
 pub mod compatible {
     pub use capnp_compatible::Compatible;
+    pub use capnp_differences::{Cause, Difference, Pair, explain};
 }
 
 /// Data: bytes as they stand.
