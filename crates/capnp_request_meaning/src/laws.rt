@@ -15,8 +15,9 @@ pub fn unbound_names_differ()
     ensures { UnboundNamesDiffer }
 {}
 
-/// A request in which each id that is named is that of a node of its kind is not refused with `NodeNotFound`: so this
-/// refusal is given only where a request names an id that is missing or of another kind.
+/// A request in which each id that is named is that of a node of its kind, and whose unread parts are refused for
+/// something else, is not refused with `NodeNotFound`. So that refusal comes only where an id is missing or of another
+/// kind, somewhere in the request.
 pub fn nothing_is_missing()
     ensures { NothingIsMissing }
 {}
