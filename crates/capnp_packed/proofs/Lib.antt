@@ -6,3 +6,6 @@ pub mod RoundTrip
 pub mod Filled
 pub mod Measured
 pub mod ReadAlike
+pub mod Held
+pub mod Followed
+pub mod Left

@@ -10,7 +10,7 @@ use Rattle.capnp_packed.proofs.Runs.{length_inside, no_tag, word_again, zeros_ag
 
 -- ---- a piece ----
 
-counted_again : (word run more : List ℕ) (n : ℕ) → length run ≡ 8 * n → words_counted word (n ∷ run ++ more) ≡ Some (word ++ run, more)
+pub counted_again : (word run more : List ℕ) (n : ℕ) → length run ≡ 8 * n → words_counted word (n ∷ run ++ more) ≡ Some (word ++ run, more)
 counted_again word run more n h =
     let short : nat_lt (length (run ++ more)) (8 * n) ≡ false = let e = length-append run more in grind (arith, nat_tests, e, h) in
     ap (λ t. cond t None (Some (word ++ take (8 * n) (run ++ more), drop (8 * n) (run ++ more)))) short

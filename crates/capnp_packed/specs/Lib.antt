@@ -1,4 +1,5 @@
 pub mod Packing
 pub mod Unpacking
 pub mod Received
+pub mod Sources
 pub mod Steps

@@ -3,4 +3,6 @@
 
 pub mod pack;
 pub mod received;
+pub mod source;
 pub mod unpack;
+mod window;

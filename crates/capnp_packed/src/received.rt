@@ -55,7 +55,7 @@ fn put_zeros(out: &mut [u8], at: usize, count: u8) -> usize
 }
 
 /// Writes the bytes of a piece from a place on, as many as there is room for, and answers where they end.
-fn put_piece(out: &mut [u8], at: usize, piece: WordRun<'_>) -> usize
+pub(crate) fn put_piece(out: &mut [u8], at: usize, piece: WordRun<'_>) -> usize
     requires { at ≤ length out.old }
     ensures inside { result ≤ length out.old }
     ensures later { at < length out.old → at < result }

@@ -1,5 +1,5 @@
 //! Bytes out of packed bytes.
-ghost use Rattle.std.specs.Prelude.{◌++◌, ◌<◌, ◌≡◌, ◌≤◌, IfErr, IfOk, IfSome, OnOk, length};
+ghost use Rattle.std.specs.Prelude.{◌++◌, ◌+◌, ◌<◌, ◌≡◌, ◌≤◌, IfErr, IfNone, IfOk, IfSome, MatchOption, OnOk, length};
 ghost use Rattle.std.specs.Option.{option_map};
 ghost use Rattle.capnp_device.specs.declared.error.ErrorKind.TheVariants.{OutOfMemory};
 ghost use Rattle.capnp_packed.specs.Unpacking.{byte_under, piece_of, unpacked_bytes, word_under, words_counted, zeros_counted};
@@ -30,6 +30,7 @@ pub(crate) struct WordRun<'a> {
 fn next_byte(bit: bool, bytes: &[u8]) -> Option<(u8, &[u8])>
     ensures byte { option_map (λ x. (x.0, x.1.now)) result ≡ byte_under bit bytes.now }
     ensures shorter { IfSome result (λ x. length x.1.now ≤ length bytes.now) }
+    ensures few { MatchOption result (length bytes.now ≡ 0) (λ x. length bytes.now ≤ length x.1.now + 1) }
 {
     if !bit {
         return Some((0, bytes));
@@ -44,6 +45,7 @@ fn next_byte(bit: bool, bytes: &[u8]) -> Option<(u8, &[u8])>
 fn read_word(tag: u8, bytes: &[u8]) -> Option<([u8; 8], &[u8])>
     ensures word { option_map (λ x. (x.0, x.1.now)) result ≡ word_under tag bytes.now }
     ensures shorter { IfSome result (λ x. length x.1.now ≤ length bytes.now) }
+    ensures few { MatchOption result (length bytes.now < 8) (λ x. length bytes.now ≤ length x.1.now + 8) }
 {
     let mut word = [0u8; 8];
     let mut rest = bytes;
@@ -62,6 +64,7 @@ fn zeros_behind(rest: &[u8]) -> Option<WordRun<'_>>
     ensures piece { option_map piece_seen result ≡ zeros_counted rest.now }
     ensures shorter { IfSome result (λ p. length p.rest.now ≤ length rest.now) }
     ensures short { IfSome result (λ p. length (run_seen p.run) ≤ 2040) }
+    ensures cut { IfNone result (length rest.now ≡ 0) }
 {
     let [count, rest @ ..] = rest else {
         return None;
@@ -78,6 +81,7 @@ fn words_behind(word: [u8; 8], rest: &[u8]) -> Option<WordRun<'_>>
     ensures piece { option_map piece_seen result ≡ words_counted word rest.now }
     ensures shorter { IfSome result (λ p. length p.rest.now ≤ length rest.now) }
     ensures short { IfSome result (λ p. length (run_seen p.run) ≤ 2040) }
+    ensures cut { IfNone result (length rest.now ≤ 2040) }
 {
     let [first, behind @ ..] = rest else {
         return None;
@@ -91,11 +95,12 @@ fn words_behind(word: [u8; 8], rest: &[u8]) -> Option<WordRun<'_>>
     Some(WordRun { word, run, rest })
 }
 
-/// The first piece of packed bytes; none where they end within it.
+/// The first piece of packed bytes; none where they end within it, which is at most 2,050 bytes long.
 pub(crate) fn next_piece(packed: &[u8]) -> Option<WordRun<'_>>
     ensures piece { option_map piece_seen result ≡ piece_of packed.now }
     ensures shorter { IfSome result (λ p. length p.rest.now < length packed.now) }
     ensures short { IfSome result (λ p. length (run_seen p.run) ≤ 2040) }
+    ensures cut { IfNone result (length packed.now < 2050) }
 {
     let [tag, behind @ ..] = packed else {
         return None;

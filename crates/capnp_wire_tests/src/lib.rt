@@ -16,6 +16,8 @@ mod list_tests;
 #[cfg(test)]
 mod number_tests;
 #[cfg(test)]
+mod packed_stream_tests;
+#[cfg(test)]
 mod packed_tests;
 #[cfg(test)]
 mod pointer_tests;

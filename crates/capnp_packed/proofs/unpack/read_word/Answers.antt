@@ -4,7 +4,7 @@ use Rattle.capnp_packed.proofs.Pieces.{byte_read, word_read, word_start}
 use Rattle.capnp_packed.proofs.unpack.read_word.Goals as goal
 
 pub loop-i-init : goal.loop-i-init
-loop-i-init c = record { reads = word_start c.args.tag c.args.bytes.now; whole = refl; shorter = omega arith }
+loop-i-init c = record { reads = word_start c.args.tag c.args.bytes.now; whole = refl; shorter = omega arith; few = omega arith }
 
 pub loop-i-preserved : goal.loop-i-preserved
 loop-i-preserved c = record {
@@ -12,6 +12,7 @@ loop-i-preserved c = record {
       c.loop-i.invariant.whole c.in_ok-byte.ensures.byte c.loop-i.invariant.reads;
   whole = search rules;
   shorter = omega (arith, c.in_ok-byte.ensures.shorter, c.loop-i.invariant.shorter);
+  few = omega (arith, c.in_ok-byte.ensures.few, c.loop-i.invariant.few);
 }
 
 pub returns-clause-word : goal.returns-clause-word
