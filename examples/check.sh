@@ -307,13 +307,13 @@ expect 'a number past its type' $? 2 '' "1: set a 65536: can't be read at 10; wa
 ./riftcalico get Mixed a..b < examples/mixed.bin > "$scratch/out" 2> "$scratch/err"
 expect 'a path with an empty name' $? 2 '' "1: a..b: can't be read at 2"
 ./riftcalico show Mixed a < examples/mixed.bin > "$scratch/out" 2> "$scratch/err"
-expect 'another form' $? 2 '' 'usage: riftcalico show [--set FILE] [--packed | --each [--keep-going]] NAME [--indent]'
+expect 'another form' $? 2 '' 'usage: riftcalico show [--set FILE] [--packed] [--each [--keep-going]] NAME [--indent]'
 ./riftcalico shows Mixed < examples/mixed.bin > "$scratch/out" 2> "$scratch/err"
 expect 'another verb' $? 2 '' 'unknown verb: shows
-usage: riftcalico show [--set FILE] [--packed | --each [--keep-going]] NAME [--indent]
-       riftcalico get [--set FILE] [--packed | --each [--keep-going]] NAME PATH [--indent]
-       riftcalico check [--set FILE] [--packed | --each [--keep-going]] NAME [PATH]
-       riftcalico patch [--set FILE] [--calls FILE] [--keep-going] [--packed | --each] NAME CALL..
+usage: riftcalico show [--set FILE] [--packed] [--each [--keep-going]] NAME [--indent]
+       riftcalico get [--set FILE] [--packed] [--each [--keep-going]] NAME PATH [--indent]
+       riftcalico check [--set FILE] [--packed] [--each [--keep-going]] NAME [PATH]
+       riftcalico patch [--set FILE] [--calls FILE] [--keep-going] [--packed] [--each] NAME CALL..
        riftcalico new [--set FILE] [--calls FILE] [--keep-going] [--packed] NAME CALL..
        riftcalico structs [--set FILE] [NAME]
        riftcalico schemas [--strict]'

@@ -33,19 +33,19 @@ const HOSTILE: &str = "\
 static USAGES: [(&str, &str); 7] = [
     (
         "show",
-        "[--set FILE] [--packed | --each [--keep-going]] NAME [--indent]",
+        "[--set FILE] [--packed] [--each [--keep-going]] NAME [--indent]",
     ),
     (
         "get",
-        "[--set FILE] [--packed | --each [--keep-going]] NAME PATH [--indent]",
+        "[--set FILE] [--packed] [--each [--keep-going]] NAME PATH [--indent]",
     ),
     (
         "check",
-        "[--set FILE] [--packed | --each [--keep-going]] NAME [PATH]",
+        "[--set FILE] [--packed] [--each [--keep-going]] NAME [PATH]",
     ),
     (
         "patch",
-        "[--set FILE] [--calls FILE] [--keep-going] [--packed | --each] NAME CALL..",
+        "[--set FILE] [--calls FILE] [--keep-going] [--packed] [--each] NAME CALL..",
     ),
     (
         "new",
@@ -155,16 +155,13 @@ get|--set|set|Flat -> usage
 get|Flat|a|--set -> usage
 get|--calls|calls|Flat|a -> usage
 get|--keep-going|Flat|a|b -> usage
-get|--each|--packed|Flat|a -> usage
 show|--keep-going|Flat -> usage
 check -> usage
 check|Flat|--indent -> usage
-check|--packed|--each|Flat -> usage
 check|Flat|a|b -> usage
 patch -> usage
 patch|--keep-going -> usage
 patch|--set|set -> usage
-patch|--each|--packed|Flat|get a -> usage
 patch|--calls|calls -> usage
 patch|--calls|calls|Flat|get a -> usage
 patch|Flat|--indent -> usage
@@ -173,6 +170,7 @@ new -> usage
 new|--keep-going -> usage
 new|--set|set|--keep-going -> usage
 new|--each|Flat -> usage
+new|--each|--packed|Flat -> usage
 new|--calls|calls|Flat| -> usage
 structs|Flat|a -> usage
 structs|--set -> usage

@@ -597,10 +597,10 @@ pub(crate) const TOLD: &str = "\
 \"Shows, makes and patches Cap'n Proto messages under schemas that are known at run time. Messages are read from standard
 \"input and written to standard output.
 \"
-\"usage: riftcalico show [--set FILE] [--packed | --each [--keep-going]] NAME [--indent]
-\"       riftcalico get [--set FILE] [--packed | --each [--keep-going]] NAME PATH [--indent]
-\"       riftcalico check [--set FILE] [--packed | --each [--keep-going]] NAME [PATH]
-\"       riftcalico patch [--set FILE] [--calls FILE] [--keep-going] [--packed | --each] NAME CALL..
+\"usage: riftcalico show [--set FILE] [--packed] [--each [--keep-going]] NAME [--indent]
+\"       riftcalico get [--set FILE] [--packed] [--each [--keep-going]] NAME PATH [--indent]
+\"       riftcalico check [--set FILE] [--packed] [--each [--keep-going]] NAME [PATH]
+\"       riftcalico patch [--set FILE] [--calls FILE] [--keep-going] [--packed] [--each] NAME CALL..
 \"       riftcalico new [--set FILE] [--calls FILE] [--keep-going] [--packed] NAME CALL..
 \"       riftcalico structs [--set FILE] [NAME]
 \"       riftcalico schemas [--strict]

@@ -168,6 +168,42 @@ const STREAMS: &str = "\
 >0000000002000000 0000000001000000 0600000000000000
 !message 1: 1: get b: refused: 20 FieldNotFound
 !message 2: 1: get b: refused: 20 FieldNotFound
+
+# packed messages; a piece that is cut at the end gives nothing
+:get
+:--each
+:--packed
+:Flat
+:a
+<100210010105
+<100210010106
+<01
+=0
+\"5
+\"6
+
+# the second is cut within its last word
+:show
+:--packed
+:--each
+:Flat
+<100210010105
+<1002100101
+=1
+!refused: 2 Truncated (standard input, message 2)
+\"(a = 5)
+
+# calls on each, which is written packed
+:patch
+:--each
+:--packed
+:Flat
+:set a 7
+<100210010105
+<100210010106
+=0
+>100210010107
+>100210010107
 ";
 
 #[test]

@@ -16,10 +16,10 @@ use std::process::Abort;
 use std::test::Fail;
 
 pub(crate) const USAGE: &str = "\
-usage: riftcalico show [--set FILE] [--packed | --each [--keep-going]] NAME [--indent]
-       riftcalico get [--set FILE] [--packed | --each [--keep-going]] NAME PATH [--indent]
-       riftcalico check [--set FILE] [--packed | --each [--keep-going]] NAME [PATH]
-       riftcalico patch [--set FILE] [--calls FILE] [--keep-going] [--packed | --each] NAME CALL..
+usage: riftcalico show [--set FILE] [--packed] [--each [--keep-going]] NAME [--indent]
+       riftcalico get [--set FILE] [--packed] [--each [--keep-going]] NAME PATH [--indent]
+       riftcalico check [--set FILE] [--packed] [--each [--keep-going]] NAME [PATH]
+       riftcalico patch [--set FILE] [--calls FILE] [--keep-going] [--packed] [--each] NAME CALL..
        riftcalico new [--set FILE] [--calls FILE] [--keep-going] [--packed] NAME CALL..
        riftcalico structs [--set FILE] [NAME]
        riftcalico schemas [--strict]";

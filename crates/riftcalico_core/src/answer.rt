@@ -243,8 +243,8 @@ fn answer_convert(alloc: Global, strict: bool, input: &[u8]) -> Result<Answer>
     })
 }
 
-/// What a job answers to a message that is not packed.
-fn answer_message(alloc: Global, job: &Job<'_, '_, '_>, message: &[u8]) -> Faulty<Answer>
+/// What a job answers to a message that is not packed. Refused as `get_answer`, but for what is packed.
+pub fn answer_message(alloc: Global, job: &Job<'_, '_, '_>, message: &[u8]) -> Faulty<Answer>
     requires { IsSoundJob job.now }
     ensures answer { IfOk result (IsMessageAnswer job.now message.now) }
     ensures writable { IfOk result (λ a. IsWritableOutput a.output) }

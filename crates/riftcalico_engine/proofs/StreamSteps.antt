@@ -11,7 +11,7 @@ use Rattle.capnp_streams.specs.Lengths.{message_length}
 use Rattle.capnp_streams.specs.Received.{IsNotReceived, IsReceived}
 use Rattle.riftcalico_core.specs.declared.fault.Blamed.TheVariants.{Input}
 use Rattle.riftcalico_core.specs.declared.job.Job.{Job}
-use Rattle.riftcalico_engine.specs.Outputs.{IsAnsweredTo, Ran}
+use Rattle.riftcalico_engine.specs.Outputs.{IsMessageAnsweredTo, Ran}
 use Rattle.riftcalico_engine.specs.Streams.{IsGoneOn, IsMessageUnread, IsSoFar, IsStopped, IsStreamEnd, joined, none_passed, one_more}
 use Rattle.riftcalico_engine.specs.declared.ended.Refusal.{Refusal}
 use Rattle.riftcalico_words.specs.Tasks.{Task}
@@ -47,7 +47,7 @@ module _ {S W F : Type 0} (left : S → Option (List ℕ)) (reads : S → ℕ) (
 
   pub next_so_far : (t : Task) (j : Job) (going : Bool) (number next : ℕ) (s s' s'' : S) (w w' w'' : W) (f f' mid f'' : F) (some one : Bool) (m : List ℕ) (r : Ran) → next ≡ suc number →
       IsSoFar left reads written writes told tells t j going number s s' w w' f f' some → IsReceived (left s') (left s'') m →
-      IsAnsweredTo written writes told tells j (Some next) m w' w'' f' mid r → IsGoneOn told tells t going r mid f'' one →
+      IsMessageAnsweredTo written writes told tells j (Some next) m w' w'' f' mid r → IsGoneOn told tells t going r mid f'' one →
       IsSoFar left reads written writes told tells t j going next s s'' w w'' f f'' (some || one)
   next_so_far t j going number next s s' s'' w w' w'' f f' mid f'' some one m r e before received answered on =
       let l = length-append before.messages (m ∷ []) in
@@ -61,19 +61,19 @@ module _ {S W F : Type 0} (left : S → Option (List ℕ)) (reads : S → ℕ) (
         passed = one_more before.messages m w w' w'' f f' f'' some one before.passed (record {
           by = r;
           mid = mid;
-          answered = subst (λ (n : ℕ). IsAnsweredTo written writes told tells j (Some n) m w' w'' f' mid r) here answered;
+          answered = subst (λ (n : ℕ). IsMessageAnsweredTo written writes told tells j (Some n) m w' w'' f' mid r) here answered;
           gone_on = on;
         });
       }
 
   pub stop_end : (j : Job) (going : Bool) (number next : ℕ) (refused : Bool) (s s' : S) (w w' : W) (f mid f' : F) (bytes given : List ℕ) (r stopped : Ran) → next ≡ suc number →
-      IsReceived (left s) (left s') bytes → given ≡ bytes → IsAnsweredTo written writes told tells j (Some next) given w w' f mid r → stopped ≡ r → IsStopped going r → f' ≡ mid →
+      IsReceived (left s) (left s') bytes → given ≡ bytes → IsMessageAnsweredTo written writes told tells j (Some next) given w w' f mid r → stopped ≡ r → IsStopped going r → f' ≡ mid →
       IsStreamEnd left reads written writes told tells j going (suc number) refused s s' w w' f f' stopped
   stop_end j going number next refused s s' w w' f mid f' bytes given r stopped here received same answered is stop rest =
-      let a = subst (λ (n : ℕ). IsAnsweredTo written writes told tells j (Some n) given w w' f mid r) here answered in
-      let b = subst (λ (x : List ℕ). IsAnsweredTo written writes told tells j (Some (suc number)) x w w' f mid r) same a in
-      let d = subst (λ (x : F). IsAnsweredTo written writes told tells j (Some (suc number)) bytes w w' f x r) (sym rest) b in
-      let e = subst (λ (x : Ran). IsAnsweredTo written writes told tells j (Some (suc number)) bytes w w' f f' x) (sym is) d in
+      let a = subst (λ (n : ℕ). IsMessageAnsweredTo written writes told tells j (Some n) given w w' f mid r) here answered in
+      let b = subst (λ (x : List ℕ). IsMessageAnsweredTo written writes told tells j (Some (suc number)) x w w' f mid r) same a in
+      let d = subst (λ (x : F). IsMessageAnsweredTo written writes told tells j (Some (suc number)) bytes w w' f x r) (sym rest) b in
+      let e = subst (λ (x : Ran). IsMessageAnsweredTo written writes told tells j (Some (suc number)) bytes w w' f f' x) (sym is) d in
       inr (inr (inl (bytes, received, e, subst (λ (x : Ran). IsStopped going x) (sym is) stop)))
 
   pub unread_end : (j : Job) (going : Bool) (number next : ℕ) (refused : Bool) (s s' : S) (w : W) (f : F) (x : Refusal) (error : Error) → next ≡ suc number → x.message ≡ Some next →

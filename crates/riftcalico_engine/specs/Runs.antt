@@ -8,13 +8,13 @@ use Rattle.capnp_schema.specs.Schema.{Schemas}
 use Rattle.capnp_show_engine.specs.Opened.{file_paths}
 use Rattle.capnp_show_engine.specs.Show.{IsRead}
 use Rattle.riftcalico_core.specs.Faults.{task_set_file}
-use Rattle.riftcalico_core.specs.Jobs.{IsJob, IsLineOfPlan, IsRootUnnamed, IsNoSetOf, IsSetOfFile, wants_input}
+use Rattle.riftcalico_core.specs.Jobs.{IsJob, IsLineOfPlan, IsRootUnnamed, IsNoSetOf, IsSetOfFile, is_packed, wants_input}
 use Rattle.riftcalico_core.specs.Plans.{Plan, calls_file, task_plan}
 use Rattle.riftcalico_core.specs.declared.fault.Blamed.TheVariants as blamed
 use Rattle.riftcalico_core.specs.declared.job.Job.{Job}
 use Rattle.riftcalico_engine.specs.Files.{IsFileRead, IsFileUnread, Opens}
 use Rattle.riftcalico_engine.specs.Outputs.{IsAnsweredTo, IsFault, IsUnreadable, Ran}
-use Rattle.riftcalico_engine.specs.Streams.{IsStreamRun}
+use Rattle.riftcalico_engine.specs.Streams.{IsMessagesRead}
 use Rattle.riftcalico_words.specs.Tasks.{Task, task_messages}
 use Rattle.riftcalico_words.specs.declared.request.Messages.{Messages}
 use Rattle.riftcalico_words.specs.declared.request.Messages.TheVariants as messages
@@ -45,8 +45,8 @@ module _ {S W F : Type 0} (left : S → Option (List ℕ)) (reads : S → ℕ) (
   -- the message or the messages that are meant were read and answered to
   abbrev pub IsMessagesRun : Messages → Task → Job → (s s' : S) → (w w' : W) → (f f' : F) → Ran → Type 0
   IsMessagesRun messages.First t j s s' w w' f f' r = IsSingleRun j s s' w w' f f' r
-  IsMessagesRun messages.Each t j s s' w w' f f' r = IsStreamRun left reads written writes told tells t j false s s' w w' f f' r
-  IsMessagesRun messages.EachGoing t j s s' w w' f f' r = IsStreamRun left reads written writes told tells t j true s s' w w' f f' r
+  IsMessagesRun messages.Each t j s s' w w' f f' r = IsMessagesRead left reads written writes told tells (is_packed j) t j false s s' w w' f f' r
+  IsMessagesRun messages.EachGoing t j s s' w w' f f' r = IsMessagesRead left reads written writes told tells (is_packed j) t j true s s' w w' f f' r
 
   abbrev pub IsJobRun : Task → Job → (s s' : S) → (w w' : W) → (f f' : F) → Ran → Type 0
   IsJobRun t j s s' w w' f f' r = IsMessagesRun (task_messages t) t j s s' w w' f f' r

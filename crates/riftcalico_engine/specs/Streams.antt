@@ -4,11 +4,13 @@ use Rattle.std.specs.Io.KnownBytes.{Consumes}
 use Rattle.capnp_device.specs.Device.{HasFailed}
 use Rattle.capnp_device.specs.declared.error.ErrorKind.{ErrorKind}
 use Rattle.capnp_device.specs.declared.error.ErrorKind.TheVariants.{OutOfMemory, ReadFailed, TooLarge, WriteFailed}
+use Rattle.std.specs.Option.{option_map}
+use Rattle.capnp_packed.specs.Unpacking.{unpacked_bytes}
 use Rattle.capnp_streams.specs.Lengths.{message_length}
 use Rattle.capnp_streams.specs.Received.{IsNotReceived, IsOver, IsReceived}
 use Rattle.riftcalico_core.specs.declared.fault.Blamed.TheVariants as blamed
 use Rattle.riftcalico_core.specs.declared.job.Job.{Job}
-use Rattle.riftcalico_engine.specs.Outputs.{IsAnswered, IsAnsweredTo, IsFault, IsFaultOf, IsFaultTold, Ran}
+use Rattle.riftcalico_engine.specs.Outputs.{IsAnswered, IsMessageAnsweredTo, IsFault, IsFaultOf, IsFaultTold, Ran}
 use Rattle.riftcalico_engine.specs.declared.ended.Ended.TheVariants as ended
 use Rattle.riftcalico_words.specs.Tasks.{Task}
 
@@ -31,7 +33,7 @@ pub record IsPassed {W F : Type 0} (written : W → Option (List ℕ)) (writes :
     (number : ℕ) (bytes : List ℕ) (w w' : W) (f f' : F) (refused : Bool) : Type 0 where
   pub by : Ran
   pub mid : F
-  pub answered : IsAnsweredTo written writes told tells j (Some number) bytes w w' f mid by
+  pub answered : IsMessageAnsweredTo written writes told tells j (Some number) bytes w w' f mid by
   pub gone_on : IsGoneOn told tells t going by mid f' refused
 
 -- these messages were, one after another, from the first on
@@ -64,7 +66,7 @@ module _ {S W F : Type 0} (left : S → Option (List ℕ)) (reads : S → ℕ) (
   IsStreamEnd j going number refused s s' w w' f f' r =
       (IsOver (left s) (left s') × IsAnswered r refused × (w' ≡ w) × (f' ≡ f))
       ⊎ ((IsFaultOf (Some number) r (λ x. (x.blamed ≡ blamed.Input) × IsMessageUnread (left s) (left s') (reads s) (reads s') x.error.kind) × (w' ≡ w) × (f' ≡ f))
-      ⊎ (((bytes : List ℕ) × IsReceived (left s) (left s') bytes × IsAnsweredTo written writes told tells j (Some number) bytes w w' f f' r × IsStopped going r)
+      ⊎ (((bytes : List ℕ) × IsReceived (left s) (left s') bytes × IsMessageAnsweredTo written writes told tells j (Some number) bytes w w' f f' r × IsStopped going r)
       ⊎ ((number ≡ 2 ^ 64) × IsFault r (λ x. (x.blamed ≡ blamed.Input) × (x.error.kind ≡ TooLarge)) × (s' ≡ s) × (w' ≡ w) × (f' ≡ f))))
 
   pub record IsStreamRun (t : Task) (j : Job) (going : Bool) (s s' : S) (w w' : W) (f f' : F) (r : Ran) : Type 0 where
@@ -75,3 +77,21 @@ module _ {S W F : Type 0} (left : S → Option (List ℕ)) (reads : S → ℕ) (
     pub refused : Bool
     pub before : IsSoFar t j going number s at w sink f errors refused
     pub end : IsStreamEnd j going (suc number) refused at s' sink w' errors f' r
+
+-- a source, by what it has left, where that is known, and by how many of its calls have failed
+pub record Unread : Type 0 where
+  pub left : Option (List ℕ)
+  pub failures : ℕ
+
+module _ {S W F : Type 0} (left : S → Option (List ℕ)) (written : W → Option (List ℕ)) (writes : W → ℕ) (told : F → Option (List ℕ)) (tells : F → ℕ) where
+  -- packed messages were: those of a source of the bytes that the packed ones stand for
+  abbrev pub IsPackedRun : Task → Job → (going : Bool) → (s : S) → (w w' : W) → (f f' : F) → Ran → Type 0
+  IsPackedRun t j going s w w' f f' r =
+      (end : Unread) × IsStreamRun (λ (u : Unread). u.left) (λ (u : Unread). u.failures) written writes told tells t j going
+      (record { left = option_map unpacked_bytes (left s); failures = 0 }) end w w' f f' r
+
+module _ {S W F : Type 0} (left : S → Option (List ℕ)) (reads : S → ℕ) (written : W → Option (List ℕ)) (writes : W → ℕ) (told : F → Option (List ℕ)) (tells : F → ℕ) where
+  -- packed messages or others
+  abbrev pub IsMessagesRead : (packed : Bool) → Task → Job → (going : Bool) → (s s' : S) → (w w' : W) → (f f' : F) → Ran → Type 0
+  IsMessagesRead true t j going s s' w w' f f' r = IsPackedRun left written writes told tells t j going s w w' f f' r
+  IsMessagesRead false t j going s s' w w' f f' r = IsStreamRun left reads written writes told tells t j going s s' w w' f f' r

@@ -1,7 +1,7 @@
 //! The answer to a message's bytes, written and told.
 ghost use Rattle.std.specs.Prelude.{◌≡◌, IfErr, OnOk};
 ghost use Rattle.riftcalico_core.specs.Answers.{IsSoundJob, IsWritableOutput};
-ghost use Rattle.riftcalico_engine.specs.Outputs.{IsAnsweredTo, IsAnswerPut, IsFaultTold, IsNotPut, IsOutputPut};
+ghost use Rattle.riftcalico_engine.specs.Outputs.{IsAnsweredTo, IsAnswerPut, IsFaultTold, IsMessageAnsweredTo, IsNotPut, IsOutputPut};
 ghost use Rattle.riftcalico_words.specs.RequestSeen.{task_seen};
 
 use crate::ended::{Ended, Ran, Refusal, refuse};
@@ -9,7 +9,7 @@ use capnp_show_engine::command::{report, tell};
 use capnp_wire::device::Sink;
 use capnp_wire::error::Result;
 use capnp_wire::transfer::write_all;
-use riftcalico_core::answer::{Answer, Output, get_answer};
+use riftcalico_core::answer::{Answer, Output, answer_message, get_answer};
 use riftcalico_core::fault::{Blamed, put_fault};
 use riftcalico_core::job::Job;
 use riftcalico_core::numbered::number_lines;
@@ -92,6 +92,25 @@ pub(crate) fn answer_input<W: Sink, F: Sink>(
         errors.new result }
 {
     match get_answer(alloc, job, input) {
+        Ok(answer) => put_answer(alloc, answer, message, sink, errors),
+        Err(fault) => Err(Refusal { message, fault }),
+    }
+}
+
+/// Answers to a message that is not packed, writes the answer and tells its lines.
+pub(crate) fn answer_unpacked<W: Sink, F: Sink>(
+    alloc: Global,
+    job: &Job<'_, '_, '_>,
+    message: Option<u64>,
+    input: &[u8],
+    sink: &mut W,
+    errors: &mut F,
+) -> Ran
+    requires { IsSoundJob job.now }
+    ensures { IsMessageAnsweredTo W.written W.failures F.written F.failures job.now message input.now sink.old sink.new
+        errors.old errors.new result }
+{
+    match answer_message(alloc, job, input) {
         Ok(answer) => put_answer(alloc, answer, message, sink, errors),
         Err(fault) => Err(Refusal { message, fault }),
     }

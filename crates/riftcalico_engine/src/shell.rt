@@ -16,7 +16,7 @@ ghost use Rattle.riftcalico_words.specs.RequestSeen.{task_seen};
 
 use crate::answering::answer_input;
 use crate::ended::{Ended, Ran, Refusal, refuse};
-use crate::stream::run_each;
+use crate::stream::run_messages;
 use capnp_schema::set::SchemaSet;
 use capnp_show_engine::opener::Opener;
 use capnp_wire::device::{Sink, Source};
@@ -75,8 +75,8 @@ fn run_job<R: Source, W: Sink, F: Sink>(
 {
     match get_messages(task) {
         Messages::First => run_single(alloc, job, source, sink, errors),
-        Messages::Each => run_each(alloc, task, job, false, source, sink, errors),
-        Messages::EachGoing => run_each(alloc, task, job, true, source, sink, errors),
+        Messages::Each => run_messages(alloc, task, job, false, source, sink, errors),
+        Messages::EachGoing => run_messages(alloc, task, job, true, source, sink, errors),
     }
 }
 

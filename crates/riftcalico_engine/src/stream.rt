@@ -1,13 +1,15 @@
 //! Messages that follow one another, each of which is answered to.
 ghost use Rattle.std.specs.Prelude.{◌≡◌, ◌||◌, MatchResult};
 ghost use Rattle.riftcalico_core.specs.Answers.{IsSoundJob};
-ghost use Rattle.riftcalico_engine.specs.Streams.{IsGoneOn, IsStopped, IsStreamRun};
+ghost use Rattle.riftcalico_core.specs.Jobs.{is_packed};
+ghost use Rattle.riftcalico_engine.specs.Streams.{IsGoneOn, IsMessagesRead, IsPackedRun, IsStopped, IsStreamRun};
 ghost use Rattle.riftcalico_words.specs.RequestSeen.{task_seen};
 
-use crate::answering::{answer_input, tell_refusal};
+use crate::answering::{answer_unpacked, tell_refusal};
 use crate::ended::{Ended, Ran, refuse};
+use capnp_packed::source::UnpackSource;
 use capnp_streams::receive::try_read_message;
-use capnp_wire::device::{Sink, Source};
+use capnp_wire::device::{DeviceFault, Sink, Source};
 use capnp_wire::error::{Error, ErrorKind};
 use riftcalico_core::fault::Blamed;
 use riftcalico_core::job::Job;
@@ -53,10 +55,10 @@ fn either(a: bool, b: bool) -> bool
     a || b
 }
 
-/// Answers to the messages of a source, one after another. Each is read when the answer to the one before was written and
-/// told, so memory is taken for one alone. Where one can't be read it ends, since it isn't known where the next begins;
-/// where one is refused otherwise, or a call on it, it ends too unless it is to go on.
-pub(crate) fn run_each<R: Source, W: Sink, F: Sink>(
+/// Answers to the messages of a source, one after another, which are not packed. Each is read when the answer to the one
+/// before was written and told, so memory is taken for one alone. Where one can't be read it ends, since it isn't known
+/// where the next begins; where one is refused otherwise, or a call on it, it ends too unless it is to go on.
+fn run_each<R: Source, W: Sink, F: Sink>(
     alloc: Global,
     task: &Task<'_>,
     job: &Job<'_, '_, '_>,
@@ -81,11 +83,66 @@ pub(crate) fn run_each<R: Source, W: Sink, F: Sink>(
             Ok(None) => return Ok(Ended::Answered(refused)),
             Err(error) => return Err(refuse(alloc, Some(next), error, Blamed::Input)),
         };
-        let ran = answer_input(alloc, job, Some(next), &message, sink, errors);
+        let ran = answer_unpacked(alloc, job, Some(next), &message, sink, errors);
         match go_on(alloc, task, going, ran, errors) {
             Ok(one) => refused = either(refused, one),
             Err(ran) => return ran,
         }
         number = next;
+    }
+}
+
+/// A source that is lent.
+#[derive(Drop)]
+struct LentSource<'a, R> {
+    source: &'a mut R,
+}
+
+impl<R: Source> Source for LentSource<'_, R> {
+    ghost left = { λ s. R.left s.source.now };
+
+    ghost failures = { λ s. R.failures s.source.now };
+
+    fn read_some(&mut self, buffer: &mut [u8]) -> std::result::Result<usize, DeviceFault> {
+        self.source.read_some(buffer)
+    }
+}
+
+/// The same for messages that are packed.
+fn run_packed<R: Source, W: Sink, F: Sink>(
+    alloc: Global,
+    task: &Task<'_>,
+    job: &Job<'_, '_, '_>,
+    going: bool,
+    source: &mut R,
+    sink: &mut W,
+    errors: &mut F,
+) -> Ran
+    requires { IsSoundJob job.now }
+    ensures { IsPackedRun R.left W.written W.failures F.written F.failures (task_seen task.now) job.now going source.old
+        sink.old sink.new errors.old errors.new result }
+{
+    let mut unpacked = UnpackSource::new(LentSource { source });
+    run_each(alloc, task, job, going, &mut unpacked, sink, errors)
+}
+
+/// Answers to the messages of a source, one after another, packed or not.
+pub(crate) fn run_messages<R: Source, W: Sink, F: Sink>(
+    alloc: Global,
+    task: &Task<'_>,
+    job: &Job<'_, '_, '_>,
+    going: bool,
+    source: &mut R,
+    sink: &mut W,
+    errors: &mut F,
+) -> Ran
+    requires { IsSoundJob job.now }
+    ensures { IsMessagesRead R.left R.failures W.written W.failures F.written F.failures (is_packed job.now)
+        (task_seen task.now) job.now going source.old source.new sink.old sink.new errors.old errors.new result }
+{
+    if job.is_packed() {
+        run_packed(alloc, task, job, going, source, sink, errors)
+    } else {
+        run_each(alloc, task, job, going, source, sink, errors)
     }
 }

@@ -38,16 +38,16 @@ messages_by true true = messages.EachGoing
 abbrev pub messages_of : WordOptions → Messages
 messages_of o = messages_by o.each o.keep_going
 
--- whether a verb that only reads takes the options on messages: it goes on behind one that is refused where there are several, which don't come packed
+-- whether a verb that only reads takes the options on messages: it goes on behind one that is refused where there are several
 abbrev pub reads_fit : WordOptions → Bool
-reads_fit o = is_none o.calls && not o.strict && (o.each || not o.keep_going) && not (o.each && o.packed)
+reads_fit o = is_none o.calls && not o.strict && (o.each || not o.keep_going)
 
 -- whether a verb takes the options that stand there
 abbrev pub is_fitting : Verb → WordOptions → Bool
 is_fitting verb.Show o = reads_fit o
 is_fitting verb.Get o = reads_fit o
 is_fitting verb.Check o = not o.indent && reads_fit o
-is_fitting verb.Patch o = not o.indent && not o.strict && not (o.each && o.packed)
+is_fitting verb.Patch o = not o.indent && not o.strict
 is_fitting verb.New o = not o.indent && not o.strict && not o.each
 is_fitting verb.Structs o = is_none o.calls && not o.indent && not o.keep_going && not o.packed && not o.each && not o.strict
 is_fitting verb.Schemas o = is_none o.set && is_none o.calls && not o.indent && not o.keep_going && not o.packed && not o.each

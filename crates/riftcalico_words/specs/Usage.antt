@@ -7,20 +7,20 @@ use Rattle.riftcalico_words.specs.declared.request.Verb.TheVariants as verb
 -- how the program is called
 abbrev pub usage_lines : List ℕ
 usage_lines =
-    codes "usage: riftcalico show [--set FILE] [--packed | --each [--keep-going]] NAME [--indent]\n"
-    ++ codes "       riftcalico get [--set FILE] [--packed | --each [--keep-going]] NAME PATH [--indent]\n"
-    ++ codes "       riftcalico check [--set FILE] [--packed | --each [--keep-going]] NAME [PATH]\n"
-    ++ codes "       riftcalico patch [--set FILE] [--calls FILE] [--keep-going] [--packed | --each] NAME CALL..\n"
+    codes "usage: riftcalico show [--set FILE] [--packed] [--each [--keep-going]] NAME [--indent]\n"
+    ++ codes "       riftcalico get [--set FILE] [--packed] [--each [--keep-going]] NAME PATH [--indent]\n"
+    ++ codes "       riftcalico check [--set FILE] [--packed] [--each [--keep-going]] NAME [PATH]\n"
+    ++ codes "       riftcalico patch [--set FILE] [--calls FILE] [--keep-going] [--packed] [--each] NAME CALL..\n"
     ++ codes "       riftcalico new [--set FILE] [--calls FILE] [--keep-going] [--packed] NAME CALL..\n"
     ++ codes "       riftcalico structs [--set FILE] [NAME]\n"
     ++ codes "       riftcalico schemas [--strict]\n"
 
 -- how a verb is
 abbrev pub verb_usage : Verb → List ℕ
-verb_usage verb.Show = codes "usage: riftcalico show [--set FILE] [--packed | --each [--keep-going]] NAME [--indent]\n"
-verb_usage verb.Get = codes "usage: riftcalico get [--set FILE] [--packed | --each [--keep-going]] NAME PATH [--indent]\n"
-verb_usage verb.Check = codes "usage: riftcalico check [--set FILE] [--packed | --each [--keep-going]] NAME [PATH]\n"
-verb_usage verb.Patch = codes "usage: riftcalico patch [--set FILE] [--calls FILE] [--keep-going] [--packed | --each] NAME CALL..\n"
+verb_usage verb.Show = codes "usage: riftcalico show [--set FILE] [--packed] [--each [--keep-going]] NAME [--indent]\n"
+verb_usage verb.Get = codes "usage: riftcalico get [--set FILE] [--packed] [--each [--keep-going]] NAME PATH [--indent]\n"
+verb_usage verb.Check = codes "usage: riftcalico check [--set FILE] [--packed] [--each [--keep-going]] NAME [PATH]\n"
+verb_usage verb.Patch = codes "usage: riftcalico patch [--set FILE] [--calls FILE] [--keep-going] [--packed] [--each] NAME CALL..\n"
 verb_usage verb.New = codes "usage: riftcalico new [--set FILE] [--calls FILE] [--keep-going] [--packed] NAME CALL..\n"
 verb_usage verb.Structs = codes "usage: riftcalico structs [--set FILE] [NAME]\n"
 verb_usage verb.Schemas = codes "usage: riftcalico schemas [--strict]\n"
@@ -28,7 +28,7 @@ verb_usage verb.Schemas = codes "usage: riftcalico schemas [--strict]\n"
 -- what a verb does
 abbrev pub verb_help : Verb → List ℕ
 verb_help verb.Show =
-    codes "usage: riftcalico show [--set FILE] [--packed | --each [--keep-going]] NAME [--indent]\n"
+    codes "usage: riftcalico show [--set FILE] [--packed] [--each [--keep-going]] NAME [--indent]\n"
     ++ codes "\n"
     ++ codes "Prints the root of the first message as a struct NAME, on one line, or with --indent on several. With --packed the\n"
     ++ codes "message is read packed.\n"
@@ -36,7 +36,7 @@ verb_help verb.Show =
     ++ codes "With --keep-going one that is refused is told and passed over.\n"
     ++ codes "NAME is a struct of the set in FILE, as 'riftcalico schemas' writes it, or else of the built-in set.\n"
 verb_help verb.Get =
-    codes "usage: riftcalico get [--set FILE] [--packed | --each [--keep-going]] NAME PATH [--indent]\n"
+    codes "usage: riftcalico get [--set FILE] [--packed] [--each [--keep-going]] NAME PATH [--indent]\n"
     ++ codes "\n"
     ++ codes "Prints what stands at PATH of the first message's root, a struct NAME. PATH has steps joined by '.': a field's name,\n"
     ++ codes "#3, a field by its number, or 4, an element of a list. '.' alone is the root. With --packed the message is read packed.\n"
@@ -44,7 +44,7 @@ verb_help verb.Get =
     ++ codes "With --keep-going one that is refused is told and passed over.\n"
     ++ codes "NAME is a struct of the set in FILE, as 'riftcalico schemas' writes it, or else of the built-in set.\n"
 verb_help verb.Check =
-    codes "usage: riftcalico check [--set FILE] [--packed | --each [--keep-going]] NAME [PATH]\n"
+    codes "usage: riftcalico check [--set FILE] [--packed] [--each [--keep-going]] NAME [PATH]\n"
     ++ codes "\n"
     ++ codes "Reads the first message's root, a struct NAME, or what stands at PATH of it, and tells the first value that can't be\n"
     ++ codes "read, if one can't. Nothing is printed. With --packed the message is read packed.\n"
@@ -52,7 +52,7 @@ verb_help verb.Check =
     ++ codes "With --keep-going one that is refused is told and passed over.\n"
     ++ codes "NAME is a struct of the set in FILE, as 'riftcalico schemas' writes it, or else of the built-in set.\n"
 verb_help verb.Patch =
-    codes "usage: riftcalico patch [--set FILE] [--calls FILE] [--keep-going] [--packed | --each] NAME CALL..\n"
+    codes "usage: riftcalico patch [--set FILE] [--calls FILE] [--keep-going] [--packed] [--each] NAME CALL..\n"
     ++ codes "\n"
     ++ codes "Makes calls on a copy of the first message's root, a struct NAME, and writes the message that they leave.\n"
     ++ codes "A CALL is one word: 'set PATH VALUE', 'init PATH', 'initn PATH N', 'clear PATH', 'get PATH', 'has PATH' or\n"
@@ -87,10 +87,10 @@ help_text None =
     codes "Shows, makes and patches Cap'n Proto messages under schemas that are known at run time. Messages are read from standard\n"
     ++ codes "input and written to standard output.\n"
     ++ codes "\n"
-    ++ codes "usage: riftcalico show [--set FILE] [--packed | --each [--keep-going]] NAME [--indent]\n"
-    ++ codes "       riftcalico get [--set FILE] [--packed | --each [--keep-going]] NAME PATH [--indent]\n"
-    ++ codes "       riftcalico check [--set FILE] [--packed | --each [--keep-going]] NAME [PATH]\n"
-    ++ codes "       riftcalico patch [--set FILE] [--calls FILE] [--keep-going] [--packed | --each] NAME CALL..\n"
+    ++ codes "usage: riftcalico show [--set FILE] [--packed] [--each [--keep-going]] NAME [--indent]\n"
+    ++ codes "       riftcalico get [--set FILE] [--packed] [--each [--keep-going]] NAME PATH [--indent]\n"
+    ++ codes "       riftcalico check [--set FILE] [--packed] [--each [--keep-going]] NAME [PATH]\n"
+    ++ codes "       riftcalico patch [--set FILE] [--calls FILE] [--keep-going] [--packed] [--each] NAME CALL..\n"
     ++ codes "       riftcalico new [--set FILE] [--calls FILE] [--keep-going] [--packed] NAME CALL..\n"
     ++ codes "       riftcalico structs [--set FILE] [NAME]\n"
     ++ codes "       riftcalico schemas [--strict]\n"

@@ -164,10 +164,7 @@ fn read_messages(options: &Options<'_>) -> Messages
 fn reads_fit(options: &Options<'_>) -> bool
     ensures { result ≡ reads_fit (options_seen options.now) }
 {
-    options.calls.is_none()
-        && !options.strict
-        && (options.each || !options.keep_going)
-        && !(options.each && options.packed)
+    options.calls.is_none() && !options.strict && (options.each || !options.keep_going)
 }
 
 /// Whether a verb takes these options.
@@ -177,7 +174,7 @@ fn is_fit(verb: Verb, options: &Options<'_>) -> bool
     match verb {
         Verb::Show | Verb::Get => reads_fit(options),
         Verb::Check => !options.indent && reads_fit(options),
-        Verb::Patch => !options.indent && !options.strict && !(options.each && options.packed),
+        Verb::Patch => !options.indent && !options.strict,
         Verb::New => !options.indent && !options.strict && !options.each,
         Verb::Structs => {
             options.calls.is_none()
@@ -353,7 +350,7 @@ fn read_behind<'a>(alloc: Global, verb: Verb, words: &'a [String]) -> Result<Ask
 /// |`--version`|the version|
 ///
 /// Options stand anywhere behind the verb: `--set FILE` but of `schemas`, `--indent` of `show` and `get`, `--calls FILE`,
-/// with no call beside it, and `--keep-going` of `patch` and `new`, `--packed` of all these, or of all but `new` `--each`
+/// with no call beside it, and `--keep-going` of `patch` and `new`, `--packed` of all these, of all but `new` `--each`
 /// and with it `--keep-going`, `--strict` of `schemas`. Of one that stands twice the last counts. Refused with
 /// `OutOfMemory` alone.
 pub fn read_words<'a>(alloc: Global, words: &'a [String]) -> Result<Asked<'a>>

@@ -12,10 +12,10 @@ use std::alloc::Global;
 pub const VERSION: &str = "riftcalico 0.1.0\n";
 
 const USAGE: &str = "\
-usage: riftcalico show [--set FILE] [--packed | --each [--keep-going]] NAME [--indent]
-       riftcalico get [--set FILE] [--packed | --each [--keep-going]] NAME PATH [--indent]
-       riftcalico check [--set FILE] [--packed | --each [--keep-going]] NAME [PATH]
-       riftcalico patch [--set FILE] [--calls FILE] [--keep-going] [--packed | --each] NAME CALL..
+usage: riftcalico show [--set FILE] [--packed] [--each [--keep-going]] NAME [--indent]
+       riftcalico get [--set FILE] [--packed] [--each [--keep-going]] NAME PATH [--indent]
+       riftcalico check [--set FILE] [--packed] [--each [--keep-going]] NAME [PATH]
+       riftcalico patch [--set FILE] [--calls FILE] [--keep-going] [--packed] [--each] NAME CALL..
        riftcalico new [--set FILE] [--calls FILE] [--keep-going] [--packed] NAME CALL..
        riftcalico structs [--set FILE] [NAME]
        riftcalico schemas [--strict]
@@ -25,10 +25,10 @@ const HELP: &str = "\
 Shows, makes and patches Cap'n Proto messages under schemas that are known at run time. Messages are read from standard
 input and written to standard output.
 
-usage: riftcalico show [--set FILE] [--packed | --each [--keep-going]] NAME [--indent]
-       riftcalico get [--set FILE] [--packed | --each [--keep-going]] NAME PATH [--indent]
-       riftcalico check [--set FILE] [--packed | --each [--keep-going]] NAME [PATH]
-       riftcalico patch [--set FILE] [--calls FILE] [--keep-going] [--packed | --each] NAME CALL..
+usage: riftcalico show [--set FILE] [--packed] [--each [--keep-going]] NAME [--indent]
+       riftcalico get [--set FILE] [--packed] [--each [--keep-going]] NAME PATH [--indent]
+       riftcalico check [--set FILE] [--packed] [--each [--keep-going]] NAME [PATH]
+       riftcalico patch [--set FILE] [--calls FILE] [--keep-going] [--packed] [--each] NAME CALL..
        riftcalico new [--set FILE] [--calls FILE] [--keep-going] [--packed] NAME CALL..
        riftcalico structs [--set FILE] [NAME]
        riftcalico schemas [--strict]
@@ -37,19 +37,19 @@ More of a verb is told by 'riftcalico VERB --help', the version by 'riftcalico -
 ";
 
 const SHOW_USAGE: &str = "\
-usage: riftcalico show [--set FILE] [--packed | --each [--keep-going]] NAME [--indent]
+usage: riftcalico show [--set FILE] [--packed] [--each [--keep-going]] NAME [--indent]
 ";
 
 const GET_USAGE: &str = "\
-usage: riftcalico get [--set FILE] [--packed | --each [--keep-going]] NAME PATH [--indent]
+usage: riftcalico get [--set FILE] [--packed] [--each [--keep-going]] NAME PATH [--indent]
 ";
 
 const CHECK_USAGE: &str = "\
-usage: riftcalico check [--set FILE] [--packed | --each [--keep-going]] NAME [PATH]
+usage: riftcalico check [--set FILE] [--packed] [--each [--keep-going]] NAME [PATH]
 ";
 
 const PATCH_USAGE: &str = "\
-usage: riftcalico patch [--set FILE] [--calls FILE] [--keep-going] [--packed | --each] NAME CALL..
+usage: riftcalico patch [--set FILE] [--calls FILE] [--keep-going] [--packed] [--each] NAME CALL..
 ";
 
 const NEW_USAGE: &str = "\
@@ -65,7 +65,7 @@ usage: riftcalico schemas [--strict]
 ";
 
 const SHOW_HELP: &str = "\
-usage: riftcalico show [--set FILE] [--packed | --each [--keep-going]] NAME [--indent]
+usage: riftcalico show [--set FILE] [--packed] [--each [--keep-going]] NAME [--indent]
 
 Prints the root of the first message as a struct NAME, on one line, or with --indent on several. With --packed the
 message is read packed.
@@ -75,7 +75,7 @@ NAME is a struct of the set in FILE, as 'riftcalico schemas' writes it, or else 
 ";
 
 const GET_HELP: &str = "\
-usage: riftcalico get [--set FILE] [--packed | --each [--keep-going]] NAME PATH [--indent]
+usage: riftcalico get [--set FILE] [--packed] [--each [--keep-going]] NAME PATH [--indent]
 
 Prints what stands at PATH of the first message's root, a struct NAME. PATH has steps joined by '.': a field's name,
 #3, a field by its number, or 4, an element of a list. '.' alone is the root. With --packed the message is read packed.
@@ -85,7 +85,7 @@ NAME is a struct of the set in FILE, as 'riftcalico schemas' writes it, or else 
 ";
 
 const CHECK_HELP: &str = "\
-usage: riftcalico check [--set FILE] [--packed | --each [--keep-going]] NAME [PATH]
+usage: riftcalico check [--set FILE] [--packed] [--each [--keep-going]] NAME [PATH]
 
 Reads the first message's root, a struct NAME, or what stands at PATH of it, and tells the first value that can't be
 read, if one can't. Nothing is printed. With --packed the message is read packed.
@@ -95,7 +95,7 @@ NAME is a struct of the set in FILE, as 'riftcalico schemas' writes it, or else 
 ";
 
 const PATCH_HELP: &str = "\
-usage: riftcalico patch [--set FILE] [--calls FILE] [--keep-going] [--packed | --each] NAME CALL..
+usage: riftcalico patch [--set FILE] [--calls FILE] [--keep-going] [--packed] [--each] NAME CALL..
 
 Makes calls on a copy of the first message's root, a struct NAME, and writes the message that they leave.
 A CALL is one word: 'set PATH VALUE', 'init PATH', 'initn PATH N', 'clear PATH', 'get PATH', 'has PATH' or

@@ -49,9 +49,9 @@ returns-in-Err-go_on g c =
       number = c.loop-next.number;
       refused = c.loop-next.refused;
       before = c.loop-next.invariant.so_far;
-      end = stop_end g.R.Source.left g.R.Source.failures g.W.Sink.written g.W.Sink.failures g.F.Sink.written g.F.Sink.failures c.args.job.now c.args.going c.loop-next.number c.in-Some.next c.loop-next.refused c.loop-next.source c.try_read_message.new.source c.loop-next.sink c.answer_input-ran.new.sink
-          c.loop-next.errors c.answer_input-ran.new.errors c.go_on.new.errors c.in-Ok-Some.message.items c.deref.result.now c.answer_input-ran.result c.in-Err-go_on.ran (omega (arith, more))
-          (rw c.in-Ok-Some.field-0-is at c.in-Ok-Some.ensures.message) c.deref.ensures.value c.answer_input-ran.ensures on.0 on.1 on.2;
+      end = stop_end g.R.Source.left g.R.Source.failures g.W.Sink.written g.W.Sink.failures g.F.Sink.written g.F.Sink.failures c.args.job.now c.args.going c.loop-next.number c.in-Some.next c.loop-next.refused c.loop-next.source c.try_read_message.new.source c.loop-next.sink c.answer_unpacked-ran.new.sink
+          c.loop-next.errors c.answer_unpacked-ran.new.errors c.go_on.new.errors c.in-Ok-Some.message.items c.deref.result.now c.answer_unpacked-ran.result c.in-Err-go_on.ran (omega (arith, more))
+          (rw c.in-Ok-Some.field-0-is at c.in-Ok-Some.ensures.message) c.deref.ensures.value c.answer_unpacked-ran.ensures on.0 on.1 on.2;
     }
 
 pub loop-next-preserved : goal.loop-next-preserved
@@ -59,8 +59,8 @@ loop-next-preserved g c =
     let more = c.in-Some.ensures in
     record {
       so_far = rw c.either-refused.ensures (next_so_far g.R.Source.left g.R.Source.failures g.W.Sink.written g.W.Sink.failures g.F.Sink.written g.F.Sink.failures (task_seen c.args.task.now) c.args.job.now c.args.going c.loop-next.number c.in-Some.next c.args.source.now c.loop-next.source c.try_read_message.new.source
-          c.args.sink.now c.loop-next.sink c.answer_input-ran.new.sink c.args.errors.now c.loop-next.errors c.answer_input-ran.new.errors c.go_on.new.errors c.loop-next.refused c.in-Ok.one
-          c.in-Ok-Some.message.items c.answer_input-ran.result (omega (arith, more)) c.loop-next.invariant.so_far (rw c.in-Ok-Some.field-0-is at c.in-Ok-Some.ensures.message)
-          (rw c.deref.ensures.value at c.answer_input-ran.ensures) c.in-Ok.ensures.on);
+          c.args.sink.now c.loop-next.sink c.answer_unpacked-ran.new.sink c.args.errors.now c.loop-next.errors c.answer_unpacked-ran.new.errors c.go_on.new.errors c.loop-next.refused c.in-Ok.one
+          c.in-Ok-Some.message.items c.answer_unpacked-ran.result (omega (arith, more)) c.loop-next.invariant.so_far (rw c.in-Ok-Some.field-0-is at c.in-Ok-Some.ensures.message)
+          (rw c.deref.ensures.value at c.answer_unpacked-ran.ensures) c.in-Ok.ensures.on);
       small = omega (arith, more);
     }
