@@ -37,15 +37,15 @@ kind_kept (Group node) = ap Group (add-zero node)
 field_kept : (f : Field) → moved_field NO_MOVES f ≡ f
 field_kept f = ap (λ kind. record f { kind = kind }) (kind_kept f.kind)
 
-node_kept : (n : Node) → moved_node NO_MOVES n ≡ n
+pub node_kept : (n : Node) → moved_node NO_MOVES n ≡ n
 node_kept n = ap (λ fields. record n { fields = fields }) (map_kept (moved_field NO_MOVES) field_kept n.fields)
 
-brand_kept : (b : Brand) → moved_brand NO_MOVES b ≡ b
+pub brand_kept : (b : Brand) → moved_brand NO_MOVES b ≡ b
 brand_kept b =
     ap (λ node. record { node = node; field_types = moved_types NO_MOVES b.field_types; annotation_types = moved_annotation_types NO_MOVES b.annotation_types }) (add-zero b.node)
     ∙ ap₂ (λ types annotations. record b { field_types = types; annotation_types = annotations }) (types_kept b.field_types) (annotations_kept b.annotation_types)
 
-enum_kept : (e : Enum) → moved_enum NO_MOVES e ≡ e
+pub enum_kept : (e : Enum) → moved_enum NO_MOVES e ≡ e
 enum_kept e = ap (λ types. record e { annotation_types = types }) (annotations_kept e.annotation_types)
 
 -- the first list as it is, and the second moved

@@ -1,4 +1,10 @@
+pub mod BrandRules
 pub mod Copies
+pub mod Embedded
+pub mod Footprints
+pub mod JoinedAccepted
 pub mod Kept
 pub mod Lists
+pub mod MovedEntries
+pub mod MovedTypes
 pub mod Refused

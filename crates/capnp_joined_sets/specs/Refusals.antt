@@ -5,7 +5,6 @@ use Rattle.capnp_device.specs.declared.error.ErrorKind.{ErrorKind}
 use Rattle.capnp_device.specs.declared.error.ErrorKind.TheVariants as error
 use Rattle.capnp_schema.specs.Types.{SchemaType, VoidType, BoolType, IntType, UIntType, EnumType, TextType, DataType, StructType, ListType, AnyPointerType}
 use Rattle.capnp_schema.specs.Schema.{Schemas, Node, Brand, Enum, Field, FieldKind, Slot, Group, AnnotationTypes}
-use Rattle.capnp_schema.specs.Broken.{IsBroken}
 
 -- a number of a record has 32 bits
 abbrev pub IsNumber : ℕ → Type 0
@@ -63,13 +62,3 @@ IsMoveKind Fits kind = ⊥
 
 abbrev pub IsMoveRefusal : Type 0 → Error → Type 0
 IsMoveRefusal Fits e = IsMoveKind Fits e.kind
-
--- a refusal of the join: for memory, for a number of the joined lists that doesn't fit, or for a rule that they break
-abbrev pub IsJoinKind : Schemas → ErrorKind → Type 0
-IsJoinKind set error.OutOfMemory = ⊤
-IsJoinKind set error.TooManyTypes = NumbersFit set → ⊥
-IsJoinKind set (error.Schema table field rule entry) = IsBroken set rule table entry field
-IsJoinKind set kind = ⊥
-
-abbrev pub IsJoinRefusal : Schemas → Error → Type 0
-IsJoinRefusal set e = IsJoinKind set e.kind

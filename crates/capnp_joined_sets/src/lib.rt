@@ -4,6 +4,7 @@
 
 mod annotations;
 mod entries;
+pub mod laws;
 mod moves;
 mod sets;
 mod types;

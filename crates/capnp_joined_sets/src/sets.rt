@@ -1,9 +1,10 @@
 //! The join of two sets.
 ghost use Rattle.std.specs.Prelude.{◌≡◌, ◌++◌, All, IfErr, IfOk, map};
+ghost use Rattle.capnp_schema.specs.Accepted.{IsAccepted};
 ghost use Rattle.capnp_schema.specs.Entries.{lists_seen};
 ghost use Rattle.capnp_schema.specs.Schema.{seen_brand, seen_enum, seen_node};
 ghost use Rattle.capnp_joined_sets.specs.Joined.{ends_of, joined};
-ghost use Rattle.capnp_joined_sets.specs.Refusals.{BrandFits, EnumFits, IsJoinRefusal, IsMoveRefusal, NodeFits};
+ghost use Rattle.capnp_joined_sets.specs.Refusals.{BrandFits, EnumFits, IsMoveRefusal, NodeFits, NumbersFit};
 ghost use Rattle.capnp_joined_sets.specs.declared.moves.TheConstants.{NO_MOVES};
 
 use crate::moves::{Moved, Moves, NO_MOVES, add_moved, all_moved};
@@ -35,10 +36,11 @@ fn ends_of(set: &SchemaSet) -> Moves
     }
 }
 
-/// The nodes of both sets.
+/// The nodes of both sets. Their lists meet the twelve rules together, as each set does.
 fn join_nodes(alloc: Global, older: &SchemaSet, newer: &SchemaSet) -> Result<Vec<NodeRecord>>
     ensures joined { IfOk result (λ out. map seen_node out.items ≡ (joined (lists_seen older.now) (lists_seen newer.now)).nodes) }
     ensures refused { IfErr result (IsMoveRefusal (All NodeFits (joined (lists_seen older.now) (lists_seen newer.now)).nodes)) }
+    ensures accepted { IsAccepted (joined (lists_seen older.now) (lists_seen newer.now)) }
 {
     both(alloc, older.nodes(), newer.nodes(), ends_of(older))
 }
@@ -65,7 +67,7 @@ fn join_enums(alloc: Global, older: &SchemaSet, newer: &SchemaSet) -> Result<Vec
 /// Refused with `OutOfMemory`, or with `TooManyTypes` where a number of the joined lists takes more than 32 bits.
 pub fn join(alloc: Global, older: &SchemaSet, newer: &SchemaSet) -> Result<SchemaSet>
     ensures joined { IfOk result (λ set. lists_seen set ≡ joined (lists_seen older.now) (lists_seen newer.now)) }
-    ensures refused { IfErr result (IsJoinRefusal (joined (lists_seen older.now) (lists_seen newer.now))) }
+    ensures refused { IfErr result (IsMoveRefusal (NumbersFit (joined (lists_seen older.now) (lists_seen newer.now)))) }
 {
     let nodes = join_nodes(alloc, older, newer)?;
     let brands = join_brands(alloc, older, newer)?;
