@@ -4,12 +4,12 @@ use Rattle.std.specs.Option.{unwrap_or}
 use Rattle.std.proofs.lemmas.Bool.{cases_lt}
 use Rattle.std.proofs.lemmas.List.{length-append, length-map}
 use Rattle.capnp_schema.specs.Types.{SchemaType}
-use Rattle.capnp_schema.specs.Schema.{Schemas, Node, Brand, Field, TypedField, no_node, no_brand, no_field, brand_at, node_at, node_of, fields_of, field_at, typed_fields}
+use Rattle.capnp_schema.specs.Schema.{Schemas, Node, Brand, Enum, Field, TypedField, no_node, no_brand, no_enum, no_field, brand_at, enum_at, node_at, node_of, fields_of, field_at, typed_fields}
 use Rattle.capnp_schema.specs.Accepted.{IsAccepted}
 use Rattle.capnp_joined_sets.specs.declared.moves.Moves.{Moves}
 use Rattle.capnp_joined_sets.specs.declared.moves.TheConstants.{NO_MOVES}
 use Rattle.capnp_joined_sets.specs.Joined.{ends_of, joined, moved_brand, moved_enum, moved_field, moved_node, moved_type}
-use Rattle.capnp_joined_sets.proofs.Kept.{brand_kept, node_kept}
+use Rattle.capnp_joined_sets.proofs.Kept.{brand_kept, enum_kept, node_kept}
 
 -- ---- two lists, one behind the other ----
 
@@ -45,7 +45,7 @@ at_mapped_any f (x ∷ xs) (suc i) none = at_mapped_any f xs i none
 pub record IsIn (by : Moves) (s t : Schemas) : Type 0 where
   pub nodes : (n : ℕ) → n < length s.nodes → (n + by.nodes < length t.nodes) × (node_at t (n + by.nodes) ≡ moved_node by (node_at s n))
   pub brands : (b : ℕ) → b < length s.brands → (b + by.brands < length t.brands) × (brand_at t (b + by.brands) ≡ moved_brand by (brand_at s b))
-  pub enums : (e : ℕ) → e < length s.enums → e + by.enums < length t.enums
+  pub enums : (e : ℕ) → e < length s.enums → (e + by.enums < length t.enums) × (enum_at t (e + by.enums) ≡ moved_enum by (enum_at s e))
 
 pub older_in : (older newer : Schemas) → IsIn NO_MOVES older (joined older newer)
 older_in older newer = record {
@@ -62,11 +62,19 @@ older_in older newer = record {
         ∙ at_same older.brands b none (no_brand older) below
         ∙ sym (brand_kept (brand_at older b)),
   );
-  enums = λ e below. omega (arith, length-append older.enums (map (moved_enum (ends_of older)) newer.enums));
+  enums = λ e below. (
+    omega (arith, length-append older.enums joined_enums),
+    ap (λ i. unwrap_or (slice_get (older.enums ++ joined_enums) i) no_enum) (add-zero e)
+        ∙ ap (λ o. unwrap_or o no_enum) (get_first older.enums joined_enums e below)
+        ∙ sym (enum_kept (enum_at older e)),
+  );
 }
   where
     joined_nodes : List Node
     joined_nodes = map (moved_node (ends_of older)) newer.nodes
+
+    joined_enums : List Enum
+    joined_enums = map (moved_enum (ends_of older)) newer.enums
 
     joined_brands : List Brand
     joined_brands = map (moved_brand (ends_of older)) newer.brands
@@ -86,7 +94,11 @@ newer_in older newer = record {
     ap (λ o. unwrap_or o (no_brand (joined older newer))) (get_second older.brands (map (moved_brand (ends_of older)) newer.brands) b)
         ∙ at_mapped (moved_brand (ends_of older)) newer.brands b (no_brand (joined older newer)) (no_brand newer) below,
   );
-  enums = λ e below. omega (arith, length-append older.enums (map (moved_enum (ends_of older)) newer.enums), length-map newer.enums (moved_enum (ends_of older)));
+  enums = λ e below. (
+    omega (arith, length-append older.enums (map (moved_enum (ends_of older)) newer.enums), length-map newer.enums (moved_enum (ends_of older))),
+    ap (λ o. unwrap_or o no_enum) (get_second older.enums (map (moved_enum (ends_of older)) newer.enums) e)
+        ∙ at_mapped (moved_enum (ends_of older)) newer.enums e no_enum no_enum below,
+  );
 }
 
 -- each brand of joined sets is one of either

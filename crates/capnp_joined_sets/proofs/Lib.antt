@@ -1,3 +1,4 @@
+pub mod BothSets
 pub mod BrandRules
 pub mod Copies
 pub mod Embedded
@@ -8,3 +9,5 @@ pub mod Lists
 pub mod MovedEntries
 pub mod MovedTypes
 pub mod Refused
+pub mod Rows
+pub mod SameRecords

@@ -153,7 +153,7 @@ module _ (by : Moves) (s t : Schemas) (accepted : IsAccepted s) (within : IsIn b
   names_entries BoolType h = h
   names_entries (IntType bytes) h = h
   names_entries (UIntType bytes) h = h
-  names_entries (EnumType number) h = within.enums number h
+  names_entries (EnumType number) h = (within.enums number h).0
   names_entries TextType h = h
   names_entries DataType h = h
   names_entries (StructType number generic) h =

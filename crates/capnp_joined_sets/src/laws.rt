@@ -1,7 +1,28 @@
 //! What holds of joined sets.
-ghost use Rattle.capnp_joined_sets.specs.Laws.{JoinedAreAccepted};
+ghost use Rattle.capnp_joined_sets.specs.Laws.{FirstReadsAsBefore, FirstStandsAsBefore, JoinedAreAccepted, SecondReadsAsBefore, SecondStandsMoved};
 
 /// Two sets that meet the twelve rules meet them together.
 pub fn joined_sets_are_accepted()
     ensures { JoinedAreAccepted }
+{}
+
+/// The entries of the first set have the numbers that they had, and are what they were.
+pub fn first_set_stands()
+    ensures { FirstStandsAsBefore }
+{}
+
+/// The entries of the second set stand as many numbers further on as the first set has entries, and so do the numbers
+/// that they name.
+pub fn second_set_stands()
+    ensures { SecondStandsMoved }
+{}
+
+/// A struct reads under a brand of the first set as it read in that set.
+pub fn first_set_reads()
+    ensures { FirstReadsAsBefore }
+{}
+
+/// A struct reads under a brand of the second set, by its new number, as it read in that set.
+pub fn second_set_reads()
+    ensures { SecondReadsAsBefore }
 {}
