@@ -1,17 +1,21 @@
 -- What holds of an embedded set holds of both sets that are joined.
-use Rattle.std.proofs.Common.{ℕ, ◌+◌, ◌<◌, ◌≡◌, length, map, arith, ap, sym, ◌∙◌, add-zero}
+use Rattle.std.proofs.Common.{ℕ, ◌+◌, ◌-◌, ◌<◌, ◌≡◌, length, map, arith, ap, sym, ◌∙◌, add-zero, ⊎_elim}
+use Rattle.std.proofs.lemmas.Bool.{cases_lt}
 use Rattle.std.proofs.lemmas.List.{length-append, length-map}
 use Rattle.capnp_wire.specs.Tree.{StructTree}
-use Rattle.capnp_schema.specs.Schema.{Schemas, brand_at, enum_at, node_at}
+use Rattle.capnp_schema.specs.Schema.{Brand, Schemas, brand_at, enum_at, node_at}
 use Rattle.capnp_schema.specs.Accepted.{IsAccepted}
 use Rattle.capnp_records.specs.Reading.{struct_record}
 use Rattle.capnp_records.specs.Record.{Levels}
 use Rattle.capnp_joined_sets.specs.declared.moves.TheConstants.{NO_MOVES}
-use Rattle.capnp_joined_sets.specs.Joined.{ends_of, joined, moved_brand}
-use Rattle.capnp_joined_sets.specs.Laws.{StandAsBefore, StandMoved}
+use Rattle.capnp_joined_sets.specs.Joined.{ends_of, joined, moved_brand, moved_node}
+use Rattle.capnp_joined_sets.specs.Laws.{EachNodeHasBrand, IsShort, StandAsBefore, StandMoved}
+use Rattle.capnp_joined_sets.specs.Refusals.{NumbersFit}
 use Rattle.capnp_joined_sets.proofs.Embedded.{newer_in, older_in}
 use Rattle.capnp_joined_sets.proofs.Kept.{brand_kept, enum_kept, node_kept}
+use Rattle.capnp_joined_sets.proofs.JoinedAccepted.{joined_accepted}
 use Rattle.capnp_joined_sets.proofs.SameRecords.{reads_same}
+use Rattle.capnp_joined_sets.proofs.ShortSets.{numbers_fit}
 
 counted : (older newer : Schemas) → length (joined older newer).brands ≡ length older.brands + length newer.brands
 counted older newer =
@@ -44,3 +48,20 @@ second_stands older newer = record {
   brands = λ b below. ((newer_in older newer).brands b below).1;
   enums = λ e below. ((newer_in older newer).enums e below).1;
 }
+
+-- each node of joined sets has a brand where each node of both has one
+each_has_brand : (older newer : Schemas) → EachNodeHasBrand older → EachNodeHasBrand newer → EachNodeHasBrand (joined older newer)
+each_has_brand older newer first second n below = ⊎_elim
+    (λ lt.
+    let b = first n lt in
+    (b.0, omega (arith, counted older newer, b.1), ap (λ (x : Brand). x.node) ((first_stands older newer).brands b.0 b.1) ∙ b.2))
+    (λ le.
+    let all = length-append older.nodes (map (moved_node (ends_of older)) newer.nodes) in
+    let those = length-map newer.nodes (moved_node (ends_of older)) in
+    let b = second (n - length older.nodes) (omega arith) in
+    let back : (n - length older.nodes) + length older.nodes ≡ n = omega arith in
+    (b.0 + length older.brands, omega (arith, counted older newer, b.1), ap (λ (x : Brand). x.node) ((second_stands older newer).brands b.0 b.1) ∙ ap (λ k. k + length older.nodes) b.2 ∙ back))
+    (cases_lt n (length older.nodes))
+
+pub short_fit : (older newer : Schemas) → IsAccepted older → IsAccepted newer → EachNodeHasBrand older → EachNodeHasBrand newer → IsShort (joined older newer) → NumbersFit (joined older newer)
+short_fit older newer first second here there short = numbers_fit (joined older newer) (joined_accepted older newer first second) short (each_has_brand older newer here there)

@@ -11,3 +11,4 @@ pub mod MovedTypes
 pub mod Refused
 pub mod Rows
 pub mod SameRecords
+pub mod ShortSets

@@ -1,5 +1,5 @@
 -- What holds of joined sets.
-use Rattle.std.specs.Prelude.{ℕ, ◌+◌, ◌<◌, ◌≡◌, length}
+use Rattle.std.specs.Prelude.{ℕ, ◌+◌, ◌^◌, ◌<◌, ◌≤◌, ◌≡◌, length}
 use Rattle.capnp_wire.specs.Tree.{StructTree}
 use Rattle.capnp_schema.specs.Schema.{Schemas, brand_at, enum_at, node_at}
 use Rattle.capnp_schema.specs.Accepted.{IsAccepted}
@@ -7,6 +7,7 @@ use Rattle.capnp_records.specs.Reading.{struct_record}
 use Rattle.capnp_records.specs.Record.{Levels}
 use Rattle.capnp_joined_sets.specs.declared.moves.Moves.{Moves}
 use Rattle.capnp_joined_sets.specs.Joined.{ends_of, joined, moved_brand, moved_enum, moved_node}
+use Rattle.capnp_joined_sets.specs.Refusals.{NumbersFit}
 
 -- two sets that meet the twelve rules meet them together
 abbrev pub JoinedAreAccepted : Type 0
@@ -39,3 +40,17 @@ FirstStandsAsBefore = (older newer : Schemas) → StandAsBefore older (joined ol
 
 abbrev pub SecondStandsMoved : Type 0
 SecondStandsMoved = (older newer : Schemas) → StandMoved (ends_of older) newer (joined older newer)
+
+-- each node is that of a brand
+abbrev pub EachNodeHasBrand : Schemas → Type 0
+EachNodeHasBrand set = (n : ℕ) → n < length set.nodes → (b : ℕ) × (b < length set.brands) × ((brand_at set b).node ≡ n)
+
+-- no list is longer than 32 bits count
+pub record IsShort (set : Schemas) : Type 0 where
+  pub nodes : length set.nodes ≤ 2 ^ 32
+  pub brands : length set.brands ≤ 2 ^ 32
+  pub enums : length set.enums ≤ 2 ^ 32
+
+-- sets whose nodes all have brands are joined wherever their lists together are short
+abbrev pub ShortSetsFit : Type 0
+ShortSetsFit = (older newer : Schemas) → IsAccepted older → IsAccepted newer → EachNodeHasBrand older → EachNodeHasBrand newer → IsShort (joined older newer) → NumbersFit (joined older newer)
