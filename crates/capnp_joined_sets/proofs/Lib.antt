@@ -1,0 +1,14 @@
+pub mod BothSets
+pub mod BrandRules
+pub mod Copies
+pub mod Embedded
+pub mod Footprints
+pub mod JoinedAccepted
+pub mod Kept
+pub mod Lists
+pub mod MovedEntries
+pub mod MovedTypes
+pub mod Refused
+pub mod Rows
+pub mod SameRecords
+pub mod ShortSets

@@ -1,0 +1,12 @@
+//! Two sets of schemas in one: the entries of both, where the numbers of the second count on behind those of the first.
+//! So questions that are asked within one set can be asked of two versions of a schema.
+#![tactic(auto)]
+
+mod annotations;
+mod entries;
+pub mod laws;
+mod moves;
+mod sets;
+mod types;
+
+pub use crate::sets::join;
