@@ -69,6 +69,7 @@ pub mod any_pointer {
 pub mod compatible {
     pub use crate::capnp_compatible::Compatible;
     pub use crate::capnp_differences::{explain, Cause, Difference, Pair};
+    pub use crate::capnp_joined_sets::join;
 }
 
 /// Data: bytes as they stand.
@@ -178,6 +179,7 @@ pub mod serialize {
 pub mod serialize_packed {
     pub use crate::capnp_packed::pack::pack;
     pub use crate::capnp_packed::received::read_message;
+    pub use crate::capnp_packed::source::UnpackSource;
     pub use crate::capnp_packed::unpack::unpack;
 }
 

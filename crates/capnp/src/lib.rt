@@ -17,6 +17,7 @@ pub mod any_pointer {
 pub mod compatible {
     pub use capnp_compatible::Compatible;
     pub use capnp_differences::{Cause, Difference, Pair, explain};
+    pub use capnp_joined_sets::join;
 }
 
 /// Data: bytes as they stand.
@@ -119,6 +120,7 @@ pub mod serialize {
 pub mod serialize_packed {
     pub use capnp_packed::pack::pack;
     pub use capnp_packed::received::read_message;
+    pub use capnp_packed::source::UnpackSource;
     pub use capnp_packed::unpack::unpack;
 }
 

@@ -169,11 +169,7 @@ fn long_runs_are_unpacked(rt: HostRuntime) -> std::result::Result<(), Fail> {
     for _ in 0..1000 {
         let count = unpacked.read_some(&mut buffer).unwrap_or(0);
         if count > 0 {
-<<<<<<< HEAD
-            length += count;
-=======
             length = count.saturating_add(length);
->>>>>>> 536a669d6972b616ab4f7c2032e6fd218164c346
             last = buffer;
         }
     }
