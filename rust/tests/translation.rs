@@ -656,6 +656,21 @@ const TAKING: [&str; 22] = [
     "into_vec",
 ];
 
+/// Whether a word ends the path of an import. A function of the source may have a name of Rust's std; its calls are seen.
+fn is_import(words: &Words, index: usize) -> bool {
+    let mut place = words.before(index);
+    while let Some(at) = place {
+        if words.at(at) != ":" && !words.is(at, Kind::Name) {
+            return false;
+        }
+        if words.at(at) == "use" {
+            return true;
+        }
+        place = words.before(at);
+    }
+    false
+}
+
 /// What is translated calls nothing of Rust's std that takes memory: such a call is given the allocator, or answers a
 /// `Result`, as those of `rust/std` alone do. No type is named that would take memory as it is made.
 #[test]
@@ -670,6 +685,9 @@ fn no_call_takes_memory_unasked() {
             let is_boxed = words.is(index, Kind::Name) && matches!(words.at(index), "Box" | "Rc" | "Arc" | "BTreeMap");
             assert!(!is_boxed, "{path}: {}", words.at(index));
             if !matches!(words.text_before(index), "." | ":") || !TAKING.contains(&words.at(index)) {
+                continue;
+            }
+            if is_import(&words, index) {
                 continue;
             }
             let is_generic = words.reads(open, &[":", ":", "<"]);

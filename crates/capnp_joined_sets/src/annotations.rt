@@ -10,7 +10,7 @@ use capnp_wire::error::Result;
 use std::alloc::Global;
 
 /// A copy of a value.
-pub(crate) fn copy_value(value: &ValueRecord) -> Result<ValueRecord>
+pub(crate) fn copy_value(alloc: Global, value: &ValueRecord) -> Result<ValueRecord>
     ensures copied { IfOk result (λ copy. seen_value copy ≡ seen_value value.now) }
     ensures refused { IfErr result (λ e. e.kind ≡ OutOfMemory) }
 {
@@ -26,11 +26,11 @@ pub(crate) fn copy_value(value: &ValueRecord) -> Result<ValueRecord>
         ValueRecord::UInt32(x) => ValueRecord::UInt32(*x),
         ValueRecord::UInt64(x) => ValueRecord::UInt64(*x),
         ValueRecord::Enum(x) => ValueRecord::Enum(*x),
-        ValueRecord::Text(bytes) => ValueRecord::Text(bytes.clone()?),
-        ValueRecord::Data(bytes) => ValueRecord::Data(bytes.clone()?),
-        ValueRecord::Struct(words) => ValueRecord::Struct(words.clone()?),
-        ValueRecord::List(words) => ValueRecord::List(words.clone()?),
-        ValueRecord::AnyPointer(words) => ValueRecord::AnyPointer(words.clone()?),
+        ValueRecord::Text(bytes) => ValueRecord::Text(bytes.as_slice().to_vec(alloc)?),
+        ValueRecord::Data(bytes) => ValueRecord::Data(bytes.as_slice().to_vec(alloc)?),
+        ValueRecord::Struct(words) => ValueRecord::Struct(words.as_slice().to_vec(alloc)?),
+        ValueRecord::List(words) => ValueRecord::List(words.as_slice().to_vec(alloc)?),
+        ValueRecord::AnyPointer(words) => ValueRecord::AnyPointer(words.as_slice().to_vec(alloc)?),
     })
 }
 
@@ -44,10 +44,10 @@ impl Moved for AnnotationRecord {
     ghost fits = { λ a. ⊤ };
 
     fn copy_moved(&self, alloc: Global, moves: Moves) -> Result<AnnotationRecord> {
-        let _unused = (alloc, moves);
+        let _unused = moves;
         Ok(AnnotationRecord {
             id: self.id,
-            value: copy_value(&self.value)?,
+            value: copy_value(alloc, &self.value)?,
         })
     }
 }
@@ -76,7 +76,7 @@ impl Moved for EnumerantRecord {
     fn copy_moved(&self, alloc: Global, moves: Moves) -> Result<EnumerantRecord> {
         let _unused = moves;
         Ok(EnumerantRecord {
-            name: self.name.clone()?,
+            name: String::from_str(alloc, &self.name)?,
             annotations: copy_annotations(alloc, &self.annotations)?,
         })
     }

@@ -15,13 +15,13 @@ use capnp_wire::error::Result;
 use std::alloc::Global;
 
 /// What a field is, with the number of its group's node moved.
-fn moved_kind(kind: &FieldKind, moves: Moves) -> Result<FieldKind>
+fn moved_kind(alloc: Global, kind: &FieldKind, moves: Moves) -> Result<FieldKind>
     ensures moved { IfOk result (λ copy. seen_kind copy ≡ moved_kind moves (seen_kind kind.now)) }
     ensures refused { IfErr result (IsMoveRefusal (GroupFits (moved_kind moves (seen_kind kind.now)))) }
 {
     match kind {
         FieldKind::Slot { offset, default } => {
-            let default = copy_value(default)?;
+            let default = copy_value(alloc, default)?;
             Ok(FieldKind::Slot {
                 offset: *offset,
                 default,
@@ -44,9 +44,9 @@ impl Moved for FieldRecord {
     ghost fits = { FieldFits };
 
     fn copy_moved(&self, alloc: Global, moves: Moves) -> Result<FieldRecord> {
-        let kind = moved_kind(&self.kind, moves)?;
+        let kind = moved_kind(alloc, &self.kind, moves)?;
         Ok(FieldRecord {
-            name: self.name.clone()?,
+            name: String::from_str(alloc, &self.name)?,
             discriminant_value: self.discriminant_value,
             annotations: copy_annotations(alloc, &self.annotations)?,
             kind,
@@ -67,7 +67,7 @@ impl Moved for NodeRecord {
         let fields = all_moved(alloc, &self.body.fields, moves)?;
         Ok(NodeRecord {
             id: self.id,
-            display_name: self.display_name.clone()?,
+            display_name: String::from_str(alloc, &self.display_name)?,
             annotations: copy_annotations(alloc, &self.annotations)?,
             body: StructRecord {
                 data_word_count: self.body.data_word_count,
@@ -115,7 +115,7 @@ impl Moved for EnumRecord {
         let annotation_types = moved_annotation_types(alloc, &self.annotation_types, moves)?;
         Ok(EnumRecord {
             id: self.id,
-            display_name: self.display_name.clone()?,
+            display_name: String::from_str(alloc, &self.display_name)?,
             annotations: copy_annotations(alloc, &self.annotations)?,
             enumerants: copy_enumerants(alloc, &self.enumerants)?,
             annotation_types,
