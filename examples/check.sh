@@ -316,7 +316,8 @@ usage: riftcalico show [--set FILE] [--packed] [--each [--keep-going]] NAME [--i
        riftcalico patch [--set FILE] [--calls FILE] [--keep-going] [--packed] [--each] NAME CALL..
        riftcalico new [--set FILE] [--calls FILE] [--keep-going] [--packed] NAME CALL..
        riftcalico structs [--set FILE] [NAME]
-       riftcalico schemas [--strict]'
+       riftcalico schemas [--strict]
+       riftcalico compatible OLD NEW NAME'
 ./riftcalico get Flat a < /dev/null > "$scratch/out" 2> "$scratch/err"
 expect 'a path of no bytes' $? 1 '' 'refused: 2 Truncated (standard input)'
 ./riftcalico get Shapes circle.r < examples/shapes_tag.bin > "$scratch/out" 2> "$scratch/err"

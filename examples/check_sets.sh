@@ -178,6 +178,22 @@ Value.float64: Float64 stands as UInt64'
     show schema CodeGeneratorRequest "$(capnp decode --short "$schema" CodeGeneratorRequest < "$scratch/message" | sed 's/ = void/ = ()/g')"
 }
 
+# versions OLD NEW STATUS TEXT: what differs between two versions of Account
+versions() {
+    ./riftcalico compatible "$scratch/$1.set" "$scratch/$2.set" Account > "$scratch/out" 2> "$scratch/err"
+    expect "$2 behind $1" $? "$3" "$4" ''
+}
+
+converted account_1 ''
+converted account_2 ''
+versions account_1 account_1 0 ''
+versions account_1 account_2 1 'Account.balance has another type
+Account.kind stands elsewhere'
+versions account_2 account_1 1 'Account.balance has another type
+Account.kind stands elsewhere
+Account.kind has an enum with fewer names
+Account.email is gone'
+
 for stream in "$scratch"/stream.*; do
     streamed "${stream##*/stream.}"
 done

@@ -70,6 +70,7 @@ pub mod compatible {
     pub use crate::capnp_compatible::Compatible;
     pub use crate::capnp_differences::{explain, Cause, Difference, Pair};
     pub use crate::capnp_joined_sets::join;
+    pub use crate::capnp_versions::{compare, Comparison};
 }
 
 /// Data: bytes as they stand.

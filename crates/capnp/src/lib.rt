@@ -18,6 +18,7 @@ pub mod compatible {
     pub use capnp_compatible::Compatible;
     pub use capnp_differences::{Cause, Difference, Pair, explain};
     pub use capnp_joined_sets::join;
+    pub use capnp_versions::{Comparison, compare};
 }
 
 /// Data: bytes as they stand.

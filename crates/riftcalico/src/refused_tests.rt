@@ -30,7 +30,7 @@ const HOSTILE: &str = "\
 ";
 
 /// How verbs are called.
-static USAGES: [(&str, &str); 7] = [
+static USAGES: [(&str, &str); 8] = [
     (
         "show",
         "[--set FILE] [--packed] [--each [--keep-going]] NAME [--indent]",
@@ -53,6 +53,7 @@ static USAGES: [(&str, &str); 7] = [
     ),
     ("structs", "[--set FILE] [NAME]"),
     ("schemas", "[--strict]"),
+    ("compatible", "OLD NEW NAME"),
 ];
 
 /// How a verb is called, as a line; all of them for another word.
@@ -181,6 +182,9 @@ structs|--each -> usage
 schemas|--packed -> usage
 schemas|--each -> usage
 schemas|Flat -> usage
+compatible|set|calls -> usage
+compatible|set|calls|Flat|a -> usage
+compatible|--set|set|calls|Flat -> usage
 schemas|--set|set -> usage
 # options that there aren't
 get|Flat|a|--indented -> unknown option: --indented
@@ -242,6 +246,8 @@ get|--set|nowhere|Flat|a -> refused: 12 ReadFailed (nowhere)
 patch|--set|nowhere|Flat|get a -> refused: 12 ReadFailed (nowhere)
 new|--set|set|Flat -> refused: 2 Truncated (set); a set is what riftcalico schemas writes
 patch|--calls|nowhere|Flat -> refused: 12 ReadFailed (nowhere)
+compatible|set|nowhere|Flat -> refused: 12 ReadFailed (nowhere)
+compatible|nowhere|calls|Flat -> refused: 12 ReadFailed (nowhere)
 structs|--set|nowhere -> refused: 12 ReadFailed (nowhere)
 structs|--set|set|Flat -> refused: 2 Truncated (set); a set is what riftcalico schemas writes
 ";

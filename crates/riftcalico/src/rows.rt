@@ -604,6 +604,7 @@ pub(crate) const TOLD: &str = "\
 \"       riftcalico new [--set FILE] [--calls FILE] [--keep-going] [--packed] NAME CALL..
 \"       riftcalico structs [--set FILE] [NAME]
 \"       riftcalico schemas [--strict]
+\"       riftcalico compatible OLD NEW NAME
 \"
 \"More of a verb is told by 'riftcalico VERB --help', the version by 'riftcalico --version'.
 

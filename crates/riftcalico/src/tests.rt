@@ -22,7 +22,8 @@ usage: riftcalico show [--set FILE] [--packed] [--each [--keep-going]] NAME [--i
        riftcalico patch [--set FILE] [--calls FILE] [--keep-going] [--packed] [--each] NAME CALL..
        riftcalico new [--set FILE] [--calls FILE] [--keep-going] [--packed] NAME CALL..
        riftcalico structs [--set FILE] [NAME]
-       riftcalico schemas [--strict]";
+       riftcalico schemas [--strict]
+       riftcalico compatible OLD NEW NAME";
 
 /// The only paths that have a file: of a set and of calls.
 const SET: &str = "set";

@@ -228,6 +228,32 @@ fn values_past_their_bounds_are_told(rt: HostRuntime) -> Result<(), Fail> {
     Ok(())
 }
 
+/// Words that compare two versions, whether the newer file has the set too, the status, and what is told and written.
+static COMPARED: [(&str, bool, &str); 3] = [
+    ("Values", true, "true 0 |"),
+    (
+        "Absent",
+        true,
+        "true 1 refused: 64 NameNotFound (Absent); see riftcalico structs\n|",
+    ),
+    ("Values", false, "true 1 refused: 2 Truncated (calls)\n|"),
+];
+
+#[test]
+fn a_set_follows_itself(rt: HostRuntime) -> Result<(), Fail> {
+    let set = bytes_of(rt.alloc(), SET)?;
+    for (name, has_newer, wanted) in &COMPARED {
+        let words = format!(in rt.alloc(); "compatible|set|calls|{name}")?;
+        let setting = Setting {
+            set: &set,
+            calls: if *has_newer { &set } else { &[] },
+            ..run_on(words.as_str(), &EMPTY_ROOT, false)
+        };
+        comes_to(&rt, rt.alloc(), &setting, wanted)?;
+    }
+    Ok(())
+}
+
 /// All values at once, and the message that the public tool makes of them.
 #[test]
 fn a_message_of_all_values_is_the_public_tools(rt: HostRuntime) -> Result<(), Fail> {

@@ -1,6 +1,7 @@
 -- What is answered to a message's bytes: what is written, what is told, and whether a call was refused.
-use Rattle.std.specs.Prelude.{ℕ, suc, ◌<◌, ◌≡◌, ◌⊎◌, ⊤, List, [], map, Bool, true, false, cond, None, Result, Ok, Err, string_bytes}
+use Rattle.std.specs.Prelude.{ℕ, suc, ◌<◌, ◌≡◌, ◌⊎◌, ⊤, List, [], map, Bool, true, false, cond, not, None, Some, Result, Ok, Err, string_bytes}
 use Rattle.capnp_device.specs.declared.error.ErrorKind.{ErrorKind}
+use Rattle.capnp_device.specs.declared.error.ErrorKind.TheVariants.{NameNotFound, OutOfMemory}
 use Rattle.capnp_arena.specs.Message.{IsMessage, message_tree}
 use Rattle.capnp_call.specs.Refusals.{any_refused}
 use Rattle.capnp_call.specs.Seen.{call_seen, path_seen}
@@ -21,6 +22,9 @@ use Rattle.capnp_schema.specs.Schema.{Schemas}
 use Rattle.capnp_schema.specs.StructHandles.{IsStruct, number_of, set_of}
 use Rattle.capnp_schema.specs.declared.schema.structs.StructSchema.{StructSchema}
 use Rattle.capnp_set_engine.specs.Convert.{HasNoSet, IsSetOf}
+use Rattle.capnp_sets.specs.Message.{IsMessageRefusal, message_set}
+use Rattle.capnp_versions.specs.Versions.{IsComparison, IsNotCompared}
+use Rattle.capnp_versions.specs.declared.versions.Comparison.{Comparison}
 use Rattle.capnp_show_engine.specs.Show.{IsLineOf}
 use Rattle.capnp_structs.specs.Fields.{fields_text}
 use Rattle.capnp_structs.specs.Names.{structs_text}
@@ -38,6 +42,7 @@ use Rattle.riftcalico_core.specs.declared.fault.Blamed.{Blamed}
 use Rattle.riftcalico_core.specs.declared.fault.Blamed.TheVariants as blamed
 use Rattle.riftcalico_core.specs.declared.fault.Fault.{Fault}
 use Rattle.riftcalico_core.specs.declared.job.CallsJob.{CallsJob}
+use Rattle.riftcalico_core.specs.declared.job.CompareJob.{CompareJob}
 use Rattle.riftcalico_core.specs.declared.job.GetJob.{GetJob}
 use Rattle.riftcalico_core.specs.declared.job.Job.{Job}
 use Rattle.riftcalico_core.specs.declared.job.Job.TheVariants as job
@@ -52,6 +57,7 @@ IsSoundJob (job.New j) = IsStruct j.schema
 IsSoundJob (job.Structs schemas) = ⊤
 IsSoundJob (job.Fields s) = IsStruct s
 IsSoundJob (job.Convert strict) = ⊤
+IsSoundJob (job.Compatible j) = ⊤
 IsSoundJob (job.Help v) = ⊤
 IsSoundJob job.Version = ⊤
 
@@ -161,6 +167,29 @@ pub record IsConvertAnswer (strict : Bool) (bytes : List ℕ) (a : Answer) : Typ
   pub set : IsSetOutput strict bytes (string_bytes a.lines) a.output
   pub refused : a.refused ≡ false
 
+-- ---- two versions ----
+
+-- the lines of what differs are written, and the newer struct follows the older one or is refused
+pub record IsCompareAnswer (j : CompareJob) (a : Answer) : Type 0 where
+  pub newer : Schemas
+  pub read : message_set j.newer.now ≡ Some newer
+  pub comparison : Comparison
+  pub compared : IsComparison (lists_seen j.schemas.now) newer j.name.now comparison
+  pub text : IsTextOutput a.output (λ text. text ≡ string_bytes comparison.text)
+  pub told : string_bytes a.lines ≡ []
+  pub refused : a.refused ≡ not comparison.follows
+
+-- the newer set is refused, or one of the sets has no such struct, or they can't be joined
+pub record IsUncompared (j : CompareJob) (f : Fault) : Type 0 where
+  pub cause : IsMessageRefusal j.newer.now f.error ⊎ ((newer : Schemas) × (message_set j.newer.now ≡ Some newer) × IsNotCompared (lists_seen j.schemas.now) newer j.name.now f.error.kind)
+  pub note : string_bytes f.note ≡ []
+
+-- what is to be looked at then: the name, or else the file of the newer set
+abbrev pub compare_blamed : ErrorKind → Blamed
+compare_blamed NameNotFound = blamed.Name
+compare_blamed OutOfMemory = blamed.«Output»
+compare_blamed kind = blamed.Calls
+
 -- ---- a job ----
 
 -- to a message that is not packed
@@ -172,6 +201,7 @@ IsMessageAnswer (job.New j) bytes a = IsNewAnswer j a
 IsMessageAnswer (job.Structs schemas) bytes a = IsStructsAnswer (lists_seen schemas.now) a
 IsMessageAnswer (job.Fields s) bytes a = IsFieldsAnswer s a
 IsMessageAnswer (job.Convert strict) bytes a = IsConvertAnswer strict bytes a
+IsMessageAnswer (job.Compatible j) bytes a = IsCompareAnswer j a
 IsMessageAnswer (job.Help v) bytes a = IsTextAnswer a (λ text. text ≡ help_text v)
 IsMessageAnswer job.Version bytes a = IsTextAnswer a (λ text. text ≡ version_line)
 
@@ -184,6 +214,7 @@ IsNoMessageAnswer (job.New j) bytes f = ⊥
 IsNoMessageAnswer (job.Structs schemas) bytes f = ⊥
 IsNoMessageAnswer (job.Fields s) bytes f = ⊥
 IsNoMessageAnswer (job.Convert strict) bytes f = HasNoSet strict bytes f.error × (string_bytes f.note ≡ [])
+IsNoMessageAnswer (job.Compatible j) bytes f = IsUncompared j f
 IsNoMessageAnswer (job.Help v) bytes f = ⊥
 IsNoMessageAnswer job.Version bytes f = ⊥
 
@@ -204,5 +235,6 @@ IsNoAnswer j bytes f =
     ⊎ ((message : List ℕ) × (message_in (is_packed j) bytes ≡ Ok message) × IsNoMessageAnswer j message f)
 
 -- what is to be looked at where there is none: what is read, or else what is written
-abbrev pub answer_blamed : Job → Blamed
-answer_blamed j = cond (wants_input j) blamed.Input blamed.«Output»
+abbrev pub answer_blamed : Job → ErrorKind → Blamed
+answer_blamed (job.Compatible j) kind = compare_blamed kind
+answer_blamed j kind = cond (wants_input j) blamed.Input blamed.«Output»

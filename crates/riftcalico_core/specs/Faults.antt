@@ -9,7 +9,7 @@ use Rattle.riftcalico_core.specs.Plans.{calls_file}
 use Rattle.riftcalico_core.specs.declared.fault.Blamed.{Blamed}
 use Rattle.riftcalico_core.specs.declared.fault.Blamed.TheVariants as blamed
 use Rattle.riftcalico_core.specs.declared.fault.Fault.{Fault}
-use Rattle.riftcalico_words.specs.Tasks.{Task, check_task, fields_task, get_task, new_task, patch_task, structs_task}
+use Rattle.riftcalico_words.specs.Tasks.{Task, check_task, compatible_task, fields_task, get_task, new_task, patch_task, structs_task}
 
 -- a refusal of which no more is told
 pub record IsPlainFault (f : Fault) (e : Error) (b : Blamed) : Type 0 where
@@ -30,6 +30,7 @@ task_set_file (patch_task t) = t.root.file
 task_set_file (new_task t) = t.root.file
 task_set_file (structs_task file) = file
 task_set_file (fields_task r) = r.file
+task_set_file (compatible_task t) = Some t.older
 task_set_file t = None
 
 -- the name of a task's root
@@ -39,6 +40,7 @@ task_name (check_task t) = t.root.name
 task_name (patch_task t) = t.root.name
 task_name (new_task t) = t.root.name
 task_name (fields_task r) = r.name
+task_name (compatible_task t) = t.name
 task_name t = []
 
 -- a file by its path, or what stands for none

@@ -14,13 +14,14 @@ use Rattle.capnp_schema.specs.declared.schema.structs.StructSchema.{StructSchema
 use Rattle.capnp_sets.specs.Message.{IsMessageRefusal, message_set}
 use Rattle.riftcalico_core.specs.Calls.{call_read}
 use Rattle.riftcalico_core.specs.CallsSeen.{read_call_seen}
-use Rattle.riftcalico_core.specs.Plans.{CallsPlan, GetPlan, Plan, check_plan, convert_plan, fields_plan, get_plan, help_plan, new_plan, patch_plan, structs_plan, version_plan}
+use Rattle.riftcalico_core.specs.Plans.{CallsPlan, ComparePlan, GetPlan, Plan, check_plan, compatible_plan, convert_plan, fields_plan, get_plan, help_plan, new_plan, patch_plan, structs_plan, version_plan}
 use Rattle.riftcalico_core.specs.Reads.{each_word_read, value_line_at}
 use Rattle.riftcalico_core.specs.Wanted.{wanted_note}
 use Rattle.riftcalico_core.specs.Notes.{name_note}
 use Rattle.riftcalico_core.specs.declared.fault.Blamed.TheVariants as blamed
 use Rattle.riftcalico_core.specs.declared.fault.Fault.{Fault}
 use Rattle.riftcalico_core.specs.declared.job.CallsJob.{CallsJob}
+use Rattle.riftcalico_core.specs.declared.job.CompareJob.{CompareJob}
 use Rattle.riftcalico_core.specs.declared.job.GetJob.{GetJob}
 use Rattle.riftcalico_core.specs.declared.job.Job.{Job}
 use Rattle.riftcalico_core.specs.declared.job.Job.TheVariants as job
@@ -75,6 +76,11 @@ pub record IsValueUnread (p : CallsPlan) (set : Schemas) (line : List ℕ) : Typ
   pub unread : each_word_read (call_read set (root_type set brand)) 0 p.texts ≡ Err at
   pub told : line ≡ value_line_at p.words at (wanted_note set (type_along set (root_type set brand) (get_or (map (λ (c : CallText). c.path) p.texts) at.0 [])))
 
+pub record IsCompareJob (p : ComparePlan) (set : Schemas) (j : CompareJob) : Type 0 where
+  pub schemas : lists_seen j.schemas.now ≡ set
+  pub name : j.name.now ≡ p.name
+  pub newer : j.newer.now ≡ p.newer
+
 abbrev pub IsJob : Plan → Schemas → Job → Type 0
 IsJob (get_plan p) set (job.Get j) = IsGetJob p set j
 IsJob (check_plan p) set (job.Check j) = IsGetJob p set j
@@ -83,6 +89,7 @@ IsJob (new_plan p) set (job.New j) = IsCallsJob p set j
 IsJob (structs_plan file) set (job.Structs schemas) = lists_seen schemas.now ≡ set
 IsJob (fields_plan r) set (job.Fields s) = IsNamedStruct set r.name s
 IsJob (convert_plan strict) set (job.Convert given) = given ≡ strict
+IsJob (compatible_plan p) set (job.Compatible j) = IsCompareJob p set j
 IsJob (help_plan v) set (job.Help given) = given ≡ v
 IsJob version_plan set job.Version = ⊤
 IsJob p set j = ⊥
@@ -119,6 +126,7 @@ wants_input (job.New j) = false
 wants_input (job.Structs schemas) = false
 wants_input (job.Fields s) = false
 wants_input (job.Convert strict) = true
+wants_input (job.Compatible j) = false
 wants_input (job.Help v) = false
 wants_input job.Version = false
 
@@ -131,5 +139,6 @@ is_packed (job.New j) = false
 is_packed (job.Structs schemas) = false
 is_packed (job.Fields s) = false
 is_packed (job.Convert strict) = false
+is_packed (job.Compatible j) = false
 is_packed (job.Help v) = false
 is_packed job.Version = false

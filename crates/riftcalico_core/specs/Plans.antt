@@ -9,7 +9,7 @@ use Rattle.capnp_words.specs.Calls.{CallText, call_at}
 use Rattle.capnp_words.specs.Paths.{path_at}
 use Rattle.capnp_words.specs.Reads.{Read}
 use Rattle.riftcalico_core.specs.Reads.{Reads, each_word_read, line_at, unreadable_line}
-use Rattle.riftcalico_words.specs.Tasks.{CallsTask, GetTask, GivenCalls, Root, Task, check_task, convert_task, fields_task, get_task, help_task, in_lines, in_words, new_task, patch_task, structs_task, version_task}
+use Rattle.riftcalico_words.specs.Tasks.{CallsTask, GetTask, GivenCalls, Root, Task, check_task, compatible_task, convert_task, fields_task, get_task, help_task, in_lines, in_words, new_task, patch_task, structs_task, version_task}
 use Rattle.riftcalico_words.specs.declared.request.Verb.{Verb}
 
 -- the value at a path of a root
@@ -27,6 +27,11 @@ pub record CallsPlan : Type 0 where
   pub keep_going : Bool
   pub packed : Bool
 
+-- a struct by its name, and the bytes of the newer set
+pub record ComparePlan : Type 0 where
+  pub name : List ℕ
+  pub newer : List ℕ
+
 pub data Plan : Type 0 where
   get_plan : GetPlan → Plan
   check_plan : GetPlan → Plan
@@ -35,10 +40,11 @@ pub data Plan : Type 0 where
   structs_plan : (file : Option (List ℕ)) → Plan
   fields_plan : Root → Plan
   convert_plan : (strict : Bool) → Plan
+  compatible_plan : ComparePlan → Plan
   help_plan : Option Verb → Plan
   version_plan : Plan
 
--- the file of a task's calls
+-- the file of a task's calls, or of the newer of two sets
 abbrev pub given_file : GivenCalls → Option (List ℕ)
 given_file (in_words words) = None
 given_file (in_lines path) = Some path
@@ -46,6 +52,7 @@ given_file (in_lines path) = Some path
 abbrev pub calls_file : Task → Option (List ℕ)
 calls_file (patch_task t) = given_file t.calls
 calls_file (new_task t) = given_file t.calls
+calls_file (compatible_task t) = Some t.newer
 calls_file t = None
 
 -- ---- what words say, or the line that tells what can't be read ----
@@ -115,5 +122,6 @@ task_plan (new_task t) file = as_plan new_plan (calls_plan_of t file)
 task_plan (structs_task set) file = Ok (structs_plan set)
 task_plan (fields_task r) file = Ok (fields_plan r)
 task_plan (convert_task strict) file = Ok (convert_plan strict)
+task_plan (compatible_task t) file = Ok (compatible_plan (record { name = t.name; newer = file }))
 task_plan (help_task v) file = Ok (help_plan v)
 task_plan version_task file = Ok version_plan

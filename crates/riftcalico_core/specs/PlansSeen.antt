@@ -3,7 +3,7 @@ use Rattle.std.specs.Prelude.{map, Result, Ok, Err, String, string_bytes}
 use Rattle.std.specs.Option.{option_map}
 use Rattle.capnp_words.specs.Seen.{call_text_seen, path_text_seen}
 use Rattle.riftcalico_core.specs.Plans as plans
-use Rattle.riftcalico_core.specs.Plans.{Told, check_plan, convert_plan, fields_plan, get_plan, help_plan, new_plan, patch_plan, structs_plan, version_plan}
+use Rattle.riftcalico_core.specs.Plans.{Told, check_plan, compatible_plan, convert_plan, fields_plan, get_plan, help_plan, new_plan, patch_plan, structs_plan, version_plan}
 use Rattle.riftcalico_core.specs.declared.plan.CallsPlan.{CallsPlan}
 use Rattle.riftcalico_core.specs.declared.plan.GetPlan.{GetPlan}
 use Rattle.riftcalico_core.specs.declared.plan.Plan.{Plan}
@@ -24,6 +24,7 @@ plan_seen (plan.New p) = new_plan (calls_plan_seen p)
 plan_seen (plan.Structs file) = structs_plan (option_map (λ f. f.now) file)
 plan_seen (plan.Fields r) = fields_plan (root_named r)
 plan_seen (plan.Convert strict) = convert_plan strict
+plan_seen (plan.Compatible p) = compatible_plan (record { name = p.name.now; newer = p.newer.now })
 plan_seen (plan.Help v) = help_plan v
 plan_seen plan.Version = version_plan
 

@@ -1,18 +1,21 @@
 //! What is answered to a message's bytes.
-ghost use Rattle.std.specs.Prelude.{◌≡◌, ◌≢◌, IfErr, IfOk, IfSome, MatchOption, map};
+ghost use Rattle.std.specs.Prelude.{◌≡◌, ◌≢◌, ◌⊎◌, IfErr, IfOk, IfSome, MatchOption, Some, map};
 ghost use Rattle.capnp_device.specs.declared.error.ErrorKind.TheVariants.{OutOfMemory};
 ghost use Rattle.capnp_arena.specs.Message.{IsMessage, message_tree};
 ghost use Rattle.capnp_patch.specs.Patches.{IsUnread};
 ghost use Rattle.capnp_schema.specs.Entries.{lists_seen};
 ghost use Rattle.capnp_schema.specs.StructHandles.{IsStruct};
+ghost use Rattle.capnp_schema.specs.Schema.{Schemas};
 ghost use Rattle.capnp_set_engine.specs.Convert.{HasNoSet};
-ghost use Rattle.riftcalico_core.specs.Answers.{IsAnswer, IsCheckAnswer, IsConvertAnswer, IsFieldsAnswer, IsGetAnswer, IsMessageAnswer, IsMessageOutput, IsNewAnswer, IsNoAnswer, IsNoMessageAnswer, IsNotShown, IsPackedMessage, IsPatchAnswer, IsQuiet, IsRunAnswer, IsSoundJob, IsStructsAnswer, IsTextThere, IsWritableOutput, answer_blamed};
+ghost use Rattle.capnp_sets.specs.Message.{IsMessageRefusal, message_set};
+ghost use Rattle.capnp_versions.specs.Versions.{IsNotCompared};
+ghost use Rattle.riftcalico_core.specs.Answers.{IsAnswer, IsCheckAnswer, IsCompareAnswer, IsConvertAnswer, IsFieldsAnswer, IsGetAnswer, IsMessageAnswer, IsMessageOutput, IsNewAnswer, IsNoAnswer, IsNoMessageAnswer, IsNotShown, IsPackedMessage, IsPatchAnswer, IsQuiet, IsRunAnswer, IsSoundJob, IsStructsAnswer, IsTextThere, IsUncompared, IsWritableOutput, answer_blamed, compare_blamed};
 ghost use Rattle.riftcalico_core.specs.Steps.Texts.{IsNoText};
 ghost use Rattle.riftcalico_core.specs.declared.fault.Blamed.TheVariants.{Input};
 
 use crate::calls::make_calls;
 use crate::fault::{Blamed, Fault, Faulty, blame, get_fault};
-use crate::job::{CallsJob, GetJob, Job};
+use crate::job::{CallsJob, CompareJob, GetJob, Job};
 use crate::note::get_place_note;
 use capnp_arena::message::Builder;
 use capnp_call::calls::any_refused;
@@ -26,8 +29,10 @@ use capnp_patch::place::find_place;
 use capnp_schema::schema::StructSchema;
 use capnp_schema::set::SchemaSet;
 use capnp_set_engine::engine::convert_bytes;
+use capnp_sets::message::read_message as read_set;
 use capnp_structs::fields::get_fields;
 use capnp_structs::names::get_structs;
+use capnp_versions::compare;
 use capnp_wire::error::{Error, ErrorKind, Result};
 use riftcalico_words::usage::{get_help, get_version};
 use std::alloc::Global;
@@ -243,13 +248,52 @@ fn answer_convert(alloc: Global, strict: bool, input: &[u8]) -> Result<Answer>
     })
 }
 
+/// What is to be looked at where two versions can't be compared.
+fn compare_blamed(kind: ErrorKind) -> Blamed
+    ensures { result ≡ compare_blamed kind }
+{
+    match kind {
+        ErrorKind::NameNotFound => Blamed::Name,
+        ErrorKind::OutOfMemory => Blamed::Output,
+        _ => Blamed::Calls,
+    }
+}
+
+/// What differs between two versions, as text.
+fn compare_versions(alloc: Global, job: &CompareJob<'_, '_>) -> Result<Answer>
+    ensures answer { IfOk result (IsCompareAnswer job.now) }
+    ensures refused { IfErr result (λ e. e.kind ≢ OutOfMemory → IsMessageRefusal job.now.newer.now e
+        ⊎ ((newer : Schemas) × (message_set job.now.newer.now ≡ Some newer)
+        × IsNotCompared (lists_seen job.now.schemas.now) newer job.now.name.now e.kind)) }
+{
+    let newer = read_set(alloc, job.newer)?;
+    let comparison = compare(alloc, job.schemas, &newer, job.name)?;
+    Ok(Answer {
+        output: Output::Text(comparison.text),
+        lines: String::new(alloc),
+        refused: !comparison.follows,
+    })
+}
+
+/// What differs between two versions, or what is to be looked at.
+fn answer_compare(alloc: Global, job: &CompareJob<'_, '_>) -> Faulty<Answer>
+    ensures answer { IfOk result (IsCompareAnswer job.now) }
+    ensures refused { IfErr result (λ f. f.error.kind ≢ OutOfMemory → IsUncompared job.now f) }
+    ensures blamed { IfErr result (λ f. f.blamed ≡ compare_blamed f.error.kind) }
+{
+    match compare_versions(alloc, job) {
+        Ok(answer) => Ok(answer),
+        Err(error) => Err(get_fault(alloc, error, compare_blamed(error.kind))),
+    }
+}
+
 /// What a job answers to a message that is not packed. Refused as `get_answer`, but for what is packed.
 pub fn answer_message(alloc: Global, job: &Job<'_, '_, '_>, message: &[u8]) -> Faulty<Answer>
     requires { IsSoundJob job.now }
     ensures answer { IfOk result (IsMessageAnswer job.now message.now) }
     ensures writable { IfOk result (λ a. IsWritableOutput a.output) }
     ensures refused { IfErr result (λ f. f.error.kind ≢ OutOfMemory → IsNoMessageAnswer job.now message.now f) }
-    ensures blamed { IfErr result (λ f. f.blamed ≡ answer_blamed job.now) }
+    ensures blamed { IfErr result (λ f. f.blamed ≡ answer_blamed job.now f.error.kind) }
 {
     match job {
         Job::Get(job) => answer_get(alloc, job, message),
@@ -263,6 +307,7 @@ pub fn answer_message(alloc: Global, job: &Job<'_, '_, '_>, message: &[u8]) -> F
             answer_convert(alloc, *strict, message),
             Blamed::Input,
         ),
+        Job::Compatible(job) => answer_compare(alloc, job),
         Job::Help(verb) => Ok(answer_quietly(alloc, Output::Fixed(get_help(*verb)))),
         Job::Version => Ok(answer_quietly(alloc, Output::Fixed(get_version()))),
     }
@@ -279,7 +324,7 @@ pub fn get_answer(alloc: Global, job: &Job<'_, '_, '_>, input: &[u8]) -> Faulty<
     ensures answer { IfOk result (IsAnswer job.now input.now) }
     ensures writable { IfOk result (λ a. IsWritableOutput a.output) }
     ensures refused { IfErr result (λ f. f.error.kind ≢ OutOfMemory → IsNoAnswer job.now input.now f) }
-    ensures blamed { IfErr result (λ f. f.blamed ≡ answer_blamed job.now) }
+    ensures blamed { IfErr result (λ f. f.blamed ≡ answer_blamed job.now f.error.kind) }
 {
     if !job.is_packed() {
         return answer_message(alloc, job, input);

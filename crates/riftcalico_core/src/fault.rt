@@ -68,6 +68,7 @@ pub fn get_set_file<'a>(task: &Task<'a>) -> Option<&'a str>
         Task::Patch(request) | Task::New(request) => request.root.file,
         Task::Structs(file) => *file,
         Task::Fields(root) => root.file,
+        Task::Compatible(request) => Some(request.older),
         Task::Convert(_) | Task::Help(_) | Task::Version => None,
     }
 }
@@ -80,6 +81,7 @@ fn get_name<'a>(task: &Task<'a>) -> &'a str
         Task::Get(request) | Task::Check(request) => request.root.name,
         Task::Patch(request) | Task::New(request) => request.root.name,
         Task::Fields(root) => root.name,
+        Task::Compatible(request) => request.name,
         Task::Structs(_) | Task::Convert(_) | Task::Help(_) | Task::Version => "",
     }
 }

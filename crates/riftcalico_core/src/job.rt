@@ -40,6 +40,14 @@ pub struct CallsJob<'s, 'c, 'w> {
     pub packed: bool,
 }
 
+/// The struct of a name, which is compared with that of the set in these bytes.
+#[derive(Clone, Copy)]
+pub struct CompareJob<'s, 'c> {
+    pub schemas: &'s SchemaSet,
+    pub name: &'c str,
+    pub newer: &'c [u8],
+}
+
 /// What is done to a message.
 #[derive(Drop)]
 pub enum Job<'s, 'c, 'w> {
@@ -57,6 +65,8 @@ pub enum Job<'s, 'c, 'w> {
     Fields(StructSchema<'s>),
     /// It is a compiler's request, which is made a set; whether floats and interfaces are refused.
     Convert(bool),
+    /// Two versions of a struct are compared, and no message is read.
+    Compatible(CompareJob<'s, 'c>),
     /// Help is told, of all or of a verb, and no message is read.
     Help(Option<Verb>),
     /// The version is told, and no message is read.
@@ -75,6 +85,7 @@ impl Job<'_, '_, '_> {
             | Job::Structs(_)
             | Job::Fields(_)
             | Job::Convert(_)
+            | Job::Compatible(_)
             | Job::Help(_)
             | Job::Version => false,
         }
@@ -86,7 +97,12 @@ impl Job<'_, '_, '_> {
     {
         match self {
             Job::Get(_) | Job::Check(_) | Job::Patch(_) | Job::Convert(_) => true,
-            Job::New(_) | Job::Structs(_) | Job::Fields(_) | Job::Help(_) | Job::Version => false,
+            Job::New(_)
+            | Job::Structs(_)
+            | Job::Fields(_)
+            | Job::Compatible(_)
+            | Job::Help(_)
+            | Job::Version => false,
         }
     }
 }
@@ -208,6 +224,11 @@ pub fn find_job<'s, 'c, 'w>(
         Plan::Structs(_) => Ok(Ok(Job::Structs(schemas))),
         Plan::Fields(root) => Ok(Ok(Job::Fields(find_root(alloc, schemas, root.name)?))),
         Plan::Convert(strict) => Ok(Ok(Job::Convert(*strict))),
+        Plan::Compatible(plan) => Ok(Ok(Job::Compatible(CompareJob {
+            schemas,
+            name: plan.name,
+            newer: plan.newer,
+        }))),
         Plan::Help(verb) => Ok(Ok(Job::Help(*verb))),
         Plan::Version => Ok(Ok(Job::Version)),
     }

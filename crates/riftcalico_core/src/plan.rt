@@ -39,6 +39,13 @@ pub struct CallsPlan<'a> {
     pub packed: bool,
 }
 
+/// The struct of a name, which is compared with that of the set in these bytes.
+#[derive(Clone, Copy)]
+pub struct ComparePlan<'a> {
+    pub name: &'a str,
+    pub newer: &'a [u8],
+}
+
 /// What is to be done.
 #[derive(Drop)]
 pub enum Plan<'a> {
@@ -56,6 +63,8 @@ pub enum Plan<'a> {
     Fields(NamedRoot<'a>),
     /// A compiler's request is made a set; whether floats and interfaces are refused.
     Convert(bool),
+    /// Two versions of a struct are compared.
+    Compatible(ComparePlan<'a>),
     /// Help is told, of all or of a verb.
     Help(Option<Verb>),
     /// The version is told.
@@ -72,12 +81,13 @@ fn get_given_file<'a>(calls: &CallWords<'a>) -> Option<&'a str>
     }
 }
 
-/// The file of a task's calls.
+/// The file of a task's calls, or of the newer of two sets.
 pub fn get_calls_file<'a>(task: &Task<'a>) -> Option<&'a str>
     ensures { option_map (λ f. f.now) result ≡ calls_file (task_seen task.now) }
 {
     match task {
         Task::Patch(request) | Task::New(request) => get_given_file(&request.calls),
+        Task::Compatible(request) => Some(request.newer),
         Task::Get(_)
         | Task::Check(_)
         | Task::Structs(_)
@@ -183,7 +193,7 @@ fn plan_get<'a>(alloc: Global, request: GetRequest<'a>) -> Result<Told<GetPlan<'
 }
 
 /// What a task asks, once its words are read; or the line that tells which of them can't be. `file` has the bytes of the
-/// file of its calls, if it has one. Refused with `OutOfMemory` alone.
+/// file of its calls, or of the newer set, if it has one. Refused with `OutOfMemory` alone.
 pub fn read_plan<'a>(alloc: Global, task: &Task<'a>, file: &'a [u8]) -> Result<Told<Plan<'a>>>
     ensures planned { IfOk result (λ r. told_plan r ≡ task_plan (task_seen task.now) file.now) }
     ensures memory { IfErr result (λ e. e.kind ≡ OutOfMemory) }
@@ -208,6 +218,10 @@ pub fn read_plan<'a>(alloc: Global, task: &Task<'a>, file: &'a [u8]) -> Result<T
         Task::Structs(set) => Ok(Ok(Plan::Structs(*set))),
         Task::Fields(root) => Ok(Ok(Plan::Fields(*root))),
         Task::Convert(strict) => Ok(Ok(Plan::Convert(*strict))),
+        Task::Compatible(request) => Ok(Ok(Plan::Compatible(ComparePlan {
+            name: request.name,
+            newer: file,
+        }))),
         Task::Help(verb) => Ok(Ok(Plan::Help(*verb))),
         Task::Version => Ok(Ok(Plan::Version)),
     }

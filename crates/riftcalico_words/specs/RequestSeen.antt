@@ -3,7 +3,7 @@ use Rattle.std.specs.Prelude.{map, Result, Ok, Err}
 use Rattle.std.specs.Option.{option_map}
 use Rattle.riftcalico_words.specs.Requests.{AskedRequest, WordFault, no_verb, other_words, unknown_option, unknown_verb}
 use Rattle.riftcalico_words.specs.Tasks as tasks
-use Rattle.riftcalico_words.specs.Tasks.{CallsTask, GetTask, GivenCalls, Root, check_task, convert_task, fields_task, get_task, help_task, in_lines, in_words, new_task, patch_task, structs_task, version_task}
+use Rattle.riftcalico_words.specs.Tasks.{CallsTask, GetTask, GivenCalls, Root, check_task, compatible_task, convert_task, fields_task, get_task, help_task, in_lines, in_words, new_task, patch_task, structs_task, version_task}
 use Rattle.riftcalico_words.specs.declared.request.CallWords.{CallWords}
 use Rattle.riftcalico_words.specs.declared.request.CallWords.TheVariants as words
 use Rattle.riftcalico_words.specs.declared.request.CallsRequest.{CallsRequest}
@@ -35,6 +35,7 @@ task_seen (task.New r) = new_task (calls_task_of r)
 task_seen (task.Structs file) = structs_task (option_map (λ f. f.now) file)
 task_seen (task.Fields r) = fields_task (root_named r)
 task_seen (task.Convert strict) = convert_task strict
+task_seen (task.Compatible r) = compatible_task (record { older = r.older.now; newer = r.newer.now; name = r.name.now })
 task_seen (task.Help v) = help_task v
 task_seen task.Version = version_task
 

@@ -2,7 +2,7 @@
 use Rattle.std.specs.Prelude.{ℕ, List, [], ◌∷◌, Bool, true, false, not, ◌&&◌, ◌||◌, Option, Some, None, Result, Ok, Err, is_none, is_some, codes, bytes_eq, if◌then◌else◌}
 use Rattle.std.specs.Option.{option_map}
 use Rattle.riftcalico_words.specs.Options.{WordOptions, no_options, options_read}
-use Rattle.riftcalico_words.specs.Tasks.{CallsTask, GivenCalls, Task, check_task, convert_task, fields_task, get_task, help_task, in_lines, in_words, new_task, patch_task, structs_task, version_task}
+use Rattle.riftcalico_words.specs.Tasks.{CallsTask, GivenCalls, Task, check_task, compatible_task, convert_task, fields_task, get_task, help_task, in_lines, in_words, new_task, patch_task, structs_task, version_task}
 use Rattle.riftcalico_words.specs.declared.request.Messages.{Messages}
 use Rattle.riftcalico_words.specs.declared.request.Messages.TheVariants as messages
 use Rattle.riftcalico_words.specs.declared.request.Verb.{Verb}
@@ -27,6 +27,7 @@ verb_of word =
     else if bytes_eq word (codes "new") then Some verb.New
     else if bytes_eq word (codes "structs") then Some verb.Structs
     else if bytes_eq word (codes "schemas") then Some verb.Schemas
+    else if bytes_eq word (codes "compatible") then Some verb.Compatible
     else None
 
 -- the messages that are meant: the first, or with `--each` all
@@ -51,6 +52,7 @@ is_fitting verb.Patch o = not o.indent && not o.strict
 is_fitting verb.New o = not o.indent && not o.strict && not o.each
 is_fitting verb.Structs o = is_none o.calls && not o.indent && not o.keep_going && not o.packed && not o.each && not o.strict
 is_fitting verb.Schemas o = is_none o.set && is_none o.calls && not o.indent && not o.keep_going && not o.packed && not o.each
+is_fitting verb.Compatible o = is_none o.set && is_none o.calls && not o.indent && not o.keep_going && not o.packed && not o.each && not o.strict
 
 -- calls are words or the lines of a file, not both
 abbrev pub given_asked : (file : Option (List ℕ)) → List (List ℕ) → Option GivenCalls
@@ -90,6 +92,10 @@ abbrev pub schemas_asked : WordOptions → List (List ℕ) → Option Task
 schemas_asked o [] = Some (convert_task o.strict)
 schemas_asked o words = None
 
+abbrev pub compatible_asked : List (List ℕ) → Option Task
+compatible_asked (older ∷ newer ∷ name ∷ []) = Some (compatible_task (record { older = older; newer = newer; name = name }))
+compatible_asked words = None
+
 abbrev pub plain_asked : Verb → WordOptions → Option Task
 plain_asked verb.Show o = show_asked o o.others
 plain_asked verb.Get o = get_asked o o.others
@@ -98,6 +104,7 @@ plain_asked verb.Patch o = None
 plain_asked verb.New o = None
 plain_asked verb.Structs o = structs_asked o o.others
 plain_asked verb.Schemas o = schemas_asked o o.others
+plain_asked verb.Compatible o = compatible_asked o.others
 
 abbrev pub verb_asked : Verb → WordOptions → Option Task
 verb_asked verb.Patch o = option_map patch_task (calls_asked o)

@@ -30,8 +30,14 @@ pub record CallsTask : Type 0 where
   pub packed : Bool
   pub messages : Messages
 
+-- the struct of a name in the sets of two files, an older and a newer one
+pub record CompareTask : Type 0 where
+  pub older : List ℕ
+  pub newer : List ℕ
+  pub name : List ℕ
+
 -- A value is shown, or only looked at whether it can be, calls are made on a copy of a message or on an empty root, the structs of a set are shown, in the set of a
--- file or else in the built-in one, or the fields of a struct, a compiler's request is made a set, or
+-- file or else in the built-in one, or the fields of a struct, a compiler's request is made a set, two versions of a struct are compared, or
 -- help is told, of all or of a verb, or the version.
 pub data Task : Type 0 where
   get_task : GetTask → Task
@@ -41,6 +47,7 @@ pub data Task : Type 0 where
   structs_task : (file : Option (List ℕ)) → Task
   fields_task : Root → Task
   convert_task : (strict : Bool) → Task
+  compatible_task : CompareTask → Task
   help_task : Option Verb → Task
   version_task : Task
 
@@ -53,5 +60,6 @@ task_messages (new_task t) = messages.First
 task_messages (structs_task file) = messages.First
 task_messages (fields_task r) = messages.First
 task_messages (convert_task strict) = messages.First
+task_messages (compatible_task t) = messages.First
 task_messages (help_task v) = messages.First
 task_messages version_task = messages.First

@@ -14,6 +14,7 @@ usage_lines =
     ++ codes "       riftcalico new [--set FILE] [--calls FILE] [--keep-going] [--packed] NAME CALL..\n"
     ++ codes "       riftcalico structs [--set FILE] [NAME]\n"
     ++ codes "       riftcalico schemas [--strict]\n"
+    ++ codes "       riftcalico compatible OLD NEW NAME\n"
 
 -- how a verb is
 abbrev pub verb_usage : Verb → List ℕ
@@ -24,6 +25,7 @@ verb_usage verb.Patch = codes "usage: riftcalico patch [--set FILE] [--calls FIL
 verb_usage verb.New = codes "usage: riftcalico new [--set FILE] [--calls FILE] [--keep-going] [--packed] NAME CALL..\n"
 verb_usage verb.Structs = codes "usage: riftcalico structs [--set FILE] [NAME]\n"
 verb_usage verb.Schemas = codes "usage: riftcalico schemas [--strict]\n"
+verb_usage verb.Compatible = codes "usage: riftcalico compatible OLD NEW NAME\n"
 
 -- what a verb does
 abbrev pub verb_help : Verb → List ℕ
@@ -79,6 +81,12 @@ verb_help verb.Schemas =
     ++ codes "\n"
     ++ codes "Reads a request of the public compiler, as 'capnp compile -o- FILE..' writes it, and writes its set of schemas.\n"
     ++ codes "With --strict floats and interfaces are refused.\n"
+verb_help verb.Compatible =
+    codes "usage: riftcalico compatible OLD NEW NAME\n"
+    ++ codes "\n"
+    ++ codes "Tells what differs between the struct NAME of the set in the file OLD and that of the set in NEW, so that a program that\n"
+    ++ codes "knows one can't read messages of the other: a line for each difference, and nothing where the newer struct follows the\n"
+    ++ codes "older one. The status is then 0, and else 1. Sets are as 'riftcalico schemas' writes them.\n"
 
 -- what the program does, or one verb
 abbrev pub help_text : Option Verb → List ℕ
@@ -94,6 +102,7 @@ help_text None =
     ++ codes "       riftcalico new [--set FILE] [--calls FILE] [--keep-going] [--packed] NAME CALL..\n"
     ++ codes "       riftcalico structs [--set FILE] [NAME]\n"
     ++ codes "       riftcalico schemas [--strict]\n"
+    ++ codes "       riftcalico compatible OLD NEW NAME\n"
     ++ codes "\n"
     ++ codes "More of a verb is told by 'riftcalico VERB --help', the version by 'riftcalico --version'.\n"
 

@@ -28,6 +28,8 @@ pub enum Verb {
     Structs,
     /// A compiler's request is made a set of schemas.
     Schemas,
+    /// Two versions of a struct are compared.
+    Compatible,
 }
 
 /// The messages of the input that are meant.
@@ -76,6 +78,14 @@ pub struct CallsRequest<'a> {
     pub messages: Messages,
 }
 
+/// The struct of a name in the sets of two files, an older and a newer one.
+#[derive(Clone, Copy)]
+pub struct CompareRequest<'a> {
+    pub older: &'a str,
+    pub newer: &'a str,
+    pub name: &'a str,
+}
+
 /// What is to be done.
 #[derive(Drop)]
 pub enum Task<'a> {
@@ -93,6 +103,8 @@ pub enum Task<'a> {
     Fields(NamedRoot<'a>),
     /// The set of a compiler's request; whether floats and interfaces are refused.
     Convert(bool),
+    /// What differs between two versions of a struct.
+    Compatible(CompareRequest<'a>),
     /// What can be done is told, or how one verb is called.
     Help(Option<Verb>),
     /// The version of the program is told.
@@ -126,6 +138,7 @@ pub fn get_messages(task: &Task<'_>) -> Messages
         | Task::Structs(_)
         | Task::Fields(_)
         | Task::Convert(_)
+        | Task::Compatible(_)
         | Task::Help(_)
         | Task::Version => Messages::First,
     }
@@ -143,6 +156,7 @@ fn read_verb(word: &str) -> Option<Verb>
         "new" => Some(Verb::New),
         "structs" => Some(Verb::Structs),
         "schemas" => Some(Verb::Schemas),
+        "compatible" => Some(Verb::Compatible),
         _ => None,
     }
 }
@@ -191,6 +205,15 @@ fn is_fit(verb: Verb, options: &Options<'_>) -> bool
                 && !options.keep_going
                 && !options.packed
                 && !options.each
+        }
+        Verb::Compatible => {
+            options.set.is_none()
+                && options.calls.is_none()
+                && !options.indent
+                && !options.keep_going
+                && !options.packed
+                && !options.each
+                && !options.strict
         }
     }
 }
@@ -287,6 +310,11 @@ fn read_plain<'a>(verb: Verb, options: &Options<'a>) -> Option<Task<'a>>
         (Verb::Structs, []) => Some(Task::Structs(file)),
         (Verb::Structs, [name]) => Some(Task::Fields(NamedRoot { file, name: *name })),
         (Verb::Schemas, []) => Some(Task::Convert(options.strict)),
+        (Verb::Compatible, [older, newer, name]) => Some(Task::Compatible(CompareRequest {
+            older: *older,
+            newer: *newer,
+            name: *name,
+        })),
         _ => None,
     }
 }
@@ -308,9 +336,8 @@ fn read_task<'a>(alloc: Global, verb: Verb, options: &Options<'a>) -> Result<Opt
             Some(request) => Ok(Some(Task::New(request))),
             None => Ok(None),
         },
-        Verb::Show | Verb::Get | Verb::Check | Verb::Structs | Verb::Schemas => {
-            Ok(read_plain(verb, options))
-        }
+        Verb::Show | Verb::Get | Verb::Check | Verb::Structs | Verb::Schemas | Verb::Compatible =>
+            Ok(read_plain(verb, options)),
     }
 }
 
@@ -346,6 +373,7 @@ fn read_behind<'a>(alloc: Global, verb: Verb, words: &'a [String]) -> Result<Ask
 /// |`new NAME CALL..`|calls are made on an empty root|
 /// |`structs`, `structs NAME`|the structs of a set are shown, or the fields of one|
 /// |`schemas`|a compiler's request is made a set|
+/// |`compatible OLD NEW NAME`|two versions of a struct are compared|
 /// |`--help`, and behind a verb|help, of all or of the verb|
 /// |`--version`|the version|
 ///

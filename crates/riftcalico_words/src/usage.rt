@@ -19,6 +19,7 @@ usage: riftcalico show [--set FILE] [--packed] [--each [--keep-going]] NAME [--i
        riftcalico new [--set FILE] [--calls FILE] [--keep-going] [--packed] NAME CALL..
        riftcalico structs [--set FILE] [NAME]
        riftcalico schemas [--strict]
+       riftcalico compatible OLD NEW NAME
 ";
 
 const HELP: &str = "\
@@ -32,6 +33,7 @@ usage: riftcalico show [--set FILE] [--packed] [--each [--keep-going]] NAME [--i
        riftcalico new [--set FILE] [--calls FILE] [--keep-going] [--packed] NAME CALL..
        riftcalico structs [--set FILE] [NAME]
        riftcalico schemas [--strict]
+       riftcalico compatible OLD NEW NAME
 
 More of a verb is told by 'riftcalico VERB --help', the version by 'riftcalico --version'.
 ";
@@ -62,6 +64,10 @@ usage: riftcalico structs [--set FILE] [NAME]
 
 const SCHEMAS_USAGE: &str = "\
 usage: riftcalico schemas [--strict]
+";
+
+const COMPATIBLE_USAGE: &str = "\
+usage: riftcalico compatible OLD NEW NAME
 ";
 
 const SHOW_HELP: &str = "\
@@ -130,6 +136,14 @@ Reads a request of the public compiler, as 'capnp compile -o- FILE..' writes it,
 With --strict floats and interfaces are refused.
 ";
 
+const COMPATIBLE_HELP: &str = "\
+usage: riftcalico compatible OLD NEW NAME
+
+Tells what differs between the struct NAME of the set in the file OLD and that of the set in NEW, so that a program that
+knows one can't read messages of the other: a line for each difference, and nothing where the newer struct follows the
+older one. The status is then 0, and else 1. Sets are as 'riftcalico schemas' writes them.
+";
+
 /// How a verb is called.
 fn get_verb_usage(verb: Verb) -> &'static str
     ensures { result.now ≡ verb_usage verb }
@@ -142,6 +156,7 @@ fn get_verb_usage(verb: Verb) -> &'static str
         Verb::New => NEW_USAGE,
         Verb::Structs => STRUCTS_USAGE,
         Verb::Schemas => SCHEMAS_USAGE,
+        Verb::Compatible => COMPATIBLE_USAGE,
     }
 }
 
@@ -157,6 +172,7 @@ fn get_verb_help(verb: Verb) -> &'static str
         Verb::New => NEW_HELP,
         Verb::Structs => STRUCTS_HELP,
         Verb::Schemas => SCHEMAS_HELP,
+        Verb::Compatible => COMPATIBLE_HELP,
     }
 }
 
