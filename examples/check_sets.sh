@@ -184,15 +184,15 @@ versions() {
     expect "$2 behind $1" $? "$3" "$4" ''
 }
 
-converted account_1 ''
-converted account_2 ''
+for version in 1 2 3; do
+    converted "account_$version" ''
+done
 versions account_1 account_1 0 ''
-versions account_1 account_2 1 'Account.balance has another type
-Account.kind stands elsewhere'
-versions account_2 account_1 1 'Account.balance has another type
-Account.kind stands elsewhere
-Account.kind has an enum with fewer names
+versions account_1 account_2 0 ''
+versions account_2 account_1 1 'Account.kind has an enum with fewer names
 Account.email is gone'
+versions account_2 account_3 1 'Account.balance has another type
+Account.kind stands elsewhere'
 
 for stream in "$scratch"/stream.*; do
     streamed "${stream##*/stream.}"
