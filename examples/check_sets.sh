@@ -187,6 +187,11 @@ versions() {
 for version in 1 2 3; do
     converted "account_$version" ''
 done
+row account_1 Account '(name = "it'"'"'s \a\001\177\302\240\303\251")' \
+    '(name = "it'"'"'s \u{7}\u{1}\u{7f}\u{a0}é", balance = 0, kind = private)'
+printf '(kind = public)' | capnp encode examples/sets/account_2.capnp Account > "$scratch/message"
+show account_1 Account '(balance = 0, kind = 2)'
+
 versions account_1 account_1 0 ''
 versions account_1 account_2 0 ''
 versions account_2 account_1 1 'Account.kind has an enum with fewer names
