@@ -295,9 +295,9 @@ b: Text, pointer 0, default ""' Mixed
 
 # a refused call: nothing is written, unless the run is to go on
 ./riftcalico patch Mixed 'set a 6' 'set c 1' < examples/mixed.bin > "$scratch/out" 2> "$scratch/err"
-expect 'a refused call' $? 1 '' '2: set c 1: refused: 20 FieldNotFound'
+expect 'a refused call' $? 1 '' '2: set c 1: refused: 20 FieldNotFound in Mixed'
 ./riftcalico patch --keep-going Mixed 'set a 6' 'set c 1' < examples/mixed.bin > "$scratch/message" 2> "$scratch/err"
-expect 'a refused call that is passed over' $? 1 '' '2: set c 1: refused: 20 FieldNotFound'
+expect 'a refused call that is passed over' $? 1 '' '2: set c 1: refused: 20 FieldNotFound in Mixed'
 ./capnp_show Mixed < "$scratch/message" > "$scratch/out" 2> "$scratch/err"
 expect 'what it leaves' $? 0 '(a = 6, y = 9, b = "hi")' ''
 
@@ -312,12 +312,12 @@ expect 'another form' $? 2 '' 'usage: riftcalico show [--set FILE] [--packed] [-
 expect 'another verb' $? 2 '' 'unknown verb: shows
 usage: riftcalico show [--set FILE] [--packed] [--each [--keep-going]] NAME [--indent]
        riftcalico get [--set FILE] [--packed] [--each [--keep-going]] NAME PATH [--indent]
-       riftcalico check [--set FILE] [--packed] [--each [--keep-going]] NAME [PATH]
-       riftcalico patch [--set FILE] [--calls FILE] [--keep-going] [--packed] [--each] NAME CALL..
-       riftcalico new [--set FILE] [--calls FILE] [--keep-going] [--packed] NAME CALL..
+       riftcalico check [--set FILE] [--packed] [--limit PARTS] [--all] [--each [--keep-going]] NAME [PATH]
+       riftcalico patch [--set FILE] [--calls FILE] [--keep-going] [--packed] [--limit BYTES] [--each] NAME CALL..
+       riftcalico new [--set FILE] [--calls FILE] [--keep-going] [--packed] [--limit BYTES] NAME CALL..
        riftcalico structs [--set FILE] [NAME]
        riftcalico schemas [--strict]
-       riftcalico compatible OLD NEW NAME'
+       riftcalico compatible [--quiet] OLD NEW NAME'
 ./riftcalico get Flat a < /dev/null > "$scratch/out" 2> "$scratch/err"
 expect 'a path of no bytes' $? 1 '' 'refused: 2 Truncated (standard input)'
 ./riftcalico get Shapes circle.r < examples/shapes_tag.bin > "$scratch/out" 2> "$scratch/err"

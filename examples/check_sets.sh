@@ -165,6 +165,27 @@ row standins Mixed '(single = 1, double = -1.5, halves = [0.5, 2], name = "n")' 
     '(single = 1065353216, double = 13832806255468478464, halves = [1056964608, 1073741824], name = "n")'
 row standins Mixed '()' '(single = 1069547520, double = 13821547256400052224)'
 refused standins --strict 60
+listed standins Mixed 'single: UInt32, data bit 0, default 1069547520 $@0xf20fbfb08027d505 = ()
+double: UInt64, data bit 64, default 13821547256400052224 $@0xf20fbfb08027d505 = ()
+clock: AnyPointer, pointer 0
+halves: List(UInt32), pointer 1 $@0xf20fbfb08027d505 = ()
+anything: AnyPointer, pointer 2
+name: Text, pointer 3, default ""'
+
+# fields of floats are marked, and a generic bound to a list of floats is a struct of its own
+converted floats 'Trace.gain: Float64 stands as UInt64
+Trace.levels: Float32 stands as UInt32
+Trace.floats: Float32 stands as UInt32'
+listed floats Trace 'gain: UInt64, data bit 0, default 0 $@0xc8f1a3d5e7b92461 = "of a trace" $@0xf20fbfb08027d505 = ()
+levels: List(List(UInt32)), pointer 0 $@0xf20fbfb08027d505 = ()
+floats: Cell(List(Float32)), pointer 1
+counts: Cell(List(UInt32)), pointer 2
+total: UInt64, data bit 64, default 0 $@0xc8f1a3d5e7b92461 = "no float"'
+listed floats 'Cell(List(Float32))' 'value: List(UInt32), pointer 0 $@0xf20fbfb08027d505 = ()'
+listed floats 'Cell(List(UInt32))' 'value: List(UInt32), pointer 0'
+row floats Trace '(gain = 1.5, levels = [[0.5], []], floats = (value = [2]), counts = (value = [2]), total = 7)' \
+    '(gain = 4609434218613702656, levels = [[1056964608], []], floats = (value = [1073741824]), counts = (value = [2]), total = 7)'
+row floats 'Cell(List(Float32))' '(value = [-1])' '(value = [3212836864])'
 refused endless '' 66
 
 # the compiler's own schema: 35 entries, under which a request is shown

@@ -113,7 +113,7 @@ unfolding height_within
 within-most zero set b = omega arith
 within-most (suc n) set b = highest-most (suc n) (λ f. kind_height (height_within n set) f.field.kind f.type) (fields_of set b) (λ f. kind-most n (height_within n set) f.field.kind f.type (within-most n set))
 
-height-most : (set : Schemas) (b : ℕ) → group_height set b ≤ suc (length set.brands)
+pub height-most : (set : Schemas) (b : ℕ) → group_height set b ≤ suc (length set.brands)
 unfolding group_height
 height-most set b = within-most (suc (length set.brands)) set b
 

@@ -155,10 +155,10 @@ module _ (left : ℕ) (l : ListHandle) where
   pub elements_all : (i : ℕ) → count_of l < i + 1 → ElementsSaid left l i → text_refusal (list_shown left None l) ≡ None
   elements_all i le said = said.rest ∙ elements_end left l i le
 
-  abbrev value-at : ℕ → Value
+  abbrev pub value-at : ℕ → Value
   value-at i = element_value (list_set l) (list_of (list_reader_of l)) (below_of (list_set l) (list_of (list_reader_of l))) (Left (list_levels (list_reader_of l))) (element_of l) i
 
-  nth-element : (i : ℕ) → i < count_of l → nth_value (elements_from l 0 (count_of l)) i ≡ value-at i
+  pub nth-element : (i : ℕ) → i < count_of l → nth_value (elements_from l 0 (count_of l)) i ≡ value-at i
   nth-element i lt = nth-values_from value-at 0 (count_of l) i lt ∙ ap value-at (zero-plus i)
 
   pub element_found : (i : ℕ) → i < count_of l → ElementsSaid left l i → (next : OpenValue) → IsElementUnsaid left l i next →

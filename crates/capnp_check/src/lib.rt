@@ -8,3 +8,4 @@ pub mod check;
 mod parts;
 mod parts_below;
 pub mod place;
+mod visits;

@@ -81,7 +81,11 @@ fn open_slot<'a>(reader: dynamic_struct::Reader<'a>, field: Field<'a>, left: u32
 }
 
 /// What stands under a field.
-fn open_field<'a>(reader: dynamic_struct::Reader<'a>, field: Field<'a>, left: u32) -> OpenValue<'a>
+pub(crate) fn open_field<'a>(
+    reader: dynamic_struct::Reader<'a>,
+    field: Field<'a>,
+    left: u32,
+) -> OpenValue<'a>
     requires field { IsFieldOf (schema_of reader) (index_of field) field }
     ensures { IsFieldOpened left reader.entry (field_in reader.entry field.entry) result }
 {
@@ -95,7 +99,11 @@ fn open_field<'a>(reader: dynamic_struct::Reader<'a>, field: Field<'a>, left: u3
 }
 
 /// An element of a list.
-fn open_element<'a>(list: dynamic_list::Reader<'a>, index: u32, left: u32) -> OpenValue<'a>
+pub(crate) fn open_element<'a>(
+    list: dynamic_list::Reader<'a>,
+    index: u32,
+    left: u32,
+) -> OpenValue<'a>
     ensures { IsElementOpened left list.entry index result }
 {
     match read_element(list, index) {

@@ -1,5 +1,6 @@
 pub mod Got
 pub mod Parts
+pub mod PartsAlike
 pub mod Paths
 pub mod PlacesSeen
 pub mod Reached

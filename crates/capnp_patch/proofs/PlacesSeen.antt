@@ -34,7 +34,7 @@ same_place set set' parts parts' x e f steps words = (
   words ∙ (ap (λ (y : Schemas). place_words y parts x.path.items) e ∙ ap (λ (z : TextParts). place_words set' z x.path.items) f),
 )
 
-printed-is : (q : Bool) (h : StructHandle) → struct_printed q h ≡ struct_or_group q (record_seen h)
+pub printed-is : (q : Bool) (h : StructHandle) → struct_printed q h ≡ struct_or_group q (record_seen h)
 printed-is true h = refl
 printed-is false h = refl
 

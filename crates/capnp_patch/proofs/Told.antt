@@ -10,12 +10,12 @@ step_from xs i x inside is = drop_more xs i x inside ∙ ap (λ y. y ∷ drop (i
 
 -- one more line is told, and then those of the replies that are left
 pub told_then : (i : ℕ) (words : List (List ℕ)) (replies : List Reply) (word : List ℕ) (r : Reply) (old mid new : List ℕ) →
-    i < length replies → word ≡ get_or words i [] → r ≡ get_or replies i r → IsReplyTold (i + 1) word r old mid →
+    i < length replies → word ≡ get_or words i [] → r ≡ get_or replies i r → IsReplyTold (i + 1) word [] r old mid →
     AreTold (i + 1) words (drop (i + 1) replies) mid new → AreTold i words (drop i replies) old new
 told_then i words replies word r old mid new inside w_is r_is told rest =
     subst (λ (rs : List Reply). AreTold i words rs old new) (sym (step_from replies i r inside r_is)) (
       mid,
-      subst (λ (n : ℕ). IsReplyTold n (get_or words i []) r old mid) number (subst (λ (w : List ℕ). IsReplyTold (i + 1) w r old mid) w_is told),
+      subst (λ (n : ℕ). IsReplyTold n (get_or words i []) [] r old mid) number (subst (λ (w : List ℕ). IsReplyTold (i + 1) w [] r old mid) w_is told),
       subst (λ (n : ℕ). AreTold n words (drop (i + 1) replies) mid new) number rest,
     )
   where

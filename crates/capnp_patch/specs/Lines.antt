@@ -69,24 +69,24 @@ told_line n word between text = decimal n ++ codes ": " ++ told_word word ++ bet
 abbrev pub answer_line : ℕ → (word text : List ℕ) → List ℕ
 answer_line n word text = told_line n word (codes " = ") text
 
--- a refusal, by its number and name
-abbrev pub reply_refusal_line : ℕ → (word : List ℕ) → ErrorKind → List ℕ
-reply_refusal_line n word kind = told_line n word (codes ": refused: ") (decimal (error_number kind) ++ codes " " ++ error_name kind)
+-- a refusal, by its number and name, and what tells more
+abbrev pub reply_refusal_line : ℕ → (word : List ℕ) → ErrorKind → (note : List ℕ) → List ℕ
+reply_refusal_line n word kind note = told_line n word (codes ": refused: ") (decimal (error_number kind) ++ codes " " ++ error_name kind ++ told_word note)
 
 -- the line of a value was appended
 abbrev pub IsValueTold : ℕ → (word : List ℕ) → Plain → (old new : List ℕ) → Type 0
 IsValueTold n word p old new = (text : List ℕ) × IsText (answer_text p) text × (new ≡ old ++ answer_line n word text)
 
 -- the line of a reply was: none where something was written, else what was asked for, or a refusal
-abbrev pub IsReplyTold : ℕ → (word : List ℕ) → Reply → (old new : List ℕ) → Type 0
-IsReplyTold n word reply.Done old new = new ≡ old
-IsReplyTold n word (reply.Value p) old new = IsValueTold n word p old new
-IsReplyTold n word (reply.Flag b) old new = new ≡ old ++ answer_line n word (flag_word b)
-IsReplyTold n word (reply.Member i) old new = new ≡ old ++ answer_line n word (member_word i)
-IsReplyTold n word (reply.Refused kind) old new = new ≡ old ++ reply_refusal_line n word kind
+abbrev pub IsReplyTold : ℕ → (word note : List ℕ) → Reply → (old new : List ℕ) → Type 0
+IsReplyTold n word note reply.Done old new = new ≡ old
+IsReplyTold n word note (reply.Value p) old new = IsValueTold n word p old new
+IsReplyTold n word note (reply.Flag b) old new = new ≡ old ++ answer_line n word (flag_word b)
+IsReplyTold n word note (reply.Member i) old new = new ≡ old ++ answer_line n word (member_word i)
+IsReplyTold n word note (reply.Refused kind) old new = new ≡ old ++ reply_refusal_line n word kind note
 
 -- The lines of all these replies were, the first of them to the call at this index. Each has its call's number, from 1 on, and
 -- its word; a call that no word is given for has an empty one.
 abbrev pub AreTold : ℕ → (words : List (List ℕ)) → List Reply → (old new : List ℕ) → Type 0
 AreTold i words [] old new = new ≡ old
-AreTold i words (r ∷ replies) old new = (mid : List ℕ) × IsReplyTold (suc i) (get_or words i []) r old mid × AreTold (suc i) words replies mid new
+AreTold i words (r ∷ replies) old new = (mid : List ℕ) × IsReplyTold (suc i) (get_or words i []) [] r old mid × AreTold (suc i) words replies mid new

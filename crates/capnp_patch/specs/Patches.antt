@@ -1,5 +1,5 @@
 -- What calls on a message's root, or on an empty one, leave, and what is written of it.
-use Rattle.std.specs.Prelude.{ℕ, suc, ◌≡◌, ◌⊎◌, ◌<◌, List, ◌++◌, Bool, true, false, not, ◌||◌, length, take, Option, Some, None, Ok, Err}
+use Rattle.std.specs.Prelude.{ℕ, suc, ◌-◌, ◌/◌, ◌≡◌, ◌⊎◌, ◌<◌, List, ◌++◌, Bool, true, false, not, ◌||◌, cond, nat_lt, length, take, Option, Some, None, Ok, Err}
 use Rattle.std.specs.Io.KnownBytes.{Appends}
 use Rattle.capnp_device.specs.declared.error.ErrorKind.{ErrorKind}
 use Rattle.capnp_wire.specs.Depth.{IsShallow}
@@ -45,6 +45,10 @@ pub record IsLeftOfBytes (schema : StructSchema) (bytes : List ℕ) (calls : Lis
 -- no root of the first message in these bytes is copied
 abbrev pub IsUnread : List ℕ → ErrorKind → Type 0
 IsUnread bytes kind = (message_tree_of bytes ≡ Err kind) ⊎ ((root : Tree) × (message_tree_of bytes ≡ Ok root) × (root_refusal root ≡ Some kind))
+
+-- the words that a message may have of at most so many bytes
+abbrev pub words_within : (bytes : ℕ) → ℕ
+words_within bytes = cond (nat_lt (bytes / 8) (words_past_format - 1)) (bytes / 8) (words_past_format - 1)
 
 -- ---- whether it is written ----
 

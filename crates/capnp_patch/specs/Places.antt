@@ -1,5 +1,5 @@
 -- Where what is asked for at a path can't be shown.
-use Rattle.std.specs.Prelude.{ℕ, zero, suc, ◌≡◌, List, [], ◌∷◌, Bool, true, false, Option, Some, None, Result, Ok, Err, string_bytes}
+use Rattle.std.specs.Prelude.{ℕ, zero, suc, ◌<◌, ◌≤◌, ◌≡◌, List, [], ◌∷◌, length, map, Bool, true, false, Option, Some, None, Result, Ok, Err, string_bytes}
 use Rattle.capnp_device.specs.declared.error.ErrorKind.{ErrorKind}
 use Rattle.capnp_wire.specs.Stream.{message_tree_of}
 use Rattle.capnp_wire.specs.Tree.{Tree}
@@ -10,6 +10,7 @@ use Rattle.capnp_schema.specs.declared.schema.structs.StructSchema.{StructSchema
 use Rattle.capnp_records.specs.Call.{PathStep}
 use Rattle.capnp_records.specs.Run.{root_type}
 use Rattle.capnp_records.specs.Text.{print_levels}
+use Rattle.capnp_check.specs.Faults.{ShownPart, most_steps, part_told, parts_within, refused_parts}
 use Rattle.capnp_check.specs.Places.{IsPathTo, RefusedAs, TextParts, part_parts, place_words}
 use Rattle.capnp_check.specs.declared.place.RefusedPlace.{RefusedPlace}
 use Rattle.capnp_dynamic_readers.specs.Typed.{struct_type}
@@ -19,6 +20,8 @@ use Rattle.capnp_patch.specs.Gets.{Part, Reached, is_empty, is_group_type, path_
 use Rattle.capnp_patch.specs.declared.place.Place.{Place}
 use Rattle.capnp_patch.specs.declared.place.Place.TheVariants as place
 use Rattle.capnp_patch.specs.declared.place.Refusal.{Refusal}
+use Rattle.capnp_patch.specs.declared.place.Refusals.{Refusals}
+use Rattle.capnp_patch.specs.declared.place.Refusals.TheVariants as refusals
 use Rattle.capnp_patch.specs.declared.reach.RefusedStep.{RefusedStep}
 
 -- the root of a message as it is read, or why it can't be
@@ -69,3 +72,27 @@ IsRefusedAt set b path bytes kind (place.Part x) =
 abbrev pub refusal_number : Option Refusal → Option ErrorKind
 refusal_number None = None
 refusal_number (Some r) = Some r.kind
+
+-- ---- all that is refused ----
+
+-- all parts that a text shows of a part
+abbrev pub parts_shown : Schemas → (steps : ℕ) → Part → List ShownPart
+parts_shown set n p = parts_within set n (shown_parts set p)
+
+-- those of them that are refused, in the order of the text, each once
+abbrev pub AreRefusedParts : Schemas → Part → List RefusedPlace → Type 0
+AreRefusedParts set p places = (n : ℕ) → most_steps set ≤ n → map part_told places ≡ refused_parts (parts_shown set n p)
+
+-- The message or its root alone, where these can't be read; a step alone, where the root can; or all parts of what stands at
+-- the path that are refused.
+abbrev pub AreRefusedAt : Schemas → ℕ → List PathStep → (bytes : List ℕ) → Refusals → Type 0
+AreRefusedAt set b path bytes (refusals.Root kind) = root_reached set b (message_tree_of bytes) ≡ Err kind
+AreRefusedAt set b path bytes (refusals.Step x) =
+    (p : Part) × (root_reached set b (message_tree_of bytes) ≡ Ok p) × IsRefusedStep set path p x.index x.error.kind x.within
+AreRefusedAt set b path bytes (refusals.Parts places) =
+    (p : Part) × (path_read set path (root_reached set b (message_tree_of bytes)) ≡ Ok p) × AreRefusedParts set p places.items
+
+-- what stands at the path has more parts than so many, itself among them
+abbrev pub HasMoreParts : ℕ → Schemas → ℕ → List PathStep → (bytes : List ℕ) → Type 0
+HasMoreParts limit set b path bytes =
+    (p : Part) × (path_read set path (root_reached set b (message_tree_of bytes)) ≡ Ok p) × ((n : ℕ) → most_steps set ≤ n → limit < length (parts_shown set n p))

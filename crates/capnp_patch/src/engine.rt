@@ -1,9 +1,9 @@
 //! Calls on a copy of the root of a message that is received.
-ghost use Rattle.std.specs.Prelude.{◌≢◌, IfErr, IfOk};
+ghost use Rattle.std.specs.Prelude.{◌≡◌, ◌≢◌, IfErr, IfOk};
 ghost use Rattle.capnp_device.specs.declared.error.ErrorKind.TheVariants.{OutOfMemory};
 ghost use Rattle.capnp_arena.specs.Message.{IsMessage, message_tree};
 ghost use Rattle.capnp_schema.specs.StructHandles.{IsStruct};
-ghost use Rattle.capnp_patch.specs.Patches.{IsLeftOfBytes, IsUnread};
+ghost use Rattle.capnp_patch.specs.Patches.{IsLeftOfBytes, IsUnread, words_within};
 
 use capnp_call::calls::Call;
 use capnp_call::message::{MOST_WORDS, Run, run_copied};
@@ -12,12 +12,44 @@ use capnp_wire::error::Result;
 use capnp_wire::message::Reader;
 use std::alloc::Global;
 
+/// The words that a message may have which has at most so many bytes: at least one, and at most those of the format.
+pub fn words_within(bytes: u64) -> usize
+    ensures { result ≡ words_within bytes }
+{
+    let words = bytes / 8;
+    if words < MOST_WORDS as u64 {
+        words as usize
+    } else {
+        MOST_WORDS
+    }
+}
+
 /// Makes calls on a copy of the root of the first message in these bytes, read as a struct of the schema, which is one of
-/// an accepted set. What follows the message is not looked at.
+/// an accepted set. What follows the message is not looked at. The message that is made never has more words than `limit`,
+/// which stands for 1 where it is 0, and for `MOST_WORDS` where it is more; a call that has no room is refused with
+/// `OutOfMemory` in its reply.
 ///
-/// Refused with `OutOfMemory`, as the message is (`Truncated`, `TooManySegments`), with `BadPointer`, `TooDeep` or
-/// `CapabilityPointer` where a pointer in it can't be followed, by the first of these in preorder, and with
-/// `WrongPointerKind` where its root is a list.
+/// Refused with `OutOfMemory`, also where the copy has no room within the limit, as the message is (`Truncated`,
+/// `TooManySegments`), with `BadPointer`, `TooDeep` or `CapabilityPointer` where a pointer in it can't be followed, by the
+/// first of these in preorder, and with `WrongPointerKind` where its root is a list.
+pub fn run_bytes_within(
+    alloc: Global,
+    limit: usize,
+    bytes: &[u8],
+    schema: StructSchema<'_>,
+    calls: &[Call<'_>],
+) -> Result<Run>
+    requires { IsStruct schema }
+    ensures message { IfOk result (λ run. IsMessage run.message) }
+    ensures left { IfOk result (λ run. IsLeftOfBytes schema.entry bytes.now calls.now run.replies.items
+        (message_tree run.message)) }
+    ensures refused { IfErr result (λ e. e.kind ≢ OutOfMemory → IsUnread bytes.now e.kind) }
+{
+    let reader = Reader::new(alloc, bytes)?;
+    run_copied(alloc, limit, reader.get_root(), schema, calls)
+}
+
+/// The same with as many words as the format allows.
 pub fn run_bytes(
     alloc: Global,
     bytes: &[u8],
@@ -30,6 +62,5 @@ pub fn run_bytes(
         (message_tree run.message)) }
     ensures refused { IfErr result (λ e. e.kind ≢ OutOfMemory → IsUnread bytes.now e.kind) }
 {
-    let reader = Reader::new(alloc, bytes)?;
-    run_copied(alloc, MOST_WORDS, reader.get_root(), schema, calls)
+    run_bytes_within(alloc, MOST_WORDS, bytes, schema, calls)
 }

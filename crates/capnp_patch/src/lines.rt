@@ -115,20 +115,37 @@ fn put_member(lines: &mut String, number: u64, word: &str, member: Option<u16>) 
     }
 }
 
-/// Appends the line of a refusal.
-fn put_refusal(lines: &mut String, number: u64, word: &str, kind: ErrorKind) -> Result<()>
-    ensures put { OnOk result (string_bytes lines.new ≡ string_bytes lines.old ++ reply_refusal_line number word.now kind) }
+/// Appends the line of a refusal, with what tells more.
+fn put_refusal(
+    lines: &mut String,
+    number: u64,
+    word: &str,
+    kind: ErrorKind,
+    note: &str,
+) -> Result<()>
+    ensures put { OnOk result (string_bytes lines.new
+        ≡ string_bytes lines.old ++ reply_refusal_line number word.now kind note.now) }
     ensures memory { IfErr result (λ e. e.kind ≡ OutOfMemory) }
 {
     let refusal = kind.number();
     let name = kind.name();
-    let text = format!(in *lines.allocator(); "{refusal} {name}")?;
+    let mut text = format!(in *lines.allocator(); "{refusal} {name}")?;
+    put_word(&mut text, note)?;
     put_told(lines, number, word, ": refused: ", text.as_str())
 }
 
-/// Appends the line of a reply.
-fn put_line(lines: &mut String, number: u64, word: &str, reply: &Reply) -> Result<()>
-    ensures put { OnOk result (IsReplyTold number word.now reply.now (string_bytes lines.old) (string_bytes lines.new)) }
+/// Appends the line of a reply to the call of a number with its word, if it answers or refuses: the number, the word, and the
+/// answer, or the refusal's number and name and a note that tells more. Control characters are told by their numbers. Refused
+/// with `OutOfMemory` alone.
+pub fn put_line(
+    lines: &mut String,
+    number: u64,
+    word: &str,
+    note: &str,
+    reply: &Reply,
+) -> Result<()>
+    ensures put { OnOk result (IsReplyTold number word.now note.now reply.now (string_bytes lines.old)
+        (string_bytes lines.new)) }
     ensures memory { IfErr result (λ e. e.kind ≡ OutOfMemory) }
 {
     match reply {
@@ -136,7 +153,7 @@ fn put_line(lines: &mut String, number: u64, word: &str, reply: &Reply) -> Resul
         Reply::Value(plain) => put_value_line(lines, number, word, plain),
         Reply::Flag(flag) => put_flag(lines, number, word, *flag),
         Reply::Member(member) => put_member(lines, number, word, *member),
-        Reply::Refused(kind) => put_refusal(lines, number, word, *kind),
+        Reply::Refused(kind) => put_refusal(lines, number, word, *kind, note),
     }
 }
 
@@ -160,7 +177,13 @@ pub fn get_lines(alloc: Global, words: &[&str], replies: &[Reply]) -> Result<Str
     let mut lines = String::new(alloc);
     for index in 0..replies.len() {
         let number = index as u64 + 1;
-        put_line(&mut lines, number, word_at(words, index), &replies[index])?;
+        put_line(
+            &mut lines,
+            number,
+            word_at(words, index),
+            "",
+            &replies[index],
+        )?;
     }
     Ok(lines)
 }

@@ -28,7 +28,7 @@ const FAR_CYCLE: &[u8] = &[0, 0, 0, 0, 1, 0, 0, 0, 2, 0, 0, 0, 0, 0, 0, 0];
 const NO_WORDS: &[u8] = &[0, 0, 0, 0, 0, 0, 0, 0];
 
 /// The root is a list of bytes.
-const LIST_ROOT: &[u8] = &[
+pub(crate) const LIST_ROOT: &[u8] = &[
     0, 0, 0, 0, 2, 0, 0, 0, 1, 0, 0, 0, 0x12, 0, 0, 0, 1, 2, 0, 0, 0, 0, 0, 0,
 ];
 
@@ -36,13 +36,13 @@ const LIST_ROOT: &[u8] = &[
 const CAPABILITY_ROOT: &[u8] = &[0, 0, 0, 0, 1, 0, 0, 0, 3, 0, 0, 0, 0, 0, 0, 0];
 
 /// A `Loop` whose `again` is the struct itself.
-const CYCLE: &[u8] = &[
+pub(crate) const CYCLE: &[u8] = &[
     0, 0, 0, 0, 3, 0, 0, 0, 0, 0, 0, 0, 1, 0, 1, 0, 1, 0, 0, 0, 0, 0, 0, 0, 0xf8, 0xff, 0xff, 0xff,
     1, 0, 1, 0,
 ];
 
 /// A `Mixed` whose `a` is 5, with `y` active and 9, and whose `b` points past the end.
-const BAD_TEXT: &[u8] = &[
+pub(crate) const BAD_TEXT: &[u8] = &[
     0, 0, 0, 0, 3, 0, 0, 0, 0, 0, 0, 0, 1, 0, 1, 0, 5, 0, 1, 0, 9, 0, 0, 0, 1, 0, 0, 0, 0x1a, 0, 0,
     0,
 ];
@@ -103,7 +103,7 @@ type Got = (u32, &'static [u8], &'static str, u32, &'static [u8]);
 
 /// A `Lists` in which nothing reads: `bytes` is a struct, `raw` has numbers of two bytes, `t` does not end in a zero
 /// byte, and `items` are bits.
-const UNREADABLE: &[u8] = &[
+pub(crate) const UNREADABLE: &[u8] = &[
     0, 0, 0, 0, 8, 0, 0, 0, 0, 0, 0, 0, 0, 0, 4, 0, 0xfc, 0xff, 0xff, 0xff, 0, 0, 0, 0, 9, 0, 0, 0,
     0x13, 0, 0, 0, 9, 0, 0, 0, 0x12, 0, 0, 0, 9, 0, 0, 0, 0x11, 0, 0, 0, 1, 0, 2, 0, 0, 0, 0, 0,
     0x61, 0x62, 0, 0, 0, 0, 0, 0, 1, 0, 0, 0, 0, 0, 0, 0,

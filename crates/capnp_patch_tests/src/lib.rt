@@ -18,4 +18,6 @@ mod memory_tests;
 #[cfg(test)]
 mod patch_tests;
 #[cfg(test)]
+mod place_tests;
+#[cfg(test)]
 mod tool_tests;

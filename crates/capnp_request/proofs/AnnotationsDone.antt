@@ -17,7 +17,7 @@ use Rattle.capnp_request.specs.Scopes.{node_named}
 use Rattle.capnp_request.specs.Terms.{BrandTerm, SchemaNode, TypeTerm, UnreadType, ValueTerm}
 use Rattle.capnp_request.specs.Types.{named_scopes, type_of}
 use Rattle.capnp_request.specs.Values.{value_stated}
-use Rattle.capnp_request.specs.Work.{Bound, Named, Seen, Work, each_read, work_of, nothing_seen, work_said, seen_in, work_unnoted, ◌>>=◌, work_continued}
+use Rattle.capnp_request.specs.Work.{Bound, MarkedType, Named, Seen, Work, each_read, work_of, nothing_seen, work_said, seen_in, work_unnoted, ◌>>=◌, work_continued}
 use Rattle.capnp_request.specs.Steps.Work.{Numbered, named_with}
 
 -- ---- work with what is seen in it alone ----
@@ -53,7 +53,7 @@ module _ (nodes : List SchemaNode) (strict : Bool) (id : ℕ) (inside : List Bou
   abbrev start : Named
   start = named_with n nothing_seen
 
-  abbrev found : Option TypeTerm → Work SchemaType
+  abbrev found : Option TypeTerm → Work MarkedType
   found o = declared_in nodes strict o (named_scopes nodes strict inside id brand)
 
   pub undeclared_type : declared_term (node_named nodes id) ≡ None → work_unnoted (declared_type nodes strict id inside brand) start ≡ Err NodeNotFound
@@ -73,7 +73,7 @@ module _ (nodes : List SchemaNode) (strict : Bool) (id : ℕ) (inside : List Bou
       pub refused_type : (kind : ErrorKind) → type_of nodes strict bound k s ≡ Err kind → work_unnoted (declared_type nodes strict id inside brand) start ≡ Err kind
       refused_type kind e = unnoted_refused (declared_type nodes strict id inside brand) n kind (type_by ∙ e)
 
-      pub done_type : (z : SchemaType) (m : Numbered) (seen : Seen) → type_of nodes strict bound k s ≡ Ok (z, named_with m seen) → work_unnoted (declared_type nodes strict id inside brand) start ≡ Ok (z, named_with m nothing_seen)
+      pub done_type : (z : MarkedType) (m : Numbered) (seen : Seen) → type_of nodes strict bound k s ≡ Ok (z, named_with m seen) → work_unnoted (declared_type nodes strict id inside brand) start ≡ Ok (z, named_with m nothing_seen)
       done_type z m seen e = unnoted_done (declared_type nodes strict id inside brand) n z m seen (type_by ∙ e)
 
   -- the levels of the brand's terms
@@ -84,7 +84,7 @@ module _ (nodes : List SchemaNode) (strict : Bool) (id : ℕ) (inside : List Bou
 
 module _ (nodes : List SchemaNode) (strict : Bool) (inside : List Bound) (r : Record) (id : ℕ) (number : value.Number (pos id) ≡ request_read_at 12 0 r) (s : Named) where
   abbrev rest : (given_id : ℕ) → Value → Work (Annotation × SchemaType)
-  rest given_id v = work_unnoted (declared_type nodes strict given_id inside (brand_in whole_type (request_read_at 12 2 r))) >>= (λ t. work_of (record { id = given_id; value = v }, t))
+  rest given_id v = work_unnoted (declared_type nodes strict given_id inside (brand_in whole_type (request_read_at 12 2 r))) >>= (λ t. work_of (record { id = given_id; value = v }, t.type))
 
   by_value : (w : ValueTerm) → value_in (request_read_at 12 1 r) ≡ w → annotation_of nodes strict inside (annotation_said r) s ≡ work_continued (rest id) (work_said (value_stated w) s)
   unfolding annotation_said
@@ -98,14 +98,14 @@ module _ (nodes : List SchemaNode) (strict : Bool) (inside : List Bound) (r : Re
     value_refused kind e = by_value (value_said q) (ap value_in (sym there)) ∙ ap (λ x. work_continued (rest id) (work_said x s)) e
 
     module _ (v : Value) (is : value_stated (value_said q) ≡ Ok v) where
-      by_type : annotation_of nodes strict inside (annotation_said r) s ≡ work_continued (λ t. work_of (record { id = id; value = v }, t)) (work_unnoted (declared_type nodes strict id inside (brand_in whole_type (request_read_at 12 2 r))) s)
+      by_type : annotation_of nodes strict inside (annotation_said r) s ≡ work_continued (λ t. work_of (record { id = id; value = v }, t.type)) (work_unnoted (declared_type nodes strict id inside (brand_in whole_type (request_read_at 12 2 r))) s)
       by_type = by_value (value_said q) (ap value_in (sym there)) ∙ ap (λ x. work_continued (rest id) (work_said x s)) is
 
       pub type_refused : (kind : ErrorKind) → work_unnoted (declared_type nodes strict id inside (brand_in whole_type (request_read_at 12 2 r))) s ≡ Err kind → annotation_of nodes strict inside (annotation_said r) s ≡ Err kind
-      type_refused kind e = by_type ∙ ap (work_continued (λ t. work_of (record { id = id; value = v }, t))) e
+      type_refused kind e = by_type ∙ ap (work_continued (λ t. work_of (record { id = id; value = v }, t.type))) e
 
-      pub annotation_done : (z : SchemaType) (t : Named) → work_unnoted (declared_type nodes strict id inside (brand_in whole_type (request_read_at 12 2 r))) s ≡ Ok (z, t) → annotation_of nodes strict inside (annotation_said r) s ≡ Ok ((record { id = id; value = v }, z), t)
-      annotation_done z t e = by_type ∙ ap (work_continued (λ t. work_of (record { id = id; value = v }, t))) e
+      pub annotation_done : (z : MarkedType) (t : Named) → work_unnoted (declared_type nodes strict id inside (brand_in whole_type (request_read_at 12 2 r))) s ≡ Ok (z, t) → annotation_of nodes strict inside (annotation_said r) s ≡ Ok ((record { id = id; value = v }, z.type), t)
+      annotation_done z t e = by_type ∙ ap (work_continued (λ t. work_of (record { id = id; value = v }, t.type))) e
 
 -- ---- annotations in a row ----
 

@@ -1,6 +1,7 @@
 -- What `==` of nodes with bindings answers is what the definition compares.
 use Rattle.std.proofs.Common.{ℕ, ◌+◌, ◌-◌, ◌^◌, ◌<◌, ◌≤◌, ◌≡◌, ◌∙◌, zero, suc, min, arith, ap, refl, subst, sym, ◌==◌, ◌&&◌, Bool, true, false, List, [], ◌∷◌, map}
 use Rattle.std.proofs.lemmas.Bool.Decides.{nat_tests}
+use mathlib.Core.Bool.{beq}
 use Rattle.std.specs.Cmp.Lexicographic.{pointwise}
 use Rattle.capnp_base.specs.Types.{variant_kind, list_type, schema_number, base_variant, variant_by, variant_of}
 use Rattle.capnp_base.specs.declared.introspect.TypeVariant.{TypeVariant}
@@ -11,12 +12,14 @@ use Rattle.capnp_base.specs.declared.introspect.BaseType.TheVariants as base
 use Rattle.capnp_base.specs.contracts.introspect.BaseTypePartialEq.TheImpl as base_eq
 use Rattle.capnp_base.specs.contracts.introspect.TypePartialEq.TheImpl as type_eq
 use Rattle.capnp_schema.specs.Types.{ListType, lists_of, seen_base, seen_type}
-use Rattle.capnp_request.specs.Steps.Bindings.{bounds, seen_bound}
-use Rattle.capnp_request.specs.Types.{innermost_type, kind_number, lists_in, named_entry, same_bound, same_scope, same_type, same_types}
+use Rattle.capnp_request.specs.Steps.Bindings.{bounds, seen_bound, seen_marked}
+use Rattle.capnp_request.specs.Types.{innermost_type, kind_number, lists_in, named_entry, same_bound, same_mark, same_marked, same_scope, same_type, same_types}
 use Rattle.capnp_request.specs.contracts.entries.BoundNodePartialEq.TheImpl as node_eq
 use Rattle.capnp_request.specs.contracts.entries.BoundScopePartialEq.TheImpl as scope_eq
 use Rattle.capnp_request.specs.declared.entries.BoundNode.{BoundNode}
 use Rattle.capnp_request.specs.declared.entries.BoundScope.{BoundScope}
+use Rattle.capnp_request.specs.contracts.marks.MarkedTypePartialEq.TheImpl as marked_eq
+use Rattle.capnp_request.specs.declared.marks.MarkedType.{MarkedType as MarkedRecord}
 
 -- what is inside the lists of a type is no list
 bare : (b : BaseType) → (lists_in (seen_base b) ≡ 0) × (innermost_type (seen_base b) ≡ seen_base b) × (kind_number (seen_base b) ≡ variant_kind (base_variant b)) × (named_entry (seen_base b) ≡ schema_number (base_variant b))
@@ -90,11 +93,20 @@ type_same t u =
     (λ i. ((k t i == k u i) && (n t i == n u i)) && (depth_of t i == depth_of u i))
     ∙ ap (λ q. q && (t.list_count == u.list_count)) (base_same t.base u.base)
 
-types_same : (ts us : List TypeHandle) → same_types (map seen_type ts) (map seen_type us) ≡ pointwise (type_eq.ghosts).eq ts us
+mark_same : (a b : Bool) → same_mark a b ≡ beq a b
+mark_same true true = refl
+mark_same true false = refl
+mark_same false true = refl
+mark_same false false = refl
+
+marked_same : (t u : MarkedRecord) → same_marked (seen_marked t) (seen_marked u) ≡ (marked_eq.ghosts).eq t u
+marked_same t u = (λ i. type_same t.standing u.standing i && mark_same t.is_float u.is_float i)
+
+types_same : (ts us : List MarkedRecord) → same_types (map seen_marked ts) (map seen_marked us) ≡ pointwise (marked_eq.ghosts).eq ts us
 types_same [] [] = refl
 types_same [] (u ∷ us) = refl
 types_same (t ∷ ts) [] = refl
-types_same (t ∷ ts) (u ∷ us) = ap (λ b. b && same_types (map seen_type ts) (map seen_type us)) (type_same t u) ∙ ap (λ b. (type_eq.ghosts).eq t u && b) (types_same ts us)
+types_same (t ∷ ts) (u ∷ us) = ap (λ b. b && same_types (map seen_marked ts) (map seen_marked us)) (marked_same t u) ∙ ap (λ b. (marked_eq.ghosts).eq t u && b) (types_same ts us)
 
 scope_same : (a b : BoundScope) → same_scope (seen_bound a) (seen_bound b) ≡ (scope_eq.ghosts).eq a b
 scope_same a b = ap (λ q. (a.id == b.id) && ((a.distance == b.distance) && ((a.parameters == b.parameters) && q))) (types_same a.types.items b.types.items)

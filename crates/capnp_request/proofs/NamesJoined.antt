@@ -16,8 +16,9 @@ use Rattle.capnp_schema.specs.declared.record.FieldRecord.{FieldRecord}
 use Rattle.capnp_schema.specs.declared.record.NodeRecord.{NodeRecord}
 use Rattle.capnp_schema.specs.Types.{SchemaType, lists_of, seen_base, seen_variant}
 use Rattle.capnp_request.specs.Steps.Bindings.{bounds, seen_bound}
-use Rattle.capnp_request.specs.Names.{bindings_name, bound_name, dotted_name, finished_name, group_name, more_names, part_bindings, type_name}
+use Rattle.capnp_request.specs.Names.{bindings_name, bound_name, dotted_name, finished_name, group_name, more_names, part_bindings, set_type_name}
 use Rattle.capnp_request.specs.Steps.NamesMade.{IsTooLong, bound_name_at, repeated_piece, struct_names, texts}
+use Rattle.capnp_request.specs.Work.{MarkedType}
 use Rattle.capnp_request.specs.declared.entries.BoundScope.{BoundScope}
 
 -- a name that begins with one that is too long is too long
@@ -56,12 +57,12 @@ repeated-end (suc n) p = append_assoc p (repeated_piece n p) p ∙ ap (λ xs. p 
 wrapped : (l ls t rs r : List ℕ) → rs ++ r ≡ r ++ rs → (l ++ ((ls ++ t) ++ rs)) ++ r ≡ ((l ++ ls) ++ t) ++ (r ++ rs)
 wrapped l ls t rs r e = simp append_assoc (ap (λ xs. l ++ (ls ++ (t ++ xs))) e)
 
-pub lists_name : (structs enums : List (List ℕ)) (n : ℕ) (t : SchemaType) →
-    type_name structs enums (lists_of n t) ≡ (repeated_piece n (codes "List(") ++ type_name structs enums t) ++ repeated_piece n (codes ")")
-lists_name structs enums zero t = sym (append-nil (type_name structs enums t))
-lists_name structs enums (suc n) t =
-    ap (λ xs. (codes "List(" ++ xs) ++ codes ")") (lists_name structs enums n t)
-    ∙ wrapped (codes "List(") (repeated_piece n (codes "List(")) (type_name structs enums t) (repeated_piece n (codes ")")) (codes ")") (repeated-end n (codes ")"))
+pub lists_name : (structs enums : List (List ℕ)) (q : Bool) (n : ℕ) (t : SchemaType) →
+    set_type_name structs enums q (lists_of n t) ≡ (repeated_piece n (codes "List(") ++ set_type_name structs enums q t) ++ repeated_piece n (codes ")")
+lists_name structs enums q zero t = sym (append-nil (set_type_name structs enums q t))
+lists_name structs enums q (suc n) t =
+    ap (λ xs. (codes "List(" ++ xs) ++ codes ")") (lists_name structs enums q n t)
+    ∙ wrapped (codes "List(") (repeated_piece n (codes "List(")) (set_type_name structs enums q t) (repeated_piece n (codes ")")) (codes ")") (repeated-end n (codes ")"))
 
 pub variant_seen : (b : BaseType) → seen_variant (base_variant b) ≡ seen_base b
 variant_seen base.Void = refl
@@ -81,13 +82,13 @@ variant_seen base.AnyPointer = refl
 variant_seen (base.Enum e) = refl
 
 -- the name of a struct or enum, by the name of its number
-pub struct_word : (structs enums : List (List ℕ)) (b : BaseType) (s : RawBrandedStructSchema) (name : List ℕ) → variant.Struct s ≡ base_variant b → unwrap_or (slice_get structs s.number) [] ≡ name →
-    type_name structs enums (seen_base b) ≡ name
-struct_word structs enums b s name e h = ap (type_name structs enums) (sym (variant_seen b) ∙ ap seen_variant (sym e)) ∙ h
+pub struct_word : (structs enums : List (List ℕ)) (q : Bool) (b : BaseType) (s : RawBrandedStructSchema) (name : List ℕ) → variant.Struct s ≡ base_variant b → unwrap_or (slice_get structs s.number) [] ≡ name →
+    set_type_name structs enums q (seen_base b) ≡ name
+struct_word structs enums q b s name e h = ap (set_type_name structs enums q) (sym (variant_seen b) ∙ ap seen_variant (sym e)) ∙ h
 
-pub enum_word : (structs enums : List (List ℕ)) (b : BaseType) (s : RawEnumSchema) (name : List ℕ) → variant.Enum s ≡ base_variant b → unwrap_or (slice_get enums s.number) [] ≡ name →
-    type_name structs enums (seen_base b) ≡ name
-enum_word structs enums b s name e h = ap (type_name structs enums) (sym (variant_seen b) ∙ ap seen_variant (sym e)) ∙ h
+pub enum_word : (structs enums : List (List ℕ)) (q : Bool) (b : BaseType) (s : RawEnumSchema) (name : List ℕ) → variant.Enum s ≡ base_variant b → unwrap_or (slice_get enums s.number) [] ≡ name →
+    set_type_name structs enums q (seen_base b) ≡ name
+enum_word structs enums q b s name e h = ap (set_type_name structs enums q) (sym (variant_seen b) ∙ ap seen_variant (sym e)) ∙ h
 
 pub name_there : (nodes : List NodeRecord) (i : ℕ) (n : NodeRecord) → slice_get nodes i ≡ Some n → unwrap_or (slice_get (struct_names nodes) i) [] ≡ string_bytes n.display_name
 name_there nodes i n e =
@@ -105,12 +106,12 @@ text_missing names i e = ap (λ o. unwrap_or o []) (slice_get-map string_bytes n
 
 -- ---- bindings ----
 
-more_at : (structs enums : List (List ℕ)) (ts : List SchemaType) (count : ℕ) →
+more_at : (structs enums : List (List ℕ)) (ts : List MarkedType) (count : ℕ) →
     more_names structs enums ts (suc count) ≡ (codes ", " ++ bound_name_at structs enums ts 0) ++ more_names structs enums (drop 1 ts) count
 more_at structs enums [] count = refl
 more_at structs enums (t ∷ ts) count = refl
 
-name_behind : (structs enums : List (List ℕ)) (ts : List SchemaType) (i : ℕ) → bound_name_at structs enums (drop i ts) 0 ≡ bound_name_at structs enums ts i
+name_behind : (structs enums : List (List ℕ)) (ts : List MarkedType) (i : ℕ) → bound_name_at structs enums (drop i ts) 0 ≡ bound_name_at structs enums ts i
 name_behind structs enums [] zero = refl
 name_behind structs enums [] (suc i) = refl
 name_behind structs enums (t ∷ ts) zero = refl
@@ -122,7 +123,7 @@ drop_more [] (suc i) = let e : suc i + 1 ≡ suc (i + 1) = omega arith in ap (λ
 drop_more (x ∷ xs) zero = refl
 drop_more (x ∷ xs) (suc i) = let e : suc i + 1 ≡ suc (i + 1) = omega arith in drop_more xs i ∙ ap (λ n. drop n (x ∷ xs)) (sym e)
 
-pub more_left : (structs enums : List (List ℕ)) (ts : List SchemaType) (i p : ℕ) → i < p →
+pub more_left : (structs enums : List (List ℕ)) (ts : List MarkedType) (i p : ℕ) → i < p →
     more_names structs enums (drop i ts) (p - i) ≡ (codes ", " ++ bound_name_at structs enums ts i) ++ more_names structs enums (drop (i + 1) ts) (p - (i + 1))
 more_left structs enums ts i p h =
     let e : p - i ≡ suc (p - (i + 1)) = omega (arith, h) in
@@ -171,7 +172,7 @@ dotted_left structs enums bs dots k xs i inside =
 
 -- ---- one step of each loop ----
 
-module _ (structs enums : List (List ℕ)) (ts : List SchemaType) (i p : ℕ) (inside : i < p) (name whole : List ℕ) (left : name ++ more_names structs enums (drop i ts) (p - i) ≡ whole) where
+module _ (structs enums : List (List ℕ)) (ts : List MarkedType) (i p : ℕ) (inside : i < p) (name whole : List ℕ) (left : name ++ more_names structs enums (drop i ts) (p - i) ≡ whole) where
   pub comma_long : (kind : ErrorKind) → IsTooLong kind (name ++ codes ", ") → IsTooLong kind whole
   comma_long kind h = subst (IsTooLong kind) left (first_long name (codes ", ") (bound_name_at structs enums ts i) (more_names structs enums (drop (i + 1) ts) (p - (i + 1))) _ (more_left structs enums ts i p inside) kind h)
 

@@ -3,12 +3,12 @@ use Rattle.std.proofs.Common.{ℕ, ◌≡◌, List, [], ◌∷◌, Bool, true, f
 use Rattle.std.specs.Str.{chars, is_utf8}
 use lib.Utf8.{encode}
 use Rattle.capnp_device.specs.declared.error.ErrorKind.TheVariants.{FloatType, NodeNotFound}
-use Rattle.capnp_schema.specs.Schema.{Brand, Node, Schemas, Slot, TextValue, UIntValue, VoidValue}
-use Rattle.capnp_schema.specs.Types.{SchemaType, StructType, TextType, UIntType, VoidType, AnyPointerType}
-use Rattle.capnp_request.specs.Conversion.{Float64Note, Note, note_at}
+use Rattle.capnp_schema.specs.Schema.{Annotation, Brand, Field, Node, Schemas, Slot, TextValue, UIntValue, VoidValue}
+use Rattle.capnp_schema.specs.Types.{SchemaType, ListType, StructType, TextType, UIntType, VoidType, AnyPointerType}
+use Rattle.capnp_request.specs.Conversion.{Float32Note, Float64Note, Note, note_at}
 use Rattle.capnp_request.specs.Names.{dotted_of, file_of}
 use Rattle.capnp_request.specs.Order.{conversion_of}
-use Rattle.capnp_request.specs.Terms.{AnnotationNode, Binds, FieldKindTerm, FieldTerm, Float64, GroupTerm, Inherits, MoreBindings, MoreScopes, NoBindings, NoScopes, NodeKind, OtherNode, Parameter, MemberTerm, RequestTerm, Said, SchemaNode, SlotTerm, Stands, StructNode, StructTerm, EnumTerm, TypeTerm}
+use Rattle.capnp_request.specs.Terms.{AnnotationNode, Binds, FieldKindTerm, FieldTerm, Float32, Float64, GroupTerm, Inherits, ListTerm, MoreBindings, MoreScopes, NoBindings, NoScopes, NodeKind, OtherNode, Parameter, MemberTerm, RequestTerm, Said, SchemaNode, SlotTerm, Stands, StructNode, StructTerm, EnumTerm, TypeTerm}
 
 -- ---- terms of rows ----
 
@@ -119,15 +119,101 @@ annotated_field : conversion_of annotated false ≡ Ok (
       discriminant_offset = 3;
       fields =
           record { name = codes "n"; discriminant_value = 65535; annotations = record { id = 7; value = TextValue (codes "hi") } ∷ []; kind = Slot 0 (UIntValue 2 5) }
-          ∷ record { name = codes "f"; discriminant_value = 65535; annotations = []; kind = Slot 0 VoidValue } ∷ [];
+          ∷ record { name = codes "f"; discriminant_value = 65535; annotations = record { id = 17442370646614463749; value = VoidValue } ∷ []; kind = Slot 0 VoidValue } ∷ [];
     } ∷ [];
-    brands = record { node = 0; field_types = UIntType 2 ∷ UIntType 8 ∷ []; annotation_types = record { own = []; children = (TextType ∷ []) ∷ [] ∷ [] } } ∷ [];
+    brands = record { node = 0; field_types = UIntType 2 ∷ UIntType 8 ∷ []; annotation_types = record { own = []; children = (TextType ∷ []) ∷ (VoidType ∷ []) ∷ [] } } ∷ [];
     enums = [];
   },
   note_at 0 1 Float64Note ∷ [],
 )
 unfolding is_utf8 chars encode
 annotated_field = refl
+
+-- ---- floats as types of their own ----
+
+-- the ids of the annotations of each field of each struct
+abbrev field_marks : Node → List (List ℕ)
+field_marks n = map (λ (f : Field). map (λ (a : Annotation). a.id) f.annotations) n.fields
+
+abbrev marks_in : Said (Schemas × List Note) → Said (List (List (List ℕ)))
+marks_in (Ok p) = Ok (map field_marks p.0.nodes)
+marks_in (Err kind) = Err kind
+
+abbrev child_types_in : Said (Schemas × List Note) → Said (List (List (List SchemaType)))
+child_types_in (Ok p) = Ok (map (λ (b : Brand). b.annotation_types.children) p.0.brands)
+child_types_in (Err kind) = Err kind
+
+-- A field with an annotation of its own, and a union of a list of floats, one of integers, and a float of each width. The
+-- mark stands behind the others, in lists too.
+abbrev noted_field : List ℕ → TypeTerm → FieldTerm
+noted_field name t = record { name = Ok name; discriminant_value = 65535; annotations = Ok (Ok (record { id = 7; value = Stands (TextValue (codes "hi")); brand = NoScopes }) ∷ []); kind = SlotTerm 0 t (Stands VoidValue) }
+
+abbrev floats : RequestTerm
+floats = request (
+    file (2 ∷ [])
+    ∷ node 7 (codes "x.capnp:note") 1 [] 0 (AnnotationNode (MemberTerm TextType))
+    ∷ node 2 (codes "x.capnp:A") 1 [] 0 (struct_kind false 0 (
+    noted_field (codes "a") Float32 ∷ slot (codes "b") 65535 1 (ListTerm (ListTerm Float64)) ∷ noted_field (codes "c") (ListTerm (MemberTerm (UIntType 4))) ∷ slot (codes "d") 65535 3 Float64 ∷ []))
+    ∷ [])
+
+abbrev float_mark : ℕ
+float_mark = 17442370646614463749
+
+floats_marked : marks_in (conversion_of floats false) ≡ Ok (((7 ∷ float_mark ∷ []) ∷ (float_mark ∷ []) ∷ (7 ∷ []) ∷ (float_mark ∷ []) ∷ []) ∷ [])
+unfolding is_utf8 chars encode
+floats_marked = refl
+
+floats_typed : types_in (conversion_of floats false) ≡ Ok ((UIntType 4 ∷ ListType (ListType (UIntType 8)) ∷ ListType (UIntType 4) ∷ UIntType 8 ∷ []) ∷ [])
+unfolding is_utf8 chars encode
+floats_typed = refl
+
+marks_typed : child_types_in (conversion_of floats false) ≡ Ok (((TextType ∷ VoidType ∷ []) ∷ (VoidType ∷ []) ∷ (TextType ∷ []) ∷ (VoidType ∷ []) ∷ []) ∷ [])
+unfolding is_utf8 chars encode
+marks_typed = refl
+
+-- a generic bound to a list of floats and to a list of the integers that stand for them: two entries
+abbrev boxes : RequestTerm
+boxes = request (
+    file (5 ∷ 4 ∷ [])
+    ∷ node 5 (codes "x.capnp:U") 1 [] 0 (struct_kind false 0 (slot (codes "a") 65535 0 (bound_to (ListTerm Float32)) ∷ slot (codes "b") 65535 1 (bound_to (ListTerm (MemberTerm (UIntType 4)))) ∷ slot (codes "c") 65535 1 (bound_to (ListTerm Float32)) ∷ []))
+    ∷ node 4 (codes "x.capnp:Box") 1 [] 1 (struct_kind false 0 (slot (codes "item") 65535 0 (Parameter 4 0) ∷ []))
+    ∷ [])
+
+boxes_named : names_in (conversion_of boxes false) ≡ Ok (codes "U" ∷ codes "Box" ∷ codes "Box(List(Float32))" ∷ codes "Box(List(UInt32))" ∷ [])
+unfolding is_utf8 chars encode
+boxes_named = refl
+
+boxes_typed : types_in (conversion_of boxes false) ≡ Ok (
+    (StructType 2 2 ∷ StructType 3 3 ∷ StructType 2 2 ∷ [])
+    ∷ (AnyPointerType ∷ [])
+    ∷ (ListType (UIntType 4) ∷ [])
+    ∷ (ListType (UIntType 4) ∷ [])
+    ∷ [])
+unfolding is_utf8 chars encode
+boxes_typed = refl
+
+-- what is bound to a parameter is marked there
+boxes_marked : marks_in (conversion_of boxes false) ≡ Ok (([] ∷ [] ∷ [] ∷ []) ∷ ([] ∷ []) ∷ ((float_mark ∷ []) ∷ []) ∷ ([] ∷ []) ∷ [])
+unfolding is_utf8 chars encode
+boxes_marked = refl
+
+-- what is noted is told as ever: of the field whose type it is, not where a parameter stands for it
+boxes_noted : notes_in (conversion_of boxes false) ≡ Ok (note_at 0 0 Float32Note ∷ note_at 0 2 Float32Note ∷ [])
+unfolding is_utf8 chars encode
+boxes_noted = refl
+
+-- an annotation's type that is a float stands as an integer, and has no mark
+abbrev weighed : RequestTerm
+weighed = request (
+    file (2 ∷ [])
+    ∷ node 7 (codes "x.capnp:weight") 1 [] 0 (AnnotationNode Float32)
+    ∷ node 2 (codes "x.capnp:A") 1 [] 0 (struct_kind false 0 (
+    record { name = Ok (codes "n"); discriminant_value = 65535; annotations = Ok (Ok (record { id = 7; value = Stands (UIntValue 4 5); brand = NoScopes }) ∷ []); kind = SlotTerm 0 (MemberTerm (UIntType 4)) (Stands VoidValue) } ∷ []))
+    ∷ [])
+
+weighed_typed : child_types_in (conversion_of weighed false) ≡ Ok (((UIntType 4 ∷ []) ∷ []) ∷ [])
+unfolding is_utf8 chars encode
+weighed_typed = refl
 
 -- under --strict the float is refused
 strict_float : conversion_of annotated true ≡ Err FloatType

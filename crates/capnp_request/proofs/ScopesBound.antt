@@ -3,13 +3,12 @@ use Rattle.std.proofs.Common.{ℕ, ◌+◌, ◌-◌, ◌<◌, ◌≤◌, ◌≡�
 use Rattle.std.proofs.lemmas.Bool.Decides.{nat_tests}
 use Rattle.std.proofs.lemmas.List.{append-nil, map-append}
 use Rattle.capnp_device.specs.declared.error.ErrorKind.{ErrorKind}
-use Rattle.capnp_schema.specs.Types.{SchemaType, VoidType, BoolType, IntType, UIntType, EnumType, TextType, DataType, StructType, ListType, AnyPointerType, seen_type}
-use Rattle.capnp_base.specs.declared.introspect.«Type».{«Type» as TypeHandle}
+use Rattle.capnp_schema.specs.Types.{SchemaType, VoidType, BoolType, IntType, UIntType, EnumType, TextType, DataType, StructType, ListType, AnyPointerType}
 use Rattle.capnp_records.specs.Record as value
 use Rattle.capnp_records.specs.Record.{Record, Value}
 use Rattle.capnp_dynamic_readers.specs.Reads.{element_seen}
 use Rattle.capnp_dynamic_readers.specs.declared.dynamic_list.Reader.{Reader as ListHandle}
-use Rattle.capnp_request.specs.Steps.Bindings.{with_nothing}
+use Rattle.capnp_request.specs.Steps.Bindings.{seen_marked, with_nothing}
 use Rattle.capnp_request.specs.Conversion.{is_untyped}
 use Rattle.capnp_request.specs.Steps.Handles.{IsListOf, values_left}
 use Rattle.capnp_request.specs.Steps.Meant.{says_or, scope_in}
@@ -17,8 +16,9 @@ use Rattle.capnp_request.specs.Parts.{request_struct, request_read_at}
 use Rattle.capnp_request.specs.Reading.{binding_said, bindings_said, brand_in, list_or, in_struct, number_in, scope_said, scopes_said, with_scope}
 use Rattle.capnp_request.specs.Scopes.{scopes_of}
 use Rattle.capnp_request.specs.Terms.{BindingTerms, BrandTerm, MoreBindings, NoBindings, Said, SchemaNode, TypeTerm, UnreadBrand, UnreadType}
-use Rattle.capnp_request.specs.Types.{bind_scope, binding_types, brand_types, named_scopes, type_of, with_type, without_untyped}
-use Rattle.capnp_request.specs.Work.{Bound, Named, each, work_of, work_said, ◌>>=◌, work_continued}
+use Rattle.capnp_request.specs.Types.{bind_scope, binding_types, brand_types, named_scopes, type_of, with_type, with_type_of, without_untyped}
+use Rattle.capnp_request.specs.Work.{Bound, MarkedType, Named, each, work_of, work_said, ◌>>=◌, work_continued}
+use Rattle.capnp_request.specs.declared.marks.MarkedType.{MarkedType as MarkedRecord}
 use Rattle.capnp_request.specs.declared.schema_nodes.GenericScope.{GenericScope}
 use Rattle.capnp_request.proofs.ListsRead.{count_of, element_is, none_left, one_left}
 use Rattle.capnp_request.proofs.Walks.{all_done, more_done, prefixed, step_err, step_ok}
@@ -65,18 +65,18 @@ module _ (nodes : List SchemaNode) (strict : Bool) (inside : List Bound) (inner 
   abbrev left : ℕ → BindingTerms
   left i = bindings_said inner (values_left l i)
 
-  pub bindings_end : (i count : ℕ) (ys : List SchemaType) (s : Named) → (count_of l ≤ i) → prefixed ys (binding_types nodes strict inside (bindings_said inner (values_left l i)) count s) ≡ prefixed ys (Ok ([], s))
+  pub bindings_end : (i count : ℕ) (ys : List MarkedType) (s : Named) → (count_of l ≤ i) → prefixed ys (binding_types nodes strict inside (bindings_said inner (values_left l i)) count s) ≡ prefixed ys (Ok ([], s))
   bindings_end i count ys s h = ap (λ vs. prefixed ys (binding_types nodes strict inside (bindings_said inner vs) count s)) (none_left l i h) ∙ go count
     where
       go : (n : ℕ) → prefixed ys (binding_types nodes strict inside NoBindings n s) ≡ prefixed ys (Ok ([], s))
       go zero = refl
       go (suc n) = refl
 
-  pub bindings_full : (i count : ℕ) (ys : List SchemaType) (s : Named) → count ≡ 0 → prefixed ys (binding_types nodes strict inside (bindings_said inner (values_left l i)) count s) ≡ prefixed ys (Ok ([], s))
+  pub bindings_full : (i count : ℕ) (ys : List MarkedType) (s : Named) → count ≡ 0 → prefixed ys (binding_types nodes strict inside (bindings_said inner (values_left l i)) count s) ≡ prefixed ys (Ok ([], s))
   bindings_full i count ys s h = ap (λ n. prefixed ys (binding_types nodes strict inside (bindings_said inner (values_left l i)) n s)) h
 
-  pub bindings_all : (i count : ℕ) (ys : List SchemaType) (s : Named) → (min (count_of l) count ≤ i) → prefixed ys (binding_types nodes strict inside (bindings_said inner (values_left l i)) (count - i) s) ≡ Ok (ys, s)
-  bindings_all i count ys s h = go (le_either (count_of l) i) ∙ ap (λ (zs : List SchemaType). Ok (zs, s)) (append-nil ys)
+  pub bindings_all : (i count : ℕ) (ys : List MarkedType) (s : Named) → (min (count_of l) count ≤ i) → prefixed ys (binding_types nodes strict inside (bindings_said inner (values_left l i)) (count - i) s) ≡ Ok (ys, s)
+  bindings_all i count ys s h = go (le_either (count_of l) i) ∙ ap (λ (zs : List MarkedType). Ok (zs, s)) (append-nil ys)
     where
       le_either : (a b : ℕ) → (a ≤ b) ⊎ (b < a)
       le_either a b = grind arith
@@ -85,7 +85,7 @@ module _ (nodes : List SchemaNode) (strict : Bool) (inside : List Bound) (inner 
       go (inl past) = bindings_end i (count - i) ys s past
       go (inr inside) = bindings_full i (count - i) ys s (omega (arith, h, inside))
 
-  module _ (i count : ℕ) (ys : List SchemaType) (s : Named) (is : IsListOf (request_struct 21) l) (within : i < count_of l) (below : i < count) where
+  module _ (i count : ℕ) (ys : List MarkedType) (s : Named) (is : IsListOf (request_struct 21) l) (within : i < count_of l) (below : i < count) where
     step : (k : TypeTerm) → bindings_said inner (values_left l i) ≡ MoreBindings k (left (i + 1)) →
         prefixed ys (binding_types nodes strict inside (left i) (count - i) s) ≡ prefixed ys (work_continued (λ y. binding_types nodes strict inside (left (i + 1)) (count - (i + 1)) >>= (λ zs. work_of (y ∷ zs))) (type_of nodes strict inside k s))
     step k e =
@@ -102,74 +102,80 @@ module _ (nodes : List SchemaNode) (strict : Bool) (inside : List Bound) (inner 
       pub binding_refused : (kind : ErrorKind) → type_of nodes strict inside (binding_said inner r) s ≡ Err kind → prefixed ys (binding_types nodes strict inside (bindings_said inner (values_left l i)) (count - i) s) ≡ Err kind
       binding_refused kind h = step (binding_said inner r) here ∙ ap (λ o. prefixed ys (work_continued (λ y. binding_types nodes strict inside (left (i + 1)) (count - (i + 1)) >>= (λ zs. work_of (y ∷ zs))) o)) h
 
-      pub binding_more : (y : SchemaType) (t : Named) (after : List SchemaType) → type_of nodes strict inside (binding_said inner r) s ≡ Ok (y, t) → after ≡ ys ++ y ∷ [] →
+      pub binding_more : (y : MarkedType) (t : Named) (after : List MarkedType) → type_of nodes strict inside (binding_said inner r) s ≡ Ok (y, t) → after ≡ ys ++ y ∷ [] →
           prefixed ys (binding_types nodes strict inside (bindings_said inner (values_left l i)) (count - i) s) ≡ prefixed after (binding_types nodes strict inside (bindings_said inner (values_left l (i + 1))) (count - (i + 1)) t)
       binding_more y t after h all =
           step (binding_said inner r) here
           ∙ (ap (λ o. prefixed ys (work_continued (λ y. binding_types nodes strict inside (left (i + 1)) (count - (i + 1)) >>= (λ zs. work_of (y ∷ zs))) o)) h
           ∙ (more_done ys y (binding_types nodes strict inside (left (i + 1)) (count - (i + 1)) t)
-          ∙ ap (λ (zs : List SchemaType). prefixed zs (binding_types nodes strict inside (left (i + 1)) (count - (i + 1)) t)) (sym all)))
+          ∙ ap (λ (zs : List MarkedType). prefixed zs (binding_types nodes strict inside (left (i + 1)) (count - (i + 1)) t)) (sym all)))
 
 -- ---- untyped pointers at the end ----
 
-pub trim_any : (xs : List SchemaType) (x : SchemaType) → is_untyped x ≡ true → without_untyped (xs ++ x ∷ []) ≡ without_untyped xs
-trim_any [] AnyPointerType e = refl
-trim_any [] x e = cc
+last_any : (u : SchemaType) (x : MarkedType) → is_untyped u ≡ true → with_type_of u x [] ≡ []
+last_any AnyPointerType x e = refl
+last_any u x e = cc
+
+pub trim_any : (xs : List MarkedType) (x : MarkedType) → is_untyped x.type ≡ true → without_untyped (xs ++ x ∷ []) ≡ without_untyped xs
+trim_any [] x e = last_any x.type x e
 trim_any (y ∷ xs) x e = ap (with_type y) (trim_any xs x e)
 
-not_empty : (t x : SchemaType) (xs : List SchemaType) → with_type t (x ∷ xs) ≡ t ∷ x ∷ xs
-not_empty VoidType x xs = refl
-not_empty BoolType x xs = refl
-not_empty (IntType bytes) x xs = refl
-not_empty (UIntType bytes) x xs = refl
-not_empty (EnumType number) x xs = refl
-not_empty TextType x xs = refl
-not_empty DataType x xs = refl
-not_empty (StructType number generic) x xs = refl
-not_empty (ListType element) x xs = refl
-not_empty AnyPointerType x xs = refl
+not_empty : (u : SchemaType) (t x : MarkedType) (xs : List MarkedType) → with_type_of u t (x ∷ xs) ≡ t ∷ x ∷ xs
+not_empty VoidType t x xs = refl
+not_empty BoolType t x xs = refl
+not_empty (IntType bytes) t x xs = refl
+not_empty (UIntType bytes) t x xs = refl
+not_empty (EnumType number) t x xs = refl
+not_empty TextType t x xs = refl
+not_empty DataType t x xs = refl
+not_empty (StructType number generic) t x xs = refl
+not_empty (ListType element) t x xs = refl
+not_empty AnyPointerType t x xs = refl
 
-before_one : (t x : SchemaType) (xs : List SchemaType) → with_type t (xs ++ x ∷ []) ≡ t ∷ (xs ++ x ∷ [])
-before_one t x [] = not_empty t x []
-before_one t x (y ∷ xs) = not_empty t y (xs ++ x ∷ [])
+before_one : (t x : MarkedType) (xs : List MarkedType) → with_type t (xs ++ x ∷ []) ≡ t ∷ (xs ++ x ∷ [])
+before_one t x [] = not_empty t.type t x []
+before_one t x (y ∷ xs) = not_empty t.type t y (xs ++ x ∷ [])
 
-pub trim_other : (xs : List SchemaType) (x : SchemaType) → is_untyped x ≡ false → without_untyped (xs ++ x ∷ []) ≡ xs ++ x ∷ []
-trim_other [] AnyPointerType e = cc
-trim_other [] VoidType e = refl
-trim_other [] BoolType e = refl
-trim_other [] (IntType bytes) e = refl
-trim_other [] (UIntType bytes) e = refl
-trim_other [] (EnumType number) e = refl
-trim_other [] TextType e = refl
-trim_other [] DataType e = refl
-trim_other [] (StructType number generic) e = refl
-trim_other [] (ListType element) e = refl
+last_other : (u : SchemaType) (x : MarkedType) → is_untyped u ≡ false → with_type_of u x [] ≡ x ∷ []
+last_other AnyPointerType x e = cc
+last_other VoidType x e = refl
+last_other BoolType x e = refl
+last_other (IntType bytes) x e = refl
+last_other (UIntType bytes) x e = refl
+last_other (EnumType number) x e = refl
+last_other TextType x e = refl
+last_other DataType x e = refl
+last_other (StructType number generic) x e = refl
+last_other (ListType element) x e = refl
+
+pub trim_other : (xs : List MarkedType) (x : MarkedType) → is_untyped x.type ≡ false → without_untyped (xs ++ x ∷ []) ≡ xs ++ x ∷ []
+trim_other [] x e = last_other x.type x e
 trim_other (y ∷ xs) x e = ap (with_type y) (trim_other xs x e) ∙ before_one y x xs
 
-take_one : (xs : List TypeHandle) (i : ℕ) (x : TypeHandle) → slice_get xs i ≡ Some x → take (suc i) xs ≡ take i xs ++ x ∷ []
+take_one : (xs : List MarkedRecord) (i : ℕ) (x : MarkedRecord) → slice_get xs i ≡ Some x → take (suc i) xs ≡ take i xs ++ x ∷ []
 take_one [] i x e = cc
-take_one (y ∷ xs) zero x e = let h : y ≡ x = cc in ap (λ (z : TypeHandle). z ∷ []) h
-take_one (y ∷ xs) (suc i) x e = ap (λ (zs : List TypeHandle). y ∷ zs) (take_one xs i x e)
+take_one (y ∷ xs) zero x e = let h : y ≡ x = cc in ap (λ (z : MarkedRecord). z ∷ []) h
+take_one (y ∷ xs) (suc i) x e = ap (λ (zs : List MarkedRecord). y ∷ zs) (take_one xs i x e)
 
 -- one type more, and how many are kept of them
-pub kept_more : (items : List TypeHandle) (i kept next : ℕ) (x : TypeHandle) → slice_get items i ≡ Some x → without_untyped (map seen_type (take i items)) ≡ map seen_type (take kept items) → next ≡ cond (is_untyped (seen_type x)) kept (i + 1) →
-    without_untyped (map seen_type (take (i + 1) items)) ≡ map seen_type (take next items)
-kept_more items i kept next x there so_far is = go (is_untyped (seen_type x)) refl
+pub kept_more : (items : List MarkedRecord) (i kept next : ℕ) (x : MarkedRecord) → slice_get items i ≡ Some x → without_untyped (map seen_marked (take i items)) ≡ map seen_marked (take kept items) → next ≡ cond (is_untyped (seen_marked x).type) kept (i + 1) →
+    without_untyped (map seen_marked (take (i + 1) items)) ≡ map seen_marked (take next items)
+kept_more items i kept next x there so_far is = go (is_untyped (seen_marked x).type) refl
   where
-    more : map seen_type (take (i + 1) items) ≡ map seen_type (take i items) ++ seen_type x ∷ []
+    more : map seen_marked (take (i + 1) items) ≡ map seen_marked (take i items) ++ seen_marked x ∷ []
     more =
         let e : i + 1 ≡ suc i = omega arith in
-        ap (λ n. map seen_type (take n items)) e ∙ (ap (map seen_type) (take_one items i x there) ∙ map-append seen_type (take i items) (x ∷ []))
+        ap (λ n. map seen_marked (take n items)) e ∙ (ap (map seen_marked) (take_one items i x there) ∙ map-append seen_marked (take i items) (x ∷ []))
 
-    go : (q : Bool) → is_untyped (seen_type x) ≡ q → without_untyped (map seen_type (take (i + 1) items)) ≡ map seen_type (take next items)
+    go : (q : Bool) → is_untyped (seen_marked x).type ≡ q → without_untyped (map seen_marked (take (i + 1) items)) ≡ map seen_marked (take next items)
     go true holds =
         ap without_untyped more
-        ∙ (trim_any (map seen_type (take i items)) (seen_type x) holds
-        ∙ (so_far ∙ ap (λ n. map seen_type (take n items)) (sym (is ∙ ap (λ q. cond q kept (i + 1)) holds))))
+        ∙ (trim_any (map seen_marked (take i items)) (seen_marked x) holds
+        ∙ (so_far ∙ ap (λ n. map seen_marked (take n items)) (sym (is ∙ ap (λ q. cond q kept (i + 1)) holds))))
     go false fails =
         ap without_untyped more
-        ∙ (trim_other (map seen_type (take i items)) (seen_type x) fails
-        ∙ (sym more ∙ ap (λ n. map seen_type (take n items)) (sym (is ∙ ap (λ q. cond q kept (i + 1)) fails))))
+        ∙ (trim_other (map seen_marked (take i items)) (seen_marked x) fails
+        ∙ (sym more ∙ ap (λ n. map seen_marked (take n items)) (sym (is ∙ ap (λ q. cond q kept (i + 1)) fails))))
 
 pub kept_below : (q : Bool) (i kept next : ℕ) → next ≡ cond q kept (i + 1) → kept ≤ i → next ≤ i + 1
 kept_below true i kept next is below = omega (arith, is, below)
@@ -234,7 +240,7 @@ module _ (nodes : List SchemaNode) (strict : Bool) (inside : List Bound) (brand 
         next_bound ∙ step_err (bind_scope (brand_types nodes strict inside brand)) ys (with_nothing (get_or generic i d)) (map with_nothing (drop (i + 1) generic)) s kind
         (ap (work_continued (λ ts. work_of (record (with_nothing (get_or generic i d)) { types = ts }))) e)
 
-    pub bind_more : (ts : List SchemaType) (t : Named) (after : List Bound) → brand_types nodes strict inside brand (with_nothing (get_or generic i d)) s ≡ Ok (ts, t) → after ≡ ys ++ record (with_nothing (get_or generic i d)) { types = ts } ∷ [] →
+    pub bind_more : (ts : List MarkedType) (t : Named) (after : List Bound) → brand_types nodes strict inside brand (with_nothing (get_or generic i d)) s ≡ Ok (ts, t) → after ≡ ys ++ record (with_nothing (get_or generic i d)) { types = ts } ∷ [] →
         prefixed ys (each (bind_scope (brand_types nodes strict inside brand)) (map with_nothing (drop i generic)) s) ≡ prefixed after (each (bind_scope (brand_types nodes strict inside brand)) (map with_nothing (drop (i + 1) generic)) t)
     bind_more ts t after e all =
         next_bound

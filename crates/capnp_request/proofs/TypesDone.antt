@@ -6,19 +6,20 @@ use Rattle.std.specs.Option.{unwrap_or}
 use Rattle.capnp_device.specs.declared.error.Error.{Error}
 use Rattle.capnp_device.specs.declared.error.ErrorKind.{ErrorKind}
 use Rattle.capnp_device.specs.declared.error.ErrorKind.TheVariants.{NodeNotFound, OutOfMemory, TooManyTypes, UnknownKind}
-use Rattle.capnp_base.specs.declared.introspect.«Type».{«Type» as TypeHandle}
-use Rattle.capnp_schema.specs.Types.{SchemaType, AnyPointerType, EnumType, ListType, StructType, seen_type}
+use Rattle.capnp_schema.specs.Types.{SchemaType, AnyPointerType, EnumType, StructType}
 use Rattle.capnp_records.specs.Part.{which_of}
 use Rattle.capnp_records.specs.Record as value
 use Rattle.capnp_records.specs.Record.{Record, Value, Values}
+use Rattle.capnp_request.specs.Steps.Bindings.{seen_marked}
 use Rattle.capnp_request.specs.Steps.Done.{IsWorkDone}
 use Rattle.capnp_request.specs.Steps.Meant.{IsSaidByMember, IsSaidByMemberOr, says_or, scope_in, type_kind}
 use Rattle.capnp_request.specs.Parts.{request_read_at}
 use Rattle.capnp_request.specs.Reading.{binding_kinds, binding_said, bindings_said, brand_in, by_member, enum_term, list_or, in_struct, list_term, number_in, parameter_said, scope_kinds, scope_said, struct_term, type_in, type_kinds, type_said, untyped_kinds, untyped_term}
 use Rattle.capnp_request.specs.Scopes.{bound_types, node_named}
 use Rattle.capnp_request.specs.Terms.{BrandTerm, Binds, EnumTerm, ListTerm, MoreScopes, NoScopes, MemberTerm, Said, SchemaNode, ScopeTerm, StructTerm, TypeTerm, UnreadBrand, UnreadScope, UnreadType}
-use Rattle.capnp_request.specs.Types.{binding_types, bound_to, brand_types, is_of_kind, is_struct_kind, lists_in, listed_type, named_scopes, number_enum, number_struct, scope_types, type_of, without_untyped}
-use Rattle.capnp_request.specs.Work.{Bound, Named, Work, work_of, where_else, where_so, ◌>>=◌, work_continued}
+use Rattle.capnp_request.specs.Types.{binding_types, bound_to, brand_types, is_of_kind, is_struct_kind, list_of, lists_in, listed_type, named_scopes, number_enum, number_struct, scope_types, type_of, without_untyped}
+use Rattle.capnp_request.specs.Work.{Bound, MarkedType, Named, Work, plain, work_of, where_else, where_so, ◌>>=◌, work_continued}
+use Rattle.capnp_request.specs.declared.marks.MarkedType.{MarkedType as MarkedRecord}
 
 -- the same work
 pub done_as : {A B : Type 0} (seen : B → A) (w v : Work A) (s t : Named) (r : Result B Error) → v s ≡ w s → IsWorkDone seen w s t r → IsWorkDone seen v s t r
@@ -56,21 +57,21 @@ past_by levels depth r m deep which past =
 -- ---- work on a term ----
 
 module _ (nodes : List SchemaNode) (strict : Bool) (inside : List Bound) where
-  abbrev work : TypeTerm → Work SchemaType
+  abbrev work : TypeTerm → Work MarkedType
   work = type_of nodes strict inside
 
-  pub term_done : {B : Type 0} (seen : B → SchemaType) (k l : TypeTerm) (s t : Named) (r : Result B Error) → k ≡ l → IsWorkDone seen (type_of nodes strict inside l) s t r → IsWorkDone seen (type_of nodes strict inside k) s t r
+  pub term_done : {B : Type 0} (seen : B → MarkedType) (k l : TypeTerm) (s t : Named) (r : Result B Error) → k ≡ l → IsWorkDone seen (type_of nodes strict inside l) s t r → IsWorkDone seen (type_of nodes strict inside k) s t r
   term_done seen k l s t r e h = done_as seen (work l) (work k) s t r (ap (λ x. type_of nodes strict inside x s) e) h
 
-  pub work_done : {B : Type 0} (seen : B → SchemaType) (k l : TypeTerm) (w : Work SchemaType) (s t : Named) (r : Result B Error) → k ≡ l → type_of nodes strict inside l s ≡ w s → IsWorkDone seen w s t r → IsWorkDone seen (type_of nodes strict inside k) s t r
+  pub work_done : {B : Type 0} (seen : B → MarkedType) (k l : TypeTerm) (w : Work MarkedType) (s t : Named) (r : Result B Error) → k ≡ l → type_of nodes strict inside l s ≡ w s → IsWorkDone seen w s t r → IsWorkDone seen (type_of nodes strict inside k) s t r
   work_done seen k l w s t r e same h = done_as seen w (work k) s t r (ap (λ x. type_of nodes strict inside x s) e ∙ same) h
 
   -- lists
-  fits_list : (t : SchemaType) (s : Named) → lists_in t < 2 ^ 64 - 1 → listed_type t s ≡ Ok (ListType t, s)
-  fits_list t s h = ap (λ q. where_so q TooManyTypes (Ok (ListType t, s))) (let e : nat_lt (lists_in t) 18446744073709551615 ≡ true = grind (arith, nat_tests, h) in e)
+  fits_list : (t : MarkedType) (s : Named) → lists_in t.type < 2 ^ 64 - 1 → listed_type t s ≡ Ok (list_of t, s)
+  fits_list t s h = ap (λ q. where_so q TooManyTypes (Ok (list_of t, s))) (let e : nat_lt (lists_in t.type) 18446744073709551615 ≡ true = grind (arith, nat_tests, h) in e)
 
-  full_list : (t : SchemaType) (s : Named) → 2 ^ 64 - 1 ≤ lists_in t → listed_type t s ≡ Err TooManyTypes
-  full_list t s h = ap (λ q. where_so q TooManyTypes (Ok (ListType t, s))) (let e : nat_lt (lists_in t) 18446744073709551615 ≡ false = grind (arith, nat_tests, h) in e)
+  full_list : (t : MarkedType) (s : Named) → 2 ^ 64 - 1 ≤ lists_in t.type → listed_type t s ≡ Err TooManyTypes
+  full_list t s h = ap (λ q. where_so q TooManyTypes (Ok (list_of t, s))) (let e : nat_lt (lists_in t.type) 18446744073709551615 ≡ false = grind (arith, nat_tests, h) in e)
 
   module _ (inner : Record → TypeTerm) (v : Value) (list : Record) (there : value.Struct list ≡ v) where
     list_by : list_term inner v ≡ ListTerm (type_in inner (request_read_at 14 0 list))
@@ -85,10 +86,10 @@ module _ (nodes : List SchemaNode) (strict : Bool) (inside : List Bound) where
     pub list_refused : (element : Record) → value.Struct element ≡ request_read_at 14 0 list → (s : Named) (kind : ErrorKind) → work (inner element) s ≡ Err kind → work (list_term inner v) s ≡ Err kind
     list_refused element e s kind h = element_by element e s ∙ ap (work_continued listed_type) h
 
-    pub list_done : (element : Record) → value.Struct element ≡ request_read_at 14 0 list → (s t : Named) (u z : SchemaType) → work (inner element) s ≡ Ok (u, t) → lists_in u < 2 ^ 64 - 1 → z ≡ ListType u → work (list_term inner v) s ≡ Ok (z, t)
+    pub list_done : (element : Record) → value.Struct element ≡ request_read_at 14 0 list → (s t : Named) (u z : MarkedType) → work (inner element) s ≡ Ok (u, t) → lists_in u.type < 2 ^ 64 - 1 → z ≡ list_of u → work (list_term inner v) s ≡ Ok (z, t)
     list_done element e s t u z h few is = element_by element e s ∙ (ap (work_continued listed_type) h ∙ (fits_list u t few ∙ ap (λ y. Ok (y, t)) (sym is)))
 
-    pub list_full : (element : Record) → value.Struct element ≡ request_read_at 14 0 list → (s t : Named) (u : SchemaType) → work (inner element) s ≡ Ok (u, t) → 2 ^ 64 - 1 ≤ lists_in u → work (list_term inner v) s ≡ Err TooManyTypes
+    pub list_full : (element : Record) → value.Struct element ≡ request_read_at 14 0 list → (s t : Named) (u : MarkedType) → work (inner element) s ≡ Ok (u, t) → 2 ^ 64 - 1 ≤ lists_in u.type → work (list_term inner v) s ≡ Err TooManyTypes
     list_full element e s t u h many = element_by element e s ∙ (ap (work_continued listed_type) h ∙ full_list u t many)
 
   -- enums
@@ -96,11 +97,11 @@ module _ (nodes : List SchemaNode) (strict : Bool) (inside : List Bound) where
     enum_by : enum_term inner v ≡ EnumTerm id
     enum_by = ap (enum_term inner) (sym there) ∙ ap (λ x. EnumTerm (number_in x)) (sym is)
 
-    pub enum_done : (number : ℕ) (t : Named) (z : SchemaType) → number_enum nodes id s ≡ Ok (number, t) → z ≡ EnumType number → work (enum_term inner v) s ≡ Ok (z, t)
-    enum_done number t z h same = ap (λ k. work k s) enum_by ∙ (ap (work_continued (λ number. work_of (EnumType number))) h ∙ ap (λ y. Ok (y, t)) (sym same))
+    pub enum_done : (number : ℕ) (t : Named) (z : MarkedType) → number_enum nodes id s ≡ Ok (number, t) → z ≡ plain (EnumType number) → work (enum_term inner v) s ≡ Ok (z, t)
+    enum_done number t z h same = ap (λ k. work k s) enum_by ∙ (ap (work_continued (λ number. work_of (plain (EnumType number)))) h ∙ ap (λ y. Ok (y, t)) (sym same))
 
     pub enum_refused : (kind : ErrorKind) → number_enum nodes id s ≡ Err kind → work (enum_term inner v) s ≡ Err kind
-    enum_refused kind h = ap (λ k. work k s) enum_by ∙ ap (work_continued (λ number. work_of (EnumType number))) h
+    enum_refused kind h = ap (λ k. work k s) enum_by ∙ ap (work_continued (λ number. work_of (plain (EnumType number)))) h
 
   -- structs
   module _ (inner : Record → TypeTerm) (v : Value) (n : Record) (id : ℕ) (brand : BrandTerm) (there : value.Struct n ≡ v) (by : struct_term inner (value.Struct n) ≡ StructTerm id brand) (s : Named) where
@@ -108,24 +109,24 @@ module _ (nodes : List SchemaNode) (strict : Bool) (inside : List Bound) where
     struct_by = ap (struct_term inner) (sym there) ∙ by
 
     pub struct_missing : is_of_kind is_struct_kind (node_named nodes id) ≡ false → work (struct_term inner v) s ≡ Err NodeNotFound
-    struct_missing h = ap (λ k. work k s) struct_by ∙ ap (λ q. where_so q NodeNotFound ((named_scopes nodes strict inside id brand >>= (λ bound. number_struct id bound >>= (λ number. work_of (StructType number number)))) s)) h
+    struct_missing h = ap (λ k. work k s) struct_by ∙ ap (λ q. where_so q NodeNotFound ((named_scopes nodes strict inside id brand >>= (λ bound. number_struct id bound >>= (λ number. work_of (plain (StructType number number))))) s)) h
 
     module _ (found : is_of_kind is_struct_kind (node_named nodes id) ≡ true) where
-      struct_found : work (struct_term inner v) s ≡ work_continued (λ bound. number_struct id bound >>= (λ number. work_of (StructType number number))) (named_scopes nodes strict inside id brand s)
-      struct_found = ap (λ k. work k s) struct_by ∙ ap (λ q. where_so q NodeNotFound ((named_scopes nodes strict inside id brand >>= (λ bound. number_struct id bound >>= (λ number. work_of (StructType number number)))) s)) found
+      struct_found : work (struct_term inner v) s ≡ work_continued (λ bound. number_struct id bound >>= (λ number. work_of (plain (StructType number number)))) (named_scopes nodes strict inside id brand s)
+      struct_found = ap (λ k. work k s) struct_by ∙ ap (λ q. where_so q NodeNotFound ((named_scopes nodes strict inside id brand >>= (λ bound. number_struct id bound >>= (λ number. work_of (plain (StructType number number))))) s)) found
 
       pub struct_unbound : (kind : ErrorKind) → named_scopes nodes strict inside id brand s ≡ Err kind → work (struct_term inner v) s ≡ Err kind
-      struct_unbound kind h = struct_found ∙ ap (work_continued (λ bound. number_struct id bound >>= (λ number. work_of (StructType number number)))) h
+      struct_unbound kind h = struct_found ∙ ap (work_continued (λ bound. number_struct id bound >>= (λ number. work_of (plain (StructType number number))))) h
 
       module _ (bound : List Bound) (t : Named) (scopes : named_scopes nodes strict inside id brand s ≡ Ok (bound, t)) where
-        struct_bound : work (struct_term inner v) s ≡ work_continued (λ number. work_of (StructType number number)) (number_struct id bound t)
-        struct_bound = struct_found ∙ ap (work_continued (λ bound. number_struct id bound >>= (λ number. work_of (StructType number number)))) scopes
+        struct_bound : work (struct_term inner v) s ≡ work_continued (λ number. work_of (plain (StructType number number))) (number_struct id bound t)
+        struct_bound = struct_found ∙ ap (work_continued (λ bound. number_struct id bound >>= (λ number. work_of (plain (StructType number number))))) scopes
 
         pub struct_refused : (kind : ErrorKind) → number_struct id bound t ≡ Err kind → work (struct_term inner v) s ≡ Err kind
-        struct_refused kind h = struct_bound ∙ ap (work_continued (λ number. work_of (StructType number number))) h
+        struct_refused kind h = struct_bound ∙ ap (work_continued (λ number. work_of (plain (StructType number number)))) h
 
-        pub struct_done : (number : ℕ) (u : Named) (z : SchemaType) → number_struct id bound t ≡ Ok (number, u) → z ≡ StructType number number → work (struct_term inner v) s ≡ Ok (z, u)
-        struct_done number u z h same = struct_bound ∙ (ap (work_continued (λ number. work_of (StructType number number))) h ∙ ap (λ y. Ok (y, u)) (sym same))
+        pub struct_done : (number : ℕ) (u : Named) (z : MarkedType) → number_struct id bound t ≡ Ok (number, u) → z ≡ plain (StructType number number) → work (struct_term inner v) s ≡ Ok (z, u)
+        struct_done number u z h same = struct_bound ∙ (ap (work_continued (λ number. work_of (plain (StructType number number)))) h ∙ ap (λ y. Ok (y, u)) (sym same))
 
   -- untyped pointers
   module _ (v : Value) (p : Record) (there : value.Struct p ≡ v) (s : Named) where
@@ -138,13 +139,13 @@ module _ (nodes : List SchemaNode) (strict : Bool) (inside : List Bound) where
           ap untyped_term (sym there)
           ∙ (ap (λ o. by_member (UnreadType UnknownKind) untyped_kinds 17 o p) which ∙ ap (λ j. unwrap_or (slice_get untyped_kinds j) (λ (u : Value). UnreadType UnknownKind) (request_read_at 17 j p)) is)
 
-      pub untyped_free : (z : SchemaType) → m ≡ 0 → z ≡ AnyPointerType → work (untyped_term v) s ≡ Ok (z, s)
+      pub untyped_free : (z : MarkedType) → m ≡ 0 → z ≡ plain AnyPointerType → work (untyped_term v) s ≡ Ok (z, s)
       untyped_free z is same = ap (λ k. work k s) (untyped_by 0 is) ∙ ap (λ y. Ok (y, s)) (sym same)
 
-      pub untyped_method : (z : SchemaType) → m ≡ 2 → z ≡ AnyPointerType → work (untyped_term v) s ≡ Ok (z, s)
+      pub untyped_method : (z : MarkedType) → m ≡ 2 → z ≡ plain AnyPointerType → work (untyped_term v) s ≡ Ok (z, s)
       untyped_method z is same = ap (λ k. work k s) (untyped_by 2 is) ∙ ap (λ y. Ok (y, s)) (sym same)
 
-      pub untyped_bound : (z : SchemaType) → m ≡ 1 → (q : Record) (scope index : ℕ) → value.Struct q ≡ request_read_at 17 1 p → value.Number (pos scope) ≡ request_read_at 18 0 q → value.Number (pos index) ≡ request_read_at 18 1 q → z ≡ bound_to inside scope index → work (untyped_term v) s ≡ Ok (z, s)
+      pub untyped_bound : (z : MarkedType) → m ≡ 1 → (q : Record) (scope index : ℕ) → value.Struct q ≡ request_read_at 17 1 p → value.Number (pos scope) ≡ request_read_at 18 0 q → value.Number (pos index) ≡ request_read_at 18 1 q → z ≡ bound_to inside scope index → work (untyped_term v) s ≡ Ok (z, s)
       untyped_bound z is q scope index parameter first second same =
           ap (λ k. work k s) (untyped_by 1 is ∙ ap (in_struct UnreadType parameter_said) (sym parameter))
           ∙ (ap (λ x. Ok (bound_to inside (number_in x) (number_in (request_read_at 18 1 q)), s)) (sym first) ∙ (ap (λ x. Ok (bound_to inside scope (number_in x), s)) (sym second) ∙ ap (λ y. Ok (y, s)) (sym same)))
@@ -163,7 +164,7 @@ module _ (nodes : List SchemaNode) (strict : Bool) (inside : List Bound) where
           ap (λ o. by_member (UnreadType UnknownKind) (binding_kinds inner) 21 o r) which
           ∙ ap (λ j. unwrap_or (slice_get (binding_kinds inner) j) (λ (u : Value). UnreadType UnknownKind) (request_read_at 21 j r)) is
 
-      pub binding_unbound : (z : SchemaType) → m ≡ 0 → z ≡ AnyPointerType → work (binding_said inner r) s ≡ Ok (z, s)
+      pub binding_unbound : (z : MarkedType) → m ≡ 0 → z ≡ plain AnyPointerType → work (binding_said inner r) s ≡ Ok (z, s)
       binding_unbound z is same = ap (λ k. work k s) (binding_by 0 is) ∙ ap (λ y. Ok (y, s)) (sym same)
 
       pub binding_is : m ≡ 1 → (t : Record) → value.Struct t ≡ request_read_at 21 1 r → binding_said inner r ≡ inner t
@@ -177,7 +178,7 @@ module _ (nodes : List SchemaNode) (strict : Bool) (inside : List Bound) where
 
   -- scopes of brands
   module _ (inner : Record → TypeTerm) (r : Record) (scope : Bound) (s : Named) where
-    abbrev scope_work : ScopeTerm → Result (List SchemaType × Named) ErrorKind
+    abbrev scope_work : ScopeTerm → Result (List MarkedType × Named) ErrorKind
     scope_work k = scope_types nodes strict inside k scope s
 
     pub scope_none : which_of r ≡ None → scope_types nodes strict inside (scope_said inner r) scope s ≡ Err UnknownKind
@@ -195,8 +196,8 @@ module _ (nodes : List SchemaNode) (strict : Bool) (inside : List Bound) where
       pub scope_refused : m ≡ 1 → (vs : Values) → value.Elements vs ≡ request_read_at 20 1 r → (kind : ErrorKind) → binding_types nodes strict inside (bindings_said inner vs) scope.parameters s ≡ Err kind → scope_types nodes strict inside (scope_said inner r) scope s ≡ Err kind
       scope_refused is vs there kind h = scope_binds is vs there ∙ ap (work_continued (λ ts. work_of (without_untyped ts))) h
 
-      pub scope_done : m ≡ 1 → (vs : Values) → value.Elements vs ≡ request_read_at 20 1 r → (ts kept : List SchemaType) (t : Named) → binding_types nodes strict inside (bindings_said inner vs) scope.parameters s ≡ Ok (ts, t) → kept ≡ without_untyped ts → scope_types nodes strict inside (scope_said inner r) scope s ≡ Ok (kept, t)
-      scope_done is vs there ts kept t h e = scope_binds is vs there ∙ (ap (work_continued (λ ts. work_of (without_untyped ts))) h ∙ ap (λ (xs : List SchemaType). Ok (xs, t)) (sym e))
+      pub scope_done : m ≡ 1 → (vs : Values) → value.Elements vs ≡ request_read_at 20 1 r → (ts kept : List MarkedType) (t : Named) → binding_types nodes strict inside (bindings_said inner vs) scope.parameters s ≡ Ok (ts, t) → kept ≡ without_untyped ts → scope_types nodes strict inside (scope_said inner r) scope s ≡ Ok (kept, t)
+      scope_done is vs there ts kept t h e = scope_binds is vs there ∙ (ap (work_continued (λ ts. work_of (without_untyped ts))) h ∙ ap (λ (xs : List MarkedType). Ok (xs, t)) (sym e))
 
       pub scope_unread : m ≡ 1 → (kind : ErrorKind) → value.Fault kind ≡ request_read_at 20 1 r → scope_types nodes strict inside (scope_said inner r) scope s ≡ Err kind
       scope_unread is kind there = ap scope_work (scope_by 1 is ∙ ap (list_or UnreadScope (λ vs. Binds (bindings_said inner vs))) (sym there))
@@ -204,8 +205,8 @@ module _ (nodes : List SchemaNode) (strict : Bool) (inside : List Bound) where
       pub scope_inherits : m ≡ 2 → scope_types nodes strict inside (scope_said inner r) scope s ≡ Ok (bound_types [] (λ (b : Bound). b.types) inside scope.scope, s)
       scope_inherits is = ap scope_work (scope_by 2 is)
 
-      pub inherits_end : {X : Type 0} (f : X → List SchemaType) → m ≡ 2 → (x : Result X Error) → IfOk x (λ types. bound_types [] (λ (b : Bound). b.types) inside scope.scope ≡ f types) → IfErr x (λ e. e.kind ≡ OutOfMemory) → IsWorkDone f (scope_types nodes strict inside (scope_said inner r) scope) s s x
-      inherits_end f is (Ok types) read kinds = scope_inherits is ∙ ap (λ (ts : List SchemaType). Ok (ts, s)) read
+      pub inherits_end : {X : Type 0} (f : X → List MarkedType) → m ≡ 2 → (x : Result X Error) → IfOk x (λ types. bound_types [] (λ (b : Bound). b.types) inside scope.scope ≡ f types) → IfErr x (λ e. e.kind ≡ OutOfMemory) → IsWorkDone f (scope_types nodes strict inside (scope_said inner r) scope) s s x
+      inherits_end f is (Ok types) read kinds = scope_inherits is ∙ ap (λ (ts : List MarkedType). Ok (ts, s)) read
       inherits_end f is (Err e) read kinds = λ n. absurd (n kinds)
 
       pub scope_other : m ≢ 1 → m ≢ 2 → scope_types nodes strict inside (scope_said inner r) scope s ≡ Err UnknownKind
@@ -218,7 +219,7 @@ module _ (nodes : List SchemaNode) (strict : Bool) (inside : List Bound) where
           go (suc (suc (suc j))) one two = refl
 
   -- the first scope of an id is the one that counts
-  by_found : Said (Option ScopeTerm) → Bound → Named → Result (List SchemaType × Named) ErrorKind
+  by_found : Said (Option ScopeTerm) → Bound → Named → Result (List MarkedType × Named) ErrorKind
   by_found (Ok (Some says)) scope s = scope_types nodes strict inside says scope s
   by_found (Ok None) scope s = Ok ([], s)
   by_found (Err kind) scope s = Err kind
@@ -239,8 +240,8 @@ module _ (nodes : List SchemaNode) (strict : Bool) (inside : List Bound) where
   unfolding by_found
   nothing_said brand scope s e = brand_by brand scope s ∙ ap (λ o. by_found o scope s) e
 
-  pub brand_none : (brand : BrandTerm) (scope : Bound) (s : Named) (types : List SchemaType) → scope_in brand scope.scope ≡ Ok None → types ≡ [] → brand_types nodes strict inside brand scope s ≡ Ok (types, s)
-  brand_none brand scope s types e none = nothing_said brand scope s e ∙ ap (λ (ts : List SchemaType). Ok (ts, s)) (sym none)
+  pub brand_none : (brand : BrandTerm) (scope : Bound) (s : Named) (types : List MarkedType) → scope_in brand scope.scope ≡ Ok None → types ≡ [] → brand_types nodes strict inside brand scope s ≡ Ok (types, s)
+  brand_none brand scope s types e none = nothing_said brand scope s e ∙ ap (λ (ts : List MarkedType). Ok (ts, s)) (sym none)
 
   pub brand_unread : (brand : BrandTerm) (scope : Bound) (s : Named) (kind : ErrorKind) → scope_in brand scope.scope ≡ Err kind → brand_types nodes strict inside brand scope s ≡ Err kind
   unfolding by_found
@@ -251,9 +252,9 @@ module _ (nodes : List SchemaNode) (strict : Bool) (inside : List Bound) where
   brand_some brand says scope s e = brand_by brand scope s ∙ ap (λ o. by_found o scope s) e
 
   -- the end of a list's type
-  module _ (inner : Record → TypeTerm) (v : Value) (list : Record) (there : value.Struct list ≡ v) (element : Record) (is : value.Struct element ≡ request_read_at 14 0 list) (s t : Named) (u : SchemaType) (done : work (inner element) s ≡ Ok (u, t)) where
-    pub list_end : (r : Result TypeHandle Error) → IfOk r (λ z. (lists_in u < 2 ^ 64 - 1) × (seen_type z ≡ ListType u)) → IfErr r (λ e. 2 ^ 64 - 1 ≤ lists_in u) → IfErr r (λ e. e.kind ≡ TooManyTypes) → IsWorkDone seen_type (type_of nodes strict inside (list_term inner v)) s t r
-    list_end (Ok z) one full kinds = list_done inner v list there element is s t u (seen_type z) done one.0 one.1
+  module _ (inner : Record → TypeTerm) (v : Value) (list : Record) (there : value.Struct list ≡ v) (element : Record) (is : value.Struct element ≡ request_read_at 14 0 list) (s t : Named) (u : MarkedType) (done : work (inner element) s ≡ Ok (u, t)) where
+    pub list_end : (r : Result MarkedRecord Error) → IfOk r (λ z. (lists_in u.type < 2 ^ 64 - 1) × (seen_marked z ≡ list_of u)) → IfErr r (λ e. 2 ^ 64 - 1 ≤ lists_in u.type) → IfErr r (λ e. e.kind ≡ TooManyTypes) → IsWorkDone seen_marked (type_of nodes strict inside (list_term inner v)) s t r
+    list_end (Ok z) one full kinds = list_done inner v list there element is s t u (seen_marked z) done one.0 one.1
     list_end (Err e) one full kinds = λ n. list_full inner v list there element is s t u done full ∙ ap (λ k. Err k) (sym kinds)
 
   -- what a struct's term names

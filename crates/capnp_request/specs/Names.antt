@@ -6,7 +6,7 @@ use Rattle.capnp_device.specs.declared.error.ErrorKind.TheVariants.{NameNotUtf8,
 use Rattle.capnp_schema.specs.Schema.{Field, Node}
 use Rattle.capnp_schema.specs.Types.{SchemaType, VoidType, BoolType, IntType, UIntType, EnumType, TextType, DataType, StructType, ListType, AnyPointerType}
 use Rattle.capnp_request.specs.Terms.{Said}
-use Rattle.capnp_request.specs.Work.{Bound}
+use Rattle.capnp_request.specs.Work.{Bound, MarkedType}
 
 -- ---- a display name's file and dotted name ----
 
@@ -35,30 +35,38 @@ finished_name name = elim (nat_lt 1024 (length name)) [ true ↦ Err TooManyType
 abbrev pub sizes : (one two four eight : List ℕ) → ℕ → List ℕ
 sizes one two four eight bytes = elim (bytes == 1) [ true ↦ one | false ↦ elim (bytes == 2) [ true ↦ two | false ↦ elim (bytes == 4) [ true ↦ four | false ↦ eight ] ] ]
 
+-- unsigned integers, or the floats that they stand for
+abbrev pub unsigned_name : (is_float : Bool) → ℕ → List ℕ
+unsigned_name true bytes = sizes (codes "UInt8") (codes "UInt16") (codes "Float32") (codes "Float64") bytes
+unsigned_name false bytes = sizes (codes "UInt8") (codes "UInt16") (codes "UInt32") (codes "UInt64") bytes
+
 -- where the structs and enums have these names
-abbrev pub type_name : (structs enums : List (List ℕ)) → SchemaType → List ℕ
-type_name structs enums VoidType = codes "Void"
-type_name structs enums BoolType = codes "Bool"
-type_name structs enums (IntType bytes) = sizes (codes "Int8") (codes "Int16") (codes "Int32") (codes "Int64") bytes
-type_name structs enums (UIntType bytes) = sizes (codes "UInt8") (codes "UInt16") (codes "UInt32") (codes "UInt64") bytes
-type_name structs enums (EnumType number) = unwrap_or (slice_get enums number) []
-type_name structs enums TextType = codes "Text"
-type_name structs enums DataType = codes "Data"
-type_name structs enums (StructType number generic) = unwrap_or (slice_get structs number) []
-type_name structs enums (ListType element) = codes "List(" ++ type_name structs enums element ++ codes ")"
-type_name structs enums AnyPointerType = codes "AnyPointer"
+abbrev pub set_type_name : (structs enums : List (List ℕ)) → (is_float : Bool) → SchemaType → List ℕ
+set_type_name structs enums is_float VoidType = codes "Void"
+set_type_name structs enums is_float BoolType = codes "Bool"
+set_type_name structs enums is_float (IntType bytes) = sizes (codes "Int8") (codes "Int16") (codes "Int32") (codes "Int64") bytes
+set_type_name structs enums is_float (UIntType bytes) = unsigned_name is_float bytes
+set_type_name structs enums is_float (EnumType number) = unwrap_or (slice_get enums number) []
+set_type_name structs enums is_float TextType = codes "Text"
+set_type_name structs enums is_float DataType = codes "Data"
+set_type_name structs enums is_float (StructType number generic) = unwrap_or (slice_get structs number) []
+set_type_name structs enums is_float (ListType element) = codes "List(" ++ set_type_name structs enums is_float element ++ codes ")"
+set_type_name structs enums is_float AnyPointerType = codes "AnyPointer"
+
+abbrev pub type_name : (structs enums : List (List ℕ)) → MarkedType → List ℕ
+type_name structs enums t = set_type_name structs enums t.is_float t.type
 
 -- ---- bindings behind the parts of a dotted name ----
 
 module _ (structs enums : List (List ℕ)) where
   -- the names of the types of so many parameters, those past the bound ones untyped pointers
-  abbrev pub more_names : List SchemaType → ℕ → List ℕ
+  abbrev pub more_names : List MarkedType → ℕ → List ℕ
   more_names ts zero = []
   more_names [] (suc count) = codes ", AnyPointer" ++ more_names [] count
   more_names (t ∷ ts) (suc count) = codes ", " ++ type_name structs enums t ++ more_names ts count
 
   -- in parentheses, where something else than untyped pointers is bound
-  abbrev pub bindings_name : List SchemaType → ℕ → List ℕ
+  abbrev pub bindings_name : List MarkedType → ℕ → List ℕ
   bindings_name [] count = []
   bindings_name (t ∷ ts) count = codes "(" ++ type_name structs enums t ++ more_names ts (count - 1) ++ codes ")"
 

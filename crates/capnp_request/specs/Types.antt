@@ -5,7 +5,7 @@ use Rattle.capnp_device.specs.declared.error.ErrorKind.TheVariants.{FloatType, I
 use Rattle.capnp_schema.specs.Types.{SchemaType, VoidType, BoolType, IntType, UIntType, EnumType, TextType, DataType, StructType, ListType, AnyPointerType}
 use Rattle.capnp_request.specs.Scopes.{bound_types, node_named, scopes_of}
 use Rattle.capnp_request.specs.Terms.{AnnotationNode, Binds, BindingTerms, BrandTerm, EnumNode, EnumTerm, Float32, Float64, Inherits, Interface, ListTerm, MoreBindings, MoreScopes, NoBindings, NoScopes, NodeKind, OtherNode, Parameter, MemberTerm, SchemaNode, ScopeTerm, StructNode, StructTerm, TypeTerm, UnreadBrand, UnreadScope, UnreadType}
-use Rattle.capnp_request.specs.Work.{Bound, Entry, GroupOf, Place, Whole, Work, each, work_of, work_said, where_else, where_so, ◌>>=◌}
+use Rattle.capnp_request.specs.Work.{Bound, Entry, GroupOf, MarkedType, Place, Whole, Work, each, float_of, plain, work_of, work_said, where_else, where_so, ◌>>=◌}
 
 -- ---- entries by number ----
 
@@ -39,13 +39,21 @@ named_entry (StructType number generic) = number
 named_entry (EnumType number) = number
 named_entry t = 0
 
--- the same type: of the same kind, the struct or enum of one number, in as many lists
+-- the same type of a set: of the same kind, the struct or enum of one number, in as many lists
 abbrev pub same_type : SchemaType → SchemaType → Bool
 same_type t u = ((kind_number (innermost_type t) == kind_number (innermost_type u)) && (named_entry (innermost_type t) == named_entry (innermost_type u))) && (lists_in t == lists_in u)
 
-abbrev pub same_types : List SchemaType → List SchemaType → Bool
+abbrev pub same_mark : Bool → Bool → Bool
+same_mark true is_float = is_float
+same_mark false is_float = not is_float
+
+-- the same type, where no float is an integer
+abbrev pub same_marked : MarkedType → MarkedType → Bool
+same_marked t u = same_type t.type u.type && same_mark t.is_float u.is_float
+
+abbrev pub same_types : List MarkedType → List MarkedType → Bool
 same_types [] [] = true
-same_types (t ∷ ts) (u ∷ us) = same_type t u && same_types ts us
+same_types (t ∷ ts) (u ∷ us) = same_marked t u && same_types ts us
 same_types ts us = false
 
 -- the same types are bound to the same scopes
@@ -131,67 +139,73 @@ is_root OtherNode = false
 -- ---- types ----
 
 -- floats and interfaces are refused where that is asked for, and else noted
-abbrev pub float32 : (strict : Bool) → Work SchemaType
+abbrev pub float32 : (strict : Bool) → Work MarkedType
 float32 true s = Err FloatType
-float32 false s = Ok (UIntType 4, record s { seen = record s.seen { float32 = true } })
+float32 false s = Ok (float_of 4, record s { seen = record s.seen { float32 = true } })
 
-abbrev pub float64 : (strict : Bool) → Work SchemaType
+abbrev pub float64 : (strict : Bool) → Work MarkedType
 float64 true s = Err FloatType
-float64 false s = Ok (UIntType 8, record s { seen = record s.seen { float64 = true } })
+float64 false s = Ok (float_of 8, record s { seen = record s.seen { float64 = true } })
 
-abbrev pub interface : (strict : Bool) → Work SchemaType
+abbrev pub interface : (strict : Bool) → Work MarkedType
 interface true s = Err InterfaceType
-interface false s = Ok (AnyPointerType, record s { seen = record s.seen { interface = true } })
+interface false s = Ok (plain AnyPointerType, record s { seen = record s.seen { interface = true } })
 
 -- the type that is bound to a parameter inside an entry, an untyped pointer where none is
-abbrev pub bound_to : List Bound → (scope index : ℕ) → SchemaType
-bound_to inside scope index = bound_types AnyPointerType (λ b. unwrap_or (slice_get b.types index) AnyPointerType) inside scope
+abbrev pub bound_to : List Bound → (scope index : ℕ) → MarkedType
+bound_to inside scope index = bound_types (plain AnyPointerType) (λ b. unwrap_or (slice_get b.types index) (plain AnyPointerType)) inside scope
 
--- a list of a type; the lists around a type are counted in 64 bits
-abbrev pub listed_type : SchemaType → Work SchemaType
-listed_type element s = where_so (nat_lt (lists_in element) 18446744073709551615) TooManyTypes (Ok (ListType element, s))
+-- a list of a type, whose numbers are those of its elements; the lists around a type are counted in 64 bits
+abbrev pub list_of : MarkedType → MarkedType
+list_of element = record { type = ListType element.type; is_float = element.is_float }
+
+abbrev pub listed_type : MarkedType → Work MarkedType
+listed_type element s = where_so (nat_lt (lists_in element.type) 18446744073709551615) TooManyTypes (Ok (list_of element, s))
 
 -- one type more before the others; untyped pointers at the end are left out
-abbrev pub with_type : SchemaType → List SchemaType → List SchemaType
-with_type AnyPointerType [] = []
-with_type t ts = t ∷ ts
+abbrev pub with_type_of : SchemaType → MarkedType → List MarkedType → List MarkedType
+with_type_of AnyPointerType t [] = []
+with_type_of u t ts = t ∷ ts
 
-abbrev pub without_untyped : List SchemaType → List SchemaType
+abbrev pub with_type : MarkedType → List MarkedType → List MarkedType
+with_type t ts = with_type_of t.type t ts
+
+abbrev pub without_untyped : List MarkedType → List MarkedType
 without_untyped [] = []
 without_untyped (t ∷ ts) = with_type t (without_untyped ts)
 
 -- a scope with the types that are bound to its parameters
-abbrev pub bind_scope : (Bound → Work (List SchemaType)) → Bound → Work Bound
+abbrev pub bind_scope : (Bound → Work (List MarkedType)) → Bound → Work Bound
 bind_scope types scope = types scope >>= (λ ts. work_of (record scope { types = ts }))
 
 -- The type of a term inside an entry; what a brand binds to a scope of so many parameters; and bindings in a row.
 module _ (nodes : List SchemaNode) (strict : Bool) (inside : List Bound) where
   abbrev mutual
-    pub type_of : TypeTerm → Work SchemaType
-    type_of (MemberTerm t) s = Ok (t, s)
+    pub type_of : TypeTerm → Work MarkedType
+    type_of (MemberTerm t) s = Ok (plain t, s)
     type_of Float32 s = float32 strict s
     type_of Float64 s = float64 strict s
     type_of Interface s = interface strict s
     type_of (ListTerm t) s = (type_of t >>= listed_type) s
-    type_of (EnumTerm id) s = (number_enum nodes id >>= (λ number. work_of (EnumType number))) s
+    type_of (EnumTerm id) s = (number_enum nodes id >>= (λ number. work_of (plain (EnumType number)))) s
     -- bindings are numbered before the struct that they bind
     type_of (StructTerm id brand) s =
         where_node is_struct_kind nodes id
-        ((work_said (scopes_of nodes id) >>= each (bind_scope (brand_types brand))) >>= (λ bound. number_struct id bound >>= (λ number. work_of (StructType number number)))) s
+        ((work_said (scopes_of nodes id) >>= each (bind_scope (brand_types brand))) >>= (λ bound. number_struct id bound >>= (λ number. work_of (plain (StructType number number))))) s
     type_of (Parameter scope index) s = Ok (bound_to inside scope index, s)
     type_of (UnreadType kind) s = Err kind
 
-    pub brand_types : BrandTerm → Bound → Work (List SchemaType)
+    pub brand_types : BrandTerm → Bound → Work (List MarkedType)
     brand_types NoScopes scope s = Ok ([], s)
     brand_types (MoreScopes id says rest) scope s = where_else (id == scope.scope) (scope_types says scope s) (brand_types rest scope s)
     brand_types (UnreadBrand kind) scope s = Err kind
 
-    pub scope_types : ScopeTerm → Bound → Work (List SchemaType)
+    pub scope_types : ScopeTerm → Bound → Work (List MarkedType)
     scope_types (Binds terms) scope s = (binding_types terms scope.parameters >>= (λ ts. work_of (without_untyped ts))) s
     scope_types Inherits scope s = Ok (bound_types [] (λ b. b.types) inside scope.scope, s)
     scope_types (UnreadScope kind) scope s = Err kind
 
-    pub binding_types : BindingTerms → (parameters : ℕ) → Work (List SchemaType)
+    pub binding_types : BindingTerms → (parameters : ℕ) → Work (List MarkedType)
     binding_types terms zero s = Ok ([], s)
     binding_types NoBindings (suc count) s = Ok ([], s)
     binding_types (MoreBindings t rest) (suc count) s = (type_of t >>= (λ first. binding_types rest count >>= (λ others. work_of (first ∷ others)))) s

@@ -1,8 +1,21 @@
 -- What a conversion has named so far, and work that may name more or be refused.
 use Rattle.std.specs.Prelude.{ℕ, List, [], ◌∷◌, Bool, true, false, Result, Ok, Err}
 use Rattle.capnp_device.specs.declared.error.ErrorKind.{ErrorKind}
-use Rattle.capnp_schema.specs.Types.{SchemaType}
+use Rattle.capnp_schema.specs.Types.{SchemaType, UIntType}
 use Rattle.capnp_request.specs.Terms.{Said}
+
+-- A type as a request says it, where floats are types of their own: what stands for it in the set, and whether the numbers
+-- inside its lists are floats.
+pub record MarkedType : Type 0 where
+  pub type : SchemaType
+  pub is_float : Bool
+
+abbrev pub plain : SchemaType → MarkedType
+plain t = record { type = t; is_float = false }
+
+-- floats stand as the unsigned integers of their width
+abbrev pub float_of : (bytes : ℕ) → MarkedType
+float_of bytes = record { type = UIntType bytes; is_float = true }
 
 -- What is bound to the parameters of a scope: so many scopes out, of so many parameters, the types of the first of these.
 -- The others are untyped pointers, and the last type here is none.
@@ -10,7 +23,7 @@ pub record Bound : Type 0 where
   pub scope : ℕ
   pub distance : ℕ
   pub parameters : ℕ
-  pub types : List SchemaType
+  pub types : List MarkedType
 
 -- a struct node with bindings, or the group of a field: with the bindings of its parent, an entry for itself
 pub data Place : Type 0 where

@@ -4,7 +4,7 @@ ghost use Rattle.capnp_request.specs.RequestSet.{request_set};
 ghost use Rattle.capnp_schema.specs.Schema.{field_at, is_member, seen_annotation};
 ghost use Rattle.capnp_schema.specs.Types.{seen_type};
 ghost use Rattle.capnp_dynamic_readers.specs.Seen.{record_seen};
-ghost use Rattle.capnp_request.specs.Steps.Bindings.{bounds};
+ghost use Rattle.capnp_request.specs.Steps.Bindings.{bounds, seen_marked};
 ghost use Rattle.capnp_request.specs.Conversion.{annotation_of, annotations_of, declared_type};
 ghost use Rattle.capnp_request.specs.Steps.ConvertedSeen.{typed_annotations};
 ghost use Rattle.capnp_request.specs.Steps.Done.{IsWorkDone, between};
@@ -20,6 +20,7 @@ ghost use Rattle.capnp_request.specs.Work.{work_unnoted};
 
 use crate::context::Context;
 use crate::entries::{BoundScope, Entries};
+use crate::marks::MarkedType;
 use crate::notes::Seen;
 use crate::parts::{element_at, list_at, struct_at, u64_at};
 use crate::places::{ANNOTATION_BRAND, ANNOTATION_ID, ANNOTATION_VALUE, DECLARED_TYPE, brands};
@@ -37,11 +38,11 @@ fn annotation_type<'a>(
     inside: &[BoundScope],
     annotation: dynamic_struct::Reader<'a>,
     id: u64,
-) -> Result<Type>
+) -> Result<MarkedType>
     requires nodes { AreNodes context.nodes.now }
     requires numbers { AreNumbered entries.now }
     requires is_record { IsRequestRecord 12 annotation }
-    ensures done { IsWorkDone seen_type (work_unnoted
+    ensures done { IsWorkDone seen_marked (work_unnoted
         (declared_type (nodes_of context.entry.nodes.now) context.entry.strict id (bounds inside.now)
         (brand_in whole_type (request_read_at 12 2 (record_seen annotation.entry)))))
         (between entries.old) (between entries.new) result }
@@ -94,7 +95,7 @@ fn annotation_of<'a>(
     )?;
     let value = value_of(context.alloc, said)?;
     let annotation_type = annotation_type(context, entries, inside, annotation, id)?;
-    Ok((AnnotationRecord { id, value }, annotation_type))
+    Ok((AnnotationRecord { id, value }, annotation_type.standing))
 }
 
 /// The annotations that a field of a record has, and the type of each.

@@ -309,6 +309,9 @@ fn make_all<'a>(context: Context<'_, 'a>, mut entries: Entries) -> Result<Conver
 /// Brand k has node k: one for each struct node with bindings and for each group that a field names, in the order in
 /// which they are first named. The roots come first, then what the fields and annotations of each name.
 ///
+/// Floats stand as the unsigned integers of their width. A field whose type is a float, inside any lists, has the
+/// annotation `0xf20fbfb08027d505` of value Void behind its own; no other field gets it.
+///
 /// Refused with `OutOfMemory`, or with a number whose cause stands in what is read: that of a part that can't be read
 /// (`BadPointer`, `WrongPointerKind`, `WrongElementSize`, `TextNotTerminated`, `TooDeep`, `CapabilityPointer`),
 /// `UnknownKind` for a discriminant that the request set lacks, `NameNotUtf8`, `NodeNotFound` for an id that no node of

@@ -12,6 +12,7 @@ ghost use Rattle.capnp_request.specs.Types.{add_entry, number_enum, number_struc
 ghost use Rattle.capnp_request.specs.Work.{Seen};
 ghost use Rattle.capnp_request.specs.Steps.Work.{named_with};
 
+use crate::marks::MarkedType;
 use crate::schema_nodes::SchemaNodes;
 use crate::scopes::copied_scopes;
 use capnp_base::introspect::{RawBrandedStructSchema, RawEnumSchema, Type, TypeVariant};
@@ -31,7 +32,7 @@ pub(crate) struct BoundScope {
     /// How many type parameters the scope has.
     pub(crate) parameters: u32,
     /// The types of the first parameters. Those of the others are untyped pointers, and the last type here is none.
-    pub(crate) types: Vec<Type>,
+    pub(crate) types: Vec<MarkedType>,
 }
 
 /// A struct node with bindings.

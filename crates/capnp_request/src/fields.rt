@@ -17,6 +17,7 @@ ghost use Rattle.capnp_request.specs.Terms.{UnreadField};
 use crate::annotations::annotations_of;
 use crate::context::Context;
 use crate::entries::{BoundScope, Entries, GroupPlace, entry_type};
+use crate::marks::{MarkedType, add_mark, plain};
 use crate::notes::Seen;
 use crate::parts::{active_member, group_at, owned, struct_at, text_at, u16_at, u32_at, u64_at};
 use crate::places::{
@@ -44,7 +45,7 @@ pub(crate) struct ConvertedField {
 #[derive(Drop)]
 struct ConvertedKind {
     kind: FieldKind,
-    field_type: Type,
+    field_type: MarkedType,
     seen: Seen,
 }
 
@@ -122,7 +123,7 @@ fn group_of<'a>(
     let number = entries.number_group(id, scopes, place)?;
     Ok(ConvertedKind {
         kind: FieldKind::Group { node: number },
-        field_type: entry_type(number),
+        field_type: plain(entry_type(number)),
         seen: Seen::nothing(),
     })
 }
@@ -181,12 +182,13 @@ pub(crate) fn field_of<'a>(
     let converted = kind_of(context, entries, inside, field, place)?;
     let index = FIELD_ANNOTATIONS;
     let listed = annotations_of(context, entries, inside, field, brands::FIELD, index)?;
-    let (annotations, annotation_types) = listed;
+    let (mut annotations, mut annotation_types) = listed;
     let ConvertedKind {
         kind,
         field_type,
         seen,
     } = converted;
+    add_mark(&mut annotations, &mut annotation_types, field_type.is_float)?;
     Ok(ConvertedField {
         record: FieldRecord {
             name,
@@ -194,7 +196,7 @@ pub(crate) fn field_of<'a>(
             annotations,
             kind,
         },
-        field_type,
+        field_type: field_type.standing,
         annotation_types,
         seen,
     })

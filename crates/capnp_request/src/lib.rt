@@ -10,6 +10,7 @@ mod conversion;
 mod entries;
 mod enums;
 mod fields;
+mod marks;
 mod names;
 mod notes;
 mod parts;

@@ -2,11 +2,11 @@
 ghost use Rattle.std.specs.Prelude.{ℕ, List, [], ◌∷◌, ◌≡◌, ◌≢◌, ◌≤◌, ◌++◌, ◌-◌, true, drop, length, map, option_map, string_bytes, take, IfErr, IfOk, OnOk, Ok, Err, Some};
 ghost use Rattle.capnp_device.specs.declared.error.ErrorKind.TheVariants.{OutOfMemory, TooManyTypes};
 ghost use Rattle.capnp_schema.specs.Schema.{seen_node};
-ghost use Rattle.capnp_schema.specs.Types.{seen_base, seen_type, seen_variant};
+ghost use Rattle.capnp_schema.specs.Types.{seen_base, seen_variant};
 ghost use Rattle.capnp_base.specs.Types.{base_of, list_depth};
-ghost use Rattle.capnp_request.specs.Steps.Bindings.{bounds, seen_bound};
+ghost use Rattle.capnp_request.specs.Steps.Bindings.{bounds, seen_bound, seen_marked};
 ghost use Rattle.capnp_request.specs.Steps.EntriesSeen.{seen_entry, seen_place};
-ghost use Rattle.capnp_request.specs.Names.{Holder as NameHolder, bindings_name, bound_name, occurrences_of, dotted_of, enum_name, file_of, finished_name, group_name, is_taken, more_names, part_bindings, struct_name, type_name};
+ghost use Rattle.capnp_request.specs.Names.{Holder as NameHolder, bindings_name, bound_name, occurrences_of, dotted_of, enum_name, file_of, finished_name, group_name, is_taken, more_names, part_bindings, set_type_name, struct_name, type_name};
 ghost use Rattle.capnp_request.specs.Steps.NamesMade.{AreHolders, IsTooLong, file_when, bound_name_at, names_nothing, one_more, repeated_piece, struct_names, texts};
 ghost use Rattle.capnp_request.specs.Steps.Nodes.{AreNodes, nodes_of};
 ghost use Rattle.capnp_request.specs.Order.{name_entry};
@@ -14,6 +14,7 @@ ghost use Rattle.capnp_request.specs.Refusals.{IsUnstrict};
 ghost use Rattle.capnp_request.specs.Work.{Whole};
 
 use crate::entries::{BoundScope, Entry};
+use crate::marks::MarkedType;
 use crate::parts::owned;
 use crate::schema_nodes::{SchemaNodes, display_name};
 use capnp_base::introspect::{Type, TypeVariant};
@@ -107,9 +108,9 @@ pub(crate) fn enum_name(alloc: Global, display: &[u8]) -> Result<String>
 }
 
 /// The word for a type that names nothing.
-fn type_word(base: TypeVariant) -> &'static [u8]
+fn type_word(base: TypeVariant, is_float: bool) -> &'static [u8]
     ensures { names_nothing base ≡ true → (structs enums : List (List ℕ))
-        → result.now ≡ type_name structs enums (seen_variant base) }
+        → result.now ≡ set_type_name structs enums is_float (seen_variant base) }
 {
     match base {
         TypeVariant::Void => b"Void",
@@ -120,8 +121,18 @@ fn type_word(base: TypeVariant) -> &'static [u8]
         TypeVariant::Int64 => b"Int64",
         TypeVariant::UInt8 => b"UInt8",
         TypeVariant::UInt16 => b"UInt16",
-        TypeVariant::UInt32 => b"UInt32",
-        TypeVariant::UInt64 => b"UInt64",
+        TypeVariant::UInt32 => {
+            if is_float {
+                return b"Float32";
+            }
+            b"UInt32"
+        }
+        TypeVariant::UInt64 => {
+            if is_float {
+                return b"Float64";
+            }
+            b"UInt64"
+        }
         TypeVariant::Text => b"Text",
         TypeVariant::Data => b"Data",
         _ => b"AnyPointer",
@@ -129,16 +140,16 @@ fn type_word(base: TypeVariant) -> &'static [u8]
 }
 
 /// Appends the name of what stands inside all lists of a type.
-fn append_base(name: &mut Vec<u8>, named: Named<'_>, bound: Type) -> Result<()>
+fn append_base(name: &mut Vec<u8>, named: Named<'_>, bound: MarkedType) -> Result<()>
     ensures appended { IfOk result (λ _. name.new.items
-        ≡ name.old.items ++ type_name (struct_names named.entry.structs.now) (texts named.entry.enums.now)
-        (seen_base (base_of bound))) }
+        ≡ name.old.items ++ set_type_name (struct_names named.entry.structs.now) (texts named.entry.enums.now)
+        bound.is_float (seen_base (base_of bound.standing))) }
     ensures refused { IfErr result (λ e. IsTooLong e.kind
-        (name.old.items ++ type_name (struct_names named.entry.structs.now) (texts named.entry.enums.now)
-        (seen_base (base_of bound)))) }
+        (name.old.items ++ set_type_name (struct_names named.entry.structs.now) (texts named.entry.enums.now)
+        bound.is_float (seen_base (base_of bound.standing)))) }
     ensures kinds { IfErr result (λ e. IsUnstrict e.kind) }
 {
-    match bound.innermost() {
+    match bound.standing.innermost() {
         TypeVariant::Struct(entry) => match named.structs.get(entry.number as usize) {
             Some(node) => append(name, node.display_name.as_bytes()),
             None => Ok(()),
@@ -147,7 +158,7 @@ fn append_base(name: &mut Vec<u8>, named: Named<'_>, bound: Type) -> Result<()>
             Some(enum_name) => append(name, enum_name.as_bytes()),
             None => Ok(()),
         },
-        base => append(name, type_word(base)),
+        base => append(name, type_word(base, bound.is_float)),
     }
 }
 
@@ -166,29 +177,34 @@ fn append_lists(name: &mut Vec<u8>, bound: Type, piece: &[u8]) -> Result<()>
 }
 
 /// Appends the name of a type.
-fn append_type(name: &mut Vec<u8>, named: Named<'_>, bound: Type) -> Result<()>
+fn append_type(name: &mut Vec<u8>, named: Named<'_>, bound: MarkedType) -> Result<()>
     ensures appended { IfOk result (λ _. name.new.items
         ≡ name.old.items ++ type_name (struct_names named.entry.structs.now) (texts named.entry.enums.now)
-        (seen_type bound)) }
+        (seen_marked bound)) }
     ensures refused { IfErr result (λ e. IsTooLong e.kind
         (name.old.items ++ type_name (struct_names named.entry.structs.now) (texts named.entry.enums.now)
-        (seen_type bound))) }
+        (seen_marked bound))) }
     ensures kinds { IfErr result (λ e. IsUnstrict e.kind) }
 {
-    append_lists(name, bound, b"List(")?;
+    append_lists(name, bound.standing, b"List(")?;
     append_base(name, named, bound)?;
-    append_lists(name, bound, b")")?;
+    append_lists(name, bound.standing, b")")?;
     Ok(())
 }
 
 /// Appends the name of the type of a number among these, an untyped pointer's where there are fewer.
-fn append_bound(name: &mut Vec<u8>, named: Named<'_>, types: &[Type], index: u32) -> Result<()>
+fn append_bound(
+    name: &mut Vec<u8>,
+    named: Named<'_>,
+    types: &[MarkedType],
+    index: u32,
+) -> Result<()>
     ensures appended { IfOk result (λ _. name.new.items
         ≡ name.old.items ++ bound_name_at (struct_names named.entry.structs.now) (texts named.entry.enums.now)
-        (map seen_type types.now) index) }
+        (map seen_marked types.now) index) }
     ensures refused { IfErr result (λ e. IsTooLong e.kind
         (name.old.items ++ bound_name_at (struct_names named.entry.structs.now) (texts named.entry.enums.now)
-        (map seen_type types.now) index)) }
+        (map seen_marked types.now) index)) }
     ensures kinds { IfErr result (λ e. IsUnstrict e.kind) }
 {
     match types.get(index as usize) {
@@ -201,15 +217,15 @@ fn append_bound(name: &mut Vec<u8>, named: Named<'_>, types: &[Type], index: u32
 fn append_others(
     name: &mut Vec<u8>,
     named: Named<'_>,
-    types: &[Type],
+    types: &[MarkedType],
     parameters: u32,
 ) -> Result<()>
     ensures appended { IfOk result (λ _. name.new.items
         ≡ name.old.items ++ more_names (struct_names named.entry.structs.now) (texts named.entry.enums.now)
-        (drop 1 (map seen_type types.now)) (parameters - 1)) }
+        (drop 1 (map seen_marked types.now)) (parameters - 1)) }
     ensures refused { IfErr result (λ e. IsTooLong e.kind
         (name.old.items ++ more_names (struct_names named.entry.structs.now) (texts named.entry.enums.now)
-        (drop 1 (map seen_type types.now)) (parameters - 1))) }
+        (drop 1 (map seen_marked types.now)) (parameters - 1))) }
     ensures kinds { IfErr result (λ e. IsUnstrict e.kind) }
 {
     for index in 1..parameters {

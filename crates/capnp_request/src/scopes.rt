@@ -1,35 +1,37 @@
 //! What is bound to the type parameters of scopes.
 ghost use Rattle.std.specs.Prelude.{◌≡◌, ◌≢◌, map, option_map, IfErr, IfOk, Ok, Err};
 ghost use Rattle.capnp_device.specs.declared.error.ErrorKind.TheVariants.{OutOfMemory};
-ghost use Rattle.capnp_schema.specs.Types.{AnyPointerType, seen_type};
-ghost use Rattle.capnp_request.specs.Steps.Bindings.{bounds, seen_bound, with_nothing};
+ghost use Rattle.capnp_schema.specs.Types.{AnyPointerType};
+ghost use Rattle.capnp_request.specs.Steps.Bindings.{bounds, seen_bound, seen_marked, with_nothing};
 ghost use Rattle.capnp_request.specs.Conversion.{is_untyped};
 ghost use Rattle.capnp_request.specs.Steps.Nodes.{AreNodes, nodes_of};
 ghost use Rattle.capnp_request.specs.Refusals.{IsUnstrict};
 ghost use Rattle.capnp_request.specs.Scopes.{scope_among, scopes_of};
 ghost use Rattle.capnp_request.specs.Types.{bound_to};
+ghost use Rattle.capnp_request.specs.Work.{plain};
 
 use crate::entries::BoundScope;
+use crate::marks::{MarkedType, plain};
 use crate::schema_nodes::{GenericScope, SchemaNodes};
 use capnp_base::introspect::{Type, TypeVariant};
 use capnp_wire::error::Result;
 use std::alloc::Global;
 
 /// Whether a type is an untyped pointer.
-pub(crate) fn is_untyped(t: Type) -> bool
-    ensures { result ≡ is_untyped (seen_type t) }
+pub(crate) fn is_untyped(t: MarkedType) -> bool
+    ensures { result ≡ is_untyped (seen_marked t).type }
 {
-    match t.which() {
+    match t.standing.which() {
         TypeVariant::AnyPointer => true,
         _ => false,
     }
 }
 
 /// An untyped pointer's type.
-pub(crate) fn untyped() -> Type
-    ensures { seen_type result ≡ AnyPointerType }
+pub(crate) fn untyped() -> MarkedType
+    ensures { seen_marked result ≡ plain AnyPointerType }
 {
-    Type::from(TypeVariant::AnyPointer)
+    plain(Type::from(TypeVariant::AnyPointer))
 }
 
 /// The scopes of a node with nothing bound.
@@ -48,8 +50,8 @@ pub(crate) fn unbound(alloc: Global, nodes: &SchemaNodes<'_>, id: u64) -> Result
 }
 
 /// A scope with the types of its first parameters.
-pub(crate) fn bound_scope(scope: GenericScope, types: Vec<Type>) -> BoundScope
-    ensures { seen_bound result ≡ record (with_nothing scope) { types = map seen_type types.items } }
+pub(crate) fn bound_scope(scope: GenericScope, types: Vec<MarkedType>) -> BoundScope
+    ensures { seen_bound result ≡ record (with_nothing scope) { types = map seen_marked types.items } }
 {
     BoundScope {
         id: scope.id,
@@ -78,8 +80,8 @@ pub(crate) fn copied_scopes(alloc: Global, scopes: &[BoundScope]) -> Result<Vec<
 }
 
 /// What is bound to a parameter of a scope: an untyped pointer where nothing is.
-pub(crate) fn bound_to(scopes: &[BoundScope], id: u64, index: u16) -> Type
-    ensures { seen_type result ≡ bound_to (bounds scopes.now) id index }
+pub(crate) fn bound_to(scopes: &[BoundScope], id: u64, index: u16) -> MarkedType
+    ensures { seen_marked result ≡ bound_to (bounds scopes.now) id index }
 {
     match scope_of(scopes, id) {
         Some(scope) => scope

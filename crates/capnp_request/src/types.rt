@@ -8,7 +8,7 @@ ghost use Rattle.capnp_schema.specs.Types.{ListType, seen_type};
 ghost use Rattle.capnp_records.specs.Part.{which_of};
 ghost use Rattle.capnp_records.specs.Record.{Record};
 ghost use Rattle.capnp_dynamic_readers.specs.Seen.{record_seen};
-ghost use Rattle.capnp_request.specs.Steps.Bindings.{bounds, flags, with_nothing};
+ghost use Rattle.capnp_request.specs.Steps.Bindings.{bounds, flags, seen_marked, with_nothing};
 ghost use Rattle.capnp_request.specs.Conversion.{is_untyped};
 ghost use Rattle.capnp_request.specs.Steps.Done.{IsWorkDone, IsSaid, so_far};
 ghost use Rattle.capnp_request.specs.Handles.{IsRequestRecord};
@@ -21,12 +21,13 @@ ghost use Rattle.capnp_request.specs.Reading.{binding_said, bindings_said, brand
 ghost use Rattle.capnp_request.specs.Refusals.{IsUnstrict, IsRefusal};
 ghost use Rattle.capnp_request.specs.Scopes.{bound_types};
 ghost use Rattle.capnp_request.specs.Terms.{SchemaNode, TypeTerm, UnreadBrand};
-ghost use Rattle.capnp_request.specs.Types.{bind_scope, binding_types, brand_types, interface, lists_in, named_scopes, scope_types, type_of, without_untyped};
+ghost use Rattle.capnp_request.specs.Types.{bind_scope, binding_types, brand_types, interface, list_of, lists_in, named_scopes, scope_types, type_of, without_untyped};
 ghost use Rattle.capnp_request.specs.Work.{Bound, Named, each, Seen as WorkSeen};
 ghost use Rattle.capnp_request.specs.Steps.Work.{Numbered, named_with};
 
 use crate::context::Context;
 use crate::entries::{BoundNode, BoundScope, Entries, entry_type, enum_type};
+use crate::marks::{MarkedType, float, plain};
 use crate::notes::Seen;
 use crate::parts::{active_member, element_at, group_at, list_at, struct_at, u16_at, u64_at};
 use crate::places::{
@@ -89,8 +90,8 @@ fn variant_said_by_member(member: u16) -> Option<TypeVariant>
 }
 
 /// A `Float32` or `Float64` as an integer of its width, with a note. Refused with `FloatType` where that is asked for.
-fn float_type(strict: bool, is_double: bool, seen: &mut Seen) -> Result<Type>
-    ensures done { (n : Numbered) → IsWorkDone seen_type (float_type is_double strict) (named_with n (flags seen.old))
+fn float_type(strict: bool, is_double: bool, seen: &mut Seen) -> Result<MarkedType>
+    ensures done { (n : Numbered) → IsWorkDone seen_marked (float_type is_double strict) (named_with n (flags seen.old))
         (named_with n (flags seen.new)) result }
     ensures kinds { IfErr result (λ e. IsRefusal strict e.kind) }
 {
@@ -99,15 +100,15 @@ fn float_type(strict: bool, is_double: bool, seen: &mut Seen) -> Result<Type>
     }
     if is_double {
         seen.float64 = true;
-        return Ok(Type::from(TypeVariant::UInt64));
+        return Ok(float(TypeVariant::UInt64));
     }
     seen.float32 = true;
-    Ok(Type::from(TypeVariant::UInt32))
+    Ok(float(TypeVariant::UInt32))
 }
 
 /// An interface as an untyped pointer, with a note. Refused with `InterfaceType` where that is asked for.
-fn interface_type(strict: bool, seen: &mut Seen) -> Result<Type>
-    ensures done { (n : Numbered) → IsWorkDone seen_type (interface strict) (named_with n (flags seen.old))
+fn interface_type(strict: bool, seen: &mut Seen) -> Result<MarkedType>
+    ensures done { (n : Numbered) → IsWorkDone seen_marked (interface strict) (named_with n (flags seen.old))
         (named_with n (flags seen.new)) result }
     ensures kinds { IfErr result (λ e. IsRefusal strict e.kind) }
 {
@@ -119,11 +120,11 @@ fn interface_type(strict: bool, seen: &mut Seen) -> Result<Type>
 }
 
 /// An untyped pointer, or what is bound to the parameter that it is.
-fn untyped_or_bound(inside: &[BoundScope], term: dynamic_struct::Reader<'_>) -> Result<Type>
+fn untyped_or_bound(inside: &[BoundScope], term: dynamic_struct::Reader<'_>) -> Result<MarkedType>
     requires record { IsRequestRecord 13 term }
     requires active { which_of (record_seen term) ≡ Some 18 }
     ensures done { (nodes : List SchemaNode) → (strict : Bool) → (s : Named)
-        → IsWorkDone seen_type (type_of nodes strict (bounds inside.now)
+        → IsWorkDone seen_marked (type_of nodes strict (bounds inside.now)
         (untyped_term (request_read_at 13 18 (record_seen term.entry)))) s s result }
     ensures kinds { IfErr result (λ e. IsUnstrict e.kind) }
 {
@@ -163,18 +164,34 @@ fn list_type(element: Type) -> Result<Type>
     }
 }
 
+/// A list of a type, whose numbers are those of its elements. Refused as `list_type`.
+fn marked_list(element: MarkedType) -> Result<MarkedType>
+    ensures list { IfOk result (λ t. (lists_in (seen_marked element).type < 2 ^ 64 - 1)
+        × (seen_marked t ≡ list_of (seen_marked element))) }
+    ensures full { IfErr result (λ _. 2 ^ 64 - 1 ≤ lists_in (seen_marked element).type) }
+    ensures kinds { IfErr result (λ e. e.kind ≡ TooManyTypes) }
+{
+    match list_type(element.standing) {
+        Ok(standing) => Ok(MarkedType {
+            standing,
+            is_float: element.is_float,
+        }),
+        Err(error) => Err(error),
+    }
+}
+
 /// The enum that a type names.
 fn enum_type_of<'a>(
     context: Context<'_, 'a>,
     entries: &mut Entries,
     term: dynamic_struct::Reader<'a>,
-) -> Result<Type>
+) -> Result<MarkedType>
     requires nodes { AreNodes context.nodes.now }
     requires numbers { AreNumbered entries.now }
     requires is_record { IsRequestRecord 13 term }
     requires active { which_of (record_seen term) ≡ Some 15 }
     ensures done { (inside : List Bound) → (levels : ℕ) → (seen : WorkSeen)
-        → IsWorkDone seen_type (type_of (nodes_of context.entry.nodes.now) context.entry.strict inside
+        → IsWorkDone seen_marked (type_of (nodes_of context.entry.nodes.now) context.entry.strict inside
         (enum_term (type_said levels) (request_read_at 13 15 (record_seen term.entry))))
         (named_with (numbered_entries entries.old) seen) (named_with (numbered_entries entries.new) seen) result }
     ensures numbers { IfOk result (λ _. AreNumbered entries.new) }
@@ -183,7 +200,7 @@ fn enum_type_of<'a>(
     let named = group_at(term, brands::TYPE, TYPE_ENUM, brands::TYPE_ENUM);
     let id = u64_at(named, brands::TYPE_ENUM, NAMED_ID);
     let number = entries.number_enum(context.nodes, id)?;
-    Ok(enum_type(number))
+    Ok(plain(enum_type(number)))
 }
 
 /// The list that a type is, of its element's type.
@@ -195,12 +212,12 @@ fn list_type_of<'a>(
     term: dynamic_struct::Reader<'a>,
     seen: &mut Seen,
     depth: u32,
-) -> Result<Type>
+) -> Result<MarkedType>
     requires nodes { AreNodes context.nodes.now }
     requires numbers { AreNumbered entries.now }
     requires is_record { IsRequestRecord 13 term }
     requires active { which_of (record_seen term) ≡ Some 14 }
-    ensures done { IsWorkDone seen_type (type_of (nodes_of context.entry.nodes.now) context.entry.strict
+    ensures done { IsWorkDone seen_marked (type_of (nodes_of context.entry.nodes.now) context.entry.strict
         (bounds inside.now) (list_term (type_said depth) (request_read_at 13 14 (record_seen term.entry))))
         (so_far entries.old seen.old) (so_far entries.new seen.new) result }
     ensures numbers { IfOk result (λ _. AreNumbered entries.new) }
@@ -209,7 +226,7 @@ fn list_type_of<'a>(
     let list = group_at(term, brands::TYPE, TYPE_LIST, brands::TYPE_LIST);
     let element = struct_at(list, brands::TYPE_LIST, LIST_ELEMENT, brands::TYPE)?;
     let element_type = type_of(context, entries, inside, element, seen, depth)?;
-    list_type(element_type)
+    marked_list(element_type)
 }
 
 /// The struct that a type names, with the bindings of its brand.
@@ -221,12 +238,12 @@ fn struct_type_of<'a>(
     term: dynamic_struct::Reader<'a>,
     seen: &mut Seen,
     depth: u32,
-) -> Result<Type>
+) -> Result<MarkedType>
     requires nodes { AreNodes context.nodes.now }
     requires numbers { AreNumbered entries.now }
     requires is_record { IsRequestRecord 13 term }
     requires active { which_of (record_seen term) ≡ Some 16 }
-    ensures done { IsWorkDone seen_type (type_of (nodes_of context.entry.nodes.now) context.entry.strict
+    ensures done { IsWorkDone seen_marked (type_of (nodes_of context.entry.nodes.now) context.entry.strict
         (bounds inside.now) (struct_term (type_said depth) (request_read_at 13 16 (record_seen term.entry))))
         (so_far entries.old seen.old) (so_far entries.new seen.new) result }
     ensures numbers { IfOk result (λ _. AreNumbered entries.new) }
@@ -242,7 +259,7 @@ fn struct_type_of<'a>(
     };
     let scopes = bindings_of(context, entries, inside, id, place, seen, depth)?;
     let number = entries.number_of(context.alloc, BoundNode { id, scopes })?;
-    Ok(entry_type(number))
+    Ok(plain(entry_type(number)))
 }
 
 /// The type that a term says inside an entry of these scopes, through at most so many types in one another.
@@ -257,11 +274,11 @@ pub(crate) fn type_of<'a>(
     term: dynamic_struct::Reader<'a>,
     seen: &mut Seen,
     depth: u32,
-) -> Result<Type>
+) -> Result<MarkedType>
     requires nodes { AreNodes context.nodes.now }
     requires numbers { AreNumbered entries.now }
     requires is_record { IsRequestRecord 13 term }
-    ensures done { IsWorkDone seen_type (type_of (nodes_of context.entry.nodes.now) context.entry.strict
+    ensures done { IsWorkDone seen_marked (type_of (nodes_of context.entry.nodes.now) context.entry.strict
         (bounds inside.now) (type_said depth (record_seen term.entry)))
         (so_far entries.old seen.old) (so_far entries.new seen.new) result }
     ensures numbers { IfOk result (λ _. AreNumbered entries.new) }
@@ -274,7 +291,7 @@ pub(crate) fn type_of<'a>(
         return Err(Error::from(ErrorKind::UnknownKind));
     };
     if let Some(said) = type_said_by_member(member) {
-        return Ok(said);
+        return Ok(plain(said));
     }
     match member {
         10 => float_type(context.strict, false, seen),
@@ -399,9 +416,9 @@ fn brand_scope<'a>(
 }
 
 /// A copy of the types that are bound to a scope's parameters inside an entry, none where it isn't there.
-fn inherited(alloc: Global, inside: &[BoundScope], id: u64) -> Result<Vec<Type>>
+fn inherited(alloc: Global, inside: &[BoundScope], id: u64) -> Result<Vec<MarkedType>>
     ensures read { IfOk result (λ types. bound_types [] (λ b. b.types) (bounds inside.now) id
-        ≡ map seen_type types.items) }
+        ≡ map seen_marked types.items) }
     ensures kinds { IfErr result (λ e. e.kind ≡ OutOfMemory) }
 {
     match scope_of(inside, id) {
@@ -420,11 +437,11 @@ fn scope_types<'a>(
     said: dynamic_list::Reader<'a>,
     seen: &mut Seen,
     depth: u32,
-) -> Result<Vec<Type>>
+) -> Result<Vec<MarkedType>>
     requires nodes { AreNodes context.nodes.now }
     requires numbers { AreNumbered entries.now }
     requires is_list { IsListOf (request_struct 20) said }
-    ensures done { IsWorkDone (λ types. map seen_type types.items)
+    ensures done { IsWorkDone (λ types. map seen_marked types.items)
         (brand_types (nodes_of context.entry.nodes.now) context.entry.strict (bounds inside.now)
         (scopes_said (type_said depth) (values_left said.entry 0)) (with_nothing scope))
         (so_far entries.old seen.old) (so_far entries.new seen.new) result }
@@ -448,11 +465,11 @@ fn said_types<'a>(
     own: dynamic_struct::Reader<'a>,
     seen: &mut Seen,
     depth: u32,
-) -> Result<Vec<Type>>
+) -> Result<Vec<MarkedType>>
     requires nodes { AreNodes context.nodes.now }
     requires numbers { AreNumbered entries.now }
     requires is_record { IsRequestRecord 20 own }
-    ensures done { IsWorkDone (λ types. map seen_type types.items)
+    ensures done { IsWorkDone (λ types. map seen_marked types.items)
         (scope_types (nodes_of context.entry.nodes.now) context.entry.strict (bounds inside.now)
         (scope_said (type_said depth) (record_seen own.entry)) (with_nothing scope))
         (so_far entries.old seen.old) (so_far entries.new seen.new) result }
@@ -485,11 +502,11 @@ fn bound_types<'a>(
     bindings: dynamic_list::Reader<'a>,
     seen: &mut Seen,
     depth: u32,
-) -> Result<Vec<Type>>
+) -> Result<Vec<MarkedType>>
     requires nodes { AreNodes context.nodes.now }
     requires numbers { AreNumbered entries.now }
     requires is_list { IsListOf (request_struct 21) bindings }
-    ensures done { IsWorkDone (λ types. map seen_type types.items)
+    ensures done { IsWorkDone (λ types. map seen_marked types.items)
         (binding_types (nodes_of context.entry.nodes.now) context.entry.strict (bounds inside.now)
         (bindings_said (type_said depth) (values_left bindings.entry 0)) parameters)
         (so_far entries.old seen.old) (so_far entries.new seen.new) result }
@@ -514,11 +531,11 @@ fn binding_type<'a>(
     binding: dynamic_struct::Reader<'a>,
     seen: &mut Seen,
     depth: u32,
-) -> Result<Type>
+) -> Result<MarkedType>
     requires nodes { AreNodes context.nodes.now }
     requires numbers { AreNumbered entries.now }
     requires is_record { IsRequestRecord 21 binding }
-    ensures done { IsWorkDone seen_type (type_of (nodes_of context.entry.nodes.now) context.entry.strict
+    ensures done { IsWorkDone seen_marked (type_of (nodes_of context.entry.nodes.now) context.entry.strict
         (bounds inside.now) (binding_said (type_said depth) (record_seen binding.entry)))
         (so_far entries.old seen.old) (so_far entries.new seen.new) result }
     ensures numbers { IfOk result (λ _. AreNumbered entries.new) }
@@ -538,8 +555,8 @@ fn binding_type<'a>(
 }
 
 /// How many types are kept, where one more is looked at.
-fn kept_with(t: Type, kept: usize, with_it: usize) -> usize
-    ensures { result ≡ cond (is_untyped (seen_type t)) kept with_it }
+fn kept_with(t: MarkedType, kept: usize, with_it: usize) -> usize
+    ensures { result ≡ cond (is_untyped (seen_marked t).type) kept with_it }
 {
     if is_untyped(t) {
         return kept;
@@ -548,8 +565,8 @@ fn kept_with(t: Type, kept: usize, with_it: usize) -> usize
 }
 
 /// Drops the untyped pointers at the end.
-fn drop_untyped(types: &mut Vec<Type>)
-    ensures { map seen_type types.new.items ≡ without_untyped (map seen_type types.old.items) }
+fn drop_untyped(types: &mut Vec<MarkedType>)
+    ensures { map seen_marked types.new.items ≡ without_untyped (map seen_marked types.old.items) }
 {
     let mut kept = 0;
     for index in 0..types.len() {

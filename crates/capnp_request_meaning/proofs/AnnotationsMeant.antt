@@ -9,7 +9,7 @@ use Rattle.capnp_request.specs.Scopes.{node_named, scopes_of}
 use Rattle.capnp_request.specs.Terms.{AnnotationNode, AnnotationTerm, BrandTerm, EnumNode, NodeKind, OtherNode, Said, SchemaNode, StructNode, TypeTerm}
 use Rattle.capnp_request.specs.Types.{named_scopes, type_of}
 use Rattle.capnp_request.specs.Values.{value_stated}
-use Rattle.capnp_request.specs.Work.{Bound, Entry, Named, work_of, work_unnoted, ◌>>=◌}
+use Rattle.capnp_request.specs.Work.{Bound, Entry, MarkedType, Named, work_of, work_unnoted, ◌>>=◌}
 use Rattle.capnp_request_meaning.specs.Meaning.{EachBound, IsAnnotationOf, IsBoundBy, IsSaidList, IsTypeOf, Numbers, without_types}
 use Rattle.capnp_request_meaning.proofs.EntriesKept.{KeepsWhole}
 use Rattle.capnp_request_meaning.proofs.ListsFound.{same_some}
@@ -45,7 +45,7 @@ declaration (Some n) t e = record { node = n; first = refl; annotation = declare
 declaration None t e = absurd (cc)
 
 -- the type of an annotation of an id and a brand
-pub record IsDeclared (k : Numbers) (inside : List Bound) (id : ℕ) (brand : BrandTerm) (u : SchemaType) : Type 0 where
+pub record IsDeclared (k : Numbers) (inside : List Bound) (id : ℕ) (brand : BrandTerm) (u : MarkedType) : Type 0 where
   pub node : SchemaNode
   pub declared : TypeTerm
   pub bound : List Bound
@@ -56,7 +56,7 @@ pub record IsDeclared (k : Numbers) (inside : List Bound) (id : ℕ) (brand : Br
   pub type : IsTypeOf k bound declared u
 
 module _ (K : List Entry → Type 0) (nodes : List SchemaNode) (whole : KeepsWhole K nodes) (strict : Bool) (inside : List Bound) where
-  abbrev IsDeclaredLater : ℕ → BrandTerm → SchemaType → Named → Type 0
+  abbrev IsDeclaredLater : ℕ → BrandTerm → MarkedType → Named → Type 0
   IsDeclaredLater id brand u z = IsDeclared (numbers nodes strict z) inside id brand u
 
   declared_meant : (id : ℕ) (brand : BrandTerm) (o : Option TypeTerm) → declared_term (node_named nodes id) ≡ o → IsWork K (declared_in nodes strict o (named_scopes nodes strict inside id brand)) (IsDeclaredLater id brand)
@@ -74,11 +74,11 @@ module _ (K : List Entry → Type 0) (nodes : List SchemaNode) (whole : KeepsWho
 
   annotation_meant : (a : AnnotationTerm) → IsWork K (annotation_of nodes strict inside a) (IsAnnotationLater a)
   annotation_meant a =
-      said_bind K (value_stated a.value) (λ v. work_unnoted (declared_type nodes strict a.id inside a.brand) >>= (λ t. work_of (record { id = a.id; value = v }, t))) (IsAnnotationLater a)
-      (λ v is. bind K (work_unnoted (declared_type nodes strict a.id inside a.brand)) (λ t. work_of (record { id = a.id; value = v }, t)) (IsDeclaredLater a.id a.brand) (IsAnnotationLater a)
+      said_bind K (value_stated a.value) (λ v. work_unnoted (declared_type nodes strict a.id inside a.brand) >>= (λ t. work_of (record { id = a.id; value = v }, t.type))) (IsAnnotationLater a)
+      (λ v is. bind K (work_unnoted (declared_type nodes strict a.id inside a.brand)) (λ t. work_of (record { id = a.id; value = v }, t.type)) (IsDeclaredLater a.id a.brand) (IsAnnotationLater a)
       (unnoted K (declared_type nodes strict a.id inside a.brand) (IsDeclaredLater a.id a.brand) (declared_meant a.id a.brand (declared_term (node_named nodes a.id)) refl))
-      (λ t. of_work K (record { id = a.id; value = v }, t) (λ (p : Annotation × SchemaType) z. IsDeclaredLater a.id a.brand t z → IsAnnotationLater a p z)
-      (λ z h. record { node = h.node; declared = h.declared; bound = h.bound; id = refl; value = is; first = h.first; annotation = h.annotation; scopes = h.scopes; brand = h.brand_is; type = h.type })))
+      (λ t. of_work K (record { id = a.id; value = v }, t.type) (λ (p : Annotation × SchemaType) z. IsDeclaredLater a.id a.brand t z → IsAnnotationLater a p z)
+      (λ z h. record { node = h.node; declared = h.declared; bound = h.bound; said = t; id = refl; value = is; first = h.first; annotation = h.annotation; scopes = h.scopes; brand = h.brand_is; type = h.type; stands = refl })))
 
   pub annotations_meant : (list : Said (List (Said AnnotationTerm))) → IsWork K (annotations_of nodes strict inside list) (λ ps z. IsSaidList (IsAnnotationOf (numbers nodes strict z) inside) list (map (λ (p : Annotation × SchemaType). p.0) ps) (map (λ (p : Annotation × SchemaType). p.1) ps))
   annotations_meant list = all_of K (annotation_of nodes strict inside) (λ (p : Annotation × SchemaType). p.0) (λ (p : Annotation × SchemaType). p.1) (λ z. IsAnnotationOf (numbers nodes strict z) inside) annotation_meant list

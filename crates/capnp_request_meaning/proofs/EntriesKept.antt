@@ -6,15 +6,15 @@ use Rattle.capnp_device.specs.declared.error.ErrorKind.TheVariants.{NodeNotFound
 use Rattle.capnp_schema.specs.Types.{SchemaType}
 use Rattle.capnp_request.specs.Scopes.{node_named, scopes_of}
 use Rattle.capnp_request.specs.Terms.{SchemaNode}
-use Rattle.capnp_request.specs.Types.{add_entry, add_enum, entry_number, enum_or_add, enum_position, innermost_type, is_entry_of, is_enum, is_of_kind, kind_number, lists_in, named_entry, number_enum, number_or_add, number_struct, number_where, same_bound, same_scope, same_type, same_types}
-use Rattle.capnp_request.specs.Work.{Bound, Entry, GroupOf, Named, Place, Whole}
+use Rattle.capnp_request.specs.Types.{add_entry, add_enum, entry_number, enum_or_add, enum_position, innermost_type, is_entry_of, is_enum, is_of_kind, kind_number, lists_in, named_entry, number_enum, number_or_add, number_struct, number_where, same_bound, same_mark, same_marked, same_scope, same_type, same_types}
+use Rattle.capnp_request.specs.Work.{Bound, Entry, GroupOf, MarkedType, Named, Place, Whole}
 use Rattle.capnp_request_meaning.specs.Meaning.{AreUnbound, without_types}
 use Rattle.capnp_request_meaning.proofs.ListsFound.{last_at, same_some, still_at}
 use Rattle.capnp_request_meaning.proofs.Works.{Done, IfDone, IsWork, done_where, entry_still, enum_still, stays, weaken}
 
 -- ---- the same bindings ----
 
-none_same : (ts us : List SchemaType) → same_types ts us ≡ true → us ≡ [] → ts ≡ []
+none_same : (ts us : List MarkedType) → same_types ts us ≡ true → us ≡ [] → ts ≡ []
 none_same [] us h e = refl
 none_same (t ∷ ts) [] h e = absurd (cc)
 none_same (t ∷ ts) (u ∷ us) h e = absurd (cc)
@@ -40,9 +40,16 @@ same_type_itself t =
     (and_from (kind_number (innermost_type t) == kind_number (innermost_type t)) (named_entry (innermost_type t) == named_entry (innermost_type t)) (eq-eqb (kind_number (innermost_type t)) (kind_number (innermost_type t)) refl) (eq-eqb (named_entry (innermost_type t)) (named_entry (innermost_type t)) refl))
     (eq-eqb (lists_in t) (lists_in t) refl)
 
-same_types_themselves : (ts : List SchemaType) → same_types ts ts ≡ true
+same_mark_itself : (q : Bool) → same_mark q q ≡ true
+same_mark_itself true = refl
+same_mark_itself false = refl
+
+same_marked_itself : (t : MarkedType) → same_marked t t ≡ true
+same_marked_itself t = and_from (same_type t.type t.type) (same_mark t.is_float t.is_float) (same_type_itself t.type) (same_mark_itself t.is_float)
+
+same_types_themselves : (ts : List MarkedType) → same_types ts ts ≡ true
 same_types_themselves [] = refl
-same_types_themselves (t ∷ ts) = and_from (same_type t t) (same_types ts ts) (same_type_itself t) (same_types_themselves ts)
+same_types_themselves (t ∷ ts) = and_from (same_marked t t) (same_types ts ts) (same_marked_itself t) (same_types_themselves ts)
 
 same_scope_itself : (b : Bound) → same_scope b b ≡ true
 same_scope_itself b =

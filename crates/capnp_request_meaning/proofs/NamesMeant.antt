@@ -5,12 +5,11 @@ use Rattle.std.specs.Str.{is_utf8}
 use Rattle.capnp_device.specs.declared.error.ErrorKind.{ErrorKind}
 use Rattle.capnp_device.specs.declared.error.ErrorKind.TheVariants.{NameNotUtf8, TooManyTypes}
 use Rattle.capnp_schema.specs.Schema.{Field, Node}
-use Rattle.capnp_schema.specs.Types.{SchemaType}
 use Rattle.capnp_request.specs.Names.{Holder, bindings_name, bound_name, dotted_name, dotted_of, enum_name, file_of, file_where, finished_name, group_name, has_colon, is_taken, occurrences_of, part_bindings, struct_name}
 use Rattle.capnp_request.specs.Order.{Begun, Made, and_said, begin_enum, begin_struct, enum_names, name_entry, node_there, said_where}
 use Rattle.capnp_request.specs.Scopes.{node_named}
 use Rattle.capnp_request.specs.Terms.{Said, SchemaNode}
-use Rattle.capnp_request.specs.Work.{Bound, Entry, GroupOf, Place, Whole}
+use Rattle.capnp_request.specs.Work.{Bound, Entry, GroupOf, MarkedType, Place, Whole}
 use Rattle.capnp_request_meaning.specs.Meaning.{AreUnbound, IsEntryName, IsGroupName}
 use Rattle.std.proofs.lemmas.Slice.Eq.{bytes_eq-Decides}
 use Rattle.capnp_request_meaning.proofs.ListsFound.{IsAmong, same_some}
@@ -67,7 +66,7 @@ file_dotted (x ∷ xs) = go (has_colon (x ∷ xs)) (file_dotted xs)
 -- ---- nothing is bound ----
 
 module _ (structs enums : List (List ℕ)) where
-  nothing_behind : (ts : List SchemaType) (count : ℕ) → ts ≡ [] → bindings_name structs enums ts count ≡ []
+  nothing_behind : (ts : List MarkedType) (count : ℕ) → ts ≡ [] → bindings_name structs enums ts count ≡ []
   nothing_behind [] count e = refl
   nothing_behind (t ∷ ts) count e = absurd (cc)
 

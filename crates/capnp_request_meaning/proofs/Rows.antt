@@ -2,13 +2,14 @@
 use Rattle.std.proofs.Common.{ℕ, ◌≡◌, ap, arith, List, [], ◌∷◌, Bool, true, false, codes, refl, slice_get, Option, Some, None, Ok, Err, inl, map, sym, length, ◌∙◌, ◌==◌, subst}
 use Rattle.std.specs.Str.{chars, is_utf8}
 use lib.Utf8.{encode}
-use Rattle.capnp_schema.specs.Schema.{Brand, Enum, Field, Group, Node, Schemas, Slot, VoidValue}
-use Rattle.capnp_schema.specs.Types.{SchemaType, EnumType, ListType, StructType, TextType, UIntType}
-use Rattle.capnp_request.specs.Conversion.{Note}
+use Rattle.capnp_schema.specs.Schema.{Annotation, Brand, Enum, Field, Group, Node, Schemas, Slot, VoidValue}
+use Rattle.capnp_schema.specs.Types.{SchemaType, EnumType, ListType, StructType, TextType, UIntType, VoidType}
+use Rattle.capnp_request.specs.Conversion.{Note, mark}
 use Rattle.capnp_request.specs.Order.{conversion_of}
-use Rattle.capnp_request.specs.Terms.{Binds, EnumNode, EnumTerm, EnumerantTerm, FieldKindTerm, FieldTerm, Float64, GroupTerm, ListTerm, MemberTerm, MoreBindings, MoreScopes, NoBindings, NoScopes, NodeKind, OtherNode, RequestTerm, Said, SchemaNode, SlotTerm, Stands, StructNode, StructPart, StructTerm, TypeTerm}
-use Rattle.capnp_request.specs.Work.{Entry, GroupOf, Place, Whole}
-use Rattle.capnp_request_meaning.specs.Meaning.{AreEntries, AreEnumsOf, AreNodesFrom, EachSaid, IsBoundBy, IsEnumerantOf, IsFieldOf, IsFound, IsKindOf, IsSetOf, IsTypeOf, NestedIn, Numbers, OfFile, numbers_in, IsNameOf}
+use Rattle.capnp_request.specs.Terms.{Binds, EnumNode, EnumTerm, EnumerantTerm, FieldKindTerm, FieldTerm, Float32, Float64, GroupTerm, ListTerm, MemberTerm, MoreBindings, MoreScopes, NoBindings, NoScopes, NodeKind, OtherNode, RequestTerm, Said, SchemaNode, SlotTerm, Stands, StructNode, StructPart, StructTerm, TypeTerm}
+use Rattle.capnp_request.specs.Work.{Entry, GroupOf, MarkedType, Place, Whole, float_of, plain}
+use Rattle.capnp_request.specs.Types.{list_of}
+use Rattle.capnp_request_meaning.specs.Meaning.{AreEntries, AreEnumsOf, AreMarked, AreNodesFrom, EachSaid, IsAnnotationOf, IsBoundBy, IsEnumerantOf, IsFieldOf, IsFound, IsKindOf, IsSaidList, IsSetOf, IsTypeOf, NestedIn, Numbers, OfFile, numbers_in, IsNameOf}
 use Rattle.capnp_request_meaning.proofs.SetsMeant.{set_meant}
 use Rattle.capnp_request.specs.Names.{dotted_of}
 use Rattle.capnp_request_meaning.proofs.NamesMeant.{said_same}
@@ -98,13 +99,13 @@ row_bound : AreEntries request.nodes row_entries row_entries
 row_bound = (refl, (record { parent = record { node = 2; bound = []; place = Whole }; node = first_node; part = struct_part false 2 first_fields; members = map (λ (f : FieldTerm). Ok f) first_fields; field = field (codes "g") 0 (GroupTerm 3); numbered = refl; same_bound = refl; first = refl; struct = refl; listed = refl; member = refl; group = refl }, tt))
 
 row_first : IsFieldOf row_numbers [] 0 0 (slot (codes "n") 65535 0 (MemberTerm (UIntType 2))) (stands (codes "n") 65535 0) (UIntType 2) []
-row_first = record { name = refl; discriminant_value = refl; annotations = tt; kind = (refl, refl, refl) }
+row_first = record { said = plain (UIntType 2); own = []; own_types = []; name = refl; discriminant_value = refl; annotations = tt; marked = (refl, refl); kind = (refl, refl, refl); stands = refl }
 
-row_group : IsKindOf row_numbers [] 0 1 (GroupTerm 3) (Group 1) (StructType 1 1)
+row_group : IsKindOf row_numbers [] 0 1 (GroupTerm 3) (Group 1) (plain (StructType 1 1))
 row_group = (refl, refl)
 
-row_enum_type : IsTypeOf row_numbers [] (ListTerm (EnumTerm 5)) (ListType (EnumType 0))
-row_enum_type = (EnumType 0, refl, (0, refl, refl))
+row_enum_type : IsTypeOf row_numbers [] (ListTerm (EnumTerm 5)) (plain (ListType (EnumType 0)))
+row_enum_type = (plain (EnumType 0), refl, (0, refl, refl))
 
 row_enums : AreEnumsOf row_numbers row_set.enums
 row_enums = (record { node = enum_node; display = codes "x.capnp:E"; members = Ok (enumerant (codes "p") ∷ enumerant (codes "q") ∷ []); first = refl; enumeration = refl; said = refl; name = refl; short = omega arith; annotations = tt; enumerants = (record { name = refl; annotations = tt }, (record { name = refl; annotations = tt }, tt)) }, tt)
@@ -131,7 +132,7 @@ row_nodes = (
     discriminant_count = refl;
     discriminant_offset = refl;
     brand = refl;
-    fields = (row_first, (record { name = refl; discriminant_value = refl; annotations = tt; kind = row_group }, (record { name = refl; discriminant_value = refl; annotations = tt; kind = (refl, refl, (0, refl, refl)) }, tt)));
+    fields = (row_first, (record { said = plain (StructType 1 1); own = []; own_types = []; name = refl; discriminant_value = refl; annotations = tt; marked = (refl, refl); kind = row_group; stands = refl }, (record { said = plain (EnumType 0); own = []; own_types = []; name = refl; discriminant_value = refl; annotations = tt; marked = (refl, refl); kind = (refl, refl, (0, refl, refl)); stands = refl }, tt)));
   },
   (
     record {
@@ -151,7 +152,7 @@ row_nodes = (
       discriminant_count = refl;
       discriminant_offset = refl;
       brand = refl;
-      fields = (record { name = refl; discriminant_value = refl; annotations = tt; kind = (refl, refl, refl) }, tt);
+      fields = (record { said = plain TextType; own = []; own_types = []; name = refl; discriminant_value = refl; annotations = tt; marked = (refl, refl); kind = (refl, refl, refl); stands = refl }, tt);
     },
     tt,
   ),
@@ -162,8 +163,8 @@ row_meant : IsSetOf request false row_set
 row_meant = set_meant request false row_set [] row_converted
 
 -- the bindings of a brand: what it says of the first scope of an id, and nothing where it doesn't speak of one
-row_brand : IsBoundBy row_numbers [] (MoreScopes 4 (Binds (MoreBindings (MemberTerm TextType) NoBindings)) NoScopes) (record { scope = 4; distance = 0; parameters = 1; types = TextType ∷ [] })
-row_brand = (λ e. (TextType ∷ [], refl, (TextType, [], refl, refl, refl)), λ e. absurd (cc))
+row_brand : IsBoundBy row_numbers [] (MoreScopes 4 (Binds (MoreBindings (MemberTerm TextType) NoBindings)) NoScopes) (record { scope = 4; distance = 0; parameters = 1; types = plain TextType ∷ [] })
+row_brand = (λ e. (plain TextType ∷ [], refl, (plain TextType, [], refl, refl, refl)), λ e. absurd (cc))
 
 row_no_scope : IsBoundBy row_numbers [] (MoreScopes 7 (Binds (MoreBindings (MemberTerm TextType) NoBindings)) NoScopes) (record { scope = 4; distance = 0; parameters = 1; types = [] })
 row_no_scope = (λ e. absurd (cc), λ e. refl)
@@ -188,7 +189,7 @@ nothing_at : (i : ℕ) (n : Node) → slice_get [] i ≡ Some n → ⊥
 nothing_at i n e = cc
 
 -- a slot at another offset
-row_offset : IsKindOf row_numbers [] 0 0 (SlotTerm 0 (MemberTerm (UIntType 2)) (Stands VoidValue)) (Slot 1 VoidValue) (UIntType 2) → ⊥
+row_offset : IsKindOf row_numbers [] 0 0 (SlotTerm 0 (MemberTerm (UIntType 2)) (Stands VoidValue)) (Slot 1 VoidValue) (plain (UIntType 2)) → ⊥
 row_offset h = let e : 1 ≡ 0 = h.0 in absurd (omega (arith, e))
 
 -- another discriminant value
@@ -196,12 +197,40 @@ row_discriminant : IsFieldOf row_numbers [] 0 2 (slot (codes "e") 1 4 (EnumTerm 
 row_discriminant h = let e : 0 ≡ 1 = h.discriminant_value in absurd (omega (arith, e))
 
 -- a group that is another field's
-row_other_group : IsKindOf row_numbers [] 0 2 (GroupTerm 3) (Group 1) (StructType 1 1) → ⊥
+row_other_group : IsKindOf row_numbers [] 0 2 (GroupTerm 3) (Group 1) (plain (StructType 1 1)) → ⊥
 row_other_group h = let e : 1 ≡ 2 = ap group_of h.1 in absurd (omega (arith, e))
 
 -- a float where its stand-in is refused
-row_float : IsTypeOf (numbers_in request true row_entries row_set) [] Float64 (UIntType 8) → ⊥
+row_float : IsTypeOf (numbers_in request true row_entries row_set) [] Float64 (float_of 8) → ⊥
 row_float h = let e : true ≡ false = h.0 in absurd (cc)
+
+-- ---- fields of floats ----
+
+abbrev floats : FieldTerm
+floats = slot (codes "f") 65535 0 (ListTerm Float32)
+
+abbrev with_marks : List Annotation → Field
+with_marks annotations = record { name = codes "f"; discriminant_value = 65535; annotations = annotations; kind = Slot 0 VoidValue }
+
+row_marked : IsFieldOf row_numbers [] 0 0 floats (with_marks (mark ∷ [])) (ListType (UIntType 4)) (VoidType ∷ [])
+row_marked = record { said = list_of (float_of 4); own = []; own_types = []; name = refl; discriminant_value = refl; annotations = tt; marked = (refl, refl); kind = (refl, refl, (float_of 4, refl, (refl, refl))); stands = refl }
+
+abbrev FieldSays : List Annotation → List SchemaType → Type 0
+FieldSays annotations types = IsFieldOf row_numbers [] 0 0 floats (with_marks annotations) (ListType (UIntType 4)) types
+
+-- the numbers in a list of floats are floats
+are_floats : (u : MarkedType) → IsTypeOf row_numbers [] (ListTerm Float32) u → u.is_float ≡ true
+are_floats u h = ap (λ (t : MarkedType). t.is_float) h.1 ∙ ap (λ (t : MarkedType). t.is_float) h.2.1
+
+no_mark : (q : Bool) (own : List Annotation) (types : List SchemaType) → q ≡ true → IsSaidList (IsAnnotationOf row_numbers []) (Ok []) own types → AreMarked q own types [] [] → ⊥
+no_mark true [] [] e h m = let none : 0 ≡ 1 = ap length m.0 in absurd (omega (arith, none))
+no_mark true [] (t ∷ types) e h m = absurd h
+no_mark true (y ∷ own) types e h m = absurd h
+no_mark false own types e h m = absurd (cc)
+
+-- a list of floats without its mark
+row_unmarked : FieldSays [] [] → ⊥
+row_unmarked h = no_mark h.said.is_float h.own h.own_types (are_floats h.said h.kind.2) h.annotations h.marked
 
 -- enumerants in another order
 row_order : EachSaid (IsEnumerantOf row_numbers) (enumerant (codes "p") ∷ enumerant (codes "q") ∷ []) (record { name = codes "q"; annotations = [] } ∷ record { name = codes "p"; annotations = [] } ∷ []) ([] ∷ [] ∷ []) → ⊥

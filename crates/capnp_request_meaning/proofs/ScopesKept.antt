@@ -1,9 +1,8 @@
 -- The scopes of a node have nothing bound.
 use Rattle.std.proofs.Common.{ℕ, zero, suc, ◌+◌, ◌≡◌, ◌∙◌, ap, refl, subst, sym, Bool, true, false, List, [], ◌∷◌, length, map, Option, Some, None, Ok, Err}
-use Rattle.capnp_schema.specs.Types.{SchemaType}
 use Rattle.capnp_request.specs.Scopes.{and_scope, is_met, node_named, scopes_from, scopes_of, scopes_of_node, with_scope}
 use Rattle.capnp_request.specs.Terms.{Said, SchemaNode}
-use Rattle.capnp_request.specs.Work.{Bound}
+use Rattle.capnp_request.specs.Work.{Bound, MarkedType}
 use Rattle.capnp_request_meaning.specs.Meaning.{AreUnbound, without_types}
 
 abbrev SaysUnbound : Said (List Bound) → Type 0
@@ -36,7 +35,7 @@ pub scopes_unbound : (nodes : List SchemaNode) (id : ℕ) (bs : List Bound) → 
 scopes_unbound nodes id bs e = subst SaysUnbound e (unbound_from nodes (length nodes) [] 0 id)
 
 -- without types they are the same
-abbrev with_types : Bound → List SchemaType → Bound
+abbrev with_types : Bound → List MarkedType → Bound
 with_types b ts = record { scope = b.scope; distance = b.distance; parameters = b.parameters; types = ts }
 
 pub same_without : (bs : List Bound) → AreUnbound bs → map without_types bs ≡ bs

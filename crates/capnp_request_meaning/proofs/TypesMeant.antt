@@ -2,11 +2,11 @@
 use Rattle.std.proofs.Common.{ℕ, zero, suc, ◌≡◌, ◌∙◌, ◌==◌, ap, refl, sym, nat_lt, Bool, true, false, List, [], ◌∷◌, map, slice_get, Some, Ok}
 use Rattle.std.proofs.lemmas.Bool.{true≢false}
 use Rattle.capnp_device.specs.declared.error.ErrorKind.TheVariants.{NodeNotFound, TooManyTypes}
-use Rattle.capnp_schema.specs.Types.{SchemaType, AnyPointerType, EnumType, ListType, StructType, UIntType}
+use Rattle.capnp_schema.specs.Types.{AnyPointerType, EnumType, StructType}
 use Rattle.capnp_request.specs.Scopes.{bound_types, node_named, scopes_of}
 use Rattle.capnp_request.specs.Terms.{Binds, BindingTerms, BrandTerm, EnumTerm, Float32, Float64, Inherits, Interface, ListTerm, MemberTerm, MoreBindings, MoreScopes, NoBindings, NoScopes, Parameter, SchemaNode, ScopeTerm, StructTerm, TypeTerm, UnreadBrand, UnreadScope, UnreadType}
-use Rattle.capnp_request.specs.Types.{bind_scope, binding_types, bound_to, brand_types, float32, float64, interface, is_of_kind, is_struct_kind, listed_type, lists_in, named_scopes, number_enum, number_struct, scope_types, type_of, without_untyped}
-use Rattle.capnp_request.specs.Work.{Bound, Entry, Named, Work, each, where_else, work_of, ◌>>=◌}
+use Rattle.capnp_request.specs.Types.{bind_scope, binding_types, bound_to, brand_types, float32, float64, interface, is_of_kind, is_struct_kind, list_of, listed_type, lists_in, named_scopes, number_enum, number_struct, scope_types, type_of, without_untyped}
+use Rattle.capnp_request.specs.Work.{Bound, Entry, MarkedType, Named, Work, each, float_of, plain, where_else, work_of, ◌>>=◌}
 use Rattle.capnp_request_meaning.specs.Meaning.{AreTypesOf, EachBound, IsBoundBy, IsBoundSo, IsTypeOf, Numbers, without_types}
 use Rattle.capnp_request_meaning.proofs.EntriesKept.{IsNumbered, KeepsWhole, enum_numbered, struct_numbered}
 use Rattle.capnp_request_meaning.proofs.ScopesKept.{scopes_without}
@@ -16,7 +16,7 @@ abbrev pub numbers : List SchemaNode → Bool → Named → Numbers
 numbers nodes strict z = record { nodes = nodes; strict = strict; entries = z.entries; enums = z.enums }
 
 -- a scope with the types that are bound to its first parameters
-abbrev pub binding : Bound → List SchemaType → Bound
+abbrev pub binding : Bound → List MarkedType → Bound
 binding b ts = record b { types = ts }
 
 -- the scopes of a node, with what a brand binds there
@@ -24,20 +24,20 @@ abbrev pub AreNamedScopes : List SchemaNode → Bool → (inside : List Bound) �
 AreNamedScopes nodes strict inside id brand bound z = (scopes_of nodes id ≡ Ok (map without_types bound)) × EachBound (IsBoundBy (numbers nodes strict z) inside brand) bound
 
 module _ (K : List Entry → Type 0) where
-  float32_taken : (q : Bool) → IsWork K (float32 q) (λ u z. (q ≡ false) × (u ≡ UIntType 4))
+  float32_taken : (q : Bool) → IsWork K (float32 q) (λ u z. (q ≡ false) × (u ≡ float_of 4))
   float32_taken true s = tt
-  float32_taken false s = nothing_new K s (record s { seen = record s.seen { float32 = true } }) (λ z. (false ≡ false) × (UIntType 4 ≡ UIntType 4)) refl refl (λ k. k) (λ z g. (refl, refl))
+  float32_taken false s = nothing_new K s (record s { seen = record s.seen { float32 = true } }) (λ z. (false ≡ false) × (float_of 4 ≡ float_of 4)) refl refl (λ k. k) (λ z g. (refl, refl))
 
-  float64_taken : (q : Bool) → IsWork K (float64 q) (λ u z. (q ≡ false) × (u ≡ UIntType 8))
+  float64_taken : (q : Bool) → IsWork K (float64 q) (λ u z. (q ≡ false) × (u ≡ float_of 8))
   float64_taken true s = tt
-  float64_taken false s = nothing_new K s (record s { seen = record s.seen { float64 = true } }) (λ z. (false ≡ false) × (UIntType 8 ≡ UIntType 8)) refl refl (λ k. k) (λ z g. (refl, refl))
+  float64_taken false s = nothing_new K s (record s { seen = record s.seen { float64 = true } }) (λ z. (false ≡ false) × (float_of 8 ≡ float_of 8)) refl refl (λ k. k) (λ z g. (refl, refl))
 
-  interface_taken : (q : Bool) → IsWork K (interface q) (λ u z. (q ≡ false) × (u ≡ AnyPointerType))
+  interface_taken : (q : Bool) → IsWork K (interface q) (λ u z. (q ≡ false) × (u ≡ plain AnyPointerType))
   interface_taken true s = tt
-  interface_taken false s = nothing_new K s (record s { seen = record s.seen { interface = true } }) (λ z. (false ≡ false) × (AnyPointerType ≡ AnyPointerType)) refl refl (λ k. k) (λ z g. (refl, refl))
+  interface_taken false s = nothing_new K s (record s { seen = record s.seen { interface = true } }) (λ z. (false ≡ false) × (plain AnyPointerType ≡ plain AnyPointerType)) refl refl (λ k. k) (λ z g. (refl, refl))
 
   -- each scope keeps its place
-  module _ (P : Bound → Named → Type 0) (types : Bound → Work (List SchemaType)) (h : (b : Bound) → IsWork K (types b) (λ ts z. P (binding b ts) z)) where
+  module _ (P : Bound → Named → Type 0) (types : Bound → Work (List MarkedType)) (h : (b : Bound) → IsWork K (types b) (λ ts z. P (binding b ts) z)) where
     abbrev IsScopeBound : Bound → Bound → Named → Type 0
     IsScopeBound b c z = (without_types c ≡ without_types b) × P c z
 
@@ -65,13 +65,13 @@ module _ (K : List Entry → Type 0) (nodes : List SchemaNode) (whole : KeepsWho
       (λ cs z same. (is ∙ ap (λ xs. Ok xs) (sym (same.0 ∙ scopes_without nodes id bs is)), same.1))
       (scopes_bound K (λ c z. IsBoundBy (numbers nodes strict z) inside brand c) (brand_types nodes strict inside brand) h bs))
 
-  abbrev numbered : ℕ → List Bound → Work SchemaType
-  numbered id bound = number_struct id bound >>= (λ number. work_of (StructType number number))
+  abbrev numbered : ℕ → List Bound → Work MarkedType
+  numbered id bound = number_struct id bound >>= (λ number. work_of (plain (StructType number number)))
 
   bound_numbered : (id : ℕ) (brand : BrandTerm) (bound : List Bound) → scopes_of nodes id ≡ Ok (map without_types bound) → IsWork K (numbered id bound) (λ u z. EachBound (IsBoundBy (numbers nodes strict z) inside brand) bound → IsTypeOf (numbers nodes strict z) inside (StructTerm id brand) u)
   bound_numbered id brand bound scopes =
-      bind K (number_struct id bound) (λ number. work_of (StructType number number)) (λ n z. IsNumbered id bound n z.entries) (λ u z. EachBound (IsBoundBy (numbers nodes strict z) inside brand) bound → IsTypeOf (numbers nodes strict z) inside (StructTerm id brand) u) (struct_numbered K nodes whole id bound scopes)
-      (λ n. of_work K (StructType n n) (λ u z. IsNumbered id bound n z.entries → EachBound (IsBoundBy (numbers nodes strict z) inside brand) bound → IsTypeOf (numbers nodes strict z) inside (StructTerm id brand) u)
+      bind K (number_struct id bound) (λ number. work_of (plain (StructType number number))) (λ n z. IsNumbered id bound n z.entries) (λ u z. EachBound (IsBoundBy (numbers nodes strict z) inside brand) bound → IsTypeOf (numbers nodes strict z) inside (StructTerm id brand) u) (struct_numbered K nodes whole id bound scopes)
+      (λ n. of_work K (plain (StructType n n)) (λ u z. IsNumbered id bound n z.entries → EachBound (IsBoundBy (numbers nodes strict z) inside brand) bound → IsTypeOf (numbers nodes strict z) inside (StructTerm id brand) u)
       (λ z h p. (n, refl, bound, record { entry = h.entry; numbered = h.numbered; node = h.node; whole = h.whole; same = h.same }, p)))
 
   struct_meant : (id : ℕ) (brand : BrandTerm) → IsBrandWork brand → IsWork K (type_of nodes strict inside (StructTerm id brand)) (λ u z. IsTypeOf (numbers nodes strict z) inside (StructTerm id brand) u)
@@ -80,14 +80,14 @@ module _ (K : List Entry → Type 0) (nodes : List SchemaNode) (whole : KeepsWho
       (λ found. bind_with K (named_scopes nodes strict inside id brand) (numbered id) (λ bound. scopes_of nodes id ≡ Ok (map without_types bound)) (λ bound z. EachBound (IsBoundBy (numbers nodes strict z) inside brand) bound) (λ u z. IsTypeOf (numbers nodes strict z) inside (StructTerm id brand) u) (scopes_named id brand h) (bound_numbered id brand) s)
 
   enum_meant : (id : ℕ) → IsWork K (type_of nodes strict inside (EnumTerm id)) (λ u z. IsTypeOf (numbers nodes strict z) inside (EnumTerm id) u)
-  enum_meant id = bind K (number_enum nodes id) (λ number. work_of (EnumType number)) (λ n z. slice_get z.enums n ≡ Some id) (λ u z. IsTypeOf (numbers nodes strict z) inside (EnumTerm id) u) (enum_numbered K nodes id)
-      (λ n. of_work K (EnumType n) (λ u z. slice_get z.enums n ≡ Some id → IsTypeOf (numbers nodes strict z) inside (EnumTerm id) u) (λ z h. (n, refl, h)))
+  enum_meant id = bind K (number_enum nodes id) (λ number. work_of (plain (EnumType number))) (λ n z. slice_get z.enums n ≡ Some id) (λ u z. IsTypeOf (numbers nodes strict z) inside (EnumTerm id) u) (enum_numbered K nodes id)
+      (λ n. of_work K (plain (EnumType n)) (λ u z. slice_get z.enums n ≡ Some id → IsTypeOf (numbers nodes strict z) inside (EnumTerm id) u) (λ z h. (n, refl, h)))
 
   list_meant : (t : TypeTerm) → IsWork K (type_of nodes strict inside t) (λ u z. IsTypeOf (numbers nodes strict z) inside t u) → IsWork K (type_of nodes strict inside (ListTerm t)) (λ u z. IsTypeOf (numbers nodes strict z) inside (ListTerm t) u)
   list_meant t h =
       bind K (type_of nodes strict inside t) listed_type (λ u z. IsTypeOf (numbers nodes strict z) inside t u) (λ v z. IsTypeOf (numbers nodes strict z) inside (ListTerm t) v) h
-      (λ u s. done_where K (nat_lt (lists_in u) 18446744073709551615) TooManyTypes (λ v t2. Done K s t2 (λ z. IsTypeOf (numbers nodes strict z) inside t u → IsTypeOf (numbers nodes strict z) inside (ListTerm t) v)) (Ok (ListType u, s))
-      (λ few. stays K s (λ z. IsTypeOf (numbers nodes strict z) inside t u → IsTypeOf (numbers nodes strict z) inside (ListTerm t) (ListType u)) (λ z g p. (u, refl, p))))
+      (λ u s. done_where K (nat_lt (lists_in u.type) 18446744073709551615) TooManyTypes (λ v t2. Done K s t2 (λ z. IsTypeOf (numbers nodes strict z) inside t u → IsTypeOf (numbers nodes strict z) inside (ListTerm t) v)) (Ok (list_of u, s))
+      (λ few. stays K s (λ z. IsTypeOf (numbers nodes strict z) inside t u → IsTypeOf (numbers nodes strict z) inside (ListTerm t) (list_of u)) (λ z g p. (u, refl, p))))
 
   more_bindings : (t : TypeTerm) (rest : BindingTerms) (count : ℕ) → IsWork K (type_of nodes strict inside t) (λ u z. IsTypeOf (numbers nodes strict z) inside t u) → IsWork K (binding_types nodes strict inside rest count) (λ ts z. AreTypesOf (numbers nodes strict z) inside rest count ts)
       → IsWork K (binding_types nodes strict inside (MoreBindings t rest) (suc count)) (λ ts z. AreTypesOf (numbers nodes strict z) inside (MoreBindings t rest) (suc count) ts)
@@ -112,7 +112,7 @@ module _ (K : List Entry → Type 0) (nodes : List SchemaNode) (whole : KeepsWho
 
   mutual
     pub type_meant : (t : TypeTerm) → IsWork K (type_of nodes strict inside t) (λ u z. IsTypeOf (numbers nodes strict z) inside t u)
-    type_meant (MemberTerm t) = of_work K t (λ u z. u ≡ t) (λ z. refl)
+    type_meant (MemberTerm t) = of_work K (plain t) (λ u z. u ≡ plain t) (λ z. refl)
     type_meant Float32 = float32_taken K strict
     type_meant Float64 = float64_taken K strict
     type_meant Interface = interface_taken K strict

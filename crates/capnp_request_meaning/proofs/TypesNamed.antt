@@ -8,13 +8,13 @@ use Rattle.capnp_wire.specs.Words.{first_fault, words_of}
 use Rattle.capnp_wire.specs.declared.fault.Fault.{Fault}
 use Rattle.capnp_wire.specs.declared.fault.Fault.TheVariants as fault
 use Rattle.capnp_schema.specs.Schema.{Group, ListValue, Slot, StructValue, Value}
-use Rattle.capnp_schema.specs.Types.{SchemaType, EnumType, ListType, StructType}
+use Rattle.capnp_schema.specs.Types.{EnumType, StructType}
 use Rattle.capnp_request.specs.Conversion.{annotation_of, annotations_of, converted_name, declared_in, declared_term, declared_type, field_of, fields_of, is_untyped, is_untyped_default, kind_declared, kind_of, notes_of}
 use Rattle.capnp_request.specs.Scopes.{and_scope, bound_types, is_met, node_named, scopes_from, scopes_of, scopes_of_node}
 use Rattle.capnp_request.specs.Terms.{AnnotationNode, AnnotationTerm, Binds, BindingTerms, BrandTerm, EnumNode, EnumTerm, FieldKindTerm, FieldTerm, Float32, Float64, GroupTerm, Inherits, Interface, ListTerm, ListWords, MemberTerm, MoreBindings, MoreScopes, NoBindings, NoScopes, NodeKind, OtherNode, Parameter, Said, SchemaNode, ScopeTerm, SlotTerm, Stands, StructNode, StructTerm, StructWords, TypeTerm, UnreadBrand, UnreadField, UnreadScope, UnreadType, UnreadValue, Untyped, ValueTerm}
-use Rattle.capnp_request.specs.Types.{add_entry, add_enum, bind_scope, binding_types, bound_to, brand_types, entry_number, enum_or_add, enum_position, float32, float64, interface, is_enum, is_of_kind, is_struct_kind, listed_type, lists_in, named_scopes, number_enum, number_or_add, number_struct, scope_types, type_of, where_node, without_untyped}
+use Rattle.capnp_request.specs.Types.{add_entry, add_enum, bind_scope, binding_types, bound_to, brand_types, entry_number, enum_or_add, enum_position, float32, float64, interface, is_enum, is_of_kind, is_struct_kind, list_of, listed_type, lists_in, named_scopes, number_enum, number_or_add, number_struct, scope_types, type_of, where_node, without_untyped}
 use Rattle.capnp_request.specs.Values.{value_stated, words_or_fault, words_that_fit, words_value}
-use Rattle.capnp_request.specs.Work.{Bound, Entry, Named, Seen, Work, each, seen_in, work_of, work_said, work_unnoted, ◌>>=◌}
+use Rattle.capnp_request.specs.Work.{Bound, Entry, MarkedType, Named, Seen, Work, each, plain, seen_in, work_of, work_said, work_unnoted, ◌>>=◌}
 use Rattle.capnp_request_meaning.specs.WellNamed.{AnySaid, AreTypesNamed, EachSaidSo, IsAnnotationNamed, IsBrandNamed, IsFieldNamed, IsKindNamed, IsNodeKindNamed, IsNodeNamed, IsNodeOfKind, IsSaidSo, IsScopeNamed, IsTypeNamed, IsValueRead, is_declaration}
 use Rattle.capnp_request_meaning.proofs.EntriesKept.{whole_entry}
 use Rattle.capnp_request_meaning.proofs.FieldsMeant.{AreMembersFrom, first_member, group_entry, other_members}
@@ -114,8 +114,8 @@ module _ (nodes : List SchemaNode) (named : AreNodesNamed nodes) (I : Named → 
   interface_good true s i = interface_type
   interface_good false s i = keeps.seen s (record s.seen { interface = true }) i
 
-  listed_good : (u : SchemaType) → IsGood I (listed_type u)
-  listed_good u s i = good_bound I (nat_lt (lists_in u) 18446744073709551615) TooManyTypes (Ok (ListType u, s)) many_types i
+  listed_good : (u : MarkedType) → IsGood I (listed_type u)
+  listed_good u s i = good_bound I (nat_lt (lists_in u.type) 18446744073709551615) TooManyTypes (Ok (list_of u, s)) many_types i
 
   -- ---- types ----
 
@@ -127,12 +127,12 @@ module _ (nodes : List SchemaNode) (named : AreNodesNamed nodes) (I : Named → 
     scopes_good id brand h = good_said I (scopes_of nodes id) (each (bind_scope (brand_types nodes strict inside brand))) AnySaid (scopes_said nodes named id) (λ bs e u.
         good_each I (bind_scope (brand_types nodes strict inside brand)) (λ b. good_bind I (brand_types nodes strict inside brand b) (λ ts. work_of (record b { types = ts })) (h b) (λ ts. good_of I (record b { types = ts }))) bs)
 
-    abbrev numbered : ℕ → List Bound → Work SchemaType
-    numbered id bound = number_struct id bound >>= (λ number. work_of (StructType number number))
+    abbrev numbered : ℕ → List Bound → Work MarkedType
+    numbered id bound = number_struct id bound >>= (λ number. work_of (plain (StructType number number)))
 
     struct_term_good : (id : ℕ) (brand : BrandTerm) → IsNodeOfKind is_struct_kind nodes id → IsBrandGood brand → IsGood I (type_of nodes strict inside (StructTerm id brand))
     struct_term_good id brand is h s i = good_where I (is_of_kind is_struct_kind (node_named nodes id)) NodeNotFound ((named_scopes nodes strict inside id brand >>= numbered id) s) is
-        (good_bind I (named_scopes nodes strict inside id brand) (numbered id) (scopes_good id brand h) (λ bound. good_bind I (number_struct id bound) (λ number. work_of (StructType number number)) (struct_good id bound is) (λ n. good_of I (StructType n n))) s i)
+        (good_bind I (named_scopes nodes strict inside id brand) (numbered id) (scopes_good id brand h) (λ bound. good_bind I (number_struct id bound) (λ number. work_of (plain (StructType number number))) (struct_good id bound is) (λ n. good_of I (plain (StructType n n)))) s i)
 
     more_good : (t : TypeTerm) (rest : BindingTerms) (count : ℕ) → IsGood I (type_of nodes strict inside t) → IsGood I (binding_types nodes strict inside rest count) → IsGood I (binding_types nodes strict inside (MoreBindings t rest) (suc count))
     more_good t rest count h k = good_bind I (type_of nodes strict inside t) (λ first. binding_types nodes strict inside rest count >>= (λ others. work_of (first ∷ others))) h
@@ -140,12 +140,12 @@ module _ (nodes : List SchemaNode) (named : AreNodesNamed nodes) (I : Named → 
 
     mutual
       pub type_good : (t : TypeTerm) → IsTypeNamed nodes t → IsGood I (type_of nodes strict inside t)
-      type_good (MemberTerm t) is = good_of I t
+      type_good (MemberTerm t) is = good_of I (plain t)
       type_good Float32 is = float32_good strict
       type_good Float64 is = float64_good strict
       type_good Interface is = interface_good strict
       type_good (ListTerm t) is = good_bind I (type_of nodes strict inside t) listed_type (type_good t is) listed_good
-      type_good (EnumTerm id) is = good_bind I (number_enum nodes id) (λ number. work_of (EnumType number)) (enum_good id is) (λ n. good_of I (EnumType n))
+      type_good (EnumTerm id) is = good_bind I (number_enum nodes id) (λ number. work_of (plain (EnumType number))) (enum_good id is) (λ n. good_of I (plain (EnumType n)))
       type_good (StructTerm id brand) is = struct_term_good id brand is.0 (brand_good brand is.1)
       type_good (Parameter scope index) is = good_of I (bound_to inside scope index)
       type_good (UnreadType kind) is = λ s i. is
@@ -180,8 +180,8 @@ module _ (nodes : List SchemaNode) (named : AreNodesNamed nodes) (I : Named → 
     declared_good id brand named_brand (Some n) e is = let node : IsNodeNamed nodes n = named id n e in declared_by id brand named_brand n.kind node.kind is
 
     annotation_good : (a : AnnotationTerm) → IsAnnotationNamed nodes a → IsGood I (annotation_of nodes strict inside a)
-    annotation_good a is = good_said I (value_stated a.value) (λ v. work_unnoted (declared_type nodes strict a.id inside a.brand) >>= (λ t. work_of (record { id = a.id; value = v }, t))) AnySaid (value_said a.value is.value)
-        (λ v e u. good_bind I (work_unnoted (declared_type nodes strict a.id inside a.brand)) (λ t. work_of (record { id = a.id; value = v }, t)) (good_unnoted I (declared_type nodes strict a.id inside a.brand) (declared_good a.id a.brand is.brand (node_named nodes a.id) refl is.declared) keeps.seen) (λ t s i. i))
+    annotation_good a is = good_said I (value_stated a.value) (λ v. work_unnoted (declared_type nodes strict a.id inside a.brand) >>= (λ t. work_of (record { id = a.id; value = v }, t.type))) AnySaid (value_said a.value is.value)
+        (λ v e u. good_bind I (work_unnoted (declared_type nodes strict a.id inside a.brand)) (λ t. work_of (record { id = a.id; value = v }, t.type)) (good_unnoted I (declared_type nodes strict a.id inside a.brand) (declared_good a.id a.brand is.brand (node_named nodes a.id) refl is.declared) keeps.seen) (λ t s i. i))
 
     pub annotations_good : (list : Said (List (Said AnnotationTerm))) → IsSaidSo (EachSaidSo (IsAnnotationNamed nodes)) list → IsGood I (annotations_of nodes strict inside list)
     annotations_good list is = good_all I (annotation_of nodes strict inside) (IsAnnotationNamed nodes) annotation_good list is
@@ -191,10 +191,10 @@ module _ (nodes : List SchemaNode) (named : AreNodesNamed nodes) (I : Named → 
   module _ (strict : Bool) (inside : List Bound) (n : ℕ) (members : List (Said FieldTerm)) (groups : (s : Named) (i id : ℕ) (f : FieldTerm) → slice_get members i ≡ Some (Ok f) → f.kind ≡ GroupTerm id → IsNodeOfKind is_struct_kind nodes id → I s → I (record s { entries = s.entries ++ group_entry id inside n i ∷ [] })) where
     kind_good : (i : ℕ) (f : FieldTerm) → slice_get members i ≡ Some (Ok f) → (k : FieldKindTerm) → f.kind ≡ k → IsKindNamed nodes k → IsGood I (kind_of nodes strict inside n i k)
     kind_good i f there (SlotTerm offset t default) e is =
-        good_bind I (seen_in (type_of nodes strict inside t)) (λ typed. work_said (value_stated default) >>= (λ v. work_of (Slot offset v, typed.0, notes_of n i typed.1 (is_untyped typed.0 && is_untyped_default default)))) (good_seen I (type_of nodes strict inside t) (type_good strict inside t is.0) keeps.seen)
-        (λ typed. good_said I (value_stated default) (λ v. work_of (Slot offset v, typed.0, notes_of n i typed.1 (is_untyped typed.0 && is_untyped_default default))) AnySaid (value_said default is.1) (λ v said u s i. i))
+        good_bind I (seen_in (type_of nodes strict inside t)) (λ typed. work_said (value_stated default) >>= (λ v. work_of (Slot offset v, typed.0, notes_of n i typed.1 (is_untyped typed.0.type && is_untyped_default default)))) (good_seen I (type_of nodes strict inside t) (type_good strict inside t is.0) keeps.seen)
+        (λ typed. good_said I (value_stated default) (λ v. work_of (Slot offset v, typed.0, notes_of n i typed.1 (is_untyped typed.0.type && is_untyped_default default))) AnySaid (value_said default is.1) (λ v said u s i. i))
     kind_good i f there (GroupTerm id) e is =
-        good_bind I (where_node is_struct_kind nodes id (add_entry (group_entry id inside n i))) (λ number. work_of (Group number, StructType number number, []))
+        good_bind I (where_node is_struct_kind nodes id (add_entry (group_entry id inside n i))) (λ number. work_of (Group number, plain (StructType number number), []))
         (λ s k. good_where I (is_of_kind is_struct_kind (node_named nodes id)) NodeNotFound (add_entry (group_entry id inside n i) s) is (entry_good (group_entry id inside n i) s (groups s i id f there e is k)))
         (λ number s k. k)
     kind_good i f there (UnreadField kind) e is = λ s k. is

@@ -1,13 +1,14 @@
 -- What a set of schemas says of the request that it is made of, in the request's own words.
 use Rattle.std.specs.Prelude.{ℕ, zero, suc, ◌+◌, ◌<◌, ◌≡◌, ◌⊎◌, ◌==◌, List, [], ◌∷◌, ◌++◌, Bool, true, false, length, map, slice_get, Some, Ok, Err, ◌≤◌}
 use Rattle.capnp_schema.specs.Schema.{Annotation, Brand, Enum, Enumerant, Field, FieldKind, Group, Node, Schemas, Slot}
-use Rattle.capnp_schema.specs.Types.{SchemaType, AnyPointerType, EnumType, ListType, StructType, UIntType}
+use Rattle.capnp_schema.specs.Types.{SchemaType, AnyPointerType, EnumType, StructType, VoidType}
+use Rattle.capnp_request.specs.Conversion.{mark}
 use Rattle.capnp_request.specs.Names.{dotted_of}
 use Rattle.capnp_request.specs.Scopes.{bound_types, is_met, node_named, scopes_of}
 use Rattle.capnp_request.specs.Terms.{AnnotationNode, AnnotationTerm, Binds, BindingTerms, BrandTerm, EnumNode, EnumTerm, EnumerantTerm, FieldKindTerm, FieldTerm, Float32, Float64, GroupTerm, Inherits, Interface, ListTerm, MemberTerm, MoreBindings, MoreScopes, NoBindings, NoScopes, Parameter, RequestTerm, Said, SchemaNode, ScopeTerm, SlotTerm, StructNode, StructPart, StructTerm, TypeTerm, UnreadBrand, UnreadField, UnreadScope, UnreadType}
-use Rattle.capnp_request.specs.Types.{bound_to, is_entry_of, same_bound, without_untyped}
+use Rattle.capnp_request.specs.Types.{bound_to, is_entry_of, list_of, same_bound, without_untyped}
 use Rattle.capnp_request.specs.Values.{value_stated}
-use Rattle.capnp_request.specs.Work.{Bound, Entry, GroupOf, Place, Whole}
+use Rattle.capnp_request.specs.Work.{Bound, Entry, GroupOf, MarkedType, Place, Whole, float_of, plain}
 
 -- ---- lists that are read ----
 
@@ -82,16 +83,17 @@ EachBound P [] = Unit {0}
 EachBound P (b ∷ bs) = P b × EachBound P bs
 
 -- The type of a term inside an entry; what a brand binds to the parameters of a scope, where its first scope of that id
--- counts; and bindings in a row. Floats and interfaces have stand-ins, and none is taken where that is refused.
+-- counts; and bindings in a row. Floats and interfaces have stand-ins, and none is taken where that is refused. A float stays
+-- a type of its own beside the integer that stands for it, so that what is bound to a parameter tells them apart.
 abbrev mutual
-  pub IsTypeOf : Numbers → (inside : List Bound) → TypeTerm → SchemaType → Type 0
-  IsTypeOf k inside (MemberTerm t) u = u ≡ t
-  IsTypeOf k inside Float32 u = (k.strict ≡ false) × (u ≡ UIntType 4)
-  IsTypeOf k inside Float64 u = (k.strict ≡ false) × (u ≡ UIntType 8)
-  IsTypeOf k inside Interface u = (k.strict ≡ false) × (u ≡ AnyPointerType)
-  IsTypeOf k inside (ListTerm t) u = (element : SchemaType) × (u ≡ ListType element) × IsTypeOf k inside t element
-  IsTypeOf k inside (EnumTerm id) u = (n : ℕ) × (u ≡ EnumType n) × (slice_get k.enums n ≡ Some id)
-  IsTypeOf k inside (StructTerm id brand) u = (n : ℕ) × (u ≡ StructType n n) × (bound : List Bound) × IsStructNumber k id bound n × EachBound (IsBoundBy k inside brand) bound
+  pub IsTypeOf : Numbers → (inside : List Bound) → TypeTerm → MarkedType → Type 0
+  IsTypeOf k inside (MemberTerm t) u = u ≡ plain t
+  IsTypeOf k inside Float32 u = (k.strict ≡ false) × (u ≡ float_of 4)
+  IsTypeOf k inside Float64 u = (k.strict ≡ false) × (u ≡ float_of 8)
+  IsTypeOf k inside Interface u = (k.strict ≡ false) × (u ≡ plain AnyPointerType)
+  IsTypeOf k inside (ListTerm t) u = (element : MarkedType) × (u ≡ list_of element) × IsTypeOf k inside t element
+  IsTypeOf k inside (EnumTerm id) u = (n : ℕ) × (u ≡ plain (EnumType n)) × (slice_get k.enums n ≡ Some id)
+  IsTypeOf k inside (StructTerm id brand) u = (n : ℕ) × (u ≡ plain (StructType n n)) × (bound : List Bound) × IsStructNumber k id bound n × EachBound (IsBoundBy k inside brand) bound
   IsTypeOf k inside (Parameter scope index) u = u ≡ bound_to inside scope index
   IsTypeOf k inside (UnreadType kind) u = ⊥
 
@@ -102,46 +104,62 @@ abbrev mutual
 
   -- untyped pointers at the end are left out; what is inherited is what is bound inside the entry
   pub IsBoundSo : Numbers → (inside : List Bound) → ScopeTerm → Bound → Type 0
-  IsBoundSo k inside (Binds terms) b = (ts : List SchemaType) × (b.types ≡ without_untyped ts) × AreTypesOf k inside terms b.parameters ts
+  IsBoundSo k inside (Binds terms) b = (ts : List MarkedType) × (b.types ≡ without_untyped ts) × AreTypesOf k inside terms b.parameters ts
   IsBoundSo k inside Inherits b = b.types ≡ bound_types [] (λ (c : Bound). c.types) inside b.scope
   IsBoundSo k inside (UnreadScope kind) b = ⊥
 
   -- as many as there are parameters
-  pub AreTypesOf : Numbers → (inside : List Bound) → BindingTerms → (parameters : ℕ) → List SchemaType → Type 0
+  pub AreTypesOf : Numbers → (inside : List Bound) → BindingTerms → (parameters : ℕ) → List MarkedType → Type 0
   AreTypesOf k inside NoBindings count ts = ts ≡ []
   AreTypesOf k inside (MoreBindings t rest) zero ts = ts ≡ []
-  AreTypesOf k inside (MoreBindings t rest) (suc count) ts = (u : SchemaType) × (us : List SchemaType) × (ts ≡ u ∷ us) × IsTypeOf k inside t u × AreTypesOf k inside rest count us
+  AreTypesOf k inside (MoreBindings t rest) (suc count) ts = (u : MarkedType) × (us : List MarkedType) × (ts ≡ u ∷ us) × IsTypeOf k inside t u × AreTypesOf k inside rest count us
 
 -- ---- annotations ----
 
--- An annotation has its value as it stands. Its type is that of its declaration, read inside what its brand binds there.
+-- An annotation has its value as it stands. Its type is that of its declaration, read inside what its brand binds there; a
+-- float in it stands as an integer.
 pub record IsAnnotationOf (k : Numbers) (inside : List Bound) (x : AnnotationTerm) (y : Annotation) (u : SchemaType) : Type 0 where
   pub node : SchemaNode
   pub declared : TypeTerm
   pub bound : List Bound
+  pub said : MarkedType
   pub id : y.id ≡ x.id
   pub value : value_stated x.value ≡ Ok y.value
   pub first : node_named k.nodes x.id ≡ Some node
   pub annotation : node.kind ≡ AnnotationNode declared
   pub scopes : scopes_of k.nodes x.id ≡ Ok (map without_types bound)
   pub brand : EachBound (IsBoundBy k inside x.brand) bound
-  pub type : IsTypeOf k bound declared u
+  pub type : IsTypeOf k bound declared said
+  pub stands : u ≡ said.type
 
 -- ---- fields ----
 
 -- field i of entry n: a slot at its offset, with its default and its type, or a group, an entry for itself
-abbrev pub IsKindOf : Numbers → (inside : List Bound) → (n i : ℕ) → FieldKindTerm → FieldKind → SchemaType → Type 0
+abbrev pub IsKindOf : Numbers → (inside : List Bound) → (n i : ℕ) → FieldKindTerm → FieldKind → MarkedType → Type 0
 IsKindOf k inside n i (SlotTerm offset t default) (Slot o d) u = (o ≡ offset) × (value_stated default ≡ Ok d) × IsTypeOf k inside t u
 IsKindOf k inside n i (SlotTerm offset t default) (Group number) u = ⊥
-IsKindOf k inside n i (GroupTerm id) (Group number) u = (u ≡ StructType number number) × (slice_get k.entries number ≡ Some (record { node = id; bound = inside; place = GroupOf n i }))
+IsKindOf k inside n i (GroupTerm id) (Group number) u = (u ≡ plain (StructType number number)) × (slice_get k.entries number ≡ Some (record { node = id; bound = inside; place = GroupOf n i }))
 IsKindOf k inside n i (GroupTerm id) (Slot o d) u = ⊥
 IsKindOf k inside n i (UnreadField kind) g u = ⊥
 
+-- behind the annotations that it has in the request a field of floats has the mark, with its type behind theirs, and no other
+-- field has it there
+abbrev pub AreMarked : (is_float : Bool) → (own : List Annotation) → (own_types : List SchemaType) → List Annotation → List SchemaType → Type 0
+AreMarked true own own_types annotations types = (annotations ≡ own ++ mark ∷ []) × (types ≡ own_types ++ VoidType ∷ [])
+AreMarked false own own_types annotations types = (annotations ≡ own) × (types ≡ own_types)
+
+-- The set has the type that stands for that of the request. The mark tells where its base, inside all lists, is a float: also
+-- where that is bound to a parameter.
 pub record IsFieldOf (k : Numbers) (inside : List Bound) (n i : ℕ) (f : FieldTerm) (g : Field) (u : SchemaType) (types : List SchemaType) : Type 0 where
+  pub said : MarkedType
+  pub own : List Annotation
+  pub own_types : List SchemaType
   pub name : f.name ≡ Ok g.name
   pub discriminant_value : g.discriminant_value ≡ f.discriminant_value
-  pub annotations : IsSaidList (IsAnnotationOf k inside) f.annotations g.annotations types
-  pub kind : IsKindOf k inside n i f.kind g.kind u
+  pub annotations : IsSaidList (IsAnnotationOf k inside) f.annotations own own_types
+  pub marked : AreMarked said.is_float own own_types g.annotations types
+  pub kind : IsKindOf k inside n i f.kind g.kind said
+  pub stands : u ≡ said.type
 
 -- the fields of entry n from field i on, in the request's order, with their types and those of their annotations
 abbrev pub AreFieldsFrom : Numbers → (inside : List Bound) → (n i : ℕ) → List (Said FieldTerm) → List Field → List SchemaType → List (List SchemaType) → Type 0

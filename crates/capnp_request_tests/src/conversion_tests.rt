@@ -172,6 +172,42 @@ fn floats_and_interfaces_are_noted(rt: HostRuntime) -> std::result::Result<(), F
     Ok(())
 }
 
+/// The id of the annotation that marks the fields of floats.
+const FLOAT_MARK: u64 = 0xf20f_bfb0_8027_d505;
+
+/// A letter for an annotation: `m` for the mark of floats, `-` for every other.
+fn letter_of(annotation: &AnnotationRecord) -> u8 {
+    match &annotation.value {
+        ValueRecord::Void => {
+            if annotation.id == FLOAT_MARK {
+                return b'm';
+            }
+            b'-'
+        }
+        _ => b'-',
+    }
+}
+
+#[test]
+fn fields_of_floats_are_marked(rt: HostRuntime) -> std::result::Result<(), Fail> {
+    let alloc = rt.alloc();
+    let made = converted(alloc, NOTES.as_slice(), false)?;
+    let mut found = Vec::new(alloc);
+    for node in &made.nodes {
+        for field in &node.body.fields {
+            for annotation in &field.annotations {
+                found.push(letter_of(annotation))?;
+            }
+            found.push(b';')?;
+        }
+    }
+    let wanted: &[u8] = b";;-m;-m;;-m;;;;;;-;m;";
+    assert!(rt; found.as_slice() == wanted);
+    let schemas = SchemaSet::new(alloc, made.nodes, made.brands, made.enums)?;
+    assert_eq!(rt; schemas.nodes().len(), 3);
+    Ok(())
+}
+
 #[test]
 fn floats_are_refused_where_that_is_asked_for(rt: HostRuntime) {
     match converted(rt.alloc(), NOTES.as_slice(), true) {

@@ -14,7 +14,7 @@ use capnp_schema::schema::StructSchema;
 use capnp_schema::set::SchemaSet;
 
 /// The type of the field of an index. None past the last.
-fn find_field_type(schema: StructSchema<'_>, index: u16) -> Option<Type>
+pub fn find_field_type(schema: StructSchema<'_>, index: u16) -> Option<Type>
     ensures { option_map seen_type result ≡ field_type (set_of schema.entry) (number_of schema.entry) index }
 {
     let fields = schema.get_fields().ok()?;
@@ -24,8 +24,8 @@ fn find_field_type(schema: StructSchema<'_>, index: u16) -> Option<Type>
     None
 }
 
-/// The type of the field of a name.
-fn find_named_type(schema: StructSchema<'_>, name: &str) -> Option<Type>
+/// The type of the field of a name. None where there is no such field.
+pub fn find_named_type(schema: StructSchema<'_>, name: &str) -> Option<Type>
     ensures { option_map seen_type result ≡ option_and_then (field_type (set_of schema.entry) (number_of schema.entry))
         (field_named (struct_records schema.entry) name.now) }
 {

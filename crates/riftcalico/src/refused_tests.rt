@@ -41,19 +41,19 @@ static USAGES: [(&str, &str); 8] = [
     ),
     (
         "check",
-        "[--set FILE] [--packed] [--each [--keep-going]] NAME [PATH]",
+        "[--set FILE] [--packed] [--limit PARTS] [--all] [--each [--keep-going]] NAME [PATH]",
     ),
     (
         "patch",
-        "[--set FILE] [--calls FILE] [--keep-going] [--packed] [--each] NAME CALL..",
+        "[--set FILE] [--calls FILE] [--keep-going] [--packed] [--limit BYTES] [--each] NAME CALL..",
     ),
     (
         "new",
-        "[--set FILE] [--calls FILE] [--keep-going] [--packed] NAME CALL..",
+        "[--set FILE] [--calls FILE] [--keep-going] [--packed] [--limit BYTES] NAME CALL..",
     ),
     ("structs", "[--set FILE] [NAME]"),
     ("schemas", "[--strict]"),
-    ("compatible", "OLD NEW NAME"),
+    ("compatible", "[--quiet] OLD NEW NAME"),
 ];
 
 /// How a verb is called, as a line; all of them for another word.
@@ -72,7 +72,7 @@ fn told_of(alloc: Global, words: &str, line: &str) -> Result<String, Fail> {
     if line == "usage" {
         return usage_of(alloc, verb);
     }
-    if line.starts_with("unknown ") {
+    if line.starts_with("unknown ") || line.starts_with("no number ") {
         let usage = usage_of(alloc, verb)?;
         return Ok(format!(in alloc; "{line}\n{usage}")?);
     }
@@ -188,7 +188,16 @@ compatible|--set|set|calls|Flat -> usage
 schemas|--set|set -> usage
 # options that there aren't
 get|Flat|a|--indented -> unknown option: --indented
-patch|Flat|--limit|set a 1 -> unknown option: --limit
+patch|Flat|--limited|set a 1 -> unknown option: --limited
+# no numbers of bytes
+patch|Flat|--limit|set a 1 -> no number of bytes: set a 1
+new|--limit||Flat -> no number of bytes: 
+new|--limit|-1|Flat -> no number of bytes: -1
+check|--limit|18446744073709551616|Flat -> no number of bytes: 18446744073709551616
+show|--limit|5|Flat -> usage
+check|Flat|--limit -> usage
+show|--all|Flat -> usage
+structs|--quiet -> usage
 structs|-- -> unknown option: --
 # no struct of the built-in set
 get|Absent|a -> refused: 64 NameNotFound (Absent); see riftcalico structs

@@ -252,6 +252,63 @@ pub(crate) const GOT: &str = "\
 =1
 !refused: 9 CapabilityPointer (standard input) at tag.q
 
+# all that can't be read, in the order of the text, and nothing where all can
+:check
+:--all
+:Lists
+<0000000005000000 0000000000000400 0300000000000000 0000000000000000 0300000000000000 0300000000000000
+=1
+!refused: 9 CapabilityPointer (standard input) at bytes
+!refused: 9 CapabilityPointer (standard input) at t
+!refused: 9 CapabilityPointer (standard input) at items
+
+:check
+:--all
+:Lists
+:t
+<0000000005000000 0000000000000400 0300000000000000 0000000000000000 0300000000000000 0300000000000000
+=1
+!refused: 9 CapabilityPointer (standard input) at t
+
+:check
+:--all
+:Mixed
+:c
+<0000000003000000 0000000001000100 0500010009000000 0000000000000000
+=1
+!refused: 20 FieldNotFound (standard input) at c in Mixed
+
+:check
+:--all
+:Mixed
+<0000000003000000 0000000001000100 0500010009000000 0000000000000000
+=0
+
+# as many parts as are looked at, the root among them, and one more
+:check
+:--limit
+:3
+:Mixed
+<0000000003000000 0000000001000100 0500010009000000 0000000000000000
+=0
+
+:check
+:--limit
+:2
+:Mixed
+<0000000003000000 0000000001000100 0500010009000000 0000000000000000
+=1
+!refused: 11 TooLarge (standard input)
+
+:check
+:--all
+:--limit
+:2
+:Mixed
+<0000000003000000 0000000001000100 0500010009000000 0000000000000000
+=1
+!refused: 11 TooLarge (standard input)
+
 # a packed message
 :show
 :--packed
@@ -396,7 +453,7 @@ pub(crate) const PATCHED: &str = "\
 <0000000003000000 0000000001000100 0500010009000000 0000000000000000
 =1
 !2: get x: refused: 30 InactiveMember
-!3: set c 1: refused: 20 FieldNotFound
+!3: set c 1: refused: 20 FieldNotFound in Mixed
 !4: get y = 9
 
 # the same where the run goes on: what it leaves is written
@@ -411,7 +468,7 @@ pub(crate) const PATCHED: &str = "\
 =1
 >0000000003000000 0000000001000100 0600010009000000 0000000000000000
 !2: get x: refused: 30 InactiveMember
-!3: set c 1: refused: 20 FieldNotFound
+!3: set c 1: refused: 20 FieldNotFound in Mixed
 !4: get y = 9
 
 # calls on an empty union: its group is made before it is set
@@ -463,9 +520,36 @@ pub(crate) const PATCHED: &str = "\
 !3: get tag.n = 0
 !4: which tag = #1
 !6: get circle.r = 0
-!7: get #9: refused: 20 FieldNotFound
-!8: set any 1: refused: 20 FieldNotFound
+!7: get #9: refused: 20 FieldNotFound in Shapes
+!8: set any 1: refused: 20 FieldNotFound in Shapes
 !10: get tag.any.#0: refused: 31 UntypedStep
+
+# the names that may have been meant
+:patch
+:Lists
+:get itemz
+<0000000001000000 0000000000000000
+=1
+!1: get itemz: refused: 20 FieldNotFound in Lists; near: items
+
+# a copy that has room within the limit, and one that has none
+:patch
+:--limit
+:24
+:Mixed
+:set a 6
+<0000000003000000 0000000001000100 0500010009000000 0000000000000000
+=0
+>0000000003000000 0000000001000100 0600010009000000 0000000000000000
+
+:patch
+:--limit
+:16
+:Mixed
+:set a 6
+<0000000003000000 0000000001000100 0500010009000000 0000000000000000
+=1
+!refused: 1 OutOfMemory (standard input)
 
 # an empty root
 :new
@@ -599,12 +683,12 @@ pub(crate) const TOLD: &str = "\
 \"
 \"usage: riftcalico show [--set FILE] [--packed] [--each [--keep-going]] NAME [--indent]
 \"       riftcalico get [--set FILE] [--packed] [--each [--keep-going]] NAME PATH [--indent]
-\"       riftcalico check [--set FILE] [--packed] [--each [--keep-going]] NAME [PATH]
-\"       riftcalico patch [--set FILE] [--calls FILE] [--keep-going] [--packed] [--each] NAME CALL..
-\"       riftcalico new [--set FILE] [--calls FILE] [--keep-going] [--packed] NAME CALL..
+\"       riftcalico check [--set FILE] [--packed] [--limit PARTS] [--all] [--each [--keep-going]] NAME [PATH]
+\"       riftcalico patch [--set FILE] [--calls FILE] [--keep-going] [--packed] [--limit BYTES] [--each] NAME CALL..
+\"       riftcalico new [--set FILE] [--calls FILE] [--keep-going] [--packed] [--limit BYTES] NAME CALL..
 \"       riftcalico structs [--set FILE] [NAME]
 \"       riftcalico schemas [--strict]
-\"       riftcalico compatible OLD NEW NAME
+\"       riftcalico compatible [--quiet] OLD NEW NAME
 \"
 \"More of a verb is told by 'riftcalico VERB --help', the version by 'riftcalico --version'.
 

@@ -153,7 +153,7 @@ const STREAMS: &str = "\
 <0000000002000000 0000000001000000 0500000000000000
 <0000000002000000 0000000001000000 0600000000000000
 =1
-!message 1: 1: get b: refused: 20 FieldNotFound
+!message 1: 1: get b: refused: 20 FieldNotFound in Flat
 
 # or it doesn't
 :patch
@@ -166,8 +166,8 @@ const STREAMS: &str = "\
 =1
 >0000000002000000 0000000001000000 0500000000000000
 >0000000002000000 0000000001000000 0600000000000000
-!message 1: 1: get b: refused: 20 FieldNotFound
-!message 2: 1: get b: refused: 20 FieldNotFound
+!message 1: 1: get b: refused: 20 FieldNotFound in Flat
+!message 2: 1: get b: refused: 20 FieldNotFound in Flat
 
 # packed messages; a piece that is cut at the end gives nothing
 :get

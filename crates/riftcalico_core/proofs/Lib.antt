@@ -3,6 +3,8 @@ pub mod CallsGiven
 pub mod Each
 pub mod NearNames
 pub mod NumberedLines
+pub mod NotShown
+pub mod Noted
 pub mod Packed
 pub mod PathsTaken
 pub mod PlainGiven

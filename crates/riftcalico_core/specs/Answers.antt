@@ -1,7 +1,7 @@
 -- What is answered to a message's bytes: what is written, what is told, and whether a call was refused.
 use Rattle.std.specs.Prelude.{ℕ, suc, ◌<◌, ◌≡◌, ◌⊎◌, ⊤, List, [], map, Bool, true, false, cond, not, None, Some, Result, Ok, Err, string_bytes}
 use Rattle.capnp_device.specs.declared.error.ErrorKind.{ErrorKind}
-use Rattle.capnp_device.specs.declared.error.ErrorKind.TheVariants.{NameNotFound, OutOfMemory}
+use Rattle.capnp_device.specs.declared.error.ErrorKind.TheVariants.{NameNotFound, OutOfMemory, TooLarge}
 use Rattle.capnp_arena.specs.Message.{IsMessage, message_tree}
 use Rattle.capnp_call.specs.Refusals.{any_refused}
 use Rattle.capnp_call.specs.Seen.{call_seen, path_seen}
@@ -13,10 +13,12 @@ use Rattle.capnp_packed.specs.Packing.{packed_form}
 use Rattle.capnp_packed.specs.Received.{received_message}
 use Rattle.capnp_packed.specs.Unpacking.{unpacked_bytes}
 use Rattle.capnp_patch.specs.Gets.{got_text}
-use Rattle.capnp_patch.specs.Lines.{AreTold}
 use Rattle.capnp_patch.specs.Patches.{IsLeftOfBytes, IsLeftOfNew, IsUnread, is_kept}
-use Rattle.capnp_patch.specs.Places.{IsRefusedAt}
+use Rattle.capnp_patch.specs.Places.{AreRefusedAt, HasMoreParts, IsRefusedAt}
 use Rattle.capnp_patch.specs.declared.place.Place.{Place}
+use Rattle.capnp_patch.specs.declared.place.Refusals.{Refusals}
+use Rattle.capnp_records.specs.Call as record_call
+use Rattle.capnp_records.specs.Call.{PathStep}
 use Rattle.capnp_schema.specs.Entries.{lists_seen}
 use Rattle.capnp_schema.specs.Schema.{Schemas}
 use Rattle.capnp_schema.specs.StructHandles.{IsStruct, number_of, set_of}
@@ -32,9 +34,11 @@ use Rattle.capnp_wire.specs.Encoding.{message_of}
 use Rattle.capnp_wire.specs.Locate.{words_past_format}
 use Rattle.capnp_wire.specs.Tree.{Tree}
 use Rattle.capnp_wire.specs.Words.{words_of}
+use Rattle.riftcalico_core.specs.AllFaults.{any_told, refusals_lines}
 use Rattle.riftcalico_core.specs.CallsSeen.{read_call_seen}
 use Rattle.riftcalico_core.specs.Jobs.{is_packed, wants_input}
 use Rattle.riftcalico_core.specs.Notes.{place_note}
+use Rattle.riftcalico_core.specs.Replies.{AreNoted}
 use Rattle.riftcalico_core.specs.declared.answer.Answer.{Answer}
 use Rattle.riftcalico_core.specs.declared.answer.Output.{Output}
 use Rattle.riftcalico_core.specs.declared.answer.Output.TheVariants as output
@@ -42,6 +46,7 @@ use Rattle.riftcalico_core.specs.declared.fault.Blamed.{Blamed}
 use Rattle.riftcalico_core.specs.declared.fault.Blamed.TheVariants as blamed
 use Rattle.riftcalico_core.specs.declared.fault.Fault.{Fault}
 use Rattle.riftcalico_core.specs.declared.job.CallsJob.{CallsJob}
+use Rattle.riftcalico_core.specs.declared.job.CheckJob.{CheckJob}
 use Rattle.riftcalico_core.specs.declared.job.CompareJob.{CompareJob}
 use Rattle.riftcalico_core.specs.declared.job.GetJob.{GetJob}
 use Rattle.riftcalico_core.specs.declared.job.Job.{Job}
@@ -93,21 +98,55 @@ abbrev pub IsGetAnswer : GetJob → (bytes : List ℕ) → Answer → Type 0
 IsGetAnswer j bytes a = IsTextAnswer a (IsLineOf (got_text (set_of j.schema) (number_of j.schema) (path_seen j.steps.items) j.indented bytes))
 
 -- there is one, in both forms
-abbrev pub IsTextThere : GetJob → (bytes : List ℕ) → Type 0
-IsTextThere j bytes = (indented : Bool) → text_refusal (got_text (set_of j.schema) (number_of j.schema) (path_seen j.steps.items) indented bytes) ≡ None
+abbrev pub IsTextThere : StructSchema → List PathStep → (bytes : List ℕ) → Type 0
+IsTextThere s path bytes = (indented : Bool) → text_refusal (got_text (set_of s) (number_of s) path indented bytes) ≡ None
 
--- and nothing is written
-pub record IsCheckAnswer (j : GetJob) (bytes : List ℕ) (a : Answer) : Type 0 where
-  pub shown : IsTextThere j bytes
+-- there is none in both forms, and the refusal tells where
+pub record IsNotShown (s : StructSchema) (path : List PathStep) (bytes : List ℕ) (f : Fault) : Type 0 where
+  pub refused : (indented : Bool) → got_text (set_of s) (number_of s) path indented bytes ≡ Err f.error.kind
+  pub place : Place
+  pub at : IsRefusedAt (set_of s) (number_of s) path bytes f.error.kind place
+  pub told : string_bytes f.note ≡ place_note path place
+
+abbrev pub IsNotGot : GetJob → (bytes : List ℕ) → Fault → Type 0
+IsNotGot j bytes f = IsNotShown j.schema (path_seen j.steps.items) bytes f
+
+-- ---- whether there is a text, or where it is refused ----
+
+-- it is there, and nothing is written
+pub record IsShownAnswer (s : StructSchema) (path : List PathStep) (bytes : List ℕ) (a : Answer) : Type 0 where
+  pub shown : IsTextThere s path bytes
   pub output : a.output ≡ output.Nothing
   pub quiet : IsQuiet a
 
--- there is none in both forms, and the refusal tells where
-pub record IsNotShown (j : GetJob) (bytes : List ℕ) (f : Fault) : Type 0 where
-  pub refused : (indented : Bool) → got_text (set_of j.schema) (number_of j.schema) (path_seen j.steps.items) indented bytes ≡ Err f.error.kind
-  pub place : Place
-  pub at : IsRefusedAt (set_of j.schema) (number_of j.schema) (path_seen j.steps.items) bytes f.error.kind place
-  pub told : string_bytes f.note ≡ place_note (path_seen j.steps.items) place
+-- all that is refused is told, a line each
+pub record IsAllAnswer (s : StructSchema) (path : List PathStep) (bytes : List ℕ) (a : Answer) : Type 0 where
+  pub refusals : Refusals
+  pub all : AreRefusedAt (set_of s) (number_of s) path bytes refusals
+  pub told : string_bytes a.lines ≡ refusals_lines path refusals
+  pub refused : a.refused ≡ any_told refusals
+  pub output : a.output ≡ output.Nothing
+
+abbrev pub IsLookAnswer : (all : Bool) → StructSchema → List PathStep → (bytes : List ℕ) → Answer → Type 0
+IsLookAnswer true s path bytes a = IsAllAnswer s path bytes a
+IsLookAnswer false s path bytes a = IsShownAnswer s path bytes a
+
+abbrev pub IsCheckAnswer : CheckJob → (bytes : List ℕ) → Answer → Type 0
+IsCheckAnswer j bytes a = IsLookAnswer j.all j.schema (path_seen j.steps.items) bytes a
+
+-- there are more parts than may be looked at
+pub record HasTooMany (limit : ℕ) (s : StructSchema) (path : List PathStep) (bytes : List ℕ) (f : Fault) : Type 0 where
+  pub kind : f.error.kind ≡ TooLarge
+  pub more : HasMoreParts limit (set_of s) (number_of s) path bytes
+  pub note : string_bytes f.note ≡ []
+
+-- or the first refusal is told, where not all are
+abbrev pub IsUnlooked : (all : Bool) → (limit : ℕ) → StructSchema → List PathStep → (bytes : List ℕ) → Fault → Type 0
+IsUnlooked true limit s path bytes f = HasTooMany limit s path bytes f
+IsUnlooked false limit s path bytes f = IsNotShown s path bytes f ⊎ HasTooMany limit s path bytes f
+
+abbrev pub IsNotChecked : CheckJob → (bytes : List ℕ) → Fault → Type 0
+IsNotChecked j bytes f = IsUnlooked j.all j.limit j.schema (path_seen j.steps.items) bytes f
 
 -- ---- calls ----
 
@@ -130,9 +169,9 @@ IsRunOutput true packed t o = IsMessageOutput packed t o
 IsRunOutput false packed t o = o ≡ output.Nothing
 
 -- what a run left is written, unless a call was refused and it isn't kept all the same; and the replies are told
-pub record IsRunAnswer (words : List (List ℕ)) (keep_going packed : Bool) (replies : List Reply) (root : Tree) (a : Answer) : Type 0 where
-  pub output : IsRunOutput (is_kept keep_going replies) packed root a.output
-  pub told : AreTold 0 words replies [] (string_bytes a.lines)
+pub record IsRunAnswer (j : CallsJob) (calls : List record_call.Call) (replies : List Reply) (root : Tree) (a : Answer) : Type 0 where
+  pub output : IsRunOutput (is_kept j.keep_going replies) j.packed root a.output
+  pub told : AreNoted (set_of j.schema) (number_of j.schema) 0 (map (λ w. w.now) j.words.now) calls replies [] (string_bytes a.lines)
   pub refused : a.refused ≡ any_refused replies
 
 -- calls are those of the job, and leave some root
@@ -142,7 +181,7 @@ pub record IsCallsAnswer (j : CallsJob) (leaves : List Call → List Reply → T
   pub replies : List Reply
   pub root : Tree
   pub left : leaves calls replies root
-  pub answer : IsRunAnswer (map (λ w. w.now) j.words.now) j.keep_going j.packed replies root a
+  pub answer : IsRunAnswer j (map call_seen calls) replies root a
 
 abbrev pub IsPatchAnswer : CallsJob → (bytes : List ℕ) → Answer → Type 0
 IsPatchAnswer j bytes a = IsCallsAnswer j (λ calls replies root. IsLeftOfBytes j.schema bytes calls replies root) a
@@ -169,13 +208,18 @@ pub record IsConvertAnswer (strict : Bool) (bytes : List ℕ) (a : Answer) : Typ
 
 -- ---- two versions ----
 
--- the lines of what differs are written, and the newer struct follows the older one or is refused
+-- the lines of what differs are written, where more than the status is wanted
+abbrev pub IsComparisonOutput : (quiet : Bool) → (text : List ℕ) → Output → Type 0
+IsComparisonOutput true text o = o ≡ output.Nothing
+IsComparisonOutput false text o = IsTextOutput o (λ written. written ≡ text)
+
+-- and the newer struct follows the older one or is refused
 pub record IsCompareAnswer (j : CompareJob) (a : Answer) : Type 0 where
   pub newer : Schemas
   pub read : message_set j.newer.now ≡ Some newer
   pub comparison : Comparison
   pub compared : IsComparison (lists_seen j.schemas.now) newer j.name.now comparison
-  pub text : IsTextOutput a.output (λ text. text ≡ string_bytes comparison.text)
+  pub text : IsComparisonOutput j.quiet (string_bytes comparison.text) a.output
   pub told : string_bytes a.lines ≡ []
   pub refused : a.refused ≡ not comparison.follows
 
@@ -207,8 +251,8 @@ IsMessageAnswer job.Version bytes a = IsTextAnswer a (λ text. text ≡ version_
 
 -- there is no answer, for this refusal
 abbrev pub IsNoMessageAnswer : Job → (bytes : List ℕ) → Fault → Type 0
-IsNoMessageAnswer (job.Get j) bytes f = IsNotShown j bytes f
-IsNoMessageAnswer (job.Check j) bytes f = IsNotShown j bytes f
+IsNoMessageAnswer (job.Get j) bytes f = IsNotGot j bytes f
+IsNoMessageAnswer (job.Check j) bytes f = IsNotChecked j bytes f
 IsNoMessageAnswer (job.Patch j) bytes f = IsUnread bytes f.error.kind × (string_bytes f.note ≡ [])
 IsNoMessageAnswer (job.New j) bytes f = ⊥
 IsNoMessageAnswer (job.Structs schemas) bytes f = ⊥

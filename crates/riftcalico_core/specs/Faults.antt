@@ -33,6 +33,11 @@ task_set_file (fields_task r) = r.file
 task_set_file (compatible_task t) = Some t.older
 task_set_file t = None
 
+-- a file by its path, or what stands for none
+abbrev pub file_word : Option (List ℕ) → (other : List ℕ) → List ℕ
+file_word (Some path) other = path
+file_word None other = other
+
 -- the name of a task's root
 abbrev pub task_name : Task → List ℕ
 task_name (get_task t) = t.root.name
@@ -42,11 +47,6 @@ task_name (new_task t) = t.root.name
 task_name (fields_task r) = r.name
 task_name (compatible_task t) = t.name
 task_name t = []
-
--- a file by its path, or what stands for none
-abbrev pub file_word : Option (List ℕ) → (other : List ℕ) → List ℕ
-file_word (Some path) other = path
-file_word None other = other
 
 -- what is to be looked at
 abbrev pub blamed_word : Task → Blamed → List ℕ

@@ -14,13 +14,14 @@ use Rattle.capnp_schema.specs.declared.schema.structs.StructSchema.{StructSchema
 use Rattle.capnp_sets.specs.Message.{IsMessageRefusal, message_set}
 use Rattle.riftcalico_core.specs.Calls.{call_read}
 use Rattle.riftcalico_core.specs.CallsSeen.{read_call_seen}
-use Rattle.riftcalico_core.specs.Plans.{CallsPlan, ComparePlan, GetPlan, Plan, check_plan, compatible_plan, convert_plan, fields_plan, get_plan, help_plan, new_plan, patch_plan, structs_plan, version_plan}
+use Rattle.riftcalico_core.specs.Plans.{CallsPlan, CheckPlan, ComparePlan, GetPlan, Plan, check_plan, compatible_plan, convert_plan, fields_plan, get_plan, help_plan, new_plan, patch_plan, structs_plan, version_plan}
 use Rattle.riftcalico_core.specs.Reads.{each_word_read, value_line_at}
 use Rattle.riftcalico_core.specs.Wanted.{wanted_note}
 use Rattle.riftcalico_core.specs.Notes.{name_note}
 use Rattle.riftcalico_core.specs.declared.fault.Blamed.TheVariants as blamed
 use Rattle.riftcalico_core.specs.declared.fault.Fault.{Fault}
 use Rattle.riftcalico_core.specs.declared.job.CallsJob.{CallsJob}
+use Rattle.riftcalico_core.specs.declared.job.CheckJob.{CheckJob}
 use Rattle.riftcalico_core.specs.declared.job.CompareJob.{CompareJob}
 use Rattle.riftcalico_core.specs.declared.job.GetJob.{GetJob}
 use Rattle.riftcalico_core.specs.declared.job.Job.{Job}
@@ -61,12 +62,20 @@ pub record IsGetJob (p : GetPlan) (set : Schemas) (j : GetJob) : Type 0 where
   pub indented : j.indented ≡ p.indented
   pub packed : j.packed ≡ p.packed
 
+pub record IsCheckJob (p : CheckPlan) (set : Schemas) (j : CheckJob) : Type 0 where
+  pub schema : IsNamedStruct set p.root.name j.schema
+  pub path : path_seen j.steps.items ≡ p.path
+  pub all : j.all ≡ p.all
+  pub packed : j.packed ≡ p.packed
+  pub limit : j.limit ≡ p.limit
+
 pub record IsCallsJob (p : CallsPlan) (set : Schemas) (j : CallsJob) : Type 0 where
   pub schema : IsNamedStruct set p.root.name j.schema
   pub read : each_word_read (call_read set (root_type set (number_of j.schema))) 0 p.texts ≡ Ok (map read_call_seen j.calls.items)
   pub words : map (λ w. w.now) j.words.now ≡ p.words
   pub keep_going : j.keep_going ≡ p.keep_going
   pub packed : j.packed ≡ p.packed
+  pub limit : j.limit ≡ p.limit
 
 -- the value of a call can't be read under the root's struct, and the line tells which, and what stands for one of its type
 pub record IsValueUnread (p : CallsPlan) (set : Schemas) (line : List ℕ) : Type 0 where
@@ -80,10 +89,11 @@ pub record IsCompareJob (p : ComparePlan) (set : Schemas) (j : CompareJob) : Typ
   pub schemas : lists_seen j.schemas.now ≡ set
   pub name : j.name.now ≡ p.name
   pub newer : j.newer.now ≡ p.newer
+  pub quiet : j.quiet ≡ p.quiet
 
 abbrev pub IsJob : Plan → Schemas → Job → Type 0
 IsJob (get_plan p) set (job.Get j) = IsGetJob p set j
-IsJob (check_plan p) set (job.Check j) = IsGetJob p set j
+IsJob (check_plan p) set (job.Check j) = IsCheckJob p set j
 IsJob (patch_plan p) set (job.Patch j) = IsCallsJob p set j
 IsJob (new_plan p) set (job.New j) = IsCallsJob p set j
 IsJob (structs_plan file) set (job.Structs schemas) = lists_seen schemas.now ≡ set

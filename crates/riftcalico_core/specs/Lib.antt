@@ -1,3 +1,4 @@
+pub mod AllFaults
 pub mod Answers
 pub mod Calls
 pub mod CallsSeen
@@ -9,5 +10,7 @@ pub mod Numbered
 pub mod Plans
 pub mod PlansSeen
 pub mod Reads
+pub mod Replies
+pub mod RepliesSeen
 pub mod Steps
 pub mod Wanted

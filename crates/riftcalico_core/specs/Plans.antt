@@ -9,7 +9,7 @@ use Rattle.capnp_words.specs.Calls.{CallText, call_at}
 use Rattle.capnp_words.specs.Paths.{path_at}
 use Rattle.capnp_words.specs.Reads.{Read}
 use Rattle.riftcalico_core.specs.Reads.{Reads, each_word_read, line_at, unreadable_line}
-use Rattle.riftcalico_words.specs.Tasks.{CallsTask, GetTask, GivenCalls, Root, Task, check_task, compatible_task, convert_task, fields_task, get_task, help_task, in_lines, in_words, new_task, patch_task, structs_task, version_task}
+use Rattle.riftcalico_words.specs.Tasks.{CallsTask, CheckTask, GetTask, GivenCalls, Root, Task, check_task, compatible_task, convert_task, fields_task, get_task, help_task, in_lines, in_words, new_task, patch_task, structs_task, version_task}
 use Rattle.riftcalico_words.specs.declared.request.Verb.{Verb}
 
 -- the value at a path of a root
@@ -19,6 +19,14 @@ pub record GetPlan : Type 0 where
   pub indented : Bool
   pub packed : Bool
 
+-- the value at a path of a root, whether it can be shown, or where it can't
+pub record CheckPlan : Type 0 where
+  pub root : Root
+  pub path : List PathStep
+  pub all : Bool
+  pub packed : Bool
+  pub limit : ℕ
+
 -- calls on a root, with their words
 pub record CallsPlan : Type 0 where
   pub root : Root
@@ -26,15 +34,17 @@ pub record CallsPlan : Type 0 where
   pub words : List (List ℕ)
   pub keep_going : Bool
   pub packed : Bool
+  pub limit : ℕ
 
--- a struct by its name, and the bytes of the newer set
+-- a struct by its name, the bytes of the newer set, and whether only the status is wanted
 pub record ComparePlan : Type 0 where
   pub name : List ℕ
   pub newer : List ℕ
+  pub quiet : Bool
 
 pub data Plan : Type 0 where
   get_plan : GetPlan → Plan
-  check_plan : GetPlan → Plan
+  check_plan : CheckPlan → Plan
   patch_plan : CallsPlan → Plan
   new_plan : CallsPlan → Plan
   structs_plan : (file : Option (List ℕ)) → Plan
@@ -96,7 +106,7 @@ given_plan (in_words words) file = words_plan words
 given_plan (in_lines path) file = text_plan (is_utf8 file) path file
 
 abbrev pub under_root : CallsTask → Told SaidCalls → Told CallsPlan
-under_root t (Ok said) = Ok (record { root = t.root; texts = said.0; words = said.1; keep_going = t.keep_going; packed = t.packed })
+under_root t (Ok said) = Ok (record { root = t.root; texts = said.0; words = said.1; keep_going = t.keep_going; packed = t.packed; limit = t.limit })
 under_root t (Err line) = Err line
 
 abbrev pub calls_plan_of : CallsTask → (file : List ℕ) → Told CallsPlan
@@ -109,6 +119,13 @@ path_plan t (Err place) = Err (unreadable_line 1 t.path place)
 abbrev pub get_plan_of : GetTask → Told GetPlan
 get_plan_of t = path_plan t (path_at 0 t.path)
 
+abbrev pub checked_path_plan : CheckTask → Read (List PathStep) → Told CheckPlan
+checked_path_plan t (Ok path) = Ok (record { root = t.root; path = path; all = t.all; packed = t.packed; limit = t.limit })
+checked_path_plan t (Err place) = Err (unreadable_line 1 t.path place)
+
+abbrev pub check_plan_of : CheckTask → Told CheckPlan
+check_plan_of t = checked_path_plan t (path_at 0 t.path)
+
 abbrev pub as_plan : {A : Type 0} → (A → Plan) → Told A → Told Plan
 as_plan plan (Ok p) = Ok (plan p)
 as_plan plan (Err line) = Err line
@@ -116,12 +133,12 @@ as_plan plan (Err line) = Err line
 -- what a task asks, with the bytes of the file of its calls, if it has one
 abbrev pub task_plan : Task → (file : List ℕ) → Told Plan
 task_plan (get_task t) file = as_plan get_plan (get_plan_of t)
-task_plan (check_task t) file = as_plan check_plan (get_plan_of t)
+task_plan (check_task t) file = as_plan check_plan (check_plan_of t)
 task_plan (patch_task t) file = as_plan patch_plan (calls_plan_of t file)
 task_plan (new_task t) file = as_plan new_plan (calls_plan_of t file)
 task_plan (structs_task set) file = Ok (structs_plan set)
 task_plan (fields_task r) file = Ok (fields_plan r)
 task_plan (convert_task strict) file = Ok (convert_plan strict)
-task_plan (compatible_task t) file = Ok (compatible_plan (record { name = t.name; newer = file }))
+task_plan (compatible_task t) file = Ok (compatible_plan (record { name = t.name; newer = file; quiet = t.quiet }))
 task_plan (help_task v) file = Ok (help_plan v)
 task_plan version_task file = Ok version_plan

@@ -1,38 +1,42 @@
 //! What is answered to a message's bytes.
-ghost use Rattle.std.specs.Prelude.{◌≡◌, ◌≢◌, ◌⊎◌, IfErr, IfOk, IfSome, MatchOption, Some, map};
-ghost use Rattle.capnp_device.specs.declared.error.ErrorKind.TheVariants.{OutOfMemory};
+ghost use Rattle.std.specs.Prelude.{◌≡◌, ◌≢◌, ◌⊎◌, IfErr, IfOk, IfSome, MatchOption, Some, map, string_bytes};
+ghost use Rattle.capnp_device.specs.declared.error.ErrorKind.TheVariants.{OutOfMemory, TooLarge};
 ghost use Rattle.capnp_arena.specs.Message.{IsMessage, message_tree};
+ghost use Rattle.capnp_call.specs.Seen.{call_seen, path_seen};
 ghost use Rattle.capnp_patch.specs.Patches.{IsUnread};
+ghost use Rattle.capnp_patch.specs.Places.{HasMoreParts};
 ghost use Rattle.capnp_schema.specs.Entries.{lists_seen};
-ghost use Rattle.capnp_schema.specs.StructHandles.{IsStruct};
+ghost use Rattle.capnp_schema.specs.StructHandles.{IsStruct, number_of, set_of};
 ghost use Rattle.capnp_schema.specs.Schema.{Schemas};
 ghost use Rattle.capnp_set_engine.specs.Convert.{HasNoSet};
 ghost use Rattle.capnp_sets.specs.Message.{IsMessageRefusal, message_set};
 ghost use Rattle.capnp_versions.specs.Versions.{IsNotCompared};
-ghost use Rattle.riftcalico_core.specs.Answers.{IsAnswer, IsCheckAnswer, IsCompareAnswer, IsConvertAnswer, IsFieldsAnswer, IsGetAnswer, IsMessageAnswer, IsMessageOutput, IsNewAnswer, IsNoAnswer, IsNoMessageAnswer, IsNotShown, IsPackedMessage, IsPatchAnswer, IsQuiet, IsRunAnswer, IsSoundJob, IsStructsAnswer, IsTextThere, IsUncompared, IsWritableOutput, answer_blamed, compare_blamed};
+ghost use Rattle.riftcalico_core.specs.Answers.{HasTooMany, IsAllAnswer, IsAnswer, IsCheckAnswer, IsCompareAnswer, IsComparisonOutput, IsConvertAnswer, IsFieldsAnswer, IsGetAnswer, IsMessageAnswer, IsMessageOutput, IsNewAnswer, IsNoAnswer, IsNoMessageAnswer, IsNotChecked, IsNotGot, IsNotShown, IsPackedMessage, IsPatchAnswer, IsQuiet, IsRunAnswer, IsShownAnswer, IsSoundJob, IsStructsAnswer, IsTextThere, IsUncompared, IsWritableOutput, answer_blamed, compare_blamed};
+ghost use Rattle.riftcalico_core.specs.Notes.{place_note};
 ghost use Rattle.riftcalico_core.specs.Steps.Texts.{IsNoText};
 ghost use Rattle.riftcalico_core.specs.declared.fault.Blamed.TheVariants.{Input};
 
+use crate::all_faults::{any_refusal, get_refusal_lines};
 use crate::calls::make_calls;
 use crate::fault::{Blamed, Fault, Faulty, blame, get_fault};
-use crate::job::{CallsJob, CompareJob, GetJob, Job};
+use crate::job::{CallsJob, CheckJob, CompareJob, GetJob, Job};
 use crate::note::get_place_note;
+use crate::replies::get_noted_lines;
 use capnp_arena::message::Builder;
-use capnp_call::calls::any_refused;
-use capnp_call::message::{MOST_WORDS, Run, run_new};
+use capnp_call::calls::{Call, Step, any_refused};
+use capnp_call::message::{Run, run_new};
 use capnp_packed::pack::pack;
 use capnp_packed::received::read_message;
-use capnp_patch::engine::run_bytes;
+use capnp_patch::engine::{run_bytes_within, words_within};
 use capnp_patch::get::get_line;
-use capnp_patch::lines::get_lines;
-use capnp_patch::place::find_place;
+use capnp_patch::place::{Refusal, find_place, find_place_within, find_places};
 use capnp_schema::schema::StructSchema;
 use capnp_schema::set::SchemaSet;
 use capnp_set_engine::engine::convert_bytes;
 use capnp_sets::message::read_message as read_set;
 use capnp_structs::fields::get_fields;
 use capnp_structs::names::get_structs;
-use capnp_versions::compare;
+use capnp_versions::{Comparison, compare};
 use capnp_wire::error::{Error, ErrorKind, Result};
 use riftcalico_words::usage::{get_help, get_version};
 use std::alloc::Global;
@@ -75,37 +79,74 @@ fn answer_quietly(alloc: Global, output: Output) -> Answer
     }
 }
 
-/// Why a value that is asked for has no text, in both forms, and where; none where it has one. Refused with `OutOfMemory`
-/// alone.
-fn find_fault(alloc: Global, job: &GetJob<'_, '_>, message: &[u8]) -> Result<Option<Fault>>
-    requires { IsStruct job.now.schema }
-    ensures found { IfOk result (λ found. MatchOption found (IsTextThere job.now message.now)
-        (IsNotShown job.now message.now)) }
-    ensures blamed { IfOk result (λ found. IfSome found (λ f. f.blamed ≡ Input)) }
+/// A refusal of what is asked for by a path, with its place. Refused with `OutOfMemory` alone.
+fn note_fault(alloc: Global, steps: &[Step<'_>], refusal: &Refusal<'_>) -> Result<Fault>
+    ensures error { IfOk result (λ f. f.error.kind ≡ refusal.now.kind) }
+    ensures note { IfOk result (λ f. string_bytes f.note ≡ place_note (path_seen steps.now) refusal.now.place) }
+    ensures blamed { IfOk result (λ f. f.blamed ≡ Input) }
     ensures memory { IfErr result (λ e. e.kind ≡ OutOfMemory) }
 {
-    let Some(refusal) = find_place(alloc, job.schema, &job.steps, message)? else {
-        return Ok(None);
-    };
-    let note = get_place_note(alloc, &job.steps, &refusal.place)?;
-    Ok(Some(Fault {
+    let note = get_place_note(alloc, steps, &refusal.place)?;
+    Ok(Fault {
         error: Error::from(refusal.kind),
         blamed: Blamed::Input,
         note,
-    }))
+    })
+}
+
+/// Why a value that is asked for has no text, in both forms, and where; none where it has one. Refused with `OutOfMemory`
+/// alone.
+fn find_fault(
+    alloc: Global,
+    schema: StructSchema<'_>,
+    steps: &[Step<'_>],
+    message: &[u8],
+) -> Result<Option<Fault>>
+    requires { IsStruct schema }
+    ensures found { IfOk result (λ found. MatchOption found (IsTextThere schema.entry (path_seen steps.now) message.now)
+        (IsNotShown schema.entry (path_seen steps.now) message.now)) }
+    ensures blamed { IfOk result (λ found. IfSome found (λ f. f.blamed ≡ Input)) }
+    ensures memory { IfErr result (λ e. e.kind ≡ OutOfMemory) }
+{
+    let Some(refusal) = find_place(alloc, schema, steps, message)? else {
+        return Ok(None);
+    };
+    Ok(Some(note_fault(alloc, steps, &refusal)?))
+}
+
+/// The same where it has at most so many parts. Refused with `TooLarge` where it has more, and with `OutOfMemory`.
+fn find_fault_within(
+    alloc: Global,
+    schema: StructSchema<'_>,
+    steps: &[Step<'_>],
+    limit: u64,
+    message: &[u8],
+) -> Result<Option<Fault>>
+    requires { IsStruct schema }
+    ensures found { IfOk result (λ found. MatchOption found (IsTextThere schema.entry (path_seen steps.now) message.now)
+        (IsNotShown schema.entry (path_seen steps.now) message.now)) }
+    ensures blamed { IfOk result (λ found. IfSome found (λ f. f.blamed ≡ Input)) }
+    ensures too_large { IfErr result (λ e. e.kind ≡ TooLarge → HasMoreParts limit (set_of schema.entry)
+        (number_of schema.entry) (path_seen steps.now) message.now) }
+    ensures refused { IfErr result (λ e. e.kind ≢ TooLarge → e.kind ≡ OutOfMemory) }
+{
+    let Some(refusal) = find_place_within(alloc, schema, steps, message, limit)? else {
+        return Ok(None);
+    };
+    Ok(Some(note_fault(alloc, steps, &refusal)?))
 }
 
 /// The refusal of a text with its place; or that there is no memory for it.
 fn explain(alloc: Global, job: &GetJob<'_, '_>, message: &[u8], error: Error) -> Fault
     requires stands { IsStruct job.now.schema }
     requires refused { error.kind ≢ OutOfMemory → IsNoText job.now message.now error.kind }
-    ensures shown { result.error.kind ≢ OutOfMemory → IsNotShown job.now message.now result }
+    ensures shown { result.error.kind ≢ OutOfMemory → IsNotGot job.now message.now result }
     ensures blamed { result.blamed ≡ Input }
 {
     if error.kind == ErrorKind::OutOfMemory {
         return get_fault(alloc, error, Blamed::Input);
     }
-    match find_fault(alloc, job, message) {
+    match find_fault(alloc, job.schema, &job.steps, message) {
         Ok(Some(fault)) => fault,
         Ok(None) => get_fault(alloc, error, Blamed::Input),
         Err(error) => get_fault(alloc, error, Blamed::Input),
@@ -116,7 +157,7 @@ fn explain(alloc: Global, job: &GetJob<'_, '_>, message: &[u8], error: Error) ->
 fn answer_get(alloc: Global, job: &GetJob<'_, '_>, message: &[u8]) -> Faulty<Answer>
     requires { IsStruct job.now.schema }
     ensures answer { IfOk result (IsGetAnswer job.now message.now) }
-    ensures refused { IfErr result (λ f. f.error.kind ≢ OutOfMemory → IsNotShown job.now message.now f) }
+    ensures refused { IfErr result (λ f. f.error.kind ≢ OutOfMemory → IsNotGot job.now message.now f) }
     ensures blamed { IfErr result (λ f. f.blamed ≡ Input) }
 {
     match get_line(alloc, job.schema, &job.steps, message, job.indented) {
@@ -126,16 +167,64 @@ fn answer_get(alloc: Global, job: &GetJob<'_, '_>, message: &[u8]) -> Faulty<Ans
 }
 
 /// Whether a value can be shown.
-fn answer_check(alloc: Global, job: &GetJob<'_, '_>, message: &[u8]) -> Faulty<Answer>
+fn answer_shown(alloc: Global, job: &CheckJob<'_, '_>, message: &[u8]) -> Faulty<Answer>
     requires { IsStruct job.now.schema }
-    ensures answer { IfOk result (IsCheckAnswer job.now message.now) }
-    ensures refused { IfErr result (λ f. f.error.kind ≢ OutOfMemory → IsNotShown job.now message.now f) }
+    ensures answer { IfOk result (IsShownAnswer job.now.schema (path_seen job.now.steps.items) message.now) }
+    ensures refused { IfErr result (λ f. f.error.kind ≢ OutOfMemory
+        → IsNotShown job.now.schema (path_seen job.now.steps.items) message.now f
+        ⊎ HasTooMany job.now.limit job.now.schema (path_seen job.now.steps.items) message.now f) }
     ensures blamed { IfErr result (λ f. f.blamed ≡ Input) }
 {
-    match find_fault(alloc, job, message) {
+    match find_fault_within(alloc, job.schema, &job.steps, job.limit, message) {
         Ok(None) => Ok(answer_quietly(alloc, Output::Nothing)),
         Ok(Some(fault)) => Err(fault),
         Err(error) => Err(get_fault(alloc, error, Blamed::Input)),
+    }
+}
+
+/// All that can't be shown of a value. Refused with `TooLarge` where it has more parts than the limit, and with
+/// `OutOfMemory`.
+fn list_faults(alloc: Global, job: &CheckJob<'_, '_>, message: &[u8]) -> Result<Answer>
+    requires { IsStruct job.now.schema }
+    ensures answer { IfOk result (IsAllAnswer job.now.schema (path_seen job.now.steps.items) message.now) }
+    ensures too_large { IfErr result (λ e. e.kind ≡ TooLarge → HasMoreParts job.now.limit (set_of job.now.schema)
+        (number_of job.now.schema) (path_seen job.now.steps.items) message.now) }
+    ensures refused { IfErr result (λ e. e.kind ≢ TooLarge → e.kind ≡ OutOfMemory) }
+{
+    let refusals = find_places(alloc, job.schema, &job.steps, message, job.limit)?;
+    let lines = get_refusal_lines(alloc, &job.steps, &refusals)?;
+    Ok(Answer {
+        output: Output::Nothing,
+        lines,
+        refused: any_refusal(&refusals),
+    })
+}
+
+/// All that can't be shown of a value, or that it has too many parts.
+fn answer_all(alloc: Global, job: &CheckJob<'_, '_>, message: &[u8]) -> Faulty<Answer>
+    requires { IsStruct job.now.schema }
+    ensures answer { IfOk result (IsAllAnswer job.now.schema (path_seen job.now.steps.items) message.now) }
+    ensures refused { IfErr result (λ f. f.error.kind ≢ OutOfMemory
+        → HasTooMany job.now.limit job.now.schema (path_seen job.now.steps.items) message.now f) }
+    ensures blamed { IfErr result (λ f. f.blamed ≡ Input) }
+{
+    match list_faults(alloc, job, message) {
+        Ok(answer) => Ok(answer),
+        Err(error) => Err(get_fault(alloc, error, Blamed::Input)),
+    }
+}
+
+/// Whether a value can be shown, or all that can't.
+fn answer_check(alloc: Global, job: &CheckJob<'_, '_>, message: &[u8]) -> Faulty<Answer>
+    requires { IsStruct job.now.schema }
+    ensures answer { IfOk result (IsCheckAnswer job.now message.now) }
+    ensures refused { IfErr result (λ f. f.error.kind ≢ OutOfMemory → IsNotChecked job.now message.now f) }
+    ensures blamed { IfErr result (λ f. f.blamed ≡ Input) }
+{
+    if job.all {
+        answer_all(alloc, job, message)
+    } else {
+        answer_shown(alloc, job, message)
     }
 }
 
@@ -167,21 +256,21 @@ fn get_output(alloc: Global, message: Builder, packed: bool) -> Result<Output>
 fn answer_run(
     alloc: Global,
     run: Run,
-    words: &[&str],
-    keep_going: bool,
-    packed: bool,
+    job: &CallsJob<'_, '_, '_>,
+    calls: &[Call<'_>],
 ) -> Result<Answer>
-    requires { IsMessage run.message }
-    ensures answer { IfOk result (IsRunAnswer (map (λ w. w.now) words.now) keep_going packed run.replies.items
+    requires message { IsMessage run.message }
+    requires stands { IsStruct job.now.schema }
+    ensures answer { IfOk result (IsRunAnswer job.now (map call_seen calls.now) run.replies.items
         (message_tree run.message)) }
     ensures writable { IfOk result (λ a. IsWritableOutput a.output) }
     ensures memory { IfErr result (λ e. e.kind ≡ OutOfMemory) }
 {
     let Run { message, replies } = run;
-    let lines = get_lines(alloc, words, &replies)?;
+    let lines = get_noted_lines(alloc, job.schema, job.words, calls, &replies)?;
     let refused = any_refused(&replies);
-    let output = if keep_going || !refused {
-        get_output(alloc, message, packed)?
+    let output = if job.keep_going || !refused {
+        get_output(alloc, message, job.packed)?
     } else {
         Output::Nothing
     };
@@ -200,8 +289,8 @@ fn answer_patch(alloc: Global, job: &CallsJob<'_, '_, '_>, message: &[u8]) -> Re
     ensures refused { IfErr result (λ e. e.kind ≢ OutOfMemory → IsUnread message.now e.kind) }
 {
     let calls = make_calls(alloc, &job.calls)?;
-    let run = run_bytes(alloc, message, job.schema, &calls)?;
-    answer_run(alloc, run, job.words, job.keep_going, job.packed)
+    let run = run_bytes_within(alloc, words_within(job.limit), message, job.schema, &calls)?;
+    answer_run(alloc, run, job, &calls)
 }
 
 /// The message that calls leave of an empty root.
@@ -212,8 +301,8 @@ fn answer_new(alloc: Global, job: &CallsJob<'_, '_, '_>) -> Result<Answer>
     ensures memory { IfErr result (λ e. e.kind ≡ OutOfMemory) }
 {
     let calls = make_calls(alloc, &job.calls)?;
-    let run = run_new(alloc, MOST_WORDS, job.schema, &calls)?;
-    answer_run(alloc, run, job.words, job.keep_going, job.packed)
+    let run = run_new(alloc, words_within(job.limit), job.schema, &calls)?;
+    answer_run(alloc, run, job, &calls)
 }
 
 /// The structs of a set, as text.
@@ -259,25 +348,40 @@ fn compare_blamed(kind: ErrorKind) -> Blamed
     }
 }
 
+/// The text of a comparison, where more than the status is wanted.
+fn get_comparison_output(quiet: bool, text: String) -> Output
+    ensures written { IsComparisonOutput quiet (string_bytes text) result }
+    ensures writable { IsWritableOutput result }
+{
+    if quiet {
+        Output::Nothing
+    } else {
+        Output::Text(text)
+    }
+}
+
 /// What differs between two versions, as text.
 fn compare_versions(alloc: Global, job: &CompareJob<'_, '_>) -> Result<Answer>
     ensures answer { IfOk result (IsCompareAnswer job.now) }
+    ensures writable { IfOk result (λ a. IsWritableOutput a.output) }
     ensures refused { IfErr result (λ e. e.kind ≢ OutOfMemory → IsMessageRefusal job.now.newer.now e
         ⊎ ((newer : Schemas) × (message_set job.now.newer.now ≡ Some newer)
         × IsNotCompared (lists_seen job.now.schemas.now) newer job.now.name.now e.kind)) }
 {
     let newer = read_set(alloc, job.newer)?;
     let comparison = compare(alloc, job.schemas, &newer, job.name)?;
+    let Comparison { text, follows } = comparison;
     Ok(Answer {
-        output: Output::Text(comparison.text),
+        output: get_comparison_output(job.quiet, text),
         lines: String::new(alloc),
-        refused: !comparison.follows,
+        refused: !follows,
     })
 }
 
 /// What differs between two versions, or what is to be looked at.
 fn answer_compare(alloc: Global, job: &CompareJob<'_, '_>) -> Faulty<Answer>
     ensures answer { IfOk result (IsCompareAnswer job.now) }
+    ensures writable { IfOk result (λ a. IsWritableOutput a.output) }
     ensures refused { IfErr result (λ f. f.error.kind ≢ OutOfMemory → IsUncompared job.now f) }
     ensures blamed { IfErr result (λ f. f.blamed ≡ compare_blamed f.error.kind) }
 {

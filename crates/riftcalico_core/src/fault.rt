@@ -64,25 +64,13 @@ pub fn get_set_file<'a>(task: &Task<'a>) -> Option<&'a str>
     ensures { option_map (λ f. f.now) result ≡ task_set_file (task_seen task.now) }
 {
     match task {
-        Task::Get(request) | Task::Check(request) => request.root.file,
+        Task::Get(request) => request.root.file,
+        Task::Check(request) => request.root.file,
         Task::Patch(request) | Task::New(request) => request.root.file,
         Task::Structs(file) => *file,
         Task::Fields(root) => root.file,
         Task::Compatible(request) => Some(request.older),
         Task::Convert(_) | Task::Help(_) | Task::Version => None,
-    }
-}
-
-/// The name of a task's root, empty where it has none.
-fn get_name<'a>(task: &Task<'a>) -> &'a str
-    ensures { result.now ≡ task_name (task_seen task.now) }
-{
-    match task {
-        Task::Get(request) | Task::Check(request) => request.root.name,
-        Task::Patch(request) | Task::New(request) => request.root.name,
-        Task::Fields(root) => root.name,
-        Task::Compatible(request) => request.name,
-        Task::Structs(_) | Task::Convert(_) | Task::Help(_) | Task::Version => "",
     }
 }
 
@@ -93,6 +81,20 @@ fn get_file_word<'a>(file: Option<&'a str>, other: &'a str) -> &'a str
     match file {
         Some(path) => path,
         None => other,
+    }
+}
+
+/// The name of a task's root, empty where it has none.
+fn get_name<'a>(task: &Task<'a>) -> &'a str
+    ensures { result.now ≡ task_name (task_seen task.now) }
+{
+    match task {
+        Task::Get(request) => request.root.name,
+        Task::Check(request) => request.root.name,
+        Task::Patch(request) | Task::New(request) => request.root.name,
+        Task::Fields(root) => root.name,
+        Task::Compatible(request) => request.name,
+        Task::Structs(_) | Task::Convert(_) | Task::Help(_) | Task::Version => "",
     }
 }
 

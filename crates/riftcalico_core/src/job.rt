@@ -3,13 +3,13 @@ ghost use Rattle.std.specs.Prelude.{◌≡◌, ◌≢◌, IfErr, IfOk, MatchResu
 ghost use Rattle.riftcalico_core.specs.declared.fault.Blamed.TheVariants.{Name};
 ghost use Rattle.capnp_device.specs.declared.error.ErrorKind.TheVariants.{OutOfMemory};
 ghost use Rattle.capnp_schema.specs.Entries.{lists_seen};
-ghost use Rattle.riftcalico_core.specs.Jobs.{IsCallsJob, IsGetJob, IsJob, IsLineOfPlan, IsNamedStruct, IsNotNamed, IsRootUnnamed, IsValueUnread, is_packed, wants_input};
-ghost use Rattle.riftcalico_core.specs.PlansSeen.{calls_plan_seen, get_plan_seen, plan_seen};
+ghost use Rattle.riftcalico_core.specs.Jobs.{IsCallsJob, IsCheckJob, IsGetJob, IsJob, IsLineOfPlan, IsNamedStruct, IsNotNamed, IsRootUnnamed, IsValueUnread, is_packed, wants_input};
+ghost use Rattle.riftcalico_core.specs.PlansSeen.{calls_plan_seen, check_plan_seen, get_plan_seen, plan_seen};
 
 use crate::calls::{ReadCall, read_all_calls, steps_of};
 use crate::fault::{Blamed, Fault, Faulty, blame, get_fault};
 use crate::near::get_near_structs;
-use crate::plan::{CallsPlan, GetPlan, Plan, Told};
+use crate::plan::{CallsPlan, CheckPlan, GetPlan, Plan, Told};
 use crate::schemas::find_schema;
 use crate::wanted::get_wanted;
 use crate::words::put_value_line;
@@ -29,8 +29,19 @@ pub struct GetJob<'s, 'c> {
     pub packed: bool,
 }
 
-/// Calls with their values, each with its word, whether what they leave is written where one is refused, and whether
-/// messages come and go packed.
+/// Whether what stands at a path can be shown, or where it can't, first or everywhere; whether the message comes packed; and
+/// the most parts that may be looked at.
+#[derive(Drop)]
+pub struct CheckJob<'s, 'c> {
+    pub schema: StructSchema<'s>,
+    pub steps: Vec<Step<'c>>,
+    pub all: bool,
+    pub packed: bool,
+    pub limit: u64,
+}
+
+/// Calls with their values, each with its word, whether what they leave is written where one is refused, whether messages
+/// come and go packed, and the most bytes that one may have that is made.
 #[derive(Drop)]
 pub struct CallsJob<'s, 'c, 'w> {
     pub schema: StructSchema<'s>,
@@ -38,14 +49,16 @@ pub struct CallsJob<'s, 'c, 'w> {
     pub words: &'c [&'w str],
     pub keep_going: bool,
     pub packed: bool,
+    pub limit: u64,
 }
 
-/// The struct of a name, which is compared with that of the set in these bytes.
+/// The struct of a name, which is compared with that of the set in these bytes, and whether only the status is wanted.
 #[derive(Clone, Copy)]
 pub struct CompareJob<'s, 'c> {
     pub schemas: &'s SchemaSet,
     pub name: &'c str,
     pub newer: &'c [u8],
+    pub quiet: bool,
 }
 
 /// What is done to a message.
@@ -54,7 +67,7 @@ pub enum Job<'s, 'c, 'w> {
     /// A value of it is shown.
     Get(GetJob<'s, 'c>),
     /// A value of it is looked at, whether it can be shown.
-    Check(GetJob<'s, 'c>),
+    Check(CheckJob<'s, 'c>),
     /// Calls are made on a copy of it.
     Patch(CallsJob<'s, 'c, 'w>),
     /// Calls are made on an empty root, and no message is read.
@@ -79,7 +92,8 @@ impl Job<'_, '_, '_> {
         ensures { result ≡ is_packed self.now }
     {
         match self {
-            Job::Get(job) | Job::Check(job) => job.packed,
+            Job::Get(job) => job.packed,
+            Job::Check(job) => job.packed,
             Job::Patch(job) => job.packed,
             Job::New(_)
             | Job::Structs(_)
@@ -96,7 +110,10 @@ impl Job<'_, '_, '_> {
         ensures { result ≡ wants_input self.now }
     {
         match self {
-            Job::Get(_) | Job::Check(_) | Job::Patch(_) | Job::Convert(_) => true,
+            Job::Get(_)
+            | Job::Check(_)
+            | Job::Patch(_)
+            | Job::Convert(_) => true,
             Job::New(_)
             | Job::Structs(_)
             | Job::Fields(_)
@@ -149,6 +166,28 @@ fn find_get_job<'s, 'c>(
     })
 }
 
+/// A value that is looked at, under the struct of its root. Refused as `find_root`, and with `OutOfMemory`.
+fn find_check_job<'s, 'c>(
+    alloc: Global,
+    schemas: &'s SchemaSet,
+    plan: &'c CheckPlan<'_>,
+) -> Faulty<CheckJob<'s, 'c>>
+    ensures job { IfOk result (IsCheckJob (check_plan_seen plan.now) (lists_seen schemas.now)) }
+    ensures refused { IfErr result (λ f. f.error.kind ≢ OutOfMemory
+        → IsNotNamed (lists_seen schemas.now) (check_plan_seen plan.now).root.name f) }
+    ensures blamed { IfErr result (λ f. f.blamed ≡ Name) }
+{
+    let schema = find_root(alloc, schemas, plan.root.name)?;
+    let steps = blame(alloc, steps_of(alloc, &plan.path), Blamed::Name)?;
+    Ok(CheckJob {
+        schema,
+        steps,
+        all: plan.all,
+        packed: plan.packed,
+        limit: plan.limit,
+    })
+}
+
 /// Calls under a struct, or the line of the first whose value can't be read. Refused with `OutOfMemory` alone.
 fn read_under<'s, 'c, 'w>(
     alloc: Global,
@@ -168,6 +207,7 @@ fn read_under<'s, 'c, 'w>(
             words: plan.words.as_slice(),
             keep_going: plan.keep_going,
             packed: plan.packed,
+            limit: plan.limit,
         })),
         Err(at) => {
             let note = get_wanted(alloc, schema, &plan.texts[at.index].path)?;
@@ -212,7 +252,7 @@ pub fn find_job<'s, 'c, 'w>(
 {
     match plan {
         Plan::Get(plan) => Ok(Ok(Job::Get(find_get_job(alloc, schemas, plan)?))),
-        Plan::Check(plan) => Ok(Ok(Job::Check(find_get_job(alloc, schemas, plan)?))),
+        Plan::Check(plan) => Ok(Ok(Job::Check(find_check_job(alloc, schemas, plan)?))),
         Plan::Patch(plan) => match find_calls_job(alloc, schemas, plan)? {
             Ok(job) => Ok(Ok(Job::Patch(job))),
             Err(line) => Ok(Err(line)),
@@ -228,6 +268,7 @@ pub fn find_job<'s, 'c, 'w>(
             schemas,
             name: plan.name,
             newer: plan.newer,
+            quiet: plan.quiet,
         }))),
         Plan::Help(verb) => Ok(Ok(Job::Help(*verb))),
         Plan::Version => Ok(Ok(Job::Version)),

@@ -2,6 +2,7 @@
 //! a plan, a set and a message's bytes to an answer.
 #![tactic(auto)]
 
+mod all_faults;
 pub mod answer;
 pub mod calls;
 pub mod fault;
@@ -10,6 +11,7 @@ mod near;
 mod note;
 pub mod numbered;
 pub mod plan;
+mod replies;
 pub mod schemas;
 mod wanted;
 mod words;

@@ -4,6 +4,7 @@ ghost use Rattle.capnp_device.specs.declared.error.ErrorKind.TheVariants.{OutOfM
 ghost use Rattle.capnp_call.specs.Seen.{path_seen, step_seen};
 ghost use Rattle.capnp_records.specs.Call.{FieldNumber};
 ghost use Rattle.capnp_words.specs.Paths.{step_word};
+ghost use Rattle.riftcalico_core.specs.AllFaults.{part_note};
 ghost use Rattle.riftcalico_core.specs.Notes.{at_note, meant_note, place_note, within_note, words_behind_points};
 
 use crate::near::get_near_fields;
@@ -61,7 +62,7 @@ fn get_meant(alloc: Global, schema: StructSchema<'_>, step: Step<'_>) -> Result<
 }
 
 /// Appends the struct or group that was asked for a field that isn't there, and what may have been meant.
-fn put_within(
+pub(crate) fn put_within(
     note: &mut String,
     within: Option<StructSchema<'_>>,
     kind: ErrorKind,
@@ -100,8 +101,8 @@ fn steps_to<'p, 'a>(path: &'p [Step<'a>], index: usize) -> &'p [Step<'a>]
     }
 }
 
-/// The note of a step that is refused.
-fn get_step_note(alloc: Global, path: &[Step<'_>], refused: RefusedStep<'_>) -> Result<String>
+/// The note of a step that is refused. Refused with `OutOfMemory` alone.
+pub(crate) fn get_step_note(alloc: Global, path: &[Step<'_>], refused: RefusedStep<'_>) -> Result<String>
     ensures note { IfOk result (λ note. string_bytes note ≡ place_note (path_seen path.now) (Place.Step refused.entry)) }
     ensures memory { IfErr result (λ e. e.kind ≡ OutOfMemory) }
 {
@@ -112,6 +113,16 @@ fn get_step_note(alloc: Global, path: &[Step<'_>], refused: RefusedStep<'_>) -> 
     Ok(note)
 }
 
+/// The note of a part of what stands at a path, by its words. Refused with `OutOfMemory` alone.
+pub(crate) fn get_part_note(alloc: Global, path: &[Step<'_>], part: &str) -> Result<String>
+    ensures note { IfOk result (λ note. string_bytes note ≡ part_note (path_seen path.now) part.now) }
+    ensures memory { IfErr result (λ e. e.kind ≡ OutOfMemory) }
+{
+    let mut words = get_words(alloc, path)?;
+    words.push_str(part)?;
+    get_at(alloc, words.as_str())
+}
+
 /// The note of what is refused of a value that is asked for by a path. Refused with `OutOfMemory` alone.
 pub(crate) fn get_place_note(alloc: Global, path: &[Step<'_>], place: &Place<'_>) -> Result<String>
     ensures note { IfOk result (λ note. string_bytes note ≡ place_note (path_seen path.now) place.now) }
@@ -120,10 +131,6 @@ pub(crate) fn get_place_note(alloc: Global, path: &[Step<'_>], place: &Place<'_>
     match place {
         Place::Root => Ok(String::new(alloc)),
         Place::Step(refused) => get_step_note(alloc, path, *refused),
-        Place::Part(found) => {
-            let mut words = get_words(alloc, path)?;
-            words.push_str(found.words.as_str())?;
-            get_at(alloc, words.as_str())
-        }
+        Place::Part(found) => get_part_note(alloc, path, found.words.as_str()),
     }
 }

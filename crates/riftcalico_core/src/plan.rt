@@ -3,17 +3,17 @@ ghost use Rattle.std.specs.Prelude.{◌≡◌, IfErr, IfOk, map};
 ghost use Rattle.std.specs.Option.{option_map};
 ghost use Rattle.std.specs.Str.{is_utf8};
 ghost use Rattle.capnp_device.specs.declared.error.ErrorKind.TheVariants.{OutOfMemory};
-ghost use Rattle.riftcalico_core.specs.Plans.{calls_file, calls_plan_of, get_plan_of, given_file, given_plan, task_plan, text_plan, words_plan};
+ghost use Rattle.riftcalico_core.specs.Plans.{calls_file, calls_plan_of, check_plan_of, get_plan_of, given_file, given_plan, task_plan, text_plan, words_plan};
 ghost use Rattle.riftcalico_core.specs.PlansSeen.{told_plan};
-ghost use Rattle.riftcalico_core.specs.Steps.Plans.{told_calls, told_calls_plan, told_get_plan};
-ghost use Rattle.riftcalico_words.specs.RequestSeen.{calls_task_of, get_task_of, given_of, task_seen};
+ghost use Rattle.riftcalico_core.specs.Steps.Plans.{told_calls, told_calls_plan, told_check_plan, told_get_plan};
+ghost use Rattle.riftcalico_words.specs.RequestSeen.{calls_task_of, check_task_of, get_task_of, given_of, task_seen};
 
 use crate::calls::read_calls;
 use crate::words::{put_no_text, put_unreadable, put_word_line, split_lines};
 use capnp_wire::error::Result;
 use capnp_words::call::CallWord;
 use capnp_words::path::{Path, parse_path};
-use riftcalico_words::request::{CallWords, CallsRequest, GetRequest, NamedRoot, Task, Verb};
+use riftcalico_words::request::{CallWords, CallsRequest, CheckRequest, GetRequest, NamedRoot, Task, Verb};
 use std::alloc::Global;
 use std::str;
 
@@ -29,6 +29,16 @@ pub struct GetPlan<'a> {
     pub packed: bool,
 }
 
+/// The value at a path of a root, whether it can be shown, or where it can't, first or everywhere.
+#[derive(Drop)]
+pub struct CheckPlan<'a> {
+    pub root: NamedRoot<'a>,
+    pub path: Path,
+    pub all: bool,
+    pub packed: bool,
+    pub limit: u64,
+}
+
 /// Calls on a root, each with its word, and whether what they leave is written where one was refused.
 #[derive(Drop)]
 pub struct CallsPlan<'a> {
@@ -37,13 +47,15 @@ pub struct CallsPlan<'a> {
     pub words: Vec<&'a str>,
     pub keep_going: bool,
     pub packed: bool,
+    pub limit: u64,
 }
 
-/// The struct of a name, which is compared with that of the set in these bytes.
+/// The struct of a name, which is compared with that of the set in these bytes, and whether only the status is wanted.
 #[derive(Clone, Copy)]
 pub struct ComparePlan<'a> {
     pub name: &'a str,
     pub newer: &'a [u8],
+    pub quiet: bool,
 }
 
 /// What is to be done.
@@ -51,8 +63,8 @@ pub struct ComparePlan<'a> {
 pub enum Plan<'a> {
     /// The value at a path is shown.
     Get(GetPlan<'a>),
-    /// It is looked at, whether it can be shown.
-    Check(GetPlan<'a>),
+    /// The value at a path is looked at, whether it can be shown.
+    Check(CheckPlan<'a>),
     /// Calls are made on a copy of a message.
     Patch(CallsPlan<'a>),
     /// Calls are made on an empty root.
@@ -168,6 +180,7 @@ fn plan_calls<'a>(
             words,
             keep_going: request.keep_going,
             packed: request.packed,
+            limit: request.limit,
         })),
         Err(line) => Ok(Err(line)),
     }
@@ -192,6 +205,26 @@ fn plan_get<'a>(alloc: Global, request: GetRequest<'a>) -> Result<Told<GetPlan<'
     }
 }
 
+/// The value at a path that is looked at, whose word is read. Refused with `OutOfMemory` alone.
+fn plan_check<'a>(alloc: Global, request: CheckRequest<'a>) -> Result<Told<CheckPlan<'a>>>
+    ensures planned { IfOk result (λ r. told_check_plan r ≡ check_plan_of (check_task_of request.entry)) }
+    ensures memory { IfErr result (λ e. e.kind ≡ OutOfMemory) }
+{
+    match parse_path(alloc, request.path)? {
+        Ok(path) => Ok(Ok(CheckPlan {
+            root: request.root,
+            path,
+            all: request.all,
+            packed: request.packed,
+            limit: request.limit,
+        })),
+        Err(place) => {
+            let line = put_unreadable(alloc, 1, request.path, place as u128)?;
+            Ok(Err(line))
+        }
+    }
+}
+
 /// What a task asks, once its words are read; or the line that tells which of them can't be. `file` has the bytes of the
 /// file of its calls, or of the newer set, if it has one. Refused with `OutOfMemory` alone.
 pub fn read_plan<'a>(alloc: Global, task: &Task<'a>, file: &'a [u8]) -> Result<Told<Plan<'a>>>
@@ -203,7 +236,7 @@ pub fn read_plan<'a>(alloc: Global, task: &Task<'a>, file: &'a [u8]) -> Result<T
             Ok(plan) => Ok(Ok(Plan::Get(plan))),
             Err(line) => Ok(Err(line)),
         },
-        Task::Check(request) => match plan_get(alloc, *request)? {
+        Task::Check(request) => match plan_check(alloc, *request)? {
             Ok(plan) => Ok(Ok(Plan::Check(plan))),
             Err(line) => Ok(Err(line)),
         },
@@ -221,6 +254,7 @@ pub fn read_plan<'a>(alloc: Global, task: &Task<'a>, file: &'a [u8]) -> Result<T
         Task::Compatible(request) => Ok(Ok(Plan::Compatible(ComparePlan {
             name: request.name,
             newer: file,
+            quiet: request.quiet,
         }))),
         Task::Help(verb) => Ok(Ok(Plan::Help(*verb))),
         Task::Version => Ok(Ok(Plan::Version)),

@@ -9,11 +9,14 @@ abbrev pub options_seen : Options → WordOptions
 options_seen o = record {
   set = option_map (λ w. w.now) o.set;
   calls = option_map (λ w. w.now) o.calls;
+  limit = option_map (λ w. w.now) o.limit;
   indent = o.indent;
   keep_going = o.keep_going;
   packed = o.packed;
   each = o.each;
   strict = o.strict;
+  all = o.all;
+  quiet = o.quiet;
   help = o.help;
   others = map (λ w. w.now) o.others.items;
   waiting = o.waiting;

@@ -1,8 +1,13 @@
 -- How words ask for it.
-use Rattle.std.specs.Prelude.{ℕ, List, [], ◌∷◌, Bool, true, false, not, ◌&&◌, ◌||◌, Option, Some, None, Result, Ok, Err, is_none, is_some, codes, bytes_eq, if◌then◌else◌}
+use Rattle.std.specs.Prelude.{ℕ, List, [], ◌∷◌, ◌^◌, Bool, true, false, not, ◌&&◌, ◌||◌, Option, Some, None, Result, Ok, Err, is_some, codes, bytes_eq, if◌then◌else◌}
 use Rattle.std.specs.Option.{option_map}
+use Rattle.riftcalico_words.specs.Numbers.{number_asked}
 use Rattle.riftcalico_words.specs.Options.{WordOptions, no_options, options_read}
-use Rattle.riftcalico_words.specs.Tasks.{CallsTask, GivenCalls, Task, check_task, compatible_task, convert_task, fields_task, get_task, help_task, in_lines, in_words, new_task, patch_task, structs_task, version_task}
+use Rattle.riftcalico_words.specs.Tasks.{CallsTask, GetTask, GivenCalls, Task, check_task, compatible_task, convert_task, fields_task, get_task, help_task, in_lines, in_words, new_task, patch_task, structs_task, version_task}
+use Rattle.riftcalico_words.specs.declared.options.Flag.{Flag}
+use Rattle.riftcalico_words.specs.declared.options.Flag.TheVariants as flag
+use Rattle.riftcalico_words.specs.declared.options.ValueOption.{ValueOption}
+use Rattle.riftcalico_words.specs.declared.options.ValueOption.TheVariants as value
 use Rattle.riftcalico_words.specs.declared.request.Messages.{Messages}
 use Rattle.riftcalico_words.specs.declared.request.Messages.TheVariants as messages
 use Rattle.riftcalico_words.specs.declared.request.Verb.{Verb}
@@ -13,6 +18,7 @@ pub data WordFault : Type 0 where
   no_verb : WordFault
   unknown_verb : (word : List ℕ) → WordFault
   unknown_option : Verb → (word : List ℕ) → WordFault
+  no_bytes : Verb → (word : List ℕ) → WordFault
   other_words : Verb → WordFault
 
 abbrev pub AskedRequest : Type 0
@@ -39,20 +45,110 @@ messages_by true true = messages.EachGoing
 abbrev pub messages_of : WordOptions → Messages
 messages_of o = messages_by o.each o.keep_going
 
--- whether a verb that only reads takes the options on messages: it goes on behind one that is refused where there are several
-abbrev pub reads_fit : WordOptions → Bool
-reads_fit o = is_none o.calls && not o.strict && (o.each || not o.keep_going)
+-- ---- which options a verb takes ----
 
--- whether a verb takes the options that stand there
+-- the verbs that only read messages, and those that take messages, or give one
+abbrev pub is_reading : Verb → Bool
+is_reading verb.Show = true
+is_reading verb.Get = true
+is_reading verb.Check = true
+is_reading v = false
+
+abbrev pub is_on_messages : Verb → Bool
+is_on_messages verb.Patch = true
+is_on_messages verb.New = true
+is_on_messages v = is_reading v
+
+abbrev pub is_with_calls : Verb → Bool
+is_with_calls verb.Patch = true
+is_with_calls verb.New = true
+is_with_calls v = false
+
+abbrev pub is_comparison : Verb → Bool
+is_comparison verb.Compatible = true
+is_comparison v = false
+
+abbrev pub takes_set : Verb → Bool
+takes_set verb.Structs = true
+takes_set v = is_on_messages v
+
+-- of a text that is shown no limit is kept
+abbrev pub takes_limit : Verb → Bool
+takes_limit verb.Show = false
+takes_limit verb.Get = false
+takes_limit v = is_on_messages v
+
+abbrev pub takes_value : Verb → ValueOption → Bool
+takes_value v value.Set = takes_set v
+takes_value v value.Calls = is_with_calls v
+takes_value v value.Limit = takes_limit v
+
+abbrev pub takes_indent : Verb → Bool
+takes_indent verb.Check = false
+takes_indent v = is_reading v
+
+abbrev pub takes_each : Verb → Bool
+takes_each verb.Patch = true
+takes_each v = is_reading v
+
+abbrev pub takes_strict : Verb → Bool
+takes_strict verb.Schemas = true
+takes_strict v = false
+
+abbrev pub takes_all : Verb → Bool
+takes_all verb.Check = true
+takes_all v = false
+
+abbrev pub takes_flag : Verb → Flag → Bool
+takes_flag v flag.Indent = takes_indent v
+takes_flag v flag.KeepGoing = is_reading v || is_with_calls v
+takes_flag v flag.Packed = is_on_messages v
+takes_flag v flag.Each = takes_each v
+takes_flag v flag.Strict = takes_strict v
+takes_flag v flag.All = takes_all v
+takes_flag v flag.Quiet = is_comparison v
+takes_flag v flag.Help = true
+
+-- an option stands only where its verb takes it
+abbrev pub is_allowed : (stands takes : Bool) → Bool
+is_allowed stands takes = not stands || takes
+
+abbrev pub values_fit : Verb → WordOptions → Bool
+values_fit v o =
+    is_allowed (is_some o.set) (takes_value v value.Set)
+    && is_allowed (is_some o.calls) (takes_value v value.Calls)
+    && is_allowed (is_some o.limit) (takes_value v value.Limit)
+
+abbrev pub flags_fit : Verb → WordOptions → Bool
+flags_fit v o =
+    is_allowed o.indent (takes_flag v flag.Indent)
+    && is_allowed o.keep_going (takes_flag v flag.KeepGoing)
+    && is_allowed o.packed (takes_flag v flag.Packed)
+    && is_allowed o.each (takes_flag v flag.Each)
+    && is_allowed o.strict (takes_flag v flag.Strict)
+    && is_allowed o.all (takes_flag v flag.All)
+    && is_allowed o.quiet (takes_flag v flag.Quiet)
+
+-- a verb that only reads goes on behind a message that is refused where there are several
+abbrev pub going_fits : Verb → WordOptions → Bool
+going_fits v o = not (is_reading v) || not o.keep_going || o.each
+
 abbrev pub is_fitting : Verb → WordOptions → Bool
-is_fitting verb.Show o = reads_fit o
-is_fitting verb.Get o = reads_fit o
-is_fitting verb.Check o = not o.indent && reads_fit o
-is_fitting verb.Patch o = not o.indent && not o.strict
-is_fitting verb.New o = not o.indent && not o.strict && not o.each
-is_fitting verb.Structs o = is_none o.calls && not o.indent && not o.keep_going && not o.packed && not o.each && not o.strict
-is_fitting verb.Schemas o = is_none o.set && is_none o.calls && not o.indent && not o.keep_going && not o.packed && not o.each
-is_fitting verb.Compatible o = is_none o.set && is_none o.calls && not o.indent && not o.keep_going && not o.packed && not o.each && not o.strict
+is_fitting v o = values_fit v o && flags_fit v o && going_fits v o
+
+-- ---- what is asked ----
+
+-- the most bytes that are made, 1 GiB where no number is given; or the word that is none
+abbrev pub default_limit : ℕ
+default_limit = 2 ^ 30
+
+abbrev pub limit_read : (word : List ℕ) → Option ℕ → Result ℕ (List ℕ)
+limit_read word (Some number) = Ok number
+limit_read word None = Err word
+
+abbrev pub limit_asked : Option (List ℕ) → Result ℕ (List ℕ)
+limit_asked None = Ok default_limit
+limit_asked (Some word) = limit_read word (number_asked word)
 
 -- calls are words or the lines of a file, not both
 abbrev pub given_asked : (file : Option (List ℕ)) → List (List ℕ) → Option GivenCalls
@@ -61,27 +157,36 @@ given_asked (Some path) [] = Some (in_lines path)
 given_asked (Some path) (word ∷ words) = None
 
 -- a root's name, and calls on it
-abbrev pub named_calls : WordOptions → List (List ℕ) → Option CallsTask
-named_calls o [] = None
-named_calls o (name ∷ words) =
-    option_map (λ given. record { root = record { file = o.set; name = name }; calls = given; keep_going = o.keep_going; packed = o.packed; messages = messages_of o }) (given_asked o.calls words)
+abbrev pub named_calls : WordOptions → (limit : ℕ) → List (List ℕ) → Option CallsTask
+named_calls o limit [] = None
+named_calls o limit (name ∷ words) =
+    option_map (λ given. record { root = record { file = o.set; name = name }; calls = given; keep_going = o.keep_going; packed = o.packed; messages = messages_of o; limit = limit })
+    (given_asked o.calls words)
 
-abbrev pub calls_asked : WordOptions → Option CallsTask
-calls_asked o = named_calls o o.others
+abbrev pub calls_asked : WordOptions → (limit : ℕ) → Option CallsTask
+calls_asked o limit = named_calls o limit o.others
 
 -- what is asked of a message that is shown, or of a set, by the other words
+abbrev pub shown_of : WordOptions → (name path : List ℕ) → GetTask
+shown_of o name path =
+    record { root = record { file = o.set; name = name }; path = path; indented = o.indent; packed = o.packed; messages = messages_of o }
+
 abbrev pub show_asked : WordOptions → List (List ℕ) → Option Task
-show_asked o (name ∷ []) = Some (get_task (record { root = record { file = o.set; name = name }; path = codes "."; indented = o.indent; packed = o.packed; messages = messages_of o }))
+show_asked o (name ∷ []) = Some (get_task (shown_of o name (codes ".")))
 show_asked o words = None
 
 abbrev pub get_asked : WordOptions → List (List ℕ) → Option Task
-get_asked o (name ∷ path ∷ []) = Some (get_task (record { root = record { file = o.set; name = name }; path = path; indented = o.indent; packed = o.packed; messages = messages_of o }))
+get_asked o (name ∷ path ∷ []) = Some (get_task (shown_of o name path))
 get_asked o words = None
 
-abbrev pub check_asked : WordOptions → List (List ℕ) → Option Task
-check_asked o (name ∷ []) = Some (check_task (record { root = record { file = o.set; name = name }; path = codes "."; indented = false; packed = o.packed; messages = messages_of o }))
-check_asked o (name ∷ path ∷ []) = Some (check_task (record { root = record { file = o.set; name = name }; path = path; indented = false; packed = o.packed; messages = messages_of o }))
-check_asked o words = None
+abbrev pub checked_of : WordOptions → (limit : ℕ) → (name path : List ℕ) → Task
+checked_of o limit name path =
+    check_task (record { root = record { file = o.set; name = name }; path = path; all = o.all; packed = o.packed; messages = messages_of o; limit = limit })
+
+abbrev pub check_asked : WordOptions → (limit : ℕ) → List (List ℕ) → Option Task
+check_asked o limit (name ∷ []) = Some (checked_of o limit name (codes "."))
+check_asked o limit (name ∷ path ∷ []) = Some (checked_of o limit name path)
+check_asked o limit words = None
 
 abbrev pub structs_asked : WordOptions → List (List ℕ) → Option Task
 structs_asked o [] = Some (structs_task o.set)
@@ -92,36 +197,43 @@ abbrev pub schemas_asked : WordOptions → List (List ℕ) → Option Task
 schemas_asked o [] = Some (convert_task o.strict)
 schemas_asked o words = None
 
-abbrev pub compatible_asked : List (List ℕ) → Option Task
-compatible_asked (older ∷ newer ∷ name ∷ []) = Some (compatible_task (record { older = older; newer = newer; name = name }))
-compatible_asked words = None
+abbrev pub compared_of : WordOptions → (older newer name : List ℕ) → Task
+compared_of o older newer name = compatible_task (record { older = older; newer = newer; name = name; quiet = o.quiet })
 
-abbrev pub plain_asked : Verb → WordOptions → Option Task
-plain_asked verb.Show o = show_asked o o.others
-plain_asked verb.Get o = get_asked o o.others
-plain_asked verb.Check o = check_asked o o.others
-plain_asked verb.Patch o = None
-plain_asked verb.New o = None
-plain_asked verb.Structs o = structs_asked o o.others
-plain_asked verb.Schemas o = schemas_asked o o.others
-plain_asked verb.Compatible o = compatible_asked o.others
+abbrev pub compatible_asked : WordOptions → List (List ℕ) → Option Task
+compatible_asked o (older ∷ newer ∷ name ∷ []) = Some (compared_of o older newer name)
+compatible_asked o words = None
 
-abbrev pub verb_asked : Verb → WordOptions → Option Task
-verb_asked verb.Patch o = option_map patch_task (calls_asked o)
-verb_asked verb.New o = option_map new_task (calls_asked o)
-verb_asked v o = plain_asked v o
+abbrev pub plain_asked : Verb → WordOptions → (limit : ℕ) → Option Task
+plain_asked verb.Show o limit = show_asked o o.others
+plain_asked verb.Get o limit = get_asked o o.others
+plain_asked verb.Check o limit = check_asked o limit o.others
+plain_asked verb.Patch o limit = None
+plain_asked verb.New o limit = None
+plain_asked verb.Structs o limit = structs_asked o o.others
+plain_asked verb.Schemas o limit = schemas_asked o o.others
+plain_asked verb.Compatible o limit = compatible_asked o o.others
 
-abbrev pub options_asked : Verb → WordOptions → Option Task
-options_asked v o = elim (is_fitting v o) [ true ↦ verb_asked v o | false ↦ None ]
+abbrev pub verb_asked : Verb → WordOptions → (limit : ℕ) → Option Task
+verb_asked verb.Patch o limit = option_map patch_task (calls_asked o limit)
+verb_asked verb.New o limit = option_map new_task (calls_asked o limit)
+verb_asked v o limit = plain_asked v o limit
 
--- with help among the options that is asked for, and an option of a file needs its path
+abbrev pub options_asked : Verb → WordOptions → (limit : ℕ) → Option Task
+options_asked v o limit = elim (is_fitting v o) [ true ↦ verb_asked v o limit | false ↦ None ]
+
+-- with help among the options that is asked for, an option that has a word behind it needs it, and that of a limit is a number
 abbrev pub task_or_fault : Verb → Option Task → AskedRequest
 task_or_fault v None = Err (other_words v)
 task_or_fault v (Some t) = Ok t
 
+abbrev pub limited_request : Verb → WordOptions → Result ℕ (List ℕ) → AskedRequest
+limited_request v o (Err word) = Err (no_bytes v word)
+limited_request v o (Ok limit) = task_or_fault v (options_asked v o limit)
+
 abbrev pub waited_request : (waits : Bool) → Verb → WordOptions → AskedRequest
 waited_request true v o = Err (other_words v)
-waited_request false v o = task_or_fault v (options_asked v o)
+waited_request false v o = limited_request v o (limit_asked o.limit)
 
 abbrev pub helped_request : (help : Bool) → Verb → WordOptions → AskedRequest
 helped_request true v o = Ok (help_task (Some v))

@@ -17,31 +17,42 @@ pub record GetTask : Type 0 where
   pub packed : Bool
   pub messages : Messages
 
+-- whether the value at a path can be shown, or where it can't, everywhere or first, and the most parts of it that may be looked at
+pub record CheckTask : Type 0 where
+  pub root : Root
+  pub path : List ℕ
+  pub all : Bool
+  pub packed : Bool
+  pub messages : Messages
+  pub limit : ℕ
+
 -- calls, each a word, or each a line of the file at a path
 pub data GivenCalls : Type 0 where
   in_words : List (List ℕ) → GivenCalls
   in_lines : (path : List ℕ) → GivenCalls
 
--- calls on a root, whether what they leave is written where one was refused, whether messages come and go packed, and of which messages
+-- calls on a root, whether what they leave is written where one was refused, whether messages come and go packed, of which messages, and the most bytes that a
+-- message may have that is made
 pub record CallsTask : Type 0 where
   pub root : Root
   pub calls : GivenCalls
   pub keep_going : Bool
   pub packed : Bool
   pub messages : Messages
+  pub limit : ℕ
 
--- the struct of a name in the sets of two files, an older and a newer one
+-- the struct of a name in the sets of two files, an older and a newer one, and whether only the status is wanted
 pub record CompareTask : Type 0 where
   pub older : List ℕ
   pub newer : List ℕ
   pub name : List ℕ
+  pub quiet : Bool
 
--- A value is shown, or only looked at whether it can be, calls are made on a copy of a message or on an empty root, the structs of a set are shown, in the set of a
--- file or else in the built-in one, or the fields of a struct, a compiler's request is made a set, two versions of a struct are compared, or
--- help is told, of all or of a verb, or the version.
+-- A value is shown, or only looked at whether it can be, calls are made on a copy of a message or on an empty root, the structs of a set are shown, in the set of a file or else in the built-in one, or the fields of a struct, a compiler's request is made a set,
+-- two versions of a struct are compared, or help is told, of all or of a verb, or the version.
 pub data Task : Type 0 where
   get_task : GetTask → Task
-  check_task : GetTask → Task
+  check_task : CheckTask → Task
   patch_task : CallsTask → Task
   new_task : CallsTask → Task
   structs_task : (file : Option (List ℕ)) → Task

@@ -1,6 +1,6 @@
 -- What the program tells of itself, and of words that ask for nothing.
 use Rattle.std.specs.Prelude.{ℕ, List, [], ◌∷◌, ◌++◌, Option, Some, None, codes}
-use Rattle.riftcalico_words.specs.Requests.{WordFault, no_verb, other_words, unknown_option, unknown_verb}
+use Rattle.riftcalico_words.specs.Requests.{WordFault, no_bytes, no_verb, other_words, unknown_option, unknown_verb}
 use Rattle.riftcalico_words.specs.declared.request.Verb.{Verb}
 use Rattle.riftcalico_words.specs.declared.request.Verb.TheVariants as verb
 
@@ -9,23 +9,23 @@ abbrev pub usage_lines : List ℕ
 usage_lines =
     codes "usage: riftcalico show [--set FILE] [--packed] [--each [--keep-going]] NAME [--indent]\n"
     ++ codes "       riftcalico get [--set FILE] [--packed] [--each [--keep-going]] NAME PATH [--indent]\n"
-    ++ codes "       riftcalico check [--set FILE] [--packed] [--each [--keep-going]] NAME [PATH]\n"
-    ++ codes "       riftcalico patch [--set FILE] [--calls FILE] [--keep-going] [--packed] [--each] NAME CALL..\n"
-    ++ codes "       riftcalico new [--set FILE] [--calls FILE] [--keep-going] [--packed] NAME CALL..\n"
+    ++ codes "       riftcalico check [--set FILE] [--packed] [--limit PARTS] [--all] [--each [--keep-going]] NAME [PATH]\n"
+    ++ codes "       riftcalico patch [--set FILE] [--calls FILE] [--keep-going] [--packed] [--limit BYTES] [--each] NAME CALL..\n"
+    ++ codes "       riftcalico new [--set FILE] [--calls FILE] [--keep-going] [--packed] [--limit BYTES] NAME CALL..\n"
     ++ codes "       riftcalico structs [--set FILE] [NAME]\n"
     ++ codes "       riftcalico schemas [--strict]\n"
-    ++ codes "       riftcalico compatible OLD NEW NAME\n"
+    ++ codes "       riftcalico compatible [--quiet] OLD NEW NAME\n"
 
 -- how a verb is
 abbrev pub verb_usage : Verb → List ℕ
 verb_usage verb.Show = codes "usage: riftcalico show [--set FILE] [--packed] [--each [--keep-going]] NAME [--indent]\n"
 verb_usage verb.Get = codes "usage: riftcalico get [--set FILE] [--packed] [--each [--keep-going]] NAME PATH [--indent]\n"
-verb_usage verb.Check = codes "usage: riftcalico check [--set FILE] [--packed] [--each [--keep-going]] NAME [PATH]\n"
-verb_usage verb.Patch = codes "usage: riftcalico patch [--set FILE] [--calls FILE] [--keep-going] [--packed] [--each] NAME CALL..\n"
-verb_usage verb.New = codes "usage: riftcalico new [--set FILE] [--calls FILE] [--keep-going] [--packed] NAME CALL..\n"
+verb_usage verb.Check = codes "usage: riftcalico check [--set FILE] [--packed] [--limit PARTS] [--all] [--each [--keep-going]] NAME [PATH]\n"
+verb_usage verb.Patch = codes "usage: riftcalico patch [--set FILE] [--calls FILE] [--keep-going] [--packed] [--limit BYTES] [--each] NAME CALL..\n"
+verb_usage verb.New = codes "usage: riftcalico new [--set FILE] [--calls FILE] [--keep-going] [--packed] [--limit BYTES] NAME CALL..\n"
 verb_usage verb.Structs = codes "usage: riftcalico structs [--set FILE] [NAME]\n"
 verb_usage verb.Schemas = codes "usage: riftcalico schemas [--strict]\n"
-verb_usage verb.Compatible = codes "usage: riftcalico compatible OLD NEW NAME\n"
+verb_usage verb.Compatible = codes "usage: riftcalico compatible [--quiet] OLD NEW NAME\n"
 
 -- what a verb does
 abbrev pub verb_help : Verb → List ℕ
@@ -46,30 +46,33 @@ verb_help verb.Get =
     ++ codes "With --keep-going one that is refused is told and passed over.\n"
     ++ codes "NAME is a struct of the set in FILE, as 'riftcalico schemas' writes it, or else of the built-in set.\n"
 verb_help verb.Check =
-    codes "usage: riftcalico check [--set FILE] [--packed] [--each [--keep-going]] NAME [PATH]\n"
+    codes "usage: riftcalico check [--set FILE] [--packed] [--limit PARTS] [--all] [--each [--keep-going]] NAME [PATH]\n"
     ++ codes "\n"
     ++ codes "Reads the first message's root, a struct NAME, or what stands at PATH of it, and tells the first value that can't be\n"
-    ++ codes "read, if one can't. Nothing is printed. With --packed the message is read packed.\n"
+    ++ codes "read, if one can't, or with --all each. Nothing is printed. With --packed the message is read packed. No more fields and\n"
+    ++ codes "elements are looked at than --limit, or else 2^30.\n"
     ++ codes "With --each all messages of the input are taken, one after another, and what is told names the message by number.\n"
     ++ codes "With --keep-going one that is refused is told and passed over.\n"
     ++ codes "NAME is a struct of the set in FILE, as 'riftcalico schemas' writes it, or else of the built-in set.\n"
 verb_help verb.Patch =
-    codes "usage: riftcalico patch [--set FILE] [--calls FILE] [--keep-going] [--packed] [--each] NAME CALL..\n"
+    codes "usage: riftcalico patch [--set FILE] [--calls FILE] [--keep-going] [--packed] [--limit BYTES] [--each] NAME CALL..\n"
     ++ codes "\n"
     ++ codes "Makes calls on a copy of the first message's root, a struct NAME, and writes the message that they leave.\n"
     ++ codes "A CALL is one word: 'set PATH VALUE', 'init PATH', 'initn PATH N', 'clear PATH', 'get PATH', 'has PATH' or\n"
     ++ codes "'which PATH'. With --calls they are the lines of FILE, but empty ones and those that begin with '#'. With --keep-going\n"
     ++ codes "the message is written also where a call is refused. With --packed messages are read and written packed.\n"
+    ++ codes "No message is made of more bytes than --limit, or else 1 GiB.\n"
     ++ codes "With --each all messages of the input are taken, one after another, and what is told names the message by number.\n"
     ++ codes "With --keep-going one that is refused is told and passed over too.\n"
     ++ codes "NAME is a struct of the set in FILE, as 'riftcalico schemas' writes it, or else of the built-in set.\n"
 verb_help verb.New =
-    codes "usage: riftcalico new [--set FILE] [--calls FILE] [--keep-going] [--packed] NAME CALL..\n"
+    codes "usage: riftcalico new [--set FILE] [--calls FILE] [--keep-going] [--packed] [--limit BYTES] NAME CALL..\n"
     ++ codes "\n"
     ++ codes "Makes calls on an empty struct NAME, and writes the message that they leave.\n"
     ++ codes "A CALL is one word: 'set PATH VALUE', 'init PATH', 'initn PATH N', 'clear PATH', 'get PATH', 'has PATH' or\n"
     ++ codes "'which PATH'. With --calls they are the lines of FILE, but empty ones and those that begin with '#'. With --keep-going\n"
     ++ codes "the message is written also where a call is refused. With --packed it is written packed.\n"
+    ++ codes "No message is made of more bytes than --limit, or else 1 GiB.\n"
     ++ codes "NAME is a struct of the set in FILE, as 'riftcalico schemas' writes it, or else of the built-in set.\n"
 verb_help verb.Structs =
     codes "usage: riftcalico structs [--set FILE] [NAME]\n"
@@ -82,39 +85,43 @@ verb_help verb.Schemas =
     ++ codes "Reads a request of the public compiler, as 'capnp compile -o- FILE..' writes it, and writes its set of schemas.\n"
     ++ codes "With --strict floats and interfaces are refused.\n"
 verb_help verb.Compatible =
-    codes "usage: riftcalico compatible OLD NEW NAME\n"
+    codes "usage: riftcalico compatible [--quiet] OLD NEW NAME\n"
     ++ codes "\n"
     ++ codes "Tells what differs between the struct NAME of the set in the file OLD and that of the set in NEW, so that a program that\n"
     ++ codes "knows one can't read messages of the other: a line for each difference, and nothing where the newer struct follows the\n"
-    ++ codes "older one. The status is then 0, and else 1. Sets are as 'riftcalico schemas' writes them.\n"
+    ++ codes "older one. The status is then 0, and else 1. With --quiet nothing is printed. Sets are as 'riftcalico schemas' writes them.\n"
 
 -- what the program does, or one verb
-abbrev pub help_text : Option Verb → List ℕ
-help_text (Some v) = verb_help v
-help_text None =
+abbrev pub program_help : List ℕ
+program_help =
     codes "Shows, makes and patches Cap'n Proto messages under schemas that are known at run time. Messages are read from standard\n"
     ++ codes "input and written to standard output.\n"
     ++ codes "\n"
     ++ codes "usage: riftcalico show [--set FILE] [--packed] [--each [--keep-going]] NAME [--indent]\n"
     ++ codes "       riftcalico get [--set FILE] [--packed] [--each [--keep-going]] NAME PATH [--indent]\n"
-    ++ codes "       riftcalico check [--set FILE] [--packed] [--each [--keep-going]] NAME [PATH]\n"
-    ++ codes "       riftcalico patch [--set FILE] [--calls FILE] [--keep-going] [--packed] [--each] NAME CALL..\n"
-    ++ codes "       riftcalico new [--set FILE] [--calls FILE] [--keep-going] [--packed] NAME CALL..\n"
+    ++ codes "       riftcalico check [--set FILE] [--packed] [--limit PARTS] [--all] [--each [--keep-going]] NAME [PATH]\n"
+    ++ codes "       riftcalico patch [--set FILE] [--calls FILE] [--keep-going] [--packed] [--limit BYTES] [--each] NAME CALL..\n"
+    ++ codes "       riftcalico new [--set FILE] [--calls FILE] [--keep-going] [--packed] [--limit BYTES] NAME CALL..\n"
     ++ codes "       riftcalico structs [--set FILE] [NAME]\n"
     ++ codes "       riftcalico schemas [--strict]\n"
-    ++ codes "       riftcalico compatible OLD NEW NAME\n"
+    ++ codes "       riftcalico compatible [--quiet] OLD NEW NAME\n"
     ++ codes "\n"
     ++ codes "More of a verb is told by 'riftcalico VERB --help', the version by 'riftcalico --version'.\n"
+
+abbrev pub help_text : Option Verb → List ℕ
+help_text (Some v) = verb_help v
+help_text None = program_help
 
 abbrev pub version_line : List ℕ
 version_line = codes "riftcalico 0.1.0\n"
 
--- what there isn't, and the word that asked for it
-abbrev pub unknown_line : (noun word : List ℕ) → List ℕ
-unknown_line noun word = codes "unknown " ++ noun ++ codes ": " ++ word ++ 10 ∷ []
+-- a word, and what it is
+abbrev pub word_line : (noun word : List ℕ) → List ℕ
+word_line noun word = noun ++ codes ": " ++ word ++ 10 ∷ []
 
 abbrev pub fault_text : WordFault → List ℕ
 fault_text no_verb = usage_lines
-fault_text (unknown_verb word) = unknown_line (codes "verb") word ++ usage_lines
-fault_text (unknown_option v word) = unknown_line (codes "option") word ++ verb_usage v
+fault_text (unknown_verb word) = word_line (codes "unknown verb") word ++ usage_lines
+fault_text (unknown_option v word) = word_line (codes "unknown option") word ++ verb_usage v
+fault_text (no_bytes v word) = word_line (codes "no number of bytes") word ++ verb_usage v
 fault_text (other_words v) = verb_usage v

@@ -2,7 +2,7 @@
 ghost use Rattle.std.specs.Prelude.{◌≡◌, IfErr, IfOk, map, string_bytes};
 ghost use Rattle.std.specs.Option.{option_map};
 ghost use Rattle.capnp_device.specs.declared.error.ErrorKind.TheVariants.{OutOfMemory};
-ghost use Rattle.riftcalico_words.specs.Options.{is_option, no_options, options_read, with_flag, with_kind, with_other, with_path, with_word, word_kind};
+ghost use Rattle.riftcalico_words.specs.Options.{is_option, no_options, options_read, with_flag, with_kind, with_other, with_value, with_word, word_kind};
 ghost use Rattle.riftcalico_words.specs.OptionsSeen.{options_seen, read_seen};
 
 use capnp_device::error::Result;
@@ -21,26 +21,32 @@ pub enum Flag {
     Each,
     /// `--strict`
     Strict,
+    /// `--all`
+    All,
+    /// `--quiet`
+    Quiet,
     /// `--help`
     Help,
 }
 
-/// An option that has the path of a file behind it.
+/// An option that has a word behind it.
 #[derive(Clone, Copy, Debug, PartialEq, Eq)]
-pub enum FileOption {
-    /// `--set`
+pub enum ValueOption {
+    /// `--set`, with the path of a file.
     Set,
-    /// `--calls`
+    /// `--calls`, with the path of a file.
     Calls,
+    /// `--limit`, with a number of bytes.
+    Limit,
 }
 
-/// What a word is that stands behind no option of a file.
+/// What a word is that stands behind no option that has one.
 #[derive(Clone, Copy, Debug, PartialEq, Eq)]
 pub enum WordKind {
     /// No option.
     Other,
     Flag(Flag),
-    File(FileOption),
+    Value(ValueOption),
     /// A word that begins with `--` and is no option.
     Unknown,
 }
@@ -50,15 +56,18 @@ pub enum WordKind {
 pub struct Options<'a> {
     pub set: Option<&'a str>,
     pub calls: Option<&'a str>,
+    pub limit: Option<&'a str>,
     pub indent: bool,
     pub keep_going: bool,
     pub packed: bool,
     pub each: bool,
     pub strict: bool,
+    pub all: bool,
+    pub quiet: bool,
     pub help: bool,
     pub others: Vec<&'a str>,
-    /// The option whose file comes next.
-    pub waiting: Option<FileOption>,
+    /// The option whose word comes next.
+    pub waiting: Option<ValueOption>,
 }
 
 /// Whether a word begins with `--`.
@@ -76,13 +85,16 @@ fn kind_of(word: &str) -> WordKind
     ensures { result ≡ word_kind word.now }
 {
     match word {
-        "--set" => WordKind::File(FileOption::Set),
-        "--calls" => WordKind::File(FileOption::Calls),
+        "--set" => WordKind::Value(ValueOption::Set),
+        "--calls" => WordKind::Value(ValueOption::Calls),
+        "--limit" => WordKind::Value(ValueOption::Limit),
         "--indent" => WordKind::Flag(Flag::Indent),
         "--keep-going" => WordKind::Flag(Flag::KeepGoing),
         "--packed" => WordKind::Flag(Flag::Packed),
         "--each" => WordKind::Flag(Flag::Each),
         "--strict" => WordKind::Flag(Flag::Strict),
+        "--all" => WordKind::Flag(Flag::All),
+        "--quiet" => WordKind::Flag(Flag::Quiet),
         "--help" => WordKind::Flag(Flag::Help),
         _ => {
             if is_option_word(word) {
@@ -105,20 +117,23 @@ fn put_flag(options: Options<'_>, flag: Flag) -> Options<'_>
         Flag::Packed => options.packed = true,
         Flag::Each => options.each = true,
         Flag::Strict => options.strict = true,
+        Flag::All => options.all = true,
+        Flag::Quiet => options.quiet = true,
         Flag::Help => options.help = true,
     }
     options
 }
 
-/// The options with the file of one of them.
-fn put_path<'a>(options: Options<'a>, option: FileOption, path: &'a str) -> Options<'a>
-    ensures { options_seen result ≡ with_path (options_seen options.entry) option path.now }
+/// The options with the word of one of them.
+fn put_value<'a>(options: Options<'a>, option: ValueOption, word: &'a str) -> Options<'a>
+    ensures { options_seen result ≡ with_value (options_seen options.entry) option word.now }
 {
     let mut options = options;
     options.waiting = None;
     match option {
-        FileOption::Set => options.set = Some(path),
-        FileOption::Calls => options.calls = Some(path),
+        ValueOption::Set => options.set = Some(word),
+        ValueOption::Calls => options.calls = Some(word),
+        ValueOption::Limit => options.limit = Some(word),
     }
     options
 }
@@ -142,7 +157,7 @@ fn put_kind<'a>(options: Options<'a>, word: &'a str) -> Result<Option<Options<'a
     match kind_of(word) {
         WordKind::Other => Ok(Some(put_other(options, word)?)),
         WordKind::Flag(flag) => Ok(Some(put_flag(options, flag))),
-        WordKind::File(option) => {
+        WordKind::Value(option) => {
             let mut options = options;
             options.waiting = Some(option);
             Ok(Some(options))
@@ -157,7 +172,7 @@ fn put_word<'a>(options: Options<'a>, word: &'a str) -> Result<Option<Options<'a
     ensures memory { IfErr result (λ e. e.kind ≡ OutOfMemory) }
 {
     match options.waiting {
-        Some(option) => Ok(Some(put_path(options, option, word))),
+        Some(option) => Ok(Some(put_value(options, option, word))),
         None => put_kind(options, word),
     }
 }
@@ -173,11 +188,14 @@ pub fn read_options<'a>(
     let mut options = Options {
         set: None,
         calls: None,
+        limit: None,
         indent: false,
         keep_going: false,
         packed: false,
         each: false,
         strict: false,
+        all: false,
+        quiet: false,
         help: false,
         others: Vec::new(alloc),
         waiting: None,

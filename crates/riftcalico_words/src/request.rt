@@ -3,13 +3,17 @@ ghost use Rattle.std.specs.Prelude.{◌≡◌, IfErr, IfOk, map, string_bytes};
 ghost use Rattle.capnp_device.specs.declared.error.ErrorKind.TheVariants.{OutOfMemory};
 ghost use Rattle.std.specs.Option.{option_map};
 ghost use Rattle.riftcalico_words.specs.OptionsSeen.{options_seen};
-ghost use Rattle.riftcalico_words.specs.Requests.{asked_request, calls_asked, given_asked, is_fitting, messages_of, options_asked, plain_asked, reads_fit, verb_of, verb_request};
-ghost use Rattle.riftcalico_words.specs.RequestSeen.{asked_seen, calls_task_of, given_of, task_seen};
+ghost use Rattle.riftcalico_words.specs.Requests.{asked_request, calls_asked, checked_of, compared_of, flags_fit, given_asked, going_fits, is_allowed, is_fitting, is_comparison, is_on_messages, is_reading, is_with_calls, limit_asked, messages_of, options_asked, plain_asked, shown_of, takes_flag, takes_value, values_fit, verb_of, verb_request};
+ghost use Rattle.riftcalico_words.specs.RequestSeen.{asked_seen, calls_task_of, get_task_of, given_of, limit_seen, task_seen};
 ghost use Rattle.riftcalico_words.specs.Tasks.{task_messages};
 
-use crate::options::{Options, read_options};
+use crate::numbers::read_number;
+use crate::options::{Flag, Options, ValueOption, read_options};
 use capnp_device::error::Result;
 use std::alloc::Global;
+
+/// The most bytes that are made where no other number is given: 1 GiB.
+pub const DEFAULT_LIMIT: u64 = 1 << 30;
 
 /// What is done.
 #[derive(Clone, Copy, Debug, PartialEq, Eq)]
@@ -28,7 +32,7 @@ pub enum Verb {
     Structs,
     /// A compiler's request is made a set of schemas.
     Schemas,
-    /// Two versions of a struct are compared.
+    /// Two versions of a schema are compared.
     Compatible,
 }
 
@@ -60,6 +64,18 @@ pub struct GetRequest<'a> {
     pub messages: Messages,
 }
 
+/// Whether the value at a path can be shown, or where it can't, first or everywhere, and the most parts of it that may be
+/// looked at.
+#[derive(Clone, Copy)]
+pub struct CheckRequest<'a> {
+    pub root: NamedRoot<'a>,
+    pub path: &'a str,
+    pub all: bool,
+    pub packed: bool,
+    pub messages: Messages,
+    pub limit: u64,
+}
+
 /// Calls, each a word, or each a line of the file at a path.
 #[derive(Drop)]
 pub enum CallWords<'a> {
@@ -67,8 +83,8 @@ pub enum CallWords<'a> {
     Lines(&'a str),
 }
 
-/// Calls on a root, whether what they leave is written where one was refused, whether messages come and go packed, and of
-/// which messages.
+/// Calls on a root, whether what they leave is written where one was refused, whether messages come and go packed, of
+/// which messages, and the most bytes that a message may have that is made.
 #[derive(Drop)]
 pub struct CallsRequest<'a> {
     pub root: NamedRoot<'a>,
@@ -76,14 +92,16 @@ pub struct CallsRequest<'a> {
     pub keep_going: bool,
     pub packed: bool,
     pub messages: Messages,
+    pub limit: u64,
 }
 
-/// The struct of a name in the sets of two files, an older and a newer one.
+/// The struct of a name in the sets of two files, an older and a newer one, and whether only the status is wanted.
 #[derive(Clone, Copy)]
 pub struct CompareRequest<'a> {
     pub older: &'a str,
     pub newer: &'a str,
     pub name: &'a str,
+    pub quiet: bool,
 }
 
 /// What is to be done.
@@ -91,8 +109,8 @@ pub struct CompareRequest<'a> {
 pub enum Task<'a> {
     /// A value of a message is shown; the whole message is the value at the path `.`.
     Get(GetRequest<'a>),
-    /// The same is looked at, whether it can be shown.
-    Check(GetRequest<'a>),
+    /// A value of a message is looked at, whether it can be shown.
+    Check(CheckRequest<'a>),
     /// Calls are made on a copy of a message.
     Patch(CallsRequest<'a>),
     /// Calls are made on an empty root.
@@ -103,7 +121,7 @@ pub enum Task<'a> {
     Fields(NamedRoot<'a>),
     /// The set of a compiler's request; whether floats and interfaces are refused.
     Convert(bool),
-    /// What differs between two versions of a struct.
+    /// What differs between two versions of a schema.
     Compatible(CompareRequest<'a>),
     /// What can be done is told, or how one verb is called.
     Help(Option<Verb>),
@@ -120,6 +138,8 @@ pub enum Misuse<'a> {
     UnknownVerb(&'a str),
     /// A word behind the verb is an option that there isn't.
     UnknownOption(Verb, &'a str),
+    /// The word behind `--limit` is no number of bytes.
+    NoBytes(Verb, &'a str),
     /// The verb is called with other words.
     OtherWords(Verb),
 }
@@ -132,7 +152,8 @@ pub fn get_messages(task: &Task<'_>) -> Messages
     ensures { result ≡ task_messages (task_seen task.now) }
 {
     match task {
-        Task::Get(request) | Task::Check(request) => request.messages,
+        Task::Get(request) => request.messages,
+        Task::Check(request) => request.messages,
         Task::Patch(request) => request.messages,
         Task::New(_)
         | Task::Structs(_)
@@ -174,47 +195,137 @@ fn read_messages(options: &Options<'_>) -> Messages
     }
 }
 
-/// Whether the options on messages fit a verb that only reads.
-fn reads_fit(options: &Options<'_>) -> bool
-    ensures { result ≡ reads_fit (options_seen options.now) }
+/// Whether a verb only reads messages.
+fn is_reading(verb: Verb) -> bool
+    ensures { result ≡ is_reading verb }
 {
-    options.calls.is_none() && !options.strict && (options.each || !options.keep_going)
+    match verb {
+        Verb::Show | Verb::Get | Verb::Check => true,
+        Verb::Patch | Verb::New | Verb::Structs | Verb::Schemas | Verb::Compatible => false,
+    }
+}
+
+/// Whether a verb takes messages, or gives one.
+fn is_on_messages(verb: Verb) -> bool
+    ensures { result ≡ is_on_messages verb }
+{
+    match verb {
+        Verb::Patch | Verb::New => true,
+        _ => is_reading(verb),
+    }
+}
+
+/// Whether a verb makes calls.
+fn is_with_calls(verb: Verb) -> bool
+    ensures { result ≡ is_with_calls verb }
+{
+    match verb {
+        Verb::Patch | Verb::New => true,
+        _ => false,
+    }
+}
+
+/// Whether a verb takes an option that has a word behind it.
+fn takes_value(verb: Verb, option: ValueOption) -> bool
+    ensures { result ≡ takes_value verb option }
+{
+    match option {
+        ValueOption::Set => match verb {
+            Verb::Structs => true,
+            _ => is_on_messages(verb),
+        },
+        ValueOption::Calls => is_with_calls(verb),
+        ValueOption::Limit => match verb {
+            Verb::Show | Verb::Get => false,
+            _ => is_on_messages(verb),
+        },
+    }
+}
+
+/// Whether a verb takes an option that has none.
+fn takes_flag(verb: Verb, flag: Flag) -> bool
+    ensures { result ≡ takes_flag verb flag }
+{
+    match flag {
+        Flag::Indent => match verb {
+            Verb::Check => false,
+            _ => is_reading(verb),
+        },
+        Flag::KeepGoing => is_reading(verb) || is_with_calls(verb),
+        Flag::Packed => is_on_messages(verb),
+        Flag::Each => match verb {
+            Verb::Patch => true,
+            _ => is_reading(verb),
+        },
+        Flag::Strict => match verb {
+            Verb::Schemas => true,
+            _ => false,
+        },
+        Flag::All => match verb {
+            Verb::Check => true,
+            _ => false,
+        },
+        Flag::Quiet => match verb {
+            Verb::Compatible => true,
+            _ => false,
+        },
+        Flag::Help => true,
+    }
+}
+
+/// Whether a verb takes the options with words that stand there.
+fn do_values_fit(verb: Verb, options: &Options<'_>) -> bool
+    ensures { result ≡ values_fit verb (options_seen options.now) }
+{
+    (options.set.is_none() || takes_value(verb, ValueOption::Set))
+        && (options.calls.is_none() || takes_value(verb, ValueOption::Calls))
+        && (options.limit.is_none() || takes_value(verb, ValueOption::Limit))
+}
+
+/// Whether an option is none that stands where its verb doesn't take it.
+fn is_allowed(stands: bool, verb: Verb, flag: Flag) -> bool
+    ensures { result ≡ is_allowed stands (takes_flag verb flag) }
+{
+    !stands || takes_flag(verb, flag)
+}
+
+/// Whether a verb takes the options without words that stand there.
+fn do_flags_fit(verb: Verb, options: &Options<'_>) -> bool
+    ensures { result ≡ flags_fit verb (options_seen options.now) }
+{
+    is_allowed(options.indent, verb, Flag::Indent)
+        && is_allowed(options.keep_going, verb, Flag::KeepGoing)
+        && is_allowed(options.packed, verb, Flag::Packed)
+        && is_allowed(options.each, verb, Flag::Each)
+        && is_allowed(options.strict, verb, Flag::Strict)
+        && is_allowed(options.all, verb, Flag::All)
+        && is_allowed(options.quiet, verb, Flag::Quiet)
+}
+
+/// Whether a verb that only reads is to go on behind a message that is refused only where there are several.
+fn does_going_fit(verb: Verb, options: &Options<'_>) -> bool
+    ensures { result ≡ going_fits verb (options_seen options.now) }
+{
+    !is_reading(verb) || !options.keep_going || options.each
 }
 
 /// Whether a verb takes these options.
 fn is_fit(verb: Verb, options: &Options<'_>) -> bool
     ensures { result ≡ is_fitting verb (options_seen options.now) }
 {
-    match verb {
-        Verb::Show | Verb::Get => reads_fit(options),
-        Verb::Check => !options.indent && reads_fit(options),
-        Verb::Patch => !options.indent && !options.strict,
-        Verb::New => !options.indent && !options.strict && !options.each,
-        Verb::Structs => {
-            options.calls.is_none()
-                && !options.indent
-                && !options.keep_going
-                && !options.packed
-                && !options.each
-                && !options.strict
-        }
-        Verb::Schemas => {
-            options.set.is_none()
-                && options.calls.is_none()
-                && !options.indent
-                && !options.keep_going
-                && !options.packed
-                && !options.each
-        }
-        Verb::Compatible => {
-            options.set.is_none()
-                && options.calls.is_none()
-                && !options.indent
-                && !options.keep_going
-                && !options.packed
-                && !options.each
-                && !options.strict
-        }
+    do_values_fit(verb, options) && do_flags_fit(verb, options) && does_going_fit(verb, options)
+}
+
+/// The most bytes that are made, or the word that is no number of bytes.
+fn read_limit<'a>(limit: Option<&'a str>) -> std::result::Result<u64, &'a str>
+    ensures { limit_seen result ≡ limit_asked (option_map (λ w. w.now) limit.entry) }
+{
+    let Some(word) = limit else {
+        return Ok(DEFAULT_LIMIT);
+    };
+    match read_number(word.as_bytes()) {
+        Some(number) => Ok(number),
+        None => Err(word),
     }
 }
 
@@ -246,8 +357,12 @@ fn read_given<'a>(
 }
 
 /// Calls on a root under the struct that the first of the other words names. Refused with `OutOfMemory` alone.
-fn read_calls<'a>(alloc: Global, options: &Options<'a>) -> Result<Option<CallsRequest<'a>>>
-    ensures calls { IfOk result (λ r. option_map calls_task_of r ≡ calls_asked (options_seen options.now)) }
+fn read_calls<'a>(
+    alloc: Global,
+    options: &Options<'a>,
+    limit: u64,
+) -> Result<Option<CallsRequest<'a>>>
+    ensures calls { IfOk result (λ r. option_map calls_task_of r ≡ calls_asked (options_seen options.now) limit) }
     ensures memory { IfErr result (λ e. e.kind ≡ OutOfMemory) }
 {
     let words = options.others.as_slice();
@@ -265,6 +380,7 @@ fn read_calls<'a>(alloc: Global, options: &Options<'a>) -> Result<Option<CallsRe
                     keep_going: options.keep_going,
                     packed: options.packed,
                     messages: read_messages(options),
+                    limit,
                 })),
                 None => Ok(None),
             }
@@ -272,72 +388,100 @@ fn read_calls<'a>(alloc: Global, options: &Options<'a>) -> Result<Option<CallsRe
     }
 }
 
-/// What is asked of a message that is shown, or of a set, by its verb and the other words.
-fn read_plain<'a>(verb: Verb, options: &Options<'a>) -> Option<Task<'a>>
-    ensures { option_map task_seen result ≡ plain_asked verb (options_seen options.now) }
+/// What is asked of the value at a path that is shown.
+fn read_shown<'a>(options: &Options<'a>, name: &'a str, path: &'a str) -> GetRequest<'a>
+    ensures { get_task_of result ≡ shown_of (options_seen options.now) name.now path.now }
+{
+    GetRequest {
+        root: NamedRoot {
+            file: options.set,
+            name,
+        },
+        path,
+        indented: options.indent,
+        packed: options.packed,
+        messages: read_messages(options),
+    }
+}
+
+/// What is asked of the value at a path that is looked at.
+fn read_checked<'a>(options: &Options<'a>, limit: u64, name: &'a str, path: &'a str) -> Task<'a>
+    ensures { task_seen result ≡ checked_of (options_seen options.now) limit name.now path.now }
+{
+    Task::Check(CheckRequest {
+        root: NamedRoot {
+            file: options.set,
+            name,
+        },
+        path,
+        all: options.all,
+        packed: options.packed,
+        messages: read_messages(options),
+        limit,
+    })
+}
+
+/// What is asked of two versions.
+fn read_compared<'a>(
+    options: &Options<'a>,
+    older: &'a str,
+    newer: &'a str,
+    name: &'a str,
+) -> Task<'a>
+    ensures { task_seen result ≡ compared_of (options_seen options.now) older.now newer.now name.now }
+{
+    Task::Compatible(CompareRequest {
+        older,
+        newer,
+        name,
+        quiet: options.quiet,
+    })
+}
+
+/// What is asked of a message that is shown or made, or of a set, by its verb and the other words.
+fn read_plain<'a>(verb: Verb, options: &Options<'a>, limit: u64) -> Option<Task<'a>>
+    ensures { option_map task_seen result ≡ plain_asked verb (options_seen options.now) limit }
 {
     let file = options.set;
-    let messages = read_messages(options);
     match (verb, options.others.as_slice()) {
-        (Verb::Show, [name]) => Some(Task::Get(GetRequest {
-            root: NamedRoot { file, name: *name },
-            path: ".",
-            indented: options.indent,
-            packed: options.packed,
-            messages,
-        })),
-        (Verb::Get, [name, path]) => Some(Task::Get(GetRequest {
-            root: NamedRoot { file, name: *name },
-            path: *path,
-            indented: options.indent,
-            packed: options.packed,
-            messages,
-        })),
-        (Verb::Check, [name]) => Some(Task::Check(GetRequest {
-            root: NamedRoot { file, name: *name },
-            path: ".",
-            indented: false,
-            packed: options.packed,
-            messages,
-        })),
-        (Verb::Check, [name, path]) => Some(Task::Check(GetRequest {
-            root: NamedRoot { file, name: *name },
-            path: *path,
-            indented: false,
-            packed: options.packed,
-            messages,
-        })),
+        (Verb::Show, [name]) => Some(Task::Get(read_shown(options, *name, "."))),
+        (Verb::Get, [name, path]) => Some(Task::Get(read_shown(options, *name, *path))),
+        (Verb::Check, [name]) => Some(read_checked(options, limit, *name, ".")),
+        (Verb::Check, [name, path]) => Some(read_checked(options, limit, *name, *path)),
         (Verb::Structs, []) => Some(Task::Structs(file)),
         (Verb::Structs, [name]) => Some(Task::Fields(NamedRoot { file, name: *name })),
         (Verb::Schemas, []) => Some(Task::Convert(options.strict)),
-        (Verb::Compatible, [older, newer, name]) => Some(Task::Compatible(CompareRequest {
-            older: *older,
-            newer: *newer,
-            name: *name,
-        })),
+        (Verb::Compatible, [older, newer, name]) => {
+            Some(read_compared(options, *older, *newer, *name))
+        }
         _ => None,
     }
 }
 
 /// What is asked of a verb with its options. Refused with `OutOfMemory` alone.
-fn read_task<'a>(alloc: Global, verb: Verb, options: &Options<'a>) -> Result<Option<Task<'a>>>
-    ensures asked { IfOk result (λ r. option_map task_seen r ≡ options_asked verb (options_seen options.now)) }
+fn read_task<'a>(
+    alloc: Global,
+    verb: Verb,
+    options: &Options<'a>,
+    limit: u64,
+) -> Result<Option<Task<'a>>>
+    ensures asked { IfOk result (λ r. option_map task_seen r ≡ options_asked verb (options_seen options.now) limit) }
     ensures memory { IfErr result (λ e. e.kind ≡ OutOfMemory) }
 {
     if !is_fit(verb, options) {
         return Ok(None);
     }
     match verb {
-        Verb::Patch => match read_calls(alloc, options)? {
+        Verb::Patch => match read_calls(alloc, options, limit)? {
             Some(request) => Ok(Some(Task::Patch(request))),
             None => Ok(None),
         },
-        Verb::New => match read_calls(alloc, options)? {
+        Verb::New => match read_calls(alloc, options, limit)? {
             Some(request) => Ok(Some(Task::New(request))),
             None => Ok(None),
         },
         Verb::Show | Verb::Get | Verb::Check | Verb::Structs | Verb::Schemas | Verb::Compatible =>
-            Ok(read_plain(verb, options)),
+            Ok(read_plain(verb, options, limit)),
     }
 }
 
@@ -356,7 +500,11 @@ fn read_behind<'a>(alloc: Global, verb: Verb, words: &'a [String]) -> Result<Ask
     if options.waiting.is_some() {
         return Ok(Err(Misuse::OtherWords(verb)));
     }
-    match read_task(alloc, verb, &options)? {
+    let limit = match read_limit(options.limit) {
+        Ok(limit) => limit,
+        Err(word) => return Ok(Err(Misuse::NoBytes(verb, word))),
+    };
+    match read_task(alloc, verb, &options, limit)? {
         Some(task) => Ok(Ok(task)),
         None => Ok(Err(Misuse::OtherWords(verb))),
     }
@@ -377,10 +525,22 @@ fn read_behind<'a>(alloc: Global, verb: Verb, words: &'a [String]) -> Result<Ask
 /// |`--help`, and behind a verb|help, of all or of the verb|
 /// |`--version`|the version|
 ///
-/// Options stand anywhere behind the verb: `--set FILE` but of `schemas`, `--indent` of `show` and `get`, `--calls FILE`,
-/// with no call beside it, and `--keep-going` of `patch` and `new`, `--packed` of all these, of all but `new` `--each`
-/// and with it `--keep-going`, `--strict` of `schemas`. Of one that stands twice the last counts. Refused with
-/// `OutOfMemory` alone.
+/// Options stand anywhere behind the verb, and of one that stands twice the last counts:
+///
+/// |options|verbs|
+/// |---|---|
+/// |`--set FILE`|those on messages, which are the first five, and `structs`|
+/// |`--packed`|those on messages|
+/// |`--limit N`|the same but `show` and `get`|
+/// |`--indent`|`show`, `get`|
+/// |`--each`|`show`, `get`, `check`, `patch`|
+/// |`--keep-going`|the same, of those that only read with `--each`, and `new`|
+/// |`--calls FILE`, with no call beside it|`patch`, `new`|
+/// |`--all`|`check`|
+/// |`--strict`|`schemas`|
+/// |`--quiet`|`compatible`|
+///
+/// Refused with `OutOfMemory` alone.
 pub fn read_words<'a>(alloc: Global, words: &'a [String]) -> Result<Asked<'a>>
     ensures asked { IfOk result (λ r. asked_seen r ≡ asked_request (map string_bytes words.now)) }
     ensures memory { IfErr result (λ e. e.kind ≡ OutOfMemory) }

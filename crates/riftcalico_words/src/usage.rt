@@ -1,8 +1,8 @@
 //! What the program tells of itself, and of words that ask for nothing.
-ghost use Rattle.std.specs.Prelude.{◌≡◌, ◌++◌, IfErr, IfOk, OnOk, string_bytes};
+ghost use Rattle.std.specs.Prelude.{◌≡◌, ◌++◌, IfErr, IfOk, string_bytes};
 ghost use Rattle.capnp_device.specs.declared.error.ErrorKind.TheVariants.{OutOfMemory};
 ghost use Rattle.riftcalico_words.specs.RequestSeen.{fault_seen};
-ghost use Rattle.riftcalico_words.specs.Usage.{fault_text, help_text, unknown_line, verb_help, verb_usage, version_line};
+ghost use Rattle.riftcalico_words.specs.Usage.{fault_text, help_text, program_help, word_line, verb_help, verb_usage, version_line};
 
 use crate::request::{Misuse, Verb};
 use capnp_device::error::Result;
@@ -14,12 +14,12 @@ pub const VERSION: &str = "riftcalico 0.1.0\n";
 const USAGE: &str = "\
 usage: riftcalico show [--set FILE] [--packed] [--each [--keep-going]] NAME [--indent]
        riftcalico get [--set FILE] [--packed] [--each [--keep-going]] NAME PATH [--indent]
-       riftcalico check [--set FILE] [--packed] [--each [--keep-going]] NAME [PATH]
-       riftcalico patch [--set FILE] [--calls FILE] [--keep-going] [--packed] [--each] NAME CALL..
-       riftcalico new [--set FILE] [--calls FILE] [--keep-going] [--packed] NAME CALL..
+       riftcalico check [--set FILE] [--packed] [--limit PARTS] [--all] [--each [--keep-going]] NAME [PATH]
+       riftcalico patch [--set FILE] [--calls FILE] [--keep-going] [--packed] [--limit BYTES] [--each] NAME CALL..
+       riftcalico new [--set FILE] [--calls FILE] [--keep-going] [--packed] [--limit BYTES] NAME CALL..
        riftcalico structs [--set FILE] [NAME]
        riftcalico schemas [--strict]
-       riftcalico compatible OLD NEW NAME
+       riftcalico compatible [--quiet] OLD NEW NAME
 ";
 
 const HELP: &str = "\
@@ -28,12 +28,12 @@ input and written to standard output.
 
 usage: riftcalico show [--set FILE] [--packed] [--each [--keep-going]] NAME [--indent]
        riftcalico get [--set FILE] [--packed] [--each [--keep-going]] NAME PATH [--indent]
-       riftcalico check [--set FILE] [--packed] [--each [--keep-going]] NAME [PATH]
-       riftcalico patch [--set FILE] [--calls FILE] [--keep-going] [--packed] [--each] NAME CALL..
-       riftcalico new [--set FILE] [--calls FILE] [--keep-going] [--packed] NAME CALL..
+       riftcalico check [--set FILE] [--packed] [--limit PARTS] [--all] [--each [--keep-going]] NAME [PATH]
+       riftcalico patch [--set FILE] [--calls FILE] [--keep-going] [--packed] [--limit BYTES] [--each] NAME CALL..
+       riftcalico new [--set FILE] [--calls FILE] [--keep-going] [--packed] [--limit BYTES] NAME CALL..
        riftcalico structs [--set FILE] [NAME]
        riftcalico schemas [--strict]
-       riftcalico compatible OLD NEW NAME
+       riftcalico compatible [--quiet] OLD NEW NAME
 
 More of a verb is told by 'riftcalico VERB --help', the version by 'riftcalico --version'.
 ";
@@ -47,15 +47,15 @@ usage: riftcalico get [--set FILE] [--packed] [--each [--keep-going]] NAME PATH 
 ";
 
 const CHECK_USAGE: &str = "\
-usage: riftcalico check [--set FILE] [--packed] [--each [--keep-going]] NAME [PATH]
+usage: riftcalico check [--set FILE] [--packed] [--limit PARTS] [--all] [--each [--keep-going]] NAME [PATH]
 ";
 
 const PATCH_USAGE: &str = "\
-usage: riftcalico patch [--set FILE] [--calls FILE] [--keep-going] [--packed] [--each] NAME CALL..
+usage: riftcalico patch [--set FILE] [--calls FILE] [--keep-going] [--packed] [--limit BYTES] [--each] NAME CALL..
 ";
 
 const NEW_USAGE: &str = "\
-usage: riftcalico new [--set FILE] [--calls FILE] [--keep-going] [--packed] NAME CALL..
+usage: riftcalico new [--set FILE] [--calls FILE] [--keep-going] [--packed] [--limit BYTES] NAME CALL..
 ";
 
 const STRUCTS_USAGE: &str = "\
@@ -67,7 +67,7 @@ usage: riftcalico schemas [--strict]
 ";
 
 const COMPATIBLE_USAGE: &str = "\
-usage: riftcalico compatible OLD NEW NAME
+usage: riftcalico compatible [--quiet] OLD NEW NAME
 ";
 
 const SHOW_HELP: &str = "\
@@ -91,34 +91,37 @@ NAME is a struct of the set in FILE, as 'riftcalico schemas' writes it, or else 
 ";
 
 const CHECK_HELP: &str = "\
-usage: riftcalico check [--set FILE] [--packed] [--each [--keep-going]] NAME [PATH]
+usage: riftcalico check [--set FILE] [--packed] [--limit PARTS] [--all] [--each [--keep-going]] NAME [PATH]
 
 Reads the first message's root, a struct NAME, or what stands at PATH of it, and tells the first value that can't be
-read, if one can't. Nothing is printed. With --packed the message is read packed.
+read, if one can't, or with --all each. Nothing is printed. With --packed the message is read packed. No more fields and
+elements are looked at than --limit, or else 2^30.
 With --each all messages of the input are taken, one after another, and what is told names the message by number.
 With --keep-going one that is refused is told and passed over.
 NAME is a struct of the set in FILE, as 'riftcalico schemas' writes it, or else of the built-in set.
 ";
 
 const PATCH_HELP: &str = "\
-usage: riftcalico patch [--set FILE] [--calls FILE] [--keep-going] [--packed] [--each] NAME CALL..
+usage: riftcalico patch [--set FILE] [--calls FILE] [--keep-going] [--packed] [--limit BYTES] [--each] NAME CALL..
 
 Makes calls on a copy of the first message's root, a struct NAME, and writes the message that they leave.
 A CALL is one word: 'set PATH VALUE', 'init PATH', 'initn PATH N', 'clear PATH', 'get PATH', 'has PATH' or
 'which PATH'. With --calls they are the lines of FILE, but empty ones and those that begin with '#'. With --keep-going
 the message is written also where a call is refused. With --packed messages are read and written packed.
+No message is made of more bytes than --limit, or else 1 GiB.
 With --each all messages of the input are taken, one after another, and what is told names the message by number.
 With --keep-going one that is refused is told and passed over too.
 NAME is a struct of the set in FILE, as 'riftcalico schemas' writes it, or else of the built-in set.
 ";
 
 const NEW_HELP: &str = "\
-usage: riftcalico new [--set FILE] [--calls FILE] [--keep-going] [--packed] NAME CALL..
+usage: riftcalico new [--set FILE] [--calls FILE] [--keep-going] [--packed] [--limit BYTES] NAME CALL..
 
 Makes calls on an empty struct NAME, and writes the message that they leave.
 A CALL is one word: 'set PATH VALUE', 'init PATH', 'initn PATH N', 'clear PATH', 'get PATH', 'has PATH' or
 'which PATH'. With --calls they are the lines of FILE, but empty ones and those that begin with '#'. With --keep-going
 the message is written also where a call is refused. With --packed it is written packed.
+No message is made of more bytes than --limit, or else 1 GiB.
 NAME is a struct of the set in FILE, as 'riftcalico schemas' writes it, or else of the built-in set.
 ";
 
@@ -137,11 +140,11 @@ With --strict floats and interfaces are refused.
 ";
 
 const COMPATIBLE_HELP: &str = "\
-usage: riftcalico compatible OLD NEW NAME
+usage: riftcalico compatible [--quiet] OLD NEW NAME
 
 Tells what differs between the struct NAME of the set in the file OLD and that of the set in NEW, so that a program that
 knows one can't read messages of the other: a line for each difference, and nothing where the newer struct follows the
-older one. The status is then 0, and else 1. Sets are as 'riftcalico schemas' writes them.
+older one. The status is then 0, and else 1. With --quiet nothing is printed. Sets are as 'riftcalico schemas' writes them.
 ";
 
 /// How a verb is called.
@@ -176,13 +179,20 @@ fn get_verb_help(verb: Verb) -> &'static str
     }
 }
 
+/// What the program does.
+fn get_program_help() -> &'static str
+    ensures { result.now ≡ program_help }
+{
+    HELP
+}
+
 /// What the program does, or one verb.
 pub fn get_help(verb: Option<Verb>) -> &'static str
     ensures { result.now ≡ help_text verb }
 {
     match verb {
         Some(verb) => get_verb_help(verb),
-        None => HELP,
+        None => get_program_help(),
     }
 }
 
@@ -193,37 +203,35 @@ pub fn get_version() -> &'static str
     VERSION
 }
 
-/// Appends a line of what is unknown.
-fn put_unknown(text: &mut String, noun: &str, word: &str) -> Result<()>
-    ensures put { OnOk result (string_bytes text.new ≡ string_bytes text.old ++ unknown_line noun.now word.now) }
+/// A line of a word and what it is, and how the program or the verb is called. Refused with `OutOfMemory` alone.
+fn get_word_line(alloc: Global, noun: &str, word: &str, usage: &str) -> Result<String>
+    ensures told { IfOk result (λ text. string_bytes text ≡ word_line noun.now word.now ++ usage.now) }
     ensures memory { IfErr result (λ e. e.kind ≡ OutOfMemory) }
 {
-    text.push_str("unknown ")?;
+    let mut text = String::new(alloc);
     text.push_str(noun)?;
     text.push_str(": ")?;
     text.push_str(word)?;
     text.push_str("\n")?;
-    Ok(())
+    text.push_str(usage)?;
+    Ok(text)
 }
 
-/// What is told of words that ask for nothing: the word that is unknown, if one is, and how the program or the verb is
-/// called. Refused with `OutOfMemory` alone.
+/// What is told of words that ask for nothing: the word that is unknown or no number, if one is, and how the program or the
+/// verb is called. Refused with `OutOfMemory` alone.
 pub fn get_misuse(alloc: Global, misuse: Misuse<'_>) -> Result<String>
     ensures told { IfOk result (λ text. string_bytes text ≡ fault_text (fault_seen misuse.entry)) }
     ensures memory { IfErr result (λ e. e.kind ≡ OutOfMemory) }
 {
-    let mut text = String::new(alloc);
     match misuse {
-        Misuse::NoVerb => text.push_str(USAGE)?,
-        Misuse::UnknownVerb(word) => {
-            put_unknown(&mut text, "verb", word)?;
-            text.push_str(USAGE)?;
-        }
+        Misuse::NoVerb => Ok(String::from_str(alloc, USAGE)?),
+        Misuse::UnknownVerb(word) => get_word_line(alloc, "unknown verb", word, USAGE),
         Misuse::UnknownOption(verb, word) => {
-            put_unknown(&mut text, "option", word)?;
-            text.push_str(get_verb_usage(verb))?;
+            get_word_line(alloc, "unknown option", word, get_verb_usage(verb))
         }
-        Misuse::OtherWords(verb) => text.push_str(get_verb_usage(verb))?,
+        Misuse::NoBytes(verb, word) => {
+            get_word_line(alloc, "no number of bytes", word, get_verb_usage(verb))
+        }
+        Misuse::OtherWords(verb) => Ok(String::from_str(alloc, get_verb_usage(verb))?),
     }
-    Ok(text)
 }

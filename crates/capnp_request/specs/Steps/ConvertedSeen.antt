@@ -4,8 +4,9 @@ use Rattle.capnp_base.specs.declared.introspect.«Type».{«Type» as TypeHandle
 use Rattle.capnp_schema.specs.Schema.{Annotation, FieldKind, seen_annotation, seen_field, seen_kind}
 use Rattle.capnp_schema.specs.Types.{SchemaType, seen_type}
 use Rattle.capnp_schema.specs.declared.record.AnnotationRecord.{AnnotationRecord}
-use Rattle.capnp_request.specs.Steps.Bindings.{flags}
+use Rattle.capnp_request.specs.Steps.Bindings.{flags, seen_marked}
 use Rattle.capnp_request.specs.Conversion.{Converted, Note, notes_of}
+use Rattle.capnp_request.specs.Work.{MarkedType}
 use Rattle.capnp_request.specs.declared.entries.GroupPlace.{GroupPlace}
 use Rattle.capnp_request.specs.declared.fields.ConvertedKind.{ConvertedKind}
 use Rattle.capnp_request.specs.declared.fields.ConvertedField.{ConvertedField}
@@ -17,8 +18,8 @@ typed_annotations (a ∷ rest) [] = []
 typed_annotations (a ∷ rest) (t ∷ types) = (seen_annotation a, seen_type t) ∷ typed_annotations rest types
 
 -- the kind of a field at its place, its type and its notes
-abbrev pub seen_converted_kind : GroupPlace → ConvertedKind → FieldKind × SchemaType × List Note
-seen_converted_kind place k = (seen_kind k.kind, seen_type k.field_type, notes_of place.parent place.field (flags k.seen) k.seen.untyped_default)
+abbrev pub seen_converted_kind : GroupPlace → ConvertedKind → FieldKind × MarkedType × List Note
+seen_converted_kind place k = (seen_kind k.kind, seen_marked k.field_type, notes_of place.parent place.field (flags k.seen) k.seen.untyped_default)
 
 -- field i of entry n
 abbrev pub seen_converted : (n i : ℕ) → ConvertedField → Converted

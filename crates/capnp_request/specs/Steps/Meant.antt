@@ -7,7 +7,7 @@ use Rattle.capnp_records.specs.Record.{Record, Value}
 use Rattle.capnp_request.specs.Reading.{type_kinds}
 use Rattle.capnp_request.specs.Terms.{BrandTerm, MemberTerm, MoreScopes, NoScopes, Said, ScopeTerm, TypeTerm, UnreadBrand, UnreadType}
 use Rattle.capnp_request.specs.Types.{float32, float64}
-use Rattle.capnp_request.specs.Work.{Work}
+use Rattle.capnp_request.specs.Work.{MarkedType, Work}
 
 -- what member m of a type says
 abbrev pub type_kind : (Record → TypeTerm) → ℕ → Value → TypeTerm
@@ -23,7 +23,7 @@ IsSaidByMemberOr m (Some t) = IsSaidByMember m t
 IsSaidByMemberOr m None = (10 ≤ m) × (12 ≤ m → 14 ≤ m)
 
 -- a float of one of two widths
-abbrev pub float_type : (is_double strict : Bool) → Work SchemaType
+abbrev pub float_type : (is_double strict : Bool) → Work MarkedType
 float_type true strict = float64 strict
 float_type false strict = float32 strict
 

@@ -8,9 +8,10 @@ use Rattle.capnp_base.specs.declared.introspect.TypeVariant.TheVariants as varia
 use Rattle.capnp_device.specs.declared.error.ErrorKind.{ErrorKind}
 use Rattle.capnp_device.specs.declared.error.ErrorKind.TheVariants.{OutOfMemory, TooManyTypes}
 use Rattle.capnp_schema.specs.Schema.{Node, seen_node}
-use Rattle.capnp_schema.specs.Types.{SchemaType, AnyPointerType}
+use Rattle.capnp_schema.specs.Types.{AnyPointerType}
 use Rattle.capnp_schema.specs.declared.record.NodeRecord.{NodeRecord}
 use Rattle.capnp_request.specs.Names.{Holder, type_name}
+use Rattle.capnp_request.specs.Work.{MarkedType, plain}
 use Rattle.capnp_request.specs.declared.names.Holder.{Holder as HolderRecord}
 use Rattle.capnp_request.specs.declared.names.Names.{Names}
 
@@ -43,8 +44,8 @@ names_nothing (variant.List t) = false
 names_nothing t = true
 
 -- the name of a bound type by its index, an untyped pointer's past the last
-abbrev pub bound_name_at : (structs enums : List (List ℕ)) → List SchemaType → ℕ → List ℕ
-bound_name_at structs enums ts index = type_name structs enums (unwrap_or (slice_get ts index) AnyPointerType)
+abbrev pub bound_name_at : (structs enums : List (List ℕ)) → List MarkedType → ℕ → List ℕ
+bound_name_at structs enums ts index = type_name structs enums (unwrap_or (slice_get ts index) (plain AnyPointerType))
 
 -- one more with the name: the first has it, and it is shared where another has another id
 abbrev pub one_more : ℕ → Option HolderRecord → HolderRecord

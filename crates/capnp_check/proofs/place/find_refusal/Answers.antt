@@ -1,7 +1,8 @@
-use Rattle.std.proofs.Common.{sym, None, Some, string_bytes, rules}
+use Rattle.std.proofs.Common.{sym, None, Some, string_bytes, rules, ◌∙◌}
 use Rattle.capnp_dynamic_readers.specs.Shown.{set_seen}
 use Rattle.capnp_check.specs.Places.{root_parts}
 use Rattle.capnp_check.proofs.PlacesFound.{begins, number_told, path_ends, steps_on}
+use Rattle.capnp_check.proofs.FirstRefused.{found_first, none_first, path-short, short_on, short_start}
 use Rattle.capnp_check.proofs.PlaceWords.{words_on, words_start}
 use Rattle.capnp_check.proofs.place.find_refusal.Goals as goal
 
@@ -13,6 +14,7 @@ loop-step-init c =
       words = words_start (set_seen c.args.value) (root_parts c.args.value) c.new-path.result.items (string_bytes c.new-words.result) c.new-path.ensures.items (search rules);
       of_set = c.open_root-current.ensures.set;
       same = b.1;
+      short = short_start c.args.value c.new-path.result.items c.open_root-current.result c.new-path.ensures.items c.open_root-current.ensures.parts;
     }
 
 pub loop-step-preserved : goal.loop-step-preserved
@@ -23,9 +25,10 @@ loop-step-preserved c =
       path = on.0;
       words = words_on (set_seen c.args.value) (root_parts c.args.value) c.loop-step.path.items c.push.new.self.items c.in-Some.step c.loop-step.current
           (string_bytes c.loop-step.words) (string_bytes c.put_step.new.out) c.in_ok-push.ensures.items c.loop-step.invariant.path c.loop-step.invariant.words
-          (c.in_ok-put_step.ensures.put (set_seen c.args.value) c.loop-step.invariant.of_set found.first);
+          (c.in_ok-put_step.ensures.put (set_seen c.args.value) c.loop-step.invariant.of_set);
       of_set = found.of_set;
       same = on.1;
+      short = short_on (set_seen c.args.value) c.loop-step.path.items c.push.new.self.items c.in-Some.step c.loop-step.current c.in-Some.next c.in_ok-push.ensures.items found.less c.loop-step.invariant.short;
     }
 
 pub loop-step-smaller : goal.loop-step-smaller
@@ -48,3 +51,13 @@ returns-clause-place c =
           c.loop-step.invariant.path;
       words = c.loop-step.invariant.words;
     }
+
+pub returns-in_default-get_own_kind-clause-first : goal.returns-in_default-get_own_kind-clause-first
+returns-in_default-get_own_kind-clause-first c =
+    none_first c.args.value (c.loop-step.invariant.same ∙ (sym (c.in_default.ensures (set_seen c.args.value) c.loop-step.invariant.of_set) ∙ sym c.in_default-get_own_kind.ensures))
+
+pub returns-clause-first : goal.returns-clause-first
+returns-clause-first c =
+    found_first c.args.value c.loop-step.path.items (string_bytes c.loop-step.words) c.in-Some-get_own_kind.kind
+    (path_ends (set_seen c.args.value) c.loop-step.path.items (root_parts c.args.value) c.loop-step.current c.in-Some-get_own_kind.kind (sym c.in-Some-get_own_kind.ensures) c.loop-step.invariant.path)
+    c.loop-step.invariant.words (path-short _ _ _ c.loop-step.invariant.short)

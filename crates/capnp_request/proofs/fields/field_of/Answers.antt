@@ -23,4 +23,7 @@ pub returns-in_err-listed-clause-done : goal.returns-in_err-listed-clause-done
 returns-in_err-listed-clause-done c = err_done (seen_converted c.args.place.parent c.args.place.field) (field_of (nodes_of c.args.context.nodes.now) c.args.context.strict (bounds c.args.inside.now) c.args.place.parent c.args.place.field (field_said (record_seen c.args.field))) (between c.args.entries.now) _ c.from_residual-in_err-listed.result _ c.from_residual-in_err-listed.ensures.1 (λ n. annotations_refused (nodes_of c.args.context.nodes.now) c.args.context.strict (bounds c.args.inside.now) c.args.place.parent c.args.place.field (record_seen c.args.field) (between c.args.entries.now) c.in_ok-text.text.now c.in_ok-text.ensures.read (string_bytes c.in_ok-name.name) c.in_ok-name.ensures.read c.u16_at-discriminant_value.result c.u16_at-discriminant_value.ensures (seen_converted_kind c.args.place c.in_ok-converted.converted) _ c.in_ok-converted.ensures.done _ (c.in_err-listed.ensures.done n))
 
 pub returns-clause-done : goal.returns-clause-done
-returns-clause-done c = field_done (nodes_of c.args.context.nodes.now) c.args.context.strict (bounds c.args.inside.now) c.args.place.parent c.args.place.field (record_seen c.args.field) (between c.args.entries.now) c.in_ok-text.text.now c.in_ok-text.ensures.read (string_bytes c.in_ok-name.name) c.in_ok-name.ensures.read c.u16_at-discriminant_value.result c.u16_at-discriminant_value.ensures (seen_converted_kind c.args.place c.in_ok-converted.converted) _ c.in_ok-converted.ensures.done _ _ c.in_ok-listed.ensures.done ∙ field_made (string_bytes c.in_ok-name.name) c.u16_at-discriminant_value.result (seen_converted_kind c.args.place c.in_ok-converted.converted) c.in_ok-listed.listed.0.items c.in_ok-listed.listed.1.items _ c.in_ok-listed.ensures.typed
+returns-clause-done c = field_done (nodes_of c.args.context.nodes.now) c.args.context.strict (bounds c.args.inside.now) c.args.place.parent c.args.place.field (record_seen c.args.field) (between c.args.entries.now) c.in_ok-text.text.now c.in_ok-text.ensures.read (string_bytes c.in_ok-name.name) c.in_ok-name.ensures.read c.u16_at-discriminant_value.result c.u16_at-discriminant_value.ensures (seen_converted_kind c.args.place c.in_ok-converted.converted) _ c.in_ok-converted.ensures.done _ _ c.in_ok-listed.ensures.done ∙ field_made (string_bytes c.in_ok-name.name) c.u16_at-discriminant_value.result (seen_converted_kind c.args.place c.in_ok-converted.converted) _ c.add_mark.new.annotations.items c.add_mark.new.types.items _ c.in_ok-add_mark.ensures.added c.in_ok-add_mark.ensures.typed
+
+pub returns-in_err-add_mark-clause-done : goal.returns-in_err-add_mark-clause-done
+returns-in_err-add_mark-clause-done c = err_done (seen_converted c.args.place.parent c.args.place.field) (field_of (nodes_of c.args.context.nodes.now) c.args.context.strict (bounds c.args.inside.now) c.args.place.parent c.args.place.field (field_said (record_seen c.args.field))) (between c.args.entries.now) _ c.from_residual-in_err-add_mark.result _ c.from_residual-in_err-add_mark.ensures.1 (λ n. absurd (n c.in_err-add_mark.ensures.kinds))

@@ -1,12 +1,11 @@
 use Rattle.std.proofs.Common.{◌∙◌, ap, sym, Err, Ok, List}
 use Rattle.capnp_schema.specs.Schema.{Group}
-use Rattle.capnp_schema.specs.Types.{seen_type}
 use Rattle.capnp_dynamic_readers.specs.Seen.{record_seen}
-use Rattle.capnp_request.specs.Steps.Bindings.{bounds}
+use Rattle.capnp_request.specs.Steps.Bindings.{bounds, seen_marked}
 use Rattle.capnp_request.specs.Steps.Done.{between}
 use Rattle.capnp_request.specs.Steps.Nodes.{nodes_of}
 use Rattle.capnp_request.specs.Parts.{request_read_at}
-use Rattle.capnp_request.specs.Work.{nothing_seen, GroupOf}
+use Rattle.capnp_request.specs.Work.{nothing_seen, plain, GroupOf}
 use Rattle.capnp_request.proofs.Refused.{err_done}
 use Rattle.capnp_request.specs.Conversion.{Note, kind_of}
 use Rattle.capnp_request.specs.Steps.ConvertedSeen.{seen_converted_kind}
@@ -33,5 +32,5 @@ returns-in_err-number-clause-done c =
 pub returns-clause-done : goal.returns-clause-done
 returns-clause-done c =
     group_done (nodes_of c.args.context.nodes.now) c.args.context.strict (bounds c.args.inside.now) c.args.place.parent c.args.place.field (request_read_at 8 4 (record_seen c.args.field)) (record_seen c.group_at-group.result) c.u64_at-id.result c.group_at-group.ensures.read c.u64_at-id.ensures (between c.args.entries.now) c.in_ok-struct_node.ensures.found c.in_ok-number.number _ _
-    (ap (λ b. add_entry (record { node = c.u64_at-id.result; bound = b; place = GroupOf c.args.place.parent c.args.place.field }) (between c.args.entries.now)) (sym c.in_ok-scopes.ensures.read) ∙ c.in_ok-number.ensures.done nothing_seen) c.entry_type.ensures
-    ∙ ap (λ (ns : List Note). Ok ((Group c.in_ok-number.number, seen_type c.entry_type.result, ns), between c.number_group.new.self)) (nothing_noted c.args.place.parent c.args.place.field _ _ c.nothing.ensures.seen c.nothing.ensures.default)
+    (ap (λ b. add_entry (record { node = c.u64_at-id.result; bound = b; place = GroupOf c.args.place.parent c.args.place.field }) (between c.args.entries.now)) (sym c.in_ok-scopes.ensures.read) ∙ c.in_ok-number.ensures.done nothing_seen) (c.plain.ensures ∙ ap plain c.entry_type.ensures)
+    ∙ ap (λ (ns : List Note). Ok ((Group c.in_ok-number.number, seen_marked c.plain.result, ns), between c.number_group.new.self)) (nothing_noted c.args.place.parent c.args.place.field _ _ c.nothing.ensures.seen c.nothing.ensures.default)

@@ -8,18 +8,18 @@ use Rattle.capnp_request.proofs.names.append_type.Goals as goal
 pub returns-in_err-append_lists-clause-refused : goal.returns-in_err-append_lists-clause-refused
 returns-in_err-append_lists-clause-refused c =
     let p = err_from_is_err_and c.from_residual.result c.from_residual.ensures.1 in
-    rw (p.1, p.2) (first_long _ _ _ _ _ (lists_name (struct_names c.args.named.structs.now) (texts c.args.named.enums.now) (list_depth c.args.bound) (seen_base (base_of c.args.bound))) _ c.in_err-append_lists.ensures.refused)
+    rw (p.1, p.2) (first_long _ _ _ _ _ (lists_name (struct_names c.args.named.structs.now) (texts c.args.named.enums.now) c.args.bound.is_float (list_depth c.args.bound.standing) (seen_base (base_of c.args.bound.standing))) _ c.in_err-append_lists.ensures.refused)
 
 pub returns-in_err-append_base-clause-refused : goal.returns-in_err-append_base-clause-refused
 returns-in_err-append_base-clause-refused c =
     let p = err_from_is_err_and c.from_residual-in_err-append_base.result c.from_residual-in_err-append_base.ensures.1 in
-    rw (p.1, p.2) (second_long _ _ _ _ _ (lists_name (struct_names c.args.named.structs.now) (texts c.args.named.enums.now) (list_depth c.args.bound) (seen_base (base_of c.args.bound))) _ _ c.in_ok-append_lists.ensures.appended c.in_err-append_base.ensures.refused)
+    rw (p.1, p.2) (second_long _ _ _ _ _ (lists_name (struct_names c.args.named.structs.now) (texts c.args.named.enums.now) c.args.bound.is_float (list_depth c.args.bound.standing) (seen_base (base_of c.args.bound.standing))) _ _ c.in_ok-append_lists.ensures.appended c.in_err-append_base.ensures.refused)
 
 pub returns-in_err-append_lists-2-clause-refused : goal.returns-in_err-append_lists-2-clause-refused
 returns-in_err-append_lists-2-clause-refused c =
     let p = err_from_is_err_and c.from_residual-in_err-append_lists-2.result c.from_residual-in_err-append_lists-2.ensures.1 in
-    rw (p.1, p.2) (third_long _ _ _ _ _ (lists_name (struct_names c.args.named.structs.now) (texts c.args.named.enums.now) (list_depth c.args.bound) (seen_base (base_of c.args.bound))) _ _ _ c.in_ok-append_lists.ensures.appended c.in_ok-append_base.ensures.appended c.in_err-append_lists-2.ensures.refused)
+    rw (p.1, p.2) (third_long _ _ _ _ _ (lists_name (struct_names c.args.named.structs.now) (texts c.args.named.enums.now) c.args.bound.is_float (list_depth c.args.bound.standing) (seen_base (base_of c.args.bound.standing))) _ _ _ c.in_ok-append_lists.ensures.appended c.in_ok-append_base.ensures.appended c.in_err-append_lists-2.ensures.refused)
 
 pub returns-clause-appended : goal.returns-clause-appended
 returns-clause-appended c =
-    joined _ _ _ _ _ (lists_name (struct_names c.args.named.structs.now) (texts c.args.named.enums.now) (list_depth c.args.bound) (seen_base (base_of c.args.bound))) _ _ _ c.in_ok-append_lists.ensures.appended c.in_ok-append_base.ensures.appended c.in_ok-append_lists-2.ensures.appended
+    joined _ _ _ _ _ (lists_name (struct_names c.args.named.structs.now) (texts c.args.named.enums.now) c.args.bound.is_float (list_depth c.args.bound.standing) (seen_base (base_of c.args.bound.standing))) _ _ _ c.in_ok-append_lists.ensures.appended c.in_ok-append_base.ensures.appended c.in_ok-append_lists-2.ensures.appended

@@ -1,6 +1,5 @@
 use Rattle.std.proofs.Common.{◌+◌, ◌*◌, ◌-◌, ◌≤◌, ◌≡◌, drop, map}
-use Rattle.capnp_schema.specs.Types.{seen_type}
-use Rattle.capnp_request.specs.Steps.Bindings.{bounds, with_nothing}
+use Rattle.capnp_request.specs.Steps.Bindings.{bounds, seen_marked, with_nothing}
 use Rattle.capnp_request.specs.Steps.Done.{so_far}
 use Rattle.capnp_request.specs.Steps.Handles.{values_left}
 use Rattle.capnp_request.specs.Steps.Nodes.{nodes_of}
@@ -52,5 +51,5 @@ invariant-bound_types-loop-index l = record {
   numbers : AreNumbered l.entries;
   below : l.index ≤ l.parameters;
   done : binding_types (nodes_of l.context.nodes.now) l.context.strict (bounds l.inside) (bindings_said (type_said l.depth) (values_left l.bindings 0)) l.parameters (so_far l.fn.entries l.fn.seen)
-      ≡ prefixed (map seen_type l.types.items) (binding_types (nodes_of l.context.nodes.now) l.context.strict (bounds l.inside) (bindings_said (type_said l.depth) (values_left l.bindings l.index)) (l.parameters - l.index) (so_far l.entries l.seen));
+      ≡ prefixed (map seen_marked l.types.items) (binding_types (nodes_of l.context.nodes.now) l.context.strict (bounds l.inside) (bindings_said (type_said l.depth) (values_left l.bindings l.index)) (l.parameters - l.index) (so_far l.entries l.seen));
 }

@@ -8,4 +8,4 @@ use Rattle.riftcalico_core.proofs.answer.explain.Goals as goal
 pub returns-in-Ok-None-clause-shown : goal.returns-in-Ok-None-clause-shown
 returns-in-Ok-None-clause-shown c =
     λ memory. not_both c.args.error.kind (got_text (set_of c.args.job.now.schema) (number_of c.args.job.now.schema) (path_seen c.args.job.now.steps.items) c.args.job.now.indented c.args.message.now)
-    ((rw c.in-Ok-None.field-0-is at c.in-Ok-None.ensures.found) c.args.job.now.indented) (c.requires.refused (rw c.get_fault-in-Ok-None.ensures.error at memory))
+    ((rw (c.in-Ok-None.field-0-is, c.deref.ensures.value) at c.in-Ok-None.ensures.found) c.args.job.now.indented) (c.requires.refused (rw c.get_fault-in-Ok-None.ensures.error at memory))

@@ -1,0 +1,60 @@
+use Rattle.std.proofs.Common.{arith}
+use Rattle.capnp_dynamic_readers.specs.Shown.{set_seen}
+use Rattle.capnp_check.specs.Faults.{shown_within}
+use Rattle.capnp_check.specs.Places.{root_parts}
+use Rattle.capnp_check.proofs.FramesLeft.{count_done}
+use Rattle.capnp_check.proofs.VisitSteps.{below_limit, count_begun, count_in, count_out, count_short, nil-from-length, one-shown, open_first, open_next, open_own, open_popped}
+use Rattle.capnp_check.proofs.place.count_parts.Goals as goal
+
+pub loop-frame-init : goal.loop-frame-init
+loop-frame-init c = record {
+  counted = count_begun c.args.value c.open_root.result c.new-frames.result.items c.push.new.self.items c.open_root.ensures.parts c.new-frames.ensures.items c.in_ok-push.ensures.items;
+  of_set = open_first (set_seen c.args.value) c.new-frames.result.items c.push.new.self.items c.open_root.result c.new-frames.ensures.items c.in_ok-push.ensures.items c.open_root.ensures.set;
+  small = omega (arith, c.if-limit-eq0.false);
+}
+
+-- past the last part of the innermost value
+pub loop-frame-preserved : goal.loop-frame-preserved
+loop-frame-preserved c =
+    let own = open_own (set_seen c.args.value) c.loop-frame.frames.items c.pop.new.self.items c.in-Some.frame c.in-Some.ensures.items c.loop-frame.invariant.of_set in
+    record {
+      counted = λ n le.
+          count_out (set_seen c.args.value) n c.loop-frame.count (shown_within n c.args.value) c.loop-frame.frames.items c.pop.new.self.items c.in-Some.frame c.in-Some.ensures.items
+          (c.loop-frame.invariant.counted n le) (c.in_default-find_next_part.ensures (set_seen c.args.value) own);
+      of_set = open_popped (set_seen c.args.value) c.loop-frame.frames.items c.pop.new.self.items c.in-Some.frame c.in-Some.ensures.items c.loop-frame.invariant.of_set;
+      small = c.loop-frame.invariant.small;
+    }
+
+-- the next part
+pub loop-frame-preserved-in-Continue-branch-3 : goal.loop-frame-preserved-in-Continue-branch-3
+loop-frame-preserved-in-Continue-branch-3 c =
+    let own = open_own (set_seen c.args.value) c.loop-frame.frames.items c.pop.new.self.items c.in-Some.frame c.in-Some.ensures.items c.loop-frame.invariant.of_set in
+    let next = c.in-Some-find_next_part.ensures (set_seen c.args.value) own in
+    record {
+      counted = λ n le.
+          count_in (set_seen c.args.value) n c.loop-frame.count (shown_within n c.args.value) c.loop-frame.frames.items c.pop.new.self.items c.in-Some.frame c.in-Some.ensures.items
+          (c.loop-frame.invariant.counted n le) c.in-Some-find_next_part.step c.in-Some-find_next_part.part c.push-in-Some-find_next_part.new.self.items c.push-in-Some-find_next_part-2.new.self.items next c.in_ok-push-2.ensures.items c.in_ok-push-3.ensures.items;
+      of_set =
+          open_next (set_seen c.args.value) c.loop-frame.frames.items c.pop.new.self.items c.in-Some.frame c.in-Some.ensures.items c.loop-frame.invariant.of_set c.in-Some-find_next_part.step c.in-Some-find_next_part.part c.push-in-Some-find_next_part.new.self.items
+          c.push-in-Some-find_next_part-2.new.self.items c.in_ok-push-2.ensures.items c.in_ok-push-3.ensures.items next.of_set;
+      small = (let lt = below_limit c.loop-frame.count c.args.limit c.loop-frame.invariant.small c.if-count-limit.false in omega (arith, lt));
+    }
+
+-- one part more than the limit
+pub returns-then-count-limit-clause-too_large : goal.returns-then-count-limit-clause-too_large
+returns-then-count-limit-clause-too_large c = λ is n le.
+    let own = open_own (set_seen c.args.value) c.loop-frame.frames.items c.pop.new.self.items c.in-Some.frame c.in-Some.ensures.items c.loop-frame.invariant.of_set in
+    let next = c.in-Some-find_next_part.ensures (set_seen c.args.value) own in
+    let more = count_short (set_seen c.args.value) n c.loop-frame.count (shown_within n c.args.value) c.loop-frame.frames.items c.pop.new.self.items c.in-Some.frame c.in-Some.ensures.items
+    (c.loop-frame.invariant.counted n le) c.in-Some-find_next_part.step c.in-Some-find_next_part.part next in
+    omega (arith, more, c.if-count-limit.true)
+
+pub returns-then-limit-eq0-clause-too_large : goal.returns-then-limit-eq0-clause-too_large
+returns-then-limit-eq0-clause-too_large c = λ is n le. (let one = one-shown (set_seen c.args.value) n (root_parts c.args.value) in omega (arith, one, c.if-limit-eq0.true))
+
+-- all were counted
+pub returns-clause-count : goal.returns-clause-count
+returns-clause-count c = λ n le.
+    let size = c.loop-frame.frames.ok.0 in
+    let none = c.in_default.ensures.cases.0 in
+    count_done (set_seen c.args.value) n c.loop-frame.count (shown_within n c.args.value) c.loop-frame.frames.items (nil-from-length c.loop-frame.frames.items (omega (arith, size, none))) (c.loop-frame.invariant.counted n le)

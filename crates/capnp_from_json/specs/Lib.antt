@@ -1,0 +1,9 @@
+pub mod Integers
+pub mod Errors
+pub mod Encodings
+pub mod Leaves
+pub mod Records
+pub mod Looks
+pub mod LeafReads
+pub mod ElementReads
+pub mod Steps

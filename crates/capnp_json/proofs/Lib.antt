@@ -1,0 +1,11 @@
+pub mod RowSet
+pub mod RowsJson
+pub mod Puts
+pub mod Written
+pub mod LineSteps
+pub mod FiniteFloats
+pub mod ByteSteps
+pub mod LeafJsons
+pub mod PartsJson
+pub mod Missing
+pub mod Digits

@@ -1,0 +1,12 @@
+use Rattle.std.proofs.Common.{List, subst, ℕ, ◌∙◌}
+use Rattle.capnp_json.specs.Leaves.{quoted}
+use Rattle.capnp_json.specs.Pieces.{said}
+use Rattle.capnp_json.specs.Steps.Puts.{IsPut, IsStopped}
+use Rattle.capnp_json.proofs.Puts.{err_map, ok_map}
+use Rattle.capnp_json.proofs.numbers.put_wide_unsigned.Goals as goal
+
+pub returns-clause-put : goal.returns-clause-put
+returns-clause-put c = ok_map c.put_quoted.result (subst (λ (z : List ℕ). IsPut c.args.out.now (said (quoted z)) c.put_quoted.new.out) (c.behind.ensures.is ∙ c.write_digits-start.ensures.written)) c.put_quoted.ensures.put
+
+pub returns-clause-stopped : goal.returns-clause-stopped
+returns-clause-stopped c = err_map c.put_quoted.result (λ why. subst (λ (z : List ℕ). IsStopped c.args.out.now (said (quoted z)) why) (c.behind.ensures.is ∙ c.write_digits-start.ensures.written)) c.put_quoted.ensures.stopped

@@ -1,0 +1,23 @@
+use Rattle.std.proofs.Common.{[], ◌++◌, ◌∷◌}
+use Rattle.capnp_json.specs.Leaves.{quoted}
+use Rattle.capnp_json.specs.Pieces.{said}
+use Rattle.capnp_json.proofs.Puts.{last_put, last_stopped, then_two, two_first, two_later}
+use Rattle.capnp_json.proofs.strings.put_quoted.Goals as goal
+
+pub returns-in-Err-clause-stopped : goal.returns-in-Err-clause-stopped
+returns-in-Err-clause-stopped c = two_first c.args.out.now (34 ∷ []) (c.args.piece.now ++ 34 ∷ []) c.in-Err.why c.in-Err.ensures.stopped
+
+pub returns-in-Err-put-clause-stopped : goal.returns-in-Err-put-clause-stopped
+returns-in-Err-put-clause-stopped c =
+    two_later c.args.out.now c.put.new.self (34 ∷ []) (c.args.piece.now ++ 34 ∷ []) c.in-Err-put.why c.in_default.ensures.put
+    (two_first c.put.new.self c.args.piece.now (34 ∷ []) c.in-Err-put.why c.in-Err-put.ensures.stopped)
+
+pub returns-clause-put : goal.returns-clause-put
+returns-clause-put c =
+    last_put c.args.out.now c.put-2.new.self c.put-3.new.self (said (quoted c.args.piece.now)) (said (34 ∷ []))
+    (then_two c.args.out.now c.put.new.self c.put-2.new.self (34 ∷ []) c.args.piece.now (34 ∷ []) c.in_default.ensures.put c.in_default-put.ensures.put) c.put-3.result c.put-3.ensures.put
+
+pub returns-clause-stopped : goal.returns-clause-stopped
+returns-clause-stopped c =
+    last_stopped c.args.out.now c.put-2.new.self c.put-3.new.self (said (quoted c.args.piece.now)) (said (34 ∷ []))
+    (then_two c.args.out.now c.put.new.self c.put-2.new.self (34 ∷ []) c.args.piece.now (34 ∷ []) c.in_default.ensures.put c.in_default-put.ensures.put) c.put-3.result c.put-3.ensures.stopped

@@ -1,0 +1,5 @@
+pub mod Errors
+pub mod Pieces
+pub mod Leaves
+pub mod Json
+pub mod Steps

@@ -1,0 +1,69 @@
+-- What tells more of a reply: of a field that isn't there, the struct that was asked, and names that may have been meant.
+use Rattle.std.specs.Prelude.{ℕ, suc, ◌≡◌, List, [], ◌∷◌, ◌++◌, Option, Some, None, Result, Ok, Err, codes, get_or, map, slice_get}
+use Rattle.capnp_device.specs.declared.error.ErrorKind.{ErrorKind}
+use Rattle.capnp_device.specs.declared.error.ErrorKind.TheVariants.{FieldNotFound}
+use Rattle.capnp_call.specs.declared.calls.Reply.{Reply}
+use Rattle.capnp_call.specs.declared.calls.Reply.TheVariants as reply
+use Rattle.capnp_patch.specs.Lines.{IsReplyTold}
+use Rattle.capnp_records.specs.Call.{Call, Clear, ElementAt, FieldNamed, FieldNumber, Get, Has, Init, Initn, Op, PathStep, Set, Which}
+use Rattle.capnp_records.specs.Run.{root_type}
+use Rattle.capnp_schema.specs.Schema.{Schemas, fields_of, node_of}
+use Rattle.capnp_schema.specs.Types.{SchemaType, StructType}
+use Rattle.capnp_words.specs.Targets.{type_behind}
+use Rattle.riftcalico_core.specs.Near.{near_note}
+use Rattle.riftcalico_core.specs.Notes.{field_name}
+
+-- the type of what is asked and the step that it doesn't have
+abbrev pub Unknown : Type 0
+Unknown = SchemaType × PathStep
+
+-- the type at the end of a path by the schema alone, or the first step that fits nothing
+abbrev pub behind_step : SchemaType → PathStep → Option SchemaType → (SchemaType → Result SchemaType Unknown) → Result SchemaType Unknown
+behind_step t s None further = Err (t, s)
+behind_step t s (Some u) further = further u
+
+abbrev pub types_along : Schemas → SchemaType → List PathStep → Result SchemaType Unknown
+types_along set t [] = Ok t
+types_along set t (s ∷ steps) = behind_step t s (type_behind set t s) (λ u. types_along set u steps)
+
+-- of a call: its path and what its last step names; the struct that is asked for its member is at the end of the path
+abbrev pub last_along : Schemas → (last : PathStep) → Op → Result SchemaType Unknown → Result SchemaType Unknown
+last_along set last op (Err unknown) = Err unknown
+last_along set last Which (Ok t) = Ok t
+last_along set last op (Ok t) = behind_step t last (type_behind set t last) Ok
+
+abbrev pub call_along : Schemas → SchemaType → Call → Result SchemaType Unknown
+call_along set t c = last_along set c.last c.op (types_along set t c.path)
+
+-- the struct that is asked, and what may have been meant
+abbrev pub meant_in : Schemas → (brand : ℕ) → PathStep → List ℕ
+meant_in set b (FieldNamed name) = near_note name (map field_name (fields_of set b))
+meant_in set b (FieldNumber i) = []
+meant_in set b (ElementAt i) = []
+
+abbrev pub asked_note : Schemas → SchemaType → PathStep → List ℕ
+asked_note set (StructType b g) s = codes " in " ++ (node_of set b).display_name ++ meant_in set b s
+asked_note set t s = []
+
+abbrev pub unknown_note : Schemas → Result SchemaType Unknown → List ℕ
+unknown_note set (Ok t) = []
+unknown_note set (Err unknown) = asked_note set unknown.0 unknown.1
+
+abbrev pub kind_note : Schemas → (brand : ℕ) → Call → ErrorKind → List ℕ
+kind_note set b c FieldNotFound = unknown_note set (call_along set (root_type set b) c)
+kind_note set b c kind = []
+
+abbrev pub reply_note : Schemas → (brand : ℕ) → Call → Reply → List ℕ
+reply_note set b c (reply.Refused kind) = kind_note set b c kind
+reply_note set b c r = []
+
+abbrev pub note_of : Schemas → (brand : ℕ) → Option Call → Reply → List ℕ
+note_of set b None r = []
+note_of set b (Some c) r = reply_note set b c r
+
+-- The lines of all these replies were told, the first of them to the call at this index. Each has its call's number, from 1 on, and its word; a call that no word
+-- is given for has an empty one.
+abbrev pub AreNoted : Schemas → (brand : ℕ) → ℕ → (words : List (List ℕ)) → List Call → List Reply → (old new : List ℕ) → Type 0
+AreNoted set b i words calls [] old new = new ≡ old
+AreNoted set b i words calls (r ∷ replies) old new =
+    (mid : List ℕ) × IsReplyTold (suc i) (get_or words i []) (note_of set b (slice_get calls i) r) r old mid × AreNoted set b (suc i) words calls replies mid new

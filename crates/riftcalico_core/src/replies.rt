@@ -1,0 +1,211 @@
+//! What is told of replies to calls: of a field that isn't there also the struct that was asked, and names that may have been
+//! meant.
+ghost use Rattle.std.specs.Prelude.{[], ◌≡◌, IfErr, IfOk, None, Some, get_or, map, slice_get, string_bytes};
+ghost use Rattle.std.specs.Option.{option_map};
+ghost use Rattle.capnp_call.specs.Seen.{call_seen, path_seen, step_seen};
+ghost use Rattle.capnp_device.specs.declared.error.ErrorKind.TheVariants.{OutOfMemory};
+ghost use Rattle.capnp_records.specs.Run.{root_type};
+ghost use Rattle.capnp_schema.specs.Entries.{lists_seen};
+ghost use Rattle.capnp_schema.specs.StructHandles.{IsStruct, number_of, set_of};
+ghost use Rattle.capnp_schema.specs.Types.{seen_type, seen_variant};
+ghost use Rattle.capnp_words.specs.Targets.{type_behind};
+ghost use Rattle.riftcalico_core.specs.Replies.{AreNoted, asked_note, call_along, kind_note, note_of, types_along};
+ghost use Rattle.riftcalico_core.specs.RepliesSeen.{along_seen};
+
+use crate::note::put_within;
+use capnp_base::introspect::{Type, TypeVariant};
+use capnp_call::calls::{Call, Op, Reply, Step};
+use capnp_patch::lines::put_line;
+use capnp_schema::schema::StructSchema;
+use capnp_schema::set::SchemaSet;
+use capnp_wire::error::{ErrorKind, Result};
+use capnp_words::target::{find_field_type, find_named_type};
+use std::alloc::Global;
+
+/// What is asked, by its type, and the step that it doesn't have.
+type Unknown<'c> = (Type, Step<'c>);
+
+/// The type of what a step names at a type of the set. None where it fits nothing there.
+fn find_type_behind(schemas: &SchemaSet, kind: TypeVariant, step: Step<'_>) -> Option<Type>
+    ensures { option_map seen_type result
+        ≡ type_behind (lists_seen schemas.now) (seen_variant kind) (step_seen step.entry) }
+{
+    match kind {
+        TypeVariant::Struct(raw) => match step {
+            Step::Named(name) => find_named_type(schemas.struct_schema(raw.number), name),
+            Step::Field(index) => find_field_type(schemas.struct_schema(raw.number), index),
+            Step::Element(_) => None,
+        },
+        TypeVariant::List(element) => match step {
+            Step::Element(_) => Some(element),
+            Step::Named(_) | Step::Field(_) => None,
+        },
+        _ => None,
+    }
+}
+
+/// The type behind a step, or that which it doesn't fit.
+#[tactic(auto, using(capnp_schema::specs::Facts::Layers::seen_which))]
+fn go_on<'c>(
+    schemas: &SchemaSet,
+    target: Type,
+    step: Step<'c>,
+) -> std::result::Result<Type, Unknown<'c>>
+    ensures next { IfOk result (λ next. type_behind (lists_seen schemas.now) (seen_type target) (step_seen step.entry)
+        ≡ Some (seen_type next)) }
+    ensures unknown { IfErr result (λ x. type_behind (lists_seen schemas.now) (seen_type target) (step_seen step.entry)
+        ≡ None) }
+    ensures asked { IfErr result (λ x. seen_type x.0 ≡ seen_type target) }
+    ensures step { IfErr result (λ x. step_seen x.1 ≡ step_seen step.entry) }
+{
+    match find_type_behind(schemas, target.which(), step) {
+        Some(next) => Ok(next),
+        None => Err((target, step)),
+    }
+}
+
+/// The type at the end of a path, or the first step that fits nothing.
+fn walk_types<'c>(
+    schemas: &SchemaSet,
+    start: Type,
+    path: &[Step<'c>],
+) -> std::result::Result<Type, Unknown<'c>>
+    ensures { along_seen result ≡ types_along (lists_seen schemas.now) (seen_type start) (path_seen path.now) }
+{
+    let mut target = start;
+    for step in path {
+        match go_on(schemas, target, *step) {
+            Ok(next) => target = next,
+            Err(unknown) => return Err(unknown),
+        }
+    }
+    Ok(target)
+}
+
+/// The type at the end of a call, or the first step that fits nothing.
+fn walk_call<'c>(schema: StructSchema<'_>, call: &Call<'c>) -> std::result::Result<Type, Unknown<'c>>
+    requires { IsStruct schema }
+    ensures { along_seen result
+        ≡ call_along (set_of schema.entry) (root_type (set_of schema.entry) (number_of schema.entry)) (call_seen call.now) }
+{
+    let schemas = schema.get_set();
+    let root = Type::from(TypeVariant::Struct(schema.into()));
+    match walk_types(schemas, root, call.path) {
+        Ok(target) => match call.op {
+            Op::Which => Ok(target),
+            _ => go_on(schemas, target, call.last),
+        },
+        Err(unknown) => Err(unknown),
+    }
+}
+
+/// The struct of a type that is asked for a field which it has not, and what may have been meant. Refused with
+/// `OutOfMemory` alone.
+#[tactic(auto, using(capnp_schema::specs::Facts::Layers::seen_which))]
+fn get_asked_note(
+    alloc: Global,
+    schemas: &SchemaSet,
+    target: Type,
+    step: Step<'_>,
+) -> Result<String>
+    ensures note { IfOk result (λ note. string_bytes note
+        ≡ asked_note (lists_seen schemas.now) (seen_type target) (step_seen step.entry)) }
+    ensures memory { IfErr result (λ e. e.kind ≡ OutOfMemory) }
+{
+    let mut note = String::new(alloc);
+    if let TypeVariant::Struct(raw) = target.which() {
+        put_within(
+            &mut note,
+            Some(schemas.struct_schema(raw.number)),
+            ErrorKind::FieldNotFound,
+            step,
+        )?;
+    }
+    Ok(note)
+}
+
+/// What tells more of a refusal of a call. Refused with `OutOfMemory` alone.
+fn get_kind_note(
+    alloc: Global,
+    schema: StructSchema<'_>,
+    call: &Call<'_>,
+    kind: ErrorKind,
+) -> Result<String>
+    requires { IsStruct schema }
+    ensures note { IfOk result (λ note. string_bytes note
+        ≡ kind_note (set_of schema.entry) (number_of schema.entry) (call_seen call.now) kind) }
+    ensures memory { IfErr result (λ e. e.kind ≡ OutOfMemory) }
+{
+    match kind {
+        ErrorKind::FieldNotFound => match walk_call(schema, call) {
+            Ok(_) => Ok(String::new(alloc)),
+            Err((target, step)) => get_asked_note(alloc, schema.get_set(), target, step),
+        },
+        _ => Ok(String::new(alloc)),
+    }
+}
+
+/// What tells more of a reply to a call, if it is one. Refused with `OutOfMemory` alone.
+fn get_reply_note(
+    alloc: Global,
+    schema: StructSchema<'_>,
+    call: Option<&Call<'_>>,
+    reply: &Reply,
+) -> Result<String>
+    requires { IsStruct schema }
+    ensures note { IfOk result (λ note. string_bytes note ≡ note_of (set_of schema.entry) (number_of schema.entry)
+        (option_map (λ c. call_seen c.now) call.entry) reply.now) }
+    ensures memory { IfErr result (λ e. e.kind ≡ OutOfMemory) }
+{
+    match (call, reply) {
+        (Some(call), Reply::Refused(kind)) => get_kind_note(alloc, schema, call, *kind),
+        _ => Ok(String::new(alloc)),
+    }
+}
+
+/// The word of the call at an index, empty where none is given.
+fn word_at<'a>(words: &[&'a str], index: usize) -> &'a str
+    ensures { result.now ≡ get_or (map (λ w. w.now) words.now) index [] }
+{
+    match words.get(index) {
+        Some(word) => *word,
+        None => "",
+    }
+}
+
+/// The call at an index.
+fn call_at<'b, 'a>(calls: &'b [Call<'a>], index: usize) -> Option<&'b Call<'a>>
+    ensures { option_map (λ c. call_seen c.now) result ≡ slice_get (map call_seen calls.now) index }
+{
+    calls.get(index)
+}
+
+/// A line for each reply that answers or refuses, in order: the number of its call, from 1 on, the call's word, and the answer
+/// or the refusal's number, name and note. A call that no word is given for is told with an empty one. Refused with
+/// `OutOfMemory` alone.
+pub(crate) fn get_noted_lines(
+    alloc: Global,
+    schema: StructSchema<'_>,
+    words: &[&str],
+    calls: &[Call<'_>],
+    replies: &[Reply],
+) -> Result<String>
+    requires { IsStruct schema }
+    ensures lines { IfOk result (λ lines. AreNoted (set_of schema.entry) (number_of schema.entry) 0
+        (map (λ w. w.now) words.now) (map call_seen calls.now) replies.now [] (string_bytes lines)) }
+    ensures memory { IfErr result (λ e. e.kind ≡ OutOfMemory) }
+{
+    let mut lines = String::new(alloc);
+    for index in 0..replies.len() {
+        let reply = &replies[index];
+        let note = get_reply_note(alloc, schema, call_at(calls, index), reply)?;
+        put_line(
+            &mut lines,
+            index as u64 + 1,
+            word_at(words, index),
+            note.as_str(),
+            reply,
+        )?;
+    }
+    Ok(lines)
+}
