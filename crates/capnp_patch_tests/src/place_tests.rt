@@ -14,7 +14,14 @@ use std::alloc::Global;
 use std::test::Fail;
 
 /// A struct by number, a message, a path, a limit, the places of all that is refused, and of the first.
-type Row = (u32, &'static [u8], &'static str, u64, &'static str, &'static str);
+type Row = (
+    u32,
+    &'static [u8],
+    &'static str,
+    u64,
+    &'static str,
+    &'static str,
+);
 
 static ROWS: [Row; 16] = [
     (
@@ -31,14 +38,35 @@ static ROWS: [Row; 16] = [
     (MIXED, BAD_TEXT, ".", 3, "refused 11\n", "refused 11\n"),
     (MIXED, BAD_TEXT, "a", 1, "", ""),
     (MIXED, BAD_TEXT, "a", 0, "refused 11\n", "refused 11\n"),
-    (MIXED, BAD_TEXT, "nothing", 0, "20 at step 0\n", "20 at step 0\n"),
+    (
+        MIXED,
+        BAD_TEXT,
+        "nothing",
+        0,
+        "20 at step 0\n",
+        "20 at step 0\n",
+    ),
     (MIXED, NONE, ".", 0, "2 at the root\n", "2 at the root\n"),
-    (FLAT, LIST_ROOT, "a", 0, "5 at the root\n", "5 at the root\n"),
+    (
+        FLAT,
+        LIST_ROOT,
+        "a",
+        0,
+        "5 at the root\n",
+        "5 at the root\n",
+    ),
     (SHAPES, TAGGED, ".", 5, "", ""),
     (SHAPES, TAGGED, ".", 4, "refused 11\n", "refused 11\n"),
     (SHAPES, TAGGED, "tag", 3, "", ""),
     (SHAPES, TAGGED, "tag", 2, "refused 11\n", "refused 11\n"),
-    (SHAPES, TAGGED, "tag.x.y", 9, "20 at step 1\n", "20 at step 1\n"),
+    (
+        SHAPES,
+        TAGGED,
+        "tag.x.y",
+        9,
+        "20 at step 1\n",
+        "20 at step 1\n",
+    ),
     (LOOP, CYCLE, ".", 9, "refused 11\n", "refused 11\n"),
 ];
 
@@ -55,7 +83,12 @@ fn put_all(out: &mut String, schema: StructSchema<'_>, row: &Row) -> Result<()>
     let steps = steps_of(alloc, row.2)?;
     match find_places(alloc, schema, &steps, row.1, row.3)? {
         Refusals::Root(kind) => Ok(write!(out, "{} at the root\n", kind.number())?),
-        Refusals::Step(step) => Ok(write!(out, "{} at step {}\n", step.error.kind.number(), step.index)?),
+        Refusals::Step(step) => Ok(write!(
+            out,
+            "{} at step {}\n",
+            step.error.kind.number(),
+            step.index
+        )?),
         Refusals::Parts(places) => {
             for place in &places {
                 put_part(out, place)?;

@@ -20,7 +20,7 @@ module _ (set : Schemas) (b : ℕ) (words : List (List ℕ)) (calls : List Call)
       subst (λ (rs : List Reply). AreNoted set b i words calls rs old new) (sym (step_from replies i r inside r_is)) (
         mid,
         subst (λ (n : ℕ). IsReplyTold n (get_or words i []) (note_of set b (slice_get calls i) r) r old mid) number
-        (subst (λ (w : List ℕ). IsReplyTold (i + 1) w (note_of set b (slice_get calls i) r) r old mid) w_is (subst (λ (z : List ℕ). IsReplyTold (i + 1) word z r old mid) n_is told)),
+            (subst (λ (w : List ℕ). IsReplyTold (i + 1) w (note_of set b (slice_get calls i) r) r old mid) w_is (subst (λ (z : List ℕ). IsReplyTold (i + 1) word z r old mid) n_is told)),
         subst (λ (n : ℕ). AreNoted set b n words calls (drop (i + 1) replies) mid new) number rest,
       )
     where

@@ -110,10 +110,7 @@ impl Job<'_, '_, '_> {
         ensures { result ≡ wants_input self.now }
     {
         match self {
-            Job::Get(_)
-            | Job::Check(_)
-            | Job::Patch(_)
-            | Job::Convert(_) => true,
+            Job::Get(_) | Job::Check(_) | Job::Patch(_) | Job::Convert(_) => true,
             Job::New(_)
             | Job::Structs(_)
             | Job::Fields(_)

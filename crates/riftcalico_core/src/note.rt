@@ -102,7 +102,11 @@ fn steps_to<'p, 'a>(path: &'p [Step<'a>], index: usize) -> &'p [Step<'a>]
 }
 
 /// The note of a step that is refused. Refused with `OutOfMemory` alone.
-pub(crate) fn get_step_note(alloc: Global, path: &[Step<'_>], refused: RefusedStep<'_>) -> Result<String>
+pub(crate) fn get_step_note(
+    alloc: Global,
+    path: &[Step<'_>],
+    refused: RefusedStep<'_>,
+) -> Result<String>
     ensures note { IfOk result (λ note. string_bytes note ≡ place_note (path_seen path.now) (Place.Step refused.entry)) }
     ensures memory { IfErr result (λ e. e.kind ≡ OutOfMemory) }
 {

@@ -13,7 +13,9 @@ use crate::words::{put_no_text, put_unreadable, put_word_line, split_lines};
 use capnp_wire::error::Result;
 use capnp_words::call::CallWord;
 use capnp_words::path::{Path, parse_path};
-use riftcalico_words::request::{CallWords, CallsRequest, CheckRequest, GetRequest, NamedRoot, Task, Verb};
+use riftcalico_words::request::{
+    CallWords, CallsRequest, CheckRequest, GetRequest, NamedRoot, Task, Verb,
+};
 use std::alloc::Global;
 use std::str;
 

@@ -83,7 +83,10 @@ fn walk_types<'c>(
 }
 
 /// The type at the end of a call, or the first step that fits nothing.
-fn walk_call<'c>(schema: StructSchema<'_>, call: &Call<'c>) -> std::result::Result<Type, Unknown<'c>>
+fn walk_call<'c>(
+    schema: StructSchema<'_>,
+    call: &Call<'c>,
+) -> std::result::Result<Type, Unknown<'c>>
     requires { IsStruct schema }
     ensures { along_seen result
         ≡ call_along (set_of schema.entry) (root_type (set_of schema.entry) (number_of schema.entry)) (call_seen call.now) }
