@@ -1,7 +1,6 @@
 -- The steps of a print among the fields of a struct and of the groups in it: what is to come, and that less is left to do.
 use Rattle.std.proofs.Common.{ℕ, suc, ◌+◌, ◌-◌, ◌^◌, ◌<◌, ◌≤◌, ◌≡◌, ◌==◌, refl, List, [], ◌∷◌, ◌++◌, Bool, true, false, not, ◌&&◌, codes, length, Option, Some, None, Ok, Err, Result, IfOk, MatchOption, ap, append-nil, arith, sym, subst, ◌∙◌}
 use Rattle.std.proofs.lemmas.Bool.Decides.{nat_tests}
-use Rattle.capnp_device.specs.declared.error.ErrorKind.{ErrorKind}
 use Rattle.capnp_wire.specs.declared.struct_reader.StructReader.{StructReader}
 use Rattle.capnp_schema.specs.Accepted.{IsAccepted}
 use Rattle.capnp_schema.specs.Facts.GroupFields.{group_field_found, target_parent}
@@ -19,7 +18,7 @@ use Rattle.capnp_records.specs.Part.{is_active, is_inactive, which_of}
 use Rattle.capnp_records.specs.Reading.{non_union_parts}
 use Rattle.capnp_records.specs.Record.{Active, NoUnion, Parts, Union, Unknown, Values, is_there}
 use Rattle.capnp_records.specs.Text.{Layout, Out, after, bracketed_text, deeper, item_if, said_text}
-use Rattle.capnp_dynamic_readers.specs.Steps.GroupTexts.{IsBracketClosed, IsNamePut, IsGroupOpened, IsOutside, IsPast, IsStart, IsPrintStep, closing, has_fields, is_item, item_by, items_from, onward, onward_of, shallower, steps_onward}
+use Rattle.capnp_dynamic_readers.specs.Steps.GroupTexts.{IsBracketClosed, IsNamePut, IsGroupOpened, IsOutside, IsPast, IsStart, IsPrintStep, closing, has_fields, is_item, item_by, items_from, name_text, onward, onward_of, shallower, steps_onward}
 use Rattle.capnp_dynamic_readers.specs.Handles.{reader_of, schema_of}
 use Rattle.capnp_dynamic_readers.specs.Steps.PartsRead.{field_in}
 use Rattle.capnp_dynamic_readers.specs.Pieces.{Taken}
@@ -29,10 +28,10 @@ use Rattle.capnp_dynamic_readers.specs.Steps.Shown.{field_item, field_shown, is_
 use Rattle.capnp_dynamic_readers.specs.declared.dynamic_struct.Reader.{Reader as StructHandle}
 use Rattle.capnp_dynamic_readers.specs.declared.printer.groups.Standing.{Standing}
 use Rattle.capnp_dynamic_readers.specs.declared.printer.output.Stop.{Stop}
-use Rattle.capnp_dynamic_readers.proofs.GroupsShown.{closes, from_end, from_next, from_start, group-in, item-named, onward-end, own_items, skips}
+use Rattle.capnp_dynamic_readers.proofs.GroupsShown.{closes, closes_not, from_end, from_next, from_start, group-in, item-named, item-unnamed, onward-end, own_items, skips}
 use Rattle.capnp_dynamic_readers.proofs.PartsShown.{part_group, target_in}
-use Rattle.capnp_dynamic_readers.proofs.Steps.{stopped_by, struct_none, struct_some}
-use Rattle.capnp_dynamic_readers.proofs.Streams.{same, same_put, then}
+use Rattle.capnp_dynamic_readers.proofs.Steps.{opening_stopped, struct_none, struct_some}
+use Rattle.capnp_dynamic_readers.proofs.Streams.{first_stopped, same, same_put, then}
 
 -- ---- whether a field has an item ----
 
@@ -118,10 +117,6 @@ pub if_ok_map : {T E : Type 0} {P Q : T → Type 0} (result : Result T E) → ((
 if_ok_map (Ok x) f h = f x h
 if_ok_map (Err e) f h = tt {0}
 
--- why a print stopped at a step is why the whole did
-pub stopped_later : {F : Type 0} (stop : Stop F) (old now : Taken) (whole rest : Out) → Leads old whole now rest → IsStopped rest stop → IsStopped whole stop
-stopped_later stop old now whole rest leads stopped = stopped_by whole rest (λ (kind : ErrorKind) e. leads (Err kind) e) stop stopped
-
 -- ---- past a field ----
 
 pub past-onward : (left : ℕ) (r : StructReader) (now next : Standing) (q : Bool) → IsPast now q next → onward_past left r now q ≡ onward_of left r next
@@ -198,6 +193,12 @@ module _ (left : ℕ) (r : StructReader) (now : Standing) (h : StructHandle) (f 
     small = past-small now next now.first past;
   }
 
+  -- its name was not put
+  pub not_named : (p : Taken) (stop : Stop) → true ≡ is_item h (field_in h f) (index_of f) → IsStopped p (said_text (name_text now.at now.first (typed_of f))) stop → IsStopped p (onward_of left r now) stop
+  not_named p stop there stopped =
+      item-unnamed left (walk_set now.walk) r now.at now.first (walk_brand now.walk) (walk_index now.walk) (above now.walk) (field_in h f) (field_shown left now.at h (field_in h f)) p stop
+      (items-by true there) (subst (λ (t : TypedField). IsStopped p (said_text (name_text now.at now.first t)) stop) same-typed stopped)
+
   -- its name was put, and its text is to come
   module _ (p0 p1 : Taken) (there : true ≡ is_item h (field_in h f) (index_of f)) (name : IsNamePut now.at now.first (typed_of f) p0 p1) where
     named : Leads p0 (onward_of left r now) p1 (after (field_shown left now.at h (field_in h f)) (onward_past left r now false))
@@ -215,10 +216,8 @@ module _ (left : ℕ) (r : StructReader) (now : Standing) (h : StructHandle) (f 
       small = past-small now next false past;
     }
 
-    pub stopped_there : {F : Type 0} (stop : Stop F) → IsStopped (field_shown left now.at h (field_in h f)) stop → IsStopped (onward_of left r now) stop
-    stopped_there stop stopped =
-        stopped_by (onward_of left r now) (field_shown left now.at h (field_in h f))
-        (λ (kind : ErrorKind) e. named (Err kind) (ap (λ (o : Out). after o (onward_past left r now false)) e)) stop stopped
+    pub stopped_there : (stop : Stop) → IsStopped p1 (field_shown left now.at h (field_in h f)) stop → IsStopped p0 (onward_of left r now) stop
+    stopped_there stop stopped = named (Err stop) (first_stopped p1 (field_shown left now.at h (field_in h f)) (onward_past left r now false) stop stopped)
 
     -- the field is a group
     module _ (g : StructSchema) (target : Some (number_of g) ≡ kind_target (typed_of f).field.kind (typed_of f).type) (inside : IsGroupSchemaIn (field_schema f) g) where
@@ -234,6 +233,18 @@ module _ (left : ℕ) (r : StructReader) (now : Standing) (h : StructHandle) (f 
       step_empty p2 next none put past =
           step_past p2 next
           (same_put p1 p2 (field_shown left now.at h (field_in h f)) (said_text (codes "()")) (shown-group ∙ struct_none left now.at (record { reader = reader_of h; schema = g }) (no-fields (struct_fields g) none)) put) past
+
+      -- its brackets were not put
+      pub empty_stopped : (stop : Stop) → false ≡ has_fields (struct_fields g) → IsStopped p1 (said_text (codes "()")) stop → IsStopped p0 (onward_of left r now) stop
+      empty_stopped stop none stopped =
+          stopped_there stop
+          (same p1 (shown-group ∙ struct_none left now.at (record { reader = reader_of h; schema = g }) (no-fields (struct_fields g) none)) (Err stop) stopped)
+
+      pub bracket_stopped : (stop : Stop) → true ≡ has_fields (struct_fields g) → IsStopped p1 (said_text (codes "(")) stop → IsStopped p0 (onward_of left r now) stop
+      bracket_stopped stop some stopped =
+          stopped_there stop
+          (same p1 (shown-group ∙ struct_some left now.at (record { reader = reader_of h; schema = g }) (some-fields (struct_fields g) some)) (Err stop)
+          (opening_stopped p1 (codes "(") (codes ")") now.at (record_items left (deeper now.at) (record { reader = reader_of h; schema = g })) stop stopped))
 
       -- its set and its field are those of the walk
       pub group-set : set_of g ≡ walk_set now.walk
@@ -299,6 +310,11 @@ begins left at h r s now p0 p1 er es some put start = λ z k.
         ∙ (ap (λ (b : Bool). onward left (walk_set now.walk) r now.at b ((number_of s, 0) ∷ [])) (sym start.first)
         ∙ ap (λ (fs : List (ℕ × ℕ)). onward left (walk_set now.walk) r now.at now.first fs) (sym start.frames)))))
 
+-- its bracket was not put
+pub not_begun : (left : ℕ) (at : Layout) (h : StructHandle) (p : Taken) (stop : Stop) → true ≡ has_fields (struct_fields (schema_of h)) → IsStopped p (said_text (codes "(")) stop → IsStopped p (record_shown left at h) stop
+not_begun left at h p stop some stopped =
+    same p (struct_some left at h (some-fields (struct_fields (schema_of h)) some)) (Err stop) (opening_stopped p (codes "(") (codes ")") at (record_items left (deeper at) h) stop stopped)
+
 pub no_record : (left : ℕ) (at : Layout) (h : StructHandle) → false ≡ has_fields (struct_fields (schema_of h)) → record_shown left at h ≡ said_text (codes "()")
 no_record left at h none = struct_none left at h (no-fields (struct_fields (schema_of h)) none)
 
@@ -325,6 +341,13 @@ module _ (left : ℕ) (r : StructReader) (now : Standing) (old new : Taken) (don
   leads_end none = λ z k.
       bracket-put z
       (same new (ap (λ (fs : List (ℕ × ℕ)). onward left (walk_set now.walk) r (shallower now.at) false fs) none ∙ onward-end left (walk_set now.walk) r (shallower now.at) false) z k)
+
+-- the closing bracket was not put
+pub not_closed : (left : ℕ) (r : StructReader) (now : Standing) (old : Taken) (stop : Stop) → length (struct_fields (walk_schema now.walk)) ≤ walk_index now.walk → IsStopped old (said_text (closing now.at)) stop →
+    IsStopped old (onward_of left r now) stop
+not_closed left r now old stop done stopped =
+    closes_not left (walk_set now.walk) r now.at now.first (walk_brand now.walk) (walk_index now.walk) (above now.walk) old stop
+    (from_end left now.at (record { reader = r; schema = walk_schema now.walk }) (walk_index now.walk) done) stopped
 
 pub start_small : (s : StructSchema) (at : Layout) (now : Standing) → IsStart s at now → walk_depth now.walk < 2 ^ 64
 start_small s at now start = omega (arith, start.depth)

@@ -12,14 +12,15 @@ use Rattle.capnp_records.specs.Part.{is_active}
 use Rattle.capnp_records.specs.Reading.{active_among, discriminant, non_union_parts}
 use Rattle.capnp_records.specs.Record.{Active, MoreValues, NoUnion, NoValues, Union, Unknown, Value, Values, is_there}
 use Rattle.capnp_records.specs.Text.{Inner, Layout, Member, Out, after, before, bracketed_text, deeper, item, item_if, later, line, member, more_text, part_text, member_rest, said_text, separator, shown}
-use Rattle.capnp_dynamic_readers.specs.Steps.GroupTexts.{item_by, closing, is_item, items_from, onward, shallower}
+use Rattle.capnp_dynamic_readers.specs.Steps.GroupTexts.{item_by, closing, is_item, items_from, name_text, onward, shallower}
 use Rattle.capnp_dynamic_readers.specs.Handles.{reader_of, schema_of}
 use Rattle.capnp_dynamic_readers.specs.Pieces.{Taken}
-use Rattle.capnp_dynamic_readers.specs.Steps.Pieces.{IsPut, Leads}
+use Rattle.capnp_dynamic_readers.specs.Steps.Pieces.{IsPut, IsStopped, Leads}
 use Rattle.capnp_dynamic_readers.specs.Steps.Shown.{field_item, is_member_shown, member_items, part_seen, record_items, still_pending, union_seen, unless_member, within_struct}
 use Rattle.capnp_dynamic_readers.specs.declared.dynamic_struct.Reader.{Reader as StructHandle}
+use Rattle.capnp_dynamic_readers.specs.declared.printer.output.Stop.{Stop}
 use Rattle.capnp_dynamic_readers.proofs.ItemsShown.{IsActivePart, active-part, before_none, before_some, drop-end, drop-next, later_none, later_some, member-at, shown-next, suc-is}
-use Rattle.capnp_dynamic_readers.proofs.Streams.{nothing_put, same, then}
+use Rattle.capnp_dynamic_readers.proofs.Streams.{first_stopped, same, then}
 
 -- ---- by index ----
 
@@ -227,13 +228,29 @@ after-assoc (Ok a) (Err k) z = refl
 after-assoc (Ok a) (Ok b) (Err k) = refl
 after-assoc (Ok a) (Ok b) (Ok c) = ap Ok (append_assoc a b c)
 
+after-nothing : (o : Out) → after (said_text []) o ≡ o
+after-nothing (Ok a) = refl
+after-nothing (Err k) = refl
+
+-- behind the last field of a frame stands its bracket
+closing-text : (left : ℕ) (set : Schemas) (r : StructReader) (at : Layout) (first : Bool) (b i : ℕ) (rest : List (ℕ × ℕ)) → items_from left set r at b i ≡ [] →
+    onward left set r at first ((b, i) ∷ rest) ≡ after (said_text (closing at)) (onward left set r (shallower at) false rest)
+closing-text left set r at first b i rest none =
+    onward-frame left set r at first b i rest
+    ∙ (ap (λ (xs : List Out). after (more_text at first xs) (after (said_text (closing at)) (onward left set r (shallower at) false rest))) none
+    ∙ after-nothing (after (said_text (closing at)) (onward left set r (shallower at) false rest)))
+
 -- out of the last field of a frame, with its bracket put
 pub closes : (left : ℕ) (set : Schemas) (r : StructReader) (at : Layout) (first : Bool) (b i : ℕ) (rest : List (ℕ × ℕ)) (old new : Taken) → items_from left set r at b i ≡ [] →
     IsPut old (said_text (closing at)) new → Leads old (onward left set r at first ((b, i) ∷ rest)) new (onward left set r (shallower at) false rest)
 closes left set r at first b i rest old new none put = λ z k.
-    same old (onward-frame left set r at first b i rest ∙ ap (λ (xs : List Out). after (more_text at first xs) (after (said_text (closing at)) (onward left set r (shallower at) false rest))) none) z
-    (then old old (said_text []) (after (said_text (closing at)) (onward left set r (shallower at) false rest)) (nothing_put old) z
-    (then old new (said_text (closing at)) (onward left set r (shallower at) false rest) put z k))
+    same old (closing-text left set r at first b i rest none) z (then old new (said_text (closing at)) (onward left set r (shallower at) false rest) put z k)
+
+-- or not put
+pub closes_not : (left : ℕ) (set : Schemas) (r : StructReader) (at : Layout) (first : Bool) (b i : ℕ) (rest : List (ℕ × ℕ)) (old : Taken) (stop : Stop) → items_from left set r at b i ≡ [] →
+    IsStopped old (said_text (closing at)) stop → IsStopped old (onward left set r at first ((b, i) ∷ rest)) stop
+closes_not left set r at first b i rest old stop none h =
+    same old (closing-text left set r at first b i rest none) (Err stop) (first_stopped old (said_text (closing at)) (onward left set r (shallower at) false rest) stop h)
 
 -- past a field that has no item
 pub skips : (left : ℕ) (set : Schemas) (r : StructReader) (at : Layout) (first : Bool) (b i : ℕ) (rest : List (ℕ × ℕ)) (old : Taken) → items_from left set r at b i ≡ items_from left set r at b (i + 1) →
@@ -252,17 +269,29 @@ name-first at first f text more behind =
     ∙ (sym (after-assoc (said_text (separator at first)) (said_text (f.field.name ++ codes " = ")) (after text (after more behind)))
     ∙ ap (λ (o : Out). after o (after text (after more behind))) (said_both (separator at first) (f.field.name ++ codes " = "))))
 
--- past what stands before an item's text
-pub item-named : (left : ℕ) (set : Schemas) (r : StructReader) (at : Layout) (first : Bool) (b i : ℕ) (rest : List (ℕ × ℕ)) (f : TypedField) (text : Out) (p0 p1 : Taken) →
-    items_from left set r at b i ≡ item f text ∷ items_from left set r at b (i + 1) → IsPut p0 (said_text (separator at first ++ (f.field.name ++ codes " = "))) p1 →
-    Leads p0 (onward left set r at first ((b, i) ∷ rest)) p1 (after text (onward left set r at false ((b, i + 1) ∷ rest)))
-item-named left set r at first b i rest f text p0 p1 e name = λ z k.
-    same p0
-    (onward-frame left set r at first b i rest
+-- what stands before an item's text is first
+named-text : (left : ℕ) (set : Schemas) (r : StructReader) (at : Layout) (first : Bool) (b i : ℕ) (rest : List (ℕ × ℕ)) (f : TypedField) (text : Out) →
+    items_from left set r at b i ≡ item f text ∷ items_from left set r at b (i + 1) →
+    onward left set r at first ((b, i) ∷ rest) ≡ after (said_text (name_text at first f)) (after text (onward left set r at false ((b, i + 1) ∷ rest)))
+named-text left set r at first b i rest f text e =
+    onward-frame left set r at first b i rest
     ∙ (ap (λ (xs : List Out). after (more_text at first xs) (after (said_text (closing at)) (onward left set r (shallower at) false rest))) e
     ∙ (name-first at first f text (more_text at false (items_from left set r at b (i + 1))) (after (said_text (closing at)) (onward left set r (shallower at) false rest))
-    ∙ ap (λ (o : Out). after (said_text (separator at first ++ (f.field.name ++ codes " = "))) (after text o)) (sym (onward-frame left set r at false b (i + 1) rest))))) z
-    (then p0 p1 (said_text (separator at first ++ (f.field.name ++ codes " = "))) (after text (onward left set r at false ((b, i + 1) ∷ rest))) name z k)
+    ∙ ap (λ (o : Out). after (said_text (name_text at first f)) (after text o)) (sym (onward-frame left set r at false b (i + 1) rest))))
+
+-- past what stands before an item's text
+pub item-named : (left : ℕ) (set : Schemas) (r : StructReader) (at : Layout) (first : Bool) (b i : ℕ) (rest : List (ℕ × ℕ)) (f : TypedField) (text : Out) (p0 p1 : Taken) →
+    items_from left set r at b i ≡ item f text ∷ items_from left set r at b (i + 1) → IsPut p0 (said_text (name_text at first f)) p1 →
+    Leads p0 (onward left set r at first ((b, i) ∷ rest)) p1 (after text (onward left set r at false ((b, i + 1) ∷ rest)))
+item-named left set r at first b i rest f text p0 p1 e name = λ z k.
+    same p0 (named-text left set r at first b i rest f text e) z (then p0 p1 (said_text (name_text at first f)) (after text (onward left set r at false ((b, i + 1) ∷ rest))) name z k)
+
+-- or where it was not put
+pub item-unnamed : (left : ℕ) (set : Schemas) (r : StructReader) (at : Layout) (first : Bool) (b i : ℕ) (rest : List (ℕ × ℕ)) (f : TypedField) (text : Out) (p : Taken) (stop : Stop) →
+    items_from left set r at b i ≡ item f text ∷ items_from left set r at b (i + 1) → IsStopped p (said_text (name_text at first f)) stop →
+    IsStopped p (onward left set r at first ((b, i) ∷ rest)) stop
+item-unnamed left set r at first b i rest f text p stop e h =
+    same p (named-text left set r at first b i rest f text e) (Err stop) (first_stopped p (said_text (name_text at first f)) (after text (onward left set r at false ((b, i + 1) ∷ rest))) stop h)
 
 shallow-deep : (at : Layout) → shallower (deeper at) ≡ at
 shallow-deep None = refl

@@ -1,14 +1,13 @@
 -- The text of a value that stands alone.
-use Rattle.std.proofs.Common.{◌≡◌, ◌≢◌, refl, Bool, true, false, Result, Err, IfErr, ap, sym, subst, ◌∙◌}
+use Rattle.std.proofs.Common.{ℕ, [], ◌≡◌, ◌≢◌, refl, Bool, true, false, Result, Err, IfErr, ap, sym, subst, ◌∙◌}
 use Rattle.std.proofs.lemmas.Bool.{true≢false}
-use Rattle.std.specs.declared.alloc.AllocError.{AllocError}
 use Rattle.capnp_device.specs.declared.error.ErrorKind.{ErrorKind}
-use Rattle.capnp_device.specs.declared.error.ErrorKind.TheVariants.{OutOfMemory}
+use Rattle.capnp_device.specs.declared.error.ErrorKind.TheVariants.{OutOfMemory, TooLarge}
 use Rattle.capnp_schema.specs.Schema.{VoidValue, node_of}
 use Rattle.capnp_schema.specs.StructHandles.{number_of, set_of}
 use Rattle.capnp_records.specs.Text.{Layout, Out, part_text, text_within}
 use Rattle.capnp_dynamic_readers.specs.Handles.{schema_of}
-use Rattle.capnp_dynamic_readers.specs.Pieces.{stopped_kind}
+use Rattle.capnp_dynamic_readers.specs.Pieces.{IsLonger, Taken, Within, stopped_kind}
 use Rattle.capnp_dynamic_readers.specs.Steps.Pieces.{IsStopped}
 use Rattle.capnp_dynamic_readers.specs.Shown.{struct_printed}
 use Rattle.capnp_dynamic_readers.specs.Steps.Shown.{record_shown, root_shown, value_shown}
@@ -17,7 +16,8 @@ use Rattle.capnp_dynamic_readers.specs.declared.dynamic_struct.Reader.{Reader as
 use Rattle.capnp_dynamic_readers.specs.declared.dynamic_value.Reader.{Reader as DynamicValue}
 use Rattle.capnp_dynamic_readers.specs.declared.dynamic_value.Reader.TheVariants as dynamic
 use Rattle.capnp_dynamic_readers.specs.declared.printer.output.Stop.{Stop}
-use Rattle.capnp_dynamic_readers.specs.declared.printer.output.Stop.TheVariants.{Full, Refused}
+use Rattle.capnp_dynamic_readers.specs.declared.printer.output.Stop.TheVariants.{Full, Refused, TooLong}
+use Rattle.capnp_dynamic_readers.proofs.Pieces.{longer_whole}
 
 pub group_root : (at : Layout) (v : DynamicValue) (s : StructHandle) → v ≡ dynamic.Struct s → (node_of (set_of (schema_of s)) (number_of (schema_of s))).is_group ≡ true → root_shown at v ≡ record_shown 64 at s
 group_root at v s e h = ap (root_shown at) e ∙ go (node_of (set_of (schema_of s)) (number_of (schema_of s))).is_group h
@@ -53,11 +53,24 @@ other_root at (dynamic.List l) h = refl
 other_root at (dynamic.AnyPointer p) h = refl
 
 -- where it is printed as a value, why that stopped is why the whole did
-pub root_stopped : {T F : Type 0} (at : Layout) (v : DynamicValue) (result : Result T (Stop F)) → root_shown at v ≡ value_shown 64 at v →
-    IfErr result (IsStopped (value_shown 64 at v)) → IfErr result (IsStopped (root_shown at v))
-root_stopped at v result e h = subst (λ (o : Out). IfErr result (IsStopped o)) (sym e) h
+pub root_stopped : {T : Type 0} (at : Layout) (v : DynamicValue) (old : Taken) (result : Result T Stop) → root_shown at v ≡ value_shown 64 at v →
+    IfErr result (IsStopped old (value_shown 64 at v)) → IfErr result (IsStopped old (root_shown at v))
+root_stopped at v old result e h = subst (λ (o : Out). IfErr result (IsStopped old o)) (sym e) h
 
--- why a string was not made, memory aside
-pub stopped_refused : (o : Out) (stop : Stop AllocError) (kind : ErrorKind) → kind ≡ stopped_kind stop → IsStopped o stop → kind ≢ OutOfMemory → o ≡ Err kind
-stopped_refused o (Refused e) kind is h other = h (subst (λ (k : ErrorKind). k ≢ OutOfMemory) is other) ∙ ap Err (sym is)
-stopped_refused o (Full fault) kind is h other = absurd (other is)
+-- why a string was not made, where there was memory and it was not too long
+pub stopped_refused : (a : Taken) (o : Out) (stop : Stop) (kind : ErrorKind) → kind ≡ stopped_kind stop → IsStopped a o stop → kind ≢ OutOfMemory → kind ≢ TooLarge → o ≡ Err kind
+stopped_refused a o (Refused e) kind is h other short = h (subst (λ (k : ErrorKind). k ≢ OutOfMemory) is other) ∙ ap Err (sym is)
+stopped_refused a o Full kind is h other short = absurd (other is)
+stopped_refused a o TooLong kind is h other short = absurd (short is)
+
+-- and where it was
+pub stopped_longer : (limit : ℕ) (o : Out) (stop : Stop) (kind : ErrorKind) → kind ≡ stopped_kind stop → IsStopped (Within limit []) o stop → kind ≡ TooLarge → IsLonger limit o
+stopped_longer limit o (Refused e) kind is h long = subst (IsLonger limit) (sym (h (not-memory e.kind (sym is ∙ long)))) (tt {0})
+  where
+    not-memory : (k : ErrorKind) → k ≡ TooLarge → k ≢ OutOfMemory
+    not-memory k e f = cc
+stopped_longer limit o Full kind is h long = absurd (other-kind (sym is ∙ long))
+  where
+    other-kind : OutOfMemory ≡ TooLarge → ⊥
+    other-kind e = cc
+stopped_longer limit o TooLong kind is h long = longer_whole limit o h

@@ -1,15 +1,15 @@
 -- The steps of a print.
 use Rattle.std.proofs.Common.{ℕ, zero, suc, ◌+◌, ◌-◌, ◌<◌, ◌≡◌, ◌==◌, refl, List, [], ◌∷◌, ◌++◌, Bool, true, false, length, codes, Ok, Err, Option, Some, None, Result, IfErr, OnOk, rules, ap, sym, subst, ◌∙◌, arith}
-use Rattle.capnp_device.specs.declared.error.ErrorKind.{ErrorKind}
 use Rattle.capnp_schema.specs.Schema.{Schemas, TypedField}
 use Rattle.capnp_schema.specs.StructHandles.{struct_fields}
 use Rattle.capnp_schema.specs.Types.{SchemaType}
+use Rattle.capnp_records.specs.Facts.Spelled.{said_both}
 use Rattle.capnp_records.specs.Record.{Value}
 use Rattle.capnp_records.specs.Text.{Inner, Layout, Out, after, bracketed_text, deeper, line, list_text, more_text, said_text, separator, struct_text, text_within, value_text}
 use Rattle.capnp_dynamic_readers.specs.Handles.{schema_of}
 use Rattle.capnp_dynamic_readers.specs.Steps.Leaf.{IsLeaf, leaf_text}
 use Rattle.capnp_dynamic_readers.specs.Pieces.{Taken}
-use Rattle.capnp_dynamic_readers.specs.Steps.Pieces.{IsFull, IsPut, IsStopped, Leads}
+use Rattle.capnp_dynamic_readers.specs.Steps.Pieces.{IsPut, IsStopped, Leads}
 use Rattle.capnp_dynamic_readers.specs.Reads.{element_seen}
 use Rattle.capnp_dynamic_readers.specs.Shown.{set_seen, type_seen}
 use Rattle.capnp_dynamic_readers.specs.Steps.Shown.{count_of, element_items, element_shown, list_shown, record_items, record_shown, value_shown}
@@ -19,20 +19,7 @@ use Rattle.capnp_dynamic_readers.specs.declared.dynamic_struct.Reader.{Reader as
 use Rattle.capnp_dynamic_readers.specs.declared.dynamic_value.Reader.{Reader as DynamicValue}
 use Rattle.capnp_dynamic_readers.specs.declared.dynamic_value.Reader.TheVariants as dynamic
 use Rattle.capnp_dynamic_readers.specs.declared.printer.output.Stop.{Stop}
-use Rattle.capnp_dynamic_readers.specs.declared.printer.output.Stop.TheVariants.{Full, Refused}
-use Rattle.capnp_dynamic_readers.proofs.Streams.{nothing_put, same, same_put, then, then_put, two_put}
-
--- ---- why a print stopped ----
-
--- where there was no room nothing is said of the text
-pub full_stopped : {F : Type 0} (o : Out) (stop : Stop F) → IsFull stop → IsStopped o stop
-full_stopped o (Refused e) h = λ other. absurd (other h)
-full_stopped o (Full fault) h = tt {0}
-
--- why a part stopped is why the whole did
-pub stopped_by : {F : Type 0} (o p : Out) → ((kind : ErrorKind) → p ≡ Err kind → o ≡ Err kind) → (stop : Stop F) → IsStopped p stop → IsStopped o stop
-stopped_by o p f (Refused e) h = λ other. f e.kind (h other)
-stopped_by o p f (Full fault) h = tt {0}
+use Rattle.capnp_dynamic_readers.proofs.Streams.{first_stopped, nothing_put, same, same_put, then, then_put, two_put}
 
 -- ---- levels ----
 
@@ -73,6 +60,10 @@ leaf_deep left at (dynamic.AnyPointer p) h = by_levels (set_seen (dynamic.AnyPoi
 pub leaf_put : (left : ℕ) (at : Layout) (v : DynamicValue) (old new : Taken) → IsLeaf v → IsPut old (leaf_text v) new → IsPut old (value_shown left at v) new
 leaf_put left at v old new h p = same_put old new (value_shown left at v) (leaf_text v) (leaf_deep left at v h) p
 
+-- or was not
+pub leaf_stopped : (left : ℕ) (at : Layout) (v : DynamicValue) (old : Taken) (stop : Stop) → IsLeaf v → IsStopped old (leaf_text v) stop → IsStopped old (value_shown left at v) stop
+leaf_stopped left at v old stop h s = same old (leaf_deep left at v h) (Err stop) s
+
 -- ---- brackets ----
 
 pub brackets_put : (opening closing : List ℕ) (at further : Layout) (items : List Out) → further ≡ deeper at → (p0 p1 p2 p3 p4 : Taken) →
@@ -82,10 +73,21 @@ brackets_put opening closing at further items e p0 p1 p2 p3 p4 a b c d =
     then_put p0 p1 p4 (said_text opening) (after (more_text (deeper at) true items) (said_text (line at ++ closing))) a
     (then_put p1 p2 p4 (more_text (deeper at) true items) (said_text (line at ++ closing)) (subst (λ (z : Layout). IsPut p1 (more_text z true items) p2) e b) (two_put p2 p3 p4 (line at) closing c d))
 
-pub brackets_stopped : (opening closing : List ℕ) (at further : Layout) (items : List Out) → further ≡ deeper at → (kind : ErrorKind) →
-    more_text further true items ≡ Err kind → bracketed_text opening closing at items ≡ Err kind
-brackets_stopped opening closing at further items e kind b =
-    ap (λ (o : Out). after (said_text opening) (after o (said_text (line at ++ closing)))) (subst (λ (z : Layout). more_text z true items ≡ Err kind) e b)
+-- why a bracket was not put
+pub opening_stopped : (p : Taken) (opening closing : List ℕ) (at : Layout) (items : List Out) (stop : Stop) → IsStopped p (said_text opening) stop → IsStopped p (bracketed_text opening closing at items) stop
+opening_stopped p opening closing at items stop h = first_stopped p (said_text opening) (after (more_text (deeper at) true items) (said_text (line at ++ closing))) stop h
+
+-- with the opening bracket put, what stands between is to come
+opened : (p0 p1 : Taken) (opening closing : List ℕ) (at : Layout) (items : List Out) → IsPut p0 (said_text opening) p1 →
+    Leads p0 (bracketed_text opening closing at items) p1 (after (more_text (deeper at) true items) (said_text (line at ++ closing)))
+opened p0 p1 opening closing at items a = then p0 p1 (said_text opening) (after (more_text (deeper at) true items) (said_text (line at ++ closing))) a
+
+-- and with that put, a line and the closing bracket
+filled : (p0 p1 p2 : Taken) (opening closing : List ℕ) (at : Layout) (items : List Out) → IsPut p0 (said_text opening) p1 → IsPut p1 (more_text (deeper at) true items) p2 →
+    Leads p0 (bracketed_text opening closing at items) p2 (after (said_text (line at)) (said_text closing))
+filled p0 p1 p2 opening closing at items a b = λ r k.
+    opened p0 p1 opening closing at items a r
+    (then p1 p2 (more_text (deeper at) true items) (said_text (line at ++ closing)) b r (same p2 (sym (said_both (line at) closing)) r k))
 
 -- ---- elements ----
 
@@ -115,11 +117,17 @@ module _ (left : ℕ) (at : Layout) (l : ListHandle) where
       (then p1 p2 (element_shown left at l (element_seen l i)) (more_text at false (from (suc i) (n - (i + 1)))) b r
       (same p2 (ap (λ q. more_text at q (from (suc i) (n - (i + 1)))) (not-zero i) ∙ ap (λ j. more_text at (j == 0) (from j (n - (i + 1)))) (next-is i)) r k)))
 
-  pub element_stopped : (n i : ℕ) → i < n → (kind : ErrorKind) →
-      element_shown left at l (element_seen l i) ≡ Err kind → more_text at (i == 0) (element_items left at l i (n - i)) ≡ Err kind
-  element_stopped n i h kind b =
-      ap (λ m. more_text at (i == 0) (from i m)) (less-one n i h)
-      ∙ ap (λ (o : Out). after (said_text (separator at (i == 0))) (after o (more_text at false (from (suc i) (n - (i + 1)))))) b
+  pub separator_stopped : (n i : ℕ) → i < n → (p : Taken) (stop : Stop) → IsStopped p (said_text (separator at (i == 0))) stop → IsStopped p (more_text at (i == 0) (element_items left at l i (n - i))) stop
+  separator_stopped n i h p stop a =
+      same p (ap (λ m. more_text at (i == 0) (from i m)) (less-one n i h)) (Err stop)
+      (first_stopped p (said_text (separator at (i == 0))) (after (element_shown left at l (element_seen l i)) (more_text at false (from (suc i) (n - (i + 1))))) stop a)
+
+  pub element_stopped : (n i : ℕ) → i < n → (p0 p1 : Taken) (stop : Stop) → IsPut p0 (said_text (separator at (i == 0))) p1 →
+      IsStopped p1 (element_shown left at l (element_seen l i)) stop → IsStopped p0 (more_text at (i == 0) (element_items left at l i (n - i))) stop
+  element_stopped n i h p0 p1 stop a b =
+      same p0 (ap (λ m. more_text at (i == 0) (from i m)) (less-one n i h)) (Err stop)
+      (then p0 p1 (said_text (separator at (i == 0))) (after (element_shown left at l (element_seen l i)) (more_text at false (from (suc i) (n - (i + 1))))) a (Err stop)
+      (first_stopped p1 (element_shown left at l (element_seen l i)) (more_text at false (from (suc i) (n - (i + 1)))) stop b))
 
   pub elements_end : (n i : ℕ) (q : Bool) → n < i + 1 → (p : Taken) → IsPut p (more_text at q (element_items left at l i (n - i))) p
   elements_end n i q h p = same p (ap (λ m. more_text at q (from i m)) (none-left n i h)) (Ok p) (nothing_put p)
@@ -166,11 +174,37 @@ list_put left at further l e h p0 p1 p2 p3 p4 a b c d =
     same_put p0 p4 (list_shown left at l) (bracketed_text (codes "[") (codes "]") at (element_items left (deeper at) l 0 (count_of l))) (list_some left at l h)
     (brackets_put (codes "[") (codes "]") at (deeper at) (element_items left (deeper at) l 0 (count_of l)) refl p0 p1 p2 p3 p4 a (subst (λ (z : Layout). IsPut p1 (more_text z true (element_items left z l 0 (count_of l))) p2) e b) c d)
 
-pub elements_stop_list : (left : ℕ) (at further : Layout) (l : ListHandle) → further ≡ deeper at → 0 < count_of l → (kind : ErrorKind) →
-    more_text further true (element_items left further l 0 (count_of l)) ≡ Err kind → list_shown left at l ≡ Err kind
-elements_stop_list left at further l e h kind b =
-    list_some left at l h
-    ∙ brackets_stopped (codes "[") (codes "]") at (deeper at) (element_items left (deeper at) l 0 (count_of l)) refl kind (subst (λ (z : Layout). more_text z true (element_items left z l 0 (count_of l)) ≡ Err kind) e b)
+-- why a list was not put: its opening bracket, its elements, the line behind them or its closing bracket was not
+module _ (left : ℕ) (at further : Layout) (l : ListHandle) (e : further ≡ deeper at) (some : 0 < count_of l) where
+  abbrev own_items : List Out
+  own_items = element_items left (deeper at) l 0 (count_of l)
+
+  as_list : (p : Taken) → Leads p (list_shown left at l) p (bracketed_text (codes "[") (codes "]") at own_items)
+  as_list p = same p (list_some left at l some)
+
+  same-items : (p q : Taken) → IsPut p (more_text further true (element_items left further l 0 (count_of l))) q → IsPut p (more_text (deeper at) true own_items) q
+  same-items p q b = subst (λ (z : Layout). IsPut p (more_text z true (element_items left z l 0 (count_of l))) q) e b
+
+  pub list_stopped_inside : (p0 p1 : Taken) (stop : Stop) → IsPut p0 (said_text (codes "[")) p1 → IsStopped p1 (more_text further true (element_items left further l 0 (count_of l))) stop → IsStopped p0 (list_shown left at l) stop
+  list_stopped_inside p0 p1 stop a b =
+      as_list p0 (Err stop)
+      (opened p0 p1 (codes "[") (codes "]") at own_items a (Err stop)
+      (first_stopped p1 (more_text (deeper at) true own_items) (said_text (line at ++ codes "]")) stop
+      (subst (λ (z : Layout). IsStopped p1 (more_text z true (element_items left z l 0 (count_of l))) stop) e b)))
+
+  pub list_stopped_behind : (p0 p1 p2 : Taken) (stop : Stop) → IsPut p0 (said_text (codes "[")) p1 → IsPut p1 (more_text further true (element_items left further l 0 (count_of l))) p2 → IsStopped p2 (said_text (line at)) stop →
+      IsStopped p0 (list_shown left at l) stop
+  list_stopped_behind p0 p1 p2 stop a b c =
+      as_list p0 (Err stop) (filled p0 p1 p2 (codes "[") (codes "]") at own_items a (same-items p1 p2 b) (Err stop) (first_stopped p2 (said_text (line at)) (said_text (codes "]")) stop c))
+
+  pub list_stopped_last : (p0 p1 p2 p3 : Taken) (stop : Stop) → IsPut p0 (said_text (codes "[")) p1 → IsPut p1 (more_text further true (element_items left further l 0 (count_of l))) p2 → IsPut p2 (said_text (line at)) p3 →
+      IsStopped p3 (said_text (codes "]")) stop → IsStopped p0 (list_shown left at l) stop
+  list_stopped_last p0 p1 p2 p3 stop a b c d =
+      as_list p0 (Err stop) (filled p0 p1 p2 (codes "[") (codes "]") at own_items a (same-items p1 p2 b) (Err stop) (then p2 p3 (said_text (line at)) (said_text (codes "]")) c (Err stop) d))
+
+pub list_stopped_first : (left : ℕ) (at : Layout) (l : ListHandle) (p : Taken) (stop : Stop) → 0 < count_of l → IsStopped p (said_text (codes "[")) stop → IsStopped p (list_shown left at l) stop
+list_stopped_first left at l p stop some h =
+    same p (list_some left at l some) (Err stop) (opening_stopped p (codes "[") (codes "]") at (element_items left (deeper at) l 0 (count_of l)) stop h)
 
 -- ---- levels fall ----
 

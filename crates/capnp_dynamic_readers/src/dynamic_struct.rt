@@ -160,7 +160,7 @@ impl<'a> Reader<'a> {
         self.has(field)
     }
 
-    /// The same struct by the handle of a struct type, which has to be that of the schema.
+    /// This struct by the handle of a struct type, which has to be that of the schema.
     pub fn downcast<T: OwnedStruct<'a>>(self) -> T::Reader
         requires { seen_type T.type_of ≡ struct_type (schema_of self) }
         ensures { T.Reader.from_gives (reader_of self.entry) result }

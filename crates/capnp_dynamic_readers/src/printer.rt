@@ -1,7 +1,7 @@
 //! The text of a value.
-ghost use Rattle.std.specs.Prelude.{◌≡◌, ◌≢◌, Err, IfErr, OnErr, OnOk, string_bytes};
-ghost use Rattle.capnp_device.specs.declared.error.ErrorKind.TheVariants.{OutOfMemory};
-ghost use Rattle.capnp_dynamic_readers.specs.Pieces.{IsAppended};
+ghost use Rattle.std.specs.Prelude.{[], ◌+◌, ◌≡◌, ◌≢◌, ◌≤◌, Err, IfErr, OnErr, OnOk, length, string_bytes};
+ghost use Rattle.capnp_device.specs.declared.error.ErrorKind.TheVariants.{OutOfMemory, TooLarge};
+ghost use Rattle.capnp_dynamic_readers.specs.Pieces.{IsAppended, IsLonger, Within};
 ghost use Rattle.capnp_dynamic_readers.specs.Steps.Pieces.{IsPut, IsStopped};
 ghost use Rattle.capnp_dynamic_readers.specs.Shown.{printed_text};
 ghost use Rattle.capnp_dynamic_readers.specs.Steps.Shown.{root_shown};
@@ -18,7 +18,7 @@ use crate::dynamic_value::Reader as Value;
 use crate::printer::output::{Made, Out, Stop};
 use crate::printer::pieces::layout;
 use crate::printer::values::{print_record, print_value};
-use capnp_wire::error::{Error, Result};
+use capnp_wire::error::{Error, ErrorKind, Result};
 use std::fmt;
 
 /// The levels that a print goes down.
@@ -46,10 +46,63 @@ pub fn print(value: dynamic_value::Reader<'_>, out: &mut String, indented: bool)
     ensures refused { IfErr result (λ e. e.kind ≢ OutOfMemory → printed_text indented value.entry ≡ Err e.kind) }
     ensures unchanged { OnErr result (string_bytes out.new ≡ string_bytes out.old) }
 {
-    let mut made = Made::new(*out.allocator());
+    match append_text(value, out, indented, u64::MAX) {
+        Ok(()) => Ok(()),
+        Err(Stop::Refused(error)) => Err(error),
+        Err(_) => Err(Error::from(ErrorKind::OutOfMemory)),
+    }
+}
+
+/// As `print`, of a text that has at most `limit` bytes. Since pointers of a message may share targets, a message of a
+/// few hundred bytes can have a text without end: a print with a limit takes time and memory in proportion to the limit,
+/// to the fields of a struct and to the longest text or data in it.
+///
+/// Refused with `TooLarge` where the text is longer, and before that as `print`: where the text is refused behind the
+/// limit, either may be answered. The string is then as it was.
+///
+/// # Example
+///
+/// ```rust
+/// let seen = pair.narrow(dynamic_struct::Reader::new(root, newer));
+/// print_within(Value::Struct(seen), out, false, 1000)
+/// ```
+pub fn print_within(
+    value: dynamic_value::Reader<'_>,
+    out: &mut String,
+    indented: bool,
+    limit: u64,
+) -> Result<()>
+    ensures printed { OnOk result (IsAppended (string_bytes out.old) (printed_text indented value.entry)
+        (string_bytes out.new)) }
+    ensures within { OnOk result (length (string_bytes out.new) ≤ length (string_bytes out.old) + limit) }
+    ensures refused { IfErr result (λ e. e.kind ≢ OutOfMemory → e.kind ≢ TooLarge
+        → printed_text indented value.entry ≡ Err e.kind) }
+    ensures too_long { IfErr result (λ e. e.kind ≡ TooLarge → IsLonger limit (printed_text indented value.entry)) }
+    ensures unchanged { OnErr result (string_bytes out.new ≡ string_bytes out.old) }
+{
+    match append_text(value, out, indented, limit) {
+        Ok(()) => Ok(()),
+        Err(stop) => Err(Error::from(stop)),
+    }
+}
+
+/// Appends the text of a value, where it has at most so many bytes.
+fn append_text(
+    value: Value<'_>,
+    out: &mut String,
+    indented: bool,
+    limit: u64,
+) -> std::result::Result<(), Stop>
+    ensures printed { OnOk result (IsAppended (string_bytes out.old) (printed_text indented value.entry)
+        (string_bytes out.new)) }
+    ensures within { OnOk result (length (string_bytes out.new) ≤ length (string_bytes out.old) + limit) }
+    ensures stopped { IfErr result (IsStopped (Within limit []) (printed_text indented value.entry)) }
+    ensures unchanged { OnErr result (string_bytes out.new ≡ string_bytes out.old) }
+{
+    let mut made = Made::new(*out.allocator(), limit);
     match print_root_value(value, layout(indented), &mut made) {
         Ok(()) => made.append_to(out),
-        Err(stop) => Err(Error::from(stop)),
+        Err(stop) => Err(stop),
     }
 }
 
@@ -71,9 +124,9 @@ fn print_root_value<O: Out>(
     value: Value<'_>,
     at: Option<u64>,
     out: &mut O,
-) -> std::result::Result<(), Stop<O::Error>>
+) -> std::result::Result<(), Stop>
     ensures put { OnOk result (IsPut (O.text out.old) (root_shown at value.entry) (O.text out.new)) }
-    ensures stopped { IfErr result (IsStopped (root_shown at value.entry)) }
+    ensures stopped { IfErr result (IsStopped (O.text out.old) (root_shown at value.entry)) }
 {
     if let Value::Struct(reader) = value {
         if reader.get_schema().get_proto().body.is_group {

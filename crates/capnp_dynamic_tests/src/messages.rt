@@ -17,7 +17,7 @@ const UNTYPED: &str =
 const SHARED: &str = "struct 1 1 union 5 1, n UInt16 @0, struct Struct(0) @0 #0, \
     list List(UInt8) @0 #1, text Text @0 #2, data Data @0 #3, any AnyPointer @0 #4";
 
-/// The same with a list of each kind.
+/// A set of a struct of a number and of one pointer, which is each kind of list; they share it as members of a union.
 const LISTS: &str = "struct 1 1 union 8 0, void List(Void) @0 #0, bit List(Bool) @0 #1, \
     one List(UInt8) @0 #2, two List(UInt16) @0 #3, four List(UInt32) @0 #4, \
     eight List(UInt64) @0 #5, pointer List(Text) @0 #6, struct List(Struct(0)) @0 #7";
@@ -34,7 +34,7 @@ const PAST_ENUM: &str = "struct 1 0, color Enum(0) @0 =Enum(9); enum red blue";
 const VOID: &[u8] = b"\
     \0\0\0\0\x03\0\0\0\0\0\0\0\x01\0\x01\0\x05\0\0\0\x09\0\0\0\0\0\0\0\0\0\0\0";
 
-/// The same with a discriminant that is no member's.
+/// A `Mixed` whose `a` is 5, with a discriminant that is no member's.
 const UNKNOWN: &[u8] = b"\
     \0\0\0\0\x03\0\0\0\0\0\0\0\x01\0\x01\0\x05\0\x07\0\x09\0\0\0\0\0\0\0\0\0\0\0";
 
@@ -53,7 +53,7 @@ const CAPABILITY_BEFORE_TEXT: &[u8] = b"\
     \0\0\0\0\x06\0\0\0\0\0\0\0\0\0\x04\0\0\0\0\0\0\0\0\0\x03\0\0\0\0\0\0\0\
     \x05\0\0\0\x12\0\0\0\0\0\0\0\0\0\0\0ab\0\0\0\0\0\0";
 
-/// The same with a null in place of the capability.
+/// A `Lists` whose `raw` is null, and whose `t` has no zero at its end.
 const NULL_BEFORE_TEXT: &[u8] = b"\
     \0\0\0\0\x06\0\0\0\0\0\0\0\0\0\x04\0\0\0\0\0\0\0\0\0\0\0\0\0\0\0\0\0\
     \x05\0\0\0\x12\0\0\0\0\0\0\0\0\0\0\0ab\0\0\0\0\0\0";
@@ -77,22 +77,22 @@ const FAR: &[u8] = b"\
     \0\0\0\0\x04\0\0\0\0\0\0\0\x01\0\x01\0\x05\0\0\0\0\0\0\0\x02\0\0\0\x09\0\0\0\
     ab\0\0\0\0\0\0";
 
-/// The same with a capability.
+/// A struct whose number is 5 and whose pointer is a capability, with `ab` behind it.
 const CAPABILITY: &[u8] = b"\
     \0\0\0\0\x04\0\0\0\0\0\0\0\x01\0\x01\0\x05\0\0\0\0\0\0\0\x03\0\0\0\0\0\0\0\
     ab\0\0\0\0\0\0";
 
-/// The same with a struct of size zero.
+/// A struct whose number is 5 and whose pointer is a struct of size zero, with `ab` behind it.
 const SIZELESS: &[u8] = b"\
     \0\0\0\0\x04\0\0\0\0\0\0\0\x01\0\x01\0\x05\0\0\0\0\0\0\0\xfc\xff\xff\xff\0\0\0\0\
     ab\0\0\0\0\0\0";
 
-/// The same with a list of two numbers of two bytes.
+/// A struct whose number is 5 and whose pointer is a list of two numbers of two bytes, of which `ab` are the first.
 const PAIRS: &[u8] = b"\
     \0\0\0\0\x04\0\0\0\0\0\0\0\x01\0\x01\0\x05\0\0\0\0\0\0\0\x01\0\0\0\x13\0\0\0\
     ab\0\0\0\0\0\0";
 
-/// The same with a list of two bytes.
+/// A struct whose number is 5 and whose pointer is a list of the two bytes `ab`.
 const LETTERS: &[u8] = b"\
     \0\0\0\0\x04\0\0\0\0\0\0\0\x01\0\x01\0\x05\0\0\0\0\0\0\0\x01\0\0\0\x12\0\0\0\
     ab\0\0\0\0\0\0";

@@ -47,6 +47,36 @@ fn values_are_printed_as_they_are(rt: HostRuntime) {
     rows_hold(&rt, rt.alloc(), &VALUE_ROWS);
 }
 
+/// Texts of exactly as many bytes as there may be, and of one more.
+static WITHIN_ROWS: [(&str, &str, &str); 4] = [
+    (
+        "kinds full",
+        "within 15 point; within 14 point",
+        ":(x = -5, y = 6); Refused(11) :",
+    ),
+    (
+        "kinds full",
+        "within 6 text; within 5 text; within 10 bytes; within 9 bytes",
+        ":\"word\"; Refused(11) :; :0x\"010203\"; Refused(11) :",
+    ),
+    (
+        "kinds full",
+        "within 13 numbers; within 12 numbers; within 4 color; within 3 color; within 0 void",
+        ":[65535, 0, 9]; Refused(11) :; :blue; Refused(11) :; Refused(11) :",
+    ),
+    // the refusal stands behind the first bytes
+    (
+        "kinds unended",
+        "within 0; within 10000",
+        "Refused(11) :; Refused(7) :",
+    ),
+];
+
+#[test]
+fn a_text_that_is_too_long_is_refused(rt: HostRuntime) {
+    rows_hold(&rt, rt.alloc(), &WITHIN_ROWS);
+}
+
 static APPENDED_ROWS: [(&str, &str, &str); 2] = [
     ("kinds full", "print point", ":(x = -5, y = 6)"),
     // a text has no zero byte at its end, and what stood before is left as it is

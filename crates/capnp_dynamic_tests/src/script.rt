@@ -12,6 +12,7 @@
 //! | `length items` | the elements of a list |
 //! | `last items` | how many elements an iterator has to come, its last one, and how many are to come then |
 //! | `print`, `lines` | what a print leaves, on one line or on lines, of a text that is `:` before |
+//! | `within 15 point` | what a print leaves, on one line, of a text that may have so many bytes more |
 //! | `debug`, `debug_lines` | the debug form of the struct or list, and the one on lines |
 //! | `value_lines` | the one on lines of the value that has the struct or list |
 //! | `note 7`, `note id 8` | the annotation of an id, of the struct or of a field; `none` where there is none |
@@ -24,7 +25,7 @@
 
 use crate::messages::{brand_of, message_of, set_of};
 use capnp_dynamic::dynamic_value::{AnnotationValue, Enum, Reader as Value};
-use capnp_dynamic::printer::print;
+use capnp_dynamic::printer::{print, print_within};
 use capnp_dynamic::{dynamic_list, dynamic_struct};
 use capnp_schema::schema::{AnnotationList, StructSchema};
 use capnp_schema::set::SchemaSet;
@@ -208,6 +209,19 @@ fn printed<'a>(alloc: Global, value: Value<'_>, is_indented: bool) -> Result<Ans
     })
 }
 
+/// What a print leaves of a value at a path, of a text that may have so many bytes more.
+fn within<'a>(alloc: Global, root: Value<'_>, rest: &str) -> Result<Answer<'a>> {
+    let (limit, path) = rest.split_once(' ').unwrap_or((rest, ""));
+    let value = follow(root, path)?;
+    let mut out = String::from_str(alloc, ":")?;
+    Ok(
+        match print_within(value, &mut out, false, u64::from(number(limit))) {
+            Ok(()) => Answer::Text(out),
+            Err(error) => Answer::RefusedPrint(error.kind.number(), out),
+        },
+    )
+}
+
 fn debug_text(alloc: Global, shown: &impl fmt::Debug) -> Result<String> {
     Ok(format!(in alloc; "{shown:?}")?)
 }
@@ -301,6 +315,7 @@ fn answer_of<'a>(
     let of_number = Enum::new(rest.parse::<u16>().unwrap_or(0), schemas.enum_schema(0));
     match word {
         "has" => has(Value::Struct(root), rest),
+        "within" => within(alloc, Value::Struct(root), rest),
         "note" => seen_note(root.get_schema(), rest),
         "print_note" => printed_note(alloc, root.get_schema(), rest),
         "enum" => Ok(Answer::Value(Value::from(of_number))),

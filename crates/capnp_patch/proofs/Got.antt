@@ -19,6 +19,7 @@ use Rattle.capnp_records.specs.Record.{Left, Record}
 use Rattle.capnp_records.specs.Run.{root_type}
 use Rattle.capnp_records.specs.Text.{Out, text_of}
 use Rattle.capnp_dynamic_readers.specs.Handles.{reader_of, schema_of}
+use Rattle.capnp_dynamic_readers.specs.Pieces.{IsLonger}
 use Rattle.capnp_dynamic_readers.specs.Seen.{record_seen, value_seen}
 use Rattle.capnp_dynamic_readers.specs.Shown.{printed_text, struct_printed, type_seen}
 use Rattle.capnp_dynamic_readers.specs.Typed.{IsOf, struct_type}
@@ -212,3 +213,7 @@ module _ (schema : StructSchema) (bytes : List ℕ) (h : StructHandle) (path : L
 
   pub part_reached : (v : DynamicValue) → Ok (value_part_seen v) ≡ from-root → path_read (set_of schema) path (root_reached (set_of schema) (number_of schema) (message_tree_of bytes)) ≡ Ok (value_part_seen v)
   part_reached v is = ap (path_read (set_of schema) path) root.known ∙ sym is
+
+-- a text that is refused counts as too long
+pub longer_refused : (limit : ℕ) (o : Out) (kind : ErrorKind) → o ≡ Err kind → IsLonger limit o
+longer_refused limit o kind e = subst (IsLonger limit) (sym e) (tt {0})

@@ -11,7 +11,7 @@ use Rattle.capnp_dynamic_readers.specs.Shown.{no_schemas, set_seen, type_seen}
 use Rattle.capnp_dynamic_readers.specs.Typed.{IsOf, struct_type}
 use Rattle.capnp_dynamic_readers.specs.declared.dynamic_value.Reader.{Reader as DynamicValue}
 use Rattle.capnp_dynamic_readers.specs.declared.dynamic_value.Reader.TheVariants as dynamic
-use Rattle.capnp_check.specs.Faults.{AreAllPlaces, ShownPart, ShowsMoreThan, most_steps, part_told, parts_from, parts_within, refused_parts, shown_within}
+use Rattle.capnp_check.specs.Faults.{AreAllPlaces, ShownPart, ShowsAtMost, ShowsMoreThan, most_steps, part_told, parts_from, parts_within, refused_parts, shown_within}
 use Rattle.capnp_check.specs.Places.{NoParts, TextParts, part_parts, root_parts}
 use Rattle.capnp_check.specs.declared.place.RefusedPlace.{RefusedPlace}
 use Rattle.capnp_show_engine.specs.Show.{struct_or_group}
@@ -68,3 +68,6 @@ all_alike set v places is all = λ n le. (let alike = parts_alike set v n is le 
 
 pub more_alike : (set : Schemas) (v : DynamicValue) (limit : ℕ) → IsOf set (type_seen v) v → ShowsMoreThan limit v → (n : ℕ) → most_steps set ≤ n → limit < length (parts_shown set n (value_part_seen v))
 more_alike set v limit is more = λ n le. (let alike = parts_alike set v n is le in subst (λ (xs : List ShownPart). limit < length xs) alike.1 (more n alike.0))
+
+pub few_alike : (set : Schemas) (v : DynamicValue) (limit : ℕ) → IsOf set (type_seen v) v → ShowsAtMost limit v → (n : ℕ) → most_steps set ≤ n → length (parts_shown set n (value_part_seen v)) ≤ limit
+few_alike set v limit is few = λ n le. (let alike = parts_alike set v n is le in subst (λ (xs : List ShownPart). length xs ≤ limit) alike.1 (few n alike.0))

@@ -1,5 +1,5 @@
 -- Where what is asked for at a path can't be shown.
-use Rattle.std.specs.Prelude.{ℕ, zero, suc, ◌<◌, ◌≤◌, ◌≡◌, List, [], ◌∷◌, length, map, Bool, true, false, Option, Some, None, Result, Ok, Err, string_bytes}
+use Rattle.std.specs.Prelude.{ℕ, zero, suc, ◌<◌, ◌≤◌, ◌≡◌, List, [], ◌∷◌, length, map, Bool, true, false, Option, Some, None, Result, Ok, Err, string_bytes, ⊤}
 use Rattle.capnp_device.specs.declared.error.ErrorKind.{ErrorKind}
 use Rattle.capnp_wire.specs.Stream.{message_tree_of}
 use Rattle.capnp_wire.specs.Tree.{Tree}
@@ -96,3 +96,14 @@ AreRefusedAt set b path bytes (refusals.Parts places) =
 abbrev pub HasMoreParts : ℕ → Schemas → ℕ → List PathStep → (bytes : List ℕ) → Type 0
 HasMoreParts limit set b path bytes =
     (p : Part) × (path_read set path (root_reached set b (message_tree_of bytes)) ≡ Ok p) × ((n : ℕ) → most_steps set ≤ n → limit < length (parts_shown set n p))
+
+-- it has at most so many
+abbrev pub HasFewParts : ℕ → Schemas → ℕ → List PathStep → (bytes : List ℕ) → Type 0
+HasFewParts limit set b path bytes =
+    (p : Part) × (path_read set path (root_reached set b (message_tree_of bytes)) ≡ Ok p) × ((n : ℕ) → most_steps set ≤ n → length (parts_shown set n p) ≤ limit)
+
+-- no more parts than so many are looked at for what is told
+abbrev pub AreFewLookedAt : ℕ → Schemas → ℕ → List PathStep → (bytes : List ℕ) → Refusals → Type 0
+AreFewLookedAt limit set b path bytes (refusals.Root kind) = ⊤
+AreFewLookedAt limit set b path bytes (refusals.Step x) = ⊤
+AreFewLookedAt limit set b path bytes (refusals.Parts places) = HasFewParts limit set b path bytes

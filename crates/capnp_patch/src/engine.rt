@@ -49,7 +49,7 @@ pub fn run_bytes_within(
     run_copied(alloc, limit, reader.get_root(), schema, calls)
 }
 
-/// The same with as many words as the format allows.
+/// As `run_bytes_within`, with as many words as the format allows.
 pub fn run_bytes(
     alloc: Global,
     bytes: &[u8],

@@ -1,11 +1,11 @@
 //! Where what stands at a path of a message that is read can't be shown.
-ghost use Rattle.std.specs.Prelude.{Bool, Some, ◌≡◌, ◌≢◌, IfErr, IfOk, IfSome};
+ghost use Rattle.std.specs.Prelude.{Bool, None, Some, ◌≡◌, ◌≢◌, IfErr, IfOk, IfSome};
 ghost use Rattle.capnp_check.specs.Refusals.{text_refusal};
 ghost use Rattle.capnp_device.specs.declared.error.ErrorKind.TheVariants.{OutOfMemory, TooLarge};
 ghost use Rattle.capnp_schema.specs.StructHandles.{IsStruct, number_of, set_of};
 ghost use Rattle.capnp_call.specs.Seen.{path_seen};
 ghost use Rattle.capnp_patch.specs.Gets.{got_text};
-ghost use Rattle.capnp_patch.specs.Places.{AreRefusedAt, HasMoreParts, IsRefusedAt, refusal_number};
+ghost use Rattle.capnp_patch.specs.Places.{AreFewLookedAt, AreRefusedAt, HasFewParts, HasMoreParts, IsRefusedAt, refusal_number};
 ghost use Rattle.capnp_patch.specs.declared.place.Place.TheVariants.{Root};
 
 use crate::reach::{RefusedStep, walk_path};
@@ -116,6 +116,8 @@ pub fn find_place_within<'a>(
         (got_text (set_of schema.entry) (number_of schema.entry) (path_seen path.now) indented bytes.now)) }
     ensures place { IfOk result (λ found. IfSome found (λ r. IsRefusedAt (set_of schema.entry) (number_of schema.entry)
         (path_seen path.now) bytes.now r.kind r.place)) }
+    ensures few { IfOk result (λ found. found ≡ None → HasFewParts limit (set_of schema.entry)
+        (number_of schema.entry) (path_seen path.now) bytes.now) }
     ensures too_large { IfErr result (λ e. e.kind ≡ TooLarge → HasMoreParts limit (set_of schema.entry)
         (number_of schema.entry) (path_seen path.now) bytes.now) }
     ensures refused { IfErr result (λ e. e.kind ≢ TooLarge → e.kind ≡ OutOfMemory) }
@@ -166,6 +168,7 @@ pub fn find_places<'a>(
 ) -> Result<Refusals<'a>>
     requires { IsStruct schema }
     ensures places { IfOk result (AreRefusedAt (set_of schema.entry) (number_of schema.entry) (path_seen path.now) bytes.now) }
+    ensures few { IfOk result (AreFewLookedAt limit (set_of schema.entry) (number_of schema.entry) (path_seen path.now) bytes.now) }
     ensures too_large { IfErr result (λ e. e.kind ≡ TooLarge → HasMoreParts limit (set_of schema.entry)
         (number_of schema.entry) (path_seen path.now) bytes.now) }
     ensures refused { IfErr result (λ e. e.kind ≢ TooLarge → e.kind ≡ OutOfMemory) }

@@ -24,7 +24,7 @@ pub(crate) enum Verb {
     Get,
     /// Calls are made on a copy of the message, which is written; where one is refused only if the flag is set.
     Patch,
-    /// The same on an empty root.
+    /// Calls are made on an empty root, which is written; where one is refused only if the flag is set.
     New,
 }
 

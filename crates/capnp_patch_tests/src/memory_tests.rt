@@ -24,7 +24,7 @@ struct Meeting {
     /// The lines, and what is written.
     lines: &'static str,
     written: &'static [u8],
-    /// The same where memory was refused to a call.
+    /// The lines, and what is left, where memory was refused to a call.
     refused: &'static str,
     left: &'static [u8],
 }

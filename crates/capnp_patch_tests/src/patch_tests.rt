@@ -164,7 +164,7 @@ fn a_refused_call_keeps_nothing_else_from_being_made(rt: HostRuntime) -> Result<
     rows_hold(&rt, rt.alloc(), Verb::New, true, &GOING_ON)
 }
 
-/// The same where a refused call keeps the message from being written.
+/// Rows of calls some of which are refused, which keeps the message from being written.
 static UNWRITTEN: [Row; 4] = [
     (SHAPES, NONE, ENTERED, ENTERED_LINES, NONE),
     (SHAPES, NONE, SWITCHED, SWITCHED_LINES, NONE),

@@ -11,7 +11,7 @@ use capnp::device::{WriteSink, write_all};
 use capnp::dynamic_value::Reader as Value;
 use capnp::introspect::{Type, TypeVariant};
 use capnp::message::Reader;
-use capnp::printer::print;
+use capnp::printer::{print, print_within};
 use capnp::run::{Call, Op, Step, any_refused, whole_copied, whole_new};
 use capnp::schema::record::{BrandRecord, FieldRecord, NodeRecord, ValueRecord};
 use capnp::schema::{SchemaSet, StructSchema};
@@ -75,7 +75,7 @@ fn build(alloc: Global, account: StructSchema<'_>, out: &mut String) -> Result<V
     Ok(bytes)
 }
 
-/// The same message with another balance, and its text.
+/// A copy of the message with another balance, and its text.
 fn patch(
     alloc: Global,
     account: StructSchema<'_>,
@@ -110,7 +110,24 @@ fn read_as_older(
     print(Value::Struct(seen), out, false)
 }
 
-/// The three texts, each on a line.
+/// What such a program reads of a message that may come from anywhere: a text that has more bytes than these is refused.
+fn read_shortly(
+    alloc: Global,
+    schemas: &SchemaSet,
+    message: &[u8],
+    out: &mut String,
+) -> Result<()> {
+    let older = struct_named(schemas, "OldAccount")?;
+    let newer = struct_named(schemas, "Account")?;
+    let Some(pair) = Compatible::check(alloc, older, newer)? else {
+        return Err(Error::type_mismatch());
+    };
+    let root = Reader::new(alloc, message)?.get_root().get_struct()?;
+    let seen = pair.narrow(dynamic_struct::Reader::new(root, newer));
+    print_within(Value::Struct(seen), out, false, 1000)
+}
+
+/// The four texts, each on a line.
 fn run(alloc: Global) -> Result<String> {
     let schemas = schemas(alloc)?;
     let account = struct_named(&schemas, "Account")?;
@@ -120,6 +137,8 @@ fn run(alloc: Global) -> Result<String> {
     let patched = patch(alloc, account, &built, &mut out)?;
     out.push('\n')?;
     read_as_older(alloc, &schemas, &patched, &mut out)?;
+    out.push('\n')?;
+    read_shortly(alloc, &schemas, &patched, &mut out)?;
     out.push('\n')?;
     Ok(out)
 }

@@ -38,9 +38,13 @@ item_by false active is_shown there = there
 abbrev pub is_item : StructHandle → TypedField → ℕ → Bool
 is_item r f i = item_by (is_member f.field) (is_active (union_seen r) i) (is_member_shown r f) (is_there (part_seen r f))
 
--- what stands before the text of an item was put
+-- what stands before the text of an item
+abbrev pub name_text : Layout → (first : Bool) → TypedField → List ℕ
+name_text at first f = separator at first ++ (f.field.name ++ codes " = ")
+
+-- and it was put
 abbrev pub IsNamePut : Layout → (first : Bool) → TypedField → Taken → Taken → Type 0
-IsNamePut at first f old new = IsPut old (said_text (separator at first ++ (f.field.name ++ codes " = "))) new
+IsNamePut at first f old new = IsPut old (said_text (name_text at first f)) new
 
 -- ---- the text that is to come ----
 

@@ -3,14 +3,13 @@ ghost use Rattle.std.specs.Prelude.{◌≡◌, ◌<◌, [], length, IfErr, IfOk,
 ghost use Rattle.capnp_schema.specs.GroupFields.{group_field_of};
 ghost use Rattle.capnp_schema.specs.GroupWalks.{above, frames, walk_brand, walk_depth, walk_index, walk_schema, walk_set};
 ghost use Rattle.capnp_schema.specs.StructHandles.{number_of, set_of, struct_fields};
-ghost use Rattle.capnp_records.specs.Text.{deeper};
-ghost use Rattle.capnp_dynamic_readers.specs.Steps.GroupTexts.{IsBracketClosed, IsGroupOpened, IsPast, IsStart, has_fields};
-ghost use Rattle.capnp_dynamic_readers.specs.Steps.Pieces.{IsFull};
+ghost use Rattle.capnp_records.specs.Text.{deeper, said_text};
+ghost use Rattle.capnp_dynamic_readers.specs.Steps.GroupTexts.{IsBracketClosed, IsGroupOpened, IsPast, IsStart, closing, has_fields};
+ghost use Rattle.capnp_dynamic_readers.specs.Steps.Pieces.{IsFull, IsStopped};
 
 use crate::printer::output::{Out, Stop};
-use crate::printer::pieces::{one_deeper, one_shallower, put, put_line};
+use crate::printer::pieces::{one_deeper, one_shallower, put_line};
 use capnp_schema::schema::{GroupWalk, StructSchema};
-use capnp_wire::error::{Error, ErrorKind};
 
 /// Where a print of a struct stands: among its fields or those of a group in it, whether the next item there is the
 /// first, and how many brackets stand around it.
@@ -32,10 +31,7 @@ pub(crate) fn has_fields(schema: StructSchema<'_>) -> bool
 }
 
 /// At the first field of a struct whose bracket is open.
-pub(crate) fn start<'a, F>(
-    schema: StructSchema<'a>,
-    at: Option<u64>,
-) -> Result<Standing<'a>, Stop<F>>
+pub(crate) fn start<'a>(schema: StructSchema<'a>, at: Option<u64>) -> Result<Standing<'a>, Stop>
     ensures start { IfOk result (IsStart schema.entry at) }
     ensures full { IfErr result IsFull }
 {
@@ -60,10 +56,7 @@ pub(crate) fn past(now: Standing<'_>, first: bool) -> Standing<'_>
 
 /// At the first field of a group whose bracket is open. No place has room for the brackets of more groups than can be
 /// counted.
-pub(crate) fn open<'a, F>(
-    now: Standing<'a>,
-    group: StructSchema<'a>,
-) -> Result<Standing<'a>, Stop<F>>
+pub(crate) fn open<'a>(now: Standing<'a>, group: StructSchema<'a>) -> Result<Standing<'a>, Stop>
     requires set { set_of group ≡ walk_set now.walk }
     requires field { group_field_of (walk_set now.walk) (number_of group)
         ≡ Some (walk_brand now.walk, walk_index now.walk) }
@@ -71,7 +64,7 @@ pub(crate) fn open<'a, F>(
     ensures full { IfErr result IsFull }
 {
     if now.walk.get_depth() == usize::MAX {
-        return Err(Stop::Refused(Error::from(ErrorKind::OutOfMemory)));
+        return Err(Stop::Full);
     }
     Ok(Standing {
         walk: now.walk.enter(group),
@@ -84,13 +77,13 @@ pub(crate) fn open<'a, F>(
 pub(crate) fn close<'a, O: Out>(
     now: Standing<'a>,
     out: &mut O,
-) -> Result<Option<Standing<'a>>, Stop<O::Error>>
+) -> Result<Option<Standing<'a>>, Stop>
     ensures closed { IfOk result (IsBracketClosed now.entry (O.text out.old) (O.text out.new)) }
-    ensures full { IfErr result IsFull }
+    ensures stopped { IfErr result (IsStopped (O.text out.old) (said_text (closing now.entry.at))) }
 {
     let at = one_shallower(now.at);
     put_line(at, out)?;
-    put(")", out)?;
+    out.put(")")?;
     match now.walk.leave() {
         Some(walk) => Ok(Some(Standing {
             walk,

@@ -1,16 +1,17 @@
 //! The text of a value that is no struct and no list.
-ghost use Rattle.std.specs.Prelude.{[], ◌≡◌, ◌<◌, ◌∷◌, flat_map, OnOk};
+ghost use Rattle.std.specs.Prelude.{[], ◌≡◌, ◌<◌, ◌∷◌, flat_map, IfErr, OnOk};
 ghost use Rattle.std.specs.Char.{digit_char};
 ghost use Rattle.capnp_records.specs.Text.{data_text, decimals, quoted_text, said_text};
 ghost use Rattle.capnp_dynamic_readers.specs.Steps.Leaf.{IsLeaf, enumerant_text, leaf_text, two_digits};
-ghost use Rattle.capnp_dynamic_readers.specs.Steps.Pieces.{IsPut};
+ghost use Rattle.capnp_dynamic_readers.specs.Steps.Pieces.{IsPut, IsStopped};
 
-use super::output::Out;
+use super::output::{Out, Stop};
 use crate::dynamic_value::{Enum, Reader};
 
 /// Appends bytes in decimal, with a comma and a space between them.
-fn put_decimals<O: Out>(bytes: &[u8], out: &mut O) -> Result<(), O::Error>
-    ensures { OnOk result (IsPut (O.text out.old) (said_text (decimals bytes.now)) (O.text out.new)) }
+fn put_decimals<O: Out>(bytes: &[u8], out: &mut O) -> Result<(), Stop>
+    ensures put { OnOk result (IsPut (O.text out.old) (said_text (decimals bytes.now)) (O.text out.new)) }
+    ensures stopped { IfErr result (IsStopped (O.text out.old) (said_text (decimals bytes.now))) }
 {
     if bytes.is_empty() {
         return Ok(());
@@ -24,17 +25,16 @@ fn put_decimals<O: Out>(bytes: &[u8], out: &mut O) -> Result<(), O::Error>
 }
 
 /// Appends a text in quotes, or the bytes of one that is no UTF-8.
-fn put_text<O: Out>(bytes: &[u8], out: &mut O) -> Result<(), O::Error>
-    ensures { OnOk result (IsPut (O.text out.old) (quoted_text bytes.now) (O.text out.new)) }
+fn put_text<O: Out>(bytes: &[u8], out: &mut O) -> Result<(), Stop>
+    ensures put { OnOk result (IsPut (O.text out.old) (quoted_text bytes.now) (O.text out.new)) }
+    ensures stopped { IfErr result (IsStopped (O.text out.old) (quoted_text bytes.now)) }
 {
     if let Ok(string) = std::str::from_utf8(bytes) {
-        out.put_debug(string)?;
-        return Ok(());
+        return out.put_debug(string);
     }
     out.put("<invalid utf-8: [")?;
     put_decimals(bytes, out)?;
-    out.put("]>")?;
-    Ok(())
+    out.put("]>")
 }
 
 /// A digit below 16, in lower case.
@@ -63,8 +63,9 @@ fn digit(value: u8) -> &'static str
 }
 
 /// Appends bytes, each by two digits.
-fn put_digits<O: Out>(bytes: &[u8], out: &mut O) -> Result<(), O::Error>
-    ensures { OnOk result (IsPut (O.text out.old) (said_text (flat_map two_digits bytes.now)) (O.text out.new)) }
+fn put_digits<O: Out>(bytes: &[u8], out: &mut O) -> Result<(), Stop>
+    ensures put { OnOk result (IsPut (O.text out.old) (said_text (flat_map two_digits bytes.now)) (O.text out.new)) }
+    ensures stopped { IfErr result (IsStopped (O.text out.old) (said_text (flat_map two_digits bytes.now))) }
 {
     for i in 0..bytes.len() {
         let byte = bytes[i];
@@ -75,29 +76,32 @@ fn put_digits<O: Out>(bytes: &[u8], out: &mut O) -> Result<(), O::Error>
 }
 
 /// Appends data in hexadecimal.
-fn put_data<O: Out>(bytes: &[u8], out: &mut O) -> Result<(), O::Error>
-    ensures { OnOk result (IsPut (O.text out.old) (said_text (data_text bytes.now)) (O.text out.new)) }
+fn put_data<O: Out>(bytes: &[u8], out: &mut O) -> Result<(), Stop>
+    ensures put { OnOk result (IsPut (O.text out.old) (said_text (data_text bytes.now)) (O.text out.new)) }
+    ensures stopped { IfErr result (IsStopped (O.text out.old) (said_text (data_text bytes.now))) }
 {
     out.put("0x\"")?;
     put_digits(bytes, out)?;
-    out.put("\"")?;
-    Ok(())
+    out.put("\"")
 }
 
 /// Appends an enum by its enumerant's name, and past the enumerants by its number.
-fn put_enum<O: Out>(value: Enum<'_>, out: &mut O) -> Result<(), O::Error>
-    ensures { OnOk result (IsPut (O.text out.old) (said_text (enumerant_text value.entry)) (O.text out.new)) }
+fn put_enum<O: Out>(value: Enum<'_>, out: &mut O) -> Result<(), Stop>
+    ensures put { OnOk result (IsPut (O.text out.old) (said_text (enumerant_text value.entry)) (O.text out.new)) }
+    ensures stopped { IfErr result (IsStopped (O.text out.old) (said_text (enumerant_text value.entry))) }
 {
     match value.get_enumerant() {
         Ok(Some(enumerant)) => out.put(enumerant.get_proto().name.as_str()),
-        _ => out.put_unsigned(u64::from(value.get_value())),
+        Ok(None) => out.put_unsigned(u64::from(value.get_value())),
+        Err(_) => unreachable!(),
     }
 }
 
 /// Appends the text of a value that is no struct and no list.
-pub(super) fn put_leaf<O: Out>(value: Reader<'_>, out: &mut O) -> Result<(), O::Error>
+pub(super) fn put_leaf<O: Out>(value: Reader<'_>, out: &mut O) -> Result<(), Stop>
     requires { IsLeaf value }
-    ensures { OnOk result (IsPut (O.text out.old) (leaf_text value.entry) (O.text out.new)) }
+    ensures put { OnOk result (IsPut (O.text out.old) (leaf_text value.entry) (O.text out.new)) }
+    ensures stopped { IfErr result (IsStopped (O.text out.old) (leaf_text value.entry)) }
 {
     match value {
         Reader::Void => out.put("()"),

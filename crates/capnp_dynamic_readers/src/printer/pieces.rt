@@ -2,15 +2,11 @@
 ghost use Rattle.std.specs.Prelude.{◌≡◌, IfErr, IfOk, None, OnOk, Some, cond};
 ghost use Rattle.capnp_schema.specs.FieldLists.{typed_of};
 ghost use Rattle.capnp_records.specs.Text.{deeper, line, said_text, separator};
-ghost use Rattle.capnp_dynamic_readers.specs.Steps.GroupTexts.{IsNamePut, shallower};
-ghost use Rattle.capnp_dynamic_readers.specs.Steps.Leaf.{IsLeaf, leaf_text};
-ghost use Rattle.capnp_dynamic_readers.specs.Steps.Pieces.{IsFull, IsPut};
+ghost use Rattle.capnp_dynamic_readers.specs.Steps.GroupTexts.{IsNamePut, name_text, shallower};
+ghost use Rattle.capnp_dynamic_readers.specs.Steps.Pieces.{IsFull, IsPut, IsStopped};
 
-use crate::dynamic_value::Reader as Value;
-use crate::printer::leaves::put_leaf;
 use crate::printer::output::{Out, Stop};
 use capnp_schema::schema::Field;
-use capnp_wire::error::{Error, ErrorKind};
 
 /// How many brackets stand around what is printed first; none where all is on one line.
 pub(crate) fn layout(indented: bool) -> Option<u64>
@@ -19,38 +15,15 @@ pub(crate) fn layout(indented: bool) -> Option<u64>
     if indented { Some(0) } else { None }
 }
 
-/// Appends a piece.
-pub(crate) fn put<O: Out>(piece: &str, out: &mut O) -> Result<(), Stop<O::Error>>
-    ensures put { OnOk result (IsPut (O.text out.old) (said_text piece.now) (O.text out.new)) }
-    ensures full { IfErr result IsFull }
-{
-    match out.put(piece) {
-        Ok(()) => Ok(()),
-        Err(fault) => Err(Stop::Full(fault)),
-    }
-}
-
-/// Appends the text of a value that is no struct and no list.
-pub(crate) fn print_leaf<O: Out>(value: Value<'_>, out: &mut O) -> Result<(), Stop<O::Error>>
-    requires { IsLeaf value }
-    ensures put { OnOk result (IsPut (O.text out.old) (leaf_text value.entry) (O.text out.new)) }
-    ensures full { IfErr result IsFull }
-{
-    match put_leaf(value, out) {
-        Ok(()) => Ok(()),
-        Err(fault) => Err(Stop::Full(fault)),
-    }
-}
-
 /// One bracket further in. No place has room for the lines of more brackets than can be counted.
 #[tactic(auto, using(crate::proofs::Streams::deeper_is))]
-pub(crate) fn one_deeper<F>(at: Option<u64>) -> Result<Option<u64>, Stop<F>>
+pub(crate) fn one_deeper(at: Option<u64>) -> Result<Option<u64>, Stop>
     ensures deeper { IfOk result (λ further. further ≡ deeper at) }
     ensures full { IfErr result IsFull }
 {
     match at {
         None => Ok(None),
-        Some(u64::MAX) => Err(Stop::Refused(Error::from(ErrorKind::OutOfMemory))),
+        Some(u64::MAX) => Err(Stop::Full),
         Some(depth) => Ok(Some(depth + 1)),
     }
 }
@@ -67,36 +40,32 @@ pub(crate) fn one_shallower(at: Option<u64>) -> Option<u64>
 }
 
 /// A line break, where lines are broken.
-pub(crate) fn put_line<O: Out>(at: Option<u64>, out: &mut O) -> Result<(), Stop<O::Error>>
+pub(crate) fn put_line<O: Out>(at: Option<u64>, out: &mut O) -> Result<(), Stop>
     ensures put { OnOk result (IsPut (O.text out.old) (said_text (line at)) (O.text out.new)) }
-    ensures full { IfErr result IsFull }
+    ensures stopped { IfErr result (IsStopped (O.text out.old) (said_text (line at))) }
 {
     let Some(depth) = at else {
         return Ok(());
     };
-    put("\n", out)?;
+    out.put("\n")?;
     for step in 0..depth {
-        put("  ", out)?;
+        out.put("  ")?;
     }
     Ok(())
 }
 
 /// What stands before an item.
-pub(crate) fn put_separator<O: Out>(
-    at: Option<u64>,
-    first: bool,
-    out: &mut O,
-) -> Result<(), Stop<O::Error>>
+pub(crate) fn put_separator<O: Out>(at: Option<u64>, first: bool, out: &mut O) -> Result<(), Stop>
     ensures put { OnOk result (IsPut (O.text out.old) (said_text (separator at first)) (O.text out.new)) }
-    ensures full { IfErr result IsFull }
+    ensures stopped { IfErr result (IsStopped (O.text out.old) (said_text (separator at first))) }
 {
     if first {
         return put_line(at, out);
     }
     match at {
-        None => put(", ", out),
+        None => out.put(", "),
         Some(_) => {
-            put(",", out)?;
+            out.put(",")?;
             put_line(at, out)
         }
     }
@@ -108,11 +77,11 @@ pub(crate) fn put_name<O: Out>(
     at: Option<u64>,
     first: bool,
     out: &mut O,
-) -> Result<(), Stop<O::Error>>
+) -> Result<(), Stop>
     ensures put { OnOk result (IsNamePut at first (typed_of field.entry) (O.text out.old) (O.text out.new)) }
-    ensures full { IfErr result IsFull }
+    ensures stopped { IfErr result (IsStopped (O.text out.old) (said_text (name_text at first (typed_of field.entry)))) }
 {
     put_separator(at, first, out)?;
-    put(field.get_proto().name.as_str(), out)?;
-    put(" = ", out)
+    out.put(field.get_proto().name.as_str())?;
+    out.put(" = ")
 }

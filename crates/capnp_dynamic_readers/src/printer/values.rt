@@ -12,9 +12,10 @@ ghost use Rattle.capnp_dynamic_readers.specs.Steps.Shown.{count_of, element_item
 
 use crate::dynamic_value::Reader as Value;
 use crate::printer::groups::{Standing, close, has_fields, open, past, start};
+use crate::printer::leaves::put_leaf;
 use crate::printer::output::{Out, Stop};
 use crate::printer::parts::{has_item, read_element, read_slot, refusal};
-use crate::printer::pieces::{one_deeper, print_leaf, put, put_line, put_name, put_separator};
+use crate::printer::pieces::{one_deeper, put_line, put_name, put_separator};
 use crate::{dynamic_list, dynamic_struct};
 use capnp_schema::schema::Field;
 use capnp_wire::StructReader;
@@ -27,9 +28,9 @@ pub(crate) fn print_value<O: Out>(
     left: u32,
     at: Option<u64>,
     out: &mut O,
-) -> Result<(), Stop<O::Error>>
+) -> Result<(), Stop>
     ensures put { OnOk result (IsPut (O.text out.old) (value_shown left at value.entry) (O.text out.new)) }
-    ensures stopped { IfErr result (IsStopped (value_shown left at value.entry)) }
+    ensures stopped { IfErr result (IsStopped (O.text out.old) (value_shown left at value.entry)) }
 {
     match value {
         Value::Struct(reader) => {
@@ -44,7 +45,7 @@ pub(crate) fn print_value<O: Out>(
             }
             print_list(list, left - 1, at, out)
         }
-        _ => print_leaf(value, out),
+        _ => put_leaf(value, out),
     }
 }
 
@@ -55,20 +56,20 @@ fn print_list<O: Out>(
     left: u32,
     at: Option<u64>,
     out: &mut O,
-) -> Result<(), Stop<O::Error>>
+) -> Result<(), Stop>
     ensures put { OnOk result (IsPut (O.text out.old) (list_shown left at list.entry) (O.text out.new)) }
-    ensures stopped { IfErr result (IsStopped (list_shown left at list.entry)) }
+    ensures stopped { IfErr result (IsStopped (O.text out.old) (list_shown left at list.entry)) }
 {
     if list.len() == 0 {
-        return put("[]", out);
+        return out.put("[]");
     }
-    put("[", out)?;
+    out.put("[")?;
     let further = one_deeper(at)?;
     if let Err(stop) = print_elements(list, left, further, out) {
         return Err(stop);
     }
     put_line(at, out)?;
-    put("]", out)
+    out.put("]")
 }
 
 /// Appends the elements of a list.
@@ -78,10 +79,10 @@ fn print_elements<O: Out>(
     left: u32,
     at: Option<u64>,
     out: &mut O,
-) -> Result<(), Stop<O::Error>>
+) -> Result<(), Stop>
     ensures put { OnOk result (IsPut (O.text out.old)
         (more_text at true (element_items left at list.entry 0 (count_of list.entry))) (O.text out.new)) }
-    ensures stopped { IfErr result (IsStopped (more_text at true (element_items left at list.entry 0 (count_of list.entry)))) }
+    ensures stopped { IfErr result (IsStopped (O.text out.old) (more_text at true (element_items left at list.entry 0 (count_of list.entry)))) }
 {
     for i in 0..list.len() {
         put_separator(at, i == 0, out)?;
@@ -105,14 +106,14 @@ pub(crate) fn print_record<O: Out>(
     left: u32,
     at: Option<u64>,
     out: &mut O,
-) -> Result<(), Stop<O::Error>>
+) -> Result<(), Stop>
     ensures put { OnOk result (IsPut (O.text out.old) (record_shown left at reader.entry) (O.text out.new)) }
-    ensures stopped { IfErr result (IsStopped (record_shown left at reader.entry)) }
+    ensures stopped { IfErr result (IsStopped (O.text out.old) (record_shown left at reader.entry)) }
 {
     if !has_fields(reader.get_schema()) {
-        return put("()", out);
+        return out.put("()");
     }
-    put("(", out)?;
+    out.put("(")?;
     let sections = reader.get_sections();
     let mut now = start(reader.get_schema(), at)?;
     loop {
@@ -137,10 +138,10 @@ fn print_field<'a, O: Out>(
     field: Field<'a>,
     left: u32,
     out: &mut O,
-) -> Result<Standing<'a>, Stop<O::Error>>
+) -> Result<Standing<'a>, Stop>
     requires field { IsFieldOf (walk_schema now.walk) (walk_index now.walk) field }
     ensures put { IfOk result (IsPrintStep left sections.entry now.entry (O.text out.old) (O.text out.new)) }
-    ensures stopped { IfErr result (IsStopped (onward_of left sections.entry now.entry)) }
+    ensures stopped { IfErr result (IsStopped (O.text out.old) (onward_of left sections.entry now.entry)) }
 {
     let reader = dynamic_struct::Reader::new(sections, now.walk.get_schema());
     if !has_item(reader, field) {
@@ -154,10 +155,10 @@ fn print_field<'a, O: Out>(
         };
     };
     if !has_fields(group) {
-        put("()", out)?;
+        out.put("()")?;
         return Ok(past(now, false));
     }
-    put("(", out)?;
+    out.put("(")?;
     open(now, group)
 }
 
@@ -169,12 +170,12 @@ fn print_slot<O: Out>(
     left: u32,
     at: Option<u64>,
     out: &mut O,
-) -> Result<(), Stop<O::Error>>
+) -> Result<(), Stop>
     requires field { IsFieldOf (schema_of reader) (index_of field) field }
     requires slot { IsSlotField field }
     ensures put { OnOk result (IsPut (O.text out.old)
         (field_shown left at reader.entry (field_in reader.entry field.entry)) (O.text out.new)) }
-    ensures stopped { IfErr result (IsStopped (field_shown left at reader.entry (field_in reader.entry field.entry))) }
+    ensures stopped { IfErr result (IsStopped (O.text out.old) (field_shown left at reader.entry (field_in reader.entry field.entry))) }
 {
     match read_slot(reader, field) {
         Ok(value) => print_value(value, left, at, out),

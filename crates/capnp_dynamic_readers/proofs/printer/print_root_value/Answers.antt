@@ -10,7 +10,7 @@ use Rattle.capnp_dynamic_readers.proofs.printer.print_root_value.Goals.{in-Struc
 
 pub returns-clause-stopped : goal.returns-clause-stopped
 returns-clause-stopped g c =
-    root_stopped c.args.at c.args.value c.print_value.result
+    root_stopped c.args.at c.args.value (g.O.Out.text c.args.out.now) c.print_value.result
     (elim c.match-value.branch as (λ _. root_shown c.args.at c.args.value ≡ value_shown 64 c.args.at c.args.value) [
       | in-Struct+else-get_proto w ↦
           struct_root c.args.at c.args.value w.in-Struct.reader w.in-Struct.is

@@ -6,7 +6,7 @@ use Rattle.capnp_schema.specs.StructHandles.{set_of}
 use Rattle.capnp_call.specs.Seen.{path_seen}
 use Rattle.capnp_patch.specs.Gets.{value_part_seen}
 use Rattle.capnp_patch.proofs.Got.{part_number, part_reached, root_read, step_number}
-use Rattle.capnp_patch.proofs.PartsAlike.{more_alike}
+use Rattle.capnp_patch.proofs.PartsAlike.{few_alike, more_alike}
 use Rattle.capnp_patch.proofs.PlacesSeen.{part_place}
 use Rattle.capnp_dynamic_readers.specs.declared.dynamic_value.Reader.TheVariants.{Struct as StructOf}
 use Rattle.capnp_patch.proofs.place.find_place_within.Goals as goal
@@ -56,4 +56,13 @@ returns-in-Err-find_refusal_within-clause-too_large c = λ is.
       value_part_seen c.in-Ok-walk_path.part,
       part_reached c.args.schema c.args.bytes.now c.new-2.result (path_seen c.args.path.now) root c.in-Ok-walk_path.part (c.in-Ok-walk_path.ensures.read (set_of c.args.schema) root.typed),
       more_alike (set_of c.args.schema) c.in-Ok-walk_path.part c.args.limit (c.in-Ok-walk_path.ensures.typed (set_of c.args.schema) root.typed) (c.in-Err-find_refusal_within.ensures.too_large is),
+    )
+
+pub returns-in-None-clause-few : goal.returns-in-None-clause-few
+returns-in-None-clause-few c = λ none.
+    let root = (root_read c.args.schema c.args.bytes.now (received_tree c.in-Ok.reader) (tree_of c.get_root.result) (levels_of c.get_root.result) c.new-2.result c.in-Ok-get_struct.root
+    c.in-Ok.ensures c.get_root.ensures.tree c.get_root.ensures.levels c.in-Ok-get_struct.ensures.read c.in-Ok-get_struct.ensures.levels c.new-2.ensures.schema c.new-2.ensures.reader c.requires) in (
+      value_part_seen c.in-Ok-walk_path.part,
+      part_reached c.args.schema c.args.bytes.now c.new-2.result (path_seen c.args.path.now) root c.in-Ok-walk_path.part (c.in-Ok-walk_path.ensures.read (set_of c.args.schema) root.typed),
+      few_alike (set_of c.args.schema) c.in-Ok-walk_path.part c.args.limit (c.in-Ok-walk_path.ensures.typed (set_of c.args.schema) root.typed) c.in-Ok-find_refusal_within.ensures.within,
     )

@@ -1,7 +1,12 @@
 use Rattle.std.proofs.Common.{string_bytes, rules}
 use Rattle.std.specs.Fmt.{signed_decimal}
-use Rattle.capnp_dynamic_readers.proofs.Pieces.{grown}
+use Rattle.capnp_dynamic_readers.proofs.Pieces.{written, written_too_long}
 use Rattle.capnp_dynamic_readers.proofs.printer.output.MadeOut.put_signed.Goals as goal
 
-pub returns : goal.returns
-returns c = grown c.write.result (string_bytes c.args.self.now.text) (string_bytes c.write.new.self) (signed_decimal c.args.number) (search rules)
+pub returns-in-Ok-clause-put : goal.returns-in-Ok-clause-put
+returns-in-Ok-clause-put c =
+    written c.allow.result c.args.self.now.limit (string_bytes c.args.self.now.text) (string_bytes c.write.new.self) (signed_decimal c.args.number) (search rules) c.allow.ensures.allowed
+
+pub returns-in-Ok-clause-stopped : goal.returns-in-Ok-clause-stopped
+returns-in-Ok-clause-stopped c =
+    written_too_long c.allow.result c.args.self.now.limit (string_bytes c.args.self.now.text) (string_bytes c.write.new.self) (signed_decimal c.args.number) (search rules) c.allow.ensures.too_long

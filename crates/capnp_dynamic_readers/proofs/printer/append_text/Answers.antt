@@ -1,0 +1,28 @@
+use Rattle.std.proofs.Common.{string_bytes, subst}
+use Rattle.capnp_records.specs.Text.{Layout}
+use Rattle.capnp_dynamic_readers.specs.Pieces.{Taken, made_bytes, made_text}
+use Rattle.capnp_dynamic_readers.specs.Steps.Pieces.{IsPut, IsStopped}
+use Rattle.capnp_dynamic_readers.specs.Shown.{printed_text}
+use Rattle.capnp_dynamic_readers.specs.Steps.Shown.{root_shown}
+use Rattle.capnp_dynamic_readers.proofs.Pieces.{appended_whole, appended_within}
+use Rattle.capnp_dynamic_readers.proofs.Steps.{ok_map}
+use Rattle.capnp_dynamic_readers.proofs.printer.append_text.Goals as goal
+
+pub returns-in-Ok-clause-printed : goal.returns-in-Ok-clause-printed
+returns-in-Ok-clause-printed c =
+    let m = c.print_root_value.new.out in
+    let put = subst (λ (z : Layout). IsPut (made_text c.new-made.result) (root_shown z c.args.value) (made_text m)) c.layout.ensures c.in-Ok.ensures.put in
+    let whole = subst (λ (z : Taken). IsPut z (printed_text c.args.indented c.args.value) (made_text m)) c.new-made.ensures put in
+    ok_map c.append_to.result (appended_whole (printed_text c.args.indented c.args.value) c.args.limit m.limit (string_bytes c.args.out.now) (string_bytes c.append_to.new.out) (made_bytes m) whole) c.append_to.ensures.appended
+
+pub returns-in-Ok-clause-within : goal.returns-in-Ok-clause-within
+returns-in-Ok-clause-within c =
+    let m = c.print_root_value.new.out in
+    let put = subst (λ (z : Layout). IsPut (made_text c.new-made.result) (root_shown z c.args.value) (made_text m)) c.layout.ensures c.in-Ok.ensures.put in
+    let whole = subst (λ (z : Taken). IsPut z (printed_text c.args.indented c.args.value) (made_text m)) c.new-made.ensures put in
+    ok_map c.append_to.result (appended_within (printed_text c.args.indented c.args.value) c.args.limit m.limit (string_bytes c.args.out.now) (string_bytes c.append_to.new.out) (made_bytes m) whole) c.append_to.ensures.appended
+
+pub returns-in-Err-clause-stopped : goal.returns-in-Err-clause-stopped
+returns-in-Err-clause-stopped c =
+    let stopped = subst (λ (z : Layout). IsStopped (made_text c.new-made.result) (root_shown z c.args.value) c.in-Err.stop) c.layout.ensures c.in-Err.ensures.stopped in
+    subst (λ (z : Taken). IsStopped z (printed_text c.args.indented c.args.value) c.in-Err.stop) c.new-made.ensures stopped

@@ -1,0 +1,13 @@
+use Rattle.std.proofs.Common.{[]}
+use Rattle.capnp_dynamic_readers.specs.Pieces.{Within}
+use Rattle.capnp_dynamic_readers.specs.Shown.{printed_text}
+use Rattle.capnp_dynamic_readers.proofs.Roots.{stopped_longer, stopped_refused}
+use Rattle.capnp_dynamic_readers.proofs.printer.print_within.Goals as goal
+
+pub returns-in-Err-clause-refused : goal.returns-in-Err-clause-refused
+returns-in-Err-clause-refused c =
+    stopped_refused (Within c.args.limit []) (printed_text c.args.indented c.args.value) c.in-Err.stop c.from.result.kind c.from.ensures c.in-Err.ensures.stopped
+
+pub returns-in-Err-clause-too_long : goal.returns-in-Err-clause-too_long
+returns-in-Err-clause-too_long c =
+    stopped_longer c.args.limit (printed_text c.args.indented c.args.value) c.in-Err.stop c.from.result.kind c.from.ensures c.in-Err.ensures.stopped
