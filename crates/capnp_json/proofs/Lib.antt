@@ -9,3 +9,9 @@ pub mod LeafJsons
 pub mod PartsJson
 pub mod Missing
 pub mod Digits
+pub mod ItemsJson
+pub mod RecordSteps
+pub mod ItemSteps
+pub mod StructSteps
+pub mod ListSteps
+pub mod RootJson

@@ -1,14 +1,15 @@
 -- What is read under a field or at an index has the JSON that the definition gives it.
-use Rattle.std.specs.Prelude.{ℕ, zero, suc, ◌≡◌, refl, [], Bool, true, false, codes, length, Option, Some, None, Result, Ok, Err, ⊤, IfOk, IfErr}
+use Rattle.std.specs.Prelude.{ℕ, zero, suc, ◌≡◌, ◌==◌, refl, [], Bool, true, false, not, codes, length, Option, Some, None, Result, Ok, Err, ⊤, IfOk, IfErr}
 use Rattle.std.proofs.Common.{ap, sym, subst, ◌∙◌}
 use Rattle.std.specs.Option.{unwrap_or}
 use Rattle.std.proofs.lemmas.Bool.{true≢false}
 use Rattle.capnp_device.specs.declared.error.ErrorKind.{ErrorKind}
+use Rattle.capnp_device.specs.declared.error.ErrorKind.TheVariants.{TooDeep}
 use Rattle.capnp_device.specs.declared.error.Error.{Error}
-use Rattle.capnp_wire.specs.Standing.{struct_levels, struct_of}
+use Rattle.capnp_wire.specs.Standing.{list_levels, list_of, struct_levels, struct_of}
 use Rattle.capnp_wire.specs.Tree as tree
 use Rattle.capnp_wire.specs.Tree.{StructTree, Tree, nth_tree}
-use Rattle.capnp_wire.specs.Reading.{as_data, as_list, as_struct, as_text}
+use Rattle.capnp_wire.specs.Reading.{as_data, as_list, as_struct, as_text, element_levels, element_pointer}
 use Rattle.capnp_schema.specs.Accepted.{GroupFits}
 use Rattle.capnp_schema.specs.FieldLists.{IsFieldOf, index_of, typed_of}
 use Rattle.capnp_schema.specs.Schema.{FieldKind, Group, Schemas, Slot, VoidValue, kind_default, kind_target, Value as SchemaValue}
@@ -17,13 +18,15 @@ use Rattle.capnp_schema.specs.StructHandles.{IsStruct, number_of, set_of, struct
 use Rattle.capnp_schema.specs.declared.schema.fields.Field.{Field}
 use Rattle.capnp_schema.specs.declared.schema.structs.StructSchema.{StructSchema}
 use Rattle.capnp_schema.specs.Types.{SchemaType, VoidType, BoolType, IntType, UIntType, EnumType, TextType, DataType, StructType, ListType, AnyPointerType, element_size, is_pointer, struct_brand}
+use Rattle.capnp_records.specs.Facts.ListValues.{below_of}
 use Rattle.capnp_records.specs.Facts.Pointers.{values_of-nth}
+use Rattle.capnp_records.specs.Facts.Readers.{element-is-read}
 use Rattle.capnp_records.specs.Default.{read_of}
-use Rattle.capnp_records.specs.Reading.{Below, Reading, bodies_of, bytes_below, kind_value, nth_reading, number_value, of_read, pointers_below, record_within, slot_value, struct_below, structs_below, tree_value, value_of, values_of}
+use Rattle.capnp_records.specs.Reading.{Below, Reading, bodies_of, bytes_below, element_value, entered_value, kind_value, nth_reading, number_value, of_read, pointers_below, record_of, record_within, slot_value, struct_below, structs_below, tree_value, value_of, values_of}
 use Rattle.capnp_records.specs.Record as value
-use Rattle.capnp_records.specs.Record.{Left, Levels, Record, Value, is_there, levels_asked}
+use Rattle.capnp_records.specs.Record.{Left, Levels, Record, Value, is_there, levels_asked, one_less}
 use Rattle.capnp_records.specs.Text.{Layout}
-use Rattle.capnp_dynamic_readers.specs.Handles.{element_of, list_set, reader_of, schema_of}
+use Rattle.capnp_dynamic_readers.specs.Handles.{element_of, list_reader_of, list_set, reader_of, schema_of}
 use Rattle.capnp_dynamic_readers.specs.Reads.{element_seen, field_seen, handed_out}
 use Rattle.capnp_dynamic_readers.specs.Seen.{answered_value, record_seen, value_seen}
 use Rattle.capnp_dynamic_readers.specs.Shown.{no_schemas, set_seen}
@@ -36,7 +39,7 @@ use Rattle.capnp_dynamic_readers.specs.declared.dynamic_value.Reader.{Reader as 
 use Rattle.capnp_dynamic_readers.specs.declared.dynamic_value.Reader.TheVariants as dynamic
 use Rattle.capnp_json.specs.Json.{Inner, form_of, json_within, part_json, record_json, value_json}
 use Rattle.capnp_json.specs.Pieces.{said}
-use Rattle.capnp_json.specs.Steps.Shown.{IsElement, IsElementRefused, IsPart, IsPartRefused, element_there, field_shown, value_shown}
+use Rattle.capnp_json.specs.Steps.Shown.{IsElement, IsElementRefused, IsPart, IsPartRefused, element_shown, element_there, field_shown, value_shown}
 use Rattle.capnp_json.specs.declared.error.JsonError.TheVariants.{Read}
 use Rattle.capnp_json.specs.declared.forms.Form.{Form}
 
@@ -236,6 +239,34 @@ module _ (set : Schemas) (group : ℕ → Record) (l : Levels) (s : StructTree) 
       ∙ null_json set left at form t (slot_value l s.bytes (values_of set s.pointers) o d t) (own_slot set l s o d t) none
   null_shown (Group n) (StructType b g) fits e none = absurd (some-none e)
   null_shown (Group n) t fits e none = absurd fits
+
+-- ---- elements ----
+
+own_entered : (l : Levels) (v : Value) → IsOwn v → IsOwn (entered_value l v)
+own_entered l v h = go (levels_asked l == 0)
+  where
+    go : (q : Bool) → IsOwn (elim q as (λ _. Value) [ true ↦ value.Fault TooDeep | false ↦ v ])
+    go true = tt {0}
+    go false = h
+
+own_element : (set : Schemas) (x : Tree) (n : ℕ) (t : SchemaType) (i : ℕ) → IsOwn (element_value set x (below_of set x) (Left n) t i)
+own_element set x n VoidType i = tt {0}
+own_element set x n BoolType i = tt {0}
+own_element set x n (IntType k) i = tt {0}
+own_element set x n (UIntType k) i = tt {0}
+own_element set x n (EnumType m) i = tt {0}
+own_element set x n (StructType b g) i = own_entered (Left n) (value.Struct (record_of set (one_less (Left n)) ((below_of set x).element_body i).bytes ((below_of set x).element_body i).pointers b)) (tt {0})
+own_element set x n TextType i = subst IsOwn (sym (element-is-read set x n TextType i)) (own_value set (element_pointer x i n) (Left (element_levels x n)) TextType)
+own_element set x n DataType i = subst IsOwn (sym (element-is-read set x n DataType i)) (own_value set (element_pointer x i n) (Left (element_levels x n)) DataType)
+own_element set x n (ListType e) i = subst IsOwn (sym (element-is-read set x n (ListType e) i)) (own_value set (element_pointer x i n) (Left (element_levels x n)) (ListType e))
+own_element set x n AnyPointerType i = subst IsOwn (sym (element-is-read set x n AnyPointerType i)) (own_value set (element_pointer x i n) (Left (element_levels x n)) AnyPointerType)
+
+pub null_element : (left : ℕ) (at : Layout) (form : Form) (l : ListHandle) (i : ℕ) → true ≡ not (is_there (element_there l i)) → element_shown left at form l i ≡ said (codes "null")
+null_element left at form l i h = null_json (list_set l) left at form (element_of l) (element_there l i) (own_element (list_set l) (list_of (list_reader_of l)) (list_levels (list_reader_of l)) (element_of l) i) (not-true (is_there (element_there l i)) h)
+  where
+    not-true : (q : Bool) → true ≡ not q → q ≡ false
+    not-true true e = e
+    not-true false e = refl
 
 -- ---- what was read ----
 

@@ -1,11 +1,11 @@
 -- JSON one after another.
-use Rattle.std.proofs.Common.{ℕ, ◌+◌, ◌<◌, ◌≡◌, refl, List, [], ◌∷◌, ◌++◌, length, IfErr, Ok, Err, Result, OnOk, ap, append_assoc, append-nil, arith, length-append, sym, subst, ◌∙◌}
+use Rattle.std.proofs.Common.{ℕ, ◌+◌, ◌-◌, ◌<◌, ◌≤◌, ◌≡◌, refl, List, [], ◌∷◌, ◌++◌, length, IfErr, Ok, Err, Result, OnOk, ap, append_assoc, append-nil, arith, length-append, sym, subst, ◌∙◌}
 use Rattle.capnp_floats.specs.Laws.{OneDecimal}
 use Rattle.capnp_floats.specs.Layout.{is_negative, layout, sign_text}
 use Rattle.capnp_floats.specs.declared.width.Width.{Width}
 use Rattle.capnp_floats.specs.declared.width.Width.TheVariants.{Float64}
 use Rattle.capnp_json.specs.Pieces.{Byte, FloatNumber, IsNumberOf, IsSpelled, Out, Pieces, after, known_pieces, said}
-use Rattle.capnp_json.specs.Steps.Puts.{Gives, IsPut, IsStopped, Leads, limit_of, made}
+use Rattle.capnp_json.specs.Steps.Puts.{Gives, IsMemory, IsPut, IsStopped, Leads, limit_of, made}
 use Rattle.capnp_json.specs.declared.error.JsonError.{JsonError}
 use Rattle.capnp_json.specs.declared.error.JsonError.TheVariants.{OutOfMemory, Read, TextNotUtf8, TooLarge, UntypedHasNoJson}
 use Rattle.capnp_json.specs.declared.output.Output.{Output}
@@ -49,14 +49,24 @@ split (FloatNumber w bits ∷ a) b zs (text, rest, n, h, e) =
 
 -- ---- puts ----
 
-pub bytes_put : (old new : Output) (bytes : List ℕ) → made new ≡ made old ++ bytes → limit_of new ≡ limit_of old → IsPut old (said bytes) new
-bytes_put old new bytes e l = record { bytes = bytes; json = known_spelled bytes; only = λ b h. spelled_known bytes b h; behind = e; limit = l }
+fits : (m l x n k : ℕ) → x ≤ l - m → n ≡ m + x → k ≡ l → m ≤ l → n ≤ k
+fits m l x n k h e f g = omega (arith, h, e, f, g)
+
+pub bytes_put : (old new : Output) (bytes : List ℕ) → made new ≡ made old ++ bytes → limit_of new ≡ limit_of old → length bytes ≤ limit_of old - length (made old) → IsPut old (said bytes) new
+bytes_put old new bytes e l h = record {
+  bytes = bytes;
+  json = known_spelled bytes;
+  only = λ b k. spelled_known bytes b k;
+  behind = e;
+  limit = l;
+  within = fits (length (made old)) (limit_of old) (length bytes) (length (made new)) (limit_of new) h (ap length e ∙ length-append (made old) bytes) l;
+}
 
 pub bytes_too_long : (old : Output) (bytes : List ℕ) → limit_of old < length (made old) + length bytes → IsStopped old (said bytes) TooLarge
 bytes_too_long old bytes h = λ b k. subst (λ (z : List ℕ). limit_of old < length (made old) + length z) (sym (spelled_known bytes b k)) h
 
 pub nothing_put : (out : Output) → IsPut out (said []) out
-nothing_put out = bytes_put out out [] (sym (append-nil (made out))) refl
+nothing_put out = bytes_put out out [] (sym (append-nil (made out))) refl (omega arith)
 
 pub same_number : OneDecimal → (w : Width) (bits : ℕ) (a b : List ℕ) → IsNumberOf w bits a → IsNumberOf w bits b → a ≡ b
 same_number one w bits a b (d, k, h, e) (d', k', h', e') =
@@ -64,14 +74,16 @@ same_number one w bits a b (d, k, h, e) (d', k', h', e') =
     e ∙ (ap (λ (z : ℕ). sign_text (is_negative w bits) ++ layout Float64 z k) same.0 ∙ (ap (λ (z : ℤ). sign_text (is_negative w bits) ++ layout Float64 d' z) same.1 ∙ sym e'))
 
 -- a float's number has one text, since it has one decimal
-pub number_put : OneDecimal → (old new : Output) (w : Width) (bits : ℕ) (text : List ℕ) → IsNumberOf w bits text → made new ≡ made old ++ text → limit_of new ≡ limit_of old → IsPut old (Ok (FloatNumber w bits ∷ [])) new
+pub number_put : OneDecimal → (old new : Output) (w : Width) (bits : ℕ) (text : List ℕ) → IsNumberOf w bits text → made new ≡ made old ++ text → limit_of new ≡ limit_of old →
+    (length (made old) ≤ limit_of old → length (made new) ≤ limit_of new) → IsPut old (Ok (FloatNumber w bits ∷ [])) new
 unfolding IsSpelled
-number_put one old new w bits text n e l = record {
+number_put one old new w bits text n e l h = record {
   bytes = text;
   json = (text, [], n, refl, sym (append-nil text));
-  only = λ b (t, rest, m, h, is). is ∙ (ap (λ (zs : List ℕ). t ++ zs) h ∙ (append-nil t ∙ same_number one w bits t text m n));
+  only = λ b (t, rest, m, k, is). is ∙ (ap (λ (zs : List ℕ). t ++ zs) k ∙ (append-nil t ∙ same_number one w bits t text m n));
   behind = e;
   limit = l;
+  within = h;
 }
 
 pub number_too_long : OneDecimal → (old : Output) (w : Width) (bits : ℕ) (text : List ℕ) → IsNumberOf w bits text → limit_of old < length (made old) + length text → IsStopped old (Ok (FloatNumber w bits ∷ [])) TooLarge
@@ -92,6 +104,7 @@ module _ (old mid new : Output) where
     only = λ zs i. let s = split a b zs i in s.is ∙ (ap (λ (q : List ℕ). q ++ s.right) (h.only s.left s.first) ∙ ap (λ (q : List ℕ). h.bytes ++ q) (k.only s.right s.second));
     behind = k.behind ∙ (ap (λ (q : List ℕ). q ++ k.bytes) h.behind ∙ append_assoc (made old) h.bytes k.bytes);
     limit = k.limit ∙ h.limit;
+    within = λ fit. k.within (h.within fit);
   }
   put_after (Ok a) (Err why) h k = absurd k.json
   put_after (Err why) y h k = absurd h.json
@@ -163,6 +176,10 @@ pub err_map : {T E : Type 0} {F G : E → Type 0} (r : Result T E) → ((e : E) 
 err_map (Ok x) f h = tt {0}
 err_map (Err e) f h = f e h
 
+-- where there was no memory nothing is said
+pub memory_stopped : (old : Output) (o : Out) (why : JsonError) → IsMemory why → IsStopped old o why
+memory_stopped old o why h = subst (λ (w : JsonError). IsStopped old o w) (sym h) (tt {0})
+
 -- the answer of a part that is last
 module _ {T : Type 0} (old mid new : Output) (whole rest : Out) (leads : Leads old whole mid rest) (r : Result T JsonError) where
   pub last_put : OnOk r (IsPut mid rest new) → OnOk r (IsPut old whole new)
@@ -178,7 +195,7 @@ then_two old mid more x y z h k r i = then_bytes old mid x (y ++ z) h r (then_by
 -- ---- numbers of floats ----
 
 pub number_as : OneDecimal → (old new : Output) (w : Width) (bits : ℕ) (text : List ℕ) → IsNumberOf w bits text → IsPut old (said text) new → IsPut old (Ok (FloatNumber w bits ∷ [])) new
-number_as one old new w bits text n h = number_put one old new w bits text n (h.behind ∙ ap (λ (z : List ℕ). made old ++ z) (sym (h.only text (known_spelled text)))) h.limit
+number_as one old new w bits text n h = number_put one old new w bits text n (h.behind ∙ ap (λ (z : List ℕ). made old ++ z) (sym (h.only text (known_spelled text)))) h.limit h.within
 
 pub number_stopped : OneDecimal → (old : Output) (w : Width) (bits : ℕ) (text : List ℕ) → IsNumberOf w bits text → (why : JsonError) → IsStopped old (said text) why → IsStopped old (Ok (FloatNumber w bits ∷ [])) why
 number_stopped one old w bits text n (Read kind) h = cc

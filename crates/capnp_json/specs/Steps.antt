@@ -4,3 +4,4 @@ pub mod Strings
 pub mod Leaf
 pub mod Shown
 pub mod Walks
+pub mod Records

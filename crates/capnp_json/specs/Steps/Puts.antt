@@ -1,5 +1,5 @@
 -- JSON that is put piece by piece behind what was made.
-use Rattle.std.specs.Prelude.{ℕ, ◌+◌, ◌<◌, ◌≡◌, ⊤, List, ◌++◌, length, Result, Ok, Err}
+use Rattle.std.specs.Prelude.{ℕ, ◌+◌, ◌<◌, ◌≤◌, ◌≡◌, ⊤, List, ◌++◌, length, Result, Ok, Err}
 use Rattle.capnp_json.specs.Pieces.{IsJson, Out}
 use Rattle.capnp_json.specs.declared.error.JsonError.{JsonError}
 use Rattle.capnp_json.specs.declared.error.JsonError.TheVariants.{OutOfMemory, Read, TextNotUtf8, TooLarge, UntypedHasNoJson}
@@ -19,6 +19,7 @@ pub record IsPut (old : Output) (o : Out) (new : Output) : Type 0 where
   pub only : (b : List ℕ) → IsJson o b → b ≡ bytes
   pub behind : made new ≡ made old ++ bytes
   pub limit : limit_of new ≡ limit_of old
+  pub within : length (made old) ≤ limit_of old → length (made new) ≤ limit_of new
 
 -- why a JSON was not put: it is refused so, there was no memory, or it is too long for what is left of the limit
 abbrev pub IsStopped : Output → Out → JsonError → Type 0

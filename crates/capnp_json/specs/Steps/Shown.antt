@@ -1,5 +1,5 @@
 -- The JSON of what is read, where so many levels are left.
-use Rattle.std.specs.Prelude.{ℕ, ◌≡◌, Bool, true, false, Err}
+use Rattle.std.specs.Prelude.{ℕ, ◌-◌, ◌≡◌, List, Bool, true, false, codes, Err}
 use Rattle.capnp_device.specs.declared.error.ErrorKind.{ErrorKind}
 use Rattle.capnp_wire.specs.Standing.{list_levels, list_of}
 use Rattle.capnp_schema.specs.Schema.{TypedField}
@@ -9,17 +9,17 @@ use Rattle.capnp_schema.specs.declared.schema.fields.Field.{Field}
 use Rattle.capnp_records.specs.Facts.ListValues.{below_of}
 use Rattle.capnp_records.specs.Reading.{element_value}
 use Rattle.capnp_records.specs.Record.{Left, Value}
-use Rattle.capnp_records.specs.Text.{Layout}
+use Rattle.capnp_records.specs.Text.{Layout, deeper}
 use Rattle.capnp_dynamic_readers.specs.Handles.{element_of, list_reader_of, list_set, schema_of}
 use Rattle.capnp_dynamic_readers.specs.Seen.{record_seen, value_seen}
-use Rattle.capnp_dynamic_readers.specs.Shown.{set_seen, type_seen}
+use Rattle.capnp_dynamic_readers.specs.Shown.{set_seen, type_seen, value_printed}
 use Rattle.capnp_dynamic_readers.specs.Steps.PartsRead.{fault_at, field_in}
-use Rattle.capnp_dynamic_readers.specs.Steps.Shown.{part_seen}
+use Rattle.capnp_dynamic_readers.specs.Steps.Shown.{count_of, elements_from, part_seen}
 use Rattle.capnp_dynamic_readers.specs.declared.dynamic_list.Reader.{Reader as ListHandle}
 use Rattle.capnp_dynamic_readers.specs.declared.dynamic_struct.Reader.{Reader as StructHandle}
 use Rattle.capnp_dynamic_readers.specs.declared.dynamic_value.Reader.{Reader as DynamicValue}
-use Rattle.capnp_json.specs.Json.{form_of, json_within, part_json, record_json}
-use Rattle.capnp_json.specs.Pieces.{Out}
+use Rattle.capnp_json.specs.Json.{element_jsons, form_of, json_levels, json_within, part_json, plain, record_json}
+use Rattle.capnp_json.specs.Pieces.{Out, array, items_left}
 use Rattle.capnp_json.specs.declared.error.JsonError.{JsonError}
 use Rattle.capnp_json.specs.declared.error.JsonError.TheVariants.{Read}
 use Rattle.capnp_json.specs.declared.forms.Form.{Form}
@@ -54,6 +54,21 @@ IsElement l i v = (left : ℕ) (at : Layout) (form : Form) → element_shown lef
 
 abbrev pub IsElementRefused : ListHandle → ℕ → ErrorKind → Type 0
 IsElementRefused l i kind = (left : ℕ) (at : Layout) (form : Form) → element_shown left at form l i ≡ Err (Read (fault_at left (element_of l) kind))
+
+-- the elements from an index on, so many, and a list, whose elements have so many levels
+abbrev pub element_items : ℕ → Layout → Form → ListHandle → ℕ → ℕ → List Out
+element_items left at form l first count = element_jsons (json_within (list_set l) left) at form (element_of l) (elements_from l first count)
+
+abbrev pub list_shown : ℕ → Layout → Form → ListHandle → Out
+list_shown left at form l = array at (element_items left (deeper at) form l 0 (count_of l))
+
+-- what is left of a list from an element on, and its closing bracket
+abbrev pub elements_onward : ℕ → Layout → Form → ListHandle → (first : Bool) → ℕ → Out
+elements_onward left at form l first i = items_left (codes "]") at first (element_items left at form l i (count_of l - i))
+
+-- a value that stands alone
+abbrev pub root_shown : Layout → DynamicValue → Out
+root_shown at v = part_json (set_seen v) (json_within (set_seen v) json_levels) at plain (type_seen v) (value_printed v)
 
 -- whether elements of a type stand behind pointers of their own, which may be null
 abbrev pub has_null : SchemaType → Bool

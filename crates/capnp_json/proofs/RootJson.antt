@@ -1,0 +1,110 @@
+-- The JSON of a message's root is that of the record that its struct's reader stands on.
+use Rattle.std.proofs.Common.{arith, ap, ap₂, ◌∙◌, ◌≡◌, ℕ, ◌+◌, Bool, List, [], true, false, Result, Ok, Err, sym}
+use Rattle.capnp_device.specs.declared.error.ErrorKind.{ErrorKind}
+use Rattle.capnp_wire.specs.Reading.{as_struct}
+use Rattle.capnp_wire.specs.Tree as tree
+use Rattle.capnp_wire.specs.Tree.{StructTree, Tree}
+use Rattle.capnp_wire.specs.Standing.{struct_levels, struct_of}
+use Rattle.capnp_wire.specs.Stream.{message_tree_of}
+use Rattle.capnp_wire.specs.declared.struct_reader.StructReader.{StructReader}
+use Rattle.capnp_schema.specs.Schema.{Schemas, brand_at, node_of}
+use Rattle.capnp_schema.specs.StructHandles.{IsStruct, number_of, set_of}
+use Rattle.capnp_schema.specs.Types.{StructType}
+use Rattle.capnp_schema.specs.declared.schema.structs.StructSchema.{StructSchema}
+use Rattle.capnp_records.specs.Reading.{struct_record}
+use Rattle.capnp_records.specs.Record as value
+use Rattle.capnp_records.specs.Record.{Left, Record}
+use Rattle.capnp_records.specs.Run.{root_type}
+use Rattle.capnp_dynamic_readers.specs.Handles.{reader_of, schema_of}
+use Rattle.capnp_dynamic_readers.specs.Seen.{record_seen}
+use Rattle.capnp_dynamic_readers.specs.Shown.{struct_printed, value_printed}
+use Rattle.capnp_dynamic_readers.specs.Typed.{struct_type}
+use Rattle.capnp_dynamic_readers.specs.declared.dynamic_struct.Reader.{Reader as StructHandle}
+use Rattle.capnp_dynamic_readers.specs.declared.dynamic_value.Reader.TheVariants as dynamic
+use Rattle.capnp_json.specs.Json.{json_of}
+use Rattle.capnp_json.specs.Message.{message_json, root_json, struct_or_group}
+use Rattle.capnp_json.specs.Pieces.{Out, said}
+use Rattle.capnp_json.specs.Written.{written_json}
+use Rattle.capnp_json.specs.declared.error.JsonError.TheVariants.{Read as Unread}
+
+abbrev Read : Type 0
+Read = Result StructTree ErrorKind
+
+abbrev entered : StructTree → Read
+entered s = Ok s
+
+same-struct : (x y : StructTree) → entered x ≡ entered y → x ≡ y
+same-struct x y e = cc
+
+-- the refusal of a read
+abbrev told : Read → Out
+told (Ok s) = said []
+told (Err kind) = Err (Unread kind)
+
+abbrev refused : ErrorKind → Read
+refused kind = Err kind
+
+ok-err : {s : StructTree} {kind : ErrorKind} → refused kind ≡ entered s → ⊥
+ok-err e = cc
+
+module _ (set : Schemas) (b : ℕ) (indented : Bool) where
+  -- the JSON of a struct's record, whose pointers have the levels that are left below a root
+  abbrev struct_json : StructTree → Out
+  struct_json s = json_of set indented (root_type set b) (struct_or_group (node_of set b).is_group (struct_record set (Left 63) s b))
+
+  entered-json : (root : Tree) (s : StructTree) → Ok s ≡ as_struct root 64 → struct_json s ≡ root_json set b indented (Ok root)
+  entered-json tree.Null s e = ap struct_json (same-struct s _ e)
+  entered-json (tree.Struct bytes ps) s e = ap struct_json (same-struct s _ e)
+  entered-json (tree.Voids n) s e = cc
+  entered-json (tree.Bits bs) s e = cc
+  entered-json (tree.Numbers w bytes) s e = cc
+  entered-json (tree.Pointers ps) s e = cc
+  entered-json (tree.Composite d p es) s e = cc
+  entered-json (tree.FaultLeaf k) s e = cc
+
+  -- a root that is not read as a struct
+  refused-json : (root : Tree) (kind : ErrorKind) → refused kind ≡ as_struct root 64 → root_json set b indented (Ok root) ≡ Err (Unread kind)
+  refused-json tree.Null kind e = absurd (ok-err e)
+  refused-json (tree.Struct bytes ps) kind e = absurd (ok-err e)
+  refused-json (tree.Voids n) kind e = ap told (sym e)
+  refused-json (tree.Bits bs) kind e = ap told (sym e)
+  refused-json (tree.Numbers w bytes) kind e = ap told (sym e)
+  refused-json (tree.Pointers ps) kind e = ap told (sym e)
+  refused-json (tree.Composite d p es) kind e = ap told (sym e)
+  refused-json (tree.FaultLeaf k) kind e = ap told (sym e)
+
+  -- a root that is read as a struct
+  json_of_root : (root : Tree) (s : StructTree) (m : ℕ) → Ok s ≡ as_struct root 64 → m + 1 ≡ 64 →
+      json_of set indented (root_type set b) (struct_or_group (node_of set b).is_group (struct_record set (Left m) s b)) ≡ root_json set b indented (Ok root)
+  json_of_root root s m e levels =
+      ap (λ n. json_of set indented (root_type set b) (struct_or_group (node_of set b).is_group (struct_record set (Left n) s b))) (omega (arith, levels)) ∙ entered-json root s e
+
+-- no message, and no struct at its root
+pub no_message : (set : Schemas) (b : ℕ) (indented : Bool) (bytes : List ℕ) (kind : ErrorKind) → Err kind ≡ message_tree_of bytes → message_json set b indented bytes ≡ Err (Unread kind)
+no_message set b indented bytes kind e = ap (root_json set b indented) (sym e)
+
+pub no_root : (set : Schemas) (b : ℕ) (indented : Bool) (bytes : List ℕ) (root x : Tree) (n : ℕ) (kind : ErrorKind) → Ok root ≡ message_tree_of bytes → x ≡ root → n ≡ 64 → Err kind ≡ as_struct x n → message_json set b indented bytes ≡ Err (Unread kind)
+no_root set b indented bytes root x n kind whole tree_is levels_are read =
+    ap (root_json set b indented) (sym whole) ∙ refused-json set b indented root kind (read ∙ ap₂ as_struct tree_is levels_are)
+
+printed-is : (q : Bool) (h : StructHandle) (r : Record) → record_seen h ≡ r → struct_printed q h ≡ struct_or_group q r
+printed-is true h r e = ap value.Group e
+printed-is false h r e = ap value.Struct e
+
+-- the JSON of a struct's reader under a brand is that of the message whose root it stands on
+pub json_seen : (set : Schemas) (b : ℕ) (indented : Bool) (bytes : List ℕ) (root x : Tree) (n : ℕ) (h : StructHandle) (s : StructSchema) (r : StructReader) →
+    Ok root ≡ message_tree_of bytes → x ≡ root → n ≡ 64 → Ok (struct_of r) ≡ as_struct x n → struct_levels r + 1 ≡ n →
+    schema_of h ≡ s → reader_of h ≡ r → IsStruct s → set_of s ≡ set → number_of s ≡ b →
+    written_json indented (dynamic.Struct h) ≡ message_json set b indented bytes
+json_seen set b indented bytes root x n h s r whole tree_is levels_are read levels schema reader stands set_is number_is =
+    let in_set : set_of (schema_of h) ≡ set = ap set_of schema ∙ set_is in
+    let of_brand : number_of (schema_of h) ≡ b = ap number_of schema ∙ number_is in
+    let typed : struct_type (schema_of h) ≡ root_type set b = ap struct_type schema ∙ ap₂ StructType number_is (stands.generic ∙ ap₂ (λ y z. (brand_at y z).node) set_is number_is) in
+    let seen : record_seen h ≡ struct_record set (Left (struct_levels r)) (struct_of r) b = cc in
+    let group : (node_of (set_of (schema_of h)) (number_of (schema_of h))).is_group ≡ (node_of set b).is_group = ap₂ (λ y z. (node_of y z).is_group) in_set of_brand in
+    let read_there : Ok (struct_of r) ≡ as_struct root 64 = read ∙ ap₂ as_struct tree_is levels_are in
+    ap (λ y. json_of y indented (struct_type (schema_of h)) (value_printed (dynamic.Struct h))) in_set
+    ∙ (ap (λ t. json_of set indented t (value_printed (dynamic.Struct h))) typed
+    ∙ (ap (λ q. json_of set indented (root_type set b) (struct_printed q h)) group
+    ∙ (ap (json_of set indented (root_type set b)) (printed-is (node_of set b).is_group h _ seen)
+    ∙ (json_of_root set b indented root (struct_of r) (struct_levels r) read_there (levels ∙ levels_are) ∙ ap (root_json set b indented) whole))))
