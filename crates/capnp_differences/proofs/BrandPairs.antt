@@ -8,16 +8,7 @@ use Rattle.capnp_schema.specs.Accepted.{IsAccepted, NamesEntries}
 use Rattle.capnp_records.specs.Compatible.{Pairs, can_become_struct, stands_first, type_in_place}
 use Rattle.capnp_differences.specs.declared.differences.Pair.{Pair}
 use Rattle.capnp_differences.specs.Differences.{struct_pair}
-use Rattle.capnp_differences.specs.Steps.Comparing.{Within, brand_pairs}
-
--- a set has a pair, where there is one
-abbrev pub Has : Pairs → Option Pair → Type 0
-Has pairs None = Unit {0}
-Has pairs (Some p) = IsTrue (pairs p.older p.newer)
-
--- the pairs that the fields of two structs name
-abbrev pub HasNamed : Schemas → Pairs → ℕ → ℕ → Type 0
-HasNamed set pairs a b = (i : ℕ) → i < length (fields_of set a) → i < length (fields_of set b) → Has pairs (struct_pair set (field_at set a i).type (field_at set b i).type)
+use Rattle.capnp_differences.specs.Steps.Comparing.{Has, HasNamed, Within, brand_pairs}
 
 has_within : (xs ys : Pairs) (o : Option Pair) → Within xs ys → Has xs o → Has ys o
 has_within xs ys None w h = tt

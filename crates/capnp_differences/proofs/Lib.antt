@@ -13,4 +13,7 @@ pub mod Relating
 pub mod Tellings
 pub mod Turns
 pub mod Comparisons
+pub mod Gathering
+pub mod Marking
+pub mod Explaining
 pub mod Rows

@@ -1,5 +1,6 @@
 -- Lists of pairs as sets.
-use Rattle.std.proofs.Common.{ℕ, zero, suc, ◌<◌, ◌≡◌, ◌⊎◌, inl, inr, refl, List, [], ◌∷◌, ◌++◌, Bool, true, false, ◌||◌, IsTrue, Some, length, slice_get, arith, sym, subst}
+use Rattle.std.proofs.Common.{ℕ, zero, suc, ◌<◌, ◌≡◌, ◌⊎◌, inl, inr, refl, List, [], ◌∷◌, ◌++◌, Bool, true, false, ◌||◌, IsTrue, Contains, Some, length, slice_get, arith, ap, sym, ◌∙◌, subst}
+use Rattle.std.proofs.lemmas.Option.{get_or_from_slice_get, slice_get-get_or, slice_get_within}
 use Rattle.capnp_differences.specs.declared.differences.Pair.{Pair}
 use Rattle.capnp_differences.specs.Closing.{is_pair, listed_pairs}
 use Rattle.capnp_differences.specs.Steps.Comparing.{Begins, IsPairOf, Within}
@@ -76,3 +77,13 @@ pub index_inside : (xs : List Pair) (k : ℕ) (p : Pair) → slice_get xs k ≡ 
 index_inside [] k p e = cc
 index_inside (x ∷ xs) zero p e = omega arith
 index_inside (x ∷ xs) (suc k) p e = let l = index_inside xs k p e in omega arith
+
+-- what an index gives is in the list, and the other way round
+pub contains_at : {X : Type 0} (xs : List X) (k : ℕ) (x : X) → slice_get xs k ≡ Some x → Contains xs x
+contains_at xs k x e = (k, slice_get_within xs k x e, get_or_from_slice_get xs k x x e)
+
+pub at_contained : {X : Type 0} (xs : List X) (x : X) (h : Contains xs x) → slice_get xs h.0 ≡ Some x
+at_contained xs x h = slice_get-get_or xs h.0 x h.1 ∙ ap Some h.2
+
+pub contains_listed : (xs : List Pair) (p : Pair) → Contains xs p → IsTrue (listed_pairs xs p.older p.newer)
+contains_listed xs p h = at_listed xs h.0 p (at_contained xs p h)

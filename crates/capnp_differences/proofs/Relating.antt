@@ -5,11 +5,10 @@ use Rattle.capnp_schema.specs.Types.{SchemaType, VoidType, BoolType, IntType, UI
 use Rattle.capnp_schema.specs.Schema.{Schemas, enum_at, fields_of, field_at, node_of}
 use Rattle.capnp_records.specs.Compatible.{Pairs, Related, SharedStruct, type_in_place}
 use Rattle.capnp_differences.specs.Differences.{DiffersAt, SameDefaults, struct_pair, type_change}
-use Rattle.capnp_differences.specs.Steps.Comparing.{pair_of}
+use Rattle.capnp_differences.specs.Steps.Comparing.{Has, HasNamed, pair_of}
 use Rattle.capnp_differences.specs.Steps.Telling.{AreKnown, IsKnown}
 use Rattle.capnp_differences.specs.declared.differences.Cause.{Cause}
 use Rattle.capnp_differences.specs.declared.differences.Cause.TheVariants as cause
-use Rattle.capnp_differences.proofs.BrandPairs.{Has, HasNamed}
 use Rattle.capnp_differences.proofs.Changes.{kinds_defaults, kinds_from, kinds_same, members_from, members_same, same_from, same_none, unions_from, unions_same}
 
 module _ (set : Schemas) (pairs : Pairs) where

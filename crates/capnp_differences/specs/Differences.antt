@@ -1,8 +1,8 @@
 -- Why a struct schema is no compatible successor of another: which pairs of structs are compared, and what differs in one.
-use Rattle.std.specs.Prelude.{ℕ, ◌+◌, ◌*◌, ◌<◌, ◌≤◌, ◌≡◌, ◌⊎◌, ◌==◌, nat_le, ⊤, Bool, true, false, Option, Some, None, length}
+use Rattle.std.specs.Prelude.{ℕ, ◌+◌, ◌*◌, ◌<◌, ◌≤◌, ◌≡◌, ◌⊎◌, ◌↔◌, ◌==◌, nat_le, ⊤, Bool, true, false, IsTrue, Contains, List, Option, Some, None, length, slice_get}
 use Rattle.capnp_schema.specs.Types.{SchemaType, VoidType, BoolType, IntType, UIntType, EnumType, TextType, DataType, StructType, ListType, AnyPointerType}
 use Rattle.capnp_schema.specs.Schema.{Schemas, Node, Field, FieldKind, Slot, Group, TypedField, enum_at, field_at, fields_of, is_member, node_of}
-use Rattle.capnp_records.specs.Compatible.{SameDefault, type_in_place}
+use Rattle.capnp_records.specs.Compatible.{IsCompatibleOrUpgraded, SameDefault, type_in_place}
 use Rattle.capnp_differences.specs.declared.differences.Cause.{Cause}
 use Rattle.capnp_differences.specs.declared.differences.Cause.TheVariants as cause
 use Rattle.capnp_differences.specs.declared.differences.Difference.{Difference}
@@ -121,6 +121,28 @@ Holds set d = DiffersAt set d.pair d.field d.cause
 pub record IsDifference (set : Schemas) (older newer : ℕ) (d : Difference) : Type 0 where
   pub compared : IsCompared set older newer d.pair.older d.pair.newer
   pub holds : Holds set d
+
+-- ---- several pairs ----
+
+-- both are brands of the set
+abbrev pub IsBrandPair : Schemas → Pair → Type 0
+IsBrandPair set p = (p.older < length set.brands) × (p.newer < length set.brands)
+
+-- it is compared where one of the pairs that are asked is the given one
+pub record IsComparedOf (set : Schemas) (asked : List Pair) (a b : ℕ) : Type 0 where
+  pub given : Pair
+  pub stands : Contains asked given
+  pub compared : IsCompared set given.older given.newer a b
+
+-- a difference is there, in a pair that is compared
+pub record IsDifferenceOf (set : Schemas) (asked : List Pair) (d : Difference) : Type 0 where
+  pub compared : IsComparedOf set asked d.pair.older d.pair.newer
+  pub holds : Holds set d
+
+-- of each pair that is asked, whether its newer struct follows the older one
+pub record AreAnswered (set : Schemas) (asked : List Pair) (follows : List Bool) : Type 0 where
+  pub count : length follows ≡ length asked
+  pub each : (k : ℕ) (p : Pair) (t : Bool) → slice_get asked k ≡ Some p → slice_get follows k ≡ Some t → (IsTrue t ↔ IsCompatibleOrUpgraded set p.older p.newer)
 
 -- ---- the order of what is told ----
 

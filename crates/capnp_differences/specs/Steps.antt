@@ -1,3 +1,5 @@
 -- Steps of the code: no contract of a public function stands on them.
 pub mod Telling
 pub mod Comparing
+pub mod Gathering
+pub mod Marking

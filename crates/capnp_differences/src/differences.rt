@@ -49,3 +49,12 @@ pub struct Difference {
     /// What differs.
     pub cause: Cause,
 }
+
+/// What differs in several pairs of structs, and in which of them it does.
+#[derive(Drop)]
+pub struct Explanation {
+    /// Each difference, once.
+    pub told: Vec<Difference>,
+    /// Of each pair that was asked, in their order, whether the newer struct follows the older one.
+    pub follows: Vec<bool>,
+}

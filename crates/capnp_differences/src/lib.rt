@@ -7,6 +7,7 @@ mod defaults;
 mod differences;
 mod fields;
 mod first;
+mod marks;
 mod named;
 mod pairs;
 mod tell;
@@ -14,5 +15,5 @@ mod types;
 mod unions;
 mod walk;
 
-pub use differences::{Cause, Difference, Pair};
-pub use walk::explain;
+pub use differences::{Cause, Difference, Explanation, Pair};
+pub use walk::{explain, explain_all};

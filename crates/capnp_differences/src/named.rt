@@ -1,10 +1,11 @@
 //! The pairs that the fields of two structs name.
-ghost use Rattle.std.specs.Prelude.{◌≡◌, ◌<◌, ◌≤◌, ℕ, IfErr, OnOk, Some, length};
+ghost use Rattle.std.specs.Prelude.{◌≡◌, ◌<◌, ◌≤◌, ◌↔◌, ℕ, IfErr, IsTrue, OnOk, Some, length};
 ghost use Rattle.capnp_device.specs.declared.error.ErrorKind.TheVariants.{OutOfMemory};
 ghost use Rattle.capnp_schema.specs.Entries.{lists_seen};
 ghost use Rattle.capnp_schema.specs.Schema.{fields_of, field_at};
 ghost use Rattle.capnp_differences.specs.Differences.{struct_pair};
 ghost use Rattle.capnp_differences.specs.Steps.Comparing.{Adds, IsNamed, pair_of};
+ghost use Rattle.capnp_differences.specs.Steps.Marking.{NamesOne, some_listed};
 
 use crate::brands::{field_count, field_of};
 use crate::differences::Pair;
@@ -68,4 +69,26 @@ pub(crate) fn add_named(
         add_some(pairs, named_at(schemas, older, newer, i))?;
     }
     Ok(())
+}
+
+/// Whether a list has a pair, where there is one.
+fn has_some(pairs: &Pairs, pair: Option<Pair>) -> bool
+    ensures { result ≡ some_listed pairs.now pair }
+{
+    match pair {
+        Some(found) => pairs.has(found),
+        None => false,
+    }
+}
+
+/// Whether a list has one of the pairs that the fields of two structs name.
+pub(crate) fn names_one(schemas: &SchemaSet, pair: Pair, pairs: &Pairs) -> bool
+    ensures { IsTrue result ↔ NamesOne (lists_seen schemas.now) pairs.now pair.older pair.newer }
+{
+    for i in 0..shared_count(schemas, pair.older, pair.newer) {
+        if has_some(pairs, named_at(schemas, pair.older, pair.newer, i)) {
+            return true;
+        }
+    }
+    false
 }

@@ -3,8 +3,9 @@ ghost use Rattle.std.specs.Prelude.{◌≡◌, ◌<◌, ◌++◌, [], ◌∷◌,
 ghost use Rattle.capnp_device.specs.declared.error.ErrorKind.TheVariants.{OutOfMemory};
 ghost use Rattle.capnp_differences.specs.Closing.{listed_pairs};
 ghost use Rattle.capnp_differences.specs.Steps.Comparing.{Adds, IsPairOf};
+ghost use Rattle.capnp_differences.specs.Steps.Gathering.{Gathers, IsAt, IsToldAt};
 
-use crate::differences::Pair;
+use crate::differences::{Difference, Pair};
 use capnp_wire::error::{Error, Result};
 use std::alloc::Global;
 use std::collections::HashSet;
@@ -29,6 +30,20 @@ impl Model for Pairs {
     ghost invariant = { λ p. AreKeysOf p.list.items p.keys };
 }
 
+fn pair_at(pairs: &[Pair], index: usize) -> Pair
+    requires { index < length pairs.now }
+    ensures { slice_get pairs.now index ≡ Some result }
+{
+    pairs[index]
+}
+
+fn difference_at(told: &[Difference], index: usize) -> Difference
+    requires { index < length told.now }
+    ensures { slice_get told.now index ≡ Some result }
+{
+    told[index]
+}
+
 impl Pairs {
     /// The list of one pair.
     pub(crate) fn of(alloc: Global, first: Pair) -> Result<Pairs>
@@ -37,6 +52,30 @@ impl Pairs {
     {
         let mut pairs = Pairs::empty(alloc);
         pairs.push(first)?;
+        Ok(pairs)
+    }
+
+    /// The pairs of a list, each once.
+    pub(crate) fn of_list(alloc: Global, asked: &[Pair]) -> Result<Pairs>
+        ensures list { IfOk result (λ pairs. Gathers (IsAt asked.now) pairs (length asked.now)) }
+        ensures refused { IfErr result (λ e. e.kind ≡ OutOfMemory) }
+    {
+        let mut pairs = Pairs::empty(alloc);
+        for i in 0..asked.len() {
+            pairs.add(pair_at(asked, i))?;
+        }
+        Ok(pairs)
+    }
+
+    /// The pairs in which something differs, each once.
+    pub(crate) fn of_differences(alloc: Global, told: &[Difference]) -> Result<Pairs>
+        ensures list { IfOk result (λ pairs. Gathers (IsToldAt told.now) pairs (length told.now)) }
+        ensures refused { IfErr result (λ e. e.kind ≡ OutOfMemory) }
+    {
+        let mut pairs = Pairs::empty(alloc);
+        for i in 0..told.len() {
+            pairs.add(difference_at(told, i).pair)?;
+        }
         Ok(pairs)
     }
 
@@ -64,7 +103,8 @@ impl Pairs {
         self.list[index]
     }
 
-    fn has(&self, pair: Pair) -> bool
+    /// Whether a pair is there.
+    pub(crate) fn has(&self, pair: Pair) -> bool
         ensures { result ≡ listed_pairs self.now pair.older pair.newer }
     {
         self.keys.contains(&(pair.older, pair.newer))
@@ -72,7 +112,7 @@ impl Pairs {
 
     /// Puts a pair at the end. Where there is no memory the list stays.
     #[tactic(auto, using(crate::proofs::Keys::keys_more, crate::proofs::Keys::keys_same))]
-    fn push(&mut self, pair: Pair) -> Result<()>
+    pub(crate) fn push(&mut self, pair: Pair) -> Result<()>
         ensures more { OnOk result (self.new ≡ self.old ++ (pair ∷ [])) }
         ensures unchanged { OnErr result (self.new ≡ self.old) }
         ensures refused { IfErr result (λ e. e.kind ≡ OutOfMemory) }

@@ -1,16 +1,19 @@
 //! The walk over the pairs of structs that are compared.
-ghost use Rattle.std.specs.Prelude.{◌≡◌, ◌<◌, ◌↔◌, [], AllPairs, Contains, IfErr, IfOk, length};
+ghost use Rattle.std.specs.Prelude.{◌≡◌, ◌↔◌, [], All, AllPairs, Contains, IfErr, IfOk};
 ghost use Rattle.capnp_device.specs.declared.error.ErrorKind.TheVariants.{OutOfMemory};
 ghost use Rattle.capnp_schema.specs.Entries.{lists_seen};
 ghost use Rattle.capnp_schema.specs.StructHandles.{IsStruct, number_of, set_of};
 ghost use Rattle.capnp_records.specs.Compatible.{IsCompatibleOrUpgraded};
 ghost use Rattle.capnp_differences.specs.declared.differences.Difference.{Difference};
-ghost use Rattle.capnp_differences.specs.Differences.{ComesFirst, IsDifference};
-ghost use Rattle.capnp_differences.specs.Steps.Comparing.{Explains};
+ghost use Rattle.capnp_differences.specs.declared.differences.Pair.{Pair};
+ghost use Rattle.capnp_differences.specs.Closing.{listed_pairs};
+ghost use Rattle.capnp_differences.specs.Differences.{AreAnswered, ComesFirst, IsBrandPair, IsDifference, IsDifferenceOf};
+ghost use Rattle.capnp_differences.specs.Steps.Comparing.{Apart, Compares, Within, brand_pairs};
 
 use crate::brands::is_accepted;
-use crate::differences::{Difference, Pair};
+use crate::differences::{Difference, Explanation, Pair};
 use crate::fields::tell_pair;
+use crate::marks::{reaching, unmarked};
 use crate::named::add_named;
 use crate::pairs::Pairs;
 use capnp_base::introspect::RawBrandedStructSchema;
@@ -49,25 +52,53 @@ pub fn explain(
         older: one.number,
         newer: other.number,
     };
-    let told = walk(alloc, schemas, given)?;
+    let mut pairs = Pairs::of(alloc, given)?;
+    let told = walk(alloc, schemas, &mut pairs)?;
     Ok(told)
 }
 
-/// The differences of a pair of brands, and of those that they name.
-fn walk(alloc: Global, schemas: &SchemaSet, given: Pair) -> Result<Vec<Difference>>
-    requires older { given.older < length (lists_seen schemas.now).brands }
-    requires newer { given.newer < length (lists_seen schemas.now).brands }
-    ensures told { IfOk result (λ told. Explains (lists_seen schemas.now) given.older given.newer told.items) }
+/// Why the newer schemas of several pairs do not follow the older ones, all brands of one set, and in which of these pairs
+/// they do not.
+///
+/// What is told are all differences in the pairs that are compared: the pairs that are asked, and each two structs that two
+/// fields of one index name, in a pair that is compared. Each pair is looked at once, however many others lead to it, and
+/// its differences are told in the order of `explain`. So none is told twice.
+///
+/// Of each pair that is asked it is answered whether its newer schema is a compatible successor, as `Compatible::check`
+/// answers. No difference is told exactly where all are.
+///
+/// Refused with `OutOfMemory` where there is no memory for the pairs or the answer, and with nothing else.
+pub fn explain_all(alloc: Global, schemas: &SchemaSet, asked: &[Pair]) -> Result<Explanation>
+    requires brands { All (IsBrandPair (lists_seen schemas.now)) asked.now }
+    ensures told { IfOk result (λ e. (d : Difference) → (Contains e.told.items d
+        ↔ IsDifferenceOf (lists_seen schemas.now) asked.now d)) }
+    ensures none { IfOk result (λ e. (e.told.items ≡ []) ↔ ((p : Pair) → Contains asked.now p
+        → IsCompatibleOrUpgraded (lists_seen schemas.now) p.older p.newer)) }
+    ensures follows { IfOk result (λ e. AreAnswered (lists_seen schemas.now) asked.now e.follows.items) }
+    ensures order { IfOk result (λ e. AllPairs ComesFirst e.told.items) }
+    ensures refused { IfErr result (λ e. e.kind ≡ OutOfMemory) }
+{
+    let mut pairs = Pairs::of_list(alloc, asked)?;
+    let told = walk(alloc, schemas, &mut pairs)?;
+    let marked = reaching(alloc, schemas, &pairs, &told)?;
+    let follows = unmarked(alloc, asked, &marked)?;
+    Ok(Explanation { told, follows })
+}
+
+/// The differences of pairs of brands, and of those that they name, which are added to them.
+fn walk(alloc: Global, schemas: &SchemaSet, pairs: &mut Pairs) -> Result<Vec<Difference>>
+    requires brands { Within (listed_pairs pairs.old) (brand_pairs (lists_seen schemas.now)) }
+    requires apart { Apart pairs.old }
+    ensures compared { IfOk result (λ told. Compares (lists_seen schemas.now) pairs.old pairs.new told.items) }
     ensures refused { IfErr result (λ e. e.kind ≡ OutOfMemory) }
 {
     is_accepted(schemas);
-    let mut pairs = Pairs::of(alloc, given)?;
     let mut told = Vec::new(alloc);
     let mut next = 0;
     while next < pairs.len() {
         let pair = pairs.at(next);
         tell_pair(&mut told, schemas, pair)?;
-        add_named(schemas, pair.older, pair.newer, &mut pairs)?;
+        add_named(schemas, pair.older, pair.newer, pairs)?;
         next += 1;
     }
     Ok(told)

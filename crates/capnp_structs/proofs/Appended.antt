@@ -25,6 +25,10 @@ on_ok (Err error) f h = tt {0}
 pub led_by : {T E : Type 0} (r : Result T E) (a : List ℕ) (x : Out) (old mid new : List ℕ) → mid ≡ old ++ a → OnOk r (IsAppended mid x new) → OnOk r (IsAppended old (after (said_text a) x) new)
 led_by r a x old mid new e put = on_ok r (led a x old mid new e) put
 
+-- what a call put behind a text
+pub ended_by : {T E : Type 0} (r : Result T E) (x : Out) (a : List ℕ) (old mid new : List ℕ) → IsAppended old x mid → OnOk r (new ≡ mid ++ a) → OnOk r (IsAppended old (after x (said_text a)) new)
+ended_by r x a old mid new put e = on_ok r (ended x a old mid new put) e
+
 -- what stands before two texts, the first, and what a call appended
 pub three_by : {T E : Type 0} (r : Result T E) (a : List ℕ) (x y : Out) (old mid mid' new : List ℕ) → mid ≡ old ++ a → IsAppended mid x mid' → OnOk r (IsAppended mid' y new) → OnOk r (IsAppended old (after (said_text a) (after x y)) new)
 three_by r a x y old mid mid' new e put more = on_ok r (λ (last : IsAppended mid' y new). led a (after x y) old mid new e (both x y mid mid' new put last)) more
@@ -53,6 +57,10 @@ default_here set set' t t' f f' old new same_set same_type same_field put =
     subst (λ (g : Field). IsAppended old (default_text set' t' (default_of g)) new) same_field
     (subst (λ (u : SchemaType). IsAppended old (default_text set' u (default_of f)) new) same_type
     (subst (λ (z : Schemas). IsAppended old (default_text z t (default_of f)) new) same_set put))
+
+pub default_shown : {T E : Type 0} (r : Result T E) (set set' : Schemas) (t t' : SchemaType) (f f' : Field) (old new : List ℕ) → set ≡ set' → t ≡ t' → f ≡ f' → OnOk r (IsAppended old (default_text set t (default_of f)) new) →
+    OnOk r (IsAppended old (default_text set' t' (default_of f')) new)
+default_shown r set set' t t' f f' old new same_set same_type same_field put = on_ok r (default_here set set' t t' f f' old new same_set same_type same_field) put
 
 -- annotations of what is the same set
 pub annotations_here : (set set' : Schemas) (xs xs' : List TypedAnnotation) (old new : List ℕ) → set ≡ set' → xs ≡ xs' → IsAppended old (annotations_text set xs) new → IsAppended old (annotations_text set' xs') new

@@ -89,7 +89,7 @@ fn put_innermost(out: &mut String, schemas: &SchemaSet, of: Type) -> Result<()>
 }
 
 /// Appends a type.
-fn put_type(out: &mut String, schemas: &SchemaSet, of: Type) -> Result<()>
+pub(crate) fn put_type(out: &mut String, schemas: &SchemaSet, of: Type) -> Result<()>
     ensures put { OnOk result (string_bytes out.new
         ≡ string_bytes out.old ++ type_text (lists_seen schemas.now) (seen_type of)) }
     ensures memory { IfErr result (λ e. e.kind ≡ OutOfMemory) }
@@ -100,7 +100,7 @@ fn put_type(out: &mut String, schemas: &SchemaSet, of: Type) -> Result<()>
 }
 
 /// Appends where a field stands.
-fn put_place(out: &mut String, place: Place) -> Result<()>
+pub(crate) fn put_place(out: &mut String, place: Place) -> Result<()>
     ensures put { OnOk result (string_bytes out.new ≡ string_bytes out.old ++ place_text place) }
     ensures memory { IfErr result (λ e. e.kind ≡ OutOfMemory) }
 {
@@ -116,7 +116,7 @@ fn put_place(out: &mut String, place: Place) -> Result<()>
 }
 
 /// Appends the value by which a union has its member.
-fn put_member(out: &mut String, member: Option<(u32, u16)>) -> Result<()>
+pub(crate) fn put_member(out: &mut String, member: Option<(u32, u16)>) -> Result<()>
     ensures put { OnOk result (string_bytes out.new ≡ string_bytes out.old ++ member_text member) }
     ensures memory { IfErr result (λ e. e.kind ≡ OutOfMemory) }
 {
@@ -142,7 +142,12 @@ fn put_end(out: &mut String, field: Field<'_>) -> Result<()>
 }
 
 /// Appends the default of a slot, and nothing of a group.
-fn put_kind(out: &mut String, schemas: &SchemaSet, of: Type, kind: &FieldKind) -> Result<()>
+pub(crate) fn put_kind(
+    out: &mut String,
+    schemas: &SchemaSet,
+    of: Type,
+    kind: &FieldKind,
+) -> Result<()>
     requires named { NamesEntries (lists_seen schemas.now) (seen_type of) }
     ensures put { OnOk result (IsAppended (string_bytes out.old)
         (default_text (lists_seen schemas.now) (seen_type of) (kind_default (seen_kind kind.now)))

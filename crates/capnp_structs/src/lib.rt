@@ -5,4 +5,5 @@ mod annotations;
 mod enums;
 pub mod fields;
 pub mod names;
+pub mod sides;
 mod values;

@@ -1,2 +1,4 @@
 pub mod FieldNames
+pub mod LinesPut
 pub mod NoneTold
+pub mod Sharing

@@ -1,15 +1,18 @@
 -- What differs between two versions of a struct.
-use Rattle.std.specs.Prelude.{ℕ, ◌+◌, ◌≡◌, ◌⊎◌, ◌↔◌, ◌≤◌, ◌^◌, List, AllPairs, Contains, IsTrue, Some, None, length, string_bytes}
+use Rattle.std.specs.Prelude.{ℕ, ◌+◌, ◌≡◌, ◌⊎◌, ◌↔◌, ◌≤◌, ◌^◌, List, [], Bool, AllPairs, Contains, IsTrue, Some, None, length, string_bytes}
 use Rattle.capnp_device.specs.declared.error.ErrorKind.{ErrorKind}
 use Rattle.capnp_device.specs.declared.error.ErrorKind.TheVariants.{NameNotFound, TooManyTypes}
+use Rattle.capnp_dynamic_readers.specs.Pieces.{IsAppended}
 use Rattle.capnp_records.specs.Compatible.{IsCompatibleOrUpgraded}
 use Rattle.capnp_schema.specs.ByName.{brand_asked}
 use Rattle.capnp_schema.specs.Schema.{Schemas}
-use Rattle.capnp_differences.specs.Differences.{ComesFirst, IsDifference}
+use Rattle.capnp_differences.specs.Differences.{AreAnswered, ComesFirst, IsDifference, IsDifferenceOf}
 use Rattle.capnp_differences.specs.declared.differences.Difference.{Difference}
 use Rattle.capnp_joined_sets.specs.Joined.{joined}
 use Rattle.capnp_joined_sets.specs.Refusals.{NumbersFit}
 use Rattle.capnp_versions.specs.Lines.{differences_text}
+use Rattle.capnp_versions.specs.Shared.{IsPast, count_true, notes_text, shared_pairs}
+use Rattle.capnp_versions.specs.declared.every.FullComparison.{FullComparison}
 use Rattle.capnp_versions.specs.declared.versions.Comparison.{Comparison}
 
 -- all that differs between two structs of a set and nothing else, in order; its lines; and whether the newer struct follows the older one
@@ -17,7 +20,7 @@ pub record IsComparisonIn (set : Schemas) (older newer : ℕ) (c : Comparison) :
   pub told : List Difference
   pub exactly : (d : Difference) → (Contains told d ↔ IsDifference set older newer d)
   pub order : AllPairs ComesFirst told
-  pub text : string_bytes c.text ≡ differences_text set told
+  pub text : IsAppended [] (differences_text set told) (string_bytes c.text)
   pub follows : IsTrue c.follows ↔ IsCompatibleOrUpgraded set older newer
 
 -- the structs of a name in both sets are compared in the joined set, where the second has its number moved up
@@ -33,3 +36,22 @@ abbrev pub IsNotCompared : (older newer : Schemas) → (name : List ℕ) → Err
 IsNotCompared older newer name kind =
     ((kind ≡ NameNotFound) × ((brand_asked older name ≡ None) ⊎ (brand_asked newer name ≡ None)))
     ⊎ ((kind ≡ TooManyTypes) × ((NumbersFit (joined older newer) → ⊥) ⊎ ((second : ℕ) × (brand_asked newer name ≡ Some second) × (2 ^ 32 ≤ second + length older.brands))))
+
+-- ---- all structs of two versions ----
+
+-- all that differs between the structs of one name in both sets and in what they lead to, and nothing else, in order; its
+-- lines; how many of these structs follow, and how many do not; and the structs that one of the sets has
+pub record IsFullComparison (older newer : Schemas) (c : FullComparison) : Type 0 where
+  pub told : List Difference
+  pub exactly : (d : Difference) → (Contains told d ↔ IsDifferenceOf (joined older newer) (shared_pairs older newer) d)
+  pub order : AllPairs ComesFirst told
+  pub text : IsAppended [] (differences_text (joined older newer) told) (string_bytes c.text)
+  pub follows : List Bool
+  pub answered : AreAnswered (joined older newer) (shared_pairs older newer) follows
+  pub compatible : c.compatible ≡ count_true follows
+  pub incompatible : c.compatible + c.incompatible ≡ length (shared_pairs older newer)
+  pub notes : string_bytes c.notes ≡ notes_text older newer
+
+-- a number of both sets together has more than 32 bits
+abbrev pub IsNotComparedAll : (older newer : Schemas) → ErrorKind → Type 0
+IsNotComparedAll older newer kind = (kind ≡ TooManyTypes) × ((NumbersFit (joined older newer) → ⊥) ⊎ IsPast older newer)

@@ -1,7 +1,12 @@
 //! What differs between two versions of a schema, which come as two sets.
 #![tactic(auto)]
 
+mod every;
 mod lines;
+mod names;
+mod notes;
+mod shared;
 mod versions;
 
+pub use every::{FullComparison, compare_all, get_report};
 pub use versions::{Comparison, compare};

@@ -35,7 +35,7 @@ fn find_number(schemas: &SchemaSet, name: &str) -> Result<u32>
 }
 
 /// A number of the second of two joined sets, as it is there. Refused with `TooManyTypes` where it takes more than 32 bits.
-fn moved_number(older: &SchemaSet, number: u32) -> Result<u32>
+pub(crate) fn moved_number(older: &SchemaSet, number: u32) -> Result<u32>
     ensures moved { IfOk result (λ n. n ≡ number + length (lists_seen older.now).brands) }
     ensures past { IfErr result (λ e. (e.kind ≡ TooManyTypes) × (2 ^ 32 ≤ number + length (lists_seen older.now).brands)) }
 {

@@ -3,9 +3,10 @@ use Rattle.std.specs.Prelude.{ℕ, AllPairs, Bool, ◌<◌, ◌≤◌, ◌≡◌
 use Rattle.capnp_base.specs.declared.introspect.TypeVariant.{TypeVariant}
 use Rattle.capnp_base.specs.declared.introspect.TypeVariant.TheVariants as variant
 use Rattle.capnp_schema.specs.Schema.{Schemas, Value, VoidValue, BoolValue, IntValue, UIntValue, EnumValue, TextValue, DataValue, StructValue, ListValue, AnyPointerValue, field_at, fields_of}
-use Rattle.capnp_records.specs.Compatible.{IsCompatibleOrUpgraded, Pairs}
+use Rattle.capnp_records.specs.Compatible.{Pairs}
 use Rattle.capnp_differences.specs.Closing.{listed_pairs}
-use Rattle.capnp_differences.specs.Differences.{ComesFirst, IsDifference, struct_pair, unless}
+use Rattle.capnp_differences.specs.Differences.{ComesFirst, Holds, IsComparedOf, struct_pair, unless}
+use Rattle.capnp_differences.specs.Steps.Telling.{AreKnown}
 use Rattle.capnp_differences.specs.declared.differences.Cause.{Cause}
 use Rattle.capnp_differences.specs.declared.differences.Cause.TheVariants as cause
 use Rattle.capnp_differences.specs.declared.differences.Difference.{Difference}
@@ -85,10 +86,23 @@ pub record Adds (old new : List Pair) (New : ℕ → ℕ → Type 0) : Type 0 wh
   pub begins : Begins old new
   pub apart : Apart old → Apart new
 
+-- a set has a pair, where there is one
+abbrev pub Has : Pairs → Option Pair → Type 0
+Has pairs None = Unit {0}
+Has pairs (Some p) = IsTrue (pairs p.older p.newer)
+
+-- a set has the pairs that the fields of two structs name
+abbrev pub HasNamed : Schemas → Pairs → ℕ → ℕ → Type 0
+HasNamed set pairs a b = (i : ℕ) → i < length (fields_of set a) → i < length (fields_of set b) → Has pairs (struct_pair set (field_at set a i).type (field_at set b i).type)
+
 -- ---- the answer ----
 
--- what is told are the differences, and there are none exactly where the pair is compatible
-pub record Explains (set : Schemas) (older newer : ℕ) (ts : List Difference) : Type 0 where
-  pub told : (d : Difference) → (Contains ts d ↔ IsDifference set older newer d)
-  pub none : (ts ≡ []) ↔ IsCompatibleOrUpgraded set older newer
+-- The pairs are those that the first ones lead to, and what is told are their differences.
+pub record Compares (set : Schemas) (asked ps : List Pair) (ts : List Difference) : Type 0 where
+  pub given : Within (listed_pairs asked) (listed_pairs ps)
+  pub brands : Within (listed_pairs ps) (brand_pairs set)
+  pub compared : (a b : ℕ) → IsTrue (listed_pairs ps a b) → IsComparedOf set asked a b
+  pub named : (a b : ℕ) → IsTrue (listed_pairs ps a b) → HasNamed set (listed_pairs ps) a b
+  pub known : (a b : ℕ) → IsTrue (listed_pairs ps a b) → AreKnown set a b (length (fields_of set a))
+  pub told : (d : Difference) → (Contains ts d ↔ (IsTrue (listed_pairs ps d.pair.older d.pair.newer) × Holds set d))
   pub ordered : AllPairs ComesFirst ts

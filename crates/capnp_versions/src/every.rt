@@ -1,0 +1,103 @@
+//! All structs of two versions.
+ghost use Rattle.std.specs.Prelude.{◌≡◌, ◌≢◌, ◌≤◌, ◌++◌, IfErr, IfOk, OnOk, length, string_bytes};
+ghost use Rattle.capnp_device.specs.declared.error.ErrorKind.TheVariants.{OutOfMemory};
+ghost use Rattle.capnp_schema.specs.Entries.{lists_seen};
+ghost use Rattle.capnp_versions.specs.Shared.{count_line, count_true, counted, notes_told, report_text};
+ghost use Rattle.capnp_versions.specs.Versions.{IsFullComparison, IsNotComparedAll};
+
+use crate::lines::get_lines;
+use crate::notes::get_notes;
+use crate::shared::shared_pairs;
+use capnp_differences::explain_all;
+use capnp_joined_sets::join;
+use capnp_schema::set::SchemaSet;
+use capnp_wire::error::Result;
+use std::alloc::Global;
+
+/// What differs between two versions of a schema.
+#[derive(Drop)]
+pub struct FullComparison {
+    /// A line for each difference: the struct by its older display name, the field, and what differs.
+    pub text: String,
+    /// A line for each struct whose display name one of the versions has alone.
+    pub notes: String,
+    /// Of how many structs the newer one follows the older one: a program that knows one reads messages of the other.
+    pub compatible: usize,
+    /// Of how many it does not.
+    pub incompatible: usize,
+}
+
+/// How many of the answers are true.
+fn count_true(answers: &[bool]) -> usize
+    ensures count { result ≡ count_true answers.now }
+    ensures inside { result ≤ length answers.now }
+{
+    let mut count = 0;
+    for answer in answers {
+        if *answer {
+            count += 1;
+        }
+    }
+    count
+}
+
+/// What differs between the structs of one display name in two sets, which hold an older and a newer version of a schema;
+/// their ids may be the same. Compared are all structs that both sets find by a display name, each with all that it leads to;
+/// what several lead to is looked at and told once.
+///
+/// Refused with `TooManyTypes` where a number of both sets together takes more than 32 bits, and with `OutOfMemory`.
+pub fn compare_all(alloc: Global, older: &SchemaSet, newer: &SchemaSet) -> Result<FullComparison>
+    ensures compared { IfOk result (IsFullComparison (lists_seen older.now) (lists_seen newer.now)) }
+    ensures refused { IfErr result (λ e. e.kind ≢ OutOfMemory → IsNotComparedAll (lists_seen older.now) (lists_seen newer.now) e.kind) }
+{
+    let pairs = shared_pairs(alloc, older, newer)?;
+    let joined = join(alloc, older, newer)?;
+    let explanation = explain_all(alloc, &joined, &pairs)?;
+    let text = get_lines(alloc, &joined, &explanation.told)?;
+    let notes = get_notes(alloc, older, newer)?;
+    let compatible = count_true(&explanation.follows);
+    Ok(FullComparison {
+        text,
+        notes,
+        compatible,
+        incompatible: explanation.follows.len() - compatible,
+    })
+}
+
+/// The notes, where more than what breaks is told.
+fn notes_told(breaking_only: bool, notes: &str) -> &str
+    ensures { result.now ≡ notes_told breaking_only notes.now }
+{
+    if breaking_only { "" } else { notes }
+}
+
+/// Appends a count between words. Refused with `OutOfMemory` alone.
+fn put_count(text: &mut String, before: &str, count: usize, after: &str) -> Result<()>
+    ensures put { OnOk result (string_bytes text.new ≡ string_bytes text.old ++ counted before.now count after.now) }
+    ensures memory { IfErr result (λ e. e.kind ≡ OutOfMemory) }
+{
+    Ok(write!(text, "{before}{count}{after}")?)
+}
+
+/// Appends how many structs are compatible, and how many not. Refused with `OutOfMemory` alone.
+fn put_counts(text: &mut String, compatible: usize, incompatible: usize) -> Result<()>
+    ensures put { OnOk result (string_bytes text.new ≡ string_bytes text.old ++ count_line compatible incompatible) }
+    ensures memory { IfErr result (λ e. e.kind ≡ OutOfMemory) }
+{
+    put_count(text, "structs: ", compatible, " compatible")?;
+    put_count(text, ", ", incompatible, " not\n")?;
+    Ok(())
+}
+
+/// What is told of two versions: the differences, the notes, unless only what breaks is told, and as the last line how many
+/// structs are compatible and how many not. Refused with `OutOfMemory` alone.
+pub fn get_report(alloc: Global, comparison: &FullComparison, breaking_only: bool) -> Result<String>
+    ensures report { IfOk result (λ text. string_bytes text ≡ report_text breaking_only comparison.now) }
+    ensures memory { IfErr result (λ e. e.kind ≡ OutOfMemory) }
+{
+    let mut text = String::new(alloc);
+    text.push_str(comparison.text.as_str())?;
+    text.push_str(notes_told(breaking_only, comparison.notes.as_str()))?;
+    put_counts(&mut text, comparison.compatible, comparison.incompatible)?;
+    Ok(text)
+}
