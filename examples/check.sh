@@ -307,17 +307,18 @@ expect 'a number past its type' $? 2 '' "1: set a 65536: can't be read at 10; wa
 ./riftcalico get Mixed a..b < examples/mixed.bin > "$scratch/out" 2> "$scratch/err"
 expect 'a path with an empty name' $? 2 '' "1: a..b: can't be read at 2"
 ./riftcalico show Mixed a < examples/mixed.bin > "$scratch/out" 2> "$scratch/err"
-expect 'another form' $? 2 '' 'usage: riftcalico show [--set FILE] [--packed] [--each [--keep-going]] NAME [--indent]'
+expect 'another form' $? 2 '' 'usage: riftcalico show [--set FILE] [--packed] [--limit BYTES] [--each [--keep-going]] NAME [--indent]'
 ./riftcalico shows Mixed < examples/mixed.bin > "$scratch/out" 2> "$scratch/err"
 expect 'another verb' $? 2 '' 'unknown verb: shows
-usage: riftcalico show [--set FILE] [--packed] [--each [--keep-going]] NAME [--indent]
-       riftcalico get [--set FILE] [--packed] [--each [--keep-going]] NAME PATH [--indent]
+usage: riftcalico show [--set FILE] [--packed] [--limit BYTES] [--each [--keep-going]] NAME [--indent]
+       riftcalico get [--set FILE] [--packed] [--limit BYTES] [--each [--keep-going]] NAME PATH [--indent]
+       riftcalico json [--set FILE] [--packed] [--limit BYTES] [--each [--keep-going]] NAME [--indent]
        riftcalico check [--set FILE] [--packed] [--limit PARTS] [--all] [--each [--keep-going]] NAME [PATH]
        riftcalico patch [--set FILE] [--calls FILE] [--keep-going] [--packed] [--limit BYTES] [--each] NAME CALL..
        riftcalico new [--set FILE] [--calls FILE] [--keep-going] [--packed] [--limit BYTES] NAME CALL..
        riftcalico structs [--set FILE] [NAME]
        riftcalico schemas [--strict]
-       riftcalico compatible [--quiet] OLD NEW NAME'
+       riftcalico compatible [--quiet] [--breaking-only] OLD NEW [NAME]'
 ./riftcalico get Flat a < /dev/null > "$scratch/out" 2> "$scratch/err"
 expect 'a path of no bytes' $? 1 '' 'refused: 2 Truncated (standard input)'
 ./riftcalico get Shapes circle.r < examples/shapes_tag.bin > "$scratch/out" 2> "$scratch/err"

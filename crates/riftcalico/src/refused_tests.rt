@@ -30,14 +30,18 @@ const HOSTILE: &str = "\
 ";
 
 /// How verbs are called.
-static USAGES: [(&str, &str); 8] = [
+static USAGES: [(&str, &str); 9] = [
     (
         "show",
-        "[--set FILE] [--packed] [--each [--keep-going]] NAME [--indent]",
+        "[--set FILE] [--packed] [--limit BYTES] [--each [--keep-going]] NAME [--indent]",
     ),
     (
         "get",
-        "[--set FILE] [--packed] [--each [--keep-going]] NAME PATH [--indent]",
+        "[--set FILE] [--packed] [--limit BYTES] [--each [--keep-going]] NAME PATH [--indent]",
+    ),
+    (
+        "json",
+        "[--set FILE] [--packed] [--limit BYTES] [--each [--keep-going]] NAME [--indent]",
     ),
     (
         "check",
@@ -53,7 +57,7 @@ static USAGES: [(&str, &str); 8] = [
     ),
     ("structs", "[--set FILE] [NAME]"),
     ("schemas", "[--strict]"),
-    ("compatible", "[--quiet] OLD NEW NAME"),
+    ("compatible", "[--quiet] [--breaking-only] OLD NEW [NAME]"),
 ];
 
 /// How a verb is called, as a line; all of them for another word.
@@ -182,7 +186,9 @@ structs|--each -> usage
 schemas|--packed -> usage
 schemas|--each -> usage
 schemas|Flat -> usage
-compatible|set|calls -> usage
+compatible|set -> usage
+compatible|--breaking-only|set -> usage
+get|--breaking-only|Flat|a -> usage
 compatible|set|calls|Flat|a -> usage
 compatible|--set|set|calls|Flat -> usage
 schemas|--set|set -> usage
@@ -194,7 +200,7 @@ patch|Flat|--limit|set a 1 -> no number of bytes: set a 1
 new|--limit||Flat -> no number of bytes: 
 new|--limit|-1|Flat -> no number of bytes: -1
 check|--limit|18446744073709551616|Flat -> no number of bytes: 18446744073709551616
-show|--limit|5|Flat -> usage
+structs|--limit|5|Flat -> usage
 check|Flat|--limit -> usage
 show|--all|Flat -> usage
 structs|--quiet -> usage

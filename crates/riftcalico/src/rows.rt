@@ -317,6 +317,69 @@ pub(crate) const GOT: &str = "\
 =0
 \"(a = 5)
 
+# a message as JSON, of as many bytes as it may have, and of one more
+:json
+:Mixed
+:--limit
+:13
+<0000000003000000 0000000001000100 0500010009000000 0000000000000000
+=0
+\"{\"a\":5,\"y\":9}
+
+:json
+:Mixed
+:--limit
+:12
+<0000000003000000 0000000001000100 0500010009000000 0000000000000000
+=1
+!refused: 11 TooLarge (standard input)
+
+:json
+:--packed
+:Flat
+<100210010105
+=0
+\"{\"a\":5}
+
+# a capability, and an untyped pointer that is not null
+:json
+:Shapes
+<0000000005000000 0000000002000200 0000010003000000 0000000000000000 0000000000000000 0300000000000000
+=1
+!refused: 9 CapabilityPointer (standard input)
+
+:json
+:Shapes
+<0000000005000000 0000000002000200 0000010003000000 0000000000000000 fcffffff00000000 0000000000000000
+=1
+!refused: 67 UntypedHasNoJson
+
+# a text of as many bytes as it may have, its line break aside, and of one more
+:show
+:--limit
+:7
+:Flat
+<0000000002000000 0000000001000000 0500000000000000
+=0
+\"(a = 5)
+
+:show
+:--limit
+:6
+:Flat
+<0000000002000000 0000000001000000 0500000000000000
+=1
+!refused: 11 TooLarge (standard input)
+
+:get
+:--limit
+:0
+:Flat
+:a
+<0000000002000000 0000000001000000 0500000000000000
+=1
+!refused: 11 TooLarge (standard input)
+
 :get
 :Flat
 :a
@@ -681,14 +744,15 @@ pub(crate) const TOLD: &str = "\
 \"Shows, makes and patches Cap'n Proto messages under schemas that are known at run time. Messages are read from standard
 \"input and written to standard output.
 \"
-\"usage: riftcalico show [--set FILE] [--packed] [--each [--keep-going]] NAME [--indent]
-\"       riftcalico get [--set FILE] [--packed] [--each [--keep-going]] NAME PATH [--indent]
+\"usage: riftcalico show [--set FILE] [--packed] [--limit BYTES] [--each [--keep-going]] NAME [--indent]
+\"       riftcalico get [--set FILE] [--packed] [--limit BYTES] [--each [--keep-going]] NAME PATH [--indent]
+\"       riftcalico json [--set FILE] [--packed] [--limit BYTES] [--each [--keep-going]] NAME [--indent]
 \"       riftcalico check [--set FILE] [--packed] [--limit PARTS] [--all] [--each [--keep-going]] NAME [PATH]
 \"       riftcalico patch [--set FILE] [--calls FILE] [--keep-going] [--packed] [--limit BYTES] [--each] NAME CALL..
 \"       riftcalico new [--set FILE] [--calls FILE] [--keep-going] [--packed] [--limit BYTES] NAME CALL..
 \"       riftcalico structs [--set FILE] [NAME]
 \"       riftcalico schemas [--strict]
-\"       riftcalico compatible [--quiet] OLD NEW NAME
+\"       riftcalico compatible [--quiet] [--breaking-only] OLD NEW [NAME]
 \"
 \"More of a verb is told by 'riftcalico VERB --help', the version by 'riftcalico --version'.
 

@@ -16,14 +16,15 @@ use std::process::Abort;
 use std::test::Fail;
 
 pub(crate) const USAGE: &str = "\
-usage: riftcalico show [--set FILE] [--packed] [--each [--keep-going]] NAME [--indent]
-       riftcalico get [--set FILE] [--packed] [--each [--keep-going]] NAME PATH [--indent]
+usage: riftcalico show [--set FILE] [--packed] [--limit BYTES] [--each [--keep-going]] NAME [--indent]
+       riftcalico get [--set FILE] [--packed] [--limit BYTES] [--each [--keep-going]] NAME PATH [--indent]
+       riftcalico json [--set FILE] [--packed] [--limit BYTES] [--each [--keep-going]] NAME [--indent]
        riftcalico check [--set FILE] [--packed] [--limit PARTS] [--all] [--each [--keep-going]] NAME [PATH]
        riftcalico patch [--set FILE] [--calls FILE] [--keep-going] [--packed] [--limit BYTES] [--each] NAME CALL..
        riftcalico new [--set FILE] [--calls FILE] [--keep-going] [--packed] [--limit BYTES] NAME CALL..
        riftcalico structs [--set FILE] [NAME]
        riftcalico schemas [--strict]
-       riftcalico compatible [--quiet] OLD NEW NAME";
+       riftcalico compatible [--quiet] [--breaking-only] OLD NEW [NAME]";
 
 /// The only paths that have a file: of a set and of calls.
 const SET: &str = "set";

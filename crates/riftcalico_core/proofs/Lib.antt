@@ -1,6 +1,7 @@
 pub mod Blamed
 pub mod CallsGiven
 pub mod Each
+pub mod JsonTold
 pub mod NearNames
 pub mod NumberedLines
 pub mod NotShown

@@ -1,5 +1,6 @@
 -- What is answered to a message's bytes: what is written, what is told, and whether a call was refused.
-use Rattle.std.specs.Prelude.{ℕ, suc, ◌<◌, ◌≡◌, ◌⊎◌, ⊤, List, [], map, Bool, true, false, cond, not, None, Some, Result, Ok, Err, string_bytes}
+use Rattle.std.specs.Prelude.{ℕ, suc, ◌<◌, ◌≤◌, ◌≡◌, ◌==◌, ◌⊎◌, ⊤, List, [], length, map, Bool, true, false, cond, not, Option, None, Some, Result, Ok, Err, string_bytes}
+use Rattle.std.specs.Option.{option_map}
 use Rattle.capnp_device.specs.declared.error.ErrorKind.{ErrorKind}
 use Rattle.capnp_device.specs.declared.error.ErrorKind.TheVariants.{NameNotFound, OutOfMemory, TooLarge}
 use Rattle.capnp_arena.specs.Message.{IsMessage, message_tree}
@@ -8,24 +9,27 @@ use Rattle.capnp_call.specs.Seen.{call_seen, path_seen}
 use Rattle.capnp_call.specs.declared.calls.Call.{Call}
 use Rattle.capnp_call.specs.declared.calls.Reply.{Reply}
 use Rattle.capnp_check.specs.Refusals.{text_refusal}
-use Rattle.capnp_dynamic_readers.specs.Pieces.{IsAppended}
+use Rattle.capnp_dynamic_readers.specs.Pieces.{IsAppended, IsLonger}
 use Rattle.capnp_packed.specs.Packing.{packed_form}
 use Rattle.capnp_packed.specs.Received.{received_message}
 use Rattle.capnp_packed.specs.Unpacking.{unpacked_bytes}
 use Rattle.capnp_patch.specs.Gets.{got_text}
 use Rattle.capnp_patch.specs.Patches.{IsLeftOfBytes, IsLeftOfNew, IsUnread, is_kept}
-use Rattle.capnp_patch.specs.Places.{AreRefusedAt, HasMoreParts, IsRefusedAt}
+use Rattle.capnp_patch.specs.Places.{AreFewLookedAt, AreRefusedAt, HasFewParts, HasMoreParts, IsRefusedAt}
 use Rattle.capnp_patch.specs.declared.place.Place.{Place}
 use Rattle.capnp_patch.specs.declared.place.Refusals.{Refusals}
 use Rattle.capnp_records.specs.Call as record_call
 use Rattle.capnp_records.specs.Call.{PathStep}
+use Rattle.capnp_records.specs.Text.{Out}
 use Rattle.capnp_schema.specs.Entries.{lists_seen}
 use Rattle.capnp_schema.specs.Schema.{Schemas}
 use Rattle.capnp_schema.specs.StructHandles.{IsStruct, number_of, set_of}
 use Rattle.capnp_schema.specs.declared.schema.structs.StructSchema.{StructSchema}
 use Rattle.capnp_set_engine.specs.Convert.{HasNoSet, IsSetOf}
 use Rattle.capnp_sets.specs.Message.{IsMessageRefusal, message_set}
-use Rattle.capnp_versions.specs.Versions.{IsComparison, IsNotCompared}
+use Rattle.capnp_versions.specs.Shared.{report_text}
+use Rattle.capnp_versions.specs.Versions.{IsComparison, IsFullComparison, IsNotCompared, IsNotComparedAll}
+use Rattle.capnp_versions.specs.declared.every.FullComparison.{FullComparison}
 use Rattle.capnp_versions.specs.declared.versions.Comparison.{Comparison}
 use Rattle.capnp_show_engine.specs.Show.{IsLineOf}
 use Rattle.capnp_structs.specs.Fields.{fields_text}
@@ -37,7 +41,9 @@ use Rattle.capnp_wire.specs.Words.{words_of}
 use Rattle.riftcalico_core.specs.AllFaults.{any_told, refusals_lines}
 use Rattle.riftcalico_core.specs.CallsSeen.{read_call_seen}
 use Rattle.riftcalico_core.specs.Jobs.{is_packed, wants_input}
+use Rattle.riftcalico_core.specs.Json.{IsJsonAnswer, IsNoJson}
 use Rattle.riftcalico_core.specs.Notes.{place_note}
+use Rattle.riftcalico_core.specs.Quiet.{IsQuiet}
 use Rattle.riftcalico_core.specs.Replies.{AreNoted}
 use Rattle.riftcalico_core.specs.declared.answer.Answer.{Answer}
 use Rattle.riftcalico_core.specs.declared.answer.Output.{Output}
@@ -56,6 +62,7 @@ use Rattle.riftcalico_words.specs.Usage.{help_text, version_line}
 -- the struct of a job is one of an accepted set
 abbrev pub IsSoundJob : Job → Type 0
 IsSoundJob (job.Get j) = IsStruct j.schema
+IsSoundJob (job.Json j) = IsStruct j.schema
 IsSoundJob (job.Check j) = IsStruct j.schema
 IsSoundJob (job.Patch j) = IsStruct j.schema
 IsSoundJob (job.New j) = IsStruct j.schema
@@ -74,11 +81,6 @@ IsWritableOutput (output.Text text) = ⊤
 IsWritableOutput (output.Bytes bytes) = ⊤
 IsWritableOutput (output.Message m) = IsMessage m
 
--- nothing is told, and no call was refused
-pub record IsQuiet (a : Answer) : Type 0 where
-  pub told : string_bytes a.lines ≡ []
-  pub refused : a.refused ≡ false
-
 -- a text is written, of which something is so
 abbrev pub IsTextOutput : Output → (so : List ℕ → Type 0) → Type 0
 IsTextOutput (output.Fixed text) so = so text.now
@@ -93,9 +95,16 @@ pub record IsTextAnswer (a : Answer) (so : List ℕ → Type 0) : Type 0 where
 
 -- ---- a value ----
 
--- the line of what stands at the path
+-- the text of what stands at the path, or why there is none
+abbrev pub job_text : GetJob → (bytes : List ℕ) → Out
+job_text j bytes = got_text (set_of j.schema) (number_of j.schema) (path_seen j.steps.items) j.indented bytes
+
+-- its line, within the limit
+abbrev pub IsLineWithin : ℕ → Out → (line : List ℕ) → Type 0
+IsLineWithin limit o line = IsLineOf o line × (length line ≤ suc limit)
+
 abbrev pub IsGetAnswer : GetJob → (bytes : List ℕ) → Answer → Type 0
-IsGetAnswer j bytes a = IsTextAnswer a (IsLineOf (got_text (set_of j.schema) (number_of j.schema) (path_seen j.steps.items) j.indented bytes))
+IsGetAnswer j bytes a = IsTextAnswer a (IsLineWithin j.limit (job_text j bytes))
 
 -- there is one, in both forms
 abbrev pub IsTextThere : StructSchema → List PathStep → (bytes : List ℕ) → Type 0
@@ -108,31 +117,39 @@ pub record IsNotShown (s : StructSchema) (path : List PathStep) (bytes : List �
   pub at : IsRefusedAt (set_of s) (number_of s) path bytes f.error.kind place
   pub told : string_bytes f.note ≡ place_note path place
 
+-- it is longer than it may be
+pub record HasLongText (j : GetJob) (bytes : List ℕ) (f : Fault) : Type 0 where
+  pub kind : f.error.kind ≡ TooLarge
+  pub longer : IsLonger j.limit (job_text j bytes)
+  pub note : string_bytes f.note ≡ []
+
 abbrev pub IsNotGot : GetJob → (bytes : List ℕ) → Fault → Type 0
-IsNotGot j bytes f = IsNotShown j.schema (path_seen j.steps.items) bytes f
+IsNotGot j bytes f = IsNotShown j.schema (path_seen j.steps.items) bytes f ⊎ HasLongText j bytes f
 
 -- ---- whether there is a text, or where it is refused ----
 
--- it is there, and nothing is written
-pub record IsShownAnswer (s : StructSchema) (path : List PathStep) (bytes : List ℕ) (a : Answer) : Type 0 where
+-- it is there, of no more parts than may be looked at, and nothing is written
+pub record IsShownAnswer (limit : ℕ) (s : StructSchema) (path : List PathStep) (bytes : List ℕ) (a : Answer) : Type 0 where
   pub shown : IsTextThere s path bytes
+  pub few : HasFewParts limit (set_of s) (number_of s) path bytes
   pub output : a.output ≡ output.Nothing
   pub quiet : IsQuiet a
 
--- all that is refused is told, a line each
-pub record IsAllAnswer (s : StructSchema) (path : List PathStep) (bytes : List ℕ) (a : Answer) : Type 0 where
+-- all that is refused is told, a line each; no more parts are looked at than may be
+pub record IsAllAnswer (limit : ℕ) (s : StructSchema) (path : List PathStep) (bytes : List ℕ) (a : Answer) : Type 0 where
   pub refusals : Refusals
   pub all : AreRefusedAt (set_of s) (number_of s) path bytes refusals
+  pub few : AreFewLookedAt limit (set_of s) (number_of s) path bytes refusals
   pub told : string_bytes a.lines ≡ refusals_lines path refusals
   pub refused : a.refused ≡ any_told refusals
   pub output : a.output ≡ output.Nothing
 
-abbrev pub IsLookAnswer : (all : Bool) → StructSchema → List PathStep → (bytes : List ℕ) → Answer → Type 0
-IsLookAnswer true s path bytes a = IsAllAnswer s path bytes a
-IsLookAnswer false s path bytes a = IsShownAnswer s path bytes a
+abbrev pub IsLookAnswer : (all : Bool) → (limit : ℕ) → StructSchema → List PathStep → (bytes : List ℕ) → Answer → Type 0
+IsLookAnswer true limit s path bytes a = IsAllAnswer limit s path bytes a
+IsLookAnswer false limit s path bytes a = IsShownAnswer limit s path bytes a
 
 abbrev pub IsCheckAnswer : CheckJob → (bytes : List ℕ) → Answer → Type 0
-IsCheckAnswer j bytes a = IsLookAnswer j.all j.schema (path_seen j.steps.items) bytes a
+IsCheckAnswer j bytes a = IsLookAnswer j.all j.limit j.schema (path_seen j.steps.items) bytes a
 
 -- there are more parts than may be looked at
 pub record HasTooMany (limit : ℕ) (s : StructSchema) (path : List PathStep) (bytes : List ℕ) (f : Fault) : Type 0 where
@@ -214,18 +231,38 @@ IsComparisonOutput true text o = o ≡ output.Nothing
 IsComparisonOutput false text o = IsTextOutput o (λ written. written ≡ text)
 
 -- and the newer struct follows the older one or is refused
-pub record IsCompareAnswer (j : CompareJob) (a : Answer) : Type 0 where
-  pub newer : Schemas
-  pub read : message_set j.newer.now ≡ Some newer
+pub record IsNamedCompared (j : CompareJob) (newer : Schemas) (name : List ℕ) (a : Answer) : Type 0 where
   pub comparison : Comparison
-  pub compared : IsComparison (lists_seen j.schemas.now) newer j.name.now comparison
+  pub compared : IsComparison (lists_seen j.schemas.now) newer name comparison
   pub text : IsComparisonOutput j.quiet (string_bytes comparison.text) a.output
   pub told : string_bytes a.lines ≡ []
   pub refused : a.refused ≡ not comparison.follows
 
+-- of all structs the report is written, and they are refused unless all follow
+pub record IsEachCompared (j : CompareJob) (newer : Schemas) (a : Answer) : Type 0 where
+  pub comparison : FullComparison
+  pub compared : IsFullComparison (lists_seen j.schemas.now) newer comparison
+  pub text : IsComparisonOutput j.quiet (report_text j.breaking_only comparison) a.output
+  pub told : string_bytes a.lines ≡ []
+  pub refused : a.refused ≡ not (comparison.incompatible == 0)
+
+abbrev pub AreCompared : CompareJob → (newer : Schemas) → (name : Option (List ℕ)) → Answer → Type 0
+AreCompared j newer (Some name) a = IsNamedCompared j newer name a
+AreCompared j newer None a = IsEachCompared j newer a
+
+pub record IsCompareAnswer (j : CompareJob) (a : Answer) : Type 0 where
+  pub newer : Schemas
+  pub read : message_set j.newer.now ≡ Some newer
+  pub compared : AreCompared j newer (option_map (λ w. w.now) j.name) a
+
+-- one of the sets has no such struct, or they can't be joined
+abbrev pub AreNotCompared : (older newer : Schemas) → (name : Option (List ℕ)) → ErrorKind → Type 0
+AreNotCompared older newer (Some name) kind = IsNotCompared older newer name kind
+AreNotCompared older newer None kind = IsNotComparedAll older newer kind
+
 -- the newer set is refused, or one of the sets has no such struct, or they can't be joined
 pub record IsUncompared (j : CompareJob) (f : Fault) : Type 0 where
-  pub cause : IsMessageRefusal j.newer.now f.error ⊎ ((newer : Schemas) × (message_set j.newer.now ≡ Some newer) × IsNotCompared (lists_seen j.schemas.now) newer j.name.now f.error.kind)
+  pub cause : IsMessageRefusal j.newer.now f.error ⊎ ((newer : Schemas) × (message_set j.newer.now ≡ Some newer) × AreNotCompared (lists_seen j.schemas.now) newer (option_map (λ w. w.now) j.name) f.error.kind)
   pub note : string_bytes f.note ≡ []
 
 -- what is to be looked at then: the name, or else the file of the newer set
@@ -239,6 +276,7 @@ compare_blamed kind = blamed.Calls
 -- to a message that is not packed
 abbrev pub IsMessageAnswer : Job → (bytes : List ℕ) → Answer → Type 0
 IsMessageAnswer (job.Get j) bytes a = IsGetAnswer j bytes a
+IsMessageAnswer (job.Json j) bytes a = IsJsonAnswer j bytes a
 IsMessageAnswer (job.Check j) bytes a = IsCheckAnswer j bytes a
 IsMessageAnswer (job.Patch j) bytes a = IsPatchAnswer j bytes a
 IsMessageAnswer (job.New j) bytes a = IsNewAnswer j a
@@ -252,6 +290,7 @@ IsMessageAnswer job.Version bytes a = IsTextAnswer a (λ text. text ≡ version_
 -- there is no answer, for this refusal
 abbrev pub IsNoMessageAnswer : Job → (bytes : List ℕ) → Fault → Type 0
 IsNoMessageAnswer (job.Get j) bytes f = IsNotGot j bytes f
+IsNoMessageAnswer (job.Json j) bytes f = IsNoJson j bytes f
 IsNoMessageAnswer (job.Check j) bytes f = IsNotChecked j bytes f
 IsNoMessageAnswer (job.Patch j) bytes f = IsUnread bytes f.error.kind × (string_bytes f.note ≡ [])
 IsNoMessageAnswer (job.New j) bytes f = ⊥

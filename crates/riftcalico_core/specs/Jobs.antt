@@ -1,5 +1,6 @@
 -- A plan under its set: the struct of its root, and the values of its calls.
 use Rattle.std.specs.Prelude.{ℕ, ◌≡◌, ⊤, List, [], get_or, map, Bool, true, false, Option, Some, None, Ok, Err, string_bytes}
+use Rattle.std.specs.Option.{option_map}
 use Rattle.capnp_device.specs.declared.error.Error.{Error}
 use Rattle.capnp_device.specs.declared.error.ErrorKind.TheVariants.{NameNotFound}
 use Rattle.capnp_call.specs.Seen.{path_seen}
@@ -14,7 +15,7 @@ use Rattle.capnp_schema.specs.declared.schema.structs.StructSchema.{StructSchema
 use Rattle.capnp_sets.specs.Message.{IsMessageRefusal, message_set}
 use Rattle.riftcalico_core.specs.Calls.{call_read}
 use Rattle.riftcalico_core.specs.CallsSeen.{read_call_seen}
-use Rattle.riftcalico_core.specs.Plans.{CallsPlan, CheckPlan, ComparePlan, GetPlan, Plan, check_plan, compatible_plan, convert_plan, fields_plan, get_plan, help_plan, new_plan, patch_plan, structs_plan, version_plan}
+use Rattle.riftcalico_core.specs.Plans.{CallsPlan, CheckPlan, ComparePlan, GetPlan, Plan, check_plan, compatible_plan, convert_plan, fields_plan, get_plan, help_plan, json_plan, new_plan, patch_plan, structs_plan, version_plan}
 use Rattle.riftcalico_core.specs.Reads.{each_word_read, value_line_at}
 use Rattle.riftcalico_core.specs.Wanted.{wanted_note}
 use Rattle.riftcalico_core.specs.Notes.{name_note}
@@ -24,10 +25,12 @@ use Rattle.riftcalico_core.specs.declared.job.CallsJob.{CallsJob}
 use Rattle.riftcalico_core.specs.declared.job.CheckJob.{CheckJob}
 use Rattle.riftcalico_core.specs.declared.job.CompareJob.{CompareJob}
 use Rattle.riftcalico_core.specs.declared.job.GetJob.{GetJob}
+use Rattle.riftcalico_core.specs.declared.job.JsonJob.{JsonJob}
 use Rattle.riftcalico_core.specs.declared.job.Job.{Job}
 use Rattle.riftcalico_core.specs.declared.job.Job.TheVariants as job
 use Rattle.capnp_words.specs.Calls.{CallText}
 use Rattle.capnp_words.specs.Targets.{type_along}
+use Rattle.riftcalico_words.specs.Tasks.{JsonTask}
 
 -- ---- the set ----
 
@@ -61,6 +64,13 @@ pub record IsGetJob (p : GetPlan) (set : Schemas) (j : GetJob) : Type 0 where
   pub path : path_seen j.steps.items ≡ p.path
   pub indented : j.indented ≡ p.indented
   pub packed : j.packed ≡ p.packed
+  pub limit : j.limit ≡ p.limit
+
+pub record IsJsonJob (t : JsonTask) (set : Schemas) (j : JsonJob) : Type 0 where
+  pub schema : IsNamedStruct set t.root.name j.schema
+  pub indented : j.indented ≡ t.indented
+  pub packed : j.packed ≡ t.packed
+  pub limit : j.limit ≡ t.limit
 
 pub record IsCheckJob (p : CheckPlan) (set : Schemas) (j : CheckJob) : Type 0 where
   pub schema : IsNamedStruct set p.root.name j.schema
@@ -87,12 +97,14 @@ pub record IsValueUnread (p : CallsPlan) (set : Schemas) (line : List ℕ) : Typ
 
 pub record IsCompareJob (p : ComparePlan) (set : Schemas) (j : CompareJob) : Type 0 where
   pub schemas : lists_seen j.schemas.now ≡ set
-  pub name : j.name.now ≡ p.name
+  pub name : option_map (λ w. w.now) j.name ≡ p.name
   pub newer : j.newer.now ≡ p.newer
   pub quiet : j.quiet ≡ p.quiet
+  pub breaking_only : j.breaking_only ≡ p.breaking_only
 
 abbrev pub IsJob : Plan → Schemas → Job → Type 0
 IsJob (get_plan p) set (job.Get j) = IsGetJob p set j
+IsJob (json_plan t) set (job.Json j) = IsJsonJob t set j
 IsJob (check_plan p) set (job.Check j) = IsCheckJob p set j
 IsJob (patch_plan p) set (job.Patch j) = IsCallsJob p set j
 IsJob (new_plan p) set (job.New j) = IsCallsJob p set j
@@ -113,6 +125,7 @@ IsLineOfPlan p set line = ⊥
 -- the name of a plan's root
 abbrev pub root_name : Plan → Option (List ℕ)
 root_name (get_plan p) = Some p.root.name
+root_name (json_plan t) = Some t.root.name
 root_name (check_plan p) = Some p.root.name
 root_name (patch_plan p) = Some p.root.name
 root_name (new_plan p) = Some p.root.name
@@ -130,6 +143,7 @@ IsRootUnnamed p set f = IsNoneNamed set (root_name p) f
 -- whether a message is read
 abbrev pub wants_input : Job → Bool
 wants_input (job.Get j) = true
+wants_input (job.Json j) = true
 wants_input (job.Check j) = true
 wants_input (job.Patch j) = true
 wants_input (job.New j) = false
@@ -143,6 +157,7 @@ wants_input job.Version = false
 -- whether it comes packed
 abbrev pub is_packed : Job → Bool
 is_packed (job.Get j) = j.packed
+is_packed (job.Json j) = j.packed
 is_packed (job.Check j) = j.packed
 is_packed (job.Patch j) = j.packed
 is_packed (job.New j) = false

@@ -4,13 +4,14 @@ pub mod Calls
 pub mod CallsSeen
 pub mod Faults
 pub mod Jobs
+pub mod Json
 pub mod Near
 pub mod Notes
 pub mod Numbered
 pub mod Plans
 pub mod PlansSeen
+pub mod Quiet
 pub mod Reads
 pub mod Replies
-pub mod RepliesSeen
 pub mod Steps
 pub mod Wanted

@@ -9,7 +9,7 @@ use Rattle.capnp_words.specs.Calls.{CallText, call_at}
 use Rattle.capnp_words.specs.Paths.{path_at}
 use Rattle.capnp_words.specs.Reads.{Read}
 use Rattle.riftcalico_core.specs.Reads.{Reads, each_word_read, line_at, unreadable_line}
-use Rattle.riftcalico_words.specs.Tasks.{CallsTask, CheckTask, GetTask, GivenCalls, Root, Task, check_task, compatible_task, convert_task, fields_task, get_task, help_task, in_lines, in_words, new_task, patch_task, structs_task, version_task}
+use Rattle.riftcalico_words.specs.Tasks.{CallsTask, CheckTask, GetTask, GivenCalls, JsonTask, Root, Task, check_task, compatible_task, convert_task, fields_task, get_task, help_task, in_lines, in_words, json_task, new_task, patch_task, structs_task, version_task}
 use Rattle.riftcalico_words.specs.declared.request.Verb.{Verb}
 
 -- the value at a path of a root
@@ -18,6 +18,7 @@ pub record GetPlan : Type 0 where
   pub path : List PathStep
   pub indented : Bool
   pub packed : Bool
+  pub limit : ℕ
 
 -- the value at a path of a root, whether it can be shown, or where it can't
 pub record CheckPlan : Type 0 where
@@ -36,14 +37,16 @@ pub record CallsPlan : Type 0 where
   pub packed : Bool
   pub limit : ℕ
 
--- a struct by its name, the bytes of the newer set, and whether only the status is wanted
+-- a struct by its name or all, the bytes of the newer set, whether only the status is wanted, and whether only what breaks is told
 pub record ComparePlan : Type 0 where
-  pub name : List ℕ
+  pub name : Option (List ℕ)
   pub newer : List ℕ
   pub quiet : Bool
+  pub breaking_only : Bool
 
 pub data Plan : Type 0 where
   get_plan : GetPlan → Plan
+  json_plan : JsonTask → Plan
   check_plan : CheckPlan → Plan
   patch_plan : CallsPlan → Plan
   new_plan : CallsPlan → Plan
@@ -113,7 +116,7 @@ abbrev pub calls_plan_of : CallsTask → (file : List ℕ) → Told CallsPlan
 calls_plan_of t file = under_root t (given_plan t.calls file)
 
 abbrev pub path_plan : GetTask → Read (List PathStep) → Told GetPlan
-path_plan t (Ok path) = Ok (record { root = t.root; path = path; indented = t.indented; packed = t.packed })
+path_plan t (Ok path) = Ok (record { root = t.root; path = path; indented = t.indented; packed = t.packed; limit = t.limit })
 path_plan t (Err place) = Err (unreadable_line 1 t.path place)
 
 abbrev pub get_plan_of : GetTask → Told GetPlan
@@ -133,12 +136,13 @@ as_plan plan (Err line) = Err line
 -- what a task asks, with the bytes of the file of its calls, if it has one
 abbrev pub task_plan : Task → (file : List ℕ) → Told Plan
 task_plan (get_task t) file = as_plan get_plan (get_plan_of t)
+task_plan (json_task t) file = Ok (json_plan t)
 task_plan (check_task t) file = as_plan check_plan (check_plan_of t)
 task_plan (patch_task t) file = as_plan patch_plan (calls_plan_of t file)
 task_plan (new_task t) file = as_plan new_plan (calls_plan_of t file)
 task_plan (structs_task set) file = Ok (structs_plan set)
 task_plan (fields_task r) file = Ok (fields_plan r)
 task_plan (convert_task strict) file = Ok (convert_plan strict)
-task_plan (compatible_task t) file = Ok (compatible_plan (record { name = t.name; newer = file; quiet = t.quiet }))
+task_plan (compatible_task t) file = Ok (compatible_plan (record { name = t.name; newer = file; quiet = t.quiet; breaking_only = t.breaking_only }))
 task_plan (help_task v) file = Ok (help_plan v)
 task_plan version_task file = Ok version_plan

@@ -3,29 +3,30 @@ use Rattle.std.specs.Prelude.{map, Result, Ok, Err, String, string_bytes}
 use Rattle.std.specs.Option.{option_map}
 use Rattle.capnp_words.specs.Seen.{call_text_seen, path_text_seen}
 use Rattle.riftcalico_core.specs.Plans as plans
-use Rattle.riftcalico_core.specs.Plans.{Told, check_plan, compatible_plan, convert_plan, fields_plan, get_plan, help_plan, new_plan, patch_plan, structs_plan, version_plan}
+use Rattle.riftcalico_core.specs.Plans.{Told, check_plan, compatible_plan, convert_plan, fields_plan, get_plan, help_plan, json_plan, new_plan, patch_plan, structs_plan, version_plan}
 use Rattle.riftcalico_core.specs.declared.plan.CallsPlan.{CallsPlan}
 use Rattle.riftcalico_core.specs.declared.plan.CheckPlan.{CheckPlan}
 use Rattle.riftcalico_core.specs.declared.plan.ComparePlan.{ComparePlan}
 use Rattle.riftcalico_core.specs.declared.plan.GetPlan.{GetPlan}
 use Rattle.riftcalico_core.specs.declared.plan.Plan.{Plan}
 use Rattle.riftcalico_core.specs.declared.plan.Plan.TheVariants as plan
-use Rattle.riftcalico_words.specs.RequestSeen.{root_named}
+use Rattle.riftcalico_words.specs.RequestSeen.{json_task_of, root_named}
 
 abbrev pub get_plan_seen : GetPlan → plans.GetPlan
-get_plan_seen p = record { root = root_named p.root; path = path_text_seen p.path; indented = p.indented; packed = p.packed }
+get_plan_seen p = record { root = root_named p.root; path = path_text_seen p.path; indented = p.indented; packed = p.packed; limit = p.limit }
 
 abbrev pub check_plan_seen : CheckPlan → plans.CheckPlan
 check_plan_seen p = record { root = root_named p.root; path = path_text_seen p.path; all = p.all; packed = p.packed; limit = p.limit }
 
 abbrev pub compare_plan_seen : ComparePlan → plans.ComparePlan
-compare_plan_seen p = record { name = p.name.now; newer = p.newer.now; quiet = p.quiet }
+compare_plan_seen p = record { name = option_map (λ w. w.now) p.name; newer = p.newer.now; quiet = p.quiet; breaking_only = p.breaking_only }
 
 abbrev pub calls_plan_seen : CallsPlan → plans.CallsPlan
 calls_plan_seen p = record { root = root_named p.root; texts = map call_text_seen p.texts.items; words = map (λ w. w.now) p.words.items; keep_going = p.keep_going; packed = p.packed; limit = p.limit }
 
 abbrev pub plan_seen : Plan → plans.Plan
 plan_seen (plan.Get p) = get_plan (get_plan_seen p)
+plan_seen (plan.Json r) = json_plan (json_task_of r)
 plan_seen (plan.Check p) = check_plan (check_plan_seen p)
 plan_seen (plan.Patch p) = patch_plan (calls_plan_seen p)
 plan_seen (plan.New p) = new_plan (calls_plan_seen p)

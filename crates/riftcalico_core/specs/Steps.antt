@@ -1,3 +1,5 @@
 -- Steps of the code: no contract of a public function stands on them.
+pub mod Json
 pub mod Plans
+pub mod RepliesSeen
 pub mod Texts

@@ -1,18 +1,21 @@
 //! What is answered to a message's bytes.
-ghost use Rattle.std.specs.Prelude.{◌≡◌, ◌≢◌, ◌⊎◌, IfErr, IfOk, IfSome, MatchOption, Some, map, string_bytes};
+ghost use Rattle.std.specs.Prelude.{◌≡◌, ◌≢◌, ◌⊎◌, IfErr, IfOk, IfSome, MatchOption, None, Some, map, string_bytes};
+ghost use Rattle.std.specs.Option.{option_map};
 ghost use Rattle.capnp_device.specs.declared.error.ErrorKind.TheVariants.{OutOfMemory, TooLarge};
 ghost use Rattle.capnp_arena.specs.Message.{IsMessage, message_tree};
 ghost use Rattle.capnp_call.specs.Seen.{call_seen, path_seen};
+ghost use Rattle.capnp_dynamic_readers.specs.Pieces.{IsLonger};
 ghost use Rattle.capnp_patch.specs.Patches.{IsUnread};
-ghost use Rattle.capnp_patch.specs.Places.{HasMoreParts};
+ghost use Rattle.capnp_patch.specs.Places.{HasFewParts, HasMoreParts};
 ghost use Rattle.capnp_schema.specs.Entries.{lists_seen};
 ghost use Rattle.capnp_schema.specs.StructHandles.{IsStruct, number_of, set_of};
 ghost use Rattle.capnp_schema.specs.Schema.{Schemas};
 ghost use Rattle.capnp_set_engine.specs.Convert.{HasNoSet};
 ghost use Rattle.capnp_sets.specs.Message.{IsMessageRefusal, message_set};
-ghost use Rattle.capnp_versions.specs.Versions.{IsNotCompared};
-ghost use Rattle.riftcalico_core.specs.Answers.{HasTooMany, IsAllAnswer, IsAnswer, IsCheckAnswer, IsCompareAnswer, IsComparisonOutput, IsConvertAnswer, IsFieldsAnswer, IsGetAnswer, IsMessageAnswer, IsMessageOutput, IsNewAnswer, IsNoAnswer, IsNoMessageAnswer, IsNotChecked, IsNotGot, IsNotShown, IsPackedMessage, IsPatchAnswer, IsQuiet, IsRunAnswer, IsShownAnswer, IsSoundJob, IsStructsAnswer, IsTextThere, IsUncompared, IsWritableOutput, answer_blamed, compare_blamed};
+ghost use Rattle.capnp_versions.specs.Versions.{IsNotCompared, IsNotComparedAll};
+ghost use Rattle.riftcalico_core.specs.Answers.{AreCompared, AreNotCompared, HasTooMany, IsAllAnswer, IsAnswer, IsCheckAnswer, IsCompareAnswer, IsComparisonOutput, IsConvertAnswer, IsEachCompared, IsFieldsAnswer, IsGetAnswer, IsMessageAnswer, IsMessageOutput, IsNamedCompared, IsNewAnswer, IsNoAnswer, IsNoMessageAnswer, IsNotChecked, IsNotGot, IsNotShown, IsPackedMessage, IsPatchAnswer, IsRunAnswer, IsShownAnswer, IsSoundJob, IsStructsAnswer, IsTextThere, IsUncompared, IsWritableOutput, answer_blamed, compare_blamed, job_text};
 ghost use Rattle.riftcalico_core.specs.Notes.{place_note};
+ghost use Rattle.riftcalico_core.specs.Quiet.{IsQuiet};
 ghost use Rattle.riftcalico_core.specs.Steps.Texts.{IsNoText};
 ghost use Rattle.riftcalico_core.specs.declared.fault.Blamed.TheVariants.{Input};
 
@@ -20,6 +23,7 @@ use crate::all_faults::{any_refusal, get_refusal_lines};
 use crate::calls::make_calls;
 use crate::fault::{Blamed, Fault, Faulty, blame, get_fault};
 use crate::job::{CallsJob, CheckJob, CompareJob, GetJob, Job};
+use crate::json::answer_json;
 use crate::note::get_place_note;
 use crate::replies::get_noted_lines;
 use capnp_arena::message::Builder;
@@ -28,7 +32,7 @@ use capnp_call::message::{Run, run_new};
 use capnp_packed::pack::pack;
 use capnp_packed::received::read_message;
 use capnp_patch::engine::{run_bytes_within, words_within};
-use capnp_patch::get::get_line;
+use capnp_patch::get::get_line_within;
 use capnp_patch::place::{Refusal, find_place, find_place_within, find_places};
 use capnp_schema::schema::StructSchema;
 use capnp_schema::set::SchemaSet;
@@ -36,7 +40,7 @@ use capnp_set_engine::engine::convert_bytes;
 use capnp_sets::message::read_message as read_set;
 use capnp_structs::fields::get_fields;
 use capnp_structs::names::get_structs;
-use capnp_versions::{Comparison, compare};
+use capnp_versions::{Comparison, compare, compare_all, get_report};
 use capnp_wire::error::{Error, ErrorKind, Result};
 use riftcalico_words::usage::{get_help, get_version};
 use std::alloc::Global;
@@ -114,7 +118,8 @@ fn find_fault(
     Ok(Some(note_fault(alloc, steps, &refusal)?))
 }
 
-/// The same where it has at most so many parts. Refused with `TooLarge` where it has more, and with `OutOfMemory`.
+/// Why a value of at most so many parts has no text, and where; none where it has one. Refused with `TooLarge` where it has
+/// more parts, and with `OutOfMemory`.
 fn find_fault_within(
     alloc: Global,
     schema: StructSchema<'_>,
@@ -126,6 +131,8 @@ fn find_fault_within(
     ensures found { IfOk result (λ found. MatchOption found (IsTextThere schema.entry (path_seen steps.now) message.now)
         (IsNotShown schema.entry (path_seen steps.now) message.now)) }
     ensures blamed { IfOk result (λ found. IfSome found (λ f. f.blamed ≡ Input)) }
+    ensures few { IfOk result (λ found. found ≡ None → HasFewParts limit (set_of schema.entry)
+        (number_of schema.entry) (path_seen steps.now) message.now) }
     ensures too_large { IfErr result (λ e. e.kind ≡ TooLarge → HasMoreParts limit (set_of schema.entry)
         (number_of schema.entry) (path_seen steps.now) message.now) }
     ensures refused { IfErr result (λ e. e.kind ≢ TooLarge → e.kind ≡ OutOfMemory) }
@@ -137,10 +144,11 @@ fn find_fault_within(
 }
 
 /// The refusal of a text with its place; or that there is no memory for it.
-fn explain(alloc: Global, job: &GetJob<'_, '_>, message: &[u8], error: Error) -> Fault
+fn explain_refusal(alloc: Global, job: &GetJob<'_, '_>, message: &[u8], error: Error) -> Fault
     requires stands { IsStruct job.now.schema }
     requires refused { error.kind ≢ OutOfMemory → IsNoText job.now message.now error.kind }
-    ensures shown { result.error.kind ≢ OutOfMemory → IsNotGot job.now message.now result }
+    ensures shown { result.error.kind ≢ OutOfMemory
+        → IsNotShown job.now.schema (path_seen job.now.steps.items) message.now result }
     ensures blamed { result.blamed ≡ Input }
 {
     if error.kind == ErrorKind::OutOfMemory {
@@ -153,6 +161,20 @@ fn explain(alloc: Global, job: &GetJob<'_, '_>, message: &[u8], error: Error) ->
     }
 }
 
+/// That a text is too long; or its refusal with its place, or that there is no memory for it.
+fn explain(alloc: Global, job: &GetJob<'_, '_>, message: &[u8], error: Error) -> Fault
+    requires stands { IsStruct job.now.schema }
+    requires refused { error.kind ≢ OutOfMemory → error.kind ≢ TooLarge → IsNoText job.now message.now error.kind }
+    requires too_long { error.kind ≡ TooLarge → IsLonger job.now.limit (job_text job.now message.now) }
+    ensures shown { result.error.kind ≢ OutOfMemory → IsNotGot job.now message.now result }
+    ensures blamed { result.blamed ≡ Input }
+{
+    match error.kind {
+        ErrorKind::TooLarge => get_fault(alloc, error, Blamed::Input),
+        _ => explain_refusal(alloc, job, message, error),
+    }
+}
+
 /// The text of a value.
 fn answer_get(alloc: Global, job: &GetJob<'_, '_>, message: &[u8]) -> Faulty<Answer>
     requires { IsStruct job.now.schema }
@@ -160,7 +182,14 @@ fn answer_get(alloc: Global, job: &GetJob<'_, '_>, message: &[u8]) -> Faulty<Ans
     ensures refused { IfErr result (λ f. f.error.kind ≢ OutOfMemory → IsNotGot job.now message.now f) }
     ensures blamed { IfErr result (λ f. f.blamed ≡ Input) }
 {
-    match get_line(alloc, job.schema, &job.steps, message, job.indented) {
+    match get_line_within(
+        alloc,
+        job.schema,
+        &job.steps,
+        message,
+        job.indented,
+        job.limit,
+    ) {
         Ok(line) => Ok(answer_quietly(alloc, Output::Text(line))),
         Err(error) => Err(explain(alloc, job, message, error)),
     }
@@ -169,7 +198,7 @@ fn answer_get(alloc: Global, job: &GetJob<'_, '_>, message: &[u8]) -> Faulty<Ans
 /// Whether a value can be shown.
 fn answer_shown(alloc: Global, job: &CheckJob<'_, '_>, message: &[u8]) -> Faulty<Answer>
     requires { IsStruct job.now.schema }
-    ensures answer { IfOk result (IsShownAnswer job.now.schema (path_seen job.now.steps.items) message.now) }
+    ensures answer { IfOk result (IsShownAnswer job.now.limit job.now.schema (path_seen job.now.steps.items) message.now) }
     ensures refused { IfErr result (λ f. f.error.kind ≢ OutOfMemory
         → IsNotShown job.now.schema (path_seen job.now.steps.items) message.now f
         ⊎ HasTooMany job.now.limit job.now.schema (path_seen job.now.steps.items) message.now f) }
@@ -186,7 +215,7 @@ fn answer_shown(alloc: Global, job: &CheckJob<'_, '_>, message: &[u8]) -> Faulty
 /// `OutOfMemory`.
 fn list_faults(alloc: Global, job: &CheckJob<'_, '_>, message: &[u8]) -> Result<Answer>
     requires { IsStruct job.now.schema }
-    ensures answer { IfOk result (IsAllAnswer job.now.schema (path_seen job.now.steps.items) message.now) }
+    ensures answer { IfOk result (IsAllAnswer job.now.limit job.now.schema (path_seen job.now.steps.items) message.now) }
     ensures too_large { IfErr result (λ e. e.kind ≡ TooLarge → HasMoreParts job.now.limit (set_of job.now.schema)
         (number_of job.now.schema) (path_seen job.now.steps.items) message.now) }
     ensures refused { IfErr result (λ e. e.kind ≢ TooLarge → e.kind ≡ OutOfMemory) }
@@ -203,7 +232,7 @@ fn list_faults(alloc: Global, job: &CheckJob<'_, '_>, message: &[u8]) -> Result<
 /// All that can't be shown of a value, or that it has too many parts.
 fn answer_all(alloc: Global, job: &CheckJob<'_, '_>, message: &[u8]) -> Faulty<Answer>
     requires { IsStruct job.now.schema }
-    ensures answer { IfOk result (IsAllAnswer job.now.schema (path_seen job.now.steps.items) message.now) }
+    ensures answer { IfOk result (IsAllAnswer job.now.limit job.now.schema (path_seen job.now.steps.items) message.now) }
     ensures refused { IfErr result (λ f. f.error.kind ≢ OutOfMemory
         → HasTooMany job.now.limit job.now.schema (path_seen job.now.steps.items) message.now f) }
     ensures blamed { IfErr result (λ f. f.blamed ≡ Input) }
@@ -360,22 +389,69 @@ fn get_comparison_output(quiet: bool, text: String) -> Output
     }
 }
 
-/// What differs between two versions, as text.
-fn compare_versions(alloc: Global, job: &CompareJob<'_, '_>) -> Result<Answer>
-    ensures answer { IfOk result (IsCompareAnswer job.now) }
+/// What differs between the structs of a name in two sets, as text.
+fn compare_named(
+    alloc: Global,
+    job: &CompareJob<'_, '_>,
+    newer: &SchemaSet,
+    name: &str,
+) -> Result<Answer>
+    ensures answer { IfOk result (IsNamedCompared job.now (lists_seen newer.now) name.now) }
     ensures writable { IfOk result (λ a. IsWritableOutput a.output) }
-    ensures refused { IfErr result (λ e. e.kind ≢ OutOfMemory → IsMessageRefusal job.now.newer.now e
-        ⊎ ((newer : Schemas) × (message_set job.now.newer.now ≡ Some newer)
-        × IsNotCompared (lists_seen job.now.schemas.now) newer job.now.name.now e.kind)) }
+    ensures refused { IfErr result (λ e. e.kind ≢ OutOfMemory
+        → IsNotCompared (lists_seen job.now.schemas.now) (lists_seen newer.now) name.now e.kind) }
 {
-    let newer = read_set(alloc, job.newer)?;
-    let comparison = compare(alloc, job.schemas, &newer, job.name)?;
+    let comparison = compare(alloc, job.schemas, newer, name)?;
     let Comparison { text, follows } = comparison;
     Ok(Answer {
         output: get_comparison_output(job.quiet, text),
         lines: String::new(alloc),
         refused: !follows,
     })
+}
+
+/// What differs between all structs of two sets, as text.
+fn compare_each(alloc: Global, job: &CompareJob<'_, '_>, newer: &SchemaSet) -> Result<Answer>
+    ensures answer { IfOk result (IsEachCompared job.now (lists_seen newer.now)) }
+    ensures writable { IfOk result (λ a. IsWritableOutput a.output) }
+    ensures refused { IfErr result (λ e. e.kind ≢ OutOfMemory
+        → IsNotComparedAll (lists_seen job.now.schemas.now) (lists_seen newer.now) e.kind) }
+{
+    let comparison = compare_all(alloc, job.schemas, newer)?;
+    let text = get_report(alloc, &comparison, job.breaking_only)?;
+    Ok(Answer {
+        output: get_comparison_output(job.quiet, text),
+        lines: String::new(alloc),
+        refused: comparison.incompatible != 0,
+    })
+}
+
+/// What differs between a struct of two sets, or all structs, as text.
+fn compare_sets(alloc: Global, job: &CompareJob<'_, '_>, newer: &SchemaSet) -> Result<Answer>
+    ensures answer { IfOk result (AreCompared job.now (lists_seen newer.now) (option_map (λ w. w.now) job.now.name)) }
+    ensures writable { IfOk result (λ a. IsWritableOutput a.output) }
+    ensures refused { IfErr result (λ e. e.kind ≢ OutOfMemory → AreNotCompared (lists_seen job.now.schemas.now)
+        (lists_seen newer.now) (option_map (λ w. w.now) job.now.name) e.kind) }
+{
+    match job.name {
+        Some(name) => compare_named(alloc, job, newer, name),
+        None => compare_each(alloc, job, newer),
+    }
+}
+
+/// What differs between two versions, as text.
+fn compare_versions(alloc: Global, job: &CompareJob<'_, '_>) -> Result<Answer>
+    ensures answer { IfOk result (IsCompareAnswer job.now) }
+    ensures writable { IfOk result (λ a. IsWritableOutput a.output) }
+    ensures refused { IfErr result (λ e. e.kind ≢ OutOfMemory → IsMessageRefusal job.now.newer.now e
+        ⊎ ((newer : Schemas) × (message_set job.now.newer.now ≡ Some newer)
+        × AreNotCompared (lists_seen job.now.schemas.now) newer (option_map (λ w. w.now) job.now.name) e.kind)) }
+{
+    let newer = read_set(alloc, job.newer)?;
+    match compare_sets(alloc, job, &newer) {
+        Ok(answer) => Ok(answer),
+        Err(error) => Err(error),
+    }
 }
 
 /// What differs between two versions, or what is to be looked at.
@@ -401,6 +477,7 @@ pub fn answer_message(alloc: Global, job: &Job<'_, '_, '_>, message: &[u8]) -> F
 {
     match job {
         Job::Get(job) => answer_get(alloc, job, message),
+        Job::Json(job) => answer_json(alloc, *job, message),
         Job::Check(job) => answer_check(alloc, job, message),
         Job::Patch(job) => blame(alloc, answer_patch(alloc, job, message), Blamed::Input),
         Job::New(job) => blame(alloc, answer_new(alloc, job), Blamed::Output),
@@ -420,7 +497,9 @@ pub fn answer_message(alloc: Global, job: &Job<'_, '_, '_>, message: &[u8]) -> F
 /// What a job answers to the bytes of a message, which may be packed; for a job that wants none they don't count. The struct
 /// of the job is one of an accepted set.
 ///
-/// Refused with `OutOfMemory`; of `get` and `check` as `capnp_patch::get::get_line`, with the place, of `patch` as
+/// Refused with `OutOfMemory`; of `get` as `capnp_patch::get::get_line_within`, with the place where it is no limit, of `json`
+/// as `capnp_json::message::message_to_json`, but for what only JSON refuses, which is told; of
+/// `check` as `capnp_patch::place::find_place_within`, with the place, of `patch` as
 /// `capnp_patch::engine::run_bytes`, of `schemas` as `capnp_set_engine::engine::convert_bytes`; and where the message is
 /// packed as `capnp_packed::received::read_message`.
 pub fn get_answer(alloc: Global, job: &Job<'_, '_, '_>, input: &[u8]) -> Faulty<Answer>

@@ -2,7 +2,7 @@
 ghost use Rattle.std.specs.Prelude.{◌≡◌, ◌++◌, IfErr, IfOk, Ok, OnOk, string_bytes};
 ghost use Rattle.std.specs.Option.{option_map};
 ghost use Rattle.capnp_device.specs.declared.error.ErrorKind.TheVariants.{OutOfMemory};
-ghost use Rattle.riftcalico_core.specs.Faults.{IsFaultOf, IsPlainFault, blamed_word, fault_line, file_word, hint_of, is_of_bytes, message_word, name_hint, set_hint, task_name, task_set_file};
+ghost use Rattle.riftcalico_core.specs.Faults.{IsFaultOf, IsPlainFault, blamed_word, fault_line, file_word, hint_of, is_of_bytes, message_word, name_hint, name_word, set_hint, task_name, task_set_file};
 ghost use Rattle.riftcalico_words.specs.RequestSeen.{task_seen};
 
 use crate::plan::get_calls_file;
@@ -48,7 +48,7 @@ pub fn get_fault(alloc: Global, error: Error, blamed: Blamed) -> Fault
     }
 }
 
-/// The same of what may be refused.
+/// What was found, or its refusal with what is to be looked at.
 pub fn blame<T>(alloc: Global, found: Result<T>, blamed: Blamed) -> Faulty<T>
     ensures value { IfOk result (λ x. found ≡ Ok x) }
     ensures refused { IfErr result (IsFaultOf found blamed) }
@@ -65,6 +65,7 @@ pub fn get_set_file<'a>(task: &Task<'a>) -> Option<&'a str>
 {
     match task {
         Task::Get(request) => request.root.file,
+        Task::Json(request) => request.root.file,
         Task::Check(request) => request.root.file,
         Task::Patch(request) | Task::New(request) => request.root.file,
         Task::Structs(file) => *file,
@@ -84,16 +85,27 @@ fn get_file_word<'a>(file: Option<&'a str>, other: &'a str) -> &'a str
     }
 }
 
+/// A name, empty where there is none.
+fn get_name_word<'a>(name: Option<&'a str>) -> &'a str
+    ensures { result.now ≡ name_word (option_map (λ w. w.now) name.entry) }
+{
+    match name {
+        Some(name) => name,
+        None => "",
+    }
+}
+
 /// The name of a task's root, empty where it has none.
 fn get_name<'a>(task: &Task<'a>) -> &'a str
     ensures { result.now ≡ task_name (task_seen task.now) }
 {
     match task {
         Task::Get(request) => request.root.name,
+        Task::Json(request) => request.root.name,
         Task::Check(request) => request.root.name,
         Task::Patch(request) | Task::New(request) => request.root.name,
         Task::Fields(root) => root.name,
-        Task::Compatible(request) => request.name,
+        Task::Compatible(request) => get_name_word(request.name),
         Task::Structs(_) | Task::Convert(_) | Task::Help(_) | Task::Version => "",
     }
 }

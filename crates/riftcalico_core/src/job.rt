@@ -3,8 +3,9 @@ ghost use Rattle.std.specs.Prelude.{◌≡◌, ◌≢◌, IfErr, IfOk, MatchResu
 ghost use Rattle.riftcalico_core.specs.declared.fault.Blamed.TheVariants.{Name};
 ghost use Rattle.capnp_device.specs.declared.error.ErrorKind.TheVariants.{OutOfMemory};
 ghost use Rattle.capnp_schema.specs.Entries.{lists_seen};
-ghost use Rattle.riftcalico_core.specs.Jobs.{IsCallsJob, IsCheckJob, IsGetJob, IsJob, IsLineOfPlan, IsNamedStruct, IsNotNamed, IsRootUnnamed, IsValueUnread, is_packed, wants_input};
+ghost use Rattle.riftcalico_core.specs.Jobs.{IsCallsJob, IsCheckJob, IsGetJob, IsJob, IsJsonJob, IsLineOfPlan, IsNamedStruct, IsNotNamed, IsRootUnnamed, IsValueUnread, is_packed, wants_input};
 ghost use Rattle.riftcalico_core.specs.PlansSeen.{calls_plan_seen, check_plan_seen, get_plan_seen, plan_seen};
+ghost use Rattle.riftcalico_words.specs.RequestSeen.{json_task_of};
 
 use crate::calls::{ReadCall, read_all_calls, steps_of};
 use crate::fault::{Blamed, Fault, Faulty, blame, get_fault};
@@ -17,16 +18,26 @@ use capnp_call::calls::Step;
 use capnp_schema::schema::StructSchema;
 use capnp_schema::set::SchemaSet;
 use capnp_wire::error::Result;
-use riftcalico_words::request::Verb;
+use riftcalico_words::request::{JsonRequest, Verb};
 use std::alloc::Global;
 
-/// The text of what stands at a path, and whether the message comes packed.
+/// The text of what stands at a path, whether the message comes packed, and the most bytes that the text may have.
 #[derive(Drop)]
 pub struct GetJob<'s, 'c> {
     pub schema: StructSchema<'s>,
     pub steps: Vec<Step<'c>>,
     pub indented: bool,
     pub packed: bool,
+    pub limit: u64,
+}
+
+/// A message as JSON, whether it comes packed, and the most bytes that the JSON may have.
+#[derive(Clone, Copy)]
+pub struct JsonJob<'s> {
+    pub schema: StructSchema<'s>,
+    pub indented: bool,
+    pub packed: bool,
+    pub limit: u64,
 }
 
 /// Whether what stands at a path can be shown, or where it can't, first or everywhere; whether the message comes packed; and
@@ -52,13 +63,15 @@ pub struct CallsJob<'s, 'c, 'w> {
     pub limit: u64,
 }
 
-/// The struct of a name, which is compared with that of the set in these bytes, and whether only the status is wanted.
+/// The struct of a name or all structs, which are compared with those of the set in these bytes; whether only the status is
+/// wanted, and whether only what breaks is told.
 #[derive(Clone, Copy)]
 pub struct CompareJob<'s, 'c> {
     pub schemas: &'s SchemaSet,
-    pub name: &'c str,
+    pub name: Option<&'c str>,
     pub newer: &'c [u8],
     pub quiet: bool,
+    pub breaking_only: bool,
 }
 
 /// What is done to a message.
@@ -66,6 +79,8 @@ pub struct CompareJob<'s, 'c> {
 pub enum Job<'s, 'c, 'w> {
     /// A value of it is shown.
     Get(GetJob<'s, 'c>),
+    /// It is shown as JSON.
+    Json(JsonJob<'s>),
     /// A value of it is looked at, whether it can be shown.
     Check(CheckJob<'s, 'c>),
     /// Calls are made on a copy of it.
@@ -78,7 +93,7 @@ pub enum Job<'s, 'c, 'w> {
     Fields(StructSchema<'s>),
     /// It is a compiler's request, which is made a set; whether floats and interfaces are refused.
     Convert(bool),
-    /// Two versions of a struct are compared, and no message is read.
+    /// Two versions of a struct or of all are compared, and no message is read.
     Compatible(CompareJob<'s, 'c>),
     /// Help is told, of all or of a verb, and no message is read.
     Help(Option<Verb>),
@@ -93,6 +108,7 @@ impl Job<'_, '_, '_> {
     {
         match self {
             Job::Get(job) => job.packed,
+            Job::Json(job) => job.packed,
             Job::Check(job) => job.packed,
             Job::Patch(job) => job.packed,
             Job::New(_)
@@ -110,7 +126,7 @@ impl Job<'_, '_, '_> {
         ensures { result ≡ wants_input self.now }
     {
         match self {
-            Job::Get(_) | Job::Check(_) | Job::Patch(_) | Job::Convert(_) => true,
+            Job::Get(_) | Job::Json(_) | Job::Check(_) | Job::Patch(_) | Job::Convert(_) => true,
             Job::New(_)
             | Job::Structs(_)
             | Job::Fields(_)
@@ -160,6 +176,27 @@ fn find_get_job<'s, 'c>(
         steps,
         indented: plan.indented,
         packed: plan.packed,
+        limit: plan.limit,
+    })
+}
+
+/// A message that is shown as JSON, under the struct of its root. Refused as `find_root`.
+fn find_json_job<'s>(
+    alloc: Global,
+    schemas: &'s SchemaSet,
+    request: JsonRequest<'_>,
+) -> Faulty<JsonJob<'s>>
+    ensures job { IfOk result (IsJsonJob (json_task_of request.entry) (lists_seen schemas.now)) }
+    ensures refused { IfErr result (λ f. f.error.kind ≢ OutOfMemory
+        → IsNotNamed (lists_seen schemas.now) (json_task_of request.entry).root.name f) }
+    ensures blamed { IfErr result (λ f. f.blamed ≡ Name) }
+{
+    let schema = find_root(alloc, schemas, request.root.name)?;
+    Ok(JsonJob {
+        schema,
+        indented: request.indented,
+        packed: request.packed,
+        limit: request.limit,
     })
 }
 
@@ -249,6 +286,7 @@ pub fn find_job<'s, 'c, 'w>(
 {
     match plan {
         Plan::Get(plan) => Ok(Ok(Job::Get(find_get_job(alloc, schemas, plan)?))),
+        Plan::Json(request) => Ok(Ok(Job::Json(find_json_job(alloc, schemas, *request)?))),
         Plan::Check(plan) => Ok(Ok(Job::Check(find_check_job(alloc, schemas, plan)?))),
         Plan::Patch(plan) => match find_calls_job(alloc, schemas, plan)? {
             Ok(job) => Ok(Ok(Job::Patch(job))),
@@ -266,6 +304,7 @@ pub fn find_job<'s, 'c, 'w>(
             name: plan.name,
             newer: plan.newer,
             quiet: plan.quiet,
+            breaking_only: plan.breaking_only,
         }))),
         Plan::Help(verb) => Ok(Ok(Job::Help(*verb))),
         Plan::Version => Ok(Ok(Job::Version)),

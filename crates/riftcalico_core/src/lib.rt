@@ -7,6 +7,7 @@ pub mod answer;
 pub mod calls;
 pub mod fault;
 pub mod job;
+mod json;
 mod near;
 mod note;
 pub mod numbered;

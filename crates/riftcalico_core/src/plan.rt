@@ -14,7 +14,7 @@ use capnp_wire::error::Result;
 use capnp_words::call::CallWord;
 use capnp_words::path::{Path, parse_path};
 use riftcalico_words::request::{
-    CallWords, CallsRequest, CheckRequest, GetRequest, NamedRoot, Task, Verb,
+    CallWords, CallsRequest, CheckRequest, GetRequest, JsonRequest, NamedRoot, Task, Verb,
 };
 use std::alloc::Global;
 use std::str;
@@ -29,6 +29,7 @@ pub struct GetPlan<'a> {
     pub path: Path,
     pub indented: bool,
     pub packed: bool,
+    pub limit: u64,
 }
 
 /// The value at a path of a root, whether it can be shown, or where it can't, first or everywhere.
@@ -52,12 +53,14 @@ pub struct CallsPlan<'a> {
     pub limit: u64,
 }
 
-/// The struct of a name, which is compared with that of the set in these bytes, and whether only the status is wanted.
+/// The struct of a name or all structs, which are compared with those of the set in these bytes; whether only the status is
+/// wanted, and whether only what breaks is told.
 #[derive(Clone, Copy)]
 pub struct ComparePlan<'a> {
-    pub name: &'a str,
+    pub name: Option<&'a str>,
     pub newer: &'a [u8],
     pub quiet: bool,
+    pub breaking_only: bool,
 }
 
 /// What is to be done.
@@ -65,6 +68,8 @@ pub struct ComparePlan<'a> {
 pub enum Plan<'a> {
     /// The value at a path is shown.
     Get(GetPlan<'a>),
+    /// A message is shown as JSON.
+    Json(JsonRequest<'a>),
     /// The value at a path is looked at, whether it can be shown.
     Check(CheckPlan<'a>),
     /// Calls are made on a copy of a message.
@@ -77,7 +82,7 @@ pub enum Plan<'a> {
     Fields(NamedRoot<'a>),
     /// A compiler's request is made a set; whether floats and interfaces are refused.
     Convert(bool),
-    /// Two versions of a struct are compared.
+    /// Two versions of a struct or of all are compared.
     Compatible(ComparePlan<'a>),
     /// Help is told, of all or of a verb.
     Help(Option<Verb>),
@@ -103,6 +108,7 @@ pub fn get_calls_file<'a>(task: &Task<'a>) -> Option<&'a str>
         Task::Patch(request) | Task::New(request) => get_given_file(&request.calls),
         Task::Compatible(request) => Some(request.newer),
         Task::Get(_)
+        | Task::Json(_)
         | Task::Check(_)
         | Task::Structs(_)
         | Task::Fields(_)
@@ -199,6 +205,7 @@ fn plan_get<'a>(alloc: Global, request: GetRequest<'a>) -> Result<Told<GetPlan<'
             path,
             indented: request.indented,
             packed: request.packed,
+            limit: request.limit,
         })),
         Err(place) => {
             let line = put_unreadable(alloc, 1, request.path, place as u128)?;
@@ -238,6 +245,7 @@ pub fn read_plan<'a>(alloc: Global, task: &Task<'a>, file: &'a [u8]) -> Result<T
             Ok(plan) => Ok(Ok(Plan::Get(plan))),
             Err(line) => Ok(Err(line)),
         },
+        Task::Json(request) => Ok(Ok(Plan::Json(*request))),
         Task::Check(request) => match plan_check(alloc, *request)? {
             Ok(plan) => Ok(Ok(Plan::Check(plan))),
             Err(line) => Ok(Err(line)),
@@ -257,6 +265,7 @@ pub fn read_plan<'a>(alloc: Global, task: &Task<'a>, file: &'a [u8]) -> Result<T
             name: request.name,
             newer: file,
             quiet: request.quiet,
+            breaking_only: request.breaking_only,
         }))),
         Task::Help(verb) => Ok(Ok(Plan::Help(*verb))),
         Task::Version => Ok(Ok(Plan::Version)),

@@ -10,7 +10,7 @@ ghost use Rattle.capnp_schema.specs.StructHandles.{IsStruct, number_of, set_of};
 ghost use Rattle.capnp_schema.specs.Types.{seen_type, seen_variant};
 ghost use Rattle.capnp_words.specs.Targets.{type_behind};
 ghost use Rattle.riftcalico_core.specs.Replies.{AreNoted, asked_note, call_along, kind_note, note_of, types_along};
-ghost use Rattle.riftcalico_core.specs.RepliesSeen.{along_seen};
+ghost use Rattle.riftcalico_core.specs.Steps.RepliesSeen.{along_seen};
 
 use crate::note::put_within;
 use capnp_base::introspect::{Type, TypeVariant};

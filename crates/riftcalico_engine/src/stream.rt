@@ -108,7 +108,7 @@ impl<R: Source> Source for LentSource<'_, R> {
     }
 }
 
-/// The same for messages that are packed.
+/// Answers each message of a source of packed ones.
 fn run_packed<R: Source, W: Sink, F: Sink>(
     alloc: Global,
     task: &Task<'_>,

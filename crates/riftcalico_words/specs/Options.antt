@@ -19,6 +19,7 @@ pub record WordOptions : Type 0 where
   pub strict : Bool
   pub all : Bool
   pub quiet : Bool
+  pub breaking_only : Bool
   pub help : Bool
   pub others : List (List ℕ)
   pub waiting : Option ValueOption
@@ -35,6 +36,7 @@ no_options = record {
   strict = false;
   all = false;
   quiet = false;
+  breaking_only = false;
   help = false;
   others = [];
   waiting = None;
@@ -58,6 +60,7 @@ word_kind word =
     else if bytes_eq word (codes "--strict") then kind.Flag flag.Strict
     else if bytes_eq word (codes "--all") then kind.Flag flag.All
     else if bytes_eq word (codes "--quiet") then kind.Flag flag.Quiet
+    else if bytes_eq word (codes "--breaking-only") then kind.Flag flag.BreakingOnly
     else if bytes_eq word (codes "--help") then kind.Flag flag.Help
     else if is_option word then kind.Unknown
     else kind.Other
@@ -70,6 +73,7 @@ with_flag o flag.Each = record o { each = true }
 with_flag o flag.Strict = record o { strict = true }
 with_flag o flag.All = record o { all = true }
 with_flag o flag.Quiet = record o { quiet = true }
+with_flag o flag.BreakingOnly = record o { breaking_only = true }
 with_flag o flag.Help = record o { help = true }
 
 abbrev pub with_value : WordOptions → ValueOption → (word : List ℕ) → WordOptions

@@ -17,6 +17,7 @@ options_seen o = record {
   strict = o.strict;
   all = o.all;
   quiet = o.quiet;
+  breaking_only = o.breaking_only;
   help = o.help;
   others = map (λ w. w.now) o.others.items;
   waiting = o.waiting;

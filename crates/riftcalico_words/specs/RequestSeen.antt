@@ -1,16 +1,16 @@
 -- Requests as the code has them.
 use Rattle.std.specs.Prelude.{ℕ, List, map, Result, Ok, Err}
-use Rattle.std.specs.Borrow.{Bor}
 use Rattle.std.specs.Option.{option_map}
 use Rattle.riftcalico_words.specs.Requests.{AskedRequest, WordFault, no_bytes, no_verb, other_words, unknown_option, unknown_verb}
 use Rattle.riftcalico_words.specs.Tasks as tasks
-use Rattle.riftcalico_words.specs.Tasks.{CallsTask, CheckTask, CompareTask, GetTask, GivenCalls, Root, check_task, compatible_task, convert_task, fields_task, get_task, help_task, in_lines, in_words, new_task, patch_task, structs_task, version_task}
+use Rattle.riftcalico_words.specs.Tasks.{CallsTask, CheckTask, CompareTask, GetTask, GivenCalls, JsonTask, Root, check_task, compatible_task, convert_task, fields_task, get_task, help_task, json_task, in_lines, in_words, new_task, patch_task, structs_task, version_task}
 use Rattle.riftcalico_words.specs.declared.request.CallWords.{CallWords}
 use Rattle.riftcalico_words.specs.declared.request.CallWords.TheVariants as words
 use Rattle.riftcalico_words.specs.declared.request.CallsRequest.{CallsRequest}
 use Rattle.riftcalico_words.specs.declared.request.CheckRequest.{CheckRequest}
 use Rattle.riftcalico_words.specs.declared.request.CompareRequest.{CompareRequest}
 use Rattle.riftcalico_words.specs.declared.request.GetRequest.{GetRequest}
+use Rattle.riftcalico_words.specs.declared.request.JsonRequest.{JsonRequest}
 use Rattle.riftcalico_words.specs.declared.request.Misuse.{Misuse}
 use Rattle.riftcalico_words.specs.declared.request.Misuse.TheVariants as misuse
 use Rattle.riftcalico_words.specs.declared.request.NamedRoot.{NamedRoot}
@@ -21,13 +21,16 @@ abbrev pub root_named : NamedRoot → Root
 root_named r = record { file = option_map (λ f. f.now) r.file; name = r.name.now }
 
 abbrev pub get_task_of : GetRequest → GetTask
-get_task_of r = record { root = root_named r.root; path = r.path.now; indented = r.indented; packed = r.packed; messages = r.messages }
+get_task_of r = record { root = root_named r.root; path = r.path.now; indented = r.indented; packed = r.packed; messages = r.messages; limit = r.limit }
+
+abbrev pub json_task_of : JsonRequest → JsonTask
+json_task_of r = record { root = root_named r.root; indented = r.indented; packed = r.packed; messages = r.messages; limit = r.limit }
 
 abbrev pub check_task_of : CheckRequest → CheckTask
 check_task_of r = record { root = root_named r.root; path = r.path.now; all = r.all; packed = r.packed; messages = r.messages; limit = r.limit }
 
 abbrev pub compare_task_of : CompareRequest → CompareTask
-compare_task_of r = record { older = r.older.now; newer = r.newer.now; name = r.name.now; quiet = r.quiet }
+compare_task_of r = record { older = r.older.now; newer = r.newer.now; name = option_map (λ w. w.now) r.name; quiet = r.quiet; breaking_only = r.breaking_only }
 
 abbrev pub given_of : CallWords → GivenCalls
 given_of (words.Words ws) = in_words (map (λ w. w.now) ws.items)
@@ -38,6 +41,7 @@ calls_task_of r = record { root = root_named r.root; calls = given_of r.calls; k
 
 abbrev pub task_seen : Task → tasks.Task
 task_seen (task.Get r) = get_task (get_task_of r)
+task_seen (task.Json r) = json_task (json_task_of r)
 task_seen (task.Check r) = check_task (check_task_of r)
 task_seen (task.Patch r) = patch_task (calls_task_of r)
 task_seen (task.New r) = new_task (calls_task_of r)
@@ -54,10 +58,6 @@ fault_seen (misuse.UnknownVerb word) = unknown_verb word.now
 fault_seen (misuse.UnknownOption v word) = unknown_option v word.now
 fault_seen (misuse.NoBytes v word) = no_bytes v word.now
 fault_seen (misuse.OtherWords v) = other_words v
-
-abbrev pub limit_seen : Result ℕ (Bor (List ℕ)) → Result ℕ (List ℕ)
-limit_seen (Ok limit) = Ok limit
-limit_seen (Err word) = Err word.now
 
 abbrev pub asked_seen : Result Task Misuse → AskedRequest
 asked_seen (Ok t) = Ok (task_seen t)

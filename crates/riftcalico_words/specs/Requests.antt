@@ -3,7 +3,7 @@ use Rattle.std.specs.Prelude.{ℕ, List, [], ◌∷◌, ◌^◌, Bool, true, fal
 use Rattle.std.specs.Option.{option_map}
 use Rattle.riftcalico_words.specs.Numbers.{number_asked}
 use Rattle.riftcalico_words.specs.Options.{WordOptions, no_options, options_read}
-use Rattle.riftcalico_words.specs.Tasks.{CallsTask, GetTask, GivenCalls, Task, check_task, compatible_task, convert_task, fields_task, get_task, help_task, in_lines, in_words, new_task, patch_task, structs_task, version_task}
+use Rattle.riftcalico_words.specs.Tasks.{CallsTask, GetTask, GivenCalls, Task, check_task, compatible_task, convert_task, fields_task, get_task, help_task, json_task, in_lines, in_words, new_task, patch_task, structs_task, version_task}
 use Rattle.riftcalico_words.specs.declared.options.Flag.{Flag}
 use Rattle.riftcalico_words.specs.declared.options.Flag.TheVariants as flag
 use Rattle.riftcalico_words.specs.declared.options.ValueOption.{ValueOption}
@@ -28,6 +28,7 @@ abbrev pub verb_of : List ℕ → Option Verb
 verb_of word =
     if bytes_eq word (codes "show") then Some verb.Show
     else if bytes_eq word (codes "get") then Some verb.Get
+    else if bytes_eq word (codes "json") then Some verb.Json
     else if bytes_eq word (codes "check") then Some verb.Check
     else if bytes_eq word (codes "patch") then Some verb.Patch
     else if bytes_eq word (codes "new") then Some verb.New
@@ -51,6 +52,7 @@ messages_of o = messages_by o.each o.keep_going
 abbrev pub is_reading : Verb → Bool
 is_reading verb.Show = true
 is_reading verb.Get = true
+is_reading verb.Json = true
 is_reading verb.Check = true
 is_reading v = false
 
@@ -72,16 +74,10 @@ abbrev pub takes_set : Verb → Bool
 takes_set verb.Structs = true
 takes_set v = is_on_messages v
 
--- of a text that is shown no limit is kept
-abbrev pub takes_limit : Verb → Bool
-takes_limit verb.Show = false
-takes_limit verb.Get = false
-takes_limit v = is_on_messages v
-
 abbrev pub takes_value : Verb → ValueOption → Bool
 takes_value v value.Set = takes_set v
 takes_value v value.Calls = is_with_calls v
-takes_value v value.Limit = takes_limit v
+takes_value v value.Limit = is_on_messages v
 
 abbrev pub takes_indent : Verb → Bool
 takes_indent verb.Check = false
@@ -107,6 +103,7 @@ takes_flag v flag.Each = takes_each v
 takes_flag v flag.Strict = takes_strict v
 takes_flag v flag.All = takes_all v
 takes_flag v flag.Quiet = is_comparison v
+takes_flag v flag.BreakingOnly = is_comparison v
 takes_flag v flag.Help = true
 
 -- an option stands only where its verb takes it
@@ -128,6 +125,7 @@ flags_fit v o =
     && is_allowed o.strict (takes_flag v flag.Strict)
     && is_allowed o.all (takes_flag v flag.All)
     && is_allowed o.quiet (takes_flag v flag.Quiet)
+    && is_allowed o.breaking_only (takes_flag v flag.BreakingOnly)
 
 -- a verb that only reads goes on behind a message that is refused where there are several
 abbrev pub going_fits : Verb → WordOptions → Bool
@@ -138,7 +136,7 @@ is_fitting v o = values_fit v o && flags_fit v o && going_fits v o
 
 -- ---- what is asked ----
 
--- the most bytes that are made, 1 GiB where no number is given; or the word that is none
+-- the most bytes that are made, and parts that are looked at, 2^30 where no number is given; or the word that is none
 abbrev pub default_limit : ℕ
 default_limit = 2 ^ 30
 
@@ -167,17 +165,24 @@ abbrev pub calls_asked : WordOptions → (limit : ℕ) → Option CallsTask
 calls_asked o limit = named_calls o limit o.others
 
 -- what is asked of a message that is shown, or of a set, by the other words
-abbrev pub shown_of : WordOptions → (name path : List ℕ) → GetTask
-shown_of o name path =
-    record { root = record { file = o.set; name = name }; path = path; indented = o.indent; packed = o.packed; messages = messages_of o }
+abbrev pub shown_of : WordOptions → (limit : ℕ) → (name path : List ℕ) → GetTask
+shown_of o limit name path =
+    record { root = record { file = o.set; name = name }; path = path; indented = o.indent; packed = o.packed; messages = messages_of o; limit = limit }
 
-abbrev pub show_asked : WordOptions → List (List ℕ) → Option Task
-show_asked o (name ∷ []) = Some (get_task (shown_of o name (codes ".")))
-show_asked o words = None
+abbrev pub show_asked : WordOptions → (limit : ℕ) → List (List ℕ) → Option Task
+show_asked o limit (name ∷ []) = Some (get_task (shown_of o limit name (codes ".")))
+show_asked o limit words = None
 
-abbrev pub get_asked : WordOptions → List (List ℕ) → Option Task
-get_asked o (name ∷ path ∷ []) = Some (get_task (shown_of o name path))
-get_asked o words = None
+abbrev pub get_asked : WordOptions → (limit : ℕ) → List (List ℕ) → Option Task
+get_asked o limit (name ∷ path ∷ []) = Some (get_task (shown_of o limit name path))
+get_asked o limit words = None
+
+abbrev pub json_of : WordOptions → (limit : ℕ) → (name : List ℕ) → Task
+json_of o limit name = json_task (record { root = record { file = o.set; name = name }; indented = o.indent; packed = o.packed; messages = messages_of o; limit = limit })
+
+abbrev pub json_asked : WordOptions → (limit : ℕ) → List (List ℕ) → Option Task
+json_asked o limit (name ∷ []) = Some (json_of o limit name)
+json_asked o limit words = None
 
 abbrev pub checked_of : WordOptions → (limit : ℕ) → (name path : List ℕ) → Task
 checked_of o limit name path =
@@ -197,16 +202,18 @@ abbrev pub schemas_asked : WordOptions → List (List ℕ) → Option Task
 schemas_asked o [] = Some (convert_task o.strict)
 schemas_asked o words = None
 
-abbrev pub compared_of : WordOptions → (older newer name : List ℕ) → Task
-compared_of o older newer name = compatible_task (record { older = older; newer = newer; name = name; quiet = o.quiet })
+abbrev pub compared_of : WordOptions → (older newer : List ℕ) → (name : Option (List ℕ)) → Task
+compared_of o older newer name = compatible_task (record { older = older; newer = newer; name = name; quiet = o.quiet; breaking_only = o.breaking_only })
 
 abbrev pub compatible_asked : WordOptions → List (List ℕ) → Option Task
-compatible_asked o (older ∷ newer ∷ name ∷ []) = Some (compared_of o older newer name)
+compatible_asked o (older ∷ newer ∷ []) = Some (compared_of o older newer None)
+compatible_asked o (older ∷ newer ∷ name ∷ []) = Some (compared_of o older newer (Some name))
 compatible_asked o words = None
 
 abbrev pub plain_asked : Verb → WordOptions → (limit : ℕ) → Option Task
-plain_asked verb.Show o limit = show_asked o o.others
-plain_asked verb.Get o limit = get_asked o o.others
+plain_asked verb.Show o limit = show_asked o limit o.others
+plain_asked verb.Get o limit = get_asked o limit o.others
+plain_asked verb.Json o limit = json_asked o limit o.others
 plain_asked verb.Check o limit = check_asked o limit o.others
 plain_asked verb.Patch o limit = None
 plain_asked verb.New o limit = None

@@ -9,13 +9,22 @@ pub record Root : Type 0 where
   pub file : Option (List ℕ)
   pub name : List ℕ
 
--- the text of the value at a path, whether the message comes packed, and of which messages
+-- the text of the value at a path, whether the message comes packed, of which messages, and the most bytes that a text may have
 pub record GetTask : Type 0 where
   pub root : Root
   pub path : List ℕ
   pub indented : Bool
   pub packed : Bool
   pub messages : Messages
+  pub limit : ℕ
+
+-- a message as JSON, whether it comes packed, of which messages, and the most bytes that a JSON may have
+pub record JsonTask : Type 0 where
+  pub root : Root
+  pub indented : Bool
+  pub packed : Bool
+  pub messages : Messages
+  pub limit : ℕ
 
 -- whether the value at a path can be shown, or where it can't, everywhere or first, and the most parts of it that may be looked at
 pub record CheckTask : Type 0 where
@@ -41,17 +50,19 @@ pub record CallsTask : Type 0 where
   pub messages : Messages
   pub limit : ℕ
 
--- the struct of a name in the sets of two files, an older and a newer one, and whether only the status is wanted
+-- the struct of a name in the sets of two files, an older and a newer one, or all structs; whether only the status is wanted, and whether only what breaks is told
 pub record CompareTask : Type 0 where
   pub older : List ℕ
   pub newer : List ℕ
-  pub name : List ℕ
+  pub name : Option (List ℕ)
   pub quiet : Bool
+  pub breaking_only : Bool
 
--- A value is shown, or only looked at whether it can be, calls are made on a copy of a message or on an empty root, the structs of a set are shown, in the set of a file or else in the built-in one, or the fields of a struct, a compiler's request is made a set,
--- two versions of a struct are compared, or help is told, of all or of a verb, or the version.
+-- A value is shown, a message as JSON, or a value is only looked at whether it can be, calls are made on a copy of a message or on an empty root, the structs of a set are shown, in the set of a file or else in the built-in one, or the fields of a struct, a compiler's request is made a set,
+-- two versions of a struct or of all are compared, or help is told, of all or of a verb, or the version.
 pub data Task : Type 0 where
   get_task : GetTask → Task
+  json_task : JsonTask → Task
   check_task : CheckTask → Task
   patch_task : CallsTask → Task
   new_task : CallsTask → Task
@@ -65,6 +76,7 @@ pub data Task : Type 0 where
 -- the messages of the input that a task means
 abbrev pub task_messages : Task → Messages
 task_messages (get_task t) = t.messages
+task_messages (json_task t) = t.messages
 task_messages (check_task t) = t.messages
 task_messages (patch_task t) = t.messages
 task_messages (new_task t) = messages.First

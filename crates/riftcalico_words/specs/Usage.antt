@@ -7,41 +7,53 @@ use Rattle.riftcalico_words.specs.declared.request.Verb.TheVariants as verb
 -- how the program is called
 abbrev pub usage_lines : List ℕ
 usage_lines =
-    codes "usage: riftcalico show [--set FILE] [--packed] [--each [--keep-going]] NAME [--indent]\n"
-    ++ codes "       riftcalico get [--set FILE] [--packed] [--each [--keep-going]] NAME PATH [--indent]\n"
+    codes "usage: riftcalico show [--set FILE] [--packed] [--limit BYTES] [--each [--keep-going]] NAME [--indent]\n"
+    ++ codes "       riftcalico get [--set FILE] [--packed] [--limit BYTES] [--each [--keep-going]] NAME PATH [--indent]\n"
+    ++ codes "       riftcalico json [--set FILE] [--packed] [--limit BYTES] [--each [--keep-going]] NAME [--indent]\n"
     ++ codes "       riftcalico check [--set FILE] [--packed] [--limit PARTS] [--all] [--each [--keep-going]] NAME [PATH]\n"
     ++ codes "       riftcalico patch [--set FILE] [--calls FILE] [--keep-going] [--packed] [--limit BYTES] [--each] NAME CALL..\n"
     ++ codes "       riftcalico new [--set FILE] [--calls FILE] [--keep-going] [--packed] [--limit BYTES] NAME CALL..\n"
     ++ codes "       riftcalico structs [--set FILE] [NAME]\n"
     ++ codes "       riftcalico schemas [--strict]\n"
-    ++ codes "       riftcalico compatible [--quiet] OLD NEW NAME\n"
+    ++ codes "       riftcalico compatible [--quiet] [--breaking-only] OLD NEW [NAME]\n"
 
 -- how a verb is
 abbrev pub verb_usage : Verb → List ℕ
-verb_usage verb.Show = codes "usage: riftcalico show [--set FILE] [--packed] [--each [--keep-going]] NAME [--indent]\n"
-verb_usage verb.Get = codes "usage: riftcalico get [--set FILE] [--packed] [--each [--keep-going]] NAME PATH [--indent]\n"
+verb_usage verb.Show = codes "usage: riftcalico show [--set FILE] [--packed] [--limit BYTES] [--each [--keep-going]] NAME [--indent]\n"
+verb_usage verb.Get = codes "usage: riftcalico get [--set FILE] [--packed] [--limit BYTES] [--each [--keep-going]] NAME PATH [--indent]\n"
+verb_usage verb.Json = codes "usage: riftcalico json [--set FILE] [--packed] [--limit BYTES] [--each [--keep-going]] NAME [--indent]\n"
 verb_usage verb.Check = codes "usage: riftcalico check [--set FILE] [--packed] [--limit PARTS] [--all] [--each [--keep-going]] NAME [PATH]\n"
 verb_usage verb.Patch = codes "usage: riftcalico patch [--set FILE] [--calls FILE] [--keep-going] [--packed] [--limit BYTES] [--each] NAME CALL..\n"
 verb_usage verb.New = codes "usage: riftcalico new [--set FILE] [--calls FILE] [--keep-going] [--packed] [--limit BYTES] NAME CALL..\n"
 verb_usage verb.Structs = codes "usage: riftcalico structs [--set FILE] [NAME]\n"
 verb_usage verb.Schemas = codes "usage: riftcalico schemas [--strict]\n"
-verb_usage verb.Compatible = codes "usage: riftcalico compatible [--quiet] OLD NEW NAME\n"
+verb_usage verb.Compatible = codes "usage: riftcalico compatible [--quiet] [--breaking-only] OLD NEW [NAME]\n"
 
 -- what a verb does
 abbrev pub verb_help : Verb → List ℕ
 verb_help verb.Show =
-    codes "usage: riftcalico show [--set FILE] [--packed] [--each [--keep-going]] NAME [--indent]\n"
+    codes "usage: riftcalico show [--set FILE] [--packed] [--limit BYTES] [--each [--keep-going]] NAME [--indent]\n"
     ++ codes "\n"
     ++ codes "Prints the root of the first message as a struct NAME, on one line, or with --indent on several. With --packed the\n"
-    ++ codes "message is read packed.\n"
+    ++ codes "message is read packed. No text is printed of more bytes than --limit, or else 1 GiB.\n"
     ++ codes "With --each all messages of the input are taken, one after another, and what is told names the message by number.\n"
     ++ codes "With --keep-going one that is refused is told and passed over.\n"
     ++ codes "NAME is a struct of the set in FILE, as 'riftcalico schemas' writes it, or else of the built-in set.\n"
 verb_help verb.Get =
-    codes "usage: riftcalico get [--set FILE] [--packed] [--each [--keep-going]] NAME PATH [--indent]\n"
+    codes "usage: riftcalico get [--set FILE] [--packed] [--limit BYTES] [--each [--keep-going]] NAME PATH [--indent]\n"
     ++ codes "\n"
     ++ codes "Prints what stands at PATH of the first message's root, a struct NAME. PATH has steps joined by '.': a field's name,\n"
     ++ codes "#3, a field by its number, or 4, an element of a list. '.' alone is the root. With --packed the message is read packed.\n"
+    ++ codes "No text is printed of more bytes than --limit, or else 1 GiB.\n"
+    ++ codes "With --each all messages of the input are taken, one after another, and what is told names the message by number.\n"
+    ++ codes "With --keep-going one that is refused is told and passed over.\n"
+    ++ codes "NAME is a struct of the set in FILE, as 'riftcalico schemas' writes it, or else of the built-in set.\n"
+verb_help verb.Json =
+    codes "usage: riftcalico json [--set FILE] [--packed] [--limit BYTES] [--each [--keep-going]] NAME [--indent]\n"
+    ++ codes "\n"
+    ++ codes "Prints the root of the first message, a struct NAME, as JSON, as the public library's codec does, on one line, or with\n"
+    ++ codes "--indent on several. Numbers of 64 bits are strings. With --packed the message is read packed. No JSON is printed of\n"
+    ++ codes "more bytes than --limit, or else 1 GiB.\n"
     ++ codes "With --each all messages of the input are taken, one after another, and what is told names the message by number.\n"
     ++ codes "With --keep-going one that is refused is told and passed over.\n"
     ++ codes "NAME is a struct of the set in FILE, as 'riftcalico schemas' writes it, or else of the built-in set.\n"
@@ -85,11 +97,14 @@ verb_help verb.Schemas =
     ++ codes "Reads a request of the public compiler, as 'capnp compile -o- FILE..' writes it, and writes its set of schemas.\n"
     ++ codes "With --strict floats and interfaces are refused.\n"
 verb_help verb.Compatible =
-    codes "usage: riftcalico compatible [--quiet] OLD NEW NAME\n"
+    codes "usage: riftcalico compatible [--quiet] [--breaking-only] OLD NEW [NAME]\n"
     ++ codes "\n"
     ++ codes "Tells what differs between the struct NAME of the set in the file OLD and that of the set in NEW, so that a program that\n"
     ++ codes "knows one can't read messages of the other: a line for each difference, and nothing where the newer struct follows the\n"
     ++ codes "older one. The status is then 0, and else 1. With --quiet nothing is printed. Sets are as 'riftcalico schemas' writes them.\n"
+    ++ codes "Without NAME all structs are compared whose names stand in both sets. Behind the differences a line that begins with\n"
+    ++ codes "'note:' tells each struct that went or came, unless --breaking-only stands there, and the last line how many structs are\n"
+    ++ codes "compatible and how many not. The status is 0 where all are.\n"
 
 -- what the program does, or one verb
 abbrev pub program_help : List ℕ
@@ -97,14 +112,15 @@ program_help =
     codes "Shows, makes and patches Cap'n Proto messages under schemas that are known at run time. Messages are read from standard\n"
     ++ codes "input and written to standard output.\n"
     ++ codes "\n"
-    ++ codes "usage: riftcalico show [--set FILE] [--packed] [--each [--keep-going]] NAME [--indent]\n"
-    ++ codes "       riftcalico get [--set FILE] [--packed] [--each [--keep-going]] NAME PATH [--indent]\n"
+    ++ codes "usage: riftcalico show [--set FILE] [--packed] [--limit BYTES] [--each [--keep-going]] NAME [--indent]\n"
+    ++ codes "       riftcalico get [--set FILE] [--packed] [--limit BYTES] [--each [--keep-going]] NAME PATH [--indent]\n"
+    ++ codes "       riftcalico json [--set FILE] [--packed] [--limit BYTES] [--each [--keep-going]] NAME [--indent]\n"
     ++ codes "       riftcalico check [--set FILE] [--packed] [--limit PARTS] [--all] [--each [--keep-going]] NAME [PATH]\n"
     ++ codes "       riftcalico patch [--set FILE] [--calls FILE] [--keep-going] [--packed] [--limit BYTES] [--each] NAME CALL..\n"
     ++ codes "       riftcalico new [--set FILE] [--calls FILE] [--keep-going] [--packed] [--limit BYTES] NAME CALL..\n"
     ++ codes "       riftcalico structs [--set FILE] [NAME]\n"
     ++ codes "       riftcalico schemas [--strict]\n"
-    ++ codes "       riftcalico compatible [--quiet] OLD NEW NAME\n"
+    ++ codes "       riftcalico compatible [--quiet] [--breaking-only] OLD NEW [NAME]\n"
     ++ codes "\n"
     ++ codes "More of a verb is told by 'riftcalico VERB --help', the version by 'riftcalico --version'.\n"
 

@@ -25,6 +25,8 @@ pub enum Flag {
     All,
     /// `--quiet`
     Quiet,
+    /// `--breaking-only`
+    BreakingOnly,
     /// `--help`
     Help,
 }
@@ -64,6 +66,7 @@ pub struct Options<'a> {
     pub strict: bool,
     pub all: bool,
     pub quiet: bool,
+    pub breaking_only: bool,
     pub help: bool,
     pub others: Vec<&'a str>,
     /// The option whose word comes next.
@@ -95,6 +98,7 @@ fn kind_of(word: &str) -> WordKind
         "--strict" => WordKind::Flag(Flag::Strict),
         "--all" => WordKind::Flag(Flag::All),
         "--quiet" => WordKind::Flag(Flag::Quiet),
+        "--breaking-only" => WordKind::Flag(Flag::BreakingOnly),
         "--help" => WordKind::Flag(Flag::Help),
         _ => {
             if is_option_word(word) {
@@ -119,6 +123,7 @@ fn put_flag(options: Options<'_>, flag: Flag) -> Options<'_>
         Flag::Strict => options.strict = true,
         Flag::All => options.all = true,
         Flag::Quiet => options.quiet = true,
+        Flag::BreakingOnly => options.breaking_only = true,
         Flag::Help => options.help = true,
     }
     options
@@ -196,6 +201,7 @@ pub fn read_options<'a>(
         strict: false,
         all: false,
         quiet: false,
+        breaking_only: false,
         help: false,
         others: Vec::new(alloc),
         waiting: None,

@@ -3,8 +3,9 @@ ghost use Rattle.std.specs.Prelude.{◌≡◌, IfErr, IfOk, map, string_bytes};
 ghost use Rattle.capnp_device.specs.declared.error.ErrorKind.TheVariants.{OutOfMemory};
 ghost use Rattle.std.specs.Option.{option_map};
 ghost use Rattle.riftcalico_words.specs.OptionsSeen.{options_seen};
-ghost use Rattle.riftcalico_words.specs.Requests.{asked_request, calls_asked, checked_of, compared_of, flags_fit, given_asked, going_fits, is_allowed, is_fitting, is_comparison, is_on_messages, is_reading, is_with_calls, limit_asked, messages_of, options_asked, plain_asked, shown_of, takes_flag, takes_value, values_fit, verb_of, verb_request};
-ghost use Rattle.riftcalico_words.specs.RequestSeen.{asked_seen, calls_task_of, get_task_of, given_of, limit_seen, task_seen};
+ghost use Rattle.riftcalico_words.specs.Requests.{asked_request, calls_asked, checked_of, compared_of, flags_fit, given_asked, going_fits, is_allowed, is_fitting, is_comparison, is_on_messages, is_reading, is_with_calls, json_of, limit_asked, messages_of, options_asked, plain_asked, shown_of, takes_flag, takes_value, values_fit, verb_of, verb_request};
+ghost use Rattle.riftcalico_words.specs.RequestSeen.{asked_seen, calls_task_of, get_task_of, given_of, task_seen};
+ghost use Rattle.riftcalico_words.specs.Steps.Limits.{limit_seen};
 ghost use Rattle.riftcalico_words.specs.Tasks.{task_messages};
 
 use crate::numbers::read_number;
@@ -12,7 +13,7 @@ use crate::options::{Flag, Options, ValueOption, read_options};
 use capnp_device::error::Result;
 use std::alloc::Global;
 
-/// The most bytes that are made where no other number is given: 1 GiB.
+/// The most bytes that are made, and the most parts that are looked at, where no other number is given: 2^30.
 pub const DEFAULT_LIMIT: u64 = 1 << 30;
 
 /// What is done.
@@ -22,6 +23,8 @@ pub enum Verb {
     Show,
     /// A value of a message is shown.
     Get,
+    /// A message is shown as JSON.
+    Json,
     /// A value of a message is looked at, whether it can be shown.
     Check,
     /// Calls are made on a copy of a message.
@@ -54,7 +57,19 @@ pub struct NamedRoot<'a> {
     pub name: &'a str,
 }
 
-/// The text of the value at a path, whether it is indented, whether the message comes packed, and of which messages.
+/// A message as JSON, whether it is indented, whether the message comes packed, of which messages, and the most bytes that a
+/// JSON may have.
+#[derive(Clone, Copy)]
+pub struct JsonRequest<'a> {
+    pub root: NamedRoot<'a>,
+    pub indented: bool,
+    pub packed: bool,
+    pub messages: Messages,
+    pub limit: u64,
+}
+
+/// The text of the value at a path, whether it is indented, whether the message comes packed, of which messages, and the most
+/// bytes that a text may have.
 #[derive(Clone, Copy)]
 pub struct GetRequest<'a> {
     pub root: NamedRoot<'a>,
@@ -62,6 +77,7 @@ pub struct GetRequest<'a> {
     pub indented: bool,
     pub packed: bool,
     pub messages: Messages,
+    pub limit: u64,
 }
 
 /// Whether the value at a path can be shown, or where it can't, first or everywhere, and the most parts of it that may be
@@ -95,13 +111,15 @@ pub struct CallsRequest<'a> {
     pub limit: u64,
 }
 
-/// The struct of a name in the sets of two files, an older and a newer one, and whether only the status is wanted.
+/// The struct of a name in the sets of two files, an older and a newer one, or all structs; whether only the status is
+/// wanted, and whether only what breaks is told.
 #[derive(Clone, Copy)]
 pub struct CompareRequest<'a> {
     pub older: &'a str,
     pub newer: &'a str,
-    pub name: &'a str,
+    pub name: Option<&'a str>,
     pub quiet: bool,
+    pub breaking_only: bool,
 }
 
 /// What is to be done.
@@ -109,6 +127,8 @@ pub struct CompareRequest<'a> {
 pub enum Task<'a> {
     /// A value of a message is shown; the whole message is the value at the path `.`.
     Get(GetRequest<'a>),
+    /// A message is shown as JSON.
+    Json(JsonRequest<'a>),
     /// A value of a message is looked at, whether it can be shown.
     Check(CheckRequest<'a>),
     /// Calls are made on a copy of a message.
@@ -153,6 +173,7 @@ pub fn get_messages(task: &Task<'_>) -> Messages
 {
     match task {
         Task::Get(request) => request.messages,
+        Task::Json(request) => request.messages,
         Task::Check(request) => request.messages,
         Task::Patch(request) => request.messages,
         Task::New(_)
@@ -172,6 +193,7 @@ fn read_verb(word: &str) -> Option<Verb>
     match word {
         "show" => Some(Verb::Show),
         "get" => Some(Verb::Get),
+        "json" => Some(Verb::Json),
         "check" => Some(Verb::Check),
         "patch" => Some(Verb::Patch),
         "new" => Some(Verb::New),
@@ -200,7 +222,7 @@ fn is_reading(verb: Verb) -> bool
     ensures { result ≡ is_reading verb }
 {
     match verb {
-        Verb::Show | Verb::Get | Verb::Check => true,
+        Verb::Show | Verb::Get | Verb::Json | Verb::Check => true,
         Verb::Patch | Verb::New | Verb::Structs | Verb::Schemas | Verb::Compatible => false,
     }
 }
@@ -235,10 +257,7 @@ fn takes_value(verb: Verb, option: ValueOption) -> bool
             _ => is_on_messages(verb),
         },
         ValueOption::Calls => is_with_calls(verb),
-        ValueOption::Limit => match verb {
-            Verb::Show | Verb::Get => false,
-            _ => is_on_messages(verb),
-        },
+        ValueOption::Limit => is_on_messages(verb),
     }
 }
 
@@ -265,7 +284,7 @@ fn takes_flag(verb: Verb, flag: Flag) -> bool
             Verb::Check => true,
             _ => false,
         },
-        Flag::Quiet => match verb {
+        Flag::Quiet | Flag::BreakingOnly => match verb {
             Verb::Compatible => true,
             _ => false,
         },
@@ -300,6 +319,7 @@ fn do_flags_fit(verb: Verb, options: &Options<'_>) -> bool
         && is_allowed(options.strict, verb, Flag::Strict)
         && is_allowed(options.all, verb, Flag::All)
         && is_allowed(options.quiet, verb, Flag::Quiet)
+        && is_allowed(options.breaking_only, verb, Flag::BreakingOnly)
 }
 
 /// Whether a verb that only reads is to go on behind a message that is refused only where there are several.
@@ -389,8 +409,8 @@ fn read_calls<'a>(
 }
 
 /// What is asked of the value at a path that is shown.
-fn read_shown<'a>(options: &Options<'a>, name: &'a str, path: &'a str) -> GetRequest<'a>
-    ensures { get_task_of result ≡ shown_of (options_seen options.now) name.now path.now }
+fn read_shown<'a>(options: &Options<'a>, limit: u64, name: &'a str, path: &'a str) -> GetRequest<'a>
+    ensures { get_task_of result ≡ shown_of (options_seen options.now) limit name.now path.now }
 {
     GetRequest {
         root: NamedRoot {
@@ -401,7 +421,24 @@ fn read_shown<'a>(options: &Options<'a>, name: &'a str, path: &'a str) -> GetReq
         indented: options.indent,
         packed: options.packed,
         messages: read_messages(options),
+        limit,
     }
+}
+
+/// What is asked of a message that is shown as JSON.
+fn read_json<'a>(options: &Options<'a>, limit: u64, name: &'a str) -> Task<'a>
+    ensures { task_seen result ≡ json_of (options_seen options.now) limit name.now }
+{
+    Task::Json(JsonRequest {
+        root: NamedRoot {
+            file: options.set,
+            name,
+        },
+        indented: options.indent,
+        packed: options.packed,
+        messages: read_messages(options),
+        limit,
+    })
 }
 
 /// What is asked of the value at a path that is looked at.
@@ -426,15 +463,17 @@ fn read_compared<'a>(
     options: &Options<'a>,
     older: &'a str,
     newer: &'a str,
-    name: &'a str,
+    name: Option<&'a str>,
 ) -> Task<'a>
-    ensures { task_seen result ≡ compared_of (options_seen options.now) older.now newer.now name.now }
+    ensures { task_seen result ≡ compared_of (options_seen options.now) older.now newer.now
+        (option_map (λ w. w.now) name.entry) }
 {
     Task::Compatible(CompareRequest {
         older,
         newer,
         name,
         quiet: options.quiet,
+        breaking_only: options.breaking_only,
     })
 }
 
@@ -444,15 +483,17 @@ fn read_plain<'a>(verb: Verb, options: &Options<'a>, limit: u64) -> Option<Task<
 {
     let file = options.set;
     match (verb, options.others.as_slice()) {
-        (Verb::Show, [name]) => Some(Task::Get(read_shown(options, *name, "."))),
-        (Verb::Get, [name, path]) => Some(Task::Get(read_shown(options, *name, *path))),
+        (Verb::Show, [name]) => Some(Task::Get(read_shown(options, limit, *name, "."))),
+        (Verb::Get, [name, path]) => Some(Task::Get(read_shown(options, limit, *name, *path))),
+        (Verb::Json, [name]) => Some(read_json(options, limit, *name)),
         (Verb::Check, [name]) => Some(read_checked(options, limit, *name, ".")),
         (Verb::Check, [name, path]) => Some(read_checked(options, limit, *name, *path)),
         (Verb::Structs, []) => Some(Task::Structs(file)),
         (Verb::Structs, [name]) => Some(Task::Fields(NamedRoot { file, name: *name })),
         (Verb::Schemas, []) => Some(Task::Convert(options.strict)),
+        (Verb::Compatible, [older, newer]) => Some(read_compared(options, *older, *newer, None)),
         (Verb::Compatible, [older, newer, name]) => {
-            Some(read_compared(options, *older, *newer, *name))
+            Some(read_compared(options, *older, *newer, Some(*name)))
         }
         _ => None,
     }
@@ -480,8 +521,13 @@ fn read_task<'a>(
             Some(request) => Ok(Some(Task::New(request))),
             None => Ok(None),
         },
-        Verb::Show | Verb::Get | Verb::Check | Verb::Structs | Verb::Schemas | Verb::Compatible =>
-            Ok(read_plain(verb, options, limit)),
+        Verb::Show
+        | Verb::Get
+        | Verb::Json
+        | Verb::Check
+        | Verb::Structs
+        | Verb::Schemas
+        | Verb::Compatible => Ok(read_plain(verb, options, limit)),
     }
 }
 
@@ -516,12 +562,13 @@ fn read_behind<'a>(alloc: Global, verb: Verb, words: &'a [String]) -> Result<Ask
 /// |---|---|
 /// |`show NAME`|a message is shown|
 /// |`get NAME PATH`|a value of a message is shown|
+/// |`json NAME`|a message is shown as JSON|
 /// |`check NAME`, `check NAME PATH`|a message is looked at, or a value of it, whether it can be shown|
 /// |`patch NAME CALL..`|calls are made on a copy of a message|
 /// |`new NAME CALL..`|calls are made on an empty root|
 /// |`structs`, `structs NAME`|the structs of a set are shown, or the fields of one|
 /// |`schemas`|a compiler's request is made a set|
-/// |`compatible OLD NEW NAME`|two versions of a struct are compared|
+/// |`compatible OLD NEW`, `compatible OLD NEW NAME`|two versions of all structs are compared, or of one|
 /// |`--help`, and behind a verb|help, of all or of the verb|
 /// |`--version`|the version|
 ///
@@ -529,16 +576,15 @@ fn read_behind<'a>(alloc: Global, verb: Verb, words: &'a [String]) -> Result<Ask
 ///
 /// |options|verbs|
 /// |---|---|
-/// |`--set FILE`|those on messages, which are the first five, and `structs`|
-/// |`--packed`|those on messages|
-/// |`--limit N`|the same but `show` and `get`|
-/// |`--indent`|`show`, `get`|
-/// |`--each`|`show`, `get`, `check`, `patch`|
+/// |`--set FILE`|those on messages, which are the first six, and `structs`|
+/// |`--packed`, `--limit N`|those on messages|
+/// |`--indent`|`show`, `get`, `json`|
+/// |`--each`|`show`, `get`, `json`, `check`, `patch`|
 /// |`--keep-going`|the same, of those that only read with `--each`, and `new`|
 /// |`--calls FILE`, with no call beside it|`patch`, `new`|
 /// |`--all`|`check`|
 /// |`--strict`|`schemas`|
-/// |`--quiet`|`compatible`|
+/// |`--quiet`, `--breaking-only`|`compatible`|
 ///
 /// Refused with `OutOfMemory` alone.
 pub fn read_words<'a>(alloc: Global, words: &'a [String]) -> Result<Asked<'a>>

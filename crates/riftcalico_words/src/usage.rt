@@ -12,38 +12,44 @@ use std::alloc::Global;
 pub const VERSION: &str = "riftcalico 0.1.0\n";
 
 const USAGE: &str = "\
-usage: riftcalico show [--set FILE] [--packed] [--each [--keep-going]] NAME [--indent]
-       riftcalico get [--set FILE] [--packed] [--each [--keep-going]] NAME PATH [--indent]
+usage: riftcalico show [--set FILE] [--packed] [--limit BYTES] [--each [--keep-going]] NAME [--indent]
+       riftcalico get [--set FILE] [--packed] [--limit BYTES] [--each [--keep-going]] NAME PATH [--indent]
+       riftcalico json [--set FILE] [--packed] [--limit BYTES] [--each [--keep-going]] NAME [--indent]
        riftcalico check [--set FILE] [--packed] [--limit PARTS] [--all] [--each [--keep-going]] NAME [PATH]
        riftcalico patch [--set FILE] [--calls FILE] [--keep-going] [--packed] [--limit BYTES] [--each] NAME CALL..
        riftcalico new [--set FILE] [--calls FILE] [--keep-going] [--packed] [--limit BYTES] NAME CALL..
        riftcalico structs [--set FILE] [NAME]
        riftcalico schemas [--strict]
-       riftcalico compatible [--quiet] OLD NEW NAME
+       riftcalico compatible [--quiet] [--breaking-only] OLD NEW [NAME]
 ";
 
 const HELP: &str = "\
 Shows, makes and patches Cap'n Proto messages under schemas that are known at run time. Messages are read from standard
 input and written to standard output.
 
-usage: riftcalico show [--set FILE] [--packed] [--each [--keep-going]] NAME [--indent]
-       riftcalico get [--set FILE] [--packed] [--each [--keep-going]] NAME PATH [--indent]
+usage: riftcalico show [--set FILE] [--packed] [--limit BYTES] [--each [--keep-going]] NAME [--indent]
+       riftcalico get [--set FILE] [--packed] [--limit BYTES] [--each [--keep-going]] NAME PATH [--indent]
+       riftcalico json [--set FILE] [--packed] [--limit BYTES] [--each [--keep-going]] NAME [--indent]
        riftcalico check [--set FILE] [--packed] [--limit PARTS] [--all] [--each [--keep-going]] NAME [PATH]
        riftcalico patch [--set FILE] [--calls FILE] [--keep-going] [--packed] [--limit BYTES] [--each] NAME CALL..
        riftcalico new [--set FILE] [--calls FILE] [--keep-going] [--packed] [--limit BYTES] NAME CALL..
        riftcalico structs [--set FILE] [NAME]
        riftcalico schemas [--strict]
-       riftcalico compatible [--quiet] OLD NEW NAME
+       riftcalico compatible [--quiet] [--breaking-only] OLD NEW [NAME]
 
 More of a verb is told by 'riftcalico VERB --help', the version by 'riftcalico --version'.
 ";
 
 const SHOW_USAGE: &str = "\
-usage: riftcalico show [--set FILE] [--packed] [--each [--keep-going]] NAME [--indent]
+usage: riftcalico show [--set FILE] [--packed] [--limit BYTES] [--each [--keep-going]] NAME [--indent]
 ";
 
 const GET_USAGE: &str = "\
-usage: riftcalico get [--set FILE] [--packed] [--each [--keep-going]] NAME PATH [--indent]
+usage: riftcalico get [--set FILE] [--packed] [--limit BYTES] [--each [--keep-going]] NAME PATH [--indent]
+";
+
+const JSON_USAGE: &str = "\
+usage: riftcalico json [--set FILE] [--packed] [--limit BYTES] [--each [--keep-going]] NAME [--indent]
 ";
 
 const CHECK_USAGE: &str = "\
@@ -67,24 +73,36 @@ usage: riftcalico schemas [--strict]
 ";
 
 const COMPATIBLE_USAGE: &str = "\
-usage: riftcalico compatible [--quiet] OLD NEW NAME
+usage: riftcalico compatible [--quiet] [--breaking-only] OLD NEW [NAME]
 ";
 
 const SHOW_HELP: &str = "\
-usage: riftcalico show [--set FILE] [--packed] [--each [--keep-going]] NAME [--indent]
+usage: riftcalico show [--set FILE] [--packed] [--limit BYTES] [--each [--keep-going]] NAME [--indent]
 
 Prints the root of the first message as a struct NAME, on one line, or with --indent on several. With --packed the
-message is read packed.
+message is read packed. No text is printed of more bytes than --limit, or else 1 GiB.
 With --each all messages of the input are taken, one after another, and what is told names the message by number.
 With --keep-going one that is refused is told and passed over.
 NAME is a struct of the set in FILE, as 'riftcalico schemas' writes it, or else of the built-in set.
 ";
 
 const GET_HELP: &str = "\
-usage: riftcalico get [--set FILE] [--packed] [--each [--keep-going]] NAME PATH [--indent]
+usage: riftcalico get [--set FILE] [--packed] [--limit BYTES] [--each [--keep-going]] NAME PATH [--indent]
 
 Prints what stands at PATH of the first message's root, a struct NAME. PATH has steps joined by '.': a field's name,
 #3, a field by its number, or 4, an element of a list. '.' alone is the root. With --packed the message is read packed.
+No text is printed of more bytes than --limit, or else 1 GiB.
+With --each all messages of the input are taken, one after another, and what is told names the message by number.
+With --keep-going one that is refused is told and passed over.
+NAME is a struct of the set in FILE, as 'riftcalico schemas' writes it, or else of the built-in set.
+";
+
+const JSON_HELP: &str = "\
+usage: riftcalico json [--set FILE] [--packed] [--limit BYTES] [--each [--keep-going]] NAME [--indent]
+
+Prints the root of the first message, a struct NAME, as JSON, as the public library's codec does, on one line, or with
+--indent on several. Numbers of 64 bits are strings. With --packed the message is read packed. No JSON is printed of
+more bytes than --limit, or else 1 GiB.
 With --each all messages of the input are taken, one after another, and what is told names the message by number.
 With --keep-going one that is refused is told and passed over.
 NAME is a struct of the set in FILE, as 'riftcalico schemas' writes it, or else of the built-in set.
@@ -140,11 +158,14 @@ With --strict floats and interfaces are refused.
 ";
 
 const COMPATIBLE_HELP: &str = "\
-usage: riftcalico compatible [--quiet] OLD NEW NAME
+usage: riftcalico compatible [--quiet] [--breaking-only] OLD NEW [NAME]
 
 Tells what differs between the struct NAME of the set in the file OLD and that of the set in NEW, so that a program that
 knows one can't read messages of the other: a line for each difference, and nothing where the newer struct follows the
 older one. The status is then 0, and else 1. With --quiet nothing is printed. Sets are as 'riftcalico schemas' writes them.
+Without NAME all structs are compared whose names stand in both sets. Behind the differences a line that begins with
+'note:' tells each struct that went or came, unless --breaking-only stands there, and the last line how many structs are
+compatible and how many not. The status is 0 where all are.
 ";
 
 /// How a verb is called.
@@ -154,6 +175,7 @@ fn get_verb_usage(verb: Verb) -> &'static str
     match verb {
         Verb::Show => SHOW_USAGE,
         Verb::Get => GET_USAGE,
+        Verb::Json => JSON_USAGE,
         Verb::Check => CHECK_USAGE,
         Verb::Patch => PATCH_USAGE,
         Verb::New => NEW_USAGE,
@@ -170,6 +192,7 @@ fn get_verb_help(verb: Verb) -> &'static str
     match verb {
         Verb::Show => SHOW_HELP,
         Verb::Get => GET_HELP,
+        Verb::Json => JSON_HELP,
         Verb::Check => CHECK_HELP,
         Verb::Patch => PATCH_HELP,
         Verb::New => NEW_HELP,

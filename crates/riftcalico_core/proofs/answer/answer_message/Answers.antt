@@ -18,3 +18,6 @@ pub returns-in-Convert-clause-refused : goal.returns-in-Convert-clause-refused
 returns-in-Convert-clause-refused c =
     subst (λ (x : Job). IfErr c.blame-in-Convert.result (λ f. f.error.kind ≢ OutOfMemory → IsNoMessageAnswer x c.args.message.now f)) (sym c.in-Convert.is)
     (blamed_so c.answer_convert.result c.blame-in-Convert.result Input (λ e. HasNoSet c.in-Convert.strict c.args.message.now e) c.answer_convert.ensures.refused c.blame-in-Convert.ensures.refused)
+
+pub returns-in-Get-clause-refused : goal.returns-in-Get-clause-refused
+returns-in-Get-clause-refused c = subst (λ (x : Job). IfErr c.answer_get.result (λ f. f.error.kind ≢ OutOfMemory → IsNoMessageAnswer x c.args.message.now f)) (sym c.in-Get.is) c.answer_get.ensures.refused

@@ -12,3 +12,6 @@ returns-clause-found c =
     let number = rw c.in-Some.is at c.in_ok-refusal.ensures.number in
     let place = rw c.in-Some.is at c.in_ok-refusal.ensures.place in
     not_shown c.args.schema (path_seen c.args.steps.now) c.args.message.now c.in_ok-note_fault.field-0 c.in-Some.refusal c.in_ok-note_fault.ensures.error c.in_ok-note_fault.ensures.note number place
+
+pub returns-in_default-clause-few : goal.returns-in_default-clause-few
+returns-in_default-clause-few c = λ none. c.in_ok-refusal.ensures.few c.in_default.is

@@ -3,7 +3,7 @@ use Rattle.capnp_call.specs.Seen.{path_seen}
 use Rattle.capnp_patch.specs.Gets.{got_text}
 use Rattle.capnp_schema.specs.StructHandles.{number_of, set_of}
 use Rattle.riftcalico_core.proofs.Told.{not_both}
-use Rattle.riftcalico_core.proofs.answer.explain.Goals as goal
+use Rattle.riftcalico_core.proofs.answer.explain_refusal.Goals as goal
 
 pub returns-in-Ok-None-clause-shown : goal.returns-in-Ok-None-clause-shown
 returns-in-Ok-None-clause-shown c =
