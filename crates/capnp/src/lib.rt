@@ -16,9 +16,9 @@ pub mod any_pointer {
 /// Compatible successors of a schema, reads of one under the other, and why a schema is none.
 pub mod compatible {
     pub use capnp_compatible::Compatible;
-    pub use capnp_differences::{Cause, Difference, Pair, explain};
+    pub use capnp_differences::{Cause, Difference, Explanation, Pair, explain, explain_all};
     pub use capnp_joined_sets::join;
-    pub use capnp_versions::{Comparison, compare};
+    pub use capnp_versions::{Comparison, FullComparison, compare, compare_all, get_report};
 }
 
 /// Data: bytes as they stand.
@@ -57,6 +57,13 @@ pub mod introspect {
     };
 }
 
+/// Values and messages as JSON.
+pub mod json {
+    pub use capnp_json::error::JsonError;
+    pub use capnp_json::json::to_json;
+    pub use capnp_json::message::message_to_json;
+}
+
 /// Messages as they are received, and as they are built.
 pub mod message {
     pub use capnp_arena::list_builder::ListBuilder;
@@ -74,7 +81,7 @@ pub mod message {
 pub mod patch {
     pub use capnp_call::calls::{any_refused, is_refused};
     pub use capnp_patch::engine::run_bytes;
-    pub use capnp_patch::get::get_line;
+    pub use capnp_patch::get::{get_line, get_line_within};
     pub use capnp_patch::lines::get_lines;
     pub use capnp_patch::reach::read_path;
     pub use capnp_words::call::{CallWord, WordOp, parse_call};
@@ -85,7 +92,7 @@ pub mod patch {
 
 /// Values as text.
 pub mod printer {
-    pub use capnp_dynamic::printer::print;
+    pub use capnp_dynamic::printer::{print, print_within};
 }
 
 /// Sets from the requests of the public compiler.

@@ -64,7 +64,7 @@ impl<'a> Builder<'a> {
         PointerBuilder { arena, at }
     }
 
-    /// The same pointer for a shorter time. What is left there is what this builder has then.
+    /// This pointer for a shorter time. What is left there is what this builder has then.
     pub fn reborrow(&mut self) -> Builder<'_>
         ensures* lends { sem 𝓛 (LendsPointer self.entry (arena_behind result)) }
         ensures now { (arena_behind result).now ≡ (arena_behind self.old).now }

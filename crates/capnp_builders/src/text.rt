@@ -289,7 +289,7 @@ impl<'a> Builder<'a> {
         self.into_reader().as_bytes()
     }
 
-    /// The same text as a `str`, or the error that says how many bytes of it are UTF-8.
+    /// The text as a `str`, or the error that says how many bytes of it are UTF-8.
     pub fn to_str(self) -> std::result::Result<&'a str, Utf8Error>
         requires { IsBuiltText self }
         ensures { IsStrOf (text_bytes self.entry) result }

@@ -402,7 +402,7 @@ fn get_untyped_data(message: &mut Builder, want: &[u8]) -> Result<bool>
     built_data_is(root.get_as::<data::Builder<'_>>(), want)
 }
 
-/// The same of a pointer that is lent.
+/// Whether a pointer is null, of one that is lent.
 fn is_null_lent(pointer: any_pointer::Builder<'_>, want: &[u8]) -> bool
     requires { IsUntypedPointer pointer }
     ensures { segment pointer.exit.0.now ≡ segment (arena_behind pointer.entry).now }

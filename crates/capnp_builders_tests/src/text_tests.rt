@@ -76,7 +76,7 @@ static PUSHED: [(Push, bool, usize, &str); 4] = [
     (Push::Clear, false, 5, "\0\0\0\0\0"),
 ];
 
-/// The same through a builder that is lent for a shorter time.
+/// Writes through a builder that is lent for a shorter time.
 fn write_reborrowed(builder: Builder<'_>, push: Push) -> bool
     requires { IsBuiltText builder }
     ensures forest { Forest (segment builder.exit.0.now) (text_word builder.entry) }

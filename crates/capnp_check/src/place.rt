@@ -33,7 +33,7 @@ pub struct RefusedPlace {
     pub kind: ErrorKind,
     /// The steps that lead to it from the value.
     pub path: Vec<PlaceStep>,
-    /// The same as words, each behind a point: a field by its name, an element by its index.
+    /// The steps as words, each behind a point: a field by its name, an element by its index.
     pub words: String,
 }
 

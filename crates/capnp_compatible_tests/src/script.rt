@@ -173,8 +173,8 @@ pub(crate) fn pairs_hold(rt: &impl Abort, alloc: Global, others: &'static str, r
     }
 }
 
-/// The same of structs 9 and 10, where a list in the first became one of structs: a line has the first, and the struct
-/// that stands where an element stood.
+/// Rows of structs 9 and 10, where a list in the first became one of structs: a line has the first, and the struct that
+/// stands where an element stood.
 pub(crate) fn lists_hold(rt: &impl Abort, alloc: Global, rows: &'static str) {
     for row in rows.lines() {
         let (numbers, pair, follows) = parts_of(row);

@@ -56,7 +56,7 @@ fn part<'a>(reader: dynamic_struct::Reader<'a>, brand: u32, index: u16) -> Resul
     reader.get(field)
 }
 
-/// The same of a field that can always be read.
+/// What field `index` of a record of brand `brand` has, where it can always be read.
 fn sure_part<'a>(reader: dynamic_struct::Reader<'a>, brand: u32, index: u16) -> Value<'a>
     requires record { IsRequestRecord brand reader }
     requires field { IsRequestField brand index (field_at request_set brand index).type }

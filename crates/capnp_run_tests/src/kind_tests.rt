@@ -20,7 +20,7 @@ const FULL_TEXT: &str =
      0x\"07\"], points = [(x = 1, y = 2), (x = 3, y = -1)], rows = [[1, -1], [], [2]], named = \
      (name = \"me\", times = 4))";
 
-/// The same with the elements that `ELEMENTS` sets.
+/// The text of the struct with the elements that `ELEMENTS` sets.
 const SET_TEXT: &str =
     "(void = (), truth = true, lie = false, int8 = -128, int16 = -32768, int32 = -2147483648, \
      int64 = -9223372036854775808, uint8 = 255, uint16 = 65535, uint32 = 4294967295, uint64 = \

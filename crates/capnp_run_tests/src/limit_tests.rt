@@ -45,7 +45,7 @@ initn bytes 40 -> Refused(1)
 initn bytes 40 -> Done
 get t -> Text(a)";
 
-/// The same on a builder: the third text has no room, and a shorter one has.
+/// Texts that are set on a builder: the third has no room, and a shorter one has.
 const NOT_COMPACTED: &str = "\
 set t Text(abcdefghijklmnop) -> Done
 set t Text(bcdefghijklmnopq) -> Done
@@ -113,7 +113,7 @@ fn call_and_compact(
     Ok((full, compacted))
 }
 
-/// The same of rows of text on an empty root.
+/// The first of these rows of text that was answered otherwise on an empty root.
 fn run_rows(alloc: Global, text: &str) -> Result<(String, bool)> {
     let schemas = new_set(alloc)?;
     let schema = schema_of(&schemas, LISTS)?;

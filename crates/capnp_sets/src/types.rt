@@ -163,7 +163,7 @@ fn type_lists(context: &Context<'_>, elements: &ListReader<'_>) -> Result<Vec<Ve
     Ok(out)
 }
 
-/// The same of the list that a field has.
+/// The types of each list of types in the list that a field has.
 #[inline(always)]
 pub(crate) fn type_lists_at(
     context: &Context<'_>,

@@ -140,7 +140,7 @@ fn wanted(
     Ok(format!(in alloc; "{opened} {unread} {status} {shown}|{told}")?)
 }
 
-/// The same, of a line: a refusal, the usage, or what is shown.
+/// What has to come of words, of which a line is told: a refusal, the usage, or what is shown.
 pub(crate) fn wanted_line(
     alloc: Global,
     words: &str,
@@ -275,7 +275,7 @@ fn calls_of_row_fail(
 pub(crate) enum Way {
     /// That it has its line, and that its message is read.
     Read,
-    /// The same, and that its message is not read.
+    /// That it has its line, and that its message is not read.
     Unread,
     Beginnings,
     RefusedSet,

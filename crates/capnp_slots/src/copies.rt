@@ -108,7 +108,7 @@ pub(crate) fn copies_source(variant: TypeVariant, source: Source<'_>) -> Result<
     }
 }
 
-/// The same of a field's slot.
+/// Whether a field's slot takes a copy of a source that stands behind a pointer. Refused as `copies_source`.
 pub(crate) fn copies_to(field: Field<'_>, source: Source<'_>) -> Result<bool>
     requires { IsPointed (source_seen source) }
     ensures takes { IfOk result (TakesSource field.entry (source_seen source.entry)) }

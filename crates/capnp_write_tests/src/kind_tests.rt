@@ -11,7 +11,7 @@ const SET_FIELDS: &str = "set void Given | set truth Given | set lie Given | set
     set colors Given | set texts Given | set blobs Given | set points Given | \
     set rows Given | set any Given | set none Given | set count Given | set named Given";
 
-/// The same of an element of each list.
+/// The set of an element of each list to the value that is given.
 const SET_ELEMENTS: &str =
     "set numbers.1 Given | set flags.1 Given | set voids.1 Given | set wide.1 Given | \
     set colors.1 Given | set texts.1 Given | set blobs.1 Given | set points.1 Given | \
@@ -118,7 +118,7 @@ static FIELD_ROWS: [(&str, &str, &str); 16] = [
     ),
 ];
 
-/// The same for each element, in a message with a value in each field.
+/// Rows of each element, in a message with a value in each field.
 static ELEMENT_ROWS: [(&str, &str, &str); 16] = [
     (
         "kinds from full given Read kinds full void",

@@ -63,7 +63,7 @@ fn set_root_as(message: &mut Builder, value: Value<'_>) -> u32
     }
 }
 
-/// The same of a message whose root is a text, and the message then.
+/// Sets the root of a message, which was a text, to a value: the number of the refusal, and the message then.
 fn root_set(alloc: Global, value: Value<'_>) -> Result<(u32, Vec<u8>)> {
     let mut message = Builder::new(alloc)?;
     message.root().set_text(b"before")?;
@@ -71,7 +71,7 @@ fn root_set(alloc: Global, value: Value<'_>) -> Result<(u32, Vec<u8>)> {
     Ok((number, message.write_message()?))
 }
 
-/// The same of a value that a text names.
+/// Sets the root of a message, which was a text, to a value that a text names.
 fn root_set_to(alloc: Global, text: &str) -> Result<(u32, Vec<u8>)> {
     let (name, _) = text.split_once(' ').unwrap_or((text, ""));
     let schemas = set_of(alloc, name)?;
@@ -177,7 +177,7 @@ fn element_type_read(alloc: Global, text: &str) -> Result<Type> {
     }
 }
 
-/// The same of the list of a field of a new struct.
+/// The type of the elements of a list that is a field of a new struct.
 fn element_type_built(alloc: Global, name: &str, field: &str) -> Result<Type> {
     let schemas = set_of(alloc, name)?;
     let mut message = Builder::new(alloc)?;

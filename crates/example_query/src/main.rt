@@ -19,7 +19,7 @@ fn describe(field: Field<'_>, out: &mut String) -> Result<()> {
     Ok(())
 }
 
-/// The same of all fields of a struct, a line each.
+/// The names of all fields of a struct, and the bits or pointers that they occupy, a line each.
 fn describe_all(alloc: Global, schema: StructSchema<'_>) -> Result<String> {
     let mut out = String::new(alloc);
     let fields = schema.get_fields()?;

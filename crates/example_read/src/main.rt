@@ -38,7 +38,7 @@ fn read(alloc: Global, bytes: &[u8]) -> Result<u16> {
     )
 }
 
-/// The same of the message on standard input, printed.
+/// Prints the number of the message on standard input.
 fn main(rt: HostRuntime) -> Result<()> {
     let bytes = read_all(rt.alloc(), &mut ReadSource::new(rt.stdin()))?;
     let number = read(rt.alloc(), &bytes)?;

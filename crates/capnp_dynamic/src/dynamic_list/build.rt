@@ -73,7 +73,7 @@ impl<'a> Builder<'a> {
         }
     }
 
-    /// The same list for a shorter time. What is left of it is what this builder has then.
+    /// This list for a shorter time. What is left of it is what this builder has then.
     pub fn reborrow(&mut self) -> Builder<'_>
         ensures* lends { sem 𝓛 (LendsList self.entry result) }
         ensures element { built_type result ≡ built_type self.old }

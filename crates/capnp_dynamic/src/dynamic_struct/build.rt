@@ -109,7 +109,7 @@ impl<'a> Builder<'a> {
         })
     }
 
-    /// The same struct for a shorter time. What is left of it is what this builder has then.
+    /// This struct for a shorter time. What is left of it is what this builder has then.
     pub fn reborrow(&mut self) -> Builder<'_>
         ensures* lends { sem 𝓛 (LendsStruct self.entry result) }
         ensures schema { built_schema result ≡ built_schema self.old }
@@ -313,7 +313,7 @@ impl<'a> Builder<'a> {
         self.clear(field)
     }
 
-    /// The same struct by the handle of a struct type, which has to be that of the schema.
+    /// This struct by the handle of a struct type, which has to be that of the schema.
     pub fn downcast<T: OwnedStruct<'a>>(self) -> T::Builder
         requires { seen_type T.type_of ≡ struct_type (built_schema self) }
         ensures { T.Builder.from_gives (handle_of self.entry) result }

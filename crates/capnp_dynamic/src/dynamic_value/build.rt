@@ -77,7 +77,7 @@ pub trait DowncastBuilder<'a>: Sized {
 }
 
 impl<'a> Builder<'a> {
-    /// The same value for a shorter time.
+    /// This value for a shorter time.
     pub fn reborrow(&mut self) -> Builder<'_>
         ensures { StandsAs result self.old }
     {
