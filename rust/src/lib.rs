@@ -33,7 +33,7 @@
 //!
 //! A null struct reads as its default. Of a struct that has a field of its own kind that is a struct with such a null
 //! again, without an end: a walk over all fields asks `has` before `get`, as the printer does. Pointers of a message may
-//! share a target, so a walk can be far longer than the message.
+//! share a target, so a walk can be far longer than the message: [`printer::print_within`] has a limit.
 //!
 //! # Memory
 //!
@@ -68,9 +68,9 @@ pub mod any_pointer {
 /// Compatible successors of a schema, reads of one under the other, and why a schema is none.
 pub mod compatible {
     pub use crate::capnp_compatible::Compatible;
-    pub use crate::capnp_differences::{explain, Cause, Difference, Pair};
+    pub use crate::capnp_differences::{explain, explain_all, Cause, Difference, Explanation, Pair};
     pub use crate::capnp_joined_sets::join;
-    pub use crate::capnp_versions::{compare, Comparison};
+    pub use crate::capnp_versions::{compare, compare_all, get_report, Comparison, FullComparison};
 }
 
 /// Data: bytes as they stand.
@@ -107,6 +107,13 @@ pub mod introspect {
     pub use crate::capnp_base::introspect::{Introspect, RawBrandedStructSchema, RawEnumSchema, Type, TypeVariant};
 }
 
+/// Values and messages as JSON.
+pub mod json {
+    pub use crate::capnp_json::error::JsonError;
+    pub use crate::capnp_json::json::to_json;
+    pub use crate::capnp_json::message::message_to_json;
+}
+
 /// The allocator, and vectors and strings whose growth can be refused.
 pub mod memory {
     pub use crate::rattle_std::alloc::{AllocError, Global};
@@ -130,7 +137,7 @@ pub mod message {
 pub mod patch {
     pub use crate::capnp_call::calls::{any_refused, is_refused};
     pub use crate::capnp_patch::engine::run_bytes;
-    pub use crate::capnp_patch::get::get_line;
+    pub use crate::capnp_patch::get::{get_line, get_line_within};
     pub use crate::capnp_patch::lines::get_lines;
     pub use crate::capnp_patch::reach::read_path;
     pub use crate::capnp_words::call::{parse_call, CallWord, WordOp};
@@ -142,7 +149,7 @@ pub mod patch {
 
 /// Values as text.
 pub mod printer {
-    pub use crate::capnp_dynamic::printer::print;
+    pub use crate::capnp_dynamic::printer::{print, print_within};
     pub use crate::one_call::to_string;
 }
 

@@ -3,6 +3,7 @@
 use super::alloc::Global;
 use std::fs::File;
 use std::io::{self, Read, Write};
+use std::process;
 
 /// What a program is given when it starts.
 pub struct HostRuntime;
@@ -76,10 +77,20 @@ impl Read for Stream {
 
 impl Write for Stream {
     fn write(&mut self, bytes: &[u8]) -> io::Result<usize> {
-        self.0.as_mut().ok_or_else(closed)?.write(bytes)
+        self.0.as_mut().ok_or_else(closed)?.write(bytes).inspect_err(end_unread)
     }
 
     fn flush(&mut self) -> io::Result<()> {
-        self.0.as_mut().ok_or_else(closed)?.flush()
+        self.0.as_mut().ok_or_else(closed)?.flush().inspect_err(end_unread)
+    }
+}
+
+/// The status of a program that wrote to a pipe that nobody reads, as a shell tells it: 128 and the signal's number.
+const UNREAD: i32 = 141;
+
+/// Ends the program where nobody reads what it writes. Rust ignores the signal that would end it without a word.
+fn end_unread(error: &io::Error) {
+    if error.kind() == io::ErrorKind::BrokenPipe {
+        process::exit(UNREAD);
     }
 }

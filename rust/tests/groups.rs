@@ -231,6 +231,24 @@ fn output_of(program: &str, words: &[&str], input: &[u8]) -> Vec<u8> {
 }
 
 #[test]
+fn a_pipe_that_nobody_reads_ends_the_program_quietly() {
+    let mut child = Command::new(RIFTCALICO)
+        .args(["show", "--each", "Flat"])
+        .stdin(Stdio::piped())
+        .stdout(Stdio::piped())
+        .stderr(Stdio::piped())
+        .spawn()
+        .expect("the program is there");
+    drop(child.stdout.take());
+    let mut stdin = child.stdin.take().expect("the input is a pipe");
+    // The program may be gone before all is read.
+    drop(stdin.write_all(include_bytes!("../../examples/flat.bin")));
+    drop(stdin);
+    let output = child.wait_with_output().expect("the program ends");
+    assert_eq!((output.status.code(), output.stderr), (Some(141), Vec::new()));
+}
+
+#[test]
 fn groups_in_one_another_are_listed() {
     let file = set_file("listed.set", LISTED, 1_001);
     let file = file.to_str().expect("cargo's folder is text");

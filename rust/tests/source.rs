@@ -8,6 +8,7 @@
 mod rattle_std;
 
 mod floats;
+mod json;
 mod json_text;
 mod memory;
 mod refusing;
