@@ -233,7 +233,7 @@ impl Arena {
         Ok(())
     }
 
-    /// The same of a word.
+    /// Makes a pointer lead to this word at the end, with zeros up to so many words. Refused with `OutOfMemory`.
     #[inline(always)]
     fn make_tagged(&mut self, at: usize, word: u64, words: usize, tag: u64) -> Result<()>
         requires inside { at < word_count (segment self.old) }

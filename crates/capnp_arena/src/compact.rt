@@ -34,7 +34,7 @@ pub(crate) fn append_encoding(out: &mut Vec<u8>, bytes: &[u8]) -> Appended
     append_anew(out, bytes)
 }
 
-/// The same, made from the tree.
+/// The root pointer and what it leads to, made from the tree.
 pub(crate) fn append_anew(out: &mut Vec<u8>, bytes: &[u8]) -> Appended
     requires forest { Forest bytes.now 0 }
     requires few { word_count bytes.now < words_past_format }

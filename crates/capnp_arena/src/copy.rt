@@ -291,7 +291,7 @@ pub(crate) fn fill_row(arena: &mut Arena, at: usize, pointers: Pointers<'_>) -> 
     Ok(())
 }
 
-/// The same of one struct of a list: its data and its pointers.
+/// Puts one struct of a list into its room, data and pointers, and appends what its pointers lead to.
 #[cycle(copy)]
 #[inline(always)]
 fn fill_element(arena: &mut Arena, at: usize, parts: StructParts<'_>) -> Result<()>
@@ -310,7 +310,7 @@ fn fill_element(arena: &mut Arena, at: usize, parts: StructParts<'_>) -> Result<
     Ok(())
 }
 
-/// The same of the structs of a list in a row.
+/// Puts the structs of a list in a row into their room, and appends what their pointers lead to.
 #[cycle(copy)]
 fn fill_elements(
     arena: &mut Arena,

@@ -61,7 +61,7 @@ pub(crate) fn count_words(bytes: &[u8], w: usize) -> Option<u64>
     count_below(bytes, w, MEMORY_DEPTH)
 }
 
-/// The same where one level less than `depth` is left.
+/// The words of all that the pointer at a word leads to, where one level less than `depth` is left.
 #[cycle(count)]
 fn count_below(bytes: &[u8], w: usize, depth: u8) -> Option<u64>
     requires forest { Forest bytes.now w }

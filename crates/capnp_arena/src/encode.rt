@@ -291,7 +291,7 @@ pub(crate) fn fill_row(
     Ok(())
 }
 
-/// The same of structs in a row, each of this size: their data and their pointers.
+/// Puts structs in a row, each of this size, into their room, and appends what their pointers lead to.
 #[cycle(append)]
 fn fill_elements(
     out: &mut Vec<u8>,
@@ -331,7 +331,7 @@ fn fill_elements(
     Ok(())
 }
 
-/// The same of one struct.
+/// Puts one struct into its room, and appends what its pointers lead to.
 #[cycle(append)]
 #[inline(always)]
 fn fill_element(

@@ -186,7 +186,7 @@ fn follow(bytes: &[u8], w: usize, end: usize, depth: u8) -> Option<usize>
     }
 }
 
-/// The same, in line where no pointers are behind the target.
+/// Where all ends that the pointer at a word leads to, in line where no pointers are behind the target.
 #[cycle(order)]
 #[inline(always)]
 fn follow_at(bytes: &[u8], w: usize, end: usize, depth: u8) -> Option<usize>
@@ -230,7 +230,7 @@ fn follow_at(bytes: &[u8], w: usize, end: usize, depth: u8) -> Option<usize>
     }
 }
 
-/// The same of so many pointers in a row.
+/// Where all ends that so many pointers in a row lead to.
 #[cycle(order)]
 #[inline(always)]
 fn follow_row(bytes: &[u8], first: usize, count: usize, end: usize, depth: u8) -> Option<usize>
@@ -247,7 +247,7 @@ fn follow_row(bytes: &[u8], first: usize, count: usize, end: usize, depth: u8) -
     Some(next)
 }
 
-/// The same of so many structs in a row.
+/// Where all ends that so many structs in a row lead to.
 #[cycle(order)]
 fn follow_elements(
     bytes: &[u8],

@@ -38,7 +38,7 @@ impl<'a> ListBuilder<'a> {
     ghost use Rattle.capnp_arena.specs.Segment.{segment};
     ghost use Rattle.capnp_arena.specs.Shape.{shape_at, word_count};
 
-    /// The same list for a shorter time. What is left there is what this builder has then.
+    /// This list for a shorter time. What is left there is what this builder has then.
     #[inline(always)]
     pub fn reborrow(&mut self) -> ListBuilder<'_>
         ensures* lends { sem 𝓛 (LentByList self.entry result.arena) }

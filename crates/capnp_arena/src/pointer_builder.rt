@@ -43,7 +43,7 @@ impl<'a> PointerBuilder<'a> {
     ghost use Rattle.capnp_arena.specs.Segment.{segment};
     ghost use Rattle.capnp_arena.specs.Shape.{StructIn, shape_at, word_count};
 
-    /// The same pointer for a shorter time. What is left there is what this builder has then.
+    /// This pointer for a shorter time. What is left there is what this builder has then.
     #[inline(always)]
     pub fn reborrow(&mut self) -> PointerBuilder<'_>
         ensures* lends { sem 𝓛 (LentByPointer self.entry result.arena) }

@@ -81,7 +81,7 @@ pub(crate) fn write_number<T: PrimitiveElement>(
     T::write(&mut out[at..at + count], offset, value);
 }
 
-/// The same of a number that is stored XORed with its default `mask`.
+/// A number in a part of bytes, at an offset in units of its width, stored XORed with its default `mask`.
 #[inline(always)]
 pub(crate) fn write_number_mask<T: PrimitiveElement>(
     out: &mut Vec<u8>,

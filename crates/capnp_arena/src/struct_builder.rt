@@ -34,7 +34,7 @@ impl<'a> StructBuilder<'a> {
     ghost use Rattle.capnp_arena.specs.Segment.{segment};
     ghost use Rattle.capnp_arena.specs.Shape.{StructIn, word_count};
 
-    /// The same struct for a shorter time. What is left there is what this builder has then.
+    /// This struct for a shorter time. What is left there is what this builder has then.
     #[inline(always)]
     pub fn reborrow(&mut self) -> StructBuilder<'_>
         ensures* lends { sem 𝓛 (LentByStruct self.entry result.arena) }

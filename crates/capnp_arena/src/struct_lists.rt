@@ -75,7 +75,7 @@ fn get_plain_row(start: usize, number: u8) -> PartRow
     }
 }
 
-/// The same of a list of structs.
+/// Where the elements of a list of structs stand.
 #[inline(always)]
 fn get_struct_row(list: StructsPlace) -> PartRow
     requires { list.tag < 2 ^ 32 }
@@ -122,7 +122,7 @@ fn grow_plain(size: StructSize, number: u8) -> StructSize
     }
 }
 
-/// The same of structs.
+/// At least a size, and what an element of a list of structs takes.
 #[inline(always)]
 fn grow_structs(size: StructSize, list: StructsPlace) -> StructSize
     ensures data { result.data_words ≡ max size.data_words list.data_words }
@@ -235,7 +235,7 @@ impl Arena {
         })
     }
 
-    /// The same of a list that is neither of structs nor of bits.
+    /// Makes the structs of a list that is neither of structs nor of bits.
     fn grow_plain_list(
         &mut self,
         at: usize,
@@ -259,7 +259,7 @@ impl Arena {
         self.make_structs(at, row, list.count, grow_plain(size, number))
     }
 
-    /// The same of a list of structs.
+    /// Makes the structs of a list of structs.
     fn grow_struct_list(
         &mut self,
         at: usize,

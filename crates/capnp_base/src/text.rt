@@ -123,7 +123,7 @@ impl<'a> Reader<'a> {
         self.0
     }
 
-    /// The same text as a `str`, or the error that says how many bytes of it are UTF-8.
+    /// The text as a `str`, or the error that says how many bytes of it are UTF-8.
     pub fn to_str(self) -> std::result::Result<&'a str, Utf8Error>
         ensures { IsStrOf self.entry.0.now result }
     {

@@ -33,8 +33,8 @@ IsOf set t (dynamic.Struct s) = IsStruct (schema_of s) × (set_of (schema_of s) 
 IsOf set t (dynamic.List l) = (list_set l ≡ set) × (ListType (element_of l) ≡ t) × NamesEntries set t
 IsOf set t (dynamic.AnyPointer p) = AnyPointerType ≡ t
 
--- The same of a type that need not name entries of the set: the variant is the type's, and its handles are of the set and of
--- the type's number.
+-- A value of a type that need not name entries of the set: the variant is the type's, and its handles are of the set and
+-- of the type's number.
 abbrev pub IsValueUnder : Schemas → SchemaType → DynamicValue → Type 0
 IsValueUnder set t dynamic.Void = VoidType ≡ t
 IsValueUnder set t (dynamic.Bool b) = BoolType ≡ t

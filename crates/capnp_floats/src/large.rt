@@ -28,7 +28,7 @@ impl Large {
         Large { row }
     }
 
-    /// The same natural once more.
+    /// A copy of this natural.
     pub fn copied(&self) -> Large
         ensures { result ≡ self.now }
     {

@@ -28,7 +28,7 @@ impl Natural {
         Natural { row }
     }
 
-    /// The same natural once more.
+    /// A copy of this natural.
     pub fn copied(&self) -> Natural
         ensures { result ≡ self.now }
     {

@@ -183,7 +183,7 @@ fn chosen(width: Width, digits: &Large, up: u32, down: u32) -> u64
     nearer(width, low, &twice, down)
 }
 
-/// The same of few digits, by numbers of 128 bits where these do.
+/// The number that is nearest to few digits scaled so, by numbers of 128 bits where these do.
 fn chosen_few(width: Width, digits: u64, up: u32, down: u32) -> u64
     requires up { up ≤ 400 }
     requires down { down ≤ 1150 }
@@ -224,7 +224,7 @@ pub(crate) fn nearest_few(width: Width, digits: u64, up: u128, down: u128) -> Op
     in_range(width, chosen_few(width, digits, up as u32, down as u32))
 }
 
-/// The same of digits that are all kept.
+/// The number that is nearest to digits that are all kept.
 fn nearest_whole(width: Width, digits: &Digits, up: u128, down: u128) -> Option<u64>
     requires fits { AreDigits digits.now }
     requires whole { digits.now.cut ≡ 0 }
@@ -257,7 +257,7 @@ fn cut_digits(digits: &Digits) -> Large
     number
 }
 
-/// The same of digits that are not all kept, which have tenths.
+/// The number that is nearest to digits that are not all kept, which have tenths.
 fn nearest_cut(width: Width, digits: &Digits, down: u128) -> Option<u64>
     requires fits { AreDigits digits.now }
     requires cut { 0 < digits.now.cut }

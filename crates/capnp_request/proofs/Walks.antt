@@ -1,4 +1,4 @@
--- The same work for each of a list, as a loop does it: what is done, and what is left.
+-- The work of each item of a list, as a loop does it: what is done, and what is left.
 use Rattle.std.proofs.Common.{ℕ, ◌+◌, ◌<◌, ◌≤◌, ◌≡◌, ◌∙◌, ap, refl, sym, append_assoc, List, [], ◌∷◌, ◌++◌, Result, Ok, Err}
 use Rattle.std.proofs.lemmas.List.{append-nil}
 use Rattle.capnp_device.specs.declared.error.ErrorKind.{ErrorKind}

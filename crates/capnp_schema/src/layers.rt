@@ -43,7 +43,7 @@ pub(crate) fn struct_brand(variant: TypeVariant) -> Option<u32>
     }
 }
 
-/// The same with 0 for every other type.
+/// The brand that a struct type names, 0 for every other type.
 pub(crate) fn struct_number(variant: TypeVariant) -> u32
     ensures { result ≡ struct_number (seen_variant variant) }
 {

@@ -57,7 +57,7 @@ impl FieldRecord {
         })
     }
 
-    /// The same field as the member of its struct's union for which the discriminant is the value.
+    /// This field as the member of its struct's union for which the discriminant is the value.
     pub fn as_member(mut self, discriminant_value: u16) -> FieldRecord
         ensures { seen_field result ≡ as_member (seen_field self) discriminant_value }
     {
@@ -97,7 +97,7 @@ impl NodeRecord {
         })
     }
 
-    /// The same node as a group, which has the sections of the struct that it is in.
+    /// This node as a group, which has the sections of the struct that it is in.
     pub fn as_group(mut self) -> NodeRecord
         ensures { seen_node result ≡ as_group (seen_node self) }
     {
@@ -105,7 +105,7 @@ impl NodeRecord {
         self
     }
 
-    /// The same node with an unnamed union of so many members, whose discriminant stands at the offset, which counts 16
+    /// This node with an unnamed union of so many members, whose discriminant stands at the offset, which counts 16
     /// bits each.
     pub fn with_union(mut self, discriminant_count: u16, discriminant_offset: u32) -> NodeRecord
         ensures { seen_node result ≡ with_union (seen_node self) discriminant_count discriminant_offset }

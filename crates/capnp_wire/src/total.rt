@@ -128,7 +128,8 @@ fn total_pointers(pointers: Pointers<'_>) -> Total
     total_each(pointers)
 }
 
-/// The same within its caller: the elements of a list, which are mostly many and small, go by it.
+/// The words of what an element's pointers lead to. It stands within its caller, since elements are mostly
+/// many and small.
 #[cycle(total)]
 #[inline(always)]
 fn total_each(pointers: Pointers<'_>) -> Total

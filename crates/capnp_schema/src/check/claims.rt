@@ -69,7 +69,7 @@ fn is_open_below(below: &[Level], time: u32) -> bool
     true
 }
 
-/// The same with a level above them.
+/// Whether a time lies in the non-union part of none of the levels, nor of the one above them.
 fn is_open(below: &[Level], top: Level, time: u32) -> bool
     requires { AreInOrder (below.now ++ top ∷ []) }
     ensures { result ≡ true → AreOpen (below.now ++ top ∷ []) time }
@@ -115,8 +115,8 @@ fn claim_marks(
     true
 }
 
-/// The same where the marks may have to be lengthened first. No marks lengthen nothing, wherever they would stand: a
-/// node without a union can give any offset of a discriminant.
+/// Sets so many marks to the time, lengthened first where they must be. No marks lengthen nothing, wherever they
+/// stand: a node without a union can give any offset of a discriminant.
 fn claim_range(
     marks: &mut Vec<u32>,
     first: usize,

@@ -46,7 +46,7 @@ fn spell(bytes: &[u8]) -> u64
     number
 }
 
-/// The same number: 0 at once where there is no byte, as for a field past the end of a struct.
+/// The number of at most eight bytes: 0 at once where there is no byte, as for a field past the end of a struct.
 #[inline(always)]
 fn number(bytes: &[u8]) -> u64
     requires { length bytes.now ≤ 8 }

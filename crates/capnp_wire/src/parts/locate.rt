@@ -231,7 +231,7 @@ fn locate_near(segment: &[u8], start: usize, word: u64) -> Target<'_>
     }
 }
 
-/// The same for a word that stands at word `w`.
+/// The target of a word that may be no far pointer, where it stands at word `w`.
 #[inline(always)]
 fn locate_near_from(segment: &[u8], w: usize, word: u64) -> Target<'_>
     requires { w < 2 ^ 61 }

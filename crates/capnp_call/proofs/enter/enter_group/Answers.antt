@@ -1,4 +1,4 @@
--- The same struct is entered.
+-- The struct is entered as it is.
 use Rattle.capnp_arena.specs.Built.{built_at}
 use Rattle.capnp_call.proofs.Behind.{group_goes}
 use Rattle.capnp_call.proofs.enter.enter_group.Goals as goal
