@@ -5,8 +5,8 @@ use capnp_arena::arena::Arena;
 use capnp_arena::callers::{init_and_set, set_element_number};
 use capnp_arena::lists::{ListPlace, StructsPlace};
 use capnp_device::error::Result;
+use capnp_fixtures::bytes::answer;
 use capnp_wire::size::ElementSize;
-use capnp_wire_fixtures::bytes::answer;
 use std::alloc::Global;
 use std::process::Abort;
 

@@ -8,10 +8,10 @@ ghost use Rattle.capnp_arena.specs.Segment.{segment};
 use crate::calls::put;
 use capnp_arena::handles::StructBuilder;
 use capnp_device::error::Result;
+use capnp_fixtures::bytes::{bytes_of, root_of};
 use capnp_wire::PointerReader;
 use capnp_wire::size::{ElementSize, StructSize};
 use capnp_wire_callers::built::{put_number, put_text};
-use capnp_wire_fixtures::bytes::{bytes_of, root_of};
 use std::alloc::Global;
 
 pub(crate) const POINT: StructSize = StructSize {

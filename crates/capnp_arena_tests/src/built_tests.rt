@@ -8,7 +8,7 @@ use crate::calls::FIVE_AND_TEXT;
 use crate::fixtures::is_written_as;
 use capnp_arena::message::Builder;
 use capnp_device::error::Result;
-use capnp_wire_fixtures::bytes::answer;
+use capnp_fixtures::bytes::answer;
 use std::alloc::Global;
 use std::process::Abort;
 

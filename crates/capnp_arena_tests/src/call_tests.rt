@@ -26,9 +26,9 @@ use capnp_device::error::ErrorKind::{
     OutOfMemory, SizePastFormat, TextNotTerminated, WrongElementSize, WrongPointerKind,
 };
 use capnp_device::error::Result;
+use capnp_fixtures::bytes::answer;
 use capnp_wire::size::ElementSize::{Bit, Byte, EightBytes, FourBytes, Pointer, TwoBytes, Void};
 use capnp_wire::size::StructSize;
-use capnp_wire_fixtures::bytes::answer;
 use std::alloc::Global;
 use std::process::Abort;
 

@@ -11,9 +11,9 @@ use capnp_arena::handles::{PointerBuilder, StructBuilder, get_and_set};
 use capnp_arena::lists::ListPlace;
 use capnp_arena::message::Builder;
 use capnp_device::error::Result;
+use capnp_fixtures::bytes::answer;
 use capnp_wire::size::{ElementSize, StructSize};
 use capnp_wire_callers::built::{count_new, count_structs};
-use capnp_wire_fixtures::bytes::answer;
 use std::alloc::Global;
 
 /// How many numbers a new list has.

@@ -14,10 +14,10 @@ use crate::lent::{lend, read_data, read_text};
 use capnp_arena::handles::{ListBuilder, StructBuilder};
 use capnp_arena::message::Builder;
 use capnp_device::error::{ErrorKind, Result};
+use capnp_fixtures::bytes::{answer, bytes_of, root_of};
 use capnp_wire::laws::pointer_is_well_formed;
 use capnp_wire::size::{ElementSize, StructSize};
 use capnp_wire::{PointerReader, StructReader};
-use capnp_wire_fixtures::bytes::{answer, bytes_of, root_of};
 use std::alloc::Global;
 use std::process::Abort;
 

@@ -11,9 +11,9 @@ use capnp_arena::handles::StructBuilder;
 use capnp_arena::message::Builder;
 use capnp_device::error::ErrorKind::{self, OutOfMemory, TooDeep};
 use capnp_device::error::Result;
+use capnp_fixtures::bytes::answer;
 use capnp_wire::PointerReader;
 use capnp_wire::size::StructSize;
-use capnp_wire_fixtures::bytes::answer;
 use std::alloc::Global;
 
 const ONE_POINTER: StructSize = StructSize {

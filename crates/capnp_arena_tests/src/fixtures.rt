@@ -3,8 +3,8 @@ ghost use Rattle.capnp_arena.specs.Message.{IsMessage};
 
 use capnp_arena::message::Builder;
 use capnp_device::error::{ErrorKind, Result};
+use capnp_fixtures::bytes::bytes_of;
 use capnp_wire::size::StructSize;
-use capnp_wire_fixtures::bytes::bytes_of;
 use std::alloc::Global;
 
 /// A data word and a pointer.

@@ -9,8 +9,8 @@ use capnp_device::device::{DeviceFault, Sink};
 use capnp_device::error::ErrorKind::{self, WriteFailed};
 use capnp_device::error::Result;
 use capnp_device::memory::MemorySink;
+use capnp_fixtures::bytes::{answer, bytes_of};
 use capnp_wire::size::ElementSize;
-use capnp_wire_fixtures::bytes::{answer, bytes_of};
 use std::alloc::Global;
 use std::process::Abort;
 

@@ -5,9 +5,9 @@ use crate::calls::get_list;
 use crate::fixtures::is_written_as;
 use capnp_arena::message::Builder;
 use capnp_device::error::Result;
+use capnp_fixtures::bytes::{answer, bytes_of};
 use capnp_wire::PointerReader;
 use capnp_wire::size::ElementSize;
-use capnp_wire_fixtures::bytes::{answer, bytes_of};
 use std::alloc::Global;
 use std::process::Abort;
 

@@ -1,6 +1,6 @@
 //! Messages, and their copies as they are written.
 
-use capnp_wire_fixtures::messages::SEVEN_SEGMENTS;
+use capnp_fixtures::wire_messages::SEVEN_SEGMENTS;
 
 /// The messages of a row: its name, the stream, and what is written of a copy of its root.
 pub(crate) type Row = (&'static str, &'static str, &'static str);

@@ -2,11 +2,11 @@
 //! records over, so they are made anew for each check.
 
 use capnp_base::introspect::{RawBrandedStructSchema, Type, TypeVariant};
+use capnp_fixtures::fixtures::no_types;
 use capnp_schema::record::{
     BrandRecord, FieldKind, FieldRecord, NodeRecord, StructRecord, ValueRecord,
 };
 use capnp_schema::set::SchemaSet;
-use capnp_schema_fixtures::fixtures::no_types;
 use capnp_wire::error::Result;
 use capnp_wire::size::StructSize;
 use std::alloc::Global;

@@ -5,5 +5,6 @@ pub mod brands;
 pub mod lookup;
 pub mod read_back;
 pub mod round_trips;
+pub mod sets;
 pub mod streams;
 pub mod values;

@@ -12,7 +12,7 @@ use Rattle.capnp_check.specs.Steps.PlaceSteps.{parts_refusal, parts_seen, steps_
 use Rattle.capnp_check.specs.declared.parts_below.OpenValue.{OpenValue}
 use Rattle.capnp_check.specs.declared.place.PlaceStep.{PlaceStep}
 use Rattle.capnp_check.specs.declared.place.PlaceStep.TheVariants.{Field, Element}
-use Rattle.capnp_check.proofs.ItemsInOrder.{by-order}
+use Rattle.capnp_dynamic_readers.specs.Facts.ItemsInOrder.{by-order}
 use Rattle.capnp_check.proofs.NoneRefused.{none-behind, none-refused, refused-append, refused-behind}
 use Rattle.capnp_check.proofs.OpenValues.{part_refusal, value_refusal}
 use Rattle.capnp_check.proofs.RootSteps.{root_few}

@@ -40,7 +40,7 @@ use Rattle.capnp_check.specs.Refusals.{text_refusal}
 use Rattle.capnp_check.specs.Steps.PlaceSteps.{IsElementOpened, IsFieldOpened, IsOpenIn, level_steps, parts_refusal, parts_seen, steps_below, value_opened}
 use Rattle.capnp_check.specs.declared.parts_below.OpenValue.{OpenValue}
 use Rattle.capnp_check.specs.declared.parts_below.OpenValue.TheVariants as opened
-use Rattle.capnp_check.proofs.PartsShown.{IsNoGroup, group_named, no_group_slot, some-none, target_in, under_of}
+use Rattle.capnp_dynamic_readers.specs.Facts.PartsShown.{IsNoGroup, group_named, no_group_slot, some-none, target_in, under_of}
 use Rattle.capnp_check.proofs.Refused.{quoted_said}
 
 -- ---- the refusal of what is shown is the text's ----

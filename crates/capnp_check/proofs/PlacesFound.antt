@@ -31,7 +31,7 @@ use Rattle.capnp_check.specs.declared.parts_below.OpenValue.{OpenValue}
 use Rattle.capnp_check.specs.declared.parts_below.OpenValue.TheVariants as opened
 use Rattle.capnp_check.specs.declared.place.PlaceStep.{PlaceStep}
 use Rattle.capnp_check.specs.declared.place.PlaceStep.TheVariants.{Field, Element}
-use Rattle.capnp_check.proofs.ItemsInOrder.{by-order, from_end, from_here, from_next, own_items}
+use Rattle.capnp_dynamic_readers.specs.Facts.ItemsInOrder.{by-order, from_end, from_here, from_next, own_items}
 use Rattle.capnp_check.proofs.Layouts.{any_lines}
 use Rattle.capnp_check.proofs.OpenValues.{part_refusal, root_refusal, value_refusal}
 use Rattle.capnp_check.proofs.Refused.{elements_end, elements_next, elements_refusal, elements_start, first_append, item_refusal, own_refusal, record_refusal}

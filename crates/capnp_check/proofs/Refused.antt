@@ -17,7 +17,7 @@ use Rattle.capnp_dynamic_readers.specs.declared.dynamic_value.Reader.{Reader as 
 use Rattle.capnp_dynamic_readers.specs.declared.dynamic_value.Reader.TheVariants as dynamic
 use Rattle.capnp_check.specs.Refusals.{text_refusal}
 use Rattle.capnp_check.specs.Steps.Walks.{first_refusal, or_later}
-use Rattle.capnp_check.proofs.ItemsInOrder.{from_end, from_here, from_start}
+use Rattle.capnp_dynamic_readers.specs.Facts.ItemsInOrder.{from_end, from_here, from_start}
 
 -- ---- the first of two ----
 

@@ -17,7 +17,7 @@ use Rattle.capnp_dynamic_readers.specs.Steps.PartsRead.{field_in}
 use Rattle.capnp_dynamic_readers.specs.Steps.Shown.{part_seen, union_seen}
 use Rattle.capnp_dynamic_readers.specs.declared.dynamic_struct.Reader.{Reader as StructHandle}
 use Rattle.capnp_check.specs.ShownFields.{is_shown}
-use Rattle.capnp_check.proofs.ItemsShown.{IsActivePart, active-part}
+use Rattle.capnp_dynamic_readers.specs.Facts.ItemsShown.{IsActivePart, active-part}
 
 -- ---- as the code asks it ----
 

@@ -26,8 +26,8 @@ use Rattle.capnp_dynamic_readers.specs.Steps.Shown.{field_item, field_shown, rec
 use Rattle.capnp_dynamic_readers.specs.declared.dynamic_struct.Reader.{Reader as StructHandle}
 use Rattle.capnp_check.specs.Refusals.{text_refusal}
 use Rattle.capnp_check.specs.Steps.Walks.{CameDown, IsCheckStep, IsWalkInside, first_refusal, walk_onward, walk_onward_of, or_later, walk_steps_onward}
-use Rattle.capnp_check.proofs.ItemsInOrder.{from_end, from_next, own_items}
-use Rattle.capnp_check.proofs.PartsShown.{part_group, target_in}
+use Rattle.capnp_dynamic_readers.specs.Facts.ItemsInOrder.{from_end, from_next, own_items}
+use Rattle.capnp_dynamic_readers.specs.Facts.PartsShown.{part_group, target_in}
 use Rattle.capnp_check.proofs.Refused.{first_append, item_refusal, or_assoc, or_none, own_refusal, record_refusal}
 
 -- ---- where a check stands ----

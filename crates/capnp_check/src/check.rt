@@ -31,7 +31,7 @@ pub fn check_text(value: Value<'_>) -> Result<()>
 }
 
 /// The refusal of a value that stands alone. A group takes no level, here as elsewhere.
-#[tactic(auto, using(crate::proofs::Roots::group_root, crate::proofs::Roots::struct_root, crate::proofs::Roots::other_root))]
+#[tactic(auto, using(capnp_dynamic_readers::specs::Facts::Roots::group_root, capnp_dynamic_readers::specs::Facts::Roots::struct_root, capnp_dynamic_readers::specs::Facts::Roots::other_root))]
 fn check_root(value: Value<'_>) -> Result<()>
     ensures { answer_refusal result ≡ text_refusal (root_shown None value.entry) }
 {

@@ -1,6 +1,6 @@
 //! The tests of `capnp_compatible` by public calls.
 //!
-//! They are rows of text: `capnp_schema_fixtures` makes a set of
+//! They are rows of text: `capnp_fixtures` makes a set of
 //! `struct 1 2, f UInt16 @0; struct 1 2, f UInt16 @0, g Text @1`, and `script` answers questions about two structs of
 //! it. They compare structs of the built-in set with one whose union has grown, and structs that differ in one thing: a
 //! type, a default, a place, a union, a group. They read messages that the public tool wrote under two versions of a
@@ -12,6 +12,8 @@
 
 #[cfg(test)]
 mod default_tests;
+#[cfg(test)]
+mod differences;
 #[cfg(test)]
 mod evolution_tests;
 #[cfg(test)]

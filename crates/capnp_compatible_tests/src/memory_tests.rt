@@ -6,11 +6,11 @@ use capnp_base::introspect::TypeVariant;
 use capnp_callers::brands::{between, is_successor};
 use capnp_dynamic::dynamic_struct;
 use capnp_dynamic::dynamic_value::Reader as Value;
-use capnp_schema::set::SchemaSet;
-use capnp_schema_fixtures::fixtures::{
+use capnp_fixtures::fixtures::{
     FieldOf, StructOf, add_struct, list_type, one_word, records_of, slot, struct_type, typed_slot,
 };
-use capnp_schema_fixtures::set_text::read_set_text;
+use capnp_fixtures::set_text::read_set_text;
+use capnp_schema::set::SchemaSet;
 use capnp_wire::error::{ErrorKind, Result};
 use std::alloc::Global;
 use std::test::Fail;

@@ -1,6 +1,6 @@
 //! The messages that scripts name.
 
-use capnp_schema_fixtures::messages::message_named;
+use capnp_fixtures::messages::message_named;
 use capnp_wire::error::Result;
 use capnp_wire::{StructReader, message};
 use std::alloc::Global;

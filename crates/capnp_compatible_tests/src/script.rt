@@ -19,9 +19,9 @@ use capnp_callers::brands::{between, is_successor, seen_by_newer, seen_by_older}
 use capnp_dynamic::dynamic_struct;
 use capnp_dynamic::dynamic_value::Reader as Value;
 use capnp_dynamic::printer::print;
+use capnp_fixtures::set_text::read_texts;
+use capnp_fixtures::words::{first_word, number};
 use capnp_schema::set::SchemaSet;
-use capnp_schema_fixtures::set_text::read_texts;
-use capnp_schema_fixtures::words::{first_word, number};
 use capnp_wire::error::Result;
 use std::alloc::Global;
 use std::fmt;

@@ -28,8 +28,9 @@ use Rattle.capnp_dynamic_readers.specs.Steps.Shown.{field_item, field_shown, is_
 use Rattle.capnp_dynamic_readers.specs.declared.dynamic_struct.Reader.{Reader as StructHandle}
 use Rattle.capnp_dynamic_readers.specs.declared.printer.groups.Standing.{Standing}
 use Rattle.capnp_dynamic_readers.specs.declared.printer.output.Stop.{Stop}
-use Rattle.capnp_dynamic_readers.proofs.GroupsShown.{closes, closes_not, from_end, from_next, from_start, group-in, item-named, item-unnamed, onward-end, own_items, skips}
-use Rattle.capnp_dynamic_readers.proofs.PartsShown.{part_group, target_in}
+use Rattle.capnp_dynamic_readers.specs.Facts.ItemsInOrder.{from_end, from_next, from_start, own_items}
+use Rattle.capnp_dynamic_readers.proofs.GroupsShown.{closes, closes_not, group-in, item-named, item-unnamed, onward-end, skips}
+use Rattle.capnp_dynamic_readers.specs.Facts.PartsShown.{part_group, target_in}
 use Rattle.capnp_dynamic_readers.proofs.Steps.{opening_stopped, struct_none, struct_some}
 use Rattle.capnp_dynamic_readers.proofs.Streams.{first_stopped, same, same_put, then}
 

@@ -1,8 +1,6 @@
 pub mod FieldHandles
 pub mod FoundReads
-pub mod ItemsShown
 pub mod ListHandles
-pub mod PartsShown
 pub mod Pieces
 pub mod PlacedReads
 pub mod Pointed

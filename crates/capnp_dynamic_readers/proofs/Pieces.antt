@@ -1,5 +1,5 @@
 -- Pieces of texts, as they are put one after another.
-use Rattle.std.proofs.Common.{codes, decimal, arith, append_assoc, ◌≡◌, refl, ap, ap₂, sym, ◌∙◌, ℕ, zero, suc, subst, Bool, true, false, List, [], ◌∷◌, ◌++◌, Some, None, Result, Ok, Err, IfErr, OnOk, cond, ◌<◌, ◌≤◌, ◌*◌, get_or, length, length-append, nat_lt, ◌==◌, ◌||◌, take, drop, ◌+◌, ◌/◌, ◌%◌}
+use Rattle.std.proofs.Common.{codes, decimal, arith, append_assoc, ◌≡◌, refl, ap, ap₂, sym, ◌∙◌, ℕ, zero, suc, subst, Bool, true, false, List, [], ◌∷◌, ◌++◌, Some, None, Result, Ok, Err, IfErr, OnOk, cond, ◌<◌, ◌≤◌, ◌*◌, get_or, length, length-append, nat_lt, ◌==◌, ◌||◌, take, ◌+◌, ◌/◌, ◌%◌}
 use Rattle.std.specs.Char.{digit_char, is_ascii}
 use Rattle.std.specs.Fmt.{AppendsText, debug_escape, debug_escape_letter, debug_str, digits}
 use Rattle.std.specs.List.{flat_map, list_all}
@@ -21,7 +21,7 @@ use Rattle.capnp_dynamic_readers.specs.Pieces.{IsAppended, IsLonger, Taken, Unto
 use Rattle.capnp_dynamic_readers.specs.Steps.Pieces.{IsPast, IsPut, IsStopped}
 use Rattle.capnp_dynamic_readers.specs.declared.printer.output.Stop.{Stop}
 use Rattle.capnp_dynamic_readers.specs.declared.printer.output.Stop.TheVariants.{TooLong}
-use Rattle.capnp_dynamic_readers.proofs.Streams.{known_stopped, nothing_put, same, stopped_inside, three_put, two_put}
+use Rattle.capnp_dynamic_readers.proofs.Streams.{known_stopped, nothing_put, stopped_inside, three_put, two_put}
 use Rattle.std.proofs.lemmas.Bool.{true≢false}
 use Rattle.std.proofs.lemmas.Bool.Decides.{nat_tests}
 use Rattle.std.proofs.lemmas.List.{flat_map_more, length-take, take_more}

@@ -1,5 +1,5 @@
 -- The steps of a print at the elements of a list: what was put, or why it stopped.
-use Rattle.std.proofs.Common.{ℕ, ◌+◌, ◌-◌, ◌<◌, ◌≡◌, ◌==◌, true, Ok, Err, Result, IfErr, OnOk, sym, subst, ◌∙◌}
+use Rattle.std.proofs.Common.{ℕ, ◌+◌, ◌-◌, ◌<◌, ◌≡◌, ◌==◌, true, Ok, Err, Result, IfErr, OnOk, sym, subst}
 use Rattle.capnp_records.specs.Text.{Layout, more_text, said_text, separator}
 use Rattle.capnp_dynamic_readers.specs.Pieces.{Taken}
 use Rattle.capnp_dynamic_readers.specs.Steps.Pieces.{IsPut, IsStopped, Leads}

@@ -1,56 +1,15 @@
 -- The text of a value that stands alone.
-use Rattle.std.proofs.Common.{ℕ, [], ◌≡◌, ◌≢◌, refl, Bool, true, false, Result, Err, IfErr, ap, sym, subst, ◌∙◌}
-use Rattle.std.proofs.lemmas.Bool.{true≢false}
+use Rattle.std.proofs.Common.{ℕ, [], ◌≡◌, ◌≢◌, Result, Err, IfErr, ap, sym, subst, ◌∙◌}
 use Rattle.capnp_device.specs.declared.error.ErrorKind.{ErrorKind}
 use Rattle.capnp_device.specs.declared.error.ErrorKind.TheVariants.{OutOfMemory, TooLarge}
-use Rattle.capnp_schema.specs.Schema.{VoidValue, node_of}
-use Rattle.capnp_schema.specs.StructHandles.{number_of, set_of}
-use Rattle.capnp_records.specs.Text.{Layout, Out, part_text, text_within}
-use Rattle.capnp_dynamic_readers.specs.Handles.{schema_of}
+use Rattle.capnp_records.specs.Text.{Layout, Out}
 use Rattle.capnp_dynamic_readers.specs.Pieces.{IsLonger, Taken, Within, stopped_kind}
 use Rattle.capnp_dynamic_readers.specs.Steps.Pieces.{IsStopped}
-use Rattle.capnp_dynamic_readers.specs.Shown.{struct_printed}
-use Rattle.capnp_dynamic_readers.specs.Steps.Shown.{record_shown, root_shown, value_shown}
-use Rattle.capnp_dynamic_readers.specs.Typed.{struct_type}
-use Rattle.capnp_dynamic_readers.specs.declared.dynamic_struct.Reader.{Reader as StructHandle}
+use Rattle.capnp_dynamic_readers.specs.Steps.Shown.{root_shown, value_shown}
 use Rattle.capnp_dynamic_readers.specs.declared.dynamic_value.Reader.{Reader as DynamicValue}
-use Rattle.capnp_dynamic_readers.specs.declared.dynamic_value.Reader.TheVariants as dynamic
 use Rattle.capnp_dynamic_readers.specs.declared.printer.output.Stop.{Stop}
 use Rattle.capnp_dynamic_readers.specs.declared.printer.output.Stop.TheVariants.{Full, Refused, TooLong}
 use Rattle.capnp_dynamic_readers.proofs.Pieces.{longer_whole}
-
-pub group_root : (at : Layout) (v : DynamicValue) (s : StructHandle) → v ≡ dynamic.Struct s → (node_of (set_of (schema_of s)) (number_of (schema_of s))).is_group ≡ true → root_shown at v ≡ record_shown 64 at s
-group_root at v s e h = ap (root_shown at) e ∙ go (node_of (set_of (schema_of s)) (number_of (schema_of s))).is_group h
-  where
-    go : (q : Bool) → q ≡ true → part_text (set_of (schema_of s)) (text_within (set_of (schema_of s)) 64) at VoidValue (struct_type (schema_of s)) (struct_printed q s) ≡ record_shown 64 at s
-    go true e = refl
-    go false e = absurd (true≢false (sym e))
-
-pub struct_root : (at : Layout) (v : DynamicValue) (s : StructHandle) → v ≡ dynamic.Struct s → (node_of (set_of (schema_of s)) (number_of (schema_of s))).is_group ≡ false → root_shown at v ≡ value_shown 64 at v
-struct_root at v s e h =
-    ap (root_shown at) e ∙ (go (node_of (set_of (schema_of s)) (number_of (schema_of s))).is_group h ∙ sym (ap (value_shown 64 at) e))
-  where
-    go : (q : Bool) → q ≡ false → part_text (set_of (schema_of s)) (text_within (set_of (schema_of s)) 64) at VoidValue (struct_type (schema_of s)) (struct_printed q s) ≡ value_shown 64 at (dynamic.Struct s)
-    go false e = refl
-    go true e = absurd (true≢false e)
-
-pub other_root : (at : Layout) (v : DynamicValue) → ((s : StructHandle) → v ≡ dynamic.Struct s → ⊥) → root_shown at v ≡ value_shown 64 at v
-other_root at (dynamic.Struct s) h = absurd (h s refl)
-other_root at dynamic.Void h = refl
-other_root at (dynamic.Bool b) h = refl
-other_root at (dynamic.Int8 x) h = refl
-other_root at (dynamic.Int16 x) h = refl
-other_root at (dynamic.Int32 x) h = refl
-other_root at (dynamic.Int64 x) h = refl
-other_root at (dynamic.UInt8 x) h = refl
-other_root at (dynamic.UInt16 x) h = refl
-other_root at (dynamic.UInt32 x) h = refl
-other_root at (dynamic.UInt64 x) h = refl
-other_root at (dynamic.Enum e) h = refl
-other_root at (dynamic.Text t) h = refl
-other_root at (dynamic.«Data» bytes) h = refl
-other_root at (dynamic.List l) h = refl
-other_root at (dynamic.AnyPointer p) h = refl
 
 -- where it is printed as a value, why that stopped is why the whole did
 pub root_stopped : {T : Type 0} (at : Layout) (v : DynamicValue) (old : Taken) (result : Result T Stop) → root_shown at v ≡ value_shown 64 at v →

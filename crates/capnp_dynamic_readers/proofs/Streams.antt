@@ -5,9 +5,9 @@ use Rattle.std.proofs.lemmas.Bool.{true≢false}
 use Rattle.std.proofs.lemmas.List.{length-replicate}
 use Rattle.capnp_device.specs.declared.error.ErrorKind.{ErrorKind}
 use Rattle.capnp_records.specs.Facts.Spelled.{both_spelled, both_text, known_spelled, said_both, some_bytes, some_spelled, spelled_known}
-use Rattle.capnp_records.specs.Text.{IsSpelled, Layout, Out, Pieces, after, deeper, known_pieces, line, said_text, separator}
+use Rattle.capnp_records.specs.Text.{Layout, Out, Pieces, after, deeper, line, said_text, separator}
 use Rattle.capnp_dynamic_readers.specs.Pieces.{Taken, Untold, Within}
-use Rattle.capnp_dynamic_readers.specs.Steps.Pieces.{Gives, IsAllowed, IsFull, IsPast, IsPut, IsStopped, Leads, followed}
+use Rattle.capnp_dynamic_readers.specs.Steps.Pieces.{Gives, IsFull, IsPast, IsPut, IsStopped, Leads, followed}
 use Rattle.capnp_dynamic_readers.specs.declared.printer.output.Stop.{Stop}
 use Rattle.capnp_dynamic_readers.specs.declared.printer.output.Stop.TheVariants.{Full, Refused, TooLong}
 

@@ -3,4 +3,8 @@ pub mod Active
 pub mod Appended
 pub mod Found
 pub mod HasWhich
+pub mod ItemsInOrder
+pub mod ItemsShown
+pub mod PartsShown
+pub mod Roots
 pub mod Taken

@@ -119,7 +119,7 @@ pub(crate) fn print_debug<W: fmt::Write>(
 }
 
 /// Appends the text of a value that stands alone. A group takes no level, here as elsewhere.
-#[tactic(auto, using(crate::proofs::Roots::group_root, crate::proofs::Roots::struct_root, crate::proofs::Roots::other_root))]
+#[tactic(auto, using(crate::specs::Facts::Roots::group_root, crate::specs::Facts::Roots::struct_root, crate::specs::Facts::Roots::other_root))]
 fn print_root_value<O: Out>(
     value: Value<'_>,
     at: Option<u64>,

@@ -2,7 +2,7 @@
 
 use crate::messages::message_of;
 use crate::script::{answers_about, rows_hold};
-use capnp_schema_fixtures::set_text::read_texts;
+use capnp_fixtures::set_text::read_texts;
 use capnp_wire::error::Result;
 use std::alloc::Global;
 use std::test::Fail;

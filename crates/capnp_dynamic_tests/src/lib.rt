@@ -8,6 +8,8 @@
 #[cfg(test)]
 mod annotation_tests;
 #[cfg(test)]
+mod builders;
+#[cfg(test)]
 mod default_tests;
 #[cfg(test)]
 mod fault_tests;
@@ -23,3 +25,5 @@ mod print_tests;
 mod script;
 #[cfg(test)]
 mod struct_tests;
+#[cfg(test)]
+mod writes;

@@ -1,9 +1,9 @@
 //! What scripts name: structs of several sets, and messages.
 
+use capnp_fixtures::kinds::{KINDS, KINDS_SET};
+use capnp_fixtures::messages::message_named;
+use capnp_fixtures::set_text::read_set_text;
 use capnp_schema::set::SchemaSet;
-use capnp_schema_fixtures::kinds::{KINDS, KINDS_SET};
-use capnp_schema_fixtures::messages::message_named;
-use capnp_schema_fixtures::set_text::read_set_text;
 use capnp_wire::error::Result;
 use std::alloc::Global;
 

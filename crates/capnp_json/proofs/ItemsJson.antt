@@ -1,48 +1,35 @@
 -- Which fields of a struct have an item, and which member is active.
-use Rattle.std.proofs.Common.{ℕ, suc, ◌+◌, ◌<◌, ◌≡◌, ◌==◌, refl, List, [], ◌∷◌, Bool, true, false, not, ◌&&◌, ◌||◌, cond, length, slice_get, Some, None, ap, arith, sym, subst, ◌∙◌}
-use Rattle.std.proofs.lemmas.Bool.{and_parts, eq-eqb}
-use Rattle.std.specs.Option.{unwrap_or}
+use Rattle.std.proofs.Common.{ℕ, ◌<◌, ◌≡◌, ◌==◌, refl, [], Bool, true, false, not, ◌&&◌, cond, length, Some, None, ap, arith, sym, subst, ◌∙◌}
+use Rattle.std.proofs.lemmas.Bool.{eq-eqb}
 use Rattle.capnp_wire.specs.Standing.{struct_of}
 use Rattle.capnp_schema.specs.FieldLists.{IsFieldOf, IsFound, index_of, typed_of}
-use Rattle.capnp_schema.specs.Schema.{Field as FieldRecord, TypedField, is_member, no_field, node_of}
+use Rattle.capnp_schema.specs.Schema.{Field as FieldRecord, TypedField, is_member, node_of}
 use Rattle.capnp_schema.specs.StructHandles.{number_of, set_of, struct_field, struct_fields}
 use Rattle.capnp_schema.specs.declared.schema.fields.Field.{Field}
 use Rattle.capnp_schema.specs.declared.schema.structs.StructSchema.{StructSchema}
-use Rattle.capnp_records.specs.Facts.PartRead.{found-active, nth-plain_parts}
+use Rattle.capnp_records.specs.Facts.PartRead.{found-active}
 use Rattle.capnp_records.specs.Part.{active_value, has_of, is_active, nth_value, which_of}
 use Rattle.capnp_records.specs.Reading.{active_among, discriminant, non_union_parts}
 use Rattle.capnp_records.specs.Record.{Active, NoUnion, Parts, Union, Unknown, Value, is_there}
 use Rattle.capnp_records.specs.Text.{Layout}
 use Rattle.capnp_dynamic_readers.specs.Facts.HasWhich.{not_zero}
 use Rattle.capnp_dynamic_readers.specs.Handles.{reader_of, schema_of}
-use Rattle.capnp_dynamic_readers.specs.Reads.{BelongsTo}
 use Rattle.capnp_dynamic_readers.specs.Seen.{record_seen}
 use Rattle.capnp_dynamic_readers.specs.Steps.PartsRead.{field_in}
 use Rattle.capnp_dynamic_readers.specs.Steps.Shown.{part_seen, union_seen}
 use Rattle.capnp_dynamic_readers.specs.declared.dynamic_struct.Reader.{Reader as StructHandle}
 use Rattle.capnp_json.specs.Json.{form_of, item, item_if, json_within, member_items, part_json}
 use Rattle.capnp_json.specs.Steps.Records.{HasNoMemberItem, IsActiveMember, is_item, is_member_item}
+use Rattle.capnp_dynamic_readers.specs.Facts.ItemsShown.{discriminant_in, or-false, or-true}
+use Rattle.capnp_dynamic_readers.specs.Facts.ItemsInOrder.{member-found, no-active}
 
 -- ---- a field of a struct ----
-
-pub belongs : (s : StructSchema) (i : ℕ) (f : Field) → IsFieldOf s i f → BelongsTo f s
-belongs s i f h = record { set = ap set_of h.schema; number = ap number_of h.schema }
 
 -- whether a field is a member, by its record
 pub member_from : (r : StructHandle) (f : Field) → IsFieldOf (schema_of r) (index_of f) f → (p : FieldRecord) (q : Bool) → p ≡ (typed_of f).field → is_member p ≡ q → is_member (field_in r f).field ≡ q
 member_from r f field p q e h = sym (ap is_member (e ∙ ap (λ (s : StructSchema). (struct_field s (index_of f)).field) field.schema)) ∙ h
 
--- the discriminant value of a field's record
-discriminant_in : (r : StructHandle) (f : Field) → IsFieldOf (schema_of r) (index_of f) f → (p : FieldRecord) → p ≡ (typed_of f).field → p.discriminant_value ≡ (field_in r f).field.discriminant_value
-discriminant_in r f field p e = ap (λ (x : FieldRecord). x.discriminant_value) (e ∙ ap (λ (s : StructSchema). (struct_field s (index_of f)).field) field.schema)
-
 -- ---- whether a field is there ----
-
-pub plain_has : (r : StructHandle) (i : ℕ) → i < length (struct_fields (schema_of r)) → is_member (struct_field (schema_of r) i).field ≡ false →
-    has_of (record_seen r) (struct_field (schema_of r) i).field i ≡ is_there (part_seen r (struct_field (schema_of r) i))
-plain_has r i h plain =
-    ap (λ q. not (q && not (is_active (union_seen r) i)) && is_there (elim q as (λ _. Value) [ true ↦ active_value (union_seen r) | false ↦ nth_value (non_union_parts (part_seen r) (struct_fields (schema_of r))) i ])) plain
-    ∙ ap is_there (nth-plain_parts (part_seen r) (struct_fields (schema_of r)) i h plain)
 
 pub member_has : (r : StructHandle) (f : Field) → IsActiveMember r f → has_of (record_seen r) (field_in r f).field (index_of f) ≡ is_there (part_seen r (field_in r f))
 member_has r f active =
@@ -58,51 +45,11 @@ item_of_member r f member = sym (ap (λ (b : Bool). cond b false (is_there (part
 
 -- ---- the active member ----
 
-active-same : {i j : ℕ} {v w : Value} → Active i v ≡ Active j w → i ≡ j
-active-same e = cc
-
-no-active : {i : ℕ} {v : Value} → NoUnion ≡ Active i v → ⊥
-no-active e = cc
-
-unknown-active : {d i : ℕ} {v : Value} → Unknown d ≡ Active i v → ⊥
-unknown-active e = cc
-
 none-some : {j : ℕ} → None ≡ Some j → ⊥
 none-some e = cc
 
 some-none : {j : ℕ} → Some j ≡ None → ⊥
 some-none e = cc
-
-some-same : {i j : ℕ} → Some i ≡ Some j → i ≡ j
-some-same e = cc
-
--- the active member is one of the fields, and a member
-record IsMemberAt (fs : List TypedField) (k j : ℕ) : Type 0 where
-  pub at : ℕ
-  pub index : j ≡ k + at
-  pub inside : at < length fs
-  pub member : is_member (unwrap_or (slice_get fs at) no_field).field ≡ true
-
-member-found : (v : TypedField → Value) (fs : List TypedField) (k d j : ℕ) (w : Value) → active_among v fs k d ≡ Active j w → IsMemberAt fs k j
-member-found v [] k d j w e = absurd (unknown-active e)
-member-found v (f ∷ fs) k d j w e = go (is_member f.field && (f.field.discriminant_value == d)) refl e (member-found v fs (suc k) d j w)
-  where
-    go : (q : Bool) → (is_member f.field && (f.field.discriminant_value == d)) ≡ q → (elim q as (λ _. Union) [ true ↦ Active k (v f) | false ↦ active_among v fs (suc k) d ]) ≡ Active j w →
-        (active_among v fs (suc k) d ≡ Active j w → IsMemberAt fs (suc k) j) → IsMemberAt (f ∷ fs) k j
-    go true is e later = record {
-      at = 0;
-      index = (let same = active-same e in omega (arith, same));
-      inside = omega arith;
-      member = (and_parts (is_member f.field) (f.field.discriminant_value == d) is).0;
-    }
-    go false is e later =
-        let found = later e in
-        record {
-          at = suc found.at;
-          index = (let same = found.index in omega (arith, same));
-          inside = (let lt = found.inside in omega (arith, lt));
-          member = found.member;
-        }
 
 -- what is known of the active member
 record IsSeen (r : StructHandle) (i : ℕ) (v : Value) : Type 0 where
@@ -168,14 +115,6 @@ member_hidden r f active none = λ left at.
     ∙ ap (λ (q : Bool). item_if q (item at (field_in r f) (part_json (set_of (schema_of r)) (json_within (set_of (schema_of r)) left) at (form_of (field_in r f)) (field_in r f).type (part_seen r (field_in r f))))) (sym none)
 
 -- ---- whether a member is shown ----
-
-or-true : (b q : Bool) → q ≡ true → true ≡ (b || q)
-or-true true q e = refl
-or-true false q e = sym e
-
-or-false : (b q : Bool) → q ≡ false → b ≡ (b || q)
-or-false true q e = refl
-or-false false q e = sym e
 
 module _ (r : StructHandle) (f : Field) (field : IsFieldOf (schema_of r) (index_of f) f) (p : FieldRecord) (is : p ≡ (typed_of f).field) where
   pub shown_of_another : (p.discriminant_value ≡ 0 → ⊥) → true ≡ is_member_item r (field_in r f)

@@ -42,26 +42,9 @@ use Rattle.capnp_json.specs.Pieces.{said}
 use Rattle.capnp_json.specs.Steps.Shown.{IsElement, IsElementRefused, IsPart, IsPartRefused, element_shown, element_there, field_shown, value_shown}
 use Rattle.capnp_json.specs.declared.error.JsonError.TheVariants.{Read}
 use Rattle.capnp_json.specs.declared.forms.Form.{Form}
+use Rattle.capnp_dynamic_readers.specs.Facts.PartsShown.{under_of}
 
 -- ---- values under types ----
-
-pub under_of : (set : Schemas) (t : SchemaType) (v : DynamicValue) → IsOf set t v → IsValueUnder set t v
-under_of set t (dynamic.Enum e) h = (h.1, h.2)
-under_of set t (dynamic.Struct s) h = (h.1, ap struct_brand (sym h.2))
-under_of set t (dynamic.List l) h = (h.0, h.1)
-under_of set t dynamic.Void h = h
-under_of set t (dynamic.Bool b) h = h
-under_of set t (dynamic.Int8 x) h = h
-under_of set t (dynamic.Int16 x) h = h
-under_of set t (dynamic.Int32 x) h = h
-under_of set t (dynamic.Int64 x) h = h
-under_of set t (dynamic.UInt8 x) h = h
-under_of set t (dynamic.UInt16 x) h = h
-under_of set t (dynamic.UInt32 x) h = h
-under_of set t (dynamic.UInt64 x) h = h
-under_of set t (dynamic.Text text) h = h
-under_of set t (dynamic.«Data» bytes) h = h
-under_of set t (dynamic.AnyPointer p) h = h
 
 -- a value that needs no set, under any two
 any_set : (set other : Schemas) (left : ℕ) (at : Layout) (form : Form) (own t : SchemaType) (v : Value) → own ≡ t →

@@ -5,17 +5,17 @@
 ghost use Rattle.capnp_schema.specs.StructHandles.{IsStruct};
 
 use crate::answers::first_wrong;
+use crate::rows::{Row, calls_of, rows_in};
 use capnp_arena::message::Builder;
-use capnp_call_rows::{Row, calls_of, rows_in};
 use capnp_callers::streams::run_on_stream;
 use capnp_dynamic::dynamic_struct;
 use capnp_dynamic_readers::dynamic_value::Reader as Value;
+use capnp_fixtures::fixtures::schema_of;
 use capnp_run::calls::{Call, Reply};
 use capnp_run::message::{MOST_WORDS, run_copied, whole_new};
 use capnp_run::run::run;
 use capnp_schema::schema::StructSchema;
 use capnp_schema::set::SchemaSet;
-use capnp_schema_fixtures::fixtures::schema_of;
 use capnp_slots::size_of;
 use capnp_wire::error::Result;
 use capnp_wire::message::Reader;

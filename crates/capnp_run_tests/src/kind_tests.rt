@@ -4,10 +4,10 @@
 use crate::cases::{Case, cases_hold};
 use crate::fixtures::{MANY, NODE, NONE};
 use capnp_dynamic_readers::dynamic_value::{Enum as EnumValue, Reader as Value};
+use capnp_fixtures::kinds::{FULL, KINDS, KINDS_SET};
+use capnp_fixtures::messages::MANY_FULL;
+use capnp_fixtures::set_text::read_set_text;
 use capnp_schema::builtin::new_set;
-use capnp_schema_fixtures::kinds::{FULL, KINDS, KINDS_SET};
-use capnp_schema_fixtures::messages::MANY_FULL;
-use capnp_schema_fixtures::set_text::read_set_text;
 use std::test::Fail;
 
 /// The text of `FULL`.

@@ -6,16 +6,16 @@ ghost use Rattle.capnp_schema.specs.StructHandles.{IsStruct};
 
 use crate::answers::first_wrong;
 use crate::fixtures::LISTS;
+use crate::rows::{Row, calls_of, rows_in};
 use capnp_arena::message::Builder;
 use capnp_arena::segment::bytes_of;
-use capnp_call_rows::{Row, calls_of, rows_in};
 use capnp_dynamic::dynamic_struct;
 use capnp_dynamic_readers::dynamic_value::Reader as Value;
+use capnp_fixtures::fixtures::schema_of;
 use capnp_run::message::run_new;
 use capnp_run::run::run;
 use capnp_schema::builtin::new_set;
 use capnp_schema::schema::StructSchema;
-use capnp_schema_fixtures::fixtures::schema_of;
 use capnp_slots::size_of;
 use capnp_wire::error::Result;
 use std::alloc::Global;

@@ -3,12 +3,10 @@
 use crate::cases::{Case, cases_hold, left_by, root};
 use crate::fixtures::{ENTERED, LISTED, LISTS, MIXED, NONE, SHAPES};
 use capnp_dynamic_readers::dynamic_value::Reader as Value;
+use capnp_fixtures::fixtures::schema_of;
+use capnp_fixtures::messages::{ITEMS_AS_NUMBERS, MEMBER_UNENDED, MIXED_HI, PAIR, TAGGED_UNENDED};
+use capnp_fixtures::set_text::read_set_text;
 use capnp_schema::builtin::new_set;
-use capnp_schema_fixtures::fixtures::schema_of;
-use capnp_schema_fixtures::messages::{
-    ITEMS_AS_NUMBERS, MEMBER_UNENDED, MIXED_HI, PAIR, TAGGED_UNENDED,
-};
-use capnp_schema_fixtures::set_text::read_set_text;
 use std::test::Fail;
 
 const LARGEST: &str = "\

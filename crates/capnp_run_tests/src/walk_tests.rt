@@ -4,8 +4,8 @@
 use crate::cases::{Case, cases_hold, left_by};
 use crate::fixtures::{LISTS, LOOP, NONE, SHAPES};
 use capnp_dynamic_readers::dynamic_value::Reader as Value;
+use capnp_fixtures::set_text::read_set_text;
 use capnp_schema::builtin::new_set;
-use capnp_schema_fixtures::set_text::read_set_text;
 use std::test::Fail;
 
 const ORDER: &str = "\

@@ -1,9 +1,9 @@
 //! Sets that are accepted, and want of memory.
 
+use capnp_fixtures::set_text::read_set_text;
 use capnp_schema::builtin::new_set;
 use capnp_schema::meta;
 use capnp_schema::set::SchemaSet;
-use capnp_schema_fixtures::set_text::read_set_text;
 use capnp_wire::error::{ErrorKind, Result};
 use std::test::Fail;
 

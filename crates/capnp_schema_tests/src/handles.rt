@@ -2,10 +2,10 @@
 
 use crate::look_ups::{enum_of, enumerant_of, field_of};
 use capnp_base::traits::IndexMove;
+use capnp_fixtures::fixtures::schema_of;
+use capnp_fixtures::words::{UNREADABLE, first_word, number};
 use capnp_schema::schema::{Field, StructSchema};
 use capnp_schema::set::SchemaSet;
-use capnp_schema_fixtures::fixtures::schema_of;
-use capnp_schema_fixtures::words::{UNREADABLE, first_word, number};
 use capnp_wire::error::Result;
 use std::alloc::{AllocError, Global};
 use std::fmt::Debug;

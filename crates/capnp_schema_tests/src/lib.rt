@@ -1,6 +1,6 @@
 //! The tests of sets of schemas and of queries by the public calls of `capnp_schema`.
 //!
-//! They are rows of texts, whose forms the heads of these files explain: a set, which `capnp_schema_fixtures` reads,
+//! They are rows of texts, whose forms the heads of these files explain: a set, which `capnp_fixtures` reads,
 //! beside what the check says of it (`verdicts`), or beside a query and what schemas answer (`queries`).
 #![tactic(auto)]
 
@@ -32,6 +32,12 @@ mod plan_tests;
 mod queries;
 #[cfg(test)]
 mod query_tests;
+#[cfg(test)]
+mod request;
+#[cfg(test)]
+mod set_writer;
+#[cfg(test)]
+mod sets;
 #[cfg(test)]
 mod slot_tests;
 #[cfg(test)]

@@ -2,8 +2,8 @@
 
 use crate::look_ups::{index_in_words, index_of};
 use capnp_base::traits::IndexMove;
+use capnp_fixtures::words::{UNREADABLE, number};
 use capnp_schema::schema::{FieldList, FieldSubset, StructSchema};
-use capnp_schema_fixtures::words::{UNREADABLE, number};
 use capnp_wire::error::Result;
 use std::alloc::Global;
 

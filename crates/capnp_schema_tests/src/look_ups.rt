@@ -3,11 +3,11 @@
 use crate::lists::{add_name, in_order, listed, sizes};
 use capnp_base::introspect::{RawBrandedStructSchema, RawEnumSchema};
 use capnp_base::traits::IndexMove;
+use capnp_fixtures::fixtures::schema_of;
+use capnp_fixtures::words::{UNREADABLE, first_word, number};
 use capnp_schema::plan::{Place, SlotPlan};
 use capnp_schema::schema::{EnumSchema, Enumerant, Field, StructSchema};
 use capnp_schema::set::SchemaSet;
-use capnp_schema_fixtures::fixtures::schema_of;
-use capnp_schema_fixtures::words::{UNREADABLE, first_word, number};
 use capnp_wire::error::{Error, ErrorKind, Result};
 use std::alloc::Global;
 

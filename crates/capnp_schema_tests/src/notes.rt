@@ -1,11 +1,11 @@
 //! Annotations of structs, fields, enums and enumerants, beside the words that say them.
 
 use crate::look_ups::{enum_of, enumerant_of, field_of};
+use capnp_fixtures::fixtures::schema_of;
+use capnp_fixtures::words::{UNREADABLE, first_word, name_and_content, number, read_type};
 use capnp_schema::schema::{Annotation, AnnotationList};
 use capnp_schema::set::SchemaSet;
 use capnp_schema::value::Value;
-use capnp_schema_fixtures::fixtures::schema_of;
-use capnp_schema_fixtures::words::{UNREADABLE, first_word, name_and_content, number, read_type};
 use capnp_wire::PointerReader;
 use capnp_wire::error::Result;
 use capnp_wire::size::ElementSize;

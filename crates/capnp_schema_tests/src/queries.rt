@@ -38,10 +38,10 @@
 use crate::handles::{again, compared, is_there};
 use crate::look_ups::{field_of, of_enum, of_struct};
 use crate::notes::{found_is, notes_are};
+use capnp_fixtures::set_text::read_set_text;
+use capnp_fixtures::words::{first_word, read_type};
 use capnp_schema::builtin::new_set;
 use capnp_schema::set::SchemaSet;
-use capnp_schema_fixtures::set_text::read_set_text;
-use capnp_schema_fixtures::words::{first_word, read_type};
 use capnp_wire::error::Result;
 use std::alloc::Global;
 use std::process::Abort;

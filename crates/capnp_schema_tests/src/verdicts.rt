@@ -5,8 +5,8 @@
 //! The answer is `accepted`, or a rule that is broken and where: `rule 4 brand 0 field 1`, or `rule 8 brand 1` where
 //! the whole entry is meant. Where a row has several answers, with ` or ` between them, the check may give any of them.
 
-use capnp_schema_fixtures::fixtures::WHOLE;
-use capnp_schema_fixtures::set_text::read_set_text;
+use capnp_fixtures::fixtures::WHOLE;
+use capnp_fixtures::set_text::read_set_text;
 use capnp_wire::error::{Error, ErrorKind, Result, SchemaTable};
 use std::alloc::Global;
 use std::process::Abort;

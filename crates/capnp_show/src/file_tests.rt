@@ -4,10 +4,10 @@
 use crate::messages::row_of;
 use crate::set_files::{FLAT_LINE, META_LINE, NEST, REFUSED_SETS, TWICE};
 use crate::tests::{Way, answered, line_comes, rows_hold, run_on, wanted_line, words_of};
+use capnp_fixtures::bytes::bytes_of;
+use capnp_fixtures::wire_messages::{FLAT, META};
 use capnp_show_engine::command::command;
 use capnp_wire::memory::{MemorySink, MemorySource};
-use capnp_wire_fixtures::bytes::bytes_of;
-use capnp_wire_fixtures::messages::{FLAT, META};
 use std::alloc::Global;
 use std::process::Abort;
 use std::rt::Files;

@@ -6,13 +6,13 @@
 ghost use Rattle.std.specs.Prelude.{⊤};
 
 use crate::messages::{BEGINNINGS, EXAMPLES, LAST, REFUSED, SHOWN, UNTOLD, row_of};
+use capnp_fixtures::bytes::bytes_of;
+use capnp_fixtures::devices::{chunk, is_unread};
 use capnp_show_engine::command::{command_over, report};
 use capnp_show_engine::opener::Opener;
 use capnp_wire::device::DeviceFault;
 use capnp_wire::error::{ErrorKind, SchemaTable};
 use capnp_wire::memory::{MemorySink, MemorySource};
-use capnp_wire_fixtures::bytes::bytes_of;
-use capnp_wire_fixtures::devices::{chunk, is_unread};
 use std::alloc::Global;
 use std::process::Abort;
 use std::test::Fail;

@@ -6,6 +6,8 @@
 #![tactic(auto)]
 
 #[cfg(test)]
+mod base;
+#[cfg(test)]
 mod blob_tests;
 #[cfg(test)]
 mod device_tests;

@@ -21,13 +21,13 @@
 //! with them `u16 3 default 7`. The same holds of `bool`, whose default is 0 or 1. All numbers of a list are `u8s` to `u64s`
 //! and `i8s` to `i64s`: how many there are and each of them in order, and after a comma those at these indices and one more.
 
+use capnp_fixtures::bytes::bytes_of;
 use capnp_wire::error::{ErrorKind, Result};
 use capnp_wire::message::Reader;
 use capnp_wire::primitive::PrimitiveElement;
 use capnp_wire::size::{ElementSize, MessageSize};
 use capnp_wire::{ListReader, PointerReader, StructReader};
 use capnp_wire_callers::sum::sum_of_list;
-use capnp_wire_fixtures::bytes::bytes_of;
 use std::alloc::{AllocError, Global};
 use std::fmt::Display;
 use std::process::Abort;

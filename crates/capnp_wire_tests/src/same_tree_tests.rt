@@ -1,7 +1,7 @@
 //! Whether two messages hold the same tree.
 
+use capnp_fixtures::bytes::{answer, bytes_of, root_of};
 use capnp_wire::error::Result;
-use capnp_wire_fixtures::bytes::{answer, bytes_of, root_of};
 use std::alloc::Global;
 use std::process::Abort;
 

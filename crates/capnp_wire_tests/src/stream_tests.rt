@@ -1,11 +1,11 @@
 //! Messages in a stream: the segment table, and what a source gives.
 
 use crate::reads::{are_answers, messages_answer};
+use capnp_fixtures::bytes::{answer, bytes_of};
 use capnp_wire::error::ErrorKind::ReadFailed;
 use capnp_wire::error::Result;
 use capnp_wire::memory::MemorySource;
 use capnp_wire::transfer::read_all;
-use capnp_wire_fixtures::bytes::{answer, bytes_of};
 use std::alloc::Global;
 use std::process::Abort;
 use std::test::Fail;

@@ -1,7 +1,7 @@
 //! Messages that the public `capnp` tool, version 0.9.2, wrote from examples/reading.capnp.
 
 use crate::reads::scripts_are_answered;
-use capnp_wire_fixtures::messages::SEVEN_SEGMENTS;
+use capnp_fixtures::wire_messages::SEVEN_SEGMENTS;
 
 // echo '(id = 5, level = -2, on = true, name = "hello", scores = [1, 2, 300],
 //   points = [(x = 1, y = 2), (x = -3, y = 4)])' | capnp encode examples/reading.capnp Reading | xxd -c 8 -g 1

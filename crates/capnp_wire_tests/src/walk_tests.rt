@@ -1,10 +1,10 @@
 //! The walks of this crate.
 
 use crate::reads::messages_answer;
+use capnp_fixtures::bytes::{answer, bytes_of, root_of};
 use capnp_wire::error::ErrorKind::{self, TooDeep, Truncated, WrongPointerKind};
 use capnp_wire::error::Result;
 use capnp_wire_callers::path::{get_by_path, get_text_by_path, read_by_path};
-use capnp_wire_fixtures::bytes::{answer, bytes_of, root_of};
 use std::alloc::Global;
 
 // A struct whose pointers are null, to a struct of one word, to the text hi, and to itself.

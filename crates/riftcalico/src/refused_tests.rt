@@ -4,7 +4,7 @@
 //! the verb, or of all verbs; it is told too behind what is unknown. A line that begins with `#` says what the
 //! rows below it show.
 use crate::tests::{EMPTY_ROOT, Setting, USAGE, answered, comes_to, run_on, tells};
-use capnp_wire_fixtures::bytes::bytes_of;
+use capnp_fixtures::bytes::bytes_of;
 use std::alloc::Global;
 use std::process::Abort;
 use std::test::Fail;

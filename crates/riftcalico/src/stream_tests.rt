@@ -2,7 +2,7 @@
 //!
 //! A row has the form of `rows`. Its messages are of `Flat`, whose number `a` is 5, 6 or 7, or of a root that is a list.
 use crate::tests::{Setting, answered, comes_to, rows_are_so, run_on};
-use capnp_wire_fixtures::bytes::bytes_of;
+use capnp_fixtures::bytes::bytes_of;
 use std::alloc::Global;
 use std::process::Abort;
 use std::test::Fail;

@@ -5,11 +5,11 @@
 ghost use Rattle.std.specs.Prelude.{⊤};
 
 use crate::rows::{GOT, LISTED, PATCHED, TOLD};
+use capnp_fixtures::bytes::bytes_of;
+use capnp_fixtures::devices::{chunk, is_unread};
 use capnp_show_engine::opener::Opener;
 use capnp_wire::device::DeviceFault;
 use capnp_wire::memory::{MemorySink, MemorySource};
-use capnp_wire_fixtures::bytes::bytes_of;
-use capnp_wire_fixtures::devices::{chunk, is_unread};
 use riftcalico_engine::command::command_over;
 use std::alloc::Global;
 use std::process::Abort;

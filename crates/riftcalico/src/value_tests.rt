@@ -1,7 +1,7 @@
 //! Every kind of value, typed as a word: those at the bounds of their types, which are set and read back, and those one
 //! past them, which are told with the place of the byte that can't stand.
 use crate::tests::{EMPTY_ROOT, Setting, answered, comes_to, run_on, tells};
-use capnp_wire_fixtures::bytes::bytes_of;
+use capnp_fixtures::bytes::bytes_of;
 use std::alloc::Global;
 use std::process::Abort;
 use std::test::Fail;

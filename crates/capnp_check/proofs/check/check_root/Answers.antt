@@ -5,7 +5,7 @@ use Rattle.capnp_schema.specs.StructHandles.{struct_node}
 use Rattle.capnp_schema.specs.declared.schema.structs.StructSchema.{StructSchema}
 use Rattle.capnp_dynamic_readers.specs.Steps.Shown.{root_shown, value_shown}
 use Rattle.capnp_check.specs.Refusals.{text_refusal}
-use Rattle.capnp_check.proofs.Roots.{other_root, struct_root}
+use Rattle.capnp_dynamic_readers.specs.Facts.Roots.{other_root, struct_root}
 use Rattle.capnp_check.proofs.check.check_root.Goals as goal
 use Rattle.capnp_check.proofs.check.check_root.Goals.{in-Struct+else-get_proto, in_default}
 

@@ -1,7 +1,7 @@
 use Rattle.std.proofs.Common.{◌∙◌, sym}
 use Rattle.capnp_schema.specs.FieldLists.{index_of}
 use Rattle.capnp_dynamic_readers.specs.Handles.{schema_of}
-use Rattle.capnp_check.proofs.ItemsShown.{belongs}
+use Rattle.capnp_dynamic_readers.specs.Facts.ItemsShown.{belongs}
 use Rattle.capnp_check.proofs.Shown.{always_in, is_free, is_other, part_there, shown_always, shown_inactive, shown_there}
 use Rattle.capnp_dynamic_readers.specs.Facts.HasWhich.{ok_same}
 use Rattle.capnp_check.proofs.parts.is_field_shown.Goals as goal

@@ -1,4 +1,4 @@
-use Rattle.capnp_check.proofs.PartsShown.{element_read, element_refused}
+use Rattle.capnp_dynamic_readers.specs.Facts.PartsShown.{element_read, element_refused}
 use Rattle.capnp_check.proofs.parts.read_element.Goals as goal
 
 pub returns-clause-read : goal.returns-clause-read

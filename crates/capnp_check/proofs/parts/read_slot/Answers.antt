@@ -1,6 +1,6 @@
 use Rattle.std.proofs.Common.{subst, sym, ◌∙◌, None}
 use Rattle.capnp_schema.specs.StructHandles.{IsStruct}
-use Rattle.capnp_check.proofs.PartsShown.{part_read, part_unread, target_in}
+use Rattle.capnp_dynamic_readers.specs.Facts.PartsShown.{part_read, part_unread, target_in}
 use Rattle.capnp_check.proofs.parts.read_slot.Goals as goal
 
 pub returns-clause-read : goal.returns-clause-read

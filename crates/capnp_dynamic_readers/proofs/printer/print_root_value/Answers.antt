@@ -4,7 +4,8 @@ use Rattle.capnp_schema.specs.Schema.{Node}
 use Rattle.capnp_schema.specs.StructHandles.{struct_node}
 use Rattle.capnp_schema.specs.declared.schema.structs.StructSchema.{StructSchema}
 use Rattle.capnp_dynamic_readers.specs.Steps.Shown.{root_shown, value_shown}
-use Rattle.capnp_dynamic_readers.proofs.Roots.{other_root, root_stopped, struct_root}
+use Rattle.capnp_dynamic_readers.specs.Facts.Roots.{other_root, struct_root}
+use Rattle.capnp_dynamic_readers.proofs.Roots.{root_stopped}
 use Rattle.capnp_dynamic_readers.proofs.printer.print_root_value.Goals as goal
 use Rattle.capnp_dynamic_readers.proofs.printer.print_root_value.Goals.{in-Struct+else-get_proto, in_default}
 

@@ -1,7 +1,7 @@
 use Rattle.std.proofs.Common.{◌∙◌}
 use Rattle.capnp_schema.specs.FieldLists.{index_of}
 use Rattle.capnp_dynamic_readers.specs.Facts.HasWhich.{ok_same}
-use Rattle.capnp_json.proofs.ItemsJson.{plain_has}
+use Rattle.capnp_dynamic_readers.specs.Facts.ItemsShown.{plain_has}
 use Rattle.capnp_json.proofs.items.is_field_there.Goals as goal
 
 pub returns : goal.returns

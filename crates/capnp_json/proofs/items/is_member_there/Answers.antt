@@ -2,7 +2,8 @@ use Rattle.std.proofs.Common.{◌∙◌}
 use Rattle.capnp_schema.specs.FieldLists.{index_of}
 use Rattle.capnp_dynamic_readers.specs.Facts.HasWhich.{ok_same}
 use Rattle.capnp_dynamic_readers.specs.Handles.{schema_of}
-use Rattle.capnp_json.proofs.ItemsJson.{belongs, member_has}
+use Rattle.capnp_dynamic_readers.specs.Facts.ItemsShown.{belongs}
+use Rattle.capnp_json.proofs.ItemsJson.{member_has}
 use Rattle.capnp_json.proofs.items.is_member_there.Goals as goal
 
 pub has-requires : goal.has-requires

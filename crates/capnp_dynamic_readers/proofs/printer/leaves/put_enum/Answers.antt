@@ -1,6 +1,5 @@
-use Rattle.std.proofs.Common.{List, ℕ, decimal, subst, ◌≡◌, ◌∙◌, IfErr, OnOk}
+use Rattle.std.proofs.Common.{List, ℕ, subst, ◌∙◌, IfErr}
 use Rattle.capnp_records.specs.Text.{said_text}
-use Rattle.capnp_dynamic_readers.specs.Steps.Leaf.{enumerant_text}
 use Rattle.capnp_dynamic_readers.specs.Steps.Pieces.{IsStopped}
 use Rattle.capnp_dynamic_readers.proofs.Pieces.{enumerant_named, enumerant_numbered}
 use Rattle.capnp_dynamic_readers.proofs.printer.leaves.put_enum.Goals as goal

@@ -3,7 +3,7 @@ use Rattle.capnp_schema.specs.FieldLists.{index_of}
 use Rattle.capnp_dynamic_readers.specs.Handles.{schema_of}
 use Rattle.capnp_dynamic_readers.specs.Steps.PartsRead.{field_in}
 use Rattle.capnp_dynamic_readers.proofs.GroupSteps.{active_member, active_which, item_of_active, item_of_inactive, item_of_plain, member_from}
-use Rattle.capnp_dynamic_readers.proofs.ItemsShown.{belongs}
+use Rattle.capnp_dynamic_readers.specs.Facts.ItemsShown.{belongs}
 use Rattle.capnp_dynamic_readers.proofs.printer.parts.has_item.Goals as goal
 
 pub is_field_there-requires-clause-non_union : goal.is_field_there-requires-clause-non_union

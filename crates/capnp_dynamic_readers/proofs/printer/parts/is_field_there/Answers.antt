@@ -1,6 +1,6 @@
 use Rattle.std.proofs.Common.{◌∙◌}
 use Rattle.capnp_schema.specs.FieldLists.{index_of}
-use Rattle.capnp_dynamic_readers.proofs.ItemsShown.{plain_has}
+use Rattle.capnp_dynamic_readers.specs.Facts.ItemsShown.{plain_has}
 use Rattle.capnp_dynamic_readers.specs.Facts.HasWhich.{ok_same}
 use Rattle.capnp_dynamic_readers.proofs.printer.parts.is_field_there.Goals as goal
 

@@ -1,6 +1,6 @@
 use Rattle.std.proofs.Common.{◌∙◌, arith}
 use Rattle.capnp_schema.specs.FieldLists.{index_of}
-use Rattle.capnp_dynamic_readers.proofs.ItemsShown.{discriminant_in, member_has, shown_of_another, shown_of_first}
+use Rattle.capnp_dynamic_readers.specs.Facts.ItemsShown.{discriminant_in, member_has, shown_of_another, shown_of_first}
 use Rattle.capnp_dynamic_readers.specs.Facts.HasWhich.{ok_same}
 use Rattle.capnp_dynamic_readers.proofs.printer.parts.is_shown.Goals as goal
 

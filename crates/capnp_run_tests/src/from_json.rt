@@ -1,0 +1,4 @@
+//! Tests of JSON texts that are read under types: it has tests alone.
+
+#[cfg(test)]
+mod leaf_tests;
