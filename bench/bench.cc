@@ -1,6 +1,7 @@
 // Times this library and the C++ library side by side and prints one table. Its words are the folder of schema.capnp, one for
 // large files, our two programs, and the two that cargo built, where it is there.
 #include "documents.h"
+#include "json.h"
 #include "prints.h"
 #include "program.h"
 #include "reads.h"
@@ -33,6 +34,7 @@ int main(int count, char **words) {
   set_messages::add_rows(table);
   requests::add_rows(table);
   prints::add_rows(table, file.getNested("Lists").asStruct());
+  json::add_rows(table);
   program::OurProgram shows{words[3], HAS_CARGO ? words[5] : ""}, patches{words[4], HAS_CARGO ? words[6] : ""};
   program::add_rows(table, file.getNested("Lists").asStruct(), words[1], words[2], shows, patches);
   return table.status();

@@ -23,3 +23,7 @@ struct Document {
   title @1 :Text;
   items @2 :List(Item);
 }
+
+struct Measures {
+  values @0 :List(Float64);
+}

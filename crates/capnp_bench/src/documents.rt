@@ -27,7 +27,7 @@ use capnp_wire::size::ElementSize;
 use std::alloc::Global;
 
 /// The structs of a document, an item and a tag.
-const SET: &str = "
+pub(crate) const SET: &str = "
 struct 1 2, version UInt32 @0, title Text @0, items List(Struct(1)) @1;
 struct 2 4, id UInt64 @0, kind UInt16 @4, name Text @0, note Text @1, numbers List(UInt32) @2, tags List(Struct(2)) @3;
 struct 1 1, number UInt32 @0, label Text @0";

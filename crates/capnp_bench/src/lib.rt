@@ -3,6 +3,7 @@
 #![tactic(auto)]
 
 mod documents;
+mod json;
 mod prints;
 mod reads;
 mod requests;

@@ -1,4 +1,5 @@
 pub mod Going
 pub mod Digits
 pub mod Intervals
+pub mod Kept
 pub mod Nearing

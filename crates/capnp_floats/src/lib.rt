@@ -12,5 +12,6 @@ pub mod nearest;
 mod search;
 mod small;
 pub mod text;
+mod wide;
 pub mod width;
 pub mod word;

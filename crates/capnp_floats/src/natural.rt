@@ -1,20 +1,31 @@
-//! Naturals below 2^1152.
-ghost use Rattle.std.specs.Prelude.{ℕ, ◌≡◌, ◌+◌, ◌*◌, ◌^◌, ◌<◌, ◌≤◌, nat_lt};
-ghost use Rattle.capnp_floats.specs.Naturals.{natural_of, room};
+//! Naturals below 2^1152: those of at most 128 bits as numbers, so that most floats are written by these alone.
+ghost use Rattle.std.specs.Prelude.{ℕ, ◌≡◌, ◌+◌, ◌*◌, ◌^◌, ◌<◌, ◌≤◌, IfSome, nat_lt};
+ghost use Rattle.capnp_floats.specs.Naturals.{room};
+ghost use Rattle.capnp_floats.specs.Steps.Kept.{natural_kept};
 
-use crate::limbs;
+use crate::small::times;
+use crate::wide::Wide;
 use std::marker::Model;
+
+/// How a natural is kept.
+#[derive(Drop)]
+enum Kept {
+    /// One of at most 128 bits.
+    Few(u128),
+    /// One that may have more.
+    Many(Wide),
+}
 
 /// A natural below 2^1152.
 #[derive(Drop)]
 pub struct Natural {
-    row: [u32; 36],
+    kept: Kept,
 }
 
 impl Model for Natural {
     ghost Value = { ℕ };
 
-    ghost view = { λ n. natural_of n.row };
+    ghost view = { λ n. natural_kept n.kept };
 }
 
 impl Natural {
@@ -22,59 +33,152 @@ impl Natural {
     pub fn new(number: u64) -> Natural
         ensures { result ≡ number }
     {
-        let mut row = [0u32; 36];
-        row[0] = (number % 4294967296) as u32;
-        row[1] = (number / 4294967296) as u32;
-        Natural { row }
+        Natural {
+            kept: Kept::Few(number as u128),
+        }
     }
 
-    /// A copy of this natural.
-    pub fn copied(&self) -> Natural
+    /// The number, where it is kept as one.
+    #[inline(always)]
+    fn few(&self) -> Option<u128>
+        ensures { IfSome result (λ n. n ≡ self.now) }
+    {
+        match &self.kept {
+            Kept::Few(number) => Some(*number),
+            Kept::Many(_) => None,
+        }
+    }
+
+    /// The natural in places.
+    fn widened(&self) -> Wide
         ensures { result ≡ self.now }
     {
-        Natural { row: self.row }
+        match &self.kept {
+            Kept::Few(number) => Wide::new(*number),
+            Kept::Many(wide) => wide.copied(),
+        }
+    }
+
+    /// The natural times a factor, where both are numbers.
+    #[inline(always)]
+    fn few_times(&self, factor: u32) -> Option<u128>
+        ensures { IfSome result (λ n. n ≡ self.now * factor) }
+    {
+        let number = self.few()?;
+        let product = number.checked_mul(factor as u128)?;
+        Some(product)
     }
 
     /// The natural times a factor.
+    #[inline(always)]
     pub fn multiply(&mut self, factor: u32)
         requires { self.old * factor < room }
         ensures { self.new ≡ self.old * factor }
     {
-        limbs::scale(&mut self.row, factor, 0);
+        if let Some(product) = self.few_times(factor) {
+            self.kept = Kept::Few(product);
+            return;
+        }
+        let mut wide = self.widened();
+        wide.multiply(factor);
+        self.kept = Kept::Many(wide);
+    }
+
+    /// The natural times a power of two, where both are numbers.
+    fn few_doubled(&self, twos: u32) -> Option<u128>
+        ensures { IfSome result (λ n. n ≡ self.now * 2 ^ twos) }
+    {
+        let number = self.few()?;
+        times(number, 2, twos)
     }
 
     /// The natural times a power of two.
-    pub fn double(&mut self, times: u32)
-        requires { self.old * 2 ^ times < room }
-        ensures { self.new ≡ self.old * 2 ^ times }
+    pub fn double(&mut self, twos: u32)
+        requires { self.old * 2 ^ twos < room }
+        ensures { self.new ≡ self.old * 2 ^ twos }
     {
-        'doubling: for i in 0..times {
-            self.multiply(2);
+        if let Some(product) = self.few_doubled(twos) {
+            self.kept = Kept::Few(product);
+            return;
         }
+        let mut wide = self.widened();
+        wide.double(twos);
+        self.kept = Kept::Many(wide);
+    }
+
+    /// The sum with another, where both and it are numbers.
+    #[inline(always)]
+    fn few_sum(&self, other: &Natural) -> Option<u128>
+        ensures { IfSome result (λ n. n ≡ self.now + other.now) }
+    {
+        let first = self.few()?;
+        let second = other.few()?;
+        let sum = first.checked_add(second)?;
+        Some(sum)
     }
 
     /// The sum with another.
+    #[inline(always)]
     pub fn sum(&self, other: &Natural) -> Natural
         requires { self.now + other.now < room }
         ensures { result ≡ self.now + other.now }
     {
-        let mut row = self.row;
-        limbs::add(&mut row, &other.row);
-        Natural { row }
+        if let Some(sum) = self.few_sum(other) {
+            return Natural {
+                kept: Kept::Few(sum),
+            };
+        }
+        let wide = self.widened();
+        Natural {
+            kept: Kept::Many(wide.sum(&other.widened())),
+        }
+    }
+
+    /// What is left without another, where both are numbers.
+    #[inline(always)]
+    fn few_left(&self, other: &Natural) -> Option<u128>
+        ensures { IfSome result (λ n. n + other.now ≡ self.now) }
+    {
+        let first = self.few()?;
+        let second = other.few()?;
+        let left = first.checked_sub(second)?;
+        Some(left)
     }
 
     /// Takes another from the natural.
+    #[inline(always)]
     pub fn subtract(&mut self, other: &Natural)
         requires { other.now ≤ self.old }
         ensures { self.new + other.now ≡ self.old }
     {
-        limbs::subtract(&mut self.row, &other.row);
+        if let Some(left) = self.few_left(other) {
+            self.kept = Kept::Few(left);
+            return;
+        }
+        let mut wide = self.widened();
+        wide.subtract(&other.widened());
+        self.kept = Kept::Many(wide);
+    }
+
+    /// Whether it is less than another, where both are numbers.
+    #[inline(always)]
+    fn is_few_below(&self, other: &Natural) -> Option<bool>
+        ensures { IfSome result (λ b. b ≡ nat_lt self.now other.now) }
+    {
+        let first = self.few()?;
+        let second = other.few()?;
+        Some(first < second)
     }
 
     /// Whether it is less than another.
+    #[inline(always)]
     pub fn is_below(&self, other: &Natural) -> bool
         ensures { result ≡ nat_lt self.now other.now }
     {
-        limbs::is_below(&self.row, &other.row)
+        if let Some(below) = self.is_few_below(other) {
+            return below;
+        }
+        let wide = self.widened();
+        wide.is_below(&other.widened())
     }
 }

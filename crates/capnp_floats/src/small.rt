@@ -9,7 +9,7 @@ use crate::nearest::{infinity_bits, least_places};
 use crate::width::{Width, fraction_end, precision};
 
 /// A number times a power. None where it does not fit.
-fn times(number: u128, base: u128, exponent: u32) -> Option<u128>
+pub(crate) fn times(number: u128, base: u128, exponent: u32) -> Option<u128>
     ensures { IfSome result (λ n. n ≡ number * base ^ exponent) }
 {
     let power = base.checked_pow(exponent)?;

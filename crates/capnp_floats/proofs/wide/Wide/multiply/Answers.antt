@@ -1,7 +1,7 @@
 use Rattle.std.proofs.Common.{arith, ap, ◌*◌, ◌+◌, ◌^◌, ◌≡◌, length}
 use Rattle.capnp_floats.specs.Naturals.{natural_of}
 use Rattle.capnp_floats.proofs.Naturals.{none_carried}
-use Rattle.capnp_floats.proofs.natural.Natural.multiply.Goals as goal
+use Rattle.capnp_floats.proofs.wide.Wide.multiply.Goals as goal
 
 pub returns : goal.returns
 returns c =

@@ -1,7 +1,7 @@
 use Rattle.std.proofs.Common.{arith, ◌*◌, ◌^◌, ◌≡◌, ◌<◌}
 use Rattle.capnp_floats.specs.Naturals.{room}
 use Rattle.capnp_floats.proofs.Naturals.{doubling_fits}
-use Rattle.capnp_floats.proofs.natural.Natural.double.Goals as goal
+use Rattle.capnp_floats.proofs.wide.Wide.double.Goals as goal
 
 pub multiply-requires : goal.multiply-requires
 multiply-requires c =

@@ -1,7 +1,7 @@
 use Rattle.std.proofs.Common.{arith, ◌*◌, ◌+◌, ◌^◌, ◌≡◌, length}
 use Rattle.capnp_floats.specs.Naturals.{natural_of}
 use Rattle.capnp_floats.proofs.Naturals.{none_lent}
-use Rattle.capnp_floats.proofs.natural.Natural.subtract.Goals as goal
+use Rattle.capnp_floats.proofs.wide.Wide.subtract.Goals as goal
 
 pub returns : goal.returns
 returns c =

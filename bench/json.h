@@ -1,0 +1,54 @@
+// Rows of JSON: a document of 21.6 MB, and a list of a million floats of up to 17 digits. The
+// checksum of documents adds their lengths, that of floats counts commas, since the other side's digits may be more.
+#pragma once
+#include "documents.h"
+#include <algorithm>
+#include <capnp/compat/json.h>
+
+namespace json {
+
+constexpr unsigned FLOATS = 1000000;
+
+// numbers from 0 up to 1, by the upper 53 bits of a sequence
+inline wire::Bytes measures() {
+  capnp::MallocMessageBuilder message(FLOATS + 16);
+  auto values = message.initRoot<documents::Measures>().initValues(FLOATS);
+  uint64_t state = 0x9e3779b97f4a7c15;
+  for (unsigned i = 0; i < FLOATS; i++) {
+    state ^= state << 13;
+    state ^= state >> 7;
+    state ^= state << 17;
+    values.set(i, double(state >> 11) / 9007199254740992.0);
+  }
+  return wire::bytes_of(message);
+}
+
+inline uint64_t write_documents(const wire::Bytes &bytes, uint64_t rounds) {
+  capnp::JsonCodec codec;
+  uint64_t sum = 0;
+  while (rounds--) {
+    wire::Opened source(bytes);
+    sum += codec.encode(source.reader.getRoot<documents::Document>()).size();
+  }
+  return sum;
+}
+
+inline uint64_t write_floats(const wire::Bytes &bytes, uint64_t rounds) {
+  capnp::JsonCodec codec;
+  uint64_t sum = 0;
+  while (rounds--) {
+    wire::Opened source(bytes);
+    auto text = codec.encode(source.reader.getRoot<documents::Measures>());
+    sum += std::count(text.begin(), text.end(), ',');
+  }
+  return sum;
+}
+
+inline void add_rows(Table &table) {
+  auto document = documents::document();
+  wire::row(table, "a document of 21.6 MB as JSON, an item", documents::COUNT, document, ours::json_document, write_documents);
+  auto floats = measures();
+  wire::row(table, "a float of up to 17 digits as JSON", FLOATS, floats, ours::json_floats, write_floats);
+}
+
+} // namespace json

@@ -1,0 +1,66 @@
+//! JSON: of a document, and of a list of floats.
+
+use crate::documents::SET;
+use capnp_fixtures::fixtures::schema_of;
+use capnp_fixtures::set_text::read_set_text;
+use capnp_json::message::message_to_json;
+use capnp_wire::error::{Error, ErrorKind, Result};
+use std::alloc::Global;
+
+/// A struct with a list of numbers that are marked as floats.
+const MEASURES: &str =
+    "struct 0 1, values List(UInt64) @0; note field:0 17442370646614463749 Void Void";
+
+/// The most bytes of a JSON.
+const LIMIT: usize = 1 << 30;
+
+/// Writes a message as the JSON of the first struct of a set.
+fn json_of(alloc: Global, set: &'static str, message: &[u8]) -> Result<Vec<u8>> {
+    let schemas = read_set_text(alloc, set)?;
+    let schema = schema_of(&schemas, 0)?;
+    match message_to_json(alloc, schema, message, false, LIMIT) {
+        Ok(json) => Ok(json),
+        Err(_) => Err(Error::from(ErrorKind::TooLarge)),
+    }
+}
+
+/// How many commas there are.
+fn commas_in(bytes: &[u8]) -> u64 {
+    let mut count: u64 = 0;
+    for index in 0..bytes.len() {
+        if bytes[index] == b',' {
+            count = count.wrapping_add(1);
+        }
+    }
+    count
+}
+
+/// Writes a document so many times, and adds the lengths.
+fn json_document(alloc: Global, message: &[u8], rounds: u64) -> Result<u64> {
+    let mut sum: u64 = 0;
+    for _ in 0..rounds {
+        let json = json_of(alloc, SET, message)?;
+        sum = sum.wrapping_add(json.len() as u64);
+    }
+    Ok(sum)
+}
+
+/// Writes a list of floats so many times, and adds how many there are but one.
+fn json_floats(alloc: Global, message: &[u8], rounds: u64) -> Result<u64> {
+    let mut sum: u64 = 0;
+    for _ in 0..rounds {
+        let json = json_of(alloc, MEASURES, message)?;
+        sum = sum.wrapping_add(commas_in(&json));
+    }
+    Ok(sum)
+}
+
+#[unsafe(no_mangle)]
+pub extern "C" fn bench_json_document(alloc: Global, message: &[u8], rounds: u64) -> u64 {
+    json_document(alloc, message, rounds).unwrap_or(0)
+}
+
+#[unsafe(no_mangle)]
+pub extern "C" fn bench_json_floats(alloc: Global, message: &[u8], rounds: u64) -> u64 {
+    json_floats(alloc, message, rounds).unwrap_or(0)
+}
