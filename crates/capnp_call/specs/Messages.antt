@@ -1,5 +1,5 @@
 -- Calls on a message's root.
-use Rattle.std.specs.Prelude.{ℕ, suc, ◌<◌, ◌≡◌, ◌⊎◌, List, ◌++◌, Bool, true, false, IsTrue, Option, Some, None, Ok, Err}
+use Rattle.std.specs.Prelude.{ℕ, suc, ◌-◌, max, min, ◌<◌, ◌≡◌, ◌⊎◌, List, ◌++◌, Bool, true, false, IsTrue, Option, Some, None, Ok, Err}
 use Rattle.capnp_device.specs.declared.error.ErrorKind.{ErrorKind}
 use Rattle.capnp_wire.specs.Depth.{IsShallow, root_levels}
 use Rattle.capnp_wire.specs.Edits.{extended_struct, is_struct, struct_in, struct_refusal, zero_struct}
@@ -70,6 +70,12 @@ fault_or (Some fault) later = Some (refusal fault)
 
 abbrev pub root_refusal : Tree → Option ErrorKind
 root_refusal t = fault_or (first_fault t) (struct_refusal t)
+
+-- ---- the limit of a message ----
+
+-- the most words that a message has by the limit that is asked for: 0 stands for 1, and no message has more than the format says
+abbrev pub most_words : (limit : ℕ) → ℕ
+most_words limit = min (max limit 1) (words_past_format - 1)
 
 -- ---- what is written and printed ----
 

@@ -1,5 +1,5 @@
 //! Calls on whole messages: on an empty root, or on a message that was copied in whole.
-ghost use Rattle.std.specs.Prelude.{IsTrue, None, Some, Err, ◌<◌, ◌≡◌, ◌≢◌, OnErr, OnOk, IfErr, IfOk, string_bytes};
+ghost use Rattle.std.specs.Prelude.{IsTrue, None, Some, Err, ◌<◌, ◌≤◌, ◌≡◌, ◌≢◌, OnErr, OnOk, IfErr, IfOk, string_bytes};
 ghost use Rattle.capnp_device.specs.declared.error.ErrorKind.TheVariants.{OutOfMemory};
 ghost use Rattle.capnp_wire.specs.Edits.{is_struct, struct_in};
 ghost use Rattle.capnp_wire.specs.Standing.{tree_of};
@@ -9,7 +9,7 @@ ghost use Rattle.capnp_arena.specs.Shape.{word_count};
 ghost use Rattle.capnp_schema.specs.StructHandles.{IsStruct, number_of, set_of};
 ghost use Rattle.capnp_slots.specs.Standing.{IsUnder};
 ghost use Rattle.capnp_dynamic_readers.specs.Pieces.{IsAppended};
-ghost use Rattle.capnp_call.specs.Messages.{HasRoot, IsCopiedRefusal, IsRoot, IsWhole, IsWholeRefusal, LeavesRun, copied_record, copied_root, new_record, new_root, root_refusal};
+ghost use Rattle.capnp_call.specs.Messages.{HasRoot, IsCopiedRefusal, IsRoot, IsWhole, IsWholeRefusal, LeavesRun, copied_record, copied_root, most_words, new_record, new_root, root_refusal};
 ghost use Rattle.capnp_call.specs.Steps.Messages.{RunsOn, read_text, root_text};
 ghost use Rattle.capnp_call.specs.Runs.{IsCallMade, MakesCalls, RestsWhole};
 
@@ -25,7 +25,7 @@ use capnp_schema::laws::numbers_fit;
 use capnp_schema::schema::StructSchema;
 use capnp_slots::size_of;
 use capnp_wire::PointerReader;
-use capnp_wire::error::{ErrorKind, Result};
+use capnp_wire::error::{Error, ErrorKind, Result};
 use capnp_wire::laws::pointer_is_well_formed;
 use std::alloc::Global;
 
@@ -193,6 +193,18 @@ fn run_root(
     replies
 }
 
+/// Asks whether a message has at most the words of its limit. No call changes that limit: what calls left is measured here,
+/// so that a contract says so. Else refused with `OutOfMemory`, as a call for which there was no room.
+fn keep_within(message: &Builder, limit: usize) -> Result<()>
+    ensures within { OnOk result (word_count (segment message.now) ≤ most_words limit) }
+    ensures cause { IfErr result (λ e. e.kind ≡ OutOfMemory) }
+{
+    if bytes_of(message).len() / 8 > limit.max(1).min(MOST_WORDS) {
+        return Err(Error::from(ErrorKind::OutOfMemory));
+    }
+    Ok(())
+}
+
 /// Makes calls on an empty root of a new message: the root is a struct of the schema, all zero and null, and what it
 /// reads as after the calls is what the machine of records makes of the schema's default record. The schema is one of
 /// an accepted set. The message never has more words than `limit`, which stands for 1 where it is 0, and for
@@ -217,11 +229,13 @@ pub fn run_new(
         (struct_in (message_tree left.message))) }
     ensures rests { IfOk result (λ left. RestsWhole schema.entry (new_root schema.entry) calls.now
         left.replies.items) }
+    ensures within { IfOk result (λ left. word_count (segment left.message) ≤ most_words limit) }
     ensures cause { IfErr result (λ e. e.kind ≡ OutOfMemory) }
 {
     let mut message = Builder::with_limit(alloc, limit)?;
     empty_root(&mut message, schema)?;
     let replies = run_root(alloc, &mut message, schema, calls)?;
+    keep_within(&message, limit)?;
     Ok(Run { message, replies })
 }
 
@@ -249,12 +263,14 @@ pub fn run_copied(
         (struct_in (message_tree left.message))) }
     ensures rests { IfOk result (λ left. RestsWhole schema.entry
         (copied_root schema.entry source.entry) calls.now left.replies.items) }
+    ensures within { IfOk result (λ left. word_count (segment left.message) ≤ most_words limit) }
     ensures sound { OnOk result (root_refusal (tree_of source.entry) ≡ None) }
     ensures cause { IfErr result (λ e. e.kind ≢ OutOfMemory → root_refusal (tree_of source.entry) ≡ Some e.kind) }
 {
     let mut message = Builder::with_limit(alloc, limit)?;
     copied_root(&mut message, source, schema)?;
     let replies = run_root(alloc, &mut message, schema, calls)?;
+    keep_within(&message, limit)?;
     Ok(Run { message, replies })
 }
 
