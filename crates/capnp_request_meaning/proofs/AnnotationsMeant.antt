@@ -1,5 +1,5 @@
 -- Annotations and names as they stand.
-use Rattle.std.proofs.Common.{ℕ, ◌≡◌, ◌∙◌, ap, refl, Bool, true, false, List, map, Option, Some, None, Ok, Err}
+use Rattle.std.proofs.Common.{ℕ, ◌≡◌, ◌∙◌, ap, refl, subst, Bool, true, false, List, map, Option, Some, None, Ok, Err}
 use Rattle.std.specs.Str.{is_utf8}
 use Rattle.capnp_device.specs.declared.error.ErrorKind.TheVariants.{NameNotUtf8}
 use Rattle.capnp_schema.specs.Schema.{Annotation}
@@ -24,15 +24,22 @@ name_taken bytes name h = go (is_utf8 bytes) h
     go true e = cc
     go false e = absurd (cc)
 
+pub text_taken : (bytes name : List ℕ) → converted_name bytes ≡ Ok name → is_utf8 name ≡ true
+text_taken bytes name h = subst (λ xs. is_utf8 xs ≡ true) (name_taken bytes name h) (go (is_utf8 bytes) refl h)
+  where
+    go : (q : Bool) → is_utf8 bytes ≡ q → (elim q as (λ _. Said (List ℕ)) [ true ↦ Ok bytes | false ↦ Err NameNotUtf8 ]) ≡ Ok name → is_utf8 bytes ≡ true
+    go true is e = is
+    go false is e = absurd (cc)
+
 pub named_as : (said : Said (List ℕ)) (bytes name : List ℕ) → said ≡ Ok bytes → converted_name bytes ≡ Ok name → said ≡ Ok name
 named_as said bytes name e h = e ∙ ap (λ xs. Ok xs) (name_taken bytes name h)
 
 -- ---- declarations ----
 
-record IsDeclaration (o : Option SchemaNode) (t : TypeTerm) : Type 0 where
-  node : SchemaNode
-  first : o ≡ Some node
-  annotation : node.kind ≡ AnnotationNode t
+pub record IsDeclaration (o : Option SchemaNode) (t : TypeTerm) : Type 0 where
+  pub node : SchemaNode
+  pub first : o ≡ Some node
+  pub annotation : node.kind ≡ AnnotationNode t
 
 declares : (k : NodeKind) (t : TypeTerm) → kind_declared k ≡ Some t → k ≡ AnnotationNode t
 declares (AnnotationNode u) t e = ap (λ x. AnnotationNode x) (same_some e)
@@ -40,7 +47,7 @@ declares (StructNode part) t e = absurd (cc)
 declares (EnumNode enumerants) t e = absurd (cc)
 declares OtherNode t e = absurd (cc)
 
-declaration : (o : Option SchemaNode) (t : TypeTerm) → declared_term o ≡ Some t → IsDeclaration o t
+pub declaration : (o : Option SchemaNode) (t : TypeTerm) → declared_term o ≡ Some t → IsDeclaration o t
 declaration (Some n) t e = record { node = n; first = refl; annotation = declares n.kind t e }
 declaration None t e = absurd (cc)
 

@@ -78,12 +78,12 @@ entry_is id bound e h = go e.place refl h
     go Whole is h = let parts = and_parts (e.node == id) (same_bound e.bound bound) h in record { node = eqb-true e.node id parts.0; whole = is; same = parts.1 }
     go (GroupOf parent field) is h = absurd (cc)
 
-record FoundAt {A : Type 0} (P : A → Type 0) (xs : List A) (k n : ℕ) : Type 0 where
-  index : ℕ
-  element : A
-  number : n ≡ k + index
-  there : slice_get xs index ≡ Some element
-  holds : P element
+pub record FoundAt {A : Type 0} (P : A → Type 0) (xs : List A) (k n : ℕ) : Type 0 where
+  pub index : ℕ
+  pub element : A
+  pub number : n ≡ k + index
+  pub there : slice_get xs index ≡ Some element
+  pub holds : P element
 
 abbrev IsEntryOf : ℕ → List Bound → Entry → Type 0
 IsEntryOf id bound e = is_entry_of id bound e e.place ≡ true
@@ -108,7 +108,7 @@ not_among id bound (x ∷ es) k i e h there = go (is_entry_of id bound x x.place
     go false is zero rest h there = ap (λ (y : Entry). is_entry_of id bound y y.place) (sym (same_some there)) ∙ is
     go false is (suc j) rest h there = rest j h there
 
-found_enum : (ids : List ℕ) (id k n : ℕ) → enum_position ids id k ≡ Some n → FoundAt (λ x. x ≡ id) ids k n
+pub found_enum : (ids : List ℕ) (id k n : ℕ) → enum_position ids id k ≡ Some n → FoundAt (λ x. x ≡ id) ids k n
 found_enum [] id k n h = absurd (cc)
 found_enum (x ∷ ids) id k n h = go (x == id) refl (found_enum ids id (k + 1) n) h
   where

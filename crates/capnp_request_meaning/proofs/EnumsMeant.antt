@@ -1,5 +1,6 @@
 -- An enum has what its node has.
-use Rattle.std.proofs.Common.{ℕ, ◌≡◌, ◌∙◌, ap, refl, Bool, List, [], ◌∷◌, ◌++◌, map, ◌≤◌, length, subst, sym}
+use Rattle.std.proofs.Common.{ℕ, ◌≡◌, ◌∙◌, ap, refl, Bool, true, List, [], ◌∷◌, ◌++◌, map, ◌≤◌, length, subst, sym}
+use Rattle.std.specs.Str.{is_utf8}
 use Rattle.capnp_schema.specs.Schema.{Annotation, Enum, Enumerant}
 use Rattle.capnp_schema.specs.Types.{SchemaType}
 use Rattle.capnp_request.specs.Conversion.{annotations_of, converted_name}
@@ -8,7 +9,7 @@ use Rattle.capnp_request.specs.Scopes.{node_named}
 use Rattle.capnp_request.specs.Terms.{AnnotationTerm, EnumNode, EnumerantTerm, Said, SchemaNode}
 use Rattle.capnp_request.specs.Work.{Entry, Named, Work, work_of, work_said, ◌>>=◌}
 use Rattle.capnp_request_meaning.specs.Meaning.{IsAnnotationOf, IsEnumOf, IsEnumerantOf, IsSaidList, Numbers}
-use Rattle.capnp_request_meaning.proofs.AnnotationsMeant.{annotations_meant, named_as}
+use Rattle.capnp_request_meaning.proofs.AnnotationsMeant.{annotations_meant, named_as, text_taken}
 use Rattle.capnp_request_meaning.proofs.EntriesKept.{KeepsWhole}
 use Rattle.capnp_request_meaning.proofs.NamesMeant.{IsEnumBegun, enum_begun}
 use Rattle.capnp_request_meaning.proofs.TypesMeant.{numbers}
@@ -20,6 +21,7 @@ pub record IsEnumAdded (k : Numbers) (m after : Made) (id : ℕ) : Type 0 where
   pub nodes_are : after.nodes ≡ m.nodes
   pub brands_are : after.brands ≡ m.brands
   pub holders_are : after.holders ≡ m.holders
+  pub names_are : after.enum_names ≡ m.enum_names
   pub enums_are : after.enums ≡ m.enums ++ new ∷ []
   pub is_id : new.id ≡ id
   pub is : IsEnumOf k new
@@ -34,10 +36,10 @@ pub record IsEnumMade (k : Numbers) (id : ℕ) (name : List ℕ) (node : SchemaN
   pub enumerants : IsSaidList (IsEnumerantOf k) members e.enumerants e.annotation_types.children
 
 module _ (K : List Entry → Type 0) (nodes : List SchemaNode) (whole : KeepsWhole K nodes) (strict : Bool) where
-  abbrev enumerant_with : List ℕ → List (Annotation × SchemaType) → Work (Enumerant × List SchemaType)
+  abbrev pub enumerant_with : List ℕ → List (Annotation × SchemaType) → Work (Enumerant × List SchemaType)
   enumerant_with name annotations = work_of (record { name = name; annotations = firsts annotations }, seconds annotations)
 
-  abbrev enumerant_named : EnumerantTerm → List ℕ → Work (Enumerant × List SchemaType)
+  abbrev pub enumerant_named : EnumerantTerm → List ℕ → Work (Enumerant × List SchemaType)
   enumerant_named x name = annotations_of nodes strict [] x.annotations >>= enumerant_with name
 
   abbrev IsEnumerantMade : EnumerantTerm → Enumerant × List SchemaType → Named → Type 0
@@ -52,7 +54,7 @@ module _ (K : List Entry → Type 0) (nodes : List SchemaNode) (whole : KeepsWho
       (λ bytes read. said_bind K (converted_name bytes) (enumerant_named x) (IsEnumerantMade x)
       (λ name taken. bind K (annotations_of nodes strict [] x.annotations) (enumerant_with name) (AreAnnotations x.annotations) (IsEnumerantMade x) (annotations_meant K nodes whole strict [] x.annotations)
       (λ annotations. of_work K (record { name = name; annotations = firsts annotations }, seconds annotations) (λ (y : Enumerant × List SchemaType) z. AreAnnotations x.annotations annotations z → IsEnumerantMade x y z)
-      (λ z h. record { name = named_as x.name bytes name read taken; annotations = h }))))
+      (λ z h. record { name = named_as x.name bytes name read taken; text = text_taken bytes name taken; annotations = h }))))
 
   abbrev AreEnumerants : Said (List (Said EnumerantTerm)) → List (Enumerant × List SchemaType) → Named → Type 0
   AreEnumerants members ys z = IsSaidList (IsEnumerantOf (numbers nodes strict z)) members (map (λ (y : Enumerant × List SchemaType). y.0) ys) (map (λ (y : Enumerant × List SchemaType). y.1) ys)
@@ -61,7 +63,7 @@ module _ (K : List Entry → Type 0) (nodes : List SchemaNode) (whole : KeepsWho
   enumerants_meant members = all_of K (enumerant_of nodes strict) (λ (y : Enumerant × List SchemaType). y.0) (λ (y : Enumerant × List SchemaType). y.1) (λ z. IsEnumerantOf (numbers nodes strict z)) enumerant_meant members
 
   module _ (id : ℕ) (name : List ℕ) (node : SchemaNode) where
-    abbrev enum_with : List (Enumerant × List SchemaType) → List (Annotation × SchemaType) → Enum
+    abbrev pub enum_with : List (Enumerant × List SchemaType) → List (Annotation × SchemaType) → Enum
     enum_with children own = record {
       id = id;
       display_name = name;
@@ -70,13 +72,13 @@ module _ (K : List Entry → Type 0) (nodes : List SchemaNode) (whole : KeepsWho
       annotation_types = record { own = seconds own; children = map (λ (c : Enumerant × List SchemaType). c.1) children };
     }
 
-    abbrev with_own : List (Enumerant × List SchemaType) → List (Annotation × SchemaType) → Work Enum
+    abbrev pub with_own : List (Enumerant × List SchemaType) → List (Annotation × SchemaType) → Work Enum
     with_own children own = work_of (enum_with children own)
 
-    abbrev with_children : List (Enumerant × List SchemaType) → Work Enum
+    abbrev pub with_children : List (Enumerant × List SchemaType) → Work Enum
     with_children children = annotations_of nodes strict [] node.annotations >>= with_own children
 
-    abbrev with_members : Said (List (Said EnumerantTerm)) → Work Enum
+    abbrev pub with_members : Said (List (Said EnumerantTerm)) → Work Enum
     with_members members = all_enumerants nodes strict members >>= with_children
 
     abbrev IsEnumLater : Enum → Named → Type 0
@@ -90,10 +92,10 @@ module _ (K : List Entry → Type 0) (nodes : List SchemaNode) (whole : KeepsWho
         (λ z annotated meant. record { members = members; enumeration = is; is_id = refl; is_name = refl; annotations = annotated; enumerants = meant }))))
 
   module _ (m : Made) (id : ℕ) where
-    abbrev with_enum : Enum → Work Made
+    abbrev pub with_enum : Enum → Work Made
     with_enum e = work_of (record m { enums = m.enums ++ e ∷ [] })
 
-    abbrev with_begun : List ℕ × SchemaNode → Work Made
+    abbrev pub with_begun : List ℕ × SchemaNode → Work Made
     with_begun b = enum_made nodes strict id b.0 b.1 >>= with_enum
 
     enum_from : (z : Named) (name : List ℕ) (node : SchemaNode) (e : Enum) → IsEnumBegun nodes id name node → IsEnumMade (numbers nodes strict z) id name node e → IsEnumOf (numbers nodes strict z) e
@@ -106,6 +108,7 @@ module _ (K : List Entry → Type 0) (nodes : List SchemaNode) (whole : KeepsWho
       said = begun.said;
       name = made.is_name ∙ begun.is;
       short = subst (λ (xs : List ℕ). length xs ≤ 1024) (sym made.is_name) begun.short;
+      text = subst (λ (xs : List ℕ). is_utf8 xs ≡ true) (sym made.is_name) begun.text;
       annotations = made.annotations;
       enumerants = made.enumerants;
     }
@@ -114,4 +117,4 @@ module _ (K : List Entry → Type 0) (nodes : List SchemaNode) (whole : KeepsWho
     enum_added = said_bind K (begin_enum nodes id) with_begun (λ after z. IsEnumAdded (numbers nodes strict z) m after id) (λ b h.
         bind K (enum_made nodes strict id b.0 b.1) with_enum (λ e z. IsEnumMade (numbers nodes strict z) id b.0 b.1 e) (λ after z. IsEnumAdded (numbers nodes strict z) m after id) (enum_meant id b.0 b.1)
         (λ e. of_work K (record m { enums = m.enums ++ e ∷ [] }) (λ (after : Made) z. IsEnumMade (numbers nodes strict z) id b.0 b.1 e → IsEnumAdded (numbers nodes strict z) m after id)
-        (λ z made. record { new = e; nodes_are = refl; brands_are = refl; holders_are = refl; enums_are = refl; is_id = made.is_id; is = enum_from z b.0 b.1 e (enum_begun nodes id b h) made })))
+        (λ z made. record { new = e; nodes_are = refl; brands_are = refl; holders_are = refl; names_are = refl; enums_are = refl; is_id = made.is_id; is = enum_from z b.0 b.1 e (enum_begun nodes id b h) made })))

@@ -1,6 +1,7 @@
 -- The fields of an entry, one after another.
 use Rattle.std.proofs.Common.{ℕ, suc, ◌+◌, ◌≡◌, ◌∙◌, ◌&&◌, ap, arith, refl, Bool, List, [], ◌∷◌, ◌++◌, map, slice_get, Some, Ok, Err, length, nat_lt, true, false}
 use Rattle.std.proofs.lemmas.List.{append-nil, map-append}
+use Rattle.std.specs.Str.{is_utf8}
 use Rattle.capnp_device.specs.declared.error.ErrorKind.TheVariants.{NodeNotFound}
 use Rattle.capnp_schema.specs.Schema.{Annotation, FieldKind, Group, Slot}
 use Rattle.capnp_schema.specs.Types.{SchemaType, StructType}
@@ -11,7 +12,7 @@ use Rattle.capnp_request.specs.Types.{add_entry, is_of_kind, is_struct_kind, typ
 use Rattle.capnp_request.specs.Values.{value_stated}
 use Rattle.capnp_request.specs.Work.{Bound, Entry, GroupOf, MarkedType, Named, Seen, Work, plain, seen_in, work_of, work_said, ◌>>=◌}
 use Rattle.capnp_request_meaning.specs.Meaning.{AreFieldsFrom, AreMarked, IsAnnotationOf, IsFieldOf, IsKindOf, IsSaidList, IsTypeOf}
-use Rattle.capnp_request_meaning.proofs.AnnotationsMeant.{annotations_meant, named_as}
+use Rattle.capnp_request_meaning.proofs.AnnotationsMeant.{annotations_meant, named_as, text_taken}
 use Rattle.capnp_request_meaning.proofs.EntriesKept.{KeepsWhole, entry_added}
 use Rattle.capnp_request_meaning.proofs.TypesMeant.{numbers, type_meant}
 use Rattle.capnp_request_meaning.proofs.Works.{Done, IsWork, bind, done_where, of_work, said_bind, seen_alone}
@@ -73,18 +74,18 @@ module _ (K : List Entry → Type 0) (nodes : List SchemaNode) (whole : KeepsWho
   abbrev AreAnnotations : FieldTerm → List (Annotation × SchemaType) → Named → Type 0
   AreAnnotations f ps z = IsSaidList (IsAnnotationOf (numbers nodes strict z) inside) f.annotations (map (λ (p : Annotation × SchemaType). p.0) ps) (map (λ (p : Annotation × SchemaType). p.1) ps)
 
-  field_named : (i : ℕ) (f : FieldTerm) → slice_get members i ≡ Some (Ok f) → (name : List ℕ) → f.name ≡ Ok name → IsWork K (kind_of nodes strict inside n i f.kind >>= (λ kind. annotations_of nodes strict inside f.annotations >>= (λ annotations. work_of (field_made f name kind annotations)))) (IsConvertedOf i f)
-  field_named i f there name is =
+  field_named : (i : ℕ) (f : FieldTerm) → slice_get members i ≡ Some (Ok f) → (name : List ℕ) → f.name ≡ Ok name → is_utf8 name ≡ true → IsWork K (kind_of nodes strict inside n i f.kind >>= (λ kind. annotations_of nodes strict inside f.annotations >>= (λ annotations. work_of (field_made f name kind annotations)))) (IsConvertedOf i f)
+  field_named i f there name is text =
       bind K (kind_of nodes strict inside n i f.kind) (λ kind. annotations_of nodes strict inside f.annotations >>= (λ annotations. work_of (field_made f name kind annotations))) (λ q z. IsKindOf (numbers nodes strict z) inside n i f.kind q.0 q.1) (IsConvertedOf i f) (kind_meant i f there f.kind refl)
       (λ kind. bind K (annotations_of nodes strict inside f.annotations) (λ annotations. work_of (field_made f name kind annotations)) (AreAnnotations f) (λ c z. IsKindOf (numbers nodes strict z) inside n i f.kind kind.0 kind.1 → IsConvertedOf i f c z) (annotations_meant K nodes whole strict inside f.annotations)
       (λ annotations. of_work K (field_made f name kind annotations) (λ c z. AreAnnotations f annotations z → IsKindOf (numbers nodes strict z) inside n i f.kind kind.0 kind.1 → IsConvertedOf i f c z)
-      (λ z h k. record { said = kind.1; own = map (λ (p : Annotation × SchemaType). p.0) annotations; own_types = map (λ (p : Annotation × SchemaType). p.1) annotations; name = is; discriminant_value = refl; annotations = h; marked = are_marked annotations kind.1.is_float; kind = k; stands = refl })))
+      (λ z h k. record { said = kind.1; own = map (λ (p : Annotation × SchemaType). p.0) annotations; own_types = map (λ (p : Annotation × SchemaType). p.1) annotations; name = is; text = text; discriminant_value = refl; annotations = h; marked = are_marked annotations kind.1.is_float; kind = k; stands = refl })))
 
   field_meant : (i : ℕ) (f : FieldTerm) → slice_get members i ≡ Some (Ok f) → IsWork K (field_of nodes strict inside n i f) (IsConvertedOf i f)
   field_meant i f there =
       said_bind K f.name (λ bytes. work_said (converted_name bytes) >>= (λ name. kind_of nodes strict inside n i f.kind >>= (λ kind. annotations_of nodes strict inside f.annotations >>= (λ annotations. work_of (field_made f name kind annotations))))) (IsConvertedOf i f)
       (λ bytes read. said_bind K (converted_name bytes) (λ name. kind_of nodes strict inside n i f.kind >>= (λ kind. annotations_of nodes strict inside f.annotations >>= (λ annotations. work_of (field_made f name kind annotations)))) (IsConvertedOf i f)
-      (λ name taken. field_named i f there name (named_as f.name bytes name read taken)))
+      (λ name taken. field_named i f there name (named_as f.name bytes name read taken) (text_taken bytes name taken)))
 
   abbrev AreConverted : (i : ℕ) → List (Said FieldTerm) → List Converted → Named → Type 0
   AreConverted i fs cs z = AreFieldsFrom (numbers nodes strict z) inside n i fs (map (λ (c : Converted). c.field) cs) (map (λ (c : Converted). c.type) cs) (map (λ (c : Converted). c.annotation_types) cs)

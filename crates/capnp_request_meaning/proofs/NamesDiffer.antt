@@ -11,6 +11,7 @@ use Rattle.capnp_request_meaning.specs.Laws.{HasOwnNames, IsUnboundAt, UnboundNa
 use Rattle.capnp_request_meaning.specs.Meaning.{AreEntries, AreUnbound, IsEntryAt, IsEntryName, IsNameOf, IsSetOf, IsTaken, Numbers, numbers_in, without_types}
 use Rattle.capnp_request_meaning.proofs.EntriesKept.{same_bound_itself}
 use Rattle.capnp_request_meaning.proofs.ListsFound.{same_some, among_first}
+use Rattle.capnp_request_meaning.proofs.NamesMeant.{name_by, taken_by}
 use Rattle.capnp_request_meaning.proofs.ScopesKept.{same_without}
 use Rattle.capnp_request_meaning.proofs.SetsMeant.{NodeAt, node_of_entry}
 
@@ -58,7 +59,7 @@ module _ (r : RequestTerm) (strict : Bool) (set : Schemas) (is : IsSetOf r stric
         absurd (true≢false (sym one ∙ is.distinct i j e f less a.there b.there b.whole))
 
     differ : n.display_name ≡ m.display_name → ⊥
-    differ same = go name_n.is name_m.is
+    differ same = go shown_n shown_m
       where
         at_i : NodeAt k is.entries e set.nodes i
         at_i = node_of_entry k is.entries set.nodes set.brands i e is.nodes a.there
@@ -66,11 +67,17 @@ module _ (r : RequestTerm) (strict : Bool) (set : Schemas) (is : IsSetOf r stric
         at_j : NodeAt k is.entries f set.nodes j
         at_j = node_of_entry k is.entries set.nodes set.brands j f is.nodes b.there
 
-        name_n : IsNameOf r.nodes at_i.earlier e.node at_i.is.node at_i.node.display_name
-        name_n = subst (λ p. IsEntryName r.nodes at_i.earlier at_i.before at_i.is.node e p at_i.node.display_name) a.whole at_i.is.name a.unbound
+        name_n : IsNameOf k at_i.earlier at_i.before e at_i.is.node at_i.node.display_name
+        name_n = subst (λ p. IsEntryName k at_i.earlier at_i.before at_i.is.node e p at_i.node.display_name) a.whole at_i.is.name
 
-        name_m : IsNameOf r.nodes at_j.earlier f.node at_j.is.node at_j.node.display_name
-        name_m = subst (λ p. IsEntryName r.nodes at_j.earlier at_j.before at_j.is.node f p at_j.node.display_name) b.whole at_j.is.name b.unbound
+        shown_n : (at_i.node.display_name ≡ dotted_of name_n.display) ⊎ (at_i.node.display_name ≡ name_n.display)
+        shown_n = name_by (map (λ (x : Node). x.display_name) at_i.before) name_n.enums e.bound name_n.display at_i.node.display_name name_n.with_file a.unbound (sym name_n.is)
+
+        name_m : IsNameOf k at_j.earlier at_j.before f at_j.is.node at_j.node.display_name
+        name_m = subst (λ p. IsEntryName k at_j.earlier at_j.before at_j.is.node f p at_j.node.display_name) b.whole at_j.is.name
+
+        shown_m : (at_j.node.display_name ≡ dotted_of name_m.display) ⊎ (at_j.node.display_name ≡ name_m.display)
+        shown_m = name_by (map (λ (x : Node). x.display_name) at_j.before) name_m.enums f.bound name_m.display at_j.node.display_name name_m.with_file b.unbound (sym name_m.is)
 
         equal : at_i.node.display_name ≡ at_j.node.display_name
         equal = ap (λ (x : Node). x.display_name) (same_some (sym at_i.there ∙ a.node)) ∙ (same ∙ ap (λ (x : Node). x.display_name) (same_some (sym b.node ∙ at_j.there)))
@@ -95,8 +102,11 @@ module _ (r : RequestTerm) (strict : Bool) (set : Schemas) (is : IsSetOf r stric
         taken : dotted_of name_n.display ≡ dotted_of name_m.display → IsTaken r.nodes at_j.earlier f.node (dotted_of name_m.display)
         taken d = record { number = i; entry = e; node = at_i.is.node; display = name_n.display; numbered = earlier; whole = a.whole; other = other; first = at_i.is.first; said = name_n.said; same = d }
 
+        whole_m : IsTaken r.nodes at_j.earlier f.node (dotted_of name_m.display) → at_j.node.display_name ≡ name_m.display
+        whole_m t = taken_by (map (λ (x : Node). x.display_name) at_j.before) name_m.enums f.bound name_m.display at_j.node.display_name name_m.with_file b.unbound (sym name_m.is) (name_m.taken t)
+
         go : (at_i.node.display_name ≡ dotted_of name_n.display) ⊎ (at_i.node.display_name ≡ name_n.display) → (at_j.node.display_name ≡ dotted_of name_m.display) ⊎ (at_j.node.display_name ≡ name_m.display) → ⊥
-        go (inl x) (inl y) = not_dotted name_m.display name_n.display colon_m (sym (name_m.taken (taken (sym x ∙ (equal ∙ y)))) ∙ (sym equal ∙ x))
+        go (inl x) (inl y) = not_dotted name_m.display name_n.display colon_m (sym (whole_m (taken (sym x ∙ (equal ∙ y)))) ∙ (sym equal ∙ x))
         go (inl x) (inr y) = not_dotted name_m.display name_n.display colon_m (sym y ∙ (sym equal ∙ x))
         go (inr x) (inl y) = not_dotted name_n.display name_m.display colon_n (sym x ∙ (equal ∙ y))
         go (inr x) (inr y) = not_one (sym x ∙ (equal ∙ y))

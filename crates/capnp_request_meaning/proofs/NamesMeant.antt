@@ -1,6 +1,7 @@
 -- The display names of entries and enums.
-use Rattle.std.proofs.Common.{ℕ, ◌+◌, ◌-◌, ◌≡◌, ◌∙◌, ◌⊎◌, ◌==◌, ap, drop, inl, inr, refl, subst, sym, length, map, nat_lt, slice_get, Bool, true, false, List, [], ◌∷◌, ◌++◌, Option, Some, None, Ok, Err, zero, suc, ◌&&◌, bytes_eq, not, ◌≤◌}
-use Rattle.std.proofs.lemmas.Bool.{eqb-true, and_from, or_left, or_right, ltb-false}
+use Rattle.std.proofs.Common.{ℕ, ◌+◌, ◌-◌, ◌≡◌, ◌∙◌, ◌⊎◌, ◌==◌, ap, append_assoc, drop, inl, inr, refl, subst, sym, length, map, nat_lt, slice_get, Bool, true, false, List, [], ◌∷◌, ◌++◌, Option, Some, None, Ok, Err, zero, suc, ◌&&◌, bytes_eq, not, ◌≤◌}
+use Rattle.std.proofs.lemmas.Bool.{and_from, and_parts, eqb-true, ltb-false, or_cases, or_left, or_right}
+use Rattle.std.proofs.lemmas.List.{append-nil}
 use Rattle.std.specs.Str.{is_utf8}
 use Rattle.capnp_device.specs.declared.error.ErrorKind.{ErrorKind}
 use Rattle.capnp_device.specs.declared.error.ErrorKind.TheVariants.{NameNotUtf8, TooManyTypes}
@@ -10,7 +11,7 @@ use Rattle.capnp_request.specs.Order.{Begun, Made, and_said, begin_enum, begin_s
 use Rattle.capnp_request.specs.Scopes.{node_named}
 use Rattle.capnp_request.specs.Terms.{Said, SchemaNode}
 use Rattle.capnp_request.specs.Work.{Bound, Entry, GroupOf, MarkedType, Place, Whole}
-use Rattle.capnp_request_meaning.specs.Meaning.{AreUnbound, IsEntryName, IsGroupName}
+use Rattle.capnp_request_meaning.specs.Meaning.{AreEnumsNamed, AreFirstEnums, AreUnbound, IsEntryName, IsEnumNamed, IsGroupName, IsTaken, Numbers}
 use Rattle.std.proofs.lemmas.Slice.Eq.{bytes_eq-Decides}
 use Rattle.capnp_request_meaning.proofs.ListsFound.{IsAmong, same_some}
 
@@ -54,6 +55,15 @@ name_short name out h = subst (λ (xs : List ℕ). length xs ≤ 1024) (name_fin
     go true is r e = absurd (cc)
     go false is r e = ltb-false 1024 (length name) is
 
+-- and UTF-8
+pub name_text : (name out : List ℕ) → finished_name name ≡ Ok out → is_utf8 out ≡ true
+name_text name out h = subst (λ (xs : List ℕ). is_utf8 xs ≡ true) (name_finished name out h) (go (nat_lt 1024 (length name)) (is_utf8 name) refl h)
+  where
+    go : (q r : Bool) → is_utf8 name ≡ r → (elim q as (λ _. Said (List ℕ)) [ true ↦ Err TooManyTypes | false ↦ elim r as (λ _. Said (List ℕ)) [ true ↦ Ok name | false ↦ Err NameNotUtf8 ] ]) ≡ Ok out → is_utf8 name ≡ true
+    go true r is e = absurd (cc)
+    go false true is e = is
+    go false false is e = absurd (cc)
+
 -- a display name is its file and what stands behind it
 file_dotted : (xs : List ℕ) → file_of xs ++ dotted_of xs ≡ xs
 file_dotted [] = refl
@@ -88,25 +98,22 @@ module _ (structs enums : List (List ℕ)) where
       go true is e f = ap (λ ys. ys ++ 46 ∷ bound_name structs enums bs dots (k + 1) xs) (no_bindings bs dots k u) ∙ (ap (λ ys. 46 ∷ ys) e ∙ ap (λ y. y ∷ xs) (sym (eqb-true x 46 is)))
       go false is e f = ap (λ ys. x ∷ ys) f
 
-  abbrev whole_name : List Bound → List ℕ → List ℕ
+  abbrev pub whole_name : List Bound → List ℕ → List ℕ
   whole_name bound display = bound_name structs enums bound (occurrences_of 46 (dotted_of display)) 0 (dotted_of display)
 
-  name_by : (bound : List Bound) (display name : List ℕ) (q : Bool) → AreUnbound bound → file_where q display ++ whole_name bound display ≡ name → (name ≡ dotted_of display) ⊎ (name ≡ display)
+  pub name_by : (bound : List Bound) (display name : List ℕ) (q : Bool) → AreUnbound bound → file_where q display ++ whole_name bound display ≡ name → (name ≡ dotted_of display) ⊎ (name ≡ display)
   name_by bound display name true u h = inr (sym h ∙ (ap (λ xs. file_of display ++ xs) (unbound_name bound (occurrences_of 46 (dotted_of display)) 0 (dotted_of display) u) ∙ file_dotted display))
   name_by bound display name false u h = inl (sym h ∙ unbound_name bound (occurrences_of 46 (dotted_of display)) 0 (dotted_of display) u)
 
-  taken_by : (bound : List Bound) (display name : List ℕ) (q : Bool) → AreUnbound bound → file_where q display ++ whole_name bound display ≡ name → q ≡ true → name ≡ display
+  pub taken_by : (bound : List Bound) (display name : List ℕ) (q : Bool) → AreUnbound bound → file_where q display ++ whole_name bound display ≡ name → q ≡ true → name ≡ display
   taken_by bound display name true u h is = sym h ∙ (ap (λ xs. file_of display ++ xs) (unbound_name bound (occurrences_of 46 (dotted_of display)) 0 (dotted_of display) u) ∙ file_dotted display)
   taken_by bound display name false u h is = absurd (cc)
 
+  pub struct_text : (holders : List Holder) (id : ℕ) (bound : List Bound) (display name : List ℕ) → struct_name structs enums holders id bound display ≡ Ok name → is_utf8 name ≡ true
+  struct_text holders id bound display name h = name_text (file_where (is_taken holders id (dotted_of display)) display ++ whole_name bound display) name h
+
   pub struct_short : (holders : List Holder) (id : ℕ) (bound : List Bound) (display name : List ℕ) → struct_name structs enums holders id bound display ≡ Ok name → length name ≤ 1024
   struct_short holders id bound display name h = name_short (file_where (is_taken holders id (dotted_of display)) display ++ whole_name bound display) name h
-
-  pub struct_taken : (holders : List Holder) (id : ℕ) (bound : List Bound) (display name : List ℕ) → AreUnbound bound → struct_name structs enums holders id bound display ≡ Ok name → is_taken holders id (dotted_of display) ≡ true → name ≡ display
-  struct_taken holders id bound display name u h is = taken_by bound display name (is_taken holders id (dotted_of display)) u (name_finished (file_where (is_taken holders id (dotted_of display)) display ++ whole_name bound display) name h) is
-
-  pub struct_named : (holders : List Holder) (id : ℕ) (bound : List Bound) (display name : List ℕ) → AreUnbound bound → struct_name structs enums holders id bound display ≡ Ok name → (name ≡ dotted_of display) ⊎ (name ≡ display)
-  struct_named holders id bound display name u h = name_by bound display name (is_taken holders id (dotted_of display)) u (name_finished (file_where (is_taken holders id (dotted_of display)) display ++ whole_name bound display) name h)
 
 -- ---- groups ----
 
@@ -121,6 +128,14 @@ group_named made p i name None there h = absurd (cc)
 field_short : (parent : List ℕ) (o : Option (List ℕ)) (name : List ℕ) → dotted_name parent o ≡ Ok name → length name ≤ 1024
 field_short parent (Some field) name h = name_short (parent ++ 46 ∷ field) name h
 field_short parent None name h = absurd (cc)
+
+field_text : (parent : List ℕ) (o : Option (List ℕ)) (name : List ℕ) → dotted_name parent o ≡ Ok name → is_utf8 name ≡ true
+field_text parent (Some field) name h = name_text (parent ++ 46 ∷ field) name h
+field_text parent None name h = absurd (cc)
+
+group_text : (o : Option Node) (i : ℕ) (name : List ℕ) → group_name o i ≡ Ok name → is_utf8 name ≡ true
+group_text (Some p) i name h = field_text p.display_name (slice_get (map (λ (f : Field). f.name) p.fields) i) name h
+group_text None i name h = absurd (cc)
 
 group_short : (o : Option Node) (i : ℕ) (name : List ℕ) → group_name o i ≡ Ok name → length name ≤ 1024
 group_short (Some p) i name h = field_short p.display_name (slice_get (map (λ (f : Field). f.name) p.fields) i) name h
@@ -147,7 +162,51 @@ taken_among hs h id dotted among same other = go hs among.index among.there
         or_left (bytes_eq x.dotted dotted && not (x.id == id)) (is_taken ks id dotted) (and_from (bytes_eq x.dotted dotted) (not (x.id == id)) bytes apart)
     go (x ∷ ks) (suc i) e = or_right (bytes_eq x.dotted dotted && not (x.id == id)) (is_taken ks id dotted) (go ks i e)
 
+-- each that has a dotted name is one of these entries
+pub record IsHolder (nodes : List SchemaNode) (es : List Entry) (h : Holder) : Type 0 where
+  pub number : ℕ
+  pub entry : Entry
+  pub node : SchemaNode
+  pub display : List ℕ
+  pub numbered : slice_get es number ≡ Some entry
+  pub whole : entry.place ≡ Whole
+  pub first : node_named nodes entry.node ≡ Some node
+  pub said : node.display_name ≡ Ok display
+  pub is : h ≡ holder entry.node (dotted_of display)
+
+abbrev pub AreHolding : List SchemaNode → List Holder → List Entry → Type 0
+AreHolding nodes hs es = (h : Holder) → IsAmong hs h → IsHolder nodes es h
+
+record TakenBy (hs : List Holder) (id : ℕ) (dotted : List ℕ) : Type 0 where
+  by : Holder
+  among : IsAmong hs by
+  same : by.dotted ≡ dotted
+  other : (by.id == id) ≡ false
+
+not_true : (q : Bool) → not q ≡ true → q ≡ false
+not_true true e = absurd (cc)
+not_true false e = refl
+
+taken_from : (hs : List Holder) (id : ℕ) (dotted : List ℕ) → is_taken hs id dotted ≡ true → TakenBy hs id dotted
+taken_from [] id dotted e = absurd (cc)
+taken_from (h ∷ hs) id dotted e = go (taken_from hs id dotted) (or_cases (bytes_eq h.dotted dotted && not (h.id == id)) (is_taken hs id dotted) e)
+  where
+    go : (is_taken hs id dotted ≡ true → TakenBy hs id dotted) → ((bytes_eq h.dotted dotted && not (h.id == id)) ≡ true) ⊎ (is_taken hs id dotted ≡ true) → TakenBy (h ∷ hs) id dotted
+    go later (inl k) =
+        let parts = and_parts (bytes_eq h.dotted dotted) (not (h.id == id)) k in
+        record { by = h; among = record { index = zero; there = refl }; same = (bytes_eq-Decides h.dotted dotted).0 parts.0; other = not_true (h.id == id) parts.1 }
+    go later (inr k) = let t : TakenBy hs id dotted = later k in record { by = t.by; among = record { index = suc t.among.index; there = t.among.there }; same = t.same; other = t.other }
+
+is_taken_by : (nodes : List SchemaNode) (hs : List Holder) (es : List Entry) (id : ℕ) (dotted : List ℕ) → AreHolding nodes hs es → is_taken hs id dotted ≡ true → IsTaken nodes es id dotted
+is_taken_by nodes hs es id dotted holding e =
+    let t : TakenBy hs id dotted = taken_from hs id dotted e in
+    let h : IsHolder nodes es t.by = holding t.by t.among in
+    record { number = h.number; entry = h.entry; node = h.node; display = h.display; numbered = h.numbered; whole = h.whole; other = ap (λ (y : Holder). y.id == id) (sym h.is) ∙ t.other; first = h.first; said = h.said; same = ap (λ (y : Holder). y.dotted) (sym h.is) ∙ t.same }
+
 -- ---- what an entry begins with ----
+
+abbrev pub numbers_with : List SchemaNode → Bool → List Entry → List ℕ → Numbers
+numbers_with nodes strict entries enums = record { nodes = nodes; strict = strict; entries = entries; enums = enums }
 
 abbrev first_or : List ℕ → Said (List ℕ × List Holder) → List ℕ
 first_or other (Ok p) = p.0
@@ -171,15 +230,20 @@ abbrev pub AreHoldersThen : List Holder → SchemaNode → Entry → Place → L
 AreHoldersThen holders node e Whole after = (display : List ℕ) × (node.display_name ≡ Ok display) × (after ≡ holder e.node (dotted_of display) ∷ holders)
 AreHoldersThen holders node e (GroupOf p i) after = after ≡ holders
 
-abbrev pub IsNamedSo : List SchemaNode → List Holder → List Node → SchemaNode → Entry → Place → List ℕ → List Holder → Type 0
-IsNamedSo nodes holders made node e p name after = ((earlier : List Entry) → AreHeld nodes holders earlier → IsEntryName nodes earlier made node e p name) × AreHoldersThen holders node e p after × (length name ≤ 1024)
+-- whatever is named later, behind entries that have the dotted names
+abbrev pub IsNamedBy : List SchemaNode → (names : List (List ℕ)) → List Holder → List Node → SchemaNode → Entry → Place → List ℕ → Type 0
+IsNamedBy nodes names holders made node e p name = (strict : Bool) (entries : List Entry) (ids : List ℕ) (earlier : List Entry) → AreFirstEnums (numbers_with nodes strict entries ids) names → AreHeld nodes holders earlier → AreHolding nodes holders earlier → IsEntryName (numbers_with nodes strict entries ids) earlier made node e p name
+
+abbrev pub IsNamedSo : List SchemaNode → (names : List (List ℕ)) → List Holder → List Node → SchemaNode → Entry → Place → List ℕ → List Holder → Type 0
+IsNamedSo nodes names holders made node e p name after = IsNamedBy nodes names holders made node e p name × AreHoldersThen holders node e p after × (length name ≤ 1024) × (is_utf8 name ≡ true)
 
 -- the node and the name of an entry, behind the nodes that are made
 pub record IsBegun (nodes : List SchemaNode) (m : Made) (e : Entry) (b : Begun) : Type 0 where
   pub first : node_named nodes e.node ≡ Some b.node
-  pub name : (earlier : List Entry) → AreHeld nodes m.holders earlier → IsEntryName nodes earlier m.nodes b.node e e.place b.name
+  pub name : IsNamedBy nodes b.enum_names m.holders m.nodes b.node e e.place b.name
   pub holders : AreHoldersThen m.holders b.node e e.place b.holders
   pub short : length b.name ≤ 1024
+  pub text : is_utf8 b.name ≡ true
 
 pub record IsEnumBegun (nodes : List SchemaNode) (id : ℕ) (name : List ℕ) (n : SchemaNode) : Type 0 where
   pub display : List ℕ
@@ -187,6 +251,28 @@ pub record IsEnumBegun (nodes : List SchemaNode) (id : ℕ) (name : List ℕ) (n
   pub said : n.display_name ≡ Ok display
   pub is : name ≡ dotted_of display
   pub short : length name ≤ 1024
+  pub text : is_utf8 name ≡ true
+
+-- two beginnings of one list
+record Longer (a c xs : List ℕ) : Type 0 where
+  rest : List ℕ
+  is : xs ≡ (a ++ drop (length a) c) ++ rest
+
+abbrev tail_of : List ℕ → List ℕ
+tail_of [] = []
+tail_of (x ∷ xs) = xs
+
+abbrev head_or : ℕ → List ℕ → ℕ
+head_or other [] = other
+head_or other (x ∷ xs) = x
+
+longer : (a c b d xs : List ℕ) → xs ≡ a ++ b → xs ≡ c ++ d → Longer a c xs
+longer [] c b d xs e f = record { rest = d; is = f }
+longer (x ∷ a) [] b d xs e f = record { rest = b; is = e ∙ ap (λ ys. ys ++ b) (sym (append-nil (x ∷ a))) }
+longer (x ∷ a) (y ∷ c) b d [] e f = absurd (cc)
+longer (x ∷ a) (y ∷ c) b d (z ∷ xs) e f =
+    let inner : Longer a c xs = longer a c b d xs (ap tail_of e) (ap tail_of f) in
+    record { rest = inner.rest; is = ap (λ ys. z ∷ ys) inner.is ∙ ap (λ w. w ∷ ((a ++ drop (length a) c) ++ inner.rest)) (ap (head_or z) e) }
 
 module _ (nodes : List SchemaNode) where
   module _ (made : List Node) (enums : List (List ℕ)) (holders : List Holder) (e : Entry) where
@@ -205,11 +291,11 @@ module _ (nodes : List SchemaNode) where
     abbrev with_holders : List ℕ → Said (List ℕ × List Holder)
     with_holders name = Ok (name, holders)
 
-    entry_name : (p : Place) (node : SchemaNode) (name : List ℕ) (after : List Holder) → node_named nodes e.node ≡ Some node → name_entry nodes made enums holders e p ≡ Ok (name, after) → IsNamedSo nodes holders made node e p name after
+    entry_name : (p : Place) (node : SchemaNode) (name : List ℕ) (after : List Holder) → node_named nodes e.node ≡ Some node → name_entry nodes made enums holders e p ≡ Ok (name, after) → IsNamedSo nodes enums holders made node e p name after
     entry_name (GroupOf parent field) node name after first h =
         let named = chained (group_name (slice_get made parent) field) with_holders (name, after) h in
         let is : named.value ≡ name = first_same named.value name holders after named.rest in
-        (λ earlier held. group_named made parent field name (slice_get made parent) refl (named.first ∙ ap (λ x. Ok x) is), sym (second_same named.value name holders after named.rest), group_short (slice_get made parent) field name (named.first ∙ ap (λ x. Ok x) is))
+        (λ strict entries ids earlier firsts held holding. group_named made parent field name (slice_get made parent) refl (named.first ∙ ap (λ x. Ok x) is), sym (second_same named.value name holders after named.rest), group_short (slice_get made parent) field name (named.first ∙ ap (λ x. Ok x) is), group_text (slice_get made parent) field name (named.first ∙ ap (λ x. Ok x) is))
     entry_name Whole node name after first h =
         let found = chained (node_there (node_named nodes e.node)) with_shown (name, after) h in
         let shown = chained found.value.display_name with_display (name, after) found.rest in
@@ -218,14 +304,19 @@ module _ (nodes : List SchemaNode) where
         let is_name : named.value ≡ name = first_same named.value name (record { id = e.node; dotted = dotted_of shown.value } ∷ holders) after named.rest in
         let is : struct_name structs_made enums holders e.node e.bound shown.value ≡ Ok name = named.first ∙ ap (λ x. Ok x) is_name in
         let said : node.display_name ≡ Ok shown.value = ap (λ (n : SchemaNode). n.display_name) (sym is_node) ∙ shown.first in (
-          λ earlier held u. record {
+          λ strict entries ids earlier firsts held holding. record {
             display = shown.value;
+            enums = enums;
+            with_file = is_taken holders e.node (dotted_of shown.value);
             said = said;
-            is = struct_named structs_made enums holders e.node e.bound shown.value name u is;
-            taken = λ t. struct_taken structs_made enums holders e.node e.bound shown.value name u is (taken_among holders (holder t.entry.node (dotted_of t.display)) e.node (dotted_of shown.value) (held t.number t.entry t.node t.display t.numbered t.whole t.first t.said) t.same t.other);
+            first_enums = firsts;
+            is = sym (name_finished (file_where (is_taken holders e.node (dotted_of shown.value)) shown.value ++ whole_name structs_made enums e.bound shown.value) name is);
+            taken = λ t. taken_among holders (holder t.entry.node (dotted_of t.display)) e.node (dotted_of shown.value) (held t.number t.entry t.node t.display t.numbered t.whole t.first t.said) t.same t.other;
+            free = λ t. is_taken_by nodes holders earlier e.node (dotted_of shown.value) holding t;
           },
           (shown.value, said, sym (second_same named.value name (holder e.node (dotted_of shown.value) ∷ holders) after named.rest)),
           struct_short structs_made enums holders e.node e.bound shown.value name is,
+          struct_text structs_made enums holders e.node e.bound shown.value name is,
         )
 
   module _ (m : Made) (e : Entry) where
@@ -251,10 +342,20 @@ module _ (nodes : List SchemaNode) where
         let there : node_named nodes e.node ≡ Some node.value = there_some (node_named nodes e.node) node.value node.first in
         let first : node_named nodes e.node ≡ Some b.node = there ∙ ap (λ (x : Begun). Some x.node) same in
         let is_node : node.value ≡ b.node = same_node node.value b.node (sym there ∙ first) in
-        let so : IsNamedSo nodes m.holders m.nodes node.value e e.place named.value.0 named.value.1 = entry_name m.nodes names.value m.holders e e.place node.value named.value.0 named.value.1 there named.first in
-        let so_named : IsNamedSo nodes m.holders m.nodes node.value e e.place b.name b.holders = subst (λ (x : Begun). IsNamedSo nodes m.holders m.nodes node.value e e.place x.name x.holders) same so in
-        let so_begun : IsNamedSo nodes m.holders m.nodes b.node e e.place b.name b.holders = subst (λ (n : SchemaNode). IsNamedSo nodes m.holders m.nodes n e e.place b.name b.holders) is_node so_named in
-        record { first = first; name = so_begun.0; holders = so_begun.1; short = so_begun.2 }
+        let so : IsNamedSo nodes names.value m.holders m.nodes node.value e e.place named.value.0 named.value.1 = entry_name m.nodes names.value m.holders e e.place node.value named.value.0 named.value.1 there named.first in
+        let so_named : IsNamedSo nodes b.enum_names m.holders m.nodes node.value e e.place b.name b.holders = subst (λ (x : Begun). IsNamedSo nodes x.enum_names m.holders m.nodes node.value e e.place x.name x.holders) same so in
+        let so_begun : IsNamedSo nodes b.enum_names m.holders m.nodes b.node e e.place b.name b.holders = subst (λ (n : SchemaNode). IsNamedSo nodes b.enum_names m.holders m.nodes n e e.place b.name b.holders) is_node so_named in
+        record { first = first; name = so_begun.0; holders = so_begun.1; short = so_begun.2; text = so_begun.3 }
+
+    -- the names of the enums of these ids go on those before
+    pub enums_begun : (ids : List ℕ) (b : Begun) → begin_struct nodes m e ids ≡ Ok b → enum_names nodes (drop (length m.enum_names) ids) m.enum_names ≡ Ok b.enum_names
+    enums_begun ids b h =
+        let inner = where_ok (nat_lt (length m.nodes) 4294967296) TooManyTypes (and_said (enum_names nodes (drop (length m.enum_names) ids) m.enum_names) with_names) b h in
+        let names = chained (enum_names nodes (drop (length m.enum_names) ids) m.enum_names) with_names b inner in
+        let named = chained (name_entry nodes m.nodes names.value m.holders e e.place) (with_name names.value) b names.rest in
+        let node = chained (node_there (node_named nodes e.node)) (with_node names.value named.value) b named.rest in
+        let same : begun_with names.value named.value node.value ≡ b = said_same (begun_with names.value named.value node.value) b node.rest in
+        names.first ∙ ap (λ (x : Begun). Ok x.enum_names) same
 
   -- ---- what an enum begins with ----
 
@@ -288,4 +389,34 @@ module _ (nodes : List SchemaNode) where
         said = ap (λ (n : SchemaNode). n.display_name) (sym is_node) ∙ shown.first;
         is = sym is_name ∙ sym (name_finished (dotted_of shown.value) named.value named.first);
         short = subst (λ (xs : List ℕ). length xs ≤ 1024) is_name (name_short (dotted_of shown.value) named.value named.first);
+        text = subst (λ (xs : List ℕ). is_utf8 xs ≡ true) is_name (name_text (dotted_of shown.value) named.value named.first);
       }
+
+  -- ---- the names of the first enums ----
+
+  enums_named : (ids js : List ℕ) (before names : List (List ℕ)) → AreEnumsNamed nodes ids before → enum_names nodes js before ≡ Ok names → AreEnumsNamed nodes (ids ++ js) names
+  enums_named ids [] before names h e = subst (λ xs. AreEnumsNamed nodes xs names) (sym (append-nil ids)) (subst (AreEnumsNamed nodes ids) (said_same before names e) h)
+  enums_named ids (id ∷ js) before names h e =
+      let one = chained (begin_enum nodes id) (λ b. enum_names nodes js (before ++ b.0 ∷ [])) names e in
+      let begun : IsEnumBegun nodes id one.value.0 one.value.1 = enum_begun id one.value one.first in
+      let named : IsEnumNamed nodes id one.value.0 = record { node = one.value.1; display = begun.display; first = begun.first; said = begun.said; is = begun.is } in
+      subst (λ xs. AreEnumsNamed nodes xs names) (append_assoc ids (id ∷ []) js) (enums_named (ids ++ id ∷ []) js (before ++ one.value.0 ∷ []) names (one_more ids before id one.value.0 h named) one.rest)
+    where
+      one_more : (is : List ℕ) (xs : List (List ℕ)) (i : ℕ) (x : List ℕ) → AreEnumsNamed nodes is xs → IsEnumNamed nodes i x → AreEnumsNamed nodes (is ++ i ∷ []) (xs ++ x ∷ [])
+      one_more [] [] i x h k = (k, tt)
+      one_more (y ∷ is) (z ∷ xs) i x h k = (h.0, one_more is xs i x h.1 k)
+      one_more [] (z ∷ xs) i x h k = absurd h
+      one_more (y ∷ is) [] i x h k = absurd h
+
+  enums_counted : (ids : List ℕ) (names : List (List ℕ)) → AreEnumsNamed nodes ids names → length names ≡ length ids
+  enums_counted [] [] h = refl
+  enums_counted (id ∷ ids) (x ∷ names) h = ap (λ i. suc i) (enums_counted ids names h.1)
+  enums_counted [] (x ∷ names) h = absurd h
+  enums_counted (id ∷ ids) [] h = absurd h
+
+  pub first_enums_more : (k : Numbers) → k.nodes ≡ nodes → (names after : List (List ℕ)) (js more : List ℕ) → AreFirstEnums k names → enum_names nodes (drop (length names) js) names ≡ Ok after → k.enums ≡ js ++ more → AreFirstEnums k after
+  first_enums_more k same names after js more h e grown =
+      let named : AreEnumsNamed nodes h.ids names = subst (λ ns. AreEnumsNamed ns h.ids names) same h.named in
+      let both : Longer h.ids js k.enums = longer h.ids js h.more more k.enums h.are grown in
+      let next : enum_names nodes (drop (length h.ids) js) names ≡ Ok after = ap (λ i. enum_names nodes (drop i js) names) (sym (enums_counted h.ids names named)) ∙ e in
+      record { ids = h.ids ++ drop (length h.ids) js; more = both.rest; are = both.is; named = subst (λ ns. AreEnumsNamed ns (h.ids ++ drop (length h.ids) js) after) (sym same) (enums_named h.ids (drop (length h.ids) js) names after named next) }

@@ -35,17 +35,17 @@ abbrev pub KeepsFields : (List Entry → Type 0) → (bound : List Bound) → (n
 KeepsFields K bound number node = (part : StructPart) (members : List (Said FieldTerm)) → node.kind ≡ StructNode part → part.fields ≡ Ok members → KeepsGroups K bound number members
 
 module _ (K : List Entry → Type 0) (nodes : List SchemaNode) (whole : KeepsWhole K nodes) (strict : Bool) (number id : ℕ) (bound : List Bound) (name : List ℕ) (node : SchemaNode) where
-  abbrev made_with : StructPart → List Converted → List (Annotation × SchemaType) → Node × Brand × List Note
+  abbrev pub made_with : StructPart → List Converted → List (Annotation × SchemaType) → Node × Brand × List Note
   made_with part fields own = (
     record { id = id; display_name = name; annotations = firsts own; data_word_count = part.data_words; pointer_count = part.pointers; is_group = part.is_group; discriminant_count = part.discriminant_count; discriminant_offset = part.discriminant_offset; fields = map (λ (f : Converted). f.field) fields },
     record { node = number; field_types = map (λ (f : Converted). f.type) fields; annotation_types = record { own = seconds own; children = map (λ (f : Converted). f.annotation_types) fields } },
     all_notes fields,
   )
 
-  abbrev with_own : StructPart → List Converted → List (Annotation × SchemaType) → Work (Node × Brand × List Note)
+  abbrev pub with_own : StructPart → List Converted → List (Annotation × SchemaType) → Work (Node × Brand × List Note)
   with_own part fields own = work_of (made_with part fields own)
 
-  abbrev with_fields : StructPart → List Converted → Work (Node × Brand × List Note)
+  abbrev pub with_fields : StructPart → List Converted → Work (Node × Brand × List Note)
   with_fields part fields = annotations_of nodes strict bound node.annotations >>= with_own part fields
 
   abbrev with_part : StructPart → Work (Node × Brand × List Note)
@@ -60,7 +60,7 @@ module _ (K : List Entry → Type 0) (nodes : List SchemaNode) (whole : KeepsWho
   abbrev AreOwnLater : List (Annotation × SchemaType) → Named → Type 0
   AreOwnLater own z = IsSaidList (IsAnnotationOf (numbers nodes strict z) bound) node.annotations (firsts own) (seconds own)
 
-  all_members : (members : List (Said FieldTerm)) → AreMembersFrom members 0 members
+  pub all_members : (members : List (Said FieldTerm)) → AreMembersFrom members 0 members
   all_members members j x h = let e : 0 + j ≡ j = omega arith in ap (λ i. slice_get members i) e ∙ h
 
   fields_then : (part : StructPart) (members : List (Said FieldTerm)) → node.kind ≡ StructNode part → part.fields ≡ Ok members → KeepsGroups K bound number members → IsWork K (fields_of nodes strict bound number 0 members >>= with_fields part) IsMadeLater

@@ -1,20 +1,21 @@
 -- Entries and enums are made one after another, until all are made.
-use Rattle.std.proofs.Common.{ℕ, zero, suc, ◌<◌, ◌≡◌, ◌∙◌, ◌⊎◌, ap, append_assoc, arith, inl, inr, refl, subst, sym, Bool, false, List, [], ◌∷◌, ◌++◌, length, map, slice_get, Option, Some, None, Result, Ok, Err, nat_lt, true, ◌≤◌, ◌+◌}
+use Rattle.std.proofs.Common.{ℕ, zero, suc, ◌<◌, ◌≡◌, ◌∙◌, ◌⊎◌, ap, append_assoc, arith, drop, inl, inr, refl, subst, sym, Bool, false, List, [], ◌∷◌, ◌++◌, length, map, slice_get, Option, Some, None, Result, Ok, Err, nat_lt, true, ◌≤◌, ◌+◌}
 use Rattle.std.proofs.lemmas.List.{append-nil, length-map, map-append, length-append}
 use Rattle.std.proofs.lemmas.Option.{slice_get_within}
+use Rattle.std.specs.Str.{is_utf8}
 use Rattle.capnp_device.specs.declared.error.ErrorKind.{ErrorKind}
 use Rattle.capnp_schema.specs.Schema.{Brand, Enum, Node}
-use Rattle.capnp_request.specs.Order.{Begun, Made, add_struct, begin_struct, make_all, make_enum, make_next, make_struct, struct_made, with_struct}
+use Rattle.capnp_request.specs.Order.{Begun, Made, add_struct, begin_struct, enum_names, make_all, make_enum, make_next, make_struct, struct_made, with_struct}
 use Rattle.capnp_request.specs.Scopes.{node_named}
 use Rattle.capnp_request.specs.Terms.{Said, SchemaNode}
 use Rattle.capnp_request.specs.Types.{is_entry_of}
 use Rattle.capnp_request.specs.Work.{Entry, Named, Whole, Work, work_continued, work_of, GroupOf, Place}
-use Rattle.capnp_request_meaning.specs.Meaning.{AreDistinct, AreEntries, AreEnumsOf, AreNodesFrom, IsEntryAt, IsEntryName, IsEnumOf, IsNodeOf, Numbers}
+use Rattle.capnp_request_meaning.specs.Meaning.{AreDistinct, AreEntries, AreEnumsOf, AreFirstEnums, AreNodesFrom, IsEntryAt, IsEntryName, IsEnumOf, IsNodeOf, Numbers}
 use Rattle.capnp_request_meaning.proofs.EntriesKept.{KeepsWhole, not_among, whole_entry}
 use Rattle.capnp_request_meaning.proofs.EnumsMeant.{IsEnumAdded, enum_added}
 use Rattle.capnp_request_meaning.proofs.FieldsMeant.{group_entry}
-use Rattle.capnp_request_meaning.proofs.ListsFound.{Next, next_of, same_some, still_at, IsAmong}
-use Rattle.capnp_request_meaning.proofs.NamesMeant.{IsBegun, struct_begun, AreHeld, AreHoldersThen, holder}
+use Rattle.capnp_request_meaning.proofs.ListsFound.{IsAmong, Next, last_at, next_of, same_some, still_at}
+use Rattle.capnp_request_meaning.proofs.NamesMeant.{AreHeld, AreHolding, AreHoldersThen, IsBegun, IsHolder, enums_begun, first_enums_more, holder, struct_begun}
 use Rattle.capnp_request_meaning.proofs.NodesMeant.{IsMade, KeepsFields, struct_meant}
 use Rattle.capnp_request_meaning.proofs.TypesMeant.{numbers}
 use Rattle.capnp_request_meaning.proofs.Works.{Done, Grows, IfDone, IsWork, bind, entry_still, enum_still, grows_none, grows_on, of_work, said_bind}
@@ -159,6 +160,21 @@ held_more nodes hs after es node e first Whole is are held n x other display the
         let last : holder e.node (dotted_of are.0) ≡ holder x.node (dotted_of display) = ap (λ (y : Entry). holder y.node (dotted_of are.0)) b.1 ∙ ap (λ ys. holder x.node (dotted_of ys)) shown in
         subst (λ ks. IsAmong ks (holder x.node (dotted_of display))) (sym are.2) (record { index = 0; there = ap (λ h. Some h) last })
 
+-- and each that has a dotted name is one of the entries then
+holder_still : (nodes : List SchemaNode) (es more : List Entry) (h : Holder) → IsHolder nodes es h → IsHolder nodes (es ++ more) h
+holder_still nodes es more h k = record { number = k.number; entry = k.entry; node = k.node; display = k.display; numbered = still_at es more k.number k.entry k.numbered; whole = k.whole; first = k.first; said = k.said; is = k.is }
+
+holding_more : (nodes : List SchemaNode) (hs after : List Holder) (es : List Entry) (node : SchemaNode) (e : Entry) → node_named nodes e.node ≡ Some node → (p : Place) → e.place ≡ p → AreHoldersThen hs node e p after → AreHolding nodes hs es → AreHolding nodes after (es ++ e ∷ [])
+holding_more nodes hs after es node e first (GroupOf q i) is are holding h among = holder_still nodes es (e ∷ []) h (holding h (subst (λ ks. IsAmong ks h) are among))
+holding_more nodes hs after es node e first Whole is are holding h among = go (subst (λ ks. IsAmong ks h) are.2 among)
+  where
+    at : (i : ℕ) → slice_get (holder e.node (dotted_of are.0) ∷ hs) i ≡ Some h → IsHolder nodes (es ++ e ∷ []) h
+    at zero there = record { number = length es; entry = e; node = node; display = are.0; numbered = last_at es e; whole = is; first = first; said = are.1; is = sym (same_some there) }
+    at (suc i) there = holder_still nodes es (e ∷ []) h (holding h (record { index = i; there = there }))
+
+    go : IsAmong (holder e.node (dotted_of are.0) ∷ hs) h → IsHolder nodes (es ++ e ∷ []) h
+    go k = at k.index k.there
+
 abbrev pub enum_ids : List Enum → List ℕ
 enum_ids es = map (λ (e : Enum). e.id) es
 
@@ -170,17 +186,21 @@ pub record AreMade (nodes : List SchemaNode) (strict : Bool) (m : Made) (z : Nam
   pub entries_are : z.entries ≡ done ++ rest
   pub enums_are : z.enums ≡ enum_ids m.enums ++ more
   pub held : AreHeld nodes m.holders done
+  pub holding : AreHolding nodes m.holders done
+  pub named : AreFirstEnums (numbers nodes strict z) m.enum_names
   pub meant : AreNodesFrom (numbers nodes strict z) [] [] done m.nodes m.brands
   pub enumerated : AreEnumsOf (numbers nodes strict z) m.enums
 
-record IsAdded (nodes : List SchemaNode) (strict : Bool) (m after : Made) (e : Entry) (z : Named) : Type 0 where
+record IsAdded (nodes : List SchemaNode) (strict : Bool) (ids : List ℕ) (m after : Made) (e : Entry) (z : Named) : Type 0 where
   node : Node
   brand : Brand
   nodes_are : after.nodes ≡ m.nodes ++ node ∷ []
   brands_are : after.brands ≡ m.brands ++ brand ∷ []
   enums_are : after.enums ≡ m.enums
-  is : (earlier : List Entry) → AreHeld nodes m.holders earlier → IsNodeOf (numbers nodes strict z) earlier m.nodes e node brand
+  is : (earlier : List Entry) → AreFirstEnums (numbers nodes strict z) after.enum_names → AreHeld nodes m.holders earlier → AreHolding nodes m.holders earlier → IsNodeOf (numbers nodes strict z) earlier m.nodes e node brand
   held : (earlier : List Entry) → AreHeld nodes m.holders earlier → AreHeld nodes after.holders (earlier ++ e ∷ [])
+  holding : (earlier : List Entry) → AreHolding nodes m.holders earlier → AreHolding nodes after.holders (earlier ++ e ∷ [])
+  named : enum_names nodes (drop (length m.enum_names) ids) m.enum_names ≡ Ok after.enum_names
 
 -- from s, with m made, to the end
 pub record Ends (nodes : List SchemaNode) (strict : Bool) (s : Named) (m after : Made) (t : Named) : Type 0 where
@@ -191,12 +211,13 @@ pub record Ends (nodes : List SchemaNode) (strict : Bool) (s : Named) (m after :
   pub no_enum : slice_get t.enums (length after.enums) ≡ None
 
 module _ (nodes : List SchemaNode) (strict : Bool) where
-  entry_made : (m after : Made) (e : Entry) (z : Named) → slice_get z.entries (length m.nodes) ≡ Some e → IsAdded nodes strict m after e z → AreMade nodes strict m z → AreMade nodes strict after z
-  entry_made m after e z there added made =
+  entry_made : (ids more : List ℕ) (m after : Made) (e : Entry) (z : Named) → z.enums ≡ ids ++ more → slice_get z.entries (length m.nodes) ≡ Some e → IsAdded nodes strict ids m after e z → AreMade nodes strict m z → AreMade nodes strict after z
+  entry_made ids more m after e z grown there added made =
+      let named : AreFirstEnums (numbers nodes strict z) after.enum_names = first_enums_more nodes (numbers nodes strict z) refl m.enum_names after.enum_names ids more made.named added.named grown in
       let count : length made.done ≡ length m.nodes = nodes_counted (numbers nodes strict z) [] [] made.done m.nodes m.brands made.meant in
       let behind : slice_get (made.done ++ made.rest) (length made.done) ≡ Some e = ap (λ i. slice_get (made.done ++ made.rest) i) count ∙ (ap (λ xs. slice_get xs (length m.nodes)) (sym made.entries_are) ∙ there) in
       let next : Next made.rest e = next_of made.done made.rest e behind in
-      let longer : AreNodesFrom (numbers nodes strict z) [] [] (made.done ++ e ∷ []) (m.nodes ++ added.node ∷ []) (m.brands ++ added.brand ∷ []) = nodes_more (numbers nodes strict z) made.done m.nodes e added.node added.brand (added.is made.done made.held) [] [] made.done m.nodes m.brands refl refl made.meant in
+      let longer : AreNodesFrom (numbers nodes strict z) [] [] (made.done ++ e ∷ []) (m.nodes ++ added.node ∷ []) (m.brands ++ added.brand ∷ []) = nodes_more (numbers nodes strict z) made.done m.nodes e added.node added.brand (added.is made.done named made.held made.holding) [] [] made.done m.nodes m.brands refl refl made.meant in
       record {
         done = made.done ++ e ∷ [];
         rest = next.more;
@@ -204,6 +225,8 @@ module _ (nodes : List SchemaNode) (strict : Bool) where
         entries_are = made.entries_are ∙ (ap (λ xs. made.done ++ xs) next.are ∙ sym (append_assoc made.done (e ∷ []) next.more));
         enums_are = made.enums_are ∙ ap (λ es. enum_ids es ++ made.more) (sym added.enums_are);
         held = added.held made.done made.held;
+        holding = added.holding made.done made.holding;
+        named = named;
         meant = subst (λ ns. AreNodesFrom (numbers nodes strict z) [] [] (made.done ++ e ∷ []) ns after.brands) (sym added.nodes_are)
             (subst (λ bs. AreNodesFrom (numbers nodes strict z) [] [] (made.done ++ e ∷ []) (m.nodes ++ added.node ∷ []) bs) (sym added.brands_are) longer);
         enumerated = subst (AreEnumsOf (numbers nodes strict z)) (sym added.enums_are) made.enumerated;
@@ -221,6 +244,8 @@ module _ (nodes : List SchemaNode) (strict : Bool) where
         more = next.more;
         entries_are = made.entries_are;
         held = subst (λ hs. AreHeld nodes hs made.done) (sym added.holders_are) made.held;
+        holding = subst (λ hs. AreHolding nodes hs made.done) (sym added.holders_are) made.holding;
+        named = subst (AreFirstEnums (numbers nodes strict z)) (sym added.names_are) made.named;
         enums_are = made.enums_are ∙ (ap (λ xs. enum_ids m.enums ++ xs) next.are ∙ (sym (append_assoc (enum_ids m.enums) (id ∷ []) next.more) ∙ ap (λ xs. xs ++ next.more) (sym ids)));
         meant = subst (λ ns. AreNodesFrom (numbers nodes strict z) [] [] made.done ns after.brands) (sym added.nodes_are)
             (subst (λ bs. AreNodesFrom (numbers nodes strict z) [] [] made.done m.nodes bs) (sym added.brands_are) made.meant);
@@ -236,17 +261,17 @@ module _ (nodes : List SchemaNode) (strict : Bool) where
     abbrev Kept : List Entry → Type 0
     Kept = StayWith nodes (length m.nodes) e
 
-    struct_added : (b : Begun) → IsBegun nodes m e b → IsWork Kept (add_struct nodes strict m e.node e.bound b) (λ after z. IsAdded nodes strict m after e z)
-    struct_added b begun =
-        bind Kept (struct_made nodes strict (length m.nodes) e.node e.bound b.name b.node) (λ made. work_of (with_struct nodes strict m b made)) (λ made z. IsMade (numbers nodes strict z) (length m.nodes) e.node e.bound b.name b.node made.0 made.1) (λ after z. IsAdded nodes strict m after e z)
+    struct_added : (b : Begun) → IsBegun nodes m e b → enum_names nodes (drop (length m.enum_names) s.enums) m.enum_names ≡ Ok b.enum_names → IsWork Kept (add_struct nodes strict m e.node e.bound b) (λ after z. IsAdded nodes strict s.enums m after e z)
+    struct_added b begun named =
+        bind Kept (struct_made nodes strict (length m.nodes) e.node e.bound b.name b.node) (λ made. work_of (with_struct nodes strict m b made)) (λ made z. IsMade (numbers nodes strict z) (length m.nodes) e.node e.bound b.name b.node made.0 made.1) (λ after z. IsAdded nodes strict s.enums m after e z)
         (struct_meant Kept nodes (with_whole nodes (length m.nodes) e) strict (length m.nodes) e.node e.bound b.name b.node (with_groups nodes (length m.nodes) e b.node begun.first))
-        (λ made. of_work Kept (with_struct nodes strict m b made) (λ after z. IsMade (numbers nodes strict z) (length m.nodes) e.node e.bound b.name b.node made.0 made.1 → IsAdded nodes strict m after e z) (λ z h. record {
+        (λ made. of_work Kept (with_struct nodes strict m b made) (λ after z. IsMade (numbers nodes strict z) (length m.nodes) e.node e.bound b.name b.node made.0 made.1 → IsAdded nodes strict s.enums m after e z) (λ z h. record {
           node = made.0;
           brand = made.1;
           nodes_are = refl;
           brands_are = refl;
           enums_are = refl;
-          is = λ earlier held. record {
+          is = λ earlier firsts held holding. record {
             node = b.node;
             part = h.part;
             members = h.members;
@@ -254,8 +279,9 @@ module _ (nodes : List SchemaNode) (strict : Bool) where
             struct = h.struct;
             listed = h.listed;
             id = h.is_id;
-            name = subst (λ (x : List ℕ). IsEntryName nodes earlier m.nodes b.node e e.place x) (sym h.is_name) (begun.name earlier held);
+            name = subst (λ (x : List ℕ). IsEntryName (numbers nodes strict z) earlier m.nodes b.node e e.place x) (sym h.is_name) (begun.name strict z.entries z.enums earlier firsts held holding);
             short = subst (λ (x : List ℕ). length x ≤ 1024) (sym h.is_name) begun.short;
+            text = subst (λ (x : List ℕ). is_utf8 x ≡ true) (sym h.is_name) begun.text;
             annotations = h.annotations;
             data_words = h.data_words;
             pointers = h.pointers;
@@ -266,18 +292,20 @@ module _ (nodes : List SchemaNode) (strict : Bool) where
             fields = h.fields;
           };
           held = λ earlier held. held_more nodes m.holders b.holders earlier b.node e begun.first e.place refl begun.holders held;
+          holding = λ earlier holding. holding_more nodes m.holders b.holders earlier b.node e begun.first e.place refl begun.holders holding;
+          named = named;
         }))
 
-    without_parent : (r : Result (Made × Named) ErrorKind) → IfDone (λ (after : Made) t. Done Kept s t (λ z. IsAdded nodes strict m after e z)) r → IsStep s m r
+    without_parent : (r : Result (Made × Named) ErrorKind) → IfDone (λ (after : Made) t. Done Kept s t (λ z. IsAdded nodes strict s.enums m after e z)) r → IsStep s m r
     without_parent (Err kind) h = tt
     without_parent (Ok p) h = record {
       grown = h.grown;
       kept = λ k. (h.kept (here, k)).1;
-      later = λ z g made. entry_made m p.0 e z (entry_still s z (grows_on s p.1 z h.grown g) (length m.nodes) e here) (h.later z g) made;
+      later = λ z g made. let grown : Grows s z = grows_on s p.1 z h.grown g in entry_made s.enums grown.enums m p.0 e z grown.enums_are (entry_still s z grown (length m.nodes) e here) (h.later z g) made;
     }
 
     pub struct_step : IsStep s m (make_struct nodes strict m e s)
-    struct_step = without_parent (make_struct nodes strict m e s) (said_bind Kept (begin_struct nodes m e s.enums) (add_struct nodes strict m e.node e.bound) (λ after z. IsAdded nodes strict m after e z) (λ b h. struct_added b (struct_begun nodes m e s.enums b h)) s)
+    struct_step = without_parent (make_struct nodes strict m e s) (said_bind Kept (begin_struct nodes m e s.enums) (add_struct nodes strict m e.node e.bound) (λ after z. IsAdded nodes strict s.enums m after e z) (λ b h. struct_added b (struct_begun nodes m e s.enums b h) (enums_begun nodes m e s.enums b h)) s)
 
   module _ (m : Made) (id : ℕ) (s : Named) (here : slice_get s.enums (length m.enums) ≡ Some id) where
     as_step : (r : Result (Made × Named) ErrorKind) → IfDone (λ (after : Made) t. Done (Stay nodes) s t (λ z. IsEnumAdded (numbers nodes strict z) m after id)) r → IsStep s m r

@@ -24,7 +24,7 @@ grouped : (p q r : Bool) → (p || (q || r)) ≡ ((p || q) || r)
 grouped true q r = refl
 grouped false q r = refl
 
-met_append : (a b : List ℕ) (id : ℕ) → is_met (a ++ b) id ≡ (is_met a id || is_met b id)
+pub met_append : (a b : List ℕ) (id : ℕ) → is_met (a ++ b) id ≡ (is_met a id || is_met b id)
 met_append [] b id = refl
 met_append (x ∷ a) b id = ap (λ q. (x == id) || q) (met_append a b id) ∙ grouped (x == id) (is_met a id) (is_met b id)
 

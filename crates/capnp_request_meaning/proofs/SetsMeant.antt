@@ -1,22 +1,28 @@
 -- A whole set is that of its request.
-use Rattle.std.proofs.Common.{ℕ, zero, suc, ◌+◌, ◌≡◌, ◌∙◌, ap, not, refl, subst, sym, Bool, true, false, List, [], ◌∷◌, ◌++◌, length, slice_get, Option, Some, Result, Ok, Err, append_assoc, arith}
+use Rattle.std.proofs.Common.{ℕ, zero, suc, ◌+◌, ◌<◌, ◌≡◌, ◌∙◌, ap, not, refl, subst, sym, Bool, true, false, List, [], ◌∷◌, ◌++◌, length, map, slice_get, Option, Some, Result, Ok, Err, append_assoc, arith}
 use Rattle.std.proofs.lemmas.List.{append-nil, length-map, length-append}
+use Rattle.std.proofs.lemmas.Option.{slice_get_within}
 use Rattle.capnp_device.specs.declared.error.ErrorKind.{ErrorKind}
 use Rattle.capnp_schema.specs.Schema.{Brand, Enum, Node, Schemas}
 use Rattle.capnp_request.specs.Conversion.{Note}
+use Rattle.capnp_request.specs.Names.{Holder}
 use Rattle.capnp_request.specs.Order.{Made, and_said, conversion_of, make_all, name_files, nothing_made, nothing_named, result_of, schemas_made}
 use Rattle.capnp_request.specs.Reading.{request_said}
 use Rattle.capnp_request.specs.Scopes.{node_named}
-use Rattle.capnp_request.specs.Terms.{NodeKind, RequestTerm, Said, SchemaNode, StructNode, StructPart}
-use Rattle.capnp_request.specs.Types.{is_root}
-use Rattle.capnp_request.specs.Work.{Entry, Named, work_continued}
+use Rattle.capnp_request.specs.Terms.{AnnotationTerm, EnumTerm, Float32, Float64, Interface, ListTerm, MemberTerm, NodeKind, Parameter, RequestTerm, Said, SchemaNode, StructNode, StructPart, StructTerm, TypeTerm, UnreadType}
+use Rattle.capnp_request.specs.Types.{enum_position, is_root}
+use Rattle.capnp_request.specs.Work.{Bound, Entry, Named, work_continued}
 use Rattle.capnp_request_meaning.specs.Laws.{IsSetOfRecord, SetMeansItsRecord, SetMeansItsRequest}
-use Rattle.capnp_request_meaning.specs.Meaning.{AreEnumsOf, AreNodesFrom, IsEntryName, IsFound, IsListed, IsNameOf, IsNodeOf, IsSetOf, Numbers}
-use Rattle.capnp_request_meaning.proofs.ListsFound.{none_left, same_some}
+use Rattle.capnp_request_meaning.specs.Meaning.{AnnotationLeads, AreEnumsOf, AreNodesFrom, ByAnnotation, ByBrand, ByDeclaration, ByField, ByGroup, EntryAt, EnumAt, IsEntryName, IsFound, IsListed, IsNameOf, IsNodeOf, IsReached, IsSetOf, IsTarget, Numbers, Requested, Target}
+use Rattle.capnp_request_meaning.proofs.EntriesKept.{FoundAt, found_enum}
+use Rattle.capnp_request_meaning.proofs.ListsFound.{IsAmong, none_left, same_some}
+use Rattle.capnp_request_meaning.proofs.NamesMeant.{name_by}
 use Rattle.capnp_request_meaning.proofs.OrderMeant.{AreMade, Ends, Stay, all_end, enum_ids, nodes_counted, stay_none, stay_whole}
+use Rattle.capnp_request_meaning.proofs.ReachedAll.{AllReached, all_reached, files_reached}
 use Rattle.capnp_request_meaning.proofs.RootsMeant.{AreRooted, HasRoot, files_named}
+use Rattle.capnp_request_meaning.proofs.SetsNoted.{notes_tell}
 use Rattle.capnp_request_meaning.proofs.TypesMeant.{numbers}
-use Rattle.capnp_request_meaning.proofs.Works.{Done, Grows, IfDone}
+use Rattle.capnp_request_meaning.proofs.Works.{Done, Grows, IfDone, grows_none}
 
 -- ---- the node of an entry ----
 
@@ -63,7 +69,7 @@ found_of r k same_list entries set meant rooted id n part listed first struct gr
     let root : HasRoot entries id = rooted id n listed first (root_of n.kind part struct group) in
     let node : NodeAt k entries root.entry set.nodes root.number = node_of_entry k entries set.nodes set.brands root.number root.entry meant root.numbered in
     let same : node.is.node ≡ n = same_node (node_named k.nodes root.entry.node) node.is.node n node.is.first (ap (λ i. node_named k.nodes i) root.node ∙ (ap (λ ns. node_named ns id) same_list ∙ first)) in
-    let named : IsNameOf k.nodes node.earlier root.entry.node node.is.node node.node.display_name = subst (λ p. IsEntryName k.nodes node.earlier node.before node.is.node root.entry p node.node.display_name) root.whole node.is.name root.unbound in
+    let named : IsNameOf k node.earlier node.before root.entry node.is.node node.node.display_name = subst (λ p. IsEntryName k node.earlier node.before node.is.node root.entry p node.node.display_name) root.whole node.is.name in
     record {
       number = root.number;
       node = node.node;
@@ -71,18 +77,74 @@ found_of r k same_list entries set meant rooted id n part listed first struct gr
       numbered = node.there;
       same_id = node.is.id ∙ root.node;
       said = ap (λ (m : SchemaNode). m.display_name) (sym same) ∙ named.said;
-      name = named.is;
+      name = name_by (map (λ (m : Node). m.display_name) node.before) named.enums root.entry.bound named.display node.node.display_name named.with_file root.unbound (sym named.is);
     }
 
+-- ---- enums ----
+
+-- the first of an id
+record IsFirstOf (k : Numbers) (n : ℕ) : Type 0 where
+  id : ℕ
+  is : enum_position k.enums id 0 ≡ Some n
+
+abbrev IsFirst : Numbers → Target → Type 0
+IsFirst k (EntryAt n) = Unit {0}
+IsFirst k (EnumAt n) = IsFirstOf k n
+
+target_first : (k : Numbers) (inside : List Bound) (t : TypeTerm) (x : Target) → IsTarget k inside t x → IsFirst k x
+target_first k inside t (EntryAt n) h = tt
+target_first k inside (EnumTerm id) (EnumAt n) h = record { id = id; is = h }
+target_first k inside (StructTerm id brand) (EnumAt n) h = absurd h
+target_first k inside (MemberTerm t) (EnumAt n) h = absurd h
+target_first k inside Float32 (EnumAt n) h = absurd h
+target_first k inside Float64 (EnumAt n) h = absurd h
+target_first k inside Interface (EnumAt n) h = absurd h
+target_first k inside (ListTerm t) (EnumAt n) h = absurd h
+target_first k inside (Parameter scope index) (EnumAt n) h = absurd h
+target_first k inside (UnreadType kind) (EnumAt n) h = absurd h
+
+annotation_first : (k : Numbers) (inside : List Bound) (a : AnnotationTerm) (x : Target) → AnnotationLeads k inside a x → IsFirst k x
+annotation_first k inside a x (ByBrand scopes said leads) = target_first k inside leads.inner x leads.target
+annotation_first k inside a x (ByDeclaration node declared bound first annotation scopes brand leads) = target_first k bound leads.inner x leads.target
+
+reached_first : (r : RequestTerm) (k : Numbers) (x : Target) → IsReached r k x → IsFirst k x
+reached_first r k x (Requested n e node part there whole unbound listed first struct group) = tt
+reached_first r k x (ByGroup n p i e reached there is) = tt
+reached_first r k x (ByField x2 y node inside part i f offset t default reached at struct read is leads) = target_first k inside leads.inner x leads.target
+reached_first r k x (ByAnnotation x2 y node inside a reached at has leads) = annotation_first k inside a x leads
+
+id_at_number : (es : List Enum) (i : ℕ) (e : Enum) → slice_get es i ≡ Some e → slice_get (enum_ids es) i ≡ Some e.id
+id_at_number [] i e h = absurd (cc)
+id_at_number (x ∷ es) zero e h = ap (λ (y : Enum). Some y.id) (same_some h)
+id_at_number (x ∷ es) (suc i) e h = id_at_number es i e h
+
+-- so each is the first of its own
+own_first : (k : Numbers) (es : List Enum) (i : ℕ) (e : Enum) → k.enums ≡ enum_ids es → slice_get es i ≡ Some e → IsFirstOf k i → enum_position k.enums e.id 0 ≡ Some i
+own_first k es i e are there first =
+    let f : FoundAt (λ x. x ≡ first.id) k.enums 0 i = found_enum k.enums first.id 0 i first.is in
+    let at : i ≡ f.index = omega (arith, f.number) in
+    let element : f.element ≡ e.id = same_some (sym f.there ∙ (ap (λ j. slice_get k.enums j) (sym at) ∙ (ap (λ xs. slice_get xs i) are ∙ id_at_number es i e there))) in
+    ap (λ x. enum_position k.enums x 0) (sym element ∙ f.holds) ∙ first.is
+
+enums_distinct : (k : Numbers) (es : List Enum) → k.enums ≡ enum_ids es → ((n : ℕ) (e : Enum) → slice_get es n ≡ Some e → IsFirstOf k n) → (i j : ℕ) (e f : Enum) → slice_get es i ≡ Some e → slice_get es j ≡ Some f → e.id ≡ f.id → i ≡ j
+enums_distinct k es are first i j e f at_i at_j same =
+    same_some (sym (own_first k es i e are at_i (first i e at_i)) ∙ (ap (λ x. enum_position k.enums x 0) same ∙ own_first k es j f are at_j (first j f at_j)))
+
 -- ---- the set ----
+
+pub none_held : (h : Holder) → IsAmong [] h → ⊥
+none_held h among = go among.index among.there
+  where
+    go : (i : ℕ) → slice_get [] i ≡ Some h → ⊥
+    go i e = cc
 
 abbrev numbers_by : List SchemaNode → Bool → List Entry → List ℕ → Numbers
 numbers_by nodes strict entries enums = record { nodes = nodes; strict = strict; entries = entries; enums = enums }
 
 module _ (r : RequestTerm) (strict : Bool) where
-  set_of_made : (s t : Named) (m : Made) → Ends r.nodes strict s nothing_made m t → Stay r.nodes s.entries → AreRooted r t.entries → IsSetOf r strict (schemas_made m)
-  set_of_made s t m ends stay rooted =
-      let none : AreMade r.nodes strict nothing_made t = record { done = []; rest = t.entries; more = t.enums; entries_are = refl; enums_are = refl; held = λ n e node display there whole first said. absurd (cc); meant = tt; enumerated = tt } in
+  set_of_made : (s t : Named) (m : Made) → Ends r.nodes strict s nothing_made m t → Stay r.nodes s.entries → AreRooted r t.entries → AllReached r strict t → IsSetOf r strict (schemas_made m)
+  set_of_made s t m ends stay rooted reached =
+      let none : AreMade r.nodes strict nothing_made t = record { done = []; rest = t.entries; more = t.enums; entries_are = refl; enums_are = refl; held = λ n e node display there whole first said. absurd (cc); holding = λ h among. absurd (none_held h among); named = record { ids = []; more = t.enums; are = refl; named = tt }; meant = tt; enumerated = tt } in
       let made : AreMade r.nodes strict m t = ends.made none in
       let kept : Stay r.nodes t.entries = ends.kept stay in
       let count : length made.done ≡ length m.nodes = nodes_counted (numbers r.nodes strict t) [] [] made.done m.nodes m.brands made.meant in
@@ -93,6 +155,11 @@ module _ (r : RequestTerm) (strict : Bool) where
       let enums : t.enums ≡ enum_ids m.enums = made.enums_are ∙ (ap (λ xs. enum_ids m.enums ++ xs) no_more ∙ append-nil (enum_ids m.enums)) in
       let meant : AreNodesFrom (numbers_by r.nodes strict t.entries (enum_ids m.enums)) [] [] t.entries m.nodes m.brands =
       subst (λ ids. AreNodesFrom (numbers_by r.nodes strict t.entries ids) [] [] t.entries m.nodes m.brands) enums (subst (λ es. AreNodesFrom (numbers r.nodes strict t) [] [] es m.nodes m.brands) (sym entries) made.meant) in
+      let each_enum : (n : ℕ) (e : Enum) → slice_get m.enums n ≡ Some e → IsReached r (numbers_by r.nodes strict t.entries (enum_ids m.enums)) (EnumAt n) = λ n e there.
+      let inside : n < length m.enums = slice_get_within m.enums n e there in
+      let count : length t.enums ≡ length m.enums = ap (λ ids. length ids) enums ∙ enum_count in
+      let less : n < length t.enums = omega (arith, inside, count) in
+      subst (λ ids. IsReached r (numbers_by r.nodes strict t.entries ids) (EnumAt n)) enums (reached (EnumAt n) (omega arith, less) t (grows_none t)) in
       record {
         entries = t.entries;
         bound = kept.entries t.entries [] (sym (append-nil t.entries));
@@ -101,6 +168,11 @@ module _ (r : RequestTerm) (strict : Bool) where
         nodes = meant;
         enums = subst (λ ids. AreEnumsOf (numbers_by r.nodes strict t.entries ids) m.enums) enums made.enumerated;
         roots = found_of r (numbers_by r.nodes strict t.entries (enum_ids m.enums)) refl t.entries (schemas_made m) meant rooted;
+        reached = λ n e there.
+            let inside : n < length t.entries = slice_get_within t.entries n e there in
+            subst (λ ids. IsReached r (numbers_by r.nodes strict t.entries ids) (EntryAt n)) enums (reached (EntryAt n) (omega arith, inside) t (grows_none t));
+        distinct_enums = enums_distinct (numbers_by r.nodes strict t.entries (enum_ids m.enums)) m.enums refl (λ n e there. reached_first r (numbers_by r.nodes strict t.entries (enum_ids m.enums)) (EnumAt n) (each_enum n e there));
+        reached_enums = each_enum;
       }
 
   abbrev set_or : Schemas → Said (Schemas × List Note) → Schemas
@@ -108,24 +180,25 @@ module _ (r : RequestTerm) (strict : Bool) where
   set_or other (Err kind) = other
 
   module _ (set : Schemas) (notes : List Note) where
-    made_meant : (s : Named) → Stay r.nodes s.entries → ((t : Named) → Grows s t → AreRooted r t.entries) → (x : Result (Made × Named) ErrorKind) → IfDone (λ (m : Made) t. Ends r.nodes strict s nothing_made m t) x → result_of x ≡ Ok (set, notes) → IsSetOf r strict set
-    made_meant s stay rooted (Err kind) h e = absurd (cc)
-    made_meant s stay rooted (Ok p) h e =
+    made_meant : (s : Named) → Stay r.nodes s.entries → ((t : Named) → Grows s t → AreRooted r t.entries) → (x : Result (Made × Named) ErrorKind) → IfDone (λ (m : Made) t. Ends r.nodes strict s nothing_made m t) x → IfDone (λ (m : Made) t. AllReached r strict t) x → result_of x ≡ Ok (set, notes) → IsSetOf r strict set
+    made_meant s stay rooted (Err kind) h k e = absurd (cc)
+    made_meant s stay rooted (Ok p) h k e =
         let same : schemas_made p.0 ≡ set = ap (set_or set) e in
-        subst (IsSetOf r strict) same (set_of_made s p.1 p.0 h stay (rooted p.1 h.grown))
+        subst (IsSetOf r strict) same (set_of_made s p.1 p.0 h stay (rooted p.1 h.grown) k)
 
     named_meant : (x : Result (List ℕ × Named) ErrorKind) → IfDone (λ (none : List ℕ) t. Done (Stay r.nodes) nothing_named t (λ z. AreRooted r z.entries)) x
-        → result_of (work_continued (λ none. make_all r.nodes strict (65536 + suc (length r.nodes)) nothing_made) x) ≡ Ok (set, notes) → IsSetOf r strict set
-    named_meant (Err kind) h e = absurd (cc)
-    named_meant (Ok p) h e =
-        made_meant p.1 (h.kept (stay_none r.nodes)) (λ t g. h.later t g) (make_all r.nodes strict (65536 + suc (length r.nodes)) nothing_made p.1) (all_end r.nodes strict (65536 + suc (length r.nodes)) nothing_made p.1) e
+        → IfDone (λ (none : List ℕ) t. AllReached r strict t) x → result_of (work_continued (λ none. make_all r.nodes strict (65536 + suc (length r.nodes)) nothing_made) x) ≡ Ok (set, notes) → IsSetOf r strict set
+    named_meant (Err kind) h k e = absurd (cc)
+    named_meant (Ok p) h k e =
+        made_meant p.1 (h.kept (stay_none r.nodes)) (λ t g. h.later t g) (make_all r.nodes strict (65536 + suc (length r.nodes)) nothing_made p.1) (all_end r.nodes strict (65536 + suc (length r.nodes)) nothing_made p.1)
+        (all_reached r strict (65536 + suc (length r.nodes)) nothing_made p.1 k) e
 
 pub set_meant : SetMeansItsRequest
-set_meant r strict set notes e = named_meant r strict set notes (name_files r.nodes strict r.files nothing_named) (files_named (Stay r.nodes) r (stay_whole r.nodes) strict nothing_named) e
+set_meant r strict set notes e = named_meant r strict set notes (name_files r.nodes strict r.files nothing_named) (files_named (Stay r.nodes) r (stay_whole r.nodes) strict nothing_named) (files_reached r strict) e
 
 pub record_meant : SetMeansItsRecord
 record_meant r strict set notes e = go (request_said r) refl e
   where
-    go : (d : Said RequestTerm) → request_said r ≡ d → and_said d (λ request. conversion_of request strict) ≡ Ok (set, notes) → IsSetOfRecord r strict set
-    go (Ok request) said h = record { request = request; said = said; is = set_meant request strict set notes h }
+    go : (d : Said RequestTerm) → request_said r ≡ d → and_said d (λ request. conversion_of request strict) ≡ Ok (set, notes) → IsSetOfRecord r strict set notes
+    go (Ok request) said h = record { request = request; said = said; is = set_meant request strict set notes h; told = notes_tell request strict set notes h }
     go (Err kind) said h = absurd (cc)

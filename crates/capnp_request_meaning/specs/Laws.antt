@@ -10,22 +10,28 @@ use Rattle.capnp_request.specs.Scopes.{node_named}
 use Rattle.capnp_request.specs.Terms.{RequestTerm, SchemaNode}
 use Rattle.capnp_request.specs.Work.{Entry, Whole}
 use Rattle.capnp_request_meaning.specs.Meaning.{AreUnbound, IsSetOf}
-use Rattle.capnp_device.specs.declared.error.ErrorKind.TheVariants.{NodeNotFound}
-use Rattle.capnp_request_meaning.specs.WellNamed.{IsWellNamed}
+use Rattle.capnp_request_meaning.specs.Noted.{AreNotesOf}
+use Rattle.capnp_device.specs.declared.error.ErrorKind.TheVariants.{NodeNotFound, TooManyTypes}
+use Rattle.capnp_request_meaning.specs.Sound.{IsRequestSound, Refusal}
 
 -- the set that a request is converted to is that of the request
 abbrev pub SetMeansItsRequest : Type 0
 SetMeansItsRequest = (r : RequestTerm) (strict : Bool) (set : Schemas) (notes : List Note) → conversion_of r strict ≡ Ok (set, notes) → IsSetOf r strict set
 
--- a set is that of the request that a record says
-pub record IsSetOfRecord (r : Record) (strict : Bool) (set : Schemas) : Type 0 where
+-- a set and its notes are those of the request that a record says
+pub record IsSetOfRecord (r : Record) (strict : Bool) (set : Schemas) (notes : List Note) : Type 0 where
   pub request : RequestTerm
   pub said : request_said r ≡ Ok request
   pub is : IsSetOf request strict set
+  pub told : AreNotesOf request strict set notes
 
 -- the same of a request's record
 abbrev pub SetMeansItsRecord : Type 0
-SetMeansItsRecord = (r : Record) (strict : Bool) (set : Schemas) (notes : List Note) → and_said (request_said r) (λ request. conversion_of request strict) ≡ Ok (set, notes) → IsSetOfRecord r strict set
+SetMeansItsRecord = (r : Record) (strict : Bool) (set : Schemas) (notes : List Note) → and_said (request_said r) (λ request. conversion_of request strict) ≡ Ok (set, notes) → IsSetOfRecord r strict set notes
+
+-- the notes beside a set are exactly of what stands so
+abbrev pub NotesTellWhatStands : Type 0
+NotesTellWhatStands = (r : RequestTerm) (strict : Bool) (set : Schemas) (notes : List Note) → conversion_of r strict ≡ Ok (set, notes) → AreNotesOf r strict set notes
 
 -- each display name has a file before its last colon, and no other node has it
 pub record HasOwnNames (nodes : List SchemaNode) : Type 0 where
@@ -44,6 +50,10 @@ abbrev pub UnboundNamesDiffer : Type 0
 UnboundNamesDiffer = (r : RequestTerm) (strict : Bool) (set : Schemas) (is : IsSetOf r strict set) → HasOwnNames r.nodes → (i j : ℕ) (e f : Entry) (n m : Node) →
     IsUnboundAt is.entries set i e n → IsUnboundAt is.entries set j f m → n.display_name ≡ m.display_name → i ≡ j
 
--- where each id that a request's nodes name is that of a node of its kind, no node is missing
+-- where no part of a request is a cause of a refusal, it isn't refused so; of bounds that isn't said
+abbrev pub RefusalsHaveCauses : Type 0
+RefusalsHaveCauses = (cause : Refusal) (r : RequestTerm) → cause.kind ≢ TooManyTypes → IsRequestSound cause r → conversion_of r cause.strict ≢ Err cause.kind
+
+-- so where each id that a request's nodes name is that of a node of its kind, no node is missing
 abbrev pub NothingIsMissing : Type 0
-NothingIsMissing = (r : RequestTerm) (strict : Bool) → IsWellNamed r → conversion_of r strict ≢ Err NodeNotFound
+NothingIsMissing = (r : RequestTerm) (strict : Bool) → IsRequestSound (record { kind = NodeNotFound; strict = strict }) r → conversion_of r strict ≢ Err NodeNotFound

@@ -1,3 +1,4 @@
 pub mod Laws
 pub mod Meaning
-pub mod WellNamed
+pub mod Noted
+pub mod Sound

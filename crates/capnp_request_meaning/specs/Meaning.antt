@@ -1,12 +1,13 @@
 -- What a set of schemas says of the request that it is made of, in the request's own words.
 use Rattle.std.specs.Prelude.{ℕ, zero, suc, ◌+◌, ◌<◌, ◌≡◌, ◌⊎◌, ◌==◌, List, [], ◌∷◌, ◌++◌, Bool, true, false, length, map, slice_get, Some, Ok, Err, ◌≤◌}
+use Rattle.std.specs.Str.{is_utf8}
 use Rattle.capnp_schema.specs.Schema.{Annotation, Brand, Enum, Enumerant, Field, FieldKind, Group, Node, Schemas, Slot}
 use Rattle.capnp_schema.specs.Types.{SchemaType, AnyPointerType, EnumType, StructType, VoidType}
 use Rattle.capnp_request.specs.Conversion.{mark}
-use Rattle.capnp_request.specs.Names.{dotted_of}
+use Rattle.capnp_request.specs.Names.{bound_name, dotted_of, file_where, occurrences_of}
 use Rattle.capnp_request.specs.Scopes.{bound_types, is_met, node_named, scopes_of}
-use Rattle.capnp_request.specs.Terms.{AnnotationNode, AnnotationTerm, Binds, BindingTerms, BrandTerm, EnumNode, EnumTerm, EnumerantTerm, FieldKindTerm, FieldTerm, Float32, Float64, GroupTerm, Inherits, Interface, ListTerm, MemberTerm, MoreBindings, MoreScopes, NoBindings, NoScopes, Parameter, RequestTerm, Said, SchemaNode, ScopeTerm, SlotTerm, StructNode, StructPart, StructTerm, TypeTerm, UnreadBrand, UnreadField, UnreadScope, UnreadType}
-use Rattle.capnp_request.specs.Types.{bound_to, is_entry_of, list_of, same_bound, without_untyped}
+use Rattle.capnp_request.specs.Terms.{AnnotationNode, AnnotationTerm, Binds, BindingTerms, BrandTerm, EnumNode, EnumTerm, EnumerantTerm, FieldKindTerm, FieldTerm, Float32, Float64, GroupTerm, Inherits, Interface, ListTerm, MemberTerm, MoreBindings, MoreScopes, NoBindings, NoScopes, Parameter, RequestTerm, Said, SchemaNode, ScopeTerm, SlotTerm, StructNode, StructPart, StructTerm, TypeTerm, UnreadBrand, UnreadField, UnreadScope, UnreadType, ValueTerm}
+use Rattle.capnp_request.specs.Types.{bound_to, enum_position, is_entry_of, list_of, same_bound, without_untyped}
 use Rattle.capnp_request.specs.Values.{value_stated}
 use Rattle.capnp_request.specs.Work.{Bound, Entry, GroupOf, MarkedType, Place, Whole, float_of, plain}
 
@@ -155,6 +156,7 @@ pub record IsFieldOf (k : Numbers) (inside : List Bound) (n i : ℕ) (f : FieldT
   pub own : List Annotation
   pub own_types : List SchemaType
   pub name : f.name ≡ Ok g.name
+  pub text : is_utf8 g.name ≡ true
   pub discriminant_value : g.discriminant_value ≡ f.discriminant_value
   pub annotations : IsSaidList (IsAnnotationOf k inside) f.annotations own own_types
   pub marked : AreMarked said.is_float own own_types g.annotations types
@@ -182,12 +184,38 @@ pub record IsTaken (nodes : List SchemaNode) (earlier : List Entry) (id : ℕ) (
   pub said : node.display_name ≡ Ok display
   pub same : dotted_of display ≡ dotted
 
--- a node's display name, or what stands behind its last colon where no earlier entry of another node has that
-pub record IsNameOf (nodes : List SchemaNode) (earlier : List Entry) (id : ℕ) (n : SchemaNode) (name : List ℕ) : Type 0 where
+-- the name of an enum: what stands behind the last colon of its node's display name
+pub record IsEnumNamed (nodes : List SchemaNode) (id : ℕ) (name : List ℕ) : Type 0 where
+  pub node : SchemaNode
   pub display : List ℕ
+  pub first : node_named nodes id ≡ Some node
+  pub said : node.display_name ≡ Ok display
+  pub is : name ≡ dotted_of display
+
+abbrev pub AreEnumsNamed : List SchemaNode → List ℕ → List (List ℕ) → Type 0
+AreEnumsNamed nodes [] [] = Unit {0}
+AreEnumsNamed nodes (id ∷ ids) (name ∷ names) = IsEnumNamed nodes id name × AreEnumsNamed nodes ids names
+AreEnumsNamed nodes ids names = ⊥
+
+-- the names of the first enums, so many
+pub record AreFirstEnums (k : Numbers) (names : List (List ℕ)) : Type 0 where
+  pub ids : List ℕ
+  pub more : List ℕ
+  pub are : k.enums ≡ ids ++ more
+  pub named : AreEnumsNamed k.nodes ids names
+
+-- What stands behind the last colon of a node's display name. Behind each of its parts stand the names of the types that are
+-- bound to the parameters of its scopes: of structs those before it have names, and of enums the first ones. The file, with that
+-- colon, stands before it exactly where an earlier entry of another node has the same behind its colon.
+pub record IsNameOf (k : Numbers) (earlier : List Entry) (before : List Node) (e : Entry) (n : SchemaNode) (name : List ℕ) : Type 0 where
+  pub display : List ℕ
+  pub enums : List (List ℕ)
+  pub with_file : Bool
   pub said : n.display_name ≡ Ok display
-  pub is : (name ≡ dotted_of display) ⊎ (name ≡ display)
-  pub taken : IsTaken nodes earlier id (dotted_of display) → name ≡ display
+  pub first_enums : AreFirstEnums k enums
+  pub is : name ≡ file_where with_file display ++ bound_name (map (λ (m : Node). m.display_name) before) enums e.bound (occurrences_of 46 (dotted_of display)) 0 (dotted_of display)
+  pub taken : IsTaken k.nodes earlier e.node (dotted_of display) → with_file ≡ true
+  pub free : with_file ≡ true → IsTaken k.nodes earlier e.node (dotted_of display)
 
 -- the name of the group that field i of node p names: its parent's, a dot, and the field's
 pub record IsGroupName (before : List Node) (p i : ℕ) (name : List ℕ) : Type 0 where
@@ -197,10 +225,9 @@ pub record IsGroupName (before : List Node) (p i : ℕ) (name : List ℕ) : Type
   pub member : slice_get (map (λ (f : Field). f.name) parent.fields) i ≡ Some field
   pub is : name ≡ parent.display_name ++ 46 ∷ field
 
--- where nothing is bound, the name is that of the schema node
-abbrev pub IsEntryName : List SchemaNode → (earlier : List Entry) → (before : List Node) → SchemaNode → Entry → Place → List ℕ → Type 0
-IsEntryName nodes earlier before node e Whole name = AreUnbound e.bound → IsNameOf nodes earlier e.node node name
-IsEntryName nodes earlier before node e (GroupOf p i) name = IsGroupName before p i name
+abbrev pub IsEntryName : Numbers → (earlier : List Entry) → (before : List Node) → SchemaNode → Entry → Place → List ℕ → Type 0
+IsEntryName k earlier before node e Whole name = IsNameOf k earlier before e node name
+IsEntryName k earlier before node e (GroupOf p i) name = IsGroupName before p i name
 
 -- The node and the brand of an entry, behind the entries and nodes before it, have what its schema node has.
 pub record IsNodeOf (k : Numbers) (earlier : List Entry) (before : List Node) (e : Entry) (n : Node) (b : Brand) : Type 0 where
@@ -211,8 +238,9 @@ pub record IsNodeOf (k : Numbers) (earlier : List Entry) (before : List Node) (e
   pub struct : node.kind ≡ StructNode part
   pub listed : part.fields ≡ Ok members
   pub id : n.id ≡ e.node
-  pub name : IsEntryName k.nodes earlier before node e e.place n.display_name
+  pub name : IsEntryName k earlier before node e e.place n.display_name
   pub short : length n.display_name ≤ 1024
+  pub text : is_utf8 n.display_name ≡ true
   pub annotations : IsSaidList (IsAnnotationOf k e.bound) node.annotations n.annotations b.annotation_types.own
   pub data_words : n.data_word_count ≡ part.data_words
   pub pointers : n.pointer_count ≡ part.pointers
@@ -232,6 +260,7 @@ AreNodesFrom k earlier before es ns bs = ⊥
 
 pub record IsEnumerantOf (k : Numbers) (x : EnumerantTerm) (y : Enumerant) (types : List SchemaType) : Type 0 where
   pub name : x.name ≡ Ok y.name
+  pub text : is_utf8 y.name ≡ true
   pub annotations : IsSaidList (IsAnnotationOf k []) x.annotations y.annotations types
 
 -- an enum has the enumerants of its node, in their order; nothing is bound there
@@ -244,6 +273,7 @@ pub record IsEnumOf (k : Numbers) (e : Enum) : Type 0 where
   pub said : node.display_name ≡ Ok display
   pub name : e.display_name ≡ dotted_of display
   pub short : length e.display_name ≤ 1024
+  pub text : is_utf8 e.display_name ≡ true
   pub annotations : IsSaidList (IsAnnotationOf k []) node.annotations e.annotations e.annotation_types.own
   pub enumerants : IsSaidList (IsEnumerantOf k) members e.enumerants e.annotation_types.children
 
@@ -268,13 +298,99 @@ pub record IsFound (set : Schemas) (id : ℕ) (n : SchemaNode) : Type 0 where
   pub said : n.display_name ≡ Ok display
   pub name : (node.display_name ≡ dotted_of display) ⊎ (node.display_name ≡ display)
 
+-- ---- what leads to an entry ----
+
+-- an entry or an enum, by its number
+pub data Target : Type 0 where
+  EntryAt : ℕ → Target
+  EnumAt : ℕ → Target
+
+abbrev pub AnyBound : (Bound → Type 0) → List Bound → Type 0
+AnyBound P [] = ⊥
+AnyBound P (b ∷ bs) = P b ⊎ AnyBound P bs
+
+-- The types that stand in a type: the type itself, what stands in its elements, and in what its brand binds to the parameters
+-- of its node's scopes. There the brand's first scope of an id counts, and as many bindings as there are parameters.
+abbrev mutual
+  pub StandsIn : List SchemaNode → TypeTerm → (inner : TypeTerm) → Type 0
+  StandsIn nodes (MemberTerm t) inner = inner ≡ MemberTerm t
+  StandsIn nodes Float32 inner = inner ≡ Float32
+  StandsIn nodes Float64 inner = inner ≡ Float64
+  StandsIn nodes Interface inner = inner ≡ Interface
+  StandsIn nodes (ListTerm t) inner = (inner ≡ ListTerm t) ⊎ StandsIn nodes t inner
+  StandsIn nodes (EnumTerm id) inner = inner ≡ EnumTerm id
+  StandsIn nodes (StructTerm id brand) inner = (inner ≡ StructTerm id brand) ⊎ ((scopes : List Bound) × (scopes_of nodes id ≡ Ok scopes) × AnyBound (λ (b : Bound). IsBindingOf nodes brand b inner) scopes)
+  StandsIn nodes (Parameter scope index) inner = inner ≡ Parameter scope index
+  StandsIn nodes (UnreadType kind) inner = ⊥
+
+  pub IsBindingOf : List SchemaNode → BrandTerm → Bound → (inner : TypeTerm) → Type 0
+  IsBindingOf nodes NoScopes b inner = ⊥
+  IsBindingOf nodes (MoreScopes id says rest) b inner = (((id == b.scope) ≡ true) × IsBindingSaid nodes says b.parameters inner) ⊎ (((id == b.scope) ≡ false) × IsBindingOf nodes rest b inner)
+  IsBindingOf nodes (UnreadBrand kind) b inner = ⊥
+
+  pub IsBindingSaid : List SchemaNode → ScopeTerm → (parameters : ℕ) → (inner : TypeTerm) → Type 0
+  IsBindingSaid nodes (Binds terms) count inner = IsBindingAmong nodes terms count inner
+  IsBindingSaid nodes Inherits count inner = ⊥
+  IsBindingSaid nodes (UnreadScope kind) count inner = ⊥
+
+  pub IsBindingAmong : List SchemaNode → BindingTerms → (parameters : ℕ) → (inner : TypeTerm) → Type 0
+  IsBindingAmong nodes NoBindings count inner = ⊥
+  IsBindingAmong nodes (MoreBindings t rest) zero inner = ⊥
+  IsBindingAmong nodes (MoreBindings t rest) (suc count) inner = StandsIn nodes t inner ⊎ IsBindingAmong nodes rest count inner
+
+-- a struct's type inside an entry is that of an entry, and an enum's is the first of its id
+abbrev pub IsTarget : Numbers → (inside : List Bound) → TypeTerm → Target → Type 0
+IsTarget k inside (StructTerm id brand) (EntryAt n) = IsTypeOf k inside (StructTerm id brand) (plain (StructType n n))
+IsTarget k inside (EnumTerm id) (EnumAt n) = enum_position k.enums id 0 ≡ Some n
+IsTarget k inside t x = ⊥
+
+-- one of the types that stand somewhere is
+pub record LeadsTo (k : Numbers) (inside : List Bound) (stand : TypeTerm → Type 0) (x : Target) : Type 0 where
+  pub inner : TypeTerm
+  pub stands : stand inner
+  pub target : IsTarget k inside inner x
+
+-- one of what its brand binds where an annotation stands, or one in its declaration's type, read inside what is bound so
+pub data AnnotationLeads (k : Numbers) (inside : List Bound) (a : AnnotationTerm) (x : Target) : Type 0 where
+  ByBrand : (scopes : List Bound) → scopes_of k.nodes a.id ≡ Ok scopes → LeadsTo k inside (λ inner. AnyBound (λ (b : Bound). IsBindingOf k.nodes a.brand b inner) scopes) x → AnnotationLeads k inside a x
+  ByDeclaration : (node : SchemaNode) (declared : TypeTerm) (bound : List Bound) → node_named k.nodes a.id ≡ Some node → node.kind ≡ AnnotationNode declared
+      → scopes_of k.nodes a.id ≡ Ok (map without_types bound) → EachBound (IsBoundBy k inside a.brand) bound → LeadsTo k bound (StandsIn k.nodes declared) x → AnnotationLeads k inside a x
+
+-- number i of a list that can be read
+pub record IsRead {A : Type 0} (d : Said (List (Said A))) (i : ℕ) (a : A) : Type 0 where
+  pub list : List (Said A)
+  pub said : d ≡ Ok list
+  pub there : slice_get list i ≡ Some (Ok a)
+
+-- an annotation of a node, of a field of it, or of an enumerant
+pub data HasAnnotation (n : SchemaNode) (a : AnnotationTerm) : Type 0 where
+  OfNode : (i : ℕ) → IsRead n.annotations i a → HasAnnotation n a
+  OfField : (part : StructPart) (i j : ℕ) (f : FieldTerm) → n.kind ≡ StructNode part → IsRead part.fields i f → IsRead f.annotations j a → HasAnnotation n a
+  OfEnumerant : (members : Said (List (Said EnumerantTerm))) (i j : ℕ) (x : EnumerantTerm) → n.kind ≡ EnumNode members → IsRead members i x → IsRead x.annotations j a → HasAnnotation n a
+
+-- the schema node of an entry or an enum, and what is bound inside
+abbrev pub IsNodeAt : Numbers → Target → SchemaNode → (inside : List Bound) → Type 0
+IsNodeAt k (EntryAt n) node inside = (e : Entry) × (slice_get k.entries n ≡ Some e) × (inside ≡ e.bound) × (node_named k.nodes e.node ≡ Some node)
+IsNodeAt k (EnumAt n) node inside = (id : ℕ) × (slice_get k.enums n ≡ Some id) × (inside ≡ []) × (node_named k.nodes id ≡ Some node)
+
+-- Structs of the requested files lead to themselves, and each entry and enum that they lead to leads on: to the groups of its
+-- fields, by the types of its fields, and by annotations.
+pub data IsReached (r : RequestTerm) (k : Numbers) : Target → Type 0 where
+  Requested : (n : ℕ) (e : Entry) (node : SchemaNode) (part : StructPart) → slice_get k.entries n ≡ Some e → e.place ≡ Whole → AreUnbound e.bound
+      → IsListed r e.node → node_named r.nodes e.node ≡ Some node → node.kind ≡ StructNode part → part.is_group ≡ false → IsReached r k (EntryAt n)
+  ByGroup : (n p i : ℕ) (e : Entry) → IsReached r k (EntryAt p) → slice_get k.entries n ≡ Some e → e.place ≡ GroupOf p i → IsReached r k (EntryAt n)
+  ByField : (x y : Target) (node : SchemaNode) (inside : List Bound) (part : StructPart) (i : ℕ) (f : FieldTerm) (offset : ℕ) (t : TypeTerm) (default : ValueTerm) → IsReached r k y → IsNodeAt k y node inside
+      → node.kind ≡ StructNode part → IsRead part.fields i f → f.kind ≡ SlotTerm offset t default → LeadsTo k inside (StandsIn k.nodes t) x → IsReached r k x
+  ByAnnotation : (x y : Target) (node : SchemaNode) (inside : List Bound) (a : AnnotationTerm) → IsReached r k y → IsNodeAt k y node inside → HasAnnotation node a → AnnotationLeads k inside a x → IsReached r k x
+
 -- ---- the set ----
 
 abbrev pub numbers_in : RequestTerm → (strict : Bool) → List Entry → Schemas → Numbers
 numbers_in r strict entries set = record { nodes = r.nodes; strict = strict; entries = entries; enums = map (λ (e : Enum). e.id) set.enums }
 
 -- A set is that of a request: its nodes and brands are those of entries, each a struct node of the request with bindings or
--- the group of a field; its enums are the request's; and each struct of the requested files that is no group is found.
+-- the group of a field, and its enums are the request's. Each struct of the requested files that is no group is found, and such
+-- structs lead to each entry and each enum.
 pub record IsSetOf (r : RequestTerm) (strict : Bool) (set : Schemas) : Type 0 where
   pub entries : List Entry
   pub bound : AreEntries r.nodes entries entries
@@ -282,4 +398,7 @@ pub record IsSetOf (r : RequestTerm) (strict : Bool) (set : Schemas) : Type 0 wh
   pub few : length entries ≤ 65536
   pub nodes : AreNodesFrom (numbers_in r strict entries set) [] [] entries set.nodes set.brands
   pub enums : AreEnumsOf (numbers_in r strict entries set) set.enums
+  pub distinct_enums : (i j : ℕ) (e f : Enum) → slice_get set.enums i ≡ Some e → slice_get set.enums j ≡ Some f → e.id ≡ f.id → i ≡ j
   pub roots : (id : ℕ) (n : SchemaNode) (part : StructPart) → IsListed r id → node_named r.nodes id ≡ Some n → n.kind ≡ StructNode part → part.is_group ≡ false → IsFound set id n
+  pub reached : (n : ℕ) (e : Entry) → slice_get entries n ≡ Some e → IsReached r (numbers_in r strict entries set) (EntryAt n)
+  pub reached_enums : (n : ℕ) (e : Enum) → slice_get set.enums n ≡ Some e → IsReached r (numbers_in r strict entries set) (EnumAt n)
