@@ -214,7 +214,8 @@ printf '(kind = public)' | capnp encode examples/sets/account_2.capnp Account > 
 show account_1 Account '(balance = 0, kind = 2)'
 
 versions account_1 account_1 0 ''
-versions account_1 account_2 0 ''
+versions account_1 account_2 0 'note: Account.kind has the new enumerant public
+note: Account.email is new'
 versions account_2 account_1 1 'Account.kind has an enum with fewer names: was Account.Kind, data bit 32, default private; is Account.Kind, data bit 32, default private
 Account.email is gone: was Text, pointer 1, default ""'
 versions account_2 account_3 1 'Account.balance has another type: was Int32, data bit 0, default 0; is Int64, data bit 0, default 0

@@ -50,60 +50,77 @@ loaded() {
     [ $? -eq $wanted ] || fail "$1: the loader says $(cat "$scratch/loaded")"
 }
 
-# told CASE LINES: the sets older and newer differ by these lines, none where the newer follows
-told() {
-    checks=$((checks + 1))
-    ./riftcalico compatible "$scratch/older.set" "$scratch/newer.set" S > "$scratch/out" 2> "$scratch/err"
-    status=$?
-    [ "$status" -eq "$([ -z "$2" ] && echo 0 || echo 1)" ] || fail "$1: exit status $status"
+# printed CASE WANTED: so much was printed
+printed() {
     [ "$(cat "$scratch/out")" = "$2" ] || fail "$1: printed $(cat "$scratch/out"), not $2"
     [ ! -s "$scratch/err" ] || fail "$1: standard error has $(cat "$scratch/err")"
-    loaded "$1" "$status"
 }
 
-# change CASE OLDER NEWER [LINES]: the fields of the struct S, before and after
+# told CASE LINES NOTES: the sets older and newer differ by these lines, none where the newer follows; and what is noted
+told() {
+    checks=$((checks + 1))
+    ./riftcalico compatible --breaking-only "$scratch/older.set" "$scratch/newer.set" S > "$scratch/out" 2> "$scratch/err"
+    status=$?
+    [ "$status" -eq "$([ -z "$2" ] && echo 0 || echo 1)" ] || fail "$1: exit status $status"
+    printed "$1" "$2"
+    loaded "$1" "$status"
+    ./riftcalico compatible "$scratch/older.set" "$scratch/newer.set" S > "$scratch/out" 2> "$scratch/err"
+    [ $? -eq "$status" ] || fail "$1: another exit status with notes"
+    printed "$1" "$2${2:+${3:+$newline}}$3"
+}
+newline='
+'
+
+# change CASE OLDER NEWER [LINES [NOTES]]: the fields of the struct S, before and after
 change() {
     made older "struct S { $2 }"
     made newer "struct S { $3 }"
-    told "$1" "$4"
+    told "$1" "$4" "$5"
 }
 
-# schema CASE OLDER NEWER [LINES]: the same of whole schemas
+# schema CASE OLDER NEWER [LINES [NOTES]]: the same of whole schemas
 schema() {
     made older "$2"
     made newer "$3"
-    told "$1" "$4"
+    told "$1" "$4" "$5"
 }
 
 # ---- changes that the guide allows ----
 
 schema 'types, constants and annotations come' 'struct S { a @0 :Text; }' \
     'struct S { a @0 :Text; } struct T { b @0 :Int8; } const c :Int32 = 1; annotation d(field) :Text; using U = Text;'
-change 'a field comes' 'a @0 :Int32;' 'a @0 :Int32; b @1 :Text;'
-change 'fields that take new words come' 'a @0 :Int32;' 'a @0 :Int32; b @1 :UInt64; c @2 :List(Text); d @3 :AnyPointer;'
-change 'an enumerant comes' 'a @0 :E; enum E { x @0; }' 'a @0 :E; enum E { x @0; y @1; }'
+change 'a field comes' 'a @0 :Int32;' 'a @0 :Int32; b @1 :Text;' '' 'note: S.b is new'
+change 'fields that take new words come' 'a @0 :Int32;' 'a @0 :Int32; b @1 :UInt64; c @2 :List(Text); d @3 :AnyPointer;' '' 'note: S.b is new
+note: S.c is new
+note: S.d is new'
+change 'an enumerant comes' 'a @0 :E; enum E { x @0; }' 'a @0 :E; enum E { x @0; y @1; }' '' 'note: S.a has the new enumerant y'
 change 'members stand in another order' 'a @0 :Int32; b @1 :Text;' 'b @1 :Text; a @0 :Int32;'
-change 'fields have other names' 'a @0 :Int32; b @1 :Text;' 'amount @0 :Int32; title @1 :Text;'
-change 'enumerants have other names' 'a @0 :E; enum E { x @0; }' 'a @0 :E; enum E { first @0; }'
+change 'fields have other names' 'a @0 :Int32; b @1 :Text;' 'amount @0 :Int32; title @1 :Text;' '' 'note: S.a is named amount now
+note: S.b is named title now'
+change 'enumerants have other names' 'a @0 :E; enum E { x @0; }' 'a @0 :E; enum E { first @0; }' '' 'note: S.a has the enumerant x, which is named first now'
 change 'a type has another name' 'a @0 :T; struct T { b @0 :Int8; }' 'a @0 :U; struct U { b @0 :Int8; }'
 schema 'a type moves out of its struct' 'struct S { a @0 :T; struct T @0xe8d7c6b5a4f3e2d1 { b @0 :Int8; } }' \
     'struct S { a @0 :T; } struct T @0xe8d7c6b5a4f3e2d1 { b @0 :Int8; }'
-change 'a union of new fields comes' 'a @0 :Int32;' 'a @0 :Int32; union { b @1 :Int32; c @2 :Text; }'
-change 'a group of new fields comes' 'a @0 :Int32;' 'a @0 :Int32; g :group { b @1 :Int32; c @2 :Text; }'
-change 'a union has a new member' 'union { a @0 :Int32; b @1 :Text; }' 'union { a @0 :Int32; b @1 :Text; c @2 :Data; }'
+change 'a union of new fields comes' 'a @0 :Int32;' 'a @0 :Int32; union { b @1 :Int32; c @2 :Text; }' '' 'note: S.b is new
+note: S.c is new'
+change 'a group of new fields comes' 'a @0 :Int32;' 'a @0 :Int32; g :group { b @1 :Int32; c @2 :Text; }' '' 'note: S.g is new'
+change 'a union has a new member' 'union { a @0 :Int32; b @1 :Text; }' 'union { a @0 :Int32; b @1 :Text; c @2 :Data; }' '' 'note: S.c is new'
 change 'elements become structs of which they are the first field' 'a @0 :List(Int32);' \
-    'a @0 :List(T); struct T { b @0 :Int32; c @1 :Text; }'
+    'a @0 :List(T); struct T { b @0 :Int32; c @1 :Text; }' '' 'note: S.a has lists of structs now; so many more levels are asked of readers: 1'
 change 'texts become structs of which they are the first field' 'a @0 :List(Text);' \
-    'a @0 :List(T); struct T { b @0 :Text; c @1 :Int32; }'
+    'a @0 :List(T); struct T { b @0 :Text; c @1 :Int32; }' '' 'note: S.a has lists of structs now; so many more levels are asked of readers: 1'
+change 'lists in a list become lists of structs in a list' 'a @0 :List(List(Int8));' \
+    'a @0 :List(T); struct T { b @0 :List(U); } struct U { c @0 :Int8; }' '' 'note: S.a has lists of structs now; so many more levels are asked of readers: 2'
 change 'fields of one type change their numbers, which is as if they changed their names' 'a @0 :Int32; b @1 :Int32;' \
-    'b @0 :Int32; a @1 :Int32;'
+    'b @0 :Int32; a @1 :Int32;' '' 'note: S.a is named b now
+note: S.b is named a now'
 
 # ---- changes that the guide allows, and Compatible does not ----
 
-change 'a field enters a union that is new' 'a @0 :Int32;' 'union { a @0 :Int32; b @1 :Text; }' 'S.a entered the union: was Int32, data bit 0, default 0; is Int32, data bit 0, default 0, member 0'
+change 'a field enters a union that is new' 'a @0 :Int32;' 'union { a @0 :Int32; b @1 :Text; }' 'S.a entered the union: was Int32, data bit 0, default 0; is Int32, data bit 0, default 0, member 0' 'note: S.b is new'
 change 'a field enters a group that is new' 'a @0 :Int32;' 'g :group { a @0 :Int32; b @1 :Text; }' \
     'S.a became a group, or is none any more: was Int32, data bit 0, default 0; is group
-S.a has another type: was Int32, data bit 0, default 0; is group'
+S.a has another type: was Int32, data bit 0, default 0; is group' 'note: S.a is named g now'
 schema 'a field has the type that its generic is bound to' 'struct S { a @0 :T; } struct T { b @0 :Text; }' \
     'struct S { a @0 :T(Text); } struct T(V) { b @0 :V; }' 'T.b has another default: was Text, pointer 0, default ""; is Text, pointer 0'
 
@@ -164,13 +181,13 @@ all() {
     ./riftcalico compatible $3 "$scratch/older.set" "$scratch/newer.set" > "$scratch/out" 2> "$scratch/err"
     status=$?
     [ "$status" -eq "$2" ] || fail "$1: exit status $status"
-    [ "$(cat "$scratch/out")" = "$4" ] || fail "$1: printed $(cat "$scratch/out"), not $4"
-    [ ! -s "$scratch/err" ] || fail "$1: standard error has $(cat "$scratch/err")"
+    printed "$1" "$4"
 }
 
 made older 'struct S { a @0 :T; } struct T { b @0 :Int8; } struct U { c @0 :Text; } struct V { t @0 :T; }'
 made newer 'struct S { a @0 :T; } struct T { b @0 :UInt8; } struct U { c @0 :Text; d @1 :Text; } struct W { x @0 :T; }'
 all 'what several lead to is told once' 1 '' 'T.b has another type: was Int8, data bit 0, default 0; is UInt8, data bit 0, default 0
+note: U.d is new
 note: V is gone
 note: W is new
 structs: 1 compatible, 2 not'
@@ -179,7 +196,8 @@ structs: 1 compatible, 2 not'
 all 'only the status is wanted' 1 --quiet ''
 
 made newer 'struct S { a @0 :T; } struct T { b @0 :Int8; } struct U { c @0 :Text; d @1 :Text; } struct V { t @0 :T; } struct W { x @0 :T; }'
-all 'all are compatible' 0 '' 'note: W is new
+all 'all are compatible' 0 '' 'note: U.d is new
+note: W is new
 structs: 4 compatible, 0 not'
 all 'all are compatible, and nothing is said of others' 0 --breaking-only 'structs: 4 compatible, 0 not'
 

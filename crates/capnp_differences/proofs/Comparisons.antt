@@ -166,4 +166,5 @@ module _ (set : Schemas) (asked : List Pair) (next : ℕ) (ps : List Pair) (ts :
     known = known;
     told = λ d. (told-listed d, λ h. listed-told d h.0 h.1);
     ordered = w.ordered;
+    apart = w.apart;
   }

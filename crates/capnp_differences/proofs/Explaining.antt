@@ -48,11 +48,11 @@ module _ (set : Schemas) (asked ps : List Pair) (ts : List Difference) (w : Comp
   given-listed : (p : Pair) → Contains asked p → IsTrue (listed_pairs ps p.older p.newer)
   given-listed p h = w.given p.older p.newer (contains_listed asked p h)
 
-  all-listed : (a b : ℕ) → IsComparedOf set asked a b → IsTrue (listed_pairs ps a b)
-  all-listed a b c = listed-from c.given.older c.given.newer (given-listed c.given c.stands) c.compared
+  pub all_listed : (a b : ℕ) → IsComparedOf set asked a b → IsTrue (listed_pairs ps a b)
+  all_listed a b c = listed-from c.given.older c.given.newer (given-listed c.given c.stands) c.compared
 
   pub all_told : (d : Difference) → (Contains ts d ↔ IsDifferenceOf set asked d)
-  all_told d = (λ h. let r = (w.told d).0 h in record { compared = w.compared d.pair.older d.pair.newer r.0; holds = r.1 }, λ h. (w.told d).1 (all-listed d.pair.older d.pair.newer h.compared, h.holds))
+  all_told d = (λ h. let r = (w.told d).0 h in record { compared = w.compared d.pair.older d.pair.newer r.0; holds = r.1 }, λ h. (w.told d).1 (all_listed d.pair.older d.pair.newer h.compared, h.holds))
 
   -- ---- the pairs that are not marked ----
 
@@ -171,6 +171,7 @@ module _ (set : Schemas) (asked gs ps : List Pair) (ts : List Difference) (g : G
     known = w.known;
     told = w.told;
     ordered = w.ordered;
+    apart = w.apart;
   }
 
 -- ---- the only pair ----

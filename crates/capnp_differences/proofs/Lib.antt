@@ -1,6 +1,7 @@
 pub mod FieldLookUps
 pub mod DefaultKinds
 pub mod Layers
+pub mod InsideLists
 pub mod InPlace
 pub mod LayerKinds
 pub mod Listings
@@ -16,4 +17,5 @@ pub mod Comparisons
 pub mod Gathering
 pub mod Marking
 pub mod Explaining
+pub mod Noting
 pub mod Rows

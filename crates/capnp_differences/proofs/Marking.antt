@@ -186,3 +186,21 @@ module _ (set : Schemas) (ps : List Pair) (ts : List Difference) where
         on : (length ms < length ns) ⊎ ((ns ≡ ms) × ((a b : ℕ) → IsTrue (listed_pairs ps a b) → NamesOne set ms a b → IsTrue (listed_pairs ms a b))) → (a b : ℕ) → IsTrue (listed_pairs ps a b) → NamesOne set ns a b → IsTrue (listed_pairs ns a b)
         on (inl lt) = absurd (omega arith)
         on (inr f) = subst (λ (l : List Pair). (a b : ℕ) → IsTrue (listed_pairs ps a b) → NamesOne set l a b → IsTrue (listed_pairs l a b)) (sym f.0) f.1
+
+-- ---- where nothing is told ----
+
+none-at : (ts : List Difference) (k : ℕ) (d : Difference) → length ts ≡ 0 → slice_get ts k ≡ Some d → ⊥
+none-at [] k d none e = cc
+none-at (x ∷ xs) k d none e = omega (arith, none)
+
+-- nothing is marked then
+module _ (set : Schemas) (ps : List Pair) (ts : List Difference) (ms : List Pair) (g : Gathers (IsToldAt ts) ms (length ts)) (none : length ts ≡ 0) where
+  none-listed : (a b : ℕ) → IsTrue (listed_pairs ms a b) → ⊥
+  none-listed a b h = let at = g.only a b h in none-at ts at.0 (at.1).0 none (at.1).1
+
+  pub none_reach : Reaches set ps ts ms
+  none_reach = record {
+    differing = λ d h. absurd (let lt = h.1 in omega (arith, lt, none));
+    leads = λ a b h. absurd (none-listed a b h);
+    settled = λ a b h n. absurd (none-listed n.0 n.1 n.3);
+  }

@@ -1,4 +1,5 @@
 pub mod Differences
 pub mod Closing
 pub mod Keys
+pub mod Notes
 pub mod Steps

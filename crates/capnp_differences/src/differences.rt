@@ -1,5 +1,7 @@
 //! What is told of two structs.
 
+use crate::noted::Note;
+
 /// Two structs of one set by the numbers of their brands: an older one, and a newer.
 #[derive(Clone, Copy, Debug, PartialEq, Eq)]
 pub struct Pair {
@@ -50,11 +52,13 @@ pub struct Difference {
     pub cause: Cause,
 }
 
-/// What differs in several pairs of structs, and in which of them it does.
+/// What differs in several pairs of structs, and in which of them it does; and what changes though they may follow.
 #[derive(Drop)]
 pub struct Explanation {
     /// Each difference, once.
     pub told: Vec<Difference>,
+    /// What else changes, pair by pair, and in these field by field.
+    pub notes: Vec<Note>,
     /// Of each pair that was asked, in their order, whether the newer struct follows the older one.
     pub follows: Vec<bool>,
 }

@@ -83,7 +83,7 @@ fn can_become_struct(layer: TypeVariant) -> bool
 
 /// Whether field 0 of a brand stands where an element of a type stood.
 #[tactic(auto, using(crate::proofs::Layers::seen))]
-fn is_in_place(schemas: &SchemaSet, older: Type, number: u32) -> bool
+pub(crate) fn is_in_place(schemas: &SchemaSet, older: Type, number: u32) -> bool
     ensures is { result ≡ (can_become_struct (seen_type older) && stands_first (lists_seen schemas.now) number) }
     ensures inside { IsTrue result → 0 < length (fields_of (lists_seen schemas.now) number) }
 {

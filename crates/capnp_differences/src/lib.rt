@@ -5,10 +5,14 @@
 mod brands;
 mod defaults;
 mod differences;
+mod enums;
 mod fields;
 mod first;
+mod lists;
 mod marks;
 mod named;
+mod noted;
+mod notes;
 mod pairs;
 mod tell;
 mod types;
@@ -16,4 +20,6 @@ mod unions;
 mod walk;
 
 pub use differences::{Cause, Difference, Explanation, Pair};
+pub use enums::enumerant_name;
+pub use noted::{Change, EnumPair, Note};
 pub use walk::{explain, explain_all};

@@ -1,5 +1,5 @@
 //! The pairs of structs from which a difference can be reached.
-ghost use Rattle.std.specs.Prelude.{◌≡◌, ◌↔◌, Bool, Contains, IfErr, IfOk, OnOk, map, not};
+ghost use Rattle.std.specs.Prelude.{◌≡◌, ◌↔◌, Bool, Contains, IfErr, IfOk, IsTrue, OnOk, length, map, not};
 ghost use Rattle.capnp_device.specs.declared.error.ErrorKind.TheVariants.{OutOfMemory};
 ghost use Rattle.capnp_schema.specs.Entries.{lists_seen};
 ghost use Rattle.capnp_differences.specs.Closing.{listed_pairs};
@@ -43,6 +43,13 @@ fn sweep(schemas: &SchemaSet, pairs: &Pairs, marked: &mut Pairs) -> Result<()>
     Ok(())
 }
 
+/// Whether nothing is told.
+fn is_none_told(told: &[Difference]) -> bool
+    ensures { IsTrue result ↔ (length told.now ≡ 0) }
+{
+    told.is_empty()
+}
+
 /// The pairs from which a difference can be reached: those in which something differs, and those that name one of these, until
 /// there are no more.
 pub(crate) fn reaching(
@@ -57,6 +64,9 @@ pub(crate) fn reaching(
     ensures refused { IfErr result (λ e. e.kind ≡ OutOfMemory) }
 {
     let mut marked = Pairs::of_differences(alloc, told)?;
+    if is_none_told(told) {
+        return Ok(marked);
+    }
     loop {
         let before = marked.len();
         sweep(schemas, pairs, &mut marked)?;

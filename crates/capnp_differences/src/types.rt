@@ -15,7 +15,7 @@ use capnp_base::introspect::{Type, TypeVariant};
 use capnp_schema::record::EnumRecord;
 use capnp_schema::set::SchemaSet;
 
-fn kind(layer: TypeVariant) -> u8
+pub(crate) fn kind(layer: TypeVariant) -> u8
     ensures { result ≡ variant_kind layer }
 {
     match layer {
@@ -38,7 +38,7 @@ fn kind(layer: TypeVariant) -> u8
     }
 }
 
-fn enum_of(enums: &[EnumRecord], number: u32) -> Option<&EnumRecord>
+pub(crate) fn enum_of(enums: &[EnumRecord], number: u32) -> Option<&EnumRecord>
     ensures { option_copied result ≡ slice_get enums.now number }
 {
     enums.get(number as usize)

@@ -8,6 +8,7 @@ ghost use Rattle.capnp_differences.specs.declared.differences.Difference.{Differ
 ghost use Rattle.capnp_differences.specs.declared.differences.Pair.{Pair};
 ghost use Rattle.capnp_differences.specs.Closing.{listed_pairs};
 ghost use Rattle.capnp_differences.specs.Differences.{AreAnswered, ComesFirst, IsBrandPair, IsDifference, IsDifferenceOf};
+ghost use Rattle.capnp_differences.specs.Notes.{AreNotes};
 ghost use Rattle.capnp_differences.specs.Steps.Comparing.{Apart, Compares, Within, brand_pairs};
 
 use crate::brands::is_accepted;
@@ -15,6 +16,7 @@ use crate::differences::{Difference, Explanation, Pair};
 use crate::fields::tell_pair;
 use crate::marks::{reaching, unmarked};
 use crate::named::add_named;
+use crate::notes::note_all;
 use crate::pairs::Pairs;
 use capnp_base::introspect::RawBrandedStructSchema;
 use capnp_schema::schema::StructSchema;
@@ -22,14 +24,18 @@ use capnp_schema::set::SchemaSet;
 use capnp_wire::error::Result;
 use std::alloc::Global;
 
-/// Why a newer schema does not follow an older one, both brands of one set: no difference is told exactly where the newer
-/// is a compatible successor, as `Compatible::check` answers.
+/// Why a newer schema does not follow an older one: no difference is told exactly where the newer is a compatible
+/// successor, as `Compatible::check` answers.
 ///
 /// What is told are all differences in the pairs that are compared: of the given structs, and of each two structs that
 /// two fields of one index name, in a pair that is compared. Of one pair what differs in the union comes first, then
 /// each field by its index, and each in the order of `Cause`. So none is told twice.
 ///
 /// Refused with `OutOfMemory` where there is no memory for the pairs or the differences, and with nothing else.
+///
+/// # Conditions
+///
+/// Both schemas are brands of one accepted set (`IsStruct`).
 pub fn explain(
     alloc: Global,
     older: StructSchema<'_>,
@@ -57,8 +63,7 @@ pub fn explain(
     Ok(told)
 }
 
-/// Why the newer schemas of several pairs do not follow the older ones, all brands of one set, and in which of these pairs
-/// they do not.
+/// Why the newer schemas of several pairs do not follow the older ones, and in which of these pairs they do not.
 ///
 /// What is told are all differences in the pairs that are compared: the pairs that are asked, and each two structs that two
 /// fields of one index name, in a pair that is compared. Each pair is looked at once, however many others lead to it, and
@@ -67,7 +72,14 @@ pub fn explain(
 /// Of each pair that is asked it is answered whether its newer schema is a compatible successor, as `Compatible::check`
 /// answers. No difference is told exactly where all are.
 ///
+/// Notes are all that changes in the pairs that are compared and keeps no program from messages of the other: fields and
+/// enumerants that came or have other names, and lists whose elements became structs.
+///
 /// Refused with `OutOfMemory` where there is no memory for the pairs or the answer, and with nothing else.
+///
+/// # Conditions
+///
+/// Both schemas of each pair are brands of the set (`IsBrandPair`).
 pub fn explain_all(alloc: Global, schemas: &SchemaSet, asked: &[Pair]) -> Result<Explanation>
     requires brands { All (IsBrandPair (lists_seen schemas.now)) asked.now }
     ensures told { IfOk result (λ e. (d : Difference) → (Contains e.told.items d
@@ -76,13 +88,19 @@ pub fn explain_all(alloc: Global, schemas: &SchemaSet, asked: &[Pair]) -> Result
         → IsCompatibleOrUpgraded (lists_seen schemas.now) p.older p.newer)) }
     ensures follows { IfOk result (λ e. AreAnswered (lists_seen schemas.now) asked.now e.follows.items) }
     ensures order { IfOk result (λ e. AllPairs ComesFirst e.told.items) }
+    ensures notes { IfOk result (λ e. AreNotes (lists_seen schemas.now) asked.now e.notes.items) }
     ensures refused { IfErr result (λ e. e.kind ≡ OutOfMemory) }
 {
     let mut pairs = Pairs::of_list(alloc, asked)?;
     let told = walk(alloc, schemas, &mut pairs)?;
     let marked = reaching(alloc, schemas, &pairs, &told)?;
     let follows = unmarked(alloc, asked, &marked)?;
-    Ok(Explanation { told, follows })
+    let notes = note_all(alloc, schemas, &pairs)?;
+    Ok(Explanation {
+        told,
+        notes,
+        follows,
+    })
 }
 
 /// The differences of pairs of brands, and of those that they name, which are added to them.

@@ -76,7 +76,7 @@ pub(crate) fn all_moved<T: Moved + Drop>(
     ensures moved { IfOk result (λ out. map T.seen out.items ≡ map (T.moved moves) (map T.seen entries.now)) }
     ensures refused { IfErr result (IsMoveRefusal (All T.fits (map (T.moved moves) (map T.seen entries.now)))) }
 {
-    let mut out = Vec::new(alloc);
+    let mut out = Vec::with_capacity(alloc, entries.len())?;
     add_moved(&mut out, alloc, entries, moves)?;
     Ok(out)
 }

@@ -7,7 +7,7 @@ ghost use Rattle.capnp_joined_sets.specs.Joined.{ends_of, joined};
 ghost use Rattle.capnp_joined_sets.specs.Refusals.{BrandFits, EnumFits, IsMoveRefusal, NodeFits, NumbersFit};
 ghost use Rattle.capnp_joined_sets.specs.declared.moves.TheConstants.{NO_MOVES};
 
-use crate::moves::{Moved, Moves, NO_MOVES, add_moved, all_moved};
+use crate::moves::{Moved, Moves, NO_MOVES, add_moved};
 use capnp_schema::record::{BrandRecord, EnumRecord, NodeRecord};
 use capnp_schema::set::SchemaSet;
 use capnp_wire::error::Result;
@@ -20,7 +20,8 @@ fn both<T: Moved + Drop>(alloc: Global, older: &[T], newer: &[T], moves: Moves) 
     ensures refused { IfErr result (IsMoveRefusal (All T.fits
         (map (T.moved NO_MOVES) (map T.seen older.now) ++ map (T.moved moves) (map T.seen newer.now)))) }
 {
-    let mut out = all_moved(alloc, older, NO_MOVES)?;
+    let mut out = Vec::with_capacity(alloc, older.len().saturating_add(newer.len()))?;
+    add_moved(&mut out, alloc, older, NO_MOVES)?;
     add_moved(&mut out, alloc, newer, moves)?;
     Ok(out)
 }

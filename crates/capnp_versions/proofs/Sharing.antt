@@ -1,12 +1,15 @@
 -- The structs of one display name in two sets, and their comparison.
-use Rattle.std.proofs.Common.{[], ℕ, ◌+◌, ◌-◌, ◌≡◌, ◌≤◌, ◌↔◌, List, Bool, Some, AllPairs, Contains, arith, ap, length, string_bytes, sym, ◌∙◌, subst}
+use Rattle.std.proofs.Common.{[], ℕ, ◌+◌, ◌-◌, ◌≡◌, ◌≤◌, ◌↔◌, ◌++◌, List, Bool, Some, AllPairs, Contains, arith, ap, length, string_bytes, sym, ◌∙◌, subst}
 use Rattle.capnp_schema.specs.ByName.{brand_asked}
 use Rattle.capnp_schema.specs.Schema.{Schemas}
 use Rattle.capnp_differences.specs.Differences.{AreAnswered, ComesFirst, IsDifferenceOf}
+use Rattle.capnp_differences.specs.Notes.{AreNotes}
 use Rattle.capnp_differences.specs.declared.differences.Difference.{Difference}
 use Rattle.capnp_differences.specs.declared.differences.Pair.{Pair}
+use Rattle.capnp_differences.specs.declared.noted.Note.{Note}
 use Rattle.capnp_joined_sets.specs.Joined.{joined}
 use Rattle.capnp_dynamic_readers.specs.Pieces.{IsAppended}
+use Rattle.capnp_versions.specs.Changes.{changes_text}
 use Rattle.capnp_versions.specs.Lines.{differences_text}
 use Rattle.capnp_versions.specs.Shared.{count_true, first_at, moved_pair, name_at, notes_text, pair_of_first, shared_pair, shared_pairs}
 use Rattle.capnp_versions.specs.Versions.{IsFullComparison}
@@ -21,8 +24,8 @@ found_pair older newer b a n name e named f =
 pub compared_all : (older newer set : Schemas) (ps : List Pair) (told us : List Difference) (follows : List Bool) (n : ℕ) (c : FullComparison)
     → set ≡ joined older newer → ps ≡ shared_pairs older newer → ((d : Difference) → (Contains told d ↔ IsDifferenceOf set ps d)) → AllPairs ComesFirst told → AreAnswered set ps follows
     → us ≡ told → IsAppended [] (differences_text set us) (string_bytes c.text) → c.compatible ≡ count_true follows → c.compatible ≤ length follows → n ≡ length follows → c.incompatible ≡ n - c.compatible
-    → string_bytes c.notes ≡ notes_text older newer → IsFullComparison older newer c
-compared_all older newer set ps told us follows n c same shared exactly order answered is text compatible le count incompatible notes = record {
+    → (changes vs : List Note) → AreNotes set ps changes → vs ≡ changes → string_bytes c.notes ≡ changes_text set vs ++ notes_text older newer → IsFullComparison older newer c
+compared_all older newer set ps told us follows n c same shared exactly order answered is text compatible le count incompatible changes vs noted seen notes = record {
   told = told;
   exactly = subst (λ (qs : List Pair). (d : Difference) → (Contains told d ↔ IsDifferenceOf (joined older newer) qs d)) shared (subst (λ (s : Schemas). (d : Difference) → (Contains told d ↔ IsDifferenceOf s ps d)) same exactly);
   order = order;
@@ -31,5 +34,7 @@ compared_all older newer set ps told us follows n c same shared exactly order an
   answered = subst (λ (qs : List Pair). AreAnswered (joined older newer) qs follows) shared (subst (λ (s : Schemas). AreAnswered s ps follows) same answered);
   compatible = compatible;
   incompatible = let all = answered.count in let l = ap length shared in omega arith;
-  notes = notes;
+  changes = changes;
+  noted = subst (λ (qs : List Pair). AreNotes (joined older newer) qs changes) shared (subst (λ (s : Schemas). AreNotes s ps changes) same noted);
+  notes = notes ∙ (ap (λ (ns : List Note). changes_text set ns ++ notes_text older newer) seen ∙ ap (λ (s : Schemas). changes_text s changes ++ notes_text older newer) same);
 }

@@ -4,6 +4,7 @@ use Rattle.capnp_schema.specs.ByName.{brand_asked}
 use Rattle.capnp_schema.specs.Schema.{Schemas, node_of}
 use Rattle.capnp_differences.specs.declared.differences.Pair.{Pair}
 use Rattle.capnp_versions.specs.declared.every.FullComparison.{FullComparison}
+use Rattle.capnp_versions.specs.declared.versions.Comparison.{Comparison}
 
 -- the display name of a brand
 abbrev pub name_at : Schemas → ℕ → List ℕ
@@ -87,6 +88,10 @@ count_true (t ∷ ts) = one_if t + count_true ts
 abbrev pub notes_told : (breaking_only : Bool) → (notes : List ℕ) → List ℕ
 notes_told true notes = []
 notes_told false notes = notes
+
+-- what is told of two versions of a struct
+abbrev pub named_report_text : (breaking_only : Bool) → Comparison → List ℕ
+named_report_text breaking_only c = string_bytes c.text ++ notes_told breaking_only (string_bytes c.notes)
 
 abbrev pub counted : (before : List ℕ) → (count : ℕ) → (after : List ℕ) → List ℕ
 counted before count after = before ++ decimal count ++ after

@@ -1,5 +1,5 @@
 -- What differs between two versions of a struct.
-use Rattle.std.specs.Prelude.{ℕ, ◌+◌, ◌≡◌, ◌⊎◌, ◌↔◌, ◌≤◌, ◌^◌, List, [], Bool, AllPairs, Contains, IsTrue, Some, None, length, string_bytes}
+use Rattle.std.specs.Prelude.{ℕ, ◌+◌, ◌≡◌, ◌⊎◌, ◌↔◌, ◌≤◌, ◌^◌, ◌++◌, List, [], ◌∷◌, Bool, AllPairs, Contains, IsTrue, Some, None, length, string_bytes}
 use Rattle.capnp_device.specs.declared.error.ErrorKind.{ErrorKind}
 use Rattle.capnp_device.specs.declared.error.ErrorKind.TheVariants.{NameNotFound, TooManyTypes}
 use Rattle.capnp_dynamic_readers.specs.Pieces.{IsAppended}
@@ -8,19 +8,26 @@ use Rattle.capnp_schema.specs.ByName.{brand_asked}
 use Rattle.capnp_schema.specs.Schema.{Schemas}
 use Rattle.capnp_differences.specs.Differences.{AreAnswered, ComesFirst, IsDifference, IsDifferenceOf}
 use Rattle.capnp_differences.specs.declared.differences.Difference.{Difference}
+use Rattle.capnp_differences.specs.Notes.{AreNotes}
+use Rattle.capnp_differences.specs.declared.noted.Note.{Note}
 use Rattle.capnp_joined_sets.specs.Joined.{joined}
 use Rattle.capnp_joined_sets.specs.Refusals.{NumbersFit}
+use Rattle.capnp_versions.specs.Changes.{changes_text}
 use Rattle.capnp_versions.specs.Lines.{differences_text}
 use Rattle.capnp_versions.specs.Shared.{IsPast, count_true, notes_text, shared_pairs}
 use Rattle.capnp_versions.specs.declared.every.FullComparison.{FullComparison}
 use Rattle.capnp_versions.specs.declared.versions.Comparison.{Comparison}
 
--- all that differs between two structs of a set and nothing else, in order; its lines; and whether the newer struct follows the older one
+-- all that differs between two structs of a set and nothing else, in order; its lines; what else changes, and its lines; and
+-- whether the newer struct follows the older one
 pub record IsComparisonIn (set : Schemas) (older newer : ℕ) (c : Comparison) : Type 0 where
   pub told : List Difference
   pub exactly : (d : Difference) → (Contains told d ↔ IsDifference set older newer d)
   pub order : AllPairs ComesFirst told
   pub text : IsAppended [] (differences_text set told) (string_bytes c.text)
+  pub changes : List Note
+  pub noted : AreNotes set (record { older = older; newer = newer } ∷ []) changes
+  pub notes : string_bytes c.notes ≡ changes_text set changes
   pub follows : IsTrue c.follows ↔ IsCompatibleOrUpgraded set older newer
 
 -- the structs of a name in both sets are compared in the joined set, where the second has its number moved up
@@ -40,7 +47,7 @@ IsNotCompared older newer name kind =
 -- ---- all structs of two versions ----
 
 -- all that differs between the structs of one name in both sets and in what they lead to, and nothing else, in order; its
--- lines; how many of these structs follow, and how many do not; and the structs that one of the sets has
+-- lines; how many of these structs follow, and how many do not; and what else changes, and the structs that one of the sets has
 pub record IsFullComparison (older newer : Schemas) (c : FullComparison) : Type 0 where
   pub told : List Difference
   pub exactly : (d : Difference) → (Contains told d ↔ IsDifferenceOf (joined older newer) (shared_pairs older newer) d)
@@ -50,7 +57,9 @@ pub record IsFullComparison (older newer : Schemas) (c : FullComparison) : Type 
   pub answered : AreAnswered (joined older newer) (shared_pairs older newer) follows
   pub compatible : c.compatible ≡ count_true follows
   pub incompatible : c.compatible + c.incompatible ≡ length (shared_pairs older newer)
-  pub notes : string_bytes c.notes ≡ notes_text older newer
+  pub changes : List Note
+  pub noted : AreNotes (joined older newer) (shared_pairs older newer) changes
+  pub notes : string_bytes c.notes ≡ changes_text (joined older newer) changes ++ notes_text older newer
 
 -- a number of both sets together has more than 32 bits
 abbrev pub IsNotComparedAll : (older newer : Schemas) → ErrorKind → Type 0

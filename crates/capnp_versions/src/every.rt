@@ -5,8 +5,10 @@ ghost use Rattle.capnp_schema.specs.Entries.{lists_seen};
 ghost use Rattle.capnp_versions.specs.Shared.{count_line, count_true, counted, notes_told, report_text};
 ghost use Rattle.capnp_versions.specs.Versions.{IsFullComparison, IsNotComparedAll};
 
+use crate::changes::put_changes;
 use crate::lines::get_lines;
-use crate::notes::get_notes;
+use crate::names::index_names;
+use crate::notes::put_all_notes;
 use crate::shared::shared_pairs;
 use capnp_differences::explain_all;
 use capnp_joined_sets::join;
@@ -19,7 +21,8 @@ use std::alloc::Global;
 pub struct FullComparison {
     /// A line for each difference: the struct by its older display name, the field, and what differs.
     pub text: String,
-    /// A line for each struct whose display name one of the versions has alone.
+    /// A line for each change that keeps no program from messages of the other, and for each struct whose display name one
+    /// of the versions has alone.
     pub notes: String,
     /// Of how many structs the newer one follows the older one: a program that knows one reads messages of the other.
     pub compatible: usize,
@@ -50,11 +53,15 @@ pub fn compare_all(alloc: Global, older: &SchemaSet, newer: &SchemaSet) -> Resul
     ensures compared { IfOk result (IsFullComparison (lists_seen older.now) (lists_seen newer.now)) }
     ensures refused { IfErr result (λ e. e.kind ≢ OutOfMemory → IsNotComparedAll (lists_seen older.now) (lists_seen newer.now) e.kind) }
 {
-    let pairs = shared_pairs(alloc, older, newer)?;
+    let older_names = index_names(alloc, older)?;
+    let newer_names = index_names(alloc, newer)?;
+    let pairs = shared_pairs(alloc, older, newer, &older_names, &newer_names)?;
     let joined = join(alloc, older, newer)?;
     let explanation = explain_all(alloc, &joined, &pairs)?;
     let text = get_lines(alloc, &joined, &explanation.told)?;
-    let notes = get_notes(alloc, older, newer)?;
+    let mut notes = String::new(alloc);
+    put_changes(&mut notes, &joined, &explanation.notes)?;
+    put_all_notes(&mut notes, older, newer, &older_names, &newer_names)?;
     let compatible = count_true(&explanation.follows);
     Ok(FullComparison {
         text,
@@ -65,7 +72,7 @@ pub fn compare_all(alloc: Global, older: &SchemaSet, newer: &SchemaSet) -> Resul
 }
 
 /// The notes, where more than what breaks is told.
-fn notes_told(breaking_only: bool, notes: &str) -> &str
+pub(crate) fn notes_told(breaking_only: bool, notes: &str) -> &str
     ensures { result.now ≡ notes_told breaking_only notes.now }
 {
     if breaking_only { "" } else { notes }

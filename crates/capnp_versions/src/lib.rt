@@ -1,6 +1,7 @@
 //! What differs between two versions of a schema, which come as two sets.
 #![tactic(auto)]
 
+mod changes;
 mod every;
 mod lines;
 mod names;
@@ -9,4 +10,4 @@ mod shared;
 mod versions;
 
 pub use every::{FullComparison, compare_all, get_report};
-pub use versions::{Comparison, compare};
+pub use versions::{Comparison, compare, get_named_report};

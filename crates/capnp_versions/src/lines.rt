@@ -40,7 +40,7 @@ fn cause_words(cause: Cause) -> &'static str
 }
 
 /// Appends the name of a field behind a point, if it is there. Refused with `OutOfMemory` alone.
-fn put_field(text: &mut String, fields: &[FieldRecord], field: Option<u16>) -> Result<()>
+pub(crate) fn put_field(text: &mut String, fields: &[FieldRecord], field: Option<u16>) -> Result<()>
     ensures put { OnOk result (string_bytes text.new ≡ string_bytes text.old ++ field_word (map seen_field fields.now) field) }
     ensures memory { IfErr result (λ e. e.kind ≡ OutOfMemory) }
 {

@@ -5,6 +5,7 @@ ghost use Rattle.capnp_schema.specs.Entries.{lists_seen};
 ghost use Rattle.capnp_differences.specs.Differences.{IsBrandPair};
 ghost use Rattle.capnp_differences.specs.declared.differences.Pair.{Pair};
 ghost use Rattle.capnp_joined_sets.specs.Joined.{joined};
+ghost use Rattle.capnp_versions.specs.Steps.Index.{AreAllNames};
 ghost use Rattle.capnp_versions.specs.Shared.{IsPast, shared_pair, shared_pairs, some_pair};
 
 use crate::names::{first_at, name_at, number_named};
@@ -13,19 +14,28 @@ use capnp_differences::Pair;
 use capnp_schema::set::SchemaSet;
 use capnp_wire::error::Result;
 use std::alloc::Global;
+use std::collections::HashMap;
 
 /// The struct at an index of the older set and that of its name in the newer one, by their numbers in the joined set; none
 /// where one of the sets has none. Refused with `TooManyTypes` where such a number takes more than 32 bits.
-fn shared_pair(older: &SchemaSet, newer: &SchemaSet, index: usize) -> Result<Option<Pair>>
+fn shared_pair(
+    older: &SchemaSet,
+    newer: &SchemaSet,
+    older_names: &HashMap<&str, u32>,
+    newer_names: &HashMap<&str, u32>,
+    index: usize,
+) -> Result<Option<Pair>>
+    requires older { AreAllNames (lists_seen older.now) older_names.now }
+    requires newer { AreAllNames (lists_seen newer.now) newer_names.now }
     ensures found { IfOk result (λ o. o ≡ shared_pair (lists_seen older.now) (lists_seen newer.now) index) }
     ensures inside { IfOk result (λ o. IfSome o (IsBrandPair (joined (lists_seen older.now) (lists_seen newer.now)))) }
     ensures past { IfErr result (λ e. (e.kind ≡ TooManyTypes) × ((p : Pair)
         × (shared_pair (lists_seen older.now) (lists_seen newer.now) index ≡ Some p) × (2 ^ 32 ≤ p.newer))) }
 {
-    let Some(number) = first_at(older, index) else {
+    let Some(number) = first_at(older, older_names, index) else {
         return Ok(None);
     };
-    let Some(found) = number_named(newer, name_at(older, number)) else {
+    let Some(found) = number_named(newer, newer_names, name_at(older, number)) else {
         return Ok(None);
     };
     match moved_number(older, found) {
@@ -53,7 +63,15 @@ fn push_some(pairs: &mut Vec<Pair>, pair: Option<Pair>) -> Result<()>
 
 /// The structs whose display names stand in both sets, by their numbers in the joined set. Refused with `TooManyTypes`
 /// where such a number takes more than 32 bits, and with `OutOfMemory`.
-pub(crate) fn shared_pairs(alloc: Global, older: &SchemaSet, newer: &SchemaSet) -> Result<Vec<Pair>>
+pub(crate) fn shared_pairs(
+    alloc: Global,
+    older: &SchemaSet,
+    newer: &SchemaSet,
+    older_names: &HashMap<&str, u32>,
+    newer_names: &HashMap<&str, u32>,
+) -> Result<Vec<Pair>>
+    requires older { AreAllNames (lists_seen older.now) older_names.now }
+    requires newer { AreAllNames (lists_seen newer.now) newer_names.now }
     ensures pairs { IfOk result (λ pairs. pairs.items ≡ shared_pairs (lists_seen older.now) (lists_seen newer.now)) }
     ensures inside { IfOk result (λ pairs. All (IsBrandPair (joined (lists_seen older.now) (lists_seen newer.now))) pairs.items) }
     ensures refused { IfErr result (λ e. e.kind ≢ OutOfMemory → (e.kind ≡ TooManyTypes)
@@ -61,7 +79,8 @@ pub(crate) fn shared_pairs(alloc: Global, older: &SchemaSet, newer: &SchemaSet) 
 {
     let mut pairs = Vec::new(alloc);
     for i in 0..older.brands().len() {
-        push_some(&mut pairs, shared_pair(older, newer, i)?)?;
+        let pair = shared_pair(older, newer, older_names, newer_names, i)?;
+        push_some(&mut pairs, pair)?;
     }
     Ok(pairs)
 }

@@ -1,13 +1,16 @@
 //! Two versions of a struct.
-ghost use Rattle.std.specs.Prelude.{◌≡◌, ◌≢◌, ◌+◌, ◌<◌, ◌≤◌, ◌^◌, IfErr, IfOk, None, Some, length};
+ghost use Rattle.std.specs.Prelude.{◌≡◌, ◌≢◌, ◌+◌, ◌<◌, ◌≤◌, ◌^◌, IfErr, IfOk, None, Some, length, string_bytes};
 ghost use Rattle.capnp_device.specs.declared.error.ErrorKind.TheVariants.{NameNotFound, OutOfMemory, TooManyTypes};
 ghost use Rattle.capnp_schema.specs.ByName.{brand_asked};
 ghost use Rattle.capnp_schema.specs.Entries.{lists_seen};
+ghost use Rattle.capnp_versions.specs.Shared.{named_report_text};
 ghost use Rattle.capnp_versions.specs.Versions.{IsComparison, IsComparisonIn, IsNotCompared};
 
+use crate::changes::put_changes;
+use crate::every::notes_told;
 use crate::lines::get_lines;
 use capnp_base::introspect::RawBrandedStructSchema;
-use capnp_differences::explain;
+use capnp_differences::{Pair, explain_all};
 use capnp_joined_sets::join;
 use capnp_schema::set::SchemaSet;
 use capnp_wire::error::{Error, ErrorKind, Result};
@@ -18,6 +21,8 @@ use std::alloc::Global;
 pub struct Comparison {
     /// A line for each difference: the struct by its older display name, the field, and what differs.
     pub text: String,
+    /// A line for each change that keeps no program from messages of the other.
+    pub notes: String,
     /// Whether the newer struct follows the older one: a program that knows one reads messages of the other.
     pub follows: bool,
 }
@@ -52,15 +57,15 @@ fn compare_in(alloc: Global, schemas: &SchemaSet, older: u32, newer: u32) -> Res
     ensures compared { IfOk result (IsComparisonIn (lists_seen schemas.now) older newer) }
     ensures memory { IfErr result (λ e. e.kind ≡ OutOfMemory) }
 {
-    let told = explain(
-        alloc,
-        schemas.struct_schema(older),
-        schemas.struct_schema(newer),
-    )?;
-    let text = get_lines(alloc, schemas, &told)?;
+    let asked = [Pair { older, newer }];
+    let explanation = explain_all(alloc, schemas, &asked)?;
+    let text = get_lines(alloc, schemas, &explanation.told)?;
+    let mut notes = String::new(alloc);
+    put_changes(&mut notes, schemas, &explanation.notes)?;
     Ok(Comparison {
         text,
-        follows: told.is_empty(),
+        notes,
+        follows: explanation.told.is_empty(),
     })
 }
 
@@ -82,4 +87,20 @@ pub fn compare(
     let second = moved_number(older, find_number(newer, name)?)?;
     let joined = join(alloc, older, newer)?;
     compare_in(alloc, &joined, first, second)
+}
+
+/// What is told of two versions of a struct: the differences, and the notes, unless only what breaks is told. Refused with
+/// `OutOfMemory` alone.
+pub fn get_named_report(
+    alloc: Global,
+    comparison: &Comparison,
+    breaking_only: bool,
+) -> Result<String>
+    ensures report { IfOk result (λ text. string_bytes text ≡ named_report_text breaking_only comparison.now) }
+    ensures memory { IfErr result (λ e. e.kind ≡ OutOfMemory) }
+{
+    let mut text = String::new(alloc);
+    text.push_str(comparison.text.as_str())?;
+    text.push_str(notes_told(breaking_only, comparison.notes.as_str()))?;
+    Ok(text)
 }

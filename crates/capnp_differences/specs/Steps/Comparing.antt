@@ -106,3 +106,4 @@ pub record Compares (set : Schemas) (asked ps : List Pair) (ts : List Difference
   pub known : (a b : ℕ) → IsTrue (listed_pairs ps a b) → AreKnown set a b (length (fields_of set a))
   pub told : (d : Difference) → (Contains ts d ↔ (IsTrue (listed_pairs ps d.pair.older d.pair.newer) × Holds set d))
   pub ordered : AllPairs ComesFirst ts
+  pub apart : Apart ps

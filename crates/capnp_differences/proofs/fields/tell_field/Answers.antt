@@ -1,3 +1,5 @@
+-- Past the newer struct's fields the field is gone, and nothing is known of its defaults.
+-- Else both fields read there are compared, as the structs' own.
 use Rattle.std.proofs.Common.{arith, subst}
 use Rattle.capnp_schema.specs.Entries.{lists_seen}
 use Rattle.capnp_schema.specs.FieldLists.{typed_of}

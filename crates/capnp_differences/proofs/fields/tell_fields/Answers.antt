@@ -1,3 +1,5 @@
+-- The walk keeps that the fields before have told what differs in them, in their turns, and that their defaults are known.
+-- At the end these are all fields.
 use Rattle.std.proofs.Common.{ℕ, ◌≡◌, ◌+◌, ◌*◌, length, arith, below_more, subst}
 use Rattle.capnp_schema.specs.Entries.{lists_seen}
 use Rattle.capnp_schema.specs.Schema.{fields_of}

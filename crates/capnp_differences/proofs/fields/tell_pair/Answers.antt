@@ -1,3 +1,4 @@
+-- What differs in a pair is what differs in its union and then in its fields; the union's turns come before those of the fields.
 use Rattle.capnp_schema.specs.Entries.{lists_seen}
 use Rattle.capnp_schema.specs.Schema.{seen_node}
 use Rattle.capnp_differences.proofs.Tellings.{pair_told}

@@ -1,3 +1,5 @@
+-- Two fields differ by kind, default, member or type, and each cause is told in this turn; the
+-- fields read and their types are those of the entries.
 use Rattle.std.proofs.Common.{Some}
 use Rattle.capnp_schema.specs.Entries.{lists_seen}
 use Rattle.capnp_schema.specs.FieldLists.{typed_of}

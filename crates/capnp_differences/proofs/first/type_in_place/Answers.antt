@@ -1,3 +1,5 @@
+-- A newer type stays if it is no struct, or one that may not stand for the element.
+-- Of a struct that may, the type of its field 0 is taken.
 use Rattle.std.proofs.Common.{ap, sym, ◌∙◌}
 use Rattle.capnp_schema.specs.Entries.{lists_seen}
 use Rattle.capnp_schema.specs.Schema.{TypedField}

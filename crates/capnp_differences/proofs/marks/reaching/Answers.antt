@@ -1,7 +1,13 @@
+-- Marked pairs reach a difference.
+-- A sweep that marks no more closes the marks over the names; each other sweep adds a pair of brands, of which there are few.
 use Rattle.std.proofs.Common.{arith, sym, ◌∙◌}
 use Rattle.capnp_schema.specs.Entries.{lists_seen}
-use Rattle.capnp_differences.proofs.Marking.{mark_begins, mark_bound, mark_ends, mark_more}
+use Rattle.capnp_differences.proofs.Marking.{mark_begins, mark_bound, mark_ends, mark_more, none_reach}
 use Rattle.capnp_differences.proofs.marks.reaching.Goals as goal
+
+pub returns-then-is_none_told-clause-reaching : goal.returns-then-is_none_told-clause-reaching
+returns-then-is_none_told-clause-reaching c =
+    none_reach (lists_seen c.args.schemas.now) c.args.pairs.now c.args.told.now c.in_ok-marked.marked c.in_ok-marked.ensures.list (c.is_none_told.ensures.0 c.if-is_none_told.true)
 
 pub loop-marked-init : goal.loop-marked-init
 loop-marked-init c = mark_begins (lists_seen c.args.schemas.now) c.args.pairs.now c.args.told.now c.in_ok-marked.marked c.in_ok-marked.ensures.list c.requires.found

@@ -1,3 +1,5 @@
+-- Going backwards, a pair was marked, or none was and those from the index on that name a marked pair are marked already.
+-- At index 0 these are all.
 use Rattle.std.proofs.Common.{arith}
 use Rattle.capnp_schema.specs.Entries.{lists_seen}
 use Rattle.capnp_differences.proofs.Marking.{sweep_ends, sweep_more}

@@ -1,3 +1,5 @@
+-- The walk adds what the fields before the index name, and nothing else.
+-- Past the fields that both structs have, none names a pair.
 use Rattle.std.proofs.Common.{arith}
 use Rattle.capnp_schema.specs.Entries.{lists_seen}
 use Rattle.capnp_differences.proofs.Adding.{named_all, named_more, named_none}

@@ -1,3 +1,5 @@
+-- Whether there is a cause decides: with it one difference is pushed, in its turn; without
+-- it nothing is told, and the order stays.
 use Rattle.capnp_differences.proofs.Tellings.{told_none, told_some}
 use Rattle.capnp_differences.proofs.Turns.{turn_none, turn_some}
 use Rattle.capnp_differences.proofs.tell.tell.Goals as goal

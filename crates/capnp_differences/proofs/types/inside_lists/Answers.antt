@@ -1,3 +1,5 @@
+-- Two lists change, and name a pair, just as what is inside them does; so peeling both keeps change and pair.
+-- Where not both are lists, the layers answer.
 use Rattle.std.proofs.Common.{rules}
 use Rattle.capnp_base.specs.declared.introspect.TypeVariant.TheVariants as variant
 use Rattle.capnp_schema.specs.Entries.{lists_seen}

@@ -1,3 +1,4 @@
+-- Layers of two kinds differ by the other kind. Of one kind, which is no list, only enums can differ, by fewer enumerants.
 use Rattle.std.proofs.Common.{ap, ◌∙◌, Some, sym}
 use Rattle.capnp_schema.specs.Entries.{lists_seen}
 use Rattle.capnp_differences.specs.declared.differences.Cause.{Cause}

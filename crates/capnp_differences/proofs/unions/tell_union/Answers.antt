@@ -1,3 +1,4 @@
+-- The unions differ by their members or by the discriminant's place; both causes are told, and in the turn of the union.
 use Rattle.capnp_schema.specs.Schema.{seen_node}
 use Rattle.capnp_differences.proofs.Tellings.{union_told}
 use Rattle.capnp_differences.proofs.Turns.{union_turns}

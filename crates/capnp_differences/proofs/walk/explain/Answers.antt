@@ -1,3 +1,5 @@
+-- The walk from the given pair compares all that this pair leads to; so what is told are its
+-- differences, and none are told just where it is compatible.
 use Rattle.capnp_schema.specs.Entries.{lists_seen}
 use Rattle.capnp_schema.specs.StructHandles.{number_of, set_of}
 use Rattle.capnp_differences.proofs.Explaining.{explained}

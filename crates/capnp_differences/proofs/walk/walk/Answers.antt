@@ -1,3 +1,5 @@
+-- The pairs before the index are told and what they name is listed.
+-- Each pair of brands is listed once, of which there are few, so the walk ends.
 use Rattle.std.proofs.Common.{arith}
 use Rattle.capnp_schema.specs.Entries.{lists_seen}
 use Rattle.capnp_differences.proofs.Bound.{pairs_bound}

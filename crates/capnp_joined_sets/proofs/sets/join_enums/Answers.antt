@@ -1,3 +1,4 @@
+-- The older enums unmoved and the newer ones moved behind the ends of the older set are the enums of the joined set.
 use Rattle.std.proofs.Common.{◌≡◌, List, All, map, IfErr, IfOk, subst}
 use Rattle.capnp_schema.specs.Schema.{Enum, seen_enum}
 use Rattle.capnp_schema.specs.Entries.{lists_seen}

@@ -1,3 +1,5 @@
+-- The older nodes unmoved and the newer ones moved behind the older ends are the joined nodes.
+-- Sets that are accepted each are accepted when joined.
 use Rattle.std.proofs.Common.{◌≡◌, List, All, map, IfErr, IfOk, subst}
 use Rattle.capnp_schema.specs.Schema.{Node, seen_node}
 use Rattle.capnp_schema.specs.Entries.{lists_seen}

@@ -1,3 +1,5 @@
+-- A moved number past 32 bits is the newer struct's number behind all older brands; with the
+-- older number it is the pair that both sets share.
 use Rattle.std.proofs.Common.{◌+◌, length}
 use Rattle.capnp_schema.specs.Entries.{lists_seen}
 use Rattle.capnp_versions.proofs.Sharing.{found_pair}

@@ -1,3 +1,5 @@
+-- The walk keeps that the pairs gathered are those of the differences before the index, each
+-- once; at the end these are all that are told.
 use Rattle.std.proofs.Common.{arith, refl}
 use Rattle.capnp_differences.specs.Steps.Gathering.{IsToldAt}
 use Rattle.capnp_differences.proofs.Gathering.{gather_all, gather_more, one_told}

@@ -1,3 +1,5 @@
+-- A type is its base inside so many lists, and moving it moves the base alone: the moved
+-- base with as many lists around is the moved type.
 use Rattle.std.proofs.Common.{ap, sym, ◌∙◌}
 use Rattle.std.proofs.lemmas.Result.{err_from_is_err_and}
 use Rattle.capnp_base.specs.Types.{base_of, list_depth}
