@@ -1,3 +1,4 @@
+pub mod Encoded
 pub mod RowsIntegers
 pub mod RowsLeaves
 pub mod RowsRecords
@@ -5,3 +6,7 @@ pub mod Digits
 pub mod Scaling
 pub mod LeafReads
 pub mod ElementSteps
+pub mod Refusals
+pub mod Shorter
+pub mod Marks
+pub mod Named

@@ -1,8 +1,8 @@
 -- What a leaf of the code stands for, and why there is none.
-use Rattle.std.specs.Prelude.{ℕ, ℤ, pos, List, Bool, true, false, ◌≡◌, cond, codes, Option, Some, None, Result, Ok, Err}
+use Rattle.std.specs.Prelude.{ℕ, ℤ, pos, List, Bool, true, false, ◌≡◌, ◌==◌, cond, codes, Option, Some, None, Result, Ok, Err}
 use Rattle.capnp_base.specs.declared.introspect.TypeVariant.{TypeVariant}
 use Rattle.capnp_base.specs.declared.introspect.TypeVariant.TheVariants as variant
-use Rattle.capnp_schema.specs.Types.{SchemaType, IntType, UIntType}
+use Rattle.capnp_schema.specs.Types.{SchemaType, VoidType, BoolType, IntType, UIntType, EnumType, TextType, DataType, StructType, ListType, AnyPointerType}
 use Rattle.capnp_records.specs.Record as value
 use Rattle.capnp_records.specs.Record.{Endless, Value}
 use Rattle.capnp_floats.specs.declared.width.Width.{Width}
@@ -161,3 +161,25 @@ may_be_float v = false
 abbrev pub IsLeafOf : Read Value → Result Leaf Error → Type 0
 IsLeafOf r (Ok l) = r ≡ Ok (leaf_value l)
 IsLeafOf r (Err e) = IsErrorOf r e
+
+-- whether a leaf is of a type, by the width of its number
+abbrev pub is_typed : SchemaType → Leaf → Bool
+is_typed VoidType leaf.Void = true
+is_typed BoolType (leaf.Bool b) = true
+is_typed (IntType bytes) (leaf.Int8 x) = bytes == 1
+is_typed (IntType bytes) (leaf.Int16 x) = bytes == 2
+is_typed (IntType bytes) (leaf.Int32 x) = bytes == 4
+is_typed (IntType bytes) (leaf.Int64 x) = bytes == 8
+is_typed (UIntType bytes) (leaf.UInt8 n) = bytes == 1
+is_typed (UIntType bytes) (leaf.UInt16 n) = bytes == 2
+is_typed (UIntType bytes) (leaf.UInt32 n) = bytes == 4
+is_typed (UIntType bytes) (leaf.UInt64 n) = bytes == 8
+is_typed (EnumType number) (leaf.Enum n) = true
+is_typed TextType (leaf.Text bytes) = true
+is_typed TextType leaf.Null = true
+is_typed DataType (leaf.«Data» bytes) = true
+is_typed DataType leaf.Null = true
+is_typed AnyPointerType leaf.Null = true
+is_typed (StructType number generic) leaf.Null = true
+is_typed (ListType element) leaf.Null = true
+is_typed t l = false

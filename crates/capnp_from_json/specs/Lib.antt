@@ -6,4 +6,6 @@ pub mod Records
 pub mod Looks
 pub mod LeafReads
 pub mod ElementReads
+pub mod Held
+pub mod Given
 pub mod Steps

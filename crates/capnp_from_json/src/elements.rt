@@ -1,12 +1,13 @@
 //! What arrays hold, one after another.
-ghost use Rattle.std.specs.Prelude.{ℕ, List, Ok, pos, ◌≡◌, ◌<◌, Err, IfErr, IfOk, IsErr, Option};
+ghost use Rattle.std.specs.Prelude.{ℕ, List, true, Ok, pos, ◌≡◌, ◌<◌, Err, IfErr, IfOk, IsErr, Option};
 ghost use Rattle.std.specs.Option.{option_map};
 ghost use Rattle.capnp_device.specs.declared.error.ErrorKind.TheVariants.{OutOfMemory};
 ghost use Rattle.capnp_records.specs.Record as value;
+ghost use Rattle.capnp_schema.specs.Types.{DataType};
 ghost use Rattle.capnp_json_text.specs.Values.{Json, elements_of, following_item, json_at};
 ghost use Rattle.capnp_from_json.specs.ElementReads.{array_bytes, element_bytes};
 ghost use Rattle.capnp_from_json.specs.Errors.{IsErrorOf};
-ghost use Rattle.capnp_from_json.specs.LeafReads.{leaf_value};
+ghost use Rattle.capnp_from_json.specs.LeafReads.{is_typed, leaf_value};
 ghost use Rattle.capnp_from_json.specs.Records.{Rules, byte_target, element_count, value_of_json};
 
 use crate::error::{Error, Refusal};
@@ -154,6 +155,7 @@ pub fn read_data(
     ensures read { (rules : Rules) (levels : ℕ) →
         IfOk result (λ l. array_bytes rules whole (option_map (λ x. x.now) first.entry) place levels
         ≡ Ok (leaf_value l)) }
+    ensures typed { IfOk result (λ l. is_typed DataType l ≡ true) }
     ensures refused { (rules : Rules) (levels : ℕ) →
         IfErr result (λ e. IsErrorOf (array_bytes rules whole (option_map (λ x. x.now) first.entry) place levels) e) }
 {

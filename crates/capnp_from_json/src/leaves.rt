@@ -1,15 +1,15 @@
 //! Values that hold no others, read under their types.
-ghost use Rattle.std.specs.Prelude.{ℕ, Bool, true, false, pos, ◌≡◌, ◌<◌, ◌*◌, ◌^◌, length, Some};
+ghost use Rattle.std.specs.Prelude.{ℕ, Bool, true, false, pos, ◌≡◌, ◌<◌, ◌*◌, ◌^◌, length, IfOk, IfSome, Some};
 ghost use Rattle.std.specs.Option.{option_map};
 ghost use Rattle.capnp_records.specs.Record as value;
 ghost use Rattle.capnp_floats.specs.Words.{IsFloatOf};
-ghost use Rattle.capnp_schema.specs.Types.{AnyPointerType, BoolType, EnumType, TextType, UIntType, VoidType};
+ghost use Rattle.capnp_schema.specs.Types.{AnyPointerType, BoolType, EnumType, IntType, TextType, UIntType, VoidType};
 ghost use Rattle.capnp_schema.specs.Enums.{enum_in, enum_number, enum_set};
 ghost use Rattle.capnp_json_fields.specs.Names.{enumerant_of_name};
 ghost use Rattle.capnp_json_fields.specs.declared.fields.DataForm.{DataForm};
 ghost use Rattle.capnp_from_json.specs.Integers.{is_in_signed, is_in_unsigned, only_if, signed_of, unsigned_of};
 ghost use Rattle.capnp_from_json.specs.Leaves.{AreFloats, Part, enum_named, enum_value, float_word, in_range, is_number, text_read};
-ghost use Rattle.capnp_from_json.specs.LeafReads.{float_bytes, float_word_of, integer_of_type, integer_token, integer_type, leaf_option, leaf_read, leaf_value, out_of_range, past_format, under, wrong_kind};
+ghost use Rattle.capnp_from_json.specs.LeafReads.{float_bytes, float_word_of, integer_of_type, integer_token, integer_type, is_typed, leaf_option, leaf_read, leaf_value, out_of_range, past_format, under, wrong_kind};
 ghost use Rattle.capnp_from_json.specs.Looks.{look_seen};
 ghost use Rattle.capnp_from_json.specs.Records.{Rules, value_of_json};
 
@@ -87,7 +87,8 @@ pub(crate) fn past_format(place: usize) -> Refusal
 }
 
 fn int8_leaf(token: &[u8]) -> Option<Leaf>
-    ensures { leaf_option result ≡ option_map value.Number (only_if (is_in_signed 8) (signed_of 64 token.now)) }
+    ensures read { leaf_option result ≡ option_map value.Number (only_if (is_in_signed 8) (signed_of 64 token.now)) }
+    ensures typed { IfSome result (λ l. is_typed (IntType 1) l ≡ true) }
 {
     let Some(x) = read_signed(token) else {
         return None;
@@ -99,7 +100,8 @@ fn int8_leaf(token: &[u8]) -> Option<Leaf>
 }
 
 fn int16_leaf(token: &[u8]) -> Option<Leaf>
-    ensures { leaf_option result ≡ option_map value.Number (only_if (is_in_signed 16) (signed_of 64 token.now)) }
+    ensures read { leaf_option result ≡ option_map value.Number (only_if (is_in_signed 16) (signed_of 64 token.now)) }
+    ensures typed { IfSome result (λ l. is_typed (IntType 2) l ≡ true) }
 {
     let Some(x) = read_signed(token) else {
         return None;
@@ -111,7 +113,8 @@ fn int16_leaf(token: &[u8]) -> Option<Leaf>
 }
 
 fn int32_leaf(token: &[u8]) -> Option<Leaf>
-    ensures { leaf_option result ≡ option_map value.Number (only_if (is_in_signed 32) (signed_of 64 token.now)) }
+    ensures read { leaf_option result ≡ option_map value.Number (only_if (is_in_signed 32) (signed_of 64 token.now)) }
+    ensures typed { IfSome result (λ l. is_typed (IntType 4) l ≡ true) }
 {
     let Some(x) = read_signed(token) else {
         return None;
@@ -123,7 +126,8 @@ fn int32_leaf(token: &[u8]) -> Option<Leaf>
 }
 
 fn int64_leaf(token: &[u8]) -> Option<Leaf>
-    ensures { leaf_option result ≡ option_map value.Number (signed_of 64 token.now) }
+    ensures read { leaf_option result ≡ option_map value.Number (signed_of 64 token.now) }
+    ensures typed { IfSome result (λ l. is_typed (IntType 8) l ≡ true) }
 {
     let Some(x) = read_signed(token) else {
         return None;
@@ -145,7 +149,8 @@ pub(crate) fn uint8_of(token: &[u8]) -> Option<u8>
 }
 
 fn uint8_leaf(token: &[u8]) -> Option<Leaf>
-    ensures { leaf_option result ≡ option_map value.Number (only_if (is_in_unsigned 8) (unsigned_of 64 token.now)) }
+    ensures read { leaf_option result ≡ option_map value.Number (only_if (is_in_unsigned 8) (unsigned_of 64 token.now)) }
+    ensures typed { IfSome result (λ l. is_typed (UIntType 1) l ≡ true) }
 {
     let Some(n) = uint8_of(token) else {
         return None;
@@ -154,7 +159,8 @@ fn uint8_leaf(token: &[u8]) -> Option<Leaf>
 }
 
 fn uint16_leaf(token: &[u8]) -> Option<Leaf>
-    ensures { leaf_option result ≡ option_map value.Number (only_if (is_in_unsigned 16) (unsigned_of 64 token.now)) }
+    ensures read { leaf_option result ≡ option_map value.Number (only_if (is_in_unsigned 16) (unsigned_of 64 token.now)) }
+    ensures typed { IfSome result (λ l. is_typed (UIntType 2) l ≡ true) }
 {
     let Some(n) = read_unsigned(token) else {
         return None;
@@ -166,7 +172,8 @@ fn uint16_leaf(token: &[u8]) -> Option<Leaf>
 }
 
 fn uint32_leaf(token: &[u8]) -> Option<Leaf>
-    ensures { leaf_option result ≡ option_map value.Number (only_if (is_in_unsigned 32) (unsigned_of 64 token.now)) }
+    ensures read { leaf_option result ≡ option_map value.Number (only_if (is_in_unsigned 32) (unsigned_of 64 token.now)) }
+    ensures typed { IfSome result (λ l. is_typed (UIntType 4) l ≡ true) }
 {
     let Some(n) = read_unsigned(token) else {
         return None;
@@ -178,7 +185,8 @@ fn uint32_leaf(token: &[u8]) -> Option<Leaf>
 }
 
 fn uint64_leaf(token: &[u8]) -> Option<Leaf>
-    ensures { leaf_option result ≡ option_map value.Number (unsigned_of 64 token.now) }
+    ensures read { leaf_option result ≡ option_map value.Number (unsigned_of 64 token.now) }
+    ensures typed { IfSome result (λ l. is_typed (UIntType 8) l ≡ true) }
 {
     let Some(n) = read_unsigned(token) else {
         return None;
@@ -188,7 +196,8 @@ fn uint64_leaf(token: &[u8]) -> Option<Leaf>
 
 /// The integer of a type that a number's bytes stand for. None where the number is not whole, or past the type's range.
 fn integer_leaf(of: IntegerType, token: &[u8]) -> Option<Leaf>
-    ensures { leaf_option result ≡ option_map value.Number (integer_of_type of token.now) }
+    ensures read { leaf_option result ≡ option_map value.Number (integer_of_type of token.now) }
+    ensures typed { IfSome result (λ l. is_typed (integer_type of) l ≡ true) }
 {
     match of {
         IntegerType::Int8 => int8_leaf(token),
@@ -237,8 +246,9 @@ pub(crate) fn integer_token<'a>(look: &'a Look<'a>) -> Option<&'a [u8]>
 /// Refused with `WrongJsonKind` where it is of another kind, and with `NumberOutOfRange` where the number is not
 /// whole or past the type's range.
 pub fn read_integer(of: IntegerType, look: &Look<'_>, place: usize) -> Result<Leaf, Refusal>
-    ensures { (rules : Rules) (whole levels : ℕ) (part : Part) (form : DataForm) → leaf_read result
+    ensures read { (rules : Rules) (whole levels : ℕ) (part : Part) (form : DataForm) → leaf_read result
         ≡ value_of_json rules (look_seen whole place look.now) levels (under (integer_type of) part false form) }
+    ensures typed { IfOk result (λ l. is_typed (integer_type of) l ≡ true) }
 {
     let Some(token) = integer_token(look) else {
         return Err(wrong_kind(place));
@@ -253,8 +263,9 @@ pub fn read_integer(of: IntegerType, look: &Look<'_>, place: usize) -> Result<Le
 ///
 /// Refused with `WrongJsonKind` where it is anything else.
 pub fn read_void(look: &Look<'_>, place: usize) -> Result<Leaf, Refusal>
-    ensures { (rules : Rules) (whole levels : ℕ) (part : Part) (is_float : Bool) (form : DataForm) → leaf_read result
+    ensures read { (rules : Rules) (whole levels : ℕ) (part : Part) (is_float : Bool) (form : DataForm) → leaf_read result
         ≡ value_of_json rules (look_seen whole place look.now) levels (under VoidType part is_float form) }
+    ensures typed { IfOk result (λ l. is_typed VoidType l ≡ true) }
 {
     match look {
         Look::Null => Ok(Leaf::Void),
@@ -270,8 +281,9 @@ pub fn read_void(look: &Look<'_>, place: usize) -> Result<Leaf, Refusal>
 ///
 /// Refused with `WrongJsonKind` where it is anything else.
 pub fn read_truth(look: &Look<'_>, place: usize) -> Result<Leaf, Refusal>
-    ensures { (rules : Rules) (whole levels : ℕ) (part : Part) (is_float : Bool) (form : DataForm) → leaf_read result
+    ensures read { (rules : Rules) (whole levels : ℕ) (part : Part) (is_float : Bool) (form : DataForm) → leaf_read result
         ≡ value_of_json rules (look_seen whole place look.now) levels (under BoolType part is_float form) }
+    ensures typed { IfOk result (λ l. is_typed BoolType l ≡ true) }
 {
     match look {
         Look::Null => Err(wrong_kind(place)),
@@ -285,7 +297,8 @@ pub fn read_truth(look: &Look<'_>, place: usize) -> Result<Leaf, Refusal>
 
 /// A text of the format, from its bytes.
 fn text_leaf(content: Vec<u8>, place: usize) -> Result<Leaf, Refusal>
-    ensures { leaf_read result ≡ text_read place content.items }
+    ensures read { leaf_read result ≡ text_read place content.items }
+    ensures typed { IfOk result (λ l. is_typed TextType l ≡ true) }
 {
     if content.len() > 536870910 {
         return Err(past_format(place));
@@ -298,8 +311,9 @@ fn text_leaf(content: Vec<u8>, place: usize) -> Result<Leaf, Refusal>
 /// Refused with `WrongJsonKind` where it is anything else, and with `SizePastFormat` where it has more than 2^29 - 2
 /// bytes.
 pub fn read_text(look: Look<'_>, place: usize) -> Result<Leaf, Refusal>
-    ensures { (rules : Rules) (whole levels : ℕ) (part : Part) (is_float : Bool) (form : DataForm) → leaf_read result
+    ensures read { (rules : Rules) (whole levels : ℕ) (part : Part) (is_float : Bool) (form : DataForm) → leaf_read result
         ≡ value_of_json rules (look_seen whole place look.entry) levels (under TextType part is_float form) }
+    ensures typed { IfOk result (λ l. is_typed TextType l ≡ true) }
 {
     match look {
         Look::Null => Ok(Leaf::Null),
@@ -344,7 +358,8 @@ fn float_word_of<'a>(look: &'a Look<'a>) -> Option<&'a [u8]>
 /// A float by its bits, as the integer that stands for it.
 fn float_leaf(width: Width, bits: u64) -> Leaf
     requires { bits < 2 ^ (8 * float_bytes width) }
-    ensures { leaf_value result ≡ value.Number (pos bits) }
+    ensures value { leaf_value result ≡ value.Number (pos bits) }
+    ensures typed { is_typed (UIntType (float_bytes width)) result ≡ true }
 {
     match width {
         Width::Float32 => Leaf::UInt32(bits as u32),
@@ -359,10 +374,11 @@ fn float_leaf(width: Width, bits: u64) -> Leaf
 /// Refused with `WrongJsonKind` where it is anything else, and with `NumberOutOfRange` where the number is past the
 /// largest float.
 pub fn read_float(width: Width, look: &Look<'_>, place: usize) -> Result<Leaf, Refusal>
-    ensures { (rules : Rules) (whole levels : ℕ) (part : Part) (form : DataForm) → AreFloats rules.floats →
+    ensures read { (rules : Rules) (whole levels : ℕ) (part : Part) (form : DataForm) → AreFloats rules.floats →
         leaf_read result
         ≡ value_of_json rules (look_seen whole place look.now) levels
         (under (UIntType (float_bytes width)) part true form) }
+    ensures typed { IfOk result (λ l. is_typed (UIntType (float_bytes width)) l ≡ true) }
 {
     let Some(word) = float_word_of(look) else {
         return Err(wrong_kind(place));
@@ -378,8 +394,9 @@ pub fn read_float(width: Width, look: &Look<'_>, place: usize) -> Result<Leaf, R
 ///
 /// Refused with `WrongJsonKind` where it is anything else.
 pub fn read_untyped(look: &Look<'_>, place: usize) -> Result<Leaf, Refusal>
-    ensures { (rules : Rules) (whole levels : ℕ) (part : Part) (is_float : Bool) (form : DataForm) → leaf_read result
+    ensures read { (rules : Rules) (whole levels : ℕ) (part : Part) (is_float : Bool) (form : DataForm) → leaf_read result
         ≡ value_of_json rules (look_seen whole place look.now) levels (under AnyPointerType part is_float form) }
+    ensures typed { IfOk result (λ l. is_typed AnyPointerType l ≡ true) }
 {
     match look {
         Look::Null => Ok(Leaf::Null),
@@ -393,7 +410,8 @@ pub fn read_untyped(look: &Look<'_>, place: usize) -> Result<Leaf, Refusal>
 
 /// The number of an enum that a number's bytes stand for. None where it is not whole, or past 65,535.
 fn enum_leaf(token: &[u8], place: usize) -> Result<Leaf, Refusal>
-    ensures { leaf_read result ≡ in_range place enum_value (only_if (is_in_unsigned 16) (unsigned_of 64 token.now)) }
+    ensures read { leaf_read result ≡ in_range place enum_value (only_if (is_in_unsigned 16) (unsigned_of 64 token.now)) }
+    ensures typed { IfOk result (λ l. is_typed (EnumType 0) l ≡ true) }
 {
     let Some(n) = read_unsigned(token) else {
         return Err(out_of_range(place));
@@ -406,7 +424,8 @@ fn enum_leaf(token: &[u8], place: usize) -> Result<Leaf, Refusal>
 
 /// The enumerant of a name, by its number.
 fn named_leaf(schema: EnumSchema<'_>, name: &[u8], place: usize) -> Result<Leaf, Refusal>
-    ensures { leaf_read result ≡ enum_named place (enumerant_of_name (enum_in schema.entry) name.now) }
+    ensures read { leaf_read result ≡ enum_named place (enumerant_of_name (enum_in schema.entry) name.now) }
+    ensures typed { IfOk result (λ l. is_typed (EnumType 0) l ≡ true) }
 {
     match find_enumerant(schema, name) {
         Some(number) => Ok(Leaf::Enum(number)),
@@ -423,10 +442,11 @@ fn named_leaf(schema: EnumSchema<'_>, name: &[u8], place: usize) -> Result<Leaf,
 /// Refused with `WrongJsonKind` where it is anything else, with `NameUnknown` where no enumerant has the name, and with
 /// `NumberOutOfRange` where the number is another.
 pub fn read_enum(schema: EnumSchema<'_>, look: &Look<'_>, place: usize) -> Result<Leaf, Refusal>
-    ensures { (rules : Rules) → rules.set ≡ enum_set schema.entry →
+    ensures read { (rules : Rules) → rules.set ≡ enum_set schema.entry →
         (whole levels : ℕ) (part : Part) (is_float : Bool) (form : DataForm) →
         leaf_read result ≡ value_of_json rules (look_seen whole place look.now) levels
         (under (EnumType (enum_number schema.entry)) part is_float form) }
+    ensures typed { IfOk result (λ l. is_typed (EnumType (enum_number schema.entry)) l ≡ true) }
 {
     match look {
         Look::Null => Err(wrong_kind(place)),

@@ -4,7 +4,7 @@ ghost use Rattle.capnp_device.specs.declared.error.ErrorKind.TheVariants.{OutOfM
 ghost use Rattle.capnp_json_text.specs.Decimals.{before};
 ghost use Rattle.capnp_json_text.specs.Numbers.{after_number};
 ghost use Rattle.capnp_json_text.specs.Values.{json_at, left};
-ghost use Rattle.capnp_from_json.specs.Looks.{look_seen};
+ghost use Rattle.capnp_from_json.specs.Looks.{IsWithin, look_seen};
 
 use capnp_device::error::Result;
 use capnp_json_text::contents::read_string;
@@ -44,6 +44,7 @@ fn number_token(bytes: &[u8]) -> &[u8]
 pub fn look_at(alloc: Global, bytes: &[u8]) -> Result<Look<'_>>
     ensures read { (whole : ℕ) → IfOk result (λ l. look_seen whole (whole - length bytes.now) l
         ≡ json_at whole bytes.now) }
+    ensures within { IfOk result (λ l. IsWithin l bytes.now) }
     ensures memory { IfErr result (λ e. e.kind ≡ OutOfMemory) }
 {
     values_stand_in_steps();

@@ -4,6 +4,7 @@ use capnp_base::introspect::TypeVariant;
 use capnp_from_json::error::Error;
 use capnp_from_json::leaves::Leaf;
 use capnp_from_json::values::read_leaf;
+use capnp_json_fields::fields::DataForm;
 use capnp_schema::builtin;
 use capnp_schema::set::SchemaSet;
 use std::alloc::Global;
@@ -44,7 +45,15 @@ fn tell_leaf(
     }
     told(
         alloc,
-        read_leaf(alloc, schemas, kind, false, bytes.len(), bytes),
+        read_leaf(
+            alloc,
+            schemas,
+            kind,
+            false,
+            DataForm::Array,
+            bytes.len(),
+            bytes,
+        ),
     )
 }
 
@@ -52,6 +61,25 @@ fn leaves_are(rt: &impl Abort, alloc: Global, kind: TypeVariant, rows: &[Row]) -
     let schemas = builtin::new_set(alloc)?;
     for (text, expected) in rows {
         let answer = tell_leaf(alloc, &schemas, kind, text)?;
+        assert_eq!(rt; answer.as_str(), *expected, "of {text:?}");
+    }
+    Ok(())
+}
+
+fn data_is(rt: &impl Abort, alloc: Global, form: DataForm, rows: &[Row]) -> Result<(), Fail> {
+    let schemas = builtin::new_set(alloc)?;
+    for (text, expected) in rows {
+        let bytes = text.as_bytes();
+        let read = read_leaf(
+            alloc,
+            &schemas,
+            TypeVariant::Data,
+            false,
+            form,
+            bytes.len(),
+            bytes,
+        );
+        let answer = told(alloc, read)?;
         assert_eq!(rt; answer.as_str(), *expected, "of {text:?}");
     }
     Ok(())
@@ -102,6 +130,25 @@ static DATA: [Row; 6] = [
     ("\"AA==\"", "71 at 0"),
 ];
 
+static BASE64: [Row; 8] = [
+    ("\"AAEC/w==\"", "Data([0, 1, 2, 255])"),
+    ("\"+/8A\"", "Data([251, 255, 0])"),
+    ("\"\"", "Data([])"),
+    ("null", "Null"),
+    ("\"AAEC/w=\"", "71 at 0"),
+    ("\"AB==\"", "71 at 0"),
+    ("\"AA==AA==\"", "71 at 0"),
+    ("[1]", "71 at 0"),
+];
+
+static DIGITS: [Row; 5] = [
+    ("\"00fF\"", "Data([0, 255])"),
+    ("\"\"", "Data([])"),
+    ("\"00f\"", "71 at 0"),
+    ("\"0g\"", "71 at 0"),
+    ("[1]", "71 at 0"),
+];
+
 static UNTYPED: [Row; 2] = [("null", "Null"), ("{}", "71 at 0")];
 
 #[test]
@@ -113,5 +160,7 @@ fn leaves_are_read(rt: HostRuntime) -> Result<(), Fail> {
     leaves_are(&rt, alloc, TypeVariant::UInt64, &WORDS)?;
     leaves_are(&rt, alloc, TypeVariant::Text, &TEXTS)?;
     leaves_are(&rt, alloc, TypeVariant::Data, &DATA)?;
+    data_is(&rt, alloc, DataForm::Base64, &BASE64)?;
+    data_is(&rt, alloc, DataForm::Hexadecimal, &DIGITS)?;
     leaves_are(&rt, alloc, TypeVariant::AnyPointer, &UNTYPED)
 }

@@ -1,3 +1,5 @@
+-- The elements counted and those from the rest on make all elements.
+-- A following item is one more; without one the rest is the last.
 use Rattle.std.proofs.Common.{length, Some, suc, sym, ap, ◌∙◌, arith}
 use Rattle.std.specs.Option.{option_map}
 use Rattle.capnp_json_text.specs.Values.{elements_of, elements_within}

@@ -1,3 +1,5 @@
+-- A look at the bytes gives the value at its place.
+-- A number's token in the range of a byte is that byte; out of range is the refusal at this place.
 use Rattle.std.proofs.Common.{◌≡◌, ◌-◌, length, Err, sym, ap, ◌∙◌, arith}
 use Rattle.std.specs.Prelude.{pos}
 use Rattle.std.specs.Option.{option_map}

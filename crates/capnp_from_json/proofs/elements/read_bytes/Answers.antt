@@ -1,3 +1,5 @@
+-- The bytes out and what is read of the rest make the bytes of all elements.
+-- An element that is no byte refuses it, a following one goes on, the last ends it.
 use Rattle.std.proofs.Common.{◌≡◌, ◌-◌, [], ◌∷◌, ◌++◌, Ok, Some, suc, sym, ap, ◌∙◌, arith}
 use Rattle.std.proofs.lemmas.Grind.{common_steps}
 use Rattle.std.specs.Option.{option_map}

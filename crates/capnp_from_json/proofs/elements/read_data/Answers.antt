@@ -1,3 +1,5 @@
+-- Whether the bytes read are more than 2^29 - 1 decides between data and the refusal of its
+-- size; the refusal of an element is that of the array.
 use Rattle.std.proofs.Common.{◌<◌, ◌≤◌, length, Err, sym, ap, subst, ◌∙◌, arith}
 use Rattle.std.specs.Option.{option_map}
 use Rattle.capnp_json_text.specs.Values.{elements_of, json_at}

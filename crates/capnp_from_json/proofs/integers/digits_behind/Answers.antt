@@ -1,3 +1,5 @@
+-- The total with the digits left behind it is the natural asked.
+-- Once it is past 64 bits, digits behind it don't make it less; so the natural is too.
 use Rattle.std.proofs.Common.{◌+◌, ◌-◌, ◌*◌, ◌^◌, ◌≤◌, get_or, arith}
 use Rattle.capnp_json_text.specs.Decimals.{natural_from}
 use Rattle.capnp_from_json.proofs.Digits.{all_held, more_than_held}

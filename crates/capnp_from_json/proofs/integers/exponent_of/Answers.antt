@@ -1,3 +1,5 @@
+-- The number so far stands for a natural, exact or capped at 2^100; this, with the digits
+-- left behind it, is the natural of all digits.
 use Rattle.std.proofs.Common.{◌+◌, ◌-◌, ◌*◌, ◌^◌, get_or, arith, inl, refl, sym, ap, ◌∙◌, subst}
 use Rattle.std.proofs.lemmas.List.{drop_all}
 use Rattle.capnp_json_text.specs.Decimals.{natural_from}

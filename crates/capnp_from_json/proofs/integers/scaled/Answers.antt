@@ -1,3 +1,5 @@
+-- With as many tens as tenths or more, zeros go behind the natural.
+-- A natural past 64 bits stays so, and so does any but 0 with 20 zeros or more.
 use Rattle.std.proofs.Common.{◌-◌, ◌*◌, ◌^◌, arith, sym, ap, ◌∙◌}
 use Rattle.capnp_from_json.specs.Integers.{in_word}
 use Rattle.capnp_from_json.proofs.Digits.{held_is}

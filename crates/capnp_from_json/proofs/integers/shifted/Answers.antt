@@ -1,3 +1,5 @@
+-- The digits end at the last that isn't 0: behind the point, before it, or nowhere.
+-- In each case the natural of those digits is scaled by the powers between.
 use Rattle.std.proofs.Common.{ℕ, ◌+◌, ◌-◌, length, List, arith, ◌∙◌, subst, cond, zero-add}
 use Rattle.capnp_json_text.specs.Decimals.{natural_from}
 use Rattle.capnp_from_json.specs.Steps.Digits.{IsDifference}

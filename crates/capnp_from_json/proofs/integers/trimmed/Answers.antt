@@ -1,3 +1,5 @@
+-- The digits behind the count are all zeros, so the natural is that of the digits before with these zeros.
+-- A digit that isn't 0 ends it.
 use Rattle.std.proofs.Common.{arith}
 use Rattle.capnp_from_json.proofs.Digits.{trim_more, trimmed_there}
 use Rattle.capnp_from_json.proofs.integers.trimmed.Goals as goal

@@ -1,3 +1,4 @@
+-- The total is the number with the zeros so far; once that is past 64 bits, more zeros leave it past them.
 use Rattle.std.proofs.Common.{◌≡◌, ◌+◌, ◌*◌, ◌^◌, ◌<◌, arith}
 use Rattle.capnp_from_json.proofs.Scaling.{more_not_held, one_zero_more}
 use Rattle.capnp_from_json.proofs.integers.with_zeros.Goals as goal

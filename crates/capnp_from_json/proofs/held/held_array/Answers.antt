@@ -1,0 +1,12 @@
+use Rattle.std.proofs.Common.{◌<◌, length, arith, ap, sym, subst, ◌∙◌}
+use Rattle.capnp_json_text.specs.Values.{first_item}
+use Rattle.capnp_json_text.specs.declared.kinds.Bracket.TheVariants.{Square}
+use Rattle.capnp_from_json.specs.Looks.{IsWithin}
+use Rattle.capnp_from_json.specs.Held.{bytes_left}
+use Rattle.capnp_from_json.proofs.Shorter.{first_shorter}
+use Rattle.capnp_from_json.proofs.held.held_array.Goals as goal
+
+pub returns-in-Array-clause-shorter : goal.returns-in-Array-clause-shorter
+returns-in-Array-clause-shorter c =
+    let within : length c.in-Array.behind.now < length c.args.bytes.now = subst (λ l. IsWithin l c.args.bytes.now) c.in-Array.is c.in_ok-look_at.ensures.within in
+    subst (λ o. bytes_left o < length c.args.bytes.now) (sym (c.first_item.ensures ∙ ap (first_item Square) c.skip_blanks.ensures)) (omega (arith, first_shorter Square c.in-Array.behind.now, within))

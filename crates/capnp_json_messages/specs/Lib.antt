@@ -1,0 +1,5 @@
+pub mod Reads
+pub mod Ways
+pub mod Put
+pub mod Started
+pub mod Steps

@@ -1,0 +1,2 @@
+-- Steps of the code: no contract of a public function stands on them.
+pub mod Sources
