@@ -1,0 +1,7 @@
+//! What is asked for by a path of a message: the text, bytes or JSON of what stands there, or how many elements it has.
+#![tactic(auto)]
+
+pub mod json;
+pub mod length;
+pub mod reach;
+pub mod shown;
