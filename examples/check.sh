@@ -301,6 +301,18 @@ expect 'a refused call that is passed over' $? 1 '' '2: set c 1: refused: 20 Fie
 ./capnp_show Mixed < "$scratch/message" > "$scratch/out" 2> "$scratch/err"
 expect 'what it leaves' $? 0 '(a = 6, y = 9, b = "hi")' ''
 
+# a file is replaced where nothing is refused, and else stays; no new file is left
+cp -- examples/mixed.bin "$scratch/place"
+./riftcalico patch --in-place "$scratch/place" Mixed 'set a 6' < /dev/null > "$scratch/out" 2> "$scratch/err"
+expect 'a patch in place' $? 0 '' ''
+./capnp_show Mixed < "$scratch/place" > "$scratch/out" 2> "$scratch/err"
+expect 'what takes the place' $? 0 '(a = 6, y = 9, b = "hi")' ''
+cp -- examples/mixed.bin "$scratch/place"
+./riftcalico patch --in-place "$scratch/place" Mixed 'set a 6' 'set c 1' < /dev/null > "$scratch/out" 2> "$scratch/err"
+expect 'a refused patch in place' $? 1 '' '2: set c 1: refused: 20 FieldNotFound in Mixed'
+cmp -- "$scratch/place" examples/mixed.bin || fail 'a refused patch in place: the file has other bytes'
+[ ! -e "$scratch/place.riftcalico-new" ] || fail 'a patch in place: the new file is left'
+
 # words that can't be read, and other words
 ./riftcalico patch Mixed 'set a 65536' < examples/mixed.bin > "$scratch/out" 2> "$scratch/err"
 expect 'a number past its type' $? 2 '' "1: set a 65536: can't be read at 10; wanted: 0 to 65535"
@@ -314,7 +326,7 @@ usage: riftcalico show [--set FILE] [--packed] [--limit BYTES] [--each [--keep-g
        riftcalico get [--set FILE] [--packed] [--limit BYTES] [--each [--keep-going]] NAME PATH [--indent]
        riftcalico json [--set FILE] [--packed] [--limit BYTES] [--each [--keep-going]] NAME [--indent]
        riftcalico check [--set FILE] [--packed] [--limit PARTS] [--all] [--each [--keep-going]] NAME [PATH]
-       riftcalico patch [--set FILE] [--calls FILE] [--keep-going] [--packed] [--limit BYTES] [--each] NAME CALL..
+       riftcalico patch [--set FILE] [--calls FILE] [--keep-going] [--packed] [--limit BYTES] [--each] [--in-place FILE] NAME CALL..
        riftcalico new [--set FILE] [--calls FILE] [--keep-going] [--packed] [--limit BYTES] NAME CALL..
        riftcalico structs [--set FILE] [NAME]
        riftcalico schemas [--strict]

@@ -1,6 +1,7 @@
 //! What a program has of the system.
 
 use super::alloc::Global;
+use super::fs::OpenFile;
 use std::fs::File;
 use std::io::{self, Read, Write};
 use std::process;
@@ -11,10 +12,13 @@ pub struct HostRuntime;
 /// Files by their paths.
 pub trait Files {
     /// An open file.
-    type File: Read;
+    type File: Read + Write + OpenFile;
 
     /// Opens the file at a path for reading.
     fn open(&self, path: &str) -> io::Result<Self::File>;
+
+    /// Makes a file at a path where there is none, and opens it.
+    fn create_new(&self, path: &str) -> io::Result<Self::File>;
 }
 
 impl Files for HostRuntime {
@@ -22,6 +26,10 @@ impl Files for HostRuntime {
 
     fn open(&self, path: &str) -> io::Result<File> {
         File::open(path)
+    }
+
+    fn create_new(&self, path: &str) -> io::Result<File> {
+        File::create_new(path)
     }
 }
 

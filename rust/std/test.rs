@@ -71,6 +71,10 @@ impl Files for TestRuntime {
     fn open(&self, path: &str) -> io::Result<std::fs::File> {
         HostRuntime.open(path)
     }
+
+    fn create_new(&self, path: &str) -> io::Result<std::fs::File> {
+        HostRuntime.create_new(path)
+    }
 }
 
 /// Why a test could not be run to its end.

@@ -104,32 +104,39 @@ module _ (reader : StructHandle) (step : PathStep) (is_last : Bool) (schema : St
   abbrev IsNamed : Type 0
   IsNamed = Ok named ≡ in_record (set_of schema) value.Struct seen (number_of schema) step
 
-  -- what a step that names an active field leads to, by the test of its type
-  field_found : schema ≡ schema_of reader → IsNamed → IsFieldOf schema (index_of h) h →
-      (q : Bool) → q ≡ not (is_inactive seen (struct_field (schema_of reader) (index_of h)).field (index_of h)) → q ≡ true →
-      step_read (set_of (schema_of reader)) is_last (value_part_seen (StructOf reader)) step ≡ target_read (set_of (schema_of reader)) (tested_type is_last named (typed_of h).type)
-  field_found same names is q e active =
-      ap (λ (y : Found). target_read (set_of (schema_of reader)) (tested_found is_last y)) (ap (λ (s : StructSchema). in_record (set_of s) value.Struct seen (number_of s) step) (sym same) ∙ sym names)
-      ∙ is_tested (set_of (schema_of reader)) is_last named
-      (ap (λ (s : StructSchema). is_inactive seen (struct_field s (index_of h)).field (index_of h)) (is.schema ∙ same) ∙ false-not _ (sym active ∙ e))
+  -- a step names a field that is active, by a test
+  pub record NamesActive (q : Bool) : Type 0 where
+    -- the schema is the reader's, and the step names this field of it
+    pub same : schema ≡ schema_of reader
+    pub named_by : IsNamed
+    pub field : IsFieldOf schema (index_of h) h
+    -- the test of whether it is active says so
+    pub tested : q ≡ not (is_inactive seen (struct_field (schema_of reader) (index_of h)).field (index_of h))
+    pub active : q ≡ true
 
-  pub field_refused : schema ≡ schema_of reader → IsNamed → IsFieldOf schema (index_of h) h →
-      (q : Bool) → q ≡ not (is_inactive seen (struct_field (schema_of reader) (index_of h)).field (index_of h)) → q ≡ true →
+  -- what a step that names an active field leads to, by the test of its type
+  field_found : (q : Bool) → NamesActive q →
+      step_read (set_of (schema_of reader)) is_last (value_part_seen (StructOf reader)) step ≡ target_read (set_of (schema_of reader)) (tested_type is_last named (typed_of h).type)
+  field_found q names =
+      ap (λ (y : Found). target_read (set_of (schema_of reader)) (tested_found is_last y)) (ap (λ (s : StructSchema). in_record (set_of s) value.Struct seen (number_of s) step) (sym names.same) ∙ sym names.named_by)
+      ∙ is_tested (set_of (schema_of reader)) is_last named
+      (ap (λ (s : StructSchema). is_inactive seen (struct_field s (index_of h)).field (index_of h)) (names.field.schema ∙ names.same) ∙ false-not _ (sym names.active ∙ names.tested))
+
+  pub field_refused : (q : Bool) → NamesActive q →
       (t : SchemaType) → t ≡ (typed_of h).type → (kind : ErrorKind) → Err kind ≡ tested_type is_last named t →
       Err kind ≡ step_read (set_of (schema_of reader)) is_last (value_part_seen (StructOf reader)) step
-  field_refused same names is q e active t type kind test =
-      sym (field_found same names is q e active ∙ ap (target_read (set_of (schema_of reader))) (ap (tested_type is_last named) (sym type) ∙ sym test))
+  field_refused q names t type kind test =
+      sym (field_found q names ∙ ap (target_read (set_of (schema_of reader))) (ap (tested_type is_last named) (sym type) ∙ sym test))
 
-  pub field_read_there : schema ≡ schema_of reader → IsNamed → IsFieldOf schema (index_of h) h →
-      (q : Bool) → q ≡ not (is_inactive seen (struct_field (schema_of reader) (index_of h)).field (index_of h)) → q ≡ true →
+  pub field_read_there : (q : Bool) → NamesActive q →
       (t : SchemaType) → t ≡ (typed_of h).type → Ok named ≡ tested_type is_last named t →
       (res : Result DynamicValue Error) → IfOk res (IsOf (set_of (schema_of reader)) (struct_field (schema_of reader) (index_of h)).type) → answered_value res ≡ field_seen reader (index_of h) →
       seen_read res ≡ step_read (set_of (schema_of reader)) is_last (value_part_seen (StructOf reader)) step
-  field_read_there same names is q e active t type test res typed found =
+  field_read_there q names t type test res typed found =
       field_reached (set_of (schema_of reader)) (Left (struct_levels (reader_of reader))) (struct_of (reader_of reader)) (number_of (schema_of reader)) (index_of h) is_last
-      (subst (λ (s : StructSchema). index_of h < length (struct_fields s)) same is.inside) (false-not _ (sym active ∙ e)) res typed found
-      ∙ (ap (λ (s : StructSchema). target_read (set_of (schema_of reader)) (Ok (field_target value.Struct seen (struct_field s (index_of h)) (index_of h)))) (sym (is.schema ∙ same))
-      ∙ sym (field_found same names is q e active ∙ ap (target_read (set_of (schema_of reader))) (ap (tested_type is_last named) (sym type) ∙ sym test)))
+      (subst (λ (s : StructSchema). index_of h < length (struct_fields s)) names.same names.field.inside) (false-not _ (sym names.active ∙ names.tested)) res typed found
+      ∙ (ap (λ (s : StructSchema). target_read (set_of (schema_of reader)) (Ok (field_target value.Struct seen (struct_field s (index_of h)) (index_of h)))) (sym (names.field.schema ∙ names.same))
+      ∙ sym (field_found q names ∙ ap (target_read (set_of (schema_of reader))) (ap (tested_type is_last named) (sym type) ∙ sym test)))
 
 module _ (l : ListHandle) (i : ℕ) (is_last : Bool) where
   abbrev element_at : ℕ → Value

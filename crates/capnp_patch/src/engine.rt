@@ -1,7 +1,10 @@
 //! Calls on a copy of the root of a message that is received.
-ghost use Rattle.std.specs.Prelude.{◌≡◌, ◌≢◌, IfErr, IfOk};
+ghost use Rattle.std.specs.Prelude.{◌≡◌, ◌≢◌, ◌≤◌, IfErr, IfOk};
 ghost use Rattle.capnp_device.specs.declared.error.ErrorKind.TheVariants.{OutOfMemory};
 ghost use Rattle.capnp_arena.specs.Message.{IsMessage, message_tree};
+ghost use Rattle.capnp_arena.specs.Segment.{segment};
+ghost use Rattle.capnp_arena.specs.Shape.{word_count};
+ghost use Rattle.capnp_call.specs.Messages.{most_words};
 ghost use Rattle.capnp_schema.specs.StructHandles.{IsStruct};
 ghost use Rattle.capnp_patch.specs.Patches.{IsLeftOfBytes, IsUnread, words_within};
 
@@ -24,14 +27,17 @@ pub fn words_within(bytes: u64) -> usize
     }
 }
 
-/// Makes calls on a copy of the root of the first message in these bytes, read as a struct of the schema, which is one of
-/// an accepted set. What follows the message is not looked at. The message that is made never has more words than `limit`,
-/// which stands for 1 where it is 0, and for `MOST_WORDS` where it is more; a call that has no room is refused with
-/// `OutOfMemory` in its reply.
+/// Makes calls on a copy of the root of the first message in these bytes, read as a struct of the schema. What follows
+/// the message is not looked at. The message that is made never has more words than `limit`, which stands for 1 where
+/// it is 0, and for `MOST_WORDS` where it is more; a call that has no room is refused with `OutOfMemory` in its reply.
 ///
 /// Refused with `OutOfMemory`, also where the copy has no room within the limit, as the message is (`Truncated`,
 /// `TooManySegments`), with `BadPointer`, `TooDeep` or `CapabilityPointer` where a pointer in it can't be followed, by the
 /// first of these in preorder, and with `WrongPointerKind` where its root is a list.
+///
+/// # Conditions
+///
+/// The schema is one of an accepted set (`IsStruct`).
 pub fn run_bytes_within(
     alloc: Global,
     limit: usize,
@@ -43,6 +49,7 @@ pub fn run_bytes_within(
     ensures message { IfOk result (λ run. IsMessage run.message) }
     ensures left { IfOk result (λ run. IsLeftOfBytes schema.entry bytes.now calls.now run.replies.items
         (message_tree run.message)) }
+    ensures within { IfOk result (λ run. word_count (segment run.message) ≤ most_words limit) }
     ensures refused { IfErr result (λ e. e.kind ≢ OutOfMemory → IsUnread bytes.now e.kind) }
 {
     let reader = Reader::new(alloc, bytes)?;
@@ -50,6 +57,10 @@ pub fn run_bytes_within(
 }
 
 /// As `run_bytes_within`, with as many words as the format allows.
+///
+/// # Conditions
+///
+/// The schema is one of an accepted set (`IsStruct`).
 pub fn run_bytes(
     alloc: Global,
     bytes: &[u8],

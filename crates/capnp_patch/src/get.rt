@@ -41,11 +41,14 @@ fn put_text_at_path(
     print(part, out, indented)
 }
 
-/// The text of what stands at a path of the first message in these bytes, and a line break. The schema is one of an
-/// accepted set.
+/// The text of what stands at a path of the first message in these bytes, and a line break.
 ///
 /// Refused with `OutOfMemory`, as the message is (`Truncated`, `TooManySegments`), as its root is where it can't be read
 /// as a struct, as `crate::reach::read_path`, and with the number of the first value of the text that can't be read.
+///
+/// # Conditions
+///
+/// The schema is one of an accepted set (`IsStruct`).
 pub fn get_line(
     alloc: Global,
     schema: StructSchema<'_>,
@@ -100,6 +103,10 @@ fn put_text_within(
 ///
 /// Refused with `TooLarge` where the text is longer, and else as `get_line`. A text that is refused itself may be either:
 /// its refusal can stand behind the limit.
+///
+/// # Conditions
+///
+/// The schema is one of an accepted set (`IsStruct`).
 pub fn get_line_within(
     alloc: Global,
     schema: StructSchema<'_>,

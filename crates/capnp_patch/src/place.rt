@@ -57,10 +57,14 @@ fn refuse_root<'a>(kind: ErrorKind) -> Option<Refusal<'a>>
     })
 }
 
-/// Why what stands at a path of the first message in these bytes has no text, in both forms, and where; none where it has
-/// one. No text is made. The schema is one of an accepted set.
+/// Why what stands at a path of the first message in these bytes has no text, in both forms, and where; none where it
+/// has one. No text is made.
 ///
 /// What is refused is as `crate::get::get_line` has it. Refused itself with `OutOfMemory` alone.
+///
+/// # Conditions
+///
+/// The schema is one of an accepted set (`IsStruct`).
 pub fn find_place<'a>(
     alloc: Global,
     schema: StructSchema<'a>,
@@ -104,6 +108,10 @@ pub fn find_place<'a>(
 /// As `find_place`, where the text of what stands at the path shows at most `limit` parts, itself among them: it takes
 /// time in proportion to the limit and the steps of the place. Refused with `TooLarge` where there are more parts, wherever
 /// the first refusal stands, and else with `OutOfMemory` alone.
+///
+/// # Conditions
+///
+/// The schema is one of an accepted set (`IsStruct`).
 pub fn find_place_within<'a>(
     alloc: Global,
     schema: StructSchema<'a>,
@@ -153,12 +161,16 @@ pub fn find_place_within<'a>(
     }
 }
 
-/// All that is refused of what stands at a path of the first message in these bytes: the message, its root or a step of the
-/// path alone, where that is refused; else each part that the text of what stands there shows and that is refused itself.
-/// No text is made. The schema is one of an accepted set.
+/// All that is refused of what stands at a path of the first message in these bytes: the message, its root or a step of
+/// the path alone, where that is refused; else each part that the text of what stands there shows and that is refused
+/// itself. No text is made.
 ///
 /// Each part is visited once. Where there are more than `limit`, what stands at the path among them, the call is refused
 /// with `TooLarge`, after so many visits; else with `OutOfMemory` alone.
+///
+/// # Conditions
+///
+/// The schema is one of an accepted set (`IsStruct`).
 pub fn find_places<'a>(
     alloc: Global,
     schema: StructSchema<'a>,

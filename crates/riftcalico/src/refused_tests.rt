@@ -49,7 +49,7 @@ static USAGES: [(&str, &str); 9] = [
     ),
     (
         "patch",
-        "[--set FILE] [--calls FILE] [--keep-going] [--packed] [--limit BYTES] [--each] NAME CALL..",
+        "[--set FILE] [--calls FILE] [--keep-going] [--packed] [--limit BYTES] [--each] [--in-place FILE] NAME CALL..",
     ),
     (
         "new",
@@ -171,6 +171,9 @@ patch|--calls|calls -> usage
 patch|--calls|calls|Flat|get a -> usage
 patch|Flat|--indent -> usage
 patch|--set|set|--calls|calls|--keep-going -> usage
+patch|--in-place|set|--keep-going|Flat|get a -> usage
+patch|Flat|get a|--in-place -> usage
+new|--in-place|set|Flat -> usage
 new -> usage
 new|--keep-going -> usage
 new|--set|set|--keep-going -> usage
@@ -265,6 +268,9 @@ compatible|set|nowhere|Flat -> refused: 12 ReadFailed (nowhere)
 compatible|nowhere|calls|Flat -> refused: 12 ReadFailed (nowhere)
 structs|--set|nowhere -> refused: 12 ReadFailed (nowhere)
 structs|--set|set|Flat -> refused: 2 Truncated (set); a set is what riftcalico schemas writes
+# files that can't be replaced: none is there, or no file can be made beside it
+patch|--in-place|nowhere|Flat|get a -> refused: 12 ReadFailed (nowhere)
+patch|--in-place|set|Flat|get a -> refused: 13 WriteFailed (set)
 ";
 
 #[test]

@@ -748,7 +748,7 @@ pub(crate) const TOLD: &str = "\
 \"       riftcalico get [--set FILE] [--packed] [--limit BYTES] [--each [--keep-going]] NAME PATH [--indent]
 \"       riftcalico json [--set FILE] [--packed] [--limit BYTES] [--each [--keep-going]] NAME [--indent]
 \"       riftcalico check [--set FILE] [--packed] [--limit PARTS] [--all] [--each [--keep-going]] NAME [PATH]
-\"       riftcalico patch [--set FILE] [--calls FILE] [--keep-going] [--packed] [--limit BYTES] [--each] NAME CALL..
+\"       riftcalico patch [--set FILE] [--calls FILE] [--keep-going] [--packed] [--limit BYTES] [--each] [--in-place FILE] NAME CALL..
 \"       riftcalico new [--set FILE] [--calls FILE] [--keep-going] [--packed] [--limit BYTES] NAME CALL..
 \"       riftcalico structs [--set FILE] [NAME]
 \"       riftcalico schemas [--strict]

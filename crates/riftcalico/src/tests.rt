@@ -11,6 +11,7 @@ use capnp_show_engine::opener::Opener;
 use capnp_wire::device::DeviceFault;
 use capnp_wire::memory::{MemorySink, MemorySource};
 use riftcalico_engine::command::command_over;
+use riftcalico_engine::place::Replacer;
 use std::alloc::Global;
 use std::process::Abort;
 use std::test::Fail;
@@ -20,7 +21,7 @@ usage: riftcalico show [--set FILE] [--packed] [--limit BYTES] [--each [--keep-g
        riftcalico get [--set FILE] [--packed] [--limit BYTES] [--each [--keep-going]] NAME PATH [--indent]
        riftcalico json [--set FILE] [--packed] [--limit BYTES] [--each [--keep-going]] NAME [--indent]
        riftcalico check [--set FILE] [--packed] [--limit PARTS] [--all] [--each [--keep-going]] NAME [PATH]
-       riftcalico patch [--set FILE] [--calls FILE] [--keep-going] [--packed] [--limit BYTES] [--each] NAME CALL..
+       riftcalico patch [--set FILE] [--calls FILE] [--keep-going] [--packed] [--limit BYTES] [--each] [--in-place FILE] NAME CALL..
        riftcalico new [--set FILE] [--calls FILE] [--keep-going] [--packed] [--limit BYTES] NAME CALL..
        riftcalico structs [--set FILE] [NAME]
        riftcalico schemas [--strict]
@@ -73,6 +74,32 @@ impl<'a> Opener for TwoFiles<'a> {
         };
         Ok(MemorySource::new(bytes, chunk(self.slow), self.failing))
     }
+}
+
+/// No file can be made beside them.
+impl Replacer for TwoFiles<'_> {
+    type New = MemorySink;
+
+    ghost makes = { λ _ _ _ _ _. ⊤ };
+
+    ghost puts = { λ _ _ _ _ _ _. ⊤ };
+
+    ghost removes = { λ _ _ _ _. ⊤ };
+
+    fn make_new(&mut self, _path: &str, _like: &str) -> Result<MemorySink, DeviceFault> {
+        Err(DeviceFault)
+    }
+
+    fn put_in_place(
+        &mut self,
+        _new: MemorySink,
+        _path: &str,
+        _place: &str,
+    ) -> Result<(), DeviceFault> {
+        Err(DeviceFault)
+    }
+
+    fn remove_new(&mut self, _new: MemorySink, _path: &str) {}
 }
 
 /// A setting of which no call fails, with files that are empty.

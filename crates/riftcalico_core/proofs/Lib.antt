@@ -9,6 +9,7 @@ pub mod Noted
 pub mod Packed
 pub mod PathsTaken
 pub mod PlainGiven
+pub mod Ran
 pub mod Texts
 pub mod Told
 pub mod Unread

@@ -4,6 +4,10 @@ use Rattle.std.specs.Option.{option_map}
 use Rattle.capnp_device.specs.declared.error.ErrorKind.{ErrorKind}
 use Rattle.capnp_device.specs.declared.error.ErrorKind.TheVariants.{NameNotFound, OutOfMemory, TooLarge}
 use Rattle.capnp_arena.specs.Message.{IsMessage, message_tree}
+use Rattle.capnp_arena.specs.Segment.{segment}
+use Rattle.capnp_arena.specs.Shape.{word_count}
+use Rattle.capnp_arena.specs.declared.arena.Arena.{Arena}
+use Rattle.capnp_call.specs.Messages.{most_words}
 use Rattle.capnp_call.specs.Refusals.{any_refused}
 use Rattle.capnp_call.specs.Seen.{call_seen, path_seen}
 use Rattle.capnp_call.specs.declared.calls.Call.{Call}
@@ -14,7 +18,7 @@ use Rattle.capnp_packed.specs.Packing.{packed_form}
 use Rattle.capnp_packed.specs.Received.{received_message}
 use Rattle.capnp_packed.specs.Unpacking.{unpacked_bytes}
 use Rattle.capnp_patch.specs.Gets.{got_text}
-use Rattle.capnp_patch.specs.Patches.{IsLeftOfBytes, IsLeftOfNew, IsUnread, is_kept}
+use Rattle.capnp_patch.specs.Patches.{IsLeftOfBytes, IsLeftOfNew, IsUnread, is_kept, words_within}
 use Rattle.capnp_patch.specs.Places.{AreFewLookedAt, AreRefusedAt, HasFewParts, HasMoreParts, IsRefusedAt}
 use Rattle.capnp_patch.specs.declared.place.Place.{Place}
 use Rattle.capnp_patch.specs.declared.place.Refusals.{Refusals}
@@ -27,7 +31,7 @@ use Rattle.capnp_schema.specs.StructHandles.{IsStruct, number_of, set_of}
 use Rattle.capnp_schema.specs.declared.schema.structs.StructSchema.{StructSchema}
 use Rattle.capnp_set_engine.specs.Convert.{HasNoSet, IsSetOf}
 use Rattle.capnp_sets.specs.Message.{IsMessageRefusal, message_set}
-use Rattle.capnp_versions.specs.Shared.{report_text}
+use Rattle.capnp_versions.specs.Shared.{named_report_text, report_text}
 use Rattle.capnp_versions.specs.Versions.{IsComparison, IsFullComparison, IsNotCompared, IsNotComparedAll}
 use Rattle.capnp_versions.specs.declared.every.FullComparison.{FullComparison}
 use Rattle.capnp_versions.specs.declared.versions.Comparison.{Comparison}
@@ -40,6 +44,7 @@ use Rattle.capnp_wire.specs.Tree.{Tree}
 use Rattle.capnp_wire.specs.Words.{words_of}
 use Rattle.riftcalico_core.specs.AllFaults.{any_told, refusals_lines}
 use Rattle.riftcalico_core.specs.CallsSeen.{read_call_seen}
+use Rattle.riftcalico_core.specs.Depths.{IsDepthTold}
 use Rattle.riftcalico_core.specs.Jobs.{is_packed, wants_input}
 use Rattle.riftcalico_core.specs.Json.{IsJsonAnswer, IsNoJson}
 use Rattle.riftcalico_core.specs.Notes.{place_note}
@@ -185,19 +190,30 @@ abbrev pub IsRunOutput : (kept packed : Bool) → Tree → Output → Type 0
 IsRunOutput true packed t o = IsMessageOutput packed t o
 IsRunOutput false packed t o = o ≡ output.Nothing
 
--- what a run left is written, unless a call was refused and it isn't kept all the same; and the replies are told
+-- what a run left is written, unless a call was refused and it isn't kept all the same; the replies are told, and that the
+-- message is deep
 pub record IsRunAnswer (j : CallsJob) (calls : List record_call.Call) (replies : List Reply) (root : Tree) (a : Answer) : Type 0 where
   pub output : IsRunOutput (is_kept j.keep_going replies) j.packed root a.output
-  pub told : AreNoted (set_of j.schema) (number_of j.schema) 0 (map (λ w. w.now) j.words.now) calls replies [] (string_bytes a.lines)
+  pub lines : List ℕ
+  pub told : AreNoted (set_of j.schema) (number_of j.schema) 0 (map (λ w. w.now) j.words.now) calls replies [] lines
+  pub depth : IsDepthTold (is_kept j.keep_going replies) root lines (string_bytes a.lines)
   pub refused : a.refused ≡ any_refused replies
 
--- calls are those of the job, and leave some root
+-- a message in memory of so many words has this tree
+pub record FitsIn (words : ℕ) (root : Tree) : Type 0 where
+  pub message : Arena
+  pub is : IsMessage message
+  pub tree : message_tree message ≡ root
+  pub few : word_count (segment message) ≤ words
+
+-- calls are those of the job, and leave some root, which fits into the limit
 pub record IsCallsAnswer (j : CallsJob) (leaves : List Call → List Reply → Tree → Type 0) (a : Answer) : Type 0 where
   pub calls : List Call
   pub are : map call_seen calls ≡ map read_call_seen j.calls.items
   pub replies : List Reply
   pub root : Tree
   pub left : leaves calls replies root
+  pub within : FitsIn (most_words (words_within j.limit)) root
   pub answer : IsRunAnswer j (map call_seen calls) replies root a
 
 abbrev pub IsPatchAnswer : CallsJob → (bytes : List ℕ) → Answer → Type 0
@@ -225,7 +241,7 @@ pub record IsConvertAnswer (strict : Bool) (bytes : List ℕ) (a : Answer) : Typ
 
 -- ---- two versions ----
 
--- the lines of what differs are written, where more than the status is wanted
+-- what is told is written, where more than the status is wanted
 abbrev pub IsComparisonOutput : (quiet : Bool) → (text : List ℕ) → Output → Type 0
 IsComparisonOutput true text o = o ≡ output.Nothing
 IsComparisonOutput false text o = IsTextOutput o (λ written. written ≡ text)
@@ -234,7 +250,7 @@ IsComparisonOutput false text o = IsTextOutput o (λ written. written ≡ text)
 pub record IsNamedCompared (j : CompareJob) (newer : Schemas) (name : List ℕ) (a : Answer) : Type 0 where
   pub comparison : Comparison
   pub compared : IsComparison (lists_seen j.schemas.now) newer name comparison
-  pub text : IsComparisonOutput j.quiet (string_bytes comparison.text) a.output
+  pub text : IsComparisonOutput j.quiet (named_report_text j.breaking_only comparison) a.output
   pub told : string_bytes a.lines ≡ []
   pub refused : a.refused ≡ not comparison.follows
 

@@ -55,13 +55,18 @@ task_name (fields_task r) = r.name
 task_name (compatible_task t) = name_word t.name
 task_name t = []
 
+-- the file whose messages are replaced, if there is one
+abbrev pub place_file : Task → Option (List ℕ)
+place_file (patch_task t) = t.in_place
+place_file t = None
+
 -- what is to be looked at
 abbrev pub blamed_word : Task → Blamed → List ℕ
 blamed_word t blamed.Calls = file_word (calls_file t) []
 blamed_word t blamed.Set = file_word (task_set_file t) (codes "the built-in set")
 blamed_word t blamed.Name = task_name t
-blamed_word t blamed.Input = codes "standard input"
-blamed_word t blamed.Output = codes "standard output"
+blamed_word t blamed.Input = file_word (place_file t) (codes "standard input")
+blamed_word t blamed.Output = file_word (place_file t) (codes "standard output")
 
 -- what a file holds is refused, and not for memory or because it can't be read
 abbrev pub is_of_bytes : ErrorKind → Bool

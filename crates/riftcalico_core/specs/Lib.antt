@@ -2,6 +2,7 @@ pub mod AllFaults
 pub mod Answers
 pub mod Calls
 pub mod CallsSeen
+pub mod Depths
 pub mod Faults
 pub mod Jobs
 pub mod Json

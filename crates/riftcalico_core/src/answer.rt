@@ -21,6 +21,7 @@ ghost use Rattle.riftcalico_core.specs.declared.fault.Blamed.TheVariants.{Input}
 
 use crate::all_faults::{any_refusal, get_refusal_lines};
 use crate::calls::make_calls;
+use crate::depth::put_depth_note;
 use crate::fault::{Blamed, Fault, Faulty, blame, get_fault};
 use crate::job::{CallsJob, CheckJob, CompareJob, GetJob, Job};
 use crate::json::answer_json;
@@ -40,7 +41,7 @@ use capnp_set_engine::engine::convert_bytes;
 use capnp_sets::message::read_message as read_set;
 use capnp_structs::fields::get_fields;
 use capnp_structs::names::get_structs;
-use capnp_versions::{Comparison, compare, compare_all, get_report};
+use capnp_versions::{compare, compare_all, get_named_report, get_report};
 use capnp_wire::error::{Error, ErrorKind, Result};
 use riftcalico_words::usage::{get_help, get_version};
 use std::alloc::Global;
@@ -296,9 +297,10 @@ fn answer_run(
     ensures memory { IfErr result (λ e. e.kind ≡ OutOfMemory) }
 {
     let Run { message, replies } = run;
-    let lines = get_noted_lines(alloc, job.schema, job.words, calls, &replies)?;
+    let mut lines = get_noted_lines(alloc, job.schema, job.words, calls, &replies)?;
     let refused = any_refused(&replies);
     let output = if job.keep_going || !refused {
+        put_depth_note(&mut lines, &message)?;
         get_output(alloc, message, job.packed)?
     } else {
         Output::Nothing
@@ -402,11 +404,11 @@ fn compare_named(
         → IsNotCompared (lists_seen job.now.schemas.now) (lists_seen newer.now) name.now e.kind) }
 {
     let comparison = compare(alloc, job.schemas, newer, name)?;
-    let Comparison { text, follows } = comparison;
+    let text = get_named_report(alloc, &comparison, job.breaking_only)?;
     Ok(Answer {
         output: get_comparison_output(job.quiet, text),
         lines: String::new(alloc),
-        refused: !follows,
+        refused: !comparison.follows,
     })
 }
 
@@ -468,6 +470,10 @@ fn answer_compare(alloc: Global, job: &CompareJob<'_, '_>) -> Faulty<Answer>
 }
 
 /// What a job answers to a message that is not packed. Refused as `get_answer`, but for what is packed.
+///
+/// # Conditions
+///
+/// The struct of the job, where it has one, is one of an accepted set (`IsSoundJob`).
 pub fn answer_message(alloc: Global, job: &Job<'_, '_, '_>, message: &[u8]) -> Faulty<Answer>
     requires { IsSoundJob job.now }
     ensures answer { IfOk result (IsMessageAnswer job.now message.now) }
@@ -494,14 +500,17 @@ pub fn answer_message(alloc: Global, job: &Job<'_, '_, '_>, message: &[u8]) -> F
     }
 }
 
-/// What a job answers to the bytes of a message, which may be packed; for a job that wants none they don't count. The struct
-/// of the job is one of an accepted set.
+/// What a job answers to the bytes of a message, which may be packed; for a job that wants none they don't count.
 ///
 /// Refused with `OutOfMemory`; of `get` as `capnp_patch::get::get_line_within`, with the place where it is no limit, of `json`
 /// as `capnp_json::message::message_to_json`, but for what only JSON refuses, which is told; of
 /// `check` as `capnp_patch::place::find_place_within`, with the place, of `patch` as
 /// `capnp_patch::engine::run_bytes`, of `schemas` as `capnp_set_engine::engine::convert_bytes`; and where the message is
 /// packed as `capnp_packed::received::read_message`.
+///
+/// # Conditions
+///
+/// The struct of the job, where it has one, is one of an accepted set (`IsSoundJob`).
 pub fn get_answer(alloc: Global, job: &Job<'_, '_, '_>, input: &[u8]) -> Faulty<Answer>
     requires { IsSoundJob job.now }
     ensures answer { IfOk result (IsAnswer job.now input.now) }

@@ -156,6 +156,10 @@ fn read_call<'s, 'c>(
 
 /// Calls with their values and their steps under a schema, or the first whose value can't be read. Refused with
 /// `OutOfMemory` alone.
+///
+/// # Conditions
+///
+/// The schema is one of an accepted set (`IsStruct`).
 pub fn read_all_calls<'s, 'c>(
     alloc: Global,
     schema: StructSchema<'s>,

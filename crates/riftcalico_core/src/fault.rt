@@ -2,7 +2,7 @@
 ghost use Rattle.std.specs.Prelude.{◌≡◌, ◌++◌, IfErr, IfOk, Ok, OnOk, string_bytes};
 ghost use Rattle.std.specs.Option.{option_map};
 ghost use Rattle.capnp_device.specs.declared.error.ErrorKind.TheVariants.{OutOfMemory};
-ghost use Rattle.riftcalico_core.specs.Faults.{IsFaultOf, IsPlainFault, blamed_word, fault_line, file_word, hint_of, is_of_bytes, message_word, name_hint, name_word, set_hint, task_name, task_set_file};
+ghost use Rattle.riftcalico_core.specs.Faults.{IsFaultOf, IsPlainFault, blamed_word, fault_line, file_word, hint_of, is_of_bytes, message_word, name_hint, name_word, place_file, set_hint, task_name, task_set_file};
 ghost use Rattle.riftcalico_words.specs.RequestSeen.{task_seen};
 
 use crate::plan::get_calls_file;
@@ -20,9 +20,9 @@ pub enum Blamed {
     Set,
     /// The name of the root's struct.
     Name,
-    /// Standard input.
+    /// Standard input, or the file whose messages are replaced.
     Input,
-    /// Standard output.
+    /// Standard output, or that file.
     Output,
 }
 
@@ -75,6 +75,16 @@ pub fn get_set_file<'a>(task: &Task<'a>) -> Option<&'a str>
     }
 }
 
+/// The file whose messages a task replaces, if there is one.
+pub fn get_place_file<'a>(task: &Task<'a>) -> Option<&'a str>
+    ensures { option_map (λ f. f.now) result ≡ place_file (task_seen task.now) }
+{
+    match task {
+        Task::Patch(request) => request.in_place,
+        _ => None,
+    }
+}
+
 /// A file by its path, or what stands for none.
 fn get_file_word<'a>(file: Option<&'a str>, other: &'a str) -> &'a str
     ensures { result.now ≡ file_word (option_map (λ f. f.now) file.entry) other.now }
@@ -118,8 +128,8 @@ fn get_word<'a>(task: &Task<'a>, blamed: Blamed) -> &'a str
         Blamed::Calls => get_file_word(get_calls_file(task), ""),
         Blamed::Set => get_file_word(get_set_file(task), "the built-in set"),
         Blamed::Name => get_name(task),
-        Blamed::Input => "standard input",
-        Blamed::Output => "standard output",
+        Blamed::Input => get_file_word(get_place_file(task), "standard input"),
+        Blamed::Output => get_file_word(get_place_file(task), "standard output"),
     }
 }
 

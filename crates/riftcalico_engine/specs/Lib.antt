@@ -1,5 +1,6 @@
 pub mod Files
 pub mod Outputs
+pub mod Places
 pub mod Programs
 pub mod Runs
 pub mod Streams

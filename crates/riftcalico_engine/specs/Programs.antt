@@ -1,10 +1,13 @@
 -- What the program did with its words: its status, and what it told on standard error.
-use Rattle.std.specs.Prelude.{ℕ, ◌≡◌, ◌⊎◌, List, cond, Option, Ok, Err, string_bytes}
+use Rattle.std.specs.Prelude.{ℕ, ◌≡◌, ◌⊎◌, List, cond, Option, None, Some, Ok, Err, string_bytes}
 use Rattle.capnp_device.specs.declared.error.ErrorKind.TheVariants.{OutOfMemory}
 use Rattle.capnp_show_engine.specs.Command.{IsTold, refusal_line}
+use Rattle.capnp_show_engine.specs.Opened.{AsksAmong}
+use Rattle.riftcalico_core.specs.Faults.{place_file}
 use Rattle.riftcalico_engine.specs.Files.{Opens}
 use Rattle.riftcalico_engine.specs.Outputs.{IsFaultTold, Ran}
-use Rattle.riftcalico_engine.specs.Runs.{IsRun}
+use Rattle.riftcalico_engine.specs.Places.{IsPlaceNamed, IsPlaceRun, Makes, Puts, Removes}
+use Rattle.riftcalico_engine.specs.Runs.{IsRun, task_paths}
 use Rattle.riftcalico_engine.specs.declared.ended.Ended.TheVariants as ended
 use Rattle.riftcalico_words.specs.Requests.{AskedRequest, WordFault}
 use Rattle.riftcalico_words.specs.Tasks.{Task}
@@ -29,13 +32,20 @@ module _ {F : Type 0} (told : F → Option (List ℕ)) (tells : F → ℕ) where
   IsRanTold t (Ok (ended.Unreadable line)) f f' = IsTold (string_bytes line) (told f) (told f') (tells f) (tells f')
   IsRanTold t (Err x) f f' = IsFaultTold t x (told f) (told f') (tells f) (tells f')
 
-module _ {O A S W F : Type 0} (opens : Opens O A) (holds : A → Option (List ℕ)) (fails : A → ℕ)
+module _ {O A N S W F : Type 0} (opens : Opens O A) (holds : A → Option (List ℕ)) (fails : A → ℕ)
+    (makes : Makes O N) (puts : Puts O N) (removes : Removes O N) (holds_new : N → Option (List ℕ)) (fails_new : N → ℕ)
     (left : S → Option (List ℕ)) (reads : S → ℕ) (written : W → Option (List ℕ)) (writes : W → ℕ) (told : F → Option (List ℕ)) (tells : F → ℕ) where
+  -- a task was done on standard input and output, or on a file that is replaced, and then they were not touched
+  abbrev pub IsRunAt : (place : Option (List ℕ)) → Task → (o o' : O) → (s s' : S) → (w w' : W) → (f f' : F) → Ran → Type 0
+  IsRunAt None t o o' s s' w w' f f' r = IsRun opens holds fails left reads written writes told tells t o o' s s' w w' f f' r
+  IsRunAt (Some file) t o o' s s' w w' f f' r =
+      (s' ≡ s) × (w' ≡ w) × IsPlaceRun opens holds fails makes puts removes holds_new fails_new told tells t file o o' f f' r
+
   -- a task came to something, which the status and what was told say
   pub record IsTaskDone (t : Task) (status : ℕ) (o o' : O) (s s' : S) (w w' : W) (f f' : F) : Type 0 where
     pub by : Ran
     pub mid : F
-    pub ran : IsRun opens holds fails left reads written writes told tells t o o' s s' w w' f mid by
+    pub ran : IsRunAt (place_file t) t o o' s s' w w' f mid by
     pub status_is : status ≡ status_of by
     pub ended : IsRanTold told tells t by mid f'
 
@@ -49,3 +59,12 @@ module _ {O A S W F : Type 0} (opens : Opens O A) (holds : A → Option (List �
       IsTaskDone t status o o' s s' w w' f f'
       ⊎ ((status ≡ 1) × IsTold (refusal_line OutOfMemory) (told f) (told f') (tells f) (tells f') × IsUntouched o o' s s' w w')
   IsProgramDone (Err m) status o o' s s' w w' f f' = IsMisuseTold m status (told f) (told f') (tells f) (tells f') × IsUntouched o o' s s' w w'
+
+module _ {O A N : Type 0} (opens : Opens O A) (makes : Makes O N) (puts : Puts O N) (removes : Removes O N) where
+  abbrev pub IsNamedAt : (place : Option (List ℕ)) → Task → (o o' : O) → Type 0
+  IsNamedAt None t o o' = AsksAmong opens (task_paths t) o o'
+  IsNamedAt (Some file) t o o' = IsPlaceNamed opens makes puts removes t file o o'
+
+  -- no files were opened but those that a task names, and none made, replaced or removed but where it replaces one
+  abbrev pub IsNamed : Task → (o o' : O) → Type 0
+  IsNamed t o o' = IsNamedAt (place_file t) t o o'

@@ -1,19 +1,20 @@
 //! What the program does with its words.
 ghost use Rattle.std.specs.Prelude.{◌≡◌, ⊤, Ok, map, string_bytes};
-ghost use Rattle.capnp_show_engine.specs.declared.opener.FilesOpener.{FilesOpener as OfFiles};
-ghost use Rattle.capnp_show_engine.specs.Opened.{AsksAmong};
-ghost use Rattle.riftcalico_engine.specs.Programs.{IsProgramDone, IsMisuseTold, IsRanTold, IsTaskDone, status_of};
-ghost use Rattle.riftcalico_engine.specs.Runs.{task_paths};
+ghost use Rattle.riftcalico_engine.specs.declared.place.FilesReplacer.{FilesReplacer as OfFiles};
+ghost use Rattle.riftcalico_core.specs.Faults.{place_file};
+ghost use Rattle.riftcalico_engine.specs.Programs.{IsProgramDone, IsMisuseTold, IsNamed, IsNamedAt, IsRanTold, IsRunAt, IsTaskDone, status_of};
 ghost use Rattle.riftcalico_words.specs.Requests.{asked_request};
 ghost use Rattle.riftcalico_words.specs.RequestSeen.{fault_seen, task_seen};
 ghost use Rattle.riftcalico_words.specs.Tasks as tasks;
 
 use crate::answering::tell_refusal;
 use crate::ended::{Ended, Ran};
+use crate::place::{FilesReplacer, Replacer, run_in_place};
 use crate::shell::run;
 use capnp_show_engine::command::{report, tell};
-use capnp_show_engine::opener::{FilesOpener, Opener};
-use capnp_wire::device::{ReadSource, Sink, Source};
+use capnp_show_engine::opener::Opener;
+use capnp_wire::device::{ReadSource, Sink, Source, WriteSink};
+use riftcalico_core::fault::get_place_file;
 use riftcalico_words::request::{Misuse, Task, read_words};
 use riftcalico_words::usage::get_misuse;
 use std::alloc::Global;
@@ -54,8 +55,29 @@ fn tell_misuse<F: Sink>(alloc: Global, misuse: Misuse<'_>, errors: &mut F) -> u8
     }
 }
 
+/// Does a task, on the messages of the source or of a file that is replaced.
+fn run_at<O: Opener + Replacer, R: Source, W: Sink, F: Sink>(
+    alloc: Global,
+    opener: &mut O,
+    task: &Task<'_>,
+    source: &mut R,
+    sink: &mut W,
+    errors: &mut F,
+) -> Ran
+    ensures ran { IsRunAt O.opens O.File.left O.File.failures O.makes O.puts O.removes O.New.written O.New.failures R.left
+        R.failures W.written W.failures F.written F.failures (place_file (task_seen task.now)) (task_seen task.now)
+        opener.old opener.new source.old source.new sink.old sink.new errors.old errors.new result }
+    ensures named { IsNamedAt O.opens O.makes O.puts O.removes (place_file (task_seen task.now)) (task_seen task.now)
+        opener.old opener.new }
+{
+    match get_place_file(task) {
+        Some(file) => run_in_place(alloc, opener, task, file, errors),
+        None => run(alloc, opener, task, source, sink, errors),
+    }
+}
+
 /// Does a task and tells what it came to.
-fn run_task<O: Opener, R: Source, W: Sink, F: Sink>(
+fn run_task<O: Opener + Replacer, R: Source, W: Sink, F: Sink>(
     opener: &mut O,
     alloc: Global,
     task: &Task<'_>,
@@ -63,12 +85,12 @@ fn run_task<O: Opener, R: Source, W: Sink, F: Sink>(
     sink: &mut W,
     errors: &mut F,
 ) -> u8
-    ensures done { IsTaskDone O.opens O.File.left O.File.failures R.left R.failures W.written W.failures F.written
-        F.failures (task_seen task.now) result opener.old opener.new source.old source.new sink.old sink.new errors.old
+    ensures done { IsTaskDone O.opens O.File.left O.File.failures O.makes O.puts O.removes O.New.written O.New.failures
+        R.left R.failures W.written W.failures F.written F.failures (task_seen task.now) result opener.old opener.new source.old source.new sink.old sink.new errors.old
         errors.new }
-    ensures named { AsksAmong O.opens (task_paths (task_seen task.now)) opener.old opener.new }
+    ensures named { IsNamed O.opens O.makes O.puts O.removes (task_seen task.now) opener.old opener.new }
 {
-    let ran = run(alloc, opener, task, source, sink, errors);
+    let ran = run_at(alloc, opener, task, source, sink, errors);
     tell_ran(alloc, task, &ran, errors)
 }
 
@@ -77,7 +99,7 @@ fn run_task<O: Opener, R: Source, W: Sink, F: Sink>(
 /// what is unknown and the usage on `errors`, or for a word that can't be read, which is told with its place. Replies to
 /// calls and refusals are told on `errors`, a line each. Where a line can't be written there, the status is the same. No
 /// files are opened but those that the words name, first that of the calls.
-pub fn command_over<O: Opener, R: Source, W: Sink, F: Sink>(
+pub fn command_over<O: Opener + Replacer, R: Source, W: Sink, F: Sink>(
     opener: &mut O,
     alloc: Global,
     words: &[String],
@@ -85,11 +107,11 @@ pub fn command_over<O: Opener, R: Source, W: Sink, F: Sink>(
     sink: &mut W,
     errors: &mut F,
 ) -> u8
-    ensures done { IsProgramDone O.opens O.File.left O.File.failures R.left R.failures W.written W.failures F.written
-        F.failures (asked_request (map string_bytes words.now)) result opener.old opener.new source.old source.new sink.old
+    ensures done { IsProgramDone O.opens O.File.left O.File.failures O.makes O.puts O.removes O.New.written O.New.failures
+        R.left R.failures W.written W.failures F.written F.failures (asked_request (map string_bytes words.now)) result opener.old opener.new source.old source.new sink.old
         sink.new errors.old errors.new }
     ensures named { (t : tasks.Task) → asked_request (map string_bytes words.now) ≡ Ok t
-        → AsksAmong O.opens (task_paths t) opener.old opener.new }
+        → IsNamed O.opens O.makes O.puts O.removes t opener.old opener.new }
 {
     match read_words(alloc, words) {
         Ok(Ok(task)) => run_task(opener, alloc, &task, source, sink, errors),
@@ -112,10 +134,12 @@ pub fn command<S: Files, R: Source, W: Sink, F: Sink>(
     errors: &mut F,
 ) -> u8
     ensures done { (before : OfFiles S) × (after : OfFiles S) × IsProgramDone
-        (λ _ _ _ _. ⊤) ⟦<ReadSource<S::File> as Source>⟧.left ⟦<ReadSource<S::File> as Source>⟧.failures R.left R.failures
+        (λ _ _ _ _. ⊤) ⟦<ReadSource<S::File> as Source>⟧.left ⟦<ReadSource<S::File> as Source>⟧.failures
+        (λ _ _ _ _ _. ⊤) (λ _ _ _ _ _ _. ⊤) (λ _ _ _ _. ⊤)
+        ⟦<WriteSink<S::File> as Sink>⟧.written ⟦<WriteSink<S::File> as Sink>⟧.failures R.left R.failures
         W.written W.failures F.written F.failures (asked_request (map string_bytes words.now)) result before after
         source.old source.new sink.old sink.new errors.old errors.new }
 {
-    let mut opener = FilesOpener::new(rt);
+    let mut opener = FilesReplacer::new(rt);
     command_over(&mut opener, alloc, words, source, sink, errors)
 }

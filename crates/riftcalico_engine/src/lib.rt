@@ -7,5 +7,6 @@
 mod answering;
 pub mod command;
 pub mod ended;
+pub mod place;
 pub mod shell;
 mod stream;

@@ -12,6 +12,7 @@ pub record WordOptions : Type 0 where
   pub set : Option (List ℕ)
   pub calls : Option (List ℕ)
   pub limit : Option (List ℕ)
+  pub in_place : Option (List ℕ)
   pub indent : Bool
   pub keep_going : Bool
   pub packed : Bool
@@ -29,6 +30,7 @@ no_options = record {
   set = None;
   calls = None;
   limit = None;
+  in_place = None;
   indent = false;
   keep_going = false;
   packed = false;
@@ -53,6 +55,7 @@ word_kind word =
     if bytes_eq word (codes "--set") then kind.Value value.Set
     else if bytes_eq word (codes "--calls") then kind.Value value.Calls
     else if bytes_eq word (codes "--limit") then kind.Value value.Limit
+    else if bytes_eq word (codes "--in-place") then kind.Value value.InPlace
     else if bytes_eq word (codes "--indent") then kind.Flag flag.Indent
     else if bytes_eq word (codes "--keep-going") then kind.Flag flag.KeepGoing
     else if bytes_eq word (codes "--packed") then kind.Flag flag.Packed
@@ -80,6 +83,7 @@ abbrev pub with_value : WordOptions → ValueOption → (word : List ℕ) → Wo
 with_value o value.Set word = record o { set = Some word; waiting = None }
 with_value o value.Calls word = record o { calls = Some word; waiting = None }
 with_value o value.Limit word = record o { limit = Some word; waiting = None }
+with_value o value.InPlace word = record o { in_place = Some word; waiting = None }
 
 abbrev pub with_other : WordOptions → (word : List ℕ) → WordOptions
 with_other o word = record o { others = o.others ++ word ∷ [] }

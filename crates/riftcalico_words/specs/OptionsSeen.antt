@@ -10,6 +10,7 @@ options_seen o = record {
   set = option_map (λ w. w.now) o.set;
   calls = option_map (λ w. w.now) o.calls;
   limit = option_map (λ w. w.now) o.limit;
+  in_place = option_map (λ w. w.now) o.in_place;
   indent = o.indent;
   keep_going = o.keep_going;
   packed = o.packed;

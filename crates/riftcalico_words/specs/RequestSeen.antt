@@ -37,7 +37,7 @@ given_of (words.Words ws) = in_words (map (λ w. w.now) ws.items)
 given_of (words.Lines path) = in_lines path.now
 
 abbrev pub calls_task_of : CallsRequest → CallsTask
-calls_task_of r = record { root = root_named r.root; calls = given_of r.calls; keep_going = r.keep_going; packed = r.packed; messages = r.messages; limit = r.limit }
+calls_task_of r = record { root = root_named r.root; calls = given_of r.calls; keep_going = r.keep_going; packed = r.packed; messages = r.messages; limit = r.limit; in_place = option_map (λ w. w.now) r.in_place }
 
 abbrev pub task_seen : Task → tasks.Task
 task_seen (task.Get r) = get_task (get_task_of r)

@@ -74,10 +74,15 @@ abbrev pub takes_set : Verb → Bool
 takes_set verb.Structs = true
 takes_set v = is_on_messages v
 
+abbrev pub takes_place : Verb → Bool
+takes_place verb.Patch = true
+takes_place v = false
+
 abbrev pub takes_value : Verb → ValueOption → Bool
 takes_value v value.Set = takes_set v
 takes_value v value.Calls = is_with_calls v
 takes_value v value.Limit = is_on_messages v
+takes_value v value.InPlace = takes_place v
 
 abbrev pub takes_indent : Verb → Bool
 takes_indent verb.Check = false
@@ -115,6 +120,7 @@ values_fit v o =
     is_allowed (is_some o.set) (takes_value v value.Set)
     && is_allowed (is_some o.calls) (takes_value v value.Calls)
     && is_allowed (is_some o.limit) (takes_value v value.Limit)
+    && is_allowed (is_some o.in_place) (takes_value v value.InPlace)
 
 abbrev pub flags_fit : Verb → WordOptions → Bool
 flags_fit v o =
@@ -131,8 +137,12 @@ flags_fit v o =
 abbrev pub going_fits : Verb → WordOptions → Bool
 going_fits v o = not (is_reading v) || not o.keep_going || o.each
 
+-- no file is replaced where a refused call or message may be passed over, which its messages would then lack
+abbrev pub place_fits : WordOptions → Bool
+place_fits o = not (is_some o.in_place) || not o.keep_going
+
 abbrev pub is_fitting : Verb → WordOptions → Bool
-is_fitting v o = values_fit v o && flags_fit v o && going_fits v o
+is_fitting v o = values_fit v o && flags_fit v o && going_fits v o && place_fits o
 
 -- ---- what is asked ----
 
@@ -158,7 +168,7 @@ given_asked (Some path) (word ∷ words) = None
 abbrev pub named_calls : WordOptions → (limit : ℕ) → List (List ℕ) → Option CallsTask
 named_calls o limit [] = None
 named_calls o limit (name ∷ words) =
-    option_map (λ given. record { root = record { file = o.set; name = name }; calls = given; keep_going = o.keep_going; packed = o.packed; messages = messages_of o; limit = limit })
+    option_map (λ given. record { root = record { file = o.set; name = name }; calls = given; keep_going = o.keep_going; packed = o.packed; messages = messages_of o; limit = limit; in_place = o.in_place })
     (given_asked o.calls words)
 
 abbrev pub calls_asked : WordOptions → (limit : ℕ) → Option CallsTask

@@ -41,7 +41,7 @@ pub data GivenCalls : Type 0 where
   in_lines : (path : List ℕ) → GivenCalls
 
 -- calls on a root, whether what they leave is written where one was refused, whether messages come and go packed, of which messages, and the most bytes that a
--- message may have that is made
+-- message may have that is made; the file, where there is one, whose messages are put in the place of those that it has
 pub record CallsTask : Type 0 where
   pub root : Root
   pub calls : GivenCalls
@@ -49,6 +49,7 @@ pub record CallsTask : Type 0 where
   pub packed : Bool
   pub messages : Messages
   pub limit : ℕ
+  pub in_place : Option (List ℕ)
 
 -- the struct of a name in the sets of two files, an older and a newer one, or all structs; whether only the status is wanted, and whether only what breaks is told
 pub record CompareTask : Type 0 where

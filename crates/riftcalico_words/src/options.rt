@@ -40,6 +40,8 @@ pub enum ValueOption {
     Calls,
     /// `--limit`, with a number of bytes.
     Limit,
+    /// `--in-place`, with the path of a file.
+    InPlace,
 }
 
 /// What a word is that stands behind no option that has one.
@@ -59,6 +61,7 @@ pub struct Options<'a> {
     pub set: Option<&'a str>,
     pub calls: Option<&'a str>,
     pub limit: Option<&'a str>,
+    pub in_place: Option<&'a str>,
     pub indent: bool,
     pub keep_going: bool,
     pub packed: bool,
@@ -91,6 +94,7 @@ fn kind_of(word: &str) -> WordKind
         "--set" => WordKind::Value(ValueOption::Set),
         "--calls" => WordKind::Value(ValueOption::Calls),
         "--limit" => WordKind::Value(ValueOption::Limit),
+        "--in-place" => WordKind::Value(ValueOption::InPlace),
         "--indent" => WordKind::Flag(Flag::Indent),
         "--keep-going" => WordKind::Flag(Flag::KeepGoing),
         "--packed" => WordKind::Flag(Flag::Packed),
@@ -139,6 +143,7 @@ fn put_value<'a>(options: Options<'a>, option: ValueOption, word: &'a str) -> Op
         ValueOption::Set => options.set = Some(word),
         ValueOption::Calls => options.calls = Some(word),
         ValueOption::Limit => options.limit = Some(word),
+        ValueOption::InPlace => options.in_place = Some(word),
     }
     options
 }
@@ -194,6 +199,7 @@ pub fn read_options<'a>(
         set: None,
         calls: None,
         limit: None,
+        in_place: None,
         indent: false,
         keep_going: false,
         packed: false,

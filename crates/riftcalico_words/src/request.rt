@@ -3,7 +3,7 @@ ghost use Rattle.std.specs.Prelude.{◌≡◌, IfErr, IfOk, map, string_bytes};
 ghost use Rattle.capnp_device.specs.declared.error.ErrorKind.TheVariants.{OutOfMemory};
 ghost use Rattle.std.specs.Option.{option_map};
 ghost use Rattle.riftcalico_words.specs.OptionsSeen.{options_seen};
-ghost use Rattle.riftcalico_words.specs.Requests.{asked_request, calls_asked, checked_of, compared_of, flags_fit, given_asked, going_fits, is_allowed, is_fitting, is_comparison, is_on_messages, is_reading, is_with_calls, json_of, limit_asked, messages_of, options_asked, plain_asked, shown_of, takes_flag, takes_value, values_fit, verb_of, verb_request};
+ghost use Rattle.riftcalico_words.specs.Requests.{asked_request, calls_asked, checked_of, compared_of, flags_fit, given_asked, going_fits, is_allowed, is_fitting, is_comparison, is_on_messages, is_reading, is_with_calls, json_of, limit_asked, messages_of, options_asked, place_fits, plain_asked, shown_of, takes_flag, takes_value, values_fit, verb_of, verb_request};
 ghost use Rattle.riftcalico_words.specs.RequestSeen.{asked_seen, calls_task_of, get_task_of, given_of, task_seen};
 ghost use Rattle.riftcalico_words.specs.Steps.Limits.{limit_seen};
 ghost use Rattle.riftcalico_words.specs.Tasks.{task_messages};
@@ -100,7 +100,8 @@ pub enum CallWords<'a> {
 }
 
 /// Calls on a root, whether what they leave is written where one was refused, whether messages come and go packed, of
-/// which messages, and the most bytes that a message may have that is made.
+/// which messages, and the most bytes that a message may have that is made; the file, where there is one, whose messages are
+/// replaced by what is made of them.
 #[derive(Drop)]
 pub struct CallsRequest<'a> {
     pub root: NamedRoot<'a>,
@@ -109,6 +110,7 @@ pub struct CallsRequest<'a> {
     pub packed: bool,
     pub messages: Messages,
     pub limit: u64,
+    pub in_place: Option<&'a str>,
 }
 
 /// The struct of a name in the sets of two files, an older and a newer one, or all structs; whether only the status is
@@ -258,6 +260,10 @@ fn takes_value(verb: Verb, option: ValueOption) -> bool
         },
         ValueOption::Calls => is_with_calls(verb),
         ValueOption::Limit => is_on_messages(verb),
+        ValueOption::InPlace => match verb {
+            Verb::Patch => true,
+            _ => false,
+        },
     }
 }
 
@@ -299,6 +305,7 @@ fn do_values_fit(verb: Verb, options: &Options<'_>) -> bool
     (options.set.is_none() || takes_value(verb, ValueOption::Set))
         && (options.calls.is_none() || takes_value(verb, ValueOption::Calls))
         && (options.limit.is_none() || takes_value(verb, ValueOption::Limit))
+        && (options.in_place.is_none() || takes_value(verb, ValueOption::InPlace))
 }
 
 /// Whether an option is none that stands where its verb doesn't take it.
@@ -329,11 +336,21 @@ fn does_going_fit(verb: Verb, options: &Options<'_>) -> bool
     !is_reading(verb) || !options.keep_going || options.each
 }
 
+/// Whether no file is to be replaced where a refused call or message may be passed over, which its messages would then lack.
+fn does_place_fit(options: &Options<'_>) -> bool
+    ensures { result ≡ place_fits (options_seen options.now) }
+{
+    options.in_place.is_none() || !options.keep_going
+}
+
 /// Whether a verb takes these options.
 fn is_fit(verb: Verb, options: &Options<'_>) -> bool
     ensures { result ≡ is_fitting verb (options_seen options.now) }
 {
-    do_values_fit(verb, options) && do_flags_fit(verb, options) && does_going_fit(verb, options)
+    do_values_fit(verb, options)
+        && do_flags_fit(verb, options)
+        && does_going_fit(verb, options)
+        && does_place_fit(options)
 }
 
 /// The most bytes that are made, or the word that is no number of bytes.
@@ -401,6 +418,7 @@ fn read_calls<'a>(
                     packed: options.packed,
                     messages: read_messages(options),
                     limit,
+                    in_place: options.in_place,
                 })),
                 None => Ok(None),
             }

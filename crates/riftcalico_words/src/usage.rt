@@ -16,7 +16,7 @@ usage: riftcalico show [--set FILE] [--packed] [--limit BYTES] [--each [--keep-g
        riftcalico get [--set FILE] [--packed] [--limit BYTES] [--each [--keep-going]] NAME PATH [--indent]
        riftcalico json [--set FILE] [--packed] [--limit BYTES] [--each [--keep-going]] NAME [--indent]
        riftcalico check [--set FILE] [--packed] [--limit PARTS] [--all] [--each [--keep-going]] NAME [PATH]
-       riftcalico patch [--set FILE] [--calls FILE] [--keep-going] [--packed] [--limit BYTES] [--each] NAME CALL..
+       riftcalico patch [--set FILE] [--calls FILE] [--keep-going] [--packed] [--limit BYTES] [--each] [--in-place FILE] NAME CALL..
        riftcalico new [--set FILE] [--calls FILE] [--keep-going] [--packed] [--limit BYTES] NAME CALL..
        riftcalico structs [--set FILE] [NAME]
        riftcalico schemas [--strict]
@@ -31,7 +31,7 @@ usage: riftcalico show [--set FILE] [--packed] [--limit BYTES] [--each [--keep-g
        riftcalico get [--set FILE] [--packed] [--limit BYTES] [--each [--keep-going]] NAME PATH [--indent]
        riftcalico json [--set FILE] [--packed] [--limit BYTES] [--each [--keep-going]] NAME [--indent]
        riftcalico check [--set FILE] [--packed] [--limit PARTS] [--all] [--each [--keep-going]] NAME [PATH]
-       riftcalico patch [--set FILE] [--calls FILE] [--keep-going] [--packed] [--limit BYTES] [--each] NAME CALL..
+       riftcalico patch [--set FILE] [--calls FILE] [--keep-going] [--packed] [--limit BYTES] [--each] [--in-place FILE] NAME CALL..
        riftcalico new [--set FILE] [--calls FILE] [--keep-going] [--packed] [--limit BYTES] NAME CALL..
        riftcalico structs [--set FILE] [NAME]
        riftcalico schemas [--strict]
@@ -57,7 +57,7 @@ usage: riftcalico check [--set FILE] [--packed] [--limit PARTS] [--all] [--each 
 ";
 
 const PATCH_USAGE: &str = "\
-usage: riftcalico patch [--set FILE] [--calls FILE] [--keep-going] [--packed] [--limit BYTES] [--each] NAME CALL..
+usage: riftcalico patch [--set FILE] [--calls FILE] [--keep-going] [--packed] [--limit BYTES] [--each] [--in-place FILE] NAME CALL..
 ";
 
 const NEW_USAGE: &str = "\
@@ -120,7 +120,7 @@ NAME is a struct of the set in FILE, as 'riftcalico schemas' writes it, or else 
 ";
 
 const PATCH_HELP: &str = "\
-usage: riftcalico patch [--set FILE] [--calls FILE] [--keep-going] [--packed] [--limit BYTES] [--each] NAME CALL..
+usage: riftcalico patch [--set FILE] [--calls FILE] [--keep-going] [--packed] [--limit BYTES] [--each] [--in-place FILE] NAME CALL..
 
 Makes calls on a copy of the first message's root, a struct NAME, and writes the message that they leave.
 A CALL is one word: 'set PATH VALUE', 'init PATH', 'initn PATH N', 'clear PATH', 'get PATH', 'has PATH' or
@@ -129,6 +129,7 @@ the message is written also where a call is refused. With --packed messages are 
 No message is made of more bytes than --limit, or else 1 GiB.
 With --each all messages of the input are taken, one after another, and what is told names the message by number.
 With --keep-going one that is refused is told and passed over too.
+With --in-place the messages are those of FILE, and what is made of them takes their place where nothing was refused.
 NAME is a struct of the set in FILE, as 'riftcalico schemas' writes it, or else of the built-in set.
 ";
 
@@ -161,11 +162,12 @@ const COMPATIBLE_HELP: &str = "\
 usage: riftcalico compatible [--quiet] [--breaking-only] OLD NEW [NAME]
 
 Tells what differs between the struct NAME of the set in the file OLD and that of the set in NEW, so that a program that
-knows one can't read messages of the other: a line for each difference, and nothing where the newer struct follows the
-older one. The status is then 0, and else 1. With --quiet nothing is printed. Sets are as 'riftcalico schemas' writes them.
-Without NAME all structs are compared whose names stand in both sets. Behind the differences a line that begins with
-'note:' tells each struct that went or came, unless --breaking-only stands there, and the last line how many structs are
-compatible and how many not. The status is 0 where all are.
+knows one can't read messages of the other: a line for each difference. The status is 0 where there is none, as the newer
+struct follows the older one, and else 1. With --quiet nothing is printed. Sets are as 'riftcalico schemas' writes them.
+Behind the differences a line that begins with 'note:' tells each field and enumerant that came or has another name, and
+each list whose elements became structs, unless --breaking-only stands there.
+Without NAME all structs are compared whose names stand in both sets. Notes tell those that went or came, too, and the
+last line how many structs are compatible and how many not. The status is 0 where all are.
 ";
 
 /// How a verb is called.

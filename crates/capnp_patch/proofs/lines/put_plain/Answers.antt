@@ -1,3 +1,5 @@
+-- Void, bool, integers, text and data are printed by the printer.
+-- What is appended for an enum, list, struct or pointer is the answer's own text.
 use Rattle.std.proofs.Common.{Bool, codes, decimal, string_bytes, ◌++◌, ◌∙◌, subst, sym}
 use Rattle.capnp_call.specs.declared.calls.Plain.{Plain}
 use Rattle.capnp_call.specs.declared.calls.Plain.TheVariants as plain

@@ -11,11 +11,13 @@ use Rattle.capnp_patch.proofs.reach.read_field.Goals as goal
 pub returns-in_err-test_type-clause-read : goal.returns-in_err-test_type-clause-read
 returns-in_err-test_type-clause-read c =
     let p = err_from_is_err_and c.from_residual-in_err-test_type.result c.from_residual-in_err-test_type.ensures.1 in rw (p.1, p.2)
-    (field_refused c.args.reader (step_seen c.args.step) c.args.is_last c.get_schema.result c.in_ok-field.field c.get_schema.ensures (c.in_ok-field.ensures.found value.Struct (record_seen c.args.reader))
-    c.in_ok-field.ensures.named.field c.is_active.result c.is_active.ensures (search rules) (seen_type c.get_type.result) c.get_type.ensures.is _ (c.in_err-test_type.ensures _))
+    (field_refused c.args.reader (step_seen c.args.step) c.args.is_last c.get_schema.result c.in_ok-field.field c.is_active.result
+    (record { same = c.get_schema.ensures; named_by = c.in_ok-field.ensures.found value.Struct (record_seen c.args.reader); field = c.in_ok-field.ensures.named.field; tested = c.is_active.ensures; active = search rules })
+    (seen_type c.get_type.result) c.get_type.ensures.is _ (c.in_err-test_type.ensures _))
 
 pub returns-clause-read : goal.returns-clause-read
 returns-clause-read c =
-    field_read_there c.args.reader (step_seen c.args.step) c.args.is_last c.get_schema.result c.in_ok-field.field c.get_schema.ensures (c.in_ok-field.ensures.found value.Struct (record_seen c.args.reader))
-    c.in_ok-field.ensures.named.field c.is_active.result c.is_active.ensures (search rules) (seen_type c.get_type.result) c.get_type.ensures.is (c.in_ok-test_type.ensures _)
+    field_read_there c.args.reader (step_seen c.args.step) c.args.is_last c.get_schema.result c.in_ok-field.field c.is_active.result
+    (record { same = c.get_schema.ensures; named_by = c.in_ok-field.ensures.found value.Struct (record_seen c.args.reader); field = c.in_ok-field.ensures.named.field; tested = c.is_active.ensures; active = search rules })
+    (seen_type c.get_type.result) c.get_type.ensures.is (c.in_ok-test_type.ensures _)
     c.get.result c.get.ensures.typed c.get.ensures.value
