@@ -10,6 +10,7 @@
 #include "schemas.h"
 #include "set_messages.h"
 #include "sets.h"
+#include "versions.h"
 #include "wire.h"
 #include <capnp/schema-parser.h>
 #include <kj/filesystem.h>
@@ -32,6 +33,7 @@ int main(int count, char **words) {
   runs::add_rows(table, file.getNested("Lists").asStruct(), file.getNested("Loop").asStruct());
   schemas::add_rows(table);
   set_messages::add_rows(table);
+  versions::add_rows(table);
   requests::add_rows(table);
   prints::add_rows(table, file.getNested("Lists").asStruct());
   json::add_rows(table);

@@ -1,3 +1,5 @@
+pub mod ArenaItems
 mod Items
 mod Kept
+pub mod Lists
 mod Started

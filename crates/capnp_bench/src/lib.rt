@@ -2,6 +2,8 @@
 //! checksum; one that is refused answers 0.
 #![tactic(auto)]
 
+mod arena_builds;
+mod builds;
 mod documents;
 mod json;
 mod prints;
@@ -11,3 +13,6 @@ mod runs;
 mod schemas;
 mod set_messages;
 mod sets;
+mod versions;
+mod wire_reads;
+mod writes;

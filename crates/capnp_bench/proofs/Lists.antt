@@ -12,7 +12,7 @@ use Rattle.capnp_wire.specs.Facts.Rows.{IsElement-nth_struct, struct_count-struc
 use Rattle.capnp_arena.specs.Facts.Places.{data_of, pointers_of}
 use Rattle.capnp_arena.specs.Forest.{Planted, struct_from}
 use Rattle.capnp_arena.specs.Shape.{StructIn}
-use Rattle.capnp_wire_bench.specs.Steps.Items.{AreItems}
+use Rattle.capnp_bench.specs.Steps.Items.{AreItems}
 
 pub there : (count : ℕ) (t : Tree) (i : ℕ) → AreItems count t → i < count → HasStruct t i
 there count (Composite d p es) i h a = omega (arith, h.3, a)

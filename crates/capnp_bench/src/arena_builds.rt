@@ -1,4 +1,4 @@
-//! The same messages, built by the message's calls at places, and written into memory.
+//! Messages as `builds` makes them, built by the message's calls at places, and written into memory.
 ghost use Rattle.std.specs.Prelude.{◌+◌, ◌*◌, ◌<◌, ◌≡◌, ◌≤◌};
 ghost use Rattle.capnp_arena.specs.Forest.{Changes, Forest, PartChanges, Planted};
 ghost use Rattle.capnp_arena.specs.Segment.{segment};

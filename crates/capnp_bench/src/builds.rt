@@ -3,7 +3,7 @@ ghost use Rattle.std.specs.Prelude.{◌≡◌, ◌<◌};
 ghost use Rattle.capnp_arena.specs.Forest.{Changes, Forest, PartChanges, tree};
 ghost use Rattle.capnp_arena.specs.Handles.{IsBuiltStruct, handle_words};
 ghost use Rattle.capnp_arena.specs.Segment.{segment};
-ghost use Rattle.capnp_wire_bench.specs.Steps.Items.{AreItems};
+ghost use Rattle.capnp_bench.specs.Steps.Items.{AreItems};
 
 use capnp_arena::handles::StructBuilder;
 use capnp_arena::message::Builder;

@@ -1,8 +1,9 @@
+-- Each of the six settings changes words of the item alone, and one after another they do too.
 use Rattle.std.proofs.Common.{rules}
 use Rattle.capnp_arena.specs.Handles.{handle_words}
 use Rattle.capnp_arena.specs.Segment.{segment}
-use Rattle.capnp_wire_bench.proofs.ArenaItems.{six}
-use Rattle.capnp_wire_bench.proofs.builds.fill.Goals as goal
+use Rattle.capnp_bench.proofs.ArenaItems.{six}
+use Rattle.capnp_bench.proofs.builds.fill.Goals as goal
 
 pub returns-clause-changes : goal.returns-clause-changes
 returns-clause-changes c =

@@ -1,9 +1,11 @@
+-- An item at an index below the count is there, in the size of items.
+-- Filling it changes this element of the list alone, which leaves a list of items.
 use Rattle.std.proofs.Common.{rules, List, ℕ, subst}
 use Rattle.capnp_arena.specs.Forest.{struct_from, tree}
 use Rattle.capnp_arena.specs.Segment.{segment}
-use Rattle.capnp_wire_bench.specs.Steps.Items.{AreItems}
-use Rattle.capnp_wire_bench.proofs.Lists.{size, still, there}
-use Rattle.capnp_wire_bench.proofs.builds.fill_at.Goals as goal
+use Rattle.capnp_bench.specs.Steps.Items.{AreItems}
+use Rattle.capnp_bench.proofs.Lists.{size, still, there}
+use Rattle.capnp_bench.proofs.builds.fill_at.Goals as goal
 
 pub struct_element-item-requires-clause-there : goal.struct_element-item-requires-clause-there
 struct_element-item-requires-clause-there c = there c.args.count (tree (segment c.args.message.now) c.args.at) c.args.index c.requires.items c.requires.inside

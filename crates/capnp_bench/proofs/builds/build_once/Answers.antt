@@ -1,11 +1,13 @@
+-- A new list of 10,000 structs has items to fill.
+-- Making and filling it change what is below one pointer of the root, so the root leads to a forest still.
 use Rattle.std.proofs.Common.{rules, List, ℕ, arith, refl, subst}
 use Rattle.capnp_arena.specs.Facts.Calls.{one_by_one}
 use Rattle.capnp_arena.specs.Forest.{Changes, Forest, tree}
 use Rattle.capnp_arena.specs.Segment.{segment}
-use Rattle.capnp_wire_bench.specs.Steps.Items.{AreItems}
-use Rattle.capnp_wire_bench.proofs.ArenaItems.{root_left}
-use Rattle.capnp_wire_bench.proofs.Lists.{new}
-use Rattle.capnp_wire_bench.proofs.builds.build_once.Goals as goal
+use Rattle.capnp_bench.specs.Steps.Items.{AreItems}
+use Rattle.capnp_bench.proofs.ArenaItems.{root_left}
+use Rattle.capnp_bench.proofs.Lists.{new}
+use Rattle.capnp_bench.proofs.builds.build_once.Goals as goal
 
 pub fill_items-requires-clause-items : goal.fill_items-requires-clause-items
 fill_items-requires-clause-items c =

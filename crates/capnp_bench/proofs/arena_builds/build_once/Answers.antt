@@ -1,7 +1,9 @@
+-- The list is made and filled below the root's first pointer, whose changes stay there; so
+-- the root's struct still leads to a forest.
 use Rattle.std.proofs.Common.{ap₂, ◌∙◌}
 use Rattle.capnp_arena.specs.Shape.{StructIn}
-use Rattle.capnp_wire_bench.proofs.ArenaItems.{root_still}
-use Rattle.capnp_wire_bench.proofs.arena_builds.build_once.Goals as goal
+use Rattle.capnp_bench.proofs.ArenaItems.{root_still}
+use Rattle.capnp_bench.proofs.arena_builds.build_once.Goals as goal
 
 pub write_message-requires : goal.write_message-requires
 write_message-requires c =

@@ -1,2 +1,0 @@
--- Steps of the code: no contract of a public function stands on them.
-pub mod Items
