@@ -16,9 +16,14 @@ pub mod any_pointer {
 /// Compatible successors of a schema, reads of one under the other, and why a schema is none.
 pub mod compatible {
     pub use capnp_compatible::Compatible;
-    pub use capnp_differences::{Cause, Difference, Explanation, Pair, explain, explain_all};
+    pub use capnp_differences::{
+        Cause, Change, Difference, EnumPair, Explanation, Note, Pair, enumerant_name, explain,
+        explain_all,
+    };
     pub use capnp_joined_sets::join;
-    pub use capnp_versions::{Comparison, FullComparison, compare, compare_all, get_report};
+    pub use capnp_versions::{
+        Comparison, FullComparison, compare, compare_all, get_named_report, get_report,
+    };
 }
 
 /// Data: bytes as they stand.
@@ -93,6 +98,14 @@ pub mod patch {
 /// Values as text.
 pub mod printer {
     pub use capnp_dynamic::printer::{print, print_within};
+}
+
+/// What stands at paths of messages: the values, their JSON, texts and lengths.
+pub mod query {
+    pub use capnp_queries::json::{NoJson, get_json};
+    pub use capnp_queries::length::{NoLength, get_length};
+    pub use capnp_queries::reach::reach_path;
+    pub use capnp_queries::shown::get_shown;
 }
 
 /// Sets from the requests of the public compiler.

@@ -110,13 +110,34 @@ struct_extended bytes a d p size h sd sp l m =
 
 -- ---- an extension ----
 
-pub extension_made : (old new content : List ℕ) (at a d p end words word : ℕ) (size : StructSize) → IsElement size.data_words size.pointers (extended_struct size (struct_from old a d p)) → Forest old at → shape_at old at ≡ StructIn a d p → size.data_words < 2 ^ 16 → size.pointers < 2 ^ 16 → 0 < size.data_words + size.pointers
-    → content ≡ bytes_of (struct_tree (extended_struct size (struct_from old a d p))) → end ≡ word_count old → 8 * words ≡ length content → word ≡ struct_word (end - at - 1) size.data_words size.pointers → IsObjectMade old new (filled_up words content) at word
+-- a size that the format can spell, of more than nothing
+pub record CanSpellStruct (size : StructSize) : Type 0 where
+  -- the data words
+  pub data_fit : size.data_words < 2 ^ 16
+  -- the pointers
+  pub pointers_fit : size.pointers < 2 ^ 16
+  -- one of these at least
+  pub some : 0 < size.data_words + size.pointers
+
+-- the bytes of an extended struct, as they go behind all that was, and the word that leads there
+pub record IsExtension (old content : List ℕ) (at end words word : ℕ) (size : StructSize) (s : StructTree) : Type 0 where
+  -- the encoding of the struct
+  pub content_is : content ≡ bytes_of (struct_tree (extended_struct size s))
+  -- the end of what was, in words
+  pub end_is : end ≡ word_count old
+  -- the words of the content
+  pub whole : 8 * words ≡ length content
+  -- the pointer to the end
+  pub word_is : word ≡ struct_word (end - at - 1) size.data_words size.pointers
+
+pub extension_made : (old new content : List ℕ) (at a d p end words word : ℕ) (size : StructSize) → IsElement size.data_words size.pointers (extended_struct size (struct_from old a d p)) → Forest old at → shape_at old at ≡ StructIn a d p → CanSpellStruct size
+    → IsExtension old content at end words word size (struct_from old a d p) → IsObjectMade old new (filled_up words content) at word
     → IsEncodedStruct old new at end size.data_words size.pointers (extended_struct size (struct_from old a d p))
-extension_made old new content at a d p end words word size h f e hd hp some is q whole w made =
+extension_made old new content at a d p end words word size h f e spelled extension made =
+    let q : end ≡ word_count old = extension.end_is in
     let s : StructTree = struct_from old a d p in
     let none : first_fault_of_all (extended_struct size s).pointers ≡ None =
     whole_more (size.pointers - tree_count s.pointers) s.pointers ∙ ap first_fault (sym (tree_struct old at a d p f e)) ∙ forest_whole old at f in
-    let gap : word ≡ struct_word (word_count old - suc at) size.data_words size.pointers = w ∙ ap (λ n. struct_word n size.data_words size.pointers) {x = end - at - 1} {y = word_count old - suc at} (omega (arith, q)) in
+    let gap : word ≡ struct_word (word_count old - suc at) size.data_words size.pointers = extension.word_is ∙ ap (λ n. struct_word n size.data_words size.pointers) {x = end - at - 1} {y = word_count old - suc at} (omega (arith, q)) in
     subst (λ n. IsEncodedStruct old new at n size.data_words size.pointers (extended_struct size s)) (sym q)
-    (struct_encoded old new (filled_up words content) at word size.data_words size.pointers (extended_struct size s) h hd hp some none (filled_whole words content whole ∙ is) gap made)
+    (struct_encoded old new (filled_up words content) at word size.data_words size.pointers (extended_struct size s) h spelled.data_fit spelled.pointers_fit spelled.some none (filled_whole words content extension.whole ∙ extension.content_is) gap made)

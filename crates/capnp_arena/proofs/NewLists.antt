@@ -93,10 +93,28 @@ list_made_by old new at word start count room number size e s hn w a b h =
 
 -- ---- lists of structs ----
 
-pub structs_made : (old new : List ℕ) (at word words tag start count : ℕ) (size : StructSize) → start ≡ word_count old → count < 2 ^ 29 → size.data_words < 2 ^ 16 → size.pointers < 2 ^ 16 → words ≡ count * (size.data_words + size.pointers) → words < 2 ^ 29
+-- a list of structs that the format can spell: so many of a size, in so many words
+pub record CanSpellStructs (count words : ℕ) (size : StructSize) : Type 0 where
+  -- the structs
+  pub elements : count < 2 ^ 29
+  -- the data words of each
+  pub data_fit : size.data_words < 2 ^ 16
+  -- the pointers of each
+  pub pointers_fit : size.pointers < 2 ^ 16
+  -- the words of all
+  pub words_are : words ≡ count * (size.data_words + size.pointers)
+  -- which are few
+  pub few : words < 2 ^ 29
+
+pub structs_made : (old new : List ℕ) (at word words tag start count : ℕ) (size : StructSize) → start ≡ word_count old → CanSpellStructs count words size
     → tag ≡ struct_word count size.data_words size.pointers → word ≡ list_word (start - at - 1) 7 words → IsObjectMade old new (filled_up (words + 1) (spelled_number 8 tag)) at word
     → IsNew old new at (CompositeIn start count size.data_words size.pointers) (zero_structs size count)
-structs_made old new at word words tag start count size e hn hd hp m hm t w h =
+structs_made old new at word words tag start count size e spelled t w h =
+    let hn : count < 2 ^ 29 = spelled.elements in
+    let hd : size.data_words < 2 ^ 16 = spelled.data_fit in
+    let hp : size.pointers < 2 ^ 16 = spelled.pointers_fit in
+    let m : words ≡ count * (size.data_words + size.pointers) = spelled.words_are in
+    let hm : words < 2 ^ 29 = spelled.few in
     let d : ℕ = size.data_words in
     let p : ℕ = size.pointers in
     let few : count * (d + p) < 2 ^ 29 = omega (arith, m, hm) in

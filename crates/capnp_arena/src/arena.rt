@@ -251,6 +251,10 @@ impl Arena {
     }
 
     /// Makes the pointer at a word null. What it led to stays where it was; no memory is taken.
+    ///
+    /// # Conditions
+    ///
+    /// The word lies inside the message's segment.
     pub fn clear(&mut self, at: usize)
         requires inside { at < word_count (segment self.old) }
         ensures forest { Forest (segment self.new) at }
@@ -264,6 +268,10 @@ impl Arena {
     /// Makes the pointer at a word one to a new struct, all zero and null.
     ///
     /// Refused with `OutOfMemory`; then nothing has changed.
+    ///
+    /// # Conditions
+    ///
+    /// The word lies inside the message's segment.
     pub fn init_struct(&mut self, at: usize, size: StructSize) -> Result<Place>
         requires inside { at < word_count (segment self.old) }
         ensures forest { IfOk result (λ _. Forest (segment self.new) at) }
@@ -285,9 +293,13 @@ impl Arena {
     }
 
     /// Makes the pointer at a word one to a new list of so many elements of a size, all zero, false or null, and
-    /// answers where it starts. `size` must not be `InlineComposite`.
+    /// answers where it starts.
     ///
     /// Refused with `SizePastFormat` for 2^29 elements or more, and else with `OutOfMemory`; then nothing has changed.
+    ///
+    /// # Conditions
+    ///
+    /// The word lies inside the message's segment. `size` is not `InlineComposite`.
     pub fn init_list(&mut self, at: usize, size: ElementSize, count: u32) -> Result<usize>
         requires inside { at < word_count (segment self.old) }
         requires simple { size ≢ ElementSize.InlineComposite }
@@ -313,6 +325,10 @@ impl Arena {
     ///
     /// Refused with `SizePastFormat` for 2^29 elements or more, or where they take 2^29 words or more, and else with
     /// `OutOfMemory`; then nothing has changed.
+    ///
+    /// # Conditions
+    ///
+    /// The word lies inside the message's segment.
     pub fn init_struct_list(&mut self, at: usize, count: u32, size: StructSize) -> Result<usize>
         requires inside { at < word_count (segment self.old) }
         ensures forest { IfOk result (λ _. Forest (segment self.new) at) }
@@ -342,6 +358,10 @@ impl Arena {
     /// Makes the pointer at a word one to a copy of these bytes.
     ///
     /// Refused with `SizePastFormat` for 2^29 bytes or more, and else with `OutOfMemory`; then nothing has changed.
+    ///
+    /// # Conditions
+    ///
+    /// The word lies inside the message's segment.
     pub fn set_data(&mut self, at: usize, bytes: &[u8]) -> Result<()>
         requires inside { at < word_count (segment self.old) }
         ensures forest { OnOk result (Forest (segment self.new) at) }
@@ -363,6 +383,10 @@ impl Arena {
     /// Makes the pointer at a word one to a copy of a text, with a zero after it.
     ///
     /// Refused with `SizePastFormat` for 2^29 - 1 bytes or more, and else with `OutOfMemory`; then nothing has changed.
+    ///
+    /// # Conditions
+    ///
+    /// The word lies inside the message's segment.
     pub fn set_text(&mut self, at: usize, text: &[u8]) -> Result<()>
         requires inside { at < word_count (segment self.old) }
         ensures forest { OnOk result (Forest (segment self.new) at) }
@@ -382,6 +406,10 @@ impl Arena {
     }
 
     /// Stores a number in the data of a struct, at an offset in units of its width. No memory is taken.
+    ///
+    /// # Conditions
+    ///
+    /// The place is that of a struct of this message (`Planted`), and the number lies inside its data section.
     pub fn set_number<T: PrimitiveElement>(&mut self, place: Place, offset: u32, value: T)
         requires planted { Planted (segment self.old) (StructIn place.start place.data_words place.pointers) }
         requires inside { (offset + 1) * T.width ≤ 8 * place.data_words }
@@ -404,6 +432,10 @@ impl Arena {
     }
 
     /// Stores a number in the data of a struct, XORed with its default `mask`. No memory is taken.
+    ///
+    /// # Conditions
+    ///
+    /// The place is that of a struct of this message (`Planted`), and the number lies inside its data section.
     pub fn set_number_mask<T: PrimitiveElement>(
         &mut self,
         place: Place,

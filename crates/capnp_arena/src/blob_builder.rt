@@ -45,6 +45,10 @@ impl Arena {
     ghost use Rattle.capnp_arena.specs.Segment.{segment};
 
     /// So many bytes from a word on, as they stand. The message ends with what is left in them.
+    ///
+    /// # Conditions
+    ///
+    /// The bytes lie inside the message's segment.
     pub fn part_mut(&mut self, start: usize, count: usize) -> &mut [u8]
         requires inside { 8 * start + count ≤ length (segment self.old) }
         ensures* lends { sem 𝓛 (LendsPart self.entry start result) }
@@ -123,6 +127,11 @@ impl Arena {
 
     /// The first bytes of the list of bytes that the pointer at a word leads to, of a null none, as they stand. The
     /// message ends with what is left in them (`leaves`).
+    ///
+    /// # Conditions
+    ///
+    /// The pointer at the word leads to a tree of this message, no two of whose parts share a word (`Forest`). The
+    /// bytes are the first of the list of bytes that it leads to, of a null none (`IsFront`).
     pub fn front_mut(&mut self, at: usize, start: usize, count: usize) -> &mut [u8]
         requires forest { Forest (segment self.old) at }
         requires front { IsFront (segment self.old) at start count }
@@ -138,6 +147,11 @@ impl Arena {
 
     /// The first bytes of the list of bytes that the pointer at a word leads to, as they stand. The message ends with
     /// what is left in them (`leaves`).
+    ///
+    /// # Conditions
+    ///
+    /// The pointer at the word leads to a tree of this message, no two of whose parts share a word (`Forest`). `list`
+    /// is the list of bytes that it leads to, and `count` is no more than this has.
     pub fn bytes_mut(&mut self, at: usize, list: ListPlace, count: usize) -> &mut [u8]
         requires forest { Forest (segment self.old) at }
         requires there { shape_at (segment self.old) at ≡ ListIn list.start 2 list.count }
@@ -172,6 +186,11 @@ impl<'a> BlobBuilder<'a> {
     }
 
     /// The bytes, for as long as the builder would be there. The message ends with what is left in them (`leaves`).
+    ///
+    /// # Conditions
+    ///
+    /// A tree of the message stands at the builder's pointer. The bytes are the first of the list of bytes that it
+    /// leads to, of a null none (`IsBlob`).
     pub fn into_bytes(self) -> &'a mut [u8]
         requires { IsBlob self }
         ensures* lends { sem 𝓛 (LendsPart self.entry.arena self.entry.start result) }
@@ -212,6 +231,10 @@ impl<'a> PointerBuilder<'a> {
     ///
     /// Refused with `WrongPointerKind` for a struct, and with `WrongElementSize` for another list. Nothing has changed
     /// then.
+    ///
+    /// # Conditions
+    ///
+    /// A tree of the message stands at the pointer (`IsBuiltPointer`).
     pub fn get_data_mut(self) -> Result<BlobBuilder<'a>>
         requires forest { IsBuiltPointer self }
         ensures* rests { sem 𝓛 (BlobRests self.entry.arena result) }
@@ -236,6 +259,10 @@ impl<'a> PointerBuilder<'a> {
     ///
     /// Refused as `get_data_mut`, and with `TextNotTerminated` where the list is empty or its last byte is not zero.
     /// Nothing has changed then.
+    ///
+    /// # Conditions
+    ///
+    /// A tree of the message stands at the pointer (`IsBuiltPointer`).
     pub fn get_text_mut(self) -> Result<BlobBuilder<'a>>
         requires forest { IsBuiltPointer self }
         ensures* rests { sem 𝓛 (BlobRests self.entry.arena result) }
@@ -258,6 +285,10 @@ impl<'a> PointerBuilder<'a> {
     /// Replaces what stands here by a list of so many zero bytes.
     ///
     /// Refused with `SizePastFormat` for 2^29 bytes or more, and else with `OutOfMemory`. Nothing has changed then.
+    ///
+    /// # Conditions
+    ///
+    /// The pointer's word lies inside the message's segment.
     pub fn init_data(self, count: u32) -> Result<BlobBuilder<'a>>
         requires inside { self.at < word_count (segment self.arena.now) }
         ensures* rests { sem 𝓛 (BlobRests self.entry.arena result) }
@@ -286,6 +317,10 @@ impl<'a> PointerBuilder<'a> {
     ///
     /// Refused with `SizePastFormat` where these would be 2^29 bytes or more with that zero, and else with
     /// `OutOfMemory`. Nothing has changed then.
+    ///
+    /// # Conditions
+    ///
+    /// The pointer's word lies inside the message's segment.
     pub fn init_text(self, count: u32) -> Result<BlobBuilder<'a>>
         requires inside { self.at < word_count (segment self.arena.now) }
         ensures* rests { sem 𝓛 (BlobRests self.entry.arena result) }
@@ -313,6 +348,11 @@ impl<'a> PointerBuilder<'a> {
 
     /// The first bytes of the list of bytes that stands here, for as long as the builder would be there. The message
     /// ends with what is left in them (`leaves`).
+    ///
+    /// # Conditions
+    ///
+    /// A tree of the message stands at the pointer (`IsBuiltPointer`). `list` is the list of bytes that the pointer
+    /// leads to, and `count` is no more than it has.
     pub fn bytes_mut(self, list: ListPlace, count: usize) -> &'a mut [u8]
         requires forest { IsBuiltPointer self }
         requires there { shape_at (segment self.arena.now) self.at ≡ ListIn list.start 2 list.count }

@@ -17,6 +17,10 @@ impl Arena {
     /// The bytes of the list of bytes that the pointer at a word leads to, none for a null.
     ///
     /// Refused with `WrongPointerKind` for a struct, and with `WrongElementSize` for another list.
+    ///
+    /// # Conditions
+    ///
+    /// The pointer at the word leads to a tree of this message, no two of whose parts share a word (`Forest`).
     pub fn get_data(&self, at: usize) -> Result<&[u8]>
         requires { Forest (segment self.now) at }
         ensures { bytes_read result ≡ as_data (tree (segment self.now) at) }
@@ -41,6 +45,10 @@ impl Arena {
     /// The bytes of the text that the pointer at a word leads to, without the zero that ends it; none for a null.
     ///
     /// Refused as `get_data`, and with `TextNotTerminated` where the list is empty or its last byte is not zero.
+    ///
+    /// # Conditions
+    ///
+    /// The pointer at the word leads to a tree of this message, no two of whose parts share a word (`Forest`).
     pub fn get_text(&self, at: usize) -> Result<&[u8]>
         requires { Forest (segment self.now) at }
         ensures { bytes_read result ≡ as_text (tree (segment self.now) at) }

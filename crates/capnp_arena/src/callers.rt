@@ -20,6 +20,12 @@ use capnp_wire::size::StructSize;
 /// Makes a pointer of the struct that the pointer at a word leads to one to a new struct, and stores a number in that.
 ///
 /// Refused with `OutOfMemory`; then nothing has changed.
+///
+/// # Conditions
+///
+/// The pointer at the word leads to a tree of this message, no two of whose parts share a word (`Forest`). `place` is
+/// that of the struct that this pointer leads to, and `index` is below the number of its pointers. The number lies
+/// inside the data section of a struct of that size.
 pub fn init_and_set<T: PrimitiveElement>(
     arena: &mut Arena,
     at: usize,
@@ -52,6 +58,12 @@ pub fn init_and_set<T: PrimitiveElement>(
 }
 
 /// Stores a number in a struct of the list that the pointer at a word leads to. No memory is taken.
+///
+/// # Conditions
+///
+/// The pointer at the word leads to a tree of this message, no two of whose parts share a word (`Forest`). `list` is
+/// the list of structs that this pointer leads to, and `index` is below the number of its elements. The number lies
+/// inside the data section of each.
 pub fn set_element_number<T: PrimitiveElement>(
     arena: &mut Arena,
     at: usize,
@@ -88,6 +100,11 @@ pub fn set_element_number<T: PrimitiveElement>(
 /// Replaces what the struct that the pointer at a word leads to holds by what fits of another one.
 ///
 /// Refused as `copy_content_from`; then nothing has changed.
+///
+/// # Conditions
+///
+/// The pointer at the word leads to a tree of this message, no two of whose parts share a word (`Forest`). `place` is
+/// that of the struct that this pointer leads to.
 pub fn refill(arena: &mut Arena, at: usize, place: Place, source: &StructReader<'_>) -> Result<()>
     requires forest { Forest (segment arena.old) at }
     requires there { shape_at (segment arena.old) at ≡ StructIn place.start place.data_words place.pointers }

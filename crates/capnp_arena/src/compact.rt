@@ -79,6 +79,10 @@ impl Arena {
     /// given up. Places move, so none below the root is one any more.
     ///
     /// Refused with `OutOfMemory`, also where the message has more than 129 levels; then nothing has changed.
+    ///
+    /// # Conditions
+    ///
+    /// A tree stands at the message's root (`Forest`).
     pub fn compact(&mut self) -> Result<()>
         requires forest { Forest (segment self.old) 0 }
         ensures bytes { OnOk result (segment self.new ≡ encoding_of (tree (segment self.old) 0)) }

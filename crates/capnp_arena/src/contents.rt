@@ -123,6 +123,10 @@ impl Arena {
     ///
     /// Refused with `BadPointer`, `TooDeep` or `CapabilityPointer` where a pointer in the source can't be followed, by
     /// the first of these in preorder, also where it would not fit, and with `OutOfMemory`; then nothing has changed.
+    ///
+    /// # Conditions
+    ///
+    /// The place is that of a struct of this message (`Planted`).
     pub fn copy_content_from(&mut self, place: Place, source: &StructReader<'_>) -> Result<()>
         requires planted { Planted (segment self.old) (StructIn place.start place.data_words place.pointers) }
         ensures planted { OnOk result (Planted (segment self.new)

@@ -92,6 +92,10 @@ impl Arena {
     /// Refused with `BadPointer`, `TooDeep` or `CapabilityPointer` where a pointer in the source can't be followed, by
     /// the first of these in preorder, and with `OutOfMemory`, also where the segment would have 2^29 words; then
     /// nothing has changed.
+    ///
+    /// # Conditions
+    ///
+    /// The word lies inside the message's segment.
     pub fn copy_from(&mut self, at: usize, source: PointerReader<'_>) -> Result<()>
         requires inside { at < word_count (segment self.old) }
         ensures forest { OnOk result (Forest (segment self.new) at) }
@@ -109,6 +113,10 @@ impl Arena {
     /// Makes the pointer at a word one to a copy of a struct, with its data rounded up to whole words.
     ///
     /// Refused as `copy_from`.
+    ///
+    /// # Conditions
+    ///
+    /// The word lies inside the message's segment.
     pub fn set_struct(&mut self, at: usize, source: &StructReader<'_>) -> Result<()>
         requires inside { at < word_count (segment self.old) }
         ensures forest { OnOk result (Forest (segment self.new) at) }
@@ -127,6 +135,10 @@ impl Arena {
     /// A reader of a null stands on an empty list of the size that was asked, and that is what is copied.
     ///
     /// Refused as `copy_from`.
+    ///
+    /// # Conditions
+    ///
+    /// The word lies inside the message's segment.
     pub fn set_list(&mut self, at: usize, source: &ListReader<'_>) -> Result<()>
         requires inside { at < word_count (segment self.old) }
         ensures forest { OnOk result (Forest (segment self.new) at) }

@@ -1,6 +1,6 @@
 //! The words of the tree that a pointer leads to, which may be fewer than the segment has.
 ghost use Rattle.std.specs.Prelude.{cond, ◌*◌, ◌+◌, ◌/◌, ◌<◌, ◌==◌, ◌^◌, ◌≡◌, ◌≤◌, length};
-ghost use Rattle.capnp_wire.specs.Depth.{AreBelow, ElementsAreBelow, IsBelow, memory_depth};
+ghost use Rattle.capnp_wire.specs.Depth.{AreBelow, ElementsAreBelow, IsBelow, IsWithin, memory_depth};
 ghost use Rattle.capnp_wire.specs.Locate.{list_words, words_past_format};
 ghost use Rattle.capnp_wire.specs.Tree.{structs_from, trees_from};
 ghost use Rattle.capnp_wire.specs.Words.{words_below_all, words_of, words_of_all};
@@ -59,6 +59,17 @@ pub(crate) fn count_words(bytes: &[u8], w: usize) -> Option<u64>
     ensures { IsCounted result (words_of (tree bytes.now w)) (IsBelow memory_depth (tree bytes.now w)) }
 {
     count_below(bytes, w, MEMORY_DEPTH)
+}
+
+/// The words of all that the pointer at a word leads to, none where they are 2^29 or more, or where it is deeper than so
+/// many levels.
+pub(crate) fn count_within(bytes: &[u8], w: usize, levels: u8) -> Option<u64>
+    requires forest { Forest bytes.now w }
+    requires few { word_count bytes.now < words_past_format }
+    requires levels { levels < 255 }
+    ensures { IsCounted result (words_of (tree bytes.now w)) (IsWithin levels (tree bytes.now w)) }
+{
+    count_below(bytes, w, levels + 1)
 }
 
 /// The words of all that the pointer at a word leads to, where one level less than `depth` is left.

@@ -103,6 +103,10 @@ impl Arena {
     /// `BadPointer`, `TooDeep` or `CapabilityPointer` where a pointer in the default can't be followed, by the first of
     /// these in preorder; and else with `OutOfMemory`. Then nothing has changed. A struct that is large enough takes no
     /// memory and is never refused.
+    ///
+    /// # Conditions
+    ///
+    /// The pointer at the word leads to a tree of this message, no two of whose parts share a word (`Forest`).
     pub fn get_struct_or_default(
         &mut self,
         at: usize,
@@ -180,13 +184,17 @@ impl Arena {
     }
 
     /// The list that the pointer at a word leads to, as one of elements of a size: a null becomes a copy of the default
-    /// first, where there is one, or else is a list without elements, and stays null. `size` must not be
-    /// `InlineComposite`.
+    /// first, where there is one, or else is a list without elements, and stays null.
     ///
     /// Refused with `WrongPointerKind` for a struct, and with `WrongElementSize` for a list that is not read so, which
     /// of a null the default may be; of a null also with `BadPointer`, `TooDeep` or `CapabilityPointer` where a pointer
     /// in the default can't be followed, by the first of these in preorder; and else with `OutOfMemory`. Then nothing
     /// has changed. Where no default is copied no memory is taken.
+    ///
+    /// # Conditions
+    ///
+    /// The pointer at the word leads to a tree of this message, no two of whose parts share a word (`Forest`). `size`
+    /// is not `InlineComposite`.
     pub fn get_list_or_default(
         &mut self,
         at: usize,
@@ -268,6 +276,10 @@ impl Arena {
     /// also with `BadPointer`, `TooDeep` or `CapabilityPointer` where a pointer in the default can't be followed, by
     /// the first of these in preorder; and else with `OutOfMemory`. Then nothing has changed. A null without a default,
     /// and a list of structs that have at least the size, take no memory and are never refused.
+    ///
+    /// # Conditions
+    ///
+    /// The pointer at the word leads to a tree of this message, no two of whose parts share a word (`Forest`).
     #[inline(always)]
     pub fn get_struct_list_or_default(
         &mut self,

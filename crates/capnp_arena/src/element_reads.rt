@@ -49,6 +49,11 @@ impl Arena {
     }
 
     /// The number at `index`: of a struct, that at its start. Zero past the end.
+    ///
+    /// # Conditions
+    ///
+    /// The pointer at the word leads to a tree of this message, no two of whose parts share a word (`Forest`). `list`
+    /// is what that pointer leads to, of a null nothing (`list_shape`).
     #[inline(always)]
     pub fn get_data_element<T: PrimitiveElement>(
         &self,
@@ -83,6 +88,11 @@ impl Arena {
     }
 
     /// The bit at `index`; false where the elements are no bits, and past the end.
+    ///
+    /// # Conditions
+    ///
+    /// The pointer at the word leads to a tree of this message, no two of whose parts share a word (`Forest`). `list`
+    /// is what that pointer leads to, of a null nothing (`list_shape`).
     #[inline(always)]
     pub fn get_bool_element(&self, at: usize, list: ListTarget, index: u32) -> bool
         requires forest { Forest (segment self.now) at }

@@ -18,7 +18,12 @@ impl Arena {
     ghost use Rattle.capnp_arena.specs.Shape.{ListIn, StructIn, shape_at, word_count};
 
     /// The word of a pointer of the list that the pointer at a word leads to: of a list of structs, the first pointer
-    /// of the struct. There has to be a pointer at `index`.
+    /// of the struct.
+    ///
+    /// # Conditions
+    ///
+    /// The pointer at the word leads to a tree of this message, no two of whose parts share a word (`Forest`). That is
+    /// a list with a pointer at `index` (`HasPointer`).
     #[inline(always)]
     pub fn get_pointer_element(&self, at: usize, index: u32) -> usize
         requires forest { Forest (segment self.now) at }
@@ -46,7 +51,12 @@ impl Arena {
         }
     }
 
-    /// Where a struct of the list that the pointer at a word leads to stands. There has to be a struct at `index`.
+    /// Where a struct of the list that the pointer at a word leads to stands.
+    ///
+    /// # Conditions
+    ///
+    /// The pointer at the word leads to a tree of this message, no two of whose parts share a word (`Forest`). That is
+    /// a list with a struct at `index` (`HasStruct`).
     #[inline(always)]
     pub fn get_struct_at(&self, at: usize, index: u32) -> Place
         requires forest { Forest (segment self.now) at }
@@ -104,8 +114,13 @@ impl Arena {
         );
     }
 
-    /// Stores the number at `index` of the list that the pointer at a word leads to: in a struct, at its start. There
-    /// has to be a number of that width at `index`. No memory is taken.
+    /// Stores the number at `index` of the list that the pointer at a word leads to: in a struct, at its start. No
+    /// memory is taken.
+    ///
+    /// # Conditions
+    ///
+    /// The pointer at the word leads to a tree of this message, no two of whose parts share a word (`Forest`). That is
+    /// a list with a number of that width at `index` (`HasNumber`).
     pub fn set_data_element<T: PrimitiveElement>(&mut self, at: usize, index: u32, value: T)
         requires forest { Forest (segment self.old) at }
         requires number { HasNumber T.width (tree (segment self.old) at) index }
@@ -132,8 +147,12 @@ impl Arena {
         }
     }
 
-    /// Stores the bit at `index` of the list that the pointer at a word leads to. There has to be a bit at `index`.
-    /// No memory is taken.
+    /// Stores the bit at `index` of the list that the pointer at a word leads to. No memory is taken.
+    ///
+    /// # Conditions
+    ///
+    /// The pointer at the word leads to a tree of this message, no two of whose parts share a word (`Forest`). That is
+    /// a list with a bit at `index` (`HasBit`).
     pub fn set_bool_element(&mut self, at: usize, index: u32, value: bool)
         requires forest { Forest (segment self.old) at }
         requires bit { HasBit (tree (segment self.old) at) index }

@@ -117,6 +117,10 @@ impl Arena {
     ///
     /// Refused with `WrongPointerKind` for a list, and else with `OutOfMemory`; then nothing has changed. A struct that
     /// is large enough takes no memory, is never refused, and stays where it is.
+    ///
+    /// # Conditions
+    ///
+    /// The pointer at the word leads to a tree of this message, no two of whose parts share a word (`Forest`).
     #[inline(always)]
     pub fn get_struct(&mut self, at: usize, size: StructSize) -> Result<Place>
         requires forest { Forest (segment self.old) at }

@@ -27,6 +27,10 @@ use std::alloc::Global;
 /// Makes the root a struct with a text at a pointer.
 ///
 /// Refused as `init_struct` and `set_text`; then the root is as it was, or the struct without the text.
+///
+/// # Conditions
+///
+/// A tree stands at the message's root (`IsMessage`), and `index` is below the number of pointers of that size.
 pub fn build_struct(message: &mut Builder, size: StructSize, index: u16, text: &[u8]) -> Result<()>
     requires message { IsMessage message.old }
     requires pointer { index < size.pointers }
@@ -45,6 +49,11 @@ pub fn build_struct(message: &mut Builder, size: StructSize, index: u16, text: &
 /// Sets a text at a pointer of a struct, and then a number in it.
 ///
 /// Refused as `set_text`; then nothing has changed.
+///
+/// # Conditions
+///
+/// A struct of the message stands at the builder's place (`IsBuiltStruct`), and `index` is below the number of its
+/// pointers. Its data section has at least one word.
 pub fn fill_struct(built: &mut StructBuilder<'_>, index: u16, text: &[u8], value: u64) -> Result<()>
     requires planted { IsBuiltStruct built.old }
     requires pointer { index < built.old.place.pointers }
@@ -69,6 +78,10 @@ pub fn fill_struct(built: &mut StructBuilder<'_>, index: u16, text: &[u8], value
 /// Replaces what stands at a pointer by a text.
 ///
 /// Refused as `set_text`; then nothing has changed.
+///
+/// # Conditions
+///
+/// The pointer's word lies inside the message's segment.
 pub fn set_text_at(pointer: PointerBuilder<'_>, text: &[u8]) -> Result<()>
     requires inside { pointer.at < word_count (segment pointer.arena.now) }
     ensures forest { OnOk result (Forest (segment pointer.exit.0.now) pointer.entry.at) }
@@ -85,6 +98,11 @@ pub fn set_text_at(pointer: PointerBuilder<'_>, text: &[u8]) -> Result<()>
 /// Sets a text at a pointer of a struct, which lends it.
 ///
 /// Refused as `set_text`; then nothing has changed.
+///
+/// # Conditions
+///
+/// A struct of the message stands at the builder's place (`IsBuiltStruct`), and `index` is below the number of its
+/// pointers.
 pub fn set_text_field(built: &mut StructBuilder<'_>, index: u16, text: &[u8]) -> Result<()>
     requires planted { IsBuiltStruct built.old }
     requires pointer { index < built.old.place.pointers }
@@ -102,6 +120,11 @@ pub fn set_text_field(built: &mut StructBuilder<'_>, index: u16, text: &[u8]) ->
 /// Sets a text at a pointer of a list.
 ///
 /// Refused as `set_text`; then nothing has changed.
+///
+/// # Conditions
+///
+/// A tree of the message stands at the list's pointer (`Forest`), and is a list with a pointer at `index`
+/// (`HasPointer`).
 pub fn set_text_element(list: &mut ListBuilder<'_>, index: u32, text: &[u8]) -> Result<()>
     requires forest { Forest (segment list.old.arena.now) list.old.at }
     requires pointer { HasPointer (built_list_tree list.old) index }
@@ -123,6 +146,11 @@ pub fn set_text_element(list: &mut ListBuilder<'_>, index: u32, text: &[u8]) -> 
 /// Makes the root a list of structs with a text at a pointer of one of them.
 ///
 /// Refused as `init_struct_list` and `set_text`; then the root is as it was, or the list without the text.
+///
+/// # Conditions
+///
+/// A tree stands at the message's root (`IsMessage`). `element` is below `count`, and `index` below the number of
+/// pointers of that size.
 pub fn build_list(
     message: &mut Builder,
     count: u32,
@@ -154,6 +182,10 @@ pub fn build_list(
 /// The bytes of a message whose root is a struct with a text.
 ///
 /// Refused as `build_struct` and `write_message`.
+///
+/// # Conditions
+///
+/// `index` is below the number of pointers of that size.
 pub fn write_struct(alloc: Global, size: StructSize, index: u16, text: &[u8]) -> Result<Vec<u8>>
     requires pointer { index < size.pointers }
     ensures bytes { IfOk result (λ v. v.items
@@ -168,6 +200,10 @@ pub fn write_struct(alloc: Global, size: StructSize, index: u16, text: &[u8]) ->
 /// Makes the root data of so many zero bytes, of which the first is another one.
 ///
 /// Refused as `init_list`; then nothing has changed.
+///
+/// # Conditions
+///
+/// A tree stands at the message's root (`IsMessage`), and `count` is not 0.
 pub fn build_data(message: &mut Builder, count: u32, first: u8) -> Result<()>
     requires message { IsMessage message.old }
     requires first { 0 < count }
@@ -190,6 +226,10 @@ pub fn build_data(message: &mut Builder, count: u32, first: u8) -> Result<()>
 /// Makes by builders the root data of so many zero bytes, of which the first is another one.
 ///
 /// Refused as `init_data`; then nothing has changed.
+///
+/// # Conditions
+///
+/// A tree stands at the message's root (`IsMessage`), and `count` is not 0.
 pub fn build_data_by_builders(message: &mut Builder, count: u32, first: u8) -> Result<()>
     requires message { IsMessage message.old }
     requires first { 0 < count }
@@ -205,6 +245,11 @@ pub fn build_data_by_builders(message: &mut Builder, count: u32, first: u8) -> R
 }
 
 /// Writes the first byte of the data at the root. No memory is taken.
+///
+/// # Conditions
+///
+/// A tree stands at the message's root (`IsMessage`). `list` is the list of bytes that the root leads to, and has at
+/// least one.
 pub fn set_first_byte(message: &mut Builder, list: ListPlace, first: u8)
     requires message { IsMessage message.old }
     requires there { shape_at (segment message.old) 0 ≡ ListIn list.start 2 list.count }

@@ -34,6 +34,10 @@ impl Arena {
     ghost use Rattle.capnp_arena.specs.Shape.{StructIn, word_count};
 
     /// The message's root pointer.
+    ///
+    /// # Conditions
+    ///
+    /// A tree stands at the message's root (`IsMessage`).
     #[inline(always)]
     pub fn root(&mut self) -> PointerBuilder<'_>
         requires message { IsMessage self.old }
@@ -82,7 +86,11 @@ impl Arena {
         }
     }
 
-    /// The pointer at `index` of a struct, which has to be below the number of pointers.
+    /// The pointer at `index` of a struct.
+    ///
+    /// # Conditions
+    ///
+    /// The place is that of a struct of this message (`Planted`), and `index` is below the number of its pointers.
     #[inline(always)]
     pub fn pointer_field(&mut self, place: Place, index: u16) -> PointerBuilder<'_>
         requires planted { Planted (segment self.old) (StructIn place.start place.data_words place.pointers) }
@@ -101,7 +109,12 @@ impl Arena {
         PointerBuilder { arena: self, at }
     }
 
-    /// The struct at `index` of the list of structs that the pointer at a word leads to. There has to be one.
+    /// The struct at `index` of the list of structs that the pointer at a word leads to.
+    ///
+    /// # Conditions
+    ///
+    /// The pointer at the word leads to a tree of this message, no two of whose parts share a word (`Forest`). That is
+    /// a list with a struct at `index` (`HasStruct`).
     #[inline(always)]
     pub fn struct_element(&mut self, at: usize, index: u32) -> StructBuilder<'_>
         requires forest { Forest (segment self.old) at }
@@ -122,7 +135,12 @@ impl Arena {
     }
 
     /// The pointer at `index` of the list that the pointer at a word leads to: of a list of structs, the first of the
-    /// struct. There has to be one.
+    /// struct.
+    ///
+    /// # Conditions
+    ///
+    /// The pointer at the word leads to a tree of this message, no two of whose parts share a word (`Forest`). That is
+    /// a list with a pointer at `index` (`HasPointer`).
     #[inline(always)]
     pub fn pointer_element(&mut self, at: usize, index: u32) -> PointerBuilder<'_>
         requires forest { Forest (segment self.old) at }
@@ -144,6 +162,11 @@ impl Arena {
 /// A caller: a struct of at least a size, and a number in it.
 ///
 /// Refused as `get_struct`; then nothing has changed.
+///
+/// # Conditions
+///
+/// The pointer at the word leads to a tree of this message, no two of whose parts share a word (`Forest`). The number
+/// lies inside the data section of a struct of that size.
 pub fn get_and_set<T: PrimitiveElement>(
     arena: &mut Arena,
     at: usize,

@@ -54,6 +54,11 @@ impl<'a> ListBuilder<'a> {
 
     /// A reader of the list, with 64 levels. What it leads to is cut off past 129 levels, which only walks of a
     /// whole tree can see.
+    ///
+    /// # Conditions
+    ///
+    /// A tree of the message stands at the list's pointer (`Forest`), and the list is what that leads to, of a null
+    /// nothing (`list_shape`).
     #[inline(always)]
     pub fn as_reader(&self) -> ListReader<'_>
         requires forest { Forest (segment self.now.arena.now) self.now.at }
@@ -70,6 +75,11 @@ impl<'a> ListBuilder<'a> {
 
     /// A reader of the list for as long as the builder would be there, as `as_reader`. The message stays as it is; only
     /// `Arena::into_list_reader` says so to a caller.
+    ///
+    /// # Conditions
+    ///
+    /// A tree of the message stands at the list's pointer (`Forest`), and the list is what that leads to, of a null
+    /// nothing (`list_shape`).
     #[inline(always)]
     pub fn into_reader(self) -> ListReader<'a>
         requires forest { Forest (segment self.arena.now) self.at }
@@ -86,6 +96,11 @@ impl<'a> ListBuilder<'a> {
     }
 
     /// How many elements there are.
+    ///
+    /// # Conditions
+    ///
+    /// A tree of the message stands at the list's pointer (`Forest`), and the list is what that leads to, of a null
+    /// nothing (`list_shape`).
     #[inline(always)]
     pub fn len(&self) -> u32
         requires forest { Forest (segment self.now.arena.now) self.now.at }
@@ -96,6 +111,11 @@ impl<'a> ListBuilder<'a> {
     }
 
     /// Whether there is no element.
+    ///
+    /// # Conditions
+    ///
+    /// A tree of the message stands at the list's pointer (`Forest`), and the list is what that leads to, of a null
+    /// nothing (`list_shape`).
     #[inline(always)]
     pub fn is_empty(&self) -> bool
         requires forest { Forest (segment self.now.arena.now) self.now.at }
@@ -107,6 +127,11 @@ impl<'a> ListBuilder<'a> {
 
     /// The size of the elements, as the list has it: of one that is not there yet, the size that was asked (encoding,
     /// "Lists").
+    ///
+    /// # Conditions
+    ///
+    /// A tree of the message stands at the list's pointer (`Forest`), and the list is what that leads to, of a null
+    /// nothing (`list_shape`).
     #[inline(always)]
     pub fn get_element_size(&self) -> ElementSize
         requires forest { Forest (segment self.now.arena.now) self.now.at }
@@ -117,6 +142,11 @@ impl<'a> ListBuilder<'a> {
     }
 
     /// The bit at `index`; false where the elements are no bits, and past the end.
+    ///
+    /// # Conditions
+    ///
+    /// A tree of the message stands at the list's pointer (`Forest`), and the list is what that leads to, of a null
+    /// nothing (`list_shape`).
     #[inline(always)]
     pub fn get_bool_element(&self, index: u32) -> bool
         requires forest { Forest (segment self.now.arena.now) self.now.at }
@@ -126,7 +156,11 @@ impl<'a> ListBuilder<'a> {
         self.arena.get_bool_element(self.at, self.list, index)
     }
 
-    /// Stores the bit at `index`. There has to be a bit at `index`. No memory is taken.
+    /// Stores the bit at `index`. No memory is taken.
+    ///
+    /// # Conditions
+    ///
+    /// A tree of the message stands at the list's pointer (`Forest`), and is a list with a bit at `index` (`HasBit`).
     #[inline(always)]
     pub fn set_bool_element(&mut self, index: u32, value: bool)
         requires forest { Forest (segment self.old.arena.now) self.old.at }
@@ -142,6 +176,11 @@ impl<'a> ListBuilder<'a> {
     }
 
     /// The number at `index`: of a struct, that at its start. Zero past the end.
+    ///
+    /// # Conditions
+    ///
+    /// A tree of the message stands at the list's pointer (`Forest`), and the list is what that leads to, of a null
+    /// nothing (`list_shape`).
     #[inline(always)]
     pub fn get_data_element<T: PrimitiveElement>(&self, index: u32) -> T
         requires forest { Forest (segment self.now.arena.now) self.now.at }
@@ -151,8 +190,12 @@ impl<'a> ListBuilder<'a> {
         self.arena.get_data_element(self.at, self.list, index)
     }
 
-    /// Stores the number at `index`: in a struct, at its start. There has to be a number of that width at `index`.
-    /// No memory is taken.
+    /// Stores the number at `index`: in a struct, at its start. No memory is taken.
+    ///
+    /// # Conditions
+    ///
+    /// A tree of the message stands at the list's pointer (`Forest`), and is a list with a number of that width at
+    /// `index` (`HasNumber`).
     #[inline(always)]
     pub fn set_data_element<T: PrimitiveElement>(&mut self, index: u32, value: T)
         requires forest { Forest (segment self.old.arena.now) self.old.at }
@@ -167,7 +210,12 @@ impl<'a> ListBuilder<'a> {
         self.arena.set_data_element(self.at, index, value);
     }
 
-    /// The struct at `index` of a list of structs. There has to be a struct at `index`.
+    /// The struct at `index` of a list of structs.
+    ///
+    /// # Conditions
+    ///
+    /// A tree of the message stands at the list's pointer (`Forest`), and is a list with a struct at `index`
+    /// (`HasStruct`).
     #[inline(always)]
     pub fn get_struct_element(self, index: u32) -> StructBuilder<'a>
         requires forest { Forest (segment self.arena.now) self.at }
@@ -188,6 +236,11 @@ impl<'a> ListBuilder<'a> {
     }
 
     /// The struct at `index` for a shorter time. What is left there is what this builder has then.
+    ///
+    /// # Conditions
+    ///
+    /// A tree of the message stands at the list's pointer (`Forest`), and is a list with a struct at `index`
+    /// (`HasStruct`).
     #[inline(always)]
     pub fn struct_element_mut(&mut self, index: u32) -> StructBuilder<'_>
         requires forest { Forest (segment self.old.arena.now) self.old.at }
@@ -207,7 +260,12 @@ impl<'a> ListBuilder<'a> {
         StructBuilder { arena, place }
     }
 
-    /// The pointer at `index`: of a list of structs, the first of the struct. There has to be a pointer at `index`.
+    /// The pointer at `index`: of a list of structs, the first of the struct.
+    ///
+    /// # Conditions
+    ///
+    /// A tree of the message stands at the list's pointer (`Forest`), and is a list with a pointer at `index`
+    /// (`HasPointer`).
     #[inline(always)]
     pub fn get_pointer_element(self, index: u32) -> PointerBuilder<'a>
         requires forest { Forest (segment self.arena.now) self.at }
@@ -227,6 +285,11 @@ impl<'a> ListBuilder<'a> {
     }
 
     /// The pointer at `index` for a shorter time. What is left there is what this builder has then.
+    ///
+    /// # Conditions
+    ///
+    /// A tree of the message stands at the list's pointer (`Forest`), and is a list with a pointer at `index`
+    /// (`HasPointer`).
     #[inline(always)]
     pub fn pointer_element_mut(&mut self, index: u32) -> PointerBuilder<'_>
         requires forest { Forest (segment self.old.arena.now) self.old.at }

@@ -20,6 +20,10 @@ pub enum ListTarget {
 }
 
 /// The element size of a number.
+///
+/// # Conditions
+///
+/// `number` is below 7.
 #[inline(always)]
 pub fn get_element_size(number: u8) -> ElementSize
     requires { number < 7 }
@@ -64,9 +68,14 @@ impl Arena {
     ghost use Rattle.capnp_arena.specs.Shape.{CompositeIn, StructIn, shape_at};
 
     /// The list that the pointer at a word leads to, as one of elements of a size. A null is a list without elements,
-    /// and stays null. `size` must not be `InlineComposite`.
+    /// and stays null.
     ///
     /// Refused with `WrongPointerKind` for a struct, and with `WrongElementSize` for a list that is not read so.
+    ///
+    /// # Conditions
+    ///
+    /// The pointer at the word leads to a tree of this message, no two of whose parts share a word (`Forest`). `size`
+    /// is not `InlineComposite`.
     pub fn get_list(&self, at: usize, size: ElementSize) -> Result<ListTarget>
         requires forest { Forest (segment self.now) at }
         requires simple { size ≢ ElementSize.InlineComposite }
@@ -115,6 +124,11 @@ impl Arena {
     }
 
     /// How many elements a list has.
+    ///
+    /// # Conditions
+    ///
+    /// The pointer at the word leads to a tree of this message, no two of whose parts share a word (`Forest`). `list`
+    /// is what that pointer leads to, of a null nothing (`list_shape`).
     #[inline(always)]
     pub fn count_elements(&self, at: usize, list: ListTarget) -> u32
         requires forest { Forest (segment self.now) at }
@@ -129,6 +143,10 @@ impl Arena {
     }
 
     /// How many elements the list has that the pointer at a word leads to; what is no list has none.
+    ///
+    /// # Conditions
+    ///
+    /// The pointer at the word leads to a tree of this message, no two of whose parts share a word (`Forest`).
     #[inline(always)]
     pub fn get_length(&self, at: usize) -> u32
         requires { Forest (segment self.now) at }
@@ -143,6 +161,11 @@ impl Arena {
     }
 
     /// The size of a list's elements, as the list has it: of a null, the size that was asked.
+    ///
+    /// # Conditions
+    ///
+    /// The pointer at the word leads to a tree of this message, no two of whose parts share a word (`Forest`). `list`
+    /// is what that pointer leads to, of a null nothing (`list_shape`).
     pub fn get_element_size(&self, at: usize, list: ListTarget) -> ElementSize
         requires forest { Forest (segment self.now) at }
         requires there { shape_at (segment self.now) at ≡ list_shape list }
@@ -165,6 +188,11 @@ impl Arena {
     }
 
     /// Where a struct of a list of structs stands.
+    ///
+    /// # Conditions
+    ///
+    /// The pointer at the word leads to a tree of this message, no two of whose parts share a word (`Forest`). `list`
+    /// is the list of structs that it leads to, and `index` is below the number of its elements.
     #[inline(always)]
     pub fn get_struct_element(&self, at: usize, list: StructsPlace, index: u32) -> Place
         requires forest { Forest (segment self.now) at }

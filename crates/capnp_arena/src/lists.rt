@@ -51,6 +51,10 @@ impl Arena {
     ghost use Rattle.capnp_arena.specs.Shape.{ListIn, StructIn, shape_at};
 
     /// Stores a bit in the data of a struct, at an offset in bits. No memory is taken.
+    ///
+    /// # Conditions
+    ///
+    /// The place is that of a struct of this message (`Planted`), and the bit lies inside its data section.
     pub fn set_bool(&mut self, place: Place, offset: u32, value: bool)
         requires planted { Planted (segment self.old) (StructIn place.start place.data_words place.pointers) }
         requires inside { offset < 64 * place.data_words }
@@ -72,6 +76,12 @@ impl Arena {
     }
 
     /// Stores a number in the list that the pointer at a word leads to. No memory is taken.
+    ///
+    /// # Conditions
+    ///
+    /// The pointer at the word leads to a tree of this message, no two of whose parts share a word (`Forest`). `list`
+    /// is the list that it leads to, and `index` is below the number of its elements. These have the number's width,
+    /// which is not 0.
     pub fn set_list_number<T: PrimitiveElement>(
         &mut self,
         at: usize,

@@ -13,7 +13,7 @@ ghost use Rattle.capnp_arena.specs.Shape.{word_count};
 use crate::append::{Appended, append_half, append_word};
 use crate::arena::Arena;
 use crate::compact::append_anew;
-use crate::count::count_words;
+use crate::count::{count_within, count_words};
 use crate::in_order::is_in_order;
 use crate::sending::put_whole;
 use crate::spell::put_half;
@@ -103,8 +103,8 @@ fn put_made<W: Sink>(alloc: Global, sink: &mut W, bytes: &[u8]) -> Result<()>
 pub type Builder = Arena;
 
 impl Arena {
-    ghost use Rattle.std.specs.Prelude.{IsOk};
-    ghost use Rattle.capnp_wire.specs.Depth.{IsBelow, memory_depth};
+    ghost use Rattle.std.specs.Prelude.{IsOk, false, true};
+    ghost use Rattle.capnp_wire.specs.Depth.{IsBelow, IsShallow, memory_depth};
     ghost use Rattle.capnp_wire.specs.Message.{IsReadAs};
     ghost use Rattle.capnp_arena.specs.Message.{IsMessage, message_tree};
     ghost use Rattle.capnp_arena.specs.Segment.{segment};
@@ -113,6 +113,10 @@ impl Arena {
     /// leads to, the tag of a composite list with them. Takes no memory.
     ///
     /// Refused with `OutOfMemory` exactly where the message has more than 129 levels.
+    ///
+    /// # Conditions
+    ///
+    /// A tree stands at the message's root (`IsMessage`).
     pub fn size_in_words(&self) -> Result<u64>
         requires message { IsMessage self.now }
         ensures words { IfOk result (λ words. words ≡ suc (words_of (message_tree self.now))) }
@@ -127,10 +131,31 @@ impl Arena {
         Ok(words + 1)
     }
 
+    /// Whether a reader reads the message in full that has 64 levels, as a message's reader has them. What lies deeper it
+    /// refuses with `TooDeep`. Takes no memory, and the time of `size_in_words`.
+    ///
+    /// # Conditions
+    ///
+    /// A tree stands at the message's root (`IsMessage`).
+    pub fn is_shallow(&self) -> bool
+        requires message { IsMessage self.now }
+        ensures shallow { result ≡ true → IsShallow (message_tree self.now) }
+        ensures deep { result ≡ false → IsShallow (message_tree self.now) → ⊥ }
+    {
+        let Some(_words) = count_within(self.bytes.as_slice(), 0, 64) else {
+            return false;
+        };
+        true
+    }
+
     /// The bytes of the message in a stream: one segment, with what the root leads to and nothing else. The message
     /// takes its memory once.
     ///
     /// Refused with `OutOfMemory`, also where the message has more than 129 levels. None in memory has 2^29 words.
+    ///
+    /// # Conditions
+    ///
+    /// A tree stands at the message's root (`Forest`).
     pub fn write_message(&self) -> Result<Vec<u8>>
         requires forest { Forest (segment self.now) 0 }
         ensures bytes { IfOk result (λ v. v.items ≡ message_of (tree (segment self.now) 0)) }
@@ -152,6 +177,10 @@ impl Arena {
     ///
     /// Refused as `write_message`, and then nothing was written; and with `WriteFailed` where a call of the sink
     /// failed, and then a proper beginning of the bytes was written.
+    ///
+    /// # Conditions
+    ///
+    /// A tree stands at the message's root (`IsMessage`).
     pub fn write_message_to<W: Sink>(&self, sink: &mut W) -> Result<()>
         requires message { IsMessage self.now }
         ensures written { OnOk result (IsWritten (message_tree self.now) (W.written sink.old) (W.written sink.new)) }

@@ -57,6 +57,10 @@ impl<'a> PointerBuilder<'a> {
 
     /// A reader of the pointer, with 64 levels. Its tree is cut off past 129 levels, which only walks of a whole
     /// tree can see.
+    ///
+    /// # Conditions
+    ///
+    /// A tree of the message stands at the pointer (`IsBuiltPointer`).
     #[inline(always)]
     pub fn as_reader(&self) -> PointerReader<'_>
         requires forest { IsBuiltPointer self.now }
@@ -70,6 +74,10 @@ impl<'a> PointerBuilder<'a> {
 
     /// A reader of the pointer for as long as the builder would be there, as `as_reader`. The message stays as it is;
     /// only `Arena::into_pointer_reader` says so to a caller.
+    ///
+    /// # Conditions
+    ///
+    /// A tree of the message stands at the pointer (`IsBuiltPointer`).
     #[inline(always)]
     pub fn into_reader(self) -> PointerReader<'a>
         requires forest { IsBuiltPointer self }
@@ -83,6 +91,10 @@ impl<'a> PointerBuilder<'a> {
     }
 
     /// Whether the pointer is null.
+    ///
+    /// # Conditions
+    ///
+    /// A tree of the message stands at the pointer (`IsBuiltPointer`).
     #[inline(always)]
     pub fn is_null(&self) -> bool
         requires forest { IsBuiltPointer self.now }
@@ -92,6 +104,10 @@ impl<'a> PointerBuilder<'a> {
     }
 
     /// Whether the pointer leads to a struct.
+    ///
+    /// # Conditions
+    ///
+    /// A tree of the message stands at the pointer (`IsBuiltPointer`).
     #[inline(always)]
     pub fn is_struct(&self) -> bool
         requires forest { IsBuiltPointer self.now }
@@ -101,6 +117,10 @@ impl<'a> PointerBuilder<'a> {
     }
 
     /// Whether the pointer leads to a list.
+    ///
+    /// # Conditions
+    ///
+    /// A tree of the message stands at the pointer (`IsBuiltPointer`).
     #[inline(always)]
     pub fn is_list(&self) -> bool
         requires forest { IsBuiltPointer self.now }
@@ -110,6 +130,10 @@ impl<'a> PointerBuilder<'a> {
     }
 
     /// Makes the pointer null. What it led to stays where it was; no memory is taken.
+    ///
+    /// # Conditions
+    ///
+    /// The pointer's word lies inside the message's segment.
     #[inline(always)]
     pub fn clear(&mut self)
         requires inside { self.old.at < word_count (segment self.old.arena.now) }
@@ -128,6 +152,10 @@ impl<'a> PointerBuilder<'a> {
     ///
     /// Refused with `WrongPointerKind` for a list, and else with `OutOfMemory`; then nothing has changed. A struct that
     /// is large enough takes no memory and is never refused.
+    ///
+    /// # Conditions
+    ///
+    /// A tree of the message stands at the pointer (`Forest`).
     #[tactic(auto, using(crate::specs::Facts::Laws::struct_planted))]
     #[inline(always)]
     pub fn get_struct(self, size: StructSize) -> Result<StructBuilder<'a>>
@@ -154,10 +182,13 @@ impl<'a> PointerBuilder<'a> {
     }
 
     /// The list that stands here, as one of elements of a size. A null is a list without elements, and stays null.
-    /// `size` must not be `InlineComposite`.
     ///
     /// Refused with `WrongPointerKind` for a struct, and with `WrongElementSize` for a list that is not read so; then
     /// nothing has changed. No memory is taken.
+    ///
+    /// # Conditions
+    ///
+    /// A tree of the message stands at the pointer (`IsBuiltPointer`). `size` is not `InlineComposite`.
     #[inline(always)]
     pub fn get_list(self, size: ElementSize) -> Result<ListBuilder<'a>>
         requires forest { IsBuiltPointer self }
@@ -183,6 +214,10 @@ impl<'a> PointerBuilder<'a> {
     /// Refused with `WrongPointerKind` for a struct, with `WrongElementSize` for a list of bits, with `SizePastFormat`
     /// where the structs would take 2^29 words or more, and else with `OutOfMemory`; then nothing has changed. A null,
     /// and a list of structs that have at least the size, take no memory and are never refused.
+    ///
+    /// # Conditions
+    ///
+    /// A tree of the message stands at the pointer (`IsBuiltPointer`).
     #[inline(always)]
     pub fn get_struct_list(self, size: StructSize) -> Result<ListBuilder<'a>>
         requires forest { IsBuiltPointer self }
@@ -210,6 +245,10 @@ impl<'a> PointerBuilder<'a> {
     /// Replaces what stands here by a struct of a size, all zero and null.
     ///
     /// Refused with `OutOfMemory`; then nothing has changed.
+    ///
+    /// # Conditions
+    ///
+    /// The pointer's word lies inside the message's segment.
     #[tactic(auto, using(crate::specs::Facts::Laws::struct_planted))]
     #[inline(always)]
     pub fn init_struct(self, size: StructSize) -> Result<StructBuilder<'a>>
@@ -231,10 +270,13 @@ impl<'a> PointerBuilder<'a> {
         Ok(StructBuilder { arena, place })
     }
 
-    /// Replaces what stands here by a list of so many elements of a size, all zero, false or null. `size` must not be
-    /// `InlineComposite`.
+    /// Replaces what stands here by a list of so many elements of a size, all zero, false or null.
     ///
     /// Refused with `SizePastFormat` for 2^29 elements or more, and else with `OutOfMemory`; then nothing has changed.
+    ///
+    /// # Conditions
+    ///
+    /// The pointer's word lies inside the message's segment. `size` is not `InlineComposite`.
     #[inline(always)]
     pub fn init_list(self, size: ElementSize, count: u32) -> Result<ListBuilder<'a>>
         requires inside { self.at < word_count (segment self.arena.now) }
@@ -260,6 +302,10 @@ impl<'a> PointerBuilder<'a> {
     ///
     /// Refused with `SizePastFormat` for 2^29 elements or more, or where they take 2^29 words or more, and else with
     /// `OutOfMemory`; then nothing has changed.
+    ///
+    /// # Conditions
+    ///
+    /// The pointer's word lies inside the message's segment.
     #[inline(always)]
     pub fn init_struct_list(self, count: u32, size: StructSize) -> Result<ListBuilder<'a>>
         requires inside { self.at < word_count (segment self.arena.now) }
@@ -293,6 +339,10 @@ impl<'a> PointerBuilder<'a> {
     /// `BadPointer`, `TooDeep` or `CapabilityPointer` where a pointer in the default can't be followed, by the first of
     /// these in preorder; and else with `OutOfMemory`. Then nothing has changed. A struct that is large enough takes no
     /// memory and is never refused.
+    ///
+    /// # Conditions
+    ///
+    /// A tree of the message stands at the pointer (`IsBuiltPointer`).
     #[tactic(auto, using(crate::specs::Facts::Laws::struct_planted))]
     #[inline(always)]
     pub fn get_struct_or_default(
@@ -325,12 +375,16 @@ impl<'a> PointerBuilder<'a> {
     }
 
     /// The list that stands here, as one of elements of a size: a null becomes a copy of the default first, where there
-    /// is one, or else is a list without elements, and stays null. `size` must not be `InlineComposite`.
+    /// is one, or else is a list without elements, and stays null.
     ///
     /// Refused with `WrongPointerKind` for a struct, and with `WrongElementSize` for a list that is not read so, which
     /// of a null the default may be; of a null also with `BadPointer`, `TooDeep` or `CapabilityPointer` where a pointer
     /// in the default can't be followed, by the first of these in preorder; and else with `OutOfMemory`. Then nothing
     /// has changed. Where no default is copied no memory is taken.
+    ///
+    /// # Conditions
+    ///
+    /// A tree of the message stands at the pointer (`IsBuiltPointer`). `size` is not `InlineComposite`.
     #[inline(always)]
     pub fn get_list_or_default(
         self,
@@ -373,6 +427,10 @@ impl<'a> PointerBuilder<'a> {
     /// also with `BadPointer`, `TooDeep` or `CapabilityPointer` where a pointer in the default can't be followed, by
     /// the first of these in preorder; and else with `OutOfMemory`. Then nothing has changed. A null without a default,
     /// and a list of structs that have at least the size, take no memory and are never refused.
+    ///
+    /// # Conditions
+    ///
+    /// A tree of the message stands at the pointer (`IsBuiltPointer`).
     #[inline(always)]
     pub fn get_struct_list_or_default(
         self,
@@ -410,6 +468,10 @@ impl<'a> PointerBuilder<'a> {
     /// The bytes of the data that stands here, none for a null.
     ///
     /// Refused with `WrongPointerKind` for a struct, and with `WrongElementSize` for another list.
+    ///
+    /// # Conditions
+    ///
+    /// A tree of the message stands at the pointer (`IsBuiltPointer`).
     #[inline(always)]
     pub fn get_data(&self) -> Result<&[u8]>
         requires forest { IsBuiltPointer self.now }
@@ -421,6 +483,10 @@ impl<'a> PointerBuilder<'a> {
     /// The bytes of the text that stands here, without the zero that ends it; none for a null.
     ///
     /// Refused as `get_data`, and with `TextNotTerminated` where the list is empty or its last byte is not zero.
+    ///
+    /// # Conditions
+    ///
+    /// A tree of the message stands at the pointer (`IsBuiltPointer`).
     #[inline(always)]
     pub fn get_text(&self) -> Result<&[u8]>
         requires forest { IsBuiltPointer self.now }
@@ -433,6 +499,10 @@ impl<'a> PointerBuilder<'a> {
     ///
     /// Refused with `SizePastFormat` where these would be 2^29 bytes or more, and else with `OutOfMemory`; then nothing
     /// has changed.
+    ///
+    /// # Conditions
+    ///
+    /// The pointer's word lies inside the message's segment.
     #[inline(always)]
     pub fn set_text(&mut self, text: &[u8]) -> Result<()>
         requires inside { self.old.at < word_count (segment self.old.arena.now) }
@@ -451,6 +521,10 @@ impl<'a> PointerBuilder<'a> {
     /// Replaces what stands here by a list of these bytes.
     ///
     /// Refused with `SizePastFormat` for 2^29 bytes or more, and else with `OutOfMemory`; then nothing has changed.
+    ///
+    /// # Conditions
+    ///
+    /// The pointer's word lies inside the message's segment.
     #[inline(always)]
     pub fn set_data(&mut self, bytes: &[u8]) -> Result<()>
         requires inside { self.old.at < word_count (segment self.old.arena.now) }
@@ -470,6 +544,10 @@ impl<'a> PointerBuilder<'a> {
     ///
     /// Refused with `BadPointer`, `TooDeep` or `CapabilityPointer` where a pointer in the source can't be followed, by
     /// the first of these in preorder, and with `OutOfMemory`; then nothing has changed.
+    ///
+    /// # Conditions
+    ///
+    /// The pointer's word lies inside the message's segment.
     #[inline(always)]
     pub fn copy_from(&mut self, source: PointerReader<'_>) -> Result<()>
         requires inside { self.old.at < word_count (segment self.old.arena.now) }
@@ -488,6 +566,10 @@ impl<'a> PointerBuilder<'a> {
     /// Replaces what stands here by a copy of a struct, with its data rounded up to whole words.
     ///
     /// Refused as `copy_from`.
+    ///
+    /// # Conditions
+    ///
+    /// The pointer's word lies inside the message's segment.
     #[inline(always)]
     pub fn set_struct(&mut self, source: &StructReader<'_>) -> Result<()>
         requires inside { self.old.at < word_count (segment self.old.arena.now) }
@@ -507,6 +589,10 @@ impl<'a> PointerBuilder<'a> {
     /// reader of a null stands on an empty list of the size that was asked, and that is what is copied.
     ///
     /// Refused as `copy_from`.
+    ///
+    /// # Conditions
+    ///
+    /// The pointer's word lies inside the message's segment.
     #[inline(always)]
     pub fn set_list(&mut self, source: &ListReader<'_>) -> Result<()>
         requires inside { self.old.at < word_count (segment self.old.arena.now) }

@@ -37,6 +37,10 @@ impl Arena {
 
     /// A reader of the pointer at a word, with 64 levels. Its tree is cut off past 129 levels, which only walks of a
     /// whole tree can see.
+    ///
+    /// # Conditions
+    ///
+    /// The pointer at the word leads to a tree of this message, no two of whose parts share a word (`Forest`).
     pub fn get_pointer_reader(&self, at: usize) -> PointerReader<'_>
         requires forest { Forest (segment self.now) at }
         ensures read { tree_of result ≡ tree_below memory_depth (segment self.now ∷ []) (segment self.now) at }
@@ -60,6 +64,10 @@ impl Arena {
     }
 
     /// A reader of whatever stands at a word for as long as the message is lent, which stays as it is.
+    ///
+    /// # Conditions
+    ///
+    /// The pointer at the word leads to a tree of this message, no two of whose parts share a word (`Forest`).
     pub fn into_pointer_reader(&mut self, at: usize) -> PointerReader<'_>
         requires forest { Forest (segment self.old) at }
         ensures* ends { sem 𝓛 (EndsUnchanged self.entry) }
@@ -71,6 +79,10 @@ impl Arena {
     }
 
     /// A reader of a struct, with 64 levels. What its pointers lead to is cut off as by `get_pointer_reader`.
+    ///
+    /// # Conditions
+    ///
+    /// The place is that of a struct of this message (`Planted`).
     pub fn get_struct_reader(&self, place: Place) -> StructReader<'_>
         requires planted { Planted (segment self.now) (StructIn place.start place.data_words place.pointers) }
         ensures read { struct_of result ≡ struct_at (tree_below memory_depth (segment self.now ∷ []) (segment self.now))
@@ -96,6 +108,10 @@ impl Arena {
     }
 
     /// A reader of a struct for as long as the message is lent, which stays as it is.
+    ///
+    /// # Conditions
+    ///
+    /// The place is that of a struct of this message (`Planted`).
     pub fn into_struct_reader(&mut self, place: Place) -> StructReader<'_>
         requires planted { Planted (segment self.old) (StructIn place.start place.data_words place.pointers) }
         ensures* ends { sem 𝓛 (EndsUnchanged self.entry) }
@@ -111,6 +127,11 @@ impl Arena {
 
     /// A reader of the list that the pointer at a word leads to, with 64 levels: of a null, of the list without
     /// elements that was got. What it leads to is cut off as by `get_pointer_reader`.
+    ///
+    /// # Conditions
+    ///
+    /// The pointer at the word leads to a tree of this message, no two of whose parts share a word (`Forest`). `list`
+    /// is what that pointer leads to, of a null nothing (`list_shape`).
     pub fn get_list_reader(&self, at: usize, list: ListTarget) -> ListReader<'_>
         requires forest { Forest (segment self.now) at }
         requires there { shape_at (segment self.now) at ≡ list_shape list }
@@ -130,6 +151,11 @@ impl Arena {
     }
 
     /// A reader of the list that a pointer leads to for as long as the message is lent, which stays as it is.
+    ///
+    /// # Conditions
+    ///
+    /// The pointer at the word leads to a tree of this message, no two of whose parts share a word (`Forest`). `list`
+    /// is what that pointer leads to, of a null nothing (`list_shape`).
     pub fn into_list_reader(&mut self, at: usize, list: ListTarget) -> ListReader<'_>
         requires forest { Forest (segment self.old) at }
         requires there { shape_at (segment self.old) at ≡ list_shape list }
@@ -145,6 +171,10 @@ impl Arena {
 
     /// A reader of the list that the pointer at a word leads to, as it stands, with 64 levels. It is cut off as by
     /// `get_pointer_reader`.
+    ///
+    /// # Conditions
+    ///
+    /// The pointer at the word leads to a tree of this message, no two of whose parts share a word (`Forest`).
     pub fn list_reader(&self, at: usize) -> ListReader<'_>
         requires forest { Forest (segment self.now) at }
         ensures cut { IsCutOf (list_of result) (tree (segment self.now) at) }
@@ -156,6 +186,10 @@ impl Arena {
     }
 
     /// What a pointer of the segment leads to is well-formed, and each pointer in it can be followed.
+    ///
+    /// # Conditions
+    ///
+    /// The pointer at the word leads to a tree of this message, no two of whose parts share a word (`Forest`).
     pub fn tree_is_sound(&self, at: usize)
         requires { Forest (segment self.now) at }
         ensures formed { IsWellFormed (tree (segment self.now) at) }
@@ -165,6 +199,10 @@ impl Arena {
     }
 
     /// So is a struct.
+    ///
+    /// # Conditions
+    ///
+    /// The place is that of a struct of this message (`Planted`).
     pub fn struct_is_sound(&self, place: Place)
         requires { Planted (segment self.now) (StructIn place.start place.data_words place.pointers) }
         ensures formed { IsWellFormed (struct_tree
@@ -176,6 +214,10 @@ impl Arena {
     }
 
     /// A reader of the root pointer, as `get_pointer_reader`.
+    ///
+    /// # Conditions
+    ///
+    /// A tree stands at the message's root (`Forest`).
     pub fn as_reader(&self) -> PointerReader<'_>
         requires forest { Forest (segment self.now) 0 }
         ensures read { tree_of result ≡ tree_below memory_depth (segment self.now ∷ []) (segment self.now) 0 }

@@ -70,6 +70,10 @@ impl Arena {
     }
 
     /// Whether the pointer at a word is null.
+    ///
+    /// # Conditions
+    ///
+    /// The pointer at the word leads to a tree of this message, no two of whose parts share a word (`Forest`).
     #[inline(always)]
     pub fn is_null(&self, at: usize) -> bool
         requires { Forest (segment self.now) at }
@@ -79,6 +83,10 @@ impl Arena {
     }
 
     /// Whether it leads to a struct.
+    ///
+    /// # Conditions
+    ///
+    /// The pointer at the word leads to a tree of this message, no two of whose parts share a word (`Forest`).
     #[inline(always)]
     pub fn is_struct(&self, at: usize) -> bool
         requires { Forest (segment self.now) at }
@@ -88,6 +96,10 @@ impl Arena {
     }
 
     /// Whether it leads to a list.
+    ///
+    /// # Conditions
+    ///
+    /// The pointer at the word leads to a tree of this message, no two of whose parts share a word (`Forest`).
     #[inline(always)]
     pub fn is_list(&self, at: usize) -> bool
         requires { Forest (segment self.now) at }
@@ -96,7 +108,12 @@ impl Arena {
         self.look(at).is_list()
     }
 
-    /// The struct that the pointer at a word leads to. There has to be one: `is_struct` says so.
+    /// The struct that the pointer at a word leads to.
+    ///
+    /// # Conditions
+    ///
+    /// The pointer at the word leads to a tree of this message, no two of whose parts share a word (`Forest`). That is
+    /// a struct, as `is_struct` says.
     #[inline(always)]
     pub fn struct_here(&self, at: usize) -> Place
         requires forest { Forest (segment self.now) at }
@@ -120,6 +137,10 @@ impl Arena {
     }
 
     /// How many words the data of a struct has and how many pointers there are.
+    ///
+    /// # Conditions
+    ///
+    /// The place is that of a struct of this message (`Planted`).
     pub fn get_size(&self, place: Place) -> StructSize
         requires { Planted (segment self.now) (StructIn place.start place.data_words place.pointers) }
         ensures data { result.data_words ≡ length
@@ -147,6 +168,10 @@ impl Arena {
     }
 
     /// The number at `offset`, in units of its own size, as it is stored; zero bits past the end.
+    ///
+    /// # Conditions
+    ///
+    /// The place is that of a struct of this message (`Planted`).
     #[inline(always)]
     pub fn get_data_field<T: PrimitiveElement>(&self, place: Place, offset: u32) -> T
         requires { Planted (segment self.now) (StructIn place.start place.data_words place.pointers) }
@@ -158,6 +183,10 @@ impl Arena {
 
     /// The number at `offset`, in units of its own size, where it is stored XORed with its default `mask`; past the end
     /// it is `mask`.
+    ///
+    /// # Conditions
+    ///
+    /// The place is that of a struct of this message (`Planted`).
     #[inline(always)]
     pub fn get_data_field_mask<T: PrimitiveElement>(&self, place: Place, offset: u32, mask: T) -> T
         requires { Planted (segment self.now) (StructIn place.start place.data_words place.pointers) }
@@ -168,6 +197,10 @@ impl Arena {
     }
 
     /// The bit at `offset`, counted from the lowest of the first byte, as it is stored; false past the end.
+    ///
+    /// # Conditions
+    ///
+    /// The place is that of a struct of this message (`Planted`).
     #[inline(always)]
     pub fn get_bool_field(&self, place: Place, offset: u32) -> bool
         requires { Planted (segment self.now) (StructIn place.start place.data_words place.pointers) }
@@ -179,6 +212,10 @@ impl Arena {
 
     /// The bit at `offset`, counted from the lowest of the first byte, where it is stored XORed with its default
     /// `mask`; past the end it is `mask`.
+    ///
+    /// # Conditions
+    ///
+    /// The place is that of a struct of this message (`Planted`).
     #[inline(always)]
     pub fn get_bool_field_mask(&self, place: Place, offset: u32, mask: bool) -> bool
         requires { Planted (segment self.now) (StructIn place.start place.data_words place.pointers) }
@@ -188,7 +225,11 @@ impl Arena {
         self.get_bool_field(place, offset) != mask
     }
 
-    /// The word of a struct's pointer. `index` has to be below the number of pointers.
+    /// The word of a struct's pointer.
+    ///
+    /// # Conditions
+    ///
+    /// The place is that of a struct of this message (`Planted`), and `index` is below the number of its pointers.
     #[inline(always)]
     pub fn get_pointer_field(&self, place: Place, index: u16) -> usize
         requires planted { Planted (segment self.now) (StructIn place.start place.data_words place.pointers) }

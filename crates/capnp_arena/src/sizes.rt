@@ -20,6 +20,10 @@ impl Arena {
     /// a composite list with them. There are no capabilities. Takes no memory.
     ///
     /// Refused with `OutOfMemory` exactly where one of its pointers leads more than 129 levels down.
+    ///
+    /// # Conditions
+    ///
+    /// The place is that of a struct of this message (`Planted`).
     pub fn total_size(&self, place: Place) -> Result<MessageSize>
         requires planted { Planted (segment self.now) (StructIn place.start place.data_words place.pointers) }
         ensures size { IfOk result (λ size. IsSize size None
@@ -47,6 +51,10 @@ impl Arena {
 
     /// The size of all that the pointer at a word leads to, without the pointer itself: 0 words for a null. It counts
     /// and is refused as `total_size`.
+    ///
+    /// # Conditions
+    ///
+    /// The pointer at the word leads to a tree of this message, no two of whose parts share a word (`Forest`).
     pub fn target_size(&self, at: usize) -> Result<MessageSize>
         requires forest { Forest (segment self.now) at }
         ensures size { IfOk result (λ size. IsSize size None (words_of (tree (segment self.now) at))) }

@@ -48,6 +48,10 @@ impl<'a> StructBuilder<'a> {
 
     /// A reader of the struct, with 64 levels. What its pointers lead to is cut off past 129 levels, which only
     /// walks of a whole tree can see.
+    ///
+    /// # Conditions
+    ///
+    /// A struct of the message stands at the builder's place (`IsBuiltStruct`).
     #[inline(always)]
     pub fn as_reader(&self) -> StructReader<'_>
         requires planted { IsBuiltStruct self.now }
@@ -62,6 +66,10 @@ impl<'a> StructBuilder<'a> {
 
     /// A reader of the struct for as long as the builder would be there, as `as_reader`. The message stays as it is;
     /// only `Arena::into_struct_reader` says so to a caller.
+    ///
+    /// # Conditions
+    ///
+    /// A struct of the message stands at the builder's place (`IsBuiltStruct`).
     #[inline(always)]
     pub fn into_reader(self) -> StructReader<'a>
         requires planted { IsBuiltStruct self }
@@ -77,6 +85,10 @@ impl<'a> StructBuilder<'a> {
     }
 
     /// How many words its data section has and how many pointers there are (encoding, "Structs").
+    ///
+    /// # Conditions
+    ///
+    /// A struct of the message stands at the builder's place (`IsBuiltStruct`).
     #[inline(always)]
     pub fn get_size(&self) -> StructSize
         requires planted { IsBuiltStruct self.now }
@@ -90,6 +102,10 @@ impl<'a> StructBuilder<'a> {
     /// the tag of a composite list with them. There are no capabilities. Takes no memory.
     ///
     /// Refused with `OutOfMemory` exactly where one of its pointers leads more than 129 levels down.
+    ///
+    /// # Conditions
+    ///
+    /// A struct of the message stands at the builder's place (`IsBuiltStruct`).
     #[inline(always)]
     pub fn total_size(&self) -> Result<MessageSize>
         requires planted { IsBuiltStruct self.now }
@@ -102,6 +118,10 @@ impl<'a> StructBuilder<'a> {
     }
 
     /// The number at `offset`, in units of its own size, as it is stored; zero bits past the end.
+    ///
+    /// # Conditions
+    ///
+    /// A struct of the message stands at the builder's place (`IsBuiltStruct`).
     #[inline(always)]
     pub fn get_data_field<T: PrimitiveElement>(&self, offset: u32) -> T
         requires planted { IsBuiltStruct self.now }
@@ -112,6 +132,10 @@ impl<'a> StructBuilder<'a> {
 
     /// The number at `offset`, in units of its own size, where it is stored XORed with its default `mask`; past the end
     /// it is `mask`.
+    ///
+    /// # Conditions
+    ///
+    /// A struct of the message stands at the builder's place (`IsBuiltStruct`).
     #[inline(always)]
     pub fn get_data_field_mask<T: PrimitiveElement>(&self, offset: u32, mask: T) -> T
         requires planted { IsBuiltStruct self.now }
@@ -122,6 +146,10 @@ impl<'a> StructBuilder<'a> {
     }
 
     /// The bit at `offset`, counted from the lowest of the first byte, as it is stored; false past the end.
+    ///
+    /// # Conditions
+    ///
+    /// A struct of the message stands at the builder's place (`IsBuiltStruct`).
     #[inline(always)]
     pub fn get_bool_field(&self, offset: u32) -> bool
         requires planted { IsBuiltStruct self.now }
@@ -132,6 +160,10 @@ impl<'a> StructBuilder<'a> {
 
     /// The bit at `offset`, counted from the lowest of the first byte, where it is stored XORed with its default
     /// `mask`; past the end it is `mask`.
+    ///
+    /// # Conditions
+    ///
+    /// A struct of the message stands at the builder's place (`IsBuiltStruct`).
     #[inline(always)]
     pub fn get_bool_field_mask(&self, offset: u32, mask: bool) -> bool
         requires planted { IsBuiltStruct self.now }
@@ -140,8 +172,11 @@ impl<'a> StructBuilder<'a> {
         self.arena.get_bool_field_mask(self.place, offset, mask)
     }
 
-    /// Stores a number at `offset`, in units of its own size; it has to lie inside the data section. No memory is
-    /// taken.
+    /// Stores a number at `offset`, in units of its own size. No memory is taken.
+    ///
+    /// # Conditions
+    ///
+    /// A struct of the message stands at the builder's place (`Planted`), and the number lies inside its data section.
     #[inline(always)]
     pub fn set_data_field<T: PrimitiveElement>(&mut self, offset: u32, value: T)
         requires planted { Planted (segment self.old.arena.now)
@@ -167,8 +202,12 @@ impl<'a> StructBuilder<'a> {
         self.arena.set_number(place, offset, value);
     }
 
-    /// Stores a number at `offset`, in units of its own size, XORed with its default `mask`; it has to lie inside the
-    /// data section. No memory is taken.
+    /// Stores a number at `offset`, in units of its own size, XORed with its default `mask`. No memory is taken.
+    ///
+    /// # Conditions
+    ///
+    /// A struct of the message stands at the builder's place (`IsBuiltStruct`), and the number lies inside its data
+    /// section.
     #[inline(always)]
     pub fn set_data_field_mask<T: PrimitiveElement>(&mut self, offset: u32, value: T, mask: T)
         requires planted { IsBuiltStruct self.old }
@@ -187,8 +226,12 @@ impl<'a> StructBuilder<'a> {
         self.arena.set_number_mask(place, offset, value, mask);
     }
 
-    /// Stores a bit at `offset`. `offset` is counted in bits from the lowest of the first byte; it has to lie inside
-    /// the data section. No memory is taken.
+    /// Stores a bit at `offset`. `offset` is counted in bits from the lowest of the first byte. No memory is taken.
+    ///
+    /// # Conditions
+    ///
+    /// A struct of the message stands at the builder's place (`IsBuiltStruct`), and the bit lies inside its data
+    /// section.
     #[inline(always)]
     pub fn set_bool_field(&mut self, offset: u32, value: bool)
         requires planted { IsBuiltStruct self.old }
@@ -207,7 +250,12 @@ impl<'a> StructBuilder<'a> {
     }
 
     /// Stores a bit at `offset`, XORed with its default `mask`. `offset` is counted in bits from the lowest of the
-    /// first byte; it has to lie inside the data section. No memory is taken.
+    /// first byte. No memory is taken.
+    ///
+    /// # Conditions
+    ///
+    /// A struct of the message stands at the builder's place (`IsBuiltStruct`), and the bit lies inside its data
+    /// section.
     #[inline(always)]
     pub fn set_bool_field_mask(&mut self, offset: u32, value: bool, mask: bool)
         requires planted { IsBuiltStruct self.old }
@@ -230,6 +278,10 @@ impl<'a> StructBuilder<'a> {
     ///
     /// Refused with `BadPointer`, `TooDeep` or `CapabilityPointer` where a pointer in the source can't be followed, by
     /// the first of these in preorder, also where it would not fit, and with `OutOfMemory`; then nothing has changed.
+    ///
+    /// # Conditions
+    ///
+    /// A struct of the message stands at the builder's place (`IsBuiltStruct`).
     #[inline(always)]
     pub fn copy_content_from(&mut self, source: &StructReader<'_>) -> Result<()>
         requires planted { IsBuiltStruct self.old }
@@ -250,8 +302,12 @@ impl<'a> StructBuilder<'a> {
         self.arena.copy_content_from(place, source)
     }
 
-    /// A reader of the pointer at `index`, which has to be below the number of pointers, with 64 levels. Its tree is
-    /// cut off as by `as_reader`.
+    /// A reader of the pointer at `index`, with 64 levels. Its tree is cut off as by `as_reader`.
+    ///
+    /// # Conditions
+    ///
+    /// A struct of the message stands at the builder's place (`IsBuiltStruct`), and `index` is below the number of its
+    /// pointers.
     #[inline(always)]
     pub fn pointer_field(&self, index: u16) -> PointerReader<'_>
         requires planted { IsBuiltStruct self.now }
@@ -266,7 +322,12 @@ impl<'a> StructBuilder<'a> {
         self.arena.get_pointer_reader(at)
     }
 
-    /// The pointer at `index`, which has to be below the number of pointers.
+    /// The pointer at `index`.
+    ///
+    /// # Conditions
+    ///
+    /// A struct of the message stands at the builder's place (`Planted`), and `index` is below the number of its
+    /// pointers.
     #[inline(always)]
     pub fn get_pointer_field(self, index: u16) -> PointerBuilder<'a>
         requires planted { Planted (segment self.arena.now)
@@ -287,8 +348,12 @@ impl<'a> StructBuilder<'a> {
         PointerBuilder { arena, at }
     }
 
-    /// The pointer at `index`, which has to be below the number of pointers, for a shorter time. What is left there is
-    /// what this builder has then.
+    /// The pointer at `index` for a shorter time. What is left there is what this builder has then.
+    ///
+    /// # Conditions
+    ///
+    /// A struct of the message stands at the builder's place (`IsBuiltStruct`), and `index` is below the number of its
+    /// pointers.
     #[inline(always)]
     pub fn pointer_field_mut(&mut self, index: u16) -> PointerBuilder<'_>
         requires planted { IsBuiltStruct self.old }

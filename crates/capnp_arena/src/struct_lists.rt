@@ -289,6 +289,10 @@ impl Arena {
     /// Refused with `WrongPointerKind` for a struct, with `WrongElementSize` for a list of bits, with `SizePastFormat`
     /// where the structs would take 2^29 words or more, and else with `OutOfMemory`; then nothing has changed. A null,
     /// and a list of structs that have at least the size, take no memory and are never refused.
+    ///
+    /// # Conditions
+    ///
+    /// The pointer at the word leads to a tree of this message, no two of whose parts share a word (`Forest`).
     #[inline(always)]
     pub fn get_struct_list(&mut self, at: usize, size: StructSize) -> Result<ListTarget>
         requires forest { Forest (segment self.old) at }

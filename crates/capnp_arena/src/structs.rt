@@ -10,8 +10,11 @@ ghost use Rattle.capnp_arena.specs.Built.{ChangesIn, IsBuilt, LeavesIn, built_at
 use crate::arena::{Arena, Place};
 use capnp_wire::primitive::PrimitiveElement;
 
-/// Stores a number at `offset`, in units of its own size; it has to lie inside the data section. No
-/// memory is taken.
+/// Stores a number at `offset`, in units of its own size. No memory is taken.
+///
+/// # Conditions
+///
+/// A struct of this message stands at the place (`IsBuilt`), and the number lies inside its data section.
 #[inline(always)]
 pub fn set_data_field<T: PrimitiveElement>(arena: &mut Arena, place: Place, offset: u32, value: T)
     requires planted { IsBuilt arena.old place }
@@ -25,8 +28,11 @@ pub fn set_data_field<T: PrimitiveElement>(arena: &mut Arena, place: Place, offs
     arena.set_number(place, offset, value);
 }
 
-/// Stores a bit at `offset`, counted from the lowest of the first byte; it has to lie inside the data section.
-/// No memory is taken.
+/// Stores a bit at `offset`, counted from the lowest of the first byte. No memory is taken.
+///
+/// # Conditions
+///
+/// A struct of this message stands at the place (`IsBuilt`), and the bit lies inside its data section.
 #[inline(always)]
 pub fn set_bool_field(arena: &mut Arena, place: Place, offset: u32, value: bool)
     requires planted { IsBuilt arena.old place }
@@ -40,7 +46,11 @@ pub fn set_bool_field(arena: &mut Arena, place: Place, offset: u32, value: bool)
     arena.set_bool(place, offset, value);
 }
 
-/// The word of the pointer at `index`, which has to be below the number of pointers.
+/// The word of the pointer at `index`.
+///
+/// # Conditions
+///
+/// A struct of this message stands at the place (`IsBuilt`), and `index` is below the number of its pointers.
 #[inline(always)]
 pub fn pointer_at(arena: &Arena, place: Place, index: u16) -> usize
     requires planted { IsBuilt arena.now place }

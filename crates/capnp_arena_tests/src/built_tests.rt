@@ -105,7 +105,7 @@ static LISTS: [(Built, [u64; 3], &str); 15] = [
     ),
 ];
 
-/// The same of structs.
+/// Structs that are built, with what is answered and the message's words.
 static STRUCTS: [(Built, [u64; 3], &str); 17] = [
     (Built::Example, [0, 0, 0], FIVE_AND_TEXT),
     (

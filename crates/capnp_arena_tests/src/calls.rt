@@ -75,11 +75,11 @@ pub(crate) enum Asked {
 pub(crate) enum Copied {
     /// The root of a message.
     Message,
-    /// The same at the root pointer, where the segment stays.
+    /// The root of a message, at the root pointer: the segment stays.
     Root,
-    /// The same, of a reader that has no level left.
+    /// The root of a message, by a reader that has no level left.
     WithoutLevels,
-    /// The same, of a copy as it is read.
+    /// The root of a message's copy, as that is read.
     Twice,
     /// The list at the root of words, read as one of elements of a size.
     List(ElementSize),
@@ -526,7 +526,7 @@ pub(crate) fn parts_of(message: &mut Builder) -> Result<(u64, [bool; 3])>
     Ok((words, [root.is_null(), root.is_struct(), root.is_list()]))
 }
 
-/// The same, as the bytes of a message of one segment have them.
+/// The words of a message of one segment, and whether its root is a null, a struct or a list, by its bytes.
 fn parts_in(bytes: &[u8]) -> (u64, [bool; 3]) {
     if bytes.len() < 16 {
         return (0, [false; 3]);

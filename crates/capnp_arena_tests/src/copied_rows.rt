@@ -327,7 +327,7 @@ pub(crate) static CONTENTS: [Row; 6] = [
     ),
 ];
 
-/// The same, also where it is refused.
+/// Further contents that are copied, also where that is refused.
 pub(crate) static MORE_CONTENTS: [Row; 10] = [
     (
         "a word and a pointer, both filled",

@@ -101,6 +101,18 @@ fn count_words(alloc: Global, count: u32) -> Result<(u64, u64)> {
     Ok((message.size_in_words()?, message.target_size(0)?.word_count))
 }
 
+/// Whether so many structs are read in full.
+fn is_shallow(alloc: Global, count: u32) -> Result<bool> {
+    let message = nest(alloc, count, true)?;
+    Ok(message.is_shallow())
+}
+
+#[test]
+fn a_message_of_64_levels_is_shallow(rt: HostRuntime) {
+    assert_eq!(rt; answer(is_shallow(rt.alloc(), 64)), Ok(true));
+    assert_eq!(rt; answer(is_shallow(rt.alloc(), 65)), Ok(false));
+}
+
 #[test]
 fn the_deepest_message_is_gone_down(rt: HostRuntime) {
     for is_in_order in [true, false] {

@@ -111,7 +111,7 @@ pub(crate) fn read_data(alloc: Global, message: &mut Builder) -> Result<Vec<u8>>
     Ok(Vec::from_slice(alloc, bytes)?)
 }
 
-/// The same of the text.
+/// A copy of the text at the root, as it is read without a change.
 pub(crate) fn read_text(alloc: Global, message: &mut Builder) -> Result<Vec<u8>>
     requires { IsMessage message.old }
     ensures { IsMessage message.new }

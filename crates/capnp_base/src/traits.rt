@@ -58,8 +58,11 @@ pub trait FromPointerReader<'a>: Sized {
     // Whether a default can be read in place of a null.
     ghost has_defaults: { Type 0 } = { Unit {0} };
 
-    /// Reads what the pointer leads to, or the default where the pointer is null and a default is given. A default may
-    /// be given only where the type has some.
+    /// Reads what the pointer leads to, or the default where the pointer is null and a default is given.
+    ///
+    /// # Conditions
+    ///
+    /// A default is given only where the type has some (`has_defaults`).
     fn get_from_pointer(
         reader: &PointerReader<'a>,
         default: Option<PointerReader<'a>>,

@@ -76,6 +76,10 @@ impl<'a> Builder<'a> {
     }
 
     /// Whether the pointer is null.
+    ///
+    /// # Conditions
+    ///
+    /// A tree of the message stands at the pointer (`IsUntypedPointer`).
     pub fn is_null(&self) -> bool
         requires { IsUntypedPointer self.now }
         ensures { result ≡ is_null_tree (untyped_tree self.now) }
@@ -87,6 +91,10 @@ impl<'a> Builder<'a> {
     /// capabilities. Takes no memory.
     ///
     /// Refused with `OutOfMemory` exactly where the pointer leads more than 129 levels down.
+    ///
+    /// # Conditions
+    ///
+    /// A tree of the message stands at the pointer (`IsUntypedPointer`).
     pub fn target_size(&self) -> Result<MessageSize>
         requires { IsUntypedPointer self.now }
         ensures size { IfOk result (λ size. IsSize size None (words_of (untyped_tree self.now))) }
@@ -98,6 +106,10 @@ impl<'a> Builder<'a> {
     }
 
     /// What stands at the pointer, built as a `T`, without a default. Refused as `T`'s get.
+    ///
+    /// # Conditions
+    ///
+    /// A tree of the message stands at the pointer (`IsUntypedPointer`).
     pub fn get_as<T: FromPointerBuilder<'a>>(self) -> Result<T>
         requires { IsUntypedPointer self }
         ensures same { IfOk result (λ b. (T.behind b).ghost_name ≡ (arena_behind self.entry).ghost_name) }
@@ -113,6 +125,10 @@ impl<'a> Builder<'a> {
     }
 
     /// Starts the pointer anew as a `T` of no elements. Refused as `T`'s start.
+    ///
+    /// # Conditions
+    ///
+    /// The pointer's word lies inside the message's segment.
     pub fn init_as<T: FromPointerBuilder<'a>>(self) -> Result<T>
         requires { untyped_word self < word_count (segment (arena_behind self).now) }
         ensures same { IfOk result (λ b. (T.behind b).ghost_name ≡ (arena_behind self.entry).ghost_name) }
@@ -127,6 +143,10 @@ impl<'a> Builder<'a> {
     }
 
     /// Starts the pointer anew as a `T` of so many elements. Refused as `T`'s start.
+    ///
+    /// # Conditions
+    ///
+    /// The pointer's word lies inside the message's segment.
     pub fn initn_as<T: FromPointerBuilder<'a>>(self, size: u32) -> Result<T>
         requires { untyped_word self < word_count (segment (arena_behind self).now) }
         ensures same { IfOk result (λ b. (T.behind b).ghost_name ≡ (arena_behind self.entry).ghost_name) }
@@ -141,6 +161,10 @@ impl<'a> Builder<'a> {
     }
 
     /// Sets the pointer. A refusal changes nothing. Refused as the set of `T`.
+    ///
+    /// # Conditions
+    ///
+    /// The pointer's word lies inside the message's segment.
     pub fn set_as<R, T: SetterInput<R>>(&mut self, value: T) -> Result<()>
         requires { untyped_word self.old < word_count (segment (arena_behind self.old).now) }
         ensures same { (arena_behind self.new).ghost_name ≡ (arena_behind self.old).ghost_name }
@@ -162,6 +186,10 @@ impl<'a> Builder<'a> {
     }
 
     /// Makes the pointer null.
+    ///
+    /// # Conditions
+    ///
+    /// The pointer's word lies inside the message's segment.
     pub fn clear(&mut self)
         requires { untyped_word self.old < word_count (segment (arena_behind self.old).now) }
         ensures same { (arena_behind self.new).ghost_name ≡ (arena_behind self.old).ghost_name }
@@ -176,6 +204,10 @@ impl<'a> Builder<'a> {
 
     /// A reader of the pointer for as long as the builder would be there, with 64 levels. Its tree is cut off past
     /// 129 levels, which only walks of a whole tree can see.
+    ///
+    /// # Conditions
+    ///
+    /// A tree of the message stands at the pointer (`IsUntypedPointer`).
     pub fn into_reader(self) -> Reader<'a>
         requires { IsUntypedPointer self }
         ensures cut { IsCutOf (tree_of (pointer_of result)) (untyped_tree self.entry) }

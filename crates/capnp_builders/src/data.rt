@@ -64,6 +64,10 @@ impl<'a> Builder<'a> {
     }
 
     /// A reader of the bytes.
+    ///
+    /// # Conditions
+    ///
+    /// Data of the message, or a null, stands at the pointer (`IsData`).
     #[tactic(auto, using(crate::proofs::Blobs::bytes_there))]
     pub fn reborrow_as_reader(&self) -> Reader<'_>
         requires { IsData self.now }
@@ -76,6 +80,10 @@ impl<'a> Builder<'a> {
     }
 
     /// How many bytes there are.
+    ///
+    /// # Conditions
+    ///
+    /// Data of the message, or a null, stands at the pointer (`IsData`).
     pub fn len(&self) -> usize
         requires { IsData self.now }
         ensures { result ≡ length (data_bytes self.now) }
@@ -84,6 +92,10 @@ impl<'a> Builder<'a> {
     }
 
     /// Whether there is no byte.
+    ///
+    /// # Conditions
+    ///
+    /// Data of the message, or a null, stands at the pointer (`IsData`).
     pub fn is_empty(&self) -> bool
         requires { IsData self.now }
         ensures { IsTrue result ↔ (data_bytes self.now ≡ []) }
@@ -91,7 +103,11 @@ impl<'a> Builder<'a> {
         self.reborrow_as_reader().is_empty()
     }
 
-    /// Writes the byte at an index, which has to be below the length.
+    /// Writes the byte at an index.
+    ///
+    /// # Conditions
+    ///
+    /// Data of the message, or a null, stands at the pointer (`IsData`). `index` is below the number of its bytes.
     pub fn set(&mut self, index: usize, byte: u8)
         requires there { IsData self.old }
         requires inside { index < length (data_bytes self.old) }
@@ -119,6 +135,10 @@ impl<'a> Builder<'a> {
     }
 
     /// A reader of the bytes for as long as the builder would be there.
+    ///
+    /// # Conditions
+    ///
+    /// Data of the message, or a null, stands at the pointer (`IsData`).
     #[tactic(auto, using(crate::proofs::Blobs::bytes_there))]
     pub fn into_reader(self) -> Reader<'a>
         requires { IsData self }
@@ -136,6 +156,10 @@ impl<'a> Builder<'a> {
 ///
 /// Refused only where a default would be copied: as `PointerReader::get_data` where it does not read as data, and else
 /// with `OutOfMemory`; then nothing has changed.
+///
+/// # Conditions
+///
+/// A tree of the message stands at the pointer (`Forest`).
 pub fn copy_default(builder: PointerBuilder<'_>, default: Option<PointerReader<'_>>) -> Result<()>
     requires { Forest (segment builder.arena.now) builder.at }
     ensures frame { OnOk result (LeavesPointer builder.entry.at builder.entry.arena.now builder.exit.0.now) }

@@ -119,6 +119,10 @@ impl<'a> Builder<'a> {
     }
 
     /// How many bytes there are, wherever the position is.
+    ///
+    /// # Conditions
+    ///
+    /// A text of the message, or a null, stands at the pointer (`IsBuiltText`).
     pub fn len(&self) -> usize
         requires { IsBuiltText self.now }
         ensures { result ≡ length (text_bytes self.now) }
@@ -127,6 +131,10 @@ impl<'a> Builder<'a> {
     }
 
     /// Whether there is no byte.
+    ///
+    /// # Conditions
+    ///
+    /// A text of the message, or a null, stands at the pointer (`IsBuiltText`).
     pub fn is_empty(&self) -> bool
         requires { IsBuiltText self.now }
         ensures { IsTrue result ↔ (text_bytes self.now ≡ []) }
@@ -135,6 +143,10 @@ impl<'a> Builder<'a> {
     }
 
     /// How many bytes there are from the position on: as many can be pushed.
+    ///
+    /// # Conditions
+    ///
+    /// A text of the message, or a null, stands at the pointer (`IsBuiltText`).
     pub fn room(&self) -> usize
         requires { IsBuiltText self.now }
         ensures { result ≡ length (text_bytes self.now) - position self.now }
@@ -177,8 +189,12 @@ impl<'a> Builder<'a> {
         }
     }
 
-    /// Writes an ASCII character at the position, which moves past it. There has to be room for it, and it is below
-    /// 128.
+    /// Writes an ASCII character at the position, which moves past it.
+    ///
+    /// # Conditions
+    ///
+    /// A text of the message, or a null, stands at the pointer (`IsBuiltText`). The position is below the number of its
+    /// bytes, and `ascii` below 128.
     pub fn push_ascii(&mut self, ascii: u8)
         requires there { IsBuiltText self.old }
         requires room { position self.old < length (text_bytes self.old) }
@@ -194,7 +210,12 @@ impl<'a> Builder<'a> {
         self.push_byte(ascii);
     }
 
-    /// Writes a string at the position, which moves past it. There has to be room for its bytes.
+    /// Writes a string at the position, which moves past it.
+    ///
+    /// # Conditions
+    ///
+    /// A text of the message, or a null, stands at the pointer (`IsBuiltText`). From the position on the text has room
+    /// for the string's bytes.
     #[tactic(auto, using(crate::proofs::Writes::written_is))]
     pub fn push_str(&mut self, string: &str)
         requires there { IsBuiltText self.old }
@@ -213,6 +234,10 @@ impl<'a> Builder<'a> {
     }
 
     /// Makes all bytes zero, and writes at their start again.
+    ///
+    /// # Conditions
+    ///
+    /// A text of the message, or a null, stands at the pointer (`IsBuiltText`).
     pub fn clear(&mut self)
         requires there { IsBuiltText self.old }
         ensures same { (text_behind self.new).ghost_name ≡ (text_behind self.old).ghost_name }
@@ -261,6 +286,10 @@ impl<'a> Builder<'a> {
     }
 
     /// A reader of the bytes.
+    ///
+    /// # Conditions
+    ///
+    /// A text of the message, or a null, stands at the pointer (`IsBuiltText`).
     pub fn reborrow_as_reader(&self) -> Reader<'_>
         requires { IsBuiltText self.now }
         ensures { result.0.now ≡ text_bytes self.now }
@@ -269,6 +298,10 @@ impl<'a> Builder<'a> {
     }
 
     /// A reader of the bytes for as long as the builder would be there.
+    ///
+    /// # Conditions
+    ///
+    /// A text of the message, or a null, stands at the pointer (`IsBuiltText`).
     #[tactic(auto, using(crate::proofs::Blobs::bytes_there))]
     pub fn into_reader(self) -> Reader<'a>
         requires { IsBuiltText self }
@@ -282,6 +315,10 @@ impl<'a> Builder<'a> {
     }
 
     /// The bytes.
+    ///
+    /// # Conditions
+    ///
+    /// A text of the message, or a null, stands at the pointer (`IsBuiltText`).
     pub fn as_bytes(self) -> &'a [u8]
         requires { IsBuiltText self }
         ensures { result.now ≡ text_bytes self.entry }
@@ -290,6 +327,10 @@ impl<'a> Builder<'a> {
     }
 
     /// The text as a `str`, or the error that says how many bytes of it are UTF-8.
+    ///
+    /// # Conditions
+    ///
+    /// A text of the message, or a null, stands at the pointer (`IsBuiltText`).
     pub fn to_str(self) -> std::result::Result<&'a str, Utf8Error>
         requires { IsBuiltText self }
         ensures { IsStrOf (text_bytes self.entry) result }
@@ -300,6 +341,10 @@ impl<'a> Builder<'a> {
     /// A copy of the text as a `String`, or the error of `to_str`.
     ///
     /// Refused with `OutOfMemory`, and only where the text is UTF-8.
+    ///
+    /// # Conditions
+    ///
+    /// A text of the message, or a null, stands at the pointer (`IsBuiltText`).
     pub fn to_string(self, alloc: Global) -> Result<std::result::Result<String, Utf8Error>>
         requires { IsBuiltText self }
         ensures string { IfOk result (IsStringOf (text_bytes self.entry)) }
@@ -310,6 +355,10 @@ impl<'a> Builder<'a> {
     }
 
     /// Whether the bytes are those of a `str`, wherever the position is.
+    ///
+    /// # Conditions
+    ///
+    /// A text of the message, or a null, stands at the pointer (`IsBuiltText`).
     pub fn eq_str(&self, other: &str) -> bool
         requires { IsBuiltText self.now }
         ensures { IsTrue result ↔ (text_bytes self.now ≡ other.now) }
@@ -341,6 +390,10 @@ fn start(arena: &mut Arena, at: usize, length: u32) -> Result<()>
 ///
 /// Refused only where a default would be copied: as `PointerReader::get_text` where it does not read as a text, and
 /// else with `OutOfMemory`; then nothing has changed.
+///
+/// # Conditions
+///
+/// A tree of the message stands at the pointer (`Forest`).
 pub fn copy_default(builder: PointerBuilder<'_>, default: Option<PointerReader<'_>>) -> Result<()>
     requires { Forest (segment builder.arena.now) builder.at }
     ensures frame { OnOk result (LeavesPointer builder.entry.at builder.entry.arena.now builder.exit.0.now) }

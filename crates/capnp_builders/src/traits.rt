@@ -51,6 +51,10 @@ pub trait FromPointerBuilder<'a>: Sized {
     ghost has_defaults: { Type 0 } = { Unit {0} };
 
     /// Starts the pointer anew with so many elements, all zero or null. A refusal changes nothing.
+    ///
+    /// # Conditions
+    ///
+    /// The pointer's word lies inside the message's segment.
     fn init_pointer(builder: PointerBuilder<'a>, length: u32) -> Result<Self>
         requires inside { builder.at < word_count (segment builder.arena.now) }
         ensures* rests { sem 𝓛 (Rests builder.entry.arena behind result) }
@@ -62,8 +66,12 @@ pub trait FromPointerBuilder<'a>: Sized {
         ensures refused { IfErr result (new_refusal length) };
 
     /// Hands out what stands at the pointer. Where the pointer is null and a default is given, the default is copied
-    /// there first; a null without one stays null, and a refusal changes nothing. A default may be given only where the
-    /// type has some.
+    /// there first; a null without one stays null, and a refusal changes nothing.
+    ///
+    /// # Conditions
+    ///
+    /// A tree of the message stands at the pointer (`Forest`). A default is given only where the type has some
+    /// (`has_defaults`).
     fn get_from_pointer(
         builder: PointerBuilder<'a>,
         default: Option<PointerReader<'a>>,
@@ -102,6 +110,10 @@ pub trait Owned<'a>: Introspect {
 ///
 /// Refused as the set is. The pointer is then as it was, which the set's clause says and tests show of this call: it
 /// has no such clause of its own, since its answer borrows from the pointer.
+///
+/// # Conditions
+///
+/// The pointer's word lies inside the message's segment.
 pub fn set_and_get<'a, O: Owned<'a>, S: SetterInput<O>>(
     builder: PointerBuilder<'a>,
     input: S,

@@ -223,25 +223,36 @@ struct_in_leads w schema i bytes q stands list inside there planted is leaves =
           };
     }
 
+-- the pointer of an element of a list of lists, at a word, after the step has filled it
+pub record IsInnerFilled (w : ℕ) (set : Schemas) (e : SchemaType) (i : ℕ) (old m : List ℕ) (q : ℕ) : Type 0 where
+  -- the word is that of the element
+  pub here : tree old q ≡ element_pointer (tree old w) i 1
+  -- what stood there was within the limits of a fill, and sound
+  pub within : fill_due set VoidValue (ListType e) (tree old q) ≡ None
+  pub whole : first_fault (tree old q) ≡ None
+  -- what stands there now, and what else that changed
+  pub filled : tree m q ≡ entered_list set e (tree old q)
+  pub changes : Changes q old m
+  -- what changes at the word is all that changes of the list
+  pub leaves : (new : List ℕ) → Forest new q → Changes q old new → Leaves w (with_pointer_element i (tree new q) (tree old w)) old new
+
 -- a list of a list of lists, after the step has filled it
-pub list_in_leads : (w : ℕ) (set : Schemas) (e : SchemaType) (i : ℕ) (old m : List ℕ) (q : ℕ) → i < list_length (tree old w) → HasPointer (tree old w) i → tree old q ≡ element_pointer (tree old w) i 1 →
-    fill_due set VoidValue (ListType e) (tree old q) ≡ None → first_fault (tree old q) ≡ None → tree m q ≡ entered_list set e (tree old q) → Forest m q → Changes q old m → NamesEntries set e → IsListStand set e (tree m q) →
-    ((new : List ℕ) → Forest new q → Changes q old new → Leaves w (with_pointer_element i (tree new q) (tree old w)) old new) →
+pub list_in_leads : (w : ℕ) (set : Schemas) (e : SchemaType) (i : ℕ) (old m : List ℕ) (q : ℕ) → i < list_length (tree old w) → HasPointer (tree old w) i → IsInnerFilled w set e i old m q → IsAtList q set e m →
     (now : At) → ((bytes : List ℕ) → IsAtList q set e bytes → IsAt now bytes) →
     ((old : List ℕ) (path : List Step) (end : Ending) (k : Reply) (new : List ℕ) → HopGoes now old path end k new → ListGoes q set e old path end k new) → LeadsOn (ElementGoes w set (ListType e) i old) now m
-list_in_leads w set e i old m q inside there is within whole filled forest changes entries list leaves now stands goes =
+list_in_leads w set e i old m q inside there inner list now stands goes =
     let x : Tree = tree old w in
     record {
-      stands = stands m (record { forest = forest; entries = entries; list = list });
+      stands = stands m list;
       onward = λ rest end k later h.
           let g : ListGoes q set e m rest end k later = goes m rest end k later h in
-          let left : Leaves w (with_pointer_element i (tree later q) x) old later = leaves later g.forest (at_then changes g.changes) in
+          let left : Leaves w (with_pointer_element i (tree later q) x) old later = inner.leaves later g.forest (at_then inner.changes g.changes) in
           record {
             walks = subst (λ (z : Tree). ElementWalks set (ListType e) i rest end x k z) (sym left.tree)
                 (element_in_list set x i rest end inside e k (tree later q) there
-                (subst (λ (z : Tree). fill_due set VoidValue (ListType e) z ≡ None) is within)
-                (subst (λ (z : Tree). first_fault z ≡ None) is whole)
-                (subst (λ (z : Tree). ListWalks set e rest end z k (tree later q)) (filled ∙ ap (entered_list set e) is) g.walks));
+                (subst (λ (z : Tree). fill_due set VoidValue (ListType e) z ≡ None) inner.here inner.within)
+                (subst (λ (z : Tree). first_fault z ≡ None) inner.here inner.whole)
+                (subst (λ (z : Tree). ListWalks set e rest end z k (tree later q)) (inner.filled ∙ ap (entered_list set e) inner.here) g.walks));
             forest = left.forest;
             changes = left.changes;
           };

@@ -72,11 +72,15 @@ pub(crate) fn answer(alloc: Global, read: Result<Value<'_>>) -> Reply
     }
 }
 
-/// What a field of a struct has, or its default where that is missing. The struct has to be well-formed.
+/// What a field of a struct has, or its default where that is missing.
 ///
 /// Refused with `InactiveMember` for a member that isn't active; with `WrongPointerKind`, `WrongElementSize` or
 /// `TextNotTerminated` where what stands there is not read as the field's type; and with `OutOfMemory` for the copy of
 /// a text or data.
+///
+/// # Conditions
+///
+/// A struct of this message stands at the place (`IsBuilt`).
 pub fn get_field(alloc: Global, arena: &Arena, place: Place, field: Field<'_>) -> Reply
     requires planted { IsBuilt arena.now place }
     ensures { (whole : Record → RecordValue) (old : RecordValue)
@@ -93,8 +97,11 @@ pub fn get_field(alloc: Global, arena: &Arena, place: Place, field: Field<'_>) -
     answer(alloc, reader.get(field))
 }
 
-/// Whether a field of a struct is there: false for a member that isn't active and for a null pointer. The struct has to
-/// be well-formed.
+/// Whether a field of a struct is there: false for a member that isn't active and for a null pointer.
+///
+/// # Conditions
+///
+/// A struct of this message stands at the place (`IsBuilt`).
 pub fn has_field(arena: &Arena, place: Place, field: Field<'_>) -> Reply
     requires planted { IsBuilt arena.now place }
     ensures { (whole : Record → RecordValue) (old : RecordValue)
@@ -113,8 +120,11 @@ pub fn has_field(arena: &Arena, place: Place, field: Field<'_>) -> Reply
     Reply::Flag(there)
 }
 
-/// The active member of a struct, by its index; none without a union and for an unknown number. The struct has to be
-/// well-formed, and the schema one of an accepted set.
+/// The active member of a struct, by its index; none without a union and for an unknown number.
+///
+/// # Conditions
+///
+/// A struct of this message stands at the place (`IsBuilt`). The schema is one of an accepted set (`IsStruct`).
 pub fn which_member(arena: &Arena, place: Place, schema: StructSchema<'_>) -> Reply
     requires planted { IsBuilt arena.now place }
     requires stands { IsStruct schema }

@@ -139,12 +139,17 @@ fn do_named(arena: &mut Arena, place: Place, schema: StructSchema<'_>, end: Endi
 }
 
 /// Does an operation at a struct or group at which a path ends. `Which` asks the struct and doesn't look at the last
-/// step. The schema is one of an accepted set; the struct has its sections and is well-formed.
+/// step.
 ///
 /// Refused with `NotAContainer` where the last step names an element, with `FieldNotFound` where there is no such
 /// field, and else as the operation. Only a `Get` asks whether a member is active: it is refused with `InactiveMember`
 /// where not. What is written is the field and, of a member, the union; after a refusal nothing has changed, but for
 /// the set of a group that is cut short, which keeps what was copied by then.
+///
+/// # Conditions
+///
+/// The schema is one of an accepted set. A struct of this message stands at the place, with at least the schema's
+/// sections (`TakesCalls`).
 #[inline(never)]
 pub fn end_at_struct(
     arena: &mut Arena,

@@ -28,11 +28,14 @@ use capnp_wire::error::Result;
 /// smaller than its schema gets zeros and nulls after what it has. What is filled stays, whatever the rest of the call
 /// does, and no union is switched. `part::pointer` of `capnp_slots` is then the word that leads to the struct.
 ///
-/// The field is such a slot, the tests of `way_of` have passed, and the struct has the sections of the field's schema
-/// and is well-formed.
-///
 /// Refused with `WrongPointerKind` where something else than a struct stands there, and else with `OutOfMemory`; then
 /// nothing has changed.
+///
+/// # Conditions
+///
+/// A struct of this message stands at the place (`IsBuilt`), with at least the sections of the field's schema
+/// (`IsRoomFor`). The field is a slot of a struct type, and `schema` is that type's, one of an accepted set
+/// (`IsStructSlot`). The tests of `way_of` have passed: a step may go into the field (`IsWalked`).
 #[inline(always)]
 pub fn enter_struct(
     arena: &mut Arena,
@@ -58,8 +61,12 @@ pub fn enter_struct(
     part::fill_struct_slot(arena, place, field, schema)
 }
 
-/// Steps into a group: it is the same struct under the group's schema. Nothing is filled and nothing is refused. The
-/// field is a group, and the tests of `way_of` have passed.
+/// Steps into a group: it is the same struct under the group's schema. Nothing is filled and nothing is refused.
+///
+/// # Conditions
+///
+/// A struct of this message stands at the place (`IsBuilt`). The field is a group (`IsGroup`). The tests of `way_of`
+/// have passed: a step may go into the field (`IsWalked`).
 #[inline(always)]
 pub fn enter_group(arena: &Arena, place: Place, field: Field<'_>)
     requires planted { IsBuilt arena.now place }
@@ -83,13 +90,16 @@ fn default_is_sound(field: Field<'_>)
 /// stays, whatever the rest of the call does, and no union is switched. `part::pointer` of `capnp_slots` is then the
 /// word that leads to the list.
 ///
-/// The field is such a slot, the tests of `way_of` have passed, and the struct has the sections of the field's schema
-/// and is well-formed.
-///
 /// Refused with `WrongPointerKind` or `WrongElementSize` where what stands there is not read as a list of the slot's
 /// type, with `SizePastFormat` where the structs of a list would take 2^29 words or more, and else with `OutOfMemory`;
 /// then nothing has changed. Only a list of structs that are smaller than their schema, and a null with a default, take
 /// memory.
+///
+/// # Conditions
+///
+/// A struct of this message stands at the place (`IsBuilt`), with at least the sections of the field's schema
+/// (`IsRoomFor`). The field is a slot of a list type, and `element` is its elements' type, which names entries of the
+/// set (`IsListSlot`). The tests of `way_of` have passed: a step may go into the field (`IsWalked`).
 #[inline(always)]
 pub fn enter_list(arena: &mut Arena, place: Place, field: Field<'_>, element: Type) -> Result<()>
     requires planted { IsBuilt arena.old place }

@@ -149,11 +149,16 @@ fn do_last(
     do_element(arena, at, schemas, element, index, end)
 }
 
-/// Does an operation at a list at which a path ends. The list is not null and reads as one of the type, which names
-/// entries of the set.
+/// Does an operation at a list at which a path ends.
 ///
 /// Refused with `NotAContainer` for `Which` and where the last step names a field, with `NoSuchElement` past the end,
 /// with `NotAContainer` for `Has`, `Init` and `Clear`, and else as the operation. After a refusal nothing has changed.
+///
+/// # Conditions
+///
+/// The pointer at the word `at` leads to a tree of this message, no two of whose parts share a word (`Forest`). That is
+/// not null, and is read as a list of the type; its structs have at least their schema's sections (`IsListStand`). The
+/// type names entries of the set (`NamesEntries`).
 pub fn end_at_list(
     arena: &mut Arena,
     at: usize,

@@ -206,14 +206,18 @@ fn keep_within(message: &Builder, limit: usize) -> Result<()>
 }
 
 /// Makes calls on an empty root of a new message: the root is a struct of the schema, all zero and null, and what it
-/// reads as after the calls is what the machine of records makes of the schema's default record. The schema is one of
-/// an accepted set. The message never has more words than `limit`, which stands for 1 where it is 0, and for
-/// `MOST_WORDS` where it is more, as `Builder::with_limit` has it. It is compacted before a call where its room gets
-/// short, and behind one that was refused for room.
+/// reads as after the calls is what the machine of records makes of the schema's default record. The message never has
+/// more words than `limit`, which stands for 1 where it is 0, and for `MOST_WORDS` where it is more, as
+/// `Builder::with_limit` has it. It is compacted before a call where its room gets short, and behind one that was
+/// refused for room.
 ///
 /// Refused with `OutOfMemory` alone, where there is no room for the root or the replies; then no call was made. A call
 /// that is refused has its reply, and doesn't refuse the run. One that takes no memory on what the one before it left
 /// is refused neither with `OutOfMemory` nor with `SizePastFormat`.
+///
+/// # Conditions
+///
+/// The schema is one of an accepted set (`IsStruct`).
 pub fn run_new(
     alloc: Global,
     limit: usize,
@@ -240,12 +244,15 @@ pub fn run_new(
 }
 
 /// Makes calls on a copy of a message's root, which is a struct: what it reads as after the calls is what the machine
-/// of records makes of the record that the source reads as. The schema is one of an accepted set; the limit is one of
-/// words, as that of `run_new`.
+/// of records makes of the record that the source reads as. The limit is one of words, as that of `run_new`.
 ///
 /// Refused with `BadPointer`, `TooDeep` or `CapabilityPointer` where a pointer in the source can't be followed, by the
 /// first of these in preorder; else with `WrongPointerKind` where the source is a list; and with `OutOfMemory`. Then no
 /// call was made. Once the copy and the replies have room, calls are refused as by `run_new`.
+///
+/// # Conditions
+///
+/// The schema is one of an accepted set (`IsStruct`).
 pub fn run_copied(
     alloc: Global,
     limit: usize,
@@ -297,10 +304,14 @@ fn print_message_root(
 
 /// Makes calls on an empty root of a new message, writes the message and prints its root: the promise of this crate,
 /// whole. The replies and the record that the bytes are read back as are related by the machine of records to the
-/// default record, and what is printed is the text of that record. The schema is one of an accepted set.
+/// default record, and what is printed is the text of that record.
 ///
 /// Refused with `OutOfMemory`, and as the print of the root that the calls left. Then the string is as it was. A call
 /// that is refused has its reply, and doesn't refuse the whole.
+///
+/// # Conditions
+///
+/// The schema is one of an accepted set (`IsStruct`).
 ///
 /// # Example
 ///
@@ -333,9 +344,13 @@ pub fn whole_new(
 }
 
 /// Makes calls on a copy of a message's root, writes the message and prints its root, as `whole_new` on an empty one.
-/// The root is a struct, and the schema one of an accepted set. What it doesn't know stays as the source has it.
+/// The root is a struct. What the schema doesn't know stays as the source has it.
 ///
 /// Refused as `run_copied`, and then as `whole_new`. Then the string is as it was.
+///
+/// # Conditions
+///
+/// The schema is one of an accepted set (`IsStruct`).
 ///
 /// # Example
 ///

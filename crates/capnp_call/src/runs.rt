@@ -62,12 +62,16 @@ fn make_calls(
 }
 
 /// Makes calls along paths of a struct, one after another, and gives one reply to each, in order. A refused call
-/// doesn't end the run, and leaves the nulls filled that the steps before the refusal filled. The schema is one of an
-/// accepted set; the struct has its sections.
+/// doesn't end the run, and leaves the nulls filled that the steps before the refusal filled.
 ///
 /// Refused with `OutOfMemory` where there is no room for the replies, and then nothing has changed. Once there is, a
 /// call that takes no memory on what the one before it left is refused neither with `OutOfMemory` nor with
 /// `SizePastFormat`.
+///
+/// # Conditions
+///
+/// The schema is one of an accepted set. A struct of this message stands at the place, with at least the schema's
+/// sections (`TakesCalls`).
 pub fn run_on(
     alloc: Global,
     arena: &mut Arena,

@@ -25,8 +25,8 @@ use capnp_schema::schema::StructSchema;
 use capnp_schema::set::SchemaSet;
 use capnp_wire::error::ErrorKind;
 
-/// Walks a path from a struct or group, and does what a call does at its end. The schema is one of an accepted set; the
-/// struct has its sections and is well-formed. A path may have any number of steps: the walk is a loop.
+/// Walks a path from a struct or group, and does what a call does at its end. A path may have any number of steps: the
+/// walk is a loop.
 ///
 /// A step is refused with `NotAContainer` where it names an element, then with `FieldNotFound` where there is no such
 /// field, then as `way::way_of`, and then as `enter::enter_struct` and `enter::enter_list`; at a list with
@@ -35,6 +35,11 @@ use capnp_wire::error::ErrorKind;
 /// `end::end_at_struct` and `list_end::end_at_list`. What the steps before a refusal filled stays. Where nothing has to
 /// be filled or extended behind a step and the operation takes no memory, nothing is refused with `OutOfMemory`, and
 /// nothing with `SizePastFormat`.
+///
+/// # Conditions
+///
+/// The schema is one of an accepted set. A struct of this message stands at the place, with at least the schema's
+/// sections (`TakesCalls`).
 #[inline(always)]
 pub fn walk(
     arena: &mut Arena,

@@ -67,7 +67,11 @@ fn find_numbered(schema: StructSchema<'_>, index: u16) -> Result<Field<'_>>
     Ok(fields.get(index))
 }
 
-/// Whether a field is a member of its struct's union that isn't active. The struct has to be well-formed.
+/// Whether a field is a member of its struct's union that isn't active.
+///
+/// # Conditions
+///
+/// A struct of this message stands at the place (`IsBuilt`).
 #[inline(always)]
 pub fn is_inactive(arena: &Arena, place: Place, field: Field<'_>) -> bool
     requires planted { IsBuilt arena.now place }
@@ -82,10 +86,14 @@ pub fn is_inactive(arena: &Arena, place: Place, field: Field<'_>) -> bool
     !reader.is_active(field)
 }
 
-/// Where a step into a field leads that the struct has. The struct has to be well-formed.
+/// Where a step into a field leads that the struct has.
 ///
 /// Refused with `InactiveMember` for a member that isn't active, then with `UntypedStep` for an untyped pointer, and
 /// with `NotAContainer` for another field that is no struct, group or list.
+///
+/// # Conditions
+///
+/// A struct of this message stands at the place (`IsBuilt`).
 #[inline(always)]
 pub fn way_of<'s>(arena: &Arena, place: Place, field: Field<'s>) -> Result<Way<'s>>
     requires planted { IsBuilt arena.now place }

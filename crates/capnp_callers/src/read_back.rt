@@ -16,6 +16,11 @@ use capnp_wire::error::Result;
 
 /// Sets a slot, and answers what a reader of the struct gets of it: of a number, truth value, enum, text or data in a
 /// slot of its kind, this value. Refused as the set.
+///
+/// # Conditions
+///
+/// The field belongs to the builder's schema (`BelongsTo`), and is a slot (`IsSlot`). The struct has at least its
+/// schema's sections, and stands at its place (`IsReady`).
 pub fn set_and_get<'a>(
     builder: dynamic_struct::Builder<'a>,
     field: Field<'a>,

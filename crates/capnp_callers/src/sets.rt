@@ -16,6 +16,10 @@ use std::alloc::Global;
 
 /// The lists of the first message in these bytes, under the meta set. Refused as the stream, its root and `read_set`
 /// are.
+///
+/// # Conditions
+///
+/// `meta_set` is the meta set.
 pub fn lists_in(
     alloc: Global,
     meta_set: &SchemaSet,
@@ -33,6 +37,10 @@ pub fn lists_in(
 
 /// The checked set of the first message in these bytes, under the meta set. Refused as the stream, its root and
 /// `read_schema_set` are.
+///
+/// # Conditions
+///
+/// `meta_set` is the meta set.
 pub fn set_in(alloc: Global, meta_set: &SchemaSet, bytes: &[u8]) -> Result<SchemaSet>
     requires { lists_seen meta_set.now ≡ meta }
     ensures set { IfOk result (λ schemas. message_set bytes.now ≡ Some (lists_seen schemas)) }

@@ -14,6 +14,10 @@ use std::alloc::Global;
 /// Makes calls on a copy of the first message of a stream, prints its root and writes it.
 ///
 /// Refused as `message::Reader::new` and `whole_copied`.
+///
+/// # Conditions
+///
+/// The schema is one of an accepted set (`IsStruct`).
 pub fn run_on_stream(
     alloc: Global,
     schema: StructSchema<'_>,

@@ -48,6 +48,10 @@ pub fn numbers_of(alloc: Global, list: dynamic_list::Reader<'_>) -> Result<Vec<u
 /// Sets an element of a list to a number, as `dynamic_list::Builder::set`, where the list has the element.
 ///
 /// Refused with `NoSuchElement` where it has not, and else as that call; then nothing has changed.
+///
+/// # Conditions
+///
+/// The list has elements of its type, and stands at its pointer (`IsListReady`).
 pub fn set_number(list: &mut dynamic_list::Builder<'_>, index: u32, number: u16) -> Result<()>
     requires { IsListReady list.old }
     ensures ready { IsListReady list.new }
@@ -87,6 +91,10 @@ fn text_of<'a>(part: dynamic_value::Builder<'a>) -> Result<text::Builder<'a>>
 ///
 /// Refused as the `get` of the field of that name, and with `TypeMismatch` exactly where that hands out a value of
 /// another kind.
+///
+/// # Conditions
+///
+/// The struct has at least its schema's sections, and stands at its place (`IsReady`).
 pub fn text_in<'a>(builder: dynamic_struct::Builder<'a>, name: &str) -> Result<text::Builder<'a>>
     requires { IsReady builder }
     ensures stands { (f : Field) → IsNamed (built_schema builder.entry) name.now f

@@ -53,8 +53,7 @@ impl<'s> Compatible<'s> {
     ghost use Rattle.capnp_compatible.specs.Checked.{AreRead, IsAsItWas, IsPair, IsSeen, IsReadUnder, Projects, ProjectsWhereRead, newer_of, older_of};
 
     /// The pair of an older schema and a newer one, where the newer is a compatible successor; nothing where it is not.
-    /// Both are brands of one set. The same is asked of each pair of structs that two shared fields name, and each pair
-    /// is looked at once.
+    /// The same is asked of each pair of structs that two shared fields name, and each pair is looked at once.
     ///
     /// It is a successor where the older fields are a beginning of the newer ones, by index, and each has its place,
     /// its discriminant value and its default still, and a type that is related: the same one; an enum with at least as
@@ -66,6 +65,10 @@ impl<'s> Compatible<'s> {
     /// or null.
     ///
     /// Refused with `OutOfMemory` where there is no memory for the list of pairs, and with nothing else.
+    ///
+    /// # Conditions
+    ///
+    /// Both schemas are brands of one accepted set (`IsStruct`).
     pub fn check(
         alloc: Global,
         older: StructSchema<'s>,
@@ -166,11 +169,15 @@ impl<'s> Compatible<'s> {
 
     /// A struct of the newer schema as the older one reads it. Fields that were added are not seen, an active member
     /// that was added is an unknown one, and a union that was added is none. Nothing is copied, no memory is taken, and
-    /// the levels stay. The struct has to be read under the newer schema.
+    /// the levels stay.
     ///
     /// Where a list became one of structs, this holds of a message in which each such list has elements of a size that
     /// the older type reads, and of which no part inside such a list is too deep for the reader. The levels that
     /// missing parts carry may differ there: pointers are read with one level more than those of structs.
+    ///
+    /// # Conditions
+    ///
+    /// The struct is read under the newer schema (`IsReadUnder`).
     #[tactic(auto, using(crate::proofs::Sees::narrowed, crate::proofs::Sees::narrowed_upgrade))]
     pub fn narrow(&self, reader: dynamic_struct::Reader<'s>) -> dynamic_struct::Reader<'s>
         requires { IsReadUnder reader (newer_of self.now) }
@@ -193,9 +200,13 @@ impl<'s> Compatible<'s> {
 
     /// A struct of the older schema as the newer one reads it, where fields that were added have what stands at their
     /// place: their default in a struct that was written under the older schema. Nothing is copied, no memory is taken,
-    /// and the levels stay. The struct has to be read under the older schema.
+    /// and the levels stay.
     ///
     /// Where a list became one of structs, this holds as of `narrow`.
+    ///
+    /// # Conditions
+    ///
+    /// The struct is read under the older schema (`IsReadUnder`).
     #[tactic(auto, using(crate::proofs::Sees::widened, crate::proofs::Sees::widened_upgrade))]
     pub fn widen(&self, reader: dynamic_struct::Reader<'s>) -> dynamic_struct::Reader<'s>
         requires { IsReadUnder reader (older_of self.now) }

@@ -18,7 +18,11 @@ pub struct CallPlan {
 
 impl CallPlan {
     /// Each call may move `chunk` bytes. Where `calls_before_failure` is some n, the first n calls
-    /// work, the next one fails, and those after it work again. `chunk` is not 0.
+    /// work, the next one fails, and those after it work again.
+    ///
+    /// # Conditions
+    ///
+    /// `chunk` is not 0.
     pub fn new(chunk: usize, calls_before_failure: Option<u64>) -> Self
         requires { 0 < chunk }
         ensures chunk { result.chunk ≡ chunk }

@@ -19,7 +19,11 @@ pub struct MemorySource<'a> {
 #[tactic(auto, unfolding(crate::specs::Ends::memory_left, crate::specs::Ends::read_plan))]
 impl<'a> MemorySource<'a> {
     /// The source of these bytes, with no failure yet. Where `calls_before_failure` is some n, the
-    /// first n calls work, the next one fails, and those after it work again. `chunk` is not 0.
+    /// first n calls work, the next one fails, and those after it work again.
+    ///
+    /// # Conditions
+    ///
+    /// `chunk` is not 0.
     pub fn new(bytes: &'a [u8], chunk: usize, calls_before_failure: Option<u64>) -> Self
         requires { 0 < chunk }
         ensures left { memory_left result ≡ bytes.now }
@@ -78,7 +82,11 @@ pub struct MemorySink {
 impl MemorySink {
     /// The sink that has taken no byte, with no failure yet. Where `calls_before_failure` is some n,
     /// the first n calls work as far as there is memory, the next one fails, and those after it work
-    /// again. `chunk` is not 0.
+    /// again.
+    ///
+    /// # Conditions
+    ///
+    /// `chunk` is not 0.
     pub fn new(alloc: Global, chunk: usize, calls_before_failure: Option<u64>) -> Self
         requires { 0 < chunk }
         ensures written { memory_written result ≡ [] }

@@ -125,8 +125,10 @@ impl<'a> Builder<'a> {
     /// with `OutOfMemory`; then nothing has changed, as `part::fill` says. Where nothing has to be filled or extended
     /// it is not refused.
     ///
-    /// The field has to belong to the schema; the struct has to have its schema's sections and stand at its place
-    /// (`IsReady`).
+    /// # Conditions
+    ///
+    /// The field belongs to the schema (`BelongsTo`). The struct has at least its schema's sections, and stands at its
+    /// place (`IsReady`).
     pub fn get(self, field: Field<'a>) -> Result<dynamic_value::Builder<'a>>
         requires belongs { BelongsTo field (built_schema self) }
         requires ready { IsReady self }
@@ -156,7 +158,10 @@ impl<'a> Builder<'a> {
     }
 
     /// What the field of a name has, as `get`. Refused with `FieldNotFound` where there is none of that name.
-    /// The struct has to have its schema's sections and stand at its place (`IsReady`).
+    ///
+    /// # Conditions
+    ///
+    /// The struct has at least its schema's sections, and stands at its place (`IsReady`).
     pub fn get_named(self, field_name: &str) -> Result<dynamic_value::Builder<'a>>
         requires { IsReady self }
         ensures stands { (f : Field) → IsNamed (built_schema self.entry) field_name.now f

@@ -126,16 +126,19 @@ fn is_behind_pointer(variant: TypeVariant) -> bool
 }
 
 impl<'a> Builder<'a> {
-    /// What an element has, to be written through; the element has to be there. A number is what stands there, and a
-    /// struct is the one of the list. A null text, data or list is an empty one and stays null; of a list of structs,
-    /// these get at least their schema's sections.
+    /// What an element has, to be written through. A number is what stands there, and a struct is the one of the list.
+    /// A null text, data or list is an empty one and stays null; of a list of structs, these get at least their
+    /// schema's sections.
     ///
     /// Refused with `WrongPointerKind`, `WrongElementSize` or `TextNotTerminated` where what stands there is not read
     /// as the elements' type, with `SizePastFormat` where the structs of a list would take 2^29 words or more, and else
     /// with `OutOfMemory`; then nothing has changed, as `element::fill` says. A struct and a number are not refused,
     /// and where nothing has to be extended nothing is refused for memory.
     ///
-    /// The list has to be ready (`IsListReady`).
+    /// # Conditions
+    ///
+    /// The list has elements of its type, and stands at its pointer (`IsListReady`). `index` is below the number of its
+    /// elements (`IsIn`).
     pub fn get(self, index: u32) -> Result<dynamic_value::Builder<'a>>
         requires ready { IsListReady self }
         requires inside { IsIn index self }

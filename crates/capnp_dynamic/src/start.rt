@@ -96,8 +96,10 @@ impl<'a> Builder<'a> {
     /// Refused with `InitIsOnlyValidForStructAndAnyPointerFields` for another slot, and with `OutOfMemory` for a
     /// struct; then nothing has changed, as `slot::init` says.
     ///
-    /// The field has to belong to the schema; the struct has to have its schema's sections and stand at its place
-    /// (`IsReady`).
+    /// # Conditions
+    ///
+    /// The field belongs to the schema (`BelongsTo`). The struct has at least its schema's sections, and stands at its
+    /// place (`IsReady`).
     pub fn init(self, field: Field<'a>) -> Result<dynamic_value::Builder<'a>>
         requires belongs { BelongsTo field (built_schema self) }
         requires ready { IsReady self }
@@ -123,7 +125,10 @@ impl<'a> Builder<'a> {
     }
 
     /// Starts the field of a name anew, as `init`. Refused first with `FieldNotFound` where there is none of that name.
-    /// The struct has to have its schema's sections and stand at its place (`IsReady`).
+    ///
+    /// # Conditions
+    ///
+    /// The struct has at least its schema's sections, and stands at its place (`IsReady`).
     pub fn init_named(self, field_name: &str) -> Result<dynamic_value::Builder<'a>>
         requires { IsReady self }
         ensures stands { (f : Field) → IsNamed (built_schema self.entry) field_name.now f
@@ -148,8 +153,10 @@ impl<'a> Builder<'a> {
     /// for a text of more than 2^29 - 2 bytes, data of more than 2^29 - 1, 2^29 elements or more, or structs that take
     /// 2^29 words or more; and with `OutOfMemory`. Then nothing has changed, as `field::initn` says.
     ///
-    /// The field has to belong to the schema; the struct has to have its schema's sections and stand at its place
-    /// (`IsReady`).
+    /// # Conditions
+    ///
+    /// The field belongs to the schema (`BelongsTo`). The struct has at least its schema's sections, and stands at its
+    /// place (`IsReady`).
     pub fn initn(self, field: Field<'a>, size: u32) -> Result<dynamic_value::Builder<'a>>
         requires belongs { BelongsTo field (built_schema self) }
         requires ready { IsReady self }
@@ -168,7 +175,10 @@ impl<'a> Builder<'a> {
 
     /// Starts the field of a name anew with a size, as `initn`. Refused first with `FieldNotFound` where there is none
     /// of that name.
-    /// The struct has to have its schema's sections and stand at its place (`IsReady`).
+    ///
+    /// # Conditions
+    ///
+    /// The struct has at least its schema's sections, and stands at its place (`IsReady`).
     pub fn initn_named(self, field_name: &str, size: u32) -> Result<dynamic_value::Builder<'a>>
         requires { IsReady self }
         ensures stands { (f : Field) → IsNamed (built_schema self.entry) field_name.now f

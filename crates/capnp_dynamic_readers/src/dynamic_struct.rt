@@ -87,7 +87,9 @@ impl<'a> Reader<'a> {
     /// pointer that can't be followed, and with `WrongPointerKind`, `WrongElementSize` or `TextNotTerminated` where
     /// what stands there is not read as the field's type.
     ///
-    /// The field has to belong to the schema.
+    /// # Conditions
+    ///
+    /// The field belongs to the schema (`BelongsTo`).
     #[inline(always)]
     pub fn get(self, field: Field<'a>) -> Result<dynamic_value::Reader<'a>>
         requires { BelongsTo field (schema_of self) }
@@ -123,7 +125,11 @@ impl<'a> Reader<'a> {
     }
 
     /// Whether a field may be read as it stands: false for a member that is not active, else true. `get` does not ask
-    /// it. The field has to belong to the schema.
+    /// it.
+    ///
+    /// # Conditions
+    ///
+    /// The field belongs to the schema (`BelongsTo`).
     #[inline(always)]
     pub fn is_active(&self, field: Field<'a>) -> bool
         requires { BelongsTo field (schema_of self.now) }
@@ -137,7 +143,10 @@ impl<'a> Reader<'a> {
     }
 
     /// False for a member that is not active and for a null pointer, else true. The answer is always Ok.
-    /// The field has to belong to the schema.
+    ///
+    /// # Conditions
+    ///
+    /// The field belongs to the schema (`BelongsTo`).
     #[inline(always)]
     pub fn has(&self, field: Field<'a>) -> Result<bool>
         requires { BelongsTo field (schema_of self.now) }
@@ -160,7 +169,11 @@ impl<'a> Reader<'a> {
         self.has(field)
     }
 
-    /// This struct by the handle of a struct type, which has to be that of the schema.
+    /// This struct by the handle of a struct type.
+    ///
+    /// # Conditions
+    ///
+    /// `T` is the handle of the schema's struct type (`type_of`).
     pub fn downcast<T: OwnedStruct<'a>>(self) -> T::Reader
         requires { seen_type T.type_of ≡ struct_type (schema_of self) }
         ensures { T.Reader.from_gives (reader_of self.entry) result }

@@ -117,7 +117,11 @@ pub trait DowncastReader<'a>: Sized {
     // Whether a dynamic value is of its kind.
     ghost is_kind: { Reader → Type 0 };
 
-    /// The value that a dynamic value of its kind holds.
+    /// The value that a dynamic value holds.
+    ///
+    /// # Conditions
+    ///
+    /// The dynamic value is of the type's kind (`is_kind`).
     fn downcast_reader(value: Reader<'a>) -> Self
         requires { is_kind value }
         ensures { value_of result ≡ value.entry };
@@ -138,7 +142,11 @@ impl<'a> Reader<'a> {
         read_view(schemas, value, value_type.which())
     }
 
-    /// The value that it holds, of the kind that the type names, which has to be this value's.
+    /// The value that it holds, of the kind that the type names.
+    ///
+    /// # Conditions
+    ///
+    /// The value is of the kind that `T` names (`is_kind`).
     pub fn downcast<T: DowncastReader<'a>>(self) -> T
         requires { T.is_kind self }
         ensures { T.value_of result ≡ self.entry }
@@ -146,7 +154,11 @@ impl<'a> Reader<'a> {
         T::downcast_reader(self)
     }
 
-    /// The struct that it holds, by the handle of a struct type, which has to be that of the struct's schema.
+    /// The struct that it holds, by the handle of a struct type.
+    ///
+    /// # Conditions
+    ///
+    /// The value is a struct, and `T` is the handle of its schema's type (`type_of`).
     pub fn downcast_struct<T: OwnedStruct<'a>>(self) -> T::Reader
         requires { IsStructAnd self (λ s. seen_type T.type_of ≡ struct_type (schema_of s)) }
         ensures { IsStructAnd self.entry (λ s. T.Reader.from_gives (reader_of s) result) }

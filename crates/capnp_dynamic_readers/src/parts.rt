@@ -40,9 +40,13 @@ fn list_of<'a>(part: Value<'a>) -> Result<dynamic_list::Reader<'a>>
     }
 }
 
-/// The struct or group that a field has. The field has to belong to the struct's schema.
+/// The struct or group that a field has.
 ///
 /// Refused as the read of the field, and with `TypeMismatch` exactly where that answers a value of another kind.
+///
+/// # Conditions
+///
+/// The field belongs to the struct's schema (`BelongsTo`).
 pub fn struct_in<'a>(
     reader: dynamic_struct::Reader<'a>,
     field: Field<'a>,

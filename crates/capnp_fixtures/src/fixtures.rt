@@ -56,7 +56,7 @@ pub struct FieldOf {
 }
 
 impl FieldOf {
-    /// The same field as a member of its struct's union.
+    /// A field as a member of its struct's union.
     pub fn member(self, discriminant_value: u16) -> FieldOf {
         FieldOf {
             discriminant_value,
@@ -138,7 +138,7 @@ pub fn slot(name: &'static str, offset: u32, variant: TypeVariant) -> FieldOf {
     slot_with(name, offset, field_type, zero_of(field_type))
 }
 
-/// The same of a type that is no variant alone.
+/// A non-union slot of any type, whose default is zero, empty or null.
 pub fn typed_slot(name: &'static str, offset: u32, field_type: Type) -> FieldOf {
     slot_with(name, offset, field_type, zero_of(field_type))
 }

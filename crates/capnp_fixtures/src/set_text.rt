@@ -29,7 +29,7 @@ use capnp_wire::error::Result;
 use std::alloc::Global;
 use std::str::FromStr;
 
-/// The same field at an offset, where it is a slot.
+/// A field with another offset, where it is a slot.
 fn at(field: FieldOf, offset: u32) -> FieldOf {
     match field.kind {
         KindOf::Slot { offset: _, default } => FieldOf {
@@ -40,7 +40,7 @@ fn at(field: FieldOf, offset: u32) -> FieldOf {
     }
 }
 
-/// The same field with a default, where it is a slot.
+/// A field with another default, where it is a slot.
 fn with_default(field: FieldOf, default: ValueOf) -> FieldOf {
     match field.kind {
         KindOf::Slot { offset, default: _ } => FieldOf {
@@ -51,7 +51,7 @@ fn with_default(field: FieldOf, default: ValueOf) -> FieldOf {
     }
 }
 
-/// The same field with a type: a slot is one of that type, and a group field stays what it is.
+/// A field with another type: a slot is one of that type, and a group field stays what it is.
 fn typed(field: FieldOf, field_type: Type) -> FieldOf {
     match field.kind {
         KindOf::Slot { .. } => typed_slot(field.name, 0, field_type),

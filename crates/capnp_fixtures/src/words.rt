@@ -206,7 +206,7 @@ pub fn named<T: Copy>(table: &[(&str, T)], name: &str) -> Option<T> {
     None
 }
 
-/// The same, of a name that a text has.
+/// What stands beside a name in a table, or that the text can't be read.
 fn known<T: Copy>(table: &[(&str, T)], name: &str) -> Result<T> {
     named(table, name).ok_or(UNREADABLE)
 }

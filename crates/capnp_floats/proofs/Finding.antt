@@ -1,8 +1,7 @@
 -- From the parts of a number to its search for digits, and from the digits found to its decimal.
-use Rattle.std.proofs.Common.{ℕ, zero, suc, ◌≡◌, ◌+◌, ◌-◌, ◌*◌, ◌/◌, ◌^◌, ◌%◌, ◌<◌, ◌≤◌, Bool, true, false, sym, ap, ◌∙◌, refl, subst, arith, lit<}
+use Rattle.std.proofs.Common.{ℕ, zero, suc, ◌≡◌, ◌+◌, ◌-◌, ◌*◌, ◌/◌, ◌^◌, ◌%◌, ◌<◌, ◌≤◌, Bool, ap, ◌∙◌, refl, subst, arith, lit<}
 use Rattle.std.proofs.Math.Nat.{pow-le-pow_right}
-use Rattle.std.proofs.lemmas.Nat.{mul-le, pow-add, pow_pos, mod_below}
-use Rattle.std.proofs.lemmas.Bool.{lt-leb, le-ltb}
+use Rattle.std.proofs.lemmas.Nat.{mul-le, pow-add, mod_below}
 use lib.IntN.{ℤ, pos, negsuc}
 use borrow.Author.Differences as differences
 use Rattle.capnp_floats.specs.declared.search.Search.{Search}
@@ -10,9 +9,9 @@ use Rattle.capnp_floats.specs.declared.width.Width.{Width}
 use Rattle.capnp_floats.specs.declared.width.Width.TheVariants.{Float32, Float64}
 use Rattle.capnp_floats.specs.Naturals.{room}
 use Rattle.capnp_floats.specs.Floats.{place, quarter_places}
-use Rattle.capnp_floats.specs.Shortest.{IsRounded, IsShortest, reaches, tens, tenths}
+use Rattle.capnp_floats.specs.Shortest.{IsRounded, IsShortest, tens, tenths}
 use Rattle.capnp_floats.specs.Steps.Intervals.{interval}
-use Rattle.capnp_floats.specs.Steps.Going.{FollowsSearch, IsSearchOpen, around}
+use Rattle.capnp_floats.specs.Steps.Going.{FollowsSearch, around}
 use Rattle.capnp_floats.proofs.Rounding.{same_interval, units_less}
 
 pub fits : (x k : ℕ) → x ≤ 2 ^ 56 → k ≤ 1076 → 10000 * (x * 2 ^ k) < room
@@ -27,34 +26,6 @@ fits_once n x k e h l =
     let f : 10000 * (x * 2 ^ k) < room = fits x k h l in
     let g : n * 2 ^ k ≡ x * 2 ^ k = ap (λ z. z * 2 ^ k) e in
     omega arith
-
-pub positive_times : (x k : ℕ) → 0 < x → 0 < x * 2 ^ k
-positive_times x k h =
-    let p : 0 < 2 ^ k = pow_pos k in
-    let q : 1 * 1 ≤ x * 2 ^ k = mul-le 1 1 x (2 ^ k) (omega arith) (omega arith) in
-    omega arith
-
-pub short_of : (ends : Bool) (x y : ℕ) → x < y → reaches ends x y ≡ false
-short_of true x y h = lt-leb y x h
-short_of false x y h = le-ltb y x (omega arith)
-
--- a search that begins is open
-pub open_start : (s : Search) (m gap u : ℕ) → 0 < m → m < 2 ^ 53 → 1 ≤ gap → gap ≤ 2 → 0 < u
-    → s.rest ≡ 4 * m * u → s.below ≡ gap * u → s.above ≡ 2 * u → s.digits ≡ 0 → s.tenths ≡ 0
-    → reaches s.has_ends (s.rest + s.above) s.one ≡ false → 100 * s.one < room → IsSearchOpen s
-open_start s m gap u mp mf wide narrow up er eb ea ed et passed small =
-    let low : gap * u ≤ 2 * u = mul-le gap u 2 u narrow (omega arith) in
-    let high : 1 * u ≤ gap * u = mul-le 1 u gap u wide (omega arith) in
-    let more : 4 * u ≤ 4 * m * u = mul-le 4 u (4 * m) u (omega arith) (omega arith) in
-    let most : 4 * m * u ≤ 2 ^ 56 * u = mul-le (4 * m) u (2 ^ 56) u (omega arith) (omega arith) in
-    record {
-      not_down = short_of s.has_ends s.below s.rest (omega arith);
-      not_up = passed;
-      many = subst (λ z. 2 ^ z ≤ s.below) (sym et) (let w : 1 ≤ s.below = omega arith in w);
-      above = omega arith;
-      size = let w : s.digits * s.one ≡ 0 * s.one = ap (λ z. z * s.one) ed in omega arith;
-      small = small;
-    }
 
 ten_positive : (j : ℕ) → 0 < 10 ^ j
 ten_positive zero = lit< tt

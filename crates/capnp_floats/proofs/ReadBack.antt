@@ -208,6 +208,19 @@ ends_even n x y h = ⊎_elim
 
 -- ---- a decimal in the interval ----
 
+-- a number and the one before it, and the gaps above and below, all in least numbers over the tenths
+record HasGaps (w : Width) (b : ℕ) (k : ℤ) (u v x y : ℕ) : Type 0 where
+  -- the number
+  here : u ≡ least_numbers w b * 10 ^ tenths k
+  -- the one before it
+  before : v ≡ least_numbers w (b - 1) * 10 ^ tenths k
+  -- the gap between them
+  rise : u ≡ v + y
+  -- twice the middle of the number and the next
+  upper : twice_middle w (10 ^ tenths k) b ≡ 2 * u + x
+  -- twice the middle of the number and the one before it
+  lower : twice_middle w (10 ^ tenths k) (b - 1) ≡ 2 * u - y
+
 lies_is_nearest : (w : Width) (b d : ℕ) (k : ℤ) → b < infinity_bits w → 0 < b → Lies (in_units (tens k) (tenths k) (interval_of w b)) d → IsNearest w d k b
 lies_is_nearest w b d k finite some lies =
     let p : 0 < 10 ^ tenths k = power_positive 10 (tenths k) (lit< tt) in
@@ -235,7 +248,7 @@ lies_is_nearest w b d k finite some lies =
     ∙ (let e : least_numbers w (b - 1) * 10 ^ tenths k + least_numbers w b * 10 ^ tenths k ≡ 2 * (least_numbers w b * 10 ^ tenths k) - 2 ^ place w (b - 1) * 10 ^ tenths k = omega arith in e) in
     let low = ends_even (significand w b) _ _ (low_end (significand w b % 2 == 0) d (significand w b) (gap_below w b) (10 ^ tenths k) (10 ^ tens k) (place w b) (quarter_places w) lies.above_low) in
     let high = ends_even (significand w b) _ _ (high_end (significand w b % 2 == 0) d (significand w b) (10 ^ tenths k) (10 ^ tens k) (place w b) (quarter_places w) lies.below_high) in
-    near_of w b d k finite some (least_numbers w b * 10 ^ tenths k) (least_numbers w (b - 1) * 10 ^ tenths k) (2 ^ place w b * 10 ^ tenths k) (2 ^ place w (b - 1) * 10 ^ tenths k) refl refl rise mid mid'
+    near_of w b d k finite some (least_numbers w b * 10 ^ tenths k) (least_numbers w (b - 1) * 10 ^ tenths k) (2 ^ place w b * 10 ^ tenths k) (2 ^ place w (b - 1) * 10 ^ tenths k) (record { here = refl; before = refl; rise = rise; upper = mid; lower = mid' })
     (⊎_elim
     (λ (l : 4 * (significand w b * 2 ^ place w b) * 10 ^ tenths k < d * 10 ^ tens k * 2 ^ quarter_places w + gap_below w b * 2 ^ place w b * 10 ^ tenths k). inl (omega arith))
     (λ l. let e : d * 10 ^ tens k * 2 ^ quarter_places w + gap_below w b * 2 ^ place w b * 10 ^ tenths k ≡ 4 * (significand w b * 2 ^ place w b) * 10 ^ tenths k = l.0 in let f : significand w b % 2 ≡ 0 = l.1 in inr (omega arith, omega arith))
@@ -245,12 +258,17 @@ lies_is_nearest w b d k finite some lies =
     (λ l. let e : 4 * (significand w b * 2 ^ place w b) * 10 ^ tenths k + 2 * 2 ^ place w b * 10 ^ tenths k ≡ d * 10 ^ tens k * 2 ^ quarter_places w = l.0 in let f : significand w b % 2 ≡ 0 = l.1 in inr (omega arith, omega arith))
     high)
   where
-    near_of : (w : Width) (b d : ℕ) (k : ℤ) → b < infinity_bits w → 0 < b → (u v x y : ℕ) → u ≡ least_numbers w b * 10 ^ tenths k → v ≡ least_numbers w (b - 1) * 10 ^ tenths k → u ≡ v + y
-        → twice_middle w (10 ^ tenths k) b ≡ 2 * u + x → twice_middle w (10 ^ tenths k) (b - 1) ≡ 2 * u - y
+    near_of : (w : Width) (b d : ℕ) (k : ℤ) → b < infinity_bits w → 0 < b → (u v x y : ℕ) → HasGaps w b k u v x y
         → (4 * u < 4 * decimal_numbers w d k + 2 * y) ⊎ ((4 * decimal_numbers w d k + 2 * y ≡ 4 * u) × (b % 2 ≡ 0))
         → (4 * decimal_numbers w d k < 4 * u + 2 * x) ⊎ ((4 * u + 2 * x ≡ 4 * decimal_numbers w d k) × (b % 2 ≡ 0))
         → IsNearest w d k b
-    near_of w b d k finite some u v x y eu ev rise mid mid' low high = ⊎_elim
+    near_of w b d k finite some u v x y gaps low high =
+        let eu : u ≡ least_numbers w b * 10 ^ tenths k = gaps.here in
+        let ev : v ≡ least_numbers w (b - 1) * 10 ^ tenths k = gaps.before in
+        let rise : u ≡ v + y = gaps.rise in
+        let mid : twice_middle w (10 ^ tenths k) b ≡ 2 * u + x = gaps.upper in
+        let mid' : twice_middle w (10 ^ tenths k) (b - 1) ≡ 2 * u - y = gaps.lower in
+        ⊎_elim
         (λ (l : decimal_numbers w d k < u).
         let again : b - 1 + 1 ≡ b = omega arith in
         subst (IsNearest w d k) again

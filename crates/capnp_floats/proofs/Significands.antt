@@ -1,13 +1,13 @@
 -- A value in so many parts of a place: its whole parts are the significand of the number below it.
-use Rattle.std.proofs.Common.{ℕ, ◌≡◌, ◌+◌, ◌-◌, ◌*◌, ◌/◌, ◌%◌, ◌^◌, ◌<◌, ◌≤◌, ◌==◌, ◌⊎◌, ⊎_elim, inl, inr, Bool, true, false, cond, refl, sym, ap, ◌∙◌, subst, arith, lit<}
+use Rattle.std.proofs.Common.{ℕ, ◌≡◌, ◌+◌, ◌-◌, ◌*◌, ◌/◌, ◌%◌, ◌^◌, ◌<◌, ◌≤◌, ◌==◌, ◌⊎◌, ⊎_elim, inl, inr, Bool, true, false, cond, refl, sym, ap, ◌∙◌, arith, lit<}
 use Rattle.std.proofs.Math.Nat.{mul-lt-mul_of_pos_right}
-use Rattle.std.proofs.lemmas.Nat.{mul-le, pow-add}
+use Rattle.std.proofs.lemmas.Nat.{pow-add}
 use Rattle.std.proofs.lemmas.Bool.{cases_lt, eq-eqb, ne_eqb}
 use Rattle.capnp_floats.specs.declared.width.Width.{Width}
 use Rattle.capnp_floats.specs.declared.width.Width.TheVariants.{Float32, Float64}
 use Rattle.capnp_floats.specs.Floats.{fraction_bits, place, significand}
 use Rattle.capnp_floats.specs.Nearest.{infinity_bits, least_numbers, least_places}
-use Rattle.capnp_floats.specs.Steps.Nearing.{IsChosen, IsFloor, TakesNearer, twice_middle}
+use Rattle.capnp_floats.specs.Steps.Nearing.{IsChosen, twice_middle}
 use Rattle.capnp_floats.proofs.Nearing.{next_number, numbers_are, power_positive}
 
 -- ---- bits by their significand and its place ----
@@ -58,10 +58,20 @@ abbrev pub TakesByRest : (rest parts bits r : ℕ) → Type 0
 TakesByRest rest parts bits r = ((r ≡ bits) × ((2 * rest < parts) ⊎ ((2 * rest ≡ parts) × (bits % 2 ≡ 0))))
     ⊎ ((r ≡ bits + 1) × ((parts < 2 * rest) ⊎ ((2 * rest ≡ parts) × (bits % 2 ≡ 1))))
 
--- whole: what the whole parts are; part: one part; left: the rest; all in least numbers over the tenths
-chosen_by : (w : Width) (value tenths whole part left bits r rest parts u : ℕ) → bits < infinity_bits w → least_numbers w bits * tenths ≡ whole → least_numbers w (bits + 1) * tenths ≡ whole + part
-    → value ≡ whole + left → part ≡ parts * u → left ≡ rest * u → 0 < u → rest < parts → TakesByRest rest parts bits r → IsChosen w value tenths r
-chosen_by w value tenths whole part left bits r rest parts u finite low high v ep el pu less takes =
+-- a value that is a number and what is left over it, all in least numbers over the tenths
+record IsPast (w : Width) (value tenths whole part left bits : ℕ) : Type 0 where
+  -- the number: what the whole parts are
+  low : least_numbers w bits * tenths ≡ whole
+  -- the next number is one part further
+  high : least_numbers w (bits + 1) * tenths ≡ whole + part
+  -- the value is the rest further
+  value_is : value ≡ whole + left
+
+chosen_by : (w : Width) (value tenths whole part left bits r rest parts u : ℕ) → bits < infinity_bits w → IsPast w value tenths whole part left bits → part ≡ parts * u → left ≡ rest * u → 0 < u → rest < parts → TakesByRest rest parts bits r → IsChosen w value tenths r
+chosen_by w value tenths whole part left bits r rest parts u finite past ep el pu less takes =
+    let low : least_numbers w bits * tenths ≡ whole = past.low in
+    let high : least_numbers w (bits + 1) * tenths ≡ whole + part = past.high in
+    let v : value ≡ whole + left = past.value_is in
     let k : rest * u < parts * u = mul-lt-mul_of_pos_right {m = rest} {n = parts} {k = u} less pu in
     let m : (least_numbers w bits + least_numbers w (bits + 1)) * tenths ≡ 2 * whole + part =
     (let f : (least_numbers w bits + least_numbers w (bits + 1)) * tenths ≡ least_numbers w bits * tenths + least_numbers w (bits + 1) * tenths = omega arith in f)
@@ -110,8 +120,8 @@ small_chosen w number tenths p value parts s m rest bits r ev ep e less finite e
     let high : least_numbers w (bits + 1) * tenths ≡ m * (tenths * 2 ^ p) + tenths * 2 ^ p = ap (λ z. z * tenths) n' ∙ turned_more m (2 ^ p) tenths in
     let whole : m * (tenths * 2 ^ p) ≡ m * (parts * 2 ^ s) = ap (λ z. m * z) (sym ep) in
     let all : number * 2 ^ least_places w ≡ m * (parts * 2 ^ s) + rest * 2 ^ s = sym ev ∙ ap (λ z. z * 2 ^ s) (sym e) ∙ apart m parts rest (2 ^ s) in
-    chosen_by w (number * 2 ^ least_places w) tenths (m * (parts * 2 ^ s)) (parts * 2 ^ s) (rest * 2 ^ s) bits r rest parts (2 ^ s) finite (low ∙ whole)
-    (high ∙ ap (λ z. z + tenths * 2 ^ p) whole ∙ ap (λ z. m * (parts * 2 ^ s) + z) (sym ep)) all refl refl pu less takes
+    chosen_by w (number * 2 ^ least_places w) tenths (m * (parts * 2 ^ s)) (parts * 2 ^ s) (rest * 2 ^ s) bits r rest parts (2 ^ s) finite
+    (record { low = low ∙ whole; high = high ∙ ap (λ z. z + tenths * 2 ^ p) whole ∙ ap (λ z. m * (parts * 2 ^ s) + z) (sym ep); value_is = all }) refl refl pu less takes
   where
     turned : (a b c : ℕ) → a * b * c ≡ a * (c * b)
     turned a b c = omega arith

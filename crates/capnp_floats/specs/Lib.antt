@@ -1,3 +1,4 @@
+pub mod Kept
 pub mod Naturals
 pub mod Shortest
 pub mod Floats

@@ -1,5 +1,4 @@
 pub mod Going
 pub mod Digits
 pub mod Intervals
-pub mod Kept
 pub mod Nearing

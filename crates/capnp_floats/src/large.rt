@@ -36,6 +36,10 @@ impl Large {
     }
 
     /// The natural times a factor.
+    ///
+    /// # Conditions
+    ///
+    /// The product is below 2^6144 (`large_room`).
     pub fn multiply(&mut self, factor: u32)
         requires { self.old * factor < large_room }
         ensures { self.new ≡ self.old * factor }
@@ -44,6 +48,10 @@ impl Large {
     }
 
     /// Puts a decimal digit behind those of the natural.
+    ///
+    /// # Conditions
+    ///
+    /// The natural with that digit is below 2^6144 (`large_room`).
     pub fn append(&mut self, digit: u8)
         requires { self.old * 10 + digit < large_room }
         ensures { self.new ≡ self.old * 10 + digit }
@@ -71,6 +79,10 @@ impl Large {
     }
 
     /// The natural times a power of two.
+    ///
+    /// # Conditions
+    ///
+    /// The product is below 2^6144 (`large_room`).
     pub fn double(&mut self, times: u32)
         requires { self.old * 2 ^ times < large_room }
         ensures { self.new ≡ self.old * 2 ^ times }
@@ -79,6 +91,10 @@ impl Large {
     }
 
     /// The natural times a power of ten.
+    ///
+    /// # Conditions
+    ///
+    /// The product is below 2^6144 (`large_room`).
     pub fn multiply_tens(&mut self, times: u32)
         requires { self.old * 10 ^ times < large_room }
         ensures { self.new ≡ self.old * 10 ^ times }

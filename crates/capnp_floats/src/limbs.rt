@@ -16,7 +16,11 @@ pub fn scale(row: &mut [u32], factor: u32, more: u32) -> u32
     carry
 }
 
-/// A row becomes its sum with another of its length. What its places don't hold is answered.
+/// A row becomes its sum with another. What its places don't hold is answered.
+///
+/// # Conditions
+///
+/// Both rows have the same length.
 pub fn add(row: &mut [u32], other: &[u32]) -> u32
     requires { length row.old ≡ length other.now }
     ensures value { natural_of row.new + 2 ^ (32 * length row.old) * result ≡ natural_of row.old + natural_of other.now }
@@ -31,7 +35,11 @@ pub fn add(row: &mut [u32], other: &[u32]) -> u32
     carry
 }
 
-/// Another row of its length is taken from a row. What had to be lent is answered.
+/// Another row is taken from a row. What had to be lent is answered.
+///
+/// # Conditions
+///
+/// Both rows have the same length.
 pub fn subtract(row: &mut [u32], other: &[u32]) -> u64
     requires { length row.old ≡ length other.now }
     ensures value { natural_of row.new + natural_of other.now ≡ natural_of row.old + 2 ^ (32 * length row.old) * result }
@@ -47,7 +55,11 @@ pub fn subtract(row: &mut [u32], other: &[u32]) -> u64
     lent
 }
 
-/// Whether a row is less than another of its length.
+/// Whether a row is less than another.
+///
+/// # Conditions
+///
+/// Both rows have the same length.
 pub fn is_below(row: &[u32], other: &[u32]) -> bool
     requires { length row.now ≡ length other.now }
     ensures { result ≡ nat_lt (natural_of row.now) (natural_of other.now) }

@@ -1,7 +1,7 @@
 //! Naturals below 2^1152: those of at most 128 bits as numbers, so that most floats are written by these alone.
 ghost use Rattle.std.specs.Prelude.{ℕ, ◌≡◌, ◌+◌, ◌*◌, ◌^◌, ◌<◌, ◌≤◌, IfSome, nat_lt};
 ghost use Rattle.capnp_floats.specs.Naturals.{room};
-ghost use Rattle.capnp_floats.specs.Steps.Kept.{natural_kept};
+ghost use Rattle.capnp_floats.specs.Kept.{natural_kept};
 
 use crate::small::times;
 use crate::wide::Wide;
@@ -70,6 +70,10 @@ impl Natural {
     }
 
     /// The natural times a factor.
+    ///
+    /// # Conditions
+    ///
+    /// The product is below 2^1152 (`room`).
     #[inline(always)]
     pub fn multiply(&mut self, factor: u32)
         requires { self.old * factor < room }
@@ -93,6 +97,10 @@ impl Natural {
     }
 
     /// The natural times a power of two.
+    ///
+    /// # Conditions
+    ///
+    /// The product is below 2^1152 (`room`).
     pub fn double(&mut self, twos: u32)
         requires { self.old * 2 ^ twos < room }
         ensures { self.new ≡ self.old * 2 ^ twos }
@@ -118,6 +126,10 @@ impl Natural {
     }
 
     /// The sum with another.
+    ///
+    /// # Conditions
+    ///
+    /// The sum is below 2^1152 (`room`).
     #[inline(always)]
     pub fn sum(&self, other: &Natural) -> Natural
         requires { self.now + other.now < room }
@@ -146,6 +158,10 @@ impl Natural {
     }
 
     /// Takes another from the natural.
+    ///
+    /// # Conditions
+    ///
+    /// The other is no greater than the natural.
     #[inline(always)]
     pub fn subtract(&mut self, other: &Natural)
         requires { other.now ≤ self.old }

@@ -38,6 +38,10 @@ impl Wide {
     }
 
     /// The natural times a factor.
+    ///
+    /// # Conditions
+    ///
+    /// The product is below 2^1152 (`room`).
     pub fn multiply(&mut self, factor: u32)
         requires { self.old * factor < room }
         ensures { self.new ≡ self.old * factor }
@@ -46,6 +50,10 @@ impl Wide {
     }
 
     /// The natural times a power of two.
+    ///
+    /// # Conditions
+    ///
+    /// The product is below 2^1152 (`room`).
     pub fn double(&mut self, times: u32)
         requires { self.old * 2 ^ times < room }
         ensures { self.new ≡ self.old * 2 ^ times }
@@ -56,6 +64,10 @@ impl Wide {
     }
 
     /// The sum with another.
+    ///
+    /// # Conditions
+    ///
+    /// The sum is below 2^1152 (`room`).
     pub fn sum(&self, other: &Wide) -> Wide
         requires { self.now + other.now < room }
         ensures { result ≡ self.now + other.now }
@@ -66,6 +78,10 @@ impl Wide {
     }
 
     /// Takes another from the natural.
+    ///
+    /// # Conditions
+    ///
+    /// The other is no greater than the natural.
     pub fn subtract(&mut self, other: &Wide)
         requires { other.now ≤ self.old }
         ensures { self.new + other.now ≡ self.old }

@@ -91,20 +91,42 @@ printed-is : (q : Bool) (h : StructHandle) (r : Record) → record_seen h ≡ r 
 printed-is true h r e = ap value.Group e
 printed-is false h r e = ap value.Struct e
 
+-- a reader is that of the struct at a message's root
+pub record IsRootReader (bytes : List ℕ) (root x : Tree) (n : ℕ) (r : StructReader) : Type 0 where
+  -- the message was received, with this tree at its root
+  pub received : Ok root ≡ message_tree_of bytes
+  -- what was asked for a struct is the root, with all the levels of a message
+  pub at_root : x ≡ root
+  pub limit : n ≡ 64
+  -- the struct that it gave, a level further down
+  pub read : Ok (struct_of r) ≡ as_struct x n
+  pub levels : struct_levels r + 1 ≡ n
+
+-- a handle is a reader's, under a schema that is that of a brand of a set
+pub record IsUnderBrand (set : Schemas) (b : ℕ) (h : StructHandle) (s : StructSchema) (r : StructReader) : Type 0 where
+  pub schema : schema_of h ≡ s
+  pub reader : reader_of h ≡ r
+  -- the schema is one of its set
+  pub stands : IsStruct s
+  pub in_set : set_of s ≡ set
+  pub number : number_of s ≡ b
+
 -- the JSON of a struct's reader under a brand is that of the message whose root it stands on
 pub json_seen : (set : Schemas) (b : ℕ) (indented : Bool) (bytes : List ℕ) (root x : Tree) (n : ℕ) (h : StructHandle) (s : StructSchema) (r : StructReader) →
-    Ok root ≡ message_tree_of bytes → x ≡ root → n ≡ 64 → Ok (struct_of r) ≡ as_struct x n → struct_levels r + 1 ≡ n →
-    schema_of h ≡ s → reader_of h ≡ r → IsStruct s → set_of s ≡ set → number_of s ≡ b →
-    written_json indented (dynamic.Struct h) ≡ message_json set b indented bytes
-json_seen set b indented bytes root x n h s r whole tree_is levels_are read levels schema reader stands set_is number_is =
+    IsRootReader bytes root x n r → IsUnderBrand set b h s r → written_json indented (dynamic.Struct h) ≡ message_json set b indented bytes
+json_seen set b indented bytes root x n h s r at under =
+    let schema : schema_of h ≡ s = under.schema in
+    let reader : reader_of h ≡ r = under.reader in
+    let set_is : set_of s ≡ set = under.in_set in
+    let number_is : number_of s ≡ b = under.number in
     let in_set : set_of (schema_of h) ≡ set = ap set_of schema ∙ set_is in
     let of_brand : number_of (schema_of h) ≡ b = ap number_of schema ∙ number_is in
-    let typed : struct_type (schema_of h) ≡ root_type set b = ap struct_type schema ∙ ap₂ StructType number_is (stands.generic ∙ ap₂ (λ y z. (brand_at y z).node) set_is number_is) in
+    let typed : struct_type (schema_of h) ≡ root_type set b = ap struct_type schema ∙ ap₂ StructType number_is (under.stands.generic ∙ ap₂ (λ y z. (brand_at y z).node) set_is number_is) in
     let seen : record_seen h ≡ struct_record set (Left (struct_levels r)) (struct_of r) b = cc in
     let group : (node_of (set_of (schema_of h)) (number_of (schema_of h))).is_group ≡ (node_of set b).is_group = ap₂ (λ y z. (node_of y z).is_group) in_set of_brand in
-    let read_there : Ok (struct_of r) ≡ as_struct root 64 = read ∙ ap₂ as_struct tree_is levels_are in
+    let read_there : Ok (struct_of r) ≡ as_struct root 64 = at.read ∙ ap₂ as_struct at.at_root at.limit in
     ap (λ y. json_of y indented (struct_type (schema_of h)) (value_printed (dynamic.Struct h))) in_set
     ∙ (ap (λ t. json_of set indented t (value_printed (dynamic.Struct h))) typed
     ∙ (ap (λ q. json_of set indented (root_type set b) (struct_printed q h)) group
     ∙ (ap (json_of set indented (root_type set b)) (printed-is (node_of set b).is_group h _ seen)
-    ∙ (json_of_root set b indented root (struct_of r) (struct_levels r) read_there (levels ∙ levels_are) ∙ ap (root_json set b indented) whole))))
+    ∙ (json_of_root set b indented root (struct_of r) (struct_levels r) read_there (at.levels ∙ at.limit) ∙ ap (root_json set b indented) at.received))))

@@ -17,6 +17,10 @@ use std::alloc::Global;
 ///
 /// Refused as `to_json`, and with `Read` where the bytes are no message (`Truncated`, `TooManySegments`) or its root is
 /// not read as a struct.
+///
+/// # Conditions
+///
+/// The schema is one of an accepted set (`IsStruct`).
 pub fn message_to_json(
     alloc: Global,
     schema: StructSchema<'_>,

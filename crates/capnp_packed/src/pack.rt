@@ -122,10 +122,14 @@ fn append_piece(out: &mut Vec<u8>, word: &[u8], behind: &[u8]) -> Result<usize>
     append_run(out, tag, behind)
 }
 
-/// The packed form of bytes, which are whole words (encoding, "Packing"). So the C++ library packs a message of one
-/// segment, byte for byte. 8 n bytes take at most 10 n.
+/// The packed form of bytes (encoding, "Packing"). So the C++ library packs a message of one segment, byte for byte.
+/// 8 n bytes take at most 10 n.
 ///
 /// Refused with `OutOfMemory` alone.
+///
+/// # Conditions
+///
+/// The bytes are whole words.
 pub fn pack(alloc: Global, bytes: &[u8]) -> Result<Vec<u8>>
     requires whole { length bytes.now % 8 ≡ 0 }
     ensures packed { IfOk result (λ v. v.items ≡ packed_form bytes.now) }

@@ -155,23 +155,40 @@ map-map f g (x ∷ xs) = ap (λ ys. f (g x) ∷ ys) (map-map f g xs)
 pub children_of : (ts : List (Vec TypeHandle Global)) (types : List (List TypeHandle)) → map (λ (v : Vec TypeHandle Global). v.items) ts ≡ types → map (λ (v : Vec TypeHandle Global). map seen_type v.items) ts ≡ map (λ (xs : List TypeHandle). map seen_type xs) types
 children_of ts types e = map-map (λ (xs : List TypeHandle). map seen_type xs) (λ (v : Vec TypeHandle Global). v.items) ts ∙ ap (map (λ (xs : List TypeHandle). map seen_type xs)) e
 
--- a node by its parts, and a brand by its
+-- a node by its parts
 abbrev node_by : ℕ → List ℕ → List Annotation → ℕ → ℕ → Bool → ℕ → ℕ → List Field → Node
 node_by id name own words pointers group count offset fields = record { id = id; display_name = name; annotations = own; data_word_count = words; pointer_count = pointers; is_group = group; discriminant_count = count; discriminant_offset = offset; fields = fields }
 
-pub node_seen : (r : NodeRecord) (id : ℕ) (name : List ℕ) (own : List Annotation) (words : ℕ) (pointers : ℕ) (group : Bool) (count : ℕ) (offset : ℕ) (fields : List Field) → id ≡ r.id → name ≡ string_bytes r.display_name → own ≡ seen_annotations r.annotations.items → words ≡ r.body.data_word_count → pointers ≡ r.body.pointer_count → group ≡ r.body.is_group → count ≡ r.body.discriminant_count → offset ≡ r.body.discriminant_offset → fields ≡ map seen_field r.body.fields.items
-    → node_by id name own words pointers group count offset fields ≡ seen_node r
-node_seen r id name own words pointers group count offset fields e0 e1 e2 e3 e4 e5 e6 e7 e8 =
-    ap (λ (x : ℕ). node_by x name own words pointers group count offset fields) e0
-    ∙ (ap (λ (x : List ℕ). node_by (r.id) x own words pointers group count offset fields) e1
-    ∙ (ap (λ (x : List Annotation). node_by (r.id) (string_bytes r.display_name) x words pointers group count offset fields) e2
-    ∙ (ap (λ (x : ℕ). node_by (r.id) (string_bytes r.display_name) (seen_annotations r.annotations.items) x pointers group count offset fields) e3
-    ∙ (ap (λ (x : ℕ). node_by (r.id) (string_bytes r.display_name) (seen_annotations r.annotations.items) (r.body.data_word_count) x group count offset fields) e4
-    ∙ (ap (λ (x : Bool). node_by (r.id) (string_bytes r.display_name) (seen_annotations r.annotations.items) (r.body.data_word_count) (r.body.pointer_count) x count offset fields) e5
-    ∙ (ap (λ (x : ℕ). node_by (r.id) (string_bytes r.display_name) (seen_annotations r.annotations.items) (r.body.data_word_count) (r.body.pointer_count) (r.body.is_group) x offset fields) e6
-    ∙ (ap (λ (x : ℕ). node_by (r.id) (string_bytes r.display_name) (seen_annotations r.annotations.items) (r.body.data_word_count) (r.body.pointer_count) (r.body.is_group) (r.body.discriminant_count) x fields) e7
-    ∙ (ap (λ (x : List Field). node_by (r.id) (string_bytes r.display_name) (seen_annotations r.annotations.items) (r.body.data_word_count) (r.body.pointer_count) (r.body.is_group) (r.body.discriminant_count) (r.body.discriminant_offset) x) e8))))))))
+-- each part of a node is that of a record, as it is seen
+pub record HasPartsOf (r : NodeRecord) (n : Node) : Type 0 where
+  -- what the node is called, and the annotations on it
+  pub id : n.id ≡ r.id
+  pub display_name : n.display_name ≡ string_bytes r.display_name
+  pub annotations : n.annotations ≡ seen_annotations r.annotations.items
+  -- the sections of its structs
+  pub data_word_count : n.data_word_count ≡ r.body.data_word_count
+  pub pointer_count : n.pointer_count ≡ r.body.pointer_count
+  pub is_group : n.is_group ≡ r.body.is_group
+  -- its union and its fields
+  pub discriminant_count : n.discriminant_count ≡ r.body.discriminant_count
+  pub discriminant_offset : n.discriminant_offset ≡ r.body.discriminant_offset
+  pub fields : n.fields ≡ map seen_field r.body.fields.items
 
+-- so it is the node that is seen in the record
+pub node_seen : (r : NodeRecord) (n : Node) → HasPartsOf r n → n ≡ seen_node r
+node_seen r n parts =
+    let s : Node = seen_node r in
+    ap (λ (x : ℕ). node_by x n.display_name n.annotations n.data_word_count n.pointer_count n.is_group n.discriminant_count n.discriminant_offset n.fields) parts.id
+    ∙ (ap (λ (x : List ℕ). node_by s.id x n.annotations n.data_word_count n.pointer_count n.is_group n.discriminant_count n.discriminant_offset n.fields) parts.display_name
+    ∙ (ap (λ (x : List Annotation). node_by s.id s.display_name x n.data_word_count n.pointer_count n.is_group n.discriminant_count n.discriminant_offset n.fields) parts.annotations
+    ∙ (ap (λ (x : ℕ). node_by s.id s.display_name s.annotations x n.pointer_count n.is_group n.discriminant_count n.discriminant_offset n.fields) parts.data_word_count
+    ∙ (ap (λ (x : ℕ). node_by s.id s.display_name s.annotations s.data_word_count x n.is_group n.discriminant_count n.discriminant_offset n.fields) parts.pointer_count
+    ∙ (ap (λ (x : Bool). node_by s.id s.display_name s.annotations s.data_word_count s.pointer_count x n.discriminant_count n.discriminant_offset n.fields) parts.is_group
+    ∙ (ap (λ (x : ℕ). node_by s.id s.display_name s.annotations s.data_word_count s.pointer_count s.is_group x n.discriminant_offset n.fields) parts.discriminant_count
+    ∙ (ap (λ (x : ℕ). node_by s.id s.display_name s.annotations s.data_word_count s.pointer_count s.is_group s.discriminant_count x n.fields) parts.discriminant_offset
+    ∙ (ap (λ (x : List Field). node_by s.id s.display_name s.annotations s.data_word_count s.pointer_count s.is_group s.discriminant_count s.discriminant_offset x) parts.fields))))))))
+
+-- a brand by its parts
 abbrev brand_by : ℕ → List SchemaType → List SchemaType → List (List SchemaType) → Brand
 brand_by number types own children = record { node = number; field_types = types; annotation_types = record { own = own; children = children } }
 

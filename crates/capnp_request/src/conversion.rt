@@ -304,7 +304,7 @@ fn make_all<'a>(context: Context<'_, 'a>, mut entries: Entries) -> Result<Conver
     Err(Error::from(ErrorKind::TooManyTypes))
 }
 
-/// The lists and notes that a request stands for. Its reader has to be of brand 0 of the request set.
+/// The lists and notes that a request stands for.
 ///
 /// Brand k has node k: one for each struct node with bindings and for each group that a field names, in the order in
 /// which they are first named. The roots come first, then what the fields and annotations of each name.
@@ -317,6 +317,10 @@ fn make_all<'a>(context: Context<'_, 'a>, mut entries: Entries) -> Result<Conver
 /// `UnknownKind` for a discriminant that the request set lacks, `NameNotUtf8`, `NodeNotFound` for an id that no node of
 /// the kind has, `TooManyTypes` for more than 65,536 entries or a display name of more than 1,024 bytes, and where
 /// `strict` says so `FloatType` and `InterfaceType`. Where several stand there, any of them may be named.
+///
+/// # Conditions
+///
+/// The reader is of brand 0 of the request set (`IsRequestRecord`).
 pub fn read_request(
     alloc: Global,
     reader: dynamic_struct::Reader<'_>,

@@ -16,12 +16,16 @@ use capnp_wire::error::Result;
 use std::alloc::Global;
 
 /// Makes calls along paths of the struct that a builder stands on, as `run_on`. The builder is given by value, and
-/// `root.exit.0` is what its reference leads to then. The builder's schema is one of an accepted set; its struct has
-/// the schema's sections.
+/// `root.exit.0` is what its reference leads to then.
 ///
 /// Refused with `OutOfMemory` where there is no room for the replies, and then nothing has changed. Once there is, a
 /// call that takes no memory on what the one before it left is refused neither with `OutOfMemory` nor with
 /// `SizePastFormat`.
+///
+/// # Conditions
+///
+/// The builder's schema is one of an accepted set (`IsStruct`). The struct has at least its schema's sections, and
+/// stands at its place (`IsReady`).
 pub fn run(
     alloc: Global,
     root: dynamic_struct::Builder<'_>,

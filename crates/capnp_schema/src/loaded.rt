@@ -25,7 +25,11 @@ fn load_byte(reader: &StructReader<'_>, start: u32) -> u64
     reader.get_data_field::<u8>(start / 8) as u64
 }
 
-/// The number of two bytes at `start`, which has to be a multiple of 16; zero past the end of the section.
+/// The number of two bytes at `start`; zero past the end of the section.
+///
+/// # Conditions
+///
+/// `start` is a multiple of 16.
 #[inline(always)]
 #[tactic(auto, using(crate::proofs::LoadedBits::load_16))]
 pub fn load_pair(reader: &StructReader<'_>, start: u32) -> u16
@@ -57,6 +61,10 @@ fn load_word(reader: &StructReader<'_>, start: u32) -> u64
 }
 
 /// The bits of a slot's width at `start`; zeros past the end of the section.
+///
+/// # Conditions
+///
+/// `width` is that of a slot (`is_slot_width`), and `start` is a multiple of it.
 #[tactic(auto, using(crate::proofs::LoadedBits::load_bounded))]
 pub fn load_bits(reader: &StructReader<'_>, start: u32, width: u8) -> u64
     requires width { IsTrue (is_slot_width width) }

@@ -18,7 +18,7 @@ fn name_entry(alloc: Global, rule: u32, table: SchemaTable, entry: usize) -> Res
     Ok(words)
 }
 
-/// The same, and a field of the entry.
+/// A broken rule, the entry, and a field of it.
 fn name_field(
     alloc: Global,
     rule: u32,

@@ -17,13 +17,17 @@ use capnp_wire::size::ElementSize;
 use std::alloc::Global;
 
 /// The nodes, brands and enums that the record of a set stands for, of which `SchemaSet::new` makes a set. Missing
-/// parts are read as their defaults. The record has to be of brand 0 of the meta set.
+/// parts are read as their defaults.
 ///
 /// Refused with `OutOfMemory`, or with a number whose cause stands in the record: that of a part that can't be read
 /// (`BadPointer`, `WrongPointerKind`, `WrongElementSize`, `TextNotTerminated`, `TooDeep`, `CapabilityPointer`),
 /// `FloatType` or `InterfaceType` for a type that is one, `UnknownKind` for another base or for the discriminant of a
 /// field or value that is none of the meta set's, and `NameNotUtf8`. Where several stand in the record, any of them may
 /// be named.
+///
+/// # Conditions
+///
+/// The record is of brand 0 of the meta set (`IsMetaRecord`).
 #[tactic(auto, unfolding(crate::specs::Lists::set_meant))]
 pub fn read_set(
     alloc: Global,
@@ -46,11 +50,14 @@ pub fn read_set(
     Ok((nodes, brands, enums))
 }
 
-/// The set that a record stands for, checked: `read_set` and `SchemaSet::new`. The record has to be of brand 0 of the
-/// meta set.
+/// The set that a record stands for, checked: `read_set` and `SchemaSet::new`.
 ///
 /// Refused as these are: with `OutOfMemory`, with a number whose cause stands in the record, or, where the record
 /// stands for lists, with `Schema` and the number of a rule that they break.
+///
+/// # Conditions
+///
+/// The record is of brand 0 of the meta set (`IsMetaRecord`).
 pub fn read_schema_set(alloc: Global, reader: dynamic_struct::Reader<'_>) -> Result<SchemaSet>
     requires { IsMetaRecord 0 reader }
     ensures set { IfOk result (λ schemas. lists_meant (record_seen reader.entry) ≡ Some (lists_seen schemas)) }

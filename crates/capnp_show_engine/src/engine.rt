@@ -18,14 +18,17 @@ use std::alloc::Global;
 
 /// Reads the source to its end and writes the text of the first message's root, read as a struct of that brand of the
 /// set, and a line break: on one line, or indented on several. What follows the message is not looked at (encoding,
-/// "Serialization Over a Stream"). The text is made whole before its first byte is written. `brand` has to be one of
-/// the set's.
+/// "Serialization Over a Stream"). The text is made whole before its first byte is written.
 ///
 /// Refused with `ReadFailed` or `WriteFailed` where a call of the source or the sink failed, with `OutOfMemory`, as the
 /// message is (`Truncated`, `TooManySegments`), and with the number of the first value that can't be read, in the
 /// text's order: `BadPointer`, `WrongPointerKind`, `WrongElementSize`, `TextNotTerminated`, `TooDeep` or
 /// `CapabilityPointer`. After `WriteFailed` a proper beginning of the text and its line break was written, after any
 /// other refusal nothing.
+///
+/// # Conditions
+///
+/// `brand` is below the number of the set's brands.
 pub fn show<R: Source, W: Sink>(
     alloc: Global,
     schemas: &SchemaSet,

@@ -271,7 +271,10 @@ pub fn is_behind(variant: TypeVariant) -> bool
 /// a pointer in what it leads to can't be followed, by the first of these in preorder; and with `OutOfMemory`. Then
 /// nothing has changed.
 ///
-/// The field has to be a slot, and the struct to have the sections of the field's schema.
+/// # Conditions
+///
+/// The field is a slot (`IsSlot`). A struct of this message stands at the place (`IsBuilt`), with at least the sections
+/// of the field's schema (`IsRoomFor`).
 pub fn copy(
     arena: &mut Arena,
     place: StructPlace,

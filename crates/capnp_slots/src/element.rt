@@ -95,7 +95,12 @@ fn number_in(schemas: &SchemaSet, element: Type, value: Primitive) -> Result<u64
 /// number alone. No memory is taken.
 ///
 /// Refused with `ListAnyPointerNotSupported` for an untyped element, and with `TypeMismatch` where the element is of
-/// another kind than the value; then nothing has changed. An element of that type has to be there.
+/// another kind than the value; then nothing has changed.
+///
+/// # Conditions
+///
+/// The pointer at the word `at` leads to a tree of this message, no two of whose parts share a word (`Forest`). That
+/// has an element of the type at `index`, unless this is Void (`HasElementThere`).
 pub fn set_primitive(
     arena: &mut Arena,
     at: usize,
@@ -267,7 +272,10 @@ fn set_struct(
 /// source can't be followed, by the first of these in preorder, also where it would not fit; with `SizePastFormat` for
 /// a text of more than 2^29 - 2 bytes or data of more than 2^29 - 1; and with `OutOfMemory`. Then nothing has changed.
 ///
-/// An element of that type has to be there.
+/// # Conditions
+///
+/// The pointer at the word `at` leads to a tree of this message, no two of whose parts share a word (`Forest`). That
+/// has an element of the type at `index`, unless this is Void (`HasElementThere`).
 pub fn set(
     arena: &mut Arena,
     at: usize,
@@ -330,7 +338,10 @@ fn init_at(
 /// no list, text or data; with `SizePastFormat` for a text of more than 2^29 - 2 bytes, data of more than 2^29 - 1,
 /// 2^29 elements or more, or structs that take 2^29 words or more; and with `OutOfMemory`. Then nothing has changed.
 ///
-/// An element of that type has to be there.
+/// # Conditions
+///
+/// The pointer at the word `at` leads to a tree of this message, no two of whose parts share a word (`Forest`). That
+/// has an element of the type at `index`, unless this is Void (`HasElementThere`).
 pub fn init(
     arena: &mut Arena,
     at: usize,
@@ -368,7 +379,11 @@ pub fn init(
 /// the element's type, with `SizePastFormat` where the structs of a list would take 2^29 words or more, and else with
 /// `OutOfMemory`; then nothing has changed. Where nothing has to be extended no memory is taken.
 ///
-/// The list has to be well-formed, and the element to stand behind a pointer.
+/// # Conditions
+///
+/// The pointer at the word `at` leads to a tree of this message, no two of whose parts share a word (`Forest`). That is
+/// a list with a pointer at `index` (`HasPointer`). An element of the type stands behind a pointer of its own
+/// (`is_behind`).
 pub fn fill(
     arena: &mut Arena,
     at: usize,
@@ -464,7 +479,9 @@ fn fill_behind(
 /// `SizePastFormat` where the structs would take 2^29 words or more, and else with `OutOfMemory`; then nothing has
 /// changed. Where no struct has to be extended no memory is taken.
 ///
-/// What the pointer leads to has to be well-formed.
+/// # Conditions
+///
+/// The pointer at the word `at` leads to a tree of this message, no two of whose parts share a word (`Forest`).
 pub fn fill_list(arena: &mut Arena, at: usize, schemas: &SchemaSet, element: Type) -> Result<()>
     requires forest { Forest (segment arena.old) at }
     ensures frame { OnOk result (LeavesPointer at arena.old arena.new) }

@@ -21,7 +21,10 @@ use capnp_wire::error::{Error, ErrorKind, Result};
 /// Refused as these. A slot that was refused has changed nothing; a group stays as it is by then, cleared and with what
 /// was copied before, where a copy was refused.
 ///
-/// The struct has to have the sections of the field's schema.
+/// # Conditions
+///
+/// A struct of this message stands at the place (`IsBuilt`), with at least the sections of the field's schema
+/// (`IsRoomFor`).
 #[tactic(auto, using(crate::proofs::FieldWrites::slot_was_set, crate::proofs::FieldWrites::group_was_set, crate::specs::Facts::Outcomes::frame_after))]
 #[inline(always)]
 pub fn set(
@@ -49,7 +52,10 @@ pub fn set(
 ///
 /// Refused as `slot::init`; then nothing has changed.
 ///
-/// The struct has to have the sections of the field's schema.
+/// # Conditions
+///
+/// A struct of this message stands at the place (`IsBuilt`), with at least the sections of the field's schema
+/// (`IsRoomFor`).
 #[tactic(auto, using(crate::proofs::FieldWrites::slot_was_init, crate::proofs::FieldWrites::group_was_init, crate::specs::Facts::Outcomes::frame_after))]
 #[inline(always)]
 pub fn init(arena: &mut Arena, place: StructPlace, field: Field<'_>) -> Result<()>
@@ -73,7 +79,10 @@ pub fn init(arena: &mut Arena, place: StructPlace, field: Field<'_>) -> Result<(
 /// Refused with `InitnIsOnlyValidForListTextOrDataFields` for a group, and else as `slot::initn`; then nothing has
 /// changed.
 ///
-/// The struct has to have the sections of the field's schema.
+/// # Conditions
+///
+/// A struct of this message stands at the place (`IsBuilt`), with at least the sections of the field's schema
+/// (`IsRoomFor`).
 #[tactic(auto, using(crate::specs::Facts::Outcomes::frame_after))]
 #[inline(always)]
 pub fn initn(arena: &mut Arena, place: StructPlace, field: Field<'_>, count: u32) -> Result<()>
@@ -97,7 +106,10 @@ pub fn initn(arena: &mut Arena, place: StructPlace, field: Field<'_>, count: u32
 
 /// Clears a field: a slot as `slot::clear`, and a group as `group::clear`. No memory is taken.
 ///
-/// The struct has to have the sections of the field's schema.
+/// # Conditions
+///
+/// A struct of this message stands at the place (`IsBuilt`), with at least the sections of the field's schema
+/// (`IsRoomFor`).
 #[tactic(auto, using(crate::proofs::FieldWrites::cleared_slot, crate::proofs::FieldWrites::cleared_group))]
 #[inline(always)]
 pub fn clear(arena: &mut Arena, place: StructPlace, field: Field<'_>)

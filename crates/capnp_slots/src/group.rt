@@ -168,7 +168,10 @@ pub(crate) fn clear_group(
 /// and its non-union fields by index are cleared, groups in the same way. The group then reads as its default record.
 /// No memory is taken.
 ///
-/// The field has to be a group, and the struct to have the sections of the field's schema.
+/// # Conditions
+///
+/// The field is a group (`IsGroup`). A struct of this message stands at the place (`IsBuilt`), with at least the
+/// sections of the field's schema (`IsRoomFor`).
 pub fn clear(arena: &mut Arena, place: StructPlace, field: Field<'_>)
     requires planted { IsBuilt arena.old place }
     requires group { IsGroup field }
@@ -187,8 +190,12 @@ pub fn clear(arena: &mut Arena, place: StructPlace, field: Field<'_>)
     clear_group(arena, place, group, schemas.brands().len());
 }
 
-/// Initializes a group, as `clear` does. The field has to be a group, and the struct to have the sections of the
-/// field's schema.
+/// Initializes a group, as `clear` does.
+///
+/// # Conditions
+///
+/// The field is a group (`IsGroup`). A struct of this message stands at the place (`IsBuilt`), with at least the
+/// sections of the field's schema (`IsRoomFor`).
 pub fn init(arena: &mut Arena, place: StructPlace, field: Field<'_>)
     requires planted { IsBuilt arena.old place }
     requires group { IsGroup field }
@@ -232,7 +239,10 @@ fn copy(
 /// then nothing has changed. The first slot whose copy is refused, as by `copied::copy`, ends the whole with that
 /// refusal: the group stays as it is by then, cleared and with what was copied before.
 ///
-/// The field has to be a group, and the struct to have the sections of the field's schema.
+/// # Conditions
+///
+/// The field is a group (`IsGroup`). A struct of this message stands at the place (`IsBuilt`), with at least the
+/// sections of the field's schema (`IsRoomFor`).
 #[inline(never)]
 pub fn set(
     arena: &mut Arena,

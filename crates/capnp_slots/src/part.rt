@@ -201,8 +201,10 @@ fn put<R, S: SetterInput<R> + Copy>(
 /// the slot's type, with `SizePastFormat` where the structs of a list would take 2^29 words or more, and else with
 /// `OutOfMemory`; then nothing has changed. Where nothing has to be filled or extended no memory is taken.
 ///
-/// The field has to be a slot of a pointer type, and the struct to have the sections of the field's schema and to be
-/// well-formed.
+/// # Conditions
+///
+/// The field is a slot of a pointer type (`IsSlot`, `IsPointerField`). A struct of this message stands at the place
+/// (`IsBuilt`), with at least the sections of the field's schema (`IsRoomFor`).
 pub fn fill(arena: &mut Arena, place: StructPlace, field: Field<'_>) -> Result<()>
     requires planted { IsBuilt arena.old place }
     requires slot { IsSlot field }
@@ -252,7 +254,12 @@ fn fill_struct_at(
 /// Fills what stands behind the pointer of a slot of a struct's type, as `fill`: for a caller that has the type's
 /// schema.
 ///
-/// Refused as `fill`. The schema has to be that of the slot's type, and the struct as `fill` asks.
+/// Refused as `fill`.
+///
+/// # Conditions
+///
+/// The field is a slot (`IsSlot`) of a struct's type, and `schema` is that type's, of the field's set. A struct of this
+/// message stands at the place (`IsBuilt`), with at least the sections of the field's schema (`IsRoomFor`).
 #[inline(always)]
 pub fn fill_struct_slot(
     arena: &mut Arena,
@@ -309,7 +316,12 @@ fn fill_list_at(
 /// Fills what stands behind the pointer of a slot of a list's type, as `fill`: for a caller that has the type of the
 /// elements.
 ///
-/// Refused as `fill`. The type has to be that of the slot's elements, and the struct as `fill` asks.
+/// Refused as `fill`.
+///
+/// # Conditions
+///
+/// The field is a slot (`IsSlot`) of a list's type, and `element` is its elements' type. A struct of this message
+/// stands at the place (`IsBuilt`), with at least the sections of the field's schema (`IsRoomFor`).
 #[inline(always)]
 pub fn fill_list_slot(
     arena: &mut Arena,
@@ -336,8 +348,12 @@ pub fn fill_list_slot(
     fill_list_at(arena, place, field, element, index)
 }
 
-/// The word of the pointer of a slot. The slot has to be of a pointer type, and the struct to have the sections of the
-/// field's schema.
+/// The word of the pointer of a slot.
+///
+/// # Conditions
+///
+/// The field is a slot of a pointer type (`IsSlot`, `IsPointerField`). A struct of this message stands at the place
+/// (`IsBuilt`), with at least the sections of the field's schema (`IsRoomFor`).
 #[inline(always)]
 pub fn pointer(arena: &Arena, place: StructPlace, field: Field<'_>) -> usize
     requires planted { IsBuilt arena.now place }
@@ -355,7 +371,12 @@ pub fn pointer(arena: &Arena, place: StructPlace, field: Field<'_>) -> usize
 
 /// Fills what stands behind the pointer of a slot, as `fill`, and answers the pointer's word.
 ///
-/// Refused as `fill`, and asks what `fill` does.
+/// Refused as `fill`.
+///
+/// # Conditions
+///
+/// The field is a slot of a pointer type (`IsSlot`, `IsPointerField`). A struct of this message stands at the place
+/// (`IsBuilt`), with at least the sections of the field's schema (`IsRoomFor`).
 pub fn get(arena: &mut Arena, place: StructPlace, field: Field<'_>) -> Result<usize>
     requires planted { IsBuilt arena.old place }
     requires slot { IsSlot field }

@@ -25,7 +25,11 @@ pub trait SetterInput<R> {
     // Why it is not set.
     ghost set_refusal: { Self → Error → Type 0 };
 
-    /// Sets the pointer. A refusal changes nothing. `canonicalize` has to be false.
+    /// Sets the pointer. A refusal changes nothing.
+    ///
+    /// # Conditions
+    ///
+    /// The pointer's word lies inside the message's segment. `canonicalize` is false.
     fn set_pointer_builder(
         builder: PointerBuilder<'_>,
         input: Self,

@@ -45,8 +45,12 @@ pub fn is_slot(field: Field<'_>) -> bool
 }
 
 /// Makes a field active, where it is a member of its struct's union: its number stands in the discriminant. A non-union
-/// field changes nothing. What stands in the field stays, and no memory is taken. The struct has to have the sections
-/// of the field's schema.
+/// field changes nothing. What stands in the field stays, and no memory is taken.
+///
+/// # Conditions
+///
+/// A struct of this message stands at the place (`IsBuilt`), with at least the sections of the field's schema
+/// (`IsRoomFor`).
 #[inline(always)]
 pub fn switch(arena: &mut Arena, place: StructPlace, field: Field<'_>)
     requires planted { IsBuilt arena.old place }
@@ -84,7 +88,10 @@ fn refuse_at(field: Field<'_>) -> Error
 /// Refused with `CannotSetAnyPointerFieldToAPrimitiveValue` for an untyped slot, and with `TypeMismatch` for a slot of
 /// another kind than the value's; then nothing has changed.
 ///
-/// The field has to be a slot, and the struct to have the sections of the field's schema.
+/// # Conditions
+///
+/// The field is a slot (`IsSlot`). A struct of this message stands at the place (`IsBuilt`), with at least the sections
+/// of the field's schema (`IsRoomFor`).
 #[inline(always)]
 pub fn set_primitive(
     arena: &mut Arena,
@@ -117,7 +124,10 @@ pub fn set_primitive(
 ///
 /// Refused as the input's set of a pointer, and then nothing has changed.
 ///
-/// The field has to be a slot of a pointer type, and the struct to have the sections of the field's schema.
+/// # Conditions
+///
+/// The field is a slot of a pointer type (`IsSlot`, `IsPointerField`). A struct of this message stands at the place
+/// (`IsBuilt`), with at least the sections of the field's schema (`IsRoomFor`).
 pub fn set_pointer<R, S: SetterInput<R>>(
     arena: &mut Arena,
     place: StructPlace,
@@ -154,7 +164,10 @@ pub fn set_pointer<R, S: SetterInput<R>>(
 /// these in preorder; with `SizePastFormat` for a text of more than 2^29 - 2 bytes or data of more than 2^29 - 1; and
 /// with `OutOfMemory`. Then nothing has changed.
 ///
-/// The field has to be a slot, and the struct to have the sections of the field's schema.
+/// # Conditions
+///
+/// The field is a slot (`IsSlot`). A struct of this message stands at the place (`IsBuilt`), with at least the sections
+/// of the field's schema (`IsRoomFor`).
 #[tactic(auto, using(crate::proofs::Kept::set_keeps))]
 #[inline(always)]
 pub fn set(
@@ -210,7 +223,10 @@ fn set_pointed(
 /// Refused with `InitIsOnlyValidForStructAndAnyPointerFields` for another slot, and with `OutOfMemory` for a struct;
 /// then nothing has changed.
 ///
-/// The field has to be a slot, and the struct to have the sections of the field's schema.
+/// # Conditions
+///
+/// The field is a slot (`IsSlot`). A struct of this message stands at the place (`IsBuilt`), with at least the sections
+/// of the field's schema (`IsRoomFor`).
 pub fn init(arena: &mut Arena, place: StructPlace, field: Field<'_>) -> Result<()>
     requires planted { IsBuilt arena.old place }
     requires slot { IsSlot field }
@@ -272,7 +288,10 @@ fn init_struct(
 /// than 2^29 - 2 bytes, data of more than 2^29 - 1, 2^29 elements or more, or structs that take 2^29 words or more; and
 /// with `OutOfMemory`. Then nothing has changed.
 ///
-/// The field has to be a slot, and the struct to have the sections of the field's schema.
+/// # Conditions
+///
+/// The field is a slot (`IsSlot`). A struct of this message stands at the place (`IsBuilt`), with at least the sections
+/// of the field's schema (`IsRoomFor`).
 pub fn initn(arena: &mut Arena, place: StructPlace, field: Field<'_>, count: u32) -> Result<()>
     requires planted { IsBuilt arena.old place }
     requires slot { IsSlot field }
@@ -300,7 +319,10 @@ pub fn initn(arena: &mut Arena, place: StructPlace, field: Field<'_>, count: u32
 /// Clears a slot: its bits are zero, which reads as its default, or its pointer is null. A member becomes active. No
 /// memory is taken.
 ///
-/// The field has to be a slot, and the struct to have the sections of the field's schema.
+/// # Conditions
+///
+/// The field is a slot (`IsSlot`). A struct of this message stands at the place (`IsBuilt`), with at least the sections
+/// of the field's schema (`IsRoomFor`).
 #[inline(always)]
 pub fn clear(arena: &mut Arena, place: StructPlace, field: Field<'_>)
     requires planted { IsBuilt arena.old place }

@@ -63,15 +63,34 @@ parts_put set e old a b c d new head annotated colon names end =
     (led (codes ":") last b c new colon
     (ended (names_text set e 0 (enum_at set e).enumerants) (10 ∷ []) c d new names end)))
 
-pub line_put : (set : Schemas) (e : ℕ) (s : EnumSchema) (z : Schemas) (xs : List TypedAnnotation) (n old p a b c d new : List ℕ) → enum_set s ≡ set → enum_number s ≡ e → n ≡ (enum_in s).display_name → z ≡ enum_set s →
-    xs ≡ enum_annotations (enum_set s) (enum_number s) → p ≡ old ++ codes "enum " → a ≡ p ++ n → IsAppended a (annotations_text z xs) b → c ≡ b ++ codes ":" →
-    IsAppended c (names_text (enum_set s) (enum_number s) 0 (enum_in s).enumerants) d → new ≡ d ++ 10 ∷ [] → IsAppended old (enum_line set e) new
-line_put set e s z xs n old p a b c d new of_set number name same_set same put_before put_name annotated colon names end =
+-- the schema of an enum of a set, and what was read of it
+pub record IsEnumRead (set : Schemas) (e : ℕ) (s : EnumSchema) (z : Schemas) (xs : List TypedAnnotation) (n : List ℕ) : Type 0 where
+  -- the enum that the schema is of
+  pub in_set : enum_set s ≡ set
+  pub number : enum_number s ≡ e
+  -- its name, and its annotations with their set
+  pub name : n ≡ (enum_in s).display_name
+  pub annotations_set : z ≡ enum_set s
+  pub annotations : xs ≡ enum_annotations (enum_set s) (enum_number s)
+
+-- the parts of an enum's line, appended one after another
+pub record ArePartsPut (s : EnumSchema) (z : Schemas) (xs : List TypedAnnotation) (n old p a b c d new : List ℕ) : Type 0 where
+  -- its name behind the word
+  pub word : p ≡ old ++ codes "enum "
+  pub name : a ≡ p ++ n
+  pub annotations : IsAppended a (annotations_text z xs) b
+  -- the names of its enumerants, to the end of the line
+  pub colon : c ≡ b ++ codes ":"
+  pub names : IsAppended c (names_text (enum_set s) (enum_number s) 0 (enum_in s).enumerants) d
+  pub end : new ≡ d ++ 10 ∷ []
+
+pub line_put : (set : Schemas) (e : ℕ) (s : EnumSchema) (z : Schemas) (xs : List TypedAnnotation) (n old p a b c d new : List ℕ) → IsEnumRead set e s z xs n → ArePartsPut s z xs n old p a b c d new → IsAppended old (enum_line set e) new
+line_put set e s z xs n old p a b c d new read put =
     let head : a ≡ old ++ (codes "enum " ++ (enum_in s).display_name) =
-    put_name ∙ (ap (λ (ys : List ℕ). ys ++ n) put_before ∙ (append_assoc old (codes "enum ") n ∙ ap (λ (ys : List ℕ). old ++ (codes "enum " ++ ys)) name)) in
+    put.name ∙ (ap (λ (ys : List ℕ). ys ++ n) put.word ∙ (append_assoc old (codes "enum ") n ∙ ap (λ (ys : List ℕ). old ++ (codes "enum " ++ ys)) read.name)) in
     let line : IsAppended old (enum_line (enum_set s) (enum_number s)) new =
-    parts_put (enum_set s) (enum_number s) old a b c d new head (annotations_here z (enum_set s) xs (enum_annotations (enum_set s) (enum_number s)) a b same_set same annotated) colon names end in
-    subst (λ (n : ℕ). IsAppended old (enum_line set n) new) number (subst (λ (y : Schemas). IsAppended old (enum_line y (enum_number s)) new) of_set line)
+    parts_put (enum_set s) (enum_number s) old a b c d new head (annotations_here z (enum_set s) xs (enum_annotations (enum_set s) (enum_number s)) a b read.annotations_set read.annotations put.annotations) put.colon put.names put.end in
+    subst (λ (n : ℕ). IsAppended old (enum_line set n) new) read.number (subst (λ (y : Schemas). IsAppended old (enum_line y (enum_number s)) new) read.in_set line)
 
 -- ---- enums one after another ----
 

@@ -8,7 +8,7 @@ use Rattle.capnp_schema.specs.GroupFields.{group_field_of}
 use Rattle.capnp_schema.specs.GroupsDown.{IsGroupFieldOf, place_of_field}
 use Rattle.capnp_schema.specs.GroupWalks.{above, frames, frames_above, walk_brand, walk_depth, walk_index, walk_schema, walk_set}
 use Rattle.capnp_schema.specs.Steps.GroupWalks.{steps_left}
-use Rattle.capnp_schema.specs.Schema.{FieldKind, Group, Schemas, Slot, TypedField, field_at, fields_of, kind_target}
+use Rattle.capnp_schema.specs.Schema.{FieldKind, Group, Schemas, Slot, field_at, fields_of, kind_target}
 use Rattle.capnp_schema.specs.StructHandles.{number_of, set_of, struct_fields}
 use Rattle.capnp_schema.specs.Types.{SchemaType, AnyPointerType, BoolType, DataType, EnumType, IntType, ListType, StructType, TextType, UIntType, VoidType, struct_brand}
 use Rattle.capnp_schema.specs.declared.schema.fields.Field.{Field}
@@ -97,6 +97,38 @@ fewer_outside set left w outer fs =
 
 -- ---- the lines that are left ----
 
+-- a walk in a set stands at a field
+pub record StandsAt (set : Schemas) (w : GroupWalk) (f : Field) : Type 0 where
+  pub in_set : walk_set w ≡ set
+  pub field : IsFieldOf (walk_schema w) (walk_index w) f
+
+-- the line of a slot was appended, and the enum that its type names added
+pub record IsSlotSaid (set : Schemas) (w : GroupWalk) (f : Field) (prefix text text' enums enums' : List ℕ) (t : SchemaType) : Type 0 where
+  -- the field is no group
+  pub slot : None ≡ kind_target (typed_of f).field.kind (typed_of f).type
+  -- the line stands under the path of the groups above
+  pub path : prefix ≡ path_under set (above w)
+  pub put : IsAppended text (slot_line (set_of (field_schema f)) (number_of (field_schema f)) (index_of f) prefix) text'
+  -- the enums that its type names
+  pub typed : t ≡ (typed_of f).type
+  pub added : enums' ≡ enums ++ enums_named t
+
+-- a walk goes into a group, whose struct has this schema
+pub record GoesInto (set : Schemas) (w new : GroupWalk) (f : Field) (s : StructSchema) : Type 0 where
+  pub leads : Some (number_of s) ≡ kind_target (typed_of f).field.kind (typed_of f).type
+  pub in_set : set_of s ≡ set
+  pub frames : frames new ≡ (number_of s, 0) ∷ (walk_brand w, walk_index w + 1) ∷ above w
+
+-- the line of a group was appended, and behind it that of the union inside
+pub record IsGroupSaid (set : Schemas) (w : GroupWalk) (f : Field) (s : StructSchema) (prefix base prefix' text mid text' : List ℕ) : Type 0 where
+  -- the group's line stands under the path of the groups above
+  pub path : prefix ≡ path_under set (above w)
+  pub put : IsAppended text (group_line (set_of (field_schema f)) (number_of (field_schema f)) (index_of f) prefix) mid
+  -- the union's line stands under that path and the group's name
+  pub path_base : base ≡ path_under set (above w)
+  pub path_inside : prefix' ≡ inside base (typed_of f)
+  pub union : text' ≡ mid ++ union_line (set_of s) prefix' (number_of s)
+
 -- a group names no enum
 struct_unnamed : (t : SchemaType) (g : ℕ) → Some g ≡ struct_brand t → enums_named t ≡ []
 struct_unnamed VoidType g is = refl
@@ -125,20 +157,20 @@ starts set start first groups left b w prefix text' some less fs none put =
     (listed_left set start first whole whole (UnionLine [] b ∷ lines_left set left ((b, 0) ∷ [])) start first (left_first set groups left b some less) (listed_first set start first whole)))
 
 module _ (set : Schemas) (start first : List ℕ) (whole : List Line) where
-  pub said_slot : (left : ℕ) (w new : GroupWalk) (f : Field) (prefix text text' enums enums' : List ℕ) (t : SchemaType) → walk_set w ≡ set → IsFieldOf (walk_schema w) (walk_index w) f →
-      None ≡ kind_target (typed_of f).field.kind (typed_of f).type → prefix ≡ path_under set (above w) →
-      IsAppended text (slot_line (set_of (field_schema f)) (number_of (field_schema f)) (index_of f) prefix) text' → t ≡ (typed_of f).type → enums' ≡ enums ++ enums_named t →
+  pub said_slot : (left : ℕ) (w new : GroupWalk) (f : Field) (prefix text text' enums enums' : List ℕ) (t : SchemaType) → StandsAt set w f → IsSlotSaid set w f prefix text text' enums enums' t →
       frames new ≡ (walk_brand w, walk_index w + 1) ∷ above w → IsListed set start first whole (lines_left set left (frames w)) text enums → IsListed set start first whole (lines_left set left (frames new)) text' enums'
-  said_slot left w new f prefix text text' enums enums' t same is leads path put typed add fs before =
+  said_slot left w new f prefix text text' enums enums' t at said fs before =
+      let same : walk_set w ≡ set = at.in_set in
+      let is : IsFieldOf (walk_schema w) (walk_index w) f = at.field in
       let b : ℕ = walk_brand w in
       let i : ℕ = walk_index w in
       let p : List ℕ = path_under set (above w) in
-      let leads_here : None ≡ kind_target (field_at set b i).field.kind (field_at set b i).type = at_place set w f (λ z b i. None ≡ kind_target (field_at z b i).field.kind (field_at z b i).type) same is leads in
+      let leads_here : None ≡ kind_target (field_at set b i).field.kind (field_at set b i).type = at_place set w f (λ z b i. None ≡ kind_target (field_at z b i).field.kind (field_at z b i).type) same is said.slot in
       let put_here : IsAppended text (slot_line set b i p) text' =
-      subst (λ (q : List ℕ). IsAppended text (slot_line set b i q) text') path (at_place set w f (λ z b i. IsAppended text (slot_line z b i prefix) text') same is put) in
+      subst (λ (q : List ℕ). IsAppended text (slot_line set b i q) text') said.path (at_place set w f (λ z b i. IsAppended text (slot_line z b i prefix) text') same is said.put) in
       let line_here : IsAppended text (line_text set (FieldLine p b i)) text' = subst (λ (o : Option ℕ). IsAppended text (field_line set b i p o) text') leads_here put_here in
       let add_here : enums' ≡ enums ++ enums_named (field_at set b i).type =
-      at_place set w f (λ z b i. enums' ≡ enums ++ enums_named (field_at z b i).type) same is (add ∙ ap (λ (u : SchemaType). enums ++ enums_named u) typed) in
+      at_place set w f (λ z b i. enums' ≡ enums ++ enums_named (field_at z b i).type) same is (said.added ∙ ap (λ (u : SchemaType). enums ++ enums_named u) said.typed) in
       listed_left set start first whole (lines_left set left ((b, i + 1) ∷ above w)) (lines_left set left (frames new)) text' enums' (ap (lines_left set left) (sym fs))
       (listed_more set start first whole (FieldLine p b i) (lines_left set left ((b, i + 1) ∷ above w)) text text' enums enums' line_here add_here
       (listed_left set start first whole (lines_left set left (frames w)) _ text enums (left_slot set left b i (above w) (inside_set set w f same is) leads_here) before))
@@ -178,27 +210,26 @@ module _ (set : Schemas) (start first : List ℕ) (whole : List Line) where
   path_inside w f path path' same is here long =
       at_place set w f (λ z b i. path' ≡ inside path (field_at z b i)) same is long ∙ ap (λ (p : List ℕ). inside p (field_at set (walk_brand w) (walk_index w))) here
 
-  pub goes_inside : (left : ℕ) (w new : GroupWalk) (f : Field) (s : StructSchema) (prefix base prefix' text mid text' enums : List ℕ) → (left ≡ 0 → ⊥) → walk_set w ≡ set → IsFieldOf (walk_schema w) (walk_index w) f →
-      Some (number_of s) ≡ kind_target (typed_of f).field.kind (typed_of f).type → set_of s ≡ set → prefix ≡ path_under set (above w) → base ≡ path_under set (above w) →
-      IsAppended text (group_line (set_of (field_schema f)) (number_of (field_schema f)) (index_of f) prefix) mid → prefix' ≡ inside base (typed_of f) →
-      text' ≡ mid ++ union_line (set_of s) prefix' (number_of s) → frames new ≡ (number_of s, 0) ∷ (walk_brand w, walk_index w + 1) ∷ above w →
+  pub goes_inside : (left : ℕ) (w new : GroupWalk) (f : Field) (s : StructSchema) (prefix base prefix' text mid text' enums : List ℕ) → (left ≡ 0 → ⊥) → StandsAt set w f → GoesInto set w new f s → IsGroupSaid set w f s prefix base prefix' text mid text' →
       IsListed set start first whole (lines_left set left (frames w)) text enums → IsListed set start first whole (lines_left set (left - 1) (frames new)) text' enums
-  goes_inside left w new f s prefix base prefix' text mid text' enums some same is leads of_set path path_base put long union fs before =
+  goes_inside left w new f s prefix base prefix' text mid text' enums some at goes said before =
+      let same : walk_set w ≡ set = at.in_set in
+      let is : IsFieldOf (walk_schema w) (walk_index w) f = at.field in
       let b : ℕ = walk_brand w in
       let i : ℕ = walk_index w in
       let g : ℕ = number_of s in
       let p : List ℕ = path_under set (above w) in
       let p' : List ℕ = inside p (field_at set b i) in
       let more : left ≡ suc (left - 1) = omega (arith, some) in
-      let leads_here = leads_set w f g same is leads in
+      let leads_here = leads_set w f g same is goes.leads in
       let rest : List Line = lines_left set (left - 1) ((g, 0) ∷ (b, i + 1) ∷ above w) in
       let left_here = ap (λ (n : ℕ). lines_left set n (frames w)) more ∙ left_inside set (left - 1) b i g (above w) (inside_set set w f same is) leads_here in
       let union_here : text' ≡ mid ++ union_line set p' g =
-      union ∙ (ap (λ (z : Schemas). mid ++ union_line z prefix' g) of_set ∙ ap (λ (q : List ℕ). mid ++ union_line set q g) (path_inside w f base prefix' same is path_base long)) in
-      listed_left set start first whole rest (lines_left set (left - 1) (frames new)) text' enums (ap (lines_left set (left - 1)) (sym fs))
+      said.union ∙ (ap (λ (z : Schemas). mid ++ union_line z prefix' g) goes.in_set ∙ ap (λ (q : List ℕ). mid ++ union_line set q g) (path_inside w f base prefix' same is said.path_base said.path_inside)) in
+      listed_left set start first whole rest (lines_left set (left - 1) (frames new)) text' enums (ap (lines_left set (left - 1)) (sym goes.frames))
       (listed_plain set start first whole (UnionLine p' g) rest mid text' enums (bytes_put (union_line set p' g) mid text' union_here) refl
       (listed_plain set start first whole (FieldLine p b i) (UnionLine p' g ∷ rest) text mid enums
-      (group_put w f g prefix text mid same is path leads_here put) (group_unnamed (field_at set b i).field.kind (field_at set b i).type g leads_here)
+      (group_put w f g prefix text mid same is said.path leads_here said.put) (group_unnamed (field_at set b i).field.kind (field_at set b i).type g leads_here)
       (listed_left set start first whole (lines_left set left (frames w)) _ text enums left_here before)))
 
   -- past the last field

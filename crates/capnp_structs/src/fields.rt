@@ -330,8 +330,11 @@ fn put_head_line(out: &mut String, schema: StructSchema<'_>) -> Result<()>
 /// Before all stand the struct's name and annotations, where it has some. Before the fields of a struct or group with a
 /// union stands how many members it has, and the first bit of the discriminant. Behind a group's line stand those of
 /// its union and its fields, each by its path. Behind all fields stands each enum that one of them names, or its lists,
-/// with its annotations, its enumerants and theirs. The schema is one of an accepted set. Refused with `OutOfMemory`
-/// alone.
+/// with its annotations, its enumerants and theirs. Refused with `OutOfMemory` alone.
+///
+/// # Conditions
+///
+/// The schema is one of an accepted set (`IsStruct`).
 pub fn get_fields(alloc: Global, schema: StructSchema<'_>) -> Result<String>
     requires { IsStruct schema }
     ensures text { IfOk result (λ text. IsAppended [] (fields_text (set_of schema.entry) (number_of schema.entry))

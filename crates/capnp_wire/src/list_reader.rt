@@ -51,6 +51,10 @@ impl<'a> ListReader<'a> {
     ghost use Rattle.capnp_wire.specs.Standing.{levels_of, list_levels, list_of, list_read, struct_levels, struct_read, tree_of};
 
     /// A reader of a list.
+    ///
+    /// # Conditions
+    ///
+    /// What was found is well-formed (`IsWellFormed`).
     #[tactic(auto, unfolding(crate::specs::Standing::list_of, crate::specs::Standing::list_levels))]
     pub fn new(found: Found<'a>, levels: u8) -> ListReader<'a>
         requires { IsWellFormed (found_tree found) }

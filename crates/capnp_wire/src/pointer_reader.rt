@@ -39,6 +39,10 @@ impl<'a> PointerReader<'a> {
     ghost use Rattle.capnp_wire.specs.Words.{first_fault, words_of};
 
     /// A reader of a place.
+    ///
+    /// # Conditions
+    ///
+    /// What the pointer leads to is well-formed (`IsWellFormed`).
     #[tactic(auto, unfolding(crate::specs::Standing::tree_of, crate::specs::Standing::levels_of))]
     #[inline(always)]
     pub fn new(pointer: Pointer<'a>, levels: u8) -> PointerReader<'a>

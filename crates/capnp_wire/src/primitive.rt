@@ -34,7 +34,11 @@ pub trait PrimitiveElement: Copy {
     fn count_bytes() -> u8
         ensures { result ≡ width };
 
-    /// The number at `index`, in units of its own width, all of whose bytes are there.
+    /// The number at `index`, in units of its own width.
+    ///
+    /// # Conditions
+    ///
+    /// All bytes of the number lie inside `bytes`.
     fn read_inside(bytes: &[u8], index: usize) -> Self
         requires { (index + 1) * width ≤ length bytes.now }
         ensures { result ≡ of_number (number_at width index bytes.now) };
@@ -45,12 +49,20 @@ pub trait PrimitiveElement: Copy {
     fn read_masked(bytes: &[u8], offset: u32, mask: Self) -> Self
         ensures { result ≡ of_number (bit_xor (number_at width offset bytes.now) (to_number mask)) };
 
-    /// Writes a value at `offset`, in units of its own width, where its bytes are inside.
+    /// Writes a value at `offset`, in units of its own width.
+    ///
+    /// # Conditions
+    ///
+    /// All bytes of the number lie inside `bytes`.
     fn write(bytes: &mut [u8], offset: u32, value: Self)
         requires { (offset + 1) * width ≤ length bytes.old }
         ensures { bytes.new ≡ with_number width offset (to_number value) bytes.old };
 
     /// Writes a value XORed with `mask` at `offset`, as a field whose default is `mask` is stored.
+    ///
+    /// # Conditions
+    ///
+    /// All bytes of the number lie inside `bytes`.
     fn write_masked(bytes: &mut [u8], offset: u32, value: Self, mask: Self)
         requires { (offset + 1) * width ≤ length bytes.old }
         ensures { bytes.new ≡ with_number width offset (bit_xor (to_number value) (to_number mask)) bytes.old };

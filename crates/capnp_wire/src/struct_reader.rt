@@ -39,6 +39,10 @@ impl<'a> StructReader<'a> {
     ghost use Rattle.capnp_wire.specs.Words.{first_fault_of_all, words_of_struct};
 
     /// A reader of a struct's parts.
+    ///
+    /// # Conditions
+    ///
+    /// The struct of these parts is well-formed (`IsWellFormedStruct`).
     #[tactic(auto, unfolding(crate::specs::Standing::struct_of, crate::specs::Standing::struct_levels))]
     #[inline(always)]
     pub fn new(parts: StructParts<'a>, levels: u8) -> StructReader<'a>
@@ -60,6 +64,10 @@ impl<'a> StructReader<'a> {
 
     /// A reader of the struct that starts at the word `start` of one segment that stands alone. Its pointers' trees
     /// have one level less than `depth`: 129 at most.
+    ///
+    /// # Conditions
+    ///
+    /// `start` is at most 2^60.
     pub fn of_words(
         words: &'a [u8],
         start: usize,

@@ -16,6 +16,10 @@ use capnp_wire::size::{ElementSize, StructSize};
 /// Replaces what stands at a pointer by a list of so many numbers of two bytes, and counts them.
 ///
 /// Refused as `init_list`.
+///
+/// # Conditions
+///
+/// The pointer's word lies inside the message's segment.
 #[tactic(auto, using(crate::proofs::Counts::new_count))]
 pub fn count_new(pointer: PointerBuilder<'_>, count: u32) -> Result<u32>
     requires { pointer.at < word_count (segment pointer.arena.now) }
@@ -28,6 +32,10 @@ pub fn count_new(pointer: PointerBuilder<'_>, count: u32) -> Result<u32>
 /// Makes the list at a pointer one of structs of at least a size, and counts them: there are as many as before.
 ///
 /// Refused as `get_struct_list`.
+///
+/// # Conditions
+///
+/// A tree of the message stands at the pointer (`IsBuiltPointer`).
 #[tactic(auto, using(crate::proofs::Counts::same_count))]
 pub fn count_structs(pointer: PointerBuilder<'_>, size: StructSize) -> Result<u32>
     requires { IsBuiltPointer pointer }
@@ -40,6 +48,10 @@ pub fn count_structs(pointer: PointerBuilder<'_>, size: StructSize) -> Result<u3
 /// Puts a text at the first pointer of a struct, which stays well-formed, also where it is refused.
 ///
 /// Refused as `set_text`.
+///
+/// # Conditions
+///
+/// A struct of the message stands at the builder's place (`IsBuiltStruct`), and has a pointer.
 pub fn put_text(built: &mut StructBuilder<'_>, text: &[u8]) -> Result<()>
     requires planted { IsBuiltStruct built.old }
     requires inside { 0 < built.old.place.pointers }
@@ -64,6 +76,11 @@ pub fn put_text(built: &mut StructBuilder<'_>, text: &[u8]) -> Result<()>
 }
 
 /// Writes a number of 64 bits into a struct, which stays well-formed.
+///
+/// # Conditions
+///
+/// A struct of the message stands at the builder's place (`IsBuiltStruct`), and `offset` is below the number of its
+/// data words.
 pub fn put_number(built: &mut StructBuilder<'_>, offset: u32, value: u64)
     requires planted { IsBuiltStruct built.old }
     requires inside { offset < built.old.place.data_words }

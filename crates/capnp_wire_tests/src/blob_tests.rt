@@ -46,7 +46,7 @@ fn byte_lists_read_as_data_and_as_text(rt: HostRuntime) {
     messages_answer(&rt, rt.alloc(), DATA_AND_TEXT, &BLOBS);
 }
 
-/// The same where neither stands there.
+/// Roots that are read neither as data nor as a text.
 static NO_BLOBS: [(&str, &str); 11] = [
     ("00 00 00 00 01 00 00 00 | 0", "refused 5; refused 5"),
     ("fc ff ff ff 00 00 00 00", "refused 5; refused 5"),

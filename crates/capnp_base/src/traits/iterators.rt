@@ -15,7 +15,11 @@ pub trait Index: Sized {
     // The largest of them.
     ghost largest: { ℕ };
 
-    /// The index of a number, which is at most the largest.
+    /// The index of a number.
+    ///
+    /// # Conditions
+    ///
+    /// `index` is at most the largest number of an index (`largest`).
     fn from_number(index: u32) -> Self
         requires { index ≤ largest }
         ensures { Self.number result ≡ index };
@@ -66,7 +70,11 @@ pub trait IndexMove<I: Index, T> {
     // The items that it may answer at an index.
     ghost answers: { Self → ℕ → T → Type 0 };
 
-    /// The item at an index that the list answers.
+    /// The item at an index.
+    ///
+    /// # Conditions
+    ///
+    /// The number of the index is below the list's `count`.
     fn index_move(&self, index: I) -> T
         requires { I.number index < count self.now }
         ensures { answers self.now (I.number index) result };
@@ -95,7 +103,11 @@ pub struct IndexIter<T: IndexMove<I, U>, I: Index, U> {
 impl<U, I: Index, T: IndexMove<I, U>> IndexIter<T, I, U> {
     ghost use Rattle.capnp_base.specs.IndexIter.{source, to_come};
 
-    /// The items at all indices below `size`, which the list has to answer.
+    /// The items at all indices below `size`.
+    ///
+    /// # Conditions
+    ///
+    /// The list answers at all indices below `size`.
     #[tactic(auto, unfolding(crate::specs::IndexIter::source, crate::specs::IndexIter::to_come))]
     pub fn new(list: T, size: I) -> Self
         requires { I.number size ≤ T.count list }

@@ -94,8 +94,11 @@ impl<'a> Builder<'a> {
     }
 
     /// A reader of the list for as long as the builder would be there, with 64 levels. The list stays as it is; a null
-    /// reads as an empty list. What it leads to is cut off past 129 levels, which only walks of a whole tree can
-    /// see. The list has to be ready (`IsListReady`).
+    /// reads as an empty list. What it leads to is cut off past 129 levels, which only walks of a whole tree can see.
+    ///
+    /// # Conditions
+    ///
+    /// The list has elements of its type, and stands at its pointer (`IsListReady`).
     pub fn into_reader(self) -> Reader<'a>
         requires { IsListReady self }
         ensures cut { IsCutOf (list_of (list_reader_of result)) (built_reading self.entry) }
@@ -115,7 +118,11 @@ impl<'a> Builder<'a> {
         Reader::new(reader, element_type, schemas)
     }
 
-    /// How many elements there are, below 2^29. The list has to be ready (`IsListReady`).
+    /// How many elements there are, below 2^29.
+    ///
+    /// # Conditions
+    ///
+    /// The list has elements of its type, and stands at its pointer (`IsListReady`).
     pub fn len(&self) -> u32
         requires { IsListReady self.now }
         ensures length { result ≡ list_length (built_elements self.now) }
@@ -125,7 +132,11 @@ impl<'a> Builder<'a> {
         self.arena.get_length(self.at)
     }
 
-    /// Whether there is no element. The list has to be ready (`IsListReady`).
+    /// Whether there is no element.
+    ///
+    /// # Conditions
+    ///
+    /// The list has elements of its type, and stands at its pointer (`IsListReady`).
     pub fn is_empty(&self) -> bool
         requires { IsListReady self.now }
         ensures { result ≡ (list_length (built_elements self.now) == 0) }
@@ -140,9 +151,9 @@ impl<'a> Builder<'a> {
         self.element_type
     }
 
-    /// Sets an element, which has to be there: a void one takes every value, and else it takes a value, text, data or
-    /// list of its kind, of which a copy is made, and a struct of its own schema, of which it keeps what fits its size,
-    /// with zeros and nulls after that.
+    /// Sets an element: a void one takes every value, and else it takes a value, text, data or list of its kind, of
+    /// which a copy is made, and a struct of its own schema, of which it keeps what fits its size, with zeros and nulls
+    /// after that.
     ///
     /// Refused with `ListAnyPointerNotSupported` for an untyped element, and with `TypeMismatch` for a value of another
     /// kind and a struct of another schema; then with `BadPointer`, `TooDeep` or `CapabilityPointer` where a pointer in
@@ -150,7 +161,10 @@ impl<'a> Builder<'a> {
     /// `SizePastFormat` for a text of more than 2^29 - 2 bytes or data of more than 2^29 - 1; and with `OutOfMemory`.
     /// Then nothing has changed.
     ///
-    /// The list has to be ready (`IsListReady`).
+    /// # Conditions
+    ///
+    /// The list has elements of its type, and stands at its pointer (`IsListReady`). `index` is below the number of its
+    /// elements (`IsIn`).
     #[tactic(auto, using(crate::proofs::ListElements::room_in, crate::proofs::ListElements::set_ready))]
     pub fn set(&mut self, index: u32, value: dynamic_value::Reader<'_>) -> Result<()>
         requires ready { IsListReady self.old }
@@ -182,16 +196,18 @@ impl<'a> Builder<'a> {
         )
     }
 
-    /// Starts an element anew with a size, and hands it out; the element has to be there. It becomes a text or data of
-    /// so many zero bytes, or a list of so many elements, all zero, false or null, or structs of their schema's
-    /// sections.
+    /// Starts an element anew with a size, and hands it out. It becomes a text or data of so many zero bytes, or a list
+    /// of so many elements, all zero, false or null, or structs of their schema's sections.
     ///
     /// Refused with `ListAnyPointerNotSupported` for an untyped element and `ExpectedAListOrBlob` for another one that
     /// is no list, text or data; with `SizePastFormat` for a text of more than 2^29 - 2 bytes, data of more than 2^29 -
     /// 1, 2^29 elements or more, or structs that take 2^29 words or more; and with `OutOfMemory`. Then nothing has
     /// changed, as `element::init` says.
     ///
-    /// The list has to be ready (`IsListReady`).
+    /// # Conditions
+    ///
+    /// The list has elements of its type, and stands at its pointer (`IsListReady`). `index` is below the number of its
+    /// elements (`IsIn`).
     pub fn init(self, index: u32, size: u32) -> Result<dynamic_value::Builder<'a>>
         requires ready { IsListReady self }
         requires inside { IsIn index self }

@@ -62,7 +62,11 @@ pub struct Builder<'a> {
 }
 
 impl<'a> Builder<'a> {
-    /// A builder of a struct under a schema, of which the struct has to have at least the sections.
+    /// A builder of a struct under a schema.
+    ///
+    /// # Conditions
+    ///
+    /// The struct has at least the schema's sections (`Fits`).
     pub fn new(builder: StructBuilder<'a>, schema: StructSchema<'a>) -> Builder<'a>
         requires { Fits (set_of schema) (number_of schema) (built_at builder.arena.now builder.place) }
         ensures behind { struct_behind result ≡ builder.entry.arena }
@@ -82,6 +86,10 @@ impl<'a> Builder<'a> {
     ///
     /// Refused with `WrongPointerKind` where a list stands there, and else with `OutOfMemory`; then nothing has
     /// changed.
+    ///
+    /// # Conditions
+    ///
+    /// A tree of the message stands at the pointer (`Forest`).
     #[tactic(auto, using(crate::proofs::Opened::entered_stands, crate::proofs::Opened::entered_is))]
     pub fn open(pointer: PointerBuilder<'a>, schema: StructSchema<'a>) -> Result<Builder<'a>>
         requires forest { Forest (segment pointer.arena.now) pointer.at }
@@ -126,9 +134,12 @@ impl<'a> Builder<'a> {
         }
     }
 
-    /// A reader of the struct, with 64 levels. What its pointers lead to is cut off past 129 levels, which only
-    /// walks of a whole tree can see.
-    /// The struct has to have its schema's sections and stand at its place (`IsReady`).
+    /// A reader of the struct, with 64 levels. What its pointers lead to is cut off past 129 levels, which only walks
+    /// of a whole tree can see.
+    ///
+    /// # Conditions
+    ///
+    /// The struct has at least its schema's sections, and stands at its place (`IsReady`).
     pub fn reborrow_as_reader(&self) -> Reader<'_>
         requires { IsReady self.now }
         ensures cut { IsStructCutOf (struct_of (reader_of result)) (built_struct self.now) }
@@ -141,7 +152,11 @@ impl<'a> Builder<'a> {
     }
 
     /// A reader of the struct for as long as the builder would be there, as `reborrow_as_reader`. The struct stays as
-    /// it is. The struct has to have its schema's sections and stand at its place (`IsReady`).
+    /// it is.
+    ///
+    /// # Conditions
+    ///
+    /// The struct has at least its schema's sections, and stands at its place (`IsReady`).
     pub fn into_reader(self) -> Reader<'a>
         requires { IsReady self }
         ensures cut { IsStructCutOf (struct_of (reader_of result)) (built_struct self.entry) }
@@ -167,7 +182,10 @@ impl<'a> Builder<'a> {
 
     /// The member whose discriminant value stands in the struct; none without a union or for an unknown number. The
     /// answer is always Ok.
-    /// The struct has to have its schema's sections and stand at its place (`IsReady`).
+    ///
+    /// # Conditions
+    ///
+    /// The struct has at least its schema's sections, and stands at its place (`IsReady`).
     pub fn which(&self) -> Result<Option<Field<'a>>>
         requires { IsReady self.now }
         ensures { IsOkAnd result (IsFound (built_schema self.now) (which_of (built_record self.now))) }
@@ -177,8 +195,11 @@ impl<'a> Builder<'a> {
     }
 
     /// False for a member that is not active and for a null pointer, else true. The answer is always Ok.
-    /// The field has to belong to the schema; the struct has to have its schema's sections and stand at its place
-    /// (`IsReady`).
+    ///
+    /// # Conditions
+    ///
+    /// The field belongs to the schema (`BelongsTo`). The struct has at least its schema's sections, and stands at its
+    /// place (`IsReady`).
     pub fn has(&self, field: Field<'a>) -> Result<bool>
         requires belongs { BelongsTo field (built_schema self.now) }
         requires ready { IsReady self.now }
@@ -192,7 +213,10 @@ impl<'a> Builder<'a> {
     }
 
     /// Whether the field of a name is there, as `has`. Refused with `FieldNotFound` where there is none of that name.
-    /// The struct has to have its schema's sections and stand at its place (`IsReady`).
+    ///
+    /// # Conditions
+    ///
+    /// The struct has at least its schema's sections, and stands at its place (`IsReady`).
     pub fn has_named(&self, field_name: &str) -> Result<bool>
         requires { IsReady self.now }
         ensures is { (f : Field) → IsNamed (built_schema self.now) field_name.now f
@@ -222,8 +246,10 @@ impl<'a> Builder<'a> {
     /// and as the first of its copies that is refused, where the group stays as it is by then, cleared and with what
     /// was copied before.
     ///
-    /// The field has to belong to the schema; the struct has to have its schema's sections and stand at its place
-    /// (`IsReady`).
+    /// # Conditions
+    ///
+    /// The field belongs to the schema (`BelongsTo`). The struct has at least its schema's sections, and stands at its
+    /// place (`IsReady`).
     #[tactic(auto, using(crate::proofs::Builders::room_for, crate::proofs::Builders::under_kept))]
     #[inline(always)]
     pub fn set(&mut self, field: Field<'a>, value: dynamic_value::Reader<'_>) -> Result<()>
@@ -245,7 +271,10 @@ impl<'a> Builder<'a> {
 
     /// Sets the field of a name, as `set`. Refused first with `FieldNotFound` where there is none of that name, and
     /// then nothing has changed.
-    /// The struct has to have its schema's sections and stand at its place (`IsReady`).
+    ///
+    /// # Conditions
+    ///
+    /// The struct has at least its schema's sections, and stands at its place (`IsReady`).
     #[tactic(auto, using(crate::proofs::Builders::same_field_set, crate::proofs::Builders::same_slot, capnp_dynamic_readers::specs::Facts::Found::found_belongs))]
     pub fn set_named(&mut self, field_name: &str, value: dynamic_value::Reader<'_>) -> Result<()>
         requires { IsReady self.old }
@@ -271,8 +300,11 @@ impl<'a> Builder<'a> {
     /// Clears a field. The bits of a slot become zero, which reads as its default, or its pointer null; of a group the
     /// member of discriminant value 0 is cleared and then its non-union fields by index. A member becomes active first.
     /// No memory is taken, and the answer is always Ok.
-    /// The field has to belong to the schema; the struct has to have its schema's sections and stand at its place
-    /// (`IsReady`).
+    ///
+    /// # Conditions
+    ///
+    /// The field belongs to the schema (`BelongsTo`). The struct has at least its schema's sections, and stands at its
+    /// place (`IsReady`).
     #[tactic(auto, using(crate::proofs::Builders::room_for, crate::proofs::Builders::under_kept))]
     pub fn clear(&mut self, field: Field<'a>) -> Result<()>
         requires belongs { BelongsTo field (built_schema self.old) }
@@ -292,7 +324,10 @@ impl<'a> Builder<'a> {
 
     /// Clears the field of a name, as `clear`. Refused with `FieldNotFound` where there is none of that name, and then
     /// nothing has changed.
-    /// The struct has to have its schema's sections and stand at its place (`IsReady`).
+    ///
+    /// # Conditions
+    ///
+    /// The struct has at least its schema's sections, and stands at its place (`IsReady`).
     #[tactic(auto, using(crate::proofs::Builders::same_cleared, capnp_dynamic_readers::specs::Facts::Found::found_belongs))]
     pub fn clear_named(&mut self, field_name: &str) -> Result<()>
         requires { IsReady self.old }
@@ -313,7 +348,11 @@ impl<'a> Builder<'a> {
         self.clear(field)
     }
 
-    /// This struct by the handle of a struct type, which has to be that of the schema.
+    /// This struct by the handle of a struct type.
+    ///
+    /// # Conditions
+    ///
+    /// `T` is the handle of the schema's struct type (`type_of`).
     pub fn downcast<T: OwnedStruct<'a>>(self) -> T::Builder
         requires { seen_type T.type_of ≡ struct_type (built_schema self) }
         ensures { T.Builder.from_gives (handle_of self.entry) result }

@@ -70,7 +70,11 @@ pub trait DowncastBuilder<'a>: Sized {
     // Whether a dynamic value is of its kind.
     ghost is_kind: { Builder → Type 0 };
 
-    /// The value that a dynamic value of its kind holds.
+    /// The value that a dynamic value holds.
+    ///
+    /// # Conditions
+    ///
+    /// The dynamic value is of the type's kind (`is_kind`).
     fn downcast_builder(value: Builder<'a>) -> Kept<'a, Self>
         requires { is_kind value }
         ensures { value_of result.value ≡ value.entry };
@@ -102,7 +106,12 @@ impl<'a> Builder<'a> {
     }
 
     /// A reader of the value for as long as the builder would be there; a struct, a list and an untyped pointer are
-    /// read with 64 levels. The value has to be one that a builder handed out (`CanBeRead`).
+    /// read with 64 levels.
+    ///
+    /// # Conditions
+    ///
+    /// A value with a place stands there; a struct has at least its schema's sections, and a list elements of its type
+    /// (`CanBeRead`). That holds of what a builder handed out.
     pub fn into_reader(self) -> Reader<'a>
         requires { CanBeRead self }
         ensures { IsReaderOf self.entry result }
@@ -127,7 +136,11 @@ impl<'a> Builder<'a> {
         }
     }
 
-    /// The value that it holds, of the kind that the type names, which has to be this value's.
+    /// The value that it holds, of the kind that the type names.
+    ///
+    /// # Conditions
+    ///
+    /// The value is of the kind that `T` names (`is_kind`).
     pub fn downcast<T: DowncastBuilder<'a>>(self) -> T
         requires { T.is_kind self }
         ensures { T.value_of result ≡ self.entry }
@@ -135,7 +148,11 @@ impl<'a> Builder<'a> {
         T::downcast_builder(self).value
     }
 
-    /// The struct that it holds, by the handle of a struct type, which has to be that of the struct's schema.
+    /// The struct that it holds, by the handle of a struct type.
+    ///
+    /// # Conditions
+    ///
+    /// The value is a struct, and `T` is the handle of its schema's type (`type_of`).
     pub fn downcast_struct<T: OwnedStruct<'a>>(self) -> T::Builder
         requires { IsBuiltStructAnd self (λ s. seen_type T.type_of ≡ struct_type (built_schema s)) }
         ensures { IsBuiltStructAnd self.entry (λ s. T.Builder.from_gives (handle_of s) result) }

@@ -51,6 +51,10 @@ fn list_of<'a>(part: Value<'a>) -> Result<dynamic_list::Builder<'a>>
 
 /// The struct or group that the field of a name has. Refused as the `get` of the field of that name, and with
 /// `TypeMismatch` exactly where that hands out a value of another kind.
+///
+/// # Conditions
+///
+/// The struct has at least its schema's sections, and stands at its place (`IsReady`).
 pub fn struct_in<'a>(
     builder: dynamic_struct::Builder<'a>,
     name: &str,
@@ -75,6 +79,10 @@ pub fn struct_in<'a>(
 
 /// The list that the field of a name has. Refused as the `get` of the field of that name, and with `TypeMismatch`
 /// exactly where that hands out a value of another kind.
+///
+/// # Conditions
+///
+/// The struct has at least its schema's sections, and stands at its place (`IsReady`).
 pub fn list_in<'a>(
     builder: dynamic_struct::Builder<'a>,
     name: &str,
@@ -99,6 +107,10 @@ pub fn list_in<'a>(
 
 /// The struct that a list has at an index. Refused with `NoSuchElement` exactly past the end, then as the `get` of the
 /// element, and with `TypeMismatch` exactly where that hands out a value of another kind.
+///
+/// # Conditions
+///
+/// The list has elements of its type, and stands at its pointer (`IsListReady`).
 pub fn struct_at<'a>(
     list: dynamic_list::Builder<'a>,
     index: u32,
@@ -119,6 +131,10 @@ pub fn struct_at<'a>(
 
 /// The list that a list has at an index. Refused with `NoSuchElement` exactly past the end, then as the `get` of the
 /// element, and with `TypeMismatch` exactly where that hands out a value of another kind.
+///
+/// # Conditions
+///
+/// The list has elements of its type, and stands at its pointer (`IsListReady`).
 pub fn list_at<'a>(list: dynamic_list::Builder<'a>, index: u32) -> Result<dynamic_list::Builder<'a>>
     requires { IsListReady list }
     ensures stands { IfOk result (λ l. HandsElement list.entry index (built.List l)) }

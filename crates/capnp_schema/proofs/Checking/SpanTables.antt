@@ -31,27 +31,36 @@ spans_of_all set b spans n each all = record {
 }
 
 -- what is read at a place of the table
-read_at : (set : Schemas) (b : ℕ) (spans : List (Vec Span Global)) (i : ℕ) (x : Vec Span Global) (a : List Span) (p : Spot) → AreSpansOf set b spans → i < length spans → x ≡ get_or spans i x → a ≡ x.items → some_span a p ≡ footprint_at set b i p
-read_at set b spans i x a p s h e k = ap (λ l. some_span l p) k ∙ s.each i x p (slice_get_read spans (length spans) i x refl h e)
+pub record IsReadAt (table : List (Vec Span Global)) (i : ℕ) (x : Vec Span Global) (a : List Span) : Type 0 where
+  -- the place is one of the table's
+  pub within : i < length table
+  -- the vector there
+  pub vector : x ≡ get_or table i x
+  -- its spans
+  pub spans : a ≡ x.items
+
+-- it names what the field names
+read_at : (set : Schemas) (b : ℕ) (spans : List (Vec Span Global)) (i : ℕ) (x : Vec Span Global) (a : List Span) (p : Spot) → AreSpansOf set b spans → IsReadAt spans i x a → some_span a p ≡ footprint_at set b i p
+read_at set b spans i x a p s r = ap (λ l. some_span l p) r.spans ∙ s.each i x p (slice_get_read spans (length spans) i x refl r.within r.vector)
 
 pub apart_from_spans : (set : Schemas) (b : ℕ) (spans : List (Vec Span Global)) (i j : ℕ) (x y : Vec Span Global) (a c : List Span) → AreSpansOf set b spans
-    → i < length spans → j < length spans → x ≡ get_or spans i x → y ≡ get_or spans j y → a ≡ x.items → c ≡ y.items
+    → IsReadAt spans i x a → IsReadAt spans j y c
     → ((p : Spot) → some_span a p ≡ true → some_span c p ≡ false)
     → (p : Spot) → footprint_at set b i p ≡ true → footprint_at set b j p ≡ false
-apart_from_spans set b spans i j x y a c s hi hj ex ey ea ec apart p named =
-    sym (read_at set b spans j y c p s hj ey ec) ∙ apart p (read_at set b spans i x a p s hi ex ea ∙ named)
+apart_from_spans set b spans i j x y a c s first second apart p named =
+    sym (read_at set b spans j y c p s second) ∙ apart p (read_at set b spans i x a p s first ∙ named)
 
 pub meet_from_spans : (set : Schemas) (b : ℕ) (spans : List (Vec Span Global)) (i j : ℕ) (x y : Vec Span Global) (a c : List Span) → AreSpansOf set b spans
     → b < length set.brands
-    → i < length spans → j < length spans → x ≡ get_or spans i x → y ≡ get_or spans j y → a ≡ x.items → c ≡ y.items
+    → IsReadAt spans i x a → IsReadAt spans j y c
     → is_member (field_at set b i).field ≡ false → i ≢ j → SpansMeet a c → FieldBreaks set (FieldsApart set b i) b i
-meet_from_spans set b spans i j x y a c s within hi hj ex ey ea ec non_union ne m = record {
+meet_from_spans set b spans i j x y a c s within here there non_union ne m = record {
   brand = within;
-  field = (let l = s.counted in omega arith);
+  field = (let l = s.counted in let h = here.within in omega arith);
   broken = λ apart.
-      let first : footprint_at set b i m.spot ≡ true = sym (read_at set b spans i x a m.spot s hi ex ea) ∙ m.first in
-      let second : footprint_at set b j m.spot ≡ true = sym (read_at set b spans j y c m.spot s hj ey ec) ∙ m.second in
-      let none : footprint_at set b j m.spot ≡ false = apart j m.spot (let l = s.counted in omega arith) ne non_union first in
+      let first : footprint_at set b i m.spot ≡ true = sym (read_at set b spans i x a m.spot s here) ∙ m.first in
+      let second : footprint_at set b j m.spot ≡ true = sym (read_at set b spans j y c m.spot s there) ∙ m.second in
+      let none : footprint_at set b j m.spot ≡ false = apart j m.spot (let l = s.counted in let h = there.within in omega arith) ne non_union first in
       (cc);
 }
 

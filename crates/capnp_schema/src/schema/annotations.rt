@@ -198,7 +198,11 @@ impl<'s> AnnotationList<'s> {
         self.len() == 0
     }
 
-    /// The annotation at an index, which has to be below `len`.
+    /// The annotation at an index.
+    ///
+    /// # Conditions
+    ///
+    /// `index` is below `len`.
     #[tactic(auto, using(crate::proofs::AnnotatedLemmas::length_in, crate::proofs::AnnotatedLemmas::entry_in))]
     pub fn get(self, index: u32) -> Annotation<'s>
         requires { index < length (annotations_in self) }

@@ -30,7 +30,11 @@ impl<'s> EnumSchema<'s> {
     ghost use Rattle.capnp_schema.specs.Enumerants.{enum_of_list};
     ghost use Rattle.capnp_schema.specs.Enums.{IsEnum, enum_in, enum_number, enum_set};
 
-    /// The enum of a set that a type of the set names. Its number has to be that of an enum there.
+    /// The enum of a set that a type of the set names.
+    ///
+    /// # Conditions
+    ///
+    /// `raw.number` is that of an enum of the set.
     pub fn new(schemas: &'s SchemaSet, raw: RawEnumSchema) -> EnumSchema<'s>
         requires { raw.number < length (lists_seen schemas.now).enums }
         ensures set { enum_set result ≡ lists_seen schemas.now }
@@ -162,7 +166,11 @@ impl<'s> EnumerantList<'s> {
         self.len() == 0
     }
 
-    /// The enumerant of an ordinal, which has to be below `len`.
+    /// The enumerant of an ordinal.
+    ///
+    /// # Conditions
+    ///
+    /// `ordinal` is below `len`.
     pub fn get(self, ordinal: u16) -> Enumerant<'s>
         requires { ordinal < length (enumerants_in self) }
         ensures { IsEnumerantOf (enum_of_list self.entry) ordinal result }

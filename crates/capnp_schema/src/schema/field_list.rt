@@ -38,7 +38,11 @@ impl<'s> FieldList<'s> {
         self.len() == 0
     }
 
-    /// The field of an index, which has to be below `len`.
+    /// The field of an index.
+    ///
+    /// # Conditions
+    ///
+    /// `index` is below `len`.
     pub fn get(self, index: u16) -> Field<'s>
         requires { index < length (struct_fields (list_schema self)) }
         ensures { IsFieldOf (list_schema self.entry) index result }

@@ -44,7 +44,11 @@ impl<'s> FieldSubset<'s> {
         self.len() == 0
     }
 
-    /// The field at a place of the list, which has to be below `len`.
+    /// The field at a place of the list.
+    ///
+    /// # Conditions
+    ///
+    /// `index` is below `len`.
     pub fn get(self, index: u16) -> Field<'s>
         requires { index < length (subset_indices self) }
         ensures { IsFieldOf (subset_schema self.entry) (slice_index (subset_indices self.entry) index) result }

@@ -66,7 +66,11 @@ impl<'s> GroupWalk<'s> {
         None
     }
 
-    /// The walk past the field that it stands at. It has to stand at one.
+    /// The walk past the field that it stands at.
+    ///
+    /// # Conditions
+    ///
+    /// The walk stands at a field.
     #[inline(always)]
     pub fn advance(self) -> GroupWalk<'s>
         requires { walk_index self < length (struct_fields (walk_schema self)) }
@@ -84,8 +88,12 @@ impl<'s> GroupWalk<'s> {
         }
     }
 
-    /// The walk at the first field of the group of the field that it stands at, as `Field::get_group` answers it; the
-    /// field is then gone past.
+    /// The walk at the first field of the group of the field that it stands at; the field is then gone past.
+    ///
+    /// # Conditions
+    ///
+    /// The group is that of the field that the walk stands at, in the same set, as `Field::get_group` answers it
+    /// (`group_field_of`). The walk came through fewer than 2^64 - 1 groups.
     #[inline(always)]
     pub fn enter(self, group: StructSchema<'s>) -> GroupWalk<'s>
         requires set { set_of group ≡ walk_set self }

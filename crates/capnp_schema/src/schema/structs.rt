@@ -42,7 +42,11 @@ impl<'s> StructSchema<'s> {
     ghost use Rattle.capnp_schema.specs.AnnotationLists.{annotations_in, annotations_set};
     ghost use Rattle.capnp_schema.specs.FieldLists.{IsFound, list_schema, subset_indices, subset_schema};
 
-    /// The schema of those numbers, which have to be a brand of the set and its node.
+    /// The schema of those numbers.
+    ///
+    /// # Conditions
+    ///
+    /// `raw.number` is that of a brand of the set, and `raw.generic` that of the brand's node.
     pub fn new(schemas: &'s SchemaSet, raw: RawBrandedStructSchema) -> StructSchema<'s>
         requires number { raw.number < length (lists_seen schemas.now).brands }
         requires generic { raw.generic ≡ (brand_at (lists_seen schemas.now) raw.number).node }

@@ -83,6 +83,26 @@ start_back w n e =
 
 -- ---- targets ----
 
+-- a pointer word that leads to a composite list of so many words
+record IsCompositeWord (n m : ℕ) : Type 0 where
+  -- its kind is that of lists
+  pub kind : pointer_kind n ≡ 1
+  -- its element size is that of structs
+  pub size : element_size_number n ≡ 7
+  -- the words behind the tag
+  pub words : count n ≡ m
+
+-- the tag of a composite list: a struct pointer whose offset is the count
+record IsTagOf (t c d p : ℕ) : Type 0 where
+  -- its kind is that of structs
+  pub kind : pointer_kind t ≡ 0
+  -- the elements
+  pub elements : offset t ≡ c
+  -- the data words of each
+  pub words : data_words t ≡ d
+  -- the pointers of each
+  pub pointers : pointer_count t ≡ p
+
 module _ (segments : Segments) (segment : List ℕ) where
   -- a word that is spelled there
   word_there : (w n : ℕ) → Stands segment w (spelled_number 8 n) → n < 2 ^ 64 → target_at segments segment w ≡ word_target segments segment w n
@@ -98,8 +118,8 @@ module _ (segments : Segments) (segment : List ℕ) where
     of_list e m k es em h l = rw (not_equal n 0 some, k, start, k, es, not_equal e 7 (λ x. omega arith), em, l) refl
 
     -- and one with those of a composite list's, whose tag is known
-    of_composite : (m t c d p : ℕ) → pointer_kind n ≡ 1 → element_size_number n ≡ 7 → count n ≡ m → lies segment (a + 1 + m) ≡ true → word_at segment a ≡ t → pointer_kind t ≡ 0 → offset t ≡ c → data_words t ≡ d → pointer_count t ≡ p → c < 2 ^ 29 → c * (d + p) ≤ m → word_target segments segment w n ≡ CompositeAt segment (a + 1) c d p
-    of_composite m t c d p k es em l et kt ec ed ep h f = rw (not_equal n 0 some, k, start, k, es, em, l, et, kt, ec, is_below c (2 ^ 29) h, ed, ep, is_at_most (c * (d + p)) m f) refl
+    of_composite : (m t c d p : ℕ) → IsCompositeWord n m → lies segment (a + 1 + m) ≡ true → word_at segment a ≡ t → IsTagOf t c d p → c < 2 ^ 29 → c * (d + p) ≤ m → word_target segments segment w n ≡ CompositeAt segment (a + 1) c d p
+    of_composite m t c d p list l et tag h f = rw (not_equal n 0 some, list.kind, start, list.kind, list.size, list.words, l, et, tag.kind, tag.elements, is_below c (2 ^ 29) h, tag.words, tag.pointers, is_at_most (c * (d + p)) m f) refl
 
   -- a struct of size zero
   pub target_zero : (w : ℕ) → Stands segment w (spelled_number 8 (struct_word (2 ^ 30 - 1) 0 0)) → target_at segments segment w ≡ StructAt segment w 0 0
@@ -139,6 +159,6 @@ module _ (segments : Segments) (segment : List ℕ) where
         let m = c * (d + p) in
         word_there w (list_word g 7 m) s (list_fits g 7 m o (omega arith) hm)
         ∙ of_composite w (list_word g 7 m) (w + 1 + g) (λ z. omega arith) (start_after w (list_word g 7 m) g (list_offset g 7 m o (omega arith) hm) near) m (struct_word c d p) c d p
-        (list_kind g 7 m o (omega arith) hm) (list_element_size g 7 m o (omega arith) hm) (list_count g 7 m o (omega arith) hm) l
+        (record { kind = list_kind g 7 m o (omega arith) hm; size = list_element_size g 7 m o (omega arith) hm; words = list_count g 7 m o (omega arith) hm }) l
         (stands_word segment (w + 1 + g) (struct_word c d p) (struct_fits c d p oc hd hp) t)
-        (struct_kind c d p oc hd hp) (struct_offset c d p oc hd hp) (struct_data_words c d p oc hd hp) (struct_pointer_count c d p oc hd hp) hc (omega arith)
+        (record { kind = struct_kind c d p oc hd hp; elements = struct_offset c d p oc hd hp; words = struct_data_words c d p oc hd hp; pointers = struct_pointer_count c d p oc hd hp }) hc (omega arith)

@@ -58,6 +58,10 @@ fn number(bytes: &[u8]) -> u64
 /// The number that `width` bytes from byte `start` on spell, with zeros past the end.
 ///
 /// The reads below test for the end first, and call it only where bytes are missing.
+///
+/// # Conditions
+///
+/// `width` is at most 8.
 #[inline(always)]
 pub fn number_from(bytes: &[u8], start: usize, width: usize) -> u64
     requires { width ≤ 8 }
@@ -84,7 +88,11 @@ pub fn half_at(bytes: &[u8], start: usize) -> u32
     }
 }
 
-/// Word `w`, the eight bytes from byte `8 * w` on, which are there.
+/// Word `w`, the eight bytes from byte `8 * w` on.
+///
+/// # Conditions
+///
+/// The eight bytes are there.
 #[inline(always)]
 pub fn read_word(bytes: &[u8], w: usize) -> u64
     requires { 8 * w + 8 ≤ length bytes.now }
@@ -104,6 +112,10 @@ pub fn read_word(bytes: &[u8], w: usize) -> u64
 }
 
 /// Word `w`, the eight bytes from byte `8 * w` on, with zeros past the end.
+///
+/// # Conditions
+///
+/// `w` is below 2^61.
 #[inline(always)]
 pub fn get_word(bytes: &[u8], w: usize) -> u64
     requires { w < 2 ^ 61 }
@@ -133,6 +145,10 @@ pub fn get_bit(bytes: &[u8], i: usize) -> bool
 /// How many numbers of `width` bytes there are in `count` bytes.
 ///
 /// A division by a width that varies costs more than the rest of a step, so the widths of numbers are told apart.
+///
+/// # Conditions
+///
+/// `width` is not 0.
 #[inline(always)]
 pub fn divide(count: usize, width: u8) -> usize
     requires { 0 < width }

@@ -120,6 +120,10 @@ pub fn grow(size: StructSize, list: Found<'_>) -> StructSize
 }
 
 /// Why what was found does not become a list of structs of at least a size, but for what can't be followed.
+///
+/// # Conditions
+///
+/// What was found is well-formed (`IsWellFormed`).
 pub fn refuse_as_structs(size: StructSize, found: Found<'_>) -> Option<ErrorKind>
     requires { IsWellFormed (found_tree found) }
     ensures { result ≡ struct_list_refusal size (found_tree found.entry) }

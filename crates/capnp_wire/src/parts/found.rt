@@ -69,6 +69,10 @@ pub fn empty_list<'a>(size: ElementSize) -> Found<'a>
 }
 
 /// How many elements a list has; what is no list has none.
+///
+/// # Conditions
+///
+/// What was found is well-formed (`IsWellFormed`).
 #[inline(always)]
 pub fn count_list(found: Found<'_>) -> usize
     requires { IsWellFormed (found_tree found) }

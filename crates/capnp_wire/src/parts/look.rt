@@ -15,6 +15,10 @@ use crate::parts::segments::Segments;
 use crate::size::StructSize;
 
 /// `count` bytes of a segment from the word `start` on.
+///
+/// # Conditions
+///
+/// `start` is below 2^61.
 #[inline(always)]
 pub fn bytes_from(segment: &[u8], start: usize, count: usize) -> &[u8]
     requires { start < 2 ^ 61 }

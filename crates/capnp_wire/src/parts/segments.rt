@@ -68,6 +68,10 @@ fn count_many_words(table: &[u8], count: usize) -> usize
 }
 
 /// The words of the first segments of a table.
+///
+/// # Conditions
+///
+/// The table has at least `count` sizes, and `count` is below 2^32.
 #[inline(never)]
 pub fn count_words(table: &[u8], count: usize) -> usize
     requires there { 4 * count ≤ length table.now }
@@ -136,6 +140,10 @@ pub fn get_first_segment(segments: Segments<'_>) -> &[u8]
 }
 
 /// The bytes before the segments: their count, the table of their sizes and its padding.
+///
+/// # Conditions
+///
+/// `count` is at most 2^32.
 pub fn get_header_bytes(count: usize) -> usize
     requires { count ≤ 2 ^ 32 }
     ensures { result ≡ header_bytes count }

@@ -1,3 +1,4 @@
+-- A byte lies past the last bit, wholly within the bits, or holds the last ones: then the remainder by a power of two is left.
 use Rattle.std.proofs.Common.{rules, arith, ◌≡◌, ◌<◌, ◌^◌, ◌-◌, ◌*◌, ◌%◌, get_or, sym, ◌∙◌}
 use Rattle.std.proofs.lemmas.Nat.{one_shl}
 use Rattle.std.proofs.lemmas.List.{get_or_past}

@@ -1,3 +1,4 @@
+-- Where a word leads to bytes, the bytes found at its offset, as many as its count, are those of the pointer's tree.
 use Rattle.std.proofs.Common.{arith, ◌+◌, refl, sym, subst}
 use Rattle.capnp_wire.specs.Backing.{segments_in}
 use Rattle.capnp_wire.specs.Found.{pointer_tree}

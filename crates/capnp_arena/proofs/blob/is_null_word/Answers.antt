@@ -1,3 +1,4 @@
+-- A zero word inside its segment is a null pointer, so its tree is the null.
 use Rattle.std.proofs.Common.{arith, ◌≡◌, sym, subst}
 use Rattle.capnp_wire.specs.Backing.{segments_in}
 use Rattle.capnp_wire.specs.Found.{pointer_tree}

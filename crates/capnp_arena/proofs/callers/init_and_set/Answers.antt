@@ -1,3 +1,4 @@
+-- The number is in the new struct, the new struct behind a pointer, the pointer in the outer struct: three laws of change.
 use Rattle.std.proofs.Common.{◌≡◌, ◌+◌, ◌<◌, List, ℕ, ap, ◌∙◌}
 use Rattle.capnp_wire.specs.Edits.{with_bytes, with_number, with_pointer_tree}
 use Rattle.capnp_wire.specs.Place.{struct_tree}

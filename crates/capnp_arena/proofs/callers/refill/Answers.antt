@@ -1,3 +1,4 @@
+-- A change of the content of a struct changes what the pointer to it leads to, and nothing else.
 use Rattle.std.proofs.Common.{◌∙◌, ap}
 use Rattle.capnp_wire.specs.Place.{struct_tree}
 use Rattle.capnp_arena.specs.Facts.Laws.{in_struct, struct_planted}

@@ -1,3 +1,4 @@
+-- The element is planted in the list and ends inside the segment, so a number stored in it changes that element alone.
 use Rattle.std.proofs.Common.{arith, ◌+◌, ◌*◌, ◌<◌, ◌≤◌, ◌^◌, ap, ◌∙◌, subst}
 use Rattle.capnp_wire.specs.Elements.{with_struct_element}
 use Rattle.capnp_wire.specs.Tree.{StructTree}

@@ -1,3 +1,4 @@
+-- The pointer word, then the tree behind it: the two appended in turn are the encoding of the tree.
 use Rattle.std.proofs.Common.{◌≡◌, ◌++◌, ◌∙◌, ap}
 use Rattle.capnp_wire.specs.Encoding.{pointer_word, spelled_number}
 use Rattle.capnp_wire.specs.Facts.Appending.{append_two}

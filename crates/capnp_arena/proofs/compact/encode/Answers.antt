@@ -1,3 +1,4 @@
+-- What was appended to no bytes is the encoding. The count found tells the words, and that no tree is too deep.
 use Rattle.std.proofs.Common.{arith, ◌++◌, ◌∙◌, ap}
 use Rattle.capnp_wire.specs.Encoding.{encoding_of}
 use Rattle.capnp_wire.specs.Facts.Bytes.{AreBytes-fits}

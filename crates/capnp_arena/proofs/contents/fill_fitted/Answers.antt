@@ -1,3 +1,4 @@
+-- The loop keeps that the pointers before `i` are filled and the rest spared; each pointer is one tree of the fitted row.
 use Rattle.std.proofs.Common.{arith, ◌≡◌, sym, subst, ◌∙◌}
 use Rattle.std.proofs.lemmas.Result.{err_from_is_err_and}
 use Rattle.capnp_wire.specs.Facts.Parts.{IsWellFormed-nth_tree}

@@ -1,3 +1,5 @@
+-- A copy goes down the tree: each object is its own bytes and then its pointers, and a row keeps that what precedes is filled.
+-- Only the place given and the end change.
 use Rattle.std.proofs.Common.{arith, OnOk, ◌++◌, ◌≡◌, ◌+◌, ◌*◌, ◌-◌, ◌/◌, ◌<◌, ◌≤◌, suc, length, refl, sym, ap, subst, ◌∙◌}
 use Rattle.std.proofs.lemmas.Result.{err_from_is_err_and}
 use Rattle.capnp_wire.specs.Encoding.{bytes_of, spelled_number}

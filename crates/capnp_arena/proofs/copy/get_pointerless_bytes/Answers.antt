@@ -1,3 +1,4 @@
+-- Elements without pointers lie one behind the other as data, so as many bytes as their data words have are their row.
 use Rattle.std.proofs.Common.{arith, List, ℕ, ◌≡◌, ◌+◌, ◌*◌, sym, ap, subst, ◌∙◌}
 use Rattle.capnp_wire.specs.Backing.{segments_in}
 use Rattle.capnp_wire.specs.Found.{element_structs}

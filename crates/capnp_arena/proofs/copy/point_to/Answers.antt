@@ -1,3 +1,4 @@
+-- A list of bits has as many bits as its count, and being well formed has few enough for a list word; that word is its pointer's.
 use Rattle.std.proofs.Common.{arith, ◌<◌, ◌^◌, length, sym, ap, subst, ◌∙◌}
 use Rattle.capnp_wire.specs.Encoding.{list_word, pointer_word}
 use Rattle.capnp_wire.specs.Facts.Indexed.{length-bits_from}

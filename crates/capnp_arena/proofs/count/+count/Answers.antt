@@ -1,3 +1,5 @@
+-- Each shape counts its own words and those of its rows, one level deeper; the loops keep the sum and what is left.
+-- None means words past the format or a tree too deep.
 use Rattle.std.proofs.Common.{arith, cond, ◌==◌, ◌≡◌, ◌+◌, ◌-◌, ◌*◌, ◌<◌, ◌≤◌, ◌∙◌, inl, inr, sym, ap, subst, ℕ}
 use Rattle.capnp_wire.specs.Depth.{AreBelow, ElementsAreBelow, IsBelow}
 use Rattle.capnp_wire.specs.Tree.{Tree, structs_from, trees_from}

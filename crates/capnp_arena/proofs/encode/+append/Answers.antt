@@ -1,3 +1,5 @@
+-- Each shape appends its own bytes and then its rows, filled in order.
+-- The loops keep the room for what is left, and that filling the rest gives the whole.
 use Rattle.std.proofs.Common.{IfOk, rules, arith, ◌≡◌, ◌++◌, ◌+◌, ◌-◌, ◌*◌, ◌/◌, ◌<◌, ◌≤◌, inl, inr, ◌∙◌, sym, ap, subst, length, List, ℕ}
 use Rattle.std.proofs.lemmas.List.{append-nil}
 use Rattle.capnp_wire.specs.Encoding.{pointer_word, spelled_number}

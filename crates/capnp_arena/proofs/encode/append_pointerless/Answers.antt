@@ -1,3 +1,4 @@
+-- A list of bits is appended by packing the bits of its words, and those are its own bytes.
 use Rattle.std.proofs.Common.{IfOk, ◌≡◌, ◌++◌, ◌∙◌, ap, subst, sym}
 use Rattle.capnp_wire.specs.Encoding.{own_bytes}
 use Rattle.capnp_wire.specs.Place.{list_tree}

@@ -1,3 +1,4 @@
+-- The struct's words fit the segment, so with the larger sections they fit the limit; the extended struct has an element's size.
 use Rattle.std.proofs.Common.{arith, rules, suc, ◌+◌, ◌≡◌, ◌≤◌, ap, List, ℕ}
 use Rattle.capnp_wire.specs.Facts.Bytes.{AreBytes-fits}
 use Rattle.capnp_wire.specs.Tree.{trees_from}

@@ -1,3 +1,4 @@
+-- The tag and the grown elements, filled into the room behind it, are the composite list: each part, extended, is an element.
 use Rattle.std.proofs.Common.{arith, rules, ◌+◌, ◌*◌, [], ap, sym}
 use Rattle.capnp_wire.specs.Edits.{extended_struct}
 use Rattle.capnp_wire.specs.Facts.Bytes.{AreBytes-fits}

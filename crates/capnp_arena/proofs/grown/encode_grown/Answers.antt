@@ -1,3 +1,4 @@
+-- The room for one struct holds its part and what its pointers lead to, so filling it gives the extended struct's bytes.
 use Rattle.std.proofs.Common.{arith, rules}
 use Rattle.capnp_wire.specs.Edits.{extended_struct}
 use Rattle.capnp_wire.specs.Facts.Bytes.{AreBytes-fits}

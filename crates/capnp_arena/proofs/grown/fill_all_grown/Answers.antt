@@ -1,3 +1,4 @@
+-- The loop keeps that the parts before `i` are filled and the rest have room; of structs of size zero there is nothing to fill.
 use Rattle.std.proofs.Common.{arith, ◌+◌, ◌∙◌, sym}
 use Rattle.capnp_wire.specs.Edits.{extended_struct}
 use Rattle.capnp_wire.specs.Facts.Bytes.{AreBytes-fits}

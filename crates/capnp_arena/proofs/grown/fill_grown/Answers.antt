@@ -1,3 +1,4 @@
+-- Zeros over the whole room, then the part's data and its pointers put at their places, are the part extended to the size.
 use Rattle.std.proofs.Common.{arith, rules}
 use Rattle.capnp_arena.specs.Steps.Grown.{grown_part_at}
 use Rattle.capnp_arena.proofs.Enlarged.{element_grown, part_length, part_tree_count}

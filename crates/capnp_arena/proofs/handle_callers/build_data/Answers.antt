@@ -1,3 +1,4 @@
+-- The new list's bytes are zeros; what is left in them, with the first byte set, is as long and so is the list's content.
 use Rattle.std.proofs.Common.{◌∙◌, ◌≡◌, length, slice_set}
 use Rattle.std.proofs.lemmas.List.{length-set}
 use Rattle.capnp_arena.proofs.NewBytes.{new_left}

@@ -1,3 +1,4 @@
+-- The handle has all bytes of the new list, so what is left in them, the zeros with the first byte set, is the whole message.
 use Rattle.std.proofs.Common.{List, rules, ℕ, ap, length, replicate, slice_set, subst, sym, ◌≡◌, ◌∙◌}
 use Rattle.std.proofs.lemmas.List.{length-replicate, length-set}
 use Rattle.capnp_wire.specs.Tree.{Numbers}

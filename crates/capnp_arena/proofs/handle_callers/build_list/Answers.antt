@@ -1,3 +1,4 @@
+-- The text changes a pointer of the element, that the element of the list, and that the message: one law of change in another.
 use Rattle.std.proofs.Common.{[], List, rules, ℕ, arith, ◌++◌, ◌∷◌, ◌≡◌, ap, subst}
 use Rattle.capnp_wire.specs.Edits.{with_pointer_tree, zero_structs}
 use Rattle.capnp_wire.specs.Elements.{with_struct_element}

@@ -1,3 +1,4 @@
+-- The text changes a pointer of the new struct, and that struct is the message's root: one law of change inside the other.
 use Rattle.std.proofs.Common.{[], rules, ◌++◌, ◌∷◌, ◌≡◌, subst}
 use Rattle.capnp_wire.specs.Edits.{with_pointer_tree, zero_struct}
 use Rattle.capnp_wire.specs.Place.{struct_tree}

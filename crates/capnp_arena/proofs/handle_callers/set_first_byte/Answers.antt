@@ -1,3 +1,4 @@
+-- The lent bytes are all those of the root's list, so what is left in them, with the first byte set, is the message's tree.
 use Rattle.std.proofs.Common.{List, rules, ℕ, ap, length, slice_set, subst, sym, ◌≡◌, ◌∙◌}
 use Rattle.std.proofs.lemmas.List.{length-set}
 use Rattle.capnp_wire.specs.Place.{bytes_at}

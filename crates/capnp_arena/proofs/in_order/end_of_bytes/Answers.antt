@@ -1,3 +1,4 @@
+-- A whole number of words needs no padding; else the zeros seen behind the last byte are the padding up to the next word.
 use Rattle.std.proofs.Common.{arith, ◌≡◌, ◌+◌, ◌-◌, ◌*◌, ◌/◌, ◌%◌, replicate, refl, sym, ap, ◌∙◌, take, drop}
 use Rattle.capnp_wire.specs.Place.{bytes_at}
 use Rattle.capnp_arena.proofs.LaidOut.{padded_there}

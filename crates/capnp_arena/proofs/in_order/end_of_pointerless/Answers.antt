@@ -1,3 +1,4 @@
+-- A list of bits ends where it should if its words are the packed bits already; those are the list's own bytes.
 use Rattle.std.proofs.Common.{arith, ◌+◌, ◌-◌, ◌*◌, ◌/◌, ◌≤◌, refl, sym, subst, ap, ◌∙◌}
 use Rattle.capnp_wire.specs.Encoding.{own_bytes, packed_bits}
 use Rattle.capnp_wire.specs.Locate.{list_words}

@@ -1,3 +1,4 @@
+-- Before the segment stand two halves, zero and the word count. As the segment is its own encoding, that count is the tree's.
 use Rattle.std.proofs.Common.{arith, suc, ◌/◌, ◌*◌, ◌≡◌, ◌++◌, ◌∙◌, ap, length}
 use Rattle.capnp_wire.specs.Encoding.{encoding_of, spelled_number}
 use Rattle.capnp_wire.specs.Facts.Appending.{append_two}

@@ -1,3 +1,4 @@
+-- Words are bytes, so any tree read from them is well formed, and so is a struct whose data ends inside them.
 use Rattle.std.proofs.Common.{[], ◌∷◌, List, ℕ}
 use Rattle.capnp_wire.specs.WellFormed.{AreBytes, IsWellFormed}
 use Rattle.capnp_wire.specs.Facts.ByteRuns.{AreBytes-fits}

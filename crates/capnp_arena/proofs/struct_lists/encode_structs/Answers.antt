@@ -1,3 +1,4 @@
+-- The parts, extended, are the list as structs. The tree's words fit the segment, so those of the new list fit the limit.
 use Rattle.std.proofs.Common.{arith, suc, ap, ◌∙◌, ◌≤◌}
 use Rattle.capnp_wire.specs.Encoding.{bytes_of}
 use Rattle.capnp_wire.specs.Facts.Bytes.{AreBytes-fits}

@@ -1,3 +1,4 @@
+-- A built struct has as many pointers as its place says, so the field is inside; a new tree there changes that pointer alone.
 use Rattle.std.proofs.Common.{arith}
 use Rattle.capnp_arena.specs.Segment.{segment}
 use Rattle.capnp_arena.specs.Facts.Places.{pointer_leaves, pointers_of}

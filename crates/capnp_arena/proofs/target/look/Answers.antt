@@ -1,3 +1,4 @@
+-- A word of a forest points to what its shape says, and looking at such a word tells that shape.
 use Rattle.std.proofs.Common.{◌∙◌, subst, sym}
 use Rattle.capnp_arena.specs.Shape.{Points}
 use Rattle.capnp_arena.specs.Facts.Forests.{points}

@@ -1,3 +1,4 @@
+-- The number and then the text change the new struct one after the other, so the root that leads to it stays a forest.
 use Rattle.std.proofs.Common.{rules, subst}
 use Rattle.capnp_arena.specs.Facts.Calls.{parts_one_by_one}
 use Rattle.capnp_arena.specs.Facts.Laws.{in_struct}

@@ -1,3 +1,4 @@
+-- Three writes in the data of the new struct are one change of it, so the root that leads to it stays a forest.
 use Rattle.std.proofs.Common.{rules, subst}
 use Rattle.capnp_arena.specs.Facts.Calls.{parts_one_by_one}
 use Rattle.capnp_arena.specs.Facts.Laws.{in_struct}

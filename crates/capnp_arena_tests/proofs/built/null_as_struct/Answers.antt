@@ -1,3 +1,4 @@
+-- Where the struct has a data word, the number is a change of it alone, so the root that leads to it stays a forest.
 use Rattle.std.proofs.Common.{rules, subst}
 use Rattle.capnp_arena.specs.Facts.Laws.{in_struct}
 use Rattle.capnp_arena.specs.Forest.{Forest}

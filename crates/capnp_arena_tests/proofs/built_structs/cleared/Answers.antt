@@ -1,3 +1,4 @@
+-- The text set and then cleared are two calls at one pointer, so together they are one change of it, and of the struct there.
 use Rattle.std.proofs.Common.{rules}
 use Rattle.capnp_arena.specs.Facts.Calls.{one_by_one}
 use Rattle.capnp_arena.specs.Segment.{segment}

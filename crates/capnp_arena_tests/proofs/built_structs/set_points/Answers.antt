@@ -1,3 +1,4 @@
+-- A new list and two numbers in it are three calls at one pointer: together one change of it, and of the struct there.
 use Rattle.std.proofs.Common.{rules, subst}
 use Rattle.capnp_arena.specs.Facts.Calls.{one_by_one}
 use Rattle.capnp_arena.specs.Forest.{PartChanges, Planted}

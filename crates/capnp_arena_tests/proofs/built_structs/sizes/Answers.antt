@@ -1,3 +1,4 @@
+-- The new list is a change of the struct's first pointer, so the struct stays planted; the sizes are read only.
 use Rattle.std.proofs.Common.{rules, subst}
 use Rattle.capnp_arena.specs.Forest.{PartChanges, Planted}
 use Rattle.capnp_arena.specs.Handles.{handle_words}

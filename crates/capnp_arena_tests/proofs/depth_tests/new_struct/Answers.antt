@@ -1,3 +1,4 @@
+-- The copy that `put` makes is a change of the new struct's pointer, so the root that leads to it stays a forest.
 use Rattle.std.proofs.Common.{rules, subst}
 use Rattle.capnp_arena.specs.Facts.Laws.{in_struct}
 use Rattle.capnp_arena.specs.Forest.{Forest}

@@ -43,7 +43,18 @@ returns c =
     let old = segment c.args.arena.now in
     let m = segment c.fill_list.new.arena in
     let p = c.get_pointer_element-pointer.result in
-    list_in_leads c.args.word set e c.args.index old m p c.requires.inside (has_pointer set e (tree old c.args.word) c.args.index c.requires.list c.requires.inside) c.get_pointer_element-pointer.ensures.tree
-    c.in_default.ensures.within c.tree_is_sound.ensures.whole c.in_default.ensures.filled c.in_default.ensures.frame.forest c.in_default.ensures.frame.changes c.requires.entries
-    (inner_stands set e (tree old p) (tree m p) c.in_default.ensures.filled c.in_default.ensures.within c.tree_is_sound.ensures.whole c.tree_is_sound-2.ensures.formed)
-    c.get_pointer_element-pointer.ensures.leaves (at.List p c.args.schemas c.args.inner) (λ bytes h. h) (λ old path end k new h. h)
+    list_in_leads c.args.word set e c.args.index old m p c.requires.inside (has_pointer set e (tree old c.args.word) c.args.index c.requires.list c.requires.inside)
+    (record {
+      here = c.get_pointer_element-pointer.ensures.tree;
+      within = c.in_default.ensures.within;
+      whole = c.tree_is_sound.ensures.whole;
+      filled = c.in_default.ensures.filled;
+      changes = c.in_default.ensures.frame.changes;
+      leaves = c.get_pointer_element-pointer.ensures.leaves;
+    })
+    (record {
+      forest = c.in_default.ensures.frame.forest;
+      entries = c.requires.entries;
+      list = inner_stands set e (tree old p) (tree m p) c.in_default.ensures.filled c.in_default.ensures.within c.tree_is_sound.ensures.whole c.tree_is_sound-2.ensures.formed;
+    })
+    (at.List p c.args.schemas c.args.inner) (λ bytes h. h) (λ old path end k new h. h)

@@ -1,3 +1,5 @@
+-- The message's root is entered as the struct that the meta set's first brand reads.
+-- So the lists read from it, and its refusals, are those of the message.
 use Rattle.std.proofs.Common.{ap, ◌∙◌}
 use Rattle.capnp_wire.specs.Message.{received_tree}
 use Rattle.capnp_wire.specs.Standing.{levels_of, struct_of, tree_of}

@@ -1,3 +1,4 @@
+-- An inactive field is not shown, and an active member with a discriminant above zero is; else what the struct has decides.
 use Rattle.std.proofs.Common.{◌∙◌, sym}
 use Rattle.capnp_schema.specs.FieldLists.{index_of}
 use Rattle.capnp_dynamic_readers.specs.Handles.{schema_of}

@@ -1,3 +1,4 @@
+-- What the reader gets for a slot is the field's part, for it has the slot's type and no group stands there; so is a refusal.
 use Rattle.std.proofs.Common.{subst, sym, ◌∙◌, None}
 use Rattle.capnp_schema.specs.StructHandles.{IsStruct}
 use Rattle.capnp_dynamic_readers.specs.Facts.PartsShown.{part_read, part_unread, target_in}

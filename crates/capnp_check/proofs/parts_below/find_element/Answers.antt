@@ -1,3 +1,4 @@
+-- The loop keeps that no element before the index is refused: one that is ends the search, and at the end none is.
 use Rattle.std.proofs.Common.{arith}
 use Rattle.capnp_check.proofs.PlacesFound.{element_found, elements_all, elements_none, elements_past}
 use Rattle.capnp_check.proofs.parts_below.find_element.Goals as goal

@@ -1,3 +1,4 @@
+-- The walk keeps that no field it passed is refused: the first that is ends the search, and a walk that ends has passed all.
 use Rattle.std.proofs.Common.{subst, sym, ◌∙◌}
 use Rattle.capnp_dynamic_readers.specs.Handles.{schema_of}
 use Rattle.capnp_schema.specs.GroupWalks.{walk_index, walk_schema}

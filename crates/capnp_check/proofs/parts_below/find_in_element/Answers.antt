@@ -1,3 +1,4 @@
+-- The element, opened, is refused or not as its own check says, for it is of the list's set.
 use Rattle.std.proofs.Common.{sym}
 use Rattle.capnp_dynamic_readers.specs.Handles.{list_set}
 use Rattle.capnp_check.proofs.PlacesFound.{element_said}

@@ -1,3 +1,4 @@
+-- A hidden field has nothing to refuse; a shown one, opened, is refused or not as its own check says.
 use Rattle.std.proofs.Common.{sym, ◌∙◌}
 use Rattle.capnp_schema.specs.FieldLists.{index_of}
 use Rattle.capnp_schema.specs.StructHandles.{set_of}

@@ -1,3 +1,4 @@
+-- The kind of the opened value decides: one whole or refused has no parts, and of others the fields or elements are searched.
 use Rattle.capnp_check.proofs.PlacesFound.{list_step, list_whole, match_map, own_refused, own_whole, struct_step, struct_whole}
 use Rattle.capnp_check.proofs.parts_below.find_step.Goals as goal
 

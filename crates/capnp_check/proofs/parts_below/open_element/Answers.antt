@@ -1,3 +1,4 @@
+-- An element that is read opens as its value does; one that is not is refused with the fault of the list's element type.
 use Rattle.std.proofs.Common.{ap, ◌∙◌}
 use Rattle.capnp_base.specs.declared.introspect.«Type».{«Type» as TypeHandle}
 use Rattle.capnp_schema.specs.Types.{seen_type}

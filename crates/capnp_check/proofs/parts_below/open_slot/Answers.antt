@@ -1,3 +1,4 @@
+-- A slot that is read opens as its value does; one that is not is refused with the fault of the field's type.
 use Rattle.capnp_schema.specs.Types.{seen_type}
 use Rattle.capnp_check.proofs.OpenValues.{slot_opened, slot_unread}
 use Rattle.capnp_check.proofs.parts_below.open_slot.Goals as goal

@@ -1,3 +1,4 @@
+-- Structs and lists open one level further down, and where no level is left they are too deep; all other values are leaves.
 use Rattle.capnp_check.proofs.OpenValues.{leaf_opened, list_deepest, list_opened, struct_deepest, struct_opened}
 use Rattle.capnp_check.proofs.parts_below.open_value.Goals as goal
 

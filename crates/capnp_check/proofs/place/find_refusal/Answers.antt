@@ -1,3 +1,5 @@
+-- The loop keeps that the steps lead from the root to the current value, and that its refusal is the whole's.
+-- Each step leaves less below, so the loop ends.
 use Rattle.std.proofs.Common.{sym, None, Some, string_bytes, rules, ◌∙◌}
 use Rattle.capnp_dynamic_readers.specs.Shown.{set_seen}
 use Rattle.capnp_check.specs.Places.{root_parts}

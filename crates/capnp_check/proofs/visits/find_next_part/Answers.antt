@@ -1,3 +1,4 @@
+-- The kind of the opened value decides: one whole or refused has no parts, and in others the next is sought past the last step.
 use Rattle.capnp_check.specs.Steps.Frames.{next_index}
 use Rattle.capnp_check.proofs.PartsVisited.{list_next, list_none, refused_none, struct_next, struct_none, whole_none}
 use Rattle.capnp_check.proofs.PlacesFound.{match_map}

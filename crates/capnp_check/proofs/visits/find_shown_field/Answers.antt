@@ -1,3 +1,4 @@
+-- The loop keeps that the fields from the first up to the index are hidden: the first that is shown is next, or none is left.
 use Rattle.std.proofs.Common.{arith, sym, ◌∙◌}
 use Rattle.capnp_schema.specs.FieldLists.{list_schema}
 use Rattle.capnp_check.proofs.PartsVisited.{loop_done, loop_found, loop_hidden}

@@ -1,3 +1,4 @@
+-- The loop keeps that the steps and words told, with those of the frames left, are all; at the end no frame is left.
 use Rattle.std.proofs.Common.{ap, arith, string_bytes, ◌++◌}
 use Rattle.capnp_check.proofs.FramesTold.{open_there, place_above, steps_done, steps_next, steps_of, words_done, words_next, words_of}
 use Rattle.capnp_check.proofs.visits.tell_place.Goals as goal

@@ -1,3 +1,5 @@
+-- The given pair forces all that are listed, so one that is no successor refutes it.
+-- Those looked at are closed over what they name; at the end they are the whole list.
 use Rattle.std.proofs.Common.{arith, refl}
 use Rattle.capnp_schema.specs.Entries.{lists_seen}
 use Rattle.capnp_compatible.proofs.Walking.{decides_no, decides_yes, newer_in, older_in, walk_ends, walk_fails, walk_more}

@@ -1,3 +1,5 @@
+-- The walk keeps that the fields before the index are shared.
+-- The fields read at the index are the two structs' own, so their answer is of that index.
 use Rattle.std.proofs.Common.{below_more, refl, subst}
 use Rattle.capnp_schema.specs.Entries.{lists_seen}
 use Rattle.capnp_schema.specs.FieldLists.{typed_of}

@@ -1,3 +1,5 @@
+-- A newer type that is no struct stays.
+-- Of a struct it is decided whether it stands where an element stood: then the type of its field 0 does, else the struct stays.
 use Rattle.std.proofs.Common.{ap, sym, ◌∙◌}
 use Rattle.capnp_schema.specs.Entries.{lists_seen}
 use Rattle.capnp_schema.specs.Schema.{TypedField}

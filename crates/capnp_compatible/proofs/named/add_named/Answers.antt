@@ -1,3 +1,5 @@
+-- The walk keeps that the list begins as it was, holds what the fields before name, and nothing else besides.
+-- A refused step adds no other pair either.
 use Rattle.std.proofs.Common.{Option, subst, arith}
 use Rattle.capnp_schema.specs.Entries.{lists_seen}
 use Rattle.capnp_compatible.specs.declared.pairs.Pair.{Pair}

@@ -1,3 +1,5 @@
+-- Peeling one list off both types leaves what is inside as it was; where not both are lists, nothing
+-- more is peeled, and the two layers are the answer.
 use Rattle.std.proofs.Common.{rules, ap, ◌≡◌, ◌∙◌}
 use Rattle.capnp_base.specs.Types.{variant_kind}
 use Rattle.capnp_base.specs.declared.introspect.TypeVariant.TheVariants as variant

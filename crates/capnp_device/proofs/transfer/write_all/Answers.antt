@@ -1,3 +1,4 @@
+-- Each call of the sink appends one more part of the bytes, and without a failure; so what is written stays their beginning.
 use Rattle.std.proofs.Common.{◌∙◌, arith}
 use Rattle.std.proofs.lemmas.List.{take_rest}
 use Rattle.capnp_device.proofs.Known.{appends_more}

@@ -1,3 +1,4 @@
+-- What is printed into an empty text within the limit is the value's text; appended whole, it adds at most the limit.
 use Rattle.std.proofs.Common.{string_bytes, subst}
 use Rattle.capnp_records.specs.Text.{Layout}
 use Rattle.capnp_dynamic_readers.specs.Pieces.{Taken, made_bytes, made_text}

@@ -1,3 +1,4 @@
+-- How the printer stopped tells the error: a refusal is the text's own, and too long means a text past the limit or refused.
 use Rattle.std.proofs.Common.{[]}
 use Rattle.capnp_dynamic_readers.specs.Pieces.{Within}
 use Rattle.capnp_dynamic_readers.specs.Shown.{printed_text}

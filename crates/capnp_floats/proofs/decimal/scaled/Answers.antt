@@ -1,3 +1,4 @@
+-- A number of at most 2^56, doubled at most 1076 times, fits a natural, also ten thousand times.
 use Rattle.std.proofs.Common.{arith, rules, ap, ◌∙◌, ◌≡◌, ◌*◌, ◌^◌, ◌<◌}
 use Rattle.capnp_floats.specs.Naturals.{room}
 use Rattle.capnp_floats.proofs.Finding.{fits, fits_once}

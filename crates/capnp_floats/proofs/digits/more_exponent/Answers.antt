@@ -1,3 +1,4 @@
+-- A byte that is no digit leaves the natural that the number stands for; a digit goes behind it while the number is below 2^120.
 use Rattle.std.proofs.Common.{arith, rules, ◌≡◌, true, false}
 use Rattle.std.proofs.lemmas.Bool.{not-true, not-false}
 use Rattle.std.specs.Char.{is_ascii_digit}

@@ -1,3 +1,4 @@
+-- Up to the place reached, the row and the carry are the sum of both rows' places; the places behind are as they were.
 use Rattle.std.proofs.Common.{arith, refl}
 use Rattle.capnp_floats.specs.Naturals.{natural_of}
 use Rattle.capnp_floats.proofs.Naturals.{add_kept, rest_kept}

@@ -1,3 +1,5 @@
+-- Up to the place reached, the row and the carry are the product of the row's places and the
+-- number more; the places behind are as they were.
 use Rattle.std.proofs.Common.{arith, refl}
 use Rattle.capnp_floats.specs.Naturals.{natural_of}
 use Rattle.capnp_floats.proofs.Naturals.{scale_kept, rest_kept}

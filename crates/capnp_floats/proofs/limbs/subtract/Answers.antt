@@ -1,3 +1,5 @@
+-- Up to the place reached, the row and the other make what the row was, with what was lent, at most 1.
+-- The places behind are as they were.
 use Rattle.std.proofs.Common.{arith, rules, refl, get_or}
 use Rattle.capnp_floats.specs.Naturals.{natural_of}
 use Rattle.capnp_floats.proofs.Naturals.{bound_kept, subtract_kept, lent_kept, rest_kept}

@@ -1,3 +1,5 @@
+-- Where the guess is at an end, or its neighbours don't lie around the decimal, the bits 0
+-- and infinity do, since 0 is at most any decimal.
 use Rattle.std.proofs.Common.{ℕ, ◌*◌, ◌^◌, ◌≤◌, arith, subst, sym}
 use Rattle.capnp_floats.specs.declared.width.Width.{Width}
 use Rattle.capnp_floats.specs.Nearest.{least_numbers}

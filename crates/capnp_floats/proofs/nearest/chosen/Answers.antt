@@ -1,3 +1,5 @@
+-- The floor of the decimal in least numbers is the low one of two neighbours, and twice the decimal fits.
+-- Compared with their middle it says which is nearer, and is chosen.
 use Rattle.std.proofs.Common.{arith, subst, ◌*◌, ◌^◌, ◌<◌, ◌≡◌, ◌∙◌, ap}
 use Rattle.capnp_floats.specs.Naturals.{large_room}
 use Rattle.capnp_floats.specs.Nearest.{least_places}

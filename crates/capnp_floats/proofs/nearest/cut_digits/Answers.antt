@@ -1,3 +1,4 @@
+-- The digits kept are below 10^800, so with one more behind them they are below 10^801 and fit a large natural.
 use Rattle.std.proofs.Common.{arith, subst, sym, ap, ◌∙◌, ◌*◌, ◌+◌, ◌^◌, ◌<◌}
 use Rattle.capnp_floats.specs.Naturals.{large_room}
 use Rattle.capnp_floats.proofs.Appending.{append_fits}

@@ -1,3 +1,5 @@
+-- The number in least numbers is its significand times two to its place; that it is not
+-- above the decimal is that the decimal is not below it.
 use Rattle.std.proofs.Common.{◌*◌, ◌^◌, ◌∙◌, ap, leb, not}
 use Rattle.capnp_floats.specs.Floats.{significand}
 use Rattle.capnp_floats.specs.Nearest.{least_numbers}

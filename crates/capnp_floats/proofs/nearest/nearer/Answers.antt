@@ -1,3 +1,5 @@
+-- Twice the decimal lies below the doubled middle of two neighbours, above it, or on it; this
+-- decides for the low one, the next, or the even one.
 use Rattle.std.proofs.Common.{◌≡◌, ◌^◌, ◌<◌, ◌≤◌, inl, inr, refl, ltb, true, false, subst, arith, rules}
 use Rattle.std.proofs.lemmas.Bool.{ltb-true, ltb-false}
 use Rattle.capnp_floats.specs.Steps.Nearing.{twice_middle}

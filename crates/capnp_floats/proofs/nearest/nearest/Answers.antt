@@ -1,3 +1,5 @@
+-- The tens and the tenths of the exponent are exact here, not capped; so what is found for
+-- them is nearest, and none means past the range.
 use Rattle.std.proofs.Common.{inl, refl, ◌∙◌, ap, w32}
 use Rattle.std.proofs.lemmas.Int.{to_z-of_z}
 use Rattle.capnp_floats.specs.Shortest.{tens, tenths}

@@ -1,3 +1,5 @@
+-- No digits are 0; above 400 tenths they are too little for any number but 0, above 400 tens past the range.
+-- Between these, the number chosen is nearest if it is in range.
 use Rattle.std.proofs.Common.{arith, lit<}
 use Rattle.capnp_floats.specs.Shortest.{tens, tenths}
 use Rattle.capnp_floats.proofs.Answering.{few_found, few_past}

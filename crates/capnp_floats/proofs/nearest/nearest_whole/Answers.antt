@@ -1,3 +1,5 @@
+-- Digits that are all kept are the natural in front.
+-- Above 1150 tenths they are nearest to 0; else the number chosen is nearest if it is in range.
 use Rattle.std.proofs.Common.{arith, lit<, subst, sym}
 use Rattle.capnp_floats.specs.Shortest.{tens, tenths}
 use Rattle.capnp_floats.specs.Nearest.{IsNearest}

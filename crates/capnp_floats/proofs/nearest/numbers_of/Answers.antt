@@ -1,3 +1,5 @@
+-- Digits below 10^801 fit a large natural with the places doubled, and with up to 400 tens behind
+-- these as well; the product is that of least numbers.
 use Rattle.std.proofs.Common.{arith, subst, sym, ap, ◌∙◌, ◌*◌, ◌^◌, ◌<◌, ◌≡◌}
 use Rattle.capnp_floats.specs.Naturals.{large_room}
 use Rattle.capnp_floats.specs.Nearest.{least_places}

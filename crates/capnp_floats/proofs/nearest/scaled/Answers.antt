@@ -1,3 +1,4 @@
+-- A number below 2^65 fits a large natural after fewer than 2048 doublings, and after up to 1152 tens more.
 use Rattle.std.proofs.Common.{◌*◌, ◌^◌, ◌<◌, ◌∙◌, ap, sym, subst, arith}
 use Rattle.capnp_floats.specs.Naturals.{large_room}
 use Rattle.capnp_floats.proofs.Nearing.{large_fits, large_fits_twice}

@@ -1,3 +1,5 @@
+-- While one is reached it is at most the bound, so ten times it fits.
+-- It is at least 2 to the number of tens, so these are fewer than 1152.
 use Rattle.std.proofs.Common.{arith, rules, ◌<◌, ◌≤◌, ◌≡◌, ◌+◌, ◌*◌, ◌^◌, ◌∙◌, ap, true}
 use Rattle.std.proofs.lemmas.Nat.{pow_pos}
 use Rattle.capnp_floats.specs.Naturals.{room}

@@ -1,3 +1,5 @@
+-- What is left and the number as often as it was taken are what was there, less than ten
+-- times the number; so the count is below ten.
 use Rattle.std.proofs.Common.{arith, ◌<◌}
 use Rattle.capnp_floats.proofs.Going.{count_small}
 use Rattle.capnp_floats.proofs.search.take.Goals as goal

@@ -1,3 +1,4 @@
+-- The number's text is ASCII and not empty, and of at most 20 digits, since the number is below 2^64; so it can be laid out.
 use Rattle.std.proofs.Common.{ℕ, List, IsAscii, decimal, length, subst, sym, ◌≡◌, ◌<◌, ◌≤◌, ◌^◌, rules, arith}
 use Rattle.std.proofs.lemmas.Fmt.{IsAscii-decimal, decimal_nonempty, length-decimal-le}
 use Rattle.capnp_floats.proofs.text.put_decimal.Goals as goal

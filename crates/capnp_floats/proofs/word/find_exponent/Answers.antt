@@ -1,3 +1,5 @@
+-- The walk keeps that no byte before the index is an exponent's mark; so the one found is
+-- the first, and else the length is answered.
 use Rattle.std.proofs.Common.{arith, rules, sym, length, get_or, ◌≡◌, true}
 use Rattle.std.proofs.lemmas.List.Sums.{position_or_len_is}
 use Rattle.capnp_floats.specs.Words.{is_exponent_mark}

@@ -1,3 +1,5 @@
+-- The exponent's sign decides, and then whether its number covers the places: with a minus both add up as tenths, else their
+-- difference is tenths or tens. So it is of capped numbers too.
 use Rattle.std.proofs.Common.{arith, rules, inl, sym, ◌≡◌, true, false}
 use Rattle.capnp_floats.specs.Words.{begins_with_minus, digits_among}
 use Rattle.capnp_floats.proofs.Appending.{capped_less, capped_none, capped_sum, capped_turned, capped_zero, minus_down, minus_up, plus_down, plus_up}

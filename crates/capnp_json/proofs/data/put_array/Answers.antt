@@ -1,3 +1,5 @@
+-- The opening bracket leads on to the items, one bracket further in.
+-- More brackets than can be counted are a want of memory, which says nothing of the JSON.
 use Rattle.std.proofs.Common.{Option, codes, subst, true, ℕ}
 use Rattle.capnp_records.specs.Text.{deeper}
 use Rattle.capnp_json.specs.Leaves.{byte_items}

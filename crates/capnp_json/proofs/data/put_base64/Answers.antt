@@ -1,3 +1,5 @@
+-- Four characters for three bytes lead on to the base64 of the rest, and so from all bytes to the rest.
+-- The last, less than three, end it.
 use Rattle.std.proofs.Common.{Err, arith}
 use Rattle.capnp_json.specs.Leaves.{base64_text}
 use Rattle.capnp_json.specs.Pieces.{said}

@@ -1,3 +1,4 @@
+-- Each byte's two digits lead on to those of the bytes behind the index. Past the last byte no digit is left.
 use Rattle.std.proofs.Common.{Err, Ok, arith}
 use Rattle.capnp_json.proofs.ByteSteps.{hex_end, hex_stopped, hex_then}
 use Rattle.capnp_json.proofs.data.put_hex.Goals as goal

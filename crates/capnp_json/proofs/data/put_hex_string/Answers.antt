@@ -1,3 +1,5 @@
+-- The quote and the hexadecimal digits lead on to the last quote, so its outcome is that of the whole.
+-- A piece that stops before it stops the whole.
 use Rattle.std.proofs.Common.{[], ◌++◌, ◌∷◌}
 use Rattle.capnp_json.specs.Leaves.{hex_text, quoted}
 use Rattle.capnp_json.specs.Pieces.{said}

@@ -1,3 +1,4 @@
+-- What stands before an item leads on to the byte's decimal; what stops either of the two stops the item.
 use Rattle.std.proofs.Common.{decimal}
 use Rattle.capnp_json.specs.Pieces.{after, said, separator}
 use Rattle.capnp_json.proofs.Puts.{last_put, last_stopped, stop_first, then}

@@ -1,3 +1,5 @@
+-- Each number leads on to the items from the next index on.
+-- Past the last byte the closing bracket is left, on a line of its own where there were items.
 use Rattle.std.proofs.Common.{Err, arith, codes, true, ◌++◌}
 use Rattle.capnp_json.specs.Leaves.{byte_items}
 use Rattle.capnp_json.specs.Pieces.{ending, items_left, said}

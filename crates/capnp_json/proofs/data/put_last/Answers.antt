@@ -1,3 +1,4 @@
+-- The count decides: no byte has no characters, and one or two are the list of just these bytes, for which the text is put.
 use Rattle.std.proofs.Common.{List, arith, subst, ℕ}
 use Rattle.capnp_json.specs.Leaves.{base64_text}
 use Rattle.capnp_json.specs.Pieces.{said}

@@ -1,3 +1,4 @@
+-- Whether the bits have a decimal decides: finite ones are written as a number, and others as what is said of infinite floats.
 use Rattle.std.proofs.Common.{subst}
 use Rattle.capnp_json.specs.Pieces.{Out}
 use Rattle.capnp_json.specs.Steps.Puts.{IsPut, IsStopped}

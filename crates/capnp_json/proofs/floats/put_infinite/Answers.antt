@@ -1,3 +1,4 @@
+-- With no bit of the fraction the sign decides which infinity is said; a refusal to put that text is one to put the float.
 use Rattle.std.proofs.Common.{List, subst, sym, ℕ, ◌==◌, ◌∙◌}
 use Rattle.capnp_floats.specs.Floats.{fraction}
 use Rattle.capnp_floats.specs.Layout.{is_negative}

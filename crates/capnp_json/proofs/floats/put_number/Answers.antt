@@ -1,3 +1,5 @@
+-- The text is of a number that these bits have, and as decimals are unique it is the number of the JSON.
+-- Where it stops, each such text would.
 use Rattle.std.proofs.Common.{List, subst, string_bytes, ℕ}
 use Rattle.capnp_json.specs.Pieces.{said}
 use Rattle.capnp_json.specs.Steps.Puts.{IsPut, IsStopped}

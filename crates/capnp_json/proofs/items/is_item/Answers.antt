@@ -1,3 +1,4 @@
+-- Whether the field is a member decides: a member is no item here, and another field is one where it is there.
 use Rattle.std.proofs.Common.{◌∙◌, sym, false, true}
 use Rattle.capnp_dynamic_readers.specs.Steps.PartsRead.{field_in}
 use Rattle.capnp_json.proofs.ItemsJson.{item_of_member, item_of_plain, member_from}

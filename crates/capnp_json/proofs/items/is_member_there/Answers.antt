@@ -1,3 +1,4 @@
+-- The member is a field of the reader's schema, so `has` answers, and what it answers is whether the active member is there.
 use Rattle.std.proofs.Common.{◌∙◌}
 use Rattle.capnp_schema.specs.FieldLists.{index_of}
 use Rattle.capnp_dynamic_readers.specs.Facts.HasWhich.{ok_same}

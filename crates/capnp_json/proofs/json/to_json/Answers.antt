@@ -1,3 +1,5 @@
+-- The output begins empty, so what the root put there is a JSON of the value, and the only one.
+-- What stops it there is a refusal under the limit.
 use Rattle.std.proofs.Common.{subst}
 use Rattle.capnp_records.specs.Text.{Layout}
 use Rattle.capnp_json.specs.Steps.Puts.{IsPut, IsStopped}

@@ -1,3 +1,4 @@
+-- The line one bracket further out leads on to the closing bracket; what stops one of them stops the whole.
 use Rattle.std.proofs.Common.{Option, subst, ℕ}
 use Rattle.capnp_records.specs.Text.{line}
 use Rattle.capnp_json.specs.Pieces.{said, shallower}

@@ -1,3 +1,4 @@
+-- The comma leads on to the line behind it; what stops one of them stops the whole.
 use Rattle.std.proofs.Common.{[], ◌∷◌}
 use Rattle.capnp_records.specs.Text.{line}
 use Rattle.capnp_json.proofs.LineSteps.{behind_put, behind_stopped}

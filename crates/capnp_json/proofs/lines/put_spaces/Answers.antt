@@ -1,3 +1,5 @@
+-- The break leads on to two spaces for each bracket, and two spaces to those of the steps that are left.
+-- After the last step none is left.
 use Rattle.std.proofs.Common.{Err, Ok, [], arith, replicate, subst, ℕ, ◌*◌, ◌+◌, ◌-◌, ◌∷◌, ◌≡◌}
 use Rattle.capnp_json.specs.Pieces.{said}
 use Rattle.capnp_json.specs.Steps.Puts.{Leads}

@@ -1,3 +1,4 @@
+-- The bytes of the buffer behind the start are the number's decimal, so what comes of putting them comes of the number.
 use Rattle.std.proofs.Common.{List, subst, ℕ, ◌∙◌}
 use Rattle.capnp_json.specs.Pieces.{said}
 use Rattle.capnp_json.specs.Steps.Puts.{IsPut, IsStopped}

@@ -1,3 +1,4 @@
+-- The text that is formatted is the number's signed decimal, as its range gives the number back, and it is put between quotes.
 use Rattle.std.proofs.Common.{List, ap, subst, to_z-of_z, ℕ, ◌∙◌}
 use Rattle.std.specs.Fmt.{signed_decimal}
 use Rattle.capnp_json.specs.Leaves.{quoted}

@@ -1,3 +1,4 @@
+-- The bytes of the buffer behind the start are the number's decimal, and these are put between quotes.
 use Rattle.std.proofs.Common.{List, subst, ℕ, ◌∙◌}
 use Rattle.capnp_json.specs.Leaves.{quoted}
 use Rattle.capnp_json.specs.Pieces.{said}

@@ -1,3 +1,5 @@
+-- The digits of what is left, before those written, are the number's.
+-- Each step moves one digit across, and there is room for at most 20.
 use Rattle.std.proofs.Common.{append-nil, append_assoc, ap, arith, length, ◌%◌, ◌+◌, ◌-◌, ◌≡◌}
 use Rattle.std.specs.Fmt.{decimal}
 use Rattle.std.proofs.lemmas.Fmt.{decimal_digit, decimal_step, length-decimal-le}

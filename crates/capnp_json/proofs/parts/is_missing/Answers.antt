@@ -1,3 +1,4 @@
+-- An element of a type without null is always there. Another one is missing where its pointer's tree is null.
 use Rattle.std.proofs.Common.{ap, sym, ◌∙◌}
 use Rattle.capnp_wire.specs.Reading.{element_pointer, is_null_tree}
 use Rattle.capnp_wire.specs.Standing.{list_levels, list_of}

@@ -1,3 +1,5 @@
+-- The part is there and its field a slot, so what `get` gives is the part's value under the field's type.
+-- A refusal of `get` is the part's.
 use Rattle.std.proofs.Common.{None, subst, sym, ◌∙◌}
 use Rattle.capnp_schema.specs.StructHandles.{IsStruct}
 use Rattle.capnp_json.proofs.PartsJson.{part_read, part_unread, target_in}

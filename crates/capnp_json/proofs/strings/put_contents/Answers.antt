@@ -1,3 +1,4 @@
+-- Each part that is put leads on from the whole text to what is left of it. With nothing left the text is put.
 use Rattle.std.proofs.Common.{Err, Ok, arith}
 use Rattle.capnp_json.proofs.Written.{nothing_left}
 use Rattle.capnp_json.proofs.strings.put_contents.Goals as goal

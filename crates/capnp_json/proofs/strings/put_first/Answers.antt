@@ -1,3 +1,4 @@
+-- The first byte as it is written, before the rest as it is written, is the whole: so putting it leads on to the bytes behind it.
 use Rattle.std.proofs.Common.{List, ap, drop, flat_map, get_or, sym, subst, ℕ, ◌++◌, ◌∙◌}
 use Rattle.capnp_json_text.specs.Writing.{byte_written}
 use Rattle.capnp_json.specs.Pieces.{said}

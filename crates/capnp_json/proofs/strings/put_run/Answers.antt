@@ -1,3 +1,4 @@
+-- The bytes in front are written as they are, as was asked of their count, so putting them leads on to the bytes behind.
 use Rattle.std.proofs.Common.{List, ap, drop, flat_map, sym, subst, take, ℕ, ◌++◌, ◌∙◌}
 use Rattle.capnp_json_text.specs.Writing.{byte_written}
 use Rattle.capnp_json.specs.Pieces.{said}

@@ -1,3 +1,5 @@
+-- The quote and the contents lead on to the last quote, so its outcome is that of the whole.
+-- A piece that stops before it stops the whole.
 use Rattle.std.proofs.Common.{[], ◌++◌, ◌∷◌, flat_map}
 use Rattle.capnp_json_text.specs.Writing.{byte_written, string_written}
 use Rattle.capnp_json.specs.Pieces.{said}

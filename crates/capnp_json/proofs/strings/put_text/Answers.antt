@@ -1,3 +1,4 @@
+-- Whether the bytes are UTF-8 decides: a text is its string, and other bytes are stopped as no text.
 use Rattle.capnp_json_text.specs.Writing.{string_written}
 use Rattle.capnp_json.specs.Leaves.{text_json}
 use Rattle.capnp_json.specs.Pieces.{said}

@@ -1,3 +1,5 @@
+-- Each piece that is put leads on to what is left: both loops keep that any outcome of what is left is one of the whole.
+-- So the last piece that is put ends the whole, and a piece that stops stops the whole.
 use Rattle.std.proofs.Common.{◌∙◌, ◌==◌, ◌++◌, ap, sym, subst, arith, codes, refl, true, None, Ok, Err, Option, ℕ}
 use Rattle.capnp_schema.specs.StructHandles.{IsStruct}
 use Rattle.capnp_dynamic_readers.specs.Steps.PartsRead.{field_in}

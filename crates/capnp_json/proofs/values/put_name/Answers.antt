@@ -1,3 +1,5 @@
+-- The separator leads on to the name's text, and this to the colon, whose outcome is the whole's.
+-- What stops one of them stops the whole.
 use Rattle.std.proofs.Common.{Err, subst, List, ℕ}
 use Rattle.capnp_schema.specs.FieldLists.{typed_of}
 use Rattle.capnp_json_fields.specs.Names.{field_name}

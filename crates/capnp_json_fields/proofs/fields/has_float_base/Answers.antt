@@ -1,3 +1,4 @@
+-- The innermost type decides: `UInt32` and `UInt64` are bases of floats, whatever the lists around them, and no other type is.
 use Rattle.std.proofs.Common.{sym, ◌∙◌}
 use Rattle.capnp_base.specs.Types.{base_of, list_depth}
 use Rattle.capnp_json_fields.proofs.Bases.{narrow_base, neither_base, wide_base}

@@ -1,3 +1,5 @@
+-- The search from this ordinal on finds what the search from the first does.
+-- Another name passes it on, this name ends it, and past the last none is found.
 use Rattle.std.proofs.Common.{List, ap, arith, bytes_eq, length, subst, sym, ℕ, ◌∙◌}
 use Rattle.capnp_schema.specs.Enumerants.{IsEnumerantOf}
 use Rattle.capnp_schema.specs.Enums.{enum_in}

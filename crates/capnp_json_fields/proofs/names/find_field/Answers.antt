@@ -1,3 +1,5 @@
+-- The search from this index on finds what the search of all fields does.
+-- A field of another name passes it on, and one of this name is the first.
 use Rattle.std.proofs.Common.{ap, arith, length, subst, ◌∙◌}
 use Rattle.capnp_schema.specs.FieldLists.{IsFieldOf}
 use Rattle.capnp_schema.specs.Schema.{Field}

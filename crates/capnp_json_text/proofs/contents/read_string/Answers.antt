@@ -1,3 +1,5 @@
+-- What is out so far and the content of the rest make the whole content.
+-- A character goes on, the quote ends it, a fault ends it; the rest gets shorter.
 use Rattle.std.proofs.Common.{sym, subst}
 use Rattle.std.specs.Str.{IsUtf8}
 use Rattle.capnp_json_text.specs.Contents.{string_content}

@@ -1,3 +1,5 @@
+-- Behind the string in the rest stands what is behind it in all bytes.
+-- A fault or the quote answers this; each other character makes the rest shorter.
 use Rattle.capnp_json_text.proofs.Nesting.{string_ends, string_fails, string_goes_on}
 use Rattle.capnp_json_text.proofs.ShorterTokens.{character_shorter}
 use Rattle.capnp_json_text.proofs.strings.skip_string.Goals as goal

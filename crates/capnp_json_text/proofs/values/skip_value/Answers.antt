@@ -1,3 +1,5 @@
+-- What is behind the open brackets in the rest is what is behind the value.
+-- Each part opens a bracket, closes one, or ends the value where none is open; the rest gets shorter.
 use Rattle.std.proofs.Common.{arith}
 use Rattle.std.proofs.lemmas.List.{nil_from_length}
 use Rattle.capnp_json_text.specs.Texts.{after_value}

@@ -1,3 +1,4 @@
+-- The value is read and meant first, and then the type is found. The refusal of either is the annotation's.
 use Rattle.capnp_schema.specs.Schema.{seen_annotation, seen_value}
 use Rattle.capnp_schema.specs.Types.{seen_type}
 use Rattle.capnp_dynamic_readers.specs.Seen.{record_seen}

@@ -1,3 +1,5 @@
+-- The pairs made so far, before what the annotations from this place on make, are the work on the whole list.
+-- One that can't be read or made refuses it.
 use Rattle.std.proofs.Common.{rules, length, ◌+◌, ◌≡◌, ◌∙◌, arith, ap, sym, List, [], ◌∷◌, ◌++◌}
 use Rattle.capnp_schema.specs.Schema.{Annotation}
 use Rattle.capnp_schema.specs.Types.{SchemaType}

@@ -1,3 +1,5 @@
+-- Making the rest from here, with the steps that are left, is making all.
+-- It ends where nothing more is made, and without a step left there are too many types.
 use Rattle.std.proofs.Common.{◌≡◌, ◌<◌, ◌+◌, ◌∙◌, [], ap, arith, length, rules, refl, suc, sym, true}
 use Rattle.std.proofs.lemmas.Result.{err_from_is_err_and}
 use Rattle.capnp_request.specs.Steps.Done.{between}

@@ -1,3 +1,5 @@
+-- The node of the id, its display name and the name without file are found in this order.
+-- What fails first is why the enum can't begin.
 use Rattle.std.proofs.lemmas.Result.{err_from_is_err_and}
 use Rattle.capnp_dynamic_readers.specs.Seen.{record_seen}
 use Rattle.capnp_request.specs.Steps.Nodes.{nodes_of}

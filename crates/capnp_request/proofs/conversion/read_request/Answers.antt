@@ -1,3 +1,5 @@
+-- The nodes are read, the roots numbered from no entries, and all is made from these.
+-- Whichever is refused refuses the conversion.
 use Rattle.std.proofs.Common.{◌∙◌, ap, sym}
 use Rattle.std.proofs.lemmas.Result.{err_from_is_err_and}
 use Rattle.capnp_dynamic_readers.specs.Seen.{record_seen}

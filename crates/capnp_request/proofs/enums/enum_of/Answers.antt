@@ -1,3 +1,5 @@
+-- The enumerants come first and then the node's own annotations, as in the meaning, and either's refusal is the enum's.
+-- Records and annotation types of the enumerants stand in two lists of one length.
 use Rattle.std.proofs.Common.{[], ◌∙◌, ap, map, refl, string_bytes, sym, Ok}
 use Rattle.std.proofs.lemmas.Result.{err_from_is_err_and}
 use Rattle.capnp_dynamic_readers.specs.Seen.{record_seen}

@@ -1,3 +1,4 @@
+-- The name is read and copied, and then the annotations are made with nothing bound. Each refusal on this way is the enumerant's.
 use Rattle.std.proofs.Common.{[], ◌∙◌, ap, refl}
 use Rattle.std.proofs.lemmas.Result.{err_from_is_err_and}
 use Rattle.capnp_dynamic_readers.specs.Seen.{record_seen}

@@ -1,3 +1,5 @@
+-- The enumerants made, ahead of what those from this index on make, are the work on the whole list.
+-- One that can't be read or made refuses it.
 use Rattle.std.proofs.Common.{[], ◌+◌, ◌<◌, ◌≤◌, ◌≡◌, ◌∙◌, ap, arith, refl, rules}
 use Rattle.std.proofs.lemmas.Result.{err_from_is_err_and}
 use Rattle.capnp_dynamic_readers.specs.Seen.{record_seen}

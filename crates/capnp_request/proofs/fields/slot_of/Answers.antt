@@ -1,3 +1,5 @@
+-- The type comes first and then the default, each read before it is meant.
+-- A default is noted as left out where the type is untyped and the value is not null.
 use Rattle.std.proofs.Common.{◌&&◌, ◌∙◌, ap, sym}
 use Rattle.capnp_schema.specs.Schema.{seen_value}
 use Rattle.capnp_dynamic_readers.specs.Seen.{record_seen}

@@ -1,3 +1,4 @@
+-- The innermost type decides: a struct or enum with a name at its number gets that name, and one past the last gets none.
 use Rattle.std.proofs.Common.{[], ◌≡◌, ◌∙◌, refl, slice_get, sym, Some, None}
 use Rattle.std.proofs.lemmas.Option.{slice_get_past, slice_get_read}
 use Rattle.std.proofs.lemmas.List.{append-nil}

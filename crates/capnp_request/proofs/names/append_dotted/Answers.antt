@@ -1,3 +1,5 @@
+-- What is appended, before the name of the bytes from here on, is the whole.
+-- A dot puts the bindings of its part before itself; any other byte stands as it is.
 use Rattle.std.proofs.Common.{[], ◌∷◌, ◌++◌, ◌∙◌, ap, arith, get_or}
 use Rattle.std.proofs.lemmas.Bool.{eq-eqb, ne_eqb}
 use Rattle.std.proofs.lemmas.Result.{err_from_is_err_and}

@@ -1,3 +1,5 @@
+-- What is appended, before the names from this index on, is the whole.
+-- A name that is too long at a comma or a type stays so with the rest.
 use Rattle.std.proofs.Common.{map}
 use Rattle.std.proofs.lemmas.Result.{err_from_is_err_and}
 use Rattle.capnp_request.specs.Steps.Bindings.{seen_marked}

@@ -1,3 +1,4 @@
+-- Only the refusal is left: a name too long with the bindings of one scope of this part is too long with those of the rest.
 use Rattle.std.proofs.Common.{◌∙◌, sym}
 use Rattle.std.proofs.lemmas.Bool.{eq-eqb}
 use Rattle.std.proofs.lemmas.Result.{err_from_is_err_and}

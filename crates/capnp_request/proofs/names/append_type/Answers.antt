@@ -1,3 +1,5 @@
+-- The name is three pieces: what opens the lists, the base, and what closes the lists.
+-- A name too long with the first pieces is so with all.
 use Rattle.std.proofs.lemmas.Result.{err_from_is_err_and}
 use Rattle.capnp_base.specs.Types.{base_of, list_depth}
 use Rattle.capnp_schema.specs.Types.{seen_base}

@@ -1,3 +1,5 @@
+-- At the end no colon stands from the start on, and one stands right before it unless the start is 0.
+-- So file and dotted name meet there.
 use Rattle.std.proofs.Common.{◌≤◌, length, arith}
 use Rattle.capnp_request.proofs.NamesSplit.{dotted_behind, file_before}
 use Rattle.capnp_request.proofs.names.behind_colon.Goals as goal

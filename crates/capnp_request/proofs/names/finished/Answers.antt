@@ -1,3 +1,4 @@
+-- Whether there are more than 1,024 bytes decides: then the name is refused, and otherwise it is what the copy of its bytes is.
 use Rattle.std.proofs.Common.{◌∙◌}
 use Rattle.std.proofs.lemmas.Result.{err_from_is_err_and}
 use Rattle.capnp_request.proofs.NamesFinished.{finished_short, finished_too_long}

@@ -1,3 +1,5 @@
+-- Whether the parent has the field decides: the group's name is then the parent's,
+-- a dot and the field's, and otherwise no node is found.
 use Rattle.std.proofs.Common.{◌≡◌, ◌∙◌, ap, refl, rules, slice_get, sym, Some, None}
 use Rattle.std.proofs.lemmas.Option.{slice_get_past, slice_get_read}
 use Rattle.std.proofs.lemmas.Result.{err_from_is_err_and}

@@ -1,3 +1,4 @@
+-- Parent, dot and field are three pieces of one name. A name that is too long with the dot is too long with the field.
 use Rattle.std.proofs.Common.{[], ◌∷◌, ◌++◌, ◌≡◌, append_assoc, rules, sym}
 use Rattle.std.proofs.lemmas.Result.{err_from_is_err_and}
 use Rattle.capnp_request.proofs.NamesJoined.{joined, second_long, third_long}

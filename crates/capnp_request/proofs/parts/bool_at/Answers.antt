@@ -1,3 +1,5 @@
+-- A truth value in the data section is always read, and a value of this type is of its kind.
+-- So what is taken out of it is what the record holds.
 use Rattle.std.proofs.Common.{ap, refl, ◌∙◌}
 use Rattle.capnp_request.specs.RequestSet.{request_set}
 use Rattle.capnp_schema.specs.Schema.{field_at}

@@ -1,3 +1,4 @@
+-- An 8-bit integer is always read, and a value of this type is an `i8`, so its number is what the record holds.
 use Rattle.std.proofs.Common.{refl}
 use Rattle.capnp_request.specs.RequestSet.{request_set}
 use Rattle.capnp_schema.specs.Schema.{field_at}

@@ -1,3 +1,5 @@
+-- A value that was read under the type of such a list is one, so it is what the record holds.
+-- Its elements are of the brand, as what is seen of the reader is sound.
 use Rattle.std.proofs.Common.{ap, refl, subst, sym, ◌∙◌}
 use Rattle.capnp_request.specs.RequestSet.{request_set}
 use Rattle.capnp_schema.specs.Schema.{field_at}

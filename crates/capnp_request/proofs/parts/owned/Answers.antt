@@ -1,3 +1,4 @@
+-- Whether the bytes are UTF-8 decides: the copy of a text has its bytes as the name, and other bytes are refused as no name.
 use Rattle.std.proofs.Common.{ℕ, List, ap, sym, ◌∙◌, ◌≡◌, Ok, rules, string_bytes}
 use Rattle.capnp_request.proofs.NamesRead.{broken_name, utf8_name}
 use Rattle.capnp_request.proofs.parts.owned.Goals as goal

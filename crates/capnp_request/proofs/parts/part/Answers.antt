@@ -1,3 +1,5 @@
+-- What `get` answers for the field at the index is what the request set reads there, of that field's type.
+-- So its faults are those of a sound record.
 use Rattle.std.proofs.Common.{ap, ◌∙◌}
 use Rattle.capnp_dynamic_readers.specs.Reads.{field_seen}
 use Rattle.capnp_dynamic_readers.specs.Seen.{record_seen}

@@ -1,3 +1,5 @@
+-- A value that was read under a struct type is of its kind, so the struct taken out is what the record holds,
+-- and a record of that brand.
 use Rattle.std.proofs.Common.{ap, refl, ◌∙◌}
 use Rattle.capnp_request.specs.RequestSet.{request_set}
 use Rattle.capnp_schema.specs.Schema.{field_at}

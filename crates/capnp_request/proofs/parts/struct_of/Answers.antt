@@ -1,3 +1,4 @@
+-- A value of a brand's struct type is of the struct kind, so the struct taken out of it is a record of that brand.
 use Rattle.std.proofs.Common.{refl}
 use Rattle.capnp_request.specs.RequestSet.{request_set}
 use Rattle.capnp_request.specs.Parts.{request_struct}

@@ -1,3 +1,4 @@
+-- A value that was read under the type of text is of its kind, so the bytes taken out of it are what the record holds.
 use Rattle.std.proofs.Common.{ap, refl, ◌∙◌}
 use Rattle.capnp_request.specs.RequestSet.{request_set}
 use Rattle.capnp_schema.specs.Schema.{field_at}

@@ -1,3 +1,4 @@
+-- A 32-bit number is always read, and a value of this type is a `u32`, so the number taken out is what the record holds.
 use Rattle.std.proofs.Common.{ap, refl, ◌∙◌}
 use Rattle.capnp_request.specs.RequestSet.{request_set}
 use Rattle.capnp_schema.specs.Schema.{field_at}

@@ -1,3 +1,4 @@
+-- An untyped pointer is always read, as nothing behind it is entered, and a value of this type is one. So it can be taken out.
 use Rattle.std.proofs.Common.{ap, refl, ◌∙◌}
 use Rattle.capnp_request.specs.RequestSet.{request_set}
 use Rattle.capnp_schema.specs.Schema.{field_at}

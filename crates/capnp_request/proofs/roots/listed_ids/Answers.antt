@@ -1,3 +1,4 @@
+-- The ids gathered, before those that the list still says, are the whole list's. An element that can't be read refuses it.
 use Rattle.std.proofs.Common.{ℕ, [], rules, ◌+◌, ◌<◌, ◌≤◌, ◌≡◌, ◌∙◌, ◌∷◌, ap, arith, sym, Ok}
 use Rattle.std.proofs.lemmas.Result.{err_from_is_err_and}
 use Rattle.capnp_request.specs.Steps.Handles.{values_left}

@@ -1,3 +1,5 @@
+-- The node is a struct and no group: its scopes are taken with nothing bound, and then it gets a number.
+-- Either's refusal is the root's.
 use Rattle.std.proofs.Common.{◌≡◌, rules, true}
 use Rattle.std.proofs.lemmas.Result.{err_from_is_err_and}
 use Rattle.capnp_dynamic_readers.specs.Seen.{record_seen}

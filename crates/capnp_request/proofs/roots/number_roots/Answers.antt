@@ -1,3 +1,5 @@
+-- Naming the ids of the queue from this position on is naming the files.
+-- The id here names its struct, and new ones nested in its node go to the end.
 use Rattle.std.proofs.Common.{ℕ, ◌≡◌, ◌<◌, ◌+◌, ◌-◌, ◌∙◌, ◌++◌, [], List, ap, arith, drop, length, rules, slice_get, sym, None, Some, Err}
 use Rattle.std.proofs.lemmas.List.{append-nil}
 use Rattle.std.proofs.lemmas.Result.{err_from_is_err_and}

@@ -1,3 +1,5 @@
+-- The queue, before the new ones among the ids from this index on, is the whole queue.
+-- An id is met after all where it is met now or among these.
 use Rattle.std.proofs.Common.{◌<◌, ◌≤◌, ◌∙◌, ◌++◌, ◌∷◌, [], ap, arith, get_or, length, refl, sym}
 use Rattle.std.proofs.lemmas.List.{append-nil}
 use Rattle.capnp_request.specs.Steps.Nodes.{nodes_of}

@@ -1,3 +1,4 @@
+-- The active member decides the node's kind: 6 is a struct, any other is not, and without one the node is of no kind.
 use Rattle.std.proofs.Common.{ap, sym, ◌∙◌}
 use Rattle.capnp_dynamic_readers.specs.Seen.{record_seen}
 use Rattle.capnp_request.specs.Types.{is_struct_kind}

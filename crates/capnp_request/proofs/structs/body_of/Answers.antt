@@ -1,3 +1,4 @@
+-- Each of the five parts is read at the field from which the struct's meaning takes it, as a number or a truth value.
 use Rattle.std.proofs.Common.{ap, sym}
 use Rattle.capnp_request.specs.Reading.{number_in, struct_said, truth_in}
 use Rattle.capnp_request.proofs.structs.body_of.Goals as goal

@@ -1,3 +1,5 @@
+-- The fields made, ahead of what those from this index on make, are the work on the whole list.
+-- The notes gathered are those of the fields made.
 use Rattle.std.proofs.Common.{[], ◌<◌, ◌≤◌, ◌≡◌, ◌∙◌, ap, arith, length, length-append, rules, sym}
 use Rattle.std.proofs.lemmas.Result.{err_from_is_err_and}
 use Rattle.capnp_dynamic_readers.specs.Seen.{record_seen}

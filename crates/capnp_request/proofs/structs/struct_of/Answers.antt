@@ -1,3 +1,5 @@
+-- The fields come first and then the node's annotations, as in the meaning, and either's refusal is the struct's.
+-- Node and brand hold the fields' parts in the same order.
 use Rattle.std.proofs.Common.{◌∙◌, ap, map, refl, string_bytes, sym}
 use Rattle.std.proofs.lemmas.Result.{err_from_is_err_and}
 use Rattle.capnp_dynamic_readers.specs.Seen.{record_seen}
@@ -32,8 +34,17 @@ returns-clause-done c =
     let body = c.body_of.ensures.parts in
     struct_given (nodes_of c.args.context.nodes.now) c.args.context.strict c.args.place.number c.args.place.id (bounds c.args.inside.now) (string_bytes c.args.display_name) (node_said (record_seen c.args.place.node)) (between c.args.entries.now) (struct_said (record_seen c.in_ok-part.part)) c.in_ok-part.ensures.read (seen_fields c.args.place.number 0 c.in_ok-made.made.fields.items) (between c.fields_of.new.entries) c.in_ok-made.ensures.done _ _ (ap (λ a. annotations_of (nodes_of c.args.context.nodes.now) c.args.context.strict (bounds c.args.inside.now) a (between c.fields_of.new.entries)) (annotations_on (record_seen c.args.place.node)) ∙ c.in_ok-annotated.ensures.done)
     ∙ three_seen _ _ _ _ _ _ _
-    (node_seen (record { id = c.args.place.id; display_name = c.args.display_name; annotations = c.in_ok-annotated.annotated.0; body = c.body_of.result }) _ _ _ _ _ _ _ _ _ refl refl (first_annotations _ _ c.in_ok-annotated.ensures.typed) body.data_words body.pointers body.group body.discriminant_count body.discriminant_offset
-    (fields_seen c.args.place.number 0 c.in_ok-made.made.fields.items ∙ ap (map seen_field) (sym (ap (λ v. v.items) c.body_of.ensures.fields ∙ c.in_ok-parts.ensures.records))))
+    (node_seen (record { id = c.args.place.id; display_name = c.args.display_name; annotations = c.in_ok-annotated.annotated.0; body = c.body_of.result }) _ (record {
+      id = refl;
+      display_name = refl;
+      annotations = first_annotations _ _ c.in_ok-annotated.ensures.typed;
+      data_word_count = body.data_words;
+      pointer_count = body.pointers;
+      is_group = body.group;
+      discriminant_count = body.discriminant_count;
+      discriminant_offset = body.discriminant_offset;
+      fields = fields_seen c.args.place.number 0 c.in_ok-made.made.fields.items ∙ ap (map seen_field) (sym (ap (λ v. v.items) c.body_of.ensures.fields ∙ c.in_ok-parts.ensures.records));
+    }))
     (brand_seen (record { node = c.args.place.number; field_types = c.in_ok-parts.parts.types; annotation_types = record { own = c.in_ok-annotated.annotated.1; children = c.in_ok-parts.parts.annotation_types } }) _ _ _ _ refl (types_seen c.args.place.number 0 c.in_ok-made.made.fields.items ∙ ap (map seen_type) (sym c.in_ok-parts.ensures.types)) (second_types _ _ c.in_ok-annotated.ensures.typed)
     (children_seen c.args.place.number 0 c.in_ok-made.made.fields.items ∙ sym (children_of _ _ c.in_ok-parts.ensures.children)))
     (sym c.in_ok-made.ensures.notes)

@@ -1,3 +1,5 @@
+-- The active member decides what a type is made of; a list's element and a struct's brand are meant one level down.
+-- In the loops what is made, before what the rest makes, is the whole.
 use Rattle.std.proofs.Common.{true, false, None, ◌-◌, ◌≤◌, ◌≡◌, ◌∙◌, arith, ap, refl, suc, sym, map, option_map, Err, Ok, Some, rules, List, []}
 use Rattle.capnp_schema.specs.Types.{seen_type}
 use Rattle.capnp_records.specs.Part.{which_of}

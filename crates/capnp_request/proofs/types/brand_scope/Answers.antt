@@ -1,3 +1,5 @@
+-- The search from this index on finds what the search of the whole brand does.
+-- A scope of another id is passed, and one of this id is found.
 use Rattle.std.proofs.Common.{arith, refl, ◌∙◌}
 use Rattle.std.specs.Option.{option_map}
 use Rattle.capnp_dynamic_readers.specs.Seen.{record_seen}

@@ -1,3 +1,5 @@
+-- What is kept of the types before the index reaches to the last that is no untyped pointer.
+-- A type that is none moves it behind itself.
 use Rattle.std.proofs.Common.{◌≡◌, arith, refl, length, Some, slice_get}
 use Rattle.std.proofs.lemmas.Option.{slice_get_read}
 use Rattle.capnp_request.specs.Steps.Bindings.{seen_marked}

@@ -1,3 +1,5 @@
+-- Whether the list has the type as its element again decides: it has below the most lists that are counted,
+-- and at these it hasn't. A list is always seen as one.
 use Rattle.capnp_request.proofs.BindingsCompared.{few_lists, full_lists, list_of_seen, not_list}
 use Rattle.capnp_request.proofs.types.list_type.Goals as goal
 

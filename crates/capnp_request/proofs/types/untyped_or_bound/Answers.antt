@@ -1,3 +1,5 @@
+-- The active member of the pointer's group decides: 0 and 2 are untyped, 1 is what is bound to the parameter,
+-- and none or another is an unknown kind.
 use Rattle.std.proofs.Common.{ap, arith, sym, ◌∙◌, Err}
 use Rattle.capnp_dynamic_readers.specs.Seen.{record_seen}
 use Rattle.capnp_request.specs.Steps.Bindings.{bounds}

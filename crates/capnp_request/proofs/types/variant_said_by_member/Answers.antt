@@ -1,3 +1,4 @@
+-- A member that says all of a type says it by its number alone. Any other is a float's, or lies behind 13.
 use Rattle.std.proofs.Common.{ap, arith}
 use Rattle.capnp_request.specs.Steps.Meant.{IsSaidByMember, type_kind}
 use Rattle.capnp_request.proofs.types.variant_said_by_member.Goals as goal

@@ -1,3 +1,5 @@
+-- The member decides the width, and the number read there is what the record says of it.
+-- A member that is none of these lies past all kinds of values.
 use Rattle.std.proofs.Common.{ap, arith, rules, ◌∙◌, Err, sym}
 use Rattle.capnp_dynamic_readers.specs.Seen.{record_seen}
 use Rattle.capnp_request.specs.Values.{value_stated}

@@ -1,3 +1,5 @@
+-- The copy has no fault, so the words behind its table are those of the tree at the pointer.
+-- A copy is refused as the tree's first fault, its bytes for memory alone.
 use Rattle.std.proofs.Common.{◌∙◌, ap, drop}
 use Rattle.capnp_arena.specs.Message.{message_tree}
 use Rattle.capnp_wire.specs.Standing.{tree_of}

@@ -1,3 +1,5 @@
+-- The search keeps that the name is in no place outside the halves left, which the sorted table gives at each comparison.
+-- Each comparison halves what is left, so the count has few digits.
 use Rattle.std.proofs.Common.{◌≡◌, ◌<◌, zero, suc, refl, ℕ, sym, ap, ◌∙◌, arith}
 use Rattle.std.specs.Cmp.Lexicographic.{slice_cmp}
 use Rattle.std.specs.Ordering.{nat_cmp}

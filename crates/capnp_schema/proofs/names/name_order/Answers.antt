@@ -1,3 +1,5 @@
+-- The indices pushed are all below the field count, and sorting permutes them by name: so
+-- they are all fields in the order of their names.
 use Rattle.std.proofs.Common.{map, rules, arith}
 use Rattle.capnp_schema.specs.Schema.{seen_field}
 use Rattle.std.proofs.lemmas.Cmp.{nat_list_cmp_total}

@@ -1,3 +1,4 @@
+-- The walk keeps that the annotations' values of all enumerants before the index fit; those of the enumerant read there do too.
 use Rattle.std.proofs.Common.{◌≡◌, ap, arith, map, sym, ◌∙◌}
 use Rattle.std.proofs.lemmas.List.{length-map}
 use Rattle.capnp_schema.specs.Schema.{Enumerant, seen_enumerant}

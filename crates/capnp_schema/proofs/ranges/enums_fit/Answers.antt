@@ -1,3 +1,4 @@
+-- The walk keeps that all enums before the index fit, each with its own annotations' values and its enumerants'.
 use Rattle.std.proofs.Common.{arith, map}
 use Rattle.std.proofs.lemmas.List.{length-map}
 use Rattle.capnp_schema.specs.Schema.{Enum, seen_enum}

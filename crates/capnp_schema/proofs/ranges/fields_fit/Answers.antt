@@ -1,3 +1,4 @@
+-- The walk keeps that all fields before the index fit; the field read there does too, so it is so of one field more.
 use Rattle.std.proofs.Common.{arith, map}
 use Rattle.std.proofs.lemmas.List.{length-map}
 use Rattle.capnp_schema.specs.Schema.{Field, seen_field}

@@ -1,3 +1,4 @@
+-- The walk keeps that all nodes before the index fit, as the node read there does.
 use Rattle.std.proofs.Common.{arith, map}
 use Rattle.std.proofs.lemmas.List.{length-map}
 use Rattle.capnp_schema.specs.Schema.{Node, seen_node}

@@ -1,3 +1,4 @@
+-- The walk keeps that the values of all annotations before the index fit; the value of the annotation read there does too.
 use Rattle.std.proofs.Common.{arith, map}
 use Rattle.std.proofs.lemmas.List.{length-map}
 use Rattle.capnp_schema.specs.Schema.{Annotation, seen_annotation}

@@ -1,3 +1,5 @@
+-- Each table of the whole is what the function that made it promises: names and parents as given, members, non-union
+-- fields, plans, group fields, and the empty records.
 use Rattle.capnp_schema.proofs.tables.field_tables.Goals as goal
 
 pub returns-clause-tables : goal.returns-clause-tables

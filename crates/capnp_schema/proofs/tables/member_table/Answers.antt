@@ -1,3 +1,5 @@
+-- The table has as many places as the union has values.
+-- As the node has each member once, placing all of them writes each place, and so the table stands.
 use Rattle.std.proofs.Common.{◌≡◌, ◌∙◌, ap, length, subst, sym}
 use Rattle.std.proofs.lemmas.List.{length-replicate}
 use Rattle.capnp_schema.specs.Schema.{seen_node}

@@ -1,3 +1,4 @@
+-- The node read there is that of the set, so rule 3 makes its fields few and rule 9 gives it each member once.
 use Rattle.std.proofs.Common.{◌≤◌, length, subst}
 use Rattle.capnp_schema.specs.Schema.{Node, seen_node}
 use Rattle.capnp_schema.specs.Entries.{lists_seen}

@@ -1,3 +1,5 @@
+-- One member table is pushed for each node, so each so far stands for the node at its index;
+-- a node past the end has the empty one.
 use Rattle.std.proofs.Common.{arith}
 use Rattle.std.proofs.lemmas.List.{length-map}
 use Rattle.capnp_schema.specs.Schema.{node_at, seen_node}

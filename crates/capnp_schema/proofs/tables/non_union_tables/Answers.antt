@@ -1,3 +1,5 @@
+-- By rule 3 a node has few fields, so their indices fit.
+-- One list is pushed for each node, and each so far is of the non-union fields of the node at its index.
 use Rattle.std.proofs.Common.{◌≡◌, ◌∙◌, ap, arith, length, refl}
 use Rattle.std.proofs.lemmas.List.{length-map}
 use Rattle.capnp_schema.specs.Schema.{node_at, seen_field, seen_node}

@@ -1,3 +1,4 @@
+-- The members have values below the table's length, no two the same. So placing one more leaves those before in their places.
 use Rattle.std.proofs.Common.{arith, refl}
 use Rattle.capnp_schema.specs.Schema.{seen_field}
 use Rattle.capnp_schema.proofs.Indices.{seen_at}

@@ -1,3 +1,5 @@
+-- What is made of the bytes read to the source's end is written whole.
+-- Where the sink fails a beginning is, and where nothing can be made, the source's bytes have no set.
 use Rattle.std.proofs.lemmas.Result.{err_from_is_err_and}
 use Rattle.capnp_set_engine.proofs.Made.{all_written, in_bytes, some_written}
 use Rattle.capnp_set_engine.proofs.engine.convert.Goals as goal

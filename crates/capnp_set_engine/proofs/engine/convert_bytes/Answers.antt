@@ -1,3 +1,5 @@
+-- The conversion read from the bytes carries what is made of it, or why nothing is; where
+-- the request is unread, this is the first cause.
 use Rattle.std.proofs.Common.{inl, inr}
 use Rattle.std.proofs.lemmas.Result.{err_from_is_err_and}
 use Rattle.capnp_set_engine.proofs.Made.{each_answer, each_refusal}

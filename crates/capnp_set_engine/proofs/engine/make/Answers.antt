@@ -1,3 +1,5 @@
+-- The records accepted as a set are those converted, so message, reading and notes are of this set.
+-- A set that can't be written is refused with the writer's cause.
 use Rattle.std.proofs.Common.{◌≡◌, subst}
 use Rattle.std.proofs.lemmas.Result.{err_from_is_err_and}
 use Rattle.capnp_schema.specs.Entries.{lists_seen}

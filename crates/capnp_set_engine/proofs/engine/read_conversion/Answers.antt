@@ -1,3 +1,5 @@
+-- The message's root is entered as the struct that the request's set reads, so what is converted is the request.
+-- Each refusal is of stream, root or request, none a device's.
 use Rattle.std.proofs.Common.{ap, inr, sym, ◌∙◌}
 use Rattle.std.proofs.lemmas.Result.{err_from_is_err_and}
 use Rattle.capnp_wire.specs.Message.{received_tree}

@@ -1,3 +1,5 @@
+-- The kind's number and its offset or node change the struct's data alone, a slot's default its pointer; so the rest is left.
+-- The default alone can be refused.
 use Rattle.capnp_arena.specs.Facts.Places.{then}
 use Rattle.capnp_arena.specs.Facts.Frames.{struct_after}
 use Rattle.capnp_set_writer.proofs.Trees.{on_ok}

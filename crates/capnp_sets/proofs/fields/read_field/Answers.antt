@@ -1,3 +1,5 @@
+-- A field applies its four parts in order: number, name, annotations and kind.
+-- The number is always read, and the refusal of another part is a cause in the field.
 use Rattle.std.proofs.Common.{refl}
 use Rattle.std.proofs.lemmas.Result.{err_from_is_err_and}
 use Rattle.capnp_sets.specs.Fields.{field_of}

@@ -1,3 +1,4 @@
+-- The active member decides: 3 is a slot, whose record is the same struct, 4 a group's node, and none or another an unknown kind.
 use Rattle.std.proofs.Common.{ap, refl, subst, sym, ◌∙◌, ◌≡◌, ◌≢◌, IfErr, IfOk, Ok, Some}
 use Rattle.capnp_device.specs.declared.error.ErrorKind.TheVariants.{OutOfMemory}
 use Rattle.capnp_schema.specs.Schema.{FieldKind, seen_kind}

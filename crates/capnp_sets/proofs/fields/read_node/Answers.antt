@@ -1,3 +1,5 @@
+-- A node applies its nine parts in order.
+-- Only its name, annotations and fields can be refused, and the cause of each is one in the node.
 use Rattle.std.proofs.Common.{refl}
 use Rattle.std.proofs.lemmas.Result.{err_from_is_err_and}
 use Rattle.capnp_sets.specs.Fields.{node_meant}

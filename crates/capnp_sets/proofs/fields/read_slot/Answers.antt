@@ -1,3 +1,4 @@
+-- A slot is its offset applied to its default; the offset is always read, so a refusal is the default's.
 use Rattle.std.proofs.Common.{refl}
 use Rattle.std.proofs.lemmas.Result.{err_from_is_err_and}
 use Rattle.capnp_sets.specs.Fields.{slot_of}

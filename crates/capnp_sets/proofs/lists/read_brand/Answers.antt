@@ -1,3 +1,4 @@
+-- A brand is its node and field types, applied to the inner pair of its annotation types. A refused list is a cause on its side.
 use Rattle.std.proofs.Common.{refl}
 use Rattle.std.proofs.lemmas.Result.{err_from_is_err_and}
 use Rattle.capnp_sets.specs.Lists.{brand_of}

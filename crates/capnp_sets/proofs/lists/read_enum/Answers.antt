@@ -1,3 +1,5 @@
+-- An enum applies id, name, annotations and enumerants to the inner pair of its annotation types.
+-- The cause of a refused part is one in the enum.
 use Rattle.std.proofs.Common.{refl}
 use Rattle.std.proofs.lemmas.Result.{err_from_is_err_and}
 use Rattle.capnp_sets.specs.Lists.{enum_meant}

@@ -1,3 +1,4 @@
+-- An enumerant is its name applied to its annotations; whichever of the two is refused is the cause.
 use Rattle.std.proofs.Common.{refl}
 use Rattle.std.proofs.lemmas.Result.{err_from_is_err_and}
 use Rattle.capnp_sets.specs.Lists.{enumerant_of}

@@ -1,3 +1,5 @@
+-- The root of the received tree is the record that is read, so that record's set and refusals are the message's.
+-- A refusal's kind is the stream's, the root's or the record's.
 use Rattle.std.proofs.Common.{ap, ◌∙◌}
 use Rattle.std.proofs.lemmas.Result.{err_from_is_err_and}
 use Rattle.capnp_wire.specs.Message.{received_tree}

@@ -1,3 +1,4 @@
+-- The number at the discriminant decides: 0 is the slot, 1 the group's node, and any other is no member.
 use Rattle.std.proofs.Common.{sym}
 use Rattle.capnp_sets.proofs.MembersSeen.{is_group, is_neither, is_slot}
 use Rattle.capnp_sets.proofs.parts.field_member.Goals as goal

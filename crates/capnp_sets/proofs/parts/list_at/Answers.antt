@@ -1,3 +1,5 @@
+-- The pointer's list is what the record holds at the field, as the elements of the slot's type have the size that was asked.
+-- A refusal is the field's fault.
 use Rattle.capnp_schema.specs.Meta.{meta}
 use Rattle.capnp_schema.specs.Schema.{field_at}
 use Rattle.capnp_records.specs.Reading.{element_type}

@@ -1,3 +1,4 @@
+-- A name is what its text's bytes mean: a fault of the text is a cause of the name, and otherwise the copy of the bytes decides.
 use Rattle.std.proofs.Common.{subst, sym, ◌≡◌, ◌≢◌, IfErr, IfOk, List, ℕ, Ok, string_bytes}
 use Rattle.std.proofs.lemmas.Result.{err_from_is_err_and}
 use Rattle.capnp_device.specs.declared.error.ErrorKind.TheVariants.{OutOfMemory}

@@ -1,3 +1,4 @@
+-- Whether the bytes are UTF-8 decides: the copy of a text has its bytes, and bytes that are no text are the cause of the refusal.
 use Rattle.std.proofs.Common.{ℕ, List, ap, sym, ◌∙◌, ◌≡◌, Ok, rules, string_bytes}
 use Rattle.capnp_sets.proofs.Faults.{broken_name, utf8_name}
 use Rattle.capnp_sets.proofs.parts.owned.Goals as goal

@@ -1,3 +1,5 @@
+-- The pointer's struct is what the record holds at the field, of the brand that the slot's type names.
+-- A refusal is the field's fault.
 use Rattle.capnp_sets.specs.Steps.Handles.{meta_record_in}
 use Rattle.capnp_sets.specs.Parts.{meta_read_at}
 use Rattle.capnp_sets.proofs.PointersSeen.{struct_refused, struct_taken, struct_there}

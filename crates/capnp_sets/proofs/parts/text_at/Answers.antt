@@ -1,3 +1,5 @@
+-- What the pointer reads as text is what the record holds at the field, by the lemma on a slot of text.
+-- Both outcomes follow from it.
 use Rattle.capnp_sets.specs.Steps.Handles.{meta_record_in}
 use Rattle.capnp_sets.specs.Parts.{meta_read_at}
 use Rattle.capnp_sets.proofs.PointersSeen.{text_refused, text_taken, text_there}

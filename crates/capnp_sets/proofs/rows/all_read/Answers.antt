@@ -1,3 +1,5 @@
+-- What is made so far stands for the elements before the index, and the next one extends it.
+-- One that can't be read or made is a cause in the list.
 use Rattle.std.proofs.Common.{arith, ap, map, refl}
 use Rattle.std.proofs.lemmas.Result.{err_from_is_err_and}
 use Rattle.capnp_schema.specs.Meta.{meta_struct}

@@ -1,3 +1,5 @@
+-- A null pointer with a level left is the empty list.
+-- Any other gives the list that the field holds, and what its structs give is the field's.
 use Rattle.std.proofs.Common.{ap, subst, sym, ◌∙◌, ◌≡◌, ◌≢◌, IfErr, IfOk, Ok, map}
 use Rattle.std.proofs.lemmas.Result.{err_from_is_err_and}
 use Rattle.capnp_device.specs.declared.error.ErrorKind.TheVariants.{OutOfMemory}

@@ -1,3 +1,5 @@
+-- The sections are the root record's, so its three lists are the set's.
+-- What refuses the list of nodes, brands or enums is a cause in the root.
 use Rattle.std.proofs.Common.{ap, sym, ◌∙◌}
 use Rattle.std.proofs.lemmas.Result.{err_from_is_err_and}
 use Rattle.capnp_sets.specs.Lists.{lists_meant}

@@ -1,3 +1,5 @@
+-- Only refusals are left: past the last base, at the two floats, at the base that is none and at the interface,
+-- the meaning names the same cause.
 use Rattle.std.proofs.Common.{refl}
 use Rattle.capnp_sets.specs.Causes.{HasCause}
 use Rattle.capnp_sets.specs.Types.{base_type_meant}

@@ -1,3 +1,5 @@
+-- Past the last brand the node is 0.
+-- Before it, the element at the number is the brand's record: its node is read, or its fault is the cause.
 use Rattle.std.proofs.Common.{arith, ◌∙◌}
 use Rattle.std.proofs.lemmas.Result.{err_from_is_err_and}
 use Rattle.capnp_wire.specs.Reading.{list_length}

@@ -1,3 +1,5 @@
+-- The base and the number are always read, so the inner type decides whether it is refused.
+-- The lists that are counted go around it.
 use Rattle.std.proofs.Common.{ap, refl, sym, ◌∙◌, Ok}
 use Rattle.std.proofs.lemmas.Result.{err_from_is_err_and}
 use Rattle.capnp_schema.specs.Types.{SchemaType}

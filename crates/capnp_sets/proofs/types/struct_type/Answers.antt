@@ -1,3 +1,4 @@
+-- A struct type is its brand's number applied to the brand's node, and only the node can be refused.
 use Rattle.std.proofs.Common.{ap, refl, sym, ◌∙◌, Ok}
 use Rattle.std.proofs.lemmas.Result.{err_from_is_err_and}
 use Rattle.capnp_base.specs.declared.introspect.«Type».{«Type» as TypeHandle}

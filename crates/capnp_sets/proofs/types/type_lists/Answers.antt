@@ -1,3 +1,5 @@
+-- The lists made so far stand for the elements before the index: the list behind the next pointer extends them,
+-- or its refusal is a cause in the whole.
 use Rattle.std.proofs.Common.{arith, ap, map}
 use Rattle.std.proofs.lemmas.Result.{err_from_is_err_and}
 use Rattle.capnp_schema.specs.Meta.{meta_structs, meta, meta_struct}

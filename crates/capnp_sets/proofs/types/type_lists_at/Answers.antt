@@ -1,3 +1,5 @@
+-- The list of pointers is what the field holds, so what its lists of types give or refuse is the field's.
+-- A fault there is the cause.
 use Rattle.std.proofs.Common.{subst, ◌≡◌, ◌≢◌, IfErr, IfOk, Ok, map}
 use Rattle.std.proofs.lemmas.Result.{err_from_is_err_and}
 use Rattle.capnp_device.specs.declared.error.ErrorKind.TheVariants.{OutOfMemory}

@@ -1,3 +1,5 @@
+-- A null pointer with a level left is the empty list of types.
+-- Otherwise the list that is met, or its fault, is what is read at the pointer.
 use Rattle.std.proofs.Common.{ap, refl, subst, sym, ◌∙◌, ◌≡◌, ◌≢◌, IfErr, IfOk, Ok, map}
 use Rattle.std.proofs.lemmas.Result.{err_from_is_err_and}
 use Rattle.capnp_device.specs.declared.error.ErrorKind.TheVariants.{OutOfMemory}

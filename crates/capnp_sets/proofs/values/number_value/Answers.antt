@@ -1,3 +1,4 @@
+-- The member's number, 1 to 10, picks the width: the number read at the member's place is what that member's value is made of.
 use Rattle.std.proofs.Common.{refl, rules, ◌∙◌}
 use Rattle.capnp_sets.specs.Values.{value_by}
 use Rattle.capnp_sets.proofs.AppliedReads.{made}

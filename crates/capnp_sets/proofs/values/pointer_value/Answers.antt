@@ -1,3 +1,5 @@
+-- The member decides: 11 is text, 12 data, 13 a struct's words, 14 a list's, and past these an unknown kind.
+-- A copy is refused for memory alone.
 use Rattle.std.proofs.Common.{ℕ, List, arith, ap, refl, sym, ◌∙◌, ◌≡◌, Ok}
 use Rattle.std.proofs.lemmas.Result.{err_from_is_err_and}
 use Rattle.capnp_schema.specs.Schema.{DataValue, StructValue, TextValue}

@@ -1,3 +1,4 @@
+-- An annotation is its id applied to its value; the id is always read, so a refusal is the value's.
 use Rattle.std.proofs.Common.{refl}
 use Rattle.std.proofs.lemmas.Result.{err_from_is_err_and}
 use Rattle.capnp_sets.specs.Values.{annotation_meant}

@@ -1,3 +1,5 @@
+-- The active member decides: none is an unknown kind, one below 11 a number, any other a pointer's value.
+-- The record's value is then the one by that member.
 use Rattle.std.proofs.Common.{subst, sym, ◌≡◌, ◌≢◌, IfErr, IfOk, Ok}
 use Rattle.capnp_device.specs.declared.error.ErrorKind.TheVariants.{OutOfMemory}
 use Rattle.capnp_schema.specs.Schema.{Value as SchemaValue, seen_value}

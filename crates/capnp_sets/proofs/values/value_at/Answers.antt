@@ -1,3 +1,5 @@
+-- The struct that is read is the record of the field's value, so what it stands for is the field's,
+-- and a fault in its place is the cause.
 use Rattle.std.proofs.Common.{subst, ◌≡◌, ◌≢◌, IfErr, IfOk, Ok}
 use Rattle.std.proofs.lemmas.Result.{err_from_is_err_and}
 use Rattle.capnp_device.specs.declared.error.ErrorKind.TheVariants.{OutOfMemory}

@@ -1,3 +1,5 @@
+-- What is shown or refused over an opener of files is so over the runtime's files, since each
+-- file that the opener gives is some file of the system.
 use Rattle.capnp_show_engine.proofs.SomeFiles.{refused, shown}
 use Rattle.capnp_show_engine.proofs.command.command.Goals as goal
 

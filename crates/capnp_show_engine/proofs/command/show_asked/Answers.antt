@@ -1,3 +1,5 @@
+-- Whether the set is built in or in a file decides; what the show of either promises of its
+-- refusals, kind by kind, is what the refused task says.
 use Rattle.std.proofs.Common.{rules}
 use Rattle.capnp_show_engine.proofs.Outcomes.{all_five, all_four}
 use Rattle.capnp_show_engine.proofs.command.show_asked.Goals as goal

@@ -1,3 +1,5 @@
+-- The arguments yield all words, and skipping one yields those after the program's name;
+-- what is collected is just what is yielded.
 use Rattle.std.proofs.Common.{◌∙◌, ap}
 use Rattle.std.proofs.lemmas.Iterator.{items_from_collect}
 use Rattle.std.proofs.lemmas.Iterator.Adapters.{YieldsList-from_skip, YieldsList-from_vec}

@@ -1,3 +1,4 @@
+-- The line is that of the bytes read to the source's end. Where the sink fails, a proper beginning of this line has been written.
 use Rattle.std.proofs.Common.{◌≡◌, string_bytes}
 use Rattle.capnp_device.specs.declared.error.ErrorKind.TheVariants.{WriteFailed}
 use Rattle.capnp_schema.specs.Entries.{lists_seen}

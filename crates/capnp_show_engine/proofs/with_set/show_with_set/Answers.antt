@@ -1,3 +1,5 @@
+-- The set read to its source's end is accepted, and the brand found bears the name.
+-- Under these, what the show of the message promises is promised here.
 use Rattle.std.proofs.Common.{inr, sym}
 use Rattle.capnp_schema.specs.Entries.{lists_seen}
 use Rattle.capnp_show_engine.proofs.Outcomes.{each_refusal}

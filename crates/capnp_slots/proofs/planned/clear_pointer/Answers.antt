@@ -1,3 +1,4 @@
+-- The cleared word is a change of one pointer, and that puts a null into the struct there.
 use Rattle.std.proofs.Common.{◌∙◌, ap}
 use Rattle.capnp_wire.specs.Edits.{with_pointer_tree}
 use Rattle.capnp_arena.specs.Built.{built_at}

@@ -1,3 +1,4 @@
+-- What `make_empty` leaves is a change of one pointer, so the struct has the empty tree of the type there.
 use Rattle.std.proofs.Common.{◌∙◌, ap}
 use Rattle.capnp_wire.specs.Edits.{with_pointer_tree}
 use Rattle.capnp_arena.specs.Built.{built_at}

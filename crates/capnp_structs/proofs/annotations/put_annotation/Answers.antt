@@ -1,3 +1,4 @@
+-- An annotation is its id and then its value, told in its own set and type, and that set names the type's entries.
 use Rattle.std.proofs.Common.{string_bytes, subst, sym}
 use Rattle.capnp_schema.specs.Accepted.{NamesEntries}
 use Rattle.capnp_schema.specs.AnnotationLists.{annotation_in, annotation_set}

@@ -1,3 +1,4 @@
+-- The innermost type decides: an enum adds its number, and any other type names none.
 use Rattle.std.proofs.Common.{List, ℕ, [], ◌∷◌, ◌++◌, ◌≡◌, ◌∙◌, append-nil, ap, rules, sym}
 use Rattle.capnp_structs.proofs.TypesOfEnums.{enum_named, none_named}
 use Rattle.capnp_structs.proofs.enums.add_enum.Goals as goal

@@ -13,5 +13,18 @@ pub returns-clause-put : goal.returns-clause-put
 returns-clause-put c =
     line_put (lists_seen c.args.schemas.now) c.args.number c.enum_schema-schema.result (annotations_set c.in_ok-annotations.annotations) (annotations_in c.in_ok-annotations.annotations) c.as_str.result.now (string_bytes c.args.out.now)
     (string_bytes c.push_str.new.self) (string_bytes c.push_str-2.new.self) (string_bytes c.put_annotations.new.out) (string_bytes c.push_str-3.new.self) (string_bytes c.put_names.new.out) (string_bytes c.push_str-4.new.self)
-    c.enum_schema-schema.ensures.set c.enum_schema-schema.ensures.number (c.as_str.ensures.value ∙ ap (λ (e : Enum). e.display_name) c.get_proto-enumeration.ensures) c.in_ok-annotations.ensures.set c.in_ok-annotations.ensures.typed
-    c.in_ok-push_str.ensures.bytes c.in_ok-push_str-2.ensures.bytes c.in_ok-put_annotations.ensures.put c.in_ok-push_str-3.ensures.bytes c.in_ok-put_names.ensures.put c.in_ok-push_str-4.ensures.bytes
+    (record {
+      in_set = c.enum_schema-schema.ensures.set;
+      number = c.enum_schema-schema.ensures.number;
+      name = c.as_str.ensures.value ∙ ap (λ (e : Enum). e.display_name) c.get_proto-enumeration.ensures;
+      annotations_set = c.in_ok-annotations.ensures.set;
+      annotations = c.in_ok-annotations.ensures.typed;
+    })
+    (record {
+      word = c.in_ok-push_str.ensures.bytes;
+      name = c.in_ok-push_str-2.ensures.bytes;
+      annotations = c.in_ok-put_annotations.ensures.put;
+      colon = c.in_ok-push_str-3.ensures.bytes;
+      names = c.in_ok-put_names.ensures.put;
+      end = c.in_ok-push_str-4.ensures.bytes;
+    })

@@ -1,3 +1,4 @@
+-- The enumerant's name, or else its number, is the text that the enum gives for it.
 use Rattle.std.proofs.Common.{ℕ, List, ◌++◌, ◌∙◌, ap, string_bytes, sym}
 use Rattle.capnp_schema.specs.Entries.{lists_seen}
 use Rattle.capnp_schema.specs.Types.{seen_type}

@@ -1,3 +1,4 @@
+-- An enum that was met puts nothing; one met for the first time puts its line.
 use Rattle.std.proofs.Common.{rules, string_bytes, sym}
 use Rattle.std.specs.Bool.{nat_eq}
 use Rattle.std.specs.HashSet.{contains}

@@ -77,8 +77,15 @@ loop-field-smaller-in_default-get_group c = fewer_past (set_of c.args.schema) c.
 pub loop-field-preserved-in_default-get_group : goal.loop-field-preserved-in_default-get_group
 loop-field-preserved-in_default-get_group c = record {
   set = ap set_of c.advance-walk.ensures.schema ∙ c.loop-field.invariant.set;
-  listed = said_slot (set_of c.args.schema) _ _ _ c.loop-field.left c.loop-field.walk c.advance-walk.result c.in-Some.field _ _ _ _ _ _ c.loop-field.invariant.set c.in-Some.ensures c.in_default-get_group.ensures.number
-      (c.as_str-in_default-get_group.ensures.value ∙ c.loop-field.invariant.path) c.in_ok-put_slot.ensures.put c.get_type.ensures.is c.in_ok-add_enum.ensures.added c.advance-walk.ensures.frames c.loop-field.invariant.listed;
+  listed = said_slot (set_of c.args.schema) _ _ _ c.loop-field.left c.loop-field.walk c.advance-walk.result c.in-Some.field _ _ _ _ _ _ (record { in_set = c.loop-field.invariant.set; field = c.in-Some.ensures })
+      (record {
+        slot = c.in_default-get_group.ensures.number;
+        path = c.as_str-in_default-get_group.ensures.value ∙ c.loop-field.invariant.path;
+        put = c.in_ok-put_slot.ensures.put;
+        typed = c.get_type.ensures.is;
+        added = c.in_ok-add_enum.ensures.added;
+      })
+      c.advance-walk.ensures.frames c.loop-field.invariant.listed;
   path = path_advance (set_of c.args.schema) c.loop-field.walk c.advance-walk.result _ c.advance-walk.ensures.frames c.loop-field.invariant.path;
   groups = omega (arith, c.loop-field.invariant.groups, c.advance-walk.ensures.depth);
 }
@@ -114,9 +121,21 @@ loop-field-smaller c =
 pub loop-field-preserved : goal.loop-field-preserved
 loop-field-preserved c = record {
   set = ap set_of c.enter-walk.ensures.schema ∙ (c.in-Some-get_group.ensures.down.set ∙ (ap set_of c.in-Some.ensures.schema ∙ c.loop-field.invariant.set));
-  listed = goes_inside (set_of c.args.schema) _ _ _ c.loop-field.left c.loop-field.walk c.enter-walk.result c.in-Some.field c.in-Some-get_group.group _ (string_bytes c.loop-field.path) _ _ _ _ _ c.if-left-eq0.false c.loop-field.invariant.set c.in-Some.ensures
-      c.in-Some-get_group.ensures.number (c.in-Some-get_group.ensures.down.set ∙ (ap set_of c.in-Some.ensures.schema ∙ c.loop-field.invariant.set)) (c.as_str-in-loop-field.ensures.value ∙ c.loop-field.invariant.path) c.loop-field.invariant.path
-      c.in_ok-put_group.ensures.put (c.as_str-in-loop-field-2.ensures.value ∙ c.in_ok-enter_path.ensures.path) c.in_ok-put_union-2.ensures.put c.enter-walk.ensures.frames c.loop-field.invariant.listed;
+  listed = goes_inside (set_of c.args.schema) _ _ _ c.loop-field.left c.loop-field.walk c.enter-walk.result c.in-Some.field c.in-Some-get_group.group _ (string_bytes c.loop-field.path) _ _ _ _ _ c.if-left-eq0.false
+      (record { in_set = c.loop-field.invariant.set; field = c.in-Some.ensures })
+      (record {
+        leads = c.in-Some-get_group.ensures.number;
+        in_set = c.in-Some-get_group.ensures.down.set ∙ (ap set_of c.in-Some.ensures.schema ∙ c.loop-field.invariant.set);
+        frames = c.enter-walk.ensures.frames;
+      })
+      (record {
+        path = c.as_str-in-loop-field.ensures.value ∙ c.loop-field.invariant.path;
+        put = c.in_ok-put_group.ensures.put;
+        path_base = c.loop-field.invariant.path;
+        path_inside = c.as_str-in-loop-field-2.ensures.value ∙ c.in_ok-enter_path.ensures.path;
+        union = c.in_ok-put_union-2.ensures.put;
+      })
+      c.loop-field.invariant.listed;
   path = path_enter (set_of c.args.schema) c.loop-field.walk c.enter-walk.result c.in-Some.field (number_of c.in-Some-get_group.group) _ _ c.loop-field.invariant.set c.in-Some.ensures c.enter-walk.ensures.frames c.loop-field.invariant.path c.in_ok-enter_path.ensures.path;
   groups = omega (arith, c.loop-field.invariant.groups, c.enter-walk.ensures.depth, c.if-left-eq0.false);
 }

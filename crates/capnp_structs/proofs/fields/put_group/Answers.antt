@@ -1,3 +1,4 @@
+-- The head of a group and then its end are the group's line, one appended behind the other.
 use Rattle.std.proofs.Common.{string_bytes}
 use Rattle.capnp_schema.specs.FieldLists.{field_schema, index_of, typed_of}
 use Rattle.capnp_schema.specs.StructHandles.{number_of, set_of}

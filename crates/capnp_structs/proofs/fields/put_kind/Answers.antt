@@ -1,3 +1,4 @@
+-- A group has no default, so nothing is put; a slot's default is put by its own function.
 use Rattle.std.proofs.Common.{string_bytes, subst, sym}
 use Rattle.capnp_schema.specs.Entries.{lists_seen}
 use Rattle.capnp_schema.specs.Schema.{kind_default, seen_kind}

@@ -1,3 +1,4 @@
+-- A struct with a discriminant has a union, and what is written of its members and tag bit is that union's line.
 use Rattle.std.proofs.Common.{ℕ, List, Option, Some, ◌≡◌, ◌++◌, ◌∙◌, ap, decimal, string_bytes}
 use Rattle.capnp_schema.specs.Discriminant.{discriminant_of}
 use Rattle.capnp_schema.specs.Schema.{Node}

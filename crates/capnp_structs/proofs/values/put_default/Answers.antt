@@ -1,3 +1,4 @@
+-- A default that is not told puts nothing; one that is puts its words and then the value.
 use Rattle.std.proofs.Common.{◌∙◌, string_bytes, sym}
 use Rattle.capnp_schema.specs.Entries.{lists_seen}
 use Rattle.capnp_schema.specs.Schema.{seen_value}

@@ -1,3 +1,4 @@
+-- The words of a struct value, read as a message, are a struct view, so what is put of the view is the stored text.
 use Rattle.std.proofs.Common.{string_bytes}
 use Rattle.capnp_schema.specs.Entries.{lists_seen}
 use Rattle.capnp_schema.specs.Types.{seen_type}

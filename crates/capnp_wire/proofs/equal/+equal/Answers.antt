@@ -1,3 +1,4 @@
+-- Each recursion is into a pointer or an element, whose tree is lower. Lists are the same where their counts and all entries are.
 use Rattle.std.proofs.Common.{ap, arith, refl, sym, ◌∙◌}
 use Rattle.capnp_wire.specs.Found.{element_structs, pointer_trees}
 use Rattle.capnp_wire.proofs.SameTrees.{height, heights, nth_element_height, nth_height, same_counts, same_structs, same_trees}

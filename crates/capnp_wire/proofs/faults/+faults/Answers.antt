@@ -1,3 +1,5 @@
+-- Each pointer or element has a smaller tree than what holds it.
+-- The walk keeps that all before it are without fault, so the first fault met is the answer.
 use Rattle.std.proofs.Common.{rules, arith, ◌≡◌, ◌≤◌, ◌<◌, ◌+◌, ap, refl, sym}
 use Rattle.capnp_wire.specs.Tree.{StructTree, nth_struct, nth_tree, struct_count, tree_count}
 use Rattle.capnp_wire.specs.Found.{element_structs, parts_tree, pointer_tree, pointer_trees}

@@ -1,3 +1,5 @@
+-- Each pointer or element has a smaller tree than what holds it.
+-- The sum so far is that of all before; the first fault, or the first sum too large, ends it.
 use Rattle.std.proofs.Common.{rules, arith, ◌≡◌, ◌≤◌, ◌<◌, ap, refl, sym}
 use Rattle.std.proofs.lemmas.Result.{err_from_is_err_and}
 use Rattle.capnp_wire.specs.Tree.{StructTree, nth_struct, nth_tree, struct_count, tree_count}

@@ -1,3 +1,4 @@
+-- Each front ends in a space, an ASCII byte. So in a UTF-8 word the place behind it is a boundary of characters.
 use Rattle.std.proofs.Common.{codes, refl, rules}
 use Rattle.capnp_words.proofs.CallHeads.{front_boundary}
 use Rattle.capnp_words.proofs.call.parse_head.Goals as goal

@@ -1,3 +1,5 @@
+-- The steps so far and those of the rest are the steps of the word.
+-- A dot cuts off one step more; without a dot the rest is the last step, or its fault.
 use Rattle.std.proofs.Common.{length, ap, arith, rules, lit<}
 use Rattle.capnp_words.specs.Paths.{is_dot, steps_at}
 use Rattle.capnp_words.specs.Seen.{steps_seen}

@@ -1,3 +1,5 @@
+-- The answer among the names left, with the most bytes shared so far, is that among all.
+-- A name that is the word ends it; another is passed.
 use Rattle.std.proofs.Common.{◌∙◌, sym, rules}
 use Rattle.capnp_schema.specs.Enumerants.{enum_of_list}
 use Rattle.capnp_schema.specs.Enums.{enum_number, enum_set}

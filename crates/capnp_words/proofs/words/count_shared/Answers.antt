@@ -1,3 +1,4 @@
+-- The bytes counted and those shared behind them are the bytes shared; where the second row ends, nothing behind is shared.
 use Rattle.std.proofs.Common.{◌≡◌, ◌+◌, drop, [], arith}
 use Rattle.std.proofs.lemmas.List.{drop_all}
 use Rattle.capnp_words.specs.Words.{shared_length}

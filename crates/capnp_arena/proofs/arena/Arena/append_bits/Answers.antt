@@ -1,3 +1,4 @@
+-- The row of packed bits is a whole number of words, so appending its bytes pads nothing more.
 use Rattle.std.proofs.Common.{rules, ◌≡◌, ◌++◌, ◌*◌, ap, ◌∙◌}
 use Rattle.capnp_wire.specs.Encoding.{packed_bits, padded_bytes}
 use Rattle.capnp_wire.specs.Facts.EncodedSizes.{length_packed}

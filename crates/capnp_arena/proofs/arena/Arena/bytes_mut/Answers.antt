@@ -1,3 +1,4 @@
+-- The lent bytes lie inside the list of bytes, as the forest says; whatever is left in them is the front of the list's new bytes.
 use Rattle.std.proofs.Common.{refl}
 use Rattle.capnp_arena.proofs.LeftBytes.{bytes_left, part_inside}
 use Rattle.capnp_arena.proofs.arena.Arena.bytes_mut.Goals as goal

@@ -1,3 +1,4 @@
+-- The null word written at a place inside the segment leaves a null: forest, tree and changes follow from that one write.
 use Rattle.std.proofs.Common.{refl}
 use Rattle.capnp_arena.proofs.Made.{cleared_changes, cleared_forest, cleared_tree}
 use Rattle.capnp_arena.proofs.NewLists.{cleared}

@@ -1,3 +1,5 @@
+-- The content becomes the source's struct fitted to the place.
+-- When the source has no more pointers than the place, fitting drops none, so a sound fitted row means a sound source.
 use Rattle.std.proofs.Common.{None, arith, ◌≡◌, ◌*◌, ◌<◌, ◌≤◌, ◌^◌, List, ℕ, length, sym, ap, subst, ◌∙◌}
 use Rattle.std.proofs.lemmas.Result.{err_from_is_err_and}
 use Rattle.capnp_wire.specs.Edits.{IsCopyRefusal, fitted_struct}

@@ -1,3 +1,4 @@
+-- The object appended and the pointer word to it make the object whole; after a refusal, a cut back to the old end restores all.
 use Rattle.std.proofs.Common.{◌∙◌}
 use Rattle.capnp_wire.specs.Found.{found_tree}
 use Rattle.capnp_arena.proofs.NewTrees.{copy_is_made, cut_back}

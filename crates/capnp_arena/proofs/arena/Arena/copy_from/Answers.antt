@@ -1,3 +1,4 @@
+-- What the source leads to is well formed, so its sound copy, made at the end, has the source's tree.
 use Rattle.std.proofs.Common.{sym, subst, ◌∙◌}
 use Rattle.capnp_wire.specs.Found.{found_tree}
 use Rattle.capnp_wire.specs.WellFormed.{IsWellFormed}

@@ -1,3 +1,4 @@
+-- The struct appended and the pointer word to it make the rounded struct, which is well formed; a refusal is cut back.
 use Rattle.std.proofs.Common.{◌∙◌}
 use Rattle.capnp_wire.specs.Edits.{rounded_struct}
 use Rattle.capnp_wire.specs.Facts.Structs.{copied_struct_is_well_formed}

@@ -1,3 +1,4 @@
+-- The kind of the target decides: a null has no elements, and a list of either kind has the count that its shape tells.
 use Rattle.std.proofs.Common.{◌∙◌, ap, sym}
 use Rattle.capnp_wire.specs.Reading.{list_length}
 use Rattle.capnp_arena.specs.Listed.{list_shape}

@@ -1,3 +1,4 @@
+-- Entering is getting the list: each claim is the one on what was got, told of the list or of the empty one of that size.
 use Rattle.capnp_arena.proofs.EnteredLists.{entered_reads, entered_refused, entered_succeeds, entered_within}
 use Rattle.capnp_arena.proofs.arena.Arena.enter_list.Goals as goal
 

@@ -1,3 +1,5 @@
+-- On success the fitted bytes and pointers are the struct's.
+-- On refusal only the place and the end have changed, so cutting back and the kept bytes restore all.
 use Rattle.std.proofs.Common.{arith, ◌≡◌, ◌+◌, ◌*◌, length, ap, ◌∙◌}
 use Rattle.capnp_wire.specs.Edits.{fitted_struct}
 use Rattle.capnp_wire.specs.Facts.Filling.{element_put}

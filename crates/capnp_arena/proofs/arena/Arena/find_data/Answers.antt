@@ -1,3 +1,4 @@
+-- Each shape at the word is one case: a null has no bytes, a list of bytes has its own, and every other tree is no data.
 use Rattle.std.proofs.Common.{rules, Err, ap, sym, ◌∙◌}
 use Rattle.capnp_wire.specs.Reading.{as_data}
 use Rattle.capnp_arena.proofs.BlobReads.{bytes_here, no_data}

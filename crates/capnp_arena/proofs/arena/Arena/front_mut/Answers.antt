@@ -1,3 +1,4 @@
+-- The lent bytes are a front of what the word leads to, so whatever is left in them is the new front of that tree.
 use Rattle.std.proofs.Common.{refl}
 use Rattle.capnp_arena.proofs.Fronts.{front_left}
 use Rattle.capnp_arena.proofs.arena.Arena.front_mut.Goals as goal

@@ -1,3 +1,4 @@
+-- A null has no bits and structs are not read as bits, so both give false; a plain list is read by its own function.
 use Rattle.std.proofs.Common.{◌∙◌, ap, sym}
 use Rattle.capnp_wire.specs.Reading.{element_bit}
 use Rattle.capnp_arena.specs.Listed.{list_shape}

@@ -1,3 +1,4 @@
+-- Each shape at the word is one reading: a null is no bytes, a list of bytes is its part of the segment. All others are refused.
 use Rattle.std.proofs.Common.{rules, Err, Ok, ap, sym, ◌∙◌}
 use Rattle.capnp_wire.specs.Place.{bytes_at}
 use Rattle.capnp_wire.specs.Reading.{as_data}

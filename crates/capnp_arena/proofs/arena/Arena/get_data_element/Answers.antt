@@ -1,3 +1,4 @@
+-- A null gives the number of no bytes; a list of structs gives the number at the start of the element's data.
 use Rattle.std.proofs.Common.{◌∙◌, ap, sym}
 use Rattle.capnp_wire.specs.Reading.{element_number}
 use Rattle.capnp_wire.specs.Slot.{number_at}

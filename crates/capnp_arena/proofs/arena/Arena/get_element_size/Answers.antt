@@ -1,3 +1,4 @@
+-- The size of a plain list is its tree's, for its shape has the number of that size; a list of structs is a composite.
 use Rattle.std.proofs.Common.{◌∙◌, ap, sym}
 use Rattle.capnp_wire.specs.ElementSizes.{element_size_of}
 use Rattle.capnp_arena.specs.Forest.{tree}

@@ -1,3 +1,4 @@
+-- Each shape at the word has the length of its tree: none for a null or a struct, and the count for the two kinds of lists.
 use Rattle.std.proofs.Common.{ap, sym}
 use Rattle.capnp_wire.specs.Reading.{list_length}
 use Rattle.capnp_arena.proofs.ListsRead.{plain_count, structs_count}

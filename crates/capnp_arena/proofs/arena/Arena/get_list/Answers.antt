@@ -1,3 +1,5 @@
+-- A null is the empty list, and a struct is refused.
+-- A list of either kind is got if its elements read as the size asked for, and else refused.
 use Rattle.std.proofs.Common.{rules, ◌∙◌, ◌≡◌, Err, ap, false, sym, true}
 use Rattle.capnp_wire.specs.Reading.{as_list, reads_structs}
 use Rattle.capnp_arena.specs.Steps.Reads.{reads_kind}

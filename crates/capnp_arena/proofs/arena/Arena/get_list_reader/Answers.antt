@@ -1,3 +1,4 @@
+-- A list asked for with its own element size is always read, so no refusal comes; within the depth the whole tree is read.
 use Rattle.std.proofs.Common.{◌∙◌, ap}
 use Rattle.capnp_arena.specs.Listed.{listed_tree}
 use Rattle.capnp_arena.specs.Segment.{segment}

@@ -1,3 +1,4 @@
+-- The part has the width times the count of bytes from the list's start, and a number in it is the element's of that list.
 use Rattle.std.proofs.Common.{◌∙◌, ◌*◌, ap}
 use Rattle.capnp_wire.specs.Place.{bytes_at}
 use Rattle.capnp_wire.specs.Slot.{number_at}

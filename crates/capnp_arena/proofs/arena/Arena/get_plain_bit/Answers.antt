@@ -1,3 +1,4 @@
+-- A plain list has bits if its size number is one, and then the bit lies in its words; otherwise no element is a bit.
 use Rattle.std.proofs.Common.{◌+◌, ◌*◌, ◌/◌, ◌∙◌, ap, sym}
 use Rattle.capnp_wire.specs.Place.{bits_from, bytes_at}
 use Rattle.capnp_wire.specs.Reading.{element_bit}

@@ -1,3 +1,4 @@
+-- A null or a struct has no pointer elements. In a list the place is the element's word, in structs the element's first pointer.
 use Rattle.std.proofs.Common.{sym}
 use Rattle.capnp_arena.proofs.ElementPlaces.{first_forest, first_inside, first_leaves, first_tree, list_forest, list_inside, list_leaves, list_pointer, null_pointer, struct_pointer}
 use Rattle.capnp_arena.proofs.arena.Arena.get_pointer_element.Goals as goal

@@ -1,3 +1,4 @@
+-- The reader is limited in depth, so it has a cut of the tree; a tree within that depth is read whole.
 use Rattle.std.proofs.Common.{[], ◌∷◌, ◌∙◌, ap, subst, sym}
 use Rattle.capnp_wire.specs.Place.{tree_below}
 use Rattle.capnp_arena.specs.Forest.{tree}

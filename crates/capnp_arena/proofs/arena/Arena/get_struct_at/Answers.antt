@@ -1,3 +1,4 @@
+-- Only a list of structs has a struct at an index, so other shapes cannot be; there, changes in the element are in the list.
 use Rattle.std.proofs.Common.{sym}
 use Rattle.capnp_arena.proofs.ElementPlaces.{list_struct, null_struct, place_leaves as leaves, struct_index, struct_struct}
 use Rattle.capnp_arena.proofs.arena.Arena.get_struct_at.Goals as goal

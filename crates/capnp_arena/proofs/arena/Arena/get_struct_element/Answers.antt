@@ -1,3 +1,4 @@
+-- The element's place is a step inside a planted list of structs, so it is planted itself and has the element's tree.
 use Rattle.std.proofs.Common.{subst}
 use Rattle.capnp_arena.specs.Forest.{Planted}
 use Rattle.capnp_arena.specs.Facts.Calls.{planted}

@@ -1,3 +1,4 @@
+-- The reader is limited in depth, so it has a cut of the struct; a struct whose pointers lead within that depth is read whole.
 use Rattle.std.proofs.Common.{[], ◌∷◌, ◌∙◌, ap, arith, subst, sym}
 use Rattle.capnp_wire.specs.Place.{struct_at, tree_below}
 use Rattle.capnp_arena.specs.Forest.{struct_from}

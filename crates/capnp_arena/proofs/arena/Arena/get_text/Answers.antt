@@ -1,3 +1,4 @@
+-- Each shape at the word is one reading: a null is the empty text, a list of bytes is judged by its end. All others are refused.
 use Rattle.std.proofs.Common.{rules, Err, ap, sym, ◌∙◌}
 use Rattle.capnp_wire.specs.Place.{bytes_at}
 use Rattle.capnp_wire.specs.Reading.{as_text}

@@ -1,3 +1,4 @@
+-- Elements that are not bits are parts of structs. What the grown list is, and its refusal, the tree as a list of structs says.
 use Rattle.std.proofs.Common.{IfOk, ◌≡◌, ◌∙◌, ap, max, subst, sym}
 use Rattle.std.proofs.lemmas.Result.{IfErr-weaker, on_ok_weaker}
 use Rattle.capnp_wire.specs.StructLists.{IsDueRefusal}

@@ -1,3 +1,4 @@
+-- The elements are structs in a row already. What the grown list is, and its refusal, the tree as a list of structs says.
 use Rattle.std.proofs.Common.{IfOk, ◌≡◌, ◌∙◌, subst, sym}
 use Rattle.std.proofs.lemmas.Result.{IfErr-weaker, on_ok_weaker}
 use Rattle.capnp_wire.specs.StructLists.{IsDueRefusal}

@@ -1,3 +1,4 @@
+-- The zeroed words at the end and the pointer to them make the list of zeros: one lemma for forest, place, tree and changes.
 use Rattle.std.proofs.Common.{rules, arith, ◌/◌, length, ap}
 use Rattle.capnp_arena.proofs.NewLists.{list_made_by}
 use Rattle.capnp_arena.proofs.arena.Arena.init_list.Goals as goal

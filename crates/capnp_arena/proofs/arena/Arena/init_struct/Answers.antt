@@ -1,3 +1,4 @@
+-- The pointer word and the start computed are those of a new struct, be it one without words, so the zeroed words make it.
 use Rattle.std.proofs.Common.{replicate, ◌*◌, rules, arith, ◌≡◌, ◌+◌, ◌/◌, ◌<◌, ◌^◌, List, ℕ, sym, ap, ◌∙◌, subst}
 use Rattle.capnp_arena.specs.Steps.Made.{IsObjectMade, struct_pointer, struct_start}
 use Rattle.capnp_arena.specs.Shape.{word_count}

@@ -1,3 +1,4 @@
+-- The pointer leads to structs encoded anew at the end. One lemma on such lists gives the forest, place, tree and changes.
 use Rattle.std.proofs.Common.{rules, arith, ◌/◌, ◌<◌, ap}
 use Rattle.capnp_arena.specs.Shape.{word_count}
 use Rattle.capnp_arena.specs.Facts.Forests.{points}

@@ -1,3 +1,4 @@
+-- The field lies inside the planted struct, and what changes behind its pointer changes that pointer of the struct only.
 use Rattle.std.proofs.Common.{arith, subst}
 use Rattle.capnp_arena.specs.Forest.{Changes, Forest}
 use Rattle.capnp_arena.specs.Facts.Laws.{in_pointer}

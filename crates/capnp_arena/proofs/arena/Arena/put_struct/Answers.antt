@@ -1,3 +1,4 @@
+-- When the copied struct cannot grow, cutting back and the null word take the copy away, for only a null stood there.
 use Rattle.std.proofs.Common.{◌*◌, ◌∙◌, ap, arith, length, take}
 use Rattle.capnp_wire.specs.Encoding.{spelled_number}
 use Rattle.capnp_wire.specs.Steps.Filling.{bytes_with}

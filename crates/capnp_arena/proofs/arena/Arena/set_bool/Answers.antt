@@ -1,3 +1,4 @@
+-- A bit written inside the data of a planted struct changes its bytes alone, so the struct stays planted.
 use Rattle.capnp_arena.proofs.WrittenLists.{bit_written}
 use Rattle.capnp_arena.proofs.arena.Arena.set_bool.Goals as goal
 

@@ -1,3 +1,4 @@
+-- Only a list of bits has a bit at an index; it lies within the list's words, and writing it changes that element alone.
 use Rattle.std.proofs.Common.{arith, sym}
 use Rattle.capnp_arena.specs.Segment.{segment}
 use Rattle.capnp_arena.proofs.WrittenElements.{bit_ends, bit_inside, bit_leaves, no_bit_there}

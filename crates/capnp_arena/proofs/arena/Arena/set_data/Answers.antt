@@ -1,3 +1,4 @@
+-- The bytes put at the end, padded to words, and the pointer to them make a list of bytes: one lemma for all claims.
 use Rattle.std.proofs.Common.{rules, arith, ◌/◌, length, ap}
 use Rattle.capnp_arena.proofs.NewLists.{data_made}
 use Rattle.capnp_arena.proofs.arena.Arena.set_data.Goals as goal

@@ -1,3 +1,4 @@
+-- A null or a struct has no numbers. In structs the number is the first in the element's data, so that element alone changes.
 use Rattle.std.proofs.Common.{◌∙◌, ap, arith, subst, sym}
 use Rattle.capnp_arena.specs.Leaves.{Leaves}
 use Rattle.capnp_arena.specs.Segment.{segment}

@@ -1,3 +1,4 @@
+-- The list read is well formed, so its sound copy, made at the end, has the list's tree.
 use Rattle.std.proofs.Common.{sym, subst, ◌∙◌}
 use Rattle.capnp_wire.specs.Found.{found_tree}
 use Rattle.capnp_wire.specs.WellFormed.{IsWellFormed}

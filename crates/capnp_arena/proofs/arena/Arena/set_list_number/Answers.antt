@@ -1,3 +1,4 @@
+-- A number of the list's own width, at an index below its count, lies inside the list, so that element alone changes.
 use Rattle.std.proofs.Common.{◌*◌, ap}
 use Rattle.capnp_arena.proofs.WrittenLists.{list_number_written}
 use Rattle.capnp_arena.proofs.arena.Arena.set_list_number.Goals as goal

@@ -1,3 +1,4 @@
+-- A number written inside the data of a planted struct changes its bytes alone, so the struct stays planted.
 use Rattle.capnp_arena.proofs.Written.{number_written}
 use Rattle.capnp_arena.proofs.arena.Arena.set_number.Goals as goal
 

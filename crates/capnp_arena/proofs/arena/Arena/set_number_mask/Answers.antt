@@ -1,3 +1,4 @@
+-- The number XORed with its default, written inside the data of a planted struct, changes its bytes alone.
 use Rattle.capnp_arena.proofs.Written.{number_written}
 use Rattle.capnp_arena.proofs.arena.Arena.set_number_mask.Goals as goal
 

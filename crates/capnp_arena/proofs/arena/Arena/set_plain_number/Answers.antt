@@ -1,3 +1,4 @@
+-- A number that the list has lies inside the bytes of the list, so the write stays inside and changes that element alone.
 use Rattle.std.proofs.Common.{◌*◌, ap, arith}
 use Rattle.capnp_arena.proofs.WrittenElements.{number_inside, number_leaves}
 use Rattle.capnp_arena.proofs.arena.Arena.set_plain_number.Goals as goal

@@ -1,3 +1,4 @@
+-- A new arena has a single word, so with the copy made there it is just the encoding of the source's tree.
 use Rattle.std.proofs.Common.{sym, ap, subst, ◌∙◌, length}
 use Rattle.capnp_wire.specs.Encoding.{encoding_of}
 use Rattle.capnp_wire.specs.Found.{found_tree}

@@ -1,3 +1,4 @@
+-- The struct read is well formed, and so is the rounded one; its sound copy, made at the end, has the rounded tree.
 use Rattle.std.proofs.Common.{sym, ap, subst, ◌∙◌}
 use Rattle.capnp_wire.specs.Edits.{rounded_struct}
 use Rattle.capnp_wire.specs.Facts.Structs.{copied_struct_is_well_formed}

@@ -1,3 +1,4 @@
+-- The text with the zero behind it, padded to words, and the pointer to it make a list of bytes: one lemma for all claims.
 use Rattle.std.proofs.Common.{rules, arith, ◌/◌, length, ap}
 use Rattle.capnp_arena.proofs.NewLists.{text_made}
 use Rattle.capnp_arena.proofs.arena.Arena.set_text.Goals as goal

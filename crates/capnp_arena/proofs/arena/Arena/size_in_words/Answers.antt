@@ -1,3 +1,4 @@
+-- The words of the message fit the segment, so they are not past the format; no count is told only if the message is too deep.
 use Rattle.std.proofs.Common.{◌^◌, ◌<◌, ◌≤◌, arith, rules, suc}
 use Rattle.capnp_wire.specs.Depth.{IsBelow}
 use Rattle.capnp_wire.specs.Words.{words_of}

@@ -1,3 +1,4 @@
+-- Only a struct's shape has a tree that is a struct, so the shapes of a null and of lists contradict what is required.
 use Rattle.std.proofs.Common.{◌∙◌, ap, false, sym, true, ◌≡◌}
 use Rattle.capnp_arena.specs.Steps.Reads.{is_struct_shape}
 use Rattle.capnp_arena.proofs.TreeKinds.{struct_is}

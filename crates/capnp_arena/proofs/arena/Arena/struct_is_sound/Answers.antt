@@ -1,3 +1,4 @@
+-- A struct whose data ends inside the segment is well formed, and a planted one has no faults behind its pointers.
 use Rattle.std.proofs.Common.{subst, arith, List, ℕ, ◌+◌, ◌≤◌}
 use Rattle.capnp_wire.specs.Place.{struct_tree}
 use Rattle.capnp_wire.specs.WellFormed.{IsWellFormed}

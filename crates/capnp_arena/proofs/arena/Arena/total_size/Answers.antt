@@ -1,3 +1,4 @@
+-- The struct's own words and those behind its pointers are its size. They fit the segment, so no count means too deep a struct.
 use Rattle.std.proofs.Common.{Some, ◌+◌, ◌^◌, ◌<◌, ◌≤◌, arith, refl, rules, subst}
 use Rattle.capnp_wire.specs.Depth.{AreBelow}
 use Rattle.capnp_wire.specs.Tree.{trees_from}

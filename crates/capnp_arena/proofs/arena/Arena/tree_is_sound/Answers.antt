@@ -1,3 +1,4 @@
+-- Every tree in the segment's words is well formed, and one that a forest holds has no faults.
 use Rattle.std.proofs.Common.{subst, List, ℕ}
 use Rattle.capnp_wire.specs.WellFormed.{IsWellFormed}
 use Rattle.capnp_arena.specs.Forest.{tree}

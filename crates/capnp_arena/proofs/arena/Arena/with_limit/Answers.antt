@@ -1,3 +1,4 @@
+-- The one word that was appended is zero, so the root is a null.
 use Rattle.std.proofs.Common.{rules, arith, ◌≡◌, replicate, refl, sym, subst}
 use Rattle.capnp_wire.specs.Tree.{Null}
 use Rattle.capnp_arena.specs.Forest.{Forest, tree}

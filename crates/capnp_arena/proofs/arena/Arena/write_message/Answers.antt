@@ -1,3 +1,4 @@
+-- The words of the message fit the segment, so it is within the format; what was written reads back as the forest's tree.
 use Rattle.std.proofs.Common.{arith, suc, ◌++◌, ◌∙◌, ◌^◌, ◌<◌, ◌≤◌, ap}
 use Rattle.capnp_wire.specs.Stream.{message_tree_of}
 use Rattle.capnp_wire.specs.Words.{words_of}

@@ -1,3 +1,4 @@
+-- The new list of bytes is a front of what the word leads to, as long as was asked, and its bytes are zeros.
 use Rattle.std.proofs.Common.{arith, refl}
 use Rattle.capnp_arena.proofs.Fronts.{front_list}
 use Rattle.capnp_arena.proofs.NewBytes.{new_bytes}

@@ -1,3 +1,4 @@
+-- The new list has one byte more than the text: the front without that byte is the text's room, and its bytes are zeros.
 use Rattle.std.proofs.Common.{arith, refl}
 use Rattle.capnp_arena.proofs.Fronts.{front_list}
 use Rattle.capnp_arena.proofs.NewBytes.{text_bytes}

@@ -1,3 +1,4 @@
+-- The field's word lies inside the planted struct; what a new tree at that word changes is that pointer of the struct only.
 use Rattle.std.proofs.Common.{arith, subst}
 use Rattle.capnp_arena.specs.Forest.{Changes, Forest}
 use Rattle.capnp_arena.specs.Facts.Laws.{in_pointer}

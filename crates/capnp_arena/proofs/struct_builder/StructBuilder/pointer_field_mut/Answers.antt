@@ -1,3 +1,4 @@
+-- The lent handle stands at the field's word inside the planted struct; a new tree there changes that pointer of the struct only.
 use Rattle.std.proofs.Common.{arith, refl, subst}
 use Rattle.capnp_arena.specs.Forest.{Changes, Forest}
 use Rattle.capnp_arena.specs.Facts.Laws.{in_pointer}

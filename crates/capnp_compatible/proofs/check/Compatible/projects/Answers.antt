@@ -1,3 +1,5 @@
+-- The laws of projection and upgrade say this of any compatible pair of an accepted set with ranges.
+-- A checked pair is known to be one.
 use Rattle.capnp_schema.specs.StructHandles.{number_of, set_of}
 use Rattle.capnp_compatible.specs.Checked.{newer_of, older_of}
 use Rattle.capnp_compatible.proofs.check.Compatible.projects.Goals as goal

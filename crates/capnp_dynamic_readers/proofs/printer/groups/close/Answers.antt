@@ -1,3 +1,4 @@
+-- A closing is a line, one level shallower, and a bracket; a stop in either is one in their joined text.
 use Rattle.std.proofs.Common.{arith, codes, length-append, refl, subst, ◌++◌}
 use Rattle.capnp_records.specs.Text.{Layout, line, said_text}
 use Rattle.capnp_dynamic_readers.specs.Steps.Pieces.{IsPut, IsStopped}

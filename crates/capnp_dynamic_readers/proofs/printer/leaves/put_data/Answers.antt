@@ -1,3 +1,4 @@
+-- An opening, the digits and a quote, put in turn, are the data's text; a stop in one of the three is a stop in it.
 use Rattle.std.specs.Prelude.{codes, flat_map}
 use Rattle.capnp_dynamic_readers.specs.Steps.Leaf.{two_digits}
 use Rattle.capnp_dynamic_readers.proofs.Steps.{err_map, ok_map}

@@ -1,3 +1,4 @@
+-- The loop keeps that the numbers before `i` are put with commas between; a stop at a comma or a number is one in the whole text.
 use Rattle.std.proofs.Common.{ℕ, rules, subst, decimal}
 use Rattle.capnp_records.specs.Text.{said_text}
 use Rattle.capnp_dynamic_readers.specs.Steps.Pieces.{IsPut, IsStopped}

@@ -1,3 +1,4 @@
+-- The loop keeps that the bytes before `i` are put as two digits each; a stop at the high or low digit is one in the whole text.
 use Rattle.std.proofs.Common.{arith, get_or}
 use Rattle.capnp_dynamic_readers.specs.Steps.Leaf.{two_digits}
 use Rattle.capnp_dynamic_readers.proofs.Pieces.{byte_put, digit_stopped, more_put, second_stopped}

@@ -1,3 +1,4 @@
+-- An enumerant that is known is put by its name and another by its number; either is the text that the schema tells.
 use Rattle.std.proofs.Common.{List, ℕ, subst, ◌∙◌, IfErr}
 use Rattle.capnp_records.specs.Text.{said_text}
 use Rattle.capnp_dynamic_readers.specs.Steps.Pieces.{IsStopped}

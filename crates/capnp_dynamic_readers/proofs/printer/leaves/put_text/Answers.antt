@@ -1,3 +1,4 @@
+-- Bytes that are UTF-8 are put in quotes; others are three pieces, whose middle is their numbers. A stop in one is a stop in all.
 use Rattle.std.specs.Prelude.{codes}
 use Rattle.capnp_records.specs.Text.{decimals}
 use Rattle.capnp_dynamic_readers.proofs.Pieces.{numbers_put, numbers_stopped, string_put, string_stopped}

@@ -1,3 +1,4 @@
+-- A field that is no union member is an item if it is there. A member is one if the union chose it and it is shown.
 use Rattle.std.proofs.Common.{◌∙◌, sym, false, true}
 use Rattle.capnp_schema.specs.FieldLists.{index_of}
 use Rattle.capnp_dynamic_readers.specs.Handles.{schema_of}

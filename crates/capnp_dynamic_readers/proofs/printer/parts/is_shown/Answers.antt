@@ -1,3 +1,4 @@
+-- A member whose discriminant value is not zero is shown; the first is shown if the struct has it, and asking is never refused.
 use Rattle.std.proofs.Common.{◌∙◌, arith}
 use Rattle.capnp_schema.specs.FieldLists.{index_of}
 use Rattle.capnp_dynamic_readers.specs.Facts.ItemsShown.{discriminant_in, member_has, shown_of_another, shown_of_first}

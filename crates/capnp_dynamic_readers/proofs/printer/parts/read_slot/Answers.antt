@@ -1,3 +1,4 @@
+-- What the reader gets for a slot is what a text shows of the field, as no group stands there; a refusal is the field's.
 use Rattle.std.proofs.Common.{subst, sym, ◌∙◌, None}
 use Rattle.capnp_schema.specs.StructHandles.{IsStruct}
 use Rattle.capnp_dynamic_readers.specs.Facts.PartsShown.{part_read, part_unread, target_in}

@@ -1,3 +1,4 @@
+-- Without a depth there is no line. The loop keeps a line break and two spaces for each step; a stop inside is one in the line.
 use Rattle.capnp_dynamic_readers.proofs.Streams.{handed_on, line_begun, line_inside, no_line, two_more}
 use Rattle.capnp_dynamic_readers.proofs.printer.pieces.put_line.Goals as goal
 

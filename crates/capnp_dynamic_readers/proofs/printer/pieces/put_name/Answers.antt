@@ -1,3 +1,4 @@
+-- A separator, the name and an equals sign, put in turn, are the name's text; a stop in one of the three is a stop in it.
 use Rattle.std.proofs.Common.{codes, ap, subst, ◌∙◌, List, ℕ}
 use Rattle.capnp_schema.specs.FieldLists.{typed_of}
 use Rattle.capnp_schema.specs.Schema.{Field as FieldRecord}

@@ -1,3 +1,4 @@
+-- Between lines a separator is a comma and a new line: the two put in turn are its text, and a stop in either is one in it.
 use Rattle.capnp_dynamic_readers.proofs.Streams.{below_put, below_stopped, handed_on, separator_begun}
 use Rattle.capnp_dynamic_readers.proofs.printer.pieces.put_separator.Goals as goal
 

@@ -1,3 +1,5 @@
+-- Struct, list and leaf are one case each, and what stands inside has a level less.
+-- The loops keep that what is put and what is left lead to the whole text, so a stop inside is one of the whole.
 use Rattle.std.proofs.Common.{codes, ◌≡◌, ◌∙◌, ap, sym, arith, Ok, Err}
 use Rattle.capnp_base.specs.declared.introspect.«Type».{«Type» as TypeHandle}
 use Rattle.capnp_schema.specs.StructHandles.{struct_fields}

@@ -1,3 +1,4 @@
+-- With fewer than 800 digits kept there is room for one behind them: a natural held becomes ten times itself and the digit.
 use Rattle.std.proofs.Common.{refl}
 use Rattle.capnp_floats.proofs.Appending.{append_fits, keep_fits, keep_holds}
 use Rattle.capnp_floats.proofs.digits.Digits.keep.Goals as goal

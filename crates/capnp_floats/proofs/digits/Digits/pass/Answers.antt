@@ -1,3 +1,4 @@
+-- Whether the digit is 0 decides if the mark of more changes; either way the digits hold one digit more, with one more cut.
 use Rattle.std.proofs.Common.{refl, inl, inr, arith}
 use Rattle.capnp_floats.proofs.Appending.{pass_fits, pass_holds}
 use Rattle.capnp_floats.proofs.digits.Digits.pass.Goals as goal

@@ -1,3 +1,4 @@
+-- A byte that is no digit leaves the natural that is held; one that is a digit is put behind it.
 use Rattle.std.proofs.Common.{arith, rules, subst, sym, ◌≡◌, true, false}
 use Rattle.std.proofs.lemmas.Bool.{not-true, not-false}
 use Rattle.std.specs.Char.{is_ascii_digit}

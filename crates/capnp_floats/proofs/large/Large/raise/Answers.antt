@@ -1,3 +1,5 @@
+-- The natural times the power that is left is the product asked; so each factor fits, as the product does.
+-- Many factors are split off at a time, then single ones.
 use Rattle.std.proofs.Common.{◌*◌, ◌-◌, ◌^◌, ◌<◌, ◌∙◌, ap, sym, subst, arith}
 use Rattle.capnp_floats.specs.Naturals.{large_room}
 use Rattle.capnp_floats.proofs.Nearing.{factor_fits, factor_split, factors_fit, factors_split}

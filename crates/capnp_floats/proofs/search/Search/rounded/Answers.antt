@@ -1,3 +1,5 @@
+-- Where one bound alone lies in the interval, it is the answer.
+-- Where both do, twice the rest against one says which is nearer, and on a tie the even one is taken.
 use Rattle.std.proofs.Common.{arith, rules, ltb, ◌+◌, ◌≡◌, ◌≤◌, ◌<◌, true, false}
 use Rattle.std.proofs.lemmas.Bool.{ltb-true, ltb-false, not-true, not-false}
 use Rattle.capnp_floats.proofs.Going.{end_floor_alone, end_floor_nearer, end_floor_even, end_ceiling_alone, end_ceiling_nearer, end_ceiling_odd}

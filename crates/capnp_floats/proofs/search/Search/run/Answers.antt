@@ -1,3 +1,5 @@
+-- Each advance follows from the start and leaves a search going.
+-- While it is open, below is less than one and grows tenfold, so the space between them shrinks.
 use Rattle.std.proofs.Common.{rules}
 use Rattle.capnp_floats.specs.Steps.Going.{IsSearchOpen}
 use Rattle.capnp_floats.proofs.Going.{going_on, follows_first, follows_on, open_again, shrinks}

@@ -1,3 +1,5 @@
+-- The rows' difference is the naturals', with what was lent.
+-- As the other is not the larger and what is left fits the row, nothing was lent.
 use Rattle.std.proofs.Common.{arith, ◌*◌, ◌+◌, ◌^◌, ◌≡◌, length}
 use Rattle.capnp_floats.specs.Naturals.{natural_of}
 use Rattle.capnp_floats.proofs.Naturals.{none_lent}

@@ -1,3 +1,4 @@
+-- The rows' sum is the naturals', with what was carried. As the sum fits the room of the row, nothing was carried.
 use Rattle.std.proofs.Common.{arith, ◌*◌, ◌+◌, ◌^◌, ◌≡◌, length}
 use Rattle.capnp_floats.specs.Naturals.{natural_of}
 use Rattle.capnp_floats.proofs.Naturals.{none_carried}

@@ -1,3 +1,4 @@
+-- The enum is named and then made; its record goes behind the enums made so far, and the rest of what is made stays.
 use Rattle.std.proofs.Common.{◌∙◌, ap, refl, sym, Ok}
 use Rattle.std.proofs.lemmas.Result.{err_from_is_err_and}
 use Rattle.capnp_schema.specs.Schema.{seen_enum}

@@ -1,3 +1,5 @@
+-- The entry's number counts the nodes made, so the struct made with it is the next one.
+-- Node, brand and notes go behind those made, and each brand keeps its node.
 use Rattle.std.proofs.Common.{◌≡◌, ◌∙◌, ap, length, map, refl, string_bytes, sym, Ok}
 use Rattle.std.proofs.lemmas.Result.{err_from_is_err_and}
 use Rattle.capnp_dynamic_readers.specs.Seen.{record_seen}

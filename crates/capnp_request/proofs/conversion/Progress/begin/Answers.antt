@@ -1,3 +1,5 @@
+-- A number, the names of new enums, the entry's name and its node come in this order.
+-- Each refusal is the beginning's, and the holders after the name are handed on.
 use Rattle.std.proofs.Common.{◌≡◌, ap, length, rules}
 use Rattle.std.proofs.lemmas.Result.{err_from_is_err_and}
 use Rattle.capnp_dynamic_readers.specs.Seen.{record_seen}

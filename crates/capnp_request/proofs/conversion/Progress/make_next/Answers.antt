@@ -1,3 +1,5 @@
+-- Whether an entry waits decides, and where none does, whether an enum waits.
+-- One step of making all makes that one, is refused with it, or finds nothing left.
 use Rattle.std.proofs.Common.{◌≡◌, ◌∙◌, length, rules, slice_get, sym, Some, None}
 use Rattle.std.proofs.lemmas.Result.{err_from_is_err_and}
 use Rattle.capnp_request.specs.Steps.Done.{between}

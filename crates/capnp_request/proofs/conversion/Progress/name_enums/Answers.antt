@@ -1,3 +1,4 @@
+-- Naming the enums from this number on, behind the names so far, is naming all that waited. Past the last enum none is left.
 use Rattle.std.proofs.Common.{◌≡◌, ◌+◌, ◌∙◌, ap, arith, drop, length, length-append, rules, slice_get, string_bytes, sym, None, Some}
 use Rattle.std.proofs.lemmas.Result.{err_from_is_err_and}
 use Rattle.capnp_request.specs.Steps.NamesMade.{texts}

@@ -1,3 +1,5 @@
+-- The id is new and its number counts the enums before it.
+-- So list and map grow by the same enum, and any other id is found as before.
 use Rattle.std.proofs.Common.{◌≡◌, arith, rules, None, nat_eq, length}
 use Rattle.std.specs.Cmp.{nat_eq_equiv}
 use Rattle.std.specs.HashMap.{get}

@@ -1,3 +1,4 @@
+-- A group stands behind the entries, but no search by bindings finds it, so the map agrees with the list as before.
 use Rattle.std.proofs.Common.{◌≡◌, ◌∙◌, refl, sym, map, List, [], ◌∷◌, ◌++◌}
 use Rattle.capnp_request.specs.Steps.Bindings.{bounds}
 use Rattle.capnp_request.specs.Steps.EntriesSeen.{group_entry, seen_entry}

@@ -1,3 +1,5 @@
+-- The binding is new, and its number counts the entries before it.
+-- Nodes of the same id and bindings compare equal, so map and list agree on each binding.
 use Rattle.std.proofs.Common.{◌≡◌, ◌∙◌, ap, rules, None, map, List, [], ◌∷◌, ◌++◌}
 use Rattle.std.specs.HashMap.{get}
 use Rattle.capnp_request.specs.Steps.Bindings.{bounds}

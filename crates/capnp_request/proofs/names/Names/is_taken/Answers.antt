@@ -1,3 +1,5 @@
+-- The holder that is kept for the name is the first with it, marked where another id had it since.
+-- So the mark says whether the name is taken.
 use Rattle.std.proofs.Common.{◌≡◌, rules}
 use Rattle.std.specs.HashMap.{get}
 use Rattle.capnp_request.specs.Steps.NamesMade.{one_more}

@@ -1,3 +1,5 @@
+-- The node, its display name and the name by this are found in this order, and the first failure refuses the entry.
+-- The entry goes before the holders.
 use Rattle.std.proofs.Common.{◌∷◌, map}
 use Rattle.std.proofs.lemmas.Result.{err_from_is_err_and}
 use Rattle.capnp_schema.specs.Schema.{seen_node}

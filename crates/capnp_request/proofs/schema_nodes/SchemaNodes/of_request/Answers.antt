@@ -1,3 +1,5 @@
+-- The map has the first node of each id among those before the index, and one more node keeps it so.
+-- Past the last it is the map of all that is read.
 use Rattle.std.proofs.Common.{arith, ap, sym, ◌∙◌, ◌≡◌, List, length, Ok}
 use Rattle.capnp_schema.specs.StructHandles.{set_of}
 use Rattle.capnp_dynamic_readers.specs.Seen.{record_seen}

@@ -1,3 +1,4 @@
+-- Each walk keeps that all nodes, or all enums, before the index have few entries; at the end this is so of all of them.
 use Rattle.std.proofs.Common.{arith}
 use Rattle.std.proofs.lemmas.List.{length-map}
 use Rattle.capnp_schema.specs.Accepted.{HasFewEnumerants, HasFewFields}

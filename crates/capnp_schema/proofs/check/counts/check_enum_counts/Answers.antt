@@ -1,3 +1,5 @@
+-- An enum is refused for too many enumerants, for its own annotations or for those of one enumerant; each breaks the small
+-- counts. The enumerant's index is below their count.
 use Rattle.std.proofs.Common.{◌≡◌, List, ap, arith, length, map, sym}
 use Rattle.std.proofs.lemmas.List.{length-map}
 use Rattle.capnp_schema.specs.Accepted.{HasFewAnnotations}

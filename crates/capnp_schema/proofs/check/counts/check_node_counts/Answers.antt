@@ -1,3 +1,5 @@
+-- A node is refused for too many fields, for its own annotations or for those of one field; each breaks the small counts.
+-- The field's index is below their count.
 use Rattle.std.proofs.Common.{◌≡◌, List, ap, arith, length, map, sym}
 use Rattle.std.proofs.lemmas.List.{length-map}
 use Rattle.capnp_schema.specs.Accepted.{HasFewAnnotations}

@@ -1,3 +1,4 @@
+-- The walk keeps that all entries before the index meet the rule; the entry it stops at is read there, and breaks it.
 use Rattle.std.proofs.Common.{arith, map, refl, sym}
 use Rattle.std.proofs.lemmas.List.{length-map}
 use Rattle.std.proofs.lemmas.Option.{slice_get_read}

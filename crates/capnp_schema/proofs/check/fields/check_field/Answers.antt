@@ -1,3 +1,4 @@
+-- Each of rules 1, 4, 5 and 7 that the field breaks is the refusal's rule at its place; a field that passes all four stands.
 use Rattle.std.proofs.Common.{◌<◌, arith}
 use Rattle.capnp_device.specs.declared.error.SchemaTable.TheVariants.{Brand as InBrands}
 use Rattle.capnp_schema.specs.Schema.{seen_node}

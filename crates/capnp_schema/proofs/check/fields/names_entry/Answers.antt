@@ -1,3 +1,5 @@
+-- What the lists of the type hold at last decides: a struct names its brand, an enum has an
+-- index below the enums' count, and others name nothing.
 use Rattle.std.proofs.Common.{arith, rules}
 use Rattle.std.proofs.lemmas.Bool.{ltb-true, lt-ltb}
 use Rattle.std.proofs.lemmas.List.{length-map}

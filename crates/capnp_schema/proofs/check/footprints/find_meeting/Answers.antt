@@ -1,3 +1,5 @@
+-- The walk keeps that in all brands before, fields are apart from one another and from the discriminant.
+-- A field that is found breaks rule 11 or 12 there.
 use Rattle.std.proofs.Common.{ℕ, ◌<◌, length, arith}
 use Rattle.capnp_schema.specs.Schema.{fields_of, field_at}
 use Rattle.capnp_schema.specs.Accepted.{FieldsApart, DiscriminantApart}

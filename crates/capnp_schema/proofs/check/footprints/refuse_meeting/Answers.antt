@@ -1,3 +1,5 @@
+-- A field named at the spot breaks rule 11 with a second field that is named there, and rule 12
+-- with the discriminant, where its span holds the spot.
 use Rattle.std.proofs.Common.{arith, refl, sym, ap, ◌∙◌}
 use Rattle.capnp_schema.specs.Schema.{Node, seen_node}
 use Rattle.capnp_schema.specs.Footprint.{discriminant_names}

@@ -1,3 +1,5 @@
+-- By rules 1 and 7 each group field leads to a group.
+-- The walk keeps that all groups before stand, and that each marked one stands in a struct.
 use Rattle.std.proofs.Common.{refl, sym, subst, arith, below_more}
 use Rattle.capnp_schema.specs.Accepted.{GroupStands}
 use Rattle.capnp_schema.specs.Entries.{lists_seen}

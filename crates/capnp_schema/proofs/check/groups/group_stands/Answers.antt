@@ -1,3 +1,5 @@
+-- A group's entry in the table is its only parent; without an entry, or with other section
+-- sizes than its parent has, it can't stand.
 use Rattle.std.proofs.Common.{sym, refl}
 use Rattle.capnp_schema.specs.Entries.{lists_seen}
 use Rattle.capnp_schema.proofs.Checking.GroupChains.{one_parent, sizes_differ, parent_within, without_parent}

@@ -1,3 +1,5 @@
+-- The group gone through stands in a struct, and so does its parent.
+-- Marking it therefore keeps that all marked groups stand in one.
 use Rattle.std.proofs.Common.{sym}
 use Rattle.capnp_schema.specs.Entries.{lists_seen}
 use Rattle.capnp_schema.proofs.Checking.GroupChains.{parent_within, parent_stands, mark_known}

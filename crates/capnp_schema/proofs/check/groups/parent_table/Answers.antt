@@ -1,3 +1,5 @@
+-- The table is filled with the group fields passed so far.
+-- A field of a free group fills its place; at a filled place two fields name the group, which breaks rule 8.
 use Rattle.std.proofs.Common.{◌<◌, length, sym, arith}
 use Rattle.capnp_schema.specs.Entries.{lists_seen}
 use Rattle.capnp_schema.proofs.Checking.BrandRefusals.{refused_at_group}

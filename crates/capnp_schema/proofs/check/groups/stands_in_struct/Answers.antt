@@ -1,3 +1,5 @@
+-- Steps up the parents end at a struct, join a group known to stand in one, or break off without parent.
+-- After more steps than brands they would never end.
 use Rattle.std.proofs.Common.{sym, refl, arith}
 use Rattle.std.proofs.lemmas.List.{length-map}
 use Rattle.capnp_schema.specs.Entries.{lists_seen}

@@ -1,3 +1,5 @@
+-- Counting the annotations of the entry read there is the same as reading the list of
+-- counts, both for an entry and past the last.
 use Rattle.std.proofs.Common.{ap, sym, ◌∙◌, length}
 use Rattle.std.proofs.lemmas.List.{length-map}
 use Rattle.capnp_schema.specs.Schema.{seen_annotation}

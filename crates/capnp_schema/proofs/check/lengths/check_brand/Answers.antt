@@ -1,3 +1,5 @@
+-- A brand is refused with rule 2 where it names no node, or lacks types for the node that it
+-- names; else both are there, and it stands.
 use Rattle.std.proofs.lemmas.Bool.Decides.{not_from_Decides}
 use Rattle.capnp_device.specs.declared.error.SchemaTable.TheVariants.{Brand as InBrands}
 use Rattle.capnp_schema.specs.Schema.{seen_node, seen_brand}

@@ -1,3 +1,4 @@
+-- The walk keeps that all enums before have a type for each annotation; the first that has not breaks rule 2.
 use Rattle.std.proofs.Common.{arith}
 use Rattle.std.proofs.lemmas.List.{length-map}
 use Rattle.std.proofs.lemmas.Bool.Decides.{not_from_Decides}

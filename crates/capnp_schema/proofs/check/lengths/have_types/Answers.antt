@@ -1,3 +1,4 @@
+-- The two lists of counts differ where their lengths do, or at an index where they are seen to; else they agree at each index.
 use Rattle.std.proofs.Common.{sym, ◌∙◌, arith}
 use Rattle.capnp_schema.specs.Steps.Checking.Lengths.{annotation_counts, children_counts}
 use Rattle.capnp_schema.proofs.Checking.Lengths.{other_length, other_at, same_counts, children_length, annotations_length}

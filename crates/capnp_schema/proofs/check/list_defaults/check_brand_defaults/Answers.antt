@@ -1,3 +1,4 @@
+-- The walk keeps that the list defaults of all the brand's fields before the index are read; it goes on while the next one's is.
 use Rattle.std.proofs.Common.{arith}
 use Rattle.capnp_schema.specs.Accepted.{ReadsDefault}
 use Rattle.capnp_schema.proofs.EntryWalk.{all_stand, more_stand, none_stand}

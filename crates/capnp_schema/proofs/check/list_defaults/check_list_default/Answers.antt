@@ -1,3 +1,5 @@
+-- A field is inside its brand, so its index fits 16 bits.
+-- Whether its kind is read by its type decides between rule 6 and its being so here.
 use Rattle.std.proofs.Common.{arith, sym}
 use Rattle.capnp_schema.specs.Entries.{lists_seen}
 use Rattle.capnp_schema.specs.Steps.Entries.{seen_typed}

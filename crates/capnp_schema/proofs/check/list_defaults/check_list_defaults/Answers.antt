@@ -1,3 +1,4 @@
+-- The walk keeps that all fields of all brands before have their list defaults read; past the last brand this is so of all.
 use Rattle.std.proofs.Common.{All, ℕ, arith}
 use Rattle.std.proofs.lemmas.List.{length-map}
 use Rattle.capnp_schema.specs.Entries.{lists_seen}

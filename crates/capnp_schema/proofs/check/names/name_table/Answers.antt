@@ -1,3 +1,5 @@
+-- A node has few fields, so their order by name can be made.
+-- A repeated name in it breaks rule 3 at that field; else the order is the table.
 use Rattle.std.proofs.Common.{List, ap, arith, length, subst}
 use Rattle.std.proofs.lemmas.List.{length-map}
 use Rattle.capnp_schema.specs.Entries.{lists_seen}

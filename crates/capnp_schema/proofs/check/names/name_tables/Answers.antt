@@ -1,3 +1,4 @@
+-- One table is pushed for each node, so each table so far is of the node at its index; at the end there are as many as nodes.
 use Rattle.std.proofs.Common.{arith}
 use Rattle.std.proofs.lemmas.List.{length-map}
 use Rattle.capnp_schema.specs.Entries.{lists_seen}

@@ -1,3 +1,5 @@
+-- What a brand adds is what its fields add, and then the span of its discriminant if its
+-- node is there; without a node the fields' part is all.
 use Rattle.capnp_schema.specs.Entries.{lists_seen}
 use Rattle.capnp_schema.specs.Schema.{seen_node}
 use Rattle.capnp_schema.proofs.Checking.SpanLemmas.{brand_added, fields_alone}

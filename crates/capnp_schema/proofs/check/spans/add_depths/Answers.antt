@@ -1,3 +1,5 @@
+-- At each depth the spans out so far, and what is reached from the brands left, are as at the start; the depths left fall by one.
+-- At the end no depth is left.
 use Rattle.std.proofs.Common.{◌≡◌, ◌+◌, ◌-◌, ◌∙◌, suc, ap, sym, arith, length}
 use Rattle.capnp_schema.specs.Entries.{lists_seen}
 use Rattle.capnp_schema.specs.Steps.Checking.Spans.{reached_spot}

@@ -1,3 +1,5 @@
+-- A slot adds its span to the spots named; a group field adds its brand to those below,
+-- since the type's own variant names that brand.
 use Rattle.std.proofs.Common.{ap, ◌∙◌}
 use Rattle.capnp_schema.specs.Types.{struct_brand, seen_variant}
 use Rattle.capnp_schema.specs.Entries.{lists_seen}

@@ -1,3 +1,5 @@
+-- One list of spans is pushed for each field, and each so far names what the field at its
+-- index names; at the end these are all fields.
 use Rattle.std.proofs.Common.{arith}
 use Rattle.capnp_schema.specs.Entries.{lists_seen}
 use Rattle.capnp_schema.proofs.EntryTables.{one_table}

@@ -1,3 +1,5 @@
+-- Two data spans that meet have a spot in common: the first bit of the one that starts later.
+-- Two pointers meet if they are the same.
 use Rattle.std.proofs.Common.{arith}
 use Rattle.std.proofs.lemmas.Bool.Decides.{nat_tests}
 use Rattle.capnp_schema.proofs.Checking.SpanLemmas.{right_meets, left_meets, pointers_meet}

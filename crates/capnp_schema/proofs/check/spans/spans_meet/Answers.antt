@@ -1,3 +1,5 @@
+-- The spot where two spans meet is named by both lists.
+-- Each row that is done keeps that no spot of its span is named by the other list.
 use Rattle.std.proofs.Common.{refl, arith}
 use Rattle.capnp_schema.specs.declared.check.spans.Span.TheVariants.{Pointer}
 use Rattle.capnp_schema.proofs.Checking.SpanLemmas.{some_from_at, span_at, none_from_all, row_done}

@@ -1,3 +1,5 @@
+-- Once the discriminant's span is claimed for the levels below, and the top is laid on them,
+-- the level of the entered group stands.
 use Rattle.std.proofs.Common.{rules, subst, List, ◌++◌, ◌∷◌, []}
 use Rattle.capnp_schema.specs.Schema.{seen_node}
 use Rattle.capnp_schema.specs.Entries.{lists_seen}

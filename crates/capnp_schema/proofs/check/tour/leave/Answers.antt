@@ -1,3 +1,5 @@
+-- A level past all its fields is done, and marked so where its brand has a mark.
+-- The tour stands at the level below, or rests where none is.
 use Rattle.std.proofs.Common.{arith, rules}
 use Rattle.std.proofs.lemmas.Bool.Decides.{nat_tests}
 use Rattle.capnp_schema.specs.Entries.{lists_seen}

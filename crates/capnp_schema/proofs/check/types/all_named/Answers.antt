@@ -1,3 +1,4 @@
+-- The walk keeps that all types before the index name entries; the first that does not breaks the whole list.
 use Rattle.std.proofs.Common.{false, map, refl, arith}
 use Rattle.std.proofs.lemmas.List.{length-map}
 use Rattle.std.proofs.lemmas.Bool.Decides.{not_from_Decides}

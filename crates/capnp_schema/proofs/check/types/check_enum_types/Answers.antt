@@ -1,3 +1,5 @@
+-- The walk keeps that the annotation types of all enums before name entries.
+-- By rules 2 and 3 each enum has few, so the place of an unnamed one fits.
 use Rattle.std.proofs.Common.{arith}
 use Rattle.std.proofs.lemmas.List.{length-map}
 use Rattle.capnp_device.specs.declared.error.SchemaTable.TheVariants.{Enum as InEnums}

@@ -1,3 +1,5 @@
+-- An unnamed type is among the entry's own annotations or among its children's; where the
+-- own ones are all named, the children decide.
 use Rattle.capnp_schema.specs.Schema.{seen_types}
 use Rattle.capnp_schema.specs.Steps.Checking.Types.{own}
 use Rattle.capnp_schema.specs.Entries.{lists_seen}

@@ -1,3 +1,4 @@
+-- The walk keeps that the types of all children before are named; the child it stops at has one that isn't.
 use Rattle.std.proofs.Common.{map, arith}
 use Rattle.capnp_schema.specs.Types.{seen_type}
 use Rattle.capnp_schema.specs.Accepted.{AllName}

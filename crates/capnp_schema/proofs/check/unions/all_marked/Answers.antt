@@ -1,3 +1,5 @@
+-- A member without a free mark breaks the one-to-one of members and values.
+-- If all members have marks, each value has a member just where all marks are set.
 use Rattle.std.proofs.Common.{ap, sym, refl, ◌∙◌, map, arith}
 use Rattle.capnp_schema.specs.Schema.{seen_node, seen_field}
 use Rattle.capnp_schema.proofs.Members.{all_decided, marked_all}

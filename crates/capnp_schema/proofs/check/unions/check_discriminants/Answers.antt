@@ -1,3 +1,4 @@
+-- The walk keeps that each node before has its discriminant inside its data section; the first that has not breaks rule 10.
 use Rattle.std.proofs.Common.{false, refl, arith}
 use Rattle.std.proofs.lemmas.List.{length-map}
 use Rattle.std.proofs.lemmas.Bool.Decides.{not_from_Decides}

@@ -1,3 +1,4 @@
+-- The walk keeps that in each node before, the members have each value once; the first node where they have not breaks rule 9.
 use Rattle.std.proofs.Common.{arith}
 use Rattle.std.proofs.lemmas.List.{length-map}
 use Rattle.capnp_device.specs.declared.error.SchemaTable.TheVariants.{Node as InNodes}

@@ -1,3 +1,5 @@
+-- The marks set are those of the members passed.
+-- A member with a free mark sets it, other fields set none; without a free mark the values aren't each of one member.
 use Rattle.std.proofs.Common.{sym, refl, ◌∙◌, map, arith}
 use Rattle.capnp_schema.specs.Schema.{seen_field}
 use Rattle.capnp_schema.proofs.Members.{field_seen, not_free, passed, marked}

@@ -1,3 +1,5 @@
+-- An enum is refused with rule 6 for its own annotations' words or for those of one
+-- enumerant; by rule 3 the enumerant's index fits.
 use Rattle.std.proofs.Common.{◌≡◌, List, ap, arith, length, map, sym}
 use Rattle.std.proofs.lemmas.List.{length-map}
 use Rattle.capnp_schema.specs.Accepted.{HaveWords}

@@ -1,3 +1,5 @@
+-- A node is refused with rule 6 for its own annotations' words, a field's, or a field's default that doesn't stand.
+-- By rule 3 the field's index fits.
 use Rattle.std.proofs.Common.{◌≡◌, List, ap, arith, length, map, sym}
 use Rattle.std.proofs.lemmas.List.{length-map}
 use Rattle.capnp_schema.specs.Accepted.{HaveWords, DefaultStands}

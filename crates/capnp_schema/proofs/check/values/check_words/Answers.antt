@@ -1,3 +1,5 @@
+-- Each walk keeps that all nodes, or all enums, before the index have whole words, and the
+-- nodes' defaults stand; at the end this is so of all.
 use Rattle.std.proofs.Common.{arith}
 use Rattle.std.proofs.lemmas.List.{length-map}
 use Rattle.capnp_schema.specs.Accepted.{EachOfEnum, HaveWords, NodeHasWords}

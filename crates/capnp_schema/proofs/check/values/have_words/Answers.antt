@@ -1,3 +1,4 @@
+-- The walk keeps that the values before the index have whole words; one that has not refutes it of all.
 use Rattle.std.proofs.Common.{arith, map, refl}
 use Rattle.std.proofs.lemmas.List.{length-map}
 use Rattle.capnp_schema.specs.Accepted.{HasWords}

@@ -1,3 +1,5 @@
+-- Reading a slot is the law of the place's number.
+-- What is stored with the mask changes the slot's bits alone, as the law of masked bits says.
 use Rattle.std.proofs.Common.{bit_xor}
 use Rattle.capnp_schema.specs.SlotBits.{with_bits}
 use Rattle.capnp_schema.specs.Facts.Slots.{IsStored, masked_is_stored, place_number-read, place_number-written}

@@ -1,3 +1,5 @@
+-- One table of plans is pushed for each brand, so each so far is of the brand at its index.
+-- A brand past the end has no fields, and so no plans.
 use Rattle.std.proofs.Common.{◌≡◌, List, ap, arith, map, sym}
 use Rattle.std.proofs.lemmas.List.{length-map}
 use Rattle.capnp_schema.specs.Schema.{TypedField, fields_of, seen_brand}

@@ -1,3 +1,5 @@
+-- The first brand of the name among all is the first from the index on, as those before aren't called so.
+-- An index past 32 bits is no brand's number.
 use Rattle.std.proofs.Common.{◌≡◌, ◌<◌, ℕ, ◌∙◌, List, Some, true, false, ap, arith, drop, length, map, subst, sym}
 use Rattle.std.proofs.lemmas.List.{length-map}
 use Rattle.capnp_schema.specs.Entries.{lists_seen}

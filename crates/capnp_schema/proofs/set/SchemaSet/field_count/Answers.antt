@@ -1,3 +1,5 @@
+-- An accepted set has few fields in each node by rule 3, so the count fits 16 bits; a brand
+-- inside the set has the fields of its node.
 use Rattle.std.proofs.Common.{◌<◌, ◌∙◌, ap, arith, length}
 use Rattle.capnp_schema.specs.Schema.{brand_at, fields_of}
 use Rattle.capnp_schema.specs.declared.lists.Lists.{Lists}

@@ -1,3 +1,5 @@
+-- The member table kept for the node stands for it, since an accepted set's node has each
+-- member once; so the table's entries are its members.
 use Rattle.std.proofs.Common.{ℕ, ◌≡◌, ◌∙◌, List, Vec, ap, subst, sym}
 use Rattle.std.specs.declared.alloc.Global.{Global}
 use Rattle.capnp_schema.specs.Schema.{node_at}

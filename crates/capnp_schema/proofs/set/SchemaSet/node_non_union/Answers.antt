@@ -1,3 +1,4 @@
+-- The table kept for the node is the list of its non-union fields; these are no more than its fields, which rule 3 makes few.
 use Rattle.std.proofs.Common.{ℕ, ◌≡◌, ◌∙◌, List, Vec, ap, arith, length}
 use Rattle.std.specs.declared.alloc.Global.{Global}
 use Rattle.capnp_schema.specs.Schema.{node_at}

@@ -1,3 +1,5 @@
+-- Whether the brand's record is there decides: with it the records are those of the node
+-- that it names, without it there are none.
 use Rattle.std.proofs.Common.{◌∙◌, ap, slice_get, sym}
 use Rattle.std.specs.Option.{option_copied, option_map}
 use Rattle.capnp_schema.specs.declared.lists.Lists.{Lists}

@@ -1,3 +1,5 @@
+-- The table kept for the brand has the plan of each of its fields.
+-- What such a plan says stands in an accepted set, and a group's place leads to the group.
 use Rattle.std.proofs.Common.{◌≡◌, ◌∙◌, List, Vec, ap, map}
 use Rattle.std.specs.declared.alloc.Global.{Global}
 use Rattle.capnp_schema.specs.Schema.{fields_of}

@@ -1,3 +1,5 @@
+-- A well-formed list has well-formed pointers, and its structs have well-formed first pointers; so
+-- the reader that is given is of a well-formed tree.
 use Rattle.std.proofs.Common.{subst, sym}
 use Rattle.capnp_wire.specs.Found.{parts_tree, pointer_trees, element_structs}
 use Rattle.capnp_wire.specs.WellFormed.{IsWellFormedStruct}

@@ -1,3 +1,5 @@
+-- At the count nothing is left to come; below it the number at the index is the first of
+-- what is left, which is one fewer afterwards.
 use Rattle.std.proofs.Common.{ap, arith, length, ◌<◌}
 use Rattle.capnp_wire.specs.Found.{found_tree}
 use Rattle.capnp_wire.specs.Numbers.{items_left}

@@ -1,3 +1,4 @@
+-- Below the count the bit is that from where the list starts, and past the count an element's bit is false.
 use Rattle.std.proofs.Common.{sym, ◌∙◌, ◌≡◌, false, nat_lt, rules}
 use Rattle.capnp_wire.specs.Facts.Indexed.{bit-start, bit-past}
 use Rattle.capnp_wire.proofs.parts.elements.bit_at.Goals as goal

@@ -1,3 +1,5 @@
+-- Past the pointers' count there is none; inside, the section of one pointer from there on
+-- has just that tree, also where its start is capped.
 use Rattle.std.proofs.Common.{sym, ◌∙◌, ◌+◌}
 use Rattle.capnp_wire.specs.Backing.{segments_in}
 use Rattle.capnp_wire.specs.Facts.Levels.{alone_capped}

@@ -1,3 +1,5 @@
+-- The sum is the total modulo 2^32, step by step; each size is at most the largest,
+-- whichever of the two that is, so it bounds the total.
 use Rattle.std.proofs.Common.{◌≡◌, ◌≤◌, ◌<◌, ◌*◌, ◌+◌, ◌%◌, arith}
 use Rattle.capnp_wire.specs.Stream.{total_words}
 use Rattle.capnp_wire.proofs.Cut.{total_next}

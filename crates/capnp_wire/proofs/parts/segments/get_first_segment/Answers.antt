@@ -1,3 +1,4 @@
+-- Reading index 0 of the segments, with no bytes for none, is the first segment, whether or not there is one.
 use Rattle.std.proofs.Common.{◌∙◌, ap, []}
 use Rattle.std.specs.Prelude.{unwrap_or}
 use Rattle.std.proofs.lemmas.Option.{unwrap_or-slice_get}

@@ -1,3 +1,5 @@
+-- A segment is there below the table's length; it starts behind the header and all words before it.
+-- Where these exceed the stream, nothing is left to take.
 use Rattle.std.proofs.Common.{◌≡◌, ◌*◌, ◌/◌, ◌<◌, ◌≤◌, List, ℕ, length, take, drop, Some, None, slice_get, subst, sym, ap, ◌∙◌, arith}
 use Rattle.std.proofs.lemmas.List.{drop-drop, length-drop}
 use Rattle.capnp_wire.specs.Slot.{little_endian}

@@ -1,3 +1,4 @@
+-- A struct cut from one segment of bytes is well formed, since the trees below its pointers are.
 use Rattle.std.proofs.Common.{[], ◌∷◌, arith}
 use Rattle.capnp_wire.specs.Place.{tree_below}
 use Rattle.capnp_wire.specs.Facts.ByteRuns.{AreBytes-fits}

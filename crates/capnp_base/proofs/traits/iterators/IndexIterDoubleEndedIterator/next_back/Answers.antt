@@ -1,3 +1,4 @@
+-- Below the size the item at the last index is the last of those to come; with none below it, none is to come.
 use Rattle.std.proofs.Common.{◌-◌, ℕ, refl, subst, arith}
 use Rattle.capnp_base.specs.IndexIter.{source, to_come}
 use Rattle.capnp_base.proofs.Indices.{indices-last, indices-none, progress-last}

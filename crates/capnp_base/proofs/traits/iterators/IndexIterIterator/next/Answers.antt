@@ -1,3 +1,4 @@
+-- Where the index is below the size, the item there is the first of those to come; at the size none is to come.
 use Rattle.std.proofs.Common.{ℕ, refl, subst}
 use Rattle.capnp_base.specs.IndexIter.{source, to_come}
 use Rattle.capnp_base.proofs.Indices.{indices-first, indices-none, progress-first}

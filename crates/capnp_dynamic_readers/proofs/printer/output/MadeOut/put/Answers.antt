@@ -1,3 +1,4 @@
+-- A piece that fits the limit is pushed whole; one that does not is known to be too long by its length alone.
 use Rattle.std.specs.Prelude.{string_bytes}
 use Rattle.capnp_dynamic_readers.proofs.Pieces.{known_too_long, pushed}
 use Rattle.capnp_dynamic_readers.proofs.Streams.{handed_on}

@@ -1,3 +1,4 @@
+-- A form is at least as long as its string. One of ASCII is written and then judged; another is made apart, judged, and pushed.
 use Rattle.std.specs.Prelude.{string_bytes}
 use Rattle.std.proofs.lemmas.Str.{IsUtf8-string_bytes}
 use Rattle.capnp_dynamic_readers.proofs.Pieces.{ascii_put, ascii_too_long, form_too_long, other_put, other_too_long}

@@ -1,3 +1,4 @@
+-- The signed number is written first and judged after: within the limit it is put, and past it the whole is too long.
 use Rattle.std.proofs.Common.{string_bytes, rules}
 use Rattle.std.specs.Fmt.{signed_decimal}
 use Rattle.capnp_dynamic_readers.proofs.Pieces.{written, written_too_long}

@@ -1,3 +1,4 @@
+-- The unsigned number is written first and judged after: within the limit it is put, and past it the whole is too long.
 use Rattle.std.specs.Prelude.{decimal, string_bytes}
 use Rattle.capnp_dynamic_readers.proofs.Pieces.{written, written_too_long}
 use Rattle.capnp_dynamic_readers.proofs.printer.output.MadeOut.put_unsigned.Goals as goal

@@ -1,3 +1,5 @@
+-- The id's place among the stored annotations is its place among the typed ones, in the same order.
+-- So the one read there is the first; without a place there is none.
 use Rattle.capnp_schema.proofs.AnnotatedLemmas.{find_inside, find_some, find_none}
 use Rattle.capnp_schema.proofs.schema.annotations.AnnotationList.find.Goals as goal
 

@@ -1,3 +1,5 @@
+-- The enum's annotations with its own types are the set's, by the entry found there.
+-- In an accepted set the types name entries, and taking them off leaves all annotations.
 use Rattle.std.proofs.Common.{ap, sym, ◌∙◌, subst}
 use Rattle.capnp_schema.specs.declared.lists.Lists.{Lists}
 use Rattle.capnp_schema.specs.Entries.{lists_seen}

@@ -1,3 +1,5 @@
+-- By the rules of an accepted set an enumerant has one type for each of its annotations, of which there are few.
+-- What is read at its index is the set's enumerant with these types.
 use Rattle.std.proofs.Common.{ℕ, ◌≡◌, ◌<◌, ◌^◌, List, Some, slice_get, ap, sym, ◌∙◌, subst, length, map, Vec}
 use Rattle.std.specs.declared.alloc.Global.{Global}
 use Rattle.std.proofs.lemmas.List.{length-map}

@@ -1,3 +1,5 @@
+-- By the rules of an accepted set a brand has one type for each annotation of a field, of which there are few.
+-- Without the brand, or types at the index, there are none.
 use Rattle.std.proofs.Common.{ℕ, ◌≡◌, ◌<◌, ◌^◌, List, Some, None, slice_get, ap, sym, ◌∙◌, subst, length, map, Vec}
 use Rattle.std.specs.declared.alloc.Global.{Global}
 use Rattle.capnp_base.specs.declared.introspect.«Type».{«Type» as TypeHandle}

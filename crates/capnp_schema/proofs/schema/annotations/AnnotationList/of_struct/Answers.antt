@@ -1,3 +1,5 @@
+-- By the rules of an accepted set a brand has one type for each annotation of its node, of which there are few, and each
+-- type names an entry. Without a brand there are none.
 use Rattle.std.proofs.Common.{◌<◌, ◌^◌, ap, sym, ◌∙◌, subst, length}
 use Rattle.std.proofs.lemmas.List.{length-map}
 use Rattle.capnp_schema.specs.declared.lists.Lists.{Lists}
