@@ -25,9 +25,8 @@
 //!
 //! A call's conditions are told in a section `# Conditions`. The prover holds Rattle's callers to them; nobody holds a
 //! caller in Rust to them. A call outside its conditions may panic or answer something else, but is never undefined:
-//! there is no `unsafe` in the crate. A condition stands there as a sentence, or as the clause of the source: `x.now` is
-//! what a reference leads to, `x.old` and `x.new` what it leads to before and after; the words of clauses are told in
-//! `docs/DEFINITIONS.md` and in the folders `specs/`.
+//! there is no `unsafe` in the crate. A name in brackets there is that of a definition, told in `docs/DEFINITIONS.md` or
+//! in a folder `specs/`.
 //!
 //! # Walks
 //!
@@ -68,9 +67,13 @@ pub mod any_pointer {
 /// Compatible successors of a schema, reads of one under the other, and why a schema is none.
 pub mod compatible {
     pub use crate::capnp_compatible::Compatible;
-    pub use crate::capnp_differences::{explain, explain_all, Cause, Difference, Explanation, Pair};
+    pub use crate::capnp_differences::{
+        enumerant_name, explain, explain_all, Cause, Change, Difference, EnumPair, Explanation, Note, Pair,
+    };
     pub use crate::capnp_joined_sets::join;
-    pub use crate::capnp_versions::{compare, compare_all, get_report, Comparison, FullComparison};
+    pub use crate::capnp_versions::{
+        compare, compare_all, get_named_report, get_report, Comparison, FullComparison,
+    };
 }
 
 /// Data: bytes as they stand.
@@ -151,6 +154,14 @@ pub mod patch {
 pub mod printer {
     pub use crate::capnp_dynamic::printer::{print, print_within};
     pub use crate::one_call::to_string;
+}
+
+/// What stands at paths of messages: the values, their JSON, texts and lengths.
+pub mod query {
+    pub use crate::capnp_queries::json::{get_json, NoJson};
+    pub use crate::capnp_queries::length::{get_length, NoLength};
+    pub use crate::capnp_queries::reach::reach_path;
+    pub use crate::capnp_queries::shown::get_shown;
 }
 
 /// Sets from the requests of the public compiler.

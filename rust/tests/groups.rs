@@ -36,7 +36,7 @@ fn nested(groups: u32, words: u16) -> Result<SchemaSet, Error> {
     nested_as(["before", "inner", "after"], groups, words)
 }
 
-/// The same with other names of the three fields.
+/// A struct with so many groups in one another, with these names of the three fields.
 fn nested_as(names: [&str; 3], groups: u32, words: u16) -> Result<SchemaSet, Error> {
     let mut nodes = MemoryVec::new(Global);
     let mut brands = MemoryVec::new(Global);

@@ -149,9 +149,8 @@ fn each_rule_is_used() {
     for told in &RULES {
         let count = taken.iter().filter(|(rule, _)| *rule == told.rule).count();
         let searched = searched(told.rule, &sources, &taken);
-        let shown = searched.map_or("-".to_string(), |number| number.to_string());
-        println!("| {} | {count} | {shown} |", told.name);
-        if count == 0 || count != searched.unwrap_or(count) {
+        println!("| {} | {count} | {searched} |", told.name);
+        if count == 0 || count != searched {
             wrong.push(told.name);
         }
     }
@@ -162,14 +161,14 @@ fn each_rule_is_used() {
 }
 
 /// How often a rule should be used, as a search of the lines tells.
-fn searched(rule: Rule, sources: &[Source], taken: &[(Rule, String)]) -> Option<usize> {
+fn searched(rule: Rule, sources: &[Source], taken: &[(Rule, String)]) -> usize {
     let starts = |heads: &[&str]| lines(sources, &|line| starts_with(line, heads));
     let has = |text: &str| {
         code_lines(sources)
             .map(|line| line.matches(text).count())
             .sum::<usize>()
     };
-    Some(match rule {
+    match rule {
         Rule::GhostUse | Rule::GhostMember | Rule::Clause | Rule::Tactic | Rule::Model => {
             ghost_lines(rule, sources, taken)
         }
@@ -193,8 +192,7 @@ fn searched(rule: Rule, sources: &[Source], taken: &[(Rule, String)]) -> Option<
             let is_example = |line: &&str| line.starts_with("/// ```rust") || line.starts_with("//! ```rust");
             all_lines(sources).filter(is_example).count()
         }
-        Rule::Conditions => return None,
-    })
+    }
 }
 
 /// The lines of parts that only the prover reads. What stands within a model is taken with it.
@@ -585,10 +583,7 @@ fn nothing_of_rattle_is_left() {
         let words = Words::new(&rust).unwrap_or_else(|unknown| panic!("{path}: {}", unknown.what));
         for index in 0..words.list.len() {
             let kind = words.list[index].kind;
-            let is_ghost = matches!(
-                kind,
-                Kind::GhostUse | Kind::GhostMember | Kind::Requires | Kind::Ensures | Kind::Tactic
-            );
+            let is_ghost = matches!(kind, Kind::GhostUse | Kind::GhostMember | Kind::Clause | Kind::Tactic);
             let is_left = kind == Kind::Name && RATTLE.contains(&words.at(index));
             assert!(!is_ghost && !is_left, "{path}: {} is left", words.at(index));
             if words.reads(index, &["#", "[", "test", "]"]) {
@@ -601,27 +596,10 @@ fn nothing_of_rattle_is_left() {
     }
 }
 
-/// A text in a cell of a table: on one line, as code.
-fn cell(text: &str) -> String {
-    let line = text.split_whitespace().collect::<Vec<_>>().join(" ");
-    match line.as_str() {
-        "" => "nothing".to_string(),
-        _ => format!("`{}`", line.replace('|', "\\|")),
-    }
-}
-
 #[test]
 fn the_readme_has_each_rule() {
     let readme = fs::read_to_string(root().join("rust/README.md")).expect("rust/README.md");
-    let row = |told: &translate::Told| {
-        format!(
-            "| {} | {} | {} | {} |",
-            told.name,
-            told.reason,
-            cell(told.before),
-            cell(told.after)
-        )
-    };
+    let row = |told: &translate::Told| format!("|{}|{}|", told.name, told.reason);
     let rows: Vec<String> = RULES.iter().map(row).collect();
     let table = rows.join("\n");
     assert!(

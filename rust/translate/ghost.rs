@@ -11,10 +11,10 @@ pub fn take_ghost_parts(words: &Words<'_>, edits: &mut Edits) {
         match words.list[index].kind {
             Kind::GhostUse => edits.take(words, Rule::GhostUse, index, index),
             Kind::Tactic => edits.take(words, Rule::Tactic, index, index),
-            Kind::Requires | Kind::Ensures if !is_in_head(words, index) => {
+            Kind::Clause if !is_in_head(words, index) => {
                 edits.refuse(words, index, "a clause that stands at no function".to_string());
             }
-            Kind::Requires | Kind::Ensures => edits.take(words, Rule::Clause, index, index),
+            Kind::Clause => edits.take(words, Rule::Clause, index, index),
             Kind::GhostMember => take_member(words, edits, index),
             _ => {}
         }
@@ -39,7 +39,7 @@ fn is_in_head(words: &Words<'_>, clause: usize) -> bool {
 }
 
 fn is_clause(words: &Words<'_>, index: usize) -> bool {
-    words.is(index, Kind::Requires) || words.is(index, Kind::Ensures)
+    words.is(index, Kind::Clause)
 }
 
 /// Takes a ghost member with its documentation and visibility.

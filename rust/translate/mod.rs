@@ -2,7 +2,6 @@
 
 mod bounds;
 mod calls;
-mod conditions;
 mod derives;
 mod edits;
 mod ghost;
@@ -73,6 +72,5 @@ fn apply_rules(words: &Words<'_>, place: &Place<'_>, edits: &mut Edits) {
     calls::know_modules(words, edits);
     calls::begin_file(words, edits);
     calls::mark_examples(words, edits);
-    conditions::tell_conditions(words, edits);
     ghost::take_models(words, edits);
 }

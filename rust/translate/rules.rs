@@ -24,7 +24,6 @@ pub enum Rule {
     TestRuntime,
     Main,
     Prelude,
-    Conditions,
     DocExample,
 }
 
@@ -48,7 +47,7 @@ const fn told(rule: Rule, name: &'static str, reason: &'static str, before: &'st
 }
 
 /// Every rule. The examples are those of a library `capnp_wire`, and have to translate as they say.
-pub const RULES: [Told; 23] = [
+pub const RULES: [Told; 22] = [
     told(
         Rule::GhostUse,
         "ghost use",
@@ -189,13 +188,6 @@ pub const RULES: [Told; 23] = [
         "`Vec`, `String`, `format!` and the like are those of `rust/std`",
         "mod bytes;",
         "#[allow(unused_imports)] use crate::rattle_std::prelude::*; #[allow(unused_imports)] use crate::rattle_std::{rattle_format as format, rattle_vec as vec}; mod bytes;",
-    ),
-    told(
-        Rule::Conditions,
-        "conditions",
-        "what a call requires is told where it is documented",
-        "pub fn f(n: u8)\n    requires small { n < 8 }\n{}",
-        "#[doc = \"\"] #[doc = \"# Conditions\"] #[doc = \"\"] #[doc = \"- small: `n < 8`\"] pub fn f(n: u8)\n    \n{}",
     ),
     told(
         Rule::DocExample,

@@ -25,10 +25,8 @@ pub enum Kind {
     GhostUse,
     /// A ghost member or field, up to its `;` or `,`.
     GhostMember,
-    /// `requires NAME {..}`
-    Requires,
-    /// `ensures NAME {..}`
-    Ensures,
+    /// `requires NAME {..}` or `ensures NAME {..}`
+    Clause,
     /// `#[tactic(..)]`, `#![tactic(..)]` or `#[cycle(..)]`.
     Tactic,
 }
@@ -323,8 +321,7 @@ fn named_word(text: &str, start: usize) -> Result<(Kind, usize), Unknown> {
     };
     match &rest[..length] {
         "ghost" => ghost(ghost_part(rest)),
-        "requires" => ghost(clause(rest, length).map(|end| (Kind::Requires, end))),
-        "ensures" => ghost(clause(rest, length).map(|end| (Kind::Ensures, end))),
+        "requires" | "ensures" => ghost(clause(rest, length).map(|end| (Kind::Clause, end))),
         _ => Ok((Kind::Name, start + length)),
     }
 }
@@ -336,14 +333,6 @@ fn clause(rest: &str, keyword: usize) -> Option<usize> {
     let at = at + run(&rest[at..], is_of_name);
     let at = at + blanks(&rest[at..]);
     braces(&rest[at..]).map(|length| at + length)
-}
-
-/// What a clause says: its name, and its text between the braces.
-pub fn clause_parts(clause: &str) -> (&str, &str) {
-    let open = clause.find('{').unwrap_or(clause.len());
-    let head = clause[..open].split_whitespace().nth(1).unwrap_or("");
-    let text = clause[open..].trim_start_matches('{');
-    (head, text.strip_suffix('}').unwrap_or(text).trim())
 }
 
 /// The length of a part that begins with `ghost`.
