@@ -73,5 +73,5 @@ pub fn join(alloc: Global, older: &SchemaSet, newer: &SchemaSet) -> Result<Schem
     let nodes = join_nodes(alloc, older, newer)?;
     let brands = join_brands(alloc, older, newer)?;
     let enums = join_enums(alloc, older, newer)?;
-    SchemaSet::new(alloc, nodes, brands, enums)
+    SchemaSet::of_accepted(alloc, nodes, brands, enums)
 }

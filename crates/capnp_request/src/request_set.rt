@@ -42,5 +42,5 @@ pub fn new_set(alloc: Global) -> Result<SchemaSet, Error>
     ensures refused { IfErr result (λ e. e.kind ≡ OutOfMemory) }
 {
     let (nodes, brands, enums) = records(alloc)?;
-    SchemaSet::new(alloc, nodes, brands, enums)
+    SchemaSet::of_accepted(alloc, nodes, brands, enums)
 }

@@ -13,9 +13,9 @@ mod look_up;
 mod records;
 
 use crate::check::footprints::check_footprints;
-use crate::check::groups::check_groups;
+use crate::check::groups::{check_groups, parent_table};
 use crate::check::lengths::check_lengths;
-use crate::check::names::check_names;
+use crate::check::names::{check_names, name_tables};
 use crate::check::types::check_types;
 use crate::check::unions::{check_discriminants, check_unions};
 use crate::check::values::check_values;
@@ -128,6 +128,35 @@ impl SchemaSet {
         };
         let checked = check(alloc, &lists)?;
         let tables = field_tables(alloc, &lists, checked.by_name, &checked.parents)?;
+        numbers_fit(&lists);
+        Ok(SchemaSet { lists, tables })
+    }
+
+    /// A set of lists that are known to meet the twelve rules, of which none is looked at again. Refused for memory alone,
+    /// which drops the lists.
+    ///
+    /// # Conditions
+    ///
+    /// The lists meet the twelve rules, as those of two sets do that stand one behind the other.
+    #[tactic(auto, using(crate::proofs::BrokenSets::refused_for_memory))]
+    pub fn of_accepted(
+        alloc: Global,
+        nodes: Vec<NodeRecord>,
+        brands: Vec<BrandRecord>,
+        enums: Vec<EnumRecord>,
+    ) -> Result<SchemaSet>
+        requires { IsAccepted (seen_schemas nodes.items brands.items enums.items) }
+        ensures set { IfOk result (λ schemas. lists_seen schemas ≡ seen_schemas nodes.items brands.items enums.items) }
+        ensures refused { IfErr result (λ e. e.kind ≡ OutOfMemory) }
+    {
+        let lists = Lists {
+            nodes,
+            brands,
+            enums,
+        };
+        let by_name = name_tables(alloc, &lists)?;
+        let parents = parent_table(alloc, &lists)?;
+        let tables = field_tables(alloc, &lists, by_name, &parents)?;
         numbers_fit(&lists);
         Ok(SchemaSet { lists, tables })
     }

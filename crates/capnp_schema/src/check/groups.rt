@@ -95,7 +95,7 @@ fn no_parents(alloc: Global, count: usize) -> Result<Vec<Option<(usize, usize)>>
 }
 
 /// At each brand the brand and the index of the group field that names it. A group that two fields name is refused.
-fn parent_table(alloc: Global, lists: &Lists) -> Result<Vec<Option<(usize, usize)>>>
+pub(crate) fn parent_table(alloc: Global, lists: &Lists) -> Result<Vec<Option<(usize, usize)>>>
     requires { TargetsAreGroups (lists_seen lists.now) }
     ensures { MatchResult result (λ table. IsParentTable (lists_seen lists.now) table.items)
         (IsRefusalOf (lists_seen lists.now)) }

@@ -40,7 +40,7 @@ fn name_table(alloc: Global, lists: &Lists, node: usize) -> Result<Vec<u16>>
 }
 
 /// The table of each node.
-fn name_tables(alloc: Global, lists: &Lists) -> Result<Vec<Vec<u16>>>
+pub(crate) fn name_tables(alloc: Global, lists: &Lists) -> Result<Vec<Vec<u16>>>
     requires { HasSmallCounts (lists_seen lists.now) }
     ensures { MatchResult result (λ tables. AreNameTables (lists_seen lists.now) tables.items)
         (IsRefusalOf (lists_seen lists.now)) }
