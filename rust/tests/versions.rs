@@ -1,18 +1,32 @@
 //! Random schemas, each changed by one to five edits: what is told of the two, beside the definition of a compatible successor
-//! as it is written out here.
+//! as it is written out here. Of structs that follow, messages of each version are read under the other.
 #![forbid(unsafe_code)]
 
+#[path = "versions/messages.rs"]
+mod messages;
 #[path = "versions/model.rs"]
 mod model;
+#[path = "versions/projection.rs"]
+mod projection;
+#[path = "common/threads.rs"]
+mod threads;
 
+use messages::random_message;
 use model::random::Random;
 use model::{same_default, Field, Schema, Struct, Type};
+use projection::same_struct;
 use riftcalico::compatible::{compare_all, explain_all, join, Cause, Change, Compatible, Pair};
 use riftcalico::memory::Global;
+use riftcalico::message::read_root;
+use riftcalico::schema::StructSchema;
 use std::collections::BTreeSet;
+use threads::on_all_processors;
 
 /// How many pairs are tried.
 const PAIRS: u64 = if cfg!(debug_assertions) { 1_000 } else { 10_000 };
+
+/// How many messages of each version are read under the other, of each struct that follows.
+const MESSAGES: u64 = 100;
 
 /// An older schema and a newer one.
 struct Versions {
@@ -201,6 +215,19 @@ impl Versions {
     }
 }
 
+/// Random messages of both versions of a struct read under the other as their fields have it that both know.
+fn read_both(versions: &Versions, pair: (usize, usize), schemas: [StructSchema<'_>; 2], compatible: &Compatible<'_>, seed: u64) {
+    for number in 0..MESSAGES {
+        let mut random = Random::new(seed + 1, number);
+        let newer = random_message(&versions.newer, pair.1, &mut random);
+        let newer = read_root(&newer, schemas[1]).expect("the root is a struct");
+        same_struct(compatible.narrow(newer), newer);
+        let older = random_message(&versions.older, pair.0, &mut random);
+        let older = read_root(&older, schemas[0]).expect("the root is a struct");
+        same_struct(older, compatible.widen(older));
+    }
+}
+
 /// What is told of the pairs that are asked, in the joined set, beside the definition.
 fn try_pairs(versions: &Versions, seed: u64) -> bool {
     let (older, newer) = (versions.older.set(), versions.newer.set());
@@ -238,8 +265,13 @@ fn try_pairs(versions: &Versions, seed: u64) -> bool {
     let follows: Vec<bool> = asked.iter().map(|pair| successors.contains(pair)).collect();
     assert_eq!(explained.follows.to_vec(), follows, "seed {seed}");
     for (pair, follows) in pairs.iter().zip(&follows) {
-        let found = Compatible::check(Global, joined.struct_schema(pair.older), joined.struct_schema(pair.newer));
-        assert_eq!(found.expect("there is memory").is_some(), *follows, "seed {seed}");
+        let schemas = [joined.struct_schema(pair.older), joined.struct_schema(pair.newer)];
+        let found = Compatible::check(Global, schemas[0], schemas[1]);
+        let found = found.expect("there is memory");
+        assert_eq!(found.is_some(), *follows, "seed {seed}");
+        if let Some(compatible) = found {
+            read_both(versions, place(*pair), schemas, &compatible, seed);
+        }
     }
     let whole = compare_all(Global, &older, &newer).expect("the sets are compared");
     assert_eq!(whole.compatible, follows.iter().filter(|follows| **follows).count(), "seed {seed}");
@@ -250,18 +282,16 @@ fn try_pairs(versions: &Versions, seed: u64) -> bool {
 
 #[test]
 fn random_versions_are_compared_as_the_definition_says() {
-    let mut compatible = 0;
-    for seed in 0..PAIRS {
+    let compatible = on_all_processors(PAIRS, |seed| {
         let mut random = Random::new(71, seed);
         let older = Schema::random(&mut random);
         let mut newer = older.clone();
         for _ in 0..1 + random.below(5) {
             newer.edit(&mut random);
         }
-        if try_pairs(&Versions { older, newer }, seed) {
-            compatible += 1;
-        }
-    }
+        try_pairs(&Versions { older, newer }, seed)
+    });
+    let compatible = compatible.iter().filter(|all| **all).count() as u64;
     // Both answers come often enough to be tried.
     assert!(compatible > PAIRS / 10 && compatible < PAIRS - PAIRS / 10, "{compatible} of {PAIRS}");
 }

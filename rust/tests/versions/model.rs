@@ -11,8 +11,8 @@ use riftcalico::schema::record::{AnnotationTypes, BrandRecord, EnumRecord, Enume
 use riftcalico::schema::SchemaSet;
 
 /// The data words and the pointers of each struct: a slot has a word of its own, or a pointer, by its field's index.
-const WORDS: u16 = 48;
-const POINTERS: u16 = 20;
+pub const WORDS: u16 = 48;
+pub const POINTERS: u16 = 20;
 
 /// The words from which a group's slots stand.
 const GROUP_WORD: usize = 24;
