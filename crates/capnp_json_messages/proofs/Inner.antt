@@ -8,7 +8,7 @@ use Rattle.capnp_base.specs.declared.introspect.«Type».{«Type» as TypeHandle
 use Rattle.capnp_arena.specs.Built.{IsBuilt, built_at, place_words}
 use Rattle.capnp_arena.specs.Facts.Places.{at_then}
 use Rattle.capnp_arena.specs.Forest.{Changes, Forest, PartChanges, Planted, struct_from, tree}
-use Rattle.capnp_arena.specs.Frame.{LeavesPointer, LeavesStruct}
+use Rattle.capnp_arena.specs.Frame.{LeavesPointer}
 use Rattle.capnp_arena.specs.Leaves.{Leaves}
 use Rattle.capnp_arena.specs.Segment.{segment}
 use Rattle.capnp_arena.specs.declared.arena.Arena.{Arena}
@@ -20,17 +20,15 @@ use Rattle.capnp_schema.specs.Types.{ListType, SchemaType, StructType, seen_type
 use Rattle.capnp_schema.specs.declared.schema.structs.StructSchema.{StructSchema}
 use Rattle.capnp_records.proofs.ElementChanges.{pointer-here}
 use Rattle.capnp_records.proofs.StepElement.{fits-at, nth-seen}
-use Rattle.capnp_records.specs.Default.{default_record}
 use Rattle.capnp_records.specs.Facts.ListValues.{list-read}
-use Rattle.capnp_records.specs.Operation.{new_element}
-use Rattle.capnp_records.specs.Part.{nth_value, value_count, with_value}
+use Rattle.capnp_records.specs.Part.{value_count, with_value}
 use Rattle.capnp_records.specs.Reading.{reads, value_of}
 use Rattle.capnp_records.specs.Record as value
 use Rattle.capnp_records.specs.Record.{Endless, Record, Value, Values}
 use Rattle.capnp_records.specs.Writes.Contents.{new_list}
 use Rattle.capnp_records.specs.Writes.ElementEnds.{HasElementThere, element_written}
 use Rattle.capnp_records.specs.Writes.Slots.{At, Fits}
-use Rattle.capnp_json_messages.specs.Put.{HasNew, IsListOf, PutsAt}
+use Rattle.capnp_json_messages.specs.Put.{HasNew, IsListOf}
 use Rattle.capnp_json_messages.specs.Started.{InnerListStarted, InnerStarted}
 use Rattle.capnp_json_messages.proofs.ElementPuts.{IsElementContent, content_put, count_put, put_twice, room_at, struct_puts}
 
@@ -70,12 +68,12 @@ pub list_content : (set : Schemas) (e : SchemaType) (y : Tree) → IsElementCont
 list_content set e y = record { suits = tt; reads_as = refl }
 
 pub inner_list_begun : (set : Schemas) → IsAccepted set → (e : SchemaType) (word j count : ℕ) (old m : Arena) (w : ℕ) → NamesEntries set (ListType e)
-    → HasPointer (tree (segment old) word) j → HasPointer (tree (segment m) word) j → LeavesPointer word old m
-    → tree (segment m) word ≡ with_pointer_element j (new_list set e count) (tree (segment old) word)
+    → HasPointer (tree (segment old) word) j × HasPointer (tree (segment m) word) j × (tree (segment m) word ≡ with_pointer_element j (new_list set e count) (tree (segment old) word))
+    → LeavesPointer word old m
     → Forest (segment m) w → tree (segment m) w ≡ element_pointer (tree (segment m) word) j 1
     → ((new : List ℕ) → Forest new w → Changes w (segment m) new → Leaves word (with_pointer_element j (tree new w) (tree (segment m) word)) (segment m) new)
     → InnerListStarted set e word j count old m w
-inner_list_begun set accepted e word j count old m w entries there still frame written forest here leaves = record {
+inner_list_begun set accepted e word j count old m w entries (there, still, written) frame forest here leaves = record {
   forest = forest;
   here = here ∙ (ap (λ (y : Tree). element_pointer y j 1) written ∙ pointer-here (tree (segment old) word) j (new_list set e count) there);
   frame = λ later left. let l = leaves (segment later) left.forest left.changes in record { forest = l.forest; changes = at_then frame.changes l.changes };

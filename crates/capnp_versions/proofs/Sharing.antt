@@ -20,21 +20,34 @@ pub found_pair : (older newer : Schemas) (b a n : ℕ) (name : List ℕ) → Som
 found_pair older newer b a n name e named f =
     ap (pair_of_first older newer) (sym e) ∙ ap (moved_pair (length older.brands) a) (sym (f ∙ ap (brand_asked newer) named))
 
+-- what an explanation of pairs in a set has
+pub record IsExplained (set : Schemas) (ps : List Pair) (told : List Difference) (follows : List Bool) (changes : List Note) : Type 0 where
+  pub exactly : (d : Difference) → (Contains told d ↔ IsDifferenceOf set ps d)
+  pub order : AllPairs ComesFirst told
+  pub answered : AreAnswered set ps follows
+  pub noted : AreNotes set ps changes
+
+-- what a comparison has of it: its texts, and how many structs follow
+pub record IsReported (older newer set : Schemas) (told : List Difference) (follows : List Bool) (changes : List Note) (c : FullComparison) : Type 0 where
+  pub text : IsAppended [] (differences_text set told) (string_bytes c.text)
+  pub compatible : c.compatible ≡ count_true follows
+  pub few : c.compatible ≤ length follows
+  pub incompatible : c.incompatible ≡ length follows - c.compatible
+  pub notes : string_bytes c.notes ≡ changes_text set changes ++ notes_text older newer
+
 -- what was told of the pairs in the joined set
-pub compared_all : (older newer set : Schemas) (ps : List Pair) (told us : List Difference) (follows : List Bool) (n : ℕ) (c : FullComparison)
-    → set ≡ joined older newer → ps ≡ shared_pairs older newer → ((d : Difference) → (Contains told d ↔ IsDifferenceOf set ps d)) → AllPairs ComesFirst told → AreAnswered set ps follows
-    → us ≡ told → IsAppended [] (differences_text set us) (string_bytes c.text) → c.compatible ≡ count_true follows → c.compatible ≤ length follows → n ≡ length follows → c.incompatible ≡ n - c.compatible
-    → (changes vs : List Note) → AreNotes set ps changes → vs ≡ changes → string_bytes c.notes ≡ changes_text set vs ++ notes_text older newer → IsFullComparison older newer c
-compared_all older newer set ps told us follows n c same shared exactly order answered is text compatible le count incompatible changes vs noted seen notes = record {
+pub compared_all : (older newer set : Schemas) (ps : List Pair) (told : List Difference) (follows : List Bool) (changes : List Note) (c : FullComparison)
+    → set ≡ joined older newer → ps ≡ shared_pairs older newer → IsExplained set ps told follows changes → IsReported older newer set told follows changes c → IsFullComparison older newer c
+compared_all older newer set ps told follows changes c same shared explained reported = record {
   told = told;
-  exactly = subst (λ (qs : List Pair). (d : Difference) → (Contains told d ↔ IsDifferenceOf (joined older newer) qs d)) shared (subst (λ (s : Schemas). (d : Difference) → (Contains told d ↔ IsDifferenceOf s ps d)) same exactly);
-  order = order;
-  text = subst (λ (s : Schemas). IsAppended [] (differences_text s told) (string_bytes c.text)) same (subst (λ (ds : List Difference). IsAppended [] (differences_text set ds) (string_bytes c.text)) is text);
+  exactly = subst (λ (qs : List Pair). (d : Difference) → (Contains told d ↔ IsDifferenceOf (joined older newer) qs d)) shared (subst (λ (s : Schemas). (d : Difference) → (Contains told d ↔ IsDifferenceOf s ps d)) same explained.exactly);
+  order = explained.order;
+  text = subst (λ (s : Schemas). IsAppended [] (differences_text s told) (string_bytes c.text)) same reported.text;
   follows = follows;
-  answered = subst (λ (qs : List Pair). AreAnswered (joined older newer) qs follows) shared (subst (λ (s : Schemas). AreAnswered s ps follows) same answered);
-  compatible = compatible;
-  incompatible = let all = answered.count in let l = ap length shared in omega arith;
+  answered = subst (λ (qs : List Pair). AreAnswered (joined older newer) qs follows) shared (subst (λ (s : Schemas). AreAnswered s ps follows) same explained.answered);
+  compatible = reported.compatible;
+  incompatible = let all = explained.answered.count in let l = ap length shared in let k = reported.incompatible in let few = reported.few in omega arith;
   changes = changes;
-  noted = subst (λ (qs : List Pair). AreNotes (joined older newer) qs changes) shared (subst (λ (s : Schemas). AreNotes s ps changes) same noted);
-  notes = notes ∙ (ap (λ (ns : List Note). changes_text set ns ++ notes_text older newer) seen ∙ ap (λ (s : Schemas). changes_text s changes ++ notes_text older newer) same);
+  noted = subst (λ (qs : List Pair). AreNotes (joined older newer) qs changes) shared (subst (λ (s : Schemas). AreNotes s ps changes) same explained.noted);
+  notes = reported.notes ∙ ap (λ (s : Schemas). changes_text s changes ++ notes_text older newer) same;
 }

@@ -30,4 +30,4 @@ returns-clause-started c =
     c.tree_is_sound.ensures.formed c.tree_is_sound-2.ensures.formed c.requires.there.inside c.requires.there.list
     (c.in_default.ensures.written ∙ ap (λ (y : Tree). element_written (seen_type c.args.element) (tree (segment c.args.arena.now) c.args.word) c.args.index (At y)) is) in
     inner_list_begun (lists_seen c.args.schemas.now) c.set_stands.ensures (seen_type c.args.inner) c.args.word c.args.index c.args.count c.args.arena.now c.init.new.arena c.get_pointer_element.result c.requires.leads.entries
-    there.0 there.1 c.in_default.ensures.frame there.2 c.get_pointer_element.ensures.forest c.get_pointer_element.ensures.tree c.get_pointer_element.ensures.leaves
+    there c.in_default.ensures.frame c.get_pointer_element.ensures.forest c.get_pointer_element.ensures.tree c.get_pointer_element.ensures.leaves
