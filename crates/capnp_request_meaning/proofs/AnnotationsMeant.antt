@@ -76,10 +76,10 @@ module _ (K : List Entry → Type 0) (nodes : List SchemaNode) (whole : KeepsWho
       (λ u z h scopes. record { node = d.node; declared = t; bound = bound; first = d.first; annotation = d.annotation; scopes = scopes.0; brand_is = scopes.1; type = h })
       (type_meant K nodes whole strict bound t))
 
-  abbrev IsAnnotationLater : AnnotationTerm → Annotation × SchemaType → Named → Type 0
+  abbrev pub IsAnnotationLater : AnnotationTerm → Annotation × SchemaType → Named → Type 0
   IsAnnotationLater a p z = IsAnnotationOf (numbers nodes strict z) inside a p.0 p.1
 
-  annotation_meant : (a : AnnotationTerm) → IsWork K (annotation_of nodes strict inside a) (IsAnnotationLater a)
+  pub annotation_meant : (a : AnnotationTerm) → IsWork K (annotation_of nodes strict inside a) (IsAnnotationLater a)
   annotation_meant a =
       said_bind K (value_stated a.value) (λ v. work_unnoted (declared_type nodes strict a.id inside a.brand) >>= (λ t. work_of (record { id = a.id; value = v }, t.type))) (IsAnnotationLater a)
       (λ v is. bind K (work_unnoted (declared_type nodes strict a.id inside a.brand)) (λ t. work_of (record { id = a.id; value = v }, t.type)) (IsDeclaredLater a.id a.brand) (IsAnnotationLater a)

@@ -14,10 +14,9 @@ use Rattle.capnp_request_meaning.specs.Meaning.{IsGroupEntry}
 use Rattle.capnp_request_meaning.specs.Sound.{AnySaid, EachSaidSo, IsEnumerantSound, IsFieldSound, IsNodeKindSound, IsNodeSound, IsNodeOfKind, IsSaidSo, IsTextFor, Refusal}
 use Rattle.capnp_request_meaning.proofs.EntriesKept.{whole_entry}
 use Rattle.capnp_request_meaning.proofs.FieldsMeant.{AreMembersFrom, group_entry}
-use Rattle.capnp_request_meaning.proofs.ListsFound.{still_at}
+use Rattle.capnp_request_meaning.proofs.ListsFound.{before_or_last, still_at}
 use Rattle.capnp_request_meaning.proofs.NamesSound.{AreEnumIds, ids_more}
 use Rattle.capnp_request_meaning.proofs.WorkSound.{IsGood, IsOther, good_all, good_bind, good_said}
-use Rattle.capnp_request_meaning.proofs.OrderMeant.{before_or_last}
 use Rattle.capnp_request_meaning.proofs.TypesSound.{AreNodesSound, Keeps, annotations_good, fields_good, name_said}
 
 -- ---- entries ----

@@ -42,13 +42,13 @@ module _ (K : List Entry → Type 0) (nodes : List SchemaNode) (whole : KeepsWho
   abbrev pub enumerant_named : EnumerantTerm → List ℕ → Work (Enumerant × List SchemaType)
   enumerant_named x name = annotations_of nodes strict [] x.annotations >>= enumerant_with name
 
-  abbrev IsEnumerantMade : EnumerantTerm → Enumerant × List SchemaType → Named → Type 0
+  abbrev pub IsEnumerantMade : EnumerantTerm → Enumerant × List SchemaType → Named → Type 0
   IsEnumerantMade x y z = IsEnumerantOf (numbers nodes strict z) x y.0 y.1
 
   abbrev AreAnnotations : Said (List (Said AnnotationTerm)) → List (Annotation × SchemaType) → Named → Type 0
   AreAnnotations list ps z = IsSaidList (IsAnnotationOf (numbers nodes strict z) []) list (firsts ps) (seconds ps)
 
-  enumerant_meant : (x : EnumerantTerm) → IsWork K (enumerant_of nodes strict x) (IsEnumerantMade x)
+  pub enumerant_meant : (x : EnumerantTerm) → IsWork K (enumerant_of nodes strict x) (IsEnumerantMade x)
   enumerant_meant x =
       said_bind K x.name (λ bytes. work_said (converted_name bytes) >>= enumerant_named x) (IsEnumerantMade x)
       (λ bytes read. said_bind K (converted_name bytes) (enumerant_named x) (IsEnumerantMade x)
@@ -56,10 +56,10 @@ module _ (K : List Entry → Type 0) (nodes : List SchemaNode) (whole : KeepsWho
       (λ annotations. of_work K (record { name = name; annotations = firsts annotations }, seconds annotations) (λ (y : Enumerant × List SchemaType) z. AreAnnotations x.annotations annotations z → IsEnumerantMade x y z)
       (λ z h. record { name = named_as x.name bytes name read taken; text = text_taken bytes name taken; annotations = h }))))
 
-  abbrev AreEnumerants : Said (List (Said EnumerantTerm)) → List (Enumerant × List SchemaType) → Named → Type 0
+  abbrev pub AreEnumerants : Said (List (Said EnumerantTerm)) → List (Enumerant × List SchemaType) → Named → Type 0
   AreEnumerants members ys z = IsSaidList (IsEnumerantOf (numbers nodes strict z)) members (map (λ (y : Enumerant × List SchemaType). y.0) ys) (map (λ (y : Enumerant × List SchemaType). y.1) ys)
 
-  enumerants_meant : (members : Said (List (Said EnumerantTerm))) → IsWork K (all_enumerants nodes strict members) (AreEnumerants members)
+  pub enumerants_meant : (members : Said (List (Said EnumerantTerm))) → IsWork K (all_enumerants nodes strict members) (AreEnumerants members)
   enumerants_meant members = all_of K (enumerant_of nodes strict) (λ (y : Enumerant × List SchemaType). y.0) (λ (y : Enumerant × List SchemaType). y.1) (λ z. IsEnumerantOf (numbers nodes strict z)) enumerant_meant members
 
   module _ (id : ℕ) (name : List ℕ) (node : SchemaNode) where

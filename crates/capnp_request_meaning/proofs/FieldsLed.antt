@@ -36,7 +36,7 @@ module _ (r : RequestTerm) (strict : Bool) where
   -- ---- fields ----
 
   module _ (n : ℕ) (inside : List Bound) (node : SchemaNode) (part : StructPart) (struct : node.kind ≡ StructNode part) where
-    abbrev On : Target → Named → Type 0
+    abbrev pub On : Target → Named → Type 0
     On = Hence (EntryAt n) node inside
 
     slot_led : (i offset : ℕ) (t : TypeTerm) (default : ValueTerm) (f : FieldTerm) → IsRead part.fields i f → f.kind ≡ SlotTerm offset t default → IsLed (kind_of r.nodes strict inside n i (SlotTerm offset t default)) On
@@ -57,12 +57,12 @@ module _ (r : RequestTerm) (strict : Bool) where
         (λ found. led_weaken (add_entry (group_entry id inside n i)) (IsAdded (group_entry id inside n i)) On (grouped i id) (entry_led (group_entry id inside n i)) s))
         (λ number. led_of {A = FieldKind × MarkedType × List Note} (Group number, plain (StructType number number), []) On)
 
-    kind_led : (i : ℕ) (f : FieldTerm) → IsRead part.fields i f → (k : FieldKindTerm) → f.kind ≡ k → IsLed (kind_of r.nodes strict inside n i k) On
+    pub kind_led : (i : ℕ) (f : FieldTerm) → IsRead part.fields i f → (k : FieldKindTerm) → f.kind ≡ k → IsLed (kind_of r.nodes strict inside n i k) On
     kind_led i f read (SlotTerm offset t default) is = slot_led i offset t default f read is
     kind_led i f read (GroupTerm id) is = group_led i id
     kind_led i f read (UnreadField kind) is = λ s. tt
 
-    field_led : (i : ℕ) (f : FieldTerm) → IsRead part.fields i f → IsLed (field_of r.nodes strict inside n i f) On
+    pub field_led : (i : ℕ) (f : FieldTerm) → IsRead part.fields i f → IsLed (field_of r.nodes strict inside n i f) On
     field_led i f read =
         led_said f.name (λ bytes. work_said (converted_name bytes) >>= (λ name. kind_of r.nodes strict inside n i f.kind >>= (λ kind. annotations_of r.nodes strict inside f.annotations >>= (λ annotations. work_of (converted_field name f.discriminant_value kind annotations))))) On
         (λ bytes said. led_said (converted_name bytes) (λ name. kind_of r.nodes strict inside n i f.kind >>= (λ kind. annotations_of r.nodes strict inside f.annotations >>= (λ annotations. work_of (converted_field name f.discriminant_value kind annotations)))) On
@@ -72,7 +72,7 @@ module _ (r : RequestTerm) (strict : Bool) where
         (λ annotations. led_of (converted_field name f.discriminant_value kind annotations) On))))
 
     module _ (members : List (Said FieldTerm)) (listed : part.fields ≡ Ok members) where
-      fields_led : (i : ℕ) (fs : List (Said FieldTerm)) → AreMembersFrom members i fs → IsLed (fields_of r.nodes strict inside n i fs) On
+      pub fields_led : (i : ℕ) (fs : List (Said FieldTerm)) → AreMembersFrom members i fs → IsLed (fields_of r.nodes strict inside n i fs) On
       fields_led i [] h = led_of {A = List Converted} [] On
       fields_led i (Err kind ∷ fs) h = λ s. tt
       fields_led i (Ok f ∷ fs) h =
@@ -115,14 +115,14 @@ module _ (r : RequestTerm) (strict : Bool) where
   -- ---- enums ----
 
   module _ (n : ℕ) (node : SchemaNode) where
-    abbrev OnEnum : Target → Named → Type 0
+    abbrev pub OnEnum : Target → Named → Type 0
     OnEnum = Hence (EnumAt n) node []
 
     module _ (members : Said (List (Said EnumerantTerm))) (enumeration : node.kind ≡ EnumNode members) where
-      abbrev OneLed : EnumerantTerm → Target → Named → Type 0
+      abbrev pub OneLed : EnumerantTerm → Target → Named → Type 0
       OneLed x y z = (i : ℕ) → IsRead members i x → OnEnum y z
 
-      enumerant_led : (x : EnumerantTerm) → IsLed (enumerant_of r.nodes strict x) (OneLed x)
+      pub enumerant_led : (x : EnumerantTerm) → IsLed (enumerant_of r.nodes strict x) (OneLed x)
       enumerant_led x =
           led_said x.name (λ bytes. work_said (converted_name bytes) >>= enums.enumerant_named AnyEntries r.nodes (any_whole r.nodes) strict x) (OneLed x)
           (λ bytes said. led_said (converted_name bytes) (enums.enumerant_named AnyEntries r.nodes (any_whole r.nodes) strict x) (OneLed x)
@@ -134,7 +134,7 @@ module _ (r : RequestTerm) (strict : Bool) where
               (λ y z o i read reached at. ByAnnotation y (EnumAt n) node [] o.one reached at (OfEnumerant members i o.index x enumeration read o.read) o.leads)
               (annotations_led r.nodes strict [] x.annotations)
 
-      enumerants_led : IsLed (all_enumerants r.nodes strict members) OnEnum
+      pub enumerants_led : IsLed (all_enumerants r.nodes strict members) OnEnum
       enumerants_led = led_weaken (all_enumerants r.nodes strict members) (OneLeads members OneLed) OnEnum (λ y z o. o.leads o.index o.read) (led_all (enumerant_of r.nodes strict) OneLed enumerant_led members)
 
     enum_made_led : (id : ℕ) (name : List ℕ) → IsLed (enum_made r.nodes strict id name node) OnEnum

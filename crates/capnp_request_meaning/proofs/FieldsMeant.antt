@@ -60,7 +60,7 @@ module _ (K : List Entry → Type 0) (nodes : List SchemaNode) (whole : KeepsWho
       (group_added i id f there is)
       (λ number. of_work K (Group number, plain (StructType number number), []) (λ (q : FieldKind × MarkedType × List Note) z. slice_get z.entries number ≡ Some (group_entry id inside n i) → IsKindOf (numbers nodes strict z) inside n i (GroupTerm id) q.0 q.1) (λ z h. (refl, h)))
 
-  kind_meant : (i : ℕ) (f : FieldTerm) → slice_get members i ≡ Some (Ok f) → (k : FieldKindTerm) → f.kind ≡ k → IsWork K (kind_of nodes strict inside n i k) (λ q z. IsKindOf (numbers nodes strict z) inside n i k q.0 q.1)
+  pub kind_meant : (i : ℕ) (f : FieldTerm) → slice_get members i ≡ Some (Ok f) → (k : FieldKindTerm) → f.kind ≡ k → IsWork K (kind_of nodes strict inside n i k) (λ q z. IsKindOf (numbers nodes strict z) inside n i k q.0 q.1)
   kind_meant i f there (SlotTerm offset t default) is = slot_meant i offset t default
   kind_meant i f there (GroupTerm id) is = group_meant i id f there is
   kind_meant i f there (UnreadField kind) is = λ s. tt
@@ -68,7 +68,7 @@ module _ (K : List Entry → Type 0) (nodes : List SchemaNode) (whole : KeepsWho
   abbrev field_made : FieldTerm → List ℕ → FieldKind × MarkedType × List Note → List (Annotation × SchemaType) → Converted
   field_made f name kind annotations = converted_field name f.discriminant_value kind annotations
 
-  abbrev IsConvertedOf : (i : ℕ) → FieldTerm → Converted → Named → Type 0
+  abbrev pub IsConvertedOf : (i : ℕ) → FieldTerm → Converted → Named → Type 0
   IsConvertedOf i f c z = IsFieldOf (numbers nodes strict z) inside n i f c.field c.type c.annotation_types
 
   abbrev AreAnnotations : FieldTerm → List (Annotation × SchemaType) → Named → Type 0
@@ -81,13 +81,13 @@ module _ (K : List Entry → Type 0) (nodes : List SchemaNode) (whole : KeepsWho
       (λ annotations. of_work K (field_made f name kind annotations) (λ c z. AreAnnotations f annotations z → IsKindOf (numbers nodes strict z) inside n i f.kind kind.0 kind.1 → IsConvertedOf i f c z)
       (λ z h k. record { said = kind.1; own = map (λ (p : Annotation × SchemaType). p.0) annotations; own_types = map (λ (p : Annotation × SchemaType). p.1) annotations; name = is; text = text; discriminant_value = refl; annotations = h; marked = are_marked annotations kind.1.is_float; kind = k; stands = refl })))
 
-  field_meant : (i : ℕ) (f : FieldTerm) → slice_get members i ≡ Some (Ok f) → IsWork K (field_of nodes strict inside n i f) (IsConvertedOf i f)
+  pub field_meant : (i : ℕ) (f : FieldTerm) → slice_get members i ≡ Some (Ok f) → IsWork K (field_of nodes strict inside n i f) (IsConvertedOf i f)
   field_meant i f there =
       said_bind K f.name (λ bytes. work_said (converted_name bytes) >>= (λ name. kind_of nodes strict inside n i f.kind >>= (λ kind. annotations_of nodes strict inside f.annotations >>= (λ annotations. work_of (field_made f name kind annotations))))) (IsConvertedOf i f)
       (λ bytes read. said_bind K (converted_name bytes) (λ name. kind_of nodes strict inside n i f.kind >>= (λ kind. annotations_of nodes strict inside f.annotations >>= (λ annotations. work_of (field_made f name kind annotations)))) (IsConvertedOf i f)
       (λ name taken. field_named i f there name (named_as f.name bytes name read taken) (text_taken bytes name taken)))
 
-  abbrev AreConverted : (i : ℕ) → List (Said FieldTerm) → List Converted → Named → Type 0
+  abbrev pub AreConverted : (i : ℕ) → List (Said FieldTerm) → List Converted → Named → Type 0
   AreConverted i fs cs z = AreFieldsFrom (numbers nodes strict z) inside n i fs (map (λ (c : Converted). c.field) cs) (map (λ (c : Converted). c.type) cs) (map (λ (c : Converted). c.annotation_types) cs)
 
   pub fields_meant : (i : ℕ) (fs : List (Said FieldTerm)) → AreMembersFrom members i fs → IsWork K (fields_of nodes strict inside n i fs) (AreConverted i fs)

@@ -1,5 +1,5 @@
 -- Elements of lists that grow, by their numbers.
-use Rattle.std.proofs.Common.{ℕ, zero, suc, ◌≡◌, ap, refl, List, [], ◌∷◌, ◌++◌, length, slice_get, Some, None, ◌<◌, arith}
+use Rattle.std.proofs.Common.{ℕ, zero, suc, ◌≡◌, ◌⊎◌, ap, inl, inr, refl, List, [], ◌∷◌, ◌++◌, length, slice_get, Some, None, ◌<◌, arith}
 
 pub same_some : {A : Type 0} {x y : A} → Some x ≡ Some y → x ≡ y
 same_some e = cc
@@ -40,3 +40,14 @@ pub among_first : {A : Type 0} (xs ys : List A) (i : ℕ) (x : A) → i < length
 among_first [] ys i x less h = absurd (omega (arith, less))
 among_first (z ∷ xs) ys zero x less h = h
 among_first (z ∷ xs) ys (suc i) x less h = among_first xs ys i x (omega (arith, less)) h
+
+-- what stands there with one more behind
+pub before_or_last : {A : Type 0} (xs : List A) (x : A) (j : ℕ) (y : A) → slice_get (xs ++ x ∷ []) j ≡ Some y → (slice_get xs j ≡ Some y) ⊎ ((j ≡ length xs) × (x ≡ y))
+before_or_last [] x zero y h = inr (refl, same_some h)
+before_or_last [] x (suc j) y h = absurd (cc)
+before_or_last (z ∷ xs) x zero y h = inl h
+before_or_last (z ∷ xs) x (suc j) y h = go (before_or_last xs x j y h)
+  where
+    go : (slice_get xs j ≡ Some y) ⊎ ((j ≡ length xs) × (x ≡ y)) → (slice_get xs j ≡ Some y) ⊎ ((suc j ≡ suc (length xs)) × (x ≡ y))
+    go (inl e) = inl e
+    go (inr e) = inr (ap (λ i. suc i) e.0, e.1)

@@ -5,7 +5,7 @@ use Rattle.capnp_schema.specs.Schema.{Node, Schemas}
 use Rattle.capnp_request.specs.Names.{dotted_of, has_colon}
 use Rattle.capnp_request.specs.Scopes.{scopes_of}
 use Rattle.capnp_request.specs.Terms.{RequestTerm, Said, SchemaNode}
-use Rattle.capnp_request.specs.Types.{is_entry_of, same_bound}
+use Rattle.capnp_request.specs.Types.{is_entry_of, is_struct_kind, same_bound}
 use Rattle.capnp_request.specs.Work.{Bound, Entry, Whole}
 use Rattle.capnp_request_meaning.specs.Laws.{HasOwnNames, IsUnboundAt, UnboundNamesDiffer}
 use Rattle.capnp_request_meaning.specs.Meaning.{AreEntries, AreUnbound, IsEntryAt, IsEntryName, IsNameOf, IsSetOf, IsTaken, Numbers, numbers_in, without_types}
@@ -16,7 +16,7 @@ use Rattle.capnp_request_meaning.proofs.ScopesKept.{same_without}
 use Rattle.capnp_request_meaning.proofs.SetsMeant.{NodeAt, node_of_entry}
 
 -- what stands behind the last colon has none
-no_colon : (xs : List ℕ) → has_colon (dotted_of xs) ≡ false
+pub no_colon : (xs : List ℕ) → has_colon (dotted_of xs) ≡ false
 no_colon [] = refl
 no_colon (x ∷ xs) = go (has_colon (x ∷ xs)) refl (no_colon xs)
   where
@@ -24,10 +24,10 @@ no_colon (x ∷ xs) = go (has_colon (x ∷ xs)) refl (no_colon xs)
     go true is h = h
     go false is h = is
 
-not_dotted : (xs ys : List ℕ) → has_colon xs ≡ true → xs ≡ dotted_of ys → ⊥
+pub not_dotted : (xs ys : List ℕ) → has_colon xs ≡ true → xs ≡ dotted_of ys → ⊥
 not_dotted xs ys h e = true≢false (sym h ∙ (ap has_colon e ∙ no_colon ys))
 
-entry_at : (nodes : List SchemaNode) (entries es : List Entry) (i : ℕ) (e : Entry) → AreEntries nodes entries es → slice_get es i ≡ Some e → IsEntryAt nodes entries e e.place
+pub entry_at : (nodes : List SchemaNode) (entries es : List Entry) (i : ℕ) (e : Entry) → AreEntries nodes entries es → slice_get es i ≡ Some e → IsEntryAt nodes entries e e.place
 entry_at nodes entries [] i e h there = absurd (cc)
 entry_at nodes entries (x ∷ es) zero e h there = subst (λ (y : Entry). IsEntryAt nodes entries y y.place) (same_some there) h.0
 entry_at nodes entries (x ∷ es) (suc i) e h there = entry_at nodes entries es i e h.1 there
@@ -86,14 +86,14 @@ module _ (r : RequestTerm) (strict : Bool) (set : Schemas) (is : IsSetOf r stric
         other = of_another (e.node == f.node) refl
 
         colon_n : has_colon name_n.display ≡ true
-        colon_n = names.file e.node at_i.is.node name_n.display at_i.is.first name_n.said
+        colon_n = names.file e.node at_i.is.node name_n.display at_i.is.first (ap is_struct_kind at_i.is.struct) name_n.said
 
         colon_m : has_colon name_m.display ≡ true
-        colon_m = names.file f.node at_j.is.node name_m.display at_j.is.first name_m.said
+        colon_m = names.file f.node at_j.is.node name_m.display at_j.is.first (ap is_struct_kind at_j.is.struct) name_m.said
 
         not_one : name_n.display ≡ name_m.display → ⊥
         not_one d =
-            let id : e.node ≡ f.node = names.own e.node f.node at_i.is.node at_j.is.node name_m.display at_i.is.first at_j.is.first (name_n.said ∙ ap (λ xs. Ok xs) d) name_m.said in
+            let id : e.node ≡ f.node = names.own e.node f.node at_i.is.node at_j.is.node name_m.display at_i.is.first at_j.is.first (ap is_struct_kind at_i.is.struct) (ap is_struct_kind at_j.is.struct) (name_n.said ∙ ap (λ xs. Ok xs) d) name_m.said in
             true≢false (sym (ap (λ x. e.node == x) (sym id) ∙ eq-eqb e.node e.node refl) ∙ other)
 
         earlier : slice_get at_j.earlier i ≡ Some e

@@ -1,7 +1,7 @@
 -- The display names of entries and enums.
-use Rattle.std.proofs.Common.{ℕ, ◌+◌, ◌-◌, ◌≡◌, ◌∙◌, ◌⊎◌, ◌==◌, ap, append_assoc, drop, inl, inr, refl, subst, sym, length, map, nat_lt, slice_get, Bool, true, false, List, [], ◌∷◌, ◌++◌, Option, Some, None, Ok, Err, zero, suc, ◌&&◌, bytes_eq, not, ◌≤◌}
+use Rattle.std.proofs.Common.{ℕ, ◌+◌, ◌-◌, ◌≡◌, ◌∙◌, ◌⊎◌, ◌==◌, ap, append_assoc, arith, drop, inl, inr, refl, subst, sym, length, map, nat_lt, slice_get, Bool, true, false, List, [], ◌∷◌, ◌++◌, Option, Some, None, Ok, Err, zero, suc, ◌&&◌, bytes_eq, not, ◌≤◌}
 use Rattle.std.proofs.lemmas.Bool.{and_from, and_parts, eqb-true, ltb-false, or_cases, or_left, or_right}
-use Rattle.std.proofs.lemmas.List.{append-nil}
+use Rattle.std.proofs.lemmas.List.{append-nil, length-append}
 use Rattle.std.specs.Str.{is_utf8}
 use Rattle.capnp_device.specs.declared.error.ErrorKind.{ErrorKind}
 use Rattle.capnp_device.specs.declared.error.ErrorKind.TheVariants.{NameNotUtf8, TooManyTypes}
@@ -11,8 +11,9 @@ use Rattle.capnp_request.specs.Order.{Begun, Made, and_said, begin_enum, begin_s
 use Rattle.capnp_request.specs.Scopes.{node_named}
 use Rattle.capnp_request.specs.Terms.{Said, SchemaNode}
 use Rattle.capnp_request.specs.Work.{Bound, Entry, GroupOf, MarkedType, Place, Whole}
-use Rattle.capnp_request_meaning.specs.Meaning.{AreEnumsNamed, AreFirstEnums, AreUnbound, IsEntryName, IsEnumNamed, IsGroupName, IsTaken, Numbers}
+use Rattle.capnp_request_meaning.specs.Meaning.{AreAmongFirst, AreEnumsNamed, AreFirstEnums, AreUnbound, IsEntryName, IsEnumNamed, IsGroupName, IsTaken, Numbers}
 use Rattle.std.proofs.lemmas.Slice.Eq.{bytes_eq-Decides}
+use Rattle.capnp_request_meaning.specs.Plain.{AreNodesPlain}
 use Rattle.capnp_request_meaning.proofs.ListsFound.{IsAmong, same_some}
 
 -- ---- what is said one after another ----
@@ -65,7 +66,7 @@ name_text name out h = subst (λ (xs : List ℕ). is_utf8 xs ≡ true) (name_fin
     go false false is e = absurd (cc)
 
 -- a display name is its file and what stands behind it
-file_dotted : (xs : List ℕ) → file_of xs ++ dotted_of xs ≡ xs
+pub file_dotted : (xs : List ℕ) → file_of xs ++ dotted_of xs ≡ xs
 file_dotted [] = refl
 file_dotted (x ∷ xs) = go (has_colon (x ∷ xs)) (file_dotted xs)
   where
@@ -150,7 +151,7 @@ holder id dotted = record { id = id; dotted = dotted }
 abbrev pub AreHeld : List SchemaNode → List Holder → List Entry → Type 0
 AreHeld nodes hs es = (n : ℕ) (e : Entry) (node : SchemaNode) (display : List ℕ) → slice_get es n ≡ Some e → e.place ≡ Whole → node_named nodes e.node ≡ Some node → node.display_name ≡ Ok display → IsAmong hs (holder e.node (dotted_of display))
 
-taken_among : (hs : List Holder) (h : Holder) (id : ℕ) (dotted : List ℕ) → IsAmong hs h → h.dotted ≡ dotted → (h.id == id) ≡ false → is_taken hs id dotted ≡ true
+pub taken_among : (hs : List Holder) (h : Holder) (id : ℕ) (dotted : List ℕ) → IsAmong hs h → h.dotted ≡ dotted → (h.id == id) ≡ false → is_taken hs id dotted ≡ true
 taken_among hs h id dotted among same other = go hs among.index among.there
   where
     go : (ks : List Holder) (i : ℕ) → slice_get ks i ≡ Some h → is_taken ks id dotted ≡ true
@@ -197,7 +198,7 @@ taken_from (h ∷ hs) id dotted e = go (taken_from hs id dotted) (or_cases (byte
         record { by = h; among = record { index = zero; there = refl }; same = (bytes_eq-Decides h.dotted dotted).0 parts.0; other = not_true (h.id == id) parts.1 }
     go later (inr k) = let t : TakenBy hs id dotted = later k in record { by = t.by; among = record { index = suc t.among.index; there = t.among.there }; same = t.same; other = t.other }
 
-is_taken_by : (nodes : List SchemaNode) (hs : List Holder) (es : List Entry) (id : ℕ) (dotted : List ℕ) → AreHolding nodes hs es → is_taken hs id dotted ≡ true → IsTaken nodes es id dotted
+pub is_taken_by : (nodes : List SchemaNode) (hs : List Holder) (es : List Entry) (id : ℕ) (dotted : List ℕ) → AreHolding nodes hs es → is_taken hs id dotted ≡ true → IsTaken nodes es id dotted
 is_taken_by nodes hs es id dotted holding e =
     let t : TakenBy hs id dotted = taken_from hs id dotted e in
     let h : IsHolder nodes es t.by = holding t.by t.among in
@@ -230,9 +231,13 @@ abbrev pub AreHoldersThen : List Holder → SchemaNode → Entry → Place → L
 AreHoldersThen holders node e Whole after = (display : List ℕ) × (node.display_name ≡ Ok display) × (after ≡ holder e.node (dotted_of display) ∷ holders)
 AreHoldersThen holders node e (GroupOf p i) after = after ≡ holders
 
+-- all that are bound have names, where no member type is one by number
+abbrev pub HaveNames : List SchemaNode → List Node → (names : List (List ℕ)) → List Bound → Type 0
+HaveNames nodes made names bound = AreNodesPlain nodes → AreAmongFirst (length made) (length names) bound
+
 -- whatever is named later, behind entries that have the dotted names
 abbrev pub IsNamedBy : List SchemaNode → (names : List (List ℕ)) → List Holder → List Node → SchemaNode → Entry → Place → List ℕ → Type 0
-IsNamedBy nodes names holders made node e p name = (strict : Bool) (entries : List Entry) (ids : List ℕ) (earlier : List Entry) → AreFirstEnums (numbers_with nodes strict entries ids) names → AreHeld nodes holders earlier → AreHolding nodes holders earlier → IsEntryName (numbers_with nodes strict entries ids) earlier made node e p name
+IsNamedBy nodes names holders made node e p name = (strict : Bool) (entries : List Entry) (ids : List ℕ) (earlier : List Entry) → AreFirstEnums (numbers_with nodes strict entries ids) names → AreHeld nodes holders earlier → AreHolding nodes holders earlier → HaveNames nodes made names e.bound → IsEntryName (numbers_with nodes strict entries ids) earlier made node e p name
 
 abbrev pub IsNamedSo : List SchemaNode → (names : List (List ℕ)) → List Holder → List Node → SchemaNode → Entry → Place → List ℕ → List Holder → Type 0
 IsNamedSo nodes names holders made node e p name after = IsNamedBy nodes names holders made node e p name × AreHoldersThen holders node e p after × (length name ≤ 1024) × (is_utf8 name ≡ true)
@@ -295,7 +300,7 @@ module _ (nodes : List SchemaNode) where
     entry_name (GroupOf parent field) node name after first h =
         let named = chained (group_name (slice_get made parent) field) with_holders (name, after) h in
         let is : named.value ≡ name = first_same named.value name holders after named.rest in
-        (λ strict entries ids earlier firsts held holding. group_named made parent field name (slice_get made parent) refl (named.first ∙ ap (λ x. Ok x) is), sym (second_same named.value name holders after named.rest), group_short (slice_get made parent) field name (named.first ∙ ap (λ x. Ok x) is), group_text (slice_get made parent) field name (named.first ∙ ap (λ x. Ok x) is))
+        (λ strict entries ids earlier firsts held holding below. group_named made parent field name (slice_get made parent) refl (named.first ∙ ap (λ x. Ok x) is), sym (second_same named.value name holders after named.rest), group_short (slice_get made parent) field name (named.first ∙ ap (λ x. Ok x) is), group_text (slice_get made parent) field name (named.first ∙ ap (λ x. Ok x) is))
     entry_name Whole node name after first h =
         let found = chained (node_there (node_named nodes e.node)) with_shown (name, after) h in
         let shown = chained found.value.display_name with_display (name, after) found.rest in
@@ -304,12 +309,13 @@ module _ (nodes : List SchemaNode) where
         let is_name : named.value ≡ name = first_same named.value name (record { id = e.node; dotted = dotted_of shown.value } ∷ holders) after named.rest in
         let is : struct_name structs_made enums holders e.node e.bound shown.value ≡ Ok name = named.first ∙ ap (λ x. Ok x) is_name in
         let said : node.display_name ≡ Ok shown.value = ap (λ (n : SchemaNode). n.display_name) (sym is_node) ∙ shown.first in (
-          λ strict entries ids earlier firsts held holding. record {
+          λ strict entries ids earlier firsts held holding below. record {
             display = shown.value;
             enums = enums;
             with_file = is_taken holders e.node (dotted_of shown.value);
             said = said;
             first_enums = firsts;
+            have_names = below;
             is = sym (name_finished (file_where (is_taken holders e.node (dotted_of shown.value)) shown.value ++ whole_name structs_made enums e.bound shown.value) name is);
             taken = λ t. taken_among holders (holder t.entry.node (dotted_of t.display)) e.node (dotted_of shown.value) (held t.number t.entry t.node t.display t.numbered t.whole t.first t.said) t.same t.other;
             free = λ t. is_taken_by nodes holders earlier e.node (dotted_of shown.value) holding t;
@@ -393,6 +399,26 @@ module _ (nodes : List SchemaNode) where
       }
 
   -- ---- the names of the first enums ----
+
+  names_longer : (ids : List ℕ) (before names : List (List ℕ)) → enum_names nodes ids before ≡ Ok names → length names ≡ length before + length ids
+  names_longer [] before names e = let same : before ≡ names = said_same before names e in let count : length before ≡ length names = ap (λ xs. length xs) same in omega (arith, count)
+  names_longer (id ∷ ids) before names e =
+      let one = chained (begin_enum nodes id) (λ b. enum_names nodes ids (before ++ b.0 ∷ [])) names e in
+      let rest : length names ≡ length (before ++ one.value.0 ∷ []) + length ids = names_longer ids (before ++ one.value.0 ∷ []) names one.rest in
+      let more : length (before ++ one.value.0 ∷ []) ≡ length before + 1 = length-append before (one.value.0 ∷ []) in
+      omega (arith, rest, more)
+
+  left_over : (k : ℕ) (ids : List ℕ) → length ids ≤ k + length (drop k ids)
+  left_over zero ids = omega arith
+  left_over (suc k) [] = omega arith
+  left_over (suc k) (id ∷ ids) = let rest : length ids ≤ k + length (drop k ids) = left_over k ids in omega (arith, rest)
+
+  -- all ids have names then
+  pub names_cover : (ids : List ℕ) (before names : List (List ℕ)) → enum_names nodes (drop (length before) ids) before ≡ Ok names → length ids ≤ length names
+  names_cover ids before names e =
+      let longer : length names ≡ length before + length (drop (length before) ids) = names_longer (drop (length before) ids) before names e in
+      let left : length ids ≤ length before + length (drop (length before) ids) = left_over (length before) ids in
+      omega (arith, longer, left)
 
   enums_named : (ids js : List ℕ) (before names : List (List ℕ)) → AreEnumsNamed nodes ids before → enum_names nodes js before ≡ Ok names → AreEnumsNamed nodes (ids ++ js) names
   enums_named ids [] before names h e = subst (λ xs. AreEnumsNamed nodes xs names) (sym (append-nil ids)) (subst (AreEnumsNamed nodes ids) (said_same before names e) h)

@@ -5,18 +5,20 @@ use Rattle.std.proofs.lemmas.Option.{slice_get_within}
 use Rattle.std.specs.Str.{is_utf8}
 use Rattle.capnp_device.specs.declared.error.ErrorKind.{ErrorKind}
 use Rattle.capnp_schema.specs.Schema.{Brand, Enum, Node}
-use Rattle.capnp_request.specs.Order.{Begun, Made, add_struct, begin_struct, enum_names, make_all, make_enum, make_next, make_struct, struct_made, with_struct}
-use Rattle.capnp_request.specs.Scopes.{node_named}
-use Rattle.capnp_request.specs.Terms.{Said, SchemaNode}
-use Rattle.capnp_request.specs.Types.{is_entry_of}
-use Rattle.capnp_request.specs.Work.{Entry, Named, Whole, Work, work_continued, work_of, GroupOf, Place}
-use Rattle.capnp_request_meaning.specs.Meaning.{AreDistinct, AreEntries, AreEnumsOf, AreFirstEnums, AreNodesFrom, IsEntryAt, IsEntryName, IsEnumOf, IsNodeOf, Numbers}
+use Rattle.capnp_request.specs.Order.{Begun, Made, add_struct, begin_struct, enum_names, make_all, make_enum, make_next, make_struct, nothing_made, struct_made, with_struct}
+use Rattle.capnp_request.specs.Scopes.{node_named, scopes_of}
+use Rattle.capnp_request.specs.Terms.{FieldTerm, GroupTerm, Said, SchemaNode, StructNode, StructPart}
+use Rattle.capnp_request.specs.Types.{entry_number, is_entry_of}
+use Rattle.capnp_request.specs.Work.{Bound, Entry, GroupOf, Named, Place, Whole, Work, work_continued, work_of}
+use Rattle.capnp_request_meaning.specs.Meaning.{AreDistinct, AreEntries, AreEnumsOf, AreFirstEnums, AreNodesFrom, IsEntryAt, IsEntryName, IsEnumOf, IsNodeOf, Numbers, without_types}
 use Rattle.capnp_request_meaning.proofs.EntriesKept.{KeepsWhole, not_among, whole_entry}
 use Rattle.capnp_request_meaning.proofs.EnumsMeant.{IsEnumAdded, enum_added}
 use Rattle.capnp_request_meaning.proofs.FieldsMeant.{group_entry}
-use Rattle.capnp_request_meaning.proofs.ListsFound.{IsAmong, Next, last_at, next_of, same_some, still_at}
-use Rattle.capnp_request_meaning.proofs.NamesMeant.{AreHeld, AreHolding, AreHoldersThen, IsBegun, IsHolder, enums_begun, first_enums_more, holder, struct_begun}
+use Rattle.capnp_request_meaning.proofs.ListsFound.{IsAmong, Next, before_or_last, last_at, next_of, same_some, still_at}
+use Rattle.capnp_request_meaning.proofs.NamesMeant.{AreHeld, AreHolding, AreHoldersThen, HaveNames, IsBegun, IsHolder, enums_begun, first_enums_more, holder, names_cover, struct_begun}
 use Rattle.capnp_request_meaning.proofs.NodesMeant.{IsMade, KeepsFields, struct_meant}
+use Rattle.capnp_request_meaning.proofs.NumbersBelow.{among_more}
+use Rattle.capnp_request_meaning.proofs.NumbersKept.{IsFit, enum_fit, struct_fit}
 use Rattle.capnp_request_meaning.proofs.TypesMeant.{numbers}
 use Rattle.capnp_request_meaning.proofs.Works.{Done, Grows, IfDone, IsWork, bind, entry_still, enum_still, grows_none, grows_on, of_work, said_bind}
 use Rattle.capnp_request.specs.Names.{Holder, dotted_of}
@@ -31,26 +33,16 @@ entries_more : (nodes : List SchemaNode) (all es : List Entry) (e : Entry) → A
 entries_more nodes all [] e h is = (is, tt)
 entries_more nodes all (x ∷ es) e h is = (h.0, entries_more nodes all es e h.1 is)
 
-stay_more : (nodes : List SchemaNode) (es : List Entry) (e : Entry) → StayEntries nodes es → ((all more : List Entry) → all ≡ (es ++ e ∷ []) ++ more → IsEntryAt nodes all e e.place) → StayEntries nodes (es ++ e ∷ [])
+pub stay_more : (nodes : List SchemaNode) (es : List Entry) (e : Entry) → StayEntries nodes es → ((all more : List Entry) → all ≡ (es ++ e ∷ []) ++ more → IsEntryAt nodes all e e.place) → StayEntries nodes (es ++ e ∷ [])
 stay_more nodes es e k is all more eq = entries_more nodes all es e (k all (e ∷ more) (eq ∙ append_assoc es (e ∷ []) more)) (is all more eq)
 
 -- ---- no two are the same ----
 
-pub before_or_last : {A : Type 0} (xs : List A) (x : A) (j : ℕ) (y : A) → slice_get (xs ++ x ∷ []) j ≡ Some y → (slice_get xs j ≡ Some y) ⊎ ((j ≡ length xs) × (x ≡ y))
-before_or_last [] x zero y h = inr (refl, same_some h)
-before_or_last [] x (suc j) y h = absurd (cc)
-before_or_last (z ∷ xs) x zero y h = inl h
-before_or_last (z ∷ xs) x (suc j) y h = go (before_or_last xs x j y h)
-  where
-    go : (slice_get xs j ≡ Some y) ⊎ ((j ≡ length xs) × (x ≡ y)) → (slice_get xs j ≡ Some y) ⊎ ((suc j ≡ suc (length xs)) × (x ≡ y))
-    go (inl e) = inl e
-    go (inr e) = inr (ap (λ i. suc i) e.0, e.1)
-
 -- no entry is the same as one that is added
-abbrev IsOther : List Entry → Entry → Type 0
+abbrev pub IsOther : List Entry → Entry → Type 0
 IsOther es g = (i : ℕ) (e : Entry) → slice_get es i ≡ Some e → g.place ≡ Whole → is_entry_of g.node g.bound e e.place ≡ false
 
-distinct_more : (es : List Entry) (g : Entry) → AreDistinct es → IsOther es g → AreDistinct (es ++ g ∷ [])
+pub distinct_more : (es : List Entry) (g : Entry) → AreDistinct es → IsOther es g → AreDistinct (es ++ g ∷ [])
 distinct_more es g k other i j e f less at_i at_j whole = go (before_or_last es g i e at_i) (before_or_last es g j f at_j)
   where
     go : (slice_get es i ≡ Some e) ⊎ ((i ≡ length es) × (g ≡ e)) → (slice_get es j ≡ Some f) ⊎ ((j ≡ length es) × (g ≡ f)) → is_entry_of f.node f.bound e e.place ≡ false
@@ -74,45 +66,56 @@ one_more es e h =
 pub stay_none : (nodes : List SchemaNode) → Stay nodes []
 stay_none nodes = record { entries = λ all more is. tt; distinct = λ i j e f less at_i at_j whole. absurd (cc); few = omega arith }
 
+-- a struct node that isn't there with these bindings
+pub whole_stays : (nodes : List SchemaNode) (es : List Entry) (id : ℕ) (bound : List Bound) → entry_number id bound es 0 ≡ None → scopes_of nodes id ≡ Ok (map without_types bound) → Stay nodes es → StayEntries nodes (es ++ whole_entry id bound ∷ []) × AreDistinct (es ++ whole_entry id bound ∷ [])
+whole_stays nodes es id bound none scopes k = (
+  stay_more nodes es (whole_entry id bound) k.entries (λ all more eq. scopes),
+  distinct_more es (whole_entry id bound) k.distinct (λ i e there whole. not_among id bound es 0 i e none there),
+)
+
 pub stay_whole : (nodes : List SchemaNode) → KeepsWhole (Stay nodes) nodes
-stay_whole nodes es id bound few none scopes k = record {
-  entries = stay_more nodes es (whole_entry id bound) k.entries (λ all more eq. scopes);
-  distinct = distinct_more es (whole_entry id bound) k.distinct (λ i e there whole. not_among id bound es 0 i e none there);
-  few = one_more es (whole_entry id bound) few;
-}
+stay_whole nodes es id bound few none scopes k =
+    let stays : StayEntries nodes (es ++ whole_entry id bound ∷ []) × AreDistinct (es ++ whole_entry id bound ∷ []) = whole_stays nodes es id bound none scopes k in
+    record { entries = stays.0; distinct = stays.1; few = one_more es (whole_entry id bound) few }
 
 -- the same, with the entry that is worked on at its number
-abbrev StayWith : List SchemaNode → (n : ℕ) → Entry → List Entry → Type 0
+abbrev pub StayWith : List SchemaNode → (n : ℕ) → Entry → List Entry → Type 0
 StayWith nodes n parent es = (slice_get es n ≡ Some parent) × Stay nodes es
 
-with_whole : (nodes : List SchemaNode) (n : ℕ) (parent : Entry) → KeepsWhole (StayWith nodes n parent) nodes
+pub with_whole : (nodes : List SchemaNode) (n : ℕ) (parent : Entry) → KeepsWhole (StayWith nodes n parent) nodes
 with_whole nodes n parent es id bound few none scopes k = (still_at es (whole_entry id bound ∷ []) n parent k.0, stay_whole nodes es id bound few none scopes k.1)
 
-with_groups : (nodes : List SchemaNode) (n : ℕ) (parent : Entry) (node : SchemaNode) → node_named nodes parent.node ≡ Some node → KeepsFields (StayWith nodes n parent) parent.bound n node
-with_groups nodes n parent node first part members struct listed es i id f few there is k =
+-- a group that a field of an entry's node names
+pub group_stays : (nodes : List SchemaNode) (n : ℕ) (parent : Entry) (node : SchemaNode) (part : StructPart) (members : List (Said FieldTerm)) (first : node_named nodes parent.node ≡ Some node) (struct : node.kind ≡ StructNode part) (listed : part.fields ≡ Ok members)
+    (es : List Entry) (i id : ℕ) (f : FieldTerm) → slice_get members i ≡ Some (Ok f) → f.kind ≡ GroupTerm id → StayWith nodes n parent es
+    → StayEntries nodes (es ++ group_entry id parent.bound n i ∷ []) × AreDistinct (es ++ group_entry id parent.bound n i ∷ [])
+group_stays nodes n parent node part members first struct listed es i id f there is k =
     let e : Entry = group_entry id parent.bound n i in
     let here : slice_get (es ++ e ∷ []) n ≡ Some parent = still_at es (e ∷ []) n parent k.0 in
     let kept : Stay nodes es = k.1 in (
-      here,
-      record {
-        entries = stay_more nodes es e kept.entries (λ all more eq. record {
-          parent = parent;
-          node = node;
-          part = part;
-          members = members;
-          field = f;
-          numbered = ap (λ xs. slice_get xs n) eq ∙ still_at (es ++ e ∷ []) more n parent here;
-          same_bound = refl;
-          first = first;
-          struct = struct;
-          listed = listed;
-          member = there;
-          group = is;
-        });
-        distinct = distinct_more es e kept.distinct (λ j x there whole. absurd (cc));
-        few = one_more es e few;
-      },
+      stay_more nodes es e kept.entries (λ all more eq. record {
+        parent = parent;
+        node = node;
+        part = part;
+        members = members;
+        field = f;
+        numbered = ap (λ xs. slice_get xs n) eq ∙ still_at (es ++ e ∷ []) more n parent here;
+        same_bound = refl;
+        first = first;
+        struct = struct;
+        listed = listed;
+        member = there;
+        group = is;
+      }),
+      distinct_more es e kept.distinct (λ j x there whole. absurd (cc)),
     )
+
+pub with_groups : (nodes : List SchemaNode) (n : ℕ) (parent : Entry) (node : SchemaNode) → node_named nodes parent.node ≡ Some node → KeepsFields (StayWith nodes n parent) parent.bound n node
+with_groups nodes n parent node first part members struct listed es i id f few there is k =
+    let e : Entry = group_entry id parent.bound n i in
+    let here : slice_get (es ++ e ∷ []) n ≡ Some parent = still_at es (e ∷ []) n parent k.0 in
+    let stays : StayEntries nodes (es ++ e ∷ []) × AreDistinct (es ++ e ∷ []) = group_stays nodes n parent node part members first struct listed es i id f there is k in
+    (here, record { entries = stays.0; distinct = stays.1; few = one_more es e few })
 
 -- ---- nodes one after another ----
 
@@ -191,16 +194,26 @@ pub record AreMade (nodes : List SchemaNode) (strict : Bool) (m : Made) (z : Nam
   pub meant : AreNodesFrom (numbers nodes strict z) [] [] done m.nodes m.brands
   pub enumerated : AreEnumsOf (numbers nodes strict z) m.enums
 
-record IsAdded (nodes : List SchemaNode) (strict : Bool) (ids : List ℕ) (m after : Made) (e : Entry) (z : Named) : Type 0 where
-  node : Node
-  brand : Brand
-  nodes_are : after.nodes ≡ m.nodes ++ node ∷ []
-  brands_are : after.brands ≡ m.brands ++ brand ∷ []
-  enums_are : after.enums ≡ m.enums
-  is : (earlier : List Entry) → AreFirstEnums (numbers nodes strict z) after.enum_names → AreHeld nodes m.holders earlier → AreHolding nodes m.holders earlier → IsNodeOf (numbers nodes strict z) earlier m.nodes e node brand
-  held : (earlier : List Entry) → AreHeld nodes m.holders earlier → AreHeld nodes after.holders (earlier ++ e ∷ [])
-  holding : (earlier : List Entry) → AreHolding nodes m.holders earlier → AreHolding nodes after.holders (earlier ++ e ∷ [])
-  named : enum_names nodes (drop (length m.enum_names) ids) m.enum_names ≡ Ok after.enum_names
+-- before the first
+none_held : (h : Holder) → IsAmong [] h → ⊥
+none_held h among = go among.index among.there
+  where
+    go : (i : ℕ) → slice_get [] i ≡ Some h → ⊥
+    go i e = cc
+
+pub none_made : (nodes : List SchemaNode) (strict : Bool) (z : Named) → AreMade nodes strict nothing_made z
+none_made nodes strict z = record { done = []; rest = z.entries; more = z.enums; entries_are = refl; enums_are = refl; held = λ n e node display there whole first said. absurd (cc); holding = λ h among. absurd (none_held h among); named = record { ids = []; more = z.enums; are = refl; named = tt }; meant = tt; enumerated = tt }
+
+pub record IsAdded (nodes : List SchemaNode) (strict : Bool) (ids : List ℕ) (m after : Made) (e : Entry) (z : Named) : Type 0 where
+  pub node : Node
+  pub brand : Brand
+  pub nodes_are : after.nodes ≡ m.nodes ++ node ∷ []
+  pub brands_are : after.brands ≡ m.brands ++ brand ∷ []
+  pub enums_are : after.enums ≡ m.enums
+  pub is : (earlier : List Entry) → AreFirstEnums (numbers nodes strict z) after.enum_names → AreHeld nodes m.holders earlier → AreHolding nodes m.holders earlier → HaveNames nodes m.nodes after.enum_names e.bound → IsNodeOf (numbers nodes strict z) earlier m.nodes e node brand
+  pub held : (earlier : List Entry) → AreHeld nodes m.holders earlier → AreHeld nodes after.holders (earlier ++ e ∷ [])
+  pub holding : (earlier : List Entry) → AreHolding nodes m.holders earlier → AreHolding nodes after.holders (earlier ++ e ∷ [])
+  pub named : enum_names nodes (drop (length m.enum_names) ids) m.enum_names ≡ Ok after.enum_names
 
 -- from s, with m made, to the end
 pub record Ends (nodes : List SchemaNode) (strict : Bool) (s : Named) (m after : Made) (t : Named) : Type 0 where
@@ -211,13 +224,13 @@ pub record Ends (nodes : List SchemaNode) (strict : Bool) (s : Named) (m after :
   pub no_enum : slice_get t.enums (length after.enums) ≡ None
 
 module _ (nodes : List SchemaNode) (strict : Bool) where
-  entry_made : (ids more : List ℕ) (m after : Made) (e : Entry) (z : Named) → z.enums ≡ ids ++ more → slice_get z.entries (length m.nodes) ≡ Some e → IsAdded nodes strict ids m after e z → AreMade nodes strict m z → AreMade nodes strict after z
-  entry_made ids more m after e z grown there added made =
+  entry_made : (ids more : List ℕ) (m after : Made) (e : Entry) (z : Named) → z.enums ≡ ids ++ more → slice_get z.entries (length m.nodes) ≡ Some e → IsAdded nodes strict ids m after e z → HaveNames nodes m.nodes after.enum_names e.bound → AreMade nodes strict m z → AreMade nodes strict after z
+  entry_made ids more m after e z grown there added below made =
       let named : AreFirstEnums (numbers nodes strict z) after.enum_names = first_enums_more nodes (numbers nodes strict z) refl m.enum_names after.enum_names ids more made.named added.named grown in
       let count : length made.done ≡ length m.nodes = nodes_counted (numbers nodes strict z) [] [] made.done m.nodes m.brands made.meant in
       let behind : slice_get (made.done ++ made.rest) (length made.done) ≡ Some e = ap (λ i. slice_get (made.done ++ made.rest) i) count ∙ (ap (λ xs. slice_get xs (length m.nodes)) (sym made.entries_are) ∙ there) in
       let next : Next made.rest e = next_of made.done made.rest e behind in
-      let longer : AreNodesFrom (numbers nodes strict z) [] [] (made.done ++ e ∷ []) (m.nodes ++ added.node ∷ []) (m.brands ++ added.brand ∷ []) = nodes_more (numbers nodes strict z) made.done m.nodes e added.node added.brand (added.is made.done named made.held made.holding) [] [] made.done m.nodes m.brands refl refl made.meant in
+      let longer : AreNodesFrom (numbers nodes strict z) [] [] (made.done ++ e ∷ []) (m.nodes ++ added.node ∷ []) (m.brands ++ added.brand ∷ []) = nodes_more (numbers nodes strict z) made.done m.nodes e added.node added.brand (added.is made.done named made.held made.holding below) [] [] made.done m.nodes m.brands refl refl made.meant in
       record {
         done = made.done ++ e ∷ [];
         rest = next.more;
@@ -258,7 +271,7 @@ module _ (nodes : List SchemaNode) (strict : Bool) where
   IsStep s m r = IfDone (λ (after : Made) t. Done (Stay nodes) s t (λ z. AreMade nodes strict m z → AreMade nodes strict after z)) r
 
   module _ (m : Made) (e : Entry) (s : Named) (here : slice_get s.entries (length m.nodes) ≡ Some e) where
-    abbrev Kept : List Entry → Type 0
+    abbrev pub Kept : List Entry → Type 0
     Kept = StayWith nodes (length m.nodes) e
 
     struct_added : (b : Begun) → IsBegun nodes m e b → enum_names nodes (drop (length m.enum_names) s.enums) m.enum_names ≡ Ok b.enum_names → IsWork Kept (add_struct nodes strict m e.node e.bound b) (λ after z. IsAdded nodes strict s.enums m after e z)
@@ -271,7 +284,7 @@ module _ (nodes : List SchemaNode) (strict : Bool) where
           nodes_are = refl;
           brands_are = refl;
           enums_are = refl;
-          is = λ earlier firsts held holding. record {
+          is = λ earlier firsts held holding below. record {
             node = b.node;
             part = h.part;
             members = h.members;
@@ -279,7 +292,7 @@ module _ (nodes : List SchemaNode) (strict : Bool) where
             struct = h.struct;
             listed = h.listed;
             id = h.is_id;
-            name = subst (λ (x : List ℕ). IsEntryName (numbers nodes strict z) earlier m.nodes b.node e e.place x) (sym h.is_name) (begun.name strict z.entries z.enums earlier firsts held holding);
+            name = subst (λ (x : List ℕ). IsEntryName (numbers nodes strict z) earlier m.nodes b.node e e.place x) (sym h.is_name) (begun.name strict z.entries z.enums earlier firsts held holding below);
             short = subst (λ (x : List ℕ). length x ≤ 1024) (sym h.is_name) begun.short;
             text = subst (λ (x : List ℕ). is_utf8 x ≡ true) (sym h.is_name) begun.text;
             annotations = h.annotations;
@@ -296,16 +309,23 @@ module _ (nodes : List SchemaNode) (strict : Bool) where
           named = named;
         }))
 
-    without_parent : (r : Result (Made × Named) ErrorKind) → IfDone (λ (after : Made) t. Done Kept s t (λ z. IsAdded nodes strict s.enums m after e z)) r → IsStep s m r
-    without_parent (Err kind) h = tt
-    without_parent (Ok p) h = record {
+    -- what is bound has names before the entry
+    bound_named : IsFit nodes s → (after : Made) → enum_names nodes (drop (length m.enum_names) s.enums) m.enum_names ≡ Ok after.enum_names → HaveNames nodes m.nodes after.enum_names e.bound
+    bound_named fit after named are_plain = among_more (length m.nodes) (length m.nodes) (length s.enums) (length after.enum_names) (omega arith) (names_cover nodes s.enums m.enum_names after.enum_names named) e.bound (fit are_plain (length m.nodes) e here)
+
+    without_parent : IsFit nodes s → (r : Result (Made × Named) ErrorKind) → IfDone (λ (after : Made) t. Done Kept s t (λ z. IsAdded nodes strict s.enums m after e z)) r → IsStep s m r
+    without_parent fit (Err kind) h = tt
+    without_parent fit (Ok p) h = record {
       grown = h.grown;
       kept = λ k. (h.kept (here, k)).1;
-      later = λ z g made. let grown : Grows s z = grows_on s p.1 z h.grown g in entry_made s.enums grown.enums m p.0 e z grown.enums_are (entry_still s z grown (length m.nodes) e here) (h.later z g) made;
+      later = λ z g made. let grown : Grows s z = grows_on s p.1 z h.grown g in entry_made s.enums grown.enums m p.0 e z grown.enums_are (entry_still s z grown (length m.nodes) e here) (h.later z g) (let added : IsAdded nodes strict s.enums m p.0 e z = h.later z g in bound_named fit p.0 added.named) made;
     }
 
-    pub struct_step : IsStep s m (make_struct nodes strict m e s)
-    struct_step = without_parent (make_struct nodes strict m e s) (said_bind Kept (begin_struct nodes m e s.enums) (add_struct nodes strict m e.node e.bound) (λ after z. IsAdded nodes strict s.enums m after e z) (λ b h. struct_added b (struct_begun nodes m e s.enums b h) (enums_begun nodes m e s.enums b h)) s)
+    pub struct_is_added : IfDone (λ (after : Made) t. Done Kept s t (λ z. IsAdded nodes strict s.enums m after e z)) (make_struct nodes strict m e s)
+    struct_is_added = said_bind Kept (begin_struct nodes m e s.enums) (add_struct nodes strict m e.node e.bound) (λ after z. IsAdded nodes strict s.enums m after e z) (λ b h. struct_added b (struct_begun nodes m e s.enums b h) (enums_begun nodes m e s.enums b h)) s
+
+    pub struct_step : IsFit nodes s → IsStep s m (make_struct nodes strict m e s)
+    struct_step fit = without_parent fit (make_struct nodes strict m e s) struct_is_added
 
   module _ (m : Made) (id : ℕ) (s : Named) (here : slice_get s.enums (length m.enums) ≡ Some id) where
     as_step : (r : Result (Made × Named) ErrorKind) → IfDone (λ (after : Made) t. Done (Stay nodes) s t (λ z. IsEnumAdded (numbers nodes strict z) m after id)) r → IsStep s m r
@@ -334,15 +354,18 @@ module _ (nodes : List SchemaNode) (strict : Bool) where
     no_enum = h.no_enum;
   }
 
-  ends_after : (again : Made → Work Made) → ((m : Made) (s : Named) → IfEnds s m (again m s)) → (s : Named) (m : Made) (r : Result (Made × Named) ErrorKind) → IsStep s m r → IfEnds s m (work_continued again r)
-  ends_after again h s m (Err kind) d = tt
-  ends_after again h s m (Ok p) d = ends_on s m p.0 p.1 (again p.0 p.1) d (h p.0 p.1)
+  abbrev IsEnding : (Made → Work Made) → Type 0
+  IsEnding again = (m : Made) (s : Named) → IsFit nodes s → IfEnds s m (again m s)
 
-  next_ends : (again : Made → Work Made) → ((m : Made) (s : Named) → IfEnds s m (again m s)) → (m : Made) (s : Named) (o : Option Entry) (q : Option ℕ) → slice_get s.entries (length m.nodes) ≡ o → slice_get s.enums (length m.enums) ≡ q → IfEnds s m (make_next nodes strict again m o q s)
-  next_ends again h m s (Some e) q entry enum = ends_after again h s m (make_struct nodes strict m e s) (struct_step m e s entry)
-  next_ends again h m s None (Some id) entry enum = ends_after again h s m (make_enum nodes strict m id s) (enum_step m id s enum)
-  next_ends again h m s None None entry enum = record { grown = grows_none s; kept = λ k. k; made = λ first. first; no_entry = entry; no_enum = enum }
+  ends_after : (again : Made → Work Made) → IsEnding again → (s : Named) (m : Made) (r : Result (Made × Named) ErrorKind) → IsStep s m r → IfDone (λ (after : Made) t. IsFit nodes t) r → IfEnds s m (work_continued again r)
+  ends_after again h s m (Err kind) d fit = tt
+  ends_after again h s m (Ok p) d fit = ends_on s m p.0 p.1 (again p.0 p.1) d (h p.0 p.1 fit)
 
-  pub all_end : (steps : ℕ) (m : Made) (s : Named) → IfEnds s m (make_all nodes strict steps m s)
-  all_end zero m s = tt
-  all_end (suc steps) m s = next_ends (make_all nodes strict steps) (all_end steps) m s (slice_get s.entries (length m.nodes)) (slice_get s.enums (length m.enums)) refl refl
+  next_ends : (again : Made → Work Made) → IsEnding again → (m : Made) (s : Named) (o : Option Entry) (q : Option ℕ) → slice_get s.entries (length m.nodes) ≡ o → slice_get s.enums (length m.enums) ≡ q → IsFit nodes s → IfEnds s m (make_next nodes strict again m o q s)
+  next_ends again h m s (Some e) q entry enum fit = ends_after again h s m (make_struct nodes strict m e s) (struct_step m e s entry fit) (struct_fit nodes strict m e s entry fit)
+  next_ends again h m s None (Some id) entry enum fit = ends_after again h s m (make_enum nodes strict m id s) (enum_step m id s enum) (enum_fit nodes strict m id s fit)
+  next_ends again h m s None None entry enum fit = record { grown = grows_none s; kept = λ k. k; made = λ first. first; no_entry = entry; no_enum = enum }
+
+  pub all_end : (steps : ℕ) → IsEnding (make_all nodes strict steps)
+  all_end zero m s fit = tt
+  all_end (suc steps) m s fit = next_ends (make_all nodes strict steps) (all_end steps) m s (slice_get s.entries (length m.nodes)) (slice_get s.enums (length m.enums)) refl refl fit

@@ -20,12 +20,13 @@ use Rattle.capnp_request_meaning.proofs.ListsFound.{among_first}
 use Rattle.capnp_request_meaning.proofs.NamesMeant.{IsBegun, IsEnumBegun, enum_begun, struct_begun}
 use Rattle.capnp_request_meaning.proofs.NamesSound.{IsFieldMade, IsReady, begin_said, enum_said, id_at, said_at}
 use Rattle.capnp_request_meaning.proofs.WorkSound.{IfGood, IsGood, IsOther, good_bind, good_said}
-use Rattle.capnp_request_meaning.proofs.OrderMeant.{AreMade, IsStep, enum_step, nodes_counted, struct_step}
-use Rattle.capnp_request_meaning.proofs.SetsMeant.{NodeAt, node_of_entry, none_held}
+use Rattle.capnp_request_meaning.proofs.NumbersKept.{IsFit, enum_fit, files_fit, struct_fit}
+use Rattle.capnp_request_meaning.proofs.OrderMeant.{AreMade, IsStep, enum_step, nodes_counted, none_made, struct_step}
+use Rattle.capnp_request_meaning.proofs.SetsMeant.{NodeAt, node_of_entry}
 use Rattle.capnp_request_meaning.proofs.TextsKept.{AreTexts, dotted_text}
 use Rattle.capnp_request_meaning.proofs.TypesMeant.{numbers}
 use Rattle.capnp_request_meaning.proofs.TypesSound.{AreNodesSound, scopes_said, struct_good}
-use Rattle.capnp_request_meaning.proofs.Works.{Grows, grows_none, grows_on}
+use Rattle.capnp_request_meaning.proofs.Works.{Grows, IfDone, grows_none, grows_on}
 
 -- ---- the parent of a group has the field ----
 
@@ -124,20 +125,20 @@ module _ (cause : Refusal) (other : IsOther cause) (nodes : List SchemaNode) (na
   AreMadeLater m s = (z : Named) → Grows s z → AreMade nodes cause.strict m z
 
   abbrev NeverMissing : (Made → Work Made) → Type 0
-  NeverMissing again = (m : Made) (s : Named) → Fine cause nodes s → AreMadeLater m s → IfGood cause AnyState (again m s)
+  NeverMissing again = (m : Made) (s : Named) → Fine cause nodes s → AreMadeLater m s → IsFit nodes s → IfGood cause AnyState (again m s)
 
-  step_then : (again : Made → Work Made) → NeverMissing again → (s : Named) (m : Made) (r : Result (Made × Named) ErrorKind) → AreMadeLater m s → IfGood cause (Fine cause nodes) r → IsStep nodes cause.strict s m r → IfGood cause AnyState (work_continued again r)
-  step_then again h s m (Err kind) later good step = good
-  step_then again h s m (Ok p) later good step = h p.0 p.1 good (λ z g. step.later z g (later z (grows_on s p.1 z step.grown g)))
+  step_then : (again : Made → Work Made) → NeverMissing again → (s : Named) (m : Made) (r : Result (Made × Named) ErrorKind) → AreMadeLater m s → IfGood cause (Fine cause nodes) r → IsStep nodes cause.strict s m r → IfDone (λ (after : Made) t. IsFit nodes t) r → IfGood cause AnyState (work_continued again r)
+  step_then again h s m (Err kind) later good step fit = good
+  step_then again h s m (Ok p) later good step fit = h p.0 p.1 good (λ z g. step.later z g (later z (grows_on s p.1 z step.grown g))) fit
 
-  next_then : (again : Made → Work Made) → NeverMissing again → (m : Made) (s : Named) (o : Option Entry) (q : Option ℕ) → slice_get s.entries (length m.nodes) ≡ o → slice_get s.enums (length m.enums) ≡ q → Fine cause nodes s → AreMadeLater m s → IfGood cause AnyState (make_next nodes cause.strict again m o q s)
-  next_then again h m s (Some e) q entry enum fine later = step_then again h s m (make_struct nodes cause.strict m e s) later (struct_next m e s entry fine (later s (grows_none s))) (struct_step nodes cause.strict m e s entry)
-  next_then again h m s None (Some id) entry enum fine later = step_then again h s m (make_enum nodes cause.strict m id s) later (enum_next m id s enum fine) (enum_step nodes cause.strict m id s enum)
-  next_then again h m s None None entry enum fine later = tt
+  next_then : (again : Made → Work Made) → NeverMissing again → (m : Made) (s : Named) (o : Option Entry) (q : Option ℕ) → slice_get s.entries (length m.nodes) ≡ o → slice_get s.enums (length m.enums) ≡ q → Fine cause nodes s → AreMadeLater m s → IsFit nodes s → IfGood cause AnyState (make_next nodes cause.strict again m o q s)
+  next_then again h m s (Some e) q entry enum fine later fit = step_then again h s m (make_struct nodes cause.strict m e s) later (struct_next m e s entry fine (later s (grows_none s))) (struct_step nodes cause.strict m e s entry fit) (struct_fit nodes cause.strict m e s entry fit)
+  next_then again h m s None (Some id) entry enum fine later fit = step_then again h s m (make_enum nodes cause.strict m id s) later (enum_next m id s enum fine) (enum_step nodes cause.strict m id s enum) (enum_fit nodes cause.strict m id s fit)
+  next_then again h m s None None entry enum fine later fit = tt
 
   all_then : (steps : ℕ) → NeverMissing (make_all nodes cause.strict steps)
-  all_then zero m s fine later = other
-  all_then (suc steps) m s fine later = next_then (make_all nodes cause.strict steps) (all_then steps) m s (slice_get s.entries (length m.nodes)) (slice_get s.enums (length m.enums)) refl refl fine later
+  all_then zero m s fine later fit = other
+  all_then (suc steps) m s fine later fit = next_then (make_all nodes cause.strict steps) (all_then steps) m s (slice_get s.entries (length m.nodes)) (slice_get s.enums (length m.enums)) refl refl fine later fit
 
   -- ---- roots ----
 
@@ -167,7 +168,7 @@ module _ (cause : Refusal) (other : IsOther cause) (nodes : List SchemaNode) (na
   root_good id n first false e = λ s i. i
   root_good id n first true e =
       let is : IsNodeOfKind cause is_struct_kind nodes id = λ same. ap (is_of_kind is_struct_kind) first ∙ root_struct n.kind e in
-      good_said cause (Fine cause nodes) (scopes_of nodes id) (λ bound. number_struct id bound >>= (λ number. work_of [])) AnySaid (scopes_said cause other nodes named id) (λ bound f u.
+      good_said cause (Fine cause nodes) (scopes_of nodes id) (λ bound. number_struct id bound >>= (λ number. work_of [])) AnySaid (scopes_said cause nodes named id) (λ bound f u.
       good_bind cause (Fine cause nodes) (number_struct id bound) (λ number. work_of []) (struct_good cause other nodes named (Fine cause nodes) (fine_keeps cause nodes) id bound is) (λ number s i. i))
 
   abbrev within : (steps : ℕ) (met : List ℕ) (id : ℕ) (ids : List ℕ) → SchemaNode → Work (List ℕ)
@@ -186,9 +187,6 @@ module _ (cause : Refusal) (other : IsOther cause) (nodes : List SchemaNode) (na
       good_bind cause (Fine cause nodes) (name_root nodes cause.strict id (is_root n.kind)) (λ none. name_roots nodes cause.strict steps (new_ids nodes nested met ++ met) (ids ++ new_ids nodes nested met)) (root_good id n first (is_root n.kind) refl) (λ none.
       roots_good steps (new_ids nodes nested met ++ met) (ids ++ new_ids nodes nested met) (there_more ids (new_ids nodes nested met) h.1 (new_there nested met)))))
 
-  nothing_yet : (z : Named) → AreMade nodes cause.strict nothing_made z
-  nothing_yet z = record { done = []; rest = z.entries; more = z.enums; entries_are = refl; enums_are = refl; held = λ n e node display there whole first said. absurd (cc); holding = λ h among. absurd (none_held h among); named = record { ids = []; more = z.enums; are = refl; named = tt }; meant = tt; enumerated = tt }
-
 -- ---- the request ----
 
 module _ (cause : Refusal) (other : IsOther cause) (r : RequestTerm) (sound : IsRequestSound cause r) where
@@ -200,9 +198,9 @@ module _ (cause : Refusal) (other : IsOther cause) (r : RequestTerm) (sound : Is
   result_other (Ok p) h e = cc
   result_other (Err kind) h e = let same : kind ≡ cause.kind = cc in h same
 
-  convert_other : (x : Result (List ℕ × Named) ErrorKind) → IfGood {A = List ℕ} cause (Fine cause r.nodes) x → result_of (work_continued (λ none. make_all r.nodes cause.strict (65536 + suc (length r.nodes)) nothing_made) x) ≢ Err cause.kind
-  convert_other (Err kind) h = result_other (Err kind) h
-  convert_other (Ok p) h = result_other (make_all r.nodes cause.strict (65536 + suc (length r.nodes)) nothing_made p.1) (all_then cause other r.nodes sound.nodes (65536 + suc (length r.nodes)) nothing_made p.1 h (λ z g. nothing_yet cause other r.nodes sound.nodes z))
+  convert_other : (x : Result (List ℕ × Named) ErrorKind) → IfGood {A = List ℕ} cause (Fine cause r.nodes) x → IfDone (λ (none : List ℕ) t. IsFit r.nodes t) x → result_of (work_continued (λ none. make_all r.nodes cause.strict (65536 + suc (length r.nodes)) nothing_made) x) ≢ Err cause.kind
+  convert_other (Err kind) h fit = result_other (Err kind) h
+  convert_other (Ok p) h fit = result_other (make_all r.nodes cause.strict (65536 + suc (length r.nodes)) nothing_made p.1) (all_then cause other r.nodes sound.nodes (65536 + suc (length r.nodes)) nothing_made p.1 h (λ z g. none_made r.nodes cause.strict z) fit)
 
   nothing_fine : Fine cause r.nodes nothing_named
   nothing_fine = record { entries = λ n e there. absurd (cc); enums = tt }
@@ -210,7 +208,7 @@ module _ (cause : Refusal) (other : IsOther cause) (r : RequestTerm) (sound : Is
 pub refusals_caused : RefusalsHaveCauses
 refusals_caused cause r bounds sound =
     let other : IsOther cause = λ e. bounds (sym e) in
-    convert_other cause other r sound (name_files r.nodes cause.strict r.files nothing_named) (files_good cause other r sound nothing_named (nothing_fine cause other r sound))
+    convert_other cause other r sound (name_files r.nodes cause.strict r.files nothing_named) (files_good cause other r sound nothing_named (nothing_fine cause other r sound)) (files_fit r.nodes cause.strict r.files)
 
 pub nothing_missing : NothingIsMissing
 nothing_missing r strict sound = refusals_caused (record { kind = NodeNotFound; strict = strict }) r (λ e. cc) sound

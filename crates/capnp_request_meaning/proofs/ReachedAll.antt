@@ -19,16 +19,16 @@ use Rattle.capnp_request_meaning.proofs.Works.{Grows, IfDone, entry_still, enum_
 
 -- ---- the structs of the requested files ----
 
-record IsPlain (k : NodeKind) : Type 0 where
-  part : StructPart
-  struct : k ≡ StructNode part
-  no_group : part.is_group ≡ false
+pub record IsPlain (k : NodeKind) : Type 0 where
+  pub part : StructPart
+  pub struct : k ≡ StructNode part
+  pub no_group : part.is_group ≡ false
 
 no_group_of : (q : Bool) → not q ≡ true → q ≡ false
 no_group_of true e = absurd (cc)
 no_group_of false e = refl
 
-plain_of : (k : NodeKind) → is_root k ≡ true → IsPlain k
+pub plain_of : (k : NodeKind) → is_root k ≡ true → IsPlain k
 plain_of (StructNode part) e = record { part = part; struct = refl; no_group = no_group_of part.is_group e }
 plain_of (EnumNode enumerants) e = absurd (cc)
 plain_of (AnnotationNode t) e = absurd (cc)
@@ -49,16 +49,16 @@ new_among nodes (id ∷ ids) met y h = go (not (is_met met id) && is_node_there 
         one (inr e) = or_right (id == y) (is_met ids y) (f e)
 
 module _ (r : RequestTerm) (strict : Bool) where
-  abbrev AreListed : List ℕ → Type 0
+  abbrev pub AreListed : List ℕ → Type 0
   AreListed ids = (id : ℕ) → is_met ids id ≡ true → IsListed r id
 
-  requested : (id : ℕ) (n : SchemaNode) → IsListed r id → node_named r.nodes id ≡ Some n → IsPlain n.kind → (bound : List Bound) → scopes_of r.nodes id ≡ Ok bound → (x : Target) (z : Named) → IsStructAdded id bound x z → Reached r strict x z
+  pub requested : (id : ℕ) (n : SchemaNode) → IsListed r id → node_named r.nodes id ≡ Some n → IsPlain n.kind → (bound : List Bound) → scopes_of r.nodes id ≡ Ok bound → (x : Target) (z : Named) → IsStructAdded id bound x z → Reached r strict x z
   requested id n listed first plain bound scopes x z h =
       let at : IsNumbered id bound h.0 z.entries = h.2 in
       subst (λ y. Reached r strict y z) (sym h.1)
       (Requested h.0 at.entry n plain.part at.numbered at.whole (bound_unbound at.entry.bound bound at.same (scopes_unbound r.nodes id bound scopes)) (subst (IsListed r) (sym at.node) listed) (ap (λ i. node_named r.nodes i) at.node ∙ first) plain.struct plain.no_group)
 
-  root_led : (id : ℕ) (n : SchemaNode) → IsListed r id → node_named r.nodes id ≡ Some n → (q : Bool) → is_root n.kind ≡ q → IsLed (name_root r.nodes strict id q) (Reached r strict)
+  pub root_led : (id : ℕ) (n : SchemaNode) → IsListed r id → node_named r.nodes id ≡ Some n → (q : Bool) → is_root n.kind ≡ q → IsLed (name_root r.nodes strict id q) (Reached r strict)
   root_led id n listed first false is = led_of {A = List ℕ} [] (Reached r strict)
   root_led id n listed first true is =
       led_said (scopes_of r.nodes id) (λ bound. number_struct id bound >>= (λ number. work_of [])) (Reached r strict) (λ bound scopes.
@@ -66,32 +66,36 @@ module _ (r : RequestTerm) (strict : Bool) where
       (led_weaken (number_struct id bound) (IsStructAdded id bound) (Reached r strict) (requested id n listed first (plain_of n.kind is) bound scopes) (struct_led id bound))
       (λ number. led_of {A = List ℕ} [] (Reached r strict)))
 
+  -- what a queue of listed ids has first, and later
+  pub queue_first : (id : ℕ) (ids : List ℕ) → AreListed (id ∷ ids) → IsListed r id
+  queue_first id ids h = itself (id == id) refl
+    where
+      itself : (q : Bool) → (id == id) ≡ q → IsListed r id
+      itself true e = h id (or_left (id == id) (is_met ids id) e)
+      itself false e = absurd (true≢false (sym (eq-eqb id id refl) ∙ e))
+
+  pub queue_later : (id : ℕ) (ids met : List ℕ) (n : SchemaNode) (nested : List ℕ) → AreListed (id ∷ ids) → node_named r.nodes id ≡ Some n → n.nested ≡ Ok nested → AreListed (ids ++ new_ids r.nodes nested met)
+  queue_later id ids met n nested h first listed y m = go (or_cases (is_met ids y) (is_met (new_ids r.nodes nested met) y) (sym (met_append ids (new_ids r.nodes nested met) y) ∙ m))
+    where
+      go : (is_met ids y ≡ true) ⊎ (is_met (new_ids r.nodes nested met) y ≡ true) → IsListed r y
+      go (inl e) = h y (or_right (id == y) (is_met ids y) e)
+      go (inr e) = NestedIn id n nested y (queue_first id ids h) first listed (new_among r.nodes nested met y e)
+
+  pub files_listed : (ids : List ℕ) → r.files ≡ Ok ids → AreListed (new_ids r.nodes ids [])
+  files_listed ids said id m = OfFile ids id said (new_among r.nodes ids [] id m)
+
   roots_led : (steps : ℕ) (met queue : List ℕ) → AreListed queue → IsLed (name_roots r.nodes strict steps met queue) (Reached r strict)
   roots_led zero met queue h = led_of {A = List ℕ} [] (Reached r strict)
   roots_led (suc steps) met [] h = led_of {A = List ℕ} [] (Reached r strict)
   roots_led (suc steps) met (id ∷ ids) h =
       led_node (node_named r.nodes id) (λ n. work_said n.nested >>= (λ nested. name_root r.nodes strict id (is_root n.kind) >>= (λ none. name_roots r.nodes strict steps (new_ids r.nodes nested met ++ met) (ids ++ new_ids r.nodes nested met)))) (Reached r strict) (λ n first.
       led_said n.nested (λ nested. name_root r.nodes strict id (is_root n.kind) >>= (λ none. name_roots r.nodes strict steps (new_ids r.nodes nested met ++ met) (ids ++ new_ids r.nodes nested met))) (Reached r strict) (λ nested listed.
-      led_bind (name_root r.nodes strict id (is_root n.kind)) (λ none. name_roots r.nodes strict steps (new_ids r.nodes nested met ++ met) (ids ++ new_ids r.nodes nested met)) (Reached r strict) (root_led id n here first (is_root n.kind) refl)
-      (λ none. roots_led steps (new_ids r.nodes nested met ++ met) (ids ++ new_ids r.nodes nested met) (later n nested first listed))))
-    where
-      itself : (q : Bool) → (id == id) ≡ q → IsListed r id
-      itself true e = h id (or_left (id == id) (is_met ids id) e)
-      itself false e = absurd (true≢false (sym (eq-eqb id id refl) ∙ e))
+      led_bind (name_root r.nodes strict id (is_root n.kind)) (λ none. name_roots r.nodes strict steps (new_ids r.nodes nested met ++ met) (ids ++ new_ids r.nodes nested met)) (Reached r strict) (root_led id n (queue_first id ids h) first (is_root n.kind) refl)
+      (λ none. roots_led steps (new_ids r.nodes nested met ++ met) (ids ++ new_ids r.nodes nested met) (queue_later id ids met n nested h first listed))))
 
-      here : IsListed r id
-      here = itself (id == id) refl
-
-      later : (n : SchemaNode) (nested : List ℕ) → node_named r.nodes id ≡ Some n → n.nested ≡ Ok nested → AreListed (ids ++ new_ids r.nodes nested met)
-      later n nested first listed y m = go (or_cases (is_met ids y) (is_met (new_ids r.nodes nested met) y) (sym (met_append ids (new_ids r.nodes nested met) y) ∙ m))
-        where
-          go : (is_met ids y ≡ true) ⊎ (is_met (new_ids r.nodes nested met) y ≡ true) → IsListed r y
-          go (inl e) = h y (or_right (id == y) (is_met ids y) e)
-          go (inr e) = NestedIn id n nested y here first listed (new_among r.nodes nested met y e)
-
-  files_led : IsLed (name_files r.nodes strict r.files) (Reached r strict)
+  pub files_led : IsLed (name_files r.nodes strict r.files) (Reached r strict)
   files_led = led_said r.files (λ ids. name_roots r.nodes strict (length r.nodes) (new_ids r.nodes ids []) (new_ids r.nodes ids [])) (Reached r strict) (λ ids said.
-      roots_led (length r.nodes) (new_ids r.nodes ids []) (new_ids r.nodes ids []) (λ id m. OfFile ids id said (new_among r.nodes ids [] id m)))
+      roots_led (length r.nodes) (new_ids r.nodes ids []) (new_ids r.nodes ids []) (files_listed ids said))
 
   -- ---- all that is named ----
 
@@ -105,7 +109,7 @@ module _ (r : RequestTerm) (strict : Bool) where
       go (Err kind) h = tt
       go (Ok p) h = h.new
 
-  reached_more : (s t : Named) (L : Target → Named → Type 0) → Led s t L → AllReached s → ((x : Target) (z : Named) → Grows s z → L x z → Reached r strict x z) → AllReached t
+  pub reached_more : (s t : Named) (L : Target → Named → Type 0) → Led s t L → AllReached s → ((x : Target) (z : Named) → Grows s z → L x z → Reached r strict x z) → AllReached t
   reached_more s t L led all f x is z g = go (new_parted nothing_named s t x is)
     where
       go : IsNew nothing_named s x ⊎ IsNew s t x → Reached r strict x z
@@ -116,7 +120,7 @@ module _ (r : RequestTerm) (strict : Bool) where
   IfReached x = IfDone (λ (after : Made) t. AllReached t) x
 
   module _ (m : Made) (s : Named) (all : AllReached s) where
-    struct_reached : (e : Entry) → slice_get s.entries (length m.nodes) ≡ Some e → IfReached (make_struct r.nodes strict m e s)
+    pub struct_reached : (e : Entry) → slice_get s.entries (length m.nodes) ≡ Some e → IfReached (make_struct r.nodes strict m e s)
     struct_reached e there = go (make_struct r.nodes strict m e s) (struct_step_led r strict m e s)
       where
         within : IsNew nothing_named s (EntryAt (length m.nodes))
@@ -126,7 +130,7 @@ module _ (r : RequestTerm) (strict : Bool) where
         go (Err kind) h = tt
         go (Ok p) h = reached_more s p.1 (HenceEntry r strict (length m.nodes) e) h all (λ x z g k. k (all (EntryAt (length m.nodes)) within z g) (entry_still s z g (length m.nodes) e there))
 
-    enum_reached : (id : ℕ) → slice_get s.enums (length m.enums) ≡ Some id → IfReached (make_enum r.nodes strict m id s)
+    pub enum_reached : (id : ℕ) → slice_get s.enums (length m.enums) ≡ Some id → IfReached (make_enum r.nodes strict m id s)
     enum_reached id there = go (make_enum r.nodes strict m id s) (enum_step_led r strict m id s)
       where
         within : IsNew nothing_named s (EnumAt (length m.enums))

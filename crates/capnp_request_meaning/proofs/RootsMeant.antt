@@ -38,16 +38,16 @@ met_right a b id h = met_append a b id ∙ or_right (is_met a id) (is_met b id) 
 met_moved : (y : ℕ) (a b : List ℕ) (id : ℕ) → is_met (a ++ y ∷ b) id ≡ is_met (y ∷ (a ++ b)) id
 met_moved y a b id = met_append a (y ∷ b) id ∙ (either_order (y == id) (is_met a id) (is_met b id) ∙ ap (λ q. (y == id) || q) (sym (met_append a b id)))
 
-there_of : (o : Option SchemaNode) (n : SchemaNode) → o ≡ Some n → is_node_there o ≡ true
+pub there_of : (o : Option SchemaNode) (n : SchemaNode) → o ≡ Some n → is_node_there o ≡ true
 there_of o n e = ap is_node_there e
 
 -- ---- how many nodes weren't met ----
 
-abbrev one_where : Bool → ℕ
+abbrev pub one_where : Bool → ℕ
 one_where true = 1
 one_where false = 0
 
-abbrev unmet : List SchemaNode → List ℕ → ℕ
+abbrev pub unmet : List SchemaNode → List ℕ → ℕ
 unmet [] met = 0
 unmet (n ∷ ns) met = one_where (not (is_met met n.id)) + unmet ns met
 
@@ -73,7 +73,7 @@ one_fewer true false a b p q h = omega (arith, h)
 one_fewer true true a b p q h = absurd (cc)
 one_fewer false q a b p r h = absurd (cc)
 
-unmet_one_fewer : (ns : List SchemaNode) (id : ℕ) (met : List ℕ) → is_met met id ≡ false → is_node_there (node_named ns id) ≡ true → suc (unmet ns (id ∷ met)) ≤ unmet ns met
+pub unmet_one_fewer : (ns : List SchemaNode) (id : ℕ) (met : List ℕ) → is_met met id ≡ false → is_node_there (node_named ns id) ≡ true → suc (unmet ns (id ∷ met)) ≤ unmet ns met
 unmet_one_fewer [] id met new there = absurd (cc)
 unmet_one_fewer (n ∷ ns) id met new there = go (n.id == id) refl there (unmet_one_fewer ns id met new)
   where
@@ -166,7 +166,7 @@ pub record IsClosed (nodes : List SchemaNode) (met queue : List ℕ) (entries : 
   pub closed : (id : ℕ) → is_met all id ≡ true → ((is_met met id ≡ true) × (is_met queue id ≡ false)) ⊎ IsWorkedOn nodes all entries id
 
 module _ (K : List Entry → Type 0) (nodes : List SchemaNode) (whole : KeepsWhole K nodes) (strict : Bool) where
-  root_named : (id : ℕ) (q : Bool) → IsWork K (name_root nodes strict id q) (λ none z. q ≡ true → HasRoot z.entries id)
+  pub root_named : (id : ℕ) (q : Bool) → IsWork K (name_root nodes strict id q) (λ none z. q ≡ true → HasRoot z.entries id)
   root_named id false = of_work K [] (λ (none : List ℕ) z. false ≡ true → HasRoot z.entries id) (λ z e. absurd (cc))
   root_named id true =
       said_bind K (scopes_of nodes id) (λ bound. number_struct id bound >>= (λ number. work_of [])) (λ none z. true ≡ true → HasRoot z.entries id) (λ bound is.
@@ -259,7 +259,7 @@ module _ (r : RequestTerm) (files : List ℕ) (read : r.files ≡ Ok files) (ent
       w.root (ap (λ (k : SchemaNode). is_root k.kind) (same_nodes (node_named r.nodes id) w.node n w.first first) ∙ root)
 
 -- as many steps as nodes are enough
-unmet_all : (ns : List SchemaNode) → unmet ns [] ≡ length ns
+pub unmet_all : (ns : List SchemaNode) → unmet ns [] ≡ length ns
 unmet_all [] = refl
 unmet_all (n ∷ ns) = let h : unmet ns [] ≡ length ns = unmet_all ns in omega (arith, h)
 

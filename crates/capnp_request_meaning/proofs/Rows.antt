@@ -122,7 +122,7 @@ row_nodes = (
     struct = refl;
     listed = refl;
     id = refl;
-    name = record { display = codes "x.capnp:A"; enums = []; with_file = false; said = refl; first_enums = record { ids = []; more = 5 ∷ []; are = refl; named = tt }; is = refl; taken = λ t. absurd (no_entry_at t.number t.entry t.numbered); free = λ e. absurd (cc) };
+    name = record { display = codes "x.capnp:A"; enums = []; with_file = false; said = refl; first_enums = record { ids = []; more = 5 ∷ []; are = refl; named = tt }; have_names = λ p. tt; is = refl; taken = λ t. absurd (no_entry_at t.number t.entry t.numbered); free = λ e. absurd (cc) };
     short = omega arith;
     text = refl;
     annotations = tt;
@@ -272,7 +272,7 @@ row_taken h =
 
 -- Entries of different nodes may have one name: where nodes have one display name, and where a struct is named as a type
 -- that needs no node.
-abbrev names_in : Said (Schemas × List Note) → Said (List (List ℕ))
+abbrev pub names_in : Said (Schemas × List Note) → Said (List (List ℕ))
 names_in (Ok p) = Ok (map (λ (n : Node). n.display_name) p.0.nodes)
 names_in (Err kind) = Err kind
 
@@ -298,16 +298,16 @@ shadowed_named = refl
 
 -- ---- the name of a bound struct ----
 
-abbrev box_node : SchemaNode
+abbrev pub box_node : SchemaNode
 box_node = record (node 4 (codes "x.capnp:Box") 1 [] (StructNode (struct_part false 0 []))) { parameters = Ok 1 }
 
-abbrev box_entry : List MarkedType → Entry
+abbrev pub box_entry : List MarkedType → Entry
 box_entry types = record { node = 4; bound = record { scope = 4; distance = 0; parameters = 1; types = types } ∷ []; place = Whole }
 
-abbrev box_numbers : Numbers
+abbrev pub box_numbers : Numbers
 box_numbers = record { nodes = box_node ∷ enum_node ∷ []; strict = false; entries = box_entry (plain (ListType (EnumType 0)) ∷ []) ∷ []; enums = 5 ∷ [] }
 
-abbrev IsBoxName : List ℕ → Type 0
+abbrev pub IsBoxName : List ℕ → Type 0
 IsBoxName name = IsNameOf box_numbers [] [] (box_entry (plain (ListType (EnumType 0)) ∷ [])) box_node name
 
 -- the list of an enum stands behind the name
@@ -318,6 +318,7 @@ row_bound_name = record {
   with_file = false;
   said = refl;
   first_enums = record { ids = 5 ∷ []; more = []; are = refl; named = (record { node = enum_node; display = codes "x.capnp:E"; first = refl; said = refl; is = refl }, tt) };
+  have_names = λ p. ((omega arith, tt), tt);
   is = refl;
   taken = λ t. absurd (no_entry_at t.number t.entry t.numbered);
   free = λ e. absurd (cc);

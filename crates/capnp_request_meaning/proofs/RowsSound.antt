@@ -14,11 +14,11 @@ use Rattle.capnp_request_meaning.proofs.Rows.{first_fields, node, request, slot,
 abbrev refused : ErrorKind → (strict : Bool) → Refusal
 refused kind strict = record { kind = kind; strict = strict }
 
-abbrev AreSound : Refusal → List SchemaNode → List SchemaNode → Type 0
+abbrev pub AreSound : Refusal → List SchemaNode → List SchemaNode → Type 0
 AreSound cause nodes [] = Unit {0}
 AreSound cause nodes (n ∷ ns) = IsNodeSound cause nodes n × AreSound cause nodes ns
 
-all_sound : (cause : Refusal) (nodes ns : List SchemaNode) (id : ℕ) (n : SchemaNode) → AreSound cause nodes ns → node_named ns id ≡ Some n → IsNodeSound cause nodes n
+pub all_sound : (cause : Refusal) (nodes ns : List SchemaNode) (id : ℕ) (n : SchemaNode) → AreSound cause nodes ns → node_named ns id ≡ Some n → IsNodeSound cause nodes n
 all_sound cause nodes [] id n h e = absurd (cc)
 all_sound cause nodes (m ∷ ns) id n h e = go (m.id == id) (all_sound cause nodes ns id n h.1) e
   where

@@ -16,10 +16,9 @@ use Rattle.capnp_request_meaning.specs.Noted.{AreNotesOf, IsNoteOf}
 use Rattle.capnp_request_meaning.proofs.EnumsMeant as enums
 use Rattle.capnp_request_meaning.proofs.FieldsNoted.{AreNoted, Gives, IsFieldNotable, IsNoteFrom, among_left, among_parts, among_right, fields_noted, gives_any, gives_bind, gives_said, gives_struct, none_among}
 use Rattle.capnp_request_meaning.proofs.Leads.{AnyEntries, any_whole}
-use Rattle.capnp_request_meaning.proofs.ListsFound.{IsAmong, last_at, still_at}
+use Rattle.capnp_request_meaning.proofs.ListsFound.{IsAmong, before_or_last, last_at, still_at}
 use Rattle.capnp_request_meaning.proofs.NamesMeant.{IsBegun, struct_begun}
 use Rattle.capnp_request_meaning.proofs.NodesMeant as nodes
-use Rattle.capnp_request_meaning.proofs.OrderMeant.{before_or_last}
 use Rattle.capnp_request_meaning.proofs.Works.{IfDone}
 
 -- ---- a struct ----

@@ -21,17 +21,15 @@ use Rattle.capnp_request_meaning.proofs.Works.{Grows, IfDone}
 
 -- ---- numbers that are new ----
 
-last_new : (a b n : ℕ) → b ≡ a + 1 → (a ≤ n) × (n < b) → n ≡ a
+pub last_new : (a b n : ℕ) → b ≡ a + 1 → (a ≤ n) × (n < b) → n ≡ a
 last_new a b n e h = omega (arith, e, h.0, h.1)
 
 abbrev pub IsAdded : Entry → Target → Named → Type 0
 IsAdded e x z = (n : ℕ) × (x ≡ EntryAt n) × (slice_get z.entries n ≡ Some e)
 
-pub entry_led : (e : Entry) → IsLed (add_entry e) (IsAdded e)
-entry_led e s = led_where (nat_lt (length s.entries) 65536) TooManyTypes s (IsAdded e) (Ok (length s.entries, record s { entries = s.entries ++ e ∷ [] })) (λ few. record {
-  grown = record { entries = e ∷ []; enums = []; entries_are = refl; enums_are = sym (append-nil s.enums) };
-  new = added;
-})
+-- one entry more
+pub entry_new : (e : Entry) (s : Named) → Led s (record s { entries = s.entries ++ e ∷ [] }) (IsAdded e)
+entry_new e s = record { grown = record { entries = e ∷ []; enums = []; entries_are = refl; enums_are = sym (append-nil s.enums) }; new = added }
   where
     there : (z : Named) → Grows (record s { entries = s.entries ++ e ∷ [] }) z → slice_get z.entries (length s.entries) ≡ Some e
     there z g = ap (λ xs. slice_get xs (length s.entries)) g.entries_are ∙ still_at (s.entries ++ e ∷ []) g.entries (length s.entries) e (last_at s.entries e)
@@ -42,6 +40,9 @@ entry_led e s = led_where (nat_lt (length s.entries) 65536) TooManyTypes s (IsAd
         let last : n ≡ length s.entries = last_new (length s.entries) (length (s.entries ++ e ∷ [])) n longer is in
         (n, refl, ap (λ i. slice_get z.entries i) last ∙ there z g)
     added (EnumAt n) is z g = absurd (omega (arith, is.0, is.1))
+
+pub entry_led : (e : Entry) → IsLed (add_entry e) (IsAdded e)
+entry_led e s = led_where (nat_lt (length s.entries) 65536) TooManyTypes s (IsAdded e) (Ok (length s.entries, record s { entries = s.entries ++ e ∷ [] })) (λ few. entry_new e s)
 
 abbrev pub IsStructAdded : ℕ → List Bound → Target → Named → Type 0
 IsStructAdded id bound x z = (n : ℕ) × (x ≡ EntryAt n) × IsNumbered id bound n z.entries
@@ -63,29 +64,32 @@ position_behind (x ∷ ids) more id k h = go (x == id) h (position_behind ids mo
     go true e later = absurd (cc)
     go false e later = let n : (k + 1) + length ids ≡ k + suc (length ids) = omega arith in later e ∙ ap (λ i. Some i) n
 
-abbrev pub IsEnumAdded : ℕ → Target → Named → Type 0
-IsEnumAdded id x z = (n : ℕ) × (x ≡ EnumAt n) × (enum_position z.enums id 0 ≡ Some n)
+abbrev pub IsEnumAdded : List SchemaNode → ℕ → Target → Named → Type 0
+IsEnumAdded nodes id x z = (n : ℕ) × (x ≡ EnumAt n) × (enum_position z.enums id 0 ≡ Some n) × (is_of_kind is_enum (node_named nodes id) ≡ true)
 
-pub enum_led : (nodes : List SchemaNode) (id : ℕ) → IsLed (number_enum nodes id) (IsEnumAdded id)
-enum_led nodes id s = go (enum_position s.enums id 0) refl
+-- one enum more
+pub enum_new : (nodes : List SchemaNode) (id : ℕ) (s : Named) → enum_position s.enums id 0 ≡ None → is_of_kind is_enum (node_named nodes id) ≡ true → Led s (record s { enums = s.enums ++ id ∷ [] }) (IsEnumAdded nodes id)
+enum_new nodes id s none found = record { grown = record { entries = []; enums = id ∷ []; entries_are = sym (append-nil s.entries); enums_are = refl }; new = added }
   where
-    there : enum_position s.enums id 0 ≡ None → (z : Named) → Grows (record s { enums = s.enums ++ id ∷ [] }) z → enum_position z.enums id 0 ≡ Some (length s.enums)
-    there none z g =
+    there : (z : Named) → Grows (record s { enums = s.enums ++ id ∷ [] }) z → enum_position z.enums id 0 ≡ Some (length s.enums)
+    there z g =
         let n : 0 + length s.enums ≡ length s.enums = omega arith in
         ap (λ xs. enum_position xs id 0) (g.enums_are ∙ append_assoc s.enums (id ∷ []) g.enums) ∙ (position_behind s.enums g.enums id 0 none ∙ ap (λ i. Some i) n)
 
-    added : enum_position s.enums id 0 ≡ None → (x : Target) → IsNew s (record s { enums = s.enums ++ id ∷ [] }) x → (z : Named) → Grows (record s { enums = s.enums ++ id ∷ [] }) z → IsEnumAdded id x z
-    added none (EnumAt n) is z g =
+    added : (x : Target) → IsNew s (record s { enums = s.enums ++ id ∷ [] }) x → (z : Named) → Grows (record s { enums = s.enums ++ id ∷ [] }) z → IsEnumAdded nodes id x z
+    added (EnumAt n) is z g =
         let longer : length (s.enums ++ id ∷ []) ≡ length s.enums + 1 = length-append s.enums (id ∷ []) in
         let last : n ≡ length s.enums = last_new (length s.enums) (length (s.enums ++ id ∷ [])) n longer is in
-        (n, refl, there none z g ∙ ap (λ i. Some i) (sym last))
-    added none (EntryAt n) is z g = absurd (omega (arith, is.0, is.1))
+        (n, refl, there z g ∙ ap (λ i. Some i) (sym last), found)
+    added (EntryAt n) is z g = absurd (omega (arith, is.0, is.1))
 
-    go : (o : Option ℕ) → enum_position s.enums id 0 ≡ o → IfDone (λ n t. Led s t (IsEnumAdded id)) (enum_or_add nodes o id s)
-    go (Some n) is = led_none s s (IsEnumAdded id) refl refl
-    go None is = led_where (is_of_kind is_enum (node_named nodes id)) NodeNotFound s (IsEnumAdded id) (add_enum id s) (λ found.
-        led_where (nat_lt (length s.enums) 4294967295) TooManyTypes s (IsEnumAdded id) (Ok (length s.enums, record s { enums = s.enums ++ id ∷ [] })) (λ few.
-        record { grown = record { entries = []; enums = id ∷ []; entries_are = sym (append-nil s.entries); enums_are = refl }; new = added is }))
+pub enum_led : (nodes : List SchemaNode) (id : ℕ) → IsLed (number_enum nodes id) (IsEnumAdded nodes id)
+enum_led nodes id s = go (enum_position s.enums id 0) refl
+  where
+    go : (o : Option ℕ) → enum_position s.enums id 0 ≡ o → IfDone (λ n t. Led s t (IsEnumAdded nodes id)) (enum_or_add nodes o id s)
+    go (Some n) is = led_none s s (IsEnumAdded nodes id) refl refl
+    go None is = led_where (is_of_kind is_enum (node_named nodes id)) NodeNotFound s (IsEnumAdded nodes id) (add_enum id s) (λ found.
+        led_where (nat_lt (length s.enums) 4294967295) TooManyTypes s (IsEnumAdded nodes id) (Ok (length s.enums, record s { enums = s.enums ++ id ∷ [] })) (λ few. enum_new nodes id s is found))
 
 -- ---- types ----
 
@@ -119,7 +123,7 @@ module _ (nodes : List SchemaNode) (strict : Bool) (inside : List Bound) where
   numbered id bound = number_struct id bound >>= (λ number. work_of (plain (StructType number number)))
 
   -- the struct of an id with what its brand binds
-  itself : (id : ℕ) (brand : BrandTerm) (bound : List Bound) (x : Target) (z : Named) → IsStructAdded id bound x z → AreNamedScopes nodes strict inside id brand bound z → Leads (StandsIn nodes (StructTerm id brand)) x z
+  pub itself : (id : ℕ) (brand : BrandTerm) (bound : List Bound) (x : Target) (z : Named) → IsStructAdded id bound x z → AreNamedScopes nodes strict inside id brand bound z → Leads (StandsIn nodes (StructTerm id brand)) x z
   itself id brand bound (EnumAt n) z h scopes = absurd (cc)
   itself id brand bound (EntryAt n) z h scopes =
       let same : n ≡ h.0 = cc in
@@ -135,15 +139,15 @@ module _ (nodes : List SchemaNode) (strict : Bool) (inside : List Bound) where
       (led_weaken (number_struct id bound) (IsStructAdded id bound) (λ x z. AreNamedScopes nodes strict inside id brand bound z → Leads (StandsIn nodes (StructTerm id brand)) x z) (itself id brand bound) (struct_led id bound))
       (λ n. led_of (plain (StructType n n)) (λ x z. AreNamedScopes nodes strict inside id brand bound z → Leads (StandsIn nodes (StructTerm id brand)) x z))) s)
 
-  enum_itself : (id : ℕ) (x : Target) (z : Named) → IsEnumAdded id x z → Leads (StandsIn nodes (EnumTerm id)) x z
+  pub enum_itself : (id : ℕ) (x : Target) (z : Named) → IsEnumAdded nodes id x z → Leads (StandsIn nodes (EnumTerm id)) x z
   enum_itself id (EntryAt n) z h = absurd (cc)
   enum_itself id (EnumAt n) z h =
       let same : n ≡ h.0 = cc in
-      record { inner = EnumTerm id; stands = refl; target = h.2 ∙ ap (λ i. Some i) (sym same) }
+      record { inner = EnumTerm id; stands = refl; target = (h.2 ∙ ap (λ i. Some i) (sym same), h.3) }
 
   enum_type_led : (id : ℕ) → IsLed (type_of nodes strict inside (EnumTerm id)) (Leads (StandsIn nodes (EnumTerm id)))
   enum_type_led id = led_bind (number_enum nodes id) (λ number. work_of (plain (EnumType number))) (Leads (StandsIn nodes (EnumTerm id)))
-      (led_weaken (number_enum nodes id) (IsEnumAdded id) (Leads (StandsIn nodes (EnumTerm id))) (enum_itself id) (enum_led nodes id)) (λ n. led_of (plain (EnumType n)) (Leads (StandsIn nodes (EnumTerm id))))
+      (led_weaken (number_enum nodes id) (IsEnumAdded nodes id) (Leads (StandsIn nodes (EnumTerm id))) (enum_itself id) (enum_led nodes id)) (λ n. led_of (plain (EnumType n)) (Leads (StandsIn nodes (EnumTerm id))))
 
   list_led : (t : TypeTerm) → IsLed (type_of nodes strict inside t) (Leads (StandsIn nodes t)) → IsLed (type_of nodes strict inside (ListTerm t)) (Leads (StandsIn nodes (ListTerm t)))
   list_led t h = led_bind (type_of nodes strict inside t) listed_type (Leads (StandsIn nodes (ListTerm t)))
@@ -221,7 +225,7 @@ module _ (nodes : List SchemaNode) (strict : Bool) (inside : List Bound) where
       (λ bound. led_weaken (type_of nodes strict bound t) (Leads nodes strict bound (StandsIn nodes t)) (λ x z. AreNamedScopes nodes strict inside a.id a.brand bound z → AnnotationLed a x z)
       (λ x z k scopes. ByDeclaration d.node t bound d.first d.annotation scopes.0 scopes.1 k) (type_led nodes strict bound t))
 
-  annotation_led : (a : AnnotationTerm) → IsLed (annotation_of nodes strict inside a) (AnnotationLed a)
+  pub annotation_led : (a : AnnotationTerm) → IsLed (annotation_of nodes strict inside a) (AnnotationLed a)
   annotation_led a = led_said (value_stated a.value) (λ v. work_unnoted (declared_type nodes strict a.id inside a.brand) >>= (λ t. work_of (record { id = a.id; value = v }, t.type))) (AnnotationLed a)
       (λ v is. led_bind (work_unnoted (declared_type nodes strict a.id inside a.brand)) (λ t. work_of (record { id = a.id; value = v }, t.type)) (AnnotationLed a)
       (led_unnoted (declared_type nodes strict a.id inside a.brand) (AnnotationLed a) (declared_led a (declared_term (node_named nodes a.id)) refl))

@@ -35,7 +35,7 @@ and_said_so cause id distance (Err kind) rest h k = h
 abbrev pub AreNodesSound : Refusal → List SchemaNode → Type 0
 AreNodesSound cause nodes = (id : ℕ) (n : SchemaNode) → node_named nodes id ≡ Some n → IsNodeSound cause nodes n
 
-module _ (cause : Refusal) (other : IsOther cause) (nodes : List SchemaNode) (named : AreNodesSound cause nodes) where
+module _ (cause : Refusal) (nodes : List SchemaNode) (named : AreNodesSound cause nodes) where
   scopes_node : (outer : ℕ → Said (List Bound)) (distance id : ℕ) (o : Option SchemaNode) → node_named nodes id ≡ o → ((scope : ℕ) → IsSaidSo cause AnySaid (outer scope)) → IsSaidSo cause AnySaid (scopes_of_node outer distance id o)
   scopes_node outer distance id None e h = tt
   scopes_node outer distance id (Some n) e h = let is : IsNodeSound cause nodes n = named id n e in and_said_so cause id distance n.parameters (outer n.scope) is.parameters (h n.scope)
@@ -100,7 +100,7 @@ module _ (cause : Refusal) (other : IsOther cause) (nodes : List SchemaNode) (na
     IsBrandGood brand = (scope : Bound) → IsGood cause I (brand_types nodes cause.strict inside brand scope)
 
     pub scopes_good : (id : ℕ) (brand : BrandTerm) → IsBrandGood brand → IsGood cause I (named_scopes nodes cause.strict inside id brand)
-    scopes_good id brand h = good_said cause I (scopes_of nodes id) (each (bind_scope (brand_types nodes cause.strict inside brand))) AnySaid (scopes_said cause other nodes named id) (λ bs e u.
+    scopes_good id brand h = good_said cause I (scopes_of nodes id) (each (bind_scope (brand_types nodes cause.strict inside brand))) AnySaid (scopes_said cause nodes named id) (λ bs e u.
         good_each cause I (bind_scope (brand_types nodes cause.strict inside brand)) (λ b. good_bind cause I (brand_types nodes cause.strict inside brand b) (λ ts. work_of (record b { types = ts })) (h b) (λ ts. good_of cause I (record b { types = ts }))) bs)
 
     abbrev numbered : ℕ → List Bound → Work MarkedType

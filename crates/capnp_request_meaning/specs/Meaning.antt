@@ -2,14 +2,15 @@
 use Rattle.std.specs.Prelude.{ℕ, zero, suc, ◌+◌, ◌<◌, ◌≡◌, ◌⊎◌, ◌==◌, List, [], ◌∷◌, ◌++◌, Bool, true, false, length, map, slice_get, Some, Ok, Err, ◌≤◌}
 use Rattle.std.specs.Str.{is_utf8}
 use Rattle.capnp_schema.specs.Schema.{Annotation, Brand, Enum, Enumerant, Field, FieldKind, Group, Node, Schemas, Slot}
-use Rattle.capnp_schema.specs.Types.{SchemaType, AnyPointerType, EnumType, StructType, VoidType}
+use Rattle.capnp_schema.specs.Types.{SchemaType, AnyPointerType, BoolType, DataType, EnumType, IntType, ListType, StructType, TextType, UIntType, VoidType}
 use Rattle.capnp_request.specs.Conversion.{mark}
 use Rattle.capnp_request.specs.Names.{bound_name, dotted_of, file_where, occurrences_of}
 use Rattle.capnp_request.specs.Scopes.{bound_types, is_met, node_named, scopes_of}
 use Rattle.capnp_request.specs.Terms.{AnnotationNode, AnnotationTerm, Binds, BindingTerms, BrandTerm, EnumNode, EnumTerm, EnumerantTerm, FieldKindTerm, FieldTerm, Float32, Float64, GroupTerm, Inherits, Interface, ListTerm, MemberTerm, MoreBindings, MoreScopes, NoBindings, NoScopes, Parameter, RequestTerm, Said, SchemaNode, ScopeTerm, SlotTerm, StructNode, StructPart, StructTerm, TypeTerm, UnreadBrand, UnreadField, UnreadScope, UnreadType, ValueTerm}
-use Rattle.capnp_request.specs.Types.{bound_to, enum_position, is_entry_of, list_of, same_bound, without_untyped}
+use Rattle.capnp_request.specs.Types.{bound_to, enum_position, is_entry_of, is_enum, is_of_kind, list_of, same_bound, without_untyped}
 use Rattle.capnp_request.specs.Values.{value_stated}
 use Rattle.capnp_request.specs.Work.{Bound, Entry, GroupOf, MarkedType, Place, Whole, float_of, plain}
+use Rattle.capnp_request_meaning.specs.Plain.{AreNodesPlain}
 
 -- ---- lists that are read ----
 
@@ -204,15 +205,38 @@ pub record AreFirstEnums (k : Numbers) (names : List (List ℕ)) : Type 0 where
   pub are : k.enums ≡ ids ++ more
   pub named : AreEnumsNamed k.nodes ids names
 
+-- the structs in a type are among so many first entries, and the enums among so many first ones
+abbrev pub IsAmongFirst : (structs enums : ℕ) → SchemaType → Type 0
+IsAmongFirst structs enums VoidType = Unit {0}
+IsAmongFirst structs enums BoolType = Unit {0}
+IsAmongFirst structs enums (IntType bytes) = Unit {0}
+IsAmongFirst structs enums (UIntType bytes) = Unit {0}
+IsAmongFirst structs enums (EnumType number) = number < enums
+IsAmongFirst structs enums TextType = Unit {0}
+IsAmongFirst structs enums DataType = Unit {0}
+IsAmongFirst structs enums (StructType number generic) = number < structs
+IsAmongFirst structs enums (ListType t) = IsAmongFirst structs enums t
+IsAmongFirst structs enums AnyPointerType = Unit {0}
+
+abbrev pub EachType : (SchemaType → Type 0) → List MarkedType → Type 0
+EachType P [] = Unit {0}
+EachType P (t ∷ ts) = P t.type × EachType P ts
+
+-- so are all that are bound somewhere
+abbrev pub AreAmongFirst : (structs enums : ℕ) → List Bound → Type 0
+AreAmongFirst structs enums bound = EachBound (λ (b : Bound). EachType (IsAmongFirst structs enums) b.types) bound
+
 -- What stands behind the last colon of a node's display name. Behind each of its parts stand the names of the types that are
--- bound to the parameters of its scopes: of structs those before it have names, and of enums the first ones. The file, with that
--- colon, stands before it exactly where an earlier entry of another node has the same behind its colon.
+-- bound to the parameters of its scopes. Of structs those before it have names, and of enums the first ones; all that are bound
+-- are among these. The file, with that colon, stands before it exactly where an earlier entry of another node has the same behind
+-- its colon.
 pub record IsNameOf (k : Numbers) (earlier : List Entry) (before : List Node) (e : Entry) (n : SchemaNode) (name : List ℕ) : Type 0 where
   pub display : List ℕ
   pub enums : List (List ℕ)
   pub with_file : Bool
   pub said : n.display_name ≡ Ok display
   pub first_enums : AreFirstEnums k enums
+  pub have_names : AreNodesPlain k.nodes → AreAmongFirst (length before) (length enums) e.bound
   pub is : name ≡ file_where with_file display ++ bound_name (map (λ (m : Node). m.display_name) before) enums e.bound (occurrences_of 46 (dotted_of display)) 0 (dotted_of display)
   pub taken : IsTaken k.nodes earlier e.node (dotted_of display) → with_file ≡ true
   pub free : with_file ≡ true → IsTaken k.nodes earlier e.node (dotted_of display)
@@ -338,10 +362,10 @@ abbrev mutual
   IsBindingAmong nodes (MoreBindings t rest) zero inner = ⊥
   IsBindingAmong nodes (MoreBindings t rest) (suc count) inner = StandsIn nodes t inner ⊎ IsBindingAmong nodes rest count inner
 
--- a struct's type inside an entry is that of an entry, and an enum's is the first of its id
+-- a struct's type inside an entry is that of an entry, and an enum's is the first of its id, which an enum node has
 abbrev pub IsTarget : Numbers → (inside : List Bound) → TypeTerm → Target → Type 0
 IsTarget k inside (StructTerm id brand) (EntryAt n) = IsTypeOf k inside (StructTerm id brand) (plain (StructType n n))
-IsTarget k inside (EnumTerm id) (EnumAt n) = enum_position k.enums id 0 ≡ Some n
+IsTarget k inside (EnumTerm id) (EnumAt n) = (enum_position k.enums id 0 ≡ Some n) × (is_of_kind is_enum (node_named k.nodes id) ≡ true)
 IsTarget k inside t x = ⊥
 
 -- one of the types that stand somewhere is
