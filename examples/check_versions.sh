@@ -201,5 +201,30 @@ note: W is new
 structs: 4 compatible, 0 not'
 all 'all are compatible, and nothing is said of others' 0 --breaking-only 'structs: 4 compatible, 0 not'
 
+all 'both directions: only the old one lacks what the new one has' 1 '--both --breaking-only' 'old to new:
+structs: 4 compatible, 0 not
+new to old:
+U.d is gone: was Text, pointer 1, default ""
+structs: 3 compatible, 1 not'
+all 'the status is that of both directions' 1 '--both --quiet' ''
+
+made older 'struct S { a @0 :Int8; b @1 :Int8; } struct T { c @0 :Text; }'
+made newer 'struct S { a @0 :Int8; } struct T { c @0 :Text; }'
+all 'both directions: only the new one lacks what the old one has' 1 '--both' 'old to new:
+S.b is gone: was Int8, data bit 8, default 0
+structs: 1 compatible, 1 not
+new to old:
+note: S.b is new
+structs: 2 compatible, 0 not'
+
+made newer 'struct S { a @0 :Int8; c @1 :Int8; } struct T { c @0 :Text; }'
+all 'both directions agree' 0 '--both' 'old to new:
+note: S.b is named c now
+structs: 2 compatible, 0 not
+new to old:
+note: S.c is named b now
+structs: 2 compatible, 0 not'
+all 'both directions agree, and nothing is said of others' 0 '--both --quiet' ''
+
 [ "$failures" -eq 0 ] || exit 1
 echo "$checks cases: all as expected"

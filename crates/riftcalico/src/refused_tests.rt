@@ -57,7 +57,10 @@ static USAGES: [(&str, &str); 9] = [
     ),
     ("structs", "[--set FILE] [NAME]"),
     ("schemas", "[--strict]"),
-    ("compatible", "[--quiet] [--breaking-only] OLD NEW [NAME]"),
+    (
+        "compatible",
+        "[--quiet] [--breaking-only] [--both] OLD NEW [NAME]",
+    ),
 ];
 
 /// How a verb is called, as a line; all of them for another word.
@@ -192,6 +195,8 @@ schemas|Flat -> usage
 compatible|set -> usage
 compatible|--breaking-only|set -> usage
 get|--breaking-only|Flat|a -> usage
+get|--both|Flat|a -> usage
+compatible|--both|set -> usage
 compatible|set|calls|Flat|a -> usage
 compatible|--set|set|calls|Flat -> usage
 schemas|--set|set -> usage

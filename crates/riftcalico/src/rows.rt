@@ -752,7 +752,7 @@ pub(crate) const TOLD: &str = "\
 \"       riftcalico new [--set FILE] [--calls FILE] [--keep-going] [--packed] [--limit BYTES] NAME CALL..
 \"       riftcalico structs [--set FILE] [NAME]
 \"       riftcalico schemas [--strict]
-\"       riftcalico compatible [--quiet] [--breaking-only] OLD NEW [NAME]
+\"       riftcalico compatible [--quiet] [--breaking-only] [--both] OLD NEW [NAME]
 \"
 \"More of a verb is told by 'riftcalico VERB --help', the version by 'riftcalico --version'.
 

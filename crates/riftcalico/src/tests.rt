@@ -25,7 +25,7 @@ usage: riftcalico show [--set FILE] [--packed] [--limit BYTES] [--each [--keep-g
        riftcalico new [--set FILE] [--calls FILE] [--keep-going] [--packed] [--limit BYTES] NAME CALL..
        riftcalico structs [--set FILE] [NAME]
        riftcalico schemas [--strict]
-       riftcalico compatible [--quiet] [--breaking-only] OLD NEW [NAME]";
+       riftcalico compatible [--quiet] [--breaking-only] [--both] OLD NEW [NAME]";
 
 /// The only paths that have a file: of a set and of calls.
 const SET: &str = "set";

@@ -228,22 +228,42 @@ fn values_past_their_bounds_are_told(rt: HostRuntime) -> Result<(), Fail> {
     Ok(())
 }
 
-/// Words that compare two versions, whether the newer file has the set too, the status, and what is told and written.
-static COMPARED: [(&str, bool, &str); 3] = [
-    ("Values", true, "true 0 |"),
+/// Words that compare two versions, but the files, whether the newer file has the set too, the status, and what is told and
+/// written.
+static COMPARED: [(&str, &str, bool, &str); 6] = [
+    ("", "Values", true, "true 0 |"),
     (
+        "--both|",
+        "Values",
+        true,
+        "true 0 |old to new:\nnew to old:\n",
+    ),
+    ("--quiet|--both|", "Values", true, "true 0 |"),
+    (
+        "--both|",
         "Absent",
         true,
         "true 1 refused: 64 NameNotFound (Absent); see riftcalico structs\n|",
     ),
-    ("Values", false, "true 1 refused: 2 Truncated (calls)\n|"),
+    (
+        "",
+        "Absent",
+        true,
+        "true 1 refused: 64 NameNotFound (Absent); see riftcalico structs\n|",
+    ),
+    (
+        "",
+        "Values",
+        false,
+        "true 1 refused: 2 Truncated (calls)\n|",
+    ),
 ];
 
 #[test]
 fn a_set_follows_itself(rt: HostRuntime) -> Result<(), Fail> {
     let set = bytes_of(rt.alloc(), SET)?;
-    for (name, has_newer, wanted) in &COMPARED {
-        let words = format!(in rt.alloc(); "compatible|set|calls|{name}")?;
+    for (options, name, has_newer, wanted) in &COMPARED {
+        let words = format!(in rt.alloc(); "compatible|{options}set|calls|{name}")?;
         let setting = Setting {
             set: &set,
             calls: if *has_newer { &set } else { &[] },

@@ -1,8 +1,7 @@
 -- What is answered to a message's bytes: what is written, what is told, and whether a call was refused.
-use Rattle.std.specs.Prelude.{ℕ, suc, ◌<◌, ◌≤◌, ◌≡◌, ◌==◌, ◌⊎◌, ⊤, List, [], length, map, Bool, true, false, cond, not, Option, None, Some, Result, Ok, Err, string_bytes}
-use Rattle.std.specs.Option.{option_map}
+use Rattle.std.specs.Prelude.{ℕ, suc, ◌<◌, ◌≤◌, ◌≡◌, ◌⊎◌, ⊤, List, [], length, map, Bool, true, false, cond, not, None, Result, Ok, Err, string_bytes}
 use Rattle.capnp_device.specs.declared.error.ErrorKind.{ErrorKind}
-use Rattle.capnp_device.specs.declared.error.ErrorKind.TheVariants.{NameNotFound, OutOfMemory, TooLarge}
+use Rattle.capnp_device.specs.declared.error.ErrorKind.TheVariants.{TooLarge}
 use Rattle.capnp_arena.specs.Message.{IsMessage, message_tree}
 use Rattle.capnp_arena.specs.Segment.{segment}
 use Rattle.capnp_arena.specs.Shape.{word_count}
@@ -30,11 +29,6 @@ use Rattle.capnp_schema.specs.Schema.{Schemas}
 use Rattle.capnp_schema.specs.StructHandles.{IsStruct, number_of, set_of}
 use Rattle.capnp_schema.specs.declared.schema.structs.StructSchema.{StructSchema}
 use Rattle.capnp_set_engine.specs.Convert.{HasNoSet, IsSetOf}
-use Rattle.capnp_sets.specs.Message.{IsMessageRefusal, message_set}
-use Rattle.capnp_versions.specs.Shared.{named_report_text, report_text}
-use Rattle.capnp_versions.specs.Versions.{IsComparison, IsFullComparison, IsNotCompared, IsNotComparedAll}
-use Rattle.capnp_versions.specs.declared.every.FullComparison.{FullComparison}
-use Rattle.capnp_versions.specs.declared.versions.Comparison.{Comparison}
 use Rattle.capnp_show_engine.specs.Show.{IsLineOf}
 use Rattle.capnp_structs.specs.Fields.{fields_text}
 use Rattle.capnp_structs.specs.Names.{structs_text}
@@ -44,6 +38,7 @@ use Rattle.capnp_wire.specs.Tree.{Tree}
 use Rattle.capnp_wire.specs.Words.{words_of}
 use Rattle.riftcalico_core.specs.AllFaults.{any_told, refusals_lines}
 use Rattle.riftcalico_core.specs.CallsSeen.{read_call_seen}
+use Rattle.riftcalico_core.specs.Comparisons.{IsCompareAnswer, IsUncompared, compare_blamed}
 use Rattle.riftcalico_core.specs.Depths.{IsDepthTold}
 use Rattle.riftcalico_core.specs.Jobs.{is_packed, wants_input}
 use Rattle.riftcalico_core.specs.Json.{IsJsonAnswer, IsNoJson}
@@ -58,7 +53,6 @@ use Rattle.riftcalico_core.specs.declared.fault.Blamed.TheVariants as blamed
 use Rattle.riftcalico_core.specs.declared.fault.Fault.{Fault}
 use Rattle.riftcalico_core.specs.declared.job.CallsJob.{CallsJob}
 use Rattle.riftcalico_core.specs.declared.job.CheckJob.{CheckJob}
-use Rattle.riftcalico_core.specs.declared.job.CompareJob.{CompareJob}
 use Rattle.riftcalico_core.specs.declared.job.GetJob.{GetJob}
 use Rattle.riftcalico_core.specs.declared.job.Job.{Job}
 use Rattle.riftcalico_core.specs.declared.job.Job.TheVariants as job
@@ -238,54 +232,6 @@ IsSetOutput strict bytes lines o = ⊥
 pub record IsConvertAnswer (strict : Bool) (bytes : List ℕ) (a : Answer) : Type 0 where
   pub set : IsSetOutput strict bytes (string_bytes a.lines) a.output
   pub refused : a.refused ≡ false
-
--- ---- two versions ----
-
--- what is told is written, where more than the status is wanted
-abbrev pub IsComparisonOutput : (quiet : Bool) → (text : List ℕ) → Output → Type 0
-IsComparisonOutput true text o = o ≡ output.Nothing
-IsComparisonOutput false text o = IsTextOutput o (λ written. written ≡ text)
-
--- and the newer struct follows the older one or is refused
-pub record IsNamedCompared (j : CompareJob) (newer : Schemas) (name : List ℕ) (a : Answer) : Type 0 where
-  pub comparison : Comparison
-  pub compared : IsComparison (lists_seen j.schemas.now) newer name comparison
-  pub text : IsComparisonOutput j.quiet (named_report_text j.breaking_only comparison) a.output
-  pub told : string_bytes a.lines ≡ []
-  pub refused : a.refused ≡ not comparison.follows
-
--- of all structs the report is written, and they are refused unless all follow
-pub record IsEachCompared (j : CompareJob) (newer : Schemas) (a : Answer) : Type 0 where
-  pub comparison : FullComparison
-  pub compared : IsFullComparison (lists_seen j.schemas.now) newer comparison
-  pub text : IsComparisonOutput j.quiet (report_text j.breaking_only comparison) a.output
-  pub told : string_bytes a.lines ≡ []
-  pub refused : a.refused ≡ not (comparison.incompatible == 0)
-
-abbrev pub AreCompared : CompareJob → (newer : Schemas) → (name : Option (List ℕ)) → Answer → Type 0
-AreCompared j newer (Some name) a = IsNamedCompared j newer name a
-AreCompared j newer None a = IsEachCompared j newer a
-
-pub record IsCompareAnswer (j : CompareJob) (a : Answer) : Type 0 where
-  pub newer : Schemas
-  pub read : message_set j.newer.now ≡ Some newer
-  pub compared : AreCompared j newer (option_map (λ w. w.now) j.name) a
-
--- one of the sets has no such struct, or they can't be joined
-abbrev pub AreNotCompared : (older newer : Schemas) → (name : Option (List ℕ)) → ErrorKind → Type 0
-AreNotCompared older newer (Some name) kind = IsNotCompared older newer name kind
-AreNotCompared older newer None kind = IsNotComparedAll older newer kind
-
--- the newer set is refused, or one of the sets has no such struct, or they can't be joined
-pub record IsUncompared (j : CompareJob) (f : Fault) : Type 0 where
-  pub cause : IsMessageRefusal j.newer.now f.error ⊎ ((newer : Schemas) × (message_set j.newer.now ≡ Some newer) × AreNotCompared (lists_seen j.schemas.now) newer (option_map (λ w. w.now) j.name) f.error.kind)
-  pub note : string_bytes f.note ≡ []
-
--- what is to be looked at then: the name, or else the file of the newer set
-abbrev pub compare_blamed : ErrorKind → Blamed
-compare_blamed NameNotFound = blamed.Name
-compare_blamed OutOfMemory = blamed.«Output»
-compare_blamed kind = blamed.Calls
 
 -- ---- a job ----
 

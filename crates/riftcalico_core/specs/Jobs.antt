@@ -101,6 +101,7 @@ pub record IsCompareJob (p : ComparePlan) (set : Schemas) (j : CompareJob) : Typ
   pub newer : j.newer.now ≡ p.newer
   pub quiet : j.quiet ≡ p.quiet
   pub breaking_only : j.breaking_only ≡ p.breaking_only
+  pub both : j.both ≡ p.both
 
 abbrev pub IsJob : Plan → Schemas → Job → Type 0
 IsJob (get_plan p) set (job.Get j) = IsGetJob p set j

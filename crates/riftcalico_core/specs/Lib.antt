@@ -2,6 +2,7 @@ pub mod AllFaults
 pub mod Answers
 pub mod Calls
 pub mod CallsSeen
+pub mod Comparisons
 pub mod Depths
 pub mod Faults
 pub mod Jobs

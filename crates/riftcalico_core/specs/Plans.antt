@@ -37,12 +37,13 @@ pub record CallsPlan : Type 0 where
   pub packed : Bool
   pub limit : ℕ
 
--- a struct by its name or all, the bytes of the newer set, whether only the status is wanted, and whether only what breaks is told
+-- a struct by its name or all, the bytes of the newer set, whether only the status is wanted, whether only what breaks is told, and whether they are compared in both directions
 pub record ComparePlan : Type 0 where
   pub name : Option (List ℕ)
   pub newer : List ℕ
   pub quiet : Bool
   pub breaking_only : Bool
+  pub both : Bool
 
 pub data Plan : Type 0 where
   get_plan : GetPlan → Plan
@@ -143,6 +144,6 @@ task_plan (new_task t) file = as_plan new_plan (calls_plan_of t file)
 task_plan (structs_task set) file = Ok (structs_plan set)
 task_plan (fields_task r) file = Ok (fields_plan r)
 task_plan (convert_task strict) file = Ok (convert_plan strict)
-task_plan (compatible_task t) file = Ok (compatible_plan (record { name = t.name; newer = file; quiet = t.quiet; breaking_only = t.breaking_only }))
+task_plan (compatible_task t) file = Ok (compatible_plan (record { name = t.name; newer = file; quiet = t.quiet; breaking_only = t.breaking_only; both = t.both }))
 task_plan (help_task v) file = Ok (help_plan v)
 task_plan version_task file = Ok version_plan

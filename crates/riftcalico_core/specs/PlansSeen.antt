@@ -19,7 +19,7 @@ abbrev pub check_plan_seen : CheckPlan → plans.CheckPlan
 check_plan_seen p = record { root = root_named p.root; path = path_text_seen p.path; all = p.all; packed = p.packed; limit = p.limit }
 
 abbrev pub compare_plan_seen : ComparePlan → plans.ComparePlan
-compare_plan_seen p = record { name = option_map (λ w. w.now) p.name; newer = p.newer.now; quiet = p.quiet; breaking_only = p.breaking_only }
+compare_plan_seen p = record { name = option_map (λ w. w.now) p.name; newer = p.newer.now; quiet = p.quiet; breaking_only = p.breaking_only; both = p.both }
 
 abbrev pub calls_plan_seen : CallsPlan → plans.CallsPlan
 calls_plan_seen p = record { root = root_named p.root; texts = map call_text_seen p.texts.items; words = map (λ w. w.now) p.words.items; keep_going = p.keep_going; packed = p.packed; limit = p.limit }

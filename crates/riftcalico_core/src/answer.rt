@@ -1,6 +1,5 @@
 //! What is answered to a message's bytes.
 ghost use Rattle.std.specs.Prelude.{◌≡◌, ◌≢◌, ◌⊎◌, IfErr, IfOk, IfSome, MatchOption, None, Some, map, string_bytes};
-ghost use Rattle.std.specs.Option.{option_map};
 ghost use Rattle.capnp_device.specs.declared.error.ErrorKind.TheVariants.{OutOfMemory, TooLarge};
 ghost use Rattle.capnp_arena.specs.Message.{IsMessage, message_tree};
 ghost use Rattle.capnp_call.specs.Seen.{call_seen, path_seen};
@@ -9,11 +8,8 @@ ghost use Rattle.capnp_patch.specs.Patches.{IsUnread};
 ghost use Rattle.capnp_patch.specs.Places.{HasFewParts, HasMoreParts};
 ghost use Rattle.capnp_schema.specs.Entries.{lists_seen};
 ghost use Rattle.capnp_schema.specs.StructHandles.{IsStruct, number_of, set_of};
-ghost use Rattle.capnp_schema.specs.Schema.{Schemas};
 ghost use Rattle.capnp_set_engine.specs.Convert.{HasNoSet};
-ghost use Rattle.capnp_sets.specs.Message.{IsMessageRefusal, message_set};
-ghost use Rattle.capnp_versions.specs.Versions.{IsNotCompared, IsNotComparedAll};
-ghost use Rattle.riftcalico_core.specs.Answers.{AreCompared, AreNotCompared, HasTooMany, IsAllAnswer, IsAnswer, IsCheckAnswer, IsCompareAnswer, IsComparisonOutput, IsConvertAnswer, IsEachCompared, IsFieldsAnswer, IsGetAnswer, IsMessageAnswer, IsMessageOutput, IsNamedCompared, IsNewAnswer, IsNoAnswer, IsNoMessageAnswer, IsNotChecked, IsNotGot, IsNotShown, IsPackedMessage, IsPatchAnswer, IsRunAnswer, IsShownAnswer, IsSoundJob, IsStructsAnswer, IsTextThere, IsUncompared, IsWritableOutput, answer_blamed, compare_blamed, job_text};
+ghost use Rattle.riftcalico_core.specs.Answers.{HasTooMany, IsAllAnswer, IsAnswer, IsCheckAnswer, IsConvertAnswer, IsFieldsAnswer, IsGetAnswer, IsMessageAnswer, IsMessageOutput, IsNewAnswer, IsNoAnswer, IsNoMessageAnswer, IsNotChecked, IsNotGot, IsNotShown, IsPackedMessage, IsPatchAnswer, IsRunAnswer, IsShownAnswer, IsSoundJob, IsStructsAnswer, IsTextThere, IsWritableOutput, answer_blamed, job_text};
 ghost use Rattle.riftcalico_core.specs.Notes.{place_note};
 ghost use Rattle.riftcalico_core.specs.Quiet.{IsQuiet};
 ghost use Rattle.riftcalico_core.specs.Steps.Texts.{IsNoText};
@@ -21,9 +17,10 @@ ghost use Rattle.riftcalico_core.specs.declared.fault.Blamed.TheVariants.{Input}
 
 use crate::all_faults::{any_refusal, get_refusal_lines};
 use crate::calls::make_calls;
+use crate::compare::answer_compare;
 use crate::depth::put_depth_note;
 use crate::fault::{Blamed, Fault, Faulty, blame, get_fault};
-use crate::job::{CallsJob, CheckJob, CompareJob, GetJob, Job};
+use crate::job::{CallsJob, CheckJob, GetJob, Job};
 use crate::json::answer_json;
 use crate::note::get_place_note;
 use crate::replies::get_noted_lines;
@@ -38,10 +35,8 @@ use capnp_patch::place::{Refusal, find_place, find_place_within, find_places};
 use capnp_schema::schema::StructSchema;
 use capnp_schema::set::SchemaSet;
 use capnp_set_engine::engine::convert_bytes;
-use capnp_sets::message::read_message as read_set;
 use capnp_structs::fields::get_fields;
 use capnp_structs::names::get_structs;
-use capnp_versions::{compare, compare_all, get_named_report, get_report};
 use capnp_wire::error::{Error, ErrorKind, Result};
 use riftcalico_words::usage::{get_help, get_version};
 use std::alloc::Global;
@@ -366,107 +361,6 @@ fn answer_convert(alloc: Global, strict: bool, input: &[u8]) -> Result<Answer>
         lines: made.lines,
         refused: false,
     })
-}
-
-/// What is to be looked at where two versions can't be compared.
-fn compare_blamed(kind: ErrorKind) -> Blamed
-    ensures { result ≡ compare_blamed kind }
-{
-    match kind {
-        ErrorKind::NameNotFound => Blamed::Name,
-        ErrorKind::OutOfMemory => Blamed::Output,
-        _ => Blamed::Calls,
-    }
-}
-
-/// The text of a comparison, where more than the status is wanted.
-fn get_comparison_output(quiet: bool, text: String) -> Output
-    ensures written { IsComparisonOutput quiet (string_bytes text) result }
-    ensures writable { IsWritableOutput result }
-{
-    if quiet {
-        Output::Nothing
-    } else {
-        Output::Text(text)
-    }
-}
-
-/// What differs between the structs of a name in two sets, as text.
-fn compare_named(
-    alloc: Global,
-    job: &CompareJob<'_, '_>,
-    newer: &SchemaSet,
-    name: &str,
-) -> Result<Answer>
-    ensures answer { IfOk result (IsNamedCompared job.now (lists_seen newer.now) name.now) }
-    ensures writable { IfOk result (λ a. IsWritableOutput a.output) }
-    ensures refused { IfErr result (λ e. e.kind ≢ OutOfMemory
-        → IsNotCompared (lists_seen job.now.schemas.now) (lists_seen newer.now) name.now e.kind) }
-{
-    let comparison = compare(alloc, job.schemas, newer, name)?;
-    let text = get_named_report(alloc, &comparison, job.breaking_only)?;
-    Ok(Answer {
-        output: get_comparison_output(job.quiet, text),
-        lines: String::new(alloc),
-        refused: !comparison.follows,
-    })
-}
-
-/// What differs between all structs of two sets, as text.
-fn compare_each(alloc: Global, job: &CompareJob<'_, '_>, newer: &SchemaSet) -> Result<Answer>
-    ensures answer { IfOk result (IsEachCompared job.now (lists_seen newer.now)) }
-    ensures writable { IfOk result (λ a. IsWritableOutput a.output) }
-    ensures refused { IfErr result (λ e. e.kind ≢ OutOfMemory
-        → IsNotComparedAll (lists_seen job.now.schemas.now) (lists_seen newer.now) e.kind) }
-{
-    let comparison = compare_all(alloc, job.schemas, newer)?;
-    let text = get_report(alloc, &comparison, job.breaking_only)?;
-    Ok(Answer {
-        output: get_comparison_output(job.quiet, text),
-        lines: String::new(alloc),
-        refused: comparison.incompatible != 0,
-    })
-}
-
-/// What differs between a struct of two sets, or all structs, as text.
-fn compare_sets(alloc: Global, job: &CompareJob<'_, '_>, newer: &SchemaSet) -> Result<Answer>
-    ensures answer { IfOk result (AreCompared job.now (lists_seen newer.now) (option_map (λ w. w.now) job.now.name)) }
-    ensures writable { IfOk result (λ a. IsWritableOutput a.output) }
-    ensures refused { IfErr result (λ e. e.kind ≢ OutOfMemory → AreNotCompared (lists_seen job.now.schemas.now)
-        (lists_seen newer.now) (option_map (λ w. w.now) job.now.name) e.kind) }
-{
-    match job.name {
-        Some(name) => compare_named(alloc, job, newer, name),
-        None => compare_each(alloc, job, newer),
-    }
-}
-
-/// What differs between two versions, as text.
-fn compare_versions(alloc: Global, job: &CompareJob<'_, '_>) -> Result<Answer>
-    ensures answer { IfOk result (IsCompareAnswer job.now) }
-    ensures writable { IfOk result (λ a. IsWritableOutput a.output) }
-    ensures refused { IfErr result (λ e. e.kind ≢ OutOfMemory → IsMessageRefusal job.now.newer.now e
-        ⊎ ((newer : Schemas) × (message_set job.now.newer.now ≡ Some newer)
-        × AreNotCompared (lists_seen job.now.schemas.now) newer (option_map (λ w. w.now) job.now.name) e.kind)) }
-{
-    let newer = read_set(alloc, job.newer)?;
-    match compare_sets(alloc, job, &newer) {
-        Ok(answer) => Ok(answer),
-        Err(error) => Err(error),
-    }
-}
-
-/// What differs between two versions, or what is to be looked at.
-fn answer_compare(alloc: Global, job: &CompareJob<'_, '_>) -> Faulty<Answer>
-    ensures answer { IfOk result (IsCompareAnswer job.now) }
-    ensures writable { IfOk result (λ a. IsWritableOutput a.output) }
-    ensures refused { IfErr result (λ f. f.error.kind ≢ OutOfMemory → IsUncompared job.now f) }
-    ensures blamed { IfErr result (λ f. f.blamed ≡ compare_blamed f.error.kind) }
-{
-    match compare_versions(alloc, job) {
-        Ok(answer) => Ok(answer),
-        Err(error) => Err(get_fault(alloc, error, compare_blamed(error.kind))),
-    }
 }
 
 /// What a job answers to a message that is not packed. Refused as `get_answer`, but for what is packed.

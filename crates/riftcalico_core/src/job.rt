@@ -64,7 +64,7 @@ pub struct CallsJob<'s, 'c, 'w> {
 }
 
 /// The struct of a name or all structs, which are compared with those of the set in these bytes; whether only the status is
-/// wanted, and whether only what breaks is told.
+/// wanted, whether only what breaks is told, and whether they are compared in both directions.
 #[derive(Clone, Copy)]
 pub struct CompareJob<'s, 'c> {
     pub schemas: &'s SchemaSet,
@@ -72,6 +72,7 @@ pub struct CompareJob<'s, 'c> {
     pub newer: &'c [u8],
     pub quiet: bool,
     pub breaking_only: bool,
+    pub both: bool,
 }
 
 /// What is done to a message.
@@ -305,6 +306,7 @@ pub fn find_job<'s, 'c, 'w>(
             newer: plan.newer,
             quiet: plan.quiet,
             breaking_only: plan.breaking_only,
+            both: plan.both,
         }))),
         Plan::Help(verb) => Ok(Ok(Job::Help(*verb))),
         Plan::Version => Ok(Ok(Job::Version)),

@@ -5,6 +5,7 @@
 mod all_faults;
 pub mod answer;
 pub mod calls;
+mod compare;
 mod depth;
 pub mod fault;
 pub mod job;

@@ -54,13 +54,14 @@ pub struct CallsPlan<'a> {
 }
 
 /// The struct of a name or all structs, which are compared with those of the set in these bytes; whether only the status is
-/// wanted, and whether only what breaks is told.
+/// wanted, whether only what breaks is told, and whether they are compared in both directions.
 #[derive(Clone, Copy)]
 pub struct ComparePlan<'a> {
     pub name: Option<&'a str>,
     pub newer: &'a [u8],
     pub quiet: bool,
     pub breaking_only: bool,
+    pub both: bool,
 }
 
 /// What is to be done.
@@ -266,6 +267,7 @@ pub fn read_plan<'a>(alloc: Global, task: &Task<'a>, file: &'a [u8]) -> Result<T
             newer: file,
             quiet: request.quiet,
             breaking_only: request.breaking_only,
+            both: request.both,
         }))),
         Task::Help(verb) => Ok(Ok(Plan::Help(*verb))),
         Task::Version => Ok(Ok(Plan::Version)),

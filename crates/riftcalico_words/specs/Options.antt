@@ -21,6 +21,7 @@ pub record WordOptions : Type 0 where
   pub all : Bool
   pub quiet : Bool
   pub breaking_only : Bool
+  pub both : Bool
   pub help : Bool
   pub others : List (List ℕ)
   pub waiting : Option ValueOption
@@ -39,6 +40,7 @@ no_options = record {
   all = false;
   quiet = false;
   breaking_only = false;
+  both = false;
   help = false;
   others = [];
   waiting = None;
@@ -64,6 +66,7 @@ word_kind word =
     else if bytes_eq word (codes "--all") then kind.Flag flag.All
     else if bytes_eq word (codes "--quiet") then kind.Flag flag.Quiet
     else if bytes_eq word (codes "--breaking-only") then kind.Flag flag.BreakingOnly
+    else if bytes_eq word (codes "--both") then kind.Flag flag.Both
     else if bytes_eq word (codes "--help") then kind.Flag flag.Help
     else if is_option word then kind.Unknown
     else kind.Other
@@ -77,6 +80,7 @@ with_flag o flag.Strict = record o { strict = true }
 with_flag o flag.All = record o { all = true }
 with_flag o flag.Quiet = record o { quiet = true }
 with_flag o flag.BreakingOnly = record o { breaking_only = true }
+with_flag o flag.Both = record o { both = true }
 with_flag o flag.Help = record o { help = true }
 
 abbrev pub with_value : WordOptions → ValueOption → (word : List ℕ) → WordOptions

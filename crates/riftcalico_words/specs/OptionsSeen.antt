@@ -19,6 +19,7 @@ options_seen o = record {
   all = o.all;
   quiet = o.quiet;
   breaking_only = o.breaking_only;
+  both = o.both;
   help = o.help;
   others = map (λ w. w.now) o.others.items;
   waiting = o.waiting;

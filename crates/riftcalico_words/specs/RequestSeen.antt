@@ -30,7 +30,7 @@ abbrev pub check_task_of : CheckRequest → CheckTask
 check_task_of r = record { root = root_named r.root; path = r.path.now; all = r.all; packed = r.packed; messages = r.messages; limit = r.limit }
 
 abbrev pub compare_task_of : CompareRequest → CompareTask
-compare_task_of r = record { older = r.older.now; newer = r.newer.now; name = option_map (λ w. w.now) r.name; quiet = r.quiet; breaking_only = r.breaking_only }
+compare_task_of r = record { older = r.older.now; newer = r.newer.now; name = option_map (λ w. w.now) r.name; quiet = r.quiet; breaking_only = r.breaking_only; both = r.both }
 
 abbrev pub given_of : CallWords → GivenCalls
 given_of (words.Words ws) = in_words (map (λ w. w.now) ws.items)

@@ -109,6 +109,7 @@ takes_flag v flag.Strict = takes_strict v
 takes_flag v flag.All = takes_all v
 takes_flag v flag.Quiet = is_comparison v
 takes_flag v flag.BreakingOnly = is_comparison v
+takes_flag v flag.Both = is_comparison v
 takes_flag v flag.Help = true
 
 -- an option stands only where its verb takes it
@@ -132,6 +133,7 @@ flags_fit v o =
     && is_allowed o.all (takes_flag v flag.All)
     && is_allowed o.quiet (takes_flag v flag.Quiet)
     && is_allowed o.breaking_only (takes_flag v flag.BreakingOnly)
+    && is_allowed o.both (takes_flag v flag.Both)
 
 -- a verb that only reads goes on behind a message that is refused where there are several
 abbrev pub going_fits : Verb → WordOptions → Bool
@@ -213,7 +215,7 @@ schemas_asked o [] = Some (convert_task o.strict)
 schemas_asked o words = None
 
 abbrev pub compared_of : WordOptions → (older newer : List ℕ) → (name : Option (List ℕ)) → Task
-compared_of o older newer name = compatible_task (record { older = older; newer = newer; name = name; quiet = o.quiet; breaking_only = o.breaking_only })
+compared_of o older newer name = compatible_task (record { older = older; newer = newer; name = name; quiet = o.quiet; breaking_only = o.breaking_only; both = o.both })
 
 abbrev pub compatible_asked : WordOptions → List (List ℕ) → Option Task
 compatible_asked o (older ∷ newer ∷ []) = Some (compared_of o older newer None)

@@ -51,13 +51,14 @@ pub record CallsTask : Type 0 where
   pub limit : ℕ
   pub in_place : Option (List ℕ)
 
--- the struct of a name in the sets of two files, an older and a newer one, or all structs; whether only the status is wanted, and whether only what breaks is told
+-- the struct of a name in the sets of two files, an older and a newer one, or all structs; whether only the status is wanted, whether only what breaks is told, and whether they are compared in both directions
 pub record CompareTask : Type 0 where
   pub older : List ℕ
   pub newer : List ℕ
   pub name : Option (List ℕ)
   pub quiet : Bool
   pub breaking_only : Bool
+  pub both : Bool
 
 -- A value is shown, a message as JSON, or a value is only looked at whether it can be, calls are made on a copy of a message or on an empty root, the structs of a set are shown, in the set of a file or else in the built-in one, or the fields of a struct, a compiler's request is made a set,
 -- two versions of a struct or of all are compared, or help is told, of all or of a verb, or the version.

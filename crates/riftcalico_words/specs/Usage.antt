@@ -15,7 +15,7 @@ usage_lines =
     ++ codes "       riftcalico new [--set FILE] [--calls FILE] [--keep-going] [--packed] [--limit BYTES] NAME CALL..\n"
     ++ codes "       riftcalico structs [--set FILE] [NAME]\n"
     ++ codes "       riftcalico schemas [--strict]\n"
-    ++ codes "       riftcalico compatible [--quiet] [--breaking-only] OLD NEW [NAME]\n"
+    ++ codes "       riftcalico compatible [--quiet] [--breaking-only] [--both] OLD NEW [NAME]\n"
 
 -- how a verb is
 abbrev pub verb_usage : Verb → List ℕ
@@ -27,7 +27,7 @@ verb_usage verb.Patch = codes "usage: riftcalico patch [--set FILE] [--calls FIL
 verb_usage verb.New = codes "usage: riftcalico new [--set FILE] [--calls FILE] [--keep-going] [--packed] [--limit BYTES] NAME CALL..\n"
 verb_usage verb.Structs = codes "usage: riftcalico structs [--set FILE] [NAME]\n"
 verb_usage verb.Schemas = codes "usage: riftcalico schemas [--strict]\n"
-verb_usage verb.Compatible = codes "usage: riftcalico compatible [--quiet] [--breaking-only] OLD NEW [NAME]\n"
+verb_usage verb.Compatible = codes "usage: riftcalico compatible [--quiet] [--breaking-only] [--both] OLD NEW [NAME]\n"
 
 -- what a verb does
 abbrev pub verb_help : Verb → List ℕ
@@ -98,7 +98,7 @@ verb_help verb.Schemas =
     ++ codes "Reads a request of the public compiler, as 'capnp compile -o- FILE..' writes it, and writes its set of schemas.\n"
     ++ codes "With --strict floats and interfaces are refused.\n"
 verb_help verb.Compatible =
-    codes "usage: riftcalico compatible [--quiet] [--breaking-only] OLD NEW [NAME]\n"
+    codes "usage: riftcalico compatible [--quiet] [--breaking-only] [--both] OLD NEW [NAME]\n"
     ++ codes "\n"
     ++ codes "Tells what differs between the struct NAME of the set in the file OLD and that of the set in NEW, so that a program that\n"
     ++ codes "knows one can't read messages of the other: a line for each difference. The status is 0 where there is none, as the newer\n"
@@ -107,6 +107,8 @@ verb_help verb.Compatible =
     ++ codes "each list whose elements became structs, unless --breaking-only stands there.\n"
     ++ codes "Without NAME all structs are compared whose names stand in both sets. Notes tell those that went or came, too, and the\n"
     ++ codes "last line how many structs are compatible and how many not. The status is 0 where all are.\n"
+    ++ codes "With --both the sets are compared a second time as if OLD were the newer one, and a line stands before each direction. The\n"
+    ++ codes "status is 0 where both are compatible.\n"
 
 -- what the program does, or one verb
 abbrev pub program_help : List ℕ
@@ -122,7 +124,7 @@ program_help =
     ++ codes "       riftcalico new [--set FILE] [--calls FILE] [--keep-going] [--packed] [--limit BYTES] NAME CALL..\n"
     ++ codes "       riftcalico structs [--set FILE] [NAME]\n"
     ++ codes "       riftcalico schemas [--strict]\n"
-    ++ codes "       riftcalico compatible [--quiet] [--breaking-only] OLD NEW [NAME]\n"
+    ++ codes "       riftcalico compatible [--quiet] [--breaking-only] [--both] OLD NEW [NAME]\n"
     ++ codes "\n"
     ++ codes "More of a verb is told by 'riftcalico VERB --help', the version by 'riftcalico --version'.\n"
 

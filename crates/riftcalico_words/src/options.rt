@@ -27,6 +27,8 @@ pub enum Flag {
     Quiet,
     /// `--breaking-only`
     BreakingOnly,
+    /// `--both`
+    Both,
     /// `--help`
     Help,
 }
@@ -70,6 +72,7 @@ pub struct Options<'a> {
     pub all: bool,
     pub quiet: bool,
     pub breaking_only: bool,
+    pub both: bool,
     pub help: bool,
     pub others: Vec<&'a str>,
     /// The option whose word comes next.
@@ -103,6 +106,7 @@ fn kind_of(word: &str) -> WordKind
         "--all" => WordKind::Flag(Flag::All),
         "--quiet" => WordKind::Flag(Flag::Quiet),
         "--breaking-only" => WordKind::Flag(Flag::BreakingOnly),
+        "--both" => WordKind::Flag(Flag::Both),
         "--help" => WordKind::Flag(Flag::Help),
         _ => {
             if is_option_word(word) {
@@ -128,6 +132,7 @@ fn put_flag(options: Options<'_>, flag: Flag) -> Options<'_>
         Flag::All => options.all = true,
         Flag::Quiet => options.quiet = true,
         Flag::BreakingOnly => options.breaking_only = true,
+        Flag::Both => options.both = true,
         Flag::Help => options.help = true,
     }
     options
@@ -208,6 +213,7 @@ pub fn read_options<'a>(
         all: false,
         quiet: false,
         breaking_only: false,
+        both: false,
         help: false,
         others: Vec::new(alloc),
         waiting: None,

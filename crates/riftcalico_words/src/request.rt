@@ -114,7 +114,7 @@ pub struct CallsRequest<'a> {
 }
 
 /// The struct of a name in the sets of two files, an older and a newer one, or all structs; whether only the status is
-/// wanted, and whether only what breaks is told.
+/// wanted, whether only what breaks is told, and whether they are compared in both directions.
 #[derive(Clone, Copy)]
 pub struct CompareRequest<'a> {
     pub older: &'a str,
@@ -122,6 +122,7 @@ pub struct CompareRequest<'a> {
     pub name: Option<&'a str>,
     pub quiet: bool,
     pub breaking_only: bool,
+    pub both: bool,
 }
 
 /// What is to be done.
@@ -290,7 +291,7 @@ fn takes_flag(verb: Verb, flag: Flag) -> bool
             Verb::Check => true,
             _ => false,
         },
-        Flag::Quiet | Flag::BreakingOnly => match verb {
+        Flag::Quiet | Flag::BreakingOnly | Flag::Both => match verb {
             Verb::Compatible => true,
             _ => false,
         },
@@ -327,6 +328,7 @@ fn do_flags_fit(verb: Verb, options: &Options<'_>) -> bool
         && is_allowed(options.all, verb, Flag::All)
         && is_allowed(options.quiet, verb, Flag::Quiet)
         && is_allowed(options.breaking_only, verb, Flag::BreakingOnly)
+        && is_allowed(options.both, verb, Flag::Both)
 }
 
 /// Whether a verb that only reads is to go on behind a message that is refused only where there are several.
@@ -492,6 +494,7 @@ fn read_compared<'a>(
         name,
         quiet: options.quiet,
         breaking_only: options.breaking_only,
+        both: options.both,
     })
 }
 
@@ -602,7 +605,7 @@ fn read_behind<'a>(alloc: Global, verb: Verb, words: &'a [String]) -> Result<Ask
 /// |`--calls FILE`, with no call beside it|`patch`, `new`|
 /// |`--all`|`check`|
 /// |`--strict`|`schemas`|
-/// |`--quiet`, `--breaking-only`|`compatible`|
+/// |`--quiet`, `--breaking-only`, `--both`|`compatible`|
 ///
 /// Refused with `OutOfMemory` alone.
 pub fn read_words<'a>(alloc: Global, words: &'a [String]) -> Result<Asked<'a>>

@@ -20,7 +20,7 @@ usage: riftcalico show [--set FILE] [--packed] [--limit BYTES] [--each [--keep-g
        riftcalico new [--set FILE] [--calls FILE] [--keep-going] [--packed] [--limit BYTES] NAME CALL..
        riftcalico structs [--set FILE] [NAME]
        riftcalico schemas [--strict]
-       riftcalico compatible [--quiet] [--breaking-only] OLD NEW [NAME]
+       riftcalico compatible [--quiet] [--breaking-only] [--both] OLD NEW [NAME]
 ";
 
 const HELP: &str = "\
@@ -35,7 +35,7 @@ usage: riftcalico show [--set FILE] [--packed] [--limit BYTES] [--each [--keep-g
        riftcalico new [--set FILE] [--calls FILE] [--keep-going] [--packed] [--limit BYTES] NAME CALL..
        riftcalico structs [--set FILE] [NAME]
        riftcalico schemas [--strict]
-       riftcalico compatible [--quiet] [--breaking-only] OLD NEW [NAME]
+       riftcalico compatible [--quiet] [--breaking-only] [--both] OLD NEW [NAME]
 
 More of a verb is told by 'riftcalico VERB --help', the version by 'riftcalico --version'.
 ";
@@ -73,7 +73,7 @@ usage: riftcalico schemas [--strict]
 ";
 
 const COMPATIBLE_USAGE: &str = "\
-usage: riftcalico compatible [--quiet] [--breaking-only] OLD NEW [NAME]
+usage: riftcalico compatible [--quiet] [--breaking-only] [--both] OLD NEW [NAME]
 ";
 
 const SHOW_HELP: &str = "\
@@ -159,7 +159,7 @@ With --strict floats and interfaces are refused.
 ";
 
 const COMPATIBLE_HELP: &str = "\
-usage: riftcalico compatible [--quiet] [--breaking-only] OLD NEW [NAME]
+usage: riftcalico compatible [--quiet] [--breaking-only] [--both] OLD NEW [NAME]
 
 Tells what differs between the struct NAME of the set in the file OLD and that of the set in NEW, so that a program that
 knows one can't read messages of the other: a line for each difference. The status is 0 where there is none, as the newer
@@ -168,6 +168,8 @@ Behind the differences a line that begins with 'note:' tells each field and enum
 each list whose elements became structs, unless --breaking-only stands there.
 Without NAME all structs are compared whose names stand in both sets. Notes tell those that went or came, too, and the
 last line how many structs are compatible and how many not. The status is 0 where all are.
+With --both the sets are compared a second time as if OLD were the newer one, and a line stands before each direction. The
+status is 0 where both are compatible.
 ";
 
 /// How a verb is called.

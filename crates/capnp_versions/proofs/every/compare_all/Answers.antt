@@ -33,7 +33,7 @@ returns-clause-compared c =
       few = subst (λ (l : List Bool). c.count_true-compatible.result ≤ length l) c.deref-4.ensures.value c.count_true-compatible.ensures.inside;
       incompatible = ap (λ (n : ℕ). n - c.count_true-compatible.result) (c.len.ensures ∙ (sym c.deref-4.ensures.len ∙ ap length c.deref-4.ensures.value));
       notes = c.in_ok-put_all_notes.ensures.put
-      ∙ (ap (λ (xs : List ℕ). xs ++ notes_text older newer)
-      (c.in_ok-put_changes.ensures.put ∙ ap (λ (xs : List ℕ). xs ++ changes_text set c.deref-3.result.now) c.new-notes.ensures.bytes)
-      ∙ ap (λ (ns : List Note). changes_text set ns ++ notes_text older newer) c.deref-3.ensures.value);
+          ∙ (ap (λ (xs : List ℕ). xs ++ notes_text older newer)
+          (c.in_ok-put_changes.ensures.put ∙ ap (λ (xs : List ℕ). xs ++ changes_text set c.deref-3.result.now) c.new-notes.ensures.bytes)
+          ∙ ap (λ (ns : List Note). changes_text set ns ++ notes_text older newer) c.deref-3.ensures.value);
     })

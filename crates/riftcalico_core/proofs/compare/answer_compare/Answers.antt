@@ -6,14 +6,14 @@ use Rattle.capnp_schema.specs.Entries.{lists_seen}
 use Rattle.capnp_schema.specs.Schema.{Schemas}
 use Rattle.capnp_sets.specs.Message.{IsMessageRefusal, message_set}
 use Rattle.std.specs.Option.{option_map}
-use Rattle.riftcalico_core.specs.Answers.{AreNotCompared}
-use Rattle.riftcalico_core.proofs.answer.answer_compare.Goals as goal
+use Rattle.riftcalico_core.specs.Comparisons.{IsNoReport}
+use Rattle.riftcalico_core.proofs.compare.answer_compare.Goals as goal
 
 pub returns-in-Err-clause-refused : goal.returns-in-Err-clause-refused
 returns-in-Err-clause-refused c =
     let j = c.args.job.now in
     λ memory. record {
-      cause = subst (λ (e : Error). e.kind ≢ OutOfMemory → IsMessageRefusal j.newer.now e ⊎ ((newer : Schemas) × (message_set j.newer.now ≡ Some newer) × AreNotCompared (lists_seen j.schemas.now) newer (option_map (λ w. w.now) j.name) e.kind))
+      cause = subst (λ (e : Error). e.kind ≢ OutOfMemory → IsMessageRefusal j.newer.now e ⊎ ((newer : Schemas) × (message_set j.newer.now ≡ Some newer) × IsNoReport j.both (lists_seen j.schemas.now) newer (option_map (λ w. w.now) j.name) e.kind))
           (sym c.get_fault.ensures.error) c.in-Err.ensures.refused memory;
       note = c.get_fault.ensures.note;
     }
