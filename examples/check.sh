@@ -228,6 +228,13 @@ got station.bin '(
   tenths = -2,
   hour = 18
 )' --set examples/station_set.bin Station readings.1 --indent
+got addressbook.bin '"Bob"
+2
+456' --set "$scratch/addressbook.set" AddressBook people.1.name people.1.phones.# people.1.id
+got addressbook.bin 'Bob
+2' --set "$scratch/addressbook.set" AddressBook --raw people.1.name people.#
+./riftcalico json --set "$scratch/addressbook.set" AddressBook people.1.phones.0 < examples/addressbook.bin > "$scratch/out" 2> "$scratch/err"
+expect 'json of a path' $? 0 '{"number":"555-4567","type":"home"}' ''
 
 # patched SCHEMA NAME FILE TEXT TOLD WORD..: what these calls leave of the message in FILE, as `capnp decode` reads it
 patched() {
@@ -323,8 +330,8 @@ expect 'another form' $? 2 '' 'usage: riftcalico show [--set FILE] [--packed] [-
 ./riftcalico shows Mixed < examples/mixed.bin > "$scratch/out" 2> "$scratch/err"
 expect 'another verb' $? 2 '' 'unknown verb: shows
 usage: riftcalico show [--set FILE] [--packed] [--limit BYTES] [--each [--keep-going]] NAME [--indent]
-       riftcalico get [--set FILE] [--packed] [--limit BYTES] [--each [--keep-going]] NAME PATH [--indent]
-       riftcalico json [--set FILE] [--packed] [--limit BYTES] [--each [--keep-going]] NAME [--indent]
+       riftcalico get [--set FILE] [--packed] [--limit BYTES] [--raw] [--each [--keep-going]] NAME PATH.. [--indent]
+       riftcalico json [--set FILE] [--packed] [--limit BYTES] [--each [--keep-going]] NAME [PATH] [--indent]
        riftcalico check [--set FILE] [--packed] [--limit PARTS] [--all] [--each [--keep-going]] NAME [PATH]
        riftcalico patch [--set FILE] [--calls FILE] [--keep-going] [--packed] [--limit BYTES] [--each] [--in-place FILE] NAME CALL..
        riftcalico new [--set FILE] [--calls FILE] [--keep-going] [--packed] [--limit BYTES] NAME CALL..

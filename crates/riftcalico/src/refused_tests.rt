@@ -37,11 +37,11 @@ static USAGES: [(&str, &str); 9] = [
     ),
     (
         "get",
-        "[--set FILE] [--packed] [--limit BYTES] [--each [--keep-going]] NAME PATH [--indent]",
+        "[--set FILE] [--packed] [--limit BYTES] [--raw] [--each [--keep-going]] NAME PATH.. [--indent]",
     ),
     (
         "json",
-        "[--set FILE] [--packed] [--limit BYTES] [--each [--keep-going]] NAME [--indent]",
+        "[--set FILE] [--packed] [--limit BYTES] [--each [--keep-going]] NAME [PATH] [--indent]",
     ),
     (
         "check",
@@ -157,7 +157,11 @@ show|Flat|a -> usage
 show|--strict|Flat -> usage
 get -> usage
 get|Flat -> usage
-get|--indent|Flat|a|b -> usage
+get|--raw|Flat -> usage
+show|--raw|Flat -> usage
+json -> usage
+json|Flat|a|b -> usage
+json|--raw|Flat|a -> usage
 get|--set|set -> usage
 get|--set|set|Flat -> usage
 get|Flat|a|--set -> usage

@@ -4,6 +4,7 @@
 //! bytes, the status, what was told, a bar, and what was written. Rows are texts (`rows`).
 ghost use Rattle.std.specs.Prelude.{⊤};
 
+use crate::query_rows::{ASKED, UNREAD};
 use crate::rows::{GOT, LISTED, PATCHED, TOLD};
 use capnp_fixtures::bytes::bytes_of;
 use capnp_fixtures::devices::{chunk, is_unread};
@@ -18,8 +19,8 @@ use std::test::Fail;
 
 pub(crate) const USAGE: &str = "\
 usage: riftcalico show [--set FILE] [--packed] [--limit BYTES] [--each [--keep-going]] NAME [--indent]
-       riftcalico get [--set FILE] [--packed] [--limit BYTES] [--each [--keep-going]] NAME PATH [--indent]
-       riftcalico json [--set FILE] [--packed] [--limit BYTES] [--each [--keep-going]] NAME [--indent]
+       riftcalico get [--set FILE] [--packed] [--limit BYTES] [--raw] [--each [--keep-going]] NAME PATH.. [--indent]
+       riftcalico json [--set FILE] [--packed] [--limit BYTES] [--each [--keep-going]] NAME [PATH] [--indent]
        riftcalico check [--set FILE] [--packed] [--limit PARTS] [--all] [--each [--keep-going]] NAME [PATH]
        riftcalico patch [--set FILE] [--calls FILE] [--keep-going] [--packed] [--limit BYTES] [--each] [--in-place FILE] NAME CALL..
        riftcalico new [--set FILE] [--calls FILE] [--keep-going] [--packed] [--limit BYTES] NAME CALL..
@@ -241,6 +242,20 @@ pub(crate) fn rows_are_so(rt: &impl Abort, alloc: Global, rows: &str) -> Result<
 #[test]
 fn values_are_shown(rt: HostRuntime) -> Result<(), Fail> {
     rows_are_so(&rt, rt.alloc(), GOT)
+}
+
+#[test]
+fn queries_are_answered(rt: HostRuntime) -> Result<(), Fail> {
+    rows_are_so(&rt, rt.alloc(), ASKED)
+}
+
+#[test]
+fn words_that_ask_for_nothing_are_told(rt: HostRuntime) -> Result<(), Fail> {
+    for (words, line) in &UNREAD {
+        let wanted = format!(in rt.alloc(); "true 2 {line}|")?;
+        comes_to(&rt, rt.alloc(), &run_on(words, &EMPTY_ROOT, false), &wanted)?;
+    }
+    Ok(())
 }
 
 #[test]

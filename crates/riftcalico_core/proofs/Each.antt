@@ -14,7 +14,7 @@ one_more xs y (Ok ys) = ap Ok (append_assoc xs (y ∷ []) ys)
 one_more xs y (Err at) = refl
 
 -- the item at an index stands before what is left
-item_from : {X : Type 0} (xs : List X) (i : ℕ) (x : X) → i < length xs → x ≡ get_or xs i x → drop i xs ≡ x ∷ drop (i + 1) xs
+pub item_from : {X : Type 0} (xs : List X) (i : ℕ) (x : X) → i < length xs → x ≡ get_or xs i x → drop i xs ≡ x ∷ drop (i + 1) xs
 item_from xs i x inside is = drop_more xs i x inside ∙ ap (λ y. y ∷ drop (i + 1) xs) (sym is)
 
 -- what stands at an index, and in a list that is made of each

@@ -8,7 +8,7 @@ use Rattle.capnp_patch.specs.declared.place.Refusal.{Refusal}
 use Rattle.capnp_records.specs.Call.{PathStep}
 use Rattle.capnp_schema.specs.StructHandles.{number_of, set_of}
 use Rattle.capnp_schema.specs.declared.schema.structs.StructSchema.{StructSchema}
-use Rattle.riftcalico_core.specs.Answers.{IsNotShown}
+use Rattle.riftcalico_core.specs.Shown.{IsNotShown}
 use Rattle.riftcalico_core.specs.Notes.{place_note}
 use Rattle.riftcalico_core.specs.declared.fault.Fault.{Fault}
 use Rattle.riftcalico_core.proofs.Told.{text_refused}

@@ -1,5 +1,5 @@
 -- What is answered to a message's bytes: what is written, what is told, and whether a call was refused.
-use Rattle.std.specs.Prelude.{ℕ, suc, ◌<◌, ◌≤◌, ◌≡◌, ◌⊎◌, ⊤, List, [], length, map, Bool, true, false, cond, not, None, Result, Ok, Err, string_bytes}
+use Rattle.std.specs.Prelude.{ℕ, suc, ◌<◌, ◌≤◌, ◌≡◌, ◌⊎◌, ⊤, List, [], map, Bool, true, false, cond, not, Result, Ok, Err, string_bytes}
 use Rattle.capnp_device.specs.declared.error.ErrorKind.{ErrorKind}
 use Rattle.capnp_device.specs.declared.error.ErrorKind.TheVariants.{TooLarge}
 use Rattle.capnp_arena.specs.Message.{IsMessage, message_tree}
@@ -11,25 +11,20 @@ use Rattle.capnp_call.specs.Refusals.{any_refused}
 use Rattle.capnp_call.specs.Seen.{call_seen, path_seen}
 use Rattle.capnp_call.specs.declared.calls.Call.{Call}
 use Rattle.capnp_call.specs.declared.calls.Reply.{Reply}
-use Rattle.capnp_check.specs.Refusals.{text_refusal}
-use Rattle.capnp_dynamic_readers.specs.Pieces.{IsAppended, IsLonger}
+use Rattle.capnp_dynamic_readers.specs.Pieces.{IsAppended}
 use Rattle.capnp_packed.specs.Packing.{packed_form}
 use Rattle.capnp_packed.specs.Received.{received_message}
 use Rattle.capnp_packed.specs.Unpacking.{unpacked_bytes}
-use Rattle.capnp_patch.specs.Gets.{got_text}
 use Rattle.capnp_patch.specs.Patches.{IsLeftOfBytes, IsLeftOfNew, IsUnread, is_kept, words_within}
-use Rattle.capnp_patch.specs.Places.{AreFewLookedAt, AreRefusedAt, HasFewParts, HasMoreParts, IsRefusedAt}
-use Rattle.capnp_patch.specs.declared.place.Place.{Place}
+use Rattle.capnp_patch.specs.Places.{AreFewLookedAt, AreRefusedAt, HasFewParts, HasMoreParts}
 use Rattle.capnp_patch.specs.declared.place.Refusals.{Refusals}
 use Rattle.capnp_records.specs.Call as record_call
 use Rattle.capnp_records.specs.Call.{PathStep}
-use Rattle.capnp_records.specs.Text.{Out}
 use Rattle.capnp_schema.specs.Entries.{lists_seen}
 use Rattle.capnp_schema.specs.Schema.{Schemas}
 use Rattle.capnp_schema.specs.StructHandles.{IsStruct, number_of, set_of}
 use Rattle.capnp_schema.specs.declared.schema.structs.StructSchema.{StructSchema}
 use Rattle.capnp_set_engine.specs.Convert.{HasNoSet, IsSetOf}
-use Rattle.capnp_show_engine.specs.Show.{IsLineOf}
 use Rattle.capnp_structs.specs.Fields.{fields_text}
 use Rattle.capnp_structs.specs.Names.{structs_text}
 use Rattle.capnp_wire.specs.Encoding.{message_of}
@@ -40,10 +35,11 @@ use Rattle.riftcalico_core.specs.AllFaults.{any_told, refusals_lines}
 use Rattle.riftcalico_core.specs.CallsSeen.{read_call_seen}
 use Rattle.riftcalico_core.specs.Comparisons.{IsCompareAnswer, IsUncompared, compare_blamed}
 use Rattle.riftcalico_core.specs.Depths.{IsDepthTold}
+use Rattle.riftcalico_core.specs.Gets.{IsGetAnswer, IsNotGot}
 use Rattle.riftcalico_core.specs.Jobs.{is_packed, wants_input}
 use Rattle.riftcalico_core.specs.Json.{IsJsonAnswer, IsNoJson}
-use Rattle.riftcalico_core.specs.Notes.{place_note}
 use Rattle.riftcalico_core.specs.Quiet.{IsQuiet}
+use Rattle.riftcalico_core.specs.Shown.{IsNotShown, IsTextThere}
 use Rattle.riftcalico_core.specs.Replies.{AreNoted}
 use Rattle.riftcalico_core.specs.declared.answer.Answer.{Answer}
 use Rattle.riftcalico_core.specs.declared.answer.Output.{Output}
@@ -53,7 +49,6 @@ use Rattle.riftcalico_core.specs.declared.fault.Blamed.TheVariants as blamed
 use Rattle.riftcalico_core.specs.declared.fault.Fault.{Fault}
 use Rattle.riftcalico_core.specs.declared.job.CallsJob.{CallsJob}
 use Rattle.riftcalico_core.specs.declared.job.CheckJob.{CheckJob}
-use Rattle.riftcalico_core.specs.declared.job.GetJob.{GetJob}
 use Rattle.riftcalico_core.specs.declared.job.Job.{Job}
 use Rattle.riftcalico_core.specs.declared.job.Job.TheVariants as job
 use Rattle.riftcalico_words.specs.Usage.{help_text, version_line}
@@ -91,39 +86,6 @@ IsTextOutput (output.Message m) so = ⊥
 pub record IsTextAnswer (a : Answer) (so : List ℕ → Type 0) : Type 0 where
   pub text : IsTextOutput a.output so
   pub quiet : IsQuiet a
-
--- ---- a value ----
-
--- the text of what stands at the path, or why there is none
-abbrev pub job_text : GetJob → (bytes : List ℕ) → Out
-job_text j bytes = got_text (set_of j.schema) (number_of j.schema) (path_seen j.steps.items) j.indented bytes
-
--- its line, within the limit
-abbrev pub IsLineWithin : ℕ → Out → (line : List ℕ) → Type 0
-IsLineWithin limit o line = IsLineOf o line × (length line ≤ suc limit)
-
-abbrev pub IsGetAnswer : GetJob → (bytes : List ℕ) → Answer → Type 0
-IsGetAnswer j bytes a = IsTextAnswer a (IsLineWithin j.limit (job_text j bytes))
-
--- there is one, in both forms
-abbrev pub IsTextThere : StructSchema → List PathStep → (bytes : List ℕ) → Type 0
-IsTextThere s path bytes = (indented : Bool) → text_refusal (got_text (set_of s) (number_of s) path indented bytes) ≡ None
-
--- there is none in both forms, and the refusal tells where
-pub record IsNotShown (s : StructSchema) (path : List PathStep) (bytes : List ℕ) (f : Fault) : Type 0 where
-  pub refused : (indented : Bool) → got_text (set_of s) (number_of s) path indented bytes ≡ Err f.error.kind
-  pub place : Place
-  pub at : IsRefusedAt (set_of s) (number_of s) path bytes f.error.kind place
-  pub told : string_bytes f.note ≡ place_note path place
-
--- it is longer than it may be
-pub record HasLongText (j : GetJob) (bytes : List ℕ) (f : Fault) : Type 0 where
-  pub kind : f.error.kind ≡ TooLarge
-  pub longer : IsLonger j.limit (job_text j bytes)
-  pub note : string_bytes f.note ≡ []
-
-abbrev pub IsNotGot : GetJob → (bytes : List ℕ) → Fault → Type 0
-IsNotGot j bytes f = IsNotShown j.schema (path_seen j.steps.items) bytes f ⊎ HasLongText j bytes f
 
 -- ---- whether there is a text, or where it is refused ----
 

@@ -15,7 +15,8 @@ use Rattle.capnp_schema.specs.declared.schema.structs.StructSchema.{StructSchema
 use Rattle.capnp_sets.specs.Message.{IsMessageRefusal, message_set}
 use Rattle.riftcalico_core.specs.Calls.{call_read}
 use Rattle.riftcalico_core.specs.CallsSeen.{read_call_seen}
-use Rattle.riftcalico_core.specs.Plans.{CallsPlan, CheckPlan, ComparePlan, GetPlan, Plan, check_plan, compatible_plan, convert_plan, fields_plan, get_plan, help_plan, json_plan, new_plan, patch_plan, structs_plan, version_plan}
+use Rattle.riftcalico_core.specs.Plans.{CallsPlan, CheckPlan, ComparePlan, GetPlan, JsonPlan, Plan, check_plan, compatible_plan, convert_plan, fields_plan, get_plan, help_plan, json_plan, new_plan, patch_plan, structs_plan, version_plan}
+use Rattle.riftcalico_core.specs.Gets.{queries_of}
 use Rattle.riftcalico_core.specs.Reads.{each_word_read, value_line_at}
 use Rattle.riftcalico_core.specs.Wanted.{wanted_note}
 use Rattle.riftcalico_core.specs.Notes.{name_note}
@@ -30,7 +31,6 @@ use Rattle.riftcalico_core.specs.declared.job.Job.{Job}
 use Rattle.riftcalico_core.specs.declared.job.Job.TheVariants as job
 use Rattle.capnp_words.specs.Calls.{CallText}
 use Rattle.capnp_words.specs.Targets.{type_along}
-use Rattle.riftcalico_words.specs.Tasks.{JsonTask}
 
 -- ---- the set ----
 
@@ -61,16 +61,18 @@ pub record IsNotNamed (set : Schemas) (name : List ℕ) (f : Fault) : Type 0 whe
 
 pub record IsGetJob (p : GetPlan) (set : Schemas) (j : GetJob) : Type 0 where
   pub schema : IsNamedStruct set p.root.name j.schema
-  pub path : path_seen j.steps.items ≡ p.path
+  pub queries : queries_of j ≡ p.queries
+  pub raw : j.raw ≡ p.raw
   pub indented : j.indented ≡ p.indented
   pub packed : j.packed ≡ p.packed
   pub limit : j.limit ≡ p.limit
 
-pub record IsJsonJob (t : JsonTask) (set : Schemas) (j : JsonJob) : Type 0 where
-  pub schema : IsNamedStruct set t.root.name j.schema
-  pub indented : j.indented ≡ t.indented
-  pub packed : j.packed ≡ t.packed
-  pub limit : j.limit ≡ t.limit
+pub record IsJsonJob (p : JsonPlan) (set : Schemas) (j : JsonJob) : Type 0 where
+  pub schema : IsNamedStruct set p.root.name j.schema
+  pub path : path_seen j.steps.items ≡ p.path
+  pub indented : j.indented ≡ p.indented
+  pub packed : j.packed ≡ p.packed
+  pub limit : j.limit ≡ p.limit
 
 pub record IsCheckJob (p : CheckPlan) (set : Schemas) (j : CheckJob) : Type 0 where
   pub schema : IsNamedStruct set p.root.name j.schema
@@ -105,7 +107,7 @@ pub record IsCompareJob (p : ComparePlan) (set : Schemas) (j : CompareJob) : Typ
 
 abbrev pub IsJob : Plan → Schemas → Job → Type 0
 IsJob (get_plan p) set (job.Get j) = IsGetJob p set j
-IsJob (json_plan t) set (job.Json j) = IsJsonJob t set j
+IsJob (json_plan p) set (job.Json j) = IsJsonJob p set j
 IsJob (check_plan p) set (job.Check j) = IsCheckJob p set j
 IsJob (patch_plan p) set (job.Patch j) = IsCallsJob p set j
 IsJob (new_plan p) set (job.New j) = IsCallsJob p set j
@@ -126,7 +128,7 @@ IsLineOfPlan p set line = ⊥
 -- the name of a plan's root
 abbrev pub root_name : Plan → Option (List ℕ)
 root_name (get_plan p) = Some p.root.name
-root_name (json_plan t) = Some t.root.name
+root_name (json_plan p) = Some p.root.name
 root_name (check_plan p) = Some p.root.name
 root_name (patch_plan p) = Some p.root.name
 root_name (new_plan p) = Some p.root.name

@@ -1,12 +1,14 @@
--- What is answered where a message is shown as JSON.
+-- What is answered where a value is shown as JSON.
 use Rattle.std.specs.Prelude.{ℕ, ◌<◌, ◌≤◌, ◌≡◌, ◌⊎◌, ⊤, List, [], ◌∷◌, ◌++◌, length, true, Err, codes, decimal, string_bytes}
 use Rattle.capnp_device.specs.declared.error.ErrorKind.TheVariants as kind
 use Rattle.capnp_json.specs.Errors.{json_error_name, json_error_number}
-use Rattle.capnp_json.specs.Message.{message_json}
 use Rattle.capnp_json.specs.Pieces.{IsJson, Out}
 use Rattle.capnp_json.specs.declared.error.JsonError.{JsonError}
 use Rattle.capnp_json.specs.declared.error.JsonError.TheVariants.{OutOfMemory, Read, TextNotUtf8, TooLarge, UntypedHasNoJson}
+use Rattle.capnp_call.specs.Seen.{path_seen}
+use Rattle.capnp_queries.specs.Json.{json_at}
 use Rattle.capnp_schema.specs.StructHandles.{number_of, set_of}
+use Rattle.riftcalico_core.specs.Gets.{IsUnreached}
 use Rattle.riftcalico_core.specs.Quiet.{IsQuiet}
 use Rattle.riftcalico_core.specs.declared.answer.Answer.{Answer}
 use Rattle.riftcalico_core.specs.declared.answer.Output.{Output}
@@ -14,9 +16,9 @@ use Rattle.riftcalico_core.specs.declared.answer.Output.TheVariants as output
 use Rattle.riftcalico_core.specs.declared.fault.Fault.{Fault}
 use Rattle.riftcalico_core.specs.declared.job.JsonJob.{JsonJob}
 
--- the JSON of a message's root, or why there is none
+-- the JSON of what stands at the path, or why there is none
 abbrev pub job_json : JsonJob → (bytes : List ℕ) → Out
-job_json j bytes = message_json (set_of j.schema) (number_of j.schema) j.indented bytes
+job_json j bytes = json_at (set_of j.schema) (number_of j.schema) (path_seen j.steps.items) j.indented bytes
 
 -- its line is written, within the limit
 pub record IsJsonLine (limit : ℕ) (o : Out) (line : List ℕ) : Type 0 where
@@ -58,6 +60,10 @@ abbrev pub IsJsonAnswer : JsonJob → (bytes : List ℕ) → Answer → Type 0
 IsJsonAnswer j bytes a = IsJsonWritten j bytes a ⊎ IsJsonTold j bytes a
 
 -- a value can't be read, or the JSON is longer than it may be
-pub record IsNoJson (j : JsonJob) (bytes : List ℕ) (f : Fault) : Type 0 where
+pub record HasNoJson (j : JsonJob) (bytes : List ℕ) (f : Fault) : Type 0 where
   pub cause : (job_json j bytes ≡ Err (Read f.error.kind)) ⊎ ((f.error.kind ≡ kind.TooLarge) × ((json : List ℕ) → IsJson (job_json j bytes) json → j.limit < length json))
   pub note : string_bytes f.note ≡ []
+
+-- the same, or nothing stands at the path
+abbrev pub IsNoJson : JsonJob → (bytes : List ℕ) → Fault → Type 0
+IsNoJson j bytes f = IsUnreached j.schema bytes (path_seen j.steps.items) f ⊎ HasNoJson j bytes f

@@ -5,6 +5,7 @@ pub mod CallsSeen
 pub mod Comparisons
 pub mod Depths
 pub mod Faults
+pub mod Gets
 pub mod Jobs
 pub mod Json
 pub mod Near
@@ -12,8 +13,11 @@ pub mod Notes
 pub mod Numbered
 pub mod Plans
 pub mod PlansSeen
+pub mod Queries
+pub mod QueriesSeen
 pub mod Quiet
 pub mod Reads
 pub mod Replies
+pub mod Shown
 pub mod Steps
 pub mod Wanted

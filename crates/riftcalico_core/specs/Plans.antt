@@ -1,4 +1,4 @@
--- What a task asks, once its words are read: a path, or calls, whose words may be the lines of a file.
+-- What a task asks, once its words are read: paths, or calls, whose words may be the lines of a file.
 use Rattle.std.specs.Prelude.{ℕ, List, [], ◌∷◌, ◌++◌, ◌==◌, Bool, true, false, not, filter, Option, Some, None, Result, Ok, Err, codes, decimal}
 use Rattle.std.specs.Str.{is_utf8}
 use Rattle.std.specs.Str.Lines.{lines}
@@ -8,12 +8,22 @@ use Rattle.capnp_records.specs.Call.{PathStep}
 use Rattle.capnp_words.specs.Calls.{CallText, call_at}
 use Rattle.capnp_words.specs.Paths.{path_at}
 use Rattle.capnp_words.specs.Reads.{Read}
+use Rattle.riftcalico_core.specs.Queries.{Query, query_at}
 use Rattle.riftcalico_core.specs.Reads.{Reads, each_word_read, line_at, unreadable_line}
 use Rattle.riftcalico_words.specs.Tasks.{CallsTask, CheckTask, GetTask, GivenCalls, JsonTask, Root, Task, check_task, compatible_task, convert_task, fields_task, get_task, help_task, in_lines, in_words, json_task, new_task, patch_task, structs_task, version_task}
 use Rattle.riftcalico_words.specs.declared.request.Verb.{Verb}
 
--- the value at a path of a root
+-- what is asked for by paths of a root
 pub record GetPlan : Type 0 where
+  pub root : Root
+  pub queries : List Query
+  pub raw : Bool
+  pub indented : Bool
+  pub packed : Bool
+  pub limit : ℕ
+
+-- the value at a path of a root, as JSON
+pub record JsonPlan : Type 0 where
   pub root : Root
   pub path : List PathStep
   pub indented : Bool
@@ -47,7 +57,7 @@ pub record ComparePlan : Type 0 where
 
 pub data Plan : Type 0 where
   get_plan : GetPlan → Plan
-  json_plan : JsonTask → Plan
+  json_plan : JsonPlan → Plan
   check_plan : CheckPlan → Plan
   patch_plan : CallsPlan → Plan
   new_plan : CallsPlan → Plan
@@ -116,12 +126,19 @@ under_root t (Err line) = Err line
 abbrev pub calls_plan_of : CallsTask → (file : List ℕ) → Told CallsPlan
 calls_plan_of t file = under_root t (given_plan t.calls file)
 
-abbrev pub path_plan : GetTask → Read (List PathStep) → Told GetPlan
-path_plan t (Ok path) = Ok (record { root = t.root; path = path; indented = t.indented; packed = t.packed; limit = t.limit })
-path_plan t (Err place) = Err (unreadable_line 1 t.path place)
+abbrev pub queries_plan : GetTask → Reads (List Query) → Told GetPlan
+queries_plan t (Ok queries) = Ok (record { root = t.root; queries = queries; raw = t.raw; indented = t.indented; packed = t.packed; limit = t.limit })
+queries_plan t (Err at) = Err (line_at t.paths at)
 
 abbrev pub get_plan_of : GetTask → Told GetPlan
-get_plan_of t = path_plan t (path_at 0 t.path)
+get_plan_of t = queries_plan t (each_word_read query_at 0 t.paths)
+
+abbrev pub json_path_plan : JsonTask → Read (List PathStep) → Told JsonPlan
+json_path_plan t (Ok path) = Ok (record { root = t.root; path = path; indented = t.indented; packed = t.packed; limit = t.limit })
+json_path_plan t (Err place) = Err (unreadable_line 1 t.path place)
+
+abbrev pub json_plan_of : JsonTask → Told JsonPlan
+json_plan_of t = json_path_plan t (path_at 0 t.path)
 
 abbrev pub checked_path_plan : CheckTask → Read (List PathStep) → Told CheckPlan
 checked_path_plan t (Ok path) = Ok (record { root = t.root; path = path; all = t.all; packed = t.packed; limit = t.limit })
@@ -137,7 +154,7 @@ as_plan plan (Err line) = Err line
 -- what a task asks, with the bytes of the file of its calls, if it has one
 abbrev pub task_plan : Task → (file : List ℕ) → Told Plan
 task_plan (get_task t) file = as_plan get_plan (get_plan_of t)
-task_plan (json_task t) file = Ok (json_plan t)
+task_plan (json_task t) file = as_plan json_plan (json_plan_of t)
 task_plan (check_task t) file = as_plan check_plan (check_plan_of t)
 task_plan (patch_task t) file = as_plan patch_plan (calls_plan_of t file)
 task_plan (new_task t) file = as_plan new_plan (calls_plan_of t file)

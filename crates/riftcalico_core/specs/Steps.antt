@@ -2,4 +2,4 @@
 pub mod Json
 pub mod Plans
 pub mod RepliesSeen
-pub mod Texts
+pub mod Told

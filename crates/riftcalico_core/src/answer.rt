@@ -1,18 +1,16 @@
 //! What is answered to a message's bytes.
-ghost use Rattle.std.specs.Prelude.{◌≡◌, ◌≢◌, ◌⊎◌, IfErr, IfOk, IfSome, MatchOption, None, Some, map, string_bytes};
+ghost use Rattle.std.specs.Prelude.{◌≡◌, ◌≢◌, ◌⊎◌, IfErr, IfOk, IfSome, MatchOption, None, Some, map};
 ghost use Rattle.capnp_device.specs.declared.error.ErrorKind.TheVariants.{OutOfMemory, TooLarge};
 ghost use Rattle.capnp_arena.specs.Message.{IsMessage, message_tree};
 ghost use Rattle.capnp_call.specs.Seen.{call_seen, path_seen};
-ghost use Rattle.capnp_dynamic_readers.specs.Pieces.{IsLonger};
 ghost use Rattle.capnp_patch.specs.Patches.{IsUnread};
 ghost use Rattle.capnp_patch.specs.Places.{HasFewParts, HasMoreParts};
 ghost use Rattle.capnp_schema.specs.Entries.{lists_seen};
 ghost use Rattle.capnp_schema.specs.StructHandles.{IsStruct, number_of, set_of};
 ghost use Rattle.capnp_set_engine.specs.Convert.{HasNoSet};
-ghost use Rattle.riftcalico_core.specs.Answers.{HasTooMany, IsAllAnswer, IsAnswer, IsCheckAnswer, IsConvertAnswer, IsFieldsAnswer, IsGetAnswer, IsMessageAnswer, IsMessageOutput, IsNewAnswer, IsNoAnswer, IsNoMessageAnswer, IsNotChecked, IsNotGot, IsNotShown, IsPackedMessage, IsPatchAnswer, IsRunAnswer, IsShownAnswer, IsSoundJob, IsStructsAnswer, IsTextThere, IsWritableOutput, answer_blamed, job_text};
-ghost use Rattle.riftcalico_core.specs.Notes.{place_note};
+ghost use Rattle.riftcalico_core.specs.Answers.{HasTooMany, IsAllAnswer, IsAnswer, IsCheckAnswer, IsConvertAnswer, IsFieldsAnswer, IsMessageAnswer, IsMessageOutput, IsNewAnswer, IsNoAnswer, IsNoMessageAnswer, IsNotChecked, IsPackedMessage, IsPatchAnswer, IsRunAnswer, IsShownAnswer, IsSoundJob, IsStructsAnswer, IsWritableOutput, answer_blamed};
 ghost use Rattle.riftcalico_core.specs.Quiet.{IsQuiet};
-ghost use Rattle.riftcalico_core.specs.Steps.Texts.{IsNoText};
+ghost use Rattle.riftcalico_core.specs.Shown.{IsNotShown, IsTextThere};
 ghost use Rattle.riftcalico_core.specs.declared.fault.Blamed.TheVariants.{Input};
 
 use crate::all_faults::{any_refusal, get_refusal_lines};
@@ -20,9 +18,10 @@ use crate::calls::make_calls;
 use crate::compare::answer_compare;
 use crate::depth::put_depth_note;
 use crate::fault::{Blamed, Fault, Faulty, blame, get_fault};
-use crate::job::{CallsJob, CheckJob, GetJob, Job};
+use crate::get::answer_get;
+use crate::job::{CallsJob, CheckJob, Job};
 use crate::json::answer_json;
-use crate::note::get_place_note;
+use crate::place::note_fault;
 use crate::replies::get_noted_lines;
 use capnp_arena::message::Builder;
 use capnp_call::calls::{Call, Step, any_refused};
@@ -30,14 +29,13 @@ use capnp_call::message::{Run, run_new};
 use capnp_packed::pack::pack;
 use capnp_packed::received::read_message;
 use capnp_patch::engine::{run_bytes_within, words_within};
-use capnp_patch::get::get_line_within;
-use capnp_patch::place::{Refusal, find_place, find_place_within, find_places};
+use capnp_patch::place::{find_place_within, find_places};
 use capnp_schema::schema::StructSchema;
 use capnp_schema::set::SchemaSet;
 use capnp_set_engine::engine::convert_bytes;
 use capnp_structs::fields::get_fields;
 use capnp_structs::names::get_structs;
-use capnp_wire::error::{Error, ErrorKind, Result};
+use capnp_wire::error::Result;
 use riftcalico_words::usage::{get_help, get_version};
 use std::alloc::Global;
 
@@ -68,7 +66,7 @@ pub struct Answer {
 }
 
 /// An answer of which nothing is told.
-fn answer_quietly(alloc: Global, output: Output) -> Answer
+pub(crate) fn answer_quietly(alloc: Global, output: Output) -> Answer
     ensures output { result.output ≡ output }
     ensures quiet { IsQuiet result }
 {
@@ -77,41 +75,6 @@ fn answer_quietly(alloc: Global, output: Output) -> Answer
         lines: String::new(alloc),
         refused: false,
     }
-}
-
-/// A refusal of what is asked for by a path, with its place. Refused with `OutOfMemory` alone.
-fn note_fault(alloc: Global, steps: &[Step<'_>], refusal: &Refusal<'_>) -> Result<Fault>
-    ensures error { IfOk result (λ f. f.error.kind ≡ refusal.now.kind) }
-    ensures note { IfOk result (λ f. string_bytes f.note ≡ place_note (path_seen steps.now) refusal.now.place) }
-    ensures blamed { IfOk result (λ f. f.blamed ≡ Input) }
-    ensures memory { IfErr result (λ e. e.kind ≡ OutOfMemory) }
-{
-    let note = get_place_note(alloc, steps, &refusal.place)?;
-    Ok(Fault {
-        error: Error::from(refusal.kind),
-        blamed: Blamed::Input,
-        note,
-    })
-}
-
-/// Why a value that is asked for has no text, in both forms, and where; none where it has one. Refused with `OutOfMemory`
-/// alone.
-fn find_fault(
-    alloc: Global,
-    schema: StructSchema<'_>,
-    steps: &[Step<'_>],
-    message: &[u8],
-) -> Result<Option<Fault>>
-    requires { IsStruct schema }
-    ensures found { IfOk result (λ found. MatchOption found (IsTextThere schema.entry (path_seen steps.now) message.now)
-        (IsNotShown schema.entry (path_seen steps.now) message.now)) }
-    ensures blamed { IfOk result (λ found. IfSome found (λ f. f.blamed ≡ Input)) }
-    ensures memory { IfErr result (λ e. e.kind ≡ OutOfMemory) }
-{
-    let Some(refusal) = find_place(alloc, schema, steps, message)? else {
-        return Ok(None);
-    };
-    Ok(Some(note_fault(alloc, steps, &refusal)?))
 }
 
 /// Why a value of at most so many parts has no text, and where; none where it has one. Refused with `TooLarge` where it has
@@ -137,58 +100,6 @@ fn find_fault_within(
         return Ok(None);
     };
     Ok(Some(note_fault(alloc, steps, &refusal)?))
-}
-
-/// The refusal of a text with its place; or that there is no memory for it.
-fn explain_refusal(alloc: Global, job: &GetJob<'_, '_>, message: &[u8], error: Error) -> Fault
-    requires stands { IsStruct job.now.schema }
-    requires refused { error.kind ≢ OutOfMemory → IsNoText job.now message.now error.kind }
-    ensures shown { result.error.kind ≢ OutOfMemory
-        → IsNotShown job.now.schema (path_seen job.now.steps.items) message.now result }
-    ensures blamed { result.blamed ≡ Input }
-{
-    if error.kind == ErrorKind::OutOfMemory {
-        return get_fault(alloc, error, Blamed::Input);
-    }
-    match find_fault(alloc, job.schema, &job.steps, message) {
-        Ok(Some(fault)) => fault,
-        Ok(None) => get_fault(alloc, error, Blamed::Input),
-        Err(error) => get_fault(alloc, error, Blamed::Input),
-    }
-}
-
-/// That a text is too long; or its refusal with its place, or that there is no memory for it.
-fn explain(alloc: Global, job: &GetJob<'_, '_>, message: &[u8], error: Error) -> Fault
-    requires stands { IsStruct job.now.schema }
-    requires refused { error.kind ≢ OutOfMemory → error.kind ≢ TooLarge → IsNoText job.now message.now error.kind }
-    requires too_long { error.kind ≡ TooLarge → IsLonger job.now.limit (job_text job.now message.now) }
-    ensures shown { result.error.kind ≢ OutOfMemory → IsNotGot job.now message.now result }
-    ensures blamed { result.blamed ≡ Input }
-{
-    match error.kind {
-        ErrorKind::TooLarge => get_fault(alloc, error, Blamed::Input),
-        _ => explain_refusal(alloc, job, message, error),
-    }
-}
-
-/// The text of a value.
-fn answer_get(alloc: Global, job: &GetJob<'_, '_>, message: &[u8]) -> Faulty<Answer>
-    requires { IsStruct job.now.schema }
-    ensures answer { IfOk result (IsGetAnswer job.now message.now) }
-    ensures refused { IfErr result (λ f. f.error.kind ≢ OutOfMemory → IsNotGot job.now message.now f) }
-    ensures blamed { IfErr result (λ f. f.blamed ≡ Input) }
-{
-    match get_line_within(
-        alloc,
-        job.schema,
-        &job.steps,
-        message,
-        job.indented,
-        job.limit,
-    ) {
-        Ok(line) => Ok(answer_quietly(alloc, Output::Text(line))),
-        Err(error) => Err(explain(alloc, job, message, error)),
-    }
 }
 
 /// Whether a value can be shown.
@@ -377,7 +288,7 @@ pub fn answer_message(alloc: Global, job: &Job<'_, '_, '_>, message: &[u8]) -> F
 {
     match job {
         Job::Get(job) => answer_get(alloc, job, message),
-        Job::Json(job) => answer_json(alloc, *job, message),
+        Job::Json(job) => answer_json(alloc, job, message),
         Job::Check(job) => answer_check(alloc, job, message),
         Job::Patch(job) => blame(alloc, answer_patch(alloc, job, message), Blamed::Input),
         Job::New(job) => blame(alloc, answer_new(alloc, job), Blamed::Output),
@@ -396,8 +307,9 @@ pub fn answer_message(alloc: Global, job: &Job<'_, '_, '_>, message: &[u8]) -> F
 
 /// What a job answers to the bytes of a message, which may be packed; for a job that wants none they don't count.
 ///
-/// Refused with `OutOfMemory`; of `get` as `capnp_patch::get::get_line_within`, with the place where it is no limit, of `json`
-/// as `capnp_json::message::message_to_json`, but for what only JSON refuses, which is told; of
+/// Refused with `OutOfMemory`; of `get` as the first query that has no text within the limit, with the place where it is no
+/// limit, of `json` as `capnp_queries::json::get_json`, with the place of a step, but for what only JSON refuses, which is
+/// told; of
 /// `check` as `capnp_patch::place::find_place_within`, with the place, of `patch` as
 /// `capnp_patch::engine::run_bytes`, of `schemas` as `capnp_set_engine::engine::convert_bytes`; and where the message is
 /// packed as `capnp_packed::received::read_message`.

@@ -4,13 +4,13 @@ ghost use Rattle.riftcalico_core.specs.declared.fault.Blamed.TheVariants.{Name};
 ghost use Rattle.capnp_device.specs.declared.error.ErrorKind.TheVariants.{OutOfMemory};
 ghost use Rattle.capnp_schema.specs.Entries.{lists_seen};
 ghost use Rattle.riftcalico_core.specs.Jobs.{IsCallsJob, IsCheckJob, IsGetJob, IsJob, IsJsonJob, IsLineOfPlan, IsNamedStruct, IsNotNamed, IsRootUnnamed, IsValueUnread, is_packed, wants_input};
-ghost use Rattle.riftcalico_core.specs.PlansSeen.{calls_plan_seen, check_plan_seen, get_plan_seen, plan_seen};
-ghost use Rattle.riftcalico_words.specs.RequestSeen.{json_task_of};
+ghost use Rattle.riftcalico_core.specs.PlansSeen.{calls_plan_seen, check_plan_seen, get_plan_seen, json_plan_seen, plan_seen};
 
 use crate::calls::{ReadCall, read_all_calls, steps_of};
 use crate::fault::{Blamed, Fault, Faulty, blame, get_fault};
 use crate::near::get_near_structs;
-use crate::plan::{CallsPlan, CheckPlan, GetPlan, Plan, Told};
+use crate::plan::{CallsPlan, CheckPlan, GetPlan, JsonPlan, Plan, Told};
+use crate::queries::{AskedQuery, make_queries};
 use crate::schemas::find_schema;
 use crate::wanted::get_wanted;
 use crate::words::put_value_line;
@@ -18,23 +18,26 @@ use capnp_call::calls::Step;
 use capnp_schema::schema::StructSchema;
 use capnp_schema::set::SchemaSet;
 use capnp_wire::error::Result;
-use riftcalico_words::request::{JsonRequest, Verb};
+use riftcalico_words::request::Verb;
 use std::alloc::Global;
 
-/// The text of what stands at a path, whether the message comes packed, and the most bytes that the text may have.
+/// The texts of what is asked for by paths, whether texts and data are told as their bytes, whether the message comes packed,
+/// and the most bytes that the texts may have together.
 #[derive(Drop)]
 pub struct GetJob<'s, 'c> {
     pub schema: StructSchema<'s>,
-    pub steps: Vec<Step<'c>>,
+    pub queries: Vec<AskedQuery<'c>>,
+    pub raw: bool,
     pub indented: bool,
     pub packed: bool,
     pub limit: u64,
 }
 
-/// A message as JSON, whether it comes packed, and the most bytes that the JSON may have.
-#[derive(Clone, Copy)]
-pub struct JsonJob<'s> {
+/// What stands at a path as JSON, whether the message comes packed, and the most bytes that the JSON may have.
+#[derive(Drop)]
+pub struct JsonJob<'s, 'c> {
     pub schema: StructSchema<'s>,
+    pub steps: Vec<Step<'c>>,
     pub indented: bool,
     pub packed: bool,
     pub limit: u64,
@@ -78,10 +81,10 @@ pub struct CompareJob<'s, 'c> {
 /// What is done to a message.
 #[derive(Drop)]
 pub enum Job<'s, 'c, 'w> {
-    /// A value of it is shown.
+    /// Values of it are shown.
     Get(GetJob<'s, 'c>),
-    /// It is shown as JSON.
-    Json(JsonJob<'s>),
+    /// A value of it is shown as JSON.
+    Json(JsonJob<'s, 'c>),
     /// A value of it is looked at, whether it can be shown.
     Check(CheckJob<'s, 'c>),
     /// Calls are made on a copy of it.
@@ -159,7 +162,7 @@ fn find_root<'s>(alloc: Global, schemas: &'s SchemaSet, name: &str) -> Faulty<St
     }
 }
 
-/// A value that is shown, under the struct of its root. Refused as `find_root`, and with `OutOfMemory`.
+/// Values that are shown, under the struct of their root. Refused as `find_root`, and with `OutOfMemory`.
 fn find_get_job<'s, 'c>(
     alloc: Global,
     schemas: &'s SchemaSet,
@@ -171,33 +174,36 @@ fn find_get_job<'s, 'c>(
     ensures blamed { IfErr result (λ f. f.blamed ≡ Name) }
 {
     let schema = find_root(alloc, schemas, plan.root.name)?;
-    let steps = blame(alloc, steps_of(alloc, &plan.path), Blamed::Name)?;
+    let queries = blame(alloc, make_queries(alloc, &plan.queries), Blamed::Name)?;
     Ok(GetJob {
         schema,
-        steps,
+        queries,
+        raw: plan.raw,
         indented: plan.indented,
         packed: plan.packed,
         limit: plan.limit,
     })
 }
 
-/// A message that is shown as JSON, under the struct of its root. Refused as `find_root`.
-fn find_json_job<'s>(
+/// A value that is shown as JSON, under the struct of its root. Refused as `find_root`, and with `OutOfMemory`.
+fn find_json_job<'s, 'c>(
     alloc: Global,
     schemas: &'s SchemaSet,
-    request: JsonRequest<'_>,
-) -> Faulty<JsonJob<'s>>
-    ensures job { IfOk result (IsJsonJob (json_task_of request.entry) (lists_seen schemas.now)) }
+    plan: &'c JsonPlan<'_>,
+) -> Faulty<JsonJob<'s, 'c>>
+    ensures job { IfOk result (IsJsonJob (json_plan_seen plan.now) (lists_seen schemas.now)) }
     ensures refused { IfErr result (λ f. f.error.kind ≢ OutOfMemory
-        → IsNotNamed (lists_seen schemas.now) (json_task_of request.entry).root.name f) }
+        → IsNotNamed (lists_seen schemas.now) (json_plan_seen plan.now).root.name f) }
     ensures blamed { IfErr result (λ f. f.blamed ≡ Name) }
 {
-    let schema = find_root(alloc, schemas, request.root.name)?;
+    let schema = find_root(alloc, schemas, plan.root.name)?;
+    let steps = blame(alloc, steps_of(alloc, &plan.path), Blamed::Name)?;
     Ok(JsonJob {
         schema,
-        indented: request.indented,
-        packed: request.packed,
-        limit: request.limit,
+        steps,
+        indented: plan.indented,
+        packed: plan.packed,
+        limit: plan.limit,
     })
 }
 
@@ -287,7 +293,7 @@ pub fn find_job<'s, 'c, 'w>(
 {
     match plan {
         Plan::Get(plan) => Ok(Ok(Job::Get(find_get_job(alloc, schemas, plan)?))),
-        Plan::Json(request) => Ok(Ok(Job::Json(find_json_job(alloc, schemas, *request)?))),
+        Plan::Json(plan) => Ok(Ok(Job::Json(find_json_job(alloc, schemas, plan)?))),
         Plan::Check(plan) => Ok(Ok(Job::Check(find_check_job(alloc, schemas, plan)?))),
         Plan::Patch(plan) => match find_calls_job(alloc, schemas, plan)? {
             Ok(job) => Ok(Ok(Job::Patch(job))),

@@ -1,4 +1,4 @@
-//! A message as JSON, or why it has none.
+//! A value of a message as JSON, or why it has none.
 ghost use Rattle.std.specs.Prelude.{[], ◌∷◌, ◌≡◌, ◌≢◌, ◌++◌, IfErr, IfOk, OnOk, codes, decimal, string_bytes};
 ghost use Rattle.capnp_device.specs.declared.error.ErrorKind.TheVariants.{OutOfMemory};
 ghost use Rattle.capnp_json.specs.Errors.{json_error_name, json_error_number};
@@ -10,8 +10,9 @@ ghost use Rattle.riftcalico_core.specs.declared.fault.Blamed.TheVariants.{Input}
 use crate::answer::{Answer, Output};
 use crate::fault::{Blamed, Faulty, get_fault};
 use crate::job::JsonJob;
+use crate::place::tell_place;
 use capnp_json::error::JsonError;
-use capnp_json::message::message_to_json;
+use capnp_queries::json::{NoJson, get_json};
 use capnp_wire::error::{Error, ErrorKind, Result};
 use std::alloc::Global;
 
@@ -83,17 +84,19 @@ fn end_line(alloc: Global, json: Vec<u8>) -> Faulty<Answer>
     }
 }
 
-/// The JSON of a message's root, and a line break; or a line that tells why a value has none, where no refusal of messages
-/// has its number. Refused with `OutOfMemory`, with `TooLarge` where the JSON is longer than it may be, as the message is, and
-/// as the first value in the JSON's order that can't be read.
-pub(crate) fn answer_json(alloc: Global, job: JsonJob<'_>, message: &[u8]) -> Faulty<Answer>
-    requires { IsStruct job.schema }
-    ensures answer { IfOk result (IsJsonAnswer job.entry message.now) }
-    ensures refused { IfErr result (λ f. f.error.kind ≢ OutOfMemory → IsNoJson job.entry message.now f) }
+/// The JSON of what stands at a path of a message, and a line break; or a line that tells why a value has none, where no
+/// refusal of messages has its number. Refused with `OutOfMemory`, with `TooLarge` where the JSON is longer than it may be, as
+/// the message or a step of the path is, with the place, and as the first value in the JSON's order that can't be read.
+pub(crate) fn answer_json(alloc: Global, job: &JsonJob<'_, '_>, message: &[u8]) -> Faulty<Answer>
+    requires { IsStruct job.now.schema }
+    ensures answer { IfOk result (IsJsonAnswer job.now message.now) }
+    ensures refused { IfErr result (λ f. f.error.kind ≢ OutOfMemory → IsNoJson job.now message.now f) }
     ensures blamed { IfErr result (λ f. f.blamed ≡ Input) }
 {
-    match message_to_json(alloc, job.schema, message, job.indented, job.limit as usize) {
+    let limit = job.limit as usize;
+    match get_json(alloc, job.schema, &job.steps, message, job.indented, limit) {
         Ok(json) => end_line(alloc, json),
-        Err(error) => refuse(alloc, error),
+        Err(NoJson::Unreached(refusal)) => Err(tell_place(alloc, &job.steps, &refusal)),
+        Err(NoJson::Value(error)) => refuse(alloc, error),
     }
 }

@@ -3,12 +3,13 @@ ghost use Rattle.std.specs.Prelude.{◌≡◌, IfErr, IfOk, map};
 ghost use Rattle.std.specs.Option.{option_map};
 ghost use Rattle.std.specs.Str.{is_utf8};
 ghost use Rattle.capnp_device.specs.declared.error.ErrorKind.TheVariants.{OutOfMemory};
-ghost use Rattle.riftcalico_core.specs.Plans.{calls_file, calls_plan_of, check_plan_of, get_plan_of, given_file, given_plan, task_plan, text_plan, words_plan};
+ghost use Rattle.riftcalico_core.specs.Plans.{calls_file, calls_plan_of, check_plan_of, get_plan_of, given_file, given_plan, json_plan_of, task_plan, text_plan, words_plan};
 ghost use Rattle.riftcalico_core.specs.PlansSeen.{told_plan};
-ghost use Rattle.riftcalico_core.specs.Steps.Plans.{told_calls, told_calls_plan, told_check_plan, told_get_plan};
-ghost use Rattle.riftcalico_words.specs.RequestSeen.{calls_task_of, check_task_of, get_task_of, given_of, task_seen};
+ghost use Rattle.riftcalico_core.specs.Steps.Plans.{told_calls, told_calls_plan, told_check_plan, told_get_plan, told_json_plan};
+ghost use Rattle.riftcalico_words.specs.RequestSeen.{calls_task_of, check_task_of, get_task_of, given_of, json_task_of, task_seen};
 
 use crate::calls::read_calls;
+use crate::queries::{QueryWord, read_queries};
 use crate::words::{put_no_text, put_unreadable, put_word_line, split_lines};
 use capnp_wire::error::Result;
 use capnp_words::call::CallWord;
@@ -22,9 +23,20 @@ use std::str;
 /// A value, or the line that tells what can't be read.
 pub type Told<T> = std::result::Result<T, String>;
 
-/// The value at a path of a root.
+/// What is asked for by paths of a root, and whether texts and data are told as their bytes.
 #[derive(Drop)]
 pub struct GetPlan<'a> {
+    pub root: NamedRoot<'a>,
+    pub queries: Vec<QueryWord>,
+    pub raw: bool,
+    pub indented: bool,
+    pub packed: bool,
+    pub limit: u64,
+}
+
+/// The value at a path of a root, as JSON.
+#[derive(Drop)]
+pub struct JsonPlan<'a> {
     pub root: NamedRoot<'a>,
     pub path: Path,
     pub indented: bool,
@@ -67,10 +79,10 @@ pub struct ComparePlan<'a> {
 /// What is to be done.
 #[derive(Drop)]
 pub enum Plan<'a> {
-    /// The value at a path is shown.
+    /// What is asked for by paths is shown.
     Get(GetPlan<'a>),
-    /// A message is shown as JSON.
-    Json(JsonRequest<'a>),
+    /// The value at a path is shown as JSON.
+    Json(JsonPlan<'a>),
     /// The value at a path is looked at, whether it can be shown.
     Check(CheckPlan<'a>),
     /// Calls are made on a copy of a message.
@@ -195,13 +207,31 @@ fn plan_calls<'a>(
     }
 }
 
-/// The value at a path, whose word is read. Refused with `OutOfMemory` alone.
-fn plan_get<'a>(alloc: Global, request: GetRequest<'a>) -> Result<Told<GetPlan<'a>>>
-    ensures planned { IfOk result (λ r. told_get_plan r ≡ get_plan_of (get_task_of request.entry)) }
+/// What is asked for by paths, whose words are read. Refused with `OutOfMemory` alone.
+fn plan_get<'a>(alloc: Global, request: &GetRequest<'a>) -> Result<Told<GetPlan<'a>>>
+    ensures planned { IfOk result (λ r. told_get_plan r ≡ get_plan_of (get_task_of request.now)) }
+    ensures memory { IfErr result (λ e. e.kind ≡ OutOfMemory) }
+{
+    match read_queries(alloc, &request.paths)? {
+        Ok(queries) => Ok(Ok(GetPlan {
+            root: request.root,
+            queries,
+            raw: request.raw,
+            indented: request.indented,
+            packed: request.packed,
+            limit: request.limit,
+        })),
+        Err(at) => Ok(Err(put_word_line(alloc, &request.paths, at)?)),
+    }
+}
+
+/// The value at a path that is shown as JSON, whose word is read. Refused with `OutOfMemory` alone.
+fn plan_json<'a>(alloc: Global, request: JsonRequest<'a>) -> Result<Told<JsonPlan<'a>>>
+    ensures planned { IfOk result (λ r. told_json_plan r ≡ json_plan_of (json_task_of request.entry)) }
     ensures memory { IfErr result (λ e. e.kind ≡ OutOfMemory) }
 {
     match parse_path(alloc, request.path)? {
-        Ok(path) => Ok(Ok(GetPlan {
+        Ok(path) => Ok(Ok(JsonPlan {
             root: request.root,
             path,
             indented: request.indented,
@@ -242,11 +272,14 @@ pub fn read_plan<'a>(alloc: Global, task: &Task<'a>, file: &'a [u8]) -> Result<T
     ensures memory { IfErr result (λ e. e.kind ≡ OutOfMemory) }
 {
     match task {
-        Task::Get(request) => match plan_get(alloc, *request)? {
+        Task::Get(request) => match plan_get(alloc, request)? {
             Ok(plan) => Ok(Ok(Plan::Get(plan))),
             Err(line) => Ok(Err(line)),
         },
-        Task::Json(request) => Ok(Ok(Plan::Json(*request))),
+        Task::Json(request) => match plan_json(alloc, *request)? {
+            Ok(plan) => Ok(Ok(Plan::Json(plan))),
+            Err(line) => Ok(Err(line)),
+        },
         Task::Check(request) => match plan_check(alloc, *request)? {
             Ok(plan) => Ok(Ok(Plan::Check(plan))),
             Err(line) => Ok(Err(line)),

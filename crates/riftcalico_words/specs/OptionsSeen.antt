@@ -12,6 +12,7 @@ options_seen o = record {
   limit = option_map (λ w. w.now) o.limit;
   in_place = option_map (λ w. w.now) o.in_place;
   indent = o.indent;
+  raw = o.raw;
   keep_going = o.keep_going;
   packed = o.packed;
   each = o.each;

@@ -3,7 +3,7 @@ use Rattle.std.specs.Prelude.{ℕ, List, [], ◌∷◌, ◌^◌, Bool, true, fal
 use Rattle.std.specs.Option.{option_map}
 use Rattle.riftcalico_words.specs.Numbers.{number_asked}
 use Rattle.riftcalico_words.specs.Options.{WordOptions, no_options, options_read}
-use Rattle.riftcalico_words.specs.Tasks.{CallsTask, GetTask, GivenCalls, Task, check_task, compatible_task, convert_task, fields_task, get_task, help_task, json_task, in_lines, in_words, new_task, patch_task, structs_task, version_task}
+use Rattle.riftcalico_words.specs.Tasks.{CallsTask, GivenCalls, Task, check_task, compatible_task, convert_task, fields_task, get_task, help_task, json_task, in_lines, in_words, new_task, patch_task, structs_task, version_task}
 use Rattle.riftcalico_words.specs.declared.options.Flag.{Flag}
 use Rattle.riftcalico_words.specs.declared.options.Flag.TheVariants as flag
 use Rattle.riftcalico_words.specs.declared.options.ValueOption.{ValueOption}
@@ -92,6 +92,10 @@ abbrev pub takes_each : Verb → Bool
 takes_each verb.Patch = true
 takes_each v = is_reading v
 
+abbrev pub takes_raw : Verb → Bool
+takes_raw verb.Get = true
+takes_raw v = false
+
 abbrev pub takes_strict : Verb → Bool
 takes_strict verb.Schemas = true
 takes_strict v = false
@@ -102,6 +106,7 @@ takes_all v = false
 
 abbrev pub takes_flag : Verb → Flag → Bool
 takes_flag v flag.Indent = takes_indent v
+takes_flag v flag.Raw = takes_raw v
 takes_flag v flag.KeepGoing = is_reading v || is_with_calls v
 takes_flag v flag.Packed = is_on_messages v
 takes_flag v flag.Each = takes_each v
@@ -126,6 +131,7 @@ values_fit v o =
 abbrev pub flags_fit : Verb → WordOptions → Bool
 flags_fit v o =
     is_allowed o.indent (takes_flag v flag.Indent)
+    && is_allowed o.raw (takes_flag v flag.Raw)
     && is_allowed o.keep_going (takes_flag v flag.KeepGoing)
     && is_allowed o.packed (takes_flag v flag.Packed)
     && is_allowed o.each (takes_flag v flag.Each)
@@ -176,24 +182,25 @@ named_calls o limit (name ∷ words) =
 abbrev pub calls_asked : WordOptions → (limit : ℕ) → Option CallsTask
 calls_asked o limit = named_calls o limit o.others
 
--- what is asked of a message that is shown, or of a set, by the other words
-abbrev pub shown_of : WordOptions → (limit : ℕ) → (name path : List ℕ) → GetTask
-shown_of o limit name path =
-    record { root = record { file = o.set; name = name }; path = path; indented = o.indent; packed = o.packed; messages = messages_of o; limit = limit }
+-- what is asked of a message that is shown, by the other words: values at paths, one or more
+abbrev pub shown_of : WordOptions → (limit : ℕ) → (name : List ℕ) → (paths : List (List ℕ)) → Task
+shown_of o limit name paths =
+    get_task (record { root = record { file = o.set; name = name }; paths = paths; raw = o.raw; indented = o.indent; packed = o.packed; messages = messages_of o; limit = limit })
 
 abbrev pub show_asked : WordOptions → (limit : ℕ) → List (List ℕ) → Option Task
-show_asked o limit (name ∷ []) = Some (get_task (shown_of o limit name (codes ".")))
+show_asked o limit (name ∷ []) = Some (shown_of o limit name (codes "." ∷ []))
 show_asked o limit words = None
 
 abbrev pub get_asked : WordOptions → (limit : ℕ) → List (List ℕ) → Option Task
-get_asked o limit (name ∷ path ∷ []) = Some (get_task (shown_of o limit name path))
+get_asked o limit (name ∷ path ∷ paths) = Some (shown_of o limit name (path ∷ paths))
 get_asked o limit words = None
 
-abbrev pub json_of : WordOptions → (limit : ℕ) → (name : List ℕ) → Task
-json_of o limit name = json_task (record { root = record { file = o.set; name = name }; indented = o.indent; packed = o.packed; messages = messages_of o; limit = limit })
+abbrev pub json_of : WordOptions → (limit : ℕ) → (name path : List ℕ) → Task
+json_of o limit name path = json_task (record { root = record { file = o.set; name = name }; path = path; indented = o.indent; packed = o.packed; messages = messages_of o; limit = limit })
 
 abbrev pub json_asked : WordOptions → (limit : ℕ) → List (List ℕ) → Option Task
-json_asked o limit (name ∷ []) = Some (json_of o limit name)
+json_asked o limit (name ∷ []) = Some (json_of o limit name (codes "."))
+json_asked o limit (name ∷ path ∷ []) = Some (json_of o limit name path)
 json_asked o limit words = None
 
 abbrev pub checked_of : WordOptions → (limit : ℕ) → (name path : List ℕ) → Task
@@ -223,8 +230,8 @@ compatible_asked o (older ∷ newer ∷ name ∷ []) = Some (compared_of o older
 compatible_asked o words = None
 
 abbrev pub plain_asked : Verb → WordOptions → (limit : ℕ) → Option Task
-plain_asked verb.Show o limit = show_asked o limit o.others
-plain_asked verb.Get o limit = get_asked o limit o.others
+plain_asked verb.Show o limit = None
+plain_asked verb.Get o limit = None
 plain_asked verb.Json o limit = json_asked o limit o.others
 plain_asked verb.Check o limit = check_asked o limit o.others
 plain_asked verb.Patch o limit = None
@@ -234,6 +241,8 @@ plain_asked verb.Schemas o limit = schemas_asked o o.others
 plain_asked verb.Compatible o limit = compatible_asked o o.others
 
 abbrev pub verb_asked : Verb → WordOptions → (limit : ℕ) → Option Task
+verb_asked verb.Show o limit = show_asked o limit o.others
+verb_asked verb.Get o limit = get_asked o limit o.others
 verb_asked verb.Patch o limit = option_map patch_task (calls_asked o limit)
 verb_asked verb.New o limit = option_map new_task (calls_asked o limit)
 verb_asked v o limit = plain_asked v o limit

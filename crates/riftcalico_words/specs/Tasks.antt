@@ -9,18 +9,21 @@ pub record Root : Type 0 where
   pub file : Option (List ℕ)
   pub name : List ℕ
 
--- the text of the value at a path, whether the message comes packed, of which messages, and the most bytes that a text may have
+-- what stands at paths, or lengths of lists there, whether texts and data are told as their bytes, whether the message comes packed, of which messages, and the most
+-- bytes that the texts may have together
 pub record GetTask : Type 0 where
   pub root : Root
-  pub path : List ℕ
+  pub paths : List (List ℕ)
+  pub raw : Bool
   pub indented : Bool
   pub packed : Bool
   pub messages : Messages
   pub limit : ℕ
 
--- a message as JSON, whether it comes packed, of which messages, and the most bytes that a JSON may have
+-- the value at a path as JSON, whether the message comes packed, of which messages, and the most bytes that a JSON may have
 pub record JsonTask : Type 0 where
   pub root : Root
+  pub path : List ℕ
   pub indented : Bool
   pub packed : Bool
   pub messages : Messages
@@ -60,7 +63,7 @@ pub record CompareTask : Type 0 where
   pub breaking_only : Bool
   pub both : Bool
 
--- A value is shown, a message as JSON, or a value is only looked at whether it can be, calls are made on a copy of a message or on an empty root, the structs of a set are shown, in the set of a file or else in the built-in one, or the fields of a struct, a compiler's request is made a set,
+-- Values are shown, one as JSON, or a value is only looked at whether it can be, calls are made on a copy of a message or on an empty root, the structs of a set are shown, in the set of a file or else in the built-in one, or the fields of a struct, a compiler's request is made a set,
 -- two versions of a struct or of all are compared, or help is told, of all or of a verb, or the version.
 pub data Task : Type 0 where
   get_task : GetTask → Task

@@ -13,6 +13,8 @@ use std::alloc::Global;
 pub enum Flag {
     /// `--indent`
     Indent,
+    /// `--raw`
+    Raw,
     /// `--keep-going`
     KeepGoing,
     /// `--packed`
@@ -65,6 +67,7 @@ pub struct Options<'a> {
     pub limit: Option<&'a str>,
     pub in_place: Option<&'a str>,
     pub indent: bool,
+    pub raw: bool,
     pub keep_going: bool,
     pub packed: bool,
     pub each: bool,
@@ -99,6 +102,7 @@ fn kind_of(word: &str) -> WordKind
         "--limit" => WordKind::Value(ValueOption::Limit),
         "--in-place" => WordKind::Value(ValueOption::InPlace),
         "--indent" => WordKind::Flag(Flag::Indent),
+        "--raw" => WordKind::Flag(Flag::Raw),
         "--keep-going" => WordKind::Flag(Flag::KeepGoing),
         "--packed" => WordKind::Flag(Flag::Packed),
         "--each" => WordKind::Flag(Flag::Each),
@@ -125,6 +129,7 @@ fn put_flag(options: Options<'_>, flag: Flag) -> Options<'_>
     let mut options = options;
     match flag {
         Flag::Indent => options.indent = true,
+        Flag::Raw => options.raw = true,
         Flag::KeepGoing => options.keep_going = true,
         Flag::Packed => options.packed = true,
         Flag::Each => options.each = true,
@@ -206,6 +211,7 @@ pub fn read_options<'a>(
         limit: None,
         in_place: None,
         indent: false,
+        raw: false,
         keep_going: false,
         packed: false,
         each: false,

@@ -3,8 +3,8 @@ ghost use Rattle.std.specs.Prelude.{◌≡◌, IfErr, IfOk, map, string_bytes};
 ghost use Rattle.capnp_device.specs.declared.error.ErrorKind.TheVariants.{OutOfMemory};
 ghost use Rattle.std.specs.Option.{option_map};
 ghost use Rattle.riftcalico_words.specs.OptionsSeen.{options_seen};
-ghost use Rattle.riftcalico_words.specs.Requests.{asked_request, calls_asked, checked_of, compared_of, flags_fit, given_asked, going_fits, is_allowed, is_fitting, is_comparison, is_on_messages, is_reading, is_with_calls, json_of, limit_asked, messages_of, options_asked, place_fits, plain_asked, shown_of, takes_flag, takes_value, values_fit, verb_of, verb_request};
-ghost use Rattle.riftcalico_words.specs.RequestSeen.{asked_seen, calls_task_of, get_task_of, given_of, task_seen};
+ghost use Rattle.riftcalico_words.specs.Requests.{asked_request, calls_asked, checked_of, compared_of, flags_fit, get_asked, given_asked, going_fits, is_allowed, is_fitting, is_comparison, is_on_messages, is_reading, is_with_calls, json_of, limit_asked, messages_of, options_asked, place_fits, plain_asked, show_asked, shown_of, takes_flag, takes_value, values_fit, verb_of, verb_request};
+ghost use Rattle.riftcalico_words.specs.RequestSeen.{asked_seen, calls_task_of, given_of, task_seen};
 ghost use Rattle.riftcalico_words.specs.Steps.Limits.{limit_seen};
 ghost use Rattle.riftcalico_words.specs.Tasks.{task_messages};
 
@@ -21,9 +21,9 @@ pub const DEFAULT_LIMIT: u64 = 1 << 30;
 pub enum Verb {
     /// A message is shown.
     Show,
-    /// A value of a message is shown.
+    /// Values of a message are shown.
     Get,
-    /// A message is shown as JSON.
+    /// A value of a message is shown as JSON.
     Json,
     /// A value of a message is looked at, whether it can be shown.
     Check,
@@ -57,23 +57,26 @@ pub struct NamedRoot<'a> {
     pub name: &'a str,
 }
 
-/// A message as JSON, whether it is indented, whether the message comes packed, of which messages, and the most bytes that a
-/// JSON may have.
+/// The value at a path as JSON, whether it is indented, whether the message comes packed, of which messages, and the most
+/// bytes that a JSON may have.
 #[derive(Clone, Copy)]
 pub struct JsonRequest<'a> {
     pub root: NamedRoot<'a>,
+    pub path: &'a str,
     pub indented: bool,
     pub packed: bool,
     pub messages: Messages,
     pub limit: u64,
 }
 
-/// The text of the value at a path, whether it is indented, whether the message comes packed, of which messages, and the most
-/// bytes that a text may have.
-#[derive(Clone, Copy)]
+/// What stands at paths, one or more, or where their last step is `#`, the lengths of lists there; whether texts and data are
+/// told as their bytes, and other values indented, whether the message comes packed, of which messages, and the most bytes
+/// that the texts may have together.
+#[derive(Drop)]
 pub struct GetRequest<'a> {
     pub root: NamedRoot<'a>,
-    pub path: &'a str,
+    pub paths: Vec<&'a str>,
+    pub raw: bool,
     pub indented: bool,
     pub packed: bool,
     pub messages: Messages,
@@ -128,9 +131,9 @@ pub struct CompareRequest<'a> {
 /// What is to be done.
 #[derive(Drop)]
 pub enum Task<'a> {
-    /// A value of a message is shown; the whole message is the value at the path `.`.
+    /// Values of a message are shown; the whole message is the value at the path `.`.
     Get(GetRequest<'a>),
-    /// A message is shown as JSON.
+    /// A value of a message is shown as JSON.
     Json(JsonRequest<'a>),
     /// A value of a message is looked at, whether it can be shown.
     Check(CheckRequest<'a>),
@@ -277,6 +280,10 @@ fn takes_flag(verb: Verb, flag: Flag) -> bool
             Verb::Check => false,
             _ => is_reading(verb),
         },
+        Flag::Raw => match verb {
+            Verb::Get => true,
+            _ => false,
+        },
         Flag::KeepGoing => is_reading(verb) || is_with_calls(verb),
         Flag::Packed => is_on_messages(verb),
         Flag::Each => match verb {
@@ -321,6 +328,7 @@ fn do_flags_fit(verb: Verb, options: &Options<'_>) -> bool
     ensures { result ≡ flags_fit verb (options_seen options.now) }
 {
     is_allowed(options.indent, verb, Flag::Indent)
+        && is_allowed(options.raw, verb, Flag::Raw)
         && is_allowed(options.keep_going, verb, Flag::KeepGoing)
         && is_allowed(options.packed, verb, Flag::Packed)
         && is_allowed(options.each, verb, Flag::Each)
@@ -428,32 +436,71 @@ fn read_calls<'a>(
     }
 }
 
-/// What is asked of the value at a path that is shown.
-fn read_shown<'a>(options: &Options<'a>, limit: u64, name: &'a str, path: &'a str) -> GetRequest<'a>
-    ensures { get_task_of result ≡ shown_of (options_seen options.now) limit name.now path.now }
+/// What is asked of the values at paths that are shown. Refused with `OutOfMemory` alone.
+fn read_shown<'a>(
+    alloc: Global,
+    options: &Options<'a>,
+    limit: u64,
+    name: &'a str,
+    paths: &[&'a str],
+) -> Result<Option<Task<'a>>>
+    ensures asked { IfOk result (λ r. option_map task_seen r
+        ≡ Some (shown_of (options_seen options.now) limit name.now (map (λ w. w.now) paths.now))) }
+    ensures memory { IfErr result (λ e. e.kind ≡ OutOfMemory) }
 {
-    GetRequest {
+    let mut list = Vec::with_capacity(alloc, paths.len())?;
+    list.extend_from_slice(paths)?;
+    Ok(Some(Task::Get(GetRequest {
         root: NamedRoot {
             file: options.set,
             name,
         },
-        path,
+        paths: list,
+        raw: options.raw,
         indented: options.indent,
         packed: options.packed,
         messages: read_messages(options),
         limit,
+    })))
+}
+
+/// What is asked of a message that is shown, by the other words. Refused with `OutOfMemory` alone.
+fn read_show<'a>(alloc: Global, options: &Options<'a>, limit: u64) -> Result<Option<Task<'a>>>
+    ensures asked { IfOk result (λ r. option_map task_seen r
+        ≡ show_asked (options_seen options.now) limit (options_seen options.now).others) }
+    ensures memory { IfErr result (λ e. e.kind ≡ OutOfMemory) }
+{
+    match options.others.as_slice() {
+        [name] => read_shown(alloc, options, limit, *name, &["."]),
+        _ => Ok(None),
     }
 }
 
-/// What is asked of a message that is shown as JSON.
-fn read_json<'a>(options: &Options<'a>, limit: u64, name: &'a str) -> Task<'a>
-    ensures { task_seen result ≡ json_of (options_seen options.now) limit name.now }
+/// What is asked of values that are shown, by the other words. Refused with `OutOfMemory` alone.
+fn read_get<'a>(alloc: Global, options: &Options<'a>, limit: u64) -> Result<Option<Task<'a>>>
+    ensures asked { IfOk result (λ r. option_map task_seen r
+        ≡ get_asked (options_seen options.now) limit (options_seen options.now).others) }
+    ensures memory { IfErr result (λ e. e.kind ≡ OutOfMemory) }
+{
+    let [name, paths @ ..] = options.others.as_slice() else {
+        return Ok(None);
+    };
+    if paths.is_empty() {
+        return Ok(None);
+    }
+    read_shown(alloc, options, limit, *name, paths)
+}
+
+/// What is asked of the value at a path that is shown as JSON.
+fn read_json<'a>(options: &Options<'a>, limit: u64, name: &'a str, path: &'a str) -> Task<'a>
+    ensures { task_seen result ≡ json_of (options_seen options.now) limit name.now path.now }
 {
     Task::Json(JsonRequest {
         root: NamedRoot {
             file: options.set,
             name,
         },
+        path,
         indented: options.indent,
         packed: options.packed,
         messages: read_messages(options),
@@ -498,15 +545,14 @@ fn read_compared<'a>(
     })
 }
 
-/// What is asked of a message that is shown or made, or of a set, by its verb and the other words.
+/// What is asked of a value that is shown as JSON or looked at, or of sets, by its verb and the other words.
 fn read_plain<'a>(verb: Verb, options: &Options<'a>, limit: u64) -> Option<Task<'a>>
     ensures { option_map task_seen result ≡ plain_asked verb (options_seen options.now) limit }
 {
     let file = options.set;
     match (verb, options.others.as_slice()) {
-        (Verb::Show, [name]) => Some(Task::Get(read_shown(options, limit, *name, "."))),
-        (Verb::Get, [name, path]) => Some(Task::Get(read_shown(options, limit, *name, *path))),
-        (Verb::Json, [name]) => Some(read_json(options, limit, *name)),
+        (Verb::Json, [name]) => Some(read_json(options, limit, *name, ".")),
+        (Verb::Json, [name, path]) => Some(read_json(options, limit, *name, *path)),
         (Verb::Check, [name]) => Some(read_checked(options, limit, *name, ".")),
         (Verb::Check, [name, path]) => Some(read_checked(options, limit, *name, *path)),
         (Verb::Structs, []) => Some(Task::Structs(file)),
@@ -542,13 +588,11 @@ fn read_task<'a>(
             Some(request) => Ok(Some(Task::New(request))),
             None => Ok(None),
         },
-        Verb::Show
-        | Verb::Get
-        | Verb::Json
-        | Verb::Check
-        | Verb::Structs
-        | Verb::Schemas
-        | Verb::Compatible => Ok(read_plain(verb, options, limit)),
+        Verb::Show => read_show(alloc, options, limit),
+        Verb::Get => read_get(alloc, options, limit),
+        Verb::Json | Verb::Check | Verb::Structs | Verb::Schemas | Verb::Compatible => {
+            Ok(read_plain(verb, options, limit))
+        }
     }
 }
 
@@ -582,8 +626,8 @@ fn read_behind<'a>(alloc: Global, verb: Verb, words: &'a [String]) -> Result<Ask
 /// |words|what is done|
 /// |---|---|
 /// |`show NAME`|a message is shown|
-/// |`get NAME PATH`|a value of a message is shown|
-/// |`json NAME`|a message is shown as JSON|
+/// |`get NAME PATH..`|values of a message are shown|
+/// |`json NAME`, `json NAME PATH`|a message is shown as JSON, or a value of it|
 /// |`check NAME`, `check NAME PATH`|a message is looked at, or a value of it, whether it can be shown|
 /// |`patch NAME CALL..`|calls are made on a copy of a message|
 /// |`new NAME CALL..`|calls are made on an empty root|
@@ -600,6 +644,7 @@ fn read_behind<'a>(alloc: Global, verb: Verb, words: &'a [String]) -> Result<Ask
 /// |`--set FILE`|those on messages, which are the first six, and `structs`|
 /// |`--packed`, `--limit N`|those on messages|
 /// |`--indent`|`show`, `get`, `json`|
+/// |`--raw`|`get`|
 /// |`--each`|`show`, `get`, `json`, `check`, `patch`|
 /// |`--keep-going`|the same, of those that only read with `--each`, and `new`|
 /// |`--calls FILE`, with no call beside it|`patch`, `new`|

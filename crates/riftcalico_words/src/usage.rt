@@ -13,8 +13,8 @@ pub const VERSION: &str = "riftcalico 0.1.0\n";
 
 const USAGE: &str = "\
 usage: riftcalico show [--set FILE] [--packed] [--limit BYTES] [--each [--keep-going]] NAME [--indent]
-       riftcalico get [--set FILE] [--packed] [--limit BYTES] [--each [--keep-going]] NAME PATH [--indent]
-       riftcalico json [--set FILE] [--packed] [--limit BYTES] [--each [--keep-going]] NAME [--indent]
+       riftcalico get [--set FILE] [--packed] [--limit BYTES] [--raw] [--each [--keep-going]] NAME PATH.. [--indent]
+       riftcalico json [--set FILE] [--packed] [--limit BYTES] [--each [--keep-going]] NAME [PATH] [--indent]
        riftcalico check [--set FILE] [--packed] [--limit PARTS] [--all] [--each [--keep-going]] NAME [PATH]
        riftcalico patch [--set FILE] [--calls FILE] [--keep-going] [--packed] [--limit BYTES] [--each] [--in-place FILE] NAME CALL..
        riftcalico new [--set FILE] [--calls FILE] [--keep-going] [--packed] [--limit BYTES] NAME CALL..
@@ -28,8 +28,8 @@ Shows, makes and patches Cap'n Proto messages under schemas that are known at ru
 input and written to standard output.
 
 usage: riftcalico show [--set FILE] [--packed] [--limit BYTES] [--each [--keep-going]] NAME [--indent]
-       riftcalico get [--set FILE] [--packed] [--limit BYTES] [--each [--keep-going]] NAME PATH [--indent]
-       riftcalico json [--set FILE] [--packed] [--limit BYTES] [--each [--keep-going]] NAME [--indent]
+       riftcalico get [--set FILE] [--packed] [--limit BYTES] [--raw] [--each [--keep-going]] NAME PATH.. [--indent]
+       riftcalico json [--set FILE] [--packed] [--limit BYTES] [--each [--keep-going]] NAME [PATH] [--indent]
        riftcalico check [--set FILE] [--packed] [--limit PARTS] [--all] [--each [--keep-going]] NAME [PATH]
        riftcalico patch [--set FILE] [--calls FILE] [--keep-going] [--packed] [--limit BYTES] [--each] [--in-place FILE] NAME CALL..
        riftcalico new [--set FILE] [--calls FILE] [--keep-going] [--packed] [--limit BYTES] NAME CALL..
@@ -45,11 +45,11 @@ usage: riftcalico show [--set FILE] [--packed] [--limit BYTES] [--each [--keep-g
 ";
 
 const GET_USAGE: &str = "\
-usage: riftcalico get [--set FILE] [--packed] [--limit BYTES] [--each [--keep-going]] NAME PATH [--indent]
+usage: riftcalico get [--set FILE] [--packed] [--limit BYTES] [--raw] [--each [--keep-going]] NAME PATH.. [--indent]
 ";
 
 const JSON_USAGE: &str = "\
-usage: riftcalico json [--set FILE] [--packed] [--limit BYTES] [--each [--keep-going]] NAME [--indent]
+usage: riftcalico json [--set FILE] [--packed] [--limit BYTES] [--each [--keep-going]] NAME [PATH] [--indent]
 ";
 
 const CHECK_USAGE: &str = "\
@@ -87,22 +87,23 @@ NAME is a struct of the set in FILE, as 'riftcalico schemas' writes it, or else 
 ";
 
 const GET_HELP: &str = "\
-usage: riftcalico get [--set FILE] [--packed] [--limit BYTES] [--each [--keep-going]] NAME PATH [--indent]
+usage: riftcalico get [--set FILE] [--packed] [--limit BYTES] [--raw] [--each [--keep-going]] NAME PATH.. [--indent]
 
-Prints what stands at PATH of the first message's root, a struct NAME. PATH has steps joined by '.': a field's name,
-#3, a field by its number, or 4, an element of a list. '.' alone is the root. With --packed the message is read packed.
-No text is printed of more bytes than --limit, or else 1 GiB.
+Prints what stands at each PATH of the first message's root, a struct NAME, a line each. PATH has steps joined by '.': a
+field's name, #3, a field by its number, or 4, an element of a list; a last # is the length of a list. '.' alone is the
+root. With --raw texts and data are printed as their bytes. With --packed the message is read packed.
+The texts have no more bytes together than --limit, or else 1 GiB.
 With --each all messages of the input are taken, one after another, and what is told names the message by number.
 With --keep-going one that is refused is told and passed over.
 NAME is a struct of the set in FILE, as 'riftcalico schemas' writes it, or else of the built-in set.
 ";
 
 const JSON_HELP: &str = "\
-usage: riftcalico json [--set FILE] [--packed] [--limit BYTES] [--each [--keep-going]] NAME [--indent]
+usage: riftcalico json [--set FILE] [--packed] [--limit BYTES] [--each [--keep-going]] NAME [PATH] [--indent]
 
-Prints the root of the first message, a struct NAME, as JSON, as the public library's codec does, on one line, or with
---indent on several. Numbers of 64 bits are strings. With --packed the message is read packed. No JSON is printed of
-more bytes than --limit, or else 1 GiB.
+Prints the root of the first message, a struct NAME, or what stands at PATH of it, as JSON, as the public library's
+codec does, on one line, or with --indent on several. Numbers of 64 bits are strings. With --packed the message is read
+packed. No JSON is printed of more bytes than --limit, or else 1 GiB.
 With --each all messages of the input are taken, one after another, and what is told names the message by number.
 With --keep-going one that is refused is told and passed over.
 NAME is a struct of the set in FILE, as 'riftcalico schemas' writes it, or else of the built-in set.

@@ -172,10 +172,17 @@ impl Parts<'_> {
         let examples = self.examples;
         let set = &examples.sets[examples.bases[place].set];
         let schema = set.find_struct(name).unwrap_or(set.struct_schema(0));
-        let path = words::path(self.random, schema);
-        self.word(&path);
-        if self.random.once_in(3) {
-            self.word("--indent");
+        for _ in 0..1 + self.random.below(3) {
+            let mut path = words::path(self.random, schema);
+            if self.random.once_in(6) {
+                path.push_str(".#");
+            }
+            self.word(&path);
+        }
+        for option in ["--indent", "--raw"] {
+            if self.random.once_in(3) {
+                self.word(option);
+            }
         }
     }
 

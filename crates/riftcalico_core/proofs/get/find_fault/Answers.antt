@@ -2,7 +2,7 @@
 use Rattle.std.proofs.Common.{sym}
 use Rattle.capnp_call.specs.Seen.{path_seen}
 use Rattle.riftcalico_core.proofs.NotShown.{not_shown}
-use Rattle.riftcalico_core.proofs.answer.find_fault.Goals as goal
+use Rattle.riftcalico_core.proofs.get.find_fault.Goals as goal
 
 pub returns-in_default-clause-found : goal.returns-in_default-clause-found
 returns-in_default-clause-found c = let number = rw c.in_default.is at c.in_ok-refusal.ensures.number in λ i. sym (number i)
