@@ -1,17 +1,23 @@
 -- One message more was answered to.
-use Rattle.std.proofs.Common.{◌≡◌, ◌∙◌, ℕ, suc, List, [], ◌∷◌, ◌++◌, Bool, false, ◌||◌, ◌≢◌, ◌⊎◌, Option, Some, None, Ok, Err, length, append_assoc, ap, arith, inl, inr, refl, subst, sym}
+use Rattle.std.proofs.Common.{◌≡◌, ◌∙◌, ℕ, suc, List, [], ◌∷◌, ◌++◌, Bool, true, false, ◌||◌, ◌≢◌, ◌⊎◌, Option, Some, None, Ok, Err, length, append_assoc, ap, arith, inl, inr, refl, subst, sym}
 use Rattle.std.proofs.lemmas.List.{append-nil, length-append}
 use Rattle.std.proofs.lemmas.List.Elements.{All-push}
 use Rattle.std.specs.Io.KnownBytes.{Consumes}
 use Rattle.capnp_device.specs.Device.{HasFailed}
 use Rattle.capnp_device.specs.declared.error.Error.{Error}
 use Rattle.capnp_device.specs.declared.error.ErrorKind.{ErrorKind}
-use Rattle.capnp_device.specs.declared.error.ErrorKind.TheVariants.{OutOfMemory, ReadFailed}
+use Rattle.capnp_device.specs.declared.error.ErrorKind.TheVariants.{OutOfMemory, ReadFailed, WriteFailed}
 use Rattle.capnp_streams.specs.Lengths.{message_length}
 use Rattle.capnp_streams.specs.Received.{IsNotReceived, IsReceived}
 use Rattle.riftcalico_core.specs.declared.fault.Blamed.TheVariants.{Input}
 use Rattle.riftcalico_core.specs.declared.job.Job.{Job}
-use Rattle.riftcalico_engine.specs.Outputs.{IsMessageAnsweredTo, Ran}
+use Rattle.capnp_show_engine.specs.Command.{IsTold}
+use Rattle.riftcalico_engine.specs.Outputs.{IsAnswered, IsMessageAnsweredTo, Ran}
+use Rattle.riftcalico_engine.proofs.Ending.{fault_said}
+use Rattle.riftcalico_engine.specs.Steps.Passing.{IsRefusedWith}
+use Rattle.riftcalico_engine.specs.Steps.Told.{IsFaultLine, told_bytes}
+use Rattle.riftcalico_engine.specs.declared.ended.Ended.TheVariants as ended
+use Rattle.riftcalico_engine.specs.declared.told.Told.{Told}
 use Rattle.riftcalico_engine.specs.Streams.{IsGoneOn, IsMessageUnread, IsSoFar, IsStopped, IsStreamEnd, joined, none_passed, one_more}
 use Rattle.riftcalico_engine.specs.declared.ended.Refusal.{Refusal}
 use Rattle.riftcalico_words.specs.Tasks.{Task}
@@ -34,6 +40,23 @@ pub by_message : {A B : Type 0} (kind : ErrorKind) → (kind ≢ ReadFailed → 
 by_message ReadFailed cut failed = inl (refl, failed refl)
 by_message OutOfMemory cut failed = inr (inl refl)
 by_message kind cut failed = inr (inr (cut (λ e. cc) (λ e. cc)))
+
+pub or_true : (b : Bool) → true ≡ (b || true)
+or_true true = refl
+or_true false = refl
+
+module _ {F : Type 0} (told : F → Option (List ℕ)) (tells : F → ℕ) where
+  -- nothing was told behind it
+  pub quiet_on : (t : Task) (going : Bool) (by : Ran) (f : F) (refused : Bool) → IsAnswered by refused → (refused ≡ true → going ≡ true) → IsGoneOn told tells t going by f f refused
+  quiet_on t going (Ok (ended.Answered x)) f refused is may = (refl, sym is, λ e. may (sym is ∙ e))
+  quiet_on t going (Ok (ended.Unreadable line)) f refused is may = absurd is
+  quiet_on t going (Err x) f refused is may = absurd is
+
+  -- its refusal was
+  pub telling_on : (t : Task) (going : Bool) (by : Ran) (m : Told) (f f' : F) → going ≡ true → IsRefusedWith by (λ x. (x.fault.error.kind ≢ WriteFailed) × IsFaultLine t x m) →
+      IsTold (told_bytes m) (told f) (told f') (tells f) (tells f') → IsGoneOn told tells t going by f f' true
+  telling_on t going (Ok x) m f f' on is said = absurd is
+  telling_on t going (Err x) m f f' on is said = (on, refl, is.0, fault_said told tells t x m f f' is.1 said)
 
 module _ {S W F : Type 0} (left : S → Option (List ℕ)) (reads : S → ℕ) (written : W → Option (List ℕ)) (writes : W → ℕ) (told : F → Option (List ℕ)) (tells : F → ℕ) where
   pub none_so_far : (t : Task) (j : Job) (going : Bool) (s : S) (w : W) (f : F) → IsSoFar left reads written writes told tells t j going 0 s s w w f f false
@@ -82,3 +105,10 @@ module _ {S W F : Type 0} (left : S → Option (List ℕ)) (reads : S → ℕ) (
       IsStreamEnd left reads written writes told tells j going (suc number) refused s s' w w f f (Err x)
   unread_end j going number next refused s s' w f x error here message blamed is cut failed =
       inr (inl ((message ∙ ap Some here, (blamed, subst (λ (e : Error). IsMessageUnread (left s) (left s') (reads s) (reads s') e.kind) (sym is) (by_message error.kind cut failed))), refl, refl))
+
+  -- where ways join
+  pub at_next : (t : Task) (j : Job) (going : Bool) (number : ℕ) (s s' : S) (w w' : W) (f : F) (f' there : F) (refused some : Bool) → f' ≡ there → refused ≡ some →
+      IsSoFar left reads written writes told tells t j going number s s' w w' f there some → IsSoFar left reads written writes told tells t j going number s s' w w' f f' refused
+  at_next t j going number s s' w w' f f' there refused some e e' so_far =
+      subst (λ (x : F). IsSoFar left reads written writes told tells t j going number s s' w w' f x refused) (sym e)
+      (subst (λ (b : Bool). IsSoFar left reads written writes told tells t j going number s s' w w' f there b) (sym e') so_far)

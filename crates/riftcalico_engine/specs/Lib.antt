@@ -3,4 +3,5 @@ pub mod Outputs
 pub mod Places
 pub mod Programs
 pub mod Runs
+pub mod Steps
 pub mod Streams

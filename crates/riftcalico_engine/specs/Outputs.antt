@@ -85,6 +85,11 @@ module _ {W F : Type 0} (written : W → Option (List ℕ)) (writes : W → ℕ)
       ⊎ (IsAnswered r a.refused × IsOutputPut a.output (sink' ≡ sink) (written sink) (written sink')
       × IsTold (told_lines message (string_bytes a.lines)) (told errors) (told errors') (tells errors) (tells errors'))
 
+  -- an answer was, or there is none, which is told later
+  abbrev pub IsAnsweredWith : Result Answer Fault → (message : Option ℕ) → (sink sink' : W) → (errors errors' : F) → Ran → Type 0
+  IsAnsweredWith (Ok a) message sink sink' errors errors' r = IsAnswerPut a message sink sink' errors errors' r
+  IsAnsweredWith (Err x) message sink sink' errors errors' r = IsFaultOf message r (λ y. y ≡ x) × (sink' ≡ sink) × (errors' ≡ errors)
+
   -- there is none to a message's bytes, for want of memory or for what they are; or there is one, and it was written or not
   abbrev pub IsAnsweredTo : Job → (message : Option ℕ) → (bytes : List ℕ) → (sink sink' : W) → (errors errors' : F) → Ran → Type 0
   IsAnsweredTo j message bytes sink sink' errors errors' r =

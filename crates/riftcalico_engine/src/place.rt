@@ -1,17 +1,18 @@
 //! A file whose messages are replaced by what is made of them: a new file beside it takes what is written, and is put in
 //! its place where nothing was refused.
-ghost use Rattle.std.specs.Prelude.{ℕ, List, Result, ⊤, ◌≡◌, ◌++◌, IfErr, IfOk, string_bytes};
+ghost use Rattle.std.specs.Prelude.{ℕ, List, Result, ⊤, ◌≡◌, IfErr, IfOk, Err, string_bytes};
 ghost use Rattle.capnp_device.specs.declared.device.DeviceFault.{DeviceFault as Fault};
-ghost use Rattle.capnp_device.specs.declared.error.ErrorKind.TheVariants.{OutOfMemory};
-ghost use Rattle.riftcalico_engine.specs.Places.{IsPlaceEnded, IsPlaceNamed, IsPlaceRun, is_whole, new_path};
+ghost use Rattle.capnp_device.specs.declared.error.ErrorKind.TheVariants.{OutOfMemory, WriteFailed};
+ghost use Rattle.riftcalico_core.specs.Faults.{place_file as replaced_file};
+ghost use Rattle.riftcalico_engine.specs.Places.{is_whole, new_path};
+ghost use Rattle.riftcalico_engine.specs.Steps.Placing.{HasPlace, IsPlaceOf, IsPlaced, IsUnread, IsUnwritten};
 ghost use Rattle.riftcalico_words.specs.RequestSeen.{task_seen};
 
-use crate::ended::{Ended, Ran, refuse};
-use crate::shell::run;
+use crate::ended::{Ended, Ran, Refusal, refuse};
 use capnp_show_engine::opener::Opener;
 use capnp_wire::device::{DeviceFault, ReadSource, Sink, WriteSink};
 use capnp_wire::error::{Error, ErrorKind, Result};
-use riftcalico_core::fault::Blamed;
+use riftcalico_core::fault::{Blamed, get_place_file};
 use riftcalico_words::request::Task;
 use std::alloc::Global;
 use std::fs::{File, OpenFile};
@@ -146,8 +147,50 @@ fn get_new_path(alloc: Global, file: &str) -> Result<String>
     Ok(format!(in alloc; "{file}.riftcalico-new")?)
 }
 
+/// A file that is replaced.
+#[derive(Drop)]
+pub(crate) struct Place<'a> {
+    pub file: &'a str,
+    /// The path of the new file beside it.
+    pub path: String,
+}
+
+/// The file whose messages a task replaces, if there is one. Refused where there is no memory for the new file's path.
+pub(crate) fn find_place<'a>(
+    alloc: Global,
+    task: &Task<'a>,
+) -> std::result::Result<Option<Place<'a>>, Refusal>
+    ensures place { IfOk result (IsPlaceOf (replaced_file (task_seen task.now))) }
+    ensures refused { IfErr result (λ x. HasPlace (replaced_file (task_seen task.now))
+        × IsUnwritten OutOfMemory (Err x)) }
+{
+    let Some(file) = get_place_file(task) else {
+        return Ok(None);
+    };
+    match get_new_path(alloc, file) {
+        Ok(path) => Ok(Some(Place { file, path })),
+        Err(error) => Err(refuse(alloc, None, error, Blamed::Output)),
+    }
+}
+
+/// That the file that is replaced can't be opened.
+pub(crate) fn refuse_old(alloc: Global) -> Ran
+    ensures { IsUnread result }
+{
+    let error = Error::from(ErrorKind::ReadFailed);
+    Err(refuse(alloc, None, error, Blamed::Input))
+}
+
+/// That a new file can't be made.
+pub(crate) fn refuse_new(alloc: Global) -> Ran
+    ensures { IsUnwritten WriteFailed result }
+{
+    let error = Error::from(ErrorKind::WriteFailed);
+    Err(refuse(alloc, None, error, Blamed::Output))
+}
+
 /// Whether all was answered, and no call or message was refused.
-fn is_whole(ran: &Ran) -> bool
+pub(crate) fn is_whole(ran: &Ran) -> bool
     ensures { result ≡ is_whole ran.now }
 {
     match ran {
@@ -156,64 +199,12 @@ fn is_whole(ran: &Ran) -> bool
     }
 }
 
-/// Puts the new file in the place of the old where all was answered and nothing refused, and else removes it.
-fn end_place<O: Replacer>(
-    alloc: Global,
-    replacer: &mut O,
-    new: O::New,
-    path: &str,
-    file: &str,
-    ran: Ran,
-) -> Ran
-    ensures { IsPlaceEnded O.puts O.removes path.now file.now new ran replacer.old replacer.new result }
+/// What a task came to whose new file was put in the place of the old, or couldn't be.
+pub(crate) fn get_placed(alloc: Global, ran: Ran, put: std::result::Result<(), DeviceFault>) -> Ran
+    ensures { IsPlaced ran put result }
 {
-    if !is_whole(&ran) {
-        replacer.remove_new(new, path);
-        return ran;
-    }
-    match replacer.put_in_place(new, path, file) {
+    match put {
         Ok(()) => ran,
-        Err(_) => Err(refuse(
-            alloc,
-            None,
-            Error::from(ErrorKind::WriteFailed),
-            Blamed::Output,
-        )),
+        Err(_) => refuse_new(alloc),
     }
-}
-
-/// Does a task on the messages of a file, which is replaced by what is written.
-pub(crate) fn run_in_place<O: Opener + Replacer, F: Sink>(
-    alloc: Global,
-    opener: &mut O,
-    task: &Task<'_>,
-    file: &str,
-    errors: &mut F,
-) -> Ran
-    ensures ran { IsPlaceRun O.opens O.File.left O.File.failures O.makes O.puts O.removes O.New.written O.New.failures
-        F.written F.failures (task_seen task.now) file.now opener.old opener.new errors.old errors.new result }
-    ensures named { IsPlaceNamed O.opens O.makes O.puts O.removes (task_seen task.now) file.now opener.old opener.new }
-{
-    let path = match get_new_path(alloc, file) {
-        Ok(path) => path,
-        Err(error) => return Err(refuse(alloc, None, error, Blamed::Output)),
-    };
-    let Ok(mut source) = opener.open(file) else {
-        return Err(refuse(
-            alloc,
-            None,
-            Error::from(ErrorKind::ReadFailed),
-            Blamed::Input,
-        ));
-    };
-    let Ok(mut new) = opener.make_new(path.as_str(), file) else {
-        return Err(refuse(
-            alloc,
-            None,
-            Error::from(ErrorKind::WriteFailed),
-            Blamed::Output,
-        ));
-    };
-    let ran = run(alloc, opener, task, &mut source, &mut new, errors);
-    end_place(alloc, opener, new, path.as_str(), file, ran)
 }
