@@ -1,5 +1,5 @@
 -- What isn't reached by a path, or is no list, as it is told.
-use Rattle.std.proofs.Common.{ℕ, List, [], Err, IfErr, Result, Ok, ap, inl, inr, subst, sym, ◌≡◌, ◌≢◌, ◌∙◌, ◌⊎◌}
+use Rattle.std.proofs.Common.{ℕ, List, Err, ap, inl, inr, subst, sym, ◌≡◌, ◌∙◌, ◌⊎◌}
 use Rattle.capnp_device.specs.declared.error.ErrorKind.{ErrorKind}
 use Rattle.capnp_patch.specs.Places.{IsRefusedAt}
 use Rattle.capnp_patch.specs.declared.place.Refusal.{Refusal}

@@ -1,5 +1,5 @@
 -- What is told of a value of a set is told of the part that it is seen as.
-use Rattle.std.proofs.Common.{ℕ, suc, ◌≤◌, List, [], ◌∷◌, ◌++◌, Bool, Option, Some, None, Ok, get_or, length, ◌≡◌, ◌∙◌, ap, arith, refl, subst, sym}
+use Rattle.std.proofs.Common.{ℕ, List, [], ◌∷◌, ◌++◌, Bool, Option, Some, None, Ok, get_or, length, ◌≡◌, ◌∙◌, ap, arith, refl, subst, sym}
 use Rattle.std.proofs.lemmas.List.{length-append}
 use Rattle.capnp_dynamic_readers.specs.Seen.{value_seen}
 use Rattle.capnp_dynamic_readers.specs.Shown.{printed_text, type_seen}

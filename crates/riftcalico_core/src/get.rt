@@ -7,7 +7,6 @@ ghost use Rattle.capnp_dynamic_readers.specs.Pieces.{IsLonger};
 ghost use Rattle.capnp_dynamic_readers.specs.Seen.{value_seen};
 ghost use Rattle.capnp_dynamic_readers.specs.Shown.{printed_text};
 ghost use Rattle.capnp_patch.specs.Gets.{got_text};
-ghost use Rattle.capnp_queries.specs.Lengths.{HasNoLength, length_at};
 ghost use Rattle.capnp_queries.specs.Shown.{IsTooLong, IsTooLongAt, raw_bytes};
 ghost use Rattle.capnp_records.specs.Text.{IsText};
 ghost use Rattle.capnp_schema.specs.StructHandles.{IsStruct, number_of, set_of};

@@ -1,8 +1,7 @@
 //! The stages of a task between what is read: what its words ask, the set, the struct of its root with the values of its
 //! calls, and which messages are read.
-ghost use Rattle.std.specs.Prelude.{◌≡◌, ◌⊎◌, IfErr, IfOk, Ok, Err};
+ghost use Rattle.std.specs.Prelude.{◌≡◌, IfErr, IfOk, Ok, Err};
 ghost use Rattle.std.specs.Option.{option_map};
-ghost use Rattle.capnp_device.specs.declared.error.ErrorKind.TheVariants.{OutOfMemory};
 ghost use Rattle.capnp_schema.specs.Entries.{lists_seen};
 ghost use Rattle.riftcalico_core.specs.Answers.{IsSoundJob};
 ghost use Rattle.riftcalico_core.specs.Jobs.{IsJob, IsSetOfFile, is_packed, wants_input};

@@ -21,3 +21,6 @@ returns-in-Convert-clause-refused c =
 
 pub returns-in-Get-clause-refused : goal.returns-in-Get-clause-refused
 returns-in-Get-clause-refused c = subst (λ (x : Job). IfErr c.answer_get.result (λ f. f.error.kind ≢ OutOfMemory → IsNoMessageAnswer x c.args.message.now f)) (sym c.in-Get.is) c.answer_get.ensures.refused
+
+pub returns-in-Json-clause-refused : goal.returns-in-Json-clause-refused
+returns-in-Json-clause-refused c = subst (λ (x : Job). IfErr c.answer_json.result (λ f. f.error.kind ≢ OutOfMemory → IsNoMessageAnswer x c.args.message.now f)) (sym c.in-Json.is) c.answer_json.ensures.refused
