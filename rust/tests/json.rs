@@ -1,8 +1,10 @@
 //! JSON of messages: the lines of `capnp convert --short binary:json` (0.9.2) for the messages in `examples`, and their
-//! indented forms as `jq` prints them.
+//! indented forms as `jq` prints them. The same lines are read into messages again.
 
+use crate::capnp_from_json::error::Error;
 use crate::capnp_json::error::JsonError;
 use crate::capnp_json::message::message_to_json;
+use crate::capnp_json_messages::message::read_message as read_json;
 use crate::capnp_schema::builtin;
 use crate::capnp_schema::set::SchemaSet;
 use crate::capnp_set_engine::engine::convert_bytes;
@@ -157,4 +159,86 @@ fn refusals() {
         json(&set, "Flat", &[], false, 99),
         Err(JsonError::Read(ErrorKind::Truncated))
     );
+}
+
+/// The line of the message that a text is read into, or why it is refused: the number and the place.
+fn read_again(set: &SchemaSet, name: &str, text: &str, strict: bool) -> Result<String, (u32, Option<usize>)> {
+    let schema = set.find_struct(name).expect("it has the struct");
+    let refused = |error: Error| (error.number(), error.place());
+    let message = read_json(Global, schema, text.as_bytes(), strict).map_err(refused)?;
+    let bytes = message.write_message().expect("there is memory");
+    Ok(json(set, name, &bytes, false, 1 << 20).expect("it has a line"))
+}
+
+#[test]
+fn lines_are_read_again() {
+    let built_in = builtin::new_set(Global).expect("there is memory");
+    let book = set_of("addressbook.request");
+    let shown = set_of("json.request");
+    let others = [(&book, "AddressBook", ADDRESS_BOOK), (&shown, "Shown", SHOWN)];
+    let lines = BUILT_IN.map(|(_, root, line)| (&built_in, root, line));
+    for (set, root, line) in lines.into_iter().chain(others) {
+        assert_eq!(read_again(set, root, line, true).as_deref(), Ok(line), "{root}");
+    }
+    assert_eq!(
+        read_again(&built_in, "Lists", LISTS_INDENTED, true).as_deref(),
+        Ok(r#"{"bytes":[1,2,255],"raw":[0,255],"t":"a\"b\\\n","items":[{"a":1},{"a":2}]}"#)
+    );
+}
+
+/// Texts of the built-in set: the struct, the text, and the line of what `capnp convert json:binary` (0.9.2) makes of it.
+const READ: [(&str, &str, &str); 9] = [
+    ("Flat", "{}", r#"{"a":0}"#),
+    ("Flat", r#" { "a" : 7 } "#, r#"{"a":7}"#),
+    ("Flat", r#"{"a":"7"}"#, r#"{"a":7}"#),
+    ("Flat", r#"{"b":[{}, [1]], "a":3}"#, r#"{"a":3}"#),
+    ("Shapes", r#"{"circle":{}}"#, r#"{"id":0,"circle":{"r":0}}"#),
+    ("Shapes", r#"{"word":"w","id":9}"#, r#"{"id":9,"word":"w"}"#),
+    ("Loop", r#"{"again":{}}"#, r#"{"again":{"end":null}}"#),
+    ("Lists", r#"{"items":[{},{"a":5},{}]}"#, r#"{"items":[{"a":0},{"a":5},{"a":0}]}"#),
+    ("Lists", r#"{"t":"","raw":[]}"#, r#"{"raw":[],"t":""}"#),
+];
+
+#[test]
+fn texts_are_read() {
+    let set = builtin::new_set(Global).expect("there is memory");
+    for (root, text, line) in READ {
+        assert_eq!(read_again(&set, root, text, false).as_deref(), Ok(line), "{text}");
+    }
+}
+
+/// Texts that are refused: the number of the refusal, and its place.
+const REFUSED: [(&str, &str, u32, usize); 15] = [
+    ("Flat", "", 70, 0),
+    ("Flat", r#"{"a":}"#, 70, 5),
+    ("Flat", " []", 71, 1),
+    ("Flat", "null", 71, 0),
+    ("Flat", r#"{"a":[]}"#, 71, 5),
+    ("Flat", r#"{"a":1e99}"#, 72, 5),
+    ("Flat", r#"{"a":1,"a":2}"#, 73, 7),
+    ("Flat", r#"{"a":1,"b":2}"#, 74, 7),
+    ("Shapes", r#"{"circle":{},"word":""}"#, 73, 13),
+    ("Shapes", r#"{"circle":null}"#, 71, 10),
+    ("Shapes", r#"{"circle":{"r":true}}"#, 71, 15),
+    ("Lists", r#"{"bytes":[1,256]}"#, 72, 12),
+    ("Lists", r#"{"items":[{},null]}"#, 71, 13),
+    ("Lists", r#"{"items":[{},{"a":1,"a":1}]}"#, 73, 20),
+    ("Node", r#"{"size":"none"}"#, 74, 8),
+];
+
+#[test]
+fn texts_are_refused() {
+    let set = builtin::new_set(Global).expect("there is memory");
+    for (root, text, number, place) in REFUSED {
+        assert_eq!(read_again(&set, root, text, true), Err((number, Some(place))), "{text}");
+    }
+}
+
+/// As many structs in one another as there are levels, and one more.
+#[test]
+fn deep_texts() {
+    let set = builtin::new_set(Global).expect("there is memory");
+    let nested = |count: usize| format!(r#"{}{{"end":null}}{}"#, r#"{"again":"#.repeat(count), "}".repeat(count));
+    assert_eq!(read_again(&set, "Loop", &nested(63), true), Ok(nested(63)));
+    assert_eq!(read_again(&set, "Loop", &nested(64), true), Err((8, Some(64 * 9))));
 }

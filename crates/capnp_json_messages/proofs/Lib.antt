@@ -3,3 +3,15 @@ pub mod LeafContents
 pub mod ElementPuts
 pub mod Begun
 pub mod Inner
+pub mod Targets
+pub mod Fronts
+pub mod NewLists
+pub mod ReadParts
+pub mod MembersGo
+pub mod ListsGo
+pub mod FieldReads
+pub mod InnerReads
+pub mod RootReads
+pub mod SlotReads
+pub mod Behind
+pub mod Frames

@@ -3,3 +3,7 @@ pub mod Ways
 pub mod Put
 pub mod Started
 pub mod Steps
+pub mod Walks
+pub mod Opened
+pub mod Rows
+pub mod Messages

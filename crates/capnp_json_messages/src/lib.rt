@@ -1,6 +1,11 @@
 //! Steps of the read of a JSON text into a message in memory.
 #![tactic(auto)]
 
+pub mod leaf;
+pub mod message;
+pub mod opened;
 pub mod put;
+pub mod row;
 pub mod started;
+pub mod walk;
 pub mod ways;
