@@ -110,11 +110,13 @@ pub mod introspect {
     pub use crate::capnp_base::introspect::{Introspect, RawBrandedStructSchema, RawEnumSchema, Type, TypeVariant};
 }
 
-/// Values and messages as JSON.
+/// Values and messages as JSON, and messages of JSON texts.
 pub mod json {
+    pub use crate::capnp_from_json::error::{Error as ReadError, Refusal as ReadRefusal, RefusalKind};
     pub use crate::capnp_json::error::JsonError;
     pub use crate::capnp_json::json::to_json;
     pub use crate::capnp_json::message::message_to_json;
+    pub use crate::capnp_json_messages::message::read_message as from_json;
 }
 
 /// The allocator, and vectors and strings whose growth can be refused.

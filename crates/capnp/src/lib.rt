@@ -62,11 +62,13 @@ pub mod introspect {
     };
 }
 
-/// Values and messages as JSON.
+/// Values and messages as JSON, and messages of JSON texts.
 pub mod json {
+    pub use capnp_from_json::error::{Error as ReadError, Refusal as ReadRefusal, RefusalKind};
     pub use capnp_json::error::JsonError;
     pub use capnp_json::json::to_json;
     pub use capnp_json::message::message_to_json;
+    pub use capnp_json_messages::message::read_message as from_json;
 }
 
 /// Messages as they are received, and as they are built.
