@@ -2,6 +2,8 @@
 #![tactic(auto)]
 
 #[cfg(test)]
+mod json_rows;
+#[cfg(test)]
 mod query_rows;
 #[cfg(test)]
 mod refused_tests;

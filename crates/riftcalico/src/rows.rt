@@ -747,6 +747,7 @@ pub(crate) const TOLD: &str = "\
 \"usage: riftcalico show [--set FILE] [--packed] [--limit BYTES] [--each [--keep-going]] NAME [--indent]
 \"       riftcalico get [--set FILE] [--packed] [--limit BYTES] [--raw] [--each [--keep-going]] NAME PATH.. [--indent]
 \"       riftcalico json [--set FILE] [--packed] [--limit BYTES] [--each [--keep-going]] NAME [PATH] [--indent]
+\"       riftcalico from-json [--set FILE] [--strict] [--packed] NAME
 \"       riftcalico check [--set FILE] [--packed] [--limit PARTS] [--all] [--each [--keep-going]] NAME [PATH]
 \"       riftcalico patch [--set FILE] [--calls FILE] [--keep-going] [--packed] [--limit BYTES] [--each] [--in-place FILE] NAME CALL..
 \"       riftcalico new [--set FILE] [--calls FILE] [--keep-going] [--packed] [--limit BYTES] NAME CALL..

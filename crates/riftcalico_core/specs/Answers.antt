@@ -1,5 +1,5 @@
 -- What is answered to a message's bytes: what is written, what is told, and whether a call was refused.
-use Rattle.std.specs.Prelude.{ℕ, suc, ◌<◌, ◌≤◌, ◌≡◌, ◌⊎◌, ⊤, List, [], map, Bool, true, false, cond, not, Result, Ok, Err, string_bytes}
+use Rattle.std.specs.Prelude.{ℕ, ◌≤◌, ◌≡◌, ◌⊎◌, ⊤, List, [], map, Bool, true, false, cond, not, Result, Ok, Err, string_bytes}
 use Rattle.capnp_device.specs.declared.error.ErrorKind.{ErrorKind}
 use Rattle.capnp_device.specs.declared.error.ErrorKind.TheVariants.{TooLarge}
 use Rattle.capnp_arena.specs.Message.{IsMessage, message_tree}
@@ -12,9 +12,7 @@ use Rattle.capnp_call.specs.Seen.{call_seen, path_seen}
 use Rattle.capnp_call.specs.declared.calls.Call.{Call}
 use Rattle.capnp_call.specs.declared.calls.Reply.{Reply}
 use Rattle.capnp_dynamic_readers.specs.Pieces.{IsAppended}
-use Rattle.capnp_packed.specs.Packing.{packed_form}
 use Rattle.capnp_packed.specs.Received.{received_message}
-use Rattle.capnp_packed.specs.Unpacking.{unpacked_bytes}
 use Rattle.capnp_patch.specs.Patches.{IsLeftOfBytes, IsLeftOfNew, IsUnread, is_kept, words_within}
 use Rattle.capnp_patch.specs.Places.{AreFewLookedAt, AreRefusedAt, HasFewParts, HasMoreParts}
 use Rattle.capnp_patch.specs.declared.place.Refusals.{Refusals}
@@ -27,17 +25,16 @@ use Rattle.capnp_schema.specs.declared.schema.structs.StructSchema.{StructSchema
 use Rattle.capnp_set_engine.specs.Convert.{HasNoSet, IsSetOf}
 use Rattle.capnp_structs.specs.Fields.{fields_text}
 use Rattle.capnp_structs.specs.Names.{structs_text}
-use Rattle.capnp_wire.specs.Encoding.{message_of}
-use Rattle.capnp_wire.specs.Locate.{words_past_format}
 use Rattle.capnp_wire.specs.Tree.{Tree}
-use Rattle.capnp_wire.specs.Words.{words_of}
 use Rattle.riftcalico_core.specs.AllFaults.{any_told, refusals_lines}
 use Rattle.riftcalico_core.specs.CallsSeen.{read_call_seen}
 use Rattle.riftcalico_core.specs.Comparisons.{IsCompareAnswer, IsUncompared, compare_blamed}
 use Rattle.riftcalico_core.specs.Depths.{IsDepthTold}
+use Rattle.riftcalico_core.specs.FromJson.{IsFromJsonAnswer}
 use Rattle.riftcalico_core.specs.Gets.{IsGetAnswer, IsNotGot}
 use Rattle.riftcalico_core.specs.Jobs.{is_packed, wants_input}
 use Rattle.riftcalico_core.specs.Json.{IsJsonAnswer, IsNoJson}
+use Rattle.riftcalico_core.specs.Outputs.{IsMessageOutput}
 use Rattle.riftcalico_core.specs.Quiet.{IsQuiet}
 use Rattle.riftcalico_core.specs.Shown.{IsNotShown, IsTextThere}
 use Rattle.riftcalico_core.specs.Replies.{AreNoted}
@@ -57,6 +54,7 @@ use Rattle.riftcalico_words.specs.Usage.{help_text, version_line}
 abbrev pub IsSoundJob : Job → Type 0
 IsSoundJob (job.Get j) = IsStruct j.schema
 IsSoundJob (job.Json j) = IsStruct j.schema
+IsSoundJob (job.FromJson j) = IsStruct j.schema
 IsSoundJob (job.Check j) = IsStruct j.schema
 IsSoundJob (job.Patch j) = IsStruct j.schema
 IsSoundJob (job.New j) = IsStruct j.schema
@@ -128,19 +126,6 @@ IsNotChecked j bytes f = IsUnlooked j.all j.limit j.schema (path_seen j.steps.it
 
 -- ---- calls ----
 
--- the packed bytes of a message, which are unpacked to its own
-pub record IsPackedMessage (t : Tree) (packed : List ℕ) : Type 0 where
-  pub fits : suc (words_of t) < words_past_format
-  pub encoding : packed ≡ packed_form (message_of t)
-  pub back : unpacked_bytes packed ≡ message_of t
-
--- a message with this tree is written, packed or not
-abbrev pub IsMessageOutput : (packed : Bool) → Tree → Output → Type 0
-IsMessageOutput false t (output.Message m) = message_tree m ≡ t
-IsMessageOutput false t o = ⊥
-IsMessageOutput true t (output.Bytes bytes) = IsPackedMessage t bytes.items
-IsMessageOutput true t o = ⊥
-
 -- it is, or nothing
 abbrev pub IsRunOutput : (kept packed : Bool) → Tree → Output → Type 0
 IsRunOutput true packed t o = IsMessageOutput packed t o
@@ -201,6 +186,7 @@ pub record IsConvertAnswer (strict : Bool) (bytes : List ℕ) (a : Answer) : Typ
 abbrev pub IsMessageAnswer : Job → (bytes : List ℕ) → Answer → Type 0
 IsMessageAnswer (job.Get j) bytes a = IsGetAnswer j bytes a
 IsMessageAnswer (job.Json j) bytes a = IsJsonAnswer j bytes a
+IsMessageAnswer (job.FromJson j) bytes a = IsFromJsonAnswer j bytes a
 IsMessageAnswer (job.Check j) bytes a = IsCheckAnswer j bytes a
 IsMessageAnswer (job.Patch j) bytes a = IsPatchAnswer j bytes a
 IsMessageAnswer (job.New j) bytes a = IsNewAnswer j a
@@ -215,6 +201,7 @@ IsMessageAnswer job.Version bytes a = IsTextAnswer a (λ text. text ≡ version_
 abbrev pub IsNoMessageAnswer : Job → (bytes : List ℕ) → Fault → Type 0
 IsNoMessageAnswer (job.Get j) bytes f = IsNotGot j bytes f
 IsNoMessageAnswer (job.Json j) bytes f = IsNoJson j bytes f
+IsNoMessageAnswer (job.FromJson j) bytes f = ⊥
 IsNoMessageAnswer (job.Check j) bytes f = IsNotChecked j bytes f
 IsNoMessageAnswer (job.Patch j) bytes f = IsUnread bytes f.error.kind × (string_bytes f.note ≡ [])
 IsNoMessageAnswer (job.New j) bytes f = ⊥

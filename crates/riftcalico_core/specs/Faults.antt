@@ -9,7 +9,7 @@ use Rattle.riftcalico_core.specs.Plans.{calls_file}
 use Rattle.riftcalico_core.specs.declared.fault.Blamed.{Blamed}
 use Rattle.riftcalico_core.specs.declared.fault.Blamed.TheVariants as blamed
 use Rattle.riftcalico_core.specs.declared.fault.Fault.{Fault}
-use Rattle.riftcalico_words.specs.Tasks.{Task, check_task, compatible_task, fields_task, get_task, json_task, new_task, patch_task, structs_task}
+use Rattle.riftcalico_words.specs.Tasks.{Task, check_task, compatible_task, fields_task, from_json_task, get_task, json_task, new_task, patch_task, structs_task}
 
 -- a refusal of which no more is told
 pub record IsPlainFault (f : Fault) (e : Error) (b : Blamed) : Type 0 where
@@ -26,6 +26,7 @@ IsFaultOf (Err e) b f = IsPlainFault f e b
 abbrev pub task_set_file : Task → Option (List ℕ)
 task_set_file (get_task t) = t.root.file
 task_set_file (json_task t) = t.root.file
+task_set_file (from_json_task t) = t.root.file
 task_set_file (check_task t) = t.root.file
 task_set_file (patch_task t) = t.root.file
 task_set_file (new_task t) = t.root.file
@@ -48,6 +49,7 @@ name_word None = []
 abbrev pub task_name : Task → List ℕ
 task_name (get_task t) = t.root.name
 task_name (json_task t) = t.root.name
+task_name (from_json_task t) = t.root.name
 task_name (check_task t) = t.root.name
 task_name (patch_task t) = t.root.name
 task_name (new_task t) = t.root.name

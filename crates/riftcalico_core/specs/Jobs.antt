@@ -15,7 +15,7 @@ use Rattle.capnp_schema.specs.declared.schema.structs.StructSchema.{StructSchema
 use Rattle.capnp_sets.specs.Message.{IsMessageRefusal, message_set}
 use Rattle.riftcalico_core.specs.Calls.{call_read}
 use Rattle.riftcalico_core.specs.CallsSeen.{read_call_seen}
-use Rattle.riftcalico_core.specs.Plans.{CallsPlan, CheckPlan, ComparePlan, GetPlan, JsonPlan, Plan, check_plan, compatible_plan, convert_plan, fields_plan, get_plan, help_plan, json_plan, new_plan, patch_plan, structs_plan, version_plan}
+use Rattle.riftcalico_core.specs.Plans.{CallsPlan, CheckPlan, ComparePlan, FromJsonPlan, GetPlan, JsonPlan, Plan, check_plan, compatible_plan, convert_plan, fields_plan, from_json_plan, get_plan, help_plan, json_plan, new_plan, patch_plan, structs_plan, version_plan}
 use Rattle.riftcalico_core.specs.Gets.{queries_of}
 use Rattle.riftcalico_core.specs.Reads.{each_word_read, value_line_at}
 use Rattle.riftcalico_core.specs.Wanted.{wanted_note}
@@ -25,6 +25,7 @@ use Rattle.riftcalico_core.specs.declared.fault.Fault.{Fault}
 use Rattle.riftcalico_core.specs.declared.job.CallsJob.{CallsJob}
 use Rattle.riftcalico_core.specs.declared.job.CheckJob.{CheckJob}
 use Rattle.riftcalico_core.specs.declared.job.CompareJob.{CompareJob}
+use Rattle.riftcalico_core.specs.declared.job.FromJsonJob.{FromJsonJob}
 use Rattle.riftcalico_core.specs.declared.job.GetJob.{GetJob}
 use Rattle.riftcalico_core.specs.declared.job.JsonJob.{JsonJob}
 use Rattle.riftcalico_core.specs.declared.job.Job.{Job}
@@ -74,6 +75,11 @@ pub record IsJsonJob (p : JsonPlan) (set : Schemas) (j : JsonJob) : Type 0 where
   pub packed : j.packed ≡ p.packed
   pub limit : j.limit ≡ p.limit
 
+pub record IsFromJsonJob (p : FromJsonPlan) (set : Schemas) (j : FromJsonJob) : Type 0 where
+  pub schema : IsNamedStruct set p.root.name j.schema
+  pub strict : j.strict ≡ p.strict
+  pub packed : j.packed ≡ p.packed
+
 pub record IsCheckJob (p : CheckPlan) (set : Schemas) (j : CheckJob) : Type 0 where
   pub schema : IsNamedStruct set p.root.name j.schema
   pub path : path_seen j.steps.items ≡ p.path
@@ -108,6 +114,7 @@ pub record IsCompareJob (p : ComparePlan) (set : Schemas) (j : CompareJob) : Typ
 abbrev pub IsJob : Plan → Schemas → Job → Type 0
 IsJob (get_plan p) set (job.Get j) = IsGetJob p set j
 IsJob (json_plan p) set (job.Json j) = IsJsonJob p set j
+IsJob (from_json_plan p) set (job.FromJson j) = IsFromJsonJob p set j
 IsJob (check_plan p) set (job.Check j) = IsCheckJob p set j
 IsJob (patch_plan p) set (job.Patch j) = IsCallsJob p set j
 IsJob (new_plan p) set (job.New j) = IsCallsJob p set j
@@ -129,6 +136,7 @@ IsLineOfPlan p set line = ⊥
 abbrev pub root_name : Plan → Option (List ℕ)
 root_name (get_plan p) = Some p.root.name
 root_name (json_plan p) = Some p.root.name
+root_name (from_json_plan p) = Some p.root.name
 root_name (check_plan p) = Some p.root.name
 root_name (patch_plan p) = Some p.root.name
 root_name (new_plan p) = Some p.root.name
@@ -147,6 +155,7 @@ IsRootUnnamed p set f = IsNoneNamed set (root_name p) f
 abbrev pub wants_input : Job → Bool
 wants_input (job.Get j) = true
 wants_input (job.Json j) = true
+wants_input (job.FromJson j) = true
 wants_input (job.Check j) = true
 wants_input (job.Patch j) = true
 wants_input (job.New j) = false
@@ -161,6 +170,7 @@ wants_input job.Version = false
 abbrev pub is_packed : Job → Bool
 is_packed (job.Get j) = j.packed
 is_packed (job.Json j) = j.packed
+is_packed (job.FromJson j) = false
 is_packed (job.Check j) = j.packed
 is_packed (job.Patch j) = j.packed
 is_packed (job.New j) = false

@@ -5,12 +5,14 @@ pub mod CallsSeen
 pub mod Comparisons
 pub mod Depths
 pub mod Faults
+pub mod FromJson
 pub mod Gets
 pub mod Jobs
 pub mod Json
 pub mod Near
 pub mod Notes
 pub mod Numbered
+pub mod Outputs
 pub mod Plans
 pub mod PlansSeen
 pub mod Queries

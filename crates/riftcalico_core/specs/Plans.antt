@@ -10,7 +10,7 @@ use Rattle.capnp_words.specs.Paths.{path_at}
 use Rattle.capnp_words.specs.Reads.{Read}
 use Rattle.riftcalico_core.specs.Queries.{Query, query_at}
 use Rattle.riftcalico_core.specs.Reads.{Reads, each_word_read, line_at, unreadable_line}
-use Rattle.riftcalico_words.specs.Tasks.{CallsTask, CheckTask, GetTask, GivenCalls, JsonTask, Root, Task, check_task, compatible_task, convert_task, fields_task, get_task, help_task, in_lines, in_words, json_task, new_task, patch_task, structs_task, version_task}
+use Rattle.riftcalico_words.specs.Tasks.{CallsTask, CheckTask, FromJsonTask, GetTask, GivenCalls, JsonTask, Root, Task, check_task, compatible_task, convert_task, fields_task, from_json_task, get_task, help_task, in_lines, in_words, json_task, new_task, patch_task, structs_task, version_task}
 use Rattle.riftcalico_words.specs.declared.request.Verb.{Verb}
 
 -- what is asked for by paths of a root
@@ -29,6 +29,12 @@ pub record JsonPlan : Type 0 where
   pub indented : Bool
   pub packed : Bool
   pub limit : ℕ
+
+-- a JSON text that is made a message of a root
+pub record FromJsonPlan : Type 0 where
+  pub root : Root
+  pub strict : Bool
+  pub packed : Bool
 
 -- the value at a path of a root, whether it can be shown, or where it can't
 pub record CheckPlan : Type 0 where
@@ -58,6 +64,7 @@ pub record ComparePlan : Type 0 where
 pub data Plan : Type 0 where
   get_plan : GetPlan → Plan
   json_plan : JsonPlan → Plan
+  from_json_plan : FromJsonPlan → Plan
   check_plan : CheckPlan → Plan
   patch_plan : CallsPlan → Plan
   new_plan : CallsPlan → Plan
@@ -140,6 +147,9 @@ json_path_plan t (Err place) = Err (unreadable_line 1 t.path place)
 abbrev pub json_plan_of : JsonTask → Told JsonPlan
 json_plan_of t = json_path_plan t (path_at 0 t.path)
 
+abbrev pub from_json_plan_of : FromJsonTask → FromJsonPlan
+from_json_plan_of t = record { root = t.root; strict = t.strict; packed = t.packed }
+
 abbrev pub checked_path_plan : CheckTask → Read (List PathStep) → Told CheckPlan
 checked_path_plan t (Ok path) = Ok (record { root = t.root; path = path; all = t.all; packed = t.packed; limit = t.limit })
 checked_path_plan t (Err place) = Err (unreadable_line 1 t.path place)
@@ -155,6 +165,7 @@ as_plan plan (Err line) = Err line
 abbrev pub task_plan : Task → (file : List ℕ) → Told Plan
 task_plan (get_task t) file = as_plan get_plan (get_plan_of t)
 task_plan (json_task t) file = as_plan json_plan (json_plan_of t)
+task_plan (from_json_task t) file = Ok (from_json_plan (from_json_plan_of t))
 task_plan (check_task t) file = as_plan check_plan (check_plan_of t)
 task_plan (patch_task t) file = as_plan patch_plan (calls_plan_of t file)
 task_plan (new_task t) file = as_plan new_plan (calls_plan_of t file)

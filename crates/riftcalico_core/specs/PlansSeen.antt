@@ -3,11 +3,12 @@ use Rattle.std.specs.Prelude.{map, Result, Ok, Err, String, string_bytes}
 use Rattle.std.specs.Option.{option_map}
 use Rattle.capnp_words.specs.Seen.{call_text_seen, path_text_seen}
 use Rattle.riftcalico_core.specs.Plans as plans
-use Rattle.riftcalico_core.specs.Plans.{Told, check_plan, compatible_plan, convert_plan, fields_plan, get_plan, help_plan, json_plan, new_plan, patch_plan, structs_plan, version_plan}
+use Rattle.riftcalico_core.specs.Plans.{Told, check_plan, compatible_plan, convert_plan, fields_plan, from_json_plan, get_plan, help_plan, json_plan, new_plan, patch_plan, structs_plan, version_plan}
 use Rattle.riftcalico_core.specs.QueriesSeen.{query_word_seen}
 use Rattle.riftcalico_core.specs.declared.plan.CallsPlan.{CallsPlan}
 use Rattle.riftcalico_core.specs.declared.plan.CheckPlan.{CheckPlan}
 use Rattle.riftcalico_core.specs.declared.plan.ComparePlan.{ComparePlan}
+use Rattle.riftcalico_core.specs.declared.plan.FromJsonPlan.{FromJsonPlan}
 use Rattle.riftcalico_core.specs.declared.plan.GetPlan.{GetPlan}
 use Rattle.riftcalico_core.specs.declared.plan.JsonPlan.{JsonPlan}
 use Rattle.riftcalico_core.specs.declared.plan.Plan.{Plan}
@@ -19,6 +20,9 @@ get_plan_seen p = record { root = root_named p.root; queries = map query_word_se
 
 abbrev pub json_plan_seen : JsonPlan → plans.JsonPlan
 json_plan_seen p = record { root = root_named p.root; path = path_text_seen p.path; indented = p.indented; packed = p.packed; limit = p.limit }
+
+abbrev pub from_json_plan_seen : FromJsonPlan → plans.FromJsonPlan
+from_json_plan_seen p = record { root = root_named p.root; strict = p.strict; packed = p.packed }
 
 abbrev pub check_plan_seen : CheckPlan → plans.CheckPlan
 check_plan_seen p = record { root = root_named p.root; path = path_text_seen p.path; all = p.all; packed = p.packed; limit = p.limit }
@@ -32,6 +36,7 @@ calls_plan_seen p = record { root = root_named p.root; texts = map call_text_see
 abbrev pub plan_seen : Plan → plans.Plan
 plan_seen (plan.Get p) = get_plan (get_plan_seen p)
 plan_seen (plan.Json p) = json_plan (json_plan_seen p)
+plan_seen (plan.FromJson p) = from_json_plan (from_json_plan_seen p)
 plan_seen (plan.Check p) = check_plan (check_plan_seen p)
 plan_seen (plan.Patch p) = patch_plan (calls_plan_seen p)
 plan_seen (plan.New p) = new_plan (calls_plan_seen p)

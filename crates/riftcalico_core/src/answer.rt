@@ -8,7 +8,8 @@ ghost use Rattle.capnp_patch.specs.Places.{HasFewParts, HasMoreParts};
 ghost use Rattle.capnp_schema.specs.Entries.{lists_seen};
 ghost use Rattle.capnp_schema.specs.StructHandles.{IsStruct, number_of, set_of};
 ghost use Rattle.capnp_set_engine.specs.Convert.{HasNoSet};
-ghost use Rattle.riftcalico_core.specs.Answers.{HasTooMany, IsAllAnswer, IsAnswer, IsCheckAnswer, IsConvertAnswer, IsFieldsAnswer, IsMessageAnswer, IsMessageOutput, IsNewAnswer, IsNoAnswer, IsNoMessageAnswer, IsNotChecked, IsPackedMessage, IsPatchAnswer, IsRunAnswer, IsShownAnswer, IsSoundJob, IsStructsAnswer, IsWritableOutput, answer_blamed};
+ghost use Rattle.riftcalico_core.specs.Answers.{HasTooMany, IsAllAnswer, IsAnswer, IsCheckAnswer, IsConvertAnswer, IsFieldsAnswer, IsMessageAnswer, IsNewAnswer, IsNoAnswer, IsNoMessageAnswer, IsNotChecked, IsPatchAnswer, IsRunAnswer, IsShownAnswer, IsSoundJob, IsStructsAnswer, IsWritableOutput, answer_blamed};
+ghost use Rattle.riftcalico_core.specs.Outputs.{IsMessageOutput, IsPackedMessage};
 ghost use Rattle.riftcalico_core.specs.Quiet.{IsQuiet};
 ghost use Rattle.riftcalico_core.specs.Shown.{IsNotShown, IsTextThere};
 ghost use Rattle.riftcalico_core.specs.declared.fault.Blamed.TheVariants.{Input};
@@ -18,6 +19,7 @@ use crate::calls::make_calls;
 use crate::compare::answer_compare;
 use crate::depth::put_depth_note;
 use crate::fault::{Blamed, Fault, Faulty, blame, get_fault};
+use crate::from_json::answer_from_json;
 use crate::get::answer_get;
 use crate::job::{CallsJob, CheckJob, Job};
 use crate::json::answer_json;
@@ -175,7 +177,7 @@ fn pack_message(alloc: Global, message: &Builder) -> Result<Vec<u8>>
 }
 
 /// A message as it is written. Refused with `OutOfMemory` alone.
-fn get_output(alloc: Global, message: Builder, packed: bool) -> Result<Output>
+pub(crate) fn get_output(alloc: Global, message: Builder, packed: bool) -> Result<Output>
     requires { IsMessage message }
     ensures output { IfOk result (IsMessageOutput packed (message_tree message)) }
     ensures writable { IfOk result IsWritableOutput }
@@ -289,6 +291,7 @@ pub fn answer_message(alloc: Global, job: &Job<'_, '_, '_>, message: &[u8]) -> F
     match job {
         Job::Get(job) => answer_get(alloc, job, message),
         Job::Json(job) => answer_json(alloc, job, message),
+        Job::FromJson(job) => answer_from_json(alloc, *job, message),
         Job::Check(job) => answer_check(alloc, job, message),
         Job::Patch(job) => blame(alloc, answer_patch(alloc, job, message), Blamed::Input),
         Job::New(job) => blame(alloc, answer_new(alloc, job), Blamed::Output),
@@ -309,7 +312,7 @@ pub fn answer_message(alloc: Global, job: &Job<'_, '_, '_>, message: &[u8]) -> F
 ///
 /// Refused with `OutOfMemory`; of `get` as the first query that has no text within the limit, with the place where it is no
 /// limit, of `json` as `capnp_queries::json::get_json`, with the place of a step, but for what only JSON refuses, which is
-/// told; of
+/// told, as what `from-json` refuses; of
 /// `check` as `capnp_patch::place::find_place_within`, with the place, of `patch` as
 /// `capnp_patch::engine::run_bytes`, of `schemas` as `capnp_set_engine::engine::convert_bytes`; and where the message is
 /// packed as `capnp_packed::received::read_message`.

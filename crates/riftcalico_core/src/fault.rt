@@ -66,6 +66,7 @@ pub fn get_set_file<'a>(task: &Task<'a>) -> Option<&'a str>
     match task {
         Task::Get(request) => request.root.file,
         Task::Json(request) => request.root.file,
+        Task::FromJson(request) => request.root.file,
         Task::Check(request) => request.root.file,
         Task::Patch(request) | Task::New(request) => request.root.file,
         Task::Structs(file) => *file,
@@ -112,6 +113,7 @@ fn get_name<'a>(task: &Task<'a>) -> &'a str
     match task {
         Task::Get(request) => request.root.name,
         Task::Json(request) => request.root.name,
+        Task::FromJson(request) => request.root.name,
         Task::Check(request) => request.root.name,
         Task::Patch(request) | Task::New(request) => request.root.name,
         Task::Fields(root) => root.name,

@@ -3,13 +3,13 @@ ghost use Rattle.std.specs.Prelude.{◌≡◌, ◌≢◌, IfErr, IfOk, MatchResu
 ghost use Rattle.riftcalico_core.specs.declared.fault.Blamed.TheVariants.{Name};
 ghost use Rattle.capnp_device.specs.declared.error.ErrorKind.TheVariants.{OutOfMemory};
 ghost use Rattle.capnp_schema.specs.Entries.{lists_seen};
-ghost use Rattle.riftcalico_core.specs.Jobs.{IsCallsJob, IsCheckJob, IsGetJob, IsJob, IsJsonJob, IsLineOfPlan, IsNamedStruct, IsNotNamed, IsRootUnnamed, IsValueUnread, is_packed, wants_input};
-ghost use Rattle.riftcalico_core.specs.PlansSeen.{calls_plan_seen, check_plan_seen, get_plan_seen, json_plan_seen, plan_seen};
+ghost use Rattle.riftcalico_core.specs.Jobs.{IsCallsJob, IsCheckJob, IsFromJsonJob, IsGetJob, IsJob, IsJsonJob, IsLineOfPlan, IsNamedStruct, IsNotNamed, IsRootUnnamed, IsValueUnread, is_packed, wants_input};
+ghost use Rattle.riftcalico_core.specs.PlansSeen.{calls_plan_seen, check_plan_seen, from_json_plan_seen, get_plan_seen, json_plan_seen, plan_seen};
 
 use crate::calls::{ReadCall, read_all_calls, steps_of};
 use crate::fault::{Blamed, Fault, Faulty, blame, get_fault};
 use crate::near::get_near_structs;
-use crate::plan::{CallsPlan, CheckPlan, GetPlan, JsonPlan, Plan, Told};
+use crate::plan::{CallsPlan, CheckPlan, FromJsonPlan, GetPlan, JsonPlan, Plan, Told};
 use crate::queries::{AskedQuery, make_queries};
 use crate::schemas::find_schema;
 use crate::wanted::get_wanted;
@@ -41,6 +41,14 @@ pub struct JsonJob<'s, 'c> {
     pub indented: bool,
     pub packed: bool,
     pub limit: u64,
+}
+
+/// A JSON text that is made a message, whether names that a struct lacks are refused, and whether the message is packed.
+#[derive(Clone, Copy)]
+pub struct FromJsonJob<'s> {
+    pub schema: StructSchema<'s>,
+    pub strict: bool,
+    pub packed: bool,
 }
 
 /// Whether what stands at a path can be shown, or where it can't, first or everywhere; whether the message comes packed; and
@@ -85,6 +93,8 @@ pub enum Job<'s, 'c, 'w> {
     Get(GetJob<'s, 'c>),
     /// A value of it is shown as JSON.
     Json(JsonJob<'s, 'c>),
+    /// It is a JSON text, which is made a message.
+    FromJson(FromJsonJob<'s>),
     /// A value of it is looked at, whether it can be shown.
     Check(CheckJob<'s, 'c>),
     /// Calls are made on a copy of it.
@@ -115,7 +125,8 @@ impl Job<'_, '_, '_> {
             Job::Json(job) => job.packed,
             Job::Check(job) => job.packed,
             Job::Patch(job) => job.packed,
-            Job::New(_)
+            Job::FromJson(_)
+            | Job::New(_)
             | Job::Structs(_)
             | Job::Fields(_)
             | Job::Convert(_)
@@ -130,7 +141,12 @@ impl Job<'_, '_, '_> {
         ensures { result ≡ wants_input self.now }
     {
         match self {
-            Job::Get(_) | Job::Json(_) | Job::Check(_) | Job::Patch(_) | Job::Convert(_) => true,
+            Job::Get(_)
+            | Job::Json(_)
+            | Job::FromJson(_)
+            | Job::Check(_)
+            | Job::Patch(_)
+            | Job::Convert(_) => true,
             Job::New(_)
             | Job::Structs(_)
             | Job::Fields(_)
@@ -182,6 +198,25 @@ fn find_get_job<'s, 'c>(
         indented: plan.indented,
         packed: plan.packed,
         limit: plan.limit,
+    })
+}
+
+/// A JSON text under the struct of its root's name. Refused with `NameNotFound`, with the near names, and `OutOfMemory`.
+fn find_from_json_job<'s>(
+    alloc: Global,
+    schemas: &'s SchemaSet,
+    plan: FromJsonPlan<'_>,
+) -> Faulty<FromJsonJob<'s>>
+    ensures job { IfOk result (IsFromJsonJob (from_json_plan_seen plan.entry) (lists_seen schemas.now)) }
+    ensures refused { IfErr result (λ f. f.error.kind ≢ OutOfMemory
+        → IsNotNamed (lists_seen schemas.now) (from_json_plan_seen plan.entry).root.name f) }
+    ensures blamed { IfErr result (λ f. f.blamed ≡ Name) }
+{
+    let schema = find_root(alloc, schemas, plan.root.name)?;
+    Ok(FromJsonJob {
+        schema,
+        strict: plan.strict,
+        packed: plan.packed,
     })
 }
 
@@ -294,6 +329,10 @@ pub fn find_job<'s, 'c, 'w>(
     match plan {
         Plan::Get(plan) => Ok(Ok(Job::Get(find_get_job(alloc, schemas, plan)?))),
         Plan::Json(plan) => Ok(Ok(Job::Json(find_json_job(alloc, schemas, plan)?))),
+        Plan::FromJson(plan) => {
+            let job = find_from_json_job(alloc, schemas, *plan)?;
+            Ok(Ok(Job::FromJson(job)))
+        }
         Plan::Check(plan) => Ok(Ok(Job::Check(find_check_job(alloc, schemas, plan)?))),
         Plan::Patch(plan) => match find_calls_job(alloc, schemas, plan)? {
             Ok(job) => Ok(Ok(Job::Patch(job))),

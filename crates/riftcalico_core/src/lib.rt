@@ -8,6 +8,7 @@ pub mod calls;
 mod compare;
 mod depth;
 pub mod fault;
+mod from_json;
 mod get;
 pub mod job;
 mod json;

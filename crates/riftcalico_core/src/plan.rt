@@ -44,6 +44,14 @@ pub struct JsonPlan<'a> {
     pub limit: u64,
 }
 
+/// A JSON text that is made a message of a root.
+#[derive(Clone, Copy)]
+pub struct FromJsonPlan<'a> {
+    pub root: NamedRoot<'a>,
+    pub strict: bool,
+    pub packed: bool,
+}
+
 /// The value at a path of a root, whether it can be shown, or where it can't, first or everywhere.
 #[derive(Drop)]
 pub struct CheckPlan<'a> {
@@ -83,6 +91,8 @@ pub enum Plan<'a> {
     Get(GetPlan<'a>),
     /// The value at a path is shown as JSON.
     Json(JsonPlan<'a>),
+    /// A JSON text is made a message.
+    FromJson(FromJsonPlan<'a>),
     /// The value at a path is looked at, whether it can be shown.
     Check(CheckPlan<'a>),
     /// Calls are made on a copy of a message.
@@ -122,6 +132,7 @@ pub fn get_calls_file<'a>(task: &Task<'a>) -> Option<&'a str>
         Task::Compatible(request) => Some(request.newer),
         Task::Get(_)
         | Task::Json(_)
+        | Task::FromJson(_)
         | Task::Check(_)
         | Task::Structs(_)
         | Task::Fields(_)
@@ -280,6 +291,11 @@ pub fn read_plan<'a>(alloc: Global, task: &Task<'a>, file: &'a [u8]) -> Result<T
             Ok(plan) => Ok(Ok(Plan::Json(plan))),
             Err(line) => Ok(Err(line)),
         },
+        Task::FromJson(request) => Ok(Ok(Plan::FromJson(FromJsonPlan {
+            root: request.root,
+            strict: request.strict,
+            packed: request.packed,
+        }))),
         Task::Check(request) => match plan_check(alloc, *request)? {
             Ok(plan) => Ok(Ok(Plan::Check(plan))),
             Err(line) => Ok(Err(line)),

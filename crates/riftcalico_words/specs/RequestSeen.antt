@@ -3,12 +3,13 @@ use Rattle.std.specs.Prelude.{ℕ, List, map, Result, Ok, Err}
 use Rattle.std.specs.Option.{option_map}
 use Rattle.riftcalico_words.specs.Requests.{AskedRequest, WordFault, no_bytes, no_verb, other_words, unknown_option, unknown_verb}
 use Rattle.riftcalico_words.specs.Tasks as tasks
-use Rattle.riftcalico_words.specs.Tasks.{CallsTask, CheckTask, CompareTask, GetTask, GivenCalls, JsonTask, Root, check_task, compatible_task, convert_task, fields_task, get_task, help_task, json_task, in_lines, in_words, new_task, patch_task, structs_task, version_task}
+use Rattle.riftcalico_words.specs.Tasks.{CallsTask, CheckTask, CompareTask, FromJsonTask, GetTask, GivenCalls, JsonTask, Root, check_task, compatible_task, convert_task, fields_task, from_json_task, get_task, help_task, json_task, in_lines, in_words, new_task, patch_task, structs_task, version_task}
 use Rattle.riftcalico_words.specs.declared.request.CallWords.{CallWords}
 use Rattle.riftcalico_words.specs.declared.request.CallWords.TheVariants as words
 use Rattle.riftcalico_words.specs.declared.request.CallsRequest.{CallsRequest}
 use Rattle.riftcalico_words.specs.declared.request.CheckRequest.{CheckRequest}
 use Rattle.riftcalico_words.specs.declared.request.CompareRequest.{CompareRequest}
+use Rattle.riftcalico_words.specs.declared.request.FromJsonRequest.{FromJsonRequest}
 use Rattle.riftcalico_words.specs.declared.request.GetRequest.{GetRequest}
 use Rattle.riftcalico_words.specs.declared.request.JsonRequest.{JsonRequest}
 use Rattle.riftcalico_words.specs.declared.request.Misuse.{Misuse}
@@ -26,6 +27,9 @@ get_task_of r = record { root = root_named r.root; paths = map (λ w. w.now) r.p
 abbrev pub json_task_of : JsonRequest → JsonTask
 json_task_of r = record { root = root_named r.root; path = r.path.now; indented = r.indented; packed = r.packed; messages = r.messages; limit = r.limit }
 
+abbrev pub from_json_task_of : FromJsonRequest → FromJsonTask
+from_json_task_of r = record { root = root_named r.root; strict = r.strict; packed = r.packed }
+
 abbrev pub check_task_of : CheckRequest → CheckTask
 check_task_of r = record { root = root_named r.root; path = r.path.now; all = r.all; packed = r.packed; messages = r.messages; limit = r.limit }
 
@@ -42,6 +46,7 @@ calls_task_of r = record { root = root_named r.root; calls = given_of r.calls; k
 abbrev pub task_seen : Task → tasks.Task
 task_seen (task.Get r) = get_task (get_task_of r)
 task_seen (task.Json r) = json_task (json_task_of r)
+task_seen (task.FromJson r) = from_json_task (from_json_task_of r)
 task_seen (task.Check r) = check_task (check_task_of r)
 task_seen (task.Patch r) = patch_task (calls_task_of r)
 task_seen (task.New r) = new_task (calls_task_of r)

@@ -3,7 +3,7 @@ use Rattle.std.specs.Prelude.{ℕ, List, [], ◌∷◌, ◌^◌, Bool, true, fal
 use Rattle.std.specs.Option.{option_map}
 use Rattle.riftcalico_words.specs.Numbers.{number_asked}
 use Rattle.riftcalico_words.specs.Options.{WordOptions, no_options, options_read}
-use Rattle.riftcalico_words.specs.Tasks.{CallsTask, GivenCalls, Task, check_task, compatible_task, convert_task, fields_task, get_task, help_task, json_task, in_lines, in_words, new_task, patch_task, structs_task, version_task}
+use Rattle.riftcalico_words.specs.Tasks.{CallsTask, GivenCalls, Task, check_task, compatible_task, convert_task, fields_task, from_json_task, get_task, help_task, json_task, in_lines, in_words, new_task, patch_task, structs_task, version_task}
 use Rattle.riftcalico_words.specs.declared.options.Flag.{Flag}
 use Rattle.riftcalico_words.specs.declared.options.Flag.TheVariants as flag
 use Rattle.riftcalico_words.specs.declared.options.ValueOption.{ValueOption}
@@ -29,6 +29,7 @@ verb_of word =
     if bytes_eq word (codes "show") then Some verb.Show
     else if bytes_eq word (codes "get") then Some verb.Get
     else if bytes_eq word (codes "json") then Some verb.Json
+    else if bytes_eq word (codes "from-json") then Some verb.FromJson
     else if bytes_eq word (codes "check") then Some verb.Check
     else if bytes_eq word (codes "patch") then Some verb.Patch
     else if bytes_eq word (codes "new") then Some verb.New
@@ -72,6 +73,7 @@ is_comparison v = false
 
 abbrev pub takes_set : Verb → Bool
 takes_set verb.Structs = true
+takes_set verb.FromJson = true
 takes_set v = is_on_messages v
 
 abbrev pub takes_place : Verb → Bool
@@ -88,6 +90,10 @@ abbrev pub takes_indent : Verb → Bool
 takes_indent verb.Check = false
 takes_indent v = is_reading v
 
+abbrev pub takes_packed : Verb → Bool
+takes_packed verb.FromJson = true
+takes_packed v = is_on_messages v
+
 abbrev pub takes_each : Verb → Bool
 takes_each verb.Patch = true
 takes_each v = is_reading v
@@ -98,6 +104,7 @@ takes_raw v = false
 
 abbrev pub takes_strict : Verb → Bool
 takes_strict verb.Schemas = true
+takes_strict verb.FromJson = true
 takes_strict v = false
 
 abbrev pub takes_all : Verb → Bool
@@ -108,7 +115,7 @@ abbrev pub takes_flag : Verb → Flag → Bool
 takes_flag v flag.Indent = takes_indent v
 takes_flag v flag.Raw = takes_raw v
 takes_flag v flag.KeepGoing = is_reading v || is_with_calls v
-takes_flag v flag.Packed = is_on_messages v
+takes_flag v flag.Packed = takes_packed v
 takes_flag v flag.Each = takes_each v
 takes_flag v flag.Strict = takes_strict v
 takes_flag v flag.All = takes_all v
@@ -203,6 +210,13 @@ json_asked o limit (name ∷ []) = Some (json_of o limit name (codes "."))
 json_asked o limit (name ∷ path ∷ []) = Some (json_of o limit name path)
 json_asked o limit words = None
 
+abbrev pub from_json_of : WordOptions → (name : List ℕ) → Task
+from_json_of o name = from_json_task (record { root = record { file = o.set; name = name }; strict = o.strict; packed = o.packed })
+
+abbrev pub from_json_asked : WordOptions → List (List ℕ) → Option Task
+from_json_asked o (name ∷ []) = Some (from_json_of o name)
+from_json_asked o words = None
+
 abbrev pub checked_of : WordOptions → (limit : ℕ) → (name path : List ℕ) → Task
 checked_of o limit name path =
     check_task (record { root = record { file = o.set; name = name }; path = path; all = o.all; packed = o.packed; messages = messages_of o; limit = limit })
@@ -233,6 +247,7 @@ abbrev pub plain_asked : Verb → WordOptions → (limit : ℕ) → Option Task
 plain_asked verb.Show o limit = None
 plain_asked verb.Get o limit = None
 plain_asked verb.Json o limit = json_asked o limit o.others
+plain_asked verb.FromJson o limit = from_json_asked o o.others
 plain_asked verb.Check o limit = check_asked o limit o.others
 plain_asked verb.Patch o limit = None
 plain_asked verb.New o limit = None

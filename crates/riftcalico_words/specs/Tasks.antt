@@ -29,6 +29,12 @@ pub record JsonTask : Type 0 where
   pub messages : Messages
   pub limit : ℕ
 
+-- a JSON text that is made a message, whether names that a struct lacks are refused, and whether the message is packed
+pub record FromJsonTask : Type 0 where
+  pub root : Root
+  pub strict : Bool
+  pub packed : Bool
+
 -- whether the value at a path can be shown, or where it can't, everywhere or first, and the most parts of it that may be looked at
 pub record CheckTask : Type 0 where
   pub root : Root
@@ -63,11 +69,12 @@ pub record CompareTask : Type 0 where
   pub breaking_only : Bool
   pub both : Bool
 
--- Values are shown, one as JSON, or a value is only looked at whether it can be, calls are made on a copy of a message or on an empty root, the structs of a set are shown, in the set of a file or else in the built-in one, or the fields of a struct, a compiler's request is made a set,
+-- Values are shown, one as JSON, a JSON text is made a message, or a value is only looked at whether it can be, calls are made on a copy of a message or on an empty root, the structs of a set are shown, in the set of a file or else in the built-in one, or the fields of a struct, a compiler's request is made a set,
 -- two versions of a struct or of all are compared, or help is told, of all or of a verb, or the version.
 pub data Task : Type 0 where
   get_task : GetTask → Task
   json_task : JsonTask → Task
+  from_json_task : FromJsonTask → Task
   check_task : CheckTask → Task
   patch_task : CallsTask → Task
   new_task : CallsTask → Task
@@ -82,6 +89,7 @@ pub data Task : Type 0 where
 abbrev pub task_messages : Task → Messages
 task_messages (get_task t) = t.messages
 task_messages (json_task t) = t.messages
+task_messages (from_json_task t) = messages.First
 task_messages (check_task t) = t.messages
 task_messages (patch_task t) = t.messages
 task_messages (new_task t) = messages.First

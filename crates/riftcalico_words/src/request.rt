@@ -3,7 +3,7 @@ ghost use Rattle.std.specs.Prelude.{◌≡◌, IfErr, IfOk, map, string_bytes};
 ghost use Rattle.capnp_device.specs.declared.error.ErrorKind.TheVariants.{OutOfMemory};
 ghost use Rattle.std.specs.Option.{option_map};
 ghost use Rattle.riftcalico_words.specs.OptionsSeen.{options_seen};
-ghost use Rattle.riftcalico_words.specs.Requests.{asked_request, calls_asked, checked_of, compared_of, flags_fit, get_asked, given_asked, going_fits, is_allowed, is_fitting, is_comparison, is_on_messages, is_reading, is_with_calls, json_of, limit_asked, messages_of, options_asked, place_fits, plain_asked, show_asked, shown_of, takes_flag, takes_value, values_fit, verb_of, verb_request};
+ghost use Rattle.riftcalico_words.specs.Requests.{asked_request, calls_asked, checked_of, compared_of, flags_fit, from_json_of, get_asked, given_asked, going_fits, is_allowed, is_fitting, is_comparison, is_on_messages, is_reading, is_with_calls, json_of, limit_asked, messages_of, options_asked, place_fits, plain_asked, show_asked, shown_of, takes_flag, takes_value, values_fit, verb_of, verb_request};
 ghost use Rattle.riftcalico_words.specs.RequestSeen.{asked_seen, calls_task_of, given_of, task_seen};
 ghost use Rattle.riftcalico_words.specs.Steps.Limits.{limit_seen};
 ghost use Rattle.riftcalico_words.specs.Tasks.{task_messages};
@@ -25,6 +25,8 @@ pub enum Verb {
     Get,
     /// A value of a message is shown as JSON.
     Json,
+    /// A JSON text is made a message.
+    FromJson,
     /// A value of a message is looked at, whether it can be shown.
     Check,
     /// Calls are made on a copy of a message.
@@ -67,6 +69,14 @@ pub struct JsonRequest<'a> {
     pub packed: bool,
     pub messages: Messages,
     pub limit: u64,
+}
+
+/// A JSON text that is made a message, whether names that a struct lacks are refused, and whether the message is packed.
+#[derive(Clone, Copy)]
+pub struct FromJsonRequest<'a> {
+    pub root: NamedRoot<'a>,
+    pub strict: bool,
+    pub packed: bool,
 }
 
 /// What stands at paths, one or more, or where their last step is `#`, the lengths of lists there; whether texts and data are
@@ -135,6 +145,8 @@ pub enum Task<'a> {
     Get(GetRequest<'a>),
     /// A value of a message is shown as JSON.
     Json(JsonRequest<'a>),
+    /// A JSON text is made a message.
+    FromJson(FromJsonRequest<'a>),
     /// A value of a message is looked at, whether it can be shown.
     Check(CheckRequest<'a>),
     /// Calls are made on a copy of a message.
@@ -182,7 +194,8 @@ pub fn get_messages(task: &Task<'_>) -> Messages
         Task::Json(request) => request.messages,
         Task::Check(request) => request.messages,
         Task::Patch(request) => request.messages,
-        Task::New(_)
+        Task::FromJson(_)
+        | Task::New(_)
         | Task::Structs(_)
         | Task::Fields(_)
         | Task::Convert(_)
@@ -200,6 +213,7 @@ fn read_verb(word: &str) -> Option<Verb>
         "show" => Some(Verb::Show),
         "get" => Some(Verb::Get),
         "json" => Some(Verb::Json),
+        "from-json" => Some(Verb::FromJson),
         "check" => Some(Verb::Check),
         "patch" => Some(Verb::Patch),
         "new" => Some(Verb::New),
@@ -229,7 +243,12 @@ fn is_reading(verb: Verb) -> bool
 {
     match verb {
         Verb::Show | Verb::Get | Verb::Json | Verb::Check => true,
-        Verb::Patch | Verb::New | Verb::Structs | Verb::Schemas | Verb::Compatible => false,
+        Verb::FromJson
+        | Verb::Patch
+        | Verb::New
+        | Verb::Structs
+        | Verb::Schemas
+        | Verb::Compatible => false,
     }
 }
 
@@ -259,7 +278,7 @@ fn takes_value(verb: Verb, option: ValueOption) -> bool
 {
     match option {
         ValueOption::Set => match verb {
-            Verb::Structs => true,
+            Verb::Structs | Verb::FromJson => true,
             _ => is_on_messages(verb),
         },
         ValueOption::Calls => is_with_calls(verb),
@@ -285,13 +304,16 @@ fn takes_flag(verb: Verb, flag: Flag) -> bool
             _ => false,
         },
         Flag::KeepGoing => is_reading(verb) || is_with_calls(verb),
-        Flag::Packed => is_on_messages(verb),
+        Flag::Packed => match verb {
+            Verb::FromJson => true,
+            _ => is_on_messages(verb),
+        },
         Flag::Each => match verb {
             Verb::Patch => true,
             _ => is_reading(verb),
         },
         Flag::Strict => match verb {
-            Verb::Schemas => true,
+            Verb::Schemas | Verb::FromJson => true,
             _ => false,
         },
         Flag::All => match verb {
@@ -508,6 +530,20 @@ fn read_json<'a>(options: &Options<'a>, limit: u64, name: &'a str, path: &'a str
     })
 }
 
+/// What is asked of a JSON text that is made a message.
+fn read_from_json<'a>(options: &Options<'a>, name: &'a str) -> Task<'a>
+    ensures { task_seen result ≡ from_json_of (options_seen options.now) name.now }
+{
+    Task::FromJson(FromJsonRequest {
+        root: NamedRoot {
+            file: options.set,
+            name,
+        },
+        strict: options.strict,
+        packed: options.packed,
+    })
+}
+
 /// What is asked of the value at a path that is looked at.
 fn read_checked<'a>(options: &Options<'a>, limit: u64, name: &'a str, path: &'a str) -> Task<'a>
     ensures { task_seen result ≡ checked_of (options_seen options.now) limit name.now path.now }
@@ -553,6 +589,7 @@ fn read_plain<'a>(verb: Verb, options: &Options<'a>, limit: u64) -> Option<Task<
     match (verb, options.others.as_slice()) {
         (Verb::Json, [name]) => Some(read_json(options, limit, *name, ".")),
         (Verb::Json, [name, path]) => Some(read_json(options, limit, *name, *path)),
+        (Verb::FromJson, [name]) => Some(read_from_json(options, *name)),
         (Verb::Check, [name]) => Some(read_checked(options, limit, *name, ".")),
         (Verb::Check, [name, path]) => Some(read_checked(options, limit, *name, *path)),
         (Verb::Structs, []) => Some(Task::Structs(file)),
@@ -590,9 +627,12 @@ fn read_task<'a>(
         },
         Verb::Show => read_show(alloc, options, limit),
         Verb::Get => read_get(alloc, options, limit),
-        Verb::Json | Verb::Check | Verb::Structs | Verb::Schemas | Verb::Compatible => {
-            Ok(read_plain(verb, options, limit))
-        }
+        Verb::Json
+        | Verb::FromJson
+        | Verb::Check
+        | Verb::Structs
+        | Verb::Schemas
+        | Verb::Compatible => Ok(read_plain(verb, options, limit)),
     }
 }
 
@@ -628,6 +668,7 @@ fn read_behind<'a>(alloc: Global, verb: Verb, words: &'a [String]) -> Result<Ask
 /// |`show NAME`|a message is shown|
 /// |`get NAME PATH..`|values of a message are shown|
 /// |`json NAME`, `json NAME PATH`|a message is shown as JSON, or a value of it|
+/// |`from-json NAME`|a JSON text is made a message|
 /// |`check NAME`, `check NAME PATH`|a message is looked at, or a value of it, whether it can be shown|
 /// |`patch NAME CALL..`|calls are made on a copy of a message|
 /// |`new NAME CALL..`|calls are made on an empty root|

@@ -15,6 +15,7 @@ const USAGE: &str = "\
 usage: riftcalico show [--set FILE] [--packed] [--limit BYTES] [--each [--keep-going]] NAME [--indent]
        riftcalico get [--set FILE] [--packed] [--limit BYTES] [--raw] [--each [--keep-going]] NAME PATH.. [--indent]
        riftcalico json [--set FILE] [--packed] [--limit BYTES] [--each [--keep-going]] NAME [PATH] [--indent]
+       riftcalico from-json [--set FILE] [--strict] [--packed] NAME
        riftcalico check [--set FILE] [--packed] [--limit PARTS] [--all] [--each [--keep-going]] NAME [PATH]
        riftcalico patch [--set FILE] [--calls FILE] [--keep-going] [--packed] [--limit BYTES] [--each] [--in-place FILE] NAME CALL..
        riftcalico new [--set FILE] [--calls FILE] [--keep-going] [--packed] [--limit BYTES] NAME CALL..
@@ -30,6 +31,7 @@ input and written to standard output.
 usage: riftcalico show [--set FILE] [--packed] [--limit BYTES] [--each [--keep-going]] NAME [--indent]
        riftcalico get [--set FILE] [--packed] [--limit BYTES] [--raw] [--each [--keep-going]] NAME PATH.. [--indent]
        riftcalico json [--set FILE] [--packed] [--limit BYTES] [--each [--keep-going]] NAME [PATH] [--indent]
+       riftcalico from-json [--set FILE] [--strict] [--packed] NAME
        riftcalico check [--set FILE] [--packed] [--limit PARTS] [--all] [--each [--keep-going]] NAME [PATH]
        riftcalico patch [--set FILE] [--calls FILE] [--keep-going] [--packed] [--limit BYTES] [--each] [--in-place FILE] NAME CALL..
        riftcalico new [--set FILE] [--calls FILE] [--keep-going] [--packed] [--limit BYTES] NAME CALL..
@@ -50,6 +52,10 @@ usage: riftcalico get [--set FILE] [--packed] [--limit BYTES] [--raw] [--each [-
 
 const JSON_USAGE: &str = "\
 usage: riftcalico json [--set FILE] [--packed] [--limit BYTES] [--each [--keep-going]] NAME [PATH] [--indent]
+";
+
+const FROM_JSON_USAGE: &str = "\
+usage: riftcalico from-json [--set FILE] [--strict] [--packed] NAME
 ";
 
 const CHECK_USAGE: &str = "\
@@ -106,6 +112,15 @@ codec does, on one line, or with --indent on several. Numbers of 64 bits are str
 packed. No JSON is printed of more bytes than --limit, or else 1 GiB.
 With --each all messages of the input are taken, one after another, and what is told names the message by number.
 With --keep-going one that is refused is told and passed over.
+NAME is a struct of the set in FILE, as 'riftcalico schemas' writes it, or else of the built-in set.
+";
+
+const FROM_JSON_HELP: &str = "\
+usage: riftcalico from-json [--set FILE] [--strict] [--packed] NAME
+
+Reads the input as one JSON text, an object with fields of a struct NAME, and writes the message that it stands for.
+Fields that are not named have their defaults. What can't be read is told with its place, counted in bytes from 0. With
+--strict a name that its struct lacks is refused; else it is passed over. With --packed the message is written packed.
 NAME is a struct of the set in FILE, as 'riftcalico schemas' writes it, or else of the built-in set.
 ";
 
@@ -181,6 +196,7 @@ fn get_verb_usage(verb: Verb) -> &'static str
         Verb::Show => SHOW_USAGE,
         Verb::Get => GET_USAGE,
         Verb::Json => JSON_USAGE,
+        Verb::FromJson => FROM_JSON_USAGE,
         Verb::Check => CHECK_USAGE,
         Verb::Patch => PATCH_USAGE,
         Verb::New => NEW_USAGE,
@@ -198,6 +214,7 @@ fn get_verb_help(verb: Verb) -> &'static str
         Verb::Show => SHOW_HELP,
         Verb::Get => GET_HELP,
         Verb::Json => JSON_HELP,
+        Verb::FromJson => FROM_JSON_HELP,
         Verb::Check => CHECK_HELP,
         Verb::Patch => PATCH_HELP,
         Verb::New => NEW_HELP,
