@@ -10,6 +10,7 @@ use Rattle.capnp_from_json.proofs.Named.{named_once, named_twice}
 use Rattle.capnp_from_json.proofs.Refusals.{error_at}
 use Rattle.capnp_from_json.proofs.given.named_field.Goals as goal
 
+-- A name whose field is marked is refused as given twice; else its field is marked and read.
 pub returns-then-is_given-clause-refused : goal.returns-then-is_given-clause-refused
 returns-then-is_given-clause-refused c = λ rules of_set strict value rest levels r.
     let name = string_content (drop 1 c.args.bytes.now) in

@@ -6,6 +6,7 @@ use Rattle.capnp_from_json.specs.Held.{bytes_left}
 use Rattle.capnp_from_json.proofs.Shorter.{first_shorter}
 use Rattle.capnp_from_json.proofs.held.held_array.Goals as goal
 
+-- What stands behind the bracket is shorter than the array.
 pub returns-in-Array-clause-shorter : goal.returns-in-Array-clause-shorter
 returns-in-Array-clause-shorter c =
     let within : length c.in-Array.behind.now < length c.args.bytes.now = subst (λ l. IsWithin l c.args.bytes.now) c.in-Array.is c.in_ok-look_at.ensures.within in

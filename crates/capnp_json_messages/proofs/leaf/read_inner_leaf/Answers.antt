@@ -3,6 +3,7 @@ use Rattle.capnp_arena.specs.Segment.{segment}
 use Rattle.capnp_json_messages.proofs.InnerReads.{inner_leaf, inner_leaf_refused}
 use Rattle.capnp_json_messages.proofs.leaf.read_inner_leaf.Goals as goal
 
+-- The leaf that is read is put into its element, or its refusal is the text's.
 pub returns-in-Err-clause-refused : goal.returns-in-Err-clause-refused
 returns-in-Err-clause-refused c =
     inner_leaf_refused c.args.row c.args.reading c.args.levels c.args.bytes.now c.args.reading.strict c.args.of c.in-Err.error c.requires.leaf c.in-Err.ensures.read

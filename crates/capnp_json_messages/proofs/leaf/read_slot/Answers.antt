@@ -8,6 +8,7 @@ use Rattle.capnp_from_json.specs.LeafReads.{under}
 use Rattle.capnp_json_messages.proofs.FieldReads.{leaf_refused, value_at}
 use Rattle.capnp_json_messages.proofs.leaf.read_slot.Goals as goal
 
+-- The leaf that is read is put into its slot, or its refusal is the text's.
 pub returns-in-Err-clause-refused : goal.returns-in-Err-clause-refused
 returns-in-Err-clause-refused c =
     leaf_refused c.args.field c.args.reading.strict c.args.reading c.args.levels c.args.bytes.now c.args.of c.in-Err.error c.requires.leaf

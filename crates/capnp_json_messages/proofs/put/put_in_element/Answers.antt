@@ -10,6 +10,7 @@ use Rattle.capnp_from_json.specs.LeafReads.{leaf_value}
 use Rattle.capnp_json_messages.proofs.ElementPuts.{content_at, content_put, gives_element, null_new, null_stays, room_at}
 use Rattle.capnp_json_messages.proofs.put.put_in_element.Goals as goal
 
+-- A null stays what a new element is; any other value is what the source's call leaves there.
 pub returns-in_default-clause-puts : goal.returns-in_default-clause-puts
 returns-in_default-clause-puts c =
     null_stays (lists_seen c.args.schemas.now) (seen_type c.args.element) (tree (segment c.args.arena.now) c.args.word) c.args.index (leaf_value c.args.leaf.now)

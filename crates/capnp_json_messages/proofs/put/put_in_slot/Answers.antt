@@ -5,6 +5,7 @@ use Rattle.capnp_slots.specs.Sources.{source_seen}
 use Rattle.capnp_json_messages.proofs.LeafContents.{leaf_puts, null_puts}
 use Rattle.capnp_json_messages.proofs.put.put_in_slot.Goals as goal
 
+-- A null clears the slot; any other value is what the source's call leaves there.
 pub returns-in_default-clause-puts : goal.returns-in_default-clause-puts
 returns-in_default-clause-puts c =
     null_puts c.args.field (built_at c.args.arena.now c.args.place) (built_at c.clear.new.arena c.args.place) c.field_stands.ensures c.requires.slot c.requires.room c.args.leaf.now c.requires.typed

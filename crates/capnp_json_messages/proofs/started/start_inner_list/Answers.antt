@@ -11,6 +11,7 @@ use Rattle.capnp_json_messages.proofs.ElementPuts.{room_at}
 use Rattle.capnp_json_messages.proofs.Inner.{inner_list_begun, still_there}
 use Rattle.capnp_json_messages.proofs.started.start_inner_list.Goals as goal
 
+-- What `init` leaves in the element is the list that is then begun.
 pub init-requires-clause-room : goal.init-requires-clause-room
 init-requires-clause-room c =
     room_at (lists_seen c.args.schemas.now) (tree (segment c.args.arena.now) c.args.word) c.args.index c.requires.there.values c.tree_is_sound.ensures.formed c.requires.there.inside c.args.element c.requires.there.list

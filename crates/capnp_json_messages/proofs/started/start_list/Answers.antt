@@ -9,6 +9,7 @@ use Rattle.capnp_slots.specs.Fills.{pointer_in}
 use Rattle.capnp_json_messages.proofs.Begun.{list_begun, slot_here}
 use Rattle.capnp_json_messages.proofs.started.start_list.Goals as goal
 
+-- What `initn` leaves in the slot is the list that is then begun.
 pub returns-clause-started : goal.returns-clause-started
 returns-clause-started c =
     let f = c.args.field in

@@ -14,6 +14,7 @@ use Rattle.capnp_json_messages.specs.Started.{new_struct}
 use Rattle.capnp_json_messages.proofs.Begun.{init_tree_is, slot_here, struct_begun}
 use Rattle.capnp_json_messages.proofs.started.start_struct.Goals as goal
 
+-- What `init` leaves in the slot is a struct, which is then begun.
 pub struct_here-requires-clause-there : goal.struct_here-requires-clause-there
 struct_here-requires-clause-there c =
     let f = c.args.field in

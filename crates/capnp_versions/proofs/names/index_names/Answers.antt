@@ -4,6 +4,7 @@ use Rattle.capnp_structs.proofs.NamesMet.{none_met}
 use Rattle.capnp_versions.proofs.Indexed.{all_named, named_count}
 use Rattle.capnp_versions.proofs.names.index_names.Goals as goal
 
+-- Each brand that a name leads to is there once all brands were passed.
 pub loop-brand-init : goal.loop-brand-init
 loop-brand-init c = none_met (lists_seen c.args.schemas.now) c.new-index.result c.new-index.ensures.empty
 
