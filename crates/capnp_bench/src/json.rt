@@ -1,9 +1,10 @@
-//! JSON: of a document, and of a list of floats.
+//! JSON: of a document, and of a list of floats, written and read.
 
 use crate::documents::SET;
 use capnp_fixtures::fixtures::schema_of;
 use capnp_fixtures::set_text::read_set_text;
 use capnp_json::message::message_to_json;
+use capnp_json_messages::message::read_message;
 use capnp_wire::error::{Error, ErrorKind, Result};
 use std::alloc::Global;
 
@@ -55,6 +56,21 @@ fn json_floats(alloc: Global, message: &[u8], rounds: u64) -> Result<u64> {
     Ok(sum)
 }
 
+/// Reads a JSON as the first struct of a set so many times, and adds the words of the messages.
+fn read_json(alloc: Global, set: &'static str, json: &[u8], rounds: u64) -> Result<u64> {
+    let schemas = read_set_text(alloc, set)?;
+    let schema = schema_of(&schemas, 0)?;
+    let mut sum: u64 = 0;
+    for _ in 0..rounds {
+        let message = match read_message(alloc, schema, json, true) {
+            Ok(message) => message,
+            Err(_) => return Err(Error::from(ErrorKind::TypeMismatch)),
+        };
+        sum = sum.wrapping_add(message.size_in_words()?);
+    }
+    Ok(sum)
+}
+
 #[unsafe(no_mangle)]
 pub extern "C" fn bench_json_document(alloc: Global, message: &[u8], rounds: u64) -> u64 {
     json_document(alloc, message, rounds).unwrap_or(0)
@@ -63,4 +79,14 @@ pub extern "C" fn bench_json_document(alloc: Global, message: &[u8], rounds: u64
 #[unsafe(no_mangle)]
 pub extern "C" fn bench_json_floats(alloc: Global, message: &[u8], rounds: u64) -> u64 {
     json_floats(alloc, message, rounds).unwrap_or(0)
+}
+
+#[unsafe(no_mangle)]
+pub extern "C" fn bench_document_of_json(alloc: Global, message: &[u8], rounds: u64) -> u64 {
+    read_json(alloc, SET, message, rounds).unwrap_or(0)
+}
+
+#[unsafe(no_mangle)]
+pub extern "C" fn bench_floats_of_json(alloc: Global, message: &[u8], rounds: u64) -> u64 {
+    read_json(alloc, MEASURES, message, rounds).unwrap_or(0)
 }

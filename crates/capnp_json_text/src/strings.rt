@@ -21,6 +21,7 @@ pub(crate) enum Character {
     Plain,
 }
 
+#[inline(always)]
 pub(crate) fn character_of(byte: u8) -> Character
     ensures { result ≡ character_of byte }
 {
@@ -186,6 +187,7 @@ fn skip_escape(bytes: &[u8]) -> Rest<'_>
 }
 
 /// The bytes behind a character, with `true`, or behind the closing quote, with `false`.
+#[inline(always)]
 pub(crate) fn skip_character(bytes: &[u8]) -> std::result::Result<(bool, &[u8]), &[u8]>
     ensures { character_seen result ≡ after_character bytes.now }
 {
