@@ -14,6 +14,7 @@ pub mod Sizes
 pub mod Scanning
 pub mod Layouts
 pub mod TextsRead
+pub mod Deciding
 pub mod RowsFloats
 pub mod RowsTexts
 pub mod RowsNearest

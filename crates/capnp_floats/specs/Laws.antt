@@ -39,3 +39,9 @@ abbrev pub NansAreOne : Type 0
 NansAreOne =
     (w : Width) (bits : ℕ) (text : List ℕ) (r : Result ℕ Refusal) → is_finite w bits ≡ false → 0 < fraction w bits
     → IsFloatText w bits text → IsFloatOf w text r → r ≡ Ok (nan_bits w)
+
+-- Some function gives each word its float, or why it has none: the one answer of which `IsFloatOf` holds, where there is one.
+abbrev pub FloatsAreThere : Type 0
+FloatsAreThere =
+    (floats : Width → List ℕ → Result ℕ Refusal)
+    × ((w : Width) (word : List ℕ) (r : Result ℕ Refusal) → IsFloatOf w word r → floats w word ≡ r)

@@ -1,5 +1,5 @@
 //! What holds of floats and their decimals.
-ghost use Rattle.capnp_floats.specs.Laws.{DecimalsAreRead, NansAreOne, OneDecimal, OneIsNearest, TextsAreRead};
+ghost use Rattle.capnp_floats.specs.Laws.{DecimalsAreRead, FloatsAreThere, NansAreOne, OneDecimal, OneIsNearest, TextsAreRead};
 
 /// The decimal of a finite number is read back as the bits of this number, without its sign: they are the nearest to
 /// it, and no others are.
@@ -18,4 +18,10 @@ pub fn decimals_are_unique()
 pub fn texts_are_read()
     ensures read { TextsAreRead }
     ensures nan { NansAreOne }
+{}
+
+/// Some function of words gives each word its float, or why it has none. So what is said of all such functions is said
+/// of one.
+pub fn words_have_floats()
+    ensures { FloatsAreThere }
 {}
