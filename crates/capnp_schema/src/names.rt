@@ -67,7 +67,7 @@ pub(crate) fn name_order(alloc: Global, fields: &[FieldRecord]) -> Result<Vec<u1
     requires { length fields.now ≤ 65535 }
     ensures { IfOk result (λ v. IsNameOrder (map seen_field fields.now) v.items) }
 {
-    let mut indices = Vec::new(alloc);
+    let mut indices = Vec::with_capacity(alloc, fields.len())?;
     for i in 0..fields.len() {
         indices.push(i as u16)?;
     }

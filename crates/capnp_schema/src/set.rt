@@ -11,6 +11,7 @@ ghost use Rattle.capnp_schema.specs.Tables.{AreNameTables};
 mod annotated;
 mod look_up;
 mod records;
+mod taken;
 
 use crate::check::footprints::check_footprints;
 use crate::check::groups::{check_groups, parent_table};
@@ -26,6 +27,7 @@ use crate::tables::{FieldTables, field_tables};
 use capnp_wire::error::Result;
 use std::alloc::Global;
 use std::marker::Model;
+pub use taken::SetLists;
 
 /// Nodes, brands and enums that meet the twelve rules of schemas. Whoever has a set knows that it meets them.
 ///
@@ -155,6 +157,17 @@ impl SchemaSet {
             enums,
         };
         let by_name = name_tables(alloc, &lists)?;
+        SchemaSet::with_names(alloc, lists, by_name)
+    }
+
+    /// A set of lists that meet the twelve rules, by their tables of names. Refused for memory alone, which drops the lists.
+    #[tactic(auto, using(crate::proofs::BrokenSets::refused_for_memory))]
+    fn with_names(alloc: Global, lists: Lists, by_name: Vec<Vec<u16>>) -> Result<SchemaSet>
+        requires accepted { IsAccepted (lists_seen lists) }
+        requires names { AreNameTables (lists_seen lists) by_name.items }
+        ensures set { IfOk result (λ schemas. lists_seen schemas ≡ lists_seen lists) }
+        ensures refused { IfErr result (λ e. e.kind ≡ OutOfMemory) }
+    {
         let parents = parent_table(alloc, &lists)?;
         let tables = field_tables(alloc, &lists, by_name, &parents)?;
         numbers_fit(&lists);

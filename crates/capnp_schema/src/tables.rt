@@ -54,7 +54,7 @@ fn non_union_table(alloc: Global, fields: &[FieldRecord]) -> Result<Vec<u16>>
     ensures table { IfOk result (λ v. v.items ≡ indices_from 0 is_non_union (map seen_field fields.now)) }
     ensures refused { IfErr result (λ e. e.kind ≡ OutOfMemory) }
 {
-    let mut non_union = Vec::new(alloc);
+    let mut non_union = Vec::with_capacity(alloc, fields.len())?;
     for i in 0..fields.len() {
         push_if(&mut non_union, i as u16, !fields[i].is_member())?;
     }

@@ -36,8 +36,9 @@ fn brand_plans(alloc: Global, lists: &Lists, brand: usize) -> Result<Vec<SlotPla
         ≡ map (plan_of (lists_seen lists.now) brand) (fields_of (lists_seen lists.now) brand)) }
     ensures refused { IfErr result (λ e. e.kind ≡ OutOfMemory) }
 {
-    let mut plans = Vec::new(alloc);
-    for i in 0..lists.field_count(brand) {
+    let count = lists.field_count(brand);
+    let mut plans = Vec::with_capacity(alloc, count)?;
+    for i in 0..count {
         plans.push(plan_at(lists, brand, i))?;
     }
     Ok(plans)
