@@ -1,6 +1,7 @@
-// A row of two versions of a set that are compared: ours joins the sets and tells what differs between the structs of each name,
-// without the reading of the sets; the C++ library's SchemaLoader, which has the older nodes, is given the newer ones, and
-// throws where one of the two does not follow the other. A checksum adds the numbers of structs.
+// A row of two versions of a set that are compared: ours joins the sets, which it takes apart, and tells what differs
+// between the structs of each name, without the reading of the sets; the C++ library's SchemaLoader, which has the older
+// nodes, is given the newer ones, and throws where one of the two does not follow the other. A checksum adds the numbers of
+// structs.
 #pragma once
 #include "set_messages.h"
 

@@ -93,6 +93,13 @@ impl<T> Vec<T> {
         Ok(())
     }
 
+    /// Moves the items of another vector behind these, and leaves it none. Where memory is refused, both keep theirs.
+    pub fn append(&mut self, other: &mut Vec<T>) -> Result<(), AllocError> {
+        self.0.try_reserve(other.0.len())?;
+        self.0.append(&mut other.0);
+        Ok(())
+    }
+
     /// Takes the last item.
     pub fn pop(&mut self) -> Option<T> {
         self.0.pop()

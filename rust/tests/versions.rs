@@ -15,10 +15,12 @@ use messages::random_message;
 use model::random::Random;
 use model::{same_default, Field, Schema, Struct, Type};
 use projection::same_struct;
-use riftcalico::compatible::{compare_all, explain_all, join, Cause, Change, Compatible, Pair};
+use riftcalico::compatible::{
+    compare_all, compare_all_owned, explain_all, join, join_owned, Cause, Change, Compatible, FullComparison, Pair,
+};
 use riftcalico::memory::Global;
 use riftcalico::message::read_root;
-use riftcalico::schema::StructSchema;
+use riftcalico::schema::{SchemaSet, StructSchema};
 use std::collections::BTreeSet;
 use threads::on_all_processors;
 
@@ -228,6 +230,31 @@ fn read_both(versions: &Versions, pair: (usize, usize), schemas: [StructSchema<'
     }
 }
 
+/// Each field of each struct is found by its name.
+fn look_up_names(schemas: &SchemaSet, seed: u64) {
+    for number in 0..schemas.brands().len() as u32 {
+        let schema = schemas.struct_schema(number);
+        for (index, field) in schema.get_proto().body.fields.iter().enumerate() {
+            let found = schema.get_field_by_name(&field.name).expect("the field is there");
+            assert_eq!(usize::from(found.get_index()), index, "seed {seed}");
+        }
+    }
+}
+
+/// Sets whose entries move are joined and compared as others are.
+fn try_owned(versions: &Versions, joined: &SchemaSet, whole: &FullComparison, seed: u64) {
+    let owned = join_owned(Global, versions.older.set(), versions.newer.set()).expect("the sets are joined");
+    assert_eq!(owned.nodes(), joined.nodes(), "seed {seed}");
+    assert_eq!(owned.brands(), joined.brands(), "seed {seed}");
+    assert_eq!(owned.enums(), joined.enums(), "seed {seed}");
+    look_up_names(joined, seed);
+    look_up_names(&owned, seed);
+    let told = compare_all_owned(Global, versions.older.set(), versions.newer.set()).expect("the sets are compared");
+    assert_eq!(told.text, whole.text, "seed {seed}");
+    assert_eq!(told.notes, whole.notes, "seed {seed}");
+    assert_eq!((told.compatible, told.incompatible), (whole.compatible, whole.incompatible), "seed {seed}");
+}
+
 /// What is told of the pairs that are asked, in the joined set, beside the definition.
 fn try_pairs(versions: &Versions, seed: u64) -> bool {
     let (older, newer) = (versions.older.set(), versions.newer.set());
@@ -277,6 +304,7 @@ fn try_pairs(versions: &Versions, seed: u64) -> bool {
     assert_eq!(whole.compatible, follows.iter().filter(|follows| **follows).count(), "seed {seed}");
     assert_eq!(whole.incompatible, follows.iter().filter(|follows| !**follows).count(), "seed {seed}");
     assert_eq!(whole.text.matches('\n').count(), told.len(), "seed {seed}");
+    try_owned(versions, &joined, &whole, seed);
     follows.iter().all(|follows| *follows)
 }
 

@@ -35,7 +35,7 @@ at_mapped f [] i none other below = absurd (omega arith)
 at_mapped f (x ∷ xs) zero none other below = refl
 at_mapped f (x ∷ xs) (suc i) none other below = at_mapped f xs i none other (omega arith)
 
-at_mapped_any : {X Y : Type 0} (f : X → Y) (xs : List X) (i : ℕ) (none : X) → unwrap_or (slice_get (map f xs) i) (f none) ≡ f (unwrap_or (slice_get xs i) none)
+pub at_mapped_any : {X Y : Type 0} (f : X → Y) (xs : List X) (i : ℕ) (none : X) → unwrap_or (slice_get (map f xs) i) (f none) ≡ f (unwrap_or (slice_get xs i) none)
 at_mapped_any f [] i none = refl
 at_mapped_any f (x ∷ xs) zero none = refl
 at_mapped_any f (x ∷ xs) (suc i) none = at_mapped_any f xs i none

@@ -3,11 +3,14 @@ pub mod BrandRules
 pub mod Copies
 pub mod Embedded
 pub mod Footprints
+pub mod InPlace
 pub mod JoinedAccepted
+pub mod JoinedLists
 pub mod Kept
 pub mod Lists
 pub mod MovedEntries
 pub mod MovedTypes
+pub mod NameTables
 pub mod Refused
 pub mod Rows
 pub mod SameRecords

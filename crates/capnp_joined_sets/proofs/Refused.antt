@@ -1,15 +1,20 @@
 -- A refusal of a part is one of the whole.
-use Rattle.std.proofs.Common.{ℕ, ◌≡◌, ◌<◌, List, [], ◌∷◌, ◌++◌, zero, suc, All, map, length, get_or, subst, sym, arith}
+use Rattle.std.proofs.Common.{ℕ, ◌≡◌, ◌<◌, List, [], ◌∷◌, ◌++◌, zero, suc, All, map, length, get_or, subst, sym, arith, Result, Ok, Err, IfErr}
 use Rattle.std.proofs.lemmas.List.Elements.{All-cons, All-head, All-nil, All-tail}
+use Rattle.capnp_device.specs.declared.error.Error.{Error}
 use Rattle.capnp_device.specs.declared.error.ErrorKind.{ErrorKind}
 use Rattle.capnp_device.specs.declared.error.ErrorKind.TheVariants as error
-use Rattle.capnp_joined_sets.specs.Refusals.{IsMoveKind}
+use Rattle.capnp_joined_sets.specs.Refusals.{IsMoveKind, IsMoveRefusal}
 
 -- what is refused for a part is refused for what fits only where the part fits
 pub of_whole : (P Q : Type 0) (k : ErrorKind) → (Q → P) → IsMoveKind P k → IsMoveKind Q k
 of_whole P Q error.OutOfMemory parts h = h
 of_whole P Q error.TooManyTypes parts h = λ q. h (parts q)
 of_whole P Q k parts h = h
+
+pub err_of_whole : {X : Type 0} (P Q : Type 0) (r : Result X Error) → (Q → P) → IfErr r (IsMoveRefusal P) → IfErr r (IsMoveRefusal Q)
+err_of_whole P Q (Ok x) parts h = tt
+err_of_whole P Q (Err e) parts h = of_whole P Q e.kind parts h
 
 -- an element of a list
 pub of_each : {X Y Z : Type 0} (P : Z → Type 0) (f : Y → Z) (g : X → Y) (xs : List X) (i : ℕ) (x : X) → i < length xs → x ≡ get_or xs i x → All P (map f (map g xs)) → P (f (g x))

@@ -4,9 +4,13 @@
 
 mod annotations;
 mod entries;
+mod in_place;
 pub mod laws;
 mod moves;
+mod names;
+mod owned;
 mod sets;
 mod types;
 
+pub use crate::owned::join_owned;
 pub use crate::sets::join;

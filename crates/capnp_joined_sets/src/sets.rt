@@ -8,8 +8,9 @@ ghost use Rattle.capnp_joined_sets.specs.Refusals.{BrandFits, EnumFits, IsMoveRe
 ghost use Rattle.capnp_joined_sets.specs.declared.moves.TheConstants.{NO_MOVES};
 
 use crate::moves::{Moved, Moves, NO_MOVES, add_moved};
+use crate::names::join_names;
 use capnp_schema::record::{BrandRecord, EnumRecord, NodeRecord};
-use capnp_schema::set::SchemaSet;
+use capnp_schema::set::{SchemaSet, SetLists};
 use capnp_wire::error::Result;
 use std::alloc::Global;
 
@@ -27,7 +28,7 @@ fn both<T: Moved + Drop>(alloc: Global, older: &[T], newer: &[T], moves: Moves) 
 }
 
 /// As far as the lists of a set reach.
-fn ends_of(set: &SchemaSet) -> Moves
+pub(crate) fn ends_of(set: &SchemaSet) -> Moves
     ensures { result ≡ ends_of (lists_seen set.now) }
 {
     Moves {
@@ -73,5 +74,14 @@ pub fn join(alloc: Global, older: &SchemaSet, newer: &SchemaSet) -> Result<Schem
     let nodes = join_nodes(alloc, older, newer)?;
     let brands = join_brands(alloc, older, newer)?;
     let enums = join_enums(alloc, older, newer)?;
-    SchemaSet::of_accepted(alloc, nodes, brands, enums)
+    let by_name = join_names(alloc, older, newer)?;
+    SchemaSet::of_lists(
+        alloc,
+        SetLists {
+            nodes,
+            brands,
+            enums,
+            by_name,
+        },
+    )
 }

@@ -58,6 +58,15 @@ fn moved_inside(of: Type, moves: Moves) -> Result<Type>
     }
 }
 
+/// A type with its numbers moved, inside lists too.
+pub(crate) fn moved_type(of: Type, moves: Moves) -> Result<Type>
+    ensures moved { IfOk result (λ t. seen_type t ≡ moved_type moves (seen_type of)) }
+    ensures refused { IfErr result (IsMoveRefusal (TypeFits (moved_type moves (seen_type of)))) }
+{
+    let inner = moved_inside(of, moves)?;
+    Ok(lists_around(inner, count_lists(of)))
+}
+
 impl Moved for Type {
     ghost Seen = { SchemaType };
 
@@ -69,8 +78,7 @@ impl Moved for Type {
 
     fn copy_moved(&self, alloc: Global, moves: Moves) -> Result<Type> {
         let _unused = alloc;
-        let inner = moved_inside(*self, moves)?;
-        Ok(lists_around(inner, count_lists(*self)))
+        moved_type(*self, moves)
     }
 }
 

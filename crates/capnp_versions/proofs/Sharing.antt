@@ -1,5 +1,5 @@
 -- The structs of one display name in two sets, and their comparison.
-use Rattle.std.proofs.Common.{[], ℕ, ◌+◌, ◌-◌, ◌≡◌, ◌≤◌, ◌↔◌, ◌++◌, List, Bool, Some, AllPairs, Contains, arith, ap, length, string_bytes, sym, ◌∙◌, subst}
+use Rattle.std.proofs.Common.{[], ℕ, ◌+◌, ◌-◌, ◌≡◌, ◌≤◌, ◌↔◌, ◌++◌, List, Bool, Some, Result, Ok, Err, IfOk, AllPairs, Contains, arith, ap, length, string_bytes, sym, ◌∙◌, subst}
 use Rattle.capnp_schema.specs.ByName.{brand_asked}
 use Rattle.capnp_schema.specs.Schema.{Schemas}
 use Rattle.capnp_differences.specs.Differences.{AreAnswered, ComesFirst, IsDifferenceOf}
@@ -12,7 +12,7 @@ use Rattle.capnp_dynamic_readers.specs.Pieces.{IsAppended}
 use Rattle.capnp_versions.specs.Changes.{changes_text}
 use Rattle.capnp_versions.specs.Lines.{differences_text}
 use Rattle.capnp_versions.specs.Shared.{count_true, first_at, moved_pair, name_at, notes_text, pair_of_first, shared_pair, shared_pairs}
-use Rattle.capnp_versions.specs.Versions.{IsFullComparison}
+use Rattle.capnp_versions.specs.Versions.{IsComparisonOf, IsFullComparison}
 use Rattle.capnp_versions.specs.declared.every.FullComparison.{FullComparison}
 
 -- a pair whose structs were found
@@ -28,26 +28,43 @@ pub record IsExplained (set : Schemas) (ps : List Pair) (told : List Difference)
   pub noted : AreNotes set ps changes
 
 -- what a comparison has of it: its texts, and how many structs follow
-pub record IsReported (older newer set : Schemas) (told : List Difference) (follows : List Bool) (changes : List Note) (c : FullComparison) : Type 0 where
+pub record IsReported (set : Schemas) (told : List Difference) (follows : List Bool) (changes : List Note) (behind : List ℕ) (c : FullComparison) : Type 0 where
   pub text : IsAppended [] (differences_text set told) (string_bytes c.text)
   pub compatible : c.compatible ≡ count_true follows
   pub few : c.compatible ≤ length follows
   pub incompatible : c.incompatible ≡ length follows - c.compatible
-  pub notes : string_bytes c.notes ≡ changes_text set changes ++ notes_text older newer
+  pub notes : string_bytes c.notes ≡ changes_text set changes ++ behind
 
--- what was told of the pairs in the joined set
-pub compared_all : (older newer set : Schemas) (ps : List Pair) (told : List Difference) (follows : List Bool) (changes : List Note) (c : FullComparison)
-    → set ≡ joined older newer → ps ≡ shared_pairs older newer → IsExplained set ps told follows changes → IsReported older newer set told follows changes c → IsFullComparison older newer c
-compared_all older newer set ps told follows changes c same shared explained reported = record {
+-- what was told of the pairs
+compared_by : (set : Schemas) (ps : List Pair) (told : List Difference) (follows : List Bool) (changes : List Note) (behind : List ℕ) (c : FullComparison)
+    → IsExplained set ps told follows changes → IsReported set told follows changes behind c → IsComparisonOf set ps behind c
+compared_by set ps told follows changes behind c explained reported = record {
   told = told;
-  exactly = subst (λ (qs : List Pair). (d : Difference) → (Contains told d ↔ IsDifferenceOf (joined older newer) qs d)) shared (subst (λ (s : Schemas). (d : Difference) → (Contains told d ↔ IsDifferenceOf s ps d)) same explained.exactly);
+  exactly = explained.exactly;
   order = explained.order;
-  text = subst (λ (s : Schemas). IsAppended [] (differences_text s told) (string_bytes c.text)) same reported.text;
+  text = reported.text;
   follows = follows;
-  answered = subst (λ (qs : List Pair). AreAnswered (joined older newer) qs follows) shared (subst (λ (s : Schemas). AreAnswered s ps follows) same explained.answered);
+  answered = explained.answered;
   compatible = reported.compatible;
-  incompatible = let all = explained.answered.count in let l = ap length shared in let k = reported.incompatible in let few = reported.few in omega arith;
+  incompatible = let all = explained.answered.count in let k = reported.incompatible in let few = reported.few in omega arith;
   changes = changes;
-  noted = subst (λ (qs : List Pair). AreNotes (joined older newer) qs changes) shared (subst (λ (s : Schemas). AreNotes s ps changes) same explained.noted);
-  notes = reported.notes ∙ ap (λ (s : Schemas). changes_text s changes ++ notes_text older newer) same;
+  noted = explained.noted;
+  notes = reported.notes;
 }
+
+pub compared_pairs : (set : Schemas) (ps qs : List Pair) (told : List Difference) (follows : List Bool) (changes : List Note) (behind : List ℕ) (c : FullComparison)
+    → ps ≡ qs → IsExplained set ps told follows changes → IsReported set told follows changes behind c → IsComparisonOf set qs behind c
+compared_pairs set ps qs told follows changes behind c same explained reported =
+    subst (λ (xs : List Pair). IsComparisonOf set xs behind c) same (compared_by set ps told follows changes behind c explained reported)
+
+-- the pairs of one name in the joined set
+pub compared_all : (older newer set : Schemas) (ps : List Pair) (behind : List ℕ) (c : FullComparison)
+    → set ≡ joined older newer → ps ≡ shared_pairs older newer → behind ≡ notes_text older newer → IsComparisonOf set ps behind c → IsFullComparison older newer c
+compared_all older newer set ps behind c same shared notes h =
+    subst (λ (s : Schemas). IsComparisonOf s (shared_pairs older newer) (notes_text older newer) c) same
+    (subst (λ (qs : List Pair). IsComparisonOf set qs (notes_text older newer) c) shared
+    (subst (λ (text : List ℕ). IsComparisonOf set ps text c) notes h))
+
+pub if_ok : {A E : Type 0} {P Q : A → Type 0} (r : Result A E) → ((a : A) → P a → Q a) → IfOk r P → IfOk r Q
+if_ok (Ok a) f h = f a h
+if_ok (Err e) f h = tt

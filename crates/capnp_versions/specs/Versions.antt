@@ -8,6 +8,7 @@ use Rattle.capnp_schema.specs.ByName.{brand_asked}
 use Rattle.capnp_schema.specs.Schema.{Schemas}
 use Rattle.capnp_differences.specs.Differences.{AreAnswered, ComesFirst, IsDifference, IsDifferenceOf}
 use Rattle.capnp_differences.specs.declared.differences.Difference.{Difference}
+use Rattle.capnp_differences.specs.declared.differences.Pair.{Pair}
 use Rattle.capnp_differences.specs.Notes.{AreNotes}
 use Rattle.capnp_differences.specs.declared.noted.Note.{Note}
 use Rattle.capnp_joined_sets.specs.Joined.{joined}
@@ -46,20 +47,24 @@ IsNotCompared older newer name kind =
 
 -- ---- all structs of two versions ----
 
--- all that differs between the structs of one name in both sets and in what they lead to, and nothing else, in order; its
--- lines; how many of these structs follow, and how many do not; and what else changes, and the structs that one of the sets has
-pub record IsFullComparison (older newer : Schemas) (c : FullComparison) : Type 0 where
+-- all that differs between the structs of these pairs of a set and in what they lead to, and nothing else, in order; its lines;
+-- of how many pairs the second follows, and of how many it does not; and what else changes, with lines behind it
+pub record IsComparisonOf (set : Schemas) (pairs : List Pair) (behind : List ℕ) (c : FullComparison) : Type 0 where
   pub told : List Difference
-  pub exactly : (d : Difference) → (Contains told d ↔ IsDifferenceOf (joined older newer) (shared_pairs older newer) d)
+  pub exactly : (d : Difference) → (Contains told d ↔ IsDifferenceOf set pairs d)
   pub order : AllPairs ComesFirst told
-  pub text : IsAppended [] (differences_text (joined older newer) told) (string_bytes c.text)
+  pub text : IsAppended [] (differences_text set told) (string_bytes c.text)
   pub follows : List Bool
-  pub answered : AreAnswered (joined older newer) (shared_pairs older newer) follows
+  pub answered : AreAnswered set pairs follows
   pub compatible : c.compatible ≡ count_true follows
-  pub incompatible : c.compatible + c.incompatible ≡ length (shared_pairs older newer)
+  pub incompatible : c.compatible + c.incompatible ≡ length pairs
   pub changes : List Note
-  pub noted : AreNotes (joined older newer) (shared_pairs older newer) changes
-  pub notes : string_bytes c.notes ≡ changes_text (joined older newer) changes ++ notes_text older newer
+  pub noted : AreNotes set pairs changes
+  pub notes : string_bytes c.notes ≡ changes_text set changes ++ behind
+
+-- that of the structs of one name in both sets, in the joined set, and of the structs that one of the sets has
+abbrev pub IsFullComparison : (older newer : Schemas) → FullComparison → Type 0
+IsFullComparison older newer c = IsComparisonOf (joined older newer) (shared_pairs older newer) (notes_text older newer) c
 
 -- a number of both sets together has more than 32 bits
 abbrev pub IsNotComparedAll : (older newer : Schemas) → ErrorKind → Type 0

@@ -9,5 +9,5 @@ mod notes;
 mod shared;
 mod versions;
 
-pub use every::{FullComparison, compare_all, get_report};
+pub use every::{FullComparison, compare_all, compare_all_owned, get_report};
 pub use versions::{Comparison, compare, get_named_report};
