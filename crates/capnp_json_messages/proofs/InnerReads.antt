@@ -30,7 +30,8 @@ use Rattle.capnp_json_messages.specs.Opened.{list_opened, record_opened}
 use Rattle.capnp_json_messages.specs.Put.{HasNew, PutsAt}
 use Rattle.capnp_json_messages.specs.Rows.{row_set, row_type}
 use Rattle.capnp_json_messages.specs.Started.{InnerListStarted, InnerStarted}
-use Rattle.capnp_json_messages.specs.Walks.{AreRules, ElementRead, IsRead, IsRefused, ListRead, StructRead, element_json, elements_json, members_json}
+use Rattle.capnp_json_messages.specs.Steps.Walks.{ListRead, elements_json}
+use Rattle.capnp_json_messages.specs.Walks.{AreRules, ElementRead, IsRead, IsRefused, StructRead, element_json, members_json}
 use Rattle.capnp_json_messages.specs.Ways.{IsLeafType, IsListType, IsStructType}
 use Rattle.capnp_json_messages.specs.declared.opened.Opened.{Opened}
 use Rattle.capnp_json_messages.specs.declared.opened.Opened.TheVariants as opened

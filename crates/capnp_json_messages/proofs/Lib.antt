@@ -15,3 +15,5 @@ pub mod RootReads
 pub mod SlotReads
 pub mod Behind
 pub mod Frames
+pub mod DataBack
+pub mod IntegersBack

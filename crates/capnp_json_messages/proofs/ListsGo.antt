@@ -18,7 +18,8 @@ use Rattle.capnp_from_json.specs.declared.error.Error.{Error}
 use Rattle.capnp_from_json.specs.declared.reading.Reading.{Reading}
 use Rattle.capnp_from_json.proofs.Refusals.{error_same}
 use Rattle.capnp_json_messages.specs.Put.{HasNew, IsListOf}
-use Rattle.capnp_json_messages.specs.Walks.{AreRules, ElementRead, IsRead, IsRefused, ListRead, element_json, elements_json}
+use Rattle.capnp_json_messages.specs.Steps.Walks.{ListRead, elements_json}
+use Rattle.capnp_json_messages.specs.Walks.{AreRules, ElementRead, IsRead, IsRefused, element_json}
 use Rattle.capnp_json_messages.proofs.ElementPuts.{count_put, put_other}
 use Rattle.capnp_json_messages.proofs.Fronts.{front_all, front_more, front_refused, in_front, nothing_first}
 use Rattle.capnp_json_messages.proofs.NewLists.{new_count, new_is_list, new_value}

@@ -27,7 +27,8 @@ use Rattle.capnp_from_json.specs.declared.error.Error.{Error}
 use Rattle.capnp_from_json.specs.declared.reading.Reading.{Reading}
 use Rattle.capnp_from_json.proofs.Refusals.{error_same, error_through}
 use Rattle.capnp_json_messages.specs.Reads.{PutsInto}
-use Rattle.capnp_json_messages.specs.Walks.{AreRules, FieldRead, IsRead, IsRefused, MemberRead, StructRead, field_json, members_json}
+use Rattle.capnp_json_messages.specs.Steps.Walks.{MemberRead}
+use Rattle.capnp_json_messages.specs.Walks.{AreRules, FieldRead, IsRead, IsRefused, StructRead, field_json, members_json}
 
 -- the record of a struct under its schema
 abbrev pub record_at : StructSchema → StructTree → Record

@@ -18,7 +18,8 @@ use Rattle.capnp_from_json.specs.declared.reading.Reading.{Reading}
 use Rattle.capnp_from_json.proofs.Refusals.{error_same, error_through}
 use Rattle.capnp_json_messages.specs.Opened.{list_by, record_opened}
 use Rattle.capnp_json_messages.specs.Started.{IsPast}
-use Rattle.capnp_json_messages.specs.Walks.{AreRules, IsRead, IsRefused, elements_json, members_json}
+use Rattle.capnp_json_messages.specs.Steps.Walks.{elements_json}
+use Rattle.capnp_json_messages.specs.Walks.{AreRules, IsRead, IsRefused, members_json}
 
 -- ---- rules ----
 

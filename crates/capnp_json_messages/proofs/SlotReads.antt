@@ -24,7 +24,8 @@ use Rattle.capnp_from_json.specs.declared.reading.Reading.{Reading}
 use Rattle.capnp_json_messages.specs.Opened.{list_by, record_opened}
 use Rattle.capnp_json_messages.specs.Reads.{PutsInto}
 use Rattle.capnp_json_messages.specs.Started.{ListStarted, StructStarted}
-use Rattle.capnp_json_messages.specs.Walks.{FieldRead, IsRefused, ListRead, StructRead, elements_json, members_json}
+use Rattle.capnp_json_messages.specs.Steps.Walks.{ListRead, elements_json}
+use Rattle.capnp_json_messages.specs.Walks.{FieldRead, IsRefused, StructRead, members_json}
 use Rattle.capnp_json_messages.specs.Ways.{IsStructType}
 use Rattle.capnp_json_messages.proofs.NewLists.{new_record}
 use Rattle.capnp_json_messages.proofs.ReadParts.{list_is, list_refused, rules_of, struct_is, struct_refused}

@@ -4,6 +4,8 @@ pub mod Put
 pub mod Started
 pub mod Steps
 pub mod Walks
+pub mod Laws
 pub mod Opened
 pub mod Rows
 pub mod Messages
+pub mod ReadBack

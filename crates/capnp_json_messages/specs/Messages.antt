@@ -1,6 +1,7 @@
 -- The message that a JSON text stands for.
-use Rattle.std.specs.Prelude.{ℕ, Bool, IsTrue, List}
+use Rattle.std.specs.Prelude.{ℕ, ◌-◌, Bool, IsTrue, List, max, min}
 use Rattle.capnp_wire.specs.Edits.{is_struct, struct_in}
+use Rattle.capnp_wire.specs.Locate.{words_past_format}
 use Rattle.capnp_wire.specs.Tree.{Tree}
 use Rattle.capnp_wire.specs.WellFormed.{IsWellFormed}
 use Rattle.capnp_schema.specs.StructHandles.{number_of, set_of}
@@ -15,6 +16,10 @@ use Rattle.capnp_json_messages.specs.Walks.{IsRead}
 -- the record of a text under a schema
 abbrev pub text_record : StructSchema → List ℕ → Rules → Read Record
 text_record schema text rules = record_of_json rules (number_of schema) text
+
+-- the most words that a message has by the limit that is asked for: 0 stands for 1, and no message has more than the format says
+abbrev pub most_words : (limit : ℕ) → ℕ
+most_words limit = min (max limit 1) (words_past_format - 1)
 
 -- a root: a struct with at least its schema's sections, well-formed, whose record is that of the text
 pub record IsRootOf (schema : StructSchema) (strict : Bool) (text : List ℕ) (t : Tree) : Type 0 where

@@ -1,5 +1,5 @@
 -- What the read of a text leaves of the structs and lists that it reads into.
-use Rattle.std.specs.Prelude.{ℕ, ◌≡◌, ◌≤◌, Bool, List, length, Option, Some, Ok}
+use Rattle.std.specs.Prelude.{ℕ, ◌≡◌, Bool, List, Option, Ok}
 use Rattle.capnp_wire.specs.Tree.{StructTree, Tree}
 use Rattle.capnp_schema.specs.FieldLists.{typed_of}
 use Rattle.capnp_schema.specs.Schema.{Schemas}
@@ -8,19 +8,19 @@ use Rattle.capnp_schema.specs.Types.{SchemaType}
 use Rattle.capnp_schema.specs.declared.schema.fields.Field.{Field}
 use Rattle.capnp_schema.specs.declared.schema.structs.StructSchema.{StructSchema}
 use Rattle.capnp_records.specs.Reading.{reads}
-use Rattle.capnp_records.specs.Record.{Record, Value, Values}
+use Rattle.capnp_records.specs.Record.{Record, Value}
 use Rattle.capnp_records.specs.Writes.Overlay.{Turns}
 use Rattle.capnp_slots.specs.Fields.{field_set}
 use Rattle.capnp_slots.specs.Standing.{IsUnder}
-use Rattle.capnp_json_text.specs.Values.{elements_of, json_at, members_of, most_items}
+use Rattle.capnp_json_text.specs.Values.{json_at, members_of}
 use Rattle.capnp_json_fields.specs.declared.fields.DataForm.TheVariants.{Array}
 use Rattle.capnp_from_json.specs.Errors.{IsErrorOf, Read}
 use Rattle.capnp_from_json.specs.LeafReads.{under}
 use Rattle.capnp_from_json.specs.Leaves.{AreFloats, OfElement}
-use Rattle.capnp_from_json.specs.Records.{Rules, elements_of_json, field_target, members_of_json, value_of_json}
+use Rattle.capnp_from_json.specs.Records.{Rules, field_target, members_of_json, value_of_json}
 use Rattle.capnp_from_json.specs.declared.error.Error.{Error}
 use Rattle.capnp_from_json.specs.declared.reading.Reading.{Reading}
-use Rattle.capnp_json_messages.specs.Put.{IsListOf, PutsAt}
+use Rattle.capnp_json_messages.specs.Put.{PutsAt}
 use Rattle.capnp_json_messages.specs.Reads.{PutsInto}
 
 -- ---- what a text is read with ----
@@ -52,10 +52,6 @@ members_json reading levels schema at given r rules = members_of_json rules (mem
 abbrev pub element_json : Reading → (levels : ℕ) → SchemaType → (is_float : Bool) → List ℕ → Rules → Read Value
 element_json reading levels e is_float bytes rules = value_of_json rules (json_at reading.whole bytes) levels (under e OfElement is_float Array)
 
--- the elements of an array from one on
-abbrev pub elements_json : Reading → (levels : ℕ) → SchemaType → (is_float : Bool) → Option (List ℕ) → Rules → Read Values
-elements_json reading levels e is_float at rules = elements_of_json rules (elements_of (json_at reading.whole) at) levels (under e OfElement is_float Array)
-
 -- ---- what is left ----
 
 -- a field has the value that is read, and else nothing is other than before
@@ -75,17 +71,3 @@ pub record ElementRead (set : Schemas) (e : SchemaType) (j : ℕ) (strict : Bool
   pub value : Value
   pub is : IsRead set strict read value
   pub puts : PutsAt set e j x x' value
-
--- a list has the values that are read
-pub record ListRead (set : Schemas) (e : SchemaType) (strict : Bool) (read : Rules → Read Values) (x : Tree) : Type 0 where
-  pub values : Values
-  pub list : IsListOf set e x values
-  pub is : IsRead set strict read values
-
--- a member of an object: what it leaves of the struct, what is given then, and that what is read goes on behind it
-pub record MemberRead (schema : StructSchema) (reading : Reading) (levels : ℕ) (bytes : List ℕ) (next : Option (List ℕ)) (given given' : List (Option ℕ)) (s s' : StructTree) : Type 0 where
-  pub turns : Turns (set_of schema) (number_of schema) s s' (reads (set_of schema) s' (number_of schema))
-  pub room : IsUnder schema s'
-  pub fewer : most_items next ≤ length bytes
-  pub goes_on : (rules : Rules) → AreRules (set_of schema) reading.strict rules
-      → members_json reading levels schema (Some bytes) given (reads (set_of schema) s (number_of schema)) rules ≡ members_json reading levels schema next given' (reads (set_of schema) s' (number_of schema)) rules

@@ -21,7 +21,8 @@ ghost use Rattle.capnp_from_json.specs.Given.{marks_of};
 ghost use Rattle.capnp_from_json.specs.Records.{element_count};
 ghost use Rattle.capnp_json_messages.specs.Put.{HasNew};
 ghost use Rattle.capnp_json_messages.specs.Rows.{IsRow, row_set, row_type};
-ghost use Rattle.capnp_json_messages.specs.Walks.{ElementRead, FieldRead, IsRefused, ListRead, MemberRead, StructRead, element_json, elements_json, field_json, members_json};
+ghost use Rattle.capnp_json_messages.specs.Steps.Walks.{ListRead, MemberRead, elements_json};
+ghost use Rattle.capnp_json_messages.specs.Walks.{ElementRead, FieldRead, IsRefused, StructRead, element_json, field_json, members_json};
 ghost use Rattle.capnp_json_messages.specs.Ways.{IsListType, IsStructType};
 
 use crate::leaf::{read_inner_leaf, read_slot};

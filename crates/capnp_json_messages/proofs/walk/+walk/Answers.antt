@@ -14,7 +14,8 @@ use Rattle.capnp_from_json.specs.Given.{marks_of, named_read}
 use Rattle.capnp_from_json.specs.Records.{as_struct}
 use Rattle.capnp_json_messages.specs.Opened.{list_opened, record_opened, struct_opened}
 use Rattle.capnp_json_messages.specs.Rows.{row_set, row_type}
-use Rattle.capnp_json_messages.specs.Walks.{FieldRead, IsRefused, element_json, elements_json, field_json}
+use Rattle.capnp_json_messages.specs.Steps.Walks.{elements_json}
+use Rattle.capnp_json_messages.specs.Walks.{FieldRead, IsRefused, element_json, field_json}
 use Rattle.capnp_json_messages.proofs.FieldReads.{group_closed, group_read, group_stopped, list_closed, list_opens, struct_closed, struct_opens}
 use Rattle.capnp_json_messages.proofs.Frames.{pointer_same, pointer_then, struct_then}
 use Rattle.capnp_json_messages.proofs.InnerReads.{inner_list_closed, inner_list_null, inner_list_opens, inner_list_read, inner_struct_closed, inner_struct_read, inner_struct_stopped}
