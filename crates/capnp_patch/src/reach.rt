@@ -76,8 +76,8 @@ fn read_element<'a>(
     reader.get(index)
 }
 
-/// What a step leads to from a value.
-fn read_step<'a>(value: Value<'a>, step: Step<'_>, is_last: bool) -> Result<Value<'a>>
+/// What a step leads to from a value, as a step of `walk_path` does; `is_last` says that no other step follows.
+pub fn read_step<'a>(value: Value<'a>, step: Step<'_>, is_last: bool) -> Result<Value<'a>>
     ensures read { (schemas : Schemas) → IsOf schemas (type_seen value.entry) value.entry
         → seen_read result ≡ step_read schemas is_last (value_part_seen value.entry) (step_seen step.entry) }
     ensures typed { (schemas : Schemas) → IsOf schemas (type_seen value.entry) value.entry
@@ -111,8 +111,8 @@ fn step_at<'a>(path: &[Step<'a>], index: usize) -> Step<'a>
     }
 }
 
-/// The schema of a struct or group.
-fn get_within<'a>(value: Value<'a>) -> Option<StructSchema<'a>>
+/// The schema of a struct or group; none of what is neither.
+pub fn get_within<'a>(value: Value<'a>) -> Option<StructSchema<'a>>
     ensures { (schemas : Schemas) → IsOf schemas (type_seen value.entry) value.entry
         → IsWithin schemas result (type_seen value.entry) }
 {

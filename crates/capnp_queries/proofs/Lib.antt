@@ -1,5 +1,7 @@
 pub mod Counts
 pub mod JsonParts
+pub mod Listings
+pub mod PatternSteps
 pub mod Reaching
 pub mod Rows
 pub mod TextParts

@@ -1,11 +1,12 @@
--- Worked rows of what is asked for by paths.
-use Rattle.std.specs.Prelude.{ℕ, ◌≡◌, refl, List, [], ◌∷◌, ◌++◌, false, Result, Ok, Err, codes, replicate}
+-- Worked rows of what is asked for by paths, and of the paths of patterns.
+use Rattle.std.specs.Prelude.{ℕ, ◌≡◌, refl, List, [], ◌∷◌, ◌++◌, false, Option, Some, None, Result, Ok, Err, codes, replicate}
+use Rattle.std.specs.Option.{option_map}
 use Rattle.std.specs.Fmt.{digits}
 use Rattle.std.specs.Str.{is_utf8, chars}
 use Prim.Native.String.{String}
 use lib.Utf8.{encode}
 use Rattle.capnp_device.specs.declared.error.ErrorKind.{ErrorKind}
-use Rattle.capnp_device.specs.declared.error.ErrorKind.TheVariants.{InactiveMember, NoSuchElement, NotAContainer, UntypedStep}
+use Rattle.capnp_device.specs.declared.error.ErrorKind.TheVariants.{FieldNotFound, InactiveMember, NoSuchElement, NotAContainer, UntypedStep}
 use Rattle.capnp_wire.specs.Place.{tree_at}
 use Rattle.capnp_schema.specs.Accepted.{words_root}
 use Rattle.capnp_schema.specs.Builtin.{builtin}
@@ -17,6 +18,7 @@ use Rattle.capnp_patch.specs.Gets.{Reached, path_read}
 use Rattle.capnp_patch.specs.Places.{root_reached}
 use Rattle.capnp_queries.specs.Json.{reached_json}
 use Rattle.capnp_queries.specs.Lengths.{reached_length}
+use Rattle.capnp_queries.specs.Patterns.{Listing, Stop, listed, listing, root_listing}
 
 -- what stands at a path of the root of one segment under a brand of the built-in set
 abbrev at : List ℕ → ℕ → List PathStep → Reached
@@ -76,3 +78,70 @@ json_of_an_element = refl
 no_json : json tagged 3 (named "circle" ∷ []) ≡ Err (Read InactiveMember)
 unfolding tree_at
 no_json = refl
+
+-- ---- patterns ----
+
+abbrev list : List ℕ → ℕ → List PathStep → Listing
+list words b pattern = root_listing builtin pattern (root_reached builtin b (Ok (words_root words)))
+
+-- where no more is listed
+abbrev stops : List ℕ → ℕ → List PathStep → Option (List PathStep × ErrorKind)
+stops words b pattern = option_map (λ (x : Stop). (x.path, x.kind)) (list words b pattern).stop
+
+abbrev each : PathStep
+each = named "*"
+
+abbrev item : ℕ → PathStep → List PathStep
+item i s = named "items" ∷ ElementAt i ∷ s ∷ []
+
+no_step : list lists 7 [] ≡ listed ([] ∷ [])
+unfolding tree_at listing
+no_step = refl
+
+elements : list lists 7 (named "items" ∷ each ∷ []) ≡ listed ((named "items" ∷ ElementAt 0 ∷ []) ∷ (named "items" ∷ ElementAt 1 ∷ []) ∷ [])
+unfolding tree_at listing
+elements = refl
+
+behind_elements : list lists 7 (named "items" ∷ each ∷ named "a" ∷ []) ≡ listed (item 0 (named "a") ∷ item 1 (named "a") ∷ [])
+unfolding tree_at listing
+behind_elements = refl
+
+-- null pointers have their defaults
+all_fields : list lists 7 (each ∷ []) ≡ listed ((named "bytes" ∷ []) ∷ (named "raw" ∷ []) ∷ (named "t" ∷ []) ∷ (named "items" ∷ []) ∷ [])
+unfolding tree_at listing
+all_fields = refl
+
+no_elements : list lists 7 (named "bytes" ∷ each ∷ each ∷ []) ≡ listed []
+unfolding tree_at listing
+no_elements = refl
+
+-- of union members the active one alone
+active_field : list tagged 3 (each ∷ []) ≡ listed ((named "id" ∷ []) ∷ (named "tag" ∷ []) ∷ [])
+unfolding tree_at listing
+active_field = refl
+
+two_fields_down : list tagged 3 (named "tag" ∷ each ∷ []) ≡ listed ((named "tag" ∷ named "n" ∷ []) ∷ (named "tag" ∷ named "u0" ∷ []) ∷ (named "tag" ∷ named "any" ∷ []) ∷ (named "tag" ∷ named "q" ∷ []) ∷ [])
+unfolding tree_at listing
+two_fields_down = refl
+
+-- what isn't active is refused before a `*`, and left out behind it
+before_each : stops tagged 3 (named "circle" ∷ each ∷ []) ≡ Some (named "circle" ∷ [], InactiveMember)
+unfolding tree_at listing
+before_each = refl
+
+each_of_a_text : stops lists 7 (named "t" ∷ each ∷ []) ≡ Some (named "t" ∷ [], NotAContainer)
+unfolding tree_at listing
+each_of_a_text = refl
+
+each_of_an_untyped : stops tagged 3 (named "tag" ∷ named "any" ∷ each ∷ []) ≡ Some (named "tag" ∷ named "any" ∷ [], UntypedStep)
+unfolding tree_at listing
+each_of_an_untyped = refl
+
+no_such_field : stops lists 7 (named "items" ∷ each ∷ named "b" ∷ []) ≡ Some (item 0 (named "b"), FieldNotFound)
+unfolding tree_at listing
+no_such_field = refl
+
+-- the first in the order of the paths is told
+the_first : stops tagged 3 (each ∷ each ∷ []) ≡ Some (named "id" ∷ [], NotAContainer)
+unfolding tree_at listing
+the_first = refl

@@ -1,3 +1,4 @@
 -- Steps of the code: no contract of a public function stands on them.
 pub mod Counts
+pub mod Listings
 pub mod Roots

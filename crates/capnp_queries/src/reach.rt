@@ -30,7 +30,7 @@ fn refuse_root<'a>(kind: ErrorKind) -> Refusal<'a>
 }
 
 /// The root of the first message in these bytes, or the number of its refusal or the message's.
-fn read_root<'a>(
+pub(crate) fn read_root<'a>(
     alloc: Global,
     schema: StructSchema<'a>,
     bytes: &'a [u8],
