@@ -233,6 +233,9 @@ got addressbook.bin '"Bob"
 456' --set "$scratch/addressbook.set" AddressBook people.1.name people.1.phones.# people.1.id
 got addressbook.bin 'Bob
 2' --set "$scratch/addressbook.set" AddressBook --raw people.1.name people.#
+got addressbook.bin 'people.0.phones.#: 1
+people.1.phones.#: 2
+people.0.employment.school: "MIT"' --set "$scratch/addressbook.set" AddressBook --paths 'people.*.phones.#' 'people.*.employment.school'
 ./riftcalico json --set "$scratch/addressbook.set" AddressBook people.1.phones.0 < examples/addressbook.bin > "$scratch/out" 2> "$scratch/err"
 expect 'json of a path' $? 0 '{"number":"555-4567","type":"home"}' ''
 
@@ -330,9 +333,9 @@ expect 'another form' $? 2 '' 'usage: riftcalico show [--set FILE] [--packed] [-
 ./riftcalico shows Mixed < examples/mixed.bin > "$scratch/out" 2> "$scratch/err"
 expect 'another verb' $? 2 '' 'unknown verb: shows
 usage: riftcalico show [--set FILE] [--packed] [--limit BYTES] [--each [--keep-going]] NAME [--indent]
-       riftcalico get [--set FILE] [--packed] [--limit BYTES] [--raw] [--each [--keep-going]] NAME PATH.. [--indent]
+       riftcalico get [--set FILE] [--packed] [--limit BYTES] [--raw] [--paths] [--each [--keep-going]] NAME PATH.. [--indent]
        riftcalico json [--set FILE] [--packed] [--limit BYTES] [--each [--keep-going]] NAME [PATH] [--indent]
-       riftcalico from-json [--set FILE] [--strict] [--packed] NAME
+       riftcalico from-json [--set FILE] [--strict] [--packed] [--limit BYTES] [--each [--keep-going]] NAME
        riftcalico check [--set FILE] [--packed] [--limit PARTS] [--all] [--each [--keep-going]] NAME [PATH]
        riftcalico patch [--set FILE] [--calls FILE] [--keep-going] [--packed] [--limit BYTES] [--each] [--in-place FILE] NAME CALL..
        riftcalico new [--set FILE] [--calls FILE] [--keep-going] [--packed] [--limit BYTES] NAME CALL..

@@ -70,9 +70,9 @@ pub mod compatible {
     pub use crate::capnp_differences::{
         enumerant_name, explain, explain_all, Cause, Change, Difference, EnumPair, Explanation, Note, Pair,
     };
-    pub use crate::capnp_joined_sets::join;
+    pub use crate::capnp_joined_sets::{join, join_owned};
     pub use crate::capnp_versions::{
-        compare, compare_all, get_named_report, get_report, Comparison, FullComparison,
+        compare, compare_all, compare_all_owned, get_named_report, get_report, Comparison, FullComparison,
     };
 }
 
@@ -162,6 +162,7 @@ pub mod printer {
 pub mod query {
     pub use crate::capnp_queries::json::{get_json, NoJson};
     pub use crate::capnp_queries::length::{get_length, NoLength};
+    pub use crate::capnp_queries::patterns::{list_paths, Listed, NotListed, RefusedPath};
     pub use crate::capnp_queries::reach::reach_path;
     pub use crate::capnp_queries::shown::get_shown;
 }
@@ -187,7 +188,7 @@ pub mod schema {
         Annotation, AnnotationList, EnumSchema, Enumerant, EnumerantList, Field, FieldList, FieldSubset, GroupWalk,
         StructSchema,
     };
-    pub use crate::capnp_schema::set::SchemaSet;
+    pub use crate::capnp_schema::set::{SchemaSet, SetLists};
     pub use crate::capnp_schema::{builtin, meta, plan, value};
 }
 

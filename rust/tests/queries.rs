@@ -3,7 +3,7 @@
 #![forbid(unsafe_code)]
 
 use riftcalico::memory::Global;
-use riftcalico::query::{get_json, get_length, get_shown, NoJson, NoLength};
+use riftcalico::query::{get_json, get_length, get_shown, list_paths, NoJson, NoLength, NotListed};
 use riftcalico::run::Step;
 use riftcalico::schema::SchemaSet;
 use riftcalico::ErrorKind;
@@ -76,4 +76,55 @@ fn texts_and_bytes_at_a_path() {
     }
     let long = get_shown(Global, schema, &steps("people.1.name"), &bytes, true, false, 2);
     assert_eq!(long.err().map(|error| error.kind), Some(ErrorKind::TooLarge));
+}
+
+/// The words of steps.
+fn words(steps: &[Step<'_>]) -> String {
+    let words = steps.iter().map(|step| match step {
+        Step::Named(name) => name.to_string(),
+        Step::Element(index) => index.to_string(),
+        Step::Field(index) => format!("#{index}"),
+    });
+    words.collect::<Vec<_>>().join(".")
+}
+
+#[test]
+fn paths_of_a_pattern() {
+    let (schemas, bytes) = book();
+    let schema = schemas.get_struct_named("AddressBook").expect("the struct is there");
+    for (pattern, wanted) in [
+        ("people.*.name", "people.0.name people.1.name"),
+        ("people.*.phones.*.number", "people.0.phones.0.number people.1.phones.0.number people.1.phones.1.number"),
+        ("people.*.employment.*", "people.0.employment.school people.1.employment.unemployed"),
+        ("people.*.employment.school", "people.0.employment.school"),
+        ("people.*.employment.employer", ""),
+        ("people.1.*", "people.1.id people.1.name people.1.email people.1.phones people.1.employment"),
+        ("people.1.id", "people.1.id"),
+    ] {
+        let paths = list_paths(Global, schema, &steps(pattern), &bytes, 5);
+        let paths = paths.ok().map(|paths| paths.iter().map(|path| words(path)).collect::<Vec<_>>().join(" "));
+        assert_eq!(paths.as_deref(), Some(wanted), "{pattern}");
+    }
+}
+
+#[test]
+fn patterns_that_are_refused() {
+    let (schemas, bytes) = book();
+    let schema = schemas.get_struct_named("AddressBook").expect("the struct is there");
+    for (pattern, kind, wanted) in [
+        ("people.*.nam", ErrorKind::FieldNotFound, "people.0.nam"),
+        ("people.1.employment.school.*", ErrorKind::InactiveMember, "people.1.employment.school"),
+        ("people.*.employment.*.*", ErrorKind::NotAContainer, "people.0.employment.school"),
+        ("people.0.name.*", ErrorKind::NotAContainer, "people.0.name"),
+        ("people.2.*", ErrorKind::NoSuchElement, "people.2"),
+    ] {
+        match list_paths(Global, schema, &steps(pattern), &bytes, 5) {
+            Err(NotListed::Refused(refused)) => assert_eq!((refused.kind, words(&refused.steps)), (kind, wanted.to_string())),
+            _ => panic!("{pattern} is not refused"),
+        }
+    }
+    let many = list_paths(Global, schema, &steps("people.*.id"), &bytes, 1);
+    assert!(matches!(many, Err(NotListed::Unmade(ErrorKind::TooLarge))));
+    let cut = list_paths(Global, schema, &steps("people.*.id"), &bytes[..20], 9);
+    assert!(matches!(cut, Err(NotListed::Refused(refused)) if refused.kind == ErrorKind::Truncated && refused.steps.is_empty()));
 }

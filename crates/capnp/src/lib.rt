@@ -20,9 +20,10 @@ pub mod compatible {
         Cause, Change, Difference, EnumPair, Explanation, Note, Pair, enumerant_name, explain,
         explain_all,
     };
-    pub use capnp_joined_sets::join;
+    pub use capnp_joined_sets::{join, join_owned};
     pub use capnp_versions::{
-        Comparison, FullComparison, compare, compare_all, get_named_report, get_report,
+        Comparison, FullComparison, compare, compare_all, compare_all_owned, get_named_report,
+        get_report,
     };
 }
 
@@ -106,6 +107,7 @@ pub mod printer {
 pub mod query {
     pub use capnp_queries::json::{NoJson, get_json};
     pub use capnp_queries::length::{NoLength, get_length};
+    pub use capnp_queries::patterns::{Listed, NotListed, RefusedPath, list_paths};
     pub use capnp_queries::reach::reach_path;
     pub use capnp_queries::shown::get_shown;
 }
@@ -130,7 +132,7 @@ pub mod schema {
         Annotation, AnnotationList, EnumSchema, Enumerant, EnumerantList, Field, FieldList,
         FieldSubset, GroupWalk, StructSchema,
     };
-    pub use capnp_schema::set::SchemaSet;
+    pub use capnp_schema::set::{SchemaSet, SetLists};
     pub use capnp_schema::{builtin, meta, plan, record, value};
 }
 

@@ -30,18 +30,22 @@ const HOSTILE: &str = "\
 ";
 
 /// How verbs are called.
-static USAGES: [(&str, &str); 9] = [
+static USAGES: [(&str, &str); 10] = [
     (
         "show",
         "[--set FILE] [--packed] [--limit BYTES] [--each [--keep-going]] NAME [--indent]",
     ),
     (
         "get",
-        "[--set FILE] [--packed] [--limit BYTES] [--raw] [--each [--keep-going]] NAME PATH.. [--indent]",
+        "[--set FILE] [--packed] [--limit BYTES] [--raw] [--paths] [--each [--keep-going]] NAME PATH.. [--indent]",
     ),
     (
         "json",
         "[--set FILE] [--packed] [--limit BYTES] [--each [--keep-going]] NAME [PATH] [--indent]",
+    ),
+    (
+        "from-json",
+        "[--set FILE] [--strict] [--packed] [--limit BYTES] [--each [--keep-going]] NAME",
     ),
     (
         "check",
@@ -158,7 +162,9 @@ show|--strict|Flat -> usage
 get -> usage
 get|Flat -> usage
 get|--raw|Flat -> usage
+get|--paths|Flat -> usage
 show|--raw|Flat -> usage
+show|--paths|Flat -> usage
 json -> usage
 json|Flat|a|b -> usage
 json|--raw|Flat|a -> usage
@@ -168,6 +174,10 @@ get|Flat|a|--set -> usage
 get|--calls|calls|Flat|a -> usage
 get|--keep-going|Flat|a|b -> usage
 show|--keep-going|Flat -> usage
+from-json -> usage
+from-json|Flat|a -> usage
+from-json|--indent|Flat -> usage
+from-json|--keep-going|Flat -> usage
 check -> usage
 check|Flat|--indent -> usage
 check|Flat|a|b -> usage
@@ -209,6 +219,7 @@ get|Flat|a|--indented -> unknown option: --indented
 patch|Flat|--limited|set a 1 -> unknown option: --limited
 # no numbers of bytes
 patch|Flat|--limit|set a 1 -> no number of bytes: set a 1
+from-json|--limit|x|Flat -> no number of bytes: x
 new|--limit||Flat -> no number of bytes: 
 new|--limit|-1|Flat -> no number of bytes: -1
 check|--limit|18446744073709551616|Flat -> no number of bytes: 18446744073709551616

@@ -612,7 +612,17 @@ pub(crate) const PATCHED: &str = "\
 :set a 6
 <0000000003000000 0000000001000100 0500010009000000 0000000000000000
 =1
-!refused: 1 OutOfMemory (standard input)
+!refused: 11 TooLarge (standard input)
+
+# a call that has none
+:new
+:--limit
+:40
+:Lists
+:initn bytes 3
+<
+=1
+!1: initn bytes 3: refused: 11 TooLarge
 
 # an empty root
 :new
@@ -745,9 +755,9 @@ pub(crate) const TOLD: &str = "\
 \"input and written to standard output.
 \"
 \"usage: riftcalico show [--set FILE] [--packed] [--limit BYTES] [--each [--keep-going]] NAME [--indent]
-\"       riftcalico get [--set FILE] [--packed] [--limit BYTES] [--raw] [--each [--keep-going]] NAME PATH.. [--indent]
+\"       riftcalico get [--set FILE] [--packed] [--limit BYTES] [--raw] [--paths] [--each [--keep-going]] NAME PATH.. [--indent]
 \"       riftcalico json [--set FILE] [--packed] [--limit BYTES] [--each [--keep-going]] NAME [PATH] [--indent]
-\"       riftcalico from-json [--set FILE] [--strict] [--packed] NAME
+\"       riftcalico from-json [--set FILE] [--strict] [--packed] [--limit BYTES] [--each [--keep-going]] NAME
 \"       riftcalico check [--set FILE] [--packed] [--limit PARTS] [--all] [--each [--keep-going]] NAME [PATH]
 \"       riftcalico patch [--set FILE] [--calls FILE] [--keep-going] [--packed] [--limit BYTES] [--each] [--in-place FILE] NAME CALL..
 \"       riftcalico new [--set FILE] [--calls FILE] [--keep-going] [--packed] [--limit BYTES] NAME CALL..

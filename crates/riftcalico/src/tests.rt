@@ -4,7 +4,7 @@
 //! bytes, the status, what was told, a bar, and what was written. Rows are texts (`rows`).
 ghost use Rattle.std.specs.Prelude.{⊤};
 
-use crate::json_rows::MADE;
+use crate::json_rows::{MADE, MADE_EACH};
 use crate::query_rows::{ASKED, UNREAD};
 use crate::rows::{GOT, LISTED, PATCHED, TOLD};
 use capnp_fixtures::bytes::bytes_of;
@@ -20,9 +20,9 @@ use std::test::Fail;
 
 pub(crate) const USAGE: &str = "\
 usage: riftcalico show [--set FILE] [--packed] [--limit BYTES] [--each [--keep-going]] NAME [--indent]
-       riftcalico get [--set FILE] [--packed] [--limit BYTES] [--raw] [--each [--keep-going]] NAME PATH.. [--indent]
+       riftcalico get [--set FILE] [--packed] [--limit BYTES] [--raw] [--paths] [--each [--keep-going]] NAME PATH.. [--indent]
        riftcalico json [--set FILE] [--packed] [--limit BYTES] [--each [--keep-going]] NAME [PATH] [--indent]
-       riftcalico from-json [--set FILE] [--strict] [--packed] NAME
+       riftcalico from-json [--set FILE] [--strict] [--packed] [--limit BYTES] [--each [--keep-going]] NAME
        riftcalico check [--set FILE] [--packed] [--limit PARTS] [--all] [--each [--keep-going]] NAME [PATH]
        riftcalico patch [--set FILE] [--calls FILE] [--keep-going] [--packed] [--limit BYTES] [--each] [--in-place FILE] NAME CALL..
        riftcalico new [--set FILE] [--calls FILE] [--keep-going] [--packed] [--limit BYTES] NAME CALL..
@@ -254,6 +254,11 @@ fn queries_are_answered(rt: HostRuntime) -> Result<(), Fail> {
 #[test]
 fn json_texts_are_made_messages(rt: HostRuntime) -> Result<(), Fail> {
     rows_are_so(&rt, rt.alloc(), MADE)
+}
+
+#[test]
+fn json_texts_are_made_messages_one_after_another(rt: HostRuntime) -> Result<(), Fail> {
+    rows_are_so(&rt, rt.alloc(), MADE_EACH)
 }
 
 #[test]

@@ -2,8 +2,10 @@ pub mod Blamed
 pub mod CallsGiven
 pub mod Counted
 pub mod Each
+pub mod HeadedLines
 pub mod JsonTold
 pub mod LinesGot
+pub mod ListingsAsked
 pub mod NearNames
 pub mod NotShown
 pub mod Noted
@@ -12,6 +14,7 @@ pub mod Packed
 pub mod PathsTaken
 pub mod PlainGiven
 pub mod Ran
+pub mod Roomless
 pub mod Texts
 pub mod Told
 pub mod Unreached

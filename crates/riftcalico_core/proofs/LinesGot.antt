@@ -1,7 +1,7 @@
 -- One line more of those that are asked for, or the first query that has none.
 use Rattle.std.proofs.Common.{ℕ, ◌+◌, ◌-◌, ◌<◌, ◌≤◌, List, [], ◌∷◌, ◌++◌, drop, get_or, length, map, ap, append_assoc, inl, inr, refl, subst, sym, ◌≡◌, ◌∙◌}
 use Rattle.std.proofs.lemmas.List.{append-nil}
-use Rattle.riftcalico_core.specs.Gets.{AreLines, IsFirstRefused, IsQueryRefused, IsQueryText}
+use Rattle.riftcalico_core.specs.Gets.{AreLines, IsFirstRefused, IsLineRefused, IsQueryLine}
 use Rattle.riftcalico_core.specs.Queries.{Query}
 use Rattle.riftcalico_core.specs.declared.fault.Fault.{Fault}
 use Rattle.riftcalico_core.specs.QueriesSeen.{asked_seen}
@@ -22,7 +22,7 @@ module _ (j : GetJob) (bytes : List ℕ) (all : List Query) where
   abbrev pub Begins : List Query → (lines : List ℕ) → Type 0
   Begins qs lines = (rest : List ℕ) → AreLines j bytes qs rest → AreLines j bytes all (lines ++ rest)
 
-  one_more : (qs : List Query) (q : Query) (lines text : List ℕ) → Begins (q ∷ qs) lines → IsQueryText j bytes q text → Begins qs (lines ++ (text ++ 10 ∷ []))
+  one_more : (qs : List Query) (q : Query) (lines text : List ℕ) → Begins (q ∷ qs) lines → IsQueryLine j bytes q text → Begins qs (lines ++ (text ++ 10 ∷ []))
   unfolding AreLines
   one_more qs q lines text begins is = λ rest are.
       let same : (lines ++ (text ++ 10 ∷ [])) ++ rest ≡ lines ++ (text ++ 10 ∷ rest) = append_assoc lines (text ++ 10 ∷ []) rest ∙ ap (λ (xs : List ℕ). lines ++ xs) (append_assoc text (10 ∷ []) rest) in
@@ -36,27 +36,27 @@ module _ (j : GetJob) (bytes : List ℕ) (all : List Query) where
   abbrev pub Refuses : (limit left : ℕ) → List Query → Type 0
   Refuses limit left qs = (f : Fault) → IsFirstRefused left j bytes qs f → IsFirstRefused limit j bytes all f
 
-  refuses_behind : (limit left : ℕ) (qs : List Query) (q : Query) (text : List ℕ) → Refuses limit left (q ∷ qs) → IsQueryText j bytes q text → length text ≤ left →
+  refuses_behind : (limit left : ℕ) (qs : List Query) (q : Query) (text : List ℕ) → Refuses limit left (q ∷ qs) → IsQueryLine j bytes q text → length text ≤ left →
       Refuses limit (left - length text) qs
   unfolding IsFirstRefused
   refuses_behind limit left qs q text refuses is within = λ f h. refuses f (inr (text, is, within, h))
 
-  refused_here : (limit left : ℕ) (qs : List Query) (q : Query) (f : Fault) → Refuses limit left (q ∷ qs) → IsQueryRefused left j bytes q f → IsFirstRefused limit j bytes all f
+  refused_here : (limit left : ℕ) (qs : List Query) (q : Query) (f : Fault) → Refuses limit left (q ∷ qs) → IsLineRefused left j bytes q f → IsFirstRefused limit j bytes all f
   unfolding IsFirstRefused
   refused_here limit left qs q f refuses h = refuses f (inl h)
 
   pub begins_more : (xs : List AskedQuery) (i : ℕ) (x : AskedQuery) (lines text : List ℕ) → i < length xs → x ≡ get_or xs i x → Begins (left_of xs i) lines →
-      IsQueryText j bytes (asked_seen x) text → Begins (left_of xs (i + 1)) (lines ++ (text ++ 10 ∷ []))
+      IsQueryLine j bytes (asked_seen x) text → Begins (left_of xs (i + 1)) (lines ++ (text ++ 10 ∷ []))
   begins_more xs i x lines text inside is begins h =
       one_more (left_of xs (i + 1)) (asked_seen x) lines text (subst (λ (qs : List Query). Begins qs lines) (next xs i x inside is) begins) h
 
   pub refuses_more : (limit left : ℕ) (xs : List AskedQuery) (i : ℕ) (x : AskedQuery) (text : List ℕ) → i < length xs → x ≡ get_or xs i x →
-      Refuses limit left (left_of xs i) × IsQueryText j bytes (asked_seen x) text × (length text ≤ left) → Refuses limit (left - length text) (left_of xs (i + 1))
+      Refuses limit left (left_of xs i) × IsQueryLine j bytes (asked_seen x) text × (length text ≤ left) → Refuses limit (left - length text) (left_of xs (i + 1))
   refuses_more limit left xs i x text inside is h =
       refuses_behind limit left (left_of xs (i + 1)) (asked_seen x) text (subst (Refuses limit left) (next xs i x inside is) h.0) h.1 h.2
 
   pub refused_at : (limit left : ℕ) (xs : List AskedQuery) (i : ℕ) (x : AskedQuery) (f : Fault) → i < length xs → x ≡ get_or xs i x →
-      Refuses limit left (left_of xs i) → IsQueryRefused left j bytes (asked_seen x) f → IsFirstRefused limit j bytes all f
+      Refuses limit left (left_of xs i) → IsLineRefused left j bytes (asked_seen x) f → IsFirstRefused limit j bytes all f
   refused_at limit left xs i x f inside is refuses h =
       refused_here limit left (left_of xs (i + 1)) (asked_seen x) f (subst (Refuses limit left) (next xs i x inside is) refuses) h
 

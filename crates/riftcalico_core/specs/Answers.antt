@@ -1,11 +1,8 @@
 -- What is answered to a message's bytes: what is written, what is told, and whether a call was refused.
-use Rattle.std.specs.Prelude.{ℕ, ◌≤◌, ◌≡◌, ◌⊎◌, ⊤, List, [], map, Bool, true, false, cond, not, Result, Ok, Err, string_bytes}
+use Rattle.std.specs.Prelude.{ℕ, ◌≡◌, ◌⊎◌, ⊤, List, [], map, Bool, true, false, cond, not, Result, Ok, Err, string_bytes}
 use Rattle.capnp_device.specs.declared.error.ErrorKind.{ErrorKind}
 use Rattle.capnp_device.specs.declared.error.ErrorKind.TheVariants.{TooLarge}
-use Rattle.capnp_arena.specs.Message.{IsMessage, message_tree}
-use Rattle.capnp_arena.specs.Segment.{segment}
-use Rattle.capnp_arena.specs.Shape.{word_count}
-use Rattle.capnp_arena.specs.declared.arena.Arena.{Arena}
+use Rattle.capnp_arena.specs.Message.{IsMessage}
 use Rattle.capnp_call.specs.Messages.{most_words}
 use Rattle.capnp_call.specs.Refusals.{any_refused}
 use Rattle.capnp_call.specs.Seen.{call_seen, path_seen}
@@ -36,6 +33,7 @@ use Rattle.riftcalico_core.specs.Jobs.{is_packed, wants_input}
 use Rattle.riftcalico_core.specs.Json.{IsJsonAnswer, IsNoJson}
 use Rattle.riftcalico_core.specs.Outputs.{IsMessageOutput}
 use Rattle.riftcalico_core.specs.Quiet.{IsQuiet}
+use Rattle.riftcalico_core.specs.Room.{FitsIn, IsBelowFormat, IsPastLimit, IsRoomless}
 use Rattle.riftcalico_core.specs.Shown.{IsNotShown, IsTextThere}
 use Rattle.riftcalico_core.specs.Replies.{AreNoted}
 use Rattle.riftcalico_core.specs.declared.answer.Answer.{Answer}
@@ -132,20 +130,16 @@ IsRunOutput true packed t o = IsMessageOutput packed t o
 IsRunOutput false packed t o = o ≡ output.Nothing
 
 -- what a run left is written, unless a call was refused and it isn't kept all the same; the replies are told, and that the
--- message is deep
+-- message is deep. Refusals for want of memory are told as ones for the limit where that is the cause, as it can only be of a
+-- limit below the format's.
 pub record IsRunAnswer (j : CallsJob) (calls : List record_call.Call) (replies : List Reply) (root : Tree) (a : Answer) : Type 0 where
   pub output : IsRunOutput (is_kept j.keep_going replies) j.packed root a.output
   pub lines : List ℕ
-  pub told : AreNoted (set_of j.schema) (number_of j.schema) 0 (map (λ w. w.now) j.words.now) calls replies [] lines
+  pub by_limit : Bool
+  pub below : by_limit ≡ true → IsBelowFormat j.limit
+  pub told : AreNoted (set_of j.schema) (number_of j.schema) by_limit 0 (map (λ w. w.now) j.words.now) calls replies [] lines
   pub depth : IsDepthTold (is_kept j.keep_going replies) root lines (string_bytes a.lines)
   pub refused : a.refused ≡ any_refused replies
-
--- a message in memory of so many words has this tree
-pub record FitsIn (words : ℕ) (root : Tree) : Type 0 where
-  pub message : Arena
-  pub is : IsMessage message
-  pub tree : message_tree message ≡ root
-  pub few : word_count (segment message) ≤ words
 
 -- calls are those of the job, and leave some root, which fits into the limit
 pub record IsCallsAnswer (j : CallsJob) (leaves : List Call → List Reply → Tree → Type 0) (a : Answer) : Type 0 where
@@ -159,6 +153,10 @@ pub record IsCallsAnswer (j : CallsJob) (leaves : List Call → List Reply → T
 
 abbrev pub IsPatchAnswer : CallsJob → (bytes : List ℕ) → Answer → Type 0
 IsPatchAnswer j bytes a = IsCallsAnswer j (λ calls replies root. IsLeftOfBytes j.schema bytes calls replies root) a
+
+-- the root isn't copied, or has no room within the limit
+abbrev pub IsUnpatched : (limit : ℕ) → (bytes : List ℕ) → ErrorKind → Type 0
+IsUnpatched limit bytes kind = IsUnread bytes kind ⊎ IsPastLimit limit kind
 
 abbrev pub IsNewAnswer : CallsJob → Answer → Type 0
 IsNewAnswer j a = IsCallsAnswer j (λ calls replies root. IsLeftOfNew j.schema calls replies root) a
@@ -201,10 +199,10 @@ IsMessageAnswer job.Version bytes a = IsTextAnswer a (λ text. text ≡ version_
 abbrev pub IsNoMessageAnswer : Job → (bytes : List ℕ) → Fault → Type 0
 IsNoMessageAnswer (job.Get j) bytes f = IsNotGot j bytes f
 IsNoMessageAnswer (job.Json j) bytes f = IsNoJson j bytes f
-IsNoMessageAnswer (job.FromJson j) bytes f = ⊥
+IsNoMessageAnswer (job.FromJson j) bytes f = IsRoomless j.limit f
 IsNoMessageAnswer (job.Check j) bytes f = IsNotChecked j bytes f
-IsNoMessageAnswer (job.Patch j) bytes f = IsUnread bytes f.error.kind × (string_bytes f.note ≡ [])
-IsNoMessageAnswer (job.New j) bytes f = ⊥
+IsNoMessageAnswer (job.Patch j) bytes f = IsUnpatched j.limit bytes f.error.kind × (string_bytes f.note ≡ [])
+IsNoMessageAnswer (job.New j) bytes f = IsPastLimit j.limit f.error.kind × (string_bytes f.note ≡ [])
 IsNoMessageAnswer (job.Structs schemas) bytes f = ⊥
 IsNoMessageAnswer (job.Fields s) bytes f = ⊥
 IsNoMessageAnswer (job.Convert strict) bytes f = HasNoSet strict bytes f.error × (string_bytes f.note ≡ [])

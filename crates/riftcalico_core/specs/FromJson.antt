@@ -1,6 +1,8 @@
 -- What is answered where a JSON text is made a message.
 use Rattle.std.specs.Prelude.{◌≡◌, ◌⊎◌, List, ℕ, ◌++◌, true, codes, decimal, string_bytes}
 use Rattle.capnp_wire.specs.Tree.{Tree}
+use Rattle.capnp_call.specs.Messages.{most_words}
+use Rattle.capnp_patch.specs.Patches.{words_within}
 use Rattle.capnp_schema.specs.StructHandles.{set_of}
 use Rattle.capnp_from_json.specs.Errors.{kind_name, kind_number}
 use Rattle.capnp_from_json.specs.declared.error.Error.TheVariants.{Refused}
@@ -9,14 +11,16 @@ use Rattle.capnp_json_messages.specs.Messages.{IsRootOf, text_record}
 use Rattle.capnp_json_messages.specs.Walks.{IsRefused}
 use Rattle.riftcalico_core.specs.Outputs.{IsMessageOutput}
 use Rattle.riftcalico_core.specs.Quiet.{IsQuiet}
+use Rattle.riftcalico_core.specs.Room.{FitsIn}
 use Rattle.riftcalico_core.specs.declared.answer.Answer.{Answer}
 use Rattle.riftcalico_core.specs.declared.answer.Output.TheVariants as output
 use Rattle.riftcalico_core.specs.declared.job.FromJsonJob.{FromJsonJob}
 
--- a message is written whose root reads as the record of the text
+-- a message is written whose root reads as the record of the text, and fits into the limit
 pub record IsMade (j : FromJsonJob) (text : List ℕ) (a : Answer) : Type 0 where
   pub root : Tree
   pub is : IsRootOf j.schema j.strict text root
+  pub within : FitsIn (most_words (words_within j.limit)) root
   pub output : IsMessageOutput j.packed root a.output
   pub quiet : IsQuiet a
 

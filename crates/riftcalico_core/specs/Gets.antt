@@ -1,6 +1,6 @@
--- What is answered where values are shown: to each query a text and a line break, in the order of the queries; or the first that has no text within what is left of the
--- limit.
-use Rattle.std.specs.Prelude.{ℕ, ◌<◌, ◌≤◌, ◌+◌, ◌-◌, ◌≡◌, ◌⊎◌, List, [], ◌∷◌, ◌++◌, length, map, Bool, true, false, Option, Some, None, Ok, Err, decimal, string_bytes}
+-- What is answered where values are shown: to each query that is asked for a line, in their order, with its path before its text where that is wanted; or the first that
+-- has no line within what is left of the limit.
+use Rattle.std.specs.Prelude.{ℕ, ◌<◌, ◌≤◌, ◌+◌, ◌-◌, ◌≡◌, ◌⊎◌, List, [], ◌∷◌, ◌++◌, length, map, Bool, true, false, Option, Some, None, Ok, Err, decimal, codes, string_bytes}
 use Rattle.capnp_device.specs.declared.error.ErrorKind.TheVariants.{TooLarge}
 use Rattle.capnp_patch.specs.Gets.{Part, Reached, reached_text}
 use Rattle.capnp_patch.specs.Places.{IsRefusedAt}
@@ -15,7 +15,8 @@ use Rattle.capnp_schema.specs.StructHandles.{number_of, set_of}
 use Rattle.capnp_schema.specs.declared.schema.structs.StructSchema.{StructSchema}
 use Rattle.riftcalico_core.specs.AllFaults.{part_note}
 use Rattle.riftcalico_core.specs.Notes.{place_note}
-use Rattle.riftcalico_core.specs.Queries.{Query}
+use Rattle.riftcalico_core.specs.Expanded.{AreAsked, IsNotAsked, most_paths}
+use Rattle.riftcalico_core.specs.Queries.{Query, query_words}
 use Rattle.riftcalico_core.specs.QueriesSeen.{asked_seen}
 use Rattle.riftcalico_core.specs.Quiet.{IsQuiet}
 use Rattle.riftcalico_core.specs.Shown.{IsNotShown}
@@ -89,18 +90,43 @@ IsWithoutText false left j bytes path f = IsNotShown j.schema path bytes f ⊎ H
 abbrev pub IsQueryRefused : (left : ℕ) → GetJob → (bytes : List ℕ) → Query → Fault → Type 0
 IsQueryRefused left j bytes q f = IsWithoutText q.counts left j bytes q.path f
 
+-- ---- its line ----
+
+-- the path, where it is told
+abbrev pub heading : (with_paths : Bool) → Query → List ℕ
+heading true q = query_words q ++ codes ": "
+heading false q = []
+
+pub record IsQueryLine (j : GetJob) (bytes : List ℕ) (q : Query) (line : List ℕ) : Type 0 where
+  pub text : List ℕ
+  pub is : IsQueryText j bytes q text
+  pub line_is : line ≡ heading j.with_paths q ++ text
+
+-- the path is longer than the line may be
+pub record HasLongHeading (left : ℕ) (j : GetJob) (q : Query) (f : Fault) : Type 0 where
+  pub kind : f.error.kind ≡ TooLarge
+  pub longer : left < length (heading j.with_paths q)
+  pub note : string_bytes f.note ≡ []
+
+pub record HasNoText (left : ℕ) (j : GetJob) (bytes : List ℕ) (q : Query) (f : Fault) : Type 0 where
+  pub fits : length (heading j.with_paths q) ≤ left
+  pub refused : IsQueryRefused (left - length (heading j.with_paths q)) j bytes q f
+
+abbrev pub IsLineRefused : (left : ℕ) → GetJob → (bytes : List ℕ) → Query → Fault → Type 0
+IsLineRefused left j bytes q f = HasLongHeading left j q f ⊎ HasNoText left j bytes q f
+
 -- ---- several ----
 
 -- their lines, one after another
 unfoldable pub AreLines : GetJob → (bytes : List ℕ) → List Query → (lines : List ℕ) → Type 0
 AreLines j bytes [] lines = lines ≡ []
-AreLines j bytes (q ∷ qs) lines = (text : List ℕ) × (rest : List ℕ) × IsQueryText j bytes q text × AreLines j bytes qs rest × (lines ≡ text ++ 10 ∷ rest)
+AreLines j bytes (q ∷ qs) lines = (line : List ℕ) × (rest : List ℕ) × IsQueryLine j bytes q line × AreLines j bytes qs rest × (lines ≡ line ++ 10 ∷ rest)
 
--- one has none, where those before it have texts, and the texts leave so many bytes of the limit
+-- one has none, where those before it have lines, and the lines leave so many bytes of the limit
 unfoldable pub IsFirstRefused : (left : ℕ) → GetJob → (bytes : List ℕ) → List Query → Fault → Type 0
 IsFirstRefused left j bytes [] f = ⊥
 IsFirstRefused left j bytes (q ∷ qs) f =
-    IsQueryRefused left j bytes q f ⊎ ((text : List ℕ) × IsQueryText j bytes q text × (length text ≤ left) × IsFirstRefused (left - length text) j bytes qs f)
+    IsLineRefused left j bytes q f ⊎ ((line : List ℕ) × IsQueryLine j bytes q line × (length line ≤ left) × IsFirstRefused (left - length line) j bytes qs f)
 
 abbrev pub queries_of : GetJob → List Query
 queries_of j = map asked_seen j.queries.items
@@ -111,11 +137,20 @@ IsBytesOutput other lines = ⊥
 
 -- the lines are written, within the limit but for their line breaks
 pub record IsGetAnswer (j : GetJob) (bytes : List ℕ) (a : Answer) : Type 0 where
+  pub queries : List Query
+  pub asked : AreAsked (most_paths j.limit) j.schema bytes (queries_of j) queries
   pub lines : List ℕ
-  pub are : AreLines j bytes (queries_of j) lines
-  pub few : length lines ≤ j.limit + length j.queries.items
+  pub are : AreLines j bytes queries lines
+  pub few : length lines ≤ j.limit + length queries
   pub output : IsBytesOutput a.output lines
   pub quiet : IsQuiet a
 
+-- of the queries that are asked for one has no line
+pub record HasNoLine (j : GetJob) (bytes : List ℕ) (f : Fault) : Type 0 where
+  pub queries : List Query
+  pub asked : AreAsked (most_paths j.limit) j.schema bytes (queries_of j) queries
+  pub refused : IsFirstRefused j.limit j bytes queries f
+
+-- or it can't be told which these are
 abbrev pub IsNotGot : GetJob → (bytes : List ℕ) → Fault → Type 0
-IsNotGot j bytes f = IsFirstRefused j.limit j bytes (queries_of j) f
+IsNotGot j bytes f = IsNotAsked (most_paths j.limit) j.schema bytes (queries_of j) f ⊎ HasNoLine j bytes f

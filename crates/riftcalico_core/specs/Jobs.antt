@@ -64,6 +64,7 @@ pub record IsGetJob (p : GetPlan) (set : Schemas) (j : GetJob) : Type 0 where
   pub schema : IsNamedStruct set p.root.name j.schema
   pub queries : queries_of j ≡ p.queries
   pub raw : j.raw ≡ p.raw
+  pub with_paths : j.with_paths ≡ p.with_paths
   pub indented : j.indented ≡ p.indented
   pub packed : j.packed ≡ p.packed
   pub limit : j.limit ≡ p.limit
@@ -79,6 +80,7 @@ pub record IsFromJsonJob (p : FromJsonPlan) (set : Schemas) (j : FromJsonJob) : 
   pub schema : IsNamedStruct set p.root.name j.schema
   pub strict : j.strict ≡ p.strict
   pub packed : j.packed ≡ p.packed
+  pub limit : j.limit ≡ p.limit
 
 pub record IsCheckJob (p : CheckPlan) (set : Schemas) (j : CheckJob) : Type 0 where
   pub schema : IsNamedStruct set p.root.name j.schema
@@ -165,6 +167,11 @@ wants_input (job.Convert strict) = true
 wants_input (job.Compatible j) = false
 wants_input (job.Help v) = false
 wants_input job.Version = false
+
+-- whether it is a text, of which several stand each on a line
+abbrev pub reads_texts : Job → Bool
+reads_texts (job.FromJson j) = true
+reads_texts j = false
 
 -- whether it comes packed
 abbrev pub is_packed : Job → Bool

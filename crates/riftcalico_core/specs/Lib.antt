@@ -4,6 +4,7 @@ pub mod Calls
 pub mod CallsSeen
 pub mod Comparisons
 pub mod Depths
+pub mod Expanded
 pub mod Faults
 pub mod FromJson
 pub mod Gets
@@ -20,6 +21,7 @@ pub mod QueriesSeen
 pub mod Quiet
 pub mod Reads
 pub mod Replies
+pub mod Room
 pub mod Shown
 pub mod Steps
 pub mod Wanted

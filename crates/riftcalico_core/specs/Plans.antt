@@ -18,6 +18,7 @@ pub record GetPlan : Type 0 where
   pub root : Root
   pub queries : List Query
   pub raw : Bool
+  pub with_paths : Bool
   pub indented : Bool
   pub packed : Bool
   pub limit : ℕ
@@ -35,6 +36,7 @@ pub record FromJsonPlan : Type 0 where
   pub root : Root
   pub strict : Bool
   pub packed : Bool
+  pub limit : ℕ
 
 -- the value at a path of a root, whether it can be shown, or where it can't
 pub record CheckPlan : Type 0 where
@@ -134,7 +136,7 @@ abbrev pub calls_plan_of : CallsTask → (file : List ℕ) → Told CallsPlan
 calls_plan_of t file = under_root t (given_plan t.calls file)
 
 abbrev pub queries_plan : GetTask → Reads (List Query) → Told GetPlan
-queries_plan t (Ok queries) = Ok (record { root = t.root; queries = queries; raw = t.raw; indented = t.indented; packed = t.packed; limit = t.limit })
+queries_plan t (Ok queries) = Ok (record { root = t.root; queries = queries; raw = t.raw; with_paths = t.with_paths; indented = t.indented; packed = t.packed; limit = t.limit })
 queries_plan t (Err at) = Err (line_at t.paths at)
 
 abbrev pub get_plan_of : GetTask → Told GetPlan
@@ -148,7 +150,7 @@ abbrev pub json_plan_of : JsonTask → Told JsonPlan
 json_plan_of t = json_path_plan t (path_at 0 t.path)
 
 abbrev pub from_json_plan_of : FromJsonTask → FromJsonPlan
-from_json_plan_of t = record { root = t.root; strict = t.strict; packed = t.packed }
+from_json_plan_of t = record { root = t.root; strict = t.strict; packed = t.packed; limit = t.limit }
 
 abbrev pub checked_path_plan : CheckTask → Read (List PathStep) → Told CheckPlan
 checked_path_plan t (Ok path) = Ok (record { root = t.root; path = path; all = t.all; packed = t.packed; limit = t.limit })

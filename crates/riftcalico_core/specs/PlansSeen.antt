@@ -16,13 +16,13 @@ use Rattle.riftcalico_core.specs.declared.plan.Plan.TheVariants as plan
 use Rattle.riftcalico_words.specs.RequestSeen.{root_named}
 
 abbrev pub get_plan_seen : GetPlan → plans.GetPlan
-get_plan_seen p = record { root = root_named p.root; queries = map query_word_seen p.queries.items; raw = p.raw; indented = p.indented; packed = p.packed; limit = p.limit }
+get_plan_seen p = record { root = root_named p.root; queries = map query_word_seen p.queries.items; raw = p.raw; with_paths = p.with_paths; indented = p.indented; packed = p.packed; limit = p.limit }
 
 abbrev pub json_plan_seen : JsonPlan → plans.JsonPlan
 json_plan_seen p = record { root = root_named p.root; path = path_text_seen p.path; indented = p.indented; packed = p.packed; limit = p.limit }
 
 abbrev pub from_json_plan_seen : FromJsonPlan → plans.FromJsonPlan
-from_json_plan_seen p = record { root = root_named p.root; strict = p.strict; packed = p.packed }
+from_json_plan_seen p = record { root = root_named p.root; strict = p.strict; packed = p.packed; limit = p.limit }
 
 abbrev pub check_plan_seen : CheckPlan → plans.CheckPlan
 check_plan_seen p = record { root = root_named p.root; path = path_text_seen p.path; all = p.all; packed = p.packed; limit = p.limit }

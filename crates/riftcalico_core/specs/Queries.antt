@@ -1,8 +1,8 @@
 -- What is asked for by a path: what stands there, or where the last step is `#`, how many elements the list before it has.
-use Rattle.std.specs.Prelude.{ℕ, ◌-◌, ◌==◌, List, [], ◌∷◌, Bool, true, false, cond, Option, Some, None, codes, length, take}
+use Rattle.std.specs.Prelude.{ℕ, ◌-◌, ◌==◌, List, [], ◌∷◌, ◌++◌, Bool, true, false, cond, Option, Some, None, codes, length, take}
 use Rattle.std.specs.List.{ends_with}
 use Rattle.capnp_records.specs.Call.{PathStep}
-use Rattle.capnp_words.specs.Paths.{path_at}
+use Rattle.capnp_words.specs.Paths.{path_at, words_of_path}
 use Rattle.capnp_words.specs.Reads.{Read, read_as}
 
 pub record Query : Type 0 where
@@ -26,3 +26,12 @@ query_behind word None = read_as (query_of false) (path_at 0 word)
 
 abbrev pub query_at : List ℕ → Read Query
 query_at word = query_behind word (counted_path word)
+
+-- ---- how a query is written ----
+
+abbrev pub count_mark : (counts : Bool) → List ℕ
+count_mark true = codes ".#"
+count_mark false = []
+
+abbrev pub query_words : Query → List ℕ
+query_words q = words_of_path q.path ++ count_mark q.counts

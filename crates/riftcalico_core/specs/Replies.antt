@@ -1,5 +1,5 @@
 -- What tells more of a reply: of a field that isn't there, the struct that was asked, and names that may have been meant.
-use Rattle.std.specs.Prelude.{ℕ, suc, ◌≡◌, List, [], ◌∷◌, ◌++◌, Option, Some, None, Result, Ok, Err, codes, get_or, map, slice_get}
+use Rattle.std.specs.Prelude.{ℕ, suc, ◌≡◌, Bool, List, [], ◌∷◌, ◌++◌, Option, Some, None, Result, Ok, Err, codes, get_or, map, slice_get}
 use Rattle.capnp_device.specs.declared.error.ErrorKind.{ErrorKind}
 use Rattle.capnp_device.specs.declared.error.ErrorKind.TheVariants.{FieldNotFound}
 use Rattle.capnp_call.specs.declared.calls.Reply.{Reply}
@@ -12,6 +12,7 @@ use Rattle.capnp_schema.specs.Types.{SchemaType, StructType}
 use Rattle.capnp_words.specs.Targets.{type_behind}
 use Rattle.riftcalico_core.specs.Near.{near_note}
 use Rattle.riftcalico_core.specs.Notes.{field_name}
+use Rattle.riftcalico_core.specs.Room.{reply_told}
 
 -- the type of what is asked and the step that it doesn't have
 abbrev pub Unknown : Type 0
@@ -62,8 +63,8 @@ note_of set b None r = []
 note_of set b (Some c) r = reply_note set b c r
 
 -- The lines of all these replies were told, the first of them to the call at this index. Each has its call's number, from 1 on, and its word; a call that no word
--- is given for has an empty one.
-abbrev pub AreNoted : Schemas → (brand : ℕ) → ℕ → (words : List (List ℕ)) → List Call → List Reply → (old new : List ℕ) → Type 0
-AreNoted set b i words calls [] old new = new ≡ old
-AreNoted set b i words calls (r ∷ replies) old new =
-    (mid : List ℕ) × IsReplyTold (suc i) (get_or words i []) (note_of set b (slice_get calls i) r) r old mid × AreNoted set b (suc i) words calls replies mid new
+-- is given for has an empty one. Where the limit is the cause of refusals for want of memory, they are told so.
+abbrev pub AreNoted : Schemas → (brand : ℕ) → (by_limit : Bool) → ℕ → (words : List (List ℕ)) → List Call → List Reply → (old new : List ℕ) → Type 0
+AreNoted set b by_limit i words calls [] old new = new ≡ old
+AreNoted set b by_limit i words calls (r ∷ replies) old new =
+    (mid : List ℕ) × IsReplyTold (suc i) (get_or words i []) (note_of set b (slice_get calls i) r) (reply_told by_limit r) old mid × AreNoted set b by_limit (suc i) words calls replies mid new

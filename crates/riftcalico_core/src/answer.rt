@@ -1,16 +1,20 @@
 //! What is answered to a message's bytes.
-ghost use Rattle.std.specs.Prelude.{◌≡◌, ◌≢◌, ◌⊎◌, IfErr, IfOk, IfSome, MatchOption, None, Some, map};
+ghost use Rattle.std.specs.Prelude.{true, ◌≡◌, ◌≢◌, ◌≤◌, ◌⊎◌, IfErr, IfOk, IfSome, MatchOption, None, Some, map};
 ghost use Rattle.capnp_device.specs.declared.error.ErrorKind.TheVariants.{OutOfMemory, TooLarge};
 ghost use Rattle.capnp_arena.specs.Message.{IsMessage, message_tree};
+ghost use Rattle.capnp_arena.specs.Segment.{segment};
+ghost use Rattle.capnp_arena.specs.Shape.{word_count};
+ghost use Rattle.capnp_call.specs.Messages.{most_words};
 ghost use Rattle.capnp_call.specs.Seen.{call_seen, path_seen};
-ghost use Rattle.capnp_patch.specs.Patches.{IsUnread};
+ghost use Rattle.capnp_patch.specs.Patches.{IsLeftOfBytes, IsLeftOfNew, words_within};
 ghost use Rattle.capnp_patch.specs.Places.{HasFewParts, HasMoreParts};
 ghost use Rattle.capnp_schema.specs.Entries.{lists_seen};
 ghost use Rattle.capnp_schema.specs.StructHandles.{IsStruct, number_of, set_of};
 ghost use Rattle.capnp_set_engine.specs.Convert.{HasNoSet};
-ghost use Rattle.riftcalico_core.specs.Answers.{HasTooMany, IsAllAnswer, IsAnswer, IsCheckAnswer, IsConvertAnswer, IsFieldsAnswer, IsMessageAnswer, IsNewAnswer, IsNoAnswer, IsNoMessageAnswer, IsNotChecked, IsPatchAnswer, IsRunAnswer, IsShownAnswer, IsSoundJob, IsStructsAnswer, IsWritableOutput, answer_blamed};
+ghost use Rattle.riftcalico_core.specs.Answers.{HasTooMany, IsAllAnswer, IsAnswer, IsCheckAnswer, IsConvertAnswer, IsFieldsAnswer, IsMessageAnswer, IsNewAnswer, IsNoAnswer, IsNoMessageAnswer, IsNotChecked, IsPatchAnswer, IsRunAnswer, IsShownAnswer, IsSoundJob, IsStructsAnswer, IsUnpatched, IsWritableOutput, answer_blamed};
 ghost use Rattle.riftcalico_core.specs.Outputs.{IsMessageOutput, IsPackedMessage};
 ghost use Rattle.riftcalico_core.specs.Quiet.{IsQuiet};
+ghost use Rattle.riftcalico_core.specs.Room.{IsBelowFormat, IsPastLimit};
 ghost use Rattle.riftcalico_core.specs.Shown.{IsNotShown, IsTextThere};
 ghost use Rattle.riftcalico_core.specs.declared.fault.Blamed.TheVariants.{Input};
 
@@ -25,6 +29,7 @@ use crate::job::{CallsJob, CheckJob, Job};
 use crate::json::answer_json;
 use crate::place::note_fault;
 use crate::replies::get_noted_lines;
+use crate::room::{is_by_limit, tell_room};
 use capnp_arena::message::Builder;
 use capnp_call::calls::{Call, Step, any_refused};
 use capnp_call::message::{Run, run_new};
@@ -190,6 +195,13 @@ pub(crate) fn get_output(alloc: Global, message: Builder, packed: bool) -> Resul
     }
 }
 
+/// Whether refusals among the replies to calls are for the limit, where one is for want of memory.
+fn are_by_limit(alloc: Global, refused: bool, limit: u64) -> bool
+    ensures below { result ≡ true → IsBelowFormat limit }
+{
+    refused && is_by_limit(alloc, limit)
+}
+
 /// What a run leaves, unless a call was refused and it is not kept all the same; and what is told of the replies.
 fn answer_run(
     alloc: Global,
@@ -205,8 +217,9 @@ fn answer_run(
     ensures memory { IfErr result (λ e. e.kind ≡ OutOfMemory) }
 {
     let Run { message, replies } = run;
-    let mut lines = get_noted_lines(alloc, job.schema, job.words, calls, &replies)?;
     let refused = any_refused(&replies);
+    let by_limit = are_by_limit(alloc, refused, job.limit);
+    let mut lines = get_noted_lines(alloc, job.schema, job.words, calls, by_limit, &replies)?;
     let output = if job.keep_going || !refused {
         put_depth_note(&mut lines, &message)?;
         get_output(alloc, message, job.packed)?
@@ -220,15 +233,52 @@ fn answer_run(
     })
 }
 
+/// A run of calls on a copy of a root within the limit. Refused as `run_bytes_within`, and with `TooLarge` where the limit is
+/// the cause.
+fn run_patch(
+    alloc: Global,
+    job: &CallsJob<'_, '_, '_>,
+    message: &[u8],
+    calls: &[Call<'_>],
+) -> Result<Run>
+    requires { IsStruct job.now.schema }
+    ensures message { IfOk result (λ run. IsMessage run.message) }
+    ensures left { IfOk result (λ run. IsLeftOfBytes job.now.schema message.now calls.now run.replies.items
+        (message_tree run.message)) }
+    ensures within { IfOk result (λ run. word_count (segment run.message) ≤ most_words (words_within job.now.limit)) }
+    ensures refused { IfErr result (λ e. e.kind ≢ OutOfMemory → IsUnpatched job.now.limit message.now e.kind) }
+{
+    match run_bytes_within(alloc, words_within(job.limit), message, job.schema, calls) {
+        Ok(run) => Ok(run),
+        Err(error) => Err(tell_room(alloc, job.limit, error)),
+    }
+}
+
+/// A run of calls on an empty root within the limit. Refused with `OutOfMemory`, and with `TooLarge` where the limit is the
+/// cause.
+fn run_anew(alloc: Global, job: &CallsJob<'_, '_, '_>, calls: &[Call<'_>]) -> Result<Run>
+    requires { IsStruct job.now.schema }
+    ensures message { IfOk result (λ run. IsMessage run.message) }
+    ensures left { IfOk result (λ run. IsLeftOfNew job.now.schema calls.now run.replies.items
+        (message_tree run.message)) }
+    ensures within { IfOk result (λ run. word_count (segment run.message) ≤ most_words (words_within job.now.limit)) }
+    ensures refused { IfErr result (λ e. e.kind ≢ OutOfMemory → IsPastLimit job.now.limit e.kind) }
+{
+    match run_new(alloc, words_within(job.limit), job.schema, calls) {
+        Ok(run) => Ok(run),
+        Err(error) => Err(tell_room(alloc, job.limit, error)),
+    }
+}
+
 /// The message that calls leave of a copy of a root.
 fn answer_patch(alloc: Global, job: &CallsJob<'_, '_, '_>, message: &[u8]) -> Result<Answer>
     requires { IsStruct job.now.schema }
     ensures answer { IfOk result (IsPatchAnswer job.now message.now) }
     ensures writable { IfOk result (λ a. IsWritableOutput a.output) }
-    ensures refused { IfErr result (λ e. e.kind ≢ OutOfMemory → IsUnread message.now e.kind) }
+    ensures refused { IfErr result (λ e. e.kind ≢ OutOfMemory → IsUnpatched job.now.limit message.now e.kind) }
 {
     let calls = make_calls(alloc, &job.calls)?;
-    let run = run_bytes_within(alloc, words_within(job.limit), message, job.schema, &calls)?;
+    let run = run_patch(alloc, job, message, &calls)?;
     answer_run(alloc, run, job, &calls)
 }
 
@@ -237,10 +287,10 @@ fn answer_new(alloc: Global, job: &CallsJob<'_, '_, '_>) -> Result<Answer>
     requires { IsStruct job.now.schema }
     ensures answer { IfOk result (IsNewAnswer job.now) }
     ensures writable { IfOk result (λ a. IsWritableOutput a.output) }
-    ensures memory { IfErr result (λ e. e.kind ≡ OutOfMemory) }
+    ensures refused { IfErr result (λ e. e.kind ≢ OutOfMemory → IsPastLimit job.now.limit e.kind) }
 {
     let calls = make_calls(alloc, &job.calls)?;
-    let run = run_new(alloc, words_within(job.limit), job.schema, &calls)?;
+    let run = run_anew(alloc, job, &calls)?;
     answer_run(alloc, run, job, &calls)
 }
 
@@ -312,9 +362,9 @@ pub fn answer_message(alloc: Global, job: &Job<'_, '_, '_>, message: &[u8]) -> F
 ///
 /// Refused with `OutOfMemory`; of `get` as the first query that has no text within the limit, with the place where it is no
 /// limit, of `json` as `capnp_queries::json::get_json`, with the place of a step, but for what only JSON refuses, which is
-/// told, as what `from-json` refuses; of
+/// told, as what `from-json` refuses, but for a message without room within the limit (`TooLarge`); of
 /// `check` as `capnp_patch::place::find_place_within`, with the place, of `patch` as
-/// `capnp_patch::engine::run_bytes`, of `schemas` as `capnp_set_engine::engine::convert_bytes`; and where the message is
+/// `capnp_patch::engine::run_bytes` and for room, as of `new`, of `schemas` as `capnp_set_engine::engine::convert_bytes`; and where the message is
 /// packed as `capnp_packed::received::read_message`.
 ///
 /// # Conditions

@@ -1,22 +1,29 @@
 //! A JSON text made a message, or why it stands for none.
-ghost use Rattle.std.specs.Prelude.{◌≡◌, ◌++◌, IfErr, IfOk, codes, decimal, string_bytes};
+ghost use Rattle.std.specs.Prelude.{◌≡◌, ◌≢◌, ◌≤◌, ◌++◌, IfErr, IfOk, codes, decimal, string_bytes};
 ghost use Rattle.capnp_device.specs.declared.error.ErrorKind.TheVariants.{OutOfMemory};
 ghost use Rattle.capnp_arena.specs.Message.{IsMessage, message_tree};
+ghost use Rattle.capnp_arena.specs.Segment.{segment};
+ghost use Rattle.capnp_arena.specs.Shape.{word_count};
+ghost use Rattle.capnp_call.specs.Messages.{most_words};
 ghost use Rattle.capnp_from_json.specs.Errors.{kind_name, kind_number};
 ghost use Rattle.capnp_from_json.specs.declared.error.Error.TheVariants.{Refused};
 ghost use Rattle.capnp_json_messages.specs.Messages.{IsRootOf, text_record};
 ghost use Rattle.capnp_json_messages.specs.Walks.{IsRefused};
+ghost use Rattle.capnp_patch.specs.Patches.{words_within};
 ghost use Rattle.capnp_schema.specs.StructHandles.{IsStruct, set_of};
 ghost use Rattle.riftcalico_core.specs.Answers.{IsWritableOutput};
 ghost use Rattle.riftcalico_core.specs.FromJson.{IsFromJsonAnswer, IsMade, IsUnmade, from_json_line};
+ghost use Rattle.riftcalico_core.specs.Room.{IsRoomless};
 ghost use Rattle.riftcalico_core.specs.declared.fault.Blamed.TheVariants.{Input};
 
 use crate::answer::{Answer, Output, answer_quietly, get_output};
-use crate::fault::{Blamed, Faulty, blame, get_fault};
+use crate::fault::{Blamed, Fault, Faulty, blame, get_fault};
 use crate::job::FromJsonJob;
+use crate::room::tell_room;
 use capnp_arena::message::Builder;
 use capnp_from_json::error::{Error as TextError, Refusal};
-use capnp_json_messages::message::read_message;
+use capnp_json_messages::message::read_message_within;
+use capnp_patch::engine::words_within;
 use capnp_wire::error::{Error, ErrorKind, Result};
 use std::alloc::Global;
 
@@ -60,6 +67,7 @@ fn tell_unmade(alloc: Global, job: FromJsonJob<'_>, text: &[u8], refusal: Refusa
 fn give_made(alloc: Global, job: FromJsonJob<'_>, text: &[u8], message: Builder) -> Faulty<Answer>
     requires message { IsMessage message }
     requires root { IsRootOf job.schema job.strict text.now (message_tree message) }
+    requires within { word_count (segment message) ≤ most_words (words_within job.limit) }
     ensures made { IfOk result (IsMade job.entry text.now) }
     ensures writable { IfOk result (λ a. IsWritableOutput a.output) }
     ensures memory { IfErr result (λ f. f.error.kind ≡ OutOfMemory) }
@@ -70,18 +78,28 @@ fn give_made(alloc: Global, job: FromJsonJob<'_>, text: &[u8], message: Builder)
     Ok(answer_quietly(alloc, output))
 }
 
+/// That there is no memory for a message, or no room within the limit of its bytes.
+fn refuse_room(alloc: Global, limit: u64) -> Fault
+    ensures refused { result.error.kind ≢ OutOfMemory → IsRoomless limit result }
+    ensures blamed { result.blamed ≡ Input }
+{
+    let error = tell_room(alloc, limit, Error::from(ErrorKind::OutOfMemory));
+    get_fault(alloc, error, Blamed::Input)
+}
+
 /// The message that a JSON text stands for, or the line that tells what is refused of it, with its place. Refused with
-/// `OutOfMemory` alone.
+/// `OutOfMemory`, and with `TooLarge` where the message has no room within the limit.
 pub(crate) fn answer_from_json(alloc: Global, job: FromJsonJob<'_>, text: &[u8]) -> Faulty<Answer>
     requires { IsStruct job.schema }
     ensures answer { IfOk result (IsFromJsonAnswer job.entry text.now) }
     ensures writable { IfOk result (λ a. IsWritableOutput a.output) }
-    ensures memory { IfErr result (λ f. f.error.kind ≡ OutOfMemory) }
+    ensures refused { IfErr result (λ f. f.error.kind ≢ OutOfMemory → IsRoomless job.entry.limit f) }
     ensures blamed { IfErr result (λ f. f.blamed ≡ Input) }
 {
-    match read_message(alloc, job.schema, text, job.strict) {
+    let words = words_within(job.limit);
+    match read_message_within(alloc, words, job.schema, text, job.strict) {
         Ok(message) => give_made(alloc, job, text, message),
         Err(TextError::Refused(refusal)) => tell_unmade(alloc, job, text, refusal),
-        Err(_) => Err(get_fault(alloc, Error::from(ErrorKind::OutOfMemory), Blamed::Input)),
+        Err(_) => Err(refuse_room(alloc, job.limit)),
     }
 }

@@ -1,5 +1,10 @@
 //! What is asked for by paths of a message, as lines.
-ghost use Rattle.std.specs.Prelude.{◌≡◌, ◌≢◌, ◌⊎◌, ◌++◌, ◌+◌, ◌∷◌, [], ◌≤◌, ◌<◌, Err, IfErr, IfOk, IfSome, MatchOption, decimal, length, map};
+ghost use Rattle.riftcalico_core.specs.Expanded.{AreAsked, most_paths};
+ghost use Rattle.capnp_records.specs.Call.{PathStep};
+ghost use Rattle.capnp_words.specs.Paths.{words_of_path};
+ghost use Rattle.riftcalico_core.specs.Notes.{words_behind_points};
+ghost use Rattle.riftcalico_core.specs.Queries.{count_mark, query_words};
+ghost use Rattle.std.specs.Prelude.{◌≡◌, ◌≢◌, ◌⊎◌, ◌++◌, ◌+◌, ◌∷◌, [], ◌≤◌, ◌<◌, Err, IfErr, IfOk, IfSome, List, MatchOption, true, codes, decimal, length, map};
 ghost use Rattle.std.specs.Option.{option_map};
 ghost use Rattle.capnp_device.specs.declared.error.ErrorKind.TheVariants.{OutOfMemory, TooLarge};
 ghost use Rattle.capnp_call.specs.Seen.{path_seen};
@@ -10,15 +15,17 @@ ghost use Rattle.capnp_patch.specs.Gets.{got_text};
 ghost use Rattle.capnp_queries.specs.Shown.{IsTooLong, IsTooLongAt, raw_bytes};
 ghost use Rattle.capnp_records.specs.Text.{IsText};
 ghost use Rattle.capnp_schema.specs.StructHandles.{IsStruct, number_of, set_of};
-ghost use Rattle.riftcalico_core.specs.Gets.{AreLines, HasLongCount, HasLongText, IsCountText, IsFirstRefused, IsGetAnswer, IsNoList, IsNotGot, IsQueryRefused, IsQueryText, IsUnreached, IsValueText, IsWordOf};
+ghost use Rattle.riftcalico_core.specs.Gets.{AreLines, HasLongCount, HasLongText, IsCountText, IsFirstRefused, IsGetAnswer, IsLineRefused, IsNoList, IsNotGot, IsQueryLine, IsQueryRefused, IsQueryText, IsUnreached, IsValueText, IsWordOf};
 ghost use Rattle.riftcalico_core.specs.QueriesSeen.{asked_seen};
 ghost use Rattle.riftcalico_core.specs.Shown.{IsNotShown, IsTextThere};
 ghost use Rattle.riftcalico_core.specs.Steps.Told.{IsLengthTold};
 ghost use Rattle.riftcalico_core.specs.declared.fault.Blamed.TheVariants.{Input};
 
 use crate::answer::{Answer, Output, answer_quietly};
+use crate::expand::expand_queries;
 use crate::fault::{Blamed, Fault, Faulty, get_fault};
 use crate::job::GetJob;
+use crate::note::get_words;
 use crate::place::{note_fault, tell_path, tell_place};
 use crate::queries::AskedQuery;
 use capnp_call::calls::Step;
@@ -267,6 +274,102 @@ fn get_query_text(
     }
 }
 
+/// The path that words behind points are, as a word.
+fn get_path_word(words: &str) -> &str
+    ensures { (path : List PathStep) → words.now ≡ words_behind_points path → result.now ≡ words_of_path path }
+{
+    match words.strip_prefix('.') {
+        Some(path) => path,
+        None => ".",
+    }
+}
+
+/// What stands behind a path of which the length is asked for.
+fn get_mark(counts: bool) -> &'static str
+    ensures { result.now ≡ count_mark counts }
+{
+    if counts { ".#" } else { "" }
+}
+
+/// A query as a word, and what stands between it and its text. Refused with `OutOfMemory` alone.
+fn get_heading(alloc: Global, query: &AskedQuery<'_>) -> Result<Vec<u8>>
+    ensures heading { IfOk result (λ h. h.items ≡ query_words (asked_seen query.now) ++ codes ": ") }
+    ensures memory { IfErr result (λ e. e.kind ≡ OutOfMemory) }
+{
+    let words = get_words(alloc, &query.steps)?;
+    let path = get_path_word(words.as_str());
+    let mark = get_mark(query.counts);
+    let heading = format!(in alloc; "{path}{mark}: ")?;
+    Ok(heading.into_bytes())
+}
+
+/// Bytes, and others behind them. Refused with `OutOfMemory` alone.
+fn put_behind(bytes: Vec<u8>, more: &[u8]) -> Result<Vec<u8>>
+    ensures put { IfOk result (λ all. all.items ≡ bytes.items ++ more.now) }
+    ensures memory { IfErr result (λ e. e.kind ≡ OutOfMemory) }
+{
+    let mut bytes = bytes;
+    bytes.extend_from_slice(more)?;
+    Ok(bytes)
+}
+
+/// The line of a query with its path, in at most so many bytes.
+fn get_headed_line(
+    alloc: Global,
+    job: &GetJob<'_, '_>,
+    query: &AskedQuery<'_>,
+    limit: u64,
+    message: &[u8],
+) -> Faulty<Vec<u8>>
+    requires stands { IsStruct job.now.schema }
+    requires headed { job.now.with_paths ≡ true }
+    ensures line { IfOk result (λ line. IsQueryLine job.now message.now (asked_seen query.now) line.items) }
+    ensures within { IfOk result (λ line. length line.items ≤ limit) }
+    ensures refused { IfErr result (λ f. f.error.kind ≢ OutOfMemory
+        → IsLineRefused limit job.now message.now (asked_seen query.now) f) }
+    ensures blamed { IfErr result (λ f. f.blamed ≡ Input) }
+{
+    let heading = match get_heading(alloc, query) {
+        Ok(heading) => heading,
+        Err(error) => return Err(get_fault(alloc, error, Blamed::Input)),
+    };
+    let length = heading.len() as u64;
+    if length > limit {
+        let error = Error::from(ErrorKind::TooLarge);
+        return Err(get_fault(alloc, error, Blamed::Input));
+    }
+    let text = match get_query_text(alloc, job, query, limit - length, message) {
+        Ok(text) => text,
+        Err(fault) => return Err(fault),
+    };
+    match put_behind(heading, &text) {
+        Ok(line) => Ok(line),
+        Err(error) => Err(get_fault(alloc, error, Blamed::Input)),
+    }
+}
+
+/// The line of a query, with its path where that is told, in at most so many bytes.
+fn get_query_line(
+    alloc: Global,
+    job: &GetJob<'_, '_>,
+    query: &AskedQuery<'_>,
+    limit: u64,
+    message: &[u8],
+) -> Faulty<Vec<u8>>
+    requires { IsStruct job.now.schema }
+    ensures line { IfOk result (λ line. IsQueryLine job.now message.now (asked_seen query.now) line.items) }
+    ensures within { IfOk result (λ line. length line.items ≤ limit) }
+    ensures refused { IfErr result (λ f. f.error.kind ≢ OutOfMemory
+        → IsLineRefused limit job.now message.now (asked_seen query.now) f) }
+    ensures blamed { IfErr result (λ f. f.blamed ≡ Input) }
+{
+    if job.with_paths {
+        get_headed_line(alloc, job, query, limit, message)
+    } else {
+        get_query_text(alloc, job, query, limit, message)
+    }
+}
+
 /// Lines with one more: where there are none, its own bytes are taken. Refused with `OutOfMemory` alone.
 fn add_line(lines: Vec<u8>, text: Vec<u8>) -> Result<Vec<u8>>
     ensures added { IfOk result (λ more. more.items ≡ lines.items ++ (text.items ++ 10 ∷ [])) }
@@ -283,8 +386,8 @@ fn add_line(lines: Vec<u8>, text: Vec<u8>) -> Result<Vec<u8>>
     Ok(lines)
 }
 
-/// The lines of queries, one after another, whose texts have no more bytes together than the limit. Refused as the first of
-/// them that has no text within what is left of it, with its place.
+/// The lines of queries, one after another, which have no more bytes together than the limit, without their line breaks.
+/// Refused as the first of them that has none within what is left of it, with its place.
 fn get_lines(
     alloc: Global,
     job: &GetJob<'_, '_>,
@@ -301,12 +404,12 @@ fn get_lines(
     let mut lines = Vec::new(alloc);
     let mut left = job.limit;
     for index in 0..queries.len() {
-        let text = match get_query_text(alloc, job, &queries[index], left, message) {
-            Ok(text) => text,
+        let line = match get_query_line(alloc, job, &queries[index], left, message) {
+            Ok(line) => line,
             Err(fault) => return Err(fault),
         };
-        left -= text.len() as u64;
-        match add_line(lines, text) {
+        left -= line.len() as u64;
+        match add_line(lines, line) {
             Ok(more) => lines = more,
             Err(error) => return Err(get_fault(alloc, error, Blamed::Input)),
         }
@@ -314,14 +417,19 @@ fn get_lines(
     Ok(lines)
 }
 
-/// The lines of what is asked for by paths. Refused as the first of them that has none, with its place.
+/// The lines of what is asked for by paths. Refused as the first of them that can't be listed, and then as the first that has
+/// none, with its place.
 pub(crate) fn answer_get(alloc: Global, job: &GetJob<'_, '_>, message: &[u8]) -> Faulty<Answer>
     requires { IsStruct job.now.schema }
     ensures answer { IfOk result (IsGetAnswer job.now message.now) }
     ensures refused { IfErr result (λ f. f.error.kind ≢ OutOfMemory → IsNotGot job.now message.now f) }
     ensures blamed { IfErr result (λ f. f.blamed ≡ Input) }
 {
-    match get_lines(alloc, job, &job.queries, message) {
+    let queries = match expand_queries(alloc, job.schema, &job.queries, job.limit, message) {
+        Ok(queries) => queries,
+        Err(fault) => return Err(fault),
+    };
+    match get_lines(alloc, job, &queries, message) {
         Ok(lines) => Ok(answer_quietly(alloc, Output::Bytes(lines))),
         Err(fault) => Err(fault),
     }

@@ -3,7 +3,7 @@ ghost use Rattle.std.specs.Prelude.{◌≡◌, ◌≢◌, IfErr, IfOk, MatchResu
 ghost use Rattle.riftcalico_core.specs.declared.fault.Blamed.TheVariants.{Name};
 ghost use Rattle.capnp_device.specs.declared.error.ErrorKind.TheVariants.{OutOfMemory};
 ghost use Rattle.capnp_schema.specs.Entries.{lists_seen};
-ghost use Rattle.riftcalico_core.specs.Jobs.{IsCallsJob, IsCheckJob, IsFromJsonJob, IsGetJob, IsJob, IsJsonJob, IsLineOfPlan, IsNamedStruct, IsNotNamed, IsRootUnnamed, IsValueUnread, is_packed, wants_input};
+ghost use Rattle.riftcalico_core.specs.Jobs.{IsCallsJob, IsCheckJob, IsFromJsonJob, IsGetJob, IsJob, IsJsonJob, IsLineOfPlan, IsNamedStruct, IsNotNamed, IsRootUnnamed, IsValueUnread, is_packed, reads_texts, wants_input};
 ghost use Rattle.riftcalico_core.specs.PlansSeen.{calls_plan_seen, check_plan_seen, from_json_plan_seen, get_plan_seen, json_plan_seen, plan_seen};
 
 use crate::calls::{ReadCall, read_all_calls, steps_of};
@@ -21,13 +21,14 @@ use capnp_wire::error::Result;
 use riftcalico_words::request::Verb;
 use std::alloc::Global;
 
-/// The texts of what is asked for by paths, whether texts and data are told as their bytes, whether the message comes packed,
-/// and the most bytes that the texts may have together.
+/// The texts of what is asked for by paths, whether texts and data are told as their bytes, whether lines begin with their
+/// paths, whether the message comes packed, and the most bytes that the texts may have together.
 #[derive(Drop)]
 pub struct GetJob<'s, 'c> {
     pub schema: StructSchema<'s>,
     pub queries: Vec<AskedQuery<'c>>,
     pub raw: bool,
+    pub with_paths: bool,
     pub indented: bool,
     pub packed: bool,
     pub limit: u64,
@@ -43,12 +44,14 @@ pub struct JsonJob<'s, 'c> {
     pub limit: u64,
 }
 
-/// A JSON text that is made a message, whether names that a struct lacks are refused, and whether the message is packed.
+/// A JSON text that is made a message, whether names that a struct lacks are refused, whether the message is packed, and the
+/// most bytes that it may have.
 #[derive(Clone, Copy)]
 pub struct FromJsonJob<'s> {
     pub schema: StructSchema<'s>,
     pub strict: bool,
     pub packed: bool,
+    pub limit: u64,
 }
 
 /// Whether what stands at a path can be shown, or where it can't, first or everywhere; whether the message comes packed; and
@@ -136,6 +139,16 @@ impl Job<'_, '_, '_> {
         }
     }
 
+    /// Whether it is a text that is read, of which several stand each on a line.
+    pub fn reads_texts(&self) -> bool
+        ensures { result ≡ reads_texts self.now }
+    {
+        match self {
+            Job::FromJson(_) => true,
+            _ => false,
+        }
+    }
+
     /// Whether a message is read.
     pub fn wants_input(&self) -> bool
         ensures { result ≡ wants_input self.now }
@@ -195,6 +208,7 @@ fn find_get_job<'s, 'c>(
         schema,
         queries,
         raw: plan.raw,
+        with_paths: plan.with_paths,
         indented: plan.indented,
         packed: plan.packed,
         limit: plan.limit,
@@ -217,6 +231,7 @@ fn find_from_json_job<'s>(
         schema,
         strict: plan.strict,
         packed: plan.packed,
+        limit: plan.limit,
     })
 }
 

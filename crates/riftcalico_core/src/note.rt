@@ -28,7 +28,7 @@ fn put_step(words: &mut String, step: Step<'_>) -> Result<()>
 }
 
 /// Steps as words, each behind a point.
-fn get_words(alloc: Global, steps: &[Step<'_>]) -> Result<String>
+pub(crate) fn get_words(alloc: Global, steps: &[Step<'_>]) -> Result<String>
     ensures words { IfOk result (λ words. string_bytes words ≡ words_behind_points (path_seen steps.now)) }
     ensures memory { IfErr result (λ e. e.kind ≡ OutOfMemory) }
 {

@@ -23,12 +23,14 @@ use std::str;
 /// A value, or the line that tells what can't be read.
 pub type Told<T> = std::result::Result<T, String>;
 
-/// What is asked for by paths of a root, and whether texts and data are told as their bytes.
+/// What is asked for by paths of a root, whether texts and data are told as their bytes, and whether lines begin with their
+/// paths.
 #[derive(Drop)]
 pub struct GetPlan<'a> {
     pub root: NamedRoot<'a>,
     pub queries: Vec<QueryWord>,
     pub raw: bool,
+    pub with_paths: bool,
     pub indented: bool,
     pub packed: bool,
     pub limit: u64,
@@ -50,6 +52,7 @@ pub struct FromJsonPlan<'a> {
     pub root: NamedRoot<'a>,
     pub strict: bool,
     pub packed: bool,
+    pub limit: u64,
 }
 
 /// The value at a path of a root, whether it can be shown, or where it can't, first or everywhere.
@@ -228,6 +231,7 @@ fn plan_get<'a>(alloc: Global, request: &GetRequest<'a>) -> Result<Told<GetPlan<
             root: request.root,
             queries,
             raw: request.raw,
+            with_paths: request.with_paths,
             indented: request.indented,
             packed: request.packed,
             limit: request.limit,
@@ -295,6 +299,7 @@ pub fn read_plan<'a>(alloc: Global, task: &Task<'a>, file: &'a [u8]) -> Result<T
             root: request.root,
             strict: request.strict,
             packed: request.packed,
+            limit: request.limit,
         }))),
         Task::Check(request) => match plan_check(alloc, *request)? {
             Ok(plan) => Ok(Ok(Plan::Check(plan))),

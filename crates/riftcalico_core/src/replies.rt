@@ -1,6 +1,6 @@
 //! What is told of replies to calls: of a field that isn't there also the struct that was asked, and names that may have been
 //! meant.
-ghost use Rattle.std.specs.Prelude.{[], ◌≡◌, IfErr, IfOk, None, Some, get_or, map, slice_get, string_bytes};
+ghost use Rattle.std.specs.Prelude.{[], ◌≡◌, IfErr, IfOk, OnOk, None, Some, get_or, map, slice_get, string_bytes};
 ghost use Rattle.std.specs.Option.{option_map};
 ghost use Rattle.capnp_call.specs.Seen.{call_seen, path_seen, step_seen};
 ghost use Rattle.capnp_device.specs.declared.error.ErrorKind.TheVariants.{OutOfMemory};
@@ -10,6 +10,8 @@ ghost use Rattle.capnp_schema.specs.StructHandles.{IsStruct, number_of, set_of};
 ghost use Rattle.capnp_schema.specs.Types.{seen_type, seen_variant};
 ghost use Rattle.capnp_words.specs.Targets.{type_behind};
 ghost use Rattle.riftcalico_core.specs.Replies.{AreNoted, asked_note, call_along, kind_note, note_of, types_along};
+ghost use Rattle.riftcalico_core.specs.Room.{reply_told};
+ghost use Rattle.capnp_patch.specs.Lines.{IsReplyTold};
 ghost use Rattle.riftcalico_core.specs.Steps.RepliesSeen.{along_seen};
 
 use crate::note::put_within;
@@ -183,18 +185,42 @@ fn call_at<'b, 'a>(calls: &'b [Call<'a>], index: usize) -> Option<&'b Call<'a>>
     calls.get(index)
 }
 
+/// Appends the line of a reply to the call of a number, with its word and what tells more; a refusal for want of memory is told
+/// as one for the limit, where that is the cause. Refused with `OutOfMemory` alone.
+fn put_reply(
+    lines: &mut String,
+    number: u64,
+    word: &str,
+    note: &str,
+    by_limit: bool,
+    reply: &Reply,
+) -> Result<()>
+    ensures put { OnOk result (IsReplyTold number word.now note.now (reply_told by_limit reply.now)
+        (string_bytes lines.old) (string_bytes lines.new)) }
+    ensures memory { IfErr result (λ e. e.kind ≡ OutOfMemory) }
+{
+    match (by_limit, reply) {
+        (true, Reply::Refused(ErrorKind::OutOfMemory)) => {
+            let refused = Reply::Refused(ErrorKind::TooLarge);
+            put_line(lines, number, word, note, &refused)
+        }
+        _ => put_line(lines, number, word, note, reply),
+    }
+}
+
 /// A line for each reply that answers or refuses, in order: the number of its call, from 1 on, the call's word, and the answer
-/// or the refusal's number, name and note. A call that no word is given for is told with an empty one. Refused with
-/// `OutOfMemory` alone.
+/// or the refusal's number, name and note. A call that no word is given for is told with an empty one. Where the limit is the
+/// cause of refusals for want of memory, they are told so. Refused with `OutOfMemory` alone.
 pub(crate) fn get_noted_lines(
     alloc: Global,
     schema: StructSchema<'_>,
     words: &[&str],
     calls: &[Call<'_>],
+    by_limit: bool,
     replies: &[Reply],
 ) -> Result<String>
     requires { IsStruct schema }
-    ensures lines { IfOk result (λ lines. AreNoted (set_of schema.entry) (number_of schema.entry) 0
+    ensures lines { IfOk result (λ lines. AreNoted (set_of schema.entry) (number_of schema.entry) by_limit 0
         (map (λ w. w.now) words.now) (map call_seen calls.now) replies.now [] (string_bytes lines)) }
     ensures memory { IfErr result (λ e. e.kind ≡ OutOfMemory) }
 {
@@ -202,11 +228,12 @@ pub(crate) fn get_noted_lines(
     for index in 0..replies.len() {
         let reply = &replies[index];
         let note = get_reply_note(alloc, schema, call_at(calls, index), reply)?;
-        put_line(
+        put_reply(
             &mut lines,
             index as u64 + 1,
             word_at(words, index),
             note.as_str(),
+            by_limit,
             reply,
         )?;
     }

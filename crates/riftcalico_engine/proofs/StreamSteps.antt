@@ -8,7 +8,7 @@ use Rattle.capnp_device.specs.declared.error.Error.{Error}
 use Rattle.capnp_device.specs.declared.error.ErrorKind.{ErrorKind}
 use Rattle.capnp_device.specs.declared.error.ErrorKind.TheVariants.{OutOfMemory, ReadFailed, WriteFailed}
 use Rattle.capnp_streams.specs.Lengths.{message_length}
-use Rattle.capnp_streams.specs.Received.{IsNotReceived, IsReceived}
+use Rattle.riftcalico_core.specs.Jobs.{reads_texts}
 use Rattle.riftcalico_core.specs.declared.fault.Blamed.TheVariants.{Input}
 use Rattle.riftcalico_core.specs.declared.job.Job.{Job}
 use Rattle.capnp_show_engine.specs.Command.{IsTold}
@@ -18,7 +18,8 @@ use Rattle.riftcalico_engine.specs.Steps.Passing.{IsRefusedWith}
 use Rattle.riftcalico_engine.specs.Steps.Told.{IsFaultLine, told_bytes}
 use Rattle.riftcalico_engine.specs.declared.ended.Ended.TheVariants as ended
 use Rattle.riftcalico_engine.specs.declared.told.Told.{Told}
-use Rattle.riftcalico_engine.specs.Streams.{IsGoneOn, IsMessageUnread, IsSoFar, IsStopped, IsStreamEnd, joined, none_passed, one_more}
+use Rattle.riftcalico_engine.specs.Streams.{AreRead, IsGoneOn, IsMessageUnread, IsNextRead, IsNextRefused, IsSoFar, IsStopped, IsStreamEnd, joined, none_passed, one_more}
+use Rattle.riftcalico_engine.specs.Texts.{no_texts, one_text}
 use Rattle.riftcalico_engine.specs.declared.ended.Refusal.{Refusal}
 use Rattle.riftcalico_words.specs.Tasks.{Task}
 
@@ -35,6 +36,21 @@ consumed_both (Some a) (Some b) (Some c) xs ys h k = h ∙ ap (λ rest. xs ++ re
 pub consumed_none : (a : Option (List ℕ)) → Consumes a a []
 consumed_none None = tt {0}
 consumed_none (Some a) = refl
+
+-- none was read, and one more
+none_read : (texts : Bool) (a : Option (List ℕ)) → AreRead texts a a []
+none_read false a = record {
+  consumed = consumed_none a;
+  whole = λ i d inside. absurd (omega (arith, inside));
+}
+none_read true a = no_texts a
+
+next_read : (texts : Bool) (a b c : Option (List ℕ)) (ms : List (List ℕ)) (m : List ℕ) → AreRead texts a b ms → IsNextRead texts b c m → AreRead texts a c (ms ++ m ∷ [])
+next_read false a b c ms m are next = record {
+  consumed = subst (λ (x : List ℕ). Consumes a c x) (sym (joined_more ms m)) (consumed_both a b c (joined ms) m are.consumed next.consumed);
+  whole = All-push (λ (x : List ℕ). message_length x ≡ Ok (length x)) ms m are.whole next.whole;
+}
+next_read true a b c ms m are next = one_text a b c ms m are next
 
 pub by_message : {A B : Type 0} (kind : ErrorKind) → (kind ≢ ReadFailed → kind ≢ OutOfMemory → A) → (kind ≡ ReadFailed → B) → ((kind ≡ ReadFailed) × B) ⊎ ((kind ≡ OutOfMemory) ⊎ A)
 by_message ReadFailed cut failed = inl (refl, failed refl)
@@ -63,13 +79,12 @@ module _ {S W F : Type 0} (left : S → Option (List ℕ)) (reads : S → ℕ) (
   none_so_far t j going s w f = record {
     messages = [];
     count = refl;
-    consumed = consumed_none (left s);
-    whole = λ i d inside. absurd (omega (arith, inside));
+    are = none_read (reads_texts j) (left s);
     passed = none_passed w f;
   }
 
   pub next_so_far : (t : Task) (j : Job) (going : Bool) (number next : ℕ) (s s' s'' : S) (w w' w'' : W) (f f' mid f'' : F) (some one : Bool) (m : List ℕ) (r : Ran) → next ≡ suc number →
-      IsSoFar left reads written writes told tells t j going number s s' w w' f f' some → IsReceived (left s') (left s'') m →
+      IsSoFar left reads written writes told tells t j going number s s' w w' f f' some → IsNextRead (reads_texts j) (left s') (left s'') m →
       IsMessageAnsweredTo written writes told tells j (Some next) m w' w'' f' mid r → IsGoneOn told tells t going r mid f'' one →
       IsSoFar left reads written writes told tells t j going next s s'' w w'' f f'' (some || one)
   next_so_far t j going number next s s' s'' w w' w'' f f' mid f'' some one m r e before received answered on =
@@ -79,8 +94,7 @@ module _ {S W F : Type 0} (left : S → Option (List ℕ)) (reads : S → ℕ) (
       record {
         messages = before.messages ++ m ∷ [];
         count = omega (arith, l, e, c);
-        consumed = subst (λ (x : List ℕ). Consumes (left s) (left s'') x) (sym (joined_more before.messages m)) (consumed_both (left s) (left s') (left s'') (joined before.messages) m before.consumed received.consumed);
-        whole = All-push (λ (x : List ℕ). message_length x ≡ Ok (length x)) before.messages m before.whole received.whole;
+        are = next_read (reads_texts j) (left s) (left s') (left s'') before.messages m before.are received;
         passed = one_more before.messages m w w' w'' f f' f'' some one before.passed (record {
           by = r;
           mid = mid;
@@ -90,7 +104,7 @@ module _ {S W F : Type 0} (left : S → Option (List ℕ)) (reads : S → ℕ) (
       }
 
   pub stop_end : (j : Job) (going : Bool) (number next : ℕ) (refused : Bool) (s s' : S) (w w' : W) (f mid f' : F) (bytes given : List ℕ) (r stopped : Ran) → next ≡ suc number →
-      IsReceived (left s) (left s') bytes → given ≡ bytes → IsMessageAnsweredTo written writes told tells j (Some next) given w w' f mid r → stopped ≡ r → IsStopped going r → f' ≡ mid →
+      IsNextRead (reads_texts j) (left s) (left s') bytes → given ≡ bytes → IsMessageAnsweredTo written writes told tells j (Some next) given w w' f mid r → stopped ≡ r → IsStopped going r → f' ≡ mid →
       IsStreamEnd left reads written writes told tells j going (suc number) refused s s' w w' f f' stopped
   stop_end j going number next refused s s' w w' f mid f' bytes given r stopped here received same answered is stop rest =
       let a = subst (λ (n : ℕ). IsMessageAnsweredTo written writes told tells j (Some n) given w w' f mid r) here answered in
@@ -100,11 +114,11 @@ module _ {S W F : Type 0} (left : S → Option (List ℕ)) (reads : S → ℕ) (
       inr (inr (inl (bytes, received, e, subst (λ (x : Ran). IsStopped going x) (sym is) stop)))
 
   pub unread_end : (j : Job) (going : Bool) (number next : ℕ) (refused : Bool) (s s' : S) (w : W) (f : F) (x : Refusal) (error : Error) → next ≡ suc number → x.message ≡ Some next →
-      x.fault.blamed ≡ Input → x.fault.error ≡ error → (error.kind ≢ ReadFailed → error.kind ≢ OutOfMemory → IsNotReceived (left s) (left s') error.kind) →
+      x.fault.blamed ≡ Input → x.fault.error ≡ error → (error.kind ≢ ReadFailed → error.kind ≢ OutOfMemory → IsNextRefused (reads_texts j) (left s) (left s') error.kind) →
       (error.kind ≡ ReadFailed → HasFailed (reads s) (reads s')) →
       IsStreamEnd left reads written writes told tells j going (suc number) refused s s' w w f f (Err x)
   unread_end j going number next refused s s' w f x error here message blamed is cut failed =
-      inr (inl ((message ∙ ap Some here, (blamed, subst (λ (e : Error). IsMessageUnread (left s) (left s') (reads s) (reads s') e.kind) (sym is) (by_message error.kind cut failed))), refl, refl))
+      inr (inl ((message ∙ ap Some here, (blamed, subst (λ (e : Error). IsMessageUnread (reads_texts j) (left s) (left s') (reads s) (reads s') e.kind) (sym is) (by_message error.kind cut failed))), refl, refl))
 
   -- where ways join
   pub at_next : (t : Task) (j : Job) (going : Bool) (number : ℕ) (s s' : S) (w w' : W) (f : F) (f' there : F) (refused some : Bool) → f' ≡ there → refused ≡ some →

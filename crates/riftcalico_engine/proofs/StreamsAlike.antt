@@ -33,8 +33,7 @@ module _ {S W F : Type 0} (left : S → Option (List ℕ)) (reads : S → ℕ) (
           before = record {
             messages = run.before.messages;
             count = run.before.count;
-            consumed = run.before.consumed;
-            whole = run.before.whole;
+            are = run.before.are;
             passed = run.before.passed;
           };
           end = end_seen j going _ run.refused run.at s' run.sink w' run.errors f' r run.end;

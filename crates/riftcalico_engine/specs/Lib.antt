@@ -5,3 +5,4 @@ pub mod Programs
 pub mod Runs
 pub mod Steps
 pub mod Streams
+pub mod Texts

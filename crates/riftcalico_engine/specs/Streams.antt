@@ -8,9 +8,11 @@ use Rattle.std.specs.Option.{option_map}
 use Rattle.capnp_packed.specs.Unpacking.{unpacked_bytes}
 use Rattle.capnp_streams.specs.Lengths.{message_length}
 use Rattle.capnp_streams.specs.Received.{IsNotReceived, IsOver, IsReceived}
+use Rattle.riftcalico_core.specs.Jobs.{reads_texts}
 use Rattle.riftcalico_core.specs.declared.fault.Blamed.TheVariants as blamed
 use Rattle.riftcalico_core.specs.declared.job.Job.{Job}
 use Rattle.riftcalico_engine.specs.Outputs.{IsAnswered, IsMessageAnsweredTo, IsFault, IsFaultOf, IsFaultTold, Ran}
+use Rattle.riftcalico_engine.specs.Texts.{AreTextsOver, AreTextsRead, HasEndlessBlanks, IsTextReceived}
 use Rattle.riftcalico_engine.specs.declared.ended.Ended.TheVariants as ended
 use Rattle.riftcalico_words.specs.Tasks.{Task}
 
@@ -48,25 +50,49 @@ abbrev pub joined : List (List ℕ) → List ℕ
 joined [] = []
 joined (m ∷ ms) = m ++ joined ms
 
--- the next message can't be read
-abbrev pub IsMessageUnread : (left left' : Option (List ℕ)) → (reads reads' : ℕ) → ErrorKind → Type 0
-IsMessageUnread left left' reads reads' kind = ((kind ≡ ReadFailed) × HasFailed reads reads') ⊎ ((kind ≡ OutOfMemory) ⊎ IsNotReceived left left' kind)
+-- these messages, each of them whole, were read one after another
+pub record AreMessagesRead (left left' : Option (List ℕ)) (messages : List (List ℕ)) : Type 0 where
+  pub consumed : Consumes left left' (joined messages)
+  pub whole : All (λ (m : List ℕ). message_length m ≡ Ok (length m)) messages
+
+-- messages were, or texts, each a line
+abbrev pub AreRead : (texts : Bool) → (left left' : Option (List ℕ)) → List (List ℕ) → Type 0
+AreRead false left left' ms = AreMessagesRead left left' ms
+AreRead true left left' ms = AreTextsRead left left' ms
+
+-- the next one was
+abbrev pub IsNextRead : (texts : Bool) → (left left' : Option (List ℕ)) → List ℕ → Type 0
+IsNextRead false left left' bytes = IsReceived left left' bytes
+IsNextRead true left left' bytes = IsTextReceived left left' bytes
+
+-- there is none
+abbrev pub IsNoneLeft : (texts : Bool) → (left left' : Option (List ℕ)) → Type 0
+IsNoneLeft false left left' = IsOver left left'
+IsNoneLeft true left left' = AreTextsOver left left'
+
+-- what is left is none
+abbrev pub IsNextRefused : (texts : Bool) → (left left' : Option (List ℕ)) → ErrorKind → Type 0
+IsNextRefused false left left' kind = IsNotReceived left left' kind
+IsNextRefused true left left' kind = HasEndlessBlanks left left' kind
+
+-- the next one can't be read
+abbrev pub IsMessageUnread : (texts : Bool) → (left left' : Option (List ℕ)) → (reads reads' : ℕ) → ErrorKind → Type 0
+IsMessageUnread texts left left' reads reads' kind = ((kind ≡ ReadFailed) × HasFailed reads reads') ⊎ ((kind ≡ OutOfMemory) ⊎ IsNextRefused texts left left' kind)
 
 module _ {S W F : Type 0} (left : S → Option (List ℕ)) (reads : S → ℕ) (written : W → Option (List ℕ)) (writes : W → ℕ) (told : F → Option (List ℕ)) (tells : F → ℕ) where
-  -- so many messages, each of them whole, were read one after another, and answered to
+  -- so many messages or texts were read one after another, and answered to
   pub record IsSoFar (t : Task) (j : Job) (going : Bool) (number : ℕ) (s s' : S) (w w' : W) (f f' : F) (refused : Bool) : Type 0 where
     pub messages : List (List ℕ)
     pub count : length messages ≡ number
-    pub consumed : Consumes (left s) (left s') (joined messages)
-    pub whole : All (λ (m : List ℕ). message_length m ≡ Ok (length m)) messages
+    pub are : AreRead (reads_texts j) (left s) (left s') messages
     pub passed : ArePassed written writes told tells t j going messages w w' f f' refused
 
   -- none is left; or the next one can't be read; or it was answered to and that ended it; or there is no number for it
   abbrev pub IsStreamEnd : Job → (going : Bool) → (number : ℕ) → (refused : Bool) → (s s' : S) → (w w' : W) → (f f' : F) → Ran → Type 0
   IsStreamEnd j going number refused s s' w w' f f' r =
-      (IsOver (left s) (left s') × IsAnswered r refused × (w' ≡ w) × (f' ≡ f))
-      ⊎ ((IsFaultOf (Some number) r (λ x. (x.blamed ≡ blamed.Input) × IsMessageUnread (left s) (left s') (reads s) (reads s') x.error.kind) × (w' ≡ w) × (f' ≡ f))
-      ⊎ (((bytes : List ℕ) × IsReceived (left s) (left s') bytes × IsMessageAnsweredTo written writes told tells j (Some number) bytes w w' f f' r × IsStopped going r)
+      (IsNoneLeft (reads_texts j) (left s) (left s') × IsAnswered r refused × (w' ≡ w) × (f' ≡ f))
+      ⊎ ((IsFaultOf (Some number) r (λ x. (x.blamed ≡ blamed.Input) × IsMessageUnread (reads_texts j) (left s) (left s') (reads s) (reads s') x.error.kind) × (w' ≡ w) × (f' ≡ f))
+      ⊎ (((bytes : List ℕ) × IsNextRead (reads_texts j) (left s) (left s') bytes × IsMessageAnsweredTo written writes told tells j (Some number) bytes w w' f f' r × IsStopped going r)
       ⊎ ((number ≡ 2 ^ 64) × IsFault r (λ x. (x.blamed ≡ blamed.Input) × (x.error.kind ≡ TooLarge)) × (s' ≡ s) × (w' ≡ w) × (f' ≡ f))))
 
   pub record IsStreamRun (t : Task) (j : Job) (going : Bool) (s s' : S) (w w' : W) (f f' : F) (r : Ran) : Type 0 where

@@ -1,17 +1,21 @@
 //! Messages that follow one another, each of which is answered to.
-ghost use Rattle.std.specs.Prelude.{◌≡◌, ◌||◌};
+ghost use Rattle.std.specs.Prelude.{◌≡◌, ◌≢◌, ◌||◌, IfErr, IfOk, MatchOption};
+ghost use Rattle.capnp_device.specs.Device.{HasFailed};
+ghost use Rattle.capnp_device.specs.declared.error.ErrorKind.TheVariants.{OutOfMemory, ReadFailed};
 ghost use Rattle.riftcalico_core.specs.Answers.{IsSoundJob};
+ghost use Rattle.riftcalico_core.specs.Jobs.{reads_texts};
 ghost use Rattle.riftcalico_engine.specs.Steps.Passing.{IsNext};
-ghost use Rattle.riftcalico_engine.specs.Streams.{IsStreamRun};
+ghost use Rattle.riftcalico_engine.specs.Streams.{IsNextRead, IsNextRefused, IsNoneLeft, IsStreamRun};
 ghost use Rattle.riftcalico_words.specs.RequestSeen.{task_seen};
 
 use crate::answering::put_answer;
 use crate::ended::{Ended, Ran, refuse};
+use crate::texts::try_read_text;
 use crate::told::{Told, get_told};
 use capnp_show_engine::command::{report, tell};
 use capnp_streams::receive::try_read_message;
 use capnp_wire::device::{DeviceFault, Sink, Source};
-use capnp_wire::error::{Error, ErrorKind};
+use capnp_wire::error::{Error, ErrorKind, Result};
 use riftcalico_core::answer::answer_message;
 use riftcalico_core::fault::Blamed;
 use riftcalico_core::job::Job;
@@ -58,7 +62,28 @@ fn either(a: bool, b: bool) -> bool
     a || b
 }
 
-/// Answers to the messages of a source, one after another, which are not packed. Each is read when the answer to the one
+/// The next message of a source, or text, as a job reads them; none where none is left. Refused as `try_read_message`, or
+/// `try_read_text`.
+fn try_read_next<R: Source>(
+    alloc: Global,
+    job: &Job<'_, '_, '_>,
+    source: &mut R,
+) -> Result<Option<Vec<u8>>>
+    ensures message { IfOk result (λ r. MatchOption r (IsNoneLeft (reads_texts job.now) (R.left source.old) (R.left source.new))
+        (λ m. IsNextRead (reads_texts job.now) (R.left source.old) (R.left source.new) m.items)) }
+    ensures refused { IfErr result (λ e. e.kind ≢ ReadFailed → e.kind ≢ OutOfMemory
+        → IsNextRefused (reads_texts job.now) (R.left source.old) (R.left source.new) e.kind) }
+    ensures failed { IfErr result (λ e. e.kind ≡ ReadFailed →
+        HasFailed (R.failures source.old) (R.failures source.new)) }
+{
+    if job.reads_texts() {
+        try_read_text(alloc, source)
+    } else {
+        try_read_message(alloc, source)
+    }
+}
+
+/// Answers to the messages of a source, one after another, which are not packed, or to its texts. Each is read when the answer to the one
 /// before was written and told, so memory is taken for one alone. Where one can't be read it ends, since it isn't known
 /// where the next begins; where one is refused otherwise, or a call on it, it ends too unless it is to go on.
 pub(crate) fn run_each<R: Source, W: Sink, F: Sink>(
@@ -81,7 +106,7 @@ pub(crate) fn run_each<R: Source, W: Sink, F: Sink>(
             let error = Error::from(ErrorKind::TooLarge);
             return Err(refuse(alloc, None, error, Blamed::Input));
         };
-        let message = match try_read_message(alloc, source) {
+        let message = match try_read_next(alloc, job, source) {
             Ok(Some(message)) => message,
             Ok(None) => return Ok(Ended::Answered(refused)),
             Err(error) => return Err(refuse(alloc, Some(next), error, Blamed::Input)),

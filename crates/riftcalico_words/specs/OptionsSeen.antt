@@ -13,6 +13,7 @@ options_seen o = record {
   in_place = option_map (λ w. w.now) o.in_place;
   indent = o.indent;
   raw = o.raw;
+  paths = o.paths;
   keep_going = o.keep_going;
   packed = o.packed;
   each = o.each;

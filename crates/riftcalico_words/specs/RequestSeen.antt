@@ -22,13 +22,13 @@ abbrev pub root_named : NamedRoot → Root
 root_named r = record { file = option_map (λ f. f.now) r.file; name = r.name.now }
 
 abbrev pub get_task_of : GetRequest → GetTask
-get_task_of r = record { root = root_named r.root; paths = map (λ w. w.now) r.paths.items; raw = r.raw; indented = r.indented; packed = r.packed; messages = r.messages; limit = r.limit }
+get_task_of r = record { root = root_named r.root; paths = map (λ w. w.now) r.paths.items; raw = r.raw; with_paths = r.with_paths; indented = r.indented; packed = r.packed; messages = r.messages; limit = r.limit }
 
 abbrev pub json_task_of : JsonRequest → JsonTask
 json_task_of r = record { root = root_named r.root; path = r.path.now; indented = r.indented; packed = r.packed; messages = r.messages; limit = r.limit }
 
 abbrev pub from_json_task_of : FromJsonRequest → FromJsonTask
-from_json_task_of r = record { root = root_named r.root; strict = r.strict; packed = r.packed }
+from_json_task_of r = record { root = root_named r.root; strict = r.strict; packed = r.packed; messages = r.messages; limit = r.limit }
 
 abbrev pub check_task_of : CheckRequest → CheckTask
 check_task_of r = record { root = root_named r.root; path = r.path.now; all = r.all; packed = r.packed; messages = r.messages; limit = r.limit }

@@ -76,6 +76,10 @@ takes_set verb.Structs = true
 takes_set verb.FromJson = true
 takes_set v = is_on_messages v
 
+abbrev pub takes_limit : Verb → Bool
+takes_limit verb.FromJson = true
+takes_limit v = is_on_messages v
+
 abbrev pub takes_place : Verb → Bool
 takes_place verb.Patch = true
 takes_place v = false
@@ -83,7 +87,7 @@ takes_place v = false
 abbrev pub takes_value : Verb → ValueOption → Bool
 takes_value v value.Set = takes_set v
 takes_value v value.Calls = is_with_calls v
-takes_value v value.Limit = is_on_messages v
+takes_value v value.Limit = takes_limit v
 takes_value v value.InPlace = takes_place v
 
 abbrev pub takes_indent : Verb → Bool
@@ -96,6 +100,7 @@ takes_packed v = is_on_messages v
 
 abbrev pub takes_each : Verb → Bool
 takes_each verb.Patch = true
+takes_each verb.FromJson = true
 takes_each v = is_reading v
 
 abbrev pub takes_raw : Verb → Bool
@@ -114,7 +119,8 @@ takes_all v = false
 abbrev pub takes_flag : Verb → Flag → Bool
 takes_flag v flag.Indent = takes_indent v
 takes_flag v flag.Raw = takes_raw v
-takes_flag v flag.KeepGoing = is_reading v || is_with_calls v
+takes_flag v flag.Paths = takes_raw v
+takes_flag v flag.KeepGoing = takes_each v || is_with_calls v
 takes_flag v flag.Packed = takes_packed v
 takes_flag v flag.Each = takes_each v
 takes_flag v flag.Strict = takes_strict v
@@ -139,6 +145,7 @@ abbrev pub flags_fit : Verb → WordOptions → Bool
 flags_fit v o =
     is_allowed o.indent (takes_flag v flag.Indent)
     && is_allowed o.raw (takes_flag v flag.Raw)
+    && is_allowed o.paths (takes_flag v flag.Paths)
     && is_allowed o.keep_going (takes_flag v flag.KeepGoing)
     && is_allowed o.packed (takes_flag v flag.Packed)
     && is_allowed o.each (takes_flag v flag.Each)
@@ -148,9 +155,9 @@ flags_fit v o =
     && is_allowed o.breaking_only (takes_flag v flag.BreakingOnly)
     && is_allowed o.both (takes_flag v flag.Both)
 
--- a verb that only reads goes on behind a message that is refused where there are several
+-- a verb that makes no calls goes on behind a message that is refused where there are several
 abbrev pub going_fits : Verb → WordOptions → Bool
-going_fits v o = not (is_reading v) || not o.keep_going || o.each
+going_fits v o = is_with_calls v || not o.keep_going || o.each
 
 -- no file is replaced where a refused call or message may be passed over, which its messages would then lack
 abbrev pub place_fits : WordOptions → Bool
@@ -192,7 +199,7 @@ calls_asked o limit = named_calls o limit o.others
 -- what is asked of a message that is shown, by the other words: values at paths, one or more
 abbrev pub shown_of : WordOptions → (limit : ℕ) → (name : List ℕ) → (paths : List (List ℕ)) → Task
 shown_of o limit name paths =
-    get_task (record { root = record { file = o.set; name = name }; paths = paths; raw = o.raw; indented = o.indent; packed = o.packed; messages = messages_of o; limit = limit })
+    get_task (record { root = record { file = o.set; name = name }; paths = paths; raw = o.raw; with_paths = o.paths; indented = o.indent; packed = o.packed; messages = messages_of o; limit = limit })
 
 abbrev pub show_asked : WordOptions → (limit : ℕ) → List (List ℕ) → Option Task
 show_asked o limit (name ∷ []) = Some (shown_of o limit name (codes "." ∷ []))
@@ -210,12 +217,12 @@ json_asked o limit (name ∷ []) = Some (json_of o limit name (codes "."))
 json_asked o limit (name ∷ path ∷ []) = Some (json_of o limit name path)
 json_asked o limit words = None
 
-abbrev pub from_json_of : WordOptions → (name : List ℕ) → Task
-from_json_of o name = from_json_task (record { root = record { file = o.set; name = name }; strict = o.strict; packed = o.packed })
+abbrev pub from_json_of : WordOptions → (limit : ℕ) → (name : List ℕ) → Task
+from_json_of o limit name = from_json_task (record { root = record { file = o.set; name = name }; strict = o.strict; packed = o.packed; messages = messages_of o; limit = limit })
 
-abbrev pub from_json_asked : WordOptions → List (List ℕ) → Option Task
-from_json_asked o (name ∷ []) = Some (from_json_of o name)
-from_json_asked o words = None
+abbrev pub from_json_asked : WordOptions → (limit : ℕ) → List (List ℕ) → Option Task
+from_json_asked o limit (name ∷ []) = Some (from_json_of o limit name)
+from_json_asked o limit words = None
 
 abbrev pub checked_of : WordOptions → (limit : ℕ) → (name path : List ℕ) → Task
 checked_of o limit name path =
@@ -247,7 +254,7 @@ abbrev pub plain_asked : Verb → WordOptions → (limit : ℕ) → Option Task
 plain_asked verb.Show o limit = None
 plain_asked verb.Get o limit = None
 plain_asked verb.Json o limit = json_asked o limit o.others
-plain_asked verb.FromJson o limit = from_json_asked o o.others
+plain_asked verb.FromJson o limit = from_json_asked o limit o.others
 plain_asked verb.Check o limit = check_asked o limit o.others
 plain_asked verb.Patch o limit = None
 plain_asked verb.New o limit = None

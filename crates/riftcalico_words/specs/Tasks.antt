@@ -9,12 +9,13 @@ pub record Root : Type 0 where
   pub file : Option (List ℕ)
   pub name : List ℕ
 
--- what stands at paths, or lengths of lists there, whether texts and data are told as their bytes, whether the message comes packed, of which messages, and the most
--- bytes that the texts may have together
+-- what stands at paths, or lengths of lists there, whether texts and data are told as their bytes, whether each line begins with its path, whether the message comes packed,
+-- of which messages, and the most bytes that the texts may have together
 pub record GetTask : Type 0 where
   pub root : Root
   pub paths : List (List ℕ)
   pub raw : Bool
+  pub with_paths : Bool
   pub indented : Bool
   pub packed : Bool
   pub messages : Messages
@@ -29,11 +30,14 @@ pub record JsonTask : Type 0 where
   pub messages : Messages
   pub limit : ℕ
 
--- a JSON text that is made a message, whether names that a struct lacks are refused, and whether the message is packed
+-- a JSON text that is made a message, whether names that a struct lacks are refused, whether the message is packed, which texts of the input are meant, and the most
+-- bytes that a message may have
 pub record FromJsonTask : Type 0 where
   pub root : Root
   pub strict : Bool
   pub packed : Bool
+  pub messages : Messages
+  pub limit : ℕ
 
 -- whether the value at a path can be shown, or where it can't, everywhere or first, and the most parts of it that may be looked at
 pub record CheckTask : Type 0 where
@@ -85,11 +89,11 @@ pub data Task : Type 0 where
   help_task : Option Verb → Task
   version_task : Task
 
--- the messages of the input that a task means
+-- the messages of the input that a task means, or the texts that are made messages
 abbrev pub task_messages : Task → Messages
 task_messages (get_task t) = t.messages
 task_messages (json_task t) = t.messages
-task_messages (from_json_task t) = messages.First
+task_messages (from_json_task t) = t.messages
 task_messages (check_task t) = t.messages
 task_messages (patch_task t) = t.messages
 task_messages (new_task t) = messages.First

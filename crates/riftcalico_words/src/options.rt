@@ -15,6 +15,8 @@ pub enum Flag {
     Indent,
     /// `--raw`
     Raw,
+    /// `--paths`
+    Paths,
     /// `--keep-going`
     KeepGoing,
     /// `--packed`
@@ -68,6 +70,7 @@ pub struct Options<'a> {
     pub in_place: Option<&'a str>,
     pub indent: bool,
     pub raw: bool,
+    pub paths: bool,
     pub keep_going: bool,
     pub packed: bool,
     pub each: bool,
@@ -103,6 +106,7 @@ fn kind_of(word: &str) -> WordKind
         "--in-place" => WordKind::Value(ValueOption::InPlace),
         "--indent" => WordKind::Flag(Flag::Indent),
         "--raw" => WordKind::Flag(Flag::Raw),
+        "--paths" => WordKind::Flag(Flag::Paths),
         "--keep-going" => WordKind::Flag(Flag::KeepGoing),
         "--packed" => WordKind::Flag(Flag::Packed),
         "--each" => WordKind::Flag(Flag::Each),
@@ -130,6 +134,7 @@ fn put_flag(options: Options<'_>, flag: Flag) -> Options<'_>
     match flag {
         Flag::Indent => options.indent = true,
         Flag::Raw => options.raw = true,
+        Flag::Paths => options.paths = true,
         Flag::KeepGoing => options.keep_going = true,
         Flag::Packed => options.packed = true,
         Flag::Each => options.each = true,
@@ -212,6 +217,7 @@ pub fn read_options<'a>(
         in_place: None,
         indent: false,
         raw: false,
+        paths: false,
         keep_going: false,
         packed: false,
         each: false,

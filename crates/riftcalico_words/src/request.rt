@@ -3,7 +3,7 @@ ghost use Rattle.std.specs.Prelude.{◌≡◌, IfErr, IfOk, map, string_bytes};
 ghost use Rattle.capnp_device.specs.declared.error.ErrorKind.TheVariants.{OutOfMemory};
 ghost use Rattle.std.specs.Option.{option_map};
 ghost use Rattle.riftcalico_words.specs.OptionsSeen.{options_seen};
-ghost use Rattle.riftcalico_words.specs.Requests.{asked_request, calls_asked, checked_of, compared_of, flags_fit, from_json_of, get_asked, given_asked, going_fits, is_allowed, is_fitting, is_comparison, is_on_messages, is_reading, is_with_calls, json_of, limit_asked, messages_of, options_asked, place_fits, plain_asked, show_asked, shown_of, takes_flag, takes_value, values_fit, verb_of, verb_request};
+ghost use Rattle.riftcalico_words.specs.Requests.{asked_request, calls_asked, checked_of, compared_of, flags_fit, from_json_of, get_asked, given_asked, going_fits, is_allowed, is_fitting, is_comparison, is_on_messages, is_reading, is_with_calls, json_of, limit_asked, messages_of, options_asked, place_fits, plain_asked, show_asked, shown_of, takes_each, takes_flag, takes_value, values_fit, verb_of, verb_request};
 ghost use Rattle.riftcalico_words.specs.RequestSeen.{asked_seen, calls_task_of, given_of, task_seen};
 ghost use Rattle.riftcalico_words.specs.Steps.Limits.{limit_seen};
 ghost use Rattle.riftcalico_words.specs.Tasks.{task_messages};
@@ -71,22 +71,26 @@ pub struct JsonRequest<'a> {
     pub limit: u64,
 }
 
-/// A JSON text that is made a message, whether names that a struct lacks are refused, and whether the message is packed.
+/// A JSON text that is made a message, whether names that a struct lacks are refused, whether the message is packed, which
+/// texts of the input are meant, and the most bytes that a message may have.
 #[derive(Clone, Copy)]
 pub struct FromJsonRequest<'a> {
     pub root: NamedRoot<'a>,
     pub strict: bool,
     pub packed: bool,
+    pub messages: Messages,
+    pub limit: u64,
 }
 
 /// What stands at paths, one or more, or where their last step is `#`, the lengths of lists there; whether texts and data are
-/// told as their bytes, and other values indented, whether the message comes packed, of which messages, and the most bytes
-/// that the texts may have together.
+/// told as their bytes, and other values indented, whether each line begins with its path, whether the message comes packed,
+/// of which messages, and the most bytes that the texts may have together.
 #[derive(Drop)]
 pub struct GetRequest<'a> {
     pub root: NamedRoot<'a>,
     pub paths: Vec<&'a str>,
     pub raw: bool,
+    pub with_paths: bool,
     pub indented: bool,
     pub packed: bool,
     pub messages: Messages,
@@ -185,7 +189,7 @@ pub enum Misuse<'a> {
 /// What words ask for, or why they ask for nothing.
 pub type Asked<'a> = std::result::Result<Task<'a>, Misuse<'a>>;
 
-/// The messages of the input that a task means.
+/// The messages of the input that a task means, or the texts that are made messages.
 pub fn get_messages(task: &Task<'_>) -> Messages
     ensures { result ≡ task_messages (task_seen task.now) }
 {
@@ -194,8 +198,8 @@ pub fn get_messages(task: &Task<'_>) -> Messages
         Task::Json(request) => request.messages,
         Task::Check(request) => request.messages,
         Task::Patch(request) => request.messages,
-        Task::FromJson(_)
-        | Task::New(_)
+        Task::FromJson(request) => request.messages,
+        Task::New(_)
         | Task::Structs(_)
         | Task::Fields(_)
         | Task::Convert(_)
@@ -282,11 +286,24 @@ fn takes_value(verb: Verb, option: ValueOption) -> bool
             _ => is_on_messages(verb),
         },
         ValueOption::Calls => is_with_calls(verb),
-        ValueOption::Limit => is_on_messages(verb),
+        ValueOption::Limit => match verb {
+            Verb::FromJson => true,
+            _ => is_on_messages(verb),
+        },
         ValueOption::InPlace => match verb {
             Verb::Patch => true,
             _ => false,
         },
+    }
+}
+
+/// Whether a verb takes several messages, or texts that are made messages.
+fn takes_each(verb: Verb) -> bool
+    ensures { result ≡ takes_each verb }
+{
+    match verb {
+        Verb::Patch | Verb::FromJson => true,
+        _ => is_reading(verb),
     }
 }
 
@@ -299,19 +316,16 @@ fn takes_flag(verb: Verb, flag: Flag) -> bool
             Verb::Check => false,
             _ => is_reading(verb),
         },
-        Flag::Raw => match verb {
+        Flag::Raw | Flag::Paths => match verb {
             Verb::Get => true,
             _ => false,
         },
-        Flag::KeepGoing => is_reading(verb) || is_with_calls(verb),
+        Flag::KeepGoing => takes_each(verb) || is_with_calls(verb),
         Flag::Packed => match verb {
             Verb::FromJson => true,
             _ => is_on_messages(verb),
         },
-        Flag::Each => match verb {
-            Verb::Patch => true,
-            _ => is_reading(verb),
-        },
+        Flag::Each => takes_each(verb),
         Flag::Strict => match verb {
             Verb::Schemas | Verb::FromJson => true,
             _ => false,
@@ -351,6 +365,7 @@ fn do_flags_fit(verb: Verb, options: &Options<'_>) -> bool
 {
     is_allowed(options.indent, verb, Flag::Indent)
         && is_allowed(options.raw, verb, Flag::Raw)
+        && is_allowed(options.paths, verb, Flag::Paths)
         && is_allowed(options.keep_going, verb, Flag::KeepGoing)
         && is_allowed(options.packed, verb, Flag::Packed)
         && is_allowed(options.each, verb, Flag::Each)
@@ -361,11 +376,11 @@ fn do_flags_fit(verb: Verb, options: &Options<'_>) -> bool
         && is_allowed(options.both, verb, Flag::Both)
 }
 
-/// Whether a verb that only reads is to go on behind a message that is refused only where there are several.
+/// Whether a verb that makes no calls is to go on behind a message that is refused only where there are several.
 fn does_going_fit(verb: Verb, options: &Options<'_>) -> bool
     ensures { result ≡ going_fits verb (options_seen options.now) }
 {
-    !is_reading(verb) || !options.keep_going || options.each
+    is_with_calls(verb) || !options.keep_going || options.each
 }
 
 /// Whether no file is to be replaced where a refused call or message may be passed over, which its messages would then lack.
@@ -479,6 +494,7 @@ fn read_shown<'a>(
         },
         paths: list,
         raw: options.raw,
+        with_paths: options.paths,
         indented: options.indent,
         packed: options.packed,
         messages: read_messages(options),
@@ -530,9 +546,9 @@ fn read_json<'a>(options: &Options<'a>, limit: u64, name: &'a str, path: &'a str
     })
 }
 
-/// What is asked of a JSON text that is made a message.
-fn read_from_json<'a>(options: &Options<'a>, name: &'a str) -> Task<'a>
-    ensures { task_seen result ≡ from_json_of (options_seen options.now) name.now }
+/// What is asked of JSON texts that are made messages.
+fn read_from_json<'a>(options: &Options<'a>, limit: u64, name: &'a str) -> Task<'a>
+    ensures { task_seen result ≡ from_json_of (options_seen options.now) limit name.now }
 {
     Task::FromJson(FromJsonRequest {
         root: NamedRoot {
@@ -541,6 +557,8 @@ fn read_from_json<'a>(options: &Options<'a>, name: &'a str) -> Task<'a>
         },
         strict: options.strict,
         packed: options.packed,
+        messages: read_messages(options),
+        limit,
     })
 }
 
@@ -589,7 +607,7 @@ fn read_plain<'a>(verb: Verb, options: &Options<'a>, limit: u64) -> Option<Task<
     match (verb, options.others.as_slice()) {
         (Verb::Json, [name]) => Some(read_json(options, limit, *name, ".")),
         (Verb::Json, [name, path]) => Some(read_json(options, limit, *name, *path)),
-        (Verb::FromJson, [name]) => Some(read_from_json(options, *name)),
+        (Verb::FromJson, [name]) => Some(read_from_json(options, limit, *name)),
         (Verb::Check, [name]) => Some(read_checked(options, limit, *name, ".")),
         (Verb::Check, [name, path]) => Some(read_checked(options, limit, *name, *path)),
         (Verb::Structs, []) => Some(Task::Structs(file)),
@@ -682,15 +700,15 @@ fn read_behind<'a>(alloc: Global, verb: Verb, words: &'a [String]) -> Result<Ask
 ///
 /// |options|verbs|
 /// |---|---|
-/// |`--set FILE`|those on messages, which are the first six, and `structs`|
-/// |`--packed`, `--limit N`|those on messages|
+/// |`--set FILE`|those on messages, `from-json` and `structs`|
+/// |`--packed`, `--limit N`|those on messages, `from-json`|
 /// |`--indent`|`show`, `get`, `json`|
-/// |`--raw`|`get`|
-/// |`--each`|`show`, `get`, `json`, `check`, `patch`|
-/// |`--keep-going`|the same, of those that only read with `--each`, and `new`|
+/// |`--raw`, `--paths`|`get`|
+/// |`--each`|`show`, `get`, `json`, `from-json`, `check`, `patch`|
+/// |`--keep-going`|the same, but for `patch` with `--each`, and `new`|
 /// |`--calls FILE`, with no call beside it|`patch`, `new`|
 /// |`--all`|`check`|
-/// |`--strict`|`schemas`|
+/// |`--strict`|`schemas`, `from-json`|
 /// |`--quiet`, `--breaking-only`, `--both`|`compatible`|
 ///
 /// Refused with `OutOfMemory` alone.

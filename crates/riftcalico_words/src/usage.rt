@@ -13,9 +13,9 @@ pub const VERSION: &str = "riftcalico 0.1.0\n";
 
 const USAGE: &str = "\
 usage: riftcalico show [--set FILE] [--packed] [--limit BYTES] [--each [--keep-going]] NAME [--indent]
-       riftcalico get [--set FILE] [--packed] [--limit BYTES] [--raw] [--each [--keep-going]] NAME PATH.. [--indent]
+       riftcalico get [--set FILE] [--packed] [--limit BYTES] [--raw] [--paths] [--each [--keep-going]] NAME PATH.. [--indent]
        riftcalico json [--set FILE] [--packed] [--limit BYTES] [--each [--keep-going]] NAME [PATH] [--indent]
-       riftcalico from-json [--set FILE] [--strict] [--packed] NAME
+       riftcalico from-json [--set FILE] [--strict] [--packed] [--limit BYTES] [--each [--keep-going]] NAME
        riftcalico check [--set FILE] [--packed] [--limit PARTS] [--all] [--each [--keep-going]] NAME [PATH]
        riftcalico patch [--set FILE] [--calls FILE] [--keep-going] [--packed] [--limit BYTES] [--each] [--in-place FILE] NAME CALL..
        riftcalico new [--set FILE] [--calls FILE] [--keep-going] [--packed] [--limit BYTES] NAME CALL..
@@ -29,9 +29,9 @@ Shows, makes and patches Cap'n Proto messages under schemas that are known at ru
 input and written to standard output.
 
 usage: riftcalico show [--set FILE] [--packed] [--limit BYTES] [--each [--keep-going]] NAME [--indent]
-       riftcalico get [--set FILE] [--packed] [--limit BYTES] [--raw] [--each [--keep-going]] NAME PATH.. [--indent]
+       riftcalico get [--set FILE] [--packed] [--limit BYTES] [--raw] [--paths] [--each [--keep-going]] NAME PATH.. [--indent]
        riftcalico json [--set FILE] [--packed] [--limit BYTES] [--each [--keep-going]] NAME [PATH] [--indent]
-       riftcalico from-json [--set FILE] [--strict] [--packed] NAME
+       riftcalico from-json [--set FILE] [--strict] [--packed] [--limit BYTES] [--each [--keep-going]] NAME
        riftcalico check [--set FILE] [--packed] [--limit PARTS] [--all] [--each [--keep-going]] NAME [PATH]
        riftcalico patch [--set FILE] [--calls FILE] [--keep-going] [--packed] [--limit BYTES] [--each] [--in-place FILE] NAME CALL..
        riftcalico new [--set FILE] [--calls FILE] [--keep-going] [--packed] [--limit BYTES] NAME CALL..
@@ -47,7 +47,7 @@ usage: riftcalico show [--set FILE] [--packed] [--limit BYTES] [--each [--keep-g
 ";
 
 const GET_USAGE: &str = "\
-usage: riftcalico get [--set FILE] [--packed] [--limit BYTES] [--raw] [--each [--keep-going]] NAME PATH.. [--indent]
+usage: riftcalico get [--set FILE] [--packed] [--limit BYTES] [--raw] [--paths] [--each [--keep-going]] NAME PATH.. [--indent]
 ";
 
 const JSON_USAGE: &str = "\
@@ -55,7 +55,7 @@ usage: riftcalico json [--set FILE] [--packed] [--limit BYTES] [--each [--keep-g
 ";
 
 const FROM_JSON_USAGE: &str = "\
-usage: riftcalico from-json [--set FILE] [--strict] [--packed] NAME
+usage: riftcalico from-json [--set FILE] [--strict] [--packed] [--limit BYTES] [--each [--keep-going]] NAME
 ";
 
 const CHECK_USAGE: &str = "\
@@ -93,11 +93,12 @@ NAME is a struct of the set in FILE, as 'riftcalico schemas' writes it, or else 
 ";
 
 const GET_HELP: &str = "\
-usage: riftcalico get [--set FILE] [--packed] [--limit BYTES] [--raw] [--each [--keep-going]] NAME PATH.. [--indent]
+usage: riftcalico get [--set FILE] [--packed] [--limit BYTES] [--raw] [--paths] [--each [--keep-going]] NAME PATH.. [--indent]
 
 Prints what stands at each PATH of the first message's root, a struct NAME, a line each. PATH has steps joined by '.': a
 field's name, #3, a field by its number, or 4, an element of a list; a last # is the length of a list. '.' alone is the
-root. With --raw texts and data are printed as their bytes. With --packed the message is read packed.
+root. A step '*' is each element of a list or each field of a struct, a line each. With --paths lines begin with their
+paths. With --raw texts and data are printed as their bytes. With --packed the message is read packed.
 The texts have no more bytes together than --limit, or else 1 GiB.
 With --each all messages of the input are taken, one after another, and what is told names the message by number.
 With --keep-going one that is refused is told and passed over.
@@ -116,11 +117,14 @@ NAME is a struct of the set in FILE, as 'riftcalico schemas' writes it, or else 
 ";
 
 const FROM_JSON_HELP: &str = "\
-usage: riftcalico from-json [--set FILE] [--strict] [--packed] NAME
+usage: riftcalico from-json [--set FILE] [--strict] [--packed] [--limit BYTES] [--each [--keep-going]] NAME
 
 Reads the input as one JSON text, an object with fields of a struct NAME, and writes the message that it stands for.
 Fields that are not named have their defaults. What can't be read is told with its place, counted in bytes from 0. With
 --strict a name that its struct lacks is refused; else it is passed over. With --packed the message is written packed.
+No message is made of more bytes than --limit, or else 1 GiB.
+With --each each line of the input that is not blank is a text, and what is told names its message by number.
+With --keep-going one that is refused is told and passed over.
 NAME is a struct of the set in FILE, as 'riftcalico schemas' writes it, or else of the built-in set.
 ";
 

@@ -14,5 +14,5 @@ pub returns-clause-answer : goal.returns-clause-answer
 returns-clause-answer c =
     let same : map call_seen c.in_ok-calls.calls.items ≡ map read_call_seen c.args.job.now.calls.items = search rules in
     let left : IsLeftOfNew c.args.job.now.schema c.in_ok-calls.calls.items c.in_ok-run.run'.replies.items (message_tree c.in_ok-run.run'.message) = search rules in
-    let few : word_count (segment c.in_ok-run.run'.message) ≤ most_words (words_within c.args.job.now.limit) = rw c.words_within.ensures at c.in_ok-run.ensures.within in
+    let few : word_count (segment c.in_ok-run.run'.message) ≤ most_words (words_within c.args.job.now.limit) = c.in_ok-run.ensures.within in
     calls_answered c.args.job.now (IsLeftOfNew c.args.job.now.schema) c.in_ok-calls.calls.items c.in_ok-run.run'.replies.items c.in_ok-run.run'.message c.answer_run.result same left c.in_ok-run.ensures.message few (rw c.deref-3.ensures.value at c.answer_run.ensures.answer)

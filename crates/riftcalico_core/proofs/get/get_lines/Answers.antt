@@ -9,14 +9,14 @@ pub loop-index-preserved : goal.loop-index-preserved
 loop-index-preserved c =
     let l = c.loop-index in
     let all = map asked_seen c.args.queries.now in
-    let long : c.len.result ≡ length c.in-Ok.text.items = omega (arith, c.len.ensures) in
+    let long : c.len.result ≡ length c.in-Ok.line.items = omega (arith, c.len.ensures) in
     record {
       begins = subst (λ (xs : List ℕ). Begins c.args.job.now c.args.message.now all (left_of c.args.queries.now (l.index + 1)) xs) (sym c.in-Ok-add_line.ensures.added)
-          (begins_more c.args.job.now c.args.message.now all c.args.queries.now l.index c.index-queries-index.result l.lines.items c.in-Ok.text.items c.loop-index-test.true c.index-queries-index.is l.invariant.begins c.in-Ok.ensures.text);
+          (begins_more c.args.job.now c.args.message.now all c.args.queries.now l.index c.index-queries-index.result l.lines.items c.in-Ok.line.items c.loop-index-test.true c.index-queries-index.is l.invariant.begins c.in-Ok.ensures.line);
       refuses = subst (λ (n : ℕ). Refuses c.args.job.now c.args.message.now all c.args.job.now.limit (l.left - n) (left_of c.args.queries.now (l.index + 1))) (sym long)
-          (refuses_more c.args.job.now c.args.message.now all c.args.job.now.limit l.left c.args.queries.now l.index c.index-queries-index.result c.in-Ok.text.items c.loop-index-test.true c.index-queries-index.is
-          (l.invariant.refuses, c.in-Ok.ensures.text, c.in-Ok.ensures.within));
-      few = omega (arith, ap length c.in-Ok-add_line.ensures.added, length-append l.lines.items (c.in-Ok.text.items ++ 10 ∷ []), length-append c.in-Ok.text.items (10 ∷ []), long, c.in-Ok.ensures.within, l.invariant.few);
+          (refuses_more c.args.job.now c.args.message.now all c.args.job.now.limit l.left c.args.queries.now l.index c.index-queries-index.result c.in-Ok.line.items c.loop-index-test.true c.index-queries-index.is
+          (l.invariant.refuses, c.in-Ok.ensures.line, c.in-Ok.ensures.within));
+      few = omega (arith, ap length c.in-Ok-add_line.ensures.added, length-append l.lines.items (c.in-Ok.line.items ++ 10 ∷ []), length-append c.in-Ok.line.items (10 ∷ []), long, c.in-Ok.ensures.within, l.invariant.few);
       inside = omega (arith, c.loop-index-test.true);
     }
 

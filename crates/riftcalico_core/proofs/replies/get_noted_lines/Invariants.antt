@@ -7,5 +7,5 @@ use Rattle.riftcalico_core.proofs.replies.get_noted_lines.Given as goal
 
 abbrev pub invariant-loop-index : goal.invariant-loop-index
 invariant-loop-index l =
-    (new : List ℕ) → AreNoted (set_of l.schema) (number_of l.schema) l.index (map (λ w. w.now) l.words) (map call_seen l.calls) (drop l.index l.replies) (string_bytes l.lines) new
-    → AreNoted (set_of l.schema) (number_of l.schema) 0 (map (λ w. w.now) l.words) (map call_seen l.calls) l.replies [] new
+    (new : List ℕ) → AreNoted (set_of l.schema) (number_of l.schema) l.by_limit l.index (map (λ w. w.now) l.words) (map call_seen l.calls) (drop l.index l.replies) (string_bytes l.lines) new
+    → AreNoted (set_of l.schema) (number_of l.schema) l.by_limit 0 (map (λ w. w.now) l.words) (map call_seen l.calls) l.replies [] new

@@ -38,7 +38,7 @@ returns-in-Err g c =
       number = c.loop-next.number;
       refused = c.loop-next.refused;
       before = c.loop-next.invariant.so_far;
-      end = unread_end g.R.Source.left g.R.Source.failures g.W.Sink.written g.W.Sink.failures g.F.Sink.written g.F.Sink.failures c.args.job.now c.args.going c.loop-next.number c.in-Some.next c.loop-next.refused c.loop-next.source c.try_read_message.new.source c.loop-next.sink c.loop-next.errors
+      end = unread_end g.R.Source.left g.R.Source.failures g.W.Sink.written g.W.Sink.failures g.F.Sink.written g.F.Sink.failures c.args.job.now c.args.going c.loop-next.number c.in-Some.next c.loop-next.refused c.loop-next.source c.try_read_next.new.source c.loop-next.sink c.loop-next.errors
           c.refuse-in-Err.result c.in-Err.error (omega (arith, more)) c.refuse-in-Err.ensures.message c.refuse-in-Err.ensures.blamed c.refuse-in-Err.ensures.error c.in-Err.ensures.refused c.in-Err.ensures.failed;
     }
 
@@ -56,7 +56,7 @@ returns-in-Ends g c =
       number = c.loop-next.number;
       refused = c.loop-next.refused;
       before = c.loop-next.invariant.so_far;
-      end = stop_end g.R.Source.left g.R.Source.failures g.W.Sink.written g.W.Sink.failures g.F.Sink.written g.F.Sink.failures job c.args.going c.loop-next.number c.in-Some.next c.loop-next.refused c.loop-next.source c.try_read_message.new.source c.loop-next.sink c.put_answer-ran.new.sink
+      end = stop_end g.R.Source.left g.R.Source.failures g.W.Sink.written g.W.Sink.failures g.F.Sink.written g.F.Sink.failures job c.args.going c.loop-next.number c.in-Some.next c.loop-next.refused c.loop-next.source c.try_read_next.new.source c.loop-next.sink c.put_answer-ran.new.sink
           c.loop-next.errors c.put_answer-ran.new.errors c.put_answer-ran.new.errors c.in-Ok-Some.message.items given c.put_answer-ran.result c.in-Ends.ran (omega (arith, more))
           (rw c.in-Ok-Some.field-0-is at c.in-Ok-Some.ensures.message) c.deref.ensures.value answered c.in-Ends.ensures.0 c.in-Ends.ensures.1 refl;
     }
@@ -70,11 +70,11 @@ loop-next-preserved g c =
     c.loop-next.sink c.put_answer-ran.new.sink c.loop-next.errors c.put_answer-ran.new.errors c.put_answer-ran.result c.answer_message-answer.ensures.answer c.answer_message-answer.ensures.refused c.answer_message-answer.ensures.blamed c.put_answer-ran.ensures in
     let task = task_seen c.args.task.now in
     let whole = rw c.deref.ensures.value at answered in
-    let joined = at_next g.R.Source.left g.R.Source.failures g.W.Sink.written g.W.Sink.failures g.F.Sink.written g.F.Sink.failures task job c.args.going c.in-Some.next c.args.source.now c.try_read_message.new.source c.args.sink.now c.put_answer-ran.new.sink c.args.errors.now in
+    let joined = at_next g.R.Source.left g.R.Source.failures g.W.Sink.written g.W.Sink.failures g.F.Sink.written g.F.Sink.failures task job c.args.going c.in-Some.next c.args.source.now c.try_read_next.new.source c.args.sink.now c.put_answer-ran.new.sink c.args.errors.now in
     elim c.match-go_on.branch [
       | in-Quietly w ↦ record {
         so_far = joined _ _ _ _ w.errors-is (w.refused-is ∙ w.either-refused.ensures)
-            (next_so_far g.R.Source.left g.R.Source.failures g.W.Sink.written g.W.Sink.failures g.F.Sink.written g.F.Sink.failures task job c.args.going c.loop-next.number c.in-Some.next c.args.source.now c.loop-next.source c.try_read_message.new.source
+            (next_so_far g.R.Source.left g.R.Source.failures g.W.Sink.written g.W.Sink.failures g.F.Sink.written g.F.Sink.failures task job c.args.going c.loop-next.number c.in-Some.next c.args.source.now c.loop-next.source c.try_read_next.new.source
             c.args.sink.now c.loop-next.sink c.put_answer-ran.new.sink c.args.errors.now c.loop-next.errors c.put_answer-ran.new.errors c.put_answer-ran.new.errors c.loop-next.refused w.in-Quietly.one
             c.in-Ok-Some.message.items c.put_answer-ran.result (omega (arith, more)) c.loop-next.invariant.so_far (rw c.in-Ok-Some.field-0-is at c.in-Ok-Some.ensures.message) whole (quiet_on g.F.Sink.written g.F.Sink.failures task c.args.going c.put_answer-ran.result c.put_answer-ran.new.errors w.in-Quietly.one w.in-Quietly.ensures.0 w.in-Quietly.ensures.1));
         small = omega (arith, more);
@@ -83,7 +83,7 @@ loop-next-preserved g c =
           let line = rw w.as_bytes.ensures.value at w.tell.ensures in
           let said = rw w.in-Telling-Line.field-0-is at line in record {
             so_far = joined _ _ _ _ w.errors-is (w.refused-is ∙ or_true c.loop-next.refused)
-                (next_so_far g.R.Source.left g.R.Source.failures g.W.Sink.written g.W.Sink.failures g.F.Sink.written g.F.Sink.failures task job c.args.going c.loop-next.number c.in-Some.next c.args.source.now c.loop-next.source c.try_read_message.new.source
+                (next_so_far g.R.Source.left g.R.Source.failures g.W.Sink.written g.W.Sink.failures g.F.Sink.written g.F.Sink.failures task job c.args.going c.loop-next.number c.in-Some.next c.args.source.now c.loop-next.source c.try_read_next.new.source
                 c.args.sink.now c.loop-next.sink c.put_answer-ran.new.sink c.args.errors.now c.loop-next.errors c.put_answer-ran.new.errors w.tell.new.errors c.loop-next.refused true
                 c.in-Ok-Some.message.items c.put_answer-ran.result (omega (arith, more)) c.loop-next.invariant.so_far (rw c.in-Ok-Some.field-0-is at c.in-Ok-Some.ensures.message) whole (telling_on g.F.Sink.written g.F.Sink.failures task c.args.going c.put_answer-ran.result (told.Line w.in-Telling-Line.line) c.put_answer-ran.new.errors w.tell.new.errors is.0 is.1 said));
             small = omega (arith, more);
@@ -91,7 +91,7 @@ loop-next-preserved g c =
       | in-Telling-Number w ↦ let is = rw w.in-Telling-Number.field-0-is at w.in-Telling-Number.ensures in
           let said = rw w.in-Telling-Number.field-0-is at w.report.ensures in record {
             so_far = joined _ _ _ _ w.errors-is (w.refused-is ∙ or_true c.loop-next.refused)
-                (next_so_far g.R.Source.left g.R.Source.failures g.W.Sink.written g.W.Sink.failures g.F.Sink.written g.F.Sink.failures task job c.args.going c.loop-next.number c.in-Some.next c.args.source.now c.loop-next.source c.try_read_message.new.source
+                (next_so_far g.R.Source.left g.R.Source.failures g.W.Sink.written g.W.Sink.failures g.F.Sink.written g.F.Sink.failures task job c.args.going c.loop-next.number c.in-Some.next c.args.source.now c.loop-next.source c.try_read_next.new.source
                 c.args.sink.now c.loop-next.sink c.put_answer-ran.new.sink c.args.errors.now c.loop-next.errors c.put_answer-ran.new.errors w.report.new.errors c.loop-next.refused true
                 c.in-Ok-Some.message.items c.put_answer-ran.result (omega (arith, more)) c.loop-next.invariant.so_far (rw c.in-Ok-Some.field-0-is at c.in-Ok-Some.ensures.message) whole (telling_on g.F.Sink.written g.F.Sink.failures task c.args.going c.put_answer-ran.result (told.Number w.in-Telling-Number.kind) c.put_answer-ran.new.errors w.report.new.errors is.0 is.1 said));
             small = omega (arith, more);
