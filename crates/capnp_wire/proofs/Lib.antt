@@ -5,6 +5,7 @@ pub mod MoreBytes
 pub mod Sums
 pub mod Rows
 pub mod RowsWords
+pub mod RowsUnfolded
 pub mod RowsFar
 pub mod RowsStructs
 pub mod RowsLists
@@ -20,6 +21,7 @@ pub mod RowsDepth
 pub mod RowsEdits
 pub mod RowsElements
 pub mod FirstFaults
+pub mod Unfolding
 pub mod SameTrees
 pub mod NoPointers
 pub mod NullWords

@@ -12,6 +12,7 @@ pub mod Standing
 pub mod Message
 pub mod Laws
 pub mod Words
+pub mod Unfolded
 pub mod Total
 pub mod Encoding
 pub mod Depth

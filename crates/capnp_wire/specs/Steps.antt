@@ -4,4 +4,5 @@ pub mod Filling
 pub mod Level
 pub mod Reading
 pub mod Total
+pub mod Unfolding
 pub mod WellFormed

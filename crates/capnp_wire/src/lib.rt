@@ -17,6 +17,7 @@ pub mod primitive;
 pub mod size;
 mod struct_reader;
 mod total;
+mod unfolded;
 
 pub use capnp_device::device::{Sink, Source};
 pub use capnp_device::error::{Error, ErrorKind};
