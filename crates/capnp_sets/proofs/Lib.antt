@@ -7,6 +7,7 @@ pub mod FieldsSeen
 pub mod Generics
 pub mod LawsOfSets
 pub mod ListsRead
+pub mod ListsWithin
 pub mod MembersSeen
 pub mod MessageKinds
 pub mod NumbersSeen
@@ -16,3 +17,4 @@ pub mod RowsRead
 pub mod RowsSets
 pub mod SetKinds
 pub mod SetsRead
+pub mod ValuesTaken

@@ -8,5 +8,6 @@ pub mod Message
 pub mod Parts
 pub mod Refusals
 pub mod Types
+pub mod Unfolded
 pub mod Values
 pub mod Steps

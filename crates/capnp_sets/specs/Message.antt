@@ -1,5 +1,5 @@
 -- The set that the bytes of a message stand for.
-use Rattle.std.specs.Prelude.{ℕ, List, ◌≡◌, Option, None, Result, Ok, Err}
+use Rattle.std.specs.Prelude.{ℕ, List, ◌≡◌, ◌<◌, ◌⊎◌, Option, Some, None, Result, Ok, Err}
 use Rattle.capnp_device.specs.declared.error.Error.{Error}
 use Rattle.capnp_device.specs.declared.error.ErrorKind.{ErrorKind}
 use Rattle.capnp_wire.specs.Depth.{message_levels, root_levels}
@@ -10,7 +10,9 @@ use Rattle.capnp_schema.specs.Meta.{meta}
 use Rattle.capnp_schema.specs.Schema.{Schemas}
 use Rattle.capnp_records.specs.Reading.{struct_record}
 use Rattle.capnp_records.specs.Record.{Left, Record}
-use Rattle.capnp_sets.specs.Lists.{IsSchemaSetRefusal, lists_meant}
+use Rattle.capnp_wire.specs.Unfolded.{unfolded}
+use Rattle.capnp_sets.specs.Lists.{IsSchemaSetRefusal, has_cause, lists_meant}
+use Rattle.capnp_sets.specs.Unfolded.{values_size}
 
 -- the record of a root that was read as a struct, which takes one of the levels of a message
 abbrev pub root_record : StructTree → Record
@@ -38,3 +40,23 @@ IsRootRefusal (Err kind) e = e.kind ≡ kind
 -- the record, or its lists break a rule
 abbrev pub IsMessageRefusal : List ℕ → Error → Type 0
 IsMessageRefusal bytes e = IsRootRefusal (root_struct (message_tree_of bytes)) e
+
+-- why the first message in these bytes stands for no lists
+abbrev pub IsRootCause : Result StructTree ErrorKind → ErrorKind → Type 0
+IsRootCause (Ok root) kind = has_cause (root_record root) kind
+IsRootCause (Err k) kind = kind ≡ k
+
+abbrev pub IsMessageCause : List ℕ → ErrorKind → Type 0
+IsMessageCause bytes kind = IsRootCause (root_struct (message_tree_of bytes)) kind
+
+-- what the root leads to is past a limit
+abbrev pub IsLargeRoot : ℕ → Result Tree ErrorKind → Type 0
+IsLargeRoot limit (Ok t) = limit < unfolded t
+IsLargeRoot limit (Err kind) = ⊥
+
+abbrev pub HasLargeMessage : ℕ → List ℕ → Type 0
+HasLargeMessage limit bytes = IsLargeRoot limit (message_tree_of bytes)
+
+-- there is more in the message, or in the values of the set, than a limit
+abbrev pub IsPastLimit : ℕ → List ℕ → Type 0
+IsPastLimit limit bytes = HasLargeMessage limit bytes ⊎ ((set : Schemas) × (message_set bytes ≡ Some set) × limit < values_size set)

@@ -13,4 +13,5 @@ mod parts;
 mod rows;
 pub mod sets;
 mod types;
+mod unfolded;
 mod values;
