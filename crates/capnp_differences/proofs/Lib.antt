@@ -15,6 +15,7 @@ pub mod Tellings
 pub mod Turns
 pub mod Comparisons
 pub mod Gathering
+pub mod Edges
 pub mod Marking
 pub mod Explaining
 pub mod Noting

@@ -11,6 +11,7 @@ mod first;
 mod lists;
 mod marks;
 mod named;
+mod namers;
 mod noted;
 mod notes;
 mod pairs;

@@ -4,44 +4,15 @@ ghost use Rattle.capnp_device.specs.declared.error.ErrorKind.TheVariants.{OutOfM
 ghost use Rattle.capnp_schema.specs.Entries.{lists_seen};
 ghost use Rattle.capnp_differences.specs.Closing.{listed_pairs};
 ghost use Rattle.capnp_differences.specs.Steps.Comparing.{Within, brand_pairs};
-ghost use Rattle.capnp_differences.specs.Steps.Marking.{AreFound, Marks, Reaches, Sweeps};
+ghost use Rattle.capnp_differences.specs.Steps.Marking.{AreFound, Reaches};
 ghost use Rattle.capnp_differences.specs.declared.differences.Pair.{Pair};
 
 use crate::differences::{Difference, Pair};
-use crate::named::names_one;
+use crate::namers::{mark_namers, namers_among};
 use crate::pairs::Pairs;
 use capnp_schema::set::SchemaSet;
 use capnp_wire::error::Result;
 use std::alloc::Global;
-
-/// Marks a pair that names a marked one.
-fn mark(schemas: &SchemaSet, pair: Pair, marked: &mut Pairs) -> Result<()>
-    ensures marks { OnOk result (Marks (lists_seen schemas.now) pair marked.old marked.new) }
-    ensures refused { IfErr result (λ e. e.kind ≡ OutOfMemory) }
-{
-    if marked.has(pair) {
-        return Ok(());
-    }
-    if names_one(schemas, pair, marked) {
-        marked.push(pair)?;
-        return Ok(());
-    }
-    Ok(())
-}
-
-/// Goes once over the pairs and marks those that name a marked one. It goes backwards, since most pairs stand behind the one
-/// that named them first.
-fn sweep(schemas: &SchemaSet, pairs: &Pairs, marked: &mut Pairs) -> Result<()>
-    ensures swept { OnOk result (Sweeps (lists_seen schemas.now) pairs.now marked.old marked.new) }
-    ensures refused { IfErr result (λ e. e.kind ≡ OutOfMemory) }
-{
-    let mut left = pairs.len();
-    while left > 0 {
-        left -= 1;
-        mark(schemas, pairs.at(left), marked)?;
-    }
-    Ok(())
-}
 
 /// Whether nothing is told.
 fn is_none_told(told: &[Difference]) -> bool
@@ -51,7 +22,7 @@ fn is_none_told(told: &[Difference]) -> bool
 }
 
 /// The pairs from which a difference can be reached: those in which something differs, and those that name one of these, until
-/// there are no more.
+/// there are no more. Each marked pair is looked at once, and of the edges between pairs those that lead to it.
 pub(crate) fn reaching(
     alloc: Global,
     schemas: &SchemaSet,
@@ -67,13 +38,14 @@ pub(crate) fn reaching(
     if is_none_told(told) {
         return Ok(marked);
     }
-    loop {
-        let before = marked.len();
-        sweep(schemas, pairs, &mut marked)?;
-        if marked.len() == before {
-            return Ok(marked);
-        }
+    let namers = namers_among(alloc, schemas, pairs)?;
+    let mut next = 0;
+    while next < marked.len() {
+        let named = marked.at(next);
+        mark_namers(&namers, named, &mut marked)?;
+        next += 1;
     }
+    Ok(marked)
 }
 
 /// Of each pair whether it is unmarked.

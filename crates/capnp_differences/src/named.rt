@@ -1,11 +1,10 @@
 //! The pairs that the fields of two structs name.
-ghost use Rattle.std.specs.Prelude.{◌≡◌, ◌<◌, ◌≤◌, ◌↔◌, ℕ, IfErr, IsTrue, OnOk, Some, length};
+ghost use Rattle.std.specs.Prelude.{◌≡◌, ◌<◌, ◌≤◌, ℕ, IfErr, OnOk, Some, length};
 ghost use Rattle.capnp_device.specs.declared.error.ErrorKind.TheVariants.{OutOfMemory};
 ghost use Rattle.capnp_schema.specs.Entries.{lists_seen};
 ghost use Rattle.capnp_schema.specs.Schema.{fields_of, field_at};
 ghost use Rattle.capnp_differences.specs.Differences.{struct_pair};
 ghost use Rattle.capnp_differences.specs.Steps.Comparing.{Adds, IsNamed, pair_of};
-ghost use Rattle.capnp_differences.specs.Steps.Marking.{NamesOne, some_listed};
 
 use crate::brands::{field_count, field_of};
 use crate::differences::Pair;
@@ -15,7 +14,7 @@ use capnp_schema::set::SchemaSet;
 use capnp_wire::error::Result;
 
 /// The pair that two fields of one index name.
-fn named_at(schemas: &SchemaSet, older: u32, newer: u32, index: u16) -> Option<Pair>
+pub(crate) fn named_at(schemas: &SchemaSet, older: u32, newer: u32, index: u16) -> Option<Pair>
     requires older_field { index < length (fields_of (lists_seen schemas.now) older) }
     requires newer_field { index < length (fields_of (lists_seen schemas.now) newer) }
     ensures { result ≡ struct_pair (lists_seen schemas.now) (field_at (lists_seen schemas.now) older index).type
@@ -43,7 +42,7 @@ fn add_some(pairs: &mut Pairs, pair: Option<Pair>) -> Result<()>
 }
 
 /// How many fields two structs both have, by index.
-fn shared_count(schemas: &SchemaSet, older: u32, newer: u32) -> u16
+pub(crate) fn shared_count(schemas: &SchemaSet, older: u32, newer: u32) -> u16
     ensures older { result ≤ length (fields_of (lists_seen schemas.now) older) }
     ensures newer { result ≤ length (fields_of (lists_seen schemas.now) newer) }
     ensures all { (i : ℕ) → i < length (fields_of (lists_seen schemas.now) older)
@@ -69,26 +68,4 @@ pub(crate) fn add_named(
         add_some(pairs, named_at(schemas, older, newer, i))?;
     }
     Ok(())
-}
-
-/// Whether a list has a pair, where there is one.
-fn has_some(pairs: &Pairs, pair: Option<Pair>) -> bool
-    ensures { result ≡ some_listed pairs.now pair }
-{
-    match pair {
-        Some(found) => pairs.has(found),
-        None => false,
-    }
-}
-
-/// Whether a list has one of the pairs that the fields of two structs name.
-pub(crate) fn names_one(schemas: &SchemaSet, pair: Pair, pairs: &Pairs) -> bool
-    ensures { IsTrue result ↔ NamesOne (lists_seen schemas.now) pairs.now pair.older pair.newer }
-{
-    for i in 0..shared_count(schemas, pair.older, pair.newer) {
-        if has_some(pairs, named_at(schemas, pair.older, pair.newer, i)) {
-            return true;
-        }
-    }
-    false
 }

@@ -1,16 +1,11 @@
 -- The pairs from which a difference can be reached: steps of the code.
-use Rattle.std.specs.Prelude.{ℕ, ◌<◌, ◌≤◌, ◌≡◌, ◌⊎◌, List, [], ◌∷◌, ◌++◌, Bool, false, IsTrue, Contains, Option, Some, None, length}
+use Rattle.std.specs.Prelude.{ℕ, List, IsTrue, Contains, length}
 use Rattle.capnp_schema.specs.Schema.{Schemas, fields_of}
 use Rattle.capnp_differences.specs.Closing.{listed_pairs}
 use Rattle.capnp_differences.specs.Differences.{Holds, IsDifference}
-use Rattle.capnp_differences.specs.Steps.Comparing.{Apart, IsNamed, Within}
+use Rattle.capnp_differences.specs.Steps.Comparing.{IsNamed}
 use Rattle.capnp_differences.specs.declared.differences.Difference.{Difference}
 use Rattle.capnp_differences.specs.declared.differences.Pair.{Pair}
-
--- whether a pair that there may be is in a list
-abbrev pub some_listed : List Pair → Option Pair → Bool
-some_listed ps None = false
-some_listed ps (Some p) = listed_pairs ps p.older p.newer
 
 -- the fields of two structs name a pair of the list
 abbrev pub NamesOne : Schemas → List Pair → ℕ → ℕ → Type 0
@@ -23,20 +18,6 @@ Leads set a b = (d : Difference) × IsDifference set a b d
 -- what is told are differences of listed pairs
 abbrev pub AreFound : Schemas → List Pair → List Difference → Type 0
 AreFound set ps ts = (d : Difference) → Contains ts d → IsTrue (listed_pairs ps d.pair.older d.pair.newer) × Holds set d
-
--- a pair is put at the end where it isn't there and names one that is
-abbrev pub Marks : Schemas → Pair → (old new : List Pair) → Type 0
-Marks set p old new =
-    ((new ≡ old) × (NamesOne set old p.older p.newer → IsTrue (listed_pairs old p.older p.newer)))
-    ⊎ ((new ≡ old ++ (p ∷ [])) × (listed_pairs old p.older p.newer ≡ false) × NamesOne set old p.older p.newer)
-
--- more pairs are marked, of those that are listed and lead to a difference; or none is, and none is left
-pub record Sweeps (set : Schemas) (ps old new : List Pair) : Type 0 where
-  pub kept : Within (listed_pairs old) (listed_pairs new)
-  pub inside : Within (listed_pairs old) (listed_pairs ps) → Within (listed_pairs new) (listed_pairs ps)
-  pub apart : Apart old → Apart new
-  pub leads : ((a b : ℕ) → IsTrue (listed_pairs old a b) → Leads set a b) → (a b : ℕ) → IsTrue (listed_pairs new a b) → Leads set a b
-  pub settled : (length old < length new) ⊎ ((new ≡ old) × ((a b : ℕ) → IsTrue (listed_pairs ps a b) → NamesOne set old a b → IsTrue (listed_pairs old a b)))
 
 -- marked are the pairs in which something differs, and each that names a marked one; all of them lead to a difference
 pub record Reaches (set : Schemas) (ps : List Pair) (ts : List Difference) (ms : List Pair) : Type 0 where
