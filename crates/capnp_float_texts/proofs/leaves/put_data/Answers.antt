@@ -1,0 +1,35 @@
+-- An opening, the digits and a quote, put in turn, are the data's text; a stop in one of the three is a stop in it.
+use Rattle.std.specs.Prelude.{codes, flat_map}
+use Rattle.capnp_dynamic_readers.specs.Steps.Leaf.{two_digits}
+use Rattle.capnp_float_texts.proofs.Steps.{err_map, ok_map}
+use Rattle.capnp_float_texts.proofs.Streams.{first_of_three, handed_on, second_of_three, third_of_three, three_put}
+use Rattle.capnp_float_texts.specs.Steps.Pieces.{made_text}
+use Rattle.capnp_float_texts.proofs.leaves.put_data.Goals as goal
+
+pub returns-in_err-put-clause-stopped : goal.returns-in_err-put-clause-stopped
+returns-in_err-put-clause-stopped c =
+    let old = made_text c.args.out.now in
+    let stop = c.in_err-put.field-0.0 in
+    handed_on c.from_residual.result _ stop c.from_residual.ensures.1
+    (first_of_three old old old (codes "0x\"") (flat_map two_digits c.args.bytes.now) (codes "\"") stop c.in_err-put.ensures.stopped)
+
+pub returns-in_err-put_digits-clause-stopped : goal.returns-in_err-put_digits-clause-stopped
+returns-in_err-put_digits-clause-stopped c =
+    let mid = made_text c.put.new.self in
+    let stop = c.in_err-put_digits.field-0.0 in
+    handed_on c.from_residual-in_err-put_digits.result _ stop c.from_residual-in_err-put_digits.ensures.1
+    (second_of_three (made_text c.args.out.now) mid mid (codes "0x\"") (flat_map two_digits c.args.bytes.now) (codes "\"") stop c.in_ok-put.ensures.put c.in_err-put_digits.ensures.stopped)
+
+pub returns-clause-put : goal.returns-clause-put
+returns-clause-put c =
+    ok_map c.put-2.result
+    (three_put (made_text c.args.out.now) (made_text c.put.new.self) (made_text c.put_digits.new.out) (made_text c.put-2.new.self)
+    (codes "0x\"") (flat_map two_digits c.args.bytes.now) (codes "\"") c.in_ok-put.ensures.put c.in_ok-put_digits.ensures.put)
+    c.put-2.ensures.put
+
+pub returns-clause-stopped : goal.returns-clause-stopped
+returns-clause-stopped c =
+    err_map c.put-2.result
+    (λ stop. third_of_three (made_text c.args.out.now) (made_text c.put.new.self) (made_text c.put_digits.new.out)
+    (codes "0x\"") (flat_map two_digits c.args.bytes.now) (codes "\"") stop c.in_ok-put.ensures.put c.in_ok-put_digits.ensures.put)
+    c.put-2.ensures.stopped

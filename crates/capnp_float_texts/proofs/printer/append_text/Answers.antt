@@ -1,0 +1,31 @@
+-- What is printed into an empty text within the limit is the value's text; appended whole, it adds at most the limit.
+use Rattle.std.proofs.Common.{string_bytes, subst}
+use Rattle.capnp_records.specs.Text.{Layout}
+use Rattle.capnp_dynamic_readers.specs.Pieces.{Taken}
+use Rattle.capnp_float_texts.specs.Steps.Pieces.{made_bytes, made_text}
+use Rattle.capnp_dynamic_readers.specs.Steps.Pieces.{IsPut}
+use Rattle.capnp_float_texts.specs.Steps.Pieces.{IsStopped}
+use Rattle.capnp_float_texts.specs.Printed.{printed_float_text}
+use Rattle.capnp_float_texts.specs.Steps.Shown.{root_shown}
+use Rattle.capnp_float_texts.proofs.Puts.{appended_whole, appended_within}
+use Rattle.capnp_float_texts.proofs.Steps.{ok_map}
+use Rattle.capnp_float_texts.proofs.printer.append_text.Goals as goal
+
+pub returns-in-Ok-clause-printed : goal.returns-in-Ok-clause-printed
+returns-in-Ok-clause-printed c =
+    let m = c.print_root_value.new.out in
+    let put = subst (λ (z : Layout). IsPut (made_text c.new-made.result) (root_shown c.args.floats z c.args.value) (made_text m)) c.layout.ensures c.in-Ok.ensures.put in
+    let whole = subst (λ (z : Taken). IsPut z (printed_float_text c.args.floats c.args.indented c.args.value) (made_text m)) c.new-made.ensures put in
+    ok_map c.append_to.result (appended_whole (printed_float_text c.args.floats c.args.indented c.args.value) c.args.limit m.limit (string_bytes c.args.out.now) (string_bytes c.append_to.new.out) (made_bytes m) whole) c.append_to.ensures.appended
+
+pub returns-in-Ok-clause-within : goal.returns-in-Ok-clause-within
+returns-in-Ok-clause-within c =
+    let m = c.print_root_value.new.out in
+    let put = subst (λ (z : Layout). IsPut (made_text c.new-made.result) (root_shown c.args.floats z c.args.value) (made_text m)) c.layout.ensures c.in-Ok.ensures.put in
+    let whole = subst (λ (z : Taken). IsPut z (printed_float_text c.args.floats c.args.indented c.args.value) (made_text m)) c.new-made.ensures put in
+    ok_map c.append_to.result (appended_within (printed_float_text c.args.floats c.args.indented c.args.value) c.args.limit m.limit (string_bytes c.args.out.now) (string_bytes c.append_to.new.out) (made_bytes m) whole) c.append_to.ensures.appended
+
+pub returns-in-Err-clause-stopped : goal.returns-in-Err-clause-stopped
+returns-in-Err-clause-stopped c =
+    let stopped = subst (λ (z : Layout). IsStopped (made_text c.new-made.result) (root_shown c.args.floats z c.args.value) c.in-Err.stop) c.layout.ensures c.in-Err.ensures.stopped in
+    subst (λ (z : Taken). IsStopped z (printed_float_text c.args.floats c.args.indented c.args.value) c.in-Err.stop) c.new-made.ensures stopped

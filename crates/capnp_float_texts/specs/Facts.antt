@@ -1,0 +1,3 @@
+-- Facts of the definitions, with their proofs.
+pub mod Deciding
+pub mod Decimals

@@ -1,0 +1,7 @@
+pub mod Facts
+pub mod Numbers
+pub mod Texts
+pub mod Printed
+pub mod Stops
+pub mod Laws
+pub mod Steps
