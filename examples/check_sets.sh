@@ -39,15 +39,15 @@ converted() {
     expect "the set of $1" $? 0 '' "$2"
 }
 
-# row FILE NAME TEXT [LINE]: a message that `capnp encode` makes of TEXT is printed as LINE; without one, as by
-# `capnp decode --short` but for members without a value
+# row FILE NAME TEXT [LINE [FLOATS]]: a message that `capnp encode` makes of TEXT is printed as LINE; without one, as by
+# `capnp decode --short` but for members without a value. By `riftcalico` as FLOATS, where that is there
 row() {
     printf '%s\n' "$3" | capnp encode "examples/sets/$1.capnp" "$2" > "$scratch/message"
     line=$4
     [ -n "$line" ] || line=$(capnp decode --short "examples/sets/$1.capnp" "$2" < "$scratch/message" | sed 's/ = void/ = ()/g')
     show "$1" "$(printf '%s' "$2" | sed 's/,/, /g')" "$line"
     cat "$scratch/message" >> "$scratch/stream.$1.$2"
-    printf '%s\n' "$line" >> "$scratch/lines.$1.$2"
+    printf '%s\n' "${5:-$line}" >> "$scratch/lines.$1.$2"
 }
 
 # streamed FILE.NAME: the messages of all rows of a struct, one after another, are printed as their lines
@@ -162,8 +162,9 @@ Mixed.clock: an interface stands as AnyPointer
 Mixed.halves: Float32 stands as UInt32
 Mixed.anything: the default of an untyped field is left out'
 row standins Mixed '(single = 1, double = -1.5, halves = [0.5, 2], name = "n")' \
-    '(single = 1065353216, double = 13832806255468478464, halves = [1056964608, 1073741824], name = "n")'
-row standins Mixed '()' '(single = 1069547520, double = 13821547256400052224)'
+    '(single = 1065353216, double = 13832806255468478464, halves = [1056964608, 1073741824], name = "n")' \
+    '(single = 1, double = -1.5, halves = [0.5, 2], name = "n")'
+row standins Mixed '()' '(single = 1069547520, double = 13821547256400052224)' '(single = 1.5, double = -0.25)'
 refused standins --strict 60
 listed standins Mixed 'single: UInt32, data bit 0, default 1069547520 $@0xf20fbfb08027d505 = ()
 double: UInt64, data bit 64, default 13821547256400052224 $@0xf20fbfb08027d505 = ()
@@ -184,8 +185,9 @@ total: UInt64, data bit 64, default 0 $@0xc8f1a3d5e7b92461 = "no float"'
 listed floats 'Cell(List(Float32))' 'value: List(UInt32), pointer 0 $@0xf20fbfb08027d505 = ()'
 listed floats 'Cell(List(UInt32))' 'value: List(UInt32), pointer 0'
 row floats Trace '(gain = 1.5, levels = [[0.5], []], floats = (value = [2]), counts = (value = [2]), total = 7)' \
-    '(gain = 4609434218613702656, levels = [[1056964608], []], floats = (value = [1073741824]), counts = (value = [2]), total = 7)'
-row floats 'Cell(List(Float32))' '(value = [-1])' '(value = [3212836864])'
+    '(gain = 4609434218613702656, levels = [[1056964608], []], floats = (value = [1073741824]), counts = (value = [2]), total = 7)' \
+    '(gain = 1.5, levels = [[0.5], []], floats = (value = [2]), counts = (value = [2]), total = 7)'
+row floats 'Cell(List(Float32))' '(value = [-1])' '(value = [3212836864])' '(value = [-1])'
 refused endless '' 66
 
 # the compiler's own schema: 35 entries, under which a request is shown

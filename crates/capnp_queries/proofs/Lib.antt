@@ -1,4 +1,5 @@
 pub mod Counts
+pub mod FloatRefusals
 pub mod JsonParts
 pub mod Listings
 pub mod PatternSteps

@@ -1,3 +1,4 @@
+pub mod Floats
 pub mod Json
 pub mod Lengths
 pub mod Patterns

@@ -1,4 +1,5 @@
--- What stands at a path of a message, as it is written: its text and a line break, or the bytes of a text or data.
+-- What stands at a path of a message, as it is written: its text, which shows floats, and a line break, or the bytes of a
+-- text or data.
 use Rattle.std.specs.Prelude.{ℕ, suc, ◌<◌, ◌≤◌, ◌≡◌, ⊤, List, length, Bool, true, Option, Some, None, Ok, Err}
 use Rattle.capnp_schema.specs.Schema.{Schemas}
 use Rattle.capnp_records.specs.Call.{PathStep}
@@ -6,8 +7,10 @@ use Rattle.capnp_records.specs.Record as value
 use Rattle.capnp_records.specs.Record.{Value}
 use Rattle.capnp_records.specs.Text.{Out}
 use Rattle.capnp_dynamic_readers.specs.Pieces.{IsLonger}
-use Rattle.capnp_show_engine.specs.Show.{IsLineOf}
-use Rattle.capnp_patch.specs.Gets.{Reached, reached_text}
+use Rattle.capnp_show_engine.specs.Show.{IsLineOf, as_printed}
+use Rattle.capnp_float_texts.specs.Texts.{float_text_of}
+use Rattle.capnp_patch.specs.Gets.{Reached, is_group_type}
+use Rattle.capnp_queries.specs.Floats.{floats_at}
 use Rattle.capnp_queries.specs.Reach.{at_path}
 
 -- the bytes of a text or data, where it is asked for raw
@@ -30,18 +33,23 @@ abbrev pub IsTooLong : Option (List ℕ) → (limit : ℕ) → Out → Type 0
 IsTooLong (Some raw) limit o = limit < length raw
 IsTooLong None limit o = IsLonger limit o
 
-abbrev pub IsReachedShown : Schemas → (raw indented : Bool) → (limit : ℕ) → Reached → (written : List ℕ) → Type 0
-IsReachedShown set raw indented limit (Err kind) written = ⊥
-IsReachedShown set raw indented limit (Ok p) written = IsWritten (raw_bytes raw p.value) limit (reached_text set indented (Ok p)) written
+-- the text of what stands there, whose numbers are floats or not
+abbrev pub reached_float_text : Schemas → (floats indented : Bool) → Reached → Out
+reached_float_text set floats indented (Err kind) = Err kind
+reached_float_text set floats indented (Ok p) = float_text_of set floats indented p.type (as_printed (is_group_type set p.type) p.value)
 
-abbrev pub IsReachedTooLong : Schemas → (raw indented : Bool) → (limit : ℕ) → Reached → Type 0
-IsReachedTooLong set raw indented limit (Err kind) = ⊤
-IsReachedTooLong set raw indented limit (Ok p) = IsTooLong (raw_bytes raw p.value) limit (reached_text set indented (Ok p))
+abbrev pub IsReachedShown : Schemas → (floats raw indented : Bool) → (limit : ℕ) → Reached → (written : List ℕ) → Type 0
+IsReachedShown set floats raw indented limit (Err kind) written = ⊥
+IsReachedShown set floats raw indented limit (Ok p) written = IsWritten (raw_bytes raw p.value) limit (reached_float_text set floats indented (Ok p)) written
 
--- what is written of what stands at a path
+abbrev pub IsReachedTooLong : Schemas → (floats raw indented : Bool) → (limit : ℕ) → Reached → Type 0
+IsReachedTooLong set floats raw indented limit (Err kind) = ⊤
+IsReachedTooLong set floats raw indented limit (Ok p) = IsTooLong (raw_bytes raw p.value) limit (reached_float_text set floats indented (Ok p))
+
+-- what is written of what stands at a path, whose last field says whether its numbers are floats
 abbrev pub IsShownAt : Schemas → ℕ → List PathStep → (raw indented : Bool) → (limit : ℕ) → (bytes : List ℕ) → (written : List ℕ) → Type 0
-IsShownAt set b path raw indented limit bytes written = IsReachedShown set raw indented limit (at_path set b path bytes) written
+IsShownAt set b path raw indented limit bytes written = IsReachedShown set (floats_at set b path) raw indented limit (at_path set b path bytes) written
 
 -- It is longer than it may be. Of what isn't reached nothing is said.
 abbrev pub IsTooLongAt : Schemas → ℕ → List PathStep → (raw indented : Bool) → (limit : ℕ) → (bytes : List ℕ) → Type 0
-IsTooLongAt set b path raw indented limit bytes = IsReachedTooLong set raw indented limit (at_path set b path bytes)
+IsTooLongAt set b path raw indented limit bytes = IsReachedTooLong set (floats_at set b path) raw indented limit (at_path set b path bytes)

@@ -2,3 +2,4 @@
 pub mod Counts
 pub mod Listings
 pub mod Roots
+pub mod Stands

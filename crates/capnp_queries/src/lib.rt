@@ -2,6 +2,7 @@
 //! the paths that a pattern stands for.
 #![tactic(auto)]
 
+pub mod floats;
 pub mod json;
 pub mod length;
 pub mod patterns;

@@ -6,14 +6,15 @@ ghost use Rattle.capnp_schema.specs.StructHandles.{IsStruct, number_of, set_of};
 ghost use Rattle.capnp_call.specs.Seen.{path_seen};
 ghost use Rattle.capnp_dynamic_readers.specs.Pieces.{IsLonger};
 ghost use Rattle.capnp_dynamic_readers.specs.Seen.{value_seen};
-ghost use Rattle.capnp_dynamic_readers.specs.Shown.{printed_text};
+ghost use Rattle.capnp_float_texts.specs.Printed.{printed_float_text};
 ghost use Rattle.capnp_patch.specs.Gets.{got_text};
 ghost use Rattle.capnp_queries.specs.Shown.{IsLineWithin, IsShownAt, IsTooLongAt, IsTooLong, IsWritten, raw_bytes};
 
+use crate::floats::has_floats_at;
 use crate::reach::reach_path;
 use capnp_call::calls::Step;
 use capnp_dynamic_readers::dynamic_value::Reader as Value;
-use capnp_dynamic_readers::printer::print_within;
+use capnp_float_texts::printer::print_floats_within;
 use capnp_schema::schema::StructSchema;
 use capnp_wire::error::{Error, ErrorKind, Result};
 use std::alloc::Global;
@@ -47,15 +48,21 @@ fn copy_within(alloc: Global, bytes: &[u8], limit: u64) -> Result<Vec<u8>>
     Ok(copy)
 }
 
-/// The text of a value and a line break, where the text has at most so many bytes.
-fn get_line(alloc: Global, value: Value<'_>, indented: bool, limit: u64) -> Result<Vec<u8>>
-    ensures line { IfOk result (λ line. IsLineWithin limit (printed_text indented value.entry) line.items) }
+/// The text of a value, whose numbers are floats or not, and a line break, where the text has at most so many bytes.
+fn get_line(
+    alloc: Global,
+    value: Value<'_>,
+    floats: bool,
+    indented: bool,
+    limit: u64,
+) -> Result<Vec<u8>>
+    ensures line { IfOk result (λ line. IsLineWithin limit (printed_float_text floats indented value.entry) line.items) }
     ensures refused { IfErr result (λ e. e.kind ≢ OutOfMemory → e.kind ≢ TooLarge
-        → printed_text indented value.entry ≡ Err e.kind) }
-    ensures too_long { IfErr result (λ e. e.kind ≡ TooLarge → IsLonger limit (printed_text indented value.entry)) }
+        → printed_float_text floats indented value.entry ≡ Err e.kind) }
+    ensures too_long { IfErr result (λ e. e.kind ≡ TooLarge → IsLonger limit (printed_float_text floats indented value.entry)) }
 {
     let mut line = String::new(alloc);
-    print_within(value, &mut line, indented, limit)?;
+    print_floats_within(value, floats, &mut line, indented, limit)?;
     line.push_str("\n")?;
     Ok(line.into_bytes())
 }
@@ -64,25 +71,27 @@ fn get_line(alloc: Global, value: Value<'_>, indented: bool, limit: u64) -> Resu
 fn get_written(
     alloc: Global,
     value: Value<'_>,
+    floats: bool,
     raw: bool,
     indented: bool,
     limit: u64,
 ) -> Result<Vec<u8>>
     ensures written { IfOk result (λ v. IsWritten (raw_bytes raw (value_seen value.entry)) limit
-        (printed_text indented value.entry) v.items) }
+        (printed_float_text floats indented value.entry) v.items) }
     ensures refused { IfErr result (λ e. e.kind ≢ OutOfMemory → e.kind ≢ TooLarge
-        → printed_text indented value.entry ≡ Err e.kind) }
+        → printed_float_text floats indented value.entry ≡ Err e.kind) }
     ensures too_long { IfErr result (λ e. e.kind ≡ TooLarge → IsTooLong (raw_bytes raw (value_seen value.entry)) limit
-        (printed_text indented value.entry)) }
+        (printed_float_text floats indented value.entry)) }
 {
     match get_raw(value, raw) {
         Some(bytes) => copy_within(alloc, bytes, limit),
-        None => get_line(alloc, value, indented, limit),
+        None => get_line(alloc, value, floats, indented, limit),
     }
 }
 
 /// What stands at a path of the first message in these bytes, as it is written: its text and a line break, or where it is
-/// asked for raw and is a text or data, its bytes alone, which need be no UTF-8.
+/// asked for raw and is a text or data, its bytes alone, which need be no UTF-8. Numbers that are floats are shown as
+/// these, as `capnp_float_texts::printer::print_floats_within` does.
 ///
 /// Refused with `OutOfMemory`, with `TooLarge` where the text or the bytes are more than `limit`, and else as
 /// `capnp_patch::get::get_line`. A text that is refused itself may be either.
@@ -112,7 +121,8 @@ pub fn get_shown(
         Ok(value) => value,
         Err(refusal) => return Err(Error::from(refusal.kind)),
     };
-    match get_written(alloc, value, raw, indented, limit) {
+    let floats = has_floats_at(schema, path);
+    match get_written(alloc, value, floats, raw, indented, limit) {
         Ok(written) => Ok(written),
         Err(error) => Err(error),
     }
