@@ -10,6 +10,8 @@ mod refused_tests;
 #[cfg(test)]
 mod rows;
 #[cfg(test)]
+mod set_rows;
+#[cfg(test)]
 mod stream_tests;
 #[cfg(test)]
 mod tests;

@@ -59,11 +59,11 @@ static USAGES: [(&str, &str); 10] = [
         "new",
         "[--set FILE] [--calls FILE] [--keep-going] [--packed] [--limit BYTES] NAME CALL..",
     ),
-    ("structs", "[--set FILE] [NAME]"),
-    ("schemas", "[--strict]"),
+    ("structs", "[--set FILE] [--limit BYTES] [NAME]"),
+    ("schemas", "[--strict] [--limit BYTES]"),
     (
         "compatible",
-        "[--quiet] [--breaking-only] [--both] OLD NEW [NAME]",
+        "[--quiet] [--breaking-only] [--both] [--limit BYTES] OLD NEW [NAME]",
     ),
 ];
 
@@ -223,7 +223,6 @@ from-json|--limit|x|Flat -> no number of bytes: x
 new|--limit||Flat -> no number of bytes: 
 new|--limit|-1|Flat -> no number of bytes: -1
 check|--limit|18446744073709551616|Flat -> no number of bytes: 18446744073709551616
-structs|--limit|5|Flat -> usage
 check|Flat|--limit -> usage
 show|--all|Flat -> usage
 structs|--quiet -> usage

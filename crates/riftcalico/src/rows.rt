@@ -659,92 +659,6 @@ pub(crate) const PATCHED: &str = "\
 !4: get size = 9
 ";
 
-/// The structs of a set, and the fields of one.
-pub(crate) const LISTED: &str = "\
-# all
-:structs
-<
-=0
-\"Flat
-\"Mixed
-\"Many
-\"Shapes
-\"Loop
-\"Lists
-\"Node
-
-# numbers, a union and a text
-:structs
-:Mixed
-<
-=0
-\"union: 2 members, tag at data bit 16
-\"a: UInt16, data bit 0, default 0
-\"x: Void, member 0
-\"y: UInt8, data bit 32, default 0, member 1
-\"b: Text, pointer 0, default \"\"
-
-# defaults
-:structs
-:Many
-<
-=0
-\"flag: Bool, data bit 0, default true
-\"s: Int8, data bit 8, default -1
-\"n: UInt16, data bit 16, default 7
-\"w: Int32, data bit 32, default 0
-\"q: UInt64, data bit 64, default 0
-\"z: Void
-
-# groups, and a union in one
-:structs
-:Shapes
-<
-=0
-\"union: 3 members, tag at data bit 16
-\"id: UInt16, data bit 0, default 0
-\"circle: group, member 0
-\"circle.r: UInt32, data bit 32, default 0
-\"tag: group, member 1
-\"tag.union: 2 members, tag at data bit 48
-\"tag.n: UInt16, data bit 32, default 0
-\"tag.u0: Void, member 0
-\"tag.u1: UInt8, data bit 64, default 0, member 1
-\"tag.any: AnyPointer, pointer 0
-\"tag.q: Text, pointer 1, default \"\"
-\"word: Text, pointer 0, default \"\", member 2
-
-# a default that leads back to itself
-:structs
-:Loop
-<
-=0
-\"union: 2 members, tag at data bit 0
-\"end: Void, member 0
-\"again: Loop, pointer 0, default words: 3, member 1
-
-# lists and data
-:structs
-:Lists
-<
-=0
-\"bytes: List(UInt8), pointer 0
-\"raw: Data, pointer 1, default 0x\"\"
-\"t: Text, pointer 2, default \"\"
-\"items: List(Flat), pointer 3
-
-# an enum, and annotations
-:structs
-:Node
-<
-=0
-\"struct Node $@0x7 = \"note\"
-\"id: UInt64, data bit 0, default 0 $@0x8 = 5 $@0x9 = byte $@0xa = 2
-\"displayName: Text, pointer 0, default \"\"
-\"size: ElementSize, data bit 64, default empty
-\"enum ElementSize: empty, bit, byte, twoBytes, fourBytes, eightBytes, pointer, inlineComposite
-";
-
 /// What the program tells of itself.
 pub(crate) const TOLD: &str = "\
 # its verbs
@@ -761,9 +675,9 @@ pub(crate) const TOLD: &str = "\
 \"       riftcalico check [--set FILE] [--packed] [--limit PARTS] [--all] [--each [--keep-going]] NAME [PATH]
 \"       riftcalico patch [--set FILE] [--calls FILE] [--keep-going] [--packed] [--limit BYTES] [--each] [--in-place FILE] NAME CALL..
 \"       riftcalico new [--set FILE] [--calls FILE] [--keep-going] [--packed] [--limit BYTES] NAME CALL..
-\"       riftcalico structs [--set FILE] [NAME]
-\"       riftcalico schemas [--strict]
-\"       riftcalico compatible [--quiet] [--breaking-only] [--both] OLD NEW [NAME]
+\"       riftcalico structs [--set FILE] [--limit BYTES] [NAME]
+\"       riftcalico schemas [--strict] [--limit BYTES]
+\"       riftcalico compatible [--quiet] [--breaking-only] [--both] [--limit BYTES] OLD NEW [NAME]
 \"
 \"More of a verb is told by 'riftcalico VERB --help', the version by 'riftcalico --version'.
 
@@ -776,9 +690,9 @@ pub(crate) const TOLD: &str = "\
 :--help
 <
 =0
-\"usage: riftcalico structs [--set FILE] [NAME]
+\"usage: riftcalico structs [--set FILE] [--limit BYTES] [NAME]
 \"
-\"Lists the structs of a set, or the fields of the struct NAME.
+\"Lists the structs of a set, or the fields of the struct NAME. No text is printed of more bytes than --limit, or else 1 GiB.
 \"The set is that of FILE, as 'riftcalico schemas' writes it, or else the built-in one.
 
 # the version

@@ -6,7 +6,8 @@ ghost use Rattle.std.specs.Prelude.{⊤};
 
 use crate::json_rows::{MADE, MADE_EACH};
 use crate::query_rows::{ASKED, UNREAD};
-use crate::rows::{GOT, LISTED, PATCHED, TOLD};
+use crate::rows::{GOT, PATCHED, TOLD};
+use crate::set_rows::LISTED;
 use capnp_fixtures::bytes::bytes_of;
 use capnp_fixtures::devices::{chunk, is_unread};
 use capnp_show_engine::opener::Opener;
@@ -26,9 +27,9 @@ usage: riftcalico show [--set FILE] [--packed] [--limit BYTES] [--each [--keep-g
        riftcalico check [--set FILE] [--packed] [--limit PARTS] [--all] [--each [--keep-going]] NAME [PATH]
        riftcalico patch [--set FILE] [--calls FILE] [--keep-going] [--packed] [--limit BYTES] [--each] [--in-place FILE] NAME CALL..
        riftcalico new [--set FILE] [--calls FILE] [--keep-going] [--packed] [--limit BYTES] NAME CALL..
-       riftcalico structs [--set FILE] [NAME]
-       riftcalico schemas [--strict]
-       riftcalico compatible [--quiet] [--breaking-only] [--both] OLD NEW [NAME]";
+       riftcalico structs [--set FILE] [--limit BYTES] [NAME]
+       riftcalico schemas [--strict] [--limit BYTES]
+       riftcalico compatible [--quiet] [--breaking-only] [--both] [--limit BYTES] OLD NEW [NAME]";
 
 /// The only paths that have a file: of a set and of calls.
 const SET: &str = "set";

@@ -2,6 +2,7 @@ pub mod Blamed
 pub mod CallsGiven
 pub mod Counted
 pub mod Each
+pub mod FirstOf
 pub mod HeadedLines
 pub mod JsonTold
 pub mod LinesGot
@@ -20,3 +21,4 @@ pub mod Told
 pub mod Unreached
 pub mod Unread
 pub mod ValueTexts
+pub mod WholeAnswers

@@ -1,5 +1,6 @@
 -- What is answered to a message's bytes: what is written, what is told, and whether a call was refused.
-use Rattle.std.specs.Prelude.{ℕ, ◌≡◌, ◌⊎◌, ⊤, List, [], map, Bool, true, false, cond, not, Result, Ok, Err, string_bytes}
+use Rattle.std.specs.Prelude.{ℕ, ◌≡◌, ◌≤◌, ◌<◌, ◌⊎◌, ⊤, List, [], length, map, Bool, true, false, cond, not, Result, Ok, Err, string_bytes}
+use Rattle.capnp_device.specs.declared.error.Error.{Error}
 use Rattle.capnp_device.specs.declared.error.ErrorKind.{ErrorKind}
 use Rattle.capnp_device.specs.declared.error.ErrorKind.TheVariants.{TooLarge}
 use Rattle.capnp_arena.specs.Message.{IsMessage}
@@ -20,6 +21,7 @@ use Rattle.capnp_schema.specs.Schema.{Schemas}
 use Rattle.capnp_schema.specs.StructHandles.{IsStruct, number_of, set_of}
 use Rattle.capnp_schema.specs.declared.schema.structs.StructSchema.{StructSchema}
 use Rattle.capnp_set_engine.specs.Convert.{HasNoSet, IsSetOf}
+use Rattle.capnp_sets.specs.Message.{HasLargeMessage}
 use Rattle.capnp_structs.specs.Fields.{fields_text}
 use Rattle.capnp_structs.specs.Names.{structs_text}
 use Rattle.capnp_wire.specs.Tree.{Tree}
@@ -29,11 +31,11 @@ use Rattle.riftcalico_core.specs.Comparisons.{IsCompareAnswer, IsUncompared, com
 use Rattle.riftcalico_core.specs.Depths.{IsDepthTold}
 use Rattle.riftcalico_core.specs.FromJson.{IsFromJsonAnswer}
 use Rattle.riftcalico_core.specs.Gets.{IsGetAnswer, IsNotGot}
-use Rattle.riftcalico_core.specs.Jobs.{is_packed, wants_input}
+use Rattle.riftcalico_core.specs.Jobs.{is_packed, set_room, wants_input}
 use Rattle.riftcalico_core.specs.Json.{IsJsonAnswer, IsNoJson}
 use Rattle.riftcalico_core.specs.Outputs.{IsMessageOutput}
 use Rattle.riftcalico_core.specs.Quiet.{IsQuiet}
-use Rattle.riftcalico_core.specs.Room.{FitsIn, IsBelowFormat, IsPastLimit, IsRoomless}
+use Rattle.riftcalico_core.specs.Room.{FitsIn, IsBelowFormat, IsLongText, IsPastLimit, IsRoomless}
 use Rattle.riftcalico_core.specs.Shown.{IsNotShown, IsTextThere}
 use Rattle.riftcalico_core.specs.Replies.{AreNoted}
 use Rattle.riftcalico_core.specs.declared.answer.Answer.{Answer}
@@ -56,9 +58,9 @@ IsSoundJob (job.FromJson j) = IsStruct j.schema
 IsSoundJob (job.Check j) = IsStruct j.schema
 IsSoundJob (job.Patch j) = IsStruct j.schema
 IsSoundJob (job.New j) = IsStruct j.schema
-IsSoundJob (job.Structs schemas) = ⊤
-IsSoundJob (job.Fields s) = IsStruct s
-IsSoundJob (job.Convert strict) = ⊤
+IsSoundJob (job.Structs schemas limit) = ⊤
+IsSoundJob (job.Fields s limit) = IsStruct s
+IsSoundJob (job.Convert strict limit) = ⊤
 IsSoundJob (job.Compatible j) = ⊤
 IsSoundJob (job.Help v) = ⊤
 IsSoundJob job.Version = ⊤
@@ -163,20 +165,40 @@ IsNewAnswer j a = IsCallsAnswer j (λ calls replies root. IsLeftOfNew j.schema c
 
 -- ---- sets ----
 
-abbrev pub IsStructsAnswer : Schemas → Answer → Type 0
-IsStructsAnswer set a = IsTextAnswer a (λ text. text ≡ structs_text set)
+abbrev pub IsStructsText : Schemas → (text : List ℕ) → Type 0
+IsStructsText set text = text ≡ structs_text set
 
-abbrev pub IsFieldsAnswer : StructSchema → Answer → Type 0
-IsFieldsAnswer s a = IsTextAnswer a (λ text. IsAppended [] (fields_text (set_of s) (number_of s)) text)
+abbrev pub IsFieldsText : StructSchema → (text : List ℕ) → Type 0
+IsFieldsText s text = IsAppended [] (fields_text (set_of s) (number_of s)) text
 
-abbrev pub IsSetOutput : (strict : Bool) → (bytes : List ℕ) → (lines : List ℕ) → Output → Type 0
-IsSetOutput strict bytes lines (output.Bytes message) = IsSetOf strict bytes message.items lines
-IsSetOutput strict bytes lines o = ⊥
+-- a text of at most so many bytes
+abbrev pub IsTextWithin : (limit : ℕ) → Answer → (List ℕ → Type 0) → Type 0
+IsTextWithin limit a so = IsTextAnswer a (λ text. so text × length text ≤ limit)
 
--- the message of the set of a compiler's request is written, and its notes are told
-pub record IsConvertAnswer (strict : Bool) (bytes : List ℕ) (a : Answer) : Type 0 where
-  pub set : IsSetOutput strict bytes (string_bytes a.lines) a.output
+abbrev pub IsStructsAnswer : Schemas → (limit : ℕ) → Answer → Type 0
+IsStructsAnswer set limit a = IsTextWithin limit a (IsStructsText set)
+
+abbrev pub IsFieldsAnswer : StructSchema → (limit : ℕ) → Answer → Type 0
+IsFieldsAnswer s limit a = IsTextWithin limit a (IsFieldsText s)
+
+-- the set of a compiler's request, in a message of at most so many bytes
+abbrev pub IsSetOutput : (strict : Bool) → (limit : ℕ) → (bytes : List ℕ) → (lines : List ℕ) → Output → Type 0
+IsSetOutput strict limit bytes lines (output.Bytes message) = IsSetOf strict bytes message.items lines × length message.items ≤ limit
+IsSetOutput strict limit bytes lines o = ⊥
+
+-- the message of the set of a compiler's request is written, and its notes are told; there is no more in the request than may be
+pub record IsConvertAnswer (strict : Bool) (limit : ℕ) (bytes : List ℕ) (a : Answer) : Type 0 where
+  pub set : IsSetOutput strict limit bytes (string_bytes a.lines) a.output
   pub refused : a.refused ≡ false
+  pub fits : HasLargeMessage (set_room limit (length bytes)) bytes → ⊥
+
+-- the set of a request has no message within a limit: there is more in the request than may be, or the message is longer
+abbrev pub IsConvertPast : (strict : Bool) → (limit : ℕ) → (bytes : List ℕ) → ErrorKind → Type 0
+IsConvertPast strict limit bytes kind =
+    (kind ≡ TooLarge) × (HasLargeMessage (set_room limit (length bytes)) bytes ⊎ ((message : List ℕ) × (lines : List ℕ) × IsSetOf strict bytes message lines × limit < length message))
+
+abbrev pub IsNotConverted : (strict : Bool) → (limit : ℕ) → (bytes : List ℕ) → Error → Type 0
+IsNotConverted strict limit bytes e = HasNoSet strict bytes e ⊎ IsConvertPast strict limit bytes e.kind
 
 -- ---- a job ----
 
@@ -188,9 +210,9 @@ IsMessageAnswer (job.FromJson j) bytes a = IsFromJsonAnswer j bytes a
 IsMessageAnswer (job.Check j) bytes a = IsCheckAnswer j bytes a
 IsMessageAnswer (job.Patch j) bytes a = IsPatchAnswer j bytes a
 IsMessageAnswer (job.New j) bytes a = IsNewAnswer j a
-IsMessageAnswer (job.Structs schemas) bytes a = IsStructsAnswer (lists_seen schemas.now) a
-IsMessageAnswer (job.Fields s) bytes a = IsFieldsAnswer s a
-IsMessageAnswer (job.Convert strict) bytes a = IsConvertAnswer strict bytes a
+IsMessageAnswer (job.Structs schemas limit) bytes a = IsStructsAnswer (lists_seen schemas.now) limit a
+IsMessageAnswer (job.Fields s limit) bytes a = IsFieldsAnswer s limit a
+IsMessageAnswer (job.Convert strict limit) bytes a = IsConvertAnswer strict limit bytes a
 IsMessageAnswer (job.Compatible j) bytes a = IsCompareAnswer j a
 IsMessageAnswer (job.Help v) bytes a = IsTextAnswer a (λ text. text ≡ help_text v)
 IsMessageAnswer job.Version bytes a = IsTextAnswer a (λ text. text ≡ version_line)
@@ -203,9 +225,9 @@ IsNoMessageAnswer (job.FromJson j) bytes f = IsRoomless j.limit f
 IsNoMessageAnswer (job.Check j) bytes f = IsNotChecked j bytes f
 IsNoMessageAnswer (job.Patch j) bytes f = IsUnpatched j.limit bytes f.error.kind × (string_bytes f.note ≡ [])
 IsNoMessageAnswer (job.New j) bytes f = IsPastLimit j.limit f.error.kind × (string_bytes f.note ≡ [])
-IsNoMessageAnswer (job.Structs schemas) bytes f = ⊥
-IsNoMessageAnswer (job.Fields s) bytes f = ⊥
-IsNoMessageAnswer (job.Convert strict) bytes f = HasNoSet strict bytes f.error × (string_bytes f.note ≡ [])
+IsNoMessageAnswer (job.Structs schemas limit) bytes f = IsLongText limit (IsStructsText (lists_seen schemas.now)) f.error.kind × (string_bytes f.note ≡ [])
+IsNoMessageAnswer (job.Fields s limit) bytes f = IsLongText limit (IsFieldsText s) f.error.kind × (string_bytes f.note ≡ [])
+IsNoMessageAnswer (job.Convert strict limit) bytes f = IsNotConverted strict limit bytes f.error × (string_bytes f.note ≡ [])
 IsNoMessageAnswer (job.Compatible j) bytes f = IsUncompared j f
 IsNoMessageAnswer (job.Help v) bytes f = ⊥
 IsNoMessageAnswer job.Version bytes f = ⊥

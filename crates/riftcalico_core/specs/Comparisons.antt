@@ -1,15 +1,16 @@
 -- What is answered where two versions are compared, in one direction or in both.
-use Rattle.std.specs.Prelude.{ℕ, ◌≡◌, ◌==◌, ◌&&◌, ◌⊎◌, List, [], ◌++◌, Bool, true, false, not, Option, None, Some, codes, string_bytes}
+use Rattle.std.specs.Prelude.{ℕ, ◌≡◌, ◌≤◌, ◌<◌, ◌==◌, ◌&&◌, ◌⊎◌, List, [], ◌++◌, length, Bool, true, false, not, Option, None, Some, codes, string_bytes}
 use Rattle.std.specs.Option.{option_map}
+use Rattle.capnp_device.specs.declared.error.Error.{Error}
 use Rattle.capnp_device.specs.declared.error.ErrorKind.{ErrorKind}
-use Rattle.capnp_device.specs.declared.error.ErrorKind.TheVariants.{NameNotFound, OutOfMemory}
+use Rattle.capnp_device.specs.declared.error.ErrorKind.TheVariants.{NameNotFound, OutOfMemory, TooLarge}
 use Rattle.capnp_schema.specs.Entries.{lists_seen}
 use Rattle.capnp_schema.specs.Schema.{Schemas}
-use Rattle.capnp_sets.specs.Message.{IsMessageRefusal, message_set}
 use Rattle.capnp_versions.specs.Shared.{named_report_text, report_text}
 use Rattle.capnp_versions.specs.Versions.{IsComparison, IsFullComparison, IsNotCompared, IsNotComparedAll}
 use Rattle.capnp_versions.specs.declared.every.FullComparison.{FullComparison}
 use Rattle.capnp_versions.specs.declared.versions.Comparison.{Comparison}
+use Rattle.riftcalico_core.specs.Jobs.{IsNoSetIn, IsSetIn}
 use Rattle.riftcalico_core.specs.declared.answer.Answer.{Answer}
 use Rattle.riftcalico_core.specs.declared.answer.Output.{Output}
 use Rattle.riftcalico_core.specs.declared.answer.Output.TheVariants as output
@@ -82,16 +83,35 @@ pub record IsReportAnswer (quiet : Bool) (r : Report) (a : Answer) : Type 0 wher
   pub told : string_bytes a.lines ≡ []
   pub refused : a.refused ≡ not r.follows
 
-pub record IsCompareAnswer (j : CompareJob) (a : Answer) : Type 0 where
+-- what is asked of the newer set of these bytes
+pub record IsReported (j : CompareJob) (r : Report) : Type 0 where
   pub newer : Schemas
-  pub read : message_set j.newer.now ≡ Some newer
+  pub read : IsSetIn j.limit j.newer.now newer
+  pub reported : IsAskedReport j.both j.breaking_only (lists_seen j.schemas.now) newer (option_map (λ w. w.now) j.name) r
+
+-- and told, in a text of at most so many bytes
+pub record IsCompareAnswer (j : CompareJob) (a : Answer) : Type 0 where
   pub report : Report
-  pub reported : IsAskedReport j.both j.breaking_only (lists_seen j.schemas.now) newer (option_map (λ w. w.now) j.name) report
+  pub reported : IsReported j report
+  pub within : length (string_bytes report.text) ≤ j.limit
   pub answer : IsReportAnswer j.quiet report a
 
--- the newer set is refused, or the sets can't be compared
+-- the text is longer
+pub record IsLongReport (j : CompareJob) (kind : ErrorKind) : Type 0 where
+  pub is : kind ≡ TooLarge
+  pub report : Report
+  pub reported : IsReported j report
+  pub long : j.limit < length (string_bytes report.text)
+
+-- the newer set is refused, the sets can't be compared, or the text is too long
+abbrev pub IsNotTold : CompareJob → Error → Type 0
+IsNotTold j e =
+    IsNoSetIn j.limit j.newer.now e
+    ⊎ ((newer : Schemas) × IsSetIn j.limit j.newer.now newer × IsNoReport j.both (lists_seen j.schemas.now) newer (option_map (λ w. w.now) j.name) e.kind)
+    ⊎ IsLongReport j e.kind
+
 pub record IsUncompared (j : CompareJob) (f : Fault) : Type 0 where
-  pub cause : IsMessageRefusal j.newer.now f.error ⊎ ((newer : Schemas) × (message_set j.newer.now ≡ Some newer) × IsNoReport j.both (lists_seen j.schemas.now) newer (option_map (λ w. w.now) j.name) f.error.kind)
+  pub cause : IsNotTold j f.error
   pub note : string_bytes f.note ≡ []
 
 -- what is to be looked at then: the name, or else the file of the newer set

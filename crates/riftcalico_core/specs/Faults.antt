@@ -30,8 +30,8 @@ task_set_file (from_json_task t) = t.root.file
 task_set_file (check_task t) = t.root.file
 task_set_file (patch_task t) = t.root.file
 task_set_file (new_task t) = t.root.file
-task_set_file (structs_task file) = file
-task_set_file (fields_task r) = r.file
+task_set_file (structs_task file limit) = file
+task_set_file (fields_task r limit) = r.file
 task_set_file (compatible_task t) = Some t.older
 task_set_file t = None
 
@@ -53,7 +53,7 @@ task_name (from_json_task t) = t.root.name
 task_name (check_task t) = t.root.name
 task_name (patch_task t) = t.root.name
 task_name (new_task t) = t.root.name
-task_name (fields_task r) = r.name
+task_name (fields_task r limit) = r.name
 task_name (compatible_task t) = name_word t.name
 task_name t = []
 

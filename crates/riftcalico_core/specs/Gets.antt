@@ -2,12 +2,13 @@
 -- has no line within what is left of the limit.
 use Rattle.std.specs.Prelude.{ℕ, ◌<◌, ◌≤◌, ◌+◌, ◌-◌, ◌≡◌, ◌⊎◌, List, [], ◌∷◌, ◌++◌, length, map, Bool, true, false, Option, Some, None, Ok, Err, decimal, codes, string_bytes}
 use Rattle.capnp_device.specs.declared.error.ErrorKind.TheVariants.{TooLarge}
-use Rattle.capnp_patch.specs.Gets.{Part, Reached, reached_text}
+use Rattle.capnp_patch.specs.Gets.{Part, Reached}
+use Rattle.capnp_queries.specs.Floats.{floats_at}
 use Rattle.capnp_patch.specs.Places.{IsRefusedAt}
 use Rattle.capnp_patch.specs.declared.place.Place.{Place}
 use Rattle.capnp_queries.specs.Lengths.{length_at, part_length}
 use Rattle.capnp_queries.specs.Reach.{IsOnWay, at_path}
-use Rattle.capnp_queries.specs.Shown.{IsTooLongAt, raw_bytes}
+use Rattle.capnp_queries.specs.Shown.{IsTooLongAt, raw_bytes, reached_float_text}
 use Rattle.capnp_records.specs.Call.{PathStep}
 use Rattle.capnp_records.specs.Text.{IsText, Out}
 use Rattle.capnp_schema.specs.Schema.{Schemas}
@@ -33,13 +34,14 @@ abbrev pub IsWordOf : (raw : Option (List ℕ)) → Out → (text : List ℕ) �
 IsWordOf (Some raw) o text = text ≡ raw
 IsWordOf None o text = IsText o text
 
-abbrev pub IsReachedWord : Schemas → (raw indented : Bool) → Reached → (text : List ℕ) → Type 0
-IsReachedWord set raw indented (Err kind) text = ⊥
-IsReachedWord set raw indented (Ok p) text = IsWordOf (raw_bytes raw p.value) (reached_text set indented (Ok p)) text
+abbrev pub IsReachedWord : Schemas → (floats raw indented : Bool) → Reached → (text : List ℕ) → Type 0
+IsReachedWord set floats raw indented (Err kind) text = ⊥
+IsReachedWord set floats raw indented (Ok p) text = IsWordOf (raw_bytes raw p.value) (reached_float_text set floats indented (Ok p)) text
 
--- of what stands at the path
+-- of what stands at the path, whose last field says whether its numbers are floats
 abbrev pub IsValueText : GetJob → (bytes : List ℕ) → List PathStep → (text : List ℕ) → Type 0
-IsValueText j bytes path text = IsReachedWord (set_of j.schema) j.raw j.indented (at_path (set_of j.schema) (number_of j.schema) path bytes) text
+IsValueText j bytes path text =
+    IsReachedWord (set_of j.schema) (floats_at (set_of j.schema) (number_of j.schema) path) j.raw j.indented (at_path (set_of j.schema) (number_of j.schema) path bytes) text
 
 -- or how many elements a list has
 pub record IsCountText (s : StructSchema) (bytes : List ℕ) (path : List PathStep) (text : List ℕ) : Type 0 where

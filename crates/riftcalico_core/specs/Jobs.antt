@@ -1,8 +1,8 @@
 -- A plan under its set: the struct of its root, and the values of its calls.
-use Rattle.std.specs.Prelude.{ℕ, ◌≡◌, ⊤, List, [], get_or, map, Bool, true, false, Option, Some, None, Ok, Err, string_bytes}
+use Rattle.std.specs.Prelude.{ℕ, ◌+◌, ◌-◌, ◌*◌, ◌^◌, ◌≡◌, ◌≤◌, ◌⊎◌, ⊤, List, [], get_or, length, map, min, Bool, true, false, Option, Some, None, Ok, Err, string_bytes}
 use Rattle.std.specs.Option.{option_map}
 use Rattle.capnp_device.specs.declared.error.Error.{Error}
-use Rattle.capnp_device.specs.declared.error.ErrorKind.TheVariants.{NameNotFound}
+use Rattle.capnp_device.specs.declared.error.ErrorKind.TheVariants.{NameNotFound, TooLarge}
 use Rattle.capnp_call.specs.Seen.{path_seen}
 use Rattle.capnp_records.specs.Run.{root_type}
 use Rattle.capnp_schema.specs.Accepted.{IsAccepted}
@@ -12,7 +12,8 @@ use Rattle.capnp_schema.specs.Entries.{lists_seen}
 use Rattle.capnp_schema.specs.Schema.{Schemas}
 use Rattle.capnp_schema.specs.StructHandles.{IsStruct, number_of, set_of}
 use Rattle.capnp_schema.specs.declared.schema.structs.StructSchema.{StructSchema}
-use Rattle.capnp_sets.specs.Message.{IsMessageRefusal, message_set}
+use Rattle.capnp_sets.specs.Message.{HasLargeMessage, IsMessageRefusal, IsPastLimit, message_set}
+use Rattle.capnp_sets.specs.Unfolded.{values_size}
 use Rattle.riftcalico_core.specs.Calls.{call_read}
 use Rattle.riftcalico_core.specs.CallsSeen.{read_call_seen}
 use Rattle.riftcalico_core.specs.Plans.{CallsPlan, CheckPlan, ComparePlan, FromJsonPlan, GetPlan, JsonPlan, Plan, check_plan, compatible_plan, convert_plan, fields_plan, from_json_plan, get_plan, help_plan, json_plan, new_plan, patch_plan, structs_plan, version_plan}
@@ -35,15 +36,34 @@ use Rattle.capnp_words.specs.Targets.{type_along}
 
 -- ---- the set ----
 
--- the built-in one where no file is named; else that of the message in these bytes, which is accepted
-abbrev pub IsSetOfFile : (file : Option (List ℕ)) → (bytes : List ℕ) → Schemas → Type 0
-IsSetOfFile None bytes set = set ≡ builtin
-IsSetOfFile (Some path) bytes set = (message_set bytes ≡ Some set) × IsAccepted set
+-- How much there may be of what pointers lead to in a set of so many bytes: what a limit allows, and what a set without shared
+-- targets has.
+abbrev pub set_room : (limit count : ℕ) → ℕ
+set_room limit count = min (limit + 8 * count) (2 ^ 64 - 1)
 
--- these bytes give none
-abbrev pub IsNoSetOf : (file : Option (List ℕ)) → (bytes : List ℕ) → Error → Type 0
-IsNoSetOf None bytes e = ⊥
-IsNoSetOf (Some path) bytes e = IsMessageRefusal bytes e
+-- there is more in the message of a set, or in its values, than there may be
+abbrev pub IsSetPast : (limit : ℕ) → (bytes : List ℕ) → Error → Type 0
+IsSetPast limit bytes e = (e.kind ≡ TooLarge) × IsPastLimit (set_room limit (length bytes)) bytes
+
+-- the set of these bytes, which is accepted, and of which there is no more than there may be
+pub record IsSetIn (limit : ℕ) (bytes : List ℕ) (set : Schemas) : Type 0 where
+  pub read : message_set bytes ≡ Some set
+  pub accepted : IsAccepted set
+  pub message : HasLargeMessage (set_room limit (length bytes)) bytes → ⊥
+  pub values : values_size set ≤ set_room limit (length bytes)
+
+-- the built-in one where no file is named; else that of the message in these bytes
+abbrev pub IsSetOfFile : (limit : ℕ) → (file : Option (List ℕ)) → (bytes : List ℕ) → Schemas → Type 0
+IsSetOfFile limit None bytes set = set ≡ builtin
+IsSetOfFile limit (Some path) bytes set = IsSetIn limit bytes set
+
+-- these bytes give no set within a limit
+abbrev pub IsNoSetIn : (limit : ℕ) → (bytes : List ℕ) → Error → Type 0
+IsNoSetIn limit bytes e = IsMessageRefusal bytes e ⊎ IsSetPast limit bytes e
+
+abbrev pub IsNoSetOf : (limit : ℕ) → (file : Option (List ℕ)) → (bytes : List ℕ) → Error → Type 0
+IsNoSetOf limit None bytes e = ⊥
+IsNoSetOf limit (Some path) bytes e = IsNoSetIn limit bytes e
 
 -- ---- the struct of the root, and what is done ----
 
@@ -112,6 +132,7 @@ pub record IsCompareJob (p : ComparePlan) (set : Schemas) (j : CompareJob) : Typ
   pub quiet : j.quiet ≡ p.quiet
   pub breaking_only : j.breaking_only ≡ p.breaking_only
   pub both : j.both ≡ p.both
+  pub limit : j.limit ≡ p.limit
 
 abbrev pub IsJob : Plan → Schemas → Job → Type 0
 IsJob (get_plan p) set (job.Get j) = IsGetJob p set j
@@ -120,9 +141,9 @@ IsJob (from_json_plan p) set (job.FromJson j) = IsFromJsonJob p set j
 IsJob (check_plan p) set (job.Check j) = IsCheckJob p set j
 IsJob (patch_plan p) set (job.Patch j) = IsCallsJob p set j
 IsJob (new_plan p) set (job.New j) = IsCallsJob p set j
-IsJob (structs_plan file) set (job.Structs schemas) = lists_seen schemas.now ≡ set
-IsJob (fields_plan r) set (job.Fields s) = IsNamedStruct set r.name s
-IsJob (convert_plan strict) set (job.Convert given) = given ≡ strict
+IsJob (structs_plan file limit) set (job.Structs schemas most) = (lists_seen schemas.now ≡ set) × (most ≡ limit)
+IsJob (fields_plan r limit) set (job.Fields s most) = IsNamedStruct set r.name s × (most ≡ limit)
+IsJob (convert_plan strict limit) set (job.Convert given most) = (given ≡ strict) × (most ≡ limit)
 IsJob (compatible_plan p) set (job.Compatible j) = IsCompareJob p set j
 IsJob (help_plan v) set (job.Help given) = given ≡ v
 IsJob version_plan set job.Version = ⊤
@@ -142,7 +163,7 @@ root_name (from_json_plan p) = Some p.root.name
 root_name (check_plan p) = Some p.root.name
 root_name (patch_plan p) = Some p.root.name
 root_name (new_plan p) = Some p.root.name
-root_name (fields_plan r) = Some r.name
+root_name (fields_plan r limit) = Some r.name
 root_name p = None
 
 -- no struct of the set has it
@@ -161,9 +182,9 @@ wants_input (job.FromJson j) = true
 wants_input (job.Check j) = true
 wants_input (job.Patch j) = true
 wants_input (job.New j) = false
-wants_input (job.Structs schemas) = false
-wants_input (job.Fields s) = false
-wants_input (job.Convert strict) = true
+wants_input (job.Structs schemas limit) = false
+wants_input (job.Fields s limit) = false
+wants_input (job.Convert strict limit) = true
 wants_input (job.Compatible j) = false
 wants_input (job.Help v) = false
 wants_input job.Version = false
@@ -181,9 +202,9 @@ is_packed (job.FromJson j) = false
 is_packed (job.Check j) = j.packed
 is_packed (job.Patch j) = j.packed
 is_packed (job.New j) = false
-is_packed (job.Structs schemas) = false
-is_packed (job.Fields s) = false
-is_packed (job.Convert strict) = false
+is_packed (job.Structs schemas limit) = false
+is_packed (job.Fields s limit) = false
+is_packed (job.Convert strict limit) = false
 is_packed (job.Compatible j) = false
 is_packed (job.Help v) = false
 is_packed job.Version = false

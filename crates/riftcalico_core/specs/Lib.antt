@@ -25,3 +25,4 @@ pub mod Room
 pub mod Shown
 pub mod Steps
 pub mod Wanted
+pub mod Whole

@@ -55,13 +55,14 @@ pub record CallsPlan : Type 0 where
   pub packed : Bool
   pub limit : ℕ
 
--- a struct by its name or all, the bytes of the newer set, whether only the status is wanted, whether only what breaks is told, and whether they are compared in both directions
+-- a struct by its name or all, the bytes of the newer set, whether only the status is wanted, whether only what breaks is told, whether they are compared in both directions, and the most bytes that the text may have
 pub record ComparePlan : Type 0 where
   pub name : Option (List ℕ)
   pub newer : List ℕ
   pub quiet : Bool
   pub breaking_only : Bool
   pub both : Bool
+  pub limit : ℕ
 
 pub data Plan : Type 0 where
   get_plan : GetPlan → Plan
@@ -70,12 +71,27 @@ pub data Plan : Type 0 where
   check_plan : CheckPlan → Plan
   patch_plan : CallsPlan → Plan
   new_plan : CallsPlan → Plan
-  structs_plan : (file : Option (List ℕ)) → Plan
-  fields_plan : Root → Plan
-  convert_plan : (strict : Bool) → Plan
+  structs_plan : (file : Option (List ℕ)) → (limit : ℕ) → Plan
+  fields_plan : Root → (limit : ℕ) → Plan
+  convert_plan : (strict : Bool) → (limit : ℕ) → Plan
   compatible_plan : ComparePlan → Plan
   help_plan : Option Verb → Plan
   version_plan : Plan
+
+-- the most bytes or parts that may be made or looked at; of what makes nothing none
+abbrev pub plan_limit : Plan → ℕ
+plan_limit (get_plan p) = p.limit
+plan_limit (json_plan p) = p.limit
+plan_limit (from_json_plan p) = p.limit
+plan_limit (check_plan p) = p.limit
+plan_limit (patch_plan p) = p.limit
+plan_limit (new_plan p) = p.limit
+plan_limit (structs_plan file limit) = limit
+plan_limit (fields_plan r limit) = limit
+plan_limit (convert_plan strict limit) = limit
+plan_limit (compatible_plan p) = p.limit
+plan_limit (help_plan v) = 0
+plan_limit version_plan = 0
 
 -- the file of a task's calls, or of the newer of two sets
 abbrev pub given_file : GivenCalls → Option (List ℕ)
@@ -171,9 +187,9 @@ task_plan (from_json_task t) file = Ok (from_json_plan (from_json_plan_of t))
 task_plan (check_task t) file = as_plan check_plan (check_plan_of t)
 task_plan (patch_task t) file = as_plan patch_plan (calls_plan_of t file)
 task_plan (new_task t) file = as_plan new_plan (calls_plan_of t file)
-task_plan (structs_task set) file = Ok (structs_plan set)
-task_plan (fields_task r) file = Ok (fields_plan r)
-task_plan (convert_task strict) file = Ok (convert_plan strict)
-task_plan (compatible_task t) file = Ok (compatible_plan (record { name = t.name; newer = file; quiet = t.quiet; breaking_only = t.breaking_only; both = t.both }))
+task_plan (structs_task set limit) file = Ok (structs_plan set limit)
+task_plan (fields_task r limit) file = Ok (fields_plan r limit)
+task_plan (convert_task strict limit) file = Ok (convert_plan strict limit)
+task_plan (compatible_task t) file = Ok (compatible_plan (record { name = t.name; newer = file; quiet = t.quiet; breaking_only = t.breaking_only; both = t.both; limit = t.limit }))
 task_plan (help_task v) file = Ok (help_plan v)
 task_plan version_task file = Ok version_plan

@@ -28,7 +28,7 @@ abbrev pub check_plan_seen : CheckPlan → plans.CheckPlan
 check_plan_seen p = record { root = root_named p.root; path = path_text_seen p.path; all = p.all; packed = p.packed; limit = p.limit }
 
 abbrev pub compare_plan_seen : ComparePlan → plans.ComparePlan
-compare_plan_seen p = record { name = option_map (λ w. w.now) p.name; newer = p.newer.now; quiet = p.quiet; breaking_only = p.breaking_only; both = p.both }
+compare_plan_seen p = record { name = option_map (λ w. w.now) p.name; newer = p.newer.now; quiet = p.quiet; breaking_only = p.breaking_only; both = p.both; limit = p.limit }
 
 abbrev pub calls_plan_seen : CallsPlan → plans.CallsPlan
 calls_plan_seen p = record { root = root_named p.root; texts = map call_text_seen p.texts.items; words = map (λ w. w.now) p.words.items; keep_going = p.keep_going; packed = p.packed; limit = p.limit }
@@ -40,9 +40,9 @@ plan_seen (plan.FromJson p) = from_json_plan (from_json_plan_seen p)
 plan_seen (plan.Check p) = check_plan (check_plan_seen p)
 plan_seen (plan.Patch p) = patch_plan (calls_plan_seen p)
 plan_seen (plan.New p) = new_plan (calls_plan_seen p)
-plan_seen (plan.Structs file) = structs_plan (option_map (λ f. f.now) file)
-plan_seen (plan.Fields r) = fields_plan (root_named r)
-plan_seen (plan.Convert strict) = convert_plan strict
+plan_seen (plan.Structs file limit) = structs_plan (option_map (λ f. f.now) file) limit
+plan_seen (plan.Fields r limit) = fields_plan (root_named r) limit
+plan_seen (plan.Convert strict limit) = convert_plan strict limit
 plan_seen (plan.Compatible p) = compatible_plan (compare_plan_seen p)
 plan_seen (plan.Help v) = help_plan v
 plan_seen plan.Version = version_plan

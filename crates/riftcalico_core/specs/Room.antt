@@ -1,5 +1,5 @@
 -- Room within the limit of bytes that a message may have, and how a refusal for the want of it is told.
-use Rattle.std.specs.Prelude.{ℕ, ◌-◌, ◌≤◌, ◌<◌, ◌≡◌, [], Bool, true, false, string_bytes}
+use Rattle.std.specs.Prelude.{ℕ, ◌-◌, ◌≤◌, ◌<◌, ◌≡◌, List, [], length, Bool, true, false, string_bytes}
 use Rattle.capnp_device.specs.declared.error.ErrorKind.{ErrorKind}
 use Rattle.capnp_device.specs.declared.error.ErrorKind.TheVariants.{OutOfMemory, TooLarge}
 use Rattle.capnp_wire.specs.Locate.{words_past_format}
@@ -41,3 +41,10 @@ pub record IsPastLimit (limit : ℕ) (kind : ErrorKind) : Type 0 where
 pub record IsRoomless (limit : ℕ) (f : Fault) : Type 0 where
   pub past : IsPastLimit limit f.error.kind
   pub note : string_bytes f.note ≡ []
+
+-- a text is longer than a limit
+pub record IsLongText (limit : ℕ) (IsIt : List ℕ → Type 0) (kind : ErrorKind) : Type 0 where
+  pub is : kind ≡ TooLarge
+  pub text : List ℕ
+  pub of : IsIt text
+  pub long : limit < length text

@@ -3,3 +3,4 @@ pub mod Json
 pub mod Plans
 pub mod RepliesSeen
 pub mod Told
+pub mod Whole

@@ -8,10 +8,8 @@ ghost use Rattle.capnp_call.specs.Messages.{most_words};
 ghost use Rattle.capnp_call.specs.Seen.{call_seen, path_seen};
 ghost use Rattle.capnp_patch.specs.Patches.{IsLeftOfBytes, IsLeftOfNew, words_within};
 ghost use Rattle.capnp_patch.specs.Places.{HasFewParts, HasMoreParts};
-ghost use Rattle.capnp_schema.specs.Entries.{lists_seen};
 ghost use Rattle.capnp_schema.specs.StructHandles.{IsStruct, number_of, set_of};
-ghost use Rattle.capnp_set_engine.specs.Convert.{HasNoSet};
-ghost use Rattle.riftcalico_core.specs.Answers.{HasTooMany, IsAllAnswer, IsAnswer, IsCheckAnswer, IsConvertAnswer, IsFieldsAnswer, IsMessageAnswer, IsNewAnswer, IsNoAnswer, IsNoMessageAnswer, IsNotChecked, IsPatchAnswer, IsRunAnswer, IsShownAnswer, IsSoundJob, IsStructsAnswer, IsUnpatched, IsWritableOutput, answer_blamed};
+ghost use Rattle.riftcalico_core.specs.Answers.{HasTooMany, IsAllAnswer, IsAnswer, IsCheckAnswer, IsMessageAnswer, IsNewAnswer, IsNoAnswer, IsNoMessageAnswer, IsNotChecked, IsPatchAnswer, IsRunAnswer, IsShownAnswer, IsSoundJob, IsUnpatched, IsWritableOutput, answer_blamed};
 ghost use Rattle.riftcalico_core.specs.Outputs.{IsMessageOutput, IsPackedMessage};
 ghost use Rattle.riftcalico_core.specs.Quiet.{IsQuiet};
 ghost use Rattle.riftcalico_core.specs.Room.{IsBelowFormat, IsPastLimit};
@@ -30,6 +28,7 @@ use crate::json::answer_json;
 use crate::place::note_fault;
 use crate::replies::get_noted_lines;
 use crate::room::{is_by_limit, tell_room};
+use crate::sets::{answer_convert, answer_fields, answer_structs};
 use capnp_arena::message::Builder;
 use capnp_call::calls::{Call, Step, any_refused};
 use capnp_call::message::{Run, run_new};
@@ -38,10 +37,6 @@ use capnp_packed::received::read_message;
 use capnp_patch::engine::{run_bytes_within, words_within};
 use capnp_patch::place::{find_place_within, find_places};
 use capnp_schema::schema::StructSchema;
-use capnp_schema::set::SchemaSet;
-use capnp_set_engine::engine::convert_bytes;
-use capnp_structs::fields::get_fields;
-use capnp_structs::names::get_structs;
 use capnp_wire::error::Result;
 use riftcalico_words::usage::{get_help, get_version};
 use std::alloc::Global;
@@ -294,38 +289,6 @@ fn answer_new(alloc: Global, job: &CallsJob<'_, '_, '_>) -> Result<Answer>
     answer_run(alloc, run, job, &calls)
 }
 
-/// The structs of a set, as text.
-fn answer_structs(alloc: Global, schemas: &SchemaSet) -> Result<Answer>
-    ensures answer { IfOk result (IsStructsAnswer (lists_seen schemas.now)) }
-    ensures memory { IfErr result (λ e. e.kind ≡ OutOfMemory) }
-{
-    let text = get_structs(alloc, schemas)?;
-    Ok(answer_quietly(alloc, Output::Text(text)))
-}
-
-/// The fields of a struct, as text.
-fn answer_fields(alloc: Global, schema: StructSchema<'_>) -> Result<Answer>
-    requires { IsStruct schema }
-    ensures answer { IfOk result (IsFieldsAnswer schema.entry) }
-    ensures memory { IfErr result (λ e. e.kind ≡ OutOfMemory) }
-{
-    let text = get_fields(alloc, schema)?;
-    Ok(answer_quietly(alloc, Output::Text(text)))
-}
-
-/// The message of the set of a compiler's request, and what is told of it.
-fn answer_convert(alloc: Global, strict: bool, input: &[u8]) -> Result<Answer>
-    ensures answer { IfOk result (IsConvertAnswer strict input.now) }
-    ensures refused { IfErr result (λ e. e.kind ≢ OutOfMemory → HasNoSet strict input.now e) }
-{
-    let made = convert_bytes(alloc, input, strict)?;
-    Ok(Answer {
-        output: Output::Bytes(made.message),
-        lines: made.lines,
-        refused: false,
-    })
-}
-
 /// What a job answers to a message that is not packed. Refused as `get_answer`, but for what is packed.
 ///
 /// # Conditions
@@ -345,11 +308,19 @@ pub fn answer_message(alloc: Global, job: &Job<'_, '_, '_>, message: &[u8]) -> F
         Job::Check(job) => answer_check(alloc, job, message),
         Job::Patch(job) => blame(alloc, answer_patch(alloc, job, message), Blamed::Input),
         Job::New(job) => blame(alloc, answer_new(alloc, job), Blamed::Output),
-        Job::Structs(schemas) => blame(alloc, answer_structs(alloc, schemas), Blamed::Output),
-        Job::Fields(schema) => blame(alloc, answer_fields(alloc, *schema), Blamed::Output),
-        Job::Convert(strict) => blame(
+        Job::Structs(schemas, limit) => blame(
             alloc,
-            answer_convert(alloc, *strict, message),
+            answer_structs(alloc, schemas, *limit),
+            Blamed::Output,
+        ),
+        Job::Fields(schema, limit) => blame(
+            alloc,
+            answer_fields(alloc, *schema, *limit),
+            Blamed::Output,
+        ),
+        Job::Convert(strict, limit) => blame(
+            alloc,
+            answer_convert(alloc, *strict, *limit, message),
             Blamed::Input,
         ),
         Job::Compatible(job) => answer_compare(alloc, job),
@@ -364,8 +335,8 @@ pub fn answer_message(alloc: Global, job: &Job<'_, '_, '_>, message: &[u8]) -> F
 /// limit, of `json` as `capnp_queries::json::get_json`, with the place of a step, but for what only JSON refuses, which is
 /// told, as what `from-json` refuses, but for a message without room within the limit (`TooLarge`); of
 /// `check` as `capnp_patch::place::find_place_within`, with the place, of `patch` as
-/// `capnp_patch::engine::run_bytes` and for room, as of `new`, of `schemas` as `capnp_set_engine::engine::convert_bytes`; and where the message is
-/// packed as `capnp_packed::received::read_message`.
+/// `capnp_patch::engine::run_bytes` and for room, as of `new`, of `schemas` as `capnp_set_engine::engine::convert_bytes`, of
+/// it, `structs` and `compatible` with `TooLarge` past the limit; and where the message is packed as `capnp_packed::received::read_message`.
 ///
 /// # Conditions
 ///

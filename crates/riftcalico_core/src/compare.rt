@@ -4,18 +4,18 @@ ghost use Rattle.std.specs.Option.{option_map};
 ghost use Rattle.capnp_device.specs.declared.error.ErrorKind.TheVariants.{OutOfMemory};
 ghost use Rattle.capnp_schema.specs.Entries.{lists_seen};
 ghost use Rattle.capnp_schema.specs.Schema.{Schemas};
-ghost use Rattle.capnp_sets.specs.Message.{IsMessageRefusal, message_set};
 ghost use Rattle.capnp_versions.specs.Versions.{IsNotCompared, IsNotComparedAll};
 ghost use Rattle.riftcalico_core.specs.Answers.{IsWritableOutput};
-ghost use Rattle.riftcalico_core.specs.Comparisons.{AreNotCompared, AreReports, IsAskedReport, IsCompareAnswer, IsComparisonOutput, IsFullReport, IsNamedReport, IsNoReport, IsReport, IsReportAnswer, IsUncompared, both_text, compare_blamed};
+ghost use Rattle.riftcalico_core.specs.Comparisons.{AreNotCompared, AreReports, IsAskedReport, IsCompareAnswer, IsComparisonOutput, IsFullReport, IsNamedReport, IsNoReport, IsNotTold, IsReport, IsReportAnswer, IsReported, IsUncompared, both_text, compare_blamed};
+ghost use Rattle.riftcalico_core.specs.Jobs.{IsNoSetIn, IsSetIn};
 
 use crate::answer::{Answer, Output};
 use crate::fault::{Blamed, Faulty, get_fault};
 use crate::job::CompareJob;
+use crate::schemas::read_set;
 use capnp_schema::set::SchemaSet;
-use capnp_sets::message::read_message as read_set;
 use capnp_versions::{compare, compare_all, get_named_report, get_report};
-use capnp_wire::error::{ErrorKind, Result};
+use capnp_wire::error::{Error, ErrorKind, Result};
 use std::alloc::Global;
 
 /// What is told of two versions, and whether the newer one follows the older one.
@@ -26,7 +26,7 @@ pub struct Report {
 }
 
 /// What is to be looked at where two versions can't be compared.
-fn compare_blamed(kind: ErrorKind) -> Blamed
+pub(crate) fn compare_blamed(kind: ErrorKind) -> Blamed
     ensures { result ≡ compare_blamed kind }
 {
     match kind {
@@ -165,7 +165,7 @@ fn get_comparison_output(quiet: bool, text: String) -> Output
 }
 
 /// What is answered where this is told.
-fn answer_report(alloc: Global, quiet: bool, report: Report) -> Answer
+pub(crate) fn answer_report(alloc: Global, quiet: bool, report: Report) -> Answer
     ensures answer { IsReportAnswer quiet report result }
     ensures writable { IsWritableOutput result.output }
 {
@@ -177,19 +177,31 @@ fn answer_report(alloc: Global, quiet: bool, report: Report) -> Answer
     }
 }
 
-/// What differs between two versions, as text.
+/// What is asked of the set in the bytes of the newer one.
+fn report_versions(alloc: Global, job: &CompareJob<'_, '_>) -> Result<Report>
+    ensures reported { IfOk result (IsReported job.now) }
+    ensures refused { IfErr result (λ e. e.kind ≢ OutOfMemory → IsNoSetIn job.now.limit job.now.newer.now e
+        ⊎ ((newer : Schemas) × IsSetIn job.now.limit job.now.newer.now newer
+        × IsNoReport job.now.both (lists_seen job.now.schemas.now) newer (option_map (λ w. w.now) job.now.name) e.kind)) }
+{
+    let newer = read_set(alloc, job.newer, job.limit)?;
+    match report_asked(alloc, job, &newer) {
+        Ok(report) => Ok(report),
+        Err(error) => Err(error),
+    }
+}
+
+/// What differs between two versions, as text of at most so many bytes.
 fn compare_versions(alloc: Global, job: &CompareJob<'_, '_>) -> Result<Answer>
     ensures answer { IfOk result (IsCompareAnswer job.now) }
     ensures writable { IfOk result (λ a. IsWritableOutput a.output) }
-    ensures refused { IfErr result (λ e. e.kind ≢ OutOfMemory → IsMessageRefusal job.now.newer.now e
-        ⊎ ((newer : Schemas) × (message_set job.now.newer.now ≡ Some newer)
-        × IsNoReport job.now.both (lists_seen job.now.schemas.now) newer (option_map (λ w. w.now) job.now.name) e.kind)) }
+    ensures refused { IfErr result (λ e. e.kind ≢ OutOfMemory → IsNotTold job.now e) }
 {
-    let newer = read_set(alloc, job.newer)?;
-    match report_asked(alloc, job, &newer) {
-        Ok(report) => Ok(answer_report(alloc, job.quiet, report)),
-        Err(error) => Err(error),
+    let report = report_versions(alloc, job)?;
+    if report.text.len() as u64 > job.limit {
+        return Err(Error::from(ErrorKind::TooLarge));
     }
+    Ok(answer_report(alloc, job.quiet, report))
 }
 
 /// What differs between two versions, or what is to be looked at.

@@ -69,10 +69,10 @@ pub fn get_set_file<'a>(task: &Task<'a>) -> Option<&'a str>
         Task::FromJson(request) => request.root.file,
         Task::Check(request) => request.root.file,
         Task::Patch(request) | Task::New(request) => request.root.file,
-        Task::Structs(file) => *file,
-        Task::Fields(root) => root.file,
+        Task::Structs(file, _) => *file,
+        Task::Fields(root, _) => root.file,
         Task::Compatible(request) => Some(request.older),
-        Task::Convert(_) | Task::Help(_) | Task::Version => None,
+        Task::Convert(_, _) | Task::Help(_) | Task::Version => None,
     }
 }
 
@@ -116,9 +116,9 @@ fn get_name<'a>(task: &Task<'a>) -> &'a str
         Task::FromJson(request) => request.root.name,
         Task::Check(request) => request.root.name,
         Task::Patch(request) | Task::New(request) => request.root.name,
-        Task::Fields(root) => root.name,
+        Task::Fields(root, _) => root.name,
         Task::Compatible(request) => get_name_word(request.name),
-        Task::Structs(_) | Task::Convert(_) | Task::Help(_) | Task::Version => "",
+        Task::Structs(_, _) | Task::Convert(_, _) | Task::Help(_) | Task::Version => "",
     }
 }
 

@@ -10,7 +10,7 @@ ghost use Rattle.capnp_device.specs.declared.error.ErrorKind.TheVariants.{OutOfM
 ghost use Rattle.capnp_call.specs.Seen.{path_seen};
 ghost use Rattle.capnp_dynamic_readers.specs.Pieces.{IsLonger};
 ghost use Rattle.capnp_dynamic_readers.specs.Seen.{value_seen};
-ghost use Rattle.capnp_dynamic_readers.specs.Shown.{printed_text};
+ghost use Rattle.capnp_float_texts.specs.Printed.{printed_float_text};
 ghost use Rattle.capnp_patch.specs.Gets.{got_text};
 ghost use Rattle.capnp_queries.specs.Shown.{IsTooLong, IsTooLongAt, raw_bytes};
 ghost use Rattle.capnp_records.specs.Text.{IsText};
@@ -30,8 +30,9 @@ use crate::place::{note_fault, tell_path, tell_place};
 use crate::queries::AskedQuery;
 use capnp_call::calls::Step;
 use capnp_dynamic_readers::dynamic_value::Reader as Value;
-use capnp_dynamic_readers::printer::print_within;
+use capnp_float_texts::printer::print_floats_within;
 use capnp_patch::place::find_place;
+use capnp_queries::floats::has_floats_at;
 use capnp_queries::length::{NoLength, get_length};
 use capnp_queries::reach::reach_path;
 use capnp_schema::schema::StructSchema;
@@ -67,16 +68,22 @@ fn copy_within(alloc: Global, bytes: &[u8], limit: u64) -> Result<Vec<u8>>
     Ok(copy)
 }
 
-/// The text of a value, where it has at most so many bytes.
-fn print_value(alloc: Global, value: Value<'_>, indented: bool, limit: u64) -> Result<Vec<u8>>
-    ensures text { IfOk result (λ text. IsText (printed_text indented value.entry) text.items) }
+/// The text of a value, whose numbers are floats or not, where it has at most so many bytes.
+fn print_value(
+    alloc: Global,
+    value: Value<'_>,
+    floats: bool,
+    indented: bool,
+    limit: u64,
+) -> Result<Vec<u8>>
+    ensures text { IfOk result (λ text. IsText (printed_float_text floats indented value.entry) text.items) }
     ensures within { IfOk result (λ text. length text.items ≤ limit) }
     ensures refused { IfErr result (λ e. e.kind ≢ OutOfMemory → e.kind ≢ TooLarge
-        → printed_text indented value.entry ≡ Err e.kind) }
-    ensures too_long { IfErr result (λ e. e.kind ≡ TooLarge → IsLonger limit (printed_text indented value.entry)) }
+        → printed_float_text floats indented value.entry ≡ Err e.kind) }
+    ensures too_long { IfErr result (λ e. e.kind ≡ TooLarge → IsLonger limit (printed_float_text floats indented value.entry)) }
 {
     let mut text = String::new(alloc);
-    print_within(value, &mut text, indented, limit)?;
+    print_floats_within(value, floats, &mut text, indented, limit)?;
     Ok(text.into_bytes())
 }
 
@@ -84,21 +91,22 @@ fn print_value(alloc: Global, value: Value<'_>, indented: bool, limit: u64) -> R
 fn get_value_text(
     alloc: Global,
     value: Value<'_>,
+    floats: bool,
     raw: bool,
     indented: bool,
     limit: u64,
 ) -> Result<Vec<u8>>
     ensures text { IfOk result (λ text. IsWordOf (raw_bytes raw (value_seen value.entry))
-        (printed_text indented value.entry) text.items) }
+        (printed_float_text floats indented value.entry) text.items) }
     ensures within { IfOk result (λ text. length text.items ≤ limit) }
     ensures refused { IfErr result (λ e. e.kind ≢ OutOfMemory → e.kind ≢ TooLarge
-        → printed_text indented value.entry ≡ Err e.kind) }
+        → printed_float_text floats indented value.entry ≡ Err e.kind) }
     ensures too_long { IfErr result (λ e. e.kind ≡ TooLarge → IsTooLong (raw_bytes raw (value_seen value.entry)) limit
-        (printed_text indented value.entry)) }
+        (printed_float_text floats indented value.entry)) }
 {
     match get_raw(value, raw) {
         Some(bytes) => copy_within(alloc, bytes, limit),
-        None => print_value(alloc, value, indented, limit),
+        None => print_value(alloc, value, floats, indented, limit),
     }
 }
 
@@ -123,7 +131,8 @@ fn get_text_at(
         Ok(value) => value,
         Err(refusal) => return Err(Error::from(refusal.kind)),
     };
-    match get_value_text(alloc, value, job.raw, job.indented, limit) {
+    let floats = has_floats_at(job.schema, steps);
+    match get_value_text(alloc, value, floats, job.raw, job.indented, limit) {
         Ok(text) => Ok(text),
         Err(error) => Err(error),
     }

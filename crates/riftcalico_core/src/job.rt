@@ -78,7 +78,8 @@ pub struct CallsJob<'s, 'c, 'w> {
 }
 
 /// The struct of a name or all structs, which are compared with those of the set in these bytes; whether only the status is
-/// wanted, whether only what breaks is told, and whether they are compared in both directions.
+/// wanted, whether only what breaks is told, whether they are compared in both directions, and the most bytes that the text
+/// may have.
 #[derive(Clone, Copy)]
 pub struct CompareJob<'s, 'c> {
     pub schemas: &'s SchemaSet,
@@ -87,6 +88,7 @@ pub struct CompareJob<'s, 'c> {
     pub quiet: bool,
     pub breaking_only: bool,
     pub both: bool,
+    pub limit: u64,
 }
 
 /// What is done to a message.
@@ -104,12 +106,12 @@ pub enum Job<'s, 'c, 'w> {
     Patch(CallsJob<'s, 'c, 'w>),
     /// Calls are made on an empty root, and no message is read.
     New(CallsJob<'s, 'c, 'w>),
-    /// The structs of a set are shown, and no message is read.
-    Structs(&'s SchemaSet),
-    /// The fields of a struct are shown, and no message is read.
-    Fields(StructSchema<'s>),
-    /// It is a compiler's request, which is made a set; whether floats and interfaces are refused.
-    Convert(bool),
+    /// The structs of a set are shown, in so many bytes at most, and no message is read.
+    Structs(&'s SchemaSet, u64),
+    /// The fields of a struct are shown, in so many bytes at most, and no message is read.
+    Fields(StructSchema<'s>, u64),
+    /// It is a compiler's request, which is made a set of so many bytes at most; whether floats and interfaces are refused.
+    Convert(bool, u64),
     /// Two versions of a struct or of all are compared, and no message is read.
     Compatible(CompareJob<'s, 'c>),
     /// Help is told, of all or of a verb, and no message is read.
@@ -130,9 +132,9 @@ impl Job<'_, '_, '_> {
             Job::Patch(job) => job.packed,
             Job::FromJson(_)
             | Job::New(_)
-            | Job::Structs(_)
-            | Job::Fields(_)
-            | Job::Convert(_)
+            | Job::Structs(_, _)
+            | Job::Fields(_, _)
+            | Job::Convert(_, _)
             | Job::Compatible(_)
             | Job::Help(_)
             | Job::Version => false,
@@ -159,10 +161,10 @@ impl Job<'_, '_, '_> {
             | Job::FromJson(_)
             | Job::Check(_)
             | Job::Patch(_)
-            | Job::Convert(_) => true,
+            | Job::Convert(_, _) => true,
             Job::New(_)
-            | Job::Structs(_)
-            | Job::Fields(_)
+            | Job::Structs(_, _)
+            | Job::Fields(_, _)
             | Job::Compatible(_)
             | Job::Help(_)
             | Job::Version => false,
@@ -357,9 +359,12 @@ pub fn find_job<'s, 'c, 'w>(
             Ok(job) => Ok(Ok(Job::New(job))),
             Err(line) => Ok(Err(line)),
         },
-        Plan::Structs(_) => Ok(Ok(Job::Structs(schemas))),
-        Plan::Fields(root) => Ok(Ok(Job::Fields(find_root(alloc, schemas, root.name)?))),
-        Plan::Convert(strict) => Ok(Ok(Job::Convert(*strict))),
+        Plan::Structs(_, limit) => Ok(Ok(Job::Structs(schemas, *limit))),
+        Plan::Fields(root, limit) => {
+            let schema = find_root(alloc, schemas, root.name)?;
+            Ok(Ok(Job::Fields(schema, *limit)))
+        }
+        Plan::Convert(strict, limit) => Ok(Ok(Job::Convert(*strict, *limit))),
         Plan::Compatible(plan) => Ok(Ok(Job::Compatible(CompareJob {
             schemas,
             name: plan.name,
@@ -367,6 +372,7 @@ pub fn find_job<'s, 'c, 'w>(
             quiet: plan.quiet,
             breaking_only: plan.breaking_only,
             both: plan.both,
+            limit: plan.limit,
         }))),
         Plan::Help(verb) => Ok(Ok(Job::Help(*verb))),
         Plan::Version => Ok(Ok(Job::Version)),

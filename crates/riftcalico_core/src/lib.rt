@@ -22,5 +22,7 @@ pub mod queries;
 mod replies;
 mod room;
 pub mod schemas;
+mod sets;
 mod wanted;
+pub mod whole;
 mod words;

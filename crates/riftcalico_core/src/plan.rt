@@ -3,8 +3,8 @@ ghost use Rattle.std.specs.Prelude.{◌≡◌, IfErr, IfOk, map};
 ghost use Rattle.std.specs.Option.{option_map};
 ghost use Rattle.std.specs.Str.{is_utf8};
 ghost use Rattle.capnp_device.specs.declared.error.ErrorKind.TheVariants.{OutOfMemory};
-ghost use Rattle.riftcalico_core.specs.Plans.{calls_file, calls_plan_of, check_plan_of, get_plan_of, given_file, given_plan, json_plan_of, task_plan, text_plan, words_plan};
-ghost use Rattle.riftcalico_core.specs.PlansSeen.{told_plan};
+ghost use Rattle.riftcalico_core.specs.Plans.{calls_file, calls_plan_of, check_plan_of, get_plan_of, given_file, given_plan, json_plan_of, plan_limit, task_plan, text_plan, words_plan};
+ghost use Rattle.riftcalico_core.specs.PlansSeen.{plan_seen, told_plan};
 ghost use Rattle.riftcalico_core.specs.Steps.Plans.{told_calls, told_calls_plan, told_check_plan, told_get_plan, told_json_plan};
 ghost use Rattle.riftcalico_words.specs.RequestSeen.{calls_task_of, check_task_of, get_task_of, given_of, json_task_of, task_seen};
 
@@ -77,7 +77,8 @@ pub struct CallsPlan<'a> {
 }
 
 /// The struct of a name or all structs, which are compared with those of the set in these bytes; whether only the status is
-/// wanted, whether only what breaks is told, and whether they are compared in both directions.
+/// wanted, whether only what breaks is told, whether they are compared in both directions, and the most bytes that the text
+/// may have.
 #[derive(Clone, Copy)]
 pub struct ComparePlan<'a> {
     pub name: Option<&'a str>,
@@ -85,6 +86,7 @@ pub struct ComparePlan<'a> {
     pub quiet: bool,
     pub breaking_only: bool,
     pub both: bool,
+    pub limit: u64,
 }
 
 /// What is to be done.
@@ -102,18 +104,39 @@ pub enum Plan<'a> {
     Patch(CallsPlan<'a>),
     /// Calls are made on an empty root.
     New(CallsPlan<'a>),
-    /// The structs of the set that a file holds are shown, or else of the built-in one.
-    Structs(Option<&'a str>),
-    /// The fields of a struct are shown.
-    Fields(NamedRoot<'a>),
-    /// A compiler's request is made a set; whether floats and interfaces are refused.
-    Convert(bool),
+    /// The structs of the set that a file holds are shown, or else of the built-in one, in so many bytes at most.
+    Structs(Option<&'a str>, u64),
+    /// The fields of a struct are shown, in so many bytes at most.
+    Fields(NamedRoot<'a>, u64),
+    /// A compiler's request is made a set of so many bytes at most; whether floats and interfaces are refused.
+    Convert(bool, u64),
     /// Two versions of a struct or of all are compared.
     Compatible(ComparePlan<'a>),
     /// Help is told, of all or of a verb.
     Help(Option<Verb>),
     /// The version is told.
     Version,
+}
+
+impl Plan<'_> {
+    /// The most bytes or parts that may be made or looked at; of what makes nothing none.
+    pub fn get_limit(&self) -> u64
+        ensures { result ≡ plan_limit (plan_seen self.now) }
+    {
+        match self {
+            Plan::Get(plan) => plan.limit,
+            Plan::Json(plan) => plan.limit,
+            Plan::FromJson(plan) => plan.limit,
+            Plan::Check(plan) => plan.limit,
+            Plan::Patch(plan) => plan.limit,
+            Plan::New(plan) => plan.limit,
+            Plan::Structs(_, limit) => *limit,
+            Plan::Fields(_, limit) => *limit,
+            Plan::Convert(_, limit) => *limit,
+            Plan::Compatible(plan) => plan.limit,
+            Plan::Help(_) | Plan::Version => 0,
+        }
+    }
 }
 
 /// The file whose lines the calls are.
@@ -137,9 +160,9 @@ pub fn get_calls_file<'a>(task: &Task<'a>) -> Option<&'a str>
         | Task::Json(_)
         | Task::FromJson(_)
         | Task::Check(_)
-        | Task::Structs(_)
-        | Task::Fields(_)
-        | Task::Convert(_)
+        | Task::Structs(_, _)
+        | Task::Fields(_, _)
+        | Task::Convert(_, _)
         | Task::Help(_)
         | Task::Version => None,
     }
@@ -313,15 +336,16 @@ pub fn read_plan<'a>(alloc: Global, task: &Task<'a>, file: &'a [u8]) -> Result<T
             Ok(plan) => Ok(Ok(Plan::New(plan))),
             Err(line) => Ok(Err(line)),
         },
-        Task::Structs(set) => Ok(Ok(Plan::Structs(*set))),
-        Task::Fields(root) => Ok(Ok(Plan::Fields(*root))),
-        Task::Convert(strict) => Ok(Ok(Plan::Convert(*strict))),
+        Task::Structs(set, limit) => Ok(Ok(Plan::Structs(*set, *limit))),
+        Task::Fields(root, limit) => Ok(Ok(Plan::Fields(*root, *limit))),
+        Task::Convert(strict, limit) => Ok(Ok(Plan::Convert(*strict, *limit))),
         Task::Compatible(request) => Ok(Ok(Plan::Compatible(ComparePlan {
             name: request.name,
             newer: file,
             quiet: request.quiet,
             breaking_only: request.breaking_only,
             both: request.both,
+            limit: request.limit,
         }))),
         Task::Help(verb) => Ok(Ok(Plan::Help(*verb))),
         Task::Version => Ok(Ok(Plan::Version)),

@@ -3,7 +3,7 @@ use Rattle.std.proofs.Common.{◌≡◌, ℕ, List, Option, Ok, Err, inl, inr, r
 use Rattle.capnp_schema.specs.Schema.{Schemas}
 use Rattle.riftcalico_core.specs.Faults.{task_set_file}
 use Rattle.riftcalico_core.specs.Jobs.{IsJob, IsSetOfFile}
-use Rattle.riftcalico_core.specs.Plans.{Plan, calls_file, task_plan}
+use Rattle.riftcalico_core.specs.Plans.{Plan, calls_file, plan_limit, task_plan}
 use Rattle.riftcalico_core.specs.declared.fault.Blamed.TheVariants as blamed
 use Rattle.riftcalico_core.specs.declared.job.Job.{Job}
 use Rattle.riftcalico_engine.specs.Files.{IsFileRead, IsFileUnread, Opens}
@@ -48,11 +48,11 @@ module _ {O A S W F : Type 0} (opens : Opens O A) (holds : A → Option (List �
   set_unread t o mid o' calls p s w f r planned is = inr (mid, calls, planned.calls_read, inr (inr (p, planned.plan_is, inl (is, (refl, refl, refl)))))
 
   pub setless_run : (t : Task) (o mid o' : O) (calls bytes : List ℕ) (p : Plan) (s : S) (w : W) (f : F) (r : Ran) → IsPlanned t o mid calls p
-      → IsFileRead opens holds mid o' (task_set_file t) bytes → IsSetless (task_set_file t) bytes r → Runs t o o' s s w w f f r
+      → IsFileRead opens holds mid o' (task_set_file t) bytes → IsSetless (plan_limit p) (task_set_file t) bytes r → Runs t o o' s s w w f f r
   setless_run t o mid o' calls bytes p s w f r planned read is =
       inr (mid, calls, planned.calls_read, inr (inr (p, planned.plan_is, inr (bytes, read, inl (is, (refl, refl, refl))))))
 
   pub under_run : (t : Task) (o mid o' : O) (calls bytes : List ℕ) (p : Plan) (set : Schemas) (s s' : S) (w w' : W) (f f' : F) (r : Ran) → IsPlanned t o mid calls p
-      → IsFileRead opens holds mid o' (task_set_file t) bytes → IsSetOfFile (task_set_file t) bytes set → IsUnderSchemas left reads written writes told tells t p set s s' w w' f f' r → Runs t o o' s s' w w' f f' r
+      → IsFileRead opens holds mid o' (task_set_file t) bytes → IsSetOfFile (plan_limit p) (task_set_file t) bytes set → IsUnderSchemas left reads written writes told tells t p set s s' w w' f f' r → Runs t o o' s s' w w' f f' r
   under_run t o mid o' calls bytes p set s s' w w' f f' r planned read made under =
       inr (mid, calls, planned.calls_read, inr (inr (p, planned.plan_is, inr (bytes, read, inr (set, made, under)))))

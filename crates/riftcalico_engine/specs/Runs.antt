@@ -9,7 +9,7 @@ use Rattle.capnp_show_engine.specs.Opened.{file_paths}
 use Rattle.capnp_show_engine.specs.Show.{IsRead}
 use Rattle.riftcalico_core.specs.Faults.{task_set_file}
 use Rattle.riftcalico_core.specs.Jobs.{IsJob, IsLineOfPlan, IsRootUnnamed, IsNoSetOf, IsSetOfFile, is_packed, wants_input}
-use Rattle.riftcalico_core.specs.Plans.{Plan, calls_file, task_plan}
+use Rattle.riftcalico_core.specs.Plans.{Plan, calls_file, plan_limit, task_plan}
 use Rattle.riftcalico_core.specs.declared.fault.Blamed.TheVariants as blamed
 use Rattle.riftcalico_core.specs.declared.job.Job.{Job}
 use Rattle.riftcalico_engine.specs.Files.{IsFileRead, IsFileUnread, Opens}
@@ -62,11 +62,11 @@ module _ {S W F : Type 0} (left : S → Option (List ℕ)) (reads : S → ℕ) (
       ⊎ ((IsUnreadable r (λ line. IsLineOfPlan p set line) × IsIdle s s' w w' f f')
       ⊎ ((j : Job) × IsJob p set j × IsJobRun t j s s' w w' f f' r))
 
-  -- the bytes of its file give the set, or it is the built-in one
+  -- the bytes of its file give the set within the plan's limit, or it is the built-in one
   abbrev pub IsSetRun : Task → (file : Option (List ℕ)) → (bytes : List ℕ) → Plan → (s s' : S) → (w w' : W) → (f f' : F) → Ran → Type 0
   IsSetRun t file bytes p s s' w w' f f' r =
-      (IsFault r (λ x. (x.blamed ≡ blamed.«Set») × ((x.error.kind ≡ OutOfMemory) ⊎ IsNoSetOf file bytes x.error)) × IsIdle s s' w w' f f')
-      ⊎ ((set : Schemas) × IsSetOfFile file bytes set × IsUnderSchemas t p set s s' w w' f f' r)
+      (IsFault r (λ x. (x.blamed ≡ blamed.«Set») × ((x.error.kind ≡ OutOfMemory) ⊎ IsNoSetOf (plan_limit p) file bytes x.error)) × IsIdle s s' w w' f f')
+      ⊎ ((set : Schemas) × IsSetOfFile (plan_limit p) file bytes set × IsUnderSchemas t p set s s' w w' f f' r)
 
 module _ {O A S W F : Type 0} (opens : Opens O A) (holds : A → Option (List ℕ)) (fails : A → ℕ)
     (left : S → Option (List ℕ)) (reads : S → ℕ) (written : W → Option (List ℕ)) (writes : W → ℕ) (told : F → Option (List ℕ)) (tells : F → ℕ) where

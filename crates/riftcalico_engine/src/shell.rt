@@ -74,7 +74,7 @@ pub fn run<O: Opener, R: Source, W: Sink, F: Sink>(
     };
     let file = get_set_file(task);
     let bytes = read_file(alloc, opener, file, Blamed::Set)?;
-    let schemas = find_schemas(alloc, file, &bytes)?;
+    let schemas = find_schemas(alloc, &plan, file, &bytes)?;
     match find_task_job(alloc, &schemas, &plan) {
         Ok(job) => match get_way(task, &job) {
             Way::Unread => put_answer(alloc, None, get_answer(alloc, &job, b""), sink, errors),

@@ -5,7 +5,7 @@ ghost use Rattle.std.specs.Option.{option_map};
 ghost use Rattle.capnp_schema.specs.Entries.{lists_seen};
 ghost use Rattle.riftcalico_core.specs.Answers.{IsSoundJob};
 ghost use Rattle.riftcalico_core.specs.Jobs.{IsJob, IsSetOfFile, is_packed, wants_input};
-ghost use Rattle.riftcalico_core.specs.Plans.{task_plan};
+ghost use Rattle.riftcalico_core.specs.Plans.{plan_limit, task_plan};
 ghost use Rattle.riftcalico_core.specs.PlansSeen.{plan_seen};
 ghost use Rattle.riftcalico_engine.specs.Steps.Stages.{IsSetless, IsUnplanned, IsWithoutJob, stream_of, way_of};
 ghost use Rattle.riftcalico_words.specs.RequestSeen.{task_seen};
@@ -42,16 +42,19 @@ pub(crate) fn find_plan<'a>(
     }
 }
 
-/// The set of its file's bytes, or the built-in one where none is named.
+/// The set of its file's bytes within the plan's limit, or the built-in one where none is named.
 pub(crate) fn find_schemas(
     alloc: Global,
+    plan: &Plan<'_>,
     file: Option<&str>,
     bytes: &[u8],
 ) -> std::result::Result<SchemaSet, Refusal>
-    ensures set { IfOk result (λ s. IsSetOfFile (option_map (λ f. f.now) file.entry) bytes.now (lists_seen s)) }
-    ensures refused { IfErr result (λ x. IsSetless (option_map (λ f. f.now) file.entry) bytes.now (Err x)) }
+    ensures set { IfOk result (λ s. IsSetOfFile (plan_limit (plan_seen plan.now)) (option_map (λ f. f.now) file.entry)
+        bytes.now (lists_seen s)) }
+    ensures refused { IfErr result (λ x. IsSetless (plan_limit (plan_seen plan.now)) (option_map (λ f. f.now) file.entry)
+        bytes.now (Err x)) }
 {
-    match make_schemas(alloc, file, bytes) {
+    match make_schemas(alloc, file, bytes, plan.get_limit()) {
         Ok(schemas) => Ok(schemas),
         Err(error) => Err(refuse(alloc, None, error, Blamed::Set)),
     }

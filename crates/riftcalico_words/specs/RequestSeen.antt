@@ -34,7 +34,7 @@ abbrev pub check_task_of : CheckRequest → CheckTask
 check_task_of r = record { root = root_named r.root; path = r.path.now; all = r.all; packed = r.packed; messages = r.messages; limit = r.limit }
 
 abbrev pub compare_task_of : CompareRequest → CompareTask
-compare_task_of r = record { older = r.older.now; newer = r.newer.now; name = option_map (λ w. w.now) r.name; quiet = r.quiet; breaking_only = r.breaking_only; both = r.both }
+compare_task_of r = record { older = r.older.now; newer = r.newer.now; name = option_map (λ w. w.now) r.name; quiet = r.quiet; breaking_only = r.breaking_only; both = r.both; limit = r.limit }
 
 abbrev pub given_of : CallWords → GivenCalls
 given_of (words.Words ws) = in_words (map (λ w. w.now) ws.items)
@@ -50,9 +50,9 @@ task_seen (task.FromJson r) = from_json_task (from_json_task_of r)
 task_seen (task.Check r) = check_task (check_task_of r)
 task_seen (task.Patch r) = patch_task (calls_task_of r)
 task_seen (task.New r) = new_task (calls_task_of r)
-task_seen (task.Structs file) = structs_task (option_map (λ f. f.now) file)
-task_seen (task.Fields r) = fields_task (root_named r)
-task_seen (task.Convert strict) = convert_task strict
+task_seen (task.Structs file limit) = structs_task (option_map (λ f. f.now) file) limit
+task_seen (task.Fields r limit) = fields_task (root_named r) limit
+task_seen (task.Convert strict limit) = convert_task strict limit
 task_seen (task.Compatible r) = compatible_task (compare_task_of r)
 task_seen (task.Help v) = help_task v
 task_seen task.Version = version_task

@@ -76,10 +76,6 @@ takes_set verb.Structs = true
 takes_set verb.FromJson = true
 takes_set v = is_on_messages v
 
-abbrev pub takes_limit : Verb → Bool
-takes_limit verb.FromJson = true
-takes_limit v = is_on_messages v
-
 abbrev pub takes_place : Verb → Bool
 takes_place verb.Patch = true
 takes_place v = false
@@ -87,7 +83,7 @@ takes_place v = false
 abbrev pub takes_value : Verb → ValueOption → Bool
 takes_value v value.Set = takes_set v
 takes_value v value.Calls = is_with_calls v
-takes_value v value.Limit = takes_limit v
+takes_value v value.Limit = true
 takes_value v value.InPlace = takes_place v
 
 abbrev pub takes_indent : Verb → Bool
@@ -233,22 +229,22 @@ check_asked o limit (name ∷ []) = Some (checked_of o limit name (codes "."))
 check_asked o limit (name ∷ path ∷ []) = Some (checked_of o limit name path)
 check_asked o limit words = None
 
-abbrev pub structs_asked : WordOptions → List (List ℕ) → Option Task
-structs_asked o [] = Some (structs_task o.set)
-structs_asked o (name ∷ []) = Some (fields_task (record { file = o.set; name = name }))
-structs_asked o words = None
+abbrev pub structs_asked : WordOptions → (limit : ℕ) → List (List ℕ) → Option Task
+structs_asked o limit [] = Some (structs_task o.set limit)
+structs_asked o limit (name ∷ []) = Some (fields_task (record { file = o.set; name = name }) limit)
+structs_asked o limit words = None
 
-abbrev pub schemas_asked : WordOptions → List (List ℕ) → Option Task
-schemas_asked o [] = Some (convert_task o.strict)
-schemas_asked o words = None
+abbrev pub schemas_asked : WordOptions → (limit : ℕ) → List (List ℕ) → Option Task
+schemas_asked o limit [] = Some (convert_task o.strict limit)
+schemas_asked o limit words = None
 
-abbrev pub compared_of : WordOptions → (older newer : List ℕ) → (name : Option (List ℕ)) → Task
-compared_of o older newer name = compatible_task (record { older = older; newer = newer; name = name; quiet = o.quiet; breaking_only = o.breaking_only; both = o.both })
+abbrev pub compared_of : WordOptions → (limit : ℕ) → (older newer : List ℕ) → (name : Option (List ℕ)) → Task
+compared_of o limit older newer name = compatible_task (record { older = older; newer = newer; name = name; quiet = o.quiet; breaking_only = o.breaking_only; both = o.both; limit = limit })
 
-abbrev pub compatible_asked : WordOptions → List (List ℕ) → Option Task
-compatible_asked o (older ∷ newer ∷ []) = Some (compared_of o older newer None)
-compatible_asked o (older ∷ newer ∷ name ∷ []) = Some (compared_of o older newer (Some name))
-compatible_asked o words = None
+abbrev pub compatible_asked : WordOptions → (limit : ℕ) → List (List ℕ) → Option Task
+compatible_asked o limit (older ∷ newer ∷ []) = Some (compared_of o limit older newer None)
+compatible_asked o limit (older ∷ newer ∷ name ∷ []) = Some (compared_of o limit older newer (Some name))
+compatible_asked o limit words = None
 
 abbrev pub plain_asked : Verb → WordOptions → (limit : ℕ) → Option Task
 plain_asked verb.Show o limit = None
@@ -258,9 +254,9 @@ plain_asked verb.FromJson o limit = from_json_asked o limit o.others
 plain_asked verb.Check o limit = check_asked o limit o.others
 plain_asked verb.Patch o limit = None
 plain_asked verb.New o limit = None
-plain_asked verb.Structs o limit = structs_asked o o.others
-plain_asked verb.Schemas o limit = schemas_asked o o.others
-plain_asked verb.Compatible o limit = compatible_asked o o.others
+plain_asked verb.Structs o limit = structs_asked o limit o.others
+plain_asked verb.Schemas o limit = schemas_asked o limit o.others
+plain_asked verb.Compatible o limit = compatible_asked o limit o.others
 
 abbrev pub verb_asked : Verb → WordOptions → (limit : ℕ) → Option Task
 verb_asked verb.Show o limit = show_asked o limit o.others

@@ -64,7 +64,7 @@ pub record CallsTask : Type 0 where
   pub limit : ℕ
   pub in_place : Option (List ℕ)
 
--- the struct of a name in the sets of two files, an older and a newer one, or all structs; whether only the status is wanted, whether only what breaks is told, and whether they are compared in both directions
+-- the struct of a name in the sets of two files, an older and a newer one, or all structs; whether only the status is wanted, whether only what breaks is told, whether they are compared in both directions, and the most bytes that the text may have
 pub record CompareTask : Type 0 where
   pub older : List ℕ
   pub newer : List ℕ
@@ -72,8 +72,9 @@ pub record CompareTask : Type 0 where
   pub quiet : Bool
   pub breaking_only : Bool
   pub both : Bool
+  pub limit : ℕ
 
--- Values are shown, one as JSON, a JSON text is made a message, or a value is only looked at whether it can be, calls are made on a copy of a message or on an empty root, the structs of a set are shown, in the set of a file or else in the built-in one, or the fields of a struct, a compiler's request is made a set,
+-- Values are shown, one as JSON, a JSON text is made a message, or a value is only looked at whether it can be, calls are made on a copy of a message or on an empty root, the structs of a set are shown, in the set of a file or else in the built-in one, or the fields of a struct, a compiler's request is made a set, each of at most so many bytes,
 -- two versions of a struct or of all are compared, or help is told, of all or of a verb, or the version.
 pub data Task : Type 0 where
   get_task : GetTask → Task
@@ -82,9 +83,9 @@ pub data Task : Type 0 where
   check_task : CheckTask → Task
   patch_task : CallsTask → Task
   new_task : CallsTask → Task
-  structs_task : (file : Option (List ℕ)) → Task
-  fields_task : Root → Task
-  convert_task : (strict : Bool) → Task
+  structs_task : (file : Option (List ℕ)) → (limit : ℕ) → Task
+  fields_task : Root → (limit : ℕ) → Task
+  convert_task : (strict : Bool) → (limit : ℕ) → Task
   compatible_task : CompareTask → Task
   help_task : Option Verb → Task
   version_task : Task
@@ -97,9 +98,9 @@ task_messages (from_json_task t) = t.messages
 task_messages (check_task t) = t.messages
 task_messages (patch_task t) = t.messages
 task_messages (new_task t) = messages.First
-task_messages (structs_task file) = messages.First
-task_messages (fields_task r) = messages.First
-task_messages (convert_task strict) = messages.First
+task_messages (structs_task file limit) = messages.First
+task_messages (fields_task r limit) = messages.First
+task_messages (convert_task strict limit) = messages.First
 task_messages (compatible_task t) = messages.First
 task_messages (help_task v) = messages.First
 task_messages version_task = messages.First

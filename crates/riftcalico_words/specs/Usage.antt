@@ -14,9 +14,9 @@ usage_lines =
     ++ codes "       riftcalico check [--set FILE] [--packed] [--limit PARTS] [--all] [--each [--keep-going]] NAME [PATH]\n"
     ++ codes "       riftcalico patch [--set FILE] [--calls FILE] [--keep-going] [--packed] [--limit BYTES] [--each] [--in-place FILE] NAME CALL..\n"
     ++ codes "       riftcalico new [--set FILE] [--calls FILE] [--keep-going] [--packed] [--limit BYTES] NAME CALL..\n"
-    ++ codes "       riftcalico structs [--set FILE] [NAME]\n"
-    ++ codes "       riftcalico schemas [--strict]\n"
-    ++ codes "       riftcalico compatible [--quiet] [--breaking-only] [--both] OLD NEW [NAME]\n"
+    ++ codes "       riftcalico structs [--set FILE] [--limit BYTES] [NAME]\n"
+    ++ codes "       riftcalico schemas [--strict] [--limit BYTES]\n"
+    ++ codes "       riftcalico compatible [--quiet] [--breaking-only] [--both] [--limit BYTES] OLD NEW [NAME]\n"
 
 -- how a verb is
 abbrev pub verb_usage : Verb → List ℕ
@@ -27,9 +27,9 @@ verb_usage verb.FromJson = codes "usage: riftcalico from-json [--set FILE] [--st
 verb_usage verb.Check = codes "usage: riftcalico check [--set FILE] [--packed] [--limit PARTS] [--all] [--each [--keep-going]] NAME [PATH]\n"
 verb_usage verb.Patch = codes "usage: riftcalico patch [--set FILE] [--calls FILE] [--keep-going] [--packed] [--limit BYTES] [--each] [--in-place FILE] NAME CALL..\n"
 verb_usage verb.New = codes "usage: riftcalico new [--set FILE] [--calls FILE] [--keep-going] [--packed] [--limit BYTES] NAME CALL..\n"
-verb_usage verb.Structs = codes "usage: riftcalico structs [--set FILE] [NAME]\n"
-verb_usage verb.Schemas = codes "usage: riftcalico schemas [--strict]\n"
-verb_usage verb.Compatible = codes "usage: riftcalico compatible [--quiet] [--breaking-only] [--both] OLD NEW [NAME]\n"
+verb_usage verb.Structs = codes "usage: riftcalico structs [--set FILE] [--limit BYTES] [NAME]\n"
+verb_usage verb.Schemas = codes "usage: riftcalico schemas [--strict] [--limit BYTES]\n"
+verb_usage verb.Compatible = codes "usage: riftcalico compatible [--quiet] [--breaking-only] [--both] [--limit BYTES] OLD NEW [NAME]\n"
 
 -- what a verb does
 abbrev pub verb_help : Verb → List ℕ
@@ -102,17 +102,17 @@ verb_help verb.New =
     ++ codes "No message is made of more bytes than --limit, or else 1 GiB.\n"
     ++ codes "NAME is a struct of the set in FILE, as 'riftcalico schemas' writes it, or else of the built-in set.\n"
 verb_help verb.Structs =
-    codes "usage: riftcalico structs [--set FILE] [NAME]\n"
+    codes "usage: riftcalico structs [--set FILE] [--limit BYTES] [NAME]\n"
     ++ codes "\n"
-    ++ codes "Lists the structs of a set, or the fields of the struct NAME.\n"
+    ++ codes "Lists the structs of a set, or the fields of the struct NAME. No text is printed of more bytes than --limit, or else 1 GiB.\n"
     ++ codes "The set is that of FILE, as 'riftcalico schemas' writes it, or else the built-in one.\n"
 verb_help verb.Schemas =
-    codes "usage: riftcalico schemas [--strict]\n"
+    codes "usage: riftcalico schemas [--strict] [--limit BYTES]\n"
     ++ codes "\n"
     ++ codes "Reads a request of the public compiler, as 'capnp compile -o- FILE..' writes it, and writes its set of schemas.\n"
-    ++ codes "With --strict floats and interfaces are refused.\n"
+    ++ codes "With --strict floats and interfaces are refused. No set is made of more bytes than --limit, or else 1 GiB.\n"
 verb_help verb.Compatible =
-    codes "usage: riftcalico compatible [--quiet] [--breaking-only] [--both] OLD NEW [NAME]\n"
+    codes "usage: riftcalico compatible [--quiet] [--breaking-only] [--both] [--limit BYTES] OLD NEW [NAME]\n"
     ++ codes "\n"
     ++ codes "Tells what differs between the struct NAME of the set in the file OLD and that of the set in NEW, so that a program that\n"
     ++ codes "knows one can't read messages of the other: a line for each difference. The status is 0 where there is none, as the newer\n"
@@ -122,7 +122,7 @@ verb_help verb.Compatible =
     ++ codes "Without NAME all structs are compared whose names stand in both sets. Notes tell those that went or came, too, and the\n"
     ++ codes "last line how many structs are compatible and how many not. The status is 0 where all are.\n"
     ++ codes "With --both the sets are compared a second time as if OLD were the newer one, and a line stands before each direction. The\n"
-    ++ codes "status is 0 where both are compatible.\n"
+    ++ codes "status is 0 where both are compatible. No text is printed of more bytes than --limit, or else 1 GiB.\n"
 
 -- what the program does, or one verb
 abbrev pub program_help : List ℕ
@@ -137,9 +137,9 @@ program_help =
     ++ codes "       riftcalico check [--set FILE] [--packed] [--limit PARTS] [--all] [--each [--keep-going]] NAME [PATH]\n"
     ++ codes "       riftcalico patch [--set FILE] [--calls FILE] [--keep-going] [--packed] [--limit BYTES] [--each] [--in-place FILE] NAME CALL..\n"
     ++ codes "       riftcalico new [--set FILE] [--calls FILE] [--keep-going] [--packed] [--limit BYTES] NAME CALL..\n"
-    ++ codes "       riftcalico structs [--set FILE] [NAME]\n"
-    ++ codes "       riftcalico schemas [--strict]\n"
-    ++ codes "       riftcalico compatible [--quiet] [--breaking-only] [--both] OLD NEW [NAME]\n"
+    ++ codes "       riftcalico structs [--set FILE] [--limit BYTES] [NAME]\n"
+    ++ codes "       riftcalico schemas [--strict] [--limit BYTES]\n"
+    ++ codes "       riftcalico compatible [--quiet] [--breaking-only] [--both] [--limit BYTES] OLD NEW [NAME]\n"
     ++ codes "\n"
     ++ codes "More of a verb is told by 'riftcalico VERB --help', the version by 'riftcalico --version'.\n"
 

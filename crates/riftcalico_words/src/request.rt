@@ -131,7 +131,8 @@ pub struct CallsRequest<'a> {
 }
 
 /// The struct of a name in the sets of two files, an older and a newer one, or all structs; whether only the status is
-/// wanted, whether only what breaks is told, and whether they are compared in both directions.
+/// wanted, whether only what breaks is told, whether they are compared in both directions, and the most bytes that the text
+/// may have.
 #[derive(Clone, Copy)]
 pub struct CompareRequest<'a> {
     pub older: &'a str,
@@ -140,6 +141,7 @@ pub struct CompareRequest<'a> {
     pub quiet: bool,
     pub breaking_only: bool,
     pub both: bool,
+    pub limit: u64,
 }
 
 /// What is to be done.
@@ -157,12 +159,12 @@ pub enum Task<'a> {
     Patch(CallsRequest<'a>),
     /// Calls are made on an empty root.
     New(CallsRequest<'a>),
-    /// The structs of the set that a file holds, or else of the built-in one.
-    Structs(Option<&'a str>),
-    /// The fields of a struct.
-    Fields(NamedRoot<'a>),
-    /// The set of a compiler's request; whether floats and interfaces are refused.
-    Convert(bool),
+    /// The structs of the set that a file holds, or else of the built-in one, in a text of so many bytes at most.
+    Structs(Option<&'a str>, u64),
+    /// The fields of a struct, in a text of so many bytes at most.
+    Fields(NamedRoot<'a>, u64),
+    /// The set of a compiler's request, in so many bytes at most; whether floats and interfaces are refused.
+    Convert(bool, u64),
     /// What differs between two versions of a schema.
     Compatible(CompareRequest<'a>),
     /// What can be done is told, or how one verb is called.
@@ -200,9 +202,9 @@ pub fn get_messages(task: &Task<'_>) -> Messages
         Task::Patch(request) => request.messages,
         Task::FromJson(request) => request.messages,
         Task::New(_)
-        | Task::Structs(_)
-        | Task::Fields(_)
-        | Task::Convert(_)
+        | Task::Structs(_, _)
+        | Task::Fields(_, _)
+        | Task::Convert(_, _)
         | Task::Compatible(_)
         | Task::Help(_)
         | Task::Version => Messages::First,
@@ -286,10 +288,7 @@ fn takes_value(verb: Verb, option: ValueOption) -> bool
             _ => is_on_messages(verb),
         },
         ValueOption::Calls => is_with_calls(verb),
-        ValueOption::Limit => match verb {
-            Verb::FromJson => true,
-            _ => is_on_messages(verb),
-        },
+        ValueOption::Limit => true,
         ValueOption::InPlace => match verb {
             Verb::Patch => true,
             _ => false,
@@ -585,8 +584,9 @@ fn read_compared<'a>(
     older: &'a str,
     newer: &'a str,
     name: Option<&'a str>,
+    limit: u64,
 ) -> Task<'a>
-    ensures { task_seen result ≡ compared_of (options_seen options.now) older.now newer.now
+    ensures { task_seen result ≡ compared_of (options_seen options.now) limit older.now newer.now
         (option_map (λ w. w.now) name.entry) }
 {
     Task::Compatible(CompareRequest {
@@ -596,6 +596,7 @@ fn read_compared<'a>(
         quiet: options.quiet,
         breaking_only: options.breaking_only,
         both: options.both,
+        limit,
     })
 }
 
@@ -610,12 +611,14 @@ fn read_plain<'a>(verb: Verb, options: &Options<'a>, limit: u64) -> Option<Task<
         (Verb::FromJson, [name]) => Some(read_from_json(options, limit, *name)),
         (Verb::Check, [name]) => Some(read_checked(options, limit, *name, ".")),
         (Verb::Check, [name, path]) => Some(read_checked(options, limit, *name, *path)),
-        (Verb::Structs, []) => Some(Task::Structs(file)),
-        (Verb::Structs, [name]) => Some(Task::Fields(NamedRoot { file, name: *name })),
-        (Verb::Schemas, []) => Some(Task::Convert(options.strict)),
-        (Verb::Compatible, [older, newer]) => Some(read_compared(options, *older, *newer, None)),
+        (Verb::Structs, []) => Some(Task::Structs(file, limit)),
+        (Verb::Structs, [name]) => Some(Task::Fields(NamedRoot { file, name: *name }, limit)),
+        (Verb::Schemas, []) => Some(Task::Convert(options.strict, limit)),
+        (Verb::Compatible, [older, newer]) => {
+            Some(read_compared(options, *older, *newer, None, limit))
+        }
         (Verb::Compatible, [older, newer, name]) => {
-            Some(read_compared(options, *older, *newer, Some(*name)))
+            Some(read_compared(options, *older, *newer, Some(*name), limit))
         }
         _ => None,
     }
@@ -701,7 +704,8 @@ fn read_behind<'a>(alloc: Global, verb: Verb, words: &'a [String]) -> Result<Ask
 /// |options|verbs|
 /// |---|---|
 /// |`--set FILE`|those on messages, `from-json` and `structs`|
-/// |`--packed`, `--limit N`|those on messages, `from-json`|
+/// |`--packed`|those on messages, `from-json`|
+/// |`--limit N`|all|
 /// |`--indent`|`show`, `get`, `json`|
 /// |`--raw`, `--paths`|`get`|
 /// |`--each`|`show`, `get`, `json`, `from-json`, `check`, `patch`|

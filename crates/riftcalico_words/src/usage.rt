@@ -19,9 +19,9 @@ usage: riftcalico show [--set FILE] [--packed] [--limit BYTES] [--each [--keep-g
        riftcalico check [--set FILE] [--packed] [--limit PARTS] [--all] [--each [--keep-going]] NAME [PATH]
        riftcalico patch [--set FILE] [--calls FILE] [--keep-going] [--packed] [--limit BYTES] [--each] [--in-place FILE] NAME CALL..
        riftcalico new [--set FILE] [--calls FILE] [--keep-going] [--packed] [--limit BYTES] NAME CALL..
-       riftcalico structs [--set FILE] [NAME]
-       riftcalico schemas [--strict]
-       riftcalico compatible [--quiet] [--breaking-only] [--both] OLD NEW [NAME]
+       riftcalico structs [--set FILE] [--limit BYTES] [NAME]
+       riftcalico schemas [--strict] [--limit BYTES]
+       riftcalico compatible [--quiet] [--breaking-only] [--both] [--limit BYTES] OLD NEW [NAME]
 ";
 
 const HELP: &str = "\
@@ -35,9 +35,9 @@ usage: riftcalico show [--set FILE] [--packed] [--limit BYTES] [--each [--keep-g
        riftcalico check [--set FILE] [--packed] [--limit PARTS] [--all] [--each [--keep-going]] NAME [PATH]
        riftcalico patch [--set FILE] [--calls FILE] [--keep-going] [--packed] [--limit BYTES] [--each] [--in-place FILE] NAME CALL..
        riftcalico new [--set FILE] [--calls FILE] [--keep-going] [--packed] [--limit BYTES] NAME CALL..
-       riftcalico structs [--set FILE] [NAME]
-       riftcalico schemas [--strict]
-       riftcalico compatible [--quiet] [--breaking-only] [--both] OLD NEW [NAME]
+       riftcalico structs [--set FILE] [--limit BYTES] [NAME]
+       riftcalico schemas [--strict] [--limit BYTES]
+       riftcalico compatible [--quiet] [--breaking-only] [--both] [--limit BYTES] OLD NEW [NAME]
 
 More of a verb is told by 'riftcalico VERB --help', the version by 'riftcalico --version'.
 ";
@@ -71,15 +71,15 @@ usage: riftcalico new [--set FILE] [--calls FILE] [--keep-going] [--packed] [--l
 ";
 
 const STRUCTS_USAGE: &str = "\
-usage: riftcalico structs [--set FILE] [NAME]
+usage: riftcalico structs [--set FILE] [--limit BYTES] [NAME]
 ";
 
 const SCHEMAS_USAGE: &str = "\
-usage: riftcalico schemas [--strict]
+usage: riftcalico schemas [--strict] [--limit BYTES]
 ";
 
 const COMPATIBLE_USAGE: &str = "\
-usage: riftcalico compatible [--quiet] [--breaking-only] [--both] OLD NEW [NAME]
+usage: riftcalico compatible [--quiet] [--breaking-only] [--both] [--limit BYTES] OLD NEW [NAME]
 ";
 
 const SHOW_HELP: &str = "\
@@ -165,21 +165,21 @@ NAME is a struct of the set in FILE, as 'riftcalico schemas' writes it, or else 
 ";
 
 const STRUCTS_HELP: &str = "\
-usage: riftcalico structs [--set FILE] [NAME]
+usage: riftcalico structs [--set FILE] [--limit BYTES] [NAME]
 
-Lists the structs of a set, or the fields of the struct NAME.
+Lists the structs of a set, or the fields of the struct NAME. No text is printed of more bytes than --limit, or else 1 GiB.
 The set is that of FILE, as 'riftcalico schemas' writes it, or else the built-in one.
 ";
 
 const SCHEMAS_HELP: &str = "\
-usage: riftcalico schemas [--strict]
+usage: riftcalico schemas [--strict] [--limit BYTES]
 
 Reads a request of the public compiler, as 'capnp compile -o- FILE..' writes it, and writes its set of schemas.
-With --strict floats and interfaces are refused.
+With --strict floats and interfaces are refused. No set is made of more bytes than --limit, or else 1 GiB.
 ";
 
 const COMPATIBLE_HELP: &str = "\
-usage: riftcalico compatible [--quiet] [--breaking-only] [--both] OLD NEW [NAME]
+usage: riftcalico compatible [--quiet] [--breaking-only] [--both] [--limit BYTES] OLD NEW [NAME]
 
 Tells what differs between the struct NAME of the set in the file OLD and that of the set in NEW, so that a program that
 knows one can't read messages of the other: a line for each difference. The status is 0 where there is none, as the newer
@@ -189,7 +189,7 @@ each list whose elements became structs, unless --breaking-only stands there.
 Without NAME all structs are compared whose names stand in both sets. Notes tell those that went or came, too, and the
 last line how many structs are compatible and how many not. The status is 0 where all are.
 With --both the sets are compared a second time as if OLD were the newer one, and a line stands before each direction. The
-status is 0 where both are compatible.
+status is 0 where both are compatible. No text is printed of more bytes than --limit, or else 1 GiB.
 ";
 
 /// How a verb is called.

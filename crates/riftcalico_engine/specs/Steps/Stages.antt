@@ -17,9 +17,9 @@ abbrev pub IsUnplanned : Task → (calls : List ℕ) → Ran → Type 0
 IsUnplanned t calls r =
     IsFault r (λ x. (x.blamed ≡ blamed.Calls) × (x.error.kind ≡ OutOfMemory)) ⊎ IsUnreadable r (λ line. task_plan t calls ≡ Err line)
 
--- the bytes of its file give no set
-abbrev pub IsSetless : (file : Option (List ℕ)) → (bytes : List ℕ) → Ran → Type 0
-IsSetless file bytes r = IsFault r (λ x. (x.blamed ≡ blamed.«Set») × ((x.error.kind ≡ OutOfMemory) ⊎ IsNoSetOf file bytes x.error))
+-- the bytes of its file give no set within a limit
+abbrev pub IsSetless : (limit : ℕ) → (file : Option (List ℕ)) → (bytes : List ℕ) → Ran → Type 0
+IsSetless limit file bytes r = IsFault r (λ x. (x.blamed ≡ blamed.«Set») × ((x.error.kind ≡ OutOfMemory) ⊎ IsNoSetOf limit file bytes x.error))
 
 -- the struct of the root isn't in the set, or a value of a call can't be read
 abbrev pub IsWithoutJob : Plan → Schemas → Ran → Type 0

@@ -1,8 +1,7 @@
 -- A refusal with what it blames.
 use Rattle.std.proofs.Common.{IfErr, subst, sym, ◌≢◌}
 use Rattle.capnp_device.specs.declared.error.ErrorKind.TheVariants.{OutOfMemory}
-use Rattle.capnp_set_engine.specs.Convert.{HasNoSet}
-use Rattle.riftcalico_core.specs.Answers.{IsNoMessageAnswer, IsUnpatched}
+use Rattle.riftcalico_core.specs.Answers.{IsNoMessageAnswer, IsNotConverted, IsUnpatched}
 use Rattle.riftcalico_core.specs.Room.{IsPastLimit}
 use Rattle.riftcalico_core.specs.declared.fault.Blamed.TheVariants.{Input, «Output»}
 use Rattle.riftcalico_core.specs.declared.job.Job.{Job}
@@ -25,10 +24,13 @@ returns-in-FromJson-clause-refused c = subst (λ (x : Job). IfErr c.answer_from_
 pub returns-in-Convert-clause-refused : goal.returns-in-Convert-clause-refused
 returns-in-Convert-clause-refused c =
     subst (λ (x : Job). IfErr c.blame-in-Convert.result (λ f. f.error.kind ≢ OutOfMemory → IsNoMessageAnswer x c.args.message.now f)) (sym c.in-Convert.is)
-    (blamed_so c.answer_convert.result c.blame-in-Convert.result Input (λ e. HasNoSet c.in-Convert.strict c.args.message.now e) c.answer_convert.ensures.refused c.blame-in-Convert.ensures.refused)
+    (blamed_so c.answer_convert.result c.blame-in-Convert.result Input (λ e. IsNotConverted c.in-Convert.strict c.in-Convert.limit c.args.message.now e) c.answer_convert.ensures.refused c.blame-in-Convert.ensures.refused)
 
 pub returns-in-Get-clause-refused : goal.returns-in-Get-clause-refused
 returns-in-Get-clause-refused c = subst (λ (x : Job). IfErr c.answer_get.result (λ f. f.error.kind ≢ OutOfMemory → IsNoMessageAnswer x c.args.message.now f)) (sym c.in-Get.is) c.answer_get.ensures.refused
 
 pub returns-in-Json-clause-refused : goal.returns-in-Json-clause-refused
 returns-in-Json-clause-refused c = subst (λ (x : Job). IfErr c.answer_json.result (λ f. f.error.kind ≢ OutOfMemory → IsNoMessageAnswer x c.args.message.now f)) (sym c.in-Json.is) c.answer_json.ensures.refused
+
+pub returns-in-Compatible-clause-refused : goal.returns-in-Compatible-clause-refused
+returns-in-Compatible-clause-refused c = subst (λ (x : Job). IfErr c.answer_compare.result (λ f. f.error.kind ≢ OutOfMemory → IsNoMessageAnswer x c.args.message.now f)) (sym c.in-Compatible.is) c.answer_compare.ensures.refused
