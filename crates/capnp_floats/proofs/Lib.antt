@@ -15,6 +15,7 @@ pub mod Scanning
 pub mod Layouts
 pub mod TextsRead
 pub mod Deciding
+pub mod Nearby
 pub mod RowsFloats
 pub mod RowsTexts
 pub mod RowsNearest

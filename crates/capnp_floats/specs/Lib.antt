@@ -5,5 +5,6 @@ pub mod Floats
 pub mod Layout
 pub mod Nearest
 pub mod Words
+pub mod Nearby
 pub mod Laws
 pub mod Steps

@@ -1,4 +1,5 @@
 //! What holds of floats and their decimals.
+ghost use Rattle.capnp_floats.specs.Nearby.{EachWordHasAFloat, WordsHaveOneFloat};
 ghost use Rattle.capnp_floats.specs.Laws.{DecimalsAreRead, FloatsAreThere, NansAreOne, OneDecimal, OneIsNearest, TextsAreRead};
 
 /// The decimal of a finite number is read back as the bits of this number, without its sign: they are the nearest to
@@ -24,4 +25,11 @@ pub fn texts_are_read()
 /// of one.
 pub fn words_have_floats()
     ensures { FloatsAreThere }
+{}
+
+/// The float of a word is that of the bits which rank lowest of all in range: the nearest, and of two the even ones. Each word has
+/// one, or is none, or is past the range.
+pub fn words_have_one_float()
+    ensures one { WordsHaveOneFloat }
+    ensures each { EachWordHasAFloat }
 {}

@@ -14,7 +14,7 @@ use Rattle.capnp_dynamic_readers.specs.declared.dynamic_list.Reader.{Reader as L
 use Rattle.capnp_dynamic_readers.specs.declared.dynamic_struct.Reader.{Reader as StructHandle}
 use Rattle.capnp_dynamic_readers.specs.declared.dynamic_value.Reader.{Reader as DynamicValue}
 use Rattle.capnp_dynamic_readers.specs.declared.dynamic_value.Reader.TheVariants as dynamic
-use Rattle.capnp_json.specs.Json.{json_within, part_json, plain}
+use Rattle.capnp_json.specs.Json.{json_within, part_json}
 use Rattle.capnp_json.specs.Pieces.{IsJson, Out, after, ending, items_left, said, separator}
 use Rattle.capnp_json.specs.Steps.Leaf.{leaf_json}
 use Rattle.capnp_json.specs.Steps.Puts.{Gives, IsPut, IsStopped, Leads, limit_of, made}
@@ -128,38 +128,38 @@ module _ (left : ℕ) (at : Layout) (form : Form) (l : ListHandle) where
 
 -- ---- a value that stands alone ----
 
-pub group_root : (at : Layout) (v : DynamicValue) (s : StructHandle) → v ≡ dynamic.Struct s → (node_of (set_of (schema_of s)) (number_of (schema_of s))).is_group ≡ true → root_shown at v ≡ record_shown 64 at s
-group_root at v s e h = ap (root_shown at) e ∙ go (node_of (set_of (schema_of s)) (number_of (schema_of s))).is_group h
+pub group_root : (at : Layout) (form : Form) (v : DynamicValue) (s : StructHandle) → v ≡ dynamic.Struct s → (node_of (set_of (schema_of s)) (number_of (schema_of s))).is_group ≡ true → root_shown at form v ≡ record_shown 64 at s
+group_root at form v s e h = ap (root_shown at form) e ∙ go (node_of (set_of (schema_of s)) (number_of (schema_of s))).is_group h
   where
-    go : (q : Bool) → q ≡ true → part_json (set_of (schema_of s)) (json_within (set_of (schema_of s)) 64) at plain (struct_type (schema_of s)) (struct_printed q s) ≡ record_shown 64 at s
+    go : (q : Bool) → q ≡ true → part_json (set_of (schema_of s)) (json_within (set_of (schema_of s)) 64) at form (struct_type (schema_of s)) (struct_printed q s) ≡ record_shown 64 at s
     go true e = refl
     go false e = absurd (true≢false (sym e))
 
-pub struct_root : (at : Layout) (v : DynamicValue) (s : StructHandle) → v ≡ dynamic.Struct s → (node_of (set_of (schema_of s)) (number_of (schema_of s))).is_group ≡ false → root_shown at v ≡ value_shown 64 at plain v
-struct_root at v s e h =
-    ap (root_shown at) e ∙ (go (node_of (set_of (schema_of s)) (number_of (schema_of s))).is_group h ∙ sym (ap (value_shown 64 at plain) e))
+pub struct_root : (at : Layout) (form : Form) (v : DynamicValue) (s : StructHandle) → v ≡ dynamic.Struct s → (node_of (set_of (schema_of s)) (number_of (schema_of s))).is_group ≡ false → root_shown at form v ≡ value_shown 64 at form v
+struct_root at form v s e h =
+    ap (root_shown at form) e ∙ (go (node_of (set_of (schema_of s)) (number_of (schema_of s))).is_group h ∙ sym (ap (value_shown 64 at form) e))
   where
-    go : (q : Bool) → q ≡ false → part_json (set_of (schema_of s)) (json_within (set_of (schema_of s)) 64) at plain (struct_type (schema_of s)) (struct_printed q s) ≡ value_shown 64 at plain (dynamic.Struct s)
+    go : (q : Bool) → q ≡ false → part_json (set_of (schema_of s)) (json_within (set_of (schema_of s)) 64) at form (struct_type (schema_of s)) (struct_printed q s) ≡ value_shown 64 at form (dynamic.Struct s)
     go false e = refl
     go true e = absurd (true≢false e)
 
-pub other_root : (at : Layout) (v : DynamicValue) → ((s : StructHandle) → v ≡ dynamic.Struct s → ⊥) → root_shown at v ≡ value_shown 64 at plain v
-other_root at (dynamic.Struct s) h = absurd (h s refl)
-other_root at dynamic.Void h = refl
-other_root at (dynamic.Bool b) h = refl
-other_root at (dynamic.Int8 x) h = refl
-other_root at (dynamic.Int16 x) h = refl
-other_root at (dynamic.Int32 x) h = refl
-other_root at (dynamic.Int64 x) h = refl
-other_root at (dynamic.UInt8 x) h = refl
-other_root at (dynamic.UInt16 x) h = refl
-other_root at (dynamic.UInt32 x) h = refl
-other_root at (dynamic.UInt64 x) h = refl
-other_root at (dynamic.Enum e) h = refl
-other_root at (dynamic.Text t) h = refl
-other_root at (dynamic.«Data» bytes) h = refl
-other_root at (dynamic.List l) h = refl
-other_root at (dynamic.AnyPointer p) h = refl
+pub other_root : (at : Layout) (form : Form) (v : DynamicValue) → ((s : StructHandle) → v ≡ dynamic.Struct s → ⊥) → root_shown at form v ≡ value_shown 64 at form v
+other_root at form (dynamic.Struct s) h = absurd (h s refl)
+other_root at form dynamic.Void h = refl
+other_root at form (dynamic.Bool b) h = refl
+other_root at form (dynamic.Int8 x) h = refl
+other_root at form (dynamic.Int16 x) h = refl
+other_root at form (dynamic.Int32 x) h = refl
+other_root at form (dynamic.Int64 x) h = refl
+other_root at form (dynamic.UInt8 x) h = refl
+other_root at form (dynamic.UInt16 x) h = refl
+other_root at form (dynamic.UInt32 x) h = refl
+other_root at form (dynamic.UInt64 x) h = refl
+other_root at form (dynamic.Enum e) h = refl
+other_root at form (dynamic.Text t) h = refl
+other_root at form (dynamic.«Data» bytes) h = refl
+other_root at form (dynamic.List l) h = refl
+other_root at form (dynamic.AnyPointer p) h = refl
 
 -- why a value was not written into nothing
 pub stopped_alone : (limit : ℕ) (old : Output) (o : Out) (why : JsonError) → made old ≡ [] → limit_of old ≡ limit → IsStopped old o why → IsRefused limit o why

@@ -110,6 +110,10 @@ json_within set (suc levels) = value_json set (Some (json_within set levels))
 abbrev pub json_levels : ℕ
 json_levels = 64
 
--- the JSON of a value under a type, on one line or on lines
+-- the JSON of a value under a type, on one line or on lines, as that of a field's is written
+abbrev pub json_as : Schemas → Form → (indented : Bool) → SchemaType → Value → Out
+json_as set form indented t v = part_json set (json_within set json_levels) (cond indented (Some 0) None) form t v
+
+-- of one that stands alone
 abbrev pub json_of : Schemas → (indented : Bool) → SchemaType → Value → Out
-json_of set indented t v = part_json set (json_within set json_levels) (cond indented (Some 0) None) plain t v
+json_of set indented t v = json_as set plain indented t v

@@ -7,14 +7,14 @@ use capnp_json_fields::fields::{DataForm, data_form, is_float};
 use capnp_schema::schema::Field;
 
 /// Whether numbers are floats by their bits, and the form of data. A list hands both on to its elements.
-#[derive(Clone, Copy)]
-pub(crate) struct Form {
-    pub(crate) floats: bool,
-    pub(crate) bytes: DataForm,
+#[derive(Clone, Copy, Debug, PartialEq, Eq)]
+pub struct Form {
+    pub floats: bool,
+    pub bytes: DataForm,
 }
 
-/// That of a value that stands alone.
-pub(crate) fn plain() -> Form
+/// That of a value that stands alone: numbers are integers, and data an array of its bytes.
+pub fn plain() -> Form
     ensures { result ≡ plain }
 {
     Form {
@@ -23,8 +23,8 @@ pub(crate) fn plain() -> Form
     }
 }
 
-/// That of a field's values.
-pub(crate) fn form_of(field: Field<'_>) -> Form
+/// That of a field's values, as its annotations say.
+pub fn form_of(field: Field<'_>) -> Form
     ensures { result ≡ form_of (typed_of field.entry) }
 {
     Form {

@@ -3,10 +3,10 @@ ghost use Rattle.std.specs.Prelude.{◌≡◌, ◌≤◌, IfErr, IfOk, OnOk, len
 ghost use Rattle.capnp_json.specs.Pieces.{IsJson};
 ghost use Rattle.capnp_json.specs.Steps.Puts.{IsPut, IsStopped};
 ghost use Rattle.capnp_json.specs.Steps.Shown.{root_shown};
-ghost use Rattle.capnp_json.specs.Written.{IsOnlyJson, IsRefused, written_json};
+ghost use Rattle.capnp_json.specs.Written.{IsOnlyJson, IsRefused, written_json, written_json_as};
 
 use crate::error::JsonError;
-use crate::forms::plain;
+use crate::forms::{Form, plain};
 use crate::lines::layout;
 use crate::output::Output;
 use crate::values::{put_record, put_value};
@@ -39,26 +39,44 @@ pub fn to_json(
     ensures within { IfOk result (λ bytes. length bytes.items ≤ limit) }
     ensures refused { IfErr result (IsRefused limit (written_json indented value.entry)) }
 {
+    to_json_as(alloc, value, plain(), indented, limit)
+}
+
+/// The JSON of a value as that of a field's is written: its numbers as floats, and its data in base64 or by digits, where the form
+/// says so. Else as `to_json`, and refused as it.
+pub fn to_json_as(
+    alloc: Global,
+    value: dynamic_value::Reader<'_>,
+    form: Form,
+    indented: bool,
+    limit: usize,
+) -> Result<Vec<u8>, JsonError>
+    ensures json { IfOk result (λ bytes. IsJson (written_json_as form indented value.entry) bytes.items) }
+    ensures only { IfOk result (λ bytes. IsOnlyJson (written_json_as form indented value.entry) bytes.items) }
+    ensures within { IfOk result (λ bytes. length bytes.items ≤ limit) }
+    ensures refused { IfErr result (IsRefused limit (written_json_as form indented value.entry)) }
+{
     let mut out = Output::new(alloc, limit);
-    match put_root(&mut out, layout(indented), value) {
+    match put_root(&mut out, layout(indented), form, value) {
         Ok(()) => Ok(out.finish()),
         Err(why) => Err(why),
     }
 }
 
-/// Appends the JSON of a value that stands alone. A group takes no level, here as elsewhere.
+/// Appends the JSON of a value that stands alone, as that of a field's is written. A group takes no level, here as elsewhere.
 fn put_root(
     out: &mut Output,
     at: Option<u64>,
+    form: Form,
     value: dynamic_value::Reader<'_>,
 ) -> Result<(), JsonError>
-    ensures put { OnOk result (IsPut out.old (root_shown at value.entry) out.new) }
-    ensures stopped { IfErr result (IsStopped out.old (root_shown at value.entry)) }
+    ensures put { OnOk result (IsPut out.old (root_shown at form value.entry) out.new) }
+    ensures stopped { IfErr result (IsStopped out.old (root_shown at form value.entry)) }
 {
     if let dynamic_value::Reader::Struct(reader) = value {
         if reader.get_schema().get_proto().body.is_group {
             return put_record(out, at, JSON_LEVELS, reader);
         }
     }
-    put_value(out, at, plain(), JSON_LEVELS, value)
+    put_value(out, at, form, JSON_LEVELS, value)
 }

@@ -4,7 +4,7 @@
 mod data;
 pub mod error;
 mod floats;
-mod forms;
+pub mod forms;
 mod items;
 pub mod json;
 mod leaves;

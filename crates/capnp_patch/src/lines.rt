@@ -71,8 +71,9 @@ fn put_told(lines: &mut String, number: u64, word: &str, between: &str, text: &s
     Ok(write!(lines, "{between}{text}\n")?)
 }
 
-/// Appends the line of an answer.
-fn put_answer(lines: &mut String, number: u64, word: &str, text: &str) -> Result<()>
+/// Appends the line of an answer to the call of a number with its word: the number, the word, and the answer's text, as it
+/// stands. Refused with `OutOfMemory` alone.
+pub fn put_answer(lines: &mut String, number: u64, word: &str, text: &str) -> Result<()>
     ensures put { OnOk result (string_bytes lines.new
         ≡ string_bytes lines.old ++ answer_line number word.now text.now) }
     ensures memory { IfErr result (λ e. e.kind ≡ OutOfMemory) }

@@ -12,6 +12,7 @@ use Rattle.capnp_schema.specs.Accepted.{words_root}
 use Rattle.capnp_schema.specs.Builtin.{builtin}
 use Rattle.capnp_records.specs.Call.{ElementAt, FieldNamed, PathStep}
 use Rattle.capnp_json_text.specs.Writing.{byte_written}
+use Rattle.capnp_json.specs.Json.{plain}
 use Rattle.capnp_json.specs.Pieces.{Out, said}
 use Rattle.capnp_json.specs.declared.error.JsonError.TheVariants.{Read}
 use Rattle.capnp_patch.specs.Gets.{Reached, path_read}
@@ -28,7 +29,7 @@ abbrev count : List ℕ → ℕ → List PathStep → Result ℕ ErrorKind
 count words b path = reached_length (at words b path)
 
 abbrev json : List ℕ → ℕ → List PathStep → Out
-json words b path = reached_json builtin false (at words b path)
+json words b path = reached_json builtin plain false (at words b path)
 
 abbrev named : String → PathStep
 named s = FieldNamed (codes s)

@@ -1,8 +1,8 @@
-//! Whether the numbers at the end of a path are floats.
+//! Whether the numbers at the end of a path are floats, and how its data is written in JSON.
 ghost use Rattle.std.specs.Prelude.{◌≡◌};
 ghost use Rattle.std.specs.Option.{option_map};
 ghost use Rattle.capnp_call.specs.Seen.{path_seen, step_seen};
-ghost use Rattle.capnp_queries.specs.Floats.{floats_at, named_field, step_on};
+ghost use Rattle.capnp_queries.specs.Floats.{floats_at, floats_behind, form_at, named_field, stand_of, step_on};
 ghost use Rattle.capnp_queries.specs.Steps.Stands.{stand_seen};
 ghost use Rattle.capnp_schema.specs.Entries.{lists_seen};
 ghost use Rattle.capnp_schema.specs.FieldLists.{typed_of};
@@ -11,15 +11,15 @@ ghost use Rattle.capnp_schema.specs.Types.{StructType};
 
 use capnp_base::introspect::{Type, TypeVariant};
 use capnp_call::calls::Step;
-use capnp_json_fields::fields::is_float;
+use capnp_json::forms::{Form, form_of, plain};
 use capnp_schema::schema::{Field, StructSchema};
 use capnp_schema::set::SchemaSet;
 
-/// What a path leads to by the schema alone: its type, and whether its numbers are floats.
+/// What a path leads to by the schema alone: its type, and how it is written.
 #[derive(Clone, Copy)]
 pub(crate) struct Standing {
     of: Type,
-    floats: bool,
+    form: Form,
 }
 
 /// The field that a step names; none where there is none.
@@ -49,16 +49,44 @@ fn step_on(schemas: &SchemaSet, now: Standing, step: Step<'_>) -> Standing
         TypeVariant::Struct(raw) => match find_named(schemas.struct_schema(raw.number), step) {
             Some(field) => Standing {
                 of: field.get_type(),
-                floats: is_float(field),
+                form: form_of(field),
             },
             None => now,
         },
         TypeVariant::List(element) => Standing {
             of: element,
-            floats: now.floats,
+            form: now.form,
         },
         _ => now,
     }
+}
+
+/// What a path from a struct leads to.
+fn stand_at(schema: StructSchema<'_>, path: &[Step<'_>]) -> Standing
+    requires { IsStruct schema }
+    ensures { stand_seen result ≡ stand_of (set_of schema.entry) (number_of schema.entry) (path_seen path.now) }
+{
+    let mut now = Standing {
+        of: Type::from(TypeVariant::Struct(schema.into())),
+        form: plain(),
+    };
+    for step in path {
+        now = step_on(schema.get_set(), now, *step);
+    }
+    now
+}
+
+/// How JSON writes what a path from a struct leads to, by the schema alone: as `capnp_json::forms::form_of` has it of the last field
+/// that the path names, and elements as their list.
+///
+/// # Conditions
+///
+/// The schema is one of an accepted set (`IsStruct`).
+pub fn get_form_at(schema: StructSchema<'_>, path: &[Step<'_>]) -> Form
+    requires { IsStruct schema }
+    ensures { result ≡ form_at (set_of schema.entry) (number_of schema.entry) (path_seen path.now) }
+{
+    stand_at(schema, path).form
 }
 
 /// Whether the numbers at the end of a path from a struct are floats, by the schema alone: as
@@ -71,12 +99,19 @@ pub fn has_floats_at(schema: StructSchema<'_>, path: &[Step<'_>]) -> bool
     requires { IsStruct schema }
     ensures { result ≡ floats_at (set_of schema.entry) (number_of schema.entry) (path_seen path.now) }
 {
-    let mut now = Standing {
-        of: Type::from(TypeVariant::Struct(schema.into())),
-        floats: false,
-    };
-    for step in path {
-        now = step_on(schema.get_set(), now, *step);
-    }
-    now.floats
+    stand_at(schema, path).form.floats
+}
+
+/// The same of the path with a step more behind it.
+///
+/// # Conditions
+///
+/// The schema is one of an accepted set (`IsStruct`).
+pub fn has_floats_behind(schema: StructSchema<'_>, path: &[Step<'_>], last: Step<'_>) -> bool
+    requires { IsStruct schema }
+    ensures { result
+        ≡ floats_behind (set_of schema.entry) (number_of schema.entry) (path_seen path.now) (step_seen last.entry) }
+{
+    let now = stand_at(schema, path);
+    step_on(schema.get_set(), now, last).form.floats
 }

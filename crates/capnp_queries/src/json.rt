@@ -6,10 +6,11 @@ ghost use Rattle.capnp_json.specs.Pieces.{IsJson};
 ghost use Rattle.capnp_json.specs.Written.{IsOnlyJson};
 ghost use Rattle.capnp_queries.specs.Json.{HasNoJson, json_at};
 
+use crate::floats::get_form_at;
 use crate::reach::reach_path;
 use capnp_call::calls::Step;
 use capnp_json::error::JsonError;
-use capnp_json::json::to_json;
+use capnp_json::json::to_json_as;
 use capnp_patch::place::Refusal;
 use capnp_schema::schema::StructSchema;
 use std::alloc::Global;
@@ -23,8 +24,8 @@ pub enum NoJson<'a> {
     Value(JsonError),
 }
 
-/// The JSON of what stands at a path of the first message in these bytes, as `capnp_json::json::to_json`, in at most
-/// `limit` bytes. Refused as `crate::reach::reach_path`, with the place, and else as `capnp_json::json::to_json`.
+/// The JSON of what stands at a path of the first message in these bytes, as `capnp_json::json::to_json_as` writes it by the last field
+/// that the path names, in at most `limit` bytes. Refused as `crate::reach::reach_path`, with the place, and else as `to_json_as`.
 ///
 /// # Conditions
 ///
@@ -50,7 +51,8 @@ pub fn get_json<'a>(
         Ok(value) => value,
         Err(refusal) => return Err(NoJson::Unreached(refusal)),
     };
-    match to_json(alloc, value, indented, limit) {
+    let form = get_form_at(schema, path);
+    match to_json_as(alloc, value, form, indented, limit) {
         Ok(json) => Ok(json),
         Err(why) => Err(NoJson::Value(why)),
     }

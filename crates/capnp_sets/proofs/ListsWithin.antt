@@ -14,7 +14,8 @@ use Rattle.capnp_sets.proofs.Caused.{IsSetKind}
 use Rattle.capnp_sets.proofs.MessageKinds.{message_kind}
 use Rattle.capnp_sets.specs.Facts.RootRead.{IsRoot, lists_refused}
 use Rattle.capnp_sets.specs.Lists.{has_cause}
-use Rattle.capnp_sets.specs.Message.{HasLargeMessage, IsLargeRoot, IsMessageCause, IsMessageRefusal, IsRootCause, root_record}
+use Rattle.capnp_sets.specs.Message.{HasLargeMessage, IsLargeRoot, IsMessageRefusal, root_record}
+use Rattle.capnp_sets.specs.Steps.MessageCauses.{IsMessageCause, IsRootCause}
 use Rattle.capnp_sets.specs.Refusals.{is_set_kind}
 
 pub lists_caused : {A : Type 0} (made : Result A Error) (bytes : List ℕ) (s : StructTree) (h : StructHandle) → IsRoot bytes s → record_seen h ≡ root_record s →

@@ -11,7 +11,7 @@ use Rattle.capnp_schema.specs.Schema.{Schemas}
 use Rattle.capnp_records.specs.Reading.{struct_record}
 use Rattle.capnp_records.specs.Record.{Left, Record}
 use Rattle.capnp_wire.specs.Unfolded.{unfolded}
-use Rattle.capnp_sets.specs.Lists.{IsSchemaSetRefusal, has_cause, lists_meant}
+use Rattle.capnp_sets.specs.Lists.{IsSchemaSetRefusal, lists_meant}
 use Rattle.capnp_sets.specs.Unfolded.{values_size}
 
 -- the record of a root that was read as a struct, which takes one of the levels of a message
@@ -40,14 +40,6 @@ IsRootRefusal (Err kind) e = e.kind ≡ kind
 -- the record, or its lists break a rule
 abbrev pub IsMessageRefusal : List ℕ → Error → Type 0
 IsMessageRefusal bytes e = IsRootRefusal (root_struct (message_tree_of bytes)) e
-
--- why the first message in these bytes stands for no lists
-abbrev pub IsRootCause : Result StructTree ErrorKind → ErrorKind → Type 0
-IsRootCause (Ok root) kind = has_cause (root_record root) kind
-IsRootCause (Err k) kind = kind ≡ k
-
-abbrev pub IsMessageCause : List ℕ → ErrorKind → Type 0
-IsMessageCause bytes kind = IsRootCause (root_struct (message_tree_of bytes)) kind
 
 -- what the root leads to is past a limit
 abbrev pub IsLargeRoot : ℕ → Result Tree ErrorKind → Type 0

@@ -4,7 +4,8 @@ ghost use Rattle.capnp_device.specs.declared.error.ErrorKind.TheVariants.{OutOfM
 ghost use Rattle.capnp_schema.specs.Accepted.{IsAccepted};
 ghost use Rattle.capnp_schema.specs.Entries.{lists_seen};
 ghost use Rattle.capnp_schema.specs.Schema.{seen_schemas};
-ghost use Rattle.capnp_sets.specs.Message.{HasLargeMessage, IsMessageCause, IsMessageRefusal, IsPastLimit, message_set};
+ghost use Rattle.capnp_sets.specs.Message.{HasLargeMessage, IsMessageRefusal, IsPastLimit, message_set};
+ghost use Rattle.capnp_sets.specs.Steps.MessageCauses.{IsMessageCause};
 ghost use Rattle.capnp_sets.specs.Refusals.{IsRefusalOfSet, is_set_kind};
 ghost use Rattle.capnp_sets.specs.Unfolded.{values_size};
 

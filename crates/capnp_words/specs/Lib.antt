@@ -7,5 +7,6 @@ pub mod Reads
 pub mod Seen
 pub mod Targets
 pub mod Values
+pub mod Marked
 pub mod Words
 pub mod Steps

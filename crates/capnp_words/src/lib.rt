@@ -7,6 +7,7 @@
 
 pub mod call;
 pub mod laws;
+pub mod marked;
 mod numbers;
 pub mod path;
 mod quoted;

@@ -209,7 +209,7 @@ fn read_uint16<'s>(word: &[u8]) -> Read<PlainValue<'s>>
 }
 
 /// A number of an unsigned type of four bytes.
-fn read_uint32<'s>(word: &[u8]) -> Read<PlainValue<'s>>
+pub(crate) fn read_uint32<'s>(word: &[u8]) -> Read<PlainValue<'s>>
     ensures read { read_as word_value_seen result ≡ uint_at 4 word.now }
     ensures typed { IfOk result (λ v. word_value_type v ≡ UIntType 4) }
 {
@@ -218,7 +218,7 @@ fn read_uint32<'s>(word: &[u8]) -> Read<PlainValue<'s>>
 }
 
 /// A number of an unsigned type of eight bytes.
-fn read_uint64<'s>(word: &[u8]) -> Read<PlainValue<'s>>
+pub(crate) fn read_uint64<'s>(word: &[u8]) -> Read<PlainValue<'s>>
     ensures read { read_as word_value_seen result ≡ uint_at 8 word.now }
     ensures typed { IfOk result (λ v. word_value_type v ≡ UIntType 8) }
 {

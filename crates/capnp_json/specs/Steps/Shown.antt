@@ -18,7 +18,7 @@ use Rattle.capnp_dynamic_readers.specs.Steps.Shown.{count_of, elements_from, par
 use Rattle.capnp_dynamic_readers.specs.declared.dynamic_list.Reader.{Reader as ListHandle}
 use Rattle.capnp_dynamic_readers.specs.declared.dynamic_struct.Reader.{Reader as StructHandle}
 use Rattle.capnp_dynamic_readers.specs.declared.dynamic_value.Reader.{Reader as DynamicValue}
-use Rattle.capnp_json.specs.Json.{element_jsons, form_of, json_levels, json_within, part_json, plain, record_json}
+use Rattle.capnp_json.specs.Json.{element_jsons, form_of, json_levels, json_within, part_json, record_json}
 use Rattle.capnp_json.specs.Pieces.{Out, array, items_left}
 use Rattle.capnp_json.specs.declared.error.JsonError.{JsonError}
 use Rattle.capnp_json.specs.declared.error.JsonError.TheVariants.{Read}
@@ -67,8 +67,8 @@ abbrev pub elements_onward : ℕ → Layout → Form → ListHandle → (first :
 elements_onward left at form l first i = items_left (codes "]") at first (element_items left at form l i (count_of l - i))
 
 -- a value that stands alone
-abbrev pub root_shown : Layout → DynamicValue → Out
-root_shown at v = part_json (set_seen v) (json_within (set_seen v) json_levels) at plain (type_seen v) (value_printed v)
+abbrev pub root_shown : Layout → Form → DynamicValue → Out
+root_shown at form v = part_json (set_seen v) (json_within (set_seen v) json_levels) at form (type_seen v) (value_printed v)
 
 -- whether elements of a type stand behind pointers of their own, which may be null
 abbrev pub has_null : SchemaType → Bool

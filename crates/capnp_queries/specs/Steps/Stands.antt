@@ -4,4 +4,4 @@ use Rattle.capnp_queries.specs.Floats.{Stand}
 use Rattle.capnp_queries.specs.declared.floats.Standing.{Standing}
 
 abbrev pub stand_seen : Standing → Stand
-stand_seen s = record { type = seen_type s.of; floats = s.floats }
+stand_seen s = record { type = seen_type s.of; form = s.form }
