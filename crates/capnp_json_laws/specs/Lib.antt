@@ -1,0 +1,10 @@
+pub mod Stands
+pub mod Fitting
+pub mod Trees
+pub mod Texts
+pub mod AsRead
+pub mod Distinct
+pub mod Laws
+pub mod Shaped
+pub mod Roots
+pub mod NewMessages
