@@ -25,6 +25,7 @@ pub mod RootsNamed
 pub mod Rows
 pub mod ScopesBound
 pub mod ScopesRead
+pub mod SizesTaken
 pub mod Sounds
 pub mod StructsMade
 pub mod Taken
@@ -32,4 +33,6 @@ pub mod TypesDone
 pub mod TypesSeen
 pub mod ValuesRead
 pub mod Walks
+pub mod WithinMade
+pub mod WithinSteps
 pub mod Works

@@ -10,6 +10,7 @@ use Rattle.capnp_request.specs.Order.{Begun, Made, add_struct, and_said, begin_e
 use Rattle.capnp_request.specs.Reading.{request_with}
 use Rattle.capnp_request.specs.Scopes.{node_named}
 use Rattle.capnp_request.specs.Terms.{Said, SchemaNode}
+use Rattle.capnp_request.specs.Within.{make_step}
 use Rattle.capnp_request.specs.Work.{Entry, Named, Whole, Work, work_of, work_said, ◌>>=◌, work_continued}
 use Rattle.capnp_request.proofs.Works.{then_err, then_ok}
 
@@ -169,32 +170,32 @@ module _ (nodes : List SchemaNode) (strict : Bool) (m : Made) (s : Named) where
       pub enum_done : (e : Enum) (after : Named) → enum_made nodes strict id name n s ≡ Ok (e, after) → make_enum nodes strict m id s ≡ Ok (record m { enums = m.enums ++ e ∷ [] }, after)
       enum_done e after r = ap (λ r. work_continued from_enum (work_said r s)) begun ∙ then_ok (enum_made nodes strict id name n) with_enum s after e r
 
-  module _ (steps : ℕ) where
+  module _ (again : Made → Work Made) where
     abbrev next : Option Entry → Option ℕ → Result (Made × Named) ErrorKind
-    next e enum = make_next nodes strict (make_all nodes strict steps) m e enum s
+    next e enum = make_next nodes strict again m e enum s
 
     module _ (e : Entry) (here : slice_get s.entries (length m.nodes) ≡ Some e) where
-      at_entry : make_all nodes strict (suc steps) m s ≡ work_continued (make_all nodes strict steps) (make_struct nodes strict m e s)
+      at_entry : make_step nodes strict again m s ≡ work_continued again (make_struct nodes strict m e s)
       at_entry = ap (λ o. next o (slice_get s.enums (length m.enums))) here
 
-      pub next_refused : (kind : ErrorKind) → make_struct nodes strict m e s ≡ Err kind → make_all nodes strict (suc steps) m s ≡ Err kind
-      next_refused kind r = at_entry ∙ ap (work_continued (make_all nodes strict steps)) r
+      pub next_refused : (kind : ErrorKind) → make_struct nodes strict m e s ≡ Err kind → make_step nodes strict again m s ≡ Err kind
+      next_refused kind r = at_entry ∙ ap (work_continued again) r
 
-      pub next_made : (new : Made) (after : Named) → make_struct nodes strict m e s ≡ Ok (new, after) → make_all nodes strict (suc steps) m s ≡ make_all nodes strict steps new after
-      next_made new after r = at_entry ∙ ap (work_continued (make_all nodes strict steps)) r
+      pub next_made : (new : Made) (after : Named) → make_struct nodes strict m e s ≡ Ok (new, after) → make_step nodes strict again m s ≡ again new after
+      next_made new after r = at_entry ∙ ap (work_continued again) r
 
     module _ (none : slice_get s.entries (length m.nodes) ≡ None) where
       module _ (id : ℕ) (here : slice_get s.enums (length m.enums) ≡ Some id) where
-        at_enum : make_all nodes strict (suc steps) m s ≡ work_continued (make_all nodes strict steps) (make_enum nodes strict m id s)
+        at_enum : make_step nodes strict again m s ≡ work_continued again (make_enum nodes strict m id s)
         at_enum = ap (λ o. next o (slice_get s.enums (length m.enums))) none ∙ ap (next None) here
 
-        pub next_enum_refused : (kind : ErrorKind) → make_enum nodes strict m id s ≡ Err kind → make_all nodes strict (suc steps) m s ≡ Err kind
-        next_enum_refused kind r = at_enum ∙ ap (work_continued (make_all nodes strict steps)) r
+        pub next_enum_refused : (kind : ErrorKind) → make_enum nodes strict m id s ≡ Err kind → make_step nodes strict again m s ≡ Err kind
+        next_enum_refused kind r = at_enum ∙ ap (work_continued again) r
 
-        pub next_enum : (new : Made) (after : Named) → make_enum nodes strict m id s ≡ Ok (new, after) → make_all nodes strict (suc steps) m s ≡ make_all nodes strict steps new after
-        next_enum new after r = at_enum ∙ ap (work_continued (make_all nodes strict steps)) r
+        pub next_enum : (new : Made) (after : Named) → make_enum nodes strict m id s ≡ Ok (new, after) → make_step nodes strict again m s ≡ again new after
+        next_enum new after r = at_enum ∙ ap (work_continued again) r
 
-      pub next_none : slice_get s.enums (length m.enums) ≡ None → make_all nodes strict (suc steps) m s ≡ Ok (m, s)
+      pub next_none : slice_get s.enums (length m.enums) ≡ None → make_step nodes strict again m s ≡ Ok (m, s)
       next_none here = ap (λ o. next o (slice_get s.enums (length m.enums))) none ∙ ap (next None) here
 
 -- ---- a whole request ----

@@ -12,7 +12,8 @@ use Rattle.capnp_request.specs.Order.{Begun, Made, add_struct, begin_struct, mak
 use Rattle.capnp_request.specs.Steps.ProgressSeen.{begun_of, made_of, work_rest}
 use Rattle.capnp_request.specs.StructsSeen.{seen_notes}
 use Rattle.capnp_request.specs.Terms.{Said, SchemaNode}
-use Rattle.capnp_request.specs.Work.{Bound, Entry, Named, Place, work_of}
+use Rattle.capnp_request.specs.Within.{make_step}
+use Rattle.capnp_request.specs.Work.{Bound, Entry, Named, Place, Work, work_of}
 use Rattle.capnp_request.specs.declared.conversion.Converted.{Converted}
 use Rattle.capnp_request.specs.declared.conversion.NextStruct.{NextStruct}
 use Rattle.capnp_request.specs.declared.conversion.Progress.{Progress}
@@ -86,15 +87,15 @@ module _ (nodes : List SchemaNode) (strict : Bool) (steps : ℕ) (m : Made) (s :
   at_step : make_all nodes strict (suc (steps - 1)) m s ≡ whole
   at_step = ap (λ k. make_all nodes strict k m s) (sym one_fewer) ∙ left
 
-  module _ (more : Bool) (new : Made) (after : Named) (next : (k : ℕ) → make_all nodes strict (suc k) m s ≡ work_rest nodes strict more k new after) where
+  module _ (more : Bool) (new : Made) (after : Named) (next : (again : Made → Work Made) → make_step nodes strict again m s ≡ work_rest more again new after) where
     pub steps_more : more ≡ true → make_all nodes strict (steps - 1) new after ≡ whole
-    steps_more e = sym (next (steps - 1) ∙ ap (λ q. work_rest nodes strict q (steps - 1) new after) e) ∙ at_step
+    steps_more e = sym (next (make_all nodes strict (steps - 1)) ∙ ap (λ q. work_rest q (make_all nodes strict (steps - 1)) new after) e) ∙ at_step
 
     pub steps_done : more ≡ false → whole ≡ Ok (new, after)
-    steps_done e = sym at_step ∙ (next (steps - 1) ∙ ap (λ q. work_rest nodes strict q (steps - 1) new after) e)
+    steps_done e = sym at_step ∙ (next (make_all nodes strict (steps - 1)) ∙ ap (λ q. work_rest q (make_all nodes strict (steps - 1)) new after) e)
 
-  pub steps_refused : (kind : ErrorKind) → ((k : ℕ) → make_all nodes strict (suc k) m s ≡ Err kind) → whole ≡ Err kind
-  steps_refused kind h = sym at_step ∙ h (steps - 1)
+  pub steps_refused : (kind : ErrorKind) → ((again : Made → Work Made) → make_step nodes strict again m s ≡ Err kind) → whole ≡ Err kind
+  steps_refused kind h = sym at_step ∙ h (make_all nodes strict (steps - 1))
 
 pub steps_over : (nodes : List SchemaNode) (strict : Bool) (steps : ℕ) (m : Made) (s : Named) (whole : Result (Made × Named) ErrorKind) (kind : ErrorKind) → make_all nodes strict steps m s ≡ whole → steps ≡ 0 → kind ≡ TooManyTypes → whole ≡ Err kind
 steps_over nodes strict steps m s whole kind left e k = sym left ∙ (ap (λ n. make_all nodes strict n m s) e ∙ ap (λ (x : ErrorKind). Err x) (sym k))

@@ -3,12 +3,14 @@ use Rattle.std.proofs.Common.{ℕ, ◌≡◌, List, [], ◌∷◌, Bool, true, f
 use Rattle.std.specs.Str.{chars, is_utf8}
 use lib.Utf8.{encode}
 use Rattle.capnp_device.specs.declared.error.ErrorKind.TheVariants.{FloatType, NodeNotFound}
-use Rattle.capnp_schema.specs.Schema.{Annotation, Brand, Field, Node, Schemas, Slot, TextValue, UIntValue, VoidValue}
+use Rattle.capnp_schema.specs.Schema.{Annotation, Brand, Field, Node, Schemas, Slot, TextValue, UIntValue, VoidValue, no_types}
 use Rattle.capnp_schema.specs.Types.{SchemaType, ListType, StructType, TextType, UIntType, VoidType, AnyPointerType}
 use Rattle.capnp_request.specs.Conversion.{Float32Note, Float64Note, Note, note_at}
 use Rattle.capnp_request.specs.Names.{dotted_of, file_of}
 use Rattle.capnp_request.specs.Order.{conversion_of}
+use Rattle.capnp_request.specs.Sizes.{lists_bytes}
 use Rattle.capnp_request.specs.Terms.{AnnotationNode, Binds, FieldKindTerm, FieldTerm, Float32, Float64, GroupTerm, Inherits, ListTerm, MoreBindings, MoreScopes, NoBindings, NoScopes, NodeKind, OtherNode, Parameter, MemberTerm, RequestTerm, Said, SchemaNode, SlotTerm, Stands, StructNode, StructTerm, EnumTerm, TypeTerm}
+use Rattle.capnp_request.specs.Within.{conversion_in}
 
 -- ---- terms of rows ----
 
@@ -228,3 +230,46 @@ dangling = request (file (2 ∷ []) ∷ node 2 (codes "x.capnp:A") 1 [] 0 (struc
 enum_not_found : conversion_of dangling false ≡ Err NodeNotFound
 unfolding is_utf8 chars encode
 enum_not_found = refl
+
+-- ---- within so many bytes ----
+
+abbrev sized : Schemas
+sized = record {
+  nodes = record {
+    id = 2;
+    display_name = codes "A";
+    annotations = [];
+    data_word_count = 0;
+    pointer_count = 1;
+    is_group = false;
+    discriminant_count = 0;
+    discriminant_offset = 0;
+    fields = record { name = codes "text"; discriminant_value = 65535; annotations = record { id = 7; value = UIntValue 4 5 } ∷ []; kind = Slot 0 (TextValue (codes "abc")) } ∷ [];
+  } ∷ [];
+  brands = [];
+  enums = record { id = 3; display_name = codes "E"; annotations = []; enumerants = record { name = codes "one"; annotations = [] } ∷ []; annotation_types = no_types } ∷ [];
+}
+
+-- the node 49, its field 36, the annotation 40, the default 3; the enum 49, its enumerant 19
+sized_bytes : lists_bytes sized ≡ 196
+sized_bytes = refl
+
+abbrev two : RequestTerm
+two = request (file (2 ∷ 3 ∷ []) ∷ node 2 (codes "x.capnp:A") 1 [] 0 (struct_kind false 0 []) ∷ node 3 (codes "x.capnp:B") 1 [] 0 (struct_kind false 0 []) ∷ [])
+
+none_yet : names_in (conversion_in 0 two false) ≡ Ok []
+unfolding is_utf8 chars encode
+none_yet = refl
+
+one_of_two : names_in (conversion_in 1 two false) ≡ Ok (codes "A" ∷ [])
+unfolding is_utf8 chars encode
+one_of_two = refl
+
+both_at_the_end : names_in (conversion_in 5 two false) ≡ names_in (conversion_of two false)
+unfolding is_utf8 chars encode
+both_at_the_end = refl
+
+-- a step that is refused makes nothing
+none_refused : names_in (conversion_in 1 dangling false) ≡ Err NodeNotFound
+unfolding is_utf8 chars encode
+none_refused = refl

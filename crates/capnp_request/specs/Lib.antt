@@ -9,9 +9,11 @@ pub mod Refusals
 pub mod RequestSet
 pub mod Scopes
 pub mod Shapes
+pub mod Sizes
 pub mod StructsSeen
 pub mod Terms
 pub mod Types
 pub mod Values
+pub mod Within
 pub mod Work
 pub mod Steps

@@ -12,6 +12,7 @@ pub mod Numbers
 pub mod Parts
 pub mod ProgressSeen
 pub mod Shapes
+pub mod Sizes
 pub mod StructsSeen
 pub mod Types
 pub mod ValueMembers

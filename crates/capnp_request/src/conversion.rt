@@ -1,5 +1,5 @@
 //! From a compiler's request to the lists of a set of schemas.
-ghost use Rattle.std.specs.Prelude.{ℕ, List, [], ◌∷◌, ◌++◌, suc, ◌≡◌, ◌≢◌, ◌<◌, ◌≤◌, ◌+◌, drop, length, map, string_bytes, IfErr, IfOk, OnOk, Ok, Err};
+ghost use Rattle.std.specs.Prelude.{List, [], ◌∷◌, ◌++◌, suc, ◌≡◌, ◌≢◌, ◌<◌, ◌≤◌, ◌+◌, drop, length, map, string_bytes, IfErr, IfOk, OnOk, Ok, Err};
 ghost use Rattle.capnp_device.specs.declared.error.ErrorKind.TheVariants.{OutOfMemory, TooManyTypes};
 ghost use Rattle.capnp_schema.specs.Schema.{seen_node};
 ghost use Rattle.capnp_dynamic_readers.specs.Seen.{record_seen};
@@ -11,12 +11,15 @@ ghost use Rattle.capnp_request.specs.Names.{Holder};
 ghost use Rattle.capnp_request.specs.Steps.NamesMade.{AreHolders, texts};
 ghost use Rattle.capnp_request.specs.Steps.Nodes.{AreNodes, nodes_of};
 ghost use Rattle.capnp_request.specs.Steps.Numbers.{AreNumbered, numbered_entries};
-ghost use Rattle.capnp_request.specs.Order.{add_struct, and_said, begin_enum, begin_struct, conversion_of, enum_names, make_all, make_enum, nothing_made, result_of};
+ghost use Rattle.capnp_request.specs.Order.{Made, add_struct, and_said, begin_enum, begin_struct, conversion_of, enum_names, make_all, make_enum, nothing_made, result_of};
 ghost use Rattle.capnp_request.specs.ProgressSeen.{seen_lists};
 ghost use Rattle.capnp_request.specs.Steps.ProgressSeen.{begun_of, made_of, work_rest};
 ghost use Rattle.capnp_request.specs.Reading.{node_said, request_said};
 ghost use Rattle.capnp_request.specs.Refusals.{IsUnstrict, IsRefusal};
 ghost use Rattle.capnp_request.specs.Shapes.{AreBrandsOf};
+ghost use Rattle.capnp_request.specs.Steps.Sizes.{HasGrown};
+ghost use Rattle.capnp_request.specs.Within.{make_step};
+ghost use Rattle.capnp_request.specs.Work.{Work};
 
 use crate::context::Context;
 use crate::entries::{BoundScope, Entries, Entry};
@@ -33,7 +36,7 @@ use capnp_wire::error::{Error, ErrorKind, Result};
 use std::alloc::Global;
 
 /// How many more steps than nodes a conversion takes at most: one for each entry, and one that finds all made.
-const MORE_STEPS: u64 = 65_537;
+pub(crate) const MORE_STEPS: u64 = 65_537;
 
 /// What a request is converted to: the lists of which `SchemaSet::new` makes a set, and notes on what stands there for
 /// something else, by entry and field.
@@ -47,8 +50,8 @@ pub struct Converted {
 
 /// What a conversion has made so far.
 #[derive(Drop)]
-struct Progress {
-    made: Converted,
+pub(crate) struct Progress {
+    pub(crate) made: Converted,
     names: Names,
     enum_names: Vec<String>,
 }
@@ -108,7 +111,7 @@ fn put_struct(all: &mut Converted, one: MadeStruct) -> Result<()>
 }
 
 impl Progress {
-    fn new(alloc: Global) -> Progress
+    pub(crate) fn new(alloc: Global) -> Progress
         ensures brands { AreBrandsOf result.made.nodes.items result.made.brands.items }
         ensures made { made_of result [] ≡ nothing_made }
         ensures holders { AreHolders result.names [] }
@@ -207,6 +210,8 @@ impl Progress {
             (begun_of self.old hs next.entry)) (between entries.old) (between entries.new) result }
         ensures numbers { IfOk result (λ _. AreNumbered entries.new) }
         ensures names { self.new.names ≡ self.old.names }
+        ensures structs { IfOk result (λ _. HasGrown self.old.made.nodes.items self.new.made.nodes.items) }
+        ensures enums { IfOk result (λ _. self.new.made.enums ≡ self.old.made.enums) }
         ensures brands { IfOk result (λ _. AreBrandsOf self.new.made.nodes.items self.new.made.brands.items) }
         ensures kinds { IfErr result (λ e. IsRefusal context.entry.strict e.kind) }
     {
@@ -235,6 +240,7 @@ impl Progress {
         ensures numbers { IfOk result (λ _. AreNumbered entries.new) }
         ensures names { self.new.names ≡ self.old.names }
         ensures structs { self.new.made.nodes ≡ self.old.made.nodes }
+        ensures enums { IfOk result (λ _. HasGrown self.old.made.enums.items self.new.made.enums.items) }
         ensures brands { self.new.made.brands ≡ self.old.made.brands }
         ensures kinds { IfErr result (λ e. IsRefusal context.entry.strict e.kind) }
     {
@@ -247,20 +253,25 @@ impl Progress {
     }
 
     /// Makes the next struct, or where all are made the next enum. False where there is neither.
-    fn make_next<'a>(&mut self, context: Context<'_, 'a>, entries: &mut Entries) -> Result<bool>
+    pub(crate) fn make_next<'a>(
+        &mut self,
+        context: Context<'_, 'a>,
+        entries: &mut Entries,
+    ) -> Result<bool>
         requires nodes { AreNodes context.nodes.now }
         requires numbers { AreNumbered entries.now }
         requires brands { AreBrandsOf self.now.made.nodes.items self.now.made.brands.items }
         ensures done { (hs : List Holder) → AreHolders self.old.names hs
             → IfOk result (λ more. (after : List Holder) × AreHolders self.new.names after
-            × ((steps : ℕ) → make_all (nodes_of context.entry.nodes.now) context.entry.strict (suc steps)
+            × ((again : Made → Work Made) → make_step (nodes_of context.entry.nodes.now) context.entry.strict again
             (made_of self.old hs) (between entries.old)
-            ≡ work_rest (nodes_of context.entry.nodes.now) context.entry.strict more steps (made_of self.new after)
-            (between entries.new))) }
+            ≡ work_rest more again (made_of self.new after) (between entries.new))) }
         ensures refused { (hs : List Holder) → AreHolders self.old.names hs
-            → IfErr result (λ e. e.kind ≢ OutOfMemory → (steps : ℕ) →
-            make_all (nodes_of context.entry.nodes.now) context.entry.strict (suc steps) (made_of self.old hs)
+            → IfErr result (λ e. e.kind ≢ OutOfMemory → (again : Made → Work Made) →
+            make_step (nodes_of context.entry.nodes.now) context.entry.strict again (made_of self.old hs)
             (between entries.old) ≡ Err e.kind) }
+        ensures structs { IfOk result (λ _. HasGrown self.old.made.nodes.items self.new.made.nodes.items) }
+        ensures enums { IfOk result (λ _. HasGrown self.old.made.enums.items self.new.made.enums.items) }
         ensures numbers { IfOk result (λ _. AreNumbered entries.new) }
         ensures brands { IfOk result (λ _. AreBrandsOf self.new.made.nodes.items self.new.made.brands.items) }
         ensures kinds { IfErr result (λ e. IsRefusal context.entry.strict e.kind) }

@@ -19,9 +19,12 @@ pub mod request_set;
 mod roots;
 mod schema_nodes;
 mod scopes;
+mod sizes;
 mod structs;
 mod types;
 mod values;
+mod within;
 
 pub use conversion::{Converted, read_request};
 pub use notes::{Note, StandIn};
+pub use within::read_request_within;

@@ -1,8 +1,9 @@
 -- What is made of a request, from what its parts answer.
-use Rattle.std.proofs.Common.{IfErr, IfOk, Result, Ok, Err, Option, ◌<◌, length, take, ℕ, ◌+◌, ◌≡◌, ◌∙◌, ap, arith, inr, subst, sym, Bool, List}
+use Rattle.std.proofs.Common.{IfErr, IfOk, Result, Ok, Err, Option, ◌<◌, length, take, ℕ, ◌+◌, ◌≡◌, ◌∙◌, ◌⊎◌, ap, arith, inl, inr, subst, sym, Bool, List}
 use Rattle.std.specs.Io.KnownBytes.{Appends}
 use Rattle.capnp_device.specs.declared.error.Error.{Error}
-use Rattle.capnp_device.specs.declared.error.ErrorKind.TheVariants.{SizePastFormat, UnknownKind}
+use Rattle.capnp_device.specs.declared.error.ErrorKind.{ErrorKind}
+use Rattle.capnp_device.specs.declared.error.ErrorKind.TheVariants.{SizePastFormat, TooLarge, UnknownKind}
 use Rattle.capnp_wire.specs.Standing.{struct_levels, struct_of}
 use Rattle.capnp_wire.specs.declared.struct_reader.StructReader.{StructReader}
 use Rattle.capnp_schema.specs.Accepted.{IsAccepted}
@@ -19,13 +20,15 @@ use Rattle.capnp_request.specs.Conversion.{Note}
 use Rattle.capnp_request.specs.Handles.{IsRequestRecord}
 use Rattle.capnp_request.specs.Order.{and_said, conversion_of}
 use Rattle.capnp_request.specs.Reading.{request_said}
+use Rattle.capnp_request.specs.Refusals.{IsRefusal}
 use Rattle.capnp_request.specs.Terms.{Said}
+use Rattle.capnp_request.specs.Within.{IsLargeConversion}
 use Rattle.capnp_request.specs.declared.conversion.Converted.{Converted}
 use Rattle.capnp_set_writer.specs.Limits.{HasFormless, IsPastFormat}
 use Rattle.capnp_set_writer.specs.Writes.{IsWriteRefusal}
 use Rattle.capnp_show_engine.specs.Command.{IsTold}
 use Rattle.capnp_show_engine.specs.Show.{IsRead}
-use Rattle.capnp_set_engine.specs.Convert.{HasNoSet, IsCutShort, IsSetOf, IsUnwritten, IsWritten, conversion_from, request_record, set_in}
+use Rattle.capnp_set_engine.specs.Convert.{HasManyBytes, HasNoSet, IsCutShort, IsLargeFrom, IsRequestUnread, IsRootRead, IsSetOf, IsUnwritten, IsWritten, conversion_from, request_record, set_in}
 
 -- what each answer says, of what it said before
 pub each_answer : {T E : Type 0} {P Q : T → Type 0} (r : Result T E) → ((a : T) → P a → Q a) → IfOk r P → IfOk r Q
@@ -54,6 +57,20 @@ request_seen h r n reader is levels levels_are =
 pub conversion_is : (strict : Bool) (r : Record) (root : StructTree) (x : Said (Schemas × List Note)) → r ≡ request_record root → and_said (request_said r) (λ t. conversion_of t strict) ≡ x → conversion_from strict root ≡ x
 unfolding conversion_from
 conversion_is strict r root x e h = ap (λ (y : Record). and_said (request_said y) (λ t. conversion_of t strict)) (sym e) ∙ h
+
+-- why that record isn't converted within so many bytes, of the request
+pub unread_within : (limit : ℕ) (strict : Bool) (bytes : List ℕ) (r : Record) (root : StructTree) (kind : ErrorKind) → r ≡ request_record root → IsRootRead bytes root → IsRefusal strict kind →
+    (and_said (request_said r) (λ t. conversion_of t strict) ≡ Err kind) ⊎ ((kind ≡ TooLarge) × IsLargeConversion limit (request_said r) strict) →
+    IsRequestUnread strict bytes kind ⊎ ((kind ≡ TooLarge) × HasManyBytes limit strict bytes)
+unfolding IsLargeFrom
+unread_within limit strict bytes r root kind e is refusal (inl h) = inl (inr (root, is, conversion_is strict r root (Err kind) e h, refusal))
+unread_within limit strict bytes r root kind e is refusal (inr (k, large)) = inr (k, record { root = root; request = is; large = subst (λ (x : Record). IsLargeConversion limit (request_said x) strict) e large })
+
+-- a request that isn't converted has no set
+pub no_set_within : (limit : ℕ) (strict : Bool) (bytes : List ℕ) (e : Error) → IsRequestUnread strict bytes e.kind ⊎ ((e.kind ≡ TooLarge) × HasManyBytes limit strict bytes) →
+    HasNoSet strict bytes e ⊎ ((e.kind ≡ TooLarge) × HasManyBytes limit strict bytes)
+no_set_within limit strict bytes e (inl unread) = inl (inl unread)
+no_set_within limit strict bytes e (inr large) = inr large
 
 -- a set of a conversion's lists that is accepted and can't be written
 pub unwritable : (c : Converted) (s : Schemas) (e : Error) → s ≡ set_in c → IsAccepted (set_in c) → IsWriteRefusal e.kind →

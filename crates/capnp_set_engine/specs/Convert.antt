@@ -1,5 +1,5 @@
 -- What is written and told for the bytes of a stream.
-use Rattle.std.specs.Prelude.{ℕ, ◌≡◌, ◌⊎◌, ◌<◌, List, Bool, length, take, Option, Ok, Err}
+use Rattle.std.specs.Prelude.{ℕ, ◌≡◌, ◌⊎◌, ◌<◌, ◌≤◌, List, Bool, length, take, Option, Ok, Err}
 use Rattle.std.specs.Io.KnownBytes.{Appends}
 use Rattle.capnp_device.specs.declared.error.Error.{Error}
 use Rattle.capnp_device.specs.declared.error.ErrorKind.{ErrorKind}
@@ -18,7 +18,9 @@ use Rattle.capnp_request.specs.Order.{and_said, conversion_of}
 use Rattle.capnp_request.specs.ProgressSeen.{seen_lists}
 use Rattle.capnp_request.specs.Reading.{request_said}
 use Rattle.capnp_request.specs.Refusals.{IsRefusal}
+use Rattle.capnp_request.specs.Sizes.{lists_bytes}
 use Rattle.capnp_request.specs.Terms.{Said}
+use Rattle.capnp_request.specs.Within.{IsLargeConversion}
 use Rattle.capnp_request.specs.declared.conversion.Converted.{Converted}
 use Rattle.capnp_set_writer.specs.Limits.{HasFormless, IsPastFormat}
 use Rattle.capnp_set_writer.specs.Message.{IsReadAsSet, set_message}
@@ -89,6 +91,24 @@ IsUnwritten c e = IsRefusalOf (set_in c) e ⊎ IsUnwritable (set_in c) e.kind
 abbrev pub HasNoSet : (strict : Bool) → List ℕ → Error → Type 0
 HasNoSet strict bytes e =
     IsRequestUnread strict bytes e.kind ⊎ ((c : Converted) × IsConvertedFrom strict bytes c × IsUnwritten c e)
+
+-- ---- within so many bytes ----
+
+-- the lists that the request in these bytes stands for have at most so many
+pub record HasFewBytes (limit : ℕ) (strict : Bool) (bytes : List ℕ) : Type 0 where
+  pub conversion : Converted
+  pub request : IsConvertedFrom strict bytes conversion
+  pub few : lists_bytes (set_in conversion) ≤ limit
+
+-- those that the first steps of a conversion make have more, and so have all
+unfoldable pub IsLargeFrom : (limit : ℕ) → (strict : Bool) → StructTree → Type 0
+IsLargeFrom limit strict root = IsLargeConversion limit (request_said (request_record root)) strict
+
+-- those that the first steps of the conversion of the request in these bytes make have more
+pub record HasManyBytes (limit : ℕ) (strict : Bool) (bytes : List ℕ) : Type 0 where
+  pub root : StructTree
+  pub request : IsRootRead bytes root
+  pub large : IsLargeFrom limit strict root
 
 -- ---- what a conversion did to its source and sinks, by what was left before and after, what was written, and the counts of
 -- failures ----

@@ -1,14 +1,15 @@
 //! A compiler's request that is read is written as the message of its set.
-ghost use Rattle.std.specs.Prelude.{◌≡◌, ◌≢◌, IfErr, IfOk, OnErr, OnOk, string_bytes};
+ghost use Rattle.std.specs.Prelude.{◌≡◌, ◌≢◌, ◌≤◌, ◌⊎◌, IfErr, IfOk, OnErr, OnOk, string_bytes};
 ghost use Rattle.capnp_device.specs.Device.{HasFailed};
-ghost use Rattle.capnp_device.specs.declared.error.ErrorKind.TheVariants.{OutOfMemory, ReadFailed, WriteFailed};
+ghost use Rattle.capnp_device.specs.declared.error.ErrorKind.TheVariants.{OutOfMemory, ReadFailed, TooLarge, WriteFailed};
+ghost use Rattle.capnp_request.specs.Sizes.{lists_bytes};
 ghost use Rattle.capnp_show_engine.specs.Steps.Refusals.{IsOfRead};
 ghost use Rattle.capnp_show_engine.specs.Show.{IsOfMessage};
-ghost use Rattle.capnp_set_engine.specs.Convert.{HasNoSet, IsConvertedFrom, IsCutShort, IsConvertedMessage, IsRefused, IsSetOf, IsRequestUnread, IsUnwritten, IsWritten};
+ghost use Rattle.capnp_set_engine.specs.Convert.{HasFewBytes, HasManyBytes, HasNoSet, IsConvertedFrom, IsCutShort, IsConvertedMessage, IsRefused, IsSetOf, IsRequestUnread, IsUnwritten, IsWritten, set_in};
 
 use crate::notes::get_lines;
 use capnp_dynamic_readers::dynamic_struct;
-use capnp_request::{Converted, read_request, request_set};
+use capnp_request::{Converted, read_request, read_request_within, request_set};
 use capnp_schema::set::SchemaSet;
 use capnp_set_writer::set_writer::write_set;
 use capnp_show_engine::command::tell;
@@ -38,6 +39,26 @@ fn read_conversion(alloc: Global, bytes: &[u8], strict: bool) -> Result<Converte
     let root = reader.get_root().get_struct()?;
     let record = dynamic_struct::Reader::new(root, schemas.struct_schema(0));
     read_request(alloc, record, strict)
+}
+
+/// What the request in these bytes is converted to, where its lists have at most so many bytes.
+fn read_conversion_within(
+    alloc: Global,
+    bytes: &[u8],
+    strict: bool,
+    limit: u64,
+) -> Result<Converted>
+    ensures converted { IfOk result (IsConvertedFrom strict bytes.now) }
+    ensures within { IfOk result (λ c. lists_bytes (set_in c) ≤ limit) }
+    ensures refused { IfErr result (λ e. e.kind ≢ OutOfMemory → IsRequestUnread strict bytes.now e.kind
+        ⊎ ((e.kind ≡ TooLarge) × HasManyBytes limit strict bytes.now)) }
+    ensures of_no_device { IfErr result (λ e. IsOfRead e.kind) }
+{
+    let set = request_set::new_set(alloc)?;
+    let reader = Reader::new(alloc, bytes)?;
+    let root = reader.get_root().get_struct()?;
+    let record = dynamic_struct::Reader::new(root, set.struct_schema(0));
+    read_request_within(alloc, record, strict, limit)
 }
 
 /// The message of the checked set of a conversion, and the lines of its notes.
@@ -70,6 +91,21 @@ pub fn convert_bytes(alloc: Global, bytes: &[u8], strict: bool) -> Result<Made>
     ensures of_no_device { IfErr result (λ e. (e.kind ≢ ReadFailed) × (e.kind ≢ WriteFailed)) }
 {
     let conversion = read_conversion(alloc, bytes, strict)?;
+    make(alloc, conversion)
+}
+
+/// The message and lines of `convert_bytes`, where the lists of the set have at most `limit` bytes (`lists_bytes`). Each of
+/// those bytes stands in the message too, so a set that is refused for them has a longer message.
+///
+/// Refused as `convert_bytes`, and with `TooLarge` as soon as the lists made so far have more bytes.
+pub fn convert_bytes_within(alloc: Global, bytes: &[u8], strict: bool, limit: u64) -> Result<Made>
+    ensures made { IfOk result (λ m. IsSetOf strict bytes.now m.message.items (string_bytes m.lines)) }
+    ensures within { IfOk result (λ m. HasFewBytes limit strict bytes.now) }
+    ensures refused { IfErr result (λ e. e.kind ≢ OutOfMemory → HasNoSet strict bytes.now e
+        ⊎ ((e.kind ≡ TooLarge) × HasManyBytes limit strict bytes.now)) }
+    ensures of_no_device { IfErr result (λ e. (e.kind ≢ ReadFailed) × (e.kind ≢ WriteFailed)) }
+{
+    let conversion = read_conversion_within(alloc, bytes, strict, limit)?;
     make(alloc, conversion)
 }
 

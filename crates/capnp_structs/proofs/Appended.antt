@@ -1,12 +1,13 @@
 -- Texts that are appended one after another.
-use Rattle.std.proofs.Common.{ℕ, List, [], ◌∷◌, ◌++◌, codes, length, ◌≡◌, ◌∙◌, Result, Ok, Err, OnOk, ap, append_assoc, arith, refl, subst, sym}
-use Rattle.capnp_schema.specs.Annotated.{TypedAnnotation}
-use Rattle.capnp_schema.specs.Schema.{Field, Schemas, default_of}
+use Rattle.std.proofs.Common.{ℕ, List, [], ◌∷◌, ◌++◌, Bool, codes, length, ◌≡◌, ◌∙◌, Result, Ok, Err, OnOk, ap, append_assoc, arith, refl, subst, sym}
+use Rattle.capnp_schema.specs.Annotated.{TypedAnnotation, field_annotations}
+use Rattle.capnp_schema.specs.Schema.{Field, Schemas, default_of, field_at}
+use Rattle.capnp_schema.specs.Plan.{plan_of}
 use Rattle.capnp_schema.specs.Types.{SchemaType}
 use Rattle.capnp_records.specs.Text.{Out, after, said_text}
 use Rattle.capnp_dynamic_readers.specs.Facts.Appended.{both, bytes_put, nothing}
 use Rattle.capnp_dynamic_readers.specs.Pieces.{IsAppended}
-use Rattle.capnp_structs.specs.Fields.{annotated_line}
+use Rattle.capnp_structs.specs.Fields.{annotated_line, field_end, member_text}
 use Rattle.capnp_structs.specs.Values.{annotations_text, default_text}
 
 -- what stands before a text, and behind one
@@ -51,16 +52,22 @@ left_all start whole left text none before = before text (subst (λ (o : Out). I
 
 -- ---- the same under other names ----
 
--- a default under what is the same set and the same type, of the same field
-pub default_here : (set set' : Schemas) (t t' : SchemaType) (f f' : Field) (old new : List ℕ) → set ≡ set' → t ≡ t' → f ≡ f' → IsAppended old (default_text set t (default_of f)) new → IsAppended old (default_text set' t' (default_of f')) new
-default_here set set' t t' f f' old new same_set same_type same_field put =
-    subst (λ (g : Field). IsAppended old (default_text set' t' (default_of g)) new) same_field
-    (subst (λ (u : SchemaType). IsAppended old (default_text set' u (default_of f)) new) same_type
-    (subst (λ (z : Schemas). IsAppended old (default_text z t (default_of f)) new) same_set put))
+-- what is so of a default under what is the same set and the same type, of the same field, whose numbers are floats alike
+pub of_default : (P : Bool → Schemas → SchemaType → Field → Type 0) (q q' : Bool) (set set' : Schemas) (t t' : SchemaType) (f f' : Field) → q ≡ q' → set ≡ set' → t ≡ t' → f ≡ f' → P q set t f → P q' set' t' f'
+of_default P q q' set set' t t' f f' same_floats same_set same_type same_field so =
+    subst (λ (p : Bool). P p set' t' f') same_floats (subst (λ (g : Field). P q set' t' g) same_field (subst (λ (u : SchemaType). P q set' u f) same_type (subst (λ (z : Schemas). P q z t f) same_set so)))
 
-pub default_shown : {T E : Type 0} (r : Result T E) (set set' : Schemas) (t t' : SchemaType) (f f' : Field) (old new : List ℕ) → set ≡ set' → t ≡ t' → f ≡ f' → OnOk r (IsAppended old (default_text set t (default_of f)) new) →
-    OnOk r (IsAppended old (default_text set' t' (default_of f')) new)
-default_shown r set set' t t' f f' old new same_set same_type same_field put = on_ok r (default_here set set' t t' f f' old new same_set same_type same_field) put
+abbrev IsDefaultPut : (old new : List ℕ) → Bool → Schemas → SchemaType → Field → Type 0
+IsDefaultPut old new q set t f = IsAppended old (default_text q set t (default_of f)) new
+
+pub default_here : (q q' : Bool) (set set' : Schemas) (t t' : SchemaType) (f f' : Field) (old new : List ℕ) → q ≡ q' → set ≡ set' → t ≡ t' → f ≡ f' → IsAppended old (default_text q set t (default_of f)) new →
+    IsAppended old (default_text q' set' t' (default_of f')) new
+default_here q q' set set' t t' f f' old new same_floats same_set same_type same_field put = of_default (IsDefaultPut old new) q q' set set' t t' f f' same_floats same_set same_type same_field put
+
+pub default_shown : {T E : Type 0} (r : Result T E) (q q' : Bool) (set set' : Schemas) (t t' : SchemaType) (f f' : Field) (old new : List ℕ) → q ≡ q' → set ≡ set' → t ≡ t' → f ≡ f' →
+    OnOk r (IsAppended old (default_text q set t (default_of f)) new) → OnOk r (IsAppended old (default_text q' set' t' (default_of f')) new)
+default_shown r q q' set set' t t' f f' old new same_floats same_set same_type same_field put =
+    on_ok r (default_here q q' set set' t t' f f' old new same_floats same_set same_type same_field) put
 
 -- annotations of what is the same set
 pub annotations_here : (set set' : Schemas) (xs xs' : List TypedAnnotation) (old new : List ℕ) → set ≡ set' → xs ≡ xs' → IsAppended old (annotations_text set xs) new → IsAppended old (annotations_text set' xs') new
@@ -88,3 +95,9 @@ union_put p m d old new e =
     let b : List ℕ = codes " members, tag at data bit " in
     let a : List ℕ = codes "union: " in
     e ∙ ap (λ (xs : List ℕ). old ++ xs) (sym (append_assoc (p ++ a ++ m ++ b) d n ∙ (append_assoc (p ++ a ++ m) b (d ++ n) ∙ (append_assoc (p ++ a) m (b ++ (d ++ n)) ∙ append_assoc p a (m ++ (b ++ (d ++ n)))))))
+
+-- the parts behind a field's default
+pub end_put : (set : Schemas) (b i : ℕ) (z : Schemas) (xs : List TypedAnnotation) (old mid mid' new : List ℕ) → mid ≡ old ++ member_text (plan_of set b (field_at set b i)).member → z ≡ set → xs ≡ field_annotations set b i →
+    IsAppended mid (annotations_text z xs) mid' → new ≡ mid' ++ 10 ∷ [] → IsAppended old (field_end set b i) new
+end_put set b i z xs old mid mid' new member same_set same put end =
+    between (annotations_text set (field_annotations set b i)) (member_text (plan_of set b (field_at set b i)).member) (10 ∷ []) old mid mid' new member (annotations_here z set xs (field_annotations set b i) mid mid' same_set same put) end

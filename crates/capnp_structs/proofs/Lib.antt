@@ -1,12 +1,16 @@
 pub mod AnnotationsSaid
 pub mod Appended
 pub mod EnumsPut
+pub mod FieldsWhole
 pub mod Lines
 pub mod NamesMet
 pub mod Rows
+pub mod Stopped
+pub mod TextsThere
 pub mod TypesNamed
 pub mod TypesOfEnums
 pub mod ValuesSaid
 pub mod Walked
 pub mod WalkSteps
+pub mod WithoutFloats
 pub mod PathsCut

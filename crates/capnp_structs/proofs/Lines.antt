@@ -1,5 +1,8 @@
 -- Lines, as walks over a set's brands and a struct's fields make them.
-use Rattle.std.proofs.Common.{ℕ, zero, suc, ◌+◌, ◌-◌, ◌<◌, ◌≤◌, List, [], ◌∷◌, ◌++◌, drop, length, slice_get, ◌≡◌, ◌∙◌, ap, append_assoc, arith, refl, sym}
+use Rattle.std.proofs.Common.{ℕ, zero, suc, ◌+◌, ◌-◌, ◌<◌, ◌≤◌, List, [], ◌∷◌, ◌++◌, drop, length, length-append, slice_get, Result, IfErr, IsErrAnd, ◌≡◌, ◌≢◌, ◌∙◌, ap, append_assoc, arith, refl, subst, sym}
+use Rattle.std.proofs.lemmas.Result.{err_from_is_err_and}
+use Rattle.capnp_device.specs.declared.error.Error.{Error}
+use Rattle.capnp_device.specs.declared.error.ErrorKind.TheVariants.{OutOfMemory, TooLarge}
 use Rattle.std.specs.Option.{unwrap_or}
 use Rattle.std.proofs.lemmas.List.{drop_more}
 use Rattle.capnp_schema.specs.Schema.{Schemas, Brand, fields_of, no_brand}
@@ -21,6 +24,15 @@ next_struct set i text text' whole inside before put =
     ap (λ (xs : List ℕ). xs ++ struct_lines set (drop (i + 1) set.brands) (i + 1)) put
     ∙ (append_assoc text (struct_line set i) (struct_lines set (drop (i + 1) set.brands) (i + 1))
     ∙ (sym (ap (λ (xs : List ℕ). text ++ xs) (lines_from set i inside)) ∙ before))
+
+-- the lines so far are longer than they may be, and so are all of them
+pub past_whole : {T : Type 0} (r : Result T Error) (e : Error) (limit : ℕ) (text rest whole : List ℕ) → text ++ rest ≡ whole → IsErrAnd r (λ y. y ≡ e) → (e.kind ≡ TooLarge) × (limit < length text) →
+    IfErr r (λ y. y.kind ≢ OutOfMemory → (y.kind ≡ TooLarge) × (limit < length whole))
+past_whole {T} r e limit text rest whole is h (kind, long) =
+    let q = err_from_is_err_and r h in
+    let more : limit < length whole = omega (arith, long, ap length is, length-append text rest) in
+    subst (λ (x : Result T Error). IfErr x (λ y. y.kind ≢ OutOfMemory → (y.kind ≡ TooLarge) × (limit < length whole))) (sym q.1)
+    (subst (λ (y : Error). y.kind ≢ OutOfMemory → (y.kind ≡ TooLarge) × (limit < length whole)) (sym q.2) (λ some. (kind, more)))
 
 -- ---- entries of lists, and fields ----
 

@@ -5,11 +5,13 @@ use Rattle.std.specs.Str.{is_utf8, chars}
 use lib.Utf8.{encode}
 use Rattle.capnp_wire.specs.Place.{tree_at}
 use Rattle.capnp_schema.specs.Builtin.{annotated_field, annotation, builtin, builtin_brand, builtin_field, builtin_struct_node, enumerant, flat_node, group_node, zero_word}
-use Rattle.capnp_schema.specs.Schema.{AnyPointerValue, Brand, Enum, EnumValue, Field, Group, ListValue, Node, Schemas, StructValue, UIntValue, VoidValue}
+use Rattle.capnp_schema.specs.Schema.{field_at, Annotation, AnyPointerValue, Brand, Enum, EnumValue, Field, Group, ListValue, Node, Schemas, StructValue, UIntValue, VoidValue}
 use Rattle.capnp_schema.specs.Types.{AnyPointerType, EnumType, ListType, StructType, UIntType, VoidType}
-use Rattle.capnp_records.specs.Text.{said_text}
+use Rattle.capnp_records.specs.Text.{Out, said_text}
+use Rattle.capnp_float_texts.specs.Numbers.{float_bytes}
 use Rattle.capnp_structs.specs.Fields.{fields_text, lines_within}
 use Rattle.capnp_structs.specs.Names.{structs_text}
+use Rattle.capnp_structs.specs.Sides.{field_side}
 use Rattle.capnp_structs.specs.Values.{read_text}
 
 all : structs_text builtin ≡ codes "Flat\nMixed\nMany\nShapes\nLoop\nLists\nNode\n"
@@ -173,3 +175,67 @@ told : fields_text notes 0
     ++ codes "enum Color $@0xa = green: red $@0xff = words: 1 $@0xb = (), green\n")
 unfolding lines_within read_text tree_at digits debug_escape is_utf8 chars encode
 told = refl
+
+-- ---- floats ----
+
+-- a float that is infinite and a count of 7, and a list of two infinite floats
+abbrev pair_words : List ℕ
+pair_words = 0 ∷ 0 ∷ 0 ∷ 0 ∷ 1 ∷ 0 ∷ 0 ∷ 0 ∷ 0 ∷ 0 ∷ 128 ∷ 127 ∷ 7 ∷ 0 ∷ 0 ∷ 0 ∷ []
+
+abbrev list_words : List ℕ
+list_words = 1 ∷ 0 ∷ 0 ∷ 0 ∷ 20 ∷ 0 ∷ 0 ∷ 0 ∷ 0 ∷ 0 ∷ 128 ∷ 127 ∷ 0 ∷ 0 ∷ 128 ∷ 255 ∷ []
+
+abbrev mark : Annotation
+mark = annotation 0xf20fbfb08027d505 VoidValue
+
+abbrev gauge : Node
+gauge = builtin_struct_node 1 (codes "Gauge") 2 2 (
+    annotated_field (codes "x") 0 (UIntValue 4 2139095040) (mark ∷ annotation 1 (StructValue pair_words) ∷ [])
+    ∷ builtin_field (codes "bits") 1 (UIntValue 4 2139095040)
+    ∷ annotated_field (codes "wide") 1 (UIntValue 8 0x7ff8000000000000) (mark ∷ [])
+    ∷ annotated_field (codes "list") 0 (ListValue list_words) (mark ∷ [])
+    ∷ builtin_field (codes "pair") 1 (StructValue pair_words)
+    ∷ builtin_field (codes "plain") 1 (ListValue list_words)
+    ∷ [])
+
+abbrev pair : Node
+pair = builtin_struct_node 2 (codes "Pair") 1 0 (annotated_field (codes "ratio") 0 (UIntValue 4 0) (mark ∷ []) ∷ builtin_field (codes "count") 1 (UIntValue 4 0) ∷ [])
+
+abbrev gauges : Schemas
+gauges = record {
+  nodes = gauge ∷ pair ∷ [];
+  brands = record {
+    node = 0;
+    field_types = UIntType 4 ∷ UIntType 4 ∷ UIntType 8 ∷ ListType (UIntType 4) ∷ StructType 1 1 ∷ ListType (UIntType 4) ∷ [];
+    annotation_types = record { own = []; children = (VoidType ∷ StructType 1 1 ∷ []) ∷ [] ∷ (VoidType ∷ []) ∷ (VoidType ∷ []) ∷ [] ∷ [] ∷ [] };
+  }
+      ∷ record { node = 1; field_types = UIntType 4 ∷ UIntType 4 ∷ []; annotation_types = record { own = []; children = (VoidType ∷ []) ∷ [] ∷ [] } } ∷ [];
+  enums = [];
+}
+
+-- the value of an annotation has its integers, also in marked fields
+measured : fields_text gauges 0
+    ≡ said_text (codes "x: Float32, data bit 0, default inf $@0xf20fbfb08027d505 = () $@0x1 = (ratio = 2139095040, count = 7)\n"
+    ++ codes "bits: UInt32, data bit 32, default 2139095040\n"
+    ++ codes "wide: Float64, data bit 64, default nan $@0xf20fbfb08027d505 = ()\n"
+    ++ codes "list: List(Float32), pointer 0, default [inf, -inf] $@0xf20fbfb08027d505 = ()\n"
+    ++ codes "pair: Pair, pointer 1, default (ratio = inf, count = 7)\n"
+    ++ codes "plain: List(UInt32), pointer 1, default [2139095040, 4286578688]\n")
+unfolding lines_within read_text tree_at digits debug_escape is_utf8 chars encode float_bytes
+measured = refl
+
+-- on a side of a difference too
+abbrev side : ℕ → Out
+side i = field_side gauges 0 (field_at gauges 0 i)
+
+marked_side : side 0 ≡ said_text (codes "Float32, data bit 0, default inf")
+unfolding read_text tree_at digits float_bytes
+marked_side = refl
+
+plain_side : side 1 ≡ said_text (codes "UInt32, data bit 32, default 2139095040")
+unfolding read_text tree_at digits
+plain_side = refl
+
+list_side : side 3 ≡ said_text (codes "List(Float32), pointer 0, default [inf, -inf]")
+unfolding read_text tree_at digits float_bytes
+list_side = refl

@@ -1,5 +1,5 @@
 -- The enum that a type names, and the name of a number under a type.
-use Rattle.std.proofs.Common.{ℕ, zero, suc, List, [], ◌∷◌, Option, Some, None, decimal, map, slice_get, string_bytes, ◌≡◌, ◌∙◌, ap, refl, sym}
+use Rattle.std.proofs.Common.{ℕ, zero, suc, [], ◌∷◌, Option, decimal, slice_get, ◌≡◌, ◌∙◌, ap, refl, sym}
 use Rattle.capnp_base.specs.Types.{base_of, base_variant, innermost, list_depth, variant_of}
 use Rattle.capnp_base.specs.declared.introspect.«Type».{«Type» as TypeHandle}
 use Rattle.capnp_base.specs.declared.introspect.BaseType.{BaseType}
@@ -9,7 +9,7 @@ use Rattle.capnp_base.specs.declared.introspect.TypeVariant.{TypeVariant}
 use Rattle.capnp_base.specs.declared.introspect.TypeVariant.TheVariants as variant
 use Rattle.capnp_schema.specs.Facts.Layers.{seen_at_base, seen_which}
 use Rattle.capnp_schema.specs.Schema.{Schemas, Enumerant, enum_at}
-use Rattle.capnp_schema.specs.Types.{EnumType, SchemaType, lists_of, seen_base, seen_type, seen_variant}
+use Rattle.capnp_schema.specs.Types.{SchemaType, lists_of, seen_base, seen_type, seen_variant}
 use Rattle.capnp_records.specs.Text.{enum_text, name_or}
 use Rattle.capnp_structs.specs.Fields.{enums_named}
 

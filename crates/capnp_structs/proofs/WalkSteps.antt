@@ -1,5 +1,6 @@
 -- The steps of a walk that appends the lines of fields, in the words of the walk.
-use Rattle.std.proofs.Common.{ℕ, suc, ◌+◌, ◌-◌, ◌<◌, ◌≤◌, List, [], ◌∷◌, ◌++◌, drop, length, Option, Some, None, ◌≡◌, ◌∙◌, add-one, ap, arith, refl, subst, sym}
+use Rattle.std.proofs.Common.{ℕ, zero, suc, ◌+◌, ◌-◌, ◌<◌, ◌≤◌, List, [], ◌∷◌, ◌++◌, drop, length, Option, Some, None, ◌≡◌, ◌∙◌, add-one, ap, arith, refl, subst, sym}
+use Rattle.capnp_device.specs.declared.error.ErrorKind.{ErrorKind}
 use Rattle.capnp_schema.specs.Accepted.{IsParent}
 use Rattle.capnp_schema.specs.Facts.GroupFields.{group_field_found, target_parent}
 use Rattle.capnp_schema.specs.Facts.GroupWalks.{frames_group, frames_outside, steps_advance, steps_enter, steps_leave}
@@ -16,8 +17,9 @@ use Rattle.capnp_schema.specs.declared.schema.group_walk.GroupWalk.{GroupWalk}
 use Rattle.capnp_schema.specs.declared.schema.structs.StructSchema.{StructSchema}
 use Rattle.capnp_dynamic_readers.specs.Facts.Appended.{bytes_put}
 use Rattle.capnp_dynamic_readers.specs.Pieces.{IsAppended}
-use Rattle.capnp_structs.specs.Fields.{Line, UnionLine, FieldLine, enums_named, field_line, group_line, inside, line_text, lines_within, slot_line, union_line}
-use Rattle.capnp_structs.proofs.Walked.{IsListed, left_first, left_group, left_inside, left_none, left_outside, left_slot, lines_left, listed_first, listed_left, listed_more, listed_plain, path_group, path_under}
+use Rattle.capnp_structs.specs.Fields.{Line, UnionLine, FieldLine, enums_named, field_line, group_line, inside, line_text, lines_text, lines_within, slot_line, union_line}
+use Rattle.capnp_structs.specs.Limits.{HasRefusedField, HasRefusedLine, IsStopped}
+use Rattle.capnp_structs.proofs.Walked.{IsListed, left_first, left_group, left_inside, left_none, left_outside, left_slot, lines_left, listed_first, listed_left, listed_more, listed_plain, listed_stopped, path_group, path_under}
 
 -- what is known of the field that a walk stands at, by the walk's set, brand and index
 pub at_place : (set : Schemas) (w : GroupWalk) (f : Field) (P : Schemas → ℕ → ℕ → Type 0) → walk_set w ≡ set → IsFieldOf (walk_schema w) (walk_index w) f →
@@ -203,6 +205,52 @@ module _ (set : Schemas) (start first : List ℕ) (whole : List Line) where
       (listed_plain set start first whole (FieldLine (path_under set (above w)) b i) (lines_left set left ((b, i + 1) ∷ above w)) text text' enums
       (group_put w f g prefix text text' same is path leads_here put) (group_unnamed (field_at set b i).field.kind (field_at set b i).type g leads_here)
       (listed_left set start first whole (lines_left set left (frames w)) _ text enums (left_group set left b i g (above w) none (inside_set set w f same is) leads_here) before))
+
+  -- the line of a slot was stopped
+  pub slot_stopped : (limit left : ℕ) (w : GroupWalk) (f : Field) (prefix text enums : List ℕ) (kind : ErrorKind) → StandsAt set w f → None ≡ kind_target (typed_of f).field.kind (typed_of f).type → prefix ≡ path_under set (above w) →
+      IsStopped limit text (slot_line (set_of (field_schema f)) (number_of (field_schema f)) (index_of f) prefix) (HasRefusedField (set_of (field_schema f)) (number_of (field_schema f)) (index_of f)) kind →
+      IsListed set start first whole (lines_left set left (frames w)) text enums → IsStopped limit start (lines_text set whole) (HasRefusedLine set whole) kind
+  slot_stopped limit left w f prefix text enums kind at slot path h before =
+      let same : walk_set w ≡ set = at.in_set in
+      let is : IsFieldOf (walk_schema w) (walk_index w) f = at.field in
+      let b : ℕ = walk_brand w in
+      let i : ℕ = walk_index w in
+      let p : List ℕ = path_under set (above w) in
+      let leads_here : None ≡ kind_target (field_at set b i).field.kind (field_at set b i).type = at_place set w f (λ z b i. None ≡ kind_target (field_at z b i).field.kind (field_at z b i).type) same is slot in
+      let here : IsStopped limit text (slot_line set b i p) (HasRefusedField set b i) kind =
+      subst (λ (q : List ℕ). IsStopped limit text (slot_line set b i q) (HasRefusedField set b i) kind) path (at_place set w f (λ z b i. IsStopped limit text (slot_line z b i prefix) (HasRefusedField z b i) kind) same is h) in
+      listed_stopped set start first whole limit (FieldLine p b i) (lines_left set left ((b, i + 1) ∷ above w)) text enums kind
+      (subst (λ (o : Option ℕ). IsStopped limit text (field_line set b i p o) (HasRefusedField set b i) kind) leads_here here)
+      (listed_left set start first whole (lines_left set left (frames w)) _ text enums (left_slot set left b i (above w) (inside_set set w f same is) leads_here) before)
+
+  -- that of a group, whether it is gone into or not
+  group_first : (left : ℕ) (w : GroupWalk) (f : Field) (g : ℕ) (text enums : List ℕ) → walk_set w ≡ set → IsFieldOf (walk_schema w) (walk_index w) f →
+      Some g ≡ kind_target (field_at set (walk_brand w) (walk_index w)).field.kind (field_at set (walk_brand w) (walk_index w)).type → IsListed set start first whole (lines_left set left (frames w)) text enums →
+      (rest : List Line) × IsListed set start first whole (FieldLine (path_under set (above w)) (walk_brand w) (walk_index w) ∷ rest) text enums
+  group_first zero w f g text enums same is leads before = (
+    lines_left set zero ((walk_brand w, walk_index w + 1) ∷ above w),
+    listed_left set start first whole (lines_left set zero (frames w)) _ text enums (left_group set zero (walk_brand w) (walk_index w) g (above w) refl (inside_set set w f same is) leads) before,
+  )
+  group_first (suc left) w f g text enums same is leads before = (
+    UnionLine (inside (path_under set (above w)) (field_at set (walk_brand w) (walk_index w))) g ∷ lines_left set left ((g, 0) ∷ (walk_brand w, walk_index w + 1) ∷ above w),
+    listed_left set start first whole (lines_left set (suc left) (frames w)) _ text enums (left_inside set left (walk_brand w) (walk_index w) g (above w) (inside_set set w f same is) leads) before,
+  )
+
+  pub group_stopped : (limit left : ℕ) (w : GroupWalk) (f : Field) (g : ℕ) (prefix text enums : List ℕ) (kind : ErrorKind) → StandsAt set w f → Some g ≡ kind_target (typed_of f).field.kind (typed_of f).type → prefix ≡ path_under set (above w) →
+      IsStopped limit text (group_line (set_of (field_schema f)) (number_of (field_schema f)) (index_of f) prefix) (HasRefusedField (set_of (field_schema f)) (number_of (field_schema f)) (index_of f)) kind →
+      IsListed set start first whole (lines_left set left (frames w)) text enums → IsStopped limit start (lines_text set whole) (HasRefusedLine set whole) kind
+  group_stopped limit left w f g prefix text enums kind at leads path h before =
+      let same : walk_set w ≡ set = at.in_set in
+      let is : IsFieldOf (walk_schema w) (walk_index w) f = at.field in
+      let b : ℕ = walk_brand w in
+      let i : ℕ = walk_index w in
+      let p : List ℕ = path_under set (above w) in
+      let leads_here = leads_set w f g same is leads in
+      let here : IsStopped limit text (group_line set b i p) (HasRefusedField set b i) kind =
+      subst (λ (q : List ℕ). IsStopped limit text (group_line set b i q) (HasRefusedField set b i) kind) path (at_place set w f (λ z b i. IsStopped limit text (group_line z b i prefix) (HasRefusedField z b i) kind) same is h) in
+      let rest = group_first left w f g text enums same is leads_here before in
+      listed_stopped set start first whole limit (FieldLine p b i) rest.0 text enums kind
+      (subst (λ (o : Option ℕ). IsStopped limit text (field_line set b i p o) (HasRefusedField set b i) kind) leads_here here) rest.1
 
   -- the path of a group that is gone into
   path_inside : (w : GroupWalk) (f : Field) (path path' : List ℕ) → walk_set w ≡ set → IsFieldOf (walk_schema w) (walk_index w) f → path ≡ path_under set (above w) → path' ≡ inside path (typed_of f) →

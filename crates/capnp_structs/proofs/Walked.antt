@@ -1,10 +1,14 @@
 -- A walk through the fields of a struct: the lines that are left of each struct or group that it stands in, and what stands
 -- before the names there.
-use Rattle.std.proofs.Common.{ℕ, suc, ◌+◌, ◌-◌, ◌<◌, ◌≤◌, List, [], ◌∷◌, ◌++◌, drop, length, Option, Some, None, ◌≡◌, ◌∙◌, ap, append_assoc, append-nil, arith, refl, subst, sym}
+use Rattle.std.proofs.Common.{ℕ, suc, ◌+◌, ◌-◌, ◌<◌, ◌≤◌, List, [], ◌∷◌, ◌++◌, Contains, drop, length, Option, Some, None, ◌≡◌, ◌∙◌, ap, append_assoc, append-nil, arith, refl, subst, sym}
+use Rattle.capnp_device.specs.declared.error.ErrorKind.{ErrorKind}
 use Rattle.capnp_schema.specs.Schema.{Schemas, TypedField, field_at, fields_of, kind_target, no_field}
 use Rattle.capnp_dynamic_readers.specs.Facts.Appended.{both, nothing}
 use Rattle.capnp_dynamic_readers.specs.Pieces.{IsAppended}
 use Rattle.capnp_structs.specs.Fields.{Line, UnionLine, FieldLine, all_enums, all_lines, field_lines, inside, line_enums, line_text, lines_inside, lines_text, lines_within}
+use Rattle.capnp_structs.specs.Limits.{HasRefusedLine, HasRefusedPart, IsStopped}
+use Rattle.capnp_structs.proofs.Stopped.{stopped_left}
+use Rattle.capnp_structs.proofs.TextsThere.{lines_there}
 use Rattle.capnp_structs.proofs.Lines.{from_entry, next, none_left, within_next, within_none}
 
 -- ---- what is left ----
@@ -112,16 +116,32 @@ module _ (set : Schemas) where
 pub record IsListed (set : Schemas) (start first : List ℕ) (whole left : List Line) (text enums : List ℕ) : Type 0 where
   pub said : (new : List ℕ) → IsAppended text (lines_text set left) new → IsAppended start (lines_text set whole) new
   pub added : enums ++ all_enums set left ≡ first ++ all_enums set whole
+  -- they are of the whole
+  pub among : (l : Line) → Contains left l → Contains whole l
 
 pub listed_first : (set : Schemas) (start first : List ℕ) (whole : List Line) → IsListed set start first whole whole start first
-listed_first set start first whole = record { said = λ new put. put; added = refl }
+listed_first set start first whole = record { said = λ new put. put; added = refl; among = λ l there. there }
+
+-- in a list is its first line, and what is in the rest
+one_behind : (l x : Line) (ls : List Line) → Contains ls x → Contains (l ∷ ls) x
+one_behind l x ls (k, inside, is) = (suc k, omega (arith, inside), is)
+
+first_of : (l : Line) (ls : List Line) → Contains (l ∷ ls) l
+first_of l ls = (0, omega arith, refl)
 
 module _ (set : Schemas) (start first : List ℕ) (whole : List Line) where
+  -- what stops the first line that is left stops the whole
+  pub listed_stopped : (limit : ℕ) (l : Line) (left : List Line) (text enums : List ℕ) (kind : ErrorKind) → IsStopped limit text (line_text set l) (HasRefusedPart set l) kind → IsListed set start first whole (l ∷ left) text enums →
+      IsStopped limit start (lines_text set whole) (HasRefusedLine set whole) kind
+  listed_stopped limit l left text enums kind h before =
+      stopped_left limit start (lines_text set whole) (line_text set l) (lines_text set left) text kind before.said (lines_there set left) (λ r. (l, before.among l (first_of l left), r)) h
+
   pub listed_more : (l : Line) (left : List Line) (text text' enums enums' : List ℕ) → IsAppended text (line_text set l) text' → enums' ≡ enums ++ line_enums set l →
       IsListed set start first whole (l ∷ left) text enums → IsListed set start first whole left text' enums'
   listed_more l left text text' enums enums' put add before = record {
     said = λ new more. before.said new (both (line_text set l) (lines_text set left) text text' new put more);
     added = ap (λ (es : List ℕ). es ++ all_enums set left) add ∙ (append_assoc enums (line_enums set l) (all_enums set left) ∙ before.added);
+    among = λ x there. before.among x (one_behind l x left there);
   }
 
   -- a line that names no enum

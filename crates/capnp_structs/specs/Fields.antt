@@ -1,6 +1,6 @@
 -- The fields of a struct: a line for each, with its type, its place, its default and its annotations; before them one for the
 -- struct's annotations and one for a union, and behind all of them one for each enum that a field names.
-use Rattle.std.specs.Prelude.{ℕ, zero, suc, ◌*◌, List, [], ◌∷◌, ◌++◌, Option, Some, None, codes, decimal, length}
+use Rattle.std.specs.Prelude.{ℕ, zero, suc, ◌*◌, ◌||◌, ◌==◌, List, [], ◌∷◌, ◌++◌, Bool, cond, Option, Some, None, codes, decimal, length}
 use Rattle.capnp_schema.specs.Annotated.{TypedAnnotation, field_annotations, struct_annotations}
 use Rattle.capnp_schema.specs.Discriminant.{discriminant_of}
 use Rattle.capnp_schema.specs.Plan.{plan_of}
@@ -9,23 +9,28 @@ use Rattle.capnp_schema.specs.Types.{SchemaType, AnyPointerType, BoolType, DataT
 use Rattle.capnp_schema.specs.declared.plan.Place.{Place}
 use Rattle.capnp_schema.specs.declared.plan.Place.TheVariants as place
 use Rattle.capnp_records.specs.Text.{Out, after, said_text}
+use Rattle.capnp_json_fields.specs.Marks.{is_float}
 use Rattle.capnp_structs.specs.Enums.{enum_lines}
 use Rattle.capnp_structs.specs.Values.{annotations_text, default_text}
 
 -- ---- what a line says ----
 
--- a type: an enum and a struct by their names, a list by its elements' type
-abbrev pub type_text : Schemas → SchemaType → List ℕ
-type_text set VoidType = codes "Void"
-type_text set BoolType = codes "Bool"
-type_text set (IntType bytes) = codes "Int" ++ decimal (8 * bytes)
-type_text set (UIntType bytes) = codes "UInt" ++ decimal (8 * bytes)
-type_text set (EnumType e) = (enum_at set e).display_name
-type_text set TextType = codes "Text"
-type_text set DataType = codes "Data"
-type_text set (StructType b g) = (node_of set b).display_name
-type_text set (ListType t) = codes "List(" ++ type_text set t ++ codes ")"
-type_text set AnyPointerType = codes "AnyPointer"
+-- the name of numbers without a sign; where they are floats, those of 32 and 64 bits stand for floats of as many
+abbrev pub unsigned_name : (floats : Bool) → (bytes : ℕ) → List ℕ
+unsigned_name floats bytes = cond ((bytes == 4) || (bytes == 8)) (cond floats (codes "Float") (codes "UInt")) (codes "UInt")
+
+-- a type, whose numbers are floats or not: an enum and a struct by their names, a list by its elements' type
+abbrev pub type_text : (floats : Bool) → Schemas → SchemaType → List ℕ
+type_text floats set VoidType = codes "Void"
+type_text floats set BoolType = codes "Bool"
+type_text floats set (IntType bytes) = codes "Int" ++ decimal (8 * bytes)
+type_text floats set (UIntType bytes) = unsigned_name floats bytes ++ decimal (8 * bytes)
+type_text floats set (EnumType e) = (enum_at set e).display_name
+type_text floats set TextType = codes "Text"
+type_text floats set DataType = codes "Data"
+type_text floats set (StructType b g) = (node_of set b).display_name
+type_text floats set (ListType t) = codes "List(" ++ type_text floats set t ++ codes ")"
+type_text floats set AnyPointerType = codes "AnyPointer"
 
 -- a place: the first bit of a slot in the data section, or a pointer's number
 abbrev pub place_text : Place → List ℕ
@@ -48,7 +53,7 @@ union_text prefix members (Some bit) = prefix ++ codes "union: " ++ decimal memb
 
 -- what stands before a default
 abbrev pub slot_head : Schemas → (prefix : List ℕ) → TypedField → Place → List ℕ
-slot_head set prefix f at = prefix ++ f.field.name ++ codes ": " ++ type_text set f.type ++ place_text at
+slot_head set prefix f at = prefix ++ f.field.name ++ codes ": " ++ type_text (is_float f) set f.type ++ place_text at
 
 abbrev pub group_head : (prefix : List ℕ) → TypedField → List ℕ
 group_head prefix f = prefix ++ f.field.name ++ codes ": group"
@@ -62,7 +67,7 @@ field_end set b i =
 abbrev pub slot_line : Schemas → (brand index : ℕ) → (prefix : List ℕ) → Out
 slot_line set b i prefix =
     after (said_text (slot_head set prefix (field_at set b i) (plan_of set b (field_at set b i)).place))
-    (after (default_text set (field_at set b i).type (default_of (field_at set b i).field)) (field_end set b i))
+    (after (default_text (is_float (field_at set b i)) set (field_at set b i).type (default_of (field_at set b i).field)) (field_end set b i))
 
 abbrev pub group_line : Schemas → (brand index : ℕ) → (prefix : List ℕ) → Out
 group_line set b i prefix = after (said_text (group_head prefix (field_at set b i))) (field_end set b i)

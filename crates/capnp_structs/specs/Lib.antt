@@ -1,5 +1,7 @@
 pub mod Enums
 pub mod Fields
+pub mod Laws
+pub mod Limits
 pub mod Names
 pub mod Sides
 pub mod Steps

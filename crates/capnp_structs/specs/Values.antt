@@ -11,6 +11,9 @@ use Rattle.capnp_records.specs.Record.{Record, Value}
 use Rattle.capnp_records.specs.Text.{Out, after, enum_text, said_text, text_of}
 use Rattle.capnp_dynamic_readers.specs.Annotated.{stored_read}
 use Rattle.capnp_dynamic_readers.specs.Shown.{no_schemas}
+use Rattle.capnp_float_texts.specs.Texts.{float_text_of}
+use Rattle.capnp_structs.specs.declared.values.Numbers.{Numbers}
+use Rattle.capnp_structs.specs.declared.values.Numbers.TheVariants.{Integers, Floats}
 
 -- ---- a value ----
 
@@ -28,9 +31,15 @@ abbrev pub as_printed : Schemas → SchemaType → Value → Value
 as_printed set t (value.Struct r) = struct_or_group (is_group_type set t) r
 as_printed set t v = v
 
--- the text of a value that was read under a type of a set, on one line
-unfoldable pub read_text : Schemas → SchemaType → Value → Out
-read_text set t v = text_of set false t (as_printed set t v)
+-- the text of a value on one line: all its numbers as integers, or as floats those of marked fields, and its own where they are
+-- floats
+abbrev pub numbers_text : Numbers → Schemas → SchemaType → Value → Out
+numbers_text Integers set t v = text_of set false t v
+numbers_text (Floats own) set t v = float_text_of set own false t v
+
+-- the text of a value that was read under a type of a set
+unfoldable pub read_text : Numbers → Schemas → SchemaType → Value → Out
+read_text numbers set t v = numbers_text numbers set t (as_printed set t v)
 
 -- how many words there are, in the place of a text
 abbrev pub words_text : List ℕ → List ℕ
@@ -43,17 +52,17 @@ or_words (Err kind) words = said_text (words_text words)
 -- A value of a set under a type, as it is read and then printed on one line; an enum past the enumerants, or under another type,
 -- is told by its number. An untyped pointer is told by how many words there are, and so is a struct or list whose text is
 -- refused, as that of one that leads back to itself.
-abbrev pub stored_text : Schemas → SchemaType → SchemaValue → Out
-stored_text set t VoidValue = text_of no_schemas false VoidType value.Void
-stored_text set t (BoolValue b) = text_of no_schemas false BoolType (value.Truth b)
-stored_text set t (IntValue bytes n) = text_of no_schemas false (IntType bytes) (value.Number n)
-stored_text set t (UIntValue bytes n) = text_of no_schemas false (UIntType bytes) (value.Number (pos n))
-stored_text set t (EnumValue n) = said_text (enum_text set t n)
-stored_text set t (TextValue bytes) = text_of no_schemas false TextType (value.Text bytes)
-stored_text set t (DataValue bytes) = text_of no_schemas false DataType (value.Data bytes)
-stored_text set t (StructValue words) = or_words (read_text set t (stored_read set (StructValue words) t)) words
-stored_text set t (ListValue words) = or_words (read_text set t (stored_read set (ListValue words) t)) words
-stored_text set t (AnyPointerValue words) = said_text (words_text words)
+abbrev pub stored_text : Numbers → Schemas → SchemaType → SchemaValue → Out
+stored_text numbers set t VoidValue = numbers_text numbers no_schemas VoidType value.Void
+stored_text numbers set t (BoolValue b) = numbers_text numbers no_schemas BoolType (value.Truth b)
+stored_text numbers set t (IntValue bytes n) = numbers_text numbers no_schemas (IntType bytes) (value.Number n)
+stored_text numbers set t (UIntValue bytes n) = numbers_text numbers no_schemas (UIntType bytes) (value.Number (pos n))
+stored_text numbers set t (EnumValue n) = said_text (enum_text set t n)
+stored_text numbers set t (TextValue bytes) = numbers_text numbers no_schemas TextType (value.Text bytes)
+stored_text numbers set t (DataValue bytes) = numbers_text numbers no_schemas DataType (value.Data bytes)
+stored_text numbers set t (StructValue words) = or_words (read_text numbers set t (stored_read set (StructValue words) t)) words
+stored_text numbers set t (ListValue words) = or_words (read_text numbers set t (stored_read set (ListValue words) t)) words
+stored_text numbers set t (AnyPointerValue words) = said_text (words_text words)
 
 -- ---- a default ----
 
@@ -69,8 +78,9 @@ abbrev pub told_default : (is_told : Bool) → Out → Out
 told_default true text = after (said_text (codes ", default ")) text
 told_default false text = said_text []
 
-abbrev pub default_text : Schemas → SchemaType → SchemaValue → Out
-default_text set t v = told_default (is_told v) (stored_text set t v)
+-- one of a field whose numbers are floats or not
+abbrev pub default_text : (floats : Bool) → Schemas → SchemaType → SchemaValue → Out
+default_text floats set t v = told_default (is_told v) (stored_text (Floats floats) set t v)
 
 -- ---- annotations ----
 
@@ -78,9 +88,9 @@ default_text set t v = told_default (is_told v) (stored_text set t v)
 abbrev pub annotation_head : ℕ → List ℕ
 annotation_head id = codes " $@0x" ++ (digits 16 false id ++ codes " = ")
 
--- an annotation: its id, and its value, a null one too
+-- an annotation: its id, and its value, a null one too; no mark says that its numbers are floats
 abbrev pub annotation_text : Schemas → TypedAnnotation → Out
-annotation_text set x = after (said_text (annotation_head x.annotation.id)) (stored_text set x.type x.annotation.value)
+annotation_text set x = after (said_text (annotation_head x.annotation.id)) (stored_text Integers set x.type x.annotation.value)
 
 -- those of one place, one after another
 abbrev pub annotations_text : Schemas → List TypedAnnotation → Out

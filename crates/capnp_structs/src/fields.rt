@@ -1,28 +1,34 @@
 //! The fields of a struct, and the enums that they name.
-ghost use Rattle.std.specs.Prelude.{ℕ, List, [], ◌≡◌, ◌++◌, IfErr, IfOk, OnOk, decimal, string_bytes};
+ghost use Rattle.std.specs.Prelude.{ℕ, List, [], ◌≡◌, ◌≤◌, ◌++◌, IfErr, IfOk, OnOk, codes, cond, decimal, length, string_bytes};
 ghost use Rattle.capnp_device.specs.declared.error.ErrorKind.TheVariants.{OutOfMemory};
+ghost use Rattle.capnp_schema.specs.Annotated.{struct_annotations};
 ghost use Rattle.capnp_base.specs.Types.{base_of, list_depth};
 ghost use Rattle.capnp_schema.specs.Accepted.{NamesEntries};
 ghost use Rattle.capnp_schema.specs.Entries.{lists_seen};
-ghost use Rattle.capnp_schema.specs.FieldLists.{field_schema, index_of, typed_of};
+ghost use Rattle.capnp_schema.specs.FieldLists.{field_annotated, field_schema, index_of, typed_of};
 ghost use Rattle.capnp_schema.specs.Plan.{plan_of};
 ghost use Rattle.capnp_schema.specs.Schema.{kind_default, node_of, seen_kind};
 ghost use Rattle.capnp_schema.specs.StructHandles.{IsStruct, number_of, set_of};
 ghost use Rattle.capnp_schema.specs.Types.{seen_base, seen_type};
 ghost use Rattle.capnp_dynamic_readers.specs.Pieces.{IsAppended};
+ghost use Rattle.capnp_json_fields.specs.Marks.{is_float};
 ghost use Rattle.capnp_structs.specs.Fields.{all_enums, field_end, fields_text, group_head, group_line, head_line, inside, lines_text, lines_within, member_text, place_text, slot_head, slot_line, type_text, union_line};
+ghost use Rattle.capnp_structs.specs.Limits.{HasRefused, HasRefusedAmong, HasRefusedField, HasRefusedLine, IsRefused, IsStopped};
 ghost use Rattle.capnp_structs.specs.Steps.Fields.{repeated_words};
 ghost use Rattle.capnp_structs.specs.Values.{default_text};
+ghost use Rattle.capnp_structs.specs.declared.values.Numbers.TheVariants.{Floats};
 
 use crate::annotations::put_annotations;
 use crate::enums::{add_enum, put_enum, put_enum_lines};
+use crate::limits::check_length;
 use crate::values::put_default;
 use capnp_base::introspect::{Type, TypeVariant};
+use capnp_json_fields::fields::is_float;
 use capnp_schema::plan::Place;
 use capnp_schema::record::FieldKind;
 use capnp_schema::schema::{Field, GroupWalk, StructSchema};
 use capnp_schema::set::SchemaSet;
-use capnp_wire::error::Result;
+use capnp_wire::error::{Error, ErrorKind, Result};
 use std::alloc::Global;
 
 /// Appends the name of an integer type.
@@ -62,10 +68,17 @@ fn put_lists(out: &mut String, of: Type, piece: &str) -> Result<()>
     Ok(())
 }
 
-/// Appends what stands inside all lists around a type.
-fn put_innermost(out: &mut String, schemas: &SchemaSet, of: Type) -> Result<()>
+/// The name of numbers without a sign that may stand for floats, where they do or not.
+fn wide_name(floats: bool) -> &'static str
+    ensures { result.now ≡ cond floats (codes "Float") (codes "UInt") }
+{
+    if floats { "Float" } else { "UInt" }
+}
+
+/// Appends what stands inside all lists around a type, whose numbers are floats or not.
+fn put_innermost(out: &mut String, floats: bool, schemas: &SchemaSet, of: Type) -> Result<()>
     ensures put { OnOk result (string_bytes out.new
-        ≡ string_bytes out.old ++ type_text (lists_seen schemas.now) (seen_base (base_of of))) }
+        ≡ string_bytes out.old ++ type_text floats (lists_seen schemas.now) (seen_base (base_of of))) }
     ensures memory { IfErr result (λ e. e.kind ≡ OutOfMemory) }
 {
     match of.innermost() {
@@ -77,8 +90,8 @@ fn put_innermost(out: &mut String, schemas: &SchemaSet, of: Type) -> Result<()>
         TypeVariant::Int64 => put_width(out, "Int", 64),
         TypeVariant::UInt8 => put_width(out, "UInt", 8),
         TypeVariant::UInt16 => put_width(out, "UInt", 16),
-        TypeVariant::UInt32 => put_width(out, "UInt", 32),
-        TypeVariant::UInt64 => put_width(out, "UInt", 64),
+        TypeVariant::UInt32 => put_width(out, wide_name(floats), 32),
+        TypeVariant::UInt64 => put_width(out, wide_name(floats), 64),
         TypeVariant::Text => Ok(out.push_str("Text")?),
         TypeVariant::Data => Ok(out.push_str("Data")?),
         TypeVariant::AnyPointer => Ok(out.push_str("AnyPointer")?),
@@ -88,14 +101,14 @@ fn put_innermost(out: &mut String, schemas: &SchemaSet, of: Type) -> Result<()>
     }
 }
 
-/// Appends a type.
-pub(crate) fn put_type(out: &mut String, schemas: &SchemaSet, of: Type) -> Result<()>
+/// Appends a type, whose numbers are floats or not.
+pub(crate) fn put_type(out: &mut String, floats: bool, schemas: &SchemaSet, of: Type) -> Result<()>
     ensures put { OnOk result (string_bytes out.new
-        ≡ string_bytes out.old ++ type_text (lists_seen schemas.now) (seen_type of)) }
+        ≡ string_bytes out.old ++ type_text floats (lists_seen schemas.now) (seen_type of)) }
     ensures memory { IfErr result (λ e. e.kind ≡ OutOfMemory) }
 {
     put_lists(out, of, "List(")?;
-    put_innermost(out, schemas, of)?;
+    put_innermost(out, floats, schemas, of)?;
     put_lists(out, of, ")")
 }
 
@@ -127,35 +140,44 @@ pub(crate) fn put_member(out: &mut String, member: Option<(u32, u16)>) -> Result
 }
 
 /// Appends what stands behind a field's default, or behind its name where it is a group.
-fn put_end(out: &mut String, field: Field<'_>) -> Result<()>
+fn put_end(out: &mut String, limit: u64, field: Field<'_>) -> Result<()>
     ensures put { OnOk result (IsAppended (string_bytes out.old)
         (field_end (set_of (field_schema field.entry)) (number_of (field_schema field.entry)) (index_of field.entry))
         (string_bytes out.new)) }
-    ensures memory { IfErr result (λ e. e.kind ≡ OutOfMemory) }
+    ensures stopped { IfErr result (λ e. IsStopped limit (string_bytes out.old)
+        (field_end (set_of (field_schema field.entry)) (number_of (field_schema field.entry)) (index_of field.entry))
+        (HasRefusedAmong (set_of (field_schema field.entry))
+        (field_annotated field.entry)) e.kind) }
 {
     put_member(out, field.plan().member)?;
     let annotations = field.get_annotations()?;
     let record = field.get_proto();
-    put_annotations(out, annotations, record.annotations.as_slice())?;
+    put_annotations(out, limit, annotations, record.annotations.as_slice())?;
     out.push_str("\n")?;
-    Ok(())
+    check_length(out, limit)
 }
 
 /// Appends the default of a slot, and nothing of a group.
 pub(crate) fn put_kind(
     out: &mut String,
+    limit: u64,
+    floats: bool,
     schemas: &SchemaSet,
     of: Type,
     kind: &FieldKind,
 ) -> Result<()>
     requires named { NamesEntries (lists_seen schemas.now) (seen_type of) }
     ensures put { OnOk result (IsAppended (string_bytes out.old)
-        (default_text (lists_seen schemas.now) (seen_type of) (kind_default (seen_kind kind.now)))
+        (default_text floats (lists_seen schemas.now) (seen_type of) (kind_default (seen_kind kind.now)))
         (string_bytes out.new)) }
-    ensures memory { IfErr result (λ e. e.kind ≡ OutOfMemory) }
+    ensures stopped { IfErr result (λ e. IsStopped limit (string_bytes out.old)
+        (default_text floats (lists_seen schemas.now) (seen_type of) (kind_default (seen_kind kind.now)))
+        (IsRefused (Floats floats) (lists_seen schemas.now) (seen_type of) (kind_default (seen_kind kind.now))) e.kind) }
 {
     match kind {
-        FieldKind::Slot { offset: _, default } => put_default(out, schemas, of, default),
+        FieldKind::Slot { offset: _, default } => put_default(
+            out, limit, floats, schemas, of, default,
+        ),
         FieldKind::Group { node: _ } => Ok(()),
     }
 }
@@ -172,6 +194,7 @@ fn put_head(out: &mut String, prefix: &str, field: Field<'_>) -> Result<()>
     out.push_str(": ")?;
     put_type(
         out,
+        is_float(field),
         field.get_containing_struct().get_set(),
         field.get_type(),
     )?;
@@ -179,16 +202,20 @@ fn put_head(out: &mut String, prefix: &str, field: Field<'_>) -> Result<()>
 }
 
 /// Appends the line of a slot.
-fn put_slot(out: &mut String, prefix: &str, field: Field<'_>) -> Result<()>
+fn put_slot(out: &mut String, limit: u64, prefix: &str, field: Field<'_>) -> Result<()>
     ensures put { OnOk result (IsAppended (string_bytes out.old)
         (slot_line (set_of (field_schema field.entry)) (number_of (field_schema field.entry)) (index_of field.entry)
         prefix.now) (string_bytes out.new)) }
-    ensures memory { IfErr result (λ e. e.kind ≡ OutOfMemory) }
+    ensures stopped { IfErr result (λ e. IsStopped limit (string_bytes out.old)
+        (slot_line (set_of (field_schema field.entry)) (number_of (field_schema field.entry)) (index_of field.entry)
+        prefix.now)
+        (HasRefusedField (set_of (field_schema field.entry)) (number_of (field_schema field.entry)) (index_of field.entry)) e.kind) }
 {
     put_head(out, prefix, field)?;
     let schemas = field.get_containing_struct().get_set();
-    put_kind(out, schemas, field.get_type(), &field.get_proto().kind)?;
-    put_end(out, field)
+    let kind = &field.get_proto().kind;
+    put_kind(out, limit, is_float(field), schemas, field.get_type(), kind)?;
+    put_end(out, limit, field)
 }
 
 /// Appends the name of a group.
@@ -204,14 +231,17 @@ fn put_group_head(out: &mut String, prefix: &str, field: Field<'_>) -> Result<()
 }
 
 /// Appends the line of a group.
-fn put_group(out: &mut String, prefix: &str, field: Field<'_>) -> Result<()>
+fn put_group(out: &mut String, limit: u64, prefix: &str, field: Field<'_>) -> Result<()>
     ensures put { OnOk result (IsAppended (string_bytes out.old)
         (group_line (set_of (field_schema field.entry)) (number_of (field_schema field.entry)) (index_of field.entry)
         prefix.now) (string_bytes out.new)) }
-    ensures memory { IfErr result (λ e. e.kind ≡ OutOfMemory) }
+    ensures stopped { IfErr result (λ e. IsStopped limit (string_bytes out.old)
+        (group_line (set_of (field_schema field.entry)) (number_of (field_schema field.entry)) (index_of field.entry)
+        prefix.now)
+        (HasRefusedField (set_of (field_schema field.entry)) (number_of (field_schema field.entry)) (index_of field.entry)) e.kind) }
 {
     put_group_head(out, prefix, field)?;
-    put_end(out, field)
+    put_end(out, limit, field)
 }
 
 /// Appends the line of a union, where a struct or group has one.
@@ -254,6 +284,7 @@ fn leave_path(path: &mut String, field: Field<'_>)
 /// that the fields name. A group in it is gone into where it stands, and left by its own field.
 fn put_fields(
     out: &mut String,
+    limit: u64,
     enums: &mut Vec<u32>,
     schema: StructSchema<'_>,
     groups: usize,
@@ -264,7 +295,9 @@ fn put_fields(
     ensures added { OnOk result (enums.new.items ≡ enums.old.items
         ++ all_enums (set_of schema.entry)
         (lines_within (set_of schema.entry) groups [] (number_of schema.entry))) }
-    ensures memory { IfErr result (λ e. e.kind ≡ OutOfMemory) }
+    ensures stopped { IfErr result (λ e. IsStopped limit (string_bytes out.old)
+        (lines_text (set_of schema.entry) (lines_within (set_of schema.entry) groups [] (number_of schema.entry)))
+        (HasRefusedLine (set_of schema.entry) (lines_within (set_of schema.entry) groups [] (number_of schema.entry))) e.kind) }
 {
     if groups == 0 {
         return Ok(());
@@ -287,12 +320,12 @@ fn put_fields(
             continue;
         };
         let Some(group) = field.get_group() else {
-            put_slot(out, path.as_str(), field)?;
+            put_slot(out, limit, path.as_str(), field)?;
             add_enum(enums, field.get_type())?;
             walk = walk.advance();
             continue;
         };
-        put_group(out, path.as_str(), field)?;
+        put_group(out, limit, path.as_str(), field)?;
         if left == 0 {
             walk = walk.advance();
             continue;
@@ -305,10 +338,13 @@ fn put_fields(
 }
 
 /// Appends the line of a struct with annotations.
-fn put_head_line(out: &mut String, schema: StructSchema<'_>) -> Result<()>
+fn put_head_line(out: &mut String, limit: u64, schema: StructSchema<'_>) -> Result<()>
     ensures put { OnOk result (IsAppended (string_bytes out.old)
         (head_line (set_of schema.entry) (number_of schema.entry)) (string_bytes out.new)) }
-    ensures memory { IfErr result (λ e. e.kind ≡ OutOfMemory) }
+    ensures stopped { IfErr result (λ e. IsStopped limit (string_bytes out.old)
+        (head_line (set_of schema.entry) (number_of schema.entry))
+        (HasRefusedAmong (set_of schema.entry)
+        (struct_annotations (set_of schema.entry) (number_of schema.entry))) e.kind) }
 {
     let annotations = schema.get_annotations()?;
     if annotations.is_empty() {
@@ -317,7 +353,7 @@ fn put_head_line(out: &mut String, schema: StructSchema<'_>) -> Result<()>
     let node = schema.get_proto();
     out.push_str("struct ")?;
     out.push_str(node.display_name.as_str())?;
-    put_annotations(out, annotations, node.annotations.as_slice())?;
+    put_annotations(out, limit, annotations, node.annotations.as_slice())?;
     out.push_str("\n")?;
     Ok(())
 }
@@ -325,7 +361,8 @@ fn put_head_line(out: &mut String, schema: StructSchema<'_>) -> Result<()>
 /// The fields of a struct, by index, one a line: name, type, place, default, discriminant value and annotations. The
 /// place is the first bit in the data section, or the number of a pointer. The discriminant value is that of a union's
 /// member. A default is told as it is printed; an untyped one, and one whose text is refused, by how many words it has.
-/// An annotation is ` $@0x`, its id in hexadecimal, and its value, told so.
+/// Where the numbers of a field are floats (`capnp_json_fields::fields::is_float`), its type and its default say so. An
+/// annotation is ` $@0x`, its id in hexadecimal, and its value, told so, but with all numbers as integers.
 ///
 /// Before all stand the struct's name and annotations, where it has some. Before the fields of a struct or group with a
 /// union stands how many members it has, and the first bit of the discriminant. Behind a group's line stand those of
@@ -341,15 +378,36 @@ pub fn get_fields(alloc: Global, schema: StructSchema<'_>) -> Result<String>
         (string_bytes text)) }
     ensures memory { IfErr result (λ e. e.kind ≡ OutOfMemory) }
 {
+    match get_fields_within(alloc, schema, u64::MAX) {
+        Ok(lines) => Ok(lines),
+        Err(_) => Err(Error::from(ErrorKind::OutOfMemory)),
+    }
+}
+
+/// As `get_fields`, of a text that has at most `limit` bytes. It takes time and memory in proportion to the limit, and to
+/// the longest name, type or path, and text or data in it.
+///
+/// Refused with `TooLarge` where the text is longer; also where the text of a default or an annotation is refused behind
+/// the limit, so that it would be told by how many words it has (`HasRefused`).
+///
+/// # Conditions
+///
+/// The schema is one of an accepted set (`IsStruct`).
+pub fn get_fields_within(alloc: Global, schema: StructSchema<'_>, limit: u64) -> Result<String>
+    requires { IsStruct schema }
+    ensures text { IfOk result (λ text. IsAppended [] (fields_text (set_of schema.entry) (number_of schema.entry))
+        (string_bytes text)) }
+    ensures within { IfOk result (λ text. length (string_bytes text) ≤ limit) }
+    ensures stopped { IfErr result (λ e. IsStopped limit []
+        (fields_text (set_of schema.entry) (number_of schema.entry))
+        (HasRefused (set_of schema.entry) (number_of schema.entry)) e.kind) }
+{
     let mut lines = String::new(alloc);
     let mut enums = Vec::new(alloc);
-    put_head_line(&mut lines, schema)?;
-    put_fields(
-        &mut lines,
-        &mut enums,
-        schema,
-        schema.get_set().brands().len(),
-    )?;
-    put_enum_lines(&mut lines, schema.get_set(), enums.as_slice())?;
+    let groups = schema.get_set().brands().len();
+    put_head_line(&mut lines, limit, schema)?;
+    put_fields(&mut lines, limit, &mut enums, schema, groups)?;
+    put_enum_lines(&mut lines, limit, schema.get_set(), enums.as_slice())?;
+    check_length(&lines, limit)?;
     Ok(lines)
 }

@@ -4,6 +4,8 @@
 mod annotations;
 mod enums;
 pub mod fields;
+pub mod laws;
+mod limits;
 pub mod names;
 pub mod sides;
 mod values;

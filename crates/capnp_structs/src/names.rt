@@ -1,13 +1,14 @@
 //! The names of a set's structs.
-ghost use Rattle.std.specs.Prelude.{◌≡◌, ◌<◌, ◌+◌, ◌++◌, IfErr, IfOk, OnOk, Some, length, string_bytes};
+ghost use Rattle.std.specs.Prelude.{◌≡◌, ◌≢◌, ◌≤◌, ◌<◌, ◌+◌, ◌++◌, IfErr, IfOk, OnOk, Some, length, string_bytes};
 ghost use Rattle.std.specs.Option.{is_none};
-ghost use Rattle.capnp_device.specs.declared.error.ErrorKind.TheVariants.{OutOfMemory};
+ghost use Rattle.capnp_device.specs.declared.error.ErrorKind.TheVariants.{OutOfMemory, TooLarge};
 ghost use Rattle.capnp_schema.specs.Entries.{lists_seen};
 ghost use Rattle.capnp_structs.specs.Names.{number_line, struct_line, structs_text};
 ghost use Rattle.capnp_structs.specs.Steps.Names.{AreNamesBelow, IsNameMet, brand_met};
 
+use crate::limits::check_length;
 use capnp_schema::set::SchemaSet;
-use capnp_wire::error::Result;
+use capnp_wire::error::{Error, ErrorKind, Result};
 use std::alloc::Global;
 use std::collections::HashMap;
 
@@ -77,11 +78,26 @@ pub fn get_structs(alloc: Global, schemas: &SchemaSet) -> Result<String>
     ensures text { IfOk result (λ text. string_bytes text ≡ structs_text (lists_seen schemas.now)) }
     ensures memory { IfErr result (λ e. e.kind ≡ OutOfMemory) }
 {
+    match get_structs_within(alloc, schemas, u64::MAX) {
+        Ok(lines) => Ok(lines),
+        Err(_) => Err(Error::from(ErrorKind::OutOfMemory)),
+    }
+}
+
+/// As `get_structs`, of a text that has at most `limit` bytes: the text has never more than one name behind them. Refused
+/// with `TooLarge` where it is longer, and with `OutOfMemory`.
+pub fn get_structs_within(alloc: Global, schemas: &SchemaSet, limit: u64) -> Result<String>
+    ensures text { IfOk result (λ text. string_bytes text ≡ structs_text (lists_seen schemas.now)) }
+    ensures within { IfOk result (λ text. length (string_bytes text) ≤ limit) }
+    ensures too_long { IfErr result (λ e. e.kind ≢ OutOfMemory
+        → (e.kind ≡ TooLarge) × (limit < length (structs_text (lists_seen schemas.now)))) }
+{
     let mut lines = String::new(alloc);
     // Looking each name up among all brands would take time with the square of their number.
     let mut met = HashMap::new(alloc);
     for index in 0..schemas.brands().len() {
         put_at(&mut lines, schemas, &mut met, index)?;
+        check_length(&lines, limit)?;
     }
     Ok(lines)
 }

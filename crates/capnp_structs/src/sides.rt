@@ -8,8 +8,9 @@ ghost use Rattle.capnp_dynamic_readers.specs.Pieces.{IsAppended};
 ghost use Rattle.capnp_structs.specs.Sides.{field_side, kind_side, slot_head, slot_side};
 
 use crate::fields::{put_kind, put_member, put_place, put_type};
+use capnp_json_fields::fields::is_float;
 use capnp_schema::schema::Field;
-use capnp_wire::error::Result;
+use capnp_wire::error::{Error, ErrorKind, Result};
 
 /// Appends the type of a slot, and where it stands.
 fn put_slot_head(out: &mut String, field: Field<'_>) -> Result<()>
@@ -19,6 +20,7 @@ fn put_slot_head(out: &mut String, field: Field<'_>) -> Result<()>
 {
     put_type(
         out,
+        is_float(field),
         field.get_containing_struct().get_set(),
         field.get_type(),
     )?;
@@ -34,7 +36,18 @@ fn put_slot_side(out: &mut String, field: Field<'_>) -> Result<()>
 {
     put_slot_head(out, field)?;
     let schemas = field.get_containing_struct().get_set();
-    put_kind(out, schemas, field.get_type(), &field.get_proto().kind)
+    let kind = &field.get_proto().kind;
+    match put_kind(
+        out,
+        u64::MAX,
+        is_float(field),
+        schemas,
+        field.get_type(),
+        kind,
+    ) {
+        Ok(()) => Ok(()),
+        Err(_) => Err(Error::from(ErrorKind::OutOfMemory)),
+    }
 }
 
 /// Appends what a slot is, or that the field is a group.

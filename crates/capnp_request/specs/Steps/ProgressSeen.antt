@@ -1,13 +1,12 @@
 -- What the code has made so far, as the definition sees it: steps of the code.
-use Rattle.std.specs.Prelude.{ℕ, List, Bool, true, false, map, string_bytes}
+use Rattle.std.specs.Prelude.{List, Bool, true, false, map, string_bytes}
 use Rattle.capnp_schema.specs.Schema.{seen_brand, seen_enum, seen_node}
 use Rattle.capnp_dynamic_readers.specs.Seen.{record_seen}
 use Rattle.capnp_request.specs.Names.{Holder}
 use Rattle.capnp_request.specs.Steps.NamesMade.{texts}
-use Rattle.capnp_request.specs.Order.{Begun, Made, make_all}
+use Rattle.capnp_request.specs.Order.{Begun, Made}
 use Rattle.capnp_request.specs.Reading.{node_said}
 use Rattle.capnp_request.specs.StructsSeen.{seen_notes}
-use Rattle.capnp_request.specs.Terms.{SchemaNode}
 use Rattle.capnp_request.specs.Work.{Work, work_of}
 use Rattle.capnp_request.specs.declared.conversion.NextStruct.{NextStruct}
 use Rattle.capnp_request.specs.declared.conversion.Progress.{Progress}
@@ -28,6 +27,6 @@ abbrev pub begun_of : Progress → List Holder → NextStruct → Begun
 begun_of p holders next = record { enum_names = texts p.enum_names.items; name = string_bytes next.name; holders = holders; node = node_said (record_seen next.place.node) }
 
 -- the rest of the work, where there is more
-abbrev pub work_rest : List SchemaNode → (strict more : Bool) → ℕ → Made → Work Made
-work_rest nodes strict true steps m = make_all nodes strict steps m
-work_rest nodes strict false steps m = work_of m
+abbrev pub work_rest : (more : Bool) → (Made → Work Made) → Made → Work Made
+work_rest true again m = again m
+work_rest false again m = work_of m

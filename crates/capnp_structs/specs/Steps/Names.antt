@@ -1,5 +1,5 @@
 -- The names of a set's structs, as the code meets them one after another: steps of the code.
-use Rattle.std.specs.Prelude.{ℕ, ◌≡◌, ◌+◌, ◌^◌, ◌<◌, ◌≤◌, List, drop, cond, Option, Some, None, IfSome, bytes_eq}
+use Rattle.std.specs.Prelude.{ℕ, ◌≡◌, ◌^◌, ◌<◌, ◌≤◌, List, drop, cond, Option, Some, None, IfSome, bytes_eq}
 use Rattle.std.specs.Borrow.{Bor}
 use Rattle.std.specs.HashMap.{HashMap, get_by}
 use Rattle.std.specs.Option.{option_or}

@@ -8,7 +8,8 @@ use Rattle.capnp_dynamic_readers.specs.Pieces.{IsAppended}
 use Rattle.capnp_structs.specs.Fields.{Line, all_enums, lines_text}
 use Rattle.capnp_structs.proofs.Lines.{within_none}
 use Rattle.capnp_structs.proofs.Walked.{all_added, all_said, path_under}
-use Rattle.capnp_structs.proofs.WalkSteps.{at_place, fewer_inside, fewer_outside, fewer_past, goes_inside, goes_outside, none_above, none_left_of, path_advance, path_enter, path_leave, path_start, said_group, said_slot, starts}
+use Rattle.capnp_structs.proofs.WalkSteps.{at_place, fewer_inside, fewer_outside, fewer_past, goes_inside, goes_outside, group_stopped, none_above, none_left_of, path_advance, path_enter, path_leave, path_start, said_group, said_slot, slot_stopped, starts}
+use Rattle.capnp_structs.proofs.Stopped.{handed_on}
 use Rattle.capnp_structs.proofs.fields.put_fields.Goals as goal
 
 pub returns-then-groups-eq0-clause-put : goal.returns-then-groups-eq0-clause-put
@@ -139,3 +140,15 @@ loop-field-preserved c = record {
   path = path_enter (set_of c.args.schema) c.loop-field.walk c.enter-walk.result c.in-Some.field (number_of c.in-Some-get_group.group) _ _ c.loop-field.invariant.set c.in-Some.ensures c.enter-walk.ensures.frames c.loop-field.invariant.path c.in_ok-enter_path.ensures.path;
   groups = omega (arith, c.loop-field.invariant.groups, c.enter-walk.ensures.depth, c.if-left-eq0.false);
 }
+
+pub returns-in_err-put_slot-clause-stopped : goal.returns-in_err-put_slot-clause-stopped
+returns-in_err-put_slot-clause-stopped c =
+    handed_on c.from_residual-in_err-put_slot.result _ c.args.limit (string_bytes c.args.out.now) _ c.from_residual-in_err-put_slot.ensures.1
+    (slot_stopped (set_of c.args.schema) _ _ _ c.args.limit c.loop-field.left c.loop-field.walk c.in-Some.field _ _ _ _ (record { in_set = c.loop-field.invariant.set; field = c.in-Some.ensures }) c.in_default-get_group.ensures.number
+    (c.as_str-in_default-get_group.ensures.value ∙ c.loop-field.invariant.path) c.in_err-put_slot.ensures.stopped c.loop-field.invariant.listed)
+
+pub returns-in_err-put_group-clause-stopped : goal.returns-in_err-put_group-clause-stopped
+returns-in_err-put_group-clause-stopped c =
+    handed_on c.from_residual-in_err-put_group.result _ c.args.limit (string_bytes c.args.out.now) _ c.from_residual-in_err-put_group.ensures.1
+    (group_stopped (set_of c.args.schema) _ _ _ c.args.limit c.loop-field.left c.loop-field.walk c.in-Some.field (number_of c.in-Some-get_group.group) _ _ _ _ (record { in_set = c.loop-field.invariant.set; field = c.in-Some.ensures }) c.in-Some-get_group.ensures.number
+    (c.as_str-in-loop-field.ensures.value ∙ c.loop-field.invariant.path) c.in_err-put_group.ensures.stopped c.loop-field.invariant.listed)

@@ -2,9 +2,11 @@
 use Rattle.std.proofs.Common.{false, true, refl, ◌++◌, ◌∙◌, ◌≡◌, ap, append_assoc, codes, length, string_bytes, subst, sym, ℕ, List}
 use Rattle.capnp_schema.specs.Annotated.{TypedAnnotation, struct_annotations}
 use Rattle.capnp_schema.specs.AnnotationLists.{annotations_in, annotations_set}
-use Rattle.capnp_schema.specs.Schema.{Node, seen_annotations}
+use Rattle.capnp_schema.specs.Schema.{Node, Schemas, seen_annotations}
 use Rattle.capnp_schema.specs.StructHandles.{number_of, set_of, struct_node}
 use Rattle.capnp_structs.proofs.Appended.{annotations_here, no_line, some_line}
+use Rattle.capnp_structs.proofs.Stopped.{handed_on, head_stopped}
+use Rattle.capnp_structs.proofs.AnnotationsSaid.{among_here}
 use Rattle.capnp_structs.proofs.fields.put_head_line.Goals as goal
 
 pub put_annotations-requires : goal.put_annotations-requires
@@ -29,3 +31,14 @@ returns-clause-put c =
     (annotations_here (annotations_set c.in_ok-annotations.annotations) (set_of c.args.schema) (annotations_in c.in_ok-annotations.annotations) (struct_annotations (set_of c.args.schema) (number_of c.args.schema)) _ _
     c.in_ok-annotations.ensures.set c.in_ok-annotations.ensures.typed c.in_ok-put_annotations.ensures.put)
     c.in_ok-push_str-3.ensures.bytes
+
+pub returns-in_err-put_annotations-clause-stopped : goal.returns-in_err-put_annotations-clause-stopped
+returns-in_err-put_annotations-clause-stopped c =
+    let set : Schemas = set_of c.args.schema in
+    let xs : List TypedAnnotation = struct_annotations set (number_of c.args.schema) in
+    let mid : List ℕ = string_bytes c.push_str-2.new.self in
+    handed_on c.from_residual-in_err-put_annotations.result _ c.args.limit (string_bytes c.args.out.now) _ c.from_residual-in_err-put_annotations.ensures.1
+    (head_stopped c.args.limit set (codes "struct " ++ (struct_node c.args.schema).display_name) xs (string_bytes c.args.out.now) mid _
+    (λ none. differ (c.if-is_empty.ensures.1 (subst (λ (xs : List TypedAnnotation). length xs ≡ 0) (sym c.in_ok-annotations.ensures.typed) none)))
+    (head_put _ _ _ c.as_str.result.now _ c.in_ok-push_str.ensures.bytes c.in_ok-push_str-2.ensures.bytes (c.as_str.ensures.value ∙ ap (λ (n : Node). n.display_name) c.get_proto-node.ensures))
+    (among_here c.args.limit (annotations_set c.in_ok-annotations.annotations) set (annotations_in c.in_ok-annotations.annotations) xs mid _ c.in_ok-annotations.ensures.set c.in_ok-annotations.ensures.typed c.in_err-put_annotations.ensures.stopped))

@@ -11,4 +11,4 @@ use Rattle.capnp_structs.proofs.fields.put_kind.Goals as goal
 
 pub returns-in-Group-clause-put : goal.returns-in-Group-clause-put
 returns-in-Group-clause-put c =
-    subst (λ (z : FieldKind). IsAppended (string_bytes c.args.out.now) (default_text (lists_seen c.args.schemas.now) (seen_type c.args.of) (kind_default (seen_kind z))) (string_bytes c.args.out.now)) (sym c.in-Group.is) (nothing (string_bytes c.args.out.now))
+    subst (λ (z : FieldKind). IsAppended (string_bytes c.args.out.now) (default_text c.args.floats (lists_seen c.args.schemas.now) (seen_type c.args.of) (kind_default (seen_kind z))) (string_bytes c.args.out.now)) (sym c.in-Group.is) (nothing (string_bytes c.args.out.now))

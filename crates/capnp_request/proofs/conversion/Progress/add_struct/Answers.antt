@@ -1,6 +1,6 @@
 -- The entry's number counts the nodes made, so the struct made with it is the next one.
 -- Node, brand and notes go behind those made, and each brand keeps its node.
-use Rattle.std.proofs.Common.{◌≡◌, ◌∙◌, ap, length, map, refl, string_bytes, sym, Ok}
+use Rattle.std.proofs.Common.{◌≡◌, ◌∙◌, ap, length, map, inr, refl, string_bytes, sym, Ok}
 use Rattle.std.proofs.lemmas.Result.{err_from_is_err_and}
 use Rattle.capnp_dynamic_readers.specs.Seen.{record_seen}
 use Rattle.capnp_schema.specs.Schema.{seen_brand, seen_enum, seen_node}
@@ -34,6 +34,12 @@ returns-clause-done c = λ hs.
     (sym (map_more seen_brand c.args.self.now.made.brands.items _ _ _ c.in_ok-put_struct.ensures.brands refl))
     (ap (λ v. map seen_enum v.items) (sym c.in_ok-put_struct.ensures.enums))
     (sym (notes_more c.args.self.now.made.notes.items _ _ _ c.in_ok-put_struct.ensures.notes refl)))
+
+pub returns-clause-structs : goal.returns-clause-structs
+returns-clause-structs c = inr (_, c.in_ok-put_struct.ensures.nodes)
+
+pub returns-clause-enums : goal.returns-clause-enums
+returns-clause-enums c = c.in_ok-put_struct.ensures.enums
 
 pub returns-clause-brands : goal.returns-clause-brands
 returns-clause-brands c = brand_made c.args.self.now.made.nodes.items _ c.args.self.now.made.brands.items _ _ _ c.args.next.place.number c.requires.brands c.requires.number c.in_ok-made.ensures.brand c.in_ok-put_struct.ensures.nodes c.in_ok-put_struct.ensures.brands
