@@ -2,10 +2,9 @@
 use Rattle.std.proofs.Common.{ℕ, zero, suc, Bool, ◌+◌, ◌≤◌, ◌<◌, List, [], ◌∷◌, drop, get_or, length, slice_get, ◌≡◌, ◌∙◌, ap, arith, refl, subst, sym}
 use Rattle.std.proofs.lemmas.List.{drop_more}
 use Rattle.capnp_call.specs.declared.calls.Reply.{Reply}
-use Rattle.capnp_patch.specs.Lines.{IsReplyTold}
 use Rattle.capnp_records.specs.Call.{Call}
 use Rattle.capnp_schema.specs.Schema.{Schemas}
-use Rattle.riftcalico_core.specs.Replies.{AreNoted, note_of}
+use Rattle.riftcalico_core.specs.Replies.{AreNoted, IsMarkedTold, asks_float, note_of}
 use Rattle.riftcalico_core.specs.Room.{reply_told}
 
 -- the item at an index stands before what is left
@@ -14,14 +13,17 @@ step_from xs i x inside is = drop_more xs i x inside ∙ ap (λ y. y ∷ drop (i
 
 module _ (set : Schemas) (b : ℕ) (by_limit : Bool) (words : List (List ℕ)) (calls : List Call) where
   -- one more line is told, and then those of the replies that are left
-  pub noted_then : (i : ℕ) (replies : List Reply) (word note : List ℕ) (r : Reply) (old mid new : List ℕ) →
-      i < length replies → word ≡ get_or words i [] → note ≡ note_of set b (slice_get calls i) r → r ≡ get_or replies i r → IsReplyTold (i + 1) word note (reply_told by_limit r) old mid →
+  pub noted_then : (i : ℕ) (replies : List Reply) (word note : List ℕ) (floats : Bool) (r : Reply) (old mid new : List ℕ) →
+      i < length replies → word ≡ get_or words i [] → note ≡ note_of set b (slice_get calls i) r → floats ≡ asks_float set b (slice_get calls i) → r ≡ get_or replies i r →
+      IsMarkedTold floats (i + 1) word note (reply_told by_limit r) old mid →
       AreNoted set b by_limit (i + 1) words calls (drop (i + 1) replies) mid new → AreNoted set b by_limit i words calls (drop i replies) old new
-  noted_then i replies word note r old mid new inside w_is n_is r_is told rest =
+  noted_then i replies word note floats r old mid new inside w_is n_is f_is r_is told rest =
       subst (λ (rs : List Reply). AreNoted set b by_limit i words calls rs old new) (sym (step_from replies i r inside r_is)) (
         mid,
-        subst (λ (n : ℕ). IsReplyTold n (get_or words i []) (note_of set b (slice_get calls i) r) (reply_told by_limit r) old mid) number
-            (subst (λ (w : List ℕ). IsReplyTold (i + 1) w (note_of set b (slice_get calls i) r) (reply_told by_limit r) old mid) w_is (subst (λ (z : List ℕ). IsReplyTold (i + 1) word z (reply_told by_limit r) old mid) n_is told)),
+        subst (λ (n : ℕ). IsMarkedTold (asks_float set b (slice_get calls i)) n (get_or words i []) (note_of set b (slice_get calls i) r) (reply_told by_limit r) old mid) number
+            (subst (λ (f : Bool). IsMarkedTold f (i + 1) (get_or words i []) (note_of set b (slice_get calls i) r) (reply_told by_limit r) old mid) f_is
+            (subst (λ (w : List ℕ). IsMarkedTold floats (i + 1) w (note_of set b (slice_get calls i) r) (reply_told by_limit r) old mid) w_is
+            (subst (λ (z : List ℕ). IsMarkedTold floats (i + 1) word z (reply_told by_limit r) old mid) n_is told))),
         subst (λ (n : ℕ). AreNoted set b by_limit n words calls (drop (i + 1) replies) mid new) number rest,
       )
     where

@@ -7,13 +7,11 @@ use Rattle.capnp_schema.specs.StructHandles.{number_of, set_of}
 use Rattle.capnp_schema.specs.declared.schema.structs.StructSchema.{StructSchema}
 use Rattle.capnp_words.specs.Calls.{CallText}
 use Rattle.capnp_words.specs.Seen.{call_text_seen, path_text_seen}
-use Rattle.capnp_words.specs.Targets.{type_along}
 use Rattle.capnp_words.specs.declared.call.CallWord.{CallWord}
 use Rattle.riftcalico_core.specs.Calls.{call_read}
-use Rattle.riftcalico_core.specs.Jobs.{IsNamedStruct, IsValueUnread}
+use Rattle.riftcalico_core.specs.Jobs.{IsNamedStruct, IsValueUnread, wanted_under}
 use Rattle.riftcalico_core.specs.Plans.{CallsPlan}
 use Rattle.riftcalico_core.specs.Reads.{each_word_read, value_line_at}
-use Rattle.riftcalico_core.specs.Wanted.{wanted_note}
 
 -- the path of the call of an index
 abbrev pub path_at_index : CallsPlan → ℕ → List PathStep
@@ -26,19 +24,15 @@ path_there [] i word h inside = absurd (omega (arith, inside))
 path_there (first ∷ texts) zero word h inside = ap (λ (w : CallWord). path_text_seen w.path) h
 path_there (first ∷ texts) (suc i) word h inside = path_there texts i word h (omega (arith, inside))
 
--- the words that a call's value may be
-abbrev pub wanted_at : Schemas → (brand : ℕ) → List PathStep → List ℕ
-wanted_at set brand path = wanted_note set (type_along set (root_type set brand) path)
-
 pub value_unread : (p : CallsPlan) (set : Schemas) (s : StructSchema) (line : List ℕ) (at : ℕ × ℕ) (path : List PathStep) → IsNamedStruct set p.root.name s →
     Err at ≡ each_word_read (call_read (set_of s) (root_type (set_of s) (number_of s))) 0 p.texts → path ≡ path_at_index p at.0 →
-    line ≡ value_line_at p.words at (wanted_at (set_of s) (number_of s) path) → IsValueUnread p set line
+    line ≡ value_line_at p.words at (wanted_under (set_of s) (number_of s) path) → IsValueUnread p set line
 value_unread p set s line at path named read here told = record {
   brand = number_of s;
   named = named.named;
   at = at;
   unread = sym (subst (λ (x : Schemas). Err at ≡ each_word_read (call_read x (root_type x (number_of s))) 0 p.texts) named.of_set read);
   told = told
-      ∙ ap (λ (x : List PathStep). value_line_at p.words at (wanted_at (set_of s) (number_of s) x)) here
-      ∙ ap (λ (x : Schemas). value_line_at p.words at (wanted_at x (number_of s) (path_at_index p at.0))) named.of_set;
+      ∙ ap (λ (x : List PathStep). value_line_at p.words at (wanted_under (set_of s) (number_of s) x)) here
+      ∙ ap (λ (x : Schemas). value_line_at p.words at (wanted_under x (number_of s) (path_at_index p at.0))) named.of_set;
 }

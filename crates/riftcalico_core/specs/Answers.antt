@@ -20,9 +20,10 @@ use Rattle.capnp_schema.specs.Entries.{lists_seen}
 use Rattle.capnp_schema.specs.Schema.{Schemas}
 use Rattle.capnp_schema.specs.StructHandles.{IsStruct, number_of, set_of}
 use Rattle.capnp_schema.specs.declared.schema.structs.StructSchema.{StructSchema}
-use Rattle.capnp_set_engine.specs.Convert.{HasNoSet, IsSetOf}
+use Rattle.capnp_set_engine.specs.Convert.{HasManyBytes, HasNoSet, IsSetOf}
 use Rattle.capnp_sets.specs.Message.{HasLargeMessage}
 use Rattle.capnp_structs.specs.Fields.{fields_text}
+use Rattle.capnp_structs.specs.Limits.{HasRefused, IsLong}
 use Rattle.capnp_structs.specs.Names.{structs_text}
 use Rattle.capnp_wire.specs.Tree.{Tree}
 use Rattle.riftcalico_core.specs.AllFaults.{any_told, refusals_lines}
@@ -181,6 +182,11 @@ IsStructsAnswer set limit a = IsTextWithin limit a (IsStructsText set)
 abbrev pub IsFieldsAnswer : StructSchema → (limit : ℕ) → Answer → Type 0
 IsFieldsAnswer s limit a = IsTextWithin limit a (IsFieldsText s)
 
+-- it is longer, or a value in it has no text, which may stand behind the limit
+pub record IsFieldsPast (limit : ℕ) (s : StructSchema) (kind : ErrorKind) : Type 0 where
+  pub is : kind ≡ TooLarge
+  pub why : IsLong limit [] (fields_text (set_of s) (number_of s)) ⊎ HasRefused (set_of s) (number_of s)
+
 -- the set of a compiler's request, in a message of at most so many bytes
 abbrev pub IsSetOutput : (strict : Bool) → (limit : ℕ) → (bytes : List ℕ) → (lines : List ℕ) → Output → Type 0
 IsSetOutput strict limit bytes lines (output.Bytes message) = IsSetOf strict bytes message.items lines × length message.items ≤ limit
@@ -192,10 +198,10 @@ pub record IsConvertAnswer (strict : Bool) (limit : ℕ) (bytes : List ℕ) (a :
   pub refused : a.refused ≡ false
   pub fits : HasLargeMessage (set_room limit (length bytes)) bytes → ⊥
 
--- the set of a request has no message within a limit: there is more in the request than may be, or the message is longer
+-- the set of a request has no message within a limit: there is more in the request than may be, or in what its conversion begins to make, or the message is longer
 abbrev pub IsConvertPast : (strict : Bool) → (limit : ℕ) → (bytes : List ℕ) → ErrorKind → Type 0
 IsConvertPast strict limit bytes kind =
-    (kind ≡ TooLarge) × (HasLargeMessage (set_room limit (length bytes)) bytes ⊎ ((message : List ℕ) × (lines : List ℕ) × IsSetOf strict bytes message lines × limit < length message))
+    (kind ≡ TooLarge) × (HasLargeMessage (set_room limit (length bytes)) bytes ⊎ (HasManyBytes limit strict bytes ⊎ ((message : List ℕ) × (lines : List ℕ) × IsSetOf strict bytes message lines × limit < length message)))
 
 abbrev pub IsNotConverted : (strict : Bool) → (limit : ℕ) → (bytes : List ℕ) → Error → Type 0
 IsNotConverted strict limit bytes e = HasNoSet strict bytes e ⊎ IsConvertPast strict limit bytes e.kind
@@ -226,7 +232,7 @@ IsNoMessageAnswer (job.Check j) bytes f = IsNotChecked j bytes f
 IsNoMessageAnswer (job.Patch j) bytes f = IsUnpatched j.limit bytes f.error.kind × (string_bytes f.note ≡ [])
 IsNoMessageAnswer (job.New j) bytes f = IsPastLimit j.limit f.error.kind × (string_bytes f.note ≡ [])
 IsNoMessageAnswer (job.Structs schemas limit) bytes f = IsLongText limit (IsStructsText (lists_seen schemas.now)) f.error.kind × (string_bytes f.note ≡ [])
-IsNoMessageAnswer (job.Fields s limit) bytes f = IsLongText limit (IsFieldsText s) f.error.kind × (string_bytes f.note ≡ [])
+IsNoMessageAnswer (job.Fields s limit) bytes f = IsFieldsPast limit s f.error.kind × (string_bytes f.note ≡ [])
 IsNoMessageAnswer (job.Convert strict limit) bytes f = IsNotConverted strict limit bytes f.error × (string_bytes f.note ≡ [])
 IsNoMessageAnswer (job.Compatible j) bytes f = IsUncompared j f
 IsNoMessageAnswer (job.Help v) bytes f = ⊥

@@ -1,16 +1,18 @@
 -- The calls that words stand for, under a struct of a set.
-use Rattle.std.specs.Prelude.{ℕ, ◌+◌, List, [], ◌∷◌, Option, Some, None, Ok, Err, pos}
+use Rattle.std.specs.Prelude.{ℕ, ◌+◌, List, [], ◌∷◌, Bool, Option, Some, None, Ok, Err, pos}
 use Rattle.capnp_schema.specs.Schema.{Schemas}
 use Rattle.capnp_schema.specs.Types.{BoolType, DataType, EnumType, IntType, SchemaType, TextType, UIntType}
 use Rattle.capnp_records.specs.Call as call
 use Rattle.capnp_records.specs.Call.{BoolSource, Call, DataSource, EnumSource, FieldNumber, IntSource, Op, PathStep, Source, TextSource, UIntSource, VoidSource}
 use Rattle.capnp_records.specs.Record as value
 use Rattle.capnp_records.specs.Record.{Value}
+use Rattle.capnp_json.specs.Json.{plain}
+use Rattle.capnp_queries.specs.Floats.{steps_on}
 use Rattle.capnp_words.specs.Calls as text
 use Rattle.capnp_words.specs.Calls.{CallOp, CallText}
 use Rattle.capnp_words.specs.Reads.{Read, read_as}
 use Rattle.capnp_words.specs.Targets.{type_along}
-use Rattle.capnp_words.specs.Values.{value_by_word}
+use Rattle.capnp_words.specs.Marked.{marked_value_by_word}
 
 -- what is given to a set, by the type of what is set
 abbrev pub source_taken : SchemaType → Value → Source
@@ -27,17 +29,21 @@ abbrev pub shifted_read : {A : Type 0} → ℕ → Read A → Read A
 shifted_read place (Ok x) = Ok x
 shifted_read place (Err inner) = Err (place + inner)
 
--- What a call is given: of a set the value, read under the type that its path leads to. Where that leads to no type the set is
--- refused for its path, whatever it is given. Other calls are given nothing, which is a void here.
-abbrev pub source_given : Schemas → Option SchemaType → CallOp → Read Source
-source_given set None (text.Set bytes place) = Ok VoidSource
-source_given set (Some t) (text.Set bytes place) = shifted_read place (read_as (source_taken t) (value_by_word set t bytes))
-source_given set t text.Get = Ok VoidSource
-source_given set t text.Has = Ok VoidSource
-source_given set t text.Which = Ok VoidSource
-source_given set t text.Init = Ok VoidSource
-source_given set t (text.Initn size) = Ok VoidSource
-source_given set t text.Clear = Ok VoidSource
+-- whether the numbers at the end of a path from a type are floats
+abbrev pub floats_along : Schemas → SchemaType → List PathStep → Bool
+floats_along set t path = (steps_on set path (record { type = t; form = plain })).form.floats
+
+-- What a call is given: of a set the value, read under the type that its path leads to, where its numbers are floats or not. Where
+-- that leads to no type the set is refused for its path, whatever it is given. Other calls are given nothing, which is a void here.
+abbrev pub source_given : Schemas → (floats : Bool) → Option SchemaType → CallOp → Read Source
+source_given set floats None (text.Set bytes place) = Ok VoidSource
+source_given set floats (Some t) (text.Set bytes place) = shifted_read place (read_as (source_taken t) (marked_value_by_word set floats t bytes))
+source_given set floats t text.Get = Ok VoidSource
+source_given set floats t text.Has = Ok VoidSource
+source_given set floats t text.Which = Ok VoidSource
+source_given set floats t text.Init = Ok VoidSource
+source_given set floats t (text.Initn size) = Ok VoidSource
+source_given set floats t text.Clear = Ok VoidSource
 
 abbrev pub op_given : Source → CallOp → Op
 op_given s text.Get = call.Get
@@ -72,4 +78,4 @@ call_given c s = placed_call c.path (op_given s c.op)
 
 -- a call as it is read, with the type of the root
 abbrev pub call_read : Schemas → (root : SchemaType) → CallText → Read Call
-call_read set root c = read_as (call_given c) (source_given set (type_along set root c.path) c.op)
+call_read set root c = read_as (call_given c) (source_given set (floats_along set root c.path) (type_along set root c.path) c.op)

@@ -4,6 +4,8 @@ use Rattle.std.specs.Option.{option_map}
 use Rattle.capnp_device.specs.declared.error.Error.{Error}
 use Rattle.capnp_device.specs.declared.error.ErrorKind.TheVariants.{NameNotFound, TooLarge}
 use Rattle.capnp_call.specs.Seen.{path_seen}
+use Rattle.capnp_queries.specs.Floats.{floats_at}
+use Rattle.capnp_records.specs.Call.{PathStep}
 use Rattle.capnp_records.specs.Run.{root_type}
 use Rattle.capnp_schema.specs.Accepted.{IsAccepted}
 use Rattle.capnp_schema.specs.Builtin.{builtin}
@@ -117,13 +119,17 @@ pub record IsCallsJob (p : CallsPlan) (set : Schemas) (j : CallsJob) : Type 0 wh
   pub packed : j.packed ≡ p.packed
   pub limit : j.limit ≡ p.limit
 
+-- what stands for a value at a path of a root
+abbrev pub wanted_under : Schemas → (brand : ℕ) → List PathStep → List ℕ
+wanted_under set b path = wanted_note set (floats_at set b path) (type_along set (root_type set b) path)
+
 -- the value of a call can't be read under the root's struct, and the line tells which, and what stands for one of its type
 pub record IsValueUnread (p : CallsPlan) (set : Schemas) (line : List ℕ) : Type 0 where
   pub brand : ℕ
   pub named : brand_asked set p.root.name ≡ Some brand
   pub at : ℕ × ℕ
   pub unread : each_word_read (call_read set (root_type set brand)) 0 p.texts ≡ Err at
-  pub told : line ≡ value_line_at p.words at (wanted_note set (type_along set (root_type set brand) (get_or (map (λ (c : CallText). c.path) p.texts) at.0 [])))
+  pub told : line ≡ value_line_at p.words at (wanted_under set brand (get_or (map (λ (c : CallText). c.path) p.texts) at.0 []))
 
 pub record IsCompareJob (p : ComparePlan) (set : Schemas) (j : CompareJob) : Type 0 where
   pub schemas : lists_seen j.schemas.now ≡ set

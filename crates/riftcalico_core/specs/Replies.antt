@@ -1,10 +1,15 @@
 -- What tells more of a reply: of a field that isn't there, the struct that was asked, and names that may have been meant.
-use Rattle.std.specs.Prelude.{ℕ, suc, ◌≡◌, Bool, List, [], ◌∷◌, ◌++◌, Option, Some, None, Result, Ok, Err, codes, get_or, map, slice_get}
+use Rattle.std.specs.Prelude.{ℕ, suc, ◌≡◌, Bool, true, false, List, [], ◌∷◌, ◌++◌, Option, Some, None, Result, Ok, Err, codes, get_or, map, slice_get}
 use Rattle.capnp_device.specs.declared.error.ErrorKind.{ErrorKind}
 use Rattle.capnp_device.specs.declared.error.ErrorKind.TheVariants.{FieldNotFound}
+use Rattle.capnp_call.specs.declared.calls.Plain.TheVariants as plain
 use Rattle.capnp_call.specs.declared.calls.Reply.{Reply}
 use Rattle.capnp_call.specs.declared.calls.Reply.TheVariants as reply
-use Rattle.capnp_patch.specs.Lines.{IsReplyTold}
+use Rattle.capnp_floats.specs.Layout.{IsFloatText}
+use Rattle.capnp_floats.specs.declared.width.Width.{Width}
+use Rattle.capnp_floats.specs.declared.width.Width.TheVariants.{Float32, Float64}
+use Rattle.capnp_patch.specs.Lines.{IsReplyTold, answer_line}
+use Rattle.capnp_queries.specs.Floats.{floats_behind}
 use Rattle.capnp_records.specs.Call.{Call, Clear, ElementAt, FieldNamed, FieldNumber, Get, Has, Init, Initn, Op, PathStep, Set, Which}
 use Rattle.capnp_records.specs.Run.{root_type}
 use Rattle.capnp_schema.specs.Schema.{Schemas, fields_of, node_of}
@@ -62,9 +67,26 @@ abbrev pub note_of : Schemas → (brand : ℕ) → Option Call → Reply → Lis
 note_of set b None r = []
 note_of set b (Some c) r = reply_note set b c r
 
+-- ---- numbers that are floats ----
+
+-- whether the number that a call asks for is one
+abbrev pub asks_float : Schemas → (brand : ℕ) → Option Call → Bool
+asks_float set b None = false
+asks_float set b (Some c) = floats_behind set b c.path c.last
+
+-- a float is told by its text
+abbrev pub IsFloatTold : ℕ → (word : List ℕ) → Width → (bits : ℕ) → (old new : List ℕ) → Type 0
+IsFloatTold n word w bits old new = (text : List ℕ) × IsFloatText w bits text × (new ≡ old ++ answer_line n word text)
+
+-- the line of a reply, whose number is a float or not
+abbrev pub IsMarkedTold : (floats : Bool) → ℕ → (word note : List ℕ) → Reply → (old new : List ℕ) → Type 0
+IsMarkedTold true n word note (reply.Value (plain.UInt32 bits)) old new = IsFloatTold n word Float32 bits old new
+IsMarkedTold true n word note (reply.Value (plain.UInt64 bits)) old new = IsFloatTold n word Float64 bits old new
+IsMarkedTold floats n word note r old new = IsReplyTold n word note r old new
+
 -- The lines of all these replies were told, the first of them to the call at this index. Each has its call's number, from 1 on, and its word; a call that no word
--- is given for has an empty one. Where the limit is the cause of refusals for want of memory, they are told so.
+-- is given for has an empty one. Numbers of marked fields are told as floats. Where the limit is the cause of refusals for want of memory, they are told so.
 abbrev pub AreNoted : Schemas → (brand : ℕ) → (by_limit : Bool) → ℕ → (words : List (List ℕ)) → List Call → List Reply → (old new : List ℕ) → Type 0
 AreNoted set b by_limit i words calls [] old new = new ≡ old
 AreNoted set b by_limit i words calls (r ∷ replies) old new =
-    (mid : List ℕ) × IsReplyTold (suc i) (get_or words i []) (note_of set b (slice_get calls i) r) (reply_told by_limit r) old mid × AreNoted set b by_limit (suc i) words calls replies mid new
+    (mid : List ℕ) × IsMarkedTold (asks_float set b (slice_get calls i)) (suc i) (get_or words i []) (note_of set b (slice_get calls i) r) (reply_told by_limit r) old mid × AreNoted set b by_limit (suc i) words calls replies mid new

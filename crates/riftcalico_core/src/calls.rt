@@ -14,12 +14,14 @@ ghost use Rattle.riftcalico_core.specs.Reads.{each_word_read};
 
 use crate::words::word_at;
 use capnp_call::calls::{Call, Op, Step};
+use capnp_queries::floats::has_floats_at;
 use capnp_schema::schema::StructSchema;
 use capnp_wire::error::Result;
 use capnp_words::call::{CallWord, WordOp, parse_call};
+use capnp_words::marked::parse_marked_value;
 use capnp_words::path::{Path, PathStep, Read as WordRead};
 use capnp_words::target::target_type;
-use capnp_words::value::{PlainValue, parse_value};
+use capnp_words::value::PlainValue;
 use std::alloc::Global;
 
 /// Where words can't be read: in which of them, from 0 on, and the place of its first byte that can't stand there.
@@ -60,24 +62,26 @@ pub fn read_calls(alloc: Global, words: &[&str]) -> Result<Read<Vec<CallWord>>>
     Ok(Ok(calls))
 }
 
-/// The value of a call that sets, or the place in its word where that can't be read.
+/// The value of a call that sets, where its path leads to numbers that are floats or not, or the place in its word where that
+/// can't be read.
 fn read_value_to_set<'s>(
     alloc: Global,
     schema: StructSchema<'s>,
     path: &Path,
+    floats: bool,
     value: &[u8],
     place: usize,
 ) -> Result<std::result::Result<PlainValue<'s>, u128>>
     requires { IsStruct schema }
     ensures read { IfOk result (λ r. read_as word_value_source r
-        ≡ source_given (set_of schema.entry) (type_along (set_of schema.entry)
+        ≡ source_given (set_of schema.entry) floats (type_along (set_of schema.entry)
         (root_type (set_of schema.entry) (number_of schema.entry)) (said.path_text_seen path.now)) (Set value.now place)) }
     ensures memory { IfErr result (λ e. e.kind ≡ OutOfMemory) }
 {
     let Some(target) = target_type(schema, path) else {
         return Ok(Ok(PlainValue::Void));
     };
-    match parse_value(alloc, schema.get_set(), target, value)? {
+    match parse_marked_value(alloc, schema.get_set(), target, floats, value)? {
         Ok(value) => Ok(Ok(value)),
         Err(inner) => Ok(Err(place as u128 + inner as u128)),
     }
@@ -90,16 +94,19 @@ fn read_value<'s>(
     alloc: Global,
     schema: StructSchema<'s>,
     call: &CallWord,
+    floats: bool,
 ) -> Result<std::result::Result<PlainValue<'s>, u128>>
     requires { IsStruct schema }
     ensures read { IfOk result (λ r. read_as word_value_source r
-        ≡ source_given (set_of schema.entry) (type_along (set_of schema.entry)
+        ≡ source_given (set_of schema.entry) floats (type_along (set_of schema.entry)
         (root_type (set_of schema.entry) (number_of schema.entry)) (said.path_text_seen call.now.path))
         (said.op_text_seen call.now.op)) }
     ensures memory { IfErr result (λ e. e.kind ≡ OutOfMemory) }
 {
     match &call.op {
-        WordOp::Set(value, place) => read_value_to_set(alloc, schema, &call.path, value, *place),
+        WordOp::Set(value, place) => {
+            read_value_to_set(alloc, schema, &call.path, floats, value, *place)
+        }
         WordOp::Get
         | WordOp::Has
         | WordOp::Which
@@ -145,11 +152,10 @@ fn read_call<'s, 'c>(
         (said.call_text_seen word.now)) }
     ensures memory { IfErr result (λ e. e.kind ≡ OutOfMemory) }
 {
-    match read_value(alloc, schema, word)? {
-        Ok(value) => {
-            let steps = steps_of(alloc, &word.path)?;
-            Ok(Ok(ReadCall { word, steps, value }))
-        }
+    let steps = steps_of(alloc, &word.path)?;
+    let floats = has_floats_at(schema, steps.as_slice());
+    match read_value(alloc, schema, word, floats)? {
+        Ok(value) => Ok(Ok(ReadCall { word, steps, value })),
         Err(place) => Ok(Err(place)),
     }
 }

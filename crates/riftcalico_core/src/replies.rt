@@ -1,5 +1,5 @@
-//! What is told of replies to calls: of a field that isn't there also the struct that was asked, and names that may have been
-//! meant.
+//! What is told of replies to calls: of a marked number its float, and of a field that isn't there also the struct that was asked,
+//! and names that may have been meant.
 ghost use Rattle.std.specs.Prelude.{[], ◌≡◌, IfErr, IfOk, OnOk, None, Some, get_or, map, slice_get, string_bytes};
 ghost use Rattle.std.specs.Option.{option_map};
 ghost use Rattle.capnp_call.specs.Seen.{call_seen, path_seen, step_seen};
@@ -9,15 +9,17 @@ ghost use Rattle.capnp_schema.specs.Entries.{lists_seen};
 ghost use Rattle.capnp_schema.specs.StructHandles.{IsStruct, number_of, set_of};
 ghost use Rattle.capnp_schema.specs.Types.{seen_type, seen_variant};
 ghost use Rattle.capnp_words.specs.Targets.{type_behind};
-ghost use Rattle.riftcalico_core.specs.Replies.{AreNoted, asked_note, call_along, kind_note, note_of, types_along};
+ghost use Rattle.riftcalico_core.specs.Replies.{AreNoted, IsFloatTold, IsMarkedTold, asked_note, asks_float, call_along, kind_note, note_of, types_along};
 ghost use Rattle.riftcalico_core.specs.Room.{reply_told};
-ghost use Rattle.capnp_patch.specs.Lines.{IsReplyTold};
 ghost use Rattle.riftcalico_core.specs.Steps.RepliesSeen.{along_seen};
 
 use crate::note::put_within;
 use capnp_base::introspect::{Type, TypeVariant};
-use capnp_call::calls::{Call, Op, Reply, Step};
-use capnp_patch::lines::put_line;
+use capnp_call::calls::{Call, Op, Plain, Reply, Step};
+use capnp_floats::text::float_text;
+use capnp_floats::width::Width;
+use capnp_patch::lines::{put_answer, put_line};
+use capnp_queries::floats::has_floats_behind;
 use capnp_schema::schema::StructSchema;
 use capnp_schema::set::SchemaSet;
 use capnp_wire::error::{ErrorKind, Result};
@@ -185,31 +187,83 @@ fn call_at<'b, 'a>(calls: &'b [Call<'a>], index: usize) -> Option<&'b Call<'a>>
     calls.get(index)
 }
 
-/// Appends the line of a reply to the call of a number, with its word and what tells more; a refusal for want of memory is told
-/// as one for the limit, where that is the cause. Refused with `OutOfMemory` alone.
+/// Whether the number that a call asks for, if there is one, is a float.
+fn asks_float(schema: StructSchema<'_>, call: Option<&Call<'_>>) -> bool
+    requires { IsStruct schema }
+    ensures { result ≡ asks_float (set_of schema.entry) (number_of schema.entry)
+        (option_map (λ c. call_seen c.now) call.entry) }
+{
+    match call {
+        Some(call) => has_floats_behind(schema, call.path, call.last),
+        None => false,
+    }
+}
+
+/// Appends the line of a float by its bits. Refused with `OutOfMemory` alone.
+fn put_float_line(
+    lines: &mut String,
+    number: u64,
+    word: &str,
+    width: Width,
+    bits: u64,
+) -> Result<()>
+    ensures put { OnOk result (IsFloatTold number word.now width bits (string_bytes lines.old) (string_bytes lines.new)) }
+    ensures memory { IfErr result (λ e. e.kind ≡ OutOfMemory) }
+{
+    let text = float_text(*lines.allocator(), width, bits)?;
+    put_answer(lines, number, word, text.as_str())
+}
+
+/// Appends the line of a reply, whose number is a float or not. Refused with `OutOfMemory` alone.
+fn put_marked(
+    lines: &mut String,
+    number: u64,
+    word: &str,
+    note: &str,
+    floats: bool,
+    reply: &Reply,
+) -> Result<()>
+    ensures put { OnOk result (IsMarkedTold floats number word.now note.now reply.now
+        (string_bytes lines.old) (string_bytes lines.new)) }
+    ensures memory { IfErr result (λ e. e.kind ≡ OutOfMemory) }
+{
+    match (floats, reply) {
+        (true, Reply::Value(Plain::UInt32(bits))) => {
+            put_float_line(lines, number, word, Width::Float32, *bits as u64)
+        }
+        (true, Reply::Value(Plain::UInt64(bits))) => {
+            put_float_line(lines, number, word, Width::Float64, *bits)
+        }
+        _ => put_line(lines, number, word, note, reply),
+    }
+}
+
+/// Appends the line of a reply to the call of a number, with its word and what tells more; a number as a float where it is one,
+/// and a refusal for want of memory as one for the limit, where that is the cause. Refused with `OutOfMemory` alone.
 fn put_reply(
     lines: &mut String,
     number: u64,
     word: &str,
     note: &str,
+    floats: bool,
     by_limit: bool,
     reply: &Reply,
 ) -> Result<()>
-    ensures put { OnOk result (IsReplyTold number word.now note.now (reply_told by_limit reply.now)
+    ensures put { OnOk result (IsMarkedTold floats number word.now note.now (reply_told by_limit reply.now)
         (string_bytes lines.old) (string_bytes lines.new)) }
     ensures memory { IfErr result (λ e. e.kind ≡ OutOfMemory) }
 {
     match (by_limit, reply) {
         (true, Reply::Refused(ErrorKind::OutOfMemory)) => {
             let refused = Reply::Refused(ErrorKind::TooLarge);
-            put_line(lines, number, word, note, &refused)
+            put_marked(lines, number, word, note, floats, &refused)
         }
-        _ => put_line(lines, number, word, note, reply),
+        _ => put_marked(lines, number, word, note, floats, reply),
     }
 }
 
 /// A line for each reply that answers or refuses, in order: the number of its call, from 1 on, the call's word, and the answer
-/// or the refusal's number, name and note. A call that no word is given for is told with an empty one. Where the limit is the
+/// or the refusal's number, name and note; numbers of marked fields as floats. A call that no word is given for is told with an empty one. Where the limit is the
 /// cause of refusals for want of memory, they are told so. Refused with `OutOfMemory` alone.
 pub(crate) fn get_noted_lines(
     alloc: Global,
@@ -227,12 +281,15 @@ pub(crate) fn get_noted_lines(
     let mut lines = String::new(alloc);
     for index in 0..replies.len() {
         let reply = &replies[index];
-        let note = get_reply_note(alloc, schema, call_at(calls, index), reply)?;
+        let call = call_at(calls, index);
+        let note = get_reply_note(alloc, schema, call, reply)?;
+        let floats = asks_float(schema, call);
         put_reply(
             &mut lines,
             index as u64 + 1,
             word_at(words, index),
             note.as_str(),
+            floats,
             by_limit,
             reply,
         )?;

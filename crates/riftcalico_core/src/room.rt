@@ -1,6 +1,6 @@
-//! Room within a limit of bytes, how a refusal for the want of it is told, and texts within one.
-ghost use Rattle.std.specs.Prelude.{true, ◌≡◌, ◌≢◌, ◌≤◌, ◌<◌, IfErr, IfOk, length, string_bytes};
-ghost use Rattle.capnp_device.specs.declared.error.ErrorKind.TheVariants.{OutOfMemory, TooLarge};
+//! Room within a limit of bytes, and how a refusal for the want of it is told.
+ghost use Rattle.std.specs.Prelude.{true, ◌≡◌, ◌≢◌};
+ghost use Rattle.capnp_device.specs.declared.error.ErrorKind.TheVariants.{OutOfMemory};
 ghost use Rattle.riftcalico_core.specs.Room.{IsBelowFormat, IsPastLimit};
 
 use capnp_call::message::MOST_WORDS;
@@ -47,16 +47,4 @@ pub(crate) fn tell_room(alloc: Global, limit: u64, error: Error) -> Error
         }
         _ => error,
     }
-}
-
-/// A text, where it has at most so many bytes. Refused with `TooLarge` where it is longer.
-pub(crate) fn keep_within(text: String, limit: u64) -> Result<String>
-    ensures same { IfOk result (λ kept. string_bytes kept ≡ string_bytes text) }
-    ensures within { IfOk result (λ kept. length (string_bytes kept) ≤ limit) }
-    ensures too_long { IfErr result (λ e. (e.kind ≡ TooLarge) × limit < length (string_bytes text)) }
-{
-    if text.len() as u64 > limit {
-        return Err(Error::from(ErrorKind::TooLarge));
-    }
-    Ok(text)
 }

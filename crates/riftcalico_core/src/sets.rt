@@ -5,18 +5,17 @@ ghost use Rattle.capnp_schema.specs.Entries.{lists_seen};
 ghost use Rattle.capnp_schema.specs.StructHandles.{IsStruct};
 ghost use Rattle.capnp_sets.specs.Message.{HasLargeMessage};
 ghost use Rattle.capnp_set_engine.specs.Convert.{IsSetOf};
-ghost use Rattle.riftcalico_core.specs.Answers.{IsConvertAnswer, IsFieldsAnswer, IsFieldsText, IsNotConverted, IsStructsAnswer, IsStructsText};
+ghost use Rattle.riftcalico_core.specs.Answers.{IsConvertAnswer, IsFieldsAnswer, IsFieldsPast, IsNotConverted, IsStructsAnswer, IsStructsText};
 ghost use Rattle.riftcalico_core.specs.Jobs.{set_room};
 ghost use Rattle.riftcalico_core.specs.Room.{IsLongText};
 
 use crate::answer::{Answer, Output, answer_quietly};
-use crate::room::keep_within;
 use crate::schemas::get_set_room;
 use capnp_schema::schema::StructSchema;
 use capnp_schema::set::SchemaSet;
-use capnp_set_engine::engine::{Made, convert_bytes};
-use capnp_structs::fields::get_fields;
-use capnp_structs::names::get_structs;
+use capnp_set_engine::engine::{Made, convert_bytes_within};
+use capnp_structs::fields::get_fields_within;
+use capnp_structs::names::get_structs_within;
 use capnp_wire::error::{Error, ErrorKind, Result};
 use capnp_wire::message::Reader;
 use std::alloc::Global;
@@ -27,18 +26,18 @@ pub(crate) fn answer_structs(alloc: Global, schemas: &SchemaSet, limit: u64) -> 
     ensures refused { IfErr result (λ e. e.kind ≢ OutOfMemory
         → IsLongText limit (IsStructsText (lists_seen schemas.now)) e.kind) }
 {
-    let text = keep_within(get_structs(alloc, schemas)?, limit)?;
+    let text = get_structs_within(alloc, schemas, limit)?;
     Ok(answer_quietly(alloc, Output::Text(text)))
 }
 
-/// The fields of a struct, as text. Refused with `TooLarge` where it is longer than the limit, and with `OutOfMemory`.
+/// The fields of a struct, as text. Refused as `capnp_structs::fields::get_fields_within`.
 pub(crate) fn answer_fields(alloc: Global, schema: StructSchema<'_>, limit: u64) -> Result<Answer>
     requires { IsStruct schema }
     ensures answer { IfOk result (IsFieldsAnswer schema.entry limit) }
     ensures refused { IfErr result (λ e. e.kind ≢ OutOfMemory
-        → IsLongText limit (IsFieldsText schema.entry) e.kind) }
+        → IsFieldsPast limit schema.entry e.kind) }
 {
-    let text = keep_within(get_fields(alloc, schema)?, limit)?;
+    let text = get_fields_within(alloc, schema, limit)?;
     Ok(answer_quietly(alloc, Output::Text(text)))
 }
 
@@ -58,7 +57,7 @@ fn is_large(alloc: Global, input: &[u8], room: u64) -> Result<bool>
 }
 
 /// What is written and told of a compiler's request, whose set has a message of at most so many bytes. What pointers of
-/// the request lead to is counted before it is converted. Refused as `capnp_set_engine::engine::convert_bytes`, and with
+/// the request lead to is counted before it is converted. Refused as `capnp_set_engine::engine::convert_bytes_within`, and with
 /// `TooLarge`.
 fn convert_within(alloc: Global, strict: bool, limit: u64, input: &[u8]) -> Result<Made>
     ensures fits { IfOk result (λ made. HasLargeMessage (set_room limit (length input.now)) input.now → ⊥) }
@@ -69,7 +68,7 @@ fn convert_within(alloc: Global, strict: bool, limit: u64, input: &[u8]) -> Resu
     if is_large(alloc, input, get_set_room(limit, input.len()))? {
         return Err(Error::from(ErrorKind::TooLarge));
     }
-    let made = convert_bytes(alloc, input, strict)?;
+    let made = convert_bytes_within(alloc, input, strict, limit)?;
     if made.message.len() as u64 > limit {
         return Err(Error::from(ErrorKind::TooLarge));
     }

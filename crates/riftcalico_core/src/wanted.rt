@@ -7,11 +7,14 @@ ghost use Rattle.capnp_schema.specs.Entries.{lists_seen};
 ghost use Rattle.capnp_schema.specs.Schema.{enum_at, seen_enumerant};
 ghost use Rattle.capnp_schema.specs.StructHandles.{IsStruct, number_of, set_of};
 ghost use Rattle.capnp_schema.specs.Types.{seen_type, seen_variant};
+ghost use Rattle.capnp_queries.specs.Floats.{floats_at};
 ghost use Rattle.capnp_words.specs.Seen.{path_text_seen};
 ghost use Rattle.capnp_words.specs.Targets.{type_along};
-ghost use Rattle.riftcalico_core.specs.Wanted.{names_listed, wanted_note, wanted_words};
+ghost use Rattle.riftcalico_core.specs.Wanted.{names_listed, unsigned_words, wanted_note, wanted_words};
 
+use crate::calls::steps_of;
 use capnp_base::introspect::{Type, TypeVariant};
+use capnp_queries::floats::has_floats_at;
 use capnp_schema::record::EnumerantRecord;
 use capnp_schema::schema::StructSchema;
 use capnp_schema::set::SchemaSet;
@@ -43,10 +46,32 @@ fn put_enum_names(note: &mut String, schemas: &SchemaSet, number: u32) -> Result
     put_names(note, record.enumerants.as_slice())
 }
 
-/// Appends the words for values of a type. Refused with `OutOfMemory` alone.
-fn put_wanted(note: &mut String, schemas: &SchemaSet, kind: TypeVariant) -> Result<()>
+/// Appends the words for numbers of 32 bits, which are floats or not. Refused with `OutOfMemory` alone.
+fn put_narrow(note: &mut String, floats: bool) -> Result<()>
+    ensures put { OnOk result (string_bytes note.new ≡ string_bytes note.old ++ unsigned_words floats 4) }
+    ensures memory { IfErr result (λ e. e.kind ≡ OutOfMemory) }
+{
+    if floats {
+        return Ok(note.push_str("a number, inf, -inf or nan")?);
+    }
+    Ok(note.push_str("0 to 4294967295")?)
+}
+
+/// Appends the words for numbers of 64 bits, which are floats or not. Refused with `OutOfMemory` alone.
+fn put_wide(note: &mut String, floats: bool) -> Result<()>
+    ensures put { OnOk result (string_bytes note.new ≡ string_bytes note.old ++ unsigned_words floats 8) }
+    ensures memory { IfErr result (λ e. e.kind ≡ OutOfMemory) }
+{
+    if floats {
+        return Ok(note.push_str("a number, inf, -inf or nan")?);
+    }
+    Ok(note.push_str("0 to 18446744073709551615")?)
+}
+
+/// Appends the words for values of a type, whose numbers are floats or not. Refused with `OutOfMemory` alone.
+fn put_wanted(note: &mut String, schemas: &SchemaSet, floats: bool, kind: TypeVariant) -> Result<()>
     ensures put { OnOk result (string_bytes note.new
-        ≡ string_bytes note.old ++ wanted_words (lists_seen schemas.now) (seen_variant kind)) }
+        ≡ string_bytes note.old ++ wanted_words (lists_seen schemas.now) floats (seen_variant kind)) }
     ensures memory { IfErr result (λ e. e.kind ≡ OutOfMemory) }
 {
     match kind {
@@ -58,8 +83,8 @@ fn put_wanted(note: &mut String, schemas: &SchemaSet, kind: TypeVariant) -> Resu
         TypeVariant::Int64 => { Ok(note.push_str("-9223372036854775808 to 9223372036854775807")?) }
         TypeVariant::UInt8 => Ok(note.push_str("0 to 255")?),
         TypeVariant::UInt16 => Ok(note.push_str("0 to 65535")?),
-        TypeVariant::UInt32 => Ok(note.push_str("0 to 4294967295")?),
-        TypeVariant::UInt64 => Ok(note.push_str("0 to 18446744073709551615")?),
+        TypeVariant::UInt32 => put_narrow(note, floats),
+        TypeVariant::UInt64 => put_wide(note, floats),
         TypeVariant::Enum(raw) => {
             put_enum_names(note, schemas, raw.number)?;
             Ok(note.push_str("0 to 65535")?)
@@ -74,15 +99,20 @@ fn put_wanted(note: &mut String, schemas: &SchemaSet, kind: TypeVariant) -> Resu
 
 /// The note of a type, if there is one. Refused with `OutOfMemory` alone.
 #[tactic(auto, using(capnp_schema::specs::Facts::Layers::seen_which))]
-fn get_note(alloc: Global, schemas: &SchemaSet, target: Option<Type>) -> Result<String>
+fn get_note(
+    alloc: Global,
+    schemas: &SchemaSet,
+    floats: bool,
+    target: Option<Type>,
+) -> Result<String>
     ensures note { IfOk result (λ note. string_bytes note
-        ≡ wanted_note (lists_seen schemas.now) (option_map seen_type target)) }
+        ≡ wanted_note (lists_seen schemas.now) floats (option_map seen_type target)) }
     ensures memory { IfErr result (λ e. e.kind ≡ OutOfMemory) }
 {
     let mut note = String::new(alloc);
     if let Some(target) = target {
         note.push_str("; wanted: ")?;
-        put_wanted(&mut note, schemas, target.which())?;
+        put_wanted(&mut note, schemas, floats, target.which())?;
     }
     Ok(note)
 }
@@ -91,9 +121,12 @@ fn get_note(alloc: Global, schemas: &SchemaSet, target: Option<Type>) -> Result<
 pub(crate) fn get_wanted(alloc: Global, schema: StructSchema<'_>, path: &Path) -> Result<String>
     requires { IsStruct schema }
     ensures note { IfOk result (λ note. string_bytes note ≡ wanted_note (set_of schema.entry)
+        (floats_at (set_of schema.entry) (number_of schema.entry) (path_text_seen path.now))
         (type_along (set_of schema.entry) (root_type (set_of schema.entry) (number_of schema.entry))
         (path_text_seen path.now))) }
     ensures memory { IfErr result (λ e. e.kind ≡ OutOfMemory) }
 {
-    get_note(alloc, schema.get_set(), target_type(schema, path))
+    let steps = steps_of(alloc, path)?;
+    let floats = has_floats_at(schema, steps.as_slice());
+    get_note(alloc, schema.get_set(), floats, target_type(schema, path))
 }

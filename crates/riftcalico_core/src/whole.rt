@@ -1,5 +1,5 @@
 //! All structs of two versions, compared in one direction: both sets are taken apart for that, and nothing of them is copied.
-ghost use Rattle.std.specs.Prelude.{[], ◌≡◌, ◌≢◌, ◌⊎◌, IfErr, IfOk, IfSome};
+ghost use Rattle.std.specs.Prelude.{[], ◌≡◌, ◌≢◌, ◌⊎◌, IfErr, IfOk, IfSome, is_some};
 ghost use Rattle.capnp_device.specs.declared.error.ErrorKind.TheVariants.{OutOfMemory};
 ghost use Rattle.capnp_schema.specs.Entries.{lists_seen};
 ghost use Rattle.capnp_schema.specs.Schema.{Schemas};
@@ -10,7 +10,7 @@ ghost use Rattle.riftcalico_core.specs.Jobs.{IsNoSetIn, IsSetIn};
 ghost use Rattle.riftcalico_core.specs.Plans.{compatible_plan};
 ghost use Rattle.riftcalico_core.specs.PlansSeen.{plan_seen};
 ghost use Rattle.riftcalico_core.specs.Steps.Whole.{IsUncomparedWhole, IsWholeAnswer, IsWholeReport};
-ghost use Rattle.riftcalico_core.specs.Whole.{OfItsJobs, whole_plan_seen};
+ghost use Rattle.riftcalico_core.specs.Whole.{OfItsJobs, compares_whole, whole_plan_seen};
 
 use crate::answer::Answer;
 use crate::compare::{Report, answer_report, compare_blamed};
@@ -34,7 +34,8 @@ pub struct WholePlan<'a> {
 
 /// What a plan asks, where it is to compare all structs of two versions in one direction.
 pub fn get_whole_plan<'a>(plan: &Plan<'a>) -> Option<WholePlan<'a>>
-    ensures { IfSome result (λ w. plan_seen plan.now ≡ compatible_plan (whole_plan_seen w)) }
+    ensures asked { is_some result ≡ compares_whole (plan_seen plan.now) }
+    ensures plan { IfSome result (λ w. plan_seen plan.now ≡ compatible_plan (whole_plan_seen w)) }
 {
     let Plan::Compatible(plan) = plan else {
         return None;

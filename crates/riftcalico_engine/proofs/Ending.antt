@@ -1,11 +1,9 @@
 -- How the program ends, and that it was told.
 use Rattle.std.proofs.Common.{◌≡◌, ℕ, List, Option, Some, None, Ok, Err, inl, inr, subst, sym}
-use Rattle.capnp_device.specs.declared.error.ErrorKind.TheVariants.{OutOfMemory}
-use Rattle.capnp_show_engine.specs.Command.{IsTold, refusal_line}
-use Rattle.riftcalico_core.specs.Faults.{fault_line}
+use Rattle.capnp_show_engine.specs.Command.{IsTold}
 use Rattle.riftcalico_engine.specs.Outputs.{IsFaultTold, Ran}
 use Rattle.riftcalico_engine.specs.Programs.{IsMisuseTold, IsRanTold}
-use Rattle.riftcalico_engine.specs.Steps.Told.{IsMisuseOutcome, IsFaultLine, IsSaid, IsShortOutcome, IsToldOf, Tells, told_bytes}
+use Rattle.riftcalico_engine.specs.Steps.Told.{IsMisuseOutcome, IsFaultLine, IsSaid, IsToldOf, Tells, told_bytes}
 use Rattle.riftcalico_engine.specs.declared.ended.Ended.TheVariants as ended
 use Rattle.riftcalico_engine.specs.declared.ended.Refusal.{Refusal}
 use Rattle.riftcalico_engine.specs.declared.told.Outcome.{Outcome}

@@ -1,6 +1,6 @@
 -- An output was written, or a beginning of it.
 use Rattle.std.specs.Prelude.{⊤}
-use Rattle.std.proofs.Common.{◌≡◌, ◌≢◌, ◌⊎◌, ◌<◌, ℕ, suc, List, Option, Result, Ok, Err, IfErr, OnErr, OnOk, inl, inr, length, refl, string_bytes, subst, sym, take}
+use Rattle.std.proofs.Common.{◌≡◌, ◌≢◌, ◌⊎◌, ◌<◌, ℕ, suc, List, Option, Result, Ok, Err, IfErr, OnErr, OnOk, inl, inr, refl, string_bytes, subst, sym}
 use Rattle.std.specs.Io.KnownBytes.{Appends}
 use Rattle.capnp_arena.specs.Message.{message_tree}
 use Rattle.capnp_device.specs.Device.{HasFailed}

@@ -1,6 +1,6 @@
 -- What becomes of a file that is replaced, step by step.
 use Rattle.std.specs.Prelude.{⊤}
-use Rattle.std.proofs.Common.{◌≡◌, ℕ, List, Bool, true, false, Option, Some, None, Result, Ok, Err, inl, inr, refl, subst, sym, string_bytes}
+use Rattle.std.proofs.Common.{◌≡◌, ℕ, List, true, false, Option, Some, None, Result, Ok, Err, inl, inr, refl, subst, sym, string_bytes}
 use Rattle.capnp_device.specs.declared.device.DeviceFault.{DeviceFault}
 use Rattle.capnp_device.specs.declared.error.ErrorKind.TheVariants.{OutOfMemory, WriteFailed}
 use Rattle.riftcalico_engine.specs.Files.{Opens}

@@ -1,5 +1,5 @@
 -- The stages of a run one behind another, and where they stop.
-use Rattle.std.proofs.Common.{◌≡◌, ℕ, List, Option, Ok, Err, inl, inr, refl}
+use Rattle.std.proofs.Common.{◌≡◌, ℕ, List, Option, Ok, inl, inr, refl}
 use Rattle.capnp_schema.specs.Schema.{Schemas}
 use Rattle.riftcalico_core.specs.Faults.{task_set_file}
 use Rattle.riftcalico_core.specs.Jobs.{IsJob, IsSetOfFile}

@@ -1,6 +1,5 @@
 -- Which messages are read, and what was done with them.
 use Rattle.std.proofs.Common.{◌≡◌, ◌⊎◌, ℕ, List, [], Bool, true, false, Option, None, inl, inr, refl, subst, sym}
-use Rattle.capnp_device.specs.declared.error.ErrorKind.{ErrorKind}
 use Rattle.capnp_show_engine.specs.Show.{IsRead}
 use Rattle.riftcalico_core.specs.Jobs.{is_packed, wants_input}
 use Rattle.riftcalico_core.specs.declared.fault.Blamed.TheVariants as blamed

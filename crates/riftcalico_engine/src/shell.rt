@@ -21,6 +21,7 @@ use capnp_wire::transfer::read_all;
 use riftcalico_core::answer::get_answer;
 use riftcalico_core::fault::{Blamed, get_set_file};
 use riftcalico_core::plan::get_calls_file;
+use riftcalico_core::whole::{answer_whole, get_whole_plan};
 use riftcalico_words::request::Task;
 use std::alloc::Global;
 
@@ -53,7 +54,8 @@ fn read_file<O: Opener>(
 
 /// Does a task. Files are opened and read first: that of the calls, then that of the set. Then the struct of the root is
 /// looked up and the values of calls are read, and only then the message. The answer is made whole before its first byte
-/// is written, and its lines are told behind it; of several messages one after another.
+/// is written, and its lines are told behind it; of several messages one after another. Where all structs of two sets are
+/// compared, both sets are taken apart for that, which copies nothing of them.
 pub fn run<O: Opener, R: Source, W: Sink, F: Sink>(
     alloc: Global,
     opener: &mut O,
@@ -75,19 +77,32 @@ pub fn run<O: Opener, R: Source, W: Sink, F: Sink>(
     let file = get_set_file(task);
     let bytes = read_file(alloc, opener, file, Blamed::Set)?;
     let schemas = find_schemas(alloc, &plan, file, &bytes)?;
-    match find_task_job(alloc, &schemas, &plan) {
-        Ok(job) => match get_way(task, &job) {
-            Way::Unread => put_answer(alloc, None, get_answer(alloc, &job, b""), sink, errors),
-            Way::Whole => match read_all(alloc, source) {
-                Ok(input) => put_answer(alloc, None, get_answer(alloc, &job, &input), sink, errors),
-                Err(error) => Err(refuse(alloc, None, error, Blamed::Input)),
-            },
-            Way::Each(going) => run_each(alloc, task, &job, going, source, sink, errors),
-            Way::Packed(going) => {
-                let mut unpacked = UnpackSource::new(LentSource { source });
-                run_each(alloc, task, &job, going, &mut unpacked, sink, errors)
-            }
+    let job = match find_task_job(alloc, &schemas, &plan) {
+        Ok(job) => job,
+        Err(ran) => return ran,
+    };
+    match get_way(task, &job) {
+        Way::Unread => {
+            let Some(whole) = get_whole_plan(&plan) else {
+                return put_answer(alloc, None, get_answer(alloc, &job, b""), sink, errors);
+            };
+            drop(job);
+            put_answer(
+                alloc,
+                None,
+                answer_whole(alloc, schemas, whole),
+                sink,
+                errors,
+            )
+        }
+        Way::Whole => match read_all(alloc, source) {
+            Ok(input) => put_answer(alloc, None, get_answer(alloc, &job, &input), sink, errors),
+            Err(error) => Err(refuse(alloc, None, error, Blamed::Input)),
         },
-        Err(ran) => ran,
+        Way::Each(going) => run_each(alloc, task, &job, going, source, sink, errors),
+        Way::Packed(going) => {
+            let mut unpacked = UnpackSource::new(LentSource { source });
+            run_each(alloc, task, &job, going, &mut unpacked, sink, errors)
+        }
     }
 }

@@ -1,5 +1,5 @@
 -- Where the stages of a task stop between what is read, and which messages are read.
-use Rattle.std.specs.Prelude.{ℕ, ◌≡◌, ◌⊎◌, List, Bool, true, false, cond, Option, Err}
+use Rattle.std.specs.Prelude.{ℕ, ◌≡◌, ◌⊎◌, List, Bool, true, false, Option, Err}
 use Rattle.capnp_device.specs.declared.error.ErrorKind.TheVariants.{OutOfMemory}
 use Rattle.capnp_schema.specs.Schema.{Schemas}
 use Rattle.riftcalico_core.specs.Jobs.{IsLineOfPlan, IsNoSetOf, IsRootUnnamed}

@@ -1,11 +1,11 @@
 -- A task was done, on the streams or on a file that is replaced, or none was begun; and what is told of that was.
-use Rattle.std.proofs.Common.{Err, None, Ok, Some, ap, inl, inr, map, refl, string_bytes, subst, sym, ◌∙◌}
+use Rattle.std.proofs.Common.{Err, None, Some, ap, inl, inr, map, refl, string_bytes, subst, sym, ◌∙◌}
 use Rattle.riftcalico_core.specs.Faults.{place_file}
 use Rattle.riftcalico_engine.proofs.Begun.{IsReady, joined_five, joined_three, named_of, ready_done}
 use Rattle.riftcalico_engine.proofs.Ending.{said_at}
 use Rattle.riftcalico_engine.proofs.PlaceNamed.{all_named, new_named, none_named, old_named}
 use Rattle.riftcalico_engine.proofs.PlaceRuns.{made_run, path_is, pathless_run, place_named, placed_end, removed_end, streams_named, streams_run, unmade_run, unread_run}
-use Rattle.riftcalico_engine.specs.Places.{IsPlaceEnded, IsPlaceNamed}
+use Rattle.riftcalico_engine.specs.Places.{IsPlaceNamed}
 use Rattle.riftcalico_engine.specs.Programs.{IsNamed, IsNamedAt, IsRunAt}
 use Rattle.riftcalico_engine.specs.Steps.Told.{IsSaid}
 use Rattle.riftcalico_engine.specs.declared.told.Told.TheVariants as told

@@ -1,5 +1,5 @@
 -- Each stage stops, or the next one begins; behind the last the messages were read and answered to.
-use Rattle.std.proofs.Common.{Err, None, [], ap, inl, inr, refl, sym, ◌∙◌}
+use Rattle.std.proofs.Common.{Err, None, [], ap, subst, sym, ◌∙◌}
 use Rattle.std.proofs.lemmas.Result.{err_from_is_err_and}
 use Rattle.std.specs.Option.{option_map}
 use Rattle.capnp_packed.specs.Sources.{unpack_failures}
@@ -7,9 +7,11 @@ use Rattle.capnp_packed.specs.Unpacking.{unpacked_bytes}
 use Rattle.capnp_schema.specs.Entries.{lists_seen}
 use Rattle.riftcalico_core.specs.Answers.{IsAnswer, IsNoAnswer, answer_blamed}
 use Rattle.riftcalico_core.specs.Faults.{task_set_file}
-use Rattle.riftcalico_core.specs.Plans.{calls_file}
+use Rattle.riftcalico_core.specs.Jobs.{IsJob}
+use Rattle.riftcalico_core.specs.Plans.{Plan, calls_file, compatible_plan}
 use Rattle.riftcalico_core.specs.PlansSeen.{plan_seen}
-use Rattle.riftcalico_engine.proofs.Answered.{answered_by}
+use Rattle.riftcalico_core.specs.Whole.{whole_plan_seen}
+use Rattle.riftcalico_engine.proofs.Answered.{answered_by, whole_answered, whole_blamed, whole_refused}
 use Rattle.riftcalico_engine.proofs.AskedFiles.{both_asked, first_asked}
 use Rattle.riftcalico_engine.proofs.ByKind.{by_read}
 use Rattle.riftcalico_engine.proofs.RunStages.{IsPlanned, calls_unread, job_run, jobless_run, set_unread, setless_run, under_run, unplanned_run}
@@ -68,8 +70,8 @@ pub returns-in_err-schemas-clause-opened : goal.returns-in_err-schemas-clause-op
 returns-in_err-schemas-clause-opened g c =
     both_asked g.O.Opener.opens (calls_file (task_seen c.args.task.now)) (task_set_file (task_seen c.args.task.now)) c.args.opener.now c.read_file.new.opener c.read_file-2.new.opener (rw c.get_calls_file.ensures at c.read_file.ensures.opened) (rw c.get_set_file-file.ensures at c.read_file-2.ensures.opened)
 
-pub returns-clause-ran : goal.returns-clause-ran
-returns-clause-ran g c =
+pub returns-in-Err-find_task_job-clause-ran : goal.returns-in-Err-find_task_job-clause-ran
+returns-in-Err-find_task_job-clause-ran g c =
     let t = task_seen c.args.task.now in
     let calls = c.in_ok-calls.calls.items in
     let read = rw c.get_calls_file.ensures at c.in_ok-calls.ensures.read in
@@ -83,12 +85,12 @@ returns-clause-ran g c =
     under_run g.O.Opener.opens g.O.File.Source.left g.O.File.Source.failures g.R.Source.left g.R.Source.failures g.W.Sink.written g.W.Sink.failures g.F.Sink.written g.F.Sink.failures t c.args.opener.now c.read_file.new.opener c.read_file-2.new.opener calls bytes p set c.args.source.now c.args.source.now c.args.sink.now c.args.sink.now c.args.errors.now c.args.errors.now c.in-Err-find_task_job.ran planned set_read made
     (jobless_run g.R.Source.left g.R.Source.failures g.W.Sink.written g.W.Sink.failures g.F.Sink.written g.F.Sink.failures t p set c.args.source.now c.args.sink.now c.args.errors.now c.in-Err-find_task_job.ran c.in-Err-find_task_job.ensures.stopped)
 
-pub returns-clause-opened : goal.returns-clause-opened
-returns-clause-opened g c =
+pub returns-in-Err-find_task_job-clause-opened : goal.returns-in-Err-find_task_job-clause-opened
+returns-in-Err-find_task_job-clause-opened g c =
     both_asked g.O.Opener.opens (calls_file (task_seen c.args.task.now)) (task_set_file (task_seen c.args.task.now)) c.args.opener.now c.read_file.new.opener c.read_file-2.new.opener (rw c.get_calls_file.ensures at c.read_file.ensures.opened) (rw c.get_set_file-file.ensures at c.read_file-2.ensures.opened)
 
-pub returns-in-Unread-clause-ran : goal.returns-in-Unread-clause-ran
-returns-in-Unread-clause-ran g c =
+pub returns-in_default-clause-ran : goal.returns-in_default-clause-ran
+returns-in_default-clause-ran g c =
     let t = task_seen c.args.task.now in
     let calls = c.in_ok-calls.calls.items in
     let read = rw c.get_calls_file.ensures at c.in_ok-calls.ensures.read in
@@ -107,8 +109,8 @@ returns-in-Unread-clause-ran g c =
     (unread_run g.R.Source.left g.R.Source.failures g.W.Sink.written g.W.Sink.failures g.F.Sink.written g.F.Sink.failures (task_messages t) t j c.args.source.now c.args.sink.now c.put_answer.new.sink c.args.errors.now c.put_answer.new.errors c.put_answer.result (way ∙ c.in-Unread.is)
     (answered_by g.W.Sink.written g.W.Sink.failures g.F.Sink.written g.F.Sink.failures (IsAnswer j []) (IsNoAnswer j []) (answer_blamed j) c.get_answer.result None c.args.sink.now c.put_answer.new.sink c.args.errors.now c.put_answer.new.errors c.put_answer.result c.get_answer.ensures.answer c.get_answer.ensures.refused c.get_answer.ensures.blamed c.put_answer.ensures)))
 
-pub returns-in-Unread-clause-opened : goal.returns-in-Unread-clause-opened
-returns-in-Unread-clause-opened g c =
+pub returns-in_default-clause-opened : goal.returns-in_default-clause-opened
+returns-in_default-clause-opened g c =
     both_asked g.O.Opener.opens (calls_file (task_seen c.args.task.now)) (task_set_file (task_seen c.args.task.now)) c.args.opener.now c.read_file.new.opener c.read_file-2.new.opener (rw c.get_calls_file.ensures at c.read_file.ensures.opened) (rw c.get_set_file-file.ensures at c.read_file-2.ensures.opened)
 
 pub returns-in-Ok-read_all-clause-ran : goal.returns-in-Ok-read_all-clause-ran
@@ -182,8 +184,8 @@ pub returns-in-Each-clause-opened : goal.returns-in-Each-clause-opened
 returns-in-Each-clause-opened g c =
     both_asked g.O.Opener.opens (calls_file (task_seen c.args.task.now)) (task_set_file (task_seen c.args.task.now)) c.args.opener.now c.read_file.new.opener c.read_file-2.new.opener (rw c.get_calls_file.ensures at c.read_file.ensures.opened) (rw c.get_set_file-file.ensures at c.read_file-2.ensures.opened)
 
-pub returns-in-Ok-find_task_job-clause-ran : goal.returns-in-Ok-find_task_job-clause-ran
-returns-in-Ok-find_task_job-clause-ran g c =
+pub returns-clause-ran : goal.returns-clause-ran
+returns-clause-ran g c =
     let t = task_seen c.args.task.now in
     let calls = c.in_ok-calls.calls.items in
     let read = rw c.get_calls_file.ensures at c.in_ok-calls.ensures.read in
@@ -207,6 +209,33 @@ returns-in-Ok-find_task_job-clause-ran g c =
     (job_run g.R.Source.left g.R.Source.failures g.W.Sink.written g.W.Sink.failures g.F.Sink.written g.F.Sink.failures t p set j c.args.source.now _ c.args.sink.now c.run_each-in-Packed.new.sink c.args.errors.now c.run_each-in-Packed.new.errors c.run_each-in-Packed.result is_job
     (packed_run g.R.Source.left g.R.Source.failures g.W.Sink.written g.W.Sink.failures g.F.Sink.written g.F.Sink.failures (task_messages t) t j c.in-Packed.going c.args.source.now _ c.args.sink.now c.run_each-in-Packed.new.sink c.args.errors.now c.run_each-in-Packed.new.errors c.run_each-in-Packed.result (way ∙ c.in-Packed.is) run))
 
-pub returns-in-Ok-find_task_job-clause-opened : goal.returns-in-Ok-find_task_job-clause-opened
-returns-in-Ok-find_task_job-clause-opened g c =
+pub returns-clause-opened : goal.returns-clause-opened
+returns-clause-opened g c =
+    both_asked g.O.Opener.opens (calls_file (task_seen c.args.task.now)) (task_set_file (task_seen c.args.task.now)) c.args.opener.now c.read_file.new.opener c.read_file-2.new.opener (rw c.get_calls_file.ensures at c.read_file.ensures.opened) (rw c.get_set_file-file.ensures at c.read_file-2.ensures.opened)
+
+pub returns-in-Unread-clause-ran : goal.returns-in-Unread-clause-ran
+returns-in-Unread-clause-ran g c =
+    let t = task_seen c.args.task.now in
+    let calls = c.in_ok-calls.calls.items in
+    let read = rw c.get_calls_file.ensures at c.in_ok-calls.ensures.read in
+    let p = plan_seen c.in-Ok.plan in
+    let planned : IsPlanned g.O.Opener.opens g.O.File.Source.left g.O.File.Source.failures g.R.Source.left g.R.Source.failures g.W.Sink.written g.W.Sink.failures g.F.Sink.written g.F.Sink.failures t c.args.opener.now c.read_file.new.opener calls p = record { calls_read = read; plan_is = c.in-Ok.ensures.plan } in
+    let bytes = c.in_ok-bytes.bytes.items in
+    let set_read = rw c.get_set_file-file.ensures at c.in_ok-bytes.ensures.read in
+    let set = lists_seen c.in_ok-schemas.schemas in
+    let found = rw c.deref.ensures.value at c.in_ok-schemas.ensures.set in
+    let made = rw c.get_set_file-file.ensures at found in
+    let j = c.in-Ok-find_task_job.job in
+    let is_job = c.in-Ok-find_task_job.ensures.job in
+    let way = sym c.get_way.ensures in
+    let is_whole : IsJob (compatible_plan (whole_plan_seen c.in-Some.whole)) set j = subst (λ (q : Plan). IsJob q set j) c.in-Some.ensures.plan is_job in
+    under_run g.O.Opener.opens g.O.File.Source.left g.O.File.Source.failures g.R.Source.left g.R.Source.failures g.W.Sink.written g.W.Sink.failures g.F.Sink.written g.F.Sink.failures t c.args.opener.now c.read_file.new.opener c.read_file-2.new.opener calls bytes p set c.args.source.now c.args.source.now c.args.sink.now c.put_answer-in-Unread.new.sink c.args.errors.now c.put_answer-in-Unread.new.errors c.put_answer-in-Unread.result planned set_read made
+    (job_run g.R.Source.left g.R.Source.failures g.W.Sink.written g.W.Sink.failures g.F.Sink.written g.F.Sink.failures t p set j c.args.source.now c.args.source.now c.args.sink.now c.put_answer-in-Unread.new.sink c.args.errors.now c.put_answer-in-Unread.new.errors c.put_answer-in-Unread.result is_job
+    (unread_run g.R.Source.left g.R.Source.failures g.W.Sink.written g.W.Sink.failures g.F.Sink.written g.F.Sink.failures (task_messages t) t j c.args.source.now c.args.sink.now c.put_answer-in-Unread.new.sink c.args.errors.now c.put_answer-in-Unread.new.errors c.put_answer-in-Unread.result (way ∙ c.in-Unread.is)
+    (answered_by g.W.Sink.written g.W.Sink.failures g.F.Sink.written g.F.Sink.failures (IsAnswer j []) (IsNoAnswer j []) (answer_blamed j) c.answer_whole.result None c.args.sink.now c.put_answer-in-Unread.new.sink c.args.errors.now c.put_answer-in-Unread.new.errors c.put_answer-in-Unread.result
+    (whole_answered c.in-Some.whole set j is_whole c.answer_whole.result c.answer_whole.ensures.answer) (whole_refused c.in-Some.whole set j is_whole c.answer_whole.result c.answer_whole.ensures.refused)
+    (whole_blamed c.in-Some.whole set j is_whole c.answer_whole.result c.answer_whole.ensures.blamed) c.put_answer-in-Unread.ensures)))
+
+pub returns-in-Unread-clause-opened : goal.returns-in-Unread-clause-opened
+returns-in-Unread-clause-opened g c =
     both_asked g.O.Opener.opens (calls_file (task_seen c.args.task.now)) (task_set_file (task_seen c.args.task.now)) c.args.opener.now c.read_file.new.opener c.read_file-2.new.opener (rw c.get_calls_file.ensures at c.read_file.ensures.opened) (rw c.get_set_file-file.ensures at c.read_file-2.ensures.opened)

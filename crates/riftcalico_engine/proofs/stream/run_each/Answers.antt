@@ -1,5 +1,5 @@
 -- One message after another, and each end.
-use Rattle.std.proofs.Common.{Bool, Some, true, arith, ap, inr, refl, ◌||◌, ◌∙◌}
+use Rattle.std.proofs.Common.{Some, true, arith, ap, inr, refl, ◌∙◌}
 use Rattle.riftcalico_engine.specs.declared.told.Told.TheVariants as told
 use Rattle.riftcalico_words.specs.RequestSeen.{task_seen}
 use Rattle.riftcalico_core.specs.Answers.{IsMessageAnswer, IsNoMessageAnswer, answer_blamed}
