@@ -166,10 +166,10 @@ row standins Mixed '(single = 1, double = -1.5, halves = [0.5, 2], name = "n")' 
     '(single = 1, double = -1.5, halves = [0.5, 2], name = "n")'
 row standins Mixed '()' '(single = 1069547520, double = 13821547256400052224)' '(single = 1.5, double = -0.25)'
 refused standins --strict 60
-listed standins Mixed 'single: UInt32, data bit 0, default 1069547520 $@0xf20fbfb08027d505 = ()
-double: UInt64, data bit 64, default 13821547256400052224 $@0xf20fbfb08027d505 = ()
+listed standins Mixed 'single: Float32, data bit 0, default 1.5 $@0xf20fbfb08027d505 = ()
+double: Float64, data bit 64, default -0.25 $@0xf20fbfb08027d505 = ()
 clock: AnyPointer, pointer 0
-halves: List(UInt32), pointer 1 $@0xf20fbfb08027d505 = ()
+halves: List(Float32), pointer 1 $@0xf20fbfb08027d505 = ()
 anything: AnyPointer, pointer 2
 name: Text, pointer 3, default ""'
 
@@ -177,18 +177,45 @@ name: Text, pointer 3, default ""'
 converted floats 'Trace.gain: Float64 stands as UInt64
 Trace.levels: Float32 stands as UInt32
 Trace.floats: Float32 stands as UInt32'
-listed floats Trace 'gain: UInt64, data bit 0, default 0 $@0xc8f1a3d5e7b92461 = "of a trace" $@0xf20fbfb08027d505 = ()
-levels: List(List(UInt32)), pointer 0 $@0xf20fbfb08027d505 = ()
+listed floats Trace 'gain: Float64, data bit 0, default 0 $@0xc8f1a3d5e7b92461 = "of a trace" $@0xf20fbfb08027d505 = ()
+levels: List(List(Float32)), pointer 0 $@0xf20fbfb08027d505 = ()
 floats: Cell(List(Float32)), pointer 1
 counts: Cell(List(UInt32)), pointer 2
 total: UInt64, data bit 64, default 0 $@0xc8f1a3d5e7b92461 = "no float"'
-listed floats 'Cell(List(Float32))' 'value: List(UInt32), pointer 0 $@0xf20fbfb08027d505 = ()'
+listed floats 'Cell(List(Float32))' 'value: List(Float32), pointer 0 $@0xf20fbfb08027d505 = ()'
 listed floats 'Cell(List(UInt32))' 'value: List(UInt32), pointer 0'
 row floats Trace '(gain = 1.5, levels = [[0.5], []], floats = (value = [2]), counts = (value = [2]), total = 7)' \
     '(gain = 4609434218613702656, levels = [[1056964608], []], floats = (value = [1073741824]), counts = (value = [2]), total = 7)' \
     '(gain = 1.5, levels = [[0.5], []], floats = (value = [2]), counts = (value = [2]), total = 7)'
 row floats 'Cell(List(Float32))' '(value = [-1])' '(value = [3212836864])' '(value = [-1])'
+# words set them as floats, as the tool reads them, and replies tell them so
+./riftcalico new --set "$scratch/floats.set" Trace 'set gain 1.5' 'get gain' 'initn levels 1' 'initn levels.0 3' 'set levels.0.0 -0.1' \
+    'set levels.0.1 1e39' 'set total 3' > "$scratch/out" 2> "$scratch/err"
+expect 'a float past its range' $? 2 '' "6: set levels.0.1 1e39: can't be read at 19; wanted: a number, inf, -inf or nan"
+./riftcalico new --set "$scratch/floats.set" Trace 'set gain 1.5' 'get gain' 'initn levels 1' 'initn levels.0 3' 'set levels.0.0 -0.1' \
+    'set levels.0.1 inf' 'set levels.0.2 16777217' 'get levels.0.2' 'set total 3' 'get total' > "$scratch/patched" 2> "$scratch/err"
+status=$?
+capnp decode --short examples/sets/floats.capnp Trace < "$scratch/patched" > "$scratch/out"
+expect 'floats that words set' $status 0 '(gain = 1.5, levels = [[-0.1, inf, 16777216]], total = 3)' '2: get gain = 1.5
+8: get levels.0.2 = 16777216
+10: get total = 3'
+./riftcalico json --set "$scratch/floats.set" Trace levels.0.0 < "$scratch/patched" > "$scratch/out" 2> "$scratch/err"
+expect 'a float at a path as JSON' $? 0 '-0.1' ''
 refused endless '' 66
+
+# each binding of a generic has a copy of its defaults, and a set that is too large is refused before all are made
+{
+    printf '@0xc8f1a3d5e7b92478;\nstruct Large(T) { item @0 :T; data @1 :Data = 0x"%020000d"; }\nstruct Holder {\n' 0
+    for number in 0 1 2 3 4 5 6 7 8 9; do
+        printf 'struct S%s {}\nf%s @%s :Large(S%s);\n' "$number" "$number" "$number" "$number"
+    done
+    echo '}'
+} > "$scratch/large.capnp"
+capnp compile -o- "$scratch/large.capnp" > "$scratch/request"
+./riftcalico schemas --limit 50000 < "$scratch/request" > "$scratch/out" 2> "$scratch/err"
+expect 'a generic bound ten times, past a limit' $? 1 '' 'refused: 11 TooLarge (standard input)'
+./riftcalico schemas --limit 200000 < "$scratch/request" > "$scratch/large.set" 2> "$scratch/err"
+expect 'the same within one' $? 0 '' ''
 
 # the compiler's own schema: 35 entries, under which a request is shown
 schema=$(echo /usr/include/capnp/schema.capnp)

@@ -114,7 +114,8 @@ pub mod introspect {
 pub mod json {
     pub use crate::capnp_from_json::error::{Error as ReadError, Refusal as ReadRefusal, RefusalKind};
     pub use crate::capnp_json::error::JsonError;
-    pub use crate::capnp_json::json::to_json;
+    pub use crate::capnp_json::forms::{form_of, plain, Form};
+    pub use crate::capnp_json::json::{to_json, to_json_as};
     pub use crate::capnp_json::message::message_to_json;
     pub use crate::capnp_json_messages::message::read_message as from_json;
 }
@@ -146,6 +147,7 @@ pub mod patch {
     pub use crate::capnp_patch::lines::get_lines;
     pub use crate::capnp_patch::reach::read_path;
     pub use crate::capnp_words::call::{parse_call, CallWord, WordOp};
+    pub use crate::capnp_words::marked::parse_marked_value;
     pub use crate::capnp_words::path::{parse_path, Path, PathStep};
     pub use crate::capnp_words::target::target_type;
     pub use crate::capnp_words::value::{parse_value, PlainValue};
@@ -155,11 +157,13 @@ pub mod patch {
 /// Values as text.
 pub mod printer {
     pub use crate::capnp_dynamic::printer::{print, print_within};
+    pub use crate::capnp_float_texts::printer::print_floats_within;
     pub use crate::one_call::to_string;
 }
 
 /// What stands at paths of messages: the values, their JSON, texts and lengths.
 pub mod query {
+    pub use crate::capnp_queries::floats::{get_form_at, has_floats_at, has_floats_behind};
     pub use crate::capnp_queries::json::{get_json, NoJson};
     pub use crate::capnp_queries::length::{get_length, NoLength};
     pub use crate::capnp_queries::patterns::{list_paths, Listed, NotListed, RefusedPath};

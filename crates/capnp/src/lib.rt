@@ -67,7 +67,8 @@ pub mod introspect {
 pub mod json {
     pub use capnp_from_json::error::{Error as ReadError, Refusal as ReadRefusal, RefusalKind};
     pub use capnp_json::error::JsonError;
-    pub use capnp_json::json::to_json;
+    pub use capnp_json::forms::{Form, form_of, plain};
+    pub use capnp_json::json::{to_json, to_json_as};
     pub use capnp_json::message::message_to_json;
     pub use capnp_json_messages::message::read_message as from_json;
 }
@@ -93,6 +94,7 @@ pub mod patch {
     pub use capnp_patch::lines::get_lines;
     pub use capnp_patch::reach::read_path;
     pub use capnp_words::call::{CallWord, WordOp, parse_call};
+    pub use capnp_words::marked::parse_marked_value;
     pub use capnp_words::path::{Path, PathStep, parse_path};
     pub use capnp_words::target::target_type;
     pub use capnp_words::value::{PlainValue, parse_value};
@@ -101,10 +103,12 @@ pub mod patch {
 /// Values as text.
 pub mod printer {
     pub use capnp_dynamic::printer::{print, print_within};
+    pub use capnp_float_texts::printer::print_floats_within;
 }
 
 /// What stands at paths of messages: the values, their JSON, texts and lengths.
 pub mod query {
+    pub use capnp_queries::floats::{get_form_at, has_floats_at, has_floats_behind};
     pub use capnp_queries::json::{NoJson, get_json};
     pub use capnp_queries::length::{NoLength, get_length};
     pub use capnp_queries::patterns::{Listed, NotListed, RefusedPath, list_paths};
