@@ -4,7 +4,6 @@ use Rattle.std.specs.Global.{Global}
 use Rattle.capnp_base.specs.declared.introspect.«Type».{«Type» as TypeHandle}
 use Rattle.capnp_device.specs.declared.error.ErrorKind.{ErrorKind}
 use Rattle.capnp_device.specs.declared.error.ErrorKind.TheVariants.{NodeNotFound}
-use Rattle.capnp_records.specs.Record as value
 use Rattle.capnp_records.specs.Record.{Record, Value}
 use Rattle.capnp_schema.specs.Schema.{Annotation, Enum, Enumerant, seen_annotations, seen_enum, seen_enumerant}
 use Rattle.capnp_schema.specs.declared.record.EnumRecord.{EnumRecord}

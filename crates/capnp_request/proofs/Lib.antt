@@ -4,10 +4,12 @@ pub mod BindingsCompared
 pub mod BrandsMade
 pub mod EnumsMade
 pub mod FieldsDone
+pub mod FieldsSeen
 pub mod HoldersHeld
 pub mod ListsRead
 pub mod ListsSaid
 pub mod ListsWalked
+pub mod MembersSeen
 pub mod NamesFinished
 pub mod NamesJoined
 pub mod NamesRead
@@ -15,8 +17,11 @@ pub mod NamesSplit
 pub mod NodesListed
 pub mod NodesRead
 pub mod Numbering
+pub mod NumbersSeen
 pub mod OrderMade
 pub mod PartsSeen
+pub mod PointersMet
+pub mod PointersSeen
 pub mod ProgressMade
 pub mod Refused
 pub mod RefusedKinds

@@ -1,16 +1,19 @@
 -- Worked rows of the conversion, computed.
-use Rattle.std.proofs.Common.{ℕ, ◌≡◌, List, [], ◌∷◌, Bool, true, false, codes, refl, Ok, Err, map}
+use Rattle.std.proofs.Common.{ℕ, zero, suc, ◌≡◌, List, [], ◌∷◌, Bool, true, false, codes, refl, Result, Ok, Err, map}
 use Rattle.std.specs.Str.{chars, is_utf8}
 use lib.Utf8.{encode}
-use Rattle.capnp_device.specs.declared.error.ErrorKind.TheVariants.{FloatType, NodeNotFound}
+use Rattle.capnp_device.specs.declared.error.ErrorKind.{ErrorKind}
+use Rattle.capnp_device.specs.declared.error.ErrorKind.TheVariants.{FloatType, NodeNotFound, TooManyTypes}
 use Rattle.capnp_schema.specs.Schema.{Annotation, Brand, Field, Node, Schemas, Slot, TextValue, UIntValue, VoidValue, no_types}
 use Rattle.capnp_schema.specs.Types.{SchemaType, ListType, StructType, TextType, UIntType, VoidType, AnyPointerType}
 use Rattle.capnp_request.specs.Conversion.{Float32Note, Float64Note, Note, note_at}
 use Rattle.capnp_request.specs.Names.{dotted_of, file_of}
-use Rattle.capnp_request.specs.Order.{conversion_of}
+use Rattle.capnp_request.specs.Order.{conversion_of, nothing_named}
 use Rattle.capnp_request.specs.Sizes.{lists_bytes}
 use Rattle.capnp_request.specs.Terms.{AnnotationNode, Binds, FieldKindTerm, FieldTerm, Float32, Float64, GroupTerm, Inherits, ListTerm, MoreBindings, MoreScopes, NoBindings, NoScopes, NodeKind, OtherNode, Parameter, MemberTerm, RequestTerm, Said, SchemaNode, SlotTerm, Stands, StructNode, StructTerm, EnumTerm, TypeTerm}
+use Rattle.capnp_request.specs.Types.{number_struct}
 use Rattle.capnp_request.specs.Within.{conversion_in}
+use Rattle.capnp_request.specs.Work.{Bound, MarkedType, Named, plain}
 
 -- ---- terms of rows ----
 
@@ -230,6 +233,33 @@ dangling = request (file (2 ∷ []) ∷ node 2 (codes "x.capnp:A") 1 [] 0 (struc
 enum_not_found : conversion_of dangling false ≡ Err NodeNotFound
 unfolding is_utf8 chars encode
 enum_not_found = refl
+
+-- ---- a bound on what is bound in one entry ----
+
+abbrev texts : ℕ → List MarkedType
+texts zero = []
+texts (suc count) = plain TextType ∷ texts count
+
+-- a scope of so many parameters, to each of which a text is bound
+abbrev all_texts : (id count : ℕ) → Bound
+all_texts id count = record { scope = id; distance = 0; parameters = count; types = texts count }
+
+abbrev number_in : Result (ℕ × Named) ErrorKind → Said ℕ
+number_in (Ok p) = Ok p.0
+number_in (Err kind) = Err kind
+
+as_many_as_may_be : number_in (number_struct 4 (all_texts 4 1024 ∷ []) nothing_named) ≡ Ok 0
+as_many_as_may_be = refl
+
+one_more_refused : number_in (number_struct 4 (all_texts 4 1025 ∷ []) nothing_named) ≡ Err TooManyTypes
+one_more_refused = refl
+
+-- those of all scopes count together
+two_scopes_stand : number_in (number_struct 5 (all_texts 5 512 ∷ all_texts 4 512 ∷ []) nothing_named) ≡ Ok 0
+two_scopes_stand = refl
+
+two_scopes_refused : number_in (number_struct 5 (all_texts 5 512 ∷ all_texts 4 513 ∷ []) nothing_named) ≡ Err TooManyTypes
+two_scopes_refused = refl
 
 -- ---- within so many bytes ----
 

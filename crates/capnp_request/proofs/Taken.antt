@@ -1,20 +1,14 @@
 -- Which variant a value of a type is.
 use Rattle.std.proofs.Common.{ℕ, ◌≡◌, ◌∙◌, ap, subst, sym, ◌==◌, cond}
-use Rattle.capnp_schema.specs.Accepted.{NamesEntries}
 use Rattle.capnp_request.specs.RequestSet.{request_set}
 use Rattle.capnp_schema.specs.Schema.{Schemas}
 use Rattle.capnp_schema.specs.Types.{SchemaType, VoidType, BoolType, IntType, UIntType, EnumType, TextType, DataType, StructType, ListType, AnyPointerType, struct_number}
-use Rattle.capnp_records.specs.Reading.{element_type}
 use Rattle.capnp_dynamic_readers.specs.Kinds.{Kind, AnyPointerKind, BoolKind, DataKind, EnumKind, Int16Kind, Int32Kind, Int64Kind, Int8Kind, ListKind, StructKind, TextKind, UInt16Kind, UInt32Kind, UInt64Kind, UInt8Kind, VoidKind, kind_of}
-use Rattle.capnp_dynamic_readers.specs.Seen.{list_seen}
-use Rattle.capnp_records.specs.Facts.ReadFaults.{Sound}
 use Rattle.capnp_dynamic_readers.specs.Typed.{IsOf}
-use Rattle.capnp_dynamic_readers.specs.declared.dynamic_list.Reader.{Reader as ListHandle}
 use Rattle.capnp_dynamic_readers.specs.declared.dynamic_struct.Reader.{Reader as StructHandle}
 use Rattle.capnp_dynamic_readers.specs.declared.dynamic_value.Reader.{Reader as DynamicValue}
 use Rattle.capnp_dynamic_readers.specs.declared.dynamic_value.Reader.TheVariants as dynamic
 use Rattle.capnp_request.specs.Handles.{IsRequestRecord}
-use Rattle.capnp_request.specs.Steps.Handles.{IsListOf}
 use Rattle.capnp_request.specs.Parts.{request_struct}
 
 abbrev by_bytes : ℕ → (request_struct two four eight : Kind) → Kind
@@ -59,9 +53,3 @@ pub record_under : {t : SchemaType} (v : DynamicValue) (s : StructHandle) (b : �
 record_under {t = t} v s b h e same =
     let of : IsOf request_set t (dynamic.Struct s) = subst (IsOf request_set t) (sym e) h in
     record { set = of.1; number = ap struct_number (of.2 ∙ same) }
-
--- a list under a list's type is one of its elements
-pub list_under : {t : SchemaType} (v : DynamicValue) (l : ListHandle) (u : SchemaType) → IsOf request_set t v → dynamic.List l ≡ v → t ≡ ListType u → Sound (list_seen l) → IsListOf u l
-list_under {t = t} v l u h e same sound =
-    let of : IsOf request_set t (dynamic.List l) = subst (IsOf request_set t) (sym e) h in
-    record { set = of.0; element = ap element_type (of.1 ∙ same); named = subst (NamesEntries request_set) same of.2; sound = sound }

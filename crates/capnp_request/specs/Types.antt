@@ -87,9 +87,19 @@ abbrev pub number_or_add : Option ℕ → Entry → Work ℕ
 number_or_add (Some number) e = work_of number
 number_or_add None e = add_entry e
 
--- the number of a struct node with bindings, which it gets when it is first named
+-- how many types are bound in all scopes of an entry together
+abbrev pub bound_count : List Bound → ℕ
+bound_count [] = 0
+bound_count (b ∷ bs) = length b.types + bound_count bs
+
+-- at most 1,024, as many as a display name may have bytes
+abbrev pub is_bound_count : ℕ → Bool
+is_bound_count count = nat_lt count 1025
+
+-- The number of a struct node with bindings, which it gets when it is first named. None gets one with more types.
 abbrev pub number_struct : ℕ → List Bound → Work ℕ
-number_struct id bound s = number_or_add (entry_number id bound s.entries 0) (record { node = id; bound = bound; place = Whole }) s
+number_struct id bound s =
+    where_so (is_bound_count (bound_count bound)) TooManyTypes (number_or_add (entry_number id bound s.entries 0) (record { node = id; bound = bound; place = Whole }) s)
 
 abbrev pub enum_position : List ℕ → ℕ → ℕ → Option ℕ
 enum_position [] id number = None

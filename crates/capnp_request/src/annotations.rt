@@ -1,7 +1,8 @@
 //! Annotations, as a request says them.
 ghost use Rattle.std.specs.Prelude.{◌≡◌, false, length, IfErr, IfOk};
 ghost use Rattle.capnp_request.specs.RequestSet.{request_set};
-ghost use Rattle.capnp_schema.specs.Schema.{field_at, is_member, seen_annotation};
+ghost use Rattle.capnp_schema.specs.Builtin.{zero_word};
+ghost use Rattle.capnp_schema.specs.Schema.{ListValue, field_at, is_member, seen_annotation};
 ghost use Rattle.capnp_schema.specs.Types.{seen_type};
 ghost use Rattle.capnp_dynamic_readers.specs.Seen.{record_seen};
 ghost use Rattle.capnp_request.specs.Steps.Bindings.{bounds, seen_marked};
@@ -9,7 +10,7 @@ ghost use Rattle.capnp_request.specs.Conversion.{annotation_of, annotations_of, 
 ghost use Rattle.capnp_request.specs.Steps.ConvertedSeen.{typed_annotations};
 ghost use Rattle.capnp_request.specs.Steps.Done.{IsWorkDone, between};
 ghost use Rattle.capnp_request.specs.Handles.{IsRequestRecord};
-ghost use Rattle.capnp_request.specs.Steps.Handles.{IsRequestField};
+ghost use Rattle.capnp_request.specs.Steps.Handles.{IsRequestSlot};
 ghost use Rattle.capnp_request.specs.Steps.Nodes.{AreNodes, nodes_of};
 ghost use Rattle.capnp_request.specs.Steps.Numbers.{AreNumbered};
 ghost use Rattle.capnp_request.specs.Parts.{request_read_at};
@@ -23,7 +24,9 @@ use crate::entries::{BoundScope, Entries};
 use crate::marks::MarkedType;
 use crate::notes::Seen;
 use crate::parts::{element_at, list_at, struct_at, u64_at};
-use crate::places::{ANNOTATION_BRAND, ANNOTATION_ID, ANNOTATION_VALUE, DECLARED_TYPE, brands};
+use crate::places::{
+    ANNOTATION_BRAND, ANNOTATION_ID, ANNOTATION_VALUE, DECLARED_TYPE, brands, slots,
+};
 use crate::types::{BrandPlace, bindings_of, levels_of_types, type_of};
 use crate::values::value_of;
 use capnp_base::introspect::Type;
@@ -54,6 +57,7 @@ fn annotation_type<'a>(
         reader: annotation,
         holder: brands::ANNOTATION,
         index: ANNOTATION_BRAND,
+        pointer: slots::ANNOTATION_BRAND,
     };
     // Nothing is noted of an annotation.
     let mut seen = Seen::nothing();
@@ -63,6 +67,7 @@ fn annotation_type<'a>(
         declaration,
         brands::DECLARATION,
         DECLARED_TYPE,
+        slots::DECLARED_TYPE,
         brands::TYPE,
     )?;
     let annotation_type = type_of(context, entries, scopes.as_slice(), term, &mut seen, levels)?;
@@ -86,11 +91,17 @@ fn annotation_of<'a>(
     ensures numbers { IfOk result (λ _. AreNumbered entries.new) }
     ensures kinds { IfErr result (λ e. IsRefusal context.entry.strict e.kind) }
 {
-    let id = u64_at(annotation, brands::ANNOTATION, ANNOTATION_ID);
+    let id = u64_at(
+        annotation,
+        brands::ANNOTATION,
+        ANNOTATION_ID,
+        slots::ANNOTATION_ID,
+    );
     let said = struct_at(
         annotation,
         brands::ANNOTATION,
         ANNOTATION_VALUE,
+        slots::ANNOTATION_VALUE,
         brands::VALUE,
     )?;
     let value = value_of(context.alloc, said)?;
@@ -106,11 +117,12 @@ pub(crate) fn annotations_of<'a>(
     reader: dynamic_struct::Reader<'a>,
     brand: u32,
     index: u16,
+    place: u16,
 ) -> Result<(Vec<AnnotationRecord>, Vec<Type>)>
     requires nodes { AreNodes context.nodes.now }
     requires numbers { AreNumbered entries.now }
     requires record { IsRequestRecord brand reader }
-    requires field { IsRequestField brand index (request_structs 12) }
+    requires field { IsRequestSlot brand index (request_structs 12) place (ListValue zero_word) }
     requires non_union { is_member (field_at request_set brand index).field ≡ false }
     ensures done { IsWorkDone (λ r. typed_annotations r.0.items r.1.items)
         (annotations_of (nodes_of context.entry.nodes.now) context.entry.strict (bounds inside.now)
@@ -120,7 +132,7 @@ pub(crate) fn annotations_of<'a>(
     ensures typed { IfOk result (λ r. length r.1.items ≡ length r.0.items) }
     ensures kinds { IfErr result (λ e. IsRefusal context.entry.strict e.kind) }
 {
-    let listed = list_at(reader, brand, index, brands::ANNOTATION)?;
+    let listed = list_at(reader, brand, index, place, brands::ANNOTATION)?;
     let mut records = Vec::new(context.alloc);
     let mut types = Vec::new(context.alloc);
     for at in 0..listed.len() {

@@ -326,8 +326,9 @@ fn make_all<'a>(context: Context<'_, 'a>, mut entries: Entries) -> Result<Conver
 /// Refused with `OutOfMemory`, or with a number whose cause stands in what is read: that of a part that can't be read
 /// (`BadPointer`, `WrongPointerKind`, `WrongElementSize`, `TextNotTerminated`, `TooDeep`, `CapabilityPointer`),
 /// `UnknownKind` for a discriminant that the request set lacks, `NameNotUtf8`, `NodeNotFound` for an id that no node of
-/// the kind has, `TooManyTypes` for more than 65,536 entries or a display name of more than 1,024 bytes, and where
-/// `strict` says so `FloatType` and `InterfaceType`. Where several stand there, any of them may be named.
+/// the kind has, `TooManyTypes` for more than 65,536 entries, for more than 1,024 types that are bound in one entry or a
+/// display name of more than 1,024 bytes, and where `strict` says so `FloatType` and `InterfaceType`. Where several
+/// stand there, any of them may be named.
 ///
 /// # Conditions
 ///

@@ -8,7 +8,7 @@ ghost use Rattle.capnp_request.specs.Steps.EntriesSeen.{group_entry, seen_entry}
 ghost use Rattle.capnp_request.specs.Steps.Nodes.{AreNodes, nodes_of};
 ghost use Rattle.capnp_request.specs.Steps.Numbers.{AreNumbered, numbered_entries};
 ghost use Rattle.capnp_request.specs.Refusals.{IsUnstrict};
-ghost use Rattle.capnp_request.specs.Types.{add_entry, number_enum, number_struct};
+ghost use Rattle.capnp_request.specs.Types.{add_entry, bound_count, is_bound_count, number_enum, number_struct};
 ghost use Rattle.capnp_request.specs.Work.{Seen};
 ghost use Rattle.capnp_request.specs.Steps.Work.{named_with};
 
@@ -22,6 +22,9 @@ use std::collections::HashMap;
 
 /// The most entries that a set is made of.
 pub(crate) const MOST_ENTRIES: usize = 65_536;
+
+/// The most types that are bound in one entry, as many as a display name may have bytes.
+const MOST_BOUND: usize = 1_024;
 
 /// What is bound to the type parameters of a scope.
 #[derive(PartialEq, Eq, Hash, Drop)]
@@ -83,6 +86,21 @@ pub(crate) fn enum_type(number: u32) -> Type
     Type::from(TypeVariant::Enum(RawEnumSchema { number }))
 }
 
+/// Whether at most 1,024 types are bound in scopes together.
+fn are_few(scopes: &[BoundScope]) -> bool
+    ensures { result ≡ is_bound_count (bound_count (bounds scopes.now)) }
+{
+    let mut left = MOST_BOUND;
+    for scope in scopes {
+        let count = scope.types.len();
+        if count > left {
+            return false;
+        }
+        left -= count;
+    }
+    true
+}
+
 impl Entries {
     pub(crate) fn new(alloc: Global) -> Entries
         ensures nothing { numbered_entries result ≡ record { entries = []; enums = [] } }
@@ -131,7 +149,8 @@ impl Entries {
         Ok(number as u32)
     }
 
-    /// The number of a struct node with bindings, which it gets where it has none.
+    /// The number of a struct node with bindings, which it gets where it has none. Refused with `TooManyTypes` where more
+    /// than 1,024 types are bound in it, or where there are 65,536 entries.
     pub(crate) fn number_of(&mut self, alloc: Global, bound: BoundNode) -> Result<u32>
         requires { AreNumbered self.now }
         ensures done { IfOk result (λ n. (seen : Seen)
@@ -142,6 +161,9 @@ impl Entries {
             → number_struct bound.id (bounds bound.scopes.items) (named_with (numbered_entries self.old) seen) ≡ Err e.kind) }
         ensures kinds { IfErr result (λ e. IsUnstrict e.kind) }
     {
+        if !are_few(bound.scopes.as_slice()) {
+            return Err(Error::from(ErrorKind::TooManyTypes));
+        }
         if let Some(number) = self.by_binding.get(&bound) {
             return Ok(*number);
         }

@@ -19,7 +19,7 @@ use crate::annotations::annotations_of;
 use crate::context::Context;
 use crate::entries::Entries;
 use crate::parts::{element_at, owned, text_at};
-use crate::places::{ENUMERANT_ANNOTATIONS, ENUMERANT_NAME, NODE_ANNOTATIONS, brands};
+use crate::places::{ENUMERANT_ANNOTATIONS, ENUMERANT_NAME, NODE_ANNOTATIONS, brands, slots};
 use crate::schema_nodes::enumerants;
 use capnp_base::introspect::Type;
 use capnp_dynamic_readers::{dynamic_list, dynamic_struct};
@@ -64,7 +64,12 @@ fn enumerant_of<'a>(
     ensures numbers { IfOk result (λ _. AreNumbered entries.new) }
     ensures kinds { IfErr result (λ e. IsRefusal context.entry.strict e.kind) }
 {
-    let text = text_at(enumerant, brands::ENUMERANT, ENUMERANT_NAME)?;
+    let text = text_at(
+        enumerant,
+        brands::ENUMERANT,
+        ENUMERANT_NAME,
+        slots::ENUMERANT_NAME,
+    )?;
     let name = owned(context.alloc, text)?;
     let annotated = annotations_of(
         context,
@@ -73,6 +78,7 @@ fn enumerant_of<'a>(
         enumerant,
         brands::ENUMERANT,
         ENUMERANT_ANNOTATIONS,
+        slots::ENUMERANT_ANNOTATIONS,
     )?;
     let (annotations, types) = annotated;
     Ok(ConvertedEnumerant {
@@ -155,6 +161,7 @@ pub(crate) fn enum_of<'a>(
         place.node,
         brands::NODE,
         NODE_ANNOTATIONS,
+        slots::NODE_ANNOTATIONS,
     )?;
     let (annotations, own) = annotated;
     let parts = parts_of(context.alloc, made)?;

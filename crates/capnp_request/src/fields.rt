@@ -19,10 +19,10 @@ use crate::context::Context;
 use crate::entries::{BoundScope, Entries, GroupPlace, entry_type};
 use crate::marks::{MarkedType, add_mark, plain};
 use crate::notes::Seen;
-use crate::parts::{active_member, group_at, owned, struct_at, text_at, u16_at, u32_at, u64_at};
+use crate::parts::{field_member, group_at, owned, struct_at, text_at, u16_at, u32_at, u64_at};
 use crate::places::{
     FIELD_ANNOTATIONS, FIELD_DISCRIMINANT, FIELD_GROUP, FIELD_NAME, FIELD_SLOT, GROUP_ID,
-    SLOT_DEFAULT, SLOT_OFFSET, SLOT_TYPE, brands,
+    SLOT_DEFAULT, SLOT_OFFSET, SLOT_TYPE, brands, slots,
 };
 use crate::scopes::{copied_scopes, is_untyped};
 use crate::types::{levels_of_types, type_of};
@@ -80,12 +80,24 @@ fn slot_of<'a>(
 {
     let _place = place;
     let slot = group_at(field, brands::FIELD, FIELD_SLOT, brands::SLOT);
-    let offset = u32_at(slot, brands::SLOT, SLOT_OFFSET);
-    let term = struct_at(slot, brands::SLOT, SLOT_TYPE, brands::TYPE)?;
+    let offset = u32_at(slot, brands::SLOT, SLOT_OFFSET, slots::SLOT_OFFSET);
+    let term = struct_at(
+        slot,
+        brands::SLOT,
+        SLOT_TYPE,
+        slots::SLOT_TYPE,
+        brands::TYPE,
+    )?;
     let mut seen = Seen::nothing();
     let levels = levels_of_types();
     let field_type = type_of(context, entries, inside, term, &mut seen, levels)?;
-    let value = struct_at(slot, brands::SLOT, SLOT_DEFAULT, brands::VALUE)?;
+    let value = struct_at(
+        slot,
+        brands::SLOT,
+        SLOT_DEFAULT,
+        slots::SLOT_DEFAULT,
+        brands::VALUE,
+    )?;
     let default = value_of(context.alloc, value)?;
     let is_free = is_untyped(field_type);
     let is_there = is_untyped_value(value);
@@ -117,7 +129,7 @@ fn group_of<'a>(
     ensures kinds { IfErr result (λ e. IsRefusal context.entry.strict e.kind) }
 {
     let group = group_at(field, brands::FIELD, FIELD_GROUP, brands::GROUP);
-    let id = u64_at(group, brands::GROUP, GROUP_ID);
+    let id = u64_at(group, brands::GROUP, GROUP_ID, slots::GROUP_ID);
     context.nodes.struct_node(id)?;
     let scopes = copied_scopes(context.alloc, inside)?;
     let number = entries.number_group(id, scopes, place)?;
@@ -147,7 +159,7 @@ fn kind_of<'a>(
     ensures numbers { IfOk result (λ _. AreNumbered entries.new) }
     ensures kinds { IfErr result (λ e. IsRefusal context.entry.strict e.kind) }
 {
-    let Some(member) = active_member(field) else {
+    let Some(member) = field_member(field) else {
         return Err(Error::from(ErrorKind::UnknownKind));
     };
     match member {
@@ -176,12 +188,26 @@ pub(crate) fn field_of<'a>(
     ensures typed { IfOk result (λ f. length f.annotation_types.items ≡ length f.record.annotations.items) }
     ensures kinds { IfErr result (λ e. IsRefusal context.entry.strict e.kind) }
 {
-    let text = text_at(field, brands::FIELD, FIELD_NAME)?;
+    let text = text_at(field, brands::FIELD, FIELD_NAME, slots::FIELD_NAME)?;
     let name = owned(context.alloc, text)?;
-    let discriminant_value = u16_at(field, brands::FIELD, FIELD_DISCRIMINANT);
+    let discriminant_value = u16_at(
+        field,
+        brands::FIELD,
+        FIELD_DISCRIMINANT,
+        slots::FIELD_DISCRIMINANT,
+        65535,
+    );
     let converted = kind_of(context, entries, inside, field, place)?;
     let index = FIELD_ANNOTATIONS;
-    let listed = annotations_of(context, entries, inside, field, brands::FIELD, index)?;
+    let listed = annotations_of(
+        context,
+        entries,
+        inside,
+        field,
+        brands::FIELD,
+        index,
+        slots::FIELD_ANNOTATIONS,
+    )?;
     let (mut annotations, mut annotation_types) = listed;
     let ConvertedKind {
         kind,

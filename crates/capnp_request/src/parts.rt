@@ -1,31 +1,39 @@
 //! What is read of the fields of records of a request, by brand and index.
-ghost use Rattle.std.specs.Prelude.{◌≡◌, ◌≢◌, ◌<◌, pos, IfErr, IfOk, string_bytes, Ok, Err};
+//!
+//! The place of a slot is told by who asks, and proved to be the field's. No plan is looked up.
+ghost use Rattle.std.specs.Prelude.{◌≡◌, ◌≢◌, ◌<◌, [], false, length, pos, IfErr, IfOk, string_bytes, Ok, Err};
 ghost use Rattle.capnp_device.specs.declared.error.ErrorKind.TheVariants.{OutOfMemory};
 ghost use Rattle.capnp_wire.specs.Reading.{list_length};
 ghost use Rattle.capnp_wire.specs.Standing.{list_of, tree_of};
 ghost use Rattle.capnp_base.specs.AnyPointer.{pointer_of};
 ghost use Rattle.capnp_request.specs.RequestSet.{request_set};
-ghost use Rattle.capnp_schema.specs.Schema.{field_at};
+ghost use Rattle.capnp_schema.specs.Accepted.{NamesEntries};
+ghost use Rattle.capnp_schema.specs.Builtin.{zero_word};
+ghost use Rattle.capnp_schema.specs.Schema.{BoolValue, DataValue, IntValue, ListValue, StructValue, TextValue, UIntValue, field_at};
 ghost use Rattle.capnp_schema.specs.Types.{AnyPointerType, BoolType, DataType, IntType, TextType, UIntType};
 ghost use Rattle.capnp_records.specs.Part.{which_of};
 ghost use Rattle.capnp_records.specs.Record as value;
 ghost use Rattle.capnp_dynamic_readers.specs.Handles.{list_reader_of};
-ghost use Rattle.capnp_dynamic_readers.specs.Kinds.{Int16Kind, Int32Kind, Int64Kind, Int8Kind, kind_of};
 ghost use Rattle.capnp_dynamic_readers.specs.Reads.{element_seen};
 ghost use Rattle.capnp_dynamic_readers.specs.Seen.{answered_value, list_seen, record_seen, value_seen};
 ghost use Rattle.capnp_dynamic_readers.specs.Typed.{IsOf};
 ghost use Rattle.capnp_dynamic_readers.specs.declared.dynamic_value.Reader.TheVariants as dynamic;
 ghost use Rattle.capnp_request.specs.Conversion.{converted_name};
 ghost use Rattle.capnp_request.specs.Handles.{IsRequestRecord};
-ghost use Rattle.capnp_request.specs.Steps.Handles.{IsRequestFieldActive, IsAlwaysRead, IsRequestField, IsGroupField, IsListOf};
+ghost use Rattle.capnp_request.specs.Steps.Handles.{IsRequestFieldActive, IsAlwaysRead, IsRequestField, IsRequestSlot, IsGroupField, IsListOf};
 ghost use Rattle.capnp_request.specs.Parts.{request_struct, request_read_at};
 ghost use Rattle.capnp_request.specs.Steps.Parts.{request_structs};
 ghost use Rattle.capnp_request.specs.Refusals.{IsUnstrict};
 
+use crate::entries::entry_type;
+use crate::places::{FIELD_GROUP, FIELD_SLOT};
 use capnp_base::{any_pointer, text};
 use capnp_dynamic_readers::dynamic_value::Reader as Value;
 use capnp_dynamic_readers::{dynamic_list, dynamic_struct};
+use capnp_schema::loaded::load_pair;
 use capnp_wire::error::{Error, ErrorKind, Result};
+use capnp_wire::laws::struct_is_well_formed;
+use capnp_wire::size::ElementSize;
 use std::alloc::Global;
 
 /// The index of the active member of a struct's union, none where there is no union or its number is unknown.
@@ -37,6 +45,52 @@ pub(crate) fn active_member(reader: dynamic_struct::Reader<'_>) -> Option<u16>
         Ok(None) => None,
         Err(_) => unreachable!(),
     }
+}
+
+/// The active member of a field's record: that of index 3, a slot, that of index 4, a group, or none, where its number
+/// is unknown.
+#[inline(always)]
+pub(crate) fn field_member(reader: dynamic_struct::Reader<'_>) -> Option<u16>
+    requires { IsRequestRecord 8 reader }
+    ensures { result ≡ which_of (record_seen reader.entry) }
+{
+    let sections = reader.get_sections();
+    let number = load_pair(&sections, 64);
+    if number == 0 {
+        return Some(FIELD_SLOT);
+    }
+    if number == 1 {
+        return Some(FIELD_GROUP);
+    }
+    None
+}
+
+/// The index of the active member of a type's record, none where its number is unknown.
+#[inline(always)]
+pub(crate) fn type_member(reader: dynamic_struct::Reader<'_>) -> Option<u16>
+    requires { IsRequestRecord 13 reader }
+    ensures { result ≡ which_of (record_seen reader.entry) }
+{
+    let sections = reader.get_sections();
+    let number = load_pair(&sections, 0);
+    if number < 19 {
+        return Some(number);
+    }
+    None
+}
+
+/// The index of the active member of a value's record, none where its number is unknown.
+#[inline(always)]
+pub(crate) fn value_member(reader: dynamic_struct::Reader<'_>) -> Option<u16>
+    requires { IsRequestRecord 22 reader }
+    ensures { result ≡ which_of (record_seen reader.entry) }
+{
+    let sections = reader.get_sections();
+    let number = load_pair(&sections, 0);
+    if number < 19 {
+        return Some(number);
+    }
+    None
 }
 
 /// What field `index` of a record of brand `brand` has. It has to be a non-union field or the active member.
@@ -71,185 +125,177 @@ fn sure_part<'a>(reader: dynamic_struct::Reader<'a>, brand: u32, index: u16) -> 
     value
 }
 
-/// A `u8`.
-pub(crate) fn u8_at(reader: dynamic_struct::Reader<'_>, brand: u32, index: u16) -> u8
+/// A `u8` whose default is 0, at an offset in units of its size.
+#[inline(always)]
+pub(crate) fn u8_at(reader: dynamic_struct::Reader<'_>, brand: u32, index: u16, offset: u32) -> u8
     requires record { IsRequestRecord brand reader }
-    requires field { IsRequestField brand index (UIntType 1) }
+    requires field { IsRequestSlot brand index (UIntType 1) offset (UIntValue 1 0) }
     requires active { IsRequestFieldActive brand index reader }
     ensures { value.Number (pos result) ≡ request_read_at brand index (record_seen reader.entry) }
 {
-    let value = sure_part(reader, brand, index);
-    value.downcast::<u8>()
+    let (_brand, _index) = (brand, index);
+    let sections = reader.get_sections();
+    struct_is_well_formed(&sections);
+    sections.get_data_field_mask::<u8>(offset, 0)
 }
 
-/// A `u16`.
-pub(crate) fn u16_at(reader: dynamic_struct::Reader<'_>, brand: u32, index: u16) -> u16
+/// A `u16`, with its default.
+#[inline(always)]
+pub(crate) fn u16_at(
+    reader: dynamic_struct::Reader<'_>,
+    brand: u32,
+    index: u16,
+    offset: u32,
+    default: u16,
+) -> u16
     requires record { IsRequestRecord brand reader }
-    requires field { IsRequestField brand index (UIntType 2) }
+    requires field { IsRequestSlot brand index (UIntType 2) offset (UIntValue 2 default) }
     requires active { IsRequestFieldActive brand index reader }
     ensures { value.Number (pos result) ≡ request_read_at brand index (record_seen reader.entry) }
 {
-    let value = sure_part(reader, brand, index);
-    value.downcast::<u16>()
+    let (_brand, _index) = (brand, index);
+    let sections = reader.get_sections();
+    struct_is_well_formed(&sections);
+    sections.get_data_field_mask::<u16>(offset, default)
 }
 
-/// A `u32`.
-pub(crate) fn u32_at(reader: dynamic_struct::Reader<'_>, brand: u32, index: u16) -> u32
+/// A `u32` whose default is 0.
+#[inline(always)]
+pub(crate) fn u32_at(reader: dynamic_struct::Reader<'_>, brand: u32, index: u16, offset: u32) -> u32
     requires record { IsRequestRecord brand reader }
-    requires field { IsRequestField brand index (UIntType 4) }
+    requires field { IsRequestSlot brand index (UIntType 4) offset (UIntValue 4 0) }
     requires active { IsRequestFieldActive brand index reader }
     ensures { value.Number (pos result) ≡ request_read_at brand index (record_seen reader.entry) }
 {
-    let value = sure_part(reader, brand, index);
-    value.downcast::<u32>()
+    let (_brand, _index) = (brand, index);
+    let sections = reader.get_sections();
+    struct_is_well_formed(&sections);
+    sections.get_data_field_mask::<u32>(offset, 0)
 }
 
-/// A `u64`.
-pub(crate) fn u64_at(reader: dynamic_struct::Reader<'_>, brand: u32, index: u16) -> u64
+/// A `u64` whose default is 0.
+#[inline(always)]
+pub(crate) fn u64_at(reader: dynamic_struct::Reader<'_>, brand: u32, index: u16, offset: u32) -> u64
     requires record { IsRequestRecord brand reader }
-    requires field { IsRequestField brand index (UIntType 8) }
+    requires field { IsRequestSlot brand index (UIntType 8) offset (UIntValue 8 0) }
     requires active { IsRequestFieldActive brand index reader }
     ensures { value.Number (pos result) ≡ request_read_at brand index (record_seen reader.entry) }
 {
-    let value = sure_part(reader, brand, index);
-    value.downcast::<u64>()
+    let (_brand, _index) = (brand, index);
+    let sections = reader.get_sections();
+    struct_is_well_formed(&sections);
+    sections.get_data_field_mask::<u64>(offset, 0)
 }
 
-/// The number of a value that is an `i8`.
-fn int8_of(value: Value<'_>) -> i8
-    requires { kind_of value ≡ Int8Kind }
-    ensures { dynamic.Int8 result ≡ value.entry }
-{
-    let Value::Int8(x) = value else {
-        unreachable!()
-    };
-    x
-}
-
-/// An `i8`.
-pub(crate) fn i8_at(reader: dynamic_struct::Reader<'_>, brand: u32, index: u16) -> i8
+/// An `i8` whose default is 0.
+#[inline(always)]
+pub(crate) fn i8_at(reader: dynamic_struct::Reader<'_>, brand: u32, index: u16, offset: u32) -> i8
     requires record { IsRequestRecord brand reader }
-    requires field { IsRequestField brand index (IntType 1) }
+    requires field { IsRequestSlot brand index (IntType 1) offset (IntValue 1 (pos 0)) }
     requires active { IsRequestFieldActive brand index reader }
     ensures { value.Number result ≡ request_read_at brand index (record_seen reader.entry) }
 {
-    let value = sure_part(reader, brand, index);
-    int8_of(value)
+    let (_brand, _index) = (brand, index);
+    let sections = reader.get_sections();
+    struct_is_well_formed(&sections);
+    sections.get_data_field_mask::<u8>(offset, 0).cast_signed()
 }
 
-/// The number of a value that is an `i16`.
-fn int16_of(value: Value<'_>) -> i16
-    requires { kind_of value ≡ Int16Kind }
-    ensures { dynamic.Int16 result ≡ value.entry }
-{
-    let Value::Int16(x) = value else {
-        unreachable!()
-    };
-    x
-}
-
-/// An `i16`.
-pub(crate) fn i16_at(reader: dynamic_struct::Reader<'_>, brand: u32, index: u16) -> i16
+/// An `i16` whose default is 0.
+#[inline(always)]
+pub(crate) fn i16_at(reader: dynamic_struct::Reader<'_>, brand: u32, index: u16, offset: u32) -> i16
     requires record { IsRequestRecord brand reader }
-    requires field { IsRequestField brand index (IntType 2) }
+    requires field { IsRequestSlot brand index (IntType 2) offset (IntValue 2 (pos 0)) }
     requires active { IsRequestFieldActive brand index reader }
     ensures { value.Number result ≡ request_read_at brand index (record_seen reader.entry) }
 {
-    let value = sure_part(reader, brand, index);
-    int16_of(value)
+    let (_brand, _index) = (brand, index);
+    let sections = reader.get_sections();
+    struct_is_well_formed(&sections);
+    sections.get_data_field_mask::<u16>(offset, 0).cast_signed()
 }
 
-/// The number of a value that is an `i32`.
-fn int32_of(value: Value<'_>) -> i32
-    requires { kind_of value ≡ Int32Kind }
-    ensures { dynamic.Int32 result ≡ value.entry }
-{
-    let Value::Int32(x) = value else {
-        unreachable!()
-    };
-    x
-}
-
-/// An `i32`.
-pub(crate) fn i32_at(reader: dynamic_struct::Reader<'_>, brand: u32, index: u16) -> i32
+/// An `i32` whose default is 0.
+#[inline(always)]
+pub(crate) fn i32_at(reader: dynamic_struct::Reader<'_>, brand: u32, index: u16, offset: u32) -> i32
     requires record { IsRequestRecord brand reader }
-    requires field { IsRequestField brand index (IntType 4) }
+    requires field { IsRequestSlot brand index (IntType 4) offset (IntValue 4 (pos 0)) }
     requires active { IsRequestFieldActive brand index reader }
     ensures { value.Number result ≡ request_read_at brand index (record_seen reader.entry) }
 {
-    let value = sure_part(reader, brand, index);
-    int32_of(value)
+    let (_brand, _index) = (brand, index);
+    let sections = reader.get_sections();
+    struct_is_well_formed(&sections);
+    sections.get_data_field_mask::<u32>(offset, 0).cast_signed()
 }
 
-/// The number of a value that is an `i64`.
-fn int64_of(value: Value<'_>) -> i64
-    requires { kind_of value ≡ Int64Kind }
-    ensures { dynamic.Int64 result ≡ value.entry }
-{
-    let Value::Int64(x) = value else {
-        unreachable!()
-    };
-    x
-}
-
-/// An `i64`.
-pub(crate) fn i64_at(reader: dynamic_struct::Reader<'_>, brand: u32, index: u16) -> i64
+/// An `i64` whose default is 0.
+#[inline(always)]
+pub(crate) fn i64_at(reader: dynamic_struct::Reader<'_>, brand: u32, index: u16, offset: u32) -> i64
     requires record { IsRequestRecord brand reader }
-    requires field { IsRequestField brand index (IntType 8) }
+    requires field { IsRequestSlot brand index (IntType 8) offset (IntValue 8 (pos 0)) }
     requires active { IsRequestFieldActive brand index reader }
     ensures { value.Number result ≡ request_read_at brand index (record_seen reader.entry) }
 {
-    let value = sure_part(reader, brand, index);
-    int64_of(value)
+    let (_brand, _index) = (brand, index);
+    let sections = reader.get_sections();
+    struct_is_well_formed(&sections);
+    sections.get_data_field_mask::<u64>(offset, 0).cast_signed()
 }
 
-/// A truth value.
-pub(crate) fn bool_at(reader: dynamic_struct::Reader<'_>, brand: u32, index: u16) -> bool
+/// A truth value whose default is false.
+#[inline(always)]
+pub(crate) fn bool_at(
+    reader: dynamic_struct::Reader<'_>,
+    brand: u32,
+    index: u16,
+    offset: u32,
+) -> bool
     requires record { IsRequestRecord brand reader }
-    requires field { IsRequestField brand index BoolType }
+    requires field { IsRequestSlot brand index BoolType offset (BoolValue false) }
     requires active { IsRequestFieldActive brand index reader }
     ensures { value.Truth result ≡ request_read_at brand index (record_seen reader.entry) }
 {
-    let value = sure_part(reader, brand, index);
-    value.downcast::<bool>()
+    let (_brand, _index) = (brand, index);
+    reader.get_sections().get_bool_field(offset)
 }
 
 /// The bytes of a text.
+#[inline(always)]
 pub(crate) fn text_at<'a>(
     reader: dynamic_struct::Reader<'a>,
     brand: u32,
     index: u16,
+    place: u16,
 ) -> Result<&'a [u8]>
     requires record { IsRequestRecord brand reader }
-    requires field { IsRequestField brand index TextType }
+    requires field { IsRequestSlot brand index TextType place (TextValue []) }
     requires active { IsRequestFieldActive brand index reader }
     ensures read { IfOk result (λ x. value.Text x.now ≡ request_read_at brand index (record_seen reader.entry)) }
     ensures refused { IfErr result (λ e. value.Fault e.kind ≡ request_read_at brand index (record_seen reader.entry)) }
     ensures kinds { IfErr result (λ e. IsUnstrict e.kind) }
 {
-    match part(reader, brand, index) {
-        Ok(value) => Ok(value.downcast::<text::Reader<'a>>().0),
-        Err(error) => Err(error),
-    }
+    let (_brand, _index) = (brand, index);
+    reader.get_sections().get_pointer_field(place).get_text()
 }
 
 /// The bytes of a data.
+#[inline(always)]
 pub(crate) fn data_at<'a>(
     reader: dynamic_struct::Reader<'a>,
     brand: u32,
     index: u16,
+    place: u16,
 ) -> Result<&'a [u8]>
     requires record { IsRequestRecord brand reader }
-    requires field { IsRequestField brand index DataType }
+    requires field { IsRequestSlot brand index DataType place (DataValue []) }
     requires active { IsRequestFieldActive brand index reader }
     ensures read { IfOk result (λ x. value.«Data» x.now ≡ request_read_at brand index (record_seen reader.entry)) }
     ensures refused { IfErr result (λ e. value.Fault e.kind ≡ request_read_at brand index (record_seen reader.entry)) }
     ensures kinds { IfErr result (λ e. IsUnstrict e.kind) }
 {
-    match part(reader, brand, index) {
-        Ok(value) => Ok(value.downcast::<&'a [u8]>()),
-        Err(error) => Err(error),
-    }
+    let (_brand, _index) = (brand, index);
+    reader.get_sections().get_pointer_field(place).get_data()
 }
 
 /// An untyped pointer.
@@ -282,28 +328,32 @@ pub(crate) fn owned(alloc: Global, bytes: &[u8]) -> Result<String>
 }
 
 /// The struct of a brand.
+#[inline(always)]
 pub(crate) fn struct_at<'a>(
     reader: dynamic_struct::Reader<'a>,
     brand: u32,
     index: u16,
+    place: u16,
     inner: u32,
 ) -> Result<dynamic_struct::Reader<'a>>
     requires record { IsRequestRecord brand reader }
-    requires field { IsRequestField brand index (request_struct inner) }
+    requires field { IsRequestSlot brand index (request_struct inner) place (StructValue zero_word) }
     requires active { IsRequestFieldActive brand index reader }
     ensures read { IfOk result (λ s. value.Struct (record_seen s) ≡ request_read_at brand index (record_seen reader.entry)) }
     ensures record { IfOk result (IsRequestRecord inner) }
     ensures refused { IfErr result (λ e. value.Fault e.kind ≡ request_read_at brand index (record_seen reader.entry)) }
     ensures kinds { IfErr result (λ e. IsUnstrict e.kind) }
 {
-    let _inner = inner;
-    match part(reader, brand, index) {
-        Ok(value) => Ok(value.downcast::<dynamic_struct::Reader<'a>>()),
+    let (_brand, _index) = (brand, index);
+    let schema = reader.get_schema().get_set().struct_schema(inner);
+    match reader.get_sections().get_pointer_field(place).get_struct() {
+        Ok(sections) => Ok(dynamic_struct::Reader::new(sections, schema)),
         Err(error) => Err(error),
     }
 }
 
 /// The group of a brand: the same struct, of which nothing is entered.
+#[inline(always)]
 pub(crate) fn group_at<'a>(
     reader: dynamic_struct::Reader<'a>,
     brand: u32,
@@ -313,33 +363,43 @@ pub(crate) fn group_at<'a>(
     requires record { IsRequestRecord brand reader }
     requires field { IsRequestField brand index (request_struct inner) }
     requires group { IsGroupField brand index }
+    requires brand { brand < length request_set.brands }
     requires active { IsRequestFieldActive brand index reader }
     ensures read { value.Struct (record_seen result) ≡ request_read_at brand index (record_seen reader.entry) }
     ensures record { IsRequestRecord inner result }
 {
-    let _inner = inner;
-    let value = sure_part(reader, brand, index);
-    value.downcast::<dynamic_struct::Reader<'a>>()
+    let (_brand, _index) = (brand, index);
+    let schema = reader.get_schema().get_set().struct_schema(inner);
+    dynamic_struct::Reader::new(reader.get_sections(), schema)
 }
 
 /// The list of structs of a brand that a field has.
+#[inline(always)]
 pub(crate) fn list_at<'a>(
     reader: dynamic_struct::Reader<'a>,
     brand: u32,
     index: u16,
+    place: u16,
     inner: u32,
 ) -> Result<dynamic_list::Reader<'a>>
     requires record { IsRequestRecord brand reader }
-    requires field { IsRequestField brand index (request_structs inner) }
+    requires field { IsRequestSlot brand index (request_structs inner) place (ListValue zero_word) }
+    requires named { NamesEntries request_set (request_struct inner) }
     requires active { IsRequestFieldActive brand index reader }
     ensures read { IfOk result (λ l. list_seen l ≡ request_read_at brand index (record_seen reader.entry)) }
     ensures elements { IfOk result (IsListOf (request_struct inner)) }
     ensures refused { IfErr result (λ e. value.Fault e.kind ≡ request_read_at brand index (record_seen reader.entry)) }
     ensures kinds { IfErr result (λ e. IsUnstrict e.kind) }
 {
-    let _inner = inner;
-    match part(reader, brand, index) {
-        Ok(value) => Ok(value.downcast::<dynamic_list::Reader<'a>>()),
+    let (_brand, _index) = (brand, index);
+    let schemas = reader.get_schema().get_set();
+    let element = entry_type(inner);
+    match reader
+        .get_sections()
+        .get_pointer_field(place)
+        .get_list(ElementSize::InlineComposite)
+    {
+        Ok(list) => Ok(dynamic_list::Reader::new(list, element, schemas)),
         Err(error) => Err(error),
     }
 }

@@ -150,3 +150,82 @@ pub(crate) const BINDING_UNBOUND: u16 = 0;
 pub(crate) const BINDING_TYPE: u16 = 1;
 
 pub(crate) const VALUE_UNTYPED: u16 = 18;
+
+/// Where the slots among these are: a number in units of its size, a truth value in bits, any other among the pointers.
+pub(crate) mod slots {
+    pub(crate) const REQUEST_NODES: u16 = 0;
+
+    pub(crate) const REQUEST_FILES: u16 = 1;
+
+    pub(crate) const LISTED_ID: u32 = 0;
+
+    pub(crate) const NODE_ID: u32 = 0;
+
+    pub(crate) const NODE_DISPLAY_NAME: u16 = 0;
+
+    pub(crate) const NODE_SCOPE_ID: u32 = 2;
+
+    pub(crate) const NODE_NESTED_NODES: u16 = 1;
+
+    pub(crate) const NODE_ANNOTATIONS: u16 = 2;
+
+    pub(crate) const NODE_PARAMETERS: u16 = 5;
+
+    pub(crate) const STRUCT_DATA_WORDS: u32 = 7;
+
+    pub(crate) const STRUCT_POINTERS: u32 = 12;
+
+    pub(crate) const STRUCT_IS_GROUP: u32 = 224;
+
+    pub(crate) const STRUCT_DISCRIMINANTS: u32 = 15;
+
+    pub(crate) const STRUCT_DISCRIMINANT_OFFSET: u32 = 8;
+
+    pub(crate) const STRUCT_FIELDS: u16 = 3;
+
+    pub(crate) const ENUM_ENUMERANTS: u16 = 3;
+
+    pub(crate) const DECLARED_TYPE: u16 = 3;
+
+    pub(crate) const FIELD_NAME: u16 = 0;
+
+    pub(crate) const FIELD_ANNOTATIONS: u16 = 1;
+
+    pub(crate) const FIELD_DISCRIMINANT: u32 = 1;
+
+    pub(crate) const SLOT_OFFSET: u32 = 1;
+
+    pub(crate) const SLOT_TYPE: u16 = 2;
+
+    pub(crate) const SLOT_DEFAULT: u16 = 3;
+
+    pub(crate) const GROUP_ID: u32 = 2;
+
+    pub(crate) const ENUMERANT_NAME: u16 = 0;
+
+    pub(crate) const ENUMERANT_ANNOTATIONS: u16 = 1;
+
+    pub(crate) const ANNOTATION_ID: u32 = 0;
+
+    pub(crate) const ANNOTATION_VALUE: u16 = 0;
+
+    pub(crate) const ANNOTATION_BRAND: u16 = 1;
+
+    pub(crate) const LIST_ELEMENT: u16 = 0;
+
+    pub(crate) const NAMED_ID: u32 = 1;
+
+    pub(crate) const STRUCT_BRAND: u16 = 0;
+
+    pub(crate) const PARAMETER_SCOPE: u32 = 2;
+
+    pub(crate) const PARAMETER_INDEX: u32 = 5;
+
+    pub(crate) const BRAND_SCOPES: u16 = 0;
+
+    pub(crate) const SCOPE_ID: u32 = 0;
+
+    pub(crate) const SCOPE_BIND: u16 = 0;
+
+    pub(crate) const BINDING_TYPE: u16 = 0;
+}

@@ -2,12 +2,14 @@
 ghost use Rattle.std.specs.Prelude.{ℕ, List, [], ◌∷◌, ◌≡◌, ◌++◌, false, slice_get, IfErr, IfOk, OnOk};
 ghost use Rattle.capnp_device.specs.declared.error.ErrorKind.TheVariants.{OutOfMemory};
 ghost use Rattle.capnp_request.specs.RequestSet.{request_set};
-ghost use Rattle.capnp_schema.specs.Schema.{field_at, is_member};
+ghost use Rattle.capnp_schema.specs.Accepted.{NamesEntries};
+ghost use Rattle.capnp_schema.specs.Builtin.{zero_word};
+ghost use Rattle.capnp_schema.specs.Schema.{ListValue, UIntValue, field_at, is_member};
 ghost use Rattle.capnp_schema.specs.Types.{UIntType};
 ghost use Rattle.capnp_dynamic_readers.specs.Seen.{record_seen};
 ghost use Rattle.capnp_request.specs.Steps.Done.{IsWorkDone, IsSaid, between};
 ghost use Rattle.capnp_request.specs.Handles.{IsRequestRecord};
-ghost use Rattle.capnp_request.specs.Steps.Handles.{IsRequestField, IsListOf, values_left};
+ghost use Rattle.capnp_request.specs.Steps.Handles.{IsListOf, IsRequestSlot, values_left};
 ghost use Rattle.capnp_request.specs.Steps.Met.{AreMet};
 ghost use Rattle.capnp_request.specs.Steps.Nodes.{AreNodes, nodes_of};
 ghost use Rattle.capnp_request.specs.Steps.Numbers.{AreNumbered};
@@ -21,7 +23,7 @@ ghost use Rattle.capnp_request.specs.Types.{is_root};
 use crate::context::Context;
 use crate::entries::{BoundNode, Entries};
 use crate::parts::{element_at, list_at, u64_at};
-use crate::places::{LISTED_ID, NODE_NESTED_NODES, REQUEST_FILES, brands};
+use crate::places::{LISTED_ID, NODE_NESTED_NODES, REQUEST_FILES, brands, slots};
 use crate::schema_nodes::{SchemaNodes, is_struct_not_group};
 use crate::scopes::unbound;
 use capnp_dynamic_readers::dynamic_struct;
@@ -35,22 +37,24 @@ fn listed_ids(
     reader: dynamic_struct::Reader<'_>,
     brand: u32,
     index: u16,
+    place: u16,
     inner: u32,
 ) -> Result<Vec<u64>>
     requires record { IsRequestRecord brand reader }
-    requires field { IsRequestField brand index (request_structs inner) }
+    requires field { IsRequestSlot brand index (request_structs inner) place (ListValue zero_word) }
+    requires named { NamesEntries request_set (request_struct inner) }
     requires non_union { is_member (field_at request_set brand index).field ≡ false }
-    requires id { IsRequestField inner 0 (UIntType 8) }
+    requires id { IsRequestSlot inner 0 (UIntType 8) 0 (UIntValue 8 0) }
     requires id_non_union { is_member (field_at request_set inner 0).field ≡ false }
     ensures said { IsSaid (λ ids. ids.items)
         (whole_list inner (id_said inner) (request_read_at brand index (record_seen reader.entry))) result }
     ensures kinds { IfErr result (λ e. IsUnstrict e.kind) }
 {
-    let listed = list_at(reader, brand, index, inner)?;
+    let listed = list_at(reader, brand, index, place, inner)?;
     let mut ids = Vec::new(alloc);
     for at in 0..listed.len() {
         let element = element_at(listed, at, inner)?;
-        ids.push(u64_at(element, inner, LISTED_ID))?;
+        ids.push(u64_at(element, inner, LISTED_ID, slots::LISTED_ID))?;
     }
     Ok(ids)
 }
@@ -152,6 +156,7 @@ pub(crate) fn number_roots<'a>(
         request,
         brands::REQUEST,
         REQUEST_FILES,
+        slots::REQUEST_FILES,
         brands::FILE,
     )?;
     let listed = files.as_slice();
@@ -167,6 +172,7 @@ pub(crate) fn number_roots<'a>(
             node,
             brands::NODE,
             NODE_NESTED_NODES,
+            slots::NODE_NESTED_NODES,
             brands::NESTED,
         )?;
         number_root(context, entries, id, node)?;

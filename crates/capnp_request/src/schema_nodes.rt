@@ -20,7 +20,7 @@ ghost use Rattle.capnp_request.specs.Steps.Types.{is_annotation};
 use crate::parts::{active_member, bool_at, element_at, group_at, list_at, text_at, u64_at};
 use crate::places::{
     ENUM_ENUMERANTS, NODE_ANNOTATION, NODE_DISPLAY_NAME, NODE_ENUM, NODE_ID, NODE_PARAMETERS,
-    NODE_SCOPE_ID, NODE_STRUCT, REQUEST_NODES, STRUCT_IS_GROUP, brands,
+    NODE_SCOPE_ID, NODE_STRUCT, REQUEST_NODES, STRUCT_IS_GROUP, brands, slots,
 };
 use capnp_dynamic_readers::{dynamic_list, dynamic_struct};
 use capnp_schema::set::SchemaSet;
@@ -103,11 +103,17 @@ impl<'a> SchemaNodes<'a> {
         ensures refused { IfErr result (λ e. e.kind ≢ OutOfMemory → nodes_in (record_seen request.entry) ≡ Err e.kind) }
         ensures kinds { IfErr result (λ e. IsUnstrict e.kind) }
     {
-        let listed = list_at(request, brands::REQUEST, REQUEST_NODES, brands::NODE)?;
+        let listed = list_at(
+            request,
+            brands::REQUEST,
+            REQUEST_NODES,
+            slots::REQUEST_NODES,
+            brands::NODE,
+        )?;
         let mut by_id = HashMap::new(alloc);
         for index in 0..listed.len() {
             let reader = element_at(listed, index, brands::NODE)?;
-            let id = u64_at(reader, brands::NODE, NODE_ID);
+            let id = u64_at(reader, brands::NODE, NODE_ID, slots::NODE_ID);
             keep_first(&mut by_id, id, reader.get_sections())?;
         }
         let schemas = request.get_schema().get_set();
@@ -234,9 +240,15 @@ impl<'a> SchemaNodes<'a> {
             if !is_new {
                 return Ok(scopes);
             }
-            let listed = list_at(node, brands::NODE, NODE_PARAMETERS, brands::PARAMETER)?;
+            let listed = list_at(
+                node,
+                brands::NODE,
+                NODE_PARAMETERS,
+                slots::NODE_PARAMETERS,
+                brands::PARAMETER,
+            )?;
             add_scope(&mut scopes, id, distance, listed.len())?;
-            id = u64_at(node, brands::NODE, NODE_SCOPE_ID);
+            id = u64_at(node, brands::NODE, NODE_SCOPE_ID, slots::NODE_SCOPE_ID);
         }
         Ok(scopes)
     }
@@ -312,7 +324,13 @@ pub(crate) fn enumerants<'a>(node: dynamic_struct::Reader<'a>) -> Result<dynamic
         return Err(not_found());
     }
     let part = group_at(node, brands::NODE, NODE_ENUM, brands::ENUM);
-    let listed = list_at(part, brands::ENUM, ENUM_ENUMERANTS, brands::ENUMERANT)?;
+    let listed = list_at(
+        part,
+        brands::ENUM,
+        ENUM_ENUMERANTS,
+        slots::ENUM_ENUMERANTS,
+        brands::ENUMERANT,
+    )?;
     Ok(listed)
 }
 
@@ -322,7 +340,12 @@ pub(crate) fn is_struct_not_group(node: dynamic_struct::Reader<'_>) -> bool
     ensures { is_root (node_said (record_seen node.entry)).kind ≡ result }
 {
     match struct_part(node) {
-        Ok(part) => !bool_at(part, brands::STRUCT, STRUCT_IS_GROUP),
+        Ok(part) => !bool_at(
+            part,
+            brands::STRUCT,
+            STRUCT_IS_GROUP,
+            slots::STRUCT_IS_GROUP,
+        ),
         Err(_) => false,
     }
 }
@@ -334,6 +357,11 @@ pub(crate) fn display_name<'a>(node: dynamic_struct::Reader<'a>) -> Result<&'a [
     ensures refused { IfErr result (λ e. (node_said (record_seen node.entry)).display_name ≡ Err e.kind) }
     ensures kinds { IfErr result (λ e. IsUnstrict e.kind) }
 {
-    let name = text_at(node, brands::NODE, NODE_DISPLAY_NAME)?;
+    let name = text_at(
+        node,
+        brands::NODE,
+        NODE_DISPLAY_NAME,
+        slots::NODE_DISPLAY_NAME,
+    )?;
     Ok(name)
 }

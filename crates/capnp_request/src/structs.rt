@@ -25,7 +25,7 @@ use crate::notes::{Note, Seen, StandIn};
 use crate::parts::{bool_at, element_at, list_at, u16_at, u32_at};
 use crate::places::{
     NODE_ANNOTATIONS, STRUCT_DATA_WORDS, STRUCT_DISCRIMINANT_OFFSET, STRUCT_DISCRIMINANTS,
-    STRUCT_FIELDS, STRUCT_IS_GROUP, STRUCT_POINTERS, brands,
+    STRUCT_FIELDS, STRUCT_IS_GROUP, STRUCT_POINTERS, brands, slots,
 };
 use crate::schema_nodes::struct_part;
 use capnp_base::introspect::Type;
@@ -111,7 +111,13 @@ fn fields_of<'a>(
     ensures numbers { IfOk result (λ _. AreNumbered entries.new) }
     ensures kinds { IfErr result (λ e. IsRefusal context.entry.strict e.kind) }
 {
-    let listed = list_at(part, brands::STRUCT, STRUCT_FIELDS, brands::FIELD)?;
+    let listed = list_at(
+        part,
+        brands::STRUCT,
+        STRUCT_FIELDS,
+        slots::STRUCT_FIELDS,
+        brands::FIELD,
+    )?;
     let mut fields = Vec::new(context.alloc);
     let mut notes = Vec::new(context.alloc);
     for index in 0..listed.len() {
@@ -161,11 +167,39 @@ fn body_of(part: dynamic_struct::Reader<'_>, fields: Vec<FieldRecord>) -> Struct
     ensures fields { result.fields ≡ fields }
 {
     StructRecord {
-        data_word_count: u16_at(part, brands::STRUCT, STRUCT_DATA_WORDS),
-        pointer_count: u16_at(part, brands::STRUCT, STRUCT_POINTERS),
-        is_group: bool_at(part, brands::STRUCT, STRUCT_IS_GROUP),
-        discriminant_count: u16_at(part, brands::STRUCT, STRUCT_DISCRIMINANTS),
-        discriminant_offset: u32_at(part, brands::STRUCT, STRUCT_DISCRIMINANT_OFFSET),
+        data_word_count: u16_at(
+            part,
+            brands::STRUCT,
+            STRUCT_DATA_WORDS,
+            slots::STRUCT_DATA_WORDS,
+            0,
+        ),
+        pointer_count: u16_at(
+            part,
+            brands::STRUCT,
+            STRUCT_POINTERS,
+            slots::STRUCT_POINTERS,
+            0,
+        ),
+        is_group: bool_at(
+            part,
+            brands::STRUCT,
+            STRUCT_IS_GROUP,
+            slots::STRUCT_IS_GROUP,
+        ),
+        discriminant_count: u16_at(
+            part,
+            brands::STRUCT,
+            STRUCT_DISCRIMINANTS,
+            slots::STRUCT_DISCRIMINANTS,
+            0,
+        ),
+        discriminant_offset: u32_at(
+            part,
+            brands::STRUCT,
+            STRUCT_DISCRIMINANT_OFFSET,
+            slots::STRUCT_DISCRIMINANT_OFFSET,
+        ),
         fields,
     }
 }
@@ -214,6 +248,7 @@ pub(crate) fn struct_of<'a>(
         place.node,
         brands::NODE,
         NODE_ANNOTATIONS,
+        slots::NODE_ANNOTATIONS,
     )?;
     let (annotations, own) = annotated;
     let MadeFields { fields, notes } = made;

@@ -3,7 +3,8 @@ ghost use Rattle.std.specs.Prelude.{ℕ, List, Bool, cond, ◌≡◌, ◌≢◌,
 ghost use Rattle.capnp_device.specs.declared.error.ErrorKind.TheVariants.{OutOfMemory, TooManyTypes};
 ghost use Rattle.capnp_base.specs.Types.{type_from};
 ghost use Rattle.capnp_request.specs.RequestSet.{request_set};
-ghost use Rattle.capnp_schema.specs.Schema.{field_at, is_member};
+ghost use Rattle.capnp_schema.specs.Builtin.{zero_word};
+ghost use Rattle.capnp_schema.specs.Schema.{StructValue, field_at, is_member};
 ghost use Rattle.capnp_schema.specs.Types.{ListType, seen_type};
 ghost use Rattle.capnp_records.specs.Part.{which_of};
 ghost use Rattle.capnp_records.specs.Record.{Record};
@@ -12,7 +13,7 @@ ghost use Rattle.capnp_request.specs.Steps.Bindings.{bounds, flags, seen_marked,
 ghost use Rattle.capnp_request.specs.Conversion.{is_untyped};
 ghost use Rattle.capnp_request.specs.Steps.Done.{IsWorkDone, IsSaid, so_far};
 ghost use Rattle.capnp_request.specs.Handles.{IsRequestRecord};
-ghost use Rattle.capnp_request.specs.Steps.Handles.{IsRequestField, IsListOf, values_left};
+ghost use Rattle.capnp_request.specs.Steps.Handles.{IsListOf, IsRequestSlot, values_left};
 ghost use Rattle.capnp_request.specs.Steps.Meant.{IsSaidByMemberOr, float_type, scope_in};
 ghost use Rattle.capnp_request.specs.Steps.Nodes.{AreNodes, nodes_of};
 ghost use Rattle.capnp_request.specs.Steps.Numbers.{AreNumbered, numbered_entries};
@@ -29,11 +30,13 @@ use crate::context::Context;
 use crate::entries::{BoundNode, BoundScope, Entries, entry_type, enum_type};
 use crate::marks::{MarkedType, float, plain};
 use crate::notes::Seen;
-use crate::parts::{active_member, element_at, group_at, list_at, struct_at, u16_at, u64_at};
+use crate::parts::{
+    active_member, element_at, group_at, list_at, struct_at, type_member, u16_at, u64_at,
+};
 use crate::places::{
     BINDING_TYPE, BINDING_UNBOUND, BRAND_SCOPES, LIST_ELEMENT, NAMED_ID, PARAMETER_INDEX,
     PARAMETER_SCOPE, SCOPE_BIND, SCOPE_ID, SCOPE_INHERIT, STRUCT_BRAND, TYPE_ENUM, TYPE_LIST,
-    TYPE_STRUCT, TYPE_UNTYPED, brands,
+    TYPE_STRUCT, TYPE_UNTYPED, brands, slots,
 };
 use crate::schema_nodes::GenericScope;
 use crate::scopes::{bound_scope, bound_to, is_untyped, scope_of, untyped};
@@ -48,6 +51,7 @@ pub(crate) struct BrandPlace<'a> {
     pub(crate) reader: dynamic_struct::Reader<'a>,
     pub(crate) holder: u32,
     pub(crate) index: u16,
+    pub(crate) pointer: u16,
 }
 
 /// The levels that a type is read through, as many as a message has.
@@ -136,8 +140,19 @@ fn untyped_or_bound(inside: &[BoundScope], term: dynamic_struct::Reader<'_>) -> 
         0 => Ok(untyped()),
         1 => {
             let parameter = group_at(pointer, brands::TYPE_UNTYPED, 1, brands::TYPE_PARAMETER);
-            let scope = u64_at(parameter, brands::TYPE_PARAMETER, PARAMETER_SCOPE);
-            let index = u16_at(parameter, brands::TYPE_PARAMETER, PARAMETER_INDEX);
+            let scope = u64_at(
+                parameter,
+                brands::TYPE_PARAMETER,
+                PARAMETER_SCOPE,
+                slots::PARAMETER_SCOPE,
+            );
+            let index = u16_at(
+                parameter,
+                brands::TYPE_PARAMETER,
+                PARAMETER_INDEX,
+                slots::PARAMETER_INDEX,
+                0,
+            );
             Ok(bound_to(inside, scope, index))
         }
         2 => Ok(untyped()),
@@ -198,7 +213,7 @@ fn enum_type_of<'a>(
     ensures kinds { IfErr result (λ e. IsUnstrict e.kind) }
 {
     let named = group_at(term, brands::TYPE, TYPE_ENUM, brands::TYPE_ENUM);
-    let id = u64_at(named, brands::TYPE_ENUM, NAMED_ID);
+    let id = u64_at(named, brands::TYPE_ENUM, NAMED_ID, slots::NAMED_ID);
     let number = entries.number_enum(context.nodes, id)?;
     Ok(plain(enum_type(number)))
 }
@@ -224,7 +239,13 @@ fn list_type_of<'a>(
     ensures kinds { IfErr result (λ e. IsRefusal context.entry.strict e.kind) }
 {
     let list = group_at(term, brands::TYPE, TYPE_LIST, brands::TYPE_LIST);
-    let element = struct_at(list, brands::TYPE_LIST, LIST_ELEMENT, brands::TYPE)?;
+    let element = struct_at(
+        list,
+        brands::TYPE_LIST,
+        LIST_ELEMENT,
+        slots::LIST_ELEMENT,
+        brands::TYPE,
+    )?;
     let element_type = type_of(context, entries, inside, element, seen, depth)?;
     marked_list(element_type)
 }
@@ -250,12 +271,13 @@ fn struct_type_of<'a>(
     ensures kinds { IfErr result (λ e. IsRefusal context.entry.strict e.kind) }
 {
     let named = group_at(term, brands::TYPE, TYPE_STRUCT, brands::TYPE_STRUCT);
-    let id = u64_at(named, brands::TYPE_STRUCT, NAMED_ID);
+    let id = u64_at(named, brands::TYPE_STRUCT, NAMED_ID, slots::NAMED_ID);
     context.nodes.struct_node(id)?;
     let place = BrandPlace {
         reader: named,
         holder: brands::TYPE_STRUCT,
         index: STRUCT_BRAND,
+        pointer: slots::STRUCT_BRAND,
     };
     let scopes = bindings_of(context, entries, inside, id, place, seen, depth)?;
     let number = entries.number_of(context.alloc, BoundNode { id, scopes })?;
@@ -287,7 +309,7 @@ pub(crate) fn type_of<'a>(
     if depth == 0 {
         return Err(Error::from(ErrorKind::TooDeep));
     }
-    let Some(member) = active_member(term) else {
+    let Some(member) = type_member(term) else {
         return Err(Error::from(ErrorKind::UnknownKind));
     };
     if let Some(said) = type_said_by_member(member) {
@@ -308,7 +330,7 @@ pub(crate) fn type_of<'a>(
 /// The scopes of the brand at a place.
 fn brand_list<'a>(place: BrandPlace<'a>) -> Result<dynamic_list::Reader<'a>>
     requires record { IsRequestRecord place.holder place.reader }
-    requires field { IsRequestField place.holder place.index (request_struct 19) }
+    requires field { IsRequestSlot place.holder place.index (request_struct 19) place.pointer (StructValue zero_word) }
     requires non_union { is_member (field_at request_set place.holder place.index).field ≡ false }
     ensures elements { IfOk result (IsListOf (request_struct 20)) }
     ensures read { (inner : Record → TypeTerm)
@@ -319,8 +341,20 @@ fn brand_list<'a>(place: BrandPlace<'a>) -> Result<dynamic_list::Reader<'a>>
         (record_seen place.entry.reader)) ≡ UnreadBrand e.kind) }
     ensures kinds { IfErr result (λ e. IsUnstrict e.kind) }
 {
-    let brand = struct_at(place.reader, place.holder, place.index, brands::BRAND)?;
-    let listed = list_at(brand, brands::BRAND, BRAND_SCOPES, brands::SCOPE)?;
+    let brand = struct_at(
+        place.reader,
+        place.holder,
+        place.index,
+        place.pointer,
+        brands::BRAND,
+    )?;
+    let listed = list_at(
+        brand,
+        brands::BRAND,
+        BRAND_SCOPES,
+        slots::BRAND_SCOPES,
+        brands::SCOPE,
+    )?;
     Ok(listed)
 }
 
@@ -338,7 +372,7 @@ pub(crate) fn bindings_of<'a>(
     requires nodes { AreNodes context.nodes.now }
     requires numbers { AreNumbered entries.now }
     requires record { IsRequestRecord place.holder place.reader }
-    requires field { IsRequestField place.holder place.index (request_struct 19) }
+    requires field { IsRequestSlot place.holder place.index (request_struct 19) place.pointer (StructValue zero_word) }
     requires non_union { is_member (field_at request_set place.holder place.index).field ≡ false }
     ensures done { IsWorkDone (λ scopes. bounds scopes.items)
         (named_scopes (nodes_of context.entry.nodes.now) context.entry.strict (bounds inside.now) id
@@ -407,7 +441,7 @@ fn brand_scope<'a>(
 {
     for index in 0..said.len() {
         let scope = element_at(said, index, brands::SCOPE)?;
-        let scope_id = u64_at(scope, brands::SCOPE, SCOPE_ID);
+        let scope_id = u64_at(scope, brands::SCOPE, SCOPE_ID, slots::SCOPE_ID);
         if scope_id == id {
             return Ok(Some(scope));
         }
@@ -481,7 +515,13 @@ fn said_types<'a>(
     };
     match member {
         SCOPE_BIND => {
-            let bindings = list_at(own, brands::SCOPE, SCOPE_BIND, brands::BINDING)?;
+            let bindings = list_at(
+                own,
+                brands::SCOPE,
+                SCOPE_BIND,
+                slots::SCOPE_BIND,
+                brands::BINDING,
+            )?;
             let count = scope.parameters;
             let mut types = bound_types(context, entries, inside, count, bindings, seen, depth)?;
             drop_untyped(&mut types);
@@ -547,7 +587,13 @@ fn binding_type<'a>(
     match member {
         BINDING_UNBOUND => Ok(untyped()),
         BINDING_TYPE => {
-            let term = struct_at(binding, brands::BINDING, BINDING_TYPE, brands::TYPE)?;
+            let term = struct_at(
+                binding,
+                brands::BINDING,
+                BINDING_TYPE,
+                slots::BINDING_TYPE,
+                brands::TYPE,
+            )?;
             type_of(context, entries, inside, term, seen, depth)
         }
         _ => Err(Error::from(ErrorKind::UnknownKind)),

@@ -17,8 +17,8 @@ ghost use Rattle.capnp_request.specs.Refusals.{IsUnstrict};
 ghost use Rattle.capnp_request.specs.Values.{value_stated, words_or_fault};
 
 use crate::parts::{
-    active_member, bool_at, data_at, i8_at, i16_at, i32_at, i64_at, text_at, u8_at, u16_at, u32_at,
-    u64_at, untyped_at,
+    bool_at, data_at, i8_at, i16_at, i32_at, i64_at, text_at, u8_at, u16_at, u32_at, u64_at,
+    untyped_at, value_member,
 };
 use crate::places::{VALUE_UNTYPED, brands};
 use capnp_arena::message::Builder;
@@ -95,18 +95,18 @@ fn data_value(reader: dynamic_struct::Reader<'_>, member: u16) -> Result<ValueRe
 {
     match member {
         0 => Ok(ValueRecord::Void),
-        1 => Ok(ValueRecord::Bool(bool_at(reader, brands::VALUE, 1))),
-        2 => Ok(ValueRecord::Int8(i8_at(reader, brands::VALUE, 2))),
-        3 => Ok(ValueRecord::Int16(i16_at(reader, brands::VALUE, 3))),
-        4 => Ok(ValueRecord::Int32(i32_at(reader, brands::VALUE, 4))),
-        5 => Ok(ValueRecord::Int64(i64_at(reader, brands::VALUE, 5))),
-        6 => Ok(ValueRecord::UInt8(u8_at(reader, brands::VALUE, 6))),
-        7 => Ok(ValueRecord::UInt16(u16_at(reader, brands::VALUE, 7))),
-        8 => Ok(ValueRecord::UInt32(u32_at(reader, brands::VALUE, 8))),
-        9 => Ok(ValueRecord::UInt64(u64_at(reader, brands::VALUE, 9))),
-        10 => Ok(ValueRecord::UInt32(u32_at(reader, brands::VALUE, 10))),
-        11 => Ok(ValueRecord::UInt64(u64_at(reader, brands::VALUE, 11))),
-        15 => Ok(ValueRecord::Enum(u16_at(reader, brands::VALUE, 15))),
+        1 => Ok(ValueRecord::Bool(bool_at(reader, brands::VALUE, 1, 16))),
+        2 => Ok(ValueRecord::Int8(i8_at(reader, brands::VALUE, 2, 2))),
+        3 => Ok(ValueRecord::Int16(i16_at(reader, brands::VALUE, 3, 1))),
+        4 => Ok(ValueRecord::Int32(i32_at(reader, brands::VALUE, 4, 1))),
+        5 => Ok(ValueRecord::Int64(i64_at(reader, brands::VALUE, 5, 1))),
+        6 => Ok(ValueRecord::UInt8(u8_at(reader, brands::VALUE, 6, 2))),
+        7 => Ok(ValueRecord::UInt16(u16_at(reader, brands::VALUE, 7, 1, 0))),
+        8 => Ok(ValueRecord::UInt32(u32_at(reader, brands::VALUE, 8, 1))),
+        9 => Ok(ValueRecord::UInt64(u64_at(reader, brands::VALUE, 9, 1))),
+        10 => Ok(ValueRecord::UInt32(u32_at(reader, brands::VALUE, 10, 1))),
+        11 => Ok(ValueRecord::UInt64(u64_at(reader, brands::VALUE, 11, 1))),
+        15 => Ok(ValueRecord::Enum(u16_at(reader, brands::VALUE, 15, 1, 0))),
         _ => Err(Error::from(ErrorKind::UnknownKind)),
     }
 }
@@ -126,12 +126,12 @@ fn member_value(
 {
     match member {
         12 => {
-            let text = text_at(reader, brands::VALUE, 12)?;
+            let text = text_at(reader, brands::VALUE, 12, 0)?;
             let letters = copied(alloc, text)?;
             Ok(ValueRecord::Text(letters))
         }
         13 => {
-            let data = data_at(reader, brands::VALUE, 13)?;
+            let data = data_at(reader, brands::VALUE, 13, 0)?;
             let bytes = copied(alloc, data)?;
             Ok(ValueRecord::Data(bytes))
         }
@@ -169,7 +169,7 @@ pub(crate) fn value_of(alloc: Global, reader: dynamic_struct::Reader<'_>) -> Res
         → value_stated (value_said (record_seen reader.entry)) ≡ Err e.kind) }
     ensures kinds { IfErr result (λ e. IsUnstrict e.kind) }
 {
-    let Some(member) = active_member(reader) else {
+    let Some(member) = value_member(reader) else {
         return Err(Error::from(ErrorKind::UnknownKind));
     };
     member_value(alloc, reader, member)
@@ -180,7 +180,7 @@ pub(crate) fn is_untyped_value(reader: dynamic_struct::Reader<'_>) -> bool
     requires { IsRequestRecord 22 reader }
     ensures { is_untyped_default (value_said (record_seen reader.entry)) ≡ result }
 {
-    match active_member(reader) {
+    match value_member(reader) {
         Some(member) => {
             if member == VALUE_UNTYPED {
                 return !untyped_at(reader, brands::VALUE, VALUE_UNTYPED).is_null();

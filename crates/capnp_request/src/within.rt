@@ -106,7 +106,8 @@ fn make_all_within<'a>(
 ///
 /// Refused as `read_request`, and with `TooLarge` as soon as the lists made so far have more than `limit` bytes: before
 /// the next struct or enum is made. A small request may stand for a large set, since each binding of a generic struct is
-/// an entry with copies of its names and values.
+/// an entry with copies of its names and values. An entry that is named and not yet made has at most 1,024 bound types,
+/// and the lists have a field for each that a field names.
 ///
 /// # Conditions
 ///

@@ -6,7 +6,7 @@ use Rattle.capnp_device.specs.declared.error.ErrorKind.TheVariants.{NodeNotFound
 use Rattle.capnp_schema.specs.Types.{SchemaType}
 use Rattle.capnp_request.specs.Scopes.{node_named, scopes_of}
 use Rattle.capnp_request.specs.Terms.{SchemaNode}
-use Rattle.capnp_request.specs.Types.{add_entry, add_enum, entry_number, enum_or_add, enum_position, innermost_type, is_entry_of, is_enum, is_of_kind, kind_number, lists_in, named_entry, number_enum, number_or_add, number_struct, number_where, same_bound, same_mark, same_marked, same_scope, same_type, same_types}
+use Rattle.capnp_request.specs.Types.{add_entry, add_enum, entry_number, enum_or_add, enum_position, innermost_type, is_entry_of, is_enum, is_of_kind, kind_number, lists_in, named_entry, number_enum, number_or_add, number_struct, number_where, same_bound, same_mark, same_marked, same_scope, same_type, same_types, bound_count, is_bound_count}
 use Rattle.capnp_request.specs.Work.{Bound, Entry, GroupOf, MarkedType, Named, Place, Whole}
 use Rattle.capnp_request_meaning.specs.Meaning.{AreUnbound, without_types}
 use Rattle.capnp_request_meaning.proofs.ListsFound.{last_at, same_some, still_at}
@@ -140,7 +140,8 @@ module _ (K : List Entry → Type 0) where
 
   module _ (nodes : List SchemaNode) (whole : KeepsWhole K nodes) where
     pub struct_numbered : (id : ℕ) (bound : List Bound) → scopes_of nodes id ≡ Ok (map without_types bound) → IsWork K (number_struct id bound) (λ n z. IsNumbered id bound n z.entries)
-    struct_numbered id bound scopes s = go (entry_number id bound s.entries 0) refl
+    struct_numbered id bound scopes s =
+        done_where K (is_bound_count (bound_count bound)) TooManyTypes (λ n t. Done K s t (λ z. IsNumbered id bound n z.entries)) (number_or_add (entry_number id bound s.entries 0) (whole_entry id bound) s) (λ few. go (entry_number id bound s.entries 0) refl)
       where
         go : (o : Option ℕ) → entry_number id bound s.entries 0 ≡ o → IfDone (λ n t. Done K s t (λ z. IsNumbered id bound n z.entries)) (number_or_add o (whole_entry id bound) s)
         go (Some n) is =

@@ -26,6 +26,7 @@ pub mod OrderSound
 pub mod ReachedAll
 pub mod RootsMeant
 pub mod Rows
+pub mod RowsBound
 pub mod RowsNoted
 pub mod RowsOwn
 pub mod RowsPassed

@@ -10,7 +10,7 @@ use Rattle.capnp_request.specs.Conversion.{Converted, Note, annotation_of, annot
 use Rattle.capnp_request.specs.Order.{Made, add_struct, all_enumerants, all_fields, at_enum, at_node, at_struct, begin_enum, begin_struct, enum_made, enumerant_of, make_enum, make_struct, name_files, name_root, name_roots, new_ids, nothing_named, struct_made, with_struct}
 use Rattle.capnp_request.specs.Scopes.{node_named, scopes_of}
 use Rattle.capnp_request.specs.Terms.{AnnotationNode, AnnotationTerm, Binds, BindingTerms, BrandTerm, EnumNode, EnumTerm, EnumerantTerm, FieldKindTerm, FieldTerm, Float32, Float64, GroupTerm, Inherits, Interface, ListTerm, MemberTerm, MoreBindings, MoreScopes, NoBindings, NoScopes, NodeKind, OtherNode, Parameter, Said, SchemaNode, ScopeTerm, SlotTerm, StructNode, StructPart, StructTerm, TypeTerm, UnreadBrand, UnreadField, UnreadScope, UnreadType}
-use Rattle.capnp_request.specs.Types.{add_entry, add_enum, bind_scope, binding_types, brand_types, entry_number, enum_or_add, enum_position, float32, float64, interface, is_enum, is_of_kind, is_root, is_struct_kind, list_of, listed_type, lists_in, named_scopes, number_enum, number_or_add, number_struct, scope_types, type_of, where_node, without_untyped}
+use Rattle.capnp_request.specs.Types.{add_entry, add_enum, bind_scope, binding_types, brand_types, entry_number, enum_or_add, enum_position, float32, float64, interface, is_enum, is_of_kind, is_root, is_struct_kind, list_of, listed_type, lists_in, named_scopes, number_enum, number_or_add, number_struct, scope_types, type_of, where_node, without_untyped, bound_count, is_bound_count}
 use Rattle.capnp_request.specs.Values.{value_stated}
 use Rattle.capnp_request.specs.Work.{Bound, Entry, MarkedType, Named, Seen, Work, each, each_read, nothing_seen, plain, seen_in, where_else, where_so, work_continued, work_of, work_said, work_unnoted, ◌>>=◌}
 use Rattle.capnp_request_meaning.specs.Meaning.{AreAmongFirst}
@@ -127,7 +127,8 @@ module _ (inside : List Bound) where
 -- ---- what is named ----
 
 struct_kept : (id : ℕ) (bound : List Bound) (s : Named) → IsInsideBelow bound s → AreBelow s → IfKept s (number_struct id bound s)
-struct_kept id bound s inside below = go (entry_number id bound s.entries 0)
+struct_kept id bound s inside below =
+    kept_where [] (is_bound_count (bound_count bound)) TooManyTypes s (number_or_add (entry_number id bound s.entries 0) (whole_entry id bound) s) (go (entry_number id bound s.entries 0))
   where
     go : (o : Option ℕ) → IfKept s (number_or_add o (whole_entry id bound) s)
     go (Some n) = record { grown = grows_none s; below = below }

@@ -26,7 +26,7 @@ use Rattle.capnp_request_meaning.proofs.NumbersKept.{IsFit, enum_fit, files_fit,
 use Rattle.capnp_request_meaning.proofs.OrderMeant.{AreMade, IsAdded, IsStep, Stay, StayWith, enum_ids, enum_step, group_stays, nodes_counted, none_made, stay_none, stay_whole, struct_is_added, struct_step, with_groups, with_whole}
 use Rattle.capnp_request_meaning.proofs.ReachedAll.{AllReached, AreListed, enum_reached, files_led, files_listed, plain_of, queue_first, queue_later, requested, root_led, struct_reached}
 use Rattle.capnp_request_meaning.proofs.RootsMeant.{AreRooted, HasRoot, files_named, root_named, there_of}
-use Rattle.capnp_request_meaning.proofs.ScopesKept.{scopes_without}
+use Rattle.capnp_request_meaning.proofs.ScopesKept.{never_many, scopes_unbound, scopes_without}
 use Rattle.capnp_request_meaning.proofs.TypesMeant.{numbers}
 use Rattle.capnp_request_meaning.proofs.TypesPassed.{After, Fine, fine_after, led_at, number_passed}
 use Rattle.capnp_request_meaning.proofs.TypesSound.{scopes_said}
@@ -155,7 +155,7 @@ module _ (r : RequestTerm) (strict : Bool) (sound : IsRequestSound (bounds stric
   root_passed id n listed first true is s fine =
       passed_from X (scopes_of r.nodes id) (λ bound. number_struct id bound >>= (λ number. work_of [])) s (passed_so X strict AnySaid (scopes_of r.nodes id) (scopes_said (bounds strict) r.nodes sound.nodes id)) (λ bound scopes.
       passed_bind X (number_struct id bound) (λ number. work_of {A = List ℕ} []) s
-      (number_passed r strict sound.nodes (Stay r.nodes) (stay_whole r.nodes) (λ es k. k) id bound s (scopes ∙ ap (λ xs. Ok xs) (sym (scopes_without r.nodes id bound scopes))) fine
+      (number_passed r strict sound.nodes (Stay r.nodes) (stay_whole r.nodes) (λ es k. k) id bound s (scopes ∙ ap (λ xs. Ok xs) (sym (scopes_without r.nodes id bound scopes))) fine (λ many. absurd (never_many bound (scopes_unbound r.nodes id bound scopes) many))
       (λ x z g added. requested r strict id n listed first (plain_of n.kind is) bound scopes x z (added.0, added.1, record { entry = whole_entry id bound; numbered = added.2; node = refl; whole = refl; same = same_bound_itself bound })))
       (λ p e. tt))
 

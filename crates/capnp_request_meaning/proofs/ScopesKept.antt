@@ -1,7 +1,8 @@
 -- The scopes of a node have nothing bound.
-use Rattle.std.proofs.Common.{ℕ, zero, suc, ◌+◌, ◌≡◌, ◌∙◌, ap, refl, subst, sym, Bool, true, false, List, [], ◌∷◌, length, map, Option, Some, None, Ok, Err}
+use Rattle.std.proofs.Common.{ℕ, zero, suc, ◌+◌, ◌≡◌, ◌∙◌, ap, arith, refl, subst, sym, Bool, true, false, List, [], ◌∷◌, length, map, Option, Some, None, Ok, Err}
 use Rattle.capnp_request.specs.Scopes.{and_scope, is_met, node_named, scopes_from, scopes_of, scopes_of_node, with_scope}
 use Rattle.capnp_request.specs.Terms.{Said, SchemaNode}
+use Rattle.capnp_request.specs.Types.{bound_count, is_bound_count}
 use Rattle.capnp_request.specs.Work.{Bound, MarkedType}
 use Rattle.capnp_request_meaning.specs.Meaning.{AreUnbound, without_types}
 
@@ -33,6 +34,14 @@ unbound_from nodes (suc steps) met distance id = go (is_met met id) (λ scope. u
 
 pub scopes_unbound : (nodes : List SchemaNode) (id : ℕ) (bs : List Bound) → scopes_of nodes id ≡ Ok bs → AreUnbound bs
 scopes_unbound nodes id bs e = subst SaysUnbound e (unbound_from nodes (length nodes) [] 0 id)
+
+-- so no types count
+pub none_bound : (bs : List Bound) → AreUnbound bs → bound_count bs ≡ 0
+none_bound [] h = refl
+none_bound (b ∷ bs) h = let none : length b.types ≡ 0 = ap (λ (xs : List MarkedType). length xs) h.0 in omega (arith, none, none_bound bs h.1)
+
+pub never_many : (bs : List Bound) → AreUnbound bs → is_bound_count (bound_count bs) ≡ false → ⊥
+never_many bs h many = let few : is_bound_count (bound_count bs) ≡ true = ap is_bound_count (none_bound bs h) in cc
 
 -- without types they are the same
 abbrev with_types : Bound → List MarkedType → Bound

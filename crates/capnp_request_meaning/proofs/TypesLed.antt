@@ -8,7 +8,7 @@ use Rattle.capnp_schema.specs.Types.{SchemaType, EnumType, StructType}
 use Rattle.capnp_request.specs.Conversion.{annotation_of, annotations_of, declared_in, declared_term, declared_type}
 use Rattle.capnp_request.specs.Scopes.{node_named, scopes_of}
 use Rattle.capnp_request.specs.Terms.{AnnotationTerm, Binds, BindingTerms, BrandTerm, EnumTerm, Float32, Float64, Inherits, Interface, ListTerm, MemberTerm, MoreBindings, MoreScopes, NoBindings, NoScopes, Parameter, Said, SchemaNode, ScopeTerm, StructTerm, TypeTerm, UnreadBrand, UnreadScope, UnreadType}
-use Rattle.capnp_request.specs.Types.{add_entry, add_enum, bind_scope, binding_types, bound_to, brand_types, entry_number, enum_or_add, enum_position, float32, float64, interface, is_enum, is_of_kind, is_struct_kind, list_of, listed_type, lists_in, named_scopes, number_enum, number_or_add, number_struct, number_where, scope_types, type_of, without_untyped}
+use Rattle.capnp_request.specs.Types.{add_entry, add_enum, bind_scope, binding_types, bound_to, brand_types, entry_number, enum_or_add, enum_position, float32, float64, interface, is_enum, is_of_kind, is_struct_kind, list_of, listed_type, lists_in, named_scopes, number_enum, number_or_add, number_struct, number_where, scope_types, type_of, without_untyped, bound_count, is_bound_count}
 use Rattle.capnp_request.specs.Values.{value_stated}
 use Rattle.capnp_request.specs.Work.{Bound, Entry, MarkedType, Named, Work, each, plain, work_of, work_unnoted, ◌>>=◌}
 use Rattle.capnp_request_meaning.specs.Meaning.{AnnotationLeads, AnyBound, ByBrand, ByDeclaration, EntryAt, EnumAt, IsBindingAmong, IsBindingOf, IsBindingSaid, LeadsTo, Numbers, StandsIn, Target}
@@ -48,7 +48,8 @@ abbrev pub IsStructAdded : ℕ → List Bound → Target → Named → Type 0
 IsStructAdded id bound x z = (n : ℕ) × (x ≡ EntryAt n) × IsNumbered id bound n z.entries
 
 pub struct_led : (id : ℕ) (bound : List Bound) → IsLed (number_struct id bound) (IsStructAdded id bound)
-struct_led id bound s = go (entry_number id bound s.entries 0)
+struct_led id bound s =
+    led_where (is_bound_count (bound_count bound)) TooManyTypes s (IsStructAdded id bound) (number_or_add (entry_number id bound s.entries 0) (whole_entry id bound) s) (λ few. go (entry_number id bound s.entries 0))
   where
     go : (o : Option ℕ) → IfDone (λ n t. Led s t (IsStructAdded id bound)) (number_or_add o (whole_entry id bound) s)
     go (Some n) = led_none s s (IsStructAdded id bound) refl refl

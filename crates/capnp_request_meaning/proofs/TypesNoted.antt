@@ -6,7 +6,7 @@ use Rattle.capnp_device.specs.declared.error.ErrorKind.TheVariants.{NodeNotFound
 use Rattle.capnp_schema.specs.Types.{SchemaType, EnumType, StructType}
 use Rattle.capnp_request.specs.Scopes.{node_named, scopes_of}
 use Rattle.capnp_request.specs.Terms.{Binds, BindingTerms, BrandTerm, EnumTerm, Float32, Float64, Inherits, Interface, ListTerm, MemberTerm, MoreBindings, MoreScopes, NoBindings, NoScopes, Parameter, Said, SchemaNode, ScopeTerm, StructTerm, TypeTerm, UnreadBrand, UnreadScope, UnreadType}
-use Rattle.capnp_request.specs.Types.{add_entry, add_enum, bind_scope, binding_types, bound_to, brand_types, entry_number, enum_or_add, enum_position, float32, float64, interface, is_enum, is_of_kind, is_struct_kind, list_of, listed_type, lists_in, named_scopes, number_enum, number_or_add, number_struct, scope_types, type_of, without_untyped}
+use Rattle.capnp_request.specs.Types.{add_entry, add_enum, bind_scope, binding_types, bound_to, brand_types, entry_number, enum_or_add, enum_position, float32, float64, interface, is_enum, is_of_kind, is_struct_kind, list_of, listed_type, lists_in, named_scopes, number_enum, number_or_add, number_struct, scope_types, type_of, without_untyped, bound_count, is_bound_count}
 use Rattle.capnp_request.specs.Work.{Bound, Entry, MarkedType, Named, Seen, Work, each, plain, where_else, where_so, work_continued, work_of, work_said, ◌>>=◌}
 use Rattle.capnp_request_meaning.specs.Meaning.{AnyBound, IsBindingAmong, IsBindingOf, IsBindingSaid, StandsIn}
 use Rattle.capnp_request_meaning.proofs.EntriesKept.{whole_entry}
@@ -125,7 +125,7 @@ module _ (l : Leaf) where
   sees_entry e s = sees_where (nat_lt (length s.entries) 65536) TooManyTypes (flag l s.seen) ⊥ (Ok (length s.entries, record s { entries = s.entries ++ e ∷ [] })) (same_sees (flag l s.seen) ⊥ (λ h. h))
 
   sees_struct : (id : ℕ) (bound : List Bound) → IsSeeing l (number_struct id bound) ⊥
-  sees_struct id bound s = go (entry_number id bound s.entries 0)
+  sees_struct id bound s = sees_where (is_bound_count (bound_count bound)) TooManyTypes (flag l s.seen) ⊥ (number_or_add (entry_number id bound s.entries 0) (whole_entry id bound) s) (go (entry_number id bound s.entries 0))
     where
       go : (o : Option ℕ) → IfDone (λ n t. Sees (flag l s.seen) (flag l t.seen) ⊥) (number_or_add o (whole_entry id bound) s)
       go (Some n) = same_sees (flag l s.seen) ⊥ (λ h. h)

@@ -8,10 +8,10 @@ use Rattle.capnp_schema.specs.Types.{EnumType, StructType}
 use Rattle.capnp_request.specs.Order.{is_node_there}
 use Rattle.capnp_request.specs.Scopes.{node_named, scopes_of}
 use Rattle.capnp_request.specs.Terms.{Binds, BindingTerms, BrandTerm, EnumTerm, Float32, Float64, Inherits, Interface, ListTerm, MemberTerm, MoreBindings, MoreScopes, NoBindings, NoScopes, Parameter, RequestTerm, SchemaNode, ScopeTerm, StructTerm, TypeTerm, UnreadBrand, UnreadScope, UnreadType}
-use Rattle.capnp_request.specs.Types.{add_enum, bind_scope, binding_types, brand_types, entry_number, enum_or_add, enum_position, float32, float64, interface, is_enum, is_of_kind, is_struct_kind, list_of, listed_type, lists_in, named_scopes, number_enum, number_or_add, number_struct, scope_types, type_of, without_untyped}
+use Rattle.capnp_request.specs.Types.{add_enum, bind_scope, binding_types, brand_types, entry_number, enum_or_add, enum_position, float32, float64, interface, is_enum, is_of_kind, is_struct_kind, list_of, listed_type, lists_in, named_scopes, number_enum, number_or_add, number_struct, scope_types, type_of, without_untyped, bound_count, is_bound_count}
 use Rattle.capnp_request.specs.Work.{Bound, Entry, MarkedType, Named, Work, each, plain, work_of, ◌>>=◌}
 use Rattle.capnp_request_meaning.specs.Meaning.{AnyBound, AreDistinct, ByAnnotation, ByBrand, ByDeclaration, ByField, EntryAt, EnumAt, IsBindingAmong, IsBindingOf, IsBindingSaid, IsBoundBy, IsReached, IsTarget, IsTypeOf, Numbers, StandsIn, Target, without_types}
-use Rattle.capnp_request_meaning.specs.Passed.{AreLed, AtField, DeepLists, InBrand, InDeclaration, IsPassed, ManyEntries, ManyNodes, StandsAt, bounds}
+use Rattle.capnp_request_meaning.specs.Passed.{AreLed, AtField, DeepLists, InBrand, InDeclaration, IsPassed, ManyEntries, ManyNodes, StandsAt, bounds, ManyBound}
 use Rattle.capnp_request_meaning.specs.Sound.{AreTypesSound, AnySaid, IsBrandSound, IsScopeSound, IsTypeSound}
 use Rattle.capnp_request_meaning.proofs.EntriesKept.{KeepsWhole, same_bound_itself, whole_entry}
 use Rattle.capnp_request_meaning.proofs.EnumsCounted.{HaveNodes, ids_fit}
@@ -99,8 +99,13 @@ module _ (r : RequestTerm) (strict : Bool) (sound : AreNodesSound (bounds strict
       let longer : length (s.entries ++ e ∷ []) ≡ length s.entries + 1 = length-append s.entries (e ∷ []) in
       ManyEntries more.entries more.enums (led_at r strict more stays.0 stays.1 all) (omega (arith, many, longer))
 
-  pub number_passed : (id : ℕ) (bound : List Bound) (s : Named) → scopes_of r.nodes id ≡ Ok (map without_types bound) → F s → ((x : Target) (z : Named) → Grows s z → IsAdded (whole_entry id bound) x z → Reached r strict x z) → IfPassed X (number_struct id bound s)
-  number_passed id bound s scopes fine new = go (entry_number id bound s.entries 0) refl
+  -- more types are bound than may be
+  abbrev pub IsMany : List Bound → Type 0
+  IsMany bound = is_bound_count (bound_count bound) ≡ false
+
+  pub number_passed : (id : ℕ) (bound : List Bound) (s : Named) → scopes_of r.nodes id ≡ Ok (map without_types bound) → F s → (IsMany bound → X) → ((x : Target) (z : Named) → Grows s z → IsAdded (whole_entry id bound) x z → Reached r strict x z) → IfPassed X (number_struct id bound s)
+  number_passed id bound s scopes fine much new =
+      passed_where X (is_bound_count (bound_count bound)) TooManyTypes (number_or_add (entry_number id bound s.entries 0) (whole_entry id bound) s) (λ many same. much many) (λ few. go (entry_number id bound s.entries 0) refl)
     where
       go : (o : Option ℕ) → entry_number id bound s.entries 0 ≡ o → IfPassed X (number_or_add o (whole_entry id bound) s)
       go (Some n) is = tt
@@ -187,6 +192,12 @@ module _ (r : RequestTerm) (strict : Bool) (sound : AreNodesSound (bounds strict
     abbrev numbered : ℕ → List Bound → Work MarkedType
     numbered id bound = number_struct id bound >>= (λ number. work_of (plain (StructType number number)))
 
+    bound_much : (id : ℕ) (brand : BrandTerm) (bound : List Bound) (s t : Named) → AreHere s (StandsIn r.nodes (StructTerm id brand)) → Grows s t → F t → AreNamedScopes r.nodes strict inside id brand bound t → IsMany bound → X
+    bound_much id brand bound s t here grown fine scopes many =
+        let kept : Stay r.nodes t.entries = stay t.entries fine.kept in
+        ManyBound t.entries t.enums (led_at r strict t kept.entries kept.distinct fine.reached)
+        (record { inside = inside; id = id; brand = brand; bound = bound; stands = here (StructTerm id brand) (inl refl) t grown; scopes = scopes.0; binds = scopes.1; many = let more : 1025 ≤ bound_count bound = ltb-false (bound_count bound) 1025 many in omega (arith, more) })
+
     struct_passed : (id : ℕ) (brand : BrandTerm) → IsBrandPassed brand → (s : Named) → AreHere s (StandsIn r.nodes (StructTerm id brand)) → F s → IfPassed X (type_of r.nodes strict inside (StructTerm id brand) s)
     struct_passed id brand h s here fine =
         let bindings : (scopes : List Bound) → scopes_of r.nodes id ≡ Ok scopes → AreHere s (AnyBinding brand scopes) = λ scopes is inner any z g. here inner (inr (scopes, is, any)) z g in
@@ -195,7 +206,7 @@ module _ (r : RequestTerm) (strict : Bool) (sound : AreNodesSound (bounds strict
         let after : After r strict K (AreNamedScopes r.nodes strict inside id brand) s p = scopes_after id brand s bindings fine p e in
         let scopes : AreNamedScopes r.nodes strict inside id brand p.0 p.1 = after.later p.1 (grows_none p.1) in
         passed_bind X (number_struct id p.0) (λ number. work_of (plain (StructType number number))) p.1
-        (number_passed id p.0 p.1 scopes.0 after.fine (λ x z g added. here_leads s (StandsIn r.nodes (StructTerm id brand)) here x z (grows_on s p.1 z after.grown g)
+        (number_passed id p.0 p.1 scopes.0 after.fine (λ many. bound_much id brand p.0 s p.1 here after.grown after.fine scopes many) (λ x z g added. here_leads s (StandsIn r.nodes (StructTerm id brand)) here x z (grows_on s p.1 z after.grown g)
         (itself r.nodes strict inside id brand p.0 x z (added.0, added.1, record { entry = whole_entry id p.0; numbered = added.2; node = refl; whole = refl; same = same_bound_itself p.0 }) (after.later z g))))
         (λ q f. tt)))
 

@@ -8,7 +8,7 @@ use Rattle.capnp_schema.specs.Types.{EnumType, StructType}
 use Rattle.capnp_request.specs.Conversion.{annotation_of, annotations_of, converted_name, declared_in, declared_term, declared_type, field_of, fields_of, is_untyped, is_untyped_default, kind_declared, kind_of, notes_of}
 use Rattle.capnp_request.specs.Scopes.{and_scope, bound_types, is_met, node_named, scopes_from, scopes_of, scopes_of_node}
 use Rattle.capnp_request.specs.Terms.{AnnotationNode, AnnotationTerm, Binds, BindingTerms, BrandTerm, EnumNode, EnumTerm, FieldKindTerm, FieldTerm, Float32, Float64, GroupTerm, Inherits, Interface, ListTerm, MemberTerm, MoreBindings, MoreScopes, NoBindings, NoScopes, NodeKind, OtherNode, Parameter, Said, SchemaNode, ScopeTerm, SlotTerm, StructNode, StructTerm, TypeTerm, UnreadBrand, UnreadField, UnreadScope, UnreadType}
-use Rattle.capnp_request.specs.Types.{add_entry, add_enum, bind_scope, binding_types, bound_to, brand_types, entry_number, enum_or_add, enum_position, float32, float64, interface, is_enum, is_of_kind, is_struct_kind, list_of, listed_type, lists_in, named_scopes, number_enum, number_or_add, number_struct, scope_types, type_of, where_node, without_untyped}
+use Rattle.capnp_request.specs.Types.{add_entry, add_enum, bind_scope, binding_types, bound_to, brand_types, entry_number, enum_or_add, enum_position, float32, float64, interface, is_enum, is_of_kind, is_struct_kind, list_of, listed_type, lists_in, named_scopes, number_enum, number_or_add, number_struct, scope_types, type_of, where_node, without_untyped, bound_count, is_bound_count}
 use Rattle.capnp_request.specs.Values.{value_stated}
 use Rattle.capnp_request.specs.Work.{Bound, Entry, MarkedType, Named, Seen, Work, each, plain, seen_in, work_of, work_said, work_unnoted, ◌>>=◌}
 use Rattle.capnp_request_meaning.specs.Sound.{AnySaid, AreTypesSound, EachSaidSo, IsAnnotationSound, IsBrandSound, IsFieldSound, IsKindSound, IsNodeKindSound, IsNodeSound, IsNodeOfKind, IsSaidSo, IsScopeSound, IsTextFor, IsTypeSound, Refusal, is_declaration}
@@ -64,7 +64,7 @@ module _ (cause : Refusal) (other : IsOther cause) (nodes : List SchemaNode) (na
   entry_good e s i = good_bound cause I (nat_lt (length s.entries) 65536) TooManyTypes (Ok (length s.entries, record s { entries = s.entries ++ e ∷ [] })) other i
 
   pub struct_good : (id : ℕ) (bound : List Bound) → IsNodeOfKind cause is_struct_kind nodes id → IsGood cause I (number_struct id bound)
-  struct_good id bound is s i = go (entry_number id bound s.entries 0)
+  struct_good id bound is s i = good_bound cause I (is_bound_count (bound_count bound)) TooManyTypes (number_or_add (entry_number id bound s.entries 0) (whole_entry id bound) s) other (go (entry_number id bound s.entries 0))
     where
       go : (o : Option ℕ) → IfGood cause I (number_or_add o (whole_entry id bound) s)
       go (Some n) = i

@@ -3,8 +3,8 @@ use Rattle.std.specs.Prelude.{ℕ, ◌<◌, ◌≤◌, ◌≡◌, List, [], ◌�
 use Rattle.capnp_device.specs.declared.error.ErrorKind.TheVariants.{TooManyTypes}
 use Rattle.capnp_schema.specs.Schema.{Brand, Node}
 use Rattle.capnp_request.specs.Scopes.{node_named, scopes_of}
-use Rattle.capnp_request.specs.Terms.{AnnotationNode, AnnotationTerm, FieldTerm, ListTerm, RequestTerm, SchemaNode, SlotTerm, StructNode, StructPart, TypeTerm, ValueTerm}
-use Rattle.capnp_request.specs.Types.{lists_in}
+use Rattle.capnp_request.specs.Terms.{AnnotationNode, AnnotationTerm, FieldTerm, ListTerm, RequestTerm, SchemaNode, SlotTerm, StructNode, StructPart, TypeTerm, ValueTerm, BrandTerm, StructTerm}
+use Rattle.capnp_request.specs.Types.{lists_in, bound_count}
 use Rattle.capnp_request.specs.Work.{Bound, Entry, GroupOf, MarkedType, Place, Whole}
 use Rattle.capnp_request_meaning.specs.Meaning.{AnyBound, AreDistinct, AreEntries, AreNodesFrom, EachBound, EntryAt, EnumAt, HasAnnotation, IsBindingOf, IsBoundBy, IsEnumNamed, IsGroupName, IsNameOf, IsNodeAt, IsReached, IsRead, IsTypeOf, Numbers, StandsIn, Target, without_types}
 use Rattle.capnp_request_meaning.specs.Sound.{Refusal}
@@ -42,6 +42,17 @@ pub record IsNestedDeep (r : RequestTerm) (k : Numbers) : Type 0 where
   pub is : IsTypeOf k inside element type
   pub deep : 18446744073709551615 ≤ lists_in type.type
 
+-- a struct's type that stands somewhere binds more than 1,024 types, in all its scopes together
+pub record IsBoundMuch (r : RequestTerm) (k : Numbers) : Type 0 where
+  pub inside : List Bound
+  pub id : ℕ
+  pub brand : BrandTerm
+  pub bound : List Bound
+  pub stands : StandsAt r k inside (StructTerm id brand)
+  pub scopes : scopes_of k.nodes id ≡ Ok (map without_types bound)
+  pub binds : EachBound (IsBoundBy k inside brand) bound
+  pub many : 1024 < bound_count bound
+
 -- the name of an entry, behind the entries before it and their nodes
 abbrev pub IsNamedAs : (k : Numbers) (earlier : List Entry) (before : List Node) → Entry → Place → (name : List ℕ) → Type 0
 IsNamedAs k earlier before e Whole name = (node : SchemaNode) × (node_named k.nodes e.node ≡ Some node) × IsNameOf k earlier before e node name
@@ -69,10 +80,11 @@ pub record IsEnumNameLong (k : Numbers) : Type 0 where
   pub is : IsEnumNamed k.nodes id name
   pub long : 1024 < length name
 
--- A request leads to more than 65,536 entries, to a long name, or to lists so deep in one another; or it has 2^32 nodes, as where
--- it leads to so many enums.
+-- A request leads to more than 65,536 entries, to a type that binds more than 1,024 types, to a long name, or to lists so deep in
+-- one another; or it has 2^32 nodes, as where it leads to so many enums.
 pub data IsPassed (r : RequestTerm) (strict : Bool) : Type 0 where
   ManyEntries : (entries : List Entry) (enums : List ℕ) → AreLed r (numbers_of r strict entries enums) → 65536 < length entries → IsPassed r strict
+  ManyBound : (entries : List Entry) (enums : List ℕ) → AreLed r (numbers_of r strict entries enums) → IsBoundMuch r (numbers_of r strict entries enums) → IsPassed r strict
   ManyNodes : 4294967295 < length r.nodes → IsPassed r strict
   LongName : (entries : List Entry) (enums : List ℕ) → AreLed r (numbers_of r strict entries enums) → IsNameLong (numbers_of r strict entries enums) → IsPassed r strict
   LongEnumName : (entries : List Entry) (enums : List ℕ) → AreLed r (numbers_of r strict entries enums) → IsEnumNameLong (numbers_of r strict entries enums) → IsPassed r strict

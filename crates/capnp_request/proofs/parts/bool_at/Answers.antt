@@ -1,24 +1,10 @@
--- A truth value in the data section is always read, and a value of this type is of its kind.
--- So what is taken out of it is what the record holds.
-use Rattle.std.proofs.Common.{ap, refl, ◌∙◌}
-use Rattle.capnp_request.specs.RequestSet.{request_set}
-use Rattle.capnp_schema.specs.Schema.{field_at}
-use Rattle.capnp_schema.specs.Types.{BoolType}
-use Rattle.capnp_dynamic_readers.specs.Seen.{value_seen}
-use Rattle.capnp_request.proofs.Always.{whole_field}
-use Rattle.capnp_request.proofs.Taken.{kind_is}
+-- The bit at the offset is what the record holds at the field, as its slot is there.
+use Rattle.std.proofs.Common.{ap, sym, ◌∙◌}
+use Rattle.capnp_records.specs.Record as value
+use Rattle.capnp_request.proofs.NumbersSeen.{truth_there}
 use Rattle.capnp_request.proofs.parts.bool_at.Goals as goal
 
-pub sure_part-value-requires : goal.sure_part-value-requires
-sure_part-value-requires c = record {
-  «record» = c.requires.record;
-  field = (c.requires.field.0, refl);
-  always = whole_field (field_at request_set c.args.brand c.args.index).field.kind (field_at request_set c.args.brand c.args.index).type BoolType c.requires.field.1 refl;
-  active = c.requires.active;
-}
-
-pub downcast-requires : goal.downcast-requires
-downcast-requires c = λ k. ((refl, tt), kind_is request_set (field_at request_set c.args.brand c.args.index).type BoolType c.sure_part-value.result c.sure_part-value.ensures.typed c.requires.field.1)
-
 pub returns : goal.returns
-returns c = ap value_seen c.downcast.ensures ∙ c.sure_part-value.ensures.value
+returns c =
+    ap (λ x. value.Truth x) c.get_bool_field.ensures
+    ∙ sym (truth_there c.args.reader c.args.brand c.args.index c.requires.record c.requires.active c.get_sections.result c.get_sections.ensures c.args.offset c.requires.field)

@@ -1,19 +1,12 @@
--- An 8-bit integer is always read, and a value of this type is an `i8`, so its number is what the record holds.
-use Rattle.std.proofs.Common.{refl}
-use Rattle.capnp_request.specs.RequestSet.{request_set}
-use Rattle.capnp_schema.specs.Schema.{field_at}
-use Rattle.capnp_schema.specs.Types.{IntType}
-use Rattle.capnp_request.proofs.Always.{whole_field}
-use Rattle.capnp_request.proofs.Taken.{kind_is}
+-- The number at the offset, with its sign, is what the record holds at the field, as its slot is there.
+use Rattle.std.proofs.Common.{ap, arith, of_z, sym, to_z, ◌∙◌}
+use Rattle.std.specs.Int.{w8, cast_signed}
+use Rattle.std.proofs.lemmas.Int.{of_z-to_z}
+use Rattle.capnp_records.specs.Record as value
+use Rattle.capnp_request.proofs.NumbersSeen.{integer_there}
 use Rattle.capnp_request.proofs.parts.i8_at.Goals as goal
 
-pub sure_part-value-requires : goal.sure_part-value-requires
-sure_part-value-requires c = record {
-  «record» = c.requires.record;
-  field = (c.requires.field.0, refl);
-  always = whole_field (field_at request_set c.args.brand c.args.index).field.kind (field_at request_set c.args.brand c.args.index).type (IntType 1) c.requires.field.1 refl;
-  active = c.requires.active;
-}
-
-pub int8_of-requires : goal.int8_of-requires
-int8_of-requires c = kind_is request_set (field_at request_set c.args.brand c.args.index).type (IntType 1) c.sure_part-value.result c.sure_part-value.ensures.typed c.requires.field.1
+pub returns : goal.returns
+returns c =
+    ap (λ x. value.Number x) (ap (λ x. to_z w8 (of_z w8 x)) c.cast_signed.ensures ∙ (ap (cast_signed w8) (of_z-to_z w8 c.get_data_field_mask.result (omega (arith, c.get_data_field_mask.type_inv))) ∙ ap (cast_signed w8) c.get_data_field_mask.ensures))
+    ∙ sym (integer_there c.args.reader c.args.brand c.args.index c.requires.record c.requires.active c.get_sections-sections.result c.get_sections-sections.ensures c.struct_is_well_formed.ensures.0 c.args.offset 1 c.requires.field)

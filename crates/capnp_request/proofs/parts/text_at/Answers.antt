@@ -1,14 +1,22 @@
--- A value that was read under the type of text is of its kind, so the bytes taken out of it are what the record holds.
-use Rattle.std.proofs.Common.{ap, refl, ◌∙◌}
-use Rattle.capnp_request.specs.RequestSet.{request_set}
-use Rattle.capnp_schema.specs.Schema.{field_at}
-use Rattle.capnp_schema.specs.Types.{TextType}
-use Rattle.capnp_dynamic_readers.specs.Seen.{value_seen}
-use Rattle.capnp_request.proofs.Taken.{kind_is}
+-- What the pointer reads as text is what the record holds at the field, by the lemma on a slot of text.
+-- Both outcomes follow from it.
+use Rattle.capnp_dynamic_readers.specs.Seen.{record_seen}
+use Rattle.capnp_request.specs.Parts.{request_read_at}
+use Rattle.capnp_request.proofs.PointersSeen.{text_refused, text_taken, text_there, refused_kinds}
 use Rattle.capnp_request.proofs.parts.text_at.Goals as goal
 
-pub downcast-requires : goal.downcast-requires
-downcast-requires c = λ k. ((refl, tt), kind_is request_set (field_at request_set c.args.brand c.args.index).type TextType c.in-Ok.value c.in-Ok.ensures.typed c.requires.field.1)
+pub returns-clause-read : goal.returns-clause-read
+returns-clause-read c =
+    text_taken c.get_text.result (request_read_at c.args.brand c.args.index (record_seen c.args.reader))
+    (text_there c.args.reader c.args.brand c.args.index c.requires.record c.requires.active c.get_sections.result c.get_sections.ensures c.get_pointer_field.result c.args.place c.get_pointer_field.ensures.tree c.get_pointer_field.ensures.levels c.requires.field c.get_text.result c.get_text.ensures)
 
-pub returns-in-Ok-clause-read : goal.returns-in-Ok-clause-read
-returns-in-Ok-clause-read c = ap value_seen c.downcast.ensures ∙ c.in-Ok.ensures.value
+pub returns-clause-refused : goal.returns-clause-refused
+returns-clause-refused c =
+    text_refused c.get_text.result (request_read_at c.args.brand c.args.index (record_seen c.args.reader))
+    (text_there c.args.reader c.args.brand c.args.index c.requires.record c.requires.active c.get_sections.result c.get_sections.ensures c.get_pointer_field.result c.args.place c.get_pointer_field.ensures.tree c.get_pointer_field.ensures.levels c.requires.field c.get_text.result c.get_text.ensures)
+
+pub returns-clause-kinds : goal.returns-clause-kinds
+returns-clause-kinds c =
+    refused_kinds c.get_text.result c.args.reader c.args.brand c.args.index
+    (text_refused c.get_text.result (request_read_at c.args.brand c.args.index (record_seen c.args.reader))
+    (text_there c.args.reader c.args.brand c.args.index c.requires.record c.requires.active c.get_sections.result c.get_sections.ensures c.get_pointer_field.result c.args.place c.get_pointer_field.ensures.tree c.get_pointer_field.ensures.levels c.requires.field c.get_text.result c.get_text.ensures))

@@ -1,23 +1,10 @@
--- A 64-bit number is always read, and a value of this type is a `u64`, so the number taken out is what the record holds.
-use Rattle.std.proofs.Common.{ap, refl, ◌∙◌}
-use Rattle.capnp_request.specs.RequestSet.{request_set}
-use Rattle.capnp_schema.specs.Schema.{field_at}
-use Rattle.capnp_schema.specs.Types.{UIntType}
-use Rattle.capnp_dynamic_readers.specs.Seen.{value_seen}
-use Rattle.capnp_request.proofs.Always.{whole_field}
-use Rattle.capnp_request.proofs.Taken.{kind_is}
+-- The number at the offset is what the record holds at the field, as its slot is there.
+use Rattle.std.proofs.Common.{ap, pos, sym, ◌∙◌}
+use Rattle.capnp_records.specs.Record as value
+use Rattle.capnp_request.proofs.NumbersSeen.{number_there}
 use Rattle.capnp_request.proofs.parts.u64_at.Goals as goal
 
-pub sure_part-value-requires : goal.sure_part-value-requires
-sure_part-value-requires c = record {
-  «record» = c.requires.record;
-  field = (c.requires.field.0, refl);
-  always = whole_field (field_at request_set c.args.brand c.args.index).field.kind (field_at request_set c.args.brand c.args.index).type (UIntType 8) c.requires.field.1 refl;
-  active = c.requires.active;
-}
-
-pub downcast-requires : goal.downcast-requires
-downcast-requires c = λ k. ((refl, tt), kind_is request_set (field_at request_set c.args.brand c.args.index).type (UIntType 8) c.sure_part-value.result c.sure_part-value.ensures.typed c.requires.field.1)
-
 pub returns : goal.returns
-returns c = ap value_seen c.downcast.ensures ∙ c.sure_part-value.ensures.value
+returns c =
+    ap (λ x. value.Number (pos x)) c.get_data_field_mask.ensures
+    ∙ sym (number_there c.args.reader c.args.brand c.args.index c.requires.record c.requires.active c.get_sections-sections.result c.get_sections-sections.ensures c.struct_is_well_formed.ensures.0 c.args.offset 8 0 c.requires.field)

@@ -31,60 +31,60 @@ type_of-returns-then-depth-eq0-clause-done t c =
 pub type_of-returns-in_default-clause-done : goal.type_of-returns-in_default-clause-done
 type_of-returns-in_default-clause-done t c =
     let deep : c.args.depth ≡ suc (c.args.depth - 1) = omega (arith, c.if-depth-eq0.false) in
-    λ n. ap (λ k. type_of (nodes_of c.args.context.nodes.now) c.args.context.strict (bounds c.args.inside.now) k (so_far c.args.entries.now c.args.seen.now)) (by_none (c.args.depth - 1) c.args.depth (record_seen c.args.term) deep (sym c.active_member.ensures ∙ c.in_default.is)) ∙ ap (λ k. Err k) (sym c.from-in_default.ensures)
+    λ n. ap (λ k. type_of (nodes_of c.args.context.nodes.now) c.args.context.strict (bounds c.args.inside.now) k (so_far c.args.entries.now c.args.seen.now)) (by_none (c.args.depth - 1) c.args.depth (record_seen c.args.term) deep (sym c.type_member.ensures ∙ c.in_default.is)) ∙ ap (λ k. Err k) (sym c.from-in_default.ensures)
 
 pub type_of-returns-in-Some-type_said_by_member-clause-done : goal.type_of-returns-in-Some-type_said_by_member-clause-done
 type_of-returns-in-Some-type_said_by_member-clause-done t c =
     let deep : c.args.depth ≡ suc (c.args.depth - 1) = omega (arith, c.if-depth-eq0.false) in
-    let which : which_of (record_seen c.args.term) ≡ Some c.in-Some.member = sym c.active_member.ensures ∙ c.in-Some.is in
+    let which : which_of (record_seen c.args.term) ≡ Some c.in-Some.member = sym c.type_member.ensures ∙ c.in-Some.is in
     ap (λ k. type_of (nodes_of c.args.context.nodes.now) c.args.context.strict (bounds c.args.inside.now) k (so_far c.args.entries.now c.args.seen.now)) (said_by_member (c.args.depth - 1) c.args.depth (record_seen c.args.term) c.in-Some.member (seen_type c.in-Some-type_said_by_member.said) deep which c.in-Some-type_said_by_member.ensures) ∙ ap (λ u. Ok (u, so_far c.args.entries.now c.args.seen.now)) (sym c.plain.ensures)
 
 pub type_of-returns-in-10-clause-done : goal.type_of-returns-in-10-clause-done
 type_of-returns-in-10-clause-done t c =
     let deep : c.args.depth ≡ suc (c.args.depth - 1) = omega (arith, c.if-depth-eq0.false) in
-    let which : which_of (record_seen c.args.term) ≡ Some c.in-Some.member = sym c.active_member.ensures ∙ c.in-Some.is in
+    let which : which_of (record_seen c.args.term) ≡ Some c.in-Some.member = sym c.type_member.ensures ∙ c.in-Some.is in
     work_done (nodes_of c.args.context.nodes.now) c.args.context.strict (bounds c.args.inside.now) seen_marked (type_said c.args.depth (record_seen c.args.term)) Float32 (float_type false c.args.context.strict) _ _ _ (type_by (c.args.depth - 1) c.args.depth (record_seen c.args.term) c.in-Some.member 10 deep which c.in-10.is) refl (c.float_type.ensures.done (numbered_entries c.args.entries.now))
 
 pub type_of-returns-in-11-clause-done : goal.type_of-returns-in-11-clause-done
 type_of-returns-in-11-clause-done t c =
     let deep : c.args.depth ≡ suc (c.args.depth - 1) = omega (arith, c.if-depth-eq0.false) in
-    let which : which_of (record_seen c.args.term) ≡ Some c.in-Some.member = sym c.active_member.ensures ∙ c.in-Some.is in
+    let which : which_of (record_seen c.args.term) ≡ Some c.in-Some.member = sym c.type_member.ensures ∙ c.in-Some.is in
     work_done (nodes_of c.args.context.nodes.now) c.args.context.strict (bounds c.args.inside.now) seen_marked (type_said c.args.depth (record_seen c.args.term)) Float64 (float_type true c.args.context.strict) _ _ _ (type_by (c.args.depth - 1) c.args.depth (record_seen c.args.term) c.in-Some.member 11 deep which c.in-11.is) refl (c.float_type-in-11.ensures.done (numbered_entries c.args.entries.now))
 
 pub type_of-returns-in-17-clause-done : goal.type_of-returns-in-17-clause-done
 type_of-returns-in-17-clause-done t c =
     let deep : c.args.depth ≡ suc (c.args.depth - 1) = omega (arith, c.if-depth-eq0.false) in
-    let which : which_of (record_seen c.args.term) ≡ Some c.in-Some.member = sym c.active_member.ensures ∙ c.in-Some.is in
+    let which : which_of (record_seen c.args.term) ≡ Some c.in-Some.member = sym c.type_member.ensures ∙ c.in-Some.is in
     work_done (nodes_of c.args.context.nodes.now) c.args.context.strict (bounds c.args.inside.now) seen_marked (type_said c.args.depth (record_seen c.args.term)) Interface (interface c.args.context.strict) _ _ _ (type_by (c.args.depth - 1) c.args.depth (record_seen c.args.term) c.in-Some.member 17 deep which c.in-17.is) refl (c.interface_type.ensures.done (numbered_entries c.args.entries.now))
 
 pub type_of-returns-in-14-clause-done : goal.type_of-returns-in-14-clause-done
 type_of-returns-in-14-clause-done t c =
     let deep : c.args.depth ≡ suc (c.args.depth - 1) = omega (arith, c.if-depth-eq0.false) in
-    let which : which_of (record_seen c.args.term) ≡ Some c.in-Some.member = sym c.active_member.ensures ∙ c.in-Some.is in
+    let which : which_of (record_seen c.args.term) ≡ Some c.in-Some.member = sym c.type_member.ensures ∙ c.in-Some.is in
     term_done (nodes_of c.args.context.nodes.now) c.args.context.strict (bounds c.args.inside.now) seen_marked (type_said c.args.depth (record_seen c.args.term)) (list_term (type_said (c.args.depth - 1)) (request_read_at 13 14 (record_seen c.args.term))) _ _ _ (type_by (c.args.depth - 1) c.args.depth (record_seen c.args.term) c.in-Some.member 14 deep which c.in-14.is) c.list_type_of.ensures.done
 
 pub type_of-returns-in-15-clause-done : goal.type_of-returns-in-15-clause-done
 type_of-returns-in-15-clause-done t c =
     let deep : c.args.depth ≡ suc (c.args.depth - 1) = omega (arith, c.if-depth-eq0.false) in
-    let which : which_of (record_seen c.args.term) ≡ Some c.in-Some.member = sym c.active_member.ensures ∙ c.in-Some.is in
+    let which : which_of (record_seen c.args.term) ≡ Some c.in-Some.member = sym c.type_member.ensures ∙ c.in-Some.is in
     term_done (nodes_of c.args.context.nodes.now) c.args.context.strict (bounds c.args.inside.now) seen_marked (type_said c.args.depth (record_seen c.args.term)) (enum_term (type_said (c.args.depth - 1)) (request_read_at 13 15 (record_seen c.args.term))) _ _ _ (type_by (c.args.depth - 1) c.args.depth (record_seen c.args.term) c.in-Some.member 15 deep which c.in-15.is) (c.enum_type_of.ensures.done (bounds c.args.inside.now) (c.args.depth - 1) (flags c.args.seen.now))
 
 pub type_of-returns-in-16-clause-done : goal.type_of-returns-in-16-clause-done
 type_of-returns-in-16-clause-done t c =
     let deep : c.args.depth ≡ suc (c.args.depth - 1) = omega (arith, c.if-depth-eq0.false) in
-    let which : which_of (record_seen c.args.term) ≡ Some c.in-Some.member = sym c.active_member.ensures ∙ c.in-Some.is in
+    let which : which_of (record_seen c.args.term) ≡ Some c.in-Some.member = sym c.type_member.ensures ∙ c.in-Some.is in
     term_done (nodes_of c.args.context.nodes.now) c.args.context.strict (bounds c.args.inside.now) seen_marked (type_said c.args.depth (record_seen c.args.term)) (struct_term (type_said (c.args.depth - 1)) (request_read_at 13 16 (record_seen c.args.term))) _ _ _ (type_by (c.args.depth - 1) c.args.depth (record_seen c.args.term) c.in-Some.member 16 deep which c.in-16.is) c.struct_type_of.ensures.done
 
 pub type_of-returns-in-18-clause-done : goal.type_of-returns-in-18-clause-done
 type_of-returns-in-18-clause-done t c =
     let deep : c.args.depth ≡ suc (c.args.depth - 1) = omega (arith, c.if-depth-eq0.false) in
-    let which : which_of (record_seen c.args.term) ≡ Some c.in-Some.member = sym c.active_member.ensures ∙ c.in-Some.is in
+    let which : which_of (record_seen c.args.term) ≡ Some c.in-Some.member = sym c.type_member.ensures ∙ c.in-Some.is in
     term_done (nodes_of c.args.context.nodes.now) c.args.context.strict (bounds c.args.inside.now) seen_marked (type_said c.args.depth (record_seen c.args.term)) (untyped_term (request_read_at 13 18 (record_seen c.args.term))) _ _ _ (type_by (c.args.depth - 1) c.args.depth (record_seen c.args.term) c.in-Some.member 18 deep which c.in-18.is) (c.untyped_or_bound.ensures.done (nodes_of c.args.context.nodes.now) c.args.context.strict (so_far c.args.entries.now c.args.seen.now))
 
 pub type_of-returns-in_default-member-clause-done : goal.type_of-returns-in_default-member-clause-done
 type_of-returns-in_default-member-clause-done t c =
     let deep : c.args.depth ≡ suc (c.args.depth - 1) = omega (arith, c.if-depth-eq0.false) in
-    let which : which_of (record_seen c.args.term) ≡ Some c.in-Some.member = sym c.active_member.ensures ∙ c.in-Some.is in
+    let which : which_of (record_seen c.args.term) ≡ Some c.in-Some.member = sym c.type_member.ensures ∙ c.in-Some.is in
     let none : c.type_said_by_member.result ≡ None = search rules in
     let other = none_said_by_member c.in-Some.member (option_map seen_type c.type_said_by_member.result) c.type_said_by_member.ensures (ap (option_map seen_type) none) in
     let no_float : 12 ≤ c.in-Some.member = omega (arith, other.0) in

@@ -18,7 +18,7 @@ returns-clause-numbers c =
     let absent : get (node_eq.ghosts).eq c.args.self.now.by_binding c.args.bound ≡ None = search rules in
     let es : List Entry = map seen_entry c.args.self.now.structs.items in
     let new : Entry = record { node = c.args.bound.id; bound = bounds c.args.bound.scopes.items; place = Whole } in
-    let more : map seen_entry c.push.new.self.items ≡ es ++ new ∷ [] = map_more seen_entry c.args.self.now.structs.items _ _ new c.in_ok-push.ensures.items (ap (λ b. record { node = c.args.bound.id; bound = b; place = Whole }) (c.in_ok-copied_scopes.ensures.read ∙ ap bounds c.as_slice.ensures.value)) in
+    let more : map seen_entry c.push.new.self.items ≡ es ++ new ∷ [] = map_more seen_entry c.args.self.now.structs.items _ _ new c.in_ok-push.ensures.items (ap (λ b. record { node = c.args.bound.id; bound = b; place = Whole }) (c.in_ok-copied_scopes.ensures.read ∙ ap bounds c.as_slice-2.ensures.value)) in
     record {
       structs = λ q. number_added (node_eq.ghosts).eq laws-law c.args.self.now.by_binding c.insert.new.self c.args.bound _ absent c.in_ok-insert.ensures.updates q _ _ _
           (numbers.structs q) (added_entry q.id (bounds q.scopes.items) es new _ _ more c.in_ok-number.ensures.number) (compared c.args.bound q);
