@@ -15,17 +15,17 @@ neither : (a b : Bool) → (a || b) ≡ false → (a ≡ false) × (b ≡ false)
 neither true b e = let no : ⊥ = cc in absurd no
 neither false b e = (refl, e)
 
-own_text : (id : ℕ) (name : List ℕ) (annotations : List Annotation) → is_annotated id annotations ≡ false → last_text id name annotations ≡ name
+pub own_text : (id : ℕ) (name : List ℕ) (annotations : List Annotation) → is_annotated id annotations ≡ false → last_text id name annotations ≡ name
 own_text id name [] h = refl
 own_text id name (a ∷ rest) h =
     let none = neither (a.id == id) (is_annotated id rest) h in
     ap (λ q. last_text id (text_if q name a.value) rest) none.0 ∙ own_text id name rest none.1
 
-own_name : (f : Field) → is_annotated name_id f.annotations ≡ false → field_name f ≡ f.name
+pub own_name : (f : Field) → is_annotated name_id f.annotations ≡ false → field_name f ≡ f.name
 own_name f h = own_text name_id f.name f.annotations h
 
 -- a brand's field is its node's
-of_its_node : (fs : List Field) (ts : List SchemaType) (i : ℕ) (f : Field) → slice_get (map (λ (x : TypedField). x.field) (typed_fields fs ts)) i ≡ Some f → slice_get fs i ≡ Some f
+pub of_its_node : (fs : List Field) (ts : List SchemaType) (i : ℕ) (f : Field) → slice_get (map (λ (x : TypedField). x.field) (typed_fields fs ts)) i ≡ Some f → slice_get fs i ≡ Some f
 of_its_node [] ts i f e = let no : ⊥ = cc in absurd no
 of_its_node (g ∷ fs) [] i f e = let no : ⊥ = cc in absurd no
 of_its_node (g ∷ fs) (t ∷ ts) zero f e = e
@@ -37,7 +37,7 @@ past_brands set b past =
     ap (λ o. (node_at set (unwrap_or o (no_brand set)).node).fields) (slice_get_past set.brands b past)
     ∙ ap (λ o. (unwrap_or o no_node).fields) (slice_get_past set.nodes (length set.nodes) (omega arith))
 
-fields_apart : (set : Schemas) → IsAccepted set → (b i j : ℕ) (f g : Field) → slice_get (node_of set b).fields i ≡ Some f → slice_get (node_of set b).fields j ≡ Some g → f.name ≡ g.name → i ≡ j
+pub fields_apart : (set : Schemas) → IsAccepted set → (b i j : ℕ) (f g : Field) → slice_get (node_of set b).fields i ≡ Some f → slice_get (node_of set b).fields j ≡ Some g → f.name ≡ g.name → i ≡ j
 fields_apart set accepted b i j f g at_i at_j same = elim (cases_lt b (length set.brands)) [
   | inl inside ↦ of_node set accepted (λ (n : Node). (k : ℕ) → HasOwnName n.fields k) accepted.rule3.names b inside i j f g at_i at_j same
   | inr past ↦

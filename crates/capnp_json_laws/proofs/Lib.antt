@@ -22,3 +22,4 @@ pub mod Shaped
 pub mod RootsBack
 pub mod MessagesBack
 pub mod NewMessages
+pub mod Checked

@@ -1,11 +1,12 @@
 //! The laws of JSON for whole records.
-ghost use Rattle.capnp_json_laws.specs.Distinct.{PlainNamesAreDistinct};
+ghost use Rattle.capnp_json_laws.specs.Distinct.{CheckedNamesAreDistinct, PlainNamesAreDistinct};
 ghost use Rattle.capnp_json_laws.specs.Laws.{JsonComesBack, JsonIsAsBefore, RecordsAreReadBack, TreesAreRead};
 ghost use Rattle.capnp_json_laws.specs.NewMessages.{NewMessagesHaveTheRecord};
 ghost use Rattle.capnp_json_laws.specs.Roots.{MessagesAreReadBack, RootsAreReadBack};
 ghost use Rattle.capnp_json_laws.specs.Shaped.{ReadersAreShaped};
 
 use capnp_json_messages::laws::rules_are_there;
+use capnp_json_names::laws::none_meet_where_apart;
 
 /// The tree of a value is read as the value, but for what `as_read` says.
 pub fn trees_are_read()
@@ -47,6 +48,14 @@ pub fn messages_are_read_back()
 pub fn plain_names_are_distinct()
     ensures { PlainNamesAreDistinct }
 {}
+
+/// In an accepted set that the check of names passed, names are distinct where own names of enumerants are: so the laws above hold
+/// there, which ask for distinct names.
+pub fn checked_names_are_distinct()
+    ensures { CheckedNamesAreDistinct }
+{
+    none_meet_where_apart();
+}
 
 /// The root of a message that is read of a record's JSON reads as the record, but for what `record_as_read` says.
 pub fn new_messages_have_the_record()

@@ -1,0 +1,5 @@
+pub mod Labels
+pub mod Meetings
+pub mod Distinct
+pub mod Met
+pub mod Steps
