@@ -17,3 +17,4 @@ pub mod Behind
 pub mod Frames
 pub mod DataBack
 pub mod IntegersBack
+pub mod HolderReads

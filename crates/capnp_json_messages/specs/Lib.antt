@@ -9,3 +9,4 @@ pub mod Opened
 pub mod Rows
 pub mod Messages
 pub mod ReadBack
+pub mod Holders

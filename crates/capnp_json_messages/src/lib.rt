@@ -9,5 +9,6 @@ pub mod put;
 pub mod read_back;
 pub mod row;
 pub mod started;
+pub mod value;
 pub mod walk;
 pub mod ways;

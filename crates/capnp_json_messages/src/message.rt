@@ -33,7 +33,7 @@ const MOST_WORDS: usize = (1 << 29) - 1;
 /// Makes the root of a message a new struct of a schema, and answers where it stands.
 ///
 /// Refused with `OutOfMemory` alone.
-fn start_root(message: &mut Builder, schema: StructSchema<'_>) -> Result<Place, Error>
+pub(crate) fn start_root(message: &mut Builder, schema: StructSchema<'_>) -> Result<Place, Error>
     requires inside { 0 < word_count (segment message.old) }
     ensures started { IfOk result (RootStarted schema.entry message.new) }
     ensures memory { IfErr result (λ e. e ≡ OutOfMemory) }
@@ -47,7 +47,7 @@ fn start_root(message: &mut Builder, schema: StructSchema<'_>) -> Result<Place, 
 
 /// Asks whether a message has at most the words of its limit. No read changes that limit: what was read is measured here, so
 /// that a contract says so. Else refused with `OutOfMemory`, as a value for which there was no room.
-fn keep_within(message: &Builder, limit: usize) -> Result<(), Error>
+pub(crate) fn keep_within(message: &Builder, limit: usize) -> Result<(), Error>
     ensures within { OnOk result (word_count (segment message.now) ≤ most_words limit) }
     ensures memory { IfErr result (λ e. e ≡ OutOfMemory) }
 {
