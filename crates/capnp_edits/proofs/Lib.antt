@@ -1,0 +1,10 @@
+pub mod AllLaws
+pub mod EditedValues
+pub mod NewLists
+pub mod OneValue
+pub mod Places
+pub mod Plain
+pub mod Results
+pub mod RowsEdits
+pub mod SplicedValues
+pub mod Widths

@@ -1,0 +1,6 @@
+//! Lists whose elements are added, taken out, and put in others' place.
+#![tactic(auto)]
+
+pub mod added;
+pub mod edit;
+pub mod laws;
