@@ -286,3 +286,54 @@ fn a_message_of_all_values_is_the_public_tools(rt: HostRuntime) -> Result<(), Fa
     let wanted = answered(rt.alloc(), false, 0, &written, &[])?;
     comes_to(&rt, rt.alloc(), &setting, &wanted)
 }
+
+/// A set of one struct, `P`, with the fields `a` and `b`, of which an annotation of json.capnp calls the second `a`.
+const MET: &str = "\
+0000000035000000 0000000000000300 0900000037000000 8d00000027000000 c100000007000000 0400000003000300 \
+f87deb03df9dfeb2 0100000000000000 0000000000000000 0900000012000000 0900000007000000 0900000047000000 \
+5000000000000000 0000000001000100 0800000001000300 0000000000000000 1900000012000000 1900000007000000 \
+1800000002000100 0000000001000000 1d00000012000000 1d00000017000000 3400000002000100 6100000000000000 \
+0000000001000100 0100000000000000 0000000000000000 0000000000000000 6200000000000000 0400000001000100 \
+3d7c2e1cd61f5bfa 0000000002000100 0b00000000000000 0000000000000000 0100000012000000 6100000000000000 \
+0100000000000000 0000000000000000 0000000000000000 0400000001000300 0000000000000000 0900000017000000 \
+1100000007000000 1100000016000000 0800000001000000 0100000000000000 0100000000000000 0000000001000000 \
+0500000007000000 050000000f000000 0000000001000000 0400000001000000 0c00000000000000 0000000001000500";
+
+/// Words under that set, whether the message is read, the status, and what is told and written.
+static MEETING: [(&str, &str); 7] = [
+    (
+        "json|--set|set|P",
+        "true 1 refused: 69 JsonNamesMeet (set) in P: b, a\n|",
+    ),
+    (
+        "json|--set|set|--each|P|a|--indent",
+        "true 1 refused: 69 JsonNamesMeet (set) in P: b, a\n|",
+    ),
+    (
+        "json|--set|set|--packed|Absent",
+        "true 1 refused: 69 JsonNamesMeet (set) in P: b, a\n|",
+    ),
+    (
+        "from-json|--set|set|P",
+        "true 1 refused: 69 JsonNamesMeet (set) in P: b, a\n|",
+    ),
+    (
+        "from-json|--set|set|--strict|--each|--keep-going|P",
+        "true 1 refused: 69 JsonNamesMeet (set) in P: b, a\n|",
+    ),
+    ("show|--set|set|P", "false 0 |(a = false, b = false)\n"),
+    ("json|Flat", "false 0 |{\"a\":0}\n"),
+];
+
+#[test]
+fn names_that_meet_are_refused_before_a_read(rt: HostRuntime) -> Result<(), Fail> {
+    let set = bytes_of(rt.alloc(), MET)?;
+    for (words, wanted) in &MEETING {
+        let setting = Setting {
+            set: &set,
+            ..run_on(words, &EMPTY_ROOT, false)
+        };
+        comes_to(&rt, rt.alloc(), &setting, wanted)?;
+    }
+    Ok(())
+}

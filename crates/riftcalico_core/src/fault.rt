@@ -87,7 +87,7 @@ pub fn get_place_file<'a>(task: &Task<'a>) -> Option<&'a str>
 }
 
 /// A file by its path, or what stands for none.
-fn get_file_word<'a>(file: Option<&'a str>, other: &'a str) -> &'a str
+pub(crate) fn get_file_word<'a>(file: Option<&'a str>, other: &'a str) -> &'a str
     ensures { result.now ≡ file_word (option_map (λ f. f.now) file.entry) other.now }
 {
     match file {

@@ -13,6 +13,7 @@ mod from_json;
 mod get;
 pub mod job;
 mod json;
+pub mod names;
 mod near;
 mod note;
 pub mod numbered;

@@ -30,6 +30,7 @@ module _ {F : Type 0} (told : F → Option (List ℕ)) (tells : F → ℕ) where
   pub ran_said : (t : Task) (by : Ran) (m : Option Told) (f f' : F) → IsToldOf t by m → IsSaid told tells m f f' → IsRanTold told tells t by f f'
   ran_said t (Ok (ended.Answered refused)) m f f' is said = nothing_said m f f' is said
   ran_said t (Ok (ended.Unreadable line)) m f f' is said = line_said m _ f f' is said
+  ran_said t (Ok (ended.NamesMeet line)) m f f' is said = line_said m _ f f' is said
   ran_said t (Err x) m f f' (inl is) said = inl (line_said m _ f f' is said)
   ran_said t (Err x) m f f' (inr is) said = inr (line_said m _ f f' is said)
 

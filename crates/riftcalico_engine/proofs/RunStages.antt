@@ -1,8 +1,9 @@
 -- The stages of a run one behind another, and where they stop.
-use Rattle.std.proofs.Common.{◌≡◌, ℕ, List, Option, Ok, inl, inr, refl}
+use Rattle.std.proofs.Common.{◌≡◌, ℕ, List, Option, None, Ok, inl, inr, refl}
 use Rattle.capnp_schema.specs.Schema.{Schemas}
 use Rattle.riftcalico_core.specs.Faults.{task_set_file}
 use Rattle.riftcalico_core.specs.Jobs.{IsJob, IsSetOfFile}
+use Rattle.riftcalico_core.specs.Names.{names_line}
 use Rattle.riftcalico_core.specs.Plans.{Plan, calls_file, plan_limit, task_plan}
 use Rattle.riftcalico_core.specs.declared.fault.Blamed.TheVariants as blamed
 use Rattle.riftcalico_core.specs.declared.job.Job.{Job}
@@ -18,11 +19,12 @@ module _ {S W F : Type 0} (left : S → Option (List ℕ)) (reads : S → ℕ) (
 
   pub jobless_run : (t : Task) (p : Plan) (set : Schemas) (s : S) (w : W) (f : F) (r : Ran) → IsWithoutJob p set r → Under t p set s s w w f f r
   jobless_run t p set s w f r (inl is) = inl (is, (refl, refl, refl))
-  jobless_run t p set s w f r (inr is) = inr (inl (is, (refl, refl, refl)))
+  jobless_run t p set s w f r (inr (inl is)) = inr (inl (is, (refl, refl, refl)))
+  jobless_run t p set s w f r (inr (inr is)) = inr (inr (inl (is, (refl, refl, refl))))
 
-  pub job_run : (t : Task) (p : Plan) (set : Schemas) (j : Job) (s s' : S) (w w' : W) (f f' : F) (r : Ran) → IsJob p set j → IsJobRun left reads written writes told tells t j s s' w w' f f' r →
+  pub job_run : (t : Task) (p : Plan) (set : Schemas) (j : Job) (s s' : S) (w w' : W) (f f' : F) (r : Ran) → names_line p set ≡ None → IsJob p set j → IsJobRun left reads written writes told tells t j s s' w w' f f' r →
       Under t p set s s' w w' f f' r
-  job_run t p set j s s' w w' f f' r is run = inr (inr (j, is, run))
+  job_run t p set j s s' w w' f f' r apart is run = inr (inr (inr (j, apart, is, run)))
 
 module _ {O A S W F : Type 0} (opens : Opens O A) (holds : A → Option (List ℕ)) (fails : A → ℕ)
     (left : S → Option (List ℕ)) (reads : S → ℕ) (written : W → Option (List ℕ)) (writes : W → ℕ) (told : F → Option (List ℕ)) (tells : F → ℕ) where

@@ -18,8 +18,9 @@ use Rattle.riftcalico_engine.specs.Steps.Passing.{IsRefusedWith}
 use Rattle.riftcalico_engine.specs.Steps.Told.{IsFaultLine, told_bytes}
 use Rattle.riftcalico_engine.specs.declared.ended.Ended.TheVariants as ended
 use Rattle.riftcalico_engine.specs.declared.told.Told.{Told}
-use Rattle.riftcalico_engine.specs.Streams.{AreRead, IsGoneOn, IsMessageUnread, IsNextRead, IsNextRefused, IsSoFar, IsStopped, IsStreamEnd, joined, none_passed, one_more}
-use Rattle.riftcalico_engine.specs.Texts.{no_texts, one_text}
+use Rattle.capnp_streams.specs.Next.{IsNextRead, IsNextRefused}
+use Rattle.riftcalico_engine.specs.Streams.{AreRead, IsGoneOn, IsMessageUnread, IsSoFar, IsStopped, IsStreamEnd, joined, none_passed, one_more}
+use Rattle.capnp_streams.specs.Texts.{no_texts, one_text}
 use Rattle.riftcalico_engine.specs.declared.ended.Refusal.{Refusal}
 use Rattle.riftcalico_words.specs.Tasks.{Task}
 
@@ -66,6 +67,7 @@ module _ {F : Type 0} (told : F → Option (List ℕ)) (tells : F → ℕ) where
   pub quiet_on : (t : Task) (going : Bool) (by : Ran) (f : F) (refused : Bool) → IsAnswered by refused → (refused ≡ true → going ≡ true) → IsGoneOn told tells t going by f f refused
   quiet_on t going (Ok (ended.Answered x)) f refused is may = (refl, sym is, λ e. may (sym is ∙ e))
   quiet_on t going (Ok (ended.Unreadable line)) f refused is may = absurd is
+  quiet_on t going (Ok (ended.NamesMeet line)) f refused is may = absurd is
   quiet_on t going (Err x) f refused is may = absurd is
 
   -- its refusal was

@@ -5,4 +5,3 @@ pub mod Programs
 pub mod Runs
 pub mod Steps
 pub mod Streams
-pub mod Texts

@@ -1,5 +1,5 @@
 -- What is written of an answer, and what is told.
-use Rattle.std.specs.Prelude.{ℕ, ◌≡◌, ◌⊎◌, ◌<◌, List, Bool, Option, None, Result, Ok, Err, length, take, string_bytes}
+use Rattle.std.specs.Prelude.{ℕ, ◌≡◌, ◌⊎◌, ◌<◌, List, Bool, Option, None, Some, Result, Ok, Err, length, take, string_bytes}
 use Rattle.std.specs.Io.KnownBytes.{Appends}
 use Rattle.capnp_arena.specs.Message.{message_tree}
 use Rattle.capnp_device.specs.Device.{HasFailed}
@@ -37,13 +37,22 @@ IsFault r so = IsFaultOf None r so
 -- a line tells what can't be read
 abbrev pub IsUnreadable : Ran → (so : List ℕ → Type 0) → Type 0
 IsUnreadable (Ok (ended.Unreadable line)) so = so (string_bytes line)
+IsUnreadable (Ok (ended.NamesMeet line)) so = ⊥
 IsUnreadable (Ok (ended.Answered refused)) so = ⊥
 IsUnreadable (Err x) so = ⊥
+
+-- a line tells names that meet in JSON
+abbrev pub HasMetNames : Ran → (asked : Option (List ℕ)) → Type 0
+HasMetNames (Ok (ended.NamesMeet line)) asked = asked ≡ Some (string_bytes line)
+HasMetNames (Ok (ended.Unreadable line)) asked = ⊥
+HasMetNames (Ok (ended.Answered refused)) asked = ⊥
+HasMetNames (Err x) asked = ⊥
 
 -- all was answered, and a call or a message was refused or not
 abbrev pub IsAnswered : Ran → (refused : Bool) → Type 0
 IsAnswered (Ok (ended.Answered x)) refused = x ≡ refused
 IsAnswered (Ok (ended.Unreadable line)) refused = ⊥
+IsAnswered (Ok (ended.NamesMeet line)) refused = ⊥
 IsAnswered (Err x) refused = ⊥
 
 -- a refusal was told, or where there is no memory for its line its number

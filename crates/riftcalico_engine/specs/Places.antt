@@ -29,6 +29,7 @@ new_path file = file ++ codes ".riftcalico-new"
 abbrev pub is_whole : Ran → Bool
 is_whole (Ok (ended.Answered refused)) = not refused
 is_whole (Ok (ended.Unreadable line)) = false
+is_whole (Ok (ended.NamesMeet line)) = false
 is_whole (Err x) = false
 
 module _ {O N : Type 0} (puts : Puts O N) (removes : Removes O N) where

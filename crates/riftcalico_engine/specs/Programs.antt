@@ -13,10 +13,11 @@ use Rattle.riftcalico_words.specs.Requests.{AskedRequest, WordFault}
 use Rattle.riftcalico_words.specs.Tasks.{Task}
 use Rattle.riftcalico_words.specs.Usage.{fault_text}
 
--- the exit status: 1 where a call or a message was refused
+-- the exit status: 1 where a call, a message or a set was refused
 abbrev pub status_of : Ran → ℕ
 status_of (Ok (ended.Answered refused)) = cond refused 1 0
 status_of (Ok (ended.Unreadable line)) = 2
+status_of (Ok (ended.NamesMeet line)) = 1
 status_of (Err x) = 1
 
 -- why words ask for nothing was told; where there is no memory for that the refusal's number
@@ -30,6 +31,7 @@ module _ {F : Type 0} (told : F → Option (List ℕ)) (tells : F → ℕ) where
   abbrev pub IsRanTold : Task → Ran → (f f' : F) → Type 0
   IsRanTold t (Ok (ended.Answered refused)) f f' = f' ≡ f
   IsRanTold t (Ok (ended.Unreadable line)) f f' = IsTold (string_bytes line) (told f) (told f') (tells f) (tells f')
+  IsRanTold t (Ok (ended.NamesMeet line)) f f' = IsTold (string_bytes line) (told f) (told f') (tells f) (tells f')
   IsRanTold t (Err x) f f' = IsFaultTold t x (told f) (told f') (tells f) (tells f')
 
 module _ {O A N S W F : Type 0} (opens : Opens O A) (holds : A → Option (List ℕ)) (fails : A → ℕ)

@@ -9,11 +9,12 @@ use Rattle.capnp_show_engine.specs.Opened.{file_paths}
 use Rattle.capnp_show_engine.specs.Show.{IsRead}
 use Rattle.riftcalico_core.specs.Faults.{task_set_file}
 use Rattle.riftcalico_core.specs.Jobs.{IsJob, IsLineOfPlan, IsRootUnnamed, IsNoSetOf, IsSetOfFile, is_packed, wants_input}
+use Rattle.riftcalico_core.specs.Names.{names_line}
 use Rattle.riftcalico_core.specs.Plans.{Plan, calls_file, plan_limit, task_plan}
 use Rattle.riftcalico_core.specs.declared.fault.Blamed.TheVariants as blamed
 use Rattle.riftcalico_core.specs.declared.job.Job.{Job}
 use Rattle.riftcalico_engine.specs.Files.{IsFileRead, IsFileUnread, Opens}
-use Rattle.riftcalico_engine.specs.Outputs.{IsAnsweredTo, IsFault, IsUnreadable, Ran}
+use Rattle.riftcalico_engine.specs.Outputs.{HasMetNames, IsAnsweredTo, IsFault, IsUnreadable, Ran}
 use Rattle.riftcalico_engine.specs.Streams.{IsMessagesRead}
 use Rattle.riftcalico_words.specs.Tasks.{Task, task_messages}
 use Rattle.riftcalico_words.specs.declared.request.Messages.{Messages}
@@ -55,12 +56,13 @@ module _ {S W F : Type 0} (left : S → Option (List ℕ)) (reads : S → ℕ) (
   abbrev pub IsIdle : (s s' : S) → (w w' : W) → (f f' : F) → Type 0
   IsIdle s s' w w' f f' = (s' ≡ s) × (w' ≡ w) × (f' ≡ f)
 
-  -- the struct of the root is in the set, and the values of calls can be read
+  -- where JSON is asked for no names meet, the struct of the root is in the set, and the values of calls can be read
   abbrev pub IsUnderSchemas : Task → Plan → Schemas → (s s' : S) → (w w' : W) → (f f' : F) → Ran → Type 0
   IsUnderSchemas t p set s s' w w' f f' r =
-      (IsFault r (λ x. (x.blamed ≡ blamed.Name) × ((x.error.kind ≡ OutOfMemory) ⊎ IsRootUnnamed p set x)) × IsIdle s s' w w' f f')
+      (HasMetNames r (names_line p set) × IsIdle s s' w w' f f')
+      ⊎ ((IsFault r (λ x. (x.blamed ≡ blamed.Name) × ((x.error.kind ≡ OutOfMemory) ⊎ ((names_line p set ≡ None) × IsRootUnnamed p set x))) × IsIdle s s' w w' f f')
       ⊎ ((IsUnreadable r (λ line. IsLineOfPlan p set line) × IsIdle s s' w w' f f')
-      ⊎ ((j : Job) × IsJob p set j × IsJobRun t j s s' w w' f f' r))
+      ⊎ ((j : Job) × (names_line p set ≡ None) × IsJob p set j × IsJobRun t j s s' w w' f f' r)))
 
   -- the bytes of its file give the set within the plan's limit, or it is the built-in one
   abbrev pub IsSetRun : Task → (file : Option (List ℕ)) → (bytes : List ℕ) → Plan → (s s' : S) → (w w' : W) → (f f' : F) → Ran → Type 0

@@ -7,12 +7,12 @@ use Rattle.capnp_device.specs.declared.error.ErrorKind.TheVariants.{OutOfMemory,
 use Rattle.std.specs.Option.{option_map}
 use Rattle.capnp_packed.specs.Unpacking.{unpacked_bytes}
 use Rattle.capnp_streams.specs.Lengths.{message_length}
-use Rattle.capnp_streams.specs.Received.{IsNotReceived, IsOver, IsReceived}
+use Rattle.capnp_streams.specs.Next.{IsNextRead, IsNextRefused, IsNoneLeft}
 use Rattle.riftcalico_core.specs.Jobs.{reads_texts}
 use Rattle.riftcalico_core.specs.declared.fault.Blamed.TheVariants as blamed
 use Rattle.riftcalico_core.specs.declared.job.Job.{Job}
 use Rattle.riftcalico_engine.specs.Outputs.{IsAnswered, IsMessageAnsweredTo, IsFault, IsFaultOf, IsFaultTold, Ran}
-use Rattle.riftcalico_engine.specs.Texts.{AreTextsOver, AreTextsRead, HasEndlessBlanks, IsTextReceived}
+use Rattle.capnp_streams.specs.Texts.{AreTextsRead}
 use Rattle.riftcalico_engine.specs.declared.ended.Ended.TheVariants as ended
 use Rattle.riftcalico_words.specs.Tasks.{Task}
 
@@ -21,6 +21,7 @@ use Rattle.riftcalico_words.specs.Tasks.{Task}
 abbrev pub IsGoneOn : {F : Type 0} → (told : F → Option (List ℕ)) → (tells : F → ℕ) → Task → (going : Bool) → Ran → (f f' : F) → (refused : Bool) → Type 0
 IsGoneOn told tells t going (Ok (ended.Answered x)) f f' refused = (f' ≡ f) × (refused ≡ x) × (x ≡ true → going ≡ true)
 IsGoneOn told tells t going (Ok (ended.Unreadable line)) f f' refused = ⊥
+IsGoneOn told tells t going (Ok (ended.NamesMeet line)) f f' refused = ⊥
 IsGoneOn told tells t going (Err x) f f' refused =
     (going ≡ true) × (refused ≡ true) × (x.fault.error.kind ≢ WriteFailed) × IsFaultTold t x (told f) (told f') (tells f) (tells f')
 
@@ -28,6 +29,7 @@ IsGoneOn told tells t going (Err x) f f' refused =
 abbrev pub IsStopped : (going : Bool) → Ran → Type 0
 IsStopped going (Ok (ended.Answered x)) = (x ≡ true) × (going ≡ false)
 IsStopped going (Ok (ended.Unreadable line)) = ⊤
+IsStopped going (Ok (ended.NamesMeet line)) = ⊤
 IsStopped going (Err x) = (going ≡ false) ⊎ (x.fault.error.kind ≡ WriteFailed)
 
 -- a message was answered to, and the next one is taken
@@ -59,21 +61,6 @@ pub record AreMessagesRead (left left' : Option (List ℕ)) (messages : List (Li
 abbrev pub AreRead : (texts : Bool) → (left left' : Option (List ℕ)) → List (List ℕ) → Type 0
 AreRead false left left' ms = AreMessagesRead left left' ms
 AreRead true left left' ms = AreTextsRead left left' ms
-
--- the next one was
-abbrev pub IsNextRead : (texts : Bool) → (left left' : Option (List ℕ)) → List ℕ → Type 0
-IsNextRead false left left' bytes = IsReceived left left' bytes
-IsNextRead true left left' bytes = IsTextReceived left left' bytes
-
--- there is none
-abbrev pub IsNoneLeft : (texts : Bool) → (left left' : Option (List ℕ)) → Type 0
-IsNoneLeft false left left' = IsOver left left'
-IsNoneLeft true left left' = AreTextsOver left left'
-
--- what is left is none
-abbrev pub IsNextRefused : (texts : Bool) → (left left' : Option (List ℕ)) → ErrorKind → Type 0
-IsNextRefused false left left' kind = IsNotReceived left left' kind
-IsNextRefused true left left' kind = HasEndlessBlanks left left' kind
 
 -- the next one can't be read
 abbrev pub IsMessageUnread : (texts : Bool) → (left left' : Option (List ℕ)) → (reads reads' : ℕ) → ErrorKind → Type 0

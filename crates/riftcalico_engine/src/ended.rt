@@ -12,6 +12,8 @@ pub enum Ended {
     Answered(bool),
     /// A word or a file of calls can't be read, which this line tells.
     Unreadable(String),
+    /// Names of the set meet in JSON, which this line tells.
+    NamesMeet(String),
 }
 
 /// A refusal.

@@ -195,7 +195,7 @@ pub(crate) fn is_whole(ran: &Ran) -> bool
 {
     match ran {
         Ok(Ended::Answered(refused)) => !*refused,
-        Ok(Ended::Unreadable(_)) | Err(_) => false,
+        Ok(Ended::Unreadable(_)) | Ok(Ended::NamesMeet(_)) | Err(_) => false,
     }
 }
 

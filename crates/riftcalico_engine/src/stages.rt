@@ -1,13 +1,14 @@
-//! The stages of a task between what is read: what its words ask, the set, the struct of its root with the values of its
-//! calls, and which messages are read.
-ghost use Rattle.std.specs.Prelude.{◌≡◌, IfErr, IfOk, Ok, Err};
+//! The stages of a task between what is read: what its words ask, the set, whether its names meet in JSON, the struct of its root
+//! with the values of its calls, and which messages are read.
+ghost use Rattle.std.specs.Prelude.{◌≡◌, IfErr, IfOk, None, Ok, OnOk, Err};
 ghost use Rattle.std.specs.Option.{option_map};
 ghost use Rattle.capnp_schema.specs.Entries.{lists_seen};
 ghost use Rattle.riftcalico_core.specs.Answers.{IsSoundJob};
 ghost use Rattle.riftcalico_core.specs.Jobs.{IsJob, IsSetOfFile, is_packed, wants_input};
+ghost use Rattle.riftcalico_core.specs.Names.{names_line};
 ghost use Rattle.riftcalico_core.specs.Plans.{plan_limit, task_plan};
 ghost use Rattle.riftcalico_core.specs.PlansSeen.{plan_seen};
-ghost use Rattle.riftcalico_engine.specs.Steps.Stages.{IsSetless, IsUnplanned, IsWithoutJob, stream_of, way_of};
+ghost use Rattle.riftcalico_engine.specs.Steps.Stages.{IsSetless, IsStoppedByNames, IsUnplanned, IsWithoutJob, stream_of, way_of};
 ghost use Rattle.riftcalico_words.specs.RequestSeen.{task_seen};
 ghost use Rattle.riftcalico_words.specs.Tasks.{task_messages};
 
@@ -15,6 +16,7 @@ use crate::ended::{Ended, Ran, Refusal, refuse};
 use capnp_schema::set::SchemaSet;
 use riftcalico_core::fault::Blamed;
 use riftcalico_core::job::{Job, find_job};
+use riftcalico_core::names::find_names_line;
 use riftcalico_core::plan::{Plan, read_plan};
 use riftcalico_core::schemas::make_schemas;
 use riftcalico_words::request::{Messages, Task, get_messages};
@@ -60,16 +62,31 @@ pub(crate) fn find_schemas(
     }
 }
 
-/// A plan under its set; or what the task came to, where the set lacks the struct or a value of a call can't be read.
+/// That a plan may be done under its set; or what the task came to, where it is of JSON and names meet there.
+fn check_names(alloc: Global, schemas: &SchemaSet, plan: &Plan<'_>) -> std::result::Result<(), Ran>
+    ensures apart { OnOk result (names_line (plan_seen plan.now) (lists_seen schemas.now) ≡ None) }
+    ensures stopped { IfErr result (IsStoppedByNames (plan_seen plan.now) (lists_seen schemas.now)) }
+{
+    match find_names_line(alloc, schemas, plan) {
+        Ok(None) => Ok(()),
+        Ok(Some(line)) => Err(Ok(Ended::NamesMeet(line))),
+        Err(error) => Err(Err(refuse(alloc, None, error, Blamed::Name))),
+    }
+}
+
+/// A plan under its set; or what the task came to, where it is of JSON and names of the set meet there, the set lacks the struct,
+/// or a value of a call can't be read.
 pub(crate) fn find_task_job<'s, 'c, 'w>(
     alloc: Global,
     schemas: &'s SchemaSet,
     plan: &'c Plan<'w>,
 ) -> std::result::Result<Job<'s, 'c, 'w>, Ran>
     ensures job { IfOk result (IsJob (plan_seen plan.now) (lists_seen schemas.now)) }
+    ensures apart { OnOk result (names_line (plan_seen plan.now) (lists_seen schemas.now) ≡ None) }
     ensures sound { IfOk result IsSoundJob }
     ensures stopped { IfErr result (IsWithoutJob (plan_seen plan.now) (lists_seen schemas.now)) }
 {
+    check_names(alloc, schemas, plan)?;
     match find_job(alloc, schemas, plan) {
         Ok(Ok(job)) => Ok(job),
         Ok(Err(line)) => Err(Ok(Ended::Unreadable(line))),

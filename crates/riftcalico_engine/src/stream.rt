@@ -1,21 +1,17 @@
 //! Messages that follow one another, each of which is answered to.
-ghost use Rattle.std.specs.Prelude.{◌≡◌, ◌≢◌, ◌||◌, IfErr, IfOk, MatchOption};
-ghost use Rattle.capnp_device.specs.Device.{HasFailed};
-ghost use Rattle.capnp_device.specs.declared.error.ErrorKind.TheVariants.{OutOfMemory, ReadFailed};
+ghost use Rattle.std.specs.Prelude.{◌≡◌, ◌||◌};
 ghost use Rattle.riftcalico_core.specs.Answers.{IsSoundJob};
-ghost use Rattle.riftcalico_core.specs.Jobs.{reads_texts};
 ghost use Rattle.riftcalico_engine.specs.Steps.Passing.{IsNext};
-ghost use Rattle.riftcalico_engine.specs.Streams.{IsNextRead, IsNextRefused, IsNoneLeft, IsStreamRun};
+ghost use Rattle.riftcalico_engine.specs.Streams.{IsStreamRun};
 ghost use Rattle.riftcalico_words.specs.RequestSeen.{task_seen};
 
 use crate::answering::put_answer;
 use crate::ended::{Ended, Ran, refuse};
-use crate::texts::try_read_text;
 use crate::told::{Told, get_told};
 use capnp_show_engine::command::{report, tell};
-use capnp_streams::receive::try_read_message;
-use capnp_wire::device::{DeviceFault, Sink, Source};
-use capnp_wire::error::{Error, ErrorKind, Result};
+use capnp_streams::next::try_read_next;
+use capnp_wire::device::{Sink, Source};
+use capnp_wire::error::{Error, ErrorKind};
 use riftcalico_core::answer::answer_message;
 use riftcalico_core::fault::Blamed;
 use riftcalico_core::job::Job;
@@ -46,6 +42,7 @@ fn go_on(alloc: Global, task: &Task<'_>, going: bool, ran: Ran) -> Next
             }
         }
         Ok(Ended::Unreadable(line)) => Next::Ends(Ok(Ended::Unreadable(line))),
+        Ok(Ended::NamesMeet(line)) => Next::Ends(Ok(Ended::NamesMeet(line))),
         Err(refusal) => {
             if !going || refusal.fault.error.kind == ErrorKind::WriteFailed {
                 return Next::Ends(Err(refusal));
@@ -60,27 +57,6 @@ fn either(a: bool, b: bool) -> bool
     ensures { result ≡ (a || b) }
 {
     a || b
-}
-
-/// The next message of a source, or text, as a job reads them; none where none is left. Refused as `try_read_message`, or
-/// `try_read_text`.
-fn try_read_next<R: Source>(
-    alloc: Global,
-    job: &Job<'_, '_, '_>,
-    source: &mut R,
-) -> Result<Option<Vec<u8>>>
-    ensures message { IfOk result (λ r. MatchOption r (IsNoneLeft (reads_texts job.now) (R.left source.old) (R.left source.new))
-        (λ m. IsNextRead (reads_texts job.now) (R.left source.old) (R.left source.new) m.items)) }
-    ensures refused { IfErr result (λ e. e.kind ≢ ReadFailed → e.kind ≢ OutOfMemory
-        → IsNextRefused (reads_texts job.now) (R.left source.old) (R.left source.new) e.kind) }
-    ensures failed { IfErr result (λ e. e.kind ≡ ReadFailed →
-        HasFailed (R.failures source.old) (R.failures source.new)) }
-{
-    if job.reads_texts() {
-        try_read_text(alloc, source)
-    } else {
-        try_read_message(alloc, source)
-    }
 }
 
 /// Answers to the messages of a source, one after another, which are not packed, or to its texts. Each is read when the answer to the one
@@ -106,7 +82,7 @@ pub(crate) fn run_each<R: Source, W: Sink, F: Sink>(
             let error = Error::from(ErrorKind::TooLarge);
             return Err(refuse(alloc, None, error, Blamed::Input));
         };
-        let message = match try_read_next(alloc, job, source) {
+        let message = match try_read_next(alloc, job.reads_texts(), source) {
             Ok(Some(message)) => message,
             Ok(None) => return Ok(Ended::Answered(refused)),
             Err(error) => return Err(refuse(alloc, Some(next), error, Blamed::Input)),
@@ -126,21 +102,5 @@ pub(crate) fn run_each<R: Source, W: Sink, F: Sink>(
             Next::Ends(ran) => return ran,
         }
         number = next;
-    }
-}
-
-/// A source that is lent.
-#[derive(Drop)]
-pub(crate) struct LentSource<'a, R> {
-    pub source: &'a mut R,
-}
-
-impl<R: Source> Source for LentSource<'_, R> {
-    ghost left = { λ s. R.left s.source.now };
-
-    ghost failures = { λ s. R.failures s.source.now };
-
-    fn read_some(&mut self, buffer: &mut [u8]) -> std::result::Result<usize, DeviceFault> {
-        self.source.read_some(buffer)
     }
 }

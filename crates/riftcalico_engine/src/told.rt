@@ -38,8 +38,8 @@ pub(crate) fn get_told(alloc: Global, task: &Task<'_>, refusal: &Refusal) -> Tol
     }
 }
 
-/// How the program ends where a task came to this: with status 1 where a call or a message was refused, or the task, and
-/// with 2 where a word can't be read.
+/// How the program ends where a task came to this: with status 1 where a call or a message was refused, or the task or its
+/// set, and with 2 where a word can't be read.
 pub(crate) fn get_outcome(alloc: Global, task: Task<'_>, ran: Ran) -> Outcome
     ensures { IsOutcome (task_seen task.entry) ran result }
 {
@@ -50,6 +50,10 @@ pub(crate) fn get_outcome(alloc: Global, task: Task<'_>, ran: Ran) -> Outcome
         },
         Ok(Ended::Unreadable(line)) => Outcome {
             status: 2,
+            told: Some(Told::Line(line)),
+        },
+        Ok(Ended::NamesMeet(line)) => Outcome {
+            status: 1,
             told: Some(Told::Line(line)),
         },
         Err(refusal) => Outcome {

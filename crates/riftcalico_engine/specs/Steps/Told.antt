@@ -32,6 +32,7 @@ IsFaultLine t x m = (told_bytes m ≡ fault_line t x.message x.fault) ⊎ (told_
 abbrev pub IsToldOf : Task → Ran → Option Told → Type 0
 IsToldOf t (Ok (ended.Answered refused)) m = m ≡ None
 IsToldOf t (Ok (ended.Unreadable line)) m = Tells m (string_bytes line)
+IsToldOf t (Ok (ended.NamesMeet line)) m = Tells m (string_bytes line)
 IsToldOf t (Err x) m = Tells m (fault_line t x.message x.fault) ⊎ Tells m (refusal_line x.fault.error.kind)
 
 -- a task came to this, and so the program ends

@@ -105,7 +105,7 @@ returns-in_default-clause-ran g c =
     let is_job = c.in-Ok-find_task_job.ensures.job in
     let way = sym c.get_way.ensures in
     under_run g.O.Opener.opens g.O.File.Source.left g.O.File.Source.failures g.R.Source.left g.R.Source.failures g.W.Sink.written g.W.Sink.failures g.F.Sink.written g.F.Sink.failures t c.args.opener.now c.read_file.new.opener c.read_file-2.new.opener calls bytes p set c.args.source.now c.args.source.now c.args.sink.now c.put_answer.new.sink c.args.errors.now c.put_answer.new.errors c.put_answer.result planned set_read made
-    (job_run g.R.Source.left g.R.Source.failures g.W.Sink.written g.W.Sink.failures g.F.Sink.written g.F.Sink.failures t p set j c.args.source.now c.args.source.now c.args.sink.now c.put_answer.new.sink c.args.errors.now c.put_answer.new.errors c.put_answer.result is_job
+    (job_run g.R.Source.left g.R.Source.failures g.W.Sink.written g.W.Sink.failures g.F.Sink.written g.F.Sink.failures t p set j c.args.source.now c.args.source.now c.args.sink.now c.put_answer.new.sink c.args.errors.now c.put_answer.new.errors c.put_answer.result c.in-Ok-find_task_job.ensures.apart is_job
     (unread_run g.R.Source.left g.R.Source.failures g.W.Sink.written g.W.Sink.failures g.F.Sink.written g.F.Sink.failures (task_messages t) t j c.args.source.now c.args.sink.now c.put_answer.new.sink c.args.errors.now c.put_answer.new.errors c.put_answer.result (way ∙ c.in-Unread.is)
     (answered_by g.W.Sink.written g.W.Sink.failures g.F.Sink.written g.F.Sink.failures (IsAnswer j []) (IsNoAnswer j []) (answer_blamed j) c.get_answer.result None c.args.sink.now c.put_answer.new.sink c.args.errors.now c.put_answer.new.errors c.put_answer.result c.get_answer.ensures.answer c.get_answer.ensures.refused c.get_answer.ensures.blamed c.put_answer.ensures)))
 
@@ -131,7 +131,7 @@ returns-in-Ok-read_all-clause-ran g c =
     let heard = answered_by g.W.Sink.written g.W.Sink.failures g.F.Sink.written g.F.Sink.failures (IsAnswer j c.deref-in-Ok-read_all.result.now) (IsNoAnswer j c.deref-in-Ok-read_all.result.now) (answer_blamed j) c.get_answer-in-Ok-read_all.result None c.args.sink.now c.put_answer-in-Ok-read_all.new.sink c.args.errors.now c.put_answer-in-Ok-read_all.new.errors c.put_answer-in-Ok-read_all.result c.get_answer-in-Ok-read_all.ensures.answer c.get_answer-in-Ok-read_all.ensures.refused c.get_answer-in-Ok-read_all.ensures.blamed c.put_answer-in-Ok-read_all.ensures in
     let answered = rw c.deref-in-Ok-read_all.ensures.value at heard in
     under_run g.O.Opener.opens g.O.File.Source.left g.O.File.Source.failures g.R.Source.left g.R.Source.failures g.W.Sink.written g.W.Sink.failures g.F.Sink.written g.F.Sink.failures t c.args.opener.now c.read_file.new.opener c.read_file-2.new.opener calls bytes p set c.args.source.now c.read_all.new.source c.args.sink.now c.put_answer-in-Ok-read_all.new.sink c.args.errors.now c.put_answer-in-Ok-read_all.new.errors c.put_answer-in-Ok-read_all.result planned set_read made
-    (job_run g.R.Source.left g.R.Source.failures g.W.Sink.written g.W.Sink.failures g.F.Sink.written g.F.Sink.failures t p set j c.args.source.now c.read_all.new.source c.args.sink.now c.put_answer-in-Ok-read_all.new.sink c.args.errors.now c.put_answer-in-Ok-read_all.new.errors c.put_answer-in-Ok-read_all.result is_job
+    (job_run g.R.Source.left g.R.Source.failures g.W.Sink.written g.W.Sink.failures g.F.Sink.written g.F.Sink.failures t p set j c.args.source.now c.read_all.new.source c.args.sink.now c.put_answer-in-Ok-read_all.new.sink c.args.errors.now c.put_answer-in-Ok-read_all.new.errors c.put_answer-in-Ok-read_all.result c.in-Ok-find_task_job.ensures.apart is_job
     (whole_run g.R.Source.left g.R.Source.failures g.W.Sink.written g.W.Sink.failures g.F.Sink.written g.F.Sink.failures (task_messages t) t j c.args.source.now c.read_all.new.source c.args.sink.now c.put_answer-in-Ok-read_all.new.sink c.args.errors.now c.put_answer-in-Ok-read_all.new.errors c.put_answer-in-Ok-read_all.result c.in-Ok-read_all.input.items (way ∙ c.in-Whole.is) (c.in-Ok-read_all.ensures.whole, c.in-Ok-read_all.ensures.to_end) answered))
 
 pub returns-in-Ok-read_all-clause-opened : goal.returns-in-Ok-read_all-clause-opened
@@ -154,7 +154,7 @@ returns-in-Whole-clause-ran g c =
     let is_job = c.in-Ok-find_task_job.ensures.job in
     let way = sym c.get_way.ensures in
     under_run g.O.Opener.opens g.O.File.Source.left g.O.File.Source.failures g.R.Source.left g.R.Source.failures g.W.Sink.written g.W.Sink.failures g.F.Sink.written g.F.Sink.failures t c.args.opener.now c.read_file.new.opener c.read_file-2.new.opener calls bytes p set c.args.source.now c.read_all.new.source c.args.sink.now c.args.sink.now c.args.errors.now c.args.errors.now (Err c.refuse.result) planned set_read made
-    (job_run g.R.Source.left g.R.Source.failures g.W.Sink.written g.W.Sink.failures g.F.Sink.written g.F.Sink.failures t p set j c.args.source.now c.read_all.new.source c.args.sink.now c.args.sink.now c.args.errors.now c.args.errors.now (Err c.refuse.result) is_job
+    (job_run g.R.Source.left g.R.Source.failures g.W.Sink.written g.W.Sink.failures g.F.Sink.written g.F.Sink.failures t p set j c.args.source.now c.read_all.new.source c.args.sink.now c.args.sink.now c.args.errors.now c.args.errors.now (Err c.refuse.result) c.in-Ok-find_task_job.ensures.apart is_job
     (whole_unread g.R.Source.left g.R.Source.failures g.W.Sink.written g.W.Sink.failures g.F.Sink.written g.F.Sink.failures (task_messages t) t j c.args.source.now c.read_all.new.source c.args.sink.now c.args.errors.now (Err c.refuse.result) (way ∙ c.in-Whole.is) (c.refuse.ensures.message, (c.refuse.ensures.blamed, rw c.refuse.ensures.error (by_read c.in-Err-read_all.error.kind c.in-Err-read_all.ensures.kinds c.in-Err-read_all.ensures.failed)))))
 
 pub returns-in-Whole-clause-opened : goal.returns-in-Whole-clause-opened
@@ -177,7 +177,7 @@ returns-in-Each-clause-ran g c =
     let is_job = c.in-Ok-find_task_job.ensures.job in
     let way = sym c.get_way.ensures in
     under_run g.O.Opener.opens g.O.File.Source.left g.O.File.Source.failures g.R.Source.left g.R.Source.failures g.W.Sink.written g.W.Sink.failures g.F.Sink.written g.F.Sink.failures t c.args.opener.now c.read_file.new.opener c.read_file-2.new.opener calls bytes p set c.args.source.now c.run_each.new.source c.args.sink.now c.run_each.new.sink c.args.errors.now c.run_each.new.errors c.run_each.result planned set_read made
-    (job_run g.R.Source.left g.R.Source.failures g.W.Sink.written g.W.Sink.failures g.F.Sink.written g.F.Sink.failures t p set j c.args.source.now c.run_each.new.source c.args.sink.now c.run_each.new.sink c.args.errors.now c.run_each.new.errors c.run_each.result is_job
+    (job_run g.R.Source.left g.R.Source.failures g.W.Sink.written g.W.Sink.failures g.F.Sink.written g.F.Sink.failures t p set j c.args.source.now c.run_each.new.source c.args.sink.now c.run_each.new.sink c.args.errors.now c.run_each.new.errors c.run_each.result c.in-Ok-find_task_job.ensures.apart is_job
     (each_run g.R.Source.left g.R.Source.failures g.W.Sink.written g.W.Sink.failures g.F.Sink.written g.F.Sink.failures (task_messages t) t j c.in-Each.going c.args.source.now c.run_each.new.source c.args.sink.now c.run_each.new.sink c.args.errors.now c.run_each.new.errors c.run_each.result (way ∙ c.in-Each.is) c.run_each.ensures))
 
 pub returns-in-Each-clause-opened : goal.returns-in-Each-clause-opened
@@ -206,7 +206,7 @@ returns-clause-ran g c =
     (ap (λ l. record { left = l; failures = unpack_failures u }) new.left ∙ ap (λ n. record { left = option_map unpacked_bytes (g.R.Source.left c.args.source.now); failures = n }) new.failures)
     c.run_each-in-Packed.ensures in
     under_run g.O.Opener.opens g.O.File.Source.left g.O.File.Source.failures g.R.Source.left g.R.Source.failures g.W.Sink.written g.W.Sink.failures g.F.Sink.written g.F.Sink.failures t c.args.opener.now c.read_file.new.opener c.read_file-2.new.opener calls bytes p set c.args.source.now _ c.args.sink.now c.run_each-in-Packed.new.sink c.args.errors.now c.run_each-in-Packed.new.errors c.run_each-in-Packed.result planned set_read made
-    (job_run g.R.Source.left g.R.Source.failures g.W.Sink.written g.W.Sink.failures g.F.Sink.written g.F.Sink.failures t p set j c.args.source.now _ c.args.sink.now c.run_each-in-Packed.new.sink c.args.errors.now c.run_each-in-Packed.new.errors c.run_each-in-Packed.result is_job
+    (job_run g.R.Source.left g.R.Source.failures g.W.Sink.written g.W.Sink.failures g.F.Sink.written g.F.Sink.failures t p set j c.args.source.now _ c.args.sink.now c.run_each-in-Packed.new.sink c.args.errors.now c.run_each-in-Packed.new.errors c.run_each-in-Packed.result c.in-Ok-find_task_job.ensures.apart is_job
     (packed_run g.R.Source.left g.R.Source.failures g.W.Sink.written g.W.Sink.failures g.F.Sink.written g.F.Sink.failures (task_messages t) t j c.in-Packed.going c.args.source.now _ c.args.sink.now c.run_each-in-Packed.new.sink c.args.errors.now c.run_each-in-Packed.new.errors c.run_each-in-Packed.result (way ∙ c.in-Packed.is) run))
 
 pub returns-clause-opened : goal.returns-clause-opened
@@ -230,7 +230,7 @@ returns-in-Unread-clause-ran g c =
     let way = sym c.get_way.ensures in
     let is_whole : IsJob (compatible_plan (whole_plan_seen c.in-Some.whole)) set j = subst (λ (q : Plan). IsJob q set j) c.in-Some.ensures.plan is_job in
     under_run g.O.Opener.opens g.O.File.Source.left g.O.File.Source.failures g.R.Source.left g.R.Source.failures g.W.Sink.written g.W.Sink.failures g.F.Sink.written g.F.Sink.failures t c.args.opener.now c.read_file.new.opener c.read_file-2.new.opener calls bytes p set c.args.source.now c.args.source.now c.args.sink.now c.put_answer-in-Unread.new.sink c.args.errors.now c.put_answer-in-Unread.new.errors c.put_answer-in-Unread.result planned set_read made
-    (job_run g.R.Source.left g.R.Source.failures g.W.Sink.written g.W.Sink.failures g.F.Sink.written g.F.Sink.failures t p set j c.args.source.now c.args.source.now c.args.sink.now c.put_answer-in-Unread.new.sink c.args.errors.now c.put_answer-in-Unread.new.errors c.put_answer-in-Unread.result is_job
+    (job_run g.R.Source.left g.R.Source.failures g.W.Sink.written g.W.Sink.failures g.F.Sink.written g.F.Sink.failures t p set j c.args.source.now c.args.source.now c.args.sink.now c.put_answer-in-Unread.new.sink c.args.errors.now c.put_answer-in-Unread.new.errors c.put_answer-in-Unread.result c.in-Ok-find_task_job.ensures.apart is_job
     (unread_run g.R.Source.left g.R.Source.failures g.W.Sink.written g.W.Sink.failures g.F.Sink.written g.F.Sink.failures (task_messages t) t j c.args.source.now c.args.sink.now c.put_answer-in-Unread.new.sink c.args.errors.now c.put_answer-in-Unread.new.errors c.put_answer-in-Unread.result (way ∙ c.in-Unread.is)
     (answered_by g.W.Sink.written g.W.Sink.failures g.F.Sink.written g.F.Sink.failures (IsAnswer j []) (IsNoAnswer j []) (answer_blamed j) c.answer_whole.result None c.args.sink.now c.put_answer-in-Unread.new.sink c.args.errors.now c.put_answer-in-Unread.new.errors c.put_answer-in-Unread.result
     (whole_answered c.in-Some.whole set j is_whole c.answer_whole.result c.answer_whole.ensures.answer) (whole_refused c.in-Some.whole set j is_whole c.answer_whole.result c.answer_whole.ensures.refused)

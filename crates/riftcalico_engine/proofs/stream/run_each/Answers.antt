@@ -31,6 +31,7 @@ returns-in_default g c =
 pub returns-in-Err : goal.returns-in-Err
 returns-in-Err g c =
     let more = c.in-Some.ensures in
+    let refused = rw c.reads_texts.ensures at c.in-Err.ensures.refused in
     record {
       at = c.loop-next.source;
       sink = c.loop-next.sink;
@@ -39,7 +40,7 @@ returns-in-Err g c =
       refused = c.loop-next.refused;
       before = c.loop-next.invariant.so_far;
       end = unread_end g.R.Source.left g.R.Source.failures g.W.Sink.written g.W.Sink.failures g.F.Sink.written g.F.Sink.failures c.args.job.now c.args.going c.loop-next.number c.in-Some.next c.loop-next.refused c.loop-next.source c.try_read_next.new.source c.loop-next.sink c.loop-next.errors
-          c.refuse-in-Err.result c.in-Err.error (omega (arith, more)) c.refuse-in-Err.ensures.message c.refuse-in-Err.ensures.blamed c.refuse-in-Err.ensures.error c.in-Err.ensures.refused c.in-Err.ensures.failed;
+          c.refuse-in-Err.result c.in-Err.error (omega (arith, more)) c.refuse-in-Err.ensures.message c.refuse-in-Err.ensures.blamed c.refuse-in-Err.ensures.error refused c.in-Err.ensures.failed;
     }
 
 pub returns-in-Ends : goal.returns-in-Ends
@@ -47,6 +48,8 @@ returns-in-Ends g c =
     let more = c.in-Some.ensures in
     let job = c.args.job.now in
     let given = c.deref.result.now in
+    let message = rw c.in-Ok-Some.field-0-is at c.in-Ok-Some.ensures.message in
+    let read = rw c.reads_texts.ensures at message in
     let answered = answered_by g.W.Sink.written g.W.Sink.failures g.F.Sink.written g.F.Sink.failures (IsMessageAnswer job given) (IsNoMessageAnswer job given) (answer_blamed job) c.answer_message-answer.result (Some c.in-Some.next)
     c.loop-next.sink c.put_answer-ran.new.sink c.loop-next.errors c.put_answer-ran.new.errors c.put_answer-ran.result c.answer_message-answer.ensures.answer c.answer_message-answer.ensures.refused c.answer_message-answer.ensures.blamed c.put_answer-ran.ensures in
     record {
@@ -58,7 +61,7 @@ returns-in-Ends g c =
       before = c.loop-next.invariant.so_far;
       end = stop_end g.R.Source.left g.R.Source.failures g.W.Sink.written g.W.Sink.failures g.F.Sink.written g.F.Sink.failures job c.args.going c.loop-next.number c.in-Some.next c.loop-next.refused c.loop-next.source c.try_read_next.new.source c.loop-next.sink c.put_answer-ran.new.sink
           c.loop-next.errors c.put_answer-ran.new.errors c.put_answer-ran.new.errors c.in-Ok-Some.message.items given c.put_answer-ran.result c.in-Ends.ran (omega (arith, more))
-          (rw c.in-Ok-Some.field-0-is at c.in-Ok-Some.ensures.message) c.deref.ensures.value answered c.in-Ends.ensures.0 c.in-Ends.ensures.1 refl;
+          read c.deref.ensures.value answered c.in-Ends.ensures.0 c.in-Ends.ensures.1 refl;
     }
 
 pub loop-next-preserved : goal.loop-next-preserved
@@ -66,6 +69,8 @@ loop-next-preserved g c =
     let more = c.in-Some.ensures in
     let job = c.args.job.now in
     let given = c.deref.result.now in
+    let message = rw c.in-Ok-Some.field-0-is at c.in-Ok-Some.ensures.message in
+    let read = rw c.reads_texts.ensures at message in
     let answered = answered_by g.W.Sink.written g.W.Sink.failures g.F.Sink.written g.F.Sink.failures (IsMessageAnswer job given) (IsNoMessageAnswer job given) (answer_blamed job) c.answer_message-answer.result (Some c.in-Some.next)
     c.loop-next.sink c.put_answer-ran.new.sink c.loop-next.errors c.put_answer-ran.new.errors c.put_answer-ran.result c.answer_message-answer.ensures.answer c.answer_message-answer.ensures.refused c.answer_message-answer.ensures.blamed c.put_answer-ran.ensures in
     let task = task_seen c.args.task.now in
@@ -76,7 +81,7 @@ loop-next-preserved g c =
         so_far = joined _ _ _ _ w.errors-is (w.refused-is ∙ w.either-refused.ensures)
             (next_so_far g.R.Source.left g.R.Source.failures g.W.Sink.written g.W.Sink.failures g.F.Sink.written g.F.Sink.failures task job c.args.going c.loop-next.number c.in-Some.next c.args.source.now c.loop-next.source c.try_read_next.new.source
             c.args.sink.now c.loop-next.sink c.put_answer-ran.new.sink c.args.errors.now c.loop-next.errors c.put_answer-ran.new.errors c.put_answer-ran.new.errors c.loop-next.refused w.in-Quietly.one
-            c.in-Ok-Some.message.items c.put_answer-ran.result (omega (arith, more)) c.loop-next.invariant.so_far (rw c.in-Ok-Some.field-0-is at c.in-Ok-Some.ensures.message) whole (quiet_on g.F.Sink.written g.F.Sink.failures task c.args.going c.put_answer-ran.result c.put_answer-ran.new.errors w.in-Quietly.one w.in-Quietly.ensures.0 w.in-Quietly.ensures.1));
+            c.in-Ok-Some.message.items c.put_answer-ran.result (omega (arith, more)) c.loop-next.invariant.so_far read whole (quiet_on g.F.Sink.written g.F.Sink.failures task c.args.going c.put_answer-ran.result c.put_answer-ran.new.errors w.in-Quietly.one w.in-Quietly.ensures.0 w.in-Quietly.ensures.1));
         small = omega (arith, more);
       }
       | in-Telling-Line w ↦ let is = rw w.in-Telling-Line.field-0-is at w.in-Telling-Line.ensures in
@@ -85,7 +90,7 @@ loop-next-preserved g c =
             so_far = joined _ _ _ _ w.errors-is (w.refused-is ∙ or_true c.loop-next.refused)
                 (next_so_far g.R.Source.left g.R.Source.failures g.W.Sink.written g.W.Sink.failures g.F.Sink.written g.F.Sink.failures task job c.args.going c.loop-next.number c.in-Some.next c.args.source.now c.loop-next.source c.try_read_next.new.source
                 c.args.sink.now c.loop-next.sink c.put_answer-ran.new.sink c.args.errors.now c.loop-next.errors c.put_answer-ran.new.errors w.tell.new.errors c.loop-next.refused true
-                c.in-Ok-Some.message.items c.put_answer-ran.result (omega (arith, more)) c.loop-next.invariant.so_far (rw c.in-Ok-Some.field-0-is at c.in-Ok-Some.ensures.message) whole (telling_on g.F.Sink.written g.F.Sink.failures task c.args.going c.put_answer-ran.result (told.Line w.in-Telling-Line.line) c.put_answer-ran.new.errors w.tell.new.errors is.0 is.1 said));
+                c.in-Ok-Some.message.items c.put_answer-ran.result (omega (arith, more)) c.loop-next.invariant.so_far read whole (telling_on g.F.Sink.written g.F.Sink.failures task c.args.going c.put_answer-ran.result (told.Line w.in-Telling-Line.line) c.put_answer-ran.new.errors w.tell.new.errors is.0 is.1 said));
             small = omega (arith, more);
           }
       | in-Telling-Number w ↦ let is = rw w.in-Telling-Number.field-0-is at w.in-Telling-Number.ensures in
@@ -93,7 +98,7 @@ loop-next-preserved g c =
             so_far = joined _ _ _ _ w.errors-is (w.refused-is ∙ or_true c.loop-next.refused)
                 (next_so_far g.R.Source.left g.R.Source.failures g.W.Sink.written g.W.Sink.failures g.F.Sink.written g.F.Sink.failures task job c.args.going c.loop-next.number c.in-Some.next c.args.source.now c.loop-next.source c.try_read_next.new.source
                 c.args.sink.now c.loop-next.sink c.put_answer-ran.new.sink c.args.errors.now c.loop-next.errors c.put_answer-ran.new.errors w.report.new.errors c.loop-next.refused true
-                c.in-Ok-Some.message.items c.put_answer-ran.result (omega (arith, more)) c.loop-next.invariant.so_far (rw c.in-Ok-Some.field-0-is at c.in-Ok-Some.ensures.message) whole (telling_on g.F.Sink.written g.F.Sink.failures task c.args.going c.put_answer-ran.result (told.Number w.in-Telling-Number.kind) c.put_answer-ran.new.errors w.report.new.errors is.0 is.1 said));
+                c.in-Ok-Some.message.items c.put_answer-ran.result (omega (arith, more)) c.loop-next.invariant.so_far read whole (telling_on g.F.Sink.written g.F.Sink.failures task c.args.going c.put_answer-ran.result (told.Number w.in-Telling-Number.kind) c.put_answer-ran.new.errors w.report.new.errors is.0 is.1 said));
             small = omega (arith, more);
           }
     ]

@@ -1,7 +1,7 @@
 -- So many lines of blanks were read.
 use Rattle.std.proofs.Common.{◌≡◌, ◌-◌, ◌<◌, ◌^◌}
-use Rattle.riftcalico_engine.specs.Texts.{AreBlanksRead}
-use Rattle.riftcalico_engine.proofs.texts.try_read_text.Given as goal
+use Rattle.capnp_streams.specs.Texts.{AreBlanksRead}
+use Rattle.capnp_streams.proofs.texts.try_read_text.Given as goal
 
 abbrev pub invariant-lines : goal.invariant-lines
 invariant-lines g l = record {

@@ -1,7 +1,7 @@
 -- The bytes so far were read, and none of them is a line feed.
 use Rattle.std.proofs.Common.{ℕ, ◌≡◌, ◌≢◌, ◌-◌, ◌^◌, All, vec_len}
 use Rattle.std.specs.Io.KnownBytes.{Consumes}
-use Rattle.riftcalico_engine.proofs.texts.read_line.Given as goal
+use Rattle.capnp_streams.proofs.texts.read_line.Given as goal
 
 abbrev pub invariant-bytes : goal.invariant-bytes
 invariant-bytes g l = record {

@@ -1,8 +1,8 @@
 -- Lines of blanks were read one after another.
 use Rattle.std.proofs.Common.{ℕ, suc, List, [], ◌∷◌, ◌≡◌, ◌<◌, ◌∙◌, arith, length, refl, rules, subst, sym}
 use Rattle.capnp_json_text.specs.Readings.{after_blanks}
-use Rattle.riftcalico_engine.specs.Texts.{AreBlanksRead, no_blanks, one_blank}
-use Rattle.riftcalico_engine.proofs.texts.try_read_text.Goals as goal
+use Rattle.capnp_streams.specs.Texts.{AreBlanksRead, no_blanks, one_blank}
+use Rattle.capnp_streams.proofs.texts.try_read_text.Goals as goal
 
 none_of : {A : Type 0} (xs : List A) → (0 < length xs → ⊥) → xs ≡ []
 none_of [] h = refl

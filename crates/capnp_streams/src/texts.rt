@@ -3,7 +3,7 @@ ghost use Rattle.std.specs.Prelude.{[], ◌≡◌, ◌≢◌, IfErr, IfOk, Match
 ghost use Rattle.capnp_device.specs.Device.{HasFailed};
 ghost use Rattle.capnp_device.specs.declared.error.ErrorKind.TheVariants.{OutOfMemory, ReadFailed};
 ghost use Rattle.capnp_streams.specs.Received.{IsOver};
-ghost use Rattle.riftcalico_engine.specs.Texts.{AreTextsOver, HasEndlessBlanks, IsLineRead, IsTextReceived};
+ghost use Rattle.capnp_streams.specs.Texts.{AreTextsOver, HasEndlessBlanks, IsLineRead, IsTextReceived};
 
 use capnp_json_text::rest::skip_blanks;
 use capnp_wire::device::Source;
@@ -42,7 +42,7 @@ fn read_line<S: Source>(source: &mut S, line: &mut Vec<u8>) -> Result<bool>
 ///
 /// Refused with `ReadFailed` where a call of the source failed, with `OutOfMemory`, and with `TooLarge` where 2^64 lines of
 /// blanks come before.
-pub(crate) fn try_read_text<S: Source>(alloc: Global, source: &mut S) -> Result<Option<Vec<u8>>>
+pub fn try_read_text<S: Source>(alloc: Global, source: &mut S) -> Result<Option<Vec<u8>>>
     ensures text { IfOk result (λ r. MatchOption r (AreTextsOver (S.left source.old) (S.left source.new))
         (λ m. IsTextReceived (S.left source.old) (S.left source.new) m.items)) }
     ensures refused { IfErr result (λ e. e.kind ≢ ReadFailed → e.kind ≢ OutOfMemory

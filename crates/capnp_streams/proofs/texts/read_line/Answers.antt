@@ -3,7 +3,7 @@ use Rattle.std.proofs.Common.{ℕ, List, [], ◌∷◌, ◌++◌, ◌≡◌, ari
 use Rattle.std.proofs.lemmas.List.{length-append}
 use Rattle.std.specs.Io.KnownBytes.{Consumes}
 use Rattle.capnp_device.proofs.Known.{consumes_both}
-use Rattle.riftcalico_engine.proofs.texts.read_line.Goals as goal
+use Rattle.capnp_streams.proofs.texts.read_line.Goals as goal
 
 pub returns-then-byte-eq10-clause-line : goal.returns-then-byte-eq10-clause-line
 returns-then-byte-eq10-clause-line g c =
