@@ -203,6 +203,24 @@ expect 'floats that words set' $status 0 '(gain = 1.5, levels = [[-0.1, inf, 167
 expect 'a float at a path as JSON' $? 0 '-0.1' ''
 refused endless '' 66
 
+# met CASE TEXT TOLD: where names meet in JSON, both verbs are refused before they read, and the public tool ends
+met() {
+    printf '@0xc8f1a3d5e7b92479;\nannotation name @0xfa5b1fd61c2e7c3d (*) :Text;\n%s\n' "$2" > "$scratch/met.capnp"
+    (cd "$scratch" && capnp compile -o- met.capnp) > "$scratch/request"
+    ./capnp_set < "$scratch/request" > "$scratch/met.set" 2> "$scratch/err"
+    for verb in json from-json; do
+        ./riftcalico $verb --set "$scratch/met.set" Person < /dev/null > "$scratch/out" 2> "$scratch/err"
+        expect "$1: $verb" $? 1 '' "refused: 69 JsonNamesMeet ($scratch/met.set) in $3"
+    done
+    ! echo '{}' | capnp convert json:binary "$scratch/met.capnp" Person > "$scratch/out" 2> /dev/null || fail "$1: the tool goes on"
+}
+met 'two fields of one name' 'struct Person { id @0 :UInt32; name @1 :Text; email @2 :Text $name("name"); }' 'Person: email, name'
+met 'a member and a field' 'struct Person { id @0 :UInt32; union { a @1 :Text; b @2 :Text $name("id"); } }' 'Person: b, id'
+met 'fields of a group' 'struct Person { at :group { x @0 :Text $name("z"); y @1 :Text; z @2 :Text; } }' 'Person.at: x, z'
+met 'two enumerants' 'struct Person { shade @0 :Shade; } enum Shade { dark @0; dim @1 $name("dark"); }' 'Shade: dim, dark'
+./riftcalico show --set "$scratch/met.set" Person < /dev/null > "$scratch/out" 2> "$scratch/err"
+expect 'names that meet are shown' $? 1 '' 'refused: 2 Truncated (standard input)'
+
 # each binding of a generic has a copy of its defaults, and a set that is too large is refused before all are made
 {
     printf '@0xc8f1a3d5e7b92478;\nstruct Large(T) { item @0 :T; data @1 :Data = 0x"%020000d"; }\nstruct Holder {\n' 0
@@ -216,6 +234,19 @@ capnp compile -o- "$scratch/large.capnp" > "$scratch/request"
 expect 'a generic bound ten times, past a limit' $? 1 '' 'refused: 11 TooLarge (standard input)'
 ./riftcalico schemas --limit 200000 < "$scratch/request" > "$scratch/large.set" 2> "$scratch/err"
 expect 'the same within one' $? 0 '' ''
+
+# no more than 1,024 types are bound in one entry, also in one that is only named: 66 comes before a limit of the lists
+for count in 1024 1025; do
+    awk -v "count=$count" 'BEGIN {
+        for (i = 0; i < count; i++) { parameters = parameters (i ? ", " : "") "P" i; texts = texts (i ? ", " : "") "Text" }
+        print "@0xbf5147bd4fa0f7c4;\nstruct Wide(" parameters ") {}\nstruct Use { wide @0 :Wide(" texts "); }"
+    }' > "$scratch/wide.capnp"
+    capnp compile -o- "$scratch/wide.capnp" > "$scratch/request"
+    wanted='11 TooLarge'
+    [ "$count" -eq 1024 ] || wanted='66 TooManyTypes'
+    ./riftcalico schemas --limit 100 < "$scratch/request" > "$scratch/out" 2> "$scratch/err"
+    expect "$count types bound" $? 1 '' "refused: $wanted (standard input)"
+done
 
 # the compiler's own schema: 35 entries, under which a request is shown
 schema=$(echo /usr/include/capnp/schema.capnp)

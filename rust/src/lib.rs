@@ -105,12 +105,20 @@ pub mod dynamic_value {
     };
 }
 
+/// Lists that are edited, each in a message of its own, which a set of the list takes.
+pub mod edits {
+    pub use crate::capnp_edits::added::{list_one, new_elements};
+    pub use crate::capnp_edits::edit::{change_list, Edit};
+    pub use crate::capnp_splices::read::read_list;
+}
+
 /// Types as values.
 pub mod introspect {
     pub use crate::capnp_base::introspect::{Introspect, RawBrandedStructSchema, RawEnumSchema, Type, TypeVariant};
 }
 
-/// Values and messages as JSON, and messages of JSON texts.
+/// Values and messages as JSON, and messages of JSON texts. None of these calls looks whether names of the set meet in JSON:
+/// `check_names` does, once for a set.
 pub mod json {
     pub use crate::capnp_from_json::error::{Error as ReadError, Refusal as ReadRefusal, RefusalKind};
     pub use crate::capnp_json::error::JsonError;
@@ -118,6 +126,8 @@ pub mod json {
     pub use crate::capnp_json::json::{to_json, to_json_as};
     pub use crate::capnp_json::message::message_to_json;
     pub use crate::capnp_json_messages::message::read_message as from_json;
+    pub use crate::capnp_json_messages::value::read_value_within;
+    pub use crate::capnp_json_names::names::{check_names, NamesMeet};
 }
 
 /// The allocator, and vectors and strings whose growth can be refused.

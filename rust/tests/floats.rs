@@ -94,7 +94,7 @@ fn check_bits(width: Width, bits: u64) {
 
 #[test]
 fn rows_of_texts() {
-    let rows: [(Width, u64, &str); 30] = [
+    let rows: [(Width, u64, &str); 33] = [
         (Width::Float64, 0, "0"),
         (Width::Float64, 0x8000_0000_0000_0000, "-0"),
         (Width::Float32, 0x8000_0000, "-0"),
@@ -119,6 +119,10 @@ fn rows_of_texts() {
         (Width::Float32, 0x0c00_0000, "9.8607613e-32"),
         (Width::Float32, 0x15ae_43fd, "7.038531e-26"),
         (Width::Float32, 0x3f2a_aaab, "0.6666667"),
+        // nine digits, as Rust has them
+        (Width::Float32, 0x4120_000b, "10.0000105"),
+        (Width::Float32, 0x42c8_0002, "100.000015"),
+        (Width::Float32, 0x447a_0001, "1000.00006"),
         (Width::Float64, 0x7ff0_0000_0000_0000, "inf"),
         (Width::Float64, 0xfff0_0000_0000_0000, "-inf"),
         (Width::Float32, 0x7f80_0000, "inf"),

@@ -1,10 +1,13 @@
 //! JSON of messages: the lines of `capnp convert --short binary:json` (0.9.2) for the messages in `examples`, and their
 //! indented forms as `jq` prints them. The same lines are read into messages again.
 
+use super::refusing::most_held;
 use crate::capnp_from_json::error::Error;
+use crate::capnp_dynamic::{dynamic_struct, printer};
 use crate::capnp_json::error::JsonError;
 use crate::capnp_json::message::message_to_json;
 use crate::capnp_json_messages::message::read_message as read_json;
+use crate::capnp_json_messages::value::read_value_within;
 use crate::capnp_schema::builtin;
 use crate::capnp_schema::set::SchemaSet;
 use crate::capnp_set_engine::engine::convert_bytes;
@@ -241,4 +244,99 @@ fn deep_texts() {
     let nested = |count: usize| format!(r#"{}{{"end":null}}{}"#, r#"{"again":"#.repeat(count), "}".repeat(count));
     assert_eq!(read_again(&set, "Loop", &nested(63), true), Ok(nested(63)));
     assert_eq!(read_again(&set, "Loop", &nested(64), true), Err((8, Some(64 * 9))));
+}
+
+/// Texts of one field: the struct, the field, the text, and the field's value as it is printed, by the definition of texts.
+const VALUES: [(&str, &str, &str, &str); 8] = [
+    ("Flat", "a", " 7 ", "7"),
+    ("Mixed", "b", r#""h\u00e9\n""#, r#""hé\n""#),
+    ("Lists", "bytes", "[1,2,255]", "[1, 2, 255]"),
+    ("Lists", "items", r#"[{"a":1},{}]"#, "[(a = 1), (a = 0)]"),
+    ("Lists", "raw", "[0,255]", r#"0x"00ff""#),
+    ("Shapes", "circle", r#"{"r":9}"#, "(r = 9)"),
+    ("Loop", "again", r#"{"again":{}}"#, "(again = (end = ()))"),
+    ("Node", "size", r#""bit""#, "bit"),
+];
+
+/// The texts of one field that are refused: the number of the refusal, and its place.
+const NO_VALUES: [(&str, &str, &str, u32, usize); 6] = [
+    ("Flat", "a", "7,8", 70, 1),
+    ("Flat", "a", "", 70, 0),
+    ("Flat", "a", "{}", 71, 0),
+    ("Lists", "items", r#"[{"a":1},{"a":70000}]"#, 72, 14),
+    ("Lists", "items", r#"[{"b":1}]"#, 74, 2),
+    ("Node", "size", r#""none""#, 74, 0),
+];
+
+#[test]
+fn values_of_fields_are_read() {
+    let set = builtin::new_set(Global).expect("there is memory");
+    let read = |name: &str, field: &str, text: &str| {
+        let schema = set.find_struct(name).expect("it has the struct");
+        let field = schema.get_field_by_name(field).expect("it has the field");
+        let most = (1 << 29) - 1;
+        let message = read_value_within(Global, most, field, text.as_bytes(), true)
+            .map_err(|error| (error.number(), error.place()))?;
+        let root = message.as_reader().get_struct().expect("it is a struct");
+        let value = dynamic_struct::Reader::new(root, schema).get(field).expect("it can be read");
+        let mut printed = crate::rattle_std::string::String::new(Global);
+        printer::print(value, &mut printed, false).expect("it has a text");
+        Ok(printed.as_str().to_owned())
+    };
+    for (name, field, text, printed) in VALUES {
+        assert_eq!(read(name, field, text).as_deref(), Ok(printed), "{text}");
+    }
+    for (name, field, text, number, place) in NO_VALUES {
+        assert_eq!(read(name, field, text), Err((number, Some(place))), "{text}");
+    }
+    let nested = |count: usize| format!("{}{{}}{}", r#"{"again":"#.repeat(count), "}".repeat(count));
+    assert!(read("Loop", "again", &nested(62)).is_ok());
+    assert_eq!(read("Loop", "again", &nested(63)), Err((8, Some(63 * 9))));
+}
+
+/// A string of ten million bytes is read into a message and written again, in a few times its bytes.
+#[test]
+fn a_long_string() {
+    let set = builtin::new_set(Global).expect("there is memory");
+    let count = 10_000_000;
+    let schema = set.find_struct("Lists").expect("it has the struct");
+    for (letter, bytes) in [("a", 1), ("\\u0001", 1), ("\\n", 1), ("é", 2)] {
+        let letters = count / letter.len();
+        let text = format!(r#"{{"t":"{}"}}"#, letter.repeat(letters));
+        let (message, most) = most_held(|| read_json(Global, schema, text.as_bytes(), true));
+        let message = message.expect("it is a text").write_message().expect("there is memory").to_vec();
+        assert!(message.len() < letters * bytes + 64, "{letter}: {} bytes", message.len());
+        assert!(most <= 4 * count as isize, "{most} bytes for {letter}");
+        let (line, most) = most_held(|| json(&set, "Lists", &message, false, text.len()));
+        assert_eq!(line.as_deref(), Ok(text.as_str()));
+        assert!(most <= 4 * count as isize, "{most} bytes for the JSON of {letter}");
+        assert_eq!(json(&set, "Lists", &message, false, text.len() - 1), Err(JsonError::TooLarge));
+    }
+}
+
+/// A million nested brackets of a name that the struct lacks are passed over, and elsewhere refused, in a few bytes for each.
+#[test]
+fn a_million_brackets() {
+    let set = builtin::new_set(Global).expect("there is memory");
+    let schema = set.find_struct("Lists").expect("it has the struct");
+    let count = 1_000_000;
+    for (open, close) in [("[", "]"), ("{\"\":", "}"), ("[{\"\":", "}]")] {
+        let (open, close) = (open.repeat(count), format!("0{}", close.repeat(count)));
+        let kind = if open.starts_with('[') { 71 } else { 8 };
+        for (before, after, strict, refused) in [
+            (r#"{"other":"#, "}", false, None),
+            (r#"{"other":"#, "}", true, Some((74, 1))),
+            (r#"{"other":"#, "", false, Some((70, 9 + open.len() + close.len()))),
+            (r#"{"other":"#, "]", false, Some((70, 9 + open.len() + close.len()))),
+            (r#"{"t":"#, "}", false, Some((71, 5))),
+            (r#"{"items":["#, "]}", false, (kind == 71).then_some((71, 10))),
+            ("", "", false, (kind == 71).then_some((71, 0))),
+        ] {
+            let text = format!("{before}{open}{close}{after}");
+            let (made, most) = most_held(|| read_json(Global, schema, text.as_bytes(), strict));
+            let told = made.err().map(|error| (error.number(), error.place().expect("it has a place")));
+            assert_eq!(told, refused, "{before} {after} {}", &open[..4]);
+            assert!(most <= 2 * text.len() as isize, "{most} bytes for {count} brackets");
+        }
+    }
 }

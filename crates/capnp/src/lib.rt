@@ -56,6 +56,13 @@ pub mod dynamic_value {
     };
 }
 
+/// Lists that are edited, each in a message of its own, which a set of the list takes.
+pub mod edits {
+    pub use capnp_edits::added::{list_one, new_elements};
+    pub use capnp_edits::edit::{Edit, change_list};
+    pub use capnp_splices::read::read_list;
+}
+
 /// Types as values.
 pub mod introspect {
     pub use capnp_base::introspect::{
@@ -63,7 +70,8 @@ pub mod introspect {
     };
 }
 
-/// Values and messages as JSON, and messages of JSON texts.
+/// Values and messages as JSON, and messages of JSON texts. None of these calls looks whether names of the set meet in JSON:
+/// `check_names` does, once for a set.
 pub mod json {
     pub use capnp_from_json::error::{Error as ReadError, Refusal as ReadRefusal, RefusalKind};
     pub use capnp_json::error::JsonError;
@@ -71,6 +79,8 @@ pub mod json {
     pub use capnp_json::json::{to_json, to_json_as};
     pub use capnp_json::message::message_to_json;
     pub use capnp_json_messages::message::read_message as from_json;
+    pub use capnp_json_messages::value::read_value_within;
+    pub use capnp_json_names::names::{NamesMeet, check_names};
 }
 
 /// Messages as they are received, and as they are built.
