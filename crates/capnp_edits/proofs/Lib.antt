@@ -7,4 +7,3 @@ pub mod Plain
 pub mod Results
 pub mod RowsEdits
 pub mod SplicedValues
-pub mod Widths
