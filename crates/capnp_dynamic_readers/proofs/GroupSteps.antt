@@ -17,20 +17,22 @@ use Rattle.capnp_schema.specs.declared.schema.structs.StructSchema.{StructSchema
 use Rattle.capnp_records.specs.Part.{is_active, is_inactive, which_of}
 use Rattle.capnp_records.specs.Reading.{non_union_parts}
 use Rattle.capnp_records.specs.Record.{Active, NoUnion, Parts, Union, Unknown, Values, is_there}
-use Rattle.capnp_records.specs.Text.{Layout, Out, after, bracketed_text, deeper, item_if, said_text}
-use Rattle.capnp_dynamic_readers.specs.Steps.GroupTexts.{IsBracketClosed, IsNamePut, IsGroupOpened, IsOutside, IsPast, IsStart, IsPrintStep, closing, has_fields, is_item, item_by, items_from, name_text, onward, onward_of, shallower, steps_onward}
+use Rattle.capnp_records.specs.Text.{Layout, Out, after, bracketed_text, deeper, item, item_if, said_text}
+use Rattle.capnp_dynamic_readers.specs.Steps.GroupTexts.{IsNamePut, closing, has_fields, is_item, item_by, name_text, shallower}
+use Rattle.capnp_dynamic_readers.specs.Steps.WalkSteps.{IsBracketClosed, IsGroupOpened, IsOutside, IsPast, IsStart, IsPrintStep, onward, onward_of, steps_onward}
+use Rattle.capnp_dynamic_readers.specs.Steps.Styled.{IsTexts, items_in, own_in, record_in}
+use Rattle.capnp_dynamic_readers.specs.Styles.{Texts}
 use Rattle.capnp_dynamic_readers.specs.Handles.{reader_of, schema_of}
 use Rattle.capnp_dynamic_readers.specs.Steps.PartsRead.{field_in}
 use Rattle.capnp_dynamic_readers.specs.Pieces.{Taken}
 use Rattle.capnp_dynamic_readers.specs.Steps.Pieces.{IsPut, IsStopped, Leads}
 use Rattle.capnp_dynamic_readers.specs.Seen.{record_seen}
-use Rattle.capnp_dynamic_readers.specs.Steps.Shown.{field_item, field_shown, is_member_shown, part_seen, record_items, record_shown, union_seen}
+use Rattle.capnp_dynamic_readers.specs.Steps.Shown.{is_member_shown, part_seen, union_seen}
 use Rattle.capnp_dynamic_readers.specs.declared.dynamic_struct.Reader.{Reader as StructHandle}
-use Rattle.capnp_dynamic_readers.specs.declared.printer.groups.Standing.{Standing}
-use Rattle.capnp_dynamic_readers.specs.declared.printer.output.Stop.{Stop}
-use Rattle.capnp_dynamic_readers.specs.Facts.ItemsInOrder.{from_end, from_next, from_start, own_items}
+use Rattle.capnp_dynamic_readers.specs.declared.walk.groups.Standing.{Standing}
+use Rattle.capnp_dynamic_readers.specs.declared.walk.output.Stop.{Stop}
 use Rattle.capnp_dynamic_readers.proofs.GroupsShown.{closes, closes_not, group-in, item-named, item-unnamed, onward-end, skips}
-use Rattle.capnp_dynamic_readers.specs.Facts.PartsShown.{part_group, target_in}
+use Rattle.capnp_dynamic_readers.specs.Facts.PartsShown.{target_in}
 use Rattle.capnp_dynamic_readers.proofs.Steps.{opening_stopped, struct_none, struct_some}
 use Rattle.capnp_dynamic_readers.proofs.Streams.{first_stopped, same, same_put, then}
 
@@ -89,12 +91,12 @@ some-fields (f ∷ fs) e = omega arith
 -- ---- where a print stands ----
 
 -- the items there from a field on
-abbrev items_at : ℕ → StructReader → Standing → ℕ → List Out
-items_at left r now i = items_from left (walk_set now.walk) r now.at (walk_brand now.walk) i
+abbrev items_at : Texts → ℕ → StructReader → Standing → ℕ → List Out
+items_at x left r now i = x.items left (walk_set now.walk) r now.at (walk_brand now.walk) i
 
 -- the text that is to come past the field there
-abbrev pub onward_past : ℕ → StructReader → Standing → (first : Bool) → Out
-onward_past left r now first = onward left (walk_set now.walk) r now.at first ((walk_brand now.walk, walk_index now.walk + 1) ∷ above now.walk)
+abbrev pub onward_past : Texts → ℕ → StructReader → Standing → (first : Bool) → Out
+onward_past x left r now first = onward x left (walk_set now.walk) r now.at first ((walk_brand now.walk, walk_index now.walk + 1) ∷ above now.walk)
 
 -- a handle of the struct or group there, and of the field
 pub record IsAt (r : StructReader) (now : Standing) (h : StructHandle) (f : Field) : Type 0 where
@@ -114,18 +116,18 @@ is_at r now h f s er eh es field = record { reader = er; schema = eh ∙ es; fie
 
 -- ---- through a result ----
 
-pub if_ok_map : {T E : Type 0} {P Q : T → Type 0} (result : Result T E) → ((x : T) → P x → Q x) → IfOk result P → IfOk result Q
+pub if_ok_map : {T E : Type 0} {P Q : T → Type 0} (result : Result T E) → ((y : T) → P y → Q y) → IfOk result P → IfOk result Q
 if_ok_map (Ok x) f h = f x h
 if_ok_map (Err e) f h = tt {0}
 
 -- ---- past a field ----
 
-pub past-onward : (left : ℕ) (r : StructReader) (now next : Standing) (q : Bool) → IsPast now q next → onward_past left r now q ≡ onward_of left r next
-past-onward left r now next q past =
-    ap (λ (z : StructSchema). onward left (set_of z) r now.at q ((walk_brand now.walk, walk_index now.walk + 1) ∷ above now.walk)) (sym past.schema)
-    ∙ (ap (λ (l : Layout). onward left (walk_set next.walk) r l q ((walk_brand now.walk, walk_index now.walk + 1) ∷ above now.walk)) (sym past.at)
-    ∙ (ap (λ (b : Bool). onward left (walk_set next.walk) r next.at b ((walk_brand now.walk, walk_index now.walk + 1) ∷ above now.walk)) (sym past.first)
-    ∙ ap (λ (fs : List (ℕ × ℕ)). onward left (walk_set next.walk) r next.at next.first fs) (sym past.frames)))
+pub past-onward : (x : Texts) (left : ℕ) (r : StructReader) (now next : Standing) (q : Bool) → IsPast now q next → onward_past x left r now q ≡ onward_of x left r next
+past-onward x left r now next q past =
+    ap (λ (z : StructSchema). onward x left (set_of z) r now.at q ((walk_brand now.walk, walk_index now.walk + 1) ∷ above now.walk)) (sym past.schema)
+    ∙ (ap (λ (l : Layout). onward x left (walk_set next.walk) r l q ((walk_brand now.walk, walk_index now.walk + 1) ∷ above now.walk)) (sym past.at)
+    ∙ (ap (λ (b : Bool). onward x left (walk_set next.walk) r next.at b ((walk_brand now.walk, walk_index now.walk + 1) ∷ above now.walk)) (sym past.first)
+    ∙ ap (λ (fs : List (ℕ × ℕ)). onward x left (walk_set next.walk) r next.at next.first fs) (sym past.frames)))
 
 past-small : (now next : Standing) (q : Bool) → IsPast now q next → walk_depth now.walk < 2 ^ 64 → walk_depth next.walk < 2 ^ 64
 past-small now next q past small = omega (arith, past.depth, small)
@@ -142,13 +144,13 @@ past-fewer now next q lt past =
         ∙ ap (λ (z : StructSchema). steps_left (set_of z) (2 ^ 64 - 1 - walk_depth now.walk) ((walk_brand now.walk, walk_index now.walk + 1) ∷ above now.walk)) past.schema)
 
 -- into a group
-opened-onward : (left : ℕ) (r : StructReader) (now next : Standing) (g : StructSchema) → set_of g ≡ walk_set now.walk → IsGroupOpened now g next →
-    onward left (walk_set now.walk) r (deeper now.at) true ((number_of g, 0) ∷ (walk_brand now.walk, walk_index now.walk + 1) ∷ above now.walk) ≡ onward_of left r next
-opened-onward left r now next g e opened =
-    ap (λ (z : Schemas). onward left z r (deeper now.at) true ((number_of g, 0) ∷ (walk_brand now.walk, walk_index now.walk + 1) ∷ above now.walk)) (sym (ap set_of opened.schema ∙ e))
-    ∙ (ap (λ (l : Layout). onward left (walk_set next.walk) r l true ((number_of g, 0) ∷ (walk_brand now.walk, walk_index now.walk + 1) ∷ above now.walk)) (sym opened.at)
-    ∙ (ap (λ (b : Bool). onward left (walk_set next.walk) r next.at b ((number_of g, 0) ∷ (walk_brand now.walk, walk_index now.walk + 1) ∷ above now.walk)) (sym opened.first)
-    ∙ ap (λ (fs : List (ℕ × ℕ)). onward left (walk_set next.walk) r next.at next.first fs) (sym opened.frames)))
+opened-onward : (x : Texts) (left : ℕ) (r : StructReader) (now next : Standing) (g : StructSchema) → set_of g ≡ walk_set now.walk → IsGroupOpened now g next →
+    onward x left (walk_set now.walk) r (deeper now.at) true ((number_of g, 0) ∷ (walk_brand now.walk, walk_index now.walk + 1) ∷ above now.walk) ≡ onward_of x left r next
+opened-onward x left r now next g e opened =
+    ap (λ (z : Schemas). onward x left z r (deeper now.at) true ((number_of g, 0) ∷ (walk_brand now.walk, walk_index now.walk + 1) ∷ above now.walk)) (sym (ap set_of opened.schema ∙ e))
+    ∙ (ap (λ (l : Layout). onward x left (walk_set next.walk) r l true ((number_of g, 0) ∷ (walk_brand now.walk, walk_index now.walk + 1) ∷ above now.walk)) (sym opened.at)
+    ∙ (ap (λ (b : Bool). onward x left (walk_set next.walk) r next.at b ((number_of g, 0) ∷ (walk_brand now.walk, walk_index now.walk + 1) ∷ above now.walk)) (sym opened.first)
+    ∙ ap (λ (fs : List (ℕ × ℕ)). onward x left (walk_set next.walk) r next.at next.first fs) (sym opened.frames)))
 
 opened-fewer : (now next : Standing) (g : StructSchema) → set_of g ≡ walk_set now.walk → group_field_of (walk_set now.walk) (number_of g) ≡ Some (walk_brand now.walk, walk_index now.walk) → IsGroupOpened now g next →
     steps_onward next < steps_onward now
@@ -168,84 +170,84 @@ opened-fewer now next g e back opened = omega (arith, same-steps, more-groups, e
         steps_enter (walk_set now.walk) (2 ^ 64 - 1 - walk_depth next.walk) (walk_brand now.walk) (walk_index now.walk) (number_of g) (above now.walk)
         (target_parent (walk_set now.walk) (number_of g) (walk_brand now.walk) (walk_index now.walk) (group_field_found (walk_set now.walk) (number_of g) (walk_brand now.walk) (walk_index now.walk) back).1)
 
-module _ (left : ℕ) (r : StructReader) (now : Standing) (h : StructHandle) (f : Field) (here : IsAt r now h f) where
-  items-next : items_at left r now (walk_index now.walk) ≡ own_items left now.at h (walk_index now.walk) ++ items_at left r now (walk_index now.walk + 1)
+module _ (x : Texts) {under : TypedField → Texts} (law : IsTexts x under) (left : ℕ) (r : StructReader) (now : Standing) (h : StructHandle) (f : Field) (here : IsAt r now h f) where
+  items-next : items_at x left r now (walk_index now.walk) ≡ own_in x left now.at h (walk_index now.walk) ++ items_at x left r now (walk_index now.walk + 1)
   items-next =
-      subst (λ (z : StructReader). items_from left (walk_set now.walk) z now.at (walk_brand now.walk) (walk_index now.walk) ≡ own_items left now.at h (walk_index now.walk) ++ items_from left (walk_set now.walk) z now.at (walk_brand now.walk) (walk_index now.walk + 1)) here.reader
-      (subst (λ (z : StructSchema). items_from left (set_of z) (reader_of h) now.at (number_of z) (walk_index now.walk) ≡ own_items left now.at h (walk_index now.walk) ++ items_from left (set_of z) (reader_of h) now.at (number_of z) (walk_index now.walk + 1)) here.schema
-      (from_next left now.at h (walk_index now.walk) (subst (λ (z : StructSchema). walk_index now.walk < length (struct_fields z)) (sym here.schema) here.field.inside)))
+      subst (λ (z : StructReader). x.items left (walk_set now.walk) z now.at (walk_brand now.walk) (walk_index now.walk) ≡ own_in x left now.at h (walk_index now.walk) ++ x.items left (walk_set now.walk) z now.at (walk_brand now.walk) (walk_index now.walk + 1)) here.reader
+      (subst (λ (z : StructSchema). x.items left (set_of z) (reader_of h) now.at (number_of z) (walk_index now.walk) ≡ own_in x left now.at h (walk_index now.walk) ++ x.items left (set_of z) (reader_of h) now.at (number_of z) (walk_index now.walk + 1)) here.schema
+      (law.items_next left now.at h (walk_index now.walk) (subst (λ (z : StructSchema). walk_index now.walk < length (struct_fields z)) (sym here.schema) here.field.inside)))
 
-  items-by : (q : Bool) → q ≡ is_item h (field_in h f) (index_of f) → items_at left r now (walk_index now.walk) ≡ item_if q (field_item left now.at h (field_in h f)) ++ items_at left r now (walk_index now.walk + 1)
+  items-by : (q : Bool) → q ≡ is_item h (field_in h f) (index_of f) → items_at x left r now (walk_index now.walk) ≡ item_if q (item (field_in h f) (x.field left now.at h (field_in h f))) ++ items_at x left r now (walk_index now.walk + 1)
   items-by q e =
       items-next
-      ∙ (ap (λ (i : ℕ). own_items left now.at h i ++ items_at left r now (walk_index now.walk + 1)) (sym here.field.index)
-      ∙ ap (λ (b : Bool). item_if b (field_item left now.at h (field_in h f)) ++ items_at left r now (walk_index now.walk + 1)) (sym e))
+      ∙ (ap (λ (i : ℕ). own_in x left now.at h i ++ items_at x left r now (walk_index now.walk + 1)) (sym here.field.index)
+      ∙ ap (λ (b : Bool). item_if b (item (field_in h f) (x.field left now.at h (field_in h f))) ++ items_at x left r now (walk_index now.walk + 1)) (sym e))
 
   same-typed : typed_of f ≡ field_in h f
   same-typed = ap (λ (s : StructSchema). struct_field s (index_of f)) (here.field.schema ∙ sym here.schema)
 
   -- the field has no item
-  pub step_over : (old : Taken) (next : Standing) → false ≡ is_item h (field_in h f) (index_of f) → IsPast now now.first next → IsPrintStep left r now old old next
+  pub step_over : (old : Taken) (next : Standing) → false ≡ is_item h (field_in h f) (index_of f) → IsPast now now.first next → IsPrintStep x left r now old old next
   step_over old next none past = record {
     text = λ z k.
-        skips left (walk_set now.walk) r now.at now.first (walk_brand now.walk) (walk_index now.walk) (above now.walk) old (items-by false none) z
-        (same old (past-onward left r now next now.first past) z k);
+        skips x left (walk_set now.walk) r now.at now.first (walk_brand now.walk) (walk_index now.walk) (above now.walk) old (items-by false none) z
+        (same old (past-onward x left r now next now.first past) z k);
     fewer = past-fewer now next now.first here.field.inside past;
     small = past-small now next now.first past;
   }
 
   -- its name was not put
-  pub not_named : (p : Taken) (stop : Stop) → true ≡ is_item h (field_in h f) (index_of f) → IsStopped p (said_text (name_text now.at now.first (typed_of f))) stop → IsStopped p (onward_of left r now) stop
+  pub not_named : (p : Taken) (stop : Stop) → true ≡ is_item h (field_in h f) (index_of f) → IsStopped p (said_text (name_text now.at now.first (typed_of f))) stop → IsStopped p (onward_of x left r now) stop
   not_named p stop there stopped =
-      item-unnamed left (walk_set now.walk) r now.at now.first (walk_brand now.walk) (walk_index now.walk) (above now.walk) (field_in h f) (field_shown left now.at h (field_in h f)) p stop
+      item-unnamed x left (walk_set now.walk) r now.at now.first (walk_brand now.walk) (walk_index now.walk) (above now.walk) (field_in h f) (x.field left now.at h (field_in h f)) p stop
       (items-by true there) (subst (λ (t : TypedField). IsStopped p (said_text (name_text now.at now.first t)) stop) same-typed stopped)
 
   -- its name was put, and its text is to come
   module _ (p0 p1 : Taken) (there : true ≡ is_item h (field_in h f) (index_of f)) (name : IsNamePut now.at now.first (typed_of f) p0 p1) where
-    named : Leads p0 (onward_of left r now) p1 (after (field_shown left now.at h (field_in h f)) (onward_past left r now false))
+    named : Leads p0 (onward_of x left r now) p1 (after (x.field left now.at h (field_in h f)) (onward_past x left r now false))
     named =
-        item-named left (walk_set now.walk) r now.at now.first (walk_brand now.walk) (walk_index now.walk) (above now.walk) (field_in h f) (field_shown left now.at h (field_in h f)) p0 p1
+        item-named x left (walk_set now.walk) r now.at now.first (walk_brand now.walk) (walk_index now.walk) (above now.walk) (field_in h f) (x.field left now.at h (field_in h f)) p0 p1
         (items-by true there) (subst (λ (t : TypedField). IsNamePut now.at now.first t p0 p1) same-typed name)
 
-    pub step_past : (p2 : Taken) (next : Standing) → IsPut p1 (field_shown left now.at h (field_in h f)) p2 → IsPast now false next → IsPrintStep left r now p0 p2 next
+    pub step_past : (p2 : Taken) (next : Standing) → IsPut p1 (x.field left now.at h (field_in h f)) p2 → IsPast now false next → IsPrintStep x left r now p0 p2 next
     step_past p2 next put past = record {
       text = λ z k.
           named z
-          (then p1 p2 (field_shown left now.at h (field_in h f)) (onward_past left r now false) put z
-          (same p2 (past-onward left r now next false past) z k));
+          (then p1 p2 (x.field left now.at h (field_in h f)) (onward_past x left r now false) put z
+          (same p2 (past-onward x left r now next false past) z k));
       fewer = past-fewer now next false here.field.inside past;
       small = past-small now next false past;
     }
 
-    pub stopped_there : (stop : Stop) → IsStopped p1 (field_shown left now.at h (field_in h f)) stop → IsStopped p0 (onward_of left r now) stop
-    stopped_there stop stopped = named (Err stop) (first_stopped p1 (field_shown left now.at h (field_in h f)) (onward_past left r now false) stop stopped)
+    pub stopped_there : (stop : Stop) → IsStopped p1 (x.field left now.at h (field_in h f)) stop → IsStopped p0 (onward_of x left r now) stop
+    stopped_there stop stopped = named (Err stop) (first_stopped p1 (x.field left now.at h (field_in h f)) (onward_past x left r now false) stop stopped)
 
     -- the field is a group
     module _ (g : StructSchema) (target : Some (number_of g) ≡ kind_target (typed_of f).field.kind (typed_of f).type) (inside : IsGroupSchemaIn (field_schema f) g) where
       in-set : set_of g ≡ set_of (schema_of h)
       in-set = inside.set ∙ ap set_of (here.field.schema ∙ sym here.schema)
 
-      shown-group : field_shown left now.at h (field_in h f) ≡ record_shown left now.at (record { reader = reader_of h; schema = g })
+      shown-group : x.field left now.at h (field_in h f) ≡ record_in x left now.at (record { reader = reader_of h; schema = g })
       shown-group =
-          part_group h f (field_here r now h f here) (subst IsAccepted in-set inside.stands.accepted) g
+          law.field_group h f (field_here r now h f here) (subst IsAccepted in-set inside.stands.accepted) g
           (target_in h f (field_here r now h f here) (Some (number_of g)) target) in-set left now.at
 
-      pub step_empty : (p2 : Taken) (next : Standing) → false ≡ has_fields (struct_fields g) → IsPut p1 (said_text (codes "()")) p2 → IsPast now false next → IsPrintStep left r now p0 p2 next
+      pub step_empty : (p2 : Taken) (next : Standing) → false ≡ has_fields (struct_fields g) → IsPut p1 (said_text (codes "()")) p2 → IsPast now false next → IsPrintStep x left r now p0 p2 next
       step_empty p2 next none put past =
           step_past p2 next
-          (same_put p1 p2 (field_shown left now.at h (field_in h f)) (said_text (codes "()")) (shown-group ∙ struct_none left now.at (record { reader = reader_of h; schema = g }) (no-fields (struct_fields g) none)) put) past
+          (same_put p1 p2 (x.field left now.at h (field_in h f)) (said_text (codes "()")) (shown-group ∙ struct_none x left now.at (record { reader = reader_of h; schema = g }) (no-fields (struct_fields g) none)) put) past
 
       -- its brackets were not put
-      pub empty_stopped : (stop : Stop) → false ≡ has_fields (struct_fields g) → IsStopped p1 (said_text (codes "()")) stop → IsStopped p0 (onward_of left r now) stop
+      pub empty_stopped : (stop : Stop) → false ≡ has_fields (struct_fields g) → IsStopped p1 (said_text (codes "()")) stop → IsStopped p0 (onward_of x left r now) stop
       empty_stopped stop none stopped =
           stopped_there stop
-          (same p1 (shown-group ∙ struct_none left now.at (record { reader = reader_of h; schema = g }) (no-fields (struct_fields g) none)) (Err stop) stopped)
+          (same p1 (shown-group ∙ struct_none x left now.at (record { reader = reader_of h; schema = g }) (no-fields (struct_fields g) none)) (Err stop) stopped)
 
-      pub bracket_stopped : (stop : Stop) → true ≡ has_fields (struct_fields g) → IsStopped p1 (said_text (codes "(")) stop → IsStopped p0 (onward_of left r now) stop
+      pub bracket_stopped : (stop : Stop) → true ≡ has_fields (struct_fields g) → IsStopped p1 (said_text (codes "(")) stop → IsStopped p0 (onward_of x left r now) stop
       bracket_stopped stop some stopped =
           stopped_there stop
-          (same p1 (shown-group ∙ struct_some left now.at (record { reader = reader_of h; schema = g }) (some-fields (struct_fields g) some)) (Err stop)
-          (opening_stopped p1 (codes "(") (codes ")") now.at (record_items left (deeper now.at) (record { reader = reader_of h; schema = g })) stop stopped))
+          (same p1 (shown-group ∙ struct_some x left now.at (record { reader = reader_of h; schema = g }) (some-fields (struct_fields g) some)) (Err stop)
+          (opening_stopped p1 (codes "(") (codes ")") now.at (items_in x left (deeper now.at) (record { reader = reader_of h; schema = g }) 0) stop stopped))
 
       -- its set and its field are those of the walk
       pub group-set : set_of g ≡ walk_set now.walk
@@ -258,97 +260,96 @@ module _ (left : ℕ) (r : StructReader) (now : Standing) (h : StructHandle) (f 
           ∙ (ap (λ (b : ℕ). Some (b, index_of f)) (ap number_of here.field.schema)
           ∙ ap (λ (i : ℕ). Some (walk_brand now.walk, i)) here.field.index))
 
-      group-items : record_items left (deeper now.at) (record { reader = reader_of h; schema = g }) ≡ items_from left (walk_set now.walk) r (deeper now.at) (number_of g) 0
+      group-items : items_in x left (deeper now.at) (record { reader = reader_of h; schema = g }) 0 ≡ x.items left (walk_set now.walk) r (deeper now.at) (number_of g) 0
       group-items =
-          sym (from_start left (deeper now.at) (record { reader = reader_of h; schema = g }))
-          ∙ (ap (λ (z : Schemas). items_from left z (reader_of h) (deeper now.at) (number_of g) 0) group-set
-          ∙ ap (λ (x : StructReader). items_from left (walk_set now.walk) x (deeper now.at) (number_of g) 0) here.reader)
+          ap (λ (z : Schemas). x.items left z (reader_of h) (deeper now.at) (number_of g) 0) group-set
+          ∙ ap (λ (w : StructReader). x.items left (walk_set now.walk) w (deeper now.at) (number_of g) 0) here.reader
 
       pub step_in : (p2 : Taken) → true ≡ has_fields (struct_fields g) → group_field_of (set_of (field_schema f)) (number_of g) ≡ Some (place_of_field f) → IsPut p1 (said_text (codes "(")) p2 → (next : Standing) → IsGroupOpened now g next →
-          IsPrintStep left r now p0 p2 next
+          IsPrintStep x left r now p0 p2 next
       step_in p2 some back put next opened = record {
         text = λ z k.
             named z
             (same p1 text-in z
-            (then p1 p2 (said_text (codes "(")) (onward left (walk_set now.walk) r (deeper now.at) true ((number_of g, 0) ∷ (walk_brand now.walk, walk_index now.walk + 1) ∷ above now.walk)) put z
-            (same p2 (opened-onward left r now next g group-set opened) z k)));
+            (then p1 p2 (said_text (codes "(")) (onward x left (walk_set now.walk) r (deeper now.at) true ((number_of g, 0) ∷ (walk_brand now.walk, walk_index now.walk + 1) ∷ above now.walk)) put z
+            (same p2 (opened-onward x left r now next g group-set opened) z k)));
         fewer = opened-fewer now next g group-set (group-field back) opened;
         small = λ s. omega (arith, opened.depth, opened.small);
       }
         where
-          text-in : after (field_shown left now.at h (field_in h f)) (onward_past left r now false)
-              ≡ after (said_text (codes "(")) (onward left (walk_set now.walk) r (deeper now.at) true ((number_of g, 0) ∷ (walk_brand now.walk, walk_index now.walk + 1) ∷ above now.walk))
+          text-in : after (x.field left now.at h (field_in h f)) (onward_past x left r now false)
+              ≡ after (said_text (codes "(")) (onward x left (walk_set now.walk) r (deeper now.at) true ((number_of g, 0) ∷ (walk_brand now.walk, walk_index now.walk + 1) ∷ above now.walk))
           text-in =
-              ap (λ (o : Out). after o (onward_past left r now false)) (shown-group ∙ struct_some left now.at (record { reader = reader_of h; schema = g }) (some-fields (struct_fields g) some))
-              ∙ group-in left (walk_set now.walk) r now.at (number_of g) ((walk_brand now.walk, walk_index now.walk + 1) ∷ above now.walk) (record_items left (deeper now.at) (record { reader = reader_of h; schema = g })) group-items
+              ap (λ (o : Out). after o (onward_past x left r now false)) (shown-group ∙ struct_some x left now.at (record { reader = reader_of h; schema = g }) (some-fields (struct_fields g) some))
+              ∙ group-in x left (walk_set now.walk) r now.at (number_of g) ((walk_brand now.walk, walk_index now.walk + 1) ∷ above now.walk) (items_in x left (deeper now.at) (record { reader = reader_of h; schema = g }) 0) group-items
 
 -- ---- the whole struct ----
 
 -- its bracket was put
-pub begins : (left : ℕ) (at : Layout) (h : StructHandle) (r : StructReader) (s : StructSchema) (now : Standing) (p0 p1 : Taken) → r ≡ reader_of h → s ≡ schema_of h → true ≡ has_fields (struct_fields (schema_of h)) → IsPut p0 (said_text (codes "(")) p1 → IsStart s at now →
-    Leads p0 (record_shown left at h) p1 (onward_of left r now)
-begins left at h r s now p0 p1 er es some put start = λ z k.
-    same p0 (struct_some left at h (some-fields (struct_fields (schema_of h)) some) ∙ (sym (after-none (bracketed_text (codes "(") (codes ")") at (record_items left (deeper at) h))) ∙ text-in)) z
-    (then p0 p1 (said_text (codes "(")) (onward left (set_of (schema_of h)) (reader_of h) (deeper at) true ((number_of (schema_of h), 0) ∷ [])) put z
+pub begins : (x : Texts) (left : ℕ) (at : Layout) (h : StructHandle) (r : StructReader) (s : StructSchema) (now : Standing) (p0 p1 : Taken) → r ≡ reader_of h → s ≡ schema_of h → true ≡ has_fields (struct_fields (schema_of h)) → IsPut p0 (said_text (codes "(")) p1 → IsStart s at now →
+    Leads p0 (record_in x left at h) p1 (onward_of x left r now)
+begins x left at h r s now p0 p1 er es some put start = λ z k.
+    same p0 (struct_some x left at h (some-fields (struct_fields (schema_of h)) some) ∙ (sym (after-none (bracketed_text (codes "(") (codes ")") at (items_in x left (deeper at) h 0))) ∙ text-in)) z
+    (then p0 p1 (said_text (codes "(")) (onward x left (set_of (schema_of h)) (reader_of h) (deeper at) true ((number_of (schema_of h), 0) ∷ [])) put z
     (same p1 onward-start z k))
   where
     after-none : (o : Out) → after o (said_text []) ≡ o
     after-none (Err k) = refl
     after-none (Ok a) = ap Ok (append-nil a)
 
-    text-in : after (bracketed_text (codes "(") (codes ")") at (record_items left (deeper at) h)) (said_text [])
-        ≡ after (said_text (codes "(")) (onward left (set_of (schema_of h)) (reader_of h) (deeper at) true ((number_of (schema_of h), 0) ∷ []))
+    text-in : after (bracketed_text (codes "(") (codes ")") at (items_in x left (deeper at) h 0)) (said_text [])
+        ≡ after (said_text (codes "(")) (onward x left (set_of (schema_of h)) (reader_of h) (deeper at) true ((number_of (schema_of h), 0) ∷ []))
     text-in =
-        ap (after (bracketed_text (codes "(") (codes ")") at (record_items left (deeper at) h))) (sym (onward-end left (set_of (schema_of h)) (reader_of h) at false))
-        ∙ group-in left (set_of (schema_of h)) (reader_of h) at (number_of (schema_of h)) [] (record_items left (deeper at) h) (sym (from_start left (deeper at) h))
+        ap (after (bracketed_text (codes "(") (codes ")") at (items_in x left (deeper at) h 0))) (sym (onward-end x left (set_of (schema_of h)) (reader_of h) at false))
+        ∙ group-in x left (set_of (schema_of h)) (reader_of h) at (number_of (schema_of h)) [] (items_in x left (deeper at) h 0) refl
 
-    onward-start : onward left (set_of (schema_of h)) (reader_of h) (deeper at) true ((number_of (schema_of h), 0) ∷ []) ≡ onward_of left r now
+    onward-start : onward x left (set_of (schema_of h)) (reader_of h) (deeper at) true ((number_of (schema_of h), 0) ∷ []) ≡ onward_of x left r now
     onward-start =
-        ap (λ (x : StructReader). onward left (set_of (schema_of h)) x (deeper at) true ((number_of (schema_of h), 0) ∷ [])) (sym er)
-        ∙ (ap (λ (z : StructSchema). onward left (set_of z) r (deeper at) true ((number_of z, 0) ∷ [])) (sym es)
-        ∙ (ap (λ (z : StructSchema). onward left (set_of z) r (deeper at) true ((number_of s, 0) ∷ [])) (sym start.schema)
-        ∙ (ap (λ (l : Layout). onward left (walk_set now.walk) r l true ((number_of s, 0) ∷ [])) (sym start.layout)
-        ∙ (ap (λ (b : Bool). onward left (walk_set now.walk) r now.at b ((number_of s, 0) ∷ [])) (sym start.first)
-        ∙ ap (λ (fs : List (ℕ × ℕ)). onward left (walk_set now.walk) r now.at now.first fs) (sym start.frames)))))
+        ap (λ (w : StructReader). onward x left (set_of (schema_of h)) w (deeper at) true ((number_of (schema_of h), 0) ∷ [])) (sym er)
+        ∙ (ap (λ (z : StructSchema). onward x left (set_of z) r (deeper at) true ((number_of z, 0) ∷ [])) (sym es)
+        ∙ (ap (λ (z : StructSchema). onward x left (set_of z) r (deeper at) true ((number_of s, 0) ∷ [])) (sym start.schema)
+        ∙ (ap (λ (l : Layout). onward x left (walk_set now.walk) r l true ((number_of s, 0) ∷ [])) (sym start.layout)
+        ∙ (ap (λ (b : Bool). onward x left (walk_set now.walk) r now.at b ((number_of s, 0) ∷ [])) (sym start.first)
+        ∙ ap (λ (fs : List (ℕ × ℕ)). onward x left (walk_set now.walk) r now.at now.first fs) (sym start.frames)))))
 
 -- its bracket was not put
-pub not_begun : (left : ℕ) (at : Layout) (h : StructHandle) (p : Taken) (stop : Stop) → true ≡ has_fields (struct_fields (schema_of h)) → IsStopped p (said_text (codes "(")) stop → IsStopped p (record_shown left at h) stop
-not_begun left at h p stop some stopped =
-    same p (struct_some left at h (some-fields (struct_fields (schema_of h)) some)) (Err stop) (opening_stopped p (codes "(") (codes ")") at (record_items left (deeper at) h) stop stopped)
+pub not_begun : (x : Texts) (left : ℕ) (at : Layout) (h : StructHandle) (p : Taken) (stop : Stop) → true ≡ has_fields (struct_fields (schema_of h)) → IsStopped p (said_text (codes "(")) stop → IsStopped p (record_in x left at h) stop
+not_begun x left at h p stop some stopped =
+    same p (struct_some x left at h (some-fields (struct_fields (schema_of h)) some)) (Err stop) (opening_stopped p (codes "(") (codes ")") at (items_in x left (deeper at) h 0) stop stopped)
 
-pub no_record : (left : ℕ) (at : Layout) (h : StructHandle) → false ≡ has_fields (struct_fields (schema_of h)) → record_shown left at h ≡ said_text (codes "()")
-no_record left at h none = struct_none left at h (no-fields (struct_fields (schema_of h)) none)
+pub no_record : (x : Texts) (left : ℕ) (at : Layout) (h : StructHandle) → false ≡ has_fields (struct_fields (schema_of h)) → record_in x left at h ≡ said_text (codes "()")
+no_record x left at h none = struct_none x left at h (no-fields (struct_fields (schema_of h)) none)
 
 -- ---- out of a group ----
 
-module _ (left : ℕ) (r : StructReader) (now : Standing) (old new : Taken) (done : length (struct_fields (walk_schema now.walk)) ≤ walk_index now.walk) (put : IsPut old (said_text (closing now.at)) new) where
-  bracket-put : Leads old (onward_of left r now) new (onward left (walk_set now.walk) r (shallower now.at) false (above now.walk))
+module _ (x : Texts) {under : TypedField → Texts} (law : IsTexts x under) (left : ℕ) (r : StructReader) (now : Standing) (old new : Taken) (done : length (struct_fields (walk_schema now.walk)) ≤ walk_index now.walk) (put : IsPut old (said_text (closing now.at)) new) where
+  bracket-put : Leads old (onward_of x left r now) new (onward x left (walk_set now.walk) r (shallower now.at) false (above now.walk))
   bracket-put =
-      closes left (walk_set now.walk) r now.at now.first (walk_brand now.walk) (walk_index now.walk) (above now.walk) old new
-      (from_end left now.at (record { reader = r; schema = walk_schema now.walk }) (walk_index now.walk) done) put
+      closes x left (walk_set now.walk) r now.at now.first (walk_brand now.walk) (walk_index now.walk) (above now.walk) old new
+      (law.items_end left now.at (record { reader = r; schema = walk_schema now.walk }) (walk_index now.walk) done) put
 
-  pub leads_out : (next : Standing) → IsOutside now next → Leads old (onward_of left r now) new (onward_of left r next)
+  pub leads_out : (next : Standing) → IsOutside now next → Leads old (onward_of x left r now) new (onward_of x left r next)
   leads_out next outside = λ z k. bracket-put z (same new onward-out z k)
     where
-      onward-out : onward left (walk_set now.walk) r (shallower now.at) false (above now.walk) ≡ onward_of left r next
+      onward-out : onward x left (walk_set now.walk) r (shallower now.at) false (above now.walk) ≡ onward_of x left r next
       onward-out =
-          ap (λ (z : Schemas). onward left z r (shallower now.at) false (above now.walk)) (sym outside.set)
-          ∙ (ap (λ (l : Layout). onward left (walk_set next.walk) r l false (above now.walk)) (sym outside.at)
-          ∙ (ap (λ (b : Bool). onward left (walk_set next.walk) r next.at b (above now.walk)) (sym outside.first)
-          ∙ ap (λ (fs : List (ℕ × ℕ)). onward left (walk_set next.walk) r next.at next.first fs) (sym outside.frames)))
+          ap (λ (z : Schemas). onward x left z r (shallower now.at) false (above now.walk)) (sym outside.set)
+          ∙ (ap (λ (l : Layout). onward x left (walk_set next.walk) r l false (above now.walk)) (sym outside.at)
+          ∙ (ap (λ (b : Bool). onward x left (walk_set next.walk) r next.at b (above now.walk)) (sym outside.first)
+          ∙ ap (λ (fs : List (ℕ × ℕ)). onward x left (walk_set next.walk) r next.at next.first fs) (sym outside.frames)))
 
   -- and out of the whole
-  pub leads_end : above now.walk ≡ [] → Leads old (onward_of left r now) new (said_text [])
+  pub leads_end : above now.walk ≡ [] → Leads old (onward_of x left r now) new (said_text [])
   leads_end none = λ z k.
       bracket-put z
-      (same new (ap (λ (fs : List (ℕ × ℕ)). onward left (walk_set now.walk) r (shallower now.at) false fs) none ∙ onward-end left (walk_set now.walk) r (shallower now.at) false) z k)
+      (same new (ap (λ (fs : List (ℕ × ℕ)). onward x left (walk_set now.walk) r (shallower now.at) false fs) none ∙ onward-end x left (walk_set now.walk) r (shallower now.at) false) z k)
 
 -- the closing bracket was not put
-pub not_closed : (left : ℕ) (r : StructReader) (now : Standing) (old : Taken) (stop : Stop) → length (struct_fields (walk_schema now.walk)) ≤ walk_index now.walk → IsStopped old (said_text (closing now.at)) stop →
-    IsStopped old (onward_of left r now) stop
-not_closed left r now old stop done stopped =
-    closes_not left (walk_set now.walk) r now.at now.first (walk_brand now.walk) (walk_index now.walk) (above now.walk) old stop
-    (from_end left now.at (record { reader = r; schema = walk_schema now.walk }) (walk_index now.walk) done) stopped
+pub not_closed : (x : Texts) {under : TypedField → Texts} (law : IsTexts x under) (left : ℕ) (r : StructReader) (now : Standing) (old : Taken) (stop : Stop) → length (struct_fields (walk_schema now.walk)) ≤ walk_index now.walk → IsStopped old (said_text (closing now.at)) stop →
+    IsStopped old (onward_of x left r now) stop
+not_closed x law left r now old stop done stopped =
+    closes_not x left (walk_set now.walk) r now.at now.first (walk_brand now.walk) (walk_index now.walk) (above now.walk) old stop
+    (law.items_end left now.at (record { reader = r; schema = walk_schema now.walk }) (walk_index now.walk) done) stopped
 
 pub start_small : (s : StructSchema) (at : Layout) (now : Standing) → IsStart s at now → walk_depth now.walk < 2 ^ 64
 start_small s at now start = omega (arith, start.depth)

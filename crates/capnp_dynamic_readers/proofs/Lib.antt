@@ -10,5 +10,6 @@ pub mod Roots
 pub mod Steps
 pub mod StoredValues
 pub mod Streams
+pub mod StyledParts
 pub mod GroupsShown
 pub mod GroupSteps

@@ -18,9 +18,10 @@ use Rattle.capnp_dynamic_readers.specs.Handles.{enum_of, enum_value_number}
 use Rattle.capnp_dynamic_readers.specs.Steps.Leaf.{enumerant_text, two_digits}
 use Rattle.capnp_dynamic_readers.specs.declared.dynamic_value.Enum.{Enum}
 use Rattle.capnp_dynamic_readers.specs.Pieces.{IsAppended, IsLonger, Taken, Untold, Within}
+use Rattle.capnp_dynamic_readers.specs.Facts.Written.{grown, written, written_too_long}
 use Rattle.capnp_dynamic_readers.specs.Steps.Pieces.{IsPast, IsPut, IsStopped}
-use Rattle.capnp_dynamic_readers.specs.declared.printer.output.Stop.{Stop}
-use Rattle.capnp_dynamic_readers.specs.declared.printer.output.Stop.TheVariants.{TooLong}
+use Rattle.capnp_dynamic_readers.specs.declared.walk.output.Stop.{Stop}
+use Rattle.capnp_dynamic_readers.specs.declared.walk.output.Stop.TheVariants.{TooLong}
 use Rattle.capnp_dynamic_readers.proofs.Streams.{known_stopped, nothing_put, stopped_inside, three_put, two_put}
 use Rattle.std.proofs.lemmas.Bool.{true≢false}
 use Rattle.std.proofs.lemmas.Bool.Decides.{nat_tests}
@@ -43,30 +44,12 @@ some_other (b ∷ bs) (suc i) h =
 
 -- ---- a string that is being made ----
 
--- bytes that it grew by, where it may have them
-pub grown : (limit : ℕ) (old new bytes : List ℕ) → new ≡ old ++ bytes → (length old ≤ limit → length new ≤ limit) → IsPut (Within limit old) (said_text bytes) (Within limit new)
-grown limit old new bytes e within = (bytes, known_spelled bytes, ap (Within limit) (sym e), within)
-
 within-sum : (limit : ℕ) (old new bytes : List ℕ) → new ≡ old ++ bytes → length old + length bytes ≤ limit → length new ≤ limit
 within-sum limit old new bytes e h = omega (arith, h, ap length e ∙ length-append old bytes)
 
 -- a piece that was pushed, as it was allowed
 pub pushed : (limit : ℕ) (old new bytes : List ℕ) → length old + length bytes ≤ limit → new ≡ old ++ bytes → IsPut (Within limit old) (said_text bytes) (Within limit new)
 pushed limit old new bytes h e = grown limit old new bytes e (λ _. within-sum limit old new bytes e h)
-
--- a piece that was written, and may stand there
-pub written : {T : Type 0} (r : Result T Stop) (limit : ℕ) (old new bytes : List ℕ) → new ≡ old ++ bytes → OnOk r (length new + 0 ≤ limit) → OnOk r (IsPut (Within limit old) (said_text bytes) (Within limit new))
-written (Ok x) limit old new bytes e h = grown limit old new bytes e (λ _. omega (arith, h))
-written (Err x) limit old new bytes e h = tt {0}
-
--- or is too long
-pub known_too_long : (limit : ℕ) (old bytes : List ℕ) (stop : Stop) → (stop ≡ TooLong) × (limit < length old + length bytes) → IsStopped (Within limit old) (said_text bytes) stop
-known_too_long limit old bytes stop (e, h) = subst (IsStopped (Within limit old) (said_text bytes)) (sym e) (bytes, known_spelled bytes, h)
-
-pub written_too_long : {T : Type 0} (r : Result T Stop) (limit : ℕ) (old new bytes : List ℕ) → new ≡ old ++ bytes → IfErr r (λ stop. (stop ≡ TooLong) × (limit < length new + 0)) →
-    IfErr r (IsStopped (Within limit old) (said_text bytes))
-written_too_long (Ok x) limit old new bytes e h = tt {0}
-written_too_long (Err stop) limit old new bytes e (t, h) = known_too_long limit old bytes stop (t, omega (arith, h, ap length e ∙ length-append old bytes))
 
 -- ---- its debug forms ----
 

@@ -2,19 +2,16 @@
 use Rattle.std.proofs.Common.{ℕ, [], ◌≡◌, ◌≢◌, Result, Err, IfErr, ap, sym, subst, ◌∙◌}
 use Rattle.capnp_device.specs.declared.error.ErrorKind.{ErrorKind}
 use Rattle.capnp_device.specs.declared.error.ErrorKind.TheVariants.{OutOfMemory, TooLarge}
-use Rattle.capnp_records.specs.Text.{Layout, Out}
+use Rattle.capnp_records.specs.Text.{Out}
 use Rattle.capnp_dynamic_readers.specs.Pieces.{IsLonger, Taken, Within, stopped_kind}
 use Rattle.capnp_dynamic_readers.specs.Steps.Pieces.{IsStopped}
-use Rattle.capnp_dynamic_readers.specs.Steps.Shown.{root_shown, value_shown}
-use Rattle.capnp_dynamic_readers.specs.declared.dynamic_value.Reader.{Reader as DynamicValue}
-use Rattle.capnp_dynamic_readers.specs.declared.printer.output.Stop.{Stop}
-use Rattle.capnp_dynamic_readers.specs.declared.printer.output.Stop.TheVariants.{Full, Refused, TooLong}
+use Rattle.capnp_dynamic_readers.specs.declared.walk.output.Stop.{Stop}
+use Rattle.capnp_dynamic_readers.specs.declared.walk.output.Stop.TheVariants.{Full, Refused, TooLong}
 use Rattle.capnp_dynamic_readers.proofs.Pieces.{longer_whole}
 
 -- where it is printed as a value, why that stopped is why the whole did
-pub root_stopped : {T : Type 0} (at : Layout) (v : DynamicValue) (old : Taken) (result : Result T Stop) → root_shown at v ≡ value_shown 64 at v →
-    IfErr result (IsStopped old (value_shown 64 at v)) → IfErr result (IsStopped old (root_shown at v))
-root_stopped at v old result e h = subst (λ (o : Out). IfErr result (IsStopped old o)) (sym e) h
+pub root_stopped : {T : Type 0} (old : Taken) (result : Result T Stop) (x y : Out) → x ≡ y → IfErr result (IsStopped old y) → IfErr result (IsStopped old x)
+root_stopped old result x y e h = subst (λ (o : Out). IfErr result (IsStopped old o)) (sym e) h
 
 -- why a string was not made, where there was memory and it was not too long
 pub stopped_refused : (a : Taken) (o : Out) (stop : Stop) (kind : ErrorKind) → kind ≡ stopped_kind stop → IsStopped a o stop → kind ≢ OutOfMemory → kind ≢ TooLarge → o ≡ Err kind

@@ -1,24 +1,22 @@
 -- The steps of a print.
-use Rattle.std.proofs.Common.{ℕ, zero, suc, ◌+◌, ◌-◌, ◌<◌, ◌≡◌, ◌==◌, refl, List, [], ◌∷◌, ◌++◌, Bool, true, false, length, codes, Ok, Err, Option, Some, None, Result, IfErr, OnOk, rules, ap, sym, subst, ◌∙◌, arith}
-use Rattle.capnp_schema.specs.Schema.{Schemas, TypedField}
+use Rattle.std.proofs.Common.{ℕ, zero, suc, ◌+◌, ◌-◌, ◌<◌, ◌≡◌, ◌==◌, refl, List, [], ◌∷◌, ◌++◌, Bool, true, false, length, codes, Ok, Err, Result, IfErr, OnOk, rules, ap, sym, subst, ◌∙◌, arith}
+use Rattle.capnp_device.specs.declared.error.ErrorKind.TheVariants.{TooDeep}
+use Rattle.capnp_schema.specs.Schema.{TypedField}
 use Rattle.capnp_schema.specs.StructHandles.{struct_fields}
-use Rattle.capnp_schema.specs.Types.{SchemaType}
 use Rattle.capnp_records.specs.Facts.Spelled.{said_both}
-use Rattle.capnp_records.specs.Record.{Value}
-use Rattle.capnp_records.specs.Text.{Inner, Layout, Out, after, bracketed_text, deeper, line, list_text, more_text, said_text, separator, struct_text, text_within, value_text}
+use Rattle.capnp_records.specs.Text.{Layout, Out, after, bracketed_text, deeper, line, list_text, more_text, said_text, separator, struct_text}
 use Rattle.capnp_dynamic_readers.specs.Handles.{schema_of}
-use Rattle.capnp_dynamic_readers.specs.Steps.Leaf.{IsLeaf, leaf_text}
+use Rattle.capnp_dynamic_readers.specs.Steps.Leaf.{IsLeaf}
 use Rattle.capnp_dynamic_readers.specs.Pieces.{Taken}
 use Rattle.capnp_dynamic_readers.specs.Steps.Pieces.{IsPut, IsStopped, Leads}
-use Rattle.capnp_dynamic_readers.specs.Reads.{element_seen}
-use Rattle.capnp_dynamic_readers.specs.Shown.{set_seen, type_seen}
-use Rattle.capnp_dynamic_readers.specs.Steps.Shown.{count_of, element_items, element_shown, list_shown, record_items, record_shown, value_shown}
-use Rattle.capnp_dynamic_readers.specs.Seen.{value_seen}
+use Rattle.capnp_dynamic_readers.specs.Steps.Shown.{count_of}
+use Rattle.capnp_dynamic_readers.specs.Steps.Styled.{IsTexts, items_in, leaf_in, list_in, record_in}
+use Rattle.capnp_dynamic_readers.specs.Styles.{Texts}
 use Rattle.capnp_dynamic_readers.specs.declared.dynamic_list.Reader.{Reader as ListHandle}
 use Rattle.capnp_dynamic_readers.specs.declared.dynamic_struct.Reader.{Reader as StructHandle}
 use Rattle.capnp_dynamic_readers.specs.declared.dynamic_value.Reader.{Reader as DynamicValue}
 use Rattle.capnp_dynamic_readers.specs.declared.dynamic_value.Reader.TheVariants as dynamic
-use Rattle.capnp_dynamic_readers.specs.declared.printer.output.Stop.{Stop}
+use Rattle.capnp_dynamic_readers.specs.declared.walk.output.Stop.{Stop}
 use Rattle.capnp_dynamic_readers.proofs.Streams.{first_stopped, nothing_put, same, same_put, then, then_put, two_put}
 
 -- ---- levels ----
@@ -26,43 +24,29 @@ use Rattle.capnp_dynamic_readers.proofs.Streams.{first_stopped, nothing_put, sam
 before-suc : (n : ℕ) → suc n - 1 ≡ n
 before-suc n = omega arith
 
-pub struct_deep : (left : ℕ) (at : Layout) (r : StructHandle) → 0 < left → value_shown left at (dynamic.Struct r) ≡ record_shown (left - 1) at r
-struct_deep zero at r h = absurd (omega (arith, h))
-struct_deep (suc n) at r h = ap (λ m. record_shown m at r) (sym (before-suc n))
+module _ (x : Texts) {under : TypedField → Texts} (law : IsTexts x under) where
+  pub struct_deep : (left : ℕ) (at : Layout) (r : StructHandle) → 0 < left → x.value left at (dynamic.Struct r) ≡ record_in x (left - 1) at r
+  struct_deep zero at r h = absurd (omega (arith, h))
+  struct_deep (suc n) at r h = law.struct_deep n at r ∙ ap (λ m. record_in x m at r) (sym (before-suc n))
 
-pub list_deep : (left : ℕ) (at : Layout) (l : ListHandle) → 0 < left → value_shown left at (dynamic.List l) ≡ list_shown (left - 1) at l
-list_deep zero at l h = absurd (omega (arith, h))
-list_deep (suc n) at l h = ap (λ m. list_shown m at l) (sym (before-suc n))
+  pub list_deep : (left : ℕ) (at : Layout) (l : ListHandle) → 0 < left → x.value left at (dynamic.List l) ≡ list_in x (left - 1) at l
+  list_deep zero at l h = absurd (omega (arith, h))
+  list_deep (suc n) at l h = law.list_deep n at l ∙ ap (λ m. list_in x m at l) (sym (before-suc n))
 
-by_levels : (set : Schemas) (left : ℕ) (at : Layout) (t : SchemaType) (v : Value) (o : Out) → ((inner : Option Inner) → value_text set inner at t v ≡ o) → text_within set left at t v ≡ o
-by_levels set zero at t v o h = h None
-by_levels set (suc n) at t v o h = h (Some (text_within set n))
+  -- with no level left
+  pub struct_flat : (left : ℕ) (at : Layout) (v : DynamicValue) (r : StructHandle) → left ≡ 0 → v ≡ dynamic.Struct r → x.value left at v ≡ Err TooDeep
+  struct_flat left at v r none is = ap (λ (m : ℕ). x.value m at v) none ∙ (ap (x.value 0 at) is ∙ law.struct_flat at r)
 
-pub leaf_deep : (left : ℕ) (at : Layout) (v : DynamicValue) → IsLeaf v → value_shown left at v ≡ leaf_text v
-leaf_deep left at dynamic.Void h = by_levels (set_seen dynamic.Void) left at (type_seen dynamic.Void) (value_seen dynamic.Void) (leaf_text dynamic.Void) (λ inner. refl)
-leaf_deep left at (dynamic.Bool b) h = by_levels (set_seen (dynamic.Bool b)) left at (type_seen (dynamic.Bool b)) (value_seen (dynamic.Bool b)) (leaf_text (dynamic.Bool b)) (λ inner. refl)
-leaf_deep left at (dynamic.Int8 x) h = by_levels (set_seen (dynamic.Int8 x)) left at (type_seen (dynamic.Int8 x)) (value_seen (dynamic.Int8 x)) (leaf_text (dynamic.Int8 x)) (λ inner. refl)
-leaf_deep left at (dynamic.Int16 x) h = by_levels (set_seen (dynamic.Int16 x)) left at (type_seen (dynamic.Int16 x)) (value_seen (dynamic.Int16 x)) (leaf_text (dynamic.Int16 x)) (λ inner. refl)
-leaf_deep left at (dynamic.Int32 x) h = by_levels (set_seen (dynamic.Int32 x)) left at (type_seen (dynamic.Int32 x)) (value_seen (dynamic.Int32 x)) (leaf_text (dynamic.Int32 x)) (λ inner. refl)
-leaf_deep left at (dynamic.Int64 x) h = by_levels (set_seen (dynamic.Int64 x)) left at (type_seen (dynamic.Int64 x)) (value_seen (dynamic.Int64 x)) (leaf_text (dynamic.Int64 x)) (λ inner. refl)
-leaf_deep left at (dynamic.UInt8 x) h = by_levels (set_seen (dynamic.UInt8 x)) left at (type_seen (dynamic.UInt8 x)) (value_seen (dynamic.UInt8 x)) (leaf_text (dynamic.UInt8 x)) (λ inner. refl)
-leaf_deep left at (dynamic.UInt16 x) h = by_levels (set_seen (dynamic.UInt16 x)) left at (type_seen (dynamic.UInt16 x)) (value_seen (dynamic.UInt16 x)) (leaf_text (dynamic.UInt16 x)) (λ inner. refl)
-leaf_deep left at (dynamic.UInt32 x) h = by_levels (set_seen (dynamic.UInt32 x)) left at (type_seen (dynamic.UInt32 x)) (value_seen (dynamic.UInt32 x)) (leaf_text (dynamic.UInt32 x)) (λ inner. refl)
-leaf_deep left at (dynamic.UInt64 x) h = by_levels (set_seen (dynamic.UInt64 x)) left at (type_seen (dynamic.UInt64 x)) (value_seen (dynamic.UInt64 x)) (leaf_text (dynamic.UInt64 x)) (λ inner. refl)
-leaf_deep left at (dynamic.Enum e) h = by_levels (set_seen (dynamic.Enum e)) left at (type_seen (dynamic.Enum e)) (value_seen (dynamic.Enum e)) (leaf_text (dynamic.Enum e)) (λ inner. refl)
-leaf_deep left at (dynamic.Text t) h = by_levels (set_seen (dynamic.Text t)) left at (type_seen (dynamic.Text t)) (value_seen (dynamic.Text t)) (leaf_text (dynamic.Text t)) (λ inner. refl)
-leaf_deep left at (dynamic.«Data» bytes) h = by_levels (set_seen (dynamic.«Data» bytes)) left at (type_seen (dynamic.«Data» bytes)) (value_seen (dynamic.«Data» bytes)) (leaf_text (dynamic.«Data» bytes)) (λ inner. refl)
-leaf_deep left at (dynamic.Struct s) h = absurd h
-leaf_deep left at (dynamic.List l) h = absurd h
-leaf_deep left at (dynamic.AnyPointer p) h = by_levels (set_seen (dynamic.AnyPointer p)) left at (type_seen (dynamic.AnyPointer p)) (value_seen (dynamic.AnyPointer p)) (leaf_text (dynamic.AnyPointer p)) (λ inner. refl)
+  pub list_flat : (left : ℕ) (at : Layout) (v : DynamicValue) (l : ListHandle) → left ≡ 0 → v ≡ dynamic.List l → x.value left at v ≡ Err TooDeep
+  list_flat left at v l none is = ap (λ (m : ℕ). x.value m at v) none ∙ (ap (x.value 0 at) is ∙ law.list_flat at l)
 
--- a leaf that was put
-pub leaf_put : (left : ℕ) (at : Layout) (v : DynamicValue) (old new : Taken) → IsLeaf v → IsPut old (leaf_text v) new → IsPut old (value_shown left at v) new
-leaf_put left at v old new h p = same_put old new (value_shown left at v) (leaf_text v) (leaf_deep left at v h) p
+  -- a leaf that was put
+  pub leaf_put : (left : ℕ) (at : Layout) (v : DynamicValue) (old new : Taken) → IsLeaf v → IsPut old (leaf_in x v) new → IsPut old (x.value left at v) new
+  leaf_put left at v old new h p = same_put old new (x.value left at v) (leaf_in x v) (law.leaf left at v h) p
 
--- or was not
-pub leaf_stopped : (left : ℕ) (at : Layout) (v : DynamicValue) (old : Taken) (stop : Stop) → IsLeaf v → IsStopped old (leaf_text v) stop → IsStopped old (value_shown left at v) stop
-leaf_stopped left at v old stop h s = same old (leaf_deep left at v h) (Err stop) s
+  -- or was not
+  pub leaf_stopped : (left : ℕ) (at : Layout) (v : DynamicValue) (old : Taken) (stop : Stop) → IsLeaf v → IsStopped old (leaf_in x v) stop → IsStopped old (x.value left at v) stop
+  leaf_stopped left at v old stop h s = same old (law.leaf left at v h) (Err stop) s
 
 -- ---- brackets ----
 
@@ -103,57 +87,62 @@ not-zero i = search rules
 none-left : (n i : ℕ) → n < i + 1 → n - i ≡ 0
 none-left n i h = omega (arith, h)
 
-module _ (left : ℕ) (at : Layout) (l : ListHandle) where
-  -- the items of the elements from one on
-  abbrev from : ℕ → ℕ → List Out
-  from i n = element_items left at l i n
+module _ (x : Texts) {under : TypedField → Texts} (law : IsTexts x under) (left : ℕ) (at : Layout) (l : ListHandle) where
+  -- an element, and the items of those behind it
+  one-more : (n i : ℕ) → i < n → x.elements left at l i (n - i) ≡ x.element left at l i ∷ x.elements left at l (suc i) (n - (i + 1))
+  one-more n i h = ap (x.elements left at l i) (less-one n i h) ∙ law.elements_next left at l i (n - (i + 1))
 
   pub element_next : (n i : ℕ) → i < n → (p0 p1 p2 : Taken) →
-      IsPut p0 (said_text (separator at (i == 0))) p1 → IsPut p1 (element_shown left at l (element_seen l i)) p2 →
-      Leads p0 (more_text at (i == 0) (element_items left at l i (n - i))) p2 (more_text at (i + 1 == 0) (element_items left at l (i + 1) (n - (i + 1))))
+      IsPut p0 (said_text (separator at (i == 0))) p1 → IsPut p1 (x.element left at l i) p2 →
+      Leads p0 (more_text at (i == 0) (x.elements left at l i (n - i))) p2 (more_text at (i + 1 == 0) (x.elements left at l (i + 1) (n - (i + 1))))
   element_next n i h p0 p1 p2 a b = λ r k.
-      same p0 (ap (λ m. more_text at (i == 0) (from i m)) (less-one n i h)) r
-      (then p0 p1 (said_text (separator at (i == 0))) (after (element_shown left at l (element_seen l i)) (more_text at false (from (suc i) (n - (i + 1))))) a r
-      (then p1 p2 (element_shown left at l (element_seen l i)) (more_text at false (from (suc i) (n - (i + 1)))) b r
-      (same p2 (ap (λ q. more_text at q (from (suc i) (n - (i + 1)))) (not-zero i) ∙ ap (λ j. more_text at (j == 0) (from j (n - (i + 1)))) (next-is i)) r k)))
+      same p0 (ap (more_text at (i == 0)) (one-more n i h)) r
+      (then p0 p1 (said_text (separator at (i == 0))) (after (x.element left at l i) (more_text at false (x.elements left at l (suc i) (n - (i + 1))))) a r
+      (then p1 p2 (x.element left at l i) (more_text at false (x.elements left at l (suc i) (n - (i + 1)))) b r
+      (same p2 (ap (λ q. more_text at q (x.elements left at l (suc i) (n - (i + 1)))) (not-zero i) ∙ ap (λ j. more_text at (j == 0) (x.elements left at l j (n - (i + 1)))) (next-is i)) r k)))
 
-  pub separator_stopped : (n i : ℕ) → i < n → (p : Taken) (stop : Stop) → IsStopped p (said_text (separator at (i == 0))) stop → IsStopped p (more_text at (i == 0) (element_items left at l i (n - i))) stop
+  pub separator_stopped : (n i : ℕ) → i < n → (p : Taken) (stop : Stop) → IsStopped p (said_text (separator at (i == 0))) stop → IsStopped p (more_text at (i == 0) (x.elements left at l i (n - i))) stop
   separator_stopped n i h p stop a =
-      same p (ap (λ m. more_text at (i == 0) (from i m)) (less-one n i h)) (Err stop)
-      (first_stopped p (said_text (separator at (i == 0))) (after (element_shown left at l (element_seen l i)) (more_text at false (from (suc i) (n - (i + 1))))) stop a)
+      same p (ap (more_text at (i == 0)) (one-more n i h)) (Err stop)
+      (first_stopped p (said_text (separator at (i == 0))) (after (x.element left at l i) (more_text at false (x.elements left at l (suc i) (n - (i + 1))))) stop a)
 
   pub element_stopped : (n i : ℕ) → i < n → (p0 p1 : Taken) (stop : Stop) → IsPut p0 (said_text (separator at (i == 0))) p1 →
-      IsStopped p1 (element_shown left at l (element_seen l i)) stop → IsStopped p0 (more_text at (i == 0) (element_items left at l i (n - i))) stop
+      IsStopped p1 (x.element left at l i) stop → IsStopped p0 (more_text at (i == 0) (x.elements left at l i (n - i))) stop
   element_stopped n i h p0 p1 stop a b =
-      same p0 (ap (λ m. more_text at (i == 0) (from i m)) (less-one n i h)) (Err stop)
-      (then p0 p1 (said_text (separator at (i == 0))) (after (element_shown left at l (element_seen l i)) (more_text at false (from (suc i) (n - (i + 1))))) a (Err stop)
-      (first_stopped p1 (element_shown left at l (element_seen l i)) (more_text at false (from (suc i) (n - (i + 1)))) stop b))
+      same p0 (ap (more_text at (i == 0)) (one-more n i h)) (Err stop)
+      (then p0 p1 (said_text (separator at (i == 0))) (after (x.element left at l i) (more_text at false (x.elements left at l (suc i) (n - (i + 1))))) a (Err stop)
+      (first_stopped p1 (x.element left at l i) (more_text at false (x.elements left at l (suc i) (n - (i + 1)))) stop b))
 
-  pub elements_end : (n i : ℕ) (q : Bool) → n < i + 1 → (p : Taken) → IsPut p (more_text at q (element_items left at l i (n - i))) p
-  elements_end n i q h p = same p (ap (λ m. more_text at q (from i m)) (none-left n i h)) (Ok p) (nothing_put p)
+  pub elements_end : (n i : ℕ) (q : Bool) → n < i + 1 → (p : Taken) → IsPut p (more_text at q (x.elements left at l i (n - i))) p
+  elements_end n i q h p = same p (ap (more_text at q) (ap (x.elements left at l i) (none-left n i h) ∙ law.elements_none left at l i)) (Ok p) (nothing_put p)
 
 -- ---- whole lists and structs ----
 
-pub list_some : (left : ℕ) (at : Layout) (l : ListHandle) → 0 < count_of l → list_shown left at l ≡ bracketed_text (codes "[") (codes "]") at (element_items left (deeper at) l 0 (count_of l))
-list_some left at l h = go (count_of l) h
-  where
-    go : (n : ℕ) → 0 < n → list_text at (element_items left (deeper at) l 0 n) ≡ bracketed_text (codes "[") (codes "]") at (element_items left (deeper at) l 0 n)
-    go zero h = absurd (omega (arith, h))
-    go (suc n) h = refl
+module _ (x : Texts) {under : TypedField → Texts} (law : IsTexts x under) where
+  pub list_none : (left : ℕ) (at : Layout) (l : ListHandle) → count_of l ≡ 0 → list_in x left at l ≡ said_text (codes "[]")
+  list_none left at l h = ap (λ (n : ℕ). list_text at (x.elements left (deeper at) l 0 n)) h ∙ ap (list_text at) (law.elements_none left (deeper at) l 0)
 
-pub struct_some : (left : ℕ) (at : Layout) (r : StructHandle) → 0 < length (struct_fields (schema_of r)) → record_shown left at r ≡ bracketed_text (codes "(") (codes ")") at (record_items left (deeper at) r)
-struct_some left at r h = go (struct_fields (schema_of r)) h
-  where
-    go : (fs : List TypedField) → 0 < length fs → struct_text at fs (record_items left (deeper at) r) ≡ bracketed_text (codes "(") (codes ")") at (record_items left (deeper at) r)
-    go [] h = absurd (omega (arith, h))
-    go (f ∷ fs) h = refl
+  pub list_some : (left : ℕ) (at : Layout) (l : ListHandle) → 0 < count_of l → list_in x left at l ≡ bracketed_text (codes "[") (codes "]") at (x.elements left (deeper at) l 0 (count_of l))
+  list_some left at l h = go (count_of l) h
+    where
+      go : (n : ℕ) → 0 < n → list_text at (x.elements left (deeper at) l 0 n) ≡ bracketed_text (codes "[") (codes "]") at (x.elements left (deeper at) l 0 n)
+      go zero h = absurd (omega (arith, h))
+      go (suc n) h = ap (list_text at) (law.elements_next left (deeper at) l 0 n) ∙ ap (bracketed_text (codes "[") (codes "]") at) (sym (law.elements_next left (deeper at) l 0 n))
 
-pub struct_none : (left : ℕ) (at : Layout) (r : StructHandle) → length (struct_fields (schema_of r)) ≡ 0 → record_shown left at r ≡ said_text (codes "()")
-struct_none left at r h = go (struct_fields (schema_of r)) h
-  where
-    go : (fs : List TypedField) → length fs ≡ 0 → struct_text at fs (record_items left (deeper at) r) ≡ said_text (codes "()")
-    go [] h = refl
-    go (f ∷ fs) h = absurd (omega (arith, h))
+module _ (x : Texts) where
+  pub struct_some : (left : ℕ) (at : Layout) (r : StructHandle) → 0 < length (struct_fields (schema_of r)) → record_in x left at r ≡ bracketed_text (codes "(") (codes ")") at (items_in x left (deeper at) r 0)
+  struct_some left at r h = go (struct_fields (schema_of r)) h
+    where
+      go : (fs : List TypedField) → 0 < length fs → struct_text at fs (items_in x left (deeper at) r 0) ≡ bracketed_text (codes "(") (codes ")") at (items_in x left (deeper at) r 0)
+      go [] h = absurd (omega (arith, h))
+      go (f ∷ fs) h = refl
+
+  pub struct_none : (left : ℕ) (at : Layout) (r : StructHandle) → length (struct_fields (schema_of r)) ≡ 0 → record_in x left at r ≡ said_text (codes "()")
+  struct_none left at r h = go (struct_fields (schema_of r)) h
+    where
+      go : (fs : List TypedField) → length fs ≡ 0 → struct_text at fs (items_in x left (deeper at) r 0) ≡ said_text (codes "()")
+      go [] h = refl
+      go (f ∷ fs) h = absurd (omega (arith, h))
 
 -- ---- through a result ----
 
@@ -167,44 +156,44 @@ err_map (Err e) f h = f e h
 
 -- ---- lists ----
 
-pub list_put : (left : ℕ) (at further : Layout) (l : ListHandle) → further ≡ deeper at → 0 < count_of l → (p0 p1 p2 p3 p4 : Taken) →
-    IsPut p0 (said_text (codes "[")) p1 → IsPut p1 (more_text further true (element_items left further l 0 (count_of l))) p2 → IsPut p2 (said_text (line at)) p3 → IsPut p3 (said_text (codes "]")) p4 →
-    IsPut p0 (list_shown left at l) p4
-list_put left at further l e h p0 p1 p2 p3 p4 a b c d =
-    same_put p0 p4 (list_shown left at l) (bracketed_text (codes "[") (codes "]") at (element_items left (deeper at) l 0 (count_of l))) (list_some left at l h)
-    (brackets_put (codes "[") (codes "]") at (deeper at) (element_items left (deeper at) l 0 (count_of l)) refl p0 p1 p2 p3 p4 a (subst (λ (z : Layout). IsPut p1 (more_text z true (element_items left z l 0 (count_of l))) p2) e b) c d)
+pub list_put : (x : Texts) {under : TypedField → Texts} (law : IsTexts x under) (left : ℕ) (at further : Layout) (l : ListHandle) → further ≡ deeper at → 0 < count_of l → (p0 p1 p2 p3 p4 : Taken) →
+    IsPut p0 (said_text (codes "[")) p1 → IsPut p1 (more_text further true (x.elements left further l 0 (count_of l))) p2 → IsPut p2 (said_text (line at)) p3 → IsPut p3 (said_text (codes "]")) p4 →
+    IsPut p0 (list_in x left at l) p4
+list_put x law left at further l e h p0 p1 p2 p3 p4 a b c d =
+    same_put p0 p4 (list_in x left at l) (bracketed_text (codes "[") (codes "]") at (x.elements left (deeper at) l 0 (count_of l))) (list_some x law left at l h)
+    (brackets_put (codes "[") (codes "]") at (deeper at) (x.elements left (deeper at) l 0 (count_of l)) refl p0 p1 p2 p3 p4 a (subst (λ (z : Layout). IsPut p1 (more_text z true (x.elements left z l 0 (count_of l))) p2) e b) c d)
 
 -- why a list was not put: its opening bracket, its elements, the line behind them or its closing bracket was not
-module _ (left : ℕ) (at further : Layout) (l : ListHandle) (e : further ≡ deeper at) (some : 0 < count_of l) where
+module _ (x : Texts) {under : TypedField → Texts} (law : IsTexts x under) (left : ℕ) (at further : Layout) (l : ListHandle) (e : further ≡ deeper at) (some : 0 < count_of l) where
   abbrev own_items : List Out
-  own_items = element_items left (deeper at) l 0 (count_of l)
+  own_items = x.elements left (deeper at) l 0 (count_of l)
 
-  as_list : (p : Taken) → Leads p (list_shown left at l) p (bracketed_text (codes "[") (codes "]") at own_items)
-  as_list p = same p (list_some left at l some)
+  as_list : (p : Taken) → Leads p (list_in x left at l) p (bracketed_text (codes "[") (codes "]") at own_items)
+  as_list p = same p (list_some x law left at l some)
 
-  same-items : (p q : Taken) → IsPut p (more_text further true (element_items left further l 0 (count_of l))) q → IsPut p (more_text (deeper at) true own_items) q
-  same-items p q b = subst (λ (z : Layout). IsPut p (more_text z true (element_items left z l 0 (count_of l))) q) e b
+  same-items : (p q : Taken) → IsPut p (more_text further true (x.elements left further l 0 (count_of l))) q → IsPut p (more_text (deeper at) true own_items) q
+  same-items p q b = subst (λ (z : Layout). IsPut p (more_text z true (x.elements left z l 0 (count_of l))) q) e b
 
-  pub list_stopped_inside : (p0 p1 : Taken) (stop : Stop) → IsPut p0 (said_text (codes "[")) p1 → IsStopped p1 (more_text further true (element_items left further l 0 (count_of l))) stop → IsStopped p0 (list_shown left at l) stop
+  pub list_stopped_inside : (p0 p1 : Taken) (stop : Stop) → IsPut p0 (said_text (codes "[")) p1 → IsStopped p1 (more_text further true (x.elements left further l 0 (count_of l))) stop → IsStopped p0 (list_in x left at l) stop
   list_stopped_inside p0 p1 stop a b =
       as_list p0 (Err stop)
       (opened p0 p1 (codes "[") (codes "]") at own_items a (Err stop)
       (first_stopped p1 (more_text (deeper at) true own_items) (said_text (line at ++ codes "]")) stop
-      (subst (λ (z : Layout). IsStopped p1 (more_text z true (element_items left z l 0 (count_of l))) stop) e b)))
+      (subst (λ (z : Layout). IsStopped p1 (more_text z true (x.elements left z l 0 (count_of l))) stop) e b)))
 
-  pub list_stopped_behind : (p0 p1 p2 : Taken) (stop : Stop) → IsPut p0 (said_text (codes "[")) p1 → IsPut p1 (more_text further true (element_items left further l 0 (count_of l))) p2 → IsStopped p2 (said_text (line at)) stop →
-      IsStopped p0 (list_shown left at l) stop
+  pub list_stopped_behind : (p0 p1 p2 : Taken) (stop : Stop) → IsPut p0 (said_text (codes "[")) p1 → IsPut p1 (more_text further true (x.elements left further l 0 (count_of l))) p2 → IsStopped p2 (said_text (line at)) stop →
+      IsStopped p0 (list_in x left at l) stop
   list_stopped_behind p0 p1 p2 stop a b c =
       as_list p0 (Err stop) (filled p0 p1 p2 (codes "[") (codes "]") at own_items a (same-items p1 p2 b) (Err stop) (first_stopped p2 (said_text (line at)) (said_text (codes "]")) stop c))
 
-  pub list_stopped_last : (p0 p1 p2 p3 : Taken) (stop : Stop) → IsPut p0 (said_text (codes "[")) p1 → IsPut p1 (more_text further true (element_items left further l 0 (count_of l))) p2 → IsPut p2 (said_text (line at)) p3 →
-      IsStopped p3 (said_text (codes "]")) stop → IsStopped p0 (list_shown left at l) stop
+  pub list_stopped_last : (p0 p1 p2 p3 : Taken) (stop : Stop) → IsPut p0 (said_text (codes "[")) p1 → IsPut p1 (more_text further true (x.elements left further l 0 (count_of l))) p2 → IsPut p2 (said_text (line at)) p3 →
+      IsStopped p3 (said_text (codes "]")) stop → IsStopped p0 (list_in x left at l) stop
   list_stopped_last p0 p1 p2 p3 stop a b c d =
       as_list p0 (Err stop) (filled p0 p1 p2 (codes "[") (codes "]") at own_items a (same-items p1 p2 b) (Err stop) (then p2 p3 (said_text (line at)) (said_text (codes "]")) c (Err stop) d))
 
-pub list_stopped_first : (left : ℕ) (at : Layout) (l : ListHandle) (p : Taken) (stop : Stop) → 0 < count_of l → IsStopped p (said_text (codes "[")) stop → IsStopped p (list_shown left at l) stop
-list_stopped_first left at l p stop some h =
-    same p (list_some left at l some) (Err stop) (opening_stopped p (codes "[") (codes "]") at (element_items left (deeper at) l 0 (count_of l)) stop h)
+pub list_stopped_first : (x : Texts) {under : TypedField → Texts} (law : IsTexts x under) (left : ℕ) (at : Layout) (l : ListHandle) (p : Taken) (stop : Stop) → 0 < count_of l → IsStopped p (said_text (codes "[")) stop → IsStopped p (list_in x left at l) stop
+list_stopped_first x law left at l p stop some h =
+    same p (list_some x law left at l some) (Err stop) (opening_stopped p (codes "[") (codes "]") at (x.elements left (deeper at) l 0 (count_of l)) stop h)
 
 -- ---- levels fall ----
 

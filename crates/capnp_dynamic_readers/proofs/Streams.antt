@@ -8,8 +8,8 @@ use Rattle.capnp_records.specs.Facts.Spelled.{both_spelled, both_text, known_spe
 use Rattle.capnp_records.specs.Text.{Layout, Out, Pieces, after, deeper, line, said_text, separator}
 use Rattle.capnp_dynamic_readers.specs.Pieces.{Taken, Untold, Within}
 use Rattle.capnp_dynamic_readers.specs.Steps.Pieces.{Gives, IsFull, IsPast, IsPut, IsStopped, Leads, followed}
-use Rattle.capnp_dynamic_readers.specs.declared.printer.output.Stop.{Stop}
-use Rattle.capnp_dynamic_readers.specs.declared.printer.output.Stop.TheVariants.{Full, Refused, TooLong}
+use Rattle.capnp_dynamic_readers.specs.declared.walk.output.Stop.{Stop}
+use Rattle.capnp_dynamic_readers.specs.declared.walk.output.Stop.TheVariants.{Full, Refused, TooLong}
 
 pub deeper_is : (n : ℕ) → Some (n + 1) ≡ deeper (Some n)
 deeper_is n = ap Some (omega arith)

@@ -6,5 +6,7 @@ pub mod HasWhich
 pub mod ItemsInOrder
 pub mod ItemsShown
 pub mod PartsShown
+pub mod PlainTexts
 pub mod Roots
 pub mod Taken
+pub mod Written

@@ -11,3 +11,4 @@ pub mod Taken
 pub mod Typed
 pub mod Viewed
 pub mod Steps
+pub mod Styles

@@ -3,9 +3,9 @@ use Rattle.std.specs.Prelude.{ℕ, List, ◌++◌, ◌<◌, ◌≡◌, ⊤, Ok, 
 use Rattle.capnp_device.specs.declared.error.ErrorKind.{ErrorKind}
 use Rattle.capnp_device.specs.declared.error.ErrorKind.TheVariants.{OutOfMemory, TooLarge}
 use Rattle.capnp_records.specs.Text.{IsSpelled, IsText, Out}
-use Rattle.capnp_dynamic_readers.specs.declared.printer.output.Made.{Made}
-use Rattle.capnp_dynamic_readers.specs.declared.printer.output.Stop.{Stop}
-use Rattle.capnp_dynamic_readers.specs.declared.printer.output.Stop.TheVariants.{Full, Refused, TooLong}
+use Rattle.capnp_dynamic_readers.specs.declared.walk.output.Made.{Made}
+use Rattle.capnp_dynamic_readers.specs.declared.walk.output.Stop.{Stop}
+use Rattle.capnp_dynamic_readers.specs.declared.walk.output.Stop.TheVariants.{Full, Refused, TooLong}
 
 -- a string after a text was appended to it
 abbrev pub IsAppended : List ℕ → Out → List ℕ → Type 0

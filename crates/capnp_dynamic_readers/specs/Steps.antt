@@ -6,3 +6,6 @@ pub mod PartsRead
 pub mod Pieces
 pub mod Planned
 pub mod Shown
+pub mod Styled
+pub mod StyledParts
+pub mod WalkSteps

@@ -16,3 +16,4 @@ mod placed;
 pub mod presence;
 pub mod printer;
 mod views;
+pub mod walk;

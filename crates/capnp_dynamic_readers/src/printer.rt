@@ -1,28 +1,17 @@
 //! The text of a value.
-ghost use Rattle.std.specs.Prelude.{[], ◌+◌, ◌≡◌, ◌≢◌, ◌≤◌, Err, IfErr, OnErr, OnOk, length, string_bytes};
+ghost use Rattle.std.specs.Prelude.{◌+◌, ◌≡◌, ◌≢◌, ◌≤◌, Err, IfErr, OnErr, OnOk, length, string_bytes};
 ghost use Rattle.capnp_device.specs.declared.error.ErrorKind.TheVariants.{OutOfMemory, TooLarge};
-ghost use Rattle.capnp_dynamic_readers.specs.Pieces.{IsAppended, IsLonger, Within};
-ghost use Rattle.capnp_dynamic_readers.specs.Steps.Pieces.{IsPut, IsStopped};
+ghost use Rattle.capnp_dynamic_readers.specs.Pieces.{IsAppended, IsLonger};
 ghost use Rattle.capnp_dynamic_readers.specs.Shown.{printed_text};
-ghost use Rattle.capnp_dynamic_readers.specs.Steps.Shown.{root_shown};
-
-mod groups;
-mod leaves;
-mod output;
-mod parts;
-mod pieces;
-mod values;
 
 use crate::dynamic_value;
 use crate::dynamic_value::Reader as Value;
-use crate::printer::output::{Made, Out, Stop};
-use crate::printer::pieces::layout;
-use crate::printer::values::{print_record, print_value};
+use crate::walk::output::Stop;
+use crate::walk::pieces::layout;
+use crate::walk::style::Plain;
+use crate::walk::{append_text, append_within, print_root_value};
 use capnp_wire::error::{Error, ErrorKind, Result};
 use std::fmt;
-
-/// The levels that a print goes down.
-const PRINT_LEVELS: u32 = 64;
 
 /// Appends the text of a value, on one line or on lines indented by two spaces for each bracket around them.
 ///
@@ -46,7 +35,7 @@ pub fn print(value: dynamic_value::Reader<'_>, out: &mut String, indented: bool)
     ensures refused { IfErr result (λ e. e.kind ≢ OutOfMemory → printed_text indented value.entry ≡ Err e.kind) }
     ensures unchanged { OnErr result (string_bytes out.new ≡ string_bytes out.old) }
 {
-    match append_text(value, out, indented, u64::MAX) {
+    match append_text(value, Plain, out, indented, u64::MAX) {
         Ok(()) => Ok(()),
         Err(Stop::Refused(error)) => Err(error),
         Err(_) => Err(Error::from(ErrorKind::OutOfMemory)),
@@ -80,30 +69,7 @@ pub fn print_within(
     ensures too_long { IfErr result (λ e. e.kind ≡ TooLarge → IsLonger limit (printed_text indented value.entry)) }
     ensures unchanged { OnErr result (string_bytes out.new ≡ string_bytes out.old) }
 {
-    match append_text(value, out, indented, limit) {
-        Ok(()) => Ok(()),
-        Err(stop) => Err(Error::from(stop)),
-    }
-}
-
-/// Appends the text of a value, where it has at most so many bytes.
-fn append_text(
-    value: Value<'_>,
-    out: &mut String,
-    indented: bool,
-    limit: u64,
-) -> std::result::Result<(), Stop>
-    ensures printed { OnOk result (IsAppended (string_bytes out.old) (printed_text indented value.entry)
-        (string_bytes out.new)) }
-    ensures within { OnOk result (length (string_bytes out.new) ≤ length (string_bytes out.old) + limit) }
-    ensures stopped { IfErr result (IsStopped (Within limit []) (printed_text indented value.entry)) }
-    ensures unchanged { OnErr result (string_bytes out.new ≡ string_bytes out.old) }
-{
-    let mut made = Made::new(*out.allocator(), limit);
-    match print_root_value(value, layout(indented), &mut made) {
-        Ok(()) => made.append_to(out),
-        Err(stop) => Err(stop),
-    }
+    append_within(value, Plain, out, indented, limit)
 }
 
 /// Writes the text of a value to a formatter: on lines by `{:#?}`, and else on one line. A refusal comes after a
@@ -112,26 +78,8 @@ pub(crate) fn print_debug<W: fmt::Write>(
     value: Value<'_>,
     f: &mut fmt::Formatter<W>,
 ) -> fmt::Result {
-    match print_root_value(value, layout(f.alternate()), f) {
+    match print_root_value(value, Plain, layout(f.alternate()), f) {
         Ok(()) => Ok(()),
         Err(_) => Err(fmt::Error),
     }
-}
-
-/// Appends the text of a value that stands alone. A group takes no level, here as elsewhere.
-#[tactic(auto, using(crate::specs::Facts::Roots::group_root, crate::specs::Facts::Roots::struct_root, crate::specs::Facts::Roots::other_root))]
-fn print_root_value<O: Out>(
-    value: Value<'_>,
-    at: Option<u64>,
-    out: &mut O,
-) -> std::result::Result<(), Stop>
-    ensures put { OnOk result (IsPut (O.text out.old) (root_shown at value.entry) (O.text out.new)) }
-    ensures stopped { IfErr result (IsStopped (O.text out.old) (root_shown at value.entry)) }
-{
-    if let Value::Struct(reader) = value {
-        if reader.get_schema().get_proto().body.is_group {
-            return print_record(reader, PRINT_LEVELS, at, out);
-        }
-    }
-    print_value(value, PRINT_LEVELS, at, out)
 }

@@ -1,12 +1,3 @@
 pub mod OneText
 pub mod RowsTexts
 pub mod Unmarked
-pub mod Streams
-pub mod Puts
-pub mod ItemsInOrder
-pub mod PartsShown
-pub mod Steps
-pub mod PutSteps
-pub mod GroupsShown
-pub mod GroupSteps
-pub mod Roots

@@ -2,6 +2,5 @@ pub mod Facts
 pub mod Numbers
 pub mod Texts
 pub mod Printed
-pub mod Stops
 pub mod Laws
 pub mod Steps

@@ -1,6 +1,3 @@
 -- Words that no public contract stands on.
-pub mod Pieces
-pub mod Leaf
+pub mod FloatTexts
 pub mod Shown
-pub mod PartsRead
-pub mod GroupTexts

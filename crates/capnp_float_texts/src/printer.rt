@@ -1,20 +1,13 @@
 //! The text of a value with its floats.
-ghost use Rattle.std.specs.Prelude.{[], ◌+◌, ◌≡◌, ◌≢◌, ◌≤◌, Err, IfErr, OnErr, OnOk, length, string_bytes};
+ghost use Rattle.std.specs.Prelude.{◌+◌, ◌≡◌, ◌≢◌, ◌≤◌, Err, IfErr, OnErr, OnOk, length, string_bytes};
 ghost use Rattle.capnp_device.specs.declared.error.ErrorKind.TheVariants.{OutOfMemory, TooLarge};
-ghost use Rattle.capnp_dynamic_readers.specs.Pieces.{IsAppended, IsLonger, Within};
-ghost use Rattle.capnp_dynamic_readers.specs.Steps.Pieces.{IsPut};
+ghost use Rattle.capnp_dynamic_readers.specs.Pieces.{IsAppended, IsLonger};
 ghost use Rattle.capnp_float_texts.specs.Printed.{printed_float_text};
-ghost use Rattle.capnp_float_texts.specs.Steps.Pieces.{IsStopped, made_text};
-ghost use Rattle.capnp_float_texts.specs.Steps.Shown.{root_shown};
 
-use crate::output::{Made, Stop};
-use crate::pieces::layout;
-use crate::values::{print_record, print_value};
+use crate::style::Floats;
 use capnp_dynamic_readers::dynamic_value::Reader as Value;
-use capnp_wire::error::{Error, Result};
-
-/// The levels that a print goes down.
-const PRINT_LEVELS: u32 = 64;
+use capnp_dynamic_readers::walk::append_within;
+use capnp_wire::error::Result;
 
 /// Appends the text of a value, as `capnp_dynamic_readers::printer::print_within`, but that numbers which are floats are
 /// shown as these: those of the fields for which `capnp_json_fields::fields::is_float` holds, also in lists; and those of
@@ -40,48 +33,5 @@ pub fn print_floats_within(
         → IsLonger limit (printed_float_text floats indented value.entry)) }
     ensures unchanged { OnErr result (string_bytes out.new ≡ string_bytes out.old) }
 {
-    match append_text(value, floats, out, indented, limit) {
-        Ok(()) => Ok(()),
-        Err(stop) => Err(Error::from(stop)),
-    }
-}
-
-/// Appends the text of a value, where it has at most so many bytes.
-fn append_text(
-    value: Value<'_>,
-    floats: bool,
-    out: &mut String,
-    indented: bool,
-    limit: u64,
-) -> std::result::Result<(), Stop>
-    ensures printed { OnOk result (IsAppended (string_bytes out.old) (printed_float_text floats indented value.entry)
-        (string_bytes out.new)) }
-    ensures within { OnOk result (length (string_bytes out.new) ≤ length (string_bytes out.old) + limit) }
-    ensures stopped { IfErr result (IsStopped (Within limit []) (printed_float_text floats indented value.entry)) }
-    ensures unchanged { OnErr result (string_bytes out.new ≡ string_bytes out.old) }
-{
-    let mut made = Made::new(*out.allocator(), limit);
-    match print_root_value(value, floats, layout(indented), &mut made) {
-        Ok(()) => made.append_to(out),
-        Err(stop) => Err(stop),
-    }
-}
-
-/// Appends the text of a value that stands alone. A group takes no level, here as elsewhere.
-#[tactic(auto, using(crate::proofs::Roots::struct_root, crate::proofs::Roots::other_root))]
-fn print_root_value(
-    value: Value<'_>,
-    floats: bool,
-    at: Option<u64>,
-    out: &mut Made,
-) -> std::result::Result<(), Stop>
-    ensures put { OnOk result (IsPut (made_text out.old) (root_shown floats at value.entry) (made_text out.new)) }
-    ensures stopped { IfErr result (IsStopped (made_text out.old) (root_shown floats at value.entry)) }
-{
-    if let Value::Struct(reader) = value {
-        if reader.get_schema().get_proto().body.is_group {
-            return print_record(reader, PRINT_LEVELS, at, out);
-        }
-    }
-    print_value(value, floats, PRINT_LEVELS, at, out)
+    append_within(value, Floats { marked: floats }, out, indented, limit)
 }

@@ -2,8 +2,8 @@
 use Rattle.std.specs.Prelude.{ℕ, List, Result, Ok, Err, ◌+◌, ◌++◌, ◌<◌, ◌≤◌, ◌≡◌, ◌≢◌, ⊤, length}
 use Rattle.capnp_device.specs.declared.error.ErrorKind.TheVariants.{OutOfMemory}
 use Rattle.capnp_records.specs.Text.{IsSpelled, IsText, Out}
-use Rattle.capnp_dynamic_readers.specs.declared.printer.output.Stop.{Stop}
-use Rattle.capnp_dynamic_readers.specs.declared.printer.output.Stop.TheVariants.{Full, Refused, TooLong}
+use Rattle.capnp_dynamic_readers.specs.declared.walk.output.Stop.{Stop}
+use Rattle.capnp_dynamic_readers.specs.declared.walk.output.Stop.TheVariants.{Full, Refused, TooLong}
 use Rattle.capnp_dynamic_readers.specs.Pieces.{Taken, Untold, Within}
 
 -- what a place has taken, with bytes behind it

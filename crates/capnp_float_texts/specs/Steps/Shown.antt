@@ -1,14 +1,16 @@
--- The texts of what is read, as a printer appends them: steps of the code.
-use Rattle.std.specs.Prelude.{ℕ, ◌++◌, List, Bool}
-use Rattle.capnp_schema.specs.Schema.{TypedField, VoidValue, default_of, is_member}
+-- The texts of what is read, as the walk of a print appends them: steps of the code.
+use Rattle.std.specs.Prelude.{ℕ, ◌++◌, List, Bool, drop}
+use Rattle.capnp_wire.specs.declared.struct_reader.StructReader.{StructReader}
+use Rattle.capnp_schema.specs.Schema.{Schemas, TypedField, VoidValue, default_of, fields_of, is_member}
 use Rattle.capnp_schema.specs.StructHandles.{number_of, set_of, struct_fields}
 use Rattle.capnp_records.specs.Reading.{non_union_parts}
 use Rattle.capnp_records.specs.Record.{Value, is_there}
-use Rattle.capnp_records.specs.Text.{Layout, Member, Out, before, deeper, element_texts, item, item_if, list_text, print_levels}
+use Rattle.capnp_records.specs.Text.{Layout, Member, Out, before, deeper, element_texts, item, item_if, later, list_text, print_levels}
 use Rattle.capnp_json_fields.specs.Marks.{is_float}
 use Rattle.capnp_dynamic_readers.specs.Handles.{element_of, list_set, schema_of}
 use Rattle.capnp_dynamic_readers.specs.Seen.{record_seen, value_seen}
 use Rattle.capnp_dynamic_readers.specs.Shown.{set_seen, type_seen, value_printed}
+use Rattle.capnp_dynamic_readers.specs.Steps.GroupTexts.{read_part_at, union_at}
 use Rattle.capnp_dynamic_readers.specs.Steps.Shown.{count_of, elements_from, is_member_shown, part_seen, union_seen, unless_member}
 use Rattle.capnp_dynamic_readers.specs.declared.dynamic_list.Reader.{Reader as ListHandle}
 use Rattle.capnp_dynamic_readers.specs.declared.dynamic_struct.Reader.{Reader as StructHandle}
@@ -68,3 +70,8 @@ record_items left at r =
 -- the items of a non-union field with the member before it, and of a member none: it has its place among the non-union fields
 abbrev pub field_items : ℕ → Layout → StructHandle → TypedField → ℕ → Member → List Out
 field_items left at r f i m = unless_member (is_member f.field) (before m i ++ item_if (is_there (part_seen r f)) (field_item left at r f))
+
+-- the items of a brand from a field on
+abbrev pub items_from : ℕ → Schemas → StructReader → Layout → ℕ → ℕ → List Out
+items_from left set r at b i =
+    shown set (text_within set left) at (drop i (fields_of set b)) i (non_union_parts (read_part_at set r) (drop i (fields_of set b))) (later (member set (text_within set left) at b (union_at set r b)) i)

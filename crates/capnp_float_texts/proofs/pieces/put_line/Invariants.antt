@@ -1,8 +1,0 @@
-use Rattle.std.proofs.Common.{◌∷◌, ◌*◌, replicate}
-use Rattle.capnp_records.specs.Text.{said_text}
-use Rattle.capnp_dynamic_readers.specs.Steps.Pieces.{IsPut}
-use Rattle.capnp_float_texts.specs.Steps.Pieces.{made_text}
-use Rattle.capnp_float_texts.proofs.pieces.put_line.Given as goal
-
-abbrev pub invariant-loop-step : goal.invariant-loop-step
-invariant-loop-step l = IsPut (made_text l.fn.out) (said_text (10 ∷ replicate (2 * l.step) 32)) (made_text l.out)
