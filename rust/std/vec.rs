@@ -53,7 +53,7 @@ impl<T> Vec<T> {
     }
 
     /// Appends an item.
-    #[inline]
+    #[inline(always)]
     pub fn push(&mut self, item: T) -> Result<(), AllocError> {
         if self.0.len() == self.0.capacity() {
             self.0.try_reserve(1)?;

@@ -20,6 +20,7 @@ pub mod Numbering
 pub mod NumbersSeen
 pub mod OrderMade
 pub mod PartsSeen
+pub mod PlainFields
 pub mod PointersMet
 pub mod PointersSeen
 pub mod ProgressMade

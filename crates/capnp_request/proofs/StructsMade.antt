@@ -62,6 +62,10 @@ pub fields_more : (n i : ℕ) (fs : List ConvertedField) (f : ConvertedField) (j
 fields_more n i [] f j e = let h : i ≡ j = omega (arith, e) in ap (λ k. seen_converted n k f ∷ []) h
 fields_more n i (g ∷ fs) f j e = ap (λ xs. seen_converted n i g ∷ xs) (fields_more n (i + 1) fs f j (omega (arith, e)))
 
+-- a part of one field more
+pub more_parts : {A : Type 0} (part : ConvertedField → A) (xs : List A) (fs : List ConvertedField) (f : ConvertedField) → xs ≡ map part fs → xs ++ part f ∷ [] ≡ map part (fs ++ f ∷ [])
+more_parts part xs fs f e = ap (λ ys. ys ++ part f ∷ []) e ∙ sym (map-append part fs (f ∷ []))
+
 pub fields_seen : (n i : ℕ) (fs : List ConvertedField) → map (λ (c : Converted). c.field) (seen_fields n i fs) ≡ map seen_field (field_records fs)
 fields_seen n i [] = refl
 fields_seen n i (f ∷ fs) = ap (λ xs. seen_field f.record ∷ xs) (fields_seen n (i + 1) fs)

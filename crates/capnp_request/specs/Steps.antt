@@ -10,10 +10,12 @@ pub mod NamesMade
 pub mod Nodes
 pub mod Numbers
 pub mod Parts
+pub mod PlainFields
 pub mod ProgressSeen
 pub mod Shapes
 pub mod Sizes
 pub mod StructsSeen
 pub mod Types
 pub mod ValueMembers
+pub mod Way
 pub mod Work

@@ -10,14 +10,14 @@ ghost use Rattle.capnp_request.specs.Conversion.{annotation_of, annotations_of, 
 ghost use Rattle.capnp_request.specs.Steps.ConvertedSeen.{typed_annotations};
 ghost use Rattle.capnp_request.specs.Steps.Done.{IsWorkDone, between};
 ghost use Rattle.capnp_request.specs.Handles.{IsRequestRecord};
-ghost use Rattle.capnp_request.specs.Steps.Handles.{IsRequestSlot};
+ghost use Rattle.capnp_request.specs.Steps.Handles.{IsListOf, IsRequestSlot, values_left};
 ghost use Rattle.capnp_request.specs.Steps.Nodes.{AreNodes, nodes_of};
 ghost use Rattle.capnp_request.specs.Steps.Numbers.{AreNumbered};
-ghost use Rattle.capnp_request.specs.Parts.{request_read_at};
+ghost use Rattle.capnp_request.specs.Parts.{request_read_at, request_struct};
 ghost use Rattle.capnp_request.specs.Steps.Parts.{request_structs};
-ghost use Rattle.capnp_request.specs.Reading.{annotation_said, annotation_terms_in, brand_in, whole_type};
+ghost use Rattle.capnp_request.specs.Reading.{annotation_said, annotation_terms_in, brand_in, each_said, whole_type};
 ghost use Rattle.capnp_request.specs.Refusals.{IsRefusal};
-ghost use Rattle.capnp_request.specs.Work.{work_unnoted};
+ghost use Rattle.capnp_request.specs.Work.{each_read, work_unnoted};
 
 use crate::context::Context;
 use crate::entries::{BoundScope, Entries};
@@ -30,7 +30,7 @@ use crate::places::{
 use crate::types::{BrandPlace, bindings_of, levels_of_types, type_of};
 use crate::values::value_of;
 use capnp_base::introspect::Type;
-use capnp_dynamic_readers::dynamic_struct;
+use capnp_dynamic_readers::{dynamic_list, dynamic_struct};
 use capnp_schema::record::AnnotationRecord;
 use capnp_wire::error::Result;
 
@@ -109,7 +109,39 @@ fn annotation_of<'a>(
     Ok((AnnotationRecord { id, value }, annotation_type.standing))
 }
 
+/// The annotations of a list, and the type of each.
+#[inline(never)]
+fn annotations_in<'a>(
+    context: Context<'_, 'a>,
+    entries: &mut Entries,
+    inside: &[BoundScope],
+    listed: dynamic_list::Reader<'a>,
+) -> Result<(Vec<AnnotationRecord>, Vec<Type>)>
+    requires nodes { AreNodes context.nodes.now }
+    requires numbers { AreNumbered entries.now }
+    requires elements { IsListOf (request_struct 12) listed }
+    ensures done { IsWorkDone (λ r. typed_annotations r.0.items r.1.items)
+        (each_read (annotation_of (nodes_of context.entry.nodes.now) context.entry.strict (bounds inside.now))
+        (each_said 12 annotation_said (values_left listed.entry 0)))
+        (between entries.old) (between entries.new) result }
+    ensures numbers { IfOk result (λ _. AreNumbered entries.new) }
+    ensures typed { IfOk result (λ r. length r.1.items ≡ length r.0.items) }
+    ensures kinds { IfErr result (λ e. IsRefusal context.entry.strict e.kind) }
+{
+    let mut records = Vec::new(context.alloc);
+    let mut types = Vec::new(context.alloc);
+    for at in 0..listed.len() {
+        let annotation = element_at(listed, at, brands::ANNOTATION)?;
+        let made = annotation_of(context, entries, inside, annotation)?;
+        let (record, annotation_type) = made;
+        records.push(record)?;
+        types.push(annotation_type)?;
+    }
+    Ok((records, types))
+}
+
 /// The annotations that a field of a record has, and the type of each.
+#[inline(always)]
 pub(crate) fn annotations_of<'a>(
     context: Context<'_, 'a>,
     entries: &mut Entries,
@@ -133,14 +165,9 @@ pub(crate) fn annotations_of<'a>(
     ensures kinds { IfErr result (λ e. IsRefusal context.entry.strict e.kind) }
 {
     let listed = list_at(reader, brand, index, place, brands::ANNOTATION)?;
-    let mut records = Vec::new(context.alloc);
-    let mut types = Vec::new(context.alloc);
-    for at in 0..listed.len() {
-        let annotation = element_at(listed, at, brands::ANNOTATION)?;
-        let made = annotation_of(context, entries, inside, annotation)?;
-        let (record, annotation_type) = made;
-        records.push(record)?;
-        types.push(annotation_type)?;
+    // most have none, which is seen here, without a call
+    if listed.len() == 0 {
+        return Ok((Vec::new(context.alloc), Vec::new(context.alloc)));
     }
-    Ok((records, types))
+    annotations_in(context, entries, inside, listed)
 }

@@ -2,15 +2,15 @@
 ghost use Rattle.std.specs.Prelude.{◌≡◌, ◌&&◌, length, Some, IfErr, IfOk};
 ghost use Rattle.capnp_records.specs.Part.{which_of};
 ghost use Rattle.capnp_dynamic_readers.specs.Seen.{record_seen};
-ghost use Rattle.capnp_request.specs.Steps.Bindings.{bounds};
-ghost use Rattle.capnp_request.specs.Conversion.{field_of, kind_of};
+ghost use Rattle.capnp_request.specs.Steps.Bindings.{bounds, seen_marked};
+ghost use Rattle.capnp_request.specs.Conversion.{field_of, is_untyped, is_untyped_default, kind_of};
 ghost use Rattle.capnp_request.specs.Steps.ConvertedSeen.{seen_converted, seen_converted_kind};
 ghost use Rattle.capnp_request.specs.Steps.Done.{IsWorkDone, between};
 ghost use Rattle.capnp_request.specs.Handles.{IsRequestRecord};
 ghost use Rattle.capnp_request.specs.Steps.Nodes.{AreNodes, nodes_of};
 ghost use Rattle.capnp_request.specs.Steps.Numbers.{AreNumbered};
 ghost use Rattle.capnp_request.specs.Parts.{request_read_at};
-ghost use Rattle.capnp_request.specs.Reading.{field_said, group_said, in_struct, slot_said};
+ghost use Rattle.capnp_request.specs.Reading.{field_said, group_said, in_struct, slot_said, value_said};
 ghost use Rattle.capnp_request.specs.Refusals.{IsRefusal};
 ghost use Rattle.capnp_request.specs.Terms.{UnreadField};
 
@@ -25,7 +25,7 @@ use crate::places::{
     SLOT_DEFAULT, SLOT_OFFSET, SLOT_TYPE, brands, slots,
 };
 use crate::scopes::{copied_scopes, is_untyped};
-use crate::types::{levels_of_types, type_of};
+use crate::types::slot_type;
 use crate::values::{is_untyped_value, value_of};
 use capnp_base::introspect::Type;
 use capnp_dynamic_readers::dynamic_struct;
@@ -49,17 +49,20 @@ struct ConvertedKind {
     seen: Seen,
 }
 
-/// Whether both hold.
-fn both(first: bool, second: bool) -> bool
-    ensures { result ≡ (first && second) }
+/// Whether a default is left out: that of an untyped field, where it is an untyped pointer that isn't null.
+fn is_default_left_out(field_type: MarkedType, value: dynamic_struct::Reader<'_>) -> bool
+    requires { IsRequestRecord 22 value }
+    ensures { result ≡ (is_untyped (seen_marked field_type).type
+        && is_untyped_default (value_said (record_seen value.entry))) }
 {
-    if first {
-        return second;
+    if is_untyped(field_type) {
+        return is_untyped_value(value);
     }
     false
 }
 
 /// A slot at its place in an entry of these scopes.
+#[inline(always)]
 fn slot_of<'a>(
     context: Context<'_, 'a>,
     entries: &mut Entries,
@@ -89,8 +92,7 @@ fn slot_of<'a>(
         brands::TYPE,
     )?;
     let mut seen = Seen::nothing();
-    let levels = levels_of_types();
-    let field_type = type_of(context, entries, inside, term, &mut seen, levels)?;
+    let field_type = slot_type(context, entries, inside, term, &mut seen)?;
     let value = struct_at(
         slot,
         brands::SLOT,
@@ -99,9 +101,7 @@ fn slot_of<'a>(
         brands::VALUE,
     )?;
     let default = value_of(context.alloc, value)?;
-    let is_free = is_untyped(field_type);
-    let is_there = is_untyped_value(value);
-    seen.untyped_default = both(is_free, is_there);
+    seen.untyped_default = is_default_left_out(field_type, value);
     Ok(ConvertedKind {
         kind: FieldKind::Slot { offset, default },
         field_type,
@@ -142,6 +142,7 @@ fn group_of<'a>(
 
 /// The kind of a field at its place in an entry of these scopes. Refused with `UnknownKind` where it is no slot and no
 /// group.
+#[inline(always)]
 fn kind_of<'a>(
     context: Context<'_, 'a>,
     entries: &mut Entries,

@@ -11,6 +11,7 @@ ghost use Rattle.capnp_schema.specs.Accepted.{NamesEntries};
 ghost use Rattle.capnp_schema.specs.Builtin.{zero_word};
 ghost use Rattle.capnp_schema.specs.Schema.{BoolValue, DataValue, IntValue, ListValue, StructValue, TextValue, UIntValue, field_at};
 ghost use Rattle.capnp_schema.specs.Types.{AnyPointerType, BoolType, DataType, IntType, TextType, UIntType};
+ghost use Rattle.capnp_schema.specs.StructHandles.{number_of, set_of};
 ghost use Rattle.capnp_records.specs.Part.{which_of};
 ghost use Rattle.capnp_records.specs.Record as value;
 ghost use Rattle.capnp_dynamic_readers.specs.Handles.{list_reader_of};
@@ -31,6 +32,7 @@ use capnp_base::{any_pointer, text};
 use capnp_dynamic_readers::dynamic_value::Reader as Value;
 use capnp_dynamic_readers::{dynamic_list, dynamic_struct};
 use capnp_schema::loaded::load_pair;
+use capnp_schema::schema::StructSchema;
 use capnp_wire::error::{Error, ErrorKind, Result};
 use capnp_wire::laws::struct_is_well_formed;
 use capnp_wire::size::ElementSize;
@@ -430,6 +432,30 @@ pub(crate) fn element_at<'a>(
     let _inner = inner;
     match list.get(index) {
         Ok(value) => Ok(struct_of(value, inner)),
+        Err(error) => Err(error),
+    }
+}
+
+/// The same, where the brand's schema is at hand.
+#[inline(always)]
+pub(crate) fn record_at<'a>(
+    list: dynamic_list::Reader<'a>,
+    index: u32,
+    inner: u32,
+    schema: StructSchema<'a>,
+) -> Result<dynamic_struct::Reader<'a>>
+    requires elements { IsListOf (request_struct inner) list }
+    requires inside { index < list_length (list_of (list_reader_of list)) }
+    requires set { set_of schema ≡ request_set }
+    requires number { number_of schema ≡ inner }
+    ensures read { IfOk result (λ s. value.Struct (record_seen s) ≡ element_seen list.entry index) }
+    ensures record { IfOk result (IsRequestRecord inner) }
+    ensures refused { IfErr result (λ e. value.Fault e.kind ≡ element_seen list.entry index) }
+    ensures kinds { IfErr result (λ e. IsUnstrict e.kind) }
+{
+    let _inner = inner;
+    match list.get_elements().get_struct_element(index) {
+        Ok(sections) => Ok(dynamic_struct::Reader::new(sections, schema)),
         Err(error) => Err(error),
     }
 }

@@ -17,6 +17,7 @@ ghost use Rattle.capnp_request.specs.Terms.{EnumNode, StructNode};
 ghost use Rattle.capnp_request.specs.Types.{is_enum, is_of_kind, is_root, is_struct_kind};
 ghost use Rattle.capnp_request.specs.Steps.Types.{is_annotation};
 
+use crate::met::Way;
 use crate::parts::{active_member, bool_at, element_at, group_at, list_at, text_at, u64_at};
 use crate::places::{
     ENUM_ENUMERANTS, NODE_ANNOTATION, NODE_DISPLAY_NAME, NODE_ENUM, NODE_ID, NODE_PARAMETERS,
@@ -27,7 +28,7 @@ use capnp_schema::set::SchemaSet;
 use capnp_wire::StructReader;
 use capnp_wire::error::{Error, ErrorKind, Result};
 use std::alloc::Global;
-use std::collections::{HashMap, HashSet};
+use std::collections::HashMap;
 
 /// The schema nodes of a request, by their ids. Where two have one id, the first counts.
 #[derive(Drop)]
@@ -230,13 +231,13 @@ impl<'a> SchemaNodes<'a> {
         ensures kinds { IfErr result (λ e. IsUnstrict e.kind) }
     {
         let mut scopes = Vec::new(alloc);
-        let mut met: HashSet<u64> = HashSet::new(alloc);
+        let mut way = Way::new(alloc);
         let mut id = id;
         for distance in 0..self.count {
             let Some(node) = self.get(id) else {
                 return Ok(scopes);
             };
-            let is_new = met.insert(id)?;
+            let is_new = way.meet(id)?;
             if !is_new {
                 return Ok(scopes);
             }

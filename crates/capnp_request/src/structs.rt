@@ -1,52 +1,50 @@
 //! Structs, as a request says them.
-ghost use Rattle.std.specs.Prelude.{◌≡◌, ◌++◌, length, map, string_bytes, IfErr, IfOk};
+ghost use Rattle.std.specs.Prelude.{List, [], ◌∷◌, ◌≡◌, ◌≢◌, ◌++◌, map, string_bytes, IfErr, IfOk, Ok, Err};
 ghost use Rattle.capnp_device.specs.declared.error.ErrorKind.TheVariants.{OutOfMemory};
 ghost use Rattle.capnp_schema.specs.Types.{seen_type};
 ghost use Rattle.capnp_dynamic_readers.specs.Seen.{record_seen};
 ghost use Rattle.capnp_request.specs.Steps.Bindings.{bounds, flags};
-ghost use Rattle.capnp_request.specs.Conversion.{notes_of};
+ghost use Rattle.capnp_request.specs.Conversion.{field_of, notes_of};
 ghost use Rattle.capnp_request.specs.Steps.Done.{IsWorkDone, between};
 ghost use Rattle.capnp_request.specs.Handles.{IsRequestRecord};
 ghost use Rattle.capnp_request.specs.Steps.Nodes.{AreNodes, nodes_of};
 ghost use Rattle.capnp_request.specs.Steps.Numbers.{AreNumbered};
-ghost use Rattle.capnp_request.specs.Order.{all_fields, all_notes, struct_made};
-ghost use Rattle.capnp_request.specs.Reading.{node_said, struct_said};
+ghost use Rattle.capnp_request.specs.Order.{all_fields, struct_made};
+ghost use Rattle.capnp_request.specs.declared.fields.ConvertedField.{ConvertedField};
+ghost use Rattle.capnp_request.specs.Reading.{field_said, node_said, struct_said};
 ghost use Rattle.capnp_request.specs.Refusals.{IsRefusal};
 ghost use Rattle.capnp_request.specs.Shapes.{IsBrandOf};
+ghost use Rattle.capnp_request.specs.Steps.ConvertedSeen.{seen_converted};
+ghost use Rattle.capnp_request.specs.Steps.PlainFields.{IsPut};
 ghost use Rattle.capnp_request.specs.Steps.Shapes.{HasParts, note, noted_where};
 ghost use Rattle.capnp_request.specs.StructsSeen.{seen_notes};
-ghost use Rattle.capnp_request.specs.Steps.StructsSeen.{converted_child_types, field_records, field_types, seen_fields, seen_struct};
+ghost use Rattle.capnp_request.specs.Steps.StructsSeen.{AreMadeOf, seen_fields, seen_struct};
 
 use crate::annotations::annotations_of;
 use crate::context::Context;
 use crate::entries::{BoundScope, Entries, GroupPlace};
-use crate::fields::{ConvertedField, field_of};
+use crate::field_lists::{FieldLists, put_field, put_plain};
+use crate::fields::field_of;
 use crate::notes::{Note, Seen, StandIn};
-use crate::parts::{bool_at, element_at, list_at, u16_at, u32_at};
+use crate::parts::{bool_at, list_at, record_at, u16_at, u32_at};
 use crate::places::{
     NODE_ANNOTATIONS, STRUCT_DATA_WORDS, STRUCT_DISCRIMINANT_OFFSET, STRUCT_DISCRIMINANTS,
     STRUCT_FIELDS, STRUCT_IS_GROUP, STRUCT_POINTERS, brands, slots,
 };
 use crate::schema_nodes::struct_part;
-use capnp_base::introspect::Type;
 use capnp_dynamic_readers::dynamic_struct;
 use capnp_schema::record::{AnnotationTypes, BrandRecord, FieldRecord, NodeRecord, StructRecord};
 use capnp_wire::error::Result;
 use std::alloc::Global;
 
+/// For how many fields room is made before the first is read: more may be said to be there than there are.
+const MOST_ROOM: u32 = 64;
+
 /// The fields of an entry, by index, and what is noted of them.
 #[derive(Drop)]
 struct MadeFields {
-    fields: Vec<ConvertedField>,
+    parts: FieldLists,
     notes: Vec<Note>,
-}
-
-/// The records of fields with their types and those of their annotations.
-#[derive(Drop)]
-struct FieldParts {
-    records: Vec<FieldRecord>,
-    types: Vec<Type>,
-    annotation_types: Vec<Vec<Type>>,
 }
 
 /// A note on a field.
@@ -92,6 +90,45 @@ fn add_notes(notes: &mut Vec<Note>, entry: u32, field: u32, seen: Seen) -> Resul
     Ok(())
 }
 
+/// Adds a field of an entry, and what is noted of it.
+#[inline(always)]
+fn add_field<'a>(
+    context: Context<'_, 'a>,
+    entries: &mut Entries,
+    inside: &[BoundScope],
+    number: u32,
+    index: u32,
+    field: dynamic_struct::Reader<'a>,
+    made: &mut MadeFields,
+) -> Result<()>
+    requires nodes { AreNodes context.nodes.now }
+    requires numbers { AreNumbered entries.now }
+    requires is_record { IsRequestRecord 8 field }
+    ensures done { IfOk result (λ _. (f : ConvertedField) × IsPut f made.old.parts made.new.parts
+        × (seen_notes made.new.notes.items ≡ seen_notes made.old.notes.items ++ (seen_converted number index f).notes)
+        × (field_of (nodes_of context.entry.nodes.now) context.entry.strict (bounds inside.now) number index
+        (field_said (record_seen field.entry)) (between entries.old)
+        ≡ Ok (seen_converted number index f, between entries.new))) }
+    ensures refused { IfErr result (λ e. e.kind ≢ OutOfMemory
+        → field_of (nodes_of context.entry.nodes.now) context.entry.strict (bounds inside.now) number index
+        (field_said (record_seen field.entry)) (between entries.old) ≡ Err e.kind) }
+    ensures numbers { IfOk result (λ _. AreNumbered entries.new) }
+    ensures kinds { IfErr result (λ e. IsRefusal context.entry.strict e.kind) }
+{
+    let is_put = put_plain(context.alloc, &mut made.parts, field)?;
+    if is_put {
+        return Ok(());
+    }
+    let place = GroupPlace {
+        parent: number,
+        field: index as usize,
+    };
+    let converted = field_of(context, entries, inside, field, place)?;
+    add_notes(&mut made.notes, number, index, converted.seen)?;
+    put_field(&mut made.parts, converted)?;
+    Ok(())
+}
+
 /// The fields of an entry, by index, and what is noted of them.
 fn fields_of<'a>(
     context: Context<'_, 'a>,
@@ -103,11 +140,13 @@ fn fields_of<'a>(
     requires nodes { AreNodes context.nodes.now }
     requires numbers { AreNumbered entries.now }
     requires is_record { IsRequestRecord 3 part }
-    ensures done { IsWorkDone (λ r. seen_fields number 0 r.fields.items)
-        (all_fields (nodes_of context.entry.nodes.now) context.entry.strict (bounds inside.now) number
-        (struct_said (record_seen part.entry)).fields)
-        (between entries.old) (between entries.new) result }
-    ensures notes { IfOk result (λ r. seen_notes r.notes.items ≡ all_notes (seen_fields number 0 r.fields.items)) }
+    ensures done { IfOk result (λ r. (fields : List ConvertedField) × AreMadeOf number fields r
+        × (all_fields (nodes_of context.entry.nodes.now) context.entry.strict (bounds inside.now) number
+        (struct_said (record_seen part.entry)).fields (between entries.old)
+        ≡ Ok (seen_fields number 0 fields, between entries.new))) }
+    ensures refused { IfErr result (λ e. e.kind ≢ OutOfMemory
+        → all_fields (nodes_of context.entry.nodes.now) context.entry.strict (bounds inside.now) number
+        (struct_said (record_seen part.entry)).fields (between entries.old) ≡ Err e.kind) }
     ensures numbers { IfOk result (λ _. AreNumbered entries.new) }
     ensures kinds { IfErr result (λ e. IsRefusal context.entry.strict e.kind) }
 {
@@ -118,46 +157,24 @@ fn fields_of<'a>(
         slots::STRUCT_FIELDS,
         brands::FIELD,
     )?;
-    let mut fields = Vec::new(context.alloc);
-    let mut notes = Vec::new(context.alloc);
-    for index in 0..listed.len() {
-        let field = element_at(listed, index, brands::FIELD)?;
-        let place = GroupPlace {
-            parent: number,
-            field: index as usize,
-        };
-        let converted = field_of(context, entries, inside, field, place)?;
-        add_notes(&mut notes, number, index, converted.seen)?;
-        fields.push(converted)?;
-    }
-    Ok(MadeFields { fields, notes })
-}
-
-/// The parts of fields, each in a list of its own.
-fn parts_of(alloc: Global, fields: Vec<ConvertedField>) -> Result<FieldParts>
-    ensures records { IfOk result (λ parts. parts.records.items ≡ field_records fields.items) }
-    ensures types { IfOk result (λ parts. parts.types.items ≡ field_types fields.items) }
-    ensures children { IfOk result (λ parts. map (λ types. types.items) parts.annotation_types.items
-        ≡ converted_child_types fields.items) }
-    ensures kinds { IfErr result (λ e. e.kind ≡ OutOfMemory) }
-{
-    let mut parts = FieldParts {
-        records: Vec::new(alloc),
-        types: Vec::new(alloc),
-        annotation_types: Vec::new(alloc),
-    };
-    for field in fields {
-        let ConvertedField {
-            record,
-            field_type,
+    let room = listed.len().min(MOST_ROOM) as usize;
+    let records = Vec::with_capacity(context.alloc, room)?;
+    let types = Vec::with_capacity(context.alloc, room)?;
+    let annotation_types = Vec::with_capacity(context.alloc, room)?;
+    let mut made = MadeFields {
+        parts: FieldLists {
+            records,
+            types,
             annotation_types,
-            seen: _,
-        } = field;
-        parts.records.push(record)?;
-        parts.types.push(field_type)?;
-        parts.annotation_types.push(annotation_types)?;
+        },
+        notes: Vec::new(context.alloc),
+    };
+    let schema = part.get_schema().get_set().struct_schema(brands::FIELD);
+    for index in 0..listed.len() {
+        let field = record_at(listed, index, brands::FIELD, schema)?;
+        add_field(context, entries, inside, number, index, field, &mut made)?;
     }
-    Ok(parts)
+    Ok(made)
 }
 
 /// What a struct has beside its name and annotations, with these fields.
@@ -251,9 +268,8 @@ pub(crate) fn struct_of<'a>(
         slots::NODE_ANNOTATIONS,
     )?;
     let (annotations, own) = annotated;
-    let MadeFields { fields, notes } = made;
-    let parts = parts_of(context.alloc, fields)?;
-    let FieldParts {
+    let MadeFields { parts, notes } = made;
+    let FieldLists {
         records,
         types,
         annotation_types,

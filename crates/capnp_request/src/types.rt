@@ -63,7 +63,8 @@ pub(crate) fn levels_of_types() -> u32
 }
 
 /// The type of a member of a type's union that says all of it.
-fn type_said_by_member(member: u16) -> Option<Type>
+#[inline(always)]
+pub(crate) fn type_said_by_member(member: u16) -> Option<Type>
     ensures { IsSaidByMemberOr member (option_map seen_type result) }
 {
     match variant_said_by_member(member) {
@@ -73,6 +74,7 @@ fn type_said_by_member(member: u16) -> Option<Type>
 }
 
 /// That type as a variant.
+#[inline(always)]
 fn variant_said_by_member(member: u16) -> Option<TypeVariant>
     ensures { IsSaidByMemberOr member (option_map (λ v. seen_type (type_from v)) result) }
 {
@@ -325,6 +327,33 @@ pub(crate) fn type_of<'a>(
         18 => untyped_or_bound(inside, term),
         _ => Err(Error::from(ErrorKind::UnknownKind)),
     }
+}
+
+/// The type that a term says, as `type_of`. Most say all of it by their member, which is seen here, without a call.
+#[inline(always)]
+pub(crate) fn slot_type<'a>(
+    context: Context<'_, 'a>,
+    entries: &mut Entries,
+    inside: &[BoundScope],
+    term: dynamic_struct::Reader<'a>,
+    seen: &mut Seen,
+) -> Result<MarkedType>
+    requires nodes { AreNodes context.nodes.now }
+    requires numbers { AreNumbered entries.now }
+    requires is_record { IsRequestRecord 13 term }
+    ensures done { IsWorkDone seen_marked (type_of (nodes_of context.entry.nodes.now) context.entry.strict
+        (bounds inside.now) (type_said type_levels (record_seen term.entry)))
+        (so_far entries.old seen.old) (so_far entries.new seen.new) result }
+    ensures numbers { IfOk result (λ _. AreNumbered entries.new) }
+    ensures kinds { IfErr result (λ e. IsRefusal context.entry.strict e.kind) }
+{
+    if let Some(member) = type_member(term) {
+        if let Some(said) = type_said_by_member(member) {
+            return Ok(plain(said));
+        }
+    }
+    let levels = levels_of_types();
+    type_of(context, entries, inside, term, seen, levels)
 }
 
 /// The scopes of the brand at a place.

@@ -22,17 +22,17 @@ returns-in_err-part-clause-done c =
 pub returns-in_err-made-clause-done : goal.returns-in_err-made-clause-done
 returns-in_err-made-clause-done c =
     let p = err_from_is_err_and c.from_residual-in_err-made.result c.from_residual-in_err-made.ensures.1 in
-    rw (p.1, p.2) (λ is. struct_fields_refused (nodes_of c.args.context.nodes.now) c.args.context.strict c.args.place.number c.args.place.id (bounds c.args.inside.now) (string_bytes c.args.display_name) (node_said (record_seen c.args.place.node)) (between c.args.entries.now) (struct_said (record_seen c.in_ok-part.part)) c.in_ok-part.ensures.read _ (c.in_err-made.ensures.done is))
+    rw (p.1, p.2) (λ is. struct_fields_refused (nodes_of c.args.context.nodes.now) c.args.context.strict c.args.place.number c.args.place.id (bounds c.args.inside.now) (string_bytes c.args.display_name) (node_said (record_seen c.args.place.node)) (between c.args.entries.now) (struct_said (record_seen c.in_ok-part.part)) c.in_ok-part.ensures.read _ (c.in_err-made.ensures.refused is))
 
 pub returns-in_err-annotated-clause-done : goal.returns-in_err-annotated-clause-done
 returns-in_err-annotated-clause-done c =
     let p = err_from_is_err_and c.from_residual-in_err-annotated.result c.from_residual-in_err-annotated.ensures.1 in
-    rw (p.1, p.2) (λ is. struct_annotations_refused (nodes_of c.args.context.nodes.now) c.args.context.strict c.args.place.number c.args.place.id (bounds c.args.inside.now) (string_bytes c.args.display_name) (node_said (record_seen c.args.place.node)) (between c.args.entries.now) (struct_said (record_seen c.in_ok-part.part)) c.in_ok-part.ensures.read (seen_fields c.args.place.number 0 c.in_ok-made.made.fields.items) (between c.fields_of.new.entries) c.in_ok-made.ensures.done _ (ap (λ a. annotations_of (nodes_of c.args.context.nodes.now) c.args.context.strict (bounds c.args.inside.now) a (between c.fields_of.new.entries)) (annotations_on (record_seen c.args.place.node)) ∙ c.in_err-annotated.ensures.done is))
+    rw (p.1, p.2) (λ is. struct_annotations_refused (nodes_of c.args.context.nodes.now) c.args.context.strict c.args.place.number c.args.place.id (bounds c.args.inside.now) (string_bytes c.args.display_name) (node_said (record_seen c.args.place.node)) (between c.args.entries.now) (struct_said (record_seen c.in_ok-part.part)) c.in_ok-part.ensures.read (seen_fields c.args.place.number 0 c.in_ok-made.ensures.done.0) (between c.fields_of.new.entries) c.in_ok-made.ensures.done.2 _ (ap (λ a. annotations_of (nodes_of c.args.context.nodes.now) c.args.context.strict (bounds c.args.inside.now) a (between c.fields_of.new.entries)) (annotations_on (record_seen c.args.place.node)) ∙ c.in_err-annotated.ensures.done is))
 
 pub returns-clause-done : goal.returns-clause-done
 returns-clause-done c =
     let body = c.body_of.ensures.parts in
-    struct_given (nodes_of c.args.context.nodes.now) c.args.context.strict c.args.place.number c.args.place.id (bounds c.args.inside.now) (string_bytes c.args.display_name) (node_said (record_seen c.args.place.node)) (between c.args.entries.now) (struct_said (record_seen c.in_ok-part.part)) c.in_ok-part.ensures.read (seen_fields c.args.place.number 0 c.in_ok-made.made.fields.items) (between c.fields_of.new.entries) c.in_ok-made.ensures.done _ _ (ap (λ a. annotations_of (nodes_of c.args.context.nodes.now) c.args.context.strict (bounds c.args.inside.now) a (between c.fields_of.new.entries)) (annotations_on (record_seen c.args.place.node)) ∙ c.in_ok-annotated.ensures.done)
+    struct_given (nodes_of c.args.context.nodes.now) c.args.context.strict c.args.place.number c.args.place.id (bounds c.args.inside.now) (string_bytes c.args.display_name) (node_said (record_seen c.args.place.node)) (between c.args.entries.now) (struct_said (record_seen c.in_ok-part.part)) c.in_ok-part.ensures.read (seen_fields c.args.place.number 0 c.in_ok-made.ensures.done.0) (between c.fields_of.new.entries) c.in_ok-made.ensures.done.2 _ _ (ap (λ a. annotations_of (nodes_of c.args.context.nodes.now) c.args.context.strict (bounds c.args.inside.now) a (between c.fields_of.new.entries)) (annotations_on (record_seen c.args.place.node)) ∙ c.in_ok-annotated.ensures.done)
     ∙ three_seen _ _ _ _ _ _ _
     (node_seen (record { id = c.args.place.id; display_name = c.args.display_name; annotations = c.in_ok-annotated.annotated.0; body = c.body_of.result }) _ (record {
       id = refl;
@@ -43,11 +43,11 @@ returns-clause-done c =
       is_group = body.group;
       discriminant_count = body.discriminant_count;
       discriminant_offset = body.discriminant_offset;
-      fields = fields_seen c.args.place.number 0 c.in_ok-made.made.fields.items ∙ ap (map seen_field) (sym (ap (λ v. v.items) c.body_of.ensures.fields ∙ c.in_ok-parts.ensures.records));
+      fields = fields_seen c.args.place.number 0 c.in_ok-made.ensures.done.0 ∙ ap (map seen_field) (sym (ap (λ v. v.items) c.body_of.ensures.fields ∙ c.in_ok-made.ensures.done.1.records));
     }))
-    (brand_seen (record { node = c.args.place.number; field_types = c.in_ok-parts.parts.types; annotation_types = record { own = c.in_ok-annotated.annotated.1; children = c.in_ok-parts.parts.annotation_types } }) _ _ _ _ refl (types_seen c.args.place.number 0 c.in_ok-made.made.fields.items ∙ ap (map seen_type) (sym c.in_ok-parts.ensures.types)) (second_types _ _ c.in_ok-annotated.ensures.typed)
-    (children_seen c.args.place.number 0 c.in_ok-made.made.fields.items ∙ sym (children_of _ _ c.in_ok-parts.ensures.children)))
-    (sym c.in_ok-made.ensures.notes)
+    (brand_seen (record { node = c.args.place.number; field_types = c.in_ok-made.made.parts.types; annotation_types = record { own = c.in_ok-annotated.annotated.1; children = c.in_ok-made.made.parts.annotation_types } }) _ _ _ _ refl (types_seen c.args.place.number 0 c.in_ok-made.ensures.done.0 ∙ ap (map seen_type) (sym c.in_ok-made.ensures.done.1.types)) (second_types _ _ c.in_ok-annotated.ensures.typed)
+    (children_seen c.args.place.number 0 c.in_ok-made.ensures.done.0 ∙ sym (children_of _ _ c.in_ok-made.ensures.done.1.children)))
+    (sym c.in_ok-made.ensures.done.1.notes)
 
 pub returns-clause-brand : goal.returns-clause-brand
-returns-clause-brand c = brand_counted (record { id = c.args.place.id; display_name = c.args.display_name; annotations = c.in_ok-annotated.annotated.0; body = c.body_of.result }) (record { node = c.args.place.number; field_types = c.in_ok-parts.parts.types; annotation_types = record { own = c.in_ok-annotated.annotated.1; children = c.in_ok-parts.parts.annotation_types } }) c.args.place.number c.in_ok-made.made.fields.items refl c.in_ok-parts.ensures.types (ap (λ v. v.items) c.body_of.ensures.fields ∙ c.in_ok-parts.ensures.records) c.in_ok-annotated.ensures.typed c.in_ok-parts.ensures.children
+returns-clause-brand c = brand_counted (record { id = c.args.place.id; display_name = c.args.display_name; annotations = c.in_ok-annotated.annotated.0; body = c.body_of.result }) (record { node = c.args.place.number; field_types = c.in_ok-made.made.parts.types; annotation_types = record { own = c.in_ok-annotated.annotated.1; children = c.in_ok-made.made.parts.annotation_types } }) c.args.place.number c.in_ok-made.ensures.done.0 refl c.in_ok-made.ensures.done.1.types (ap (λ v. v.items) c.body_of.ensures.fields ∙ c.in_ok-made.ensures.done.1.records) c.in_ok-annotated.ensures.typed c.in_ok-made.ensures.done.1.children

@@ -5,4 +5,4 @@ use Rattle.capnp_request.proofs.ScopesRead.{ScopesSoFar}
 use Rattle.capnp_request.proofs.schema_nodes.SchemaNodes.generic_scopes.Given as goal
 
 abbrev pub invariant-loop-distance : goal.invariant-loop-distance
-invariant-loop-distance l = ScopesSoFar (nodes_of l.self) l.fn.id l.scopes.items l.met (l.self.count - l.distance) l.distance l.id
+invariant-loop-distance l = ScopesSoFar (nodes_of l.self) l.fn.id l.scopes.items l.way (l.self.count - l.distance) l.distance l.id
