@@ -501,6 +501,81 @@ pub(crate) const ASKED: &str = "\
 <0000000005000000 0000000002000200 0000010003000000 0000000000000000 fcffffff00000000 0000000000000000
 =1
 !refused: 67 UntypedHasNoJson
+
+# several paths, patterns and lengths, in their order
+:get
+:--json
+:Lists
+:items.*
+:items.#
+:items.1.a
+<0000000008000000 0000000000000400 0000000000000000 0000000000000000 0000000000000000 0100000017000000 0800000001000000 0100000000000000 0200000000000000
+=0
+\"{\"a\":1}
+\"{\"a\":2}
+\"2
+\"2
+
+:json
+:Lists
+:items.*.a
+:items.0
+:--indent
+<0000000008000000 0000000000000400 0000000000000000 0000000000000000 0000000000000000 0100000017000000 0800000001000000 0100000000000000 0200000000000000
+=0
+\"1
+\"2
+\"{
+\"  \"a\": 1
+\"}
+
+# they share the limit
+:json
+:Lists
+:items.*
+:--limit
+:14
+<0000000008000000 0000000000000400 0000000000000000 0000000000000000 0000000000000000 0100000017000000 0800000001000000 0100000000000000 0200000000000000
+=0
+\"{\"a\":1}
+\"{\"a\":2}
+
+:get
+:--json
+:Lists
+:items.*
+:--limit
+:13
+<0000000008000000 0000000000000400 0000000000000000 0000000000000000 0000000000000000 0100000017000000 0800000001000000 0100000000000000 0200000000000000
+=1
+!refused: 11 TooLarge (standard input)
+
+# nothing is written where one has no JSON
+:json
+:Lists
+:items.0
+:items.1.b
+<0000000008000000 0000000000000400 0000000000000000 0000000000000000 0000000000000000 0100000017000000 0800000001000000 0100000000000000 0200000000000000
+=1
+!refused: 20 FieldNotFound (standard input) at items.1.b in Flat
+
+:json
+:Lists
+:items.*
+:items.*.b
+<0000000008000000 0000000000000400 0000000000000000 0000000000000000 0000000000000000 0100000017000000 0800000001000000 0100000000000000 0200000000000000
+=1
+!refused: 20 FieldNotFound (standard input) at items.0.b in Flat
+
+:get
+:--json
+:Lists
+:items.#
+:t
+:items.9
+<0000000007000000 0000000000000400 0000000000000000 090000001a000000 090000001a000000 0000000000000000 00ff0a0000000000 ff41000000000000
+=1
+!refused: 68 TextNotUtf8
 ";
 
 /// Words of a path that can't be read, and what is told of them.
@@ -516,6 +591,6 @@ pub(crate) static UNREAD: [(&str, &str); 10] = [
     ("get|Lists|items..#", "1: items..#: can't be read at 6\n"),
     ("get|Lists|t|.|#.#", "3: #.#: can't be read at 1\n"),
     ("get|Lists|t|raw|", "3: : can't be read at 0\n"),
-    ("json|Lists|items.#", "1: items.#: can't be read at 7\n"),
+    ("json|Lists|items.##", "1: items.##: can't be read at 7\n"),
     ("check|Lists|items.#", "1: items.#: can't be read at 7\n"),
 ];

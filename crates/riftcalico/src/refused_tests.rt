@@ -1,8 +1,8 @@
 //! Messages that are refused, devices that fail, and words that can't be read.
 //!
 //! A row is a message or the program's words, an arrow, and the line that is told. `usage` stands for the usage of
-//! the verb, or of all verbs; it is told too behind what is unknown. A line that begins with `#` says what the
-//! rows below it show.
+//! the verb, or of all verbs; it is told too behind what is unknown, and where `; usage` stands. A line that begins
+//! with `#` says what the rows below it show.
 use crate::tests::{EMPTY_ROOT, Setting, USAGE, answered, comes_to, run_on, tells};
 use capnp_fixtures::bytes::bytes_of;
 use std::alloc::Global;
@@ -37,11 +37,11 @@ static USAGES: [(&str, &str); 10] = [
     ),
     (
         "get",
-        "[--set FILE] [--packed] [--limit BYTES] [--raw] [--paths] [--each [--keep-going]] NAME PATH.. [--indent]",
+        "[--set FILE] [--packed] [--limit BYTES] [--raw] [--paths] [--json] [--each [--keep-going]] NAME PATH.. [--indent]",
     ),
     (
         "json",
-        "[--set FILE] [--packed] [--limit BYTES] [--each [--keep-going]] NAME [PATH] [--indent]",
+        "[--set FILE] [--packed] [--limit BYTES] [--each [--keep-going]] NAME [PATH..] [--indent]",
     ),
     (
         "from-json",
@@ -84,6 +84,10 @@ fn told_of(alloc: Global, words: &str, line: &str) -> Result<String, Fail> {
         return usage_of(alloc, verb);
     }
     if line.starts_with("unknown ") || line.starts_with("no number ") {
+        let usage = usage_of(alloc, verb)?;
+        return Ok(format!(in alloc; "{line}\n{usage}")?);
+    }
+    if let Some(line) = line.strip_suffix("; usage") {
         let usage = usage_of(alloc, verb)?;
         return Ok(format!(in alloc; "{line}\n{usage}")?);
     }
@@ -166,7 +170,11 @@ get|--paths|Flat -> usage
 show|--raw|Flat -> usage
 show|--paths|Flat -> usage
 json -> usage
-json|Flat|a|b -> usage
+get|--json|Flat -> usage
+get|--json|--raw|Flat|a -> usage
+get|--json|--paths|Flat|a -> usage
+show|--json|Flat -> usage
+json|--json|Flat -> usage
 json|--raw|Flat|a -> usage
 get|--set|set -> usage
 get|--set|set|Flat -> usage
@@ -260,16 +268,19 @@ get|Flat|# -> 1: #: can't be read at 1
 get|Flat|#65536 -> 1: #65536: can't be read at 5
 get|Flat|4294967296 -> 1: 4294967296: can't be read at 9
 get|Flat|a b -> 1: a b: can't be read at 1
-patch|Flat|get a|sets a 1 -> 2: sets a 1: can't be read at 3
-patch|Flat|get a|get .|get -> 2: get .: can't be read at 4
-patch|Flat| -> 1: : can't be read at 0
-patch|--keep-going|Flat|set a -> 1: set a: can't be read at 5
-new|Flat|initn a 4294967296 -> 1: initn a 4294967296: can't be read at 17
-new|Flat|initn a -> 1: initn a: can't be read at 7
-new|Flat|which -> 1: which: can't be read at 5
+patch|Flat|get a|sets a 1 -> 2: sets a 1: can't be read at 3; usage
+patch|Flat|get a|get .|get -> 2: get .: can't be read at 4; usage
+patch|Flat| -> 1: : can't be read at 0; usage
+patch|--keep-going|Flat|set a -> 1: set a: can't be read at 5; usage
+new|Flat|initn a 4294967296 -> 1: initn a 4294967296: can't be read at 17; usage
+new|Flat|initn a -> 1: initn a: can't be read at 7; usage
+# quotes that were forgotten
+patch|Flat|set|a|5 -> 1: set: can't be read at 3; usage
+new|Flat|set a 5|clear|a -> 2: clear: can't be read at 5; usage
+new|Flat|which -> 1: which: can't be read at 5; usage
 # a control character is told by its number
-patch|Flat|get\u{1b}a -> 1: get\\u{1b}a: can't be read at 3
-new|Flat|clear a b -> 1: clear a b: can't be read at 7
+patch|Flat|get\u{1b}a -> 1: get\\u{1b}a: can't be read at 3; usage
+new|Flat|clear a b -> 1: clear a b: can't be read at 7; usage
 ";
 
 #[test]

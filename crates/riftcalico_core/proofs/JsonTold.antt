@@ -1,51 +1,51 @@
--- A refusal that is told is that of the JSON.
-use Rattle.std.proofs.Common.{ℕ, ◌≤◌, List, length, Result, Ok, Err, IfErr, IfOk, OnOk, ap, inl, inr, sym, ◌≡◌, ◌≢◌, ◌∙◌}
+-- Why a query has no JSON, by why its value has none.
+use Rattle.std.proofs.Common.{ℕ, ◌<◌, List, false, get_or, length, Err, ap, inl, inr, subst, sym, ◌≡◌, ◌≢◌, ◌∙◌}
 use Rattle.capnp_device.specs.declared.error.ErrorKind.{ErrorKind}
 use Rattle.capnp_device.specs.declared.error.ErrorKind.TheVariants as kind
-use Rattle.capnp_json.specs.Pieces.{IsJson}
 use Rattle.capnp_json.specs.Written.{IsRefused}
 use Rattle.capnp_json.specs.declared.error.JsonError.{JsonError}
 use Rattle.capnp_json.specs.declared.error.JsonError.TheVariants.{OutOfMemory, Read, TextNotUtf8, TooLarge, UntypedHasNoJson}
-use Rattle.riftcalico_core.specs.Json.{HasNoJson, IsJsonAnswer, IsJsonOutput, IsJsonTold, IsNoJson, IsOfJson, job_json}
-use Rattle.riftcalico_core.specs.Steps.Json.{IsEnded, IsJsonEnd, IsToldRefusal, IsUntoldRefusal}
-use Rattle.riftcalico_core.specs.declared.answer.Answer.{Answer}
-use Rattle.riftcalico_core.specs.declared.answer.Output.{Output}
-use Rattle.riftcalico_core.specs.declared.answer.Output.TheVariants as output
+use Rattle.capnp_records.specs.Call.{PathStep}
+use Rattle.riftcalico_core.specs.Json.{HasNoJson, IsOfJson, IsQueryJson, IsUnfit, IsWithoutJson, path_json}
+use Rattle.riftcalico_core.specs.Queries.{Query}
+use Rattle.riftcalico_core.specs.QueriesSeen.{asked_seen}
+use Rattle.riftcalico_core.specs.Steps.Json.{HasNoLine, HaveNoLines, IsReason, IsUntoldRefusal}
 use Rattle.riftcalico_core.specs.declared.fault.Fault.{Fault}
 use Rattle.riftcalico_core.specs.declared.job.JsonJob.{JsonJob}
+use Rattle.riftcalico_core.specs.declared.json.NoLine.{NoLine}
+use Rattle.riftcalico_core.specs.declared.json.NoLine.TheVariants as why
+use Rattle.riftcalico_core.specs.declared.queries.AskedQuery.{AskedQuery}
+use Rattle.riftcalico_core.proofs.LinesGot.{Refuses, left_of, refused_at}
 
-no-json : (j : JsonJob) (bytes : List ℕ) (limit : ℕ) (e : JsonError) → IsOfJson e → IsRefused limit (job_json j bytes) e → job_json j bytes ≡ Err e
-no-json j bytes limit UntypedHasNoJson of is = is
-no-json j bytes limit TextNotUtf8 of is = is
-no-json j bytes limit (Read kind) of is = absurd of
-no-json j bytes limit OutOfMemory of is = absurd of
-no-json j bytes limit TooLarge of is = absurd of
+module _ (j : JsonJob) (bytes : List ℕ) (path : List PathStep) (limit : ℕ) where
+  no-value : (e : JsonError) (f : Fault) → f.error.kind ≢ kind.OutOfMemory → IsRefused limit (path_json j bytes path) e → IsUntoldRefusal e f → HasNoJson limit j bytes path f
+  no-value (Read k) f memory is untold = record { cause = inl (is ∙ ap (λ (x : ErrorKind). Err (Read x)) (sym untold.kind)); note = untold.note }
+  no-value TooLarge f memory is untold = record { cause = inr (untold.kind, is); note = untold.note }
+  no-value OutOfMemory f memory is untold = absurd (memory untold.kind)
+  no-value UntypedHasNoJson f memory is untold = absurd untold.kind
+  no-value TextNotUtf8 f memory is untold = absurd untold.kind
 
-pub told_json : (j : JsonJob) (bytes : List ℕ) (limit : ℕ) (e : JsonError) (r : Result Answer Fault) → IsRefused limit (job_json j bytes) e → OnOk r (IsOfJson e) → IfOk r (IsToldRefusal e) → IfOk r (IsJsonAnswer j bytes)
-told_json j bytes limit e (Ok a) is of told = inr (record { cause = e; own = of; none = no-json j bytes limit e of is; told = told.told; refused = told.refused; output = told.output })
-told_json j bytes limit e (Err f) is of told = tt {0}
+  unfit : (e : JsonError) → IsOfJson e → IsRefused limit (path_json j bytes path) e → IsUnfit false j bytes path e
+  unfit UntypedHasNoJson of is = (of, is)
+  unfit TextNotUtf8 of is = (of, is)
+  unfit (Read kind) of is = absurd of
+  unfit OutOfMemory of is = absurd of
+  unfit TooLarge of is = absurd of
 
-no-value : (j : JsonJob) (bytes : List ℕ) (e : JsonError) (f : Fault) → f.error.kind ≢ kind.OutOfMemory → IsRefused j.limit (job_json j bytes) e → IsUntoldRefusal e f → HasNoJson j bytes f
-no-value j bytes (Read k) f memory is untold = record { cause = inl (is ∙ ap (λ (x : ErrorKind). Err (Read x)) (sym untold.kind)); note = untold.note }
-no-value j bytes TooLarge f memory is untold = record { cause = inr (untold.kind, is); note = untold.note }
-no-value j bytes OutOfMemory f memory is untold = absurd (memory untold.kind)
-no-value j bytes UntypedHasNoJson f memory is untold = absurd untold.kind
-no-value j bytes TextNotUtf8 f memory is untold = absurd untold.kind
+  pub without_value : (e : JsonError) (w : NoLine) → IsRefused limit (path_json j bytes path) e → IsReason e w → HasNoLine false limit j bytes path w
+  without_value e (why.Refused f) is untold = (untold.blamed, λ memory. inr (no-value e f memory is untold))
+  without_value e (why.Unfit x) is reason = subst (IsUnfit false j bytes path) (sym reason.0) (unfit e reason.1 is)
 
--- and one that is refused is that of the value
-pub value_refused : (j : JsonJob) (bytes : List ℕ) (e : JsonError) (r : Result Answer Fault) → IsRefused j.limit (job_json j bytes) e →
-    IfErr r (λ f. f.error.kind ≢ kind.OutOfMemory → IsUntoldRefusal e f) → IfErr r (λ f. f.error.kind ≢ kind.OutOfMemory → IsNoJson j bytes f)
-value_refused j bytes e (Ok a) is untold = tt {0}
-value_refused j bytes e (Err f) is untold = λ memory. inr (no-value j bytes e f memory is (untold memory))
+-- and why all have no lines, by the first that has none
+module _ (j : JsonJob) (bytes : List ℕ) (all : List Query) where
+  abbrev Without : (limit left : ℕ) → List Query → Type 0
+  Without limit left qs = Refuses (IsQueryJson j bytes) all (λ f n q. IsWithoutJson q.counts n j bytes q.path f) limit left qs
 
--- a JSON that was made, and a line break
-line-put : (j : JsonJob) (bytes json : List ℕ) (o : Output) → IsJson (job_json j bytes) json → length json ≤ j.limit → IsEnded json o → IsJsonOutput j.limit (job_json j bytes) o
-line-put j bytes json (output.Bytes line) is few ended = record { json = json; is = is; few = few; ended = ended }
-line-put j bytes json output.Nothing is few ended = absurd ended
-line-put j bytes json (output.Fixed text) is few ended = absurd ended
-line-put j bytes json (output.Text text) is few ended = absurd ended
-line-put j bytes json (output.Message m) is few ended = absurd ended
+  abbrev Unfit : (limit left : ℕ) → List Query → Type 0
+  Unfit limit left qs = Refuses (IsQueryJson j bytes) all (λ e n q. IsUnfit q.counts j bytes q.path e) limit left qs
 
-pub ended_json : (j : JsonJob) (bytes json : List ℕ) (r : Result Answer Fault) → IsJson (job_json j bytes) json → length json ≤ j.limit → IfOk r (IsJsonEnd json) → IfOk r (IsJsonAnswer j bytes)
-ended_json j bytes json (Ok a) is few end = inl (record { output = line-put j bytes json a.output is few end.output; quiet = end.quiet })
-ended_json j bytes json (Err f) is few end = tt {0}
+  pub first_without : (left : ℕ) (xs : List AskedQuery) (i : ℕ) (x : AskedQuery) (w : NoLine) → i < length xs → x ≡ get_or xs i x →
+      Without j.limit left (left_of xs i) × Unfit j.limit left (left_of xs i) → HasNoLine (asked_seen x).counts left j bytes (asked_seen x).path w → HaveNoLines j bytes all w
+  first_without left xs i x (why.Refused f) inside at refuses h =
+      (h.0, λ memory. refused_at (IsQueryJson j bytes) all (λ f n q. IsWithoutJson q.counts n j bytes q.path f) j.limit left xs i x f inside at refuses.0 (h.1 memory))
+  first_without left xs i x (why.Unfit e) inside at refuses h = refused_at (IsQueryJson j bytes) all (λ e n q. IsUnfit q.counts j bytes q.path e) j.limit left xs i x e inside at refuses.1 h

@@ -17,6 +17,7 @@ use Rattle.capnp_schema.specs.declared.schema.structs.StructSchema.{StructSchema
 use Rattle.riftcalico_core.specs.AllFaults.{part_note}
 use Rattle.riftcalico_core.specs.Notes.{place_note}
 use Rattle.riftcalico_core.specs.Expanded.{AreAsked, IsNotAsked, most_paths}
+use Rattle.riftcalico_core.specs.Lines.{AreLinesOf, IsFirstOf}
 use Rattle.riftcalico_core.specs.Queries.{Query, query_words}
 use Rattle.riftcalico_core.specs.QueriesSeen.{asked_seen}
 use Rattle.riftcalico_core.specs.Quiet.{IsQuiet}
@@ -120,15 +121,12 @@ IsLineRefused left j bytes q f = HasLongHeading left j q f ⊎ HasNoText left j 
 -- ---- several ----
 
 -- their lines, one after another
-unfoldable pub AreLines : GetJob → (bytes : List ℕ) → List Query → (lines : List ℕ) → Type 0
-AreLines j bytes [] lines = lines ≡ []
-AreLines j bytes (q ∷ qs) lines = (line : List ℕ) × (rest : List ℕ) × IsQueryLine j bytes q line × AreLines j bytes qs rest × (lines ≡ line ++ 10 ∷ rest)
+abbrev pub AreLines : GetJob → (bytes : List ℕ) → List Query → (lines : List ℕ) → Type 0
+AreLines j bytes qs lines = AreLinesOf (IsQueryLine j bytes) qs lines
 
 -- one has none, where those before it have lines, and the lines leave so many bytes of the limit
-unfoldable pub IsFirstRefused : (left : ℕ) → GetJob → (bytes : List ℕ) → List Query → Fault → Type 0
-IsFirstRefused left j bytes [] f = ⊥
-IsFirstRefused left j bytes (q ∷ qs) f =
-    IsLineRefused left j bytes q f ⊎ ((line : List ℕ) × IsQueryLine j bytes q line × (length line ≤ left) × IsFirstRefused (left - length line) j bytes qs f)
+abbrev pub IsFirstRefused : (left : ℕ) → GetJob → (bytes : List ℕ) → List Query → Fault → Type 0
+IsFirstRefused left j bytes qs f = IsFirstOf (IsQueryLine j bytes) (λ n q. IsLineRefused n j bytes q f) left qs
 
 abbrev pub queries_of : GetJob → List Query
 queries_of j = map asked_seen j.queries.items

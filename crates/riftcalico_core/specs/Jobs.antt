@@ -20,6 +20,7 @@ use Rattle.riftcalico_core.specs.Calls.{call_read}
 use Rattle.riftcalico_core.specs.CallsSeen.{read_call_seen}
 use Rattle.riftcalico_core.specs.Plans.{CallsPlan, CheckPlan, ComparePlan, FromJsonPlan, GetPlan, JsonPlan, Plan, check_plan, compatible_plan, convert_plan, fields_plan, from_json_plan, get_plan, help_plan, json_plan, new_plan, patch_plan, structs_plan, version_plan}
 use Rattle.riftcalico_core.specs.Gets.{queries_of}
+use Rattle.riftcalico_core.specs.Json.{json_queries}
 use Rattle.riftcalico_core.specs.Reads.{each_word_read, value_line_at}
 use Rattle.riftcalico_core.specs.Wanted.{wanted_note}
 use Rattle.riftcalico_core.specs.Notes.{name_note}
@@ -93,7 +94,7 @@ pub record IsGetJob (p : GetPlan) (set : Schemas) (j : GetJob) : Type 0 where
 
 pub record IsJsonJob (p : JsonPlan) (set : Schemas) (j : JsonJob) : Type 0 where
   pub schema : IsNamedStruct set p.root.name j.schema
-  pub path : path_seen j.steps.items ≡ p.path
+  pub queries : json_queries j ≡ p.queries
   pub indented : j.indented ≡ p.indented
   pub packed : j.packed ≡ p.packed
   pub limit : j.limit ≡ p.limit

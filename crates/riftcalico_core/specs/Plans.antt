@@ -11,7 +11,9 @@ use Rattle.capnp_words.specs.Reads.{Read}
 use Rattle.riftcalico_core.specs.Queries.{Query, query_at}
 use Rattle.riftcalico_core.specs.Reads.{Reads, each_word_read, line_at, unreadable_line}
 use Rattle.riftcalico_words.specs.Tasks.{CallsTask, CheckTask, FromJsonTask, GetTask, GivenCalls, JsonTask, Root, Task, check_task, compatible_task, convert_task, fields_task, from_json_task, get_task, help_task, in_lines, in_words, json_task, new_task, patch_task, structs_task, version_task}
+use Rattle.riftcalico_words.specs.Usage.{verb_usage}
 use Rattle.riftcalico_words.specs.declared.request.Verb.{Verb}
+use Rattle.riftcalico_words.specs.declared.request.Verb.TheVariants as verb
 
 -- what is asked for by paths of a root
 pub record GetPlan : Type 0 where
@@ -23,10 +25,10 @@ pub record GetPlan : Type 0 where
   pub packed : Bool
   pub limit : ℕ
 
--- the value at a path of a root, as JSON
+-- what is asked for by paths of a root, as JSON
 pub record JsonPlan : Type 0 where
   pub root : Root
-  pub path : List PathStep
+  pub queries : List Query
   pub indented : Bool
   pub packed : Bool
   pub limit : ℕ
@@ -139,17 +141,22 @@ abbrev pub text_plan : (is_text : Bool) → (path bytes : List ℕ) → Told Sai
 text_plan true path bytes = words_plan (call_lines bytes)
 text_plan false path bytes = Err (no_text_line path (utf8_valid_len bytes))
 
+-- where a word says no call, quotes may have been forgotten: how the verb is called is told behind the line
+abbrev pub or_usage : {A : Type 0} → Verb → Told A → Told A
+or_usage v (Ok said) = Ok said
+or_usage v (Err line) = Err (line ++ verb_usage v)
+
 -- calls, of which a file may have the words: these bytes
-abbrev pub given_plan : GivenCalls → (file : List ℕ) → Told SaidCalls
-given_plan (in_words words) file = words_plan words
-given_plan (in_lines path) file = text_plan (is_utf8 file) path file
+abbrev pub given_plan : Verb → GivenCalls → (file : List ℕ) → Told SaidCalls
+given_plan v (in_words words) file = or_usage v (words_plan words)
+given_plan v (in_lines path) file = text_plan (is_utf8 file) path file
 
 abbrev pub under_root : CallsTask → Told SaidCalls → Told CallsPlan
 under_root t (Ok said) = Ok (record { root = t.root; texts = said.0; words = said.1; keep_going = t.keep_going; packed = t.packed; limit = t.limit })
 under_root t (Err line) = Err line
 
-abbrev pub calls_plan_of : CallsTask → (file : List ℕ) → Told CallsPlan
-calls_plan_of t file = under_root t (given_plan t.calls file)
+abbrev pub calls_plan_of : Verb → CallsTask → (file : List ℕ) → Told CallsPlan
+calls_plan_of v t file = under_root t (given_plan v t.calls file)
 
 abbrev pub queries_plan : GetTask → Reads (List Query) → Told GetPlan
 queries_plan t (Ok queries) = Ok (record { root = t.root; queries = queries; raw = t.raw; with_paths = t.with_paths; indented = t.indented; packed = t.packed; limit = t.limit })
@@ -158,12 +165,12 @@ queries_plan t (Err at) = Err (line_at t.paths at)
 abbrev pub get_plan_of : GetTask → Told GetPlan
 get_plan_of t = queries_plan t (each_word_read query_at 0 t.paths)
 
-abbrev pub json_path_plan : JsonTask → Read (List PathStep) → Told JsonPlan
-json_path_plan t (Ok path) = Ok (record { root = t.root; path = path; indented = t.indented; packed = t.packed; limit = t.limit })
-json_path_plan t (Err place) = Err (unreadable_line 1 t.path place)
+abbrev pub json_queries_plan : JsonTask → Reads (List Query) → Told JsonPlan
+json_queries_plan t (Ok queries) = Ok (record { root = t.root; queries = queries; indented = t.indented; packed = t.packed; limit = t.limit })
+json_queries_plan t (Err at) = Err (line_at t.paths at)
 
 abbrev pub json_plan_of : JsonTask → Told JsonPlan
-json_plan_of t = json_path_plan t (path_at 0 t.path)
+json_plan_of t = json_queries_plan t (each_word_read query_at 0 t.paths)
 
 abbrev pub from_json_plan_of : FromJsonTask → FromJsonPlan
 from_json_plan_of t = record { root = t.root; strict = t.strict; packed = t.packed; limit = t.limit }
@@ -185,8 +192,8 @@ task_plan (get_task t) file = as_plan get_plan (get_plan_of t)
 task_plan (json_task t) file = as_plan json_plan (json_plan_of t)
 task_plan (from_json_task t) file = Ok (from_json_plan (from_json_plan_of t))
 task_plan (check_task t) file = as_plan check_plan (check_plan_of t)
-task_plan (patch_task t) file = as_plan patch_plan (calls_plan_of t file)
-task_plan (new_task t) file = as_plan new_plan (calls_plan_of t file)
+task_plan (patch_task t) file = as_plan patch_plan (calls_plan_of verb.Patch t file)
+task_plan (new_task t) file = as_plan new_plan (calls_plan_of verb.New t file)
 task_plan (structs_task set limit) file = Ok (structs_plan set limit)
 task_plan (fields_task r limit) file = Ok (fields_plan r limit)
 task_plan (convert_task strict limit) file = Ok (convert_plan strict limit)

@@ -19,7 +19,7 @@ abbrev pub get_plan_seen : GetPlan → plans.GetPlan
 get_plan_seen p = record { root = root_named p.root; queries = map query_word_seen p.queries.items; raw = p.raw; with_paths = p.with_paths; indented = p.indented; packed = p.packed; limit = p.limit }
 
 abbrev pub json_plan_seen : JsonPlan → plans.JsonPlan
-json_plan_seen p = record { root = root_named p.root; path = path_text_seen p.path; indented = p.indented; packed = p.packed; limit = p.limit }
+json_plan_seen p = record { root = root_named p.root; queries = map query_word_seen p.queries.items; indented = p.indented; packed = p.packed; limit = p.limit }
 
 abbrev pub from_json_plan_seen : FromJsonPlan → plans.FromJsonPlan
 from_json_plan_seen p = record { root = root_named p.root; strict = p.strict; packed = p.packed; limit = p.limit }

@@ -235,23 +235,23 @@ fn explain_length(alloc: Global, steps: &[Step<'_>], why: &NoLength<'_>) -> Faul
 
 /// How many elements the list at a path has, in decimal, in at most so many bytes. Refused with the place, but for what is too
 /// long, and for memory.
-fn get_count(
+pub(crate) fn get_count(
     alloc: Global,
-    job: &GetJob<'_, '_>,
+    schema: StructSchema<'_>,
     steps: &[Step<'_>],
     limit: u64,
     message: &[u8],
 ) -> Faulty<Vec<u8>>
-    requires { IsStruct job.now.schema }
-    ensures text { IfOk result (λ text. IsCountText job.now.schema message.now (path_seen steps.now) text.items) }
+    requires { IsStruct schema }
+    ensures text { IfOk result (λ text. IsCountText schema.entry message.now (path_seen steps.now) text.items) }
     ensures within { IfOk result (λ text. length text.items ≤ limit) }
     ensures refused { IfErr result (λ f. f.error.kind ≢ OutOfMemory
-        → IsUnreached job.now.schema message.now (path_seen steps.now) f
-        ⊎ (IsNoList job.now.schema message.now (path_seen steps.now) f
-        ⊎ HasLongCount limit job.now.schema message.now (path_seen steps.now) f)) }
+        → IsUnreached schema.entry message.now (path_seen steps.now) f
+        ⊎ (IsNoList schema.entry message.now (path_seen steps.now) f
+        ⊎ HasLongCount limit schema.entry message.now (path_seen steps.now) f)) }
     ensures blamed { IfErr result (λ f. f.blamed ≡ Input) }
 {
-    let count = match get_length(alloc, job.schema, steps, message) {
+    let count = match get_length(alloc, schema, steps, message) {
         Ok(count) => count,
         Err(why) => return Err(explain_length(alloc, steps, &why)),
     };
@@ -277,7 +277,7 @@ fn get_query_text(
     ensures blamed { IfErr result (λ f. f.blamed ≡ Input) }
 {
     if query.counts {
-        get_count(alloc, job, &query.steps, limit, message)
+        get_count(alloc, job.schema, &query.steps, limit, message)
     } else {
         get_text(alloc, job, &query.steps, limit, message)
     }
@@ -380,7 +380,7 @@ fn get_query_line(
 }
 
 /// Lines with one more: where there are none, its own bytes are taken. Refused with `OutOfMemory` alone.
-fn add_line(lines: Vec<u8>, text: Vec<u8>) -> Result<Vec<u8>>
+pub(crate) fn add_line(lines: Vec<u8>, text: Vec<u8>) -> Result<Vec<u8>>
     ensures added { IfOk result (λ more. more.items ≡ lines.items ++ (text.items ++ 10 ∷ [])) }
     ensures memory { IfErr result (λ e. e.kind ≡ OutOfMemory) }
 {

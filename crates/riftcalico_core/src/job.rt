@@ -34,11 +34,11 @@ pub struct GetJob<'s, 'c> {
     pub limit: u64,
 }
 
-/// What stands at a path as JSON, whether the message comes packed, and the most bytes that the JSON may have.
+/// What is asked for by paths as JSON, whether the message comes packed, and the most bytes that the JSON may have together.
 #[derive(Drop)]
 pub struct JsonJob<'s, 'c> {
     pub schema: StructSchema<'s>,
-    pub steps: Vec<Step<'c>>,
+    pub queries: Vec<AskedQuery<'c>>,
     pub indented: bool,
     pub packed: bool,
     pub limit: u64,
@@ -96,7 +96,7 @@ pub struct CompareJob<'s, 'c> {
 pub enum Job<'s, 'c, 'w> {
     /// Values of it are shown.
     Get(GetJob<'s, 'c>),
-    /// A value of it is shown as JSON.
+    /// Values of it are shown as JSON.
     Json(JsonJob<'s, 'c>),
     /// It is a JSON text, which is made a message.
     FromJson(FromJsonJob<'s>),
@@ -237,7 +237,7 @@ fn find_from_json_job<'s>(
     })
 }
 
-/// A value that is shown as JSON, under the struct of its root. Refused as `find_root`, and with `OutOfMemory`.
+/// Values that are shown as JSON, under the struct of their root. Refused as `find_root`, and with `OutOfMemory`.
 fn find_json_job<'s, 'c>(
     alloc: Global,
     schemas: &'s SchemaSet,
@@ -249,10 +249,10 @@ fn find_json_job<'s, 'c>(
     ensures blamed { IfErr result (λ f. f.blamed ≡ Name) }
 {
     let schema = find_root(alloc, schemas, plan.root.name)?;
-    let steps = blame(alloc, steps_of(alloc, &plan.path), Blamed::Name)?;
+    let queries = blame(alloc, make_queries(alloc, &plan.queries), Blamed::Name)?;
     Ok(JsonJob {
         schema,
-        steps,
+        queries,
         indented: plan.indented,
         packed: plan.packed,
         limit: plan.limit,

@@ -1,20 +1,36 @@
-//! A value of a message as JSON, or why it has none.
-ghost use Rattle.std.specs.Prelude.{[], ◌∷◌, ◌≡◌, ◌≢◌, ◌++◌, IfErr, IfOk, OnOk, codes, decimal, string_bytes};
+//! Values of a message as JSON, or why one has none.
+ghost use Rattle.std.specs.Prelude.{◌≡◌, ◌≢◌, ◌+◌, ◌≤◌, IfErr, IfOk, false, length, map, string_bytes};
+ghost use Rattle.capnp_call.specs.Seen.{path_seen};
 ghost use Rattle.capnp_device.specs.declared.error.ErrorKind.TheVariants.{OutOfMemory};
-ghost use Rattle.capnp_json.specs.Errors.{json_error_name, json_error_number};
+ghost use Rattle.capnp_json.specs.Pieces.{IsJson};
 ghost use Rattle.capnp_schema.specs.StructHandles.{IsStruct};
-ghost use Rattle.riftcalico_core.specs.Json.{IsJsonAnswer, IsNoJson, IsOfJson, json_refusal_line};
-ghost use Rattle.riftcalico_core.specs.Steps.Json.{IsJsonEnd, IsToldRefusal, IsUntoldRefusal};
+ghost use Rattle.riftcalico_core.specs.Json.{IsJsonAnswer, IsNoJson, IsQueryJson, json_refusal_line, path_json};
+ghost use Rattle.riftcalico_core.specs.Lines.{AreLinesOf};
+ghost use Rattle.riftcalico_core.specs.QueriesSeen.{asked_seen};
+ghost use Rattle.riftcalico_core.specs.Steps.Json.{HasNoLine, HaveNoLines, IsReason, IsToldRefusal};
 ghost use Rattle.riftcalico_core.specs.declared.fault.Blamed.TheVariants.{Input};
 
-use crate::answer::{Answer, Output};
-use crate::fault::{Blamed, Faulty, get_fault};
+use crate::answer::{Answer, Output, answer_quietly};
+use crate::expand::expand_queries;
+use crate::fault::{Blamed, Fault, Faulty, get_fault};
+use crate::get::{add_line, get_count};
 use crate::job::JsonJob;
 use crate::place::tell_place;
+use crate::queries::AskedQuery;
+use capnp_call::calls::Step;
 use capnp_json::error::JsonError;
 use capnp_queries::json::{NoJson, get_json};
 use capnp_wire::error::{Error, ErrorKind, Result};
 use std::alloc::Global;
+
+/// Why a query has no JSON.
+#[derive(Drop)]
+pub(crate) enum NoLine {
+    /// What it asks for is refused, or longer than it may be, or there is no memory for it.
+    Refused(Fault),
+    /// It is what no JSON stands for, which is no refusal of a message.
+    Unfit(JsonError),
+}
 
 /// The line of a refusal. Refused with `OutOfMemory` alone.
 fn get_refusal_line(alloc: Global, error: JsonError) -> Result<String>
@@ -44,59 +60,119 @@ fn tell_refusal(alloc: Global, error: JsonError) -> Faulty<Answer>
     }
 }
 
-/// A refusal of JSON: told in an answer where no refusal of messages has its number, and else refused.
-fn refuse(alloc: Global, error: JsonError) -> Faulty<Answer>
-    ensures of_json { OnOk result (IsOfJson error) }
-    ensures told { IfOk result (IsToldRefusal error) }
-    ensures refused { IfErr result (λ f. f.error.kind ≢ OutOfMemory → IsUntoldRefusal error f) }
-    ensures blamed { IfErr result (λ f. f.blamed ≡ Input) }
+/// A refusal of JSON as the reason that a query has none.
+fn find_reason(alloc: Global, error: JsonError) -> NoLine
+    ensures { IsReason error result }
 {
-    match error {
-        JsonError::Read(kind) => Err(get_fault(alloc, Error::from(kind), Blamed::Input)),
-        JsonError::TooLarge => Err(get_fault(
-            alloc,
-            Error::from(ErrorKind::TooLarge),
-            Blamed::Input,
-        )),
-        JsonError::OutOfMemory => Err(get_fault(
-            alloc,
-            Error::from(ErrorKind::OutOfMemory),
-            Blamed::Input,
-        )),
-        JsonError::UntypedHasNoJson | JsonError::TextNotUtf8 => tell_refusal(alloc, error),
+    let kind = match error {
+        JsonError::Read(kind) => kind,
+        JsonError::TooLarge => ErrorKind::TooLarge,
+        JsonError::OutOfMemory => ErrorKind::OutOfMemory,
+        JsonError::UntypedHasNoJson | JsonError::TextNotUtf8 => return NoLine::Unfit(error),
+    };
+    NoLine::Refused(get_fault(alloc, Error::from(kind), Blamed::Input))
+}
+
+/// The JSON of what stands at a path, in at most so many bytes. Refused as `capnp_queries::json::get_json`, with the place of a
+/// step.
+fn get_value_json(
+    alloc: Global,
+    job: &JsonJob<'_, '_>,
+    steps: &[Step<'_>],
+    limit: u64,
+    message: &[u8],
+) -> std::result::Result<Vec<u8>, NoLine>
+    requires { IsStruct job.now.schema }
+    ensures json { IfOk result (λ json. IsJson (path_json job.now message.now (path_seen steps.now)) json.items) }
+    ensures within { IfOk result (λ json. length json.items ≤ limit) }
+    ensures refused { IfErr result (HasNoLine false limit job.now message.now (path_seen steps.now)) }
+{
+    match get_json(
+        alloc,
+        job.schema,
+        steps,
+        message,
+        job.indented,
+        limit as usize,
+    ) {
+        Ok(json) => Ok(json),
+        Err(NoJson::Unreached(refusal)) => {
+            Err(NoLine::Refused(tell_place(alloc, steps, &refusal)))
+        }
+        Err(NoJson::Value(error)) => Err(find_reason(alloc, error)),
     }
 }
 
-/// A JSON and a line break. Refused with `OutOfMemory` alone.
-fn end_line(alloc: Global, json: Vec<u8>) -> Faulty<Answer>
-    ensures ended { IfOk result (IsJsonEnd json.items) }
-    ensures memory { IfErr result (λ f. f.error.kind ≡ OutOfMemory) }
-    ensures blamed { IfErr result (λ f. f.blamed ≡ Input) }
+/// The JSON of a query, in at most so many bytes: that of what stands at its path, or how many elements a list has.
+fn get_query_json(
+    alloc: Global,
+    job: &JsonJob<'_, '_>,
+    query: &AskedQuery<'_>,
+    limit: u64,
+    message: &[u8],
+) -> std::result::Result<Vec<u8>, NoLine>
+    requires { IsStruct job.now.schema }
+    ensures json { IfOk result (λ line. IsQueryJson job.now message.now (asked_seen query.now) line.items) }
+    ensures within { IfOk result (λ line. length line.items ≤ limit) }
+    ensures refused { IfErr result (HasNoLine query.now.counts limit job.now message.now (asked_seen query.now).path) }
 {
-    let mut line = json;
-    match line.push(b'\n') {
-        Ok(()) => Ok(Answer {
-            output: Output::Bytes(line),
-            lines: String::new(alloc),
-            refused: false,
-        }),
-        Err(_) => Err(get_fault(alloc, Error::from(ErrorKind::OutOfMemory), Blamed::Input)),
+    if query.counts {
+        match get_count(alloc, job.schema, &query.steps, limit, message) {
+            Ok(text) => Ok(text),
+            Err(fault) => Err(NoLine::Refused(fault)),
+        }
+    } else {
+        get_value_json(alloc, job, &query.steps, limit, message)
     }
 }
 
-/// The JSON of what stands at a path of a message, and a line break; or a line that tells why a value has none, where no
-/// refusal of messages has its number. Refused with `OutOfMemory`, with `TooLarge` where the JSON is longer than it may be, as
-/// the message or a step of the path is, with the place, and as the first value in the JSON's order that can't be read.
+/// The lines of queries, one after another, which have no more bytes together than the limit, without their line breaks.
+/// Refused as the first of them that has none within what is left of it.
+fn get_json_lines(
+    alloc: Global,
+    job: &JsonJob<'_, '_>,
+    queries: &[AskedQuery<'_>],
+    message: &[u8],
+) -> std::result::Result<Vec<u8>, NoLine>
+    requires { IsStruct job.now.schema }
+    ensures lines { IfOk result (λ lines. AreLinesOf (IsQueryJson job.now message.now) (map asked_seen queries.now)
+        lines.items) }
+    ensures few { IfOk result (λ lines. length lines.items ≤ job.now.limit + length queries.now) }
+    ensures refused { IfErr result (HaveNoLines job.now message.now (map asked_seen queries.now)) }
+{
+    let mut lines = Vec::new(alloc);
+    let mut left = job.limit;
+    for index in 0..queries.len() {
+        let line = match get_query_json(alloc, job, &queries[index], left, message) {
+            Ok(line) => line,
+            Err(why) => return Err(why),
+        };
+        left -= line.len() as u64;
+        match add_line(lines, line) {
+            Ok(more) => lines = more,
+            Err(error) => return Err(NoLine::Refused(get_fault(alloc, error, Blamed::Input))),
+        }
+    }
+    Ok(lines)
+}
+
+/// The JSON of what is asked for by paths, a line each; or a line that tells why a value has none, where no refusal of messages
+/// has its number. Refused as the first path that can't be listed; then as the first that has no JSON: with its place, where
+/// the message or a step is refused, as the first value in the JSON's order that can't be read, with `TooLarge` where the JSON
+/// is longer than it may be, and with `OutOfMemory`.
 pub(crate) fn answer_json(alloc: Global, job: &JsonJob<'_, '_>, message: &[u8]) -> Faulty<Answer>
     requires { IsStruct job.now.schema }
     ensures answer { IfOk result (IsJsonAnswer job.now message.now) }
     ensures refused { IfErr result (λ f. f.error.kind ≢ OutOfMemory → IsNoJson job.now message.now f) }
     ensures blamed { IfErr result (λ f. f.blamed ≡ Input) }
 {
-    let limit = job.limit as usize;
-    match get_json(alloc, job.schema, &job.steps, message, job.indented, limit) {
-        Ok(json) => end_line(alloc, json),
-        Err(NoJson::Unreached(refusal)) => Err(tell_place(alloc, &job.steps, &refusal)),
-        Err(NoJson::Value(error)) => refuse(alloc, error),
+    let queries = match expand_queries(alloc, job.schema, &job.queries, job.limit, message) {
+        Ok(queries) => queries,
+        Err(fault) => return Err(fault),
+    };
+    match get_json_lines(alloc, job, &queries, message) {
+        Ok(lines) => Ok(answer_quietly(alloc, Output::Bytes(lines))),
+        Err(NoLine::Refused(fault)) => Err(fault),
+        Err(NoLine::Unfit(error)) => tell_refusal(alloc, error),
     }
 }

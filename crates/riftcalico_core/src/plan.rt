@@ -3,7 +3,7 @@ ghost use Rattle.std.specs.Prelude.{◌≡◌, IfErr, IfOk, map};
 ghost use Rattle.std.specs.Option.{option_map};
 ghost use Rattle.std.specs.Str.{is_utf8};
 ghost use Rattle.capnp_device.specs.declared.error.ErrorKind.TheVariants.{OutOfMemory};
-ghost use Rattle.riftcalico_core.specs.Plans.{calls_file, calls_plan_of, check_plan_of, get_plan_of, given_file, given_plan, json_plan_of, plan_limit, task_plan, text_plan, words_plan};
+ghost use Rattle.riftcalico_core.specs.Plans.{calls_file, calls_plan_of, check_plan_of, get_plan_of, given_file, given_plan, json_plan_of, or_usage, plan_limit, task_plan, text_plan, words_plan};
 ghost use Rattle.riftcalico_core.specs.PlansSeen.{plan_seen, told_plan};
 ghost use Rattle.riftcalico_core.specs.Steps.Plans.{told_calls, told_calls_plan, told_check_plan, told_get_plan, told_json_plan};
 ghost use Rattle.riftcalico_words.specs.RequestSeen.{calls_task_of, check_task_of, get_task_of, given_of, json_task_of, task_seen};
@@ -17,6 +17,7 @@ use capnp_words::path::{Path, parse_path};
 use riftcalico_words::request::{
     CallWords, CallsRequest, CheckRequest, GetRequest, JsonRequest, NamedRoot, Task, Verb,
 };
+use riftcalico_words::usage::get_verb_usage;
 use std::alloc::Global;
 use std::str;
 
@@ -36,11 +37,11 @@ pub struct GetPlan<'a> {
     pub limit: u64,
 }
 
-/// The value at a path of a root, as JSON.
+/// What is asked for by paths of a root, as JSON.
 #[derive(Drop)]
 pub struct JsonPlan<'a> {
     pub root: NamedRoot<'a>,
-    pub path: Path,
+    pub queries: Vec<QueryWord>,
     pub indented: bool,
     pub packed: bool,
     pub limit: u64,
@@ -94,7 +95,7 @@ pub struct ComparePlan<'a> {
 pub enum Plan<'a> {
     /// What is asked for by paths is shown.
     Get(GetPlan<'a>),
-    /// The value at a path is shown as JSON.
+    /// What is asked for by paths is shown as JSON.
     Json(JsonPlan<'a>),
     /// A JSON text is made a message.
     FromJson(FromJsonPlan<'a>),
@@ -203,21 +204,39 @@ fn read_text<'a>(
     }
 }
 
+/// The calls that words of a command line say, or the line of the first that says none and how the verb is called: quotes
+/// may have been forgotten. Refused with `OutOfMemory` alone.
+fn read_argument_words<'a>(
+    alloc: Global,
+    verb: Verb,
+    words: &[&'a str],
+) -> Result<Told<(Vec<CallWord>, Vec<&'a str>)>>
+    ensures said { IfOk result (λ r. told_calls r ≡ or_usage verb (words_plan (map (λ w. w.now) words.now))) }
+    ensures memory { IfErr result (λ e. e.kind ≡ OutOfMemory) }
+{
+    let mut list = Vec::with_capacity(alloc, words.len())?;
+    list.extend_from_slice(words)?;
+    match read_words(alloc, list)? {
+        Ok(said) => Ok(Ok(said)),
+        Err(mut line) => {
+            line.push_str(get_verb_usage(verb))?;
+            Ok(Err(line))
+        }
+    }
+}
+
 /// Calls of which the file may have the words. Refused with `OutOfMemory` alone.
 fn read_given<'a>(
     alloc: Global,
+    verb: Verb,
     calls: &CallWords<'a>,
     file: &'a [u8],
 ) -> Result<Told<(Vec<CallWord>, Vec<&'a str>)>>
-    ensures said { IfOk result (λ r. told_calls r ≡ given_plan (given_of calls.now) file.now) }
+    ensures said { IfOk result (λ r. told_calls r ≡ given_plan verb (given_of calls.now) file.now) }
     ensures memory { IfErr result (λ e. e.kind ≡ OutOfMemory) }
 {
     match calls {
-        CallWords::Words(words) => {
-            let mut list = Vec::with_capacity(alloc, words.len())?;
-            list.extend_from_slice(words)?;
-            read_words(alloc, list)
-        }
+        CallWords::Words(words) => read_argument_words(alloc, verb, words),
         CallWords::Lines(path) => read_text(alloc, path, file),
     }
 }
@@ -225,13 +244,14 @@ fn read_given<'a>(
 /// Calls on a root with their words read. Refused with `OutOfMemory` alone.
 fn plan_calls<'a>(
     alloc: Global,
+    verb: Verb,
     request: &CallsRequest<'a>,
     file: &'a [u8],
 ) -> Result<Told<CallsPlan<'a>>>
-    ensures planned { IfOk result (λ r. told_calls_plan r ≡ calls_plan_of (calls_task_of request.now) file.now) }
+    ensures planned { IfOk result (λ r. told_calls_plan r ≡ calls_plan_of verb (calls_task_of request.now) file.now) }
     ensures memory { IfErr result (λ e. e.kind ≡ OutOfMemory) }
 {
-    match read_given(alloc, &request.calls, file)? {
+    match read_given(alloc, verb, &request.calls, file)? {
         Ok((texts, words)) => Ok(Ok(CallsPlan {
             root: request.root,
             texts,
@@ -263,23 +283,20 @@ fn plan_get<'a>(alloc: Global, request: &GetRequest<'a>) -> Result<Told<GetPlan<
     }
 }
 
-/// The value at a path that is shown as JSON, whose word is read. Refused with `OutOfMemory` alone.
-fn plan_json<'a>(alloc: Global, request: JsonRequest<'a>) -> Result<Told<JsonPlan<'a>>>
-    ensures planned { IfOk result (λ r. told_json_plan r ≡ json_plan_of (json_task_of request.entry)) }
+/// What is asked for by paths and shown as JSON, whose words are read. Refused with `OutOfMemory` alone.
+fn plan_json<'a>(alloc: Global, request: &JsonRequest<'a>) -> Result<Told<JsonPlan<'a>>>
+    ensures planned { IfOk result (λ r. told_json_plan r ≡ json_plan_of (json_task_of request.now)) }
     ensures memory { IfErr result (λ e. e.kind ≡ OutOfMemory) }
 {
-    match parse_path(alloc, request.path)? {
-        Ok(path) => Ok(Ok(JsonPlan {
+    match read_queries(alloc, &request.paths)? {
+        Ok(queries) => Ok(Ok(JsonPlan {
             root: request.root,
-            path,
+            queries,
             indented: request.indented,
             packed: request.packed,
             limit: request.limit,
         })),
-        Err(place) => {
-            let line = put_unreadable(alloc, 1, request.path, place as u128)?;
-            Ok(Err(line))
-        }
+        Err(at) => Ok(Err(put_word_line(alloc, &request.paths, at)?)),
     }
 }
 
@@ -314,7 +331,7 @@ pub fn read_plan<'a>(alloc: Global, task: &Task<'a>, file: &'a [u8]) -> Result<T
             Ok(plan) => Ok(Ok(Plan::Get(plan))),
             Err(line) => Ok(Err(line)),
         },
-        Task::Json(request) => match plan_json(alloc, *request)? {
+        Task::Json(request) => match plan_json(alloc, request)? {
             Ok(plan) => Ok(Ok(Plan::Json(plan))),
             Err(line) => Ok(Err(line)),
         },
@@ -328,11 +345,11 @@ pub fn read_plan<'a>(alloc: Global, task: &Task<'a>, file: &'a [u8]) -> Result<T
             Ok(plan) => Ok(Ok(Plan::Check(plan))),
             Err(line) => Ok(Err(line)),
         },
-        Task::Patch(request) => match plan_calls(alloc, request, file)? {
+        Task::Patch(request) => match plan_calls(alloc, Verb::Patch, request, file)? {
             Ok(plan) => Ok(Ok(Plan::Patch(plan))),
             Err(line) => Ok(Err(line)),
         },
-        Task::New(request) => match plan_calls(alloc, request, file)? {
+        Task::New(request) => match plan_calls(alloc, Verb::New, request, file)? {
             Ok(plan) => Ok(Ok(Plan::New(plan))),
             Err(line) => Ok(Err(line)),
         },

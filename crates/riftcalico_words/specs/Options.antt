@@ -16,6 +16,7 @@ pub record WordOptions : Type 0 where
   pub indent : Bool
   pub raw : Bool
   pub paths : Bool
+  pub json : Bool
   pub keep_going : Bool
   pub packed : Bool
   pub each : Bool
@@ -37,6 +38,7 @@ no_options = record {
   indent = false;
   raw = false;
   paths = false;
+  json = false;
   keep_going = false;
   packed = false;
   each = false;
@@ -65,6 +67,7 @@ word_kind word =
     else if bytes_eq word (codes "--indent") then kind.Flag flag.Indent
     else if bytes_eq word (codes "--raw") then kind.Flag flag.Raw
     else if bytes_eq word (codes "--paths") then kind.Flag flag.Paths
+    else if bytes_eq word (codes "--json") then kind.Flag flag.Json
     else if bytes_eq word (codes "--keep-going") then kind.Flag flag.KeepGoing
     else if bytes_eq word (codes "--packed") then kind.Flag flag.Packed
     else if bytes_eq word (codes "--each") then kind.Flag flag.Each
@@ -81,6 +84,7 @@ abbrev pub with_flag : WordOptions → Flag → WordOptions
 with_flag o flag.Indent = record o { indent = true }
 with_flag o flag.Raw = record o { raw = true }
 with_flag o flag.Paths = record o { paths = true }
+with_flag o flag.Json = record o { json = true }
 with_flag o flag.KeepGoing = record o { keep_going = true }
 with_flag o flag.Packed = record o { packed = true }
 with_flag o flag.Each = record o { each = true }

@@ -14,6 +14,7 @@ options_seen o = record {
   indent = o.indent;
   raw = o.raw;
   paths = o.paths;
+  json = o.json;
   keep_going = o.keep_going;
   packed = o.packed;
   each = o.each;

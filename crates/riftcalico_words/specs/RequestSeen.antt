@@ -25,7 +25,7 @@ abbrev pub get_task_of : GetRequest → GetTask
 get_task_of r = record { root = root_named r.root; paths = map (λ w. w.now) r.paths.items; raw = r.raw; with_paths = r.with_paths; indented = r.indented; packed = r.packed; messages = r.messages; limit = r.limit }
 
 abbrev pub json_task_of : JsonRequest → JsonTask
-json_task_of r = record { root = root_named r.root; path = r.path.now; indented = r.indented; packed = r.packed; messages = r.messages; limit = r.limit }
+json_task_of r = record { root = root_named r.root; paths = map (λ w. w.now) r.paths.items; indented = r.indented; packed = r.packed; messages = r.messages; limit = r.limit }
 
 abbrev pub from_json_task_of : FromJsonRequest → FromJsonTask
 from_json_task_of r = record { root = root_named r.root; strict = r.strict; packed = r.packed; messages = r.messages; limit = r.limit }

@@ -116,6 +116,7 @@ abbrev pub takes_flag : Verb → Flag → Bool
 takes_flag v flag.Indent = takes_indent v
 takes_flag v flag.Raw = takes_raw v
 takes_flag v flag.Paths = takes_raw v
+takes_flag v flag.Json = takes_raw v
 takes_flag v flag.KeepGoing = takes_each v || is_with_calls v
 takes_flag v flag.Packed = takes_packed v
 takes_flag v flag.Each = takes_each v
@@ -142,6 +143,7 @@ flags_fit v o =
     is_allowed o.indent (takes_flag v flag.Indent)
     && is_allowed o.raw (takes_flag v flag.Raw)
     && is_allowed o.paths (takes_flag v flag.Paths)
+    && is_allowed o.json (takes_flag v flag.Json)
     && is_allowed o.keep_going (takes_flag v flag.KeepGoing)
     && is_allowed o.packed (takes_flag v flag.Packed)
     && is_allowed o.each (takes_flag v flag.Each)
@@ -159,8 +161,12 @@ going_fits v o = is_with_calls v || not o.keep_going || o.each
 abbrev pub place_fits : WordOptions → Bool
 place_fits o = not (is_some o.in_place) || not o.keep_going
 
+-- a JSON is told neither as bytes nor behind its path
+abbrev pub style_fits : WordOptions → Bool
+style_fits o = not o.json || (not o.raw && not o.paths)
+
 abbrev pub is_fitting : Verb → WordOptions → Bool
-is_fitting v o = values_fit v o && flags_fit v o && going_fits v o && place_fits o
+is_fitting v o = values_fit v o && flags_fit v o && going_fits v o && place_fits o && style_fits o
 
 -- ---- what is asked ----
 
@@ -201,16 +207,21 @@ abbrev pub show_asked : WordOptions → (limit : ℕ) → List (List ℕ) → Op
 show_asked o limit (name ∷ []) = Some (shown_of o limit name (codes "." ∷ []))
 show_asked o limit words = None
 
+-- as JSON
+abbrev pub json_of : WordOptions → (limit : ℕ) → (name : List ℕ) → (paths : List (List ℕ)) → Task
+json_of o limit name paths = json_task (record { root = record { file = o.set; name = name }; paths = paths; indented = o.indent; packed = o.packed; messages = messages_of o; limit = limit })
+
+abbrev pub got_of : (json : Bool) → WordOptions → (limit : ℕ) → (name : List ℕ) → (paths : List (List ℕ)) → Task
+got_of true o limit name paths = json_of o limit name paths
+got_of false o limit name paths = shown_of o limit name paths
+
 abbrev pub get_asked : WordOptions → (limit : ℕ) → List (List ℕ) → Option Task
-get_asked o limit (name ∷ path ∷ paths) = Some (shown_of o limit name (path ∷ paths))
+get_asked o limit (name ∷ path ∷ paths) = Some (got_of o.json o limit name (path ∷ paths))
 get_asked o limit words = None
 
-abbrev pub json_of : WordOptions → (limit : ℕ) → (name path : List ℕ) → Task
-json_of o limit name path = json_task (record { root = record { file = o.set; name = name }; path = path; indented = o.indent; packed = o.packed; messages = messages_of o; limit = limit })
-
 abbrev pub json_asked : WordOptions → (limit : ℕ) → List (List ℕ) → Option Task
-json_asked o limit (name ∷ []) = Some (json_of o limit name (codes "."))
-json_asked o limit (name ∷ path ∷ []) = Some (json_of o limit name path)
+json_asked o limit (name ∷ []) = Some (json_of o limit name (codes "." ∷ []))
+json_asked o limit (name ∷ path ∷ paths) = Some (json_of o limit name (path ∷ paths))
 json_asked o limit words = None
 
 abbrev pub from_json_of : WordOptions → (limit : ℕ) → (name : List ℕ) → Task
@@ -249,7 +260,7 @@ compatible_asked o limit words = None
 abbrev pub plain_asked : Verb → WordOptions → (limit : ℕ) → Option Task
 plain_asked verb.Show o limit = None
 plain_asked verb.Get o limit = None
-plain_asked verb.Json o limit = json_asked o limit o.others
+plain_asked verb.Json o limit = None
 plain_asked verb.FromJson o limit = from_json_asked o limit o.others
 plain_asked verb.Check o limit = check_asked o limit o.others
 plain_asked verb.Patch o limit = None
@@ -261,6 +272,7 @@ plain_asked verb.Compatible o limit = compatible_asked o limit o.others
 abbrev pub verb_asked : Verb → WordOptions → (limit : ℕ) → Option Task
 verb_asked verb.Show o limit = show_asked o limit o.others
 verb_asked verb.Get o limit = get_asked o limit o.others
+verb_asked verb.Json o limit = json_asked o limit o.others
 verb_asked verb.Patch o limit = option_map patch_task (calls_asked o limit)
 verb_asked verb.New o limit = option_map new_task (calls_asked o limit)
 verb_asked v o limit = plain_asked v o limit

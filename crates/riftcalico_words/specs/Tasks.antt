@@ -21,10 +21,10 @@ pub record GetTask : Type 0 where
   pub messages : Messages
   pub limit : ℕ
 
--- the value at a path as JSON, whether the message comes packed, of which messages, and the most bytes that a JSON may have
+-- what stands at paths as JSON, or lengths of lists there, whether the message comes packed, of which messages, and the most bytes that the JSON may have together
 pub record JsonTask : Type 0 where
   pub root : Root
-  pub path : List ℕ
+  pub paths : List (List ℕ)
   pub indented : Bool
   pub packed : Bool
   pub messages : Messages
@@ -74,7 +74,7 @@ pub record CompareTask : Type 0 where
   pub both : Bool
   pub limit : ℕ
 
--- Values are shown, one as JSON, a JSON text is made a message, or a value is only looked at whether it can be, calls are made on a copy of a message or on an empty root, the structs of a set are shown, in the set of a file or else in the built-in one, or the fields of a struct, a compiler's request is made a set, each of at most so many bytes,
+-- Values are shown, or as JSON, a JSON text is made a message, or a value is only looked at whether it can be, calls are made on a copy of a message or on an empty root, the structs of a set are shown, in the set of a file or else in the built-in one, or the fields of a struct, a compiler's request is made a set, each of at most so many bytes,
 -- two versions of a struct or of all are compared, or help is told, of all or of a verb, or the version.
 pub data Task : Type 0 where
   get_task : GetTask → Task

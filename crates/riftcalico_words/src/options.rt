@@ -17,6 +17,8 @@ pub enum Flag {
     Raw,
     /// `--paths`
     Paths,
+    /// `--json`
+    Json,
     /// `--keep-going`
     KeepGoing,
     /// `--packed`
@@ -71,6 +73,7 @@ pub struct Options<'a> {
     pub indent: bool,
     pub raw: bool,
     pub paths: bool,
+    pub json: bool,
     pub keep_going: bool,
     pub packed: bool,
     pub each: bool,
@@ -107,6 +110,7 @@ fn kind_of(word: &str) -> WordKind
         "--indent" => WordKind::Flag(Flag::Indent),
         "--raw" => WordKind::Flag(Flag::Raw),
         "--paths" => WordKind::Flag(Flag::Paths),
+        "--json" => WordKind::Flag(Flag::Json),
         "--keep-going" => WordKind::Flag(Flag::KeepGoing),
         "--packed" => WordKind::Flag(Flag::Packed),
         "--each" => WordKind::Flag(Flag::Each),
@@ -135,6 +139,7 @@ fn put_flag(options: Options<'_>, flag: Flag) -> Options<'_>
         Flag::Indent => options.indent = true,
         Flag::Raw => options.raw = true,
         Flag::Paths => options.paths = true,
+        Flag::Json => options.json = true,
         Flag::KeepGoing => options.keep_going = true,
         Flag::Packed => options.packed = true,
         Flag::Each => options.each = true,
@@ -218,6 +223,7 @@ pub fn read_options<'a>(
         indent: false,
         raw: false,
         paths: false,
+        json: false,
         keep_going: false,
         packed: false,
         each: false,

@@ -3,7 +3,7 @@ ghost use Rattle.std.specs.Prelude.{◌≡◌, IfErr, IfOk, map, string_bytes};
 ghost use Rattle.capnp_device.specs.declared.error.ErrorKind.TheVariants.{OutOfMemory};
 ghost use Rattle.std.specs.Option.{option_map};
 ghost use Rattle.riftcalico_words.specs.OptionsSeen.{options_seen};
-ghost use Rattle.riftcalico_words.specs.Requests.{asked_request, calls_asked, checked_of, compared_of, flags_fit, from_json_of, get_asked, given_asked, going_fits, is_allowed, is_fitting, is_comparison, is_on_messages, is_reading, is_with_calls, json_of, limit_asked, messages_of, options_asked, place_fits, plain_asked, show_asked, shown_of, takes_each, takes_flag, takes_value, values_fit, verb_of, verb_request};
+ghost use Rattle.riftcalico_words.specs.Requests.{asked_request, calls_asked, checked_of, compared_of, flags_fit, from_json_of, get_asked, given_asked, going_fits, is_allowed, is_fitting, is_comparison, is_on_messages, is_reading, is_with_calls, got_of, json_asked, json_of, limit_asked, messages_of, options_asked, place_fits, plain_asked, show_asked, shown_of, style_fits, takes_each, takes_flag, takes_value, values_fit, verb_of, verb_request};
 ghost use Rattle.riftcalico_words.specs.RequestSeen.{asked_seen, calls_task_of, given_of, task_seen};
 ghost use Rattle.riftcalico_words.specs.Steps.Limits.{limit_seen};
 ghost use Rattle.riftcalico_words.specs.Tasks.{task_messages};
@@ -23,7 +23,7 @@ pub enum Verb {
     Show,
     /// Values of a message are shown.
     Get,
-    /// A value of a message is shown as JSON.
+    /// Values of a message are shown as JSON.
     Json,
     /// A JSON text is made a message.
     FromJson,
@@ -59,12 +59,12 @@ pub struct NamedRoot<'a> {
     pub name: &'a str,
 }
 
-/// The value at a path as JSON, whether it is indented, whether the message comes packed, of which messages, and the most
-/// bytes that a JSON may have.
-#[derive(Clone, Copy)]
+/// What stands at paths as JSON, one or more, or where their last step is `#`, the lengths of lists there; whether it is
+/// indented, whether the message comes packed, of which messages, and the most bytes that the JSON may have together.
+#[derive(Drop)]
 pub struct JsonRequest<'a> {
     pub root: NamedRoot<'a>,
-    pub path: &'a str,
+    pub paths: Vec<&'a str>,
     pub indented: bool,
     pub packed: bool,
     pub messages: Messages,
@@ -315,7 +315,7 @@ fn takes_flag(verb: Verb, flag: Flag) -> bool
             Verb::Check => false,
             _ => is_reading(verb),
         },
-        Flag::Raw | Flag::Paths => match verb {
+        Flag::Raw | Flag::Paths | Flag::Json => match verb {
             Verb::Get => true,
             _ => false,
         },
@@ -365,6 +365,7 @@ fn do_flags_fit(verb: Verb, options: &Options<'_>) -> bool
     is_allowed(options.indent, verb, Flag::Indent)
         && is_allowed(options.raw, verb, Flag::Raw)
         && is_allowed(options.paths, verb, Flag::Paths)
+        && is_allowed(options.json, verb, Flag::Json)
         && is_allowed(options.keep_going, verb, Flag::KeepGoing)
         && is_allowed(options.packed, verb, Flag::Packed)
         && is_allowed(options.each, verb, Flag::Each)
@@ -389,6 +390,13 @@ fn does_place_fit(options: &Options<'_>) -> bool
     options.in_place.is_none() || !options.keep_going
 }
 
+/// Whether a JSON is to be told neither as bytes nor behind its path.
+fn does_style_fit(options: &Options<'_>) -> bool
+    ensures { result ≡ style_fits (options_seen options.now) }
+{
+    !options.json || (!options.raw && !options.paths)
+}
+
 /// Whether a verb takes these options.
 fn is_fit(verb: Verb, options: &Options<'_>) -> bool
     ensures { result ≡ is_fitting verb (options_seen options.now) }
@@ -397,6 +405,7 @@ fn is_fit(verb: Verb, options: &Options<'_>) -> bool
         && do_flags_fit(verb, options)
         && does_going_fit(verb, options)
         && does_place_fit(options)
+        && does_style_fit(options)
 }
 
 /// The most bytes that are made, or the word that is no number of bytes.
@@ -513,6 +522,68 @@ fn read_show<'a>(alloc: Global, options: &Options<'a>, limit: u64) -> Result<Opt
     }
 }
 
+/// What is asked of the values at paths that are shown as JSON. Refused with `OutOfMemory` alone.
+fn read_json_shown<'a>(
+    alloc: Global,
+    options: &Options<'a>,
+    limit: u64,
+    name: &'a str,
+    paths: &[&'a str],
+) -> Result<Option<Task<'a>>>
+    ensures asked { IfOk result (λ r. option_map task_seen r
+        ≡ Some (json_of (options_seen options.now) limit name.now (map (λ w. w.now) paths.now))) }
+    ensures memory { IfErr result (λ e. e.kind ≡ OutOfMemory) }
+{
+    let mut list = Vec::with_capacity(alloc, paths.len())?;
+    list.extend_from_slice(paths)?;
+    Ok(Some(Task::Json(JsonRequest {
+        root: NamedRoot {
+            file: options.set,
+            name,
+        },
+        paths: list,
+        indented: options.indent,
+        packed: options.packed,
+        messages: read_messages(options),
+        limit,
+    })))
+}
+
+/// What is asked of values that are shown, as JSON or not. Refused with `OutOfMemory` alone.
+fn read_got<'a>(
+    alloc: Global,
+    options: &Options<'a>,
+    limit: u64,
+    name: &'a str,
+    paths: &[&'a str],
+) -> Result<Option<Task<'a>>>
+    ensures asked { IfOk result (λ r. option_map task_seen r
+        ≡ Some (got_of (options_seen options.now).json (options_seen options.now) limit name.now
+        (map (λ w. w.now) paths.now))) }
+    ensures memory { IfErr result (λ e. e.kind ≡ OutOfMemory) }
+{
+    if options.json {
+        read_json_shown(alloc, options, limit, name, paths)
+    } else {
+        read_shown(alloc, options, limit, name, paths)
+    }
+}
+
+/// What is asked of a message that is shown as JSON, by the other words. Refused with `OutOfMemory` alone.
+fn read_json<'a>(alloc: Global, options: &Options<'a>, limit: u64) -> Result<Option<Task<'a>>>
+    ensures asked { IfOk result (λ r. option_map task_seen r
+        ≡ json_asked (options_seen options.now) limit (options_seen options.now).others) }
+    ensures memory { IfErr result (λ e. e.kind ≡ OutOfMemory) }
+{
+    let [name, paths @ ..] = options.others.as_slice() else {
+        return Ok(None);
+    };
+    if paths.is_empty() {
+        return read_json_shown(alloc, options, limit, *name, &["."]);
+    }
+    read_json_shown(alloc, options, limit, *name, paths)
+}
+
 /// What is asked of values that are shown, by the other words. Refused with `OutOfMemory` alone.
 fn read_get<'a>(alloc: Global, options: &Options<'a>, limit: u64) -> Result<Option<Task<'a>>>
     ensures asked { IfOk result (λ r. option_map task_seen r
@@ -525,24 +596,7 @@ fn read_get<'a>(alloc: Global, options: &Options<'a>, limit: u64) -> Result<Opti
     if paths.is_empty() {
         return Ok(None);
     }
-    read_shown(alloc, options, limit, *name, paths)
-}
-
-/// What is asked of the value at a path that is shown as JSON.
-fn read_json<'a>(options: &Options<'a>, limit: u64, name: &'a str, path: &'a str) -> Task<'a>
-    ensures { task_seen result ≡ json_of (options_seen options.now) limit name.now path.now }
-{
-    Task::Json(JsonRequest {
-        root: NamedRoot {
-            file: options.set,
-            name,
-        },
-        path,
-        indented: options.indent,
-        packed: options.packed,
-        messages: read_messages(options),
-        limit,
-    })
+    read_got(alloc, options, limit, *name, paths)
 }
 
 /// What is asked of JSON texts that are made messages.
@@ -600,14 +654,12 @@ fn read_compared<'a>(
     })
 }
 
-/// What is asked of a value that is shown as JSON or looked at, or of sets, by its verb and the other words.
+/// What is asked of JSON texts, of a value that is looked at, or of sets, by its verb and the other words.
 fn read_plain<'a>(verb: Verb, options: &Options<'a>, limit: u64) -> Option<Task<'a>>
     ensures { option_map task_seen result ≡ plain_asked verb (options_seen options.now) limit }
 {
     let file = options.set;
     match (verb, options.others.as_slice()) {
-        (Verb::Json, [name]) => Some(read_json(options, limit, *name, ".")),
-        (Verb::Json, [name, path]) => Some(read_json(options, limit, *name, *path)),
         (Verb::FromJson, [name]) => Some(read_from_json(options, limit, *name)),
         (Verb::Check, [name]) => Some(read_checked(options, limit, *name, ".")),
         (Verb::Check, [name, path]) => Some(read_checked(options, limit, *name, *path)),
@@ -648,12 +700,10 @@ fn read_task<'a>(
         },
         Verb::Show => read_show(alloc, options, limit),
         Verb::Get => read_get(alloc, options, limit),
-        Verb::Json
-        | Verb::FromJson
-        | Verb::Check
-        | Verb::Structs
-        | Verb::Schemas
-        | Verb::Compatible => Ok(read_plain(verb, options, limit)),
+        Verb::Json => read_json(alloc, options, limit),
+        Verb::FromJson | Verb::Check | Verb::Structs | Verb::Schemas | Verb::Compatible => Ok(
+            read_plain(verb, options, limit),
+        ),
     }
 }
 
@@ -688,7 +738,7 @@ fn read_behind<'a>(alloc: Global, verb: Verb, words: &'a [String]) -> Result<Ask
 /// |---|---|
 /// |`show NAME`|a message is shown|
 /// |`get NAME PATH..`|values of a message are shown|
-/// |`json NAME`, `json NAME PATH`|a message is shown as JSON, or a value of it|
+/// |`json NAME`, `json NAME PATH..`|a message is shown as JSON, or values of it|
 /// |`from-json NAME`|a JSON text is made a message|
 /// |`check NAME`, `check NAME PATH`|a message is looked at, or a value of it, whether it can be shown|
 /// |`patch NAME CALL..`|calls are made on a copy of a message|
@@ -707,7 +757,7 @@ fn read_behind<'a>(alloc: Global, verb: Verb, words: &'a [String]) -> Result<Ask
 /// |`--packed`|those on messages, `from-json`|
 /// |`--limit N`|all|
 /// |`--indent`|`show`, `get`, `json`|
-/// |`--raw`, `--paths`|`get`|
+/// |`--raw`, `--paths`, or `--json`|`get`|
 /// |`--each`|`show`, `get`, `json`, `from-json`, `check`, `patch`|
 /// |`--keep-going`|the same, but for `patch` with `--each`, and `new`|
 /// |`--calls FILE`, with no call beside it|`patch`, `new`|

@@ -13,8 +13,8 @@ pub const VERSION: &str = "riftcalico 0.1.0\n";
 
 const USAGE: &str = "\
 usage: riftcalico show [--set FILE] [--packed] [--limit BYTES] [--each [--keep-going]] NAME [--indent]
-       riftcalico get [--set FILE] [--packed] [--limit BYTES] [--raw] [--paths] [--each [--keep-going]] NAME PATH.. [--indent]
-       riftcalico json [--set FILE] [--packed] [--limit BYTES] [--each [--keep-going]] NAME [PATH] [--indent]
+       riftcalico get [--set FILE] [--packed] [--limit BYTES] [--raw] [--paths] [--json] [--each [--keep-going]] NAME PATH.. [--indent]
+       riftcalico json [--set FILE] [--packed] [--limit BYTES] [--each [--keep-going]] NAME [PATH..] [--indent]
        riftcalico from-json [--set FILE] [--strict] [--packed] [--limit BYTES] [--each [--keep-going]] NAME
        riftcalico check [--set FILE] [--packed] [--limit PARTS] [--all] [--each [--keep-going]] NAME [PATH]
        riftcalico patch [--set FILE] [--calls FILE] [--keep-going] [--packed] [--limit BYTES] [--each] [--in-place FILE] NAME CALL..
@@ -29,8 +29,8 @@ Shows, makes and patches Cap'n Proto messages under schemas that are known at ru
 input and written to standard output.
 
 usage: riftcalico show [--set FILE] [--packed] [--limit BYTES] [--each [--keep-going]] NAME [--indent]
-       riftcalico get [--set FILE] [--packed] [--limit BYTES] [--raw] [--paths] [--each [--keep-going]] NAME PATH.. [--indent]
-       riftcalico json [--set FILE] [--packed] [--limit BYTES] [--each [--keep-going]] NAME [PATH] [--indent]
+       riftcalico get [--set FILE] [--packed] [--limit BYTES] [--raw] [--paths] [--json] [--each [--keep-going]] NAME PATH.. [--indent]
+       riftcalico json [--set FILE] [--packed] [--limit BYTES] [--each [--keep-going]] NAME [PATH..] [--indent]
        riftcalico from-json [--set FILE] [--strict] [--packed] [--limit BYTES] [--each [--keep-going]] NAME
        riftcalico check [--set FILE] [--packed] [--limit PARTS] [--all] [--each [--keep-going]] NAME [PATH]
        riftcalico patch [--set FILE] [--calls FILE] [--keep-going] [--packed] [--limit BYTES] [--each] [--in-place FILE] NAME CALL..
@@ -47,11 +47,11 @@ usage: riftcalico show [--set FILE] [--packed] [--limit BYTES] [--each [--keep-g
 ";
 
 const GET_USAGE: &str = "\
-usage: riftcalico get [--set FILE] [--packed] [--limit BYTES] [--raw] [--paths] [--each [--keep-going]] NAME PATH.. [--indent]
+usage: riftcalico get [--set FILE] [--packed] [--limit BYTES] [--raw] [--paths] [--json] [--each [--keep-going]] NAME PATH.. [--indent]
 ";
 
 const JSON_USAGE: &str = "\
-usage: riftcalico json [--set FILE] [--packed] [--limit BYTES] [--each [--keep-going]] NAME [PATH] [--indent]
+usage: riftcalico json [--set FILE] [--packed] [--limit BYTES] [--each [--keep-going]] NAME [PATH..] [--indent]
 ";
 
 const FROM_JSON_USAGE: &str = "\
@@ -93,24 +93,24 @@ NAME is a struct of the set in FILE, as 'riftcalico schemas' writes it, or else 
 ";
 
 const GET_HELP: &str = "\
-usage: riftcalico get [--set FILE] [--packed] [--limit BYTES] [--raw] [--paths] [--each [--keep-going]] NAME PATH.. [--indent]
+usage: riftcalico get [--set FILE] [--packed] [--limit BYTES] [--raw] [--paths] [--json] [--each [--keep-going]] NAME PATH.. [--indent]
 
 Prints what stands at each PATH of the first message's root, a struct NAME, a line each. PATH has steps joined by '.': a
 field's name, #3, a field by its number, or 4, an element of a list; a last # is the length of a list. '.' alone is the
 root. A step '*' is each element of a list or each field of a struct, a line each. With --paths lines begin with their
-paths. With --raw texts and data are printed as their bytes. With --packed the message is read packed.
-The texts have no more bytes together than --limit, or else 1 GiB.
+paths. With --raw texts and data are printed as their bytes, with --json all as 'riftcalico json' does. With --packed the
+message is read packed. The texts have no more bytes together than --limit, or else 1 GiB.
 With --each all messages of the input are taken, one after another, and what is told names the message by number.
 With --keep-going one that is refused is told and passed over.
 NAME is a struct of the set in FILE, as 'riftcalico schemas' writes it, or else of the built-in set.
 ";
 
 const JSON_HELP: &str = "\
-usage: riftcalico json [--set FILE] [--packed] [--limit BYTES] [--each [--keep-going]] NAME [PATH] [--indent]
+usage: riftcalico json [--set FILE] [--packed] [--limit BYTES] [--each [--keep-going]] NAME [PATH..] [--indent]
 
-Prints the root of the first message, a struct NAME, or what stands at PATH of it, as JSON, as the public library's
-codec does, on one line, or with --indent on several. Numbers of 64 bits are strings. With --packed the message is read
-packed. No JSON is printed of more bytes than --limit, or else 1 GiB.
+Prints the root of the first message, a struct NAME, or what stands at each PATH of it, as JSON, as the public library's
+codec does, each on one line, or with --indent on several. PATH is as 'riftcalico get' takes it. Numbers of 64 bits are
+strings. With --packed the message is read packed. The JSON has no more bytes together than --limit, or else 1 GiB.
 With --each all messages of the input are taken, one after another, and what is told names the message by number.
 With --keep-going one that is refused is told and passed over.
 NAME is a struct of the set in FILE, as 'riftcalico schemas' writes it, or else of the built-in set.
@@ -193,7 +193,7 @@ status is 0 where both are compatible. No text is printed of more bytes than --l
 ";
 
 /// How a verb is called.
-fn get_verb_usage(verb: Verb) -> &'static str
+pub fn get_verb_usage(verb: Verb) -> &'static str
     ensures { result.now ≡ verb_usage verb }
 {
     match verb {
