@@ -105,8 +105,15 @@ pub mod dynamic_value {
     };
 }
 
-/// Lists that are edited, each in a message of its own, which a set of the list takes.
+/// Lists that are edited, and copies along paths: where they stand in a message, in runs with calls; lists also in messages
+/// of their own, which a set takes.
 pub mod edits {
+    pub use crate::capnp_edit_calls::acts::Act;
+    pub use crate::capnp_edit_calls::appends::{append_all, list_all};
+    pub use crate::capnp_edit_calls::change::{make_list, Change};
+    pub use crate::capnp_edit_calls::copy::{copy_part, PathCopy};
+    pub use crate::capnp_edit_calls::edit::{edit_list, ListEdit};
+    pub use crate::capnp_edit_calls::message::{run_acts, run_acts_copied, run_acts_new};
     pub use crate::capnp_edits::added::{list_one, new_elements};
     pub use crate::capnp_edits::edit::{change_list, Edit};
     pub use crate::capnp_splices::read::read_list;

@@ -12,6 +12,7 @@ mod float_texts;
 mod floats;
 mod json;
 mod json_text;
+mod list_edits;
 mod memory;
 mod refusing;
 

@@ -56,8 +56,15 @@ pub mod dynamic_value {
     };
 }
 
-/// Lists that are edited, each in a message of its own, which a set of the list takes.
+/// Lists that are edited, and copies along paths: where they stand in a message, in runs with calls; lists also in messages
+/// of their own, which a set takes.
 pub mod edits {
+    pub use capnp_edit_calls::acts::Act;
+    pub use capnp_edit_calls::appends::{append_all, list_all};
+    pub use capnp_edit_calls::change::{Change, make_list};
+    pub use capnp_edit_calls::copy::{PathCopy, copy_part};
+    pub use capnp_edit_calls::edit::{ListEdit, edit_list};
+    pub use capnp_edit_calls::message::{run_acts, run_acts_copied, run_acts_new};
     pub use capnp_edits::added::{list_one, new_elements};
     pub use capnp_edits::edit::{Edit, change_list};
     pub use capnp_splices::read::read_list;

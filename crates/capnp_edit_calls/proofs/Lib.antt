@@ -1,0 +1,11 @@
+pub mod Acting
+pub mod ActsRun
+pub mod Appending
+pub mod Copied
+pub mod EditedRecords
+pub mod Found
+pub mod Joins
+pub mod ListPuts
+pub mod PathTypes
+pub mod Roots
+pub mod RowsEditCalls
