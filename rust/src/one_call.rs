@@ -4,6 +4,8 @@ use crate::capnp_call::calls::{Call, Reply, Step};
 use crate::capnp_call::message::{run_copied, MOST_WORDS};
 use crate::capnp_device::error::{Error, ErrorKind, Result};
 use crate::capnp_dynamic::{dynamic_struct, dynamic_value, printer};
+use crate::capnp_edit_calls::acts::Act;
+use crate::capnp_edit_calls::message::run_acts_copied;
 use crate::capnp_patch::reach::read_path;
 use crate::capnp_schema::schema::StructSchema;
 use crate::capnp_schema::set::SchemaSet;
@@ -72,6 +74,16 @@ pub fn to_string(value: dynamic_value::Reader<'_>, indented: bool) -> Result<std
 pub fn patch_bytes(bytes: &[u8], schema: StructSchema<'_>, calls: &[Call<'_>]) -> Result<(Vec<Reply>, Vec<u8>)> {
     let source = Reader::new(Global, bytes)?.get_root();
     let left = run_copied(Global, MOST_WORDS, source, schema, calls)?;
+    Ok((left.replies.into(), left.message.write_message()?.into()))
+}
+
+/// What calls, edits of lists and copies along paths leave of the root of the first message in these bytes, as
+/// [`patch_bytes`]: a reply for each, and the bytes of the message that is left.
+///
+/// Refused as [`crate::message::Reader::new`], [`crate::edits::run_acts_copied`] and the write of the message.
+pub fn edit_bytes(bytes: &[u8], schema: StructSchema<'_>, acts: &[Act<'_>]) -> Result<(Vec<Reply>, Vec<u8>)> {
+    let source = Reader::new(Global, bytes)?.get_root();
+    let left = run_acts_copied(Global, MOST_WORDS, source, schema, acts)?;
     Ok((left.replies.into(), left.message.write_message()?.into()))
 }
 

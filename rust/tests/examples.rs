@@ -29,6 +29,13 @@ fn an_address_book_is_read_and_patched() {
         "(id = 456, name = \"Bob\", email = \"bob@example.org\", ",
         "phones = [(number = \"555-4567\", type = home), (number = \"555-7654\", type = work)], ",
         "employment = (unemployed = ()))])\n",
+        "(people = [(id = 123, name = \"Alice\", email = \"alice@example.com\", ",
+        "phones = [(number = \"555-1212\", type = mobile)], employment = (school = \"MIT\")), ",
+        "(id = 456, name = \"Bob\", email = \"bob@example.org\", ",
+        "phones = [(number = \"555-4567\", type = home), (number = \"555-7654\", type = work)], ",
+        "employment = (unemployed = ())), ",
+        "(id = 123, name = \"Alice\", email = \"alice@example.com\", ",
+        "phones = [(number = \"555-1212\", type = mobile)], employment = (school = \"MIT\"))])\n",
     );
     assert_eq!(address_book::lines(REQUEST, BOOK).expect("it is answered"), wanted);
 }
