@@ -1,5 +1,5 @@
 -- Acts one after another.
-use Rattle.std.proofs.Common.{ℕ, ◌+◌, ◌<◌, ◌≤◌, ◌≡◌, ◌≢◌, List, [], ◌∷◌, ◌++◌, length, get_or, replicate, take, drop, arith, ap, inl, inr, sym, subst, ◌∙◌}
+use Rattle.std.proofs.Common.{ℕ, zero, suc, ◌+◌, ◌<◌, ◌≤◌, ◌≡◌, ◌≢◌, List, [], ◌∷◌, ◌++◌, length, get_or, replicate, take, drop, arith, ap, inl, inr, sym, subst, ◌∙◌}
 use Rattle.std.proofs.lemmas.List.{length-take-le}
 use Rattle.std.proofs.Math.Seq.{take-add}
 use Rattle.capnp_wire.specs.Tree.{StructTree}
@@ -13,7 +13,7 @@ use Rattle.capnp_edits.specs.Changes.{Append, Edit}
 use Rattle.capnp_edit_calls.specs.ActsMade.{ActsMade, AreAppends, both, together, tried}
 use Rattle.capnp_edit_calls.specs.Copies.{Copies, CopiesTo}
 use Rattle.capnp_edit_calls.specs.EditsMade.{Edits, EditsTo}
-use Rattle.capnp_edit_calls.specs.Steps.Next.{IsAppendedAs, IsJoinedAs, IsNextOf}
+use Rattle.capnp_edit_calls.specs.Steps.Next.{IsAppendedAs, IsJoinedAs, IsNextOf, IsTried}
 use Rattle.capnp_edit_calls.specs.declared.runs.Joined.{Joined}
 use Rattle.capnp_edit_calls.specs.declared.runs.Joined.TheVariants as joined
 use Rattle.capnp_edit_calls.specs.declared.acts.Act.{Act}
@@ -47,13 +47,21 @@ next_one schema s s' acts a r before after some is put made = record {
 }
 
 -- after a try that was refused
-pub next_tried : (schema : StructSchema) (s t u : StructTree) (acts : List Act) (n : ℕ) (before after : List Reply) → ActsMade schema s [] [] t → IsNextOf schema t acts n before after u → IsNextOf schema s acts n before after u
-next_tried schema s t u acts n before after h next = record {
+tried_first : (schema : StructSchema) (s t u : StructTree) (path : List PathStep) (ss : List Source) (acts : List Act) (n k : ℕ) (r : ReplySeen) (rs : List Reply) → 0 < n → 0 < k → k ≤ length acts → AreAppends path ss (take k acts) →
+    r ≢ Done → EditsTo schema s path (Append ss) r t → ActsMade schema t (take n acts) rs u → ActsMade schema s (take n acts) rs u
+tried_first schema s t u path ss [] n k r rs some several few appends other edits made = absurd (omega (arith, several, few))
+tried_first schema s t u path ss (x ∷ acts) zero k r rs some several few appends other edits made = absurd (omega (arith, some))
+tried_first schema s t u path ss (x ∷ acts) (suc n) zero r rs some several few appends other edits made = absurd (omega (arith, several))
+tried_first schema s t u path ss (x ∷ acts) (suc n) (suc k) r rs some several few appends other edits made = tried path ss x (take n acts) (take k acts) r rs s t u appends other edits made
+
+pub next_tried : (schema : StructSchema) (s t u : StructTree) (acts : List Act) (n : ℕ) (before after : List Reply) → IsTried schema s acts t → IsNextOf schema t acts n before after u → IsNextOf schema s acts n before after u
+next_tried schema s t u acts n before after (inl same) next = subst (λ (x : StructTree). IsNextOf schema x acts n before after u) same next
+next_tried schema s t u acts n before after (inr h) next = record {
   some = next.some;
   few = next.few;
   replies = next.replies;
   appended = next.appended;
-  made = both [] (take n acts) [] next.replies s t u h next.made;
+  made = tried_first schema s t u h.0 h.1 acts n h.2 h.3 next.replies next.some h.4 h.5 h.6 h.7 h.8 next.made;
 }
 
 -- acts that were made as one
@@ -64,9 +72,6 @@ next_all schema s s' acts n before after some few put made = record { some = som
 pub all_joined : (schema : StructSchema) (s s' : StructTree) (acts : List Act) (path : List PathStep) (ss : List Source) (n : ℕ) → n ≤ length acts → AreAppends path ss (take n acts) → EditsTo schema s path (Append ss) Done s' → ActsMade schema s (take n acts) (replicate n reply.Done) s'
 all_joined schema s s' acts path ss n few appends edits =
     subst (λ (k : ℕ). ActsMade schema s (take n acts) (replicate k reply.Done) s') (length-take-le n acts few) (together path ss (take n acts) s s' appends edits)
-
-pub none_joined : (schema : StructSchema) (s s' : StructTree) (path : List PathStep) (ss : List Source) (r : ReplySeen) → r ≢ Done → EditsTo schema s path (Append ss) r s' → ActsMade schema s [] [] s'
-none_joined schema s s' path ss r other edits = tried path ss r s s' other edits
 
 -- those so far, and the next
 pub acts_more : (schema : StructSchema) (s t u : StructTree) (acts : List Act) (i n : ℕ) (before after : List Reply) → ActsMade schema s (take i acts) before t → IsNextOf schema t (drop i acts) n before after u → ActsMade schema s (take (i + n) acts) after u
@@ -79,4 +84,4 @@ acts_more schema s t u acts i n before after h next =
 pub joined_as : (schema : StructSchema) (s s' : StructTree) (acts : List Act) (path : List PathStep) (ss : List Source) (n : ℕ) (j : Joined) → length ss ≡ n → 2 ≤ n → n ≤ length acts → AreAppends path ss (take n acts) → IsAppendedAs schema s path ss j s' → IsJoinedAs schema s acts j s'
 joined_as schema s s' acts path ss n (joined.All k) count two few appends h =
     subst (λ (i : ℕ). IsJoinedAs schema s acts (joined.All i) s') (sym (h.0 ∙ count)) (omega (arith, two), few, all_joined schema s s' acts path ss n few appends h.1)
-joined_as schema s s' acts path ss n (joined.Apart k) count two few appends h = (omega (arith, h.0, count, two), none_joined schema s s' path ss h.1 h.2 h.3)
+joined_as schema s s' acts path ss n (joined.Apart k) count two few appends h = (omega (arith, h.0, count, two), inr (path, ss, n, h.1, omega (arith, two), few, appends, h.2, h.3))

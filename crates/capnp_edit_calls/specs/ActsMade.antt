@@ -39,12 +39,12 @@ abbrev pub edit_to : StructSchema → StructTree → ListEdit → Reply → Stru
 edit_to schema s e r s' = EditsTo schema s (path_seen e.path.now) (change_seen e.change) (reply_seen r) s'
 
 -- Acts lead from a struct to another, one reply to each: a call as the machine makes it, an edit and a copy as they are made. Appends of
--- values to one list are one edit, which appends them all. Where that is refused, it has no reply, and each is made by itself.
+-- values to one list are one edit, which appends them all. Where that is tried in front of appends and refused, it has no reply, and they are made after it.
 pub data ActsMade (schema : StructSchema) : StructTree → List Act → List Reply → StructTree → Type 0 where
   nothing : (s : StructTree) → ActsMade schema s [] [] s
   called : (c : Call) (r : Reply) (s s' : StructTree) → IsCallMade (set_of schema) (number_of schema) s c r s' → ActsMade schema s (act.Call c ∷ []) (r ∷ []) s'
   edited : (e : ListEdit) (r : Reply) (s s' : StructTree) → edit_to schema s e r s' → ActsMade schema s (act.Edit e ∷ []) (r ∷ []) s'
   copied : (c : PathCopy) (r : Reply) (s s' : StructTree) → CopiesTo schema s (path_seen c.path.now) (path_seen c.from.now) (reply_seen r) s' → ActsMade schema s (act.Copy c ∷ []) (r ∷ []) s'
   together : (path : List PathStep) (ss : List Source) (acts : List Act) (s s' : StructTree) → AreAppends path ss acts → EditsTo schema s path (Append ss) Done s' → ActsMade schema s acts (replicate (length acts) reply.Done) s'
-  tried : (path : List PathStep) (ss : List Source) (r : ReplySeen) (s s' : StructTree) → r ≢ Done → EditsTo schema s path (Append ss) r s' → ActsMade schema s [] [] s'
+  tried : (path : List PathStep) (ss : List Source) (a : Act) (xs more : List Act) (r : ReplySeen) (rs : List Reply) (s t u : StructTree) → AreAppends path ss (a ∷ more) → r ≢ Done → EditsTo schema s path (Append ss) r t → ActsMade schema t (a ∷ xs) rs u → ActsMade schema s (a ∷ xs) rs u
   both : (xs ys : List Act) (rs us : List Reply) (s t u : StructTree) → ActsMade schema s xs rs t → ActsMade schema t ys us u → ActsMade schema s (xs ++ ys) (rs ++ us) u

@@ -1,26 +1,26 @@
 -- At least two are made as one.
-use Rattle.std.proofs.Common.{List, arith, subst, sym, take, ◌≡◌, ◌∙◌, length, vec_len}
+use Rattle.std.proofs.Common.{List, arith, inl, refl, subst, sym, take, ◌≡◌, ◌∙◌, length, vec_len}
 use Rattle.std.proofs.lemmas.List.{length-map}
 use Rattle.capnp_arena.specs.Built.{built_at}
 use Rattle.capnp_call.specs.Seen.{path_seen}
 use Rattle.capnp_dynamic_readers.specs.declared.dynamic_value.Reader.{Reader as DynamicValue}
 use Rattle.capnp_slots.specs.SetValues.{source_of}
-use Rattle.capnp_edit_calls.specs.ActsMade.{AreAppends, nothing}
+use Rattle.capnp_edit_calls.specs.ActsMade.{AreAppends}
 use Rattle.capnp_edit_calls.specs.ChangesSeen.{sources_of}
 use Rattle.capnp_edit_calls.proofs.Acting.{joined_as}
 use Rattle.capnp_edit_calls.proofs.runs.join_appends.Goals as goal
 
 pub returns-then-len-lt2-clause-joined : goal.returns-then-len-lt2-clause-joined
-returns-then-len-lt2-clause-joined c = (omega arith, nothing (built_at c.args.arena.now c.args.place))
+returns-then-len-lt2-clause-joined c = (omega arith, inl refl)
 
 pub returns-in-Call-clause-joined : goal.returns-in-Call-clause-joined
-returns-in-Call-clause-joined c = (omega arith, nothing (built_at c.args.arena.now c.args.place))
+returns-in-Call-clause-joined c = (omega arith, inl refl)
 
 pub returns-in-Copy-clause-joined : goal.returns-in-Copy-clause-joined
-returns-in-Copy-clause-joined c = (omega arith, nothing (built_at c.args.arena.now c.args.place))
+returns-in-Copy-clause-joined c = (omega arith, inl refl)
 
 pub returns-in-Err-clause-joined : goal.returns-in-Err-clause-joined
-returns-in-Err-clause-joined c = (omega arith, nothing (built_at c.args.arena.now c.args.place))
+returns-in-Err-clause-joined c = (omega arith, inl refl)
 
 pub returns-else-len-lt2-clause-joined : goal.returns-else-len-lt2-clause-joined
 returns-else-len-lt2-clause-joined c =
