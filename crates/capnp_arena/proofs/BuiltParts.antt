@@ -2,7 +2,7 @@
 use Rattle.std.proofs.Common.{◌≡◌, ℕ, ◌+◌, ◌<◌, ap, subst, sym, ◌∙◌, arith, List}
 use Rattle.capnp_wire.specs.Edits.{with_pointer_tree, zero_struct, zero_structs}
 use Rattle.capnp_wire.specs.Elements.{HasStruct, with_struct_element}
-use Rattle.capnp_wire.specs.Facts.Indexed.{nth_struct-start, struct_count-from, tree_count-from}
+use Rattle.capnp_wire.specs.Facts.Indexed.{nth_struct_start, struct_count_from, tree_count_from}
 use Rattle.capnp_wire.specs.Place.{struct_tree}
 use Rattle.capnp_wire.specs.Reading.{element_struct}
 use Rattle.capnp_wire.specs.Tree.{Null, StructTree, Tree, tree_count}
@@ -43,9 +43,9 @@ module _ (k : ℕ) {m here n : List ℕ} {at a d p i : ℕ} (x : IsInPointer her
 
 module _ (size : StructSize) (count k : ℕ) (l : k < count) (t : Tree) (e : t ≡ zero_structs size count) where
   pub new_has : HasStruct t k
-  new_has = subst (λ x. HasStruct x k) (sym e) (omega (arith, l, struct_count-from (λ _. zero_struct size) 0 count))
+  new_has = subst (λ x. HasStruct x k) (sym e) (omega (arith, l, struct_count_from (λ _. zero_struct size) 0 count))
 
   pub new_pointers : (bytes : List ℕ) (a d p : ℕ) → struct_from bytes a d p ≡ element_struct t k → p ≡ size.pointers
   new_pointers bytes a d p h =
-      let s : struct_from bytes a d p ≡ zero_struct size = h ∙ ap (λ x. element_struct x k) e ∙ nth_struct-start (λ _. zero_struct size) count k l in
-      omega (arith, ap (λ (x : StructTree). tree_count x.pointers) s, tree_count-from (tree bytes) (a + d) p, tree_count-from (λ _. Null) 0 size.pointers)
+      let s : struct_from bytes a d p ≡ zero_struct size = h ∙ ap (λ x. element_struct x k) e ∙ nth_struct_start (λ _. zero_struct size) count k l in
+      omega (arith, ap (λ (x : StructTree). tree_count x.pointers) s, tree_count_from (tree bytes) (a + d) p, tree_count_from (λ _. Null) 0 size.pointers)

@@ -7,7 +7,7 @@ use Rattle.capnp_device.specs.declared.error.ErrorKind.{ErrorKind}
 use Rattle.capnp_wire.specs.Edits.{IsCopyRefusal}
 use Rattle.capnp_wire.specs.Encoding.{bytes_below_all, bytes_of, bytes_of_all, element_row, packed_bits, pointer_row, pointer_word, spelled_number}
 use Rattle.capnp_wire.specs.Facts.Bytes.{length_spelled}
-use Rattle.capnp_wire.specs.Facts.Indexed.{length-bits_from}
+use Rattle.capnp_wire.specs.Facts.Indexed.{length_bits_from}
 use Rattle.capnp_wire.specs.Facts.EncodedSizes.{length_bytes_of, length_bytes_of_all, length_element, length_element_row, length_pointer_row}
 use Rattle.capnp_wire.specs.Facts.Filling.{length_put, put_next}
 use Rattle.capnp_wire.specs.Steps.Filling.{elements_end, bytes_with, row_end, with_encoded_element, with_encoded_elements, with_pointers, words_from}
@@ -88,13 +88,13 @@ pointer_spared at w a b c l e k =
 
 -- ---- refusals ----
 
-refusal-first : (f g : Option Fault) (k : ErrorKind) → option_map refusal f ≡ Some k → option_map refusal (first_of f g) ≡ Some k
-refusal-first None g k h = cc
-refusal-first (Some fault) g k h = h
+refusal_first : (f g : Option Fault) (k : ErrorKind) → option_map refusal f ≡ Some k → option_map refusal (first_of f g) ≡ Some k
+refusal_first None g k h = cc
+refusal_first (Some fault) g k h = h
 
 -- a part is refused: so is the whole that begins with it
 pub first_refused : (e : Error) (f g h : Option Fault) → first_of f g ≡ h → IsCopyRefusal e f → IsCopyRefusal e h
-first_refused e f g h q r = subst (IsCopyRefusal e) q (λ n. refusal-first f g e.kind (r n))
+first_refused e f g h q r = subst (IsCopyRefusal e) q (λ n. refusal_first f g e.kind (r n))
 
 pub first_none : (f g h : Option Fault) → f ≡ None → first_of f g ≡ h → g ≡ h
 first_none f g h e q = sym (ap (λ x. first_of x g) e) ∙ q
@@ -106,52 +106,52 @@ trees_after zero ts = ts
 trees_after (suc i) NoTrees = NoTrees
 trees_after (suc i) (MoreTrees t ts) = trees_after i ts
 
-trees_after-next : (i : ℕ) (ts : Trees) → i < tree_count ts → trees_after i ts ≡ MoreTrees (nth_tree ts i) (trees_after (suc i) ts)
-trees_after-next i NoTrees h = absurd (omega (arith, h))
-trees_after-next zero (MoreTrees t ts) h = refl
-trees_after-next (suc i) (MoreTrees t ts) h = trees_after-next i ts (omega (arith, h))
+trees_after_next : (i : ℕ) (ts : Trees) → i < tree_count ts → trees_after i ts ≡ MoreTrees (nth_tree ts i) (trees_after (suc i) ts)
+trees_after_next i NoTrees h = absurd (omega (arith, h))
+trees_after_next zero (MoreTrees t ts) h = refl
+trees_after_next (suc i) (MoreTrees t ts) h = trees_after_next i ts (omega (arith, h))
 
-pub trees_after-end : (i : ℕ) (ts : Trees) → tree_count ts ≤ i → trees_after i ts ≡ NoTrees
-trees_after-end zero NoTrees h = refl
-trees_after-end (suc i) NoTrees h = refl
-trees_after-end zero (MoreTrees t ts) h = absurd (omega (arith, h))
-trees_after-end (suc i) (MoreTrees t ts) h = trees_after-end i ts (omega (arith, h))
+pub trees_after_end : (i : ℕ) (ts : Trees) → tree_count ts ≤ i → trees_after i ts ≡ NoTrees
+trees_after_end zero NoTrees h = refl
+trees_after_end (suc i) NoTrees h = refl
+trees_after_end zero (MoreTrees t ts) h = absurd (omega (arith, h))
+trees_after_end (suc i) (MoreTrees t ts) h = trees_after_end i ts (omega (arith, h))
 
-trees_after-count : (i : ℕ) (ts : Trees) → tree_count (trees_after i ts) ≡ tree_count ts - i
-trees_after-count zero ts = omega arith
-trees_after-count (suc i) NoTrees = omega arith
-trees_after-count (suc i) (MoreTrees t ts) = let e = trees_after-count i ts in omega (arith, e)
+trees_after_count : (i : ℕ) (ts : Trees) → tree_count (trees_after i ts) ≡ tree_count ts - i
+trees_after_count zero ts = omega arith
+trees_after_count (suc i) NoTrees = omega arith
+trees_after_count (suc i) (MoreTrees t ts) = let e = trees_after_count i ts in omega (arith, e)
 
-trees_after-held : (i : ℕ) (ts : Trees) → AreWellFormed ts → AreWellFormed (trees_after i ts)
-trees_after-held zero ts h = h
-trees_after-held (suc i) NoTrees h = h
-trees_after-held (suc i) (MoreTrees t ts) h = trees_after-held i ts h.1
+trees_after_held : (i : ℕ) (ts : Trees) → AreWellFormed ts → AreWellFormed (trees_after i ts)
+trees_after_held zero ts h = h
+trees_after_held (suc i) NoTrees h = h
+trees_after_held (suc i) (MoreTrees t ts) h = trees_after_held i ts h.1
 
 abbrev pub structs_after : ℕ → Structs → Structs
 structs_after zero es = es
 structs_after (suc i) NoStructs = NoStructs
 structs_after (suc i) (MoreStructs bytes ps es) = structs_after i es
 
-structs_after-next : (i : ℕ) (es : Structs) → i < struct_count es → structs_after i es ≡ MoreStructs (nth_struct es i).bytes (nth_struct es i).pointers (structs_after (suc i) es)
-structs_after-next i NoStructs h = absurd (omega (arith, h))
-structs_after-next zero (MoreStructs bytes ps es) h = refl
-structs_after-next (suc i) (MoreStructs bytes ps es) h = structs_after-next i es (omega (arith, h))
+structs_after_next : (i : ℕ) (es : Structs) → i < struct_count es → structs_after i es ≡ MoreStructs (nth_struct es i).bytes (nth_struct es i).pointers (structs_after (suc i) es)
+structs_after_next i NoStructs h = absurd (omega (arith, h))
+structs_after_next zero (MoreStructs bytes ps es) h = refl
+structs_after_next (suc i) (MoreStructs bytes ps es) h = structs_after_next i es (omega (arith, h))
 
-structs_after-end : (i : ℕ) (es : Structs) → struct_count es ≤ i → structs_after i es ≡ NoStructs
-structs_after-end zero NoStructs h = refl
-structs_after-end (suc i) NoStructs h = refl
-structs_after-end zero (MoreStructs bytes ps es) h = absurd (omega (arith, h))
-structs_after-end (suc i) (MoreStructs bytes ps es) h = structs_after-end i es (omega (arith, h))
+structs_after_end : (i : ℕ) (es : Structs) → struct_count es ≤ i → structs_after i es ≡ NoStructs
+structs_after_end zero NoStructs h = refl
+structs_after_end (suc i) NoStructs h = refl
+structs_after_end zero (MoreStructs bytes ps es) h = absurd (omega (arith, h))
+structs_after_end (suc i) (MoreStructs bytes ps es) h = structs_after_end i es (omega (arith, h))
 
-structs_after-count : (i : ℕ) (es : Structs) → struct_count (structs_after i es) ≡ struct_count es - i
-structs_after-count zero es = omega arith
-structs_after-count (suc i) NoStructs = omega arith
-structs_after-count (suc i) (MoreStructs bytes ps es) = let e = structs_after-count i es in omega (arith, e)
+structs_after_count : (i : ℕ) (es : Structs) → struct_count (structs_after i es) ≡ struct_count es - i
+structs_after_count zero es = omega arith
+structs_after_count (suc i) NoStructs = omega arith
+structs_after_count (suc i) (MoreStructs bytes ps es) = let e = structs_after_count i es in omega (arith, e)
 
-structs_after-held : (d p i : ℕ) (es : Structs) → AreElements d p es → AreElements d p (structs_after i es)
-structs_after-held d p zero es h = h
-structs_after-held d p (suc i) NoStructs h = h
-structs_after-held d p (suc i) (MoreStructs bytes ps es) h = structs_after-held d p i es h.4
+structs_after_held : (d p i : ℕ) (es : Structs) → AreElements d p es → AreElements d p (structs_after i es)
+structs_after_held d p zero es h = h
+structs_after_held d p (suc i) NoStructs h = h
+structs_after_held d p (suc i) (MoreStructs bytes ps es) h = structs_after_held d p i es h.4
 
 -- ---- room that is filled ----
 
@@ -196,7 +196,7 @@ element_filled d p at bytes ps es o o2 h room e =
 -- ---- objects without pointers ----
 
 pub bits_appended : (b : List ℕ) (n : ℕ) → packed_bits (8 * list_words 1 n) (bits_from b 0 n) ≡ bytes_of (Bits (bits_from b 0 n))
-bits_appended b n = ap (λ k. packed_bits (8 * list_words 1 k) (bits_from b 0 n)) (sym (length-bits_from b 0 n)) ∙ sym (append-nil (packed_bits (8 * list_words 1 (length (bits_from b 0 n))) (bits_from b 0 n)))
+bits_appended b n = ap (λ k. packed_bits (8 * list_words 1 k) (bits_from b 0 n)) (sym (length_bits_from b 0 n)) ∙ sym (append-nil (packed_bits (8 * list_words 1 (length (bits_from b 0 n))) (bits_from b 0 n)))
 
 -- ---- loops ----
 
@@ -217,15 +217,15 @@ module _ (at i : ℕ) (ts : Trees) (old now : List ℕ) (h : IsRowFilled at i ts
   -- as the loop ends
   module _ (all : tree_count ts ≤ i) where
     pub row_filled : now ≡ with_pointers (8 * at) ts old
-    row_filled = sym (ap (λ us. with_pointers (8 * (at + i)) us now) (trees_after-end i ts all) ∙ no_pointers (8 * (at + i)) now) ∙ h.done
+    row_filled = sym (ap (λ us. with_pointers (8 * (at + i)) us now) (trees_after_end i ts all) ∙ no_pointers (8 * (at + i)) now) ∙ h.done
 
     pub row_sound : first_fault_of_all ts ≡ None
-    row_sound = sym h.faults ∙ ap first_fault_of_all (trees_after-end i ts all)
+    row_sound = sym h.faults ∙ ap first_fault_of_all (trees_after_end i ts all)
 
   -- one more pointer, which leads to t
   module _ (t : Tree) (here : i < tree_count ts) (is : t ≡ nth_tree ts i) where
     next : trees_after i ts ≡ MoreTrees t (trees_after (suc i) ts)
-    next = trees_after-next i ts here ∙ ap (λ x. MoreTrees x (trees_after (suc i) ts)) (sym is)
+    next = trees_after_next i ts here ∙ ap (λ x. MoreTrees x (trees_after (suc i) ts)) (sym is)
 
     next_faults : first_of (first_fault t) (first_fault_of_all (trees_after (suc i) ts)) ≡ first_fault_of_all ts
     next_faults = rw next at h.faults
@@ -241,8 +241,8 @@ module _ (at i : ℕ) (ts : Trees) (old now : List ℕ) (h : IsRowFilled at i ts
         → new ≡ bytes_with (8 * (at + i)) (spelled_number 8 (pointer_word (word_count now - suc (at + i)) t)) now ++ bytes_of t → Spares (at + i) 1 now new → IsRowFilled at (i + 1) ts old new
     pointer_next new whole room held none e k =
         let us : Trees = trees_after (suc i) ts in
-        let w : AreWellFormed (MoreTrees t us) = subst AreWellFormed next (trees_after-held i ts held) in
-        let n : tree_count us ≡ tree_count ts - suc i = trees_after-count (suc i) ts in
+        let w : AreWellFormed (MoreTrees t us) = subst AreWellFormed next (trees_after_held i ts held) in
+        let n : tree_count us ≡ tree_count ts - suc i = trees_after_count (suc i) ts in
         let r : row_end (8 * (at + i)) (MoreTrees t us) ≤ length now = omega (arith, n, room, whole, here) in
         let g : word_count now - suc (at + i) ≡ words_from (8 * (at + i)) now - 1 = omega (arith, whole) in
         let f = pointer_filled (8 * (at + i)) t us now new w r (e ∙ ap (λ m. bytes_with (8 * (at + i)) (spelled_number 8 (pointer_word m t)) now ++ bytes_of t) g) in
@@ -265,15 +265,15 @@ module _ (at i d p : ℕ) (es : Structs) (old now : List ℕ) (h : AreStructsFil
   -- as the loop ends
   module _ (all : struct_count es ≤ i) where
     pub structs_filled : now ≡ with_encoded_elements (d + p) (8 * at) es old
-    structs_filled = sym (ap (λ us. with_encoded_elements (d + p) (8 * (at + i * (d + p))) us now) (structs_after-end i es all) ∙ no_elements (d + p) (8 * (at + i * (d + p))) now) ∙ h.done
+    structs_filled = sym (ap (λ us. with_encoded_elements (d + p) (8 * (at + i * (d + p))) us now) (structs_after_end i es all) ∙ no_elements (d + p) (8 * (at + i * (d + p))) now) ∙ h.done
 
     pub structs_sound : first_fault_of_elements es ≡ None
-    structs_sound = sym h.faults ∙ ap first_fault_of_elements (structs_after-end i es all)
+    structs_sound = sym h.faults ∙ ap first_fault_of_elements (structs_after_end i es all)
 
   -- one more struct
   module _ (s : StructTree) (here : i < struct_count es) (is : s ≡ nth_struct es i) where
     struct_next : structs_after i es ≡ MoreStructs s.bytes s.pointers (structs_after (suc i) es)
-    struct_next = structs_after-next i es here ∙ ap (λ (x : StructTree). MoreStructs x.bytes x.pointers (structs_after (suc i) es)) (sym is)
+    struct_next = structs_after_next i es here ∙ ap (λ (x : StructTree). MoreStructs x.bytes x.pointers (structs_after (suc i) es)) (sym is)
 
     struct_faults : first_of (first_fault_of_all s.pointers) (first_fault_of_elements (structs_after (suc i) es)) ≡ first_fault_of_elements es
     struct_faults = rw struct_next at h.faults
@@ -291,8 +291,8 @@ module _ (at i d p : ℕ) (es : Structs) (old now : List ℕ) (h : AreStructsFil
         → new ≡ with_encoded_element (8 * (at + i * (d + p))) s now → Spares (at + i * (d + p)) n now new → AreStructsFilled at (i + 1) d p es old new
     struct_after new n m whole room held none e k =
         let us : Structs = structs_after (suc i) es in
-        let w : AreElements d p (MoreStructs s.bytes s.pointers us) = subst (AreElements d p) struct_next (structs_after-held d p i es held) in
-        let c : struct_count us ≡ struct_count es - suc i = structs_after-count (suc i) es in
+        let w : AreElements d p (MoreStructs s.bytes s.pointers us) = subst (AreElements d p) struct_next (structs_after_held d p i es held) in
+        let c : struct_count us ≡ struct_count es - suc i = structs_after_count (suc i) es in
         let x : struct_count es * (d + p) ≡ i * (d + p) + (suc (struct_count us)) * (d + p) = row_parts (struct_count es) i (struct_count us) (d + p) (omega (arith, c, here)) in
         let r : elements_end (d + p) (8 * (at + i * (d + p))) (MoreStructs s.bytes s.pointers us) ≤ length now = omega (arith, x, room, whole) in
         let f = element_filled d p (8 * (at + i * (d + p))) s.bytes s.pointers us now new w r e in

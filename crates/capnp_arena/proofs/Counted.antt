@@ -1,11 +1,11 @@
 -- The words of a tree by what its pointer leads to, and the trees below it.
 use Rattle.std.proofs.Common.{◌≡◌, ℕ, zero, suc, ◌+◌, ◌-◌, ◌*◌, ◌<◌, ◌≤◌, refl, sym, ap, subst, ◌∙◌, arith, List, length}
-use Rattle.capnp_wire.specs.Facts.Rows.{struct_count-structs_from, tree_count-trees_from}
+use Rattle.capnp_wire.specs.Facts.Rows.{struct_count_structs_from, tree_count_trees_from}
 use Rattle.capnp_wire.specs.Locate.{list_words}
 use Rattle.capnp_wire.specs.Place.{bytes_at, list_tree, tree_with_level}
 use Rattle.capnp_wire.specs.Tree.{StructTree, Tree, structs_from, trees_from}
 use Rattle.capnp_wire.specs.Words.{words_below_all, words_of, words_of_all}
-use Rattle.capnp_wire.specs.Facts.Indexed.{length-bits_from}
+use Rattle.capnp_wire.specs.Facts.Indexed.{length_bits_from}
 use Rattle.capnp_arena.specs.Steps.Counts.{AreElementForests, AreForests}
 use Rattle.capnp_arena.specs.Forest.{Forest, struct_from, tree}
 use Rattle.capnp_arena.specs.Shape.{CompositeIn, IsPointerOf, ListIn, NoShape, Shape, StructIn, end_of, shape_at, word_count}
@@ -43,14 +43,14 @@ module _ (bytes : List ℕ) (w : ℕ) (f : Forest bytes w) where
   words_struct a d p e =
       let l : a + (d + p) ≤ word_count bytes = ends_at (StructIn a d p) e in
       let n : length (bytes_at bytes a (8 * d)) ≡ 8 * d = length_part bytes a (8 * d) (omega (arith, l)) in
-      ap words_of (tree_struct bytes w a d p f e) ∙ omega (arith, n, tree_count-trees_from (tree bytes) (a + d) p)
+      ap words_of (tree_struct bytes w a d p f e) ∙ omega (arith, n, tree_count_trees_from (tree bytes) (a + d) p)
 
   pub words_pointers : (a n : ℕ) → shape_at bytes w ≡ ListIn a 6 n → words_of (tree bytes w) ≡ n + words_of_all (trees_from (tree bytes) a n)
-  words_pointers a n e = ap words_of (tree_list bytes w a 6 n f e) ∙ ap (λ k. k + words_of_all (trees_from (tree bytes) a n)) (tree_count-trees_from (tree bytes) a n)
+  words_pointers a n e = ap words_of (tree_list bytes w a 6 n f e) ∙ ap (λ k. k + words_of_all (trees_from (tree bytes) a n)) (tree_count_trees_from (tree bytes) a n)
 
   list_own : (a size n : ℕ) → size < 6 → a + list_words size n ≤ word_count bytes → words_of (list_tree (tree bytes) bytes a size n) ≡ list_words size n
   list_own a zero n l h = omega arith
-  list_own a (suc zero) n l h = ap (λ k. list_words 1 k + 0) (length-bits_from (bytes_at bytes a (8 * list_words 1 n)) 0 n) ∙ omega arith
+  list_own a (suc zero) n l h = ap (λ k. list_words 1 k + 0) (length_bits_from (bytes_at bytes a (8 * list_words 1 n)) 0 n) ∙ omega arith
   list_own a (suc (suc zero)) n l h = let e : length (bytes_at bytes a n) ≡ n = length_part bytes a n (omega (arith, h)) in omega (arith, e)
   list_own a (suc (suc (suc zero))) n l h = let e : length (bytes_at bytes a (2 * n)) ≡ 2 * n = length_part bytes a (2 * n) (omega (arith, h)) in omega (arith, e)
   list_own a (suc (suc (suc (suc zero)))) n l h = let e : length (bytes_at bytes a (4 * n)) ≡ 4 * n = length_part bytes a (4 * n) (omega (arith, h)) in omega (arith, e)
@@ -63,7 +63,7 @@ module _ (bytes : List ℕ) (w : ℕ) (f : Forest bytes w) where
   pub words_composite : (tag n d p : ℕ) → shape_at bytes w ≡ CompositeIn tag n d p → words_of (tree bytes w) ≡ 1 + n * (d + p) + words_below_all (structs_from (λ i. struct_from bytes (tag + 1 + i * (d + p)) d p) 0 n)
   words_composite tag n d p e =
       ap words_of (tree_composite bytes w tag n d p f e)
-      ∙ ap (λ k. suc (k * (d + p)) + words_below_all (structs_from (λ i. struct_from bytes (tag + 1 + i * (d + p)) d p) 0 n)) (struct_count-structs_from (λ i. struct_from bytes (tag + 1 + i * (d + p)) d p) 0 n)
+      ∙ ap (λ k. suc (k * (d + p)) + words_below_all (structs_from (λ i. struct_from bytes (tag + 1 + i * (d + p)) d p) 0 n)) (struct_count_structs_from (λ i. struct_from bytes (tag + 1 + i * (d + p)) d p) 0 n)
       ∙ omega arith
 
 -- ---- one more of a row ----

@@ -2,7 +2,7 @@
 use Rattle.std.proofs.Common.{◌≡◌, ℕ, zero, suc, ◌+◌, ◌*◌, ◌<◌, refl, sym, ap, subst, ◌∙◌, arith, List}
 use Rattle.capnp_wire.specs.Edits.{with_pointer_tree}
 use Rattle.capnp_wire.specs.Elements.{HasPointer, HasStruct, with_pointer_element, with_struct, with_struct_element}
-use Rattle.capnp_wire.specs.Facts.Indexed.{nth_struct-start, nth_tree-from, struct_count-from, tree_count-from}
+use Rattle.capnp_wire.specs.Facts.Indexed.{nth_struct_start, nth_tree_from, struct_count_from, tree_count_from}
 use Rattle.capnp_wire.specs.Place.{list_tree}
 use Rattle.capnp_wire.specs.Reading.{cut_pointer, element_pointer}
 use Rattle.capnp_wire.specs.Tree.{Bits, Composite, FaultLeaf, Null, Numbers, Pointers, Struct, StructTree, Tree, Voids, nth_struct, nth_tree, structs_from, tree_count}
@@ -34,7 +34,7 @@ plain_pointer f bytes a (suc (suc zero)) n i l h = absurd h
 plain_pointer f bytes a (suc (suc (suc zero))) n i l h = absurd h
 plain_pointer f bytes a (suc (suc (suc (suc zero)))) n i l h = absurd h
 plain_pointer f bytes a (suc (suc (suc (suc (suc zero))))) n i l h = absurd h
-plain_pointer f bytes a (suc (suc (suc (suc (suc (suc z)))))) n i l h = (omega (arith, l), omega (arith, h, tree_count-from f a n))
+plain_pointer f bytes a (suc (suc (suc (suc (suc (suc z)))))) n i l h = (omega (arith, l), omega (arith, h, tree_count_from f a n))
 
 plain_struct : (f : ℕ → Tree) (bytes : List ℕ) (a size n i : ℕ) → HasStruct (list_tree f bytes a size n) i → ⊥
 plain_struct f bytes a zero n i h = h
@@ -72,7 +72,7 @@ module _ (bytes : List ℕ) (w : ℕ) (f : Forest bytes w) (i : ℕ) where
       list_forest = list.child (a + i) (refl, omega arith, omega (arith, room.1))
 
       pub list_pointer : tree bytes (a + i) ≡ element_pointer (tree bytes w) i 1
-      list_pointer = sym (ap (λ t. element_pointer t i 1) (tree_list bytes w a 6 n f six) ∙ nth_tree-from (tree bytes) a n i room.1)
+      list_pointer = sym (ap (λ t. element_pointer t i 1) (tree_list bytes w a 6 n f six) ∙ nth_tree_from (tree bytes) a n i room.1)
 
       pub list_leaves : (new : List ℕ) → Forest new (a + i) → Changes (a + i) bytes new → Leaves w (with_pointer_element i (tree new (a + i)) (tree bytes w)) bytes new
       list_leaves new g c =
@@ -87,10 +87,10 @@ module _ (bytes : List ℕ) (w : ℕ) (f : Forest bytes w) (i : ℕ) where
       held = subst (λ t. HasPointer t i) (tree_composite bytes w tag n d p f e) h
 
       pub first_index : i < n
-      first_index = omega (arith, held.0, struct_count-from part_of 0 n)
+      first_index = omega (arith, held.0, struct_count_from part_of 0 n)
 
       pub first_pointer : 0 < p
-      first_pointer = omega (arith, held.1, ap (λ (x : StructTree). tree_count x.pointers) (nth_struct-start part_of n i first_index), tree_count-from (tree bytes) (tag + 1 + i * (d + p) + d) p)
+      first_pointer = omega (arith, held.1, ap (λ (x : StructTree). tree_count x.pointers) (nth_struct_start part_of n i first_index), tree_count_from (tree bytes) (tag + 1 + i * (d + p) + d) p)
 
       structs : Planted bytes (CompositeIn tag n d p)
       structs = subst (Planted bytes) e (planted bytes w f)
@@ -111,8 +111,8 @@ module _ (bytes : List ℕ) (w : ℕ) (f : Forest bytes w) (i : ℕ) where
       first_tree = sym (
           ap (λ t. element_pointer t i 1) (tree_composite bytes w tag n d p f e)
           ∙ whole_pointer (nth_tree (nth_struct (structs_from part_of 0 n) i).pointers 0)
-          ∙ ap (λ (x : StructTree). nth_tree x.pointers 0) (nth_struct-start part_of n i first_index)
-          ∙ nth_tree-from (tree bytes) (tag + 1 + i * (d + p) + d) p 0 first_pointer
+          ∙ ap (λ (x : StructTree). nth_tree x.pointers 0) (nth_struct_start part_of n i first_index)
+          ∙ nth_tree_from (tree bytes) (tag + 1 + i * (d + p) + d) p 0 first_pointer
           ∙ ap (tree bytes) {x = tag + 1 + i * (d + p) + d + 0} {y = tag + 1 + i * (d + p) + d} (omega arith))
 
       pub first_leaves : (new : List ℕ) → Forest new (tag + 1 + i * (d + p) + d) → Changes (tag + 1 + i * (d + p) + d) bytes new
@@ -126,7 +126,7 @@ module _ (bytes : List ℕ) (w : ℕ) (f : Forest bytes w) (i : ℕ) where
             tree = z.tree
                 ∙ ap (λ y. with_struct_element i y (tree bytes w)) (x.struct ∙ ap (λ q. with_pointer_tree (part_of i) 0 (tree new q)) (sym k))
                 ∙ ap (with_struct_element i (with_pointer_tree (part_of i) 0 (tree new (tag + 1 + i * (d + p) + d)))) (tree_composite bytes w tag n d p f e)
-                ∙ ap (λ y. Composite d p (with_struct (structs_from part_of 0 n) i (with_pointer_tree y 0 (tree new (tag + 1 + i * (d + p) + d))))) (sym (nth_struct-start part_of n i first_index))
+                ∙ ap (λ y. Composite d p (with_struct (structs_from part_of 0 n) i (with_pointer_tree y 0 (tree new (tag + 1 + i * (d + p) + d))))) (sym (nth_struct_start part_of n i first_index))
                 ∙ ap (with_pointer_element i (tree new (tag + 1 + i * (d + p) + d))) (sym (tree_composite bytes w tag n d p f e));
             changes = z.changes;
             place = z.place ∙ sym e;
@@ -147,7 +147,7 @@ module _ (bytes : List ℕ) (w : ℕ) (f : Forest bytes w) (i : ℕ) where
     pub struct_index : (tag n d p : ℕ) → shape_at bytes w ≡ CompositeIn tag n d p → i < n
     struct_index tag n d p e =
         let g : HasStruct (Composite d p (structs_from (λ x. struct_from bytes (tag + 1 + x * (d + p)) d p) 0 n)) i = subst (λ t. HasStruct t i) (tree_composite bytes w tag n d p f e) h in
-        omega (arith, g, struct_count-from (λ x. struct_from bytes (tag + 1 + x * (d + p)) d p) 0 n)
+        omega (arith, g, struct_count_from (λ x. struct_from bytes (tag + 1 + x * (d + p)) d p) 0 n)
 
     pub struct_leaves : (tag n d p : ℕ) (e : shape_at bytes w ≡ CompositeIn tag n d p) (new : List ℕ) → Planted new (StructIn (tag + 1 + i * (d + p)) d p) → PartChanges (StructIn (tag + 1 + i * (d + p)) d p) bytes new
         → Leaves w (with_struct_element i (struct_from new (tag + 1 + i * (d + p)) d p) (tree bytes w)) bytes new

@@ -1,7 +1,7 @@
 -- Elements of lists as they are read.
 use Rattle.std.proofs.Common.{◌≡◌, ℕ, zero, suc, ◌+◌, ◌*◌, ◌/◌, ◌≤◌, refl, sym, ap, ◌∙◌, arith, false, List, [], take}
 use Rattle.std.proofs.lemmas.List.{drop_all, take_all}
-use Rattle.capnp_wire.specs.Facts.Indexed.{nth_struct-past}
+use Rattle.capnp_wire.specs.Facts.Indexed.{nth_struct_past}
 use Rattle.capnp_wire.specs.Locate.{list_words}
 use Rattle.capnp_wire.specs.Place.{bits_from, bytes_at, list_tree}
 use Rattle.capnp_wire.specs.Reading.{element_bit, element_number, element_struct}
@@ -61,4 +61,4 @@ module _ (bytes : List ℕ) (w : ℕ) (f : Forest bytes w) where
     struct_bit i = ap (λ t. element_bit t i) (tree_composite bytes w tag n d p f e)
 
     pub past_bytes : (i : ℕ) → n ≤ i → [] ≡ (element_struct (tree bytes w) i).bytes
-    past_bytes i l = sym (ap (λ t. (element_struct t i).bytes) (tree_composite bytes w tag n d p f e) ∙ ap (λ s. s.bytes) (nth_struct-past (λ i. struct_from bytes (tag + 1 + i * (d + p)) d p) 0 n i l))
+    past_bytes i l = sym (ap (λ t. (element_struct t i).bytes) (tree_composite bytes w tag n d p f e) ∙ ap (λ s. s.bytes) (nth_struct_past (λ i. struct_from bytes (tag + 1 + i * (d + p)) d p) 0 n i l))

@@ -2,17 +2,17 @@
 use Rattle.std.proofs.Common.{◌≡◌, ℕ, zero, suc, ◌+◌, ◌-◌, ◌*◌, ◌/◌, ◌^◌, ◌<◌, ◌≤◌, inl, inr, refl, sym, ap, subst, ◌∙◌, arith, List, [], ◌++◌, length, take, drop, ◌==◌, cond}
 use Rattle.std.proofs.lemmas.List.{append-nil, append_assoc, take-append-drop}
 use Rattle.capnp_wire.specs.Encoding.{bytes_below, bytes_below_all, bytes_of, bytes_of_all, element_row, list_word, own_bytes, packed_bits, pointer_row, pointer_word, struct_word}
-use Rattle.capnp_wire.specs.Facts.Bytes.{AreBytes-part, AreSegments-one}
+use Rattle.capnp_wire.specs.Facts.Bytes.{AreBytes_part, AreSegments_one}
 use Rattle.capnp_wire.specs.Facts.EmptyStructs.{no_sections}
-use Rattle.capnp_wire.specs.Facts.Places.{IsWellFormed-tree_at}
-use Rattle.capnp_wire.specs.Facts.Rows.{struct_count-structs_from, tree_count-trees_from}
+use Rattle.capnp_wire.specs.Facts.Places.{IsWellFormed_tree_at}
+use Rattle.capnp_wire.specs.Facts.Rows.{struct_count_structs_from, tree_count_trees_from}
 use Rattle.capnp_wire.specs.Steps.Filling.{HasRoom, HaveRoom, elements_end, bytes_with, with_encoded_elements, with_pointers, words_from}
 use Rattle.capnp_wire.specs.Locate.{list_words}
 use Rattle.capnp_wire.specs.Place.{bits_from, bytes_at, list_tree, tree_with_level}
 use Rattle.capnp_wire.specs.Tree.{Composite, MoreStructs, MoreTrees, NoStructs, NoTrees, Null, StructTree, Structs, Tree, Trees, empty_struct, struct_count, structs_from, tree_count, trees_from}
 use Rattle.capnp_wire.specs.WellFormed.{AreBytes, AreElements, AreWellFormed, IsWellFormed}
 use Rattle.capnp_wire.specs.Words.{words_of_all}
-use Rattle.capnp_wire.specs.Facts.Indexed.{length-bits_from}
+use Rattle.capnp_wire.specs.Facts.Indexed.{length_bits_from}
 use Rattle.capnp_arena.specs.Steps.Encoded.{HasSize, pointer_to}
 use Rattle.capnp_arena.specs.Forest.{Forest, struct_from, tree}
 use Rattle.capnp_arena.specs.Shape.{CompositeIn, ListIn, NoShape, Points, Shape, StructIn, shape_at, word_count}
@@ -38,14 +38,14 @@ struct_pointer_is gap d p x m n e q = rw (e, q) refl
 
 list_pointer_is : (bytes : List ℕ) (gap a size n : ℕ) → size < 7 → a + list_words size n ≤ word_count bytes → list_word gap size n ≡ pointer_word gap (list_tree (tree bytes) bytes a size n)
 list_pointer_is bytes gap a zero n l h = refl
-list_pointer_is bytes gap a (suc zero) n l h = ap (list_word gap 1) (sym (length-bits_from (bytes_at bytes a (8 * list_words 1 n)) 0 n))
+list_pointer_is bytes gap a (suc zero) n l h = ap (list_word gap 1) (sym (length_bits_from (bytes_at bytes a (8 * list_words 1 n)) 0 n))
 list_pointer_is bytes gap a (suc (suc zero)) n l h = let e : length (bytes_at bytes a n) ≡ n = length_part bytes a n (omega (arith, h)) in ap (list_word gap 2) {x = n} {y = length (bytes_at bytes a n) / 1} (omega (arith, e))
 list_pointer_is bytes gap a (suc (suc (suc zero))) n l h = let e : length (bytes_at bytes a (2 * n)) ≡ 2 * n = length_part bytes a (2 * n) (omega (arith, h)) in ap (list_word gap 3) {x = n} {y = length (bytes_at bytes a (2 * n)) / 2} (omega (arith, e))
 list_pointer_is bytes gap a (suc (suc (suc (suc zero)))) n l h = let e : length (bytes_at bytes a (4 * n)) ≡ 4 * n = length_part bytes a (4 * n) (omega (arith, h)) in ap (list_word gap 4) {x = n} {y = length (bytes_at bytes a (4 * n)) / 4} (omega (arith, e))
 list_pointer_is bytes gap a (suc (suc (suc (suc (suc zero))))) n l h = let e : length (bytes_at bytes a (8 * n)) ≡ 8 * n = length_part bytes a (8 * n) (omega (arith, h)) in ap (list_word gap 5) {x = n} {y = length (bytes_at bytes a (8 * n)) / 8} (omega (arith, e))
 list_pointer_is bytes gap a (suc (suc (suc (suc (suc (suc z)))))) n l h =
     let e : suc (suc (suc (suc (suc (suc z))))) ≡ 6 = omega (arith, l) in
-    ap (λ k. list_word gap k n) e ∙ ap (list_word gap 6) (sym (tree_count-trees_from (tree bytes) a n))
+    ap (λ k. list_word gap k n) e ∙ ap (list_word gap 6) (sym (tree_count_trees_from (tree bytes) a n))
 
 module _ (bytes : List ℕ) (w : ℕ) (f : Forest bytes w) (gap : ℕ) where
   by_shape : (s : Shape) → shape_at bytes w ≡ s → pointer_to gap s ≡ pointer_word gap (tree bytes w)
@@ -53,13 +53,13 @@ module _ (bytes : List ℕ) (w : ℕ) (f : Forest bytes w) (gap : ℕ) where
   by_shape (StructIn a d p) e =
       let l : a + (d + p) ≤ word_count bytes = ends_at bytes w f (StructIn a d p) e in
       let n : length (bytes_at bytes a (8 * d)) ≡ 8 * d = length_part bytes a (8 * d) (omega (arith, l)) in
-      struct_pointer_is gap d p Null (length (bytes_at bytes a (8 * d)) / 8) _ (omega (arith, n)) (tree_count-trees_from (tree bytes) (a + d) p)
+      struct_pointer_is gap d p Null (length (bytes_at bytes a (8 * d)) / 8) _ (omega (arith, n)) (tree_count_trees_from (tree bytes) (a + d) p)
       ∙ sym (ap (pointer_word gap) (tree_struct bytes w a d p f e))
   by_shape (ListIn a size n) e =
       let h : HasSize (ListIn a size n) = subst HasSize e (has_size bytes w (shape_at bytes w) (points bytes w f)) in
       list_pointer_is bytes gap a size n h.0 (ends_at bytes w f (ListIn a size n) e) ∙ sym (ap (pointer_word gap) (tree_list bytes w a size n f e))
   by_shape (CompositeIn tag n d p) e =
-      ap (λ k. list_word gap 7 (k * (d + p))) (sym (struct_count-structs_from (λ i. struct_from bytes (tag + 1 + i * (d + p)) d p) 0 n)) ∙ sym (ap (pointer_word gap) (tree_composite bytes w tag n d p f e))
+      ap (λ k. list_word gap 7 (k * (d + p))) (sym (struct_count_structs_from (λ i. struct_from bytes (tag + 1 + i * (d + p)) d p) 0 n)) ∙ sym (ap (pointer_word gap) (tree_composite bytes w tag n d p f e))
 
 -- the pointer to a tree is that to its shape
 pub pointer_is : (bytes : List ℕ) (w gap : ℕ) → Forest bytes w → pointer_to gap (shape_at bytes w) ≡ pointer_word gap (tree bytes w)
@@ -69,7 +69,7 @@ pointer_is bytes w gap f = by_shape bytes w f gap (shape_at bytes w) refl
 
 pub tree_held : (bytes : List ℕ) (w : ℕ) → AreBytes bytes → IsWellFormed (tree bytes w)
 unfolding tree
-tree_held bytes w h = IsWellFormed-tree_at (word_count bytes) _ bytes w (AreSegments-one bytes h) h
+tree_held bytes w h = IsWellFormed_tree_at (word_count bytes) _ bytes w (AreSegments_one bytes h) h
 
 pub row_held : (bytes : List ℕ) (first n : ℕ) → AreBytes bytes → AreWellFormed (trees_from (tree bytes) first n)
 row_held bytes first zero h = tt
@@ -80,7 +80,7 @@ elements_held bytes start d p i zero h l = tt
 elements_held bytes start d p i (suc n) h l =
     let a : ℕ = start + i * (d + p) in
     let m : start + i * (d + p) + d ≤ word_count bytes = l i (omega arith) (omega arith) in
-    (AreBytes-part (8 * d) (8 * a) bytes h, length_part bytes a (8 * d) (omega (arith, m)), tree_count-trees_from (tree bytes) (a + d) p, row_held bytes (a + d) p h, elements_held bytes start d p (suc i) n h (λ j x y. l j (omega (arith, x)) (omega (arith, y))))
+    (AreBytes_part (8 * d) (8 * a) bytes h, length_part bytes a (8 * d) (omega (arith, m)), tree_count_trees_from (tree bytes) (a + d) p, row_held bytes (a + d) p h, elements_held bytes start d p (suc i) n h (λ j x y. l j (omega (arith, x)) (omega (arith, y))))
 
 -- where they lie
 pub elements_lie : (bytes : List ℕ) (start d p n : ℕ) → start + n * (d + p) ≤ word_count bytes → (j : ℕ) → 0 ≤ j → j < 0 + n → start + j * (d + p) + d ≤ word_count bytes
@@ -137,7 +137,7 @@ module _ (bytes : List ℕ) (w : ℕ) (f : Forest bytes w) where
 pub bits_own : (bytes part : List ℕ) (a n : ℕ) → part ≡ bytes_at bytes a (8 * ((n + 63) / 64)) → packed_bits (8 * list_words 1 n) (bits_from part 0 n) ≡ own_bytes (list_tree (tree bytes) bytes a 1 n)
 bits_own bytes part a n e =
     ap (λ z. packed_bits (8 * list_words 1 n) (bits_from z 0 n)) (e ∙ ap (bytes_at bytes a) {x = 8 * ((n + 63) / 64)} {y = 8 * list_words 1 n} (omega arith))
-    ∙ ap (λ k. packed_bits (8 * list_words 1 k) (bits_from (bytes_at bytes a (8 * list_words 1 n)) 0 n)) (sym (length-bits_from (bytes_at bytes a (8 * list_words 1 n)) 0 n))
+    ∙ ap (λ k. packed_bits (8 * list_words 1 k) (bits_from (bytes_at bytes a (8 * list_words 1 n)) 0 n)) (sym (length_bits_from (bytes_at bytes a (8 * list_words 1 n)) 0 n))
 
 -- ---- room ----
 

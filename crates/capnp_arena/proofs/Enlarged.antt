@@ -3,11 +3,11 @@ use Rattle.std.proofs.Common.{◌≡◌, ℕ, zero, suc, ◌+◌, ◌-◌, ◌*�
 use Rattle.std.proofs.lemmas.List.{append_assoc, append-nil, drop-append-le, drop-drop, drop-replicate, drop_all, length-append, length-drop, length-replicate, length-take-le, replicate-append-replicate, take-append-drop}
 use Rattle.capnp_wire.specs.Edits.{append_trees, extended_struct, nulls}
 use Rattle.capnp_wire.specs.Encoding.{bytes_of, bytes_of_all, pointer_row, pointer_word, spelled_number}
-use Rattle.capnp_wire.specs.Facts.Bytes.{AreBytes-part, length-part-le}
+use Rattle.capnp_wire.specs.Facts.Bytes.{AreBytes_part, length_part_le}
 use Rattle.capnp_wire.specs.Facts.EncodedSizes.{length_pointer_row}
 use Rattle.capnp_wire.specs.Facts.Filling.{length_put, put_after}
-use Rattle.capnp_wire.specs.Facts.Rows.{AreElements-structs_from, tree_count-append_trees, tree_count-nulls, tree_count-trees_from}
-use Rattle.capnp_wire.specs.Facts.Structs.{IsElement-extended}
+use Rattle.capnp_wire.specs.Facts.Rows.{AreElements_structs_from, tree_count_append_trees, tree_count_nulls, tree_count_trees_from}
+use Rattle.capnp_wire.specs.Facts.Structs.{IsElement_extended}
 use Rattle.capnp_wire.specs.Steps.Filling.{HasRoom, HaveRoom, bytes_with, row_end, with_encoded_element, with_pointers, words_from}
 use Rattle.capnp_wire.specs.Place.{struct_tree}
 use Rattle.capnp_wire.specs.Tree.{MoreStructs, MoreTrees, NoTrees, Null, StructTree, Structs, Trees, structs_from, tree_count, trees_from}
@@ -38,7 +38,7 @@ null_words a (suc k) = omega (arith, null_words (suc a) k)
 pub row_more : (g k : ℕ) (ts : Trees) → pointer_row g (append_trees ts (nulls k)) ≡ pointer_row (k + g) ts ++ replicate (8 * k) 0
 row_more g k NoTrees = null_bytes 0 g k
 row_more g k (MoreTrees t ts) =
-    let n : tree_count (append_trees ts (nulls k)) + g ≡ tree_count ts + (k + g) = omega (arith, tree_count-append_trees ts (nulls k), tree_count-nulls k) in
+    let n : tree_count (append_trees ts (nulls k)) + g ≡ tree_count ts + (k + g) = omega (arith, tree_count_append_trees ts (nulls k), tree_count_nulls k) in
     ap (λ m. spelled_number 8 (pointer_word m t) ++ pointer_row (g + words_of t) (append_trees ts (nulls k))) n
     ∙ ap (λ z. spelled_number 8 (pointer_word (tree_count ts + (k + g)) t) ++ z) (row_more (g + words_of t) k ts ∙ ap (λ m. pointer_row m ts ++ replicate (8 * k) 0) {x = k + (g + words_of t)} {y = k + g + words_of t} (omega arith))
     ∙ sym (append_assoc (spelled_number 8 (pointer_word (tree_count ts + (k + g)) t)) (pointer_row (k + g + words_of t) ts) (replicate (8 * k) 0))
@@ -102,7 +102,7 @@ element_grown size at s o o1 o2 o3 hd hp room e1 e2 e3 =
     put_after d full (replicate (8 * size.pointers) 0) x lf
     ∙ ap (λ y. full ++ (x ++ y)) (drop-replicate (length x) (8 * size.pointers) 0 ∙ ap (λ n. replicate {A = ℕ} n 0) {x = 8 * size.pointers - length x} {y = 8 * k} (omega (arith, lx, hp))) in
     let lo : length o2 ≡ length o = ap length two ∙ length_put at (full ++ replicate (8 * size.pointers) 0) o (omega (arith, lw, room)) in
-    let n : tree_count (append_trees s.pointers (nulls k)) ≡ size.pointers = omega (arith, tree_count-append_trees s.pointers (nulls k), tree_count-nulls k, hp) in
+    let n : tree_count (append_trees s.pointers (nulls k)) ≡ size.pointers = omega (arith, tree_count_append_trees s.pointers (nulls k), tree_count_nulls k, hp) in
     let g2 : ℕ = words_from (row_end (at + length full) (append_trees s.pointers (nulls k))) o in
     let gap : g ≡ k + g2 = omega (arith, lo, lf, n, hp, room) in
     e3
@@ -115,15 +115,15 @@ element_grown size at s o o1 o2 o3 hd hp room e1 e2 e3 =
 -- ---- a part of a segment ----
 
 pub part_tree_count : (bytes : List ℕ) (row : PartRow) (i : ℕ) → tree_count (grown_part_at bytes row i).pointers ≡ row.pointers
-part_tree_count bytes row i = tree_count-trees_from (tree bytes) (row.first + i * row.pointer_step) row.pointers
+part_tree_count bytes row i = tree_count_trees_from (tree bytes) (row.first + i * row.pointer_step) row.pointers
 
 pub part_length : (bytes : List ℕ) (row : PartRow) (i : ℕ) → length (grown_part_at bytes row i).bytes ≤ row.data_count
-part_length bytes row i = length-part-le row.data_count (row.first_byte + i * row.data_step) bytes
+part_length bytes row i = length_part_le row.data_count (row.first_byte + i * row.data_step) bytes
 
 -- the format holds it
 pub part_held : (bytes : List ℕ) (row : PartRow) (i : ℕ) → AreBytes bytes → row.data_count ≤ 8 * 65535 → row.pointers < 2 ^ 16 → IsWellFormedStruct (grown_part_at bytes row i)
 part_held bytes row i h d p = (
-  AreBytes-part row.data_count (row.first_byte + i * row.data_step) bytes h,
+  AreBytes_part row.data_count (row.first_byte + i * row.data_step) bytes h,
   omega (arith, part_length bytes row i, d),
   omega (arith, part_tree_count bytes row i, p),
   row_held bytes (row.first + i * row.pointer_step) row.pointers h,
@@ -131,11 +131,11 @@ part_held bytes row i h d p = (
 
 pub part_extended : (bytes : List ℕ) (row : PartRow) (i : ℕ) (size : StructSize) → AreBytes bytes → size.data_words < 2 ^ 16 → size.pointers < 2 ^ 16 → row.data_count ≤ 8 * size.data_words → row.pointers ≤ size.pointers → IsElement size.data_words size.pointers (extended_struct size (grown_part_at bytes row i))
 part_extended bytes row i size h sd sp d p =
-    IsElement-extended size (grown_part_at bytes row i) (part_held bytes row i h (omega (arith, sd, d)) (omega (arith, sp, p))) (omega (arith, part_length bytes row i, d)) (omega (arith, part_tree_count bytes row i, p))
+    IsElement_extended size (grown_part_at bytes row i) (part_held bytes row i h (omega (arith, sd, d)) (omega (arith, sp, p))) (omega (arith, part_length bytes row i, d)) (omega (arith, part_tree_count bytes row i, p))
 
 pub parts_extended : (bytes : List ℕ) (row : PartRow) (count : ℕ) (size : StructSize) → AreBytes bytes → size.data_words < 2 ^ 16 → size.pointers < 2 ^ 16 → row.data_count ≤ 8 * size.data_words → row.pointers ≤ size.pointers
     → AreElements size.data_words size.pointers (structs_from (λ i. extended_struct size (grown_part_at bytes row i)) 0 count)
-parts_extended bytes row count size h sd sp d p = AreElements-structs_from (λ i. extended_struct size (grown_part_at bytes row i)) size.data_words size.pointers 0 count (λ i l. part_extended bytes row i size h sd sp d p)
+parts_extended bytes row count size h sd sp d p = AreElements_structs_from (λ i. extended_struct size (grown_part_at bytes row i)) size.data_words size.pointers 0 count (λ i l. part_extended bytes row i size h sd sp d p)
 
 -- room for the first of a row is room for its pointers
 pub grown_room : (size : StructSize) (at : ℕ) (s : StructTree) (es : Structs) (o : List ℕ) → tree_count s.pointers ≤ size.pointers → AreWellFormed s.pointers → HaveRoom size.data_words size.pointers at (MoreStructs (extended_struct size s).bytes (extended_struct size s).pointers es) o

@@ -6,9 +6,9 @@ use Rattle.capnp_wire.specs.Edits.{append_trees, extended_struct, nulls}
 use Rattle.capnp_wire.specs.Encoding.{bytes_of, pointer_word, struct_word}
 use Rattle.capnp_wire.specs.Facts.EncodedSizes.{length_bytes_of}
 use Rattle.capnp_wire.specs.Facts.PointerWords.{not_equal}
-use Rattle.capnp_wire.specs.Facts.Rows.{tree_count-trees_from}
-use Rattle.capnp_wire.specs.Facts.Structs.{IsElement-extended, IsWellFormed-element}
-use Rattle.capnp_wire.specs.Facts.Bytes.{AreBytes-part, length-part-le}
+use Rattle.capnp_wire.specs.Facts.Rows.{tree_count_trees_from}
+use Rattle.capnp_wire.specs.Facts.Structs.{IsElement_extended, IsWellFormed_element}
+use Rattle.capnp_wire.specs.Facts.Bytes.{AreBytes_part, length_part_le}
 use Rattle.capnp_wire.specs.Place.{struct_tree}
 use Rattle.capnp_wire.specs.Tree.{MoreTrees, NoTrees, Null, StructTree, Trees, tree_count, trees_from}
 use Rattle.capnp_wire.specs.WellFormed.{AreBytes, IsWellFormed, IsWellFormedStruct}
@@ -81,7 +81,7 @@ struct_pointer gap d p m n e q some = rw (e, q, not_equal (d + p) 0 (λ z. omega
 pub struct_encoded : (old new added : List ℕ) (at word d p : ℕ) (s : StructTree) → IsElement d p s → d < 2 ^ 16 → p < 2 ^ 16 → 0 < d + p → first_fault_of_all s.pointers ≡ None → added ≡ bytes_of (struct_tree s)
     → word ≡ struct_word (word_count old - suc at) d p → IsObjectMade old new added at word → IsEncodedStruct old new at (word_count old) d p s
 struct_encoded old new added at word d p s held hd hp some none content w made =
-    let well : IsWellFormed (struct_tree s) = IsWellFormed-element d p s hd hp held in
+    let well : IsWellFormed (struct_tree s) = IsWellFormed_element d p s hd hp held in
     let e : word ≡ pointer_word (word_count old - suc at) (struct_tree s) = w ∙ struct_pointer (word_count old - suc at) d p (length s.bytes / 8) (tree_count s.pointers) (omega (arith, held.1)) held.2 some in
     let m : IsObjectMade old new (bytes_of (struct_tree s)) at (pointer_word (word_count old - suc at) (struct_tree s)) = subst (λ x. IsObjectMade old new x at (pointer_word (word_count old - suc at) (struct_tree s))) content (subst (IsObjectMade old new added at) e made) in
     let t : IsNewTree old new at (struct_tree s) = tree_made old new at (struct_tree s) well none m in
@@ -99,14 +99,14 @@ larger_words size s h = omega (arith, h.1, h.2, words_more (size.pointers - tree
 pub larger_length : (size : StructSize) (s : StructTree) (content : List ℕ) → size.data_words < 2 ^ 16 → size.pointers < 2 ^ 16 → IsElement size.data_words size.pointers (extended_struct size s) → content ≡ bytes_of (struct_tree (extended_struct size s))
     → length content ≡ 8 * (size.data_words + size.pointers + words_of_all s.pointers)
 larger_length size s content hd hp h e =
-    ap length e ∙ length_bytes_of (struct_tree (extended_struct size s)) (IsWellFormed-element size.data_words size.pointers (extended_struct size s) hd hp h) ∙ ap (λ n. 8 * n) (larger_words size s h)
+    ap length e ∙ length_bytes_of (struct_tree (extended_struct size s)) (IsWellFormed_element size.data_words size.pointers (extended_struct size s) hd hp h) ∙ ap (λ n. 8 * n) (larger_words size s h)
 
 pub struct_held : (bytes : List ℕ) (a d p : ℕ) → AreBytes bytes → d < 2 ^ 16 → p < 2 ^ 16 → IsWellFormedStruct (struct_from bytes a d p)
-struct_held bytes a d p h hd hp = (AreBytes-part (8 * d) (8 * a) bytes h, omega (arith, length-part-le (8 * d) (8 * a) bytes, hd), omega (arith, tree_count-trees_from (tree bytes) (a + d) p, hp), row_held bytes (a + d) p h)
+struct_held bytes a d p h hd hp = (AreBytes_part (8 * d) (8 * a) bytes h, omega (arith, length_part_le (8 * d) (8 * a) bytes, hd), omega (arith, tree_count_trees_from (tree bytes) (a + d) p, hp), row_held bytes (a + d) p h)
 
 pub struct_extended : (bytes : List ℕ) (a d p : ℕ) (size : StructSize) → AreBytes bytes → size.data_words < 2 ^ 16 → size.pointers < 2 ^ 16 → d ≤ size.data_words → p ≤ size.pointers → IsElement size.data_words size.pointers (extended_struct size (struct_from bytes a d p))
 struct_extended bytes a d p size h sd sp l m =
-    IsElement-extended size (struct_from bytes a d p) (struct_held bytes a d p h (omega (arith, sd, l)) (omega (arith, sp, m))) (omega (arith, length-part-le (8 * d) (8 * a) bytes, l)) (omega (arith, tree_count-trees_from (tree bytes) (a + d) p, m))
+    IsElement_extended size (struct_from bytes a d p) (struct_held bytes a d p h (omega (arith, sd, l)) (omega (arith, sp, m))) (omega (arith, length_part_le (8 * d) (8 * a) bytes, l)) (omega (arith, tree_count_trees_from (tree bytes) (a + d) p, m))
 
 -- ---- an extension ----
 

@@ -5,7 +5,7 @@ use Rattle.std.proofs.lemmas.List.{ext_get_or, append_assoc, drop-drop}
 use Rattle.capnp_wire.specs.Encoding.{bits_number, packed_bits, padded_bytes, bytes_below_all, bytes_of, bytes_of_all, element_row, own_bytes, pointer_row, pointer_word, spelled_number, struct_word}
 use Rattle.capnp_wire.specs.Facts.EncodedSizes.{length_packed, length_bytes_of, length_bytes_of_all}
 use Rattle.capnp_wire.specs.Facts.PackedBits.{packed_at}
-use Rattle.capnp_wire.specs.Facts.Rows.{struct_count-structs_from, tree_count-trees_from}
+use Rattle.capnp_wire.specs.Facts.Rows.{struct_count_structs_from, tree_count_trees_from}
 use Rattle.capnp_wire.specs.Place.{bytes_at, list_tree}
 use Rattle.capnp_wire.specs.Tree.{Structs, Tree, Trees, struct_count, structs_from, tree_count, trees_from}
 use Rattle.capnp_wire.specs.WellFormed.{AreBytes}
@@ -47,7 +47,7 @@ module _ (bytes : List ℕ) where
   row_more_laid first n end next last b l h r =
       let t : Tree = tree bytes first in
       let ts : Trees = trees_from (tree bytes) (suc first) n in
-      let c : tree_count ts ≡ n = tree_count-trees_from (tree bytes) (suc first) n in
+      let c : tree_count ts ≡ n = tree_count_trees_from (tree bytes) (suc first) n in
       let w : next ≡ end + words_of t = laid_words first end next b h in
       record {
         after = omega (arith, h.after, r.after);
@@ -72,7 +72,7 @@ module _ (bytes : List ℕ) where
       let a : ℕ = start + i * (d + p) in
       let ps : Trees = trees_from (tree bytes) (a + d) p in
       let es : Structs = structs_from (λ j. struct_from bytes (start + j * (d + p)) d p) (suc i) n in
-      let c : struct_count es ≡ n = struct_count-structs_from (λ j. struct_from bytes (start + j * (d + p)) d p) (suc i) n in
+      let c : struct_count es ≡ n = struct_count_structs_from (λ j. struct_from bytes (start + j * (d + p)) d p) (suc i) n in
       let w : next ≡ end + words_of_all ps = row_words (a + d) p end next b h in
       let m : struct_count es * (d + p) ≡ n * (d + p) = ap (λ k. k * (d + p)) c in
       let f : (i + suc n) * (d + p) ≡ i * (d + p) + (d + p) + n * (d + p) = omega arith in
@@ -159,7 +159,7 @@ module _ (bytes : List ℕ) where
     pub composite_laid : (tag n d p next : ℕ) → shape_at bytes w ≡ CompositeIn tag n d p → Points bytes w (CompositeIn tag n d p) → AreLaid bytes (tag + 1) d p 0 n (tag + 1 + n * (d + p)) next → IsLaid bytes w tag next
     composite_laid tag n d p next e h r =
         let es : Structs = structs_from (λ i. struct_from bytes (tag + 1 + i * (d + p)) d p) 0 n in
-        let c : struct_count es ≡ n = struct_count-structs_from (λ i. struct_from bytes (tag + 1 + i * (d + p)) d p) 0 n in
+        let c : struct_count es ≡ n = struct_count_structs_from (λ i. struct_from bytes (tag + 1 + i * (d + p)) d p) 0 n in
         let end : ℕ = tag + 1 + n * (d + p) in
         record {
           after = omega (arith, r.after);

@@ -2,8 +2,8 @@
 use Rattle.std.proofs.Common.{◌≡◌, ℕ, zero, suc, ◌+◌, ◌*◌, ◌<◌, ◌≤◌, refl, sym, ap, subst, ◌∙◌, arith, Bool, cond, false, true, Err, List, Ok, length}
 use Rattle.capnp_device.specs.declared.error.ErrorKind.TheVariants.{WrongElementSize}
 use Rattle.capnp_wire.specs.ElementSizes.{element_size_of}
-use Rattle.capnp_wire.specs.Facts.Indexed.{length-bits_from}
-use Rattle.capnp_wire.specs.Facts.Rows.{nth_struct-start, struct_count-structs_from, tree_count-trees_from}
+use Rattle.capnp_wire.specs.Facts.Indexed.{length_bits_from}
+use Rattle.capnp_wire.specs.Facts.Rows.{nth_struct_start, struct_count_structs_from, tree_count_trees_from}
 use Rattle.capnp_wire.specs.Locate.{list_words}
 use Rattle.capnp_wire.specs.Place.{bytes_at, list_tree}
 use Rattle.capnp_wire.specs.Reading.{as_list, element_struct, list_length, reads_structs}
@@ -30,12 +30,12 @@ plain_read f bytes asked a (suc (suc (suc (suc (suc (suc size)))))) n = refl
 
 plain_length : (f : ℕ → Tree) (bytes : List ℕ) (a size n : ℕ) → a + list_words size n ≤ word_count bytes → list_length (list_tree f bytes a size n) ≡ n
 plain_length f bytes a zero n h = refl
-plain_length f bytes a (suc zero) n h = length-bits_from (bytes_at bytes a (8 * list_words 1 n)) 0 n
+plain_length f bytes a (suc zero) n h = length_bits_from (bytes_at bytes a (8 * list_words 1 n)) 0 n
 plain_length f bytes a (suc (suc zero)) n h = let e : length (bytes_at bytes a n) ≡ n = length_part bytes a n (omega (arith, h)) in omega (arith, e)
 plain_length f bytes a (suc (suc (suc zero))) n h = let e : length (bytes_at bytes a (2 * n)) ≡ 2 * n = length_part bytes a (2 * n) (omega (arith, h)) in omega (arith, e)
 plain_length f bytes a (suc (suc (suc (suc zero)))) n h = let e : length (bytes_at bytes a (4 * n)) ≡ 4 * n = length_part bytes a (4 * n) (omega (arith, h)) in omega (arith, e)
 plain_length f bytes a (suc (suc (suc (suc (suc zero))))) n h = let e : length (bytes_at bytes a (8 * n)) ≡ 8 * n = length_part bytes a (8 * n) (omega (arith, h)) in omega (arith, e)
-plain_length f bytes a (suc (suc (suc (suc (suc (suc size)))))) n h = tree_count-trees_from f a n
+plain_length f bytes a (suc (suc (suc (suc (suc (suc size)))))) n h = tree_count_trees_from f a n
 
 plain_size : (f : ℕ → Tree) (bytes : List ℕ) (a n : ℕ) (size : ElementSize) → (size ≡ InlineComposite → ⊥) → element_size_of (list_tree f bytes a (size_number size) n) ≡ size
 plain_size f bytes a n Void h = refl
@@ -67,10 +67,10 @@ module _ (bytes : List ℕ) (w : ℕ) (f : Forest bytes w) where
         ∙ ap (λ t. cond (reads_structs asked d p) (Ok t) (Err WrongElementSize)) (sym (tree_composite bytes w tag n d p f e))
 
     pub structs_count : list_length (tree bytes w) ≡ n
-    structs_count = ap list_length (tree_composite bytes w tag n d p f e) ∙ struct_count-structs_from (λ i. struct_from bytes (tag + 1 + i * (d + p)) d p) 0 n
+    structs_count = ap list_length (tree_composite bytes w tag n d p f e) ∙ struct_count_structs_from (λ i. struct_from bytes (tag + 1 + i * (d + p)) d p) 0 n
 
     pub struct_is_element : (i : ℕ) → i < n → struct_from bytes (tag + 1 + i * (d + p)) d p ≡ element_struct (tree bytes w) i
-    struct_is_element i l = sym (ap (λ t. element_struct t i) (tree_composite bytes w tag n d p f e) ∙ nth_struct-start (λ i. struct_from bytes (tag + 1 + i * (d + p)) d p) n i l)
+    struct_is_element i l = sym (ap (λ t. element_struct t i) (tree_composite bytes w tag n d p f e) ∙ nth_struct_start (λ i. struct_from bytes (tag + 1 + i * (d + p)) d p) n i l)
 
 cond_false : {A : Type 0} (b : Bool) (x y : A) → b ≡ false → cond b x y ≡ y
 cond_false b x y h = ap (λ z. cond z x y) h

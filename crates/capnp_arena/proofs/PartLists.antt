@@ -3,13 +3,13 @@ use Rattle.std.proofs.Common.{◌≡◌, ℕ, zero, suc, ◌+◌, ◌-◌, ◌*�
 use Rattle.std.proofs.lemmas.List.{drop-drop, drop-take, take-take}
 use Rattle.std.proofs.lemmas.Nat.{mul-le}
 use Rattle.capnp_wire.specs.Edits.{extended_struct}
-use Rattle.capnp_wire.specs.Facts.Indexed.{only_tree-from}
+use Rattle.capnp_wire.specs.Facts.Indexed.{only_tree_from}
 use Rattle.capnp_wire.specs.Locate.{list_words}
 use Rattle.capnp_wire.specs.Place.{bytes_at, list_tree}
 use Rattle.capnp_wire.specs.Reading.{element_struct}
 use Rattle.capnp_wire.specs.Encoding.{bytes_of}
 use Rattle.capnp_wire.specs.Facts.EncodedSizes.{length_bytes_of}
-use Rattle.capnp_wire.specs.Facts.Rows.{struct_count-structs_from}
+use Rattle.capnp_wire.specs.Facts.Rows.{struct_count_structs_from}
 use Rattle.capnp_wire.specs.StructLists.{as_structs, element_pointers, element_words}
 use Rattle.capnp_wire.specs.WellFormed.{AreBytes, IsWellFormed}
 use Rattle.capnp_wire.specs.Tree.{Composite, MoreTrees, NoTrees, StructTree, Tree, structs_from, tree_count, trees_from}
@@ -141,7 +141,7 @@ module _ (bytes : List ℕ) (w : ℕ) (f : Forest bytes w) where
         (omega arith, omega (arith, l, ends), (λ j x y. list_row bytes w f a n e j (omega (arith, x)) (omega (arith, y, l))));
     length = plain_count bytes w f a 6 n e;
     element = λ i l. ap (λ t. element_struct t i) (tree_list bytes w a 6 n f e)
-        ∙ ap (λ ts. record { bytes = []; pointers = ts }) (only_tree-from (tree bytes) a n i l ∙ ap (λ k. trees_from (tree bytes) k 1) {x = a + i} {y = a + i * 1} (omega arith));
+        ∙ ap (λ ts. record { bytes = []; pointers = ts }) (only_tree_from (tree bytes) a n i l ∙ ap (λ k. trees_from (tree bytes) k 1) {x = a + i} {y = a + i * 1} (omega arith));
     below = omega (arith, words_pointers bytes w f a n e, lone_below (tree bytes) (grown_part_at bytes (pointer_parts a)) 0 a n lone);
     whole = lone_whole (tree bytes) (grown_part_at bytes (pointer_parts a)) 0 a n lone ∙ sym (ap first_fault (tree_list bytes w a 6 n f e)) ∙ forest_whole bytes w f;
   }
@@ -195,7 +195,7 @@ module _ (bytes : List ℕ) (w : ℕ) (row : PartRow) (n : ℕ) (size : StructSi
   module _ (h : AreBytes bytes) (hd : size.data_words < 2 ^ 16) (hp : size.pointers < 2 ^ 16) (fd : row.data_count ≤ 8 * size.data_words) (fp : row.pointers ≤ size.pointers) (few : n < 2 ^ 29) (within : n * (size.data_words + size.pointers) < 2 ^ 29) where
     parts_well : IsWellFormed (Composite size.data_words size.pointers (structs_from (λ i. extended_struct size (grown_part_at bytes row i)) 0 n))
     parts_well =
-        let k = struct_count-structs_from (λ i. extended_struct size (grown_part_at bytes row i)) 0 n in
+        let k = struct_count_structs_from (λ i. extended_struct size (grown_part_at bytes row i)) 0 n in
         (hd, hp, omega (arith, k, few), omega (arith, ap (λ m. m * (size.data_words + size.pointers)) k, within), parts_extended bytes row n size h hd hp fd fp)
 
     pub parts_held : IsWellFormed (as_structs size (tree bytes w))
@@ -204,7 +204,7 @@ module _ (bytes : List ℕ) (w : ℕ) (row : PartRow) (n : ℕ) (size : StructSi
     -- the words of it
     pub parts_words : words_of (as_structs size (tree bytes w)) ≡ 1 + n * (size.data_words + size.pointers) + words_below_all (structs_from (grown_part_at bytes row) 0 n)
     parts_words =
-        let k = struct_count-structs_from (λ i. extended_struct size (grown_part_at bytes row i)) 0 n in
+        let k = struct_count_structs_from (λ i. extended_struct size (grown_part_at bytes row i)) 0 n in
         ap words_of (sym parts_as_structs) ∙ omega (arith, ap (λ m. m * (size.data_words + size.pointers)) k, grown_below size (grown_part_at bytes row) 0 n)
 
     pub parts_length : (content : List ℕ) → content ≡ bytes_of (as_structs size (tree bytes w)) → length content ≡ 8 * (1 + n * (size.data_words + size.pointers) + words_below_all (structs_from (grown_part_at bytes row) 0 n))

@@ -5,7 +5,7 @@ use Rattle.capnp_device.specs.declared.error.Error.{Error}
 use Rattle.capnp_device.specs.declared.error.ErrorKind.{ErrorKind}
 use Rattle.capnp_device.specs.declared.error.ErrorKind.TheVariants.{OutOfMemory, WrongPointerKind}
 use Rattle.capnp_wire.specs.Edits.{HasAtLeast, HoldsStruct, IsDueRefusal, append_trees, extended_struct, nulls, struct_in, struct_refusal, zero_struct}
-use Rattle.capnp_wire.specs.Facts.Rows.{tree_count-trees_from}
+use Rattle.capnp_wire.specs.Facts.Rows.{tree_count_trees_from}
 use Rattle.capnp_wire.specs.Place.{list_tree, struct_tree, tree_with_level}
 use Rattle.capnp_wire.specs.Tree.{MoreTrees, NoTrees, Null, Tree, Trees, empty_struct, tree_count}
 use Rattle.capnp_wire.specs.declared.size.StructSize.{StructSize}
@@ -95,7 +95,7 @@ module _ (bytes : List ℕ) (w : ℕ) (f : Forest bytes w) where
     pub struct_holds : (size : StructSize) → HoldsStruct size (tree bytes w) → (size.data_words ≤ d) × (size.pointers ≤ p)
     struct_holds size h =
         let g : HasAtLeast size (struct_from bytes a d p) = subst (HoldsStruct size) (tree_struct bytes w a d p f e) h in
-        (omega (arith, g.0, data_length), omega (arith, g.1, tree_count-trees_from (tree bytes) (a + d) p))
+        (omega (arith, g.0, data_length), omega (arith, g.1, tree_count_trees_from (tree bytes) (a + d) p))
 
     pub struct_in_is : struct_in (tree bytes w) ≡ struct_from bytes a d p
     struct_in_is = ap struct_in (tree_struct bytes w a d p f e)
@@ -106,7 +106,7 @@ module _ (bytes : List ℕ) (w : ℕ) (f : Forest bytes w) where
         tree_struct bytes w a d p f e
         ∙ ap struct_tree (sym (two_parts (extended_struct size (struct_from bytes a d p)) (struct_from bytes a d p)
         (ap (λ n. (struct_from bytes a d p).bytes ++ replicate n 0) {x = 8 * size.data_words - length (struct_from bytes a d p).bytes} {y = 0} (omega (arith, l, data_length)) ∙ append-nil (struct_from bytes a d p).bytes)
-        (ap (λ n. append_trees (struct_from bytes a d p).pointers (nulls n)) {x = size.pointers - tree_count (struct_from bytes a d p).pointers} {y = 0} (omega (arith, m, tree_count-trees_from (tree bytes) (a + d) p)) ∙ no_more (struct_from bytes a d p).pointers))
+        (ap (λ n. append_trees (struct_from bytes a d p).pointers (nulls n)) {x = size.pointers - tree_count (struct_from bytes a d p).pointers} {y = 0} (omega (arith, m, tree_count_trees_from (tree bytes) (a + d) p)) ∙ no_more (struct_from bytes a d p).pointers))
         ∙ ap (extended_struct size) (sym struct_in_is))
       where
         no_more : (ts : Trees) → append_trees ts NoTrees ≡ ts
@@ -115,4 +115,4 @@ module _ (bytes : List ℕ) (w : ℕ) (f : Forest bytes w) where
 
     -- one that grew
     pub struct_grown : (size larger : StructSize) → larger.data_words ≡ max size.data_words d → larger.pointers ≡ max size.pointers p → struct_tree (extended_struct larger (struct_from bytes a d p)) ≡ struct_tree (extended_struct size (struct_in (tree bytes w)))
-    struct_grown size larger q r = ap struct_tree (larger_extended size larger (struct_from bytes a d p) d p data_length (tree_count-trees_from (tree bytes) (a + d) p) q r ∙ ap (extended_struct size) (sym struct_in_is))
+    struct_grown size larger q r = ap struct_tree (larger_extended size larger (struct_from bytes a d p) d p data_length (tree_count_trees_from (tree bytes) (a + d) p) q r ∙ ap (extended_struct size) (sym struct_in_is))

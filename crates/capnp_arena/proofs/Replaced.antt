@@ -6,8 +6,8 @@ use Rattle.capnp_wire.specs.Edits.{IsCopyRefusal, append_trees, first_trees, nul
 use Rattle.capnp_wire.specs.Encoding.{bytes_of_all, pointer_row}
 use Rattle.capnp_wire.specs.Facts.EncodedSizes.{length_bytes_of_all, length_element}
 use Rattle.capnp_wire.specs.Facts.Filling.{length_put, put_next}
-use Rattle.capnp_wire.specs.Facts.Indexed.{nth_tree-from}
-use Rattle.capnp_wire.specs.Facts.Rows.{AreWellFormed-append_trees, AreWellFormed-first_trees, AreWellFormed-nulls, tree_count-append_trees, tree_count-first_trees, tree_count-nulls}
+use Rattle.capnp_wire.specs.Facts.Indexed.{nth_tree_from}
+use Rattle.capnp_wire.specs.Facts.Rows.{AreWellFormed_append_trees, AreWellFormed_first_trees, AreWellFormed_nulls, tree_count_append_trees, tree_count_first_trees, tree_count_nulls}
 use Rattle.capnp_wire.specs.Facts.Stands.{Stands, stands_at, stands_first, stands_right}
 use Rattle.capnp_wire.specs.Steps.Filling.{bytes_with, row_end, with_encoded_element, words_from}
 use Rattle.capnp_wire.specs.Place.{bytes_at}
@@ -18,7 +18,7 @@ use Rattle.capnp_wire.specs.declared.fault.Fault.{Fault}
 use Rattle.capnp_arena.specs.Steps.Copies.{Spares, fitted_row}
 use Rattle.capnp_arena.specs.Forest.{PartChanges, Planted, struct_from, tree}
 use Rattle.capnp_arena.specs.Shape.{StructIn, word_count}
-use Rattle.capnp_arena.proofs.Copying.{first_none, first_refused, spares_append, spares_put, spares_then, trees_after, trees_after-end}
+use Rattle.capnp_arena.proofs.Copying.{first_none, first_refused, spares_append, spares_put, spares_then, trees_after, trees_after_end}
 use Rattle.capnp_arena.proofs.EncodedForests.{AreTreesIn, trees_stand}
 use Rattle.capnp_arena.proofs.NewTrees.{stands_part}
 use Rattle.capnp_arena.proofs.Puts.{added_there, longer_same, put_there}
@@ -28,17 +28,17 @@ use Rattle.capnp_arena.specs.Facts.Words.{run_same}
 -- ---- a row that is cut to so many pointers, or filled up with nulls ----
 
 pub fitted_count : (n : ℕ) (ts : Trees) → tree_count (fitted_row n ts) ≡ n
-fitted_count n ts = omega (arith, tree_count-append_trees (first_trees n ts) (nulls (n - tree_count ts)), tree_count-nulls (n - tree_count ts), tree_count-first_trees n ts)
+fitted_count n ts = omega (arith, tree_count_append_trees (first_trees n ts) (nulls (n - tree_count ts)), tree_count_nulls (n - tree_count ts), tree_count_first_trees n ts)
 
 pub fitted_held : (n : ℕ) (ts : Trees) → AreWellFormed ts → AreWellFormed (fitted_row n ts)
-fitted_held n ts h = AreWellFormed-append_trees (first_trees n ts) (nulls (n - tree_count ts)) (AreWellFormed-first_trees n ts h) (AreWellFormed-nulls (n - tree_count ts))
+fitted_held n ts h = AreWellFormed_append_trees (first_trees n ts) (nulls (n - tree_count ts)) (AreWellFormed_first_trees n ts h) (AreWellFormed_nulls (n - tree_count ts))
 
 fitted_next : (n : ℕ) (t : Tree) (ts : Trees) → fitted_row (suc n) (MoreTrees t ts) ≡ MoreTrees t (fitted_row n ts)
 fitted_next n t ts = ap (λ k. MoreTrees t (append_trees (first_trees n ts) (nulls k))) {x = suc n - suc (tree_count ts)} {y = n - tree_count ts} (omega arith)
 
 pub fitted_nth : (n i : ℕ) (ts : Trees) → i < n → nth_tree (fitted_row n ts) i ≡ nth_tree ts i
 fitted_nth zero i ts h = absurd (omega (arith, h))
-fitted_nth (suc n) i NoTrees h = nth_tree-from (λ _. Null) 0 (suc n - 0) i (omega (arith, h))
+fitted_nth (suc n) i NoTrees h = nth_tree_from (λ _. Null) 0 (suc n - 0) i (omega (arith, h))
 fitted_nth (suc n) zero (MoreTrees t ts) h = refl
 fitted_nth (suc n) (suc i) (MoreTrees t ts) h = ap (λ us. nth_tree us (suc i)) (fitted_next n t ts) ∙ fitted_nth n i ts (omega (arith, h))
 
@@ -64,7 +64,7 @@ fitted_refused n ts e r = first_refused e (first_fault_of_all (fitted_row n ts))
 
 -- where all fit there is no other
 pub fitted_sound : (n : ℕ) (ts : Trees) → tree_count ts ≤ n → first_fault_of_all (fitted_row n ts) ≡ None → first_fault_of_all ts ≡ None
-fitted_sound n ts l h = sym (first_none (first_fault_of_all (fitted_row n ts)) (first_fault_of_all (trees_after n ts)) (first_fault_of_all ts) h (fitted_faults n ts)) ∙ ap first_fault_of_all (trees_after-end n ts l)
+fitted_sound n ts l h = sym (first_none (first_fault_of_all (fitted_row n ts)) (first_fault_of_all (trees_after n ts)) (first_fault_of_all ts) h (fitted_faults n ts)) ∙ ap first_fault_of_all (trees_after_end n ts l)
 
 -- ---- bytes in place of others ----
 

@@ -4,8 +4,8 @@ use Rattle.capnp_wire.specs.Depth.{AreBelow, ElementsAreBelow, IsBelow}
 use Rattle.capnp_wire.specs.Steps.Level.{tree_at_depth}
 use Rattle.capnp_wire.specs.Place.{list_tree, struct_at, struct_tree, tree_below, tree_with_level}
 use Rattle.capnp_wire.specs.Tree.{Composite, Null, Pointers, StructTree, Tree, empty_struct, nth_struct, nth_tree, structs_from, trees_from}
-use Rattle.capnp_wire.specs.Facts.Indexed.{nth_struct-past, nth_struct-start, nth_tree-from, nth_tree-past, tree_count-from}
-use Rattle.capnp_wire.specs.Facts.Rows.{struct_count-structs_from}
+use Rattle.capnp_wire.specs.Facts.Indexed.{nth_struct_past, nth_struct_start, nth_tree_from, nth_tree_past, tree_count_from}
+use Rattle.capnp_wire.specs.Facts.Rows.{struct_count_structs_from}
 use Rattle.capnp_wire.specs.Facts.Levels.{below_step}
 use Rattle.capnp_wire.specs.Facts.PointerWords.{not_below, not_equal}
 use Rattle.capnp_arena.specs.Steps.Encoded.{HasSize}
@@ -72,22 +72,22 @@ deep_struct bytes a d p h l x =
 -- ---- the first levels of a tree that is cut off further down ----
 
 rows_same : (R : Tree → Tree → Type 0) (f g : ℕ → Tree) (a n : ℕ) → R Null Null → ((j : ℕ) → a ≤ j → j < a + n → R (f j) (g j)) → SameRow R (trees_from f a n) (trees_from g a n)
-rows_same R f g a n null h = (tree_count-from g a n ∙ sym (tree_count-from f a n), λ i. each i (below_or_past i n))
+rows_same R f g a n null h = (tree_count_from g a n ∙ sym (tree_count_from f a n), λ i. each i (below_or_past i n))
   where
     each : (i : ℕ) → (i < n) ⊎ (n ≤ i) → R (nth_tree (trees_from f a n) i) (nth_tree (trees_from g a n) i)
-    each i (inl l) = subst (λ t. R t (nth_tree (trees_from g a n) i)) (sym (nth_tree-from f a n i l)) (subst (R (f (a + i))) (sym (nth_tree-from g a n i l)) (h (a + i) (omega arith) (omega (arith, l))))
-    each i (inr p) = subst (λ t. R t (nth_tree (trees_from g a n) i)) (sym (nth_tree-past f a n i p)) (subst (R Null) (sym (nth_tree-past g a n i p)) null)
+    each i (inl l) = subst (λ t. R t (nth_tree (trees_from g a n) i)) (sym (nth_tree_from f a n i l)) (subst (R (f (a + i))) (sym (nth_tree_from g a n i l)) (h (a + i) (omega arith) (omega (arith, l))))
+    each i (inr p) = subst (λ t. R t (nth_tree (trees_from g a n) i)) (sym (nth_tree_past f a n i p)) (subst (R Null) (sym (nth_tree_past g a n i p)) null)
 
 null_same : (n : ℕ) → SameTo n Null Null
 null_same zero = tt
 null_same (suc n) = refl
 
 elements_same : (R : Tree → Tree → Type 0) (f g : ℕ → StructTree) (n : ℕ) → R Null Null → ((i : ℕ) → i < n → SameParts R (f i) (g i)) → SameElements R (structs_from f 0 n) (structs_from g 0 n)
-elements_same R f g n null h = (struct_count-structs_from g 0 n ∙ sym (struct_count-structs_from f 0 n), λ i. each i (below_or_past i n))
+elements_same R f g n null h = (struct_count_structs_from g 0 n ∙ sym (struct_count_structs_from f 0 n), λ i. each i (below_or_past i n))
   where
     each : (i : ℕ) → (i < n) ⊎ (n ≤ i) → SameParts R (nth_struct (structs_from f 0 n) i) (nth_struct (structs_from g 0 n) i)
-    each i (inl l) = subst (λ t. SameParts R t (nth_struct (structs_from g 0 n) i)) (sym (nth_struct-start f n i l)) (subst (SameParts R (f i)) (sym (nth_struct-start g n i l)) (h i l))
-    each i (inr p) = subst (λ t. SameParts R t (nth_struct (structs_from g 0 n) i)) (sym (nth_struct-past f 0 n i p)) (subst (SameParts R empty_struct) (sym (nth_struct-past g 0 n i p)) (refl, (refl, λ j. null)))
+    each i (inl l) = subst (λ t. SameParts R t (nth_struct (structs_from g 0 n) i)) (sym (nth_struct_start f n i l)) (subst (SameParts R (f i)) (sym (nth_struct_start g n i l)) (h i l))
+    each i (inr p) = subst (λ t. SameParts R t (nth_struct (structs_from g 0 n) i)) (sym (nth_struct_past f 0 n i p)) (subst (SameParts R empty_struct) (sym (nth_struct_past g 0 n i p)) (refl, (refl, λ j. null)))
 
 module _ (bytes : List ℕ) (l n : ℕ) (two : 2 ≤ l) where
   list_alike : (f g : List ℕ → ℕ → Tree) (a size k : ℕ) → size < 7 → ((j : ℕ) → size ≡ 6 → a ≤ j → j < a + k → SameTo n (f bytes j) (tree bytes j)) → SameTo (suc n) (tree_at_depth l f g (shape_target bytes (ListIn a size k))) (list_tree (tree bytes) bytes a size k)

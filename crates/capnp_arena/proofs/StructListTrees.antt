@@ -4,7 +4,7 @@ use Rattle.std.proofs.Math.Nat.{max-eq_right}
 use Rattle.std.proofs.lemmas.List.{append-nil}
 use Rattle.capnp_device.specs.declared.error.ErrorKind.TheVariants.{SizePastFormat, WrongElementSize, WrongPointerKind}
 use Rattle.capnp_wire.specs.Edits.{append_trees, extended_struct, nulls}
-use Rattle.capnp_wire.specs.Facts.Rows.{tree_count-trees_from}
+use Rattle.capnp_wire.specs.Facts.Rows.{tree_count_trees_from}
 use Rattle.capnp_wire.specs.Place.{list_tree}
 use Rattle.capnp_wire.specs.Reading.{element_struct, empty_list, is_null_tree, list_length}
 use Rattle.capnp_wire.specs.Elements.{or_empty}
@@ -142,7 +142,7 @@ module _ (bytes : List ℕ) (w : ℕ) (f : Forest bytes w) (tag n d p : ℕ) (e 
       let k : i * (d + p) + (d + p) ≤ n * (d + p) = element_end i n (d + p) l in
       let ends : tag + 1 + n * (d + p) ≤ word_count bytes = ends_at bytes w f (CompositeIn tag n d p) e in
       let long : length (struct_from bytes (tag + 1 + i * (d + p)) d p).bytes ≡ 8 * d = length_part bytes (tag + 1 + i * (d + p)) (8 * d) (omega (arith, k, ends)) in
-      sym (extended_same own (struct_from bytes (tag + 1 + i * (d + p)) d p) (omega (arith, long)) (omega (arith, tree_count-trees_from (tree bytes) (tag + 1 + i * (d + p) + d) p)))
+      sym (extended_same own (struct_from bytes (tag + 1 + i * (d + p)) d p) (omega (arith, long)) (omega (arith, tree_count_trees_from (tree bytes) (tag + 1 + i * (d + p) + d) p)))
       ∙ ap (extended_struct own) (struct_is_element bytes w f tag n d p e i l)
 
   pub structs_stay : (s : StructSize) → s.data_words ≤ d → s.pointers ≤ p → tree bytes w ≡ struct_list s (tree bytes w)

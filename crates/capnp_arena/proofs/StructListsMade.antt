@@ -4,7 +4,7 @@ use Rattle.std.proofs.lemmas.List.{append_assoc, take_at}
 use Rattle.capnp_wire.specs.Encoding.{bytes_below, bytes_of, element_row, list_word, pointer_word, spelled_number, struct_word}
 use Rattle.capnp_wire.specs.Facts.Bytes.{length_spelled}
 use Rattle.capnp_wire.specs.Facts.EncodedSizes.{length_bytes_of}
-use Rattle.capnp_wire.specs.Facts.Rows.{struct_count-structs_from}
+use Rattle.capnp_wire.specs.Facts.Rows.{struct_count_structs_from}
 use Rattle.capnp_wire.specs.Place.{bytes_at}
 use Rattle.capnp_wire.specs.Reading.{list_length}
 use Rattle.capnp_wire.specs.StructLists.{as_structs}
@@ -60,4 +60,4 @@ structs_made old new content at end words word count row size l well is q whole 
     w ∙ ap (λ n. list_word n 7 (count * (size.data_words + size.pointers))) {x = end - at - 1} {y = word_count old - suc at} (omega (arith, q)) in
     subst (λ n. IsNewStructs old new at n count size.data_words size.pointers (as_structs size (tree old at))) (sym q)
     (structs_encoded old new (filled_up words content) at word count size.data_words size.pointers _ well (parts_whole old at row count size l)
-    (struct_count-structs_from _ 0 (list_length (tree old at)) ∙ l.length) (filled_whole words content whole ∙ is) gap made)
+    (struct_count_structs_from _ 0 (list_length (tree old at)) ∙ l.length) (filled_whole words content whole ∙ is) gap made)

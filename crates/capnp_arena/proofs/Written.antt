@@ -2,7 +2,7 @@
 use Rattle.std.proofs.Common.{◌≡◌, ℕ, suc, ◌+◌, ◌*◌, ◌<◌, ◌≤◌, ◌⊎◌, inl, inr, ap, ◌∙◌, arith, List, length, drop}
 use Rattle.std.proofs.lemmas.List.{length-drop, length-take-le}
 use Rattle.capnp_wire.specs.Edits.{with_bytes, with_number}
-use Rattle.capnp_wire.specs.Facts.Bytes.{length-with_number}
+use Rattle.capnp_wire.specs.Facts.Bytes.{length_with_number}
 use Rattle.capnp_wire.specs.Steps.Filling.{bytes_with}
 use Rattle.capnp_wire.specs.Place.{bytes_at}
 use Rattle.capnp_arena.specs.Shape.{IsPointerOf, IsTagOf, IsWordWithin, StructIn, word_count}
@@ -50,4 +50,4 @@ pub number_written : (old new : List ℕ) (a d p width offset n : ℕ) → lengt
     → new ≡ bytes_with (8 * a) (with_number width offset n (bytes_at old a (8 * d))) old → IsWritten old new a d p (with_number width offset n (bytes_at old a (8 * d)))
 number_written old new a d p width offset n whole f h same is =
     let l : length (bytes_at old a (8 * d)) ≡ 8 * d = length_part old a (8 * d) (omega (arith, f.ends, whole)) in
-    data_written old new a d p (with_number width offset n (bytes_at old a (8 * d))) whole f (length-with_number width offset n (bytes_at old a (8 * d)) (omega (arith, l, h)) ∙ l) same is
+    data_written old new a d p (with_number width offset n (bytes_at old a (8 * d))) whole f (length_with_number width offset n (bytes_at old a (8 * d)) (omega (arith, l, h)) ∙ l) same is

@@ -2,8 +2,8 @@
 use Rattle.std.proofs.Common.{◌≡◌, ℕ, zero, suc, ◌+◌, ◌*◌, ◌<◌, ◌≤◌, refl, ap, subst, sym, ◌∙◌, arith, Bool, List, length}
 use Rattle.capnp_wire.specs.Edits.{with_bit, with_bytes, with_number}
 use Rattle.capnp_wire.specs.Elements.{HasBit, HasNumber, HasStruct, with_bit_element, with_number_element, with_struct, with_struct_element}
-use Rattle.capnp_wire.specs.Facts.Bytes.{length-part-le, length-with_bit, length-with_number}
-use Rattle.capnp_wire.specs.Facts.Indexed.{length-bits_from}
+use Rattle.capnp_wire.specs.Facts.Bytes.{length_part_le, length_with_bit, length_with_number}
+use Rattle.capnp_wire.specs.Facts.Indexed.{length_bits_from}
 use Rattle.capnp_wire.specs.Steps.Filling.{bytes_with}
 use Rattle.capnp_wire.specs.Locate.{list_words}
 use Rattle.capnp_wire.specs.Place.{bits_from, bytes_at, list_tree}
@@ -40,7 +40,7 @@ module _ (old new : List ℕ) (at start n width i v : ℕ) (whole : length old �
       let long : length (bytes_at old start m) ≡ m = length_part old start m (omega (arith, ends, few, whole)) in
       let t : tree old at ≡ Numbers own (bytes_at old start m) = tree_list old at start size n f e ∙ level old in
       let inside : (i + 1) * width ≤ length (bytes_at old start m) = subst (λ x. HasNumber width x i) t h in
-      let xl : length (with_number width i v (bytes_at old start m)) ≡ m = length-with_number width i v (bytes_at old start m) inside ∙ long in
+      let xl : length (with_number width i v (bytes_at old start m)) ≡ m = length_with_number width i v (bytes_at old start m) inside ∙ long in
       let w : IsListWritten old new at start size n = list_written old new at start size n (with_number width i v (bytes_at old start m)) whole f e plain (omega (arith, xl, few)) same is in
       record {
         forest = w.forest;
@@ -67,10 +67,10 @@ module _ (old : List ℕ) (at start n width i : ℕ) (f : Forest old at) where
   pub number_inside : (size : ElementSize) → shape_at old at ≡ ListIn start (size_number size) n → HasNumber width (tree old at) i → (i + 1) * width ≤ width_of size * n
   number_inside Void e h = absurd (subst (λ x. HasNumber width x i) (tree_list old at start 0 n f e) h)
   number_inside Bit e h = absurd (subst (λ x. HasNumber width x i) (tree_list old at start 1 n f e) h)
-  number_inside Byte e h = let q : (i + 1) * width ≤ length (bytes_at old start n) = subst (λ x. HasNumber width x i) (tree_list old at start 2 n f e) h in omega (arith, q, length-part-le n (8 * start) old)
-  number_inside TwoBytes e h = let q : (i + 1) * width ≤ length (bytes_at old start (2 * n)) = subst (λ x. HasNumber width x i) (tree_list old at start 3 n f e) h in omega (arith, q, length-part-le (2 * n) (8 * start) old)
-  number_inside FourBytes e h = let q : (i + 1) * width ≤ length (bytes_at old start (4 * n)) = subst (λ x. HasNumber width x i) (tree_list old at start 4 n f e) h in omega (arith, q, length-part-le (4 * n) (8 * start) old)
-  number_inside EightBytes e h = let q : (i + 1) * width ≤ length (bytes_at old start (8 * n)) = subst (λ x. HasNumber width x i) (tree_list old at start 5 n f e) h in omega (arith, q, length-part-le (8 * n) (8 * start) old)
+  number_inside Byte e h = let q : (i + 1) * width ≤ length (bytes_at old start n) = subst (λ x. HasNumber width x i) (tree_list old at start 2 n f e) h in omega (arith, q, length_part_le n (8 * start) old)
+  number_inside TwoBytes e h = let q : (i + 1) * width ≤ length (bytes_at old start (2 * n)) = subst (λ x. HasNumber width x i) (tree_list old at start 3 n f e) h in omega (arith, q, length_part_le (2 * n) (8 * start) old)
+  number_inside FourBytes e h = let q : (i + 1) * width ≤ length (bytes_at old start (4 * n)) = subst (λ x. HasNumber width x i) (tree_list old at start 4 n f e) h in omega (arith, q, length_part_le (4 * n) (8 * start) old)
+  number_inside EightBytes e h = let q : (i + 1) * width ≤ length (bytes_at old start (8 * n)) = subst (λ x. HasNumber width x i) (tree_list old at start 5 n f e) h in omega (arith, q, length_part_le (8 * n) (8 * start) old)
   number_inside Pointer e h = absurd (subst (λ x. HasNumber width x i) (tree_list old at start 6 n f e) h)
   number_inside InlineComposite e h = let p : Points old at (ListIn start 7 n) = subst (Points old at) e (points old at f) in absurd (omega (arith, p.2))
 
@@ -95,7 +95,7 @@ module _ (bytes : List ℕ) (w : ℕ) (f : Forest bytes w) (width i : ℕ) (h : 
 
     pub number_fits : (q : Place) → Planted bytes (StructIn q.start q.data_words q.pointers) → struct_from bytes q.start q.data_words q.pointers ≡ element_struct (tree bytes w) i → width ≤ 8 * q.data_words
     number_fits q g k =
-        let l : length (struct_from bytes q.start q.data_words q.pointers).bytes ≤ 8 * q.data_words = length-part-le (8 * q.data_words) (8 * q.start) bytes in
+        let l : length (struct_from bytes q.start q.data_words q.pointers).bytes ≤ 8 * q.data_words = length_part_le (8 * q.data_words) (8 * q.start) bytes in
         let m : element_struct (tree bytes w) i ≡ nth_struct (structs_from part_of 0 n) i = ap (λ t. element_struct t i) (tree_composite bytes w tag n d p f e) in
         omega (arith, held.1, l, ap (λ (x : StructTree). length x.bytes) (k ∙ m))
 
@@ -129,7 +129,7 @@ module _ (old : List ℕ) (at i : ℕ) (f : Forest old at) (h : HasBit (tree old
 module _ (old new : List ℕ) (at i : ℕ) (bit : Bool) (whole : length old ≡ 8 * word_count old) (f : Forest old at) (h : HasBit (tree old at) i) where
   plain_bit : (g : ℕ → Tree) (bytes : List ℕ) (a size n : ℕ) → HasBit (list_tree g bytes a size n) i → (size ≡ 1) × (i < n)
   plain_bit g bytes a zero n l = absurd l
-  plain_bit g bytes a (suc zero) n l = (refl, omega (arith, l, length-bits_from (bytes_at bytes a (8 * list_words 1 n)) 0 n))
+  plain_bit g bytes a (suc zero) n l = (refl, omega (arith, l, length_bits_from (bytes_at bytes a (8 * list_words 1 n)) 0 n))
   plain_bit g bytes a (suc (suc zero)) n l = absurd l
   plain_bit g bytes a (suc (suc (suc zero))) n l = absurd l
   plain_bit g bytes a (suc (suc (suc (suc zero)))) n l = absurd l
@@ -153,7 +153,7 @@ module _ (old new : List ℕ) (at i : ℕ) (bit : Bool) (whole : length old ≡ 
     bit_leaves same is =
         let x : List ℕ = with_bit i bit (bytes_at old start m) in
         let long : length (bytes_at old start m) ≡ m = length_part old start m bit_ends in
-        let xl : length (with_bit i bit (bytes_at old start m)) ≡ m = length-with_bit i bit (bytes_at old start m) ∙ long in
+        let xl : length (with_bit i bit (bytes_at old start m)) ≡ m = length_with_bit i bit (bytes_at old start m) ∙ long in
         let w : IsListWritten old new at start 1 n = list_written old new at start 1 n (with_bit i bit (bytes_at old start m)) whole f one (λ z. omega (arith, z)) (omega (arith, xl, q)) same is in
         let t : tree old at ≡ Bits (bits_from (bytes_at old start m) 0 n) = tree_list old at start 1 n f one ∙ ap (λ k. Bits (bits_from (bytes_at old start k) 0 n)) (sym q) in
         record {

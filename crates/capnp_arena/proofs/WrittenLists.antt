@@ -3,7 +3,7 @@ use Rattle.std.proofs.Common.{◌≡◌, ℕ, suc, ◌+◌, ◌*◌, ◌<◌, �
 use Rattle.std.proofs.lemmas.Nat.{mul-le}
 use Rattle.capnp_wire.specs.Edits.{with_bit, with_number}
 use Rattle.capnp_wire.specs.Elements.{with_number_element}
-use Rattle.capnp_wire.specs.Facts.Bytes.{length-with_bit, length-with_number}
+use Rattle.capnp_wire.specs.Facts.Bytes.{length_with_bit, length_with_number}
 use Rattle.capnp_wire.specs.Steps.Filling.{bytes_with}
 use Rattle.capnp_wire.specs.Locate.{list_words}
 use Rattle.capnp_wire.specs.Place.{bytes_at, list_tree}
@@ -63,7 +63,7 @@ module _ (old new : List ℕ) (at start n i v : ℕ) (whole : length old ≡ 8 *
       let ends : start + list_words (size_number size) n ≤ word_count old = (subst (Planted old) e (planted old at f)).ends in
       let long : length (bytes_at old start m) ≡ m = length_part old start m (omega (arith, ends, few, whole)) in
       let k : (i + 1) * width ≤ n * width = mul-le (i + 1) width n width (omega (arith, l)) (omega arith) in
-      let xl : length (with_number width i v (bytes_at old start m)) ≡ m = length-with_number width i v (bytes_at old start m) (omega (arith, long, k, q)) ∙ long in
+      let xl : length (with_number width i v (bytes_at old start m)) ≡ m = length_with_number width i v (bytes_at old start m) (omega (arith, long, k, q)) ∙ long in
       let w : IsListWritten old new at start (size_number size) n = list_written old new at start (size_number size) n (with_number width i v (bytes_at old start m)) whole f e plain (omega (arith, xl, few)) same is in
       record {
         forest = w.forest;
@@ -92,4 +92,4 @@ pub bit_written : (old new : List ℕ) (a d p i : ℕ) (bit : Bool) → length o
     → new ≡ bytes_with (8 * a) (with_bit i bit (bytes_at old a (8 * d))) old → IsWritten old new a d p (with_bit i bit (bytes_at old a (8 * d)))
 bit_written old new a d p i bit whole f same is =
     let l : length (bytes_at old a (8 * d)) ≡ 8 * d = length_part old a (8 * d) (omega (arith, f.ends, whole)) in
-    data_written old new a d p (with_bit i bit (bytes_at old a (8 * d))) whole f (length-with_bit i bit (bytes_at old a (8 * d)) ∙ l) same is
+    data_written old new a d p (with_bit i bit (bytes_at old a (8 * d))) whole f (length_with_bit i bit (bytes_at old a (8 * d)) ∙ l) same is

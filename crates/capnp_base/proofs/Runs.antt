@@ -8,12 +8,12 @@ use Rattle.std.proofs.Math.Seq.{drop-append_seam}
 use Rattle.capnp_base.specs.Taking.{TakesFirst, TakesNth, taken_none, taken_first, taken_last, GivesInOrder, GivesAll, GivesEachOnce}
 
 -- one more pair at the end
-AllZip-push : {A B : Type 0} (R : A → B → Type 0) (xs : List A) (ys : List B) (x : A) (y : B)
+AllZip_push : {A B : Type 0} (R : A → B → Type 0) (xs : List A) (ys : List B) (x : A) (y : B)
     → AllZip R xs ys → R x y → AllZip R (xs ++ x ∷ []) (ys ++ y ∷ [])
-AllZip-push R [] [] x y h r = (r, tt)
-AllZip-push R [] (b ∷ ys) x y h r = absurd h
-AllZip-push R (a ∷ xs) [] x y h r = absurd h
-AllZip-push R (a ∷ xs) (b ∷ ys) x y h r = (h.0, AllZip-push R xs ys x y h.1 r)
+AllZip_push R [] [] x y h r = (r, tt)
+AllZip_push R [] (b ∷ ys) x y h r = absurd h
+AllZip_push R (a ∷ xs) [] x y h r = absurd h
+AllZip_push R (a ∷ xs) (b ∷ ys) x y h r = (h.0, AllZip_push R xs ys x y h.1 r)
 
 module _ {S A L : Type 0} (source : S → L) (to_come : S → List ℕ) (answers : L → ℕ → A → Type 0) where
   pub gives_in_order : (s : S) → GivesInOrder source to_come answers s
@@ -45,7 +45,7 @@ module _ {S A L : Type 0} (source : S → L) (to_come : S → List ℕ) (answers
         b.1 ++ h.0 ∷ [],
         h.1 ∙ ap (λ l. l ++ h.0 ∷ []) b.2 ∙ append_assoc (b.0 ++ to_come t') b.1 (h.0 ∷ []),
         subst P h.3 b.3,
-        AllZip-push (answers (source s')) b.1 ys' h.0 y (subst Q h.3 b.4) h.2,
+        AllZip_push (answers (source s')) b.1 ys' h.0 y (subst Q h.3 b.4) h.2,
         b.5 ∙ h.3,
       )
 

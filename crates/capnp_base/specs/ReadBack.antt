@@ -19,8 +19,8 @@ front_is_kept [] = refl
 front_is_kept (b ∷ bs) = ap (λ t. b ∷ t) (front_is_kept bs)
 
 -- a text's bytes and the zero that ends it are read as the text
-pub as_text-text_tree : (bytes : List ℕ) → as_text (text_tree bytes) ≡ Ok bytes
-as_text-text_tree bytes =
+pub as_text_text_tree : (bytes : List ℕ) → as_text (text_tree bytes) ≡ Ok bytes
+as_text_text_tree bytes =
     let count : length (bytes ++ 0 ∷ []) - 1 ≡ length bytes = omega (arith, length-append bytes (0 ∷ [])) in
     rw count (rw (last_is_zero bytes) (rw (front_is_kept bytes) refl))
 
@@ -29,7 +29,7 @@ text_was_read bytes (Ok y) h = cc
 text_was_read bytes (Err e) h = absurd cc
 
 pub text_read_back : (x : Text) (levels : ℕ) (r : Result Text Error) → text_read r ≡ as_text (text_tree x.0.now) → IsOkAnd r (λ y. y.0.now ≡ x.0.now)
-text_read_back x levels r h = text_was_read x.0.now r (h ∙ as_text-text_tree x.0.now)
+text_read_back x levels r h = text_was_read x.0.now r (h ∙ as_text_text_tree x.0.now)
 
 pub data_read_back : (x : Bor (List ℕ)) (levels : ℕ) (r : Result (Bor (List ℕ)) Error) → bytes_read r ≡ as_data (Numbers 1 x.now) → IsOkAnd r (λ y. y.now ≡ x.now)
 data_read_back x levels (Ok y) h = cc

@@ -2,7 +2,7 @@
 use Rattle.std.proofs.Common.{◌≡◌, ℕ, ◌<◌, None, Some, subst, sym, arith}
 use Rattle.capnp_wire.specs.Edits.{HasAtLeast}
 use Rattle.capnp_wire.specs.Elements.{with_struct_element}
-use Rattle.capnp_wire.specs.Facts.Lengths.{HasAtLeast-element_struct, HoldsStructs-with_struct_element}
+use Rattle.capnp_wire.specs.Facts.Lengths.{HasAtLeast_element_struct, HoldsStructs_with_struct_element}
 use Rattle.capnp_wire.specs.Reading.{element_struct, list_length}
 use Rattle.capnp_wire.specs.StructLists.{HoldsStructs, struct_list, struct_list_refusal}
 use Rattle.capnp_wire.specs.Tree.{Tree, Null, Struct, Voids, Bits, Numbers, Pointers, Composite, FaultLeaf, StructTree}
@@ -12,11 +12,11 @@ use Rattle.capnp_wire.specs.declared.size.StructSize.{StructSize}
 
 -- an item has at least the size
 pub item_fits : (size : StructSize) (t : Tree) (i : ℕ) (s : StructTree) → HoldsStructs size t → IsWellFormed t → i < list_length t → s ≡ element_struct t i → HasAtLeast size s
-item_fits size t i s h f a e = subst (HasAtLeast size) (sym e) (HasAtLeast-element_struct size t i h f a)
+item_fits size t i s h f a e = subst (HasAtLeast size) (sym e) (HasAtLeast_element_struct size t i h f a)
 
 -- a list in which one is written holds items still
 pub items_stay : (size : StructSize) (i : ℕ) (s : StructTree) (t new : Tree) → HoldsStructs size t → new ≡ with_struct_element i s t → HoldsStructs size new
-items_stay size i s t new h e = subst (HoldsStructs size) (sym e) (HoldsStructs-with_struct_element size i s t h)
+items_stay size i s t new h e = subst (HoldsStructs size) (sym e) (HoldsStructs_with_struct_element size i s t h)
 
 -- what has become a list of structs holds items
 some_none : {A : Type 0} {a : A} → Some a ≡ None → ⊥

@@ -1,7 +1,7 @@
 -- A struct that is started has its schema's sections, and a run keeps them.
 use Rattle.std.proofs.Common.{ℕ, ◌*◌, ◌≤◌, ◌≡◌, ap, subst, sym, ◌∙◌}
 use Rattle.capnp_wire.specs.Edits.{HasAtLeast, zero_struct}
-use Rattle.capnp_wire.specs.Facts.Lengths.{HasAtLeast-zero_struct}
+use Rattle.capnp_wire.specs.Facts.Lengths.{HasAtLeast_zero_struct}
 use Rattle.capnp_wire.specs.Place.{struct_tree}
 use Rattle.capnp_wire.specs.declared.size.StructSize.{StructSize}
 use Rattle.capnp_arena.specs.Facts.Laws.{struct_is, struct_planted}
@@ -34,4 +34,4 @@ module _ (a : Arena) (p : Place) (forest : Forest (segment a) 0) (there : shape_
 
   pub started_fits : (set : Schemas) (b : ℕ) (size : StructSize) → size ≡ brand_size set b → tree (segment a) 0 ≡ struct_tree (zero_struct size) → Fits set b (built_at a p)
   started_fits set b size is made =
-      subst (HasAtLeast (brand_size set b)) (sym (struct_is (segment a) 0 p.start p.data_words p.pointers (zero_struct size) forest there made ∙ ap zero_struct is)) (HasAtLeast-zero_struct (brand_size set b))
+      subst (HasAtLeast (brand_size set b)) (sym (struct_is (segment a) 0 p.start p.data_words p.pointers (zero_struct size) forest there made ∙ ap zero_struct is)) (HasAtLeast_zero_struct (brand_size set b))

@@ -13,11 +13,11 @@ use Rattle.capnp_schema.specs.FieldLists.{index_of, typed_of}
 use Rattle.capnp_schema.specs.Schema.{FieldKind, Group, Schemas, Slot, default_of, kind_default, Value as SchemaValue}
 use Rattle.capnp_schema.specs.Types.{SchemaType, StructType, is_pointer}
 use Rattle.capnp_schema.specs.declared.schema.fields.Field.{Field}
-use Rattle.capnp_records.specs.Facts.Refusals.{struct-refused}
+use Rattle.capnp_records.specs.Facts.Refusals.{struct_refused}
 use Rattle.capnp_records.specs.Call.{Refused}
-use Rattle.capnp_records.specs.Facts.Frame.{first-of}
-use Rattle.capnp_records.specs.Facts.PartRead.{CanEnter, can-enter, slot-part}
-use Rattle.capnp_records.specs.Facts.Pointers.{values_of-nth}
+use Rattle.capnp_records.specs.Facts.Frame.{chosen_first}
+use Rattle.capnp_records.specs.Facts.PartRead.{CanEnter, can_enter, slot_part}
+use Rattle.capnp_records.specs.Facts.Pointers.{values_of_nth}
 use Rattle.capnp_records.specs.Part.{is_inactive}
 use Rattle.capnp_records.specs.Reading.{Reading, kind_value, reads, record_within, value_of, values_of}
 use Rattle.capnp_records.specs.Record.{Endless, Record, Value}
@@ -91,13 +91,13 @@ pointed f s slot pointer walks = go (typed_of f).field.kind refl
     t = (typed_of f).type
 
     enter : CanEnter set s (field_brand f) (index_of f)
-    enter = can-enter set s (field_brand f) (index_of f) f.inside (walked_active f s walks)
+    enter = can_enter set s (field_brand f) (index_of f) f.inside (walked_active f s walks)
 
     go : (k : FieldKind) → (typed_of f).field.kind ≡ k → part_in f s ≡ value_of set (nth_tree s.pointers (offset_of k)) Endless t
     go (Slot offset d) e =
-        enter.part ∙ (slot-part set Endless s (typed_of f) offset d e
-        ∙ (first-of (is_pointer t) _ _ pointer
-        ∙ ap (λ (r : Reading). r Endless t) (values_of-nth set s.pointers offset)))
+        enter.part ∙ (slot_part set Endless s (typed_of f) offset d e
+        ∙ (chosen_first (is_pointer t) _ _ pointer
+        ∙ ap (λ (r : Reading). r Endless t) (values_of_nth set s.pointers offset)))
     go (Group node) e = absurd (true≢false (sym (ap is_group_field e) ∙ slot))
 
 -- a slot at which a step rests
@@ -150,7 +150,7 @@ module _ (f : Field) (s : StructTree) (b g : ℕ) (slot : IsSlot f) (pointer : I
   unreadable : (kind : ErrorKind) → due_in f s ≡ Some kind → fault_of (part_in f s) ≡ Some kind
   unreadable kind due =
       ap fault_of (pointed f s slot pointer walks)
-      ∙ subst (λ (t : SchemaType). fill_due set d t x ≡ Some kind → fault_of (value_of set x Endless t) ≡ Some kind) type_is (λ e. struct-refused set x b g kind e) due
+      ∙ subst (λ (t : SchemaType). fill_due set d t x ≡ Some kind → fault_of (value_of set x Endless t) ≡ Some kind) type_is (λ e. struct_refused set x b g kind e) due
 
   has_room : (whole : Record → Value) → CanRefuse set (target_in whole f s) OutOfMemory
   has_room whole =
@@ -196,7 +196,7 @@ group_goes f s is_group walks path last op reply inner goes_on =
     further = TreeWalks set (TreeEnds set last op) path
 
     enter : CanEnter set s (field_brand f) (index_of f)
-    enter = can-enter set s (field_brand f) (index_of f) f.inside (walked_active f s walks)
+    enter = can_enter set s (field_brand f) (index_of f) f.inside (walked_active f s walks)
 
     read : (k : FieldKind) → is_group_field k ≡ true → fault_of (kind_value (record_within (length set.brands) set Endless s.bytes (values_of set s.pointers)) Endless s.bytes (values_of set s.pointers) k (typed_of f).type) ≡ None
     read (Slot offset d) h = absurd (true≢false (sym h))

@@ -11,9 +11,9 @@ use Rattle.capnp_schema.specs.Schema.{Schemas, VoidValue}
 use Rattle.capnp_schema.specs.Types.{AnyPointerType, DataType, ListType, SchemaType, StructType, TextType}
 use Rattle.capnp_records.specs.Call.{Get, Reply}
 use Rattle.capnp_records.specs.Default.{empty_value, read_of}
-use Rattle.capnp_records.specs.Facts.DefaultTree.{read-there}
+use Rattle.capnp_records.specs.Facts.DefaultTree.{read_there}
 use Rattle.capnp_records.specs.Facts.ListValues.{below_of}
-use Rattle.capnp_records.specs.Facts.Readers.{null-is, pointer-read, value-there}
+use Rattle.capnp_records.specs.Facts.Readers.{null_is, pointer_read, value_there}
 use Rattle.capnp_records.specs.Operation.{Answers, Does, answer_of}
 use Rattle.capnp_records.specs.Reading.{element_value, value_of}
 use Rattle.capnp_records.specs.Record as value
@@ -50,10 +50,10 @@ pointer_same : (set : Schemas) (n : ℕ) → (n == 0) ≡ false → (t : SchemaT
 pointer_same set n enough t y = go (is_null_tree y) refl
   where
     go : (q : Bool) → is_null_tree y ≡ q → SameAnswer t (read_of set VoidValue t (value_of set y (Left n) t)) (read_of set VoidValue t (value_of set y Endless t))
-    go true e = subst (λ z. SameAnswer t (read_of set VoidValue t (value_of set z (Left n) t)) (read_of set VoidValue t (value_of set z Endless t))) (sym (null-is y e)) (empty_same set n enough t)
+    go true e = subst (λ z. SameAnswer t (read_of set VoidValue t (value_of set z (Left n) t)) (read_of set VoidValue t (value_of set z Endless t))) (sym (null_is y e)) (empty_same set n enough t)
     go false e =
-        same_then (same_from (read-there set VoidValue t _ (value-there set y (Left n) t e)))
-        (same_then (there set n enough y t e) (same_from (sym (read-there set VoidValue t _ (value-there set y Endless t e)))))
+        same_then (same_from (read_there set VoidValue t _ (value_there set y (Left n) t e)))
+        (same_then (there set n enough y t e) (same_from (sym (read_there set VoidValue t _ (value_there set y Endless t e)))))
 
 -- of a list of structs it is read through the struct
 levels_enough : (x : Tree) → (element_levels x 64 == 0) ≡ false
@@ -67,7 +67,7 @@ uncut x i = refl
 module _ (set : Schemas) (x : Tree) (i : ℕ) where
   behind : (t : SchemaType) → SameAnswer t (read_of set VoidValue t ((below_of set x).element_pointer i (Left 64) t)) (read_of set VoidValue t (value_of set (element_pointer x i 1) Endless t))
   behind t =
-      same_then (same_from (ap (read_of set VoidValue t) (pointer-read set x i 64 t)))
+      same_then (same_from (ap (read_of set VoidValue t) (pointer_read set x i 64 t)))
       (same_then (pointer_same set (element_levels x 64) (levels_enough x) t (element_pointer x i 64))
       (same_from (ap (λ (y : Tree). read_of set VoidValue t (value_of set y Endless t)) (uncut x i))))
 

@@ -2,7 +2,7 @@
 use Rattle.std.proofs.Common.{ℕ, ◌<◌, ◌≡◌, refl, true, cond, ap, sym, subst, ◌∙◌}
 use Rattle.capnp_device.specs.declared.error.ErrorKind.{ErrorKind}
 use Rattle.capnp_device.specs.declared.error.ErrorKind.TheVariants.{ExpectedAListOrBlob, InitnIsOnlyValidForListTextOrDataFields, ListAnyPointerNotSupported}
-use Rattle.capnp_wire.specs.Facts.Room.{HasBit-there, HasNumber-there, HasPointer-there}
+use Rattle.capnp_wire.specs.Facts.Room.{HasBit_there, HasNumber_there, HasPointer_there}
 use Rattle.capnp_wire.specs.Elements.{reads_list}
 use Rattle.capnp_wire.specs.Reading.{list_length}
 use Rattle.capnp_wire.specs.Tree.{Tree}
@@ -31,21 +31,21 @@ room_by set v x i stands a = go v stands (stands.reads_it (filled_there x i a))
   where
     go : (v : TypeVariant) → IsListStand set (seen_variant v) x → reads_list (element_size (seen_variant v)) x ≡ true → HasElementThere (seen_variant v) x i
     go variant.Void s r = tt
-    go variant.Bool s r = HasBit-there x i r a
-    go variant.Int8 s r = HasNumber-there Byte 1 x i refl refl r s.formed a
-    go variant.UInt8 s r = HasNumber-there Byte 1 x i refl refl r s.formed a
-    go variant.Int16 s r = HasNumber-there TwoBytes 2 x i refl refl r s.formed a
-    go variant.UInt16 s r = HasNumber-there TwoBytes 2 x i refl refl r s.formed a
-    go variant.Int32 s r = HasNumber-there FourBytes 4 x i refl refl r s.formed a
-    go variant.UInt32 s r = HasNumber-there FourBytes 4 x i refl refl r s.formed a
-    go variant.Int64 s r = HasNumber-there EightBytes 8 x i refl refl r s.formed a
-    go variant.UInt64 s r = HasNumber-there EightBytes 8 x i refl refl r s.formed a
-    go (variant.Enum e) s r = HasNumber-there TwoBytes 2 x i refl refl r s.formed a
-    go variant.Text s r = HasPointer-there x i r s.formed a
-    go variant.«Data» s r = HasPointer-there x i r s.formed a
+    go variant.Bool s r = HasBit_there x i r a
+    go variant.Int8 s r = HasNumber_there Byte 1 x i refl refl r s.formed a
+    go variant.UInt8 s r = HasNumber_there Byte 1 x i refl refl r s.formed a
+    go variant.Int16 s r = HasNumber_there TwoBytes 2 x i refl refl r s.formed a
+    go variant.UInt16 s r = HasNumber_there TwoBytes 2 x i refl refl r s.formed a
+    go variant.Int32 s r = HasNumber_there FourBytes 4 x i refl refl r s.formed a
+    go variant.UInt32 s r = HasNumber_there FourBytes 4 x i refl refl r s.formed a
+    go variant.Int64 s r = HasNumber_there EightBytes 8 x i refl refl r s.formed a
+    go variant.UInt64 s r = HasNumber_there EightBytes 8 x i refl refl r s.formed a
+    go (variant.Enum e) s r = HasNumber_there TwoBytes 2 x i refl refl r s.formed a
+    go variant.Text s r = HasPointer_there x i r s.formed a
+    go variant.«Data» s r = HasPointer_there x i r s.formed a
     go (variant.Struct z) s r = has_struct set _ _ x i s a
-    go (variant.List t) s r = HasPointer-there x i r s.formed a
-    go variant.AnyPointer s r = HasPointer-there x i r s.formed a
+    go (variant.List t) s r = HasPointer_there x i r s.formed a
+    go variant.AnyPointer s r = HasPointer_there x i r s.formed a
 
 -- an element that is there can be written
 pub room_at : (set : Schemas) (t : TypeHandle) (x : Tree) (i : ℕ) → IsListStand set (seen_type t) x → i < list_length x → HasElementThere (seen_type t) x i

@@ -14,8 +14,8 @@ use Rattle.capnp_schema.specs.declared.schema.fields.Field.{Field}
 use Rattle.capnp_schema.specs.declared.schema.structs.StructSchema.{StructSchema}
 use Rattle.capnp_records.specs.Call.{Get, GivesValue, Plain, Reply, Refused}
 use Rattle.capnp_records.specs.Default.{read_of}
-use Rattle.capnp_records.specs.Facts.Frame.{choose-false}
-use Rattle.capnp_records.specs.Facts.PartRead.{CanEnter, can-enter}
+use Rattle.capnp_records.specs.Facts.Frame.{choose_false}
+use Rattle.capnp_records.specs.Facts.PartRead.{CanEnter, can_enter}
 use Rattle.capnp_records.specs.Operation.{Answers, Does, answer_of, takes_memory}
 use Rattle.capnp_records.specs.Part.{has_of, is_inactive}
 use Rattle.capnp_records.specs.Reading.{reads, struct_record}
@@ -56,9 +56,9 @@ has_reads r f x s on cut is inside v e =
     ∙ ap (λ (z : StructSchema). has_of (struct_record (field_set f) (Left 64) x (field_brand f)) (struct_field z (index_of f)).field (index_of f)) on.schema_is
     ∙ has_cut (field_set f) (Left 64) x s cut is.accepted (field_brand f) (index_of f) is.number inside v e
 
-not-not : (x : Bool) → not (not x) ≡ x
-not-not true = refl
-not-not false = refl
+not_not : (x : Bool) → not (not x) ≡ x
+not_not true = refl
+not_not false = refl
 
 pub active_reads : (r : StructHandle) (f : Field) (x s : StructTree) → schema_of r ≡ field_schema f → struct_of (reader_of r) ≡ x → IsStructCutOf x s → IsStruct (field_schema f) → index_of f < length (struct_fields (field_schema f)) → (q : Bool) →
     q ≡ not (is_inactive (record_seen r) (struct_field (schema_of r) (index_of f)).field (index_of f)) → not q ≡ is_inactive (reads (field_set f) s (field_brand f)) (typed_of f).field (index_of f)
@@ -67,7 +67,7 @@ active_reads r f x s schema struct cut is inside q answered_value =
     ∙ (ap (λ (z : StructSchema). not (is_inactive (struct_record (set_of z) (Left (struct_levels (reader_of r))) (struct_of (reader_of r)) (number_of z)) (struct_field z (index_of f)).field (index_of f))) schema
     ∙ (ap (λ (y : StructTree). not (is_inactive (struct_record (field_set f) (Left (struct_levels (reader_of r))) y (field_brand f)) (typed_of f).field (index_of f))) struct
     ∙ active_cut (field_set f) (Left (struct_levels (reader_of r))) x s (bytes_cut x s cut) is.accepted (field_brand f) (index_of f) is.number inside)))
-    ∙ not-not _
+    ∙ not_not _
 
 -- ---- get ----
 
@@ -83,9 +83,9 @@ pub get_reads : (r : StructHandle) (f : Field) (x s : StructTree) (read : Result
     is_inactive (reads (field_set f) s (field_brand f)) (typed_of f).field (index_of f) ≡ false →
     (whole : Record → Value) (old : Value) → Does (field_set f) Get (target_in whole f s) old reply old
 get_reads r f x s read reply on cut inside value typed answers active whole old =
-    let enter : CanEnter (field_set f) s (field_brand f) (index_of f) = can-enter (field_set f) s (field_brand f) (index_of f) inside active in
+    let enter : CanEnter (field_set f) s (field_brand f) (index_of f) = can_enter (field_set f) s (field_brand f) (index_of f) inside active in
     let typed_as : IfOk read (IsOf (field_set f) (typed_of f).type) = subst (λ (z : StructSchema). IfOk read (IsOf (set_of z) (struct_field z (index_of f)).type)) on.schema_is typed in
-    choose-false (target_in whole f s).inactive _ _ active
+    choose_false (target_in whole f s).inactive _ _ active
     (answers_same (typed_of f).type (answered_value read) _ old old reply
     (same_then (same_from (value ∙ read_is r f x on))
     (same_then (field_cut (field_set f) x s cut (typed_of f)) (same_from (ap (read_of (field_set f) (default_of (typed_of f).field) (typed_of f).type) (sym enter.part)))))

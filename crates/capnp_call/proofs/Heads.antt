@@ -17,10 +17,10 @@ use Rattle.capnp_schema.specs.declared.plan.Place.TheVariants as place
 use Rattle.capnp_schema.specs.declared.plan.SlotPlan.{SlotPlan}
 use Rattle.capnp_records.specs.Call.{ListPlain}
 use Rattle.capnp_records.specs.Default.{read_of}
-use Rattle.capnp_records.specs.Facts.DefaultTree.{read-there}
-use Rattle.capnp_records.specs.Facts.ListValues.{below_of, count-values_from}
-use Rattle.capnp_records.specs.Facts.Pointers.{values_of-nth}
-use Rattle.capnp_records.specs.Facts.Readers.{null-is, value-there}
+use Rattle.capnp_records.specs.Facts.DefaultTree.{read_there}
+use Rattle.capnp_records.specs.Facts.ListValues.{below_of, count_values_from}
+use Rattle.capnp_records.specs.Facts.Pointers.{values_of_nth}
+use Rattle.capnp_records.specs.Facts.Readers.{null_is, value_there}
 use Rattle.capnp_records.specs.Part.{has_of, is_inactive}
 use Rattle.capnp_records.specs.Reading.{Reading, element_value, kind_value, nth_reading, number_value, of_read, part_of, record_within, struct_record, value_of, values_of}
 use Rattle.capnp_records.specs.Record as value
@@ -47,7 +47,7 @@ null_alike n (tree.FaultLeaf k) y h = ap is_null_tree h
 module _ (set : Schemas) where
   list_alike : (f g : ℕ → Value) (t : SchemaType) (x y : Tree) (q : Bool) (kind : ErrorKind) → list_length y ≡ list_length x →
       SameAnswer t (of_read (λ (_ : Tree). value.Elements (values_from f 0 (list_length x))) (cond q (Ok x) (Err kind))) (of_read (λ (_ : Tree). value.Elements (values_from g 0 (list_length y))) (cond q (Ok y) (Err kind)))
-  list_alike f g t x y true kind e = alike (ap ListPlain (count-values_from f 0 (list_length x) ∙ (sym e ∙ sym (count-values_from g 0 (list_length y))))) refl
+  list_alike f g t x y true kind e = alike (ap ListPlain (count_values_from f 0 (list_length x) ∙ (sym e ∙ sym (count_values_from g 0 (list_length y))))) refl
   list_alike f g t x y false kind e = alike refl refl
 
   struct_value : (bytes : List ℕ) (ps qs : Trees) (t : SchemaType) → SameAnswer t (value_of set (tree.Struct bytes ps) Endless t) (value_of set (tree.Struct bytes qs) Endless t)
@@ -83,18 +83,18 @@ module _ (set : Schemas) where
   read_alike n d t x y h = go (is_null_tree x) refl
     where
       go : (q : Bool) → is_null_tree x ≡ q → SameAnswer t (read_of set d t (value_of set x Endless t)) (read_of set d t (value_of set y Endless t))
-      go true e = same_from (ap (λ (z : Tree). read_of set d t (value_of set z Endless t)) (null-is x e ∙ sym (null-is y (null_alike n x y h ∙ e))))
+      go true e = same_from (ap (λ (z : Tree). read_of set d t (value_of set z Endless t)) (null_is x e ∙ sym (null_is y (null_alike n x y h ∙ e))))
       go false e =
-          same_then (same_from (read-there set d t _ (value-there set x Endless t e)))
-          (same_then (value_alike n x y t h) (same_from (sym (read-there set d t _ (value-there set y Endless t (null_alike n x y h ∙ e))))))
+          same_then (same_from (read_there set d t _ (value_there set x Endless t e)))
+          (same_then (value_alike n x y t h) (same_from (sym (read_there set d t _ (value_there set y Endless t (null_alike n x y h ∙ e))))))
 
   -- ---- fields ----
 
   module _ (n : ℕ) (bytes : List ℕ) (ps qs : Trees) (row : SameRow (SameTo (suc n)) ps qs) (d : SchemaValue) where
     pointed : (o : ℕ) (t : SchemaType) → SameAnswer t (read_of set d t (nth_reading (values_of set ps) o Endless t)) (read_of set d t (nth_reading (values_of set qs) o Endless t))
     pointed o t =
-        same_then (same_from (ap (λ (r : Reading). read_of set d t (r Endless t)) (values_of-nth set ps o)))
-        (same_then (read_alike n d t (nth_tree ps o) (nth_tree qs o) (row.1 o)) (same_from (sym (ap (λ (r : Reading). read_of set d t (r Endless t)) (values_of-nth set qs o)))))
+        same_then (same_from (ap (λ (r : Reading). read_of set d t (r Endless t)) (values_of_nth set ps o)))
+        (same_then (read_alike n d t (nth_tree ps o) (nth_tree qs o) (row.1 o)) (same_from (sym (ap (λ (r : Reading). read_of set d t (r Endless t)) (values_of_nth set qs o)))))
 
     part_alike : (f g : ℕ → Record) (k : FieldKind) (t : SchemaType) → SameAnswer t (read_of set d t (kind_value f Endless bytes (values_of set ps) k t)) (read_of set d t (kind_value g Endless bytes (values_of set qs) k t))
     part_alike f g (Group node) t = alike refl refl

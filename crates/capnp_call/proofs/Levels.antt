@@ -11,10 +11,10 @@ use Rattle.capnp_schema.specs.Accepted.{words_root}
 use Rattle.capnp_schema.specs.Schema.{Schemas, StructValue, ListValue, FieldKind, Slot, Group, TypedField, default_of, Value as SchemaValue}
 use Rattle.capnp_schema.specs.Types.{SchemaType, TextType, DataType, StructType, ListType, AnyPointerType, element_size}
 use Rattle.capnp_records.specs.Default.{default_value, empty_value, read_of, unless_null}
-use Rattle.capnp_records.specs.Facts.DefaultTree.{read-there}
-use Rattle.capnp_records.specs.Facts.Readers.{null-is, value-there}
-use Rattle.capnp_records.specs.Facts.ListValues.{below_of, count-values_from}
-use Rattle.capnp_records.specs.Facts.Pointers.{values_of-nth}
+use Rattle.capnp_records.specs.Facts.DefaultTree.{read_there}
+use Rattle.capnp_records.specs.Facts.Readers.{null_is, value_there}
+use Rattle.capnp_records.specs.Facts.ListValues.{below_of, count_values_from}
+use Rattle.capnp_records.specs.Facts.Pointers.{values_of_nth}
 use Rattle.capnp_records.specs.Operation.{Answers, answer_of, takes_memory}
 use Rattle.capnp_records.specs.Reading.{Below, Reading, element_value, elements_value, kind_value, nth_reading, of_read, part_of, record_of, record_within, tree_value, value_of, values_of}
 use Rattle.capnp_records.specs.Record as value
@@ -48,7 +48,7 @@ alike p f = record { plain_is = p; fault_is = f }
 
 module _ (set : Schemas) where
   elements : (f g : ℕ → Value) (t : SchemaType) (n : ℕ) → SameAnswer t (value.Elements (values_from f 0 n)) (value.Elements (values_from g 0 n))
-  elements f g t n = alike (ap ListPlain (count-values_from f 0 n ∙ sym (count-values_from g 0 n))) refl
+  elements f g t n = alike (ap ListPlain (count_values_from f 0 n ∙ sym (count_values_from g 0 n))) refl
 
   list_read : (f g : ℕ → Value) (t : SchemaType) (x : Tree) (q : Bool) (kind : ErrorKind) →
       SameAnswer t (of_read (λ (_ : Tree). value.Elements (values_from f 0 (list_length x))) (cond q (Ok x) (Err kind))) (of_read (λ (_ : Tree). value.Elements (values_from g 0 (list_length x))) (cond q (Ok x) (Err kind)))
@@ -147,16 +147,16 @@ module _ (set : Schemas) where
   read_same d t x = go (is_null_tree x) refl
     where
       go : (q : Bool) → is_null_tree x ≡ q → SameAnswer t (read_of set d t (value_of set x (Left 64) t)) (read_of set d t (value_of set x Endless t))
-      go true e = subst (λ y. SameAnswer t (read_of set d t (value_of set y (Left 64) t)) (read_of set d t (value_of set y Endless t))) (sym (null-is x e)) (default_same d t)
+      go true e = subst (λ y. SameAnswer t (read_of set d t (value_of set y (Left 64) t)) (read_of set d t (value_of set y Endless t))) (sym (null_is x e)) (default_same d t)
       go false e =
-          same_then (same_from (read-there set d t _ (value-there set x (Left 64) t e)))
-          (same_then (there 64 refl x t e) (same_from (sym (read-there set d t _ (value-there set x Endless t e)))))
+          same_then (same_from (read_there set d t _ (value_there set x (Left 64) t e)))
+          (same_then (there 64 refl x t e) (same_from (sym (read_there set d t _ (value_there set x Endless t e)))))
 
   module _ (bytes : List ℕ) (ps : Trees) (d : SchemaValue) where
     pointed : (o : ℕ) (t : SchemaType) → SameAnswer t (read_of set d t (nth_reading (values_of set ps) o (Left 64) t)) (read_of set d t (nth_reading (values_of set ps) o Endless t))
     pointed o t =
-        same_then (same_from (ap (λ (r : Reading). read_of set d t (r (Left 64) t)) (values_of-nth set ps o)))
-        (same_then (read_same d t (nth_tree ps o)) (same_from (sym (ap (λ (r : Reading). read_of set d t (r Endless t)) (values_of-nth set ps o)))))
+        same_then (same_from (ap (λ (r : Reading). read_of set d t (r (Left 64) t)) (values_of_nth set ps o)))
+        (same_then (read_same d t (nth_tree ps o)) (same_from (sym (ap (λ (r : Reading). read_of set d t (r Endless t)) (values_of_nth set ps o)))))
 
     part_same : (f g : ℕ → Record) (k : FieldKind) (t : SchemaType) →
         SameAnswer t (handed_out k (read_of set d t (kind_value f (Left 64) bytes (values_of set ps) k t))) (read_of set d t (kind_value g Endless bytes (values_of set ps) k t))

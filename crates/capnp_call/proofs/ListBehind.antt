@@ -7,7 +7,7 @@ use Rattle.capnp_device.specs.declared.error.ErrorKind.TheVariants.{OutOfMemory}
 use Rattle.capnp_wire.specs.Defaults.{list_refusal, takes_default}
 use Rattle.capnp_wire.specs.Edits.{IsDueRefusal}
 use Rattle.capnp_wire.specs.Elements.{reads_list}
-use Rattle.capnp_wire.specs.Facts.Room.{reads_list-as_list}
+use Rattle.capnp_wire.specs.Facts.Room.{reads_list_as_list}
 use Rattle.capnp_wire.specs.Reading.{as_list, is_null_tree}
 use Rattle.capnp_wire.specs.StructLists.{HoldsStructs}
 use Rattle.capnp_wire.specs.Tree as tree
@@ -23,9 +23,9 @@ use Rattle.capnp_schema.specs.Schema.{AnyPointerValue, FieldKind, Group, ListVal
 use Rattle.capnp_schema.specs.Types.{ListType, SchemaType, StructType, element_size}
 use Rattle.capnp_schema.specs.declared.schema.fields.Field.{Field}
 use Rattle.capnp_records.specs.Call.{Refused}
-use Rattle.capnp_records.specs.Facts.Extension.{list-sound}
-use Rattle.capnp_records.specs.Facts.ListValues.{list-there}
-use Rattle.capnp_records.specs.Facts.Readers.{null-is}
+use Rattle.capnp_records.specs.Facts.Extension.{list_sound}
+use Rattle.capnp_records.specs.Facts.ListValues.{list_there}
+use Rattle.capnp_records.specs.Facts.Readers.{null_is}
 use Rattle.capnp_records.specs.Reading.{value_of}
 use Rattle.capnp_records.specs.Record.{Endless, Record, Value, is_there}
 use Rattle.capnp_records.specs.Record as value
@@ -65,7 +65,7 @@ default_null d e of dec = refl
 -- ---- how a list stands that was filled ----
 
 read_so : (e : SchemaType) (y : Tree) → (r : Result Tree ErrorKind) → as_list (element_size e) y 1 ≡ r → IsOk r → is_null_tree y ≡ false → reads_list (element_size e) y ≡ true
-read_so e y (Ok z) is ok there = reads_list-as_list (element_size e) y 1 z there is
+read_so e y (Ok z) is ok there = reads_list_as_list (element_size e) y 1 z there is
 read_so e y (Err k) is ok there = absurd (true≢false (sym ok))
 
 -- a null's default, or what stands there
@@ -77,8 +77,8 @@ plain_stands d x e due of there = go (is_null_tree x) refl
     filled_null d of there = absurd (true≢false there)
 
     go : (q : Bool) → is_null_tree x ≡ q → reads_list (element_size e) (list_or_default d x) ≡ true
-    go true h = subst (λ (y : Tree). reads_list (element_size e) (list_or_default d y) ≡ true) (sym (null-is x h))
-        (filled_null d of (subst (λ (y : Tree). is_null_tree (list_or_default d y) ≡ false) (null-is x h) there))
+    go true h = subst (λ (y : Tree). reads_list (element_size e) (list_or_default d y) ≡ true) (sym (null_is x h))
+        (filled_null d of (subst (λ (y : Tree). is_null_tree (list_or_default d y) ≡ false) (null_is x h) there))
     go false h = subst (λ (y : Tree). reads_list (element_size e) y ≡ true) (sym (kept_default d x h)) (plain_reads e x due h)
 
 filled_reads : (set : Schemas) (d : SchemaValue) (x : Tree) (e : SchemaType) → fill_due set d (ListType e) x ≡ None → first_fault (list_or_default d x) ≡ None → IsListDefault d e →
@@ -90,7 +90,7 @@ pub list_stands : (set : Schemas) (d : SchemaValue) (x : Tree) (e : SchemaType) 
     IsWellFormed (filled_list set e d x) → IsListStand set e (filled_list set e d x)
 list_stands set d x e due whole of formed = record {
   reads_it = filled_reads set d x e due whole of;
-  sound = list-sound set e (list_or_default d x);
+  sound = list_sound set e (list_or_default d x);
   formed = formed;
 }
 
@@ -98,14 +98,14 @@ list_stands set d x e due whole of formed = record {
 
 -- in a null no struct has to be extended, and in a list of structs that is there one may have to be
 pub null_holds : (size : StructSize) (x : Tree) → is_null_tree x ≡ true → HoldsStructs size x
-null_holds size x h = subst (HoldsStructs size) (sym (null-is x h)) tt
+null_holds size x h = subst (HoldsStructs size) (sym (null_is x h)) tt
 
 memory_structs : (x : StepTarget) (b g : ℕ) (v : Value) → is_there v ≡ true → IsTrue (takes_room x (ListType (StructType b g)) v)
 memory_structs x b g (value.Missing l) h = absurd (true≢false (sym h))
 memory_structs x b g v h = refl
 
 pub memory_there : (set : Schemas) (x : StepTarget) (b g : ℕ) (p : Tree) → x.part ≡ value_of set p Endless (ListType (StructType b g)) → is_null_tree p ≡ false → IsTrue (takes_room x (ListType (StructType b g)) x.part)
-memory_there set x b g p part h = memory_structs x b g x.part (ap is_there part ∙ list-there set p (StructType b g) h)
+memory_there set x b g p part h = memory_structs x b g x.part (ap is_there part ∙ list_there set p (StructType b g) h)
 
 -- a null takes memory for a default alone, and so does a list of other elements
 memory_plain : (set : Schemas) (x : StepTarget) (e : SchemaType) (p : Tree) → x.part ≡ value_of set p Endless (ListType e) → (takes_default (value_default_tree x.default) p ≡ false → ⊥) →
@@ -113,7 +113,7 @@ memory_plain : (set : Schemas) (x : StepTarget) (e : SchemaType) (p : Tree) → 
 memory_plain set x e p part takes of dec = go (is_null_tree p) refl
   where
     found : (q : Bool) → is_list_default x.default ≡ q → is_null_tree p ≡ true → IsTrue (takes_room x (ListType e) x.part)
-    found true k h = subst (λ v. IsTrue (takes_room x (ListType e) v)) (sym (part ∙ ap (λ (y : Tree). value_of set y Endless (ListType e)) (null-is p h))) k
+    found true k h = subst (λ v. IsTrue (takes_room x (ListType e) v)) (sym (part ∙ ap (λ (y : Tree). value_of set y Endless (ListType e)) (null_is p h))) k
     found false k h = absurd (takes (ap (λ q. q && not (is_null_tree (value_default_tree x.default))) h ∙ (default_null x.default e of dec ∙ k)))
 
     go : (q : Bool) → is_null_tree p ≡ q → IsTrue (takes_room x (ListType e) x.part)
@@ -170,7 +170,7 @@ module _ (f : Field) (s : StructTree) (e : SchemaType) (slot : IsSlot f) (pointe
       null_sound c h = refl
 
       go : (c : SchemaValue) → d ≡ c → (q : Bool) → is_null_tree x ≡ q → first_fault (list_or_default d x) ≡ None
-      go c e true h = subst (λ (y : Tree). first_fault (list_or_default d y) ≡ None) (sym (null-is x h)) (null_sound d fits.sound)
+      go c e true h = subst (λ (y : Tree). first_fault (list_or_default d y) ≡ None) (sym (null_is x h)) (null_sound d fits.sound)
       go c e false h = subst (λ (y : Tree). first_fault y ≡ None) (sym (kept_default d x h)) (nth_sound s.pointers _ whole)
 
   -- ---- what was filled ----

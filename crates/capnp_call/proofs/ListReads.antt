@@ -5,7 +5,7 @@ use Rattle.capnp_device.specs.declared.error.ErrorKind.{ErrorKind}
 use Rattle.capnp_device.specs.declared.error.ErrorKind.TheVariants.{SizePastFormat}
 use Rattle.capnp_wire.specs.Defaults.{error_of, list_refusal}
 use Rattle.capnp_wire.specs.Elements.{reads_list}
-use Rattle.capnp_wire.specs.Facts.Room.{reads_list-as_list}
+use Rattle.capnp_wire.specs.Facts.Room.{reads_list_as_list}
 use Rattle.capnp_wire.specs.Reading.{as_list, is_null_tree, list_length}
 use Rattle.capnp_wire.specs.StructLists.{grown_size, struct_list, struct_list_refusal}
 use Rattle.capnp_wire.specs.Tree as tree
@@ -17,9 +17,9 @@ use Rattle.capnp_wire.specs.declared.size.StructSize.{StructSize}
 use Rattle.capnp_schema.specs.Accepted.{words_root}
 use Rattle.capnp_schema.specs.Schema.{ListValue, Schemas, Value as SchemaValue}
 use Rattle.capnp_schema.specs.Types.{ListType, SchemaType, StructType, element_size}
-use Rattle.capnp_records.specs.Facts.Refusals.{list-answered, list-refused, past-greatest}
-use Rattle.capnp_records.specs.Facts.ListValues.{count-values_from, elements_seen, list-from}
-use Rattle.capnp_records.specs.Facts.Readers.{null-is}
+use Rattle.capnp_records.specs.Facts.Refusals.{list_answered, list_refused, past_greatest}
+use Rattle.capnp_records.specs.Facts.ListValues.{count_values_from, elements_seen, list_from}
+use Rattle.capnp_records.specs.Facts.Readers.{null_is}
 use Rattle.capnp_records.specs.Reading.{value_of}
 use Rattle.capnp_records.specs.Record.{Endless}
 use Rattle.capnp_records.specs.Step.{fault_of, filled_value, is_struct_list, size_of}
@@ -57,20 +57,20 @@ structs_read set size (tree.FaultLeaf k) b g due whole = absurd (some_none whole
 
 -- and the same of other elements
 answered_list : (e : SchemaType) (x : Tree) → is_null_tree x ≡ false → (r : Result Tree ErrorKind) → as_list (element_size e) x 1 ≡ r → error_of r ≡ None → reads_list (element_size e) x ≡ true
-answered_list e x there (Ok y) is due = reads_list-as_list (element_size e) x 1 y there is
+answered_list e x there (Ok y) is due = reads_list_as_list (element_size e) x 1 y there is
 answered_list e x there (Err kind) is due = absurd (some_none due)
 
 pub plain_reads : (e : SchemaType) (x : Tree) → list_refusal (element_size e) x ≡ None → is_null_tree x ≡ false → reads_list (element_size e) x ≡ true
 plain_reads e x due there = answered_list e x there (as_list (element_size e) x 1) refl due
 
 elements_sound : (set : Schemas) (x : Tree) (e : SchemaType) → reads_list (element_size e) x ≡ true → fault_of (value_of set x Endless (ListType e)) ≡ None
-elements_sound set x e reads = ap fault_of (list-from set x e reads)
+elements_sound set x e reads = ap fault_of (list_from set x e reads)
 
 plain_read : (set : Schemas) (x : Tree) (e : SchemaType) → list_refusal (element_size e) x ≡ None → fault_of (value_of set x Endless (ListType e)) ≡ None
 plain_read set x e due = go (is_null_tree x) refl
   where
     go : (q : Bool) → is_null_tree x ≡ q → fault_of (value_of set x Endless (ListType e)) ≡ None
-    go true h = subst (λ (y : Tree). fault_of (value_of set y Endless (ListType e)) ≡ None) (sym (null-is x h)) refl
+    go true h = subst (λ (y : Tree). fault_of (value_of set y Endless (ListType e)) ≡ None) (sym (null_is x h)) refl
     go false h = elements_sound set x e (plain_reads e x due h)
 
 -- a list that is walked is no fault
@@ -78,7 +78,7 @@ pub list_read : (set : Schemas) (d : SchemaValue) (x : Tree) (e : SchemaType) �
 list_read set d x (StructType b g) due whole = go (is_null_tree x) refl
   where
     go : (q : Bool) → is_null_tree x ≡ q → fault_of (value_of set x Endless (ListType (StructType b g))) ≡ None
-    go true h = subst (λ (y : Tree). fault_of (value_of set y Endless (ListType (StructType b g))) ≡ None) (sym (null-is x h)) refl
+    go true h = subst (λ (y : Tree). fault_of (value_of set y Endless (ListType (StructType b g))) ≡ None) (sym (null_is x h)) refl
     go false h = structs_read set (brand_size set b) x b g (subst (λ (y : Tree). struct_list_refusal (brand_size set b) y ≡ None) (kept_default d x h) due) whole
 list_read set d x e due whole = plain_read set x e due
 
@@ -109,21 +109,21 @@ structs_refused : (set : Schemas) (size : StructSize) (x : Tree) (b g : ℕ) (ki
     (fault_of (value_of set x Endless (ListType (StructType b g))) ≡ Some kind) ⊎ IsPast x kind
 structs_refused set size tree.Null b g kind a c h e = absurd (none_some e)
 structs_refused set size (tree.Struct bytes ps) b g kind a c h e = inl e
-structs_refused set size (tree.Voids n) b g kind a c h e = inr (past_from (tree.Voids n) size kind (past-greatest n (grown_size size (tree.Voids n)) kind (omega (arith, a)) (omega (arith, c)) e) refl)
+structs_refused set size (tree.Voids n) b g kind a c h e = inr (past_from (tree.Voids n) size kind (past_greatest n (grown_size size (tree.Voids n)) kind (omega (arith, a)) (omega (arith, c)) e) refl)
 structs_refused set size (tree.Bits bs) b g kind a c h e = inl e
-structs_refused set size (tree.Numbers w bytes) b g kind a c h e = inr (past_from (tree.Numbers w bytes) size kind (past-greatest _ (grown_size size (tree.Numbers w bytes)) kind (omega (arith, a)) (omega (arith, c)) e) refl)
-structs_refused set size (tree.Pointers ps) b g kind a c h e = inr (past_from (tree.Pointers ps) size kind (past-greatest _ (grown_size size (tree.Pointers ps)) kind (omega (arith, a)) (omega (arith, c)) e) refl)
-structs_refused set size (tree.Composite d p es) b g kind a c h e = inr (past_from (tree.Composite d p es) size kind (past-greatest _ (grown_size size (tree.Composite d p es)) kind (omega (arith, a, h.0)) (omega (arith, c, h.1)) e) refl)
+structs_refused set size (tree.Numbers w bytes) b g kind a c h e = inr (past_from (tree.Numbers w bytes) size kind (past_greatest _ (grown_size size (tree.Numbers w bytes)) kind (omega (arith, a)) (omega (arith, c)) e) refl)
+structs_refused set size (tree.Pointers ps) b g kind a c h e = inr (past_from (tree.Pointers ps) size kind (past_greatest _ (grown_size size (tree.Pointers ps)) kind (omega (arith, a)) (omega (arith, c)) e) refl)
+structs_refused set size (tree.Composite d p es) b g kind a c h e = inr (past_from (tree.Composite d p es) size kind (past_greatest _ (grown_size size (tree.Composite d p es)) kind (omega (arith, a, h.0)) (omega (arith, c, h.1)) e) refl)
 structs_refused set size (tree.FaultLeaf k) b g kind a c h e = absurd (none_some e)
 
 -- a list that is read has as many elements as it is long
 size_read : (set : Schemas) (x : Tree) (e : SchemaType) → reads_list (element_size e) x ≡ true → size_of (value_of set x Endless (ListType e)) ≡ list_length x
-size_read set x e reads = ap size_of (list-from set x e reads) ∙ count-values_from (seen_element set x e) 0 (list_length x)
+size_read set x e reads = ap size_of (list_from set x e reads) ∙ count_values_from (seen_element set x e) 0 (list_length x)
 
 -- and is not filled
 unfilled : (set : Schemas) (d : SchemaValue) (x : Tree) (e : SchemaType) → reads_list (element_size e) x ≡ true → filled_value set d (ListType e) (value_of set x Endless (ListType e)) ≡ value_of set x Endless (ListType e)
 unfilled set d x e reads =
-    ap (filled_value set d (ListType e)) (list-from set x e reads) ∙ (same d ∙ sym (list-from set x e reads))
+    ap (filled_value set d (ListType e)) (list_from set x e reads) ∙ (same d ∙ sym (list_from set x e reads))
   where
     same : (d : SchemaValue) → filled_value set d (ListType e) (elements_seen set x e) ≡ elements_seen set x e
     same (ListValue words) = refl
@@ -163,11 +163,11 @@ module _ (set : Schemas) (b g : ℕ) (words_fit : (brand_size set b).data_words 
   null_refused (ListValue words) kind of due = go (structs_refused set (brand_size set b) (words_root words) b g kind words_fit pointers_fit (of words refl).0 due)
     where
       never : (r : Result Tree ErrorKind) → as_list InlineComposite (words_root words) 1 ≡ r → IsOk r → is_null_tree (words_root words) ≡ false → fault_of (value_of set (words_root words) Endless (ListType (StructType b g))) ≡ None
-      never (Ok y) is ok there = list-answered set (words_root words) y (StructType b g) there is
+      never (Ok y) is ok there = list_answered set (words_root words) y (StructType b g) there is
       never (Err k) is ok there = absurd (true≢false (sym ok))
 
       sound : (q : Bool) → is_null_tree (words_root words) ≡ q → fault_of (value_of set (words_root words) Endless (ListType (StructType b g))) ≡ None
-      sound true h = subst (λ (y : Tree). fault_of (value_of set y Endless (ListType (StructType b g))) ≡ None) (sym (null-is (words_root words) h)) refl
+      sound true h = subst (λ (y : Tree). fault_of (value_of set y Endless (ListType (StructType b g))) ≡ None) (sym (null_is (words_root words) h)) refl
       sound false h = never (as_list InlineComposite (words_root words) 1) refl (of words refl).1 h
 
       go : (fault_of (value_of set (words_root words) Endless (ListType (StructType b g))) ≡ Some kind) ⊎ IsPast (words_root words) kind → IsTooLarge set (ListValue words) (StructType b g) tree.Null kind
@@ -181,10 +181,10 @@ plain_unfilled set x e kind due = go (is_null_tree x) refl
   where
     same : (r : Result Tree ErrorKind) → as_list (element_size e) x 1 ≡ r → error_of r ≡ Some kind → is_null_tree x ≡ false → fault_of (value_of set x Endless (ListType e)) ≡ Some kind
     same (Ok y) is h there = absurd (none_some h)
-    same (Err k) is h there = list-refused set x e kind there (is ∙ ap Err (same_kind h))
+    same (Err k) is h there = list_refused set x e kind there (is ∙ ap Err (same_kind h))
 
     go : (q : Bool) → is_null_tree x ≡ q → IsUnreadable set e x kind
-    go true h = absurd (none_some (subst (λ (y : Tree). list_refusal (element_size e) y ≡ Some kind) (null-is x h) due))
+    go true h = absurd (none_some (subst (λ (y : Tree). list_refusal (element_size e) y ≡ Some kind) (null_is x h) due))
     go false h = record { fault = same (as_list (element_size e) x 1) refl due h }
 
 -- why a list is not filled: what stands there, or a default in the place of a null
@@ -195,7 +195,7 @@ pub list_unfilled : (set : Schemas) (d : SchemaValue) (x : Tree) (e : SchemaType
 list_unfilled set d x (StructType b g) kind fits of formed due = go (is_null_tree x) refl
   where
     go : (q : Bool) → is_null_tree x ≡ q → IsUnreadable set (StructType b g) x kind ⊎ IsTooLarge set d (StructType b g) x kind
-    go true h = inr (subst (λ (y : Tree). IsTooLarge set d (StructType b g) y kind) (sym (null-is x h))
-        (null_refused set b g (fits b).0 (fits b).1 d kind of (subst (λ (y : Tree). struct_list_refusal (brand_size set b) (list_or_default d y) ≡ Some kind) (null-is x h) due)))
+    go true h = inr (subst (λ (y : Tree). IsTooLarge set d (StructType b g) y kind) (sym (null_is x h))
+        (null_refused set b g (fits b).0 (fits b).1 d kind of (subst (λ (y : Tree). struct_list_refusal (brand_size set b) (list_or_default d y) ≡ Some kind) (null_is x h) due)))
     go false h = there_refused set b g (fits b).0 (fits b).1 d x kind formed (subst (λ (y : Tree). struct_list_refusal (brand_size set b) y ≡ Some kind) (kept_default d x h) due)
 list_unfilled set d x e kind fits of formed due = inl (plain_unfilled set x e kind due)

@@ -5,7 +5,7 @@ use Rattle.capnp_device.specs.declared.error.Error.{Error}
 use Rattle.capnp_device.specs.declared.error.ErrorKind.{ErrorKind}
 use Rattle.capnp_device.specs.declared.error.ErrorKind.TheVariants.{NoSuchElement, NotAContainer, OutOfMemory, UntypedStep}
 use Rattle.capnp_wire.specs.Edits.{IsDueRefusal}
-use Rattle.capnp_wire.specs.Facts.Room.{HasPointer-there}
+use Rattle.capnp_wire.specs.Facts.Room.{HasPointer_there}
 use Rattle.capnp_wire.specs.WellFormed.{IsWellFormed}
 use Rattle.capnp_wire.specs.Elements.{HasPointer, HasStruct, reads_list, with_pointer_element, with_struct_element}
 use Rattle.capnp_wire.specs.Reading.{element_pointer, element_struct, is_null_tree, list_length}
@@ -21,8 +21,8 @@ use Rattle.capnp_schema.specs.Schema.{ListValue, Schemas, VoidValue}
 use Rattle.capnp_schema.specs.Types.{AnyPointerType, BoolType, DataType, IntType, ListType, SchemaType, StructType, TextType, UIntType, VoidType, seen_variant}
 use Rattle.capnp_records.specs.Call.{ElementAt, FieldNamed, FieldNumber, PathStep, Refused}
 use Rattle.capnp_records.specs.Call as record_call
-use Rattle.capnp_records.specs.Facts.Frame.{first-of, second-of}
-use Rattle.capnp_records.specs.Facts.ListValues.{count-values_from, list-from, nth-values_from}
+use Rattle.capnp_records.specs.Facts.Frame.{chosen_first, second_of}
+use Rattle.capnp_records.specs.Facts.ListValues.{count_values_from, list_from, nth_values_from}
 use Rattle.capnp_records.specs.Part.{value_count}
 use Rattle.capnp_records.specs.Reading.{value_of}
 use Rattle.capnp_records.specs.Record as value
@@ -66,20 +66,20 @@ module _ (set : Schemas) (e : SchemaType) (x : Tree) where
   vs = values_from (seen_element set x e) 0 (list_length x)
 
   count : value_count vs ≡ list_length x
-  count = count-values_from (seen_element set x e) 0 (list_length x)
+  count = count_values_from (seen_element set x e) 0 (list_length x)
 
   found_in : (i : ℕ) → i < list_length x → in_list e vs (ElementAt i) ≡ Ok (element_at set e x i)
-  found_in i inside = first-of (nat_lt i (value_count vs)) _ _ (lt-ltb i (value_count vs) (subst (λ n. i < n) (sym count) inside))
+  found_in i inside = chosen_first (nat_lt i (value_count vs)) _ _ (lt-ltb i (value_count vs) (subst (λ n. i < n) (sym count) inside))
 
   found_past : (i : ℕ) → list_length x ≤ i → in_list e vs (ElementAt i) ≡ Err NoSuchElement
-  found_past i h = second-of (nat_lt i (value_count vs)) _ _ (past i (value_count vs) (subst (λ n. n ≤ i) (sym count) h))
+  found_past i h = second_of (nat_lt i (value_count vs)) _ _ (past i (value_count vs) (subst (λ n. n ≤ i) (sym count) h))
 
   pub part_seen : (i : ℕ) → i < list_length x → (element_at set e x i).part ≡ seen_element set x e i
-  part_seen i inside = nth-values_from (seen_element set x e) 0 (list_length x) i inside ∙ ap (seen_element set x e) (omega arith)
+  part_seen i inside = nth_values_from (seen_element set x e) 0 (list_length x) i inside ∙ ap (seen_element set x e) (omega arith)
 
   module _ (stands : IsListStand set e x) (there : is_null_tree x ≡ false) where
     value_is : value_of set x Endless (ListType e) ≡ value.Elements vs
-    value_is = list-from set x e (stands.reads_it there)
+    value_is = list_from set x e (stands.reads_it there)
 
     target_is : (s : PathStep) (r : Found) → in_list e vs s ≡ r → step_target set (ListType e) (value_of set x Endless (ListType e)) s ≡ r
     target_is s r found = ap (λ v. step_target set (ListType e) v s) value_is ∙ found
@@ -151,7 +151,7 @@ module _ (set : Schemas) (e : SchemaType) (x : Tree) where
 nothing_found : (e : SchemaType) (s : PathStep) → in_list e NoValues s ≡ Err (refusal_at_nothing s)
 nothing_found e (FieldNumber i) = refl
 nothing_found e (FieldNamed name) = refl
-nothing_found e (ElementAt i) = second-of (nat_lt i 0) _ _ (past i 0 (omega arith))
+nothing_found e (ElementAt i) = second_of (nat_lt i 0) _ _ (past i 0 (omega arith))
 
 pub nothing_steps : (path : List Step) (s : Step) (rest : List Step) (end : Ending) (kind : ErrorKind) → path ≡ s ∷ rest → kind ≡ refusal_at_nothing (step_seen s) →
     (set : Schemas) (e : SchemaType) → ListWalks set e path end tree.Null (reply.Refused kind) tree.Null
@@ -206,7 +206,7 @@ fits_at set b g (tree.Composite d p es) i there sound = sound i there
 fits_at set b g x i there sound = absurd there
 
 pub has_pointer : (set : Schemas) (e : SchemaType) (x : Tree) (i : ℕ) → IsListStand set (ListType e) x → i < list_length x → HasPointer x i
-has_pointer set e x i stands a = HasPointer-there x i (stands.reads_it (filled_there x i a)) stands.formed a
+has_pointer set e x i stands a = HasPointer_there x i (stands.reads_it (filled_there x i a)) stands.formed a
 
 module _ (set : Schemas) (x : Tree) (i : ℕ) (rest : List Step) (end : Ending) (inside : i < list_length x) where
   -- an element of another type leads nowhere

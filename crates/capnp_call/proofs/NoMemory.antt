@@ -12,7 +12,7 @@ use Rattle.capnp_schema.specs.declared.schema.structs.StructSchema.{StructSchema
 use Rattle.capnp_schema.specs.Types.{SchemaType, VoidType, BoolType, IntType, UIntType, EnumType, TextType, DataType, StructType, ListType, AnyPointerType, struct_number}
 use Rattle.capnp_records.specs.Call.{BoolSource, Clear, DataSource, ElementAt, EnumSource, FieldNamed, FieldNumber, Get, Has, Init, Initn, IntSource, ListSource, Op, PathStep, Refused, Reply, Set, Source, StructSource, TextSource, UIntSource, Which}
 use Rattle.capnp_records.specs.Default.{default_record, read_of}
-use Rattle.capnp_records.specs.Facts.ReadFaults.{AllSound, IsReadKind, RecordSound, Sound, nth-value-sound, part-sound, read_of-sound, reads-sound, value_of-sound}
+use Rattle.capnp_records.specs.Facts.ReadFaults.{AllSound, IsReadKind, RecordSound, Sound, nth_value_sound, part_sound, read_of_sound, reads_sound, value_of_sound}
 use Rattle.capnp_records.specs.Given.{Copies, CopiesGroup, Fails, Given, Gives, copied_struct, given_part, given_element, given_group, given_slot}
 use Rattle.capnp_records.specs.Operation.{Answers, AtField, Does, Gets, Inits, IsDone, Sets, takes_memory}
 use Rattle.capnp_records.specs.Part.{value_count}
@@ -74,9 +74,9 @@ fault_kind (value.Fault kind) h = read_kind kind h
 fault_kind v h = tt
 
 stand_sound : (set : Schemas) (t : SchemaType) (old : Stand) → Sound (seen_stand set t old)
-stand_sound set t (OnStruct s) = reads-sound set s _
-stand_sound set t (OnGroup s) = reads-sound set s _
-stand_sound set t (OnList x) = value_of-sound set x Endless t
+stand_sound set t (OnStruct s) = reads_sound set s _
+stand_sound set t (OnGroup s) = reads_sound set s _
+stand_sound set t (OnList x) = value_of_sound set x Endless t
 
 -- a refusal is not for memory, and what was found can be read or is refused as a read
 abbrev FoundSound : Found → Type 0
@@ -84,47 +84,47 @@ FoundSound (Err kind) = is_room kind ≡ false
 FoundSound (Ok x) = Sound x.part
 
 module _ (set : Schemas) where
-  field-sound : (whole : Record → Value) (r : Record) (b : ℕ) (o : Option ℕ) → RecordSound r → FoundSound (field_found set whole r b o)
-  field-sound whole r b None h = refl
-  field-sound whole r b (Some i) h = go (nat_lt i (length (fields_of set b)))
+  field_sound : (whole : Record → Value) (r : Record) (b : ℕ) (o : Option ℕ) → RecordSound r → FoundSound (field_found set whole r b o)
+  field_sound whole r b None h = refl
+  field_sound whole r b (Some i) h = go (nat_lt i (length (fields_of set b)))
     where
       go : (q : Bool) → FoundSound (elim q as (λ _. Found) [ true ↦ Ok (field_target whole r (field_at set b i) i) | false ↦ Err FieldNotFound ])
-      go true = part-sound r h (field_at set b i).field i
+      go true = part_sound r h (field_at set b i).field i
       go false = refl
 
-  record-sound : (whole : Record → Value) (r : Record) (b : ℕ) (s : PathStep) → RecordSound r → FoundSound (in_record set whole r b s)
-  record-sound whole r b (FieldNumber i) h = field-sound whole r b (Some i) h
-  record-sound whole r b (FieldNamed name) h = field-sound whole r b (field_named (records_of set b) name) h
-  record-sound whole r b (ElementAt i) h = refl
+  record_sound : (whole : Record → Value) (r : Record) (b : ℕ) (s : PathStep) → RecordSound r → FoundSound (in_record set whole r b s)
+  record_sound whole r b (FieldNumber i) h = field_sound whole r b (Some i) h
+  record_sound whole r b (FieldNamed name) h = field_sound whole r b (field_named (records_of set b) name) h
+  record_sound whole r b (ElementAt i) h = refl
 
-  list-sound : (e : SchemaType) (vs : Values) (s : PathStep) → AllSound vs → FoundSound (in_list e vs s)
-  list-sound e vs (FieldNumber i) h = refl
-  list-sound e vs (FieldNamed name) h = refl
-  list-sound e vs (ElementAt i) h = go (nat_lt i (value_count vs))
+  list_sound : (e : SchemaType) (vs : Values) (s : PathStep) → AllSound vs → FoundSound (in_list e vs s)
+  list_sound e vs (FieldNumber i) h = refl
+  list_sound e vs (FieldNamed name) h = refl
+  list_sound e vs (ElementAt i) h = go (nat_lt i (value_count vs))
     where
       go : (q : Bool) → FoundSound (elim q as (λ _. Found) [ true ↦ Ok (element_target e vs i) | false ↦ Err NoSuchElement ])
-      go true = nth-value-sound vs h i
+      go true = nth_value_sound vs h i
       go false = refl
 
-  target-sound : (t : SchemaType) (v : Value) (s : PathStep) → Sound v → FoundSound (step_target set t v s)
-  target-sound (StructType b g) (value.Struct r) s h = record-sound value.Struct r b s h
-  target-sound (StructType b g) (value.Group r) s h = record-sound value.Group r b s h
-  target-sound (ListType e) (value.Elements vs) s h = list-sound e vs s h
-  target-sound (ListType e) (value.Missing l) s h = list-sound e NoValues s tt
-  target-sound t v s h = refl
+  target_sound : (t : SchemaType) (v : Value) (s : PathStep) → Sound v → FoundSound (step_target set t v s)
+  target_sound (StructType b g) (value.Struct r) s h = record_sound value.Struct r b s h
+  target_sound (StructType b g) (value.Group r) s h = record_sound value.Group r b s h
+  target_sound (ListType e) (value.Elements vs) s h = list_sound e vs s h
+  target_sound (ListType e) (value.Missing l) s h = list_sound e NoValues s tt
+  target_sound t v s h = refl
 
-typed-sound : (x : StepTarget) (t : SchemaType) → Sound x.part → FoundSound (walked_by_type x t)
-typed-sound x (StructType b g) h = h
-typed-sound x (ListType e) h = h
-typed-sound x t h = refl
+typed_sound : (x : StepTarget) (t : SchemaType) → Sound x.part → FoundSound (walked_by_type x t)
+typed_sound x (StructType b g) h = h
+typed_sound x (ListType e) h = h
+typed_sound x t h = refl
 
-walked-sound : (r : Found) → FoundSound r → FoundSound (walked_result r)
-walked-sound (Err kind) h = h
-walked-sound (Ok x) h = go x.inactive
+walked_sound : (r : Found) → FoundSound r → FoundSound (walked_result r)
+walked_sound (Err kind) h = h
+walked_sound (Ok x) h = go x.inactive
   where
     go : (q : Bool) → FoundSound (elim q as (λ _. Found) [ true ↦ Err InactiveMember | false ↦ walked_by_type x x.type ])
     go true = refl
-    go false = typed-sound x x.type h
+    go false = typed_sound x x.type h
 
 -- ---- what is given ----
 
@@ -132,42 +132,42 @@ abbrev GivenKind : Given → Type 0
 GivenKind (Fails kind) = is_room kind ≡ false
 GivenKind g = ⊤
 
-either-kind : (q : Bool) (g h : Given) → GivenKind g → GivenKind h → GivenKind (cond q g h)
-either-kind true g h k l = k
-either-kind false g h k l = l
+either_kind : (q : Bool) (g h : Given) → GivenKind g → GivenKind h → GivenKind (cond q g h)
+either_kind true g h k l = k
+either_kind false g h k l = l
 
-slot-kind : (set : Schemas) (t : SchemaType) (s : Source) → GivenKind (given_slot set t s)
-slot-kind set VoidType s = tt
-slot-kind set BoolType (BoolSource b) = tt
-slot-kind set (IntType k) (IntSource n x) = either-kind (k == n) (Gives (value.Number x)) (Fails TypeMismatch) tt refl
-slot-kind set (UIntType k) (UIntSource n x) = either-kind (k == n) (Gives (value.Number (pos x))) (Fails TypeMismatch) tt refl
-slot-kind set (EnumType e) (EnumSource n) = tt
-slot-kind set TextType (TextSource bytes) = tt
-slot-kind set DataType (DataSource bytes) = tt
-slot-kind set (StructType b g) (StructSource l s from) = tt
-slot-kind set (ListType e) (ListSource l t from) = tt
-slot-kind set AnyPointerType (TextSource bytes) = tt
-slot-kind set AnyPointerType (DataSource bytes) = tt
-slot-kind set AnyPointerType (StructSource l s from) = tt
-slot-kind set AnyPointerType (ListSource l t from) = tt
-slot-kind set t s = refl
+slot_kind : (set : Schemas) (t : SchemaType) (s : Source) → GivenKind (given_slot set t s)
+slot_kind set VoidType s = tt
+slot_kind set BoolType (BoolSource b) = tt
+slot_kind set (IntType k) (IntSource n x) = either_kind (k == n) (Gives (value.Number x)) (Fails TypeMismatch) tt refl
+slot_kind set (UIntType k) (UIntSource n x) = either_kind (k == n) (Gives (value.Number (pos x))) (Fails TypeMismatch) tt refl
+slot_kind set (EnumType e) (EnumSource n) = tt
+slot_kind set TextType (TextSource bytes) = tt
+slot_kind set DataType (DataSource bytes) = tt
+slot_kind set (StructType b g) (StructSource l s from) = tt
+slot_kind set (ListType e) (ListSource l t from) = tt
+slot_kind set AnyPointerType (TextSource bytes) = tt
+slot_kind set AnyPointerType (DataSource bytes) = tt
+slot_kind set AnyPointerType (StructSource l s from) = tt
+slot_kind set AnyPointerType (ListSource l t from) = tt
+slot_kind set t s = refl
 
-group-kind : (t : SchemaType) (s : Source) → GivenKind (given_group t s)
-group-kind t (StructSource l s from) = either-kind (from == struct_number t) (CopiesGroup l s from) (Fails TypeMismatch) tt refl
-group-kind t s = refl
+group_kind : (t : SchemaType) (s : Source) → GivenKind (given_group t s)
+group_kind t (StructSource l s from) = either_kind (from == struct_number t) (CopiesGroup l s from) (Fails TypeMismatch) tt refl
+group_kind t s = refl
 
-element-kind : (set : Schemas) (t : SchemaType) (s : Source) → GivenKind (given_element set t s)
-element-kind set AnyPointerType s = refl
-element-kind set (StructType b g) (StructSource l s from) = either-kind (from == b) (Copies (copied_struct s) false (value_of set (copied_struct s) Endless (StructType b g))) (Fails TypeMismatch) tt refl
-element-kind set t s = slot-kind set t s
+element_kind : (set : Schemas) (t : SchemaType) (s : Source) → GivenKind (given_element set t s)
+element_kind set AnyPointerType s = refl
+element_kind set (StructType b g) (StructSource l s from) = either_kind (from == b) (Copies (copied_struct s) false (value_of set (copied_struct s) Endless (StructType b g))) (Fails TypeMismatch) tt refl
+element_kind set t s = slot_kind set t s
 
-given-kind : (set : Schemas) (x : StepTarget) (s : Source) → GivenKind (given_part set x s)
-given-kind set x s = go x.is_group x.is_element
+given_kind : (set : Schemas) (x : StepTarget) (s : Source) → GivenKind (given_part set x s)
+given_kind set x s = go x.is_group x.is_element
   where
     go : (p q : Bool) → GivenKind (elim p as (λ _. Given) [ true ↦ given_group x.type s | false ↦ elim q as (λ _. Given) [ true ↦ given_element set x.type s | false ↦ given_slot set x.type s ] ])
-    go true q = group-kind x.type s
-    go false true = element-kind set x.type s
-    go false false = slot-kind set x.type s
+    go true q = group_kind x.type s
+    go false true = element_kind set x.type s
+    go false false = slot_kind set x.type s
 
 -- ---- the operations ----
 
@@ -206,10 +206,10 @@ module _ (set : Schemas) (x : StepTarget) (old : Value) (reply : Reply) (new : V
     where
       go : (q : Bool) → (elim q as (λ _. Type 0) [ true ↦ IsRefused InactiveMember reply old new | false ↦ Gets set x old reply new ]) → IsNotForRoom reply
       go true h = other_kind reply InactiveMember refl h.0
-      go false h = gets x.type (read_of set x.default x.type x.part) _ (fault_kind (read_of set x.default x.type x.part) (read_of-sound set x.default x.type x.part sound)) none h
+      go false h = gets x.type (read_of set x.default x.type x.part) _ (fault_kind (read_of set x.default x.type x.part) (read_of_sound set x.default x.type x.part sound)) none h
   does Has sound none h = at_field _ (λ k. no_refusal reply (ap is_refusal k.0)) h
   does Which sound none h = absurd h
-  does (Set s) sound none h = sets (given_part set x s) (given-kind set x s) none h
+  does (Set s) sound none h = sets (given_part set x s) (given_kind set x s) none h
   does Init sound none h = at_field _ (inits x.type none) h
   does (Initn n) sound none h = absurd none
   does Clear sound none h = at_field _ (λ k. no_refusal reply (ap is_refusal k.0)) h
@@ -249,7 +249,7 @@ module _ (set : Schemas) (t : SchemaType) (old : Stand) (last : PathStep) (reply
   does_at op (Ok x) sound none h = tree_does op x sound none h
 
   end_found : FoundSound (step_target set t (seen_stand set t old) last)
-  end_found = target-sound set t (seen_stand set t old) last (stand_sound set t old)
+  end_found = target_sound set t (seen_stand set t old) last (stand_sound set t old)
 
   ends : (op : Op) → EndRests set op (step_target set t (seen_stand set t old) last) → TreeEnds set last op t old reply new → IsNotForRoom reply
   ends Which none h = asks (seen_stand set t old) reply (seen_stand set t old) h.0
@@ -266,7 +266,7 @@ pub walk_rests : (set : Schemas) (last : PathStep) (op : Op) (path : List PathSt
     TreeWalks set (TreeEnds set last op) path t old reply new → IsNotForRoom reply
 walk_rests set last op [] t old reply new rests h = ends set t old last reply new op rests h
 walk_rests set last op (step ∷ path) t old reply new rests h =
-    passes (walk_rests set last op path) (walked_target set t (seen_stand set t old) step) (walked-sound (step_target set t (seen_stand set t old) step) (target-sound set t (seen_stand set t old) step (stand_sound set t old))) rests h
+    passes (walk_rests set last op path) (walked_target set t (seen_stand set t old) step) (walked_sound (step_target set t (seen_stand set t old) step) (target_sound set t (seen_stand set t old) step (stand_sound set t old))) rests h
   where
     Next : Type 0
     Next = (u : SchemaType) (old : Stand) (reply : Reply) (new : Stand) → CallRests set last op path u old → TreeWalks set (TreeEnds set last op) path u old reply new → IsNotForRoom reply

@@ -1,7 +1,7 @@
 -- Parts that a walk enters: what is known of them, and what is left of their owner.
 use Rattle.std.proofs.Common.{ℕ, ◌≡◌, refl, List, IsTrue, None, ap, arith, sym, subst}
 use Rattle.capnp_wire.specs.Edits.{is_struct, struct_in, with_pointer_tree}
-use Rattle.capnp_wire.specs.Facts.Rows.{tree_count-with_tree}
+use Rattle.capnp_wire.specs.Facts.Rows.{tree_count_with_tree}
 use Rattle.capnp_wire.specs.Tree.{StructTree, Tree}
 use Rattle.capnp_wire.specs.WellFormed.{IsWellFormed}
 use Rattle.capnp_wire.specs.Words.{first_fault}
@@ -14,7 +14,7 @@ use Rattle.capnp_schema.specs.StructHandles.{generic_of, number_of, set_of}
 use Rattle.capnp_schema.specs.Types.{ListType, SchemaType, StructType}
 use Rattle.capnp_schema.specs.declared.schema.fields.Field.{Field}
 use Rattle.capnp_schema.specs.declared.schema.structs.StructSchema.{StructSchema}
-use Rattle.capnp_records.specs.Facts.Extension.{fits-extended}
+use Rattle.capnp_records.specs.Facts.Extension.{fits_extended}
 use Rattle.capnp_records.specs.Writes.Fill.{entered_list}
 use Rattle.capnp_records.specs.Writes.Slots.{Fits}
 use Rattle.capnp_slots.specs.Fields.{field_set}
@@ -35,7 +35,7 @@ struct_here f s schema t leads e =
     subst (IsStructHere schema) (sym e)
     (subst (λ (u : SchemaType). IsStructHere schema (filled_tree (field_set f) (default_of (typed_of f).field) u (pointer_in f s))) leads.type_is
     (subst (λ (z : Schemas). IsStructHere schema (filled_tree z (default_of (typed_of f).field) (StructType (number_of schema) (generic_of schema)) (pointer_in f s))) leads.set
-    (record { here = refl; room = fits-extended (set_of schema) (number_of schema) _ })))
+    (record { here = refl; room = fits_extended (set_of schema) (number_of schema) _ })))
 
 -- the struct that a pointer leads to, by its place
 pub here_is : (bytes : List ℕ) (at a d p : ℕ) → Forest bytes at → shape_at bytes at ≡ StructIn a d p → struct_in (tree bytes at) ≡ struct_from bytes a d p
@@ -54,4 +54,4 @@ inner_stands set e t now is due whole formed =
 -- ---- a struct of which a pointer was filled ----
 
 pub fits_filled : (set : Schemas) (b i : ℕ) (s m : StructTree) (t : Tree) → m ≡ with_pointer_tree s i t → Fits set b s → Fits set b m
-fits_filled set b i s m t e h = subst (Fits set b) (sym e) (h.0, omega (arith, h.1, tree_count-with_tree s.pointers i t))
+fits_filled set b i s m t e h = subst (Fits set b) (sym e) (h.0, omega (arith, h.1, tree_count_with_tree s.pointers i t))

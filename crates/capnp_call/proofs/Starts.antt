@@ -19,8 +19,8 @@ use Rattle.capnp_records.specs.Reading.{reads, struct_record}
 use Rattle.capnp_records.specs.Text.{Out, Pieces, text_of}
 use Rattle.capnp_dynamic_readers.specs.Pieces.{IsAppended}
 use Rattle.capnp_wire.specs.Edits.{HasAtLeast, IsCopyRefusal, IsStructRefusal, extended_struct, is_struct, struct_in, struct_refusal, zero_struct}
-use Rattle.capnp_wire.specs.Facts.Lengths.{HasAtLeast-zero_struct}
-use Rattle.capnp_wire.specs.Facts.Structs.{IsWellFormed-extended, IsWellFormed-struct_in, IsWellFormed-zero_struct}
+use Rattle.capnp_wire.specs.Facts.Lengths.{HasAtLeast_zero_struct}
+use Rattle.capnp_wire.specs.Facts.Structs.{IsWellFormed_extended, IsWellFormed_struct_in, IsWellFormed_zero_struct}
 use Rattle.capnp_wire.specs.Place.{struct_tree}
 use Rattle.capnp_wire.specs.Tree.{StructTree, Tree}
 use Rattle.capnp_wire.specs.WellFormed.{IsWellFormed}
@@ -29,7 +29,7 @@ use Rattle.capnp_wire.specs.declared.fault.Fault.{Fault}
 use Rattle.capnp_wire.specs.declared.size.StructSize.{StructSize}
 use Rattle.capnp_schema.specs.StructHandles.{number_of, set_of}
 use Rattle.capnp_schema.specs.declared.schema.structs.StructSchema.{StructSchema}
-use Rattle.capnp_records.specs.Facts.Extension.{fits-extended, reads-extended, reads-zero_struct}
+use Rattle.capnp_records.specs.Facts.Extension.{fits_extended, reads_extended, reads_zero_struct}
 use Rattle.capnp_records.specs.Record.{Levels, Record}
 use Rattle.capnp_records.specs.Writes.Slots.{Fits}
 use Rattle.capnp_schema.specs.Plan.{brand_size}
@@ -49,28 +49,28 @@ pub empty_root : (schema : StructSchema) (size : StructSize) (s : StructTree) (t
     HasRoot schema (new_record schema) t
 empty_root schema size s t is zero root few words =
     root_of_struct schema s _ t root
-    (subst (HasAtLeast (brand_size (set_of schema) (number_of schema))) (sym (zero ∙ ap zero_struct is)) (HasAtLeast-zero_struct (brand_size (set_of schema) (number_of schema))))
-    (subst (λ (x : StructTree). IsWellFormed (struct_tree x)) (sym zero) (IsWellFormed-zero_struct size few words))
-    (ap (record_under_schema schema) zero ∙ reads-zero_struct (set_of schema) size (number_of schema))
+    (subst (HasAtLeast (brand_size (set_of schema) (number_of schema))) (sym (zero ∙ ap zero_struct is)) (HasAtLeast_zero_struct (brand_size (set_of schema) (number_of schema))))
+    (subst (λ (x : StructTree). IsWellFormed (struct_tree x)) (sym zero) (IsWellFormed_zero_struct size few words))
+    (ap (record_under_schema schema) zero ∙ reads_zero_struct (set_of schema) size (number_of schema))
 
 -- a copy, with at least the schema's sections
 pub copied_root : (schema : StructSchema) (size : StructSize) (s : StructTree) (source t : Tree) → size ≡ brand_size (set_of schema) (number_of schema) → s ≡ extended_struct size (struct_in source) → t ≡ struct_tree s → size.data_words < 2 ^ 16 → size.pointers < 2 ^ 16 →
     IsWellFormed source → HasRoot schema (record_under_schema schema (struct_in source)) t
 copied_root schema size s source t is whole root few words formed =
     root_of_struct schema s _ t root
-    (subst (Fits (set_of schema) (number_of schema)) (sym (whole ∙ ap (λ (z : StructSize). extended_struct z (struct_in source)) is)) (fits-extended (set_of schema) (number_of schema) (struct_in source)))
-    (subst (λ (x : StructTree). IsWellFormed (struct_tree x)) (sym whole) (IsWellFormed-extended size (struct_in source) few words (IsWellFormed-struct_in source formed)))
-    (ap (record_under_schema schema) whole ∙ reads-extended (set_of schema) size (struct_in source) (number_of schema))
+    (subst (Fits (set_of schema) (number_of schema)) (sym (whole ∙ ap (λ (z : StructSize). extended_struct z (struct_in source)) is)) (fits_extended (set_of schema) (number_of schema) (struct_in source)))
+    (subst (λ (x : StructTree). IsWellFormed (struct_tree x)) (sym whole) (IsWellFormed_extended size (struct_in source) few words (IsWellFormed_struct_in source formed)))
+    (ap (record_under_schema schema) whole ∙ reads_extended (set_of schema) size (struct_in source) (number_of schema))
 
 -- why there is none: the copy was refused, or a list was copied
 pub copy_stops : (e : Error) (t : Tree) → IsCopyRefusal e (first_fault t) → e.kind ≢ OutOfMemory → root_refusal t ≡ Some e.kind
 copy_stops e t h other = go (first_fault t) (h other)
   where
-    none-some : None ≡ Some e.kind → ⊥
-    none-some e = cc
+    none_some : None ≡ Some e.kind → ⊥
+    none_some e = cc
 
     go : (f : Option Fault) → option_map refusal f ≡ Some e.kind → fault_or f (struct_refusal t) ≡ Some e.kind
-    go None h = absurd (none-some h)
+    go None h = absurd (none_some h)
     go (Some fault) h = h
 
 pub refused_whole : (t t' : Tree) (o : Option ErrorKind) → first_fault t ≡ None → t' ≡ t → struct_refusal t' ≡ o → root_refusal t ≡ o

@@ -30,12 +30,12 @@ abbrev mutual
   pub trimmed_record : Record → Record
   trimmed_record (Parts vs u) = Parts (trimmed_values vs) (trimmed_union u)
 
-pub trimmed-there : (v : Value) → is_there (trimmed v) ≡ is_there v
-trimmed-there (value.Struct r) = refl
-trimmed-there (value.Group r) = refl
-trimmed-there (value.Elements vs) = refl
-trimmed-there (value.Untyped x) = refl
-trimmed-there v = refl
+pub trimmed_there : (v : Value) → is_there (trimmed v) ≡ is_there v
+trimmed_there (value.Struct r) = refl
+trimmed_there (value.Group r) = refl
+trimmed_there (value.Elements vs) = refl
+trimmed_there (value.Untyped x) = refl
+trimmed_there v = refl
 
 -- ---- texts ----
 
@@ -43,30 +43,30 @@ abbrev Trims : Inner → Type 0
 Trims inner = (at : Layout) (t : SchemaType) (v : Value) → inner at t (trimmed v) ≡ inner at t v
 
 module _ (set : Schemas) (inner : Inner) (trims : Trims inner) where
-  read-trims : (at : Layout) (d : SchemaValue) (t : SchemaType) (v : Value) → inner at t (read_of set d t (trimmed v)) ≡ inner at t (read_of set d t v)
-  read-trims at d t (value.Struct r) = trims at t (value.Struct r)
-  read-trims at d t (value.Group r) = trims at t (value.Group r)
-  read-trims at d t (value.Elements vs) = trims at t (value.Elements vs)
-  read-trims at d t (value.Untyped x) = trims at t (value.Untyped x)
-  read-trims at d t v = refl
+  read_trims : (at : Layout) (d : SchemaValue) (t : SchemaType) (v : Value) → inner at t (read_of set d t (trimmed v)) ≡ inner at t (read_of set d t v)
+  read_trims at d t (value.Struct r) = trims at t (value.Struct r)
+  read_trims at d t (value.Group r) = trims at t (value.Group r)
+  read_trims at d t (value.Elements vs) = trims at t (value.Elements vs)
+  read_trims at d t (value.Untyped x) = trims at t (value.Untyped x)
+  read_trims at d t v = refl
 
   mutual
-    part-trims : (at : Layout) (d : SchemaValue) (t : SchemaType) (v : Value) → part_text set inner at d t (trimmed v) ≡ part_text set inner at d t v
-    part-trims at d t (value.Group r) = record-trims at (struct_number t) r
-    part-trims at d t (value.Struct r) = read-trims at d t (value.Struct r)
-    part-trims at d t (value.Elements vs) = read-trims at d t (value.Elements vs)
-    part-trims at d t (value.Untyped x) = read-trims at d t (value.Untyped x)
-    part-trims at d t v = refl
+    part_trims : (at : Layout) (d : SchemaValue) (t : SchemaType) (v : Value) → part_text set inner at d t (trimmed v) ≡ part_text set inner at d t v
+    part_trims at d t (value.Group r) = record_trims at (struct_number t) r
+    part_trims at d t (value.Struct r) = read_trims at d t (value.Struct r)
+    part_trims at d t (value.Elements vs) = read_trims at d t (value.Elements vs)
+    part_trims at d t (value.Untyped x) = read_trims at d t (value.Untyped x)
+    part_trims at d t v = refl
 
-    record-trims : (at : Layout) (b : ℕ) (r : Record) → record_text set inner at b (trimmed_record r) ≡ record_text set inner at b r
-    record-trims at b (Parts vs u) =
+    record_trims : (at : Layout) (b : ℕ) (r : Record) → record_text set inner at b (trimmed_record r) ≡ record_text set inner at b r
+    record_trims at b (Parts vs u) =
         ap (struct_text at (fields_of set b))
-        (shown-trims (deeper at) (fields_of set b) 0 vs (member set inner (deeper at) b (trimmed_union u)) ∙ ap (shown set inner (deeper at) (fields_of set b) 0 vs) (member-trims (deeper at) b u))
+        (shown_trims (deeper at) (fields_of set b) 0 vs (member set inner (deeper at) b (trimmed_union u)) ∙ ap (shown set inner (deeper at) (fields_of set b) 0 vs) (member_trims (deeper at) b u))
 
-    shown-trims : (at : Layout) (fs : List TypedField) (i : ℕ) (vs : Values) (m : Member) → shown set inner at fs i (trimmed_values vs) m ≡ shown set inner at fs i vs m
-    shown-trims at fs i NoValues m = refl
-    shown-trims at [] i (MoreValues v vs) m = refl
-    shown-trims at (f ∷ fs) i (MoreValues v vs) m = go (λ n. shown-trims at fs (suc i) vs n) (part-trims at (default_of f.field) f.type v) (is_member f.field)
+    shown_trims : (at : Layout) (fs : List TypedField) (i : ℕ) (vs : Values) (m : Member) → shown set inner at fs i (trimmed_values vs) m ≡ shown set inner at fs i vs m
+    shown_trims at fs i NoValues m = refl
+    shown_trims at [] i (MoreValues v vs) m = refl
+    shown_trims at (f ∷ fs) i (MoreValues v vs) m = go (λ n. shown_trims at fs (suc i) vs n) (part_trims at (default_of f.field) f.type v) (is_member f.field)
       where
         go : ((n : Member) → shown set inner at fs (suc i) (trimmed_values vs) n ≡ shown set inner at fs (suc i) vs n) →
             part_text set inner at (default_of f.field) f.type (trimmed v) ≡ part_text set inner at (default_of f.field) f.type v → (q : Bool) →
@@ -75,43 +75,43 @@ module _ (set : Schemas) (inner : Inner) (trims : Trims inner) where
         go ih part true = ih m
         go ih part false =
             ap₂ (λ (x y : List Out). before m i ++ x ++ y)
-            (ap₂ item_if (trimmed-there v) (ap (item f) part)) (ih (later m i))
+            (ap₂ item_if (trimmed_there v) (ap (item f) part)) (ih (later m i))
 
-    member-trims : (at : Layout) (b : ℕ) (u : Union) → member set inner at b (trimmed_union u) ≡ member set inner at b u
-    member-trims at b NoUnion = refl
-    member-trims at b (Unknown d) = refl
-    member-trims at b (Active i v) =
+    member_trims : (at : Layout) (b : ℕ) (u : Union) → member set inner at b (trimmed_union u) ≡ member set inner at b u
+    member_trims at b NoUnion = refl
+    member_trims at b (Unknown d) = refl
+    member_trims at b (Active i v) =
         ap (λ (x : List Out). Some (i, x))
-        (ap₂ item_if (ap (λ q. q || not ((field_at set b i).field.discriminant_value == 0)) (trimmed-there v))
-        (ap (item (field_at set b i)) (part-trims at (default_of (field_at set b i).field) (field_at set b i).type v)))
+        (ap₂ item_if (ap (λ q. q || not ((field_at set b i).field.discriminant_value == 0)) (trimmed_there v))
+        (ap (item (field_at set b i)) (part_trims at (default_of (field_at set b i).field) (field_at set b i).type v)))
 
-  elements-trim : (at : Layout) (t : SchemaType) (vs : Values) → element_texts set inner at t (trimmed_values vs) ≡ element_texts set inner at t vs
-  elements-trim at t NoValues = refl
-  elements-trim at t (MoreValues v vs) = ap₂ (λ (x : Out) (xs : List Out). x ∷ xs) (read-trims at VoidValue t v) (elements-trim at t vs)
+  elements_trim : (at : Layout) (t : SchemaType) (vs : Values) → element_texts set inner at t (trimmed_values vs) ≡ element_texts set inner at t vs
+  elements_trim at t NoValues = refl
+  elements_trim at t (MoreValues v vs) = ap₂ (λ (x : Out) (xs : List Out). x ∷ xs) (read_trims at VoidValue t v) (elements_trim at t vs)
 
-value-trims : (set : Schemas) (inner : Option Inner) → ((text : Inner) → inner ≡ Some text → Trims text) → Trims (value_text set inner)
-value-trims set None h at t (value.Struct r) = refl
-value-trims set (Some text) h at t (value.Struct r) = record-trims set text (h text refl) at (struct_number t) r
-value-trims set inner h at t (value.Group r) = refl
-value-trims set None h at t (value.Elements vs) = refl
-value-trims set (Some text) h at t (value.Elements vs) = ap (list_text at) (elements-trim set text (h text refl) (deeper at) (element_type t) vs)
-value-trims set inner h at t (value.Untyped x) = refl
-value-trims set inner h at t v = refl
+value_trims : (set : Schemas) (inner : Option Inner) → ((text : Inner) → inner ≡ Some text → Trims text) → Trims (value_text set inner)
+value_trims set None h at t (value.Struct r) = refl
+value_trims set (Some text) h at t (value.Struct r) = record_trims set text (h text refl) at (struct_number t) r
+value_trims set inner h at t (value.Group r) = refl
+value_trims set None h at t (value.Elements vs) = refl
+value_trims set (Some text) h at t (value.Elements vs) = ap (list_text at) (elements_trim set text (h text refl) (deeper at) (element_type t) vs)
+value_trims set inner h at t (value.Untyped x) = refl
+value_trims set inner h at t v = refl
 
-some-is : {A : Type 0} (a b : A) → Some a ≡ Some b → a ≡ b
-some-is a b e = cc
+some_is : {A : Type 0} (a b : A) → Some a ≡ Some b → a ≡ b
+some_is a b e = cc
 
-none-some : {A : Type 0} (a : A) → None ≡ Some a → ⊥
-none-some a e = cc
+none_some : {A : Type 0} (a : A) → None ≡ Some a → ⊥
+none_some a e = cc
 
-within-trims : (set : Schemas) (n : ℕ) → Trims (text_within set n)
-within-trims set zero = value-trims set None (λ text e. absurd (none-some text e))
-within-trims set (suc n) = value-trims set (Some (text_within set n)) (λ text e. subst Trims (some-is (text_within set n) text e) (within-trims set n))
+within_trims : (set : Schemas) (n : ℕ) → Trims (text_within set n)
+within_trims set zero = value_trims set None (λ text e. absurd (none_some text e))
+within_trims set (suc n) = value_trims set (Some (text_within set n)) (λ text e. subst Trims (some_is (text_within set n) text e) (within_trims set n))
 
 -- values that are the same, trees behind untyped pointers aside, have one text
-pub text-alike : (set : Schemas) (indented : Bool) (t : SchemaType) (v w : Value) → trimmed v ≡ trimmed w → text_of set indented t v ≡ text_of set indented t w
-text-alike set indented t v w e =
+pub text_alike : (set : Schemas) (indented : Bool) (t : SchemaType) (v w : Value) → trimmed v ≡ trimmed w → text_of set indented t v ≡ text_of set indented t w
+text_alike set indented t v w e =
     sym (whole v) ∙ (ap (text_of set indented t) e ∙ whole w)
   where
     whole : (x : Value) → text_of set indented t (trimmed x) ≡ text_of set indented t x
-    whole x = part-trims set (text_within set 64) (within-trims set 64) (cond indented (Some 0) None) VoidValue t x
+    whole x = part_trims set (text_within set 64) (within_trims set 64) (cond indented (Some 0) None) VoidValue t x

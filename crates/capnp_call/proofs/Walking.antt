@@ -171,12 +171,12 @@ module _ (f : Field) (rest : List Step) (end : Ending) (s : StructTree) where
 
 -- ---- what is left in the owner ----
 
-with_tree-twice : (ts : Trees) (i : ℕ) (t u : Tree) → with_tree (with_tree ts i t) i u ≡ with_tree ts i u
-with_tree-twice NoTrees i t u = refl
-with_tree-twice (MoreTrees x ts) zero t u = refl
-with_tree-twice (MoreTrees x ts) (suc i) t u = ap (MoreTrees x) (with_tree-twice ts i t u)
+with_tree_twice : (ts : Trees) (i : ℕ) (t u : Tree) → with_tree (with_tree ts i t) i u ≡ with_tree ts i u
+with_tree_twice NoTrees i t u = refl
+with_tree_twice (MoreTrees x ts) zero t u = refl
+with_tree_twice (MoreTrees x ts) (suc i) t u = ap (MoreTrees x) (with_tree_twice ts i t u)
 
 -- another tree at a pointer that was filled
 pub pointer_again : (s m s' : StructTree) (i : ℕ) (filled t : Tree) → m ≡ with_pointer_tree s i filled → s' ≡ with_pointer_tree m i t → s' ≡ with_pointer_tree s i t
 pointer_again s m s' i filled t h e =
-    e ∙ (ap (λ (y : StructTree). with_pointer_tree y i t) h ∙ ap (λ (ts : Trees). record { bytes = s.bytes; pointers = ts }) (with_tree-twice s.pointers i filled t))
+    e ∙ (ap (λ (y : StructTree). with_pointer_tree y i t) h ∙ ap (λ (ts : Trees). record { bytes = s.bytes; pointers = ts }) (with_tree_twice s.pointers i filled t))

@@ -5,7 +5,7 @@ use Rattle.capnp_wire.specs.Standing.{struct_levels, struct_of}
 use Rattle.capnp_schema.specs.Schema.{Schemas, fields_of, node_of}
 use Rattle.capnp_schema.specs.StructHandles.{number_of, set_of}
 use Rattle.capnp_schema.specs.declared.schema.structs.StructSchema.{StructSchema}
-use Rattle.capnp_records.specs.Facts.Frame.{first-of}
+use Rattle.capnp_records.specs.Facts.Frame.{chosen_first}
 use Rattle.capnp_records.specs.Part.{which_of}
 use Rattle.capnp_records.specs.Reading.{active_among, discriminant, part_of, non_union_parts, reads, struct_record, values_of}
 use Rattle.capnp_records.specs.Record.{Endless, Left, Levels, NoUnion, Parts}
@@ -19,7 +19,7 @@ which_same set l m x s b h = go ((node_of set b).discriminant_count == 0) refl
   where
     none : (l : Levels) (y : StructTree) → ((node_of set b).discriminant_count == 0) ≡ true → which_of (struct_record set l y b) ≡ None
     none l y e = ap (λ u. which_of (Parts (non_union_parts (part_of set l y.bytes (values_of set y.pointers)) (fields_of set b)) u))
-        (first-of ((node_of set b).discriminant_count == 0) NoUnion (active_among (part_of set l y.bytes (values_of set y.pointers)) (fields_of set b) 0 (discriminant (node_of set b) y.bytes)) e)
+        (chosen_first ((node_of set b).discriminant_count == 0) NoUnion (active_among (part_of set l y.bytes (values_of set y.pointers)) (fields_of set b) 0 (discriminant (node_of set b) y.bytes)) e)
 
     go : (q : Bool) → ((node_of set b).discriminant_count == 0) ≡ q → which_of (struct_record set l x b) ≡ which_of (struct_record set m s b)
     go true e = none l x e ∙ sym (none m s e)

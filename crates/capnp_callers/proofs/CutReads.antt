@@ -9,7 +9,7 @@ use Rattle.capnp_arena.specs.Same.{IsStructCutOf, SameParts, SameRow, SameTo}
 use Rattle.capnp_schema.specs.Schema.{Schemas, Value as SchemaValue, FieldKind, Slot, Group, TypedField, default_of}
 use Rattle.capnp_schema.specs.Types.{SchemaType, TextType, DataType, StructType, ListType, AnyPointerType, element_size}
 use Rattle.capnp_records.specs.Default.{read_of}
-use Rattle.capnp_records.specs.Facts.Pointers.{values_of-nth}
+use Rattle.capnp_records.specs.Facts.Pointers.{values_of_nth}
 use Rattle.capnp_records.specs.Reading.{Reading, kind_value, nth_reading, of_read, record_within, value_of, values_of}
 use Rattle.capnp_records.specs.Record as value
 use Rattle.capnp_records.specs.Record.{Left, Record, Value, Values}
@@ -67,9 +67,9 @@ module _ (set : Schemas) (d : SchemaValue) where
     pointer_agrees : (o : ℕ) (t : SchemaType) → IsLeaf (read_of set d t (nth_reading (values_of set qs) o (Left 64) t)) →
         read_of set d t (nth_reading (values_of set ps) o (Left 64) t) ≡ read_of set d t (nth_reading (values_of set qs) o (Left 64) t)
     pointer_agrees o t leaf =
-        ap (λ (r : Reading). read_of set d t (r (Left 64) t)) (values_of-nth set ps o)
-        ∙ (tree_agrees n (nth_tree ps o) (nth_tree qs o) t (row.1 o) (subst (λ (r : Reading). IsLeaf (read_of set d t (r (Left 64) t))) (values_of-nth set qs o) leaf)
-        ∙ ap (λ (r : Reading). read_of set d t (r (Left 64) t)) (sym (values_of-nth set qs o)))
+        ap (λ (r : Reading). read_of set d t (r (Left 64) t)) (values_of_nth set ps o)
+        ∙ (tree_agrees n (nth_tree ps o) (nth_tree qs o) t (row.1 o) (subst (λ (r : Reading). IsLeaf (read_of set d t (r (Left 64) t))) (values_of_nth set qs o) leaf)
+        ∙ ap (λ (r : Reading). read_of set d t (r (Left 64) t)) (sym (values_of_nth set qs o)))
 
     part_agrees : (f g : ℕ → Record) (k : FieldKind) (t : SchemaType) → IsLeaf (handed_out k (read_of set d t (kind_value g (Left 64) bytes (values_of set qs) k t))) →
         handed_out k (read_of set d t (kind_value f (Left 64) bytes (values_of set ps) k t)) ≡ handed_out k (read_of set d t (kind_value g (Left 64) bytes (values_of set qs) k t))

@@ -21,26 +21,26 @@ pub mismatched : {A : Type 0} (N : Type 0) (q : Bool) → (N → q ≡ false) �
 mismatched N q other As Within (Ok a) within h = tt
 mismatched N q other As Within (Err e) within h = inr (h.0, other h.1, within)
 
-number-no-text : (t : SchemaType) → is_pointer t ≡ false → is_text_type t ≡ false
-number-no-text TextType e = e
-number-no-text t e = refl
+number_no_text : (t : SchemaType) → is_pointer t ≡ false → is_text_type t ≡ false
+number_no_text TextType e = e
+number_no_text t e = refl
 
-struct-no-text : (t : SchemaType) {b : _} → struct_brand t ≡ Some b → is_text_type t ≡ false
-struct-no-text TextType e = absurd cc
-struct-no-text t e = refl
+struct_no_text : (t : SchemaType) {b : _} → struct_brand t ≡ Some b → is_text_type t ≡ false
+struct_no_text TextType e = absurd cc
+struct_no_text t e = refl
 
-no-text-out : (set : Schemas) (t : SchemaType) (x : Tree) (v : BuiltValue) → HandsOut false set t x v → IsNoText v → is_text_type t ≡ false
-no-text-out set t x (built.Text b) h n = absurd n
-no-text-out set t x (built.«Data» bytes) h n = sym (ap is_text_type h.0)
-no-text-out set t x (built.Struct s) h n = struct-no-text t h.0
-no-text-out set t x (built.List l) h n = sym (ap is_text_type h.0)
-no-text-out set t x (built.AnyPointer p) h n = sym (ap is_text_type h.0)
-no-text-out set t x v h n = absurd h
+no_text_out : (set : Schemas) (t : SchemaType) (x : Tree) (v : BuiltValue) → HandsOut false set t x v → IsNoText v → is_text_type t ≡ false
+no_text_out set t x (built.Text b) h n = absurd n
+no_text_out set t x (built.«Data» bytes) h n = sym (ap is_text_type h.0)
+no_text_out set t x (built.Struct s) h n = struct_no_text t h.0
+no_text_out set t x (built.List l) h n = sym (ap is_text_type h.0)
+no_text_out set t x (built.AnyPointer p) h n = sym (ap is_text_type h.0)
+no_text_out set t x v h n = absurd h
 
 pub no_text : (f : Field) (s : StructTree) (v : BuiltValue) → HandsField f s v → IsNoText v → hands_text (typed_of f) ≡ false
 no_text f s v = go (is_group_field (typed_of f).field.kind) (is_pointer (typed_of f).type) refl
   where
     go : (q p : Bool) → is_pointer (typed_of f).type ≡ p → part_handed q p (field_set f) (typed_of f) s v → IsNoText v → (not q && is_text_type (typed_of f).type) ≡ false
     go true p e h n = refl
-    go false true e h n = no-text-out (field_set f) (typed_of f).type (field_filled (field_set f) (typed_of f) s) v h n
-    go false false e h n = number-no-text (typed_of f).type e
+    go false true e h n = no_text_out (field_set f) (typed_of f).type (field_filled (field_set f) (typed_of f) s) v h n
+    go false false e h n = number_no_text (typed_of f).type e

@@ -22,34 +22,34 @@ past_step f step = record { value = f.value; last = Some step }
 
 -- ---- the innermost ----
 
-left-popped : (set : Schemas) (n : ℕ) (fs : List Frame) (f : Frame) → AreNoneLeft set f.value (next_index f.last) → parts_left set n (fs ++ f ∷ []) ≡ parts_left set n fs
+left_popped : (set : Schemas) (n : ℕ) (fs : List Frame) (f : Frame) → AreNoneLeft set f.value (next_index f.last) → parts_left set n (fs ++ f ∷ []) ≡ parts_left set n fs
 unfolding parts_left
-left-popped set n [] f none = none (n - 1)
-left-popped set n (g ∷ gs) f none = ap (λ (xs : List ShownPart). map (behind_frame set g) xs ++ rest_of set (n - 1) g) (left-popped set (n - 1) gs f none)
+left_popped set n [] f none = none (n - 1)
+left_popped set n (g ∷ gs) f none = ap (λ (xs : List ShownPart). map (behind_frame set g) xs ++ rest_of set (n - 1) g) (left_popped set (n - 1) gs f none)
 
-enough-popped : (set : Schemas) (n : ℕ) (fs : List Frame) (f : Frame) → IsEnough set n (fs ++ f ∷ []) → IsEnough set n fs
+enough_popped : (set : Schemas) (n : ℕ) (fs : List Frame) (f : Frame) → IsEnough set n (fs ++ f ∷ []) → IsEnough set n fs
 unfolding IsEnough
-enough-popped set n [] f h = tt {0}
-enough-popped set n (g ∷ gs) f h = (h.0, enough-popped set (n - 1) gs f h.1)
+enough_popped set n [] f h = tt {0}
+enough_popped set n (g ∷ gs) f h = (h.0, enough_popped set (n - 1) gs f h.1)
 
-less-left : (below own n : ℕ) → below < own → own ≤ n → below ≤ n - 1
-less-left below own n lt le = omega (arith, lt, le)
+less_left : (below own n : ℕ) → below < own → own ≤ n → below ≤ n - 1
+less_left below own n lt le = omega (arith, lt, le)
 
-left-entered : (set : Schemas) (n : ℕ) (fs : List Frame) (f : Frame) (step : PlaceStep) (part : OpenValue) → IsEnough set n (fs ++ f ∷ []) → IsNextPart set f.value (next_index f.last) step part →
+left_entered : (set : Schemas) (n : ℕ) (fs : List Frame) (f : Frame) (step : PlaceStep) (part : OpenValue) → IsEnough set n (fs ++ f ∷ []) → IsNextPart set f.value (next_index f.last) step part →
     parts_left set n (fs ++ f ∷ [])
     ≡ part_above set (fs ++ past_step f step ∷ []) (refusal_itself (parts_seen part)) ∷ parts_left set n (fs ++ past_step f step ∷ at_start part ∷ [])
 unfolding IsEnough part_above parts_left
-left-entered set n [] f step part h next =
+left_entered set n [] f step part h next =
     next.rest (n - 1)
     ∙ ap (λ (xs : List ShownPart). map (behind_step step (part_word set (parts_seen f.value) step)) xs ++ parts_rest set (n - 1) (parts_seen f.value) (step_index step + 1))
-    (whole_within set (n - 1) part (less-left (steps_below set part) (steps_below set f.value) n next.less h.0))
-left-entered set n (g ∷ gs) f step part h next = ap (λ (xs : List ShownPart). map (behind_frame set g) xs ++ rest_of set (n - 1) g) (left-entered set (n - 1) gs f step part h.1 next)
+    (whole_within set (n - 1) part (less_left (steps_below set part) (steps_below set f.value) n next.less h.0))
+left_entered set n (g ∷ gs) f step part h next = ap (λ (xs : List ShownPart). map (behind_frame set g) xs ++ rest_of set (n - 1) g) (left_entered set (n - 1) gs f step part h.1 next)
 
-enough-entered : (set : Schemas) (n : ℕ) (fs : List Frame) (f : Frame) (step : PlaceStep) (part : OpenValue) → IsEnough set n (fs ++ f ∷ []) → IsNextPart set f.value (next_index f.last) step part →
+enough_entered : (set : Schemas) (n : ℕ) (fs : List Frame) (f : Frame) (step : PlaceStep) (part : OpenValue) → IsEnough set n (fs ++ f ∷ []) → IsNextPart set f.value (next_index f.last) step part →
     IsEnough set n (fs ++ past_step f step ∷ at_start part ∷ [])
 unfolding IsEnough
-enough-entered set n [] f step part h next = (h.0, (less-left (steps_below set part) (steps_below set f.value) n next.less h.0, tt {0}))
-enough-entered set n (g ∷ gs) f step part h next = (h.0, enough-entered set (n - 1) gs f step part h.1 next)
+enough_entered set n [] f step part h next = (h.0, (less_left (steps_below set part) (steps_below set f.value) n next.less h.0, tt {0}))
+enough_entered set n (g ∷ gs) f step part h next = (h.0, enough_entered set (n - 1) gs f step part h.1 next)
 
 -- ---- of one set ----
 
@@ -69,15 +69,15 @@ open_none set fs e = subst (AreOpenIn set) (sym e) (tt {0})
 
 -- ---- a visit ----
 
-one-refused : (o : Option ErrorKind) (x : ShownPart) (xs : List ShownPart) → with_refused o x [] ++ xs ≡ with_refused o x xs
-one-refused None x xs = refl
-one-refused (Some kind) x xs = refl
+one_refused : (o : Option ErrorKind) (x : ShownPart) (xs : List ShownPart) → with_refused o x [] ++ xs ≡ with_refused o x xs
+one_refused None x xs = refl
+one_refused (Some kind) x xs = refl
 
 pub visit_popped : (set : Schemas) (n visited : ℕ) (all found : List ShownPart) (fs : List Frame) (f : Frame) → AreNoneLeft set f.value (next_index f.last) → IsVisit set n all visited found (fs ++ f ∷ []) → IsVisit set n all visited found fs
 visit_popped set n visited all found fs f none visit = record {
-  refused = ap (λ (xs : List ShownPart). found ++ refused_parts xs) (sym (left-popped set n fs f none)) ∙ visit.refused;
-  count = ap (λ (xs : List ShownPart). visited + length xs) (sym (left-popped set n fs f none)) ∙ visit.count;
-  enough = enough-popped set n fs f visit.enough;
+  refused = ap (λ (xs : List ShownPart). found ++ refused_parts xs) (sym (left_popped set n fs f none)) ∙ visit.refused;
+  count = ap (λ (xs : List ShownPart). visited + length xs) (sym (left_popped set n fs f none)) ∙ visit.count;
+  enough = enough_popped set n fs f visit.enough;
 }
 
 pub visit_on : (set : Schemas) (n visited : ℕ) (all found : List ShownPart) (fs : List Frame) (f : Frame) (step : PlaceStep) (part : OpenValue) → IsNextPart set f.value (next_index f.last) step part → IsVisit set n all visited found (fs ++ f ∷ []) →
@@ -85,10 +85,10 @@ pub visit_on : (set : Schemas) (n visited : ℕ) (all found : List ShownPart) (f
 visit_on set n visited all found fs f step part next visit = record {
   refused =
       append_assoc found (refused_parts (x ∷ [])) (refused_parts xs)
-      ∙ (ap (λ (ys : List ShownPart). found ++ ys) (one-refused x.refusal x (refused_parts xs))
+      ∙ (ap (λ (ys : List ShownPart). found ++ ys) (one_refused x.refusal x (refused_parts xs))
       ∙ (ap (λ (ys : List ShownPart). found ++ refused_parts ys) (sym entered) ∙ visit.refused));
   count = (let now = visit.count in let more = ap length entered in omega (arith, now, more));
-  enough = enough-entered set n fs f step part visit.enough next;
+  enough = enough_entered set n fs f step part visit.enough next;
 }
   where
     x : ShownPart
@@ -99,28 +99,28 @@ visit_on set n visited all found fs f step part next visit = record {
 
     entered : parts_left set n (fs ++ f ∷ [])
         ≡ part_above set (fs ++ past_step f step ∷ []) (refusal_itself (parts_seen part)) ∷ parts_left set n (fs ++ past_step f step ∷ at_start part ∷ [])
-    entered = left-entered set n fs f step part visit.enough next
+    entered = left_entered set n fs f step part visit.enough next
 
 -- one part at least is to come
 pub visit_more : (set : Schemas) (n visited : ℕ) (all found : List ShownPart) (fs : List Frame) (f : Frame) (step : PlaceStep) (part : OpenValue) → IsNextPart set f.value (next_index f.last) step part → IsVisit set n all visited found (fs ++ f ∷ []) →
     visited < length all
 visit_more set n visited all found fs f step part next visit =
     let now = visit.count in
-    let more = ap length (left-entered set n fs f step part visit.enough next) in
+    let more = ap length (left_entered set n fs f step part visit.enough next) in
     omega (arith, now, more)
 
-one-more : (x : ShownPart) (xs all : List ShownPart) → all ≡ x ∷ xs → 1 + length xs ≡ length all
-one-more x xs all e = (let counted = ap length e in omega (arith, counted))
+one_more : (x : ShownPart) (xs all : List ShownPart) → all ≡ x ∷ xs → 1 + length xs ≡ length all
+one_more x xs all e = (let counted = ap length e in omega (arith, counted))
 
-none-length : (xs : List ShownPart) → xs ≡ [] → length xs ≡ 0
-none-length xs e = ap length e
+none_length : (xs : List ShownPart) → xs ≡ [] → length xs ≡ 0
+none_length xs e = ap length e
 
 pub visit_start : (v : DynamicValue) (n : ℕ) (o : OpenValue) → parts_seen o ≡ root_parts v → steps_below (set_seen v) o ≤ n →
     IsVisit (set_seen v) n (shown_within n v) 1 (refused_parts (part_above (set_seen v) [] (refusal_itself (parts_seen o)) ∷ [])) (at_start o ∷ [])
 unfolding IsEnough part_above parts_left
 visit_start v n o e le = record {
-  refused = one-refused (refusal_itself (parts_seen o)) (itself (parts_seen o)) (refused_parts (parts_rest (set_seen v) (n - 1) (parts_seen o) 0)) ∙ ap refused_parts (sym whole);
-  count = one-more (itself (parts_seen o)) (parts_rest (set_seen v) (n - 1) (parts_seen o) 0) (shown_within n v) whole;
+  refused = one_refused (refusal_itself (parts_seen o)) (itself (parts_seen o)) (refused_parts (parts_rest (set_seen v) (n - 1) (parts_seen o) 0)) ∙ ap refused_parts (sym whole);
+  count = one_more (itself (parts_seen o)) (parts_rest (set_seen v) (n - 1) (parts_seen o) 0) (shown_within n v) whole;
   enough = (le, tt {0});
 }
   where
@@ -130,11 +130,11 @@ visit_start v n o e le = record {
 pub visit_done : (set : Schemas) (n visited : ℕ) (all found : List ShownPart) (fs : List Frame) → fs ≡ [] → IsVisit set n all visited found fs → (found ≡ refused_parts all) × (visited ≡ length all)
 unfolding parts_left
 visit_done set n visited all found fs e visit =
-    (sym (append-none found) ∙ (ap (λ (gs : List Frame). found ++ refused_parts (parts_left set n gs)) (sym e) ∙ visit.refused), (let now = visit.count in let none = none-length (parts_left set n fs) (ap (parts_left set n) e) in omega (arith, now, none)))
+    (sym (append_none found) ∙ (ap (λ (gs : List Frame). found ++ refused_parts (parts_left set n gs)) (sym e) ∙ visit.refused), (let now = visit.count in let none = none_length (parts_left set n fs) (ap (parts_left set n) e) in omega (arith, now, none)))
   where
-    append-none : (xs : List ShownPart) → xs ++ [] ≡ xs
-    append-none [] = refl
-    append-none (x ∷ xs) = ap (λ (ys : List ShownPart). x ∷ ys) (append-none xs)
+    append_none : (xs : List ShownPart) → xs ++ [] ≡ xs
+    append_none [] = refl
+    append_none (x ∷ xs) = ap (λ (ys : List ShownPart). x ∷ ys) (append_none xs)
 
 -- ---- a count alone ----
 
@@ -147,23 +147,23 @@ count_start v n o e le = (let visit = visit_start v n o e le in record { count =
 
 pub count_popped : (set : Schemas) (n visited : ℕ) (all : List ShownPart) (fs : List Frame) (f : Frame) → AreNoneLeft set f.value (next_index f.last) → IsCounted set n all visited (fs ++ f ∷ []) → IsCounted set n all visited fs
 count_popped set n visited all fs f none counted = record {
-  count = ap (λ (xs : List ShownPart). visited + length xs) (sym (left-popped set n fs f none)) ∙ counted.count;
-  enough = enough-popped set n fs f counted.enough;
+  count = ap (λ (xs : List ShownPart). visited + length xs) (sym (left_popped set n fs f none)) ∙ counted.count;
+  enough = enough_popped set n fs f counted.enough;
 }
 
 pub count_on : (set : Schemas) (n visited : ℕ) (all : List ShownPart) (fs : List Frame) (f : Frame) (step : PlaceStep) (part : OpenValue) → IsNextPart set f.value (next_index f.last) step part → IsCounted set n all visited (fs ++ f ∷ []) →
     IsCounted set n all (visited + 1) (fs ++ past_step f step ∷ at_start part ∷ [])
 count_on set n visited all fs f step part next counted = record {
-  count = (let now = counted.count in let more = ap length (left-entered set n fs f step part counted.enough next) in omega (arith, now, more));
-  enough = enough-entered set n fs f step part counted.enough next;
+  count = (let now = counted.count in let more = ap length (left_entered set n fs f step part counted.enough next) in omega (arith, now, more));
+  enough = enough_entered set n fs f step part counted.enough next;
 }
 
 pub count_more : (set : Schemas) (n visited : ℕ) (all : List ShownPart) (fs : List Frame) (f : Frame) (step : PlaceStep) (part : OpenValue) → IsNextPart set f.value (next_index f.last) step part → IsCounted set n all visited (fs ++ f ∷ []) → visited < length all
 count_more set n visited all fs f step part next counted =
     let now = counted.count in
-    let more = ap length (left-entered set n fs f step part counted.enough next) in
+    let more = ap length (left_entered set n fs f step part counted.enough next) in
     omega (arith, now, more)
 
 pub count_done : (set : Schemas) (n visited : ℕ) (all : List ShownPart) (fs : List Frame) → fs ≡ [] → IsCounted set n all visited fs → visited ≡ length all
 unfolding parts_left
-count_done set n visited all fs e counted = (let now = counted.count in let none = none-length (parts_left set n fs) (ap (parts_left set n) e) in omega (arith, now, none))
+count_done set n visited all fs e counted = (let now = counted.count in let none = none_length (parts_left set n fs) (ap (parts_left set n) e) in omega (arith, now, none))

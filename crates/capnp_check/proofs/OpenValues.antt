@@ -18,7 +18,7 @@ use Rattle.capnp_schema.specs.Types.{ListType, SchemaType, StructType, struct_br
 use Rattle.capnp_schema.specs.declared.schema.fields.Field.{Field}
 use Rattle.capnp_schema.specs.declared.schema.structs.StructSchema.{StructSchema}
 use Rattle.capnp_records.specs.Default.{read_of}
-use Rattle.capnp_records.specs.Facts.Groups.{part_of-group}
+use Rattle.capnp_records.specs.Facts.Groups.{part_of_group}
 use Rattle.capnp_records.specs.Reading.{element_type, kind_value, record_of, record_within, slot_value, struct_record, values_of}
 use Rattle.capnp_records.specs.Record as value
 use Rattle.capnp_records.specs.Record.{Left, Levels, Record, Value}
@@ -40,7 +40,7 @@ use Rattle.capnp_check.specs.Refusals.{text_refusal}
 use Rattle.capnp_check.specs.Steps.PlaceSteps.{IsElementOpened, IsFieldOpened, IsOpenIn, level_steps, parts_refusal, parts_seen, steps_below, value_opened}
 use Rattle.capnp_check.specs.declared.parts_below.OpenValue.{OpenValue}
 use Rattle.capnp_check.specs.declared.parts_below.OpenValue.TheVariants as opened
-use Rattle.capnp_dynamic_readers.specs.Facts.PartsShown.{IsNoGroup, group_named, no_group_slot, some-none, target_in, under_of}
+use Rattle.capnp_dynamic_readers.specs.Facts.PartsShown.{IsNoGroup, group_named, no_group_slot, some_none, target_in, under_of}
 use Rattle.capnp_check.proofs.Refused.{quoted_said}
 
 -- ---- the refusal of what is shown is the text's ----
@@ -93,33 +93,33 @@ fault_parts left t kind = ap RefusedAs (kind_is left t kind)
 
 -- ---- fewer steps can follow ----
 
-max-most : (a b n : ℕ) → a ≤ n → b ≤ n → max a b ≤ n
-max-most a b n h k = grind (arith, h, k)
+max_most : (a b n : ℕ) → a ≤ n → b ≤ n → max a b ≤ n
+max_most a b n h k = grind (arith, h, k)
 
-highest-most : (n : ℕ) (height : TypedField → ℕ) (fs : List TypedField) → ((f : TypedField) → height f ≤ n) → highest height fs ≤ n
-highest-most n height [] h = omega arith
-highest-most n height (f ∷ fs) h = max-most (height f) (highest height fs) n (h f) (highest-most n height fs h)
+highest_most : (n : ℕ) (height : TypedField → ℕ) (fs : List TypedField) → ((f : TypedField) → height f ≤ n) → highest height fs ≤ n
+highest_most n height [] h = omega arith
+highest_most n height (f ∷ fs) h = max_most (height f) (highest height fs) n (h f) (highest_most n height fs h)
 
-above-most : (n : ℕ) (group : ℕ → ℕ) (o : Option ℕ) → ((b : ℕ) → group b ≤ n) → height_above group o ≤ suc n
-above-most n group None h = omega arith
-above-most n group (Some g) h = (let le = h g in omega (arith, le))
+above_most : (n : ℕ) (group : ℕ → ℕ) (o : Option ℕ) → ((b : ℕ) → group b ≤ n) → height_above group o ≤ suc n
+above_most n group None h = omega arith
+above_most n group (Some g) h = (let le = h g in omega (arith, le))
 
-kind-most : (n : ℕ) (group : ℕ → ℕ) (k : FieldKind) (t : SchemaType) → ((b : ℕ) → group b ≤ n) → kind_height group k t ≤ suc n
-kind-most n group (Slot o d) t h = omega arith
-kind-most n group (Group m) t h = above-most n group (struct_brand t) h
+kind_most : (n : ℕ) (group : ℕ → ℕ) (k : FieldKind) (t : SchemaType) → ((b : ℕ) → group b ≤ n) → kind_height group k t ≤ suc n
+kind_most n group (Slot o d) t h = omega arith
+kind_most n group (Group m) t h = above_most n group (struct_brand t) h
 
-within-most : (n : ℕ) (set : Schemas) (b : ℕ) → height_within n set b ≤ n
+within_most : (n : ℕ) (set : Schemas) (b : ℕ) → height_within n set b ≤ n
 unfolding height_within
-within-most zero set b = omega arith
-within-most (suc n) set b = highest-most (suc n) (λ f. kind_height (height_within n set) f.field.kind f.type) (fields_of set b) (λ f. kind-most n (height_within n set) f.field.kind f.type (within-most n set))
+within_most zero set b = omega arith
+within_most (suc n) set b = highest_most (suc n) (λ f. kind_height (height_within n set) f.field.kind f.type) (fields_of set b) (λ f. kind_most n (height_within n set) f.field.kind f.type (within_most n set))
 
-pub height-most : (set : Schemas) (b : ℕ) → group_height set b ≤ suc (length set.brands)
+pub height_most : (set : Schemas) (b : ℕ) → group_height set b ≤ suc (length set.brands)
 unfolding group_height
-height-most set b = within-most (suc (length set.brands)) set b
+height_most set b = within_most (suc (length set.brands)) set b
 
 pub value_below : (set : Schemas) (left : ℕ) (v : DynamicValue) → steps_below set (value_opened left v) ≤ level_steps set left
 value_below set zero (dynamic.Struct s) = omega arith
-value_below set (suc n) (dynamic.Struct s) = (let le = height-most set (number_of (schema_of s)) in omega (arith, le))
+value_below set (suc n) (dynamic.Struct s) = (let le = height_most set (number_of (schema_of s)) in omega (arith, le))
 value_below set zero (dynamic.List l) = omega arith
 value_below set (suc n) (dynamic.List l) = omega arith
 value_below set left v = omega arith
@@ -137,7 +137,7 @@ module _ (set : Schemas) (group : ℕ → Record) (l : Levels) (s : StructTree) 
   slot_parts left (Slot o d) t v fits e is under = sym
       (no_group_parts set left d t (slot_value l s.bytes (values_of set s.pointers) o d t) (no_group_slot set l s o d t)
       ∙ (ap (value_parts left t) (sym is) ∙ parts_under set t left v under))
-  slot_parts left (Group n) (StructType b g) v fits e is under = absurd (some-none e)
+  slot_parts left (Group n) (StructType b g) v fits e is under = absurd (some_none e)
   slot_parts left (Group n) t v fits e is under = absurd fits
 
   unread_parts : (left : ℕ) (k : FieldKind) (t : SchemaType) (kind : ErrorKind) →
@@ -146,18 +146,18 @@ module _ (set : Schemas) (group : ℕ → Record) (l : Levels) (s : StructTree) 
   unread_parts left (Slot o d) t kind is = sym
       (no_group_parts set left d t (slot_value l s.bytes (values_of set s.pointers) o d t) (no_group_slot set l s o d t)
       ∙ (ap (value_parts left t) (sym is) ∙ fault_parts left t kind))
-  unread_parts left (Group n) t kind is = absurd (fault-struct is)
+  unread_parts left (Group n) t kind is = absurd (fault_struct is)
     where
-      fault-struct : {kind : ErrorKind} {r : Record} → value.Fault kind ≡ value.Struct r → ⊥
-      fault-struct e = cc
+      fault_struct : {kind : ErrorKind} {r : Record} → value.Fault kind ≡ value.Struct r → ⊥
+      fault_struct e = cc
 
 number_named : (k : FieldKind) (t : SchemaType) (g : ℕ) → kind_target k t ≡ Some g → struct_number t ≡ g
 number_named (Slot o d) t g e = cc
 number_named (Group m) t g e = ap (λ o. unwrap_or o 0) e
 
 module _ (left : ℕ) (h : StructHandle) (f : Field) (field : IsFieldOf (schema_of h) (index_of f) f) where
-  abbrev own-group : ℕ → Record
-  own-group = record_within (length (set_of (schema_of h)).brands) (set_of (schema_of h)) (Left (struct_levels (reader_of h))) (struct_of (reader_of h)).bytes (values_of (set_of (schema_of h)) (struct_of (reader_of h)).pointers)
+  abbrev own_group : ℕ → Record
+  own_group = record_within (length (set_of (schema_of h)).brands) (set_of (schema_of h)) (Left (struct_levels (reader_of h))) (struct_of (reader_of h)).bytes (values_of (set_of (schema_of h)) (struct_of (reader_of h)).pointers)
 
   -- a struct's parts have more steps than a value in one of its slots
   value_less : (v : DynamicValue) → steps_below (set_of (schema_of h)) (value_opened left v) < steps_below (set_of (schema_of h)) (opened.Struct h left)
@@ -165,7 +165,7 @@ module _ (left : ℕ) (h : StructHandle) (f : Field) (field : IsFieldOf (schema_
 
   pub slot_opened : IsStruct (schema_of h) → IsSlotField f → (v : DynamicValue) (o : OpenValue) → o ≡ value_opened left v → value_seen v ≡ field_seen h (index_of f) → IsOf (set_of (schema_of h)) (field_in h f).type v → IsFieldOpened left h (field_in h f) o
   slot_opened stands slot v o e is typed = subst (λ (z : OpenValue). IsFieldOpened left h (field_in h f) z) (sym e) (record {
-    parts = slot_parts (set_of (schema_of h)) own-group (Left (struct_levels (reader_of h))) (struct_of (reader_of h)) left (field_in h f).field.kind (field_in h f).type v
+    parts = slot_parts (set_of (schema_of h)) own_group (Left (struct_levels (reader_of h))) (struct_of (reader_of h)) left (field_in h f).field.kind (field_in h f).type v
         (stands.accepted.rule7 (number_of (schema_of h)) (index_of f) stands.number field.inside) (sym (target_in h f field None (sym slot))) is (under_of (set_of (schema_of h)) (field_in h f).type v typed);
     of_set = of_set_under (set_of (schema_of h)) (field_in h f).type left v (under_of (set_of (schema_of h)) (field_in h f).type v typed);
     less = value_less v;
@@ -175,7 +175,7 @@ module _ (left : ℕ) (h : StructHandle) (f : Field) (field : IsFieldOf (schema_
   slot_unread kind other t e same is = record {
     parts =
         ap RefusedAs (e ∙ ap (λ (z : SchemaType). fault_at left z kind) (same ∙ ap (λ (z : StructSchema). (struct_field z (index_of f)).type) field.schema))
-        ∙ unread_parts (set_of (schema_of h)) own-group (Left (struct_levels (reader_of h))) (struct_of (reader_of h)) left (field_in h f).field.kind (field_in h f).type kind is;
+        ∙ unread_parts (set_of (schema_of h)) own_group (Left (struct_levels (reader_of h))) (struct_of (reader_of h)) left (field_in h f).field.kind (field_in h f).type kind is;
     of_set = tt {0};
     less = omega arith;
   }
@@ -185,25 +185,25 @@ module _ (left : ℕ) (h : StructHandle) (f : Field) (field : IsFieldOf (schema_
       Some (number_of g) ≡ kind_target (typed_of f).field.kind (typed_of f).type → IsGroupSchemaIn (field_schema f) g → IsFieldOpened left h (field_in h f) (opened.Struct n left)
   group_opened n g x xs rs is target down = record {
     parts = sym
-        (ap (part_parts (set_of (schema_of h)) left (kind_default (field_in h f).field.kind) (field_in h f).type) group-value
+        (ap (part_parts (set_of (schema_of h)) left (kind_default (field_in h f).field.kind) (field_in h f).type) group_value
         ∙ (ap (λ (m : ℕ). RecordParts left m (record_of (set_of (schema_of h)) (Left (struct_levels (reader_of h))) (struct_of (reader_of h)).bytes (values_of (set_of (schema_of h)) (struct_of (reader_of h)).pointers) (number_of g))) (number_named (field_in h f).field.kind (field_in h f).type (number_of g) (sym named))
-        ∙ (ap (λ (z : Schemas). RecordParts left (number_of g) (struct_record z (Left (struct_levels (reader_of h))) (struct_of (reader_of h)) (number_of g))) (sym in-set)
+        ∙ (ap (λ (z : Schemas). RecordParts left (number_of g) (struct_record z (Left (struct_levels (reader_of h))) (struct_of (reader_of h)) (number_of g))) (sym in_set)
         ∙ (ap (λ (y : StructReader). RecordParts left (number_of g) (struct_record (set_of g) (Left (struct_levels y)) (struct_of y) (number_of g))) (sym (rs ∙ xs))
         ∙ ap (λ (z : StructSchema). RecordParts left (number_of z) (struct_record (set_of z) (Left (struct_levels (reader_of n))) (struct_of (reader_of n)) (number_of z))) (sym is)))));
-    of_set = ap set_of is ∙ in-set;
+    of_set = ap set_of is ∙ in_set;
     less = (let lt = lower in omega (arith, lt));
   }
     where
-      in-set : set_of g ≡ set_of (schema_of h)
-      in-set = down.set ∙ ap set_of field.schema
+      in_set : set_of g ≡ set_of (schema_of h)
+      in_set = down.set ∙ ap set_of field.schema
 
       named : Some (number_of g) ≡ kind_target (field_in h f).field.kind (field_in h f).type
       named = target_in h f field (Some (number_of g)) target
 
-      group-value : kind_value own-group (Left (struct_levels (reader_of h))) (struct_of (reader_of h)).bytes (values_of (set_of (schema_of h)) (struct_of (reader_of h)).pointers) (field_in h f).field.kind (field_in h f).type
+      group_value : kind_value own_group (Left (struct_levels (reader_of h))) (struct_of (reader_of h)).bytes (values_of (set_of (schema_of h)) (struct_of (reader_of h)).pointers) (field_in h f).field.kind (field_in h f).type
           ≡ value.Group (record_of (set_of (schema_of h)) (Left (struct_levels (reader_of h))) (struct_of (reader_of h)).bytes (values_of (set_of (schema_of h)) (struct_of (reader_of h)).pointers) (number_of g))
-      group-value =
-          part_of-group (set_of (schema_of h)) (subst IsAccepted in-set down.stands.accepted) (Left (struct_levels (reader_of h))) (struct_of (reader_of h)).bytes (values_of (set_of (schema_of h)) (struct_of (reader_of h)).pointers) (number_of (schema_of h)) (index_of f) (number_of g) (brand_there (set_of (schema_of h)) (number_of (schema_of h)) (index_of f) field.inside) field.inside
+      group_value =
+          part_of_group (set_of (schema_of h)) (subst IsAccepted in_set down.stands.accepted) (Left (struct_levels (reader_of h))) (struct_of (reader_of h)).bytes (values_of (set_of (schema_of h)) (struct_of (reader_of h)).pointers) (number_of (schema_of h)) (index_of f) (number_of g) (brand_there (set_of (schema_of h)) (number_of (schema_of h)) (index_of f) field.inside) field.inside
           (group_named (field_in h f).field.kind (field_in h f).type (number_of g) (sym named))
 
       lower : group_height (set_of (schema_of h)) (number_of (schema_of n)) < group_height (set_of (schema_of h)) (number_of (schema_of h))
@@ -230,19 +230,19 @@ module _ (left : ℕ) (l : ListHandle) (i : ℕ) where
 
 -- ---- a value by its level ----
 
-before-suc : (n : ℕ) → suc n - 1 ≡ n
-before-suc n = omega arith
+before_suc : (n : ℕ) → suc n - 1 ≡ n
+before_suc n = omega arith
 
 pub struct_opened : (left : ℕ) (v : DynamicValue) (s : StructHandle) → v ≡ dynamic.Struct s → (left ≡ 0 → ⊥) → opened.Struct s (left - 1) ≡ value_opened left v
 struct_opened zero v s e some = absurd (some refl)
-struct_opened (suc n) v s e some = ap (opened.Struct s) (before-suc n) ∙ ap (value_opened (suc n)) (sym e)
+struct_opened (suc n) v s e some = ap (opened.Struct s) (before_suc n) ∙ ap (value_opened (suc n)) (sym e)
 
 pub struct_deepest : (left : ℕ) (v : DynamicValue) (s : StructHandle) → v ≡ dynamic.Struct s → left ≡ 0 → opened.Refused TooDeep ≡ value_opened left v
 struct_deepest left v s e none = ap (λ (n : ℕ). value_opened n (dynamic.Struct s)) (sym none) ∙ ap (value_opened left) (sym e)
 
 pub list_opened : (left : ℕ) (v : DynamicValue) (l : ListHandle) → v ≡ dynamic.List l → (left ≡ 0 → ⊥) → opened.List l (left - 1) ≡ value_opened left v
 list_opened zero v l e some = absurd (some refl)
-list_opened (suc n) v l e some = ap (opened.List l) (before-suc n) ∙ ap (value_opened (suc n)) (sym e)
+list_opened (suc n) v l e some = ap (opened.List l) (before_suc n) ∙ ap (value_opened (suc n)) (sym e)
 
 pub list_deepest : (left : ℕ) (v : DynamicValue) (l : ListHandle) → v ≡ dynamic.List l → left ≡ 0 → opened.Refused TooDeep ≡ value_opened left v
 list_deepest left v l e none = ap (λ (n : ℕ). value_opened n (dynamic.List l)) (sym none) ∙ ap (value_opened left) (sym e)

@@ -7,7 +7,7 @@ use Rattle.capnp_schema.specs.StructHandles.{number_of, set_of, struct_field, st
 use Rattle.capnp_schema.specs.declared.schema.fields.Field.{Field as FieldHandle}
 use Rattle.capnp_schema.specs.declared.schema.structs.StructSchema.{StructSchema}
 use Rattle.capnp_records.specs.Default.{read_of}
-use Rattle.capnp_records.specs.Facts.ListValues.{below_of, count-values_from, nth-values_from}
+use Rattle.capnp_records.specs.Facts.ListValues.{below_of, count_values_from, nth_values_from}
 use Rattle.capnp_records.specs.Part.{nth_value}
 use Rattle.capnp_records.specs.Reading.{element_value}
 use Rattle.capnp_records.specs.Record.{Left, Value}
@@ -31,15 +31,15 @@ use Rattle.capnp_check.specs.declared.parts_below.OpenValue.{OpenValue}
 use Rattle.capnp_check.specs.declared.parts_below.OpenValue.TheVariants as opened
 use Rattle.capnp_check.specs.declared.place.PlaceStep.{PlaceStep}
 use Rattle.capnp_check.specs.declared.place.PlaceStep.TheVariants.{Field, Element}
-use Rattle.capnp_dynamic_readers.specs.Facts.ItemsInOrder.{by-order, from_end, from_here, from_next, own_items}
+use Rattle.capnp_dynamic_readers.specs.Facts.ItemsInOrder.{by_order, from_end, from_here, from_next, own_items}
 use Rattle.capnp_check.proofs.Layouts.{any_lines}
 use Rattle.capnp_check.proofs.OpenValues.{part_refusal, root_refusal, value_refusal}
 use Rattle.capnp_check.proofs.Refused.{elements_end, elements_next, elements_refusal, elements_start, first_append, item_refusal, own_refusal, record_refusal}
 use Rattle.capnp_check.proofs.Shown.{shown_item, shown_part}
 
 -- below the next number is below this one, or at it
-below-next : {P : ℕ → Type 0} (i j : ℕ) → j < i + 1 → ((k : ℕ) → k < i → P k) → P i → P j
-below-next {P = P} i j lt before here = by-order j i (λ less. before j less) (λ same. subst P (sym same) here) (λ more. absurd (omega (arith, lt, more)))
+below_next : {P : ℕ → Type 0} (i j : ℕ) → j < i + 1 → ((k : ℕ) → k < i → P k) → P i → P j
+below_next {P = P} i j lt before here = by_order j i (λ less. before j less) (λ same. subst P (sym same) here) (λ more. absurd (omega (arith, lt, more)))
 
 -- ---- the fields of a struct ----
 
@@ -49,40 +49,40 @@ pub record FieldsSaid (left : ℕ) (h : StructHandle) (i : ℕ) : Type 0 where
   pub rest : text_refusal (record_shown left None h) ≡ first_refusal (from_here left None h i)
 
 module _ (left : ℕ) (h : StructHandle) where
-  abbrev field-of : ℕ → TypedField
-  field-of i = struct_field (schema_of h) i
+  abbrev field_of : ℕ → TypedField
+  field_of i = struct_field (schema_of h) i
 
-  abbrev refusal-of : ℕ → Option ErrorKind
-  refusal-of i = text_refusal (field_shown left None h (struct_field (schema_of h) i))
+  abbrev refusal_of : ℕ → Option ErrorKind
+  refusal_of i = text_refusal (field_shown left None h (struct_field (schema_of h) i))
 
   pub fields_start : FieldsSaid left h 0
   fields_start = record { before = λ j lt. absurd (omega (arith, lt)); rest = record_refusal left h }
 
-  own-first : (i : ℕ) → i < length (struct_fields (schema_of h)) → (q : Bool) → is_shown (record_seen h) (struct_field (schema_of h) i).field i ≡ q →
-      first_refusal (from_here left None h i) ≡ or_later (own_refusal q (refusal-of i)) (first_refusal (from_here left None h (i + 1)))
-  own-first i lt q e =
+  own_first : (i : ℕ) → i < length (struct_fields (schema_of h)) → (q : Bool) → is_shown (record_seen h) (struct_field (schema_of h) i).field i ≡ q →
+      first_refusal (from_here left None h i) ≡ or_later (own_refusal q (refusal_of i)) (first_refusal (from_here left None h (i + 1)))
+  own_first i lt q e =
       ap first_refusal (from_next left None h i lt)
       ∙ (first_append (own_items left None h i) (from_here left None h (i + 1))
-      ∙ (ap (λ (o : Option ErrorKind). or_later o (first_refusal (from_here left None h (i + 1)))) (item_refusal (is_item h (field-of i) i) (field-of i) (field_shown left None h (field-of i)))
-      ∙ ap (λ (b : Bool). or_later (own_refusal b (refusal-of i)) (first_refusal (from_here left None h (i + 1)))) (sym (shown_item h i lt) ∙ e)))
+      ∙ (ap (λ (o : Option ErrorKind). or_later o (first_refusal (from_here left None h (i + 1)))) (item_refusal (is_item h (field_of i) i) (field_of i) (field_shown left None h (field_of i)))
+      ∙ ap (λ (b : Bool). or_later (own_refusal b (refusal_of i)) (first_refusal (from_here left None h (i + 1)))) (sym (shown_item h i lt) ∙ e)))
 
   pub fields_past : (i : ℕ) → i < length (struct_fields (schema_of h)) → FieldsSaid left h i → IsFieldSaid left h i → FieldsSaid left h (i + 1)
   fields_past i lt said own = record {
-    before = λ j next. below-next {P = IsFieldSaid left h} i j next said.before own;
+    before = λ j next. below_next {P = IsFieldSaid left h} i j next said.before own;
     rest = said.rest ∙ go (is_shown (record_seen h) (struct_field (schema_of h) i).field i) refl own;
   }
     where
-      go : (q : Bool) → is_shown (record_seen h) (struct_field (schema_of h) i).field i ≡ q → (q ≡ true → refusal-of i ≡ None) → first_refusal (from_here left None h i) ≡ first_refusal (from_here left None h (i + 1))
-      go true e own = own-first i lt true e ∙ ap (λ (o : Option ErrorKind). or_later o (first_refusal (from_here left None h (i + 1)))) (own refl)
-      go false e own = own-first i lt false e
+      go : (q : Bool) → is_shown (record_seen h) (struct_field (schema_of h) i).field i ≡ q → (q ≡ true → refusal_of i ≡ None) → first_refusal (from_here left None h i) ≡ first_refusal (from_here left None h (i + 1))
+      go true e own = own_first i lt true e ∙ ap (λ (o : Option ErrorKind). or_later o (first_refusal (from_here left None h (i + 1)))) (own refl)
+      go false e own = own_first i lt false e
 
   pub fields_end : (i : ℕ) → length (struct_fields (schema_of h)) ≤ i → FieldsSaid left h i → text_refusal (record_shown left None h) ≡ None
   fields_end i le said = said.rest ∙ ap first_refusal (from_end left None h i le)
 
   -- the part of a field that is shown
-  refusal-seen : (i : ℕ) → i < length (struct_fields (schema_of h)) → is_shown (record_seen h) (struct_field (schema_of h) i).field i ≡ true →
-      field_refusal (set_of (schema_of h)) left (number_of (schema_of h)) (record_seen h) i ≡ refusal-of i
-  refusal-seen i lt e = ap (λ (v : Value). text_refusal (part_text (set_of (schema_of h)) (text_within (set_of (schema_of h)) left) None (default_of (field-of i).field) (field-of i).type v)) (shown_part h i lt e)
+  refusal_seen : (i : ℕ) → i < length (struct_fields (schema_of h)) → is_shown (record_seen h) (struct_field (schema_of h) i).field i ≡ true →
+      field_refusal (set_of (schema_of h)) left (number_of (schema_of h)) (record_seen h) i ≡ refusal_of i
+  refusal_seen i lt e = ap (λ (v : Value). text_refusal (part_text (set_of (schema_of h)) (text_within (set_of (schema_of h)) left) None (default_of (field_of i).field) (field_of i).type v)) (shown_part h i lt e)
 
   pub field_found : (i : ℕ) → i < length (struct_fields (schema_of h)) → FieldsSaid left h i → (next : OpenValue) → IsFieldRefused left h i next →
       IsStepBelow (set_of (schema_of h)) (opened.Struct h left) (Field i) next
@@ -90,17 +90,17 @@ module _ (left : ℕ) (h : StructHandle) where
     first = record {
       inside = lt;
       shown = found.shown;
-      before = λ j below shown. refusal-seen j (omega (arith, below, lt)) shown ∙ said.before j below shown;
+      before = λ j below shown. refusal_seen j (omega (arith, below, lt)) shown ∙ said.before j below shown;
     };
-    at = found.opened.parts ∙ ap (part_parts (set_of (schema_of h)) left (default_of (field-of i).field) (field-of i).type) (sym (shown_part h i lt found.shown));
+    at = found.opened.parts ∙ ap (part_parts (set_of (schema_of h)) left (default_of (field_of i).field) (field_of i).type) (sym (shown_part h i lt found.shown));
     of_set = found.opened.of_set;
-    same = said.rest ∙ (own-first i lt true found.shown ∙ (ap (λ (o : Option ErrorKind). or_later o (first_refusal (from_here left None h (i + 1)))) (is-refused ∙ found.refused) ∙ sym found.refused));
+    same = said.rest ∙ (own_first i lt true found.shown ∙ (ap (λ (o : Option ErrorKind). or_later o (first_refusal (from_here left None h (i + 1)))) (is_refused ∙ found.refused) ∙ sym found.refused));
     less = found.opened.less;
   }
     where
-      is-refused : refusal-of i ≡ parts_refusal (set_of (schema_of h)) (parts_seen next)
-      is-refused =
-          part_refusal (set_of (schema_of h)) left (default_of (field-of i).field) (field-of i).type (part_seen h (field-of i))
+      is_refused : refusal_of i ≡ parts_refusal (set_of (schema_of h)) (parts_seen next)
+      is_refused =
+          part_refusal (set_of (schema_of h)) left (default_of (field_of i).field) (field_of i).type (part_seen h (field_of i))
           ∙ ap (parts_refusal (set_of (schema_of h))) (sym found.opened.parts)
 
 -- a field that was asked
@@ -139,8 +139,8 @@ pub record ElementsSaid (left : ℕ) (l : ListHandle) (i : ℕ) : Type 0 where
   pub before : (j : ℕ) → j < i → IsElementSaid left l j
   pub rest : text_refusal (list_shown left None l) ≡ elements_refusal left l i
 
-zero-plus : (i : ℕ) → 0 + i ≡ i
-zero-plus i = omega arith
+zero_plus : (i : ℕ) → 0 + i ≡ i
+zero_plus i = omega arith
 
 module _ (left : ℕ) (l : ListHandle) where
   pub elements_none : ElementsSaid left l 0
@@ -148,34 +148,34 @@ module _ (left : ℕ) (l : ListHandle) where
 
   pub elements_past : (i : ℕ) → i < count_of l → ElementsSaid left l i → IsElementSaid left l i → ElementsSaid left l (i + 1)
   elements_past i lt said own = record {
-    before = λ j next. below-next {P = IsElementSaid left l} i j next said.before own;
+    before = λ j next. below_next {P = IsElementSaid left l} i j next said.before own;
     rest = said.rest ∙ (elements_next left l i lt ∙ ap (λ (o : Option ErrorKind). or_later o (elements_refusal left l (i + 1))) own);
   }
 
   pub elements_all : (i : ℕ) → count_of l < i + 1 → ElementsSaid left l i → text_refusal (list_shown left None l) ≡ None
   elements_all i le said = said.rest ∙ elements_end left l i le
 
-  abbrev pub value-at : ℕ → Value
-  value-at i = element_value (list_set l) (list_of (list_reader_of l)) (below_of (list_set l) (list_of (list_reader_of l))) (Left (list_levels (list_reader_of l))) (element_of l) i
+  abbrev pub value_at : ℕ → Value
+  value_at i = element_value (list_set l) (list_of (list_reader_of l)) (below_of (list_set l) (list_of (list_reader_of l))) (Left (list_levels (list_reader_of l))) (element_of l) i
 
-  pub nth-element : (i : ℕ) → i < count_of l → nth_value (elements_from l 0 (count_of l)) i ≡ value-at i
-  nth-element i lt = nth-values_from value-at 0 (count_of l) i lt ∙ ap value-at (zero-plus i)
+  pub nth_element : (i : ℕ) → i < count_of l → nth_value (elements_from l 0 (count_of l)) i ≡ value_at i
+  nth_element i lt = nth_values_from value_at 0 (count_of l) i lt ∙ ap value_at (zero_plus i)
 
   pub element_found : (i : ℕ) → i < count_of l → ElementsSaid left l i → (next : OpenValue) → IsElementUnsaid left l i next →
       IsStepBelow (list_set l) (opened.List l left) (Element i) next
   element_found i lt said next found = record {
     first = record {
-      inside = subst (λ (n : ℕ). i < n) (sym (count-values_from value-at 0 (count_of l))) lt;
-      before = λ j below. ap (λ (v : Value). text_refusal (text_within (list_set l) left None (element_of l) (read_of (list_set l) VoidValue (element_of l) v))) (nth-element j (omega (arith, below, lt))) ∙ said.before j below;
+      inside = subst (λ (n : ℕ). i < n) (sym (count_values_from value_at 0 (count_of l))) lt;
+      before = λ j below. ap (λ (v : Value). text_refusal (text_within (list_set l) left None (element_of l) (read_of (list_set l) VoidValue (element_of l) v))) (nth_element j (omega (arith, below, lt))) ∙ said.before j below;
     };
-    at = found.opened.parts ∙ ap (λ (v : Value). value_parts left (element_of l) (read_of (list_set l) VoidValue (element_of l) v)) (sym (nth-element i lt));
+    at = found.opened.parts ∙ ap (λ (v : Value). value_parts left (element_of l) (read_of (list_set l) VoidValue (element_of l) v)) (sym (nth_element i lt));
     of_set = found.opened.of_set;
-    same = said.rest ∙ (elements_next left l i lt ∙ (ap (λ (o : Option ErrorKind). or_later o (elements_refusal left l (i + 1))) (is-refused ∙ found.refused) ∙ sym found.refused));
+    same = said.rest ∙ (elements_next left l i lt ∙ (ap (λ (o : Option ErrorKind). or_later o (elements_refusal left l (i + 1))) (is_refused ∙ found.refused) ∙ sym found.refused));
     less = found.opened.less;
   }
     where
-      is-refused : text_refusal (element_shown left None l (element_seen l i)) ≡ parts_refusal (list_set l) (parts_seen next)
-      is-refused = value_refusal (list_set l) left (element_of l) (element_seen l i) ∙ ap (parts_refusal (list_set l)) (sym found.opened.parts)
+      is_refused : text_refusal (element_shown left None l (element_seen l i)) ≡ parts_refusal (list_set l) (parts_seen next)
+      is_refused = value_refusal (list_set l) left (element_of l) (element_seen l i) ∙ ap (parts_refusal (list_set l)) (sym found.opened.parts)
 
 pub element_said : (left : ℕ) (l : ListHandle) (i : ℕ) (next : OpenValue) → parts_seen next ≡ value_parts left (element_of l) (element_seen l i) → None ≡ parts_refusal (list_set l) (parts_seen next) → IsElementSaid left l i
 element_said left l i next parts none = value_refusal (list_set l) left (element_of l) (element_seen l i) ∙ (ap (parts_refusal (list_set l)) (sym parts) ∙ sym none)
@@ -198,15 +198,15 @@ path_next set path new step from current next e is found =
     (subst (λ (z : TextParts). IsPathTo set (path ++ step ∷ []) from z) (sym found.at) (path_further set path step from (parts_seen current) is found.first))
 
 -- a value that is refused itself
-some-same : {a b : ErrorKind} → Some a ≡ Some b → a ≡ b
-some-same e = cc
+some_same : {a b : ErrorKind} → Some a ≡ Some b → a ≡ b
+some_same e = cc
 
-none-some : {a : ErrorKind} → None ≡ Some a → ⊥
-none-some e = cc
+none_some : {a : ErrorKind} → None ≡ Some a → ⊥
+none_some e = cc
 
 refused_seen : (v : OpenValue) (kind : ErrorKind) → own_number v ≡ Some kind → parts_seen v ≡ RefusedAs kind
-refused_seen (opened.Refused own) kind e = ap RefusedAs (some-same e)
-refused_seen v kind e = absurd (none-some e)
+refused_seen (opened.Refused own) kind e = ap RefusedAs (some_same e)
+refused_seen v kind e = absurd (none_some e)
 
 pub path_ends : (set : Schemas) (path : List PlaceStep) (from : TextParts) (current : OpenValue) (kind : ErrorKind) → own_number current ≡ Some kind → IsPathTo set path from (parts_seen current) → IsPathTo set path from (RefusedAs kind)
 path_ends set path from current kind e is = subst (λ (z : TextParts). IsPathTo set path from z) (refused_seen current kind e) is
@@ -219,30 +219,30 @@ number_told v current o e own of_set same = λ indented. sym e ∙ (own (set_see
 -- ---- under any set ----
 
 pub struct_step : (set : Schemas) (h : StructHandle) (left : ℕ) (v : OpenValue) (step : PlaceStep) (next : OpenValue) → v ≡ opened.Struct h left → IsOpenIn set v → IsStepBelow (set_of (schema_of h)) (opened.Struct h left) step next → IsStepBelow set v step next
-struct_step set h left v step next e in-set found =
+struct_step set h left v step next e in_set found =
     subst (λ (z : OpenValue). IsStepBelow set z step next) (sym e)
-    (subst (λ (z : Schemas). IsStepBelow z (opened.Struct h left) step next) (subst (IsOpenIn set) e in-set) found)
+    (subst (λ (z : Schemas). IsStepBelow z (opened.Struct h left) step next) (subst (IsOpenIn set) e in_set) found)
 
 pub list_step : (set : Schemas) (l : ListHandle) (left : ℕ) (v : OpenValue) (step : PlaceStep) (next : OpenValue) → v ≡ opened.List l left → IsOpenIn set v → IsStepBelow (list_set l) (opened.List l left) step next → IsStepBelow set v step next
-list_step set l left v step next e in-set found =
+list_step set l left v step next e in_set found =
     subst (λ (z : OpenValue). IsStepBelow set z step next) (sym e)
-    (subst (λ (z : Schemas). IsStepBelow z (opened.List l left) step next) (subst (IsOpenIn set) e in-set) found)
+    (subst (λ (z : Schemas). IsStepBelow z (opened.List l left) step next) (subst (IsOpenIn set) e in_set) found)
 
 pub struct_whole : (set : Schemas) (h : StructHandle) (left : ℕ) (v : OpenValue) → v ≡ opened.Struct h left → IsOpenIn set v → text_refusal (record_shown left None h) ≡ None → own_number v ≡ parts_refusal set (parts_seen v)
-struct_whole set h left v e in-set none =
+struct_whole set h left v e in_set none =
     subst (λ (z : OpenValue). own_number z ≡ parts_refusal set (parts_seen z)) (sym e)
-    (subst (λ (z : Schemas). None ≡ parts_refusal z (parts_seen (opened.Struct h left))) (subst (IsOpenIn set) e in-set) (sym none))
+    (subst (λ (z : Schemas). None ≡ parts_refusal z (parts_seen (opened.Struct h left))) (subst (IsOpenIn set) e in_set) (sym none))
 
 pub list_whole : (set : Schemas) (l : ListHandle) (left : ℕ) (v : OpenValue) → v ≡ opened.List l left → IsOpenIn set v → text_refusal (list_shown left None l) ≡ None → own_number v ≡ parts_refusal set (parts_seen v)
-list_whole set l left v e in-set none =
+list_whole set l left v e in_set none =
     subst (λ (z : OpenValue). own_number z ≡ parts_refusal set (parts_seen z)) (sym e)
-    (subst (λ (z : Schemas). None ≡ parts_refusal z (parts_seen (opened.List l left))) (subst (IsOpenIn set) e in-set) (sym none))
+    (subst (λ (z : Schemas). None ≡ parts_refusal z (parts_seen (opened.List l left))) (subst (IsOpenIn set) e in_set) (sym none))
 
 pub own_whole : (v : OpenValue) → v ≡ opened.Whole → (set : Schemas) → IsOpenIn set v → own_number v ≡ parts_refusal set (parts_seen v)
-own_whole v e set in-set = subst (λ (z : OpenValue). own_number z ≡ parts_refusal set (parts_seen z)) (sym e) refl
+own_whole v e set in_set = subst (λ (z : OpenValue). own_number z ≡ parts_refusal set (parts_seen z)) (sym e) refl
 
 pub own_refused : (v : OpenValue) (kind : ErrorKind) → v ≡ opened.Refused kind → (set : Schemas) → IsOpenIn set v → own_number v ≡ parts_refusal set (parts_seen v)
-own_refused v kind e set in-set = subst (λ (z : OpenValue). own_number z ≡ parts_refusal set (parts_seen z)) (sym e) refl
+own_refused v kind e set in_set = subst (λ (z : OpenValue). own_number z ≡ parts_refusal set (parts_seen z)) (sym e) refl
 
 pub match_map : {A : Type 0} {P Q : Type 0} {R S : A → Type 0} (o : Option A) → (P → Q) → ((a : A) → R a → S a) → MatchOption o P R → MatchOption o Q S
 match_map None f g h = f h

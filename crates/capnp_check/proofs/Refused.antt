@@ -84,14 +84,14 @@ pub list_refusal : (at : Layout) (items : List Out) → text_refusal (list_text 
 list_refusal at [] = refl
 list_refusal at (x ∷ xs) = bracketed_refusal (codes "[") (codes "]") at (x ∷ xs)
 
-less-one : (n i : ℕ) → i < n → n - i ≡ suc (n - (i + 1))
-less-one n i h = omega (arith, h)
+less_one : (n i : ℕ) → i < n → n - i ≡ suc (n - (i + 1))
+less_one n i h = omega (arith, h)
 
-next-is : (i : ℕ) → suc i ≡ i + 1
-next-is i = omega arith
+next_is : (i : ℕ) → suc i ≡ i + 1
+next_is i = omega arith
 
-none-left : (n i : ℕ) → n < i + 1 → n - i ≡ 0
-none-left n i h = omega (arith, h)
+none_left : (n i : ℕ) → n < i + 1 → n - i ≡ 0
+none_left n i h = omega (arith, h)
 
 -- the refusal of the elements from one on
 abbrev pub elements_refusal : ℕ → ListHandle → ℕ → Option ErrorKind
@@ -103,24 +103,24 @@ module _ (left : ℕ) (l : ListHandle) where
 
   pub elements_next : (i : ℕ) → i < count_of l → elements_refusal left l i ≡ or_later (text_refusal (element_shown left None l (element_seen l i))) (elements_refusal left l (i + 1))
   elements_next i h =
-      ap (λ (m : ℕ). first_refusal (element_items left None l i m)) (less-one (count_of l) i h)
-      ∙ ap (λ (j : ℕ). or_later (text_refusal (element_shown left None l (element_seen l i))) (first_refusal (element_items left None l j (count_of l - (i + 1))))) (next-is i)
+      ap (λ (m : ℕ). first_refusal (element_items left None l i m)) (less_one (count_of l) i h)
+      ∙ ap (λ (j : ℕ). or_later (text_refusal (element_shown left None l (element_seen l i))) (first_refusal (element_items left None l j (count_of l - (i + 1))))) (next_is i)
 
   pub elements_end : (i : ℕ) → count_of l < i + 1 → elements_refusal left l i ≡ None
-  elements_end i h = ap (λ (m : ℕ). first_refusal (element_items left None l i m)) (none-left (count_of l) i h)
+  elements_end i h = ap (λ (m : ℕ). first_refusal (element_items left None l i m)) (none_left (count_of l) i h)
 
 -- ---- levels ----
 
-before-suc : (n : ℕ) → suc n - 1 ≡ n
-before-suc n = omega arith
+before_suc : (n : ℕ) → suc n - 1 ≡ n
+before_suc n = omega arith
 
 pub struct_deep : (left : ℕ) (at : Layout) (r : StructHandle) → 0 < left → value_shown left at (dynamic.Struct r) ≡ record_shown (left - 1) at r
 struct_deep zero at r h = absurd (omega (arith, h))
-struct_deep (suc n) at r h = ap (λ m. record_shown m at r) (sym (before-suc n))
+struct_deep (suc n) at r h = ap (λ m. record_shown m at r) (sym (before_suc n))
 
 pub list_deep : (left : ℕ) (at : Layout) (l : ListHandle) → 0 < left → value_shown left at (dynamic.List l) ≡ list_shown (left - 1) at l
 list_deep zero at l h = absurd (omega (arith, h))
-list_deep (suc n) at l h = ap (λ m. list_shown m at l) (sym (before-suc n))
+list_deep (suc n) at l h = ap (λ m. list_shown m at l) (sym (before_suc n))
 
 -- ---- a value that is no struct and no list has a text ----
 

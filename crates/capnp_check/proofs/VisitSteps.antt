@@ -15,42 +15,42 @@ use Rattle.capnp_check.proofs.RootSteps.{root_few}
 
 -- ---- the lists ----
 
-one-frame : (fs new : List Frame) (f : Frame) → fs ≡ [] → new ≡ fs ++ f ∷ [] → f ∷ [] ≡ new
-one-frame fs new f none is = sym (is ∙ ap (λ (gs : List Frame). gs ++ f ∷ []) none)
+one_frame : (fs new : List Frame) (f : Frame) → fs ≡ [] → new ≡ fs ++ f ∷ [] → f ∷ [] ≡ new
+one_frame fs new f none is = sym (is ∙ ap (λ (gs : List Frame). gs ++ f ∷ []) none)
 
-two-frames : (fs mid new : List Frame) (f g : Frame) → mid ≡ fs ++ f ∷ [] → new ≡ mid ++ g ∷ [] → fs ++ f ∷ g ∷ [] ≡ new
-two-frames fs mid new f g e is = sym (is ∙ (ap (λ (gs : List Frame). gs ++ g ∷ []) e ∙ append_assoc fs (f ∷ []) (g ∷ [])))
+two_frames : (fs mid new : List Frame) (f g : Frame) → mid ≡ fs ++ f ∷ [] → new ≡ mid ++ g ∷ [] → fs ++ f ∷ g ∷ [] ≡ new
+two_frames fs mid new f g e is = sym (is ∙ (ap (λ (gs : List Frame). gs ++ g ∷ []) e ∙ append_assoc fs (f ∷ []) (g ∷ [])))
 
 pub length_less : (left visited : ℕ) (fs old : List Frame) (f : Frame) → old ≡ fs ++ f ∷ [] → 2 * left + length fs < 2 * left + length old
-length_less left visited fs old f e = (let longer = ap length e ∙ length-more fs in omega (arith, longer))
+length_less left visited fs old f e = (let longer = ap length e ∙ length_of_more fs in omega (arith, longer))
   where
-    length-more : (xs : List Frame) → length (xs ++ f ∷ []) ≡ length xs + 1
-    length-more [] = refl
-    length-more (x ∷ xs) = (let e = length-more xs in omega (arith, e))
+    length_of_more : (xs : List Frame) → length (xs ++ f ∷ []) ≡ length xs + 1
+    length_of_more [] = refl
+    length_of_more (x ∷ xs) = (let e = length_of_more xs in omega (arith, e))
 
 pub length_more : (limit visited : ℕ) (fs old mid new : List Frame) (f g h : Frame) → old ≡ fs ++ f ∷ [] → mid ≡ fs ++ g ∷ [] → new ≡ mid ++ h ∷ [] → visited < limit → 2 * (limit - (visited + 1)) + length new < 2 * (limit - visited) + length old
 length_more limit visited fs old mid new f g h e m n lt =
-    let first = ap length e ∙ length-more fs f in
-    let second = ap length m ∙ length-more fs g in
-    let third = ap length n ∙ length-more mid h in
+    let first = ap length e ∙ length_of_more fs f in
+    let second = ap length m ∙ length_of_more fs g in
+    let third = ap length n ∙ length_of_more mid h in
     omega (arith, first, second, third, lt)
   where
-    length-more : (xs : List Frame) (y : Frame) → length (xs ++ y ∷ []) ≡ length xs + 1
-    length-more [] y = refl
-    length-more (x ∷ xs) y = (let e = length-more xs y in omega (arith, e))
+    length_of_more : (xs : List Frame) (y : Frame) → length (xs ++ y ∷ []) ≡ length xs + 1
+    length_of_more [] y = refl
+    length_of_more (x ∷ xs) y = (let e = length_of_more xs y in omega (arith, e))
 
-pub nil-from-length : (fs : List Frame) → length fs ≡ 0 → fs ≡ []
-nil-from-length [] e = refl
-nil-from-length (f ∷ fs) e = absurd (omega (arith, e))
+pub nil_from_length : (fs : List Frame) → length fs ≡ 0 → fs ≡ []
+nil_from_length [] e = refl
+nil_from_length (f ∷ fs) e = absurd (omega (arith, e))
 
 pub below_limit : (visited limit : ℕ) → visited ≤ limit → (visited ≡ limit → ⊥) → visited < limit
 below_limit visited limit le other = omega (arith, le, other)
 
 -- the value itself is shown
-pub one-shown : (set : Schemas) (n : ℕ) (parts : TextParts) → 0 < length (parts_within set n parts)
+pub one_shown : (set : Schemas) (n : ℕ) (parts : TextParts) → 0 < length (parts_within set n parts)
 unfolding parts_within
-one-shown set zero parts = omega arith
-one-shown set (suc n) parts = omega arith
+one_shown set zero parts = omega arith
+one_shown set (suc n) parts = omega arith
 
 -- ---- open values ----
 
@@ -65,10 +65,10 @@ module _ (set : Schemas) (old fs : List Frame) (f : Frame) (popped : old ≡ fs 
   open_past step mid e = subst (AreOpenIn set) (sym e) (open_more set fs (past_step f step) open_popped open_own)
 
   pub open_next : (step : PlaceStep) (part : OpenValue) (mid new : List Frame) → mid ≡ fs ++ past_step f step ∷ [] → new ≡ mid ++ at_start part ∷ [] → IsOpenIn set part → AreOpenIn set new
-  open_next step part mid new e is in-set = subst (AreOpenIn set) (sym is) (open_more set mid (at_start part) (open_past step mid e) in-set)
+  open_next step part mid new e is in_set = subst (AreOpenIn set) (sym is) (open_more set mid (at_start part) (open_past step mid e) in_set)
 
 pub open_first : (set : Schemas) (fs new : List Frame) (o : OpenValue) → fs ≡ [] → new ≡ fs ++ at_start o ∷ [] → IsOpenIn set o → AreOpenIn set new
-open_first set fs new o none is in-set = subst (AreOpenIn set) (sym is) (open_more set fs (at_start o) (open_none set fs none) in-set)
+open_first set fs new o none is in_set = subst (AreOpenIn set) (sym is) (open_more set fs (at_start o) (open_none set fs none) in_set)
 
 -- ---- a visit ----
 
@@ -77,12 +77,12 @@ pub visit_begun : (v : DynamicValue) (o : OpenValue) (fs new : List Frame) (old 
     (n : ℕ) → most_steps (set_seen v) ≤ n → IsVisit (set_seen v) n (shown_within n v) 1 told new
 visit_begun v o fs new old told e none empty is frames = λ n le.
     let few = root_few v o e in
-    subst (IsVisit (set_seen v) n (shown_within n v) 1 told) (one-frame fs new (at_start o) none frames)
-    (subst (λ (xs : List ShownPart). IsVisit (set_seen v) n (shown_within n v) 1 xs (at_start o ∷ [])) (sym told-is)
+    subst (IsVisit (set_seen v) n (shown_within n v) 1 told) (one_frame fs new (at_start o) none frames)
+    (subst (λ (xs : List ShownPart). IsVisit (set_seen v) n (shown_within n v) 1 xs (at_start o ∷ [])) (sym told_is)
     (visit_start v n o e (omega (arith, few, le))))
   where
-    told-is : told ≡ refused_parts (part_above (set_seen v) [] (refusal_itself (parts_seen o)) ∷ [])
-    told-is =
+    told_is : told ≡ refused_parts (part_above (set_seen v) [] (refusal_itself (parts_seen o)) ∷ [])
+    told_is =
         is
         ∙ (ap (λ (xs : List ShownPart). xs ++ refused_parts (part_above (set_seen v) fs (refusal_itself (parts_seen o)) ∷ [])) empty
         ∙ ap (λ (gs : List Frame). refused_parts (part_above (set_seen v) gs (refusal_itself (parts_seen o)) ∷ [])) none)
@@ -97,19 +97,19 @@ module _ (set : Schemas) (n visited : ℕ) (all found : List ShownPart) (old fs 
   pub visit_in : (step : PlaceStep) (part : OpenValue) (mid new : List Frame) (told : List ShownPart) → IsNextPart set f.value (next_index f.last) step part → mid ≡ fs ++ past_step f step ∷ [] → new ≡ mid ++ at_start part ∷ [] →
       told ≡ found ++ refused_parts (part_above set mid (refusal_itself (parts_seen part)) ∷ []) → IsVisit set n all (visited + 1) told new
   visit_in step part mid new told next e is more =
-      subst (IsVisit set n all (visited + 1) told) (two-frames fs mid new (past_step f step) (at_start part) e is)
-      (subst (λ (xs : List ShownPart). IsVisit set n all (visited + 1) xs (fs ++ past_step f step ∷ at_start part ∷ [])) (sym told-is)
+      subst (IsVisit set n all (visited + 1) told) (two_frames fs mid new (past_step f step) (at_start part) e is)
+      (subst (λ (xs : List ShownPart). IsVisit set n all (visited + 1) xs (fs ++ past_step f step ∷ at_start part ∷ [])) (sym told_is)
       (visit_on set n visited all found fs f step part next (subst (IsVisit set n all visited found) popped visit)))
     where
-      told-is : told ≡ found ++ refused_parts (part_above set (fs ++ past_step f step ∷ []) (refusal_itself (parts_seen part)) ∷ [])
-      told-is = more ∙ ap (λ (gs : List Frame). found ++ refused_parts (part_above set gs (refusal_itself (parts_seen part)) ∷ [])) e
+      told_is : told ≡ found ++ refused_parts (part_above set (fs ++ past_step f step ∷ []) (refusal_itself (parts_seen part)) ∷ [])
+      told_is = more ∙ ap (λ (gs : List Frame). found ++ refused_parts (part_above set gs (refusal_itself (parts_seen part)) ∷ [])) e
 
 -- ---- a count ----
 
 pub count_begun : (v : DynamicValue) (o : OpenValue) (fs new : List Frame) → parts_seen o ≡ root_parts v → fs ≡ [] → new ≡ fs ++ at_start o ∷ [] → (n : ℕ) → most_steps (set_seen v) ≤ n → IsCounted (set_seen v) n (shown_within n v) 1 new
 count_begun v o fs new e none frames = λ n le.
     let few = root_few v o e in
-    subst (IsCounted (set_seen v) n (shown_within n v) 1) (one-frame fs new (at_start o) none frames) (count_start v n o e (omega (arith, few, le)))
+    subst (IsCounted (set_seen v) n (shown_within n v) 1) (one_frame fs new (at_start o) none frames) (count_start v n o e (omega (arith, few, le)))
 
 module _ (set : Schemas) (n visited : ℕ) (all : List ShownPart) (old fs : List Frame) (f : Frame) (popped : old ≡ fs ++ f ∷ []) (counted : IsCounted set n all visited old) where
   pub count_out : AreNoneLeft set f.value (next_index f.last) → IsCounted set n all visited fs
@@ -120,5 +120,5 @@ module _ (set : Schemas) (n visited : ℕ) (all : List ShownPart) (old fs : List
 
   pub count_in : (step : PlaceStep) (part : OpenValue) (mid new : List Frame) → IsNextPart set f.value (next_index f.last) step part → mid ≡ fs ++ past_step f step ∷ [] → new ≡ mid ++ at_start part ∷ [] → IsCounted set n all (visited + 1) new
   count_in step part mid new next e is =
-      subst (IsCounted set n all (visited + 1)) (two-frames fs mid new (past_step f step) (at_start part) e is)
+      subst (IsCounted set n all (visited + 1)) (two_frames fs mid new (past_step f step) (at_start part) e is)
       (count_on set n visited all fs f step part next (subst (IsCounted set n all visited) popped counted))

@@ -9,15 +9,15 @@ use Rattle.capnp_schema.specs.Schema.{Schemas}
 use Rattle.capnp_compatible.specs.declared.pairs.Pair.{Pair}
 use Rattle.capnp_compatible.specs.Closing.{is_pair, listed_pairs}
 use Rattle.capnp_compatible.specs.Steps.Closing.{Apart, Within, brand_pairs}
-use Rattle.capnp_compatible.proofs.Lists.{at_listed, is-same, or-right}
+use Rattle.capnp_compatible.proofs.Lists.{at_listed, is_same, or_right}
 use Rattle.capnp_compatible.proofs.Walking.{first_in, second_in}
 
-other-way : (p q : Pair) → is_pair p.older p.newer q ≡ false → is_pair q.older q.newer p ≡ false
-other-way p q e = at (is_pair q.older q.newer p) refl
+other_way : (p q : Pair) → is_pair p.older p.newer q ≡ false → is_pair q.older q.newer p ≡ false
+other_way p q e = at (is_pair q.older q.newer p) refl
   where
     at : (t : Bool) → is_pair q.older q.newer p ≡ t → t ≡ false
     at false h = refl
-    at true h = let s = is-same q.older q.newer p h in let a : q.older ≡ p.older = sym s.0 in let b : q.newer ≡ p.newer = sym s.1 in absurd (clash (sym (both q.older p.older q.newer p.newer a b) ∙ e))
+    at true h = let s = is_same q.older q.newer p h in let a : q.older ≡ p.older = sym s.0 in let b : q.newer ≡ p.newer = sym s.1 in absurd (clash (sym (both q.older p.older q.newer p.newer a b) ∙ e))
       where
         clash : true ≡ false → ⊥
         clash c = cc
@@ -25,26 +25,26 @@ other-way p q e = at (is_pair q.older q.newer p) refl
         both : (k l m n : ℕ) → k ≡ l → m ≡ n → (k == l) && (m == n) ≡ true
         both k l m n e f = grind arith
 
-left-false : (x y : Bool) → x || y ≡ false → x ≡ false
-left-false true y e = e
-left-false false y e = refl
+left_false : (x y : Bool) → x || y ≡ false → x ≡ false
+left_false true y e = e
+left_false false y e = refl
 
-right-false : (x y : Bool) → x || y ≡ false → y ≡ false
-right-false true y e = cc
-right-false false y e = e
+right_false : (x y : Bool) → x || y ≡ false → y ≡ false
+right_false true y e = cc
+right_false false y e = e
 
 neither : (x y : Bool) → x ≡ false → y ≡ false → x || y ≡ false
 neither x y e f = cc
 
-not-last : (xs : List Pair) (a b : ℕ) (p : Pair) → listed_pairs xs a b ≡ false → is_pair a b p ≡ false → listed_pairs (xs ++ (p ∷ [])) a b ≡ false
-not-last [] a b p e f = neither (is_pair a b p) false f refl
-not-last (x ∷ xs) a b p e f = neither (is_pair a b x) (listed_pairs (xs ++ (p ∷ [])) a b) (left-false (is_pair a b x) (listed_pairs xs a b) e) (not-last xs a b p (right-false (is_pair a b x) (listed_pairs xs a b) e) f)
+not_last : (xs : List Pair) (a b : ℕ) (p : Pair) → listed_pairs xs a b ≡ false → is_pair a b p ≡ false → listed_pairs (xs ++ (p ∷ [])) a b ≡ false
+not_last [] a b p e f = neither (is_pair a b p) false f refl
+not_last (x ∷ xs) a b p e f = neither (is_pair a b x) (listed_pairs (xs ++ (p ∷ [])) a b) (left_false (is_pair a b x) (listed_pairs xs a b) e) (not_last xs a b p (right_false (is_pair a b x) (listed_pairs xs a b) e) f)
 
 pub apart_more : (xs : List Pair) (p : Pair) → Apart xs → listed_pairs xs p.older p.newer ≡ false → Apart (xs ++ (p ∷ []))
 apart_more [] p h e = (refl, tt)
 apart_more (x ∷ xs) p h e = (
-  not-last xs x.older x.newer p h.0 (other-way p x (left-false (is_pair p.older p.newer x) (listed_pairs xs p.older p.newer) e)),
-  apart_more xs p h.1 (right-false (is_pair p.older p.newer x) (listed_pairs xs p.older p.newer) e),
+  not_last xs x.older x.newer p h.0 (other_way p x (left_false (is_pair p.older p.newer x) (listed_pairs xs p.older p.newer) e)),
+  apart_more xs p h.1 (right_false (is_pair p.older p.newer x) (listed_pairs xs p.older p.newer) e),
 )
 
 module _ (n : ℕ) where
@@ -65,12 +65,12 @@ module _ (n : ℕ) where
       both : (k l m n : ℕ) → k ≡ l → m ≡ n → (k == l) && (m == n) ≡ true
       both k l m n e f = grind arith
 
-  codes-apart : (p : Pair) (xs : List Pair) → p.newer < n → InRange xs → listed_pairs xs p.older p.newer ≡ false → AllByRecursion (λ y. eqb (code p) y ≡ false) (map code xs)
+  codes_apart : (p : Pair) (xs : List Pair) → p.newer < n → InRange xs → listed_pairs xs p.older p.newer ≡ false → AllByRecursion (λ y. eqb (code p) y ≡ false) (map code xs)
   unfolding InRange
-  codes-apart p [] h r e = tt
-  codes-apart p (x ∷ xs) h r e = (
+  codes_apart p [] h r e = tt
+  codes_apart p (x ∷ xs) h r e = (
     differs (eqb (code p) (code x)) refl,
-    codes-apart p xs h r.2 (right-false (is_pair p.older p.newer x) (listed_pairs xs p.older p.newer) e),
+    codes_apart p xs h r.2 (right_false (is_pair p.older p.newer x) (listed_pairs xs p.older p.newer) e),
   )
     where
       clash : true ≡ false → ⊥
@@ -78,31 +78,31 @@ module _ (n : ℕ) where
 
       differs : (t : Bool) → eqb (code p) (code x) ≡ t → t ≡ false
       differs false q = refl
-      differs true q = let s : code p ≡ code x = grind arith in absurd (clash (sym (same_code p x h r.1 s) ∙ left-false (is_pair p.older p.newer x) (listed_pairs xs p.older p.newer) e))
+      differs true q = let s : code p ≡ code x = grind arith in absurd (clash (sym (same_code p x h r.1 s) ∙ left_false (is_pair p.older p.newer x) (listed_pairs xs p.older p.newer) e))
 
-  codes-distinct : (xs : List Pair) → Apart xs → InRange xs → IsDistinct eqb (map code xs)
+  codes_distinct : (xs : List Pair) → Apart xs → InRange xs → IsDistinct eqb (map code xs)
   unfolding IsDistinct InRange
-  codes-distinct [] a r = tt
-  codes-distinct (x ∷ xs) a r = IsDistinct-cons eqb (code x) (map code xs) (codes-apart x xs r.1 r.2 a.0) (codes-distinct xs a.1 r.2)
+  codes_distinct [] a r = tt
+  codes_distinct (x ∷ xs) a r = IsDistinct-cons eqb (code x) (map code xs) (codes_apart x xs r.1 r.2 a.0) (codes_distinct xs a.1 r.2)
 
-  codes-below : (xs : List Pair) → InRange xs → (q : ℕ) → list_any (eqb q) (map code xs) ≡ true → q < n * n
+  codes_below : (xs : List Pair) → InRange xs → (q : ℕ) → list_any (eqb q) (map code xs) ≡ true → q < n * n
   unfolding code InRange
-  codes-below [] r q e = cc
-  codes-below (x ∷ xs) r q e = at (codes-below xs r.2 q) (eqb q (x.older * n + x.newer)) refl e
+  codes_below [] r q e = cc
+  codes_below (x ∷ xs) r q e = at (codes_below xs r.2 q) (eqb q (x.older * n + x.newer)) refl e
     where
       at : (list_any (eqb q) (map code xs) ≡ true → q < n * n) → (t : Bool) → eqb q (x.older * n + x.newer) ≡ t → t || list_any (eqb q) (map code xs) ≡ true → q < n * n
       at rest true s e = let same : q ≡ x.older * n + x.newer = grind arith in subst (λ (z : ℕ). z < n * n) (sym same) (mul-add-lt x.older n x.newer n r.0 r.1)
       at rest false s e = rest e
 
   pub square_bound : (xs : List Pair) → Apart xs → InRange xs → length xs ≤ n * n
-  square_bound xs a r = let l : length (map code xs) ≡ length xs = length-map xs code in let le = length-le_from_distinct_below (map code xs) (n * n) (codes-distinct xs a r) (codes-below xs r) in omega (arith, l, le)
+  square_bound xs a r = let l : length (map code xs) ≡ length xs = length-map xs code in let le = length-le_from_distinct_below (map code xs) (n * n) (codes_distinct xs a r) (codes_below xs r) in omega (arith, l, le)
 
 in_range : (set : Schemas) (xs : List Pair) → Within (listed_pairs xs) (brand_pairs set) → InRange (length set.brands) xs
 unfolding InRange
 in_range set [] h = tt
 in_range set (x ∷ xs) h =
     let here = h x.older x.newer (at_listed (x ∷ xs) 0 x refl) in
-    (first_in set x.older x.newer here, second_in set x.older x.newer here, in_range set xs (λ m n g. h m n (or-right (is_pair m n x) (listed_pairs xs m n) g)))
+    (first_in set x.older x.newer here, second_in set x.older x.newer here, in_range set xs (λ m n g. h m n (or_right (is_pair m n x) (listed_pairs xs m n) g)))
 
 -- how many pairs there are at most
 pub pairs_bound : (set : Schemas) (xs : List Pair) → Apart xs → Within (listed_pairs xs) (brand_pairs set) → length xs ≤ length set.brands * length set.brands

@@ -11,23 +11,23 @@ use Rattle.capnp_records.specs.Compatible.{can_become_struct, stands_first, type
 use Rattle.capnp_compatible.proofs.ByLayer.{seen}
 
 module _ (lists : Bool) (set : Schemas) (s : SchemaType) where
-  layer-stays : (u : TypeVariant) → ((x : RawBrandedStructSchema) → u ≡ variant.Struct x → ⊥) → type_in_place lists set s (seen_variant u) ≡ seen_variant u
-  layer-stays (variant.Struct schema) h = absurd (h schema refl)
-  layer-stays u h = refl
+  layer_stays : (u : TypeVariant) → ((x : RawBrandedStructSchema) → u ≡ variant.Struct x → ⊥) → type_in_place lists set s (seen_variant u) ≡ seen_variant u
+  layer_stays (variant.Struct schema) h = absurd (h schema refl)
+  layer_stays u h = refl
 
   -- what is no struct stands in its own place
   pub stays : (t : TypeHandle) (u : TypeVariant) → u ≡ variant_of t → ((x : RawBrandedStructSchema) → u ≡ variant.Struct x → ⊥) → seen_type t ≡ type_in_place lists set s (seen_type t)
-  stays t u e h = sym (ap (type_in_place lists set s) (sym (seen t u e)) ∙ (layer-stays u h ∙ seen t u e))
+  stays t u e h = sym (ap (type_in_place lists set s) (sym (seen t u e)) ∙ (layer_stays u h ∙ seen t u e))
 
-  by-test : (q : Bool) (a b : SchemaType) → (lists && q) ≡ true → (elim (lists && q) as (λ _. SchemaType) [ true ↦ a | false ↦ b ]) ≡ a
-  by-test q a b e = go (lists && q) e
+  by_test : (q : Bool) (a b : SchemaType) → (lists && q) ≡ true → (elim (lists && q) as (λ _. SchemaType) [ true ↦ a | false ↦ b ]) ≡ a
+  by_test q a b e = go (lists && q) e
     where
       go : (p : Bool) → p ≡ true → (elim p as (λ _. SchemaType) [ true ↦ a | false ↦ b ]) ≡ a
       go true e = refl
       go false e = cc
 
-  by-no-test : (q : Bool) (a b : SchemaType) → (lists && q) ≡ false → (elim (lists && q) as (λ _. SchemaType) [ true ↦ a | false ↦ b ]) ≡ b
-  by-no-test q a b e = go (lists && q) e
+  by_no_test : (q : Bool) (a b : SchemaType) → (lists && q) ≡ false → (elim (lists && q) as (λ _. SchemaType) [ true ↦ a | false ↦ b ]) ≡ b
+  by_no_test q a b e = go (lists && q) e
     where
       go : (p : Bool) → p ≡ false → (elim p as (λ _. SchemaType) [ true ↦ a | false ↦ b ]) ≡ b
       go true e = cc
@@ -36,8 +36,8 @@ module _ (lists : Bool) (set : Schemas) (s : SchemaType) where
   module _ (t : TypeHandle) (schema : RawBrandedStructSchema) (e : variant.Struct schema ≡ variant_of t) where
     -- a struct's field 0 does where it may
     pub first_in_place : (lists && (can_become_struct s && stands_first set schema.number)) ≡ true → (field_at set schema.number 0).type ≡ type_in_place lists set s (seen_type t)
-    first_in_place h = sym (ap (type_in_place lists set s) (sym (seen t (variant.Struct schema) e)) ∙ by-test (can_become_struct s && stands_first set schema.number) _ _ h)
+    first_in_place h = sym (ap (type_in_place lists set s) (sym (seen t (variant.Struct schema) e)) ∙ by_test (can_become_struct s && stands_first set schema.number) _ _ h)
 
     -- and else the struct itself
     pub struct_stays : (lists && (can_become_struct s && stands_first set schema.number)) ≡ false → seen_type t ≡ type_in_place lists set s (seen_type t)
-    struct_stays h = sym (ap (type_in_place lists set s) (sym (seen t (variant.Struct schema) e)) ∙ (by-no-test (can_become_struct s && stands_first set schema.number) _ _ h ∙ seen t (variant.Struct schema) e))
+    struct_stays h = sym (ap (type_in_place lists set s) (sym (seen t (variant.Struct schema) e)) ∙ (by_no_test (can_become_struct s && stands_first set schema.number) _ _ h ∙ seen t (variant.Struct schema) e))

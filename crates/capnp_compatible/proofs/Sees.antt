@@ -24,16 +24,16 @@ seen_by s set b r e n h =
     ap₂ (λ (x : Schemas) (m : ℕ). struct_record x (Left (struct_levels (reader_of s))) (struct_of (reader_of s)) m) e n
     ∙ ap (λ (x : StructReader). struct_record set (Left (struct_levels x)) (struct_of x) b) h
 
-projects-by : (older newer : StructSchema) (r : StructReader) → Projects older newer →
+projects_by : (older newer : StructSchema) (r : StructReader) → Projects older newer →
     record_by (set_of older) (number_of older) r ≡ projection_of (set_of older) (number_of older) (number_of newer) (record_by (set_of older) (number_of newer) r)
 unfolding record_by
-projects-by older newer r projects = projects (Left (struct_levels r)) (struct_of r)
+projects_by older newer r projects = projects (Left (struct_levels r)) (struct_of r)
 
 pub projection_seen : (older newer : StructSchema) (s t : StructHandle) → Projects older newer → set_of newer ≡ set_of older → IsReadUnder s older → IsReadUnder t newer → reader_of s ≡ reader_of t →
     record_seen s ≡ projection_of (set_of older) (number_of older) (number_of newer) (record_seen t)
 projection_seen older newer s t projects one under over same =
     seen_by s (set_of older) (number_of older) (reader_of t) under.0 under.1 same
-    ∙ projects-by older newer (reader_of t) projects
+    ∙ projects_by older newer (reader_of t) projects
     ∙ ap (projection_of (set_of older) (number_of older) (number_of newer)) (sym (seen_by t (set_of older) (number_of newer) (reader_of t) (over.0 ∙ one) over.1 refl))
 
 -- a struct under the older schema that a reader was narrowed to
@@ -48,10 +48,10 @@ widened older newer s t projects one is under same = sym (projection_seen older 
 
 -- ---- where lists became lists of structs ----
 
-upgrade-by : (older newer : StructSchema) (r : StructReader) → ProjectsWhereRead older newer → IsWellFormedStruct (struct_of r) →
+upgrade_by : (older newer : StructSchema) (r : StructReader) → ProjectsWhereRead older newer → IsWellFormedStruct (struct_of r) →
     AreRead older newer (record_by (set_of older) (number_of older) r) (record_by (set_of older) (number_of newer) r) → IsSeen older newer (record_by (set_of older) (number_of older) r) (record_by (set_of older) (number_of newer) r)
 unfolding record_by
-upgrade-by older newer r projects formed read = projects (Left (struct_levels r)) (struct_of r) formed read
+upgrade_by older newer r projects formed read = projects (Left (struct_levels r)) (struct_of r) formed read
 
 pub upgrade_seen : (older newer : StructSchema) (s t : StructHandle) → ProjectsWhereRead older newer → set_of newer ≡ set_of older → IsReadUnder s older → IsReadUnder t newer → reader_of s ≡ reader_of t → IsWellFormedStruct (struct_of (reader_of t)) →
     AreRead older newer (record_seen s) (record_seen t) → IsSeen older newer (record_seen s) (record_seen t)
@@ -61,7 +61,7 @@ upgrade_seen older newer s t projects one under over same formed =
     let a : record_seen s ≡ record_by set (number_of older) r = seen_by s set (number_of older) r under.0 under.1 same in
     let b : record_seen t ≡ record_by set (number_of newer) r = seen_by t set (number_of newer) r (over.0 ∙ one) over.1 refl in
     subst (λ (x : Record). AreRead older newer x (record_seen t) → IsSeen older newer x (record_seen t)) (sym a)
-    (subst (λ (y : Record). AreRead older newer (record_by set (number_of older) r) y → IsSeen older newer (record_by set (number_of older) r) y) (sym b) (upgrade-by older newer r projects formed))
+    (subst (λ (y : Record). AreRead older newer (record_by set (number_of older) r) y → IsSeen older newer (record_by set (number_of older) r) y) (sym b) (upgrade_by older newer r projects formed))
 
 pub narrowed_upgrade : (older newer : StructSchema) (s t : StructHandle) → ProjectsWhereRead older newer → set_of newer ≡ set_of older → schema_of s ≡ older → IsReadUnder t newer → reader_of s ≡ reader_of t → IsWellFormedStruct (struct_of (reader_of t)) →
     AreRead older newer (record_seen s) (record_seen t) → IsSeen older newer (record_seen s) (record_seen t)

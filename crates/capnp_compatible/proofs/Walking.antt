@@ -30,48 +30,48 @@ pub record Walking (lists : Bool) (set : Schemas) (older newer next : ℕ) (ps :
   pub apart : Apart ps
   pub done : (k : ℕ) → k < next → (p : Pair) → slice_get ps k ≡ Some p → SharedStruct lists set (listed_pairs ps) p.older p.newer
 
-both-true : (x y : Bool) → x ≡ true → y ≡ true → x && y ≡ true
-both-true x y e f = cc
+both_true : (x y : Bool) → x ≡ true → y ≡ true → x && y ≡ true
+both_true x y e f = cc
 
-first-true : (x y : Bool) → x && y ≡ true → x ≡ true
-first-true true y e = refl
-first-true false y e = e
+first_true : (x y : Bool) → x && y ≡ true → x ≡ true
+first_true true y e = refl
+first_true false y e = e
 
-second-true : (x y : Bool) → x && y ≡ true → y ≡ true
-second-true true y e = e
-second-true false y e = cc
+second_true : (x y : Bool) → x && y ≡ true → y ≡ true
+second_true true y e = e
+second_true false y e = cc
 
 pub in_brands : (set : Schemas) (a b : ℕ) → a < length set.brands → b < length set.brands → IsTrue (brand_pairs set a b)
-in_brands set a b l m = both-true (nat_lt a (length set.brands)) (nat_lt b (length set.brands)) (le-leb (suc a) (length set.brands) l) (le-leb (suc b) (length set.brands) m)
+in_brands set a b l m = both_true (nat_lt a (length set.brands)) (nat_lt b (length set.brands)) (le-leb (suc a) (length set.brands) l) (le-leb (suc b) (length set.brands) m)
 
-below-by : (m n : ℕ) → nat_lt m n ≡ true → m < n
-below-by m n e = grind arith
+below_by : (m n : ℕ) → nat_lt m n ≡ true → m < n
+below_by m n e = grind arith
 
 pub first_in : (set : Schemas) (a b : ℕ) → IsTrue (brand_pairs set a b) → a < length set.brands
-first_in set a b h = below-by a (length set.brands) (first-true (nat_lt a (length set.brands)) (nat_lt b (length set.brands)) h)
+first_in set a b h = below_by a (length set.brands) (first_true (nat_lt a (length set.brands)) (nat_lt b (length set.brands)) h)
 
 pub second_in : (set : Schemas) (a b : ℕ) → IsTrue (brand_pairs set a b) → b < length set.brands
-second_in set a b h = below-by b (length set.brands) (second-true (nat_lt a (length set.brands)) (nat_lt b (length set.brands)) h)
+second_in set a b h = below_by b (length set.brands) (second_true (nat_lt a (length set.brands)) (nat_lt b (length set.brands)) h)
 
 module _ (lists : Bool) (set : Schemas) where
-  first-named : IsAccepted set → (b : ℕ) → b < length set.brands → NamesEntries set (field_at set b 0).type
-  first-named accepted b inside = at (fields_of set b) refl
+  first_named : IsAccepted set → (b : ℕ) → b < length set.brands → NamesEntries set (field_at set b 0).type
+  first_named accepted b inside = at (fields_of set b) refl
     where
       at : (fs : List TypedField) → fields_of set b ≡ fs → NamesEntries set (field_at set b 0).type
       at [] e = subst (λ (fs : List TypedField). NamesEntries set (unwrap_or (slice_get fs 0) no_field).type) (sym e) tt
       at (f ∷ fs) e = accepted.rule1.fields b 0 inside (subst (λ (gs : List TypedField). 0 < length gs) (sym e) (omega arith))
 
   -- the type in an element's place names entries of the set, as the newer one does
-  in-place : IsAccepted set → (s t : SchemaType) → NamesEntries set t → NamesEntries set (type_in_place lists set s t)
-  in-place accepted s (StructType b h) k = at (lists && (can_become_struct s && stands_first set b))
+  in_place : IsAccepted set → (s t : SchemaType) → NamesEntries set t → NamesEntries set (type_in_place lists set s t)
+  in_place accepted s (StructType b h) k = at (lists && (can_become_struct s && stands_first set b))
     where
       at : (q : Bool) → NamesEntries set (elim q as (λ _. SchemaType) [ true ↦ (field_at set b 0).type | false ↦ StructType b h ])
-      at true = first-named accepted b k.0
+      at true = first_named accepted b k.0
       at false = k
-  in-place accepted s t k = k
+  in_place accepted s t k = k
 
   types_in : IsAccepted set → (s t : SchemaType) → NamesEntries set s → NamesEntries set t → Holds (brand_pairs set) (named_pair lists set s t)
-  types_in accepted (ListType s) (ListType t) h k = types_in accepted s (type_in_place lists set s t) h (in-place accepted s t k)
+  types_in accepted (ListType s) (ListType t) h k = types_in accepted s (type_in_place lists set s t) h (in_place accepted s t k)
   types_in accepted (StructType a g) (StructType b j) h k = in_brands set a b h.0 k.0
   types_in accepted s t h k = tt
 

@@ -8,34 +8,34 @@ use Rattle.capnp_records.specs.Compatible.{IsCompatible, IsCompatibleOrUpgraded,
 use Rattle.capnp_compatible.specs.Checked.{Follows}
 use Rattle.capnp_compatible.proofs.Walking.{decides_no, decides_yes}
 
-related-wider : (set : Schemas) (pairs : Pairs) (s t : SchemaType) → Related false set pairs s t → Related true set pairs s t
-related-wider set pairs VoidType VoidType h = tt
-related-wider set pairs BoolType BoolType h = tt
-related-wider set pairs (IntType m) (IntType n) h = h
-related-wider set pairs (UIntType m) (UIntType n) h = h
-related-wider set pairs TextType TextType h = tt
-related-wider set pairs DataType DataType h = tt
-related-wider set pairs AnyPointerType AnyPointerType h = tt
-related-wider set pairs (EnumType d) (EnumType e) h = h
-related-wider set pairs (ListType (StructType a i)) (ListType (StructType b g)) h = h
-related-wider set pairs (ListType s) (ListType (StructType b g)) h = absurd h
-related-wider set pairs (ListType s) (ListType t) h = related-wider set pairs s t h
-related-wider set pairs (StructType a i) (StructType b g) h = h
-related-wider set pairs s t h = absurd h
+related_wider : (set : Schemas) (pairs : Pairs) (s t : SchemaType) → Related false set pairs s t → Related true set pairs s t
+related_wider set pairs VoidType VoidType h = tt
+related_wider set pairs BoolType BoolType h = tt
+related_wider set pairs (IntType m) (IntType n) h = h
+related_wider set pairs (UIntType m) (UIntType n) h = h
+related_wider set pairs TextType TextType h = tt
+related_wider set pairs DataType DataType h = tt
+related_wider set pairs AnyPointerType AnyPointerType h = tt
+related_wider set pairs (EnumType d) (EnumType e) h = h
+related_wider set pairs (ListType (StructType a i)) (ListType (StructType b g)) h = h
+related_wider set pairs (ListType s) (ListType (StructType b g)) h = absurd h
+related_wider set pairs (ListType s) (ListType t) h = related_wider set pairs s t h
+related_wider set pairs (StructType a i) (StructType b g) h = h
+related_wider set pairs s t h = absurd h
 
-struct-wider : (set : Schemas) (pairs : Pairs) (a b : ℕ) → SharedStruct false set pairs a b → SharedStruct true set pairs a b
-struct-wider set pairs a b h = record {
+struct_wider : (set : Schemas) (pairs : Pairs) (a b : ℕ) → SharedStruct false set pairs a b → SharedStruct true set pairs a b
+struct_wider set pairs a b h = record {
   beginning = h.beginning;
   fields = λ i below. record {
     kind = (h.fields i below).kind;
     discriminant_value = (h.fields i below).discriminant_value;
-    type = related-wider set pairs (field_at set a i).type (field_at set b i).type (h.fields i below).type;
+    type = related_wider set pairs (field_at set a i).type (field_at set b i).type (h.fields i below).type;
   };
   union = h.union;
 }
 
 pub wider : (set : Schemas) (a b : ℕ) → IsCompatible set a b → IsCompatibleOrUpgraded set a b
-wider set a b h = record { pairs = h.pairs; given = h.given; closed = λ m n p. struct-wider set h.pairs m n (h.closed m n p) }
+wider set a b h = record { pairs = h.pairs; given = h.given; closed = λ m n p. struct_wider set h.pairs m n (h.closed m n p) }
 
 module _ (older newer : StructSchema) (one : IsStruct older) (other : IsStruct newer) (set : set_of newer ≡ set_of older) where
   pub follows_as_it_was : IsCompatible (set_of older) (number_of older) (number_of newer) → Follows older newer false

@@ -12,8 +12,8 @@ use Rattle.capnp_differences.proofs.Listings.{begins_more, begins_same, listed_c
 begins_far : (xs ys zs : List Pair) → Begins xs ys → Begins ys zs → Begins xs zs
 begins_far xs ys zs f g = (let l = f.0 in let m = g.0 in omega arith, λ k below. g.1 k (let l = f.0 in omega arith) ∙ f.1 k below)
 
-at-pair : (xs : List Pair) (p : Pair) (a b : ℕ) → IsTrue (listed_pairs xs p.older p.newer) → IsPairOf p a b → IsTrue (listed_pairs xs a b)
-at-pair xs p a b here e = subst (λ (n : ℕ). IsTrue (listed_pairs xs a n)) (sym e.1) (subst (λ (m : ℕ). IsTrue (listed_pairs xs m p.newer)) (sym e.0) here)
+at_pair : (xs : List Pair) (p : Pair) (a b : ℕ) → IsTrue (listed_pairs xs p.older p.newer) → IsPairOf p a b → IsTrue (listed_pairs xs a b)
+at_pair xs p a b here e = subst (λ (n : ℕ). IsTrue (listed_pairs xs a n)) (sym e.1) (subst (λ (m : ℕ). IsTrue (listed_pairs xs m p.newer)) (sym e.0) here)
 
 -- nothing is added where nothing is new
 pub adds_none : (xs : List Pair) (New : ℕ → ℕ → Type 0) → ((a b : ℕ) → New a b → IsTrue (listed_pairs xs a b)) → Adds xs xs New
@@ -24,11 +24,11 @@ adds_none xs New old = record {
 }
 
 pub adds_listed : (xs : List Pair) (p : Pair) → IsTrue (listed_pairs xs p.older p.newer) → Adds xs xs (IsPairOf p)
-adds_listed xs p here = adds_none xs (IsPairOf p) (λ a b e. at-pair xs p a b here e)
+adds_listed xs p here = adds_none xs (IsPairOf p) (λ a b e. at_pair xs p a b here e)
 
 pub adds_new : (xs : List Pair) (p : Pair) → listed_pairs xs p.older p.newer ≡ false → Adds xs (xs ++ (p ∷ [])) (IsPairOf p)
 adds_new xs p new = record {
-  joined = λ a b. (λ h. listed_cases xs p a b h, λ h. ⊎_elim (λ l. within_more xs (p ∷ []) a b l) (λ e. at-pair (xs ++ (p ∷ [])) p a b (listed_last xs p) e) h);
+  joined = λ a b. (λ h. listed_cases xs p a b h, λ h. ⊎_elim (λ l. within_more xs (p ∷ []) a b l) (λ e. at_pair (xs ++ (p ∷ [])) p a b (listed_last xs p) e) h);
   begins = begins_more xs (p ∷ []);
   apart = λ h. apart_more xs p h new;
 }

@@ -36,70 +36,70 @@ kinds_from j k quiet s = absurd (quiet cause.KindChanged refl)
 
 -- ---- members ----
 
-both-same : (b s : Bool) (c : Cause) → s ≡ true → membership_change b b s ≡ Some c → ⊥
-both-same true s c h e = same_none s cause.DiscriminantChanged c h e
-both-same false s c h e = cc
+both_same : (b s : Bool) (c : Cause) → s ≡ true → membership_change b b s ≡ Some c → ⊥
+both_same true s c h e = same_none s cause.DiscriminantChanged c h e
+both_same false s c h e = cc
 
-by-values : (x y : ℕ) (c : Cause) → x ≡ y → membership_change (not (x == 65535)) (not (y == 65535)) (x == y) ≡ Some c → ⊥
-by-values x y c h e =
-    both-same (not (x == 65535)) (x == x) c (eq-eqb x x refl)
+by_values : (x y : ℕ) (c : Cause) → x ≡ y → membership_change (not (x == 65535)) (not (y == 65535)) (x == y) ≡ Some c → ⊥
+by_values x y c h e =
+    both_same (not (x == 65535)) (x == x) c (eq-eqb x x refl)
     (subst (λ (z : ℕ). membership_change (not (x == 65535)) (not (z == 65535)) (x == z) ≡ Some c) (sym h) e)
 
 pub members_same : (f g : Field) → f.discriminant_value ≡ g.discriminant_value → (c : Cause) → member_change f g ≡ Some c → ⊥
-members_same f g h c e = by-values f.discriminant_value g.discriminant_value c h e
+members_same f g h c e = by_values f.discriminant_value g.discriminant_value c h e
 
-is-none : (x : ℕ) → not (x == 65535) ≡ false → x ≡ 65535
-is-none x e = eqb-true x 65535 (not-false (x == 65535) e)
+is_none : (x : ℕ) → not (x == 65535) ≡ false → x ≡ 65535
+is_none x e = eqb-true x 65535 (not-false (x == 65535) e)
 
-values-from : (x y : ℕ) (p q s : Bool) → not (x == 65535) ≡ p → not (y == 65535) ≡ q → (x == y) ≡ s → ((c : Cause) → membership_change p q s ≡ Some c → ⊥) → x ≡ y
-values-from x y true true true e f g quiet = eqb-true x y g
-values-from x y true true false e f g quiet = absurd (quiet cause.DiscriminantChanged refl)
-values-from x y true false s e f g quiet = absurd (quiet cause.LeftUnion refl)
-values-from x y false true s e f g quiet = absurd (quiet cause.EnteredUnion refl)
-values-from x y false false s e f g quiet = is-none x e ∙ sym (is-none y f)
+values_from : (x y : ℕ) (p q s : Bool) → not (x == 65535) ≡ p → not (y == 65535) ≡ q → (x == y) ≡ s → ((c : Cause) → membership_change p q s ≡ Some c → ⊥) → x ≡ y
+values_from x y true true true e f g quiet = eqb-true x y g
+values_from x y true true false e f g quiet = absurd (quiet cause.DiscriminantChanged refl)
+values_from x y true false s e f g quiet = absurd (quiet cause.LeftUnion refl)
+values_from x y false true s e f g quiet = absurd (quiet cause.EnteredUnion refl)
+values_from x y false false s e f g quiet = is_none x e ∙ sym (is_none y f)
 
 pub members_from : (f g : Field) → ((c : Cause) → member_change f g ≡ Some c → ⊥) → f.discriminant_value ≡ g.discriminant_value
-members_from f g quiet = values-from f.discriminant_value g.discriminant_value _ _ _ refl refl refl quiet
+members_from f g quiet = values_from f.discriminant_value g.discriminant_value _ _ _ refl refl refl quiet
 
 -- ---- unions ----
 
-none-lost : (t b : Bool) (c : Cause) → t ≡ true → members_lost t b ≡ Some c → ⊥
-none-lost true b c h e = cc
-none-lost false b c h e = cc
+none_lost : (t b : Bool) (c : Cause) → t ≡ true → members_lost t b ≡ Some c → ⊥
+none_lost true b c h e = cc
+none_lost false b c h e = cc
 
-lost-from : (t b : Bool) → ((c : Cause) → members_lost t b ≡ Some c → ⊥) → t ≡ true
-lost-from true b quiet = refl
-lost-from false true quiet = absurd (quiet cause.UnionGone refl)
-lost-from false false quiet = absurd (quiet cause.FewerMembers refl)
+lost_from : (t b : Bool) → ((c : Cause) → members_lost t b ≡ Some c → ⊥) → t ≡ true
+lost_from true b quiet = refl
+lost_from false true quiet = absurd (quiet cause.UnionGone refl)
+lost_from false false quiet = absurd (quiet cause.FewerMembers refl)
 
-not-moved : (p q s : Bool) (c : Cause) → (p ≡ false → s ≡ true) → union_moved p q s ≡ Some c → ⊥
-not-moved true q s c h e = cc
-not-moved false true s c h e = cc
-not-moved false false s c h e = same_none s cause.UnionMoved c (h refl) e
+not_moved : (p q s : Bool) (c : Cause) → (p ≡ false → s ≡ true) → union_moved p q s ≡ Some c → ⊥
+not_moved true q s c h e = cc
+not_moved false true s c h e = cc
+not_moved false false s c h e = same_none s cause.UnionMoved c (h refl) e
 
-moved-from : (p q s : Bool) → p ≡ false → q ≡ false → ((c : Cause) → union_moved p q s ≡ Some c → ⊥) → s ≡ true
-moved-from true q s h k quiet = cc
-moved-from false true s h k quiet = cc
-moved-from false false s h k quiet = same_from s cause.UnionMoved quiet
+moved_from : (p q s : Bool) → p ≡ false → q ≡ false → ((c : Cause) → union_moved p q s ≡ Some c → ⊥) → s ≡ true
+moved_from true q s h k quiet = cc
+moved_from false true s h k quiet = cc
+moved_from false false s h k quiet = same_from s cause.UnionMoved quiet
 
 module _ (n m : Node) where
   enough : (0 < n.discriminant_count → (n.discriminant_offset ≡ m.discriminant_offset) × (n.discriminant_count ≤ m.discriminant_count)) → n.discriminant_count ≤ m.discriminant_count
   enough h = ⊎_elim (λ some. (h some).1) (λ none. omega arith) (cases_lt 0 n.discriminant_count)
 
-  some-union : (n.discriminant_count == 0) ≡ false → 0 < n.discriminant_count
-  some-union e = ⊎_elim (λ some. some) (λ none. absurd (eqb-false n.discriminant_count 0 e (omega arith))) (cases_lt 0 n.discriminant_count)
+  some_union : (n.discriminant_count == 0) ≡ false → 0 < n.discriminant_count
+  some_union e = ⊎_elim (λ some. some) (λ none. absurd (eqb-false n.discriminant_count 0 e (omega arith))) (cases_lt 0 n.discriminant_count)
 
   pub unions_same : (0 < n.discriminant_count → (n.discriminant_offset ≡ m.discriminant_offset) × (n.discriminant_count ≤ m.discriminant_count)) → (c : Cause) → UnionDiffers n m c → ⊥
-  unions_same h c (inl e) = none-lost (nat_le n.discriminant_count m.discriminant_count) (m.discriminant_count == 0) c (le-leb n.discriminant_count m.discriminant_count (enough h)) e
+  unions_same h c (inl e) = none_lost (nat_le n.discriminant_count m.discriminant_count) (m.discriminant_count == 0) c (le-leb n.discriminant_count m.discriminant_count (enough h)) e
   unions_same h c (inr e) =
-      not-moved (n.discriminant_count == 0) (m.discriminant_count == 0) (n.discriminant_offset == m.discriminant_offset) c
-      (λ was. eq-eqb n.discriminant_offset m.discriminant_offset (h (some-union was)).0) e
+      not_moved (n.discriminant_count == 0) (m.discriminant_count == 0) (n.discriminant_offset == m.discriminant_offset) c
+      (λ was. eq-eqb n.discriminant_offset m.discriminant_offset (h (some_union was)).0) e
 
   pub unions_from : ((c : Cause) → UnionDiffers n m c → ⊥) → 0 < n.discriminant_count → (n.discriminant_offset ≡ m.discriminant_offset) × (n.discriminant_count ≤ m.discriminant_count)
   unions_from quiet some =
-      let more : n.discriminant_count ≤ m.discriminant_count = leb-true n.discriminant_count m.discriminant_count (lost-from (nat_le n.discriminant_count m.discriminant_count) (m.discriminant_count == 0) (λ c e. quiet c (inl e))) in (
+      let more : n.discriminant_count ≤ m.discriminant_count = leb-true n.discriminant_count m.discriminant_count (lost_from (nat_le n.discriminant_count m.discriminant_count) (m.discriminant_count == 0) (λ c e. quiet c (inl e))) in (
         eqb-true n.discriminant_offset m.discriminant_offset
-            (moved-from (n.discriminant_count == 0) (m.discriminant_count == 0) (n.discriminant_offset == m.discriminant_offset)
+            (moved_from (n.discriminant_count == 0) (m.discriminant_count == 0) (n.discriminant_offset == m.discriminant_offset)
             (ne_eqb n.discriminant_count 0 (λ z. omega arith)) (ne_eqb m.discriminant_count 0 (λ z. omega arith)) (λ c e. quiet c (inr e))),
         more,
       )

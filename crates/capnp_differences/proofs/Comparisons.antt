@@ -32,8 +32,8 @@ pub record Comparing (set : Schemas) (asked : List Pair) (next : ℕ) (ps : List
 -- ---- the start ----
 
 module _ (set : Schemas) (asked : List Pair) (brands : Within (listed_pairs asked) (brand_pairs set)) (apart : Apart asked) where
-  asked-compared : (a b : ℕ) → IsTrue (listed_pairs asked a b) → IsComparedOf set asked a b
-  asked-compared a b h = let r = listed_at asked a b h in record {
+  asked_compared : (a b : ℕ) → IsTrue (listed_pairs asked a b) → IsComparedOf set asked a b
+  asked_compared a b h = let r = listed_at asked a b h in record {
     given = r.1;
     stands = contains_at asked r.0 r.1 r.2;
     compared = subst (λ (y : ℕ). IsCompared set (r.1).older (r.1).newer a y) r.4 (subst (λ (x : ℕ). IsCompared set (r.1).older (r.1).newer x (r.1).newer) r.3 Given);
@@ -43,7 +43,7 @@ module _ (set : Schemas) (asked : List Pair) (brands : Within (listed_pairs aske
   begun = record {
     given = λ a b h. h;
     brands = brands;
-    compared = asked-compared;
+    compared = asked_compared;
     apart = apart;
     followed = λ k lt p e. absurd (omega arith);
     known = λ k lt p e. absurd (omega arith);
@@ -74,60 +74,60 @@ module _ (set : Schemas) (asked : List Pair) (next : ℕ) (ps : List Pair) (ts :
     was : (k : ℕ) (q : Pair) → k < next + 1 → slice_get qs k ≡ Some q → slice_get ps k ≡ Some q
     was k q below e = sym (adds.begins.1 k (omega arith)) ∙ e
 
-    same-here : (q : Pair) → slice_get qs next ≡ Some q → p ≡ q
-    same-here q e = let f = was next q (omega arith) e in cc
+    same_here : (q : Pair) → slice_get qs next ≡ Some q → p ≡ q
+    same_here q e = let f = was next q (omega arith) e in cc
 
-    new-brands : (a b : ℕ) → IsTrue (listed_pairs ps a b) ⊎ IsNamed set p.older p.newer (length (fields_of set p.older)) a b → IsTrue (brand_pairs set a b)
-    new-brands a b (inl h) = w.brands a b h
-    new-brands a b (inr n) = subst (λ (o : Option Pair). Has (brand_pairs set) o) n.4 (named_in set accepted p.older p.newer older_in newer_in n.0 n.2 n.3)
+    new_brands : (a b : ℕ) → IsTrue (listed_pairs ps a b) ⊎ IsNamed set p.older p.newer (length (fields_of set p.older)) a b → IsTrue (brand_pairs set a b)
+    new_brands a b (inl h) = w.brands a b h
+    new_brands a b (inr n) = subst (λ (o : Option Pair). Has (brand_pairs set) o) n.4 (named_in set accepted p.older p.newer older_in newer_in n.0 n.2 n.3)
 
-    new-compared : (a b : ℕ) → IsTrue (listed_pairs ps a b) ⊎ IsNamed set p.older p.newer (length (fields_of set p.older)) a b → IsComparedOf set asked a b
-    new-compared a b (inl h) = w.compared a b h
-    new-compared a b (inr n) = let before = w.compared p.older p.newer here in record {
+    new_compared : (a b : ℕ) → IsTrue (listed_pairs ps a b) ⊎ IsNamed set p.older p.newer (length (fields_of set p.older)) a b → IsComparedOf set asked a b
+    new_compared a b (inl h) = w.compared a b h
+    new_compared a b (inr n) = let before = w.compared p.older p.newer here in record {
       given = before.given;
       stands = before.stands;
       compared = Named p.older p.newer n.0 a b before.compared n.2 n.3 n.4;
     }
 
-    named-here : HasNamed set (listed_pairs qs) p.older p.newer
-    named-here i l m = has (struct_pair set (field_at set p.older i).type (field_at set p.newer i).type) refl
+    named_here : HasNamed set (listed_pairs qs) p.older p.newer
+    named_here i l m = has (struct_pair set (field_at set p.older i).type (field_at set p.newer i).type) refl
       where
         has : (o : Option Pair) → struct_pair set (field_at set p.older i).type (field_at set p.newer i).type ≡ o → Has (listed_pairs qs) o
         has None e = tt
         has (Some q) e = (adds.joined q.older q.newer).1 (inr (i, l, l, m, e))
 
-    new-told : (d : Difference) → (IsBefore set ps next d ⊎ IsOfPair set p d) → IsBefore set qs (next + 1) d
-    new-told d (inl h) = let lt = h.1 in (h.0, omega arith, adds.begins.1 h.0 (omega arith) ∙ h.2, h.3)
-    new-told d (inr h) = let s = pair_holds set p d h in (next, omega arith, adds.begins.1 next (omega arith) ∙ (at ∙ ap (λ (q : Pair). Some q) (sym s.0)), s.1)
+    new_told : (d : Difference) → (IsBefore set ps next d ⊎ IsOfPair set p d) → IsBefore set qs (next + 1) d
+    new_told d (inl h) = let lt = h.1 in (h.0, omega arith, adds.begins.1 h.0 (omega arith) ∙ h.2, h.3)
+    new_told d (inr h) = let s = pair_holds set p d h in (next, omega arith, adds.begins.1 next (omega arith) ∙ (at ∙ ap (λ (q : Pair). Some q) (sym s.0)), s.1)
 
-    old-told : (d : Difference) → IsBefore set qs (next + 1) d → IsBefore set ps next d ⊎ IsOfPair set p d
-    old-told d h = ⊎_elim (λ lt. inl (h.0, lt, was h.0 d.pair h.1 h.2, h.3)) (λ le. inr (holds_pair set p d (at-next le) h.3)) (cases_lt h.0 next)
+    old_told : (d : Difference) → IsBefore set qs (next + 1) d → IsBefore set ps next d ⊎ IsOfPair set p d
+    old_told d h = ⊎_elim (λ lt. inl (h.0, lt, was h.0 d.pair h.1 h.2, h.3)) (λ le. inr (holds_pair set p d (at_next le) h.3)) (cases_lt h.0 next)
       where
-        at-next : next ≤ h.0 → d.pair ≡ p
-        at-next le = let lt = h.1 in let e : h.0 ≡ next = omega arith in sym (same-here d.pair (subst (λ (k : ℕ). slice_get qs k ≡ Some d.pair) e h.2))
+        at_next : next ≤ h.0 → d.pair ≡ p
+        at_next le = let lt = h.1 in let e : h.0 ≡ next = omega arith in sym (same_here d.pair (subst (λ (k : ℕ). slice_get qs k ≡ Some d.pair) e h.2))
 
     -- nothing was told of the pair before
-    none-before : IsBelow p 0 ts
-    none-before d h e = at-before ((w.told d).0 h)
+    none_before : IsBelow p 0 ts
+    none_before d h e = at_before ((w.told d).0 h)
       where
-        at-before : Contains [] d ⊎ IsBefore set ps next d → turn_of d.field d.cause < 0
-        at-before (inl none) = absurd (let l = none.1 in omega arith)
-        at-before (inr (k, lt, stands, holds)) = absurd (stands_once ps w.apart k next lt p (stands ∙ ap (λ (q : Pair). Some q) e) at)
+        at_before : Contains [] d ⊎ IsBefore set ps next d → turn_of d.field d.cause < 0
+        at_before (inl none) = absurd (let l = none.1 in omega arith)
+        at_before (inr (k, lt, stands, holds)) = absurd (stands_once ps w.apart k next lt p (stands ∙ ap (λ (q : Pair). Some q) e) at)
 
     pub compare_more : Comparing set asked (next + 1) qs us
     compare_more = record {
       given = λ a b h. more a b (w.given a b h);
-      brands = λ a b h. new-brands a b ((adds.joined a b).0 h);
-      compared = λ a b h. new-compared a b ((adds.joined a b).0 h);
+      brands = λ a b h. new_brands a b ((adds.joined a b).0 h);
+      compared = λ a b h. new_compared a b ((adds.joined a b).0 h);
       apart = adds.apart w.apart;
       followed = below_more (λ k. (q : Pair) → slice_get qs k ≡ Some q → HasNamed set (listed_pairs qs) q.older q.newer) next
           (λ k below q e. named_within set (listed_pairs ps) (listed_pairs qs) q.older q.newer more (w.followed k below q (was k q (omega arith) e)))
-          (λ q e. subst (λ (x : Pair). HasNamed set (listed_pairs qs) x.older x.newer) (same-here q e) named-here);
+          (λ q e. subst (λ (x : Pair). HasNamed set (listed_pairs qs) x.older x.newer) (same_here q e) named_here);
       known = below_more (λ k. (q : Pair) → slice_get qs k ≡ Some q → AreKnown set q.older q.newer (length (fields_of set q.older))) next
           (λ k below q e. w.known k below q (was k q (omega arith) e))
-          (λ q e. subst (λ (x : Pair). AreKnown set x.older x.newer (length (fields_of set x.older))) (same-here q e) known);
-      told = tells_as [] us (λ d. IsBefore set ps next d ⊎ IsOfPair set p d) (tells_then [] ts (IsBefore set ps next) w.told us (IsOfPair set p) tells) (IsBefore set qs (next + 1)) (λ d. (new-told d, old-told d));
-      ordered = (orders w.ordered none-before).0;
+          (λ q e. subst (λ (x : Pair). AreKnown set x.older x.newer (length (fields_of set x.older))) (same_here q e) known);
+      told = tells_as [] us (λ d. IsBefore set ps next d ⊎ IsOfPair set p d) (tells_then [] ts (IsBefore set ps next) w.told us (IsOfPair set p) tells) (IsBefore set qs (next + 1)) (λ d. (new_told d, old_told d));
+      ordered = (orders w.ordered none_before).0;
     }
 
 -- ---- the end ----
@@ -145,16 +145,16 @@ module _ (set : Schemas) (asked : List Pair) (next : ℕ) (ps : List Pair) (ts :
       subst (λ (y : ℕ). AreKnown set a y (length (fields_of set a))) r.4 (subst (λ (x : ℕ). AreKnown set x (r.1).newer (length (fields_of set x))) r.3 (w.known r.0 (before r.0 r.1 r.2) r.1 r.2))
 
   -- what is told differs
-  told-listed : (d : Difference) → Contains ts d → IsTrue (listed_pairs ps d.pair.older d.pair.newer) × Holds set d
-  told-listed d h = at ((w.told d).0 h)
+  told_listed : (d : Difference) → Contains ts d → IsTrue (listed_pairs ps d.pair.older d.pair.newer) × Holds set d
+  told_listed d h = at ((w.told d).0 h)
     where
       at : Contains [] d ⊎ IsBefore set ps next d → IsTrue (listed_pairs ps d.pair.older d.pair.newer) × Holds set d
       at (inl none) = absurd (let l = none.1 in omega arith)
       at (inr (k, lt, e, holds)) = (at_listed ps k d.pair e, holds)
 
   -- what differs in a listed pair is told
-  listed-told : (d : Difference) → IsTrue (listed_pairs ps d.pair.older d.pair.newer) → Holds set d → Contains ts d
-  listed-told d h holds = let r = listed_at ps d.pair.older d.pair.newer h in
+  listed_told : (d : Difference) → IsTrue (listed_pairs ps d.pair.older d.pair.newer) → Holds set d → Contains ts d
+  listed_told d h holds = let r = listed_at ps d.pair.older d.pair.newer h in
       (w.told d).1 (inr (r.0, before r.0 r.1 r.2, r.2 ∙ ap (λ (q : Pair). Some q) (ap₂ pair_of r.3 r.4), holds))
 
   pub compare_ends : Compares set asked ps ts
@@ -164,7 +164,7 @@ module _ (set : Schemas) (asked : List Pair) (next : ℕ) (ps : List Pair) (ts :
     compared = w.compared;
     named = named;
     known = known;
-    told = λ d. (told-listed d, λ h. listed-told d h.0 h.1);
+    told = λ d. (told_listed d, λ h. listed_told d h.0 h.1);
     ordered = w.ordered;
     apart = w.apart;
   }

@@ -173,35 +173,35 @@ last_here es x q to = record {
 }
 
 -- the pair of a key
-key-same : (p q : Pair) → same_key (q.older, q.newer) (p.older, p.newer) ≡ true → p ≡ q
-key-same p q h = ap₂ pair_of (grind arith) (grind arith)
+key_same : (p q : Pair) → same_key (q.older, q.newer) (p.older, p.newer) ≡ true → p ≡ q
+key_same p q h = ap₂ pair_of (grind arith) (grind arith)
 
-key-other : (p q : Pair) → same_key (p.older, p.newer) (q.older, q.newer) ≡ false → p ≡ q → ⊥
-key-other p q h e = grind arith
+key_other : (p q : Pair) → same_key (p.older, p.newer) (q.older, q.newer) ≡ false → p ≡ q → ⊥
+key_other p q h e = grind arith
 
-empty-at : (k : ℕ) (x : Edge) → slice_get [] k ≡ Some x → ⊥
-empty-at k x h = cc
+empty_at : (k : ℕ) (x : Edge) → slice_get [] k ≡ Some x → ⊥
+empty_at k x h = cc
 
 pub chained_none : (n : Namers) → n.edges.items ≡ [] → n.last.entries ≡ [] → AreChained n
 chained_none n e none = record {
-  each = λ k x h. absurd (no-edge k x h);
+  each = λ k x h. absurd (no_edge k x h);
   last = λ q. record {
     inside = let z = unknown q in omega arith;
-    past = λ k from to x h is. no-edge k x h;
-    here = λ k is x h. absurd (no-edge k x h);
+    past = λ k from to x h is. no_edge k x h;
+    here = λ k is x h. absurd (no_edge k x h);
   };
 }
   where
-    no-edge : (k : ℕ) (x : Edge) → slice_get n.edges.items k ≡ Some x → ⊥
-    no-edge k x h = empty-at k x (sym (ap (λ (es : List Edge). slice_get es k) e) ∙ h)
+    no_edge : (k : ℕ) (x : Edge) → slice_get n.edges.items k ≡ Some x → ⊥
+    no_edge k x h = empty_at k x (sym (ap (λ (es : List Edge). slice_get es k) e) ∙ h)
 
     unknown : (q : Pair) → last_number n.last q ≡ 0
     unknown q = ap (λ (xs : List ((ℕ × ℕ) × ℕ)). number_or_none (lookup (same_key (q.older, q.newer)) xs)) none
 
 module _ (n m : Namers) (x : Edge) (es : m.edges.items ≡ n.edges.items ++ (x ∷ [])) (before : x.before ≡ last_number n.last x.named) (number : ℕ) (is : number ≡ length n.edges.items + 1)
     (put : Updates same_key n.last m.last (x.named.older, x.named.newer) (Some number)) (chained : AreChained n) where
-  each-more : (k : ℕ) → (e : Edge) → slice_get (n.edges.items ++ (x ∷ [])) k ≡ Some e → IsLast (n.edges.items ++ (x ∷ [])) k e.named e.before
-  each-more k e h = ⊎_elim
+  each_more : (k : ℕ) → (e : Edge) → slice_get (n.edges.items ++ (x ∷ [])) k ≡ Some e → IsLast (n.edges.items ++ (x ∷ [])) k e.named e.before
+  each_more k e h = ⊎_elim
       (λ l. last_more n.edges.items x k e.named e.before (let lt = below n.edges.items k e l in omega arith) (chained.each k e l))
       (λ r.
       subst (λ (y : Edge). IsLast (n.edges.items ++ (x ∷ [])) k y.named y.before) (sym r.1)
@@ -210,21 +210,21 @@ module _ (n m : Namers) (x : Edge) (es : m.edges.items ≡ n.edges.items ++ (x �
       (last_more n.edges.items x (length n.edges.items) x.named (last_number n.last x.named) (omega arith) (chained.last x.named)))))
       (which n.edges.items x k e h)
 
-  last-more : (q : Pair) → IsLast (n.edges.items ++ (x ∷ [])) (length n.edges.items + 1) q (last_number m.last q)
-  last-more q = at (same_key (x.named.older, x.named.newer) (q.older, q.newer)) refl
+  last_of_more : (q : Pair) → IsLast (n.edges.items ++ (x ∷ [])) (length n.edges.items + 1) q (last_number m.last q)
+  last_of_more q = at (same_key (x.named.older, x.named.newer) (q.older, q.newer)) refl
     where
       found : (t : Bool) → same_key (x.named.older, x.named.newer) (q.older, q.newer) ≡ t → last_number m.last q ≡ number_or_none (cond t (Some number) (get same_key n.last (q.older, q.newer)))
       found t e = ap number_or_none (put.0 (q.older, q.newer) ∙ ap (λ (b : Bool). cond b (Some number) (get same_key n.last (q.older, q.newer))) e)
 
       at : (t : Bool) → same_key (x.named.older, x.named.newer) (q.older, q.newer) ≡ t → IsLast (n.edges.items ++ (x ∷ [])) (length n.edges.items + 1) q (last_number m.last q)
-      at true e = subst (λ (j : ℕ). IsLast (n.edges.items ++ (x ∷ [])) (length n.edges.items + 1) q j) (sym (found true e ∙ is)) (last_here n.edges.items x q (sym (key-same q x.named e)))
-      at false e = subst (λ (j : ℕ). IsLast (n.edges.items ++ (x ∷ [])) (length n.edges.items + 1) q j) (sym (found false e)) (last_past n.edges.items x q (last_number n.last q) (key-other x.named q e) (chained.last q))
+      at true e = subst (λ (j : ℕ). IsLast (n.edges.items ++ (x ∷ [])) (length n.edges.items + 1) q j) (sym (found true e ∙ is)) (last_here n.edges.items x q (sym (key_same q x.named e)))
+      at false e = subst (λ (j : ℕ). IsLast (n.edges.items ++ (x ∷ [])) (length n.edges.items + 1) q j) (sym (found false e)) (last_past n.edges.items x q (last_number n.last q) (key_other x.named q e) (chained.last q))
 
   pub chained_more : AreChained m
   chained_more = record {
-    each = subst (λ (l : List Edge). (k : ℕ) → (e : Edge) → slice_get l k ≡ Some e → IsLast l k e.named e.before) (sym es) each-more;
+    each = subst (λ (l : List Edge). (k : ℕ) → (e : Edge) → slice_get l k ≡ Some e → IsLast l k e.named e.before) (sym es) each_more;
     last = subst (λ (l : List Edge). (q : Pair) → IsLast l (length l) q (last_number m.last q)) (sym es)
-        (subst (λ (j : ℕ). (q : Pair) → IsLast (n.edges.items ++ (x ∷ [])) j q (last_number m.last q)) (sym (length-append n.edges.items (x ∷ []))) last-more);
+        (subst (λ (j : ℕ). (q : Pair) → IsLast (n.edges.items ++ (x ∷ [])) j q (last_number m.last q)) (sym (length-append n.edges.items (x ∷ []))) last_of_more);
   }
 
 -- ---- those who name a pair ----

@@ -11,27 +11,27 @@ use Rattle.capnp_records.specs.Compatible.{can_become_struct, stands_first, type
 use Rattle.capnp_differences.proofs.Layers.{seen}
 
 module _ (set : Schemas) (s : SchemaType) where
-  layer-stays : (u : TypeVariant) → ((x : RawBrandedStructSchema) → u ≡ variant.Struct x → ⊥) → type_in_place true set s (seen_variant u) ≡ seen_variant u
-  layer-stays (variant.Struct schema) h = absurd (h schema refl)
-  layer-stays u h = refl
+  layer_stays : (u : TypeVariant) → ((x : RawBrandedStructSchema) → u ≡ variant.Struct x → ⊥) → type_in_place true set s (seen_variant u) ≡ seen_variant u
+  layer_stays (variant.Struct schema) h = absurd (h schema refl)
+  layer_stays u h = refl
 
   -- what is no struct stands in its own place
   pub stays : (t : TypeHandle) (u : TypeVariant) → u ≡ variant_of t → ((x : RawBrandedStructSchema) → u ≡ variant.Struct x → ⊥) → seen_type t ≡ type_in_place true set s (seen_type t)
-  stays t u e h = sym (ap (type_in_place true set s) (sym (seen t u e)) ∙ (layer-stays u h ∙ seen t u e))
+  stays t u e h = sym (ap (type_in_place true set s) (sym (seen t u e)) ∙ (layer_stays u h ∙ seen t u e))
 
-  by-test : (q : Bool) (a b : SchemaType) → q ≡ true → (elim q as (λ _. SchemaType) [ true ↦ a | false ↦ b ]) ≡ a
-  by-test true a b e = refl
-  by-test false a b e = cc
+  by_test : (q : Bool) (a b : SchemaType) → q ≡ true → (elim q as (λ _. SchemaType) [ true ↦ a | false ↦ b ]) ≡ a
+  by_test true a b e = refl
+  by_test false a b e = cc
 
-  by-no-test : (q : Bool) (a b : SchemaType) → q ≡ false → (elim q as (λ _. SchemaType) [ true ↦ a | false ↦ b ]) ≡ b
-  by-no-test true a b e = cc
-  by-no-test false a b e = refl
+  by_no_test : (q : Bool) (a b : SchemaType) → q ≡ false → (elim q as (λ _. SchemaType) [ true ↦ a | false ↦ b ]) ≡ b
+  by_no_test true a b e = cc
+  by_no_test false a b e = refl
 
   module _ (t : TypeHandle) (schema : RawBrandedStructSchema) (e : variant.Struct schema ≡ variant_of t) where
     -- a struct's field 0 does where it may
     pub first_in_place : (can_become_struct s && stands_first set schema.number) ≡ true → (field_at set schema.number 0).type ≡ type_in_place true set s (seen_type t)
-    first_in_place h = sym (ap (type_in_place true set s) (sym (seen t (variant.Struct schema) e)) ∙ by-test (can_become_struct s && stands_first set schema.number) _ _ h)
+    first_in_place h = sym (ap (type_in_place true set s) (sym (seen t (variant.Struct schema) e)) ∙ by_test (can_become_struct s && stands_first set schema.number) _ _ h)
 
     -- and else the struct itself
     pub struct_stays : (can_become_struct s && stands_first set schema.number) ≡ false → seen_type t ≡ type_in_place true set s (seen_type t)
-    struct_stays h = sym (ap (type_in_place true set s) (sym (seen t (variant.Struct schema) e)) ∙ (by-no-test (can_become_struct s && stands_first set schema.number) _ _ h ∙ seen t (variant.Struct schema) e))
+    struct_stays h = sym (ap (type_in_place true set s) (sym (seen t (variant.Struct schema) e)) ∙ (by_no_test (can_become_struct s && stands_first set schema.number) _ _ h ∙ seen t (variant.Struct schema) e))

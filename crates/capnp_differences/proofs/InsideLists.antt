@@ -15,26 +15,26 @@ use Rattle.capnp_differences.specs.declared.noted.EnumPair.{EnumPair}
 use Rattle.capnp_differences.proofs.Layers.{seen}
 
 -- a list has one list more than its elements
-less-by : (b : BaseType) (n : ℕ) (x : TypeHandle) → variant.List x ≡ variant_by b n → x.list_count + 1 ≤ n
-less-by base.Void zero x e = cc
-less-by base.Bool zero x e = cc
-less-by base.Int8 zero x e = cc
-less-by base.Int16 zero x e = cc
-less-by base.Int32 zero x e = cc
-less-by base.Int64 zero x e = cc
-less-by base.UInt8 zero x e = cc
-less-by base.UInt16 zero x e = cc
-less-by base.UInt32 zero x e = cc
-less-by base.UInt64 zero x e = cc
-less-by base.Text zero x e = cc
-less-by base.«Data» zero x e = cc
-less-by base.AnyPointer zero x e = cc
-less-by (base.Struct s) zero x e = cc
-less-by (base.Enum s) zero x e = cc
-less-by b (suc n) x e = let same : x ≡ record { base = b; list_count = n } = cc in let count : x.list_count ≡ n = ap (λ (t : TypeHandle). t.list_count) same in omega (arith, count)
+less_by : (b : BaseType) (n : ℕ) (x : TypeHandle) → variant.List x ≡ variant_by b n → x.list_count + 1 ≤ n
+less_by base.Void zero x e = cc
+less_by base.Bool zero x e = cc
+less_by base.Int8 zero x e = cc
+less_by base.Int16 zero x e = cc
+less_by base.Int32 zero x e = cc
+less_by base.Int64 zero x e = cc
+less_by base.UInt8 zero x e = cc
+less_by base.UInt16 zero x e = cc
+less_by base.UInt32 zero x e = cc
+less_by base.UInt64 zero x e = cc
+less_by base.Text zero x e = cc
+less_by base.«Data» zero x e = cc
+less_by base.AnyPointer zero x e = cc
+less_by (base.Struct s) zero x e = cc
+less_by (base.Enum s) zero x e = cc
+less_by b (suc n) x e = let same : x ≡ record { base = b; list_count = n } = cc in let count : x.list_count ≡ n = ap (λ (t : TypeHandle). t.list_count) same in omega (arith, count)
 
 pub one_less : (s x : TypeHandle) → variant.List x ≡ variant_of s → x.list_count + 1 ≤ s.list_count
-one_less s x e = less-by s.base s.list_count x e
+one_less s x e = less_by s.base s.list_count x e
 
 module _ (set : Schemas) where
   -- where not both are lists no level is asked
@@ -47,12 +47,12 @@ module _ (set : Schemas) where
   none_more u v h = refl
 
   -- nor where an element is no struct
-  layer-none : (s : SchemaType) (u : TypeVariant) → ((x : RawBrandedStructSchema) → u ≡ variant.Struct x → ⊥) → level_asked set s (seen_variant u) ≡ 0
-  layer-none s (variant.Struct y) h = absurd (h y refl)
-  layer-none s u h = refl
+  layer_none : (s : SchemaType) (u : TypeVariant) → ((x : RawBrandedStructSchema) → u ≡ variant.Struct x → ⊥) → level_asked set s (seen_variant u) ≡ 0
+  layer_none s (variant.Struct y) h = absurd (h y refl)
+  layer_none s u h = refl
 
   pub none_asked : (s : SchemaType) (t : TypeHandle) (u : TypeVariant) → u ≡ variant_of t → ((x : RawBrandedStructSchema) → u ≡ variant.Struct x → ⊥) → 0 ≡ level_asked set s (seen_type t)
-  none_asked s t u e h = sym (ap (level_asked set s) (sym (seen t u e)) ∙ layer-none s u h)
+  none_asked s t u e h = sym (ap (level_asked set s) (sym (seen t u e)) ∙ layer_none s u h)
 
 module _ (set : Schemas) (s t : TypeHandle) (u v : TypeVariant) (e : u ≡ variant_of s) (f : v ≡ variant_of t) where
   pub enums_end : (w : Option EnumPair) → enum_pair set (seen_type s) (seen_type t) ≡ w → enum_pair set (seen_variant u) (seen_variant v) ≡ w

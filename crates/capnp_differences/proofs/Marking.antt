@@ -67,8 +67,8 @@ module _ (set : Schemas) (ps : List Pair) (ts : List Difference) where
     kept : (a b : ℕ) → IsTrue (listed_pairs ms a b) → IsTrue (listed_pairs ns a b)
     kept a b h = (adds.joined a b).1 (inl h)
 
-    marks-more : Marking set ps ts ns
-    marks-more = record {
+    marks_more : Marking set ps ts ns
+    marks_more = record {
       inside = λ a b h. ⊎_elim (λ l. w.marks.inside a b l) (λ e. ((namers q (pair_of a b)).0 e).0) ((adds.joined a b).0 h);
       apart = adds.apart w.marks.apart;
       differing = λ d h. kept d.pair.older d.pair.newer (w.marks.differing d h);
@@ -78,8 +78,8 @@ module _ (set : Schemas) (ps : List Pair) (ts : List Difference) where
         on : (a b : ℕ) → IsNamed set a b (length (fields_of set a)) q.older q.newer → Leads set a b
         on a b n = leads_on set a b n.0 q.older q.newer n.2 n.3 n.4 (w.marks.leads q.older q.newer (at_listed ms next q at))
 
-    settled-more : (k : ℕ) → k < next + 1 → (p : Pair) → slice_get ns k ≡ Some p → (a b : ℕ) → IsTrue (listed_pairs ps a b) → IsNamed set a b (length (fields_of set a)) p.older p.newer → IsTrue (listed_pairs ns a b)
-    settled-more k below p here a b l n = ⊎_elim
+    settled_more : (k : ℕ) → k < next + 1 → (p : Pair) → slice_get ns k ≡ Some p → (a b : ℕ) → IsTrue (listed_pairs ps a b) → IsNamed set a b (length (fields_of set a)) p.older p.newer → IsTrue (listed_pairs ns a b)
+    settled_more k below p here a b l n = ⊎_elim
         (λ lt. kept a b (w.settled k lt p (before (let l = index_inside ms next q at in omega arith)) a b l n))
         (λ ge.
         let same : k ≡ next = omega arith in
@@ -92,7 +92,7 @@ module _ (set : Schemas) (ps : List Pair) (ts : List Difference) where
         before lt = sym (adds.begins.1 k lt) ∙ here
 
     pub spread_more : Spreading (next + 1) ns
-    spread_more = record { marks = marks-more; settled = settled-more }
+    spread_more = record { marks = marks_more; settled = settled_more }
 
   module _ (ms : List Pair) (next : ℕ) (w : Spreading next ms) where
     -- there are no more pairs than pairs of brands
@@ -112,18 +112,18 @@ module _ (set : Schemas) (ps : List Pair) (ts : List Difference) where
 
 -- ---- where nothing is told ----
 
-none-at : (ts : List Difference) (k : ℕ) (d : Difference) → length ts ≡ 0 → slice_get ts k ≡ Some d → ⊥
-none-at [] k d none e = cc
-none-at (x ∷ xs) k d none e = omega (arith, none)
+none_at : (ts : List Difference) (k : ℕ) (d : Difference) → length ts ≡ 0 → slice_get ts k ≡ Some d → ⊥
+none_at [] k d none e = cc
+none_at (x ∷ xs) k d none e = omega (arith, none)
 
 -- nothing is marked then
 module _ (set : Schemas) (ps : List Pair) (ts : List Difference) (ms : List Pair) (g : Gathers (IsToldAt ts) ms (length ts)) (none : length ts ≡ 0) where
-  none-listed : (a b : ℕ) → IsTrue (listed_pairs ms a b) → ⊥
-  none-listed a b h = let at = g.only a b h in none-at ts at.0 (at.1).0 none (at.1).1
+  none_listed : (a b : ℕ) → IsTrue (listed_pairs ms a b) → ⊥
+  none_listed a b h = let at = g.only a b h in none_at ts at.0 (at.1).0 none (at.1).1
 
   pub none_reach : Reaches set ps ts ms
   none_reach = record {
     differing = λ d h. absurd (let lt = h.1 in omega (arith, lt, none));
-    leads = λ a b h. absurd (none-listed a b h);
-    settled = λ a b h n. absurd (none-listed n.0 n.1 n.3);
+    leads = λ a b h. absurd (none_listed a b h);
+    settled = λ a b h n. absurd (none_listed n.0 n.1 n.3);
   }

@@ -12,20 +12,20 @@ use Rattle.capnp_differences.proofs.Turns.{stands_once}
 
 -- ---- one pair more ----
 
-drop-suc : (ps : List Pair) (i : ℕ) (p : Pair) → slice_get ps i ≡ Some p → drop i ps ≡ p ∷ drop (suc i) ps
-drop-suc [] i p e = cc
-drop-suc (x ∷ xs) zero p e = let s : x ≡ p = cc in ap (λ (y : Pair). y ∷ xs) s
-drop-suc (x ∷ xs) (suc i) p e = drop-suc xs i p e
+drop_suc : (ps : List Pair) (i : ℕ) (p : Pair) → slice_get ps i ≡ Some p → drop i ps ≡ p ∷ drop (suc i) ps
+drop_suc [] i p e = cc
+drop_suc (x ∷ xs) zero p e = let s : x ≡ p = cc in ap (λ (y : Pair). y ∷ xs) s
+drop_suc (x ∷ xs) (suc i) p e = drop_suc xs i p e
 
-drop-at : (ps : List Pair) (i : ℕ) (p : Pair) → slice_get ps i ≡ Some p → drop i ps ≡ p ∷ drop (i + 1) ps
-drop-at ps i p e = drop-suc ps i p e ∙ ap (λ (n : ℕ). p ∷ drop n ps) (sym (add-one i))
+drop_at : (ps : List Pair) (i : ℕ) (p : Pair) → slice_get ps i ≡ Some p → drop i ps ≡ p ∷ drop (i + 1) ps
+drop_at ps i p e = drop_suc ps i p e ∙ ap (λ (n : ℕ). p ∷ drop n ps) (sym (add-one i))
 
 pub next_noted : (set : Schemas) (ps : List Pair) (i : ℕ) (p : Pair) (before after all : List Note) → slice_get ps i ≡ Some p → before ++ notes_of set (drop i ps) ≡ all →
     after ≡ before ++ pair_notes set p → after ++ notes_of set (drop (i + 1) ps) ≡ all
 next_noted set ps i p before after all at left more =
     ap (λ (ns : List Note). ns ++ notes_of set (drop (i + 1) ps)) more
     ∙ (append_assoc before (pair_notes set p) (notes_of set (drop (i + 1) ps))
-    ∙ (ap (λ (qs : List Pair). before ++ notes_of set qs) (sym (drop-at ps i p at)) ∙ left))
+    ∙ (ap (λ (qs : List Pair). before ++ notes_of set qs) (sym (drop_at ps i p at)) ∙ left))
 
 -- ---- the pairs that are compared ----
 

@@ -17,8 +17,8 @@ use Rattle.capnp_differences.specs.declared.differences.Pair.{Pair}
 pub tells_none : (xs : List Difference) (New : Difference → Type 0) → ((d : Difference) → New d → ⊥) → Tells xs xs New
 tells_none xs New quiet d = (λ h. inl h, λ h. ⊎_elim (λ l. l) (λ n. absurd (quiet d n)) h)
 
-tells-one : (xs : List Difference) (x : Difference) → Tells xs (xs ++ (x ∷ [])) (λ d. d ≡ x)
-tells-one xs x d = (λ h. turned (Contains-push_cases xs x d h), λ h. ⊎_elim (λ l. Contains-append_left xs (x ∷ []) d l) (λ e. subst (λ (y : Difference). Contains (xs ++ (x ∷ [])) y) (sym e) (Contains-push xs x)) h)
+tells_one : (xs : List Difference) (x : Difference) → Tells xs (xs ++ (x ∷ [])) (λ d. d ≡ x)
+tells_one xs x d = (λ h. turned (Contains-push_cases xs x d h), λ h. ⊎_elim (λ l. Contains-append_left xs (x ∷ []) d l) (λ e. subst (λ (y : Difference). Contains (xs ++ (x ∷ [])) y) (sym e) (Contains-push xs x)) h)
   where
     turned : Contains xs d ⊎ (x ≡ d) → Contains xs d ⊎ (d ≡ x)
     turned (inl l) = inl l
@@ -52,7 +52,7 @@ module _ (p : Pair) (o : Option ℕ) where
   pub told_some : (xs ys : List Difference) (k : Option Cause) (x : Cause) → k ≡ Some x → ys ≡ xs ++ (difference_of p o x ∷ []) → Tells xs ys (IsOf p o (λ c. k ≡ Some c))
   told_some xs ys k x is put =
       subst (λ (l : List Difference). Tells xs l (IsOf p o (λ c. k ≡ Some c))) (sym put)
-      (tells_as xs (xs ++ (difference_of p o x ∷ [])) (λ d. d ≡ difference_of p o x) (tells-one xs (difference_of p o x)) (IsOf p o (λ c. k ≡ Some c)) (λ d. (λ e. (x, is, e), λ h. h.2 ∙ ap (difference_of p o) (same h.0 h.1))))
+      (tells_as xs (xs ++ (difference_of p o x ∷ [])) (λ d. d ≡ difference_of p o x) (tells_one xs (difference_of p o x)) (IsOf p o (λ c. k ≡ Some c)) (λ d. (λ e. (x, is, e), λ h. h.2 ∙ ap (difference_of p o) (same h.0 h.1))))
     where
       same : (c : Cause) → k ≡ Some c → c ≡ x
       same c e = cc
@@ -97,12 +97,12 @@ pub by_types : (t : Option Cause) → (t ≡ Some cause.TypeChanged) ⊎ ((t ≡
 by_types (Some cause.TypeChanged) = inl refl
 by_types t = inr (λ e. cc, λ same. refl)
 
-unless-causes : (same : Bool) (S : Type 0) → (IsTrue same ↔ S) → (c : Cause) → ((unless same cause.DefaultChanged ≡ Some c) ↔ ((c ≡ cause.DefaultChanged) × (S → ⊥)))
-unless-causes true S is c = (λ e. absurd (none e), λ h. absurd (h.1 (is.0 refl)))
+unless_causes : (same : Bool) (S : Type 0) → (IsTrue same ↔ S) → (c : Cause) → ((unless same cause.DefaultChanged ≡ Some c) ↔ ((c ≡ cause.DefaultChanged) × (S → ⊥)))
+unless_causes true S is c = (λ e. absurd (none e), λ h. absurd (h.1 (is.0 refl)))
   where
     none : None ≡ Some c → ⊥
     none e = cc
-unless-causes false S is c = (λ e. (same e, λ s. clash (is.1 s)), λ h. ap (λ (x : Cause). Some x) (sym h.0))
+unless_causes false S is c = (λ e. (same e, λ s. clash (is.1 s)), λ h. ap (λ (x : Cause). Some x) (sym h.0))
   where
     same : Some cause.DefaultChanged ≡ Some c → c ≡ cause.DefaultChanged
     same e = cc
@@ -110,15 +110,15 @@ unless-causes false S is c = (λ e. (same e, λ s. clash (is.1 s)), λ h. ap (λ
     clash : false ≡ true → ⊥
     clash e = cc
 
-default-causes : (same : Bool) (S : Type 0) → (IsTrue same ↔ S) → (t : Option Cause) (c : Cause) → ((default_change same t ≡ Some c) ↔ ((c ≡ cause.DefaultChanged) × (S → ⊥) × (t ≡ Some cause.TypeChanged → ⊥)))
-default-causes same S is t c = at (by_types t)
+default_causes : (same : Bool) (S : Type 0) → (IsTrue same ↔ S) → (t : Option Cause) (c : Cause) → ((default_change same t ≡ Some c) ↔ ((c ≡ cause.DefaultChanged) × (S → ⊥) × (t ≡ Some cause.TypeChanged → ⊥)))
+default_causes same S is t c = at (by_types t)
   where
     at : (t ≡ Some cause.TypeChanged) ⊎ ((t ≡ Some cause.TypeChanged → ⊥) × ((b : Bool) → default_change b t ≡ unless b cause.DefaultChanged)) → ((default_change same t ≡ Some c) ↔ ((c ≡ cause.DefaultChanged) × (S → ⊥) × (t ≡ Some cause.TypeChanged → ⊥)))
     at (inl e) = (λ h. absurd (none (subst (λ (x : Option Cause). default_change same x ≡ Some c) e h)), λ h. absurd (h.2 e))
       where
         none : None ≡ Some c → ⊥
         none h = cc
-    at (inr (other, plain)) = (λ h. let k = (unless-causes same S is c).0 (sym (plain same) ∙ h) in (k.0, k.1, other), λ h. plain same ∙ (unless-causes same S is c).1 (h.0, h.1))
+    at (inr (other, plain)) = (λ h. let k = (unless_causes same S is c).0 (sym (plain same) ∙ h) in (k.0, k.1, other), λ h. plain same ∙ (unless_causes same S is c).1 (h.0, h.1))
 
 abbrev pub typed_as : Field → SchemaType → TypedField
 typed_as f t = record { field = f; type = t }
@@ -142,7 +142,7 @@ module _ (p : Pair) (o : Option ℕ) (set : Schemas) (f g : TypedField) (xs x1 x
       → Tells xs x4 (IsOf p o (FieldsDiffer set f g))
   shared_told e1 e2 e3 e4 t1 t2 t3 t4 =
       causes_then p o xs x1 x4 (ByKind f g) (λ c. ByDefault set f g c ⊎ (ByMember f g c ⊎ ByType set f g c)) (told_by p o xs x1 kinds (kind_change f.field.kind g.field.kind) e1 t1)
-      (causes_then p o x1 x2 x4 (ByDefault set f g) (λ c. ByMember f g c ⊎ ByType set f g c) (causes_as p o x1 x2 (λ c. default_change same (type_change cause.TypeChanged set f.type g.type) ≡ Some c) (ByDefault set f g) (default-causes same (SameDefaults f.field.kind g.field.kind) is (type_change cause.TypeChanged set f.type g.type)) (told_by p o x1 x2 defaults (default_change same (type_change cause.TypeChanged set f.type g.type)) (e2 ∙ ap (default_change same) e4) t2))
+      (causes_then p o x1 x2 x4 (ByDefault set f g) (λ c. ByMember f g c ⊎ ByType set f g c) (causes_as p o x1 x2 (λ c. default_change same (type_change cause.TypeChanged set f.type g.type) ≡ Some c) (ByDefault set f g) (default_causes same (SameDefaults f.field.kind g.field.kind) is (type_change cause.TypeChanged set f.type g.type)) (told_by p o x1 x2 defaults (default_change same (type_change cause.TypeChanged set f.type g.type)) (e2 ∙ ap (default_change same) e4) t2))
       (causes_then p o x2 x3 x4 (ByMember f g) (ByType set f g) (told_by p o x2 x3 members (member_change f.field g.field) e3 t3) (told_by p o x3 x4 types (type_change cause.TypeChanged set f.type g.type) e4 t4)))
 
 -- the same of a field whose record and type are those of what was looked at
@@ -206,9 +206,9 @@ pub pair_holds : (set : Schemas) (p : Pair) (d : Difference) → IsOfPair set p 
 pair_holds set p d (inl (c, h, e)) = (ap (λ (x : Difference). x.pair) e, subst (λ (x : Difference). Holds set x) (sym e) h)
 pair_holds set p d (inr (i, below, (c, h, e))) = (ap (λ (x : Difference). x.pair) e, subst (λ (x : Difference). Holds set x) (sym e) (below, h))
 
-at-pair : (set : Schemas) (q : Pair) (o : Option ℕ) (c : Cause) → DiffersAt set q o c → IsOfPair set q (difference_of q o c)
-at-pair set q None c h = inl (c, h, refl)
-at-pair set q (Some i) c h = inr (i, h.0, (c, h.1, refl))
+at_pair : (set : Schemas) (q : Pair) (o : Option ℕ) (c : Cause) → DiffersAt set q o c → IsOfPair set q (difference_of q o c)
+at_pair set q None c h = inl (c, h, refl)
+at_pair set q (Some i) c h = inr (i, h.0, (c, h.1, refl))
 
 pub holds_pair : (set : Schemas) (p : Pair) (d : Difference) → d.pair ≡ p → Holds set d → IsOfPair set p d
-holds_pair set p d e h = subst (λ (x : Pair). IsOfPair set x d) e (at-pair set d.pair d.field d.cause h)
+holds_pair set p d e h = subst (λ (x : Pair). IsOfPair set x d) e (at_pair set d.pair d.field d.cause h)

@@ -58,50 +58,50 @@ kinds_numbered (Slot o x) (Slot o' y) c e = unless_numbered 0 3 (o == o') cause.
 kinds_numbered (Group m) (Group n) c e = cc
 kinds_numbered j k c e = numbered 0 3 cause.KindChanged c (omega arith, omega arith) e
 
-defaults-numbered : (same : Bool) (t : Option Cause) (c : Cause) → default_change same t ≡ Some c → IsNumbered 3 4 c
-defaults-numbered same t c e = at (by_types t)
+defaults_numbered : (same : Bool) (t : Option Cause) (c : Cause) → default_change same t ≡ Some c → IsNumbered 3 4 c
+defaults_numbered same t c e = at (by_types t)
   where
     at : (t ≡ Some cause.TypeChanged) ⊎ ((t ≡ Some cause.TypeChanged → ⊥) × ((b : Bool) → default_change b t ≡ unless b cause.DefaultChanged)) → IsNumbered 3 4 c
     at (inl s) = let none : None ≡ Some c = subst (λ (x : Option Cause). default_change same x ≡ Some c) s e in cc
     at (inr (other, plain)) = unless_numbered 3 4 same cause.DefaultChanged c (omega arith, omega arith) (sym (plain same) ∙ e)
 
-membership-numbered : (p q s : Bool) (c : Cause) → membership_change p q s ≡ Some c → IsNumbered 4 7 c
-membership-numbered true true s c e = unless_numbered 4 7 s cause.DiscriminantChanged c (omega arith, omega arith) e
-membership-numbered true false s c e = numbered 4 7 cause.LeftUnion c (omega arith, omega arith) e
-membership-numbered false true s c e = numbered 4 7 cause.EnteredUnion c (omega arith, omega arith) e
-membership-numbered false false s c e = cc
+membership_numbered : (p q s : Bool) (c : Cause) → membership_change p q s ≡ Some c → IsNumbered 4 7 c
+membership_numbered true true s c e = unless_numbered 4 7 s cause.DiscriminantChanged c (omega arith, omega arith) e
+membership_numbered true false s c e = numbered 4 7 cause.LeftUnion c (omega arith, omega arith) e
+membership_numbered false true s c e = numbered 4 7 cause.EnteredUnion c (omega arith, omega arith) e
+membership_numbered false false s c e = cc
 
-types-numbered : (became : Cause) (set : Schemas) (s t : SchemaType) (c : Cause) → IsNumbered 7 13 became → type_change became set s t ≡ Some c → IsNumbered 7 13 c
-types-numbered became set VoidType VoidType c h e = cc
-types-numbered became set BoolType BoolType c h e = cc
-types-numbered became set (IntType m) (IntType n) c h e = unless_numbered 7 13 (m == n) cause.TypeChanged c (omega arith, omega arith) e
-types-numbered became set (UIntType m) (UIntType n) c h e = unless_numbered 7 13 (m == n) cause.TypeChanged c (omega arith, omega arith) e
-types-numbered became set TextType TextType c h e = cc
-types-numbered became set DataType DataType c h e = cc
-types-numbered became set AnyPointerType AnyPointerType c h e = cc
-types-numbered became set (EnumType x) (EnumType y) c h e =
+types_numbered : (became : Cause) (set : Schemas) (s t : SchemaType) (c : Cause) → IsNumbered 7 13 became → type_change became set s t ≡ Some c → IsNumbered 7 13 c
+types_numbered became set VoidType VoidType c h e = cc
+types_numbered became set BoolType BoolType c h e = cc
+types_numbered became set (IntType m) (IntType n) c h e = unless_numbered 7 13 (m == n) cause.TypeChanged c (omega arith, omega arith) e
+types_numbered became set (UIntType m) (UIntType n) c h e = unless_numbered 7 13 (m == n) cause.TypeChanged c (omega arith, omega arith) e
+types_numbered became set TextType TextType c h e = cc
+types_numbered became set DataType DataType c h e = cc
+types_numbered became set AnyPointerType AnyPointerType c h e = cc
+types_numbered became set (EnumType x) (EnumType y) c h e =
     unless_numbered 7 13 (nat_le (length (enum_at set x).enumerants) (length (enum_at set y).enumerants)) cause.FewerEnumerants c (omega arith, omega arith) e
-types-numbered became set (ListType s) (ListType t) c h e = types-numbered cause.ElementsBecameStructs set s (type_in_place true set s t) c (omega arith, omega arith) e
-types-numbered became set (StructType a g) (StructType b k) c h e = cc
-types-numbered became set s (StructType b k) c h e = numbered 7 13 became c h e
-types-numbered became set s t c h e = numbered 7 13 cause.TypeChanged c (omega arith, omega arith) e
+types_numbered became set (ListType s) (ListType t) c h e = types_numbered cause.ElementsBecameStructs set s (type_in_place true set s t) c (omega arith, omega arith) e
+types_numbered became set (StructType a g) (StructType b k) c h e = cc
+types_numbered became set s (StructType b k) c h e = numbered 7 13 became c h e
+types_numbered became set s t c h e = numbered 7 13 cause.TypeChanged c (omega arith, omega arith) e
 
-lost-numbered : (t b : Bool) (c : Cause) → members_lost t b ≡ Some c → IsNumbered 0 12 c
-lost-numbered true b c e = cc
-lost-numbered false true c e = numbered 0 12 cause.UnionGone c (omega arith, omega arith) e
-lost-numbered false false c e = numbered 0 12 cause.FewerMembers c (omega arith, omega arith) e
+lost_numbered : (t b : Bool) (c : Cause) → members_lost t b ≡ Some c → IsNumbered 0 12 c
+lost_numbered true b c e = cc
+lost_numbered false true c e = numbered 0 12 cause.UnionGone c (omega arith, omega arith) e
+lost_numbered false false c e = numbered 0 12 cause.FewerMembers c (omega arith, omega arith) e
 
-moved-numbered : (p q s : Bool) (c : Cause) → union_moved p q s ≡ Some c → IsNumbered 12 13 c
-moved-numbered true q s c e = cc
-moved-numbered false true s c e = cc
-moved-numbered false false s c e = unless_numbered 12 13 s cause.UnionMoved c (omega arith, omega arith) e
+moved_numbered : (p q s : Bool) (c : Cause) → union_moved p q s ≡ Some c → IsNumbered 12 13 c
+moved_numbered true q s c e = cc
+moved_numbered false true s c e = cc
+moved_numbered false false s c e = unless_numbered 12 13 s cause.UnionMoved c (omega arith, omega arith) e
 
 -- of the union, and of a field
-at-union : (k : Option Cause) (low high : ℕ) → low ≤ high → ((c : Cause) → k ≡ Some c → IsNumbered low high c) → TakesTurn None k low high
-at-union k low high le h = (le, h)
+at_union : (k : Option Cause) (low high : ℕ) → low ≤ high → ((c : Cause) → k ≡ Some c → IsNumbered low high c) → TakesTurn None k low high
+at_union k low high le h = (le, h)
 
-at-field : (i : ℕ) (k : Option Cause) (low high : ℕ) → low ≤ high → ((c : Cause) → k ≡ Some c → IsNumbered low high c) → TakesTurn (Some i) k (13 * (i + 1) + low) (13 * (i + 1) + high)
-at-field i k low high le h = (omega arith, λ c e. let turn = h c e in (omega arith, omega arith))
+at_field : (i : ℕ) (k : Option Cause) (low high : ℕ) → low ≤ high → ((c : Cause) → k ≡ Some c → IsNumbered low high c) → TakesTurn (Some i) k (13 * (i + 1) + low) (13 * (i + 1) + high)
+at_field i k low high le h = (omega arith, λ c e. let turn = h c e in (omega arith, omega arith))
 
 -- ---- pieces ----
 
@@ -109,8 +109,8 @@ pub union_turns : (p : Pair) (n m : Node) (xs ys zs : List Difference) (k l : Op
     → ((low high : ℕ) → TakesTurn None k low high → Orders xs ys p low high) → ((low high : ℕ) → TakesTurn None l low high → Orders ys zs p low high) → Orders xs zs p 0 13
 union_turns p n m xs ys zs k l e f first second =
     orders_then xs ys zs p 0 12 13
-    (first 0 12 (at-union k 0 12 (omega arith) (λ c h. lost-numbered (nat_le n.discriminant_count m.discriminant_count) (m.discriminant_count == 0) c (sym e ∙ h))))
-    (second 12 13 (at-union l 12 13 (omega arith) (λ c h. moved-numbered (n.discriminant_count == 0) (m.discriminant_count == 0) (n.discriminant_offset == m.discriminant_offset) c (sym f ∙ h))))
+    (first 0 12 (at_union k 0 12 (omega arith) (λ c h. lost_numbered (nat_le n.discriminant_count m.discriminant_count) (m.discriminant_count == 0) c (sym e ∙ h))))
+    (second 12 13 (at_union l 12 13 (omega arith) (λ c h. moved_numbered (n.discriminant_count == 0) (m.discriminant_count == 0) (n.discriminant_offset == m.discriminant_offset) c (sym f ∙ h))))
 
 -- of a field that is gone
 pub gone_turns : (p : Pair) (i : ℕ) (xs ys : List Difference) → ((low high : ℕ) → TakesTurn (Some i) (Some cause.FieldGone) low high → Orders xs ys p low high) → Orders xs ys p (13 * (i + 1)) (13 * (i + 2))
@@ -127,12 +127,12 @@ shared_turns p i set a b s t xs x1 x2 x3 x4 kinds defaults members types same e1
     let next : 13 * (i + 1) + 13 ≡ 13 * (i + 2) = omega arith in
     subst (λ (n : ℕ). Orders xs x4 p (13 * (i + 1)) n) next (subst (λ (n : ℕ). Orders xs x4 p n (13 * (i + 1) + 13)) base
     (orders_then xs x1 x4 p (13 * (i + 1) + 0) (13 * (i + 1) + 3) (13 * (i + 1) + 13)
-    (f1 _ _ (at-field i kinds 0 3 (omega arith) (λ c h. kinds_numbered a.kind b.kind c (sym e1 ∙ h))))
+    (f1 _ _ (at_field i kinds 0 3 (omega arith) (λ c h. kinds_numbered a.kind b.kind c (sym e1 ∙ h))))
     (orders_then x1 x2 x4 p (13 * (i + 1) + 3) (13 * (i + 1) + 4) (13 * (i + 1) + 13)
-    (f2 _ _ (at-field i defaults 3 4 (omega arith) (λ c h. defaults-numbered same types c (sym e2 ∙ h))))
+    (f2 _ _ (at_field i defaults 3 4 (omega arith) (λ c h. defaults_numbered same types c (sym e2 ∙ h))))
     (orders_then x2 x3 x4 p (13 * (i + 1) + 4) (13 * (i + 1) + 7) (13 * (i + 1) + 13)
-    (f3 _ _ (at-field i members 4 7 (omega arith) (λ c h. membership-numbered (is_member a) (is_member b) (a.discriminant_value == b.discriminant_value) c (sym e3 ∙ h))))
-    (f4 _ _ (at-field i types 7 13 (omega arith) (λ c h. types-numbered cause.TypeChanged set s t c (omega arith, omega arith) (sym e4 ∙ h))))))))
+    (f3 _ _ (at_field i members 4 7 (omega arith) (λ c h. membership_numbered (is_member a) (is_member b) (a.discriminant_value == b.discriminant_value) c (sym e3 ∙ h))))
+    (f4 _ _ (at_field i types 7 13 (omega arith) (λ c h. types_numbered cause.TypeChanged set s t c (omega arith, omega arith) (sym e4 ∙ h))))))))
 
 -- of the fields one after another
 module _ (p : Pair) where

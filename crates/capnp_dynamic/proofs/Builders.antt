@@ -55,19 +55,19 @@ pub not_named : (s : StructSchema) (o : Option ℕ) (f : Field) → o ≡ None �
 not_named s None f e a = a
 not_named s (Some i) f e a = cc
 
-abbrev cleared-at : Bool → StructSchema → ℕ → StructTree → StructTree
-cleared-at true s i x = group_cleared (set_of s) (number_of s) (struct_field s i) x
-cleared-at false s i x = slot_written (set_of s) (number_of s) (struct_field s i) (cleared_content (struct_field s i).type) x
+abbrev cleared_at : Bool → StructSchema → ℕ → StructTree → StructTree
+cleared_at true s i x = group_cleared (set_of s) (number_of s) (struct_field s i) x
+cleared_at false s i x = slot_written (set_of s) (number_of s) (struct_field s i) (cleared_content (struct_field s i).type) x
 
-cleared-is : (q : Bool) (f : Field) (x : StructTree) → cleared_field_kind q f x ≡ cleared-at q (field_schema f) (index_of f) x
-cleared-is true f x = refl
-cleared-is false f x = refl
+cleared_is : (q : Bool) (f : Field) (x : StructTree) → cleared_field_kind q f x ≡ cleared_at q (field_schema f) (index_of f) x
+cleared_is true f x = refl
+cleared_is false f x = refl
 
 pub same_cleared : (s : StructSchema) (o : Option ℕ) (f g : Field) → IsFound s o (Some f) → IsFound s o (Some g) → (x : StructTree) → field_cleared f x ≡ field_cleared g x
 same_cleared s o f g a b x =
-    cleared-is (is_group_field (typed_of f).field.kind) f x
-    ∙ (same_field (λ (z : StructSchema) i. cleared-at (is_group_field (struct_field z i).field.kind) z i x) s o f g a b
-    ∙ sym (cleared-is (is_group_field (typed_of g).field.kind) g x))
+    cleared_is (is_group_field (typed_of f).field.kind) f x
+    ∙ (same_field (λ (z : StructSchema) i. cleared_at (is_group_field (struct_field z i).field.kind) z i x) s o f g a b
+    ∙ sym (cleared_is (is_group_field (typed_of g).field.kind) g x))
 
 -- a set of one of them is a set of each
 pub same_set : (s : StructSchema) (o : Option ℕ) (f g : Field) → IsFound s o (Some f) → IsFound s o (Some g) → (x : Source) (old new : StructTree) → IsSet f x old new → IsSet g x old new
@@ -86,26 +86,26 @@ same_refusal s o f g a b x k h = subst (λ (q : Given). IsSetRefusal q k) (same_
 
 -- a set of one of several fields of one name is a set of each
 module _ (s : StructSchema) (o : Option ℕ) (f g : Field) (a : IsFound s o (Some f)) (b : IsFound s o (Some g)) where
-  group-moved : (given : Given) (old : StructTree) (refused : Option ErrorKind) (new : StructTree) → IsGroupSet f given old refused new → IsGroupSet g given old refused new
-  group-moved (Gives v) old refused new h = absurd h
-  group-moved (Copies source past v) old refused new h = absurd h
-  group-moved (CopiesGroup l x n) old refused new h =
+  group_moved : (given : Given) (old : StructTree) (refused : Option ErrorKind) (new : StructTree) → IsGroupSet f given old refused new → IsGroupSet g given old refused new
+  group_moved (Gives v) old refused new h = absurd h
+  group_moved (Copies source past v) old refused new h = absurd h
+  group_moved (CopiesGroup l x n) old refused new h =
       moved (λ (z : StructSchema) (i : ℕ). TreeCopiesWithin (suc (length (set_of z).brands)) (set_of z) l x n (switched_struct (struct_node z) (struct_field z i).field old) refused new) s o f g a b h
-  group-moved (Fails kind) old refused new h = h
+  group_moved (Fails kind) old refused new h = h
 
-  slot-moved : (x : Source) (old : StructTree) (refused : Option ErrorKind) (new : StructTree) → SlotIsSet f x old refused new → SlotIsSet g x old refused new
-  slot-moved x old None new h = same_set s o f g a b x old new h
-  slot-moved x old (Some kind) new h = (same_refusal s o f g a b x kind h.0, h.1)
+  slot_moved : (x : Source) (old : StructTree) (refused : Option ErrorKind) (new : StructTree) → SlotIsSet f x old refused new → SlotIsSet g x old refused new
+  slot_moved x old None new h = same_set s o f g a b x old new h
+  slot_moved x old (Some kind) new h = (same_refusal s o f g a b x kind h.0, h.1)
 
-  kind-moved : (q : Bool) (x : Source) (old : StructTree) (refused : Option ErrorKind) (new : StructTree) → KindIsSet q f x old refused new → KindIsSet q g x old refused new
-  kind-moved true x old refused new h =
-      subst (λ (given : Given). IsGroupSet g given old refused new) (same_field (λ (z : StructSchema) i. given_group (struct_field z i).type x) s o f g a b) (group-moved (given_to_group f x) old refused new h)
-  kind-moved false x old refused new h = slot-moved x old refused new h
+  kind_moved : (q : Bool) (x : Source) (old : StructTree) (refused : Option ErrorKind) (new : StructTree) → KindIsSet q f x old refused new → KindIsSet q g x old refused new
+  kind_moved true x old refused new h =
+      subst (λ (given : Given). IsGroupSet g given old refused new) (same_field (λ (z : StructSchema) i. given_group (struct_field z i).type x) s o f g a b) (group_moved (given_to_group f x) old refused new h)
+  kind_moved false x old refused new h = slot_moved x old refused new h
 
   pub same_field_set : (x : Source) (old : StructTree) (refused : Option ErrorKind) (new : StructTree) → IsFieldSet f x old refused new → IsFieldSet g x old refused new
   same_field_set x old refused new h =
       subst (λ (q : Bool). KindIsSet q g x old refused new) (same_field (λ (z : StructSchema) i. is_group_field (struct_field z i).field.kind) s o f g a b)
-      (kind-moved (is_group_field (typed_of f).field.kind) x old refused new h)
+      (kind_moved (is_group_field (typed_of f).field.kind) x old refused new h)
 
   pub same_slot : is_group_field (typed_of g).field.kind ≡ false → is_group_field (typed_of f).field.kind ≡ false
   same_slot e = same_field (λ (z : StructSchema) i. is_group_field (struct_field z i).field.kind) s o f g a b ∙ e

@@ -3,7 +3,7 @@ use Rattle.std.proofs.Common.{ℕ, ◌<◌, ◌≡◌, refl, true, false, Some, 
 use Rattle.std.proofs.lemmas.Bool.{true≢false}
 use Rattle.capnp_device.specs.declared.error.Error.{Error}
 use Rattle.capnp_wire.specs.Elements.{HasPointer, HasStruct}
-use Rattle.capnp_wire.specs.Facts.Lengths.{HasStruct-there}
+use Rattle.capnp_wire.specs.Facts.Lengths.{HasStruct_there}
 use Rattle.capnp_wire.specs.Reading.{element_pointer, element_struct, list_length}
 use Rattle.capnp_wire.specs.Tree as tree
 use Rattle.capnp_wire.specs.Tree.{StructTree, Tree}
@@ -37,7 +37,7 @@ use Rattle.capnp_dynamic.proofs.ListElements.{room_in, struct_fits}
 -- ---- structs ----
 
 pub struct_there : (set : Schemas) (b g : ℕ) (x : Tree) (j : ℕ) → HoldsElements set (StructType b g) x → j < list_length x → HasStruct x j
-struct_there set b g x j holds a = HasStruct-there (brand_size set b) x j holds a
+struct_there set b g x j holds a = HasStruct_there (brand_size set b) x j holds a
 
 pub struct_ready : (set : Schemas) (b g : ℕ) (x : Tree) (j : ℕ) (schema : StructSchema) → set_of schema ≡ set → number_of schema ≡ b → HoldsElements set (StructType b g) x → IsWellFormed x → j < list_length x →
     (s : StructTree) → s ≡ element_struct x j → IsStructUnder schema s
@@ -102,16 +102,16 @@ module _ (set : Schemas) (x y : Tree) (j : ℕ) (v : BuiltValue) where
 
 -- ---- numbers ----
 
-no-pointer : (w : TypeVariant) → ((s : RawBrandedStructSchema) → w ≡ variant.Struct s → ⊥) → is_behind (seen_variant w) ≡ false → is_pointer (seen_variant w) ≡ false
-no-pointer variant.Text n e = absurd (true≢false e)
-no-pointer variant.«Data» n e = absurd (true≢false e)
-no-pointer (variant.Struct s) n e = absurd (n s refl)
-no-pointer variant.AnyPointer n e = absurd (true≢false e)
-no-pointer (variant.List t) n e = absurd (true≢false e)
-no-pointer w n e = refl
+no_pointer : (w : TypeVariant) → ((s : RawBrandedStructSchema) → w ≡ variant.Struct s → ⊥) → is_behind (seen_variant w) ≡ false → is_pointer (seen_variant w) ≡ false
+no_pointer variant.Text n e = absurd (true≢false e)
+no_pointer variant.«Data» n e = absurd (true≢false e)
+no_pointer (variant.Struct s) n e = absurd (n s refl)
+no_pointer variant.AnyPointer n e = absurd (true≢false e)
+no_pointer (variant.List t) n e = absurd (true≢false e)
+no_pointer w n e = refl
 
 pub number_type : (t : SchemaType) (w : TypeVariant) → seen_variant w ≡ t → ((s : RawBrandedStructSchema) → w ≡ variant.Struct s → ⊥) → is_behind (seen_variant w) ≡ false → is_pointer t ≡ false
-number_type t w same n e = ap is_pointer (sym same) ∙ no-pointer w n e
+number_type t w same n e = ap is_pointer (sym same) ∙ no_pointer w n e
 
 -- an element that no pointer stands for is read
 pub is_read : (set : Schemas) (t : SchemaType) (x : Tree) (n j : ℕ) (e : Error) → is_pointer t ≡ false → answered_value (Err e) ≡ read_of set VoidValue t (element_read set x n t j) → ⊥
@@ -140,34 +140,34 @@ is_number set t (dynamic.UInt64 x) h u = tt
 is_number set t (dynamic.Enum x) h u = tt
 is_number set t (dynamic.Text x) h u = true≢false (ap is_pointer u ∙ h)
 is_number set t (dynamic.«Data» x) h u = true≢false (ap is_pointer u ∙ h)
-is_number set t (dynamic.Struct x) h u = no-struct t (number_of x.schema) u.1 h
+is_number set t (dynamic.Struct x) h u = no_struct t (number_of x.schema) u.1 h
   where
-    no-struct : (t : SchemaType) (n : ℕ) → struct_brand t ≡ Some n → is_pointer t ≡ false → ⊥
-    no-struct (StructType b g) n e h = true≢false h
-    no-struct t n e h = cc
+    no_struct : (t : SchemaType) (n : ℕ) → struct_brand t ≡ Some n → is_pointer t ≡ false → ⊥
+    no_struct (StructType b g) n e h = true≢false h
+    no_struct t n e h = cc
 is_number set t (dynamic.List x) h u = true≢false (ap is_pointer u.1 ∙ h)
 is_number set t (dynamic.AnyPointer x) h u = true≢false (ap is_pointer u ∙ h)
 
 -- an element's number is what is handed out of it
 module _ (set : Schemas) (x y : Tree) (j : ℕ) (v : BuiltValue) where
-  number-by : (w : TypeVariant) → ((s : RawBrandedStructSchema) → w ≡ variant.Struct s → ⊥) → is_behind (seen_variant w) ≡ false → HandsElementNumber set (seen_variant w) y j v → element_handed set (seen_variant w) x y j v
-  number-by variant.Void n e h = h
-  number-by variant.Bool n e h = h
-  number-by variant.Int8 n e h = h
-  number-by variant.Int16 n e h = h
-  number-by variant.Int32 n e h = h
-  number-by variant.Int64 n e h = h
-  number-by variant.UInt8 n e h = h
-  number-by variant.UInt16 n e h = h
-  number-by variant.UInt32 n e h = h
-  number-by variant.UInt64 n e h = h
-  number-by variant.Text n e h = absurd (true≢false e)
-  number-by variant.«Data» n e h = absurd (true≢false e)
-  number-by (variant.Struct s) n e h = absurd (n s refl)
-  number-by variant.AnyPointer n e h = absurd (true≢false e)
-  number-by (variant.Enum k) n e h = h
-  number-by (variant.List t) n e h = absurd (true≢false e)
+  number_by : (w : TypeVariant) → ((s : RawBrandedStructSchema) → w ≡ variant.Struct s → ⊥) → is_behind (seen_variant w) ≡ false → HandsElementNumber set (seen_variant w) y j v → element_handed set (seen_variant w) x y j v
+  number_by variant.Void n e h = h
+  number_by variant.Bool n e h = h
+  number_by variant.Int8 n e h = h
+  number_by variant.Int16 n e h = h
+  number_by variant.Int32 n e h = h
+  number_by variant.Int64 n e h = h
+  number_by variant.UInt8 n e h = h
+  number_by variant.UInt16 n e h = h
+  number_by variant.UInt32 n e h = h
+  number_by variant.UInt64 n e h = h
+  number_by variant.Text n e h = absurd (true≢false e)
+  number_by variant.«Data» n e h = absurd (true≢false e)
+  number_by (variant.Struct s) n e h = absurd (n s refl)
+  number_by variant.AnyPointer n e h = absurd (true≢false e)
+  number_by (variant.Enum k) n e h = h
+  number_by (variant.List t) n e h = absurd (true≢false e)
 
   pub number_handed : (t : SchemaType) (w : TypeVariant) → seen_variant w ≡ t → ((s : RawBrandedStructSchema) → w ≡ variant.Struct s → ⊥) → is_behind (seen_variant w) ≡ false → HandsElementNumber set t y j v → element_handed set t x y j v
   number_handed t w same n e h =
-      subst (λ (u : SchemaType). element_handed set u x y j v) same (number-by w n e (subst (λ (u : SchemaType). HandsElementNumber set u y j v) (sym same) h))
+      subst (λ (u : SchemaType). element_handed set u x y j v) same (number_by w n e (subst (λ (u : SchemaType). HandsElementNumber set u y j v) (sym same) h))

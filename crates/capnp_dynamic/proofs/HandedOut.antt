@@ -6,7 +6,7 @@ use Rattle.capnp_wire.specs.Tree as tree
 use Rattle.capnp_wire.specs.Tree.{StructTree, Tree, nth_tree}
 use Rattle.capnp_wire.specs.Defaults.{error_of, list_refusal}
 use Rattle.capnp_wire.specs.Edits.{zero_list}
-use Rattle.capnp_wire.specs.Facts.Lengths.{HasAtLeast-extended}
+use Rattle.capnp_wire.specs.Facts.Lengths.{HasAtLeast_extended}
 use Rattle.capnp_wire.specs.Reading.{as_data, as_list, as_text, is_null_tree}
 use Rattle.capnp_wire.specs.StructLists.{HoldsStructs, struct_list, struct_list_refusal}
 use Rattle.capnp_wire.specs.Words.{first_fault}
@@ -14,7 +14,7 @@ use Rattle.capnp_wire.specs.declared.fault.Fault.{Fault}
 use Rattle.capnp_wire.specs.declared.size.ElementSize.{ElementSize}
 use Rattle.capnp_wire.specs.declared.size.ElementSize.TheVariants as size
 use Rattle.capnp_wire.specs.declared.size.StructSize.{StructSize}
-use Rattle.capnp_base.specs.ReadBack.{as_text-text_tree}
+use Rattle.capnp_base.specs.ReadBack.{as_text_text_tree}
 use Rattle.capnp_schema.specs.Accepted.{words_root}
 use Rattle.capnp_schema.specs.Defaults.{IsDefaultReadAs, value_default_tree}
 use Rattle.capnp_schema.specs.Schema.{Schemas, Value, TextValue, DataValue, ListValue, default_of}
@@ -43,46 +43,46 @@ use Rattle.capnp_dynamic.specs.declared.dynamic_value.build.Builder.{Builder as 
 
 -- ---- texts and data ----
 
-no-error : {A : Type 0} (r : Result A ErrorKind) → error_of r ≡ None → IsOk r
-no-error (Ok x) e = refl
-no-error (Err k) e = absurd cc
+no_error : {A : Type 0} (r : Result A ErrorKind) → error_of r ≡ None → IsOk r
+no_error (Ok x) e = refl
+no_error (Err k) e = absurd cc
 
-pub text-is : (bytes : List ℕ) → IsOk (as_text (text_tree bytes))
-text-is bytes = subst (λ (r : Result (List ℕ) ErrorKind). IsOk r) (sym (as_text-text_tree bytes)) refl
+pub text_is : (bytes : List ℕ) → IsOk (as_text (text_tree bytes))
+text_is bytes = subst (λ (r : Result (List ℕ) ErrorKind). IsOk r) (sym (as_text_text_tree bytes)) refl
 
-text-filled : (d : Value) (x : Tree) → error_of (as_text x) ≡ None → (set : Schemas) → IsOk (as_text (filled_tree set d TextType x))
-text-filled (TextValue bytes) x e set = go (is_null_tree x)
+text_filled : (d : Value) (x : Tree) → error_of (as_text x) ≡ None → (set : Schemas) → IsOk (as_text (filled_tree set d TextType x))
+text_filled (TextValue bytes) x e set = go (is_null_tree x)
   where
     go : (q : Bool) → IsOk (as_text (elim q as (λ _. Tree) [ true ↦ text_tree bytes | false ↦ x ]))
-    go true = text-is bytes
-    go false = no-error (as_text x) e
-text-filled d x e set = no-error (as_text x) e
+    go true = text_is bytes
+    go false = no_error (as_text x) e
+text_filled d x e set = no_error (as_text x) e
 
-data-filled : (d : Value) (x : Tree) → error_of (as_data x) ≡ None → (set : Schemas) → IsOk (as_data (filled_tree set d DataType x))
-data-filled (DataValue bytes) x e set = go (is_null_tree x)
+data_filled : (d : Value) (x : Tree) → error_of (as_data x) ≡ None → (set : Schemas) → IsOk (as_data (filled_tree set d DataType x))
+data_filled (DataValue bytes) x e set = go (is_null_tree x)
   where
     go : (q : Bool) → IsOk (as_data (elim q as (λ _. Tree) [ true ↦ tree.Numbers 1 bytes | false ↦ x ]))
     go true = refl
-    go false = no-error (as_data x) e
-data-filled d x e set = no-error (as_data x) e
+    go false = no_error (as_data x) e
+data_filled d x e set = no_error (as_data x) e
 
 -- ---- lists ----
 
-no-leaf : (k : Fault) → first_fault (tree.FaultLeaf k) ≡ None → ⊥
-no-leaf k e = cc
+no_leaf : (k : Fault) → first_fault (tree.FaultLeaf k) ≡ None → ⊥
+no_leaf k e = cc
 
-structs-hold : (s : StructSize) (y : Tree) → struct_list_refusal s y ≡ None → first_fault (struct_list s y) ≡ None → HoldsStructs s (struct_list s y)
-structs-hold s tree.Null e h = tt
-structs-hold s (tree.Struct bytes ps) e h = absurd cc
-structs-hold s (tree.Voids n) e h = (omega arith, omega arith)
-structs-hold s (tree.Bits bs) e h = absurd cc
-structs-hold s (tree.Numbers w bytes) e h = (omega arith, omega arith)
-structs-hold s (tree.Pointers ps) e h = (omega arith, omega arith)
-structs-hold s (tree.Composite w p es) e h = (omega arith, omega arith)
-structs-hold s (tree.FaultLeaf k) e h = absurd (no-leaf k h)
+structs_hold : (s : StructSize) (y : Tree) → struct_list_refusal s y ≡ None → first_fault (struct_list s y) ≡ None → HoldsStructs s (struct_list s y)
+structs_hold s tree.Null e h = tt
+structs_hold s (tree.Struct bytes ps) e h = absurd cc
+structs_hold s (tree.Voids n) e h = (omega arith, omega arith)
+structs_hold s (tree.Bits bs) e h = absurd cc
+structs_hold s (tree.Numbers w bytes) e h = (omega arith, omega arith)
+structs_hold s (tree.Pointers ps) e h = (omega arith, omega arith)
+structs_hold s (tree.Composite w p es) e h = (omega arith, omega arith)
+structs_hold s (tree.FaultLeaf k) e h = absurd (no_leaf k h)
 
-reads-ok : (s : ElementSize) (x : Tree) → IsOk (as_list s x 1) → list_refusal s x ≡ None
-reads-ok s x h = go (as_list s x 1) h
+reads_ok : (s : ElementSize) (x : Tree) → IsOk (as_list s x 1) → list_refusal s x ≡ None
+reads_ok s x h = go (as_list s x 1) h
   where
     go : (r : Result Tree ErrorKind) → IsOk r → error_of r ≡ None
     go (Ok y) h = refl
@@ -91,7 +91,7 @@ reads-ok s x h = go (as_list s x 1) h
 -- a default that is entered as a list is read as its type's
 module _ (e : SchemaType) where
   listed : (d : Value) → IsDefaultReadAs (ListType e) (value_default_tree d) → (x : Tree) → list_refusal (element_size e) x ≡ None → list_refusal (element_size e) (list_or_default d x) ≡ None
-  listed (ListValue words) h tree.Null n = reads-ok (element_size e) (words_root words) h.1
+  listed (ListValue words) h tree.Null n = reads_ok (element_size e) (words_root words) h.1
   listed (ListValue words) h (tree.Struct bytes ps) n = n
   listed (ListValue words) h (tree.Voids c) n = n
   listed (ListValue words) h (tree.Bits bs) n = n
@@ -101,66 +101,66 @@ module _ (e : SchemaType) where
   listed (ListValue words) h (tree.FaultLeaf k) n = n
   listed d h x n = n
 
-list-filled : (set : Schemas) (d : Value) (e : SchemaType) → IsDefaultReadAs (ListType e) (value_default_tree d) → (x : Tree) → fill_due set d (ListType e) x ≡ None → first_fault (filled_tree set d (ListType e) x) ≡ None →
+list_filled : (set : Schemas) (d : Value) (e : SchemaType) → IsDefaultReadAs (ListType e) (value_default_tree d) → (x : Tree) → fill_due set d (ListType e) x ≡ None → first_fault (filled_tree set d (ListType e) x) ≡ None →
     HoldsElements set e (filled_tree set d (ListType e) x)
-list-filled set d (StructType b g) h x e n = structs-hold (brand_size set b) (list_or_default d x) e n
-list-filled set d VoidType h x e n = listed VoidType d h x e
-list-filled set d BoolType h x e n = listed BoolType d h x e
-list-filled set d (IntType k) h x e n = listed (IntType k) d h x e
-list-filled set d (UIntType k) h x e n = listed (UIntType k) d h x e
-list-filled set d (EnumType k) h x e n = listed (EnumType k) d h x e
-list-filled set d TextType h x e n = listed TextType d h x e
-list-filled set d DataType h x e n = listed DataType d h x e
-list-filled set d (ListType t) h x e n = listed (ListType t) d h x e
-list-filled set d AnyPointerType h x e n = listed AnyPointerType d h x e
+list_filled set d (StructType b g) h x e n = structs_hold (brand_size set b) (list_or_default d x) e n
+list_filled set d VoidType h x e n = listed VoidType d h x e
+list_filled set d BoolType h x e n = listed BoolType d h x e
+list_filled set d (IntType k) h x e n = listed (IntType k) d h x e
+list_filled set d (UIntType k) h x e n = listed (UIntType k) d h x e
+list_filled set d (EnumType k) h x e n = listed (EnumType k) d h x e
+list_filled set d TextType h x e n = listed TextType d h x e
+list_filled set d DataType h x e n = listed DataType d h x e
+list_filled set d (ListType t) h x e n = listed (ListType t) d h x e
+list_filled set d AnyPointerType h x e n = listed AnyPointerType d h x e
 
 -- ---- by type ----
 
-pub can-fill : (set : Schemas) (d : Value) (t : SchemaType) → IsDefaultReadAs t (value_default_tree d) → (x : Tree) → fill_due set d t x ≡ None → first_fault (filled_tree set d t x) ≡ None → CanBeHanded set t (filled_tree set d t x)
-can-fill set d TextType h x e n = text-filled d x e set
-can-fill set d DataType h x e n = data-filled d x e set
-can-fill set d (StructType b g) h x e n = (refl, HasAtLeast-extended (brand_size set b) _)
-can-fill set d (ListType t) h x e n = list-filled set d t h x e n
-can-fill set d VoidType h x e n = tt
-can-fill set d BoolType h x e n = tt
-can-fill set d (IntType k) h x e n = tt
-can-fill set d (UIntType k) h x e n = tt
-can-fill set d (EnumType k) h x e n = tt
-can-fill set d AnyPointerType h x e n = tt
+pub can_fill : (set : Schemas) (d : Value) (t : SchemaType) → IsDefaultReadAs t (value_default_tree d) → (x : Tree) → fill_due set d t x ≡ None → first_fault (filled_tree set d t x) ≡ None → CanBeHanded set t (filled_tree set d t x)
+can_fill set d TextType h x e n = text_filled d x e set
+can_fill set d DataType h x e n = data_filled d x e set
+can_fill set d (StructType b g) h x e n = (refl, HasAtLeast_extended (brand_size set b) _)
+can_fill set d (ListType t) h x e n = list_filled set d t h x e n
+can_fill set d VoidType h x e n = tt
+can_fill set d BoolType h x e n = tt
+can_fill set d (IntType k) h x e n = tt
+can_fill set d (UIntType k) h x e n = tt
+can_fill set d (EnumType k) h x e n = tt
+can_fill set d AnyPointerType h x e n = tt
 
 -- ---- what is new ----
 
-zero-list : (s : ElementSize) (n : ℕ) → list_refusal s (zero_list s n) ≡ None
-zero-list size.Void n = refl
-zero-list size.Bit n = refl
-zero-list size.Byte n = refl
-zero-list size.TwoBytes n = refl
-zero-list size.FourBytes n = refl
-zero-list size.EightBytes n = refl
-zero-list size.Pointer n = refl
-zero-list size.InlineComposite n = refl
+zero_list_sound : (s : ElementSize) (n : ℕ) → list_refusal s (zero_list s n) ≡ None
+zero_list_sound size.Void n = refl
+zero_list_sound size.Bit n = refl
+zero_list_sound size.Byte n = refl
+zero_list_sound size.TwoBytes n = refl
+zero_list_sound size.FourBytes n = refl
+zero_list_sound size.EightBytes n = refl
+zero_list_sound size.Pointer n = refl
+zero_list_sound size.InlineComposite n = refl
 
-pub new-list : (set : Schemas) (e : SchemaType) (n : ℕ) → HoldsElements set e (new_list set e n)
-new-list set (StructType b g) n = (omega arith, omega arith)
-new-list set VoidType n = zero-list size.Void n
-new-list set BoolType n = zero-list size.Bit n
-new-list set (IntType k) n = zero-list (element_size (IntType k)) n
-new-list set (UIntType k) n = zero-list (element_size (UIntType k)) n
-new-list set (EnumType k) n = zero-list size.TwoBytes n
-new-list set TextType n = zero-list size.Pointer n
-new-list set DataType n = zero-list size.Pointer n
-new-list set (ListType t) n = zero-list size.Pointer n
-new-list set AnyPointerType n = zero-list size.Pointer n
+pub new_list_holds : (set : Schemas) (e : SchemaType) (n : ℕ) → HoldsElements set e (new_list set e n)
+new_list_holds set (StructType b g) n = (omega arith, omega arith)
+new_list_holds set VoidType n = zero_list_sound size.Void n
+new_list_holds set BoolType n = zero_list_sound size.Bit n
+new_list_holds set (IntType k) n = zero_list_sound (element_size (IntType k)) n
+new_list_holds set (UIntType k) n = zero_list_sound (element_size (UIntType k)) n
+new_list_holds set (EnumType k) n = zero_list_sound size.TwoBytes n
+new_list_holds set TextType n = zero_list_sound size.Pointer n
+new_list_holds set DataType n = zero_list_sound size.Pointer n
+new_list_holds set (ListType t) n = zero_list_sound size.Pointer n
+new_list_holds set AnyPointerType n = zero_list_sound size.Pointer n
 
 -- ---- of a field ----
 
 -- what a pointer has under a type can be handed out, and stands there, also under the field's own set and type
-pub can-hand : (set set' : Schemas) (t t' : SchemaType) (x x' : Tree) → set ≡ set' → t ≡ t' → x ≡ x' → CanBeHanded set' t' x' → CanBeHanded set t x
-can-hand set set' t t' x x' a b c h =
+pub can_hand : (set set' : Schemas) (t t' : SchemaType) (x x' : Tree) → set ≡ set' → t ≡ t' → x ≡ x' → CanBeHanded set' t' x' → CanBeHanded set t x
+can_hand set set' t t' x x' a b c h =
     subst (λ (z : Schemas). CanBeHanded z t x) (sym a) (subst (λ (u : SchemaType). CanBeHanded set' u x) (sym b) (subst (CanBeHanded set' t') (sym c) h))
 
-pub handed-out : (new : Bool) (set set' : Schemas) (t t' : SchemaType) (x x' : Tree) (v : BuiltValue) → set ≡ set' → t ≡ t' → x ≡ x' → HandsOut new set t x v → HandsOut new set' t' x' v
-handed-out new set set' t t' x x' v a b c h =
+pub handed_out : (new : Bool) (set set' : Schemas) (t t' : SchemaType) (x x' : Tree) (v : BuiltValue) → set ≡ set' → t ≡ t' → x ≡ x' → HandsOut new set t x v → HandsOut new set' t' x' v
+handed_out new set set' t t' x x' v a b c h =
     subst (λ (z : Schemas). HandsOut new z t' x' v) a (subst (λ (u : SchemaType). HandsOut new set u x' v) b (subst (λ (y : Tree). HandsOut new set t y v) c h))
 
 -- ---- by the kind of a field, and by its name ----

@@ -10,7 +10,7 @@ use Rattle.capnp_arena.specs.Built.{built_at}
 use Rattle.capnp_wire.specs.Place.{struct_tree}
 use Rattle.capnp_slots.specs.Standing.{IsStanding}
 use Rattle.capnp_wire.specs.Edits.{extended_struct}
-use Rattle.capnp_wire.specs.Facts.Lengths.{HasAtLeast-extended}
+use Rattle.capnp_wire.specs.Facts.Lengths.{HasAtLeast_extended}
 use Rattle.capnp_wire.specs.Tree.{StructTree}
 use Rattle.capnp_wire.specs.declared.size.StructSize.{StructSize}
 use Rattle.capnp_schema.specs.StructHandles.{number_of, set_of}
@@ -21,7 +21,7 @@ use Rattle.capnp_schema.specs.Plan.{brand_size}
 pub entered_fits : (schema : StructSchema) (size : StructSize) (old new : StructTree) → size ≡ brand_size (set_of schema) (number_of schema) → new ≡ extended_struct size old → Fits (set_of schema) (number_of schema) new
 entered_fits schema size old new same e =
     subst (Fits (set_of schema) (number_of schema)) (sym e)
-    (subst (λ (z : StructSize). Fits (set_of schema) (number_of schema) (extended_struct z old)) (sym same) (HasAtLeast-extended (brand_size (set_of schema) (number_of schema)) old))
+    (subst (λ (z : StructSize). Fits (set_of schema) (number_of schema) (extended_struct z old)) (sym same) (HasAtLeast_extended (brand_size (set_of schema) (number_of schema)) old))
 
 -- and stands at its place
 pub entered_stands : (schema : StructSchema) (size : StructSize) (old : StructTree) (arena : Arena) (w : ℕ) (p : Place) → size ≡ brand_size (set_of schema) (number_of schema) → Forest (segment arena) w → shape_at (segment arena) w ≡ StructIn p.start p.data_words p.pointers →

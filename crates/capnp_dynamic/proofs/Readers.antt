@@ -28,22 +28,22 @@ list_not_null f bytes start (suc (suc (suc (suc zero)))) n = refl
 list_not_null f bytes start (suc (suc (suc (suc (suc zero))))) n = refl
 list_not_null f bytes start (suc (suc (suc (suc (suc (suc size)))))) n = refl
 
-no-target : (bytes : List ℕ) (s : Shape) → is_null_tree (tree_with_level tree_in tree_in (shape_target bytes s)) ≡ true → s ≡ NoShape
-no-target bytes NoShape e = refl
-no-target bytes (StructIn a d p) e = absurd (true≢false (sym e))
-no-target bytes (ListIn a size n) e = absurd (true≢false (sym e ∙ list_not_null (tree_in bytes) bytes a size n))
-no-target bytes (CompositeIn tag n d p) e = absurd (true≢false (sym e))
+no_target : (bytes : List ℕ) (s : Shape) → is_null_tree (tree_with_level tree_in tree_in (shape_target bytes s)) ≡ true → s ≡ NoShape
+no_target bytes NoShape e = refl
+no_target bytes (StructIn a d p) e = absurd (true≢false (sym e))
+no_target bytes (ListIn a size n) e = absurd (true≢false (sym e ∙ list_not_null (tree_in bytes) bytes a size n))
+no_target bytes (CompositeIn tag n d p) e = absurd (true≢false (sym e))
 
 pub no_shape : (bytes : List ℕ) (w : ℕ) → Forest bytes w → is_null_tree (tree_in bytes w) ≡ true → shape_at bytes w ≡ NoShape
-no_shape bytes w f e = no-target bytes (shape_at bytes w) (sym (ap is_null_tree (tree_step bytes w f)) ∙ e)
+no_shape bytes w f e = no_target bytes (shape_at bytes w) (sym (ap is_null_tree (tree_step bytes w f)) ∙ e)
 
 -- ---- lists ----
 
-pub or_empty-null : (s : ElementSize) (x : Tree) → is_null_tree x ≡ true → or_empty s x ≡ empty_list s
-or_empty-null s x e = ap (λ (q : Bool). cond q (empty_list s) x) e
+pub or_empty_null : (s : ElementSize) (x : Tree) → is_null_tree x ≡ true → or_empty s x ≡ empty_list s
+or_empty_null s x e = ap (λ (q : Bool). cond q (empty_list s) x) e
 
-pub or_empty-list : (s : ElementSize) (x : Tree) → is_null_tree x ≡ false → or_empty s x ≡ x
-or_empty-list s x e = ap (λ (q : Bool). cond q (empty_list s) x) e
+pub or_empty_list : (s : ElementSize) (x : Tree) → is_null_tree x ≡ false → or_empty s x ≡ x
+or_empty_list s x e = ap (λ (q : Bool). cond q (empty_list s) x) e
 
 pub empty_cut : (s : ElementSize) → IsCutOf (empty_list s) (empty_list s)
 unfolding IsCutOf

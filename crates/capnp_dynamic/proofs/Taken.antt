@@ -35,67 +35,67 @@ module _ {A : Type 0} (N : Type 0) (q : Bool) (other : N → q ≡ false) where
 
 -- ---- fields ----
 
-number-no-struct : (t : SchemaType) → is_pointer t ≡ false → is_struct_type t ≡ false
-number-no-struct (StructType b g) e = e
-number-no-struct t e = refl
+number_no_struct : (t : SchemaType) → is_pointer t ≡ false → is_struct_type t ≡ false
+number_no_struct (StructType b g) e = e
+number_no_struct t e = refl
 
-number-no-list : (t : SchemaType) → is_pointer t ≡ false → is_list_type t ≡ false
-number-no-list (ListType t) e = e
-number-no-list t e = refl
+number_no_list : (t : SchemaType) → is_pointer t ≡ false → is_list_type t ≡ false
+number_no_list (ListType t) e = e
+number_no_list t e = refl
 
-struct-no-list : (t : SchemaType) (b : ℕ) → struct_brand t ≡ Some b → is_list_type t ≡ false
-struct-no-list (ListType t) b e = absurd cc
-struct-no-list t b e = refl
+struct_no_list : (t : SchemaType) (b : ℕ) → struct_brand t ≡ Some b → is_list_type t ≡ false
+struct_no_list (ListType t) b e = absurd cc
+struct_no_list t b e = refl
 
-no-struct-out : (new : Bool) (set : Schemas) (t : SchemaType) (x : Tree) (v : BuiltValue) → HandsOut new set t x v → IsNoStruct v → is_struct_type t ≡ false
-no-struct-out new set t x (built.Text b) h n = sym (ap is_struct_type h.0)
-no-struct-out new set t x (built.«Data» bytes) h n = sym (ap is_struct_type h.0)
-no-struct-out new set t x (built.Struct s) h n = absurd n
-no-struct-out new set t x (built.List l) h n = sym (ap is_struct_type h.0)
-no-struct-out new set t x (built.AnyPointer p) h n = sym (ap is_struct_type h.0)
-no-struct-out new set t x v h n = absurd h
+no_struct_out : (new : Bool) (set : Schemas) (t : SchemaType) (x : Tree) (v : BuiltValue) → HandsOut new set t x v → IsNoStruct v → is_struct_type t ≡ false
+no_struct_out new set t x (built.Text b) h n = sym (ap is_struct_type h.0)
+no_struct_out new set t x (built.«Data» bytes) h n = sym (ap is_struct_type h.0)
+no_struct_out new set t x (built.Struct s) h n = absurd n
+no_struct_out new set t x (built.List l) h n = sym (ap is_struct_type h.0)
+no_struct_out new set t x (built.AnyPointer p) h n = sym (ap is_struct_type h.0)
+no_struct_out new set t x v h n = absurd h
 
-no-list-out : (new : Bool) (set : Schemas) (t : SchemaType) (x : Tree) (v : BuiltValue) → HandsOut new set t x v → IsNoList v → is_list_type t ≡ false
-no-list-out new set t x (built.Text b) h n = sym (ap is_list_type h.0)
-no-list-out new set t x (built.«Data» bytes) h n = sym (ap is_list_type h.0)
-no-list-out new set t x (built.Struct s) h n = struct-no-list t _ h.0
-no-list-out new set t x (built.List l) h n = absurd n
-no-list-out new set t x (built.AnyPointer p) h n = sym (ap is_list_type h.0)
-no-list-out new set t x v h n = absurd h
+no_list_out : (new : Bool) (set : Schemas) (t : SchemaType) (x : Tree) (v : BuiltValue) → HandsOut new set t x v → IsNoList v → is_list_type t ≡ false
+no_list_out new set t x (built.Text b) h n = sym (ap is_list_type h.0)
+no_list_out new set t x (built.«Data» bytes) h n = sym (ap is_list_type h.0)
+no_list_out new set t x (built.Struct s) h n = struct_no_list t _ h.0
+no_list_out new set t x (built.List l) h n = absurd n
+no_list_out new set t x (built.AnyPointer p) h n = sym (ap is_list_type h.0)
+no_list_out new set t x v h n = absurd h
 
-group-is-struct : (set : Schemas) (f : TypedField) (s : StructTree) (v : BuiltValue) → HandsGroup set f s v → IsNoStruct v → ⊥
-group-is-struct set f s (built.Struct g) h n = n
-group-is-struct set f s v h n = h
+group_is_struct : (set : Schemas) (f : TypedField) (s : StructTree) (v : BuiltValue) → HandsGroup set f s v → IsNoStruct v → ⊥
+group_is_struct set f s (built.Struct g) h n = n
+group_is_struct set f s v h n = h
 
 module _ (set : Schemas) (f : TypedField) (s : StructTree) (v : BuiltValue) where
-  part-no-struct : (q p : Bool) → is_pointer f.type ≡ p → part_handed q p set f s v → IsNoStruct v → (q || is_struct_type f.type) ≡ false
-  part-no-struct true p e h n = absurd (group-is-struct set f s v h n)
-  part-no-struct false true e h n = no-struct-out false set f.type (field_filled set f s) v h n
-  part-no-struct false false e h n = number-no-struct f.type e
+  part_no_struct : (q p : Bool) → is_pointer f.type ≡ p → part_handed q p set f s v → IsNoStruct v → (q || is_struct_type f.type) ≡ false
+  part_no_struct true p e h n = absurd (group_is_struct set f s v h n)
+  part_no_struct false true e h n = no_struct_out false set f.type (field_filled set f s) v h n
+  part_no_struct false false e h n = number_no_struct f.type e
 
-  part-no-list : (q p : Bool) → is_pointer f.type ≡ p → part_handed q p set f s v → IsNoList v → (not q && is_list_type f.type) ≡ false
-  part-no-list true p e h n = refl
-  part-no-list false true e h n = no-list-out false set f.type (field_filled set f s) v h n
-  part-no-list false false e h n = number-no-list f.type e
+  part_no_list : (q p : Bool) → is_pointer f.type ≡ p → part_handed q p set f s v → IsNoList v → (not q && is_list_type f.type) ≡ false
+  part_no_list true p e h n = refl
+  part_no_list false true e h n = no_list_out false set f.type (field_filled set f s) v h n
+  part_no_list false false e h n = number_no_list f.type e
 
 pub no_struct : (f : Field) (s : StructTree) (v : BuiltValue) → HandsField f s v → IsNoStruct v → hands_struct (typed_of f) ≡ false
-no_struct f s v h n = part-no-struct (field_set f) (typed_of f) s v (is_group_field (typed_of f).field.kind) (is_pointer (typed_of f).type) refl h n
+no_struct f s v h n = part_no_struct (field_set f) (typed_of f) s v (is_group_field (typed_of f).field.kind) (is_pointer (typed_of f).type) refl h n
 
 pub no_list : (f : Field) (s : StructTree) (v : BuiltValue) → HandsField f s v → IsNoList v → hands_list (typed_of f) ≡ false
-no_list f s v h n = part-no-list (field_set f) (typed_of f) s v (is_group_field (typed_of f).field.kind) (is_pointer (typed_of f).type) refl h n
+no_list f s v h n = part_no_list (field_set f) (typed_of f) s v (is_group_field (typed_of f).field.kind) (is_pointer (typed_of f).type) refl h n
 
 -- ---- elements ----
 
-element-no-struct : (set : Schemas) (t : SchemaType) (x y : Tree) (j : ℕ) (v : BuiltValue) → element_handed set t x y j v → IsNoStruct v → is_struct_type t ≡ false
-element-no-struct set (StructType b g) x y j v h n = no-struct-out false set (StructType b g) (struct_tree (element_struct x j)) v h n
-element-no-struct set t x y j v h n = refl
+element_no_struct : (set : Schemas) (t : SchemaType) (x y : Tree) (j : ℕ) (v : BuiltValue) → element_handed set t x y j v → IsNoStruct v → is_struct_type t ≡ false
+element_no_struct set (StructType b g) x y j v h n = no_struct_out false set (StructType b g) (struct_tree (element_struct x j)) v h n
+element_no_struct set t x y j v h n = refl
 
-element-no-list : (set : Schemas) (t : SchemaType) (x y : Tree) (j : ℕ) (v : BuiltValue) → element_handed set t x y j v → IsNoList v → is_list_type t ≡ false
-element-no-list set (ListType e) x y j v h n = no-list-out false set (ListType e) (element_filled set (ListType e) (element_pointer x j 1)) v h n
-element-no-list set t x y j v h n = refl
+element_no_list : (set : Schemas) (t : SchemaType) (x y : Tree) (j : ℕ) (v : BuiltValue) → element_handed set t x y j v → IsNoList v → is_list_type t ≡ false
+element_no_list set (ListType e) x y j v h n = no_list_out false set (ListType e) (element_filled set (ListType e) (element_pointer x j 1)) v h n
+element_no_list set t x y j v h n = refl
 
 pub no_struct_there : (l : ListHandle) (j : ℕ) (v : BuiltValue) → HandsElement l j v → IsNoStruct v → is_struct_type (built_element l) ≡ false
-no_struct_there l j v h n = element-no-struct (built_set l) (built_element l) (built_elements l) (built_reading l) j v h n
+no_struct_there l j v h n = element_no_struct (built_set l) (built_element l) (built_elements l) (built_reading l) j v h n
 
 pub no_list_there : (l : ListHandle) (j : ℕ) (v : BuiltValue) → HandsElement l j v → IsNoList v → is_list_type (built_element l) ≡ false
-no_list_there l j v h n = element-no-list (built_set l) (built_element l) (built_elements l) (built_reading l) j v h n
+no_list_there l j v h n = element_no_list (built_set l) (built_element l) (built_elements l) (built_reading l) j v h n

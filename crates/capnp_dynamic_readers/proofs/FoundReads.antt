@@ -21,9 +21,9 @@ pub found_typed : (h : StructHandle) (o : Option ℕ) (f : Field) → IsFound (s
 found_typed h None f a v x = absurd a
 found_typed h (Some i) f a v x = subst (λ (j : ℕ). IsOf (set_of (schema_of h)) (struct_field (schema_of h) j).type v) a.index x
 
-abbrev kind-there : Bool → Result Bool ErrorKind
-kind-there q = Ok q
+abbrev kind_there : Bool → Result Bool ErrorKind
+kind_there q = Ok q
 
-pub found_there : (h : StructHandle) (o : Option ℕ) (f : Field) → IsFound (schema_of h) o (Some f) → kind-there (there (record_seen h) (schema_of h) (index_of f)) ≡ found_has h o
+pub found_there : (h : StructHandle) (o : Option ℕ) (f : Field) → IsFound (schema_of h) o (Some f) → kind_there (there (record_seen h) (schema_of h) (index_of f)) ≡ found_has h o
 found_there h None f a = absurd a
-found_there h (Some i) f a = ap (λ (j : ℕ). kind-there (there (record_seen h) (schema_of h) j)) a.index
+found_there h (Some i) f a = ap (λ (j : ℕ). kind_there (there (record_seen h) (schema_of h) j)) a.index

@@ -12,7 +12,7 @@ use Rattle.capnp_dynamic_readers.specs.declared.dynamic_struct.Reader.{Reader as
 use Rattle.capnp_dynamic_readers.specs.declared.dynamic_value.Reader.{Reader as DynamicValue}
 use Rattle.capnp_dynamic_readers.specs.declared.dynamic_value.Reader.TheVariants as dynamic
 use Rattle.capnp_dynamic_readers.specs.declared.walk.output.Stop.{Stop}
-use Rattle.capnp_dynamic_readers.proofs.Steps.{element_next, element_stopped, elements_end, err_map, list_deep, ok_map, separator_stopped, some-left, struct_deep}
+use Rattle.capnp_dynamic_readers.proofs.Steps.{element_next, element_stopped, elements_end, err_map, list_deep, ok_map, separator_stopped, some_left, struct_deep}
 use Rattle.capnp_dynamic_readers.proofs.Streams.{same, same_put}
 
 -- ---- elements ----
@@ -44,19 +44,19 @@ module _ {T : Type 0} (x : Texts) {under : TypedField → Texts} (law : IsTexts 
   pub struct_put : (s : StructHandle) (old new : Taken) → v ≡ dynamic.Struct s → OnOk result (IsPut old (record_in x (left - 1) at s) new) → OnOk result (IsPut old (x.value left at v) new)
   struct_put s old new is put =
       subst (λ (z : DynamicValue). OnOk result (IsPut old (x.value left at z) new)) (sym is)
-      (ok_map result (same_put old new (x.value left at (dynamic.Struct s)) (record_in x (left - 1) at s) (struct_deep x law left at s (some-left left h))) put)
+      (ok_map result (same_put old new (x.value left at (dynamic.Struct s)) (record_in x (left - 1) at s) (struct_deep x law left at s (some_left left h))) put)
 
   pub list_was_put : (l : ListHandle) (old new : Taken) → v ≡ dynamic.List l → OnOk result (IsPut old (list_in x (left - 1) at l) new) → OnOk result (IsPut old (x.value left at v) new)
   list_was_put l old new is put =
       subst (λ (z : DynamicValue). OnOk result (IsPut old (x.value left at z) new)) (sym is)
-      (ok_map result (same_put old new (x.value left at (dynamic.List l)) (list_in x (left - 1) at l) (list_deep x law left at l (some-left left h))) put)
+      (ok_map result (same_put old new (x.value left at (dynamic.List l)) (list_in x (left - 1) at l) (list_deep x law left at l (some_left left h))) put)
 
   pub struct_stopped : (s : StructHandle) (old : Taken) → v ≡ dynamic.Struct s → IfErr result (IsStopped old (record_in x (left - 1) at s)) → IfErr result (IsStopped old (x.value left at v))
   struct_stopped s old is stopped =
       subst (λ (z : DynamicValue). IfErr result (IsStopped old (x.value left at z))) (sym is)
-      (err_map result (λ stop k. same old (struct_deep x law left at s (some-left left h)) (Err stop) k) stopped)
+      (err_map result (λ stop k. same old (struct_deep x law left at s (some_left left h)) (Err stop) k) stopped)
 
   pub list_stopped : (l : ListHandle) (old : Taken) → v ≡ dynamic.List l → IfErr result (IsStopped old (list_in x (left - 1) at l)) → IfErr result (IsStopped old (x.value left at v))
   list_stopped l old is stopped =
       subst (λ (z : DynamicValue). IfErr result (IsStopped old (x.value left at z))) (sym is)
-      (err_map result (λ stop k. same old (list_deep x law left at l (some-left left h)) (Err stop) k) stopped)
+      (err_map result (λ stop k. same old (list_deep x law left at l (some_left left h)) (Err stop) k) stopped)

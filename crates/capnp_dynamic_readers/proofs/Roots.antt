@@ -21,12 +21,12 @@ stopped_refused a o TooLong kind is h other short = absurd (short is)
 
 -- and where it was
 pub stopped_longer : (limit : ℕ) (o : Out) (stop : Stop) (kind : ErrorKind) → kind ≡ stopped_kind stop → IsStopped (Within limit []) o stop → kind ≡ TooLarge → IsLonger limit o
-stopped_longer limit o (Refused e) kind is h long = subst (IsLonger limit) (sym (h (not-memory e.kind (sym is ∙ long)))) (tt {0})
+stopped_longer limit o (Refused e) kind is h long = subst (IsLonger limit) (sym (h (not_memory e.kind (sym is ∙ long)))) (tt {0})
   where
-    not-memory : (k : ErrorKind) → k ≡ TooLarge → k ≢ OutOfMemory
-    not-memory k e f = cc
-stopped_longer limit o Full kind is h long = absurd (other-kind (sym is ∙ long))
+    not_memory : (k : ErrorKind) → k ≡ TooLarge → k ≢ OutOfMemory
+    not_memory k e f = cc
+stopped_longer limit o Full kind is h long = absurd (other_kind (sym is ∙ long))
   where
-    other-kind : OutOfMemory ≡ TooLarge → ⊥
-    other-kind e = cc
+    other_kind : OutOfMemory ≡ TooLarge → ⊥
+    other_kind e = cc
 stopped_longer limit o TooLong kind is h long = longer_whole limit o h

@@ -21,17 +21,17 @@ use Rattle.capnp_dynamic_readers.proofs.Streams.{first_stopped, nothing_put, sam
 
 -- ---- levels ----
 
-before-suc : (n : ℕ) → suc n - 1 ≡ n
-before-suc n = omega arith
+before_suc : (n : ℕ) → suc n - 1 ≡ n
+before_suc n = omega arith
 
 module _ (x : Texts) {under : TypedField → Texts} (law : IsTexts x under) where
   pub struct_deep : (left : ℕ) (at : Layout) (r : StructHandle) → 0 < left → x.value left at (dynamic.Struct r) ≡ record_in x (left - 1) at r
   struct_deep zero at r h = absurd (omega (arith, h))
-  struct_deep (suc n) at r h = law.struct_deep n at r ∙ ap (λ m. record_in x m at r) (sym (before-suc n))
+  struct_deep (suc n) at r h = law.struct_deep n at r ∙ ap (λ m. record_in x m at r) (sym (before_suc n))
 
   pub list_deep : (left : ℕ) (at : Layout) (l : ListHandle) → 0 < left → x.value left at (dynamic.List l) ≡ list_in x (left - 1) at l
   list_deep zero at l h = absurd (omega (arith, h))
-  list_deep (suc n) at l h = law.list_deep n at l ∙ ap (λ m. list_in x m at l) (sym (before-suc n))
+  list_deep (suc n) at l h = law.list_deep n at l ∙ ap (λ m. list_in x m at l) (sym (before_suc n))
 
   -- with no level left
   pub struct_flat : (left : ℕ) (at : Layout) (v : DynamicValue) (r : StructHandle) → left ≡ 0 → v ≡ dynamic.Struct r → x.value left at v ≡ Err TooDeep
@@ -75,46 +75,46 @@ filled p0 p1 p2 opening closing at items a b = λ r k.
 
 -- ---- elements ----
 
-less-one : (n i : ℕ) → i < n → n - i ≡ suc (n - (i + 1))
-less-one n i h = omega (arith, h)
+less_one : (n i : ℕ) → i < n → n - i ≡ suc (n - (i + 1))
+less_one n i h = omega (arith, h)
 
-next-is : (i : ℕ) → suc i ≡ i + 1
-next-is i = omega arith
+next_is : (i : ℕ) → suc i ≡ i + 1
+next_is i = omega arith
 
-not-zero : (i : ℕ) → false ≡ (suc i == 0)
-not-zero i = search rules
+not_zero : (i : ℕ) → false ≡ (suc i == 0)
+not_zero i = search rules
 
-none-left : (n i : ℕ) → n < i + 1 → n - i ≡ 0
-none-left n i h = omega (arith, h)
+none_left : (n i : ℕ) → n < i + 1 → n - i ≡ 0
+none_left n i h = omega (arith, h)
 
 module _ (x : Texts) {under : TypedField → Texts} (law : IsTexts x under) (left : ℕ) (at : Layout) (l : ListHandle) where
   -- an element, and the items of those behind it
-  one-more : (n i : ℕ) → i < n → x.elements left at l i (n - i) ≡ x.element left at l i ∷ x.elements left at l (suc i) (n - (i + 1))
-  one-more n i h = ap (x.elements left at l i) (less-one n i h) ∙ law.elements_next left at l i (n - (i + 1))
+  one_more : (n i : ℕ) → i < n → x.elements left at l i (n - i) ≡ x.element left at l i ∷ x.elements left at l (suc i) (n - (i + 1))
+  one_more n i h = ap (x.elements left at l i) (less_one n i h) ∙ law.elements_next left at l i (n - (i + 1))
 
   pub element_next : (n i : ℕ) → i < n → (p0 p1 p2 : Taken) →
       IsPut p0 (said_text (separator at (i == 0))) p1 → IsPut p1 (x.element left at l i) p2 →
       Leads p0 (more_text at (i == 0) (x.elements left at l i (n - i))) p2 (more_text at (i + 1 == 0) (x.elements left at l (i + 1) (n - (i + 1))))
   element_next n i h p0 p1 p2 a b = λ r k.
-      same p0 (ap (more_text at (i == 0)) (one-more n i h)) r
+      same p0 (ap (more_text at (i == 0)) (one_more n i h)) r
       (then p0 p1 (said_text (separator at (i == 0))) (after (x.element left at l i) (more_text at false (x.elements left at l (suc i) (n - (i + 1))))) a r
       (then p1 p2 (x.element left at l i) (more_text at false (x.elements left at l (suc i) (n - (i + 1)))) b r
-      (same p2 (ap (λ q. more_text at q (x.elements left at l (suc i) (n - (i + 1)))) (not-zero i) ∙ ap (λ j. more_text at (j == 0) (x.elements left at l j (n - (i + 1)))) (next-is i)) r k)))
+      (same p2 (ap (λ q. more_text at q (x.elements left at l (suc i) (n - (i + 1)))) (not_zero i) ∙ ap (λ j. more_text at (j == 0) (x.elements left at l j (n - (i + 1)))) (next_is i)) r k)))
 
   pub separator_stopped : (n i : ℕ) → i < n → (p : Taken) (stop : Stop) → IsStopped p (said_text (separator at (i == 0))) stop → IsStopped p (more_text at (i == 0) (x.elements left at l i (n - i))) stop
   separator_stopped n i h p stop a =
-      same p (ap (more_text at (i == 0)) (one-more n i h)) (Err stop)
+      same p (ap (more_text at (i == 0)) (one_more n i h)) (Err stop)
       (first_stopped p (said_text (separator at (i == 0))) (after (x.element left at l i) (more_text at false (x.elements left at l (suc i) (n - (i + 1))))) stop a)
 
   pub element_stopped : (n i : ℕ) → i < n → (p0 p1 : Taken) (stop : Stop) → IsPut p0 (said_text (separator at (i == 0))) p1 →
       IsStopped p1 (x.element left at l i) stop → IsStopped p0 (more_text at (i == 0) (x.elements left at l i (n - i))) stop
   element_stopped n i h p0 p1 stop a b =
-      same p0 (ap (more_text at (i == 0)) (one-more n i h)) (Err stop)
+      same p0 (ap (more_text at (i == 0)) (one_more n i h)) (Err stop)
       (then p0 p1 (said_text (separator at (i == 0))) (after (x.element left at l i) (more_text at false (x.elements left at l (suc i) (n - (i + 1))))) a (Err stop)
       (first_stopped p1 (x.element left at l i) (more_text at false (x.elements left at l (suc i) (n - (i + 1)))) stop b))
 
   pub elements_end : (n i : ℕ) (q : Bool) → n < i + 1 → (p : Taken) → IsPut p (more_text at q (x.elements left at l i (n - i))) p
-  elements_end n i q h p = same p (ap (more_text at q) (ap (x.elements left at l i) (none-left n i h) ∙ law.elements_none left at l i)) (Ok p) (nothing_put p)
+  elements_end n i q h p = same p (ap (more_text at q) (ap (x.elements left at l i) (none_left n i h) ∙ law.elements_none left at l i)) (Ok p) (nothing_put p)
 
 -- ---- whole lists and structs ----
 
@@ -171,8 +171,8 @@ module _ (x : Texts) {under : TypedField → Texts} (law : IsTexts x under) (lef
   as_list : (p : Taken) → Leads p (list_in x left at l) p (bracketed_text (codes "[") (codes "]") at own_items)
   as_list p = same p (list_some x law left at l some)
 
-  same-items : (p q : Taken) → IsPut p (more_text further true (x.elements left further l 0 (count_of l))) q → IsPut p (more_text (deeper at) true own_items) q
-  same-items p q b = subst (λ (z : Layout). IsPut p (more_text z true (x.elements left z l 0 (count_of l))) q) e b
+  same_items : (p q : Taken) → IsPut p (more_text further true (x.elements left further l 0 (count_of l))) q → IsPut p (more_text (deeper at) true own_items) q
+  same_items p q b = subst (λ (z : Layout). IsPut p (more_text z true (x.elements left z l 0 (count_of l))) q) e b
 
   pub list_stopped_inside : (p0 p1 : Taken) (stop : Stop) → IsPut p0 (said_text (codes "[")) p1 → IsStopped p1 (more_text further true (x.elements left further l 0 (count_of l))) stop → IsStopped p0 (list_in x left at l) stop
   list_stopped_inside p0 p1 stop a b =
@@ -184,12 +184,12 @@ module _ (x : Texts) {under : TypedField → Texts} (law : IsTexts x under) (lef
   pub list_stopped_behind : (p0 p1 p2 : Taken) (stop : Stop) → IsPut p0 (said_text (codes "[")) p1 → IsPut p1 (more_text further true (x.elements left further l 0 (count_of l))) p2 → IsStopped p2 (said_text (line at)) stop →
       IsStopped p0 (list_in x left at l) stop
   list_stopped_behind p0 p1 p2 stop a b c =
-      as_list p0 (Err stop) (filled p0 p1 p2 (codes "[") (codes "]") at own_items a (same-items p1 p2 b) (Err stop) (first_stopped p2 (said_text (line at)) (said_text (codes "]")) stop c))
+      as_list p0 (Err stop) (filled p0 p1 p2 (codes "[") (codes "]") at own_items a (same_items p1 p2 b) (Err stop) (first_stopped p2 (said_text (line at)) (said_text (codes "]")) stop c))
 
   pub list_stopped_last : (p0 p1 p2 p3 : Taken) (stop : Stop) → IsPut p0 (said_text (codes "[")) p1 → IsPut p1 (more_text further true (x.elements left further l 0 (count_of l))) p2 → IsPut p2 (said_text (line at)) p3 →
       IsStopped p3 (said_text (codes "]")) stop → IsStopped p0 (list_in x left at l) stop
   list_stopped_last p0 p1 p2 p3 stop a b c d =
-      as_list p0 (Err stop) (filled p0 p1 p2 (codes "[") (codes "]") at own_items a (same-items p1 p2 b) (Err stop) (then p2 p3 (said_text (line at)) (said_text (codes "]")) c (Err stop) d))
+      as_list p0 (Err stop) (filled p0 p1 p2 (codes "[") (codes "]") at own_items a (same_items p1 p2 b) (Err stop) (then p2 p3 (said_text (line at)) (said_text (codes "]")) c (Err stop) d))
 
 pub list_stopped_first : (x : Texts) {under : TypedField → Texts} (law : IsTexts x under) (left : ℕ) (at : Layout) (l : ListHandle) (p : Taken) (stop : Stop) → 0 < count_of l → IsStopped p (said_text (codes "[")) stop → IsStopped p (list_in x left at l) stop
 list_stopped_first x law left at l p stop some h =
@@ -202,5 +202,5 @@ leaf_from (dynamic.Struct s) h k = absurd (h s refl)
 leaf_from (dynamic.List l) h k = absurd (k l refl)
 leaf_from v h k = tt {0}
 
-pub some-left : (left : ℕ) → (left ≡ 0 → ⊥) → 0 < left
-some-left left h = omega (arith, h)
+pub some_left : (left : ℕ) → (left ≡ 0 → ⊥) → 0 < left
+some_left left h = omega (arith, h)

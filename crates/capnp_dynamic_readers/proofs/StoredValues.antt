@@ -15,8 +15,8 @@ use Rattle.capnp_dynamic_readers.specs.Annotated.{stored_read, words_read}
 use Rattle.capnp_dynamic_readers.specs.Reads.{pointer_read}
 use Rattle.capnp_dynamic_readers.specs.Viewed.{view_read}
 
-words-read : (set : Schemas) (words : List ℕ) (p : PointerReader) (t : SchemaType) → StandsOnWords words p → pointer_read set VoidValue t p ≡ words_read set words t
-words-read set words p t h = ap₂ (λ (x : Tree) (n : ℕ). read_of set VoidValue t (value_of set x (Left n) t)) h.tree h.levels
+words_are_read : (set : Schemas) (words : List ℕ) (p : PointerReader) (t : SchemaType) → StandsOnWords words p → pointer_read set VoidValue t p ≡ words_read set words t
+words_are_read set words p t h = ap₂ (λ (x : Tree) (n : ℕ). read_of set VoidValue t (value_of set x (Left n) t)) h.tree h.levels
 
 pub view_is_stored : (set : Schemas) (v : SchemaValue) (w : View) (t : SchemaType) → IsViewOf v w → view_read set w t ≡ stored_read set v t
 view_is_stored set VoidValue view.Void t h = refl
@@ -33,9 +33,9 @@ view_is_stored set (EnumValue x) (view.Enum y) (EnumType number) h = ap value.En
 view_is_stored set (EnumValue x) (view.Enum y) t h = refl
 view_is_stored set (TextValue bytes) (view.Text y) t h = ap value.Text h
 view_is_stored set (DataValue bytes) (view.«Data» y) t h = ap value.Data h
-view_is_stored set (StructValue words) (view.Struct p) (StructType b g) h = words-read set words p (StructType b g) h
+view_is_stored set (StructValue words) (view.Struct p) (StructType b g) h = words_are_read set words p (StructType b g) h
 view_is_stored set (StructValue words) (view.Struct p) t h = refl
-view_is_stored set (ListValue words) (view.List p) (ListType element) h = words-read set words p (ListType element) h
+view_is_stored set (ListValue words) (view.List p) (ListType element) h = words_are_read set words p (ListType element) h
 view_is_stored set (ListValue words) (view.List p) t h = refl
 view_is_stored set (AnyPointerValue words) (view.AnyPointer p) AnyPointerType h = ap value.Untyped h.tree
 view_is_stored set (AnyPointerValue words) (view.AnyPointer p) t h = refl

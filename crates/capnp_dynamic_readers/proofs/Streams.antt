@@ -18,15 +18,15 @@ further : (a : Taken) (x y : List ℕ) → followed a (x ++ y) ≡ followed (fol
 further Untold x y = refl
 further (Within limit xs) x y = ap (Within limit) (sym (append_assoc xs x y))
 
-more-nil : (a : Taken) → followed a [] ≡ a
-more-nil Untold = refl
-more-nil (Within limit xs) = ap (Within limit) (append-nil xs)
+more_nil : (a : Taken) → followed a [] ≡ a
+more_nil Untold = refl
+more_nil (Within limit xs) = ap (Within limit) (append-nil xs)
 
 -- ---- what was put ----
 
 -- nothing
 pub nothing_put : (a : Taken) → IsPut a (said_text []) a
-nothing_put a = ([], known_spelled [], more-nil a, λ h. h)
+nothing_put a = ([], known_spelled [], more_nil a, λ h. h)
 
 -- one text and then another
 pub then_put : (a b c : Taken) (x y : Out) → IsPut a x b → IsPut b y c → IsPut a (after x y) c
@@ -51,8 +51,8 @@ full_stopped a o (Refused e) h = absurd h
 full_stopped a o Full h = tt {0}
 full_stopped a o TooLong h = absurd h
 
-longer-sum : (l m n k : ℕ) → l < m + n → l < m + (n + k)
-longer-sum l m n k h = omega (arith, h)
+longer_sum : (l m n k : ℕ) → l < m + n → l < m + (n + k)
+longer_sum l m n k h = omega (arith, h)
 
 -- what is too long is so with what follows it
 first_past : (a : Taken) (x y : Out) → IsPast a x → IsPast a (after x y)
@@ -62,7 +62,7 @@ first_past (Within limit old) (Ok x) (Err k) h = tt {0}
 first_past (Within limit old) (Ok x) (Ok y) (bytes, spelled, long) = (
   bytes ++ some_bytes y,
   both_spelled x y bytes (some_bytes y) spelled (some_spelled y),
-  subst (λ (n : ℕ). limit < length old + n) (sym (length-append bytes (some_bytes y))) (longer-sum limit (length old) (length bytes) (length (some_bytes y)) long),
+  subst (λ (n : ℕ). limit < length old + n) (sym (length-append bytes (some_bytes y))) (longer_sum limit (length old) (length bytes) (length (some_bytes y)) long),
 )
 
 -- why a text was not put is why it was not with what follows it
@@ -99,20 +99,20 @@ handed_on (Err x) P stop e h = subst P (sym e) h
 
 -- ---- bytes that are known ----
 
-known-refused : (bytes : List ℕ) (k : ErrorKind) → said_text bytes ≡ Err k → ⊥
-known-refused bytes k e = cc
+known_refused : (bytes : List ℕ) (k : ErrorKind) → said_text bytes ≡ Err k → ⊥
+known_refused bytes k e = cc
 
-longer-than : (l m n k : ℕ) → l < m + n → n ≤ k → l < m + k
-longer-than l m n k h i = omega (arith, h, i)
+longer_than : (l m n k : ℕ) → l < m + n → n ≤ k → l < m + k
+longer_than l m n k h i = omega (arith, h, i)
 
 known_past : (a : Taken) (x y : List ℕ) → length x ≤ length y → IsPast a (said_text x) → IsPast a (said_text y)
 known_past Untold x y le h = tt {0}
 known_past (Within limit old) x y le (bytes, spelled, long) =
-    (y, known_spelled y, longer-than limit (length old) (length x) (length y) (subst (λ (z : List ℕ). limit < length old + length z) (spelled_known x bytes spelled) long) le)
+    (y, known_spelled y, longer_than limit (length old) (length x) (length y) (subst (λ (z : List ℕ). limit < length old + length z) (spelled_known x bytes spelled) long) le)
 
 -- what stopped at some bytes stops at more
 pub known_stopped : (a : Taken) (x y : List ℕ) (stop : Stop) → length x ≤ length y → IsStopped a (said_text x) stop → IsStopped a (said_text y) stop
-known_stopped a x y (Refused e) le h = λ other. absurd (known-refused x e.kind (h other))
+known_stopped a x y (Refused e) le h = λ other. absurd (known_refused x e.kind (h other))
 known_stopped a x y Full le h = tt {0}
 known_stopped a x y TooLong le h = known_past a x y le h
 
@@ -124,17 +124,17 @@ stopped_inside a b x y z stop le p h =
 
 -- three, of which the first, the second or the third stopped
 module _ (a b c : Taken) (x y z : List ℕ) (stop : Stop) where
-  three-length : length (x ++ (y ++ z)) ≡ length x + (length y + length z)
-  three-length = omega (arith, length-append x (y ++ z), length-append y z)
+  three_length : length (x ++ (y ++ z)) ≡ length x + (length y + length z)
+  three_length = omega (arith, length-append x (y ++ z), length-append y z)
 
   pub first_of_three : IsStopped a (said_text x) stop → IsStopped a (said_text (x ++ (y ++ z))) stop
-  first_of_three h = known_stopped a x (x ++ (y ++ z)) stop (omega (arith, three-length)) h
+  first_of_three h = known_stopped a x (x ++ (y ++ z)) stop (omega (arith, three_length)) h
 
   pub second_of_three : IsPut a (said_text x) b → IsStopped b (said_text y) stop → IsStopped a (said_text (x ++ (y ++ z))) stop
-  second_of_three p h = stopped_inside a b x y (x ++ (y ++ z)) stop (omega (arith, three-length)) p h
+  second_of_three p h = stopped_inside a b x y (x ++ (y ++ z)) stop (omega (arith, three_length)) p h
 
   pub third_of_three : IsPut a (said_text x) b → IsPut b (said_text y) c → IsStopped c (said_text z) stop → IsStopped a (said_text (x ++ (y ++ z))) stop
-  third_of_three p q h = stopped_inside a c (x ++ y) z (x ++ (y ++ z)) stop (omega (arith, three-length, length-append x y)) (two_put a b c x y p q) h
+  third_of_three p q h = stopped_inside a c (x ++ y) z (x ++ (y ++ z)) stop (omega (arith, three_length, length-append x y)) (two_put a b c x y p q) h
 
 abbrev pub spaces : ℕ → List ℕ
 spaces m = replicate m 32
@@ -142,21 +142,21 @@ spaces m = replicate m 32
 abbrev pub two : List ℕ
 two = 32 ∷ 32 ∷ []
 
-two-end : (m : ℕ) → spaces m ++ two ≡ two ++ spaces m
-two-end zero = refl
-two-end (suc m) = ap (λ (xs : List ℕ). 32 ∷ xs) (two-end m)
+two_end : (m : ℕ) → spaces m ++ two ≡ two ++ spaces m
+two_end zero = refl
+two_end (suc m) = ap (λ (xs : List ℕ). 32 ∷ xs) (two_end m)
 
 -- two spaces more, after a line break and others
-more-spaces : (n : ℕ) → (10 ∷ spaces (2 * n)) ++ two ≡ 10 ∷ spaces (2 * (n + 1))
-more-spaces n =
+more_spaces : (n : ℕ) → (10 ∷ spaces (2 * n)) ++ two ≡ 10 ∷ spaces (2 * (n + 1))
+more_spaces n =
     let e : 2 * (n + 1) ≡ suc (suc (2 * n)) = omega arith in
-    ap (λ (ys : List ℕ). 10 ∷ ys) (two-end (2 * n) ∙ sym (ap spaces e))
+    ap (λ (ys : List ℕ). 10 ∷ ys) (two_end (2 * n) ∙ sym (ap spaces e))
 
 pub two_more : (old mid new : Taken) (n : ℕ) → IsPut old (said_text (10 ∷ replicate (2 * n) 32)) mid → IsPut mid (said_text two) new → IsPut old (said_text (10 ∷ replicate (2 * (n + 1)) 32)) new
-two_more old mid new n a b = subst (λ (z : List ℕ). IsPut old (said_text z) new) (more-spaces n) (two_put old mid new (10 ∷ spaces (2 * n)) two a b)
+two_more old mid new n a b = subst (λ (z : List ℕ). IsPut old (said_text z) new) (more_spaces n) (two_put old mid new (10 ∷ spaces (2 * n)) two a b)
 
-none-some : {m : ℕ} → None ≡ Some m → ⊥
-none-some e = cc
+none_some : {m : ℕ} → None ≡ Some m → ⊥
+none_some e = cc
 
 -- on one line there are no breaks
 pub no_line : (at : Layout) (a : Taken) → ((n : ℕ) → at ≡ Some n → ⊥) → IsPut a (said_text (line at)) a
@@ -166,7 +166,7 @@ no_line (Some n) a h = absurd (h n refl)
 -- a line break, and the spaces after it
 pub line_begun : (at : Layout) (n : ℕ) (a : Taken) (stop : Stop) → at ≡ Some n → IsStopped a (said_text (codes "\n")) stop → IsStopped a (said_text (line at)) stop
 line_begun (Some m) n a stop e h = known_stopped a (codes "\n") (line (Some m)) stop (omega arith) h
-line_begun None n a stop e h = absurd (none-some e)
+line_begun None n a stop e h = absurd (none_some e)
 
 pub line_inside : (at : Layout) (n step : ℕ) (a b : Taken) (stop : Stop) → at ≡ Some n → step < n → IsPut a (said_text (10 ∷ replicate (2 * step) 32)) b → IsStopped b (said_text two) stop →
     IsStopped a (said_text (line at)) stop
@@ -178,7 +178,7 @@ line_inside at n step a b stop e lt p h =
 pub separator_begun : (at : Layout) (n : ℕ) (first : Bool) (a : Taken) (stop : Stop) → first ≡ false → at ≡ Some n → IsStopped a (said_text (codes ",")) stop → IsStopped a (said_text (separator at first)) stop
 separator_begun (Some m) n false a stop e f h = known_stopped a (codes ",") (separator (Some m) false) stop (omega arith) h
 separator_begun (Some m) n true a stop e f h = absurd (true≢false e)
-separator_begun None n q a stop e f h = absurd (none-some f)
+separator_begun None n q a stop e f h = absurd (none_some f)
 
 pub below_stopped : {T : Type 0} (r : Result T Stop) (at : Layout) (n : ℕ) (first : Bool) (a b : Taken) → first ≡ false → at ≡ Some n → IsPut a (said_text (codes ",")) b → IfErr r (IsStopped b (said_text (line at))) →
     IfErr r (IsStopped a (said_text (separator at first)))
@@ -186,11 +186,11 @@ below_stopped (Ok x) (Some m) n false a b e f h i = tt {0}
 below_stopped (Err stop) (Some m) n false a b e f h i =
     stopped_inside a b (codes ",") (line (Some m)) (codes "," ++ line (Some m)) stop (omega (arith, length-append (codes ",") (line (Some m)))) h i
 below_stopped r (Some m) n true a b e f h i = absurd (true≢false e)
-below_stopped r None n q a b e f h i = absurd (none-some f)
+below_stopped r None n q a b e f h i = absurd (none_some f)
 
 pub below_put : {T E : Type 0} (r : Result T E) (at : Layout) (n : ℕ) (first : Bool) (a b c : Taken) → first ≡ false → at ≡ Some n → IsPut a (said_text (codes ",")) b → OnOk r (IsPut b (said_text (line at)) c) →
     OnOk r (IsPut a (said_text (separator at first)) c)
 below_put (Ok x) (Some m) n false a b c e f h i = two_put a b c (codes ",") (line (Some m)) h i
 below_put (Err x) (Some m) n false a b c e f h i = tt {0}
 below_put r (Some m) n true a b c e f h i = absurd (true≢false e)
-below_put r None n q a b c e f h i = absurd (none-some f)
+below_put r None n q a b c e f h i = absurd (none_some f)

@@ -1,7 +1,7 @@
 -- The root that a run without calls leaves.
 use Rattle.std.proofs.Common.{ℕ, ◌≡◌, List, [], ◌∷◌, sym, subst}
 use Rattle.capnp_wire.specs.Edits.{struct_in}
-use Rattle.capnp_wire.specs.Facts.Lengths.{HasAtLeast-zero_struct}
+use Rattle.capnp_wire.specs.Facts.Lengths.{HasAtLeast_zero_struct}
 use Rattle.capnp_wire.specs.Tree.{StructTree, Tree}
 use Rattle.capnp_wire.specs.declared.pointer_reader.PointerReader.{PointerReader}
 use Rattle.capnp_wire.specs.Standing.{tree_of}
@@ -9,7 +9,7 @@ use Rattle.capnp_schema.specs.Plan.{brand_size}
 use Rattle.capnp_schema.specs.Schema.{Schemas}
 use Rattle.capnp_schema.specs.StructHandles.{number_of, set_of}
 use Rattle.capnp_schema.specs.declared.schema.structs.StructSchema.{StructSchema}
-use Rattle.capnp_records.specs.Facts.Extension.{fits-extended}
+use Rattle.capnp_records.specs.Facts.Extension.{fits_extended}
 use Rattle.capnp_records.specs.Record.{Record}
 use Rattle.capnp_slots.specs.Standing.{IsUnder}
 use Rattle.capnp_call.specs.Messages.{IsRoot, LeavesRun, copied_root, new_root}
@@ -33,7 +33,7 @@ root_is schema start r replies t room left made = record {
 }
 
 pub new_room : (schema : StructSchema) → IsUnder schema (new_root schema)
-new_room schema = HasAtLeast-zero_struct (brand_size (set_of schema) (number_of schema))
+new_room schema = HasAtLeast_zero_struct (brand_size (set_of schema) (number_of schema))
 
 pub copied_room : (schema : StructSchema) (source : PointerReader) → IsUnder schema (copied_root schema source)
-copied_room schema source = fits-extended (set_of schema) (number_of schema) (struct_in (tree_of source))
+copied_room schema source = fits_extended (set_of schema) (number_of schema) (struct_in (tree_of source))

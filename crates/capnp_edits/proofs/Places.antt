@@ -12,22 +12,22 @@ found p = Ok p
 abbrev refused : ErrorKind → Result Place ErrorKind
 refused kind = Err kind
 
-no-place : (p : Place) (kind : ErrorKind) → refused kind ≡ found p → ⊥
-no-place p kind h = cc
+no_place : (p : Place) (kind : ErrorKind) → refused kind ≡ found p → ⊥
+no_place p kind h = cc
 
-same-place : (p q : Place) → found p ≡ found q → p ≡ q
-same-place p q h = cc
+same_place : (p q : Place) → found p ≡ found q → p ≡ q
+same_place p q h = cc
 
 pub place_within : (edit : Edit) (n : ℕ) (p : Place) → place_of edit n ≡ Ok p → p.at + p.removed ≤ n
-place_within (Append ss) n p h = subst (λ (q : Place). q.at + q.removed ≤ n) (same-place (record { at = n; removed = 0 }) p h) (omega arith)
+place_within (Append ss) n p h = subst (λ (q : Place). q.at + q.removed ≤ n) (same_place (record { at = n; removed = 0 }) p h) (omega arith)
 place_within (Insert i s) n p h = go (nat_lt n i) refl h
   where
     go : (b : Bool) → nat_lt n i ≡ b → cond b (refused NoSuchElement) (found (record { at = i; removed = 0 })) ≡ found p → p.at + p.removed ≤ n
-    go true e h = absurd (no-place p NoSuchElement h)
-    go false e h = subst (λ (q : Place). q.at + q.removed ≤ n) (same-place (record { at = i; removed = 0 }) p h) (omega (arith, ltb-false n i e))
+    go true e h = absurd (no_place p NoSuchElement h)
+    go false e h = subst (λ (q : Place). q.at + q.removed ≤ n) (same_place (record { at = i; removed = 0 }) p h) (omega (arith, ltb-false n i e))
 place_within (Remove i) n p h = go (nat_lt i n) refl h
   where
     go : (b : Bool) → nat_lt i n ≡ b → cond b (found (record { at = i; removed = 1 })) (refused NoSuchElement) ≡ found p → p.at + p.removed ≤ n
-    go true e h = subst (λ (q : Place). q.at + q.removed ≤ n) (same-place (record { at = i; removed = 1 }) p h) (omega (arith, ltb-true i n e))
-    go false e h = absurd (no-place p NoSuchElement h)
-place_within (Resize m) n p h = subst (λ (q : Place). q.at + q.removed ≤ n) (same-place (record { at = min m n; removed = n - m }) p h) (omega arith)
+    go true e h = subst (λ (q : Place). q.at + q.removed ≤ n) (same_place (record { at = i; removed = 1 }) p h) (omega (arith, ltb-true i n e))
+    go false e h = absurd (no_place p NoSuchElement h)
+place_within (Resize m) n p h = subst (λ (q : Place). q.at + q.removed ≤ n) (same_place (record { at = min m n; removed = n - m }) p h) (omega arith)

@@ -12,9 +12,9 @@ use Rattle.capnp_json_text.specs.Decimals.{behind_point, digits_of, fraction_dig
 use Rattle.capnp_from_json.specs.Integers.{in_word}
 use Rattle.capnp_from_json.specs.Steps.Digits.{AreDigits, IsTrimmed}
 
-true-or-false : (b : Bool) → (b ≡ true) ⊎ (b ≡ false)
-true-or-false true = inl refl
-true-or-false false = inr refl
+true_or_false : (b : Bool) → (b ≡ true) ⊎ (b ≡ false)
+true_or_false true = inl refl
+true_or_false false = inr refl
 
 pub at_least : (n : ℕ) (xs : List ℕ) → n ≤ natural_from n xs
 at_least n [] = omega arith
@@ -128,7 +128,7 @@ are_digits [] = no_digits
 are_digits (b ∷ bs) = ⊎_elim
     (λ (t : is_ascii_digit b ≡ true). subst AreDigits (sym (digits_of_digit b bs t)) (more_digits b (digits_of bs) t (are_digits bs)))
     (λ (t : is_ascii_digit b ≡ false). subst AreDigits (sym (digits_of_other b bs t)) no_digits)
-    (true-or-false (is_ascii_digit b))
+    (true_or_false (is_ascii_digit b))
 
 pub whole_are_digits : (bs : List ℕ) → AreDigits (whole_digits bs)
 unfolding whole_digits

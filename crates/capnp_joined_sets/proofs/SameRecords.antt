@@ -14,7 +14,7 @@ use Rattle.capnp_schema.specs.Facts.Groups.{IsShallow, group_in_set, is_shallow}
 use Rattle.capnp_records.specs.Record as value
 use Rattle.capnp_records.specs.Record.{Levels, Value, Values, Union, Record, Parts, NoUnion, Active, Unknown, NoValues, MoreValues, is_there, levels_asked, one_less, values_from}
 use Rattle.capnp_records.specs.Reading.{Below, Body, Reading, active_among, bodies_of, bytes_below, discriminant, element_value, elements_value, entered_value, first_pointer, group_record, kind_value, non_union_parts, nth_body, nth_reading, null, of_read, only_reading, pointers_below, record_of, record_within, slot_value, struct_below, struct_record, structs_below, tree_value, union_of, value_of, values_of}
-use Rattle.capnp_records.specs.Facts.Groups.{record_within-more}
+use Rattle.capnp_records.specs.Facts.Groups.{record_within_more}
 use Rattle.capnp_joined_sets.specs.declared.moves.Moves.{Moves}
 use Rattle.capnp_joined_sets.specs.Joined.{moved_kind, moved_node, moved_type}
 use Rattle.capnp_joined_sets.proofs.Embedded.{IsIn, fields_in, moved_typed, node_in}
@@ -55,7 +55,7 @@ more_fuel : (more n : ℕ) (set : Schemas) (l : Levels) (bytes : List ℕ) (rs :
 more_fuel zero n set l bytes rs b h = let e : n ≡ 0 + n = omega arith in ap (λ k. record_within k set l bytes rs b) e
 more_fuel (suc more) n set l bytes rs b h =
     let e : more + suc n ≡ suc more + n = omega arith in
-    record_within-more n set l bytes rs b h ∙ more_fuel more (suc n) set l bytes rs b (shallower n set b h) ∙ ap (λ k. record_within k set l bytes rs b) e
+    record_within_more n set l bytes rs b h ∙ more_fuel more (suc n) set l bytes rs b (shallower n set b h) ∙ ap (λ k. record_within k set l bytes rs b) e
   where
     shallower : (n : ℕ) (set : Schemas) (b : ℕ) → IsShallow n set b → IsShallow (suc n) set b
     shallower zero set b h = absurd h

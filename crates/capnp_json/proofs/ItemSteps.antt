@@ -15,7 +15,7 @@ use Rattle.capnp_schema.specs.Steps.GroupWalks.{steps_into}
 use Rattle.capnp_schema.specs.Types.{SchemaType, struct_number}
 use Rattle.capnp_schema.specs.declared.schema.fields.Field.{Field}
 use Rattle.capnp_schema.specs.declared.schema.structs.StructSchema.{StructSchema}
-use Rattle.capnp_records.specs.Facts.Groups.{part_of-group}
+use Rattle.capnp_records.specs.Facts.Groups.{part_of_group}
 use Rattle.capnp_records.specs.Reading.{record_of, values_of}
 use Rattle.capnp_records.specs.Record.{Left, is_there}
 use Rattle.capnp_records.specs.Text.{Layout, deeper}
@@ -76,7 +76,7 @@ group_json : (set : Schemas) → IsAccepted set → (left : ℕ) (r : StructRead
     part_shown left set r at (field_at set b i) ≡ record_json set (json_within set left) at g (record_of set (Left (struct_levels r)) (struct_of r).bytes (values_of set (struct_of r).pointers) g)
 group_json set accepted left r at b i g lt is =
     ap (part_json set (json_within set left) at (form_of (field_at set b i)) (field_at set b i).type)
-    (part_of-group set accepted (Left (struct_levels r)) (struct_of r).bytes (values_of set (struct_of r).pointers) b i g (brand_there set b i lt) lt (group_named (field_at set b i).field.kind (field_at set b i).type g is))
+    (part_of_group set accepted (Left (struct_levels r)) (struct_of r).bytes (values_of set (struct_of r).pointers) b i g (brand_there set b i lt) lt (group_named (field_at set b i).field.kind (field_at set b i).type g is))
     ∙ ap (λ n. record_json set (json_within set left) at n (record_of set (Left (struct_levels r)) (struct_of r).bytes (values_of set (struct_of r).pointers) g)) (group_number (field_at set b i).field.kind (field_at set b i).type g is)
 
 shallow_deep : (at : Layout) → shallower (deeper at) ≡ at

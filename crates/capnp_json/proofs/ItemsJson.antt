@@ -7,7 +7,7 @@ use Rattle.capnp_schema.specs.Schema.{Field as FieldRecord, TypedField, is_membe
 use Rattle.capnp_schema.specs.StructHandles.{number_of, set_of, struct_field, struct_fields}
 use Rattle.capnp_schema.specs.declared.schema.fields.Field.{Field}
 use Rattle.capnp_schema.specs.declared.schema.structs.StructSchema.{StructSchema}
-use Rattle.capnp_records.specs.Facts.PartRead.{found-active}
+use Rattle.capnp_records.specs.Facts.PartRead.{found_active}
 use Rattle.capnp_records.specs.Part.{active_value, has_of, is_active, nth_value, which_of}
 use Rattle.capnp_records.specs.Reading.{active_among, discriminant, non_union_parts}
 use Rattle.capnp_records.specs.Record.{Active, NoUnion, Parts, Union, Unknown, Value, is_there}
@@ -20,8 +20,8 @@ use Rattle.capnp_dynamic_readers.specs.Steps.Shown.{part_seen, union_seen}
 use Rattle.capnp_dynamic_readers.specs.declared.dynamic_struct.Reader.{Reader as StructHandle}
 use Rattle.capnp_json.specs.Json.{form_of, item, item_if, json_within, member_items, part_json}
 use Rattle.capnp_json.specs.Steps.Records.{HasNoMemberItem, IsActiveMember, is_item, is_member_item}
-use Rattle.capnp_dynamic_readers.specs.Facts.ItemsShown.{discriminant_in, or-false, or-true}
-use Rattle.capnp_dynamic_readers.specs.Facts.ItemsInOrder.{member-found, no-active}
+use Rattle.capnp_dynamic_readers.specs.Facts.ItemsShown.{discriminant_in, or_false, or_true}
+use Rattle.capnp_dynamic_readers.specs.Facts.ItemsInOrder.{member_found, no_active}
 
 -- ---- a field of a struct ----
 
@@ -45,29 +45,29 @@ item_of_member r f member = sym (ap (λ (b : Bool). cond b false (is_there (part
 
 -- ---- the active member ----
 
-none-some : {j : ℕ} → None ≡ Some j → ⊥
-none-some e = cc
+none_some : {j : ℕ} → None ≡ Some j → ⊥
+none_some e = cc
 
-some-none : {j : ℕ} → Some j ≡ None → ⊥
-some-none e = cc
+some_none : {j : ℕ} → Some j ≡ None → ⊥
+some_none e = cc
 
 -- what is known of the active member
 record IsSeen (r : StructHandle) (i : ℕ) (v : Value) : Type 0 where
   pub part : v ≡ part_seen r (struct_field (schema_of r) i)
   pub member : is_member (struct_field (schema_of r) i).field ≡ true
 
-seen-active : (r : StructHandle) (i : ℕ) (v : Value) → union_seen r ≡ Active i v → IsSeen r i v
-seen-active r i v e = go ((node_of (set_of (schema_of r)) (number_of (schema_of r))).discriminant_count == 0) refl e
+seen_active : (r : StructHandle) (i : ℕ) (v : Value) → union_seen r ≡ Active i v → IsSeen r i v
+seen_active r i v e = go ((node_of (set_of (schema_of r)) (number_of (schema_of r))).discriminant_count == 0) refl e
   where
     u : Union
     u = active_among (part_seen r) (struct_fields (schema_of r)) 0 (discriminant (node_of (set_of (schema_of r)) (number_of (schema_of r))) (struct_of (reader_of r)).bytes)
 
     go : (q : Bool) → ((node_of (set_of (schema_of r)) (number_of (schema_of r))).discriminant_count == 0) ≡ q → (elim q as (λ _. Union) [ true ↦ NoUnion | false ↦ u ]) ≡ Active i v → IsSeen r i v
-    go true is e = absurd (no-active e)
+    go true is e = absurd (no_active e)
     go false is e =
-        let found = found-active (part_seen r) (struct_fields (schema_of r)) 0 i (discriminant (node_of (set_of (schema_of r)) (number_of (schema_of r))) (struct_of (reader_of r)).bytes)
+        let found = found_active (part_seen r) (struct_fields (schema_of r)) 0 i (discriminant (node_of (set_of (schema_of r)) (number_of (schema_of r))) (struct_of (reader_of r)).bytes)
         (subst (λ n. is_active u n ≡ true) (omega arith) (ap (λ (w : Union). is_active w i) e ∙ eq-eqb i i refl)) in
-        let place = member-found (part_seen r) (struct_fields (schema_of r)) 0 (discriminant (node_of (set_of (schema_of r)) (number_of (schema_of r))) (struct_of (reader_of r)).bytes) i v e in
+        let place = member_found (part_seen r) (struct_fields (schema_of r)) 0 (discriminant (node_of (set_of (schema_of r)) (number_of (schema_of r))) (struct_of (reader_of r)).bytes) i v e in
         let same : place.at ≡ i = (let k = place.index in omega (arith, k)) in
         record {
           part = sym (ap active_value e) ∙ found.part_is;
@@ -82,7 +82,7 @@ active_found r f h = go (union_seen r) refl h
     go NoUnion e h = absurd h
     go (Unknown d) e h = absurd h
     go (Active i v) e h =
-        let seen = seen-active r i v e in
+        let seen = seen_active r i v e in
         record {
           field = record {
             inside = subst (λ (n : ℕ). n < length (struct_fields (schema_of r))) (sym h.index) h.inside;
@@ -118,7 +118,7 @@ member_hidden r f active none = λ left at.
 
 module _ (r : StructHandle) (f : Field) (field : IsFieldOf (schema_of r) (index_of f) f) (p : FieldRecord) (is : p ≡ (typed_of f).field) where
   pub shown_of_another : (p.discriminant_value ≡ 0 → ⊥) → true ≡ is_member_item r (field_in r f)
-  shown_of_another h = or-true (is_there (part_seen r (field_in r f))) _ (ap not (ap (λ n. n == 0) (sym (discriminant_in r f field p is)) ∙ not_zero p.discriminant_value h))
+  shown_of_another h = or_true (is_there (part_seen r (field_in r f))) _ (ap not (ap (λ n. n == 0) (sym (discriminant_in r f field p is)) ∙ not_zero p.discriminant_value h))
 
   pub shown_of_first : (b : Bool) → p.discriminant_value ≡ 0 → b ≡ is_there (part_seen r (field_in r f)) → b ≡ is_member_item r (field_in r f)
-  shown_of_first b h e = e ∙ or-false (is_there (part_seen r (field_in r f))) _ (ap not (ap (λ n. n == 0) (sym (discriminant_in r f field p is)) ∙ ap (λ n. n == 0) h))
+  shown_of_first b h e = e ∙ or_false (is_there (part_seen r (field_in r f))) _ (ap not (ap (λ n. n == 0) (sym (discriminant_in r f field p is)) ∙ ap (λ n. n == 0) h))

@@ -29,16 +29,16 @@ use Rattle.capnp_json.proofs.Puts.{same, stop_first, then}
 
 -- ---- levels ----
 
-before-suc : (n : ℕ) → suc n - 1 ≡ n
-before-suc n = omega arith
+before_suc : (n : ℕ) → suc n - 1 ≡ n
+before_suc n = omega arith
 
 struct_deep : (left : ℕ) (at : Layout) (form : Form) (r : StructHandle) → (left ≡ 0 → ⊥) → value_shown left at form (dynamic.Struct r) ≡ record_shown (left - 1) at r
 struct_deep zero at form r h = absurd (h refl)
-struct_deep (suc n) at form r h = ap (λ m. record_shown m at r) (sym (before-suc n))
+struct_deep (suc n) at form r h = ap (λ m. record_shown m at r) (sym (before_suc n))
 
 list_deep : (left : ℕ) (at : Layout) (form : Form) (l : ListHandle) → (left ≡ 0 → ⊥) → value_shown left at form (dynamic.List l) ≡ list_shown (left - 1) at form l
 list_deep zero at form l h = absurd (h refl)
-list_deep (suc n) at form l h = ap (λ m. list_shown m at form l) (sym (before-suc n))
+list_deep (suc n) at form l h = ap (λ m. list_shown m at form l) (sym (before_suc n))
 
 pub leaf_shown : (left : ℕ) (at : Layout) (form : Form) (v : DynamicValue) → IsLeaf v → value_shown left at form v ≡ leaf_json at form v
 leaf_shown zero at form v h = leaf_is None at form v h
@@ -66,25 +66,25 @@ module _ (left : ℕ) (at : Layout) (form : Form) (v : DynamicValue) (h : left �
 
 -- ---- elements ----
 
-less-one : (n i : ℕ) → i < n → n - i ≡ suc (n - (i + 1))
-less-one n i h = omega (arith, h)
+less_one : (n i : ℕ) → i < n → n - i ≡ suc (n - (i + 1))
+less_one n i h = omega (arith, h)
 
-next-is : (i : ℕ) → suc i ≡ i + 1
-next-is i = omega arith
+next_is : (i : ℕ) → suc i ≡ i + 1
+next_is i = omega arith
 
-not-first : (i : ℕ) → false ≡ (i + 1 == 0)
-not-first i = grind (arith, nat_tests)
+not_first : (i : ℕ) → false ≡ (i + 1 == 0)
+not_first i = grind (arith, nat_tests)
 
-none-left : (n i : ℕ) → n < i + 1 → n - i ≡ 0
-none-left n i h = omega (arith, h)
+none_left : (n i : ℕ) → n < i + 1 → n - i ≡ 0
+none_left n i h = omega (arith, h)
 
 module _ (left : ℕ) (at : Layout) (form : Form) (l : ListHandle) where
   -- an element, and those after it
   element_next : (first : Bool) (i : ℕ) → i < count_of l → elements_onward left at form l first i ≡ after (said (separator at first)) (after (element_shown left at form l i) (elements_onward left at form l (i + 1 == 0) (i + 1)))
   element_next first i h =
-      ap (λ (n : ℕ). items_left (codes "]") at first (element_items left at form l i n)) (less-one (count_of l) i h)
-      ∙ (ap (λ (j : ℕ). after (said (separator at first)) (after (element_shown left at form l i) (items_left (codes "]") at false (element_items left at form l j (count_of l - (i + 1)))))) (next-is i)
-      ∙ ap (λ (q : Bool). after (said (separator at first)) (after (element_shown left at form l i) (elements_onward left at form l q (i + 1)))) (not-first i))
+      ap (λ (n : ℕ). items_left (codes "]") at first (element_items left at form l i n)) (less_one (count_of l) i h)
+      ∙ (ap (λ (j : ℕ). after (said (separator at first)) (after (element_shown left at form l i) (items_left (codes "]") at false (element_items left at form l j (count_of l - (i + 1)))))) (next_is i)
+      ∙ ap (λ (q : Bool). after (said (separator at first)) (after (element_shown left at form l i) (elements_onward left at form l q (i + 1)))) (not_first i))
 
   module _ (i : ℕ) (inside : i < count_of l) (p0 : Output) where
     pub separator_stopped : (why : JsonError) → IsStopped p0 (said (separator at (i == 0))) why → IsStopped p0 (elements_onward left at form l (i == 0) i) why
@@ -108,7 +108,7 @@ module _ (left : ℕ) (at : Layout) (form : Form) (l : ListHandle) where
   pub elements_end : (i : ℕ) (none : Bool) (p : Output) → i ≡ count_of l → none ≡ (count_of l == 0) → Leads p (elements_onward left at form l (i == 0) i) p (said (ending at none ++ codes "]"))
   elements_end i none p e n = λ z k.
       same p
-      (ap (λ (m : ℕ). items_left (codes "]") at (i == 0) (element_items left at form l i m)) (none-left (count_of l) i (omega (arith, e)))
+      (ap (λ (m : ℕ). items_left (codes "]") at (i == 0) (element_items left at form l i m)) (none_left (count_of l) i (omega (arith, e)))
       ∙ ap (λ (q : Bool). said (ending at q ++ codes "]")) (ap (λ (m : ℕ). m == 0) e ∙ sym n)) z k
 
   whole_list : list_shown left at form l ≡ after (said (codes "[")) (elements_onward left (deeper at) form l true 0)

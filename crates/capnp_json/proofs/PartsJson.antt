@@ -19,8 +19,8 @@ use Rattle.capnp_schema.specs.declared.schema.fields.Field.{Field}
 use Rattle.capnp_schema.specs.declared.schema.structs.StructSchema.{StructSchema}
 use Rattle.capnp_schema.specs.Types.{SchemaType, VoidType, BoolType, IntType, UIntType, EnumType, TextType, DataType, StructType, ListType, AnyPointerType, element_size, is_pointer, struct_brand}
 use Rattle.capnp_records.specs.Facts.ListValues.{below_of}
-use Rattle.capnp_records.specs.Facts.Pointers.{values_of-nth}
-use Rattle.capnp_records.specs.Facts.Readers.{element-is-read}
+use Rattle.capnp_records.specs.Facts.Pointers.{values_of_nth}
+use Rattle.capnp_records.specs.Facts.Readers.{element_is_read}
 use Rattle.capnp_records.specs.Default.{read_of}
 use Rattle.capnp_records.specs.Reading.{Below, Reading, bodies_of, bytes_below, element_value, entered_value, kind_value, nth_reading, number_value, of_read, pointers_below, record_of, record_within, slot_value, struct_below, structs_below, tree_value, value_of, values_of}
 use Rattle.capnp_records.specs.Record as value
@@ -133,7 +133,7 @@ pub own_slot : (set : Schemas) (l : Levels) (s : StructTree) (o : ℕ) (d : Sche
 own_slot set l s o d t = go (is_pointer t)
   where
     go : (q : Bool) → IsOwn (elim q as (λ _. Value) [ true ↦ nth_reading (values_of set s.pointers) o l t | false ↦ number_value t (slot_number s.bytes o d t) ])
-    go true = subst (λ (r : Reading). IsOwn (r l t)) (sym (values_of-nth set s.pointers o)) (own_value set (nth_tree s.pointers o) l t)
+    go true = subst (λ (r : Reading). IsOwn (r l t)) (sym (values_of_nth set s.pointers o)) (own_value set (nth_tree s.pointers o) l t)
     go false = own_number t _
 
 -- what is there is read as it stands
@@ -189,8 +189,8 @@ null_json set left at form t (value.Fault kind) own h = absurd (true≢false h)
 
 -- ---- what stands under a field ----
 
-some-none : {n : ℕ} → Some n ≡ None → ⊥
-some-none e = cc
+some_none : {n : ℕ} → Some n ≡ None → ⊥
+some_none e = cc
 
 module _ (set : Schemas) (group : ℕ → Record) (l : Levels) (s : StructTree) (left : ℕ) (at : Layout) (form : Form) where
   slot_shown : (k : FieldKind) (t : SchemaType) (v : DynamicValue) → GroupFits set k t → kind_target k t ≡ None →
@@ -200,7 +200,7 @@ module _ (set : Schemas) (group : ℕ → Record) (l : Levels) (s : StructTree) 
   slot_shown (Slot o d) t v fits e there is under =
       own_json set (json_within set left) at form t (slot_value l s.bytes (values_of set s.pointers) o d t) (own_slot set l s o d t)
       ∙ (ap (json_within set left at form t) (sym (is ∙ there_read set d t (slot_value l s.bytes (values_of set s.pointers) o d t) there)) ∙ json_under set t left at form v under)
-  slot_shown (Group n) (StructType b g) v fits e there is under = absurd (some-none e)
+  slot_shown (Group n) (StructType b g) v fits e there is under = absurd (some_none e)
   slot_shown (Group n) t v fits e there is under = absurd fits
 
   refused_shown : (k : FieldKind) (t : SchemaType) (kind : ErrorKind) →
@@ -210,17 +210,17 @@ module _ (set : Schemas) (group : ℕ → Record) (l : Levels) (s : StructTree) 
   refused_shown (Slot o d) t kind there is =
       own_json set (json_within set left) at form t (slot_value l s.bytes (values_of set s.pointers) o d t) (own_slot set l s o d t)
       ∙ (ap (json_within set left at form t) (sym (is ∙ there_read set d t (slot_value l s.bytes (values_of set s.pointers) o d t) there)) ∙ fault_json set left at form t kind)
-  refused_shown (Group n) t kind there is = absurd (fault-struct is)
+  refused_shown (Group n) t kind there is = absurd (fault_struct is)
     where
-      fault-struct : {kind : ErrorKind} {r : Record} → value.Fault kind ≡ value.Struct r → ⊥
-      fault-struct e = cc
+      fault_struct : {kind : ErrorKind} {r : Record} → value.Fault kind ≡ value.Struct r → ⊥
+      fault_struct e = cc
 
   null_shown : (k : FieldKind) (t : SchemaType) → GroupFits set k t → kind_target k t ≡ None → is_there (kind_value group l s.bytes (values_of set s.pointers) k t) ≡ false →
       part_json set (json_within set left) at form t (kind_value group l s.bytes (values_of set s.pointers) k t) ≡ said (codes "null")
   null_shown (Slot o d) t fits e none =
       own_json set (json_within set left) at form t (slot_value l s.bytes (values_of set s.pointers) o d t) (own_slot set l s o d t)
       ∙ null_json set left at form t (slot_value l s.bytes (values_of set s.pointers) o d t) (own_slot set l s o d t) none
-  null_shown (Group n) (StructType b g) fits e none = absurd (some-none e)
+  null_shown (Group n) (StructType b g) fits e none = absurd (some_none e)
   null_shown (Group n) t fits e none = absurd fits
 
 -- ---- elements ----
@@ -239,17 +239,17 @@ own_element set x n (IntType k) i = tt {0}
 own_element set x n (UIntType k) i = tt {0}
 own_element set x n (EnumType m) i = tt {0}
 own_element set x n (StructType b g) i = own_entered (Left n) (value.Struct (record_of set (one_less (Left n)) ((below_of set x).element_body i).bytes ((below_of set x).element_body i).pointers b)) (tt {0})
-own_element set x n TextType i = subst IsOwn (sym (element-is-read set x n TextType i)) (own_value set (element_pointer x i n) (Left (element_levels x n)) TextType)
-own_element set x n DataType i = subst IsOwn (sym (element-is-read set x n DataType i)) (own_value set (element_pointer x i n) (Left (element_levels x n)) DataType)
-own_element set x n (ListType e) i = subst IsOwn (sym (element-is-read set x n (ListType e) i)) (own_value set (element_pointer x i n) (Left (element_levels x n)) (ListType e))
-own_element set x n AnyPointerType i = subst IsOwn (sym (element-is-read set x n AnyPointerType i)) (own_value set (element_pointer x i n) (Left (element_levels x n)) AnyPointerType)
+own_element set x n TextType i = subst IsOwn (sym (element_is_read set x n TextType i)) (own_value set (element_pointer x i n) (Left (element_levels x n)) TextType)
+own_element set x n DataType i = subst IsOwn (sym (element_is_read set x n DataType i)) (own_value set (element_pointer x i n) (Left (element_levels x n)) DataType)
+own_element set x n (ListType e) i = subst IsOwn (sym (element_is_read set x n (ListType e) i)) (own_value set (element_pointer x i n) (Left (element_levels x n)) (ListType e))
+own_element set x n AnyPointerType i = subst IsOwn (sym (element_is_read set x n AnyPointerType i)) (own_value set (element_pointer x i n) (Left (element_levels x n)) AnyPointerType)
 
 pub null_element : (left : ℕ) (at : Layout) (form : Form) (l : ListHandle) (i : ℕ) → true ≡ not (is_there (element_there l i)) → element_shown left at form l i ≡ said (codes "null")
-null_element left at form l i h = null_json (list_set l) left at form (element_of l) (element_there l i) (own_element (list_set l) (list_of (list_reader_of l)) (list_levels (list_reader_of l)) (element_of l) i) (not-true (is_there (element_there l i)) h)
+null_element left at form l i h = null_json (list_set l) left at form (element_of l) (element_there l i) (own_element (list_set l) (list_of (list_reader_of l)) (list_levels (list_reader_of l)) (element_of l) i) (not_true (is_there (element_there l i)) h)
   where
-    not-true : (q : Bool) → true ≡ not q → q ≡ false
-    not-true true e = e
-    not-true false e = refl
+    not_true : (q : Bool) → true ≡ not q → q ≡ false
+    not_true true e = e
+    not_true false e = refl
 
 -- ---- what was read ----
 

@@ -26,23 +26,23 @@ use Rattle.capnp_json.proofs.Puts.{same}
 
 -- ---- from field to field ----
 
-drop-next : (fs : List TypedField) (i : ℕ) → i < length fs → drop i fs ≡ unwrap_or (slice_get fs i) no_field ∷ drop (i + 1) fs
-drop-next [] i h = absurd (omega (arith, h))
-drop-next (f ∷ fs) zero h = refl
-drop-next (f ∷ fs) (suc i) h =
+drop_next : (fs : List TypedField) (i : ℕ) → i < length fs → drop i fs ≡ unwrap_or (slice_get fs i) no_field ∷ drop (i + 1) fs
+drop_next [] i h = absurd (omega (arith, h))
+drop_next (f ∷ fs) zero h = refl
+drop_next (f ∷ fs) (suc i) h =
     let e : suc i + 1 ≡ suc (i + 1) = omega arith in
-    drop-next fs i (omega (arith, h)) ∙ ap (λ n. unwrap_or (slice_get fs i) no_field ∷ drop n (f ∷ fs)) (sym e)
+    drop_next fs i (omega (arith, h)) ∙ ap (λ n. unwrap_or (slice_get fs i) no_field ∷ drop n (f ∷ fs)) (sym e)
 
-drop-end : (fs : List TypedField) (i : ℕ) → length fs ≤ i → drop i fs ≡ []
-drop-end [] zero h = refl
-drop-end [] (suc i) h = refl
-drop-end (f ∷ fs) zero h = absurd (omega (arith, h))
-drop-end (f ∷ fs) (suc i) h = drop-end fs i (omega (arith, h))
+drop_end : (fs : List TypedField) (i : ℕ) → length fs ≤ i → drop i fs ≡ []
+drop_end [] zero h = refl
+drop_end [] (suc i) h = refl
+drop_end (f ∷ fs) zero h = absurd (omega (arith, h))
+drop_end (f ∷ fs) (suc i) h = drop_end fs i (omega (arith, h))
 
-plain-next : (set : Schemas) (inner : Inner) (at : Layout) (part : TypedField → Value) (f : TypedField) (fs : List TypedField) →
+plain_next : (set : Schemas) (inner : Inner) (at : Layout) (part : TypedField → Value) (f : TypedField) (fs : List TypedField) →
     plain_items set inner at (f ∷ fs) (non_union_parts part (f ∷ fs))
     ≡ item_if (cond (is_member f.field) false (is_there (part f))) (item at f (part_json set inner at (form_of f) f.type (part f))) ++ plain_items set inner at fs (non_union_parts part fs)
-plain-next set inner at part f fs = go (is_member f.field)
+plain_next set inner at part f fs = go (is_member f.field)
   where
     go : (q : Bool) →
         item_if (not q && is_there (elim q as (λ _. Value) [ true ↦ value.Elsewhere | false ↦ part f ])) (item at f (part_json set inner at (form_of f) f.type (elim q as (λ _. Value) [ true ↦ value.Elsewhere | false ↦ part f ]))) ++ plain_items set inner at fs (non_union_parts part fs)
@@ -58,13 +58,13 @@ module _ (left : ℕ) (set : Schemas) (r : StructReader) (at : Layout) (b : ℕ)
   pub items_next : (i : ℕ) → i < length (fields_of set b) → (q : Bool) → q ≡ cond (is_member (field_at set b i).field) false (is_there (read_part_at set r (field_at set b i))) →
       items_onward false left set r at b i ≡ own_items q (field_at set b i) ++ items_onward false left set r at b (i + 1)
   items_next i lt q is =
-      ap (λ (fs : List TypedField). plain_items set (json_within set left) at fs (non_union_parts (read_part_at set r) fs) ++ member_items set (json_within set left) at b (union_at set r b)) (drop-next (fields_of set b) i lt)
-      ∙ (ap (λ (xs : List Out). xs ++ member_items set (json_within set left) at b (union_at set r b)) (plain-next set (json_within set left) at (read_part_at set r) (field_at set b i) (drop (i + 1) (fields_of set b)))
+      ap (λ (fs : List TypedField). plain_items set (json_within set left) at fs (non_union_parts (read_part_at set r) fs) ++ member_items set (json_within set left) at b (union_at set r b)) (drop_next (fields_of set b) i lt)
+      ∙ (ap (λ (xs : List Out). xs ++ member_items set (json_within set left) at b (union_at set r b)) (plain_next set (json_within set left) at (read_part_at set r) (field_at set b i) (drop (i + 1) (fields_of set b)))
       ∙ (append_assoc (own_items (cond (is_member (field_at set b i).field) false (is_there (read_part_at set r (field_at set b i)))) (field_at set b i)) (plain_items set (json_within set left) at (drop (i + 1) (fields_of set b)) (non_union_parts (read_part_at set r) (drop (i + 1) (fields_of set b)))) (member_items set (json_within set left) at b (union_at set r b))
       ∙ ap (λ (p : Bool). own_items p (field_at set b i) ++ items_onward false left set r at b (i + 1)) (sym is)))
 
   pub items_end : (i : ℕ) → length (fields_of set b) ≤ i → items_onward false left set r at b i ≡ member_items set (json_within set left) at b (union_at set r b)
-  items_end i le = ap (λ (fs : List TypedField). plain_items set (json_within set left) at fs (non_union_parts (read_part_at set r) fs) ++ member_items set (json_within set left) at b (union_at set r b)) (drop-end (fields_of set b) i le)
+  items_end i le = ap (λ (fs : List TypedField). plain_items set (json_within set left) at fs (non_union_parts (read_part_at set r) fs) ++ member_items set (json_within set left) at b (union_at set r b)) (drop_end (fields_of set b) i le)
 
   -- an item, and what is behind it
   pub item_first : (done next : Bool) (first : Bool) (i j : ℕ) (rest : List (ℕ × ℕ)) (x : Out) → items_onward done left set r at b i ≡ x ∷ items_onward next left set r at b j →
@@ -136,7 +136,7 @@ module _ (w : Walk) (done : Bool) (s : StructSchema) (i d : ℕ) (rest : List (�
 
 steps_next : (group : ℕ → ℕ) (fs : List TypedField) (i : ℕ) → i < length fs →
     steps_through group (drop i fs) ≡ steps_into group (kind_target (unwrap_or (slice_get fs i) no_field).field.kind (unwrap_or (slice_get fs i) no_field).type) + steps_through group (drop (i + 1) fs)
-steps_next group fs i lt = ap (steps_through group) (drop-next fs i lt)
+steps_next group fs i lt = ap (steps_through group) (drop_next fs i lt)
 
 -- past a field
 pub steps_past : (set : Schemas) (groups b i : ℕ) (rest : List (ℕ × ℕ)) → i < length (fields_of set b) →

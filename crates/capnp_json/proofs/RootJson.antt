@@ -33,8 +33,8 @@ Read = Result StructTree ErrorKind
 abbrev entered : StructTree → Read
 entered s = Ok s
 
-same-struct : (x y : StructTree) → entered x ≡ entered y → x ≡ y
-same-struct x y e = cc
+same_struct : (x y : StructTree) → entered x ≡ entered y → x ≡ y
+same_struct x y e = cc
 
 -- the refusal of a read
 abbrev told : Read → Out
@@ -44,40 +44,40 @@ told (Err kind) = Err (Unread kind)
 abbrev refused : ErrorKind → Read
 refused kind = Err kind
 
-ok-err : {s : StructTree} {kind : ErrorKind} → refused kind ≡ entered s → ⊥
-ok-err e = cc
+ok_err : {s : StructTree} {kind : ErrorKind} → refused kind ≡ entered s → ⊥
+ok_err e = cc
 
 module _ (set : Schemas) (b : ℕ) (indented : Bool) where
   -- the JSON of a struct's record, whose pointers have the levels that are left below a root
   abbrev struct_json : StructTree → Out
   struct_json s = json_of set indented (root_type set b) (struct_or_group (node_of set b).is_group (struct_record set (Left 63) s b))
 
-  entered-json : (root : Tree) (s : StructTree) → Ok s ≡ as_struct root 64 → struct_json s ≡ root_json set b indented (Ok root)
-  entered-json tree.Null s e = ap struct_json (same-struct s _ e)
-  entered-json (tree.Struct bytes ps) s e = ap struct_json (same-struct s _ e)
-  entered-json (tree.Voids n) s e = cc
-  entered-json (tree.Bits bs) s e = cc
-  entered-json (tree.Numbers w bytes) s e = cc
-  entered-json (tree.Pointers ps) s e = cc
-  entered-json (tree.Composite d p es) s e = cc
-  entered-json (tree.FaultLeaf k) s e = cc
+  entered_json : (root : Tree) (s : StructTree) → Ok s ≡ as_struct root 64 → struct_json s ≡ root_json set b indented (Ok root)
+  entered_json tree.Null s e = ap struct_json (same_struct s _ e)
+  entered_json (tree.Struct bytes ps) s e = ap struct_json (same_struct s _ e)
+  entered_json (tree.Voids n) s e = cc
+  entered_json (tree.Bits bs) s e = cc
+  entered_json (tree.Numbers w bytes) s e = cc
+  entered_json (tree.Pointers ps) s e = cc
+  entered_json (tree.Composite d p es) s e = cc
+  entered_json (tree.FaultLeaf k) s e = cc
 
   -- a root that is not read as a struct
-  refused-json : (root : Tree) (kind : ErrorKind) → refused kind ≡ as_struct root 64 → root_json set b indented (Ok root) ≡ Err (Unread kind)
-  refused-json tree.Null kind e = absurd (ok-err e)
-  refused-json (tree.Struct bytes ps) kind e = absurd (ok-err e)
-  refused-json (tree.Voids n) kind e = ap told (sym e)
-  refused-json (tree.Bits bs) kind e = ap told (sym e)
-  refused-json (tree.Numbers w bytes) kind e = ap told (sym e)
-  refused-json (tree.Pointers ps) kind e = ap told (sym e)
-  refused-json (tree.Composite d p es) kind e = ap told (sym e)
-  refused-json (tree.FaultLeaf k) kind e = ap told (sym e)
+  refused_json : (root : Tree) (kind : ErrorKind) → refused kind ≡ as_struct root 64 → root_json set b indented (Ok root) ≡ Err (Unread kind)
+  refused_json tree.Null kind e = absurd (ok_err e)
+  refused_json (tree.Struct bytes ps) kind e = absurd (ok_err e)
+  refused_json (tree.Voids n) kind e = ap told (sym e)
+  refused_json (tree.Bits bs) kind e = ap told (sym e)
+  refused_json (tree.Numbers w bytes) kind e = ap told (sym e)
+  refused_json (tree.Pointers ps) kind e = ap told (sym e)
+  refused_json (tree.Composite d p es) kind e = ap told (sym e)
+  refused_json (tree.FaultLeaf k) kind e = ap told (sym e)
 
   -- a root that is read as a struct
   json_of_root : (root : Tree) (s : StructTree) (m : ℕ) → Ok s ≡ as_struct root 64 → m + 1 ≡ 64 →
       json_of set indented (root_type set b) (struct_or_group (node_of set b).is_group (struct_record set (Left m) s b)) ≡ root_json set b indented (Ok root)
   json_of_root root s m e levels =
-      ap (λ n. json_of set indented (root_type set b) (struct_or_group (node_of set b).is_group (struct_record set (Left n) s b))) (omega (arith, levels)) ∙ entered-json root s e
+      ap (λ n. json_of set indented (root_type set b) (struct_or_group (node_of set b).is_group (struct_record set (Left n) s b))) (omega (arith, levels)) ∙ entered_json root s e
 
 -- no message, and no struct at its root
 pub no_message : (set : Schemas) (b : ℕ) (indented : Bool) (bytes : List ℕ) (kind : ErrorKind) → Err kind ≡ message_tree_of bytes → message_json set b indented bytes ≡ Err (Unread kind)
@@ -85,11 +85,11 @@ no_message set b indented bytes kind e = ap (root_json set b indented) (sym e)
 
 pub no_root : (set : Schemas) (b : ℕ) (indented : Bool) (bytes : List ℕ) (root x : Tree) (n : ℕ) (kind : ErrorKind) → Ok root ≡ message_tree_of bytes → x ≡ root → n ≡ 64 → Err kind ≡ as_struct x n → message_json set b indented bytes ≡ Err (Unread kind)
 no_root set b indented bytes root x n kind whole tree_is levels_are read =
-    ap (root_json set b indented) (sym whole) ∙ refused-json set b indented root kind (read ∙ ap₂ as_struct tree_is levels_are)
+    ap (root_json set b indented) (sym whole) ∙ refused_json set b indented root kind (read ∙ ap₂ as_struct tree_is levels_are)
 
-printed-is : (q : Bool) (h : StructHandle) (r : Record) → record_seen h ≡ r → struct_printed q h ≡ struct_or_group q r
-printed-is true h r e = ap value.Group e
-printed-is false h r e = ap value.Struct e
+printed_is : (q : Bool) (h : StructHandle) (r : Record) → record_seen h ≡ r → struct_printed q h ≡ struct_or_group q r
+printed_is true h r e = ap value.Group e
+printed_is false h r e = ap value.Struct e
 
 -- a reader is that of the struct at a message's root
 pub record IsRootReader (bytes : List ℕ) (root x : Tree) (n : ℕ) (r : StructReader) : Type 0 where
@@ -128,5 +128,5 @@ json_seen set b indented bytes root x n h s r at under =
     ap (λ y. json_of y indented (struct_type (schema_of h)) (value_printed (dynamic.Struct h))) in_set
     ∙ (ap (λ t. json_of set indented t (value_printed (dynamic.Struct h))) typed
     ∙ (ap (λ q. json_of set indented (root_type set b) (struct_printed q h)) group
-    ∙ (ap (json_of set indented (root_type set b)) (printed-is (node_of set b).is_group h _ seen)
+    ∙ (ap (json_of set indented (root_type set b)) (printed_is (node_of set b).is_group h _ seen)
     ∙ (json_of_root set b indented root (struct_of r) (struct_levels r) read_there (at.levels ∙ at.limit) ∙ ap (root_json set b indented) at.received))))

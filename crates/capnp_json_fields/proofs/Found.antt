@@ -24,8 +24,8 @@ enumerant_from name i xs = position_from (λ (x : Enumerant). bytes_eq (enumeran
 
 -- ---- one entry, and those behind it ----
 
-drop-next : {A : Type 0} (x : A) (xs : List A) (i : ℕ) → drop (i + 1) xs ≡ drop (suc i + 1) (x ∷ xs)
-drop-next x xs i = ap (λ (j : ℕ). drop j (x ∷ xs)) (next i)
+drop_next : {A : Type 0} (x : A) (xs : List A) (i : ℕ) → drop (i + 1) xs ≡ drop (suc i + 1) (x ∷ xs)
+drop_next x xs i = ap (λ (j : ℕ). drop j (x ∷ xs)) (next i)
   where
     next : (n : ℕ) → suc (n + 1) ≡ suc n + 1
     next n = omega arith
@@ -33,14 +33,14 @@ drop-next x xs i = ap (λ (j : ℕ). drop j (x ∷ xs)) (next i)
 got : {A : Type 0} (xs : List A) (i : ℕ) (d : A) → i < length xs → drop i xs ≡ unwrap_or (slice_get xs i) d ∷ drop (i + 1) xs
 got [] i d h = absurd (omega (arith, h))
 got (x ∷ xs) zero d h = refl
-got (x ∷ xs) (suc i) d h = got xs i d (omega (arith, h)) ∙ ap (λ ys. unwrap_or (slice_get xs i) d ∷ ys) (drop-next x xs i)
+got (x ∷ xs) (suc i) d h = got xs i d (omega (arith, h)) ∙ ap (λ ys. unwrap_or (slice_get xs i) d ∷ ys) (drop_next x xs i)
 
 got_field : (fs : List TypedField) (i : ℕ) → i < length fs → drop i (map (λ (f : TypedField). f.field) fs) ≡ (unwrap_or (slice_get fs i) no_field).field ∷ drop (i + 1) (map (λ (f : TypedField). f.field) fs)
 got_field [] i h = absurd (omega (arith, h))
 got_field (f ∷ fs) zero h = refl
 got_field (f ∷ fs) (suc i) h =
     got_field fs i (omega (arith, h))
-    ∙ ap (λ (ys : List Field). (unwrap_or (slice_get fs i) no_field).field ∷ ys) (drop-next f.field (map (λ (f : TypedField). f.field) fs) i)
+    ∙ ap (λ (ys : List Field). (unwrap_or (slice_get fs i) no_field).field ∷ ys) (drop_next f.field (map (λ (f : TypedField). f.field) fs) i)
 
 -- ---- from the first on, at an entry, and past the last ----
 

@@ -3,8 +3,8 @@ use Rattle.std.proofs.Common.{◌≡◌, ℕ, zero, suc, ◌+◌, ◌*◌, ◌/�
 use Rattle.std.specs.Prelude.{slice_index_or}
 use Rattle.capnp_device.specs.declared.error.ErrorKind.{ErrorKind}
 use Rattle.capnp_device.specs.declared.error.ErrorKind.TheVariants.{TooManySegments, Truncated}
-use Rattle.capnp_wire.specs.Facts.ByteRuns.{AreBytes-drop, AreBytes-take}
-use Rattle.capnp_wire.specs.Facts.Places.{IsWellFormed-tree_at}
+use Rattle.capnp_wire.specs.Facts.ByteRuns.{AreBytes_drop, AreBytes_take}
+use Rattle.capnp_wire.specs.Facts.Places.{IsWellFormed_tree_at}
 use Rattle.capnp_wire.specs.Locate.{Segments}
 use Rattle.capnp_wire.specs.Place.{root_tree}
 use Rattle.capnp_wire.specs.Slot.{little_endian}
@@ -21,15 +21,15 @@ use Rattle.capnp_json_laws.proofs.RootsBack.{roots_back}
 
 cut_formed : (k : ℕ) (table body : List ℕ) → AreBytes body → (i : ℕ) → AreBytes (get_or (cut_segments k table body) i [])
 cut_formed zero table body h i = λ j. omega arith
-cut_formed (suc k) table body h zero = AreBytes-take (8 * little_endian (take 4 table)) body h
-cut_formed (suc k) table body h (suc i) = cut_formed k (drop 4 table) (drop (8 * little_endian (take 4 table)) body) (AreBytes-drop (8 * little_endian (take 4 table)) body h) i
+cut_formed (suc k) table body h zero = AreBytes_take (8 * little_endian (take 4 table)) body h
+cut_formed (suc k) table body h (suc i) = cut_formed k (drop 4 table) (drop (8 * little_endian (take 4 table)) body) (AreBytes_drop (8 * little_endian (take 4 table)) body h) i
 
 first_formed : (segments : Segments) → AreSegments segments → AreBytes (slice_index_or segments 0 [])
 first_formed [] h = h 0
 first_formed (s ∷ ss) h = h 0
 
 tree_formed : (segments : Segments) → AreSegments segments → IsWellFormed (root_tree segments)
-tree_formed segments h = IsWellFormed-tree_at 64 segments (slice_index_or segments 0 []) 0 h (first_formed segments h)
+tree_formed segments h = IsWellFormed_tree_at 64 segments (slice_index_or segments 0 []) 0 h (first_formed segments h)
 
 abbrev AreFormed : Result Segments ErrorKind → Type 0
 AreFormed r = (root : Tree) → root_read r ≡ Ok root → IsWellFormed root
@@ -47,7 +47,7 @@ either_formed false r s h k = k
 table_formed : (count : ℕ) (table bytes : List ℕ) → AreBytes bytes → AreFormed (segments_after_table count table bytes)
 table_formed count table bytes h =
     either_formed (nat_lt (length bytes) (header_bytes count + 8 * total_words (length table / 4) table)) (Err Truncated) (Ok (cut_segments (length table / 4) table (drop (header_bytes count) bytes)))
-    (none_formed Truncated) (some_formed (cut_segments (length table / 4) table (drop (header_bytes count) bytes)) (cut_formed (length table / 4) table (drop (header_bytes count) bytes) (AreBytes-drop (header_bytes count) bytes h)))
+    (none_formed Truncated) (some_formed (cut_segments (length table / 4) table (drop (header_bytes count) bytes)) (cut_formed (length table / 4) table (drop (header_bytes count) bytes) (AreBytes_drop (header_bytes count) bytes h)))
 
 count_formed : (count : ℕ) (bytes : List ℕ) → AreBytes bytes → AreFormed (segments_after_count count bytes)
 count_formed count bytes h =

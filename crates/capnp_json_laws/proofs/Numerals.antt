@@ -5,15 +5,15 @@ use Rattle.std.proofs.lemmas.Bool.Decides.{nat_tests}
 use Rattle.std.proofs.lemmas.List.Elements.{All-from_get_or}
 use Rattle.std.proofs.lemmas.Nat.{xor_lt}
 use lib.IntN.{pos, negsuc}
-use Rattle.capnp_wire.specs.Facts.ByteRuns.{AreBytes-drop, little_endian-take-lt}
+use Rattle.capnp_wire.specs.Facts.ByteRuns.{AreBytes_drop, little_endian_take_lt}
 use Rattle.capnp_wire.specs.Slot.{number_at}
 use Rattle.capnp_wire.specs.WellFormed.{AreBytes, is_width}
-use Rattle.capnp_schema.specs.Facts.Bits.{bits_at-bounded}
+use Rattle.capnp_schema.specs.Facts.Bits.{bits_at_bounded}
 use Rattle.capnp_schema.specs.Ranges.{HasWidths}
 use Rattle.capnp_schema.specs.Schema.{Schemas, Value as SchemaValue}
 use Rattle.capnp_schema.specs.SlotValue.{bits_at, default_bits, slot_number}
 use Rattle.capnp_schema.specs.Types.{SchemaType, VoidType, BoolType, IntType, UIntType, EnumType, TextType, DataType, StructType, ListType, AnyPointerType, is_pointer, width}
-use Rattle.capnp_records.specs.Facts.Numbers.{pow-half}
+use Rattle.capnp_records.specs.Facts.Numbers.{pow_half}
 use Rattle.capnp_records.specs.Reading.{number_value, signed_number}
 use Rattle.capnp_from_json.specs.Integers.{is_in_signed}
 use Rattle.capnp_from_json.specs.Leaves.{Part}
@@ -55,7 +55,7 @@ signed_in bits n some small = go (nat_lt n (2 ^ (bits - 1))) refl
     go : (q : Bool) → nat_lt n (2 ^ (bits - 1)) ≡ q → is_in_signed bits (cond q (pos n) (negsuc (2 ^ bits - suc n))) ≡ true
     go true e = e
     go false e =
-        let half : 2 ^ bits ≡ 2 * 2 ^ (bits - 1) = pow-half bits some in
+        let half : 2 ^ bits ≡ 2 * 2 ^ (bits - 1) = pow_half bits some in
         let high : 2 ^ (bits - 1) ≤ n = ltb-false n (2 ^ (bits - 1)) e in
         lt-ltb (2 ^ bits - suc n) (2 ^ (bits - 1)) (omega arith)
 
@@ -76,10 +76,10 @@ number_fits set p (ListType e) n alone widths plain small = let no : ⊥ = cc in
 number_fits set p AnyPointerType n alone widths plain small = let no : ⊥ = cc in absurd no
 
 pub slot_small : (bytes : List ℕ) (offset : ℕ) (d : SchemaValue) (t : SchemaType) → default_bits d < 2 ^ width t → slot_number bytes offset d t < 2 ^ width t
-slot_small bytes offset d t small = xor_lt (width t) (bits_at bytes (offset * width t) (width t)) (default_bits d) (bits_at-bounded bytes (offset * width t) (width t)) small
+slot_small bytes offset d t small = xor_lt (width t) (bits_at bytes (offset * width t) (width t)) (default_bits d) (bits_at_bounded bytes (offset * width t) (width t)) small
 
 pub run_small : (w i : ℕ) (bytes : List ℕ) → IsTrue (is_width w) → AreBytes bytes → number_at w i bytes < 2 ^ (8 * w)
-run_small w i bytes h are = subst (λ x. number_at w i bytes < x) (bytes_power w h) (little_endian-take-lt w (drop (i * w) bytes) (AreBytes-drop (i * w) bytes are))
+run_small w i bytes h are = subst (λ x. number_at w i bytes < x) (bytes_power w h) (little_endian_take_lt w (drop (i * w) bytes) (AreBytes_drop (i * w) bytes are))
 
 pub all_bytes : (bytes : List ℕ) → AreBytes bytes → All (λ (b : ℕ). b < 256) bytes
 all_bytes bytes are = All-from_get_or (λ (b : ℕ). b < 256) bytes 0 (λ i inside. are i)

@@ -8,8 +8,8 @@ use Rattle.capnp_schema.specs.Query.{records_of}
 use Rattle.capnp_schema.specs.Schema.{Field, FieldKind, Group, Schemas, Slot, TypedField, field_at, fields_of, is_member, no_field, node_of}
 use Rattle.capnp_schema.specs.Types.{SchemaType, VoidType, BoolType, IntType, UIntType, EnumType, TextType, DataType, StructType, ListType, AnyPointerType, struct_number}
 use Rattle.capnp_records.specs.Default.{default_record}
-use Rattle.capnp_records.specs.Facts.Frame.{active_among-found}
-use Rattle.capnp_records.specs.Facts.GroupWrite.{bits_at-empty}
+use Rattle.capnp_records.specs.Facts.Frame.{active_among_found}
+use Rattle.capnp_records.specs.Facts.GroupWrite.{bits_at_empty}
 use Rattle.capnp_records.specs.Part.{value_count, with_part, with_value}
 use Rattle.capnp_records.specs.Reading.{active_among, discriminant, element_type, kind_value, non_union_parts, nth_reading, number_value, record_within, union_of}
 use Rattle.capnp_records.specs.Record as value
@@ -245,8 +245,8 @@ module _ (rules : Rules) (fair : AreFair rules) (n b : ℕ) where
   new_active : (i : ℕ) → HasUnion rules.set b → IsMemberAt rules.set b i → (field_at rules.set b i).field.discriminant_value ≡ 0 → new_union rules.set b ≡ Active i (new_part rules.set (field_at rules.set b i))
   new_active i has member first =
       ap (λ q. elim q as (λ _. Union) [ true ↦ NoUnion | false ↦ active_among (new_part rules.set) (fields_of rules.set b) 0 (discriminant (node_of rules.set b) []) ]) has
-      ∙ ap (active_among (new_part rules.set) (fields_of rules.set b) 0) (bits_at-empty _ 16)
-      ∙ active_among-found (new_part rules.set) (fields_of rules.set b) 0 i 0 member.inside member.member first (λ j inside other e. member.only j inside other (e ∙ sym first))
+      ∙ ap (active_among (new_part rules.set) (fields_of rules.set b) 0) (bits_at_empty _ 16)
+      ∙ active_among_found (new_part rules.set) (fields_of rules.set b) 0 i 0 member.inside member.member first (λ j inside other e. member.only j inside other (e ∙ sym first))
       ∙ ap (λ k. Active k (new_part rules.set (field_at rules.set b i))) (let e : 0 + i ≡ i = omega arith in e)
 
   first_missing : (there : Bool) (k : ℕ) → (there || not (k == 0)) ≡ false → (there ≡ false) × (k ≡ 0)

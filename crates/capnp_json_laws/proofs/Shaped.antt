@@ -18,8 +18,8 @@ use Rattle.capnp_schema.specs.Ranges.{HasRanges, HasWidths}
 use Rattle.capnp_schema.specs.Schema.{FieldKind, Group, Schemas, Slot, TypedField, field_at, fields_of, is_member, kind_default, node_of, Value as SchemaValue}
 use Rattle.capnp_schema.specs.SlotValue.{default_bits, slot_number}
 use Rattle.capnp_schema.specs.Types.{SchemaType, VoidType, BoolType, IntType, UIntType, EnumType, TextType, DataType, StructType, ListType, AnyPointerType, element_size, is_pointer, width}
-use Rattle.capnp_records.proofs.Readings.{AllBelow, AllReadings, bytes-below, nth-body, nth-reading, pointers-below, struct-below, AllBodies}
-use Rattle.capnp_records.specs.Facts.Members.{once-from_members}
+use Rattle.capnp_records.proofs.Readings.{AllBelow, AllReadings, bytes_below_are, nth_body_is, nth_reading_is, pointers_below_are, struct_below_are, AllBodies}
+use Rattle.capnp_records.specs.Facts.Members.{once_from_members}
 use Rattle.capnp_records.specs.Reading.{Below, Body, Reading, active_among, bodies_of, bytes_below, discriminant, element_value, elements_value, entered_value, first_pointer, kind_value, nth_body, nth_reading, non_union_parts, null, number_value, of_read, pointers_below, record_of, record_within, slot_value, struct_below, structs_below, tree_value, value_of, values_of}
 use Rattle.capnp_records.specs.Record as value
 use Rattle.capnp_records.specs.Record.{Levels, Value, Values, Union, Record, Parts, NoUnion, Active, Unknown, NoValues, MoreValues, is_there, levels_asked, one_less, values_from}
@@ -52,7 +52,7 @@ module _ (set : Schemas) (accepted : IsAccepted set) (ranges : HasRanges set) wh
   slot_fits l bytes rs all offset d t typed small = go (is_pointer t) refl
     where
       go : (q : Bool) → is_pointer t ≡ q → Fits set OfSlot t (elim q as (λ _. Value) [ true ↦ nth_reading rs offset l t | false ↦ number_value t (slot_number bytes offset d t) ])
-      go true e = nth-reading FitsAll null_fits rs all offset l t e typed
+      go true e = nth_reading_is FitsAll null_fits rs all offset l t e typed
       go false e = number_fits set OfSlot t (slot_number bytes offset d t) tt typed.1 e (slot_small bytes offset d t small)
 
   module _ (l : Levels) (bytes : List ℕ) (rs : List Reading) (all : AllReadings FitsAll rs) where
@@ -100,7 +100,7 @@ module _ (set : Schemas) (accepted : IsAccepted set) (ranges : HasRanges set) wh
         let inside : i < length (fields_of set b) = slice_get_within (fields_of set b) i f here in
         let member : is_member (field_at set b i).field ≡ true = ap (λ (g : TypedField). is_member g.field) (is_there_at set b i f here) ∙ (and_parts (is_member f.field) (f.field.discriminant_value == d) e).0 in (
           has,
-          record { inside = inside; member = member; only = λ j j_in other same. once-from_members set accepted b i j b_in inside j_in other same },
+          record { inside = inside; member = member; only = λ j j_in other same. once_from_members set accepted b i j b_in inside j_in other same },
           subst (λ (g : TypedField). Fits set (field_part g) g.type (part_within n f)) (sym (is_there_at set b i f here)) (field_fits n b i f fs shaped b_in shallow at),
         )
     active_by n b i d f fs shaped b_in shallow has at false e rest = rest
@@ -252,22 +252,22 @@ module _ (set : Schemas) (accepted : IsAccepted set) (ranges : HasRanges set) wh
   first_fits body all l t pointer typed = go (is_there (nth_reading body.pointers 0 l t) && (levels_asked l == 0))
     where
       go : (q : Bool) → Fits set OfSlot t (elim q as (λ _. Value) [ true ↦ tree_value set (tree.FaultLeaf fault.TooDeep) (struct_below []) l t | false ↦ nth_reading body.pointers 0 (one_less l) t ])
-      go true = tree_fits (tree.FaultLeaf fault.TooDeep) (struct_below []) tt (struct-below FitsAll null_fits [] tt) l t pointer typed
-      go false = nth-reading FitsAll null_fits body.pointers all 0 (one_less l) t pointer typed
+      go true = tree_fits (tree.FaultLeaf fault.TooDeep) (struct_below []) tt (struct_below_are FitsAll null_fits [] tt) l t pointer typed
+      go false = nth_reading_is FitsAll null_fits body.pointers all 0 (one_less l) t pointer typed
 
   structs_fit : (bs : List Body) → AllBodies FitsAll bs → AllBelow FitsAll (structs_below set bs)
-  structs_fit bs all = record { pointers = tt; element_pointers = λ i. first_fits (nth_body bs i) (nth-body FitsAll null_fits bs all i); element_bodies = nth-body FitsAll null_fits bs all }
+  structs_fit bs all = record { pointers = tt; element_pointers = λ i. first_fits (nth_body bs i) (nth_body_is FitsAll null_fits bs all i); element_bodies = nth_body_is FitsAll null_fits bs all }
 
   mutual
     pub reading_fits : (x : Tree) → IsWellFormed x → FitsAll (value_of set x)
     reading_fits tree.Null formed = null_fits
-    reading_fits (tree.Struct bytes ps) formed = tree_fits (tree.Struct bytes ps) (struct_below (values_of set ps)) formed (struct-below FitsAll null_fits (values_of set ps) (pointers_fit ps formed.4))
-    reading_fits (tree.Voids n) formed = tree_fits (tree.Voids n) (bytes_below (tree.Voids n)) formed (bytes-below FitsAll null_fits (tree.Voids n))
-    reading_fits (tree.Bits bs) formed = tree_fits (tree.Bits bs) (bytes_below (tree.Bits bs)) formed (bytes-below FitsAll null_fits (tree.Bits bs))
-    reading_fits (tree.Numbers w bytes) formed = tree_fits (tree.Numbers w bytes) (bytes_below (tree.Numbers w bytes)) formed (bytes-below FitsAll null_fits (tree.Numbers w bytes))
-    reading_fits (tree.Pointers ps) formed = tree_fits (tree.Pointers ps) (pointers_below (values_of set ps)) formed (pointers-below FitsAll null_fits (values_of set ps) (pointers_fit ps formed.1))
+    reading_fits (tree.Struct bytes ps) formed = tree_fits (tree.Struct bytes ps) (struct_below (values_of set ps)) formed (struct_below_are FitsAll null_fits (values_of set ps) (pointers_fit ps formed.4))
+    reading_fits (tree.Voids n) formed = tree_fits (tree.Voids n) (bytes_below (tree.Voids n)) formed (bytes_below_are FitsAll null_fits (tree.Voids n))
+    reading_fits (tree.Bits bs) formed = tree_fits (tree.Bits bs) (bytes_below (tree.Bits bs)) formed (bytes_below_are FitsAll null_fits (tree.Bits bs))
+    reading_fits (tree.Numbers w bytes) formed = tree_fits (tree.Numbers w bytes) (bytes_below (tree.Numbers w bytes)) formed (bytes_below_are FitsAll null_fits (tree.Numbers w bytes))
+    reading_fits (tree.Pointers ps) formed = tree_fits (tree.Pointers ps) (pointers_below (values_of set ps)) formed (pointers_below_are FitsAll null_fits (values_of set ps) (pointers_fit ps formed.1))
     reading_fits (tree.Composite d p es) formed = tree_fits (tree.Composite d p es) (structs_below set (bodies_of set es)) formed (structs_fit (bodies_of set es) (bodies_fit es d p formed.4))
-    reading_fits (tree.FaultLeaf k) formed = tree_fits (tree.FaultLeaf k) (struct_below []) formed (struct-below FitsAll null_fits [] tt)
+    reading_fits (tree.FaultLeaf k) formed = tree_fits (tree.FaultLeaf k) (struct_below []) formed (struct_below_are FitsAll null_fits [] tt)
 
     pub pointers_fit : (ps : Trees) → AreWellFormed ps → AllReadings FitsAll (values_of set ps)
     pointers_fit tree.NoTrees formed = tt

@@ -23,12 +23,12 @@ use Rattle.capnp_schema.specs.Types.{ListType, SchemaType, StructType, is_pointe
 use Rattle.capnp_schema.specs.declared.schema.fields.Field.{Field}
 use Rattle.capnp_schema.specs.declared.schema.structs.StructSchema.{StructSchema}
 use Rattle.capnp_records.proofs.Contents.{IsInside}
-use Rattle.capnp_records.proofs.GroupClear.{fits-group, within-cleared}
-use Rattle.capnp_records.proofs.SlotWrite.{slot-inside}
+use Rattle.capnp_records.proofs.GroupClear.{fits_group, within_cleared}
+use Rattle.capnp_records.proofs.SlotWrite.{slot_inside}
 use Rattle.capnp_records.specs.Default.{default_record}
-use Rattle.capnp_records.specs.Facts.FieldWrite.{fits-after, ready-switched}
-use Rattle.capnp_records.specs.Facts.GroupWrite.{turns-group, turns-trans}
-use Rattle.capnp_records.specs.Facts.Pointers.{nth_tree-put_same}
+use Rattle.capnp_records.specs.Facts.FieldWrite.{fits_after, ready_switched}
+use Rattle.capnp_records.specs.Facts.GroupWrite.{turns_group, turns_trans}
+use Rattle.capnp_records.specs.Facts.Pointers.{nth_tree_put_same}
 use Rattle.capnp_records.specs.Laws.{IsFieldAt}
 use Rattle.capnp_records.specs.Reading.{reads, value_of}
 use Rattle.capnp_records.specs.Record as value
@@ -68,13 +68,13 @@ module _ (f : Field) (s : StructTree) (at : IsFieldAt (field_set f) (field_brand
       m = switched_struct (node_of set (field_brand f)) (typed_of f).field s
 
       fits : Fits set (field_brand f) m
-      fits = fits-after _ set (field_brand f) s m (ready-switched set at.accepted at.ranges (field_brand f) (index_of f) at.brand at.index s room).writes room
+      fits = fits_after _ set (field_brand f) s m (ready_switched set at.accepted at.ranges (field_brand f) (index_of f) at.brand at.index s room).writes room
 
       go : (k : FieldKind) → (typed_of f).field.kind ≡ k → pointer_in f (slot_with f (At x) s) ≡ x
       go (Group n) k = absurd (true≢false (sym (ap is_group_field k) ∙ slot))
       go (Slot offset d) k =
-          let inside : IsInside m offset (typed_of f).type = slot-inside set at.accepted (field_brand f) (index_of f) at.brand at.index offset d k m fits in
-          nth_tree-put_same m.pointers (offset_of (typed_of f).field.kind) x (subst (λ i. i < tree_count m.pointers) (sym (ap offset_of k)) (inside.pointer pointer))
+          let inside : IsInside m offset (typed_of f).type = slot_inside set at.accepted (field_brand f) (index_of f) at.brand at.index offset d k m fits in
+          nth_tree_put_same m.pointers (offset_of (typed_of f).field.kind) x (subst (λ i. i < tree_count m.pointers) (sym (ap offset_of k)) (inside.pointer pointer))
 
 -- a slot that was written, by the word that leads there
 pub record SlotOpen (f : Field) (place : Place) (old m : Arena) (x : Tree) (word : ℕ) : Type 0 where
@@ -145,10 +145,10 @@ init_tree_is f schema of_set type_is =
 
 pub group_begun : (f : Field) (g : StructSchema) (s s' : StructTree) → IsFieldAt (field_set f) (field_brand f) (index_of f) → IsRoomFor f s → IsGroupAt f g → s' ≡ group_without f s → GroupStarted f g s s'
 group_begun f g s s' at room leads written = record {
-  room = subst (λ (z : Schemas). Fits z n s') (sym leads.set) (fits-after _ set n m s' cleared.writes fits);
+  room = subst (λ (z : Schemas). Fits z n s') (sym leads.set) (fits_after _ set n m s' cleared.writes fits);
   here = subst (λ (z : Schemas). reads z s' n ≡ default_record z Endless n) (sym leads.set) cleared.record_after;
-  puts = λ later r turns. turns-group set at.accepted b i n at.brand at.index leads.names s m later r ready
-      (turns-trans set n m s' later (default_record set Endless n) r cleared (subst (λ (z : Schemas). Turns z n s' later r) leads.set turns));
+  puts = λ later r turns. turns_group set at.accepted b i n at.brand at.index leads.names s m later r ready
+      (turns_trans set n m s' later (default_record set Endless n) r cleared (subst (λ (z : Schemas). Turns z n s' later r) leads.set turns));
 }
   where
     set : Schemas
@@ -167,14 +167,14 @@ group_begun f g s s' at room leads written = record {
     m = switched_struct (node_of set b) (typed_of f).field s
 
     ready : IsSwitchedTo set b (typed_of f) s m
-    ready = ready-switched set at.accepted at.ranges b i at.brand at.index s room
+    ready = ready_switched set at.accepted at.ranges b i at.brand at.index s room
 
     fits : Fits set n m
-    fits = fits-group set at.accepted b i n at.brand at.index leads.names m (fits-after _ set b s m ready.writes room)
+    fits = fits_group set at.accepted b i n at.brand at.index leads.names m (fits_after _ set b s m ready.writes room)
 
     in_set : n < length set.brands
     in_set = subst (λ (z : Schemas). n < length z.brands) leads.set leads.stands.number
 
     cleared : Turns set n m s' (default_record set Endless n)
     cleared = subst (λ y. Turns set n m y (default_record set Endless n)) (ap (λ k. cleared_group set k m) leads.number ∙ sym written)
-        (within-cleared (length set.brands) set at.accepted at.ranges n in_set (is_shallow set at.accepted b at.brand i at.index n leads.names) m fits)
+        (within_cleared (length set.brands) set at.accepted at.ranges n in_set (is_shallow set at.accepted b at.brand i at.index n leads.names) m fits)

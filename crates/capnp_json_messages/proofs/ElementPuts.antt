@@ -2,7 +2,7 @@
 use Rattle.std.proofs.Common.{ℕ, zero, suc, ◌≡◌, ◌<◌, ◌==◌, inl, inr, refl, Bool, true, false, cond, Option, Some, None, arith, ap, sym, subst, ◌∙◌}
 use Rattle.std.specs.Prelude.{⊤}
 use Rattle.std.proofs.lemmas.Bool.{true≢false}
-use Rattle.capnp_wire.specs.Facts.Room.{HasBit-there, HasNumber-there, HasPointer-there}
+use Rattle.capnp_wire.specs.Facts.Room.{HasBit_there, HasNumber_there, HasPointer_there}
 use Rattle.capnp_wire.specs.Elements.{HasPointer, HasStruct, reads_list, with_struct_element}
 use Rattle.capnp_wire.specs.Reading.{element_struct, list_length}
 use Rattle.capnp_wire.specs.Tree.{StructTree, Tree}
@@ -16,12 +16,12 @@ use Rattle.capnp_schema.specs.Accepted.{IsAccepted, NamesEntries}
 use Rattle.capnp_schema.specs.Facts.Layers.{seen_which}
 use Rattle.capnp_schema.specs.Schema.{Schemas}
 use Rattle.capnp_schema.specs.Types.{AnyPointerType, BoolType, DataType, EnumType, IntType, ListType, SchemaType, StructType, TextType, UIntType, VoidType, element_size, seen_type, seen_variant}
-use Rattle.capnp_records.proofs.ElementChanges.{change-struct}
-use Rattle.capnp_records.proofs.ElementEnd.{ElementCopied, ElementPut, ElementSuits, element-copies, element-gives, element-put, suits-stored}
-use Rattle.capnp_records.proofs.StepElement.{sound-put, struct-there}
+use Rattle.capnp_records.proofs.ElementChanges.{change_struct}
+use Rattle.capnp_records.proofs.ElementEnd.{ElementCopied, ElementPut, ElementSuits, element_copies, element_gives, element_put, suits_stored}
+use Rattle.capnp_records.proofs.StepElement.{sound_put, struct_there}
 use Rattle.capnp_records.specs.Call.{Source}
-use Rattle.capnp_records.specs.Facts.ListValues.{count-values_from, element-changed, list-read, nth-values_from}
-use Rattle.capnp_records.specs.Facts.Numbers.{IsStored, stored-given}
+use Rattle.capnp_records.specs.Facts.ListValues.{count_values_from, element_changed, list_read, nth_values_from}
+use Rattle.capnp_records.specs.Facts.Numbers.{IsStored, stored_given}
 use Rattle.capnp_records.specs.Given.{Copies, Fails, Gives, Given, given_element, given_slot}
 use Rattle.capnp_records.specs.Operation.{new_element}
 use Rattle.capnp_records.specs.Part.{nth_value, value_count, with_value}
@@ -48,35 +48,35 @@ use Rattle.capnp_json_messages.proofs.LeafContents.{GivesLeaf, GivesValue, gives
 
 module _ (set : Schemas) (x : Tree) (j : ℕ) (vs : Values) (formed : IsWellFormed x) (inside : j < value_count vs) where
   in_list : (e : SchemaType) → IsListOf set e x vs → j < list_length x
-  in_list e list = omega (arith, inside, ap value_count (list-read set x e vs list.reads_as).same, count-values_from (seen_element set x e) 0 (list_length x))
+  in_list e list = omega (arith, inside, ap value_count (list_read set x e vs list.reads_as).same, count_values_from (seen_element set x e) 0 (list_length x))
 
   reads_it : (e : SchemaType) → IsListOf set e x vs → reads_list (element_size e) x ≡ true
-  reads_it e list = (list-read set x e vs list.reads_as).reads_it
+  reads_it e list = (list_read set x e vs list.reads_as).reads_it
 
   room_by : (v : TypeVariant) → IsListOf set (seen_variant v) x vs → HasElementThere (seen_variant v) x j
   room_by variant.Void l = tt
-  room_by variant.Bool l = HasBit-there x j (reads_it _ l) (in_list _ l)
-  room_by variant.Int8 l = HasNumber-there Byte 1 x j refl refl (reads_it _ l) formed (in_list _ l)
-  room_by variant.UInt8 l = HasNumber-there Byte 1 x j refl refl (reads_it _ l) formed (in_list _ l)
-  room_by variant.Int16 l = HasNumber-there TwoBytes 2 x j refl refl (reads_it _ l) formed (in_list _ l)
-  room_by variant.UInt16 l = HasNumber-there TwoBytes 2 x j refl refl (reads_it _ l) formed (in_list _ l)
-  room_by variant.Int32 l = HasNumber-there FourBytes 4 x j refl refl (reads_it _ l) formed (in_list _ l)
-  room_by variant.UInt32 l = HasNumber-there FourBytes 4 x j refl refl (reads_it _ l) formed (in_list _ l)
-  room_by variant.Int64 l = HasNumber-there EightBytes 8 x j refl refl (reads_it _ l) formed (in_list _ l)
-  room_by variant.UInt64 l = HasNumber-there EightBytes 8 x j refl refl (reads_it _ l) formed (in_list _ l)
-  room_by (variant.Enum e) l = HasNumber-there TwoBytes 2 x j refl refl (reads_it _ l) formed (in_list _ l)
-  room_by variant.Text l = HasPointer-there x j (reads_it _ l) formed (in_list _ l)
-  room_by variant.«Data» l = HasPointer-there x j (reads_it _ l) formed (in_list _ l)
-  room_by (variant.Struct z) l = struct-there set z.number z.generic x j (reads_it _ l) l.sound (in_list _ l)
-  room_by (variant.List t) l = HasPointer-there x j (reads_it _ l) formed (in_list _ l)
-  room_by variant.AnyPointer l = HasPointer-there x j (reads_it _ l) formed (in_list _ l)
+  room_by variant.Bool l = HasBit_there x j (reads_it _ l) (in_list _ l)
+  room_by variant.Int8 l = HasNumber_there Byte 1 x j refl refl (reads_it _ l) formed (in_list _ l)
+  room_by variant.UInt8 l = HasNumber_there Byte 1 x j refl refl (reads_it _ l) formed (in_list _ l)
+  room_by variant.Int16 l = HasNumber_there TwoBytes 2 x j refl refl (reads_it _ l) formed (in_list _ l)
+  room_by variant.UInt16 l = HasNumber_there TwoBytes 2 x j refl refl (reads_it _ l) formed (in_list _ l)
+  room_by variant.Int32 l = HasNumber_there FourBytes 4 x j refl refl (reads_it _ l) formed (in_list _ l)
+  room_by variant.UInt32 l = HasNumber_there FourBytes 4 x j refl refl (reads_it _ l) formed (in_list _ l)
+  room_by variant.Int64 l = HasNumber_there EightBytes 8 x j refl refl (reads_it _ l) formed (in_list _ l)
+  room_by variant.UInt64 l = HasNumber_there EightBytes 8 x j refl refl (reads_it _ l) formed (in_list _ l)
+  room_by (variant.Enum e) l = HasNumber_there TwoBytes 2 x j refl refl (reads_it _ l) formed (in_list _ l)
+  room_by variant.Text l = HasPointer_there x j (reads_it _ l) formed (in_list _ l)
+  room_by variant.«Data» l = HasPointer_there x j (reads_it _ l) formed (in_list _ l)
+  room_by (variant.Struct z) l = struct_there set z.number z.generic x j (reads_it _ l) l.sound (in_list _ l)
+  room_by (variant.List t) l = HasPointer_there x j (reads_it _ l) formed (in_list _ l)
+  room_by variant.AnyPointer l = HasPointer_there x j (reads_it _ l) formed (in_list _ l)
 
   pub room_at : (t : TypeHandle) → IsListOf set (seen_type t) x vs → HasElementThere (seen_type t) x j
   room_at t list = subst (λ (e : SchemaType). HasElementThere e x j) (seen_which t) (room_by (variant_of t) (subst (λ (e : SchemaType). IsListOf set e x vs) (sym (seen_which t)) list))
 
   -- an element of a list of structs is there
   pub room_of_struct : (b g : ℕ) → IsListOf set (StructType b g) x vs → HasStruct x j
-  room_of_struct b g list = struct-there set b g x j (reads_it _ list) list.sound (in_list _ list)
+  room_of_struct b g list = struct_there set b g x j (reads_it _ list) list.sound (in_list _ list)
 
 -- ---- rows of values ----
 
@@ -125,10 +125,10 @@ pub record IsElementContent (set : Schemas) (t : SchemaType) (c : Content) (v : 
 
 pub content_at : (set : Schemas) (t : SchemaType) (s : Source) (v : Value) → SourceFits s → GivesValue (given_element set t s) v → IsElementContent set t (element_content set t s) v
 content_at set t s v fits (inl e) =
-    let stored : IsStored t v = stored-given set t s v (element-gives set t s v e) fits in
-    subst (λ g. IsElementContent set t (element_given t s g) v) (sym e) (record { suits = suits-stored t v stored; reads_as = stored.reads_back })
+    let stored : IsStored t v = stored_given set t s v (element_gives set t s v e) fits in
+    subst (λ g. IsElementContent set t (element_given t s g) v) (sym e) (record { suits = suits_stored t v stored; reads_as = stored.reads_back })
 content_at set t s v fits (inr (y, past, e)) =
-    let copied : ElementCopied set t (element_source_tree s) v = element-copies set t s y past v e fits in
+    let copied : ElementCopied set t (element_source_tree s) v = element_copies set t s y past v e fits in
     subst (λ g. IsElementContent set t (element_given t s g) v) (sym e) (record { suits = copied.suits; reads_as = copied.reads_as })
 
 pub gives_element : (set : Schemas) (t : SchemaType) (l : Leaf) (s : Source) → leaf_source l ≡ Some s → is_typed t l ≡ true → GivesValue (given_element set t s) (leaf_value l)
@@ -140,7 +140,7 @@ gives_element set t l s e typed =
 pub content_put : (set : Schemas) → IsAccepted set → (t : SchemaType) (x x' : Tree) (j : ℕ) (c : Content) (v : Value) (vs : Values) → NamesEntries set t → HasElementThere t x j → IsElementContent set t c v → x' ≡ element_written t x j c
     → IsListOf set t x vs → IsListOf set t x' (with_value vs j v)
 content_put set accepted t x x' j c v vs entries room content written list =
-    let put : ElementPut set t x j vs c = element-put set accepted t x j vs c entries list.sound room content.suits list.reads_as in
+    let put : ElementPut set t x j vs c = element_put set accepted t x j vs c entries list.sound room content.suits list.reads_as in
     record {
       reads_as = ap (λ (y : Tree). value_of set y Endless (ListType t)) written ∙ (put.reads_as ∙ ap (λ w. value.Elements (with_value vs j w)) content.reads_as);
       sound = subst (λ (y : Tree). ListSound set t y) (sym written) put.sound;
@@ -170,6 +170,6 @@ null_stays set t x j v e vs list inside fresh = subst (IsListOf set t x) (sym (p
 
 pub struct_puts : (set : Schemas) (b g : ℕ) (x x' : Tree) (j : ℕ) (s : StructTree) → HasStruct x j → Fits set b s → x' ≡ with_struct_element j s x → PutsAt set (StructType b g) j x x' (value.Struct (reads set s b))
 struct_puts set b g x x' j s there fits written vs list inside fresh = record {
-  reads_as = ap (λ (y : Tree). value_of set y Endless (ListType (StructType b g))) written ∙ element-changed set (StructType b g) x j (with_struct_element j s x) (value.Struct (reads set s b)) vs (change-struct set b g x j s there) list.reads_as;
-  sound = subst (λ (y : Tree). ListSound set (StructType b g) y) (sym written) (sound-put set b g x j s there list.sound fits);
+  reads_as = ap (λ (y : Tree). value_of set y Endless (ListType (StructType b g))) written ∙ element_changed set (StructType b g) x j (with_struct_element j s x) (value.Struct (reads set s b)) vs (change_struct set b g x j s there) list.reads_as;
+  sound = subst (λ (y : Tree). ListSound set (StructType b g) y) (sym written) (sound_put set b g x j s there list.sound fits);
 }

@@ -6,7 +6,7 @@ use Rattle.capnp_wire.specs.Tree.{StructTree, Tree}
 use Rattle.capnp_wire.specs.WellFormed.{IsWellFormed}
 use Rattle.capnp_schema.specs.FieldLists.{field_schema, index_of, typed_of}
 use Rattle.capnp_schema.specs.declared.schema.fields.Field.{Field}
-use Rattle.capnp_records.specs.Facts.FieldWrite.{fits-after}
+use Rattle.capnp_records.specs.Facts.FieldWrite.{fits_after}
 use Rattle.capnp_records.specs.Part.{with_part}
 use Rattle.capnp_records.specs.Reading.{reads}
 use Rattle.capnp_records.specs.Record.{Record}
@@ -44,7 +44,7 @@ module _ (f : Field) (strict : Bool) (text : List ℕ) (reading : Reading) (byte
   holder_read s s' t anew is formed read = record {
     here = subst (λ (x : Tree). IsTrue (is_struct x)) (sym is) refl;
     room = subst (λ (x : Tree). IsRoomFor f (struct_in x)) (sym is)
-        (fits-after _ (field_set f) (field_brand f) s s' read.puts.writes (new_room (field_schema f) s anew));
+        (fits_after _ (field_set f) (field_brand f) s s' read.puts.writes (new_room (field_schema f) s anew));
     formed = formed;
     value = read.value;
     is = λ rules are. told rules ∙ read.is rules are;

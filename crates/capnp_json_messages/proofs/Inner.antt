@@ -18,9 +18,9 @@ use Rattle.capnp_schema.specs.Schema.{Schemas}
 use Rattle.capnp_schema.specs.StructHandles.{generic_of, number_of, set_of}
 use Rattle.capnp_schema.specs.Types.{ListType, SchemaType, StructType, seen_type}
 use Rattle.capnp_schema.specs.declared.schema.structs.StructSchema.{StructSchema}
-use Rattle.capnp_records.proofs.ElementChanges.{pointer-here}
-use Rattle.capnp_records.proofs.StepElement.{fits-at, nth-seen}
-use Rattle.capnp_records.specs.Facts.ListValues.{list-read}
+use Rattle.capnp_records.proofs.ElementChanges.{pointer_here}
+use Rattle.capnp_records.proofs.StepElement.{fits_at, nth_seen}
+use Rattle.capnp_records.specs.Facts.ListValues.{list_read}
 use Rattle.capnp_records.specs.Part.{value_count, with_value}
 use Rattle.capnp_records.specs.Reading.{reads, value_of}
 use Rattle.capnp_records.specs.Record as value
@@ -43,8 +43,8 @@ pub inner_begun : (schema : StructSchema) (word j : ℕ) (now : Arena) (q : Plac
     → InnerStarted schema word j now q
 inner_begun schema word j now q has there planted is leaves = record {
   planted = planted;
-  room = subst (λ (y : StructTree). Fits set b y) (sym is) (fits-at set b g x j there has.list.sound);
-  here = ap (λ (y : StructTree). reads set y b) is ∙ same_struct (sym (nth-seen set x (StructType b g) has.values j (list-read set x (StructType b g) has.values has.list.reads_as) has.inside).1 ∙ has.as_new);
+  room = subst (λ (y : StructTree). Fits set b y) (sym is) (fits_at set b g x j there has.list.sound);
+  here = ap (λ (y : StructTree). reads set y b) is ∙ same_struct (sym (nth_seen set x (StructType b g) has.values j (list_read set x (StructType b g) has.values has.list.reads_as) has.inside).1 ∙ has.as_new);
   frame = λ later left. let l = leaves (segment later) left.planted left.changes in record { forest = l.forest; changes = l.changes };
   puts = λ later left fits. struct_puts set b g x (tree (segment later) word) j (built_at later q) there fits (leaves (segment later) left.planted left.changes).tree;
 }
@@ -75,7 +75,7 @@ pub inner_list_begun : (set : Schemas) → IsAccepted set → (e : SchemaType) (
     → InnerListStarted set e word j count old m w
 inner_list_begun set accepted e word j count old m w entries (there, still, written) frame forest here leaves = record {
   forest = forest;
-  here = here ∙ (ap (λ (y : Tree). element_pointer y j 1) written ∙ pointer-here (tree (segment old) word) j (new_list set e count) there);
+  here = here ∙ (ap (λ (y : Tree). element_pointer y j 1) written ∙ pointer_here (tree (segment old) word) j (new_list set e count) there);
   frame = λ later left. let l = leaves (segment later) left.forest left.changes in record { forest = l.forest; changes = at_then frame.changes l.changes };
   puts = λ later left vs list inside fresh.
       subst (IsListOf set (ListType e) (tree (segment later) word)) (put_twice vs j (value_of set (new_list set e count) Endless (ListType e)) (value_of set (tree (segment later) w) Endless (ListType e)))

@@ -11,9 +11,9 @@ use Rattle.capnp_schema.specs.SlotValue.{default_bits}
 use Rattle.capnp_schema.specs.Types.{AnyPointerType, BoolType, DataType, EnumType, IntType, ListType, SchemaType, StructType, TextType, UIntType, VoidType, width}
 use Rattle.capnp_schema.specs.declared.schema.fields.Field.{Field}
 use Rattle.capnp_records.specs.Call.{Source}
-use Rattle.capnp_records.specs.Facts.GroupWrite.{cleared-value, suits-cleared}
-use Rattle.capnp_records.specs.Facts.NewTrees.{IsCopied, copied-given}
-use Rattle.capnp_records.specs.Facts.Numbers.{IsStored, number-content, stored-given, suits-number}
+use Rattle.capnp_records.specs.Facts.GroupWrite.{cleared_content_value, suits_cleared}
+use Rattle.capnp_records.specs.Facts.NewTrees.{IsCopied, copied_given}
+use Rattle.capnp_records.specs.Facts.Numbers.{IsStored, number_content_value, stored_given, suits_number}
 use Rattle.capnp_records.specs.Given.{Copies, Fails, Gives, Given, given_slot}
 use Rattle.capnp_records.specs.Laws.{IsFieldAt}
 use Rattle.capnp_records.specs.Reading.{slot_value}
@@ -65,13 +65,13 @@ pub slot_content : (f : Field) (s : Source) (v : Value) → IsFieldAt (field_set
 slot_content f s v at fits (inl e) =
     let d : SchemaValue = default_of (typed_of f).field in
     let t : SchemaType = (typed_of f).type in
-    let stored : IsStored t v = stored-given (field_set f) t s v e fits in
+    let stored : IsStored t v = stored_given (field_set f) t s v e fits in
     subst (λ g. IsContentOf f (given_content d t s g) v) (sym e)
-    (record { suits = suits-number d t v stored (at.ranges.masks (field_brand f) (index_of f) at.brand at.index); reads_as = number-content (field_set f) d t v stored })
+    (record { suits = suits_number d t v stored (at.ranges.masks (field_brand f) (index_of f) at.brand at.index); reads_as = number_content_value (field_set f) d t v stored })
 slot_content f s v at fits (inr (x, past, e)) =
     let d : SchemaValue = default_of (typed_of f).field in
     let t : SchemaType = (typed_of f).type in
-    let copied = copied-given (field_set f) t s x past v e fits in
+    let copied = copied_given (field_set f) t s x past v e fits in
     subst (λ g. IsContentOf f (given_content d t s g) v) (sym e) (record { suits = copied.pointer; reads_as = copied.reads_as })
 
 -- what a null pointer reads as
@@ -85,8 +85,8 @@ null_is t offset d e = absurd (true≢false (sym e))
 
 pub null_content : (f : Field) → is_typed (typed_of f).type leaf.Null ≡ true → IsContentOf f (cleared_content (typed_of f).type) (value.Missing Endless)
 null_content f e = record {
-  suits = suits-cleared (typed_of f).type;
-  reads_as = cleared-value (field_set f) 0 (default_of (typed_of f).field) (typed_of f).type ∙ null_is (typed_of f).type 0 (default_of (typed_of f).field) e;
+  suits = suits_cleared (typed_of f).type;
+  reads_as = cleared_content_value (field_set f) 0 (default_of (typed_of f).field) (typed_of f).type ∙ null_is (typed_of f).type 0 (default_of (typed_of f).field) e;
 }
 
 -- ---- a leaf in a slot ----

@@ -7,8 +7,8 @@ use Rattle.capnp_schema.specs.Query.{records_of}
 use Rattle.capnp_schema.specs.StructHandles.{number_of, set_of}
 use Rattle.capnp_schema.specs.declared.schema.fields.Field.{Field}
 use Rattle.capnp_schema.specs.declared.schema.structs.StructSchema.{StructSchema}
-use Rattle.capnp_records.specs.Facts.FieldWrite.{fits-after, writes-refl}
-use Rattle.capnp_records.specs.Facts.GroupWrite.{turns-trans}
+use Rattle.capnp_records.specs.Facts.FieldWrite.{fits_after, writes_refl}
+use Rattle.capnp_records.specs.Facts.GroupWrite.{turns_trans}
 use Rattle.capnp_records.specs.Part.{with_part}
 use Rattle.capnp_records.specs.Reading.{reads}
 use Rattle.capnp_records.specs.Record.{Record, Value}
@@ -35,7 +35,7 @@ abbrev pub record_at : StructSchema → StructTree → Record
 record_at schema s = reads (set_of schema) s (number_of schema)
 
 pub turns_same : (schema : StructSchema) (s : StructTree) → Turns (set_of schema) (number_of schema) s s (record_at schema s)
-turns_same schema s = record { writes = writes-refl (struct_spots (set_of schema) (number_of schema)) s; record_after = refl }
+turns_same schema s = record { writes = writes_refl (struct_spots (set_of schema) (number_of schema)) s; record_after = refl }
 
 -- ---- a member ----
 
@@ -94,7 +94,7 @@ module _ (steps : StandsInSteps) (reading : Reading) (levels : ℕ) (f : Field) 
       → FieldRead f reading.strict (field_json reading levels f (member_value bytes)) s s' → MemberRead (field_schema f) reading levels bytes next given given' s s'
   own_read next s' room next_is read = record {
     turns = record { writes = read.puts.writes; record_after = refl };
-    room = fits-after _ (field_set f) (field_brand f) s s' read.puts.writes room;
+    room = fits_after _ (field_set f) (field_brand f) s s' read.puts.writes room;
     fewer = next_is.fewer;
     goes_on = λ rules are.
         named_is rules are
@@ -147,7 +147,7 @@ module _ (schema : StructSchema) (reading : Reading) (levels : ℕ) (first : Opt
   pub members_next : (bytes : List ℕ) (at next : Option (List ℕ)) (given' : List (Option ℕ)) (s' : StructTree) → at ≡ Some bytes → MembersSoFar schema reading levels first at given s m
       → MemberRead schema reading levels bytes next given given' m s' → MembersSoFar schema reading levels first next given' s s'
   members_next bytes at next given' s' is so_far read = record {
-    turns = turns-trans (set_of schema) (number_of schema) s m s' (record_at schema m) (record_at schema s') so_far.turns read.turns;
+    turns = turns_trans (set_of schema) (number_of schema) s m s' (record_at schema m) (record_at schema s') so_far.turns read.turns;
     room = read.room;
     goes_on = λ rules are. so_far.goes_on rules are ∙ (ap (λ (o : Option (List ℕ)). members_json reading levels schema o given (record_at schema m) rules) is ∙ read.goes_on rules are);
   }

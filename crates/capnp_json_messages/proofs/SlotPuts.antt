@@ -6,7 +6,7 @@ use Rattle.capnp_schema.specs.Facts.Groups.{is_shallow}
 use Rattle.capnp_schema.specs.FieldLists.{index_of, typed_of}
 use Rattle.capnp_schema.specs.Schema.{FieldKind, Group, Schemas, Slot, TypedField, Value as SchemaValue, default_of, kind_default, node_of}
 use Rattle.capnp_schema.specs.declared.schema.fields.Field.{Field}
-use Rattle.capnp_records.proofs.SlotWrite.{turns-with_slot}
+use Rattle.capnp_records.proofs.SlotWrite.{turns_with_slot}
 use Rattle.capnp_records.specs.Laws.{IsFieldAt}
 use Rattle.capnp_records.specs.Part.{with_part}
 use Rattle.capnp_records.specs.Reading.{reads}
@@ -43,7 +43,7 @@ module _ (f : Field) (s : StructTree) (at : IsFieldAt (field_set f) (field_brand
       go (Group n) k = absurd (true≢false (sym (ap is_group_field k) ∙ slot))
       go (Slot offset d) k =
           let t : after (content_value set d field.type c) (with_slot set b field offset c s) =
-          turns-with_slot set at.accepted at.ranges b (index_of f) at.brand at.index offset d k s room c content.suits in
+          turns_with_slot set at.accepted at.ranges b (index_of f) at.brand at.index offset d k s room c content.suits in
           let put : after v (with_slot set b field offset c s) =
           subst (λ w. after w (with_slot set b field offset c s)) (ap (λ (x : SchemaValue). content_value set x field.type c) (sym (ap kind_default k)) ∙ content.reads_as) t in
           subst (after v) (ap (λ n. with_slot set b field n c s) (sym (ap offset_of k)) ∙ sym written) put

@@ -32,9 +32,9 @@ use Rattle.capnp_patch.specs.Gets.{Reached, got_text, value_part_seen, path_read
 
 -- ---- the text of a part ----
 
-printed-is : (q : Bool) (h : StructHandle) → struct_printed q h ≡ struct_or_group q (record_seen h)
-printed-is true h = refl
-printed-is false h = refl
+printed_is : (q : Bool) (h : StructHandle) → struct_printed q h ≡ struct_or_group q (record_seen h)
+printed_is true h = refl
+printed_is false h = refl
 
 -- the text of a value of a set is that of the part that it is seen as
 part_text : (set : Schemas) (indented : Bool) (v : DynamicValue) → IsOf set (type_seen v) v → printed_text indented v ≡ reached_text set indented (Ok (value_part_seen v))
@@ -52,7 +52,7 @@ part_text set indented (dynamic.Enum e) is = ap (λ (y : Schemas). text_of y ind
 part_text set indented (dynamic.Text t) is = refl
 part_text set indented (dynamic.«Data» bytes) is = refl
 part_text set indented (dynamic.Struct s) is =
-    ap (text_of (set_of (schema_of s)) indented (struct_type (schema_of s))) (printed-is (node_of (set_of (schema_of s)) (number_of (schema_of s))).is_group s)
+    ap (text_of (set_of (schema_of s)) indented (struct_type (schema_of s))) (printed_is (node_of (set_of (schema_of s)) (number_of (schema_of s))).is_group s)
     ∙ ap (λ (y : Schemas). text_of y indented (struct_type (schema_of s)) (struct_or_group (node_of y (number_of (schema_of s))).is_group (record_seen s))) is.1
 part_text set indented (dynamic.List l) is = ap (λ (y : Schemas). text_of y indented (type_seen (dynamic.List l)) (value_seen (dynamic.List l))) is.0
 part_text set indented (dynamic.AnyPointer p) is = refl
@@ -68,11 +68,11 @@ refused kind = Err kind
 abbrev unreached : ErrorKind → Reached
 unreached kind = Err kind
 
-same-struct : (x y : StructTree) → entered x ≡ entered y → x ≡ y
-same-struct x y e = cc
+same_struct : (x y : StructTree) → entered x ≡ entered y → x ≡ y
+same_struct x y e = cc
 
-same-kind : (k j : ErrorKind) → refused k ≡ refused j → unreached j ≡ unreached k
-same-kind k j e = cc
+same_kind : (k j : ErrorKind) → refused k ≡ refused j → unreached j ≡ unreached k
+same_kind k j e = cc
 
 abbrev struct_part : SchemaType → Record → Reached
 struct_part t r = Ok (record { type = t; value = value.Struct r })
@@ -84,25 +84,25 @@ module _ (set : Schemas) (b : ℕ) where
   abbrev tree_reached : Tree → Reached
   tree_reached root = reached_value (root_type set b) (message_root_value set b root)
 
-  entered-root : (root : Tree) (s : StructTree) → Ok s ≡ as_struct root 64 → root_part s ≡ tree_reached root
-  entered-root tree.Null s e = ap root_part (same-struct s _ e)
-  entered-root (tree.Struct bytes ps) s e = ap root_part (same-struct s _ e)
-  entered-root (tree.Voids n) s e = cc
-  entered-root (tree.Bits bs) s e = cc
-  entered-root (tree.Numbers w bytes) s e = cc
-  entered-root (tree.Pointers ps) s e = cc
-  entered-root (tree.Composite d p es) s e = cc
-  entered-root (tree.FaultLeaf k) s e = cc
+  entered_root : (root : Tree) (s : StructTree) → Ok s ≡ as_struct root 64 → root_part s ≡ tree_reached root
+  entered_root tree.Null s e = ap root_part (same_struct s _ e)
+  entered_root (tree.Struct bytes ps) s e = ap root_part (same_struct s _ e)
+  entered_root (tree.Voids n) s e = cc
+  entered_root (tree.Bits bs) s e = cc
+  entered_root (tree.Numbers w bytes) s e = cc
+  entered_root (tree.Pointers ps) s e = cc
+  entered_root (tree.Composite d p es) s e = cc
+  entered_root (tree.FaultLeaf k) s e = cc
 
-  refused-root : (root : Tree) (kind : ErrorKind) → Err kind ≡ as_struct root 64 → tree_reached root ≡ Err kind
-  refused-root tree.Null kind e = cc
-  refused-root (tree.Struct bytes ps) kind e = cc
-  refused-root (tree.Voids n) kind e = same-kind kind _ e
-  refused-root (tree.Bits bs) kind e = same-kind kind _ e
-  refused-root (tree.Numbers w bytes) kind e = same-kind kind _ e
-  refused-root (tree.Pointers ps) kind e = same-kind kind _ e
-  refused-root (tree.Composite d p es) kind e = same-kind kind _ e
-  refused-root (tree.FaultLeaf k) kind e = same-kind kind _ e
+  refused_root : (root : Tree) (kind : ErrorKind) → Err kind ≡ as_struct root 64 → tree_reached root ≡ Err kind
+  refused_root tree.Null kind e = cc
+  refused_root (tree.Struct bytes ps) kind e = cc
+  refused_root (tree.Voids n) kind e = same_kind kind _ e
+  refused_root (tree.Bits bs) kind e = same_kind kind _ e
+  refused_root (tree.Numbers w bytes) kind e = same_kind kind _ e
+  refused_root (tree.Pointers ps) kind e = same_kind kind _ e
+  refused_root (tree.Composite d p es) kind e = same_kind kind _ e
+  refused_root (tree.FaultLeaf k) kind e = same_kind kind _ e
 
   abbrev along : List PathStep → (indented : Bool) → Reached → Out
   along path indented y = reached_text set indented (path_read set path y)
@@ -111,12 +111,12 @@ module _ (set : Schemas) (b : ℕ) where
   pub no_root : (path : List PathStep) (indented : Bool) (bytes : List ℕ) (root x : Tree) (n : ℕ) (kind : ErrorKind) →
       Ok root ≡ message_tree_of bytes → x ≡ root → n ≡ 64 → Err kind ≡ as_struct x n → got_text set b path indented bytes ≡ Err kind
   no_root path indented bytes root x n kind whole tree_is levels_are read =
-      ap (text_at set b path indented) (sym whole) ∙ ap (along path indented) (refused-root root kind (read ∙ ap₂ as_struct tree_is levels_are))
+      ap (text_at set b path indented) (sym whole) ∙ ap (along path indented) (refused_root root kind (read ∙ ap₂ as_struct tree_is levels_are))
 
   pub root_refused : (bytes : List ℕ) (root x : Tree) (n : ℕ) (kind : ErrorKind) → Ok root ≡ message_tree_of bytes → x ≡ root → n ≡ 64 → Err kind ≡ as_struct x n →
       root_reached set b (message_tree_of bytes) ≡ Err kind
   root_refused bytes root x n kind whole tree_is levels_are read =
-      ap (root_reached set b) (sym whole) ∙ refused-root root kind (read ∙ ap₂ as_struct tree_is levels_are)
+      ap (root_reached set b) (sym whole) ∙ refused_root root kind (read ∙ ap₂ as_struct tree_is levels_are)
 
   -- bytes that are no message have none
   pub no_message : (path : List PathStep) (indented : Bool) (bytes : List ℕ) (kind : ErrorKind) → Err kind ≡ message_tree_of bytes → got_text set b path indented bytes ≡ Err kind
@@ -128,23 +128,23 @@ module _ (set : Schemas) (b : ℕ) where
 module _ (schema : StructSchema) (path : List PathStep) (indented : Bool) (bytes : List ℕ) (root x : Tree) (n : ℕ) (h : StructHandle) (r : StructReader)
     (whole : Ok root ≡ message_tree_of bytes) (tree_is : x ≡ root) (levels_are : n ≡ 64) (read : Ok (struct_of r) ≡ as_struct x n) (levels : struct_levels r + 1 ≡ n)
     (same : schema_of h ≡ schema) (reader : reader_of h ≡ r) (stands : IsStruct schema) where
-  root-seen : Ok (value_part_seen (dynamic.Struct h)) ≡ tree_reached (set_of schema) (number_of schema) root
-  root-seen =
+  root_seen : Ok (value_part_seen (dynamic.Struct h)) ≡ tree_reached (set_of schema) (number_of schema) root
+  root_seen =
       let left : struct_levels r ≡ 63 = omega (arith, levels, levels_are) in
       let typed : struct_type (schema_of h) ≡ root_type (set_of schema) (number_of schema) = ap struct_type same ∙ ap (λ (g : ℕ). StructType (number_of schema) g) stands.generic in
       let seen : record_seen h ≡ struct_record (set_of schema) (Left (struct_levels r)) (struct_of r) (number_of schema) =
       ap (λ (s : StructSchema). struct_record (set_of s) (Left (struct_levels (reader_of h))) (struct_of (reader_of h)) (number_of s)) same
       ∙ ap (λ (y : StructReader). struct_record (set_of schema) (Left (struct_levels y)) (struct_of y) (number_of schema)) reader in
       let known : record_seen h ≡ struct_record (set_of schema) (Left 63) (struct_of r) (number_of schema) = seen ∙ ap (λ (m : ℕ). struct_record (set_of schema) (Left m) (struct_of r) (number_of schema)) left in
-      ap₂ struct_part typed known ∙ entered-root (set_of schema) (number_of schema) root (struct_of r) (read ∙ ap₂ as_struct tree_is levels_are)
+      ap₂ struct_part typed known ∙ entered_root (set_of schema) (number_of schema) root (struct_of r) (read ∙ ap₂ as_struct tree_is levels_are)
 
   -- the text is that of what the path leads to from the root's struct
-  got-along : got_text (set_of schema) (number_of schema) path indented bytes ≡ along (set_of schema) (number_of schema) path indented (Ok (value_part_seen (dynamic.Struct h)))
-  got-along = ap (text_at (set_of schema) (number_of schema) path indented) (sym whole) ∙ ap (along (set_of schema) (number_of schema) path indented) (sym root-seen)
+  got_along : got_text (set_of schema) (number_of schema) path indented bytes ≡ along (set_of schema) (number_of schema) path indented (Ok (value_part_seen (dynamic.Struct h)))
+  got_along = ap (text_at (set_of schema) (number_of schema) path indented) (sym whole) ∙ ap (along (set_of schema) (number_of schema) path indented) (sym root_seen)
 
   -- the root is the struct that the reader stands on
   pub root_known : root_reached (set_of schema) (number_of schema) (message_tree_of bytes) ≡ Ok (value_part_seen (dynamic.Struct h))
-  root_known = ap (root_reached (set_of schema) (number_of schema)) (sym whole) ∙ sym root-seen
+  root_known = ap (root_reached (set_of schema) (number_of schema)) (sym whole) ∙ sym root_seen
 
   abbrev IsReached : Reached → Type 0
   IsReached y = y ≡ path_read (set_of schema) path (Ok (value_part_seen (dynamic.Struct h)))
@@ -155,11 +155,11 @@ module _ (schema : StructSchema) (path : List PathStep) (indented : Bool) (bytes
 
   -- where the path leads to no value there is none
   pub not_got : (kind : ErrorKind) → IsReached (Err kind) → got_text (set_of schema) (number_of schema) path indented bytes ≡ Err kind
-  not_got kind is = got-along ∙ ap (reached_text (set_of schema) indented) (sym is)
+  not_got kind is = got_along ∙ ap (reached_text (set_of schema) indented) (sym is)
 
   -- and else it is the value's, as it is printed
   pub got_printed : (v : DynamicValue) → IsOf (set_of schema) (type_seen v) v → IsReached (Ok (value_part_seen v)) → printed_text indented v ≡ got_text (set_of schema) (number_of schema) path indented bytes
-  got_printed v is_of is = part_text (set_of schema) indented v is_of ∙ ap (reached_text (set_of schema) indented) is ∙ sym got-along
+  got_printed v is_of is = part_text (set_of schema) indented v is_of ∙ ap (reached_text (set_of schema) indented) is ∙ sym got_along
 
 -- ---- the root as it is read ----
 
@@ -190,28 +190,28 @@ root_read schema bytes root x n h r whole tree_is levels_are read levels same re
 }
 
 module _ (schema : StructSchema) (bytes : List ℕ) (h : StructHandle) (path : List PathStep) (root : IsRootRead schema bytes h) where
-  abbrev path-text : Bool → Out
-  path-text indented = got_text (set_of schema) (number_of schema) path indented bytes
+  abbrev path_text : Bool → Out
+  path_text indented = got_text (set_of schema) (number_of schema) path indented bytes
 
-  abbrev from-root : Reached
-  from-root = path_read (set_of schema) path (Ok (value_part_seen (dynamic.Struct h)))
+  abbrev from_root : Reached
+  from_root = path_read (set_of schema) path (Ok (value_part_seen (dynamic.Struct h)))
 
-  text-along : (indented : Bool) (y : Reached) → y ≡ from-root → path-text indented ≡ reached_text (set_of schema) indented y
-  text-along indented y is =
+  text_along : (indented : Bool) (y : Reached) → y ≡ from_root → path_text indented ≡ reached_text (set_of schema) indented y
+  text_along indented y is =
       got_is (set_of schema) (number_of schema) path indented bytes
       ∙ ap (reached_text (set_of schema) indented) (ap (path_read (set_of schema) path) root.known ∙ sym is)
 
   -- the number of a step's refusal
-  pub step_number : (kind : ErrorKind) → Err kind ≡ from-root → (indented : Bool) → Some kind ≡ text_refusal (path-text indented)
-  step_number kind is indented = sym (ap text_refusal (text-along indented (Err kind) is))
+  pub step_number : (kind : ErrorKind) → Err kind ≡ from_root → (indented : Bool) → Some kind ≡ text_refusal (path_text indented)
+  step_number kind is indented = sym (ap text_refusal (text_along indented (Err kind) is))
 
   -- that of what the path leads to
-  pub part_number : (v : DynamicValue) (o : Option ErrorKind) → IsOf (set_of schema) (type_seen v) v → Ok (value_part_seen v) ≡ from-root →
-      ((indented : Bool) → o ≡ text_refusal (printed_text indented v)) → (indented : Bool) → o ≡ text_refusal (path-text indented)
+  pub part_number : (v : DynamicValue) (o : Option ErrorKind) → IsOf (set_of schema) (type_seen v) v → Ok (value_part_seen v) ≡ from_root →
+      ((indented : Bool) → o ≡ text_refusal (printed_text indented v)) → (indented : Bool) → o ≡ text_refusal (path_text indented)
   part_number v o typed is number indented =
-      number indented ∙ ap text_refusal (part_text (set_of schema) indented v typed ∙ sym (text-along indented (Ok (value_part_seen v)) is))
+      number indented ∙ ap text_refusal (part_text (set_of schema) indented v typed ∙ sym (text_along indented (Ok (value_part_seen v)) is))
 
-  pub part_reached : (v : DynamicValue) → Ok (value_part_seen v) ≡ from-root → path_read (set_of schema) path (root_reached (set_of schema) (number_of schema) (message_tree_of bytes)) ≡ Ok (value_part_seen v)
+  pub part_reached : (v : DynamicValue) → Ok (value_part_seen v) ≡ from_root → path_read (set_of schema) path (root_reached (set_of schema) (number_of schema) (message_tree_of bytes)) ≡ Ok (value_part_seen v)
   part_reached v is = ap (path_read (set_of schema) path) root.known ∙ sym is
 
 -- a text that is refused counts as too long

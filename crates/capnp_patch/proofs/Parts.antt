@@ -3,8 +3,8 @@ use Rattle.std.proofs.Common.{ℕ, ◌<◌, ◌≡◌, refl, Bool, true, false, 
 use Rattle.std.proofs.lemmas.Bool.{true≢false}
 use Rattle.capnp_wire.specs.Tree.{StructTree}
 use Rattle.capnp_schema.specs.Schema.{Schemas, TypedField, field_at, fields_of, is_member, node_of}
-use Rattle.capnp_records.specs.Facts.Frame.{first-of, second-of}
-use Rattle.capnp_records.specs.Facts.PartRead.{FoundActive, found-active, nth-plain_parts}
+use Rattle.capnp_records.specs.Facts.Frame.{chosen_first, second_of}
+use Rattle.capnp_records.specs.Facts.PartRead.{FoundActive, found_active, nth_plain_parts}
 use Rattle.capnp_records.specs.Reading.{active_among, discriminant, part_of, struct_record, union_of, values_of}
 use Rattle.capnp_records.specs.Record.{Levels, NoUnion, Union, Value}
 use Rattle.capnp_records.specs.Part.{active_value, is_active, is_inactive, part_at}
@@ -23,20 +23,20 @@ part_is set l s b i i_in active = go (is_member f.field) refl
     union = union_of v (node_of set b) (fields_of set b) s.bytes
 
     go : (q : Bool) → is_member f.field ≡ q → part_at (struct_record set l s b) f.field i ≡ v f
-    go false plain = second-of (is_member f.field) _ _ plain ∙ nth-plain_parts v (fields_of set b) i i_in plain
+    go false plain = second_of (is_member f.field) _ _ plain ∙ nth_plain_parts v (fields_of set b) i i_in plain
     go true member = counted ((node_of set b).discriminant_count == 0) refl
       where
         is : is_active union i ≡ true
-        is = not-not (is_active union i) (subst (λ q. (q && not (is_active union i)) ≡ false) member active)
+        is = not_not (is_active union i) (subst (λ q. (q && not (is_active union i)) ≡ false) member active)
           where
-            not-not : (x : Bool) → (true && not x) ≡ false → x ≡ true
-            not-not true e = refl
-            not-not false e = absurd (true≢false e)
+            not_not : (x : Bool) → (true && not x) ≡ false → x ≡ true
+            not_not true e = refl
+            not_not false e = absurd (true≢false e)
 
         counted : (q : Bool) → ((node_of set b).discriminant_count == 0) ≡ q → part_at (struct_record set l s b) f.field i ≡ v f
-        counted true e = absurd (true≢false (sym is ∙ ap (λ u. is_active u i) (first-of ((node_of set b).discriminant_count == 0) NoUnion _ e)))
+        counted true e = absurd (true≢false (sym is ∙ ap (λ u. is_active u i) (chosen_first ((node_of set b).discriminant_count == 0) NoUnion _ e)))
         counted false e =
-            let same : union ≡ active_among v (fields_of set b) 0 (discriminant (node_of set b) s.bytes) = second-of ((node_of set b).discriminant_count == 0) _ _ e in
+            let same : union ≡ active_among v (fields_of set b) 0 (discriminant (node_of set b) s.bytes) = second_of ((node_of set b).discriminant_count == 0) _ _ e in
             let found : FoundActive v (fields_of set b) i (discriminant (node_of set b) s.bytes) (active_among v (fields_of set b) 0 (discriminant (node_of set b) s.bytes)) =
-            found-active v (fields_of set b) 0 i (discriminant (node_of set b) s.bytes) (subst (λ n. is_active (active_among v (fields_of set b) 0 (discriminant (node_of set b) s.bytes)) n ≡ true) (omega arith) (sym (ap (λ u. is_active u i) same) ∙ is)) in
-            first-of (is_member f.field) _ _ member ∙ (ap active_value same ∙ found.part_is)
+            found_active v (fields_of set b) 0 i (discriminant (node_of set b) s.bytes) (subst (λ n. is_active (active_among v (fields_of set b) 0 (discriminant (node_of set b) s.bytes)) n ≡ true) (omega arith) (sym (ap (λ u. is_active u i) same) ∙ is)) in
+            chosen_first (is_member f.field) _ _ member ∙ (ap active_value same ∙ found.part_is)

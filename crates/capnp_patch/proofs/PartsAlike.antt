@@ -17,22 +17,22 @@ use Rattle.capnp_check.specs.declared.place.RefusedPlace.{RefusedPlace}
 use Rattle.capnp_show_engine.specs.Show.{struct_or_group}
 use Rattle.capnp_patch.specs.Gets.{value_part_seen}
 use Rattle.capnp_patch.specs.Places.{AreRefusedParts, parts_shown, shown_parts}
-use Rattle.capnp_patch.proofs.PlacesSeen.{printed-is}
+use Rattle.capnp_patch.proofs.PlacesSeen.{printed_is}
 
-whole-alike : (set other : Schemas) (n : ℕ) → parts_within set n NoParts ≡ parts_within other n NoParts
+whole_alike : (set other : Schemas) (n : ℕ) → parts_within set n NoParts ≡ parts_within other n NoParts
 unfolding parts_within parts_from
-whole-alike set other zero = refl
-whole-alike set other (suc n) = refl
+whole_alike set other zero = refl
+whole_alike set other (suc n) = refl
 
-fewer-steps : (brands n : ℕ) → 65 * (brands + 4) ≤ n → 65 * (0 + 4) ≤ n
-fewer-steps brands n le = omega (arith, le)
+fewer_steps : (brands n : ℕ) → 65 * (brands + 4) ≤ n → 65 * (0 + 4) ≤ n
+fewer_steps brands n le = omega (arith, le)
 
 -- as many steps are enough, and lead to the same
 abbrev AreAlike : Schemas → ℕ → DynamicValue → Type 0
 AreAlike set n v = (most_steps (set_seen v) ≤ n) × (shown_within n v ≡ parts_shown set n (value_part_seen v))
 
-leaf-alike : (set : Schemas) (n : ℕ) → most_steps set ≤ n → (most_steps no_schemas ≤ n) × (parts_within no_schemas n NoParts ≡ parts_within set n NoParts)
-leaf-alike set n le = (fewer-steps (length set.brands) n le, whole-alike no_schemas set n)
+leaf_alike : (set : Schemas) (n : ℕ) → most_steps set ≤ n → (most_steps no_schemas ≤ n) × (parts_within no_schemas n NoParts ≡ parts_within set n NoParts)
+leaf_alike set n le = (fewer_steps (length set.brands) n le, whole_alike no_schemas set n)
 
 pub parts_alike : (set : Schemas) (v : DynamicValue) (n : ℕ) → IsOf set (type_seen v) v → most_steps set ≤ n → AreAlike set n v
 parts_alike set (dynamic.Struct s) n is le = (
@@ -42,26 +42,26 @@ parts_alike set (dynamic.Struct s) n is le = (
   where
     parts : root_parts (dynamic.Struct s) ≡ shown_parts set (value_part_seen (dynamic.Struct s))
     parts =
-        ap (part_parts (set_of (schema_of s)) print_levels VoidValue (struct_type (schema_of s))) (printed-is (node_of (set_of (schema_of s)) (number_of (schema_of s))).is_group s)
+        ap (part_parts (set_of (schema_of s)) print_levels VoidValue (struct_type (schema_of s))) (printed_is (node_of (set_of (schema_of s)) (number_of (schema_of s))).is_group s)
         ∙ ap (λ (y : Schemas). part_parts y print_levels VoidValue (struct_type (schema_of s)) (struct_or_group (node_of y (number_of (schema_of s))).is_group (record_seen s))) is.1
 parts_alike set (dynamic.List l) n is le = (
   subst (λ (y : Schemas). most_steps y ≤ n) (sym is.0) le,
   ap (λ (y : Schemas). parts_within y n (part_parts y print_levels VoidValue (type_seen (dynamic.List l)) (value_seen (dynamic.List l)))) is.0,
 )
-parts_alike set (dynamic.Enum e) n is le = (subst (λ (y : Schemas). most_steps y ≤ n) (sym is.1) le, whole-alike (enum_set (enum_of e)) set n)
-parts_alike set dynamic.Void n is le = leaf-alike set n le
-parts_alike set (dynamic.Bool b) n is le = leaf-alike set n le
-parts_alike set (dynamic.Int8 x) n is le = leaf-alike set n le
-parts_alike set (dynamic.Int16 x) n is le = leaf-alike set n le
-parts_alike set (dynamic.Int32 x) n is le = leaf-alike set n le
-parts_alike set (dynamic.Int64 x) n is le = leaf-alike set n le
-parts_alike set (dynamic.UInt8 x) n is le = leaf-alike set n le
-parts_alike set (dynamic.UInt16 x) n is le = leaf-alike set n le
-parts_alike set (dynamic.UInt32 x) n is le = leaf-alike set n le
-parts_alike set (dynamic.UInt64 x) n is le = leaf-alike set n le
-parts_alike set (dynamic.Text t) n is le = leaf-alike set n le
-parts_alike set (dynamic.«Data» bytes) n is le = leaf-alike set n le
-parts_alike set (dynamic.AnyPointer r) n is le = leaf-alike set n le
+parts_alike set (dynamic.Enum e) n is le = (subst (λ (y : Schemas). most_steps y ≤ n) (sym is.1) le, whole_alike (enum_set (enum_of e)) set n)
+parts_alike set dynamic.Void n is le = leaf_alike set n le
+parts_alike set (dynamic.Bool b) n is le = leaf_alike set n le
+parts_alike set (dynamic.Int8 x) n is le = leaf_alike set n le
+parts_alike set (dynamic.Int16 x) n is le = leaf_alike set n le
+parts_alike set (dynamic.Int32 x) n is le = leaf_alike set n le
+parts_alike set (dynamic.Int64 x) n is le = leaf_alike set n le
+parts_alike set (dynamic.UInt8 x) n is le = leaf_alike set n le
+parts_alike set (dynamic.UInt16 x) n is le = leaf_alike set n le
+parts_alike set (dynamic.UInt32 x) n is le = leaf_alike set n le
+parts_alike set (dynamic.UInt64 x) n is le = leaf_alike set n le
+parts_alike set (dynamic.Text t) n is le = leaf_alike set n le
+parts_alike set (dynamic.«Data» bytes) n is le = leaf_alike set n le
+parts_alike set (dynamic.AnyPointer r) n is le = leaf_alike set n le
 
 pub all_alike : (set : Schemas) (v : DynamicValue) (places : List RefusedPlace) → IsOf set (type_seen v) v → AreAllPlaces v places → AreRefusedParts set (value_part_seen v) places
 all_alike set v places is all = λ n le. (let alike = parts_alike set v n is le in all n alike.0 ∙ ap refused_parts alike.1)

@@ -59,17 +59,17 @@ module _ (set : Schemas) (path : List Step) (i left : ℕ) (d s : Step) (p : Par
   last : nat_eq left 0 ≡ is_empty (path_seen (drop (i + 1) path))
   last = last_at path i left count ∙ (ap (λ (n : ℕ). is_empty (drop n path)) (sym (add-one i)) ∙ sym (seen_empty (drop (i + 1) path)))
 
-  stands-last : {y : Reached} → y ≡ step_read set (nat_eq left 0) p (step_seen s) → step_read set (is_empty (path_seen (drop (i + 1) path))) p (step_seen s) ≡ y
-  stands-last e = ap (λ (b : Bool). step_read set b p (step_seen s)) (sym last) ∙ sym e
+  stands_last : {y : Reached} → y ≡ step_read set (nat_eq left 0) p (step_seen s) → step_read set (is_empty (path_seen (drop (i + 1) path))) p (step_seen s) ≡ y
+  stands_last e = ap (λ (b : Bool). step_read set b p (step_seen s)) (sym last) ∙ sym e
 
   refused_at : (kind : ErrorKind) (w : Option StructSchema) → Err kind ≡ step_read set (nat_eq left 0) p (step_seen s) → IsWithin set w p.type → IsRefusedStep set (path_seen (drop i path)) p 0 kind w
   unfolding IsRefusedStep
-  refused_at kind w e within = subst (λ (xs : List Step). IsRefusedStep set (path_seen xs) p 0 kind w) (sym stands) (stands-last e, within)
+  refused_at kind w e within = subst (λ (xs : List Step). IsRefusedStep set (path_seen xs) p 0 kind w) (sym stands) (stands_last e, within)
 
   refused_behind : (q : Part) (k : ℕ) (kind : ErrorKind) (w : Option StructSchema) → Ok q ≡ step_read set (nat_eq left 0) p (step_seen s) → IsRefusedStep set (path_seen (drop (i + 1) path)) q k kind w →
       IsRefusedStep set (path_seen (drop i path)) p (suc k) kind w
   unfolding IsRefusedStep
-  refused_behind q k kind w e rest = subst (λ (xs : List Step). IsRefusedStep set (path_seen xs) p (suc k) kind w) (sym stands) (q, stands-last e, rest)
+  refused_behind q k kind w e rest = subst (λ (xs : List Step). IsRefusedStep set (path_seen xs) p (suc k) kind w) (sym stands) (q, stands_last e, rest)
 
   -- what is so of a step of the rest is so of the path
   module _ (whole : List PathStep) (from : Part) (so : (k : ℕ) (kind : ErrorKind) (w : Option StructSchema) → IsRefusedStep set (path_seen (drop i path)) p k kind w → IsRefusedStep set whole from (i + k) kind w) where

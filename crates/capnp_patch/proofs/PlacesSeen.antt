@@ -34,14 +34,14 @@ same_place set set' parts parts' x e f steps words = (
   words ∙ (ap (λ (y : Schemas). place_words y parts x.path.items) e ∙ ap (λ (z : TextParts). place_words set' z x.path.items) f),
 )
 
-pub printed-is : (q : Bool) (h : StructHandle) → struct_printed q h ≡ struct_or_group q (record_seen h)
-printed-is true h = refl
-printed-is false h = refl
+pub printed_is : (q : Bool) (h : StructHandle) → struct_printed q h ≡ struct_or_group q (record_seen h)
+printed_is true h = refl
+printed_is false h = refl
 
 pub part_place : (set : Schemas) (v : DynamicValue) (x : RefusedPlace) → IsOf set (type_seen v) v → IsPlace v x → IsRefusedPart set (value_part_seen v) x
 part_place set (dynamic.Struct s) x is h =
     let parts : root_parts (dynamic.Struct s) ≡ shown_parts set (value_part_seen (dynamic.Struct s)) =
-    ap (part_parts (set_of (schema_of s)) print_levels VoidValue (struct_type (schema_of s))) (printed-is (node_of (set_of (schema_of s)) (number_of (schema_of s))).is_group s)
+    ap (part_parts (set_of (schema_of s)) print_levels VoidValue (struct_type (schema_of s))) (printed_is (node_of (set_of (schema_of s)) (number_of (schema_of s))).is_group s)
     ∙ ap (λ (y : Schemas). part_parts y print_levels VoidValue (struct_type (schema_of s)) (struct_or_group (node_of y (number_of (schema_of s))).is_group (record_seen s))) is.1 in
     let p = same_place (set_seen (dynamic.Struct s)) set (root_parts (dynamic.Struct s)) (shown_parts set (value_part_seen (dynamic.Struct s))) x is.1 parts h.steps h.words in
     record { steps = p.0; words = p.1 }

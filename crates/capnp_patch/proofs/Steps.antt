@@ -15,8 +15,8 @@ use Rattle.capnp_schema.specs.declared.schema.fields.Field.{Field}
 use Rattle.capnp_schema.specs.declared.schema.structs.StructSchema.{StructSchema}
 use Rattle.capnp_records.specs.Call.{ElementAt, PathStep}
 use Rattle.capnp_records.specs.Default.{read_field, read_of}
-use Rattle.capnp_records.specs.Facts.Frame.{first-of, second-of}
-use Rattle.capnp_records.specs.Facts.ListValues.{below_of, count-values_from, nth-values_from}
+use Rattle.capnp_records.specs.Facts.Frame.{chosen_first, second_of}
+use Rattle.capnp_records.specs.Facts.ListValues.{below_of, count_values_from, nth_values_from}
 use Rattle.capnp_records.specs.Part.{is_inactive, part_at, value_count}
 use Rattle.capnp_records.specs.Reading.{element_value, struct_record}
 use Rattle.capnp_records.specs.Record as value
@@ -36,16 +36,16 @@ use Rattle.capnp_patch.proofs.Reached.{read_reached}
 
 -- one that isn't an inactive member, by the test of its type
 is_tested : (set : Schemas) (is_last : Bool) (x : StepTarget) → x.inactive ≡ false → target_read set (tested_step is_last x) ≡ target_read set (tested_type is_last x x.type)
-is_tested set is_last x e = ap (target_read set) (second-of x.inactive _ _ e)
+is_tested set is_last x e = ap (target_read set) (second_of x.inactive _ _ e)
 
 -- a group is handed out as a struct
 handed_is : (k : FieldKind) (v : Value) → handed_value (is_group_field k) v ≡ handed_out k v
 handed_is (Slot offset d) v = refl
 handed_is (Group node) v = refl
 
-false-not : (q : Bool) → true ≡ not q → q ≡ false
-false-not true e = absurd (true≢false e)
-false-not false e = refl
+false_not : (q : Bool) → true ≡ not q → q ≡ false
+false_not true e = absurd (true≢false e)
+false_not false e = refl
 
 -- ---- a field ----
 
@@ -73,14 +73,14 @@ module _ (set : Schemas) (l : Levels) (s : StructTree) (b i : ℕ) (is_last : Bo
 module _ (set : Schemas) (e : SchemaType) (g : ℕ → Value) (n i : ℕ) where
   -- past the end
   pub no_element : n ≤ i → in_list e (values_from g 0 n) (ElementAt i) ≡ Err NoSuchElement
-  no_element past = second-of (nat_lt i (value_count (values_from g 0 n))) _ _ (ap (nat_lt i) (count-values_from g 0 n) ∙ not_below n i past)
+  no_element past = second_of (nat_lt i (value_count (values_from g 0 n))) _ _ (ap (nat_lt i) (count_values_from g 0 n) ∙ not_below n i past)
     where
       not_below : (n i : ℕ) → n ≤ i → nat_lt i n ≡ false
       not_below n i past = grind (arith, past)
 
   -- inside
   pub an_element : i < n → in_list e (values_from g 0 n) (ElementAt i) ≡ Ok (element_target e (values_from g 0 n) i)
-  an_element inside = first-of (nat_lt i (value_count (values_from g 0 n))) _ _ (ap (nat_lt i) (count-values_from g 0 n) ∙ below n i inside)
+  an_element inside = chosen_first (nat_lt i (value_count (values_from g 0 n))) _ _ (ap (nat_lt i) (count_values_from g 0 n) ∙ below n i inside)
     where
       below : (n i : ℕ) → i < n → nat_lt i n ≡ true
       below n i inside = grind (arith, inside)
@@ -90,7 +90,7 @@ module _ (set : Schemas) (e : SchemaType) (g : ℕ → Value) (n i : ℕ) where
   element_reached inside res typed is =
       read_reached set e res typed
       ∙ (ap (reached_value e) is
-      ∙ ap (λ (v : Value). reached_value e (read_of set VoidValue e v)) (sym (nth-values_from g 0 n i inside ∙ ap g (omega arith))))
+      ∙ ap (λ (v : Value). reached_value e (read_of set VoidValue e v)) (sym (nth_values_from g 0 n i inside ∙ ap g (omega arith))))
 
 -- ---- steps of handles ----
 
@@ -120,7 +120,7 @@ module _ (reader : StructHandle) (step : PathStep) (is_last : Bool) (schema : St
   field_found q names =
       ap (λ (y : Found). target_read (set_of (schema_of reader)) (tested_found is_last y)) (ap (λ (s : StructSchema). in_record (set_of s) value.Struct seen (number_of s) step) (sym names.same) ∙ sym names.named_by)
       ∙ is_tested (set_of (schema_of reader)) is_last named
-      (ap (λ (s : StructSchema). is_inactive seen (struct_field s (index_of h)).field (index_of h)) (names.field.schema ∙ names.same) ∙ false-not _ (sym names.active ∙ names.tested))
+      (ap (λ (s : StructSchema). is_inactive seen (struct_field s (index_of h)).field (index_of h)) (names.field.schema ∙ names.same) ∙ false_not _ (sym names.active ∙ names.tested))
 
   pub field_refused : (q : Bool) → NamesActive q →
       (t : SchemaType) → t ≡ (typed_of h).type → (kind : ErrorKind) → Err kind ≡ tested_type is_last named t →
@@ -134,7 +134,7 @@ module _ (reader : StructHandle) (step : PathStep) (is_last : Bool) (schema : St
       seen_read res ≡ step_read (set_of (schema_of reader)) is_last (value_part_seen (StructOf reader)) step
   field_read_there q names t type test res typed found =
       field_reached (set_of (schema_of reader)) (Left (struct_levels (reader_of reader))) (struct_of (reader_of reader)) (number_of (schema_of reader)) (index_of h) is_last
-      (subst (λ (s : StructSchema). index_of h < length (struct_fields s)) names.same names.field.inside) (false-not _ (sym names.active ∙ names.tested)) res typed found
+      (subst (λ (s : StructSchema). index_of h < length (struct_fields s)) names.same names.field.inside) (false_not _ (sym names.active ∙ names.tested)) res typed found
       ∙ (ap (λ (s : StructSchema). target_read (set_of (schema_of reader)) (Ok (field_target value.Struct seen (struct_field s (index_of h)) (index_of h)))) (sym (names.field.schema ∙ names.same))
       ∙ sym (field_found q names ∙ ap (target_read (set_of (schema_of reader))) (ap (tested_type is_last named) (sym type) ∙ sym test)))
 

@@ -16,9 +16,9 @@ use Rattle.capnp_show_engine.specs.Show.{struct_or_group}
 use Rattle.capnp_patch.specs.Gets.{value_part_seen}
 use Rattle.capnp_queries.specs.Json.{reached_json}
 
-printed-is : (q : Bool) (h : StructHandle) → struct_printed q h ≡ struct_or_group q (record_seen h)
-printed-is true h = refl
-printed-is false h = refl
+printed_is : (q : Bool) (h : StructHandle) → struct_printed q h ≡ struct_or_group q (record_seen h)
+printed_is true h = refl
+printed_is false h = refl
 
 pub part_json : (set : Schemas) (form : Form) (indented : Bool) (v : DynamicValue) → IsOf set (type_seen v) v → written_json_as form indented v ≡ reached_json set form indented (Ok (value_part_seen v))
 part_json set form indented dynamic.Void is = refl
@@ -35,7 +35,7 @@ part_json set form indented (dynamic.Enum e) is = ap (λ (y : Schemas). json_as 
 part_json set form indented (dynamic.Text t) is = refl
 part_json set form indented (dynamic.«Data» bytes) is = refl
 part_json set form indented (dynamic.Struct s) is =
-    ap (json_as (set_of (schema_of s)) form indented (struct_type (schema_of s))) (printed-is (node_of (set_of (schema_of s)) (number_of (schema_of s))).is_group s)
+    ap (json_as (set_of (schema_of s)) form indented (struct_type (schema_of s))) (printed_is (node_of (set_of (schema_of s)) (number_of (schema_of s))).is_group s)
     ∙ ap (λ (y : Schemas). json_as y form indented (struct_type (schema_of s)) (struct_or_group (node_of y (number_of (schema_of s))).is_group (record_seen s))) is.1
 part_json set form indented (dynamic.List l) is = ap (λ (y : Schemas). json_as y form indented (type_seen (dynamic.List l)) (value_seen (dynamic.List l))) is.0
 part_json set form indented (dynamic.AnyPointer p) is = refl

@@ -33,36 +33,36 @@ module _ (most : ℕ) (before : List (List PathStep)) (set : Schemas) where
       IsFewEnough most (length now) more → length before ≤ most → length before + length (ps ++ more.paths) ≤ most
   few_more ps more now e few rest le =
       let long = ap length e in
-      let now-few : length now ≤ most = omega (arith, long, length-append before ps, few le) in
-      omega (arith, rest now-few, long, length-append before ps, length-append ps more.paths)
+      let now_few : length now ≤ most = omega (arith, long, length-append before ps, few le) in
+      omega (arith, rest now_few, long, length-append before ps, length-append ps more.paths)
 
   -- the paths of one were listed, and the other is behind them
-  more-listed : (ps : List (List PathStep)) (o : Option Stop) (more : Listing) (paths : Vec (Vec Step Global) Global) (r : Answer) →
+  more_listed : (ps : List (List PathStep)) (o : Option Stop) (more : Listing) (paths : Vec (Vec Step Global) Global) (r : Answer) →
       o ≡ None → paths_seen paths.items ≡ before ++ ps → (length before ≤ most → length before + length ps ≤ most) → IsListed most (paths_seen paths.items) set more r → IsListed most before set (and_then ps o more) r
-  more-listed ps None more paths (Ok q) n e few h =
+  more_listed ps None more paths (Ok q) n e few h =
       (h.0, h.1 ∙ (ap (λ (xs : List (List PathStep)). xs ++ more.paths) e ∙ append_assoc before ps more.paths), few_more ps more (paths_seen paths.items) e few h.2)
-  more-listed ps None more paths (Err (Refused x)) n e few h = (h.0, few_more ps more (paths_seen paths.items) e few h.1)
-  more-listed ps None more paths (Err (Unmade kind)) n e few h = λ memory.
+  more_listed ps None more paths (Err (Refused x)) n e few h = (h.0, few_more ps more (paths_seen paths.items) e few h.1)
+  more_listed ps None more paths (Err (Unmade kind)) n e few h = λ memory.
       ((h memory).0, omega (arith, (h memory).1, ap length e, length-append before ps, length-append ps more.paths))
-  more-listed ps (Some x) more paths r n e few h = absurd (none n)
+  more_listed ps (Some x) more paths r n e few h = absurd (none n)
     where
       none : Some x ≡ None → ⊥
       none k = cc
 
   pub then_listed : (l more : Listing) (paths : Vec (Vec Step Global) Global) (r : Answer) → IsListed most before set l (Ok paths) → IsListed most (paths_seen paths.items) set more r →
       IsListed most before set (and_then l.paths l.stop more) r
-  then_listed l more paths r h g = more-listed l.paths l.stop more paths r h.0 h.1 h.2 g
+  then_listed l more paths r h g = more_listed l.paths l.stop more paths r h.0 h.1 h.2 g
 
   -- one was refused, and the other isn't looked at
-  stop-there : (ps : List (List PathStep)) (o : Option Stop) (more : Listing) (why : NotListed) →
+  stop_there : (ps : List (List PathStep)) (o : Option Stop) (more : Listing) (why : NotListed) →
       IsNotListed most (length before) set (record { paths = ps; stop = o }) why → IsNotListed most (length before) set (and_then ps o more) why
-  stop-there ps None more (Refused x) h = absurd h.0
-  stop-there ps (Some y) more (Refused x) h = h
-  stop-there ps None more (Unmade kind) h = λ memory. ((h memory).0, omega (arith, (h memory).1, length-append ps more.paths))
-  stop-there ps (Some y) more (Unmade kind) h = h
+  stop_there ps None more (Refused x) h = absurd h.0
+  stop_there ps (Some y) more (Refused x) h = h
+  stop_there ps None more (Unmade kind) h = λ memory. ((h memory).0, omega (arith, (h memory).1, length-append ps more.paths))
+  stop_there ps (Some y) more (Unmade kind) h = h
 
   pub then_refused : (l more : Listing) (why : NotListed) → IsListed most before set l (Err why) → IsListed most before set (and_then l.paths l.stop more) (Err why)
-  then_refused l more why h = stop-there l.paths l.stop more why h
+  then_refused l more why h = stop_there l.paths l.stop more why h
 
 -- ---- several ----
 
@@ -97,24 +97,24 @@ next_element i n lt =
 pub no_element : (i n : ℕ) → n ≤ i → elements_from i (n - i) ≡ []
 no_element i n le = let e : n - i ≡ 0 = omega (arith, le) in ap (elements_from i) e
 
-field-next : (fs : List TypedField) (i : ℕ) → i < length fs → drop i fs ≡ unwrap_or (slice_get fs i) no_field ∷ drop (i + 1) fs
-field-next [] i lt = absurd (omega (arith, lt))
-field-next (f ∷ fs) zero lt = refl
-field-next (f ∷ fs) (suc i) lt =
+field_next : (fs : List TypedField) (i : ℕ) → i < length fs → drop i fs ≡ unwrap_or (slice_get fs i) no_field ∷ drop (i + 1) fs
+field_next [] i lt = absurd (omega (arith, lt))
+field_next (f ∷ fs) zero lt = refl
+field_next (f ∷ fs) (suc i) lt =
     let e : suc i + 1 ≡ suc (i + 1) = omega arith in
-    field-next fs i (omega (arith, lt)) ∙ ap (λ n. unwrap_or (slice_get fs i) no_field ∷ drop n (f ∷ fs)) (sym e)
+    field_next fs i (omega (arith, lt)) ∙ ap (λ n. unwrap_or (slice_get fs i) no_field ∷ drop n (f ∷ fs)) (sym e)
 
 pub next_field : (fs : List TypedField) (i : ℕ) → i < length fs → map field_step (drop i fs) ≡ field_step (unwrap_or (slice_get fs i) no_field) ∷ map field_step (drop (i + 1) fs)
-next_field fs i lt = ap (map field_step) (field-next fs i lt)
+next_field fs i lt = ap (map field_step) (field_next fs i lt)
 
-no-field : (fs : List TypedField) (i : ℕ) → length fs ≤ i → drop i fs ≡ []
-no-field [] zero le = refl
-no-field [] (suc i) le = refl
-no-field (f ∷ fs) zero le = absurd (omega (arith, le))
-no-field (f ∷ fs) (suc i) le = no-field fs i (omega (arith, le))
+no_field_past : (fs : List TypedField) (i : ℕ) → length fs ≤ i → drop i fs ≡ []
+no_field_past [] zero le = refl
+no_field_past [] (suc i) le = refl
+no_field_past (f ∷ fs) zero le = absurd (omega (arith, le))
+no_field_past (f ∷ fs) (suc i) le = no_field_past fs i (omega (arith, le))
 
 pub no_field_left : (fs : List TypedField) (i : ℕ) → length fs ≤ i → map field_step (drop i fs) ≡ []
-no_field_left fs i le = ap (map field_step) (no-field fs i le)
+no_field_left fs i le = ap (map field_step) (no_field_past fs i le)
 
 pub next_field_of : (set : Schemas) (s : StructSchema) (i : ℕ) (name : List ℕ) → set_of s ≡ set → i < length (struct_fields s) → name ≡ (unwrap_or (slice_get (struct_fields s) i) no_field).field.name →
     map field_step (drop i (fields_of set (number_of s))) ≡ FieldNamed name ∷ map field_step (drop (i + 1) (fields_of set (number_of s)))

@@ -39,28 +39,28 @@ module _ (set : Schemas) (behind : Bool) (here : List PathStep) (p : Part) where
   abbrev by_kind : (each : Bool) → PathStep → List PathStep → Listing
   by_kind each s rest = steps_listing (step_listing set (listing set (behind || each) rest) (behind || each) (is_empty rest) here p) here p.type (steps_meant set each p s)
 
-  first-step : (pattern : List PathStep) (s : PathStep) (rest : List PathStep) (each : Bool) → pattern ≡ s ∷ rest → is_each s ≡ each → listing set behind pattern here p ≡ by_kind each s rest
+  first_step : (pattern : List PathStep) (s : PathStep) (rest : List PathStep) (each : Bool) → pattern ≡ s ∷ rest → is_each s ≡ each → listing set behind pattern here p ≡ by_kind each s rest
   unfolding listing
-  first-step pattern s rest each e is = ap (λ (steps : List PathStep). listing set behind steps here p) e ∙ ap (λ (q : Bool). by_kind q s rest) is
+  first_step pattern s rest each e is = ap (λ (steps : List PathStep). listing set behind steps here p) e ∙ ap (λ (q : Bool). by_kind q s rest) is
 
-  or-true : (b : Bool) → (b || true) ≡ true
-  or-true true = refl
-  or-true false = refl
+  or_true : (b : Bool) → (b || true) ≡ true
+  or_true true = refl
+  or_true false = refl
 
-  or-false : (b : Bool) → (b || false) ≡ b
-  or-false true = refl
-  or-false false = refl
+  or_false : (b : Bool) → (b || false) ≡ b
+  or_false true = refl
+  or_false false = refl
 
   pub at_each : (pattern : List PathStep) (s : PathStep) (rest : List PathStep) → pattern ≡ s ∷ rest → is_each s ≡ true → listing set behind pattern here p ≡ each_listing set rest here p
   at_each pattern s rest e is =
-      first-step pattern s rest true e is
-      ∙ ap (λ (q : Bool). steps_listing (step_listing set (listing set q rest) q (is_empty rest) here p) here p.type (steps_below set p.type p.value)) (or-true behind)
+      first_step pattern s rest true e is
+      ∙ ap (λ (q : Bool). steps_listing (step_listing set (listing set q rest) q (is_empty rest) here p) here p.type (steps_below set p.type p.value)) (or_true behind)
 
   pub at_step : (pattern : List PathStep) (s : PathStep) (rest : List PathStep) → pattern ≡ s ∷ rest → is_each s ≡ false →
       listing set behind pattern here p ≡ step_listing set (listing set behind rest) behind (is_empty rest) here p s
   at_step pattern s rest e is =
-      first-step pattern s rest false e is
-      ∙ (ap (λ (q : Bool). all_listed (step_listing set (listing set q rest) q (is_empty rest) here p) (s ∷ [])) (or-false behind)
+      first_step pattern s rest false e is
+      ∙ (ap (λ (q : Bool). all_listed (step_listing set (listing set q rest) q (is_empty rest) here p) (s ∷ [])) (or_false behind)
       ∙ and_nothing (step_listing set (listing set behind rest) behind (is_empty rest) here p s))
 
 -- ---- what a step reads ----

@@ -18,9 +18,9 @@ use Rattle.capnp_patch.specs.Gets.{Reached, reached_text, value_part_seen}
 use Rattle.capnp_queries.proofs.FloatRefusals.{reached_refused}
 use Rattle.capnp_queries.specs.Shown.{IsReachedShown, IsReachedTooLong, IsTooLong, IsWritten, raw_bytes, reached_float_text}
 
-printed-is : (q : Bool) (h : StructHandle) → struct_printed q h ≡ struct_or_group q (record_seen h)
-printed-is true h = refl
-printed-is false h = refl
+printed_is : (q : Bool) (h : StructHandle) → struct_printed q h ≡ struct_or_group q (record_seen h)
+printed_is true h = refl
+printed_is false h = refl
 
 pub part_text : (set : Schemas) (floats indented : Bool) (v : DynamicValue) → IsOf set (type_seen v) v → printed_float_text floats indented v ≡ reached_float_text set floats indented (Ok (value_part_seen v))
 part_text set floats indented dynamic.Void is = refl
@@ -37,7 +37,7 @@ part_text set floats indented (dynamic.Enum e) is = ap (λ (y : Schemas). float_
 part_text set floats indented (dynamic.Text t) is = refl
 part_text set floats indented (dynamic.«Data» bytes) is = refl
 part_text set floats indented (dynamic.Struct s) is =
-    ap (float_text_of (set_of (schema_of s)) floats indented (struct_type (schema_of s))) (printed-is (node_of (set_of (schema_of s)) (number_of (schema_of s))).is_group s)
+    ap (float_text_of (set_of (schema_of s)) floats indented (struct_type (schema_of s))) (printed_is (node_of (set_of (schema_of s)) (number_of (schema_of s))).is_group s)
     ∙ ap (λ (y : Schemas). float_text_of y floats indented (struct_type (schema_of s)) (struct_or_group (node_of y (number_of (schema_of s))).is_group (record_seen s))) is.1
 part_text set floats indented (dynamic.List l) is = ap (λ (y : Schemas). float_text_of y floats indented (type_seen (dynamic.List l)) (value_seen (dynamic.List l))) is.0
 part_text set floats indented (dynamic.AnyPointer p) is = refl

@@ -21,53 +21,53 @@ module _ (P : Reading → Type 0) where
     pub element_bodies : (i : ℕ) → AllReadings (below.element_body i).pointers
 
   module _ (of_null : P null) where
-    pub nth-reading : (rs : List Reading) → AllReadings rs → (i : ℕ) → P (nth_reading rs i)
-    nth-reading [] all i = of_null
-    nth-reading (r ∷ rs) all zero = all.0
-    nth-reading (r ∷ rs) all (suc i) = nth-reading rs all.1 i
+    pub nth_reading_is : (rs : List Reading) → AllReadings rs → (i : ℕ) → P (nth_reading rs i)
+    nth_reading_is [] all i = of_null
+    nth_reading_is (r ∷ rs) all zero = all.0
+    nth_reading_is (r ∷ rs) all (suc i) = nth_reading_is rs all.1 i
 
     -- ---- what stands below ----
 
-    pub struct-below : (rs : List Reading) → AllReadings rs → AllBelow (struct_below rs)
-    struct-below rs all = record { pointers = all; element_pointers = λ i. of_null; element_bodies = λ i. tt }
+    pub struct_below_are : (rs : List Reading) → AllReadings rs → AllBelow (struct_below rs)
+    struct_below_are rs all = record { pointers = all; element_pointers = λ i. of_null; element_bodies = λ i. tt }
 
-    pub bytes-below : (x : Tree) → AllBelow (bytes_below x)
-    bytes-below x = record { pointers = tt; element_pointers = λ i. of_null; element_bodies = λ i. tt }
+    pub bytes_below_are : (x : Tree) → AllBelow (bytes_below x)
+    bytes_below_are x = record { pointers = tt; element_pointers = λ i. of_null; element_bodies = λ i. tt }
 
-    only-readings : (rs : List Reading) → AllReadings rs → (i : ℕ) → AllReadings (only_reading rs i)
-    only-readings [] all i = tt
-    only-readings (r ∷ rs) all zero = (all.0, tt)
-    only-readings (r ∷ rs) all (suc i) = only-readings rs all.1 i
+    only_readings : (rs : List Reading) → AllReadings rs → (i : ℕ) → AllReadings (only_reading rs i)
+    only_readings [] all i = tt
+    only_readings (r ∷ rs) all zero = (all.0, tt)
+    only_readings (r ∷ rs) all (suc i) = only_readings rs all.1 i
 
-    pub pointers-below : (rs : List Reading) → AllReadings rs → AllBelow (pointers_below rs)
-    pointers-below rs all = record { pointers = tt; element_pointers = nth-reading rs all; element_bodies = only-readings rs all }
+    pub pointers_below_are : (rs : List Reading) → AllReadings rs → AllBelow (pointers_below rs)
+    pointers_below_are rs all = record { pointers = tt; element_pointers = nth_reading_is rs all; element_bodies = only_readings rs all }
 
-    pub nth-body : (bs : List Body) → AllBodies bs → (i : ℕ) → AllReadings (nth_body bs i).pointers
-    nth-body [] all i = tt
-    nth-body (b ∷ bs) all zero = all.0
-    nth-body (b ∷ bs) all (suc i) = nth-body bs all.1 i
+    pub nth_body_is : (bs : List Body) → AllBodies bs → (i : ℕ) → AllReadings (nth_body bs i).pointers
+    nth_body_is [] all i = tt
+    nth_body_is (b ∷ bs) all zero = all.0
+    nth_body_is (b ∷ bs) all (suc i) = nth_body_is bs all.1 i
 
     module _ (set : Schemas) (of_first : (body : Body) → AllReadings body.pointers → P (first_pointer set body)) (of_tree : (x : Tree) (below : Below) → AllBelow below → P (tree_value set x below)) where
-      structs-below : (bs : List Body) → AllBodies bs → AllBelow (structs_below set bs)
-      structs-below bs all = record { pointers = tt; element_pointers = λ i. of_first (nth_body bs i) (nth-body bs all i); element_bodies = nth-body bs all }
+      structs_below_are : (bs : List Body) → AllBodies bs → AllBelow (structs_below set bs)
+      structs_below_are bs all = record { pointers = tt; element_pointers = λ i. of_first (nth_body bs i) (nth_body_is bs all i); element_bodies = nth_body_is bs all }
 
       -- ---- trees ----
 
       mutual
-        pub each-reading : (x : Tree) → P (value_of set x)
-        each-reading tree.Null = of_null
-        each-reading (tree.Struct bytes ps) = of_tree (tree.Struct bytes ps) (struct_below (values_of set ps)) (struct-below (values_of set ps) (each-pointer ps))
-        each-reading (tree.Voids n) = of_tree (tree.Voids n) (bytes_below (tree.Voids n)) (bytes-below (tree.Voids n))
-        each-reading (tree.Bits bs) = of_tree (tree.Bits bs) (bytes_below (tree.Bits bs)) (bytes-below (tree.Bits bs))
-        each-reading (tree.Numbers w bytes) = of_tree (tree.Numbers w bytes) (bytes_below (tree.Numbers w bytes)) (bytes-below (tree.Numbers w bytes))
-        each-reading (tree.Pointers ps) = of_tree (tree.Pointers ps) (pointers_below (values_of set ps)) (pointers-below (values_of set ps) (each-pointer ps))
-        each-reading (tree.Composite d p es) = of_tree (tree.Composite d p es) (structs_below set (bodies_of set es)) (structs-below (bodies_of set es) (each-body es))
-        each-reading (tree.FaultLeaf k) = of_tree (tree.FaultLeaf k) (struct_below []) (struct-below [] tt)
+        pub each_reading : (x : Tree) → P (value_of set x)
+        each_reading tree.Null = of_null
+        each_reading (tree.Struct bytes ps) = of_tree (tree.Struct bytes ps) (struct_below (values_of set ps)) (struct_below_are (values_of set ps) (each_pointer ps))
+        each_reading (tree.Voids n) = of_tree (tree.Voids n) (bytes_below (tree.Voids n)) (bytes_below_are (tree.Voids n))
+        each_reading (tree.Bits bs) = of_tree (tree.Bits bs) (bytes_below (tree.Bits bs)) (bytes_below_are (tree.Bits bs))
+        each_reading (tree.Numbers w bytes) = of_tree (tree.Numbers w bytes) (bytes_below (tree.Numbers w bytes)) (bytes_below_are (tree.Numbers w bytes))
+        each_reading (tree.Pointers ps) = of_tree (tree.Pointers ps) (pointers_below (values_of set ps)) (pointers_below_are (values_of set ps) (each_pointer ps))
+        each_reading (tree.Composite d p es) = of_tree (tree.Composite d p es) (structs_below set (bodies_of set es)) (structs_below_are (bodies_of set es) (each_body es))
+        each_reading (tree.FaultLeaf k) = of_tree (tree.FaultLeaf k) (struct_below []) (struct_below_are [] tt)
 
-        pub each-pointer : (xs : Trees) → AllReadings (values_of set xs)
-        each-pointer tree.NoTrees = tt
-        each-pointer (tree.MoreTrees x xs) = (each-reading x, each-pointer xs)
+        pub each_pointer : (xs : Trees) → AllReadings (values_of set xs)
+        each_pointer tree.NoTrees = tt
+        each_pointer (tree.MoreTrees x xs) = (each_reading x, each_pointer xs)
 
-        each-body : (es : Structs) → AllBodies (bodies_of set es)
-        each-body tree.NoStructs = tt
-        each-body (tree.MoreStructs bytes ps es) = (each-pointer ps, each-body es)
+        each_body : (es : Structs) → AllBodies (bodies_of set es)
+        each_body tree.NoStructs = tt
+        each_body (tree.MoreStructs bytes ps es) = (each_pointer ps, each_body es)

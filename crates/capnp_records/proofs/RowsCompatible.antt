@@ -10,7 +10,7 @@ use Rattle.capnp_schema.specs.Types.{SchemaType, StructType, UIntType, TextType,
 use Rattle.capnp_schema.specs.Schema.{Schemas, Field, VoidValue, UIntValue, TextValue, DataValue, field_at}
 use Rattle.capnp_schema.specs.SlotValue.{default_bits}
 use Rattle.capnp_schema.specs.Builtin.{builtin, builtin_field, member, union_node, builtin_brand}
-use Rattle.capnp_records.specs.Facts.Frame.{and-left, and-right}
+use Rattle.capnp_records.specs.Facts.Frame.{and_left, and_right}
 use Rattle.capnp_records.specs.Record.{Left, Value}
 use Rattle.capnp_records.specs.Part.{which_of}
 use Rattle.capnp_records.specs.Reading.{struct_record, value_of}
@@ -97,8 +97,8 @@ only older newer a b = (a == older) && (b == newer)
 -- a pair that leads to no other
 closed_pair : (set : Schemas) (older newer : ℕ) → SharedStruct false set (only older newer) older newer → (a b : ℕ) → IsTrue (only older newer a b) → SharedStruct false set (only older newer) a b
 closed_pair set older newer h a b e =
-    subst (λ a. SharedStruct false set (only older newer) a b) (sym (eqb-true a older (and-left _ _ e)))
-    (subst (λ b. SharedStruct false set (only older newer) older b) (sym (eqb-true b newer (and-right (a == older) _ e))) h)
+    subst (λ a. SharedStruct false set (only older newer) a b) (sym (eqb-true a older (and_left _ _ e)))
+    (subst (λ b. SharedStruct false set (only older newer) older b) (sym (eqb-true b newer (and_right (a == older) _ e))) h)
 
 mixed_grew_into_mixed2 : (name : List ℕ) → IsCompatible (named_so name) 1 9
 mixed_grew_into_mixed2 name = record { pairs = only 1 9; given = refl; closed = closed_pair (named_so name) 1 9 shared }

@@ -8,7 +8,7 @@ use Rattle.capnp_wire.specs.Place.{tree_at}
 use Rattle.capnp_schema.specs.Types.{SchemaType, BoolType, StructType, ListType, UIntType}
 use Rattle.capnp_schema.specs.Schema.{Schemas, Field, Node, BoolValue, ListValue, UIntValue, field_at}
 use Rattle.capnp_schema.specs.Builtin.{builtin, builtin_field, member, builtin_struct_node, union_node, builtin_brand, zero_word}
-use Rattle.capnp_records.specs.Facts.Frame.{and-left, and-right}
+use Rattle.capnp_records.specs.Facts.Frame.{and_left, and_right}
 use Rattle.capnp_records.specs.Record.{Left, Value, Fault, MoreValues, NoUnion, NoValues, Parts}
 use Rattle.capnp_records.specs.Record as value
 use Rattle.capnp_records.specs.Reading.{value_of}
@@ -46,8 +46,8 @@ tallies = with_lists (UIntType 2) (pair_node (v_at 0 0) (w_at 1)) numbers
 
 closed_pair : (set : Schemas) → SharedStruct true set (only 9 10) 9 10 → (a b : ℕ) → IsTrue (only 9 10 a b) → SharedStruct true set (only 9 10) a b
 closed_pair set h a b e =
-    subst (λ a. SharedStruct true set (only 9 10) a b) (sym (eqb-true a 9 (and-left _ _ e)))
-    (subst (λ b. SharedStruct true set (only 9 10) 9 b) (sym (eqb-true b 10 (and-right (a == 9) _ e))) h)
+    subst (λ a. SharedStruct true set (only 9 10) a b) (sym (eqb-true a 9 (and_left _ _ e)))
+    (subst (λ b. SharedStruct true set (only 9 10) 9 b) (sym (eqb-true b 10 (and_right (a == 9) _ e))) h)
 
 tally_became_tally2 : IsCompatibleOrUpgraded tallies 9 10
 tally_became_tally2 = record { pairs = only 9 10; given = refl; closed = closed_pair tallies shared }

@@ -9,7 +9,7 @@ use Rattle.capnp_schema.specs.Schema.{FieldKind, Group, Schemas, Slot, TypedFiel
 use Rattle.capnp_schema.specs.StructHandles.{number_of, set_of}
 use Rattle.capnp_schema.specs.Types.{SchemaType, struct_brand}
 use Rattle.capnp_records.specs.Default.{read_field, read_of}
-use Rattle.capnp_records.specs.Facts.Groups.{part_of-group}
+use Rattle.capnp_records.specs.Facts.Groups.{part_of_group}
 use Rattle.capnp_records.specs.Facts.ListValues.{below_of}
 use Rattle.capnp_records.specs.Reading.{elements_value, kind_value, part_of, record_of, record_within, struct_record, values_of}
 use Rattle.capnp_records.specs.Record as value
@@ -83,5 +83,5 @@ module _ (s : StructHandle) (b i : ℕ) (is : IsRequestRecord b s) (active : IsR
         let f : TypedField = field_at request_set b i in
         let part : part_of request_set (Left (struct_levels x)) (struct_of x).bytes (values_of request_set (struct_of x).pointers) f
         ≡ value.Group (record_of request_set (Left (struct_levels x)) (struct_of x).bytes (values_of request_set (struct_of x).pointers) g) =
-        part_of-group request_set request_accepted (Left (struct_levels x)) (struct_of x).bytes (values_of request_set (struct_of x).pointers) b i g inside field.0 (named_group f.field.kind f.type g group field.1) in
+        part_of_group request_set request_accepted (Left (struct_levels x)) (struct_of x).bytes (values_of request_set (struct_of x).pointers) b i g inside field.0 (named_group f.field.kind f.type g group field.1) in
         sym (seen_in field.0 ∙ (ap (λ v. handed_out f.field.kind (read_field request_set f v)) part ∙ handed_group f.field.kind (kind_default f.field.kind) f.type (record_of request_set (Left (struct_levels x)) (struct_of x).bytes (values_of request_set (struct_of x).pointers) g) group))

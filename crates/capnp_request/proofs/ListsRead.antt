@@ -10,7 +10,7 @@ use Rattle.capnp_schema.specs.Schema.{Schemas, VoidValue}
 use Rattle.capnp_schema.specs.Types.{SchemaType}
 use Rattle.capnp_records.specs.Default.{read_of}
 use Rattle.capnp_records.specs.Facts.ListValues.{below_of}
-use Rattle.capnp_records.specs.Facts.Readers.{element-is-read}
+use Rattle.capnp_records.specs.Facts.Readers.{element_is_read}
 use Rattle.capnp_records.specs.Reading.{element_value, of_read, struct_record}
 use Rattle.capnp_records.specs.Record as value
 use Rattle.capnp_records.specs.Record.{Left, MoreValues, NoValues, Record, Value, values_from}
@@ -69,7 +69,7 @@ record_there l b i is x same s record_is y e read levels =
     sym (ap (λ r. value.Struct r) (record_in s y b record_is e))
     ∙ (ap (λ n. read_of request_set VoidValue t (value.Struct (struct_record request_set (Left n) (struct_of y) b))) (omega (arith, levels))
     ∙ (ap (λ r. read_of request_set VoidValue t (of_read (λ (z : StructTree). value.Struct (struct_record request_set (Left (list_levels x - 1)) z b)) r)) read
-    ∙ (ap (read_of request_set VoidValue t) (sym (element-is-read request_set (list_of x) (list_levels x) t i))
+    ∙ (ap (read_of request_set VoidValue t) (sym (element_is_read request_set (list_of x) (list_levels x) t i))
     ∙ (ap (λ (z : ListReader). element_by b i request_set z t) same
     ∙ (ap (λ (z : Schemas). element_by b i z (list_reader_of l) t) (sym is.set)
     ∙ ap (λ (u : SchemaType). element_by b i (list_set l) (list_reader_of l) u) (sym is.element))))))

@@ -50,9 +50,9 @@ module _ (name a b c whole : List ℕ) (is : whole ≡ (a ++ b) ++ c) where
 
 -- ---- types ----
 
-repeated-end : (n : ℕ) (p : List ℕ) → repeated_piece n p ++ p ≡ p ++ repeated_piece n p
-repeated-end zero p = sym (append-nil p)
-repeated-end (suc n) p = append_assoc p (repeated_piece n p) p ∙ ap (λ xs. p ++ xs) (repeated-end n p)
+repeated_end : (n : ℕ) (p : List ℕ) → repeated_piece n p ++ p ≡ p ++ repeated_piece n p
+repeated_end zero p = sym (append-nil p)
+repeated_end (suc n) p = append_assoc p (repeated_piece n p) p ∙ ap (λ xs. p ++ xs) (repeated_end n p)
 
 wrapped : (l ls t rs r : List ℕ) → rs ++ r ≡ r ++ rs → (l ++ ((ls ++ t) ++ rs)) ++ r ≡ ((l ++ ls) ++ t) ++ (r ++ rs)
 wrapped l ls t rs r e = simp append_assoc (ap (λ xs. l ++ (ls ++ (t ++ xs))) e)
@@ -62,7 +62,7 @@ pub lists_name : (structs enums : List (List ℕ)) (q : Bool) (n : ℕ) (t : Sch
 lists_name structs enums q zero t = sym (append-nil (set_type_name structs enums q t))
 lists_name structs enums q (suc n) t =
     ap (λ xs. (codes "List(" ++ xs) ++ codes ")") (lists_name structs enums q n t)
-    ∙ wrapped (codes "List(") (repeated_piece n (codes "List(")) (set_type_name structs enums q t) (repeated_piece n (codes ")")) (codes ")") (repeated-end n (codes ")"))
+    ∙ wrapped (codes "List(") (repeated_piece n (codes "List(")) (set_type_name structs enums q t) (repeated_piece n (codes ")")) (codes ")") (repeated_end n (codes ")"))
 
 pub variant_seen : (b : BaseType) → seen_variant (base_variant b) ≡ seen_base b
 variant_seen base.Void = refl

@@ -5,7 +5,7 @@ use Rattle.capnp_wire.specs.Standing.{struct_levels, struct_of}
 use Rattle.capnp_request.specs.RequestSet.{request_set}
 use Rattle.capnp_schema.specs.Schema.{Schemas, TypedField, field_at, fields_of}
 use Rattle.capnp_schema.specs.StructHandles.{number_of, set_of, struct_field, struct_fields}
-use Rattle.capnp_records.specs.Facts.PartHere.{IsHere, part-here}
+use Rattle.capnp_records.specs.Facts.PartHere.{IsHere, part_here}
 use Rattle.capnp_records.specs.Default.{read_field}
 use Rattle.capnp_records.specs.Part.{part_at}
 use Rattle.capnp_records.specs.Record.{Left, Record, Value}
@@ -38,7 +38,7 @@ seen_part s b i record_is inside active =
     let n : ℕ = number_of (schema_of s) in
     let within : i < length (fields_of set n) = inside_record s b i record_is inside in
     let here : IsHere (record_seen s) (field_at set n i) i = subst (λ z. IsHere (record_seen s) (field_at z n i) i) (sym record_is.set) (subst (λ m. IsHere (record_seen s) (field_at request_set m i) i) (sym record_is.number) active) in
-    ap (under set (field_at set n i)) (sym (part-here set (Left (struct_levels (reader_of s))) (struct_of (reader_of s)) n i within here))
+    ap (under set (field_at set n i)) (sym (part_here set (Left (struct_levels (reader_of s))) (struct_of (reader_of s)) n i within here))
     ∙ (ap (λ z. read_in z n i (record_seen s)) record_is.set ∙ ap (λ m. read_in request_set m i (record_seen s)) record_is.number)
 
 pub typed_part : (r : Result DynamicValue Error) (s : StructHandle) (b i j : ℕ) → IsRequestRecord b s → j ≡ i → IfOk r (IsOf (set_of (schema_of s)) (struct_field (schema_of s) j).type) → IfOk r (IsOf request_set (field_at request_set b i).type)

@@ -14,8 +14,8 @@ use Rattle.capnp_schema.specs.Builtin.{zero_word}
 use Rattle.capnp_schema.specs.Schema.{DataValue, ListValue, Slot, StructValue, TextValue, Value as SchemaValue}
 use Rattle.capnp_schema.specs.Types.{DataType, ListType, SchemaType, TextType, element_size, is_pointer}
 use Rattle.capnp_records.specs.Default.{read_of}
-use Rattle.capnp_records.specs.Facts.Frame.{first-of}
-use Rattle.capnp_records.specs.Facts.Pointers.{values_of-nth}
+use Rattle.capnp_records.specs.Facts.Frame.{chosen_first}
+use Rattle.capnp_records.specs.Facts.Pointers.{values_of_nth}
 use Rattle.capnp_records.specs.Facts.ReadFaults.{Sound}
 use Rattle.capnp_records.specs.Reading.{Reading, value_of}
 use Rattle.capnp_records.specs.Record as value
@@ -32,7 +32,7 @@ use Rattle.capnp_request.specs.RequestSet.{request_set}
 use Rattle.capnp_request.specs.Steps.Handles.{IsRequestFieldActive, IsRequestSlot}
 use Rattle.capnp_request.proofs.FieldsSeen.{seen_by}
 use Rattle.capnp_request.proofs.PointersMet.{data_met, list_met, null_list, struct_met, text_met}
-use Rattle.capnp_request.proofs.Sounds.{of_reads, read_at-sound, seen_sound}
+use Rattle.capnp_request.proofs.Sounds.{of_reads, read_at_sound, seen_sound}
 
 -- ---- what an answer is, by its value ----
 
@@ -54,7 +54,7 @@ data_refused (Err f) v e = e
 
 -- a refusal is one of those of reads
 pub fault_kinds : (kind : ErrorKind) (s : StructHandle) (b i : ℕ) → value.Fault kind ≡ request_read_at b i (record_seen s) → IsUnstrict kind
-fault_kinds kind s b i h = of_reads kind (subst Sound (sym h) (read_at-sound b i (record_seen s) (seen_sound s)))
+fault_kinds kind s b i h = of_reads kind (subst Sound (sym h) (read_at_sound b i (record_seen s) (seen_sound s)))
 
 pub refused_kinds : {A : Type 0} (r : Result A Error) (s : StructHandle) (b i : ℕ) → IfErr r (λ e. value.Fault e.kind ≡ request_read_at b i (record_seen s)) → IfErr r (λ e. IsUnstrict e.kind)
 refused_kinds (Ok a) s b i h = tt
@@ -67,8 +67,8 @@ module _ (s : StructHandle) (b i : ℕ) (is : IsRequestRecord b s) (active : IsR
   pointer_there d t pointer slot =
       sym (seen_by s b i is active x same (Slot place d) t slot.0 slot.1
       ∙ ap (read_of request_set d t)
-      (first-of (is_pointer t) _ _ pointer
-      ∙ (ap (λ (f : Reading). f (Left (struct_levels x)) t) (values_of-nth request_set (struct_of x).pointers place)
+      (chosen_first (is_pointer t) _ _ pointer
+      ∙ (ap (λ (f : Reading). f (Left (struct_levels x)) t) (values_of_nth request_set (struct_of x).pointers place)
       ∙ ap₂ (λ y n. value_of request_set y (Left n) t) (sym tree) (sym levels))))
 
   pub text_there : IsRequestSlot b i TextType place (TextValue []) → (r : Result (Bor (List ℕ)) Error) → bytes_read r ≡ as_text (tree_of p) → text_answered r ≡ request_read_at b i (record_seen s)

@@ -52,9 +52,9 @@ whole_read l b f = let e : length_of l ≡ length_of l - 0 = omega arith in ap (
 
 -- ---- ids that were met ----
 
-met-append : (a b : List ℕ) (id : ℕ) → is_met (a ++ b) id ≡ (is_met a id || is_met b id)
-met-append [] b id = refl
-met-append (x ∷ a) b id = ap (λ q. (x == id) || q) (met-append a b id) ∙ go (x == id) (is_met a id) (is_met b id)
+met_append : (a b : List ℕ) (id : ℕ) → is_met (a ++ b) id ≡ (is_met a id || is_met b id)
+met_append [] b id = refl
+met_append (x ∷ a) b id = ap (λ q. (x == id) || q) (met_append a b id) ∙ go (x == id) (is_met a id) (is_met b id)
   where
     go : (p q r : Bool) → (p || (q || r)) ≡ ((p || q) || r)
     go true q r = refl
@@ -63,8 +63,8 @@ met-append (x ∷ a) b id = ap (λ q. (x == id) || q) (met-append a b id) ∙ go
 -- the same ids in another order
 pub met_moved : (a b c : List ℕ) (id : ℕ) → is_met (b ++ (a ++ c)) id ≡ is_met ((a ++ b) ++ c) id
 met_moved a b c id =
-    met-append b (a ++ c) id ∙ (ap (λ q. is_met b id || q) (met-append a c id) ∙ (go (is_met a id) (is_met b id) (is_met c id)
-    ∙ sym (met-append (a ++ b) c id ∙ ap (λ q. q || is_met c id) (met-append a b id))))
+    met_append b (a ++ c) id ∙ (ap (λ q. is_met b id || q) (met_append a c id) ∙ (go (is_met a id) (is_met b id) (is_met c id)
+    ∙ sym (met_append (a ++ b) c id ∙ ap (λ q. q || is_met c id) (met_append a b id))))
   where
     go : (p q r : Bool) → (q || (p || r)) ≡ ((p || q) || r)
     go true true r = refl

@@ -10,7 +10,7 @@ use Rattle.capnp_request.specs.RequestSet.{request_set}
 use Rattle.capnp_schema.specs.Schema.{FieldKind, Group, Schemas, Slot, default_of, field_at}
 use Rattle.capnp_schema.specs.StructHandles.{number_of, set_of}
 use Rattle.capnp_schema.specs.Types.{StructType}
-use Rattle.capnp_records.specs.Facts.ReadFaults.{IsReadKind, RecordSound, Sound, part-sound, read_of-sound, value_of-sound}
+use Rattle.capnp_records.specs.Facts.ReadFaults.{IsReadKind, RecordSound, Sound, part_sound, read_of_sound, value_of_sound}
 use Rattle.capnp_records.specs.Part.{part_at}
 use Rattle.capnp_records.specs.Reading.{of_read, record_of, struct_record, values_of}
 use Rattle.capnp_records.specs.Record as value
@@ -30,7 +30,7 @@ record_sound : (set : Schemas) (n : ℕ) (s : StructTree) (b : ℕ) → RecordSo
 record_sound set n s b =
     let one_fewer : suc n - 1 ≡ n = omega arith in
     let is_left : (suc n == 0) ≡ false = search rules in
-    subst (λ m. RecordSound (struct_record set (Left m) s b)) one_fewer (go (suc n == 0) is_left (value_of-sound set (tree.Struct s.bytes s.pointers) (Left (suc n)) (StructType b 0)))
+    subst (λ m. RecordSound (struct_record set (Left m) s b)) one_fewer (go (suc n == 0) is_left (value_of_sound set (tree.Struct s.bytes s.pointers) (Left (suc n)) (StructType b 0)))
   where
     go : (q : Bool) → q ≡ false → Sound (of_read (λ (x : StructTree). value.Struct (record_of set (Left (suc n - 1)) x.bytes (values_of set s.pointers) b)) (cond q (Err TooDeep) (Ok s))) → RecordSound (struct_record set (Left (suc n - 1)) s b)
     go true e h = cc
@@ -39,16 +39,16 @@ record_sound set n s b =
 pub seen_sound : (s : StructHandle) → RecordSound (record_seen s)
 seen_sound s = record_sound (set_of (schema_of s)) (struct_levels (reader_of s)) (struct_of (reader_of s)) (number_of (schema_of s))
 
-handed_out-sound : (k : FieldKind) (v : Value) → Sound v → Sound (handed_out k v)
-handed_out-sound (Slot offset default) v s = s
-handed_out-sound (Group node) (value.Group r) s = s
-handed_out-sound (Group node) v s = s
+handed_out_sound : (k : FieldKind) (v : Value) → Sound v → Sound (handed_out k v)
+handed_out_sound (Slot offset default) v s = s
+handed_out_sound (Group node) (value.Group r) s = s
+handed_out_sound (Group node) v s = s
 
-pub read_at-sound : (b i : ℕ) (r : Record) → RecordSound r → Sound (request_read_at b i r)
+pub read_at_sound : (b i : ℕ) (r : Record) → RecordSound r → Sound (request_read_at b i r)
 unfolding request_read_at
-read_at-sound b i r s =
-    handed_out-sound (field_at request_set b i).field.kind _
-    (read_of-sound request_set (default_of (field_at request_set b i).field) (field_at request_set b i).type (part_at r (field_at request_set b i).field i) (part-sound r s (field_at request_set b i).field i))
+read_at_sound b i r s =
+    handed_out_sound (field_at request_set b i).field.kind _
+    (read_of_sound request_set (default_of (field_at request_set b i).field) (field_at request_set b i).type (part_at r (field_at request_set b i).field i) (part_sound r s (field_at request_set b i).field i))
 
 -- ---- refusals ----
 

@@ -49,12 +49,12 @@ second_types (a ∷ xs) (t ∷ ts) e = ap (λ ys. seen_type t ∷ ys) (second_ty
 pub notes_more : (before after added : List NoteRecord) (new : List Note) → after ≡ before ++ added → seen_notes added ≡ new → seen_notes after ≡ seen_notes before ++ new
 notes_more before after added new e is = ap seen_notes e ∙ (map-append seen_note before added ∙ ap (λ xs. seen_notes before ++ xs) is)
 
-all_notes-append : (xs ys : List Converted) → all_notes (xs ++ ys) ≡ all_notes xs ++ all_notes ys
-all_notes-append [] ys = refl
-all_notes-append (x ∷ xs) ys = ap (λ ns. x.notes ++ ns) (all_notes-append xs ys) ∙ sym (append_assoc x.notes (all_notes xs) (all_notes ys))
+all_notes_append : (xs ys : List Converted) → all_notes (xs ++ ys) ≡ all_notes xs ++ all_notes ys
+all_notes_append [] ys = refl
+all_notes_append (x ∷ xs) ys = ap (λ ns. x.notes ++ ns) (all_notes_append xs ys) ∙ sym (append_assoc x.notes (all_notes xs) (all_notes ys))
 
 pub notes_of_more : (xs : List Converted) (x : Converted) → all_notes (xs ++ x ∷ []) ≡ all_notes xs ++ x.notes
-notes_of_more xs x = all_notes-append xs (x ∷ []) ∙ ap (λ ns. all_notes xs ++ ns) (append-nil x.notes)
+notes_of_more xs x = all_notes_append xs (x ∷ []) ∙ ap (λ ns. all_notes xs ++ ns) (append-nil x.notes)
 
 -- ---- fields ----
 
@@ -151,13 +151,13 @@ module _ (nodes : List SchemaNode) (strict : Bool) (number id : ℕ) (bound : Li
           struct_made nodes strict number id bound name n s ≡ Ok ((node_made part fields own, brand_made fields own, all_notes fields), last)
       struct_given own last e = behind ∙ then_ok (annotations_of nodes strict bound n.annotations) (with_own part fields) after last own e
 
-map-map : {A B C : Type 0} (f : B → C) (g : A → B) (xs : List A) → map (λ x. f (g x)) xs ≡ map f (map g xs)
-map-map f g [] = refl
-map-map f g (x ∷ xs) = ap (λ ys. f (g x) ∷ ys) (map-map f g xs)
+map_map : {A B C : Type 0} (f : B → C) (g : A → B) (xs : List A) → map (λ x. f (g x)) xs ≡ map f (map g xs)
+map_map f g [] = refl
+map_map f g (x ∷ xs) = ap (λ ys. f (g x) ∷ ys) (map_map f g xs)
 
 -- the parts of a struct, as they are seen
 pub children_of : (ts : List (Vec TypeHandle Global)) (types : List (List TypeHandle)) → map (λ (v : Vec TypeHandle Global). v.items) ts ≡ types → map (λ (v : Vec TypeHandle Global). map seen_type v.items) ts ≡ map (λ (xs : List TypeHandle). map seen_type xs) types
-children_of ts types e = map-map (λ (xs : List TypeHandle). map seen_type xs) (λ (v : Vec TypeHandle Global). v.items) ts ∙ ap (map (λ (xs : List TypeHandle). map seen_type xs)) e
+children_of ts types e = map_map (λ (xs : List TypeHandle). map seen_type xs) (λ (v : Vec TypeHandle Global). v.items) ts ∙ ap (map (λ (xs : List TypeHandle). map seen_type xs)) e
 
 -- a node by its parts
 abbrev node_by : ℕ → List ℕ → List Annotation → ℕ → ℕ → Bool → ℕ → ℕ → List Field → Node

@@ -14,7 +14,7 @@ use Rattle.capnp_arena.specs.declared.arena.Arena.{Arena}
 use Rattle.capnp_arena.specs.declared.arena.Place.{Place}
 use Rattle.capnp_schema.specs.Plan.{brand_size}
 use Rattle.capnp_schema.specs.Schema.{Schemas}
-use Rattle.capnp_records.specs.Facts.Extension.{fits-extended}
+use Rattle.capnp_records.specs.Facts.Extension.{fits_extended}
 use Rattle.capnp_records.specs.Writes.Slots.{Fits}
 use Rattle.capnp_arena.specs.Built.{IsBuilt, built_at, place_words}
 
@@ -35,7 +35,7 @@ module _ (a b : Arena) (p q : Place) (same : b ≡ a) (placed : q ≡ p) (forest
   got_fits set n size s is made =
       subst (Fits set n)
       (sym (struct_is (segment b) 0 q.start q.data_words q.pointers (extended_struct size s) forest_here there_here (ap (λ (x : Arena). tree (segment x) 0) same ∙ made) ∙ ap (λ (z : StructSize). extended_struct z s) is))
-      (fits-extended set n s)
+      (fits_extended set n s)
 
   pub left : {new : List ℕ} → Planted new (place_words q) → PartChanges (place_words q) (segment b) new → Forest new 0
   left {new} planted changes =

@@ -7,7 +7,7 @@ use Rattle.std.proofs.Math.Nat.{mul-mod_right}
 use Rattle.std.proofs.lemmas.Option.{slice_get_past}
 use Rattle.capnp_schema.specs.Accepted.{DiscriminantFits, HasEachMember, IsAccepted}
 use Rattle.capnp_schema.specs.Discriminant.{discriminant_of, first_bit}
-use Rattle.capnp_schema.specs.Facts.Fields.{brand_there, member_counted, of_node, typed-field}
+use Rattle.capnp_schema.specs.Facts.Fields.{brand_there, member_counted, of_node, typed_field}
 use Rattle.capnp_schema.specs.Plan.{member_plan, plan_of}
 use Rattle.capnp_schema.specs.Query.{is_member_of, member_of, records_of}
 use Rattle.capnp_schema.specs.Schema.{Brand, Field, Node, Schemas, TypedField, brand_at, field_at, fields_of, is_member, no_brand, no_node, node_at, node_of}
@@ -50,7 +50,7 @@ module _ (set : Schemas) (accepted : IsAccepted set) (b : ℕ) where
       let (k, f, here, member, is) = first_member m e in
       let same : Some i ≡ Some k = found ∙ is in
       let k_is : k ≡ i = cc in
-      let field : Some f ≡ Some (field_at set b i).field = sym here ∙ (ap (slice_get (node_of set b).fields) k_is ∙ typed-field (node_of set b).fields (brand_at set b).field_types i inside) in
+      let field : Some f ≡ Some (field_at set b i).field = sym here ∙ (ap (slice_get (node_of set b).fields) k_is ∙ typed_field (node_of set b).fields (brand_at set b).field_types i inside) in
       let f_is : f ≡ (field_at set b i).field = cc in
       ap is_member (sym f_is) ∙ member
 

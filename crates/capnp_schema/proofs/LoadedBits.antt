@@ -3,10 +3,10 @@ use Rattle.std.proofs.Common.{ℕ, ◌*◌, ◌/◌, ◌%◌, ◌^◌, ◌<◌, 
 use Rattle.capnp_wire.specs.Slot.{bit_at, number_at}
 use Rattle.capnp_wire.specs.WellFormed.{AreBytes}
 use Rattle.capnp_schema.specs.SlotValue.{bit_number, bits_at}
-use Rattle.capnp_schema.specs.Facts.Bits.{bits_at-bounded, bits_at-number}
+use Rattle.capnp_schema.specs.Facts.Bits.{bits_at_bounded, bits_at_number}
 
 whole : (k : ℕ) (bytes : List ℕ) (start offset : ℕ) → AreBytes bytes → start ≡ offset * (8 * k) → number_at k offset bytes ≡ bits_at bytes start (8 * k)
-whole k bytes start offset bounded e = sym (ap (λ i. bits_at bytes i (8 * k)) e ∙ bits_at-number bytes k offset bounded)
+whole k bytes start offset bounded e = sym (ap (λ i. bits_at bytes i (8 * k)) e ∙ bits_at_number bytes k offset bounded)
 
 pub load_1 : (bytes : List ℕ) (start : ℕ) → bit_number (bit_at bytes start) ≡ bits_at bytes start 1
 load_1 bytes start = omega arith
@@ -24,4 +24,4 @@ pub load_64 : (bytes : List ℕ) (start : ℕ) → AreBytes bytes → start % 64
 load_64 bytes start bounded e = whole 8 bytes start (start / 64) bounded (omega (arith, e))
 
 pub load_bounded : (bytes : List ℕ) (start bits n : ℕ) → n ≡ bits_at bytes start bits → n < 2 ^ bits
-load_bounded bytes start bits n e = subst (λ k. k < 2 ^ bits) (sym e) (bits_at-bounded bytes start bits)
+load_bounded bytes start bits n e = subst (λ k. k < 2 ^ bits) (sym e) (bits_at_bounded bytes start bits)

@@ -40,31 +40,31 @@ data_names : (set : Schemas) (bits offset : ℕ) (default : Value) (i : ℕ) →
 data_names set zero offset default i = no_bits (offset * 0) i
 data_names set (suc bits) offset default i = refl
 
-data_names-pointer : (set : Schemas) (bits offset : ℕ) (default : Value) (i : ℕ) → place_names set (data_place bits offset default) (PointerAt i) ≡ false
-data_names-pointer set zero offset default i = refl
-data_names-pointer set (suc bits) offset default i = refl
+data_names_pointer : (set : Schemas) (bits offset : ℕ) (default : Value) (i : ℕ) → place_names set (data_place bits offset default) (PointerAt i) ≡ false
+data_names_pointer set zero offset default i = refl
+data_names_pointer set (suc bits) offset default i = refl
 
-slot_place-names : (set : Schemas) (t : SchemaType) (offset : ℕ) (default : Value) (q : Bool) → is_pointer t ≡ q → (p : Spot) → place_names set (slot_place q (width t) offset default) p ≡ slot_names offset t p
-slot_place-names set t offset default true e (DataBit i) = no_bits (offset * 0) i ∙ ap (λ bits. is_in (offset * bits) bits i) (sym (pointer_width t e))
-slot_place-names set t offset default true e (PointerAt i) = ap (λ q. q && (i == offset)) (sym e)
-slot_place-names set t offset default false e (DataBit i) = data_names set (width t) offset default i
-slot_place-names set t offset default false e (PointerAt i) = data_names-pointer set (width t) offset default i ∙ ap (λ q. q && (i == offset)) (sym e)
+slot_place_names : (set : Schemas) (t : SchemaType) (offset : ℕ) (default : Value) (q : Bool) → is_pointer t ≡ q → (p : Spot) → place_names set (slot_place q (width t) offset default) p ≡ slot_names offset t p
+slot_place_names set t offset default true e (DataBit i) = no_bits (offset * 0) i ∙ ap (λ bits. is_in (offset * bits) bits i) (sym (pointer_width t e))
+slot_place_names set t offset default true e (PointerAt i) = ap (λ q. q && (i == offset)) (sym e)
+slot_place_names set t offset default false e (DataBit i) = data_names set (width t) offset default i
+slot_place_names set t offset default false e (PointerAt i) = data_names_pointer set (width t) offset default i ∙ ap (λ q. q && (i == offset)) (sym e)
 
-plan-names : (set : Schemas) → IsAccepted set → (b i : ℕ) → b < length set.brands → i < length (fields_of set b) → (p : Spot) →
+plan_names : (set : Schemas) → IsAccepted set → (b i : ℕ) → b < length set.brands → i < length (fields_of set b) → (p : Spot) →
     place_names set (plan_of set b (field_at set b i)).place p ≡ footprint set (field_at set b i) p
-plan-names set accepted b i b_in i_in p = go (field_at set b i).field.kind (field_at set b i).type (accepted.rule7 b i b_in i_in) (λ g h. group_names_its_parts set accepted b i g p b_in i_in h)
+plan_names set accepted b i b_in i_in p = go (field_at set b i).field.kind (field_at set b i).type (accepted.rule7 b i b_in i_in) (λ g h. group_names_its_parts set accepted b i g p b_in i_in h)
   where
     names : FieldKind → SchemaType → Bool
     names k t = kind_names (brand_names (length set.brands) set) k t p
 
     go : (k : FieldKind) (t : SchemaType) → GroupFits set k t → ((g : ℕ) → IsGroupOf k t g → names k t ≡ struct_spots set g p) → place_names set (plan_place k t) p ≡ names k t
-    go (Slot offset default) t fits h = slot_place-names set t offset default (is_pointer t) refl p
+    go (Slot offset default) t fits h = slot_place_names set t offset default (is_pointer t) refl p
     go (Group node) (StructType number generic) fits h = sym (h number refl)
     go (Group node) t fits h = absurd fits
 
-place-number : (k : FieldKind) (t : SchemaType) → HasSlotNumber k t (plan_place k t)
-place-number (Group node) t = tt
-place-number (Slot offset default) t = λ bytes some. go bytes (is_pointer t) refl (width t) refl some
+plan_place_number : (k : FieldKind) (t : SchemaType) → HasSlotNumber k t (plan_place k t)
+plan_place_number (Group node) t = tt
+plan_place_number (Slot offset default) t = λ bytes some. go bytes (is_pointer t) refl (width t) refl some
   where
     go : (bytes : List ℕ) (q : Bool) → is_pointer t ≡ q → (bits : ℕ) → width t ≡ bits → 0 < bits → place_number bytes (slot_place q bits offset default) ≡ bit_xor (bits_at bytes (offset * bits) bits) (default_bits default)
     go bytes true e bits w some = absurd (omega (arith, pointer_width t e))
@@ -76,17 +76,17 @@ place-number (Slot offset default) t = λ bytes some. go bytes (is_pointer t) re
 counted : (n d : ℕ) → d < n → nat_lt 0 n ≡ true
 counted n d a = grind arith
 
-discriminant-named : (n : Node) (d : ℕ) → d < n.discriminant_count → (p : Spot) → discriminant_bits (16 * n.discriminant_offset) p ≡ discriminant_names n p
-discriminant-named n d a (DataBit i) = ap (λ q. q && is_in (16 * n.discriminant_offset) 16 i) (sym (counted n.discriminant_count d a))
-discriminant-named n d a (PointerAt i) = refl
+discriminant_named : (n : Node) (d : ℕ) → d < n.discriminant_count → (p : Spot) → discriminant_bits (16 * n.discriminant_offset) p ≡ discriminant_names n p
+discriminant_named n d a (DataBit i) = ap (λ q. q && is_in (16 * n.discriminant_offset) 16 i) (sym (counted n.discriminant_count d a))
+discriminant_named n d a (PointerAt i) = refl
 
 pub plans_stand : (set : Schemas) → IsAccepted set → HasRanges set → (b i : ℕ) → b < length set.brands → i < length (fields_of set b) →
     LiesInNode (node_of set b) (field_at set b i) × IsPlan set b (field_at set b i) (plan_of set b (field_at set b i))
 plans_stand set accepted ranges b i b_in i_in = (
   lies,
   record {
-    names = plan-names set accepted b i b_in i_in;
-    number = place-number (field_at set b i).field.kind (field_at set b i).type;
+    names = plan_names set accepted b i b_in i_in;
+    number = plan_place_number (field_at set b i).field.kind (field_at set b i).type;
     member = some (is_member (field_at set b i).field) refl;
     non_union = none (is_member (field_at set b i).field) refl;
     slot = is_slot_place f.kind (field_at set b i).type (ranges.types b i b_in i_in) (ranges.masks b i b_in i_in);
@@ -105,7 +105,7 @@ plans_stand set accepted ranges b i b_in i_in = (
     f = (field_at set b i).field
 
     some : (q : Bool) → is_member f ≡ q → IfSome (member_plan q n f) (λ m. IsTrue (is_member f) × (m.1 ≡ f.discriminant_value) × ((p : Spot) → discriminant_bits m.0 p ≡ discriminant_names n p))
-    some true e = (e, refl, discriminant-named n f.discriminant_value (member_counted set accepted b i b_in i_in e))
+    some true e = (e, refl, discriminant_named n f.discriminant_value (member_counted set accepted b i b_in i_in e))
     some false e = tt
 
     none : (q : Bool) → is_member f ≡ q → IfNone (member_plan q n f) (IsFalse (is_member f))

@@ -20,7 +20,7 @@ use Rattle.capnp_schema.specs.Steps.EntryRanges.{EntriesFit, FieldFits}
 use Rattle.capnp_schema.specs.declared.lists.Lists.{Lists}
 use Rattle.capnp_schema.specs.declared.record.AnnotationTypes.{AnnotationTypes as TypesRecord}
 use Rattle.capnp_schema.proofs.EntryWalk.{at_node, entry_has}
-use Rattle.capnp_schema.specs.Facts.Fields.{entry-some, of_node, typed-field}
+use Rattle.capnp_schema.specs.Facts.Fields.{entry_some, of_node, typed_field}
 
 -- ---- types ----
 
@@ -123,11 +123,11 @@ kind_below (Group node) t h r = pow_pos (width t)
 
 -- ---- fields of brands ----
 
-typed-type : (fs : List Field) (ts : List SchemaType) (i : ℕ) → i < length (typed_fields fs ts) → slice_get ts i ≡ Some (unwrap_or (slice_get (typed_fields fs ts) i) no_field).type
-typed-type [] ts i a = absurd (omega arith)
-typed-type (f ∷ fs) [] i a = absurd (omega arith)
-typed-type (f ∷ fs) (t ∷ ts) zero a = refl
-typed-type (f ∷ fs) (t ∷ ts) (suc i) a = typed-type fs ts i (omega arith)
+typed_type : (fs : List Field) (ts : List SchemaType) (i : ℕ) → i < length (typed_fields fs ts) → slice_get ts i ≡ Some (unwrap_or (slice_get (typed_fields fs ts) i) no_field).type
+typed_type [] ts i a = absurd (omega arith)
+typed_type (f ∷ fs) [] i a = absurd (omega arith)
+typed_type (f ∷ fs) (t ∷ ts) zero a = refl
+typed_type (f ∷ fs) (t ∷ ts) (suc i) a = typed_type fs ts i (omega arith)
 
 none_fits : NodeFits no_node
 none_fits = record { data_words = omega arith; pointers = omega arith; discriminant_count = omega arith; discriminant_offset = omega arith }
@@ -140,8 +140,8 @@ has_ranges set accepted entries types = record {
   kinds = λ b i b_in i_in. (field b i b_in i_in).kind;
   defaults = λ b i b_in i_in. (field b i b_in i_in).default;
   masks = λ b i b_in i_in. kind_below (field_at set b i).field.kind (field_at set b i).type (accepted.rule5 b i b_in i_in) (field b i b_in i_in).default;
-  types = λ b i b_in i_in. entry_has HasWidths (brand_at set b).field_types i (field_at set b i).type (entry_has (λ (x : Brand). All HasWidths x.field_types) set.brands b (brand_at set b) types.fields (sym (entry-some set.brands b _ b_in)))
-      (sym (typed-type (node_of set b).fields (brand_at set b).field_types i i_in));
+  types = λ b i b_in i_in. entry_has HasWidths (brand_at set b).field_types i (field_at set b i).type (entry_has (λ (x : Brand). All HasWidths x.field_types) set.brands b (brand_at set b) types.fields (sym (entry_some set.brands b _ b_in)))
+      (sym (typed_type (node_of set b).fields (brand_at set b).field_types i i_in));
   annotations = λ k d h. ((entries.nodes k d h).annotations, λ j e l. ((entries.nodes k d h).fields j e l).annotations);
   annotation_types = types.annotations;
   enum_annotations = entries.enums;
@@ -150,4 +150,4 @@ has_ranges set accepted entries types = record {
   where
     field : (b i : ℕ) → b < length set.brands → i < length (fields_of set b) → FieldFits (field_at set b i).field
     field b i b_in i_in = entry_has FieldFits (node_of set b).fields i (field_at set b i).field (of_node set accepted (λ (n : Node). All FieldFits n.fields) (λ k d h. (entries.nodes k d h).fields) b b_in)
-        (sym (typed-field (node_of set b).fields (brand_at set b).field_types i i_in))
+        (sym (typed_field (node_of set b).fields (brand_at set b).field_types i i_in))

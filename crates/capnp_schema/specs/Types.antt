@@ -23,7 +23,7 @@ pub data SchemaType : Type 0 where
   StructType : (number generic : ℕ) → SchemaType
   ListType : (element : SchemaType) → SchemaType
   AnyPointerType : SchemaType
-  deriving IsSet as SchemaType-is_set
+  deriving IsSet as SchemaType_is_set
 
 -- what a type that is no list stands for
 abbrev pub seen_base : BaseType → SchemaType

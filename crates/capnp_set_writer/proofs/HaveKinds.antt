@@ -8,36 +8,36 @@ use Rattle.capnp_set_writer.specs.Limits.{AnnotationHasKind, DefaultHasKind, Enu
 all : {A : Type 0} {P Q : A → Type 0} → ((a : A) → P a → Q a) → (xs : List A) → All P xs → All Q xs
 all each xs k = λ i d a. each _ (k i d a)
 
-value-kind : (v : Value) → ValueKept v → HasForm v
-value-kind VoidValue k = tt
-value-kind (BoolValue b) k = tt
-value-kind (IntValue width x) k = tt
-value-kind (UIntValue width x) k = tt
-value-kind (EnumValue x) k = tt
-value-kind (TextValue bytes) k = tt
-value-kind (DataValue bytes) k = tt
-value-kind (StructValue words) k = tt
-value-kind (ListValue words) k = k.0
-value-kind (AnyPointerValue words) k = k
+value_kind : (v : Value) → ValueKept v → HasForm v
+value_kind VoidValue k = tt
+value_kind (BoolValue b) k = tt
+value_kind (IntValue width x) k = tt
+value_kind (UIntValue width x) k = tt
+value_kind (EnumValue x) k = tt
+value_kind (TextValue bytes) k = tt
+value_kind (DataValue bytes) k = tt
+value_kind (StructValue words) k = tt
+value_kind (ListValue words) k = k.0
+value_kind (AnyPointerValue words) k = k
 
-annotations-kind : (xs : List Annotation) → All AnnotationKept xs → All AnnotationHasKind xs
-annotations-kind xs k = all (λ (a : Annotation) (h : AnnotationKept a). value-kind a.value h.value) xs k
+annotations_kind : (xs : List Annotation) → All AnnotationKept xs → All AnnotationHasKind xs
+annotations_kind xs k = all (λ (a : Annotation) (h : AnnotationKept a). value_kind a.value h.value) xs k
 
-default-kind : (kind : FieldKind) → KindKept kind → DefaultHasKind kind
-default-kind (Slot offset default) k = value-kind default k.1
-default-kind (Group node) k = tt
+default_kind : (kind : FieldKind) → KindKept kind → DefaultHasKind kind
+default_kind (Slot offset default) k = value_kind default k.1
+default_kind (Group node) k = tt
 
-field-kinds : (f : Field) → FieldKept f → FieldHasKinds f
-field-kinds f k = record { annotations = annotations-kind f.annotations k.annotations; default = default-kind f.kind k.kind }
+field_kinds : (f : Field) → FieldKept f → FieldHasKinds f
+field_kinds f k = record { annotations = annotations_kind f.annotations k.annotations; default = default_kind f.kind k.kind }
 
-node-kinds : (n : Node) → NodeKept n → NodeHasKinds n
-node-kinds n k = record { annotations = annotations-kind n.annotations k.annotations; fields = all field-kinds n.fields k.fields }
+node_kinds : (n : Node) → NodeKept n → NodeHasKinds n
+node_kinds n k = record { annotations = annotations_kind n.annotations k.annotations; fields = all field_kinds n.fields k.fields }
 
-enumerant-kinds : (x : Enumerant) → EnumerantKept x → EnumerantHasKinds x
-enumerant-kinds x k = annotations-kind x.annotations k.annotations
+enumerant_kinds : (x : Enumerant) → EnumerantKept x → EnumerantHasKinds x
+enumerant_kinds x k = annotations_kind x.annotations k.annotations
 
-enum-kinds : (x : Enum) → EnumKept x → EnumHasKinds x
-enum-kinds x k = record { annotations = annotations-kind x.annotations k.annotations; enumerants = all enumerant-kinds x.enumerants k.enumerants }
+enum_kinds : (x : Enum) → EnumKept x → EnumHasKinds x
+enum_kinds x k = record { annotations = annotations_kind x.annotations k.annotations; enumerants = all enumerant_kinds x.enumerants k.enumerants }
 
-pub set-kinds : (s : Schemas) → SetKept s → SetHasKinds s
-set-kinds s k = record { nodes = all node-kinds s.nodes k.nodes; enums = all enum-kinds s.enums k.enums }
+pub set_kinds : (s : Schemas) → SetKept s → SetHasKinds s
+set_kinds s k = record { nodes = all node_kinds s.nodes k.nodes; enums = all enum_kinds s.enums k.enums }

@@ -2,7 +2,7 @@
 use Rattle.std.proofs.Common.{◌≡◌, ℕ, ◌*◌, inl, refl, ap, sym, arith, List, length, ◌∙◌}
 use Rattle.std.proofs.lemmas.List.{length-replicate}
 use Rattle.capnp_wire.specs.Edits.{nulls, zero_struct}
-use Rattle.capnp_wire.specs.Facts.Rows.{tree_count-nulls}
+use Rattle.capnp_wire.specs.Facts.Rows.{tree_count_nulls}
 use Rattle.capnp_wire.specs.Place.{struct_tree}
 use Rattle.capnp_wire.specs.Tree.{StructTree, Tree, tree_count}
 use Rattle.capnp_wire.specs.declared.size.StructSize.{StructSize}
@@ -34,7 +34,7 @@ new_by_tree a p d q f e =
       planted = f;
       is = e;
       data_words = omega (arith, words);
-      pointers = sym (pointers_of (segment a) p.start p.data_words p.pointers) ∙ (ap (λ (s : StructTree). tree_count s.pointers) e ∙ tree_count-nulls q);
+      pointers = sym (pointers_of (segment a) p.start p.data_words p.pointers) ∙ (ap (λ (s : StructTree). tree_count s.pointers) e ∙ tree_count_nulls q);
     }
 
 blank_of : (d q : ℕ) (size : StructSize) → size.data_words ≡ d → size.pointers ≡ q → zero_struct size ≡ blank d q

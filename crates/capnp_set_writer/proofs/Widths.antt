@@ -7,8 +7,8 @@ bytes_are : (k : ℕ) → is_width k ≡ true → (k ≡ 1) ⊎ ((k ≡ 2) ⊎ (
 bytes_are k h = grind (arith, nat_tests)
 
 -- the widths one by one
-pub by-width : (P : ℕ → Type 0) → P 1 → P 2 → P 4 → P 8 → (w : ℕ) → is_width w ≡ true → P w
-by-width P one two four eight w h = go (bytes_are w h)
+pub by_width : (P : ℕ → Type 0) → P 1 → P 2 → P 4 → P 8 → (w : ℕ) → is_width w ≡ true → P w
+by_width P one two four eight w h = go (bytes_are w h)
   where
     at : (k : ℕ) → P k → w ≡ k → P w
     at k p e = subst P (sym e) p

@@ -18,12 +18,12 @@ use Rattle.capnp_sets.specs.Types.{base_type_meant, base_types}
 use Rattle.capnp_sets.specs.Values.{kinds, list_value, value_by, value_meant}
 use Rattle.capnp_sets.proofs.AppliedReads.{only_cause}
 
-second-cond : {A : Type 0} (q : Bool) (a b : A) → q ≡ false → cond q a b ≡ b
-second-cond true a b e = cc
-second-cond false a b e = refl
+second_cond : {A : Type 0} (q : Bool) (a b : A) → q ≡ false → cond q a b ≡ b
+second_cond true a b e = cc
+second_cond false a b e = refl
 
-eqb-false : (a b : ℕ) → a ≢ b → (a == b) ≡ false
-eqb-false a b h = go (a == b) refl
+eqb_false : (a b : ℕ) → a ≢ b → (a == b) ≡ false
+eqb_false a b h = go (a == b) refl
   where
     go : (q : Bool) → (a == b) ≡ q → (a == b) ≡ false
     go true e = absurd (h (eqb-true a b e))
@@ -75,4 +75,4 @@ module _ (r : Record) where
 
   pub other_kind : (member : ℕ) → which_of r ≡ Some member → member ≢ 3 → member ≢ 4 → HasCause (kind_by (which_of r) r) UnknownKind
   unfolding kind_by
-  other_kind member e three four = only_cause UnknownKind _ (ap (λ o. kind_by o r) e ∙ (second-cond (member == 3) _ _ (eqb-false member 3 three) ∙ second-cond (member == 4) _ _ (eqb-false member 4 four)))
+  other_kind member e three four = only_cause UnknownKind _ (ap (λ o. kind_by o r) e ∙ (second_cond (member == 3) _ _ (eqb_false member 3 three) ∙ second_cond (member == 4) _ _ (eqb_false member 4 four)))

@@ -9,7 +9,7 @@ use Rattle.capnp_schema.specs.Meta.{meta, meta_struct}
 use Rattle.capnp_schema.specs.Schema.{FieldKind, Group, Slot, VoidValue, default_of, field_at}
 use Rattle.capnp_schema.specs.Types.{SchemaType}
 use Rattle.capnp_records.specs.Default.{read_of}
-use Rattle.capnp_records.specs.Facts.ReadFaults.{AllSound, IsReadKind, RecordSound, Sound, part-sound, read_of-sound}
+use Rattle.capnp_records.specs.Facts.ReadFaults.{AllSound, IsReadKind, RecordSound, Sound, part_sound, read_of_sound}
 use Rattle.capnp_records.specs.Part.{part_at}
 use Rattle.capnp_records.specs.Record as value
 use Rattle.capnp_records.specs.Record.{MoreValues, NoValues, Record, Value, Values}
@@ -128,7 +128,7 @@ caused_all f c (MoreValues v vs) s = caused_both _ _ (caused_both _ _ (caused_no
 
 pub caused_list : {A : Type 0} (t : SchemaType) (f : Value → SetRead A) → ((v : Value) → Sound v → Caused (f v)) → (v : Value) → Sound v → Caused (list t f v)
 caused_list t f c (value.Elements vs) s =
-    caused_all (λ v. unless_fault f (read_of meta VoidValue t v)) (λ v h. caused_element f c (read_of meta VoidValue t v) (read_of-sound meta VoidValue t v h)) vs s
+    caused_all (λ v. unless_fault f (read_of meta VoidValue t v)) (λ v h. caused_element f c (read_of meta VoidValue t v) (read_of_sound meta VoidValue t v h)) vs s
 caused_list t f c (value.Fault kind) s = caused_one _ kind (of_reads kind s)
 caused_list t f c v s = caused_one _ TypeMismatch refl
 
@@ -137,17 +137,17 @@ caused_structs b f c = caused_list (meta_struct b) (struct f) (caused_struct f c
 
 -- ---- what is read of a record's parts ----
 
-handed_out-sound : (k : FieldKind) (v : Value) → Sound v → Sound (handed_out k v)
-handed_out-sound (Slot offset default) v s = s
-handed_out-sound (Group node) (value.Group r) s = s
-handed_out-sound (Group node) v s = s
+handed_out_sound : (k : FieldKind) (v : Value) → Sound v → Sound (handed_out k v)
+handed_out_sound (Slot offset default) v s = s
+handed_out_sound (Group node) (value.Group r) s = s
+handed_out_sound (Group node) v s = s
 
-pub read_at-sound : (b i : ℕ) (r : Record) → RecordSound r → Sound (meta_read_at b i r)
+pub read_at_sound : (b i : ℕ) (r : Record) → RecordSound r → Sound (meta_read_at b i r)
 unfolding meta_read_at
-read_at-sound b i r s =
-    handed_out-sound (field_at meta b i).field.kind _
-    (read_of-sound meta (default_of (field_at meta b i).field) (field_at meta b i).type (part_at r (field_at meta b i).field i) (part-sound r s (field_at meta b i).field i))
+read_at_sound b i r s =
+    handed_out_sound (field_at meta b i).field.kind _
+    (read_of_sound meta (default_of (field_at meta b i).field) (field_at meta b i).type (part_at r (field_at meta b i).field i) (part_sound r s (field_at meta b i).field i))
 
-pub elements_of-sound : (v : Value) → Sound v → AllSound (elements_of v)
-elements_of-sound (value.Elements vs) s = s
-elements_of-sound v s = tt
+pub elements_of_sound : (v : Value) → Sound v → AllSound (elements_of v)
+elements_of_sound (value.Elements vs) s = s
+elements_of_sound v s = tt

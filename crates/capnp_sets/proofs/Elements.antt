@@ -11,7 +11,7 @@ use Rattle.capnp_schema.specs.Meta.{meta_structs, meta, meta_struct}
 use Rattle.capnp_schema.specs.Schema.{VoidValue}
 use Rattle.capnp_schema.specs.Types.{SchemaType}
 use Rattle.capnp_records.specs.Default.{read_of}
-use Rattle.capnp_records.specs.Facts.Readers.{element-is-read}
+use Rattle.capnp_records.specs.Facts.Readers.{element_is_read}
 use Rattle.capnp_records.specs.Reading.{of_read, struct_record, value_of}
 use Rattle.capnp_records.specs.Record as value
 use Rattle.capnp_records.specs.Record.{Left, Value}
@@ -29,17 +29,17 @@ module _ (b : ℕ) (l : ListReader) (i : ℕ) where
   pub struct_there : (s : StructReader) → Ok (struct_of s) ≡ with_level (list_levels l) (Ok (element_struct (list_of l) i)) → struct_levels s + 1 ≡ list_levels l → value.Struct (meta_record_in b s) ≡ element_seen (meta_struct b) l i
   struct_there s e levels =
       ap (λ m. value.Struct (struct_record meta (Left m) (struct_of s) b)) (omega (arith, levels))
-      ∙ (ap seen_by e ∙ ap (read_of meta VoidValue (meta_struct b)) (sym (element-is-read meta (list_of l) (list_levels l) (meta_struct b) i)))
+      ∙ (ap seen_by e ∙ ap (read_of meta VoidValue (meta_struct b)) (sym (element_is_read meta (list_of l) (list_levels l) (meta_struct b) i)))
 
   pub struct_refused : (kind : ErrorKind) → Err kind ≡ with_level (list_levels l) (Ok (element_struct (list_of l) i)) → value.Fault kind ≡ element_seen (meta_struct b) l i
-  struct_refused kind e = ap seen_by e ∙ ap (read_of meta VoidValue (meta_struct b)) (sym (element-is-read meta (list_of l) (list_levels l) (meta_struct b) i))
+  struct_refused kind e = ap seen_by e ∙ ap (read_of meta VoidValue (meta_struct b)) (sym (element_is_read meta (list_of l) (list_levels l) (meta_struct b) i))
 
   module _ (p : PointerReader) (tree : tree_of p ≡ element_pointer (list_of l) i (list_levels l)) (levels : levels_of p ≡ element_levels (list_of l) (list_levels l)) where
     pub pointer_seen : read_of meta VoidValue (meta_structs b) (value_of meta (tree_of p) (Left (levels_of p)) (meta_structs b)) ≡ element_seen (meta_structs b) l i
     pointer_seen =
         ap (λ x. read_of meta VoidValue (meta_structs b) (value_of meta x (Left (levels_of p)) (meta_structs b))) tree
         ∙ (ap (λ n. read_of meta VoidValue (meta_structs b) (value_of meta (element_pointer (list_of l) i (list_levels l)) (Left n) (meta_structs b))) levels
-        ∙ ap (read_of meta VoidValue (meta_structs b)) (sym (element-is-read meta (list_of l) (list_levels l) (meta_structs b) i)))
+        ∙ ap (read_of meta VoidValue (meta_structs b)) (sym (element_is_read meta (list_of l) (list_levels l) (meta_structs b) i)))
 
 module _ {A : Type 0} (t : SchemaType) (f : Value → SetRead A) (l : ListReader) (i : ℕ) where
   abbrev one_read : SetRead A

@@ -6,7 +6,7 @@ use Rattle.capnp_wire.specs.declared.struct_reader.StructReader.{StructReader}
 use Rattle.capnp_schema.specs.Meta.{meta}
 use Rattle.capnp_schema.specs.Schema.{FieldKind, TypedField, field_at, fields_of, kind_default}
 use Rattle.capnp_schema.specs.Types.{SchemaType}
-use Rattle.capnp_records.specs.Facts.PartHere.{part-here}
+use Rattle.capnp_records.specs.Facts.PartHere.{part_here}
 use Rattle.capnp_records.specs.Default.{read_field, read_of}
 use Rattle.capnp_records.specs.Part.{which_of}
 use Rattle.capnp_records.specs.Reading.{kind_value, record_within, values_of}
@@ -28,7 +28,7 @@ read_by l s k t =
 module _ (s : StructReader) (b i : ℕ) (active : IsMetaFieldActive b i s) where
   pub seen_at : i < length (fields_of meta b) → meta_read_at b i (meta_record_in b s) ≡ field_read meta (Left (struct_levels s)) (struct_of s) (field_at meta b i)
   unfolding meta_read_at
-  seen_at inside = ap (under (field_at meta b i)) (part-here meta (Left (struct_levels s)) (struct_of s) b i inside active)
+  seen_at inside = ap (under (field_at meta b i)) (part_here meta (Left (struct_levels s)) (struct_of s) b i inside active)
 
   -- where its kind and type are known
   pub seen_by : (k : FieldKind) (t : SchemaType) → IsMetaField b i t → (field_at meta b i).field.kind ≡ k → meta_read_at b i (meta_record_in b s) ≡ read_by (Left (struct_levels s)) (struct_of s) k t

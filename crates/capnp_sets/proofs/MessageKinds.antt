@@ -12,7 +12,7 @@ use Rattle.capnp_schema.specs.Broken.{IsKindOf}
 use Rattle.capnp_schema.specs.Meta.{meta}
 use Rattle.capnp_schema.specs.Schema.{Schemas}
 use Rattle.capnp_schema.specs.Types.{StructType}
-use Rattle.capnp_records.specs.Facts.ReadFaults.{RecordSound, value_of-sound}
+use Rattle.capnp_records.specs.Facts.ReadFaults.{RecordSound, value_of_sound}
 use Rattle.capnp_records.specs.Reading.{struct_record}
 use Rattle.capnp_records.specs.Record.{Left}
 use Rattle.capnp_sets.specs.Facts.MessageRefusals.{RefusesAs, message_as, message_refused, struct_as, struct_refused}
@@ -41,11 +41,11 @@ rule_kind set OutOfMemory h = refl
 rule_kind set (Schema table field rule entry) h = refl
 rule_kind set kind h = absurd h
 
-root-sound : (set : Schemas) (root : StructTree) → RecordSound (struct_record set (Left 63) root 0)
-root-sound set root = value_of-sound set (tree.Struct root.bytes root.pointers) (Left 64) (StructType 0 0)
+root_sound : (set : Schemas) (root : StructTree) → RecordSound (struct_record set (Left 63) root 0)
+root_sound set root = value_of_sound set (tree.Struct root.bytes root.pointers) (Left 64) (StructType 0 0)
 
 record_kind : (root : StructTree) (e : Error) → IsSchemaSetRefusal (root_record root) e → IsSetKind e.kind
-record_kind root e (inl here) = caused_set (root_record root) (root-sound meta root) e.kind here
+record_kind root e (inl here) = caused_set (root_record root) (root_sound meta root) e.kind here
 record_kind root e (inr (set, lists, broken)) = rule_kind set e.kind broken
 
 refusal_kind : (r : Result StructTree ErrorKind) (e : Error) → RefusesAs IsSetKind r → IsRootRefusal r e → IsSetKind e.kind

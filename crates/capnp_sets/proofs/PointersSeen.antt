@@ -14,9 +14,9 @@ use Rattle.capnp_schema.specs.Meta.{meta, meta_struct}
 use Rattle.capnp_schema.specs.Schema.{DataValue, ListValue, Slot, StructValue, TextValue, Value as SchemaValue}
 use Rattle.capnp_schema.specs.Types.{DataType, ListType, SchemaType, TextType, element_size, is_pointer}
 use Rattle.capnp_records.specs.Default.{read_of}
-use Rattle.capnp_records.specs.Facts.Entered.{entered-some}
-use Rattle.capnp_records.specs.Facts.Frame.{first-of}
-use Rattle.capnp_records.specs.Facts.Pointers.{values_of-nth}
+use Rattle.capnp_records.specs.Facts.Entered.{entered_some}
+use Rattle.capnp_records.specs.Facts.Frame.{chosen_first}
+use Rattle.capnp_records.specs.Facts.Pointers.{values_of_nth}
 use Rattle.capnp_records.specs.Reading.{Reading, element_type, value_of}
 use Rattle.capnp_records.specs.Record as value
 use Rattle.capnp_records.specs.Record.{Left, Value}
@@ -70,7 +70,7 @@ list_refused t (Err f) v e = e
 pub null_read : (d : SchemaValue) (t : SchemaType) → IsNoList d t → (p : PointerReader) → tree_of p ≡ Null → 0 < levels_of p → pointer_read meta d (ListType t) p ≡ value.Elements value.NoValues
 null_read d t none p null left =
     ap (λ x. read_of meta d (ListType t) (value_of meta x (Left (levels_of p)) (ListType t))) null
-    ∙ (none (Left (levels_of p)) ∙ entered-some (levels_of p) (levels_of p - 1) _ (omega (arith, left)))
+    ∙ (none (Left (levels_of p)) ∙ entered_some (levels_of p) (levels_of p - 1) _ (omega (arith, left)))
 
 -- ---- the pointer at the place of a field ----
 
@@ -79,8 +79,8 @@ module _ (s : StructReader) (b i : ℕ) (active : IsMetaFieldActive b i s) (p : 
   pointer_there d t is slot =
       sym (seen_by s b i active (Slot place d) t slot.0 slot.1
       ∙ ap (read_of meta d t)
-      (first-of (is_pointer t) _ _ is
-      ∙ (ap (λ (f : Reading). f (Left (struct_levels s)) t) (values_of-nth meta (struct_of s).pointers place)
+      (chosen_first (is_pointer t) _ _ is
+      ∙ (ap (λ (f : Reading). f (Left (struct_levels s)) t) (values_of_nth meta (struct_of s).pointers place)
       ∙ ap₂ (λ x n. value_of meta x (Left n) t) (sym tree) (sym levels))))
 
   pub text_there : IsMetaSlot b i TextType place (TextValue []) → (r : Result (Bor (List ℕ)) Error) → bytes_read r ≡ as_text (tree_of p) → text_answered r ≡ meta_read_at b i (meta_record_in b s)

@@ -6,7 +6,7 @@ use Rattle.capnp_device.specs.declared.error.ErrorKind.TheVariants.{FloatType, I
 use Rattle.capnp_schema.specs.Meta.{meta, meta_structs, meta_struct}
 use Rattle.capnp_schema.specs.Schema.{VoidValue}
 use Rattle.capnp_records.specs.Default.{read_of}
-use Rattle.capnp_records.specs.Facts.ReadFaults.{AllSound, RecordSound, Sound, read_of-sound}
+use Rattle.capnp_records.specs.Facts.ReadFaults.{AllSound, RecordSound, Sound, read_of_sound}
 use Rattle.capnp_records.specs.Part.{which_of}
 use Rattle.capnp_records.specs.Record.{MoreValues, NoValues, Record, Value, Values}
 use Rattle.capnp_sets.specs.Causes.{Causes, HasCause, IsAmong, SetRead, flat, refused_read, ◌<*>◌}
@@ -15,7 +15,7 @@ use Rattle.capnp_sets.specs.Lists.{brand_of, brands_in, enum_meant, enumerant_of
 use Rattle.capnp_sets.specs.Parts.{blob, name, number, meta_read_at, struct}
 use Rattle.capnp_sets.specs.Types.{base_type_meant, base_types, generic_in, type_lists, type_meant, types}
 use Rattle.capnp_sets.specs.Values.{annotation_meant, annotations, kinds, value_by, value_meant}
-use Rattle.capnp_sets.proofs.Caused.{Caused, IsSetKind, caused_blob, caused_both, caused_if, caused_integer, caused_list, caused_name, caused_none, caused_number, caused_one, caused_struct, caused_structs, caused_text, caused_truth, elements_of-sound, nth_or, read_at-sound}
+use Rattle.capnp_sets.proofs.Caused.{Caused, IsSetKind, caused_blob, caused_both, caused_if, caused_integer, caused_list, caused_name, caused_none, caused_number, caused_one, caused_struct, caused_structs, caused_text, caused_truth, elements_of_sound, nth_or, read_at_sound}
 
 -- a reading whose causes are of these kinds
 abbrev IsCausedOn : {A : Type 0} → (Value → SetRead A) → Type 0
@@ -38,7 +38,7 @@ caused_kind = nth_or IsCausedOn kinds (λ v. refused_read UnknownKind) ((λ v s.
 caused_value_by : (o : Option ℕ) → IsCausedIn (value_by o)
 unfolding value_by
 caused_value_by None r s = caused_one _ UnknownKind refl
-caused_value_by (Some i) r s = caused_kind i (meta_read_at 5 i r) (read_at-sound 5 i r s)
+caused_value_by (Some i) r s = caused_kind i (meta_read_at 5 i r) (read_at_sound 5 i r s)
 
 caused_value : IsCausedIn value_meant
 unfolding value_meant
@@ -46,20 +46,20 @@ caused_value r s = caused_value_by (which_of r) r s
 
 module _ (r : Record) (sound : RecordSound r) where
   number_in : (b i : ℕ) → Caused (number (meta_read_at b i r))
-  number_in b i = caused_number (meta_read_at b i r) (read_at-sound b i r sound)
+  number_in b i = caused_number (meta_read_at b i r) (read_at_sound b i r sound)
 
   name_in : (b i : ℕ) → Caused (name (meta_read_at b i r))
-  name_in b i = caused_name (meta_read_at b i r) (read_at-sound b i r sound)
+  name_in b i = caused_name (meta_read_at b i r) (read_at_sound b i r sound)
 
   value_in : (b i : ℕ) → Caused (struct value_meant (meta_read_at b i r))
-  value_in b i = caused_struct value_meant caused_value (meta_read_at b i r) (read_at-sound b i r sound)
+  value_in b i = caused_struct value_meant caused_value (meta_read_at b i r) (read_at_sound b i r sound)
 
 caused_annotation : IsCausedIn annotation_meant
 unfolding annotation_meant
 caused_annotation r s = caused_both _ _ (caused_both _ _ (caused_none _) (number_in r s 4 0)) (value_in r s 4 1)
 
 annotations_in : (r : Record) → RecordSound r → (b i : ℕ) → Caused (annotations (meta_read_at b i r))
-annotations_in r s b i = caused_structs 4 annotation_meant caused_annotation (meta_read_at b i r) (read_at-sound b i r s)
+annotations_in r s b i = caused_structs 4 annotation_meant caused_annotation (meta_read_at b i r) (read_at_sound b i r s)
 
 -- ---- fields and nodes ----
 
@@ -71,7 +71,7 @@ caused_kind_by : (o : Option ℕ) → IsCausedIn (kind_by o)
 unfolding kind_by
 caused_kind_by None r s = caused_one _ UnknownKind refl
 caused_kind_by (Some i) r s =
-    caused_if (i == 3) _ _ (caused_struct slot_of caused_slot (meta_read_at 2 3 r) (read_at-sound 2 3 r s))
+    caused_if (i == 3) _ _ (caused_struct slot_of caused_slot (meta_read_at 2 3 r) (read_at_sound 2 3 r s))
     (caused_if (i == 4) _ _ (caused_both _ _ (caused_none _) (number_in r s 2 4)) (caused_one _ UnknownKind refl))
 
 caused_field : IsCausedIn field_of
@@ -84,8 +84,8 @@ unfolding node_meant
 caused_node r s =
     caused_both _ _ (caused_both _ _ (caused_both _ _ (caused_both _ _ (caused_both _ _ (caused_both _ _ (caused_both _ _ (caused_both _ _ (caused_both _ _ (caused_none _)
     (number_in r s 1 0)) (number_in r s 1 1)) (number_in r s 1 2)) (number_in r s 1 3))
-    (caused_truth (meta_read_at 1 4 r) (read_at-sound 1 4 r s))) (number_in r s 1 5)) (name_in r s 1 6)) (annotations_in r s 1 7))
-    (caused_structs 2 field_of caused_field (meta_read_at 1 8 r) (read_at-sound 1 8 r s))
+    (caused_truth (meta_read_at 1 4 r) (read_at_sound 1 4 r s))) (number_in r s 1 5)) (name_in r s 1 6)) (annotations_in r s 1 7))
+    (caused_structs 2 field_of caused_field (meta_read_at 1 8 r) (read_at_sound 1 8 r s))
 
 -- ---- types ----
 
@@ -93,7 +93,7 @@ caused_generic : (brands : Values) → AllSound brands → (b : ℕ) → Caused 
 unfolding generic_in
 caused_generic NoValues s b = caused_none 0
 caused_generic (MoreValues v vs) s zero =
-    caused_struct (λ r. number (meta_read_at 6 0 r)) (λ r h. number_in r h 6 0) (read_of meta VoidValue (meta_struct 6) v) (read_of-sound meta VoidValue (meta_struct 6) v s.0)
+    caused_struct (λ r. number (meta_read_at 6 0 r)) (λ r h. number_in r h 6 0) (read_of meta VoidValue (meta_struct 6) v) (read_of_sound meta VoidValue (meta_struct 6) v s.0)
 caused_generic (MoreValues v vs) s (suc b) = caused_generic vs s.1 b
 
 caused_base : (brands : Values) → AllSound brands → (base n : ℕ) → Caused (base_type_meant brands base n)
@@ -126,10 +126,10 @@ module _ (brands : Values) (all : AllSound brands) where
   caused_types = caused_structs 7 (type_meant brands) caused_type
 
   types_in : (r : Record) → RecordSound r → (b i : ℕ) → Caused (types brands (meta_read_at b i r))
-  types_in r s b i = caused_types (meta_read_at b i r) (read_at-sound b i r s)
+  types_in r s b i = caused_types (meta_read_at b i r) (read_at_sound b i r s)
 
   type_lists_in : (r : Record) → RecordSound r → (b i : ℕ) → Caused (type_lists brands (meta_read_at b i r))
-  type_lists_in r s b i = caused_list (meta_structs 7) (types brands) caused_types (meta_read_at b i r) (read_at-sound b i r s)
+  type_lists_in r s b i = caused_list (meta_structs 7) (types brands) caused_types (meta_read_at b i r) (read_at_sound b i r s)
 
   -- ---- brands and enums ----
 
@@ -143,7 +143,7 @@ module _ (brands : Values) (all : AllSound brands) where
   unfolding enum_meant
   caused_enum r s =
       caused_both _ _ (caused_both _ _ (caused_both _ _ (caused_both _ _ (caused_both _ _ (caused_none _) (number_in r s 8 0)) (name_in r s 8 1)) (annotations_in r s 8 2))
-      (caused_structs 9 enumerant_of caused_enumerant (meta_read_at 8 3 r) (read_at-sound 8 3 r s)))
+      (caused_structs 9 enumerant_of caused_enumerant (meta_read_at 8 3 r) (read_at_sound 8 3 r s)))
       (caused_both _ _ (caused_both _ _ (caused_none made_types) (types_in r s 8 4)) (type_lists_in r s 8 5))
 
 -- ---- the whole record ----
@@ -151,7 +151,7 @@ module _ (brands : Values) (all : AllSound brands) where
 pub caused_set : IsCausedIn set_meant
 unfolding set_meant
 caused_set r s =
-    let brands = elements_of-sound (meta_read_at 0 1 r) (read_at-sound 0 1 r s) in
-    caused_both _ _ (caused_both _ _ (caused_both _ _ (caused_none _) (caused_structs 1 node_meant caused_node (meta_read_at 0 0 r) (read_at-sound 0 0 r s)))
-    (caused_structs 6 (brand_of (brands_in r)) (caused_brand (brands_in r) brands) (meta_read_at 0 1 r) (read_at-sound 0 1 r s)))
-    (caused_structs 8 (enum_meant (brands_in r)) (caused_enum (brands_in r) brands) (meta_read_at 0 2 r) (read_at-sound 0 2 r s))
+    let brands = elements_of_sound (meta_read_at 0 1 r) (read_at_sound 0 1 r s) in
+    caused_both _ _ (caused_both _ _ (caused_both _ _ (caused_none _) (caused_structs 1 node_meant caused_node (meta_read_at 0 0 r) (read_at_sound 0 0 r s)))
+    (caused_structs 6 (brand_of (brands_in r)) (caused_brand (brands_in r) brands) (meta_read_at 0 1 r) (read_at_sound 0 1 r s)))
+    (caused_structs 8 (enum_meant (brands_in r)) (caused_enum (brands_in r) brands) (meta_read_at 0 2 r) (read_at_sound 0 2 r s))

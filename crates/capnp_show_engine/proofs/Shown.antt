@@ -30,33 +30,33 @@ Read = Result StructTree ErrorKind
 abbrev entered : StructTree → Read
 entered s = Ok s
 
-same-struct : (x y : StructTree) → entered x ≡ entered y → x ≡ y
-same-struct x y e = cc
+same_struct : (x y : StructTree) → entered x ≡ entered y → x ≡ y
+same_struct x y e = cc
 
 module _ (set : Schemas) (b : ℕ) (indented : Bool) where
   -- the text of a struct's record, whose pointers have the levels that are left below a root
   abbrev struct_text : StructTree → Out
   struct_text s = text_of set indented (root_type set b) (struct_or_group (node_of set b).is_group (struct_record set (Left 63) s b))
 
-  entered-text : (root : Tree) (s : StructTree) → Ok s ≡ as_struct root 64 → struct_text s ≡ message_root_text set b indented (Ok root)
-  entered-text tree.Null s e = ap struct_text (same-struct s _ e)
-  entered-text (tree.Struct bytes ps) s e = ap struct_text (same-struct s _ e)
-  entered-text (tree.Voids n) s e = cc
-  entered-text (tree.Bits bs) s e = cc
-  entered-text (tree.Numbers w bytes) s e = cc
-  entered-text (tree.Pointers ps) s e = cc
-  entered-text (tree.Composite d p es) s e = cc
-  entered-text (tree.FaultLeaf k) s e = cc
+  entered_text : (root : Tree) (s : StructTree) → Ok s ≡ as_struct root 64 → struct_text s ≡ message_root_text set b indented (Ok root)
+  entered_text tree.Null s e = ap struct_text (same_struct s _ e)
+  entered_text (tree.Struct bytes ps) s e = ap struct_text (same_struct s _ e)
+  entered_text (tree.Voids n) s e = cc
+  entered_text (tree.Bits bs) s e = cc
+  entered_text (tree.Numbers w bytes) s e = cc
+  entered_text (tree.Pointers ps) s e = cc
+  entered_text (tree.Composite d p es) s e = cc
+  entered_text (tree.FaultLeaf k) s e = cc
 
   -- a root that is read as a struct
   pub text_of_root : (root : Tree) (s : StructTree) (m : ℕ) → Ok s ≡ as_struct root 64 → m + 1 ≡ 64 →
       text_of set indented (root_type set b) (struct_or_group (node_of set b).is_group (struct_record set (Left m) s b)) ≡ message_root_text set b indented (Ok root)
   text_of_root root s m e levels =
-      ap (λ n. text_of set indented (root_type set b) (struct_or_group (node_of set b).is_group (struct_record set (Left n) s b))) (omega (arith, levels)) ∙ entered-text root s e
+      ap (λ n. text_of set indented (root_type set b) (struct_or_group (node_of set b).is_group (struct_record set (Left n) s b))) (omega (arith, levels)) ∙ entered_text root s e
 
-printed-is : (q : Bool) (h : StructHandle) (r : Record) → record_seen h ≡ r → struct_printed q h ≡ struct_or_group q r
-printed-is true h r e = ap value.Group e
-printed-is false h r e = ap value.Struct e
+printed_is : (q : Bool) (h : StructHandle) (r : Record) → record_seen h ≡ r → struct_printed q h ≡ struct_or_group q r
+printed_is true h r e = ap value.Group e
+printed_is false h r e = ap value.Struct e
 
 -- a reader is that of the struct at a message's root
 pub record IsRootReader (bytes : List ℕ) (root x : Tree) (n : ℕ) (r : StructReader) : Type 0 where
@@ -95,5 +95,5 @@ text_seen set b indented bytes root x n h s r at under =
     ap (λ y. text_of y indented (struct_type (schema_of h)) (value_printed (dynamic.Struct h))) in_set
     ∙ (ap (λ t. text_of set indented t (value_printed (dynamic.Struct h))) typed
     ∙ (ap (λ q. text_of set indented (root_type set b) (struct_printed q h)) group
-    ∙ (ap (text_of set indented (root_type set b)) (printed-is (node_of set b).is_group h _ seen)
+    ∙ (ap (text_of set indented (root_type set b)) (printed_is (node_of set b).is_group h _ seen)
     ∙ (text_of_root set b indented root (struct_of r) (struct_levels r) read_there (at.levels ∙ at.limit) ∙ ap (message_root_text set b indented) at.received))))

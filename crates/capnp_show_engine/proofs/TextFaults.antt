@@ -10,26 +10,26 @@ use Rattle.capnp_records.specs.Reading.{value_of}
 use Rattle.capnp_records.specs.Record as value
 use Rattle.capnp_records.specs.Record.{Left, Value}
 use Rattle.capnp_records.specs.Text.{Out}
-use Rattle.capnp_show_engine.specs.Facts.TextSound.{OutSound, whole-sound}
+use Rattle.capnp_show_engine.specs.Facts.TextSound.{OutSound, whole_sound}
 use Rattle.capnp_show_engine.specs.Steps.Refusals.{IsOfRead}
 use Rattle.capnp_show_engine.specs.Show.{as_printed, message_root_text, message_root_value, shown_text}
 use Rattle.capnp_records.specs.Run.{root_type}
-use Rattle.capnp_records.specs.Facts.ReadFaults.{Sound, is_read_kind, read_of-sound, value_of-sound}
+use Rattle.capnp_records.specs.Facts.ReadFaults.{Sound, is_read_kind, read_of_sound, value_of_sound}
 
 -- the text of a message's root
-printed-sound : (q : Bool) (v : Value) → Sound v → Sound (as_printed q v)
-printed-sound true (value.Struct r) h = h
-printed-sound false (value.Struct r) h = h
-printed-sound q v h = h
+printed_sound : (q : Bool) (v : Value) → Sound v → Sound (as_printed q v)
+printed_sound true (value.Struct r) h = h
+printed_sound false (value.Struct r) h = h
+printed_sound q v h = h
 
-root-sound : (set : Schemas) (b : ℕ) (indented : Bool) (root : Tree) → OutSound (message_root_text set b indented (Ok root))
-root-sound set b indented root =
-    whole-sound set indented (root_type set b) (as_printed (node_of set b).is_group (message_root_value set b root))
-    (printed-sound (node_of set b).is_group (message_root_value set b root)
-    (read_of-sound set VoidValue (root_type set b) (value_of set root (Left 64) (root_type set b)) (value_of-sound set root (Left 64) (root_type set b))))
+root_sound : (set : Schemas) (b : ℕ) (indented : Bool) (root : Tree) → OutSound (message_root_text set b indented (Ok root))
+root_sound set b indented root =
+    whole_sound set indented (root_type set b) (as_printed (node_of set b).is_group (message_root_value set b root))
+    (printed_sound (node_of set b).is_group (message_root_value set b root)
+    (read_of_sound set VoidValue (root_type set b) (value_of set root (Left 64) (root_type set b)) (value_of_sound set root (Left 64) (root_type set b))))
 
 pub shown_by_read : (set : Schemas) (b : ℕ) (indented : Bool) (bytes : List ℕ) (root : Tree) → Ok root ≡ message_tree_of bytes → OutSound (shown_text set b indented bytes)
-shown_by_read set b indented bytes root e = subst (λ r. OutSound (message_root_text set b indented r)) e (root-sound set b indented root)
+shown_by_read set b indented bytes root e = subst (λ r. OutSound (message_root_text set b indented r)) e (root_sound set b indented root)
 
 no_memory : OutOfMemory ≡ ReadFailed → ⊥
 no_memory e = cc

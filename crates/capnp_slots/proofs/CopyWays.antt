@@ -32,9 +32,9 @@ use Rattle.capnp_slots.specs.Steps.GroupClears.{field_cleared_at, cleared_behind
 use Rattle.capnp_slots.specs.Steps.GroupSets.{CopiesIndices, CopiesThrough, active_in, copied_at, if_passes, is_index_there, is_part_there, kept_indices, member_indices, non_union_in}
 use Rattle.capnp_slots.specs.Groups.{IsGroupAt, KeepsSize}
 use Rattle.capnp_slots.specs.Sources.{IsSetRefusal}
-use Rattle.capnp_slots.proofs.GroupClears.{entry, fits-kept, records}
-use Rattle.capnp_slots.proofs.GroupCopies.{fields-cut, fields-next, group-copied, none-copied, slot-copied, whole}
-use Rattle.capnp_slots.proofs.GroupWays.{all_steps, behind-is, fewer-above, found-at, found-none, group-steps, group_steps, less-into, one-of-all, place_steps, steps-frame, steps_of, way, way-group, way-outside, way-start}
+use Rattle.capnp_slots.proofs.GroupClears.{entry, fits_kept, records}
+use Rattle.capnp_slots.proofs.GroupCopies.{fields_cut, fields_next, group_copied, none_copied, slot_copied, whole}
+use Rattle.capnp_slots.proofs.GroupWays.{all_steps, behind_is, fewer_above, found_at, found_none, group_steps_next, group_steps, less_into, one_of_all, place_steps, steps_frame, steps_of, way, way_group, way_outside, way_start}
 
 -- ---- the fields that are copied from a place on ----
 
@@ -42,56 +42,56 @@ unfoldable pub left_indices : Schemas → Levels → StructTree → ℕ → (pla
 left_indices set l x b zero = member_indices (active_in set l x b) ++ non_union_in set l x b
 left_indices set l x b (suc i) = kept_indices (is_index_there set l x b) (indices_from i is_non_union (records (drop i (fields_of set b))))
 
-plain-from : (fs : List TypedField) (i k : ℕ) (q : Bool) → i < length fs → is_member (entry fs i).field ≡ q →
+plain_from : (fs : List TypedField) (i k : ℕ) (q : Bool) → i < length fs → is_member (entry fs i).field ≡ q →
     indices_from k is_non_union (records (drop i fs)) ≡ keep_index (not q) k (indices_from (suc k) is_non_union (records (drop (suc i) fs)))
-plain-from [] i k q lt e = absurd (omega arith)
-plain-from (f ∷ fs) zero k q lt e = ap (λ (r : Bool). keep_index (not r) k (indices_from (suc k) is_non_union (records fs))) e
-plain-from (f ∷ fs) (suc i) k q lt e = plain-from fs i k q (omega arith) e
+plain_from [] i k q lt e = absurd (omega arith)
+plain_from (f ∷ fs) zero k q lt e = ap (λ (r : Bool). keep_index (not r) k (indices_from (suc k) is_non_union (records fs))) e
+plain_from (f ∷ fs) (suc i) k q lt e = plain_from fs i k q (omega arith) e
 
-plain-past : (fs : List TypedField) (i k : ℕ) → length fs ≤ i → indices_from k is_non_union (records (drop i fs)) ≡ []
-plain-past [] zero k le = refl
-plain-past [] (suc i) k le = refl
-plain-past (f ∷ fs) zero k le = absurd (omega arith)
-plain-past (f ∷ fs) (suc i) k le = plain-past fs i k (omega arith)
+plain_past : (fs : List TypedField) (i k : ℕ) → length fs ≤ i → indices_from k is_non_union (records (drop i fs)) ≡ []
+plain_past [] zero k le = refl
+plain_past [] (suc i) k le = refl
+plain_past (f ∷ fs) zero k le = absurd (omega arith)
+plain_past (f ∷ fs) (suc i) k le = plain_past fs i k (omega arith)
 
 module _ (there : ℕ → Bool) where
-  passes-some : (o : Option ℕ) (i : ℕ) → if_passes there o ≡ Some i → o ≡ Some i
-  passes-some None i e = cc
-  passes-some (Some j) i e = ap (λ (k : ℕ). Some k) (cond_some (there j) j i e).1
+  passes_some : (o : Option ℕ) (i : ℕ) → if_passes there o ≡ Some i → o ≡ Some i
+  passes_some None i e = cc
+  passes_some (Some j) i e = ap (λ (k : ℕ). Some k) (cond_some (there j) j i e).1
 
-  nothing-kept : (q t : Bool) (k : ℕ) (js : List ℕ) → there k ≡ t → if_passes there (unless_member_place q k) ≡ None → kept_indices there (keep_index (not q) k js) ≡ kept_indices there js
-  nothing-kept true t k js h e = refl
-  nothing-kept false false k js h e = ap (λ (r : Bool). keep_index r k (kept_indices there js)) h
-  nothing-kept false true k js h e = absurd (let none : Some k ≡ None = sym (ap (λ (r : Bool). cond r (Some k) None) h) ∙ e in cc)
+  nothing_kept : (q t : Bool) (k : ℕ) (js : List ℕ) → there k ≡ t → if_passes there (unless_member_place q k) ≡ None → kept_indices there (keep_index (not q) k js) ≡ kept_indices there js
+  nothing_kept true t k js h e = refl
+  nothing_kept false false k js h e = ap (λ (r : Bool). keep_index r k (kept_indices there js)) h
+  nothing_kept false true k js h e = absurd (let none : Some k ≡ None = sym (ap (λ (r : Bool). cond r (Some k) None) h) ∙ e in cc)
 
-  one-kept : (q : Bool) (k i : ℕ) (js : List ℕ) → if_passes there (unless_member_place q k) ≡ Some i → kept_indices there (keep_index (not q) k js) ≡ i ∷ kept_indices there js
-  one-kept true k i js e = cc
-  one-kept false k i js e =
+  one_kept : (q : Bool) (k i : ℕ) (js : List ℕ) → if_passes there (unless_member_place q k) ≡ Some i → kept_indices there (keep_index (not q) k js) ≡ i ∷ kept_indices there js
+  one_kept true k i js e = cc
+  one_kept false k i js e =
       let found = cond_some (there k) k i e in
       ap (λ (r : Bool). keep_index r k (kept_indices there js)) found.0 ∙ ap (λ (j : ℕ). j ∷ kept_indices there js) found.1
 
 module _ (set : Schemas) (l : Levels) (x : StructTree) (b : ℕ) where
   -- nothing is copied at a place
-  left-nothing : (p : ℕ) → copied_at set l x b p ≡ None → p ≤ length (fields_of set b) → left_indices set l x b p ≡ left_indices set l x b (suc p)
+  left_nothing : (p : ℕ) → copied_at set l x b p ≡ None → p ≤ length (fields_of set b) → left_indices set l x b p ≡ left_indices set l x b (suc p)
   unfolding left_indices copied_at field_cleared_at
-  left-nothing zero none le = ap (λ (o : Option ℕ). member_indices o ++ non_union_in set l x b) none
-  left-nothing (suc i) none le =
-      ap (kept_indices (is_index_there set l x b)) (plain-from (fields_of set b) i i (is_member (field_at set b i).field) (omega arith) refl)
-      ∙ nothing-kept (is_index_there set l x b) (is_member (field_at set b i).field) (is_index_there set l x b i) i (indices_from (suc i) is_non_union (records (drop (suc i) (fields_of set b)))) refl none
+  left_nothing zero none le = ap (λ (o : Option ℕ). member_indices o ++ non_union_in set l x b) none
+  left_nothing (suc i) none le =
+      ap (kept_indices (is_index_there set l x b)) (plain_from (fields_of set b) i i (is_member (field_at set b i).field) (omega arith) refl)
+      ∙ nothing_kept (is_index_there set l x b) (is_member (field_at set b i).field) (is_index_there set l x b i) i (indices_from (suc i) is_non_union (records (drop (suc i) (fields_of set b)))) refl none
 
   -- a field is
-  left-field : (p i : ℕ) → copied_at set l x b p ≡ Some i → p ≤ length (fields_of set b) → left_indices set l x b p ≡ i ∷ left_indices set l x b (suc p)
+  left_field : (p i : ℕ) → copied_at set l x b p ≡ Some i → p ≤ length (fields_of set b) → left_indices set l x b p ≡ i ∷ left_indices set l x b (suc p)
   unfolding left_indices copied_at field_cleared_at
-  left-field zero i some le = ap (λ (o : Option ℕ). member_indices o ++ non_union_in set l x b) some
-  left-field (suc j) i some le =
-      ap (kept_indices (is_index_there set l x b)) (plain-from (fields_of set b) j j (is_member (field_at set b j).field) (omega arith) refl)
-      ∙ one-kept (is_index_there set l x b) (is_member (field_at set b j).field) j i (indices_from (suc j) is_non_union (records (drop (suc j) (fields_of set b)))) some
+  left_field zero i some le = ap (λ (o : Option ℕ). member_indices o ++ non_union_in set l x b) some
+  left_field (suc j) i some le =
+      ap (kept_indices (is_index_there set l x b)) (plain_from (fields_of set b) j j (is_member (field_at set b j).field) (omega arith) refl)
+      ∙ one_kept (is_index_there set l x b) (is_member (field_at set b j).field) j i (indices_from (suc j) is_non_union (records (drop (suc j) (fields_of set b)))) some
 
   -- and past the last none is
-  left-past : (p : ℕ) → length (fields_of set b) < p → left_indices set l x b p ≡ []
+  left_past : (p : ℕ) → length (fields_of set b) < p → left_indices set l x b p ≡ []
   unfolding left_indices
-  left-past zero past = absurd (omega arith)
-  left-past (suc i) past = ap (kept_indices (is_index_there set l x b)) (plain-past (fields_of set b) i i (omega arith))
+  left_past zero past = absurd (omega arith)
+  left_past (suc i) past = ap (kept_indices (is_index_there set l x b)) (plain_past (fields_of set b) i i (omega arith))
 
 -- ---- the place behind a field ----
 
@@ -113,9 +113,9 @@ among part vs (f ∷ fs) k d i e = go (λ h. among part vs fs (suc k) d i h) (is
         let counted = later.counted in
         record { index = suc later.index; counted = omega (arith, counted); member = later.member }
 
-active-member : (set : Schemas) (l : Levels) (x : StructTree) (b i : ℕ) → active_in set l x b ≡ Some i → is_member (field_at set b i).field ≡ true
+active_member : (set : Schemas) (l : Levels) (x : StructTree) (b i : ℕ) → active_in set l x b ≡ Some i → is_member (field_at set b i).field ≡ true
 unfolding active_in
-active-member set l x b i e = go ((node_of set b).discriminant_count == 0) e
+active_member set l x b i e = go ((node_of set b).discriminant_count == 0) e
   where
     go : (q : Bool) → which_of (Parts (non_union_parts (part_of set l x.bytes (values_of set x.pointers)) (fields_of set b)) (elim q as (λ _. Union) [ true ↦ NoUnion | false ↦ active_among (part_of set l x.bytes (values_of set x.pointers)) (fields_of set b) 0 (discriminant (node_of set b) x.bytes) ])) ≡ Some i →
         is_member (field_at set b i).field ≡ true
@@ -126,10 +126,10 @@ active-member set l x b i e = go ((node_of set b).discriminant_count == 0) e
         let same : found.index ≡ i = omega (arith, counted) in
         subst (λ (k : ℕ). is_member (field_at set b k).field ≡ true) same found.member
 
-behind-copied : (set : Schemas) (l : Levels) (x : StructTree) (b p i : ℕ) → copied_at set l x b p ≡ Some i → cleared_behind set b i ≡ suc p
+behind_copied : (set : Schemas) (l : Levels) (x : StructTree) (b p i : ℕ) → copied_at set l x b p ≡ Some i → cleared_behind set b i ≡ suc p
 unfolding copied_at cleared_behind
-behind-copied set l x b zero i some = ap (λ (q : Bool). place_behind q i) (active-member set l x b i some)
-behind-copied set l x b (suc j) i some = behind-is set b (suc j) i (passes-some (is_index_there set l x b) (field_cleared_at set b (suc j)) i some)
+behind_copied set l x b zero i some = ap (λ (q : Bool). place_behind q i) (active_member set l x b i some)
+behind_copied set l x b (suc j) i some = behind_is set b (suc j) i (passes_some (is_index_there set l x b) (field_cleared_at set b (suc j)) i some)
 
 -- ---- what a copy leads to ----
 
@@ -152,74 +152,74 @@ abbrev pub Stands : Ending → ℕ → Levels → StructTree → StructSchema �
 Stands Outcome n l x at depth p s = Leads Outcome n (set_of at) l x ((number_of at, p) ∷ way (set_of at) depth (number_of at)) None s
 
 module _ (Outcome : Ending) (l : Levels) (x : StructTree) where
-  leads-end : (n : ℕ) (set : Schemas) (o : Option ErrorKind) (s : StructTree) → Leads Outcome n set l x [] o s → Outcome o s
+  leads_end : (n : ℕ) (set : Schemas) (o : Option ErrorKind) (s : StructTree) → Leads Outcome n set l x [] o s → Outcome o s
   unfolding Leads
-  leads-end n set o s h = h
+  leads_end n set o s h = h
 
-  leads-start : (n : ℕ) (set : Schemas) (o : Option ErrorKind) (s : StructTree) → Outcome o s → Leads Outcome n set l x [] o s
+  leads_start : (n : ℕ) (set : Schemas) (o : Option ErrorKind) (s : StructTree) → Outcome o s → Leads Outcome n set l x [] o s
   unfolding Leads
-  leads-start n set o s h = h
+  leads_start n set o s h = h
 
-  leads-cut : (n : ℕ) (set : Schemas) (frames : List (ℕ × ℕ)) (kind : ErrorKind) (s : StructTree) → Leads Outcome n set l x frames (Some kind) s → Outcome (Some kind) s
+  leads_cut : (n : ℕ) (set : Schemas) (frames : List (ℕ × ℕ)) (kind : ErrorKind) (s : StructTree) → Leads Outcome n set l x frames (Some kind) s → Outcome (Some kind) s
   unfolding Leads
-  leads-cut n set [] kind s h = h
-  leads-cut n set ((b, p) ∷ frames) kind s h = leads-cut (suc n) set frames kind s h
+  leads_cut n set [] kind s h = h
+  leads_cut n set ((b, p) ∷ frames) kind s h = leads_cut (suc n) set frames kind s h
 
   module _ (n : ℕ) (set : Schemas) (b p : ℕ) (frames : List (ℕ × ℕ)) where
-    go-into : (s : StructTree) → Leads Outcome n set l x ((b, p) ∷ frames) None s →
+    go_into : (s : StructTree) → Leads Outcome n set l x ((b, p) ∷ frames) None s →
         (o : Option ErrorKind) (s' : StructTree) → CopiesIndices n set l x b (left_indices set l x b p) s o s' → Leads Outcome (suc n) set l x frames o s'
     unfolding Leads
-    go-into s h = h
+    go_into s h = h
 
-    come-to : (s : StructTree) → ((o : Option ErrorKind) (s' : StructTree) → CopiesIndices n set l x b (left_indices set l x b p) s o s' → Leads Outcome (suc n) set l x frames o s') →
+    come_to : (s : StructTree) → ((o : Option ErrorKind) (s' : StructTree) → CopiesIndices n set l x b (left_indices set l x b p) s o s' → Leads Outcome (suc n) set l x frames o s') →
         Leads Outcome n set l x ((b, p) ∷ frames) None s
     unfolding Leads
-    come-to s h = h
+    come_to s h = h
 
-    come-cut : (kind : ErrorKind) (s : StructTree) → Leads Outcome (suc n) set l x frames (Some kind) s → Leads Outcome n set l x ((b, p) ∷ frames) (Some kind) s
+    come_cut : (kind : ErrorKind) (s : StructTree) → Leads Outcome (suc n) set l x frames (Some kind) s → Leads Outcome n set l x ((b, p) ∷ frames) (Some kind) s
     unfolding Leads
-    come-cut kind s h = h
+    come_cut kind s h = h
 
-    go-on : (q : ℕ) (s y : StructTree) → ((o : Option ErrorKind) (s' : StructTree) → CopiesIndices n set l x b (left_indices set l x b q) y o s' → CopiesIndices n set l x b (left_indices set l x b p) s o s') →
+    go_on : (q : ℕ) (s y : StructTree) → ((o : Option ErrorKind) (s' : StructTree) → CopiesIndices n set l x b (left_indices set l x b q) y o s' → CopiesIndices n set l x b (left_indices set l x b p) s o s') →
         Leads Outcome n set l x ((b, p) ∷ frames) None s → Leads Outcome n set l x ((b, q) ∷ frames) None y
     unfolding Leads
-    go-on q s y step h o s' left = h o s' (step o s' left)
+    go_on q s y step h o s' left = h o s' (step o s' left)
 
 -- ---- one field more ----
 
 module _ (n : ℕ) (set : Schemas) (l : Levels) (x : StructTree) (b : ℕ) where
-  next-copied : (i : ℕ) (is : List ℕ) (s m s' : StructTree) (o : Option ErrorKind) → CopiesIndices n set l x b (i ∷ []) s None m → CopiesIndices n set l x b is m o s' → CopiesIndices n set l x b (i ∷ is) s o s'
+  next_copied : (i : ℕ) (is : List ℕ) (s m s' : StructTree) (o : Option ErrorKind) → CopiesIndices n set l x b (i ∷ []) s None m → CopiesIndices n set l x b is m o s' → CopiesIndices n set l x b (i ∷ is) s o s'
   unfolding CopiesIndices
-  next-copied i is s m s' o first rest = fields-next (TreeCopiesWithin n set l x) set l x b i is s m s' o first rest
+  next_copied i is s m s' o first rest = fields_next (TreeCopiesWithin n set l x) set l x b i is s m s' o first rest
 
-  cut-copied : (i : ℕ) (is : List ℕ) (s s' : StructTree) (kind : ErrorKind) → CopiesIndices n set l x b (i ∷ []) s (Some kind) s' → CopiesIndices n set l x b (i ∷ is) s (Some kind) s'
+  cut_copied : (i : ℕ) (is : List ℕ) (s s' : StructTree) (kind : ErrorKind) → CopiesIndices n set l x b (i ∷ []) s (Some kind) s' → CopiesIndices n set l x b (i ∷ is) s (Some kind) s'
   unfolding CopiesIndices
-  cut-copied i is s s' kind first = fields-cut (TreeCopiesWithin n set l x) set l x b i is s s' kind first
+  cut_copied i is s s' kind first = fields_cut (TreeCopiesWithin n set l x) set l x b i is s s' kind first
 
   -- all fields of a group that was cleared
-  all-copied : (s m s' : StructTree) (o : Option ErrorKind) → m ≡ cleared_group set b s → CopiesIndices n set l x b (left_indices set l x b 0) m o s' → CopiesThrough (suc n) set l x b s o s'
+  all_copied : (s m s' : StructTree) (o : Option ErrorKind) → m ≡ cleared_group set b s → CopiesIndices n set l x b (left_indices set l x b 0) m o s' → CopiesThrough (suc n) set l x b s o s'
   unfolding CopiesIndices CopiesThrough left_indices active_in
-  all-copied s m s' o cleared h = whole n set l x b s m s' o cleared h
+  all_copied s m s' o cleared h = whole n set l x b s m s' o cleared h
 
-  nothing-left : (p : ℕ) (s : StructTree) → length (fields_of set b) < p → CopiesIndices n set l x b (left_indices set l x b p) s None s
-  nothing-left p s past = subst (λ (js : List ℕ). CopiesIndices n set l x b js s None s) (sym (left-past set l x b p past)) (none-copied n set l x b s)
+  nothing_left : (p : ℕ) (s : StructTree) → length (fields_of set b) < p → CopiesIndices n set l x b (left_indices set l x b p) s None s
+  nothing_left p s past = subst (λ (js : List ℕ). CopiesIndices n set l x b js s None s) (sym (left_past set l x b p past)) (none_copied n set l x b s)
 
   -- behind a field that was copied
-  field-next : (p i : ℕ) (s m s' : StructTree) (o : Option ErrorKind) → copied_at set l x b p ≡ Some i → p ≤ length (fields_of set b) → CopiesIndices n set l x b (i ∷ []) s None m →
+  field_next : (p i : ℕ) (s m s' : StructTree) (o : Option ErrorKind) → copied_at set l x b p ≡ Some i → p ≤ length (fields_of set b) → CopiesIndices n set l x b (i ∷ []) s None m →
       CopiesIndices n set l x b (left_indices set l x b (suc p)) m o s' → CopiesIndices n set l x b (left_indices set l x b p) s o s'
-  field-next p i s m s' o at le first rest =
-      subst (λ (js : List ℕ). CopiesIndices n set l x b js s o s') (sym (left-field set l x b p i at le)) (next-copied i (left_indices set l x b (suc p)) s m s' o first rest)
+  field_next p i s m s' o at le first rest =
+      subst (λ (js : List ℕ). CopiesIndices n set l x b js s o s') (sym (left_field set l x b p i at le)) (next_copied i (left_indices set l x b (suc p)) s m s' o first rest)
 
-  field-cut : (p i : ℕ) (s s' : StructTree) (kind : ErrorKind) → copied_at set l x b p ≡ Some i → p ≤ length (fields_of set b) → CopiesIndices n set l x b (i ∷ []) s (Some kind) s' →
+  field_cut : (p i : ℕ) (s s' : StructTree) (kind : ErrorKind) → copied_at set l x b p ≡ Some i → p ≤ length (fields_of set b) → CopiesIndices n set l x b (i ∷ []) s (Some kind) s' →
       CopiesIndices n set l x b (left_indices set l x b p) s (Some kind) s'
-  field-cut p i s s' kind at le first =
-      subst (λ (js : List ℕ). CopiesIndices n set l x b js s (Some kind) s') (sym (left-field set l x b p i at le)) (cut-copied i (left_indices set l x b (suc p)) s s' kind first)
+  field_cut p i s s' kind at le first =
+      subst (λ (js : List ℕ). CopiesIndices n set l x b js s (Some kind) s') (sym (left_field set l x b p i at le)) (cut_copied i (left_indices set l x b (suc p)) s s' kind first)
 
-pub slot-taken : (n : ℕ) (f : Field) (l : Levels) (x s s' : StructTree) → IsSlot f → IsCopied f (copy_given f l x) (copy_content f x) s s' → CopiesIndices n (field_set f) l x (field_brand f) (index_of f ∷ []) s None s'
-slot-taken n f l x s s' slot copied = slot-copied n f l x s s' (Ok tt) slot copied tt tt
+pub slot_taken : (n : ℕ) (f : Field) (l : Levels) (x s s' : StructTree) → IsSlot f → IsCopied f (copy_given f l x) (copy_content f x) s s' → CopiesIndices n (field_set f) l x (field_brand f) (index_of f ∷ []) s None s'
+slot_taken n f l x s s' slot copied = slot_copied n f l x s s' (Ok tt) slot copied tt tt
 
-pub slot-refused : (n : ℕ) (f : Field) (l : Levels) (x s s' : StructTree) (e : Error) → IsSlot f → s' ≡ s → IsSetRefusal (copy_given f l x) e.kind → CopiesIndices n (field_set f) l x (field_brand f) (index_of f ∷ []) s (Some e.kind) s'
-slot-refused n f l x s s' e slot same cause = slot-copied n f l x s s' (Err e) slot tt same cause
+pub slot_refused : (n : ℕ) (f : Field) (l : Levels) (x s s' : StructTree) (e : Error) → IsSlot f → s' ≡ s → IsSetRefusal (copy_given f l x) e.kind → CopiesIndices n (field_set f) l x (field_brand f) (index_of f ∷ []) s (Some e.kind) s'
+slot_refused n f l x s s' e slot same cause = slot_copied n f l x s s' (Err e) slot tt same cause
 
 -- ---- handles ----
 
@@ -231,68 +231,68 @@ record Due (l : Levels) (x : StructTree) (at : StructSchema) (p : ℕ) (f : Fiel
 
 due : (l : Levels) (x : StructTree) (at : StructSchema) (p : ℕ) (f : Field) → IsFound at (copied_at (set_of at) l x (number_of at) p) (Some f) → Due l x at p f
 due l x at p f found =
-    let is = found-at at (copied_at (set_of at) l x (number_of at) p) f found in
+    let is = found_at at (copied_at (set_of at) l x (number_of at) p) f found in
     record { set = ap set_of is.1; brand = ap number_of is.1; index = is.0 }
 
-due-copied : (n : ℕ) (l : Levels) (x : StructTree) (at : StructSchema) (p : ℕ) (f : Field) (s y : StructTree) (o : Option ErrorKind) → Due l x at p f → CopiesIndices n (field_set f) l x (field_brand f) (index_of f ∷ []) s o y →
+due_copied : (n : ℕ) (l : Levels) (x : StructTree) (at : StructSchema) (p : ℕ) (f : Field) (s y : StructTree) (o : Option ErrorKind) → Due l x at p f → CopiesIndices n (field_set f) l x (field_brand f) (index_of f ∷ []) s o y →
     CopiesIndices n (set_of at) l x (number_of at) (index_of f ∷ []) s o y
-due-copied n l x at p f s y o d h =
+due_copied n l x at p f s y o d h =
     subst (λ (b : ℕ). CopiesIndices n (set_of at) l x b (index_of f ∷ []) s o y) d.brand
     (subst (λ (z : Schemas). CopiesIndices n z l x (field_brand f) (index_of f ∷ []) s o y) d.set h)
 
 -- the way from the group of a due field leads back behind the field
-back-in : (l : Levels) (x : StructTree) (at : StructSchema) (p : ℕ) (f : Field) (g : StructSchema) → Due l x at p f → IsGroupAt f g → group_field_of (set_of at) (number_of g) ≡ Some (number_of at, index_of f)
-back-in l x at p f g d is = ap (λ (z : Schemas). group_field_of z (number_of g)) (sym d.set) ∙ (is.back ∙ ap (λ (c : ℕ). Some (c, index_of f)) d.brand)
+back_in : (l : Levels) (x : StructTree) (at : StructSchema) (p : ℕ) (f : Field) (g : StructSchema) → Due l x at p f → IsGroupAt f g → group_field_of (set_of at) (number_of g) ≡ Some (number_of at, index_of f)
+back_in l x at p f g d is = ap (λ (z : Schemas). group_field_of z (number_of g)) (sym d.set) ∙ (is.back ∙ ap (λ (c : ℕ). Some (c, index_of f)) d.brand)
 
-way-in : (l : Levels) (x : StructTree) (at : StructSchema) (depth p : ℕ) (f : Field) (g : StructSchema) → Due l x at p f → IsGroupAt f g → way (set_of at) (suc depth) (number_of g) ≡ (number_of at, suc p) ∷ way (set_of at) depth (number_of at)
-way-in l x at depth p f g d is = way-group (set_of at) depth (number_of g) (number_of at) (index_of f) (back-in l x at p f g d is)
-    ∙ ap (λ (q : ℕ). (number_of at, q) ∷ way (set_of at) depth (number_of at)) (behind-copied (set_of at) l x (number_of at) p (index_of f) d.index)
+way_in : (l : Levels) (x : StructTree) (at : StructSchema) (depth p : ℕ) (f : Field) (g : StructSchema) → Due l x at p f → IsGroupAt f g → way (set_of at) (suc depth) (number_of g) ≡ (number_of at, suc p) ∷ way (set_of at) depth (number_of at)
+way_in l x at depth p f g d is = way_group (set_of at) depth (number_of g) (number_of at) (index_of f) (back_in l x at p f g d is)
+    ∙ ap (λ (q : ℕ). (number_of at, q) ∷ way (set_of at) depth (number_of at)) (behind_copied (set_of at) l x (number_of at) p (index_of f) d.index)
 
 -- ---- the steps of the copy ----
 
 module _ (Outcome : Ending) (l : Levels) (x : StructTree) where
-  from-start : (n : ℕ) (at : StructSchema) (depth : ℕ) (m : StructTree) → depth ≡ 0 → ((o : Option ErrorKind) (s' : StructTree) → CopiesIndices n (set_of at) l x (number_of at) (left_indices (set_of at) l x (number_of at) 0) m o s' → Outcome o s') →
+  from_start : (n : ℕ) (at : StructSchema) (depth : ℕ) (m : StructTree) → depth ≡ 0 → ((o : Option ErrorKind) (s' : StructTree) → CopiesIndices n (set_of at) l x (number_of at) (left_indices (set_of at) l x (number_of at) 0) m o s' → Outcome o s') →
       Stands Outcome n l x at depth 0 m
-  from-start n at depth m e h =
-      come-to Outcome l x n (set_of at) (number_of at) 0 (way (set_of at) depth (number_of at)) m
-      (λ o s' left. subst (λ (frames : List (ℕ × ℕ)). Leads Outcome (suc n) (set_of at) l x frames o s') (sym (way-start (set_of at) depth (number_of at) e)) (leads-start Outcome l x (suc n) (set_of at) o s' (h o s' left)))
+  from_start n at depth m e h =
+      come_to Outcome l x n (set_of at) (number_of at) 0 (way (set_of at) depth (number_of at)) m
+      (λ o s' left. subst (λ (frames : List (ℕ × ℕ)). Leads Outcome (suc n) (set_of at) l x frames o s') (sym (way_start (set_of at) depth (number_of at) e)) (leads_start Outcome l x (suc n) (set_of at) o s' (h o s' left)))
 
-  pub past-nothing : (n : ℕ) (at : StructSchema) (depth p : ℕ) (s : StructTree) → IsFound at (copied_at (set_of at) l x (number_of at) p) None → p ≤ length (struct_fields at) → Stands Outcome n l x at depth p s → Stands Outcome n l x at depth (p + 1) s
-  past-nothing n at depth p s none le =
-      go-on Outcome l x n (set_of at) (number_of at) p (way (set_of at) depth (number_of at)) (p + 1) s s
+  pub past_nothing : (n : ℕ) (at : StructSchema) (depth p : ℕ) (s : StructTree) → IsFound at (copied_at (set_of at) l x (number_of at) p) None → p ≤ length (struct_fields at) → Stands Outcome n l x at depth p s → Stands Outcome n l x at depth (p + 1) s
+  past_nothing n at depth p s none le =
+      go_on Outcome l x n (set_of at) (number_of at) p (way (set_of at) depth (number_of at)) (p + 1) s s
       (λ o s' left. subst (λ (js : List ℕ). CopiesIndices n (set_of at) l x (number_of at) js s o s') (sym same) left)
     where
       same : left_indices (set_of at) l x (number_of at) p ≡ left_indices (set_of at) l x (number_of at) (p + 1)
-      same = left-nothing (set_of at) l x (number_of at) p (found-none at (copied_at (set_of at) l x (number_of at) p) none) le
+      same = left_nothing (set_of at) l x (number_of at) p (found_none at (copied_at (set_of at) l x (number_of at) p) none) le
           ∙ ap (left_indices (set_of at) l x (number_of at)) (sym (add-one p))
 
-  pub past-slot : (n : ℕ) (at : StructSchema) (depth p : ℕ) (f : Field) (s y : StructTree) → IsFound at (copied_at (set_of at) l x (number_of at) p) (Some f) → p ≤ length (struct_fields at) →
+  pub past_slot : (n : ℕ) (at : StructSchema) (depth p : ℕ) (f : Field) (s y : StructTree) → IsFound at (copied_at (set_of at) l x (number_of at) p) (Some f) → p ≤ length (struct_fields at) →
       CopiesIndices n (field_set f) l x (field_brand f) (index_of f ∷ []) s None y → Stands Outcome n l x at depth p s → Stands Outcome n l x at depth (p + 1) y
-  past-slot n at depth p f s y found le copied =
-      go-on Outcome l x n (set_of at) (number_of at) p (way (set_of at) depth (number_of at)) (p + 1) s y
-      (λ o s' left. field-next n (set_of at) l x (number_of at) p (index_of f) s y s' o d.index le (due-copied n l x at p f s y None d copied)
+  past_slot n at depth p f s y found le copied =
+      go_on Outcome l x n (set_of at) (number_of at) p (way (set_of at) depth (number_of at)) (p + 1) s y
+      (λ o s' left. field_next n (set_of at) l x (number_of at) p (index_of f) s y s' o d.index le (due_copied n l x at p f s y None d copied)
       (subst (λ (q : ℕ). CopiesIndices n (set_of at) l x (number_of at) (left_indices (set_of at) l x (number_of at) q) y o s') (add-one p) left))
     where
       d : Due l x at p f
       d = due l x at p f found
 
-  pub cut-slot : (n : ℕ) (at : StructSchema) (depth p : ℕ) (f : Field) (s y : StructTree) (kind : ErrorKind) → IsFound at (copied_at (set_of at) l x (number_of at) p) (Some f) → p ≤ length (struct_fields at) →
+  pub cut_slot : (n : ℕ) (at : StructSchema) (depth p : ℕ) (f : Field) (s y : StructTree) (kind : ErrorKind) → IsFound at (copied_at (set_of at) l x (number_of at) p) (Some f) → p ≤ length (struct_fields at) →
       CopiesIndices n (field_set f) l x (field_brand f) (index_of f ∷ []) s (Some kind) y → Stands Outcome n l x at depth p s → Outcome (Some kind) y
-  cut-slot n at depth p f s y kind found le copied h =
-      leads-cut Outcome l x (suc n) (set_of at) (way (set_of at) depth (number_of at)) kind y
-      (go-into Outcome l x n (set_of at) (number_of at) p (way (set_of at) depth (number_of at)) s h (Some kind) y
-      (field-cut n (set_of at) l x (number_of at) p (index_of f) s y kind d.index le (due-copied n l x at p f s y (Some kind) d copied)))
+  cut_slot n at depth p f s y kind found le copied h =
+      leads_cut Outcome l x (suc n) (set_of at) (way (set_of at) depth (number_of at)) kind y
+      (go_into Outcome l x n (set_of at) (number_of at) p (way (set_of at) depth (number_of at)) s h (Some kind) y
+      (field_cut n (set_of at) l x (number_of at) p (index_of f) s y kind d.index le (due_copied n l x at p f s y (Some kind) d copied)))
     where
       d : Due l x at p f
       d = due l x at p f found
 
   -- a group is gone into
-  into-group : (n : ℕ) (at : StructSchema) (depth p : ℕ) (f : Field) (g : StructSchema) (s y : StructTree) → IsFound at (copied_at (set_of at) l x (number_of at) p) (Some f) → p ≤ length (struct_fields at) → IsGroupAt f g →
+  into_group : (n : ℕ) (at : StructSchema) (depth p : ℕ) (f : Field) (g : StructSchema) (s y : StructTree) → IsFound at (copied_at (set_of at) l x (number_of at) p) (Some f) → p ≤ length (struct_fields at) → IsGroupAt f g →
       y ≡ cleared_group (set_of g) (number_of g) (switched_to f s) → Stands Outcome (suc n) l x at depth p s → Stands Outcome n l x g (suc depth) 0 y
-  into-group n at depth p f g s y found le is cleared h =
+  into_group n at depth p f g s y found le is cleared h =
       subst (λ (z : Schemas). Leads Outcome n z l x ((number_of g, 0) ∷ way z (suc depth) (number_of g)) None y) (sym here)
-      (come-to Outcome l x n (set_of at) (number_of g) 0 (way (set_of at) (suc depth) (number_of g)) y
-      (λ o s' left. subst (λ (frames : List (ℕ × ℕ)). Leads Outcome (suc n) (set_of at) l x frames o s') (sym (way-in l x at depth p f g d is)) (ended o s' (whole_group o s' left))))
+      (come_to Outcome l x n (set_of at) (number_of g) 0 (way (set_of at) (suc depth) (number_of g)) y
+      (λ o s' left. subst (λ (frames : List (ℕ × ℕ)). Leads Outcome (suc n) (set_of at) l x frames o s') (sym (way_in l x at depth p f g d is)) (ended o s' (whole_group o s' left))))
     where
       d : Due l x at p f
       d = due l x at p f found
@@ -304,37 +304,37 @@ module _ (Outcome : Ending) (l : Levels) (x : StructTree) where
       whole_group : (o : Option ErrorKind) (s' : StructTree) → CopiesIndices n (set_of at) l x (number_of g) (left_indices (set_of at) l x (number_of g) 0) y o s' →
           CopiesIndices (suc n) (set_of at) l x (number_of at) (index_of f ∷ []) s o s'
       whole_group o s' left =
-          due-copied (suc n) l x at p f s s' o d
-          (group-copied (suc n) f g l x s (switched_to f s) s' o is refl
-          (all-copied n (set_of g) l x (number_of g) (switched_to f s) y s' o cleared
+          due_copied (suc n) l x at p f s s' o d
+          (group_copied (suc n) f g l x s (switched_to f s) s' o is refl
+          (all_copied n (set_of g) l x (number_of g) (switched_to f s) y s' o cleared
           (subst (λ (z : Schemas). CopiesIndices n z l x (number_of g) (left_indices z l x (number_of g) 0) y o s') (sym here) left)))
 
       ended : (o : Option ErrorKind) (s' : StructTree) → CopiesIndices (suc n) (set_of at) l x (number_of at) (index_of f ∷ []) s o s' →
           Leads Outcome (suc n) (set_of at) l x ((number_of at, suc p) ∷ way (set_of at) depth (number_of at)) o s'
       ended None s' copied =
-          go-on Outcome l x (suc n) (set_of at) (number_of at) p (way (set_of at) depth (number_of at)) (suc p) s s'
-          (λ o t left. field-next (suc n) (set_of at) l x (number_of at) p (index_of f) s s' t o d.index le copied left) h
+          go_on Outcome l x (suc n) (set_of at) (number_of at) p (way (set_of at) depth (number_of at)) (suc p) s s'
+          (λ o t left. field_next (suc n) (set_of at) l x (number_of at) p (index_of f) s s' t o d.index le copied left) h
       ended (Some kind) s' copied =
-          come-cut Outcome l x (suc n) (set_of at) (number_of at) (suc p) (way (set_of at) depth (number_of at)) kind s'
-          (go-into Outcome l x (suc n) (set_of at) (number_of at) p (way (set_of at) depth (number_of at)) s h (Some kind) s'
-          (field-cut (suc n) (set_of at) l x (number_of at) p (index_of f) s s' kind d.index le copied))
+          come_cut Outcome l x (suc n) (set_of at) (number_of at) (suc p) (way (set_of at) depth (number_of at)) kind s'
+          (go_into Outcome l x (suc n) (set_of at) (number_of at) p (way (set_of at) depth (number_of at)) s h (Some kind) s'
+          (field_cut (suc n) (set_of at) l x (number_of at) p (index_of f) s s' kind d.index le copied))
 
   -- a group's copy ends
-  past-last : (n : ℕ) (g : StructSchema) (depth p : ℕ) (s : StructTree) → length (struct_fields g) < p → Stands Outcome n l x g depth p s → Leads Outcome (suc n) (set_of g) l x (way (set_of g) depth (number_of g)) None s
-  past-last n g depth p s past h =
-      go-into Outcome l x n (set_of g) (number_of g) p (way (set_of g) depth (number_of g)) s h None s (nothing-left n (set_of g) l x (number_of g) p s past)
+  past_last : (n : ℕ) (g : StructSchema) (depth p : ℕ) (s : StructTree) → length (struct_fields g) < p → Stands Outcome n l x g depth p s → Leads Outcome (suc n) (set_of g) l x (way (set_of g) depth (number_of g)) None s
+  past_last n g depth p s past h =
+      go_into Outcome l x n (set_of g) (number_of g) p (way (set_of g) depth (number_of g)) s h None s (nothing_left n (set_of g) l x (number_of g) p s past)
 
   -- it is left by its field
-  out-of-group : (n : ℕ) (g : StructSchema) (depth p : ℕ) (f : Field) (s : StructTree) → length (struct_fields g) < p → IsGroupFieldOf g f → Some (place_of_field f) ≡ group_field_of (set_of g) (number_of g) →
+  out_of_group : (n : ℕ) (g : StructSchema) (depth p : ℕ) (f : Field) (s : StructTree) → length (struct_fields g) < p → IsGroupFieldOf g f → Some (place_of_field f) ≡ group_field_of (set_of g) (number_of g) →
       Stands Outcome n l x g (suc depth) p s → Stands Outcome (suc n) l x (field_schema f) depth (cleared_behind (field_set f) (field_brand f) (index_of f)) s
-  out-of-group n g depth p f s past is place h =
+  out_of_group n g depth p f s past is place h =
       subst (λ (z : Schemas). Leads Outcome (suc n) z l x ((field_brand f, cleared_behind z (field_brand f) (index_of f)) ∷ way z depth (field_brand f)) None s) (sym is.set)
-      (subst (λ (frames : List (ℕ × ℕ)). Leads Outcome (suc n) (set_of g) l x frames None s) (way-group (set_of g) depth (number_of g) (field_brand f) (index_of f) (sym place))
-      (past-last n g (suc depth) p s past h))
+      (subst (λ (frames : List (ℕ × ℕ)). Leads Outcome (suc n) (set_of g) l x frames None s) (way_group (set_of g) depth (number_of g) (field_brand f) (index_of f) (sym place))
+      (past_last n g (suc depth) p s past h))
 
-  ends-by : (n : ℕ) (at : StructSchema) (depth p : ℕ) (s : StructTree) → length (struct_fields at) < p → way (set_of at) depth (number_of at) ≡ [] → Stands Outcome n l x at depth p s → Outcome None s
-  ends-by n at depth p s past none h =
-      leads-end Outcome l x (suc n) (set_of at) None s (subst (λ (frames : List (ℕ × ℕ)). Leads Outcome (suc n) (set_of at) l x frames None s) none (past-last n at depth p s past h))
+  ends_by : (n : ℕ) (at : StructSchema) (depth p : ℕ) (s : StructTree) → length (struct_fields at) < p → way (set_of at) depth (number_of at) ≡ [] → Stands Outcome n l x at depth p s → Outcome None s
+  ends_by n at depth p s past none h =
+      leads_end Outcome l x (suc n) (set_of at) None s (subst (λ (frames : List (ℕ × ℕ)). Leads Outcome (suc n) (set_of at) l x frames None s) none (past_last n at depth p s past h))
 
 -- ---- heights ----
 
@@ -346,78 +346,78 @@ AreLow n set ((b, p) ∷ frames) = (group_height set b ≤ n) × AreLow (suc n) 
 abbrev pub IsLow : ℕ → StructSchema → (depth place : ℕ) → Type 0
 IsLow n at depth p = AreLow n (set_of at) ((number_of at, p) ∷ way (set_of at) depth (number_of at))
 
-low-first : (n : ℕ) (set : Schemas) (b p : ℕ) (frames : List (ℕ × ℕ)) → AreLow n set ((b, p) ∷ frames) → group_height set b ≤ n
+low_first : (n : ℕ) (set : Schemas) (b p : ℕ) (frames : List (ℕ × ℕ)) → AreLow n set ((b, p) ∷ frames) → group_height set b ≤ n
 unfolding AreLow
-low-first n set b p frames h = h.0
+low_first n set b p frames h = h.0
 
-low-above : (n : ℕ) (set : Schemas) (b p : ℕ) (frames : List (ℕ × ℕ)) → AreLow n set ((b, p) ∷ frames) → AreLow (suc n) set frames
+low_above : (n : ℕ) (set : Schemas) (b p : ℕ) (frames : List (ℕ × ℕ)) → AreLow n set ((b, p) ∷ frames) → AreLow (suc n) set frames
 unfolding AreLow
-low-above n set b p frames h = h.1
+low_above n set b p frames h = h.1
 
-low-with : (n : ℕ) (set : Schemas) (b p : ℕ) (frames : List (ℕ × ℕ)) → group_height set b ≤ n → AreLow (suc n) set frames → AreLow n set ((b, p) ∷ frames)
+low_with : (n : ℕ) (set : Schemas) (b p : ℕ) (frames : List (ℕ × ℕ)) → group_height set b ≤ n → AreLow (suc n) set frames → AreLow n set ((b, p) ∷ frames)
 unfolding AreLow
-low-with n set b p frames first above = (first, above)
+low_with n set b p frames first above = (first, above)
 
-low-none : (n : ℕ) (set : Schemas) → AreLow n set []
+low_none : (n : ℕ) (set : Schemas) → AreLow n set []
 unfolding AreLow
-low-none n set = tt
+low_none n set = tt
 
-low-start : (n : ℕ) (at : StructSchema) (depth : ℕ) → depth ≡ 0 → group_height (set_of at) (number_of at) ≤ n → IsLow n at depth 0
-low-start n at depth e first = low-with n (set_of at) (number_of at) 0 (way (set_of at) depth (number_of at)) first
-    (subst (λ (frames : List (ℕ × ℕ)). AreLow (suc n) (set_of at) frames) (sym (way-start (set_of at) depth (number_of at) e)) (low-none (suc n) (set_of at)))
+low_start : (n : ℕ) (at : StructSchema) (depth : ℕ) → depth ≡ 0 → group_height (set_of at) (number_of at) ≤ n → IsLow n at depth 0
+low_start n at depth e first = low_with n (set_of at) (number_of at) 0 (way (set_of at) depth (number_of at)) first
+    (subst (λ (frames : List (ℕ × ℕ)). AreLow (suc n) (set_of at) frames) (sym (way_start (set_of at) depth (number_of at) e)) (low_none (suc n) (set_of at)))
 
-pub low-next : (n : ℕ) (at : StructSchema) (depth p q : ℕ) → IsLow n at depth p → IsLow n at depth q
-low-next n at depth p q h =
-    low-with n (set_of at) (number_of at) q (way (set_of at) depth (number_of at)) (low-first n (set_of at) (number_of at) p (way (set_of at) depth (number_of at)) h) (low-above n (set_of at) (number_of at) p (way (set_of at) depth (number_of at)) h)
+pub low_next : (n : ℕ) (at : StructSchema) (depth p q : ℕ) → IsLow n at depth p → IsLow n at depth q
+low_next n at depth p q h =
+    low_with n (set_of at) (number_of at) q (way (set_of at) depth (number_of at)) (low_first n (set_of at) (number_of at) p (way (set_of at) depth (number_of at)) h) (low_above n (set_of at) (number_of at) p (way (set_of at) depth (number_of at)) h)
 
 module _ (l : Levels) (x : StructTree) (at : StructSchema) (p : ℕ) (f : Field) (g : StructSchema) (d : Due l x at p f) (is : IsGroupAt f g) where
-  lower-in : group_height (set_of at) (number_of g) < group_height (set_of at) (number_of at)
-  lower-in = subst (λ (b : ℕ). group_height (set_of at) (number_of g) < group_height (set_of at) b) d.brand
+  lower_in : group_height (set_of at) (number_of g) < group_height (set_of at) (number_of at)
+  lower_in = subst (λ (b : ℕ). group_height (set_of at) (number_of g) < group_height (set_of at) b) d.brand
       (subst (λ (z : Schemas). group_height z (number_of g) < group_height z (field_brand f)) d.set
       (subst (λ (z : Schemas). group_height z (number_of g) < group_height (field_set f) (field_brand f)) is.set is.lower))
 
-  some-left : (n depth : ℕ) → IsLow n at depth p → 0 < n
-  some-left n depth h = omega (arith, lower-in, low-first n (set_of at) (number_of at) p (way (set_of at) depth (number_of at)) h)
+  some_left : (n depth : ℕ) → IsLow n at depth p → 0 < n
+  some_left n depth h = omega (arith, lower_in, low_first n (set_of at) (number_of at) p (way (set_of at) depth (number_of at)) h)
 
-  low-into : (n depth : ℕ) → IsLow (suc n) at depth p → IsLow n g (suc depth) 0
-  low-into n depth h =
+  low_into : (n depth : ℕ) → IsLow (suc n) at depth p → IsLow n g (suc depth) 0
+  low_into n depth h =
       subst (λ (z : Schemas). AreLow n z ((number_of g, 0) ∷ way z (suc depth) (number_of g))) (sym (is.set ∙ d.set))
-      (low-with n (set_of at) (number_of g) 0 (way (set_of at) (suc depth) (number_of g))
-      (omega (arith, lower-in, low-first (suc n) (set_of at) (number_of at) p (way (set_of at) depth (number_of at)) h))
-      (subst (λ (frames : List (ℕ × ℕ)). AreLow (suc n) (set_of at) frames) (sym (way-in l x at depth p f g d is))
-      (low-with (suc n) (set_of at) (number_of at) (suc p) (way (set_of at) depth (number_of at))
-      (low-first (suc n) (set_of at) (number_of at) p (way (set_of at) depth (number_of at)) h) (low-above (suc n) (set_of at) (number_of at) p (way (set_of at) depth (number_of at)) h))))
+      (low_with n (set_of at) (number_of g) 0 (way (set_of at) (suc depth) (number_of g))
+      (omega (arith, lower_in, low_first (suc n) (set_of at) (number_of at) p (way (set_of at) depth (number_of at)) h))
+      (subst (λ (frames : List (ℕ × ℕ)). AreLow (suc n) (set_of at) frames) (sym (way_in l x at depth p f g d is))
+      (low_with (suc n) (set_of at) (number_of at) (suc p) (way (set_of at) depth (number_of at))
+      (low_first (suc n) (set_of at) (number_of at) p (way (set_of at) depth (number_of at)) h) (low_above (suc n) (set_of at) (number_of at) p (way (set_of at) depth (number_of at)) h))))
 
-low-out : (n : ℕ) (g : StructSchema) (depth p : ℕ) (f : Field) → IsGroupFieldOf g f → Some (place_of_field f) ≡ group_field_of (set_of g) (number_of g) →
+low_out : (n : ℕ) (g : StructSchema) (depth p : ℕ) (f : Field) → IsGroupFieldOf g f → Some (place_of_field f) ≡ group_field_of (set_of g) (number_of g) →
     IsLow n g (suc depth) p → IsLow (suc n) (field_schema f) depth (cleared_behind (field_set f) (field_brand f) (index_of f))
-low-out n g depth p f is place h =
+low_out n g depth p f is place h =
     subst (λ (z : Schemas). AreLow (suc n) z ((field_brand f, cleared_behind z (field_brand f) (index_of f)) ∷ way z depth (field_brand f))) (sym is.set)
-    (subst (λ (frames : List (ℕ × ℕ)). AreLow (suc n) (set_of g) frames) (way-group (set_of g) depth (number_of g) (field_brand f) (index_of f) (sym place))
-    (low-above n (set_of g) (number_of g) p (way (set_of g) (suc depth) (number_of g)) h))
+    (subst (λ (frames : List (ℕ × ℕ)). AreLow (suc n) (set_of g) frames) (way_group (set_of g) depth (number_of g) (field_brand f) (index_of f) (sym place))
+    (low_above n (set_of g) (number_of g) p (way (set_of g) (suc depth) (number_of g)) h))
 
 -- ---- how many steps are left ----
 
-less-into-copied : (n : ℕ) (set : Schemas) (l : Levels) (x : StructTree) (b p i g : ℕ) → copied_at set l x b p ≡ Some i → p ≤ length (fields_of set b) → IsParent set g b i →
+less_into_copied : (n : ℕ) (set : Schemas) (l : Levels) (x : StructTree) (b p i g : ℕ) → copied_at set l x b p ≡ Some i → p ≤ length (fields_of set b) → IsParent set g b i →
     place_steps n set g 0 + place_steps (suc n) set b (suc p) < place_steps (suc n) set b p
 unfolding place_steps copied_at
-less-into-copied n set l x b zero i g at le is =
+less_into_copied n set l x b zero i g at le is =
     let into : steps_into (group_steps (suc n) set) (group_target set b i) ≡ suc (suc (group_steps (suc n) set g)) = ap (steps_into (group_steps (suc n) set)) (parent_target set g b i is) in
-    omega (arith, group-steps n set g, into, one-of-all (group_steps (suc n) set) (fields_of set b) i is.field)
-less-into-copied n set l x b (suc j) i g at le is = less-into n set b (suc j) i g (passes-some (is_index_there set l x b) (field_cleared_at set b (suc j)) i at) le is
+    omega (arith, group_steps_next n set g, into, one_of_all (group_steps (suc n) set) (fields_of set b) i is.field)
+less_into_copied n set l x b (suc j) i g at le is = less_into n set b (suc j) i g (passes_some (is_index_there set l x b) (field_cleared_at set b (suc j)) i at) le is
 
-less-in : (n : ℕ) (l : Levels) (x : StructTree) (at : StructSchema) (depth p : ℕ) (f : Field) (g : StructSchema) → Due l x at p f → p ≤ length (struct_fields at) → IsGroupAt f g → steps_of n g (suc depth) 0 < steps_of (suc n) at depth p
-less-in n l x at depth p f g d le is = subst (λ (z : Schemas). all_steps n z ((number_of g, 0) ∷ way z (suc depth) (number_of g)) < steps_of (suc n) at depth p) (sym (is.set ∙ d.set)) in_set
+less_in : (n : ℕ) (l : Levels) (x : StructTree) (at : StructSchema) (depth p : ℕ) (f : Field) (g : StructSchema) → Due l x at p f → p ≤ length (struct_fields at) → IsGroupAt f g → steps_of n g (suc depth) 0 < steps_of (suc n) at depth p
+less_in n l x at depth p f g d le is = subst (λ (z : Schemas). all_steps n z ((number_of g, 0) ∷ way z (suc depth) (number_of g)) < steps_of (suc n) at depth p) (sym (is.set ∙ d.set)) in_set
   where
     parent : IsParent (set_of at) (number_of g) (number_of at) (index_of f)
-    parent = target_parent (set_of at) (number_of g) (number_of at) (index_of f) (group_field_found (set_of at) (number_of g) (number_of at) (index_of f) (back-in l x at p f g d is)).1
+    parent = target_parent (set_of at) (number_of g) (number_of at) (index_of f) (group_field_found (set_of at) (number_of g) (number_of at) (index_of f) (back_in l x at p f g d is)).1
 
     in_set : all_steps n (set_of at) ((number_of g, 0) ∷ way (set_of at) (suc depth) (number_of g)) < all_steps (suc n) (set_of at) ((number_of at, p) ∷ way (set_of at) depth (number_of at))
     in_set =
-        let new = steps-frame n (set_of at) (number_of g) 0 (way (set_of at) (suc depth) (number_of g)) in
-        let above = ap (all_steps (suc n) (set_of at)) (way-in l x at depth p f g d is) in
-        let outer = steps-frame (suc n) (set_of at) (number_of at) (suc p) (way (set_of at) depth (number_of at)) in
-        let old = steps-frame (suc n) (set_of at) (number_of at) p (way (set_of at) depth (number_of at)) in
-        omega (arith, new, above, outer, old, less-into-copied n (set_of at) l x (number_of at) p (index_of f) (number_of g) d.index le parent)
+        let new = steps_frame n (set_of at) (number_of g) 0 (way (set_of at) (suc depth) (number_of g)) in
+        let above = ap (all_steps (suc n) (set_of at)) (way_in l x at depth p f g d is) in
+        let outer = steps_frame (suc n) (set_of at) (number_of at) (suc p) (way (set_of at) depth (number_of at)) in
+        let old = steps_frame (suc n) (set_of at) (number_of at) p (way (set_of at) depth (number_of at)) in
+        omega (arith, new, above, outer, old, less_into_copied n (set_of at) l x (number_of at) p (index_of f) (number_of g) d.index le parent)
 
 -- ---- in the words of the loop ----
 
@@ -443,105 +443,105 @@ starts zero left l x at s m some e cleared = absurd (omega arith)
 starts (suc n) left l x at s m some e cleared =
     let same : left ≡ n = omega arith in
     let none : depth_at (suc n) left ≡ 0 = omega arith in
-    from-start (Through (suc n) at l x s) l x left at (depth_at (suc n) left) m none
-    (λ o s' rest. all-copied n (set_of at) l x (number_of at) s m s' o cleared (subst (λ (k : ℕ). CopiesIndices k (set_of at) l x (number_of at) (left_indices (set_of at) l x (number_of at) 0) m o s') same rest))
+    from_start (Through (suc n) at l x s) l x left at (depth_at (suc n) left) m none
+    (λ o s' rest. all_copied n (set_of at) l x (number_of at) s m s' o cleared (subst (λ (k : ℕ). CopiesIndices k (set_of at) l x (number_of at) (left_indices (set_of at) l x (number_of at) 0) m o s') same rest))
 
-pub low-starts : (groups left : ℕ) (at : StructSchema) → left ≡ groups - 1 → group_height (set_of at) (number_of at) < groups → IsLowAt groups left at 0
-low-starts groups left at e low =
+pub low_starts : (groups left : ℕ) (at : StructSchema) → left ≡ groups - 1 → group_height (set_of at) (number_of at) < groups → IsLowAt groups left at 0
+low_starts groups left at e low =
     let none : depth_at groups left ≡ 0 = omega arith in
-    low-start left at (depth_at groups left) none (omega arith)
+    low_start left at (depth_at groups left) none (omega arith)
 
 module _ (groups left : ℕ) (l : Levels) (x : StructTree) (at : StructSchema) (p : ℕ) (f : Field) (found : IsFound at (copied_at (set_of at) l x (number_of at) p) (Some f)) where
-  pub left-some : (g : StructSchema) → IsGroupAt f g → IsLowAt groups left at p → 0 < left
-  left-some g is low = some-left l x at p f g (due l x at p f found) is left (depth_at groups left) low
+  pub left_some : (g : StructSchema) → IsGroupAt f g → IsLowAt groups left at p → 0 < left
+  left_some g is low = some_left l x at p f g (due l x at p f found) is left (depth_at groups left) low
 
-  pub room-at : (s : StructTree) → Fits (set_of at) (number_of at) s → IsRoomFor f s
-  room-at s room =
+  pub room_at : (s : StructTree) → Fits (set_of at) (number_of at) s → IsRoomFor f s
+  room_at s room =
       let d = due l x at p f found in
       subst (λ (b : ℕ). Fits (field_set f) b s) (sym d.brand) (subst (λ (z : Schemas). Fits z (number_of at) s) (sym d.set) room)
 
-  pub group-fits : (g : StructSchema) (s y : StructTree) → IsGroupAt f g → KeepsSize s y → Fits (set_of at) (number_of at) s → Fits (set_of g) (number_of g) y
-  group-fits g s y is kept room = fits-kept (set_of g) (number_of g) s y kept (is.room s (room-at s room))
+  pub group_fits : (g : StructSchema) (s y : StructTree) → IsGroupAt f g → KeepsSize s y → Fits (set_of at) (number_of at) s → Fits (set_of g) (number_of g) y
+  group_fits g s y is kept room = fits_kept (set_of g) (number_of g) s y kept (is.room s (room_at s room))
 
 module _ (groups : ℕ) (l : Levels) (x : StructTree) (at : StructSchema) (p : ℕ) (f : Field) (g : StructSchema) (found : IsFound at (copied_at (set_of at) l x (number_of at) p) (Some f)) (le : p ≤ length (struct_fields at)) (is : IsGroupAt f g) where
-  pub goes-in : (Outcome : Ending) (left : ℕ) (s y : StructTree) → left < groups → IsLowAt groups left at p → y ≡ cleared_group (set_of g) (number_of g) (switched_to f s) → StandsAt groups Outcome left l x at p s → StandsAt groups Outcome (left - 1) l x g 0 y
-  goes-in Outcome zero s y few low cleared h = absurd (let some = left-some groups 0 l x at p f found g is low in omega arith)
-  goes-in Outcome (suc n) s y few low cleared h =
+  pub goes_in : (Outcome : Ending) (left : ℕ) (s y : StructTree) → left < groups → IsLowAt groups left at p → y ≡ cleared_group (set_of g) (number_of g) (switched_to f s) → StandsAt groups Outcome left l x at p s → StandsAt groups Outcome (left - 1) l x g 0 y
+  goes_in Outcome zero s y few low cleared h = absurd (let some = left_some groups 0 l x at p f found g is low in omega arith)
+  goes_in Outcome (suc n) s y few low cleared h =
       let less : suc n - 1 ≡ n = omega arith in
       let deeper : suc (depth_at groups (suc n)) ≡ depth_at groups n = omega arith in
       subst (λ (k : ℕ). StandsAt groups Outcome k l x g 0 y) (sym less)
-      (subst (λ (d : ℕ). Stands Outcome n l x g d 0 y) deeper (into-group Outcome l x n at (depth_at groups (suc n)) p f g s y found le is cleared h))
+      (subst (λ (d : ℕ). Stands Outcome n l x g d 0 y) deeper (into_group Outcome l x n at (depth_at groups (suc n)) p f g s y found le is cleared h))
 
-  pub low-in : (left : ℕ) → left < groups → IsLowAt groups left at p → IsLowAt groups (left - 1) g 0
-  low-in zero few low = absurd (let some = left-some groups 0 l x at p f found g is low in omega arith)
-  low-in (suc n) few low =
+  pub low_in : (left : ℕ) → left < groups → IsLowAt groups left at p → IsLowAt groups (left - 1) g 0
+  low_in zero few low = absurd (let some = left_some groups 0 l x at p f found g is low in omega arith)
+  low_in (suc n) few low =
       let less : suc n - 1 ≡ n = omega arith in
       let deeper : suc (depth_at groups (suc n)) ≡ depth_at groups n = omega arith in
       subst (λ (k : ℕ). IsLowAt groups k g 0) (sym less)
-      (subst (λ (d : ℕ). IsLow n g d 0) deeper (low-into l x at p f g (due l x at p f found) is n (depth_at groups (suc n)) low))
+      (subst (λ (d : ℕ). IsLow n g d 0) deeper (low_into l x at p f g (due l x at p f found) is n (depth_at groups (suc n)) low))
 
-  pub fewer-in : (left : ℕ) → left < groups → IsLowAt groups left at p → steps_at groups (left - 1) g 0 < steps_at groups left at p
-  fewer-in zero few low = absurd (let some = left-some groups 0 l x at p f found g is low in omega arith)
-  fewer-in (suc n) few low =
+  pub fewer_in : (left : ℕ) → left < groups → IsLowAt groups left at p → steps_at groups (left - 1) g 0 < steps_at groups left at p
+  fewer_in zero few low = absurd (let some = left_some groups 0 l x at p f found g is low in omega arith)
+  fewer_in (suc n) few low =
       let less : suc n - 1 ≡ n = omega arith in
       let deeper : suc (depth_at groups (suc n)) ≡ depth_at groups n = omega arith in
       subst (λ (k : ℕ). steps_at groups k g 0 < steps_at groups (suc n) at p) (sym less)
-      (subst (λ (d : ℕ). steps_of n g d 0 < steps_at groups (suc n) at p) deeper (less-in n l x at (depth_at groups (suc n)) p f g (due l x at p f found) le is))
+      (subst (λ (d : ℕ). steps_of n g d 0 < steps_at groups (suc n) at p) deeper (less_in n l x at (depth_at groups (suc n)) p f g (due l x at p f found) le is))
 
-pub below-top : (groups left : ℕ) → left < groups → (left + 1 ≡ groups → ⊥) → left + 1 < groups
-below-top zero left few inside = absurd (omega arith)
-below-top (suc zero) zero few inside = absurd (inside (omega arith))
-below-top (suc (suc n)) zero few inside = omega arith
-below-top (suc n) (suc left) few inside = omega (arith, below-top n left (omega arith) (λ e. inside (omega (arith, e))))
+pub below_top : (groups left : ℕ) → left < groups → (left + 1 ≡ groups → ⊥) → left + 1 < groups
+below_top zero left few inside = absurd (omega arith)
+below_top (suc zero) zero few inside = absurd (inside (omega arith))
+below_top (suc (suc n)) zero few inside = omega arith
+below_top (suc n) (suc left) few inside = omega (arith, below_top n left (omega arith) (λ e. inside (omega (arith, e))))
 
 -- the field's struct and the place behind it by other names
 module _ (groups left : ℕ) (g : StructSchema) (p : ℕ) (f : Field) (a : StructSchema) (q : ℕ) (same : a ≡ field_schema f) (behind : q ≡ cleared_behind (field_set f) (field_brand f) (index_of f)) (few : left < groups) (inside : left + 1 ≡ groups → ⊥)
     (is : IsGroupFieldOf g f) (place : Some (place_of_field f) ≡ group_field_of (set_of g) (number_of g)) where
   deeper : depth_at groups left ≡ suc (depth_at groups (left + 1))
-  deeper = omega (arith, below-top groups left few inside)
+  deeper = omega (arith, below_top groups left few inside)
 
   named : (P : StructSchema → ℕ → Type 0) → P (field_schema f) (cleared_behind (field_set f) (field_brand f) (index_of f)) → P a q
   named P h = subst (λ (z : StructSchema). P z q) (sym same) (subst (λ (k : ℕ). P (field_schema f) k) (sym behind) h)
 
-  pub goes-above : (Outcome : Ending) (l : Levels) (x s : StructTree) → length (struct_fields g) < p → StandsAt groups Outcome left l x g p s → StandsAt groups Outcome (left + 1) l x a q s
-  goes-above Outcome l x s past h = named (λ (z : StructSchema) (k : ℕ). StandsAt groups Outcome (left + 1) l x z k s)
+  pub goes_above : (Outcome : Ending) (l : Levels) (x s : StructTree) → length (struct_fields g) < p → StandsAt groups Outcome left l x g p s → StandsAt groups Outcome (left + 1) l x a q s
+  goes_above Outcome l x s past h = named (λ (z : StructSchema) (k : ℕ). StandsAt groups Outcome (left + 1) l x z k s)
       (subst (λ (n : ℕ). Stands Outcome n l x (field_schema f) (depth_at groups (left + 1)) (cleared_behind (field_set f) (field_brand f) (index_of f)) s) (sym (add-one left))
-      (out-of-group Outcome l x left g (depth_at groups (left + 1)) p f s past is place (subst (λ (d : ℕ). Stands Outcome left l x g d p s) deeper h)))
+      (out_of_group Outcome l x left g (depth_at groups (left + 1)) p f s past is place (subst (λ (d : ℕ). Stands Outcome left l x g d p s) deeper h)))
 
-  pub low-at-above : IsLowAt groups left g p → IsLowAt groups (left + 1) a q
-  low-at-above h = named (λ (z : StructSchema) (k : ℕ). IsLowAt groups (left + 1) z k)
+  pub low_at_above : IsLowAt groups left g p → IsLowAt groups (left + 1) a q
+  low_at_above h = named (λ (z : StructSchema) (k : ℕ). IsLowAt groups (left + 1) z k)
       (subst (λ (n : ℕ). IsLow n (field_schema f) (depth_at groups (left + 1)) (cleared_behind (field_set f) (field_brand f) (index_of f))) (sym (add-one left))
-      (low-out left g (depth_at groups (left + 1)) p f is place (subst (λ (d : ℕ). IsLow left g d p) deeper h)))
+      (low_out left g (depth_at groups (left + 1)) p f is place (subst (λ (d : ℕ). IsLow left g d p) deeper h)))
 
-  pub fewer-at-above : steps_at groups (left + 1) a q < steps_at groups left g p
-  fewer-at-above =
+  pub fewer_at_above : steps_at groups (left + 1) a q < steps_at groups left g p
+  fewer_at_above =
       let less : depth_at groups left - 1 ≡ depth_at groups (left + 1) = omega (arith, deeper) in
       let some : depth_at groups left ≡ 0 → ⊥ = λ e. omega (arith, e, deeper) in
-      subst (λ (d : ℕ). steps_of (left + 1) a d q < steps_at groups left g p) less (fewer-above left g (depth_at groups left) p f a q same behind some is place)
+      subst (λ (d : ℕ). steps_of (left + 1) a d q < steps_at groups left g p) less (fewer_above left g (depth_at groups left) p f a q same behind some is place)
 
 pub ends : (groups left : ℕ) (Outcome : Ending) (l : Levels) (x : StructTree) (at : StructSchema) (p : ℕ) (s : StructTree) → length (struct_fields at) < p → left + 1 ≡ groups → StandsAt groups Outcome left l x at p s → Outcome None s
 ends groups left Outcome l x at p s past top h =
     let none : depth_at groups left ≡ 0 = omega (arith, top) in
-    ends-by Outcome l x left at (depth_at groups left) p s past (way-start (set_of at) (depth_at groups left) (number_of at) none) h
+    ends_by Outcome l x left at (depth_at groups left) p s past (way_start (set_of at) (depth_at groups left) (number_of at) none) h
 
-pub ends-outside : (groups left : ℕ) (Outcome : Ending) (l : Levels) (x : StructTree) (at : StructSchema) (p : ℕ) (s : StructTree) → length (struct_fields at) < p → group_field_of (set_of at) (number_of at) ≡ None → StandsAt groups Outcome left l x at p s → Outcome None s
-ends-outside groups left Outcome l x at p s past none h =
-    ends-by Outcome l x left at (depth_at groups left) p s past (way-outside (set_of at) (depth_at groups left) (number_of at) none) h
+pub ends_outside : (groups left : ℕ) (Outcome : Ending) (l : Levels) (x : StructTree) (at : StructSchema) (p : ℕ) (s : StructTree) → length (struct_fields at) < p → group_field_of (set_of at) (number_of at) ≡ None → StandsAt groups Outcome left l x at p s → Outcome None s
+ends_outside groups left Outcome l x at p s past none h =
+    ends_by Outcome l x left at (depth_at groups left) p s past (way_outside (set_of at) (depth_at groups left) (number_of at) none) h
 
 -- ---- what is copied at a place, by the field there ----
 
 module _ (s : StructSchema) (l : Levels) (x : StructTree) where
-  at-first : (o : Option Field) → IsFound s (active_in (set_of s) l x (number_of s)) o → IsFound s (copied_at (set_of s) l x (number_of s) 0) o
+  at_first : (o : Option Field) → IsFound s (active_in (set_of s) l x (number_of s)) o → IsFound s (copied_at (set_of s) l x (number_of s) 0) o
   unfolding copied_at
-  at-first o found = found
+  at_first o found = found
 
-  pub copied-first : (p : ℕ) (o : Option Field) → p ≡ 0 → IsFound s (active_in (set_of s) l x (number_of s)) o → IsFound s (copied_at (set_of s) l x (number_of s) p) o
-  copied-first p o e found = subst (λ (k : ℕ). IsFound s (copied_at (set_of s) l x (number_of s) k) o) (sym e) (at-first o found)
+  pub copied_first : (p : ℕ) (o : Option Field) → p ≡ 0 → IsFound s (active_in (set_of s) l x (number_of s)) o → IsFound s (copied_at (set_of s) l x (number_of s) p) o
+  copied_first p o e found = subst (λ (k : ℕ). IsFound s (copied_at (set_of s) l x (number_of s) k) o) (sym e) (at_first o found)
 
-  at-later : (p : ℕ) → (p ≡ 0 → ⊥) → copied_at (set_of s) l x (number_of s) p ≡ if_passes (is_index_there (set_of s) l x (number_of s)) (field_cleared_at (set_of s) (number_of s) p)
+  at_later : (p : ℕ) → (p ≡ 0 → ⊥) → copied_at (set_of s) l x (number_of s) p ≡ if_passes (is_index_there (set_of s) l x (number_of s)) (field_cleared_at (set_of s) (number_of s) p)
   unfolding copied_at
-  at-later zero some = absurd (some refl)
-  at-later (suc i) some = refl
+  at_later zero some = absurd (some refl)
+  at_later (suc i) some = refl
 
   passing : (o : Option ℕ) (f : Field) (q : Bool) → IsFound s o (Some f) → is_part_there (field_set f) l x (typed_of f) ≡ q →
       IsFound s (if_passes (is_index_there (set_of s) l x (number_of s)) o) (elim q as (λ _. Option Field) [ true ↦ Some f | false ↦ None ])
@@ -558,13 +558,13 @@ module _ (s : StructSchema) (l : Levels) (x : StructTree) where
       go true h = subst (λ (r : Bool). IsFound s (cond r (Some i) None) (Some f)) (sym h) found
       go false h = subst (λ (r : Bool). IsFound s (cond r (Some i) None) None) (sym h) tt
 
-  pub copied-none : (p : ℕ) → (p ≡ 0 → ⊥) → IsFound s (field_cleared_at (set_of s) (number_of s) p) None → IsFound s (copied_at (set_of s) l x (number_of s) p) None
-  copied-none p some found =
-      let none = at-later p some ∙ ap (if_passes (is_index_there (set_of s) l x (number_of s))) (found-none s (field_cleared_at (set_of s) (number_of s) p) found) in
+  pub copied_none : (p : ℕ) → (p ≡ 0 → ⊥) → IsFound s (field_cleared_at (set_of s) (number_of s) p) None → IsFound s (copied_at (set_of s) l x (number_of s) p) None
+  copied_none p some found =
+      let none = at_later p some ∙ ap (if_passes (is_index_there (set_of s) l x (number_of s))) (found_none s (field_cleared_at (set_of s) (number_of s) p) found) in
       subst (λ (o : Option ℕ). IsFound s o None) (sym none) tt
 
-  pub copied-there : (p : ℕ) (f : Field) → (p ≡ 0 → ⊥) → IsFound s (field_cleared_at (set_of s) (number_of s) p) (Some f) → is_part_there (field_set f) l x (typed_of f) ≡ true → IsFound s (copied_at (set_of s) l x (number_of s) p) (Some f)
-  copied-there p f some found e = subst (λ (o : Option ℕ). IsFound s o (Some f)) (sym (at-later p some)) (passing (field_cleared_at (set_of s) (number_of s) p) f true found e)
+  pub copied_there : (p : ℕ) (f : Field) → (p ≡ 0 → ⊥) → IsFound s (field_cleared_at (set_of s) (number_of s) p) (Some f) → is_part_there (field_set f) l x (typed_of f) ≡ true → IsFound s (copied_at (set_of s) l x (number_of s) p) (Some f)
+  copied_there p f some found e = subst (λ (o : Option ℕ). IsFound s o (Some f)) (sym (at_later p some)) (passing (field_cleared_at (set_of s) (number_of s) p) f true found e)
 
-  pub copied-missing : (p : ℕ) (f : Field) → (p ≡ 0 → ⊥) → IsFound s (field_cleared_at (set_of s) (number_of s) p) (Some f) → is_part_there (field_set f) l x (typed_of f) ≡ false → IsFound s (copied_at (set_of s) l x (number_of s) p) None
-  copied-missing p f some found e = subst (λ (o : Option ℕ). IsFound s o None) (sym (at-later p some)) (passing (field_cleared_at (set_of s) (number_of s) p) f false found e)
+  pub copied_missing : (p : ℕ) (f : Field) → (p ≡ 0 → ⊥) → IsFound s (field_cleared_at (set_of s) (number_of s) p) (Some f) → is_part_there (field_set f) l x (typed_of f) ≡ false → IsFound s (copied_at (set_of s) l x (number_of s) p) None
+  copied_missing p f some found e = subst (λ (o : Option ℕ). IsFound s o None) (sym (at_later p some)) (passing (field_cleared_at (set_of s) (number_of s) p) f false found e)

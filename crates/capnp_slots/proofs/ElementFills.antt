@@ -14,8 +14,8 @@ use Rattle.capnp_slots.specs.Fills.{ElementRests}
 
 -- ---- a call that is refused by what is due alone ----
 
-same-kind : (k l : ErrorKind) (d : Option ErrorKind) → Some k ≡ d → d ≡ Some l → k ≡ l
-same-kind k l d e h = cc
+same_kind : (k l : ErrorKind) (d : Option ErrorKind) → Some k ≡ d → d ≡ Some l → k ≡ l
+same_kind k l d e h = cc
 
 module _ {A : Type 0} where
   pub due_within : (r : Result A Error) (d : Option ErrorKind) → refusal_of r ≡ d → OnOk r (d ≡ None)
@@ -24,7 +24,7 @@ module _ {A : Type 0} where
 
   pub due_cause : (r : Result A Error) (d : Option ErrorKind) → refusal_of r ≡ d → IfErr r (λ e. IsDueRefusal e d)
   due_cause (Ok a) d e = tt
-  due_cause (Err x) d e = (λ _. sym e, λ l h. same-kind x.kind l d e h)
+  due_cause (Err x) d e = (λ _. sym e, λ l h. same_kind x.kind l d e h)
 
   pub due_rests : (r : Result A Error) (d : Option ErrorKind) → refusal_of r ≡ d → d ≡ None → IsOk r
   due_rests (Ok a) d e h = refl
@@ -36,10 +36,10 @@ always (Err e) p = tt
 
 -- ---- a list without a default ----
 
-no-default : (x : Tree) → takes_default tree.Null x ≡ false
-no-default tree.Null = refl
-no-default x = refl
+no_default : (x : Tree) → takes_default tree.Null x ≡ false
+no_default tree.Null = refl
+no_default x = refl
 
 pub still_rests : (set : Schemas) (e : SchemaType) (x : Tree) → ElementRests set (ListType e) x → IsAtRest set VoidValue (ListType e) x
-still_rests set (StructType b g) x h = (no-default x, h)
-still_rests set e x h = (no-default x, h)
+still_rests set (StructType b g) x h = (no_default x, h)
+still_rests set e x h = (no_default x, h)

@@ -40,52 +40,52 @@ cleared_group f x e = go (is_group_field (typed_of f).field.kind) e
 
 -- ---- what is set ----
 
-slot-kind : (q : Bool) → true ≡ not q → q ≡ false
-slot-kind true e = absurd (true≢false e)
-slot-kind false e = refl
+slot_kind : (q : Bool) → true ≡ not q → q ≡ false
+slot_kind true e = absurd (true≢false e)
+slot_kind false e = refl
 
-group-kind : (q : Bool) → false ≡ not q → q ≡ true
-group-kind true e = refl
-group-kind false e = absurd (true≢false (sym e))
+group_kind : (q : Bool) → false ≡ not q → q ≡ true
+group_kind true e = refl
+group_kind false e = absurd (true≢false (sym e))
 
 module _ {A : Type 0} (f : Field) (x : Source) (old new : StructTree) where
-  slot-set : (r : Result A Error) → OnOk r (IsSet f x old new) → OnErr r (new ≡ old) → IfErr r (λ e. IsSetRefusal (given_to f x) e.kind) → SlotIsSet f x old (refusal_of r) new
-  slot-set (Ok a) ok same cause = ok
-  slot-set (Err e) ok same cause = (cause, same)
+  slot_set : (r : Result A Error) → OnOk r (IsSet f x old new) → OnErr r (new ≡ old) → IfErr r (λ e. IsSetRefusal (given_to f x) e.kind) → SlotIsSet f x old (refusal_of r) new
+  slot_set (Ok a) ok same cause = ok
+  slot_set (Err e) ok same cause = (cause, same)
 
   pub slot_was_set : (r : Result A Error) → true ≡ not (is_group_field (typed_of f).field.kind) → OnOk r (IsSet f x old new) → OnErr r (new ≡ old) → IfErr r (λ e. IsSetRefusal (given_to f x) e.kind) →
       IsFieldSet f x old (refusal_of r) new
   slot_was_set r e ok same cause =
-      subst (λ (q : Bool). KindIsSet q f x old (refusal_of r) new) (sym (slot-kind (is_group_field (typed_of f).field.kind) e)) (slot-set r ok same cause)
+      subst (λ (q : Bool). KindIsSet q f x old (refusal_of r) new) (sym (slot_kind (is_group_field (typed_of f).field.kind) e)) (slot_set r ok same cause)
 
   pub group_was_set : (r : Result A Error) → false ≡ not (is_group_field (typed_of f).field.kind) → IsGroupSet f (given_to_group f x) old (refusal_of r) new → IsFieldSet f x old (refusal_of r) new
-  group_was_set r e h = subst (λ (q : Bool). KindIsSet q f x old (refusal_of r) new) (sym (group-kind (is_group_field (typed_of f).field.kind) e)) h
+  group_was_set r e h = subst (λ (q : Bool). KindIsSet q f x old (refusal_of r) new) (sym (group_kind (is_group_field (typed_of f).field.kind) e)) h
 
 -- ---- what is initialized ----
 
 module _ {A : Type 0} (f : Field) (old new : StructTree) where
-  slot-init : (r : Result A Error) → OnOk r (HasInit f) → OnOk r (new ≡ slot_with f (init_content f) old) → OnErr r (new ≡ old) → IfErr r (λ e. IsInitRefusal (typed_of f).type e.kind) → SlotIsInit f old (refusal_of r) new
-  slot-init (Ok a) has written same cause = (has, written)
-  slot-init (Err e) has written same cause = (cause, same)
+  slot_init : (r : Result A Error) → OnOk r (HasInit f) → OnOk r (new ≡ slot_with f (init_content f) old) → OnErr r (new ≡ old) → IfErr r (λ e. IsInitRefusal (typed_of f).type e.kind) → SlotIsInit f old (refusal_of r) new
+  slot_init (Ok a) has written same cause = (has, written)
+  slot_init (Err e) has written same cause = (cause, same)
 
   pub slot_was_init : (r : Result A Error) → true ≡ not (is_group_field (typed_of f).field.kind) → OnOk r (HasInit f) → OnOk r (new ≡ slot_with f (init_content f) old) → OnErr r (new ≡ old) →
       IfErr r (λ e. IsInitRefusal (typed_of f).type e.kind) → IsFieldInit f old (refusal_of r) new
   slot_was_init r e has written same cause =
-      subst (λ (q : Bool). KindIsInit q f old (refusal_of r) new) (sym (slot-kind (is_group_field (typed_of f).field.kind) e)) (slot-init r has written same cause)
+      subst (λ (q : Bool). KindIsInit q f old (refusal_of r) new) (sym (slot_kind (is_group_field (typed_of f).field.kind) e)) (slot_init r has written same cause)
 
 pub group_was_init : (f : Field) (old new : StructTree) → false ≡ not (is_group_field (typed_of f).field.kind) → new ≡ group_without f old → IsFieldInit f old None new
-group_was_init f old new e h = subst (λ (q : Bool). KindIsInit q f old None new) (sym (group-kind (is_group_field (typed_of f).field.kind) e)) h
+group_was_init f old new e h = subst (λ (q : Bool). KindIsInit q f old None new) (sym (group_kind (is_group_field (typed_of f).field.kind) e)) h
 
 -- ---- what is initialized with a size ----
 
 -- a group is a struct, which takes no size
-brand-sized : (set : Schemas) (n number : ℕ) (t : SchemaType) → struct_brand t ≡ Some number → IsInitnRefusal set n t InitnIsOnlyValidForListTextOrDataFields
-brand-sized set n number (StructType b g) e = refl
-brand-sized set n number t e = absurd cc
+brand_sized : (set : Schemas) (n number : ℕ) (t : SchemaType) → struct_brand t ≡ Some number → IsInitnRefusal set n t InitnIsOnlyValidForListTextOrDataFields
+brand_sized set n number (StructType b g) e = refl
+brand_sized set n number t e = absurd cc
 
 pub group_has_no_size : (f : Field) (g : StructSchema) (n : ℕ) → IsGroupAt f g → IsInitnRefusal (field_set f) n (typed_of f).type InitnIsOnlyValidForListTextOrDataFields
 group_has_no_size f g n at = go (typed_of f).field.kind at.names
   where
     go : (k : FieldKind) → IsGroupOf k (typed_of f).type (number_of g) → IsInitnRefusal (field_set f) n (typed_of f).type InitnIsOnlyValidForListTextOrDataFields
     go (Slot offset d) h = absurd h
-    go (Group node) h = brand-sized (field_set f) n (number_of g) (typed_of f).type h
+    go (Group node) h = brand_sized (field_set f) n (number_of g) (typed_of f).type h

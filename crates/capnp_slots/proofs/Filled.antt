@@ -30,8 +30,8 @@ use Rattle.capnp_schema.specs.FieldLists.{typed_of}
 use Rattle.capnp_schema.specs.Schema.{FieldKind, Group, Schemas, Slot, Value, TextValue, DataValue, StructValue, ListValue, AnyPointerValue, VoidValue, default_of, kind_default}
 use Rattle.capnp_schema.specs.Types.{SchemaType, StructType, ListType, seen_type, seen_variant}
 use Rattle.capnp_schema.specs.declared.schema.fields.Field.{Field}
-use Rattle.capnp_records.specs.Facts.Frame.{second-of}
-use Rattle.capnp_records.specs.Facts.Pointers.{with_tree-same}
+use Rattle.capnp_records.specs.Facts.Frame.{second_of}
+use Rattle.capnp_records.specs.Facts.Pointers.{with_tree_same}
 use Rattle.capnp_records.specs.Writes.TreeCopy.{or_else}
 use Rattle.capnp_records.specs.Step.{is_group_field}
 use Rattle.capnp_records.specs.Writes.Fill.{IsAtRest, default_struct, entered_list, filled_slot_struct, list_or_default}
@@ -42,36 +42,36 @@ use Rattle.capnp_slots.specs.Steps.Fills.{IsDefaultPointer, FilledListRests, blo
 
 -- ---- the pointer of a default ----
 
-kind-is : (k : FieldKind) (t : SchemaType) → is_group_field k ≡ false → KindDefault IsDefaultOf k t → IsDefaultOf (kind_default k) t
-kind-is (Slot o d) t e h = h
-kind-is (Group n) t e h = absurd (true≢false e)
+kind_is : (k : FieldKind) (t : SchemaType) → is_group_field k ≡ false → KindDefault IsDefaultOf k t → IsDefaultOf (kind_default k) t
+kind_is (Slot o d) t e h = h
+kind_is (Group n) t e h = absurd (true≢false e)
 
-pub default-is : (f : Field) (r : Option PointerReader) → IsSlot f → IsDefaultPointer f r → IsDefaultOf (default_of (typed_of f).field) (typed_of f).type
-default-is f r slot is = kind-is (typed_of f).field.kind (typed_of f).type slot is.fits.kind
+pub default_is : (f : Field) (r : Option PointerReader) → IsSlot f → IsDefaultPointer f r → IsDefaultOf (default_of (typed_of f).field) (typed_of f).type
+default_is f r slot is = kind_is (typed_of f).field.kind (typed_of f).type slot is.fits.kind
 
 -- a default of a pointer type
 module _ (d : Value) (decodes : Decodes d) where
   -- ---- structs ----
 
-  struct-default : (b g : ℕ) → IsDefaultOf d (StructType b g) → struct_in (value_default_tree d) ≡ default_struct d
-  struct-default b g of = go d of decodes
+  struct_default : (b g : ℕ) → IsDefaultOf d (StructType b g) → struct_in (value_default_tree d) ≡ default_struct d
+  struct_default b g of = go d of decodes
     where
       go : (d : Value) → IsDefaultOf d (StructType b g) → Decodes d → struct_in (value_default_tree d) ≡ default_struct d
       go (StructValue words) of h = refl
       go (AnyPointerValue words) of h = ap struct_in h
       go d of h = absurd of
 
-  pub struct-filled : (set : Schemas) (b g : ℕ) (x : Tree) → IsDefaultOf d (StructType b g) → wire.filled_struct (value_default_tree d) (brand_size set b) x ≡ filled_slot_struct set b d x
-  struct-filled set b g x of = go (is_null_tree x)
+  pub struct_filled : (set : Schemas) (b g : ℕ) (x : Tree) → IsDefaultOf d (StructType b g) → wire.filled_struct (value_default_tree d) (brand_size set b) x ≡ filled_slot_struct set b d x
+  struct_filled set b g x of = go (is_null_tree x)
     where
       go : (q : Bool) → extended_struct (brand_size set b) (struct_in (cond q (value_default_tree d) x)) ≡ extended_struct (brand_size set b) (elim q as (λ _. StructTree) [ true ↦ default_struct d | false ↦ struct_in x ])
-      go true = ap (extended_struct (brand_size set b)) (struct-default b g of)
+      go true = ap (extended_struct (brand_size set b)) (struct_default b g of)
       go false = refl
 
   -- ---- lists ----
 
-  pub list-filled : (e : SchemaType) (x : Tree) → IsDefaultOf d (ListType e) → wire.or_default (value_default_tree d) x ≡ list_or_default d x
-  list-filled e x of = go d of decodes x
+  pub list_filled : (e : SchemaType) (x : Tree) → IsDefaultOf d (ListType e) → wire.or_default (value_default_tree d) x ≡ list_or_default d x
+  list_filled e x of = go d of decodes x
     where
       go : (d : Value) → IsDefaultOf d (ListType e) → Decodes d → (x : Tree) → wire.or_default (value_default_tree d) x ≡ list_or_default d x
       go (ListValue words) of h tree.Null = refl
@@ -83,55 +83,55 @@ module _ (d : Value) (decodes : Decodes d) where
 -- ---- refusals ----
 
 module _ (D : Tree) (sound : first_fault D ≡ None) where
-  no-fault : wire.fault_refusal D ≡ None
-  no-fault = ap (option_map refusal) sound
+  no_fault : wire.fault_refusal D ≡ None
+  no_fault = ap (option_map refusal) sound
 
-  due-none : (o : Option ErrorKind) → wire.first_due o None ≡ o
-  due-none None = refl
-  due-none (Some k) = refl
+  due_none : (o : Option ErrorKind) → wire.first_due o None ≡ o
+  due_none None = refl
+  due_none (Some k) = refl
 
   first : (o : Option ErrorKind) → wire.first_due o (wire.fault_refusal D) ≡ o
-  first o = ap (wire.first_due o) no-fault ∙ due-none o
+  first o = ap (wire.first_due o) no_fault ∙ due_none o
 
-  is-struct : IsStructOrNull D → struct_refusal D ≡ None
-  is-struct h = go D h
+  is_struct : IsStructOrNull D → struct_refusal D ≡ None
+  is_struct h = go D h
     where
       go : (x : Tree) → IsStructOrNull x → struct_refusal x ≡ None
       go tree.Null h = refl
       go (tree.Struct bytes ps) h = refl
       go x h = absurd h
 
-  null-struct : (x : Tree) → is_null_tree x ≡ true → None ≡ struct_refusal x
-  null-struct tree.Null e = refl
-  null-struct x e = absurd (true≢false (sym e))
+  null_struct : (x : Tree) → is_null_tree x ≡ true → None ≡ struct_refusal x
+  null_struct tree.Null e = refl
+  null_struct x e = absurd (true≢false (sym e))
 
-  pub struct-due : (x : Tree) → IsStructOrNull D → wire.filled_struct_refusal D x ≡ struct_refusal x
-  struct-due x h = go (is_null_tree x) refl
+  pub struct_due : (x : Tree) → IsStructOrNull D → wire.filled_struct_refusal D x ≡ struct_refusal x
+  struct_due x h = go (is_null_tree x) refl
     where
       go : (q : Bool) → is_null_tree x ≡ q → cond q (wire.struct_default_refusal D) (struct_refusal x) ≡ struct_refusal x
-      go true e = first (struct_refusal D) ∙ (is-struct h ∙ null-struct x e)
+      go true e = first (struct_refusal D) ∙ (is_struct h ∙ null_struct x e)
       go false e = refl
 
-  is-list : (size : ElementSize) → IsOk (as_list size D 1) → wire.list_refusal size D ≡ None
-  is-list size h = go (as_list size D 1) h
+  is_list : (size : ElementSize) → IsOk (as_list size D 1) → wire.list_refusal size D ≡ None
+  is_list size h = go (as_list size D 1) h
     where
       go : (r : Result Tree ErrorKind) → IsOk r → wire.error_of r ≡ None
       go (Ok x) h = refl
       go (Err k) h = absurd (true≢false (sym h))
 
-  null-list : (size : ElementSize) (x : Tree) → is_null_tree x ≡ true → None ≡ wire.list_refusal size x
-  null-list size tree.Null e = refl
-  null-list size x e = absurd (true≢false (sym e))
+  null_list : (size : ElementSize) (x : Tree) → is_null_tree x ≡ true → None ≡ wire.list_refusal size x
+  null_list size tree.Null e = refl
+  null_list size x e = absurd (true≢false (sym e))
 
-  pub list-due : (size : ElementSize) (x : Tree) → IsOk (as_list size D 1) → wire.filled_list_refusal D size x ≡ wire.list_refusal size x
-  list-due size x h = go (is_null_tree x) refl
+  pub list_is_due : (size : ElementSize) (x : Tree) → IsOk (as_list size D 1) → wire.filled_list_refusal D size x ≡ wire.list_refusal size x
+  list_is_due size x h = go (is_null_tree x) refl
     where
       go : (q : Bool) → is_null_tree x ≡ q → cond q (wire.list_default_refusal size D) (wire.list_refusal size x) ≡ wire.list_refusal size x
-      go true e = first (wire.list_refusal size D) ∙ (is-list size h ∙ null-list size x e)
+      go true e = first (wire.list_refusal size D) ∙ (is_list size h ∙ null_list size x e)
       go false e = refl
 
-  pub structs-due : (size : StructSize) (x : Tree) → wire.filled_structs_refusal D size x ≡ struct_list_refusal size (wire.or_default D x)
-  structs-due size x = go (is_null_tree x)
+  pub structs_due : (size : StructSize) (x : Tree) → wire.filled_structs_refusal D size x ≡ struct_list_refusal size (wire.or_default D x)
+  structs_due size x = go (is_null_tree x)
     where
       go : (q : Bool) → cond q (wire.structs_default_refusal size D) (struct_list_refusal size x) ≡ struct_list_refusal size (cond q D x)
       go true = first (struct_list_refusal size D)
@@ -139,21 +139,21 @@ module _ (D : Tree) (sound : first_fault D ≡ None) where
 
 -- ---- what stays ----
 
-pub pointer-same : (s : StructTree) (i : ℕ) → s ≡ with_pointer_tree s i (nth_tree s.pointers i)
-pointer-same s i = sym (ap (λ (ts : Trees). record { bytes = s.bytes; pointers = ts }) (with_tree-same s.pointers i))
+pub pointer_same : (s : StructTree) (i : ℕ) → s ≡ with_pointer_tree s i (nth_tree s.pointers i)
+pointer_same s i = sym (ap (λ (ts : Trees). record { bytes = s.bytes; pointers = ts }) (with_tree_same s.pointers i))
 
-pub not-null : (x y : Tree) → is_null_tree x ≡ false → x ≡ or_else x y
-not-null x y e = sym (second-of (is_null_tree x) y x e)
+pub not_null : (x y : Tree) → is_null_tree x ≡ false → x ≡ or_else x y
+not_null x y e = sym (second_of (is_null_tree x) y x e)
 
-pub same-there : (s s' : StructTree) (i : ℕ) (x : Tree) → s' ≡ s → nth_tree s.pointers i ≡ x → s' ≡ with_pointer_tree s i x
-same-there s s' i x e h = e ∙ (pointer-same s i ∙ ap (with_pointer_tree s i) h)
+pub same_there : (s s' : StructTree) (i : ℕ) (x : Tree) → s' ≡ s → nth_tree s.pointers i ≡ x → s' ≡ with_pointer_tree s i x
+same_there s s' i x e h = e ∙ (pointer_same s i ∙ ap (with_pointer_tree s i) h)
 
-pub no-blob : (d : Value) (v : View) (x : Tree) → IsViewOf d v → ((y : TextReader) → v ≡ view.Text y → ⊥) → ((y : Bor (List ℕ)) → v ≡ view.«Data» y → ⊥) → x ≡ blob_filled d x
-no-blob (TextValue bytes) (view.Text y) x h no-text no-data = absurd (no-text y refl)
-no-blob (TextValue bytes) v x h no-text no-data = absurd h
-no-blob (DataValue bytes) (view.«Data» y) x h no-text no-data = absurd (no-data y refl)
-no-blob (DataValue bytes) v x h no-text no-data = absurd h
-no-blob d v x h no-text no-data = refl
+pub no_blob : (d : Value) (v : View) (x : Tree) → IsViewOf d v → ((y : TextReader) → v ≡ view.Text y → ⊥) → ((y : Bor (List ℕ)) → v ≡ view.«Data» y → ⊥) → x ≡ blob_filled d x
+no_blob (TextValue bytes) (view.Text y) x h no_text no_data = absurd (no_text y refl)
+no_blob (TextValue bytes) v x h no_text no_data = absurd h
+no_blob (DataValue bytes) (view.«Data» y) x h no_text no_data = absurd (no_data y refl)
+no_blob (DataValue bytes) v x h no_text no_data = absurd h
+no_blob d v x h no_text no_data = refl
 
 -- ---- lists of elements that are no structs ----
 

@@ -14,7 +14,7 @@ use Rattle.capnp_schema.specs.StructHandles.{IsStruct, number_of, set_of}
 use Rattle.capnp_schema.specs.Types.{struct_number}
 use Rattle.capnp_schema.specs.declared.schema.fields.Field.{Field}
 use Rattle.capnp_schema.specs.declared.schema.structs.StructSchema.{StructSchema}
-use Rattle.capnp_records.specs.Facts.FieldWrite.{fits-after, writes-refl, writes-trans, writes-wider}
+use Rattle.capnp_records.specs.Facts.FieldWrite.{fits_after, writes_refl, writes_trans, writes_wider}
 use Rattle.capnp_records.specs.Laws.{GroupClearStaysInside}
 use Rattle.capnp_records.specs.Writes.Overlay.{cleared_group, cleared_member}
 use Rattle.capnp_records.specs.Writes.Slots.{Fits, Writes}
@@ -24,17 +24,17 @@ use Rattle.capnp_slots.specs.Steps.Groups.{cleared_option, cleared_through}
 
 -- ---- sizes ----
 
-pub keeps-size : (inside : Spot → Bool) (s s' : StructTree) → Keeps inside s s' → KeepsSize s s'
-keeps-size inside s s' k = record { writes = writes-wider inside _ s s' (λ p e. refl) k.writes; formed = k.formed }
+pub keeps_size : (inside : Spot → Bool) (s s' : StructTree) → Keeps inside s s' → KeepsSize s s'
+keeps_size inside s s' k = record { writes = writes_wider inside _ s s' (λ p e. refl) k.writes; formed = k.formed }
 
-pub keeps-refl : (s : StructTree) → KeepsSize s s
-keeps-refl s = record { writes = writes-refl _ s; formed = λ h. h }
+pub keeps_refl : (s : StructTree) → KeepsSize s s
+keeps_refl s = record { writes = writes_refl _ s; formed = λ h. h }
 
-pub keeps-trans : (s m s' : StructTree) → KeepsSize s m → KeepsSize m s' → KeepsSize s s'
-keeps-trans s m s' v w = record { writes = writes-trans _ s m s' v.writes w.writes; formed = λ h. w.formed (v.formed h) }
+pub keeps_trans : (s m s' : StructTree) → KeepsSize s m → KeepsSize m s' → KeepsSize s s'
+keeps_trans s m s' v w = record { writes = writes_trans _ s m s' v.writes w.writes; formed = λ h. w.formed (v.formed h) }
 
-pub fits-kept : (set : Schemas) (b : ℕ) (s s' : StructTree) → KeepsSize s s' → Fits set b s → Fits set b s'
-fits-kept set b s s' k fits = fits-after _ set b s s' k.writes fits
+pub fits_kept : (set : Schemas) (b : ℕ) (s s' : StructTree) → KeepsSize s s' → Fits set b s → Fits set b s'
+fits_kept set b s s' k fits = fits_after _ set b s s' k.writes fits
 
 -- ---- the fields that are cleared, by their indices ----
 
@@ -49,18 +49,18 @@ records fs = map (λ (f : TypedField). f.field) fs
 abbrev below : ℕ → ℕ → Option ℕ
 below k n = cond (nat_lt k n) (Some k) None
 
-below-zero : (n : ℕ) → below 0 (suc n) ≡ Some 0
-below-zero n = ap (λ q. cond q (Some 0) None) (lt-true 0 (suc n) (omega arith))
+below_zero : (n : ℕ) → below 0 (suc n) ≡ Some 0
+below_zero n = ap (λ q. cond q (Some 0) None) (lt_true 0 (suc n) (omega arith))
   where
-    lt-true : (m n : ℕ) → m < n → nat_lt m n ≡ true
-    lt-true m n a = grind (arith, a)
+    lt_true : (m n : ℕ) → m < n → nat_lt m n ≡ true
+    lt_true m n a = grind (arith, a)
 
-pub lt-suc : (k n : ℕ) → nat_lt k n ≡ nat_lt (1 + k) (suc n)
-lt-suc k n = grind arith
+pub lt_suc : (k n : ℕ) → nat_lt k n ≡ nat_lt (1 + k) (suc n)
+lt_suc k n = grind arith
 
 module _ (clear : TypedField → StructTree → StructTree) where
-  later-member : (f : TypedField) (fs : List TypedField) (k n : ℕ) (s : StructTree) → cleared_option (λ i. clear (entry fs i)) (below k n) s ≡ cleared_option (λ i. clear (entry (f ∷ fs) i)) (below (1 + k) (suc n)) s
-  later-member f fs k n s = go (nat_lt k n) (nat_lt (1 + k) (suc n)) (lt-suc k n)
+  later_member : (f : TypedField) (fs : List TypedField) (k n : ℕ) (s : StructTree) → cleared_option (λ i. clear (entry fs i)) (below k n) s ≡ cleared_option (λ i. clear (entry (f ∷ fs) i)) (below (1 + k) (suc n)) s
+  later_member f fs k n s = go (nat_lt k n) (nat_lt (1 + k) (suc n)) (lt_suc k n)
     where
       next : suc k ≡ 1 + k
       next = omega arith
@@ -71,41 +71,41 @@ module _ (clear : TypedField → StructTree → StructTree) where
       go true false e = absurd (true≢false e)
       go false true e = absurd (true≢false (sym e))
 
-  pub cleared-member : (fs : List TypedField) (s : StructTree) → cleared_member clear fs s ≡ cleared_option (λ i. clear (entry fs i)) (position (is_member_of 0) (records fs)) s
-  cleared-member [] s = refl
-  cleared-member (f ∷ fs) s = go (cleared-member fs s) (is_member_of 0 f.field)
+  pub member_is_cleared : (fs : List TypedField) (s : StructTree) → cleared_member clear fs s ≡ cleared_option (λ i. clear (entry fs i)) (position (is_member_of 0) (records fs)) s
+  member_is_cleared [] s = refl
+  member_is_cleared (f ∷ fs) s = go (member_is_cleared fs s) (is_member_of 0 f.field)
     where
       k : ℕ
       k = position_or_len (is_member_of 0) (records fs)
 
       go : cleared_member clear fs s ≡ cleared_option (λ i. clear (entry fs i)) (below k (length (records fs))) s → (q : Bool) → (elim q as (λ _. StructTree) [ true ↦ clear f s | false ↦ cleared_member clear fs s ]) ≡ cleared_option (λ i. clear (entry (f ∷ fs) i)) (below (cond (not q) (1 + k) 0) (suc (length (records fs)))) s
-      go rest true = sym (ap (λ o. cleared_option (λ i. clear (entry (f ∷ fs) i)) o s) (below-zero (length (records fs))))
-      go rest false = rest ∙ later-member f fs k (length (records fs)) s
+      go rest true = sym (ap (λ o. cleared_option (λ i. clear (entry (f ∷ fs) i)) o s) (below_zero (length (records fs))))
+      go rest false = rest ∙ later_member f fs k (length (records fs)) s
 
 -- ---- a group ----
 
-pub cleared-none : (groups : ℕ) (set : Schemas) (b : ℕ) (s : StructTree) → groups ≡ 0 → s ≡ cleared_through groups set b s
+pub cleared_none : (groups : ℕ) (set : Schemas) (b : ℕ) (s : StructTree) → groups ≡ 0 → s ≡ cleared_through groups set b s
 unfolding cleared_through
-cleared-none zero set b s e = refl
-cleared-none (suc n) set b s e = absurd (omega arith)
+cleared_none zero set b s e = refl
+cleared_none (suc n) set b s e = absurd (omega arith)
 
-pub cleared-whole : (set : Schemas) (b : ℕ) (s : StructTree) → cleared_through (length set.brands) set b s ≡ cleared_group set b s
+pub cleared_whole : (set : Schemas) (b : ℕ) (s : StructTree) → cleared_through (length set.brands) set b s ≡ cleared_group set b s
 unfolding cleared_through
-cleared-whole set b s = refl
+cleared_whole set b s = refl
 
 -- ---- a field's group ----
 
-pub group-whole : (f : Field) (g : StructSchema) (n : ℕ) (s m s' : StructTree) → IsGroupAt f g → n ≡ length (field_set f).brands → m ≡ switched_to f s → s' ≡ cleared_through n (set_of g) (number_of g) m → s' ≡ group_without f s
-group-whole f g n s m s' is count switch e =
+pub group_whole : (f : Field) (g : StructSchema) (n : ℕ) (s m s' : StructTree) → IsGroupAt f g → n ≡ length (field_set f).brands → m ≡ switched_to f s → s' ≡ cleared_through n (set_of g) (number_of g) m → s' ≡ group_without f s
+group_whole f g n s m s' is count switch e =
     e ∙ (ap (λ (z : Schemas). cleared_through n z (number_of g) m) is.set
     ∙ (ap (λ k. cleared_through n (field_set f) k m) is.number
     ∙ (ap (cleared_through n (field_set f) (struct_number (typed_of f).type)) switch
     ∙ (ap (λ k. cleared_through k (field_set f) (struct_number (typed_of f).type) (switched_to f s)) count
-    ∙ cleared-whole (field_set f) (struct_number (typed_of f).type) (switched_to f s)))))
+    ∙ cleared_whole (field_set f) (struct_number (typed_of f).type) (switched_to f s)))))
 
-pub group-kept : (f : Field) (g : StructSchema) (s m s' : StructTree) → IsStruct (field_schema f) → HasRanges (field_set f) → GroupClearStaysInside → IsGroupAt f g → IsRoomFor f s →
+pub group_kept : (f : Field) (g : StructSchema) (s m s' : StructTree) → IsStruct (field_schema f) → HasRanges (field_set f) → GroupClearStaysInside → IsGroupAt f g → IsRoomFor f s →
     s' ≡ group_without f s → KeepsSize s m → KeepsSize m s' → Keeps (names_of f) s s'
-group-kept f g s m s' is ranges stays at room e first then = record {
+group_kept f g s m s' is ranges stays at room e first then = record {
   writes = subst (λ (x : StructTree). Writes (names_of f) s x) (sym e)
       (stays (field_set f) (field_brand f) (index_of f) (struct_number (typed_of f).type) (record { accepted = is.accepted; ranges = ranges; brand = is.number; index = f.inside })
       (subst (IsGroupOf (typed_of f).field.kind (typed_of f).type) at.number at.names) s room);

@@ -28,7 +28,7 @@ use Rattle.capnp_records.specs.Step.{is_group_field}
 use Rattle.capnp_records.specs.Writes.Overlay.{cleared_group, switched_struct, with_slot}
 use Rattle.capnp_records.specs.Writes.TreeCopy.{CopiesTreeOr, TreeCopiesFields, TreeCopiesPart, TreeCopiesSlot, TreeCopiesWithin, TreeCopying, copied_content}
 use Rattle.capnp_records.specs.Writes.TreeEnds.{offset_of}
-use Rattle.capnp_dynamic_readers.specs.Facts.HasWhich.{part-there}
+use Rattle.capnp_dynamic_readers.specs.Facts.HasWhich.{part_there}
 use Rattle.capnp_dynamic_readers.specs.Planned.{IsActiveMember, place_there}
 use Rattle.capnp_slots.specs.Copied.{IsCopied, copy_content, copy_given, refusal_of}
 use Rattle.capnp_slots.specs.Fields.{IsRoomFor, IsSlot, Keeps, field_brand, field_set, names_of, switched_to}
@@ -37,7 +37,7 @@ use Rattle.capnp_slots.specs.Steps.GroupSets.{CopiesIndices, CopiesThrough, acti
 use Rattle.capnp_slots.specs.Groups.{IsGroupAt, KeepsSize}
 use Rattle.capnp_slots.specs.Steps.Groups.{cleared_through}
 use Rattle.capnp_slots.specs.Sources.{IsSetRefusal, IsTaken, copy_due}
-use Rattle.capnp_slots.proofs.GroupClears.{cleared-whole, entry, records}
+use Rattle.capnp_slots.proofs.GroupClears.{cleared_whole, entry, records}
 
 -- ---- a slot ----
 
@@ -47,43 +47,43 @@ NotPast (Copies x past v) = past ≡ false
 NotPast (CopiesGroup l x b) = ⊤
 NotPast (Fails kind) = ⊤
 
-read-inside : (o : Option ErrorKind) (x : Tree) (v : Value) → NotPast (read_copy o (Copies x false v))
-read-inside None x v = refl
-read-inside (Some kind) x v = tt
+read_inside : (o : Option ErrorKind) (x : Tree) (v : Value) → NotPast (read_copy o (Copies x false v))
+read_inside None x v = refl
+read_inside (Some kind) x v = tt
 
-pointer-inside : (set : Schemas) (l : Levels) (x : Tree) (d : SchemaValue) (t : SchemaType) → NotPast (pointer_copy set l x d t)
-pointer-inside set l x d AnyPointerType = tt
-pointer-inside set l x d t = read-inside _ x _
+pointer_inside : (set : Schemas) (l : Levels) (x : Tree) (d : SchemaValue) (t : SchemaType) → NotPast (pointer_copy set l x d t)
+pointer_inside set l x d AnyPointerType = tt
+pointer_inside set l x d t = read_inside _ x _
 
-slot-inside : (set : Schemas) (l : Levels) (x : StructTree) (offset : ℕ) (d : SchemaValue) (t : SchemaType) → NotPast (slot_copy set l x offset d t)
-slot-inside set l x offset d t = go (is_pointer t) _ _ (pointer-inside set l (nth_tree x.pointers offset) d t) tt
+slot_inside : (set : Schemas) (l : Levels) (x : StructTree) (offset : ℕ) (d : SchemaValue) (t : SchemaType) → NotPast (slot_copy set l x offset d t)
+slot_inside set l x offset d t = go (is_pointer t) _ _ (pointer_inside set l (nth_tree x.pointers offset) d t) tt
   where
     go : (q : Bool) (g h : Given) → NotPast g → NotPast h → NotPast (elim q as (λ _. Given) [ true ↦ g | false ↦ h ])
     go true g h a b = a
     go false g h a b = b
 
-some-same : {j k : ErrorKind} → Some j ≡ Some k → k ≡ j
-some-same e = cc
+some_same : {j k : ErrorKind} → Some j ≡ Some k → k ≡ j
+some_same e = cc
 
-memory-or : (k : ErrorKind) (o : Option ErrorKind) (P : Type 0) (Q : ErrorKind → Type 0) → (k ≢ OutOfMemory → copy_due o false ≡ Some k) → Q k → CopiesTreeOr o P Q
-memory-or OutOfMemory None P Q h q = inr q
-memory-or OutOfMemory (Some j) P Q h q = inr q
-memory-or k None P Q h q = absurd (let e = h (λ e. cc) in cc)
-memory-or k (Some j) P Q h q = inl (subst Q (some-same (h (λ e. cc))) q)
+memory_or : (k : ErrorKind) (o : Option ErrorKind) (P : Type 0) (Q : ErrorKind → Type 0) → (k ≢ OutOfMemory → copy_due o false ≡ Some k) → Q k → CopiesTreeOr o P Q
+memory_or OutOfMemory None P Q h q = inr q
+memory_or OutOfMemory (Some j) P Q h q = inr q
+memory_or k None P Q h q = absurd (let e = h (λ e. cc) in cc)
+memory_or k (Some j) P Q h q = inl (subst Q (some_same (h (λ e. cc))) q)
 
-taken-or : (o : Option ErrorKind) (P : Type 0) (Q : ErrorKind → Type 0) → o ≡ None → P → CopiesTreeOr o P Q
-taken-or None P Q e p = inl p
-taken-or (Some k) P Q e p = absurd cc
+taken_or : (o : Option ErrorKind) (P : Type 0) (Q : ErrorKind → Type 0) → o ≡ None → P → CopiesTreeOr o P Q
+taken_or None P Q e p = inl p
+taken_or (Some k) P Q e p = absurd cc
 
-slot-answer : (g : Given) → NotPast g → (P : Type 0) (Q : ErrorKind → Type 0) (r : Result ⊤ Error) → OnOk r (IsTaken g × P) → IfErr r (λ e. IsSetRefusal g e.kind × Q e.kind) → TreeCopiesSlot g P Q
-slot-answer (Gives v) n P Q (Ok a) h k = h.1
-slot-answer (Gives v) n P Q (Err e) h k = absurd k.0
-slot-answer (Copies x past v) n P Q (Ok a) h k = taken-or (copy_refusal x) P Q h.0.0 h.1
-slot-answer (Copies x past v) n P Q (Err e) h k = memory-or e.kind (copy_refusal x) P Q (λ other. subst (λ q. copy_due (copy_refusal x) q ≡ Some e.kind) n (k.0 other)) k.1
-slot-answer (CopiesGroup l x b) n P Q (Ok a) h k = absurd h.0
-slot-answer (CopiesGroup l x b) n P Q (Err e) h k = absurd k.0
-slot-answer (Fails kind) n P Q (Ok a) h k = absurd h.0
-slot-answer (Fails kind) n P Q (Err e) h k = subst Q k.0 k.1
+slot_answer : (g : Given) → NotPast g → (P : Type 0) (Q : ErrorKind → Type 0) (r : Result ⊤ Error) → OnOk r (IsTaken g × P) → IfErr r (λ e. IsSetRefusal g e.kind × Q e.kind) → TreeCopiesSlot g P Q
+slot_answer (Gives v) n P Q (Ok a) h k = h.1
+slot_answer (Gives v) n P Q (Err e) h k = absurd k.0
+slot_answer (Copies x past v) n P Q (Ok a) h k = taken_or (copy_refusal x) P Q h.0.0 h.1
+slot_answer (Copies x past v) n P Q (Err e) h k = memory_or e.kind (copy_refusal x) P Q (λ other. subst (λ q. copy_due (copy_refusal x) q ≡ Some e.kind) n (k.0 other)) k.1
+slot_answer (CopiesGroup l x b) n P Q (Ok a) h k = absurd h.0
+slot_answer (CopiesGroup l x b) n P Q (Err e) h k = absurd k.0
+slot_answer (Fails kind) n P Q (Ok a) h k = absurd h.0
+slot_answer (Fails kind) n P Q (Err e) h k = subst Q k.0 k.1
 
 -- what a copy answers, and what it leaves
 abbrev Ended : Result ⊤ Error → StructTree → StructTree → Type 0
@@ -92,93 +92,93 @@ Ended r s' y = (refusal_of r ≡ None) × (s' ≡ y)
 abbrev Cut : Result ⊤ Error → StructTree → ErrorKind → StructTree → Type 0
 Cut r s' kind y = (refusal_of r ≡ Some kind) × (s' ≡ y)
 
-by-kind : (copy : TreeCopying) (set : Schemas) (l : Levels) (x : StructTree) (b : ℕ) (f : TypedField) (k : FieldKind) (s s' : StructTree) (r : Result ⊤ Error) → is_group_field k ≡ false →
+by_kind : (copy : TreeCopying) (set : Schemas) (l : Levels) (x : StructTree) (b : ℕ) (f : TypedField) (k : FieldKind) (s s' : StructTree) (r : Result ⊤ Error) → is_group_field k ≡ false →
     OnOk r (IsTaken (slot_copy set l x (offset_of k) (kind_default k) f.type)) → OnOk r (s' ≡ with_slot set b f (offset_of k) (copied_content x (offset_of k) (kind_default k) f.type) s) →
     OnErr r (s' ≡ s) → IfErr r (λ e. IsSetRefusal (slot_copy set l x (offset_of k) (kind_default k) f.type) e.kind) →
     TreeCopiesPart copy set l x b f k s (Ended r s') (λ kind. Cut r s' kind s) (Cut r s')
-by-kind copy set l x b f (Slot o d) s s' (Ok a) slot taken written same cause = slot-answer (slot_copy set l x o d f.type) (slot-inside set l x o d f.type) _ _ (Ok a) (taken, (refl, written)) tt
-by-kind copy set l x b f (Slot o d) s s' (Err e) slot taken written same cause = slot-answer (slot_copy set l x o d f.type) (slot-inside set l x o d f.type) _ _ (Err e) tt (cause, (refl, same))
-by-kind copy set l x b f (Group n) s s' r slot taken written same cause = absurd (true≢false slot)
+by_kind copy set l x b f (Slot o d) s s' (Ok a) slot taken written same cause = slot_answer (slot_copy set l x o d f.type) (slot_inside set l x o d f.type) _ _ (Ok a) (taken, (refl, written)) tt
+by_kind copy set l x b f (Slot o d) s s' (Err e) slot taken written same cause = slot_answer (slot_copy set l x o d f.type) (slot_inside set l x o d f.type) _ _ (Err e) tt (cause, (refl, same))
+by_kind copy set l x b f (Group n) s s' r slot taken written same cause = absurd (true≢false slot)
 
-copied-taken : (f : Field) (g : Given) (x s s' : StructTree) (r : Result ⊤ Error) → OnOk r (IsCopied f g (copy_content f x) s s') → OnOk r (IsTaken g)
-copied-taken f g x s s' (Ok a) h = h.taken
-copied-taken f g x s s' (Err e) h = tt
+copied_taken : (f : Field) (g : Given) (x s s' : StructTree) (r : Result ⊤ Error) → OnOk r (IsCopied f g (copy_content f x) s s') → OnOk r (IsTaken g)
+copied_taken f g x s s' (Ok a) h = h.taken
+copied_taken f g x s s' (Err e) h = tt
 
-copied-written : (f : Field) (g : Given) (x s s' : StructTree) (r : Result ⊤ Error) → OnOk r (IsCopied f g (copy_content f x) s s') →
+copied_written : (f : Field) (g : Given) (x s s' : StructTree) (r : Result ⊤ Error) → OnOk r (IsCopied f g (copy_content f x) s s') →
     OnOk r (s' ≡ with_slot (field_set f) (field_brand f) (typed_of f) (offset_of (typed_of f).field.kind) (copy_content f x) s)
-copied-written f g x s s' (Ok a) h = h.written
-copied-written f g x s s' (Err e) h = tt
+copied_written f g x s s' (Ok a) h = h.written
+copied_written f g x s s' (Err e) h = tt
 
-pub slot-copied : (groups : ℕ) (f : Field) (l : Levels) (x s s' : StructTree) (r : Result ⊤ Error) → IsSlot f → OnOk r (IsCopied f (copy_given f l x) (copy_content f x) s s') → OnErr r (s' ≡ s) →
+pub slot_copied : (groups : ℕ) (f : Field) (l : Levels) (x s s' : StructTree) (r : Result ⊤ Error) → IsSlot f → OnOk r (IsCopied f (copy_given f l x) (copy_content f x) s s') → OnErr r (s' ≡ s) →
     IfErr r (λ e. IsSetRefusal (copy_given f l x) e.kind) → CopiesIndices groups (field_set f) l x (field_brand f) (index_of f ∷ []) s (refusal_of r) s'
 unfolding CopiesIndices
-slot-copied groups f l x s s' r slot copied same cause =
-    by-kind (TreeCopiesWithin groups (field_set f) l x) (field_set f) l x (field_brand f) (typed_of f) (typed_of f).field.kind s s' r slot
-    (copied-taken f (copy_given f l x) x s s' r copied) (copied-written f (copy_given f l x) x s s' r copied) same cause
+slot_copied groups f l x s s' r slot copied same cause =
+    by_kind (TreeCopiesWithin groups (field_set f) l x) (field_set f) l x (field_brand f) (typed_of f) (typed_of f).field.kind s s' r slot
+    (copied_taken f (copy_given f l x) x s s' r copied) (copied_written f (copy_given f l x) x s s' r copied) same cause
 
 -- ---- a group ----
 
-by-group : (copy : TreeCopying) (set : Schemas) (l : Levels) (x : StructTree) (b : ℕ) (f : TypedField) (k : FieldKind) (s s' : StructTree) (o : Option ErrorKind) → is_group_field k ≡ true →
+by_group : (copy : TreeCopying) (set : Schemas) (l : Levels) (x : StructTree) (b : ℕ) (f : TypedField) (k : FieldKind) (s s' : StructTree) (o : Option ErrorKind) → is_group_field k ≡ true →
     copy (struct_number f.type) (switched_struct (node_of set b) f.field s) o s' →
     TreeCopiesPart copy set l x b f k s (λ y. (o ≡ None) × (s' ≡ y)) (λ kind. (o ≡ Some kind) × (s' ≡ s)) (λ kind y. (o ≡ Some kind) × (s' ≡ y))
-by-group copy set l x b f (Slot offset d) s s' o group h = absurd (true≢false (sym group))
-by-group copy set l x b f (Group n) s s' None group h = inl (s', h, (refl, refl))
-by-group copy set l x b f (Group n) s s' (Some kind) group h = inr (kind, s', h, (refl, refl))
+by_group copy set l x b f (Slot offset d) s s' o group h = absurd (true≢false (sym group))
+by_group copy set l x b f (Group n) s s' None group h = inl (s', h, (refl, refl))
+by_group copy set l x b f (Group n) s s' (Some kind) group h = inr (kind, s', h, (refl, refl))
 
-pub group-copied : (groups : ℕ) (f : Field) (g : StructSchema) (l : Levels) (x s m s' : StructTree) (o : Option ErrorKind) → IsGroupAt f g → m ≡ switched_to f s →
+pub group_copied : (groups : ℕ) (f : Field) (g : StructSchema) (l : Levels) (x s m s' : StructTree) (o : Option ErrorKind) → IsGroupAt f g → m ≡ switched_to f s →
     CopiesThrough groups (set_of g) l x (number_of g) m o s' → CopiesIndices groups (field_set f) l x (field_brand f) (index_of f ∷ []) s o s'
 unfolding CopiesIndices CopiesThrough
-group-copied groups f g l x s m s' o is switch h =
-    by-group (TreeCopiesWithin groups (field_set f) l x) (field_set f) l x (field_brand f) (typed_of f) (typed_of f).field.kind s s' o is.is_group
+group_copied groups f g l x s m s' o is switch h =
+    by_group (TreeCopiesWithin groups (field_set f) l x) (field_set f) l x (field_brand f) (typed_of f) (typed_of f).field.kind s s' o is.is_group
     (subst (λ (y : StructTree). TreeCopiesWithin groups (field_set f) l x (struct_number (typed_of f).type) y o s') switch
     (subst (λ b. TreeCopiesWithin groups (field_set f) l x b m o s') is.number (subst (λ z. TreeCopiesWithin groups z l x (number_of g) m o s') is.set h)))
 
 -- ---- one field after another ----
 
-pub none-copied : (groups : ℕ) (set : Schemas) (l : Levels) (x : StructTree) (b : ℕ) (s : StructTree) → CopiesIndices groups set l x b [] s None s
+pub none_copied : (groups : ℕ) (set : Schemas) (l : Levels) (x : StructTree) (b : ℕ) (s : StructTree) → CopiesIndices groups set l x b [] s None s
 unfolding CopiesIndices
-none-copied groups set l x b s = (refl, refl)
+none_copied groups set l x b s = (refl, refl)
 
-tree-map : (o : Option ErrorKind) (P P' : Type 0) (Q Q' : ErrorKind → Type 0) → (P → P') → ((k : ErrorKind) → Q k → Q' k) → CopiesTreeOr o P Q → CopiesTreeOr o P' Q'
-tree-map None P P' Q Q' p q (inl h) = inl (p h)
-tree-map None P P' Q Q' p q (inr h) = inr (q OutOfMemory h)
-tree-map (Some k) P P' Q Q' p q (inl h) = inl (q k h)
-tree-map (Some k) P P' Q Q' p q (inr h) = inr (q OutOfMemory h)
+tree_map : (o : Option ErrorKind) (P P' : Type 0) (Q Q' : ErrorKind → Type 0) → (P → P') → ((k : ErrorKind) → Q k → Q' k) → CopiesTreeOr o P Q → CopiesTreeOr o P' Q'
+tree_map None P P' Q Q' p q (inl h) = inl (p h)
+tree_map None P P' Q Q' p q (inr h) = inr (q OutOfMemory h)
+tree_map (Some k) P P' Q Q' p q (inl h) = inl (q k h)
+tree_map (Some k) P P' Q Q' p q (inr h) = inr (q OutOfMemory h)
 
-slot-map : (g : Given) (P P' : Type 0) (Q Q' : ErrorKind → Type 0) → (P → P') → ((k : ErrorKind) → Q k → Q' k) → TreeCopiesSlot g P Q → TreeCopiesSlot g P' Q'
-slot-map (Gives v) P P' Q Q' p q h = p h
-slot-map (Copies x past v) P P' Q Q' p q h = tree-map (copy_refusal x) P P' Q Q' p q h
-slot-map (CopiesGroup l x b) P P' Q Q' p q h = h
-slot-map (Fails k) P P' Q Q' p q h = q k h
+slot_map : (g : Given) (P P' : Type 0) (Q Q' : ErrorKind → Type 0) → (P → P') → ((k : ErrorKind) → Q k → Q' k) → TreeCopiesSlot g P Q → TreeCopiesSlot g P' Q'
+slot_map (Gives v) P P' Q Q' p q h = p h
+slot_map (Copies x past v) P P' Q Q' p q h = tree_map (copy_refusal x) P P' Q Q' p q h
+slot_map (CopiesGroup l x b) P P' Q Q' p q h = h
+slot_map (Fails k) P P' Q Q' p q h = q k h
 
 module _ (copy : TreeCopying) (set : Schemas) (l : Levels) (x : StructTree) (b : ℕ) where
-  part-map : (f : TypedField) (k : FieldKind) (s : StructTree) (P P' : StructTree → Type 0) (Q Q' : ErrorKind → Type 0) (R : ErrorKind → StructTree → Type 0) (R' : ErrorKind → StructTree → Type 0) →
+  part_map : (f : TypedField) (k : FieldKind) (s : StructTree) (P P' : StructTree → Type 0) (Q Q' : ErrorKind → Type 0) (R : ErrorKind → StructTree → Type 0) (R' : ErrorKind → StructTree → Type 0) →
       ((y : StructTree) → P y → P' y) → ((n : ErrorKind) → Q n → Q' n) → ((n : ErrorKind) (y : StructTree) → R n y → R' n y) → TreeCopiesPart copy set l x b f k s P Q R → TreeCopiesPart copy set l x b f k s P' Q' R'
-  part-map f (Slot offset d) s P P' Q Q' R R' p q r h = slot-map (slot_copy set l x offset d f.type) _ _ Q Q' (p _) q h
-  part-map f (Group n) s P P' Q Q' R R' p q r (inl (y, copied, rest)) = inl (y, copied, p y rest)
-  part-map f (Group n) s P P' Q Q' R R' p q r (inr (kind, y, copied, rest)) = inr (kind, y, copied, r kind y rest)
+  part_map f (Slot offset d) s P P' Q Q' R R' p q r h = slot_map (slot_copy set l x offset d f.type) _ _ Q Q' (p _) q h
+  part_map f (Group n) s P P' Q Q' R R' p q r (inl (y, copied, rest)) = inl (y, copied, p y rest)
+  part_map f (Group n) s P P' Q Q' R R' p q r (inr (kind, y, copied, rest)) = inr (kind, y, copied, r kind y rest)
 
-  pub fields-next : (i : ℕ) (is : List ℕ) (s m s' : StructTree) (o : Option ErrorKind) → TreeCopiesFields copy set l x b (i ∷ []) s None m → TreeCopiesFields copy set l x b is m o s' → TreeCopiesFields copy set l x b (i ∷ is) s o s'
-  fields-next i is s m s' o first rest =
-      part-map (field_at set b i) (field_at set b i).field.kind s _ _ _ _ _ _
-      (λ y h. subst (λ (z : StructTree). TreeCopiesFields copy set l x b is z o s') h.1 rest) (λ n h. absurd (none-some n h.0)) (λ n y h. absurd (none-some n h.0)) first
+  pub fields_next : (i : ℕ) (is : List ℕ) (s m s' : StructTree) (o : Option ErrorKind) → TreeCopiesFields copy set l x b (i ∷ []) s None m → TreeCopiesFields copy set l x b is m o s' → TreeCopiesFields copy set l x b (i ∷ is) s o s'
+  fields_next i is s m s' o first rest =
+      part_map (field_at set b i) (field_at set b i).field.kind s _ _ _ _ _ _
+      (λ y h. subst (λ (z : StructTree). TreeCopiesFields copy set l x b is z o s') h.1 rest) (λ n h. absurd (none_some n h.0)) (λ n y h. absurd (none_some n h.0)) first
     where
-      none-some : (n : ErrorKind) → None ≡ Some n → ⊥
-      none-some n e = cc
+      none_some : (n : ErrorKind) → None ≡ Some n → ⊥
+      none_some n e = cc
 
-  pub fields-cut : (i : ℕ) (is : List ℕ) (s s' : StructTree) (kind : ErrorKind) → TreeCopiesFields copy set l x b (i ∷ []) s (Some kind) s' → TreeCopiesFields copy set l x b (i ∷ is) s (Some kind) s'
-  fields-cut i is s s' kind first =
-      part-map (field_at set b i) (field_at set b i).field.kind s _ _ _ _ _ _ (λ y h. absurd (some-none h.0)) (λ n h. h) (λ n y h. h) first
+  pub fields_cut : (i : ℕ) (is : List ℕ) (s s' : StructTree) (kind : ErrorKind) → TreeCopiesFields copy set l x b (i ∷ []) s (Some kind) s' → TreeCopiesFields copy set l x b (i ∷ is) s (Some kind) s'
+  fields_cut i is s s' kind first =
+      part_map (field_at set b i) (field_at set b i).field.kind s _ _ _ _ _ _ (λ y h. absurd (some_none h.0)) (λ n h. h) (λ n y h. h) first
     where
-      some-none : Some kind ≡ None → ⊥
-      some-none e = cc
+      some_none : Some kind ≡ None → ⊥
+      some_none e = cc
 
 -- ---- the fields of the source ----
 
-plain-kept : (part : TypedField → Value) (fs : List TypedField) (vs : Values) (first : ℕ) (at : ℕ → TypedField) → ((j : ℕ) → at (first + j) ≡ entry fs j) → ((j : ℕ) → nth_value vs (first + j) ≡ nth_value (non_union_parts part fs) j) →
+plain_kept : (part : TypedField → Value) (fs : List TypedField) (vs : Values) (first : ℕ) (at : ℕ → TypedField) → ((j : ℕ) → at (first + j) ≡ entry fs j) → ((j : ℕ) → nth_value vs (first + j) ≡ nth_value (non_union_parts part fs) j) →
     non_union_there fs vs first ≡ kept_indices (λ i. is_there (part (at i))) (indices_from first is_non_union (records fs))
-plain-kept part [] vs first at names there = refl
-plain-kept part (f ∷ fs) vs first at names there = go (plain-kept part fs vs (suc first) at (λ j. ap at (shift j) ∙ names (suc j)) (λ j. ap (nth_value vs) (shift j) ∙ there (suc j))) (is_member f.field) (ap (nth_value vs) here ∙ there 0)
+plain_kept part [] vs first at names there = refl
+plain_kept part (f ∷ fs) vs first at names there = go (plain_kept part fs vs (suc first) at (λ j. ap at (shift j) ∙ names (suc j)) (λ j. ap (nth_value vs) (shift j) ∙ there (suc j))) (is_member f.field) (ap (nth_value vs) here ∙ there 0)
   where
     shift : (j : ℕ) → suc first + j ≡ first + suc j
     shift j = omega arith
@@ -202,10 +202,10 @@ plain-kept part (f ∷ fs) vs first at names there = go (plain-kept part fs vs (
     go each false e = ap (λ v. cond (is_there v) (first ∷ non_union_there fs vs (suc first)) (non_union_there fs vs (suc first))) e
         ∙ (ap (λ (g : TypedField). cond (is_there (part g)) (first ∷ non_union_there fs vs (suc first)) (non_union_there fs vs (suc first))) (sym is) ∙ keep (is_there (part (at first))) _ _ each)
 
-active-split : (vs : Values) (u : Union) (rest : List ℕ) → active_first u rest ≡ member_indices (which_of (Parts vs u)) ++ rest
-active-split vs NoUnion rest = refl
-active-split vs (Active i v) rest = refl
-active-split vs (Unknown n) rest = refl
+active_split : (vs : Values) (u : Union) (rest : List ℕ) → active_first u rest ≡ member_indices (which_of (Parts vs u)) ++ rest
+active_split vs NoUnion rest = refl
+active_split vs (Active i v) rest = refl
+active_split vs (Unknown n) rest = refl
 
 module _ (n : ℕ) (set : Schemas) (l : Levels) (x : StructTree) (b : ℕ) where
   abbrev part : TypedField → Value
@@ -218,49 +218,49 @@ module _ (n : ℕ) (set : Schemas) (l : Levels) (x : StructTree) (b : ℕ) where
       TreeCopiesFields (TreeCopiesWithin n set l x) set l x b (member_indices (which_of (Parts (non_union_parts part (fields_of set b)) union)) ++ non_union_in set l x b) m o s' → TreeCopiesWithin (suc n) set l x b s o s'
   unfolding is_part_there
   whole s m s' o cleared h =
-      let plain = plain-kept part (fields_of set b) (non_union_parts part (fields_of set b)) 0 (field_at set b)
+      let plain = plain_kept part (fields_of set b) (non_union_parts part (fields_of set b)) 0 (field_at set b)
       (λ j. let z : 0 + j ≡ j = omega arith in ap (field_at set b) z) (λ j. let z : 0 + j ≡ j = omega arith in ap (nth_value (non_union_parts part (fields_of set b))) z) in
       subst (λ (y : StructTree). TreeCopiesFields (TreeCopiesWithin n set l x) set l x b (active_first union (non_union_there (fields_of set b) (non_union_parts part (fields_of set b)) 0)) y o s') cleared
       (subst (λ is. TreeCopiesFields (TreeCopiesWithin n set l x) set l x b is m o s')
-      (sym (active-split (non_union_parts part (fields_of set b)) union (non_union_there (fields_of set b) (non_union_parts part (fields_of set b)) 0) ∙ ap (λ is. member_indices (which_of (Parts (non_union_parts part (fields_of set b)) union)) ++ is) plain)) h)
+      (sym (active_split (non_union_parts part (fields_of set b)) union (non_union_there (fields_of set b) (non_union_parts part (fields_of set b)) 0) ∙ ap (λ is. member_indices (which_of (Parts (non_union_parts part (fields_of set b)) union)) ++ is) plain)) h)
 
 -- ---- what the source has ----
 
-pub active-is : (s : StructSchema) (l : Levels) (x : StructTree) (member : Option Field) → IsActiveMember s x member → IsFound s (active_in (set_of s) l x (number_of s)) member
+pub active_is : (s : StructSchema) (l : Levels) (x : StructTree) (member : Option Field) → IsActiveMember s x member → IsFound s (active_in (set_of s) l x (number_of s)) member
 unfolding active_in
-active-is s l x member is = is l
+active_is s l x member is = is l
 
-pub there-is : (set : Schemas) (l : Levels) (x : StructTree) (b i : ℕ) (v : TypeVariant) → seen_variant v ≡ (field_at set b i).type →
+pub there_is : (set : Schemas) (l : Levels) (x : StructTree) (b i : ℕ) (v : TypeVariant) → seen_variant v ≡ (field_at set b i).type →
     is_part_there set l x (field_at set b i) ≡ place_there x (plan_place (field_at set b i).field.kind (field_at set b i).type)
 unfolding is_part_there
-there-is set l x b i v e = part-there set l x b i v e
+there_is set l x b i v e = part_there set l x b i v e
 
 -- ---- handles ----
 
-pub cleared-counted : (schema : StructSchema) (n : ℕ) (s m : StructTree) → n ≡ length (set_of schema).brands → m ≡ cleared_through n (set_of schema) (number_of schema) s → m ≡ cleared_group (set_of schema) (number_of schema) s
-cleared-counted schema n s m count e = e ∙ (ap (λ k. cleared_through k (set_of schema) (number_of schema) s) count ∙ cleared-whole (set_of schema) (number_of schema) s)
+pub cleared_counted : (schema : StructSchema) (n : ℕ) (s m : StructTree) → n ≡ length (set_of schema).brands → m ≡ cleared_through n (set_of schema) (number_of schema) s → m ≡ cleared_group (set_of schema) (number_of schema) s
+cleared_counted schema n s m count e = e ∙ (ap (λ k. cleared_through k (set_of schema) (number_of schema) s) count ∙ cleared_whole (set_of schema) (number_of schema) s)
 
 -- ---- a field's group ----
 
-pub copied-whole : (f : Field) (g : StructSchema) (n : ℕ) (l : Levels) (x s m s' : StructTree) (o : Option ErrorKind) → IsGroupAt f g → n ≡ length (field_set f).brands → m ≡ switched_to f s →
+pub copied_whole : (f : Field) (g : StructSchema) (n : ℕ) (l : Levels) (x s m s' : StructTree) (o : Option ErrorKind) → IsGroupAt f g → n ≡ length (field_set f).brands → m ≡ switched_to f s →
     CopiesThrough (n + 1) (set_of g) l x (number_of g) m o s' → CopiesThrough (suc (length (field_set f).brands)) (field_set f) l x (number_of g) (switched_to f s) o s'
-copied-whole f g n l x s m s' o is count switch h =
+copied_whole f g n l x s m s' o is count switch h =
     let more : n + 1 ≡ suc (length (field_set f).brands) = omega (arith, count) in
     subst (λ k. CopiesThrough k (field_set f) l x (number_of g) (switched_to f s) o s') more
     (subst (λ (y : StructTree). CopiesThrough (n + 1) (field_set f) l x (number_of g) y o s') switch (subst (λ z. CopiesThrough (n + 1) z l x (number_of g) m o s') is.set h))
 
-pub copied-kept : (f : Field) (g : StructSchema) (l : Levels) (x s m s' : StructTree) (o : Option ErrorKind) → IsStruct (field_schema f) → HasRanges (field_set f) → GroupCopyStaysInside → IsGroupAt f g → IsRoomFor f s →
+pub copied_kept : (f : Field) (g : StructSchema) (l : Levels) (x s m s' : StructTree) (o : Option ErrorKind) → IsStruct (field_schema f) → HasRanges (field_set f) → GroupCopyStaysInside → IsGroupAt f g → IsRoomFor f s →
     CopiesThrough (suc (length (field_set f).brands)) (field_set f) l x (number_of g) (switched_to f s) o s' → KeepsSize s m → KeepsSize m s' → Keeps (names_of f) s s'
 unfolding CopiesThrough
-copied-kept f g l x s m s' o is ranges stays at room copied first then = record {
+copied_kept f g l x s m s' o is ranges stays at room copied first then = record {
   writes = stays (field_set f) (field_brand f) (index_of f) (number_of g) (suc (length (field_set f).brands)) (record { accepted = is.accepted; ranges = ranges; brand = is.number; index = f.inside }) at.names l x s room o s' copied;
   formed = λ h. then.formed (first.formed h);
 }
 
-pub set-copied : (f : Field) (g : StructSchema) (l : Levels) (x : StructTree) (from : ℕ) (s s' : StructTree) (o : Option ErrorKind) → IsGroupAt f g → from ≡ number_of g →
+pub set_copied : (f : Field) (g : StructSchema) (l : Levels) (x : StructTree) (from : ℕ) (s s' : StructTree) (o : Option ErrorKind) → IsGroupAt f g → from ≡ number_of g →
     CopiesThrough (suc (length (field_set f).brands)) (field_set f) l x (number_of g) (switched_to f s) o s' → IsGroupSet f (given_to_group f (StructSource l x from)) s o s'
 unfolding CopiesThrough
-set-copied f g l x from s s' o at same h =
+set_copied f g l x from s s' o at same h =
     let own : from ≡ struct_number (typed_of f).type = same ∙ at.number in
     subst (λ q. IsGroupSet f (cond q (CopiesGroup l x from) (Fails TypeMismatch)) s o s') (sym (eq-eqb from (struct_number (typed_of f).type) own))
     (subst (λ n. TreeCopiesWithin (suc (length (field_set f).brands)) (field_set f) l x n (switched_to f s) o s') (sym same) h)

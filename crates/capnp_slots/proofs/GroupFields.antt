@@ -21,47 +21,47 @@ use Rattle.capnp_slots.specs.Fields.{IsSlot, field_brand, field_set}
 use Rattle.capnp_slots.specs.Groups.{IsGroupAt}
 
 -- the place of a slot is no group
-no-group : (q : Bool) (bits offset : ℕ) (d : Value) (g : ℕ) → slot_place q bits offset d ≡ place.Group g → ⊥
-no-group true bits offset d g e = cc
-no-group false zero offset d g e = cc
-no-group false (suc bits) offset d g e = cc
+no_group : (q : Bool) (bits offset : ℕ) (d : Value) (g : ℕ) → slot_place q bits offset d ≡ place.Group g → ⊥
+no_group true bits offset d g e = cc
+no_group false zero offset d g e = cc
+no_group false (suc bits) offset d g e = cc
 
-is-slot : (k : FieldKind) (t : SchemaType) → ((g : ℕ) → plan_place k t ≡ place.Group g → ⊥) → is_group_field k ≡ false
-is-slot (Slot offset d) t none = refl
-is-slot (Group n) t none = absurd (none (struct_number t) refl)
+is_slot : (k : FieldKind) (t : SchemaType) → ((g : ℕ) → plan_place k t ≡ place.Group g → ⊥) → is_group_field k ≡ false
+is_slot (Slot offset d) t none = refl
+is_slot (Group n) t none = absurd (none (struct_number t) refl)
 
-pub slot-is : (f : Field) (p : SlotPlan) → p ≡ plan_of (field_set f) (field_brand f) (typed_of f) → ((g : ℕ) → p.place ≡ place.Group g → ⊥) → IsSlot f
-slot-is f p e none = is-slot (typed_of f).field.kind (typed_of f).type (λ g h. none g (ap (λ (q : SlotPlan). q.place) e ∙ h))
+pub slot_is : (f : Field) (p : SlotPlan) → p ≡ plan_of (field_set f) (field_brand f) (typed_of f) → ((g : ℕ) → p.place ≡ place.Group g → ⊥) → IsSlot f
+slot_is f p e none = is_slot (typed_of f).field.kind (typed_of f).type (λ g h. none g (ap (λ (q : SlotPlan). q.place) e ∙ h))
 
-group-kind : (k : FieldKind) (t : SchemaType) (g : ℕ) → plan_place k t ≡ place.Group g → is_group_field k ≡ true
-group-kind (Slot offset d) t g e = absurd (no-group (is_pointer t) (width t) offset d g e)
-group-kind (Group n) t g e = refl
+group_kind : (k : FieldKind) (t : SchemaType) (g : ℕ) → plan_place k t ≡ place.Group g → is_group_field k ≡ true
+group_kind (Slot offset d) t g e = absurd (no_group (is_pointer t) (width t) offset d g e)
+group_kind (Group n) t g e = refl
 
 -- whether a field is a slot, by its place
-pub group-placed : (f : Field) (p : SlotPlan) (g : ℕ) → p ≡ plan_of (field_set f) (field_brand f) (typed_of f) → p.place ≡ place.Group g → false ≡ not (is_group_field (typed_of f).field.kind)
-group-placed f p g e h = sym (ap not (group-kind (typed_of f).field.kind (typed_of f).type g (sym (ap (λ (q : SlotPlan). q.place) e) ∙ h)))
+pub group_placed : (f : Field) (p : SlotPlan) (g : ℕ) → p ≡ plan_of (field_set f) (field_brand f) (typed_of f) → p.place ≡ place.Group g → false ≡ not (is_group_field (typed_of f).field.kind)
+group_placed f p g e h = sym (ap not (group_kind (typed_of f).field.kind (typed_of f).type g (sym (ap (λ (q : SlotPlan). q.place) e) ∙ h)))
 
-pub slot-placed : (f : Field) (p : SlotPlan) → p ≡ plan_of (field_set f) (field_brand f) (typed_of f) → ((g : ℕ) → p.place ≡ place.Group g → ⊥) → true ≡ not (is_group_field (typed_of f).field.kind)
-slot-placed f p e none = sym (ap not (slot-is f p e none))
+pub slot_placed : (f : Field) (p : SlotPlan) → p ≡ plan_of (field_set f) (field_brand f) (typed_of f) → ((g : ℕ) → p.place ≡ place.Group g → ⊥) → true ≡ not (is_group_field (typed_of f).field.kind)
+slot_placed f p e none = sym (ap not (slot_is f p e none))
 
 -- ---- the group of a field, by the brand that its kind and type name ----
 
 -- a brand is named by a group alone
-target-is : (k : FieldKind) (t : SchemaType) (g : ℕ) → Some g ≡ kind_target k t → (is_group_field k ≡ true) × IsGroupOf k t g × (g ≡ struct_number t)
-target-is (Slot offset d) t g e = cc
-target-is (Group n) t g e = (refl, sym e, ap (λ (b : Option ℕ). unwrap_or b 0) e)
+target_is : (k : FieldKind) (t : SchemaType) (g : ℕ) → Some g ≡ kind_target k t → (is_group_field k ≡ true) × IsGroupOf k t g × (g ≡ struct_number t)
+target_is (Slot offset d) t g e = cc
+target_is (Group n) t g e = (refl, sym e, ap (λ (b : Option ℕ). unwrap_or b 0) e)
 
 -- where rule 7 holds, by each of them
-no-target : (set : Schemas) (k : FieldKind) (t : SchemaType) → GroupFits set k t → None ≡ kind_target k t → is_group_field k ≡ false
-no-target set (Slot offset d) t fits e = refl
-no-target set (Group n) (StructType b x) fits e = cc
-no-target set (Group n) t fits e = absurd fits
+no_target : (set : Schemas) (k : FieldKind) (t : SchemaType) → GroupFits set k t → None ≡ kind_target k t → is_group_field k ≡ false
+no_target set (Slot offset d) t fits e = refl
+no_target set (Group n) (StructType b x) fits e = cc
+no_target set (Group n) t fits e = absurd fits
 
-pub group-or-slot : (f : Field) (group : Option StructSchema) → IsStruct (field_schema f) → option_map number_of group ≡ kind_target (typed_of f).field.kind (typed_of f).type → IfSome group (IsGroupSchemaIn (field_schema f)) →
+pub group_or_slot : (f : Field) (group : Option StructSchema) → IsStruct (field_schema f) → option_map number_of group ≡ kind_target (typed_of f).field.kind (typed_of f).type → IfSome group (IsGroupSchemaIn (field_schema f)) →
     IfSome group (λ g. group_field_of (field_set f) (number_of g) ≡ Some (place_of_field f)) → MatchOption group (IsSlot f) (IsGroupAt f)
-group-or-slot f None is number down back = no-target (field_set f) (typed_of f).field.kind (typed_of f).type (is.accepted.rule7 (field_brand f) (index_of f) is.number f.inside) number
-group-or-slot f (Some g) is number down back =
-    let named = target-is (typed_of f).field.kind (typed_of f).type (number_of g) number in
+group_or_slot f None is number down back = no_target (field_set f) (typed_of f).field.kind (typed_of f).type (is.accepted.rule7 (field_brand f) (index_of f) is.number f.inside) number
+group_or_slot f (Some g) is number down back =
+    let named = target_is (typed_of f).field.kind (typed_of f).type (number_of g) number in
     let sizes = down.leads.sizes in
     record {
       is_group = named.0;

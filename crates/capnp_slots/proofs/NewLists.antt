@@ -1,7 +1,7 @@
 -- New texts, and lists of elements that are no structs.
 use Rattle.std.proofs.Common.{ℕ, ◌+◌, ◌-◌, ◌^◌, ◌<◌, ◌≡◌, ◌≢◌, refl, nat_lt, replicate, ap, subst, sym, ◌∙◌}
 use Rattle.capnp_wire.specs.Edits.{zero_list}
-use Rattle.capnp_wire.specs.Facts.Lists.{IsWellFormed-new_text, IsWellFormed-zero_list}
+use Rattle.capnp_wire.specs.Facts.Lists.{IsWellFormed_new_text, IsWellFormed_zero_list}
 use Rattle.capnp_wire.specs.WellFormed.{IsWellFormed}
 use Rattle.capnp_wire.specs.declared.size.ElementSize.{ElementSize}
 use Rattle.capnp_wire.specs.declared.size.ElementSize.TheVariants.{InlineComposite}
@@ -19,10 +19,10 @@ use Rattle.capnp_records.specs.Writes.Contents.{new_list}
 
 -- well-formed, where the format has room
 pub new_text : (count : ℕ) → count + 1 < 2 ^ 29 → IsWellFormed (text_tree (replicate count 0))
-new_text = IsWellFormed-new_text
+new_text = IsWellFormed_new_text
 
 pub new_simple_list : (size : ElementSize) (count : ℕ) → count < 2 ^ 29 → IsWellFormed (zero_list size count)
-new_simple_list = IsWellFormed-zero_list
+new_simple_list = IsWellFormed_zero_list
 
 -- a list of elements of a type is the wire's of elements of a size
 pub record IsSimple (set : Schemas) (e : SchemaType) (n : ℕ) (size : ElementSize) : Type 0 where

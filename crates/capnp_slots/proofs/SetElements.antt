@@ -20,73 +20,73 @@ use Rattle.capnp_slots.specs.Steps.Primitives.{GivesNumber, IsGivenAs}
 use Rattle.capnp_slots.specs.Sources.{IsPointed, IsSetRefusal, IsTaken}
 use Rattle.capnp_slots.specs.Steps.Sources.{GivesCopy, source_copied}
 use Rattle.capnp_records.specs.Record.{Levels, Value}
-use Rattle.capnp_records.specs.Facts.NewTrees.{fails-copies, gives-copies}
-use Rattle.capnp_slots.proofs.CopiedSources.{void-only}
+use Rattle.capnp_records.specs.Facts.NewTrees.{fails_copies, gives_copies}
+use Rattle.capnp_slots.proofs.CopiedSources.{void_only}
 use Rattle.capnp_slots.specs.declared.primitive.Primitive.{Primitive}
 use Rattle.capnp_slots.specs.declared.primitive.Primitive.TheVariants as primitive
-use Rattle.capnp_slots.proofs.Stored.{given-err, given-ok}
+use Rattle.capnp_slots.proofs.Stored.{given_err, given_ok}
 
-no-struct : (p : Primitive) → NoStruct (primitive_source p)
-no-struct primitive.Void = tt
-no-struct (primitive.Bool b) = tt
-no-struct (primitive.Int8 x) = tt
-no-struct (primitive.Int16 x) = tt
-no-struct (primitive.Int32 x) = tt
-no-struct (primitive.Int64 x) = tt
-no-struct (primitive.UInt8 x) = tt
-no-struct (primitive.UInt16 x) = tt
-no-struct (primitive.UInt32 x) = tt
-no-struct (primitive.UInt64 x) = tt
-no-struct (primitive.Enum x) = tt
+no_struct : (p : Primitive) → NoStruct (primitive_source p)
+no_struct primitive.Void = tt
+no_struct (primitive.Bool b) = tt
+no_struct (primitive.Int8 x) = tt
+no_struct (primitive.Int16 x) = tt
+no_struct (primitive.Int32 x) = tt
+no_struct (primitive.Int64 x) = tt
+no_struct (primitive.UInt8 x) = tt
+no_struct (primitive.UInt16 x) = tt
+no_struct (primitive.UInt32 x) = tt
+no_struct (primitive.UInt64 x) = tt
+no_struct (primitive.Enum x) = tt
 
-struct-plain : (set : Schemas) (b g : ℕ) (s : Source) → NoStruct s → given_element set (StructType b g) s ≡ given_slot set (StructType b g) s
-struct-plain set b g (StructSource l x from) h = absurd h
-struct-plain set b g s h = refl
+struct_plain : (set : Schemas) (b g : ℕ) (s : Source) → NoStruct s → given_element set (StructType b g) s ≡ given_slot set (StructType b g) s
+struct_plain set b g (StructSource l x from) h = absurd h
+struct_plain set b g s h = refl
 
 -- what is no struct is given to an element as to a slot, but for an untyped one
-element-plain : (set : Schemas) (v : TypeVariant) (s : Source) → NoStruct s → (v ≡ variant.AnyPointer → ⊥) → given_element set (seen_variant v) s ≡ given_slot set (seen_variant v) s
-element-plain set variant.AnyPointer s h none = absurd (none refl)
-element-plain set (variant.Struct x) s h none = struct-plain set x.number x.generic s h
-element-plain set variant.Void s h none = refl
-element-plain set variant.Bool s h none = refl
-element-plain set variant.Int8 s h none = refl
-element-plain set variant.Int16 s h none = refl
-element-plain set variant.Int32 s h none = refl
-element-plain set variant.Int64 s h none = refl
-element-plain set variant.UInt8 s h none = refl
-element-plain set variant.UInt16 s h none = refl
-element-plain set variant.UInt32 s h none = refl
-element-plain set variant.UInt64 s h none = refl
-element-plain set variant.Text s h none = refl
-element-plain set variant.«Data» s h none = refl
-element-plain set (variant.Enum e) s h none = refl
-element-plain set (variant.List t) s h none = refl
+element_plain : (set : Schemas) (v : TypeVariant) (s : Source) → NoStruct s → (v ≡ variant.AnyPointer → ⊥) → given_element set (seen_variant v) s ≡ given_slot set (seen_variant v) s
+element_plain set variant.AnyPointer s h none = absurd (none refl)
+element_plain set (variant.Struct x) s h none = struct_plain set x.number x.generic s h
+element_plain set variant.Void s h none = refl
+element_plain set variant.Bool s h none = refl
+element_plain set variant.Int8 s h none = refl
+element_plain set variant.Int16 s h none = refl
+element_plain set variant.Int32 s h none = refl
+element_plain set variant.Int64 s h none = refl
+element_plain set variant.UInt8 s h none = refl
+element_plain set variant.UInt16 s h none = refl
+element_plain set variant.UInt32 s h none = refl
+element_plain set variant.UInt64 s h none = refl
+element_plain set variant.Text s h none = refl
+element_plain set variant.«Data» s h none = refl
+element_plain set (variant.Enum e) s h none = refl
+element_plain set (variant.List t) s h none = refl
 
 module _ (set : Schemas) (p : Primitive) (v : TypeVariant) (t : SchemaType) (e : seen_variant v ≡ t) (none : v ≡ variant.AnyPointer → ⊥) where
-  same-given : given_element set t (primitive_source p) ≡ given_slot set t (primitive_source p)
-  same-given = subst (λ u. given_element set u (primitive_source p) ≡ given_slot set u (primitive_source p)) e (element-plain set v (primitive_source p) (no-struct p) none)
+  same_given : given_element set t (primitive_source p) ≡ given_slot set t (primitive_source p)
+  same_given = subst (λ u. given_element set u (primitive_source p) ≡ given_slot set u (primitive_source p)) e (element_plain set v (primitive_source p) (no_struct p) none)
 
-  pub same-ok : {E : Type 0} (r : Result ℕ E) → OnOk r (given_element set t (primitive_source p) ≡ given_slot set t (primitive_source p))
-  same-ok (Ok n) = same-given
-  same-ok (Err k) = tt
+  pub same_ok : {E : Type 0} (r : Result ℕ E) → OnOk r (given_element set t (primitive_source p) ≡ given_slot set t (primitive_source p))
+  same_ok (Ok n) = same_given
+  same_ok (Err k) = tt
 
-  pub number-ok : (r : Result ℕ Error) → SourceFits (primitive_source p) → ((set : Schemas) → GivesNumber (seen_variant v) (given_slot set (seen_variant v) (primitive_source p)) r) → IfOk r (IsGivenAs set t (primitive_source p))
-  number-ok r fits h = given-ok set t (primitive_source p) r fits (subst (λ u. GivesNumber u (given_slot set u (primitive_source p)) r) e (h set))
+  pub number_ok : (r : Result ℕ Error) → SourceFits (primitive_source p) → ((set : Schemas) → GivesNumber (seen_variant v) (given_slot set (seen_variant v) (primitive_source p)) r) → IfOk r (IsGivenAs set t (primitive_source p))
+  number_ok r fits h = given_ok set t (primitive_source p) r fits (subst (λ u. GivesNumber u (given_slot set u (primitive_source p)) r) e (h set))
 
-  pub number-err : (r : Result ℕ Error) → ((set : Schemas) → GivesNumber (seen_variant v) (given_slot set (seen_variant v) (primitive_source p)) r) → IfErr r (λ k. given_element set t (primitive_source p) ≡ Fails k.kind)
-  number-err r h = go r (given-err set t (primitive_source p) r (subst (λ u. GivesNumber u (given_slot set u (primitive_source p)) r) e (h set)))
+  pub number_err : (r : Result ℕ Error) → ((set : Schemas) → GivesNumber (seen_variant v) (given_slot set (seen_variant v) (primitive_source p)) r) → IfErr r (λ k. given_element set t (primitive_source p) ≡ Fails k.kind)
+  number_err r h = go r (given_err set t (primitive_source p) r (subst (λ u. GivesNumber u (given_slot set u (primitive_source p)) r) e (h set)))
     where
       go : (r : Result ℕ Error) → IfErr r (λ k. given_slot set t (primitive_source p) ≡ Fails k.kind) → IfErr r (λ k. given_element set t (primitive_source p) ≡ Fails k.kind)
       go (Ok n) h = tt
-      go (Err k) h = same-given ∙ h
+      go (Err k) h = same_given ∙ h
 
 -- ---- what is set ----
 
-pub number-small : (set : Schemas) (t u : SchemaType) (s : Source) (n : ℕ) → t ≡ u → IsGivenAs set t s n → n < 2 ^ width u
-number-small set t u s n e h = subst (λ w. n < 2 ^ width w) e (subst (λ m. m < 2 ^ width t) (sym h.number) h.is_stored.small)
+pub number_small : (set : Schemas) (t u : SchemaType) (s : Source) (n : ℕ) → t ≡ u → IsGivenAs set t s n → n < 2 ^ width u
+number_small set t u s n e h = subst (λ w. n < 2 ^ width w) e (subst (λ m. m < 2 ^ width t) (sym h.number) h.is_stored.small)
 
-pub number-set : (set : Schemas) (t u : SchemaType) (s : Source) (n j : ℕ) (old new : Tree) → u ≡ t → IsGivenAs set t s n → given_element set t s ≡ given_slot set t s → new ≡ with_element_number u old j n → IsElementSet set t s j old new
-number-set set t u s n j old new e h same written =
+pub number_set : (set : Schemas) (t u : SchemaType) (s : Source) (n j : ℕ) (old new : Tree) → u ≡ t → IsGivenAs set t s n → given_element set t s ≡ given_slot set t s → new ≡ with_element_number u old j n → IsElementSet set t s j old new
+number_set set t u s n j old new e h same written =
     let given : given_element set t s ≡ Gives h.value = same ∙ h.given in
     record {
       taken = subst IsTaken (sym given) tt;
@@ -96,103 +96,103 @@ number-set set t u s n j old new e h same written =
 -- ---- copies ----
 
 -- a type that is not untyped
-no-untyped : (v : TypeVariant) → (v ≡ variant.AnyPointer → ⊥) → seen_variant v ≡ AnyPointerType → ⊥
-no-untyped variant.AnyPointer none e = none refl
-no-untyped variant.Void none e = cc
-no-untyped variant.Bool none e = cc
-no-untyped variant.Int8 none e = cc
-no-untyped variant.Int16 none e = cc
-no-untyped variant.Int32 none e = cc
-no-untyped variant.Int64 none e = cc
-no-untyped variant.UInt8 none e = cc
-no-untyped variant.UInt16 none e = cc
-no-untyped variant.UInt32 none e = cc
-no-untyped variant.UInt64 none e = cc
-no-untyped variant.Text none e = cc
-no-untyped variant.«Data» none e = cc
-no-untyped (variant.Struct x) none e = cc
-no-untyped (variant.Enum n) none e = cc
-no-untyped (variant.List c) none e = cc
+no_untyped : (v : TypeVariant) → (v ≡ variant.AnyPointer → ⊥) → seen_variant v ≡ AnyPointerType → ⊥
+no_untyped variant.AnyPointer none e = none refl
+no_untyped variant.Void none e = cc
+no_untyped variant.Bool none e = cc
+no_untyped variant.Int8 none e = cc
+no_untyped variant.Int16 none e = cc
+no_untyped variant.Int32 none e = cc
+no_untyped variant.Int64 none e = cc
+no_untyped variant.UInt8 none e = cc
+no_untyped variant.UInt16 none e = cc
+no_untyped variant.UInt32 none e = cc
+no_untyped variant.UInt64 none e = cc
+no_untyped variant.Text none e = cc
+no_untyped variant.«Data» none e = cc
+no_untyped (variant.Struct x) none e = cc
+no_untyped (variant.Enum n) none e = cc
+no_untyped (variant.List c) none e = cc
 
 -- what is copied into an element that is not untyped, and is no struct, stands behind its pointer
 pub record IsInto (t : SchemaType) (s : Source) : Type 0 where
   pub copy : IsBlobOrList s
   pub pointer : IsPointerElement t
 
-copied-into : (set : Schemas) (t : SchemaType) (s : Source) (x : Tree) (past : Bool) (w : Value) → IsPointed s → NoStruct s → (t ≡ AnyPointerType → ⊥) → given_slot set t s ≡ Copies x past w → IsInto t s
-copied-into set AnyPointerType s x past w p h none e = absurd (none refl)
-copied-into set TextType (TextSource bytes) x past w p h none e = record { copy = tt; pointer = record { room = λ x j h. h; writes = λ x j y. refl } }
-copied-into set DataType (DataSource bytes) x past w p h none e = record { copy = tt; pointer = record { room = λ x j h. h; writes = λ x j y. refl } }
-copied-into set (ListType c) (ListSource l y from) x past w p h none e = record { copy = tt; pointer = record { room = λ x j h. h; writes = λ x j y. refl } }
-copied-into set (StructType b g) (StructSource l y from) x past w p h none e = absurd h
-copied-into set BoolType (BoolSource b) x past w p h none e = absurd p
-copied-into set (IntType k) (IntSource n y) x past w p h none e = absurd p
-copied-into set (UIntType k) (UIntSource n y) x past w p h none e = absurd p
-copied-into set (EnumType m) (EnumSource n) x past w p h none e = absurd p
-copied-into set VoidType s x past w p h none e = absurd (gives-copies e)
-copied-into set t s x past w p h none e = absurd (fails-copies e)
+copied_into : (set : Schemas) (t : SchemaType) (s : Source) (x : Tree) (past : Bool) (w : Value) → IsPointed s → NoStruct s → (t ≡ AnyPointerType → ⊥) → given_slot set t s ≡ Copies x past w → IsInto t s
+copied_into set AnyPointerType s x past w p h none e = absurd (none refl)
+copied_into set TextType (TextSource bytes) x past w p h none e = record { copy = tt; pointer = record { room = λ x j h. h; writes = λ x j y. refl } }
+copied_into set DataType (DataSource bytes) x past w p h none e = record { copy = tt; pointer = record { room = λ x j h. h; writes = λ x j y. refl } }
+copied_into set (ListType c) (ListSource l y from) x past w p h none e = record { copy = tt; pointer = record { room = λ x j h. h; writes = λ x j y. refl } }
+copied_into set (StructType b g) (StructSource l y from) x past w p h none e = absurd h
+copied_into set BoolType (BoolSource b) x past w p h none e = absurd p
+copied_into set (IntType k) (IntSource n y) x past w p h none e = absurd p
+copied_into set (UIntType k) (UIntSource n y) x past w p h none e = absurd p
+copied_into set (EnumType m) (EnumSource n) x past w p h none e = absurd p
+copied_into set VoidType s x past w p h none e = absurd (gives_copies e)
+copied_into set t s x past w p h none e = absurd (fails_copies e)
 
 module _ (set : Schemas) (s : Source) (p : IsPointed s) (h : NoStruct s) where
   module _ (t : SchemaType) (same : given_element set t s ≡ given_slot set t s) (none : t ≡ AnyPointerType → ⊥) where
-    takes-into : (g : Given) → given_slot set t s ≡ g → (r : Result Bool Error) → GivesCopy s g r → IfOk r (TakesInto set t s)
-    takes-into (Gives w) is (Ok q) c = subst (TakesInto set t s) (sym c) (void-only set t s w p is)
-    takes-into (Gives w) is (Err k) c = tt
-    takes-into (Copies x past w) is (Ok q) c =
-        let into = copied-into set t s x past w p h none is in
+    takes_into : (g : Given) → given_slot set t s ≡ g → (r : Result Bool Error) → GivesCopy s g r → IfOk r (TakesInto set t s)
+    takes_into (Gives w) is (Ok q) c = subst (TakesInto set t s) (sym c) (void_only set t s w p is)
+    takes_into (Gives w) is (Err k) c = tt
+    takes_into (Copies x past w) is (Ok q) c =
+        let into = copied_into set t s x past w p h none is in
         subst (TakesInto set t s) (sym c.0) (into.copy, into.pointer, (w, same ∙ (is ∙ (ap (λ y. Copies y past w) c.1 ∙ ap (λ b. Copies (source_copied s) b w) c.2))))
-    takes-into (Copies x past w) is (Err k) c = tt
-    takes-into (CopiesGroup l x b) is r c = absurd c
-    takes-into (Fails kind) is (Ok q) c = absurd c
-    takes-into (Fails kind) is (Err k) c = tt
+    takes_into (Copies x past w) is (Err k) c = tt
+    takes_into (CopiesGroup l x b) is r c = absurd c
+    takes_into (Fails kind) is (Ok q) c = absurd c
+    takes_into (Fails kind) is (Err k) c = tt
 
-    fails-into : (g : Given) → given_slot set t s ≡ g → (r : Result Bool Error) → GivesCopy s g r → IfErr r (λ k. given_element set t s ≡ Fails k.kind)
-    fails-into (Gives w) is (Ok q) c = tt
-    fails-into (Gives w) is (Err k) c = absurd c
-    fails-into (Copies x past w) is (Ok q) c = tt
-    fails-into (Copies x past w) is (Err k) c = absurd c
-    fails-into (CopiesGroup l x b) is r c = absurd c
-    fails-into (Fails kind) is (Ok q) c = absurd c
-    fails-into (Fails kind) is (Err k) c = same ∙ (is ∙ ap Fails (sym c))
+    fails_into : (g : Given) → given_slot set t s ≡ g → (r : Result Bool Error) → GivesCopy s g r → IfErr r (λ k. given_element set t s ≡ Fails k.kind)
+    fails_into (Gives w) is (Ok q) c = tt
+    fails_into (Gives w) is (Err k) c = absurd c
+    fails_into (Copies x past w) is (Ok q) c = tt
+    fails_into (Copies x past w) is (Err k) c = absurd c
+    fails_into (CopiesGroup l x b) is r c = absurd c
+    fails_into (Fails kind) is (Ok q) c = absurd c
+    fails_into (Fails kind) is (Err k) c = same ∙ (is ∙ ap Fails (sym c))
 
   module _ (v : TypeVariant) (t : SchemaType) (e : seen_variant v ≡ t) (none : v ≡ variant.AnyPointer → ⊥) (r : Result Bool Error) (gives : (set : Schemas) → GivesCopy s (given_slot set (seen_variant v) s) r) where
     plain : given_element set t s ≡ given_slot set t s
-    plain = subst (λ u. given_element set u s ≡ given_slot set u s) e (element-plain set v s h none)
+    plain = subst (λ u. given_element set u s ≡ given_slot set u s) e (element_plain set v s h none)
 
     typed : t ≡ AnyPointerType → ⊥
-    typed f = no-untyped v none (e ∙ f)
+    typed f = no_untyped v none (e ∙ f)
 
-    given-here : GivesCopy s (given_slot set t s) r
-    given-here = subst (λ u. GivesCopy s (given_slot set u s) r) e (gives set)
+    given_here : GivesCopy s (given_slot set t s) r
+    given_here = subst (λ u. GivesCopy s (given_slot set u s) r) e (gives set)
 
-    pub into-ok : IfOk r (TakesInto set t s)
-    into-ok = takes-into t plain typed (given_slot set t s) refl r given-here
+    pub into_ok : IfOk r (TakesInto set t s)
+    into_ok = takes_into t plain typed (given_slot set t s) refl r given_here
 
-    pub into-err : IfErr r (λ k. given_element set t s ≡ Fails k.kind)
-    into-err = fails-into t plain typed (given_slot set t s) refl r given-here
+    pub into_err : IfErr r (λ k. given_element set t s ≡ Fails k.kind)
+    into_err = fails_into t plain typed (given_slot set t s) refl r given_here
 
 -- ---- structs ----
 
 -- an element of another kind takes no struct
-struct-fails : (set : Schemas) (v : TypeVariant) (l : Levels) (x : StructTree) (from : ℕ) → (v ≡ variant.Void → ⊥) → ((r : RawBrandedStructSchema) → v ≡ variant.Struct r → ⊥) → (v ≡ variant.AnyPointer → ⊥) →
+struct_fails : (set : Schemas) (v : TypeVariant) (l : Levels) (x : StructTree) (from : ℕ) → (v ≡ variant.Void → ⊥) → ((r : RawBrandedStructSchema) → v ≡ variant.Struct r → ⊥) → (v ≡ variant.AnyPointer → ⊥) →
     given_element set (seen_variant v) (StructSource l x from) ≡ Fails TypeMismatch
-struct-fails set variant.Void l x from a b c = absurd (a refl)
-struct-fails set (variant.Struct r) l x from a b c = absurd (b r refl)
-struct-fails set variant.AnyPointer l x from a b c = absurd (c refl)
-struct-fails set variant.Bool l x from a b c = refl
-struct-fails set variant.Int8 l x from a b c = refl
-struct-fails set variant.Int16 l x from a b c = refl
-struct-fails set variant.Int32 l x from a b c = refl
-struct-fails set variant.Int64 l x from a b c = refl
-struct-fails set variant.UInt8 l x from a b c = refl
-struct-fails set variant.UInt16 l x from a b c = refl
-struct-fails set variant.UInt32 l x from a b c = refl
-struct-fails set variant.UInt64 l x from a b c = refl
-struct-fails set variant.Text l x from a b c = refl
-struct-fails set variant.«Data» l x from a b c = refl
-struct-fails set (variant.Enum n) l x from a b c = refl
-struct-fails set (variant.List e) l x from a b c = refl
+struct_fails set variant.Void l x from a b c = absurd (a refl)
+struct_fails set (variant.Struct r) l x from a b c = absurd (b r refl)
+struct_fails set variant.AnyPointer l x from a b c = absurd (c refl)
+struct_fails set variant.Bool l x from a b c = refl
+struct_fails set variant.Int8 l x from a b c = refl
+struct_fails set variant.Int16 l x from a b c = refl
+struct_fails set variant.Int32 l x from a b c = refl
+struct_fails set variant.Int64 l x from a b c = refl
+struct_fails set variant.UInt8 l x from a b c = refl
+struct_fails set variant.UInt16 l x from a b c = refl
+struct_fails set variant.UInt32 l x from a b c = refl
+struct_fails set variant.UInt64 l x from a b c = refl
+struct_fails set variant.Text l x from a b c = refl
+struct_fails set variant.«Data» l x from a b c = refl
+struct_fails set (variant.Enum n) l x from a b c = refl
+struct_fails set (variant.List e) l x from a b c = refl
 
-pub struct-refused : (set : Schemas) (v : TypeVariant) (t : SchemaType) (l : Levels) (x : StructTree) (from : ℕ) (kind : ErrorKind) → seen_variant v ≡ t → (v ≡ variant.Void → ⊥) →
+pub struct_refused : (set : Schemas) (v : TypeVariant) (t : SchemaType) (l : Levels) (x : StructTree) (from : ℕ) (kind : ErrorKind) → seen_variant v ≡ t → (v ≡ variant.Void → ⊥) →
     ((r : RawBrandedStructSchema) → v ≡ variant.Struct r → ⊥) → (v ≡ variant.AnyPointer → ⊥) → kind ≡ TypeMismatch → IsSetRefusal (given_element set t (StructSource l x from)) kind
-struct-refused set v t l x from kind e a b c is =
-    subst (λ g. IsSetRefusal g kind) (sym (subst (λ u. given_element set u (StructSource l x from) ≡ Fails TypeMismatch) e (struct-fails set v l x from a b c))) is
+struct_refused set v t l x from kind e a b c is =
+    subst (λ g. IsSetRefusal g kind) (sym (subst (λ u. given_element set u (StructSource l x from) ≡ Fails TypeMismatch) e (struct_fails set v l x from a b c))) is

@@ -18,7 +18,7 @@ use Rattle.capnp_schema.specs.FieldLists.{typed_of}
 use Rattle.capnp_schema.specs.declared.schema.fields.Field.{Field}
 use Rattle.capnp_schema.specs.Schema.{Schemas, Value, ListValue, TextValue, DataValue, default_of}
 use Rattle.capnp_schema.specs.Types.{SchemaType, TextType, DataType, StructType, ListType, element_size, seen_type, seen_variant}
-use Rattle.capnp_records.specs.Facts.Frame.{second-of}
+use Rattle.capnp_records.specs.Facts.Frame.{second_of}
 use Rattle.capnp_records.specs.Given.{data_tree}
 use Rattle.capnp_base.specs.Text.{text_tree}
 use Rattle.capnp_records.specs.Writes.Fill.{IsAtRest, default_struct, entered_list, list_or_default}
@@ -26,7 +26,7 @@ use Rattle.capnp_schema.specs.Plan.{brand_size}
 use Rattle.capnp_slots.specs.Fills.{fill_due, filled_tree, pointer_in}
 use Rattle.capnp_slots.specs.Steps.Fills.{FilledListRests, list_due}
 use Rattle.capnp_slots.specs.Fields.{field_set, pointer_index}
-use Rattle.capnp_slots.proofs.FilledSlots.{IsPart, part-as, part-left}
+use Rattle.capnp_slots.proofs.FilledSlots.{IsPart, part_as, part_left}
 
 second : {A : Type 0} (q : Bool) (a b : A) → q ≡ false → cond q a b ≡ b
 second true a b e = absurd (true≢false e)
@@ -36,18 +36,18 @@ neither : (q r : Bool) → q ≡ false → (q && r) ≡ false
 neither true r e = absurd (true≢false e)
 neither false r e = refl
 
-or-stays : (d : Value) (x : Tree) → is_null_tree x ≡ false → list_or_default d x ≡ x
-or-stays (ListValue words) tree.Null e = absurd (true≢false e)
-or-stays d x e = refl
+or_stays : (d : Value) (x : Tree) → is_null_tree x ≡ false → list_or_default d x ≡ x
+or_stays (ListValue words) tree.Null e = absurd (true≢false e)
+or_stays d x e = refl
 
 -- what is left of a text or data
-pub text-stays : (set : Schemas) (d : Value) (x : Tree) → is_null_tree x ≡ false → x ≡ filled_tree set d TextType x
-text-stays set (TextValue bytes) x e = sym (second-of (is_null_tree x) (text_tree bytes) x e)
-text-stays set d x e = refl
+pub text_stays : (set : Schemas) (d : Value) (x : Tree) → is_null_tree x ≡ false → x ≡ filled_tree set d TextType x
+text_stays set (TextValue bytes) x e = sym (second_of (is_null_tree x) (text_tree bytes) x e)
+text_stays set d x e = refl
 
-pub data-stays : (set : Schemas) (d : Value) (x : Tree) → is_null_tree x ≡ false → x ≡ filled_tree set d DataType x
-data-stays set (DataValue bytes) x e = sym (second-of (is_null_tree x) (data_tree bytes) x e)
-data-stays set d x e = refl
+pub data_stays : (set : Schemas) (d : Value) (x : Tree) → is_null_tree x ≡ false → x ≡ filled_tree set d DataType x
+data_stays set (DataValue bytes) x e = sym (second_of (is_null_tree x) (data_tree bytes) x e)
+data_stays set d x e = refl
 
 module _ (set : Schemas) (d : Value) (x : Tree) (there : is_null_tree x ≡ false) where
   -- a list is filled as if there were no default
@@ -56,34 +56,34 @@ module _ (set : Schemas) (d : Value) (x : Tree) (there : is_null_tree x ≡ fals
     pub due : list_due set e tree.Null x ≡ fill_due set d t x
     pub rests : IsAtRest set d t x → FilledListRests set e tree.Null x
 
-  list-entered : (e : SchemaType) → entered_list set e (wire.or_default tree.Null x) ≡ filled_tree set d (ListType e) x
-  list-entered e = ap (entered_list set e) (second (is_null_tree x) tree.Null x there ∙ sym (or-stays d x there))
+  list_entered : (e : SchemaType) → entered_list set e (wire.or_default tree.Null x) ≡ filled_tree set d (ListType e) x
+  list_entered e = ap (entered_list set e) (second (is_null_tree x) tree.Null x there ∙ sym (or_stays d x there))
 
-  takes-none : wire.takes_default tree.Null x ≡ false
-  takes-none = neither (is_null_tree x) (not (is_null_tree tree.Null)) there
+  takes_none : wire.takes_default tree.Null x ≡ false
+  takes_none = neither (is_null_tree x) (not (is_null_tree tree.Null)) there
 
-  plain-due : (e : SchemaType) → wire.filled_list_refusal tree.Null (element_size e) x ≡ wire.list_refusal (element_size e) x
-  plain-due e = second (is_null_tree x) _ (wire.list_refusal (element_size e) x) there
+  plain_due : (e : SchemaType) → wire.filled_list_refusal tree.Null (element_size e) x ≡ wire.list_refusal (element_size e) x
+  plain_due e = second (is_null_tree x) _ (wire.list_refusal (element_size e) x) there
 
-  plain-rests : (e : SchemaType) → {P : Type 0} → P × (wire.list_refusal (element_size e) x ≡ None) → (wire.takes_default tree.Null x ≡ false) × (wire.filled_list_refusal tree.Null (element_size e) x ≡ None)
-  plain-rests e h = (takes-none, plain-due e ∙ h.1)
+  plain_rests : (e : SchemaType) → {P : Type 0} → P × (wire.list_refusal (element_size e) x ≡ None) → (wire.takes_default tree.Null x ≡ false) × (wire.filled_list_refusal tree.Null (element_size e) x ≡ None)
+  plain_rests e h = (takes_none, plain_due e ∙ h.1)
 
   stands : (e : SchemaType) → ListStands e (ListType e)
   stands (StructType b g) = record {
-    filled = list-entered (StructType b g);
-    due = second (is_null_tree x) _ (struct_list_refusal (brand_size set b) x) there ∙ ap (struct_list_refusal (brand_size set b)) (sym (or-stays d x there));
-    rests = λ h. (takes-none, h.1);
+    filled = list_entered (StructType b g);
+    due = second (is_null_tree x) _ (struct_list_refusal (brand_size set b) x) there ∙ ap (struct_list_refusal (brand_size set b)) (sym (or_stays d x there));
+    rests = λ h. (takes_none, h.1);
   }
-  stands e = record { filled = list-entered e; due = plain-due e; rests = plain-rests e }
+  stands e = record { filled = list_entered e; due = plain_due e; rests = plain_rests e }
 
-  pub list-stands : (e t : SchemaType) → ListType e ≡ t → ListStands e t
-  list-stands e t h = subst (ListStands e) h (stands e)
+  pub list_stands : (e t : SchemaType) → ListType e ≡ t → ListStands e t
+  list_stands e t h = subst (ListStands e) h (stands e)
 
 -- ---- by a field ----
 
-pub struct-at : (f : Field) (i : ℕ) (s : StructTree) → i ≡ pointer_index f → is_null_tree (nth_tree s.pointers i) ≡ false → (b g : ℕ) (size : StructSize) → size ≡ brand_size (field_set f) b → StructType b g ≡ (typed_of f).type →
+pub struct_at : (f : Field) (i : ℕ) (s : StructTree) → i ≡ pointer_index f → is_null_tree (nth_tree s.pointers i) ≡ false → (b g : ℕ) (size : StructSize) → size ≡ brand_size (field_set f) b → StructType b g ≡ (typed_of f).type →
     IsPart f s (struct_tree (extended_struct size (struct_in (nth_tree s.pointers i)))) (struct_refusal (nth_tree s.pointers i)) (HoldsStruct size (nth_tree s.pointers i))
-struct-at f i s at there b g size same t =
+struct_at f i s at there b g size same t =
     let set : Schemas = field_set f in
     let d : Value = default_of (typed_of f).field in
     let x : Tree = pointer_in f s in
@@ -92,31 +92,31 @@ struct-at f i s at there b g size same t =
     (subst (λ j. IsPart f s (struct_tree (extended_struct (brand_size set b) (struct_in (nth_tree s.pointers j)))) (struct_refusal (nth_tree s.pointers j)) (HoldsStruct (brand_size set b) (nth_tree s.pointers j))) (sym at)
     (record {
       filled = subst (λ u. struct_tree (extended_struct (brand_size set b) (struct_in x)) ≡ filled_tree set d u x) t
-          (ap (λ y. struct_tree (extended_struct (brand_size set b) y)) (sym (second-of (is_null_tree x) (default_struct d) (struct_in x) stands)));
+          (ap (λ y. struct_tree (extended_struct (brand_size set b) y)) (sym (second_of (is_null_tree x) (default_struct d) (struct_in x) stands)));
       due = subst (λ u. struct_refusal x ≡ fill_due set d u x) t refl;
       rests = λ r. subst (λ u. IsAtRest set d u x) (sym t) r;
     }))
 
 module _ (f : Field) (v : TypeVariant) (i : ℕ) (s : StructTree) (at : i ≡ pointer_index f) (h : seen_variant v ≡ (typed_of f).type) (there : is_null_tree (nth_tree s.pointers i) ≡ false) where
-  stands-there : is_null_tree (pointer_in f s) ≡ false
-  stands-there = subst (λ j. is_null_tree (nth_tree s.pointers j) ≡ false) at there
+  stands_there : is_null_tree (pointer_in f s) ≡ false
+  stands_there = subst (λ j. is_null_tree (nth_tree s.pointers j) ≡ false) at there
 
-  pub struct-in : (raw : RawBrandedStructSchema) (size : StructSize) → size ≡ brand_size (field_set f) raw.number → v ≡ variant.Struct raw →
+  pub struct_stands_in : (raw : RawBrandedStructSchema) (size : StructSize) → size ≡ brand_size (field_set f) raw.number → v ≡ variant.Struct raw →
       IsPart f s (struct_tree (extended_struct size (struct_in (nth_tree s.pointers i)))) (struct_refusal (nth_tree s.pointers i)) (HoldsStruct size (nth_tree s.pointers i))
-  struct-in raw size same e = struct-at f i s at there raw.number raw.generic size same (ap seen_variant (sym e) ∙ h)
+  struct_stands_in raw size same e = struct_at f i s at there raw.number raw.generic size same (ap seen_variant (sym e) ∙ h)
 
-  pub text-in : v ≡ variant.Text → IsPart f s (nth_tree s.pointers i) (error_of (as_text (nth_tree s.pointers i))) ⊥
-  text-in e = part-left f s _ _ _ _ (text-stays (field_set f) (default_of (typed_of f).field) (nth_tree s.pointers i) there) (part-as f s i TextType at (ap seen_variant (sym e) ∙ h))
+  pub text_in : v ≡ variant.Text → IsPart f s (nth_tree s.pointers i) (error_of (as_text (nth_tree s.pointers i))) ⊥
+  text_in e = part_left f s _ _ _ _ (text_stays (field_set f) (default_of (typed_of f).field) (nth_tree s.pointers i) there) (part_as f s i TextType at (ap seen_variant (sym e) ∙ h))
 
-  pub data-in : v ≡ variant.«Data» → IsPart f s (nth_tree s.pointers i) (error_of (as_data (nth_tree s.pointers i))) ⊥
-  data-in e = part-left f s _ _ _ _ (data-stays (field_set f) (default_of (typed_of f).field) (nth_tree s.pointers i) there) (part-as f s i DataType at (ap seen_variant (sym e) ∙ h))
+  pub data_in : v ≡ variant.«Data» → IsPart f s (nth_tree s.pointers i) (error_of (as_data (nth_tree s.pointers i))) ⊥
+  data_in e = part_left f s _ _ _ _ (data_stays (field_set f) (default_of (typed_of f).field) (nth_tree s.pointers i) there) (part_as f s i DataType at (ap seen_variant (sym e) ∙ h))
 
   -- what stands at a list's slot, by the set that the code has
-  pub list-in : (set : Schemas) (element : TypeHandle) → set ≡ field_set f → v ≡ variant.List element →
+  pub list_in : (set : Schemas) (element : TypeHandle) → set ≡ field_set f → v ≡ variant.List element →
       IsPart f s (entered_list set (seen_type element) (wire.or_default tree.Null (nth_tree s.pointers i))) (list_due set (seen_type element) tree.Null (nth_tree s.pointers i))
       (FilledListRests set (seen_type element) tree.Null (nth_tree s.pointers i))
-  list-in set element same e =
-      let part = list-stands (field_set f) (default_of (typed_of f).field) (pointer_in f s) stands-there (seen_type element) (typed_of f).type (ap seen_variant (sym e) ∙ h) in
+  list_in set element same e =
+      let part = list_stands (field_set f) (default_of (typed_of f).field) (pointer_in f s) stands_there (seen_type element) (typed_of f).type (ap seen_variant (sym e) ∙ h) in
       subst (λ (z : Schemas). IsPart f s (entered_list z (seen_type element) (wire.or_default tree.Null (nth_tree s.pointers i))) (list_due z (seen_type element) tree.Null (nth_tree s.pointers i))
       (FilledListRests z (seen_type element) tree.Null (nth_tree s.pointers i))) (sym same)
       (subst (λ j. IsPart f s (entered_list (field_set f) (seen_type element) (wire.or_default tree.Null (nth_tree s.pointers j))) (list_due (field_set f) (seen_type element) tree.Null (nth_tree s.pointers j))

@@ -16,8 +16,8 @@ use Rattle.capnp_splices.specs.Splices.{Element, HasRoomFor, Splice, is_past_for
 
 -- ---- pointers ----
 
-size-differs : {A : Type 0} (a b : ElementSize) (m n : ℕ) → size_number a ≡ m → size_number b ≡ n → m ≢ n → a ≡ b → A
-size-differs a b m n p q h e = absurd (h (sym p ∙ (ap size_number e ∙ q)))
+size_differs : {A : Type 0} (a b : ElementSize) (m n : ℕ) → size_number a ≡ m → size_number b ≡ n → m ≢ n → a ≡ b → A
+size_differs a b m n p q h e = absurd (h (sym p ∙ (ap size_number e ∙ q)))
 
 -- an element of a list of pointers has the same levels whatever are left
 pub plain_pointer : (t : Tree) (i levels : ℕ) → element_size_of t ≡ size.Pointer → element_pointer t i levels ≡ element_pointer t i 1
@@ -27,7 +27,7 @@ plain_pointer (Voids n) i levels h = refl
 plain_pointer (Bits bs) i levels h = refl
 plain_pointer (Numbers w bytes) i levels h = refl
 plain_pointer (Pointers ps) i levels h = refl
-plain_pointer (Composite d p es) i levels h = size-differs size.InlineComposite size.Pointer 7 6 refl refl (λ e. omega (arith, e)) h
+plain_pointer (Composite d p es) i levels h = size_differs size.InlineComposite size.Pointer 7 6 refl refl (λ e. omega (arith, e)) h
 plain_pointer (FaultLeaf k) i levels h = refl
 
 pub picked_pointer : (s : Splice) (i levels : ℕ) (e : Element) → s.at + s.removed ≤ list_length s.old → i < spliced_count s → element_size_of s.old ≡ size.Pointer → element_size_of s.added ≡ size.Pointer → e ≡ picked s i

@@ -27,14 +27,14 @@ pub row_refused : (t : Tree) (n : ℕ) (e : Error) → is_past_format t ≡ not 
 row_refused t n e is r other = go (nat_lt n words_past_format) refl
   where
     go : (b : Bool) → nat_lt n words_past_format ≡ b → made_refusal t ≡ Some e.kind
-    go true q = room (words_past_format ≤ n) false t e (is ∙ ap not q) (λ h. absurd (false-true h)) (λ _ p. omega (arith, p, ltb-true n words_past_format q)) r other
+    go true q = room (words_past_format ≤ n) false t e (is ∙ ap not q) (λ h. absurd (false_true h)) (λ _ p. omega (arith, p, ltb-true n words_past_format q)) r other
       where
-        false-true : false ≡ true → ⊥
-        false-true h = search rules
-    go false q = room (words_past_format ≤ n) true t e (is ∙ ap not q) (λ _. ltb-false n words_past_format q) (λ h. absurd (true-false h)) r other
+        false_true : false ≡ true → ⊥
+        false_true h = search rules
+    go false q = room (words_past_format ≤ n) true t e (is ∙ ap not q) (λ _. ltb-false n words_past_format q) (λ h. absurd (true_false h)) r other
       where
-        true-false : true ≡ false → ⊥
-        true-false h = search rules
+        true_false : true ≡ false → ⊥
+        true_false h = search rules
 
 pub row_within : (t : Tree) (n : ℕ) → is_past_format t ≡ not (nat_lt n words_past_format) → n < words_past_format → is_past_format t ≡ false
 row_within t n is h = is ∙ ap not (lt-ltb n words_past_format h)

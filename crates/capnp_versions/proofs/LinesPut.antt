@@ -26,19 +26,19 @@ some_union word members bit old new m d e is =
 
 -- ---- a field ----
 
-not-below : (i n : ℕ) → n ≤ i → nat_lt i n ≡ false
-not-below i n le = grind (arith, nat_tests, le)
+not_below : (i n : ℕ) → n ≤ i → nat_lt i n ≡ false
+not_below i n le = grind (arith, nat_tests, le)
 
-is-below : (i n : ℕ) → i < n → nat_lt i n ≡ true
-is-below i n le = grind (arith, nat_tests, le)
+is_below : (i n : ℕ) → i < n → nat_lt i n ≡ true
+is_below i n le = grind (arith, nat_tests, le)
 
 pub no_field : (set : Schemas) (b i : ℕ) (word old : List ℕ) → length (fields_of set b) ≤ i → IsAppended old (behind_word word (side_of set b (Some i))) old
-no_field set b i word old past = subst (λ (t : Bool). IsAppended old (behind_word word (field_at_side set b i t)) old) (sym (not-below i (length (fields_of set b)) past)) (nothing old)
+no_field set b i word old past = subst (λ (t : Bool). IsAppended old (behind_word word (field_at_side set b i t)) old) (sym (not_below i (length (fields_of set b)) past)) (nothing old)
 
 pub some_field : (set : Schemas) (b i : ℕ) (word old new : List ℕ) → i < length (fields_of set b) → IsAppended old (after (said_text word) (field_side set b (field_at set b i))) new →
     IsAppended old (behind_word word (side_of set b (Some i))) new
 some_field set b i word old new inside put =
-    subst (λ (t : Bool). IsAppended old (behind_word word (field_at_side set b i t)) new) (sym (is-below i (length (fields_of set b)) inside)) put
+    subst (λ (t : Bool). IsAppended old (behind_word word (field_at_side set b i t)) new) (sym (is_below i (length (fields_of set b)) inside)) put
 
 -- ---- a line ----
 

@@ -3,10 +3,10 @@ use Rattle.std.proofs.Common.{IsTrue, ◌==◌, ℕ, zero, suc, ◌+◌, ◌<◌
 use Rattle.capnp_wire.specs.Tree.{Tree, Null, Struct, Voids, Bits, Numbers, Pointers, Composite, FaultLeaf, Trees, NoTrees, MoreTrees, Structs, NoStructs, MoreStructs, StructTree, empty_structs, nth_tree, nth_struct, tree_count, struct_count}
 use mathlib.Core.Bool.{beq}
 use Rattle.std.proofs.lemmas.Bool.Decides.{nat_tests}
-use Rattle.capnp_wire.specs.Facts.EmptyStructs.{struct_count-empty_structs}
+use Rattle.capnp_wire.specs.Facts.EmptyStructs.{struct_count_empty_structs}
 use Rattle.capnp_wire.specs.Slot.{bit_at}
 use Rattle.capnp_wire.specs.Place.{bits_from}
-use Rattle.capnp_wire.specs.Facts.Indexed.{bit-start, length-bits_from}
+use Rattle.capnp_wire.specs.Facts.Indexed.{bit_start, length_bits_from}
 
 -- ---- heights: each part is lower than the whole ----
 
@@ -72,7 +72,7 @@ same_counts es fs m n e f = (
       let as_many : m ≡ n = grind (arith, nat_tests, yes) in
       e ∙ ap empty_structs as_many ∙ sym f,
   λ same.
-      let as_many : m ≡ n = sym (struct_count-empty_structs m) ∙ ap struct_count (sym e ∙ same ∙ f) ∙ struct_count-empty_structs n in
+      let as_many : m ≡ n = sym (struct_count_empty_structs m) ∙ ap struct_count (sym e ∙ same ∙ f) ∙ struct_count_empty_structs n in
       grind (arith, nat_tests, as_many),
 )
 
@@ -82,19 +82,19 @@ same_counts es fs m n e f = (
 abbrev pub SameBits : ℕ → List ℕ → List ℕ → Type 0
 SameBits count xs ys = (k : ℕ) → k < count → bit_at xs k ≡ bit_at ys k
 
-same-from : (xs ys : List ℕ) (first count : ℕ) → ((k : ℕ) → k < first + count → bit_at xs k ≡ bit_at ys k) → bits_from xs first count ≡ bits_from ys first count
-same-from xs ys first zero h = refl
-same-from xs ys first (suc count) h = ap₂ (λ b bs. b ∷ bs) (h first (omega arith)) (same-from xs ys (suc first) count (λ k below. h k (omega (arith, below))))
+same_from : (xs ys : List ℕ) (first count : ℕ) → ((k : ℕ) → k < first + count → bit_at xs k ≡ bit_at ys k) → bits_from xs first count ≡ bits_from ys first count
+same_from xs ys first zero h = refl
+same_from xs ys first (suc count) h = ap₂ (λ b bs. b ∷ bs) (h first (omega arith)) (same_from xs ys (suc first) count (λ k below. h k (omega (arith, below))))
 
 pub same_bits : (xs ys : List ℕ) (count : ℕ) → SameBits count xs ys → bits_from xs 0 count ≡ bits_from ys 0 count
-same_bits xs ys count h = same-from xs ys 0 count (λ k below. h k (omega (arith, below)))
+same_bits xs ys count h = same_from xs ys 0 count (λ k below. h k (omega (arith, below)))
 
 pub bit_same : (xs ys : List ℕ) (count k : ℕ) → bits_from xs 0 count ≡ bits_from ys 0 count → k < count → bit_at xs k ≡ bit_at ys k
-bit_same xs ys count k e below = sym (bit-start xs count k below) ∙ ap (λ bs. get_or bs k false) e ∙ bit-start ys count k below
+bit_same xs ys count k e below = sym (bit_start xs count k below) ∙ ap (λ bs. get_or bs k false) e ∙ bit_start ys count k below
 
 -- two lists of bits are the same where their lengths are and their bits
 pub bits_parts : (xs ys : List ℕ) (m n : ℕ) → Bits (bits_from xs 0 m) ≡ Bits (bits_from ys 0 n) → m ≡ n
-bits_parts xs ys m n e = sym (length-bits_from xs 0 m) ∙ ap length (inside e) ∙ length-bits_from ys 0 n
+bits_parts xs ys m n e = sym (length_bits_from xs 0 m) ∙ ap length (inside e) ∙ length_bits_from ys 0 n
   where
     inside : Bits (bits_from xs 0 m) ≡ Bits (bits_from ys 0 n) → bits_from xs 0 m ≡ bits_from ys 0 n
     inside e = cc

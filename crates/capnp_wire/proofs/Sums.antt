@@ -30,17 +30,17 @@ trees_after (suc i) NoTrees = NoTrees
 trees_after (suc i) (MoreTrees t ts) = trees_after i ts
 
 -- the next of them, and what is left after it
-pub trees_after-next : (i : ℕ) (ts : Trees) → i < tree_count ts → trees_after i ts ≡ MoreTrees (nth_tree ts i) (trees_after (suc i) ts)
-trees_after-next i NoTrees h = absurd (omega arith)
-trees_after-next zero (MoreTrees t ts) h = refl
-trees_after-next (suc i) (MoreTrees t ts) h = trees_after-next i ts (omega arith)
+pub trees_after_next : (i : ℕ) (ts : Trees) → i < tree_count ts → trees_after i ts ≡ MoreTrees (nth_tree ts i) (trees_after (suc i) ts)
+trees_after_next i NoTrees h = absurd (omega arith)
+trees_after_next zero (MoreTrees t ts) h = refl
+trees_after_next (suc i) (MoreTrees t ts) h = trees_after_next i ts (omega arith)
 
 -- after the last of them nothing is left
-pub trees_after-end : (i : ℕ) (ts : Trees) → tree_count ts ≤ i → trees_after i ts ≡ NoTrees
-trees_after-end zero NoTrees h = refl
-trees_after-end (suc i) NoTrees h = refl
-trees_after-end zero (MoreTrees t ts) h = absurd (omega arith)
-trees_after-end (suc i) (MoreTrees t ts) h = trees_after-end i ts (omega arith)
+pub trees_after_end : (i : ℕ) (ts : Trees) → tree_count ts ≤ i → trees_after i ts ≡ NoTrees
+trees_after_end zero NoTrees h = refl
+trees_after_end (suc i) NoTrees h = refl
+trees_after_end zero (MoreTrees t ts) h = absurd (omega arith)
+trees_after_end (suc i) (MoreTrees t ts) h = trees_after_end i ts (omega arith)
 
 -- a loop has summed the words of the first ones, and met no fault
 pub record AreSummed (sum i : ℕ) (ts : Trees) : Type 0 where
@@ -54,13 +54,13 @@ none_summed ts = record { words = omega arith; faults = refl }
 -- as the loop ends, the sum is the total of them all
 pub all_summed : (sum i : ℕ) (ts : Trees) → AreSummed sum i ts → tree_count ts ≤ i → (first_fault_of_all ts ≡ None) × (sum ≡ words_of_all ts)
 all_summed sum i ts h l =
-    let e = trees_after-end i ts l in
+    let e = trees_after_end i ts l in
     (sym h.faults ∙ ap first_fault_of_all e, omega (arith, rw e at h.words))
 
 -- one more of them, t
 module _ (sum i : ℕ) (ts : Trees) (t : Tree) (so_far : AreSummed sum i ts) (here : i < tree_count ts) (at : nth_tree ts i ≡ t) where
   next : trees_after i ts ≡ MoreTrees t (trees_after (suc i) ts)
-  next = trees_after-next i ts here ∙ ap (λ x. MoreTrees x (trees_after (suc i) ts)) at
+  next = trees_after_next i ts here ∙ ap (λ x. MoreTrees x (trees_after (suc i) ts)) at
 
   next_words : sum + (words_of t + words_of_all (trees_after (suc i) ts)) ≡ words_of_all ts
   next_words = rw next at so_far.words
@@ -91,17 +91,17 @@ structs_after (suc i) NoStructs = NoStructs
 structs_after (suc i) (MoreStructs bytes ps es) = structs_after i es
 
 -- the next of them, and what is left after it
-pub structs_after-next : (i : ℕ) (es : Structs) → i < struct_count es → structs_after i es ≡ MoreStructs (nth_struct es i).bytes (nth_struct es i).pointers (structs_after (suc i) es)
-structs_after-next i NoStructs h = absurd (omega arith)
-structs_after-next zero (MoreStructs bytes ps es) h = refl
-structs_after-next (suc i) (MoreStructs bytes ps es) h = structs_after-next i es (omega arith)
+pub structs_after_next : (i : ℕ) (es : Structs) → i < struct_count es → structs_after i es ≡ MoreStructs (nth_struct es i).bytes (nth_struct es i).pointers (structs_after (suc i) es)
+structs_after_next i NoStructs h = absurd (omega arith)
+structs_after_next zero (MoreStructs bytes ps es) h = refl
+structs_after_next (suc i) (MoreStructs bytes ps es) h = structs_after_next i es (omega arith)
 
 -- after the last of them nothing is left
-pub structs_after-end : (i : ℕ) (es : Structs) → struct_count es ≤ i → structs_after i es ≡ NoStructs
-structs_after-end zero NoStructs h = refl
-structs_after-end (suc i) NoStructs h = refl
-structs_after-end zero (MoreStructs bytes ps es) h = absurd (omega arith)
-structs_after-end (suc i) (MoreStructs bytes ps es) h = structs_after-end i es (omega arith)
+pub structs_after_end : (i : ℕ) (es : Structs) → struct_count es ≤ i → structs_after i es ≡ NoStructs
+structs_after_end zero NoStructs h = refl
+structs_after_end (suc i) NoStructs h = refl
+structs_after_end zero (MoreStructs bytes ps es) h = absurd (omega arith)
+structs_after_end (suc i) (MoreStructs bytes ps es) h = structs_after_end i es (omega arith)
 
 -- a loop has summed the words below the first ones, and met no fault
 pub record ElementsAreSummed (sum i : ℕ) (es : Structs) : Type 0 where
@@ -115,13 +115,13 @@ no_elements_summed es = record { words = omega arith; faults = refl }
 -- as the loop ends, the sum is the total of them all
 pub all_elements_summed : (sum i : ℕ) (es : Structs) → ElementsAreSummed sum i es → struct_count es ≤ i → (first_fault_of_elements es ≡ None) × (sum ≡ words_below_all es)
 all_elements_summed sum i es h l =
-    let e = structs_after-end i es l in
+    let e = structs_after_end i es l in
     (sym h.faults ∙ ap first_fault_of_elements e, omega (arith, rw e at h.words))
 
 -- one more of them, s
 module _ (sum i : ℕ) (es : Structs) (s : StructTree) (so_far : ElementsAreSummed sum i es) (here : i < struct_count es) (at : nth_struct es i ≡ s) where
   element : structs_after i es ≡ MoreStructs s.bytes s.pointers (structs_after (suc i) es)
-  element = structs_after-next i es here ∙ ap (λ (x : StructTree). MoreStructs x.bytes x.pointers (structs_after (suc i) es)) at
+  element = structs_after_next i es here ∙ ap (λ (x : StructTree). MoreStructs x.bytes x.pointers (structs_after (suc i) es)) at
 
   element_words : sum + (words_of_all s.pointers + words_below_all (structs_after (suc i) es)) ≡ words_below_all es
   element_words = rw element at so_far.words

@@ -3,7 +3,7 @@ ghost use Rattle.std.specs.Prelude.{◌≡◌};
 ghost use Rattle.capnp_wire.specs.Found.{found_tree};
 ghost use Rattle.capnp_wire.specs.Locate.{words_past_format};
 ghost use Rattle.capnp_wire.specs.WellFormed.{IsWellFormed};
-ghost use Rattle.capnp_wire.specs.Steps.WellFormed.{IsWellFormed-prop};
+ghost use Rattle.capnp_wire.specs.Steps.WellFormed.{IsWellFormed_prop};
 
 use crate::fault::Fault;
 use crate::numbers::Numbers;
@@ -36,7 +36,7 @@ use std::mem::size_of;
 pub struct ListReader<'a> {
     found: Found<'a>,
     levels: u8,
-    ghost well_formed: { IsWellFormed (found_tree found) } by { IsWellFormed-prop (found_tree found) },
+    ghost well_formed: { IsWellFormed (found_tree found) } by { IsWellFormed_prop (found_tree found) },
 }
 
 // A reader is copied at each step, so it is kept small.

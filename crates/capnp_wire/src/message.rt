@@ -2,7 +2,7 @@
 ghost use Rattle.capnp_wire.specs.Backing.{segment_list};
 ghost use Rattle.capnp_wire.specs.Depth.{message_levels};
 ghost use Rattle.capnp_wire.specs.WellFormed.{AreSegments};
-ghost use Rattle.capnp_wire.specs.Steps.WellFormed.{AreSegments-prop};
+ghost use Rattle.capnp_wire.specs.Steps.WellFormed.{AreSegments_prop};
 
 use crate::parts::bytes::{half_at, part};
 use crate::parts::pointer::{MESSAGE_LEVELS, get_root_pointer};
@@ -22,7 +22,7 @@ use std::alloc::Global;
 #[derive(Clone, Copy)]
 pub struct Reader<'a> {
     segments: Segments<'a>,
-    ghost bytes_alone: { AreSegments (segment_list segments) } by { AreSegments-prop (segment_list segments) },
+    ghost bytes_alone: { AreSegments (segment_list segments) } by { AreSegments_prop (segment_list segments) },
 }
 
 impl<'a> Reader<'a> {

@@ -4,7 +4,7 @@ ghost use Rattle.capnp_wire.specs.Found.{found_tree};
 ghost use Rattle.capnp_wire.specs.Locate.{words_past_format};
 ghost use Rattle.capnp_wire.specs.Reading.{element_number, list_length};
 ghost use Rattle.capnp_wire.specs.WellFormed.{IsWellFormed};
-ghost use Rattle.capnp_wire.specs.Steps.WellFormed.{IsWellFormed-prop};
+ghost use Rattle.capnp_wire.specs.Steps.WellFormed.{IsWellFormed_prop};
 
 use crate::list_reader::ListReader;
 use crate::parts::elements::number_at;
@@ -27,7 +27,7 @@ pub struct NumberIter<'a, T> {
     index: usize,
     count: usize,
     marker: PhantomData<T>,
-    ghost well_formed: { IsWellFormed (found_tree found) } by { IsWellFormed-prop (found_tree found) },
+    ghost well_formed: { IsWellFormed (found_tree found) } by { IsWellFormed_prop (found_tree found) },
     ghost in_order: { index ≤ count },
     ghost counted: { count ≤ list_length (found_tree found) },
 }

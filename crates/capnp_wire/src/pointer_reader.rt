@@ -2,7 +2,7 @@
 ghost use Rattle.capnp_wire.specs.Depth.{message_levels};
 ghost use Rattle.capnp_wire.specs.Found.{pointer_tree};
 ghost use Rattle.capnp_wire.specs.WellFormed.{IsWellFormed};
-ghost use Rattle.capnp_wire.specs.Steps.WellFormed.{IsWellFormed-prop};
+ghost use Rattle.capnp_wire.specs.Steps.WellFormed.{IsWellFormed_prop};
 
 use crate::fault::refuse;
 use crate::list_reader::ListReader;
@@ -22,7 +22,7 @@ use std::mem::size_of;
 pub struct PointerReader<'a> {
     pointer: Pointer<'a>,
     levels: u8,
-    ghost well_formed: { IsWellFormed (pointer_tree pointer) } by { IsWellFormed-prop (pointer_tree pointer) },
+    ghost well_formed: { IsWellFormed (pointer_tree pointer) } by { IsWellFormed_prop (pointer_tree pointer) },
 }
 
 // A reader is copied at each step, so it is kept small.

@@ -1,7 +1,7 @@
 //! Readers of structs.
 ghost use Rattle.capnp_wire.specs.Found.{parts_tree};
 ghost use Rattle.capnp_wire.specs.WellFormed.{IsWellFormedStruct};
-ghost use Rattle.capnp_wire.specs.Steps.WellFormed.{IsWellFormedStruct-prop};
+ghost use Rattle.capnp_wire.specs.Steps.WellFormed.{IsWellFormedStruct_prop};
 
 use crate::parts::bytes::get_bit;
 use crate::parts::found::{StructParts, empty_parts};
@@ -22,7 +22,7 @@ use std::mem::size_of;
 pub struct StructReader<'a> {
     parts: StructParts<'a>,
     levels: u8,
-    ghost well_formed: { IsWellFormedStruct (parts_tree parts) } by { IsWellFormedStruct-prop (parts_tree parts) },
+    ghost well_formed: { IsWellFormedStruct (parts_tree parts) } by { IsWellFormedStruct_prop (parts_tree parts) },
 }
 
 // A reader is copied at each step, so it is kept small.

@@ -1,7 +1,7 @@
 -- How many elements a list has that is new, or became one of structs.
 use Rattle.std.proofs.Common.{ℕ, ◌≡◌, ap, ◌∙◌}
 use Rattle.capnp_wire.specs.Edits.{zero_list}
-use Rattle.capnp_wire.specs.Facts.Lengths.{list_length-struct_list, list_length-zero_list}
+use Rattle.capnp_wire.specs.Facts.Lengths.{list_length_struct_list, list_length_zero_list}
 use Rattle.capnp_wire.specs.Reading.{list_length}
 use Rattle.capnp_wire.specs.StructLists.{struct_list}
 use Rattle.capnp_wire.specs.Tree.{Tree}
@@ -9,7 +9,7 @@ use Rattle.capnp_wire.specs.declared.size.ElementSize.{ElementSize}
 use Rattle.capnp_wire.specs.declared.size.StructSize.{StructSize}
 
 pub new_count : (size : ElementSize) (count : ℕ) (t : Tree) → t ≡ zero_list size count → list_length t ≡ count
-new_count size count t e = ap list_length e ∙ list_length-zero_list size count
+new_count size count t e = ap list_length e ∙ list_length_zero_list size count
 
 pub same_count : (size : StructSize) (old new : Tree) → new ≡ struct_list size old → list_length new ≡ list_length old
-same_count size old new e = ap list_length e ∙ list_length-struct_list size old
+same_count size old new e = ap list_length e ∙ list_length_struct_list size old

@@ -18,12 +18,12 @@ use Rattle.riftcalico_core.specs.declared.queries.AskedQuery.{AskedQuery}
 use Rattle.riftcalico_core.proofs.LinesGot.{Refuses, left_of, refused_at}
 
 module _ (j : JsonJob) (bytes : List ℕ) (path : List PathStep) (limit : ℕ) where
-  no-value : (e : JsonError) (f : Fault) → f.error.kind ≢ kind.OutOfMemory → IsRefused limit (path_json j bytes path) e → IsUntoldRefusal e f → HasNoJson limit j bytes path f
-  no-value (Read k) f memory is untold = record { cause = inl (is ∙ ap (λ (x : ErrorKind). Err (Read x)) (sym untold.kind)); note = untold.note }
-  no-value TooLarge f memory is untold = record { cause = inr (untold.kind, is); note = untold.note }
-  no-value OutOfMemory f memory is untold = absurd (memory untold.kind)
-  no-value UntypedHasNoJson f memory is untold = absurd untold.kind
-  no-value TextNotUtf8 f memory is untold = absurd untold.kind
+  no_value : (e : JsonError) (f : Fault) → f.error.kind ≢ kind.OutOfMemory → IsRefused limit (path_json j bytes path) e → IsUntoldRefusal e f → HasNoJson limit j bytes path f
+  no_value (Read k) f memory is untold = record { cause = inl (is ∙ ap (λ (x : ErrorKind). Err (Read x)) (sym untold.kind)); note = untold.note }
+  no_value TooLarge f memory is untold = record { cause = inr (untold.kind, is); note = untold.note }
+  no_value OutOfMemory f memory is untold = absurd (memory untold.kind)
+  no_value UntypedHasNoJson f memory is untold = absurd untold.kind
+  no_value TextNotUtf8 f memory is untold = absurd untold.kind
 
   unfit : (e : JsonError) → IsOfJson e → IsRefused limit (path_json j bytes path) e → IsUnfit false j bytes path e
   unfit UntypedHasNoJson of is = (of, is)
@@ -33,7 +33,7 @@ module _ (j : JsonJob) (bytes : List ℕ) (path : List PathStep) (limit : ℕ) w
   unfit TooLarge of is = absurd of
 
   pub without_value : (e : JsonError) (w : NoLine) → IsRefused limit (path_json j bytes path) e → IsReason e w → HasNoLine false limit j bytes path w
-  without_value e (why.Refused f) is untold = (untold.blamed, λ memory. inr (no-value e f memory is untold))
+  without_value e (why.Refused f) is untold = (untold.blamed, λ memory. inr (no_value e f memory is untold))
   without_value e (why.Unfit x) is reason = subst (IsUnfit false j bytes path) (sym reason.0) (unfit e reason.1 is)
 
 -- and why all have no lines, by the first that has none

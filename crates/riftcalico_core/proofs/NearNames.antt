@@ -14,24 +14,24 @@ pub near_next : (asked note more : List ℕ) (names : List (List ℕ)) (name : L
 near_next asked note more names name e m = m ∙ (ap (λ (n : List ℕ). with_near asked n name) e ∙ sym (near_more asked [] names name))
 
 -- fields by index
-field-next : (fs : List TypedField) (i : ℕ) → i < length fs → drop i fs ≡ unwrap_or (slice_get fs i) no_field ∷ drop (i + 1) fs
-field-next [] i lt = absurd (omega (arith, lt))
-field-next (f ∷ fs) zero lt = refl
-field-next (f ∷ fs) (suc i) lt =
+field_next : (fs : List TypedField) (i : ℕ) → i < length fs → drop i fs ≡ unwrap_or (slice_get fs i) no_field ∷ drop (i + 1) fs
+field_next [] i lt = absurd (omega (arith, lt))
+field_next (f ∷ fs) zero lt = refl
+field_next (f ∷ fs) (suc i) lt =
     let e : suc i + 1 ≡ suc (i + 1) = omega arith in
-    field-next fs i (omega (arith, lt)) ∙ ap (λ n. unwrap_or (slice_get fs i) no_field ∷ drop n (f ∷ fs)) (sym e)
+    field_next fs i (omega (arith, lt)) ∙ ap (λ n. unwrap_or (slice_get fs i) no_field ∷ drop n (f ∷ fs)) (sym e)
 
-no-field : (fs : List TypedField) (i : ℕ) → length fs ≤ i → drop i fs ≡ []
-no-field [] zero le = refl
-no-field [] (suc i) le = refl
-no-field (f ∷ fs) zero le = absurd (omega (arith, le))
-no-field (f ∷ fs) (suc i) le = no-field fs i (omega (arith, le))
+no_field_past : (fs : List TypedField) (i : ℕ) → length fs ≤ i → drop i fs ≡ []
+no_field_past [] zero le = refl
+no_field_past [] (suc i) le = refl
+no_field_past (f ∷ fs) zero le = absurd (omega (arith, le))
+no_field_past (f ∷ fs) (suc i) le = no_field_past fs i (omega (arith, le))
 
 pub fields_next : (asked note more name : List ℕ) (fs : List TypedField) (i : ℕ) → i < length fs → name ≡ field_name (unwrap_or (slice_get fs i) no_field) → more ≡ with_near asked note name →
     with_all_near asked note (map field_name (drop i fs)) ≡ near_note asked (map field_name fs) → with_all_near asked more (map field_name (drop (i + 1) fs)) ≡ near_note asked (map field_name fs)
 fields_next asked note more name fs i lt named m before =
     ap (λ (n : List ℕ). with_all_near asked n (map field_name (drop (i + 1) fs))) (m ∙ ap (with_near asked note) named)
-    ∙ (sym (ap (λ (xs : List TypedField). with_all_near asked note (map field_name xs)) (field-next fs i lt)) ∙ before)
+    ∙ (sym (ap (λ (xs : List TypedField). with_all_near asked note (map field_name xs)) (field_next fs i lt)) ∙ before)
 
 pub fields_end : (asked note : List ℕ) (fs : List TypedField) (i : ℕ) → length fs ≤ i → with_all_near asked note (map field_name (drop i fs)) ≡ near_note asked (map field_name fs) → note ≡ near_note asked (map field_name fs)
-fields_end asked note fs i le before = sym (ap (λ (xs : List TypedField). with_all_near asked note (map field_name xs)) (no-field fs i le)) ∙ before
+fields_end asked note fs i le before = sym (ap (λ (xs : List TypedField). with_all_near asked note (map field_name xs)) (no_field_past fs i le)) ∙ before

@@ -2,7 +2,7 @@
 use Rattle.std.proofs.Common.{◌≡◌, ℕ, ◌*◌, ◌+◌, ◌<◌, inl, refl, sym, subst, arith, List, length, ◌∙◌, ap}
 use Rattle.std.proofs.lemmas.List.{length-drop, length-take-le}
 use Rattle.capnp_wire.specs.Edits.{with_pointer_tree}
-use Rattle.capnp_wire.specs.Facts.Indexed.{tree_count-from}
+use Rattle.capnp_wire.specs.Facts.Indexed.{tree_count_from}
 use Rattle.capnp_wire.specs.Tree.{tree_count}
 use Rattle.capnp_arena.specs.Built.{LeavesIn, built_at, place_words}
 use Rattle.capnp_arena.specs.Facts.Calls.{one_by_one, parts_one_by_one}
@@ -14,7 +14,7 @@ use Rattle.capnp_arena.specs.declared.arena.Arena.{Arena}
 use Rattle.capnp_arena.specs.declared.arena.Place.{Place}
 
 pub pointers_of : (bytes : List ℕ) (a d p : ℕ) → tree_count (struct_from bytes a d p).pointers ≡ p
-pointers_of bytes a d p = tree_count-from (tree bytes) (a + d) p
+pointers_of bytes a d p = tree_count_from (tree bytes) (a + d) p
 
 pub data_of : (bytes : List ℕ) (a d p : ℕ) → Planted bytes (StructIn a d p) → length (struct_from bytes a d p).bytes ≡ 8 * d
 data_of bytes a d p f = let e = length-drop (8 * a) bytes in length-take-le (8 * d) _ (omega (arith, f.ends, e))

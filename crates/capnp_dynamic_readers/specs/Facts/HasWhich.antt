@@ -12,52 +12,52 @@ use Rattle.capnp_schema.specs.Plan.{member_plan, plan_place, plan_of}
 use Rattle.capnp_schema.specs.Query.{is_member_of, member_of, records_of}
 use Rattle.capnp_schema.specs.Schema.{FieldKind, Group, Schemas, Slot, TypedField, field_at, fields_of, is_member, node_of, Value as SchemaValue}
 use Rattle.capnp_schema.specs.Types.{SchemaType, seen_variant}
-use Rattle.capnp_records.specs.Facts.Frame.{active_among-found, second-of}
-use Rattle.capnp_records.specs.Facts.Members.{counted-from_member, counted-not_zero, once-from_members}
-use Rattle.capnp_records.specs.Facts.PartRead.{found-active, nth-plain_parts}
-use Rattle.capnp_records.specs.Facts.Pointers.{values_of-nth}
-use Rattle.capnp_records.specs.Facts.Readers.{null-is, value-there}
+use Rattle.capnp_records.specs.Facts.Frame.{active_among_found, second_of}
+use Rattle.capnp_records.specs.Facts.Members.{counted_from_member, counted_not_zero, once_from_members}
+use Rattle.capnp_records.specs.Facts.PartRead.{found_active, nth_plain_parts}
+use Rattle.capnp_records.specs.Facts.Pointers.{values_of_nth}
+use Rattle.capnp_records.specs.Facts.Readers.{null_is, value_there}
 use Rattle.capnp_records.specs.Reading.{part_of, Reading, active_among, discriminant, kind_value, non_union_parts, record_within, slot_value, struct_record, union_of, value_of, values_of}
 use Rattle.capnp_records.specs.Record.{Active, Levels, NoUnion, Parts, Union, Value, Values, is_there}
 use Rattle.capnp_records.specs.Part.{active_value, has_of, is_active, is_inactive, nth_value, which_of}
 use Rattle.capnp_dynamic_readers.specs.Planned.{place_there}
 use Rattle.capnp_dynamic_readers.specs.Steps.Planned.{member_there, planned_has}
 
-not-null : (set : Schemas) (x : Tree) (l : Levels) (t : SchemaType) → is_there (value_of set x l t) ≡ not (is_null_tree x)
-not-null set x l t = go (is_null_tree x) refl
+not_null : (set : Schemas) (x : Tree) (l : Levels) (t : SchemaType) → is_there (value_of set x l t) ≡ not (is_null_tree x)
+not_null set x l t = go (is_null_tree x) refl
   where
     go : (q : Bool) → is_null_tree x ≡ q → is_there (value_of set x l t) ≡ not (is_null_tree x)
-    go true h = ap (λ y. is_there (value_of set y l t)) (null-is x h) ∙ sym (ap not h)
-    go false h = value-there set x l t h ∙ sym (ap not h)
+    go true h = ap (λ y. is_there (value_of set y l t)) (null_is x h) ∙ sym (ap not h)
+    go false h = value_there set x l t h ∙ sym (ap not h)
 
 module _ (set : Schemas) (l : Levels) (s : StructTree) where
-  pointer-there : (o : ℕ) (t : SchemaType) (r : Reading) → r ≡ value_of set (nth_tree s.pointers o) → is_there (r l t) ≡ not (is_null_tree (nth_tree s.pointers o))
-  pointer-there o t r e = ap (λ (r : Reading). is_there (r l t)) e ∙ not-null set (nth_tree s.pointers o) l t
+  pointer_there : (o : ℕ) (t : SchemaType) (r : Reading) → r ≡ value_of set (nth_tree s.pointers o) → is_there (r l t) ≡ not (is_null_tree (nth_tree s.pointers o))
+  pointer_there o t r e = ap (λ (r : Reading). is_there (r l t)) e ∙ not_null set (nth_tree s.pointers o) l t
 
-  slot-there : (v : TypeVariant) (o : ℕ) (d : SchemaValue) → is_there (slot_value l s.bytes (values_of set s.pointers) o d (seen_variant v)) ≡ place_there s (plan_place (Slot o d) (seen_variant v))
-  slot-there variant.Void o d = refl
-  slot-there variant.Bool o d = refl
-  slot-there variant.Int8 o d = refl
-  slot-there variant.Int16 o d = refl
-  slot-there variant.Int32 o d = refl
-  slot-there variant.Int64 o d = refl
-  slot-there variant.UInt8 o d = refl
-  slot-there variant.UInt16 o d = refl
-  slot-there variant.UInt32 o d = refl
-  slot-there variant.UInt64 o d = refl
-  slot-there (variant.Enum e) o d = refl
-  slot-there variant.Text o d = pointer-there o _ _ (values_of-nth set s.pointers o)
-  slot-there variant.«Data» o d = pointer-there o _ _ (values_of-nth set s.pointers o)
-  slot-there (variant.Struct x) o d = pointer-there o _ _ (values_of-nth set s.pointers o)
-  slot-there (variant.List x) o d = pointer-there o _ _ (values_of-nth set s.pointers o)
-  slot-there variant.AnyPointer o d = pointer-there o _ _ (values_of-nth set s.pointers o)
+  slot_there : (v : TypeVariant) (o : ℕ) (d : SchemaValue) → is_there (slot_value l s.bytes (values_of set s.pointers) o d (seen_variant v)) ≡ place_there s (plan_place (Slot o d) (seen_variant v))
+  slot_there variant.Void o d = refl
+  slot_there variant.Bool o d = refl
+  slot_there variant.Int8 o d = refl
+  slot_there variant.Int16 o d = refl
+  slot_there variant.Int32 o d = refl
+  slot_there variant.Int64 o d = refl
+  slot_there variant.UInt8 o d = refl
+  slot_there variant.UInt16 o d = refl
+  slot_there variant.UInt32 o d = refl
+  slot_there variant.UInt64 o d = refl
+  slot_there (variant.Enum e) o d = refl
+  slot_there variant.Text o d = pointer_there o _ _ (values_of_nth set s.pointers o)
+  slot_there variant.«Data» o d = pointer_there o _ _ (values_of_nth set s.pointers o)
+  slot_there (variant.Struct x) o d = pointer_there o _ _ (values_of_nth set s.pointers o)
+  slot_there (variant.List x) o d = pointer_there o _ _ (values_of_nth set s.pointers o)
+  slot_there variant.AnyPointer o d = pointer_there o _ _ (values_of_nth set s.pointers o)
 
-  pub part-there : (b i : ℕ) (v : TypeVariant) → seen_variant v ≡ (field_at set b i).type →
+  pub part_there : (b i : ℕ) (v : TypeVariant) → seen_variant v ≡ (field_at set b i).type →
       is_there (part_of set l s.bytes (values_of set s.pointers) (field_at set b i)) ≡ place_there s (plan_place (field_at set b i).field.kind (field_at set b i).type)
-  part-there b i v e = go (field_at set b i).field.kind (field_at set b i).type e
+  part_there b i v e = go (field_at set b i).field.kind (field_at set b i).type e
     where
       go : (k : FieldKind) (t : SchemaType) → seen_variant v ≡ t → is_there (kind_value (record_within (length set.brands) set l s.bytes (values_of set s.pointers)) l s.bytes (values_of set s.pointers) k t) ≡ place_there s (plan_place k t)
-      go (Slot o d) t e = subst (λ t. is_there (slot_value l s.bytes (values_of set s.pointers) o d t) ≡ place_there s (plan_place (Slot o d) t)) e (slot-there v o d)
+      go (Slot o d) t e = subst (λ t. is_there (slot_value l s.bytes (values_of set s.pointers) o d t) ≡ place_there s (plan_place (Slot o d) t)) e (slot_there v o d)
       go (Group n) t e = refl
 
   module _ (accepted : IsAccepted set) (b i : ℕ) (b_in : b < length set.brands) (i_in : i < length (fields_of set b)) where
@@ -74,25 +74,25 @@ module _ (set : Schemas) (l : Levels) (s : StructTree) where
     number = discriminant (node_of set b) s.bytes
 
     -- where a struct has a member, its union is the one of the number that stands there
-    counted-union : is_member f.field ≡ true → union ≡ active_among part (fields_of set b) 0 number
-    counted-union member =
-        second-of ((node_of set b).discriminant_count == 0) _ _ (counted-not_zero _ _ (counted-from_member set accepted b i b_in i_in member))
+    counted_union : is_member f.field ≡ true → union ≡ active_among part (fields_of set b) 0 number
+    counted_union member =
+        second_of ((node_of set b).discriminant_count == 0) _ _ (counted_not_zero _ _ (counted_from_member set accepted b i b_in i_in member))
 
     -- a member whose number stands there is active
-    member-active : is_member f.field ≡ true → (number == f.field.discriminant_value) ≡ true → union ≡ Active i (part f)
-    member-active member is =
-        counted-union member
-        ∙ (active_among-found part (fields_of set b) 0 i number i_in member (sym (eqb-true _ _ is)) (λ j a m n. once-from_members set accepted b i j b_in i_in a m (n ∙ eqb-true _ _ is))
+    member_active : is_member f.field ≡ true → (number == f.field.discriminant_value) ≡ true → union ≡ Active i (part f)
+    member_active member is =
+        counted_union member
+        ∙ (active_among_found part (fields_of set b) 0 i number i_in member (sym (eqb-true _ _ is)) (λ j a m n. once_from_members set accepted b i j b_in i_in a m (n ∙ eqb-true _ _ is))
         ∙ ap (λ n. Active n (part f)) (omega arith))
 
     -- and another isn't
-    member-inactive : is_member f.field ≡ true → (number == f.field.discriminant_value) ≡ false → is_active union i ≡ false
-    member-inactive member is = go (is_active union i) refl
+    member_inactive : is_member f.field ≡ true → (number == f.field.discriminant_value) ≡ false → is_active union i ≡ false
+    member_inactive member is = go (is_active union i) refl
       where
         go : (q : Bool) → is_active union i ≡ q → is_active union i ≡ false
         go false h = h
         go true h =
-            let found = found-active part (fields_of set b) 0 i number (subst (λ n. is_active (active_among part (fields_of set b) 0 number) n ≡ true) (omega arith) (sym (ap (λ u. is_active u i) (counted-union member)) ∙ h)) in
+            let found = found_active part (fields_of set b) 0 i number (subst (λ n. is_active (active_among part (fields_of set b) 0 number) n ≡ true) (omega arith) (sym (ap (λ u. is_active u i) (counted_union member)) ∙ h)) in
             absurd (true≢false (sym (eq-eqb _ _ (sym found.value_is)) ∙ is))
 
     -- whether a field can be read as it stands
@@ -109,12 +109,12 @@ module _ (set : Schemas) (l : Levels) (s : StructTree) where
             at true is =
                 ap (λ q. member_there s.bytes (member_plan q (node_of set b) f.field)) member
                 ∙ (is
-                ∙ (sym (ap (λ q. not (true && not q)) (ap (λ u. is_active u i) (member-active member is) ∙ eq-eqb i i refl))
+                ∙ (sym (ap (λ q. not (true && not q)) (ap (λ u. is_active u i) (member_active member is) ∙ eq-eqb i i refl))
                 ∙ sym (ap (λ q. not (q && not (is_active union i))) member)))
             at false is =
                 ap (λ q. member_there s.bytes (member_plan q (node_of set b) f.field)) member
                 ∙ (is
-                ∙ (sym (ap (λ q. not (true && not q)) (member-inactive member is))
+                ∙ (sym (ap (λ q. not (true && not q)) (member_inactive member is))
                 ∙ sym (ap (λ q. not (q && not (is_active union i))) member)))
 
     pub has_by_plan : (v : TypeVariant) → seen_variant v ≡ (field_at set b i).type →
@@ -125,7 +125,7 @@ module _ (set : Schemas) (l : Levels) (s : StructTree) where
         vs = non_union_parts part (fields_of set b)
 
         there : is_there (part (field_at set b i)) ≡ place_there s (plan_place (field_at set b i).field.kind (field_at set b i).type)
-        there = part-there b i v e
+        there = part_there b i v e
 
         both : Bool → Bool → Value → Value → Bool
         both q active x y = not (q && not active) && is_there (elim q as (λ _. Value) [ true ↦ x | false ↦ y ])
@@ -134,7 +134,7 @@ module _ (set : Schemas) (l : Levels) (s : StructTree) where
         go false plain =
             ap (λ q. member_there s.bytes (member_plan q (node_of set b) f.field) && place_there s (plan_place f.field.kind f.type)) plain
             ∙ (sym there
-            ∙ (sym (ap is_there (nth-plain_parts part (fields_of set b) i i_in plain))
+            ∙ (sym (ap is_there (nth_plain_parts part (fields_of set b) i i_in plain))
             ∙ sym (ap (λ q. both q (is_active union i) (active_value union) (nth_value vs i)) plain)))
         go true member = at (number == f.field.discriminant_value) refl
           where
@@ -144,24 +144,24 @@ module _ (set : Schemas) (l : Levels) (s : StructTree) where
                 ∙ (ap (λ q. q && place_there s (plan_place f.field.kind f.type)) is
                 ∙ (sym there
                 ∙ (sym (ap (λ q. not (true && not q) && is_there (part f)) (eq-eqb i i refl))
-                ∙ (sym (ap (λ u. both true (is_active u i) (active_value u) (nth_value vs i)) (member-active member is))
+                ∙ (sym (ap (λ u. both true (is_active u i) (active_value u) (nth_value vs i)) (member_active member is))
                 ∙ sym (ap (λ q. both q (is_active union i) (active_value union) (nth_value vs i)) member)))))
             at false is =
                 ap (λ q. member_there s.bytes (member_plan q (node_of set b) f.field) && place_there s (plan_place f.field.kind f.type)) member
                 ∙ (ap (λ q. q && place_there s (plan_place f.field.kind f.type)) is
-                ∙ (sym (ap (λ q. both true q (active_value union) (nth_value vs i)) (member-inactive member is))
+                ∙ (sym (ap (λ q. both true q (active_value union) (nth_value vs i)) (member_inactive member is))
                 ∙ sym (ap (λ q. both q (is_active union i) (active_value union) (nth_value vs i)) member)))
 
 -- ---- which ----
 
-lt-suc : (n m : ℕ) → nat_lt (1 + n) (suc m) ≡ nat_lt n m
-lt-suc n m = grind arith
+lt_suc : (n m : ℕ) → nat_lt (1 + n) (suc m) ≡ nat_lt n m
+lt_suc n m = grind arith
 
 pub not_zero : (n : ℕ) → (n ≡ 0 → ⊥) → (n == 0) ≡ false
 not_zero n h = grind (arith, h)
 
-lt-zero : (m : ℕ) → nat_lt 0 (suc m) ≡ true
-lt-zero m = grind arith
+lt_zero : (m : ℕ) → nat_lt 0 (suc m) ≡ true
+lt_zero m = grind arith
 
 pub which_among : (vs : Values) (v : TypedField → Value) (fs : List TypedField) (k d : ℕ) →
     which_of (Parts vs (active_among v fs k d)) ≡ option_map (λ i. k + i) (position (is_member_of d) (map (λ (f : TypedField). f.field) fs))
@@ -180,20 +180,20 @@ which_among vs v (f ∷ fs) k d = go (is_member_of d f.field) (which_among vs v 
 
     go : (q : Bool) → which_of (Parts vs (active_among v fs (suc k) d)) ≡ option_map (λ i. suc k + i) (cond (nat_lt n m) (Some n) None) →
         which_of (Parts vs (elim q as (λ _. Union) [ true ↦ Active k (v f) | false ↦ active_among v fs (suc k) d ])) ≡ option_map (λ i. k + i) (cond (nat_lt (cond (not q) (1 + n) 0) (suc m)) (Some (cond (not q) (1 + n) 0)) None)
-    go true ih = ap Some (omega arith) ∙ sym (ap (λ q. option_map (λ i. k + i) (cond q (Some 0) None)) (lt-zero m))
-    go false ih = ih ∙ (shift (nat_lt n m) ∙ sym (ap (λ q. option_map (λ i. k + i) (cond q (Some (1 + n)) None)) (lt-suc n m)))
+    go true ih = ap Some (omega arith) ∙ sym (ap (λ q. option_map (λ i. k + i) (cond q (Some 0) None)) (lt_zero m))
+    go false ih = ih ∙ (shift (nat_lt n m) ∙ sym (ap (λ q. option_map (λ i. k + i) (cond q (Some (1 + n)) None)) (lt_suc n m)))
 
-from-zero : (o : Option ℕ) → option_map (λ i. 0 + i) o ≡ o
-from-zero None = refl
-from-zero (Some i) = ap Some (omega arith)
+from_zero : (o : Option ℕ) → option_map (λ i. 0 + i) o ≡ o
+from_zero None = refl
+from_zero (Some i) = ap Some (omega arith)
 
 pub which_counted : (set : Schemas) (l : Levels) (s : StructTree) (b d : ℕ) → ((node_of set b).discriminant_count == 0) ≡ false → d ≡ discriminant (node_of set b) s.bytes →
     member_of (records_of set b) d ≡ which_of (struct_record set l s b)
 which_counted set l s b d counted is =
     ap (member_of (records_of set b)) is
-    ∙ (sym (from-zero (member_of (records_of set b) (discriminant (node_of set b) s.bytes)))
+    ∙ (sym (from_zero (member_of (records_of set b) (discriminant (node_of set b) s.bytes)))
     ∙ (sym (which_among (non_union_parts part (fields_of set b)) part (fields_of set b) 0 (discriminant (node_of set b) s.bytes))
-    ∙ ap (λ u. which_of (Parts (non_union_parts part (fields_of set b)) u)) (sym (second-of ((node_of set b).discriminant_count == 0) NoUnion (active_among part (fields_of set b) 0 (discriminant (node_of set b) s.bytes)) counted))))
+    ∙ ap (λ u. which_of (Parts (non_union_parts part (fields_of set b)) u)) (sym (second_of ((node_of set b).discriminant_count == 0) NoUnion (active_among part (fields_of set b) 0 (discriminant (node_of set b) s.bytes)) counted))))
   where
     part : TypedField → Value
     part = part_of set l s.bytes (values_of set s.pointers)

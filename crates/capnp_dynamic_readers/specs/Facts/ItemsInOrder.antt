@@ -13,7 +13,7 @@ use Rattle.capnp_dynamic_readers.specs.Steps.GroupTexts.{item_by, is_item, items
 use Rattle.capnp_dynamic_readers.specs.Handles.{reader_of, schema_of}
 use Rattle.capnp_dynamic_readers.specs.Steps.Shown.{field_item, is_member_shown, member_items, part_seen, record_items, still_pending, union_seen, unless_member, within_struct}
 use Rattle.capnp_dynamic_readers.specs.declared.dynamic_struct.Reader.{Reader as StructHandle}
-use Rattle.capnp_dynamic_readers.specs.Facts.ItemsShown.{IsActivePart, active-part, before_none, before_some, drop-end, drop-next, later_none, later_some, member-at, shown-next, suc-is}
+use Rattle.capnp_dynamic_readers.specs.Facts.ItemsShown.{IsActivePart, active_part, before_none, before_some, drop_end, drop_next, later_none, later_some, member_at, shown_next, suc_is}
 
 -- ---- by index ----
 
@@ -36,11 +36,11 @@ shown_member set inner at (f ∷ fs) j i (MoreValues v vs) xs lt = go (is_member
         ∙ (ap (λ (m : Member). xs ++ own ++ shown set inner at fs (suc j) vs m) (later_some i j xs lt)
         ∙ append_assoc xs own (shown set inner at fs (suc j) vs None))
 
-pub active-same : {i j : ℕ} {v w : Value} → Active i v ≡ Active j w → i ≡ j
-active-same e = cc
+pub active_same : {i j : ℕ} {v w : Value} → Active i v ≡ Active j w → i ≡ j
+active_same e = cc
 
-pub no-active : {i : ℕ} {v : Value} → NoUnion ≡ Active i v → ⊥
-no-active e = cc
+pub no_active : {i : ℕ} {v : Value} → NoUnion ≡ Active i v → ⊥
+no_active e = cc
 
 -- the active member is one of the fields, and a member
 pub record IsMemberAt (fs : List TypedField) (k j : ℕ) : Type 0 where
@@ -49,18 +49,18 @@ pub record IsMemberAt (fs : List TypedField) (k j : ℕ) : Type 0 where
   pub inside : at < length fs
   pub member : is_member (unwrap_or (slice_get fs at) no_field).field ≡ true
 
-pub unknown-active : {d i : ℕ} {v : Value} → Unknown d ≡ Active i v → ⊥
-unknown-active e = cc
+pub unknown_active : {d i : ℕ} {v : Value} → Unknown d ≡ Active i v → ⊥
+unknown_active e = cc
 
-pub member-found : (v : TypedField → Value) (fs : List TypedField) (k d j : ℕ) (w : Value) → active_among v fs k d ≡ Active j w → IsMemberAt fs k j
-member-found v [] k d j w e = absurd (unknown-active e)
-member-found v (f ∷ fs) k d j w e = go (is_member f.field && (f.field.discriminant_value == d)) refl e (member-found v fs (suc k) d j w)
+pub member_found : (v : TypedField → Value) (fs : List TypedField) (k d j : ℕ) (w : Value) → active_among v fs k d ≡ Active j w → IsMemberAt fs k j
+member_found v [] k d j w e = absurd (unknown_active e)
+member_found v (f ∷ fs) k d j w e = go (is_member f.field && (f.field.discriminant_value == d)) refl e (member_found v fs (suc k) d j w)
   where
     go : (q : Bool) → (is_member f.field && (f.field.discriminant_value == d)) ≡ q → (elim q as (λ _. Union) [ true ↦ Active k (v f) | false ↦ active_among v fs (suc k) d ]) ≡ Active j w →
         (active_among v fs (suc k) d ≡ Active j w → IsMemberAt fs (suc k) j) → IsMemberAt (f ∷ fs) k j
     go true is e later = record {
       at = 0;
-      index = (let same = active-same e in omega (arith, same));
+      index = (let same = active_same e in omega (arith, same));
       inside = omega arith;
       member = (and_parts (is_member f.field) (f.field.discriminant_value == d) is).0;
     }
@@ -74,14 +74,14 @@ member-found v (f ∷ fs) k d j w e = go (is_member f.field && (f.field.discrimi
         }
 
 -- before, at, and behind
-pub by-order : {P : Type 0} (j i : ℕ) → (j < i → P) → (j ≡ i → P) → (i < j → P) → P
-by-order zero zero l e g = e refl
-by-order zero (suc i) l e g = l (omega arith)
-by-order (suc j) zero l e g = g (omega arith)
-by-order (suc j) (suc i) l e g = by-order j i (λ h. l (omega (arith, h))) (λ h. e (ap suc h)) (λ h. g (omega (arith, h)))
+pub by_order : {P : Type 0} (j i : ℕ) → (j < i → P) → (j ≡ i → P) → (i < j → P) → P
+by_order zero zero l e g = e refl
+by_order zero (suc i) l e g = l (omega arith)
+by_order (suc j) zero l e g = g (omega arith)
+by_order (suc j) (suc i) l e g = by_order j i (λ h. l (omega (arith, h))) (λ h. e (ap suc h)) (λ h. g (omega (arith, h)))
 
-pub eq-not : (i j : ℕ) → (i ≡ j → ⊥) → (i == j) ≡ false
-eq-not i j h = grind (arith, h)
+pub eq_not : (i j : ℕ) → (i ≡ j → ⊥) → (i == j) ≡ false
+eq_not i j h = grind (arith, h)
 
 -- the item of a field, where it has one
 abbrev pub own_items : ℕ → Layout → StructHandle → ℕ → List Out
@@ -91,105 +91,105 @@ abbrev pub from_here : ℕ → Layout → StructHandle → ℕ → List Out
 from_here left at h i = items_from left (set_of (schema_of h)) (reader_of h) at (number_of (schema_of h)) i
 
 module _ (left : ℕ) (at : Layout) (h : StructHandle) where
-  abbrev member-seen : Union → Member
-  member-seen u = member (set_of (schema_of h)) (within_struct left h) at (number_of (schema_of h)) u
+  abbrev member_seen : Union → Member
+  member_seen u = member (set_of (schema_of h)) (within_struct left h) at (number_of (schema_of h)) u
 
-  abbrev rest-shown : ℕ → ℕ → Member → List Out
-  rest-shown i j m = shown (set_of (schema_of h)) (within_struct left h) at (drop (i + 1) (struct_fields (schema_of h))) j (non_union_parts (part_seen h) (drop (i + 1) (struct_fields (schema_of h)))) m
+  abbrev rest_shown : ℕ → ℕ → Member → List Out
+  rest_shown i j m = shown (set_of (schema_of h)) (within_struct left h) at (drop (i + 1) (struct_fields (schema_of h))) j (non_union_parts (part_seen h) (drop (i + 1) (struct_fields (schema_of h)))) m
 
   abbrev IsMemberIndex : Union → Type 0
   IsMemberIndex u = (j : ℕ) (v : Value) → u ≡ Active j v → IsMemberAt (struct_fields (schema_of h)) 0 j
 
-  seen-member : IsMemberIndex (union_seen h)
-  seen-member j v e = go ((node_of (set_of (schema_of h)) (number_of (schema_of h))).discriminant_count == 0) e
+  seen_member : IsMemberIndex (union_seen h)
+  seen_member j v e = go ((node_of (set_of (schema_of h)) (number_of (schema_of h))).discriminant_count == 0) e
     where
       d : ℕ
       d = discriminant (node_of (set_of (schema_of h)) (number_of (schema_of h))) (struct_of (reader_of h)).bytes
 
       go : (q : Bool) → (elim q as (λ _. Union) [ true ↦ NoUnion | false ↦ active_among (part_seen h) (struct_fields (schema_of h)) 0 (discriminant (node_of (set_of (schema_of h)) (number_of (schema_of h))) (struct_of (reader_of h)).bytes) ]) ≡ Active j v → IsMemberAt (struct_fields (schema_of h)) 0 j
-      go true e = absurd (no-active e)
-      go false e = member-found (part_seen h) (struct_fields (schema_of h)) 0 d j v e
+      go true e = absurd (no_active e)
+      go false e = member_found (part_seen h) (struct_fields (schema_of h)) 0 d j v e
 
   -- the items of a field in the definition's order, and then those of the fields after it
   abbrev ItemsAt : ℕ → TypedField → Bool → Union → Type 0
   ItemsAt i f q u =
-      unless_member q (before (later (member-seen u) i) i ++ item_if (is_there (part_seen h f)) (field_item left at h f)) ++ rest-shown i (suc i) (still_pending q (later (member-seen u) i) i)
-      ≡ item_if (item_by q (is_active u i) (is_member_shown h f) (is_there (part_seen h f))) (field_item left at h f) ++ rest-shown i (i + 1) (later (member-seen u) (i + 1))
+      unless_member q (before (later (member_seen u) i) i ++ item_if (is_there (part_seen h f)) (field_item left at h f)) ++ rest_shown i (suc i) (still_pending q (later (member_seen u) i) i)
+      ≡ item_if (item_by q (is_active u i) (is_member_shown h f) (is_there (part_seen h f))) (field_item left at h f) ++ rest_shown i (i + 1) (later (member_seen u) (i + 1))
 
-  no-member : (i : ℕ) (f : TypedField) (q : Bool) →
-      unless_member q (before None i ++ item_if (is_there (part_seen h f)) (field_item left at h f)) ++ rest-shown i (suc i) (still_pending q None i)
-      ≡ item_if (item_by q false (is_member_shown h f) (is_there (part_seen h f))) (field_item left at h f) ++ rest-shown i (i + 1) None
-  no-member i f true = ap (λ (k : ℕ). rest-shown i k None) (suc-is i)
-  no-member i f false = ap (λ (k : ℕ). item_if (is_there (part_seen h f)) (field_item left at h f) ++ rest-shown i k None) (suc-is i)
+  no_member : (i : ℕ) (f : TypedField) (q : Bool) →
+      unless_member q (before None i ++ item_if (is_there (part_seen h f)) (field_item left at h f)) ++ rest_shown i (suc i) (still_pending q None i)
+      ≡ item_if (item_by q false (is_member_shown h f) (is_there (part_seen h f))) (field_item left at h f) ++ rest_shown i (i + 1) None
+  no_member i f true = ap (λ (k : ℕ). rest_shown i k None) (suc_is i)
+  no_member i f false = ap (λ (k : ℕ). item_if (is_there (part_seen h f)) (field_item left at h f) ++ rest_shown i k None) (suc_is i)
 
   -- a member that is still to come
-  member-later : (i j : ℕ) (f : TypedField) (xs : List Out) (q : Bool) → i < j →
-      unless_member q (before (Some (j, xs)) i ++ item_if (is_there (part_seen h f)) (field_item left at h f)) ++ rest-shown i (suc i) (still_pending q (Some (j, xs)) i)
-      ≡ item_if (item_by q false (is_member_shown h f) (is_there (part_seen h f))) (field_item left at h f) ++ rest-shown i (i + 1) (Some (j, xs))
-  member-later i j f xs true lt = ap (λ (k : ℕ). rest-shown i k (Some (j, xs))) (suc-is i)
-  member-later i j f xs false lt =
-      ap (λ (ys : List Out). (ys ++ item_if (is_there (part_seen h f)) (field_item left at h f)) ++ rest-shown i (suc i) (later (Some (j, xs)) i)) (before_none j i xs (omega (arith, lt)))
-      ∙ (ap (λ (m : Member). item_if (is_there (part_seen h f)) (field_item left at h f) ++ rest-shown i (suc i) m) (later_none j i xs (omega (arith, lt)))
-      ∙ ap (λ (k : ℕ). item_if (is_there (part_seen h f)) (field_item left at h f) ++ rest-shown i k (Some (j, xs))) (suc-is i))
+  member_later : (i j : ℕ) (f : TypedField) (xs : List Out) (q : Bool) → i < j →
+      unless_member q (before (Some (j, xs)) i ++ item_if (is_there (part_seen h f)) (field_item left at h f)) ++ rest_shown i (suc i) (still_pending q (Some (j, xs)) i)
+      ≡ item_if (item_by q false (is_member_shown h f) (is_there (part_seen h f))) (field_item left at h f) ++ rest_shown i (i + 1) (Some (j, xs))
+  member_later i j f xs true lt = ap (λ (k : ℕ). rest_shown i k (Some (j, xs))) (suc_is i)
+  member_later i j f xs false lt =
+      ap (λ (ys : List Out). (ys ++ item_if (is_there (part_seen h f)) (field_item left at h f)) ++ rest_shown i (suc i) (later (Some (j, xs)) i)) (before_none j i xs (omega (arith, lt)))
+      ∙ (ap (λ (m : Member). item_if (is_there (part_seen h f)) (field_item left at h f) ++ rest_shown i (suc i) m) (later_none j i xs (omega (arith, lt)))
+      ∙ ap (λ (k : ℕ). item_if (is_there (part_seen h f)) (field_item left at h f) ++ rest_shown i k (Some (j, xs))) (suc_is i))
 
   -- whether the active member is the field
-  abbrev items-by : ℕ → TypedField → Bool → Bool → Member → Member → Type 0
-  items-by i f q active m next =
-      unless_member q (before m i ++ item_if (is_there (part_seen h f)) (field_item left at h f)) ++ rest-shown i (suc i) (still_pending q m i)
-      ≡ item_if (item_by q active (is_member_shown h f) (is_there (part_seen h f))) (field_item left at h f) ++ rest-shown i (i + 1) next
+  abbrev items_by : ℕ → TypedField → Bool → Bool → Member → Member → Type 0
+  items_by i f q active m next =
+      unless_member q (before m i ++ item_if (is_there (part_seen h f)) (field_item left at h f)) ++ rest_shown i (suc i) (still_pending q m i)
+      ≡ item_if (item_by q active (is_member_shown h f) (is_there (part_seen h f))) (field_item left at h f) ++ rest_shown i (i + 1) next
 
-  carried : (i : ℕ) (f : TypedField) (q a b : Bool) (m m' next next' : Member) → a ≡ b → m ≡ m' → next ≡ next' → items-by i f q b m' next' → items-by i f q a m next
+  carried : (i : ℕ) (f : TypedField) (q a b : Bool) (m m' next next' : Member) → a ≡ b → m ≡ m' → next ≡ next' → items_by i f q b m' next' → items_by i f q a m next
   carried i f q a b m m' next next' ea em en h =
-      subst (λ (z : Bool). items-by i f q z m next) (sym ea) (subst (λ (z : Member). items-by i f q b z next) (sym em) (subst (λ (z : Member). items-by i f q b m' z) (sym en) h))
+      subst (λ (z : Bool). items_by i f q z m next) (sym ea) (subst (λ (z : Member). items_by i f q b z next) (sym em) (subst (λ (z : Member). items_by i f q b m' z) (sym en) h))
 
-  own-member : (i : ℕ) (f : TypedField) (xs : List Out) → xs ≡ item_if (is_member_shown h f) (field_item left at h f) →
-      items-by i f true true (Some (i, xs)) None
-  own-member i f xs e =
+  own_member : (i : ℕ) (f : TypedField) (xs : List Out) → xs ≡ item_if (is_member_shown h f) (field_item left at h f) →
+      items_by i f true true (Some (i, xs)) None
+  own_member i f xs e =
       shown_member (set_of (schema_of h)) (within_struct left h) at (drop (i + 1) (struct_fields (schema_of h))) (suc i) i (non_union_parts (part_seen h) (drop (i + 1) (struct_fields (schema_of h)))) xs (omega arith)
-      ∙ (ap (λ (ys : List Out). ys ++ rest-shown i (suc i) None) e
-      ∙ ap (λ (k : ℕ). item_if (is_member_shown h f) (field_item left at h f) ++ rest-shown i k None) (suc-is i))
+      ∙ (ap (λ (ys : List Out). ys ++ rest_shown i (suc i) None) e
+      ∙ ap (λ (k : ℕ). item_if (is_member_shown h f) (field_item left at h f) ++ rest_shown i k None) (suc_is i))
 
-  some-member : (i j : ℕ) (q : Bool) → is_member (struct_field (schema_of h) i).field ≡ q → (xs : List Out) → xs ≡ member_items left at h (struct_field (schema_of h) j) →
+  some_member : (i j : ℕ) (q : Bool) → is_member (struct_field (schema_of h) i).field ≡ q → (xs : List Out) → xs ≡ member_items left at h (struct_field (schema_of h) j) →
       is_member (struct_field (schema_of h) j).field ≡ true →
-      items-by i (struct_field (schema_of h) i) q (i == j) (later (Some (j, xs)) i) (later (Some (j, xs)) (i + 1))
-  some-member i j q is xs e member = by-order j i
+      items_by i (struct_field (schema_of h) i) q (i == j) (later (Some (j, xs)) i) (later (Some (j, xs)) (i + 1))
+  some_member i j q is xs e member = by_order j i
       (λ lt. carried i (struct_field (schema_of h) i) q (i == j) false (later (Some (j, xs)) i) None (later (Some (j, xs)) (i + 1)) None
-      (eq-not i j (λ k. omega (arith, lt, k))) (later_some j i xs lt) (later_some j (i + 1) xs (omega (arith, lt))) (no-member i (struct_field (schema_of h) i) q))
+      (eq_not i j (λ k. omega (arith, lt, k))) (later_some j i xs lt) (later_some j (i + 1) xs (omega (arith, lt))) (no_member i (struct_field (schema_of h) i) q))
       (λ k. here q is k)
       (λ lt. carried i (struct_field (schema_of h) i) q (i == j) false (later (Some (j, xs)) i) (Some (j, xs)) (later (Some (j, xs)) (i + 1)) (Some (j, xs))
-      (eq-not i j (λ k. omega (arith, lt, k))) (later_none j i xs (omega (arith, lt))) (later_none j (i + 1) xs (omega (arith, lt))) (member-later i j (struct_field (schema_of h) i) xs q lt))
+      (eq_not i j (λ k. omega (arith, lt, k))) (later_none j i xs (omega (arith, lt))) (later_none j (i + 1) xs (omega (arith, lt))) (member_later i j (struct_field (schema_of h) i) xs q lt))
     where
-      true-false : true ≡ false → ⊥
-      true-false e = cc
+      true_false : true ≡ false → ⊥
+      true_false e = cc
 
-      here : (q : Bool) → is_member (struct_field (schema_of h) i).field ≡ q → j ≡ i → items-by i (struct_field (schema_of h) i) q (i == j) (later (Some (j, xs)) i) (later (Some (j, xs)) (i + 1))
-      here false is k = absurd (true-false (sym member ∙ (ap (λ (n : ℕ). is_member (struct_field (schema_of h) n).field) k ∙ is)))
+      here : (q : Bool) → is_member (struct_field (schema_of h) i).field ≡ q → j ≡ i → items_by i (struct_field (schema_of h) i) q (i == j) (later (Some (j, xs)) i) (later (Some (j, xs)) (i + 1))
+      here false is k = absurd (true_false (sym member ∙ (ap (λ (n : ℕ). is_member (struct_field (schema_of h) n).field) k ∙ is)))
       here true is k = carried i (struct_field (schema_of h) i) true (i == j) true (later (Some (j, xs)) i) (Some (i, xs)) (later (Some (j, xs)) (i + 1)) None
           (eq-eqb i j (sym k)) (later_none j i xs (omega (arith, k)) ∙ ap (λ (n : ℕ). Some (n, xs)) k) (later_some j (i + 1) xs (omega (arith, k)))
-          (own-member i (struct_field (schema_of h) i) xs (e ∙ ap (λ (n : ℕ). member_items left at h (struct_field (schema_of h) n)) k))
+          (own_member i (struct_field (schema_of h) i) xs (e ∙ ap (λ (n : ℕ). member_items left at h (struct_field (schema_of h) n)) k))
 
-  by-union : (i : ℕ) (q : Bool) → is_member (struct_field (schema_of h) i).field ≡ q → (u : Union) → IsActivePart h u → IsMemberIndex u → ItemsAt i (struct_field (schema_of h) i) q u
-  by-union i q is NoUnion part index = no-member i (struct_field (schema_of h) i) q
-  by-union i q is (Unknown d) part index = no-member i (struct_field (schema_of h) i) q
-  by-union i q is (Active j v) part index =
+  by_union : (i : ℕ) (q : Bool) → is_member (struct_field (schema_of h) i).field ≡ q → (u : Union) → IsActivePart h u → IsMemberIndex u → ItemsAt i (struct_field (schema_of h) i) q u
+  by_union i q is NoUnion part index = no_member i (struct_field (schema_of h) i) q
+  by_union i q is (Unknown d) part index = no_member i (struct_field (schema_of h) i) q
+  by_union i q is (Active j v) part index =
       let found = index j v refl in
       let same : found.at ≡ j = (let e = found.index in omega (arith, e)) in
-      some-member i j q is _ (member-at left at h j v (part_seen h (struct_field (schema_of h) j)) (part j v refl))
+      some_member i j q is _ (member_at left at h j v (part_seen h (struct_field (schema_of h) j)) (part j v refl))
       (subst (λ (n : ℕ). is_member (struct_field (schema_of h) n).field ≡ true) same found.member)
 
   pub from_next : (i : ℕ) → i < length (struct_fields (schema_of h)) → from_here left at h i ≡ own_items left at h i ++ from_here left at h (i + 1)
   from_next i lt =
-      ap (λ (fs : List TypedField). shown (set_of (schema_of h)) (within_struct left h) at fs i (non_union_parts (part_seen h) fs) (later (member-seen (union_seen h)) i)) (drop-next (struct_fields (schema_of h)) i lt)
-      ∙ (shown-next left at h (struct_field (schema_of h) i) (drop (i + 1) (struct_fields (schema_of h))) i (later (member-seen (union_seen h)) i)
-      ∙ by-union i (is_member (struct_field (schema_of h) i).field) refl (union_seen h) (active-part h) seen-member)
+      ap (λ (fs : List TypedField). shown (set_of (schema_of h)) (within_struct left h) at fs i (non_union_parts (part_seen h) fs) (later (member_seen (union_seen h)) i)) (drop_next (struct_fields (schema_of h)) i lt)
+      ∙ (shown_next left at h (struct_field (schema_of h) i) (drop (i + 1) (struct_fields (schema_of h))) i (later (member_seen (union_seen h)) i)
+      ∙ by_union i (is_member (struct_field (schema_of h) i).field) refl (union_seen h) (active_part h) seen_member)
 
   -- past the last field nothing is left
   pub from_end : (i : ℕ) → length (struct_fields (schema_of h)) ≤ i → from_here left at h i ≡ []
   from_end i le =
-      ap (λ (fs : List TypedField). shown (set_of (schema_of h)) (within_struct left h) at fs i (non_union_parts (part_seen h) fs) (later (member-seen (union_seen h)) i)) (drop-end (struct_fields (schema_of h)) i le)
-      ∙ go (union_seen h) seen-member
+      ap (λ (fs : List TypedField). shown (set_of (schema_of h)) (within_struct left h) at fs i (non_union_parts (part_seen h) fs) (later (member_seen (union_seen h)) i)) (drop_end (struct_fields (schema_of h)) i le)
+      ∙ go (union_seen h) seen_member
     where
-      go : (u : Union) → IsMemberIndex u → member_rest (later (member-seen u) i) ≡ []
+      go : (u : Union) → IsMemberIndex u → member_rest (later (member_seen u) i) ≡ []
       go NoUnion index = refl
       go (Unknown d) index = refl
       go (Active j v) index =
@@ -198,7 +198,7 @@ module _ (left : ℕ) (at : Layout) (h : StructHandle) where
           ap member_rest (later_some j i _ lt)
 
   pub from_start : from_here left at h 0 ≡ record_items left at h
-  from_start = ap (λ (m : Member). shown (set_of (schema_of h)) (within_struct left h) at (struct_fields (schema_of h)) 0 (non_union_parts (part_seen h) (struct_fields (schema_of h))) m) (go (member-seen (union_seen h)))
+  from_start = ap (λ (m : Member). shown (set_of (schema_of h)) (within_struct left h) at (struct_fields (schema_of h)) 0 (non_union_parts (part_seen h) (struct_fields (schema_of h))) m) (go (member_seen (union_seen h)))
     where
       go : (m : Member) → later m 0 ≡ m
       go None = refl

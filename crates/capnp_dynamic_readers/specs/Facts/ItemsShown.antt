@@ -7,8 +7,8 @@ use Rattle.capnp_schema.specs.Schema.{Field as FieldRecord, Schemas, TypedField,
 use Rattle.capnp_schema.specs.StructHandles.{number_of, set_of, struct_field, struct_fields}
 use Rattle.capnp_schema.specs.declared.schema.fields.Field.{Field}
 use Rattle.capnp_schema.specs.declared.schema.structs.StructSchema.{StructSchema}
-use Rattle.capnp_records.specs.Facts.Frame.{first-of, second-of}
-use Rattle.capnp_records.specs.Facts.PartRead.{found-active, nth-plain_parts}
+use Rattle.capnp_records.specs.Facts.Frame.{chosen_first, second_of}
+use Rattle.capnp_records.specs.Facts.PartRead.{found_active, nth_plain_parts}
 use Rattle.capnp_records.specs.Part.{active_value, has_of, is_active, nth_value, which_of}
 use Rattle.capnp_records.specs.Reading.{active_among, discriminant, non_union_parts}
 use Rattle.capnp_records.specs.Record as value
@@ -30,18 +30,18 @@ belongs s i f h = record { set = ap set_of h.schema; number = ap number_of h.sch
 
 -- ---- the active member ----
 
-pub some-same : {i j : ℕ} → Some i ≡ Some j → i ≡ j
-some-same e = cc
+pub some_same : {i j : ℕ} → Some i ≡ Some j → i ≡ j
+some_same e = cc
 
-no-active : {i : ℕ} {v : Value} → NoUnion ≡ Active i v → ⊥
-no-active e = cc
+no_active : {i : ℕ} {v : Value} → NoUnion ≡ Active i v → ⊥
+no_active e = cc
 
 -- what the active member has is the field's part
 abbrev pub IsActivePart : StructHandle → Union → Type 0
 IsActivePart r u = (i : ℕ) (v : Value) → u ≡ Active i v → v ≡ part_seen r (struct_field (schema_of r) i)
 
-pub active-part : (r : StructHandle) → IsActivePart r (union_seen r)
-active-part r i v e = go ((node_of (set_of (schema_of r)) (number_of (schema_of r))).discriminant_count == 0) refl e
+pub active_part : (r : StructHandle) → IsActivePart r (union_seen r)
+active_part r i v e = go ((node_of (set_of (schema_of r)) (number_of (schema_of r))).discriminant_count == 0) refl e
   where
     fs : List TypedField
     fs = struct_fields (schema_of r)
@@ -53,17 +53,17 @@ active-part r i v e = go ((node_of (set_of (schema_of r)) (number_of (schema_of 
     u = active_among (part_seen r) (struct_fields (schema_of r)) 0 (discriminant (node_of (set_of (schema_of r)) (number_of (schema_of r))) (struct_of (reader_of r)).bytes)
 
     go : (q : Bool) → ((node_of (set_of (schema_of r)) (number_of (schema_of r))).discriminant_count == 0) ≡ q → (elim q as (λ _. Union) [ true ↦ NoUnion | false ↦ u ]) ≡ Active i v → v ≡ part_seen r (struct_field (schema_of r) i)
-    go true is e = absurd (no-active e)
+    go true is e = absurd (no_active e)
     go false is e =
-        let found = found-active (part_seen r) (struct_fields (schema_of r)) 0 i (discriminant (node_of (set_of (schema_of r)) (number_of (schema_of r))) (struct_of (reader_of r)).bytes)
+        let found = found_active (part_seen r) (struct_fields (schema_of r)) 0 i (discriminant (node_of (set_of (schema_of r)) (number_of (schema_of r))) (struct_of (reader_of r)).bytes)
         (subst (λ n. is_active u n ≡ true) (omega arith) (ap (λ (w : Union). is_active w i) e ∙ eq-eqb i i refl)) in
         sym (ap active_value e) ∙ found.part_is
 
 module _ (left : ℕ) (at : Layout) (r : StructHandle) where
-  pub member-at : (i : ℕ) (v w : Value) → v ≡ w →
+  pub member_at : (i : ℕ) (v w : Value) → v ≡ w →
       item_if (is_there v || not ((struct_field (schema_of r) i).field.discriminant_value == 0)) (item (struct_field (schema_of r) i) (part_text (set_of (schema_of r)) (within_struct left r) at (default_of (struct_field (schema_of r) i).field) (struct_field (schema_of r) i).type v))
       ≡ item_if (is_there w || not ((struct_field (schema_of r) i).field.discriminant_value == 0)) (item (struct_field (schema_of r) i) (part_text (set_of (schema_of r)) (within_struct left r) at (default_of (struct_field (schema_of r) i).field) (struct_field (schema_of r) i).type w))
-  member-at i v w e = ap (λ (z : Value). item_if (is_there z || not ((struct_field (schema_of r) i).field.discriminant_value == 0)) (item (struct_field (schema_of r) i) (part_text (set_of (schema_of r)) (within_struct left r) at (default_of (struct_field (schema_of r) i).field) (struct_field (schema_of r) i).type z))) e
+  member_at i v w e = ap (λ (z : Value). item_if (is_there z || not ((struct_field (schema_of r) i).field.discriminant_value == 0)) (item (struct_field (schema_of r) i) (part_text (set_of (schema_of r)) (within_struct left r) at (default_of (struct_field (schema_of r) i).field) (struct_field (schema_of r) i).type z))) e
 
 -- ---- whether a field is there ----
 
@@ -71,17 +71,17 @@ pub plain_has : (r : StructHandle) (i : ℕ) → i < length (struct_fields (sche
     has_of (record_seen r) (struct_field (schema_of r) i).field i ≡ is_there (part_seen r (struct_field (schema_of r) i))
 plain_has r i h plain =
     ap (λ q. not (q && not (is_active (union_seen r) i)) && is_there (elim q as (λ _. Value) [ true ↦ active_value (union_seen r) | false ↦ nth_value (non_union_parts (part_seen r) (struct_fields (schema_of r))) i ])) plain
-    ∙ ap is_there (nth-plain_parts (part_seen r) (struct_fields (schema_of r)) i h plain)
+    ∙ ap is_there (nth_plain_parts (part_seen r) (struct_fields (schema_of r)) i h plain)
 
 pub member_has : (r : StructHandle) (i : ℕ) → i < length (struct_fields (schema_of r)) → which_of (record_seen r) ≡ Some i →
     has_of (record_seen r) (struct_field (schema_of r) i).field i ≡ is_there (part_seen r (struct_field (schema_of r) i))
-member_has r i h w = go (union_seen r) (active-part r) w (is_member (struct_field (schema_of r) i).field) refl
+member_has r i h w = go (union_seen r) (active_part r) w (is_member (struct_field (schema_of r) i).field) refl
   where
     vs : Values
     vs = non_union_parts (part_seen r) (struct_fields (schema_of r))
 
-    none-some : {j : ℕ} → None ≡ Some j → ⊥
-    none-some e = cc
+    none_some : {j : ℕ} → None ≡ Some j → ⊥
+    none_some e = cc
 
     here : (q : Bool) (j : ℕ) → j ≡ i → not (q && not (i == j)) ≡ true
     here true j e = ap (λ q. not (not q)) (eq-eqb i j (sym e))
@@ -89,44 +89,44 @@ member_has r i h w = go (union_seen r) (active-part r) w (is_member (struct_fiel
 
     go : (u : Union) → IsActivePart r u → which_of (Parts (non_union_parts (part_seen r) (struct_fields (schema_of r))) u) ≡ Some i → (q : Bool) → is_member (struct_field (schema_of r) i).field ≡ q →
         (not (is_member (struct_field (schema_of r) i).field && not (is_active u i)) && is_there (elim (is_member (struct_field (schema_of r) i).field) as (λ _. Value) [ true ↦ active_value u | false ↦ nth_value (non_union_parts (part_seen r) (struct_fields (schema_of r))) i ])) ≡ is_there (part_seen r (struct_field (schema_of r) i))
-    go NoUnion a w q e = absurd (none-some w)
-    go (Unknown n) a w q e = absurd (none-some w)
+    go NoUnion a w q e = absurd (none_some w)
+    go (Unknown n) a w q e = absurd (none_some w)
     go (Active j v) a w true e =
-        ap (λ q. q && is_there (elim (is_member (struct_field (schema_of r) i).field) as (λ _. Value) [ true ↦ v | false ↦ nth_value (non_union_parts (part_seen r) (struct_fields (schema_of r))) i ])) (here (is_member (struct_field (schema_of r) i).field) j (some-same w))
-        ∙ (ap is_there (first-of (is_member (struct_field (schema_of r) i).field) v _ e)
-        ∙ (ap is_there (a j v refl) ∙ ap (λ k. is_there (part_seen r (struct_field (schema_of r) k))) (some-same w)))
+        ap (λ q. q && is_there (elim (is_member (struct_field (schema_of r) i).field) as (λ _. Value) [ true ↦ v | false ↦ nth_value (non_union_parts (part_seen r) (struct_fields (schema_of r))) i ])) (here (is_member (struct_field (schema_of r) i).field) j (some_same w))
+        ∙ (ap is_there (chosen_first (is_member (struct_field (schema_of r) i).field) v _ e)
+        ∙ (ap is_there (a j v refl) ∙ ap (λ k. is_there (part_seen r (struct_field (schema_of r) k))) (some_same w)))
     go (Active j v) a w false e =
-        ap (λ q. q && is_there (elim (is_member (struct_field (schema_of r) i).field) as (λ _. Value) [ true ↦ v | false ↦ nth_value (non_union_parts (part_seen r) (struct_fields (schema_of r))) i ])) (here (is_member (struct_field (schema_of r) i).field) j (some-same w))
-        ∙ (ap is_there (second-of (is_member (struct_field (schema_of r) i).field) v _ e)
-        ∙ ap is_there (nth-plain_parts (part_seen r) (struct_fields (schema_of r)) i h e))
+        ap (λ q. q && is_there (elim (is_member (struct_field (schema_of r) i).field) as (λ _. Value) [ true ↦ v | false ↦ nth_value (non_union_parts (part_seen r) (struct_fields (schema_of r))) i ])) (here (is_member (struct_field (schema_of r) i).field) j (some_same w))
+        ∙ (ap is_there (second_of (is_member (struct_field (schema_of r) i).field) v _ e)
+        ∙ ap is_there (nth_plain_parts (part_seen r) (struct_fields (schema_of r)) i h e))
 
 -- ---- from field to field ----
 
-pub drop-next : (fs : List TypedField) (i : ℕ) → i < length fs → drop i fs ≡ unwrap_or (slice_get fs i) no_field ∷ drop (i + 1) fs
-drop-next [] i h = absurd (omega (arith, h))
-drop-next (f ∷ fs) zero h = refl
-drop-next (f ∷ fs) (suc i) h =
+pub drop_next : (fs : List TypedField) (i : ℕ) → i < length fs → drop i fs ≡ unwrap_or (slice_get fs i) no_field ∷ drop (i + 1) fs
+drop_next [] i h = absurd (omega (arith, h))
+drop_next (f ∷ fs) zero h = refl
+drop_next (f ∷ fs) (suc i) h =
     let e : suc i + 1 ≡ suc (i + 1) = omega arith in
-    drop-next fs i (omega (arith, h)) ∙ ap (λ n. unwrap_or (slice_get fs i) no_field ∷ drop n (f ∷ fs)) (sym e)
+    drop_next fs i (omega (arith, h)) ∙ ap (λ n. unwrap_or (slice_get fs i) no_field ∷ drop n (f ∷ fs)) (sym e)
 
-pub drop-end : (fs : List TypedField) (i : ℕ) → length fs ≤ i → drop i fs ≡ []
-drop-end [] zero h = refl
-drop-end [] (suc i) h = refl
-drop-end (f ∷ fs) zero h = absurd (omega (arith, h))
-drop-end (f ∷ fs) (suc i) h = drop-end fs i (omega (arith, h))
+pub drop_end : (fs : List TypedField) (i : ℕ) → length fs ≤ i → drop i fs ≡ []
+drop_end [] zero h = refl
+drop_end [] (suc i) h = refl
+drop_end (f ∷ fs) zero h = absurd (omega (arith, h))
+drop_end (f ∷ fs) (suc i) h = drop_end fs i (omega (arith, h))
 
-pub suc-is : (i : ℕ) → suc i ≡ i + 1
-suc-is i = omega arith
+pub suc_is : (i : ℕ) → suc i ≡ i + 1
+suc_is i = omega arith
 
 module _ (left : ℕ) (at : Layout) (r : StructHandle) where
   set : Schemas
   set = set_of (schema_of r)
 
   -- what is shown of a field, and then of those after it
-  pub shown-next : (f : TypedField) (fs : List TypedField) (i : ℕ) (m : Member) →
+  pub shown_next : (f : TypedField) (fs : List TypedField) (i : ℕ) (m : Member) →
       shown (set_of (schema_of r)) (within_struct left r) at (f ∷ fs) i (non_union_parts (part_seen r) (f ∷ fs)) m
       ≡ field_items left at r f i m ++ shown (set_of (schema_of r)) (within_struct left r) at fs (suc i) (non_union_parts (part_seen r) fs) (still_pending (is_member f.field) m i)
-  shown-next f fs i m = go (is_member f.field)
+  shown_next f fs i m = go (is_member f.field)
     where
       go : (q : Bool) →
           (elim q as (λ _. List Out) [
@@ -141,28 +141,28 @@ module _ (left : ℕ) (at : Layout) (r : StructHandle) where
 -- ---- the member before a non-union field ----
 
 pub before_some : (i j : ℕ) (xs : List Out) → i < j → before (Some (i, xs)) j ≡ xs
-before_some i j xs h = ap (λ q. cond q xs []) (lt-true i j h)
+before_some i j xs h = ap (λ q. cond q xs []) (lt_true i j h)
   where
-    lt-true : (i j : ℕ) → i < j → nat_lt i j ≡ true
-    lt-true i j h = grind (arith, h)
+    lt_true : (i j : ℕ) → i < j → nat_lt i j ≡ true
+    lt_true i j h = grind (arith, h)
 
 pub before_none : (i j : ℕ) (xs : List Out) → j ≤ i → before (Some (i, xs)) j ≡ []
-before_none i j xs h = ap (λ q. cond q xs []) (lt-false i j h)
+before_none i j xs h = ap (λ q. cond q xs []) (lt_false i j h)
   where
-    lt-false : (i j : ℕ) → j ≤ i → nat_lt i j ≡ false
-    lt-false i j h = grind (arith, h)
+    lt_false : (i j : ℕ) → j ≤ i → nat_lt i j ≡ false
+    lt_false i j h = grind (arith, h)
 
 pub later_some : (i j : ℕ) (xs : List Out) → i < j → later (Some (i, xs)) j ≡ None
-later_some i j xs h = ap (λ q. cond q None (Some (i, xs))) (lt-true i j h)
+later_some i j xs h = ap (λ q. cond q None (Some (i, xs))) (lt_true i j h)
   where
-    lt-true : (i j : ℕ) → i < j → nat_lt i j ≡ true
-    lt-true i j h = grind (arith, h)
+    lt_true : (i j : ℕ) → i < j → nat_lt i j ≡ true
+    lt_true i j h = grind (arith, h)
 
 pub later_none : (i j : ℕ) (xs : List Out) → j ≤ i → later (Some (i, xs)) j ≡ Some (i, xs)
-later_none i j xs h = ap (λ q. cond q None (Some (i, xs))) (lt-false i j h)
+later_none i j xs h = ap (λ q. cond q None (Some (i, xs))) (lt_false i j h)
   where
-    lt-false : (i j : ℕ) → j ≤ i → nat_lt i j ≡ false
-    lt-false i j h = grind (arith, h)
+    lt_false : (i j : ℕ) → j ≤ i → nat_lt i j ≡ false
+    lt_false i j h = grind (arith, h)
 
 -- ---- what a printer asks of a field ----
 
@@ -170,16 +170,16 @@ later_none i j xs h = ap (λ q. cond q None (Some (i, xs))) (lt-false i j h)
 pub discriminant_in : (r : StructHandle) (f : Field) → IsFieldOf (schema_of r) (index_of f) f → (p : FieldRecord) → p ≡ (typed_of f).field → p.discriminant_value ≡ (field_in r f).field.discriminant_value
 discriminant_in r f field p e = ap (λ (x : FieldRecord). x.discriminant_value) (e ∙ ap (λ (s : StructSchema). (struct_field s (index_of f)).field) field.schema)
 
-pub or-true : (b q : Bool) → q ≡ true → true ≡ (b || q)
-or-true true q e = refl
-or-true false q e = sym e
+pub or_true : (b q : Bool) → q ≡ true → true ≡ (b || q)
+or_true true q e = refl
+or_true false q e = sym e
 
-pub or-false : (b q : Bool) → q ≡ false → b ≡ (b || q)
-or-false true q e = refl
-or-false false q e = sym e
+pub or_false : (b q : Bool) → q ≡ false → b ≡ (b || q)
+or_false true q e = refl
+or_false false q e = sym e
 
 pub shown_of_another : (r : StructHandle) (f : Field) (d : ℕ) → d ≡ (field_in r f).field.discriminant_value → (d ≡ 0 → ⊥) → true ≡ is_member_shown r (field_in r f)
-shown_of_another r f d e h = or-true (is_there (part_seen r (field_in r f))) _ (ap not (ap (λ n. n == 0) (sym e) ∙ not_zero d h))
+shown_of_another r f d e h = or_true (is_there (part_seen r (field_in r f))) _ (ap not (ap (λ n. n == 0) (sym e) ∙ not_zero d h))
 
 pub shown_of_first : (r : StructHandle) (f : Field) (d : ℕ) (b : Bool) → d ≡ (field_in r f).field.discriminant_value → d ≡ 0 → b ≡ is_there (part_seen r (field_in r f)) → b ≡ is_member_shown r (field_in r f)
-shown_of_first r f d b e h is = is ∙ or-false (is_there (part_seen r (field_in r f))) _ (ap not (ap (λ n. n == 0) (sym e) ∙ ap (λ n. n == 0) h))
+shown_of_first r f d b e h is = is ∙ or_false (is_there (part_seen r (field_in r f))) _ (ap not (ap (λ n. n == 0) (sym e) ∙ ap (λ n. n == 0) h))

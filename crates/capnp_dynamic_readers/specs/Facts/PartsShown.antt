@@ -16,8 +16,8 @@ use Rattle.capnp_schema.specs.StructHandles.{IsStruct, number_of, set_of, struct
 use Rattle.capnp_schema.specs.declared.schema.fields.Field.{Field}
 use Rattle.capnp_schema.specs.declared.schema.structs.StructSchema.{StructSchema}
 use Rattle.capnp_schema.specs.Types.{SchemaType, VoidType, BoolType, IntType, UIntType, EnumType, TextType, DataType, StructType, ListType, AnyPointerType, element_size, is_pointer, struct_brand, struct_number}
-use Rattle.capnp_records.specs.Facts.Groups.{part_of-group}
-use Rattle.capnp_records.specs.Facts.Pointers.{values_of-nth}
+use Rattle.capnp_records.specs.Facts.Groups.{part_of_group}
+use Rattle.capnp_records.specs.Facts.Pointers.{values_of_nth}
 use Rattle.capnp_records.specs.Default.{read_of}
 use Rattle.capnp_schema.specs.SlotValue.{slot_number}
 use Rattle.capnp_records.specs.Reading.{Below, Reading, bodies_of, bytes_below, kind_value, nth_reading, number_value, of_read, pointers_below, record_of, record_within, slot_value, struct_below, struct_record, structs_below, tree_value, value_of, values_of}
@@ -146,7 +146,7 @@ pub no_group_slot : (set : Schemas) (l : Levels) (s : StructTree) (o : ℕ) (d :
 no_group_slot set l s o d t = go (is_pointer t)
   where
     go : (q : Bool) → IsNoGroup (elim q as (λ _. Value) [ true ↦ nth_reading (values_of set s.pointers) o l t | false ↦ number_value t (slot_number s.bytes o d t) ])
-    go true = subst (λ (r : Reading). IsNoGroup (r l t)) (sym (values_of-nth set s.pointers o)) (no_group_value set (nth_tree s.pointers o) l t)
+    go true = subst (λ (r : Reading). IsNoGroup (r l t)) (sym (values_of_nth set s.pointers o)) (no_group_value set (nth_tree s.pointers o) l t)
     go false = no_group_number t _
 
 no_group_text : (set : Schemas) (inner : Inner) (at : Layout) (d : SchemaValue) (t : SchemaType) (v : Value) → IsNoGroup v → part_text set inner at d t v ≡ inner at t (read_of set d t v)
@@ -166,8 +166,8 @@ no_group_text set inner at d t value.Elsewhere h = refl
 
 -- ---- what stands under a field ----
 
-pub some-none : {n : ℕ} → Some n ≡ None → ⊥
-some-none e = cc
+pub some_none : {n : ℕ} → Some n ≡ None → ⊥
+some_none e = cc
 
 module _ (set : Schemas) (group : ℕ → Record) (l : Levels) (s : StructTree) where
   pub slot_shown : (left : ℕ) (at : Layout) (k : FieldKind) (t : SchemaType) (v : DynamicValue) → GroupFits set k t → kind_target k t ≡ None →
@@ -176,7 +176,7 @@ module _ (set : Schemas) (group : ℕ → Record) (l : Levels) (s : StructTree) 
   slot_shown left at (Slot o d) t v fits e is under =
       no_group_text set (text_within set left) at d t (slot_value l s.bytes (values_of set s.pointers) o d t) (no_group_slot set l s o d t)
       ∙ (ap (text_within set left at t) (sym is) ∙ text_under set t left at v under)
-  slot_shown left at (Group n) (StructType b g) v fits e is under = absurd (some-none e)
+  slot_shown left at (Group n) (StructType b g) v fits e is under = absurd (some_none e)
   slot_shown left at (Group n) t v fits e is under = absurd fits
 
   pub refused_shown : (left : ℕ) (at : Layout) (k : FieldKind) (t : SchemaType) (kind : ErrorKind) →
@@ -185,10 +185,10 @@ module _ (set : Schemas) (group : ℕ → Record) (l : Levels) (s : StructTree) 
   refused_shown left at (Slot o d) t kind is =
       no_group_text set (text_within set left) at d t (slot_value l s.bytes (values_of set s.pointers) o d t) (no_group_slot set l s o d t)
       ∙ (ap (text_within set left at t) (sym is) ∙ fault_text set left at t kind)
-  refused_shown left at (Group n) t kind is = absurd (fault-struct is)
+  refused_shown left at (Group n) t kind is = absurd (fault_struct is)
     where
-      fault-struct : {kind : ErrorKind} {r : Record} → value.Fault kind ≡ value.Struct r → ⊥
-      fault-struct e = cc
+      fault_struct : {kind : ErrorKind} {r : Record} → value.Fault kind ≡ value.Struct r → ⊥
+      fault_struct e = cc
 
 -- ---- what was read ----
 
@@ -240,7 +240,7 @@ module _ (r : StructHandle) (f : Field) (field : IsFieldOf (schema_of r) (index_
   part_group accepted g some same left at =
       group_text (set_of (schema_of r)) (Left (struct_levels (reader_of r))) (struct_of (reader_of r)) left at (number_of g)
       (field_in r f).field.kind (field_in r f).type (sym some)
-      (part_of-group (set_of (schema_of r)) accepted (Left (struct_levels (reader_of r))) (struct_of (reader_of r)).bytes (values_of (set_of (schema_of r)) (struct_of (reader_of r)).pointers) (number_of (schema_of r)) (index_of f) (number_of g) (brand_there (set_of (schema_of r)) (number_of (schema_of r)) (index_of f) field.inside) field.inside
+      (part_of_group (set_of (schema_of r)) accepted (Left (struct_levels (reader_of r))) (struct_of (reader_of r)).bytes (values_of (set_of (schema_of r)) (struct_of (reader_of r)).pointers) (number_of (schema_of r)) (index_of f) (number_of g) (brand_there (set_of (schema_of r)) (number_of (schema_of r)) (index_of f) field.inside) field.inside
       (group_named (field_in r f).field.kind (field_in r f).type (number_of g) (sym some)))
       ∙ ap (λ (z : Schemas). record_text z (text_within z left) at (number_of g) (struct_record z (Left (struct_levels (reader_of r))) (struct_of (reader_of r)) (number_of g))) (sym same)
 

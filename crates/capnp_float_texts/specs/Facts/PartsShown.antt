@@ -13,7 +13,7 @@ use Rattle.capnp_schema.specs.StructHandles.{IsStruct, number_of, set_of}
 use Rattle.capnp_schema.specs.declared.schema.fields.Field.{Field}
 use Rattle.capnp_schema.specs.declared.schema.structs.StructSchema.{StructSchema}
 use Rattle.capnp_schema.specs.Types.{SchemaType, StructType, struct_brand, struct_number}
-use Rattle.capnp_records.specs.Facts.Groups.{part_of-group}
+use Rattle.capnp_records.specs.Facts.Groups.{part_of_group}
 use Rattle.capnp_records.specs.Default.{read_of}
 use Rattle.capnp_records.specs.Reading.{kind_value, record_of, record_within, slot_value, struct_record, values_of}
 use Rattle.capnp_records.specs.Record as value
@@ -21,7 +21,7 @@ use Rattle.capnp_records.specs.Record.{Left, Levels, Record, Value}
 use Rattle.capnp_records.specs.Text.{Layout}
 use Rattle.capnp_float_texts.specs.Texts.{Inner, part_text, record_text, text_within, value_text}
 use Rattle.capnp_json_fields.specs.Marks.{is_float}
-use Rattle.capnp_dynamic_readers.specs.Facts.PartsShown.{IsNoGroup, group_named, no_group_slot, some-none, under_of}
+use Rattle.capnp_dynamic_readers.specs.Facts.PartsShown.{IsNoGroup, group_named, no_group_slot, some_none, under_of}
 use Rattle.capnp_dynamic_readers.specs.Handles.{list_set, reader_of, schema_of}
 use Rattle.capnp_dynamic_readers.specs.Steps.PartsRead.{fault_at, field_in}
 use Rattle.capnp_dynamic_readers.specs.Reads.{field_seen, handed_out}
@@ -103,7 +103,7 @@ module _ (set : Schemas) (group : ℕ → Record) (l : Levels) (s : StructTree) 
   slot_shown floats left at (Slot o d) t v fits e is under =
       no_group_text set (text_within set left) floats at d t (slot_value l s.bytes (values_of set s.pointers) o d t) (no_group_slot set l s o d t)
       ∙ (ap (text_within set left floats at t) (sym is) ∙ text_under set t floats left at v under)
-  slot_shown floats left at (Group n) (StructType b g) v fits e is under = absurd (some-none e)
+  slot_shown floats left at (Group n) (StructType b g) v fits e is under = absurd (some_none e)
   slot_shown floats left at (Group n) t v fits e is under = absurd fits
 
   pub refused_shown : (floats : Bool) (left : ℕ) (at : Layout) (k : FieldKind) (t : SchemaType) (kind : ErrorKind) →
@@ -112,10 +112,10 @@ module _ (set : Schemas) (group : ℕ → Record) (l : Levels) (s : StructTree) 
   refused_shown floats left at (Slot o d) t kind is =
       no_group_text set (text_within set left) floats at d t (slot_value l s.bytes (values_of set s.pointers) o d t) (no_group_slot set l s o d t)
       ∙ (ap (text_within set left floats at t) (sym is) ∙ fault_text set floats left at t kind)
-  refused_shown floats left at (Group n) t kind is = absurd (fault-struct is)
+  refused_shown floats left at (Group n) t kind is = absurd (fault_struct is)
     where
-      fault-struct : {kind : ErrorKind} {r : Record} → value.Fault kind ≡ value.Struct r → ⊥
-      fault-struct e = cc
+      fault_struct : {kind : ErrorKind} {r : Record} → value.Fault kind ≡ value.Struct r → ⊥
+      fault_struct e = cc
 
 -- the text of a group's field is that of its record
 group_text : (set : Schemas) (l : Levels) (s : StructTree) (floats : Bool) (left : ℕ) (at : Layout) (g : ℕ) (k : FieldKind) (t : SchemaType) → kind_target k t ≡ Some g →
@@ -148,6 +148,6 @@ module _ (r : StructHandle) (f : Field) (field : IsFieldOf (schema_of r) (index_
   part_group accepted g some same left at =
       group_text (set_of (schema_of r)) (Left (struct_levels (reader_of r))) (struct_of (reader_of r)) (is_float (field_in r f)) left at (number_of g)
       (field_in r f).field.kind (field_in r f).type (sym some)
-      (part_of-group (set_of (schema_of r)) accepted (Left (struct_levels (reader_of r))) (struct_of (reader_of r)).bytes (values_of (set_of (schema_of r)) (struct_of (reader_of r)).pointers) (number_of (schema_of r)) (index_of f) (number_of g) (brand_there (set_of (schema_of r)) (number_of (schema_of r)) (index_of f) field.inside) field.inside
+      (part_of_group (set_of (schema_of r)) accepted (Left (struct_levels (reader_of r))) (struct_of (reader_of r)).bytes (values_of (set_of (schema_of r)) (struct_of (reader_of r)).pointers) (number_of (schema_of r)) (index_of f) (number_of g) (brand_there (set_of (schema_of r)) (number_of (schema_of r)) (index_of f) field.inside) field.inside
       (group_named (field_in r f).field.kind (field_in r f).type (number_of g) (sym some)))
       ∙ ap (λ (z : Schemas). record_text z (text_within z left) at (number_of g) (struct_record z (Left (struct_levels (reader_of r))) (struct_of (reader_of r)) (number_of g))) (sym same)

@@ -40,10 +40,10 @@ both_spelled [] b xs ys h k = go xs h
   where
     go : (xs : List ℕ) → xs ≡ [] → IsSpelled b (xs ++ ys)
     go [] e = k
-    go (x ∷ xs) e = absurd (cons-nil e)
+    go (x ∷ xs) e = absurd (cons_nil e)
       where
-        cons-nil : x ∷ xs ≡ [] → ⊥
-        cons-nil e = cc
+        cons_nil : x ∷ xs ≡ [] → ⊥
+        cons_nil e = cc
 both_spelled (Byte c ∷ a) b xs ys (rest, h, e) k = (rest ++ ys, both_spelled a b rest ys h k, ap (λ (zs : List ℕ). zs ++ ys) e)
 both_spelled (DebugForm string ∷ a) b xs ys (form, rest, u, h, e) k =
     (form, rest ++ ys, u, both_spelled a b rest ys h k, ap (λ (zs : List ℕ). zs ++ ys) e ∙ append_assoc form rest ys)
@@ -67,9 +67,9 @@ abbrev bytes_said : Out → List ℕ
 bytes_said (Ok pieces) = some_bytes pieces
 bytes_said (Err kind) = []
 
-known-again : (bytes : List ℕ) → some_bytes (known_pieces bytes) ≡ bytes
-known-again [] = refl
-known-again (b ∷ bytes) = ap (λ (xs : List ℕ). b ∷ xs) (known-again bytes)
+known_again : (bytes : List ℕ) → some_bytes (known_pieces bytes) ≡ bytes
+known_again [] = refl
+known_again (b ∷ bytes) = ap (λ (xs : List ℕ). b ∷ xs) (known_again bytes)
 
 pub same_said : (a b : List ℕ) → said_text a ≡ said_text b → a ≡ b
-same_said a b e = sym (known-again a) ∙ (ap bytes_said e ∙ known-again b)
+same_said a b e = sym (known_again a) ∙ (ap bytes_said e ∙ known_again b)

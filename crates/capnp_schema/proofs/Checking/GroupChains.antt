@@ -78,10 +78,10 @@ module _ (set : Schemas) (targets : TargetsAreGroups set) (unique : (g b i c j :
   chain zero b d = []
   chain (suc m) b (h, (p, i, t, d)) = b ∷ chain m p d
 
-  length-chain : (m b : ℕ) (d : Depth m set b) → length (chain m b d) ≡ m
+  length_chain : (m b : ℕ) (d : Depth m set b) → length (chain m b d) ≡ m
   unfolding chain
-  length-chain zero b d = refl
-  length-chain (suc m) b (h, (p, i, t, d)) = ap suc (length-chain m p d)
+  length_chain zero b d = refl
+  length_chain (suc m) b (h, (p, i, t, d)) = ap suc (length_chain m p d)
 
   chain_within : (m b : ℕ) (d : Depth m set b) (q : ℕ) → list_any (eqb q) (chain m b d) ≡ true → q < length set.brands
   unfolding chain
@@ -111,7 +111,7 @@ module _ (set : Schemas) (targets : TargetsAreGroups set) (unique : (g b i c j :
 
   -- a way up is no longer than there are brands
   pub depth_within : (m b : ℕ) → Depth m set b → m ≤ length set.brands
-  depth_within m b d = let l = length-chain m b d in let le = length-le_from_distinct_below (chain m b d) (length set.brands) (chain_distinct m b d) (chain_within m b d) in omega arith
+  depth_within m b d = let l = length_chain m b d in let le = length-le_from_distinct_below (chain m b d) (length set.brands) (chain_distinct m b d) (chain_within m b d) in omega arith
 
 entry_is : (o : Option (Option (ℕ × ℕ))) (p : ℕ × ℕ) → Some p ≡ option_flatten o → o ≡ Some (Some p)
 entry_is None p e = cc

@@ -23,17 +23,17 @@ pub record Filled (set : Schemas) (bb ff : ℕ) (table : Table) : Type 0 where
   pub holds : (g b i : ℕ) → slice_get table g ≡ Some (Some (b, i)) → Seen bb ff b i × (group_target set b i ≡ Some g)
   pub all : (g b i : ℕ) → g < length table → Seen bb ff b i → group_target set b i ≡ Some g → slice_get table g ≡ Some (Some (b, i))
 
-slice_get-set_same : {A : Type 0} (xs : List A) (k : ℕ) (y : A) → k < length xs → slice_get (set xs k y) k ≡ Some y
-slice_get-set_same [] k y h = absurd (omega arith)
-slice_get-set_same (x ∷ xs) zero y h = refl
-slice_get-set_same (x ∷ xs) (suc k) y h = slice_get-set_same xs k y (omega arith)
+slice_get_set_same : {A : Type 0} (xs : List A) (k : ℕ) (y : A) → k < length xs → slice_get (set xs k y) k ≡ Some y
+slice_get_set_same [] k y h = absurd (omega arith)
+slice_get_set_same (x ∷ xs) zero y h = refl
+slice_get_set_same (x ∷ xs) (suc k) y h = slice_get_set_same xs k y (omega arith)
 
-slice_get-set_other : {A : Type 0} (xs : List A) (k g : ℕ) (y : A) → g ≢ k → slice_get (set xs k y) g ≡ slice_get xs g
-slice_get-set_other [] k g y ne = refl
-slice_get-set_other (x ∷ xs) zero zero y ne = absurd (ne refl)
-slice_get-set_other (x ∷ xs) zero (suc g) y ne = refl
-slice_get-set_other (x ∷ xs) (suc k) zero y ne = refl
-slice_get-set_other (x ∷ xs) (suc k) (suc g) y ne = slice_get-set_other xs k g y (λ e. ne (ap suc e))
+slice_get_set_other : {A : Type 0} (xs : List A) (k g : ℕ) (y : A) → g ≢ k → slice_get (set xs k y) g ≡ slice_get xs g
+slice_get_set_other [] k g y ne = refl
+slice_get_set_other (x ∷ xs) zero zero y ne = absurd (ne refl)
+slice_get_set_other (x ∷ xs) zero (suc g) y ne = refl
+slice_get_set_other (x ∷ xs) (suc k) zero y ne = refl
+slice_get_set_other (x ∷ xs) (suc k) (suc g) y ne = slice_get_set_other xs k g y (λ e. ne (ap suc e))
 
 pub seen_more : (bb ff b i : ℕ) → Seen bb ff b i → Seen bb (ff + 1) b i
 seen_more bb ff b i (inl h) = inl h
@@ -61,14 +61,14 @@ filled_set s bb ff table g f here free = record {
   same_length = length-set table g (Some (bb, ff)) ∙ f.same_length;
   holds = λ k b i e. ⊎_elim
       (λ same. at_same k b i same e)
-      (λ other. let old : slice_get table k ≡ Some (Some (b, i)) = sym (slice_get-set_other table g k (Some (bb, ff)) other) ∙ e in (seen_more bb ff b i (f.holds k b i old).0, (f.holds k b i old).1))
+      (λ other. let old : slice_get table k ≡ Some (Some (b, i)) = sym (slice_get_set_other table g k (Some (bb, ff)) other) ∙ e in (seen_more bb ff b i (f.holds k b i old).0, (f.holds k b i old).1))
       (same_or_not k g);
   all = λ k b i h seen t. ⊎_elim
       (λ before. let old : slice_get table k ≡ Some (Some (b, i)) = f.all k b i (let l : length (set_at table g (Some (bb, ff))) ≡ length table = length-set table g (Some (bb, ff)) in omega arith) before t in
-      ⊎_elim (λ same. absurd (let z : slice_get table k ≡ slice_get table g = ap (slice_get table) same in none_pair b i (sym free ∙ sym z ∙ old))) (λ other. slice_get-set_other table g k (Some (bb, ff)) other ∙ old) (same_or_not k g))
+      ⊎_elim (λ same. absurd (let z : slice_get table k ≡ slice_get table g = ap (slice_get table) same in none_pair b i (sym free ∙ sym z ∙ old))) (λ other. slice_get_set_other table g k (Some (bb, ff)) other ∙ old) (same_or_not k g))
       (λ now. let e : group_target s b i ≡ group_target s bb ff = ap (λ x. group_target s x i) now.0 ∙ ap (group_target s bb) now.1 in
       let k_is : k ≡ g = same_Some k g (sym t ∙ e ∙ here) in
-      ap (slice_get (set_at table g (Some (bb, ff)))) k_is ∙ slice_get-set_same table g (Some (bb, ff)) (slice_get_within table g None free) ∙ ap (λ (p : ℕ × ℕ). Some (Some p)) (pair_is b i now))
+      ap (slice_get (set_at table g (Some (bb, ff)))) k_is ∙ slice_get_set_same table g (Some (bb, ff)) (slice_get_within table g None free) ∙ ap (λ (p : ℕ × ℕ). Some (Some p)) (pair_is b i now))
       (seen_less bb ff b i seen);
 }
   where
@@ -83,7 +83,7 @@ filled_set s bb ff table g f here free = record {
 
     at_same : (k b i : ℕ) → k ≡ g → slice_get (set_at table g (Some (bb, ff))) k ≡ Some (Some (b, i)) → Seen bb (ff + 1) b i × (group_target s b i ≡ Some k)
     at_same k b i same e =
-        let p : ◌≡◌ {A = Option (Option (ℕ × ℕ))} (Some (Some (bb, ff))) (Some (Some (b, i))) = sym (slice_get-set_same table g (Some (bb, ff)) (slice_get_within table g None free)) ∙ ap (slice_get (set_at table g (Some (bb, ff)))) (sym same) ∙ e in
+        let p : ◌≡◌ {A = Option (Option (ℕ × ℕ))} (Some (Some (bb, ff))) (Some (Some (b, i))) = sym (slice_get_set_same table g (Some (bb, ff)) (slice_get_within table g None free)) ∙ ap (slice_get (set_at table g (Some (bb, ff)))) (sym same) ∙ e in
         let q : (bb ≡ b) × (ff ≡ i) = some_pair_parts bb b ff i (same_Some {A = Option (ℕ × ℕ)} (Some (bb, ff)) (Some (b, i)) p) in
         (inr (sym q.0, omega arith), ap (λ x. group_target s x i) (sym q.0) ∙ ap (group_target s bb) (sym q.1) ∙ here ∙ ap (λ (x : ℕ). Some x) (sym same))
 

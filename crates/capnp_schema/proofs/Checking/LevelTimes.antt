@@ -22,23 +22,23 @@ pub record Bisected (levels : List Level) (time low high : ℕ) : Type 0 where
 
 -- ---- a level above others ----
 
-pub slice_get-push : {A : Type 0} (xs : List A) (y : A) (k : ℕ) → k < length xs → slice_get (xs ++ y ∷ []) k ≡ slice_get xs k
-slice_get-push [] y k h = absurd (omega arith)
-slice_get-push (x ∷ xs) y zero h = refl
-slice_get-push (x ∷ xs) y (suc k) h = slice_get-push xs y k (omega arith)
+pub slice_get_push : {A : Type 0} (xs : List A) (y : A) (k : ℕ) → k < length xs → slice_get (xs ++ y ∷ []) k ≡ slice_get xs k
+slice_get_push [] y k h = absurd (omega arith)
+slice_get_push (x ∷ xs) y zero h = refl
+slice_get_push (x ∷ xs) y (suc k) h = slice_get_push xs y k (omega arith)
 
-pub slice_get-last : {A : Type 0} (xs : List A) (y : A) → slice_get (xs ++ y ∷ []) (length xs) ≡ Some y
-slice_get-last [] y = refl
-slice_get-last (x ∷ xs) y = slice_get-last xs y
+pub slice_get_last : {A : Type 0} (xs : List A) (y : A) → slice_get (xs ++ y ∷ []) (length xs) ≡ Some y
+slice_get_last [] y = refl
+slice_get_last (x ∷ xs) y = slice_get_last xs y
 
-pub slice_get-end : {A : Type 0} (xs : List A) (y z : A) (k : ℕ) → length xs ≤ k → slice_get (xs ++ y ∷ []) k ≡ Some z → (k ≡ length xs) × (y ≡ z)
-slice_get-end [] y z zero h e = (refl, same_Some y z e)
-slice_get-end [] y z (suc k) h e = cc
-slice_get-end (x ∷ xs) y z zero h e = absurd (omega arith)
-slice_get-end (x ∷ xs) y z (suc k) h e = let r = slice_get-end xs y z k (omega arith) e in (ap suc r.0, r.1)
+pub slice_get_end : {A : Type 0} (xs : List A) (y z : A) (k : ℕ) → length xs ≤ k → slice_get (xs ++ y ∷ []) k ≡ Some z → (k ≡ length xs) × (y ≡ z)
+slice_get_end [] y z zero h e = (refl, same_Some y z e)
+slice_get_end [] y z (suc k) h e = cc
+slice_get_end (x ∷ xs) y z zero h e = absurd (omega arith)
+slice_get_end (x ∷ xs) y z (suc k) h e = let r = slice_get_end xs y z k (omega arith) e in (ap suc r.0, r.1)
 
 pub pushed : {A : Type 0} (xs : List A) (y z : A) (k : ℕ) → slice_get xs k ≡ Some z → slice_get (xs ++ y ∷ []) k ≡ Some z
-pushed xs y z k e = slice_get-push xs y k (slice_get_within xs k z e) ∙ e
+pushed xs y z k e = slice_get_push xs y k (slice_get_within xs k z e) ∙ e
 
 -- ---- marks ----
 

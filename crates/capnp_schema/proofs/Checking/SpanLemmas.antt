@@ -27,13 +27,13 @@ left_meets a b first count other size e k some le lt = (DataBit first, rw e (in_
 pub pointers_meet : (a b : Span) (x y : ℕ) → a ≡ Pointer x → b ≡ Pointer y → x ≡ y → (p : Spot) × (span_names a p ≡ true) × (span_names b p ≡ true)
 pointers_meet a b x y e k same = (PointerAt x, rw e (grind (arith, nat_tests)), rw k (grind (arith, nat_tests)))
 
-pub some_span-append : (xs : List Span) (y : Span) (p : Spot) → some_span (xs ++ y ∷ []) p ≡ (some_span xs p || span_names y p)
-some_span-append [] y p = at (span_names y p)
+pub some_span_append : (xs : List Span) (y : Span) (p : Spot) → some_span (xs ++ y ∷ []) p ≡ (some_span xs p || span_names y p)
+some_span_append [] y p = at (span_names y p)
   where
     at : (b : Bool) → (b || false) ≡ b
     at true = refl
     at false = refl
-some_span-append (x ∷ xs) y p = at (span_names x p) (some_span-append xs y p)
+some_span_append (x ∷ xs) y p = at (span_names x p) (some_span_append xs y p)
   where
     at : (b : Bool) → some_span (xs ++ y ∷ []) p ≡ (some_span xs p || span_names y p) → (b || some_span (xs ++ y ∷ []) p) ≡ ((b || some_span xs p) || span_names y p)
     at true e = refl
@@ -100,12 +100,12 @@ or_none false = refl
 -- one more span
 span_reached : (groups : ℕ) (set : Schemas) (out : List Span) (below : List ℕ) (s : Span) (p : Spot) → reached_spot groups set (out ++ s ∷ []) below p ≡ (reached_spot groups set out below p || span_names s p)
 span_reached groups set out below s p =
-    ap (λ x. x || some_brand groups set below p) (some_span-append out s p) ∙ or_swap (some_span out p) (span_names s p) (some_brand groups set below p)
+    ap (λ x. x || some_brand groups set below p) (some_span_append out s p) ∙ or_swap (some_span out p) (span_names s p) (some_brand groups set below p)
 
-some_brand-append : (groups : ℕ) (set : Schemas) (bs : List ℕ) (b : ℕ) (p : Spot) → some_brand groups set (bs ++ b ∷ []) p ≡ (some_brand groups set bs p || brand_names groups set b p)
-some_brand-append groups set [] b p = or_none (brand_names groups set b p)
-some_brand-append groups set (x ∷ xs) b p =
-    ap (λ y. brand_names groups set x p || y) (some_brand-append groups set xs b p) ∙ sym (or_assoc (brand_names groups set x p) (some_brand groups set xs p) (brand_names groups set b p))
+some_brand_append : (groups : ℕ) (set : Schemas) (bs : List ℕ) (b : ℕ) (p : Spot) → some_brand groups set (bs ++ b ∷ []) p ≡ (some_brand groups set bs p || brand_names groups set b p)
+some_brand_append groups set [] b p = or_none (brand_names groups set b p)
+some_brand_append groups set (x ∷ xs) b p =
+    ap (λ y. brand_names groups set x p || y) (some_brand_append groups set xs b p) ∙ sym (or_assoc (brand_names groups set x p) (some_brand groups set xs p) (brand_names groups set b p))
 
 -- one field of the loop
 pub field_added : (groups : ℕ) (set : Schemas) (fs : List TypedField) (p : Spot) (before after : Bool) (i : ℕ) (whole : Bool)
@@ -158,7 +158,7 @@ pub group_added : (groups : ℕ) (set : Schemas) (entry : Option TypedField) (f 
     → Some (seen_typed f) ≡ entry → f.field.now.kind ≡ kind.Group node → Some g ≡ struct_brand (seen_type f.field_type.now)
     → reached_spot groups set out (below ++ g ∷ []) p ≡ (reached_spot groups set out below p || entry_names groups set entry p)
 group_added groups set entry f node g out below p there is target =
-    ap (λ x. some_span out p || x) (some_brand-append groups set below g p)
+    ap (λ x. some_span out p || x) (some_brand_append groups set below g p)
     ∙ sym (or_assoc (some_span out p) (some_brand groups set below p) (brand_names groups set g p))
     ∙ ap (λ x. reached_spot groups set out below p || x) (ap (λ t. group_names (brand_names groups set) t p) target ∙ ap (λ k. kind_names (brand_names groups set) (seen_kind k) (seen_type f.field_type.now) p) (sym is) ∙ ap (λ e. entry_names groups set e p) there)
 

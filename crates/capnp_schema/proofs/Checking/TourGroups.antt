@@ -16,7 +16,7 @@ use Rattle.capnp_schema.specs.declared.check.claims.Level.{Level}
 use Rattle.capnp_schema.specs.declared.check.spans.Span.{Span}
 use Rattle.capnp_schema.specs.declared.check.tour.Tour.{Tour}
 use Rattle.capnp_schema.proofs.GroupTargets.{field_is}
-use Rattle.capnp_schema.proofs.Checking.LevelTimes.{slice_get-last, pushed}
+use Rattle.capnp_schema.proofs.Checking.LevelTimes.{slice_get_last, pushed}
 use Rattle.capnp_schema.proofs.Checking.Tours.{keeps_from_claim, levels_kept, open_is_apart, AtTop, top_stands, next_stands, push_stands, pop_stands, more_stands, NewStands, new_current, clear_current}
 
 -- ---- into a group ----
@@ -130,7 +130,7 @@ done_more set done b d clear = record {
 
 module _ (set : Schemas) (old : Tour) (top : Level) (t : TourStands set old top) (past : length (fields_of set top.brand) + length (fields_of set top.brand) ≤ top.steps) where
   pub left_done : DoneStand set (set_at old.done.items top.brand true)
-  left_done = done_more set old.done.items top.brand t.done (all_clear set (mark_at old.claims) old.now top past (t.levels.each (length old.below.items) top (slice_get-last old.below.items top)))
+  left_done = done_more set old.done.items top.brand t.done (all_clear set (mark_at old.claims) old.now top past (t.levels.each (length old.below.items) top (slice_get_last old.below.items top)))
 
   pub is_left : (new : Tour) (done : Vec Bool Global) → new ≡ record { claims = old.claims; below = old.below; done = done; now = old.now } → DoneStand set done.items → IsLeft set old new
   is_left new done is d = record {
@@ -179,7 +179,7 @@ module _ (set : Schemas) (old : Tour) (top : Level) (t : TourStands set old top)
       here = top_stands set mark old.now below.items level level rest
 
       there : slice_get under (length below.items) ≡ Some level
-      there = slice_get-last below.items level
+      there = slice_get_last below.items level
 
       above : IsAbove set level top
       above = at_top.1 (length below.items) level there
@@ -188,7 +188,7 @@ module _ (set : Schemas) (old : Tour) (top : Level) (t : TourStands set old top)
       long = length_push below.items level
 
       at : IsCurrentGroup set level top.brand
-      at = all.entered (length below.items) level top (pushed under top level (length below.items) there) (ap (slice_get (under ++ top ∷ [])) (sym long) ∙ slice_get-last under top)
+      at = all.entered (length below.items) level top (pushed under top level (length below.items) there) (ap (slice_get (under ++ top ∷ [])) (sym long) ∙ slice_get_last under top)
 
       down : (p : Spot) → Names set level.brand at.index p → Done set top.brand top.steps p
       down p n = group_done set level.brand at.index top.brand top.steps p at.target past n

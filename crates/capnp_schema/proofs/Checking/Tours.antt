@@ -12,7 +12,7 @@ use Rattle.capnp_schema.specs.declared.check.claims.Claims.{Claims}
 use Rattle.capnp_schema.specs.declared.check.claims.Level.{Level}
 use Rattle.capnp_schema.specs.declared.check.spans.Span.{Span}
 use Rattle.capnp_schema.specs.declared.check.tour.Tour.{Tour}
-use Rattle.capnp_schema.proofs.Checking.LevelTimes.{slice_get-push, slice_get-last, slice_get-end, pushed}
+use Rattle.capnp_schema.proofs.Checking.LevelTimes.{slice_get_push, slice_get_last, slice_get_end, pushed}
 
 -- ---- what is past, and more of it ----
 
@@ -65,23 +65,23 @@ AtTop set mark now below x = LevelStands set mark now x × ((k : ℕ) (l : Level
 
 module _ (set : Schemas) (mark : Spot → ℕ) (now : ℕ) (below : List Level) (top next : Level) where
   pub top_stands : LevelsStand set mark now (below ++ top ∷ []) → AtTop set mark now below top
-  top_stands s = (s.each (length below) top (slice_get-last below top), λ k l e. s.pairs k (length below) l top (slice_get_within below k l e) (pushed below top l k e) (slice_get-last below top))
+  top_stands s = (s.each (length below) top (slice_get_last below top), λ k l e. s.pairs k (length below) l top (slice_get_within below k l e) (pushed below top l k e) (slice_get_last below top))
 
   -- the top goes on at its brand
   pub next_stands : LevelsStand set mark now (below ++ top ∷ []) → next.brand ≡ top.brand → AtTop set mark now below next → LevelsStand set mark now (below ++ next ∷ [])
   next_stands s same t = record {
     each = λ k l e. ⊎_elim
         (λ lt. s.each k l (old k l lt e))
-        (λ le. subst (LevelStands set mark now) (slice_get-end below next l k le e).1 t.0)
+        (λ le. subst (LevelStands set mark now) (slice_get_end below next l k le e).1 t.0)
         (cases_lt k (length below));
     pairs = λ j k l m lt e f. ⊎_elim
         (λ less. s.pairs j k l m lt (old j l (omega arith) e) (old k m less f))
-        (λ le. let r = slice_get-end below next m k le f in let jl : j < length below = (let q = r.0 in omega arith) in subst (IsAbove set l) r.1 (t.1 j l (sym (slice_get-push below next j jl) ∙ e)))
+        (λ le. let r = slice_get_end below next m k le f in let jl : j < length below = (let q = r.0 in omega arith) in subst (IsAbove set l) r.1 (t.1 j l (sym (slice_get_push below next j jl) ∙ e)))
         (cases_lt k (length below));
     entered = λ k l m e f. ⊎_elim
         (λ less. s.entered k l m (old k l (omega arith) e) (old (k + 1) m less f))
-        (λ le. let r = slice_get-end below next m (k + 1) le f in let kl : k < length below = (let q = r.0 in omega arith) in
-        let was : slice_get (below ++ top ∷ []) (k + 1) ≡ Some top = ap (slice_get (below ++ top ∷ [])) r.0 ∙ slice_get-last below top in
+        (λ le. let r = slice_get_end below next m (k + 1) le f in let kl : k < length below = (let q = r.0 in omega arith) in
+        let was : slice_get (below ++ top ∷ []) (k + 1) ≡ Some top = ap (slice_get (below ++ top ∷ [])) r.0 ∙ slice_get_last below top in
         let c : IsCurrentGroup set l top.brand = s.entered k l top (old k l kl e) was in
         subst (IsCurrentGroup set l) (sym same ∙ ap (λ (x : Level). x.brand) r.1) c)
         (cases_lt (k + 1) (length below));
@@ -89,25 +89,25 @@ module _ (set : Schemas) (mark : Spot → ℕ) (now : ℕ) (below : List Level) 
   }
     where
       old : (k : ℕ) (l : Level) → k < length below → slice_get (below ++ next ∷ []) k ≡ Some l → slice_get (below ++ top ∷ []) k ≡ Some l
-      old k l lt e = slice_get-push below top k lt ∙ sym (slice_get-push below next k lt) ∙ e
+      old k l lt e = slice_get_push below top k lt ∙ sym (slice_get_push below next k lt) ∙ e
 
 -- a level on top of the others
 pub push_stands : (set : Schemas) (mark : Spot → ℕ) (now : ℕ) (levels : List Level) (last top : Level) (below : List Level) → levels ≡ below ++ last ∷ [] → LevelsStand set mark now levels → AtTop set mark now levels top → IsCurrentGroup set last top.brand → LevelsStand set mark now (levels ++ top ∷ [])
 push_stands set mark now levels last top below is s t c = record {
   each = λ k l e. ⊎_elim
       (λ lt. s.each k l (old k l lt e))
-      (λ le. subst (LevelStands set mark now) (slice_get-end levels top l k le e).1 t.0)
+      (λ le. subst (LevelStands set mark now) (slice_get_end levels top l k le e).1 t.0)
       (cases_lt k (length levels));
   pairs = λ j k l m lt e f. ⊎_elim
       (λ less. s.pairs j k l m lt (old j l (omega arith) e) (old k m less f))
-      (λ le. let r = slice_get-end levels top m k le f in let jl : j < length levels = (let q = r.0 in omega arith) in subst (IsAbove set l) r.1 (t.1 j l (old j l jl e)))
+      (λ le. let r = slice_get_end levels top m k le f in let jl : j < length levels = (let q = r.0 in omega arith) in subst (IsAbove set l) r.1 (t.1 j l (old j l jl e)))
       (cases_lt k (length levels));
   entered = λ k l m e f. ⊎_elim
       (λ less. s.entered k l m (old k l (omega arith) e) (old (k + 1) m less f))
-      (λ le. let r = slice_get-end levels top m (k + 1) le f in let kl : k < length levels = (let q = r.0 in omega arith) in
+      (λ le. let r = slice_get_end levels top m (k + 1) le f in let kl : k < length levels = (let q = r.0 in omega arith) in
       let long : length levels ≡ length below + 1 = ap (λ (x : List Level). length x) is ∙ length_push below last in
       let at_last : k ≡ length below = (let q = r.0 in omega arith) in
-      let there : slice_get levels k ≡ Some last = ap (slice_get levels) at_last ∙ ap (λ (x : List Level). slice_get x (length below)) is ∙ slice_get-last below last in
+      let there : slice_get levels k ≡ Some last = ap (slice_get levels) at_last ∙ ap (λ (x : List Level). slice_get x (length below)) is ∙ slice_get_last below last in
       let l_is : last ≡ l = same_Some last l (sym there ∙ old k l kl e) in
       subst (λ (x : Level). IsCurrentGroup set x m.brand) l_is (subst (λ (x : Level). IsCurrentGroup set last x.brand) r.1 c))
       (cases_lt (k + 1) (length levels));
@@ -115,7 +115,7 @@ push_stands set mark now levels last top below is s t c = record {
 }
   where
     old : (k : ℕ) (l : Level) → k < length levels → slice_get (levels ++ top ∷ []) k ≡ Some l → slice_get levels k ≡ Some l
-    old k l lt e = sym (slice_get-push levels top k lt) ∙ e
+    old k l lt e = sym (slice_get_push levels top k lt) ∙ e
 
 -- without the top
 pub pop_stands : (set : Schemas) (mark : Spot → ℕ) (now : ℕ) (levels : List Level) (top : Level) → LevelsStand set mark now (levels ++ top ∷ []) → LevelsStand set mark now levels
@@ -259,7 +259,7 @@ module _ (set : Schemas) (tour : Tour) (top : Level) where
 
       new : NewStands set (mark_at claims) tour.below.items top.brand top.start end field
       new = record {
-        clear = clear_current set top.brand top.steps field current (λ p n d. all_apart p n (length tour.below.items) top (slice_get-last tour.below.items top) d);
+        clear = clear_current set top.brand top.steps field current (λ p n d. all_apart p n (length tour.below.items) top (slice_get_last tour.below.items top) d);
         started = λ p n. let e = (c.inside p (names p n)).1 in let o = was.ordered in let f = was.ended in subst (λ x. top.start ≤ x) (sym e) (omega arith);
         non_union = λ p n m. let e = (c.inside p (names p n)).1 in
             let h : tour.now < cond (member_at set top.brand field) top.non_union_end (tour.now + 1) = subst (λ b. tour.now < cond b top.non_union_end (tour.now + 1)) (sym m) (omega arith) in subst (λ x. x < end) (sym e) h;

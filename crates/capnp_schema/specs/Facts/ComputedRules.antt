@@ -9,7 +9,7 @@ use Rattle.capnp_schema.specs.Types.{SchemaType}
 use Rattle.capnp_schema.specs.Schema.{Schemas, Node, Brand, Enum, Enumerant, Field, Annotation, AnnotationTypes, brand_at, node_of, is_member}
 use Rattle.capnp_schema.specs.Accepted.{AllName, BrandHasTypes, DefaultIsOfType, DiscriminantFits, EachOfEnum, EachOfNode, EnumHasTypes, HasEachMember, HasFewAnnotations, HasFewEnumerants, HasFewFields, HasNamedType, HasOwnName, HasTypes, NamesEntries, NamesOwnGroup, Rule1, Rule10, Rule2, Rule3, Rule4, Rule5, Rule7, Rule9, SlotLiesInside, TypesName}
 use Rattle.capnp_schema.specs.Facts.ComputedEntries.{is_shown, shown, named, inside, slot_default, group_fits, discriminant_fits}
-use Rattle.capnp_schema.specs.Facts.Fields.{All-entry}
+use Rattle.capnp_schema.specs.Facts.Fields.{All_entry}
 use Rattle.capnp_schema.specs.Facts.Computed.{both, not_so, not_both, all_below, passes_below, all_pass, all_pairs, each_pair, all_fields, each_field}
 
 -- ---- rule 1 ----
@@ -191,7 +191,7 @@ each_member n e =
     let bounded = all_pass (member_is_below n.discriminant_count) (λ (f : Field). IsTrue (is_member f) → f.discriminant_value < n.discriminant_count) n.fields (λ f below member. ltb-true f.discriminant_value n.discriminant_count (inside (is_member f) (nat_lt f.discriminant_value n.discriminant_count) below member)) parts.0 in
     record {
       apart = record {
-        below = λ k f at. All-entry (λ (x : Field). IsTrue (is_member x) → x.discriminant_value < n.discriminant_count) n.fields k f bounded at;
+        below = λ k f at. All_entry (λ (x : Field). IsTrue (is_member x) → x.discriminant_value < n.discriminant_count) n.fields k f bounded at;
         once = λ i j f g at_i at_j member same. ⊎_elim
             (λ here. here)
             (λ apart. absurd (not_both (is_member f) (f.discriminant_value == g.discriminant_value) apart member ((Decides-eqb f.discriminant_value g.discriminant_value).1 same)))

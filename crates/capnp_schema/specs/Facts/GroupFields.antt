@@ -5,7 +5,7 @@ use Rattle.std.proofs.lemmas.Bool.Decides.{nat_tests}
 use Rattle.std.proofs.lemmas.Option.{same_Some, slice_get_past, some_pair_parts}
 use Rattle.capnp_schema.specs.Accepted.{HasOneParent, IsAccepted, IsGroupBrand, IsGroupOf, IsParent}
 use Rattle.capnp_schema.specs.Steps.Checking.Parents.{entry_target, group_target}
-use Rattle.capnp_schema.specs.Facts.Fields.{brand_there, entry-some}
+use Rattle.capnp_schema.specs.Facts.Fields.{brand_there, entry_some}
 use Rattle.capnp_schema.specs.Facts.Groups.{group_in_set, group_of_field}
 use Rattle.capnp_schema.specs.GroupFields.{group_field_of, index_naming, index_or, is_brand, names_brand, numbered_pair, place_naming, place_or}
 use Rattle.capnp_schema.specs.Schema.{FieldKind, Group, Schemas, Slot, TypedField, field_at, fields_of, kind_target, no_field}
@@ -122,11 +122,11 @@ target_parent set g b i e =
     record {
       brand = brand_there set b i inside;
       field = inside;
-      names = group_of (field_at set b i).field.kind (field_at set b i).type g (sym (ap entry_target (entry-some (fields_of set b) i no_field inside)) ∙ e);
+      names = group_of (field_at set b i).field.kind (field_at set b i).type g (sym (ap entry_target (entry_some (fields_of set b) i no_field inside)) ∙ e);
     }
 
 pub parent_target : (set : Schemas) (g b i : ℕ) → IsParent set g b i → group_target set b i ≡ Some g
-parent_target set g b i p = ap entry_target (entry-some (fields_of set b) i no_field p.field) ∙ target_of (field_at set b i).field.kind (field_at set b i).type g p.names
+parent_target set g b i p = ap entry_target (entry_some (fields_of set b) i no_field p.field) ∙ target_of (field_at set b i).field.kind (field_at set b i).type g p.names
 
 -- a group has one parent
 one_parent : (set : Schemas) → IsAccepted set → (g b i c j : ℕ) → IsParent set g b i → IsParent set g c j → (c ≡ b) × (j ≡ i)

@@ -81,18 +81,18 @@ is_shallow set accepted b b_in = go (node_of set b).is_group refl
 
 -- ---- footprints ----
 
-some_field-same : (v w : TypedField → Spot → Bool) (fs : List TypedField) (p : Spot) →
+some_field_same : (v w : TypedField → Spot → Bool) (fs : List TypedField) (p : Spot) →
     ((j : ℕ) → j < length fs → v (unwrap_or (slice_get fs j) no_field) p ≡ w (unwrap_or (slice_get fs j) no_field) p) → some_field v fs p ≡ some_field w fs p
-some_field-same v w [] p h = refl
-some_field-same v w (f ∷ fs) p h = ap₂ (λ a b. a || b) (h 0 (omega arith)) (some_field-same v w fs p (λ j a. h (suc j) (omega arith)))
+some_field_same v w [] p h = refl
+some_field_same v w (f ∷ fs) p h = ap₂ (λ a b. a || b) (h 0 (omega arith)) (some_field_same v w fs p (λ j a. h (suc j) (omega arith)))
 
 -- one more group changes nothing
-brand_names-more : (n : ℕ) (set : Schemas) (b : ℕ) (p : Spot) → IsShallow n set b → brand_names n set b p ≡ brand_names (suc n) set b p
-brand_names-more zero set b p h = absurd h
-brand_names-more (suc n) set b p h = go (brand_names-more n set)
+brand_names_more : (n : ℕ) (set : Schemas) (b : ℕ) (p : Spot) → IsShallow n set b → brand_names n set b p ≡ brand_names (suc n) set b p
+brand_names_more zero set b p h = absurd h
+brand_names_more (suc n) set b p h = go (brand_names_more n set)
   where
     go : ((g : ℕ) (p : Spot) → IsShallow n set g → brand_names n set g p ≡ brand_names (suc n) set g p) → brand_names (suc n) set b p ≡ brand_names (suc (suc n)) set b p
-    go ih = ap (λ a. a || discriminant_names (node_of set b) p) (some_field-same _ _ (fields_of set b) p (λ j a. more (field_at set b j).field.kind (field_at set b j).type (h j a)))
+    go ih = ap (λ a. a || discriminant_names (node_of set b) p) (some_field_same _ _ (fields_of set b) p (λ j a. more (field_at set b j).field.kind (field_at set b j).type (h j a)))
       where
         more : (k : FieldKind) (t : SchemaType) → ((g : ℕ) → IsGroupOf k t g → IsShallow n set g) → kind_names (brand_names n set) k t p ≡ kind_names (brand_names (suc n) set) k t p
         more (Slot o d) t s = refl
@@ -117,7 +117,7 @@ group_names_its_parts set accepted b i g p b_in i_in h = go (field_at set b i).f
   where
     go : (k : FieldKind) (t : SchemaType) → IsGroupOf k t g → IsShallow (length set.brands) set g → kind_names (brand_names (length set.brands) set) k t p ≡ struct_spots set g p
     go (Slot o d) t h s = absurd h
-    go (Group m) t h s = ap (λ o. group_names (brand_names (length set.brands) set) o p) h ∙ brand_names-more (length set.brands) set g p s
+    go (Group m) t h s = ap (λ o. group_names (brand_names (length set.brands) set) o p) h ∙ brand_names_more (length set.brands) set g p s
 
 -- a non-union field's footprint meets no other, so where two meet both are members
 pub only_members_meet : (set : Schemas) → IsAccepted set → (b i j : ℕ) (p : Spot) → b < length set.brands → i < length (fields_of set b) → j < length (fields_of set b) → i ≢ j →
@@ -142,28 +142,28 @@ none_names_discriminant set accepted b i p b_in i_in here = go (discriminant_nam
 
 -- ---- heights ----
 
-highest-same : (v w : TypedField → ℕ) (fs : List TypedField) →
+highest_same : (v w : TypedField → ℕ) (fs : List TypedField) →
     ((j : ℕ) → j < length fs → v (unwrap_or (slice_get fs j) no_field) ≡ w (unwrap_or (slice_get fs j) no_field)) → highest v fs ≡ highest w fs
-highest-same v w [] h = refl
-highest-same v w (f ∷ fs) h = ap₂ max (h 0 (omega arith)) (highest-same v w fs (λ j a. h (suc j) (omega arith)))
+highest_same v w [] h = refl
+highest_same v w (f ∷ fs) h = ap₂ max (h 0 (omega arith)) (highest_same v w fs (λ j a. h (suc j) (omega arith)))
 
-highest-most : (v : TypedField → ℕ) (n : ℕ) (fs : List TypedField) →
+highest_most : (v : TypedField → ℕ) (n : ℕ) (fs : List TypedField) →
     ((j : ℕ) → j < length fs → v (unwrap_or (slice_get fs j) no_field) ≤ n) → highest v fs ≤ n
-highest-most v n [] h = omega arith
-highest-most v n (f ∷ fs) h = omega (arith, h 0 (omega arith), highest-most v n fs (λ j a. h (suc j) (omega arith)))
+highest_most v n [] h = omega arith
+highest_most v n (f ∷ fs) h = omega (arith, h 0 (omega arith), highest_most v n fs (λ j a. h (suc j) (omega arith)))
 
-highest-least : (v : TypedField → ℕ) (fs : List TypedField) (j : ℕ) → j < length fs → v (unwrap_or (slice_get fs j) no_field) ≤ highest v fs
-highest-least v [] j a = absurd (omega arith)
-highest-least v (f ∷ fs) zero a = omega arith
-highest-least v (f ∷ fs) (suc j) a = omega (arith, highest-least v fs j (omega arith))
+highest_least : (v : TypedField → ℕ) (fs : List TypedField) (j : ℕ) → j < length fs → v (unwrap_or (slice_get fs j) no_field) ≤ highest v fs
+highest_least v [] j a = absurd (omega arith)
+highest_least v (f ∷ fs) zero a = omega arith
+highest_least v (f ∷ fs) (suc j) a = omega (arith, highest_least v fs j (omega arith))
 
-height_within-more : (n : ℕ) (set : Schemas) (b : ℕ) → IsShallow n set b → height_within n set b ≡ height_within (suc n) set b
+height_within_more : (n : ℕ) (set : Schemas) (b : ℕ) → IsShallow n set b → height_within n set b ≡ height_within (suc n) set b
 unfolding height_within
-height_within-more zero set b h = absurd h
-height_within-more (suc n) set b h = go (height_within-more n set)
+height_within_more zero set b h = absurd h
+height_within_more (suc n) set b h = go (height_within_more n set)
   where
     go : ((g : ℕ) → IsShallow n set g → height_within n set g ≡ height_within (suc n) set g) → height_within (suc n) set b ≡ height_within (suc (suc n)) set b
-    go ih = highest-same _ _ (fields_of set b) (λ j a. more (field_at set b j).field.kind (field_at set b j).type (h j a))
+    go ih = highest_same _ _ (fields_of set b) (λ j a. more (field_at set b j).field.kind (field_at set b j).type (h j a))
       where
         more : (k : FieldKind) (t : SchemaType) → ((g : ℕ) → IsGroupOf k t g → IsShallow n set g) → kind_height (height_within n set) k t ≡ kind_height (height_within (suc n) set) k t
         more (Slot o d) t s = refl
@@ -173,10 +173,10 @@ height_within-more (suc n) set b h = go (height_within-more n set)
             at None s = refl
             at (Some g) s = ap suc (ih g (s g refl))
 
-height_within-most : (m n : ℕ) (set : Schemas) (b : ℕ) → IsShallow (suc n) set b → height_within m set b ≤ n
+height_within_most : (m n : ℕ) (set : Schemas) (b : ℕ) → IsShallow (suc n) set b → height_within m set b ≤ n
 unfolding height_within
-height_within-most zero n set b h = omega arith
-height_within-most (suc m) n set b h = highest-most _ n (fields_of set b) (λ j a. most (λ k g. height_within-most m k set g) n (field_at set b j).field.kind (field_at set b j).type (h j a))
+height_within_most zero n set b h = omega arith
+height_within_most (suc m) n set b h = highest_most _ n (fields_of set b) (λ j a. most (λ k g. height_within_most m k set g) n (field_at set b j).field.kind (field_at set b j).type (h j a))
   where
     most : ((k g : ℕ) → IsShallow (suc k) set g → height_within m set g ≤ k) → (n : ℕ) (k : FieldKind) (t : SchemaType) →
         ((g : ℕ) → IsGroupOf k t g → IsShallow n set g) → kind_height (height_within m set) k t ≤ n
@@ -188,15 +188,15 @@ height_within-most (suc m) n set b h = highest-most _ n (fields_of set b) (λ j 
         at zero (Some g) s = absurd (s g refl)
         at (suc n) (Some g) s = omega (arith, ih n g (s g refl))
 
-group_height-falls : (set : Schemas) → IsAccepted set → (b i g : ℕ) → b < length set.brands → i < length (fields_of set b) →
+group_height_falls : (set : Schemas) → IsAccepted set → (b i g : ℕ) → b < length set.brands → i < length (fields_of set b) →
     IsGroupOf (field_at set b i).field.kind (field_at set b i).type g → group_height set g < group_height set b
 unfolding group_height height_within
-group_height-falls set accepted b i g b_in i_in h =
+group_height_falls set accepted b i g b_in i_in h =
     omega (
       arith,
       go (field_at set b i).field.kind (field_at set b i).type h,
-      height_within-more (length set.brands) set g (is_shallow set accepted b b_in i i_in g h),
-      highest-least (λ f. kind_height (height_within (length set.brands) set) f.field.kind f.type) (fields_of set b) i i_in,
+      height_within_more (length set.brands) set g (is_shallow set accepted b b_in i i_in g h),
+      highest_least (λ f. kind_height (height_within (length set.brands) set) f.field.kind f.type) (fields_of set b) i i_in,
     )
   where
     go : (k : FieldKind) (t : SchemaType) → IsGroupOf k t g → kind_height (height_within (length set.brands) set) k t ≡ suc (height_within (length set.brands) set g)
@@ -208,10 +208,10 @@ pub heights_fall : (set : Schemas) → IsAccepted set → (b : ℕ) → b < leng
     × ((i g : ℕ) → i < length (fields_of set b) → IsGroupOf (field_at set b i).field.kind (field_at set b i).type g → LeadsDown set b g)
 unfolding group_height
 heights_fall set accepted b b_in = (
-  height_within-most (suc (length set.brands)) (length set.brands) set b (is_shallow set accepted b b_in),
+  height_within_most (suc (length set.brands)) (length set.brands) set b (is_shallow set accepted b b_in),
   λ i g i_in h. record {
     brand = group_in_set set accepted b i g b_in i_in h;
     group = group_of_field set accepted b i g b_in i_in h;
-    lower = group_height-falls set accepted b i g b_in i_in h;
+    lower = group_height_falls set accepted b i g b_in i_in h;
   },
 )

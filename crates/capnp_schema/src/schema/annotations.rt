@@ -3,7 +3,7 @@ ghost use Rattle.std.specs.Prelude.{◌≡◌, ◌<◌, length, map};
 ghost use Rattle.capnp_wire.specs.Locate.{words_past_format};
 ghost use Rattle.capnp_schema.specs.Accepted.{AllName, NamesEntries};
 ghost use Rattle.capnp_schema.specs.Entries.{lists_seen};
-ghost use Rattle.capnp_schema.specs.Steps.Named.{NamesEntries-prop, name_entries-prop};
+ghost use Rattle.capnp_schema.specs.Steps.Named.{NamesEntries_prop, name_entries_prop};
 ghost use Rattle.capnp_schema.specs.Types.{seen_type};
 
 use crate::lists::entry_at;
@@ -20,7 +20,7 @@ pub struct Annotation<'s> {
     schemas: &'s SchemaSet,
     stored: &'s AnnotationRecord,
     annotation_type: Type,
-    ghost named: { NamesEntries (lists_seen schemas.now) (seen_type annotation_type) } by { NamesEntries-prop (lists_seen schemas.now) (seen_type annotation_type) },
+    ghost named: { NamesEntries (lists_seen schemas.now) (seen_type annotation_type) } by { NamesEntries_prop (lists_seen schemas.now) (seen_type annotation_type) },
 }
 
 impl<'s> Annotation<'s> {
@@ -65,7 +65,7 @@ pub struct AnnotationList<'s> {
     types: &'s [Type],
     ghost have_types: { length types.now ≡ length stored.now },
     ghost are_few: { length stored.now < words_past_format },
-    ghost are_named: { AllName (lists_seen schemas.now) (map seen_type types.now) } by { name_entries-prop (lists_seen schemas.now) (map seen_type types.now) },
+    ghost are_named: { AllName (lists_seen schemas.now) (map seen_type types.now) } by { name_entries_prop (lists_seen schemas.now) (map seen_type types.now) },
 }
 
 impl<'s> AnnotationList<'s> {

@@ -1,7 +1,7 @@
 //! Handles of fields.
 ghost use Rattle.std.specs.Prelude.{◌≡◌, ◌<◌, length, IsOkAnd};
 ghost use Rattle.capnp_schema.specs.Accepted.{NamesEntries};
-ghost use Rattle.capnp_schema.specs.Steps.Named.{NamesEntries-prop, same_type-prop};
+ghost use Rattle.capnp_schema.specs.Steps.Named.{NamesEntries_prop, same_type_prop};
 ghost use Rattle.capnp_schema.specs.Schema.{seen_field};
 ghost use Rattle.capnp_schema.specs.StructHandles.{set_of, struct_field, struct_fields};
 ghost use Rattle.capnp_schema.specs.Types.{seen_type};
@@ -28,8 +28,8 @@ pub struct Field<'s> {
     field_type: Type,
     ghost inside: { index < length (struct_fields schema) },
     ghost record: { seen_field proto.now ≡ (struct_field schema index).field },
-    ghost typed: { seen_type field_type ≡ (struct_field schema index).type } by { same_type-prop _ _ },
-    ghost named: { NamesEntries (set_of schema) (seen_type field_type) } by { NamesEntries-prop (set_of schema) (seen_type field_type) },
+    ghost typed: { seen_type field_type ≡ (struct_field schema index).type } by { same_type_prop _ _ },
+    ghost named: { NamesEntries (set_of schema) (seen_type field_type) } by { NamesEntries_prop (set_of schema) (seen_type field_type) },
 }
 
 impl<'s> Field<'s> {

@@ -6,7 +6,7 @@ use Rattle.std.proofs.lemmas.Bool.Decides.{nat_tests}
 use Rattle.capnp_wire.specs.Slot.{bit_at}
 use Rattle.capnp_wire.specs.Place.{bits_from}
 use Rattle.capnp_wire.specs.Encoding.{bits_number, packed_bits}
-use Rattle.capnp_wire.specs.Facts.Indexed.{length-bits_from}
+use Rattle.capnp_wire.specs.Facts.Indexed.{length_bits_from}
 use Rattle.capnp_wire.specs.Facts.Appending.{part_next}
 
 -- so many of a number's bits, lowest first
@@ -79,7 +79,7 @@ bits_whole b k n h = ap (λ x. bits_number (take 8 x)) (at_place b k n) ∙ ap b
 
 -- a byte of which the last bits may not count
 pub bits_some : (b : List ℕ) (k n : ℕ) → n - 8 * k ≤ 8 → bits_number (take 8 (drop (8 * k) (bits_from b 0 n))) ≡ get_or b k 0 % 2 ^ (n - 8 * k)
-bits_some b k n h = ap (λ x. bits_number (take 8 x)) (at_place b k n) ∙ ap bits_number (take_all 8 (bits_from b (8 * k) (n - 8 * k)) (omega (arith, length-bits_from b (8 * k) (n - 8 * k)))) ∙ byte_of b k (n - 8 * k) h
+bits_some b k n h = ap (λ x. bits_number (take 8 x)) (at_place b k n) ∙ ap bits_number (take_all 8 (bits_from b (8 * k) (n - 8 * k)) (omega (arith, length_bits_from b (8 * k) (n - 8 * k)))) ∙ byte_of b k (n - 8 * k) h
 
 -- a byte past the bits
 pub bits_past : (b : List ℕ) (k n : ℕ) → n / 8 + 1 ≤ k → 0 ≡ bits_number (take 8 (drop (8 * k) (bits_from b 0 n)))

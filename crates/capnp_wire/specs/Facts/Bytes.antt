@@ -11,36 +11,36 @@ use Rattle.capnp_wire.specs.Encoding.{spelled_number}
 -- ---- runs ----
 
 -- what the type of a slice of bytes says
-pub AreBytes-fits : (bytes : List ℕ) → ((i : ℕ) → Fits w8 (get_or bytes i 0)) → AreBytes bytes
-AreBytes-fits bytes h i = omega (arith, h i)
+pub AreBytes_fits : (bytes : List ℕ) → ((i : ℕ) → Fits w8 (get_or bytes i 0)) → AreBytes bytes
+AreBytes_fits bytes h i = omega (arith, h i)
 
 -- no bytes at all
-pub AreBytes-none : AreBytes []
-AreBytes-none i = omega arith
+pub AreBytes_none : AreBytes []
+AreBytes_none i = omega arith
 
 -- the first bytes of a run
-pub AreBytes-take : (n : ℕ) (bytes : List ℕ) → AreBytes bytes → AreBytes (take n bytes)
-AreBytes-take zero bytes h i = omega arith
-AreBytes-take (suc n) [] h i = omega arith
-AreBytes-take (suc n) (b ∷ bs) h zero = h 0
-AreBytes-take (suc n) (b ∷ bs) h (suc i) = AreBytes-take n bs (λ k. h (suc k)) i
+pub AreBytes_take : (n : ℕ) (bytes : List ℕ) → AreBytes bytes → AreBytes (take n bytes)
+AreBytes_take zero bytes h i = omega arith
+AreBytes_take (suc n) [] h i = omega arith
+AreBytes_take (suc n) (b ∷ bs) h zero = h 0
+AreBytes_take (suc n) (b ∷ bs) h (suc i) = AreBytes_take n bs (λ k. h (suc k)) i
 
 -- the bytes of a run after its first ones
-pub AreBytes-drop : (n : ℕ) (bytes : List ℕ) → AreBytes bytes → AreBytes (drop n bytes)
-AreBytes-drop n bytes h i = rw (get_or-drop n bytes i 0) (h (n + i))
+pub AreBytes_drop : (n : ℕ) (bytes : List ℕ) → AreBytes bytes → AreBytes (drop n bytes)
+AreBytes_drop n bytes h i = rw (get_or-drop n bytes i 0) (h (n + i))
 
 -- a part of a run
-pub AreBytes-part : (n i : ℕ) (bytes : List ℕ) → AreBytes bytes → AreBytes (take n (drop i bytes))
-AreBytes-part n i bytes h = AreBytes-take n (drop i bytes) (AreBytes-drop i bytes h)
+pub AreBytes_part : (n i : ℕ) (bytes : List ℕ) → AreBytes bytes → AreBytes (take n (drop i bytes))
+AreBytes_part n i bytes h = AreBytes_take n (drop i bytes) (AreBytes_drop i bytes h)
 
 -- a part is no longer than what was asked
-pub length-part-le : (n i : ℕ) (bytes : List ℕ) → length (take n (drop i bytes)) ≤ n
-length-part-le n i bytes = omega (arith, length-take n (drop i bytes))
+pub length_part_le : (n i : ℕ) (bytes : List ℕ) → length (take n (drop i bytes)) ≤ n
+length_part_le n i bytes = omega (arith, length-take n (drop i bytes))
 
 -- a message of one segment
-pub AreSegments-one : (bytes : List ℕ) → AreBytes bytes → AreSegments (bytes ∷ [])
-AreSegments-one bytes h zero = h
-AreSegments-one bytes h (suc i) = AreBytes-none
+pub AreSegments_one : (bytes : List ℕ) → AreBytes bytes → AreSegments (bytes ∷ [])
+AreSegments_one bytes h zero = h
+AreSegments_one bytes h (suc i) = AreBytes_none
 
 -- ---- numbers that are spelled ----
 
@@ -72,38 +72,38 @@ spelled_first (b ∷ bs) (suc i) n = spelled_first bs i n
 -- ---- what is written ----
 
 -- bytes, and then others
-pub AreBytes-append : (a b : List ℕ) → AreBytes a → AreBytes b → AreBytes (a ++ b)
-AreBytes-append [] b h g i = g i
-AreBytes-append (x ∷ a) b h g zero = h 0
-AreBytes-append (x ∷ a) b h g (suc i) = AreBytes-append a b (λ k. h (suc k)) g i
+pub AreBytes_append : (a b : List ℕ) → AreBytes a → AreBytes b → AreBytes (a ++ b)
+AreBytes_append [] b h g i = g i
+AreBytes_append (x ∷ a) b h g zero = h 0
+AreBytes_append (x ∷ a) b h g (suc i) = AreBytes_append a b (λ k. h (suc k)) g i
 
 -- the bytes of a number
-pub AreBytes-spelled : (k n : ℕ) → AreBytes (spelled_number k n)
-AreBytes-spelled zero n i = omega arith
-AreBytes-spelled (suc k) n zero = mod-lt n (omega arith)
-AreBytes-spelled (suc k) n (suc i) = AreBytes-spelled k (n / 256) i
+pub AreBytes_spelled : (k n : ℕ) → AreBytes (spelled_number k n)
+AreBytes_spelled zero n i = omega arith
+AreBytes_spelled (suc k) n zero = mod-lt n (omega arith)
+AreBytes_spelled (suc k) n (suc i) = AreBytes_spelled k (n / 256) i
 
-pub AreBytes-zeros : (n : ℕ) → AreBytes (replicate n 0)
-AreBytes-zeros zero i = omega arith
-AreBytes-zeros (suc n) zero = omega arith
-AreBytes-zeros (suc n) (suc i) = AreBytes-zeros n i
+pub AreBytes_zeros : (n : ℕ) → AreBytes (replicate n 0)
+AreBytes_zeros zero i = omega arith
+AreBytes_zeros (suc n) zero = omega arith
+AreBytes_zeros (suc n) (suc i) = AreBytes_zeros n i
 
 -- with another byte
-AreBytes-set : (bytes : List ℕ) (i x : ℕ) → AreBytes bytes → x < 2 ^ 8 → AreBytes (slice_set bytes i x)
-AreBytes-set [] i x h b k = h k
-AreBytes-set (y ∷ bytes) zero x h b zero = b
-AreBytes-set (y ∷ bytes) zero x h b (suc k) = h (suc k)
-AreBytes-set (y ∷ bytes) (suc i) x h b zero = h 0
-AreBytes-set (y ∷ bytes) (suc i) x h b (suc k) = AreBytes-set bytes i x (λ j. h (suc j)) b k
+AreBytes_set : (bytes : List ℕ) (i x : ℕ) → AreBytes bytes → x < 2 ^ 8 → AreBytes (slice_set bytes i x)
+AreBytes_set [] i x h b k = h k
+AreBytes_set (y ∷ bytes) zero x h b zero = b
+AreBytes_set (y ∷ bytes) zero x h b (suc k) = h (suc k)
+AreBytes_set (y ∷ bytes) (suc i) x h b zero = h 0
+AreBytes_set (y ∷ bytes) (suc i) x h b (suc k) = AreBytes_set bytes i x (λ j. h (suc j)) b k
 
 -- with a number
-pub AreBytes-with_number : (width offset n : ℕ) (bytes : List ℕ) → AreBytes bytes → AreBytes (with_number width offset n bytes)
-AreBytes-with_number width offset n bytes h =
-    AreBytes-append (take (offset * width) bytes) (spelled_number width n ++ drop (offset * width + width) bytes) (AreBytes-take (offset * width) bytes h)
-    (AreBytes-append (spelled_number width n) (drop (offset * width + width) bytes) (AreBytes-spelled width n) (AreBytes-drop (offset * width + width) bytes h))
+pub AreBytes_with_number : (width offset n : ℕ) (bytes : List ℕ) → AreBytes bytes → AreBytes (with_number width offset n bytes)
+AreBytes_with_number width offset n bytes h =
+    AreBytes_append (take (offset * width) bytes) (spelled_number width n ++ drop (offset * width + width) bytes) (AreBytes_take (offset * width) bytes h)
+    (AreBytes_append (spelled_number width n) (drop (offset * width + width) bytes) (AreBytes_spelled width n) (AreBytes_drop (offset * width + width) bytes h))
 
-pub length-with_number : (width offset n : ℕ) (bytes : List ℕ) → (offset + 1) * width ≤ length bytes → length (with_number width offset n bytes) ≡ length bytes
-length-with_number width offset n bytes h = omega (
+pub length_with_number : (width offset n : ℕ) (bytes : List ℕ) → (offset + 1) * width ≤ length bytes → length (with_number width offset n bytes) ≡ length bytes
+length_with_number width offset n bytes h = omega (
   arith,
   inside,
   length-append (take (offset * width) bytes) (spelled_number width n ++ drop (offset * width + width) bytes),
@@ -117,13 +117,13 @@ length-with_number width offset n bytes h = omega (
     inside = grind (arith, h)
 
 -- with a bit
-byte_with_bit-lt : (j : ℕ) (bit : Bool) (byte : ℕ) → j < 8 → byte < 2 ^ 8 → byte_with_bit j bit byte < 2 ^ 8
-byte_with_bit-lt j true byte h g = or_lt 8 byte (2 ^ j) g (pow_below j 8 h)
-byte_with_bit-lt j false byte h g = omega (arith, and_le_l byte (255 - 2 ^ j), g)
+byte_with_bit_lt : (j : ℕ) (bit : Bool) (byte : ℕ) → j < 8 → byte < 2 ^ 8 → byte_with_bit j bit byte < 2 ^ 8
+byte_with_bit_lt j true byte h g = or_lt 8 byte (2 ^ j) g (pow_below j 8 h)
+byte_with_bit_lt j false byte h g = omega (arith, and_le_l byte (255 - 2 ^ j), g)
 
-pub AreBytes-with_bit : (i : ℕ) (bit : Bool) (bytes : List ℕ) → AreBytes bytes → AreBytes (with_bit i bit bytes)
-AreBytes-with_bit i bit bytes h =
-    AreBytes-set bytes (i / 8) _ h (byte_with_bit-lt (i % 8) bit (get_or bytes (i / 8) 0) (mod-lt i (omega arith)) (h (i / 8)))
+pub AreBytes_with_bit : (i : ℕ) (bit : Bool) (bytes : List ℕ) → AreBytes bytes → AreBytes (with_bit i bit bytes)
+AreBytes_with_bit i bit bytes h =
+    AreBytes_set bytes (i / 8) _ h (byte_with_bit_lt (i % 8) bit (get_or bytes (i / 8) 0) (mod-lt i (omega arith)) (h (i / 8)))
 
-pub length-with_bit : (i : ℕ) (bit : Bool) (bytes : List ℕ) → length (with_bit i bit bytes) ≡ length bytes
-length-with_bit i bit bytes = length-set bytes (i / 8) _
+pub length_with_bit : (i : ℕ) (bit : Bool) (bytes : List ℕ) → length (with_bit i bit bytes) ≡ length bytes
+length_with_bit i bit bytes = length-set bytes (i / 8) _

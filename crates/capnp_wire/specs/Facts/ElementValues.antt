@@ -6,15 +6,15 @@ use Rattle.capnp_wire.specs.Numbers.{numbers_from}
 
 module _ {A : Type 0} (of_number : ℕ → A) (width : ℕ) (t : Tree) where
   -- none from the end on
-  pub elements_from-none : (i n : ℕ) → i ≡ n → numbers_from of_number width t i (n - i) ≡ []
-  elements_from-none i n h =
+  pub elements_from_none : (i n : ℕ) → i ≡ n → numbers_from of_number width t i (n - i) ≡ []
+  elements_from_none i n h =
       let e : n - i ≡ 0 = omega (arith, h) in
       ap (numbers_from of_number width t i) e
 
   -- else the first, which is a value x, and those behind it
-  pub elements_from-first : (i n : ℕ) (x : A) → i < n → x ≡ of_number (element_number width t i)
+  pub elements_from_first : (i n : ℕ) (x : A) → i < n → x ≡ of_number (element_number width t i)
       → numbers_from of_number width t i (n - i) ≡ x ∷ numbers_from of_number width t (i + 1) (n - (i + 1))
-  elements_from-first i n x h is =
+  elements_from_first i n x h is =
       let e : n - i ≡ suc (n - (i + 1)) = omega (arith, h) in
       ap (numbers_from of_number width t i) e ∙ ap (λ y. y ∷ numbers_from of_number width t (i + 1) (n - (i + 1))) (sym is)
 

@@ -2,7 +2,7 @@
 -- stay as they are.
 use Rattle.std.proofs.Common.{◌≡◌, ℕ, List, [], ◌∷◌, length, refl, ap, ◌∙◌, arith}
 use Rattle.capnp_wire.specs.Tree.{Trees, NoTrees, MoreTrees, StructTree, empty_struct, empty_structs, struct_count, tree_count}
-use Rattle.capnp_wire.specs.Facts.Rows.{struct_count-structs_from}
+use Rattle.capnp_wire.specs.Facts.Rows.{struct_count_structs_from}
 
 -- ---- a struct without sections ----
 
@@ -21,5 +21,5 @@ no_sections s b p =
 
 -- ---- structs of size zero ----
 
-pub struct_count-empty_structs : (count : ℕ) → struct_count (empty_structs count) ≡ count
-struct_count-empty_structs count = struct_count-structs_from (λ _. empty_struct) 0 count
+pub struct_count_empty_structs : (count : ℕ) → struct_count (empty_structs count) ≡ count
+struct_count_empty_structs count = struct_count_structs_from (λ _. empty_struct) 0 count

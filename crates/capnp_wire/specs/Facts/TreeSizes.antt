@@ -23,13 +23,13 @@ abbrev mutual
   structs_size (MoreStructs bytes ps es) = suc (trees_size ps + structs_size es)
 
 -- a tree of a row is smaller than the row
-pub nth_tree-smaller : (i : ℕ) (ts : Trees) → i < tree_count ts → tree_size (nth_tree ts i) < trees_size ts
-nth_tree-smaller i NoTrees h = absurd (omega arith)
-nth_tree-smaller zero (MoreTrees t ts) h = omega arith
-nth_tree-smaller (suc i) (MoreTrees t ts) h = let below = nth_tree-smaller i ts (omega arith) in omega arith
+pub nth_tree_smaller : (i : ℕ) (ts : Trees) → i < tree_count ts → tree_size (nth_tree ts i) < trees_size ts
+nth_tree_smaller i NoTrees h = absurd (omega arith)
+nth_tree_smaller zero (MoreTrees t ts) h = omega arith
+nth_tree_smaller (suc i) (MoreTrees t ts) h = let below = nth_tree_smaller i ts (omega arith) in omega arith
 
 -- and so are the pointers of an element
-pub nth_struct-smaller : (i : ℕ) (es : Structs) → i < struct_count es → trees_size (nth_struct es i).pointers < structs_size es
-nth_struct-smaller i NoStructs h = absurd (omega arith)
-nth_struct-smaller zero (MoreStructs bytes ps es) h = omega arith
-nth_struct-smaller (suc i) (MoreStructs bytes ps es) h = let below = nth_struct-smaller i es (omega arith) in omega arith
+pub nth_struct_smaller : (i : ℕ) (es : Structs) → i < struct_count es → trees_size (nth_struct es i).pointers < structs_size es
+nth_struct_smaller i NoStructs h = absurd (omega arith)
+nth_struct_smaller zero (MoreStructs bytes ps es) h = omega arith
+nth_struct_smaller (suc i) (MoreStructs bytes ps es) h = let below = nth_struct_smaller i es (omega arith) in omega arith

@@ -19,30 +19,30 @@ IsInside (CompositeAt segment start count d p) = AreBytes segment × (start + co
 
 -- ---- these facts have one proof at most, so that a reader can keep them ----
 
-pub AreBytes-prop : (bytes : List ℕ) → IsProp (AreBytes bytes)
-AreBytes-prop bytes = Π_prop (λ i. le_prop)
+pub AreBytes_prop : (bytes : List ℕ) → IsProp (AreBytes bytes)
+AreBytes_prop bytes = Π_prop (λ i. le_prop)
 
 mutual
-  pub IsWellFormed-prop : (t : Tree) → IsProp (IsWellFormed t)
-  IsWellFormed-prop Null = Unit-prop
-  IsWellFormed-prop (Struct bytes ps) = λ u v i. (AreBytes-prop bytes u.0 v.0 i, Coded-set coded_ℕ _ _ u.1 v.1 i, le_prop u.2 v.2 i, le_prop u.3 v.3 i, AreWellFormed-prop ps u.4 v.4 i)
-  IsWellFormed-prop (Voids count) = le_prop
-  IsWellFormed-prop (Bits bits) = le_prop
-  IsWellFormed-prop (Numbers width bytes) = λ u v i. (AreBytes-prop bytes u.0 v.0 i, Coded-set coded_bool _ _ u.1 v.1 i, Coded-set coded_ℕ _ _ u.2 v.2 i, le_prop u.3 v.3 i)
-  IsWellFormed-prop (Pointers ps) = λ u v i. (le_prop u.0 v.0 i, AreWellFormed-prop ps u.1 v.1 i)
-  IsWellFormed-prop (Composite d p es) = λ u v i. (le_prop u.0 v.0 i, le_prop u.1 v.1 i, le_prop u.2 v.2 i, le_prop u.3 v.3 i, AreElements-prop d p es u.4 v.4 i)
-  IsWellFormed-prop (FaultLeaf fault) = Unit-prop
+  pub IsWellFormed_prop : (t : Tree) → IsProp (IsWellFormed t)
+  IsWellFormed_prop Null = Unit-prop
+  IsWellFormed_prop (Struct bytes ps) = λ u v i. (AreBytes_prop bytes u.0 v.0 i, Coded-set coded_ℕ _ _ u.1 v.1 i, le_prop u.2 v.2 i, le_prop u.3 v.3 i, AreWellFormed_prop ps u.4 v.4 i)
+  IsWellFormed_prop (Voids count) = le_prop
+  IsWellFormed_prop (Bits bits) = le_prop
+  IsWellFormed_prop (Numbers width bytes) = λ u v i. (AreBytes_prop bytes u.0 v.0 i, Coded-set coded_bool _ _ u.1 v.1 i, Coded-set coded_ℕ _ _ u.2 v.2 i, le_prop u.3 v.3 i)
+  IsWellFormed_prop (Pointers ps) = λ u v i. (le_prop u.0 v.0 i, AreWellFormed_prop ps u.1 v.1 i)
+  IsWellFormed_prop (Composite d p es) = λ u v i. (le_prop u.0 v.0 i, le_prop u.1 v.1 i, le_prop u.2 v.2 i, le_prop u.3 v.3 i, AreElements_prop d p es u.4 v.4 i)
+  IsWellFormed_prop (FaultLeaf fault) = Unit-prop
 
-  pub AreWellFormed-prop : (ts : Trees) → IsProp (AreWellFormed ts)
-  AreWellFormed-prop NoTrees = Unit-prop
-  AreWellFormed-prop (MoreTrees t ts) = ×_prop (IsWellFormed-prop t) (AreWellFormed-prop ts)
+  pub AreWellFormed_prop : (ts : Trees) → IsProp (AreWellFormed ts)
+  AreWellFormed_prop NoTrees = Unit-prop
+  AreWellFormed_prop (MoreTrees t ts) = ×_prop (IsWellFormed_prop t) (AreWellFormed_prop ts)
 
-  pub AreElements-prop : (d p : ℕ) (es : Structs) → IsProp (AreElements d p es)
-  AreElements-prop d p NoStructs = Unit-prop
-  AreElements-prop d p (MoreStructs bytes ps es) = λ u v i. (AreBytes-prop bytes u.0 v.0 i, Coded-set coded_ℕ _ _ u.1 v.1 i, Coded-set coded_ℕ _ _ u.2 v.2 i, AreWellFormed-prop ps u.3 v.3 i, AreElements-prop d p es u.4 v.4 i)
+  pub AreElements_prop : (d p : ℕ) (es : Structs) → IsProp (AreElements d p es)
+  AreElements_prop d p NoStructs = Unit-prop
+  AreElements_prop d p (MoreStructs bytes ps es) = λ u v i. (AreBytes_prop bytes u.0 v.0 i, Coded-set coded_ℕ _ _ u.1 v.1 i, Coded-set coded_ℕ _ _ u.2 v.2 i, AreWellFormed_prop ps u.3 v.3 i, AreElements_prop d p es u.4 v.4 i)
 
-pub IsWellFormedStruct-prop : (s : StructTree) → IsProp (IsWellFormedStruct s)
-IsWellFormedStruct-prop s = λ u v i. (AreBytes-prop s.bytes u.0 v.0 i, le_prop u.1 v.1 i, le_prop u.2 v.2 i, AreWellFormed-prop s.pointers u.3 v.3 i)
+pub IsWellFormedStruct_prop : (s : StructTree) → IsProp (IsWellFormedStruct s)
+IsWellFormedStruct_prop s = λ u v i. (AreBytes_prop s.bytes u.0 v.0 i, le_prop u.1 v.1 i, le_prop u.2 v.2 i, AreWellFormed_prop s.pointers u.3 v.3 i)
 
-pub AreSegments-prop : (segments : Segments) → IsProp (AreSegments segments)
-AreSegments-prop segments = Π_prop (λ i. AreBytes-prop _)
+pub AreSegments_prop : (segments : Segments) → IsProp (AreSegments segments)
+AreSegments_prop segments = Π_prop (λ i. AreBytes_prop _)

@@ -1,7 +1,7 @@
 -- The loop keeps that the pointers before `i` are filled and the rest spared; each pointer is one tree of the fitted row.
 use Rattle.std.proofs.Common.{arith, ◌≡◌, sym, subst, ◌∙◌}
 use Rattle.std.proofs.lemmas.Result.{err_from_is_err_and}
-use Rattle.capnp_wire.specs.Facts.Parts.{IsWellFormed-nth_tree}
+use Rattle.capnp_wire.specs.Facts.Parts.{IsWellFormed_nth_tree}
 use Rattle.capnp_wire.specs.Found.{pointer_tree, pointer_trees}
 use Rattle.capnp_wire.specs.Tree.{nth_tree}
 use Rattle.capnp_wire.specs.WellFormed.{IsWellFormed}
@@ -14,7 +14,7 @@ pub loop-i-init : goal.loop-i-init
 loop-i-init c = row_begins _ _ _
 
 pub fill_pointer-requires-clause-held : goal.fill_pointer-requires-clause-held
-fill_pointer-requires-clause-held c = subst IsWellFormed (sym c.get_pointer.ensures) (IsWellFormed-nth_tree (pointer_trees c.args.pointers) c.loop-i.i c.requires.held)
+fill_pointer-requires-clause-held c = subst IsWellFormed (sym c.get_pointer.ensures) (IsWellFormed_nth_tree (pointer_trees c.args.pointers) c.loop-i.i c.requires.held)
 
 pub fill_pointer-requires-clause-inside : goal.fill_pointer-requires-clause-inside
 fill_pointer-requires-clause-inside c = omega (arith, c.loop-i-test.true, c.requires.inside, c.loop-i.invariant.kept.longer)

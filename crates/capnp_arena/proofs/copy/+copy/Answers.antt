@@ -5,9 +5,9 @@ use Rattle.std.proofs.lemmas.Result.{err_from_is_err_and}
 use Rattle.capnp_wire.specs.Encoding.{bytes_of, spelled_number}
 use Rattle.capnp_wire.specs.Facts.EncodedSizes.{length_element_row}
 use Rattle.capnp_wire.specs.Facts.Filling.{composite_last, element_put, row_last}
-use Rattle.capnp_wire.specs.Facts.Parts.{IsWellFormed-nth_tree}
-use Rattle.capnp_wire.specs.Facts.Rows.{IsElement-nth_struct}
-use Rattle.capnp_wire.specs.Facts.Structs.{IsWellFormed-element}
+use Rattle.capnp_wire.specs.Facts.Parts.{IsWellFormed_nth_tree}
+use Rattle.capnp_wire.specs.Facts.Rows.{IsElement_nth_struct}
+use Rattle.capnp_wire.specs.Facts.Structs.{IsWellFormed_element}
 use Rattle.capnp_wire.specs.Steps.Filling.{with_pointers}
 use Rattle.capnp_wire.specs.Found.{element_structs, found_tree, parts_tree, pointer_tree, pointer_trees}
 use Rattle.capnp_wire.specs.Tree.{StructTree, nth_struct, nth_tree, struct_count, tree_count}
@@ -19,7 +19,7 @@ use Rattle.capnp_arena.proofs.BlobsFound.{blob_filled}
 use Rattle.capnp_arena.proofs.Padding.{padded_whole}
 use Rattle.capnp_arena.proofs.PlainRows.{plain_list}
 use Rattle.capnp_arena.specs.Facts.Shapes.{element_end}
-use Rattle.capnp_wire.specs.Facts.TreeSizes.{nth_struct-smaller, nth_tree-smaller, tree_size, trees_size}
+use Rattle.capnp_wire.specs.Facts.TreeSizes.{nth_struct_smaller, nth_tree_smaller, tree_size, trees_size}
 use Rattle.capnp_arena.proofs.copy.+copy.Goals as goal
 
 -- ---- objects ----
@@ -100,9 +100,9 @@ fill_pointer-returns-clause-kept t c = pointer_spared c.args.at _ _ _ _ (omega (
 pub fill_row-fill_pointer-requires : goal.fill_row-fill_pointer-requires
 fill_row-fill_pointer-requires t c =
     let here : c.loop-i.i < tree_count (pointer_trees c.args.pointers) = omega (arith, c.loop-i-test.true, c.count_pointers-count.ensures) in
-    let below = nth_tree-smaller c.loop-i.i (pointer_trees c.args.pointers) here in
+    let below = nth_tree_smaller c.loop-i.i (pointer_trees c.args.pointers) here in
     let size : tree_size (pointer_tree c.get_pointer.result) ≡ tree_size (nth_tree (pointer_trees c.args.pointers) c.loop-i.i) = ap tree_size c.get_pointer.ensures in
-    (omega (arith, below, size), (subst IsWellFormed (sym c.get_pointer.ensures) (IsWellFormed-nth_tree (pointer_trees c.args.pointers) c.loop-i.i c.requires.held), omega (arith, here, c.requires.inside, c.loop-i.invariant.kept.longer)))
+    (omega (arith, below, size), (subst IsWellFormed (sym c.get_pointer.ensures) (IsWellFormed_nth_tree (pointer_trees c.args.pointers) c.loop-i.i c.requires.held), omega (arith, here, c.requires.inside, c.loop-i.invariant.kept.longer)))
 
 pub fill_row-returns-in_err-fill_pointer-clause-cause : goal.fill_row-returns-in_err-fill_pointer-clause-cause
 fill_row-returns-in_err-fill_pointer-clause-cause t c =
@@ -148,11 +148,11 @@ fill_elements-fill_element-requires t c =
     let d = c.args.size.data_words in
     let p = c.args.size.pointers in
     let here : c.loop-i.i < struct_count (element_structs c.args.size.data_words c.args.size.pointers c.args.elements) = omega (arith, c.loop-i-test.true, c.count_elements-count.ensures) in
-    let below = nth_struct-smaller c.loop-i.i (element_structs c.args.size.data_words c.args.size.pointers c.args.elements) here in
+    let below = nth_struct_smaller c.loop-i.i (element_structs c.args.size.data_words c.args.size.pointers c.args.elements) here in
     let size : trees_size (parts_tree c.get_element.result).pointers ≡ trees_size (nth_struct (element_structs c.args.size.data_words c.args.size.pointers c.args.elements) c.loop-i.i).pointers = ap (λ (x : StructTree). trees_size x.pointers) c.get_element.ensures in
-    let s : IsElement c.args.size.data_words c.args.size.pointers (parts_tree c.get_element.result) = subst (IsElement c.args.size.data_words c.args.size.pointers) (sym c.get_element.ensures) (IsElement-nth_struct c.args.size.data_words c.args.size.pointers (element_structs c.args.size.data_words c.args.size.pointers c.args.elements) c.loop-i.i c.requires.held here) in
+    let s : IsElement c.args.size.data_words c.args.size.pointers (parts_tree c.get_element.result) = subst (IsElement c.args.size.data_words c.args.size.pointers) (sym c.get_element.ensures) (IsElement_nth_struct c.args.size.data_words c.args.size.pointers (element_structs c.args.size.data_words c.args.size.pointers c.args.elements) c.loop-i.i c.requires.held here) in
     let l : c.loop-i.i * (c.args.size.data_words + c.args.size.pointers) + (c.args.size.data_words + c.args.size.pointers) ≤ struct_count (element_structs c.args.size.data_words c.args.size.pointers c.args.elements) * (c.args.size.data_words + c.args.size.pointers) = element_end c.loop-i.i _ (c.args.size.data_words + c.args.size.pointers) here in
-    (omega (arith, below, size), (IsWellFormed-element c.args.size.data_words c.args.size.pointers (parts_tree c.get_element.result) (omega arith) (omega arith) s, omega (arith, l, s.1, s.2, c.requires.inside, c.loop-i.invariant.kept.longer)))
+    (omega (arith, below, size), (IsWellFormed_element c.args.size.data_words c.args.size.pointers (parts_tree c.get_element.result) (omega arith) (omega arith) s, omega (arith, l, s.1, s.2, c.requires.inside, c.loop-i.invariant.kept.longer)))
 
 pub fill_elements-returns-in_err-fill_element-clause-cause : goal.fill_elements-returns-in_err-fill_element-clause-cause
 fill_elements-returns-in_err-fill_element-clause-cause t c =
@@ -163,13 +163,13 @@ fill_elements-returns-in_err-fill_element-clause-cause t c =
 pub fill_elements-returns-in_err-fill_element-clause-kept : goal.fill_elements-returns-in_err-fill_element-clause-kept
 fill_elements-returns-in_err-fill_element-clause-kept t c =
     let here : c.loop-i.i < struct_count (element_structs c.args.size.data_words c.args.size.pointers c.args.elements) = omega (arith, c.loop-i-test.true, c.count_elements-count.ensures) in
-    let s : IsElement c.args.size.data_words c.args.size.pointers (parts_tree c.get_element.result) = subst (IsElement c.args.size.data_words c.args.size.pointers) (sym c.get_element.ensures) (IsElement-nth_struct c.args.size.data_words c.args.size.pointers (element_structs c.args.size.data_words c.args.size.pointers c.args.elements) c.loop-i.i c.requires.held here) in
+    let s : IsElement c.args.size.data_words c.args.size.pointers (parts_tree c.get_element.result) = subst (IsElement c.args.size.data_words c.args.size.pointers) (sym c.get_element.ensures) (IsElement_nth_struct c.args.size.data_words c.args.size.pointers (element_structs c.args.size.data_words c.args.size.pointers c.args.elements) c.loop-i.i c.requires.held here) in
     struct_kept _ _ _ _ _ _ _ c.loop-i.invariant _ here c.get_element.ensures _ _ (omega (arith, s.1, s.2)) c.fill_element.ensures.kept
 
 pub fill_elements-loop-i-preserved : goal.fill_elements-loop-i-preserved
 fill_elements-loop-i-preserved t c =
     let here : c.loop-i.i < struct_count (element_structs c.args.size.data_words c.args.size.pointers c.args.elements) = omega (arith, c.loop-i-test.true, c.count_elements-count.ensures) in
-    let s : IsElement c.args.size.data_words c.args.size.pointers (parts_tree c.get_element.result) = subst (IsElement c.args.size.data_words c.args.size.pointers) (sym c.get_element.ensures) (IsElement-nth_struct c.args.size.data_words c.args.size.pointers (element_structs c.args.size.data_words c.args.size.pointers c.args.elements) c.loop-i.i c.requires.held here) in
+    let s : IsElement c.args.size.data_words c.args.size.pointers (parts_tree c.get_element.result) = subst (IsElement c.args.size.data_words c.args.size.pointers) (sym c.get_element.ensures) (IsElement_nth_struct c.args.size.data_words c.args.size.pointers (element_structs c.args.size.data_words c.args.size.pointers c.args.elements) c.loop-i.i c.requires.held here) in
     struct_after _ _ _ _ _ _ _ c.loop-i.invariant _ here c.get_element.ensures _ _ (omega (arith, s.1, s.2)) c.loop-i.arena.whole (omega (arith, c.requires.inside, c.loop-i.invariant.kept.longer)) c.requires.held c.in_ok-fill_element.ensures.sound c.in_ok-fill_element.ensures.copy c.in_ok-fill_element.ensures.kept
 
 pub fill_elements-returns-clause-copy : goal.fill_elements-returns-clause-copy

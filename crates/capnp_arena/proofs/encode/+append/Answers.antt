@@ -3,8 +3,8 @@
 use Rattle.std.proofs.Common.{IfOk, rules, arith, ◌≡◌, ◌++◌, ◌+◌, ◌-◌, ◌*◌, ◌/◌, ◌<◌, ◌≤◌, inl, inr, ◌∙◌, sym, ap, subst, length, List, ℕ}
 use Rattle.std.proofs.lemmas.List.{append-nil}
 use Rattle.capnp_wire.specs.Encoding.{pointer_word, spelled_number}
-use Rattle.capnp_wire.specs.Facts.Bytes.{AreBytes-fits}
-use Rattle.capnp_wire.specs.Facts.Rows.{struct_count-structs_from, tree_count-trees_from}
+use Rattle.capnp_wire.specs.Facts.Bytes.{AreBytes_fits}
+use Rattle.capnp_wire.specs.Facts.Rows.{struct_count_structs_from, tree_count_trees_from}
 use Rattle.capnp_wire.specs.Steps.Filling.{bytes_with, with_pointers, words_from}
 use Rattle.capnp_wire.specs.Tree.{trees_from}
 use Rattle.capnp_wire.specs.WellFormed.{AreBytes}
@@ -86,20 +86,20 @@ append_tree-returns-else-depth-lt2-2 t c =
 
 pub append_row-fill_row-requires : goal.append_row-fill_row-requires
 append_row-fill_row-requires t c =
-    let h : AreBytes c.args.bytes.now = AreBytes-fits c.args.bytes.now c.type_inv.bytes in
-    let n = tree_count-trees_from (tree c.args.bytes.now) c.args.first c.args.count in
+    let h : AreBytes c.args.bytes.now = AreBytes_fits c.args.bytes.now c.type_inv.bytes in
+    let n = tree_count_trees_from (tree c.args.bytes.now) c.args.first c.args.count in
     (search rules, (c.requires.forests, (c.requires.inside, (c.requires.few, row_room _ c.args.count _ c.args.out.now.items _ (omega (arith, c.len-at.ensures)) (sym n) c.in_ok-append_room.ensures (row_held _ _ _ h) (omega (arith, c.requires.small, n))))))
 
 pub append_row-returns : goal.append_row-returns
 append_row-returns t c =
-    row_last _ c.args.count _ c.args.out.now.items _ _ (omega (arith, c.len-at.ensures)) (sym (tree_count-trees_from (tree c.args.bytes.now) c.args.first c.args.count)) c.in_ok-append_room.ensures c.in_ok-fill_row.ensures
+    row_last _ c.args.count _ c.args.out.now.items _ _ (omega (arith, c.len-at.ensures)) (sym (tree_count_trees_from (tree c.args.bytes.now) c.args.first c.args.count)) c.in_ok-append_room.ensures c.in_ok-fill_row.ensures
 
 -- ---- composite lists ----
 
 pub append_composite-fill_elements-requires : goal.append_composite-fill_elements-requires
 append_composite-fill_elements-requires t c =
-    let h : AreBytes c.args.bytes.now = AreBytes-fits c.args.bytes.now c.type_inv.bytes in
-    let n = struct_count-structs_from (λ i. struct_from c.args.bytes.now (c.args.tag + 1 + i * (c.args.data_words + c.args.pointers)) c.args.data_words c.args.pointers) 0 c.args.count in
+    let h : AreBytes c.args.bytes.now = AreBytes_fits c.args.bytes.now c.type_inv.bytes in
+    let n = struct_count_structs_from (λ i. struct_from c.args.bytes.now (c.args.tag + 1 + i * (c.args.data_words + c.args.pointers)) c.args.data_words c.args.pointers) 0 c.args.count in
     let b = elements_held c.args.bytes.now (c.args.tag + 1) c.args.data_words c.args.pointers 0 c.args.count h (elements_lie c.args.bytes.now (c.args.tag + 1) c.args.data_words c.args.pointers c.args.count c.requires.inside) in (
       search rules,
       (
@@ -119,8 +119,8 @@ append_composite-fill_elements-requires t c =
 
 pub append_composite-returns : goal.append_composite-returns
 append_composite-returns t c =
-    let h : AreBytes c.args.bytes.now = AreBytes-fits c.args.bytes.now c.type_inv.bytes in
-    let n = struct_count-structs_from (λ i. struct_from c.args.bytes.now (c.args.tag + 1 + i * (c.args.data_words + c.args.pointers)) c.args.data_words c.args.pointers) 0 c.args.count in
+    let h : AreBytes c.args.bytes.now = AreBytes_fits c.args.bytes.now c.type_inv.bytes in
+    let n = struct_count_structs_from (λ i. struct_from c.args.bytes.now (c.args.tag + 1 + i * (c.args.data_words + c.args.pointers)) c.args.data_words c.args.pointers) 0 c.args.count in
     let b = elements_held c.args.bytes.now (c.args.tag + 1) c.args.data_words c.args.pointers 0 c.args.count h (elements_lie c.args.bytes.now (c.args.tag + 1) c.args.data_words c.args.pointers c.args.count c.requires.inside) in
     composite_last _ _ _ c.args.count _ _ c.append_word.new.out.items _ _ _ c.make_struct_word.ensures c.in_ok-append_word.ensures (omega (arith, c.len-at.ensures)) (sym n) c.in_ok-append_room.ensures b c.in_ok-fill_elements.ensures
 
@@ -134,7 +134,7 @@ append_composite-returns-then-pointers-eq0 t c =
     let p = c.args.pointers in
     let plain = plain_row (tree c.args.bytes.now) c.args.bytes.now (c.args.tag + 1) c.args.data_words c.args.pointers c.args.count c.if-pointers-eq0.true in
     let size : 8 * (c.args.count * c.args.data_words) ≡ 8 * (c.args.count * (c.args.data_words + c.args.pointers)) = sym (ap (λ k. 8 * (c.args.count * (c.args.data_words + k))) c.if-pointers-eq0.true ∙ omega arith) in
-    plain_list c.args.data_words c.args.pointers c.args.count _ _ c.args.out.now.items c.append_word.new.out.items _ (struct_count-structs_from _ 0 c.args.count) plain
+    plain_list c.args.data_words c.args.pointers c.args.count _ _ c.args.out.now.items c.append_word.new.out.items _ (struct_count_structs_from _ 0 c.args.count) plain
     (c.in_ok-append_word.ensures ∙ ap (λ w. c.args.out.now.items ++ spelled_number 8 w) c.make_struct_word.ensures)
     (c.in_ok-extend_from_slice.ensures.items ∙ ap (λ z. c.append_word.new.out.items ++ z) (c.get_part.ensures.part ∙ ap (bytes_at c.args.bytes.now (c.args.tag + 1)) size))
 

@@ -1,6 +1,6 @@
 -- The struct's words fit the segment, so with the larger sections they fit the limit; the extended struct has an element's size.
 use Rattle.std.proofs.Common.{arith, rules, suc, ◌+◌, ◌≡◌, ◌≤◌, ap, List, ℕ}
-use Rattle.capnp_wire.specs.Facts.Bytes.{AreBytes-fits}
+use Rattle.capnp_wire.specs.Facts.Bytes.{AreBytes_fits}
 use Rattle.capnp_wire.specs.Tree.{trees_from}
 use Rattle.capnp_wire.specs.WellFormed.{AreBytes}
 use Rattle.capnp_wire.specs.Words.{words_of, words_of_all}
@@ -21,7 +21,7 @@ encode_grown-requires-clause-small c =
 
 pub returns-clause-words : goal.returns-clause-words
 returns-clause-words c =
-    let h : AreBytes c.args.bytes.now = AreBytes-fits c.args.bytes.now c.type_inv.bytes in
+    let h : AreBytes c.args.bytes.now = AreBytes_fits c.args.bytes.now c.type_inv.bytes in
     let n = larger_length c.args.size (struct_from c.args.bytes.now c.args.place.start c.args.place.data_words c.args.place.pointers) c.in_ok-content.content.items (omega arith) (omega arith)
     (struct_extended c.args.bytes.now c.args.place.start c.args.place.data_words c.args.place.pointers c.args.size h (omega arith) (omega arith) c.requires.larger.0 c.requires.larger.1) (search rules) in
     let fit : suc (words_of (tree c.args.bytes.now c.args.at)) ≤ word_count c.args.bytes.now = words_fit c.args.bytes.now c.args.at c.requires.forest in
@@ -29,5 +29,5 @@ returns-clause-words c =
 
 pub returns-clause-held : goal.returns-clause-held
 returns-clause-held c =
-    let h : AreBytes c.args.bytes.now = AreBytes-fits c.args.bytes.now c.type_inv.bytes in
+    let h : AreBytes c.args.bytes.now = AreBytes_fits c.args.bytes.now c.type_inv.bytes in
     struct_extended c.args.bytes.now c.args.place.start c.args.place.data_words c.args.place.pointers c.args.size h (omega arith) (omega arith) c.requires.larger.0 c.requires.larger.1

@@ -1,7 +1,7 @@
 -- The loop keeps that the parts before `i` are filled and the rest have room; of structs of size zero there is nothing to fill.
 use Rattle.std.proofs.Common.{arith, ◌+◌, ◌∙◌, sym}
 use Rattle.capnp_wire.specs.Edits.{extended_struct}
-use Rattle.capnp_wire.specs.Facts.Bytes.{AreBytes-fits}
+use Rattle.capnp_wire.specs.Facts.Bytes.{AreBytes_fits}
 use Rattle.capnp_wire.specs.Facts.Filling.{element_filled}
 use Rattle.capnp_wire.specs.Tree.{structs_from}
 use Rattle.capnp_wire.specs.WellFormed.{AreBytes}
@@ -12,13 +12,13 @@ use Rattle.capnp_arena.proofs.grown.fill_all_grown.Goals as goal
 
 pub fill_grown-requires-clause-long : goal.fill_grown-requires-clause-long
 fill_grown-requires-clause-long c =
-    let h : AreBytes c.args.bytes.now = AreBytes-fits c.args.bytes.now c.type_inv.bytes in
+    let h : AreBytes c.args.bytes.now = AreBytes_fits c.args.bytes.now c.type_inv.bytes in
     let room = rw (structs_next (λ i. extended_struct c.args.size (grown_part_at c.args.bytes.now c.args.row i)) c.loop-i.i c.args.count c.loop-i-test.true) at c.loop-i.invariant.room in
     (grown_room c.args.size _ (grown_part_at c.args.bytes.now c.args.row c.loop-i.i) _ _ (omega (arith, part_tree_count c.args.bytes.now c.args.row c.loop-i.i, c.requires.fits.1)) (row_held _ _ _ h) room).0
 
 pub fill_grown-requires-clause-room : goal.fill_grown-requires-clause-room
 fill_grown-requires-clause-room c =
-    let h : AreBytes c.args.bytes.now = AreBytes-fits c.args.bytes.now c.type_inv.bytes in
+    let h : AreBytes c.args.bytes.now = AreBytes_fits c.args.bytes.now c.type_inv.bytes in
     let room = rw (structs_next (λ i. extended_struct c.args.size (grown_part_at c.args.bytes.now c.args.row i)) c.loop-i.i c.args.count c.loop-i-test.true) at c.loop-i.invariant.room in
     (grown_room c.args.size _ (grown_part_at c.args.bytes.now c.args.row c.loop-i.i) _ _ (omega (arith, part_tree_count c.args.bytes.now c.args.row c.loop-i.i, c.requires.fits.1)) (row_held _ _ _ h) room).1
 

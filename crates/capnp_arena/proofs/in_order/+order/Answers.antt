@@ -1,5 +1,5 @@
 use Rattle.std.proofs.Common.{None, Option, Some, arith, refl, ◌≡◌, ◌+◌, ◌-◌, ◌*◌, ◌<◌, ◌≤◌, ◌∙◌, suc, sym, ap, subst, List, ℕ}
-use Rattle.capnp_wire.specs.Facts.Bytes.{AreBytes-fits}
+use Rattle.capnp_wire.specs.Facts.Bytes.{AreBytes_fits}
 use Rattle.capnp_wire.specs.Locate.{count, element_size_number, pointer_kind, list_words, offset}
 use Rattle.capnp_wire.specs.Slot.{number_at}
 use Rattle.capnp_wire.specs.WellFormed.{AreBytes}
@@ -153,14 +153,14 @@ follow_at-returns-else-depth-least t c =
 
 pub follow_row-loop-i-preserved : goal.follow_row-loop-i-preserved
 follow_row-loop-i-preserved t c = record {
-  laid = λ last r. c.loop-i.invariant.laid last (row_left c.args.bytes.now c.args.first c.loop-i.i c.args.count c.loop-i.next c.in_ok-next.next last (AreBytes-fits c.args.bytes.now c.type_inv.bytes) c.loop-i-test.true (omega (arith, c.requires.before, c.loop-i.invariant.after)) c.in_ok-next.ensures r);
+  laid = λ last r. c.loop-i.invariant.laid last (row_left c.args.bytes.now c.args.first c.loop-i.i c.args.count c.loop-i.next c.in_ok-next.next last (AreBytes_fits c.args.bytes.now c.type_inv.bytes) c.loop-i-test.true (omega (arith, c.requires.before, c.loop-i.invariant.after)) c.in_ok-next.ensures r);
   after = omega (arith, c.loop-i.invariant.after, c.in_ok-next.ensures.after);
   inside = c.in_ok-next.ensures.inside;
 }
 
 pub follow_elements-loop-i-preserved : goal.follow_elements-loop-i-preserved
 follow_elements-loop-i-preserved t c = record {
-  laid = λ last r. c.loop-i.invariant.laid last (structs_left c.args.bytes.now c.args.start c.args.data_words c.args.pointers c.loop-i.i c.args.count c.loop-i.next c.in_ok-next.next last (AreBytes-fits c.args.bytes.now c.type_inv.bytes) c.loop-i-test.true (omega (arith, c.requires.before, c.loop-i.invariant.after)) c.in_ok-next.ensures r);
+  laid = λ last r. c.loop-i.invariant.laid last (structs_left c.args.bytes.now c.args.start c.args.data_words c.args.pointers c.loop-i.i c.args.count c.loop-i.next c.in_ok-next.next last (AreBytes_fits c.args.bytes.now c.type_inv.bytes) c.loop-i-test.true (omega (arith, c.requires.before, c.loop-i.invariant.after)) c.in_ok-next.ensures r);
   after = omega (arith, c.loop-i.invariant.after, c.in_ok-next.ensures.after);
   inside = c.in_ok-next.ensures.inside;
 }

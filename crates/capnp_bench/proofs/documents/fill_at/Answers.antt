@@ -1,5 +1,5 @@
 -- An item of the list is written, and the list holds items still.
-use Rattle.capnp_wire.specs.Facts.Lengths.{HasStruct-there}
+use Rattle.capnp_wire.specs.Facts.Lengths.{HasStruct_there}
 use Rattle.capnp_arena.specs.Built.{built_at}
 use Rattle.capnp_arena.specs.Forest.{tree}
 use Rattle.capnp_arena.specs.Segment.{segment}
@@ -11,7 +11,7 @@ use Rattle.capnp_bench.proofs.documents.fill_at.Goals as goal
 pub get_struct_at-place-requires-clause-there : goal.get_struct_at-place-requires-clause-there
 get_struct_at-place-requires-clause-there c =
     let size = brand_size (set_of c.args.item) (number_of c.args.item) in
-    HasStruct-there size (tree (segment c.args.arena.now) c.args.at) c.args.index c.requires.holds c.requires.inside
+    HasStruct_there size (tree (segment c.args.arena.now) c.args.at) c.args.index c.requires.holds c.requires.inside
 
 pub fill_item-requires-clause-standing : goal.fill_item-requires-clause-standing
 fill_item-requires-clause-standing c =

@@ -6,14 +6,14 @@ use Rattle.capnp_schema.specs.FieldLists.{index_of, field_schema, typed_of}
 use Rattle.capnp_schema.specs.Ranges.{HasRanges, ValueFits}
 use Rattle.capnp_schema.specs.Schema.{AnyPointerValue, ListValue, StructValue, default_of, Value as SchemaValue}
 use Rattle.capnp_schema.specs.StructHandles.{IsStruct, set_of}
-use Rattle.capnp_records.specs.Facts.FormedSets.{formed-words}
+use Rattle.capnp_records.specs.Facts.FormedSets.{formed_words}
 use Rattle.capnp_slots.specs.Fields.{field_brand, field_set}
 use Rattle.capnp_call.proofs.enter.default_is_sound.Goals as goal
 
 formed-default : (d : SchemaValue) → ValueFits d → IsWellFormed (value_default_tree d)
-formed-default (StructValue words) fits = formed-words words fits
-formed-default (ListValue words) fits = formed-words words fits
-formed-default (AnyPointerValue words) fits = formed-words words fits
+formed-default (StructValue words) fits = formed_words words fits
+formed-default (ListValue words) fits = formed_words words fits
+formed-default (AnyPointerValue words) fits = formed_words words fits
 formed-default d fits = tt
 
 pub returns-clause-formed : goal.returns-clause-formed

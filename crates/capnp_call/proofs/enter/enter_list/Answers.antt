@@ -2,7 +2,7 @@
 use Rattle.std.proofs.Common.{◌≡◌, Result, Ok, IfErr, refl, ap, sym, subst, true, ◌∙◌}
 use Rattle.std.specs.Prelude.{ℕ, ⊤}
 use Rattle.capnp_device.specs.declared.error.Error.{Error}
-use Rattle.capnp_wire.specs.Facts.Parts.{IsWellFormed-nth_tree}
+use Rattle.capnp_wire.specs.Facts.Parts.{IsWellFormed_nth_tree}
 use Rattle.capnp_wire.specs.Place.{struct_tree}
 use Rattle.capnp_wire.specs.Tree.{StructTree, Tree, nth_tree}
 use Rattle.capnp_wire.specs.WellFormed.{IsWellFormed}
@@ -17,7 +17,7 @@ use Rattle.capnp_call.proofs.ListBehind.{list_entered, list_left, list_stopped}
 use Rattle.capnp_call.proofs.enter.enter_list.Goals as goal
 
 pointer_formed : (s : StructTree) (i : ℕ) (t : Tree) → t ≡ nth_tree s.pointers i → IsWellFormed (struct_tree s) → IsWellFormed t
-pointer_formed s i t e h = subst IsWellFormed (sym e) (IsWellFormed-nth_tree s.pointers i h.4)
+pointer_formed s i t e h = subst IsWellFormed (sym e) (IsWellFormed_nth_tree s.pointers i h.4)
 
 pub returns-in-Ok-clause-goes : goal.returns-in-Ok-clause-goes
 returns-in-Ok-clause-goes c =

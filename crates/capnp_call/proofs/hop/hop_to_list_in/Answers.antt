@@ -2,7 +2,7 @@
 use Rattle.std.proofs.Common.{None, refl, subst, sym, ◌≡◌}
 use Rattle.std.proofs.lemmas.Bool.{true≢false}
 use Rattle.capnp_wire.specs.Edits.{IsDueRefusal}
-use Rattle.capnp_wire.specs.Facts.Parts.{IsWellFormed-element_pointer}
+use Rattle.capnp_wire.specs.Facts.Parts.{IsWellFormed_element_pointer}
 use Rattle.capnp_wire.specs.Tree.{Tree}
 use Rattle.capnp_wire.specs.Words.{first_fault}
 use Rattle.capnp_arena.specs.Forest.{tree}
@@ -31,7 +31,7 @@ returns-in-Err c = λ rest end.
     element_stays c.args.word set (ListType e) i rest end (segment c.args.arena.now) (segment c.fill_list.new.arena) c.in-Err.error.kind c.requires.forest c.in-Err.ensures.refused
     (element_list_stops set x i rest end c.requires.inside e c.in-Err.error x refl
     (λ b. ((c.numbers_fit.ensures.nodes (brand_at set b).node).data_words, (c.numbers_fit.ensures.nodes (brand_at set b).node).pointers))
-    (IsWellFormed-element_pointer x i 1 c.requires.list.formed)
+    (IsWellFormed_element_pointer x i 1 c.requires.list.formed)
     (subst (λ (y : Tree). first_fault y ≡ None) now c.tree_is_sound.ensures.whole)
     (subst (λ (y : Tree). IsDueRefusal c.in-Err.error (fill_due set VoidValue (ListType e) y)) now c.in-Err.ensures.cause)
     (λ at. true≢false (sym (c.in-Err.ensures.rests (subst (IsAtRest set VoidValue (ListType e)) (sym now) at)))))

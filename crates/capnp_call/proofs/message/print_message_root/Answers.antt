@@ -3,13 +3,13 @@ use Rattle.std.proofs.Common.{string_bytes, ap, arith, ◌∙◌, ◌≡◌}
 use Rattle.capnp_wire.specs.Standing.{levels_of, struct_levels, struct_of, tree_of}
 use Rattle.capnp_arena.specs.Message.{message_tree}
 use Rattle.capnp_call.proofs.Starts.{struct_reads}
-use Rattle.capnp_call.proofs.CutTexts.{is_struct-cut, printed_of, unprinted_of}
+use Rattle.capnp_call.proofs.CutTexts.{is_struct_cut, printed_of, unprinted_of}
 use Rattle.capnp_call.proofs.Results.{if_err, on_ok}
 use Rattle.capnp_call.proofs.message.print_message_root.Goals as goal
 
 pub returns-in_err-reader-clause-cause : goal.returns-in_err-reader-clause-cause
 returns-in_err-reader-clause-cause c =
-    absurd (struct_reads (tree_of c.get_pointer_reader.result) (levels_of c.get_pointer_reader.result) _ (is_struct-cut (tree_of c.get_pointer_reader.result) (message_tree c.args.message.now) c.get_pointer_reader.ensures.cut c.requires.here)
+    absurd (struct_reads (tree_of c.get_pointer_reader.result) (levels_of c.get_pointer_reader.result) _ (is_struct_cut (tree_of c.get_pointer_reader.result) (message_tree c.args.message.now) c.get_pointer_reader.ensures.cut c.requires.here)
     c.get_pointer_reader.ensures.levels c.in_err-reader.ensures.read)
 
 pub returns-clause-printed : goal.returns-clause-printed

@@ -10,7 +10,7 @@ use Rattle.capnp_check.specs.Refusals.{text_refusal}
 use Rattle.capnp_check.specs.Steps.Walks.{or_later}
 use Rattle.capnp_check.proofs.Refused.{elements_end, elements_next, elements_refusal, elements_start, leaf_from, leaf_said, list_value_refusal, own_refusal, struct_refusal}
 use Rattle.capnp_check.proofs.Shown.{shown_item}
-use Rattle.capnp_check.proofs.Walks.{field_here, fewer-out, goes_out, group-field, group-set, is_at, out-inside, refused_there, room, said_whole, start-inside, starts, step_in, step_past}
+use Rattle.capnp_check.proofs.Walks.{field_here, fewer_out, goes_out, group_field, group_set, is_at, out_inside, refused_there, room, said_whole, start_inside, starts, step_in, step_past}
 use Rattle.capnp_check.proofs.check.+check.Goals as goal
 
 -- ---- a value ----
@@ -90,12 +90,12 @@ check_field-returns-in-Err-clause-refused t c =
 pub check_field-enter-requires-clause-set : goal.check_field-enter-requires-clause-set
 check_field-enter-requires-clause-set t c =
     let here = is_at c.args.sections c.args.walk c.new-reader.result c.args.field _ c.new-reader.ensures.reader c.new-reader.ensures.schema c.get_schema.ensures c.requires.field in
-    group-set c.args.left c.args.sections c.args.walk c.new-reader.result c.args.field here c.in-Some.group c.in-Some.ensures.number c.in-Some.ensures.down c.in-Some.ensures.back
+    group_set c.args.left c.args.sections c.args.walk c.new-reader.result c.args.field here c.in-Some.group c.in-Some.ensures.number c.in-Some.ensures.down c.in-Some.ensures.back
 
 pub check_field-enter-requires-clause-field : goal.check_field-enter-requires-clause-field
 check_field-enter-requires-clause-field t c =
     let here = is_at c.args.sections c.args.walk c.new-reader.result c.args.field _ c.new-reader.ensures.reader c.new-reader.ensures.schema c.get_schema.ensures c.requires.field in
-    group-field c.args.left c.args.sections c.args.walk c.new-reader.result c.args.field here c.in-Some.group c.in-Some.ensures.number c.in-Some.ensures.down c.in-Some.ensures.back
+    group_field c.args.left c.args.sections c.args.walk c.new-reader.result c.args.field here c.in-Some.group c.in-Some.ensures.number c.in-Some.ensures.down c.in-Some.ensures.back
 
 pub check_field-enter-requires-clause-small : goal.check_field-enter-requires-clause-small
 check_field-enter-requires-clause-small t c =
@@ -115,7 +115,7 @@ check_field-returns-clause-step t c =
 pub check_record-loop-field-init : goal.check_record-loop-field-init
 check_record-loop-field-init t c = record {
   same = starts c.args.left c.args.reader c.get_sections-sections.result c.get_schema.result c.start-walk.result c.get_sections-sections.ensures c.get_schema.ensures c.start-walk.ensures.schema c.start-walk.ensures.frames;
-  inside = start-inside c.get_schema.result c.start-walk.result c.start-walk.ensures.depth c.start-walk.ensures.frames;
+  inside = start_inside c.get_schema.result c.start-walk.result c.start-walk.ensures.depth c.start-walk.ensures.frames;
   small = omega (arith, c.start-walk.ensures.depth);
 }
 
@@ -134,14 +134,14 @@ check_record-returns-in-Err t c = sym (c.loop-field.invariant.same ∙ c.in-Err.
 
 pub check_record-loop-field-smaller : goal.check_record-loop-field-smaller
 check_record-loop-field-smaller t c =
-    fewer-out c.args.left c.get_sections-sections.result c.loop-field.walk c.in-None.ensures c.in-Some-leave.outer c.in-Some-leave.ensures.set c.in-Some-leave.ensures.frames c.in-Some-leave.ensures.depth c.loop-field.invariant.small
+    fewer_out c.args.left c.get_sections-sections.result c.loop-field.walk c.in-None.ensures c.in-Some-leave.outer c.in-Some-leave.ensures.set c.in-Some-leave.ensures.frames c.in-Some-leave.ensures.depth c.loop-field.invariant.small
 
 pub check_record-loop-field-preserved : goal.check_record-loop-field-preserved
 check_record-loop-field-preserved t c = record {
   same =
       c.loop-field.invariant.same
       ∙ goes_out c.args.left c.get_sections-sections.result c.loop-field.walk c.in-None.ensures c.in-Some-leave.outer c.in-Some-leave.ensures.set c.in-Some-leave.ensures.frames c.in-Some-leave.ensures.depth;
-  inside = out-inside c.args.left c.get_sections-sections.result c.loop-field.walk c.in-None.ensures c.in-Some-leave.outer c.in-Some-leave.ensures.set c.in-Some-leave.ensures.frames c.in-Some-leave.ensures.depth c.loop-field.invariant.inside;
+  inside = out_inside c.args.left c.get_sections-sections.result c.loop-field.walk c.in-None.ensures c.in-Some-leave.outer c.in-Some-leave.ensures.set c.in-Some-leave.ensures.frames c.in-Some-leave.ensures.depth c.loop-field.invariant.inside;
   small = omega (arith, c.in-Some-leave.ensures.depth, c.loop-field.invariant.small);
 }
 

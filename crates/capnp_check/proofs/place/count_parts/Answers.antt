@@ -3,7 +3,7 @@ use Rattle.capnp_dynamic_readers.specs.Shown.{set_seen}
 use Rattle.capnp_check.specs.Faults.{shown_within}
 use Rattle.capnp_check.specs.Places.{root_parts}
 use Rattle.capnp_check.proofs.FramesLeft.{count_done}
-use Rattle.capnp_check.proofs.VisitSteps.{below_limit, count_begun, count_in, count_out, count_short, nil-from-length, one-shown, open_first, open_next, open_own, open_popped}
+use Rattle.capnp_check.proofs.VisitSteps.{below_limit, count_begun, count_in, count_out, count_short, nil_from_length, one_shown, open_first, open_next, open_own, open_popped}
 use Rattle.capnp_check.proofs.place.count_parts.Goals as goal
 
 pub loop-frame-init : goal.loop-frame-init
@@ -50,11 +50,11 @@ returns-then-count-limit-clause-too_large c = λ is n le.
     omega (arith, more, c.if-count-limit.true)
 
 pub returns-then-limit-eq0-clause-too_large : goal.returns-then-limit-eq0-clause-too_large
-returns-then-limit-eq0-clause-too_large c = λ is n le. (let one = one-shown (set_seen c.args.value) n (root_parts c.args.value) in omega (arith, one, c.if-limit-eq0.true))
+returns-then-limit-eq0-clause-too_large c = λ is n le. (let one = one_shown (set_seen c.args.value) n (root_parts c.args.value) in omega (arith, one, c.if-limit-eq0.true))
 
 -- all were counted
 pub returns-clause-count : goal.returns-clause-count
 returns-clause-count c = λ n le.
     let size = c.loop-frame.frames.ok.0 in
     let none = c.in_default.ensures.cases.0 in
-    count_done (set_seen c.args.value) n c.loop-frame.count (shown_within n c.args.value) c.loop-frame.frames.items (nil-from-length c.loop-frame.frames.items (omega (arith, size, none))) (c.loop-frame.invariant.counted n le)
+    count_done (set_seen c.args.value) n c.loop-frame.count (shown_within n c.args.value) c.loop-frame.frames.items (nil_from_length c.loop-frame.frames.items (omega (arith, size, none))) (c.loop-frame.invariant.counted n le)

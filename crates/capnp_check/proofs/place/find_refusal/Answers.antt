@@ -4,7 +4,7 @@ use Rattle.std.proofs.Common.{sym, None, Some, string_bytes, rules, ◌∙◌}
 use Rattle.capnp_dynamic_readers.specs.Shown.{set_seen}
 use Rattle.capnp_check.specs.Places.{root_parts}
 use Rattle.capnp_check.proofs.PlacesFound.{begins, number_told, path_ends, steps_on}
-use Rattle.capnp_check.proofs.FirstRefused.{found_first, none_first, path-short, short_on, short_start}
+use Rattle.capnp_check.proofs.FirstRefused.{found_first, none_first, path_short, short_on, short_start}
 use Rattle.capnp_check.proofs.PlaceWords.{words_on, words_start}
 use Rattle.capnp_check.proofs.place.find_refusal.Goals as goal
 
@@ -62,4 +62,4 @@ pub returns-clause-first : goal.returns-clause-first
 returns-clause-first c =
     found_first c.args.value c.loop-step.path.items (string_bytes c.loop-step.words) c.in-Some-get_own_kind.kind
     (path_ends (set_seen c.args.value) c.loop-step.path.items (root_parts c.args.value) c.loop-step.current c.in-Some-get_own_kind.kind (sym c.in-Some-get_own_kind.ensures) c.loop-step.invariant.path)
-    c.loop-step.invariant.words (path-short _ _ _ c.loop-step.invariant.short)
+    c.loop-step.invariant.words (path_short _ _ _ c.loop-step.invariant.short)

@@ -3,7 +3,7 @@ use Rattle.capnp_dynamic_readers.specs.Shown.{set_seen}
 use Rattle.capnp_check.specs.Faults.{part_told, shown_within}
 use Rattle.capnp_check.specs.Places.{root_parts}
 use Rattle.capnp_check.proofs.FramesLeft.{open_none, visit_done}
-use Rattle.capnp_check.proofs.VisitSteps.{below_limit, nil-from-length, one-shown, open_first, open_next, open_own, open_past, open_popped, visit_begun, visit_in, visit_out, visit_short}
+use Rattle.capnp_check.proofs.VisitSteps.{below_limit, nil_from_length, one_shown, open_first, open_next, open_own, open_past, open_popped, visit_begun, visit_in, visit_out, visit_short}
 use Rattle.capnp_check.proofs.place.find_refusals.Goals as goal
 
 pub loop-frame-init : goal.loop-frame-init
@@ -55,18 +55,18 @@ returns-then-visited-limit-clause-too_large c = λ is n le.
     omega (arith, more, c.if-visited-limit.true)
 
 pub returns-then-limit-eq0-clause-too_large : goal.returns-then-limit-eq0-clause-too_large
-returns-then-limit-eq0-clause-too_large c = λ is n le. (let one = one-shown (set_seen c.args.value) n (root_parts c.args.value) in omega (arith, one, c.if-limit-eq0.true))
+returns-then-limit-eq0-clause-too_large c = λ is n le. (let one = one_shown (set_seen c.args.value) n (root_parts c.args.value) in omega (arith, one, c.if-limit-eq0.true))
 
 -- all were visited
 pub returns-clause-places : goal.returns-clause-places
 returns-clause-places c = λ n le.
     let size = c.loop-frame.frames.ok.0 in
     let none = c.in_default.ensures.cases.0 in
-    (visit_done (set_seen c.args.value) n c.loop-frame.visited (shown_within n c.args.value) (map part_told c.loop-frame.places.items) c.loop-frame.frames.items (nil-from-length c.loop-frame.frames.items (omega (arith, size, none))) (c.loop-frame.invariant.visit n le)).0
+    (visit_done (set_seen c.args.value) n c.loop-frame.visited (shown_within n c.args.value) (map part_told c.loop-frame.places.items) c.loop-frame.frames.items (nil_from_length c.loop-frame.frames.items (omega (arith, size, none))) (c.loop-frame.invariant.visit n le)).0
 
 pub returns-clause-within : goal.returns-clause-within
 returns-clause-within c = λ n le.
     let size = c.loop-frame.frames.ok.0 in
     let none = c.in_default.ensures.cases.0 in
-    let all = (visit_done (set_seen c.args.value) n c.loop-frame.visited (shown_within n c.args.value) (map part_told c.loop-frame.places.items) c.loop-frame.frames.items (nil-from-length c.loop-frame.frames.items (omega (arith, size, none))) (c.loop-frame.invariant.visit n le)).1 in
+    let all = (visit_done (set_seen c.args.value) n c.loop-frame.visited (shown_within n c.args.value) (map part_told c.loop-frame.places.items) c.loop-frame.frames.items (nil_from_length c.loop-frame.frames.items (omega (arith, size, none))) (c.loop-frame.invariant.visit n le)).1 in
     omega (arith, all, c.loop-frame.invariant.small)

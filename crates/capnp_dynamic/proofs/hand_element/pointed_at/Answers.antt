@@ -12,8 +12,8 @@ use Rattle.capnp_schema.specs.Schema.{VoidValue}
 use Rattle.capnp_schema.specs.Types.{is_pointer, seen_type, seen_variant}
 use Rattle.capnp_slots.specs.Fills.{element_filled}
 use Rattle.capnp_dynamic.proofs.ElementsHanded.{behind_pointer, no_default, pointer_there}
-use Rattle.capnp_dynamic.proofs.ElementsStarted.{pointer-here, pointer-there}
-use Rattle.capnp_dynamic.proofs.HandedOut.{can-fill, can-hand, handed-out}
+use Rattle.capnp_dynamic.proofs.ElementsStarted.{pointer_here, pointer_stays}
+use Rattle.capnp_dynamic.proofs.HandedOut.{can_fill, can_hand, handed_out}
 use Rattle.capnp_dynamic.proofs.hand_element.pointed_at.Goals as goal
 
 pub fill-requires-clause-pointer : goal.fill-requires-clause-pointer
@@ -24,7 +24,7 @@ pub get_pointer_element-at-requires-clause-pointer : goal.get_pointer_element-at
 get_pointer_element-at-requires-clause-pointer c =
     let x : Tree = tree (segment c.args.arena.now) c.args.at in
     subst (λ (y : Tree). HasPointer y c.args.index) (sym c.in_ok-fill.ensures.filled)
-    (pointer-there x c.args.index _ (pointer_there (lists_seen c.args.schemas.now) c.args.element_type x c.args.index c.requires.behind c.requires.under.holds c.tree_is_sound.ensures.formed c.requires.inside))
+    (pointer_stays x c.args.index _ (pointer_there (lists_seen c.args.schemas.now) c.args.element_type x c.args.index c.requires.behind c.requires.under.holds c.tree_is_sound.ensures.formed c.requires.inside))
 
 pub hand_out-requires-clause-handed : goal.hand_out-requires-clause-handed
 hand_out-requires-clause-handed c =
@@ -33,22 +33,22 @@ hand_out-requires-clause-handed c =
     let is : tree (segment c.fill.new.arena) c.get_pointer_element-at.result ≡ y =
     c.get_pointer_element-at.ensures.tree
     ∙ (ap (λ (z : Tree). element_pointer z c.args.index 1) c.in_ok-fill.ensures.filled
-    ∙ pointer-here x c.args.index y (pointer_there (lists_seen c.args.schemas.now) c.args.element_type x c.args.index c.requires.behind c.requires.under.holds c.tree_is_sound.ensures.formed c.requires.inside)) in
-    can-hand (lists_seen c.args.schemas.now) (lists_seen c.args.schemas.now) (seen_variant c.which-variant.result) (seen_type c.args.element_type) _ y refl
+    ∙ pointer_here x c.args.index y (pointer_there (lists_seen c.args.schemas.now) c.args.element_type x c.args.index c.requires.behind c.requires.under.holds c.tree_is_sound.ensures.formed c.requires.inside)) in
+    can_hand (lists_seen c.args.schemas.now) (lists_seen c.args.schemas.now) (seen_variant c.which-variant.result) (seen_type c.args.element_type) _ y refl
     (ap seen_variant c.which-variant.ensures ∙ seen_which c.args.element_type)
     is
-    (can-fill (lists_seen c.args.schemas.now) VoidValue (seen_type c.args.element_type) (no_default (seen_type c.args.element_type)) (element_pointer x c.args.index 1) c.in_ok-fill.ensures.within
+    (can_fill (lists_seen c.args.schemas.now) VoidValue (seen_type c.args.element_type) (no_default (seen_type c.args.element_type)) (element_pointer x c.args.index 1) c.in_ok-fill.ensures.within
     (sym (ap first_fault is) ∙ c.tree_is_sound-2.ensures.whole))
 
 pub returns-clause-stands : goal.returns-clause-stands
 returns-clause-stands c =
     let x : Tree = tree (segment c.args.arena.now) c.args.at in
     let y : Tree = element_filled (lists_seen c.args.schemas.now) (seen_type c.args.element_type) (element_pointer x c.args.index 1) in
-    handed-out false (lists_seen c.args.schemas.now) (lists_seen c.args.schemas.now) (seen_variant c.which-variant.result) (seen_type c.args.element_type) _ y c.hand_out.result refl
+    handed_out false (lists_seen c.args.schemas.now) (lists_seen c.args.schemas.now) (seen_variant c.which-variant.result) (seen_type c.args.element_type) _ y c.hand_out.result refl
     (ap seen_variant c.which-variant.ensures ∙ seen_which c.args.element_type)
     (c.get_pointer_element-at.ensures.tree
     ∙ (ap (λ (z : Tree). element_pointer z c.args.index 1) c.in_ok-fill.ensures.filled
-    ∙ pointer-here x c.args.index y (pointer_there (lists_seen c.args.schemas.now) c.args.element_type x c.args.index c.requires.behind c.requires.under.holds c.tree_is_sound.ensures.formed c.requires.inside)))
+    ∙ pointer_here x c.args.index y (pointer_there (lists_seen c.args.schemas.now) c.args.element_type x c.args.index c.requires.behind c.requires.under.holds c.tree_is_sound.ensures.formed c.requires.inside)))
     c.hand_out.ensures.stands
 
 pub returns-clause-owner : goal.returns-clause-owner

@@ -8,7 +8,7 @@ use Rattle.capnp_dynamic_readers.specs.Seen.{record_seen}
 use Rattle.capnp_request.specs.Parts.{request_struct}
 use Rattle.capnp_request.proofs.FieldsSeen.{elements_in}
 use Rattle.capnp_request.proofs.PointersSeen.{list_there, fault_kinds}
-use Rattle.capnp_request.proofs.Sounds.{read_at-sound, seen_sound}
+use Rattle.capnp_request.proofs.Sounds.{read_at_sound, seen_sound}
 use Rattle.capnp_request.proofs.parts.list_at.Goals as goal
 
 pub returns-in-Ok-clause-read : goal.returns-in-Ok-clause-read
@@ -26,7 +26,7 @@ returns-in-Ok-clause-elements c =
       set = set;
       element = element;
       named = c.requires.named;
-      sound = subst Sound (sym (returns-in-Ok-clause-read c)) (read_at-sound c.args.brand c.args.index (record_seen c.args.reader) (seen_sound c.args.reader));
+      sound = subst Sound (sym (returns-in-Ok-clause-read c)) (read_at_sound c.args.brand c.args.index (record_seen c.args.reader) (seen_sound c.args.reader));
     }
 
 pub returns-in-Err-clause-refused : goal.returns-in-Err-clause-refused

@@ -5,7 +5,7 @@ use Rattle.capnp_wire.specs.Tree.{Tree}
 use Rattle.capnp_arena.specs.Forest.{tree}
 use Rattle.capnp_arena.specs.Segment.{segment}
 use Rattle.capnp_arena.specs.Facts.Frames.{list_round}
-use Rattle.capnp_set_writer.proofs.Trees.{both_ok, if_err, on_ok, refused-up}
+use Rattle.capnp_set_writer.proofs.Trees.{both_ok, if_err, on_ok, refused_up}
 use Rattle.capnp_set_writer.proofs.types.put_row.Goals as goal
 
 pub returns-clause-frame : goal.returns-clause-frame
@@ -17,4 +17,4 @@ returns-clause-written c = both_ok c.put_list.result
     c.put_list.ensures.frame c.put_list.ensures.written
 
 pub returns-clause-cause : goal.returns-clause-cause
-returns-clause-cause c = if_err c.put_list.result (λ e h. refused-up e.kind h (λ k i d a. tt) (λ f. f)) c.put_list.ensures.cause
+returns-clause-cause c = if_err c.put_list.result (λ e h. refused_up e.kind h (λ k i d a. tt) (λ f. f)) c.put_list.ensures.cause

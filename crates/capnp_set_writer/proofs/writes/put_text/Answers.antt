@@ -1,12 +1,12 @@
 -- What the call leaves at the pointer is what it leaves in the struct.
 use Rattle.std.proofs.Common.{arith, ap, ◌∙◌, ◌+◌, ◌^◌, ◌≤◌, length}
 use Rattle.capnp_wire.specs.Edits.{with_pointer_tree}
-use Rattle.capnp_wire.specs.Facts.Bytes.{AreBytes-fits}
+use Rattle.capnp_wire.specs.Facts.Bytes.{AreBytes_fits}
 use Rattle.capnp_arena.specs.Built.{built_at}
 use Rattle.capnp_arena.specs.Facts.Places.{pointers_of}
 use Rattle.capnp_arena.specs.Segment.{segment}
 use Rattle.capnp_arena.specs.Facts.Frames.{struct_round}
-use Rattle.capnp_set_writer.proofs.Trees.{both_ok, if_err, room-part-refused, three_ok}
+use Rattle.capnp_set_writer.proofs.Trees.{both_ok, if_err, room_part_refused, three_ok}
 use Rattle.capnp_set_writer.proofs.writes.put_text.Goals as goal
 
 pub pointer_at-at-requires-clause-inside : goal.pointer_at-at-requires-clause-inside
@@ -23,7 +23,7 @@ returns-clause-written c = three_ok c.set_text.result
     c.set_text.ensures.forest c.set_text.ensures.changes c.set_text.ensures.tree
 
 pub returns-clause-bytes : goal.returns-clause-bytes
-returns-clause-bytes c = AreBytes-fits _ c.type_inv.text
+returns-clause-bytes c = AreBytes_fits _ c.type_inv.text
 
 pub returns-clause-cause : goal.returns-clause-cause
-returns-clause-cause c = if_err c.set_text.result (λ e h. room-part-refused e (2 ^ 29 ≤ length c.args.text.now + 1) h (λ past fits. omega (arith, past, fits))) c.set_text.ensures.cause
+returns-clause-cause c = if_err c.set_text.result (λ e h. room_part_refused e (2 ^ 29 ≤ length c.args.text.now + 1) h (λ past fits. omega (arith, past, fits))) c.set_text.ensures.cause

@@ -6,7 +6,7 @@ use Rattle.capnp_schema.specs.Entries.{lists_seen}
 use Rattle.capnp_schema.specs.Facts.Layers.{seen_which}
 use Rattle.capnp_schema.specs.Types.{SchemaType, seen_type, seen_variant}
 use Rattle.capnp_records.specs.Writes.ElementEnds.{HasElementThere}
-use Rattle.capnp_slots.proofs.SetElements.{number-set, number-small}
+use Rattle.capnp_slots.proofs.SetElements.{number_set, number_small}
 use Rattle.capnp_slots.proofs.element.set_primitive.Goals as goal
 
 pub store_element-requires-clause-room : goal.store_element-requires-clause-room
@@ -17,10 +17,10 @@ store_element-requires-clause-room c =
 pub store_element-requires-clause-fits : goal.store_element-requires-clause-fits
 store_element-requires-clause-fits c =
     let t : seen_variant c.which.result ≡ seen_type c.args.element = ap seen_variant c.which.ensures ∙ seen_which c.args.element in
-    number-small (lists_seen c.args.schemas.now) (seen_type c.args.element) (seen_variant c.which.result) _ c.in_ok-number.number (sym t) c.in_ok-number.ensures.number
+    number_small (lists_seen c.args.schemas.now) (seen_type c.args.element) (seen_variant c.which.result) _ c.in_ok-number.number (sym t) c.in_ok-number.ensures.number
 
 pub returns-clause-set : goal.returns-clause-set
 returns-clause-set c =
     let t : seen_variant c.which.result ≡ seen_type c.args.element = ap seen_variant c.which.ensures ∙ seen_which c.args.element in
-    number-set (lists_seen c.args.schemas.now) (seen_type c.args.element) (seen_variant c.which.result) _ c.in_ok-number.number c.args.index _ _ t c.in_ok-number.ensures.number c.in_ok-number.ensures.given
+    number_set (lists_seen c.args.schemas.now) (seen_type c.args.element) (seen_variant c.which.result) _ c.in_ok-number.number c.args.index _ _ t c.in_ok-number.ensures.number c.in_ok-number.ensures.given
     c.store_element.ensures.written

@@ -14,7 +14,7 @@ use Rattle.capnp_schema.specs.Types.{SchemaType, StructType, seen_type, seen_var
 use Rattle.capnp_schema.specs.Plan.{brand_size}
 use Rattle.capnp_slots.specs.Steps.Fills.{HoldsThere, IsListFilled}
 use Rattle.capnp_slots.proofs.Filled.{is_plain}
-use Rattle.capnp_slots.proofs.FilledSlots.{made-filled}
+use Rattle.capnp_slots.proofs.FilledSlots.{made_filled}
 use Rattle.capnp_slots.proofs.Places.{same_struct}
 use Rattle.capnp_slots.proofs.part.fill_elements.Goals as goal
 
@@ -45,4 +45,4 @@ returns-in_default-clause-written c =
     let x : Tree = nth_tree (built_at c.args.arena.now c.args.place).pointers c.args.index in
     let D : Tree = reader_tree c.args.default in
     let list = is_plain (lists_seen c.args.schemas.now) c.args.element c.which.result _ c.which.ensures c.expected_element_size.ensures c.in_default.not-Struct in
-    made-filled (built_at c.args.arena.now c.args.place) (built_at c.fill_list.new.arena c.args.place) c.args.index c.fill_list.result _ _ _ _ _ _ (sym (list.enters (or_default D x))) (sym (list.due D x)) (list.rests D x) c.fill_list.ensures.ok c.fill_list.ensures.within (same_struct c.args.place c.args.arena.now c.fill_list.new.arena c.fill_list.result c.fill_list.ensures.refused) c.fill_list.ensures.cause (λ h. c.fill_list.ensures.succeeds h.0 h.1)
+    made_filled (built_at c.args.arena.now c.args.place) (built_at c.fill_list.new.arena c.args.place) c.args.index c.fill_list.result _ _ _ _ _ _ (sym (list.enters (or_default D x))) (sym (list.due D x)) (list.rests D x) c.fill_list.ensures.ok c.fill_list.ensures.within (same_struct c.args.place c.args.arena.now c.fill_list.new.arena c.fill_list.result c.fill_list.ensures.refused) c.fill_list.ensures.cause (λ h. c.fill_list.ensures.succeeds h.0 h.1)

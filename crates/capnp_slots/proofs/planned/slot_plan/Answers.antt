@@ -2,12 +2,12 @@
 use Rattle.std.proofs.Common.{subst, ap, ◌∙◌}
 use Rattle.capnp_schema.specs.Ranges.{HasRanges}
 use Rattle.capnp_schema.specs.StructHandles.{IsStruct, set_of}
-use Rattle.capnp_slots.proofs.FieldPlans.{slot_plan-is}
+use Rattle.capnp_slots.proofs.FieldPlans.{slot_plan_is}
 use Rattle.capnp_slots.proofs.planned.slot_plan.Goals as goal
 
 pub returns : goal.returns
 returns c =
-    slot_plan-is c.args.field c.plan.result
+    slot_plan_is c.args.field c.plan.result
     (subst IsStruct c.get_containing_struct-schema.ensures.is c.get_containing_struct-schema.ensures.stands)
     (subst HasRanges (c.get_set.ensures ∙ ap set_of c.get_containing_struct-schema.ensures.is) c.numbers_fit.ensures)
     c.plans_stand.ensures c.plan.ensures.is c.slot_is_written.ensures.inside c.requires

@@ -4,13 +4,13 @@ use Rattle.std.proofs.Common.{rules, arith, ◌≡◌, ◌≤◌, ◌<◌, ◌+�
 use Rattle.capnp_wire.specs.Tree.{StructTree, nth_struct, nth_tree, struct_count, tree_count}
 use Rattle.capnp_wire.specs.Found.{element_structs, parts_tree, pointer_tree, pointer_trees}
 use Rattle.capnp_wire.proofs.FirstFaults.{element_fault_here, fault_here, no_element_fault, no_fault, one_more, one_more_element}
-use Rattle.capnp_wire.specs.Facts.TreeSizes.{nth_struct-smaller, nth_tree-smaller, tree_size, trees_size}
+use Rattle.capnp_wire.specs.Facts.TreeSizes.{nth_struct_smaller, nth_tree_smaller, tree_size, trees_size}
 use Rattle.capnp_wire.proofs.faults.+faults.Goals as goal
 
 pub fault_of_pointers-fault_of_pointer-requires : goal.fault_of_pointers-fault_of_pointer-requires
 fault_of_pointers-fault_of_pointer-requires t c =
     let here : c.loop-i.i < tree_count (pointer_trees c.args.pointers) = omega arith in
-    let below = nth_tree-smaller c.loop-i.i (pointer_trees c.args.pointers) here in
+    let below = nth_tree_smaller c.loop-i.i (pointer_trees c.args.pointers) here in
     let at : tree_size (pointer_tree c.get_pointer.result) ≡ tree_size (nth_tree (pointer_trees c.args.pointers) c.loop-i.i) = ap tree_size c.get_pointer.ensures in
     search (rules, arith, below, at)
 
@@ -33,7 +33,7 @@ pub fault_of_elements-fault_of_pointers-requires :
     goal.fault_of_elements-fault_of_pointers-requires
 fault_of_elements-fault_of_pointers-requires t c =
     let here : c.loop-i.i < struct_count (element_structs c.args.size.data_words c.args.size.pointers c.args.elements) = omega arith in
-    let below = nth_struct-smaller c.loop-i.i (element_structs c.args.size.data_words c.args.size.pointers c.args.elements) here in
+    let below = nth_struct_smaller c.loop-i.i (element_structs c.args.size.data_words c.args.size.pointers c.args.elements) here in
     let at : trees_size (parts_tree c.get_element.result).pointers ≡ trees_size (nth_struct (element_structs c.args.size.data_words c.args.size.pointers c.args.elements) c.loop-i.i).pointers = ap (λ (x : StructTree). trees_size x.pointers) c.get_element.ensures in
     search (rules, arith, below, at)
 

@@ -1,5 +1,5 @@
-use Rattle.capnp_wire.specs.Facts.Places.{IsWellFormed-tree_at, IsWellFormed-tree_below}
+use Rattle.capnp_wire.specs.Facts.Places.{IsWellFormed_tree_at, IsWellFormed_tree_below}
 use Rattle.capnp_wire.proofs.laws.trees_are_well_formed.Goals as goal
 
 pub returns : goal.returns
-returns c levels segments segment w h s = (IsWellFormed-tree_at levels segments segment w h s, IsWellFormed-tree_below levels segments segment w h s)
+returns c levels segments segment w h s = (IsWellFormed_tree_at levels segments segment w h s, IsWellFormed_tree_below levels segments segment w h s)

@@ -7,8 +7,8 @@ use Rattle.capnp_wire.specs.Found.{element_structs, parts_tree, pointer_tree, po
 use Rattle.capnp_wire.specs.Words.{first_fault, words_of}
 use Rattle.capnp_wire.specs.Backing.{segment_list}
 use Rattle.capnp_wire.proofs.NullWords.{null_below}
-use Rattle.capnp_wire.specs.Facts.Indexed.{length-bits_from}
-use Rattle.capnp_wire.specs.Facts.TreeSizes.{nth_struct-smaller, nth_tree-smaller, tree_size, trees_size}
+use Rattle.capnp_wire.specs.Facts.Indexed.{length_bits_from}
+use Rattle.capnp_wire.specs.Facts.TreeSizes.{nth_struct_smaller, nth_tree_smaller, tree_size, trees_size}
 use Rattle.capnp_wire.proofs.Sums.{none_summed, all_summed, one_stops, one_sum_stops, one_summed, no_elements_summed, all_elements_summed, element_stops, element_sum_stops, element_summed}
 use Rattle.capnp_wire.proofs.total.+total.Goals as goal
 
@@ -20,7 +20,7 @@ total_word-returns-then-is_null_word t c =
 pub total_each-total_pointer-requires : goal.total_each-total_pointer-requires
 total_each-total_pointer-requires t c =
     let here : c.loop-i.i < tree_count (pointer_trees c.args.pointers) = omega arith in
-    let below = nth_tree-smaller c.loop-i.i (pointer_trees c.args.pointers) here in
+    let below = nth_tree_smaller c.loop-i.i (pointer_trees c.args.pointers) here in
     let at : tree_size (pointer_tree c.get_pointer.result) ≡ tree_size (nth_tree (pointer_trees c.args.pointers) c.loop-i.i) = ap tree_size c.get_pointer.ensures in
     search (rules, arith, below, at)
 
@@ -58,7 +58,7 @@ total_elements-returns-then-have_no_pointers t c =
 pub total_elements-total_each-requires : goal.total_elements-total_each-requires
 total_elements-total_each-requires t c =
     let here : c.loop-i.i < struct_count (element_structs c.args.size.data_words c.args.size.pointers c.args.elements) = omega arith in
-    let below = nth_struct-smaller c.loop-i.i (element_structs c.args.size.data_words c.args.size.pointers c.args.elements) here in
+    let below = nth_struct_smaller c.loop-i.i (element_structs c.args.size.data_words c.args.size.pointers c.args.elements) here in
     let at : trees_size (parts_tree c.get_element.result).pointers ≡ trees_size (nth_struct (element_structs c.args.size.data_words c.args.size.pointers c.args.elements) c.loop-i.i).pointers = ap (λ (x : StructTree). trees_size x.pointers) c.get_element.ensures in
     search (rules, arith, below, at)
 
@@ -89,4 +89,4 @@ total_elements-returns t c =
     all_elements_summed _ _ _ c.loop-i.invariant all
 
 pub total_found-returns-in-Bits : goal.total_found-returns-in-Bits
-total_found-returns-in-Bits t c = rw (c.in-Bits.is, length-bits_from) (refl, omega arith)
+total_found-returns-in-Bits t c = rw (c.in-Bits.is, length_bits_from) (refl, omega arith)

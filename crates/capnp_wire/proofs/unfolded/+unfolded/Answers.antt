@@ -4,8 +4,8 @@ use Rattle.std.proofs.Common.{rules, arith, ◌≡◌, ◌≤◌, ◌<◌, ◌+�
 use Rattle.capnp_wire.specs.Tree.{StructTree, nth_struct, nth_tree, struct_count, tree_count}
 use Rattle.capnp_wire.specs.Found.{element_structs, found_tree, parts_tree, pointer_tree, pointer_trees}
 use Rattle.capnp_wire.specs.Unfolded.{unfolded, unfolded_all}
-use Rattle.capnp_wire.specs.Facts.Indexed.{length-bits_from}
-use Rattle.capnp_wire.specs.Facts.TreeSizes.{nth_struct-smaller, nth_tree-smaller, tree_size, trees_size}
+use Rattle.capnp_wire.specs.Facts.Indexed.{length_bits_from}
+use Rattle.capnp_wire.specs.Facts.TreeSizes.{nth_struct_smaller, nth_tree_smaller, tree_size, trees_size}
 use Rattle.std.specs.Prelude.{length}
 use Rattle.capnp_wire.proofs.Unfolding.{all_elements_taken, all_taken, element_taken, element_too_many, one_taken, one_too_many}
 use Rattle.capnp_wire.proofs.unfolded.+unfolded.Goals as goal
@@ -13,7 +13,7 @@ use Rattle.capnp_wire.proofs.unfolded.+unfolded.Goals as goal
 pub left_of_pointers-left_of_pointer-requires : goal.left_of_pointers-left_of_pointer-requires
 left_of_pointers-left_of_pointer-requires t c =
     let here : c.loop-i.i < tree_count (pointer_trees c.args.pointers) = omega arith in
-    let below = nth_tree-smaller c.loop-i.i (pointer_trees c.args.pointers) here in
+    let below = nth_tree_smaller c.loop-i.i (pointer_trees c.args.pointers) here in
     let at : tree_size (pointer_tree c.get_pointer.result) ≡ tree_size (nth_tree (pointer_trees c.args.pointers) c.loop-i.i) = ap tree_size c.get_pointer.ensures in
     search (rules, arith, below, at)
 
@@ -35,7 +35,7 @@ left_of_pointers-returns t c =
 pub left_of_elements-left_of_parts-requires : goal.left_of_elements-left_of_parts-requires
 left_of_elements-left_of_parts-requires t c =
     let here : c.loop-i.i < struct_count (element_structs c.args.size.data_words c.args.size.pointers c.args.elements) = omega arith in
-    let below = nth_struct-smaller c.loop-i.i (element_structs c.args.size.data_words c.args.size.pointers c.args.elements) here in
+    let below = nth_struct_smaller c.loop-i.i (element_structs c.args.size.data_words c.args.size.pointers c.args.elements) here in
     let at : trees_size (parts_tree c.get_element.result).pointers ≡ trees_size (nth_struct (element_structs c.args.size.data_words c.args.size.pointers c.args.elements) c.loop-i.i).pointers = ap (λ (x : StructTree). trees_size x.pointers) c.get_element.ensures in
     search (rules, arith, below, at)
 
@@ -58,5 +58,5 @@ left_of_elements-returns t c =
 
 pub left_of_found-returns-in-Bits : goal.left_of_found-returns-in-Bits
 left_of_found-returns-in-Bits t c =
-    let size : unfolded (found_tree c.args.found) ≡ c.in-Bits.count + 1 = rw (c.in-Bits.is, length-bits_from) (omega arith) in
+    let size : unfolded (found_tree c.args.found) ≡ c.in-Bits.count + 1 = rw (c.in-Bits.is, length_bits_from) (omega arith) in
     rw size c.left_of_count-in-Bits.ensures

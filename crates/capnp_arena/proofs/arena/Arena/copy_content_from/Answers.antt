@@ -3,7 +3,7 @@
 use Rattle.std.proofs.Common.{None, arith, ◌≡◌, ◌*◌, ◌<◌, ◌≤◌, ◌^◌, List, ℕ, length, sym, ap, subst, ◌∙◌}
 use Rattle.std.proofs.lemmas.Result.{err_from_is_err_and}
 use Rattle.capnp_wire.specs.Edits.{IsCopyRefusal, fitted_struct}
-use Rattle.capnp_wire.specs.Facts.Structs.{length-fitted}
+use Rattle.capnp_wire.specs.Facts.Structs.{length_fitted}
 use Rattle.capnp_wire.specs.Steps.Filling.{with_encoded_element}
 use Rattle.capnp_wire.specs.Found.{parts_tree}
 use Rattle.capnp_wire.specs.Tree.{StructTree, tree_count}
@@ -20,7 +20,7 @@ content : (old new : List ℕ) (a d p : ℕ) (s r : StructTree) → s ≡ r → 
     → new ≡ with_encoded_element (8 * a) (fitted_struct (8 * d) p s) old → IsContent old new a d p (fitted_struct (8 * d) p r)
 content old new a d p s r q held whole planted few none e =
     let h : IsWellFormedStruct s = subst IsWellFormedStruct (sym q) held in
-    subst (λ x. IsContent old new a d p (fitted_struct (8 * d) p x)) q (content_made old new a d p (fitted_struct (8 * d) p s) (length-fitted (8 * d) p s) (fitted_count p s.pointers) (fitted_held p s.pointers h.3) none whole planted.ends few e)
+    subst (λ x. IsContent old new a d p (fitted_struct (8 * d) p x)) q (content_made old new a d p (fitted_struct (8 * d) p s) (length_fitted (8 * d) p s) (fitted_count p s.pointers) (fitted_held p s.pointers h.3) none whole planted.ends few e)
 
 pub fill_content-requires-clause-held : goal.fill_content-requires-clause-held
 fill_content-requires-clause-held c = subst IsWellFormedStruct (sym c.parts-parts.ensures) c.struct_is_well_formed.ensures

@@ -12,7 +12,7 @@ use Rattle.capnp_dynamic_readers.specs.Steps.PartsRead.{fault_at, field_in}
 use Rattle.capnp_dynamic_readers.specs.Steps.WalkSteps.{onward_of}
 use Rattle.capnp_dynamic_readers.specs.Steps.Styled.{record_in}
 use Rattle.capnp_dynamic_readers.specs.declared.walk.output.Stop.TheVariants.{Refused}
-use Rattle.capnp_dynamic_readers.proofs.GroupSteps.{begins, done_of, fewer_out, field_here, group-field, group-set, if_ok_map, is_at, leads_end, leads_out, bracket_stopped, empty_stopped, no_record, not_begun, not_closed, not_named, out_small, outside_of, start_small, step_empty, step_in, step_over, step_past, stopped_there}
+use Rattle.capnp_dynamic_readers.proofs.GroupSteps.{begins, done_of, fewer_out, field_here, group_field, group_set, if_ok_map, is_at, leads_end, leads_out, bracket_stopped, empty_stopped, no_record, not_begun, not_closed, not_named, out_small, outside_of, start_small, step_empty, step_in, step_over, step_past, stopped_there}
 use Rattle.capnp_dynamic_readers.proofs.PutSteps.{elements_after, elements_put, elements_stopped, elements_stopped_before, list_was_put, list_stopped, struct_put, struct_stopped}
 use Rattle.capnp_dynamic_readers.proofs.Steps.{err_map, leaf_from, leaf_put, leaf_stopped, list_put, list_stopped_behind, list_stopped_first, list_stopped_inside, list_stopped_last, ok_map}
 use Rattle.capnp_dynamic_readers.proofs.Streams.{full_stopped, handed_on, nothing_put, same, same_put}
@@ -166,13 +166,13 @@ print_field-returns-then-not-has_fields-clause-put g t c =
 pub print_field-open-requires-clause-set : goal.print_field-open-requires-clause-set
 print_field-open-requires-clause-set g t c =
     let here = is_at c.args.sections c.args.now c.new-reader.result c.args.field _ c.new-reader.ensures.reader c.new-reader.ensures.schema c.get_schema.ensures c.requires.field in
-    group-set (g.S.Style.texts c.args.style) (g.met.S.Style.lawful c.args.style) c.args.left c.args.sections c.args.now c.new-reader.result c.args.field here (g.O.Out.text c.args.out.now) (g.O.Out.text c.put_name.new.out)
+    group_set (g.S.Style.texts c.args.style) (g.met.S.Style.lawful c.args.style) c.args.left c.args.sections c.args.now c.new-reader.result c.args.field here (g.O.Out.text c.args.out.now) (g.O.Out.text c.put_name.new.out)
     (sym c.if-not-has_item.false ∙ c.has_item.ensures) c.in_ok-put_name.ensures.put c.in-Some.group c.in-Some.ensures.number c.in-Some.ensures.down
 
 pub print_field-open-requires-clause-field : goal.print_field-open-requires-clause-field
 print_field-open-requires-clause-field g t c =
     let here = is_at c.args.sections c.args.now c.new-reader.result c.args.field _ c.new-reader.ensures.reader c.new-reader.ensures.schema c.get_schema.ensures c.requires.field in
-    group-field (g.S.Style.texts c.args.style) (g.met.S.Style.lawful c.args.style) c.args.left c.args.sections c.args.now c.new-reader.result c.args.field here (g.O.Out.text c.args.out.now) (g.O.Out.text c.put_name.new.out)
+    group_field (g.S.Style.texts c.args.style) (g.met.S.Style.lawful c.args.style) c.args.left c.args.sections c.args.now c.new-reader.result c.args.field here (g.O.Out.text c.args.out.now) (g.O.Out.text c.put_name.new.out)
     (sym c.if-not-has_item.false ∙ c.has_item.ensures) c.in_ok-put_name.ensures.put c.in-Some.group c.in-Some.ensures.number c.in-Some.ensures.down c.in-Some.ensures.back
 
 pub print_field-returns-clause-put : goal.print_field-returns-clause-put

@@ -1,5 +1,5 @@
-use Rattle.capnp_schema.specs.Facts.Bits.{bit-masked, xor-bounded, xor-undone}
+use Rattle.capnp_schema.specs.Facts.Bits.{bit_masked, xor_bounded, xor_undone}
 use Rattle.capnp_schema.proofs.laws.bits.masks_undo.Goals as goal
 
 pub returns : goal.returns
-returns c = record { undo = xor-undone; bounded = xor-bounded; bits = bit-masked }
+returns c = record { undo = xor_undone; bounded = xor_bounded; bits = bit_masked }

@@ -5,7 +5,7 @@ use Rattle.capnp_schema.specs.Schema.{seen_brand}
 use Rattle.capnp_set_writer.specs.Limits.{BrandFits}
 use Rattle.capnp_arena.specs.Facts.Places.{then}
 use Rattle.capnp_arena.specs.Facts.Frames.{struct_after}
-use Rattle.capnp_set_writer.proofs.Trees.{if_err, on_ok, refused-up}
+use Rattle.capnp_set_writer.proofs.Trees.{if_err, on_ok, refused_up}
 use Rattle.capnp_set_writer.proofs.entries.BrandRecordPart.put.Goals as goal
 
 pub returns-clause-kept : goal.returns-clause-kept
@@ -23,16 +23,16 @@ returns-clause-kept c = on_ok c.put_type_lists.result
 pub returns-in_err-put_parts-clause-cause : goal.returns-in_err-put_parts-clause-cause
 returns-in_err-put_parts-clause-cause c =
     let p = err_from_is_err_and c.from_residual.result c.from_residual.ensures.1 in
-    rw (p.1, p.2) (refused-up _ (rw c.as_slice.ensures.value at c.in_err-put_parts.ensures.cause) (λ k i d a. tt) (λ (f : BrandFits (seen_brand c.args.self.now)). f.field_types))
+    rw (p.1, p.2) (refused_up _ (rw c.as_slice.ensures.value at c.in_err-put_parts.ensures.cause) (λ k i d a. tt) (λ (f : BrandFits (seen_brand c.args.self.now)). f.field_types))
 
 pub returns-in_err-put_parts-2-clause-cause : goal.returns-in_err-put_parts-2-clause-cause
 returns-in_err-put_parts-2-clause-cause c =
     let p = err_from_is_err_and c.from_residual-in_err-put_parts-2.result c.from_residual-in_err-put_parts-2.ensures.1 in
-    rw (p.1, p.2) (refused-up _ (rw c.as_slice-2.ensures.value at c.in_err-put_parts-2.ensures.cause) (λ k i d a. tt) (λ (f : BrandFits (seen_brand c.args.self.now)). f.own))
+    rw (p.1, p.2) (refused_up _ (rw c.as_slice-2.ensures.value at c.in_err-put_parts-2.ensures.cause) (λ k i d a. tt) (λ (f : BrandFits (seen_brand c.args.self.now)). f.own))
 
 pub returns-clause-cause : goal.returns-clause-cause
 returns-clause-cause c = if_err c.put_type_lists.result
-    (λ e h. refused-up e.kind h (λ k. tt) (λ (f : BrandFits (seen_brand c.args.self.now)). f.children))
+    (λ e h. refused_up e.kind h (λ k. tt) (λ (f : BrandFits (seen_brand c.args.self.now)). f.children))
     (rw c.as_slice-3.ensures.value at c.put_type_lists.ensures.cause)
 
 -- one call after another

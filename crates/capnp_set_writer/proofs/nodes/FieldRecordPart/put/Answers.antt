@@ -4,23 +4,23 @@ use Rattle.capnp_schema.specs.Schema.{seen_field}
 use Rattle.capnp_set_writer.specs.Limits.{FieldHasForm, FieldHasKinds}
 use Rattle.capnp_arena.specs.Facts.Places.{then}
 use Rattle.capnp_arena.specs.Facts.Frames.{struct_after}
-use Rattle.capnp_set_writer.proofs.Trees.{if_err, on_ok, refused-up}
+use Rattle.capnp_set_writer.proofs.Trees.{if_err, on_ok, refused_up}
 use Rattle.capnp_set_writer.proofs.nodes.FieldRecordPart.put.Goals as goal
 
 pub returns-in_err-put_name-clause-cause : goal.returns-in_err-put_name-clause-cause
 returns-in_err-put_name-clause-cause c =
     let p = err_from_is_err_and c.from_residual.result c.from_residual.ensures.1 in
-    rw (p.1, p.2) (refused-up _ (rw c.as_str.ensures.value at c.in_err-put_name.ensures.cause) (λ k. tt) (λ (f : FieldHasForm (seen_field c.args.self.now)). f.name))
+    rw (p.1, p.2) (refused_up _ (rw c.as_str.ensures.value at c.in_err-put_name.ensures.cause) (λ k. tt) (λ (f : FieldHasForm (seen_field c.args.self.now)). f.name))
 
 pub returns-in_err-put_parts-clause-cause : goal.returns-in_err-put_parts-clause-cause
 returns-in_err-put_parts-clause-cause c =
     let p = err_from_is_err_and c.from_residual-in_err-put_parts.result c.from_residual-in_err-put_parts.ensures.1 in
-    rw (p.1, p.2) (refused-up _ (rw c.as_slice.ensures.value at c.in_err-put_parts.ensures.cause)
+    rw (p.1, p.2) (refused_up _ (rw c.as_slice.ensures.value at c.in_err-put_parts.ensures.cause)
     (λ (k : FieldHasKinds (seen_field c.args.self.now)). k.annotations) (λ (f : FieldHasForm (seen_field c.args.self.now)). f.annotations))
 
 pub returns-clause-cause : goal.returns-clause-cause
 returns-clause-cause c = if_err c.put_kind.result
-    (λ e h. refused-up e.kind h (λ (k : FieldHasKinds (seen_field c.args.self.now)). k.default) (λ (f : FieldHasForm (seen_field c.args.self.now)). f.default))
+    (λ e h. refused_up e.kind h (λ (k : FieldHasKinds (seen_field c.args.self.now)). k.default) (λ (f : FieldHasForm (seen_field c.args.self.now)). f.default))
     c.put_kind.ensures.cause
 
 -- one call after another

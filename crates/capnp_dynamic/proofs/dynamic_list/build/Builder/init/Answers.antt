@@ -6,8 +6,8 @@ use Rattle.capnp_records.specs.Writes.Contents.{initn_tree}
 use Rattle.capnp_dynamic.specs.Built.{built_element, built_elements, built_set}
 use Rattle.capnp_dynamic.proofs.ElementsStarted.{element_started}
 use Rattle.capnp_dynamic.proofs.ListElements.{room_in}
-use Rattle.capnp_dynamic.proofs.HandedOut.{can-hand, handed-out}
-use Rattle.capnp_dynamic.proofs.Started.{handed-initn}
+use Rattle.capnp_dynamic.proofs.HandedOut.{can_hand, handed_out}
+use Rattle.capnp_dynamic.proofs.Started.{handed_initn}
 use Rattle.capnp_dynamic.proofs.dynamic_list.build.Builder.init.Goals as goal
 
 pub init-requires-clause-room : goal.init-requires-clause-room
@@ -24,17 +24,17 @@ hand_out-requires-clause-pointer c =
 
 pub hand_out-requires-clause-handed : goal.hand_out-requires-clause-handed
 hand_out-requires-clause-handed c =
-    can-hand (built_set c.args.self) (built_set c.args.self) (seen_variant c.which-variant.result) (built_element c.args.self) _ (initn_tree (built_set c.args.self) (built_element c.args.self) c.args.size)
+    can_hand (built_set c.args.self) (built_set c.args.self) (seen_variant c.which-variant.result) (built_element c.args.self) _ (initn_tree (built_set c.args.self) (built_element c.args.self) c.args.size)
     refl
     (ap seen_variant c.which-variant.ensures ∙ seen_which c.args.self.element_type)
     (c.get_pointer_element-at.ensures.tree
     ∙ (element_started (built_set c.args.self) (built_element c.args.self) c.args.size c.args.index (built_elements c.args.self) _ (room_in (built_set c.args.self) c.args.self.element_type (built_elements c.args.self) c.args.index c.requires.ready.holds c.tree_is_sound.ensures.formed c.requires.inside) c.in_ok-init.ensures.has c.in_ok-init.ensures.written).is)
-    (handed-initn (built_set c.args.self) c.args.size (built_element c.args.self) c.in_ok-init.ensures.has)
+    (handed_initn (built_set c.args.self) c.args.size (built_element c.args.self) c.in_ok-init.ensures.has)
 
 pub returns-clause-stands : goal.returns-clause-stands
 returns-clause-stands c = (
   c.in_ok-init.ensures.has,
-  handed-out true (built_set c.args.self) (built_set c.args.self) (seen_variant c.which-variant.result) (built_element c.args.self) _ (initn_tree (built_set c.args.self) (built_element c.args.self) c.args.size) c.hand_out.result
+  handed_out true (built_set c.args.self) (built_set c.args.self) (seen_variant c.which-variant.result) (built_element c.args.self) _ (initn_tree (built_set c.args.self) (built_element c.args.self) c.args.size) c.hand_out.result
       refl
       (ap seen_variant c.which-variant.ensures ∙ seen_which c.args.self.element_type)
       (c.get_pointer_element-at.ensures.tree
