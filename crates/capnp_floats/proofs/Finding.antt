@@ -34,7 +34,7 @@ ten_positive (suc j) =
     let e : 10 ^ suc j ≡ 10 ^ j * 10 = ap (λ z. 10 ^ z) (let f : suc j ≡ j + 1 = omega arith in f) ∙ pow-add 10 j 1 in
     omega arith
 
-to_shortest : (ends : Bool) (s v b a d up down : ℕ) (k : ℤ) → up + tenths k ≡ down + tens k
+pub to_shortest : (ends : Bool) (s v b a d up down : ℕ) (k : ℤ) → up + tenths k ≡ down + tens k
     → IsRounded (interval ends (s * 10 ^ up) (v * 10 ^ down) (b * 10 ^ down) (a * 10 ^ down)) d → IsShortest (interval ends s v b a) d k
 to_shortest ends s v b a d up down (pos n) e h = units_less ends s v b a d up down n 0 down (ten_positive down) (omega arith) (omega arith) h
 to_shortest ends s v b a d up down (negsuc n) e h = units_less ends s v b a d up down 0 (suc n) up (ten_positive up) (omega arith) (omega arith) h

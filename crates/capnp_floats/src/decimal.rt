@@ -5,6 +5,7 @@ ghost use Rattle.capnp_floats.specs.Naturals.{room};
 ghost use Rattle.capnp_floats.specs.Shortest.{IsShortest, tens, tenths};
 ghost use Rattle.capnp_floats.specs.Steps.Intervals.{interval};
 
+use crate::moderate::find_moderate;
 use crate::natural::Natural;
 use crate::search::{Search, raise};
 use crate::width::{Width, exponent, exponent_end, gap_below, quarter_places, significand};
@@ -62,7 +63,7 @@ fn scaled(number: u64, times: u32) -> Natural
 }
 
 /// The power of ten that is so many tens over so many.
-fn exponent_of(up: u32, down: u32) -> i32
+pub(crate) fn exponent_of(up: u32, down: u32) -> i32
     requires up { up ≤ 1152 }
     requires down { down ≤ 1152 }
     ensures { up + tenths result ≡ down + tens result }
@@ -109,13 +110,13 @@ fn shortest_of(width: Width, bits: u64) -> Decimal
     let last = less(exponent(width, bits), 1) as u64;
     let quarter = quarter_places(width);
     let number = significand(width, bits);
-    find(
-        number,
-        gap_below(width, bits),
-        less(last, quarter),
-        less(quarter, last),
-        number % 2 == 0,
-    )
+    let gap = gap_below(width, bits);
+    let (up, down) = (less(last, quarter), less(quarter, last));
+    let has_ends = number % 2 == 0;
+    if let Some(decimal) = find_moderate(number, gap, up, down, has_ends) {
+        return decimal;
+    }
+    find(number, gap, up, down, has_ends)
 }
 
 /// The shortest decimal that is nearer to a number than to any other of its width, without its sign; a middle between
