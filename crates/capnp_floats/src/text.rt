@@ -13,10 +13,10 @@ fn put_bytes(out: &mut String, bytes: &[u8]) -> Result<(), AllocError>
     requires { IsAscii bytes.now }
     ensures put { OnOk result (string_bytes out.new ≡ string_bytes out.old ++ bytes.now) }
 {
-    for byte in bytes {
-        out.push(*byte as char)?;
-    }
-    Ok(())
+    let Ok(text) = std::str::from_utf8(bytes) else {
+        unreachable!()
+    };
+    out.push_str(text)
 }
 
 /// Appends so many zeros.
