@@ -151,18 +151,6 @@ none_lent n o x p (suc c) e f h =
     let q : p * 1 ≤ p * suc c = mul-le p 1 p (suc c) (omega arith) (omega arith) in
     absurd (omega arith)
 
--- so many doublings and one more fit, where more do
-pub doubling_fits : (x i n : ℕ) → i < n → x * 2 ^ n < room → x * 2 ^ i * 2 < room
-doubling_fits x i n h f =
-    let p : 2 ^ (i + 1) ≤ 2 ^ n = pow-le-pow_right {n = 2} (lit< tt) {i = i + 1} {j = n} (omega arith) in
-    let s : 2 ^ (i + 1) ≡ 2 ^ i * 2 = pow-add 2 i 1 in
-    let q : x * 2 ^ (i + 1) ≤ x * 2 ^ n = mul-le x (2 ^ (i + 1)) x (2 ^ n) (omega arith) p in
-    let t : x * 2 ^ (i + 1) ≡ x * (2 ^ i * 2) = ap (λ z. x * z) s in
-    omega arith
-
-pub doubled : (x i : ℕ) → x * 2 ^ i * 2 ≡ x * 2 ^ (i + 1)
-doubled x i = let t : x * 2 ^ (i + 1) ≡ x * (2 ^ i * 2) = ap (λ z. x * z) (pow-add 2 i 1) in omega arith
-
 -- a number below 2^1152 has no more than 1152 factors that are at least two
 pub few_factors : (t n : ℕ) → 2 ^ t ≤ n → n < room → t < 1152
 unfolding room
