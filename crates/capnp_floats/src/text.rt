@@ -149,6 +149,8 @@ fn put_digits(
 pub fn put_decimal(out: &mut String, width: Width, decimal: Decimal) -> Result<(), AllocError>
     ensures put { OnOk result (string_bytes out.new ≡ string_bytes out.old ++ layout width decimal.digits decimal.exponent) }
 {
+    // most texts have no more bytes, so that the string grows once
+    out.reserve(24)?;
     let mut digits = String::new(*out.allocator());
     let number = decimal.digits;
     write!(digits, "{number}")?;
