@@ -8,6 +8,8 @@ pub mod FieldsLed
 pub mod FieldsMeant
 pub mod FieldsNoted
 pub mod FieldsPassed
+pub mod GroupsMarked
+pub mod GroupsOnce
 pub mod Leads
 pub mod ListsFound
 pub mod NamesAlike
@@ -17,6 +19,7 @@ pub mod NamesOwn
 pub mod NamesPassed
 pub mod NamesSound
 pub mod NamesWhole
+pub mod NodesFound
 pub mod NodesMeant
 pub mod NumbersBelow
 pub mod NumbersKept

@@ -15,7 +15,7 @@ use Rattle.capnp_request_meaning.specs.Meaning.{AreAmongFirst, AreEnumsNamed, Ea
 use Rattle.capnp_request_meaning.specs.Plain.{AreNodesPlain}
 use Rattle.capnp_request_meaning.specs.Written.{HasBareNames, HasClearNames, HasDistinctNames, IsBare, IsNamed, IsWholeAt, built_in_names, is_among, is_type_node}
 use Rattle.capnp_request_meaning.proofs.BracketsRead.{Stays, bare_stays, read_on}
-use Rattle.capnp_request_meaning.proofs.ListsFound.{same_some, still_at}
+use Rattle.capnp_request_meaning.proofs.ListsFound.{same_some, still_at, there_below}
 use Rattle.capnp_request_meaning.proofs.NamesAlike.{alike_scopes, at, bare_dotted, name_outside, named, names_of, names_one, names_two, one_node, one_shape, outside_shown, shown}
 use Rattle.capnp_request_meaning.proofs.NamesDiffer.{not_dotted}
 use Rattle.capnp_request_meaning.proofs.SetsMeant.{IsFirstOf, own_kind, own_place, reached_first}
@@ -23,11 +23,6 @@ use Rattle.capnp_request_meaning.proofs.TypesOwn.{AreOwnNames, EachKnown, IsKnow
 use Rattle.capnp_request_meaning.proofs.TypesTidy.{EachTidy, IsBoundTidy, by_bytes_apart, entry_in, kind_in, reached_tidy}
 
 -- ---- elements by number ----
-
-there_below : {A : Type 0} (xs : List A) (i : ℕ) → i < length xs → (x : A) × (slice_get xs i ≡ Some x)
-there_below [] i less = absurd (omega (arith, less))
-there_below (x ∷ xs) zero less = (x, refl)
-there_below (x ∷ xs) (suc i) less = there_below xs i (omega (arith, less))
 
 name_there : (ns : List Node) (i : ℕ) (n : Node) → slice_get ns i ≡ Some n → name_of (names_of ns) i ≡ n.display_name
 name_there [] i n e = absurd (cc)

@@ -241,7 +241,7 @@ row_order h = let e : first_byte (Ok (codes "p")) ≡ first_byte (Ok (codes "q")
 -- a set without the struct of the file
 pub row_missing : IsSetOf request false (record { nodes = []; brands = []; enums = [] }) → ⊥
 row_missing h =
-    let found : IsFound (record { nodes = []; brands = []; enums = [] }) 2 first_node = h.roots 2 first_node (struct_part false 2 first_fields) (NestedIn 1 file_node (2 ∷ 5 ∷ []) 2 (OfFile (1 ∷ []) 1 refl refl) refl refl refl) refl refl refl in
+    let found : IsFound h.entries (record { nodes = []; brands = []; enums = [] }) 2 first_node = h.roots 2 first_node (struct_part false 2 first_fields) (NestedIn 1 file_node (2 ∷ 5 ∷ []) 2 (OfFile (1 ∷ []) 1 refl refl) refl refl refl) refl refl refl in
     nothing_at found.number found.node found.numbered
 
 abbrev twins : RequestTerm

@@ -12,8 +12,9 @@ use Rattle.capnp_request.specs.Terms.{AnnotationTerm, EnumTerm, Float32, Float64
 use Rattle.capnp_request.specs.Types.{enum_position, is_enum, is_of_kind, is_root}
 use Rattle.capnp_request.specs.Work.{Bound, Entry, Named, work_continued}
 use Rattle.capnp_request_meaning.specs.Laws.{IsSetOfRecord, SetMeansItsRecord, SetMeansItsRequest}
-use Rattle.capnp_request_meaning.specs.Meaning.{AnnotationLeads, AreEnumsOf, AreNodesFrom, ByAnnotation, ByBrand, ByDeclaration, ByField, ByGroup, EntryAt, EnumAt, IsEntryName, IsFound, IsListed, IsNameOf, IsNodeOf, IsReached, IsSetOf, IsTarget, Numbers, Requested, Target}
+use Rattle.capnp_request_meaning.specs.Meaning.{AnnotationLeads, AreEnumsOf, AreNodesFrom, ByAnnotation, ByBrand, ByDeclaration, ByField, ByGroup, EntryAt, EnumAt, IsEntryName, IsFound, IsListed, IsNameOf, IsNodeOf, IsReached, IsSetOf, IsTarget, Numbers, Requested, Target, AreGroupsDistinct}
 use Rattle.capnp_request_meaning.proofs.EntriesKept.{FoundAt, found_enum}
+use Rattle.capnp_request_meaning.proofs.GroupsOnce.{IfAllOnce, IfOnce, all_once, files_once}
 use Rattle.capnp_request_meaning.proofs.ListsFound.{before_or_last, none_left, same_some}
 use Rattle.capnp_request_meaning.proofs.NamesMeant.{name_by}
 use Rattle.capnp_request_meaning.proofs.NumbersKept.{IsFit, files_fit}
@@ -78,7 +79,7 @@ root_of : (k : NodeKind) (part : StructPart) → k ≡ StructNode part → part.
 root_of k part e g = ap is_root e ∙ ap not g
 
 found_of : (r : RequestTerm) (k : Numbers) → k.nodes ≡ r.nodes → (entries : List Entry) (set : Schemas) → AreNodesFrom k [] [] entries set.nodes set.brands → AreRooted r entries
-    → (id : ℕ) (n : SchemaNode) (part : StructPart) → IsListed r id → node_named r.nodes id ≡ Some n → n.kind ≡ StructNode part → part.is_group ≡ false → IsFound set id n
+    → (id : ℕ) (n : SchemaNode) (part : StructPart) → IsListed r id → node_named r.nodes id ≡ Some n → n.kind ≡ StructNode part → part.is_group ≡ false → IsFound entries set id n
 found_of r k same_list entries set meant rooted id n part listed first struct group =
     let root : HasRoot entries id = rooted id n listed first (root_of n.kind part struct group) in
     let node : NodeAt k entries root.entry set.nodes root.number = node_of_entry k entries set.nodes set.brands root.number root.entry meant root.numbered in
@@ -86,7 +87,12 @@ found_of r k same_list entries set meant rooted id n part listed first struct gr
     let named : IsNameOf k node.earlier node.before root.entry node.is.node node.node.display_name = subst (λ p. IsEntryName k node.earlier node.before node.is.node root.entry p node.node.display_name) root.whole node.is.name in
     record {
       number = root.number;
+      entry = root.entry;
       node = node.node;
+      there = root.numbered;
+      same_node = root.node;
+      whole = root.whole;
+      unbound = root.unbound;
       display = named.display;
       numbered = node.there;
       same_id = node.is.id ∙ root.node;
@@ -160,8 +166,8 @@ abbrev numbers_by : List SchemaNode → Bool → List Entry → List ℕ → Num
 numbers_by nodes strict entries enums = record { nodes = nodes; strict = strict; entries = entries; enums = enums }
 
 module _ (r : RequestTerm) (strict : Bool) where
-  set_of_made : (s t : Named) (m : Made) → Ends r.nodes strict s nothing_made m t → Stay r.nodes s.entries → AreRooted r t.entries → AllReached r strict t → IsSetOf r strict (schemas_made m)
-  set_of_made s t m ends stay rooted reached =
+  set_of_made : (s t : Named) (m : Made) → Ends r.nodes strict s nothing_made m t → Stay r.nodes s.entries → AreRooted r t.entries → AreGroupsDistinct t.entries → AllReached r strict t → IsSetOf r strict (schemas_made m)
+  set_of_made s t m ends stay rooted once reached =
       let made : AreMade r.nodes strict m t = ends.made (none_made r.nodes strict t) in
       let kept : Stay r.nodes t.entries = ends.kept stay in
       let count : length made.done ≡ length m.nodes = nodes_counted (numbers r.nodes strict t) [] [] made.done m.nodes m.brands made.meant in
@@ -181,6 +187,7 @@ module _ (r : RequestTerm) (strict : Bool) where
         entries = t.entries;
         bound = kept.entries t.entries [] (sym (append-nil t.entries));
         distinct = kept.distinct;
+        distinct_groups = once;
         few = kept.few;
         nodes = meant;
         enums = subst (λ ids. AreEnumsOf (numbers_by r.nodes strict t.entries ids) m.enums) enums made.enumerated;
@@ -197,21 +204,21 @@ module _ (r : RequestTerm) (strict : Bool) where
   set_or other (Err kind) = other
 
   module _ (set : Schemas) (notes : List Note) where
-    made_meant : (s : Named) → Stay r.nodes s.entries → ((t : Named) → Grows s t → AreRooted r t.entries) → (x : Result (Made × Named) ErrorKind) → IfDone (λ (m : Made) t. Ends r.nodes strict s nothing_made m t) x → IfDone (λ (m : Made) t. AllReached r strict t) x → result_of x ≡ Ok (set, notes) → IsSetOf r strict set
-    made_meant s stay rooted (Err kind) h k e = absurd (cc)
-    made_meant s stay rooted (Ok p) h k e =
+    made_meant : (s : Named) → Stay r.nodes s.entries → ((t : Named) → Grows s t → AreRooted r t.entries) → (x : Result (Made × Named) ErrorKind) → IfDone (λ (m : Made) t. Ends r.nodes strict s nothing_made m t) x → IfAllOnce r.nodes strict x → IfDone (λ (m : Made) t. AllReached r strict t) x → result_of x ≡ Ok (set, notes) → IsSetOf r strict set
+    made_meant s stay rooted (Err kind) h once k e = absurd (cc)
+    made_meant s stay rooted (Ok p) h once k e =
         let same : schemas_made p.0 ≡ set = ap (set_or set) e in
-        subst (IsSetOf r strict) same (set_of_made s p.1 p.0 h stay (rooted p.1 h.grown) k)
+        subst (IsSetOf r strict) same (set_of_made s p.1 p.0 h stay (rooted p.1 h.grown) once k)
 
     named_meant : (x : Result (List ℕ × Named) ErrorKind) → IfDone (λ (none : List ℕ) t. Done (Stay r.nodes) nothing_named t (λ z. AreRooted r z.entries)) x
-        → IfDone (λ (none : List ℕ) t. AllReached r strict t) x → IfDone (λ (none : List ℕ) t. IsFit r.nodes t) x → result_of (work_continued (λ none. make_all r.nodes strict (65536 + suc (length r.nodes)) nothing_made) x) ≡ Ok (set, notes) → IsSetOf r strict set
-    named_meant (Err kind) h k fit e = absurd (cc)
-    named_meant (Ok p) h k fit e =
+        → IfDone (λ (none : List ℕ) t. AllReached r strict t) x → IfDone (λ (none : List ℕ) t. IsFit r.nodes t) x → IfOnce 0 0 x → result_of (work_continued (λ none. make_all r.nodes strict (65536 + suc (length r.nodes)) nothing_made) x) ≡ Ok (set, notes) → IsSetOf r strict set
+    named_meant (Err kind) h k fit once e = absurd (cc)
+    named_meant (Ok p) h k fit once e =
         made_meant p.1 (h.kept (stay_none r.nodes)) (λ t g. h.later t g) (make_all r.nodes strict (65536 + suc (length r.nodes)) nothing_made p.1) (all_end r.nodes strict (65536 + suc (length r.nodes)) nothing_made p.1 fit)
-        (all_reached r strict (65536 + suc (length r.nodes)) nothing_made p.1 k) e
+        (all_once r.nodes strict (65536 + suc (length r.nodes)) nothing_made p.1 once) (all_reached r strict (65536 + suc (length r.nodes)) nothing_made p.1 k) e
 
 pub set_meant : SetMeansItsRequest
-set_meant r strict set notes e = named_meant r strict set notes (name_files r.nodes strict r.files nothing_named) (files_named (Stay r.nodes) r (stay_whole r.nodes) strict nothing_named) (files_reached r strict) (files_fit r.nodes strict r.files) e
+set_meant r strict set notes e = named_meant r strict set notes (name_files r.nodes strict r.files nothing_named) (files_named (Stay r.nodes) r (stay_whole r.nodes) strict nothing_named) (files_reached r strict) (files_fit r.nodes strict r.files) (files_once r strict) e
 
 pub record_meant : SetMeansItsRecord
 record_meant r strict set notes e = go (request_said r) refl e

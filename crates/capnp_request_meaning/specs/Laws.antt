@@ -1,5 +1,6 @@
 -- The statements of the laws.
 use Rattle.std.specs.Prelude.{ℕ, ◌≡◌, List, Bool, true, slice_get, Some, Ok, ◌≢◌, Err}
+use Rattle.capnp_schema.specs.Accepted.{IsAccepted}
 use Rattle.capnp_schema.specs.Schema.{Node, Schemas}
 use Rattle.capnp_records.specs.Record.{Record}
 use Rattle.capnp_request.specs.Conversion.{Note}
@@ -10,6 +11,7 @@ use Rattle.capnp_request.specs.Scopes.{node_named}
 use Rattle.capnp_request.specs.Terms.{RequestTerm, SchemaNode}
 use Rattle.capnp_request.specs.Types.{is_struct_kind}
 use Rattle.capnp_request.specs.Work.{Entry, Whole}
+use Rattle.capnp_request_meaning.specs.Found.{IsEntryNode, is_group_place}
 use Rattle.capnp_request_meaning.specs.Meaning.{AreUnbound, IsSetOf, numbers_in}
 use Rattle.capnp_request_meaning.specs.Noted.{AreNotesOf}
 use Rattle.capnp_request_meaning.specs.Passed.{IsPassed, bounds}
@@ -77,6 +79,10 @@ BoundNamesAreOwn = (r : RequestTerm) (strict : Bool) (set : Schemas) (is : IsSet
 abbrev pub BoundTypesHaveNames : Type 0
 BoundTypesHaveNames = (r : RequestTerm) (strict : Bool) (set : Schemas) (is : IsSetOf r strict set) → AreNodesPlain r.nodes → (i : ℕ) (e : Entry) (n : Node) →
     IsWholeAt is.entries set i e n → HasNamedTypes (numbers_in r strict is.entries set) set.nodes i e n.display_name
+
+-- in a set that the check accepts the groups of fields are marked as groups, and no other entry is
+abbrev pub GroupsAreMarked : Type 0
+GroupsAreMarked = (r : RequestTerm) (strict : Bool) (set : Schemas) (is : IsSetOf r strict set) → IsAccepted set → (i : ℕ) (e : Entry) (n : Node) → IsEntryNode is.entries set i e n → n.is_group ≡ is_group_place e.place
 
 -- where no part of a request is a cause of a refusal, it isn't refused so; of bounds that isn't said
 abbrev pub RefusalsHaveCauses : Type 0

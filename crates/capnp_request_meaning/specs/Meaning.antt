@@ -62,6 +62,10 @@ AreEntries nodes entries (e ∷ es) = IsEntryAt nodes entries e e.place × AreEn
 abbrev pub AreDistinct : List Entry → Type 0
 AreDistinct es = (i j : ℕ) (e f : Entry) → i < j → slice_get es i ≡ Some e → slice_get es j ≡ Some f → f.place ≡ Whole → is_entry_of f.node f.bound e e.place ≡ false
 
+-- nor are two of them the group of one field of an entry
+abbrev pub AreGroupsDistinct : List Entry → Type 0
+AreGroupsDistinct es = (i j p l : ℕ) (e f : Entry) → i < j → slice_get es i ≡ Some e → slice_get es j ≡ Some f → e.place ≡ GroupOf p l → f.place ≡ GroupOf p l → ⊥
+
 -- ---- types ----
 
 -- what a set is read beside: the schema nodes, whether stand-ins are refused, and what numbers stand for: entries, and enums
@@ -312,11 +316,17 @@ pub data IsListed (r : RequestTerm) : ℕ → Type 0 where
   OfFile : (ids : List ℕ) (id : ℕ) → r.files ≡ Ok ids → is_met ids id ≡ true → IsListed r id
   NestedIn : (outer : ℕ) (n : SchemaNode) (ids : List ℕ) (id : ℕ) → IsListed r outer → node_named r.nodes outer ≡ Some n → n.nested ≡ Ok ids → is_met ids id ≡ true → IsListed r id
 
--- the set has a node of an id by the display name of its schema node, or by what stands behind that name's last colon
-pub record IsFound (set : Schemas) (id : ℕ) (n : SchemaNode) : Type 0 where
+-- the set has the entry of an id with nothing bound, by the display name of its schema node, or by what stands behind that
+-- name's last colon
+pub record IsFound (entries : List Entry) (set : Schemas) (id : ℕ) (n : SchemaNode) : Type 0 where
   pub number : ℕ
+  pub entry : Entry
   pub node : Node
   pub display : List ℕ
+  pub there : slice_get entries number ≡ Some entry
+  pub same_node : entry.node ≡ id
+  pub whole : entry.place ≡ Whole
+  pub unbound : AreUnbound entry.bound
   pub numbered : slice_get set.nodes number ≡ Some node
   pub same_id : node.id ≡ id
   pub said : n.display_name ≡ Ok display
@@ -419,10 +429,11 @@ pub record IsSetOf (r : RequestTerm) (strict : Bool) (set : Schemas) : Type 0 wh
   pub entries : List Entry
   pub bound : AreEntries r.nodes entries entries
   pub distinct : AreDistinct entries
+  pub distinct_groups : AreGroupsDistinct entries
   pub few : length entries ≤ 65536
   pub nodes : AreNodesFrom (numbers_in r strict entries set) [] [] entries set.nodes set.brands
   pub enums : AreEnumsOf (numbers_in r strict entries set) set.enums
   pub distinct_enums : (i j : ℕ) (e f : Enum) → slice_get set.enums i ≡ Some e → slice_get set.enums j ≡ Some f → e.id ≡ f.id → i ≡ j
-  pub roots : (id : ℕ) (n : SchemaNode) (part : StructPart) → IsListed r id → node_named r.nodes id ≡ Some n → n.kind ≡ StructNode part → part.is_group ≡ false → IsFound set id n
+  pub roots : (id : ℕ) (n : SchemaNode) (part : StructPart) → IsListed r id → node_named r.nodes id ≡ Some n → n.kind ≡ StructNode part → part.is_group ≡ false → IsFound entries set id n
   pub reached : (n : ℕ) (e : Entry) → slice_get entries n ≡ Some e → IsReached r (numbers_in r strict entries set) (EntryAt n)
   pub reached_enums : (n : ℕ) (e : Enum) → slice_get set.enums n ≡ Some e → IsReached r (numbers_in r strict entries set) (EnumAt n)

@@ -1,5 +1,5 @@
 //! What holds of each conversion.
-ghost use Rattle.capnp_request_meaning.specs.Laws.{BoundNamesAreOwn, BoundNamesDiffer, BoundTypesAreAlike, BoundTypesHaveNames, BoundsArePassed, NotesTellWhatStands, NothingIsMissing, RefusalsHaveCauses, SetMeansItsRecord, SetMeansItsRequest, UnboundNamesDiffer};
+ghost use Rattle.capnp_request_meaning.specs.Laws.{BoundNamesAreOwn, BoundNamesDiffer, BoundTypesAreAlike, BoundTypesHaveNames, BoundsArePassed, GroupsAreMarked, NotesTellWhatStands, NothingIsMissing, RefusalsHaveCauses, SetMeansItsRecord, SetMeansItsRequest, UnboundNamesDiffer};
 
 /// The set that a request is converted to says of the request what `IsSetOf` says: each entry is a struct node of the
 /// request with bindings, or the group that a field names, and has what its node has. Structs of the requested files lead to
@@ -46,6 +46,12 @@ pub fn bound_names_are_own()
 /// number, as those of records are.
 pub fn bound_types_have_names()
     ensures { BoundTypesHaveNames }
+{}
+
+/// In a set that the check accepts the groups of fields are marked as groups, and no other struct is. So a query by name passes
+/// over exactly the groups.
+pub fn groups_are_marked()
+    ensures { GroupsAreMarked }
 {}
 
 /// A request of which no part is a cause of a refusal isn't refused so. `FloatType` and `InterfaceType` come only where
