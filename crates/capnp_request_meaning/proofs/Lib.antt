@@ -9,11 +9,13 @@ pub mod FieldsMeant
 pub mod FieldsNoted
 pub mod FieldsPassed
 pub mod GroupsMarked
+pub mod GroupsNamed
 pub mod GroupsOnce
 pub mod Leads
 pub mod ListsFound
 pub mod NamesAlike
 pub mod NamesDiffer
+pub mod NamesFound
 pub mod NamesMeant
 pub mod NamesOwn
 pub mod NamesPassed

@@ -9,9 +9,9 @@ use Rattle.capnp_request.specs.Scopes.{node_named, scopes_of}
 use Rattle.capnp_request.specs.Terms.{FieldTerm, RequestTerm, Said, SchemaNode, StructPart}
 use Rattle.capnp_request.specs.Types.{is_struct_kind}
 use Rattle.capnp_request.specs.Work.{Bound, Entry, GroupOf, Place, Whole}
-use Rattle.capnp_request_meaning.specs.Laws.{BoundNamesDiffer, BoundTypesAreAlike, HasOwnNames}
+use Rattle.capnp_request_meaning.specs.Laws.{BoundNamesDiffer, BoundTypesAreAlike}
 use Rattle.capnp_request_meaning.specs.Meaning.{AreEnumsNamed, AreFieldsFrom, AreNodesFrom, EachBound, IsEntryAt, IsEntryName, IsNameOf, IsNodeOf, IsRead, IsSetOf, IsTaken, Numbers, numbers_in, without_types}
-use Rattle.capnp_request_meaning.specs.Written.{AreBoundAlike, AreScopesAlike, AreWrittenAlike, HasBareNames, HasClearNames, HasNoComma, HaveOwnParts, IsBare, IsNamed, IsWholeAt}
+use Rattle.capnp_request_meaning.specs.Written.{AreBoundAlike, AreScopesAlike, AreWrittenAlike, HasBareNames, HasClearNames, HasNoComma, HaveOwnParts, IsBare, IsNamed, IsWholeAt, HasOwnNames}
 use Rattle.capnp_request_meaning.proofs.BracketsRead.{AreClosed, AreFree, Ends, IsClosed, IsFree, IsHidden, Stays, bare_byte, bare_stays, closed_bare, closed_both, closed_more, free_bare, free_both, free_hidden, free_more, hidden_closed, part_hidden, read_on}
 use Rattle.capnp_request_meaning.proofs.ListsFound.{among_first, same_some}
 use Rattle.capnp_request_meaning.proofs.NamesDiffer.{entry_at, not_dotted}
@@ -56,7 +56,7 @@ bare_file (x ∷ xs) h = go (has_colon (x ∷ xs)) (bare_file xs h.2)
     go true k = (h.0, h.1, k)
     go false k = tt
 
-bare_where : (q : Bool) (xs : List ℕ) → IsBare xs → IsBare (file_where q xs)
+pub bare_where : (q : Bool) (xs : List ℕ) → IsBare xs → IsBare (file_where q xs)
 bare_where true xs h = bare_file xs h
 bare_where false xs h = tt
 
@@ -173,7 +173,7 @@ EachField P (n ∷ ns) = EachName P (field_names n) × EachField P ns
 
 -- commas are asked for where that is said
 pub record AreKnown (nodes : List SchemaNode) (ns : List Node) : Type 0 where
-  names : AreClosed (names_of ns)
+  pub names : AreClosed (names_of ns)
   fields : EachField IsBare ns
   free : HasClearNames nodes → AreFree (names_of ns)
   clear : HasClearNames nodes → EachField HasNoComma ns
@@ -203,7 +203,7 @@ fields_more P [] n h k = (k, tt)
 fields_more P (x ∷ ns) n h k = (h.0, fields_more P ns n h.1 k)
 
 module _ (k : Numbers) (bare : HasBareNames k.nodes) where
-  enums_closed : (ids : List ℕ) (names : List (List ℕ)) → AreEnumsNamed k.nodes ids names → AreClosed names
+  pub enums_closed : (ids : List ℕ) (names : List (List ℕ)) → AreEnumsNamed k.nodes ids names → AreClosed names
   enums_closed [] [] h = tt
   enums_closed (id ∷ ids) (name ∷ names) h = (subst IsClosed (sym h.0.is) (closed_bare (dotted_of h.0.display) (bare_dotted h.0.display (bare.display id h.0.node h.0.display h.0.first h.0.said))), enums_closed ids names h.1)
   enums_closed [] (name ∷ names) h = absurd h

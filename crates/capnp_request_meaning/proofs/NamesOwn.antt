@@ -10,10 +10,10 @@ use Rattle.capnp_request.specs.Scopes.{node_named}
 use Rattle.capnp_request.specs.Terms.{RequestTerm, SchemaNode}
 use Rattle.capnp_request.specs.Types.{enum_position, is_entry_of, is_enum, is_of_kind, is_struct_kind, same_bound}
 use Rattle.capnp_request.specs.Work.{Bound, Entry, MarkedType, Whole}
-use Rattle.capnp_request_meaning.specs.Laws.{BoundNamesAreOwn, HasOwnNames}
+use Rattle.capnp_request_meaning.specs.Laws.{BoundNamesAreOwn}
 use Rattle.capnp_request_meaning.specs.Meaning.{AreAmongFirst, AreEnumsNamed, EachBound, EachType, EntryAt, EnumAt, IsAmongFirst, IsEnumNamed, IsSetOf, Numbers, numbers_in}
 use Rattle.capnp_request_meaning.specs.Plain.{AreNodesPlain}
-use Rattle.capnp_request_meaning.specs.Written.{HasBareNames, HasClearNames, HasDistinctNames, IsBare, IsNamed, IsWholeAt, built_in_names, is_among, is_type_node}
+use Rattle.capnp_request_meaning.specs.Written.{HasBareNames, HasClearNames, HasDistinctNames, IsBare, IsNamed, IsWholeAt, built_in_names, is_among, is_type_node, HasOwnNames}
 use Rattle.capnp_request_meaning.proofs.BracketsRead.{Stays, bare_stays, read_on}
 use Rattle.capnp_request_meaning.proofs.ListsFound.{same_some, still_at, there_below}
 use Rattle.capnp_request_meaning.proofs.NamesAlike.{alike_scopes, at, bare_dotted, name_outside, named, names_of, names_one, names_two, one_node, one_shape, outside_shown, shown}

@@ -7,6 +7,8 @@ use Rattle.capnp_request.specs.Scopes.{node_named}
 use Rattle.capnp_request.specs.Terms.{FieldTerm, GroupTerm, SchemaNode, StructNode, StructPart}
 use Rattle.capnp_request.specs.Work.{Entry, GroupOf, Place, Whole}
 use Rattle.capnp_request_meaning.specs.Meaning.{AreUnbound, IsRead}
+use Rattle.capnp_request_meaning.specs.Plain.{AreNodesPlain}
+use Rattle.capnp_request_meaning.specs.Written.{HasBareNames, HasClearNames, HasDistinctNames, HasOwnNames}
 
 -- The struct of a requested file is the one that a query by its display name finds. That is the name of its schema node, or what
 -- stands behind that name's last colon.
@@ -61,10 +63,43 @@ abbrev pub HasApartGroups : List SchemaNode → Type 0
 HasApartGroups nodes = (id other group : ℕ) (n m : SchemaNode) (part struct : StructPart) (i : ℕ) (f : FieldTerm) (display : List ℕ) → node_named nodes id ≡ Some n → n.kind ≡ StructNode part → part.is_group ≡ false → n.display_name ≡ Ok display
     → node_named nodes other ≡ Some m → m.kind ≡ StructNode struct → IsRead struct.fields i f → f.kind ≡ GroupTerm group → f.name ≡ Ok (last_part display) → ⊥
 
--- the group that field i of entry p names: its parent's name, and the field's
-pub record IsGroupNamed (set : Schemas) (p i : ℕ) (name : List ℕ) : Type 0 where
+-- the entry of the group that field l of entry p names, with its node
+pub record IsGroupAt (entries : List Entry) (set : Schemas) (i p l : ℕ) (e : Entry) (n : Node) : Type 0 where
+  pub there : slice_get entries i ≡ Some e
+  pub node : slice_get set.nodes i ≡ Some n
+  pub place : e.place ≡ GroupOf p l
+
+-- field l of entry p and field o of entry q have one name, as have those entries
+pub record ShareNames (set : Schemas) (p l q o : ℕ) : Type 0 where
+  pub parent : Node
+  pub other : Node
+  pub field : Field
+  pub other_field : Field
+  pub numbered : slice_get set.nodes p ≡ Some parent
+  pub other_numbered : slice_get set.nodes q ≡ Some other
+  pub member : slice_get parent.fields l ≡ Some field
+  pub other_member : slice_get other.fields o ≡ Some other_field
+  pub same_parent : parent.display_name ≡ other.display_name
+  pub same_field : field.name ≡ other_field.name
+
+-- field l of entry p is named as the last part of what the node of an id is named
+pub record EndsAsField (nodes : List SchemaNode) (set : Schemas) (id p l : ℕ) : Type 0 where
+  pub node : SchemaNode
+  pub display : List ℕ
   pub parent : Node
   pub field : Field
+  pub first : node_named nodes id ≡ Some node
+  pub said : node.display_name ≡ Ok display
   pub numbered : slice_get set.nodes p ≡ Some parent
-  pub member : slice_get parent.fields i ≡ Some field
-  pub is : name ≡ parent.display_name ++ 46 ∷ field.name
+  pub member : slice_get parent.fields l ≡ Some field
+  pub name : field.name ≡ last_part display
+
+-- what tells all entries of a request apart by their names
+pub record AreToldApart (nodes : List SchemaNode) : Type 0 where
+  pub own : HasOwnNames nodes
+  pub bare : HasBareNames nodes
+  pub clear : HasClearNames nodes
+  pub distinct : HasDistinctNames nodes
+  pub are_plain : AreNodesPlain nodes
+  pub fields : HasOwnFields nodes
+  pub groups : HasApartGroups nodes

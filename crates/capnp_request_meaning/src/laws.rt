@@ -1,5 +1,5 @@
 //! What holds of each conversion.
-ghost use Rattle.capnp_request_meaning.specs.Laws.{BoundNamesAreOwn, BoundNamesDiffer, BoundTypesAreAlike, BoundTypesHaveNames, BoundsArePassed, GroupsAreMarked, NotesTellWhatStands, NothingIsMissing, RefusalsHaveCauses, SetMeansItsRecord, SetMeansItsRequest, UnboundNamesDiffer};
+ghost use Rattle.capnp_request_meaning.specs.Laws.{AllNamesDiffer, BoundNamesAreOwn, BoundNamesDiffer, BoundTypesAreAlike, BoundTypesHaveNames, BoundsArePassed, EachStructIsFound, GroupNamesAreShared, GroupsAreMarked, GroupsShareWithStructs, NamesFindStructs, NotesTellWhatStands, NothingIsMissing, RefusalsHaveCauses, SetMeansItsRecord, SetMeansItsRequest, UnboundNamesDiffer};
 
 /// The set that a request is converted to says of the request what `IsSetOf` says: each entry is a struct node of the
 /// request with bindings, or the group that a field names, and has what its node has. Structs of the requested files lead to
@@ -52,6 +52,27 @@ pub fn bound_types_have_names()
 /// over exactly the groups.
 pub fn groups_are_marked()
     ensures { GroupsAreMarked }
+{}
+
+/// Each struct of the requested files, nested ones too, is what a query by its display name finds in a set that the check accepts.
+/// Each struct node of the request has a name of its own there, and no name has a bracket. Groups may have the same name.
+pub fn structs_are_found()
+    ensures { EachStructIsFound }
+{}
+
+/// So is each entry that is no group, with types bound to its parameters, where no two of these have one name (`bound_names_are_own`).
+/// So no two structs are found by one name.
+pub fn names_find_structs()
+    ensures { NamesFindStructs }
+{}
+
+/// A group is named by its parent, a dot and its field. Where names of fields are one part each, two groups have one name exactly
+/// where their fields have one, as have their parents. A group and a struct have one only where the struct's node is named so,
+/// behind the last dot or colon. Nodes of which no struct is named as a field of a group, among others, tell all entries apart.
+pub fn group_names_differ()
+    ensures groups { GroupNamesAreShared }
+    ensures structs { GroupsShareWithStructs }
+    ensures all { AllNamesDiffer }
 {}
 
 /// A request of which no part is a cause of a refusal isn't refused so. `FloatType` and `InterfaceType` come only where
