@@ -156,7 +156,7 @@ module _ (r : RequestTerm) (strict : Bool) (sound : IsRequestSound (bounds stric
       passed_from X (scopes_of r.nodes id) (λ bound. number_struct id bound >>= (λ number. work_of [])) s (passed_so X strict AnySaid (scopes_of r.nodes id) (scopes_said (bounds strict) r.nodes sound.nodes id)) (λ bound scopes.
       passed_bind X (number_struct id bound) (λ number. work_of {A = List ℕ} []) s
       (number_passed r strict sound.nodes (Stay r.nodes) (stay_whole r.nodes) (λ es k. k) id bound s (scopes ∙ ap (λ xs. Ok xs) (sym (scopes_without r.nodes id bound scopes))) fine (λ many. absurd (never_many bound (scopes_unbound r.nodes id bound scopes) many))
-      (λ x z g added. requested r strict id n listed first (plain_of n.kind is) bound scopes x z (added.0, added.1, record { entry = whole_entry id bound; numbered = added.2; node = refl; whole = refl; same = same_bound_itself bound })))
+      (λ x z g small added. requested r strict id n listed first (plain_of n.kind is) bound scopes x z (added.0, added.1, record { entry = whole_entry id bound; numbered = added.2; node = refl; whole = refl; same = same_bound_itself bound; few = small })))
       (λ p e. tt))
 
   abbrev within : (steps : ℕ) (met : List ℕ) (id : ℕ) (ids : List ℕ) → SchemaNode → Work (List ℕ)

@@ -13,7 +13,7 @@ use Rattle.capnp_request.specs.Values.{value_stated}
 use Rattle.capnp_request.specs.Work.{Bound, Entry, MarkedType, Named, Work, each, plain, work_of, work_unnoted, ◌>>=◌}
 use Rattle.capnp_request_meaning.specs.Meaning.{AnnotationLeads, AnyBound, ByBrand, ByDeclaration, EntryAt, EnumAt, IsBindingAmong, IsBindingOf, IsBindingSaid, LeadsTo, Numbers, StandsIn, Target}
 use Rattle.capnp_request_meaning.proofs.AnnotationsMeant.{IsDeclaration, declaration}
-use Rattle.capnp_request_meaning.proofs.EntriesKept.{IsNumbered, same_bound_itself, whole_entry}
+use Rattle.capnp_request_meaning.proofs.EntriesKept.{IsNumbered, few_bound, same_bound_itself, whole_entry}
 use Rattle.capnp_request_meaning.proofs.Leads.{AnyEntries, IsLed, IsNew, Led, OneLeads, any_whole, led_all, led_bind, led_bind_with, led_else, led_none, led_of, led_said, led_scopes, led_unnoted, led_weaken, led_where}
 use Rattle.capnp_request_meaning.proofs.ListsFound.{last_at, still_at}
 use Rattle.capnp_request_meaning.proofs.TypesMeant.{AreNamedScopes, brand_meant, numbers, scopes_named}
@@ -49,12 +49,12 @@ IsStructAdded id bound x z = (n : ℕ) × (x ≡ EntryAt n) × IsNumbered id bou
 
 pub struct_led : (id : ℕ) (bound : List Bound) → IsLed (number_struct id bound) (IsStructAdded id bound)
 struct_led id bound s =
-    led_where (is_bound_count (bound_count bound)) TooManyTypes s (IsStructAdded id bound) (number_or_add (entry_number id bound s.entries 0) (whole_entry id bound) s) (λ few. go (entry_number id bound s.entries 0))
+    led_where (is_bound_count (bound_count bound)) TooManyTypes s (IsStructAdded id bound) (number_or_add (entry_number id bound s.entries 0) (whole_entry id bound) s) (λ few. go (few_bound bound few) (entry_number id bound s.entries 0))
   where
-    go : (o : Option ℕ) → IfDone (λ n t. Led s t (IsStructAdded id bound)) (number_or_add o (whole_entry id bound) s)
-    go (Some n) = led_none s s (IsStructAdded id bound) refl refl
-    go None = led_weaken (add_entry (whole_entry id bound)) (IsAdded (whole_entry id bound)) (IsStructAdded id bound)
-        (λ x z h. (h.0, h.1, record { entry = whole_entry id bound; numbered = h.2; node = refl; whole = refl; same = same_bound_itself bound })) (entry_led (whole_entry id bound)) s
+    go : bound_count bound ≤ 1024 → (o : Option ℕ) → IfDone (λ n t. Led s t (IsStructAdded id bound)) (number_or_add o (whole_entry id bound) s)
+    go small (Some n) = led_none s s (IsStructAdded id bound) refl refl
+    go small None = led_weaken (add_entry (whole_entry id bound)) (IsAdded (whole_entry id bound)) (IsStructAdded id bound)
+        (λ x z h. (h.0, h.1, record { entry = whole_entry id bound; numbered = h.2; node = refl; whole = refl; same = same_bound_itself bound; few = small })) (entry_led (whole_entry id bound)) s
 
 -- an id that isn't there stands first where it is put behind
 position_behind : (ids more : List ℕ) (id k : ℕ) → enum_position ids id k ≡ None → enum_position (ids ++ id ∷ more) id k ≡ Some (k + length ids)
@@ -129,7 +129,7 @@ module _ (nodes : List SchemaNode) (strict : Bool) (inside : List Bound) where
   itself id brand bound (EntryAt n) z h scopes =
       let same : n ≡ h.0 = cc in
       let at : IsNumbered id bound n z.entries = subst (λ i. IsNumbered id bound i z.entries) (sym same) h.2 in
-      record { inner = StructTerm id brand; stands = inl refl; target = (n, refl, bound, record { entry = at.entry; numbered = at.numbered; node = at.node; whole = at.whole; same = at.same }, scopes.1) }
+      record { inner = StructTerm id brand; stands = inl refl; target = (n, refl, bound, record { entry = at.entry; numbered = at.numbered; node = at.node; whole = at.whole; same = at.same }, scopes.1, at.few) }
 
   struct_type_led : (id : ℕ) (brand : BrandTerm) → IsBrandLed brand → IsLed (type_of nodes strict inside (StructTerm id brand)) (Leads (StandsIn nodes (StructTerm id brand)))
   struct_type_led id brand h s = led_where (is_of_kind is_struct_kind (node_named nodes id)) NodeNotFound s (Leads (StandsIn nodes (StructTerm id brand))) ((named_scopes nodes strict inside id brand >>= numbered id) s) (λ found.

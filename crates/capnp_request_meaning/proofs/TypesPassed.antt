@@ -13,7 +13,7 @@ use Rattle.capnp_request.specs.Work.{Bound, Entry, MarkedType, Named, Work, each
 use Rattle.capnp_request_meaning.specs.Meaning.{AnyBound, AreDistinct, ByAnnotation, ByBrand, ByDeclaration, ByField, EntryAt, EnumAt, IsBindingAmong, IsBindingOf, IsBindingSaid, IsBoundBy, IsReached, IsTarget, IsTypeOf, Numbers, StandsIn, Target, without_types}
 use Rattle.capnp_request_meaning.specs.Passed.{AreLed, AtField, DeepLists, InBrand, InDeclaration, IsPassed, ManyEntries, ManyNodes, StandsAt, bounds, ManyBound}
 use Rattle.capnp_request_meaning.specs.Sound.{AreTypesSound, AnySaid, IsBrandSound, IsScopeSound, IsTypeSound}
-use Rattle.capnp_request_meaning.proofs.EntriesKept.{KeepsWhole, same_bound_itself, whole_entry}
+use Rattle.capnp_request_meaning.proofs.EntriesKept.{KeepsWhole, few_bound, same_bound_itself, whole_entry}
 use Rattle.capnp_request_meaning.proofs.EnumsCounted.{HaveNodes, ids_fit}
 use Rattle.capnp_request_meaning.proofs.FieldsLed.{Reached}
 use Rattle.capnp_request_meaning.proofs.Leads.{IsLed, Led, led_bind, led_of}
@@ -103,14 +103,14 @@ module _ (r : RequestTerm) (strict : Bool) (sound : AreNodesSound (bounds strict
   abbrev pub IsMany : List Bound → Type 0
   IsMany bound = is_bound_count (bound_count bound) ≡ false
 
-  pub number_passed : (id : ℕ) (bound : List Bound) (s : Named) → scopes_of r.nodes id ≡ Ok (map without_types bound) → F s → (IsMany bound → X) → ((x : Target) (z : Named) → Grows s z → IsAdded (whole_entry id bound) x z → Reached r strict x z) → IfPassed X (number_struct id bound s)
+  pub number_passed : (id : ℕ) (bound : List Bound) (s : Named) → scopes_of r.nodes id ≡ Ok (map without_types bound) → F s → (IsMany bound → X) → ((x : Target) (z : Named) → Grows s z → bound_count bound ≤ 1024 → IsAdded (whole_entry id bound) x z → Reached r strict x z) → IfPassed X (number_struct id bound s)
   number_passed id bound s scopes fine much new =
-      passed_where X (is_bound_count (bound_count bound)) TooManyTypes (number_or_add (entry_number id bound s.entries 0) (whole_entry id bound) s) (λ many same. much many) (λ few. go (entry_number id bound s.entries 0) refl)
+      passed_where X (is_bound_count (bound_count bound)) TooManyTypes (number_or_add (entry_number id bound s.entries 0) (whole_entry id bound) s) (λ many same. much many) (λ few. go (few_bound bound few) (entry_number id bound s.entries 0) refl)
     where
-      go : (o : Option ℕ) → entry_number id bound s.entries 0 ≡ o → IfPassed X (number_or_add o (whole_entry id bound) s)
-      go (Some n) is = tt
-      go None is = passed_where X (nat_lt (length s.entries) 65536) TooManyTypes (Ok (length s.entries, record s { entries = s.entries ++ whole_entry id bound ∷ [] }))
-          (λ full same. entries_full s (whole_entry id bound) full (whole_stays r.nodes s.entries id bound is scopes (stay s.entries fine.kept)) fine.reached new) (λ few. tt)
+      go : bound_count bound ≤ 1024 → (o : Option ℕ) → entry_number id bound s.entries 0 ≡ o → IfPassed X (number_or_add o (whole_entry id bound) s)
+      go small (Some n) is = tt
+      go small None is = passed_where X (nat_lt (length s.entries) 65536) TooManyTypes (Ok (length s.entries, record s { entries = s.entries ++ whole_entry id bound ∷ [] }))
+          (λ full same. entries_full s (whole_entry id bound) full (whole_stays r.nodes s.entries id bound is scopes (stay s.entries fine.kept)) fine.reached (λ x z g added. new x z g small added)) (λ few. tt)
 
   enums_full : (s : Named) (id : ℕ) → nat_lt (length s.enums) 4294967295 ≡ false → enum_position s.enums id 0 ≡ None → is_of_kind is_enum (node_named r.nodes id) ≡ true → F s → ((x : Target) (z : Named) → Grows s z → IsEnumAdded r.nodes id x z → Reached r strict x z) → X
   enums_full s id full none found fine new =
@@ -206,8 +206,8 @@ module _ (r : RequestTerm) (strict : Bool) (sound : AreNodesSound (bounds strict
         let after : After r strict K (AreNamedScopes r.nodes strict inside id brand) s p = scopes_after id brand s bindings fine p e in
         let scopes : AreNamedScopes r.nodes strict inside id brand p.0 p.1 = after.later p.1 (grows_none p.1) in
         passed_bind X (number_struct id p.0) (λ number. work_of (plain (StructType number number))) p.1
-        (number_passed id p.0 p.1 scopes.0 after.fine (λ many. bound_much id brand p.0 s p.1 here after.grown after.fine scopes many) (λ x z g added. here_leads s (StandsIn r.nodes (StructTerm id brand)) here x z (grows_on s p.1 z after.grown g)
-        (itself r.nodes strict inside id brand p.0 x z (added.0, added.1, record { entry = whole_entry id p.0; numbered = added.2; node = refl; whole = refl; same = same_bound_itself p.0 }) (after.later z g))))
+        (number_passed id p.0 p.1 scopes.0 after.fine (λ many. bound_much id brand p.0 s p.1 here after.grown after.fine scopes many) (λ x z g small added. here_leads s (StandsIn r.nodes (StructTerm id brand)) here x z (grows_on s p.1 z after.grown g)
+        (itself r.nodes strict inside id brand p.0 x z (added.0, added.1, record { entry = whole_entry id p.0; numbered = added.2; node = refl; whole = refl; same = same_bound_itself p.0; few = small }) (after.later z g))))
         (λ q f. tt)))
 
     list_passed : (t : TypeTerm) (s : Named) → IfPassed X (type_of r.nodes strict inside t s) → AreHere s (StandsIn r.nodes (ListTerm t)) → F s → IfPassed X (type_of r.nodes strict inside (ListTerm t) s)

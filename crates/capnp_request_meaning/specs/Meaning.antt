@@ -7,7 +7,7 @@ use Rattle.capnp_request.specs.Conversion.{mark}
 use Rattle.capnp_request.specs.Names.{bound_name, dotted_of, file_where, occurrences_of}
 use Rattle.capnp_request.specs.Scopes.{bound_types, is_met, node_named, scopes_of}
 use Rattle.capnp_request.specs.Terms.{AnnotationNode, AnnotationTerm, Binds, BindingTerms, BrandTerm, EnumNode, EnumTerm, EnumerantTerm, FieldKindTerm, FieldTerm, Float32, Float64, GroupTerm, Inherits, Interface, ListTerm, MemberTerm, MoreBindings, MoreScopes, NoBindings, NoScopes, Parameter, RequestTerm, Said, SchemaNode, ScopeTerm, SlotTerm, StructNode, StructPart, StructTerm, TypeTerm, UnreadBrand, UnreadField, UnreadScope, UnreadType, ValueTerm}
-use Rattle.capnp_request.specs.Types.{bound_to, enum_position, is_entry_of, is_enum, is_of_kind, list_of, same_bound, without_untyped}
+use Rattle.capnp_request.specs.Types.{bound_count, bound_to, enum_position, is_entry_of, is_enum, is_of_kind, list_of, lists_in, same_bound, without_untyped}
 use Rattle.capnp_request.specs.Values.{value_stated}
 use Rattle.capnp_request.specs.Work.{Bound, Entry, GroupOf, MarkedType, Place, Whole, float_of, plain}
 use Rattle.capnp_request_meaning.specs.Plain.{AreNodesPlain}
@@ -90,16 +90,17 @@ EachBound P (b ∷ bs) = P b × EachBound P bs
 
 -- The type of a term inside an entry; what a brand binds to the parameters of a scope, where its first scope of that id
 -- counts; and bindings in a row. Floats and interfaces have stand-ins, and none is taken where that is refused. A float stays
--- a type of its own beside the integer that stands for it, so that what is bound to a parameter tells them apart.
+-- a type of its own beside the integer that stands for it, so that what is bound to a parameter tells them apart. A list's elements
+-- are in fewer than 2^64 - 1 lists, and a struct binds at most 1,024 types.
 abbrev mutual
   pub IsTypeOf : Numbers → (inside : List Bound) → TypeTerm → MarkedType → Type 0
   IsTypeOf k inside (MemberTerm t) u = u ≡ plain t
   IsTypeOf k inside Float32 u = (k.strict ≡ false) × (u ≡ float_of 4)
   IsTypeOf k inside Float64 u = (k.strict ≡ false) × (u ≡ float_of 8)
   IsTypeOf k inside Interface u = (k.strict ≡ false) × (u ≡ plain AnyPointerType)
-  IsTypeOf k inside (ListTerm t) u = (element : MarkedType) × (u ≡ list_of element) × IsTypeOf k inside t element
+  IsTypeOf k inside (ListTerm t) u = (element : MarkedType) × (u ≡ list_of element) × IsTypeOf k inside t element × (lists_in element.type < 18446744073709551615)
   IsTypeOf k inside (EnumTerm id) u = (n : ℕ) × (u ≡ plain (EnumType n)) × (slice_get k.enums n ≡ Some id)
-  IsTypeOf k inside (StructTerm id brand) u = (n : ℕ) × (u ≡ plain (StructType n n)) × (bound : List Bound) × IsStructNumber k id bound n × EachBound (IsBoundBy k inside brand) bound
+  IsTypeOf k inside (StructTerm id brand) u = (n : ℕ) × (u ≡ plain (StructType n n)) × (bound : List Bound) × IsStructNumber k id bound n × EachBound (IsBoundBy k inside brand) bound × (bound_count bound ≤ 1024)
   IsTypeOf k inside (Parameter scope index) u = u ≡ bound_to inside scope index
   IsTypeOf k inside (UnreadType kind) u = ⊥
 
