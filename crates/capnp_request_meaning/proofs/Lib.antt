@@ -40,10 +40,12 @@ pub mod RowsSound
 pub mod ScopesKept
 pub mod SetsMeant
 pub mod SetsNoted
+pub mod TermsMatched
 pub mod TermsPlain
 pub mod TextsKept
 pub mod TypesAlike
 pub mod TypesLed
+pub mod TypesMatched
 pub mod TypesMeant
 pub mod TypesNoted
 pub mod TypesOwn

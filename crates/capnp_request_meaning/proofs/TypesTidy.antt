@@ -123,7 +123,7 @@ by_bytes_apart bytes a b c d kind h i j k e = go (bytes == 1) (bytes == 2) (byte
     go false false true e = omega (arith, j, e)
     go false false false e = omega (arith, k, e)
 
-plain_kind : (t : SchemaType) → IsPlainType t → kind_in t ≡ 12 → ⊥
+pub plain_kind : (t : SchemaType) → IsPlainType t → kind_in t ≡ 12 → ⊥
 plain_kind VoidType h e = omega (arith, e)
 plain_kind BoolType h e = omega (arith, e)
 plain_kind (IntType bytes) h e = by_bytes_apart bytes 2 3 4 5 12 (omega arith) (omega arith) (omega arith) (omega arith) e
@@ -272,13 +272,13 @@ pub record SameParts (t u : MarkedType) : Type 0 where
   pub lists : lists_in t.type ≡ lists_in u.type
   pub marks : t.is_float ≡ u.is_float
 
-same_marks : (p q : Bool) → same_mark p q ≡ true → p ≡ q
+pub same_marks : (p q : Bool) → same_mark p q ≡ true → p ≡ q
 same_marks true true e = refl
 same_marks true false e = absurd (true≢false (sym e))
 same_marks false true e = absurd (true≢false (sym e))
 same_marks false false e = refl
 
-parts_of : (t u : MarkedType) → same_marked t u ≡ true → SameParts t u
+pub parts_of : (t u : MarkedType) → same_marked t u ≡ true → SameParts t u
 parts_of t u e =
     let both = and_parts (same_type t.type u.type) (same_mark t.is_float u.is_float) e in
     let types = and_parts ((kind_in t.type == kind_in u.type) && (entry_in t.type == entry_in u.type)) (lists_in t.type == lists_in u.type) both.0 in
