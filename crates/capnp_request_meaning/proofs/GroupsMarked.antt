@@ -18,13 +18,13 @@ use Rattle.capnp_request_meaning.proofs.ListsFound.{same_some, there_below}
 use Rattle.capnp_request_meaning.proofs.NamesDiffer.{entry_at}
 use Rattle.capnp_request_meaning.proofs.NodesFound.{FieldAt, MadeAt, brand_node, brands_counted, field_found, fields_counted, made_at, typed_at, typed_below}
 
-same_part : (k : NodeKind) (a b : StructPart) → k ≡ StructNode a → k ≡ StructNode b → a ≡ b
+pub same_part : (k : NodeKind) (a b : StructPart) → k ≡ StructNode a → k ≡ StructNode b → a ≡ b
 same_part k a b e f = let h : StructNode a ≡ StructNode b = sym e ∙ f in cc
 
-same_members : (d : Said (List (Said FieldTerm))) (a b : List (Said FieldTerm)) → d ≡ Ok a → d ≡ Ok b → a ≡ b
+pub same_members : (d : Said (List (Said FieldTerm))) (a b : List (Said FieldTerm)) → d ≡ Ok a → d ≡ Ok b → a ≡ b
 same_members d a b e f = let h : ◌≡◌ {A = Said (List (Said FieldTerm))} (Ok a) (Ok b) = sym e ∙ f in cc
 
-same_term : {a b : FieldTerm} → ◌≡◌ {A = Option (Said FieldTerm)} (Some (Ok a)) (Some (Ok b)) → a ≡ b
+pub same_term : {a b : FieldTerm} → ◌≡◌ {A = Option (Said FieldTerm)} (Some (Ok a)) (Some (Ok b)) → a ≡ b
 same_term e = cc
 
 -- a group's field names an entry of its place

@@ -1,6 +1,7 @@
 pub mod AnnotationsMeant
 pub mod BracketsRead
 pub mod EntriesKept
+pub mod EntriesMatched
 pub mod EntriesSound
 pub mod EnumsCounted
 pub mod EnumsMeant

@@ -293,10 +293,10 @@ module _ (nodes : List SchemaNode) (k l : Numbers) (k_entries : AreEntries nodes
 -- ---- types that stand in a type ----
 
 module _ (nodes : List SchemaNode) (l : Numbers) (entries : AreEntries nodes l.entries l.entries) (inside : List Bound) where
-  abbrev HasType : TypeTerm → Type 0
+  abbrev pub HasType : TypeTerm → Type 0
   HasType inner = (v : MarkedType) × IsTypeOf l inside inner v
 
-  abbrev HasInner : BrandTerm → Type 0
+  abbrev pub HasInner : BrandTerm → Type 0
   HasInner brand = (inner : TypeTerm) (b c : Bound) → b.scope ≡ c.scope → b.parameters ≡ c.parameters → IsBindingOf nodes brand b inner → IsBoundBy l inside brand c → HasType inner
 
   pub any_inner : (brand : BrandTerm) → HasInner brand → (inner : TypeTerm) (bs cs : List Bound) → bs ≡ map without_types cs → AnyBound (λ (b : Bound). IsBindingOf nodes brand b inner) bs → EachBound (IsBoundBy l inside brand) cs → HasType inner
