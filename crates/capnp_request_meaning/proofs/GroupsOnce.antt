@@ -41,10 +41,10 @@ pub once_none : (n i : ℕ) → AreOnceBefore n i []
 once_none n i = record { once = λ j k p l e f less a b is_e is_f. absurd (cc); before = λ j e a. absurd (cc) }
 
 -- the places of other groups
-abbrev IsFresh : (n i : ℕ) → Entry → Type 0
+abbrev pub IsFresh : (n i : ℕ) → Entry → Type 0
 IsFresh n i g = (p l : ℕ) → g.place ≡ GroupOf p l → IsPlacedBefore n i (GroupOf p l) → ⊥
 
-groups_more : (n i : ℕ) (es : List Entry) (g : Entry) → AreOnceBefore n i es → IsFresh n i g → AreGroupsDistinct (es ++ g ∷ [])
+pub groups_more : (n i : ℕ) (es : List Entry) (g : Entry) → AreOnceBefore n i es → IsFresh n i g → AreGroupsDistinct (es ++ g ∷ [])
 groups_more n i es g k fresh a b p l e f less at_a at_b is_e is_f = go (before_or_last es g a e at_a) (before_or_last es g b f at_b)
   where
     go : (slice_get es a ≡ Some e) ⊎ ((a ≡ length es) × (g ≡ e)) → (slice_get es b ≡ Some f) ⊎ ((b ≡ length es) × (g ≡ f)) → ⊥
@@ -63,6 +63,14 @@ once_more n i m j es g k later last fresh = record { once = groups_more n i es g
 -- a struct node is no group
 pub once_whole : (n i : ℕ) (nodes : List SchemaNode) → KeepsWhole (AreOnceBefore n i) nodes
 once_whole n i nodes es id bound few none scopes k = once_more n i n i es (whole_entry id bound) k (λ p h. h) tt (λ p l e h. absurd (cc))
+
+pub groups_whole : (es : List Entry) (id : ℕ) (bound : List Bound) → AreGroupsDistinct es → AreGroupsDistinct (es ++ whole_entry id bound ∷ [])
+groups_whole es id bound once a b p l e f less at_a at_b is_e is_f = go (before_or_last es (whole_entry id bound) a e at_a) (before_or_last es (whole_entry id bound) b f at_b)
+  where
+    go : (slice_get es a ≡ Some e) ⊎ ((a ≡ length es) × (whole_entry id bound ≡ e)) → (slice_get es b ≡ Some f) ⊎ ((b ≡ length es) × (whole_entry id bound ≡ f)) → ⊥
+    go (inl x) (inl y) = once a b p l e f less x y is_e is_f
+    go (inl x) (inr y) = let place : Whole ≡ GroupOf p l = ap (λ (z : Entry). z.place) y.1 ∙ is_f in absurd (cc)
+    go (inr x) y = let place : Whole ≡ GroupOf p l = ap (λ (z : Entry). z.place) x.1 ∙ is_e in absurd (cc)
 
 -- the group of the next field
 placed_next : (n i : ℕ) (p : Place) → IsPlacedBefore n i p → IsPlacedBefore n (i + 1) p

@@ -6,7 +6,7 @@ use Rattle.capnp_request.specs.Scopes.{node_named, scopes_of}
 use Rattle.capnp_request.specs.Terms.{AnnotationNode, AnnotationTerm, FieldTerm, ListTerm, RequestTerm, SchemaNode, SlotTerm, StructNode, StructPart, TypeTerm, ValueTerm, BrandTerm, StructTerm}
 use Rattle.capnp_request.specs.Types.{lists_in, bound_count}
 use Rattle.capnp_request.specs.Work.{Bound, Entry, GroupOf, MarkedType, Place, Whole}
-use Rattle.capnp_request_meaning.specs.Meaning.{AnyBound, AreDistinct, AreEntries, AreNodesFrom, EachBound, EntryAt, EnumAt, HasAnnotation, IsBindingOf, IsBoundBy, IsEnumNamed, IsGroupName, IsNameOf, IsNodeAt, IsReached, IsRead, IsTypeOf, Numbers, StandsIn, Target, without_types}
+use Rattle.capnp_request_meaning.specs.Meaning.{AnyBound, AreDistinct, AreEntries, AreGroupsDistinct, AreNodesFrom, EachBound, EntryAt, EnumAt, HasAnnotation, IsBindingOf, IsBoundBy, IsEnumNamed, IsGroupName, IsNameOf, IsNodeAt, IsReached, IsRead, IsTypeOf, Numbers, StandsIn, Target, without_types}
 use Rattle.capnp_request_meaning.specs.Sound.{Refusal}
 
 -- the refusal of bounds
@@ -20,6 +20,7 @@ numbers_of r strict entries enums = record { nodes = r.nodes; strict = strict; e
 pub record AreLed (r : RequestTerm) (k : Numbers) : Type 0 where
   pub bound : AreEntries r.nodes k.entries k.entries
   pub distinct : AreDistinct k.entries
+  pub distinct_groups : AreGroupsDistinct k.entries
   pub distinct_enums : (i j id : ℕ) → slice_get k.enums i ≡ Some id → slice_get k.enums j ≡ Some id → i ≡ j
   pub reached : (n : ℕ) (e : Entry) → slice_get k.entries n ≡ Some e → IsReached r k (EntryAt n)
   pub reached_enums : (n id : ℕ) → slice_get k.enums n ≡ Some id → IsReached r k (EnumAt n)
