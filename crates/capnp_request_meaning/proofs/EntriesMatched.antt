@@ -69,7 +69,7 @@ same_declared q t u e f = let h : AnnotationNode t ≡ AnnotationNode u = sym e 
 same_scopes : {xs ys : List Bound} → ◌≡◌ {A = Said (List Bound)} (Ok xs) (Ok ys) → xs ≡ ys
 same_scopes e = cc
 
-enum_of_number : (k : Numbers) (es : List Enum) (m id : ℕ) → AreEnumsOf k es → slice_get (map (λ (e : Enum). e.id) es) m ≡ Some id → (e : Enum) × (e.id ≡ id) × IsEnumOf k e
+pub enum_of_number : (k : Numbers) (es : List Enum) (m id : ℕ) → AreEnumsOf k es → slice_get (map (λ (e : Enum). e.id) es) m ≡ Some id → (e : Enum) × (e.id ≡ id) × IsEnumOf k e
 enum_of_number k [] m id h e = absurd (cc)
 enum_of_number k (x ∷ es) zero id h e = (x, same_some e, h.0)
 enum_of_number k (x ∷ es) (suc m) id h e = enum_of_number k es m id h.1 e

@@ -1,4 +1,5 @@
 pub mod AnnotationsMeant
+pub mod BoundsRefused
 pub mod BracketsRead
 pub mod EntriesKept
 pub mod EntriesMatched

@@ -220,7 +220,7 @@ lists_same k l t u (SameStructs t2 u2 e f lists first second a b node whole othe
 both_are : (k l : Numbers) (t u v : MarkedType) → u ≡ t → v ≡ t → SameMarked k l t t → SameMarked k l u v
 both_are k l t u v e f h = subst (λ x. SameMarked k l x v) (sym e) (subst (λ y. SameMarked k l t y) (sym f) h)
 
-scopes_at : (nodes : List SchemaNode) (k : Numbers) → AreEntries nodes k.entries k.entries → (id : ℕ) (bound : List Bound) (n : ℕ) → IsStructNumber k id bound n → scopes_of nodes id ≡ Ok (map without_types bound)
+pub scopes_at : (nodes : List SchemaNode) (k : Numbers) → AreEntries nodes k.entries k.entries → (id : ℕ) (bound : List Bound) (n : ℕ) → IsStructNumber k id bound n → scopes_of nodes id ≡ Ok (map without_types bound)
 scopes_at nodes k are id bound n h =
     let own : scopes_of nodes h.entry.node ≡ Ok (map without_types h.entry.bound) = subst (λ p. IsEntryAt nodes k.entries h.entry p) h.whole (entry_at nodes k.entries k.entries n h.entry are h.numbered) in
     ap (λ x. scopes_of nodes x) (sym h.node) ∙ (own ∙ ap (λ xs. Ok xs) (same_shape h.entry.bound bound h.same))

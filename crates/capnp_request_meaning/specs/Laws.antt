@@ -15,7 +15,7 @@ use Rattle.capnp_request.specs.Work.{Entry, Whole}
 use Rattle.capnp_request_meaning.specs.Found.{AreToldApart, EndsAsField, HasOwnFields, IsEntryNode, IsGroupAt, IsStructFound, ShareNames, is_group_place}
 use Rattle.capnp_request_meaning.specs.Meaning.{AreUnbound, IsListed, IsSetOf, numbers_in}
 use Rattle.capnp_request_meaning.specs.Noted.{AreNotesOf}
-use Rattle.capnp_request_meaning.specs.Passed.{IsPassed, bounds}
+use Rattle.capnp_request_meaning.specs.Passed.{IsCertain, IsPassed, bounds}
 use Rattle.capnp_device.specs.declared.error.ErrorKind.TheVariants.{NodeNotFound, TooManyTypes}
 use Rattle.capnp_request_meaning.specs.Plain.{AreNodesPlain}
 use Rattle.capnp_request_meaning.specs.Sound.{IsRequestSound, Refusal}
@@ -118,3 +118,8 @@ NothingIsMissing = (r : RequestTerm) (strict : Bool) → IsRequestSound (record 
 -- where no part of a request is refused for a bound itself, one that is refused so passes a bound
 abbrev pub BoundsArePassed : Type 0
 BoundsArePassed = (r : RequestTerm) (strict : Bool) → IsRequestSound (bounds strict) r → conversion_of r strict ≡ Err TooManyTypes → IsPassed r strict
+
+-- And a request that passes one is not converted, where its member types are no structs or enums by number. Of the length of a
+-- struct's name, which goes by the order of entries, that isn't said.
+abbrev pub BoundsAreRefused : Type 0
+BoundsAreRefused = (r : RequestTerm) (strict : Bool) → AreNodesPlain r.nodes → (passed : IsPassed r strict) → IsCertain r strict passed → (set : Schemas) (notes : List Note) → conversion_of r strict ≢ Ok (set, notes)

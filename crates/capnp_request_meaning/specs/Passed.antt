@@ -90,3 +90,13 @@ pub data IsPassed (r : RequestTerm) (strict : Bool) : Type 0 where
   LongName : (entries : List Entry) (enums : List ℕ) → AreLed r (numbers_of r strict entries enums) → IsNameLong (numbers_of r strict entries enums) → IsPassed r strict
   LongEnumName : (entries : List Entry) (enums : List ℕ) → AreLed r (numbers_of r strict entries enums) → IsEnumNameLong (numbers_of r strict entries enums) → IsPassed r strict
   DeepLists : (entries : List Entry) (enums : List ℕ) → AreLed r (numbers_of r strict entries enums) → IsNestedDeep r (numbers_of r strict entries enums) → IsPassed r strict
+
+-- Bounds past which a request is refused whatever its entries' numbers are. How long a name is goes by them: which entry has its
+-- file before its name. That there are so many nodes refuses nothing by itself.
+abbrev pub IsCertain : (r : RequestTerm) (strict : Bool) → IsPassed r strict → Type 0
+IsCertain r strict (ManyEntries entries enums led many) = Unit {0}
+IsCertain r strict (ManyBound entries enums led much) = Unit {0}
+IsCertain r strict (ManyNodes many) = ⊥
+IsCertain r strict (LongName entries enums led long) = ⊥
+IsCertain r strict (LongEnumName entries enums led long) = Unit {0}
+IsCertain r strict (DeepLists entries enums led deep) = Unit {0}

@@ -1,5 +1,5 @@
 //! What holds of each conversion.
-ghost use Rattle.capnp_request_meaning.specs.Laws.{AllNamesDiffer, BoundNamesAreOwn, BoundNamesDiffer, BoundTypesAreAlike, BoundTypesHaveNames, BoundsArePassed, EachStructIsFound, GroupNamesAreShared, GroupsAreMarked, GroupsShareWithStructs, NamesFindStructs, NotesTellWhatStands, NothingIsMissing, RefusalsHaveCauses, SetMeansItsRecord, SetMeansItsRequest, UnboundNamesDiffer};
+ghost use Rattle.capnp_request_meaning.specs.Laws.{AllNamesDiffer, BoundNamesAreOwn, BoundNamesDiffer, BoundTypesAreAlike, BoundTypesHaveNames, BoundsArePassed, BoundsAreRefused, EachStructIsFound, GroupNamesAreShared, GroupsAreMarked, GroupsShareWithStructs, NamesFindStructs, NotesTellWhatStands, NothingIsMissing, RefusalsHaveCauses, SetMeansItsRecord, SetMeansItsRequest, UnboundNamesDiffer};
 
 /// The set that a request is converted to says of the request what `IsSetOf` says: each entry is a struct node of the
 /// request with bindings, or the group that a field names, and has what its node has. Structs of the requested files lead to
@@ -96,4 +96,11 @@ pub fn nothing_is_missing()
 /// steps are always enough.
 pub fn bounds_are_passed()
     ensures { BoundsArePassed }
+{}
+
+/// A request that leads to more than 65,536 structs with bindings and groups, no two alike, is refused. So is one that leads to a
+/// type that binds more than 1,024 types, to an enum's name of more than 1,024 bytes, or to 2^64 - 1 lists in one another. It is
+/// said of requests whose member types are no structs or enums by number, as those of records are.
+pub fn bounds_are_refused()
+    ensures { BoundsAreRefused }
 {}
