@@ -34,6 +34,7 @@ pub mod ReachedAll
 pub mod RootsMeant
 pub mod Rows
 pub mod RowsBound
+pub mod RowsFound
 pub mod RowsNoted
 pub mod RowsOwn
 pub mod RowsPassed

@@ -10,7 +10,6 @@ use Rattle.capnp_request.specs.Scopes.{node_named, scopes_of, some_where}
 use Rattle.capnp_request.specs.Terms.{Binds, FieldTerm, MemberTerm, MoreBindings, MoreScopes, NoBindings, NoScopes, OtherNode, RequestTerm, Said, SchemaNode, StructNode, StructPart, StructTerm, TypeTerm}
 use Rattle.capnp_request.specs.Types.{is_enum, is_struct_kind}
 use Rattle.capnp_request.specs.Work.{Bound}
-use Rattle.capnp_request_meaning.specs.Laws.{}
 use Rattle.capnp_request_meaning.specs.Meaning.{IsRead}
 use Rattle.capnp_request_meaning.specs.Plain.{AllRead, AreNodesPlain}
 use Rattle.capnp_request_meaning.specs.Written.{HasBareNames, HasClearNames, HasDistinctNames, HasNoComma, HaveOwnParts, IsBare, built_in_names, is_among, is_type_node, HasOwnNames}
