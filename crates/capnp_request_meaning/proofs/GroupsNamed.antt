@@ -266,7 +266,7 @@ module _ (r : RequestTerm) (strict : Bool) (set : Schemas) (is : IsSetOf r stric
   module _ (accepted : IsAccepted set) (apart : AreToldApart r.nodes) where
     group_apart : (i j p l : ℕ) (e f : Entry) (n m : Node) → IsGroupAt is.entries set i p l e n → IsWholeAt is.entries set j f m → n.display_name ≡ m.display_name → ⊥
     group_apart i j p l e f n m a b same =
-        let ends : EndsAsField r.nodes set f.node p l = ends_as apart.bare apart.fields i j p l e f n m a b same in
+        let ends : EndsAsField r.nodes set f.node p l = ends_as apart.structs.bare apart.fields i j p l e f n m a b same in
         let g : GroupField r strict set is i p l = (named_by_field i p l e n a).by in
         let at = made r strict set is j f b.there in
         let node : ends.node ≡ at.is.node = same_some (sym ends.first ∙ at.is.first) in
@@ -299,7 +299,7 @@ module _ (r : RequestTerm) (strict : Bool) (set : Schemas) (is : IsSetOf r stric
     own_below (suc bound) i j e f n m less a b same = go (own_below bound) e.place f.place refl refl
       where
         go : AreOwnBelow bound → (x y : Place) → e.place ≡ x → f.place ≡ y → i ≡ j
-        go smaller Whole Whole u v = names_own r strict set is apart.own apart.bare apart.clear apart.distinct apart.are_plain i j e f n m (record { there = a.there; node = a.node; whole = u }) (record { there = b.there; node = b.node; whole = v }) same
+        go smaller Whole Whole u v = names_own r strict set is apart.structs i j e f n m (record { there = a.there; node = a.node; whole = u }) (record { there = b.there; node = b.node; whole = v }) same
         go smaller (GroupOf p l) Whole u v = absurd (group_apart i j p l e f n m (record { there = a.there; node = a.node; place = u }) (record { there = b.there; node = b.node; whole = v }) same)
         go smaller Whole (GroupOf q o) u v = absurd (group_apart j i q o f e m n (record { there = b.there; node = b.node; place = v }) (record { there = a.there; node = a.node; whole = u }) (sym same))
         go smaller (GroupOf p l) (GroupOf q o) u v = groups_own bound smaller i j p l q o e f n m less (record { there = a.there; node = a.node; place = u }) (record { there = b.there; node = b.node; place = v }) same

@@ -173,5 +173,5 @@ pub structs_found : EachStructIsFound
 structs_found r strict set is accepted own bare id n part listed first struct group = struct_found r strict set is accepted own bare id n part listed first struct group
 
 pub names_find : NamesFindStructs
-names_find r strict set is accepted own bare clear distinct are_plain i e n at =
-    found_first r strict set is accepted i e n at (λ j f m less b same. let one : i ≡ j = names_own r strict set is own bare clear distinct are_plain i j e f n m at b same in absurd (omega (arith, less, one)))
+names_find r strict set is accepted told i e n at =
+    found_first r strict set is accepted i e n at (λ j f m less b same. let one : i ≡ j = names_own r strict set is told i j e f n m at b same in absurd (omega (arith, less, one)))

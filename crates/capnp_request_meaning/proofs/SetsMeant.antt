@@ -53,24 +53,44 @@ first_more before n ms firsts next l x h = go (before_or_last before n l x h)
     go (inl old) = firsts l x old
     go (inr new) = ap (λ q. slice_get ms q) new.0 ∙ (next ∙ ap (λ y. Some y) new.1)
 
-node_from : (k : Numbers) (all earlier : List Entry) (before : List Node) (es : List Entry) (ns : List Node) (bs : List Brand) (i j : ℕ) (e : Entry) → AreNodesFrom k earlier before es ns bs → slice_get es i ≡ Some e → all ≡ earlier ++ es → j ≡ length earlier + i → length before ≡ length earlier → (ms : List Node) → AreFirst before ms → ((l : ℕ) → slice_get ns l ≡ slice_get ms (length earlier + l)) → NodeAt k all e ms j
-node_from k all earlier before [] [] [] i j e h at_i are count both ms firsts sits = absurd (cc)
-node_from k all earlier before (x ∷ es) (n ∷ ns) (b ∷ bs) zero j e h at_i are count both ms firsts sits =
-    let same : x ≡ e = same_some at_i in
-    let here : j ≡ length earlier + 0 = count in
-    let whole : length earlier ≡ j = omega (arith, count) in
-    record { earlier = earlier; rest = x ∷ es; before = before; node = n; brand = b; there = ap (λ l. slice_get ms l) here ∙ sym (sits 0); are = are; count = whole; behind = omega (arith, whole, both); firsts = firsts; is = subst (λ y. IsNodeOf k earlier before y n b) same h.0 }
-node_from k all earlier before (x ∷ es) (n ∷ ns) (b ∷ bs) (suc i) j e h at_i are count both ms firsts sits =
+-- entries and nodes from one number on, behind those before them
+pub record AreBehind (all earlier es : List Entry) (before ns ms : List Node) : Type 0 where
+  pub are : all ≡ earlier ++ es
+  pub both : length before ≡ length earlier
+  pub firsts : AreFirst before ms
+  pub sits : (l : ℕ) → slice_get ns l ≡ slice_get ms (length earlier + l)
+
+pub none_behind : (es : List Entry) (ns : List Node) → AreBehind es [] es [] ns ns
+none_behind es ns = record { are = refl; both = refl; firsts = λ l x h. absurd (cc); sits = λ l. let e : l ≡ 0 + l = omega arith in ap (λ q. slice_get ns q) e }
+
+-- and those behind the next one
+pub one_behind : (all earlier es : List Entry) (x : Entry) (before ns ms : List Node) (n : Node) → AreBehind all earlier (x ∷ es) before (n ∷ ns) ms → AreBehind all (earlier ++ x ∷ []) es (before ++ n ∷ []) ns ms
+one_behind all earlier es x before ns ms n h =
     let longer : length (earlier ++ x ∷ []) ≡ length earlier + 1 = length-append earlier (x ∷ []) in
-    let next : j ≡ length (earlier ++ x ∷ []) + i = omega (arith, count, longer) in
-    node_from k all (earlier ++ x ∷ []) (before ++ n ∷ []) es ns bs i j e h.1 at_i (are ∙ sym (append_assoc earlier (x ∷ []) es)) next (let more : length (before ++ n ∷ []) ≡ length before + 1 = length-append before (n ∷ []) in omega (arith, more, longer, both)) ms (first_more before n ms firsts (let e : length earlier + 0 ≡ length before = omega (arith, both) in ap (λ q. slice_get ms q) (sym e) ∙ sym (sits 0)))
-    (λ l. let e : length earlier + suc l ≡ length (earlier ++ x ∷ []) + l = omega (arith, longer) in sits (suc l) ∙ ap (λ q. slice_get ms q) e)
-node_from k all earlier before es ns bs i j e h at_i are count both ms firsts sits = absurd h
+    let more : length (before ++ n ∷ []) ≡ length before + 1 = length-append before (n ∷ []) in
+    let here : length earlier + 0 ≡ length before = omega (arith, h.both) in
+    record {
+      are = h.are ∙ sym (append_assoc earlier (x ∷ []) es);
+      both = omega (arith, more, longer, h.both);
+      firsts = first_more before n ms h.firsts (ap (λ q. slice_get ms q) (sym here) ∙ sym (h.sits 0));
+      sits = λ l. let e : length earlier + suc l ≡ length (earlier ++ x ∷ []) + l = omega (arith, longer) in h.sits (suc l) ∙ ap (λ q. slice_get ms q) e;
+    }
+
+abbrev pub node_here : (k : Numbers) (all earlier es : List Entry) (x e : Entry) (before ns ms : List Node) (n : Node) (b : Brand) (j : ℕ) → IsNodeOf k earlier before x n b → x ≡ e → j ≡ length earlier + 0 → AreBehind all earlier (x ∷ es) before (n ∷ ns) ms → NodeAt k all e ms j
+node_here k all earlier es x e before ns ms n b j is same count h =
+    let whole : length earlier ≡ j = omega (arith, count) in
+    record { earlier = earlier; rest = x ∷ es; before = before; node = n; brand = b; there = ap (λ l. slice_get ms l) count ∙ sym (h.sits 0); are = h.are; count = whole; behind = omega (arith, whole, h.both); firsts = h.firsts; is = subst (λ y. IsNodeOf k earlier before y n b) same is }
+
+node_from : (k : Numbers) (all earlier : List Entry) (before : List Node) (es : List Entry) (ns : List Node) (bs : List Brand) (i j : ℕ) (e : Entry) → AreNodesFrom k earlier before es ns bs → slice_get es i ≡ Some e → j ≡ length earlier + i → (ms : List Node) → AreBehind all earlier es before ns ms → NodeAt k all e ms j
+node_from k all earlier before [] [] [] i j e h at_i count ms behind = absurd (cc)
+node_from k all earlier before (x ∷ es) (n ∷ ns) (b ∷ bs) zero j e h at_i count ms behind = node_here k all earlier es x e before ns ms n b j h.0 (same_some at_i) count behind
+node_from k all earlier before (x ∷ es) (n ∷ ns) (b ∷ bs) (suc i) j e h at_i count ms behind =
+    let longer : length (earlier ++ x ∷ []) ≡ length earlier + 1 = length-append earlier (x ∷ []) in
+    node_from k all (earlier ++ x ∷ []) (before ++ n ∷ []) es ns bs i j e h.1 at_i (omega (arith, count, longer)) ms (one_behind all earlier es x before ns ms n behind)
+node_from k all earlier before es ns bs i j e h at_i count ms behind = absurd h
 
 pub node_of_entry : (k : Numbers) (es : List Entry) (ns : List Node) (bs : List Brand) (i : ℕ) (e : Entry) → AreNodesFrom k [] [] es ns bs → slice_get es i ≡ Some e → NodeAt k es e ns i
-node_of_entry k es ns bs i e h at_i =
-    let start : i ≡ 0 + i = omega arith in
-    node_from k es [] [] es ns bs i i e h at_i refl start refl ns (λ l x h. absurd (cc)) (λ l. let e : l ≡ 0 + l = omega arith in ap (λ q. slice_get ns q) e)
+node_of_entry k es ns bs i e h at_i = let start : i ≡ 0 + i = omega arith in node_from k es [] [] es ns bs i i e h at_i start ns (none_behind es ns)
 
 same_node : (o : Option SchemaNode) (m n : SchemaNode) → o ≡ Some m → o ≡ Some n → m ≡ n
 same_node o m n e f = let h : ◌≡◌ {A = Option SchemaNode} (Some m) (Some n) = sym e ∙ f in cc

@@ -7,8 +7,7 @@ use Rattle.capnp_request.specs.Scopes.{node_named}
 use Rattle.capnp_request.specs.Terms.{FieldTerm, GroupTerm, SchemaNode, StructNode, StructPart}
 use Rattle.capnp_request.specs.Work.{Entry, GroupOf, Place, Whole}
 use Rattle.capnp_request_meaning.specs.Meaning.{AreUnbound, IsRead}
-use Rattle.capnp_request_meaning.specs.Plain.{AreNodesPlain}
-use Rattle.capnp_request_meaning.specs.Written.{HasBareNames, HasClearNames, HasDistinctNames, HasOwnNames}
+use Rattle.capnp_request_meaning.specs.Written.{AreStructsToldApart}
 
 -- The struct of a requested file is the one that a query by its display name finds. That is the name of its schema node, or what
 -- stands behind that name's last colon.
@@ -96,10 +95,6 @@ pub record EndsAsField (nodes : List SchemaNode) (set : Schemas) (id p l : ℕ) 
 
 -- what tells all entries of a request apart by their names
 pub record AreToldApart (nodes : List SchemaNode) : Type 0 where
-  pub own : HasOwnNames nodes
-  pub bare : HasBareNames nodes
-  pub clear : HasClearNames nodes
-  pub distinct : HasDistinctNames nodes
-  pub are_plain : AreNodesPlain nodes
+  pub structs : AreStructsToldApart nodes
   pub fields : HasOwnFields nodes
   pub groups : HasApartGroups nodes

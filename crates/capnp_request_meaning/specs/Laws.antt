@@ -19,7 +19,7 @@ use Rattle.capnp_request_meaning.specs.Passed.{IsCertain, IsPassed, bounds}
 use Rattle.capnp_device.specs.declared.error.ErrorKind.TheVariants.{NodeNotFound, TooManyTypes}
 use Rattle.capnp_request_meaning.specs.Plain.{AreNodesPlain}
 use Rattle.capnp_request_meaning.specs.Sound.{IsRequestSound, Refusal}
-use Rattle.capnp_request_meaning.specs.Written.{AreBoundAlike, AreWrittenAlike, HasBareNames, HasClearNames, HasDistinctNames, HasNamedTypes, HasOwnNames, IsWholeAt}
+use Rattle.capnp_request_meaning.specs.Written.{AreBoundAlike, AreStructsToldApart, AreWrittenAlike, HasBareNames, HasClearNames, HasNamedTypes, HasOwnNames, IsWholeAt}
 
 -- the set that a request is converted to is that of the request
 abbrev pub SetMeansItsRequest : Type 0
@@ -68,7 +68,7 @@ BoundTypesAreAlike = (r : RequestTerm) (strict : Bool) (set : Schemas) (is : IsS
 -- And no two entries that are no groups have one name where besides no struct or enum is named as a built-in type, nor an enum as
 -- another of these, and no member type is one of them by number.
 abbrev pub BoundNamesAreOwn : Type 0
-BoundNamesAreOwn = (r : RequestTerm) (strict : Bool) (set : Schemas) (is : IsSetOf r strict set) → HasOwnNames r.nodes → HasBareNames r.nodes → HasClearNames r.nodes → HasDistinctNames r.nodes → AreNodesPlain r.nodes → (i j : ℕ) (e f : Entry) (n m : Node) →
+BoundNamesAreOwn = (r : RequestTerm) (strict : Bool) (set : Schemas) (is : IsSetOf r strict set) → AreStructsToldApart r.nodes → (i j : ℕ) (e f : Entry) (n m : Node) →
     IsWholeAt is.entries set i e n → IsWholeAt is.entries set j f m → n.display_name ≡ m.display_name → i ≡ j
 
 -- where no member type of a request is a struct or an enum by number, all types that are bound in an entry have names
@@ -88,7 +88,7 @@ EachStructIsFound = (r : RequestTerm) (strict : Bool) (set : Schemas) (is : IsSe
 
 -- and so is each entry that is no group, bound ones too, where no two of these have one name
 abbrev pub NamesFindStructs : Type 0
-NamesFindStructs = (r : RequestTerm) (strict : Bool) (set : Schemas) (is : IsSetOf r strict set) → IsAccepted set → HasOwnNames r.nodes → HasBareNames r.nodes → HasClearNames r.nodes → HasDistinctNames r.nodes → AreNodesPlain r.nodes →
+NamesFindStructs = (r : RequestTerm) (strict : Bool) (set : Schemas) (is : IsSetOf r strict set) → IsAccepted set → AreStructsToldApart r.nodes →
     (i : ℕ) (e : Entry) (n : Node) → IsWholeAt is.entries set i e n → brand_asked set n.display_name ≡ Some i
 
 -- Two groups have one name exactly where their fields have one, as have the entries that these are fields of: names of fields are

@@ -8,6 +8,7 @@ use Rattle.capnp_request.specs.Terms.{FieldTerm, NodeKind, SchemaNode, StructNod
 use Rattle.capnp_request.specs.Types.{by_bytes, is_enum, is_struct_kind, kind_number}
 use Rattle.capnp_request.specs.Work.{Bound, Entry, MarkedType, Whole, plain}
 use Rattle.capnp_request_meaning.specs.Meaning.{AreAmongFirst, EachBound, IsNameOf, IsRead, Numbers}
+use Rattle.capnp_request_meaning.specs.Plain.{AreNodesPlain}
 
 -- a name without brackets
 abbrev pub IsBare : List ℕ → Type 0
@@ -96,6 +97,14 @@ pub record HasClearNames (nodes : List SchemaNode) : Type 0 where
   pub display : (id : ℕ) (n : SchemaNode) (display : List ℕ) → node_named nodes id ≡ Some n → n.display_name ≡ Ok display → HasNoComma display
   pub field : (id : ℕ) (n : SchemaNode) (part : StructPart) (i : ℕ) (f : FieldTerm) (name : List ℕ) → node_named nodes id ≡ Some n → n.kind ≡ StructNode part → IsRead part.fields i f → f.name ≡ Ok name → HasNoComma name
   pub parts : (id : ℕ) (n : SchemaNode) (display : List ℕ) (scopes : List Bound) → node_named nodes id ≡ Some n → n.display_name ≡ Ok display → scopes_of nodes id ≡ Ok scopes → HaveOwnParts (occurrences_of 46 (dotted_of display)) scopes
+
+-- what tells entries that are no groups apart by their names
+pub record AreStructsToldApart (nodes : List SchemaNode) : Type 0 where
+  pub own : HasOwnNames nodes
+  pub bare : HasBareNames nodes
+  pub clear : HasClearNames nodes
+  pub distinct : HasDistinctNames nodes
+  pub are_plain : AreNodesPlain nodes
 
 abbrev pub is_named_type : SchemaType → Bool
 is_named_type VoidType = false
