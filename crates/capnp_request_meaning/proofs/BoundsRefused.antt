@@ -15,7 +15,7 @@ use Rattle.capnp_request_meaning.specs.Laws.{BoundsAreRefused}
 use Rattle.capnp_request_meaning.specs.Meaning.{AreEntries, EnumAt, EntryAt, IsBoundBy, IsEntryAt, IsEnumNamed, IsEnumOf, IsSetOf, IsStructNumber, IsTypeOf, Numbers, Target, numbers_in, without_types}
 use Rattle.capnp_request_meaning.specs.Passed.{AreLed, DeepLists, IsBoundMuch, IsCertain, IsEnumNameLong, IsNestedDeep, IsPassed, LongEnumName, LongName, ManyBound, ManyEntries, ManyNodes, numbers_of}
 use Rattle.capnp_request_meaning.specs.Plain.{AreNodesPlain}
-use Rattle.capnp_request_meaning.proofs.EntriesMatched.{ArePaired, BothGroups, BothWhole, IsMatched, SameEntry, SameTarget, StandsThere, enum_of_number, matched, paired, stands_there}
+use Rattle.capnp_request_meaning.proofs.EntriesMatched.{AreBeside, ArePaired, BothGroups, BothWhole, IsMatched, SameEntry, SameTarget, StandsThere, enum_of_number, matched, paired, stands_there}
 use Rattle.capnp_request_meaning.proofs.GroupsOnce.{group_is_one}
 use Rattle.capnp_request_meaning.proofs.ListsFound.{same_some, there_below}
 use Rattle.capnp_request_meaning.proofs.SetsMeant.{set_meant}
@@ -146,7 +146,13 @@ same_ok e = cc
 
 -- ---- bounds ----
 
-module _ (r : RequestTerm) (strict : Bool) (set : Schemas) (is : IsSetOf r strict set) (are_plain : AreNodesPlain r.nodes) (entries : List Entry) (enums : List ℕ) (led : AreLed r (numbers_of r strict entries enums)) where
+module _ (r : RequestTerm) (strict : Bool) (set : Schemas) (entries : List Entry) (enums : List ℕ) (beside : AreBeside r strict set entries enums) where
+  abbrev is : IsSetOf r strict set
+  is = beside.is
+
+  abbrev led : AreLed r (numbers_of r strict entries enums)
+  led = beside.led
+
   abbrev k : Numbers
   k = numbers_of r strict entries enums
 
@@ -154,7 +160,7 @@ module _ (r : RequestTerm) (strict : Bool) (set : Schemas) (is : IsSetOf r stric
   l = numbers_in r strict is.entries set
 
   entry_image : (a : ℕ) → a < length entries → (b : ℕ) × SameEntry k l a b × (b < length is.entries)
-  entry_image a less = go (matched r strict set is are_plain entries enums led (EntryAt a) (led.reached a here.0 here.1))
+  entry_image a less = go (matched r strict set entries enums beside (EntryAt a) (led.reached a here.0 here.1))
     where
       here : (e : Entry) × (slice_get entries a ≡ Some e)
       here = there_below entries a less
@@ -170,7 +176,7 @@ module _ (r : RequestTerm) (strict : Bool) (set : Schemas) (is : IsSetOf r stric
 
   never_bound_much : IsBoundMuch r k → ⊥
   never_bound_much h =
-      let there : StandsThere r strict set is are_plain entries enums led h.inside (StructTerm h.id h.brand) = stands_there r strict set is are_plain entries enums led h.inside (StructTerm h.id h.brand) h.stands in
+      let there : StandsThere r strict set entries enums beside h.inside (StructTerm h.id h.brand) = stands_there r strict set entries enums beside h.inside (StructTerm h.id h.brand) h.stands in
       let type : IsTypeOf l there.outside (StructTerm h.id h.brand) there.type.0 = there.type.1 in
       let shapes : map without_types h.bound ≡ map without_types type.2 = same_scopes (sym h.scopes ∙ scopes_at r.nodes l is.bound h.id type.2 type.0 type.3) in
       let same : SameBounds k l h.bound type.2 = bounds_same k l (IsBoundBy k h.inside h.brand) (IsBoundBy l there.outside h.brand) (brand_same r.nodes k l led.bound is.bound h.inside there.outside there.same h.brand there.plain_inner) h.bound type.2 shapes h.binds type.4 in
@@ -180,7 +186,7 @@ module _ (r : RequestTerm) (strict : Bool) (set : Schemas) (is : IsSetOf r stric
 
   never_deep : IsNestedDeep r k → ⊥
   never_deep h =
-      let there : StandsThere r strict set is are_plain entries enums led h.inside (ListTerm h.element) = stands_there r strict set is are_plain entries enums led h.inside (ListTerm h.element) h.stands in
+      let there : StandsThere r strict set entries enums beside h.inside (ListTerm h.element) = stands_there r strict set entries enums beside h.inside (ListTerm h.element) h.stands in
       let type : IsTypeOf l there.outside (ListTerm h.element) there.type.0 = there.type.1 in
       let same : SameMarked k l h.type type.0 = type_same r.nodes k l led.bound is.bound h.inside there.outside there.same h.element there.plain_inner h.type type.0 h.is type.2 in
       let lists : lists_in h.type.type ≡ lists_in type.0.type = lists_alike k l h.type type.0 same in
@@ -188,7 +194,7 @@ module _ (r : RequestTerm) (strict : Bool) (set : Schemas) (is : IsSetOf r stric
       omega (arith, lists, few, h.deep)
 
   never_long_enum : IsEnumNameLong k → ⊥
-  never_long_enum h = go (matched r strict set is are_plain entries enums led (EnumAt h.number) (led.reached_enums h.number h.id h.numbered))
+  never_long_enum h = go (matched r strict set entries enums beside (EnumAt h.number) (led.reached_enums h.number h.id h.numbered))
     where
       go : IsMatched k l (EnumAt h.number) → ⊥
       go (EntryAt b, m) = absurd m
@@ -202,12 +208,12 @@ module _ (r : RequestTerm) (strict : Bool) (set : Schemas) (is : IsSetOf r stric
           omega (arith, count, e.2.short, h.long)
 
 never_passed : (r : RequestTerm) (strict : Bool) (set : Schemas) → IsSetOf r strict set → AreNodesPlain r.nodes → (p : IsPassed r strict) → IsCertain r strict p → ⊥
-never_passed r strict set is are_plain (ManyEntries entries enums led many) certain = never_many_entries r strict set is are_plain entries enums led many
-never_passed r strict set is are_plain (ManyBound entries enums led much) certain = never_bound_much r strict set is are_plain entries enums led much
+never_passed r strict set is are_plain (ManyEntries entries enums led many) certain = never_many_entries r strict set entries enums (record { is = is; are_plain = are_plain; led = led }) many
+never_passed r strict set is are_plain (ManyBound entries enums led much) certain = never_bound_much r strict set entries enums (record { is = is; are_plain = are_plain; led = led }) much
 never_passed r strict set is are_plain (ManyNodes many) certain = certain
 never_passed r strict set is are_plain (LongName entries enums led long) certain = certain
-never_passed r strict set is are_plain (LongEnumName entries enums led long) certain = never_long_enum r strict set is are_plain entries enums led long
-never_passed r strict set is are_plain (DeepLists entries enums led deep) certain = never_deep r strict set is are_plain entries enums led deep
+never_passed r strict set is are_plain (LongEnumName entries enums led long) certain = never_long_enum r strict set entries enums (record { is = is; are_plain = are_plain; led = led }) long
+never_passed r strict set is are_plain (DeepLists entries enums led deep) certain = never_deep r strict set entries enums (record { is = is; are_plain = are_plain; led = led }) deep
 
 pub bounds_refused : BoundsAreRefused
 bounds_refused r strict are_plain passed certain set notes e = never_passed r strict set (set_meant r strict set notes e) are_plain passed certain

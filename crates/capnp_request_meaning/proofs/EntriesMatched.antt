@@ -85,7 +85,30 @@ group_there k inside n i number id u (GroupTerm other) e h = let same : other �
 group_there k inside n i number id u (SlotTerm offset t default) e h = absurd (cc)
 group_there k inside n i number id u (UnreadField kind) e h = absurd (cc)
 
-module _ (r : RequestTerm) (strict : Bool) (set : Schemas) (is : IsSetOf r strict set) (are_plain : AreNodesPlain r.nodes) (entries : List Entry) (enums : List ℕ) (led : AreLed r (numbers_of r strict entries enums)) where
+-- The set of a request, whose member types are no structs or enums by number, and entries and enums that the request leads to by
+-- other numbers.
+pub record AreBeside (r : RequestTerm) (strict : Bool) (set : Schemas) (entries : List Entry) (enums : List ℕ) : Type 0 where
+  pub is : IsSetOf r strict set
+  pub are_plain : AreNodesPlain r.nodes
+  pub led : AreLed r (numbers_of r strict entries enums)
+
+-- an annotation's declaration, inside what its brand binds there
+record IsDeclaredIn (k : Numbers) (inside : List Bound) (a : AnnotationTerm) (declaring : SchemaNode) (declared : TypeTerm) (bound : List Bound) : Type 0 where
+  first : node_named k.nodes a.id ≡ Some declaring
+  annotation : declaring.kind ≡ AnnotationNode declared
+  scopes : scopes_of k.nodes a.id ≡ Ok (map without_types bound)
+  brand : EachBound (IsBoundBy k inside a.brand) bound
+
+module _ (r : RequestTerm) (strict : Bool) (set : Schemas) (entries : List Entry) (enums : List ℕ) (beside : AreBeside r strict set entries enums) where
+  abbrev pub is : IsSetOf r strict set
+  is = beside.is
+
+  abbrev pub are_plain : AreNodesPlain r.nodes
+  are_plain = beside.are_plain
+
+  abbrev pub led : AreLed r (numbers_of r strict entries enums)
+  led = beside.led
+
   abbrev pub k : Numbers
   k = numbers_of r strict entries enums
 
@@ -217,13 +240,13 @@ module _ (r : RequestTerm) (strict : Bool) (set : Schemas) (is : IsSetOf r stric
         plain_inner = any_of (λ (b : Bound). IsBindingOf r.nodes a.brand b inner) scopes (IsTermPlain inner) (λ b. binding_plain r.nodes a.brand b inner brand_plain) any;
       }
 
-      in_declaration : (declaring : SchemaNode) (declared : TypeTerm) (bound : List Bound) (inner : TypeTerm) → node_named r.nodes a.id ≡ Some declaring → declaring.kind ≡ AnnotationNode declared → scopes_of r.nodes a.id ≡ Ok (map without_types bound) → EachBound (IsBoundBy k inside a.brand) bound → StandsIn r.nodes declared inner → StandsThere bound inner
-      in_declaration declaring declared bound inner first annotation scopes brand stands =
-          let node_is : declaring ≡ annotated.2.node = same_some (sym first ∙ annotated.2.first) in
-          let type_is : declared ≡ annotated.2.declared = same_declared annotated.2.node.kind declared annotated.2.declared (ap (λ (n : SchemaNode). n.kind) (sym node_is) ∙ annotation) annotated.2.annotation in
-          let shapes : map without_types bound ≡ map without_types annotated.2.bound = same_scopes (sym scopes ∙ annotated.2.scopes) in
-          let same : SameBounds k l bound annotated.2.bound = bounds_same k l (IsBoundBy k inside a.brand) (IsBoundBy l there.outside a.brand) (brand_same r.nodes k l led.bound is.bound inside there.outside there.same a.brand brand_plain) bound annotated.2.bound shapes brand annotated.2.brand in
-          let declared_plain : IsTermPlain declared = subst IsNodeKindPlain annotation (are_plain a.id declaring first).0 in
+      in_declaration : (declaring : SchemaNode) (declared : TypeTerm) (bound : List Bound) (inner : TypeTerm) → IsDeclaredIn k inside a declaring declared bound → StandsIn r.nodes declared inner → StandsThere bound inner
+      in_declaration declaring declared bound inner h stands =
+          let node_is : declaring ≡ annotated.2.node = same_some (sym h.first ∙ annotated.2.first) in
+          let type_is : declared ≡ annotated.2.declared = same_declared annotated.2.node.kind declared annotated.2.declared (ap (λ (n : SchemaNode). n.kind) (sym node_is) ∙ h.annotation) annotated.2.annotation in
+          let shapes : map without_types bound ≡ map without_types annotated.2.bound = same_scopes (sym h.scopes ∙ annotated.2.scopes) in
+          let same : SameBounds k l bound annotated.2.bound = bounds_same k l (IsBoundBy k inside a.brand) (IsBoundBy l there.outside a.brand) (brand_same r.nodes k l led.bound is.bound inside there.outside there.same a.brand brand_plain) bound annotated.2.bound shapes h.brand annotated.2.brand in
+          let declared_plain : IsTermPlain declared = subst IsNodeKindPlain h.annotation (are_plain a.id declaring h.first).0 in
           record {
             outside = annotated.2.bound;
             same = same;
@@ -259,7 +282,7 @@ module _ (r : RequestTerm) (strict : Bool) (set : Schemas) (is : IsSetOf r stric
   by_annotation : (x y z : Target) (node : SchemaNode) (inside : List Bound) (a : AnnotationTerm) → SameTarget k l y z → IsNodeAt k y node inside → HasAnnotation node a → AnnotationLeads k inside a x → IsMatched k l x
   by_annotation x y z node inside a like here has (ByBrand scopes said leads) = target_matched inside leads.inner x (in_brand y z node inside like here a has scopes leads.inner said leads.stands) leads.target
   by_annotation x y z node inside a like here has (ByDeclaration declaring declared bound first annotation scopes brand leads) =
-      target_matched bound leads.inner x (in_declaration y z node inside like here a has declaring declared bound leads.inner first annotation scopes brand leads.stands) leads.target
+      target_matched bound leads.inner x (in_declaration y z node inside like here a has declaring declared bound leads.inner (record { first = first; annotation = annotation; scopes = scopes; brand = brand }) leads.stands) leads.target
 
   -- a struct of a requested file
   requested : (n : ℕ) (e : Entry) (node : SchemaNode) (part : StructPart) → slice_get entries n ≡ Some e → e.place ≡ Whole → AreUnbound e.bound → IsListed r e.node → node_named r.nodes e.node ≡ Some node → node.kind ≡ StructNode part → part.is_group ≡ false → IsMatched k l (EntryAt n)
@@ -303,4 +326,4 @@ module _ (r : RequestTerm) (strict : Bool) (set : Schemas) (is : IsSetOf r stric
       let m : IsMatched k l y = matched y reached in at_field y m.0 node inside m.1 here part i f offset t default inner struct read slot stands
   stands_there inside inner (InBrand y node inside2 a scopes inner2 reached here has said any) = let m : IsMatched k l y = matched y reached in in_brand y m.0 node inside m.1 here a has scopes inner said any
   stands_there inside inner (InDeclaration y node place a declaring declared bound inner2 reached here has first annotation scopes brand stands) =
-      let m : IsMatched k l y = matched y reached in in_declaration y m.0 node place m.1 here a has declaring declared inside inner first annotation scopes brand stands
+      let m : IsMatched k l y = matched y reached in in_declaration y m.0 node place m.1 here a has declaring declared inside inner (record { first = first; annotation = annotation; scopes = scopes; brand = brand }) stands

@@ -29,7 +29,7 @@ use Rattle.capnp_request_meaning.proofs.ReachedAll.{AllReached, AreListed, enum_
 use Rattle.capnp_request_meaning.proofs.RootsMeant.{AreRooted, HasRoot, files_named, root_named, there_of}
 use Rattle.capnp_request_meaning.proofs.ScopesKept.{never_many, scopes_unbound, scopes_without}
 use Rattle.capnp_request_meaning.proofs.TypesMeant.{numbers}
-use Rattle.capnp_request_meaning.proofs.TypesPassed.{After, Fine, fine_after, led_at, number_passed}
+use Rattle.capnp_request_meaning.proofs.TypesPassed.{After, Fine, KeepsEntries, fine_after, led_at, number_passed}
 use Rattle.capnp_request_meaning.proofs.TypesSound.{scopes_said}
 use Rattle.capnp_request_meaning.proofs.WorkPassed.{IfPassed, done_at, passed_bind, passed_from, passed_so}
 use Rattle.capnp_request_meaning.proofs.Works.{Done, Grows, entry_still, enum_still, grows_none, grows_on}
@@ -54,6 +54,9 @@ module _ (r : RequestTerm) (strict : Bool) (sound : IsRequestSound (bounds stric
   whole_kept : (n : ℕ) → KeepsWhole (S n) r.nodes
   whole_kept n es id bound few none scopes k = (stay_whole r.nodes es id bound few none scopes k.0, once_whole n 0 r.nodes es id bound few none scopes k.1)
 
+  keeps : (n : ℕ) → KeepsEntries r.nodes (S n)
+  keeps n = record { whole = whole_kept n; stay = λ es k. k.0; once = λ es k. k.1.once }
+
   led : (n : ℕ) (s : Named) → F n s → AreLed r (numbers r.nodes strict s)
   led n s fine = led_at r strict s fine.kept.0.entries fine.kept.0.distinct fine.kept.1.once fine.reached
 
@@ -69,8 +72,10 @@ module _ (r : RequestTerm) (strict : Bool) (sound : IsRequestSound (bounds stric
       let less : length m.nodes < length s.entries = slice_get_within s.entries (length m.nodes) e here in
       passed_bind X (struct_made r.nodes strict (length m.nodes) e.node e.bound b.name b.node) (λ made. work_of (with_struct r.nodes strict m b made)) s
       (struct_made_passed r strict sound.nodes (StayWith r.nodes (length m.nodes) e) (with_whole r.nodes (length m.nodes) e) (λ es k. k.1) (length m.nodes) e.node e.bound b.name b.node (sound.nodes e.node b.node begun.first)
-      (with_groups r.nodes (length m.nodes) e b.node begun.first)
-      (λ part members struct listed es i id f there is k. group_stays r.nodes (length m.nodes) e b.node part members begun.first struct listed es i id f there is k) s
+      (record {
+        groups = with_groups r.nodes (length m.nodes) e b.node begun.first;
+        stays = λ part members struct listed es i id f there is k. group_stays r.nodes (length m.nodes) e b.node part members begun.first struct listed es i id f there is k;
+      }) s
       (λ z g. (fine.reached (EntryAt (length m.nodes)) (omega arith, less) z g, (e, entry_still s z g (length m.nodes) e here, refl, begun.first)))
       (record { kept = ((here, fine.kept.0), fine.kept.1); reached = fine.reached }))
       (λ p q. tt))
@@ -83,7 +88,7 @@ module _ (r : RequestTerm) (strict : Bool) (sound : IsRequestSound (bounds stric
       let begun : IsEnumBegun r.nodes id b.0 b.1 = enum_begun r.nodes id b h in
       let less : length m.enums < length s.enums = slice_get_within s.enums (length m.enums) id here in
       passed_bind X (enum_made r.nodes strict id b.0 b.1) (λ e. work_of (record m { enums = m.enums ++ e ∷ [] })) s
-      (enum_made_passed r strict sound.nodes (S (length m.nodes)) (whole_kept (length m.nodes)) (λ es k. k.0) (λ es k. k.1.once) (length m.enums) id b.0 b.1 (sound.nodes id b.1 begun.first) s
+      (enum_made_passed r strict sound.nodes (S (length m.nodes)) (keeps (length m.nodes)) (length m.enums) id b.0 b.1 (sound.nodes id b.1 begun.first) s
       (λ z g. (fine.reached (EnumAt (length m.enums)) (omega arith, less) z g, (id, enum_still s z g (length m.enums) id here, refl, begun.first))) fine)
       (λ p q. tt))
 
@@ -166,7 +171,7 @@ module _ (r : RequestTerm) (strict : Bool) (sound : IsRequestSound (bounds stric
   root_passed id n listed first true is s fine =
       passed_from X (scopes_of r.nodes id) (λ bound. number_struct id bound >>= (λ number. work_of [])) s (passed_so X strict AnySaid (scopes_of r.nodes id) (scopes_said (bounds strict) r.nodes sound.nodes id)) (λ bound scopes.
       passed_bind X (number_struct id bound) (λ number. work_of {A = List ℕ} []) s
-      (number_passed r strict sound.nodes (S 0) (whole_kept 0) (λ es k. k.0) (λ es k. k.1.once) id bound s (scopes ∙ ap (λ xs. Ok xs) (sym (scopes_without r.nodes id bound scopes))) fine (λ many. absurd (never_many bound (scopes_unbound r.nodes id bound scopes) many))
+      (number_passed r strict sound.nodes (S 0) (keeps 0) id bound s (scopes ∙ ap (λ xs. Ok xs) (sym (scopes_without r.nodes id bound scopes))) fine (λ many. absurd (never_many bound (scopes_unbound r.nodes id bound scopes) many))
       (λ x z g small added. requested r strict id n listed first (plain_of n.kind is) bound scopes x z (added.0, added.1, record { entry = whole_entry id bound; numbered = added.2; node = refl; whole = refl; same = same_bound_itself bound; few = small })))
       (λ p e. tt))
 
@@ -185,7 +190,7 @@ module _ (r : RequestTerm) (strict : Bool) (sound : IsRequestSound (bounds stric
       let listed : IsListed r id = queue_first r strict id ids h in
       passed_from X n.nested (λ nested. name_root r.nodes strict id (is_root n.kind) >>= (λ none. name_roots r.nodes strict steps (new_ids r.nodes nested met ++ met) (ids ++ new_ids r.nodes nested met))) s (passed_so X strict AnySaid n.nested is.nested) (λ nested said.
       passed_bind X (name_root r.nodes strict id (is_root n.kind)) (λ none. name_roots r.nodes strict steps (new_ids r.nodes nested met ++ met) (ids ++ new_ids r.nodes nested met)) s (root_passed id n listed first (is_root n.kind) refl s fine) (λ p e.
-      let after : After r strict (S 0) (λ (none : List ℕ) z. is_root n.kind ≡ true → HasRoot z.entries id) s p = fine_after r strict sound.nodes (S 0) (whole_kept 0) (λ es k. k.0) (λ es k. k.1.once) (name_root r.nodes strict id (is_root n.kind)) (λ (none : List ℕ) z. is_root n.kind ≡ true → HasRoot z.entries id) (Reached r strict) s
+      let after : After r strict (S 0) (λ (none : List ℕ) z. is_root n.kind ≡ true → HasRoot z.entries id) s p = fine_after r strict sound.nodes (S 0) (keeps 0) (name_root r.nodes strict id (is_root n.kind)) (λ (none : List ℕ) z. is_root n.kind ≡ true → HasRoot z.entries id) (Reached r strict) s
       (root_named (S 0) r.nodes (whole_kept 0) strict id (is_root n.kind)) (root_led r strict id n listed first (is_root n.kind) refl) (λ x z g k. k) fine p e in
       roots_passed steps (new_ids r.nodes nested met ++ met) (ids ++ new_ids r.nodes nested met) (queue_later r strict id ids met n nested h first said) p.1 after.fine)))
 
@@ -204,7 +209,7 @@ module _ (r : RequestTerm) (strict : Bool) (sound : IsRequestSound (bounds stric
 
   convert_passed : IfPassed X (convert r strict nothing_named)
   convert_passed = passed_bind X (name_files r.nodes strict r.files) (λ none. make_all r.nodes strict (65536 + suc (length r.nodes)) nothing_made) nothing_named files_passed (λ p e.
-      let after : After r strict (S 0) (λ (none : List ℕ) z. AreRooted r z.entries) nothing_named p = fine_after r strict sound.nodes (S 0) (whole_kept 0) (λ es k. k.0) (λ es k. k.1.once) (name_files r.nodes strict r.files) (λ (none : List ℕ) z. AreRooted r z.entries) (Reached r strict) nothing_named
+      let after : After r strict (S 0) (λ (none : List ℕ) z. AreRooted r z.entries) nothing_named p = fine_after r strict sound.nodes (S 0) (keeps 0) (name_files r.nodes strict r.files) (λ (none : List ℕ) z. AreRooted r z.entries) (Reached r strict) nothing_named
       (files_named (S 0) r (whole_kept 0) strict) (files_led r strict) (λ x z g k. k) nothing_fine p e in
       all_passed (65536 + suc (length r.nodes)) nothing_made p.1 after.fine (λ z g. none_made r.nodes strict z) (done_at (λ (none : List ℕ) t. IsFit r.nodes t) (name_files r.nodes strict r.files nothing_named) p (files_fit r.nodes strict r.files) e) (omega arith))
 

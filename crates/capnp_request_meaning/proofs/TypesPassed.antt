@@ -78,7 +78,22 @@ kind_there None h = h
 enums_there : (r : RequestTerm) (strict : Bool) (s : Named) → AreLed r (numbers r.nodes strict s) → HaveNodes r.nodes s.enums
 enums_there r strict s led i id there = kind_there (node_named r.nodes id) (own_kind (numbers r.nodes strict s) i id there (reached_first r (numbers r.nodes strict s) (EnumAt i) (led.reached_enums i id there)))
 
-module _ (r : RequestTerm) (strict : Bool) (sound : AreNodesSound (bounds strict) r.nodes) (K : List Entry → Type 0) (whole : KeepsWhole K r.nodes) (stay : (es : List Entry) → K es → Stay r.nodes es) (once : (es : List Entry) → K es → AreGroupsDistinct es) where
+-- What is kept of entries stays where a struct node is added, and says what `Stay` does, and that groups are once each.
+pub record KeepsEntries (nodes : List SchemaNode) (K : List Entry → Type 0) : Type 0 where
+  pub whole : KeepsWhole K nodes
+  pub stay : (es : List Entry) → K es → Stay nodes es
+  pub once : (es : List Entry) → K es → AreGroupsDistinct es
+
+module _ (r : RequestTerm) (strict : Bool) (sound : AreNodesSound (bounds strict) r.nodes) (K : List Entry → Type 0) (keeps : KeepsEntries r.nodes K) where
+  abbrev whole : KeepsWhole K r.nodes
+  whole = keeps.whole
+
+  stay : (es : List Entry) → K es → Stay r.nodes es
+  stay es k = keeps.stay es k
+
+  once : (es : List Entry) → K es → AreGroupsDistinct es
+  once es k = keeps.once es k
+
   abbrev pub X : Type 0
   X = IsPassed r strict
 
