@@ -31,6 +31,7 @@ pub mod OrderMeant
 pub mod OrderPassed
 pub mod OrderSound
 pub mod ReachedAll
+pub mod RecordsFound
 pub mod RootsMeant
 pub mod Rows
 pub mod RowsBound

@@ -37,6 +37,12 @@ pub record IsSetOfRecord (r : Record) (strict : Bool) (set : Schemas) (notes : L
 abbrev pub SetMeansItsRecord : Type 0
 SetMeansItsRecord = (r : Record) (strict : Bool) (set : Schemas) (notes : List Note) → and_said (request_said r) (λ request. conversion_of request strict) ≡ Ok (set, notes) → IsSetOfRecord r strict set notes
 
+-- A query by its display name finds each struct of the files that a record requests, where nodes have names of their own without
+-- brackets.
+abbrev pub FindsRequested : Record → Schemas → Type 0
+FindsRequested r set = (request : RequestTerm) → request_said r ≡ Ok request → HasOwnNames request.nodes → HasBareNames request.nodes → (entries : List Entry) × ((id : ℕ) (n : SchemaNode) (part : StructPart) →
+    IsListed request id → node_named request.nodes id ≡ Some n → n.kind ≡ StructNode part → part.is_group ≡ false → IsStructFound entries set id n)
+
 -- the notes beside a set are exactly of what stands so
 abbrev pub NotesTellWhatStands : Type 0
 NotesTellWhatStands = (r : RequestTerm) (strict : Bool) (set : Schemas) (notes : List Note) → conversion_of r strict ≡ Ok (set, notes) → AreNotesOf r strict set notes
