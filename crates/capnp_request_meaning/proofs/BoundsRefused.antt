@@ -1,6 +1,7 @@
 -- A request that passes a bound is not converted: in the set that it would be converted to, no such bound is passed.
-use Rattle.std.proofs.Common.{ℕ, zero, suc, ◌+◌, ◌<◌, ◌≤◌, ◌≡◌, ◌∙◌, ◌⊎◌, ap, arith, inl, inr, refl, subst, sym, Bool, true, false, List, [], ◌∷◌, length, map, slice_get, Option, Some, None, Ok}
-use Rattle.std.proofs.lemmas.Bool.{cases_order}
+use Rattle.std.proofs.Common.{ℕ, zero, suc, ◌+◌, ◌<◌, ◌≤◌, ◌≡◌, ◌∙◌, ◌⊎◌, ◌==◌, ap, arith, inl, inr, refl, subst, sym, Bool, true, false, List, [], ◌∷◌, ◌++◌, length, map, slice_get, Option, Some, None, Ok}
+use Rattle.std.proofs.lemmas.Bool.{cases_order, eq-eqb}
+use Rattle.std.proofs.lemmas.List.{length-append, length-map}
 use Rattle.std.proofs.lemmas.Option.{slice_get_within}
 use Rattle.capnp_schema.specs.Schema.{Enum, Schemas}
 use Rattle.capnp_schema.specs.Types.{ListType, SchemaType, StructType}
@@ -8,17 +9,17 @@ use Rattle.capnp_request.specs.Conversion.{Note}
 use Rattle.capnp_request.specs.Names.{dotted_of}
 use Rattle.capnp_request.specs.Order.{conversion_of}
 use Rattle.capnp_request.specs.Scopes.{node_named, scopes_of}
-use Rattle.capnp_request.specs.Terms.{ListTerm, RequestTerm, Said, SchemaNode, StructTerm}
-use Rattle.capnp_request.specs.Types.{bound_count, list_of, lists_in, same_bound}
+use Rattle.capnp_request.specs.Terms.{EnumTerm, ListTerm, RequestTerm, Said, SchemaNode, StructTerm}
+use Rattle.capnp_request.specs.Types.{bound_count, enum_position, list_of, lists_in, number_where, same_bound}
 use Rattle.capnp_request.specs.Work.{Bound, Entry, GroupOf, MarkedType, Place, Whole, plain}
 use Rattle.capnp_request_meaning.specs.Laws.{BoundsAreRefused}
 use Rattle.capnp_request_meaning.specs.Meaning.{AreEntries, EnumAt, EntryAt, IsBoundBy, IsEntryAt, IsEnumNamed, IsEnumOf, IsSetOf, IsStructNumber, IsTypeOf, Numbers, Target, numbers_in, without_types}
-use Rattle.capnp_request_meaning.specs.Passed.{AreLed, DeepLists, IsBoundMuch, IsCertain, IsEnumNameLong, IsNestedDeep, IsPassed, LongEnumName, LongName, ManyBound, ManyEntries, ManyNodes, numbers_of}
+use Rattle.capnp_request_meaning.specs.Passed.{AreLed, DeepLists, IsBoundMuch, IsCertain, IsEnumNameLong, IsNestedDeep, IsPassed, LongEnumName, LongName, ManyBound, ManyEntries, ManyEnums, IsEnumMore, numbers_of}
 use Rattle.capnp_request_meaning.specs.Plain.{AreNodesPlain}
 use Rattle.capnp_request_meaning.proofs.EntriesMatched.{AreBeside, ArePaired, BothGroups, BothWhole, IsMatched, SameEntry, SameTarget, StandsThere, enum_of_number, matched, paired, stands_there}
 use Rattle.capnp_request_meaning.proofs.GroupsOnce.{group_is_one}
-use Rattle.capnp_request_meaning.proofs.ListsFound.{same_some, there_below}
-use Rattle.capnp_request_meaning.proofs.SetsMeant.{set_meant}
+use Rattle.capnp_request_meaning.proofs.ListsFound.{before_or_last, same_some, there_below}
+use Rattle.capnp_request_meaning.proofs.SetsMeant.{IsFirstOf, reached_first, set_meant}
 use Rattle.capnp_request_meaning.proofs.TermsMatched.{bounds_counted, bounds_same, brand_same, same_shape, scopes_at, type_same}
 use Rattle.capnp_request_meaning.proofs.TypesMatched.{SameBounds, SameEnums, SameKinds, SameMarked, SameStructs, SameType, bounds_back, one_bound, whole_is_one}
 
@@ -144,6 +145,20 @@ same_scopes e = cc
 same_ok : {xs ys : List ℕ} → ◌≡◌ {A = Said (List ℕ)} (Ok xs) (Ok ys) → xs ≡ ys
 same_ok e = cc
 
+-- an id without a number is none of these
+not_numbered : (ids : List ℕ) (id k i : ℕ) → enum_position ids id k ≡ None → slice_get ids i ≡ Some id → ⊥
+not_numbered [] id k i none there = absurd (cc)
+not_numbered (x ∷ ids) id k zero none there = go (x == id) (eq-eqb x id (same_some there)) none
+  where
+    go : (q : Bool) → q ≡ true → number_where q k (enum_position ids id (k + 1)) ≡ None → ⊥
+    go true e h = absurd (cc)
+    go false e h = absurd (cc)
+not_numbered (x ∷ ids) id k (suc i) none there = go (x == id) (not_numbered ids id (k + 1) i) none
+  where
+    go : (q : Bool) → (enum_position ids id (k + 1) ≡ None → slice_get ids i ≡ Some id → ⊥) → number_where q k (enum_position ids id (k + 1)) ≡ None → ⊥
+    go true rest h = absurd (cc)
+    go false rest h = rest h there
+
 -- ---- bounds ----
 
 module _ (r : RequestTerm) (strict : Bool) (set : Schemas) (entries : List Entry) (enums : List ℕ) (beside : AreBeside r strict set entries enums) where
@@ -173,6 +188,58 @@ module _ (r : RequestTerm) (strict : Bool) (set : Schemas) (entries : List Entry
   never_many_entries many =
       let fit : length entries ≤ length is.entries = all_fit (SameEntry k l) (one_entry r k l led) (length is.entries) (length entries) entry_image in
       omega (arith, many, fit, is.few)
+
+  -- as many enums, and one more, are among those of the set
+  module _ (h : IsEnumMore r k) where
+    abbrev more : List ℕ
+    more = enums ++ h.id ∷ []
+
+    abbrev IsOfId : ℕ → ℕ → Type 0
+    IsOfId a b = (id : ℕ) × (slice_get more a ≡ Some id) × (slice_get l.enums b ≡ Some id)
+
+    more_once : (i j id : ℕ) → slice_get more i ≡ Some id → slice_get more j ≡ Some id → i ≡ j
+    more_once i j id a b = go (before_or_last enums h.id i id a) (before_or_last enums h.id j id b)
+      where
+        go : (slice_get enums i ≡ Some id) ⊎ ((i ≡ length enums) × (h.id ≡ id)) → (slice_get enums j ≡ Some id) ⊎ ((j ≡ length enums) × (h.id ≡ id)) → i ≡ j
+        go (inl x) (inl y) = led.distinct_enums i j id x y
+        go (inl x) (inr y) = absurd (not_numbered enums h.id 0 i h.more (x ∙ ap (λ z. Some z) (sym y.1)))
+        go (inr x) (inl y) = absurd (not_numbered enums h.id 0 j h.more (y ∙ ap (λ z. Some z) (sym x.1)))
+        go (inr x) (inr y) = x.0 ∙ sym y.0
+
+    one_enum : (i j b : ℕ) → IsOfId i b → IsOfId j b → i ≡ j
+    one_enum i j b x y = let same : x.0 ≡ y.0 = same_some (sym x.2 ∙ y.2) in more_once i j y.0 (x.1 ∙ ap (λ z. Some z) same) y.1
+
+    last_image : (b : ℕ) × (slice_get l.enums b ≡ Some h.id)
+    last_image =
+        let there : StandsThere r strict set entries enums beside h.inside (EnumTerm h.id) = stands_there r strict set entries enums beside h.inside (EnumTerm h.id) h.stands in
+        (there.type.1.0, there.type.1.2)
+
+    enum_image : (a id : ℕ) → slice_get enums a ≡ Some id → (b : ℕ) × (slice_get l.enums b ≡ Some id)
+    enum_image a id here = go (matched r strict set entries enums beside (EnumAt a) (led.reached_enums a id here))
+      where
+        go : IsMatched k l (EnumAt a) → (b : ℕ) × (slice_get l.enums b ≡ Some id)
+        go (EntryAt b, m) = absurd m
+        go (EnumAt b, m) = (b, m.2 ∙ (sym m.1 ∙ here))
+
+    more_image : (a : ℕ) → a < length more → (b : ℕ) × IsOfId a b × (b < length l.enums)
+    more_image a less = go (before_or_last enums h.id a here.0 here.1)
+      where
+        here : (id : ℕ) × (slice_get more a ≡ Some id)
+        here = there_below more a less
+
+        go : (slice_get enums a ≡ Some here.0) ⊎ ((a ≡ length enums) × (h.id ≡ here.0)) → (b : ℕ) × IsOfId a b × (b < length l.enums)
+        go (inl old) = let image : (b : ℕ) × (slice_get l.enums b ≡ Some here.0) = enum_image a here.0 old in (image.0, (here.0, here.1, image.1), slice_get_within l.enums image.0 here.0 image.1)
+        go (inr new) = let at : slice_get l.enums last_image.0 ≡ Some here.0 = last_image.1 ∙ ap (λ z. Some z) new.1 in (last_image.0, (here.0, here.1, at), slice_get_within l.enums last_image.0 here.0 at)
+
+    never_more_enums : ⊥
+    never_more_enums =
+        let fit : length more ≤ length l.enums = all_fit IsOfId one_enum (length l.enums) (length more) more_image in
+        let longer : length more ≡ length enums + 1 = length-append enums (h.id ∷ []) in
+        let count : length l.enums ≡ length set.enums = length-map set.enums (λ (e : Enum). e.id) in
+        let many : 4294967295 ≤ length enums = h.many in
+        let e : (x : Enum) × (slice_get set.enums 4294967295 ≡ Some x) = there_below set.enums 4294967295 (omega (arith, fit, longer, count, many)) in
+        let first : IsFirstOf l 4294967295 = reached_first r l (EnumAt 4294967295) (is.reached_enums 4294967295 e.0 e.1) in
+        omega (arith, first.few)
 
   never_bound_much : IsBoundMuch r k → ⊥
   never_bound_much h =
@@ -210,7 +277,7 @@ module _ (r : RequestTerm) (strict : Bool) (set : Schemas) (entries : List Entry
 never_passed : (r : RequestTerm) (strict : Bool) (set : Schemas) → IsSetOf r strict set → AreNodesPlain r.nodes → (p : IsPassed r strict) → IsCertain r strict p → ⊥
 never_passed r strict set is are_plain (ManyEntries entries enums led many) certain = never_many_entries r strict set entries enums (record { is = is; are_plain = are_plain; led = led }) many
 never_passed r strict set is are_plain (ManyBound entries enums led much) certain = never_bound_much r strict set entries enums (record { is = is; are_plain = are_plain; led = led }) much
-never_passed r strict set is are_plain (ManyNodes many) certain = certain
+never_passed r strict set is are_plain (ManyEnums entries enums led more) certain = never_more_enums r strict set entries enums (record { is = is; are_plain = are_plain; led = led }) more
 never_passed r strict set is are_plain (LongName entries enums led long) certain = certain
 never_passed r strict set is are_plain (LongEnumName entries enums led long) certain = never_long_enum r strict set entries enums (record { is = is; are_plain = are_plain; led = led }) long
 never_passed r strict set is are_plain (DeepLists entries enums led deep) certain = never_deep r strict set entries enums (record { is = is; are_plain = are_plain; led = led }) deep

@@ -127,6 +127,7 @@ pub record IsFirstOf (k : Numbers) (n : ℕ) : Type 0 where
   pub id : ℕ
   pub is : enum_position k.enums id 0 ≡ Some n
   pub kind : is_of_kind is_enum (node_named k.nodes id) ≡ true
+  pub few : n < 4294967295
 
 abbrev pub IsFirst : Numbers → Target → Type 0
 IsFirst k (EntryAt n) = Unit {0}
@@ -134,7 +135,7 @@ IsFirst k (EnumAt n) = IsFirstOf k n
 
 target_first : (k : Numbers) (inside : List Bound) (t : TypeTerm) (x : Target) → IsTarget k inside t x → IsFirst k x
 target_first k inside t (EntryAt n) h = tt
-target_first k inside (EnumTerm id) (EnumAt n) h = record { id = id; is = h.0; kind = h.1 }
+target_first k inside (EnumTerm id) (EnumAt n) h = record { id = id; is = h.0; kind = h.1; few = h.2 }
 target_first k inside (StructTerm id brand) (EnumAt n) h = absurd h
 target_first k inside (MemberTerm t) (EnumAt n) h = absurd h
 target_first k inside Float32 (EnumAt n) h = absurd h

@@ -1,6 +1,6 @@
 -- What types, brands and annotations lead to.
 use Rattle.std.proofs.Common.{ℕ, zero, suc, ◌+◌, ◌<◌, ◌≤◌, ◌≡◌, ◌∙◌, ◌==◌, ap, arith, inl, inr, refl, subst, sym, nat_lt, Bool, true, false, List, [], ◌∷◌, ◌++◌, length, slice_get, Option, Some, None, Ok, append_assoc}
-use Rattle.std.proofs.lemmas.Bool.{eq-eqb}
+use Rattle.std.proofs.lemmas.Bool.{eq-eqb, ltb-true}
 use Rattle.std.proofs.lemmas.List.{append-nil, length-append}
 use Rattle.capnp_device.specs.declared.error.ErrorKind.TheVariants.{NodeNotFound, TooManyTypes}
 use Rattle.capnp_schema.specs.Schema.{Annotation}
@@ -66,11 +66,11 @@ position_behind (x ∷ ids) more id k h = go (x == id) h (position_behind ids mo
     go false e later = let n : (k + 1) + length ids ≡ k + suc (length ids) = omega arith in later e ∙ ap (λ i. Some i) n
 
 abbrev pub IsEnumAdded : List SchemaNode → ℕ → Target → Named → Type 0
-IsEnumAdded nodes id x z = (n : ℕ) × (x ≡ EnumAt n) × (enum_position z.enums id 0 ≡ Some n) × (is_of_kind is_enum (node_named nodes id) ≡ true)
+IsEnumAdded nodes id x z = (n : ℕ) × (x ≡ EnumAt n) × (enum_position z.enums id 0 ≡ Some n) × (is_of_kind is_enum (node_named nodes id) ≡ true) × (n < 4294967295)
 
 -- one enum more
-pub enum_new : (nodes : List SchemaNode) (id : ℕ) (s : Named) → enum_position s.enums id 0 ≡ None → is_of_kind is_enum (node_named nodes id) ≡ true → Led s (record s { enums = s.enums ++ id ∷ [] }) (IsEnumAdded nodes id)
-enum_new nodes id s none found = record { grown = record { entries = []; enums = id ∷ []; entries_are = sym (append-nil s.entries); enums_are = refl }; new = added }
+pub enum_new : (nodes : List SchemaNode) (id : ℕ) (s : Named) → enum_position s.enums id 0 ≡ None → is_of_kind is_enum (node_named nodes id) ≡ true → nat_lt (length s.enums) 4294967295 ≡ true → Led s (record s { enums = s.enums ++ id ∷ [] }) (IsEnumAdded nodes id)
+enum_new nodes id s none found few = record { grown = record { entries = []; enums = id ∷ []; entries_are = sym (append-nil s.entries); enums_are = refl }; new = added }
   where
     there : (z : Named) → Grows (record s { enums = s.enums ++ id ∷ [] }) z → enum_position z.enums id 0 ≡ Some (length s.enums)
     there z g =
@@ -81,7 +81,7 @@ enum_new nodes id s none found = record { grown = record { entries = []; enums =
     added (EnumAt n) is z g =
         let longer : length (s.enums ++ id ∷ []) ≡ length s.enums + 1 = length-append s.enums (id ∷ []) in
         let last : n ≡ length s.enums = last_new (length s.enums) (length (s.enums ++ id ∷ [])) n longer is in
-        (n, refl, there z g ∙ ap (λ i. Some i) (sym last), found)
+        (n, refl, there z g ∙ ap (λ i. Some i) (sym last), found, (let less : length s.enums < 4294967295 = ltb-true (length s.enums) 4294967295 few in omega (arith, last, less)))
     added (EntryAt n) is z g = absurd (omega (arith, is.0, is.1))
 
 pub enum_led : (nodes : List SchemaNode) (id : ℕ) → IsLed (number_enum nodes id) (IsEnumAdded nodes id)
@@ -90,7 +90,7 @@ enum_led nodes id s = go (enum_position s.enums id 0) refl
     go : (o : Option ℕ) → enum_position s.enums id 0 ≡ o → IfDone (λ n t. Led s t (IsEnumAdded nodes id)) (enum_or_add nodes o id s)
     go (Some n) is = led_none s s (IsEnumAdded nodes id) refl refl
     go None is = led_where (is_of_kind is_enum (node_named nodes id)) NodeNotFound s (IsEnumAdded nodes id) (add_enum id s) (λ found.
-        led_where (nat_lt (length s.enums) 4294967295) TooManyTypes s (IsEnumAdded nodes id) (Ok (length s.enums, record s { enums = s.enums ++ id ∷ [] })) (λ few. enum_new nodes id s is found))
+        led_where (nat_lt (length s.enums) 4294967295) TooManyTypes s (IsEnumAdded nodes id) (Ok (length s.enums, record s { enums = s.enums ++ id ∷ [] })) (λ few. enum_new nodes id s is found few))
 
 -- ---- types ----
 
@@ -144,7 +144,7 @@ module _ (nodes : List SchemaNode) (strict : Bool) (inside : List Bound) where
   enum_itself id (EntryAt n) z h = absurd (cc)
   enum_itself id (EnumAt n) z h =
       let same : n ≡ h.0 = cc in
-      record { inner = EnumTerm id; stands = refl; target = (h.2 ∙ ap (λ i. Some i) (sym same), h.3) }
+      record { inner = EnumTerm id; stands = refl; target = (h.2 ∙ ap (λ i. Some i) (sym same), h.3, omega (arith, same, h.4)) }
 
   enum_type_led : (id : ℕ) → IsLed (type_of nodes strict inside (EnumTerm id)) (Leads (StandsIn nodes (EnumTerm id)))
   enum_type_led id = led_bind (number_enum nodes id) (λ number. work_of (plain (EnumType number))) (Leads (StandsIn nodes (EnumTerm id)))

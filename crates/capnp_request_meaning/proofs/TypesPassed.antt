@@ -11,7 +11,7 @@ use Rattle.capnp_request.specs.Terms.{Binds, BindingTerms, BrandTerm, EnumTerm, 
 use Rattle.capnp_request.specs.Types.{add_enum, bind_scope, binding_types, brand_types, entry_number, enum_or_add, enum_position, float32, float64, interface, is_enum, is_of_kind, is_struct_kind, list_of, listed_type, lists_in, named_scopes, number_enum, number_or_add, number_struct, scope_types, type_of, without_untyped, bound_count, is_bound_count}
 use Rattle.capnp_request.specs.Work.{Bound, Entry, MarkedType, Named, Work, each, plain, work_of, ◌>>=◌}
 use Rattle.capnp_request_meaning.specs.Meaning.{AnyBound, AreDistinct, AreGroupsDistinct, ByAnnotation, ByBrand, ByDeclaration, ByField, EntryAt, EnumAt, IsBindingAmong, IsBindingOf, IsBindingSaid, IsBoundBy, IsReached, IsTarget, IsTypeOf, Numbers, StandsIn, Target, without_types}
-use Rattle.capnp_request_meaning.specs.Passed.{AreLed, AtField, DeepLists, InBrand, InDeclaration, IsPassed, ManyEntries, ManyNodes, StandsAt, bounds, ManyBound}
+use Rattle.capnp_request_meaning.specs.Passed.{AreLed, AtField, DeepLists, InBrand, InDeclaration, IsPassed, ManyEntries, ManyEnums, StandsAt, bounds, ManyBound}
 use Rattle.capnp_request_meaning.specs.Sound.{AreTypesSound, AnySaid, IsBrandSound, IsScopeSound, IsTypeSound}
 use Rattle.capnp_request_meaning.proofs.EntriesKept.{KeepsWhole, few_bound, same_bound_itself, whole_entry}
 use Rattle.capnp_request_meaning.proofs.EnumsCounted.{HaveNodes, ids_fit}
@@ -70,14 +70,6 @@ led_at r strict s stays distinct groups reached = record {
     once : (i j id : ℕ) → slice_get s.enums i ≡ Some id → slice_get s.enums j ≡ Some id → i ≡ j
     once i j id a b = same_some (sym (position i id a) ∙ position j id b)
 
-kind_there : (o : Option SchemaNode) → is_of_kind is_enum o ≡ true → is_node_there o ≡ true
-kind_there (Some n) h = refl
-kind_there None h = h
-
--- each enum that is led to has a node
-enums_there : (r : RequestTerm) (strict : Bool) (s : Named) → AreLed r (numbers r.nodes strict s) → HaveNodes r.nodes s.enums
-enums_there r strict s led i id there = kind_there (node_named r.nodes id) (own_kind (numbers r.nodes strict s) i id there (reached_first r (numbers r.nodes strict s) (EnumAt i) (led.reached_enums i id there)))
-
 -- What is kept of entries stays where a struct node is added, and says what `Stay` does, and that groups are once each.
 pub record KeepsEntries (nodes : List SchemaNode) (K : List Entry → Type 0) : Type 0 where
   pub whole : KeepsWhole K nodes
@@ -129,24 +121,19 @@ module _ (r : RequestTerm) (strict : Bool) (sound : AreNodesSound (bounds strict
       go small None is = passed_where X (nat_lt (length s.entries) 65536) TooManyTypes (Ok (length s.entries, record s { entries = s.entries ++ whole_entry id bound ∷ [] }))
           (λ full same. entries_full s (whole_entry id bound) full (whole_stays r.nodes s.entries id bound is scopes (stay s.entries fine.kept)) (groups_whole s.entries id bound (once s.entries fine.kept)) fine.reached (λ x z g added. new x z g small added)) (λ few. tt)
 
-  enums_full : (s : Named) (id : ℕ) → nat_lt (length s.enums) 4294967295 ≡ false → enum_position s.enums id 0 ≡ None → is_of_kind is_enum (node_named r.nodes id) ≡ true → F s → ((x : Target) (z : Named) → Grows s z → IsEnumAdded r.nodes id x z → Reached r strict x z) → X
-  enums_full s id full none found fine new =
-      let more : Named = record s { enums = s.enums ++ id ∷ [] } in
-      let all : AllReached r strict more = reached_more r strict s more (IsEnumAdded r.nodes id) (enum_new r.nodes id s none found) fine.reached new in
-      let many : 4294967295 ≤ length s.enums = ltb-false (length s.enums) 4294967295 full in
-      let longer : length (s.enums ++ id ∷ []) ≡ length s.enums + 1 = length-append s.enums (id ∷ []) in
+  enums_full : (inside : List Bound) (id : ℕ) (s : Named) → nat_lt (length s.enums) 4294967295 ≡ false → enum_position s.enums id 0 ≡ None → is_of_kind is_enum (node_named r.nodes id) ≡ true → F s → StandsAt r (numbers r.nodes strict s) inside (EnumTerm id) → X
+  enums_full inside id s full none found fine stands =
       let kept : Stay r.nodes s.entries = stay s.entries fine.kept in
-      let led : AreLed r (numbers r.nodes strict more) = led_at r strict more kept.entries kept.distinct (once s.entries fine.kept) all in
-      let fit : length (s.enums ++ id ∷ []) ≤ length r.nodes = ids_fit r.nodes more.enums (λ i j x a b. led.distinct_enums i j x a b) (enums_there r strict more led) in
-      ManyNodes (omega (arith, many, longer, fit))
+      ManyEnums s.entries s.enums (led_at r strict s kept.entries kept.distinct (once s.entries fine.kept) fine.reached)
+      (record { inside = inside; id = id; stands = stands; is_enum_node = found; more = none; many = ltb-false (length s.enums) 4294967295 full })
 
-  enum_passed : (id : ℕ) (s : Named) → F s → ((x : Target) (z : Named) → Grows s z → IsEnumAdded r.nodes id x z → Reached r strict x z) → IfPassed X (number_enum r.nodes id s)
-  enum_passed id s fine new = go (enum_position s.enums id 0) refl
+  enum_passed : (inside : List Bound) (id : ℕ) (s : Named) → F s → StandsAt r (numbers r.nodes strict s) inside (EnumTerm id) → IfPassed X (number_enum r.nodes id s)
+  enum_passed inside id s fine stands = go (enum_position s.enums id 0) refl
     where
       go : (o : Option ℕ) → enum_position s.enums id 0 ≡ o → IfPassed X (enum_or_add r.nodes o id s)
       go (Some n) is = tt
       go None is = passed_where X (is_of_kind is_enum (node_named r.nodes id)) NodeNotFound (add_enum id s) (λ missing same. absurd (cc)) (λ found.
-          passed_where X (nat_lt (length s.enums) 4294967295) TooManyTypes (Ok (length s.enums, record s { enums = s.enums ++ id ∷ [] })) (λ full same. enums_full s id full is found fine new) (λ few. tt))
+          passed_where X (nat_lt (length s.enums) 4294967295) TooManyTypes (Ok (length s.enums, record s { enums = s.enums ++ id ∷ [] })) (λ full same. enums_full inside id s full is found fine stands) (λ few. tt))
 
   float32_passed : (q : Bool) (s : Named) → IfPassed X (float32 q s)
   float32_passed true s = λ same. absurd (cc)
@@ -252,7 +239,7 @@ module _ (r : RequestTerm) (strict : Bool) (sound : AreNodesSound (bounds strict
       type_passed Interface is s here fine = interface_passed strict s
       type_passed (ListTerm t) is s here fine = list_passed t s (type_passed t is s (λ inner i z g. here inner (inr i) z g) fine) here fine
       type_passed (EnumTerm id) is s here fine = passed_bind X (number_enum r.nodes id) (λ number. work_of (plain (EnumType number))) s
-          (enum_passed id s fine (λ x z g added. here_leads s (StandsIn r.nodes (EnumTerm id)) here x z g (enum_itself r.nodes strict inside id x z added))) (λ p e. tt)
+          (enum_passed inside id s fine (here (EnumTerm id) refl s (grows_none s))) (λ p e. tt)
       type_passed (StructTerm id brand) is s here fine = struct_passed id brand (brand_passed brand is.1) s here fine
       type_passed (Parameter scope index) is s here fine = tt
       type_passed (UnreadType kind) is s here fine = λ same. absurd (is same)

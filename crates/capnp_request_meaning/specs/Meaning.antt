@@ -373,10 +373,11 @@ abbrev mutual
   IsBindingAmong nodes (MoreBindings t rest) zero inner = ⊥
   IsBindingAmong nodes (MoreBindings t rest) (suc count) inner = StandsIn nodes t inner ⊎ IsBindingAmong nodes rest count inner
 
--- a struct's type inside an entry is that of an entry, and an enum's is the first of its id, which an enum node has
+-- a struct's type inside an entry is that of an entry, and an enum's is the first of its id, which an enum node has, below
+-- 2^32 - 1
 abbrev pub IsTarget : Numbers → (inside : List Bound) → TypeTerm → Target → Type 0
 IsTarget k inside (StructTerm id brand) (EntryAt n) = IsTypeOf k inside (StructTerm id brand) (plain (StructType n n))
-IsTarget k inside (EnumTerm id) (EnumAt n) = (enum_position k.enums id 0 ≡ Some n) × (is_of_kind is_enum (node_named k.nodes id) ≡ true)
+IsTarget k inside (EnumTerm id) (EnumAt n) = (enum_position k.enums id 0 ≡ Some n) × (is_of_kind is_enum (node_named k.nodes id) ≡ true) × (n < 4294967295)
 IsTarget k inside t x = ⊥
 
 -- one of the types that stand somewhere is

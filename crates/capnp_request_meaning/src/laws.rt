@@ -91,16 +91,16 @@ pub fn nothing_is_missing()
 {}
 
 /// A request of which no part is refused so itself is refused with `TooManyTypes` only where it passes a bound. It leads to more
-/// than 65,536 structs with bindings and groups, no two alike, to a name of more than 1,024 bytes, or to a struct's type that
-/// binds more than 1,024 types. Or it has 2^32 nodes, or elements of a list stand in 2^64 - 1 lists or more. The conversion's
-/// steps are always enough.
+/// than 65,536 structs with bindings and groups or 2^32 - 1 enums, no two alike, or to a name of more than 1,024 bytes. Or it leads
+/// to a struct's type that binds more than 1,024 types, or to elements of a list in 2^64 - 1 lists or more. The conversion's steps
+/// are always enough.
 pub fn bounds_are_passed()
     ensures { BoundsArePassed }
 {}
 
-/// A request that leads to more than 65,536 structs with bindings and groups, no two alike, is refused. So is one that leads to a
-/// type that binds more than 1,024 types, to an enum's name of more than 1,024 bytes, or to 2^64 - 1 lists in one another. It is
-/// said of requests whose member types are no structs or enums by number, as those of records are.
+/// A request that leads to more than 65,536 structs with bindings and groups or 2^32 - 1 enums, no two alike, is refused. So is one
+/// that leads to a type that binds more than 1,024 types, to an enum's name of more than 1,024 bytes, or to 2^64 - 1 lists in one
+/// another. It is said of requests whose member types are no structs or enums by number, as those of records are.
 pub fn bounds_are_refused()
     ensures { BoundsAreRefused }
 {}
