@@ -11,6 +11,7 @@ use Rattle.capnp_request.specs.Work.{Entry, GroupOf, Place, Whole}
 use Rattle.capnp_schema.specs.Types.{TextType}
 use Rattle.capnp_request_meaning.specs.Found.{EndsAsField, HasApartGroups, IsOnePart, last_part}
 use Rattle.capnp_request_meaning.specs.Meaning.{AreGroupsDistinct}
+use Rattle.capnp_request_meaning.proofs.RowsOwn.{boxes}
 use Rattle.capnp_request_meaning.proofs.Rows.{field, names_in, node, request, row_entries, row_set, slot, struct_part}
 
 -- ---- a struct of another file that is named as a group ----
@@ -56,6 +57,15 @@ row_no_group = refl
 
 row_struct : brand_asked row_set (codes "A") ≡ Some 0
 row_struct = refl
+
+-- and bound structs by theirs
+row_bound : asked_in (conversion_of boxes false) (codes "Box(Data)") ≡ Some 3
+unfolding is_utf8 chars encode
+row_bound = refl
+
+row_unbound : asked_in (conversion_of boxes false) (codes "Box") ≡ Some 0
+unfolding is_utf8 chars encode
+row_unbound = refl
 
 -- so these are not told apart
 row_not_apart : HasApartGroups shared.nodes → ⊥
