@@ -1,26 +1,24 @@
 -- A request that passes a bound is not converted: in the set that it would be converted to, no such bound is passed.
-use Rattle.std.proofs.Common.{ℕ, zero, suc, ◌+◌, ◌<◌, ◌≤◌, ◌≡◌, ◌∙◌, ◌⊎◌, ◌==◌, ap, arith, inl, inr, refl, subst, sym, Bool, true, false, List, [], ◌∷◌, ◌++◌, length, map, slice_get, Option, Some, None, Ok}
+use Rattle.std.proofs.Common.{ℕ, zero, suc, ◌+◌, ◌<◌, ◌≤◌, ◌≡◌, ◌∙◌, ◌⊎◌, ◌==◌, ap, arith, inl, inr, refl, subst, sym, Bool, true, false, List, [], ◌∷◌, ◌++◌, length, map, slice_get, Some, None, Ok}
 use Rattle.std.proofs.lemmas.Bool.{cases_order, eq-eqb}
 use Rattle.std.proofs.lemmas.List.{length-append, length-map}
 use Rattle.std.proofs.lemmas.Option.{slice_get_within}
 use Rattle.capnp_schema.specs.Schema.{Enum, Schemas}
-use Rattle.capnp_schema.specs.Types.{ListType, SchemaType, StructType}
-use Rattle.capnp_request.specs.Conversion.{Note}
+use Rattle.capnp_schema.specs.Types.{SchemaType}
 use Rattle.capnp_request.specs.Names.{dotted_of}
-use Rattle.capnp_request.specs.Order.{conversion_of}
-use Rattle.capnp_request.specs.Scopes.{node_named, scopes_of}
+use Rattle.capnp_request.specs.Scopes.{node_named}
 use Rattle.capnp_request.specs.Terms.{EnumTerm, ListTerm, RequestTerm, Said, SchemaNode, StructTerm}
-use Rattle.capnp_request.specs.Types.{bound_count, enum_position, list_of, lists_in, number_where, same_bound}
-use Rattle.capnp_request.specs.Work.{Bound, Entry, GroupOf, MarkedType, Place, Whole, plain}
+use Rattle.capnp_request.specs.Types.{bound_count, enum_position, lists_in, number_where}
+use Rattle.capnp_request.specs.Work.{Bound, Entry, GroupOf, MarkedType, Place, Whole}
 use Rattle.capnp_request_meaning.specs.Laws.{BoundsAreRefused}
-use Rattle.capnp_request_meaning.specs.Meaning.{AreEntries, EnumAt, EntryAt, IsBoundBy, IsEntryAt, IsEnumNamed, IsEnumOf, IsSetOf, IsStructNumber, IsTypeOf, Numbers, Target, numbers_in, without_types}
+use Rattle.capnp_request_meaning.specs.Meaning.{EnumAt, EntryAt, IsBoundBy, IsEnumOf, IsSetOf, IsTypeOf, Numbers, numbers_in, without_types}
 use Rattle.capnp_request_meaning.specs.Passed.{AreLed, DeepLists, IsBoundMuch, IsCertain, IsEnumNameLong, IsNestedDeep, IsPassed, LongEnumName, LongName, ManyBound, ManyEntries, ManyEnums, IsEnumMore, numbers_of}
 use Rattle.capnp_request_meaning.specs.Plain.{AreNodesPlain}
-use Rattle.capnp_request_meaning.proofs.EntriesMatched.{AreBeside, ArePaired, BothGroups, BothWhole, IsMatched, SameEntry, SameTarget, StandsThere, enum_of_number, matched, paired, stands_there}
+use Rattle.capnp_request_meaning.proofs.EntriesMatched.{AreBeside, ArePaired, BothGroups, BothWhole, IsMatched, SameEntry, StandsThere, enum_of_number, matched, paired, stands_there}
 use Rattle.capnp_request_meaning.proofs.GroupsOnce.{group_is_one}
 use Rattle.capnp_request_meaning.proofs.ListsFound.{before_or_last, same_some, there_below}
 use Rattle.capnp_request_meaning.proofs.SetsMeant.{IsFirstOf, reached_first, set_meant}
-use Rattle.capnp_request_meaning.proofs.TermsMatched.{bounds_counted, bounds_same, brand_same, same_shape, scopes_at, type_same}
+use Rattle.capnp_request_meaning.proofs.TermsMatched.{bounds_counted, bounds_same, brand_same, scopes_at, type_same}
 use Rattle.capnp_request_meaning.proofs.TypesMatched.{SameBounds, SameEnums, SameKinds, SameMarked, SameStructs, SameType, bounds_back, one_bound, whole_is_one}
 
 -- ---- as many at least ----

@@ -1,12 +1,11 @@
 -- Each entry and each enum that a request leads to, by whatever numbers, is one of the set that the request is converted to.
-use Rattle.std.proofs.Common.{ℕ, zero, suc, ◌+◌, ◌≡◌, ◌∙◌, ap, arith, inl, inr, refl, subst, sym, Bool, true, false, List, [], ◌∷◌, length, map, slice_get, Option, Some, None, Ok, Err}
-use Rattle.capnp_schema.specs.Schema.{Annotation, Enum, Enumerant, FieldKind, Group, Node, Schemas, Slot}
-use Rattle.capnp_schema.specs.Types.{SchemaType, EnumType, StructType}
+use Rattle.std.proofs.Common.{ℕ, zero, suc, ◌+◌, ◌≡◌, ◌∙◌, ap, arith, refl, subst, sym, Bool, false, List, [], ◌∷◌, map, slice_get, Some, Ok, Err}
+use Rattle.capnp_schema.specs.Schema.{Annotation, Enum, Enumerant, FieldKind, Group, Schemas, Slot}
+use Rattle.capnp_schema.specs.Types.{SchemaType, StructType}
 use Rattle.capnp_request.specs.Scopes.{node_named, scopes_of}
 use Rattle.capnp_request.specs.Terms.{AnnotationNode, AnnotationTerm, EnumNode, EnumTerm, EnumerantTerm, FieldKindTerm, FieldTerm, Float32, Float64, GroupTerm, Interface, ListTerm, MemberTerm, NodeKind, Parameter, RequestTerm, Said, SchemaNode, SlotTerm, StructNode, StructPart, StructTerm, TypeTerm, UnreadField, UnreadType, ValueTerm}
-use Rattle.capnp_request.specs.Types.{enum_position, named_entry}
-use Rattle.capnp_request.specs.Work.{Bound, Entry, GroupOf, MarkedType, Place, Whole, plain}
-use Rattle.capnp_request_meaning.specs.Meaning.{AnnotationLeads, AnyBound, AreEnumsOf, AreUnbound, ByAnnotation, ByBrand, ByDeclaration, ByField, ByGroup, EachBound, EachSaid, EntryAt, EnumAt, HasAnnotation, IsAnnotationOf, IsBindingOf, IsBoundBy, IsEntryAt, IsEnumOf, IsEnumerantOf, IsFound, IsGroupEntry, IsKindOf, IsListed, IsNodeAt, IsReached, IsRead, IsSaidList, IsSetOf, IsTarget, IsTypeOf, LeadsTo, Numbers, OfEnumerant, OfField, OfNode, Requested, StandsIn, Target, numbers_in, without_types}
+use Rattle.capnp_request.specs.Work.{Bound, Entry, GroupOf, MarkedType, Whole, plain}
+use Rattle.capnp_request_meaning.specs.Meaning.{AnnotationLeads, AnyBound, AreEnumsOf, AreUnbound, ByAnnotation, ByBrand, ByDeclaration, ByField, ByGroup, EachBound, EachSaid, EntryAt, EnumAt, HasAnnotation, IsAnnotationOf, IsBindingOf, IsBoundBy, IsEntryAt, IsEnumOf, IsEnumerantOf, IsFound, IsGroupEntry, IsKindOf, IsListed, IsNodeAt, IsReached, IsRead, IsSaidList, IsSetOf, IsTarget, IsTypeOf, Numbers, OfEnumerant, OfField, OfNode, Requested, StandsIn, Target, numbers_in, without_types}
 use Rattle.capnp_request_meaning.specs.Passed.{AreLed, AtField, InBrand, InDeclaration, StandsAt, numbers_of}
 use Rattle.capnp_request_meaning.specs.Plain.{AreNodesPlain, IsAnnotationPlain, IsFieldPlain, IsKindPlain, IsNodeKindPlain, IsNodePlain, IsTermPlain}
 use Rattle.capnp_request_meaning.proofs.EntriesKept.{FoundAt, found_enum}

@@ -10,7 +10,7 @@ use Rattle.capnp_request.specs.Terms.{AnnotationNode, AnnotationTerm, EnumNode, 
 use Rattle.capnp_request.specs.Types.{add_entry, is_of_kind, is_struct_kind, named_scopes, type_of, where_node}
 use Rattle.capnp_request.specs.Values.{value_stated}
 use Rattle.capnp_request.specs.Work.{Bound, Entry, MarkedType, Named, Seen, Work, each_read, nothing_seen, plain, seen_in, work_of, work_said, work_unnoted, ◌>>=◌}
-use Rattle.capnp_request_meaning.specs.Meaning.{AreDistinct, AreGroupsDistinct, ByAnnotation, ByGroup, EntryAt, EnumAt, HasAnnotation, IsAnnotationOf, IsEnumerantOf, IsKindOf, IsNodeAt, IsRead, OfEnumerant, OfField, OfNode, Target}
+use Rattle.capnp_request_meaning.specs.Meaning.{AreDistinct, ByAnnotation, ByGroup, EntryAt, EnumAt, HasAnnotation, IsAnnotationOf, IsEnumerantOf, IsKindOf, IsNodeAt, IsRead, OfEnumerant, OfField, OfNode, Target}
 use Rattle.capnp_request_meaning.specs.Passed.{AtField, InBrand, InDeclaration, IsPassed, bounds}
 use Rattle.capnp_request_meaning.specs.Sound.{AnySaid, EachSaidSo, IsAnnotationSound, IsEnumerantSound, IsFieldSound, IsKindSound, IsNodeKindSound, IsNodeSound, IsSaidSo, IsTextFor, IsTypeSound}
 use Rattle.capnp_request_meaning.proofs.AnnotationsMeant.{IsDeclaration, annotation_meant, declaration}

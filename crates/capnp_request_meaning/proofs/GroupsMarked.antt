@@ -1,7 +1,6 @@
 -- In an accepted set the groups of fields are marked as groups, and no other entry is.
-use Rattle.std.proofs.Common.{ℕ, zero, suc, ◌+◌, ◌<◌, ◌≡◌, ◌∙◌, ap, arith, refl, subst, sym, Bool, true, false, List, [], ◌∷◌, length, map, slice_get, Option, Some, None, Ok}
+use Rattle.std.proofs.Common.{ℕ, ◌+◌, ◌<◌, ◌≡◌, ◌∙◌, ap, arith, refl, subst, sym, Bool, true, false, List, [], length, slice_get, Option, Some, Ok}
 use Rattle.std.specs.Option.{unwrap_or}
-use Rattle.std.proofs.lemmas.Bool.{true≢false}
 use Rattle.std.proofs.lemmas.Option.{slice_get_within}
 use Rattle.capnp_schema.specs.Accepted.{GroupFits, HasOneParent, IsAccepted, IsGroupOf, IsParent}
 use Rattle.capnp_schema.specs.Schema.{Brand, Field, FieldKind, Group, Node, Schemas, Slot, TypedField, brand_at, field_at, fields_of, no_brand, no_field, node_of, typed_fields}

@@ -1,17 +1,17 @@
 -- Names of groups: told apart by their fields, from one another and from those of structs.
-use Rattle.std.proofs.Common.{ℕ, zero, suc, ◌+◌, ◌<◌, ◌≤◌, ◌≡◌, ◌∙◌, ◌⊎◌, ◌==◌, ◌||◌, ◌↔◌, ap, append_assoc, arith, inl, inr, nat_lt, refl, subst, sym, Bool, true, false, List, [], ◌∷◌, ◌++◌, length, map, slice_get, Option, Some, Ok}
+use Rattle.std.proofs.Common.{ℕ, zero, suc, ◌+◌, ◌<◌, ◌≡◌, ◌∙◌, ◌⊎◌, ◌==◌, ◌||◌, ap, append_assoc, arith, inl, inr, nat_lt, refl, subst, sym, Bool, true, false, List, [], ◌∷◌, ◌++◌, length, map, slice_get, Some, Ok}
 use Rattle.std.proofs.lemmas.Bool.{or_right, true≢false}
 use Rattle.std.proofs.lemmas.List.{append-nil, append_cancel_right}
 use Rattle.std.proofs.lemmas.Option.{slice_get_within}
 use Rattle.capnp_schema.specs.Accepted.{IsAccepted}
-use Rattle.capnp_schema.specs.Schema.{Field, Node, Schemas, node_of}
+use Rattle.capnp_schema.specs.Schema.{Field, Node, Schemas}
 use Rattle.capnp_request.specs.Names.{bound_name, dotted_of, file_where, has_colon, occurrences_of, part_bindings}
 use Rattle.capnp_request.specs.Scopes.{node_named}
-use Rattle.capnp_request.specs.Terms.{FieldTerm, NodeKind, RequestTerm, Said, SchemaNode, StructNode, StructPart}
+use Rattle.capnp_request.specs.Terms.{NodeKind, RequestTerm, Said, SchemaNode, StructNode, StructPart}
 use Rattle.capnp_request.specs.Work.{Bound, Entry, GroupOf, Place, Whole}
 use Rattle.capnp_request_meaning.specs.Found.{AreToldApart, EndsAsField, HasOwnFields, IsEntryNode, IsGroupAt, IsOnePart, ShareNames, has_parts, last_part}
 use Rattle.capnp_request_meaning.specs.Laws.{AllNamesDiffer, GroupNamesAreShared, GroupsShareWithStructs}
-use Rattle.capnp_request_meaning.specs.Meaning.{AreEnumsNamed, IsEntryName, IsGroupName, IsNameOf, IsRead, IsSetOf, Numbers, numbers_in}
+use Rattle.capnp_request_meaning.specs.Meaning.{IsEntryName, IsGroupName, IsNameOf, IsSetOf, Numbers, numbers_in}
 use Rattle.capnp_request_meaning.specs.Written.{HasBareNames, IsBare, IsWholeAt}
 use Rattle.capnp_request_meaning.proofs.BracketsRead.{AreClosed, IsHidden, Stays, bare_stays, part_hidden, read_on}
 use Rattle.capnp_request_meaning.proofs.GroupsMarked.{GroupField, group_field, made, marked_by, own_node}

@@ -8,7 +8,7 @@ use Rattle.capnp_device.specs.declared.error.ErrorKind.TheVariants.{NodeNotFound
 use Rattle.capnp_schema.specs.Schema.{Annotation, Brand, FieldKind, Group, Node, Slot}
 use Rattle.capnp_schema.specs.Types.{SchemaType, StructType}
 use Rattle.capnp_request.specs.Conversion.{Converted, Note, annotations_of, converted_field, converted_name, field_of, fields_of, is_untyped, is_untyped_default, kind_of, notes_of}
-use Rattle.capnp_request.specs.Order.{Begun, Made, add_struct, all_fields, at_struct, begin_struct, make_all, make_enum, make_next, make_struct, name_files, nothing_made, nothing_named, struct_made, with_struct}
+use Rattle.capnp_request.specs.Order.{Begun, Made, add_struct, all_fields, at_struct, begin_struct, make_all, make_enum, make_next, make_struct, name_files, nothing_named, struct_made, with_struct}
 use Rattle.capnp_request.specs.Scopes.{node_named}
 use Rattle.capnp_request.specs.Terms.{AnnotationNode, AnnotationTerm, EnumNode, FieldKindTerm, FieldTerm, GroupTerm, NodeKind, OtherNode, RequestTerm, Said, SchemaNode, SlotTerm, StructNode, StructPart, UnreadField}
 use Rattle.capnp_request.specs.Types.{add_entry, is_of_kind, is_struct_kind, type_of, where_node}
@@ -20,7 +20,7 @@ use Rattle.capnp_request_meaning.proofs.EntriesKept.{KeepsWhole, whole_entry}
 use Rattle.capnp_request_meaning.proofs.EnumsMeant.{IsEnumAdded, enum_added}
 use Rattle.capnp_request_meaning.proofs.FieldsMeant.{group_entry}
 use Rattle.capnp_request_meaning.proofs.Leads.{AnyEntries, any_whole}
-use Rattle.capnp_request_meaning.proofs.ListsFound.{before_or_last, same_some}
+use Rattle.capnp_request_meaning.proofs.ListsFound.{before_or_last}
 use Rattle.capnp_request_meaning.proofs.NodesMeant as made_of
 use Rattle.capnp_request_meaning.proofs.RootsMeant.{AreRooted, files_named}
 use Rattle.capnp_request_meaning.proofs.TypesMeant.{numbers, type_meant}

@@ -1,5 +1,5 @@
 -- Structs are found by their display names: a query passes over groups, and no earlier struct has the name.
-use Rattle.std.proofs.Common.{ℕ, zero, suc, ◌+◌, ◌-◌, ◌^◌, ◌<◌, ◌≤◌, ◌≡◌, ◌∙◌, ◌⊎◌, ◌==◌, ◌&&◌, ap, arith, bytes_eq, inl, inr, nat_lt, not, refl, subst, sym, Bool, true, false, List, [], ◌∷◌, ◌++◌, length, map, slice_get, Option, Some, None, Ok}
+use Rattle.std.proofs.Common.{ℕ, zero, suc, ◌+◌, ◌-◌, ◌^◌, ◌<◌, ◌≤◌, ◌≡◌, ◌∙◌, ◌==◌, ◌&&◌, ap, arith, bytes_eq, not, refl, sym, Bool, true, false, List, [], ◌∷◌, ◌++◌, length, slice_get, Some, None, Ok}
 use Rattle.std.specs.Prelude.{if◌then◌else◌}
 use Rattle.std.proofs.lemmas.Bool.{and_from, and_parts, eq-eqb, lt-ltb, true≢false}
 use Rattle.std.proofs.lemmas.Option.{slice_get_within}
@@ -21,7 +21,6 @@ use Rattle.capnp_request_meaning.proofs.NamesAlike.{names_alike, names_of}
 use Rattle.capnp_request_meaning.proofs.NamesDiffer.{names_differ}
 use Rattle.capnp_request_meaning.proofs.NamesMeant.{no_bindings}
 use Rattle.capnp_request_meaning.proofs.NamesOwn.{names_own}
-use Rattle.capnp_request_meaning.proofs.NodesFound.{brands_counted}
 
 -- ---- the first of a name ----
 

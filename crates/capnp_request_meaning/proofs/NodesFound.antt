@@ -1,8 +1,8 @@
 -- The node, the brand and the fields of an entry, by their numbers.
-use Rattle.std.proofs.Common.{ℕ, zero, suc, ◌+◌, ◌<◌, ◌≡◌, ◌∙◌, ap, arith, refl, subst, sym, List, [], ◌∷◌, ◌++◌, length, map, slice_get, Option, Some, Ok, Err}
+use Rattle.std.proofs.Common.{ℕ, zero, suc, ◌+◌, ◌<◌, ◌≡◌, ◌∙◌, ap, arith, refl, subst, List, [], ◌∷◌, ◌++◌, length, slice_get, Some, Ok}
 use Rattle.std.specs.Option.{unwrap_or}
 use Rattle.std.proofs.lemmas.List.{length-append}
-use Rattle.capnp_schema.specs.Schema.{Brand, Field, Node, Schemas, TypedField, field_at, fields_of, no_brand, no_field, no_node, node_of, typed_fields}
+use Rattle.capnp_schema.specs.Schema.{Brand, Field, Node, Schemas, no_brand, no_node, node_of, typed_fields}
 use Rattle.capnp_schema.specs.Types.{SchemaType}
 use Rattle.capnp_request.specs.Terms.{FieldTerm, Said}
 use Rattle.capnp_request.specs.Work.{Bound, Entry}

@@ -1,18 +1,18 @@
 -- Worked rows of names that groups share with structs, and of structs that are found by them.
-use Rattle.std.proofs.Common.{ℕ, ◌≡◌, ◌∙◌, ap, arith, codes, refl, sym, Bool, true, false, List, [], ◌∷◌, slice_get, Option, Some, None, Ok, Err}
+use Rattle.std.proofs.Common.{ℕ, ◌≡◌, arith, codes, refl, true, false, List, [], ◌∷◌, Option, Some, None, Ok, Err}
 use Rattle.std.specs.Str.{chars, is_utf8}
 use lib.Utf8.{encode}
 use Rattle.capnp_schema.specs.ByName.{brand_asked}
-use Rattle.capnp_schema.specs.Schema.{Node, Schemas}
+use Rattle.capnp_schema.specs.Schema.{Schemas}
 use Rattle.capnp_request.specs.Conversion.{Note}
 use Rattle.capnp_request.specs.Order.{conversion_of}
 use Rattle.capnp_request.specs.Terms.{FieldTerm, GroupTerm, MemberTerm, NoScopes, OtherNode, RequestTerm, Said, SchemaNode, StructNode, StructTerm}
-use Rattle.capnp_request.specs.Work.{Entry, GroupOf, Place, Whole}
+use Rattle.capnp_request.specs.Work.{Entry, GroupOf}
 use Rattle.capnp_schema.specs.Types.{TextType}
-use Rattle.capnp_request_meaning.specs.Found.{EndsAsField, HasApartGroups, IsOnePart, last_part}
+use Rattle.capnp_request_meaning.specs.Found.{HasApartGroups, IsOnePart, last_part}
 use Rattle.capnp_request_meaning.specs.Meaning.{AreGroupsDistinct}
 use Rattle.capnp_request_meaning.proofs.RowsOwn.{boxes}
-use Rattle.capnp_request_meaning.proofs.Rows.{field, names_in, node, request, row_entries, row_set, slot, struct_part}
+use Rattle.capnp_request_meaning.proofs.Rows.{field, names_in, node, row_set, slot, struct_part}
 
 -- ---- a struct of another file that is named as a group ----
 

@@ -1,12 +1,12 @@
 -- A term is read as types that stand for the same, where what is bound inside does.
-use Rattle.std.proofs.Common.{ℕ, zero, suc, ◌+◌, ◌<◌, ◌≤◌, ◌≡◌, ◌∙◌, ◌⊎◌, ◌==◌, ◌&&◌, ap, arith, inl, inr, refl, subst, sym, Bool, true, false, List, [], ◌∷◌, length, map, slice_get, Option, Some, None, Ok}
+use Rattle.std.proofs.Common.{ℕ, zero, suc, ◌≡◌, ◌∙◌, ◌==◌, ◌&&◌, ap, arith, inl, inr, refl, subst, sym, Bool, true, false, List, [], ◌∷◌, length, map, slice_get, Option, Ok}
 use Rattle.std.specs.Option.{unwrap_or}
 use Rattle.std.proofs.lemmas.Bool.{and_parts, eqb-true, true≢false}
 use Rattle.capnp_schema.specs.Types.{SchemaType, AnyPointerType, BoolType, DataType, EnumType, IntType, ListType, StructType, TextType, UIntType, VoidType}
-use Rattle.capnp_request.specs.Scopes.{bound_types, of_scope, scope_among, scopes_of, some_where}
+use Rattle.capnp_request.specs.Scopes.{of_scope, scope_among, scopes_of, some_where}
 use Rattle.capnp_request.specs.Terms.{Binds, BindingTerms, BrandTerm, EnumTerm, Float32, Float64, Inherits, Interface, ListTerm, MemberTerm, MoreBindings, MoreScopes, NoBindings, NoScopes, Parameter, Said, SchemaNode, ScopeTerm, StructTerm, TypeTerm, UnreadBrand, UnreadScope, UnreadType}
 use Rattle.capnp_request.specs.Types.{bound_count, bound_to, list_of, lists_in, same_bound, same_marked, same_scope, same_types, with_type_of, without_untyped}
-use Rattle.capnp_request.specs.Work.{Bound, Entry, GroupOf, MarkedType, Place, Whole, float_of, plain}
+use Rattle.capnp_request.specs.Work.{Bound, MarkedType, float_of, plain}
 use Rattle.capnp_request_meaning.specs.Meaning.{AnyBound, AreEntries, AreTypesOf, AreUnbound, EachBound, IsBindingAmong, IsBindingOf, IsBindingSaid, IsBoundBy, IsBoundSo, IsEntryAt, IsStructNumber, IsTypeOf, Numbers, StandsIn, without_types}
 use Rattle.capnp_request_meaning.specs.Plain.{AreTermsPlain, IsBrandPlain, IsPlainType, IsScopePlain, IsTermPlain}
 use Rattle.capnp_request_meaning.proofs.NamesDiffer.{entry_at}

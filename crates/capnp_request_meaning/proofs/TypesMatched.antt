@@ -1,17 +1,12 @@
 -- Types of two numberings of a request's entries that stand for the same.
-use Rattle.std.proofs.Common.{ℕ, zero, suc, ◌+◌, ◌<◌, ◌≤◌, ◌≡◌, ◌∙◌, ◌⊎◌, ◌==◌, ◌&&◌, ap, arith, inl, inr, refl, subst, sym, Bool, true, false, List, [], ◌∷◌, length, map, slice_get, Option, Some, None, Ok}
-use Rattle.std.specs.Option.{unwrap_or}
+use Rattle.std.proofs.Common.{ℕ, ◌<◌, ◌≡◌, ◌∙◌, ◌⊎◌, ◌==◌, ◌&&◌, ap, arith, inl, inr, refl, subst, sym, Bool, true, false, List, [], ◌∷◌, slice_get, Some}
 use Rattle.std.proofs.lemmas.Bool.{and_from, and_parts, cases_order, eq-eqb, eqb-true, true≢false}
 use Rattle.capnp_schema.specs.Types.{SchemaType, AnyPointerType, BoolType, DataType, EnumType, IntType, ListType, StructType, TextType, UIntType, VoidType}
-use Rattle.capnp_request.specs.Scopes.{bound_types, node_named, of_scope, scope_among, scopes_of, some_where}
-use Rattle.capnp_request.specs.Terms.{Binds, BindingTerms, BrandTerm, EnumTerm, Float32, Float64, Inherits, Interface, ListTerm, MemberTerm, MoreBindings, MoreScopes, NoBindings, NoScopes, Parameter, Said, SchemaNode, ScopeTerm, StructTerm, TypeTerm, UnreadBrand, UnreadScope, UnreadType}
-use Rattle.capnp_request.specs.Types.{bound_count, bound_to, is_entry_of, list_of, lists_in, same_bound, same_mark, same_marked, same_scope, same_type, same_types, with_type_of, without_untyped}
-use Rattle.capnp_request.specs.Work.{Bound, Entry, GroupOf, MarkedType, Place, Whole, float_of, plain}
-use Rattle.capnp_request_meaning.specs.Meaning.{AnyBound, AreDistinct, AreEntries, AreTypesOf, AreUnbound, EachBound, IsBindingAmong, IsBindingOf, IsBindingSaid, IsBoundBy, IsBoundSo, IsEntryAt, IsStructNumber, IsTypeOf, Numbers, StandsIn, without_types}
-use Rattle.capnp_request_meaning.specs.Plain.{AreTermsPlain, IsBrandPlain, IsPlainType, IsScopePlain, IsTermPlain}
+use Rattle.capnp_request.specs.Types.{is_entry_of, lists_in, same_bound, same_mark, same_marked, same_scope, same_type, same_types}
+use Rattle.capnp_request.specs.Work.{Bound, Entry, MarkedType, Whole}
+use Rattle.capnp_request_meaning.specs.Meaning.{AreDistinct, Numbers}
 use Rattle.capnp_request_meaning.proofs.ListsFound.{same_some}
-use Rattle.capnp_request_meaning.proofs.NamesDiffer.{entry_at}
-use Rattle.capnp_request_meaning.proofs.TypesTidy.{SameParts, by_bytes_apart, entry_in, kind_in, parts_of, plain_kind, same_marks}
+use Rattle.capnp_request_meaning.proofs.TypesTidy.{SameParts, entry_in, kind_in, parts_of}
 
 -- ---- types that stand for the same ----
 

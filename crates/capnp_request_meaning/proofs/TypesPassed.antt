@@ -5,7 +5,6 @@ use Rattle.std.proofs.lemmas.List.{append-nil, length-append}
 use Rattle.std.proofs.lemmas.Option.{slice_get_within}
 use Rattle.capnp_device.specs.declared.error.ErrorKind.TheVariants.{NodeNotFound, TooManyTypes}
 use Rattle.capnp_schema.specs.Types.{EnumType, StructType}
-use Rattle.capnp_request.specs.Order.{is_node_there}
 use Rattle.capnp_request.specs.Scopes.{node_named, scopes_of}
 use Rattle.capnp_request.specs.Terms.{Binds, BindingTerms, BrandTerm, EnumTerm, Float32, Float64, Inherits, Interface, ListTerm, MemberTerm, MoreBindings, MoreScopes, NoBindings, NoScopes, Parameter, RequestTerm, SchemaNode, ScopeTerm, StructTerm, TypeTerm, UnreadBrand, UnreadScope, UnreadType}
 use Rattle.capnp_request.specs.Types.{add_enum, bind_scope, binding_types, brand_types, entry_number, enum_or_add, enum_position, float32, float64, interface, is_enum, is_of_kind, is_struct_kind, list_of, listed_type, lists_in, named_scopes, number_enum, number_or_add, number_struct, scope_types, type_of, without_untyped, bound_count, is_bound_count}
@@ -14,15 +13,14 @@ use Rattle.capnp_request_meaning.specs.Meaning.{AnyBound, AreDistinct, AreGroups
 use Rattle.capnp_request_meaning.specs.Passed.{AreLed, AtField, DeepLists, InBrand, InDeclaration, IsPassed, ManyEntries, ManyEnums, StandsAt, bounds, ManyBound}
 use Rattle.capnp_request_meaning.specs.Sound.{AreTypesSound, AnySaid, IsBrandSound, IsScopeSound, IsTypeSound}
 use Rattle.capnp_request_meaning.proofs.EntriesKept.{KeepsWhole, few_bound, same_bound_itself, whole_entry}
-use Rattle.capnp_request_meaning.proofs.EnumsCounted.{HaveNodes, ids_fit}
 use Rattle.capnp_request_meaning.proofs.FieldsLed.{Reached}
 use Rattle.capnp_request_meaning.proofs.GroupsOnce.{groups_whole}
 use Rattle.capnp_request_meaning.proofs.Leads.{IsLed, Led, led_bind, led_of}
 use Rattle.capnp_request_meaning.proofs.ListsFound.{same_some}
 use Rattle.capnp_request_meaning.proofs.OrderMeant.{Stay, StayEntries, whole_stays}
 use Rattle.capnp_request_meaning.proofs.ReachedAll.{AllReached, reached_more}
-use Rattle.capnp_request_meaning.proofs.SetsMeant.{own_kind, own_place, reached_first}
-use Rattle.capnp_request_meaning.proofs.TypesLed.{IsAdded, IsEnumAdded, Leads, brand_led, enum_new, entry_new, scopes_led, type_led, itself, enum_itself}
+use Rattle.capnp_request_meaning.proofs.SetsMeant.{own_place, reached_first}
+use Rattle.capnp_request_meaning.proofs.TypesLed.{IsAdded, Leads, brand_led, entry_new, scopes_led, type_led, itself}
 use Rattle.capnp_request_meaning.proofs.TypesMeant.{AreNamedScopes, binding, brand_meant, numbers, scopes_named, type_meant}
 use Rattle.capnp_request_meaning.proofs.TypesSound.{AreNodesSound, scopes_said}
 use Rattle.capnp_request_meaning.proofs.WorkPassed.{IfPassed, done_at, passed_bind, passed_else, passed_from, passed_so, passed_where}

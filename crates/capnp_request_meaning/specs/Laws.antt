@@ -1,16 +1,14 @@
 -- The statements of the laws.
-use Rattle.std.specs.Prelude.{ℕ, ◌≡◌, ◌↔◌, List, Bool, true, false, slice_get, Some, Ok, ◌≢◌, Err}
+use Rattle.std.specs.Prelude.{ℕ, ◌≡◌, ◌↔◌, List, Bool, false, slice_get, Some, Ok, ◌≢◌, Err}
 use Rattle.capnp_schema.specs.Accepted.{IsAccepted}
 use Rattle.capnp_schema.specs.ByName.{brand_asked}
 use Rattle.capnp_schema.specs.Schema.{Node, Schemas}
 use Rattle.capnp_records.specs.Record.{Record}
 use Rattle.capnp_request.specs.Conversion.{Note}
-use Rattle.capnp_request.specs.Names.{has_colon}
 use Rattle.capnp_request.specs.Order.{and_said, conversion_of}
 use Rattle.capnp_request.specs.Reading.{request_said}
 use Rattle.capnp_request.specs.Scopes.{node_named}
 use Rattle.capnp_request.specs.Terms.{RequestTerm, SchemaNode, StructNode, StructPart}
-use Rattle.capnp_request.specs.Types.{is_struct_kind}
 use Rattle.capnp_request.specs.Work.{Entry, Whole}
 use Rattle.capnp_request_meaning.specs.Found.{AreToldApart, EndsAsField, HasOwnFields, IsEntryNode, IsGroupAt, IsStructFound, ShareNames, is_group_place}
 use Rattle.capnp_request_meaning.specs.Meaning.{AreUnbound, IsListed, IsSetOf, numbers_in}
