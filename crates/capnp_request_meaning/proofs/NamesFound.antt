@@ -14,7 +14,7 @@ use Rattle.capnp_request.specs.Work.{Bound, Entry, GroupOf, MarkedType, Place, W
 use Rattle.capnp_request_meaning.specs.Found.{IsStructFound}
 use Rattle.capnp_request_meaning.specs.Laws.{EachStructIsFound, IsUnboundAt, NamesFindStructs}
 use Rattle.capnp_request_meaning.specs.Meaning.{AreUnbound, IsFound, IsListed, IsSetOf, numbers_in}
-use Rattle.capnp_request_meaning.specs.Written.{AreWrittenAlike, HasBareNames, IsWholeAt, dots_of, written, HasOwnNames}
+use Rattle.capnp_request_meaning.specs.Written.{AreWrittenAlike, HasBareNames, IsWholeAt, dots_of, HasOwnNames}
 use Rattle.capnp_request_meaning.proofs.GroupsMarked.{brand_within, made, marked_by, own_node}
 use Rattle.capnp_request_meaning.proofs.ListsFound.{same_some, there_below}
 use Rattle.capnp_request_meaning.proofs.NamesAlike.{names_alike, names_of}

@@ -16,7 +16,7 @@ use Rattle.capnp_request_meaning.specs.Plain.{AreNodesPlain}
 use Rattle.capnp_request_meaning.specs.Written.{AreStructsToldApart, HasBareNames, HasClearNames, HasDistinctNames, IsBare, IsNamed, IsWholeAt, built_in_names, is_among, is_type_node, HasOwnNames}
 use Rattle.capnp_request_meaning.proofs.BracketsRead.{Stays, bare_stays, read_on}
 use Rattle.capnp_request_meaning.proofs.ListsFound.{same_some, still_at, there_below}
-use Rattle.capnp_request_meaning.proofs.NamesAlike.{alike_scopes, at, bare_dotted, name_outside, named, names_of, names_one, names_two, one_node, one_shape, outside_shown, shown}
+use Rattle.capnp_request_meaning.proofs.NamesAlike.{alike_scopes, at, bare_dotted, name_outside, named, names_of, names_one, names_two, one_node, one_shape, outside_shown}
 use Rattle.capnp_request_meaning.proofs.NamesDiffer.{not_dotted}
 use Rattle.capnp_request_meaning.proofs.SetsMeant.{IsFirstOf, own_kind, own_place, reached_first}
 use Rattle.capnp_request_meaning.proofs.TypesOwn.{AreOwnNames, EachKnown, IsKnownBound, name_of, scopes_own}
