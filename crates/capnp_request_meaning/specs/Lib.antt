@@ -1,3 +1,4 @@
+pub mod Found
 pub mod Laws
 pub mod Meaning
 pub mod Noted
