@@ -93,8 +93,7 @@ fn find_tenths(significand: u64, gap: u64, down: u32, has_ends: bool) -> Option<
     if down > 89 {
         return None;
     }
-    // 10^-tenths is at most as wide as the interval, and about a tenth of that or more
-    // since 10 is 5 times 2, all is counted over 2^tenths
+    // 10^-tenths is about as many quarters as the interval has, or a few tenths of that; 10 is 5 times 2
     let tenths = (down * 1233 + 2200) / 4096;
     let twos = down - tenths;
     let power = 5u64.checked_pow(tenths)?;
@@ -117,8 +116,7 @@ fn find_tens(significand: u64, gap: u64, up: u32, has_ends: bool) -> Option<Deci
     if up > 89 {
         return None;
     }
-    // 10^tens is at most as wide as the interval, and about a tenth of that or more
-    // since 10 is 5 times 2, all is counted over 2^tens
+    // 10^tens is about as many quarters as the interval has, or a few tenths of that; 10 is 5 times 2
     let tens = (up * 1233 + 1900) / 4096;
     let twos = up - tens;
     let one = 5u64.checked_pow(tens)?;

@@ -1,4 +1,4 @@
-//! Naturals below 2^1152: those of at most 128 bits as numbers.
+//! Naturals below 2^1152: those of at most 128 bits as numbers, so that most floats are written by these alone.
 ghost use Rattle.std.specs.Prelude.{ℕ, ◌≡◌, ◌+◌, ◌*◌, ◌^◌, ◌<◌, ◌≤◌, IfSome, nat_lt};
 ghost use Rattle.capnp_floats.specs.Naturals.{room};
 ghost use Rattle.capnp_floats.specs.Kept.{natural_kept};
