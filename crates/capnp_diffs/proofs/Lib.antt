@@ -1,0 +1,4 @@
+pub mod Equal
+pub mod Leads
+pub mod Steps
+pub mod Walked

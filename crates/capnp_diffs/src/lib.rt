@@ -1,0 +1,3 @@
+//! The calls that make one message into another.
+#![tactic(auto)]
+
