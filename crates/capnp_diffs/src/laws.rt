@@ -1,0 +1,21 @@
+//! What holds of the changes from one record to another.
+ghost use Rattle.capnp_diffs.specs.Laws.{CallsMakeNew, EqualNeedNone, NoneMeansEqual};
+
+/// Calls that make the changes from an old record to a new one, in order, are none refused where there is room, and leave the
+/// new record.
+#[tactic(auto, using(crate::proofs::Steps::calls_make_new))]
+pub fn calls_make_new()
+    ensures { CallsMakeNew }
+{}
+
+/// A record needs no change to become itself.
+#[tactic(auto, using(crate::proofs::Steps::equal_need_none))]
+pub fn equal_need_none()
+    ensures { EqualNeedNone }
+{}
+
+/// Where no change leads from one record to another, they are equal.
+#[tactic(auto, using(crate::proofs::Steps::none_means_equal))]
+pub fn none_means_equal()
+    ensures { NoneMeansEqual }
+{}
