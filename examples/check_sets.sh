@@ -201,6 +201,30 @@ expect 'floats that words set' $status 0 '(gain = 1.5, levels = [[-0.1, inf, 167
 10: get total = 3'
 ./riftcalico json --set "$scratch/floats.set" Trace levels.0.0 < "$scratch/patched" > "$scratch/out" 2> "$scratch/err"
 expect 'a float at a path as JSON' $? 0 '-0.1' ''
+# elements of lists of floats are read as floats, too
+./riftcalico patch --set "$scratch/floats.set" Trace 'append levels.0 1.5' 'insert levels.0.0 -inf' 'resize levels 2' 'copy levels.1 levels.0' \
+    'remove levels.0.1' 'get levels.0.1' 'append floats.value 2.5' 'append counts.value 2' < "$scratch/patched" > "$scratch/message" 2> "$scratch/err"
+status=$?
+capnp decode --short examples/sets/floats.capnp Trace < "$scratch/message" > "$scratch/out"
+expect 'floats in lists that words edit' $status 0 '(gain = 1.5, levels = [[-inf, inf, 16777216, 1.5], [-inf, -0.1, inf, 16777216, 1.5]], floats = (value = [2.5]), counts = (value = [2]), total = 3)' \
+    '6: get levels.0.1 = inf'
+
+# lists of each kind are edited, and parts copied
+(cd examples && capnp compile -o- kinds.capnp) | ./riftcalico schemas > "$scratch/kinds.set"
+./riftcalico new --set "$scratch/kinds.set" Kinds 'append flags true' 'append flags false' 'insert flags.1 true' 'append voids ()' \
+    'append voids ()' 'remove voids.1' 'append wide -1' 'insert wide.0 9223372036854775807' 'append colors blue' 'append colors 7' \
+    'append texts "a\"b"' 'append texts c d' 'insert texts.0 ' 'append blobs 0x"00ff"' 'resize points 2' 'set points.1.x 5' \
+    'copy points.0 points.1' 'resize rows 2' 'append rows.1 -5' 'append rows.1 6' 'remove rows.0' 'append numbers 9' 'copy text texts.1' \
+    'copy point points.0' 'append points 1' > "$scratch/out" 2> "$scratch/err"
+expect 'an element without a word' $? 2 '' "25: append points 1: can't be read at 14; wanted: no word, but its fields"
+./riftcalico new --set "$scratch/kinds.set" Kinds 'append flags true' 'append flags false' 'insert flags.1 true' 'append voids ()' \
+    'append voids ()' 'remove voids.1' 'append wide -1' 'insert wide.0 9223372036854775807' 'append colors blue' 'append colors 7' \
+    'append texts "a\"b"' 'append texts c d' 'insert texts.0 ' 'append blobs 0x"00ff"' 'resize points 2' 'set points.1.x 5' \
+    'copy points.0 points.1' 'resize rows 2' 'append rows.1 -5' 'append rows.1 6' 'remove rows.0' 'append numbers 9' 'copy text texts.1' \
+    'copy point points.0' > "$scratch/message" 2> "$scratch/err"
+status=$?
+capnp decode --short examples/kinds.capnp Kinds < "$scratch/message" > "$scratch/out"
+expect 'lists of each kind' $status 0 '(void = void, truth = false, lie = true, int8 = -8, int16 = -16, int32 = -32, int64 = -64, uint8 = 8, uint16 = 16, uint32 = 32, uint64 = 64, color = green, text = "a\"b", point = (x = 5, y = -1), numbers = [1, 2, 3, 9], flags = [true, true, false], voids = [void], wide = [9223372036854775807, -1], colors = [blue, (7)], texts = ["", "a\"b", "c d"], blobs = ["\000\377"], points = [(x = 5, y = -1), (x = 5, y = -1)], rows = [[-5, 6]], none = void)' ''
 refused endless '' 66
 
 # met CASE TEXT TOLD: where names meet in JSON, both verbs are refused before they read, and the public tool ends

@@ -69,9 +69,9 @@ pub next_all : (schema : StructSchema) (s s' : StructTree) (acts : List Act) (n 
 next_all schema s s' acts n before after some few put made = record { some = some; few = few; replies = replicate n reply.Done; appended = put; made = made }
 
 -- appends of values that were made as one
-pub all_joined : (schema : StructSchema) (s s' : StructTree) (acts : List Act) (path : List PathStep) (ss : List Source) (n : ℕ) → n ≤ length acts → AreAppends path ss (take n acts) → EditsTo schema s path (Append ss) Done s' → ActsMade schema s (take n acts) (replicate n reply.Done) s'
-all_joined schema s s' acts path ss n few appends edits =
-    subst (λ (k : ℕ). ActsMade schema s (take n acts) (replicate k reply.Done) s') (length-take-le n acts few) (together path ss (take n acts) s s' appends edits)
+pub all_joined : (schema : StructSchema) (s s' : StructTree) (acts : List Act) (path : List PathStep) (ss : List Source) (n : ℕ) → 0 < n → n ≤ length acts → AreAppends path ss (take n acts) → EditsTo schema s path (Append ss) Done s' → ActsMade schema s (take n acts) (replicate n reply.Done) s'
+all_joined schema s s' acts path ss n some few appends edits =
+    subst (λ (k : ℕ). ActsMade schema s (take n acts) (replicate k reply.Done) s') (length-take-le n acts few) (together path ss (take n acts) s s' (omega (arith, some, length-take-le n acts few)) appends edits)
 
 -- those so far, and the next
 pub acts_more : (schema : StructSchema) (s t u : StructTree) (acts : List Act) (i n : ℕ) (before after : List Reply) → ActsMade schema s (take i acts) before t → IsNextOf schema t (drop i acts) n before after u → ActsMade schema s (take (i + n) acts) after u
@@ -83,5 +83,5 @@ acts_more schema s t u acts i n before after h next =
 -- values of the first acts, which were appended at once or not
 pub joined_as : (schema : StructSchema) (s s' : StructTree) (acts : List Act) (path : List PathStep) (ss : List Source) (n : ℕ) (j : Joined) → length ss ≡ n → 2 ≤ n → n ≤ length acts → AreAppends path ss (take n acts) → IsAppendedAs schema s path ss j s' → IsJoinedAs schema s acts j s'
 joined_as schema s s' acts path ss n (joined.All k) count two few appends h =
-    subst (λ (i : ℕ). IsJoinedAs schema s acts (joined.All i) s') (sym (h.0 ∙ count)) (omega (arith, two), few, all_joined schema s s' acts path ss n few appends h.1)
+    subst (λ (i : ℕ). IsJoinedAs schema s acts (joined.All i) s') (sym (h.0 ∙ count)) (omega (arith, two), few, all_joined schema s s' acts path ss n (omega (arith, two)) few appends h.1)
 joined_as schema s s' acts path ss n (joined.Apart k) count two few appends h = (omega (arith, h.0, count, two), inr (path, ss, n, h.1, omega (arith, two), few, appends, h.2, h.3))

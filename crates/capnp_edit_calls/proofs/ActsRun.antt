@@ -42,7 +42,7 @@ module _ (schema : StructSchema) where
   acts_tree_run _ _ _ _ (called c r s s' made) = (call_seen c ∷ [], reply_seen r ∷ [], (s', made.step, refl))
   acts_tree_run _ _ _ _ (edited e r s s' h) = edit_run s s' _ _ _ h
   acts_tree_run _ _ _ _ (copied c r s s' h) = copy_run s s' _ _ _ h
-  acts_tree_run _ _ _ _ (together path ss acts s s' appends h) = edit_run s s' _ _ _ h
+  acts_tree_run _ _ _ _ (together path ss acts s s' some appends h) = edit_run s s' _ _ _ h
   acts_tree_run _ _ _ _ (tried path ss a xs more r rs s t u appends other h made) = both_run s t u (edit_run s t _ _ _ h) (acts_tree_run t u (a ∷ xs) rs made)
   acts_tree_run _ _ _ _ (both xs ys rs us s t u a b) = both_run s t u (acts_tree_run s t xs rs a) (acts_tree_run t u ys us b)
 

@@ -5,7 +5,9 @@ pub mod Copied
 pub mod EditedRecords
 pub mod Found
 pub mod Joins
+pub mod Left
 pub mod ListPuts
 pub mod PathTypes
+pub mod PlainActs
 pub mod Roots
 pub mod RowsEditCalls

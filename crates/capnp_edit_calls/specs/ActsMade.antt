@@ -1,5 +1,5 @@
 -- What calls and edits do one after another, one reply to each.
-use Rattle.std.specs.Prelude.{◌≡◌, ◌≢◌, ⊤, List, [], ◌∷◌, ◌++◌, length, replicate}
+use Rattle.std.specs.Prelude.{◌<◌, ◌≡◌, ◌≢◌, ⊤, List, [], ◌∷◌, ◌++◌, length, replicate}
 use Rattle.capnp_wire.specs.Tree.{StructTree}
 use Rattle.capnp_schema.specs.StructHandles.{number_of, set_of}
 use Rattle.capnp_schema.specs.declared.schema.structs.StructSchema.{StructSchema}
@@ -45,6 +45,6 @@ pub data ActsMade (schema : StructSchema) : StructTree → List Act → List Rep
   called : (c : Call) (r : Reply) (s s' : StructTree) → IsCallMade (set_of schema) (number_of schema) s c r s' → ActsMade schema s (act.Call c ∷ []) (r ∷ []) s'
   edited : (e : ListEdit) (r : Reply) (s s' : StructTree) → edit_to schema s e r s' → ActsMade schema s (act.Edit e ∷ []) (r ∷ []) s'
   copied : (c : PathCopy) (r : Reply) (s s' : StructTree) → CopiesTo schema s (path_seen c.path.now) (path_seen c.from.now) (reply_seen r) s' → ActsMade schema s (act.Copy c ∷ []) (r ∷ []) s'
-  together : (path : List PathStep) (ss : List Source) (acts : List Act) (s s' : StructTree) → AreAppends path ss acts → EditsTo schema s path (Append ss) Done s' → ActsMade schema s acts (replicate (length acts) reply.Done) s'
+  together : (path : List PathStep) (ss : List Source) (acts : List Act) (s s' : StructTree) → 0 < length acts → AreAppends path ss acts → EditsTo schema s path (Append ss) Done s' → ActsMade schema s acts (replicate (length acts) reply.Done) s'
   tried : (path : List PathStep) (ss : List Source) (a : Act) (xs more : List Act) (r : ReplySeen) (rs : List Reply) (s t u : StructTree) → AreAppends path ss (a ∷ more) → r ≢ Done → EditsTo schema s path (Append ss) r t → ActsMade schema t (a ∷ xs) rs u → ActsMade schema s (a ∷ xs) rs u
   both : (xs ys : List Act) (rs us : List Reply) (s t u : StructTree) → ActsMade schema s xs rs t → ActsMade schema t ys us u → ActsMade schema s (xs ++ ys) (rs ++ us) u

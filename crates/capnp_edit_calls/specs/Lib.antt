@@ -1,4 +1,6 @@
+pub mod ActsLeft
 pub mod ActsMade
+pub mod ActsSeen
 pub mod ChangesSeen
 pub mod Copies
 pub mod EditsMade

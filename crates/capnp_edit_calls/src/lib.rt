@@ -6,6 +6,7 @@ pub mod appends;
 pub mod change;
 pub mod copy;
 pub mod edit;
+pub mod engine;
 pub mod laws;
 pub mod message;
 pub mod runs;

@@ -5,21 +5,27 @@ ghost use Rattle.capnp_device.specs.declared.error.ErrorKind.TheVariants.{OutOfM
 ghost use Rattle.capnp_wire.specs.Edits.{is_struct, struct_in};
 ghost use Rattle.capnp_wire.specs.Standing.{tree_of};
 ghost use Rattle.capnp_arena.specs.Message.{IsMessage, message_tree};
+ghost use Rattle.capnp_arena.specs.Segment.{segment};
+ghost use Rattle.capnp_arena.specs.Shape.{word_count};
 ghost use Rattle.capnp_schema.specs.StructHandles.{IsStruct};
 ghost use Rattle.capnp_slots.specs.Standing.{IsUnder};
-ghost use Rattle.capnp_call.specs.Messages.{IsRoot, copied_root, new_root, root_refusal};
+ghost use Rattle.capnp_call.specs.Messages.{IsRoot, copied_root, most_words, new_root, root_refusal};
+ghost use Rattle.capnp_edit_calls.specs.ActsLeft.{IsActsLeftOfCopy, IsActsLeftOfNew};
 ghost use Rattle.capnp_edit_calls.specs.ActsMade.{ActsMade};
 ghost use Rattle.capnp_edit_calls.specs.Steps.Next.{IsNextOf};
 
 use crate::acts::Act;
+use crate::laws::acts_law;
 use crate::runs::{Next, make_next};
 use capnp_arena::message::Builder;
 use capnp_arena::segment::bytes_of;
 use capnp_call::calls::Reply;
-use capnp_call::message::{Run, run_copied, run_new};
+use capnp_call::message::{MOST_WORDS, Run, run_copied, run_new};
+use capnp_records::laws::overlay_law;
+use capnp_schema::laws::numbers_fit;
 use capnp_schema::schema::StructSchema;
 use capnp_wire::PointerReader;
-use capnp_wire::error::Result;
+use capnp_wire::error::{Error, ErrorKind, Result};
 use std::alloc::Global;
 
 /// Compacts a message, and answers the words that it holds then; where there is no memory to, those that it held.
@@ -141,8 +147,19 @@ pub fn run_acts(
     replies
 }
 
-/// Makes calls and edits on an empty root of a new message, as `run_acts`. The limit is one of words, as that of
-/// `run_new`.
+/// Asks whether a message has at most the words of its limit, which no act changes; else refused with `OutOfMemory`.
+fn keep_within(message: &Builder, limit: usize) -> Result<()>
+    ensures within { OnOk result (word_count (segment message.now) ≤ most_words limit) }
+    ensures cause { IfErr result (λ e. e.kind ≡ OutOfMemory) }
+{
+    if bytes_of(message).len() / 8 > limit.max(1).min(MOST_WORDS) {
+        return Err(Error::from(ErrorKind::OutOfMemory));
+    }
+    Ok(())
+}
+
+/// Makes calls and edits on an empty root of a new message, as `run_acts`. The message never has more words than `limit`,
+/// as that of `run_new`. Where all are calls, what they leave is what `run_new` says of them.
 ///
 /// Refused with `OutOfMemory` alone, where there is no room for the root or the replies.
 ///
@@ -160,18 +177,26 @@ pub fn run_acts_new(
     ensures root { IfOk result (λ left. IsRoot schema.entry (message_tree left.message)) }
     ensures made { IfOk result (λ left. ActsMade schema.entry (new_root schema.entry) acts.now left.replies.items
         (struct_in (message_tree left.message))) }
+    ensures left { IfOk result (λ left. IsActsLeftOfNew schema.entry acts.now left.replies.items
+        (message_tree left.message)) }
+    ensures within { IfOk result (λ left. word_count (segment left.message) ≤ most_words limit) }
     ensures cause { IfErr result (λ e. e.kind ≡ OutOfMemory) }
 {
+    acts_law();
+    overlay_law();
+    numbers_fit(schema.get_set());
     let Run {
         mut message,
         replies: _,
     } = run_new(alloc, limit, schema, &[])?;
     let replies = run_acts(alloc, &mut message, schema, acts)?;
+    keep_within(&message, limit)?;
     Ok(Run { message, replies })
 }
 
-/// Makes calls and edits on a copy of a message's root, which is a struct, as `run_acts`. The limit is one of words, as
-/// that of `run_new`. What the schema doesn't know stays as the source has it.
+/// Makes calls and edits on a copy of a message's root, which is a struct, as `run_acts`. The message never has more words
+/// than `limit`, as that of `run_copied`. What the schema doesn't know stays as the source has it. Where all are calls, what
+/// they leave is what `run_copied` says of them.
 ///
 /// Refused with `BadPointer`, `TooDeep` or `CapabilityPointer` where a pointer in the source can't be followed, by the
 /// first of these in preorder; else with `WrongPointerKind` where the source is a list; and with `OutOfMemory`.
@@ -191,13 +216,20 @@ pub fn run_acts_copied(
     ensures root { IfOk result (λ left. IsRoot schema.entry (message_tree left.message)) }
     ensures made { IfOk result (λ left. ActsMade schema.entry (copied_root schema.entry source.entry) acts.now
         left.replies.items (struct_in (message_tree left.message))) }
+    ensures left { IfOk result (λ left. IsActsLeftOfCopy schema.entry (tree_of source.entry) acts.now left.replies.items
+        (message_tree left.message)) }
+    ensures within { IfOk result (λ left. word_count (segment left.message) ≤ most_words limit) }
     ensures sound { OnOk result (root_refusal (tree_of source.entry) ≡ None) }
     ensures cause { IfErr result (λ e. e.kind ≢ OutOfMemory → root_refusal (tree_of source.entry) ≡ Some e.kind) }
 {
+    acts_law();
+    overlay_law();
+    numbers_fit(schema.get_set());
     let Run {
         mut message,
         replies: _,
     } = run_copied(alloc, limit, source, schema, &[])?;
     let replies = run_acts(alloc, &mut message, schema, acts)?;
+    keep_within(&message, limit)?;
     Ok(Run { message, replies })
 }

@@ -6,9 +6,10 @@ use Rattle.std.proofs.lemmas.Bool.Decides.{nat_tests}
 use Rattle.capnp_records.specs.Call.{PathStep, FieldNumber, FieldNamed, ElementAt}
 use Rattle.capnp_words.specs.Reads.{Read, read_as}
 use Rattle.capnp_words.specs.Paths.{is_space, steps_at, step_word, words_of_path, parts_at}
-use Rattle.capnp_words.specs.Calls.{CallOp, Get, Has, Which, Set, Init, Initn, Clear, call_at, call_of, op_word, size_given, value_given, with_argument}
+use Rattle.capnp_words.specs.Calls.{Append, CallOp, Clear, Copy, Get, Has, Init, Initn, Insert, Remove, Resize, Set, Which, append_given, call_at, call_of, count_given, element_at, element_path, from_given, indexed, insert_given, op_word, size_given, value_given, with_argument, with_element}
 use Rattle.capnp_words.specs.Laws.{CallsAreRead, IsCallOf, IsNonEmptyPath, IsPathStep}
 use Rattle.capnp_words.proofs.DigitsRead.{decimal_again, decimal_digits}
+use Rattle.capnp_words.proofs.Indexes.{indexed_last}
 use Rattle.capnp_words.proofs.PathsRead.{parts_again, path_again, split_joined}
 
 -- ---- no path has a space ----
@@ -68,6 +69,22 @@ part_again : (place : ℕ) (path : List PathStep) → IsNonEmptyPath path → st
 part_again place [] h = absurd (omega (arith, h.1))
 part_again place (s ∷ ss) h = ap (parts_at place) (split_joined s ss h.0) ∙ parts_again place (s ∷ ss) h.0
 
+-- ---- elements ----
+
+indexed_again : (end : ℕ) (path : List PathStep) (i : ℕ) → indexed end (element_path path i) ≡ Ok (path, i)
+indexed_again end path i = indexed_last end path (ElementAt i)
+
+element_again : (place : ℕ) (path : List PathStep) (i : ℕ) → IsNonEmptyPath (element_path path i) → element_at place (words_of_path (element_path path i)) ≡ Ok (path, i)
+element_again place path i h = rw (part_again place (element_path path i) h) (indexed_again (place + length (words_of_path (element_path path i))) path i)
+
+with_element_again : (place : ℕ) (v : List ℕ) (path : List PathStep) (i : ℕ) → IsNonEmptyPath (element_path path i)
+    → with_element insert_given place (words_of_path (element_path path i) ++ 32 ∷ v) ≡ Ok (call_of (Insert i v (place + (length (words_of_path (element_path path i)) + 1))) path)
+with_element_again place v path i h =
+    let w = words_of_path (element_path path i) in
+    let at : position_or_len is_space (w ++ 32 ∷ v) ≡ length w = first_space w v (path_no_space (element_path path i) h.0) in
+    let inside : nat_lt (length w) (length (w ++ 32 ∷ v)) ≡ true = grind (arith, nat_tests, length-append w (32 ∷ v)) in
+    rw (at, take_front w (32 ∷ v), element_again place path i h, inside, drop_space w v) refl
+
 call_again : (path : List PathStep) (op : CallOp) → IsCallOf path op → call_at (op_word path op) ≡ Ok (call_of op path)
 call_again path Get h = ap (read_as (call_of Get)) (part_again 4 path h)
 call_again path Has h = ap (read_as (call_of Has)) (part_again 4 path h)
@@ -79,6 +96,16 @@ call_again path (Initn size) h =
     with_again size_given 6 (words_of_path path) (decimal size) path (Initn size) (path_no_space path h.0.0) (part_again 6 path h.0)
     (ap (read_as Initn) (decimal_again 4294967295 (6 + (length (words_of_path path) + 1)) size (omega arith) h.1))
 call_again path Clear h = ap (read_as (call_of Clear)) (part_again 6 path h)
+call_again path (Append value place) h =
+    with_again append_given 7 (words_of_path path) value path (Append value place) (path_no_space path h.0.0) (part_again 7 path h.0) (ap (λ p. Ok (Append value p)) (sym h.1))
+call_again path (Insert i value place) h = with_element_again 7 value path i h.0 ∙ ap (λ p. Ok (call_of (Insert i value p) path)) (sym h.1)
+call_again path (Remove i) h = ap (read_as (λ e. call_of (Remove e.1) e.0)) (element_again 7 path i h)
+call_again path (Resize count) h =
+    with_again count_given 7 (words_of_path path) (decimal count) path (Resize count) (path_no_space path h.0.0) (part_again 7 path h.0)
+    (ap (read_as Resize) (decimal_again 4294967295 (7 + (length (words_of_path path) + 1)) count (omega arith) h.1))
+call_again path (Copy from) h =
+    with_again from_given 5 (words_of_path path) (words_of_path from) path (Copy from) (path_no_space path h.0.0) (part_again 5 path h.0)
+    (ap (read_as Copy) (path_again (5 + (length (words_of_path path) + 1)) from h.1))
 
 pub calls_read : CallsAreRead
 calls_read c h = call_again c.path c.op h

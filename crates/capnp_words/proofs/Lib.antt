@@ -3,6 +3,7 @@ pub mod CallsRead
 pub mod DigitsRead
 pub mod DigitsSigned
 pub mod EnumerantNames
+pub mod Indexes
 pub mod NamesRead
 pub mod OfSet
 pub mod PathSteps

@@ -57,6 +57,34 @@ call_get_of_nothing = refl
 call_without_a_value : call_at (codes "set a") ≡ Err 5
 call_without_a_value = refl
 
+call_append : call_at (codes "append a b c") ≡ Ok (record { path = FieldNamed (codes "a") ∷ []; op = call.Append (codes "b c") 9 })
+call_append = refl
+
+call_insert : call_at (codes "insert a.b.3 ") ≡ Ok (record { path = FieldNamed (codes "a") ∷ FieldNamed (codes "b") ∷ []; op = call.Insert 3 [] 13 })
+call_insert = refl
+
+call_remove : call_at (codes "remove a.0.1") ≡ Ok (record { path = FieldNamed (codes "a") ∷ ElementAt 0 ∷ []; op = call.Remove 1 })
+call_remove = refl
+
+call_resize : call_at (codes "resize a 7") ≡ Ok (record { path = FieldNamed (codes "a") ∷ []; op = call.Resize 7 })
+call_resize = refl
+
+call_copy : call_at (codes "copy a .") ≡ Ok (record { path = FieldNamed (codes "a") ∷ []; op = call.Copy [] })
+call_copy = refl
+
+-- an index is missing
+call_insert_nowhere : call_at (codes "insert a.b 1") ≡ Err 10
+call_insert_nowhere = refl
+
+call_remove_nothing : call_at (codes "remove a.#1") ≡ Err 11
+call_remove_nothing = refl
+
+call_copy_of_nothing : call_at (codes "copy a") ≡ Err 6
+call_copy_of_nothing = refl
+
+call_of_two_names : call_at (codes "resort a 1") ≡ Err 3
+call_of_two_names = refl
+
 call_of_another_name : call_at (codes "initm a") ≡ Err 4
 call_of_another_name = refl
 

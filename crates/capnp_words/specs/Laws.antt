@@ -9,7 +9,7 @@ use Rattle.capnp_records.specs.Record as value
 use Rattle.capnp_records.specs.Record.{Value}
 use Rattle.capnp_records.specs.Text.{said_text, text_of}
 use Rattle.capnp_words.specs.Paths.{is_dot, is_space, path_at, words_of_path}
-use Rattle.capnp_words.specs.Calls.{CallOp, CallText, Get, Has, Which, Set, Init, Initn, Clear, call_at, call_word}
+use Rattle.capnp_words.specs.Calls.{Append, CallOp, CallText, Clear, Copy, Get, Has, Init, Initn, Insert, Remove, Resize, Set, Which, call_at, call_word, element_path}
 use Rattle.capnp_words.specs.Values.{greatest_signed, greatest_unsigned, enumerant_words, value_by_word}
 
 -- ---- paths ----
@@ -53,6 +53,11 @@ IsCallOf path (Set value place) = IsNonEmptyPath path × (place ≡ 4 + (length 
 IsCallOf path Init = IsNonEmptyPath path
 IsCallOf path (Initn size) = IsNonEmptyPath path × (size ≤ 4294967295)
 IsCallOf path Clear = IsNonEmptyPath path
+IsCallOf path (Append value place) = IsNonEmptyPath path × (place ≡ 7 + (length (words_of_path path) + 1))
+IsCallOf path (Insert i value place) = IsNonEmptyPath (element_path path i) × (place ≡ 7 + (length (words_of_path (element_path path i)) + 1))
+IsCallOf path (Remove i) = IsNonEmptyPath (element_path path i)
+IsCallOf path (Resize count) = IsNonEmptyPath path × (count ≤ 4294967295)
+IsCallOf path (Copy from) = IsNonEmptyPath path × AllByRecursion IsPathStep from
 
 -- a call that is written as a word is read as that call
 abbrev pub CallsAreRead : Type 0

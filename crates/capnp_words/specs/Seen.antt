@@ -39,6 +39,11 @@ op_text_seen (op.Set bytes place) = text.Set bytes.items place
 op_text_seen op.Init = text.Init
 op_text_seen (op.Initn size) = text.Initn size
 op_text_seen op.Clear = text.Clear
+op_text_seen (op.Append bytes place) = text.Append bytes.items place
+op_text_seen (op.Insert i bytes place) = text.Insert i bytes.items place
+op_text_seen (op.Remove i) = text.Remove i
+op_text_seen (op.Resize count) = text.Resize count
+op_text_seen (op.Copy from) = text.Copy (path_text_seen from)
 
 abbrev pub call_text_seen : CallWord → CallText
 call_text_seen c = record { path = path_text_seen c.path; op = op_text_seen c.op }

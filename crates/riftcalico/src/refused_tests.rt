@@ -278,6 +278,19 @@ new|Flat|initn a -> 1: initn a: can't be read at 7; usage
 patch|Flat|set|a|5 -> 1: set: can't be read at 3; usage
 new|Flat|set a 5|clear|a -> 2: clear: can't be read at 5; usage
 new|Flat|which -> 1: which: can't be read at 5; usage
+# edits: an index, a value, a size or a path is missing, or is none
+patch|Lists|insert bytes 1 -> 1: insert bytes 1: can't be read at 12; usage
+patch|Lists|insert bytes.1 -> 1: insert bytes.1: can't be read at 14; usage
+patch|Lists|remove items.#0 -> 1: remove items.#0: can't be read at 15; usage
+patch|Lists|remove . -> 1: remove .: can't be read at 7; usage
+new|Lists|append bytes -> 1: append bytes: can't be read at 12; usage
+new|Lists|append . 1 -> 1: append . 1: can't be read at 7; usage
+new|Lists|resize bytes 4294967296 -> 1: resize bytes 4294967296: can't be read at 22; usage
+new|Lists|copy items.0 -> 1: copy items.0: can't be read at 12; usage
+new|Lists|copy items.0 items. -> 1: copy items.0 items.: can't be read at 19; usage
+patch|Lists|reserve bytes 1 -> 1: reserve bytes 1: can't be read at 3; usage
+# a word that is no call is told before a value
+patch|Lists|append bytes 256|remove bytes -> 2: remove bytes: can't be read at 12; usage
 # a control character is told by its number
 patch|Flat|get\u{1b}a -> 1: get\\u{1b}a: can't be read at 3; usage
 new|Flat|clear a b -> 1: clear a b: can't be read at 7; usage

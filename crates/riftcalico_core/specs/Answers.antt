@@ -6,15 +6,16 @@ use Rattle.capnp_device.specs.declared.error.ErrorKind.TheVariants.{TooLarge}
 use Rattle.capnp_arena.specs.Message.{IsMessage}
 use Rattle.capnp_call.specs.Messages.{most_words}
 use Rattle.capnp_call.specs.Refusals.{any_refused}
-use Rattle.capnp_call.specs.Seen.{call_seen, path_seen}
-use Rattle.capnp_call.specs.declared.calls.Call.{Call}
+use Rattle.capnp_call.specs.Seen.{path_seen}
 use Rattle.capnp_call.specs.declared.calls.Reply.{Reply}
 use Rattle.capnp_dynamic_readers.specs.Pieces.{IsAppended}
 use Rattle.capnp_packed.specs.Received.{received_message}
-use Rattle.capnp_patch.specs.Patches.{IsLeftOfBytes, IsLeftOfNew, IsUnread, is_kept, words_within}
+use Rattle.capnp_edit_calls.specs.ActsLeft.{IsActsLeftOfBytes, IsActsLeftOfNew}
+use Rattle.capnp_edit_calls.specs.ActsSeen.{ActSeen, act_seen}
+use Rattle.capnp_edit_calls.specs.declared.acts.Act.{Act}
+use Rattle.capnp_patch.specs.Patches.{IsUnread, is_kept, words_within}
 use Rattle.capnp_patch.specs.Places.{AreFewLookedAt, AreRefusedAt, HasFewParts, HasMoreParts}
 use Rattle.capnp_patch.specs.declared.place.Refusals.{Refusals}
-use Rattle.capnp_records.specs.Call as record_call
 use Rattle.capnp_records.specs.Call.{PathStep}
 use Rattle.capnp_schema.specs.Entries.{lists_seen}
 use Rattle.capnp_schema.specs.Schema.{Schemas}
@@ -27,7 +28,7 @@ use Rattle.capnp_structs.specs.Limits.{HasRefused, IsLong}
 use Rattle.capnp_structs.specs.Names.{structs_text}
 use Rattle.capnp_wire.specs.Tree.{Tree}
 use Rattle.riftcalico_core.specs.AllFaults.{any_told, refusals_lines}
-use Rattle.riftcalico_core.specs.CallsSeen.{read_call_seen}
+use Rattle.riftcalico_core.specs.CallsSeen.{read_act_seen}
 use Rattle.riftcalico_core.specs.Comparisons.{IsCompareAnswer, IsUncompared, compare_blamed}
 use Rattle.riftcalico_core.specs.Depths.{IsDepthTold}
 use Rattle.riftcalico_core.specs.FromJson.{IsFromJsonAnswer}
@@ -38,7 +39,7 @@ use Rattle.riftcalico_core.specs.Outputs.{IsMessageOutput}
 use Rattle.riftcalico_core.specs.Quiet.{IsQuiet}
 use Rattle.riftcalico_core.specs.Room.{FitsIn, IsBelowFormat, IsLongText, IsPastLimit, IsRoomless}
 use Rattle.riftcalico_core.specs.Shown.{IsNotShown, IsTextThere}
-use Rattle.riftcalico_core.specs.Replies.{AreNoted}
+use Rattle.riftcalico_core.specs.Replies.{AreNoted, asked_calls}
 use Rattle.riftcalico_core.specs.declared.answer.Answer.{Answer}
 use Rattle.riftcalico_core.specs.declared.answer.Output.{Output}
 use Rattle.riftcalico_core.specs.declared.answer.Output.TheVariants as output
@@ -135,34 +136,34 @@ IsRunOutput false packed t o = o ≡ output.Nothing
 -- what a run left is written, unless a call was refused and it isn't kept all the same; the replies are told, and that the
 -- message is deep. Refusals for want of memory are told as ones for the limit where that is the cause, as it can only be of a
 -- limit below the format's.
-pub record IsRunAnswer (j : CallsJob) (calls : List record_call.Call) (replies : List Reply) (root : Tree) (a : Answer) : Type 0 where
+pub record IsRunAnswer (j : CallsJob) (acts : List ActSeen) (replies : List Reply) (root : Tree) (a : Answer) : Type 0 where
   pub output : IsRunOutput (is_kept j.keep_going replies) j.packed root a.output
   pub lines : List ℕ
   pub by_limit : Bool
   pub below : by_limit ≡ true → IsBelowFormat j.limit
-  pub told : AreNoted (set_of j.schema) (number_of j.schema) by_limit 0 (map (λ w. w.now) j.words.now) calls replies [] lines
+  pub told : AreNoted (set_of j.schema) (number_of j.schema) by_limit 0 (map (λ w. w.now) j.words.now) (asked_calls (set_of j.schema) (number_of j.schema) acts) replies [] lines
   pub depth : IsDepthTold (is_kept j.keep_going replies) root lines (string_bytes a.lines)
   pub refused : a.refused ≡ any_refused replies
 
--- calls are those of the job, and leave some root, which fits into the limit
-pub record IsCallsAnswer (j : CallsJob) (leaves : List Call → List Reply → Tree → Type 0) (a : Answer) : Type 0 where
-  pub calls : List Call
-  pub are : map call_seen calls ≡ map read_call_seen j.calls.items
+-- calls, edits and copies are those of the job, and leave some root, which fits into the limit
+pub record IsCallsAnswer (j : CallsJob) (leaves : List Act → List Reply → Tree → Type 0) (a : Answer) : Type 0 where
+  pub acts : List Act
+  pub are : map act_seen acts ≡ map read_act_seen j.calls.items
   pub replies : List Reply
   pub root : Tree
-  pub left : leaves calls replies root
+  pub left : leaves acts replies root
   pub within : FitsIn (most_words (words_within j.limit)) root
-  pub answer : IsRunAnswer j (map call_seen calls) replies root a
+  pub answer : IsRunAnswer j (map act_seen acts) replies root a
 
 abbrev pub IsPatchAnswer : CallsJob → (bytes : List ℕ) → Answer → Type 0
-IsPatchAnswer j bytes a = IsCallsAnswer j (λ calls replies root. IsLeftOfBytes j.schema bytes calls replies root) a
+IsPatchAnswer j bytes a = IsCallsAnswer j (λ acts replies root. IsActsLeftOfBytes j.schema bytes acts replies root) a
 
 -- the root isn't copied, or has no room within the limit
 abbrev pub IsUnpatched : (limit : ℕ) → (bytes : List ℕ) → ErrorKind → Type 0
 IsUnpatched limit bytes kind = IsUnread bytes kind ⊎ IsPastLimit limit kind
 
 abbrev pub IsNewAnswer : CallsJob → Answer → Type 0
-IsNewAnswer j a = IsCallsAnswer j (λ calls replies root. IsLeftOfNew j.schema calls replies root) a
+IsNewAnswer j a = IsCallsAnswer j (λ acts replies root. IsActsLeftOfNew j.schema acts replies root) a
 
 -- ---- sets ----
 

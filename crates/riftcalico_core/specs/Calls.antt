@@ -1,11 +1,14 @@
--- The calls that words stand for, under a struct of a set.
+-- The calls and edits that words stand for, under a struct of a set.
 use Rattle.std.specs.Prelude.{ℕ, ◌+◌, List, [], ◌∷◌, Bool, Option, Some, None, Ok, Err, pos}
+use Rattle.std.specs.Option.{option_and_then}
 use Rattle.capnp_schema.specs.Schema.{Schemas}
-use Rattle.capnp_schema.specs.Types.{BoolType, DataType, EnumType, IntType, SchemaType, TextType, UIntType}
+use Rattle.capnp_schema.specs.Types.{BoolType, DataType, EnumType, IntType, ListType, SchemaType, TextType, UIntType}
 use Rattle.capnp_records.specs.Call as call
 use Rattle.capnp_records.specs.Call.{BoolSource, Call, DataSource, EnumSource, FieldNumber, IntSource, Op, PathStep, Source, TextSource, UIntSource, VoidSource}
 use Rattle.capnp_records.specs.Record as value
 use Rattle.capnp_records.specs.Record.{Value}
+use Rattle.capnp_edits.specs.Changes.{Append, Insert, Remove, Resize}
+use Rattle.capnp_edit_calls.specs.ActsSeen.{ActSeen, CallAct, CopyAct, EditAct}
 use Rattle.capnp_json.specs.Json.{plain}
 use Rattle.capnp_queries.specs.Floats.{steps_on}
 use Rattle.capnp_words.specs.Calls as text
@@ -33,26 +36,41 @@ shifted_read place (Err inner) = Err (place + inner)
 abbrev pub floats_along : Schemas → SchemaType → List PathStep → Bool
 floats_along set t path = (steps_on set path (record { type = t; form = plain })).form.floats
 
--- What a call is given: of a set the value, read under the type that its path leads to, where its numbers are floats or not. Where
--- that leads to no type the set is refused for its path, whatever it is given. Other calls are given nothing, which is a void here.
+-- the type of a list's elements
+abbrev pub element_of : SchemaType → Option SchemaType
+element_of (ListType element) = Some element
+element_of t = None
+
+-- the type that a value is read under: that of what its path leads to, or of an append and an insertion that of the elements there
+abbrev pub given_type : CallOp → Option SchemaType → Option SchemaType
+given_type (text.Append bytes place) t = option_and_then element_of t
+given_type (text.Insert i bytes place) t = option_and_then element_of t
+given_type op t = t
+
+-- A value, whose numbers are floats or not. Where there is no type the call is refused for its path, whatever it is given.
+abbrev pub source_read : Schemas → (floats : Bool) → Option SchemaType → (bytes : List ℕ) → (place : ℕ) → Read Source
+source_read set floats None bytes place = Ok VoidSource
+source_read set floats (Some t) bytes place = shifted_read place (read_as (source_taken t) (marked_value_by_word set floats t bytes))
+
+-- what a call or an edit is given, under the type of its value; of those that have no value nothing, which is a void here
 abbrev pub source_given : Schemas → (floats : Bool) → Option SchemaType → CallOp → Read Source
-source_given set floats None (text.Set bytes place) = Ok VoidSource
-source_given set floats (Some t) (text.Set bytes place) = shifted_read place (read_as (source_taken t) (marked_value_by_word set floats t bytes))
+source_given set floats t (text.Set bytes place) = source_read set floats t bytes place
+source_given set floats t (text.Append bytes place) = source_read set floats t bytes place
+source_given set floats t (text.Insert i bytes place) = source_read set floats t bytes place
 source_given set floats t text.Get = Ok VoidSource
 source_given set floats t text.Has = Ok VoidSource
 source_given set floats t text.Which = Ok VoidSource
 source_given set floats t text.Init = Ok VoidSource
 source_given set floats t (text.Initn size) = Ok VoidSource
 source_given set floats t text.Clear = Ok VoidSource
+source_given set floats t (text.Remove i) = Ok VoidSource
+source_given set floats t (text.Resize count) = Ok VoidSource
+source_given set floats t (text.Copy from) = Ok VoidSource
 
-abbrev pub op_given : Source → CallOp → Op
-op_given s text.Get = call.Get
-op_given s text.Has = call.Has
-op_given s text.Which = call.Which
-op_given s (text.Set bytes place) = call.Set s
-op_given s text.Init = call.Init
-op_given s (text.Initn size) = call.Initn size
-op_given s text.Clear = call.Clear
+-- the path of what is copied; else none
+abbrev pub from_of : CallOp → List PathStep
+from_of (text.Copy from) = from
+from_of op = []
 
 abbrev pub with_step : PathStep → Call → Call
 with_step s c = record { path = s ∷ c.path; last = c.last; op = c.op }
@@ -64,18 +82,27 @@ split (s ∷ []) op = record { path = []; last = s; op = op }
 split (s ∷ t ∷ ss) op = with_step s (split (t ∷ ss) op)
 
 -- a struct that is asked for its member stands at the end of the whole path, and no last step is looked at
-abbrev pub placed_call : List PathStep → Op → Call
-placed_call path call.Get = split path call.Get
-placed_call path call.Has = split path call.Has
-placed_call path call.Which = record { path = path; last = FieldNumber 0; op = call.Which }
-placed_call path (call.Set s) = split path (call.Set s)
-placed_call path call.Init = split path call.Init
-placed_call path (call.Initn size) = split path (call.Initn size)
-placed_call path call.Clear = split path call.Clear
+abbrev pub member_asked : List PathStep → Call
+member_asked path = record { path = path; last = FieldNumber 0; op = call.Which }
 
-abbrev pub call_given : CallText → Source → Call
-call_given c s = placed_call c.path (op_given s c.op)
+-- what is done along a path, with what is given and the path of what is copied
+abbrev pub act_placed : List PathStep → Source → (from : List PathStep) → CallOp → ActSeen
+act_placed path s from text.Get = CallAct (split path call.Get)
+act_placed path s from text.Has = CallAct (split path call.Has)
+act_placed path s from text.Which = CallAct (member_asked path)
+act_placed path s from (text.Set bytes place) = CallAct (split path (call.Set s))
+act_placed path s from text.Init = CallAct (split path call.Init)
+act_placed path s from (text.Initn size) = CallAct (split path (call.Initn size))
+act_placed path s from text.Clear = CallAct (split path call.Clear)
+act_placed path s from (text.Append bytes place) = EditAct path (Append (s ∷ []))
+act_placed path s from (text.Insert i bytes place) = EditAct path (Insert i s)
+act_placed path s from (text.Remove i) = EditAct path (Remove i)
+act_placed path s from (text.Resize count) = EditAct path (Resize count)
+act_placed path s from (text.Copy f) = CopyAct path from
 
--- a call as it is read, with the type of the root
-abbrev pub call_read : Schemas → (root : SchemaType) → CallText → Read Call
-call_read set root c = read_as (call_given c) (source_given set (floats_along set root c.path) (type_along set root c.path) c.op)
+abbrev pub act_given : CallText → Source → ActSeen
+act_given c s = act_placed c.path s (from_of c.op) c.op
+
+-- a call or an edit as it is read, with the type of the root
+abbrev pub call_read : Schemas → (root : SchemaType) → CallText → Read ActSeen
+call_read set root c = read_as (act_given c) (source_given set (floats_along set root c.path) (given_type c.op (type_along set root c.path)) c.op)

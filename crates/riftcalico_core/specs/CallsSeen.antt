@@ -3,11 +3,12 @@ use Rattle.std.specs.Prelude.{List, map, Result, Ok, Err}
 use Rattle.std.specs.declared.vec.Vec.{Vec}
 use Rattle.capnp_call.specs.Seen as call
 use Rattle.capnp_dynamic_readers.specs.Handles.{enum_value_number}
-use Rattle.capnp_records.specs.Call.{BoolSource, Call, DataSource, EnumSource, IntSource, Source, TextSource, UIntSource, VoidSource}
+use Rattle.capnp_edit_calls.specs.ActsSeen.{ActSeen}
+use Rattle.capnp_records.specs.Call.{BoolSource, DataSource, EnumSource, IntSource, Source, TextSource, UIntSource, VoidSource}
 use Rattle.capnp_words.specs.Seen.{op_text_seen}
 use Rattle.capnp_words.specs.declared.value.PlainValue.{PlainValue}
 use Rattle.capnp_words.specs.declared.value.PlainValue.TheVariants as plain
-use Rattle.riftcalico_core.specs.Calls.{op_given, placed_call}
+use Rattle.riftcalico_core.specs.Calls.{act_placed}
 use Rattle.riftcalico_core.specs.Reads.{Reads}
 use Rattle.riftcalico_core.specs.declared.calls.ReadCall.{ReadCall}
 use Rattle.riftcalico_core.specs.declared.calls.Unreadable.{Unreadable}
@@ -28,9 +29,12 @@ word_value_source (plain.Enum e) = EnumSource (enum_value_number e)
 word_value_source (plain.Text bytes) = TextSource bytes.items
 word_value_source (plain.«Data» bytes) = DataSource bytes.items
 
--- a call that was read, with its value and its steps
-abbrev pub read_call_seen : ReadCall → Call
-read_call_seen c = placed_call (call.path_seen c.steps.items) (op_given (word_value_source c.value) (op_text_seen c.word.now.op))
+-- a call or an edit that was read, with its value and its steps
+abbrev pub given_source : ReadCall → Source
+given_source c = word_value_source c.value
+
+abbrev pub read_act_seen : ReadCall → ActSeen
+read_act_seen c = act_placed (call.path_seen c.steps.items) (given_source c) (call.path_seen c.from.items) (op_text_seen c.word.now.op)
 
 -- several that were read, each seen in some way, or where they can't be
 abbrev pub all_seen : {A B C : Type 0} → (A → B) → Result (Vec A C) Unreadable → Reads (List B)

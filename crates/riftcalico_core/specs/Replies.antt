@@ -5,6 +5,7 @@ use Rattle.capnp_device.specs.declared.error.ErrorKind.TheVariants.{FieldNotFoun
 use Rattle.capnp_call.specs.declared.calls.Plain.TheVariants as plain
 use Rattle.capnp_call.specs.declared.calls.Reply.{Reply}
 use Rattle.capnp_call.specs.declared.calls.Reply.TheVariants as reply
+use Rattle.capnp_edit_calls.specs.ActsSeen.{ActSeen, CallAct, CopyAct, EditAct}
 use Rattle.capnp_floats.specs.Layout.{IsFloatText}
 use Rattle.capnp_floats.specs.declared.width.Width.{Width}
 use Rattle.capnp_floats.specs.declared.width.Width.TheVariants.{Float32, Float64}
@@ -15,6 +16,7 @@ use Rattle.capnp_records.specs.Run.{root_type}
 use Rattle.capnp_schema.specs.Schema.{Schemas, fields_of, node_of}
 use Rattle.capnp_schema.specs.Types.{SchemaType, StructType}
 use Rattle.capnp_words.specs.Targets.{type_behind}
+use Rattle.riftcalico_core.specs.Calls.{member_asked}
 use Rattle.riftcalico_core.specs.Near.{near_note}
 use Rattle.riftcalico_core.specs.Notes.{field_name}
 use Rattle.riftcalico_core.specs.Room.{reply_told}
@@ -40,6 +42,20 @@ last_along set last op (Ok t) = behind_step t last (type_behind set t last) Ok
 
 abbrev pub call_along : Schemas → SchemaType → Call → Result SchemaType Unknown
 call_along set t c = last_along set c.last c.op (types_along set t c.path)
+
+-- What an act asks: a call itself, an edit all of its path, and a copy the path that is read, where the schema has that; else the
+-- one that is set.
+abbrev pub asked_first : (read set : List PathStep) → Result SchemaType Unknown → Call
+asked_first read set (Ok t) = member_asked set
+asked_first read set (Err unknown) = member_asked read
+
+abbrev pub asked_call : Schemas → (brand : ℕ) → ActSeen → Call
+asked_call set b (CallAct c) = c
+asked_call set b (EditAct path edit) = member_asked path
+asked_call set b (CopyAct path from) = asked_first from path (types_along set (root_type set b) from)
+
+abbrev pub asked_calls : Schemas → (brand : ℕ) → List ActSeen → List Call
+asked_calls set b acts = map (asked_call set b) acts
 
 -- the struct that is asked, and what may have been meant
 abbrev pub meant_in : Schemas → (brand : ℕ) → PathStep → List ℕ
@@ -84,9 +100,12 @@ IsMarkedTold true n word note (reply.Value (plain.UInt32 bits)) old new = IsFloa
 IsMarkedTold true n word note (reply.Value (plain.UInt64 bits)) old new = IsFloatTold n word Float64 bits old new
 IsMarkedTold floats n word note r old new = IsReplyTold n word note r old new
 
--- The lines of all these replies were told, the first of them to the call at this index. Each has its call's number, from 1 on, and its word; a call that no word
--- is given for has an empty one. Numbers of marked fields are told as floats. Where the limit is the cause of refusals for want of memory, they are told so.
+-- The line of a reply was told, which is one to the call at this index. It has the call's number, from 1 on, and its word; a call that no word is given
+-- for has an empty one. Numbers of marked fields are told as floats. Where the limit is the cause of refusals for want of memory, they are told so.
+abbrev pub IsNoted : Schemas → (brand : ℕ) → (by_limit : Bool) → ℕ → (words : List (List ℕ)) → List Call → Reply → (old new : List ℕ) → Type 0
+IsNoted set b by_limit i words calls r old new = IsMarkedTold (asks_float set b (slice_get calls i)) (suc i) (get_or words i []) (note_of set b (slice_get calls i) r) (reply_told by_limit r) old new
+
+-- the lines of all these replies were, the first of them to the call at this index
 abbrev pub AreNoted : Schemas → (brand : ℕ) → (by_limit : Bool) → ℕ → (words : List (List ℕ)) → List Call → List Reply → (old new : List ℕ) → Type 0
 AreNoted set b by_limit i words calls [] old new = new ≡ old
-AreNoted set b by_limit i words calls (r ∷ replies) old new =
-    (mid : List ℕ) × IsMarkedTold (asks_float set b (slice_get calls i)) (suc i) (get_or words i []) (note_of set b (slice_get calls i) r) (reply_told by_limit r) old mid × AreNoted set b by_limit (suc i) words calls replies mid new
+AreNoted set b by_limit i words calls (r ∷ replies) old new = (mid : List ℕ) × IsNoted set b by_limit i words calls r old mid × AreNoted set b by_limit (suc i) words calls replies mid new

@@ -5,8 +5,10 @@ ghost use Rattle.capnp_arena.specs.Message.{IsMessage, message_tree};
 ghost use Rattle.capnp_arena.specs.Segment.{segment};
 ghost use Rattle.capnp_arena.specs.Shape.{word_count};
 ghost use Rattle.capnp_call.specs.Messages.{most_words};
-ghost use Rattle.capnp_call.specs.Seen.{call_seen, path_seen};
-ghost use Rattle.capnp_patch.specs.Patches.{IsLeftOfBytes, IsLeftOfNew, words_within};
+ghost use Rattle.capnp_call.specs.Seen.{path_seen};
+ghost use Rattle.capnp_edit_calls.specs.ActsLeft.{IsActsLeftOfBytes, IsActsLeftOfNew};
+ghost use Rattle.capnp_edit_calls.specs.ActsSeen.{act_seen};
+ghost use Rattle.capnp_patch.specs.Patches.{words_within};
 ghost use Rattle.capnp_patch.specs.Places.{HasFewParts, HasMoreParts};
 ghost use Rattle.capnp_schema.specs.StructHandles.{IsStruct, number_of, set_of};
 ghost use Rattle.riftcalico_core.specs.Answers.{HasTooMany, IsAllAnswer, IsAnswer, IsCheckAnswer, IsMessageAnswer, IsNewAnswer, IsNoAnswer, IsNoMessageAnswer, IsNotChecked, IsPatchAnswer, IsRunAnswer, IsShownAnswer, IsSoundJob, IsUnpatched, IsWritableOutput, answer_blamed};
@@ -17,7 +19,7 @@ ghost use Rattle.riftcalico_core.specs.Shown.{IsNotShown, IsTextThere};
 ghost use Rattle.riftcalico_core.specs.declared.fault.Blamed.TheVariants.{Input};
 
 use crate::all_faults::{any_refusal, get_refusal_lines};
-use crate::calls::make_calls;
+use crate::calls::{make_acts, make_values};
 use crate::compare::answer_compare;
 use crate::depth::put_depth_note;
 use crate::fault::{Blamed, Fault, Faulty, blame, get_fault};
@@ -30,11 +32,14 @@ use crate::replies::get_noted_lines;
 use crate::room::{is_by_limit, tell_room};
 use crate::sets::{answer_convert, answer_fields, answer_structs};
 use capnp_arena::message::Builder;
-use capnp_call::calls::{Call, Step, any_refused};
-use capnp_call::message::{Run, run_new};
+use capnp_call::calls::{Step, any_refused};
+use capnp_call::message::Run;
+use capnp_edit_calls::acts::Act;
+use capnp_edit_calls::engine::run_acts_bytes_within;
+use capnp_edit_calls::message::run_acts_new;
 use capnp_packed::pack::pack;
 use capnp_packed::received::read_message;
-use capnp_patch::engine::{run_bytes_within, words_within};
+use capnp_patch::engine::words_within;
 use capnp_patch::place::{find_place_within, find_places};
 use capnp_schema::schema::StructSchema;
 use capnp_wire::error::Result;
@@ -202,11 +207,11 @@ fn answer_run(
     alloc: Global,
     run: Run,
     job: &CallsJob<'_, '_, '_>,
-    calls: &[Call<'_>],
+    acts: &[Act<'_>],
 ) -> Result<Answer>
     requires message { IsMessage run.message }
     requires stands { IsStruct job.now.schema }
-    ensures answer { IfOk result (IsRunAnswer job.now (map call_seen calls.now) run.replies.items
+    ensures answer { IfOk result (IsRunAnswer job.now (map act_seen acts.now) run.replies.items
         (message_tree run.message)) }
     ensures writable { IfOk result (λ a. IsWritableOutput a.output) }
     ensures memory { IfErr result (λ e. e.kind ≡ OutOfMemory) }
@@ -214,7 +219,7 @@ fn answer_run(
     let Run { message, replies } = run;
     let refused = any_refused(&replies);
     let by_limit = are_by_limit(alloc, refused, job.limit);
-    let mut lines = get_noted_lines(alloc, job.schema, job.words, calls, by_limit, &replies)?;
+    let mut lines = get_noted_lines(alloc, job.schema, job.words, acts, by_limit, &replies)?;
     let output = if job.keep_going || !refused {
         put_depth_note(&mut lines, &message)?;
         get_output(alloc, message, job.packed)?
@@ -228,38 +233,38 @@ fn answer_run(
     })
 }
 
-/// A run of calls on a copy of a root within the limit. Refused as `run_bytes_within`, and with `TooLarge` where the limit is
+/// A run on a copy of a root within the limit. Refused as `run_acts_bytes_within`, and with `TooLarge` where the limit is
 /// the cause.
 fn run_patch(
     alloc: Global,
     job: &CallsJob<'_, '_, '_>,
     message: &[u8],
-    calls: &[Call<'_>],
+    acts: &[Act<'_>],
 ) -> Result<Run>
     requires { IsStruct job.now.schema }
     ensures message { IfOk result (λ run. IsMessage run.message) }
-    ensures left { IfOk result (λ run. IsLeftOfBytes job.now.schema message.now calls.now run.replies.items
+    ensures left { IfOk result (λ run. IsActsLeftOfBytes job.now.schema message.now acts.now run.replies.items
         (message_tree run.message)) }
     ensures within { IfOk result (λ run. word_count (segment run.message) ≤ most_words (words_within job.now.limit)) }
     ensures refused { IfErr result (λ e. e.kind ≢ OutOfMemory → IsUnpatched job.now.limit message.now e.kind) }
 {
-    match run_bytes_within(alloc, words_within(job.limit), message, job.schema, calls) {
+    match run_acts_bytes_within(alloc, words_within(job.limit), message, job.schema, acts) {
         Ok(run) => Ok(run),
         Err(error) => Err(tell_room(alloc, job.limit, error)),
     }
 }
 
-/// A run of calls on an empty root within the limit. Refused with `OutOfMemory`, and with `TooLarge` where the limit is the
+/// A run on an empty root within the limit. Refused with `OutOfMemory`, and with `TooLarge` where the limit is the
 /// cause.
-fn run_anew(alloc: Global, job: &CallsJob<'_, '_, '_>, calls: &[Call<'_>]) -> Result<Run>
+fn run_anew(alloc: Global, job: &CallsJob<'_, '_, '_>, acts: &[Act<'_>]) -> Result<Run>
     requires { IsStruct job.now.schema }
     ensures message { IfOk result (λ run. IsMessage run.message) }
-    ensures left { IfOk result (λ run. IsLeftOfNew job.now.schema calls.now run.replies.items
+    ensures left { IfOk result (λ run. IsActsLeftOfNew job.now.schema acts.now run.replies.items
         (message_tree run.message)) }
     ensures within { IfOk result (λ run. word_count (segment run.message) ≤ most_words (words_within job.now.limit)) }
     ensures refused { IfErr result (λ e. e.kind ≢ OutOfMemory → IsPastLimit job.now.limit e.kind) }
 {
-    match run_new(alloc, words_within(job.limit), job.schema, calls) {
+    match run_acts_new(alloc, words_within(job.limit), job.schema, acts) {
         Ok(run) => Ok(run),
         Err(error) => Err(tell_room(alloc, job.limit, error)),
     }
@@ -272,9 +277,10 @@ fn answer_patch(alloc: Global, job: &CallsJob<'_, '_, '_>, message: &[u8]) -> Re
     ensures writable { IfOk result (λ a. IsWritableOutput a.output) }
     ensures refused { IfErr result (λ e. e.kind ≢ OutOfMemory → IsUnpatched job.now.limit message.now e.kind) }
 {
-    let calls = make_calls(alloc, &job.calls)?;
-    let run = run_patch(alloc, job, message, &calls)?;
-    answer_run(alloc, run, job, &calls)
+    let values = make_values(alloc, &job.calls)?;
+    let acts = make_acts(alloc, &job.calls, &values)?;
+    let run = run_patch(alloc, job, message, &acts)?;
+    answer_run(alloc, run, job, &acts)
 }
 
 /// The message that calls leave of an empty root.
@@ -284,9 +290,10 @@ fn answer_new(alloc: Global, job: &CallsJob<'_, '_, '_>) -> Result<Answer>
     ensures writable { IfOk result (λ a. IsWritableOutput a.output) }
     ensures refused { IfErr result (λ e. e.kind ≢ OutOfMemory → IsPastLimit job.now.limit e.kind) }
 {
-    let calls = make_calls(alloc, &job.calls)?;
-    let run = run_anew(alloc, job, &calls)?;
-    answer_run(alloc, run, job, &calls)
+    let values = make_values(alloc, &job.calls)?;
+    let acts = make_acts(alloc, &job.calls, &values)?;
+    let run = run_anew(alloc, job, &acts)?;
+    answer_run(alloc, run, job, &acts)
 }
 
 /// What a job answers to a message that is not packed. Refused as `get_answer`, but for what is packed.
@@ -335,7 +342,7 @@ pub fn answer_message(alloc: Global, job: &Job<'_, '_, '_>, message: &[u8]) -> F
 /// limit, of `json` as `capnp_queries::json::get_json`, with the place of a step, but for what only JSON refuses, which is
 /// told, as what `from-json` refuses, but for a message without room within the limit (`TooLarge`); of
 /// `check` as `capnp_patch::place::find_place_within`, with the place, of `patch` as
-/// `capnp_patch::engine::run_bytes` and for room, as of `new`, of `schemas` as `capnp_set_engine::engine::convert_bytes`, of
+/// `capnp_edit_calls::engine::run_acts_bytes_within` and for room, as of `new`, of `schemas` as `capnp_set_engine::engine::convert_bytes`, of
 /// it, `structs` and `compatible` with `TooLarge` past the limit; and where the message is packed as `capnp_packed::received::read_message`.
 ///
 /// # Conditions

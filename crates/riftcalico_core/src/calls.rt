@@ -1,19 +1,30 @@
-//! Calls that words say, under a struct of a set.
-ghost use Rattle.std.specs.Prelude.{[], ◌≡◌, ◌+◌, ◌<◌, IfErr, IfOk, length, map};
+//! Calls and edits that words say, under a struct of a set.
+ghost use Rattle.std.specs.Prelude.{[], ◌≡◌, ◌∷◌, ◌+◌, ◌<◌, IfErr, IfOk, length, map};
+ghost use Rattle.std.specs.Option.{option_map, option_and_then};
 ghost use Rattle.capnp_device.specs.declared.error.ErrorKind.TheVariants.{OutOfMemory};
 ghost use Rattle.capnp_schema.specs.StructHandles.{IsStruct, number_of, set_of};
+ghost use Rattle.capnp_schema.specs.Types.{seen_type};
 ghost use Rattle.capnp_records.specs.Run.{root_type};
+ghost use Rattle.capnp_slots.specs.SetValues.{source_of};
 ghost use Rattle.capnp_call.specs.Seen.{call_seen, op_seen, path_seen, step_seen};
-ghost use Rattle.capnp_words.specs.Calls.{call_at, Set};
+ghost use Rattle.capnp_edit_calls.specs.ActsSeen.{CallAct, EditAct, act_seen};
+ghost use Rattle.capnp_edit_calls.specs.ChangesSeen.{change_seen, sources_of};
+ghost use Rattle.capnp_words.specs.Calls.{call_at};
 ghost use Rattle.capnp_words.specs.Reads.{read_as};
 ghost use Rattle.capnp_words.specs.Seen as said;
 ghost use Rattle.capnp_words.specs.Targets.{type_along};
-ghost use Rattle.riftcalico_core.specs.Calls.{call_read, op_given, placed_call, source_given, split};
-ghost use Rattle.riftcalico_core.specs.CallsSeen.{all_seen, word_value_source, read_call_seen};
+ghost use Rattle.riftcalico_core.specs.Calls.{call_read, element_of, from_of, given_type, member_asked, source_given, source_read, split};
+ghost use Rattle.riftcalico_core.specs.CallsSeen.{all_seen, given_source, read_act_seen, word_value_source};
 ghost use Rattle.riftcalico_core.specs.Reads.{each_word_read};
 
 use crate::words::word_at;
+use capnp_base::introspect::{Type, TypeVariant};
 use capnp_call::calls::{Call, Op, Step};
+use capnp_dynamic_readers::dynamic_value::Reader as Value;
+use capnp_edit_calls::acts::Act;
+use capnp_edit_calls::change::Change;
+use capnp_edit_calls::copy::PathCopy;
+use capnp_edit_calls::edit::ListEdit;
 use capnp_queries::floats::has_floats_at;
 use capnp_schema::schema::StructSchema;
 use capnp_wire::error::Result;
@@ -34,15 +45,17 @@ pub struct Unreadable {
 /// What words are read as, or where they can't be.
 pub type Read<T> = std::result::Result<T, Unreadable>;
 
-/// A call that was read under a schema: what its word says, the steps of its path, and the value that it sets.
+/// A call or an edit that was read under a schema: what its word says, the steps of its path, the value that it is given, and
+/// the steps of the path of what it copies.
 #[derive(Drop)]
 pub struct ReadCall<'s, 'c> {
     pub word: &'c CallWord,
     pub steps: Vec<Step<'c>>,
     pub value: PlainValue<'s>,
+    pub from: Vec<Step<'c>>,
 }
 
-/// The calls that words say, or the first word that says none. Refused with `OutOfMemory` alone.
+/// The calls and edits that words say, or the first word that says none. Refused with `OutOfMemory` alone.
 pub fn read_calls(alloc: Global, words: &[&str]) -> Result<Read<Vec<CallWord>>>
     ensures read { IfOk result (λ r. all_seen said.call_text_seen r ≡ each_word_read call_at 0 (map (λ w. w.now) words.now)) }
     ensures count { IfOk result (λ r. IfOk r (λ calls. length calls.items ≡ length words.now)) }
@@ -62,23 +75,64 @@ pub fn read_calls(alloc: Global, words: &[&str]) -> Result<Read<Vec<CallWord>>>
     Ok(Ok(calls))
 }
 
-/// The value of a call that sets, where its path leads to numbers that are floats or not, or the place in its word where that
-/// can't be read.
-fn read_value_to_set<'s>(
+/// The type of the elements of a list.
+#[tactic(auto, using(capnp_schema::specs::Facts::Layers::seen_which))]
+fn find_element_type(list: Type) -> Option<Type>
+    ensures { option_map seen_type result ≡ element_of (seen_type list) }
+{
+    match list.which() {
+        TypeVariant::List(element) => Some(element),
+        _ => None,
+    }
+}
+
+/// The type of the elements of the list at the end of a path under a schema.
+fn find_element_along(schema: StructSchema<'_>, path: &Path) -> Option<Type>
+    requires { IsStruct schema }
+    ensures { option_map seen_type result ≡ option_and_then element_of (type_along (set_of schema.entry)
+        (root_type (set_of schema.entry) (number_of schema.entry)) (said.path_text_seen path.now)) }
+{
+    find_element_type(target_type(schema, path)?)
+}
+
+/// The type that the value of a call or an edit is read under: that of what its path leads to, or of an append and an
+/// insertion that of the elements there. None where the path leads to nothing.
+pub(crate) fn find_given_type(schema: StructSchema<'_>, call: &CallWord) -> Option<Type>
+    requires { IsStruct schema }
+    ensures { option_map seen_type result ≡ given_type (said.op_text_seen call.now.op) (type_along (set_of schema.entry)
+        (root_type (set_of schema.entry) (number_of schema.entry)) (said.path_text_seen call.now.path)) }
+{
+    match &call.op {
+        WordOp::Append(_, _) | WordOp::Insert(_, _, _) => find_element_along(schema, &call.path),
+        WordOp::Get
+        | WordOp::Has
+        | WordOp::Which
+        | WordOp::Set(_, _)
+        | WordOp::Init
+        | WordOp::Initn(_)
+        | WordOp::Clear
+        | WordOp::Remove(_)
+        | WordOp::Resize(_)
+        | WordOp::Copy(_) => target_type(schema, &call.path),
+    }
+}
+
+/// A value under its type, whose numbers are floats or not, or the place in its word where it can't be read. A void where
+/// there is no type.
+fn read_given_value<'s>(
     alloc: Global,
     schema: StructSchema<'s>,
-    path: &Path,
+    target: Option<Type>,
     floats: bool,
     value: &[u8],
     place: usize,
 ) -> Result<std::result::Result<PlainValue<'s>, u128>>
     requires { IsStruct schema }
     ensures read { IfOk result (λ r. read_as word_value_source r
-        ≡ source_given (set_of schema.entry) floats (type_along (set_of schema.entry)
-        (root_type (set_of schema.entry) (number_of schema.entry)) (said.path_text_seen path.now)) (Set value.now place)) }
+        ≡ source_read (set_of schema.entry) floats (option_map seen_type target) value.now place) }
     ensures memory { IfErr result (λ e. e.kind ≡ OutOfMemory) }
 {
-    let Some(target) = target_type(schema, path) else {
+    let Some(target) = target else {
         return Ok(Ok(PlainValue::Void));
     };
     match parse_marked_value(alloc, schema.get_set(), target, floats, value)? {
@@ -87,32 +141,35 @@ fn read_value_to_set<'s>(
     }
 }
 
-/// The value that a call sets under a schema, or the place in its word where that can't be read. A void where it sets
-/// nothing, or where its path leads to no field or element: such a call is refused for its path. Refused with
-/// `OutOfMemory` alone.
+/// The value that a call or an edit is given under a type, or the place in its word where that can't be read. A void where
+/// it has none, or where its path leads to no type: it is refused for its path then. Refused with `OutOfMemory` alone.
 fn read_value<'s>(
     alloc: Global,
     schema: StructSchema<'s>,
-    call: &CallWord,
+    op: &WordOp,
+    target: Option<Type>,
     floats: bool,
 ) -> Result<std::result::Result<PlainValue<'s>, u128>>
     requires { IsStruct schema }
     ensures read { IfOk result (λ r. read_as word_value_source r
-        ≡ source_given (set_of schema.entry) floats (type_along (set_of schema.entry)
-        (root_type (set_of schema.entry) (number_of schema.entry)) (said.path_text_seen call.now.path))
-        (said.op_text_seen call.now.op)) }
+        ≡ source_given (set_of schema.entry) floats (option_map seen_type target) (said.op_text_seen op.now)) }
     ensures memory { IfErr result (λ e. e.kind ≡ OutOfMemory) }
 {
-    match &call.op {
-        WordOp::Set(value, place) => {
-            read_value_to_set(alloc, schema, &call.path, floats, value, *place)
+    match op {
+        WordOp::Set(value, place)
+        | WordOp::Append(value, place)
+        | WordOp::Insert(_, value, place) => {
+            read_given_value(alloc, schema, target, floats, value, *place)
         }
         WordOp::Get
         | WordOp::Has
         | WordOp::Which
         | WordOp::Init
         | WordOp::Initn(_)
-        | WordOp::Clear => Ok(Ok(PlainValue::Void)),
+        | WordOp::Clear
+        | WordOp::Remove(_)
+        | WordOp::Resize(_)
+        | WordOp::Copy(_) => Ok(Ok(PlainValue::Void)),
     }
 }
 
@@ -139,7 +196,28 @@ pub fn steps_of(alloc: Global, path: &Path) -> Result<Vec<Step<'_>>>
     Ok(steps)
 }
 
-/// A call with its value and its steps, or the place in its word where the value can't be read. Refused with
+/// The steps of the path of what is copied. Refused with `OutOfMemory` alone.
+fn steps_from(alloc: Global, op: &WordOp) -> Result<Vec<Step<'_>>>
+    ensures steps { IfOk result (λ steps. path_seen steps.items ≡ from_of (said.op_text_seen op.now)) }
+    ensures memory { IfErr result (λ e. e.kind ≡ OutOfMemory) }
+{
+    match op {
+        WordOp::Copy(from) => steps_of(alloc, from),
+        WordOp::Get
+        | WordOp::Has
+        | WordOp::Which
+        | WordOp::Set(_, _)
+        | WordOp::Init
+        | WordOp::Initn(_)
+        | WordOp::Clear
+        | WordOp::Append(_, _)
+        | WordOp::Insert(_, _, _)
+        | WordOp::Remove(_)
+        | WordOp::Resize(_) => Ok(Vec::new(alloc)),
+    }
+}
+
+/// A call or an edit with its value and its steps, or the place in its word where the value can't be read. Refused with
 /// `OutOfMemory` alone.
 fn read_call<'s, 'c>(
     alloc: Global,
@@ -147,20 +225,27 @@ fn read_call<'s, 'c>(
     word: &'c CallWord,
 ) -> Result<std::result::Result<ReadCall<'s, 'c>, u128>>
     requires { IsStruct schema }
-    ensures read { IfOk result (λ r. read_as read_call_seen r
+    ensures read { IfOk result (λ r. read_as read_act_seen r
         ≡ call_read (set_of schema.entry) (root_type (set_of schema.entry) (number_of schema.entry))
         (said.call_text_seen word.now)) }
     ensures memory { IfErr result (λ e. e.kind ≡ OutOfMemory) }
 {
     let steps = steps_of(alloc, &word.path)?;
+    let from = steps_from(alloc, &word.op)?;
     let floats = has_floats_at(schema, steps.as_slice());
-    match read_value(alloc, schema, word, floats)? {
-        Ok(value) => Ok(Ok(ReadCall { word, steps, value })),
+    let target = find_given_type(schema, word);
+    match read_value(alloc, schema, &word.op, target, floats)? {
+        Ok(value) => Ok(Ok(ReadCall {
+            word,
+            steps,
+            value,
+            from,
+        })),
         Err(place) => Ok(Err(place)),
     }
 }
 
-/// Calls with their values and their steps under a schema, or the first whose value can't be read. Refused with
+/// Calls and edits with their values and their steps under a schema, or the first whose value can't be read. Refused with
 /// `OutOfMemory` alone.
 ///
 /// # Conditions
@@ -172,7 +257,7 @@ pub fn read_all_calls<'s, 'c>(
     words: &'c [CallWord],
 ) -> Result<Read<Vec<ReadCall<'s, 'c>>>>
     requires { IsStruct schema }
-    ensures read { IfOk result (λ r. all_seen read_call_seen r
+    ensures read { IfOk result (λ r. all_seen read_act_seen r
         ≡ each_word_read (call_read (set_of schema.entry) (root_type (set_of schema.entry) (number_of schema.entry))) 0
         (map said.call_text_seen words.now)) }
     ensures inside { IfOk result (λ r. IfErr r (λ at. at.index < length words.now)) }
@@ -188,65 +273,100 @@ pub fn read_all_calls<'s, 'c>(
     Ok(Ok(calls))
 }
 
-/// What a call does, by its word, with the value that it sets.
+/// A value as a call is given it.
 #[tactic(auto, using(crate::proofs::PlainGiven::plain_given))]
-fn op_of<'c>(op: &WordOp, value: &'c PlainValue<'_>) -> Op<'c>
-    ensures { op_seen result ≡ op_given (word_value_source value.now) (said.op_text_seen op.now) }
+fn value_of<'c>(value: &'c PlainValue<'_>) -> Value<'c>
+    ensures { source_of result ≡ word_value_source value.now }
 {
-    match op {
-        WordOp::Get => Op::Get,
-        WordOp::Has => Op::Has,
-        WordOp::Which => Op::Which,
-        WordOp::Set(_, _) => Op::Set(value.as_reader()),
-        WordOp::Init => Op::Init,
-        WordOp::Initn(size) => Op::Initn(*size),
-        WordOp::Clear => Op::Clear,
+    value.as_reader()
+}
+
+/// The value of each call and edit, as it is given. Refused with `OutOfMemory` alone.
+pub fn make_values<'a>(alloc: Global, read: &'a [ReadCall<'_, '_>]) -> Result<Vec<Value<'a>>>
+    ensures values { IfOk result (λ values. sources_of values.items ≡ map given_source read.now) }
+    ensures memory { IfErr result (λ e. e.kind ≡ OutOfMemory) }
+{
+    let mut values = Vec::with_capacity(alloc, read.len())?;
+    for call in read {
+        values.push(value_of(&call.value))?;
     }
+    Ok(values)
 }
 
 /// A call along these steps, the last of which is what the operation is done to.
-fn split_call<'a>(op: Op<'a>, steps: &'a [Step<'_>]) -> Call<'a>
-    ensures { call_seen result ≡ split (path_seen steps.now) (op_seen op.entry) }
+fn split_call<'a>(op: Op<'a>, steps: &'a [Step<'_>]) -> Act<'a>
+    ensures { act_seen result ≡ CallAct (split (path_seen steps.now) (op_seen op.entry)) }
 {
     match steps.split_last() {
-        Some((last, path)) => Call {
+        Some((last, path)) => Act::Call(Call {
             path,
             last: *last,
             op,
-        },
-        None => Call {
+        }),
+        None => Act::Call(Call {
             path: steps,
             last: Step::Field(0),
             op,
-        },
+        }),
     }
 }
 
-/// A call along these steps. The struct that is asked for its member is the one that all steps lead to.
-fn call_of<'a>(op: Op<'a>, steps: &'a [Step<'_>]) -> Call<'a>
-    ensures { call_seen result ≡ placed_call (path_seen steps.now) (op_seen op.entry) }
+/// The call that asks the struct that all these steps lead to for its member.
+pub(crate) fn ask_member<'a>(path: &'a [Step<'a>]) -> Call<'a>
+    ensures { call_seen result ≡ member_asked (path_seen path.now) }
 {
-    match op {
-        Op::Which => Call {
-            path: steps,
-            last: Step::Field(0),
-            op,
-        },
-        Op::Get | Op::Has | Op::Set(_) | Op::Init | Op::Initn(_) | Op::Clear => {
-            split_call(op, steps)
-        }
+    Call {
+        path,
+        last: Step::Field(0),
+        op: Op::Which,
     }
 }
 
-/// Calls that were read, as they are made. Refused with `OutOfMemory` alone.
-pub fn make_calls<'a>(alloc: Global, read: &'a [ReadCall<'_, '_>]) -> Result<Vec<Call<'a>>>
-    ensures calls { IfOk result (λ calls. map call_seen calls.items ≡ map read_call_seen read.now) }
+/// An edit of the list that these steps lead to.
+fn edit_along<'a>(path: &'a [Step<'a>], change: Change<'a>) -> Act<'a>
+    ensures { act_seen result ≡ EditAct (path_seen path.now) (change_seen change.entry) }
+{
+    Act::Edit(ListEdit { path, change })
+}
+
+/// A call or an edit that was read, as it is made with its value.
+fn make_act<'a>(read: &'a ReadCall<'_, '_>, values: &'a [Value<'a>]) -> Act<'a>
+    requires { sources_of values.now ≡ given_source read.now ∷ [] }
+    ensures { act_seen result ≡ read_act_seen read.now }
+{
+    let path = read.steps.as_slice();
+    match &read.word.op {
+        WordOp::Get => split_call(Op::Get, path),
+        WordOp::Has => split_call(Op::Has, path),
+        WordOp::Which => Act::Call(ask_member(path)),
+        WordOp::Set(_, _) => split_call(Op::Set(values[0]), path),
+        WordOp::Init => split_call(Op::Init, path),
+        WordOp::Initn(size) => split_call(Op::Initn(*size), path),
+        WordOp::Clear => split_call(Op::Clear, path),
+        WordOp::Append(_, _) => edit_along(path, Change::Append(values)),
+        WordOp::Insert(index, _, _) => edit_along(path, Change::Insert(*index, values[0])),
+        WordOp::Remove(index) => edit_along(path, Change::Remove(*index)),
+        WordOp::Resize(count) => edit_along(path, Change::Resize(*count)),
+        WordOp::Copy(_) => Act::Copy(PathCopy {
+            path,
+            from: read.from.as_slice(),
+        }),
+    }
+}
+
+/// Calls and edits that were read, as they are made, each with its value. Refused with `OutOfMemory` alone.
+pub fn make_acts<'a>(
+    alloc: Global,
+    read: &'a [ReadCall<'_, '_>],
+    values: &'a [Value<'a>],
+) -> Result<Vec<Act<'a>>>
+    requires { sources_of values.now ≡ map given_source read.now }
+    ensures acts { IfOk result (λ acts. map act_seen acts.items ≡ map read_act_seen read.now) }
     ensures memory { IfErr result (λ e. e.kind ≡ OutOfMemory) }
 {
-    let mut calls = Vec::with_capacity(alloc, read.len())?;
-    for call in read {
-        let op = op_of(&call.word.op, &call.value);
-        calls.push(call_of(op, call.steps.as_slice()))?;
+    let mut acts = Vec::with_capacity(alloc, read.len())?;
+    for index in 0..read.len() {
+        acts.push(make_act(&read[index], &values[index..index + 1]))?;
     }
-    Ok(calls)
+    Ok(acts)
 }

@@ -303,7 +303,7 @@ fn read_under<'s, 'c, 'w>(
             limit: plan.limit,
         })),
         Err(at) => {
-            let note = get_wanted(alloc, schema, &plan.texts[at.index].path)?;
+            let note = get_wanted(alloc, schema, &plan.texts[at.index])?;
             let line = put_value_line(alloc, plan.words.as_slice(), at, note.as_str())?;
             Ok(Err(line))
         }

@@ -1,6 +1,6 @@
-//! What is told of replies to calls: of a marked number its float, and of a field that isn't there also the struct that was asked,
+//! What is told of replies to calls and edits: of a marked number its float, and of a field that isn't there also the struct that was asked,
 //! and names that may have been meant.
-ghost use Rattle.std.specs.Prelude.{[], ◌≡◌, IfErr, IfOk, OnOk, None, Some, get_or, map, slice_get, string_bytes};
+ghost use Rattle.std.specs.Prelude.{[], ◌<◌, ◌^◌, ◌≡◌, IfErr, IfOk, OnOk, None, Some, get_or, map, slice_get, string_bytes};
 ghost use Rattle.std.specs.Option.{option_map};
 ghost use Rattle.capnp_call.specs.Seen.{call_seen, path_seen, step_seen};
 ghost use Rattle.capnp_device.specs.declared.error.ErrorKind.TheVariants.{OutOfMemory};
@@ -9,13 +9,17 @@ ghost use Rattle.capnp_schema.specs.Entries.{lists_seen};
 ghost use Rattle.capnp_schema.specs.StructHandles.{IsStruct, number_of, set_of};
 ghost use Rattle.capnp_schema.specs.Types.{seen_type, seen_variant};
 ghost use Rattle.capnp_words.specs.Targets.{type_behind};
-ghost use Rattle.riftcalico_core.specs.Replies.{AreNoted, IsFloatTold, IsMarkedTold, asked_note, asks_float, call_along, kind_note, note_of, types_along};
+ghost use Rattle.capnp_edit_calls.specs.ActsSeen.{act_seen};
+ghost use Rattle.riftcalico_core.specs.Replies.{AreNoted, IsFloatTold, IsMarkedTold, IsNoted, asked_call, asked_calls, asked_first, asked_note, asks_float, call_along, kind_note, note_of, types_along};
 ghost use Rattle.riftcalico_core.specs.Room.{reply_told};
 ghost use Rattle.riftcalico_core.specs.Steps.RepliesSeen.{along_seen};
 
+use crate::calls::ask_member;
 use crate::note::put_within;
 use capnp_base::introspect::{Type, TypeVariant};
 use capnp_call::calls::{Call, Op, Plain, Reply, Step};
+use capnp_edit_calls::acts::Act;
+use capnp_edit_calls::copy::PathCopy;
 use capnp_floats::text::float_text;
 use capnp_floats::width::Width;
 use capnp_patch::lines::{put_answer, put_line};
@@ -156,16 +160,16 @@ fn get_kind_note(
 fn get_reply_note(
     alloc: Global,
     schema: StructSchema<'_>,
-    call: Option<&Call<'_>>,
+    call: Option<Call<'_>>,
     reply: &Reply,
 ) -> Result<String>
     requires { IsStruct schema }
     ensures note { IfOk result (λ note. string_bytes note ≡ note_of (set_of schema.entry) (number_of schema.entry)
-        (option_map (λ c. call_seen c.now) call.entry) reply.now) }
+        (option_map call_seen call.entry) reply.now) }
     ensures memory { IfErr result (λ e. e.kind ≡ OutOfMemory) }
 {
     match (call, reply) {
-        (Some(call), Reply::Refused(kind)) => get_kind_note(alloc, schema, call, *kind),
+        (Some(call), Reply::Refused(kind)) => get_kind_note(alloc, schema, &call, *kind),
         _ => Ok(String::new(alloc)),
     }
 }
@@ -180,18 +184,48 @@ fn word_at<'a>(words: &[&'a str], index: usize) -> &'a str
     }
 }
 
-/// The call at an index.
-fn call_at<'b, 'a>(calls: &'b [Call<'a>], index: usize) -> Option<&'b Call<'a>>
-    ensures { option_map (λ c. call_seen c.now) result ≡ slice_get (map call_seen calls.now) index }
+/// What a copy asks: the path that is read, where the schema doesn't have it, and else the one that is set.
+fn ask_copy<'c>(schema: StructSchema<'_>, copy: &PathCopy<'c>) -> Call<'c>
+    requires { IsStruct schema }
+    ensures { call_seen result ≡ asked_first (path_seen copy.now.from.now) (path_seen copy.now.path.now)
+        (types_along (set_of schema.entry) (root_type (set_of schema.entry) (number_of schema.entry))
+        (path_seen copy.now.from.now)) }
 {
-    calls.get(index)
+    let root = Type::from(TypeVariant::Struct(schema.into()));
+    match walk_types(schema.get_set(), root, copy.from) {
+        Ok(_) => ask_member(copy.path),
+        Err(_) => ask_member(copy.from),
+    }
+}
+
+/// What an act asks.
+fn ask_act<'c>(schema: StructSchema<'_>, act: &Act<'c>) -> Call<'c>
+    requires { IsStruct schema }
+    ensures { call_seen result ≡ asked_call (set_of schema.entry) (number_of schema.entry) (act_seen act.now) }
+{
+    match act {
+        Act::Call(call) => *call,
+        Act::Edit(edit) => ask_member(edit.path),
+        Act::Copy(copy) => ask_copy(schema, copy),
+    }
+}
+
+/// What the act at an index asks.
+fn asked_at<'c>(schema: StructSchema<'_>, acts: &[Act<'c>], index: usize) -> Option<Call<'c>>
+    requires { IsStruct schema }
+    ensures { option_map call_seen result ≡ slice_get (asked_calls (set_of schema.entry) (number_of schema.entry)
+        (map act_seen acts.now)) index }
+{
+    match acts.get(index) {
+        Some(act) => Some(ask_act(schema, act)),
+        None => None,
+    }
 }
 
 /// Whether the number that a call asks for, if there is one, is a float.
-fn asks_float(schema: StructSchema<'_>, call: Option<&Call<'_>>) -> bool
+fn asks_float(schema: StructSchema<'_>, call: Option<Call<'_>>) -> bool
     requires { IsStruct schema }
-    ensures { result ≡ asks_float (set_of schema.entry) (number_of schema.entry)
-        (option_map (λ c. call_seen c.now) call.entry) }
+    ensures { result ≡ asks_float (set_of schema.entry) (number_of schema.entry) (option_map call_seen call.entry) }
 {
     match call {
         Some(call) => has_floats_behind(schema, call.path, call.last),
@@ -262,6 +296,42 @@ fn put_reply(
     }
 }
 
+/// Appends the line of a reply to the act of an index, with what tells more; of something done none. Refused with
+/// `OutOfMemory` alone.
+fn tell_reply(
+    lines: &mut String,
+    schema: StructSchema<'_>,
+    words: &[&str],
+    acts: &[Act<'_>],
+    by_limit: bool,
+    index: usize,
+    reply: &Reply,
+) -> Result<()>
+    requires stands { IsStruct schema }
+    requires few { index < 2 ^ 63 }
+    ensures told { OnOk result (IsNoted (set_of schema.entry) (number_of schema.entry) by_limit index
+        (map (λ w. w.now) words.now) (asked_calls (set_of schema.entry) (number_of schema.entry)
+        (map act_seen acts.now)) reply.now (string_bytes lines.old) (string_bytes lines.new)) }
+    ensures memory { IfErr result (λ e. e.kind ≡ OutOfMemory) }
+{
+    if let Reply::Done = reply {
+        return Ok(());
+    }
+    let call = asked_at(schema, acts, index);
+    let note = get_reply_note(*lines.allocator(), schema, call, reply)?;
+    let floats = asks_float(schema, call);
+    put_reply(
+        lines,
+        index as u64 + 1,
+        word_at(words, index),
+        note.as_str(),
+        floats,
+        by_limit,
+        reply,
+    )?;
+    Ok(())
+}
+
 /// A line for each reply that answers or refuses, in order: the number of its call, from 1 on, the call's word, and the answer
 /// or the refusal's number, name and note; numbers of marked fields as floats. A call that no word is given for is told with an empty one. Where the limit is the
 /// cause of refusals for want of memory, they are told so. Refused with `OutOfMemory` alone.
@@ -269,29 +339,26 @@ pub(crate) fn get_noted_lines(
     alloc: Global,
     schema: StructSchema<'_>,
     words: &[&str],
-    calls: &[Call<'_>],
+    acts: &[Act<'_>],
     by_limit: bool,
     replies: &[Reply],
 ) -> Result<String>
     requires { IsStruct schema }
     ensures lines { IfOk result (λ lines. AreNoted (set_of schema.entry) (number_of schema.entry) by_limit 0
-        (map (λ w. w.now) words.now) (map call_seen calls.now) replies.now [] (string_bytes lines)) }
+        (map (λ w. w.now) words.now) (asked_calls (set_of schema.entry) (number_of schema.entry) (map act_seen acts.now))
+        replies.now [] (string_bytes lines)) }
     ensures memory { IfErr result (λ e. e.kind ≡ OutOfMemory) }
 {
     let mut lines = String::new(alloc);
     for index in 0..replies.len() {
-        let reply = &replies[index];
-        let call = call_at(calls, index);
-        let note = get_reply_note(alloc, schema, call, reply)?;
-        let floats = asks_float(schema, call);
-        put_reply(
+        tell_reply(
             &mut lines,
-            index as u64 + 1,
-            word_at(words, index),
-            note.as_str(),
-            floats,
+            schema,
+            words,
+            acts,
             by_limit,
-            reply,
+            index,
+            &replies[index],
         )?;
     }
     Ok(lines)

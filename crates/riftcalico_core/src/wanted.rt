@@ -2,25 +2,22 @@
 ghost use Rattle.std.specs.Prelude.{◌≡◌, ◌++◌, IfErr, IfOk, OnOk, map, string_bytes};
 ghost use Rattle.std.specs.Option.{option_map};
 ghost use Rattle.capnp_device.specs.declared.error.ErrorKind.TheVariants.{OutOfMemory};
-ghost use Rattle.capnp_records.specs.Run.{root_type};
 ghost use Rattle.capnp_schema.specs.Entries.{lists_seen};
 ghost use Rattle.capnp_schema.specs.Schema.{enum_at, seen_enumerant};
 ghost use Rattle.capnp_schema.specs.StructHandles.{IsStruct, number_of, set_of};
 ghost use Rattle.capnp_schema.specs.Types.{seen_type, seen_variant};
-ghost use Rattle.capnp_queries.specs.Floats.{floats_at};
-ghost use Rattle.capnp_words.specs.Seen.{path_text_seen};
-ghost use Rattle.capnp_words.specs.Targets.{type_along};
+ghost use Rattle.capnp_words.specs.Seen.{call_text_seen};
+ghost use Rattle.riftcalico_core.specs.Jobs.{wanted_of};
 ghost use Rattle.riftcalico_core.specs.Wanted.{names_listed, unsigned_words, wanted_note, wanted_words};
 
-use crate::calls::steps_of;
+use crate::calls::{find_given_type, steps_of};
 use capnp_base::introspect::{Type, TypeVariant};
 use capnp_queries::floats::has_floats_at;
 use capnp_schema::record::EnumerantRecord;
 use capnp_schema::schema::StructSchema;
 use capnp_schema::set::SchemaSet;
 use capnp_wire::error::Result;
-use capnp_words::path::Path;
-use capnp_words::target::target_type;
+use capnp_words::call::CallWord;
 use std::alloc::Global;
 
 /// Appends the names of enumerants, each before a comma. Refused with `OutOfMemory` alone.
@@ -117,16 +114,19 @@ fn get_note(
     Ok(note)
 }
 
-/// What the value of a call has to be, by its path under a struct. Refused with `OutOfMemory` alone.
-pub(crate) fn get_wanted(alloc: Global, schema: StructSchema<'_>, path: &Path) -> Result<String>
+/// What the value of a call or an edit has to be, by its path under a struct. Refused with `OutOfMemory` alone.
+pub(crate) fn get_wanted(alloc: Global, schema: StructSchema<'_>, call: &CallWord) -> Result<String>
     requires { IsStruct schema }
-    ensures note { IfOk result (λ note. string_bytes note ≡ wanted_note (set_of schema.entry)
-        (floats_at (set_of schema.entry) (number_of schema.entry) (path_text_seen path.now))
-        (type_along (set_of schema.entry) (root_type (set_of schema.entry) (number_of schema.entry))
-        (path_text_seen path.now))) }
+    ensures note { IfOk result (λ note. string_bytes note
+        ≡ wanted_of (set_of schema.entry) (number_of schema.entry) (call_text_seen call.now)) }
     ensures memory { IfErr result (λ e. e.kind ≡ OutOfMemory) }
 {
-    let steps = steps_of(alloc, path)?;
+    let steps = steps_of(alloc, &call.path)?;
     let floats = has_floats_at(schema, steps.as_slice());
-    get_note(alloc, schema.get_set(), floats, target_type(schema, path))
+    get_note(
+        alloc,
+        schema.get_set(),
+        floats,
+        find_given_type(schema, call),
+    )
 }

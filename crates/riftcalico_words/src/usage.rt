@@ -143,9 +143,10 @@ const PATCH_HELP: &str = "\
 usage: riftcalico patch [--set FILE] [--calls FILE] [--keep-going] [--packed] [--limit BYTES] [--each] [--in-place FILE] NAME CALL..
 
 Makes calls on a copy of the first message's root, a struct NAME, and writes the message that they leave.
-A CALL is one word: 'set PATH VALUE', 'init PATH', 'initn PATH N', 'clear PATH', 'get PATH', 'has PATH' or
-'which PATH'. With --calls they are the lines of FILE, but empty ones and those that begin with '#'. With --keep-going
-the message is written also where a call is refused. With --packed messages are read and written packed.
+A CALL is one word: 'set PATH VALUE', 'init PATH', 'initn PATH N', 'clear PATH', 'get PATH', 'has PATH', 'which PATH',
+'append PATH VALUE', 'insert PATH.I VALUE', 'remove PATH.I', 'resize PATH N' or 'copy PATH FROM'. With --calls they are
+the lines of FILE, but empty ones and those that begin with '#'. With --keep-going the message is written also where a
+call is refused. With --packed messages are read and written packed.
 No message is made of more bytes than --limit, or else 1 GiB.
 With --each all messages of the input are taken, one after another, and what is told names the message by number.
 With --keep-going one that is refused is told and passed over too.
@@ -157,9 +158,10 @@ const NEW_HELP: &str = "\
 usage: riftcalico new [--set FILE] [--calls FILE] [--keep-going] [--packed] [--limit BYTES] NAME CALL..
 
 Makes calls on an empty struct NAME, and writes the message that they leave.
-A CALL is one word: 'set PATH VALUE', 'init PATH', 'initn PATH N', 'clear PATH', 'get PATH', 'has PATH' or
-'which PATH'. With --calls they are the lines of FILE, but empty ones and those that begin with '#'. With --keep-going
-the message is written also where a call is refused. With --packed it is written packed.
+A CALL is one word: 'set PATH VALUE', 'init PATH', 'initn PATH N', 'clear PATH', 'get PATH', 'has PATH', 'which PATH',
+'append PATH VALUE', 'insert PATH.I VALUE', 'remove PATH.I', 'resize PATH N' or 'copy PATH FROM'. With --calls they are
+the lines of FILE, but empty ones and those that begin with '#'. With --keep-going the message is written also where a
+call is refused. With --packed it is written packed.
 No message is made of more bytes than --limit, or else 1 GiB.
 NAME is a struct of the set in FILE, as 'riftcalico schemas' writes it, or else of the built-in set.
 ";

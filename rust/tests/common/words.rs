@@ -170,7 +170,7 @@ pub fn changed(random: &mut Random, word: &str) -> String {
 pub fn is_heavy(word: &str) -> bool {
     let numbers = word.split(|letter: char| !letter.is_ascii_digit());
     let mut lengths = numbers.filter_map(|digits| digits.parse::<u64>().ok());
-    word.contains("initn") && lengths.any(|length| (1_001..1 << 29).contains(&length))
+    (word.contains("initn") || word.contains("resize")) && lengths.any(|length| (1_001..1 << 29).contains(&length))
 }
 
 fn of_examples(random: &mut Random, name: &str) -> String {
@@ -194,6 +194,9 @@ fn of_examples(random: &mut Random, name: &str) -> String {
 
 fn along_schema(random: &mut Random, schema: StructSchema<'_>) -> String {
     let (path, leaf) = walked(random, schema);
+    if random.once_in(5) {
+        return edited(random, schema, &path, leaf);
+    }
     match random.below(9) {
         0 => format!("get {path}"),
         1 => format!("has {path}"),
@@ -203,6 +206,22 @@ fn along_schema(random: &mut Random, schema: StructSchema<'_>) -> String {
         5 => format!("clear {path}"),
         6 => format!("set {path} {}", random.one_of(&VALUES)),
         _ => format!("set {path} {}", fitting(random, leaf)),
+    }
+}
+
+/// An edit of the list at a path, or a copy there.
+fn edited(random: &mut Random, schema: StructSchema<'_>, path: &str, leaf: Option<Type>) -> String {
+    let element = match leaf.map(|leaf| leaf.which()) {
+        Some(TypeVariant::List(element)) => Some(element),
+        _ => None,
+    };
+    let index = *random.one_of(&["0", "0", "1", "2", "9", "x"]);
+    match random.below(6) {
+        0 => format!("insert {path}.{index} {}", fitting(random, element)),
+        1 => format!("remove {path}.{index}"),
+        2 => format!("resize {path} {}", random.one_of(&LENGTHS)),
+        3 => format!("copy {path} {}", walked(random, schema).0),
+        _ => format!("append {path} {}", fitting(random, element)),
     }
 }
 

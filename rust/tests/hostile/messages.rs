@@ -168,10 +168,18 @@ fn patch_message(
     run_whole(bytes, schema, &calls)
 }
 
-/// A call of a word, where it can be read.
+/// A call of a word, where it can be read and is no edit.
 fn call_word(random: &mut Random, name: &str, schema: StructSchema<'_>) -> Option<CallWord> {
     let word = words::call(random, name, schema);
-    patch::parse_call(Global, &word).expect("there is memory").ok()
+    let word = patch::parse_call(Global, &word).expect("there is memory").ok()?;
+    (!is_edit(&word.op)).then_some(word)
+}
+
+fn is_edit(op: &WordOp) -> bool {
+    matches!(
+        op,
+        WordOp::Append(..) | WordOp::Insert(..) | WordOp::Remove(_) | WordOp::Resize(_) | WordOp::Copy(_)
+    )
 }
 
 /// The value that a call sets, a void where it sets none.
@@ -201,6 +209,9 @@ fn call_of<'c>(word: &CallWord, steps: &'c [Step<'c>], value: Value<'c>) -> Call
         WordOp::Init => Op::Init,
         WordOp::Initn(length) => Op::Initn(length),
         WordOp::Clear => Op::Clear,
+        WordOp::Append(..) | WordOp::Insert(..) | WordOp::Remove(_) | WordOp::Resize(_) | WordOp::Copy(_) => {
+            unreachable!("edits are no calls")
+        }
     };
     match (op, steps.split_last()) {
         (Op::Which, _) | (_, None) => Call {

@@ -18,7 +18,7 @@ fn calls_are(rt: &impl Abort, alloc: Global, rows: &[Row]) -> Result<(), Fail> {
 }
 
 /// A value's bytes are told by their numbers.
-static CALLS: [Row; 14] = [
+static CALLS: [Row; 20] = [
     (
         "get a",
         "Ok(CallWord { path: Path { steps: [Named(\"a\")] }, op: Get })",
@@ -75,6 +75,30 @@ static CALLS: [Row; 14] = [
         "get set",
         "Ok(CallWord { path: Path { steps: [Named(\"set\")] }, op: Get })",
     ),
+    (
+        "append a ",
+        "Ok(CallWord { path: Path { steps: [Named(\"a\")] }, op: Append([], 9) })",
+    ),
+    (
+        "insert a.0.4294967295 1",
+        "Ok(CallWord { path: Path { steps: [Named(\"a\"), Element(0)] }, op: Insert(4294967295, [49], 22) })",
+    ),
+    (
+        "remove 3",
+        "Ok(CallWord { path: Path { steps: [] }, op: Remove(3) })",
+    ),
+    (
+        "resize #1 7",
+        "Ok(CallWord { path: Path { steps: [Field(1)] }, op: Resize(7) })",
+    ),
+    (
+        "copy a.0 .",
+        "Ok(CallWord { path: Path { steps: [Named(\"a\"), Element(0)] }, op: Copy(Path { steps: [] }) })",
+    ),
+    (
+        "copy a b.c",
+        "Ok(CallWord { path: Path { steps: [Named(\"a\")] }, op: Copy(Path { steps: [Named(\"b\"), Named(\"c\")] }) })",
+    ),
 ];
 
 #[test]
@@ -82,7 +106,7 @@ fn words_are_calls(rt: HostRuntime) -> Result<(), Fail> {
     calls_are(&rt, rt.alloc(), &CALLS)
 }
 
-static REFUSED: [Row; 27] = [
+static REFUSED: [Row; 38] = [
     ("", "Err(0)"),
     ("x", "Err(0)"),
     ("sit a", "Err(1)"),
@@ -110,6 +134,17 @@ static REFUSED: [Row; 27] = [
     ("initn a 4294967296", "Err(17)"),
     ("initn a 1 ", "Err(9)"),
     ("initn a -1", "Err(8)"),
+    ("insert a 1", "Err(8)"),
+    ("insert a.b", "Err(10)"),
+    ("insert a.0", "Err(10)"),
+    ("insert a..0 1", "Err(9)"),
+    ("remove a.4294967296", "Err(18)"),
+    ("remove #0", "Err(9)"),
+    ("remove a.0 ", "Err(10)"),
+    ("resize a", "Err(8)"),
+    ("append .", "Err(7)"),
+    ("copy a", "Err(6)"),
+    ("copy a ", "Err(7)"),
 ];
 
 #[test]

@@ -1,0 +1,156 @@
+//! Lists that words edit, and parts that they copy. A row is as those of `rows.rt`; the messages are the public tool's.
+use crate::tests::rows_are_so;
+use std::test::Fail;
+
+/// Edits and copies on messages and on empty roots.
+const EDITED: &str = "\
+# values behind the last element of a list that isn't there: one after another they are one edit
+:new
+:Lists
+:append bytes 1
+:append bytes 2
+:append #0 255
+<
+=0
+>0000000006000000 0000000000000400 0d0000001a000000 0000000000000000 0000000000000000 0000000000000000 \
+    0102ff0000000000
+
+# the same by an insertion, which makes the list, too
+:new
+:--packed
+:Lists
+:insert bytes.0 7
+<
+=0
+>10064004110d0a00020107
+
+# another length
+:new
+:Lists
+:resize items 2
+:set items.1.a 2
+:get items
+<
+=0
+>0000000008000000 0000000000000400 0000000000000000 0000000000000000 0000000000000000 0100000017000000 \
+    0800000001000000 0000000000000000 0200000000000000
+!3: get items = [2 elements]
+
+# in front of an element and behind the last, taken out, and fewer; a refused call at the end writes nothing
+:patch
+:Lists
+:insert bytes.0 9
+:insert bytes.4 8
+:remove bytes.1
+:get bytes
+:get bytes.0
+:get bytes.1
+:get bytes.3
+:resize bytes 1
+:get bytes
+:get bytes.0
+:resize items 3
+:get items.1.a
+:get items.2.a
+:remove items.0
+:get items.0.a
+:get itemz
+<0000000009000000 0000000000000400 0d0000001a000000 0000000000000000 0000000000000000 0500000017000000 \
+    0102ff0000000000 0800000001000000 0100000000000000 0200000000000000
+=1
+!4: get bytes = [4 elements]
+!5: get bytes.0 = 9
+!6: get bytes.1 = 2
+!7: get bytes.3 = 8
+!9: get bytes = [1 elements]
+!10: get bytes.0 = 9
+!12: get items.1.a = 2
+!13: get items.2.a = 0
+!15: get items.0.a = 2
+!16: get itemz: refused: 20 FieldNotFound in Lists; near: items
+
+# an element becomes a copy of another, and one that leads through what is set
+:patch
+:Lists
+:copy items.0 items.1
+:get items.0.a
+:set items.1.a 7
+:get items.0.a
+:copy items items
+:copy bytes.2 bytes.0
+:get bytes.2
+:get raw.0
+<0000000009000000 0000000000000400 0d0000001a000000 0000000000000000 0000000000000000 0500000017000000 \
+    0102ff0000000000 0800000001000000 0100000000000000 0200000000000000
+=1
+!2: get items.0.a = 2
+!4: get items.0.a = 2
+!7: get bytes.2 = 1
+!8: get raw.0: refused: 33 NotAContainer
+
+# each that is refused has its number; what others make stands, where the run goes on
+:patch
+:--keep-going
+:Lists
+:remove bytes.3
+:insert bytes.4 1
+:append t a
+:remove bytes.x.0
+:append itemz 1
+:append items.0.b 1
+:copy items.9 items.0
+:copy items.0 item.0
+:copy itemz .
+:copy t bytes
+:remove 0
+:copy t .
+:append bytes 5
+:get bytes.0
+<0000000001000000 0000000000000000
+=1
+>0000000006000000 0000000000000400 0d0000000a000000 0000000000000000 0000000000000000 0000000000000000 \
+    0500000000000000
+!1: remove bytes.3: refused: 32 NoSuchElement
+!2: insert bytes.4 1: refused: 32 NoSuchElement
+!3: append t a: refused: 21 TypeMismatch
+!4: remove bytes.x.0: refused: 33 NotAContainer
+!5: append itemz 1: refused: 20 FieldNotFound in Lists; near: items
+!6: append items.0.b 1: refused: 32 NoSuchElement
+!7: copy items.9 items.0: refused: 32 NoSuchElement
+!8: copy items.0 item.0: refused: 20 FieldNotFound in Lists; near: items
+!9: copy itemz .: refused: 20 FieldNotFound in Lists; near: items
+!10: copy t bytes: refused: 21 TypeMismatch
+!11: remove 0: refused: 21 TypeMismatch
+!12: copy t .: refused: 21 TypeMismatch
+!14: get bytes.0 = 5
+
+# without --keep-going nothing is written
+:patch
+:Lists
+:append bytes 5
+:remove bytes.1
+<0000000001000000 0000000000000000
+=1
+!2: remove bytes.1: refused: 32 NoSuchElement
+
+# what has no room within the limit; an append that has none leaves room for others
+:new
+:--limit
+:48
+:--keep-going
+:Lists
+:resize bytes 9
+:append bytes 1
+:get bytes
+<
+=1
+>0000000006000000 0000000000000400 0d0000000a000000 0000000000000000 0000000000000000 0000000000000000 \
+    0100000000000000
+!1: resize bytes 9: refused: 11 TooLarge
+!3: get bytes = [1 elements]
+";
+
+#[test]
+fn lists_are_edited(rt: HostRuntime) -> Result<(), Fail> {
+    rows_are_so(&rt, rt.alloc(), EDITED)
+}
