@@ -53,7 +53,7 @@ impl<'s> Compatible<'s> {
     ghost use Rattle.capnp_compatible.specs.Checked.{AreRead, IsAsItWas, IsPair, IsSeen, IsReadUnder, Projects, ProjectsWhereRead, newer_of, older_of};
 
     /// The pair of an older schema and a newer one, where the newer is a compatible successor; nothing where it is not.
-    /// The same is asked of each pair of structs that two shared fields name, and each pair is looked at once.
+    /// Each pair of structs that two shared fields name has to be such a pair too, and is looked at once.
     ///
     /// It is a successor where the older fields are a beginning of the newer ones, by index, and each has its place,
     /// its discriminant value and its default still, and a type that is related: the same one; an enum with at least as

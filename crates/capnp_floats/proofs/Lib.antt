@@ -3,6 +3,7 @@ pub mod Reaching
 pub mod Rounding
 pub mod Going
 pub mod Finding
+pub mod Counting
 pub mod Nearing
 pub mod ReadBack
 pub mod Appending

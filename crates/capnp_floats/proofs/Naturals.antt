@@ -105,20 +105,26 @@ below_differs p x y a b g h d = ⊎_elim
     (λ m. let l : y < x = omega arith in let k : b + p * y < a + p * x = below_less p y x b a h l in grind (arith, nat_tests))
     (cases_lt x y)
 
-pub below_kept : (row other : List ℕ) (i : ℕ) (before after : Bool) → i < length row → length row ≡ length other
-    → ((k : ℕ) → get_or row k 0 < 2 ^ 32) → ((k : ℕ) → get_or other k 0 < 2 ^ 32)
-    → before ≡ ltb (natural_of (take i row)) (natural_of (take i other))
-    → ((get_or row i 0 ≢ get_or other i 0) × (after ≡ ltb (get_or row i 0) (get_or other i 0))) ⊎ ((get_or row i 0 ≡ get_or other i 0) × (after ≡ before))
-    → after ≡ ltb (natural_of (take (i + 1) row)) (natural_of (take (i + 1) other))
-below_kept row other i before after inside long f g is branch =
-    let r : natural_of (take (i + 1) row) ≡ natural_of (take i row) + 2 ^ (32 * i) * get_or row i 0 = low_more row i inside in
-    let o : natural_of (take (i + 1) other) ≡ natural_of (take i other) + 2 ^ (32 * i) * get_or other i 0 = low_more other i (omega arith) in
-    ⊎_elim
-    (λ w. w.1 ∙ sym (below_differs (2 ^ (32 * i)) (get_or row i 0) (get_or other i 0) (natural_of (take i row)) (natural_of (take i other)) (natural_low row i f) (natural_low other i g) w.0)
-    ∙ ap (λ z. ltb z (natural_of (take i other) + 2 ^ (32 * i) * get_or other i 0)) (sym r) ∙ ap (λ z. ltb (natural_of (take (i + 1) row)) z) (sym o))
-    (λ w. w.1 ∙ is ∙ sym (below_same (2 ^ (32 * i)) (get_or row i 0) (get_or other i 0) (natural_of (take i row)) (natural_of (take i other)) w.0)
-    ∙ ap (λ z. ltb z (natural_of (take i other) + 2 ^ (32 * i) * get_or other i 0)) (sym r) ∙ ap (λ z. ltb (natural_of (take (i + 1) row)) z) (sym o))
-    branch
+-- the comparison of rows up to a place, by the digits there and the rows below it
+compared : (row other : List ℕ) (i n : ℕ) → n ≡ i + 1 → i < length row → length row ≡ length other
+    → ltb (natural_of (take n row)) (natural_of (take n other))
+    ≡ ltb (natural_of (take i row) + 2 ^ (32 * i) * get_or row i 0) (natural_of (take i other) + 2 ^ (32 * i) * get_or other i 0)
+compared row other i n e inside long =
+    ap (λ z. ltb (natural_of (take z row)) (natural_of (take z other))) e
+    ∙ ap (λ z. ltb z (natural_of (take (i + 1) other))) (low_more row i inside)
+    ∙ ap (λ z. ltb (natural_of (take i row) + 2 ^ (32 * i) * get_or row i 0) z) (low_more other i (omega arith))
+
+pub last_differs : (row other : List ℕ) (i n : ℕ) → n ≡ i + 1 → i < length row → length row ≡ length other
+    → ((k : ℕ) → get_or row k 0 < 2 ^ 32) → ((k : ℕ) → get_or other k 0 < 2 ^ 32) → get_or row i 0 ≢ get_or other i 0
+    → ltb (get_or row i 0) (get_or other i 0) ≡ ltb (natural_of (take n row)) (natural_of (take n other))
+last_differs row other i n e inside long f g d =
+    sym (below_differs (2 ^ (32 * i)) (get_or row i 0) (get_or other i 0) (natural_of (take i row)) (natural_of (take i other)) (natural_low row i f) (natural_low other i g) d)
+    ∙ sym (compared row other i n e inside long)
+
+pub last_same : (row other : List ℕ) (i n : ℕ) → n ≡ i + 1 → i < length row → length row ≡ length other → get_or row i 0 ≡ get_or other i 0
+    → ltb (natural_of (take n row)) (natural_of (take n other)) ≡ ltb (natural_of (take i row)) (natural_of (take i other))
+last_same row other i n e inside long d =
+    compared row other i n e inside long ∙ below_same (2 ^ (32 * i)) (get_or row i 0) (get_or other i 0) (natural_of (take i row)) (natural_of (take i other)) d
 
 -- what is lent at a place
 pub lent_kept : (x y c : ℕ) → x < 2 ^ 32 → y < 2 ^ 32 → c ≤ 1
@@ -150,18 +156,6 @@ none_lent n o x p zero e f h = omega arith
 none_lent n o x p (suc c) e f h =
     let q : p * 1 ≤ p * suc c = mul-le p 1 p (suc c) (omega arith) (omega arith) in
     absurd (omega arith)
-
--- so many doublings and one more fit, where more do
-pub doubling_fits : (x i n : ℕ) → i < n → x * 2 ^ n < room → x * 2 ^ i * 2 < room
-doubling_fits x i n h f =
-    let p : 2 ^ (i + 1) ≤ 2 ^ n = pow-le-pow_right {n = 2} (lit< tt) {i = i + 1} {j = n} (omega arith) in
-    let s : 2 ^ (i + 1) ≡ 2 ^ i * 2 = pow-add 2 i 1 in
-    let q : x * 2 ^ (i + 1) ≤ x * 2 ^ n = mul-le x (2 ^ (i + 1)) x (2 ^ n) (omega arith) p in
-    let t : x * 2 ^ (i + 1) ≡ x * (2 ^ i * 2) = ap (λ z. x * z) s in
-    omega arith
-
-pub doubled : (x i : ℕ) → x * 2 ^ i * 2 ≡ x * 2 ^ (i + 1)
-doubled x i = let t : x * 2 ^ (i + 1) ≡ x * (2 ^ i * 2) = ap (λ z. x * z) (pow-add 2 i 1) in omega arith
 
 -- a number below 2^1152 has no more than 1152 factors that are at least two
 pub few_factors : (t n : ℕ) → 2 ^ t ≤ n → n < room → t < 1152

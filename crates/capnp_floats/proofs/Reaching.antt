@@ -17,6 +17,10 @@ pub past : (ends : Bool) (x y : ℕ) → y < x → reaches ends x y ≡ true
 past true x y h = le-leb y x (omega arith)
 past false x y h = lt-ltb y x h
 
+pub too_little : (ends : Bool) (x y : ℕ) → x < y → reaches ends x y ≡ false
+too_little true x y h = lt-leb y x h
+too_little false x y h = le-ltb y x (omega arith)
+
 -- of two distances one is reached and the other isn't
 pub between : (ends : Bool) (x y x' y' : ℕ) → reaches ends x y ≡ false → reaches ends x' y' ≡ true → x + y' < x' + y
 between true x y x' y' g h = let l : x < y = leb-false y x g in let m : y' ≤ x' = leb-true y' x' h in omega arith

@@ -121,7 +121,7 @@ high_scaled ends c s v a n p =
     ap (λ z. reaches ends z (n * (s * c))) (let e : v * c + a * c ≡ (v + a) * c = omega arith in e)
     ∙ ap (λ z. reaches ends ((v + a) * c) z) (let e : n * (s * c) ≡ n * s * c = omega arith in e) ∙ reaches_times ends c (v + a) (n * s) p
 
-away_scaled : (c s v n : ℕ) → apart_by (n * (s * c)) (v * c) ≡ apart_by (n * s) v * c
+pub away_scaled : (c s v n : ℕ) → apart_by (n * (s * c)) (v * c) ≡ apart_by (n * s) v * c
 away_scaled c s v n = ap (λ z. apart_by z (v * c)) (let e : n * (s * c) ≡ n * s * c = omega arith in e) ∙ apart_by_times c (n * s) v
 
 pub rounded_unscaled : (ends : Bool) (c s v b a d : ℕ) → 0 < c → IsRounded (interval ends (s * c) (v * c) (b * c) (a * c)) d → IsRounded (interval ends s v b a) d

@@ -1,10 +1,11 @@
 //! The shortest decimals of binary floating point numbers.
-ghost use Rattle.std.specs.Prelude.{◌≡◌, ◌+◌, ◌*◌, ◌-◌, ◌^◌, ◌<◌, ◌≤◌, ◌%◌, ◌==◌, IfSome, is_some};
+ghost use Rattle.std.specs.Prelude.{◌≡◌, ◌+◌, ◌*◌, ◌-◌, ◌^◌, ◌<◌, ◌≤◌, ◌%◌, ◌==◌, ◌⊎◌, IfSome, is_some};
 ghost use Rattle.capnp_floats.specs.Floats.{IsDecimalOf, interval_of, is_finite, place, quarter_places, significand};
 ghost use Rattle.capnp_floats.specs.Naturals.{room};
 ghost use Rattle.capnp_floats.specs.Shortest.{IsShortest, tens, tenths};
 ghost use Rattle.capnp_floats.specs.Steps.Intervals.{interval};
 
+use crate::moderate::find_moderate;
 use crate::natural::Natural;
 use crate::search::{Search, raise};
 use crate::width::{Width, exponent, exponent_end, gap_below, quarter_places, significand};
@@ -48,23 +49,33 @@ fn less(number: u64, other: u64) -> u32
     }
 }
 
-/// A number times a power of two.
-fn scaled(number: u64, times: u32) -> Natural
-    requires number { number ≤ 2 ^ 56 }
-    requires times { times ≤ 1076 }
-    ensures value { result ≡ number * 2 ^ times }
+/// About the tens that a power of two has. None where there is another factor.
+fn tens_within(twos: u32, other: u32) -> u32
+    requires { twos ≤ 1131 }
+    ensures many { result ≤ 340 }
+    ensures few { twos ≤ 1076 → result ≤ 323 }
+    ensures alone { (other ≡ 0) ⊎ (result ≡ 0) }
+{
+    if other > 0 { 0 } else { twos * 1233 / 4096 }
+}
+
+/// A number times a power of two and one of ten.
+fn scaled(number: u64, twos: u32, tens: u32) -> Natural
+    requires { number * 2 ^ twos * 10 ^ tens ≤ 2 ^ 1138 }
+    ensures value { result ≡ number * 2 ^ twos * 10 ^ tens }
     ensures small { 10000 * result < room }
     ensures positive { 0 < number → 0 < result }
 {
     let mut natural = Natural::new(number);
-    natural.double(times);
+    natural.double(twos);
+    natural.multiply_tens(tens);
     natural
 }
 
 /// The power of ten that is so many tens over so many.
-fn exponent_of(up: u32, down: u32) -> i32
-    requires up { up ≤ 1152 }
-    requires down { down ≤ 1152 }
+pub(crate) fn exponent_of(up: u32, down: u32) -> i32
+    requires up { up ≤ 4096 }
+    requires down { down ≤ 4096 }
     ensures { up + tenths result ≡ down + tens result }
 {
     up as i32 - down as i32
@@ -80,10 +91,13 @@ fn find(significand: u64, gap: u64, up: u32, down: u32, has_ends: bool) -> Decim
     requires down { down ≤ 1076 }
     ensures { IsShortest (interval has_ends (2 ^ down) (4 * significand * 2 ^ up) (gap * 2 ^ up) (2 * 2 ^ up)) result.digits result.exponent }
 {
-    let value = scaled(4 * significand, up);
-    let below = scaled(gap, up);
-    let above = scaled(2, up);
-    let mut one = scaled(1, down);
+    // most digits in front of the first are skipped; a power that is too large is made up for by the other
+    let tenths = tens_within(down.saturating_sub(55), up);
+    let tens = tens_within(up + 55, down);
+    let value = scaled(4 * significand, up, tenths);
+    let below = scaled(gap, up, tenths);
+    let above = scaled(2, up, tenths);
+    let mut one = scaled(1, down, tens);
     let high = value.sum(&above);
     let power = raise(&mut one, &high, has_ends);
     let mut search = Search {
@@ -97,7 +111,7 @@ fn find(significand: u64, gap: u64, up: u32, down: u32, has_ends: bool) -> Decim
     };
     search.run();
     let digits = search.rounded();
-    let exponent = exponent_of(power, search.tenths);
+    let exponent = exponent_of(tens + power, tenths + search.tenths);
     Decimal { digits, exponent }
 }
 
@@ -109,13 +123,13 @@ fn shortest_of(width: Width, bits: u64) -> Decimal
     let last = less(exponent(width, bits), 1) as u64;
     let quarter = quarter_places(width);
     let number = significand(width, bits);
-    find(
-        number,
-        gap_below(width, bits),
-        less(last, quarter),
-        less(quarter, last),
-        number % 2 == 0,
-    )
+    let gap = gap_below(width, bits);
+    let (up, down) = (less(last, quarter), less(quarter, last));
+    let has_ends = number % 2 == 0;
+    if let Some(decimal) = find_moderate(number, gap, up, down, has_ends) {
+        return decimal;
+    }
+    find(number, gap, up, down, has_ends)
 }
 
 /// The shortest decimal that is nearer to a number than to any other of its width, without its sign; a middle between

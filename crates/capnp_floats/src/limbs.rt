@@ -64,11 +64,12 @@ pub fn is_below(row: &[u32], other: &[u32]) -> bool
     requires { length row.now ≡ length other.now }
     ensures { result ≡ nat_lt (natural_of row.now) (natural_of other.now) }
 {
-    let mut below = false;
-    for i in 0..row.len() {
-        if row[i] != other[i] {
-            below = row[i] < other[i];
+    let mut left = row.len();
+    'places: while left > 0 {
+        left -= 1;
+        if row[left] != other[left] {
+            return row[left] < other[left];
         }
     }
-    below
+    false
 }

@@ -114,6 +114,32 @@ impl Natural {
         self.kept = Kept::Many(wide);
     }
 
+    /// The natural times a power of ten, where both are numbers.
+    fn few_tens(&self, tens: u32) -> Option<u128>
+        ensures { IfSome result (λ n. n ≡ self.now * 10 ^ tens) }
+    {
+        let number = self.few()?;
+        times(number, 10, tens)
+    }
+
+    /// The natural times a power of ten.
+    ///
+    /// # Conditions
+    ///
+    /// The product is below 2^1152 (`room`).
+    pub fn multiply_tens(&mut self, tens: u32)
+        requires { self.old * 10 ^ tens < room }
+        ensures { self.new ≡ self.old * 10 ^ tens }
+    {
+        if let Some(product) = self.few_tens(tens) {
+            self.kept = Kept::Few(product);
+            return;
+        }
+        let mut wide = self.widened();
+        wide.multiply_tens(tens);
+        self.kept = Kept::Many(wide);
+    }
+
     /// The sum with another, where both and it are numbers.
     #[inline(always)]
     fn few_sum(&self, other: &Natural) -> Option<u128>

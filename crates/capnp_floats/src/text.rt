@@ -13,10 +13,10 @@ fn put_bytes(out: &mut String, bytes: &[u8]) -> Result<(), AllocError>
     requires { IsAscii bytes.now }
     ensures put { OnOk result (string_bytes out.new ≡ string_bytes out.old ++ bytes.now) }
 {
-    for byte in bytes {
-        out.push(*byte as char)?;
-    }
-    Ok(())
+    let Ok(text) = std::str::from_utf8(bytes) else {
+        unreachable!()
+    };
+    out.push_str(text)
 }
 
 /// Appends so many zeros.
@@ -149,6 +149,8 @@ fn put_digits(
 pub fn put_decimal(out: &mut String, width: Width, decimal: Decimal) -> Result<(), AllocError>
     ensures put { OnOk result (string_bytes out.new ≡ string_bytes out.old ++ layout width decimal.digits decimal.exponent) }
 {
+    // most texts have no more bytes, so that the string grows once
+    out.reserve(24)?;
     let mut digits = String::new(*out.allocator());
     let number = decimal.digits;
     write!(digits, "{number}")?;

@@ -49,6 +49,25 @@ impl Wide {
         limbs::scale(&mut self.row, factor, 0);
     }
 
+    /// The natural times a power of a base, of which a power that fits is given.
+    fn raise(&mut self, base: u32, few: u32, power: u32, times: u32)
+        requires positive { 0 < base }
+        requires some { 0 < few }
+        requires power { power ≡ base ^ few }
+        requires room { self.old * base ^ times < room }
+        ensures { self.new ≡ self.old * base ^ times }
+    {
+        let mut left = times;
+        'many: while left >= few {
+            self.multiply(power);
+            left -= few;
+        }
+        'single: while left > 0 {
+            self.multiply(base);
+            left -= 1;
+        }
+    }
+
     /// The natural times a power of two.
     ///
     /// # Conditions
@@ -58,9 +77,19 @@ impl Wide {
         requires { self.old * 2 ^ times < room }
         ensures { self.new ≡ self.old * 2 ^ times }
     {
-        'doubling: for i in 0..times {
-            self.multiply(2);
-        }
+        self.raise(2, 31, 2147483648, times);
+    }
+
+    /// The natural times a power of ten.
+    ///
+    /// # Conditions
+    ///
+    /// The product is below 2^1152 (`room`).
+    pub fn multiply_tens(&mut self, times: u32)
+        requires { self.old * 10 ^ times < room }
+        ensures { self.new ≡ self.old * 10 ^ times }
+    {
+        self.raise(10, 9, 1000000000, times);
     }
 
     /// The sum with another.

@@ -18,7 +18,7 @@ use Rattle.capnp_schema.specs.Ranges.{HasRanges, HasWidths}
 use Rattle.capnp_schema.specs.Schema.{FieldKind, Group, Schemas, Slot, TypedField, field_at, fields_of, is_member, kind_default, node_of, Value as SchemaValue}
 use Rattle.capnp_schema.specs.SlotValue.{default_bits, slot_number}
 use Rattle.capnp_schema.specs.Types.{SchemaType, VoidType, BoolType, IntType, UIntType, EnumType, TextType, DataType, StructType, ListType, AnyPointerType, element_size, is_pointer, width}
-use Rattle.capnp_records.proofs.Readings.{AllBelow, AllReadings, bytes_below_are, nth_body_is, nth_reading_is, pointers_below_are, struct_below_are, AllBodies}
+use Rattle.capnp_records.proofs.Readings.{AllBelow, AllReadings, bytes_below_are, nth_body_reads, nth_reading_is, pointers_below_are, struct_below_are, AllBodies}
 use Rattle.capnp_records.specs.Facts.Members.{once_from_members}
 use Rattle.capnp_records.specs.Reading.{Below, Body, Reading, active_among, bodies_of, bytes_below, discriminant, element_value, elements_value, entered_value, first_pointer, kind_value, nth_body, nth_reading, non_union_parts, null, number_value, of_read, pointers_below, record_of, record_within, slot_value, struct_below, structs_below, tree_value, value_of, values_of}
 use Rattle.capnp_records.specs.Record as value
@@ -256,7 +256,7 @@ module _ (set : Schemas) (accepted : IsAccepted set) (ranges : HasRanges set) wh
       go false = nth_reading_is FitsAll null_fits body.pointers all 0 (one_less l) t pointer typed
 
   structs_fit : (bs : List Body) → AllBodies FitsAll bs → AllBelow FitsAll (structs_below set bs)
-  structs_fit bs all = record { pointers = tt; element_pointers = λ i. first_fits (nth_body bs i) (nth_body_is FitsAll null_fits bs all i); element_bodies = nth_body_is FitsAll null_fits bs all }
+  structs_fit bs all = record { pointers = tt; element_pointers = λ i. first_fits (nth_body bs i) (nth_body_reads FitsAll null_fits bs all i); element_bodies = nth_body_reads FitsAll null_fits bs all }
 
   mutual
     pub reading_fits : (x : Tree) → IsWellFormed x → FitsAll (value_of set x)

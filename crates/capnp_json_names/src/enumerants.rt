@@ -21,7 +21,7 @@ fn find_other(enumerants: &[EnumerantRecord], ordinal: usize, name: &[u8]) -> Op
     None
 }
 
-/// The same for an enumerant of an ordinal that has an annotation `name`.
+/// The enumerant at an ordinal and another that has its name, where an annotation `name` gives it one.
 fn find_met(
     enumerants: &[EnumerantRecord],
     ordinal: usize,

@@ -21,7 +21,7 @@ fn find_other(fields: &[FieldRecord], index: usize, name: &[u8]) -> Option<usize
     None
 }
 
-/// The same for a field of an index, where an annotation gives its name.
+/// The field at an index and another that has its name in JSON, where an annotation gives it one.
 fn find_met(fields: &[FieldRecord], index: usize, label: Label<'_>) -> Option<(usize, usize)>
     ensures { result ≡ pair_at (field_labels (map seen_field fields.now)) index (Some (label_seen label.entry)) }
 {

@@ -102,7 +102,7 @@ pub fn has_floats_at(schema: StructSchema<'_>, path: &[Step<'_>]) -> bool
     stand_at(schema, path).form.floats
 }
 
-/// The same of the path with a step more behind it.
+/// Whether the numbers at a path with a step more behind it are floats.
 ///
 /// # Conditions
 ///

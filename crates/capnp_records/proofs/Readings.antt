@@ -42,14 +42,14 @@ module _ (P : Reading → Type 0) where
     pub pointers_below_are : (rs : List Reading) → AllReadings rs → AllBelow (pointers_below rs)
     pointers_below_are rs all = record { pointers = tt; element_pointers = nth_reading_is rs all; element_bodies = only_readings rs all }
 
-    pub nth_body_is : (bs : List Body) → AllBodies bs → (i : ℕ) → AllReadings (nth_body bs i).pointers
-    nth_body_is [] all i = tt
-    nth_body_is (b ∷ bs) all zero = all.0
-    nth_body_is (b ∷ bs) all (suc i) = nth_body_is bs all.1 i
+    pub nth_body_reads : (bs : List Body) → AllBodies bs → (i : ℕ) → AllReadings (nth_body bs i).pointers
+    nth_body_reads [] all i = tt
+    nth_body_reads (b ∷ bs) all zero = all.0
+    nth_body_reads (b ∷ bs) all (suc i) = nth_body_reads bs all.1 i
 
     module _ (set : Schemas) (of_first : (body : Body) → AllReadings body.pointers → P (first_pointer set body)) (of_tree : (x : Tree) (below : Below) → AllBelow below → P (tree_value set x below)) where
       structs_below_are : (bs : List Body) → AllBodies bs → AllBelow (structs_below set bs)
-      structs_below_are bs all = record { pointers = tt; element_pointers = λ i. of_first (nth_body bs i) (nth_body_is bs all i); element_bodies = nth_body_is bs all }
+      structs_below_are bs all = record { pointers = tt; element_pointers = λ i. of_first (nth_body bs i) (nth_body_reads bs all i); element_bodies = nth_body_reads bs all }
 
       -- ---- trees ----
 

@@ -27,7 +27,7 @@ use Rattle.capnp_records.proofs.Projects.{fields_fit}
 use Rattle.capnp_records.specs.Upgrades.{are_uncut, asked_by, each_lists_read, first_lists_read, is_uncut, lists_read, struct_lists_read, unleveled, unleveled_values}
 use Rattle.capnp_records.specs.Facts.DefaultTree.{tree_value_there}
 use Rattle.capnp_wire.specs.declared.fault.Fault.TheVariants as fault
-use Rattle.capnp_records.proofs.Readings.{AllBelow, AllBodies, AllReadings, bytes_below_are, each_pointer, nth_body_is, nth_reading_is, pointers_below_are, struct_below_are}
+use Rattle.capnp_records.proofs.Readings.{AllBelow, AllBodies, AllReadings, bytes_below_are, each_pointer, nth_body_reads, nth_reading_is, pointers_below_are, struct_below_are}
 use Rattle.capnp_records.proofs.RelatedTypes.{element_size_related}
 use Rattle.capnp_records.proofs.Uncut.{Keeps, no_and, left_one_less, uncut_unleveled, values_of_keep, null_keeps}
 use Rattle.capnp_records.proofs.UpgradedElements.{First, first_number, first_of_struct}
@@ -365,8 +365,8 @@ module _ (set : Schemas) (pairs : Pairs) where
       each (tree.Composite d p es) formed =
           tree_sees (tree.Composite d p es) formed (record {
             pointers = tt;
-            element_pointers = λ i. first_sees (nth_body (bodies_of set es) i) (body_there set es i) (nth_body_is (Upgrades set pairs) (null_upgrades set pairs) (bodies_of set es) (each_body d p es formed.4) i);
-            element_bodies = nth_body_is (Upgrades set pairs) (null_upgrades set pairs) (bodies_of set es) (each_body d p es formed.4);
+            element_pointers = λ i. first_sees (nth_body (bodies_of set es) i) (body_there set es i) (nth_body_reads (Upgrades set pairs) (null_upgrades set pairs) (bodies_of set es) (each_body d p es formed.4) i);
+            element_bodies = nth_body_reads (Upgrades set pairs) (null_upgrades set pairs) (bodies_of set es) (each_body d p es formed.4);
           })
       each (tree.FaultLeaf y) formed = tree_sees (tree.FaultLeaf y) formed (struct_below_are (Upgrades set pairs) (null_upgrades set pairs) [] tt)
 

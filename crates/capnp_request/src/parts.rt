@@ -394,7 +394,7 @@ pub(crate) fn element_at<'a>(
     }
 }
 
-/// The same, where the brand's schema is at hand.
+/// The struct at an index of a list of structs, where its schema is at hand.
 #[inline(always)]
 pub(crate) fn record_at<'a>(
     list: dynamic_list::Reader<'a>,

@@ -21,7 +21,7 @@ pub fn unbound_names_differ()
     ensures { UnboundNamesDiffer }
 {}
 
-/// The same of bound entries, where no display name and no name of a field has a bracket. Two entries that are no groups have one
+/// Names of bound entries, where no display name and no name of a field has a bracket: two entries that are no groups have one
 /// name only where they are of one node, and what is bound to them is written alike behind each part of the name. A text and a
 /// struct or an enum that is named `Text` are written alike, as are enums of one name in two files.
 pub fn bound_names_differ()

@@ -162,12 +162,18 @@ same_fault size s j v e is at =
     ∙ (sym (fault_appended (element_struct e.list e.index).pointers (size.pointers - tree_count (element_struct e.list e.index).pointers))
     ∙ ap (λ x. first_fault_of_all (struct_of_size size x).pointers) at)
 
+-- a struct without faults was put at a place of a message's list
+pub record IsPutAt (a b : Arena) (j : ℕ) (v : StructTree) : Type 0 where
+  pub message : IsMessage b
+  pub tree : message_tree b ≡ with_struct_element j (fitted_struct (length (element_struct (message_tree a) j).bytes) (tree_count (element_struct (message_tree a) j).pointers) v) (message_tree a)
+  pub sound : first_fault_of_all v.pointers ≡ None
+
 pub structs_next : (a b : Arena) (size : StructSize) (s : Splice) (j : ℕ) (v : StructTree) (e : Element) → StructsTo a size s j → j < spliced_count s → v ≡ element_struct e.list e.index → e ≡ picked s j → IsWellFormed e.list → HasRoomFor size e.list
-    → IsMessage b → message_tree b ≡ with_struct_element j (fitted_struct (length (element_struct (message_tree a) j).bytes) (tree_count (element_struct (message_tree a) j).pointers) v) (message_tree a) → first_fault_of_all v.pointers ≡ None → StructsTo b size s (j + 1)
-structs_next a b size s j v e so_far h is at formed room message tree sound = record {
-  message = message;
-  tree = tree ∙ (ap (λ t. with_struct_element j (fitted_struct (length (element_struct t j).bytes) (tree_count (element_struct t j).pointers) v) t) so_far.tree ∙ struct_put size s j v e h is at formed room);
-  sound = one_more (λ k. first_fault_of_all (struct_of_size size (picked s k)).pointers ≡ None) j so_far.sound (sym (same_fault size s j v e is at) ∙ sound);
+    → IsPutAt a b j v → StructsTo b size s (j + 1)
+structs_next a b size s j v e so_far h is at formed room put = record {
+  message = put.message;
+  tree = put.tree ∙ (ap (λ t. with_struct_element j (fitted_struct (length (element_struct t j).bytes) (tree_count (element_struct t j).pointers) v) t) so_far.tree ∙ struct_put size s j v e h is at formed room);
+  sound = one_more (λ k. first_fault_of_all (struct_of_size size (picked s k)).pointers ≡ None) j so_far.sound (sym (same_fault size s j v e is at) ∙ put.sound);
 }
 
 pub structs_end : (a : Arena) (size : StructSize) (s : Splice) (n : ℕ) → StructsTo a size s n → n ≡ spliced_count s → message_tree a ≡ spliced_structs size s

@@ -102,7 +102,7 @@ pub fn splice_pointers(arena: &mut Arena, splice: Splice<'_>) -> Result<()>
     Ok(())
 }
 
-/// The same list, with a level left for each of its elements.
+/// A list with a level left for each of its elements.
 fn with_a_level<'a>(list: ListReader<'a>) -> ListReader<'a>
     ensures list { list_of result ≡ list_of list.entry }
     ensures levels { list_levels result ≡ 1 }

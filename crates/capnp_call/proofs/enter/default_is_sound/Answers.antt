@@ -10,18 +10,18 @@ use Rattle.capnp_records.specs.Facts.FormedSets.{formed_words}
 use Rattle.capnp_slots.specs.Fields.{field_brand, field_set}
 use Rattle.capnp_call.proofs.enter.default_is_sound.Goals as goal
 
-formed-default : (d : SchemaValue) → ValueFits d → IsWellFormed (value_default_tree d)
-formed-default (StructValue words) fits = formed_words words fits
-formed-default (ListValue words) fits = formed_words words fits
-formed-default (AnyPointerValue words) fits = formed_words words fits
-formed-default d fits = tt
+formed_default : (d : SchemaValue) → ValueFits d → IsWellFormed (value_default_tree d)
+formed_default (StructValue words) fits = formed_words words fits
+formed_default (ListValue words) fits = formed_words words fits
+formed_default (AnyPointerValue words) fits = formed_words words fits
+formed_default d fits = tt
 
 pub returns-clause-formed : goal.returns-clause-formed
 returns-clause-formed c =
     let f = c.args.field in
     let is : IsStruct (field_schema f) = subst IsStruct c.get_containing_struct.ensures.is c.get_containing_struct.ensures.stands in
     let ranges : HasRanges (field_set f) = subst HasRanges (c.get_set.ensures ∙ ap set_of c.get_containing_struct.ensures.is) c.numbers_fit.ensures in
-    formed-default (default_of (typed_of f).field) (ranges.defaults (field_brand f) (index_of f) is.number f.inside)
+    formed_default (default_of (typed_of f).field) (ranges.defaults (field_brand f) (index_of f) is.number f.inside)
 
 pub returns-clause-fits : goal.returns-clause-fits
 returns-clause-fits c =

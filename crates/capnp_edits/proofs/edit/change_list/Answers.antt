@@ -62,12 +62,12 @@ pub returns-clause-message : goal.returns-clause-message
 returns-clause-message c = search rules
 
 -- the splice that was made, as the definitions have it
-same-list : (z z' : ElementSize) (size size' : StructSize) (old a a' : Tree) (p : Place) → z ≡ z' → size ≡ size' → a ≡ a' → spliced_list z size (splice_at old a p) ≡ spliced_list z' size' (splice_at old a' p)
-same-list z z' size size' old a a' p e f g =
+same_list : (z z' : ElementSize) (size size' : StructSize) (old a a' : Tree) (p : Place) → z ≡ z' → size ≡ size' → a ≡ a' → spliced_list z size (splice_at old a p) ≡ spliced_list z' size' (splice_at old a' p)
+same_list z z' size size' old a a' p e f g =
     ap (λ x. spliced_list x size (splice_at old a p)) e ∙ (ap (λ x. spliced_list z' x (splice_at old a p)) f ∙ ap (λ x. spliced_list z' size' (splice_at old x p)) g)
 
-same-refusal : (z z' : ElementSize) (size size' : StructSize) (old a a' : Tree) (p : Place) → z ≡ z' → size ≡ size' → a ≡ a' → splice_refusal z size (splice_at old a p) ≡ splice_refusal z' size' (splice_at old a' p)
-same-refusal z z' size size' old a a' p e f g =
+same_refusal : (z z' : ElementSize) (size size' : StructSize) (old a a' : Tree) (p : Place) → z ≡ z' → size ≡ size' → a ≡ a' → splice_refusal z size (splice_at old a p) ≡ splice_refusal z' size' (splice_at old a' p)
+same_refusal z z' size size' old a a' p e f g =
     ap (λ x. splice_refusal x size (splice_at old a p)) e ∙ (ap (λ x. splice_refusal z' x (splice_at old a p)) f ∙ ap (λ x. splice_refusal z' size' (splice_at old x p)) g)
 
 pub returns-clause-changed : goal.returns-clause-changed
@@ -81,8 +81,8 @@ returns-clause-changed c =
       added = message_tree c.in_ok-made.made;
       is_added = rw (sym c.len-length.ensures.length) c.in_ok-made.ensures.added;
       formed = record { within = place_within (edit_seen c.args.edit) (list_length (list_of c.args.list.now)) p n; old = c.list_is_well_formed.ensures; added = c.tree_is_sound.ensures.formed };
-      list = tree ∙ same-list _ _ _ _ (list_of c.args.list.now) (list_of c.in_ok-added.added) (message_tree c.in_ok-made.made) p e c.find_size.ensures c.in_ok-added.ensures.list;
-      sound = sym (same-refusal _ _ _ _ (list_of c.args.list.now) (list_of c.in_ok-added.added) (message_tree c.in_ok-made.made) p e c.find_size.ensures c.in_ok-added.ensures.list) ∙ sound;
+      list = tree ∙ same_list _ _ _ _ (list_of c.args.list.now) (list_of c.in_ok-added.added) (message_tree c.in_ok-made.made) p e c.find_size.ensures c.in_ok-added.ensures.list;
+      sound = sym (same_refusal _ _ _ _ (list_of c.args.list.now) (list_of c.in_ok-added.added) (message_tree c.in_ok-made.made) p e c.find_size.ensures c.in_ok-added.ensures.list) ∙ sound;
     }) c.splice_lists.ensures.tree c.splice_lists.ensures.sound
 
 pub returns-clause-cause : goal.returns-clause-cause
@@ -91,4 +91,4 @@ returns-clause-cause c =
     let n : place_of (edit_seen c.args.edit) (list_length (list_of c.args.list.now)) ≡ Ok p = rw (sym c.len-length.ensures.length) (sym c.in_ok-place.ensures) in
     let e = asked_size c.args.element c.expected_element_size.result c.expected_element_size.ensures in
     if_err c.splice_lists.result (λ x refused other. not_spliced p (message_tree c.in_ok-made.made) x.kind n (rw (sym c.len-length.ensures.length) c.in_ok-made.ensures.added)
-    (sym (same-refusal _ _ _ _ (list_of c.args.list.now) (list_of c.in_ok-added.added) (message_tree c.in_ok-made.made) p e c.find_size.ensures c.in_ok-added.ensures.list) ∙ refused other)) c.splice_lists.ensures.cause
+    (sym (same_refusal _ _ _ _ (list_of c.args.list.now) (list_of c.in_ok-added.added) (message_tree c.in_ok-made.made) p e c.find_size.ensures c.in_ok-added.ensures.list) ∙ refused other)) c.splice_lists.ensures.cause

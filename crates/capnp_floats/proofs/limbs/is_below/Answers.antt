@@ -1,9 +1,15 @@
-use Rattle.std.proofs.Common.{arith, inl, inr}
-use Rattle.capnp_floats.proofs.Naturals.{below_kept}
+-- The highest place where the rows differ decides; above it they are the same.
+use Rattle.std.proofs.Common.{arith, sym, ◌∙◌, ◌-◌}
+use Rattle.capnp_floats.proofs.Naturals.{last_differs, last_same}
 use Rattle.capnp_floats.proofs.limbs.is_below.Goals as goal
-use Rattle.capnp_floats.proofs.limbs.is_below.Goals.{then-row-i, else-row-i}
 
-pub loop-i-preserved : goal.loop-i-preserved
-loop-i-preserved c = below_kept c.args.row.now c.args.other.now c.loop-i.i c.loop-i.below c.if-row-i.below (omega arith) (omega arith)
-    (λ k. (c.type_inv.row k).fits) (λ k. (c.type_inv.other k).fits) c.loop-i.invariant
-    (elim c.if-row-i.branch [ then-row-i w ↦ inl (w.if-row-i.true, w.below-is) | else-row-i w ↦ inr (w.if-row-i.false, w.below-is) ])
+pub returns-then-row-left : goal.returns-then-row-left
+returns-then-row-left c = last_differs c.args.row.now c.args.other.now (c.places.left - 1) c.places.left (omega arith) (omega arith) (omega arith)
+    (λ k. (c.type_inv.row k).fits) (λ k. (c.type_inv.other k).fits) c.if-row-left.true ∙ sym c.places.invariant.same
+
+pub places-preserved : goal.places-preserved
+places-preserved c = record {
+  inside = omega arith;
+  same = c.places.invariant.same
+      ∙ last_same c.args.row.now c.args.other.now (c.places.left - 1) c.places.left (omega arith) (omega arith) (omega arith) c.if-row-left.false;
+}

@@ -20,8 +20,8 @@ use Rattle.capnp_slots.proofs.group_copy.copy_group.Goals as goal
 abbrev levels : StructReader → Levels
 levels source = Left (struct_levels source)
 
-abbrev err-of : Error → Result ⊤ Error
-err-of e = Err e
+abbrev err_of : Error → Result ⊤ Error
+err_of e = Err e
 
 pub loop-next-init : goal.loop-next-init
 loop-next-init c = record {
@@ -74,13 +74,13 @@ copy-requires-clause-room c = room_at c.args.groups c.loop-next.left (levels c.a
 pub returns-in-Err-clause-copied : goal.returns-in-Err-clause-copied
 returns-in-Err-clause-copied c =
     cut_slot (Through c.args.groups c.args.schema (levels c.args.source) (struct_of c.args.source) (built_at c.args.arena.now c.args.place)) (levels c.args.source) (struct_of c.args.source) c.loop-next.left c.loop-next.at (depth_at c.args.groups c.loop-next.left) c.loop-next.next c.in-Some-copied_at.field _ _ c.in-Err.error.kind c.in-Some-copied_at.ensures (omega (arith, c.field_count.ensures.count, c.if-next-field_count.false))
-    (slot_refused c.loop-next.left c.in-Some-copied_at.field (levels c.args.source) (struct_of c.args.source) _ _ c.in-Err.error c.in_default-group_of.ensures (same_struct c.args.place c.loop-next.arena c.copy.new.arena (err-of c.in-Err.error) c.in-Err.ensures.refused) c.in-Err.ensures.cause) c.loop-next.invariant.left
+    (slot_refused c.loop-next.left c.in-Some-copied_at.field (levels c.args.source) (struct_of c.args.source) _ _ c.in-Err.error c.in_default-group_of.ensures (same_struct c.args.place c.loop-next.arena c.copy.new.arena (err_of c.in-Err.error) c.in-Err.ensures.refused) c.in-Err.ensures.cause) c.loop-next.invariant.left
 
 pub returns-in-Err-clause-frame : goal.returns-in-Err-clause-frame
-returns-in-Err-clause-frame c = struct_after c.loop-next.invariant.frame.changes (frame_after c.args.place c.loop-next.arena c.copy.new.arena (err-of c.in-Err.error) c.loop-next.invariant.frame.planted tt c.in-Err.ensures.refused)
+returns-in-Err-clause-frame c = struct_after c.loop-next.invariant.frame.changes (frame_after c.args.place c.loop-next.arena c.copy.new.arena (err_of c.in-Err.error) c.loop-next.invariant.frame.planted tt c.in-Err.ensures.refused)
 
 pub returns-in-Err-clause-kept : goal.returns-in-Err-clause-kept
-returns-in-Err-clause-kept c = subst (λ (y : StructTree). KeepsSize (built_at c.args.arena.now c.args.place) y) (sym (same_struct c.args.place c.loop-next.arena c.copy.new.arena (err-of c.in-Err.error) c.in-Err.ensures.refused)) c.loop-next.invariant.size
+returns-in-Err-clause-kept c = subst (λ (y : StructTree). KeepsSize (built_at c.args.arena.now c.args.place) y) (sym (same_struct c.args.place c.loop-next.arena c.copy.new.arena (err_of c.in-Err.error) c.in-Err.ensures.refused)) c.loop-next.invariant.size
 
 pub loop-next-smaller-in_default-group_of : goal.loop-next-smaller-in_default-group_of
 loop-next-smaller-in_default-group_of c = less_on c.loop-next.left c.loop-next.at (depth_at c.args.groups c.loop-next.left) c.loop-next.next (omega (arith, c.field_count.ensures.count, c.if-next-field_count.false))

@@ -12,9 +12,9 @@ use Rattle.capnp_splices.specs.Alone.{struct_alone, whole_size}
 use Rattle.capnp_splices.proofs.Filled.{fitted_whole}
 use Rattle.capnp_splices.proofs.alone.list_struct.Goals as goal
 
-put-whole : (least size : StructSize) (s : StructTree) (t : Tree) → size ≡ whole_size least s → t ≡ zero_structs size 1
+put_whole : (least size : StructSize) (s : StructTree) (t : Tree) → size ≡ whole_size least s → t ≡ zero_structs size 1
     → with_struct_element 0 (fitted_struct (length (element_struct t 0).bytes) (tree_count (element_struct t 0).pointers) s) t ≡ struct_alone least s
-put-whole least size s t is new =
+put_whole least size s t is new =
     ap (λ x. with_struct_element 0 (fitted_struct (length (element_struct x 0).bytes) (tree_count (element_struct x 0).pointers) s) x) (new ∙ ap (λ z. zero_structs z 1) is)
     ∙ (ap₂ (λ m n. with_struct_element 0 (fitted_struct m n s) (zero_structs (whole_size least s) 1)) (length-replicate (8 * (whole_size least s).data_words) 0) (tree_count_nulls (whole_size least s).pointers)
     ∙ ap (λ (x : StructTree). Composite (whole_size least s).data_words (whole_size least s).pointers (MoreStructs x.bytes x.pointers NoStructs))
@@ -23,4 +23,4 @@ put-whole least size s t is new =
 pub returns-clause-tree : goal.returns-clause-tree
 returns-clause-tree c =
     c.in_ok-put_struct.ensures.tree
-    ∙ put-whole c.args.least c.size_for-size.result (struct_of c.args.source.now) _ c.size_for-size.ensures c.in_ok-init_struct_list.ensures.tree
+    ∙ put_whole c.args.least c.size_for-size.result (struct_of c.args.source.now) _ c.size_for-size.ensures c.in_ok-init_struct_list.ensures.tree

@@ -18,15 +18,15 @@ use Rattle.capnp_splices.proofs.SoFar.{struct_fault, struct_there, structs_end, 
 use Rattle.capnp_splices.proofs.rows.splice_structs.Goals as goal
 
 -- the element that was read
-element-read : (list from : ListReader) (v : StructReader) (i : ℕ) → list_of list ≡ list_of from → list_levels list ≡ 1 → struct_read (Ok v) ≡ with_level (list_levels list) (Ok (element_struct (list_of list) i)) → struct_of v ≡ element_struct (list_of from) i
-element-read list from v i same levels is =
-    ok-same (is ∙ (ap (λ l. with_level l (Ok (element_struct (list_of list) i))) levels ∙ ap (λ t. Ok (element_struct t i)) same))
+element_read : (list from : ListReader) (v : StructReader) (i : ℕ) → list_of list ≡ list_of from → list_levels list ≡ 1 → struct_read (Ok v) ≡ with_level (list_levels list) (Ok (element_struct (list_of list) i)) → struct_of v ≡ element_struct (list_of from) i
+element_read list from v i same levels is =
+    ok_same (is ∙ (ap (λ l. with_level l (Ok (element_struct (list_of list) i))) levels ∙ ap (λ t. Ok (element_struct t i)) same))
   where
     answer : StructTree → Result StructTree ErrorKind
     answer x = Ok x
 
-    ok-same : {x y : StructTree} → answer x ≡ answer y → x ≡ y
-    ok-same e = cc
+    ok_same : {x y : StructTree} → answer x ≡ answer y → x ≡ y
+    ok_same e = cc
 
 -- the list is within the format
 within_at : (size : StructSize) (s : Splice) (n : ℕ) → n ≡ spliced_count s → n < words_past_format → n * (size.data_words + size.pointers) < words_past_format → is_past_format (spliced_structs size s) ≡ false
@@ -53,7 +53,7 @@ returns-in_err-put_struct-clause-cause c =
     rw (p.1, p.2) (λ other.
     made_within (spliced_structs c.args.size s) (within_at c.args.size s c.count_spliced-count.result c.count_spliced-count.ensures c.in_ok-init_struct_list.ensures.within.0 c.in_ok-init_struct_list.ensures.within.1)
     ∙ struct_fault c.loop-index.arena c.args.size s c.loop-index.index (struct_of c.in-Ok.element) (picked_element c.pick-picked.result) _ c.loop-index.invariant inside
-    (element-read c.with_a_level-list.result c.pick-picked.result.list c.in-Ok.element c.pick-picked.result.index c.with_a_level-list.ensures.list c.with_a_level-list.ensures.levels c.in-Ok.ensures.read)
+    (element_read c.with_a_level-list.result c.pick-picked.result.list c.in-Ok.element c.pick-picked.result.index c.with_a_level-list.ensures.list c.with_a_level-list.ensures.levels c.in-Ok.ensures.read)
     c.pick-picked.ensures (c.in_err-put_struct.ensures.cause other))
 
 pub loop-index-preserved : goal.loop-index-preserved
@@ -61,11 +61,11 @@ loop-index-preserved c =
     let s = splice_seen c.args.splice in
     let inside : c.loop-index.index < spliced_count s = omega (arith, c.loop-index-test.true, c.count_spliced-count.ensures) in
     structs_next c.loop-index.arena c.put_struct.new.arena c.args.size s c.loop-index.index (struct_of c.in-Ok.element) (picked_element c.pick-picked.result) c.loop-index.invariant inside
-    (element-read c.with_a_level-list.result c.pick-picked.result.list c.in-Ok.element c.pick-picked.result.index c.with_a_level-list.ensures.list c.with_a_level-list.ensures.levels c.in-Ok.ensures.read)
+    (element_read c.with_a_level-list.result c.pick-picked.result.list c.in-Ok.element c.pick-picked.result.index c.with_a_level-list.ensures.list c.with_a_level-list.ensures.levels c.in-Ok.ensures.read)
     c.pick-picked.ensures
     (subst IsWellFormed c.with_a_level-list.ensures.list c.list_is_well_formed.ensures)
     (picked_room c.args.size s c.loop-index.index (picked_element c.pick-picked.result) c.requires.within inside c.requires.old c.requires.added c.pick-picked.ensures)
-    c.in_ok-put_struct.ensures.message c.in_ok-put_struct.ensures.tree c.in_ok-put_struct.ensures.sound
+    (record { message = c.in_ok-put_struct.ensures.message; tree = c.in_ok-put_struct.ensures.tree; sound = c.in_ok-put_struct.ensures.sound })
 
 pub returns-clause-tree : goal.returns-clause-tree
 returns-clause-tree c = structs_end c.loop-index.arena c.args.size (splice_seen c.args.splice) c.loop-index.index c.loop-index.invariant (omega (arith, c.loop-index-test.false, c.loop-index.auto.index-end, c.count_spliced-count.ensures))

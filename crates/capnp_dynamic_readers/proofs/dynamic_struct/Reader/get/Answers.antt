@@ -19,12 +19,12 @@ use Rattle.capnp_dynamic_readers.proofs.FieldHandles.{same_field, same_read}
 use Rattle.capnp_dynamic_readers.proofs.PlacedReads.{field_placed, place_sound}
 use Rattle.capnp_dynamic_readers.proofs.dynamic_struct.Reader.get.Goals as goal
 
-sound-same : {set set' : Schemas} {t t' : SchemaType} {p p' : Place} → set' ≡ set → t' ≡ t → p' ≡ p → IsSound set t p → IsSound set' t' p'
-sound-same {set = set} {t = t} {t' = t'} {p = p} {p' = p'} e f g h =
+sound_same : {set set' : Schemas} {t t' : SchemaType} {p p' : Place} → set' ≡ set → t' ≡ t → p' ≡ p → IsSound set t p → IsSound set' t' p'
+sound_same {set = set} {t = t} {t' = t'} {p = p} {p' = p'} e f g h =
     subst (λ z. IsSound z t' p') (sym e) (subst (λ z. IsSound set z p') (sym f) (subst (λ z. IsSound set t z) (sym g) h))
 
-named-same : {set set' : Schemas} {t t' : SchemaType} → set' ≡ set → t' ≡ t → NamesEntries set t → NamesEntries set' t'
-named-same {set = set} {t' = t'} e f h = subst (λ z. NamesEntries z t') (sym e) (subst (NamesEntries set) (sym f) h)
+named_same : {set set' : Schemas} {t t' : SchemaType} → set' ≡ set → t' ≡ t → NamesEntries set t → NamesEntries set' t'
+named_same {set = set} {t' = t'} e f h = subst (λ z. NamesEntries z t') (sym e) (subst (NamesEntries set) (sym f) h)
 
 pub read_placed-requires : goal.read_placed-requires
 read_placed-requires c =
@@ -32,7 +32,7 @@ read_placed-requires c =
     let stands : IsStruct s = subst IsStruct c.get_containing_struct-schema.ensures.is c.get_containing_struct-schema.ensures.stands in
     let type : seen_variant c.which-variant.result ≡ (typed_of c.args.field).type =
     ap seen_variant c.which-variant.ensures ∙ (seen_which c.get_type.result ∙ c.get_type.ensures.is) in
-    sound-same (c.get_set-schemas.ensures ∙ ap set_of c.get_containing_struct-schema.ensures.is) type
+    sound_same (c.get_set-schemas.ensures ∙ ap set_of c.get_containing_struct-schema.ensures.is) type
     (ap (λ (p : SlotPlan). p.place) c.plan-place.ensures.is)
     (place_sound (set_of s) stands.accepted (number_of s) (index_of c.args.field) stands.number c.args.field.inside c.which-variant.result type
     (subst (λ (p : SlotPlan). IsSlotPlace p.place) c.plan-place.ensures.is c.plan-place.ensures.stands.slot))
@@ -56,4 +56,4 @@ returns-clause-typed c =
     let s : StructSchema = schema_of c.args.self in
     subst (λ (t : SchemaType). IfOk c.read_placed.result (IsOf (set_of s) t))
     (ap seen_variant c.which-variant.ensures ∙ (seen_which c.get_type.result ∙ (c.get_type.ensures.is ∙ ap (λ (f : TypedField). f.type) (same_field c.args.field s c.requires))))
-    (subst (λ (z : Schemas). IfOk c.read_placed.result (IsOf z (seen_variant c.which-variant.result))) (c.get_set-schemas.ensures ∙ (ap set_of c.get_containing_struct-schema.ensures.is ∙ c.requires.set)) (c.read_placed.ensures.typed (named-same (c.get_set-schemas.ensures ∙ ap set_of c.get_containing_struct-schema.ensures.is) (ap seen_variant c.which-variant.ensures ∙ seen_which c.get_type.result) c.get_type.ensures.named)))
+    (subst (λ (z : Schemas). IfOk c.read_placed.result (IsOf z (seen_variant c.which-variant.result))) (c.get_set-schemas.ensures ∙ (ap set_of c.get_containing_struct-schema.ensures.is ∙ c.requires.set)) (c.read_placed.ensures.typed (named_same (c.get_set-schemas.ensures ∙ ap set_of c.get_containing_struct-schema.ensures.is) (ap seen_variant c.which-variant.ensures ∙ seen_which c.get_type.result) c.get_type.ensures.named)))
