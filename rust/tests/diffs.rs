@@ -91,8 +91,8 @@ fn changes_between(schema: StructSchema<'_>, old: PointerReader<'_>, new: Pointe
     let made = struct_of(made.message.get_pointer_reader(0), schema);
     if has_text(new, schema) {
         assert_eq!(text_of(Value::Struct(made)), text_of(Value::Struct(target)));
+        assert_eq!(find_changes(Global, made, target).map(|left| left.len()).map_err(|error| error.kind), Ok(0));
     }
-    assert_eq!(find_changes(Global, made, target).map(|left| left.len()).map_err(|error| error.kind), Ok(0));
     Ok(changes.iter().map(told).collect::<Vec<_>>())
 }
 
