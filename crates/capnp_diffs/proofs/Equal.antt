@@ -1,13 +1,13 @@
 -- Where no change is found, the values are equal; and equal values have none.
-use Rattle.std.proofs.Common.{ℕ, zero, suc, ◌<◌, ◌≡◌, refl, ℤ, pos, negsuc, List, [], ◌∷◌, ◌++◌, length, map, Bool, true, false, ◌==◌, ◌&&◌, arith, ap, ap₂, sym, ◌∙◌, subst}
+use Rattle.std.proofs.Common.{ℕ, suc, ◌≡◌, refl, ℤ, pos, negsuc, List, [], ◌∷◌, ◌++◌, Bool, true, false, ◌==◌, ◌&&◌, arith, ap, ap₂, sym, subst}
 use Rattle.std.proofs.lemmas.Bool.{eqb-true, eq-eqb, true≢false}
 use Rattle.capnp_schema.specs.Schema.{FieldKind, Group, Schemas, Slot, field_at, is_member}
 use Rattle.capnp_schema.specs.Types.{ListType, SchemaType, StructType}
 use Rattle.capnp_records.specs.Call.{ElementAt, FieldNumber, PathStep}
-use Rattle.capnp_records.specs.Part.{active_value, is_active, value_count}
+use Rattle.capnp_records.specs.Part.{value_count}
 use Rattle.capnp_records.specs.Record as value
 use Rattle.capnp_records.specs.Record.{Active, Endless, Left, MoreValues, NoUnion, NoValues, Parts, Record, Union, Unknown, Value, Values}
-use Rattle.capnp_diffs.specs.Changes.{AreApart, AreElements, AreElsewhere, AreFieldsTold, ByKind, CanStand, Change, Either, IsGroupTold, IsLeafTold, IsRead, IsRecordTold, IsRowTold, IsSwitchTold, IsTold, IsUnionTold, OnlyIf, all_behind, behind, field_changes, if_active, list_changes, record_changes, row_changes, same_bytes, same_leaf, same_number, same_truth, switch_changes, union_changes, unless_same, value_changes, whole_change}
+use Rattle.capnp_diffs.specs.Changes.{AreElsewhere, AreFieldsTold, ByKind, Change, Either, IsGroupTold, IsLeafTold, IsRecordTold, IsRowTold, IsTold, IsUnionTold, OnlyIf, all_behind, field_changes, if_active, list_changes, record_changes, row_changes, same_bytes, same_leaf, same_number, same_truth, switch_changes, union_changes, unless_same, value_changes, whole_change}
 
 -- ---- lists of changes ----
 

@@ -1,15 +1,15 @@
 -- What a list of changes makes of a value, one after another; and from one step further out.
 use Rattle.std.proofs.Common.{ℕ, ◌≡◌, refl, List, [], ◌∷◌, ◌++◌, ap, sym, ◌∙◌, subst}
-use Rattle.capnp_schema.specs.Types.{SchemaType, StructType}
-use Rattle.capnp_schema.specs.Schema.{Schemas, brand_at}
-use Rattle.capnp_records.specs.Call.{Call, Done, PathStep, Reply}
+use Rattle.capnp_schema.specs.Types.{SchemaType}
+use Rattle.capnp_schema.specs.Schema.{Schemas}
+use Rattle.capnp_records.specs.Call.{Call, PathStep, Reply}
 use Rattle.capnp_records.specs.Record.{Record, Value}
 use Rattle.capnp_records.specs.Record as value
-use Rattle.capnp_records.specs.Run.{Ends, Run, Step, root_type}
+use Rattle.capnp_records.specs.Run.{Ends, Run, root_type}
 use Rattle.capnp_records.specs.Step.{Walks}
-use Rattle.capnp_diffs.specs.Changes.{Change, all_behind, behind}
-use Rattle.capnp_diffs.specs.Laws.{AreCallsOf, AreDone, HaveRoom, IsCallOf}
-use Rattle.capnp_diffs.proofs.Walked.{HasRoom, IsSolid, Makes, Nest, nest_makes}
+use Rattle.capnp_diffs.specs.Changes.{Change, all_behind}
+use Rattle.capnp_diffs.specs.Laws.{AreCallsOf, AreDone, HaveRoom}
+use Rattle.capnp_diffs.proofs.Walked.{IsSolid, Makes, Nest, nest_makes}
 
 -- each change turns a value into the next one, which has parts, and so the first into the last
 abbrev pub Leads : Schemas → SchemaType → Value → List Change → Value → Type 0
@@ -44,8 +44,8 @@ module _ (set : Schemas) (b : ℕ) where
   run_leads (c ∷ changes) old w leads (call ∷ calls) are [] left run room = absurd run
   run_leads (c ∷ changes) old w (m, solid, makes, rest) (call ∷ calls) are (reply ∷ replies) left (mid, step, run) room =
       let walked : Walks set (Ends set c.last call.op) c.path (root_type set b) (value.Struct old) reply (value.Struct mid) =
-          subst (λ path. Walks set (Ends set c.last call.op) path (root_type set b) (value.Struct old) reply (value.Struct mid)) are.0.path
-          (subst (λ last. Walks set (Ends set last call.op) call.path (root_type set b) (value.Struct old) reply (value.Struct mid)) are.0.last step) in
+      subst (λ path. Walks set (Ends set c.last call.op) path (root_type set b) (value.Struct old) reply (value.Struct mid)) are.0.path
+      (subst (λ last. Walks set (Ends set last call.op) call.path (root_type set b) (value.Struct old) reply (value.Struct mid)) are.0.last step) in
       let made = makes call.op are.0.op reply (value.Struct mid) walked (record { memory = room.0; format = room.1 }) in
       let (done, is) = run_leads changes mid w (subst (λ x. Leads set (root_type set b) x changes w) (sym made.1) rest) calls are.1 replies left run room.2 in
       ((made.0, done), is)

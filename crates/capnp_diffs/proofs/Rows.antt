@@ -1,11 +1,10 @@
 -- Worked rows of changes: which calls make one record into another, and which records no calls make.
-use Rattle.std.specs.Prelude.{ℕ, ◌≡◌, ℤ, pos, negsuc, refl, List, [], ◌∷◌, codes, true, false}
-use Rattle.capnp_wire.specs.Tree.{Null}
+use Rattle.std.specs.Prelude.{ℕ, ◌≡◌, pos, refl, List, [], ◌∷◌, codes}
 use Rattle.capnp_device.specs.declared.error.ErrorKind.TheVariants.{BadPointer}
 use Rattle.capnp_schema.specs.Builtin.{builtin}
-use Rattle.capnp_schema.specs.Types.{ListType, SchemaType, StructType, TextType, UIntType, VoidType}
+use Rattle.capnp_schema.specs.Types.{ListType, StructType, TextType, UIntType, VoidType}
 use Rattle.capnp_records.specs.Call.{ElementAt, FieldNumber, PathStep}
-use Rattle.capnp_records.specs.Record.{Active, Data, Elements, Elsewhere, Endless, Fault, Group, Missing, MoreValues, NoUnion, NoValues, Number, Parts, Record, Struct, Text, Truth, Union, Unknown, Untyped, Value, Values, Void}
+use Rattle.capnp_records.specs.Record.{Active, Elements, Elsewhere, Endless, Fault, Group, Missing, MoreValues, NoUnion, NoValues, Number, Parts, Record, Struct, Text, Union, Unknown, Value, Void}
 use Rattle.capnp_diffs.specs.Changes.{Change, Clears, Goal, Inits, IsRecordTold, Puts, record_changes}
 
 abbrev changed : List PathStep → PathStep → Goal → Change

@@ -1,7 +1,7 @@
 -- The changes from an old record to a new one lead from the one to the other.
 use Rattle.std.specs.Prelude.{⊤}
-use Rattle.std.proofs.Common.{ℕ, zero, suc, ◌+◌, ◌<◌, ◌≡◌, inl, inr, refl, List, [], ◌∷◌, ◌++◌, length, Bool, true, false, not, ◌==◌, ◌&&◌, arith, ap, ap₂, sym, ◌∙◌, subst}
-use Rattle.std.proofs.lemmas.Bool.{eqb-true, true≢false}
+use Rattle.std.proofs.Common.{ℕ, suc, ◌<◌, ◌≡◌, inl, inr, refl, List, [], ◌∷◌, length, Bool, true, false, not, ◌==◌, ◌&&◌, arith, ap, ap₂, sym, ◌∙◌, subst}
+use Rattle.std.proofs.lemmas.Bool.{eqb-true}
 use Rattle.capnp_schema.specs.Types.{ListType, SchemaType, StructType, is_pointer}
 use Rattle.capnp_schema.specs.Schema.{FieldKind, Group, Schemas, Slot, TypedField, brand_at, field_at, fields_of, is_member}
 use Rattle.capnp_records.specs.Call.{ElementAt, FieldNumber, PathStep}
@@ -10,9 +10,9 @@ use Rattle.capnp_records.specs.Part.{active_value, is_active, is_inactive, nth_v
 use Rattle.capnp_records.specs.Record as value
 use Rattle.capnp_records.specs.Record.{Active, Endless, Left, MoreValues, NoUnion, NoValues, Parts, Record, Union, Unknown, Value, Values}
 use Rattle.capnp_records.specs.Step.{is_group_field}
-use Rattle.capnp_diffs.specs.Changes.{AreApart, AreElements, AreElsewhere, AreFieldsTold, ByKind, CanStand, Change, Clears, Either, Inits, IsGroupTold, IsLeafTold, IsRead, IsRecordTold, IsRowTold, IsSwitchTold, IsTold, IsUnionTold, OnlyIf, Puts, all_behind, behind, field_changes, if_active, list_changes, record_changes, row_changes, same_leaf, switch_changes, union_changes, unless_same, value_changes, whole_change}
+use Rattle.capnp_diffs.specs.Changes.{AreElsewhere, AreFieldsTold, ByKind, CanStand, Change, Clears, Either, IsGroupTold, IsLeafTold, IsRecordTold, IsRowTold, IsSwitchTold, IsTold, IsUnionTold, OnlyIf, Puts, all_behind, field_changes, if_active, list_changes, record_changes, row_changes, same_leaf, switch_changes, union_changes, unless_same, value_changes, whole_change}
 use Rattle.capnp_diffs.specs.Laws.{CallsMakeNew, EqualNeedNone, NoneMeansEqual}
-use Rattle.capnp_diffs.proofs.Equal.{elsewhere_same, nothing_elsewhere, one_none, record_none, record_same, row_same, same_leaf_is}
+use Rattle.capnp_diffs.proofs.Equal.{elsewhere_same, nothing_elsewhere, record_none, record_same, row_same, same_leaf_is}
 use Rattle.capnp_diffs.proofs.Leads.{Leads, leads_both, leads_from, leads_nest, leads_one, run_leads}
 use Rattle.capnp_diffs.proofs.Walked.{HasPlace, IsSolid, IsWalked, Makes, Nest, clears, element_nest, field_nest, inits, part_member, part_plain, put_same, puts, whole_solid, with_member, with_plain, wrap}
 
@@ -224,7 +224,7 @@ module _ (set : Schemas) where
     row_leads (MoreValues (value.Struct r) vs) (MoreValues (value.Struct q) ws) ds b g count told =
         let here : value.Elements (with_value (joined ds (MoreValues (value.Struct r) vs)) (value_count ds) (value.Struct r)) ≡ value.Elements (joined ds (MoreValues (value.Struct r) vs)) = ap value.Elements (put_joined ds (value.Struct r) (value.Struct r) vs) in
         let next : value.Elements (with_value (joined ds (MoreValues (value.Struct r) vs)) (value_count ds) (value.Struct q)) ≡ value.Elements (joined (with_last ds (value.Struct q)) vs) =
-            ap value.Elements (put_joined ds (value.Struct r) (value.Struct q) vs ∙ sym (joined_last ds (value.Struct q) vs)) in
+        ap value.Elements (put_joined ds (value.Struct r) (value.Struct q) vs ∙ sym (joined_last ds (value.Struct q) vs)) in
         leads_both set (ListType (StructType b g)) _ (value.Elements (joined (with_last ds (value.Struct q)) vs)) _ _ _
         (leads_from set (ListType (StructType b g)) _ _ _ _ _ here next
         (leads_nest set (ListType (StructType b g)) (StructType b g) (ElementAt (value_count ds)) (λ p. value.Elements (with_value (joined ds (MoreValues (value.Struct r) vs)) (value_count ds) p))
@@ -255,6 +255,7 @@ module _ (set : Schemas) where
         (subst (λ xs. Leads set (StructType b g) (wrap k (Parts (joined (with_last ds w) vs) u)) (field_changes set b (suc i) vs ws) (wrap k (Parts xs u))) (joined_last ds w ws)
         (subst (λ n. Leads set (StructType b g) (wrap k (Parts (joined (with_last ds w) vs) u)) (field_changes set b n vs ws) (wrap k (Parts (joined (with_last ds w) ws) u))) (count_last ds w)
         (fields_lead ws vs (with_last ds w) u b g k (subst (λ n. AreFieldsTold set b n vs ws) (sym (count_last ds w)) told.2))))
+
     -- a group that becomes active is made anew, and then gone into
     group_switch : (t : SchemaType) (w : Value) (r : Record) (b g : ℕ) (k : Bool) (j : ℕ) → (field_at set b j).type ≡ t → j < length (fields_of set b) → is_member (field_at set b j).field ≡ true → is_group_field (field_at set b j).field.kind ≡ true → IsSwitchTold set t w →
         Leads set (StructType b g) (wrap k r) (switch_changes set j t w) (wrap k (with_part r (field_at set b j).field j w))
@@ -263,7 +264,7 @@ module _ (set : Schemas) where
       whole_solid set b g j k (with_part r (field_at set b j).field j (value.Group (default_record set Endless c))),
       inits set b g j k r inside c h is group,
       leads_nest set (StructType b g) (StructType c h) (FieldNumber j) (λ x. wrap k (with_part r (field_at set b j).field j x)) (field_nest set b g j k r (StructType c h) is inside (inl member) tt)
-      (record_changes set c (default_record set Endless c) q) (value.Group (default_record set Endless c)) (value.Group q) tt (record_leads q (default_record set Endless c) c h false told),
+          (record_changes set c (default_record set Endless c) q) (value.Group (default_record set Endless c)) (value.Group q) tt (record_leads q (default_record set Endless c) c h false told),
     )
     group_switch t w r b g k j is inside member group told = absurd told
 

@@ -1,12 +1,11 @@
 -- What one call that makes a change does at its place, and what it does there from further out.
 use Rattle.std.specs.Prelude.{⊤}
-use Rattle.std.proofs.Common.{ℕ, zero, suc, ◌<◌, ◌≡◌, ◌≢◌, ◌⊎◌, inl, inr, refl, List, [], ◌∷◌, length, Bool, true, false, not, ◌==◌, ◌&&◌, nat_lt, Option, Some, None, Result, Ok, Err, arith, ap, ap₂, sym, ◌∙◌, subst}
+use Rattle.std.proofs.Common.{ℕ, zero, suc, ◌<◌, ◌≡◌, ◌≢◌, ◌⊎◌, inl, inr, refl, [], length, Bool, true, false, not, ◌&&◌, nat_lt, Option, Some, None, Ok, Err, arith, ap, ap₂, sym, ◌∙◌, subst}
 use Rattle.std.proofs.lemmas.Bool.{eq-eqb, eqb-true, lt-ltb, true≢false}
 use Rattle.capnp_device.specs.declared.error.ErrorKind.{ErrorKind}
 use Rattle.capnp_device.specs.declared.error.ErrorKind.TheVariants.{InactiveMember, OutOfMemory, SizePastFormat, FieldNotFound, NoSuchElement}
-use Rattle.capnp_wire.specs.Tree.{Tree}
 use Rattle.capnp_schema.specs.Types.{ListType, SchemaType, StructType, is_pointer, struct_number}
-use Rattle.capnp_schema.specs.Schema.{Field, FieldKind, Group, ListValue, Schemas, Slot, TypedField, default_of, field_at, fields_of, is_member, Value as SchemaValue}
+use Rattle.capnp_schema.specs.Schema.{Field, ListValue, Schemas, TypedField, default_of, field_at, fields_of, is_member, Value as SchemaValue}
 use Rattle.capnp_records.specs.Call.{Clear, Done, ElementAt, FieldNumber, Get, Has, Init, Initn, Op, PathStep, Refused, Reply, Set, Source, Which}
 use Rattle.capnp_records.specs.Default.{default_record}
 use Rattle.capnp_records.specs.Facts.Frame.{chosen_first, second_of}
@@ -17,9 +16,9 @@ use Rattle.capnp_records.specs.Reading.{slot_value}
 use Rattle.capnp_records.specs.Record as value
 use Rattle.capnp_records.specs.Record.{Active, Endless, Left, MoreValues, NoUnion, NoValues, Parts, Record, Union, Unknown, Value, Values, is_there}
 use Rattle.capnp_records.specs.Run.{Ends}
-use Rattle.capnp_records.specs.Step.{CanRefuse, Enters, Found, Goes, IsRefused, Passes, StepTarget, Walks, element_target, fault_of, field_target, filled_value, for_memory, for_size, is_group_field, passed_target, step_target, walked_by_type, walked_result, walked_target}
-use Rattle.capnp_diffs.specs.Changes.{Change, Clears, Goal, Inits as InitsGoal, Puts, behind, goal_of, whole_change}
-use Rattle.capnp_diffs.specs.Laws.{Brings, IsValueGiven, Reaches}
+use Rattle.capnp_records.specs.Step.{CanRefuse, Enters, Passes, StepTarget, Walks, element_target, fault_of, field_target, filled_value, for_memory, for_size, is_group_field, step_target, walked_by_type, walked_result, walked_target}
+use Rattle.capnp_diffs.specs.Changes.{Change, Clears, Inits as InitsGoal, Puts, behind}
+use Rattle.capnp_diffs.specs.Laws.{IsValueGiven, Reaches}
 
 -- ---- what a change does ----
 
@@ -87,10 +86,10 @@ nest_makes set t u step put p q c nest solid makes op reaches reply new walks ro
     entered at (inl (kind, can, refused)) = absurd (no_room can refused.0 room)
     entered at (inr goes) =
         let filled : filled_value set at.target.default at.target.type at.target.part ≡ p =
-            ap (filled_value set at.target.default at.target.type) at.part ∙ filled_there set at.target.default at.target.type p (solid_there p solid) in
+        ap (filled_value set at.target.default at.target.type) at.part ∙ filled_there set at.target.default at.target.type p (solid_there p solid) in
         let inner : Walks set (Ends set c.last op) c.path u p reply goes.part =
-            subst (λ v. Walks set (Ends set c.last op) c.path u v reply goes.part) filled
-            (subst (λ z. Walks set (Ends set c.last op) c.path z (filled_value set at.target.default at.target.type at.target.part) reply goes.part) at.type goes.goes_on) in
+        subst (λ v. Walks set (Ends set c.last op) c.path u v reply goes.part) filled
+        (subst (λ z. Walks set (Ends set c.last op) c.path z (filled_value set at.target.default at.target.type at.target.part) reply goes.part) at.type goes.goes_on) in
         let (done, is) = makes op reaches reply goes.part inner room in
         (done, goes.rest ∙ (at.puts goes.part ∙ ap put is))
 

@@ -1,7 +1,7 @@
 -- What is changed where one record is made into another: the fields and elements that differ, by the paths to them.
-use Rattle.std.specs.Prelude.{ℕ, zero, suc, ◌<◌, ◌≡◌, ⊤, ℤ, pos, negsuc, List, [], ◌∷◌, ◌++◌, length, map, Bool, true, false, ◌==◌, ◌&&◌}
+use Rattle.std.specs.Prelude.{ℕ, suc, ◌<◌, ◌≡◌, ⊤, ℤ, pos, negsuc, List, [], ◌∷◌, ◌++◌, length, map, Bool, true, false, ◌==◌, ◌&&◌}
 use Rattle.capnp_schema.specs.Types.{SchemaType, StructType, ListType, is_pointer}
-use Rattle.capnp_schema.specs.Schema.{Schemas, FieldKind, Slot, Group, TypedField, field_at, fields_of, is_member}
+use Rattle.capnp_schema.specs.Schema.{Schemas, FieldKind, Slot, Group, field_at, fields_of, is_member}
 use Rattle.capnp_records.specs.Call.{PathStep, FieldNumber, ElementAt}
 use Rattle.capnp_records.specs.Default.{default_record}
 use Rattle.capnp_records.specs.Part.{active_value, is_active, value_count}
