@@ -1,11 +1,10 @@
 //! A field that is changed, by the path to it.
-ghost use Rattle.std.specs.Prelude.{◌≡◌, IfErr, IfOk, OnOk, map};
+ghost use Rattle.std.specs.Prelude.{◌≡◌, IfErr, OnOk};
 ghost use Rattle.capnp_device.specs.declared.error.ErrorKind.TheVariants.{OutOfMemory};
 ghost use Rattle.capnp_schema.specs.Schema.{Schemas};
-ghost use Rattle.capnp_call.specs.Seen.{call_seen, op_seen, path_seen, step_seen};
-ghost use Rattle.capnp_diffs.specs.Found.{Adds, change_call, one_change};
+ghost use Rattle.capnp_diffs.specs.Found.{Adds, IsReady, goal_seen, one_change};
 
-use capnp_call::calls::{Call, Op, Step};
+use crate::calls::{Op, Step};
 use capnp_wire::error::Result;
 use std::alloc::Global;
 
@@ -17,32 +16,8 @@ pub struct Change<'a> {
     pub op: Op<'a>,
 }
 
-impl<'a> Change<'a> {
-    /// The call that makes the change.
-    pub fn as_call<'c>(&'c self) -> Call<'c>
-        ensures { call_seen result ≡ change_call self.now }
-    {
-        Call {
-            path: self.path.as_slice(),
-            last: self.last,
-            op: self.op,
-        }
-    }
-}
-
-/// The calls that make changes, in order. Refused with `OutOfMemory`.
-pub fn as_calls<'c, 'a>(alloc: Global, changes: &'c [Change<'a>]) -> Result<Vec<Call<'c>>>
-    ensures calls { IfOk result (λ calls. map call_seen calls.items ≡ map change_call changes.now) }
-    ensures cause { IfErr result (λ e. e.kind ≡ OutOfMemory) }
-{
-    let mut calls = Vec::with_capacity(alloc, changes.len())?;
-    for change in changes {
-        calls.push(change.as_call())?;
-    }
-    Ok(calls)
-}
-
 /// Adds a change of what a step names at the end of a path.
+#[tactic(auto, using(crate::proofs::Added::one_added))]
 pub(crate) fn put_change<'a>(
     alloc: Global,
     path: &[Step<'a>],
@@ -50,7 +25,8 @@ pub(crate) fn put_change<'a>(
     op: Op<'a>,
     out: &mut Vec<Change<'a>>,
 ) -> Result<()>
-    ensures added { OnOk result ((set : Schemas) → Adds set path.now out.old.items out.new.items (one_change last op)) }
+    ensures added { OnOk result ((set : Schemas) → IsReady set op.entry
+        → Adds set path.now out.old.items out.new.items (one_change last.entry (goal_seen op.entry))) }
     ensures cause { IfErr result (λ e. e.kind ≡ OutOfMemory) }
 {
     let path = Vec::from_slice(alloc, path)?;

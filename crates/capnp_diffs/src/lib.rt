@@ -1,10 +1,9 @@
 //! The calls that make one message into another.
 #![tactic(auto)]
 
+pub mod calls;
 pub mod change;
-pub mod diff;
 pub mod laws;
 mod leaves;
-mod lists;
-mod pointers;
-mod records;
+mod puts;
+mod reads;
