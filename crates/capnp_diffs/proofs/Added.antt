@@ -6,9 +6,9 @@ use Rattle.capnp_records.specs.Call.{PathStep}
 use Rattle.capnp_records.specs.Record.{Value}
 use Rattle.capnp_diffs.specs.Changes.{CanStand, Change, IsTold, all_behind, behind, same_leaf, unless_same, whole_change, goal_of}
 use Rattle.capnp_diffs.specs.Found.{Adds, AreReady, IsReady, all_within, change_seen, changes_seen, goal_seen, one_change, within}
-use Rattle.capnp_diffs.specs.Seen.{path_seen, step_seen}
-use Rattle.capnp_diffs.specs.declared.calls.Op.{Op}
-use Rattle.capnp_diffs.specs.declared.calls.Step.{Step}
+use Rattle.capnp_call.specs.Seen.{path_seen, step_seen}
+use Rattle.capnp_call.specs.declared.calls.Op.{Op}
+use Rattle.capnp_call.specs.declared.calls.Step.{Step}
 use Rattle.capnp_diffs.specs.declared.change.Change.{Change as FoundChange}
 
 append_none : {A : Type 0} (xs : List A) → (xs ++ []) ≡ xs

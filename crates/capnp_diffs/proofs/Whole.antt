@@ -26,9 +26,9 @@ use Rattle.capnp_dynamic_readers.specs.declared.dynamic_value.Reader.TheVariants
 use Rattle.capnp_diffs.specs.Changes.{Clears, IsLeafTold, same_leaf, whole_change}
 use Rattle.capnp_diffs.specs.Found.{Adds, IsFoundAt, IsReady, goal_seen, one_change}
 use Rattle.capnp_diffs.specs.Leaves.{data_value, list_value, text_value}
-use Rattle.capnp_diffs.specs.Seen.{step_seen}
-use Rattle.capnp_diffs.specs.declared.calls.Op.TheVariants as op
-use Rattle.capnp_diffs.specs.declared.calls.Step.{Step}
+use Rattle.capnp_call.specs.Seen.{step_seen}
+use Rattle.capnp_call.specs.declared.calls.Op.TheVariants as op
+use Rattle.capnp_call.specs.declared.calls.Step.{Step}
 use Rattle.capnp_diffs.specs.declared.change.Change.{Change as FoundChange}
 use Rattle.capnp_diffs.proofs.Added.{adds_none, other_added, same_added}
 use Rattle.capnp_diffs.proofs.Behind.{null_missing}

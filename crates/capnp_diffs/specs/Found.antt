@@ -1,27 +1,30 @@
 -- What changes that were found stand for, and how a walk adds them.
 use Rattle.std.specs.Prelude.{ℕ, ◌≡◌, ⊤, List, [], ◌∷◌, ◌++◌, map}
+use Rattle.capnp_wire.specs.Reading.{list_length}
 use Rattle.capnp_wire.specs.Standing.{list_of, struct_of}
+use Rattle.capnp_wire.specs.declared.list_reader.ListReader.{ListReader}
+use Rattle.capnp_wire.specs.declared.struct_reader.StructReader.{StructReader}
 use Rattle.capnp_schema.specs.Enums.{enum_number}
 use Rattle.capnp_schema.specs.Schema.{Schemas, TypedField}
 use Rattle.capnp_schema.specs.StructHandles.{number_of, set_of}
 use Rattle.capnp_schema.specs.Types.{AnyPointerType, BoolType, DataType, EnumType, IntType, ListType, SchemaType, TextType, UIntType, VoidType}
-use Rattle.capnp_records.specs.Call.{PathStep}
+use Rattle.capnp_records.specs.Call.{Call, FieldNumber, PathStep}
 use Rattle.capnp_records.specs.Facts.ListValues.{below_of}
-use Rattle.capnp_records.specs.Reading.{elements_value, reads}
+use Rattle.capnp_records.specs.Reading.{element_value, elements_value, part_of, reads, values_of}
 use Rattle.capnp_records.specs.Record as value
-use Rattle.capnp_records.specs.Record.{Endless, Value}
+use Rattle.capnp_records.specs.Record.{Endless, Parts, Record, Union, Value, Values, values_from}
 use Rattle.capnp_dynamic_readers.specs.Handles.{element_of, enum_of, list_reader_of, list_set, reader_of, schema_of}
 use Rattle.capnp_dynamic_readers.specs.Seen.{value_seen}
 use Rattle.capnp_dynamic_readers.specs.Typed.{struct_type}
 use Rattle.capnp_dynamic_readers.specs.declared.dynamic_value.Reader.{Reader as DynamicValue}
 use Rattle.capnp_dynamic_readers.specs.declared.dynamic_value.Reader.TheVariants as dynamic
-use Rattle.capnp_diffs.specs.Changes.{Change, Clears, Goal, Inits, IsTold, Puts, value_changes}
+use Rattle.capnp_diffs.specs.Changes.{AreFieldsTold, ByKind, Change, Clears, Goal, Inits, IsGroupTold, IsLeafTold, IsRecordTold, IsRowTold, IsSwitchTold, IsTold, IsUnionTold, Puts, field_changes, record_changes, row_changes, switch_changes, union_changes, value_changes}
 use Rattle.capnp_diffs.specs.Laws.{Brings}
-use Rattle.capnp_diffs.specs.Seen.{path_seen, step_seen}
-use Rattle.capnp_diffs.specs.SetValues.{source_of}
-use Rattle.capnp_diffs.specs.declared.calls.Op.{Op}
-use Rattle.capnp_diffs.specs.declared.calls.Op.TheVariants as op
-use Rattle.capnp_diffs.specs.declared.calls.Step.{Step}
+use Rattle.capnp_call.specs.Seen.{op_seen, path_seen, step_seen}
+use Rattle.capnp_slots.specs.SetValues.{source_of}
+use Rattle.capnp_call.specs.declared.calls.Op.{Op}
+use Rattle.capnp_call.specs.declared.calls.Op.TheVariants as op
+use Rattle.capnp_call.specs.declared.calls.Step.{Step}
 use Rattle.capnp_diffs.specs.declared.change.Change.{Change as FoundChange}
 
 -- ---- one change ----
@@ -66,6 +69,10 @@ IsReady set o = ⊥
 abbrev pub change_seen : FoundChange → Change
 change_seen c = record { path = path_seen c.path.items; last = step_seen c.last; goal = goal_seen c.op }
 
+-- the call that makes it
+abbrev pub change_call : FoundChange → Call
+change_call c = record { path = path_seen c.path.items; last = step_seen c.last; op = op_seen c.op }
+
 abbrev pub changes_seen : List FoundChange → List Change
 changes_seen cs = map change_seen cs
 
@@ -95,3 +102,51 @@ one_change step goal = record { path = []; last = step_seen step; goal = goal } 
 pub record IsFoundAt (set : Schemas) (step : Step) (t : SchemaType) (v w : Value) (path : List Step) (old new : List FoundChange) : Type 0 where
   pub adds : Adds set path old new (value_changes set (step_seen step) t v w)
   pub told : IsTold set t v w
+
+-- ---- records ----
+
+-- the record of a struct that is read, whole
+unfoldable pub whole_record : Schemas → StructReader → ℕ → Record
+whole_record set r b = reads set (struct_of r) b
+
+-- what a field has of it
+unfoldable pub whole_part : Schemas → StructReader → TypedField → Value
+whole_part set r f = part_of set Endless (struct_of r).bytes (values_of set (struct_of r).pointers) f
+
+-- the changes of a record, which can be told
+pub record IsRecordFound (set : Schemas) (b : ℕ) (r q : Record) (path : List Step) (old new : List FoundChange) : Type 0 where
+  pub adds : Adds set path old new (record_changes set b r q)
+  pub told : IsRecordTold set b r q
+
+-- of a field that stands on both sides
+pub record IsPartFound (set : Schemas) (f : TypedField) (i : ℕ) (v w : Value) (path : List Step) (old new : List FoundChange) : Type 0 where
+  pub adds : Adds set path old new (value_changes set (FieldNumber i) f.type v w)
+  pub told : ByKind f.field.kind (IsTold set f.type v w) (IsGroupTold set f.type v w)
+
+-- of its non-union fields, of its union, and of a member that becomes active
+abbrev pub fields_held : Record → Values
+fields_held (Parts vs u) = vs
+
+abbrev pub union_held : Record → Union
+union_held (Parts vs u) = u
+
+pub record AreFieldsFound (set : Schemas) (b : ℕ) (r q : Record) (path : List Step) (old new : List FoundChange) : Type 0 where
+  pub adds : Adds set path old new (field_changes set b 0 (fields_held r) (fields_held q))
+  pub told : AreFieldsTold set b 0 (fields_held r) (fields_held q)
+
+pub record IsUnionFound (set : Schemas) (b : ℕ) (r q : Record) (path : List Step) (old new : List FoundChange) : Type 0 where
+  pub adds : Adds set path old new (union_changes set b (union_held r) (union_held q))
+  pub told : IsUnionTold set b (union_held r) (union_held q)
+
+pub record IsSwitchFound (set : Schemas) (f : TypedField) (i : ℕ) (w : Value) (path : List Step) (old new : List FoundChange) : Type 0 where
+  pub adds : Adds set path old new (switch_changes set i f.type w)
+  pub told : ByKind f.field.kind (IsLeafTold f.type value.Elsewhere w) (IsSwitchTold set f.type w)
+
+-- the elements of a list that is read, whole
+unfoldable pub elements_in : Schemas → ListReader → SchemaType → Values
+elements_in set l e = values_from (element_value set (list_of l) (below_of set (list_of l)) Endless e) 0 (list_length (list_of l))
+
+-- of elements from an index on
+pub record IsRowFound (set : Schemas) (e : SchemaType) (i : ℕ) (vs ws : Values) (path : List Step) (old new : List FoundChange) : Type 0 where
+  pub adds : Adds set path old new (row_changes set e i vs ws)
+  pub told : IsRowTold set e vs ws

@@ -1,5 +1,5 @@
 -- Dynamic values without parts, as they are compared.
-use Rattle.std.specs.Prelude.{ℕ, ℤ, pos, negsuc, List, Bool, true, false, Option, Some, None}
+use Rattle.std.specs.Prelude.{ℕ, ⊤, ℤ, pos, negsuc, List, Bool, true, false, Option, Some, None}
 use Rattle.std.specs.Borrow.{Bor}
 use Rattle.capnp_wire.specs.Tree.{StructTree, Tree}
 use Rattle.capnp_wire.specs.Standing.{list_of, struct_of}
@@ -52,3 +52,18 @@ struct_value set b (Some r) = value.Struct (reads set (struct_of r) b)
 abbrev pub list_value : Schemas → SchemaType → Option ListReader → Value
 list_value set e None = value.Missing Endless
 list_value set e (Some l) = elements_value set (list_of l) (below_of set (list_of l)) Endless e
+
+-- two values of one type of the data section
+abbrev pub AreAlike : DynamicValue → DynamicValue → Type 0
+AreAlike dynamic.Void dynamic.Void = ⊤
+AreAlike (dynamic.Bool a) (dynamic.Bool b) = ⊤
+AreAlike (dynamic.Int8 x) (dynamic.Int8 y) = ⊤
+AreAlike (dynamic.Int16 x) (dynamic.Int16 y) = ⊤
+AreAlike (dynamic.Int32 x) (dynamic.Int32 y) = ⊤
+AreAlike (dynamic.Int64 x) (dynamic.Int64 y) = ⊤
+AreAlike (dynamic.UInt8 x) (dynamic.UInt8 y) = ⊤
+AreAlike (dynamic.UInt16 x) (dynamic.UInt16 y) = ⊤
+AreAlike (dynamic.UInt32 x) (dynamic.UInt32 y) = ⊤
+AreAlike (dynamic.UInt64 x) (dynamic.UInt64 y) = ⊤
+AreAlike (dynamic.Enum e) (dynamic.Enum f) = ⊤
+AreAlike v w = ⊥

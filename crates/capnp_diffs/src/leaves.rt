@@ -3,7 +3,7 @@ ghost use Rattle.std.specs.Prelude.{◌≡◌, false, MatchOption};
 ghost use Rattle.capnp_records.specs.Record.{Number};
 ghost use Rattle.capnp_dynamic_readers.specs.Seen.{value_seen};
 ghost use Rattle.capnp_diffs.specs.Changes.{same_leaf};
-ghost use Rattle.capnp_diffs.specs.Leaves.{integer_seen, is_integer, text_value};
+ghost use Rattle.capnp_diffs.specs.Leaves.{AreAlike, integer_seen, is_integer, text_value};
 
 use capnp_dynamic_readers::dynamic_value::Reader as Value;
 
@@ -46,5 +46,29 @@ pub(crate) fn is_same_blob(one: Option<&[u8]>, another: Option<&[u8]>) -> bool
             None => false,
         },
         None => another.is_none(),
+    }
+}
+
+/// Whether two values of a data slot's type are the same.
+pub(crate) fn is_same_leaf(one: Value<'_>, another: Value<'_>) -> bool
+    requires { AreAlike one another }
+    ensures { result ≡ same_leaf (value_seen one.entry) (value_seen another.entry) }
+{
+    if let Some(x) = integer_of(one) {
+        return match integer_of(another) {
+            Some(y) => x.0 == y.0 && x.1 == y.1,
+            None => false,
+        };
+    }
+    match one {
+        Value::Bool(x) => match another {
+            Value::Bool(y) => x == y,
+            _ => false,
+        },
+        Value::Enum(x) => match another {
+            Value::Enum(y) => x.get_value() == y.get_value(),
+            _ => false,
+        },
+        _ => true,
     }
 }

@@ -11,9 +11,9 @@ ghost use Rattle.capnp_dynamic_readers.specs.Typed.{struct_type};
 ghost use Rattle.capnp_diffs.specs.Changes.{Clears, whole_change};
 ghost use Rattle.capnp_diffs.specs.Found.{Adds, IsFoundAt, one_change};
 ghost use Rattle.capnp_diffs.specs.Leaves.{data_value, list_value, text_value};
-ghost use Rattle.capnp_diffs.specs.Seen.{step_seen};
+ghost use Rattle.capnp_call.specs.Seen.{step_seen};
 
-use crate::calls::{Op, Step};
+use capnp_call::calls::{Op, Step};
 use crate::change::{Change, put_change};
 use crate::leaves::is_same_blob;
 use crate::reads::{data_there, text_there};

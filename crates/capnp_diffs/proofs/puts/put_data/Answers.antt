@@ -2,7 +2,7 @@ use Rattle.std.proofs.Common.{refl, sym, subst, ◌∙◌, ◌∷◌, []}
 use Rattle.capnp_diffs.specs.Changes.{whole_change}
 use Rattle.capnp_diffs.specs.Found.{Adds}
 use Rattle.capnp_diffs.specs.Leaves.{data_value, text_value}
-use Rattle.capnp_diffs.specs.Seen.{step_seen}
+use Rattle.capnp_call.specs.Seen.{step_seen}
 use Rattle.capnp_schema.specs.Types.{DataType, TextType}
 use Rattle.capnp_diffs.proofs.Whole.{ok_map}
 use Rattle.capnp_diffs.proofs.puts.put_data.Goals as goal
