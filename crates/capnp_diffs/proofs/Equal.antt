@@ -1,13 +1,17 @@
 -- Where no change is found, the values are equal; and equal values have none.
 use Rattle.std.proofs.Common.{ℕ, suc, ◌≡◌, refl, ℤ, pos, negsuc, List, [], ◌∷◌, ◌++◌, Bool, true, false, ◌==◌, ◌&&◌, arith, ap, ap₂, sym, subst}
 use Rattle.std.proofs.lemmas.Bool.{eqb-true, eq-eqb, true≢false}
+use Rattle.capnp_wire.specs.Tree as tree
+use Rattle.capnp_wire.specs.Tree.{StructTree, Structs, Tree, Trees}
+use Rattle.capnp_wire.specs.declared.fault.Fault.{Fault}
+use Rattle.capnp_wire.specs.declared.fault.Fault.TheVariants as fault
 use Rattle.capnp_schema.specs.Schema.{FieldKind, Group, Schemas, Slot, field_at, is_member}
 use Rattle.capnp_schema.specs.Types.{ListType, SchemaType, StructType}
 use Rattle.capnp_records.specs.Call.{ElementAt, FieldNumber, PathStep}
 use Rattle.capnp_records.specs.Part.{value_count}
 use Rattle.capnp_records.specs.Record as value
 use Rattle.capnp_records.specs.Record.{Active, Endless, Left, MoreValues, NoUnion, NoValues, Parts, Record, Union, Unknown, Value, Values}
-use Rattle.capnp_diffs.specs.Changes.{AreElsewhere, AreFieldsTold, ByKind, Change, Either, IsGroupTold, IsLeafTold, IsRecordTold, IsRowTold, IsTold, IsUnionTold, OnlyIf, all_behind, field_changes, if_active, list_changes, record_changes, row_changes, same_bytes, same_leaf, same_number, same_truth, switch_changes, union_changes, unless_same, value_changes, whole_change}
+use Rattle.capnp_diffs.specs.Changes.{AreElsewhere, AreFieldsTold, ByKind, Change, Either, IsGroupTold, IsLeafTold, IsRecordTold, IsRowTold, IsTold, IsUnionTold, OnlyIf, all_behind, field_changes, if_active, list_changes, record_changes, row_changes, same_bits, same_bytes, same_fault, same_leaf, same_number, same_structs, same_tree, same_trees, same_truth, switch_changes, union_changes, unless_same, value_changes, whole_change}
 
 -- ---- lists of changes ----
 
@@ -68,6 +72,74 @@ same_truth_refl : (a : Bool) → same_truth a a ≡ true
 same_truth_refl true = refl
 same_truth_refl false = refl
 
+same_bits_is : (xs ys : List Bool) → same_bits xs ys ≡ true → xs ≡ ys
+same_bits_is [] [] e = refl
+same_bits_is (a ∷ xs) (b ∷ ys) e = let (head, tail) = and_both (same_truth a b) (same_bits xs ys) e in ap₂ (λ x y. x ∷ y) (same_truth_is a b head) (same_bits_is xs ys tail)
+same_bits_is xs ys e = absurd (true≢false (sym e))
+
+same_bits_refl : (xs : List Bool) → same_bits xs xs ≡ true
+same_bits_refl [] = refl
+same_bits_refl (a ∷ xs) = ap₂ (λ x y. x && y) (same_truth_refl a) (same_bits_refl xs)
+
+same_fault_is : (j k : Fault) → same_fault j k ≡ true → j ≡ k
+same_fault_is fault.BadPointer fault.BadPointer e = refl
+same_fault_is fault.TooDeep fault.TooDeep e = refl
+same_fault_is fault.CapabilityPointer fault.CapabilityPointer e = refl
+same_fault_is j k e = absurd (true≢false (sym e))
+
+same_fault_refl : (k : Fault) → same_fault k k ≡ true
+same_fault_refl fault.BadPointer = refl
+same_fault_refl fault.TooDeep = refl
+same_fault_refl fault.CapabilityPointer = refl
+
+mutual
+  same_tree_is : (x y : Tree) → same_tree x y ≡ true → x ≡ y
+  same_tree_is tree.Null tree.Null e = refl
+  same_tree_is (tree.Struct xs ps) (tree.Struct ys qs) e = let (data_is, below_is) = and_both (same_bytes xs ys) (same_trees ps qs) e in ap₂ tree.Struct (same_bytes_is xs ys data_is) (same_trees_is ps qs below_is)
+  same_tree_is (tree.Voids m) (tree.Voids n) e = ap tree.Voids (eqb-true m n e)
+  same_tree_is (tree.Bits xs) (tree.Bits ys) e = ap tree.Bits (same_bits_is xs ys e)
+  same_tree_is (tree.Numbers m xs) (tree.Numbers n ys) e = let (width_is, bytes_is) = and_both (m == n) (same_bytes xs ys) e in ap₂ tree.Numbers (eqb-true m n width_is) (same_bytes_is xs ys bytes_is)
+  same_tree_is (tree.Pointers ps) (tree.Pointers qs) e = ap tree.Pointers (same_trees_is ps qs e)
+  same_tree_is (tree.Composite a b es) (tree.Composite c d fs) e =
+      let (first_is, rest) = and_both (a == c) ((b == d) && same_structs es fs) e in
+      let (second_is, below_is) = and_both (b == d) (same_structs es fs) rest in
+      ap₂ (λ (sizes : ℕ × ℕ) (z : Structs). tree.Composite sizes.0 sizes.1 z) (ap₂ (λ (m n : ℕ). (m, n)) (eqb-true a c first_is) (eqb-true b d second_is)) (same_structs_is es fs below_is)
+  same_tree_is (tree.FaultLeaf j) (tree.FaultLeaf k) e = ap tree.FaultLeaf (same_fault_is j k e)
+  same_tree_is x y e = absurd (true≢false (sym e))
+
+  same_trees_is : (xs ys : Trees) → same_trees xs ys ≡ true → xs ≡ ys
+  same_trees_is tree.NoTrees tree.NoTrees e = refl
+  same_trees_is (tree.MoreTrees x xs) (tree.MoreTrees y ys) e = let (head, tail) = and_both (same_tree x y) (same_trees xs ys) e in ap₂ tree.MoreTrees (same_tree_is x y head) (same_trees_is xs ys tail)
+  same_trees_is xs ys e = absurd (true≢false (sym e))
+
+  same_structs_is : (es fs : Structs) → same_structs es fs ≡ true → es ≡ fs
+  same_structs_is tree.NoStructs tree.NoStructs e = refl
+  same_structs_is (tree.MoreStructs xs ps es) (tree.MoreStructs ys qs fs) e =
+      let (data_is, rest) = and_both (same_bytes xs ys) (same_trees ps qs && same_structs es fs) e in
+      let (below_is, others) = and_both (same_trees ps qs) (same_structs es fs) rest in
+      ap₂ (λ (here : StructTree) (z : Structs). tree.MoreStructs here.bytes here.pointers z)
+      (ap₂ (λ (bytes : List ℕ) (pointers : Trees). record { bytes = bytes; pointers = pointers }) (same_bytes_is xs ys data_is) (same_trees_is ps qs below_is)) (same_structs_is es fs others)
+  same_structs_is es fs e = absurd (true≢false (sym e))
+
+mutual
+  same_tree_refl : (x : Tree) → same_tree x x ≡ true
+  same_tree_refl tree.Null = refl
+  same_tree_refl (tree.Struct xs ps) = ap₂ (λ a b. a && b) (same_bytes_refl xs) (same_trees_refl ps)
+  same_tree_refl (tree.Voids n) = eq-eqb n n refl
+  same_tree_refl (tree.Bits xs) = same_bits_refl xs
+  same_tree_refl (tree.Numbers n xs) = ap₂ (λ a b. a && b) (eq-eqb n n refl) (same_bytes_refl xs)
+  same_tree_refl (tree.Pointers ps) = same_trees_refl ps
+  same_tree_refl (tree.Composite m n es) = ap₂ (λ a b. a && b) (eq-eqb m m refl) (ap₂ (λ a b. a && b) (eq-eqb n n refl) (same_structs_refl es))
+  same_tree_refl (tree.FaultLeaf k) = same_fault_refl k
+
+  same_trees_refl : (xs : Trees) → same_trees xs xs ≡ true
+  same_trees_refl tree.NoTrees = refl
+  same_trees_refl (tree.MoreTrees x xs) = ap₂ (λ a b. a && b) (same_tree_refl x) (same_trees_refl xs)
+
+  same_structs_refl : (es : Structs) → same_structs es es ≡ true
+  same_structs_refl tree.NoStructs = refl
+  same_structs_refl (tree.MoreStructs xs ps es) = ap₂ (λ a b. a && b) (same_bytes_refl xs) (ap₂ (λ a b. a && b) (same_trees_refl ps) (same_structs_refl es))
+
 pub same_leaf_is : (v w : Value) → same_leaf v w ≡ true → v ≡ w
 same_leaf_is value.Void value.Void e = refl
 same_leaf_is (value.Truth a) (value.Truth b) e = ap value.Truth (same_truth_is a b e)
@@ -75,6 +147,7 @@ same_leaf_is (value.Number x) (value.Number y) e = ap value.Number (same_number_
 same_leaf_is (value.Enum m) (value.Enum n) e = ap value.Enum (eqb-true m n e)
 same_leaf_is (value.Text xs) (value.Text ys) e = ap value.Text (same_bytes_is xs ys e)
 same_leaf_is (value.Data xs) (value.Data ys) e = ap value.Data (same_bytes_is xs ys e)
+same_leaf_is (value.Untyped x) (value.Untyped y) e = ap value.Untyped (same_tree_is x y e)
 same_leaf_is (value.Missing Endless) (value.Missing Endless) e = refl
 same_leaf_is value.Elsewhere value.Elsewhere e = refl
 same_leaf_is v w e = absurd (true≢false (sym e))
@@ -89,7 +162,7 @@ same_leaf_refl t (value.Data xs) told = same_bytes_refl xs
 same_leaf_refl t (value.Struct r) told = absurd told.2
 same_leaf_refl t (value.Group r) told = absurd told.0
 same_leaf_refl t (value.Elements vs) told = absurd told.2
-same_leaf_refl t (value.Untyped x) told = absurd told.1
+same_leaf_refl t (value.Untyped x) told = same_tree_refl x
 same_leaf_refl t (value.Fault kind) told = absurd told.0
 same_leaf_refl t (value.Missing Endless) told = refl
 same_leaf_refl t (value.Missing (Left n)) told = absurd told.1

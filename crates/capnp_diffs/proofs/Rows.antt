@@ -1,10 +1,11 @@
 -- Worked rows of changes: which calls make one record into another, and which records no calls make.
 use Rattle.std.specs.Prelude.{ℕ, ◌≡◌, pos, refl, List, [], ◌∷◌, codes}
+use Rattle.capnp_wire.specs.Tree.{Numbers, Tree}
 use Rattle.capnp_device.specs.declared.error.ErrorKind.TheVariants.{BadPointer}
 use Rattle.capnp_schema.specs.Builtin.{builtin}
 use Rattle.capnp_schema.specs.Types.{ListType, StructType, TextType, UIntType, VoidType}
 use Rattle.capnp_records.specs.Call.{ElementAt, FieldNumber, PathStep}
-use Rattle.capnp_records.specs.Record.{Active, Elements, Elsewhere, Endless, Fault, Group, Missing, MoreValues, NoUnion, NoValues, Number, Parts, Record, Struct, Text, Union, Unknown, Value, Void}
+use Rattle.capnp_records.specs.Record.{Active, Elements, Elsewhere, Endless, Fault, Group, Missing, MoreValues, NoUnion, NoValues, Number, Parts, Record, Struct, Text, Union, Unknown, Untyped, Value, Void}
 use Rattle.capnp_diffs.specs.Changes.{Change, Clears, Goal, Inits, IsRecordTold, Puts, record_changes}
 
 abbrev changed : List PathStep → PathStep → Goal → Change
@@ -109,3 +110,14 @@ both_lists_same = refl
 -- what can't be read isn't compared
 fault_not_told : IsRecordTold builtin 7 (lists (Fault BadPointer) (Missing Endless)) (lists (Fault BadPointer) (Missing Endless)) → ⊥
 fault_not_told told = told.0.1.0
+
+-- ---- an untyped pointer, as in the group `tag` of brand 3 ----
+
+abbrev tag : Tree → Record
+tag x = Parts (MoreValues (number 1) (MoreValues Elsewhere (MoreValues Elsewhere (MoreValues (Untyped x) (MoreValues (Missing Endless) NoValues))))) (Active 1 Void)
+
+same_untyped : record_changes builtin 5 (tag (Numbers 1 (7 ∷ []))) (tag (Numbers 1 (7 ∷ []))) ≡ []
+same_untyped = refl
+
+other_untyped_not_put : IsRecordTold builtin 5 (tag (Numbers 1 (7 ∷ []))) (tag (Numbers 1 (8 ∷ []))) → ⊥
+other_untyped_not_put told = told.0.2.2.2.1.1

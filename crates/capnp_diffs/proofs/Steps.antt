@@ -10,7 +10,7 @@ use Rattle.capnp_records.specs.Part.{active_value, is_active, is_inactive, nth_v
 use Rattle.capnp_records.specs.Record as value
 use Rattle.capnp_records.specs.Record.{Active, Endless, Left, MoreValues, NoUnion, NoValues, Parts, Record, Union, Unknown, Value, Values}
 use Rattle.capnp_records.specs.Step.{is_group_field}
-use Rattle.capnp_diffs.specs.Changes.{AreElsewhere, AreFieldsTold, ByKind, CanStand, Change, Clears, Either, IsGroupTold, IsLeafTold, IsRecordTold, IsRowTold, IsSwitchTold, IsTold, IsUnionTold, OnlyIf, Puts, all_behind, field_changes, if_active, list_changes, record_changes, row_changes, same_leaf, switch_changes, union_changes, unless_same, value_changes, whole_change}
+use Rattle.capnp_diffs.specs.Changes.{AreElsewhere, AreFieldsTold, ByKind, CanStand, Change, Clears, Either, IsGroupTold, IsRecordTold, IsRowTold, IsSwitchTold, IsTold, IsUnionTold, OnlyIf, Puts, all_behind, field_changes, if_active, list_changes, record_changes, row_changes, same_leaf, switch_changes, union_changes, unless_same, value_changes, whole_change}
 use Rattle.capnp_diffs.specs.Laws.{CallsMakeNew, EqualNeedNone, NoneMeansEqual}
 use Rattle.capnp_diffs.proofs.Equal.{elsewhere_same, nothing_elsewhere, record_none, record_same, row_same, same_leaf_is}
 use Rattle.capnp_diffs.proofs.Leads.{Leads, leads_both, leads_from, leads_nest, leads_one, run_leads}
@@ -72,7 +72,7 @@ module _ (set : Schemas) (s : SchemaType) (step : PathStep) (t : SchemaType) (he
   whole_leads : (w : Value) → CanPut set s step t here put → CanStand t w → Leads set s here (whole_change step t w ∷ []) (put w)
   whole_leads w can stands = leads_one set s here (put w) (whole_change step t w) (can.solid w) (whole_makes w can stands)
 
-  leaf_leads : (v w : Value) (q : Bool) → same_leaf v w ≡ q → Stands set s step t v here put → CanPut set s step t here put → CanStand t w → Leads set s here (unless_same q (whole_change step t w)) (put w)
+  leaf_leads : (v w : Value) (q : Bool) → same_leaf v w ≡ q → Stands set s step t v here put → CanPut set s step t here put → OnlyIf (not q) (CanStand t w) → Leads set s here (unless_same q (whole_change step t w)) (put w)
   leaf_leads v w true e there can stands = sym there.here_is ∙ ap put (same_leaf_is v w e)
   leaf_leads v w false e there can stands = whole_leads w can stands
 
@@ -184,11 +184,11 @@ switch_whole set j t w stands = refl
 
 switch_leads : (set : Schemas) (w : Value) (r : Record) (b g : ℕ) (k : Bool) (j : ℕ) → j < length (fields_of set b) →
     (is_group_field (field_at set b j).field.kind ≡ true → IsSwitchTold set (field_at set b j).type w → Leads set (StructType b g) (wrap k r) (switch_changes set j (field_at set b j).type w) (wrap k (with_part r (field_at set b j).field j w))) →
-    ByKind (field_at set b j).field.kind (IsLeafTold (field_at set b j).type value.Elsewhere w) (IsSwitchTold set (field_at set b j).type w) →
+    ByKind (field_at set b j).field.kind (CanStand (field_at set b j).type w) (IsSwitchTold set (field_at set b j).type w) →
     Leads set (StructType b g) (wrap k r) (switch_changes set j (field_at set b j).type w) (wrap k (with_part r (field_at set b j).field j w))
 switch_leads set w r b g k j inside grouped told = by_kind_is (field_at set b j).field.kind
-    (λ slot leaf. subst (λ cs. Leads set (StructType b g) (wrap k r) cs (wrap k (with_part r (field_at set b j).field j w))) (sym (switch_whole set j (field_at set b j).type w leaf.1))
-    (whole_leads set (StructType b g) (FieldNumber j) (field_at set b j).type (wrap k r) (λ x. wrap k (with_part r (field_at set b j).field j x)) w (field_can set b g k r j inside slot) leaf.1))
+    (λ slot leaf. subst (λ cs. Leads set (StructType b g) (wrap k r) cs (wrap k (with_part r (field_at set b j).field j w))) (sym (switch_whole set j (field_at set b j).type w leaf))
+    (whole_leads set (StructType b g) (FieldNumber j) (field_at set b j).type (wrap k r) (λ x. wrap k (with_part r (field_at set b j).field j x)) w (field_can set b g k r j inside slot) leaf))
     grouped told
 
 module _ (set : Schemas) where

@@ -1,5 +1,9 @@
 -- What is changed where one record is made into another: the fields and elements that differ, by the paths to them.
-use Rattle.std.specs.Prelude.{ℕ, suc, ◌<◌, ◌≡◌, ⊤, ℤ, pos, negsuc, List, [], ◌∷◌, ◌++◌, length, map, Bool, true, false, ◌==◌, ◌&&◌}
+use Rattle.std.specs.Prelude.{ℕ, suc, ◌<◌, ◌≡◌, ⊤, ℤ, pos, negsuc, List, [], ◌∷◌, ◌++◌, length, map, Bool, true, false, not, ◌==◌, ◌&&◌}
+use Rattle.capnp_wire.specs.Tree as tree
+use Rattle.capnp_wire.specs.Tree.{Structs, Tree, Trees}
+use Rattle.capnp_wire.specs.declared.fault.Fault.{Fault}
+use Rattle.capnp_wire.specs.declared.fault.Fault.TheVariants as fault
 use Rattle.capnp_schema.specs.Types.{SchemaType, StructType, ListType, is_pointer}
 use Rattle.capnp_schema.specs.Schema.{Schemas, FieldKind, Slot, Group, field_at, fields_of, is_member}
 use Rattle.capnp_records.specs.Call.{PathStep, FieldNumber, ElementAt}
@@ -55,6 +59,40 @@ same_truth true true = true
 same_truth false false = true
 same_truth a b = false
 
+abbrev pub same_bits : List Bool → List Bool → Bool
+same_bits [] [] = true
+same_bits (a ∷ xs) (b ∷ ys) = same_truth a b && same_bits xs ys
+same_bits xs ys = false
+
+abbrev pub same_fault : Fault → Fault → Bool
+same_fault fault.BadPointer fault.BadPointer = true
+same_fault fault.TooDeep fault.TooDeep = true
+same_fault fault.CapabilityPointer fault.CapabilityPointer = true
+same_fault j k = false
+
+-- whether two trees are the same, for untyped pointers
+abbrev mutual
+  pub same_tree : Tree → Tree → Bool
+  same_tree tree.Null tree.Null = true
+  same_tree (tree.Struct xs ps) (tree.Struct ys qs) = same_bytes xs ys && same_trees ps qs
+  same_tree (tree.Voids m) (tree.Voids n) = m == n
+  same_tree (tree.Bits xs) (tree.Bits ys) = same_bits xs ys
+  same_tree (tree.Numbers m xs) (tree.Numbers n ys) = (m == n) && same_bytes xs ys
+  same_tree (tree.Pointers ps) (tree.Pointers qs) = same_trees ps qs
+  same_tree (tree.Composite a b es) (tree.Composite c d fs) = (a == c) && ((b == d) && same_structs es fs)
+  same_tree (tree.FaultLeaf j) (tree.FaultLeaf k) = same_fault j k
+  same_tree x y = false
+
+  pub same_trees : Trees → Trees → Bool
+  same_trees tree.NoTrees tree.NoTrees = true
+  same_trees (tree.MoreTrees x xs) (tree.MoreTrees y ys) = same_tree x y && same_trees xs ys
+  same_trees xs ys = false
+
+  pub same_structs : Structs → Structs → Bool
+  same_structs tree.NoStructs tree.NoStructs = true
+  same_structs (tree.MoreStructs xs ps es) (tree.MoreStructs ys qs fs) = same_bytes xs ys && (same_trees ps qs && same_structs es fs)
+  same_structs es fs = false
+
 -- whether two values are the same, of those that have no parts; a float is its bits
 abbrev pub same_leaf : Value → Value → Bool
 same_leaf value.Void value.Void = true
@@ -63,6 +101,7 @@ same_leaf (value.Number x) (value.Number y) = same_number x y
 same_leaf (value.Enum m) (value.Enum n) = m == n
 same_leaf (value.Text xs) (value.Text ys) = same_bytes xs ys
 same_leaf (value.Data xs) (value.Data ys) = same_bytes xs ys
+same_leaf (value.Untyped x) (value.Untyped y) = same_tree x y
 same_leaf (value.Missing Endless) (value.Missing Endless) = true
 same_leaf value.Elsewhere value.Elsewhere = true
 same_leaf v w = false
@@ -127,7 +166,7 @@ IsRead (value.Fault kind) = ⊥
 IsRead (value.Group r) = ⊥
 IsRead v = ⊤
 
--- What a call can put into a slot: no untyped pointer, and nothing that can't be read. What is missing is missing behind a
+-- What a call can put into a slot: no untyped pointer but a null, and nothing that can't be read. What is missing is missing behind a
 -- pointer.
 abbrev pub CanStand : SchemaType → Value → Type 0
 CanStand t (value.Fault kind) = ⊥
@@ -143,12 +182,13 @@ AreApart (value.Struct r) (value.Struct q) = ⊥
 AreApart (value.Elements vs) (value.Elements ws) = ⊥
 AreApart v w = ⊤
 
-abbrev pub IsLeafTold : SchemaType → Value → Value → Type 0
-IsLeafTold t v w = IsRead v × CanStand t w × AreApart v w
-
 abbrev pub OnlyIf : Bool → Type 0 → Type 0
 OnlyIf true P = P
 OnlyIf false P = ⊤
+
+-- both can be read, and what differs can be put
+abbrev pub IsLeafTold : SchemaType → Value → Value → Type 0
+IsLeafTold t v w = IsRead v × OnlyIf (not (same_leaf v w)) (CanStand t w) × AreApart v w
 
 abbrev pub Either : Bool → Type 0 → Type 0 → Type 0
 Either true P Q = P
@@ -204,7 +244,7 @@ abbrev mutual
       (j < length (fields_of set b)) × (is_member (field_at set b j).field ≡ true)
       × Either (is_active u j)
       (ByKind (field_at set b j).field.kind (IsTold set (field_at set b j).type (active_value u) w) (IsGroupTold set (field_at set b j).type (active_value u) w))
-      (ByKind (field_at set b j).field.kind (IsLeafTold (field_at set b j).type value.Elsewhere w) (IsSwitchTold set (field_at set b j).type w))
+      (ByKind (field_at set b j).field.kind (CanStand (field_at set b j).type w) (IsSwitchTold set (field_at set b j).type w))
   IsUnionTold set b u w = ⊥
 
   pub IsRecordTold : Schemas → ℕ → Record → Record → Type 0
