@@ -167,6 +167,8 @@ fn what_no_call_makes_is_refused() {
     let kind = ErrorKind::CannotSetAnyPointerFieldToAPrimitiveValue;
     assert_eq!(changes_between(schema, old, untyped), Err(kind));
     assert_eq!(changes_between(schema, untyped, old), Ok(vec!["25 clear".to_owned()]));
+    assert_eq!(changes_between(schema, untyped, untyped), Ok(vec![]));
+    assert_eq!(changes_between(schema, untyped, full_root()), Err(kind));
 }
 
 /// Numbers in no order that is seen.

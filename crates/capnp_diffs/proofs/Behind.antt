@@ -15,7 +15,7 @@ use Rattle.capnp_records.specs.Reading.{elements_value, of_read, reads, value_of
 use Rattle.capnp_records.specs.Record as value
 use Rattle.capnp_records.specs.Record.{Endless, Value}
 
-null_is : (x : Tree) → is_null_tree x ≡ true → x ≡ tree.Null
+pub null_is : (x : Tree) → is_null_tree x ≡ true → x ≡ tree.Null
 null_is tree.Null h = refl
 null_is (tree.Struct bytes ps) h = absurd (true≢false (sym h))
 null_is (tree.Voids n) h = absurd (true≢false (sym h))

@@ -1,5 +1,6 @@
 -- What is put whole, and what of pointers is compared whole.
-use Rattle.std.proofs.Common.{ℕ, ◌≡◌, refl, List, [], ◌∷◌, Bool, true, false, Option, Some, None, Result, Ok, Err, OnOk, ap, sym, ◌∙◌, subst, option_map}
+use Rattle.std.specs.Prelude.{⊤}
+use Rattle.std.proofs.Common.{ℕ, ◌≡◌, refl, List, [], ◌∷◌, Bool, true, false, not, Option, Some, None, Result, Ok, Err, OnOk, ◌⊎◌, inl, inr, ap, sym, ◌∙◌, subst, option_map}
 use Rattle.std.specs.Borrow.{Bor}
 use Rattle.capnp_wire.specs.Reading.{is_null_tree, refusal}
 use Rattle.capnp_wire.specs.Standing.{list_of, struct_of}
@@ -23,7 +24,7 @@ use Rattle.capnp_dynamic_readers.specs.Typed.{struct_type}
 use Rattle.capnp_dynamic_readers.specs.declared.dynamic_list.Reader.{Reader as ListHandle}
 use Rattle.capnp_dynamic_readers.specs.declared.dynamic_struct.Reader.{Reader as StructHandle}
 use Rattle.capnp_dynamic_readers.specs.declared.dynamic_value.Reader.TheVariants as dynamic
-use Rattle.capnp_diffs.specs.Changes.{Clears, IsLeafTold, same_leaf, whole_change}
+use Rattle.capnp_diffs.specs.Changes.{Clears, IsLeafTold, OnlyIf, same_leaf, same_tree, whole_change}
 use Rattle.capnp_diffs.specs.Found.{Adds, IsFoundAt, IsReady, goal_seen, one_change}
 use Rattle.capnp_diffs.specs.Leaves.{data_value, list_value, text_value}
 use Rattle.capnp_call.specs.Seen.{step_seen}
@@ -31,7 +32,8 @@ use Rattle.capnp_call.specs.declared.calls.Op.TheVariants as op
 use Rattle.capnp_call.specs.declared.calls.Step.{Step}
 use Rattle.capnp_diffs.specs.declared.change.Change.{Change as FoundChange}
 use Rattle.capnp_diffs.proofs.Added.{adds_none, other_added, same_added}
-use Rattle.capnp_diffs.proofs.Behind.{null_missing}
+use Rattle.capnp_diffs.proofs.Behind.{null_is, null_missing}
+use Rattle.capnp_diffs.proofs.Equal.{same_tree_refl}
 
 pub ok_map : {T E P Q : Type 0} (r : Result T E) → (P → Q) → OnOk r P → OnOk r Q
 ok_map (Ok x) f h = f h
@@ -39,17 +41,21 @@ ok_map (Err e) f h = tt {0}
 
 -- ---- texts and data ----
 
+either_way : (q : Bool) → OnlyIf q ⊤
+either_way true = tt
+either_way false = tt
+
 text_told : (o p : Option (Bor (List ℕ))) → IsLeafTold TextType (text_value o) (text_value p)
-text_told None None = (tt, refl, tt)
+text_told None None = (tt, tt, tt)
 text_told None (Some y) = (tt, tt, tt)
 text_told (Some x) None = (tt, refl, tt)
-text_told (Some x) (Some y) = (tt, tt, tt)
+text_told (Some x) (Some y) = (tt, either_way (not (same_leaf (text_value (Some x)) (text_value (Some y)))), tt)
 
 data_told : (o p : Option (Bor (List ℕ))) → IsLeafTold DataType (data_value o) (data_value p)
-data_told None None = (tt, refl, tt)
+data_told None None = (tt, tt, tt)
 data_told None (Some y) = (tt, tt, tt)
 data_told (Some x) None = (tt, refl, tt)
-data_told (Some x) (Some y) = (tt, tt, tt)
+data_told (Some x) (Some y) = (tt, either_way (not (same_leaf (data_value (Some x)) (data_value (Some y)))), tt)
 
 pub data_same : (o p : Option (Bor (List ℕ))) → same_leaf (data_value o) (data_value p) ≡ same_leaf (text_value o) (text_value p)
 data_same None None = refl
@@ -80,17 +86,36 @@ module _ (set : Schemas) (step : Step) (path : List Step) (old new : List FoundC
 
 -- ---- untyped pointers ----
 
-pub untyped_cleared : (set : Schemas) (step : Step) (path : List Step) (old new : List FoundChange) (x y : Tree) → is_null_tree x ≡ false → is_null_tree y ≡ true → Adds set path old new (one_change step Clears) →
-    IsFoundAt set step AnyPointerType (value_of set x Endless AnyPointerType) (value_of set y Endless AnyPointerType) path old new
-untyped_cleared set step path old new x y there null adds =
-    subst (λ v. IsFoundAt set step AnyPointerType v (value_of set y Endless AnyPointerType) path old new) (sym (readers.untyped_read set x Endless there))
-    (subst (λ w. IsFoundAt set step AnyPointerType (value.Untyped x) w path old new) (sym (null_missing set y AnyPointerType null)) (record { adds = adds; told = (tt, refl, tt) }))
+null_or : (x : Tree) → (is_null_tree x ≡ true) ⊎ (is_null_tree x ≡ false)
+null_or x = go (is_null_tree x) refl
+  where
+    go : (q : Bool) → is_null_tree x ≡ q → (is_null_tree x ≡ true) ⊎ (is_null_tree x ≡ false)
+    go true e = inl e
+    go false e = inr e
 
-pub untyped_unchanged : (set : Schemas) (step : Step) (path : List Step) (old : List FoundChange) (x y : Tree) → is_null_tree x ≡ true → is_null_tree y ≡ true →
+pub untyped_cleared : (set : Schemas) (step : Step) (path : List Step) (old new : List FoundChange) (x y : Tree) → (x ≡ y → ⊥) → is_null_tree y ≡ true → Adds set path old new (one_change step Clears) →
+    IsFoundAt set step AnyPointerType (value_of set x Endless AnyPointerType) (value_of set y Endless AnyPointerType) path old new
+untyped_cleared set step path old new x y differ null adds = by_null (null_or x)
+  where
+    by_null : (is_null_tree x ≡ true) ⊎ (is_null_tree x ≡ false) → IsFoundAt set step AnyPointerType (value_of set x Endless AnyPointerType) (value_of set y Endless AnyPointerType) path old new
+    by_null (inl missing) = absurd (differ (null_is x missing ∙ sym (null_is y null)))
+    by_null (inr there) =
+        subst (λ v. IsFoundAt set step AnyPointerType v (value_of set y Endless AnyPointerType) path old new) (sym (readers.untyped_read set x Endless there))
+        (subst (λ w. IsFoundAt set step AnyPointerType (value.Untyped x) w path old new) (sym (null_missing set y AnyPointerType null)) (record { adds = adds; told = (tt, refl, tt) }))
+
+pub untyped_unchanged : (set : Schemas) (step : Step) (path : List Step) (old : List FoundChange) (x y : Tree) → x ≡ y →
     IsFoundAt set step AnyPointerType (value_of set x Endless AnyPointerType) (value_of set y Endless AnyPointerType) path old old
-untyped_unchanged set step path old x y here null =
-    subst (λ v. IsFoundAt set step AnyPointerType v (value_of set y Endless AnyPointerType) path old old) (sym (null_missing set x AnyPointerType here))
-    (subst (λ w. IsFoundAt set step AnyPointerType (value.Missing Endless) w path old old) (sym (null_missing set y AnyPointerType null)) (record { adds = adds_none set path old; told = (tt, refl, tt) }))
+untyped_unchanged set step path old x y same =
+    subst (λ z. IsFoundAt set step AnyPointerType (value_of set x Endless AnyPointerType) (value_of set z Endless AnyPointerType) path old old) same (by_null (null_or x))
+  where
+    by_null : (is_null_tree x ≡ true) ⊎ (is_null_tree x ≡ false) → IsFoundAt set step AnyPointerType (value_of set x Endless AnyPointerType) (value_of set x Endless AnyPointerType) path old old
+    by_null (inl missing) = subst (λ v. IsFoundAt set step AnyPointerType v v path old old) (sym (null_missing set x AnyPointerType missing)) (record { adds = adds_none set path old; told = (tt, tt, tt) })
+    by_null (inr there) =
+        subst (λ v. IsFoundAt set step AnyPointerType v v path old old) (sym (readers.untyped_read set x Endless there))
+        (record {
+          adds = same_added set path old (value.Untyped x) (value.Untyped x) (whole_change (step_seen step) AnyPointerType (value.Untyped x)) (same_tree_refl x);
+          told = (tt, subst (λ q. OnlyIf (not q) ⊥) (sym (same_tree_refl x)) tt, tt);
+        })
 
 -- ---- structs and lists ----
 

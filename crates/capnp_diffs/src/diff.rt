@@ -23,7 +23,7 @@ use std::alloc::Global;
 ///
 /// Refused as the first part that can't be read on one of the sides; with `FieldNotFound` where the new struct has a
 /// discriminant that names no member and the old one has another; with
-/// `CannotSetAnyPointerFieldToAPrimitiveValue` where an untyped pointer of the new one is no null; with the number of
+/// `CannotSetAnyPointerFieldToAPrimitiveValue` where an untyped pointer of the new one is another, and no null; with the number of
 /// a pointer that can't be followed in what is put whole; with `OutOfMemory`.
 pub fn find_changes<'a>(
     alloc: Global,

@@ -156,8 +156,8 @@ pub(crate) fn find_in_data<'a>(
     put_data(alloc, step, target, path, out)
 }
 
-/// Adds what changes an untyped pointer: one that is null on both sides is the same, and one that became null is
-/// cleared. No call puts another one.
+/// Adds what changes an untyped pointer: nothing where the same tree stands on both sides, and where it became null it
+/// is cleared. No call puts another one.
 pub(crate) fn find_in_untyped<'a>(
     alloc: Global,
     step: Step<'a>,
@@ -170,13 +170,13 @@ pub(crate) fn find_in_untyped<'a>(
         (value_of set (tree_of old.now) Endless AnyPointerType) (value_of set (tree_of new.now) Endless AnyPointerType)
         path.now out.old.items out.new.items) }
 {
+    if old.has_same_tree(new) {
+        return Ok(());
+    }
     if !new.is_null() {
         return Err(Error::from(
             ErrorKind::CannotSetAnyPointerFieldToAPrimitiveValue,
         ));
-    }
-    if old.is_null() {
-        return Ok(());
     }
     put_clear(alloc, step, path, out)
 }
